@@ -1,0 +1,107 @@
+//! Readers and writers of std as sources and sinks.
+
+ghost use Rattle.std.specs.Prelude.{◌≡◌, ℕ, ◌+◌, ◌-◌, ◌<◌, ◌≤◌, length, IfOk, OnOk, OnErr, true};
+ghost use Rattle.std.specs.Io.KnownBytes.{Appends, ReadConsumes};
+ghost use Rattle.bk_ports.specs.Causes.{counted, HasCause, AppendsPrefix};
+
+use crate::{Failed, Sink, Source};
+use std::io::{Read, Write};
+
+/// A reader of std. Each of its errors is answered `Failed` and counted, in a `u64` that stays at its last value.
+#[derive(Drop)]
+pub struct StdSource<R: Read> {
+    inner: R,
+    faults: u64,
+}
+
+impl<R: Read> StdSource<R> {
+    /// The source of what the reader gives. It tells what the reader tells of its bytes.
+    pub fn new(inner: R) -> StdSource<R>
+        ensures left { ⟦<StdSource<R> as Source>⟧.left result ≡ R.remaining inner }
+        ensures faults { ⟦<StdSource<R> as Source>⟧.faults result ≡ 0 }
+    {
+        StdSource { inner, faults: 0 }
+    }
+}
+
+impl<R: Read> Source for StdSource<R> {
+    ghost left = { λ s. R.remaining s.inner };
+
+    ghost faults = { λ s. s.faults };
+
+    fn read(&mut self, buf: &mut [u8]) -> Result<usize, Failed>
+        ensures count { IfOk result (λ n. n ≤ length buf.new) }
+        ensures bytes { let told = ⟦<StdSource<R> as Source>⟧.left in
+            ReadConsumes (told self.old) (told self.new) result buf.new }
+        ensures cause { let count = ⟦<StdSource<R> as Source>⟧.faults in
+            HasCause (count self.old) (count self.new) result }
+        ensures counts { let count = ⟦<StdSource<R> as Source>⟧.faults in
+            OnErr result (count self.new ≡ counted (count self.old)) }
+    {
+        match self.inner.read(buf) {
+            Ok(count) => Ok(count),
+            Err(_) => {
+                self.faults = self.faults.saturating_add(1);
+                Err(Failed)
+            }
+        }
+    }
+}
+
+/// A writer of std. Each error, and each write that takes no byte of a piece that isn't empty, is answered `Failed` and
+/// counted, in a `u64` that stays at its last value.
+#[derive(Drop)]
+pub struct StdSink<W: Write> {
+    inner: W,
+    faults: u64,
+}
+
+impl<W: Write> StdSink<W> {
+    /// The sink that gives to the writer. It tells what the writer tells of its bytes.
+    pub fn new(inner: W) -> StdSink<W>
+        ensures written { ⟦<StdSink<W> as Sink>⟧.written result ≡ W.contents inner }
+        ensures faults { ⟦<StdSink<W> as Sink>⟧.faults result ≡ 0 }
+    {
+        StdSink { inner, faults: 0 }
+    }
+}
+
+impl<W: Write> Sink for StdSink<W> {
+    ghost written = { λ s. W.contents s.inner };
+
+    ghost faults = { λ s. s.faults };
+
+    fn write_all(&mut self, bytes: &[u8]) -> Result<(), Failed>
+        ensures ok { let told = ⟦<StdSink<W> as Sink>⟧.written in
+            OnOk result (Appends (told self.old) (told self.new) bytes.now) }
+        ensures err { let told = ⟦<StdSink<W> as Sink>⟧.written in
+            OnErr result (AppendsPrefix (told self.old) (told self.new) bytes.now) }
+        ensures cause { let count = ⟦<StdSink<W> as Sink>⟧.faults in
+            HasCause (count self.old) (count self.new) result }
+        ensures counts { let count = ⟦<StdSink<W> as Sink>⟧.faults in
+            OnErr result (count self.new ≡ counted (count self.old)) }
+    {
+        if write_each(&mut self.inner, bytes) {
+            Ok(())
+        } else {
+            self.faults = self.faults.saturating_add(1);
+            Err(Failed)
+        }
+    }
+}
+
+// Writes all bytes and flushes, or has written a prefix of them.
+fn write_each<W: Write>(writer: &mut W, bytes: &[u8]) -> bool
+    ensures ok { result ≡ true → Appends (W.contents writer.old) (W.contents writer.new) bytes.now }
+    ensures prefix { AppendsPrefix (W.contents writer.old) (W.contents writer.new) bytes.now }
+{
+    let mut done = 0;
+    while done < bytes.len() {
+        match writer.write(&bytes[done..]) {
+            Ok(0) => return false,
+            Ok(count) => done += count,
+            Err(_) => return false,
+        }
+    }
+    writer.flush().is_ok()
+}
