@@ -1,0 +1,233 @@
+-- A group of squares laid side by side on level columns: which cells it covers, how deep the columns are then, and
+-- that what is laid still fills these columns once.
+use Rattle.std.specs.List.{AllByRecursion}
+use Rattle.std.proofs.Common.{Bool, List, [], ap, arith, cond, count_by, false, inl, inr, map, max, refl, subst, sym, true, ℕ, ◌++◌, ◌+◌, ◌<◌, ◌∙◌, ◌∷◌, ◌≡◌, ◌≤◌, ◌⊎◌}
+use Rattle.std.proofs.lemmas.List.Sums.{sum_by-append}
+use Rattle.bk_tiling.proofs.Cells.{column_from, column_left, column_right, count-cons, covers_from, depth_reaches, none_counted, over_from}
+use Rattle.bk_tiling.proofs.Rows.{total}
+use Rattle.bk_tiling.specs.Column.{covers_column, depth}
+use Rattle.bk_tiling.specs.Tiling.{IsOneOf, covers}
+use Rattle.bk_tiling.specs.declared.Square.{Square}
+use Rattle.bk_tiling.specs.SquareGroups.{laid_group}
+
+pub depth-append-max : (laid more : List Square) (c : ℕ) → depth (laid ++ more) c ≡ max (depth laid c) (depth more c)
+depth-append-max [] more c = grind arith
+depth-append-max (q ∷ laid) more c = step (cond (covers_column c q) (q.y + q.s) 0) (depth laid c) (depth more c) (depth (laid ++ more) c) (depth-append-max laid more c)
+  where
+    step : (a b d e : ℕ) → e ≡ max b d → max a e ≡ max (max a b) d
+    step a b d e h = grind arith
+
+-- beside the group
+pub beside_group : (x level : ℕ) (sides : List ℕ) (c : ℕ) → (c < x) ⊎ (x + total sides ≤ c) → (q : Square) → IsOneOf q (laid_group x level sides) → covers_column c q ≡ true → ⊥
+beside_group x level [] c away q h e = h
+beside_group x level (s ∷ sides) c away q (inl same) e = by away
+  where
+    left : q.x ≡ x
+    left = ap (λ (r : Square). r.x) same
+
+    side : q.s ≡ s
+    side = ap (λ (r : Square). r.s) same
+
+    by : (c < x) ⊎ (x + (s + total sides) ≤ c) → ⊥
+    by (inl a) = omega (arith, column_left c q e, left)
+    by (inr a) = omega (arith, column_right c q e, left, side)
+beside_group x level (s ∷ sides) c away q (inr h) e = beside_group (x + s) level sides c (by away) q h e
+  where
+    by : (c < x) ⊎ (x + (s + total sides) ≤ c) → (c < x + s) ⊎ (x + s + total sides ≤ c)
+    by (inl a) = inl (omega arith)
+    by (inr a) = inr (omega arith)
+
+-- what the group has over one of its columns
+pub record HasOver (level c : ℕ) (squares : List Square) : Type 0 where
+  pub square : Square
+  pub is : IsOneOf square squares
+  pub left : square.x ≤ c
+  pub right : c < square.x + square.s
+  pub top : square.y ≡ level
+  pub deep : depth squares c ≡ square.y + square.s
+  pub counted : (j : ℕ) → level ≤ j → j < level + square.s → count_by (covers c j) squares ≡ 1
+
+no_depth : (squares : List Square) (c : ℕ) → ((q : Square) → IsOneOf q squares → covers_column c q ≡ true → ⊥) → depth squares c ≡ 0
+no_depth [] c none = refl
+no_depth (q ∷ squares) c none = cases (covers_column c q) refl (no_depth squares c (λ r h e. none r (inr h) e))
+  where
+    cases : (b : Bool) → covers_column c q ≡ b → depth squares c ≡ 0 → max (cond b (q.y + q.s) 0) (depth squares c) ≡ 0
+    cases true e rest = absurd (none q (inl refl) e)
+    cases false e rest = grind arith
+
+covers_none : (c j : ℕ) (q : Square) → covers_column c q ≡ false → ◌≡◌ {A = ℕ} (cond (covers c j q) 1 0) 0
+covers_none c j q e = cases (covers c j q) refl
+  where
+    cases : (b : Bool) → covers c j q ≡ b → ◌≡◌ {A = ℕ} (cond b 1 0) 0
+    cases true f = absurd (both (sym (column_from c q (over_from c j q f).left (over_from c j q f).right) ∙ e))
+      where
+        both : true ≡ false → ⊥
+        both g = cc
+    cases false f = refl
+
+pub covers_one : (c j : ℕ) (q : Square) → covers c j q ≡ true → ◌≡◌ {A = ℕ} (cond (covers c j q) 1 0) 1
+covers_one c j q e = ap (λ (b : Bool). cond {A = ℕ} b 1 0) e
+
+pub over_group : (x level : ℕ) (sides : List ℕ) (c : ℕ) → x ≤ c → c < x + total sides → HasOver level c (laid_group x level sides)
+over_group x level [] c lo hi = absurd (omega arith)
+over_group x level (s ∷ sides) c lo hi = cases (two c (x + s)) (over_group (x + s) level sides c)
+  where
+    two : (a b : ℕ) → (a < b) ⊎ (b ≤ a)
+    two a b = grind arith
+
+    cases : (c < x + s) ⊎ (x + s ≤ c) → (x + s ≤ c → c < x + s + total sides → HasOver level c (laid_group (x + s) level sides)) → HasOver level c (laid_group x level (s ∷ sides))
+    cases (inl h) rest = record { square = record { x = x; y = level; s = s }; is = inl refl; left = lo; right = h; top = refl; deep = deep; counted = counted }
+      where
+        no_other : (q : Square) → IsOneOf q (laid_group (x + s) level sides) → covers_column c q ≡ true → ⊥
+        no_other q k e = beside_group (x + s) level sides c (inl h) q k e
+
+        on : covers_column c (record { x = x; y = level; s = s }) ≡ true
+        on = column_from c (record { x = x; y = level; s = s }) lo h
+
+        deep : depth (laid_group x level (s ∷ sides)) c ≡ level + s
+        deep = (λ i. max (cond (on i) (level + s) 0) (no_depth (laid_group (x + s) level sides) c no_other i)) ∙ grind arith
+
+        counted : (j : ℕ) → level ≤ j → j < level + s → count_by (covers c j) (laid_group x level (s ∷ sides)) ≡ 1
+        counted j a b = omega (
+          arith,
+          count-cons (covers c j) (record { x = x; y = level; s = s }) (laid_group (x + s) level sides),
+          covers_one c j (record { x = x; y = level; s = s }) (covers_from c j (record { x = x; y = level; s = s }) lo h a b),
+          none_counted (covers c j) (laid_group (x + s) level sides) (λ q k e. no_other q k (column_from c q (over_from c j q e).left (over_from c j q e).right)),
+        )
+    cases (inr h) rest = record { square = r.square; is = inr r.is; left = r.left; right = r.right; top = r.top; deep = deep; counted = counted }
+      where
+        r : HasOver level c (laid_group (x + s) level sides)
+        r = rest h (omega arith)
+
+        off : covers_column c (record { x = x; y = level; s = s }) ≡ false
+        off = by (covers_column c (record { x = x; y = level; s = s })) refl
+          where
+            by : (b : Bool) → covers_column c (record { x = x; y = level; s = s }) ≡ b → b ≡ false
+            by true e = absurd (omega (arith, column_right c (record { x = x; y = level; s = s }) e))
+            by false e = refl
+
+        deep : depth (laid_group x level (s ∷ sides)) c ≡ (r.square).y + (r.square).s
+        deep = (λ i. max (cond (off i) (level + s) 0) (r.deep i)) ∙ grind arith
+
+        counted : (j : ℕ) → level ≤ j → j < level + (r.square).s → count_by (covers c j) (laid_group x level (s ∷ sides)) ≡ 1
+        counted j a b = omega (
+          arith,
+          count-cons (covers c j) (record { x = x; y = level; s = s }) (laid_group (x + s) level sides),
+          covers_none c j (record { x = x; y = level; s = s }) off,
+          r.counted j a b,
+        )
+
+pub group_top : (x level : ℕ) (sides : List ℕ) (q : Square) → IsOneOf q (laid_group x level sides) → q.y ≡ level
+group_top x level [] q h = absurd h
+group_top x level (s ∷ sides) q (inl same) = ap (λ (r : Square). r.y) same
+group_top x level (s ∷ sides) q (inr h) = group_top (x + s) level sides q h
+
+pub group_within : (x level : ℕ) (sides : List ℕ) (q : Square) → IsOneOf q (laid_group x level sides) → (x ≤ q.x) × (q.x + q.s ≤ x + total sides)
+group_within x level [] q h = absurd h
+group_within x level (s ∷ sides) q (inl same) = let a : q.x ≡ x = ap (λ (r : Square). r.x) same in let b : q.s ≡ s = ap (λ (r : Square). r.s) same in (omega arith, omega arith)
+group_within x level (s ∷ sides) q (inr h) = let r = group_within (x + s) level sides q h in (omega (arith, r.0), omega (arith, r.1))
+
+pub group_sides : (x level : ℕ) (sides : List ℕ) → AllByRecursion (λ s. 0 < s) sides → (q : Square) → IsOneOf q (laid_group x level sides) → 0 < q.s
+group_sides x level [] some q h = absurd h
+group_sides x level (s ∷ sides) some q (inl same) = subst (λ (n : ℕ). 0 < n) (sym (ap (λ (r : Square). r.s) same)) some.0
+group_sides x level (s ∷ sides) some q (inr h) = group_sides (x + s) level sides some.1 q h
+
+pub group_list : (x level : ℕ) (sides : List ℕ) → map (λ q. q.s) (laid_group x level sides) ≡ sides
+group_list x level [] = refl
+group_list x level (s ∷ sides) = ap (λ rest. s ∷ rest) (group_list (x + s) level sides)
+
+module _ (laid : List Square) (x level : ℕ) (sides : List ℕ) (level_there : (c : ℕ) → x ≤ c → c < x + total sides → depth laid c ≡ level) where
+  two : (a b : ℕ) → (a < b) ⊎ (b ≤ a)
+  two a b = grind arith
+
+  pub depth_beside : (c : ℕ) → (c < x) ⊎ (x + total sides ≤ c) → depth (laid ++ laid_group x level sides) c ≡ depth laid c
+  depth_beside c away = depth-append-max laid (laid_group x level sides) c ∙ step (depth laid c) (depth (laid_group x level sides) c) (no_depth (laid_group x level sides) c (beside_group x level sides c away))
+    where
+      step : (a b : ℕ) → b ≡ 0 → max a b ≡ a
+      step a b e = grind arith
+
+  pub depth_under : (c : ℕ) (q : Square) → IsOneOf q (laid_group x level sides) → q.x ≤ c → c < q.x + q.s → depth (laid ++ laid_group x level sides) c ≡ q.y + q.s
+  depth_under c q h lo hi = depth-append-max laid (laid_group x level sides) c ∙ step (depth laid c) (depth (laid_group x level sides) c) (q.y + q.s) (omega (arith, level_there c inside.0 inside.1, group_top x level sides q h)) (own x sides h)
+    where
+      inside : (x ≤ c) × (c < x + total sides)
+      inside = let w = group_within x level sides q h in (omega (arith, w.0), omega (arith, w.1))
+
+      step : (a b e : ℕ) → a ≤ e → b ≡ e → max a b ≡ e
+      step a b e k l = grind arith
+
+      own : (x : ℕ) (sides : List ℕ) → IsOneOf q (laid_group x level sides) → depth (laid_group x level sides) c ≡ q.y + q.s
+      own x [] k = absurd k
+      own x (s ∷ sides) (inl same) = (λ i. max (cond (on i) (level + s) 0) (no_depth (laid_group (x + s) level sides) c (beside_group (x + s) level sides c (inl (omega (arith, at, side)))) i)) ∙ step (level + s) 0 (q.y + q.s) (omega (arith, top, side))
+        where
+          at : q.x ≡ x
+          at = ap (λ (r : Square). r.x) same
+
+          side : q.s ≡ s
+          side = ap (λ (r : Square). r.s) same
+
+          top : q.y ≡ level
+          top = ap (λ (r : Square). r.y) same
+
+          on : covers_column c (record { x = x; y = level; s = s }) ≡ true
+          on = column_from c (record { x = x; y = level; s = s }) (omega (arith, at)) (omega (arith, at, side))
+
+          step : (a b e : ℕ) → e ≡ a → max a 0 ≡ e
+          step a b e k = grind arith
+      own x (s ∷ sides) (inr k) = (λ i. max (cond (off i) (level + s) 0) (own (x + s) sides k i)) ∙ zero_max (q.y + q.s)
+        where
+          zero_max : (a : ℕ) → max 0 a ≡ a
+          zero_max a = grind arith
+
+          off : covers_column c (record { x = x; y = level; s = s }) ≡ false
+          off = by (covers_column c (record { x = x; y = level; s = s })) refl
+            where
+              by : (b : Bool) → covers_column c (record { x = x; y = level; s = s }) ≡ b → b ≡ false
+              by true e = absurd (omega (arith, column_right c (record { x = x; y = level; s = s }) e, (group_within (x + s) level sides q k).0))
+              by false e = refl
+
+  -- what is laid fills its columns once, with the group too
+  pub filled_group : (width : ℕ) → ((c j : ℕ) → c < width → j < depth laid c → count_by (covers c j) laid ≡ 1)
+      → (c j : ℕ) → c < width → j < depth (laid ++ laid_group x level sides) c → count_by (covers c j) (laid ++ laid_group x level sides) ≡ 1
+  filled_group width filled c j wide deep = place (two c x) (two c (x + total sides))
+    where
+      split : count_by (covers c j) (laid ++ laid_group x level sides) ≡ count_by (covers c j) laid + count_by (covers c j) (laid_group x level sides)
+      split = sum_by-append (λ q. cond (covers c j q) 1 0) laid (laid_group x level sides)
+
+      away : (c < x) ⊎ (x + total sides ≤ c) → count_by (covers c j) (laid ++ laid_group x level sides) ≡ 1
+      away a = omega (
+        arith,
+        split,
+        filled c j wide (omega (arith, depth_beside c a)),
+        none_counted (covers c j) (laid_group x level sides) (λ q k e. beside_group x level sides c a q k (column_from c q (over_from c j q e).left (over_from c j q e).right)),
+      )
+
+      under : x ≤ c → c < x + total sides → count_by (covers c j) (laid ++ laid_group x level sides) ≡ 1
+      under lo hi = cases (two j level)
+        where
+          over : HasOver level c (laid_group x level sides)
+          over = over_group x level sides c lo hi
+
+          here : depth laid c ≡ level
+          here = level_there c lo hi
+
+          bottom : depth (laid ++ laid_group x level sides) c ≡ (over.square).y + (over.square).s
+          bottom = depth_under c over.square over.is over.left over.right
+
+          cases : (j < level) ⊎ (level ≤ j) → count_by (covers c j) (laid ++ laid_group x level sides) ≡ 1
+          cases (inl a) = omega (
+            arith,
+            split,
+            filled c j wide (omega (arith, here)),
+            none_counted (covers c j) (laid_group x level sides) (λ q k e. omega (arith, (over_from c j q e).top, group_top x level sides q k)),
+          )
+          cases (inr a) = omega (
+            arith,
+            split,
+            over.counted j a (omega (arith, bottom, over.top)),
+            none_counted (covers c j) laid (λ q k e. omega (arith, (over_from c j q e).bottom, depth_reaches laid c q k (column_from c q (over_from c j q e).left (over_from c j q e).right), here)),
+          )
+
+      place : (c < x) ⊎ (x ≤ c) → (c < x + total sides) ⊎ (x + total sides ≤ c) → count_by (covers c j) (laid ++ laid_group x level sides) ≡ 1
+      place (inl a) b = away (inl a)
+      place (inr a) (inr b) = away (inr b)
+      place (inr a) (inl b) = under a b

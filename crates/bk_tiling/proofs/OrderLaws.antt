@@ -1,0 +1,124 @@
+-- Squares in the order of a code: putting them in order keeps each, and changes nothing where they stand so.
+use Rattle.std.specs.List.{AllByRecursion}
+use Rattle.std.specs.Prelude.{Bool, IsTrue, List, [], cond, count_by, false, length, nat_lt, refl, suc, true, ◌<◌, ◌==◌, ◌∷◌, ◌≡◌, ◌⊎◌}
+use Rattle.std.proofs.Common.{ap, arith, eqb-true, inl, inr, ltb-true, subst, sym, ◌∙◌}
+use Rattle.std.proofs.lemmas.Bool.{and_from, and_left, and_parts, and_right, both_ways, cases_Bool, eq-eqb, le-ltb, lt-ltb, ne_eqb, or_cases, or_from, or_left, or_right}
+use Rattle.std.proofs.lemmas.List.Sums.{sum_by-cons}
+use Rattle.bk_tiling.specs.CodeOrder.{InCodeOrder, comes_before, in_code_order, with_square}
+use Rattle.bk_tiling.specs.declared.Square.{Square}
+
+-- a square stands before another by its level, or at one level by its column
+pub comes_before-cases : (p q : Square) → IsTrue (comes_before p q) → (p.y < q.y) ⊎ ((p.y ≡ q.y) × (p.x < q.x))
+comes_before-cases p q h = elim (or_cases _ _ h) [
+  | inl above ↦ inl (ltb-true p.y q.y above)
+  | inr level ↦ let parts = and_parts (p.y == q.y) (nat_lt p.x q.x) level in inr (eqb-true p.y q.y parts.0, ltb-true p.x q.x parts.1)
+]
+
+-- then the other doesn't stand before it
+pub comes_before-asym : (p q : Square) → IsTrue (comes_before p q) → comes_before q p ≡ false
+comes_before-asym p q h = elim (comes_before-cases p q h) [
+  | inl above ↦ or_from _ _ (le-ltb q.y p.y (omega arith)) (and_left _ _ (ne_eqb q.y p.y (λ e. omega arith)))
+  | inr level ↦ or_from _ _ (le-ltb q.y p.y (omega (arith, level.0))) (and_right _ _ (le-ltb q.x p.x (omega (arith, level.1))))
+]
+
+with_square-first : (q : Square) (qs : List Square) → AllByRecursion (λ p. IsTrue (comes_before q p)) qs → with_square q qs ≡ q ∷ qs
+with_square-first q [] h = refl
+with_square-first q (p ∷ qs) h = ap (λ b. cond b (q ∷ p ∷ qs) (p ∷ with_square q qs)) h.0
+
+-- squares in code order stay as they are
+pub in_code_order-same : (qs : List Square) → InCodeOrder qs → in_code_order qs ≡ qs
+in_code_order-same [] h = refl
+in_code_order-same (q ∷ qs) h = ap (with_square q) (in_code_order-same qs h.1) ∙ with_square-first q qs h.0
+
+-- a fact of all squares is one of the squares put in order
+with_square-all : (P : Square → Type 0) (q : Square) (qs : List Square) → P q → AllByRecursion P qs → AllByRecursion P (with_square q qs)
+with_square-all P q [] one all = (one, tt)
+with_square-all P q (p ∷ qs) one all =
+    elim (comes_before q p) as (λ b. AllByRecursion P (cond b (q ∷ p ∷ qs) (p ∷ with_square q qs))) [
+      | true ↦ (one, all)
+      | false ↦ (all.0, with_square-all P q qs one all.1)
+    ]
+
+pub in_code_order-all : (P : Square → Type 0) (qs : List Square) → AllByRecursion P qs → AllByRecursion P (in_code_order qs)
+in_code_order-all P [] all = tt
+in_code_order-all P (q ∷ qs) all = with_square-all P q (in_code_order qs) all.0 (in_code_order-all P qs all.1)
+
+pub comes_before-trans : (p q r : Square) → IsTrue (comes_before p q) → IsTrue (comes_before q r) → IsTrue (comes_before p r)
+comes_before-trans p q r h k = elim (comes_before-cases p q h) [
+  | inl above ↦ elim (comes_before-cases q r k) [
+    | inl more ↦ or_left _ _ (lt-ltb p.y r.y (omega arith))
+    | inr level ↦ or_left _ _ (lt-ltb p.y r.y (omega (arith, level.0)))
+  ]
+  | inr level ↦ elim (comes_before-cases q r k) [
+    | inl more ↦ or_left _ _ (lt-ltb p.y r.y (omega (arith, level.0)))
+    | inr also ↦ or_right _ _ (and_from _ _ (eq-eqb p.y r.y (omega (arith, level.0, also.0))) (lt-ltb p.x r.x (omega (arith, level.1, also.1))))
+  ]
+]
+
+all_later : (p q : Square) (qs : List Square) → IsTrue (comes_before p q) → AllByRecursion (λ r. IsTrue (comes_before q r)) qs → AllByRecursion (λ r. IsTrue (comes_before p r)) qs
+all_later p q [] h all = tt
+all_later p q (r ∷ qs) h all = (comes_before-trans p q r h all.0, all_later p q qs h all.1)
+
+-- two squares at different places
+abbrev pub AreApart : Square → Square → Type 0
+AreApart p q = IsTrue (comes_before p q) ⊎ IsTrue (comes_before q p)
+
+-- the squares are at different places, each two of them
+abbrev pub AllApart : List Square → Type 0
+AllApart [] = Unit {0}
+AllApart (q ∷ qs) = AllByRecursion (λ p. AreApart p q) qs × AllApart qs
+
+with_square-order : (q : Square) (qs : List Square) → AllByRecursion (λ p. AreApart p q) qs → InCodeOrder qs → InCodeOrder (with_square q qs)
+with_square-order q [] apart order = (tt, tt)
+with_square-order q (p ∷ qs) apart order = step (cases_Bool (comes_before q p)) (with_square-order q qs apart.1 order.1)
+  where
+    step : (comes_before q p ≡ true) ⊎ (comes_before q p ≡ false) → InCodeOrder (with_square q qs) → InCodeOrder (with_square q (p ∷ qs))
+    step (inl first) rest =
+        subst (λ b. InCodeOrder (cond b (q ∷ p ∷ qs) (p ∷ with_square q qs))) (sym first) ((first, all_later q p qs first order.0), order)
+    step (inr later) rest =
+        let earlier : IsTrue (comes_before p q) = elim apart.0 [ inl h ↦ h | inr h ↦ absurd (both_ways (comes_before q p) later h) ] in
+        subst (λ b. InCodeOrder (cond b (q ∷ p ∷ qs) (p ∷ with_square q qs))) (sym later) (with_square-all (λ r. IsTrue (comes_before p r)) q qs earlier order.0, rest)
+
+-- squares at different places are put in code order
+pub in_code_order-order : (qs : List Square) → AllApart qs → InCodeOrder (in_code_order qs)
+in_code_order-order [] apart = tt
+in_code_order-order (q ∷ qs) apart = with_square-order q (in_code_order qs) (in_code_order-all (λ p. AreApart p q) qs apart.0) (in_code_order-order qs apart.1)
+
+-- each square stands in it as often as before
+with_square-count : (c : Square → Bool) (q : Square) (qs : List Square) → count_by c (with_square q qs) ≡ count_by c (q ∷ qs)
+with_square-count c q [] = refl
+with_square-count c q (p ∷ qs) =
+    elim (comes_before q p) as (λ b. count_by c (cond b (q ∷ p ∷ qs) (p ∷ with_square q qs)) ≡ count_by c (q ∷ p ∷ qs)) [
+      | true ↦ refl
+      | false ↦ omega (
+        arith,
+        sum_by-cons (λ r. cond (c r) 1 0) p (with_square q qs),
+        with_square-count c q qs,
+        sum_by-cons (λ r. cond (c r) 1 0) q qs,
+        sum_by-cons (λ r. cond (c r) 1 0) q (p ∷ qs),
+        sum_by-cons (λ r. cond (c r) 1 0) p qs,
+      )
+    ]
+
+pub in_code_order-count : (c : Square → Bool) (qs : List Square) → count_by c (in_code_order qs) ≡ count_by c qs
+in_code_order-count c [] = refl
+in_code_order-count c (q ∷ qs) = omega (
+  arith,
+  with_square-count c q (in_code_order qs),
+  in_code_order-count c qs,
+  sum_by-cons (λ r. cond (c r) 1 0) q (in_code_order qs),
+  sum_by-cons (λ r. cond (c r) 1 0) q qs,
+)
+
+-- squares put in order are as many
+with_square-length : (q : Square) (qs : List Square) → length (with_square q qs) ≡ suc (length qs)
+with_square-length q [] = refl
+with_square-length q (p ∷ qs) =
+    elim (comes_before q p) as (λ b. length (cond b (q ∷ p ∷ qs) (p ∷ with_square q qs)) ≡ suc (length (p ∷ qs))) [
+      | true ↦ refl
+      | false ↦ ap suc (with_square-length q qs)
+    ]
+
+pub in_code_order-length : (qs : List Square) → length (in_code_order qs) ≡ length qs
+in_code_order-length [] = refl
+in_code_order-length (q ∷ qs) = with_square-length q (in_code_order qs) ∙ ap suc (in_code_order-length qs)

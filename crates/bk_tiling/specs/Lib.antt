@@ -1,0 +1,11 @@
+pub mod CodeOrder
+pub mod Tiling
+pub mod Column
+pub mod Scale
+pub mod Point
+pub mod SquareGroups
+pub mod Kept
+pub mod Refusal
+pub mod Sharing
+pub mod RefusalLaws
+pub mod Row

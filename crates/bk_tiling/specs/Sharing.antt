@@ -1,0 +1,21 @@
+-- Which later squares share a cell with one square.
+use Rattle.std.specs.Prelude.{List, length, slice_index_or, ℕ, ◌+◌, ◌<◌, ◌^◌}
+use Rattle.bk_tiling.specs.Refusal.{SharesCell}
+use Rattle.bk_tiling.specs.declared.Square.{Square}
+
+-- the square has a side, and its edges fit the types of the code
+abbrev pub EdgesFit : Square → Type 0
+EdgesFit q = (0 < q.s) × (q.x + q.s < 2 ^ 64) × (q.y + q.s < 2 ^ 64)
+
+-- the square at place i shares no cell with a later one before place n
+abbrev pub SharesWithNoneBefore : List Square → ℕ → ℕ → Type 0
+SharesWithNoneBefore squares i n =
+    (k : ℕ) (d : Square) → i < k → k < n
+    → ¬ (SharesCell (slice_index_or squares i d) (slice_index_or squares k d))
+
+-- j is the first place after i of a square that shares a cell with the one at i
+pub record IsFirstSharing (squares : List Square) (i j : ℕ) : Type 0 where
+  pub after : i < j
+  pub below : j < length squares
+  pub here : (d : Square) → SharesCell (slice_index_or squares i d) (slice_index_or squares j d)
+  pub before : SharesWithNoneBefore squares i j

@@ -1,0 +1,291 @@
+//! Squares placed in rectangles, and what it is that they tile one.
+#![tactic(auto)]
+
+ghost use Rattle.std.specs.Prelude.{IfErr, IfOk, IsOk, length, ◌+◌, ◌<◌, ◌^◌, ◌↔◌, ◌≡◌, ◌≤◌};
+ghost use Rattle.bk_tiling.specs.CodeOrder.{begins_group, in_code_order, stands_beside};
+ghost use Rattle.bk_tiling.specs.Kept.{IsKept};
+ghost use Rattle.bk_tiling.specs.Refusal.{HaveSides, IsAccepted, IsRefusal, ShareNoCell};
+ghost use Rattle.bk_tiling.specs.RefusalLaws.{RefusedInOneWay, RefusedOrAccepted};
+ghost use Rattle.bk_tiling.specs.Tiling.{order};
+
+mod checks;
+
+use arrayvec::ArrayVec;
+use checks::{first_outside, first_overlap, first_side, first_uncovered};
+use std::marker::Model;
+
+/// A tiling has at most so many squares.
+pub const MOST_SQUARES: usize = 200;
+
+/// No side is longer.
+pub const LONGEST_SIDE: u64 = 999_999_999_999_999;
+
+/// A placed square. Levels grow downwards.
+#[derive(Clone, Copy, Debug, Default, PartialEq, Eq)]
+pub struct Square {
+    /// The column of its left edge.
+    pub x: u64,
+    /// The level of its top.
+    pub y: u64,
+    /// Its side.
+    pub s: u64,
+}
+
+/// A level piece of the lower outline of laid squares: its first column, how many columns it has, and their depth.
+#[derive(Clone, Copy, Debug, PartialEq, Eq)]
+pub struct Segment {
+    /// Its first column.
+    pub x: u64,
+    /// How many columns it has.
+    pub width: u64,
+    /// The depth of each of them.
+    pub level: u64,
+}
+
+/// Why squares do not make a tiling of a rectangle: the first test that they fail, in the order of these variants. Places
+/// count from 0 in the list as given.
+#[derive(Clone, Copy, Debug, PartialEq, Eq)]
+pub enum NotTiling {
+    /// There are more than 200 squares: so many.
+    Many { n: usize },
+    /// The rectangle has no width or no height.
+    Empty,
+    /// The first square whose side is 0 or above 999,999,999,999,999.
+    Side { i: usize },
+    /// The first square that is not within the rectangle.
+    Outside { i: usize },
+    /// The least two places, i before j, whose squares share a cell.
+    Overlap { i: usize, j: usize },
+    /// The highest cell that lies in no square, and of these the one furthest to the left.
+    Uncovered { x: u64, y: u64 },
+}
+
+/// A rectangle tiled by 1 to 200 squares (Brooks, Smith, Stone and Tutte 1940, with whole sides). The squares stand in
+/// code order: from top to bottom, and from left to right at one level. A square's number is its place, from 1.
+#[derive(Drop)]
+pub struct Tiling {
+    width: u64,
+    height: u64,
+    squares: ArrayVec<Square, MOST_SQUARES>,
+}
+
+impl Model for Tiling {
+    ghost use Rattle.bk_tiling.specs.Kept.{IsKept};
+    ghost use Rattle.bk_tiling.specs.Tiling.{Tiling as Tiled};
+
+    ghost Value = { Tiled };
+
+    ghost view = { λ t. record { width = t.width; height = t.height; squares = t.squares.items } };
+
+    ghost invariant = { λ t. IsKept (record { width = t.width; height = t.height; squares = t.squares.items }) };
+}
+
+impl Tiling {
+    /// The tiling of a rectangle, `width` columns by `height` levels, by squares that come in any order. Each cell has to
+    /// lie in exactly one of them (Brooks, Smith, Stone and Tutte 1940, with whole sides). It is refused exactly where
+    /// `NotTiling` says so, at the exact place.
+    pub fn try_new(width: u64, height: u64, squares: &[Square]) -> Result<Tiling, NotTiling>
+        ensures accepted { IsOk result ↔ IsAccepted width height squares.now }
+        ensures value { IfOk result (λ t.
+            t ≡ record { width = width; height = height; squares = in_code_order squares.now }) }
+        ensures refused { IfErr result (IsRefusal width height squares.now) }
+    {
+        if squares.len() > MOST_SQUARES {
+            return Err(NotTiling::Many { n: squares.len() });
+        }
+        if width == 0 || height == 0 {
+            return Err(NotTiling::Empty);
+        }
+        if let Some(i) = first_side(squares) {
+            return Err(NotTiling::Side { i });
+        }
+        if let Some(i) = first_outside(width, height, squares) {
+            return Err(NotTiling::Outside { i });
+        }
+        if let Some((i, j)) = first_overlap(squares) {
+            return Err(NotTiling::Overlap { i, j });
+        }
+        if let Some((x, y)) = first_uncovered(width, height, squares) {
+            return Err(NotTiling::Uncovered { x, y });
+        }
+        Ok(Tiling {
+            width,
+            height,
+            squares: put_in_order(squares),
+        })
+    }
+
+    /// The tiling of a rectangle by squares that are known to tile it and stand in code order. Nothing is tested.
+    pub fn from_known(width: u64, height: u64, squares: ArrayVec<Square, MOST_SQUARES>) -> Tiling
+        requires { IsKept (record { width = width; height = height; squares = squares.items }) }
+        ensures { result ≡ record { width = width; height = height; squares = squares.items } }
+    {
+        Tiling {
+            width,
+            height,
+            squares,
+        }
+    }
+
+    /// The width: how many columns the rectangle has.
+    pub fn width(&self) -> u64
+        ensures value { result ≡ self.now.width }
+        ensures kept { IsKept self.now }
+    {
+        self.width
+    }
+
+    /// The height: how many levels the rectangle has.
+    pub fn height(&self) -> u64
+        ensures value { result ≡ self.now.height }
+        ensures kept { IsKept self.now }
+    {
+        self.height
+    }
+
+    /// The order: how many squares there are, 1 to 200.
+    pub fn order(&self) -> usize
+        ensures value { result ≡ order self.now }
+        ensures kept { IsKept self.now }
+    {
+        self.squares.len()
+    }
+
+    /// The squares, in code order.
+    pub fn squares(&self) -> &[Square]
+        ensures value { result.now ≡ self.now.squares }
+        ensures kept { IsKept self.now }
+    {
+        self.squares.as_slice()
+    }
+
+    /// Whether a group of the code begins at the square at place `i`, from 0: always at 0, and else unless the square
+    /// before it has the same top level and ends where this one begins (Bouwkamp 1946-47).
+    pub fn begins_group(&self, i: usize) -> bool
+        requires { i < length self.now.squares }
+        ensures { result ≡ begins_group self.now.squares i }
+    {
+        i == 0 || !stands_beside(self.squares[i - 1], self.squares[i])
+    }
+}
+
+// Whether `here` is level with `before` and begins at its right edge.
+fn stands_beside(before: Square, here: Square) -> bool
+    requires { before.x + before.s < 2 ^ 64 }
+    ensures { result ≡ stands_beside before here }
+{
+    before.y == here.y && before.x + before.s == here.x
+}
+
+// The squares, put in code order.
+fn put_in_order(squares: &[Square]) -> ArrayVec<Square, MOST_SQUARES>
+    requires few { length squares.now ≤ MOST_SQUARES }
+    requires apart { ShareNoCell squares.now }
+    requires sides { HaveSides squares.now }
+    ensures { result.items ≡ in_code_order squares.now }
+{
+    let mut sorted = ArrayVec::new();
+    for q in squares {
+        sorted.push(*q);
+    }
+    sorted.sort_unstable_by_key(|q| (q.y, q.x));
+    sorted
+}
+
+/// A list of squares is refused in one way only.
+pub fn a_list_is_refused_in_one_way()
+    ensures { RefusedInOneWay }
+{}
+
+/// A list of squares that is refused is not accepted.
+pub fn a_refused_list_is_not_accepted()
+    ensures { RefusedOrAccepted }
+{}
+
+#[cfg(test)]
+mod tests {
+    use super::*;
+
+    fn at(x: u64, y: u64, s: u64) -> Square {
+        Square { x, y, s }
+    }
+
+    // The nine squares of the 33 by 32 rectangle, in no order.
+    fn nine_squares() -> [Square; 9] {
+        [
+            at(24, 22, 1),
+            at(18, 15, 7),
+            at(14, 18, 4),
+            at(0, 0, 18),
+            at(24, 23, 9),
+            at(18, 0, 15),
+            at(25, 15, 8),
+            at(14, 22, 10),
+            at(0, 18, 14),
+        ]
+    }
+
+    #[test]
+    fn refuses_at_the_place(rt: HostRuntime) {
+        let crowd = [at(0, 0, 1); 201];
+        let nine = nine_squares();
+        let rows: [(u64, u64, &[Square], NotTiling); 11] = [
+            (0, 1, &crowd, NotTiling::Many { n: 201 }),
+            (2, 0, &[at(0, 0, 1)], NotTiling::Empty),
+            (0, 2, &[at(0, 0, 1)], NotTiling::Empty),
+            (2, 1, &[at(0, 0, 1), at(1, 0, 0)], NotTiling::Side { i: 1 }),
+            (
+                2,
+                1,
+                &[at(0, 0, 1_000_000_000_000_000)],
+                NotTiling::Side { i: 0 },
+            ),
+            (
+                2,
+                1,
+                &[at(0, 0, 1), at(u64::MAX, 0, 1)],
+                NotTiling::Outside { i: 1 },
+            ),
+            (
+                2,
+                1,
+                &[at(0, 0, 1), at(1, 0, 1), at(1, 0, 1)],
+                NotTiling::Overlap { i: 1, j: 2 },
+            ),
+            (
+                2,
+                2,
+                &[at(1, 1, 1), at(0, 0, 2), at(0, 0, 1)],
+                NotTiling::Overlap { i: 0, j: 1 },
+            ),
+            (2, 1, &[at(0, 0, 1)], NotTiling::Uncovered { x: 1, y: 0 }),
+            (
+                2,
+                2,
+                &[at(1, 0, 1), at(0, 1, 1)],
+                NotTiling::Uncovered { x: 0, y: 0 },
+            ),
+            (33, 33, &nine, NotTiling::Uncovered { x: 0, y: 32 }),
+        ];
+        for (width, height, squares, want) in rows {
+            let why = Tiling::try_new(width, height, squares).err();
+            assert_eq!(rt; why, Some(want));
+        }
+    }
+
+    #[test]
+    fn puts_nine_squares_in_order(rt: HostRuntime) {
+        let tiling = Tiling::try_new(33, 32, &nine_squares()).expect(&rt, "they tile it");
+        assert_eq!(rt;
+            (tiling.width(), tiling.height(), tiling.order()),
+            (33, 32, 9)
+        );
+        let sides = [18, 15, 7, 8, 14, 4, 10, 1, 9];
+        for (q, s) in tiling.squares().iter().zip(sides) {
+            assert_eq!(rt; q.s, s);
+        }
+        for i in 0..tiling.order() {
+            assert_eq!(rt; tiling.begins_group(i), i % 2 == 0);
+        }
+    }
+}
