@@ -1,0 +1,5 @@
+pub mod Reading
+pub mod NumberLaws
+pub mod NumbersRead
+pub mod FirstByte
+pub mod Leaving
