@@ -1,0 +1,5 @@
+pub mod CodeExamples
+pub mod FlatList
+pub mod Storing
+pub mod GroupSteps
+pub mod CodesOrdered

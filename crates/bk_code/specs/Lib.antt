@@ -1,0 +1,4 @@
+pub mod Code
+pub mod CodeLaws
+pub mod Kept
+pub mod Stored

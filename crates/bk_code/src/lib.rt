@@ -1,0 +1,268 @@
+//! Bouwkamp codes: the sides of a tiling from top to bottom and from left to right, in groups that hang from one level.
+#![tactic(auto)]
+
+ghost use Rattle.std.specs.List.{AllByRecursion};
+ghost use Rattle.std.specs.Prelude.{[], length, slice_index_or, slice_range, ◌+◌, ◌++◌, ◌<◌, ◌≡◌, ◌≤◌, ◌∷◌};
+ghost use Rattle.bk_tiling.specs.Kept.{IsSide};
+ghost use Rattle.bk_code.specs.Code.{code_cmp, code_of, flat, with_side};
+ghost use Rattle.bk_code.specs.CodeLaws.{AFlatListFixesATiling, CodesAreOrdered};
+ghost use Rattle.bk_code.specs.Kept.{IsKeptCode};
+ghost use Rattle.bk_code.specs.Stored.{AreStarts, groups_at};
+
+use arrayvec::ArrayVec;
+use bk_tiling::{MOST_SQUARES, Tiling};
+use std::cmp::Ordering;
+use std::marker::Model;
+
+/// A code in Bouwkamp's notation (1946-47): groups of sides, from top to bottom and from left to right. No group is
+/// empty, there are at most 200 sides in all, and each is 1 to 999,999,999,999,999.
+#[derive(Drop)]
+pub struct Code {
+    sides: ArrayVec<u64, MOST_SQUARES>,
+    // The place of the first side of each group.
+    starts: ArrayVec<usize, MOST_SQUARES>,
+}
+
+impl Model for Code {
+    ghost use Rattle.bk_code.specs.Code.{Code as Groups};
+    ghost use Rattle.bk_code.specs.Stored.{IsStored, groups_at};
+
+    ghost Value = { Groups };
+
+    ghost view = { λ c. groups_at c.starts.items c.sides.items };
+
+    ghost invariant = { λ c. IsStored c.starts.items c.sides.items };
+}
+
+impl Code {
+    /// The code with no group.
+    pub fn new() -> Code
+        ensures { result ≡ [] }
+    {
+        Code {
+            sides: ArrayVec::new(),
+            starts: ArrayVec::new(),
+        }
+    }
+
+    /// Appends a group of these sides, from left to right.
+    pub fn add_group(&mut self, sides: &[u64])
+        requires some { 0 < length sides.now }
+        requires sides { AllByRecursion IsSide sides.now }
+        requires room { length (flat self.old) + length sides.now ≤ MOST_SQUARES }
+        ensures group { self.new ≡ self.old ++ sides.now ∷ [] }
+        ensures flat { flat self.new ≡ flat self.old ++ sides.now }
+    {
+        let start = self.sides.len();
+        append(&mut self.sides, sides);
+        self.starts.push(start);
+    }
+
+    /// Appends a group of one side.
+    pub fn begin_group(&mut self, first: u64)
+        requires side { IsSide first }
+        requires room { length (flat self.old) < MOST_SQUARES }
+        ensures group { self.new ≡ self.old ++ (first ∷ []) ∷ [] }
+        ensures flat { flat self.new ≡ flat self.old ++ first ∷ [] }
+    {
+        self.starts.push(self.sides.len());
+        self.sides.push(first);
+    }
+
+    /// Appends a side to the last group.
+    pub fn push_side(&mut self, side: u64)
+        requires some { 0 < length self.old }
+        requires side { IsSide side }
+        requires room { length (flat self.old) < MOST_SQUARES }
+        ensures group { self.new ≡ with_side self.old side }
+        ensures flat { flat self.new ≡ flat self.old ++ side ∷ [] }
+    {
+        self.sides.push(side);
+    }
+
+    /// How many groups there are.
+    pub fn groups(&self) -> usize
+        ensures value { result ≡ length self.now }
+        ensures kept { IsKeptCode self.now }
+    {
+        self.starts.len()
+    }
+
+    /// The sides of the group at place `g`, from 0.
+    pub fn group(&self, g: usize) -> &[u64]
+        requires { g < length self.now }
+        ensures { result.now ≡ slice_index_or self.now g [] }
+    {
+        part(self.starts.as_slice(), self.sides.as_slice(), g)
+    }
+}
+
+// The sides from a start to the next one, or to the end.
+fn part<'a>(starts: &[usize], sides: &'a [u64], g: usize) -> &'a [u64]
+    requires place { g < length starts.now }
+    requires rise { AreStarts starts.now (length sides.now) }
+    ensures { result.now ≡ slice_index_or (groups_at starts.now sides.now) g [] }
+{
+    let (start, end) = bounds(starts, sides, g);
+    &sides[start..end]
+}
+
+// Where the sides of a group begin and end.
+fn bounds(starts: &[usize], sides: &[u64], g: usize) -> (usize, usize)
+    requires place { g < length starts.now }
+    requires rise { AreStarts starts.now (length sides.now) }
+    ensures part { slice_range sides.now result.0 result.1 ≡ slice_index_or (groups_at starts.now sides.now) g [] }
+    ensures order { result.0 ≤ result.1 }
+    ensures within { result.1 ≤ length sides.now }
+{
+    if g + 1 < starts.len() {
+        (starts[g], starts[g + 1])
+    } else {
+        (starts[g], sides.len())
+    }
+}
+
+// Appends sides, for which there is room.
+fn append(sides: &mut ArrayVec<u64, MOST_SQUARES>, more: &[u64])
+    requires { length sides.old.items + length more.now ≤ MOST_SQUARES }
+    ensures { sides.new.items ≡ sides.old.items ++ more.now }
+{
+    if sides.try_extend_from_slice(more).is_err() {
+        unreachable!();
+    }
+}
+
+/// All sides in order.
+pub fn flat(code: &Code) -> &[u64]
+    ensures value { result.now ≡ flat code.now }
+    ensures sides { AllByRecursion IsSide result.now }
+    ensures kept { IsKeptCode code.now }
+{
+    code.sides.as_slice()
+}
+
+/// The code of a tiling: its sides, with a cut before each square that isn't level with the one before it or doesn't
+/// begin at its right edge (Bouwkamp 1946-47).
+pub fn code_of(tiling: &Tiling) -> Code
+    ensures { result ≡ code_of tiling.now }
+{
+    let squares = tiling.squares();
+    let mut code = Code::new();
+    for i in 0..squares.len() {
+        if tiling.begins_group(i) {
+            code.begin_group(squares[i].s);
+        } else {
+            code.push_side(squares[i].s);
+        }
+    }
+    code
+}
+
+/// Compares the flat lists of two codes lexicographically; a proper prefix comes first. This order is our own.
+pub fn cmp_codes(a: &Code, b: &Code) -> Ordering
+    ensures { result ≡ code_cmp a.now b.now }
+{
+    flat(a).cmp(flat(b))
+}
+
+/// A width and a flat list of sides fix a tiling.
+pub fn a_flat_list_fixes_a_tiling()
+    ensures { AFlatListFixesATiling }
+{}
+
+/// Codes are totally ordered by their flat lists, as `cmp_codes` compares them.
+pub fn codes_are_ordered()
+    ensures { CodesAreOrdered }
+{}
+
+#[cfg(test)]
+mod tests {
+    use super::*;
+    use bk_tiling::{LONGEST_SIDE, Square};
+    use std::process::Abort;
+
+    fn at(x: u64, y: u64, s: u64) -> Square {
+        Square { x, y, s }
+    }
+
+    // The code with these groups, built side by side.
+    fn code_with(rt: &impl Abort, groups: &[&[u64]]) -> Code {
+        let mut code = Code::new();
+        for group in groups {
+            for (i, side) in group.iter().enumerate() {
+                assert!(rt; *side >= 1 && *side <= LONGEST_SIDE);
+                assert!(rt; flat(&code).len() < MOST_SQUARES);
+                if i == 0 {
+                    code.begin_group(*side);
+                } else {
+                    assert!(rt; code.groups() > 0);
+                    code.push_side(*side);
+                }
+            }
+        }
+        code
+    }
+
+    fn assert_groups(rt: &impl Abort, code: &Code, groups: &[&[u64]]) {
+        assert_eq!(rt; code.groups(), groups.len());
+        for (g, group) in groups.iter().enumerate() {
+            assert!(rt; g < code.groups());
+            assert_eq!(rt; code.group(g), *group);
+        }
+    }
+
+    #[test]
+    fn reads_codes_off_tilings(rt: HostRuntime) {
+        let nine = [
+            at(0, 0, 18),
+            at(18, 0, 15),
+            at(18, 15, 7),
+            at(25, 15, 8),
+            at(0, 18, 14),
+            at(14, 18, 4),
+            at(14, 22, 10),
+            at(24, 22, 1),
+            at(24, 23, 9),
+        ];
+        let four = [at(0, 0, 1), at(1, 0, 1), at(0, 1, 1), at(1, 1, 1)];
+        let rows: [(u64, u64, &[Square], &[&[u64]]); 2] = [
+            (
+                33,
+                32,
+                &nine,
+                &[&[18, 15], &[7, 8], &[14, 4], &[10, 1], &[9]],
+            ),
+            (2, 2, &four, &[&[1, 1], &[1, 1]]),
+        ];
+        for (width, height, squares, groups) in rows {
+            let tiling = Tiling::try_new(width, height, squares).expect(&rt, "they tile it");
+            let code = code_of(&tiling);
+            assert_groups(&rt, &code, groups);
+            assert_eq!(rt; flat(&code).len(), squares.len());
+        }
+    }
+
+    #[test]
+    fn adds_groups(rt: HostRuntime) {
+        let mut code = Code::new();
+        assert_eq!(rt; code.groups(), 0);
+        code.add_group(&[2, 1]);
+        code.add_group(&[1]);
+        assert_groups(&rt, &code, &[&[2, 1], &[1]]);
+        assert_eq!(rt; flat(&code), [2, 1, 1].as_slice());
+    }
+
+    #[test]
+    fn compares_flat_lists(rt: HostRuntime) {
+        let rows: [(&[&[u64]], &[&[u64]], Ordering); 5] = [
+            (&[&[2, 1], &[1]], &[&[2, 1], &[1]], Ordering::Equal),
+            (&[&[2, 1], &[1]], &[&[2], &[1, 1]], Ordering::Equal),
+            (&[&[2, 1]], &[&[2, 1], &[1]], Ordering::Less),
+            (&[&[3]], &[&[2, 9]], Ordering::Greater),
+            (&[], &[&[1]], Ordering::Less),
+        ];
+        for (a, b, want) in rows {
+            assert_eq!(rt; cmp_codes(&code_with(&rt, a), &code_with(&rt, b)), want);
+        }
+    }
+}
