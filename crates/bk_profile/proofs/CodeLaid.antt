@@ -1,0 +1,121 @@
+-- A code is laid to the one tiling that has it, or no tiling has it.
+use Rattle.std.specs.List.{AllByRecursion}
+use Rattle.std.proofs.Common.{List, [], ap, arith, inl, inr, length, subst, sum, sym, ℕ, true, ◌*◌, ◌+◌, ◌-◌, ◌<◌, ◌^◌, ◌∙◌, ◌∷◌, ◌≡◌, ◌≤◌, ◌⊎◌}
+use Rattle.std.proofs.lemmas.List.{length-append}
+use Rattle.std.proofs.lemmas.List.Sums.{sum_by-cons}
+use Rattle.bk_tiling.proofs.Cells.{column_from, counted_one, depth_comes_from, depth_reaches, over_from}
+use Rattle.bk_tiling.proofs.TilingLaws.{cell_once, wide_enough, within_of}
+use Rattle.bk_tiling.specs.Column.{covers_column, depth}
+use Rattle.bk_tiling.specs.Kept.{IsKept, IsSide}
+use Rattle.bk_tiling.specs.Tiling.{IsOneOf, IsTiling, Tiling, covers}
+use Rattle.bk_tiling.specs.declared.Segment.{Segment}
+use Rattle.bk_tiling.specs.declared.Square.{Square}
+use Rattle.bk_tiling.specs.declared.TheConstants.{LONGEST_SIDE}
+use Rattle.bk_code.specs.Code.{Code, flat}
+use Rattle.bk_code.specs.Kept.{IsKeptCode, IsSideGroup}
+use Rattle.bk_profile.proofs.CodeLaying.{a_code_is_laid}
+use Rattle.bk_profile.proofs.LaidGroups.{AreGroups, IsLaid, laid_groups, laid_none, tiling_from_laid}
+use Rattle.bk_profile.proofs.LayingOnce.{Halves, gap_of_none, gap_unique, lays_length, lays_sides, lays_split, lays_unique}
+use Rattle.bk_profile.specs.Gap.{IsGap, LaysTo}
+use Rattle.bk_profile.specs.Laid.{IsGreatestDepth, IsLaidOut, IsLeastDepth, Laid}
+use Rattle.bk_profile.specs.Refused.{EndsOpen, HasCode, Misfits, first_sum}
+
+two : (a b : ℕ) → (a < b) ⊎ (b ≤ a)
+two a b = grind arith
+
+-- all columns of a tiling have its height as depth
+pub even_below : (t : Tiling) → IsTiling t → (c : ℕ) → c < t.width → depth t.squares c ≡ t.height
+even_below t tiling c wide = cases (two (depth t.squares c) t.height) (two t.height (depth t.squares c))
+  where
+    from : (q : Square) × IsOneOf q t.squares × (covers c (t.height - 1) q ≡ true) → t.height - 1 < depth t.squares c
+    from (q, k, e) = let o = over_from c (t.height - 1) q e in omega (arith, o.bottom, depth_reaches t.squares c q k (column_from c q o.left o.right))
+
+    deep : (q : Square) × IsOneOf q t.squares × (covers_column c q ≡ true) × (t.height < q.y + q.s) → ⊥
+    deep (q, k, e, d) = omega (arith, d, (within_of t tiling q k).bottom)
+
+    cases : (depth t.squares c < t.height) ⊎ (t.height ≤ depth t.squares c) → (t.height < depth t.squares c) ⊎ (depth t.squares c ≤ t.height) → depth t.squares c ≡ t.height
+    cases (inl a) b = absurd (omega (arith, a, from (counted_one (covers c (t.height - 1)) t.squares (omega (arith, a, cell_once t tiling c (t.height - 1) wide (omega (arith, a)))))))
+    cases (inr a) (inl b) = absurd (deep (depth_comes_from t.squares c t.height b))
+    cases (inr a) (inr b) = omega (arith, a, b)
+
+-- a tiling's width is the sum of the first group of its code
+pub width_is : (code : Code) (t : Tiling) → HasCode code t → 0 < length code → first_sum code ≡ t.width
+width_is [] t has some = absurd (omega arith)
+width_is (group ∷ code) t has some = from (subst (λ (c : Code). LaysTo t.width [] c t.squares) has.code_is (a_code_is_laid t has.tiling))
+  where
+    from : LaysTo t.width [] (group ∷ code) t.squares → sum group ≡ t.width
+    from (gap, is, fits, lays) = fits ∙ ap (λ (g : Segment). g.width) (gap_unique t.width [] gap (record { x = 0; width = t.width; level = 0 }) is (gap_of_none t.width (wide_enough t has.tiling)))
+
+-- a tiling's code is laid under the sum of its first group
+pub lays_code : (code : Code) (t : Tiling) → HasCode code t → 0 < length code → LaysTo (first_sum code) [] code t.squares
+lays_code code t has some =
+    subst (λ n. LaysTo n [] code t.squares) (sym (width_is code t has some))
+    (subst (λ (c : Code). LaysTo t.width [] c t.squares) has.code_is (a_code_is_laid t has.tiling))
+
+-- where all groups fit, none is the first that doesn't
+pub no_misfit : (w : ℕ) (code : Code) (end : List Square) (number gap_width total : ℕ) → LaysTo w [] code end → Misfits w code number gap_width total → ⊥
+no_misfit w code end number gap_width total lays m = from halves.second
+  where
+    halves : Halves w [] m.before (m.group ∷ m.after) end
+    halves = lays_split w [] m.before (m.group ∷ m.after) end (subst (λ (c : Code). LaysTo w [] c end) m.split lays)
+
+    same : halves.middle ≡ m.laid
+    same = lays_unique w [] m.before halves.middle m.laid halves.first m.lays
+
+    from : LaysTo w halves.middle (m.group ∷ m.after) end → ⊥
+    from (gap, is, fits, rest) =
+        m.misfit (fits ∙ ap (λ (g : Segment). g.width) (gap_unique w m.laid gap m.gap (subst (λ (l : List Square). IsGap w l gap) same is) m.is_gap))
+
+-- nor is the outline uneven where the squares are laid to a tiling
+pub not_open : (w : ℕ) (code : Code) (t : Tiling) (least greatest : ℕ) → IsTiling t → t.width ≡ w → LaysTo w [] code t.squares → EndsOpen w code least greatest → ⊥
+not_open w code t least greatest tiling width lays o =
+    let same : o.laid ≡ t.squares = lays_unique w [] code o.laid t.squares o.lays lays in
+    let low = (o.uneven).least_is in
+    let high = (o.uneven).greatest_is in
+    let at_low : depth o.laid low.column ≡ t.height = ap (λ (l : List Square). depth l low.column) same ∙ even_below t tiling low.column (omega (arith, low.within, width)) in
+    let at_high : depth o.laid high.column ≡ t.height = ap (λ (l : List Square). depth l high.column) same ∙ even_below t tiling high.column (omega (arith, high.within, width)) in
+    omega (arith, low.there, high.there, at_low, at_high, (o.uneven).uneven)
+
+positive : (sides : List ℕ) → AllByRecursion IsSide sides → AllByRecursion (λ s. 0 < s) sides
+positive [] good = tt
+positive (s ∷ sides) good = (good.0.0, positive sides good.1)
+
+pub are_groups : (code : Code) → AllByRecursion IsSideGroup code → AreGroups code
+are_groups [] good = tt
+are_groups (group ∷ code) good = ((good.0.0, positive group good.0.1), are_groups code good.1)
+
+-- what is laid out, by its groups
+pub laid_out : (p : Laid) (out : IsLaidOut p) → IsLaid p.width p.squares out.code
+laid_out p out = laid_groups p.width [] [] out.code p.squares (laid_none p.width) (are_groups out.code (out.kept).groups) out.lays
+
+flat_some : (code : Code) → AllByRecursion IsSideGroup code → 0 < length code → 0 < length (flat code)
+flat_some [] good some = omega arith
+flat_some (group ∷ code) good some = omega (arith, good.0.0, length-append group (flat code))
+
+-- where the outline is even, what is laid out is a tiling
+pub kept_even : (p : Laid) (least greatest : ℕ) → IsLaidOut p → IsLeastDepth p least → IsGreatestDepth p greatest → greatest ≤ least → p.width ≤ 200000000000000000 → greatest < 2 ^ 64 → IsKept (record { width = p.width; height = greatest; squares = p.squares })
+kept_even p least greatest out low high even narrow small = record {
+  tiling = tiling_from_laid p.width greatest p.squares out.code (laid_out p out) (omega (arith, count, flat_some out.code (out.kept).groups out.some)) (λ c h. omega (arith, low.below c h, high.above c h, even));
+  few = omega (arith, count, (out.kept).few);
+  sides = lays_sides p.width [] out.code p.squares (out.kept).groups out.lays tt;
+  width_fits = omega (arith, narrow);
+  height_fits = small;
+}
+  where
+    count : length p.squares ≡ 0 + length (flat out.code)
+    count = lays_length p.width [] out.code p.squares out.lays
+
+pub sum_bounds : (sides : List ℕ) → AllByRecursion IsSide sides → (sum sides ≤ length sides * LONGEST_SIDE) × (length sides ≤ sum sides)
+sum_bounds [] good = (omega arith, omega arith)
+sum_bounds (s ∷ sides) good =
+    let rest : (sum sides ≤ length sides * LONGEST_SIDE) × (length sides ≤ sum sides) = sum_bounds sides good.1 in
+    let total : sum (s ∷ sides) ≡ s + sum sides = sum_by-cons (λ (n : ℕ). n) s sides in
+    (omega (arith, good.0.1, rest.0), omega (arith, good.0.0, rest.1))
+
+-- the width of a code
+pub width_bounds : (code : Code) → IsKeptCode code → 0 < length code → (0 < first_sum code) × (first_sum code ≤ 200000000000000000)
+width_bounds [] kept some = absurd (omega arith)
+width_bounds (group ∷ code) kept some =
+    let b : (sum group ≤ length group * LONGEST_SIDE) × (length group ≤ sum group) = sum_bounds group kept.groups.0.1 in
+    let few : length group ≤ 200 = omega (arith, kept.few, length-append group (flat code)) in
+    (omega (arith, b.1, kept.groups.0.0), omega (arith, b.0, few))

@@ -1,0 +1,216 @@
+-- Dividing a flat list turn by turn: what each turn needs and keeps, and how it ends.
+use Rattle.std.specs.List.{AllByRecursion}
+use Rattle.std.specs.Prelude.{IfErr, IfOk, IsOkAnd, Result}
+use Rattle.std.specs.declared.result.Result.TheVariants.{Err, Ok}
+use mathlib.Core.Bool.{true≢false}
+use Rattle.std.proofs.Common.{Bool, List, [], ap, arith, eqb-true, false, length, refl, subst, sum, sym, true, ℕ, ◌==◌, ◌++◌, ◌+◌, ◌<◌, ◌∙◌, ◌∷◌, ◌≡◌, ◌≤◌}
+use Rattle.std.proofs.lemmas.List.{append-nil, append_assoc, length-append}
+use Rattle.bk_tiling.specs.Kept.{IsSide}
+use Rattle.bk_tiling.specs.Tiling.{Tiling}
+use Rattle.bk_tiling.specs.declared.Segment.{Segment}
+use Rattle.bk_tiling.specs.declared.TheConstants.{MOST_SQUARES}
+use Rattle.bk_code.proofs.FlatList.{a_flat_list_fixes_a_tiling}
+use Rattle.bk_code.proofs.GroupSteps.{side_groups}
+use Rattle.bk_code.proofs.Storing.{flat_more}
+use Rattle.bk_code.specs.Code.{Code, flat}
+use Rattle.bk_code.specs.Kept.{IsSideGroup}
+use Rattle.bk_profile.proofs.CodeLaid.{laid_out, sum_bounds}
+use Rattle.bk_profile.proofs.Division.{falls_short, flat_refused_has_none}
+use Rattle.bk_profile.proofs.LayingOnce.{gap_of_none, gap_unique, lays_length, lays_push}
+use Rattle.bk_profile.specs.Gap.{Divides, Fits, IsGap, LaysTo, done, fits, misfit, next_group, with_group}
+use Rattle.bk_profile.specs.Laid.{IsLaidOut, IsLaidTiling, IsUneven, Laid, LaysGroup, MisfitsGap}
+use Rattle.bk_profile.specs.Refused.{HasFlat, IsFlatRefused, IsOpen}
+use Rattle.bk_profile.specs.declared.laying.Refusal.{Refusal}
+use Rattle.bk_profile.specs.declared.laying.Refusal.TheVariants.{Gap, Open}
+
+sides_back : (front back : List ℕ) → AllByRecursion IsSide (front ++ back) → AllByRecursion IsSide back
+sides_back [] back good = good
+sides_back (s ∷ front) back good = sides_back front back good.1
+
+sides_front : (front back : List ℕ) → AllByRecursion IsSide (front ++ back) → AllByRecursion IsSide front
+sides_front [] back good = tt
+sides_front (s ∷ front) back good = (good.0, sides_front front back good.1)
+
+all_more : (code : Code) (group : List ℕ) → AllByRecursion IsSideGroup code → IsSideGroup group → AllByRecursion IsSideGroup (code ++ group ∷ [])
+all_more [] group all one = (one, tt)
+all_more (first ∷ code) group all one = (all.0, all_more code group all.1 one)
+
+-- some groups are laid, the next one has a number, from 1, and the rest of the sides is left
+pub record Dividing (width : ℕ) (sides : List ℕ) (number : ℕ) (p : Laid) (rest : List ℕ) : Type 0 where
+  pub code : Code
+  pub width_is : p.width ≡ width
+  pub lays : LaysTo width [] code p.squares
+  pub number_is : length code + 1 ≡ number
+  pub flat_is : flat code ++ rest ≡ sides
+  pub good : AllByRecursion IsSideGroup code
+  pub goes_on : (more : Code) → Divides width p.squares rest more → Divides width [] sides (code ++ more)
+
+pub first_turn : (width : ℕ) (sides : List ℕ) (p : Laid) → p ≡ record { width = width; squares = [] } → Dividing width sides 1 p sides
+first_turn width sides p new = subst (λ (q : Laid). Dividing width sides 1 q sides) (sym new)
+    (record { code = []; width_is = refl; lays = refl; number_is = refl; flat_is = refl; good = tt; goes_on = λ more d. d })
+
+module _ (width : ℕ) (sides : List ℕ) (number : ℕ) (p : Laid) (rest : List ℕ) (turn : Dividing width sides number p rest) (few : length sides ≤ MOST_SQUARES) (good : AllByRecursion IsSide sides) where
+  count : length p.squares + length rest ≡ length sides
+  count = omega (arith, lays_length width [] turn.code p.squares turn.lays, ap length turn.flat_is, length-append (flat turn.code) rest)
+
+  pub rest_few : length rest ≤ MOST_SQUARES
+  rest_few = omega (arith, count, few)
+
+  pub rest_good : AllByRecursion IsSide rest
+  rest_good = sides_back (flat turn.code) rest (subst (AllByRecursion IsSide) (sym turn.flat_is) good)
+
+  pub numbers : number ≤ length sides + 1
+  numbers = omega (arith, turn.number_is, count, groups turn.code turn.good, lays_length width [] turn.code p.squares turn.lays)
+    where
+      groups : (code : Code) → AllByRecursion IsSideGroup code → length code ≤ length (flat code)
+      groups [] all = omega arith
+      groups (group ∷ code) all = omega (arith, all.0.0, groups code all.1, length-append group (flat code))
+
+  -- the next group
+  module _ (group left : List ℕ) (gap : Segment) (is : IsGap p.width p.squares gap) (next : group ≡ next_group gap.width rest) (some : 0 < length rest) (split : group ++ left ≡ rest) (long : 0 < length group) where
+    pub group_good : AllByRecursion IsSide group
+    group_good = sides_front group left (subst (AllByRecursion IsSide) (sym split) rest_good)
+
+    pub group_room : length p.squares + length group ≤ MOST_SQUARES
+    group_room = omega (arith, count, few, ap length split, length-append group left)
+
+    here : IsGap width p.squares gap
+    here = subst (λ n. IsGap n p.squares gap) turn.width_is is
+
+    divides_fit : (group rest left : List ℕ) (code : Code) → 0 < length rest → group ≡ next_group gap.width rest → group ++ left ≡ rest → Fits gap group → Divides width (with_group p.squares gap group) left code → Divides width p.squares rest (group ∷ code)
+    divides_fit group [] left code some next split fit more = absurd (omega arith)
+    divides_fit group (s ∷ rest) left code some next split fit more = fits left gap here next fit (sym split) more
+
+    divides_misfit : (group rest : List ℕ) → 0 < length rest → group ≡ next_group gap.width rest → (Fits gap group → ⊥) → Divides width p.squares rest (group ∷ [])
+    divides_misfit group [] some next not = absurd (omega arith)
+    divides_misfit group (s ∷ rest) some next not = misfit gap here next not
+
+    pub next_turn : (new : Laid) → LaysGroup p group new → Dividing width sides (number + 1) new left
+    next_turn new lay = subst (λ (q : Laid). Dividing width sides (number + 1) q left) (sym moved) (record {
+      code = turn.code ++ group ∷ [];
+      width_is = turn.width_is;
+      lays = lays_push width [] turn.code p.squares group gap turn.lays here fit;
+      number_is = omega (arith, turn.number_is, length-append turn.code (group ∷ []));
+      flat_is = ap (λ (l : List ℕ). l ++ left) (flat_more turn.code group) ∙ append_assoc (flat turn.code) group left ∙ ap (λ (l : List ℕ). flat turn.code ++ l) split ∙ turn.flat_is;
+      good = all_more turn.code group turn.good (long, group_good);
+      goes_on = λ more d. subst (λ (c : Code). Divides width [] sides c) (sym (append_assoc turn.code (group ∷ []) more)) (turn.goes_on (group ∷ more) (divides_fit group rest left more some next split fit d));
+    })
+      where
+        same : lay.gap ≡ gap
+        same = gap_unique p.width p.squares lay.gap gap lay.is_gap is
+
+        fit : Fits gap group
+        fit = lay.fits ∙ ap (λ (g : Segment). g.width) same
+
+        moved : new ≡ record { width = p.width; squares = with_group p.squares gap group }
+        moved = lay.laid ∙ ap (λ (g : Segment). record { width = p.width; squares = with_group p.squares g group }) same
+
+    pub misfit_turn : (gap_width total : ℕ) → MisfitsGap p group gap_width total → IsFlatRefused width sides (Gap number gap_width total)
+    misfit_turn gap_width total m = record {
+      code = turn.code ++ group ∷ [];
+      divided = turn.goes_on (group ∷ []) (divides_misfit group rest some next (λ fit. m.misfit (fit ∙ ap (λ (g : Segment). g.width) (sym same))));
+      refused = record {
+        before = turn.code;
+        group = group;
+        after = [];
+        split = refl;
+        place = turn.number_is;
+        laid = p.squares;
+        lays = turn.lays;
+        gap = m.gap;
+        is_gap = subst (λ n. IsGap n p.squares m.gap) turn.width_is m.is_gap;
+        gap_is = m.width;
+        total_is = m.total_is;
+        misfit = m.misfit;
+      };
+    }
+      where
+        same : m.gap ≡ gap
+        same = gap_unique p.width p.squares m.gap gap m.is_gap is
+
+-- after the last turn
+module _ (width : ℕ) (sides : List ℕ) (number : ℕ) (p : Laid) (rest : List ℕ) (turn : Dividing width sides number p rest) (few : length sides ≤ MOST_SQUARES) (some : 0 < length sides) (over : rest ≡ []) where
+  pub flat_all : flat turn.code ≡ sides
+  flat_all = sym (append-nil (flat turn.code)) ∙ ap (λ (l : List ℕ). flat turn.code ++ l) (sym over) ∙ turn.flat_is
+
+  pub groups_some : (code : Code) → 0 < length (flat code) → 0 < length code
+  groups_some [] h = h
+  groups_some (group ∷ code) h = omega arith
+
+  abbrev pub last_turn : IsLaidOut p
+  last_turn = record {
+    code = turn.code;
+    kept = record { groups = turn.good; few = omega (arith, few, ap length flat_all) };
+    some = groups_some turn.code (omega (arith, some, ap length flat_all));
+    lays = subst (λ n. LaysTo n [] turn.code p.squares) (sym turn.width_is) turn.lays;
+  }
+
+  divided : Divides width [] sides turn.code
+  divided = subst (λ (c : Code). Divides width [] sides c) (append-nil turn.code) (turn.goes_on [] (subst (λ (l : List ℕ). Divides width p.squares l []) (sym over) done))
+
+  has_flat : (t : Tiling) → IsLaidTiling p t → HasFlat width sides t
+  has_flat t is = record {
+    tiling = is.tiling;
+    width_is = is.width_is ∙ turn.width_is;
+    flat_is = ap flat (ap side_groups is.squares_are ∙ (laid_out p last_turn).groups) ∙ flat_all;
+  }
+
+  open_refused : (refusal : Refusal) → IsOpen p refusal → IsFlatRefused width sides refusal
+  open_refused (Gap number gap_width total) h = absurd h
+  open_refused (Open least greatest) h = record {
+    code = turn.code;
+    divided = divided;
+    refused = record { laid = p.squares; lays = turn.lays; uneven = subst (λ n. IsUneven (record { width = n; squares = p.squares }) least greatest) turn.width_is h };
+  }
+
+  pub ends_ok : (r : Result Tiling Refusal) → IfOk r (IsLaidTiling p) → IfOk r (HasFlat width sides)
+  ends_ok (Ok t) is = has_flat t is
+  ends_ok (Err e) is = tt
+
+  pub ends_refused : (r : Result Tiling Refusal) → IfErr r (IsOpen p) → IfErr r (IsFlatRefused width sides)
+  ends_refused (Ok t) h = tt
+  ends_refused (Err e) h = open_refused e h
+
+  pub ends_only : (r : Result Tiling Refusal) → IfOk r (IsLaidTiling p) → IfErr r (IsOpen p) → (t : Tiling) → HasFlat width sides t → IsOkAnd r (λ u. u ≡ t)
+  ends_only (Ok u) is h t has = a_flat_list_fixes_a_tiling u t is.tiling has.tiling ((has_flat u is).width_is ∙ sym has.width_is) ((has_flat u is).flat_is ∙ sym has.flat_is)
+  ends_only (Err e) is h t has = absurd (flat_refused_has_none width sides e (open_refused e h) t has)
+
+abbrev whole_gap : ℕ → Segment
+whole_gap width = record { x = 0; width = width; level = 0 }
+
+-- a width that no sum of sides reaches
+pub too_wide : (width total : ℕ) (sides : List ℕ) → 0 < length sides → length sides ≤ MOST_SQUARES → AllByRecursion IsSide sides → 199999999999999800 < width → total ≡ sum sides → IsFlatRefused width sides (Gap 1 width total)
+too_wide width total [] some few good wide is = absurd (omega arith)
+too_wide width total (s ∷ sides) some few good wide is = record {
+  code = (s ∷ sides) ∷ [];
+  divided = misfit (whole_gap width) (gap_of_none width (omega (arith, wide))) (sym (falls_short width (s ∷ sides) short)) not;
+  refused = record {
+    before = [];
+    group = s ∷ sides;
+    after = [];
+    split = refl;
+    place = refl;
+    laid = [];
+    lays = refl;
+    gap = whole_gap width;
+    is_gap = gap_of_none width (omega (arith, wide));
+    gap_is = refl;
+    total_is = sym is;
+    misfit = not;
+  };
+}
+  where
+    short : sum (s ∷ sides) < width
+    short = omega (arith, (sum_bounds (s ∷ sides) good).0, few, wide)
+
+    not : Fits (whole_gap width) (s ∷ sides) → ⊥
+    not e = omega (arith, short, e)
+
+-- whether sides are left, as a test tells it
+pub some_left : (sides : List ℕ) (b : Bool) → b ≡ (length sides == 0) → b ≡ false → 0 < length sides
+some_left [] b e f = absurd (true≢false (sym e ∙ f))
+some_left (s ∷ sides) b e f = omega arith
+
+pub none_left : (sides : List ℕ) (b : Bool) → b ≡ (length sides == 0) → b ≡ true → sides ≡ []
+none_left [] b e f = refl
+none_left (s ∷ sides) b e f = absurd (omega (arith, eqb-true (length (s ∷ sides)) 0 (sym e ∙ f)))

@@ -1,0 +1,49 @@
+-- A rectangle of width 33, with sides laid and divided under it.
+use Rattle.std.proofs.Common.{List, [], arith, refl, ℕ, ◌∷◌, ◌≡◌}
+use Rattle.bk_tiling.specs.Column.{depth}
+use Rattle.bk_tiling.specs.declared.Segment.{Segment}
+use Rattle.bk_tiling.specs.declared.Square.{Square}
+use Rattle.bk_profile.proofs.GapTest.{by_tests}
+use Rattle.bk_profile.specs.Gap.{Divides, Fits, IsGap, fits, misfit, next_group, with_group}
+
+abbrev segment : ℕ → ℕ → ℕ → Segment
+segment x width level = record { x = x; width = width; level = level }
+
+abbrev one_group : List Square
+one_group = with_group [] (segment 0 33 0) (18 ∷ 15 ∷ [])
+
+abbrev two_groups : List Square
+two_groups = with_group one_group (segment 18 15 15) (7 ∷ 8 ∷ [])
+
+abbrev three_groups : List Square
+three_groups = with_group two_groups (segment 0 18 18) (14 ∷ 4 ∷ [])
+
+pub third_gap : IsGap 33 two_groups (segment 0 18 18)
+third_gap = by_tests _ _ _ refl refl refl refl refl refl
+
+ten_is_not_eleven : Fits (segment 14 11 22) (10 ∷ []) → ⊥
+ten_is_not_eleven h = omega arith
+
+-- the fourth group is all that is left, and does not fill its gap of 11 columns
+pub fourth_does_not_fit : Divides 33 [] (18 ∷ 15 ∷ 7 ∷ 8 ∷ 14 ∷ 4 ∷ 10 ∷ []) ((18 ∷ 15 ∷ []) ∷ (7 ∷ 8 ∷ []) ∷ (14 ∷ 4 ∷ []) ∷ (10 ∷ []) ∷ [])
+fourth_does_not_fit =
+    fits (7 ∷ 8 ∷ 14 ∷ 4 ∷ 10 ∷ []) (segment 0 33 0) (by_tests _ _ _ refl refl refl refl refl refl) refl refl refl
+    (fits (14 ∷ 4 ∷ 10 ∷ []) (segment 18 15 15) (by_tests _ _ _ refl refl refl refl refl refl) refl refl refl
+    (fits (10 ∷ []) (segment 0 18 18) (by_tests _ _ _ refl refl refl refl refl refl) refl refl refl
+    (misfit (segment 14 11 22) (by_tests _ _ _ refl refl refl refl refl refl) refl (λ h. absurd (omega arith)))))
+
+pub depths : depth two_groups 0 ≡ 18
+depths = refl
+
+pub depths_right : depth two_groups 24 ≡ 22
+depths_right = refl
+
+-- a flat list is divided at the shortest prefix that fills the gap
+pub first_group : next_group 33 (18 ∷ 15 ∷ 7 ∷ 8 ∷ []) ≡ 18 ∷ 15 ∷ []
+first_group = refl
+
+pub all_that_is_left : next_group 11 (10 ∷ []) ≡ 10 ∷ []
+all_that_is_left = refl
+
+pub too_much : next_group 32 (18 ∷ 15 ∷ 7 ∷ []) ≡ 18 ∷ 15 ∷ []
+too_much = refl

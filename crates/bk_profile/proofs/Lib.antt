@@ -1,0 +1,14 @@
+pub mod GapTest
+pub mod GapExamples
+pub mod CodeLaying
+pub mod RunStarts
+pub mod Hanging
+pub mod Moving
+pub mod Storing
+pub mod LaidGroups
+pub mod LayingOnce
+pub mod CodeLaid
+pub mod Turns
+pub mod Division
+pub mod FlatTurns
+pub mod OneRefusal

@@ -1,0 +1,92 @@
+-- A profile before and after a group is laid into the gap of its outline.
+use Rattle.std.specs.List.{All, AllByRecursion, HoldsAt}
+use Rattle.std.proofs.Common.{List, [], ap, arith, drop, get_or, length, subst, sum, sym, take, ℕ, ◌*◌, ◌++◌, ◌+◌, ◌<◌, ◌∙◌, ◌∷◌, ◌≡◌, ◌≤◌}
+use Rattle.std.proofs.lemmas.List.{length-append}
+use Rattle.bk_tiling.proofs.Group.{filled_group}
+use Rattle.bk_tiling.proofs.Rows.{total}
+use Rattle.bk_tiling.specs.Column.{depth}
+use Rattle.bk_tiling.specs.Kept.{IsSide}
+use Rattle.bk_tiling.specs.SquareGroups.{laid_group}
+use Rattle.bk_tiling.specs.declared.Segment.{Segment}
+use Rattle.bk_tiling.specs.declared.Square.{Square}
+use Rattle.bk_tiling.specs.declared.TheConstants.{LONGEST_SIDE, MOST_SQUARES}
+use Rattle.bk_profile.proofs.CodeLaying.{sum_is_total}
+use Rattle.bk_profile.proofs.Hanging.{length_group, outline_laid}
+use Rattle.bk_profile.proofs.RunStarts.{gap_from_runs, greatest_depth, least_depth, no_run}
+use Rattle.bk_profile.specs.Gap.{Fits, IsGap, with_group}
+use Rattle.bk_profile.specs.Laid.{IsGreatestDepth, IsLeastDepth, Laid}
+use Rattle.bk_profile.specs.Outline.{IsLowest, runs_under, start}
+use Rattle.bk_profile.specs.Stored.{IsStored}
+use Rattle.bk_profile.specs.declared.runs.Run.{Run}
+
+-- the columns of a gap, by the sum of the sides that fill it
+pub there : (w : ℕ) (laid : List Square) (gap : Segment) (sides : List ℕ) → IsGap w laid gap → Fits gap sides → (c : ℕ) → gap.x ≤ c → c < gap.x + total sides → depth laid c ≡ gap.level
+there w laid gap sides is fits c l h = (is.flat).level c l (omega (arith, h, fits, sum_is_total sides))
+
+-- what is computed of an outline that is read some times: the places of the gap's runs, and the gap
+pub record Reads (runs once twice : List Run) (places : ℕ × ℕ) (gap : Segment) : Type 0 where
+  pub once_is : once ≡ runs
+  pub twice_is : twice ≡ runs
+  pub lowest : IsLowest once (length once) places.0 places.1
+  pub x : gap.x ≡ start twice places.0
+  pub end : gap.x + gap.width ≡ start twice places.1
+  pub level : (d : Run) → gap.level ≡ (get_or twice places.0 d).level
+
+module _ (p : Laid) (runs once twice : List Run) (places : ℕ × ℕ) (gap : Segment) (stored : IsStored p runs) (reads : Reads runs once twice places gap) where
+  pub lowest_runs : IsLowest runs (length runs) places.0 places.1
+  lowest_runs = subst (λ (l : List Run). IsLowest l (length l) places.0 places.1) reads.once_is reads.lowest
+
+  x_is : gap.x ≡ start runs places.0
+  x_is = reads.x ∙ ap (λ (l : List Run). start l places.0) reads.twice_is
+
+  end_is : gap.x + gap.width ≡ start runs places.1
+  end_is = reads.end ∙ ap (λ (l : List Run). start l places.1) reads.twice_is
+
+  level_is : (d : Run) → gap.level ≡ (get_or runs places.0 d).level
+  level_is d = reads.level d ∙ ap (λ (l : List Run). (get_or l places.0 d).level) reads.twice_is
+
+  pub gap_read : IsGap p.width p.squares gap
+  gap_read = gap_from_runs p.width p.squares runs places.0 places.1 gap stored.outline lowest_runs x_is end_is level_is
+
+  -- the gap's level and right end are small numbers
+  pub level_small : gap.level ≤ MOST_SQUARES * LONGEST_SIDE
+  level_small = omega (
+    arith,
+    level_is no_run,
+    (stored.outline).low places.0 no_run (omega (arith, lowest_runs.some, lowest_runs.within)),
+    (stored.profile).few,
+  )
+
+  pub end_small : gap.x + gap.width ≤ 200000000000000000
+  end_small = let a = (gap_read.flat).within in let b = (stored.profile).narrow in omega arith
+
+  pub stored_laid : (sides : List ℕ) → Fits gap sides → AllByRecursion IsSide sides → 0 < length sides → length p.squares + length sides ≤ MOST_SQUARES
+      → IsStored (record { width = p.width; squares = with_group p.squares gap sides }) ((take places.0 runs ++ runs_under gap.level sides) ++ drop places.1 runs)
+  stored_laid sides fits good some room = record {
+    profile = record {
+      some = (stored.profile).some;
+      narrow = (stored.profile).narrow;
+      few = omega (arith, length-append p.squares (laid_group gap.x gap.level sides), length_group gap.x gap.level sides, room);
+      filled = filled_group p.squares gap.x gap.level sides (there p.width p.squares gap sides gap_read fits) p.width (stored.profile).filled;
+    };
+    outline = outline_laid p.width p.squares runs places.0 places.1 gap sides stored.outline lowest_runs x_is end_is level_is gap_read fits good some;
+  }
+
+-- the depths that are read off
+pub least_read : (p : Laid) (runs once twice : List Run) (places : ℕ × ℕ) → IsStored p runs → once ≡ runs → twice ≡ runs → IsLowest once (length once) places.0 places.1 → IsLeastDepth p (get_or twice places.0 no_run).level
+least_read p runs once twice places stored e f lowest =
+    subst (λ (l : List Run). IsLeastDepth p (get_or l places.0 no_run).level) (sym f)
+    (least_depth p.width p.squares runs places.0 places.1 stored.outline (subst (λ (l : List Run). IsLowest l (length l) places.0 places.1) e lowest))
+
+pub greatest_read : (p : Laid) (runs once : List Run) (greatest : ℕ) → IsStored p runs → once ≡ runs → All (λ (r : Run). r.level ≤ greatest) once → (k : ℕ) × (k < length once) × HoldsAt (λ (r : Run). r.level ≡ greatest) once k → IsGreatestDepth p greatest
+greatest_read p runs once greatest stored e most some =
+    let at : (k : ℕ) × (k < length runs) × HoldsAt (λ (r : Run). r.level ≡ greatest) runs k = subst (λ (l : List Run). (k : ℕ) × (k < length l) × HoldsAt (λ (r : Run). r.level ≡ greatest) l k) e some in
+    greatest_depth p.width p.squares runs at.0 greatest stored.outline (subst (λ (l : List Run). All (λ (r : Run). r.level ≤ greatest) l) e most) at.1 at.2
+
+-- one more square of a group
+pub group_push : (x y : ℕ) (sides : List ℕ) (s : ℕ) → laid_group x y (sides ++ s ∷ []) ≡ laid_group x y sides ++ (record { x = x + sum sides; y = y; s = s }) ∷ []
+group_push x y sides s = go x sides ∙ ap (λ n. laid_group x y sides ++ (record { x = x + n; y = y; s = s }) ∷ []) (sym (sum_is_total sides))
+  where
+    go : (x : ℕ) (sides : List ℕ) → laid_group x y (sides ++ s ∷ []) ≡ laid_group x y sides ++ (record { x = x + total sides; y = y; s = s }) ∷ []
+    go x [] = ap (λ n. (record { x = n; y = y; s = s }) ∷ []) (omega arith)
+    go x (t ∷ sides) = ap (λ (l : List Square). (record { x = x; y = y; s = t }) ∷ l) (go (x + t) sides ∙ ap (λ n. laid_group (x + t) y sides ++ (record { x = n; y = y; s = s }) ∷ []) (omega arith))

@@ -1,0 +1,132 @@
+-- Laying a code group by group: what each turn needs and keeps, and how it ends.
+use Rattle.std.specs.List.{AllByRecursion}
+use Rattle.std.specs.Prelude.{IfErr, IfOk, IsOkAnd, Result}
+use Rattle.std.specs.declared.result.Result.TheVariants.{Err, Ok}
+use Rattle.std.proofs.Common.{List, [], ap, arith, drop, get_or, length, refl, subst, suc, sum, sym, take, zero, ℕ, ◌++◌, ◌+◌, ◌<◌, ◌∙◌, ◌∷◌, ◌≡◌, ◌≤◌}
+use Rattle.std.proofs.lemmas.List.{append_assoc, drop_more, length-append, length-take-le, take-append-drop, take_all, take_more}
+use Rattle.bk_tiling.proofs.NextCorner.{same_tiling}
+use Rattle.bk_tiling.specs.Tiling.{Tiling}
+use Rattle.bk_tiling.specs.declared.TheConstants.{MOST_SQUARES}
+use Rattle.bk_code.proofs.GroupSteps.{side_groups}
+use Rattle.bk_code.specs.Code.{Code, flat}
+use Rattle.bk_code.specs.Kept.{IsKeptCode, IsSideGroup}
+use Rattle.bk_profile.proofs.CodeLaid.{laid_out, lays_code, no_misfit, not_open, width_is}
+use Rattle.bk_profile.proofs.LayingOnce.{lays_length, lays_push, lays_unique}
+use Rattle.bk_profile.specs.Gap.{IsGap, LaysTo, with_group}
+use Rattle.bk_profile.specs.Laid.{IsLaidOut, IsLaidTiling, IsUneven, Laid, LaysGroup, MisfitsGap}
+use Rattle.bk_profile.specs.Refused.{HasCode, IsOpen, IsRefused, Misfits, first_sum}
+use Rattle.bk_profile.specs.declared.laying.Refusal.{Refusal}
+use Rattle.bk_profile.specs.declared.laying.Refusal.TheVariants.{Gap, Open}
+
+flat_append : (code more : Code) → flat (code ++ more) ≡ flat code ++ flat more
+flat_append [] more = refl
+flat_append (group ∷ code) more = ap (λ (l : List ℕ). group ++ l) (flat_append code more) ∙ sym (append_assoc group (flat code) (flat more))
+
+-- the groups up to one, that one, and those after it
+split_at : (code : Code) (k : ℕ) → k < length code → code ≡ take k code ++ get_or code k [] ∷ drop (k + 1) code
+split_at code k l = sym (take-append-drop k code) ∙ ap (λ (c : Code). take k code ++ c) (drop_more code k [] l)
+
+group_good : (code : Code) (k : ℕ) → AllByRecursion IsSideGroup code → k < length code → IsSideGroup (get_or code k [])
+group_good [] k good l = absurd (omega arith)
+group_good (group ∷ code) zero good l = good.0
+group_good (group ∷ code) (suc k) good l = group_good code k good.1 (omega arith)
+
+-- a group that is read
+pub read_good : (code : Code) (k : ℕ) (group : List ℕ) → IsKeptCode code → k < length code → group ≡ get_or code k [] → IsSideGroup group
+read_good code k group kept l is = subst IsSideGroup (sym is) (group_good code k kept.groups l)
+
+pub read_room : (code : Code) (k : ℕ) (group : List ℕ) (n : ℕ) → IsKeptCode code → k < length code → group ≡ get_or code k [] → n ≡ length (flat (take k code)) → n + length group ≤ MOST_SQUARES
+read_room code k group n kept l is count =
+    omega (
+      arith,
+      kept.few,
+      count,
+      ap length is,
+      ap (λ (c : Code). length (flat c)) (split_at code k l),
+      ap length (flat_append (take k code) (get_or code k [] ∷ drop (k + 1) code)),
+      length-append (flat (take k code)) (get_or code k [] ++ flat (drop (k + 1) code)),
+      length-append (get_or code k []) (flat (drop (k + 1) code)),
+    )
+
+pub read_few : (code : Code) (k : ℕ) (group : List ℕ) → IsKeptCode code → k < length code → group ≡ get_or code k [] → length group ≤ MOST_SQUARES
+read_few code k group kept l is = omega (arith, read_room code k group (length (flat (take k code))) kept l is refl)
+
+pub first_read : (code : Code) (group : List ℕ) (n : ℕ) → 0 < length code → group ≡ get_or code 0 [] → n ≡ sum group → n ≡ first_sum code
+first_read [] group n some is e = absurd (omega arith)
+first_read (first ∷ code) group n some is e = e ∙ ap (λ (l : List ℕ). sum l) is
+
+-- the first k groups are laid
+pub record Turn (code : Code) (k : ℕ) (p : Laid) : Type 0 where
+  pub width : p.width ≡ first_sum code
+  pub lays : LaysTo (first_sum code) [] (take k code) p.squares
+  pub count : length p.squares ≡ length (flat (take k code))
+
+pub first_turn : (code : Code) (group : List ℕ) (n : ℕ) (p : Laid) → 0 < length code → group ≡ get_or code 0 [] → n ≡ sum group → p ≡ record { width = n; squares = [] } → Turn code 0 p
+first_turn code group n p some is e new = subst (λ (q : Laid). Turn code 0 q) (sym new) (record { width = first_read code group n some is e; lays = refl; count = refl })
+
+pub next_turn : (code : Code) (k : ℕ) (group : List ℕ) (old new : Laid) → Turn code k old → k < length code → group ≡ get_or code k [] → LaysGroup old group new → Turn code (k + 1) new
+next_turn code k group old new turn l is lay =
+    let more : take (k + 1) code ≡ take k code ++ group ∷ [] = take_more code k [] l ∙ ap (λ (g : List ℕ). take k code ++ g ∷ []) (sym is) in
+    let gap : IsGap (first_sum code) old.squares lay.gap = subst (λ n. IsGap n old.squares lay.gap) turn.width lay.is_gap in
+    let lays : LaysTo (first_sum code) [] (take k code ++ group ∷ []) (with_group old.squares lay.gap group) = lays_push (first_sum code) [] (take k code) old.squares group lay.gap turn.lays gap lay.fits in
+    subst (λ (q : Laid). Turn code (k + 1) q) (sym lay.laid)
+    (record {
+      width = turn.width;
+      lays = subst (λ (c : Code). LaysTo (first_sum code) [] c (with_group old.squares lay.gap group)) (sym more) lays;
+      count = omega (arith, lays_length (first_sum code) [] (take k code ++ group ∷ []) (with_group old.squares lay.gap group) lays, ap (λ (c : Code). length (flat c)) more);
+    })
+
+pub misfit_turn : (code : Code) (k : ℕ) (group : List ℕ) (old : Laid) (gap_width total : ℕ) → Turn code k old → k < length code → group ≡ get_or code k [] → MisfitsGap old group gap_width total → Misfits (first_sum code) code (k + 1) gap_width total
+misfit_turn code k group old gap_width total turn l is m = record {
+  before = take k code;
+  group = group;
+  after = drop (k + 1) code;
+  split = split_at code k l ∙ ap (λ (g : List ℕ). take k code ++ g ∷ drop (k + 1) code) (sym is);
+  place = omega (arith, length-take-le k code (omega (arith, l)));
+  laid = old.squares;
+  lays = turn.lays;
+  gap = m.gap;
+  is_gap = subst (λ n. IsGap n old.squares m.gap) turn.width m.is_gap;
+  gap_is = m.width;
+  total_is = m.total_is;
+  misfit = m.misfit;
+}
+
+-- no tiling has a code that is refused
+pub refused_has_none : (code : Code) (refusal : Refusal) → 0 < length code → IsRefused (first_sum code) code refusal → (t : Tiling) → HasCode code t → ⊥
+refused_has_none code (Gap number gap_width total) some refused t has = no_misfit (first_sum code) code t.squares number gap_width total (lays_code code t has some) refused
+refused_has_none code (Open least greatest) some refused t has = not_open (first_sum code) code t least greatest has.tiling (sym (width_is code t has some)) (lays_code code t has some) refused
+
+-- after the last turn
+module _ (code : Code) (k : ℕ) (p : Laid) (kept : IsKeptCode code) (some : 0 < length code) (turn : Turn code k p) (all : length code ≤ k) where
+  pub lays : LaysTo (first_sum code) [] code p.squares
+  lays = subst (λ (c : Code). LaysTo (first_sum code) [] c p.squares) (take_all k code all) turn.lays
+
+  abbrev pub last_turn : IsLaidOut p
+  last_turn = record { code = code; kept = kept; some = some; lays = subst (λ n. LaysTo n [] code p.squares) (sym turn.width) lays }
+
+  groups : side_groups p.squares ≡ code
+  groups = (laid_out p last_turn).groups
+
+  has_code : (t : Tiling) → IsLaidTiling p t → HasCode code t
+  has_code t is = record { tiling = is.tiling; code_is = ap side_groups is.squares_are ∙ groups }
+
+  open_refused : (refusal : Refusal) → IsOpen p refusal → IsRefused (first_sum code) code refusal
+  open_refused (Gap number gap_width total) h = absurd h
+  open_refused (Open least greatest) h = record { laid = p.squares; lays = lays; uneven = subst (λ (n : ℕ). IsUneven (record { width = n; squares = p.squares }) least greatest) turn.width h }
+
+  the_one : (t u : Tiling) → IsLaidTiling p t → HasCode code u → t ≡ u
+  the_one t u is has = same_tiling t u is.tiling has.tiling (is.width_is ∙ turn.width ∙ width_is code u has some)
+      (is.squares_are ∙ lays_unique (first_sum code) [] code p.squares u.squares lays (lays_code code u has some))
+
+  pub ends_ok : (r : Result Tiling Refusal) → IfOk r (IsLaidTiling p) → IfOk r (HasCode code)
+  ends_ok (Ok t) is = has_code t is
+  ends_ok (Err e) is = tt
+
+  pub ends_refused : (r : Result Tiling Refusal) → IfErr r (IsOpen p) → IfErr r (IsRefused (first_sum code) code)
+  ends_refused (Ok t) h = tt
+  ends_refused (Err e) h = open_refused e h
+
+  pub ends_only : (r : Result Tiling Refusal) → IfOk r (IsLaidTiling p) → IfErr r (IsOpen p) → (t : Tiling) → HasCode code t → IsOkAnd r (λ u. u ≡ t)
+  ends_only (Ok u) is h t has = the_one u t is has
+  ends_only (Err e) is h t has = absurd (refused_has_none code e some (open_refused e h) t has)

@@ -1,0 +1,38 @@
+use Rattle.std.proofs.Common.{arith, ◌+◌, ◌≡◌}
+use Rattle.bk_profile.proofs.CodeLaid.{width_bounds}
+use Rattle.bk_profile.proofs.Turns.{ends_ok, ends_only, first_read, misfit_turn, next_turn, read_room, refused_has_none}
+use Rattle.bk_profile.specs.Refused.{Misfits, first_sum}
+use Rattle.bk_profile.specs.declared.laying.Refusal.TheVariants.{Gap}
+use Rattle.bk_profile.proofs.laying.lay_code.Goals as goal
+
+pub new-profile-requires-clause-some : goal.new-profile-requires-clause-some
+new-profile-requires-clause-some c =
+    let width : c.sum_of.result ≡ first_sum c.args.code.now = first_read c.args.code.now c.group.result.now c.sum_of.result c.requires c.group.ensures c.sum_of.ensures in
+    omega (arith, (width_bounds c.args.code.now c.groups-count.ensures.kept c.requires).0)
+
+pub new-profile-requires-clause-narrow : goal.new-profile-requires-clause-narrow
+new-profile-requires-clause-narrow c =
+    let width : c.sum_of.result ≡ first_sum c.args.code.now = first_read c.args.code.now c.group.result.now c.sum_of.result c.requires c.group.ensures c.sum_of.ensures in
+    omega (arith, (width_bounds c.args.code.now c.groups-count.ensures.kept c.requires).1)
+
+pub lay-requires-clause-room : goal.lay-requires-clause-room
+lay-requires-clause-room c = read_room c.args.code.now c.loop-g.g c.group-in-loop-g.result.now _ c.groups-count.ensures.kept (omega (arith, c.loop-g-test.true, c.groups-count.ensures.value)) c.group-in-loop-g.ensures c.loop-g.invariant.count
+
+pub returns-in-Err-clause-refused : goal.returns-in-Err-clause-refused
+returns-in-Err-clause-refused c =
+    misfit_turn c.args.code.now c.loop-g.g c.group-in-loop-g.result.now c.loop-g.profile _ _ c.loop-g.invariant (omega (arith, c.loop-g-test.true, c.groups-count.ensures.value)) c.group-in-loop-g.ensures c.in-Err.ensures.err
+
+pub returns-in-Err-clause-only : goal.returns-in-Err-clause-only
+returns-in-Err-clause-only c t has =
+    let misfit : Misfits (first_sum c.args.code.now) c.args.code.now (c.loop-g.g + 1) c.in-Err.fault.gap c.in-Err.fault.sum =
+    misfit_turn c.args.code.now c.loop-g.g c.group-in-loop-g.result.now c.loop-g.profile _ _ c.loop-g.invariant (omega (arith, c.loop-g-test.true, c.groups-count.ensures.value)) c.group-in-loop-g.ensures c.in-Err.ensures.err in
+    refused_has_none c.args.code.now (Gap (c.loop-g.g + 1) c.in-Err.fault.gap c.in-Err.fault.sum) c.requires misfit t has
+
+pub loop-g-preserved : goal.loop-g-preserved
+loop-g-preserved c = next_turn c.args.code.now c.loop-g.g c.group-in-loop-g.result.now c.loop-g.profile c.lay.new.self c.loop-g.invariant (omega (arith, c.loop-g-test.true, c.groups-count.ensures.value)) c.group-in-loop-g.ensures c.in_default.ensures.ok
+
+pub returns-clause-ok : goal.returns-clause-ok
+returns-clause-ok c = ends_ok c.args.code.now c.loop-g.g c.loop-g.profile c.groups-count.ensures.kept c.requires c.loop-g.invariant (omega (arith, c.loop-g-test.false, c.groups-count.ensures.value)) c.closed.result c.closed.ensures.even
+
+pub returns-clause-only : goal.returns-clause-only
+returns-clause-only c t has = ends_only c.args.code.now c.loop-g.g c.loop-g.profile c.groups-count.ensures.kept c.requires c.loop-g.invariant (omega (arith, c.loop-g-test.false, c.groups-count.ensures.value)) c.closed.result c.closed.ensures.even c.closed.ensures.uneven t has

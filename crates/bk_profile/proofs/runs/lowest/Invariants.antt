@@ -1,0 +1,5 @@
+use Rattle.bk_profile.specs.Outline.{IsLowest}
+use Rattle.bk_profile.proofs.runs.lowest.Given as goal
+
+abbrev pub invariant-loop-i : goal.invariant-loop-i
+invariant-loop-i l = IsLowest l.outline l.i l.first l.end

@@ -1,0 +1,20 @@
+-- Laying gives a tiling back, and ends in one way. Statements alone; they are proved apart.
+use Rattle.std.specs.Prelude.{List, [], ℕ, ◌≡◌}
+use Rattle.bk_tiling.specs.Tiling.{IsTiling, Tiling}
+use Rattle.bk_code.specs.Code.{Code, code_of}
+use Rattle.bk_profile.specs.Gap.{LaysTo}
+use Rattle.bk_profile.specs.Refused.{IsFlatRefused, IsRefused}
+use Rattle.bk_profile.specs.declared.laying.Refusal.{Refusal}
+
+-- the groups of a tiling's code fit, one after another, and the squares are then laid as they stand in it
+abbrev pub ACodeIsLaid : Type 0
+ACodeIsLaid = (t : Tiling) → IsTiling t → LaysTo t.width [] (code_of t) t.squares
+
+-- a code has one refusal at most
+abbrev pub ACodeIsRefusedInOneWay : Type 0
+ACodeIsRefusedInOneWay = (width : ℕ) (code : Code) (r s : Refusal) → IsRefused width code r → IsRefused width code s → r ≡ s
+
+-- and so has a flat list
+abbrev pub AFlatListIsRefusedInOneWay : Type 0
+AFlatListIsRefusedInOneWay =
+    (width : ℕ) (sides : List ℕ) (r s : Refusal) → IsFlatRefused width sides r → IsFlatRefused width sides s → r ≡ s

@@ -1,0 +1,56 @@
+//! Laying codes: the one tiling that has a code, or why there is none.
+
+ghost use Rattle.std.specs.Prelude.{IfErr, IfOk, IsOkAnd, length, ◌<◌, ◌≡◌};
+ghost use Rattle.bk_tiling.specs.Tiling.{Tiling as Tiled};
+ghost use Rattle.bk_profile.specs.Laid.{IsLaidOut, IsLaidTiling};
+ghost use Rattle.bk_profile.specs.Refused.{HasCode, IsOpen, IsRefused, first_sum};
+
+use crate::profile::{Profile, sum_of};
+use bk_code::Code;
+use bk_tiling::Tiling;
+
+/// Why laying gives no tiling.
+#[derive(Clone, Copy, Debug, PartialEq, Eq)]
+pub enum Refusal {
+    /// The sum of this group, counted from 1, isn't the width of the gap at its turn; all groups before it fit.
+    Gap { group: usize, gap: u64, sum: u64 },
+    /// All groups fit, and the least depth is below the greatest in the end.
+    Open { least: u64, greatest: u64 },
+}
+
+/// Lays the groups of a code in order, under the sum of the first one as the width: the one tiling that has the code
+/// (Bouwkamp 1946-47). It is refused exactly where no tiling has it, with the first group that doesn't fit, or with the
+/// depths where all fit and the outline ends uneven.
+pub fn lay_code(code: &Code) -> Result<Tiling, Refusal>
+    requires { 0 < length code.now }
+    ensures ok { IfOk result (HasCode code.now) }
+    ensures only { (t : Tiled) → HasCode code.now t → IsOkAnd result (λ u. u ≡ t) }
+    ensures refused { IfErr result (IsRefused (first_sum code.now) code.now) }
+{
+    let count = code.groups();
+    let mut profile = Profile::new(sum_of(code.group(0)));
+    for g in 0..count {
+        if let Err(fault) = profile.lay(code.group(g)) {
+            return Err(Refusal::Gap {
+                group: g + 1,
+                gap: fault.gap,
+                sum: fault.sum,
+            });
+        }
+    }
+    closed(profile)
+}
+
+// The tiling that is laid, or the depths of an uneven outline.
+pub(crate) fn closed(profile: Profile) -> Result<Tiling, Refusal>
+    requires { IsLaidOut profile }
+    ensures even { IfOk result (IsLaidTiling profile) }
+    ensures uneven { IfErr result (IsOpen profile) }
+{
+    let least = profile.least();
+    let greatest = profile.greatest();
+    if least < greatest {
+        return Err(Refusal::Open { least, greatest });
+    }
+    Ok(Tiling::from_known(profile.width(), greatest, profile.into_laid()))
+}

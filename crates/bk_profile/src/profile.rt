@@ -1,0 +1,165 @@
+//! Squares laid gap by gap, from the top of a rectangle downwards.
+
+ghost use Rattle.std.specs.List.{AllByRecursion};
+ghost use Rattle.std.specs.Prelude.{[], IfErr, OnErr, OnOk, length, sum, ◌*◌, ◌+◌, ◌++◌, ◌<◌, ◌^◌, ◌≡◌, ◌≤◌};
+ghost use Rattle.bk_tiling.specs.Kept.{IsSide};
+ghost use Rattle.bk_tiling.specs.SquareGroups.{laid_group};
+ghost use Rattle.bk_profile.specs.Gap.{IsGap};
+ghost use Rattle.bk_profile.specs.Laid.{IsGreatestDepth, IsLeastDepth, IsProfile, LaysGroup, MisfitsGap};
+
+use crate::runs::{MOST_RUNS, Run, hang, highest, lowest, segment};
+use arrayvec::ArrayVec;
+use bk_tiling::{LONGEST_SIDE, MOST_SQUARES, Segment, Square};
+use std::marker::Model;
+
+/// The sum of a group isn't the width of the gap that it was to go into.
+#[derive(Clone, Copy, Debug, PartialEq, Eq)]
+pub struct GapFault {
+    /// The width of the gap.
+    pub gap: u64,
+    /// The sum of the group.
+    pub sum: u64,
+}
+
+/// Squares laid under each other in a width, each group into the gap of its turn (Bouwkamp's rule of reading a code,
+/// 1946-47). The gap is the leftmost maximal run of columns of least depth.
+#[derive(Drop)]
+pub struct Profile {
+    width: u64,
+    laid: ArrayVec<Square, MOST_SQUARES>,
+    outline: ArrayVec<Run, MOST_RUNS>,
+}
+
+impl Model for Profile {
+    ghost use Rattle.bk_profile.specs.Laid.{Laid};
+    ghost use Rattle.bk_profile.specs.Stored.{IsStored};
+
+    ghost Value = { Laid };
+
+    ghost view = { λ p. record { width = p.width; squares = p.laid.items } };
+
+    ghost invariant = { λ p. IsStored (record { width = p.width; squares = p.laid.items }) p.outline.items };
+}
+
+impl Profile {
+    /// The profile of this width, 1 to 200,000,000,000,000,000, with no square laid.
+    pub fn new(width: u64) -> Profile
+        requires some { 0 < width }
+        requires narrow { width ≤ 200000000000000000 }
+        ensures { result ≡ record { width = width; squares = [] } }
+    {
+        let mut outline = ArrayVec::new();
+        outline.push(Run { width, level: 0 });
+        Profile {
+            width,
+            laid: ArrayVec::new(),
+            outline,
+        }
+    }
+
+    /// The gap: the leftmost maximal run of columns of least depth (Bouwkamp 1946-47).
+    pub fn gap(&self) -> Segment
+        ensures gap { IsGap self.now.width self.now.squares result }
+        ensures kept { IsProfile self.now }
+    {
+        let (first, end) = lowest(&self.outline);
+        segment(&self.outline, first, end)
+    }
+
+    /// Lays a group from left to right under the gap, with the gap's level as the top level of its squares. It fits
+    /// exactly where the sum of its sides is the gap's width; else nothing is laid.
+    pub fn lay(&mut self, sides: &[u64]) -> Result<(), GapFault>
+        requires some { 0 < length sides.now }
+        requires sides { AllByRecursion IsSide sides.now }
+        requires room { length self.old.squares + length sides.now ≤ MOST_SQUARES }
+        ensures ok { OnOk result (LaysGroup self.old sides.now self.new) }
+        ensures err { IfErr result (λ fault. MisfitsGap self.old sides.now fault.gap fault.sum) }
+        ensures same { OnErr result (self.new ≡ self.old) }
+    {
+        let (first, end) = lowest(&self.outline);
+        let gap = segment(&self.outline, first, end);
+        let sum = sum_of(sides);
+        if sum != gap.width {
+            return Err(GapFault {
+                gap: gap.width,
+                sum,
+            });
+        }
+        hang(&mut self.outline, first, end, gap.level, sides);
+        push_group(&mut self.laid, gap, sides);
+        Ok(())
+    }
+
+    /// The squares laid, in the order of laying.
+    pub fn laid(&self) -> &[Square]
+        ensures value { result.now ≡ self.now.squares }
+        ensures kept { IsProfile self.now }
+    {
+        self.laid.as_slice()
+    }
+
+    // The squares laid, where the profile isn't needed any more.
+    pub(crate) fn into_laid(self) -> ArrayVec<Square, MOST_SQUARES>
+        ensures { result.items ≡ self.squares }
+    {
+        let Profile {
+            width: _,
+            laid,
+            outline: _,
+        } = self;
+        laid
+    }
+
+    // The width.
+    pub(crate) fn width(&self) -> u64
+        ensures value { result ≡ self.now.width }
+        ensures kept { IsProfile self.now }
+    {
+        self.width
+    }
+
+    /// The least depth of a column.
+    pub fn least(&self) -> u64
+        ensures { IsLeastDepth self.now result }
+    {
+        let (first, _) = lowest(&self.outline);
+        self.outline[first].level
+    }
+
+    /// The greatest depth of a column.
+    pub fn greatest(&self) -> u64
+        ensures { IsGreatestDepth self.now result }
+    {
+        highest(&self.outline)
+    }
+}
+
+// The sum of sides.
+pub(crate) fn sum_of(sides: &[u64]) -> u64
+    requires few { length sides.now ≤ MOST_SQUARES }
+    requires sides { AllByRecursion IsSide sides.now }
+    ensures { result ≡ sum sides.now }
+{
+    let mut total = 0;
+    for side in sides {
+        total += *side;
+    }
+    total
+}
+
+// Appends the squares of a group under a gap.
+fn push_group(laid: &mut ArrayVec<Square, MOST_SQUARES>, gap: Segment, sides: &[u64])
+    requires room { length laid.old.items + length sides.now ≤ MOST_SQUARES }
+    requires fits { gap.x + sum sides.now < 2 ^ 63 }
+    ensures { laid.new.items ≡ laid.old.items ++ laid_group gap.x gap.level sides.now }
+{
+    let mut x = gap.x;
+    for side in sides {
+        laid.push(Square {
+            x,
+            y: gap.level,
+            s: *side,
+        });
+        x += *side;
+    }
+}

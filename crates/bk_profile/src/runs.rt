@@ -1,0 +1,138 @@
+//! The outline of laid squares as level runs of columns, side by side.
+
+ghost use Rattle.std.specs.List.{All, AllByRecursion, HoldsAt};
+ghost use Rattle.std.specs.Prelude.{drop, length, slice_index_or, sum, take, ℕ, ◌+◌, ◌++◌, ◌<◌, ◌^◌, ◌≡◌, ◌≤◌};
+ghost use Rattle.bk_tiling.specs.Kept.{IsSide};
+ghost use Rattle.bk_profile.specs.Outline.{IsLowest, IsMoved, runs_under, start, width_of};
+
+use arrayvec::ArrayVec;
+use bk_tiling::{MOST_SQUARES, Segment};
+
+/// An outline has at most so many runs.
+pub(crate) const MOST_RUNS: usize = MOST_SQUARES + 1;
+
+/// A level run of columns: how many they are, and their depth. It begins where the run before it ends.
+#[derive(Clone, Copy, Debug, Default, PartialEq, Eq)]
+pub(crate) struct Run {
+    pub(crate) width: u64,
+    pub(crate) level: u64,
+}
+
+// The places of the leftmost runs of least level that touch: the first of them, and the one after the last.
+pub(crate) fn lowest(outline: &[Run]) -> (usize, usize)
+    requires { 0 < length outline.now }
+    ensures { IsLowest outline.now (length outline.now) result.0 result.1 }
+{
+    let mut first = 0;
+    let mut end = 1;
+    for i in 1..outline.len() {
+        let level = outline[i].level;
+        let least = outline[first].level;
+        if level < least {
+            first = i;
+            end = i + 1;
+        } else if level == least && end == i {
+            end = i + 1;
+        }
+    }
+    (first, end)
+}
+
+// The segment of the runs from one place up to another.
+pub(crate) fn segment(outline: &[Run], first: usize, end: usize) -> Segment
+    requires order { first < end }
+    requires within { end ≤ length outline.now }
+    requires narrow { width_of outline.now < 2 ^ 63 }
+    ensures x { result.x ≡ start outline.now first }
+    ensures end { result.x + result.width ≡ start outline.now end }
+    ensures level { (d : Run) → result.level ≡ (slice_index_or outline.now first d).level }
+{
+    let x = columns(&outline[..first]);
+    Segment {
+        x,
+        width: columns(&outline[..end]) - x,
+        level: outline[first].level,
+    }
+}
+
+// How many columns the runs have.
+fn columns(outline: &[Run]) -> u64
+    requires { width_of outline.now < 2 ^ 63 }
+    ensures { result ≡ width_of outline.now }
+{
+    let mut total = 0;
+    for run in outline {
+        total += run.width;
+    }
+    total
+}
+
+// The greatest level.
+pub(crate) fn highest(outline: &[Run]) -> u64
+    requires { 0 < length outline.now }
+    ensures most { All (λ r. r.level ≤ result) outline.now }
+    ensures some { (k : ℕ) × (k < length outline.now) × HoldsAt (λ r. r.level ≡ result) outline.now k }
+{
+    let mut most = outline[0].level;
+    for run in outline {
+        if run.level > most {
+            most = run.level;
+        }
+    }
+    most
+}
+
+// Puts the runs under a group, whose tops are at a level, in the place of the runs from one place up to another.
+pub(crate) fn hang(
+    outline: &mut ArrayVec<Run, MOST_RUNS>,
+    first: usize,
+    end: usize,
+    level: u64,
+    sides: &[u64],
+)
+    requires order { first < end }
+    requires within { end ≤ length outline.old.items }
+    requires room { length outline.old.items + length sides.now ≤ MOST_RUNS }
+    requires high { level < 2 ^ 63 }
+    requires sides { AllByRecursion IsSide sides.now }
+    ensures { outline.new.items ≡ (take first outline.old.items ++ runs_under level sides.now) ++ drop end outline.old.items }
+{
+    take_out(outline, first, end);
+    push_under(outline, level, sides);
+    move_last(outline, first, sides.len());
+}
+
+// Takes out the runs from one place up to another.
+fn take_out(outline: &mut ArrayVec<Run, MOST_RUNS>, first: usize, end: usize)
+    requires order { first < end }
+    requires within { end ≤ length outline.old.items }
+    ensures { outline.new.items ≡ take first outline.old.items ++ drop end outline.old.items }
+{
+    let count = end - first;
+    let left = outline.len() - count;
+    outline[first..].rotate_left(count);
+    outline.truncate(left);
+}
+
+// Moves the last runs, so many, to a place before others.
+fn move_last(outline: &mut ArrayVec<Run, MOST_RUNS>, first: usize, count: usize)
+    requires { first + count ≤ length outline.old.items }
+    ensures { IsMoved outline.old.items outline.new.items first count }
+{
+    outline[first..].rotate_right(count);
+}
+
+// Appends the runs under a group.
+fn push_under(outline: &mut ArrayVec<Run, MOST_RUNS>, level: u64, sides: &[u64])
+    requires room { length outline.old.items + length sides.now ≤ MOST_RUNS }
+    requires high { level < 2 ^ 63 }
+    requires sides { AllByRecursion IsSide sides.now }
+    ensures { outline.new.items ≡ outline.old.items ++ runs_under level sides.now }
+{
+    for side in sides {
+        outline.push(Run {
+            width: *side,
+            level: level + *side,
+        });
+    }
+}
