@@ -1,0 +1,57 @@
+-- What is known of a byte of each kind.
+use Rattle.std.specs.Prelude.{Bool, false, if◌then◌else◌, nat_le, true, ℕ, ◌&&◌, ◌+◌, ◌-◌, ◌<◌, ◌==◌, ◌||◌, ◌≡◌}
+use Rattle.std.proofs.Common.{arith, leb-true, refl}
+use Rattle.std.proofs.lemmas.Bool.{and_parts, eqb-true}
+use Rattle.std.proofs.lemmas.Bool.Decides.{nat_tests}
+use Rattle.bk_grammar.specs.Grammar.{IsBlank}
+use Rattle.bk_text.specs.Reader.{kind_of}
+use Rattle.bk_text.specs.declared.reader.Bracket.{Bracket}
+use Rattle.bk_text.specs.declared.reader.Bracket.TheVariants.{Round, Square}
+use Rattle.bk_text.specs.declared.reader.Kind.{Kind}
+use Rattle.bk_text.specs.declared.reader.Kind.TheVariants.{Blank, Close, Comma, Cross, Digit, Open, Other, Semicolon, Zero}
+
+abbrev pub open_byte : Bracket → ℕ
+open_byte Square = 91
+open_byte Round = 40
+
+abbrev pub close_byte : Bracket → ℕ
+close_byte Square = 93
+close_byte Round = 41
+
+abbrev pub Means : Kind → ℕ → Type 0
+Means Blank b = IsBlank b
+Means Zero b = b ≡ 48
+Means (Digit d) b = (0 < d) × (d < 10) × (b ≡ 48 + d)
+Means Comma b = b ≡ 44
+Means Cross b = b ≡ 120
+Means (Open bracket) b = b ≡ open_byte bracket
+Means (Close bracket) b = b ≡ close_byte bracket
+Means Semicolon b = b ≡ 59
+Means Other b = Unit {0}
+
+either : (test : Bool) (one two : Kind) (b : ℕ) → (test ≡ true → Means one b) → Means two b → Means (if test then one else two) b
+either true one two b yes' no' = yes' refl
+either false one two b yes' no' = no'
+
+digit_means : (b : ℕ) → nat_le 49 b && nat_le b 57 ≡ true → (0 < b - 48) × (b - 48 < 10) × (b ≡ 48 + (b - 48))
+digit_means b h =
+    let parts = and_parts (nat_le 49 b) (nat_le b 57) h in
+    let low = leb-true 49 b parts.0 in
+    let high = leb-true b 57 parts.1 in
+    (omega arith, omega arith, omega arith)
+
+blank_means : (b : ℕ) → (b == 32) || ((b == 9) || (b == 13)) ≡ true → IsBlank b
+blank_means b h = grind (arith, nat_tests, h)
+
+pub means : (b : ℕ) → Means (kind_of b) b
+means b =
+    either (b == 48) Zero _ b (λ h. eqb-true b 48 h) (
+    either (nat_le 49 b && nat_le b 57) (Digit (b - 48)) _ b (λ h. digit_means b h) (
+    either ((b == 32) || ((b == 9) || (b == 13))) Blank _ b (λ h. blank_means b h) (
+    either (b == 44) Comma _ b (λ h. eqb-true b 44 h) (
+    either (b == 120) Cross _ b (λ h. eqb-true b 120 h) (
+    either (b == 91) (Open Square) _ b (λ h. eqb-true b 91 h) (
+    either (b == 40) (Open Round) _ b (λ h. eqb-true b 40 h) (
+    either (b == 93) (Close Square) _ b (λ h. eqb-true b 93 h) (
+    either (b == 41) (Close Round) _ b (λ h. eqb-true b 41 h) (
+    either (b == 59) Semicolon Other b (λ h. eqb-true b 59 h) tt)))))))))

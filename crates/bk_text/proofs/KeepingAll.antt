@@ -1,0 +1,43 @@
+-- The reader of a line with all its sides, however many there are; the reader in the code keeps 200 of them.
+use Rattle.std.specs.Prelude.{Bool, List, None, Option, Some, [], false, option_and_then, true, ℕ, ◌++◌, ◌∷◌}
+use Rattle.bk_text.specs.CodeLine.{Flat, Item, Line, Skip}
+use Rattle.bk_text.specs.Reader.{closes_group, ended_side, ending_at, kind_of, last_side, next_place}
+use Rattle.bk_text.specs.declared.reader.Ending.{Ending}
+use Rattle.bk_text.specs.declared.reader.Ending.TheVariants.{Coded, Empty, Row}
+use Rattle.bk_text.specs.declared.reader.Kind.{Kind}
+use Rattle.bk_text.specs.declared.reader.Place.{Place}
+
+-- the groups that were closed, and the sides of the open group or of the table row
+pub record Lists : Type 0 where
+  pub groups : List (List ℕ)
+  pub sides : List ℕ
+
+abbrev pub no_lists : Lists
+no_lists = record { groups = []; sides = [] }
+
+abbrev pub and_side : Option ℕ → Lists → Lists
+and_side None t = t
+and_side (Some n) t = record { groups = t.groups; sides = t.sides ++ n ∷ [] }
+
+abbrev pub and_group : Bool → Lists → Lists
+and_group false t = t
+and_group true t = record { groups = t.groups ++ t.sides ∷ []; sides = [] }
+
+-- behind a further byte
+abbrev pub lists_after : Place → Kind → Lists → Lists
+lists_after p k t = and_group (closes_group p k) (and_side (ended_side p k) t)
+
+-- what a line stands for
+abbrev pub line_of : Ending → Lists → Line
+line_of Empty t = Skip
+line_of (Coded h) t = Item h.order h.size t.groups
+line_of (Row r) t = Flat r.order r.width r.height t.sides
+
+abbrev pub line_at : Option Ending → Lists → Option Line
+line_at None t = None
+line_at (Some e) t = Some (line_of e t)
+
+-- what is read from a place on
+abbrev pub read : List ℕ → Place → Lists → Option Line
+read [] p t = line_at (ending_at p) (and_side (last_side p) t)
+read (b ∷ bs) p t = option_and_then (λ q. read bs q (lists_after p (kind_of b) t)) (next_place p (kind_of b))

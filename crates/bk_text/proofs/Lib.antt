@@ -1,0 +1,12 @@
+pub mod WrittenLines
+pub mod LineExamples
+pub mod Spelling
+pub mod KeepingAll
+pub mod ByteKinds
+pub mod Rests
+pub mod WhatWasRead
+pub mod LinesRead
+pub mod Stopping
+pub mod Fitting
+pub mod Progress
+pub mod LineRange

@@ -1,0 +1,67 @@
+-- Lines of codes, and where bytes leave their grammar.
+use Rattle.std.specs.Fmt.{digits}
+use Rattle.std.specs.Prelude.{None, Some, [], codes, refl, ◌∷◌, ◌≡◌}
+use Rattle.std.proofs.Common.{lit<}
+use Rattle.bk_text.specs.CodeLine.{Flat, IsLine, IsNoLine, Item, Skip}
+use Rattle.bk_text.specs.CodeText.{code_text}
+use Rattle.bk_text.specs.Reader.{no_header}
+use Rattle.bk_text.specs.declared.reader.Bracket.TheVariants.{Square}
+use Rattle.bk_text.specs.declared.reader.Field.TheVariants.{Height, Side, Third}
+use Rattle.bk_text.specs.declared.reader.Place.TheVariants.{BeforeGroup, BeforeSide, BehindSide, Number, Start}
+use Rattle.bk_text.proofs.KeepingAll.{no_lists}
+use Rattle.bk_text.proofs.Stopping.{stops_at, stops_at_end}
+use Rattle.bk_text.proofs.WhatWasRead.{read_is_line}
+
+skip-comment : IsLine Skip (codes " ; text")
+skip-comment = read_is_line (codes " ; text") Skip refl
+
+line-two : IsLine (Item None None ((18 ∷ 1 ∷ []) ∷ [])) (codes "[18,1]")
+line-two = read_is_line (codes "[18,1]") (Item None None ((18 ∷ 1 ∷ []) ∷ [])) refl
+
+line-size : IsLine (Item None (Some (33, 32)) ((1 ∷ []) ∷ [])) (codes "33x32[1]")
+line-size = read_is_line (codes "33x32[1]") (Item None (Some (33, 32)) ((1 ∷ []) ∷ [])) refl
+
+-- groups of both kinds, with commas and blanks
+line-comma : IsLine (Item None None ((1 ∷ []) ∷ (1 ∷ 2 ∷ []) ∷ [])) (codes "[1] , ( 1 ,2)")
+line-comma = read_is_line (codes "[1] , ( 1 ,2)") (Item None None ((1 ∷ []) ∷ (1 ∷ 2 ∷ []) ∷ [])) refl
+
+-- an order and a size, and a group right behind them
+line-order : IsLine (Item (Some 1) (Some (1, 1)) ((1 ∷ []) ∷ [])) (codes "1 1x1[1];")
+line-order = read_is_line (codes "1 1x1[1];") (Item (Some 1) (Some (1, 1)) ((1 ∷ []) ∷ [])) refl
+
+-- the table row of the rectangle of three squares
+line-table : IsLine (Flat 3 3 2 (2 ∷ 1 ∷ 1 ∷ [])) (codes "3 3 2 2 1 1")
+line-table = read_is_line (codes "3 3 2 2 1 1") (Flat 3 3 2 (2 ∷ 1 ∷ 1 ∷ [])) refl
+
+spelled-two : code_text ((18 ∷ 15 ∷ []) ∷ (7 ∷ []) ∷ []) ≡ codes "[18,15][7]"
+unfolding digits
+spelled-two = refl
+
+-- where bytes leave the grammar
+at-two_commas : IsNoLine (codes "[18,,15]") 4
+at-two_commas = stops_at (codes "[18,,15]") 4 (BeforeSide no_header Square) (record { groups = []; sides = 18 ∷ [] }) (lit< tt) (λ x. refl) refl
+
+at-empty_group : IsNoLine (codes "[]") 1
+at-empty_group = stops_at (codes "[]") 1 (BeforeSide no_header Square) no_lists (lit< tt) (λ x. refl) refl
+
+at-size_alone : IsNoLine (codes "33x32") 5
+at-size_alone = stops_at_end (codes "33x32") (Number (Height None 33) 32) no_lists (λ x. refl) refl
+
+at-open_group : IsNoLine (codes "[18 ;") 4
+at-open_group = stops_at (codes "[18 ;") 4 (BehindSide no_header Square) (record { groups = []; sides = 18 ∷ [] }) (lit< tt) (λ x. refl) refl
+
+at-other_bracket : IsNoLine (codes "[18)") 3
+at-other_bracket = stops_at (codes "[18)") 3 (Number (Side no_header Square) 18) no_lists (lit< tt) (λ x. refl) refl
+
+at-zero : IsNoLine (codes "0x5 [1]") 0
+at-zero = stops_at (codes "0x5 [1]") 0 Start no_lists (lit< tt) (λ x. refl) refl
+
+at-two_commas_between : IsNoLine (codes "[1],,[1]") 4
+at-two_commas_between = stops_at (codes "[1],,[1]") 4 (BeforeGroup no_header) (record { groups = (1 ∷ []) ∷ []; sides = [] }) (lit< tt) (λ x. refl) refl
+
+at-long_side : IsNoLine (codes "[1234567890123456]") 16
+at-long_side = stops_at (codes "[1234567890123456]") 16 (Number (Side no_header Square) 123456789012345) no_lists (lit< tt) (λ x. refl) refl
+
+-- a table row needs a side, and its sides are numbers
+at-table : IsNoLine (codes "9 33 32") 7
+at-table = stops_at_end (codes "9 33 32") (Number (Third 9 33) 32) no_lists (λ x. refl) refl

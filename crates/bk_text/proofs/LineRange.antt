@@ -1,0 +1,43 @@
+-- What the grammar tells of the numbers of a line, and how a line that was read follows from what was gathered.
+use Rattle.std.specs.List.{AllByRecursion}
+use Rattle.std.specs.Prelude.{Bool, Err, IfErr, IfOk, List, Ok, OnErr, Result, [], false, length, true, ℕ, ◌<◌, ◌∷◌, ◌≡◌, ◌≤◌}
+use Rattle.std.proofs.Common.{arith, subst, sym}
+use Rattle.bk_grammar.specs.Grammar.{Number}
+use Rattle.bk_tiling.specs.Kept.{IsSide}
+use Rattle.bk_tiling.specs.declared.TheConstants.{MOST_SQUARES}
+use Rattle.bk_text.specs.CodeLine.{Flat, IsLine, Item, Line, Skip, TableSides}
+use Rattle.bk_text.specs.ReadLine.{IsFaultOf, IsInRange, sides_of_line, stands_for}
+use Rattle.bk_text.specs.declared.Line.{Line as LineRead}
+use Rattle.bk_text.specs.declared.TextFault.{TextFault}
+use Rattle.bk_text.specs.declared.TextFault.TheVariants.{Many}
+use Rattle.bk_grammar.proofs.NumbersRead.{number_range}
+
+side_range : (n : ℕ) (bs : List ℕ) → Number 15 n bs → IsSide n
+side_range n bs h = let range = number_range 15 n bs h in (range.0, omega (arith, range.1))
+
+column_range : (ns bs : List ℕ) → TableSides ns bs → (0 < length ns) × AllByRecursion IsSide ns
+column_range [] bs h = absurd h
+column_range (n ∷ []) bs (a, x, e, gap, side) = (omega arith, (side_range n x side, tt))
+column_range (n ∷ m ∷ ns) bs (a, x, e, gap, (f, y, e', side, rest)) = let others = column_range (m ∷ ns) y rest in (omega arith, (side_range n f side, others.1))
+
+pub line_range : (l : Line) (bs : List ℕ) → IsLine l bs → length (sides_of_line l) ≤ MOST_SQUARES → IsInRange l
+line_range Skip bs h few = tt
+line_range (Item order size []) bs (a, x, e, blanks, (f, y, e', header, (k, z, e'', groups, end))) few = absurd groups
+line_range (Item order size (g ∷ gs)) bs h few = omega arith
+line_range (Flat n w h ns) bs (a, x, e, blanks, (f, x1, e1, num, (g, x2, e2, gap, (f', x3, e3, num', (g', x4, e4, gap', (f'', x5, e5, num'', (s, x6, e6, sides, end))))))) few =
+    let column = column_range ns s sides in
+    (number_range 18 n f num, number_range 18 w f' num', number_range 18 h f'' num'', column.0, few, column.1)
+
+-- from what was gathered to what is answered
+pub read_is : (r : Result LineRead TextFault) (l : Line) (many : Bool) (bs : List ℕ) → IfOk r (λ x. many ≡ false) → IfOk r (λ x. stands_for x ≡ l) → (many ≡ false → IsLine l bs)
+    → IfOk r (λ x. IsLine (stands_for x) bs)
+read_is (Ok x) l many bs few is line = subst (λ (z : Line). IsLine z bs) (sym is) (line few)
+read_is (Err fault) l many bs few is line = tt
+
+pub range_is : (r : Result LineRead TextFault) (bs : List ℕ) → IfOk r (λ x. IsLine (stands_for x) bs) → IfOk r (λ x. length (sides_of_line (stands_for x)) ≤ MOST_SQUARES) → IfOk r (λ x. IsInRange (stands_for x))
+range_is (Ok x) bs line few = line_range (stands_for x) bs line few
+range_is (Err fault) bs line few = tt
+
+pub fault_is : (r : Result LineRead TextFault) (many : Bool) (bs : List ℕ) → IfErr r (λ fault. fault ≡ Many) → OnErr r (many ≡ true) → (many ≡ true → IsFaultOf Many bs) → IfErr r (λ fault. IsFaultOf fault bs)
+fault_is (Ok x) many bs is full line = tt
+fault_is (Err fault) many bs is full line = subst (λ (z : TextFault). IsFaultOf z bs) (sym is) (line full)

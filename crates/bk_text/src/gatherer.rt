@@ -1,0 +1,120 @@
+//! The sides of a line that is read.
+
+ghost use Rattle.std.specs.Prelude.{IfErr, IfOk, OnErr, false, true, length, ◌<◌, ◌≡◌, ◌≤◌};
+ghost use Rattle.std.specs.Option.{ForSome};
+ghost use Rattle.bk_tiling.specs.Kept.{IsSide};
+
+use crate::reader::{Ending, Kind, Place};
+use crate::{Line, TextFault};
+use arrayvec::ArrayVec;
+use bk_code::{Code, flat};
+use bk_tiling::MOST_SQUARES;
+use std::marker::Model;
+
+/// The groups that were closed and the sides of the open group or of the table row: the first 200 sides, and whether
+/// there were more.
+#[derive(Drop)]
+pub struct Gatherer {
+    code: Code,
+    sides: ArrayVec<u64, MOST_SQUARES>,
+    many: bool,
+}
+
+impl Model for Gatherer {
+    ghost use Rattle.bk_text.specs.Gathered.{Gathered, IsGathered};
+
+    ghost Value = { Gathered };
+
+    ghost view = { λ g. record { groups = g.code; sides = g.sides.items; many = g.many } };
+
+    ghost invariant = { λ g. IsGathered (record { groups = g.code; sides = g.sides.items; many = g.many }) };
+}
+
+impl Gatherer {
+    ghost use Rattle.bk_text.specs.Gathered.{IsGathered, gathered_after, line_gathered, nothing_gathered, with_side, with_group, with_ended};
+    ghost use Rattle.bk_text.specs.Reader.{closes_group, ended_side, last_side};
+    ghost use Rattle.bk_text.specs.ReadLine.{sides_of_line, stands_for};
+
+    pub fn new() -> Gatherer
+        ensures { result ≡ nothing_gathered }
+    {
+        Gatherer {
+            code: Code::new(),
+            sides: ArrayVec::new(),
+            many: false,
+        }
+    }
+
+    // Takes the side that ends before a byte, and closes the group that the byte closes.
+    pub fn take(&mut self, place: Place, kind: Kind)
+        requires side { ForSome (ended_side place kind) IsSide }
+        requires group { closes_group place kind ≡ true → (with_ended (ended_side place kind) self.old).many ≡ false
+            → 0 < length (with_ended (ended_side place kind) self.old).sides }
+        ensures after { self.new ≡ gathered_after place kind self.old }
+        ensures was { IsGathered self.old }
+    {
+        let _ = &self.many;
+        if let Some(side) = place.ended_side(kind) {
+            self.add_side(side);
+        }
+        if place.closes_group(kind) {
+            self.close_group();
+        }
+    }
+
+    // What a line stands for that ends at a place.
+    pub fn finish(mut self, place: Place, ending: Ending) -> Result<Line, TextFault>
+        requires { ForSome (last_side place) IsSide }
+        ensures few { IfOk result (λ _. (with_ended (last_side place) self).many ≡ false) }
+        ensures line { IfOk result (λ line. stands_for line ≡ line_gathered ending (with_ended (last_side place) self)) }
+        ensures fits { IfOk result (λ line. length (sides_of_line (stands_for line)) ≤ MOST_SQUARES) }
+        ensures many { IfErr result (λ fault. fault ≡ TextFault.Many) }
+        ensures full { OnErr result ((with_ended (last_side place) self).many ≡ true) }
+        ensures was { IsGathered self }
+    {
+        if let Some(side) = place.last_side() {
+            self.add_side(side);
+        }
+        let Gatherer { code, sides, many } = self;
+        if many {
+            return Err(TextFault::Many);
+        }
+        Ok(match ending {
+            Ending::Empty => Line::Skip,
+            Ending::Coded(header) => Line::Item {
+                order: header.order,
+                size: header.size,
+                code,
+            },
+            Ending::Row(table) => Line::Flat {
+                order: table.order,
+                width: table.width,
+                height: table.height,
+                sides,
+            },
+        })
+    }
+
+    // Adds a side, which is kept where there is room.
+    fn add_side(&mut self, side: u64)
+        requires { IsSide side }
+        ensures { self.new ≡ with_side side self.old }
+    {
+        if flat(&self.code).len() + self.sides.len() < MOST_SQUARES {
+            self.sides.push(side);
+        } else {
+            self.many = true;
+        }
+    }
+
+    // Closes the open group, which must have a side.
+    fn close_group(&mut self)
+        requires { self.old.many ≡ false → 0 < length self.old.sides }
+        ensures { self.new ≡ with_group self.old }
+    {
+        if !self.many {
+            self.code.add_group(&self.sides);
+            self.sides.clear();
+        }
+    }
+}

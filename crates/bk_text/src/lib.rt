@@ -1,0 +1,104 @@
+//! Lines of codes.
+#![tactic(auto)]
+
+ghost use Rattle.bk_text.specs.CodeLine.{Line as LineMeant, IsLine, IsNoLine};
+ghost use Rattle.bk_text.specs.ReadLine.{IsFaultOf, IsInRange, stands_for};
+ghost use Rattle.bk_text.specs.TextLaws.{AWrittenCodeIsRead, AWrittenItemIsRead, AWrittenSizeAndCodeAreRead, AWrittenSizeIsASize};
+ghost use Rattle.std.specs.Prelude.{IfErr, IfOk, ◌≡◌, ℕ, List};
+
+mod gatherer;
+mod reader;
+#[cfg(test)]
+mod tests;
+mod writer;
+
+use arrayvec::ArrayVec;
+use bk_code::Code;
+use gatherer::Gatherer;
+use reader::{Place, kind_of};
+use thiserror::Error;
+pub use writer::{write_code, write_size};
+
+/// What a line of codes stands for: nothing; a code, with the order and the size that are stated; or a table row, which
+/// states an order and a size and gives the sides without groups.
+#[derive(Drop)]
+pub enum Line {
+    Skip,
+    Item {
+        order: Option<u64>,
+        size: Option<(u64, u64)>,
+        code: Code,
+    },
+    Flat {
+        order: u64,
+        width: u64,
+        height: u64,
+        sides: ArrayVec<u64, 200>,
+    },
+}
+
+/// Why a line is refused.
+#[derive(Debug, Drop, Error)]
+pub enum TextFault {
+    /// The bytes are no line: the longest start of them that begins a line has `at` bytes.
+    #[error("Text")]
+    Text { at: usize },
+    /// The bytes are a line of more than 200 sides.
+    #[error("Many")]
+    Many,
+}
+
+/// Reads a line of codes, given without its line feed: what it stands for by the grammar of lines. `Text` comes exactly
+/// where the bytes are no line, with the length of their longest start that begins a line. `Many` comes exactly where they
+/// are a line of more than 200 sides. The group notation is Bouwkamp's (1946-47); the headers, the comments and the table
+/// rows are our own.
+pub fn read_line(line: &[u8]) -> Result<Line, TextFault>
+    ensures read { IfOk result (λ l. IsLine (stands_for l) line.now) }
+    ensures range { IfOk result (λ l. IsInRange (stands_for l)) }
+    ensures fault { IfErr result (λ fault. IsFaultOf fault line.now) }
+{
+    let mut place = Place::Start;
+    let mut gatherer = Gatherer::new();
+    for (at, byte) in line.iter().enumerate() {
+        let kind = kind_of(*byte);
+        let Some(next) = place.next(kind) else {
+            return Err(TextFault::Text { at });
+        };
+        gatherer.take(place, kind);
+        place = next;
+    }
+    match place.ending() {
+        Some(ending) => gatherer.finish(place, ending),
+        None => Err(TextFault::Text { at: line.len() }),
+    }
+}
+
+/// A line of codes stands for one thing only.
+pub fn a_line_has_one_meaning()
+    ensures { (bytes : List ℕ) (l m : LineMeant) → IsLine l bytes → IsLine m bytes → l ≡ m }
+{}
+
+/// Bytes that are no line leave the grammar at one place.
+pub fn bytes_leave_lines_at_one_place()
+    ensures { (bytes : List ℕ) (one two : ℕ) → IsNoLine bytes one → IsNoLine bytes two → one ≡ two }
+{}
+
+/// A written code and the end of a line are a line that stands for the code.
+pub fn a_written_code_is_read()
+    ensures { AWrittenCodeIsRead }
+{}
+
+/// A written size is a size of the two numbers.
+pub fn a_written_size_is_a_size()
+    ensures { AWrittenSizeIsASize }
+{}
+
+/// A written size, a blank, a written code and the end of a line stand for the size and the code.
+pub fn a_written_size_and_code_are_read()
+    ensures { AWrittenSizeAndCodeAreRead }
+{}
+
+/// A written order, size and code, with a blank between each two, and the end of a line stand for these three.
+pub fn a_written_item_is_read()
+    ensures { AWrittenItemIsRead }
+{}
