@@ -1,0 +1,9 @@
+use Rattle.std.proofs.Common.{arith, refl, subst, ◌≡◌}
+use Rattle.bk_tiling.specs.Tiling.{order}
+use Rattle.bk_simple.proofs.Parts.{NoneBefore, simple_from_none}
+use Rattle.bk_simple.proofs.part.Goals as goal
+
+pub returns-clause-simple : goal.returns-clause-simple
+returns-clause-simple c =
+    let e : c.loop-i.i ≡ order c.args.tiling.now = omega (arith, c.order-i-end.ensures.value) in
+    ((λ _. simple_from_none c.args.tiling.now c.order-i-end.ensures.kept.tiling (subst (NoneBefore c.args.tiling.now) e c.loop-i.invariant)), (λ _. refl))

@@ -1,0 +1,9 @@
+use Rattle.std.proofs.Common.{arith, subst, ◌≡◌}
+use Rattle.bk_tiling.specs.Tiling.{order}
+use Rattle.bk_simple.proofs.Parts.{NoneBelow, none_from}
+use Rattle.bk_simple.proofs.part_from.Goals as goal
+
+pub returns-clause-none : goal.returns-clause-none
+returns-clause-none c =
+    let e : c.loop-j.j ≡ order c.args.tiling.now = omega (arith, c.order-j-end.ensures.value) in
+    none_from c.args.tiling.now c.args.i c.order-j-end.ensures.kept.tiling (subst (NoneBelow c.args.tiling.now c.args.i) e c.loop-j.invariant)
