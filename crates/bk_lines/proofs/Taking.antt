@@ -1,0 +1,176 @@
+-- An input of which some bytes are taken, and their lines answered.
+use Rattle.std.proofs.Common.{◌≡◌, ℕ, ◌+◌, ◌^◌, ◌<◌, ◌≤◌, Bool, true, false, ◌||◌, List, [], ◌++◌, length, take, map, Option, Some, None, refl, sym, ap, ◌∙◌, subst, arith}
+use Rattle.std.specs.Io.KnownBytes.{Consumes, Keeps, IsAtEnd}
+use Rattle.std.proofs.lemmas.List.{append_assoc, append-nil, length-append}
+use Rattle.bk_ports.proofs.KnownSteps.{consumes_more}
+use Rattle.bk_lines.specs.Lines.{closed_lines, open_line, last_line, lines_of, kept_front}
+use Rattle.bk_lines.specs.Answered.{AreAnswered, AreStopped}
+use Rattle.bk_lines.specs.Ending.{Rules, Told, Tells, IsAnswered, IsCutOff, IsTooMany, EndsBy, ended_of, verdict_of}
+use Rattle.bk_lines.specs.declared.Ended.{Ended}
+use Rattle.bk_lines.specs.declared.line.Stop.{Stop}
+use Rattle.bk_lines.specs.declared.line.Stop.TheVariants.{WriteFailed, NoMemory}
+use Rattle.bk_lines.proofs.Cuts.{closed-append, open-append}
+use Rattle.bk_lines.proofs.Fronts.{closed-fronts, open-fronts, front-front, last-fronts}
+use Rattle.bk_lines.proofs.Joining.{answered_none, answered_more, answered_fronts, stopped_after, stopped_front, stopped_fronts}
+
+-- the bytes of a source, where it tells them
+left_bytes : Option (List ℕ) → List ℕ
+left_bytes None = []
+left_bytes (Some bytes) = bytes
+
+tells_left : (left : Option (List ℕ)) → Tells left (left_bytes left)
+unfolding left_bytes
+tells_left None = tt
+tells_left (Some bytes) = refl
+
+none_left : (left : Option (List ℕ)) → IsAtEnd left → left_bytes left ≡ []
+unfolding left_bytes
+none_left None h = refl
+none_left (Some bytes) h = h
+
+consumes_nothing : (left : Option (List ℕ)) → Consumes left left []
+consumes_nothing None = tt
+consumes_nothing (Some bytes) = refl
+
+consumes_kept : (a b c : Option (List ℕ)) (xs : List ℕ) → Consumes a b xs → Keeps b c → Consumes a c xs
+consumes_kept None b c xs p k = tt
+consumes_kept (Some old) None c xs p k = absurd p
+consumes_kept (Some old) (Some bs) None xs p k = absurd k
+consumes_kept (Some old) (Some bs) (Some cs) xs p k = p ∙ ap (λ (l : List ℕ). xs ++ l) (sym k)
+
+-- some bytes are taken, of which the lines with a line feed are answered, and the front of the open line is kept
+pub record IsTaken (answers : List ℕ → List (List ℕ) → Bool → Type 0) (left now_left before now : Option (List ℕ)) (count : ℕ) (kept : List ℕ) (refused : Bool) : Type 0 where
+  pub input : List ℕ
+  pub taken : Consumes left now_left input
+  pub size : length input ≡ count
+  pub front : kept ≡ kept_front (open_line [] input)
+  pub answered : AreAnswered answers (closed_lines [] input) before now refused
+
+-- what is kept of the open line has the same front
+same_front : (kept whole : List ℕ) → kept ≡ kept_front whole → kept_front kept ≡ kept_front whole
+same_front kept whole e = ap (λ (l : List ℕ). kept_front l) e ∙ front-front whole
+
+-- the lines of what is taken are the first lines of the input
+lines-append : (input later : List ℕ) → lines_of (input ++ later) ≡ closed_lines [] input ++ (closed_lines (open_line [] input) later ++ last_line (open_line [] (input ++ later)))
+lines-append input later =
+    ap (λ (l : List (List ℕ)). l ++ last_line (open_line [] (input ++ later))) (closed-append [] input later)
+    ∙ append_assoc (closed_lines [] input) (closed_lines (open_line [] input) later) (last_line (open_line [] (input ++ later)))
+
+module _ (answers : List ℕ → List (List ℕ) → Bool → Type 0) where
+  pub taken_none : (left w : Option (List ℕ)) (kept : List ℕ) → kept ≡ [] → IsTaken answers left left w w 0 kept false
+  taken_none left w kept none = record {
+    input = [];
+    taken = consumes_nothing left;
+    size = refl;
+    front = none;
+    answered = answered_none answers w;
+  }
+
+  pub taken_more : (l m n a b c : Option (List ℕ)) (count more : ℕ) (kept now_kept bytes : List ℕ) (p q : Bool) → IsTaken answers l m a b count kept p → Consumes m n bytes → length bytes ≡ more → now_kept ≡ kept_front (open_line kept bytes) → AreAnswered answers (closed_lines kept bytes) b c q → IsTaken answers l n a c (count + more) now_kept (p || q)
+  taken_more l m n a b c count more kept now_kept bytes p q state read size front here =
+      let same = same_front kept (open_line [] state.input) state.front in
+      record {
+        input = state.input ++ bytes;
+        taken = consumes_more l m n state.input bytes (state.input ++ bytes) state.taken read refl;
+        size = omega (arith, length-append state.input bytes, state.size, size);
+        front =
+            front ∙ open-fronts kept (open_line [] state.input) bytes same
+            ∙ ap (λ (o : List ℕ). kept_front o) (sym (open-append [] state.input bytes));
+        answered =
+            subst (λ (lines : List (List ℕ)). AreAnswered answers lines a c (p || q)) (sym (closed-append [] state.input bytes))
+            (answered_more answers (closed_lines [] state.input) (closed_lines (open_line [] state.input) bytes) a b c p q state.answered
+            (answered_fronts answers (closed_lines kept bytes) (closed_lines (open_line [] state.input) bytes) b c q
+            (closed-fronts kept (open_line [] state.input) bytes same) here));
+      }
+
+module _ (rules : Rules) (l m n a b c : Option (List ℕ)) (count : ℕ) (kept : List ℕ) (p : Bool) (state : IsTaken rules.answers l m a b count kept p) where
+  -- the lines of the end of the input
+  last_same : map kept_front (last_line kept) ≡ map kept_front (last_line (open_line [] state.input))
+  last_same =
+      ap (λ (o : List ℕ). map kept_front (last_line o)) state.front ∙ last-fronts (open_line [] state.input)
+
+  pub ends_read : Keeps m n → count ≤ 2 ^ 30 → IsCutOff rules (record { left = l; left_after = n; written = a; written_after = b })
+  ends_read still within = record {
+    input = state.input;
+    taken = consumes_kept l m n state.input state.taken still;
+    within = omega (arith, state.size);
+    refused = p;
+    answered = state.answered;
+  }
+
+  pub ends_more : (more : List ℕ) → Consumes m n more → 0 < length more → count ≡ 2 ^ 30 → IsTooMany rules (record { left = l; left_after = n; written = a; written_after = b })
+  ends_more more read some full = record {
+    first = state.input;
+    more = more;
+    taken = consumes_more l m n state.input more (state.input ++ more) state.taken read refl;
+    full = state.size ∙ full;
+    some = some;
+    refused = p;
+    answered = state.answered;
+  }
+
+  pub ends_all : (q : Bool) → Consumes m n [] → IsAtEnd n → count ≤ 2 ^ 30 → AreAnswered rules.answers (last_line kept) b c q → IsAnswered rules (record { left = l; left_after = n; written = a; written_after = c }) (p || q)
+  ends_all q read at_end within here = record {
+    input = state.input;
+    taken = consumes_more l m n state.input [] state.input state.taken read (sym (append-nil state.input));
+    at_end = at_end;
+    within = omega (arith, state.size);
+    answered =
+        answered_more rules.answers (closed_lines [] state.input) (last_line (open_line [] state.input)) a b c p q state.answered
+        (answered_fronts rules.answers (last_line kept) (last_line (open_line [] state.input)) b c q last_same here);
+  }
+
+-- where answers stopped at a line of the input
+module _ (rules : Rules) (l n a c : Option (List ℕ)) (input : List ℕ) where
+  stop_ends : (stop : Stop) → Consumes l n input → length input ≤ 2 ^ 30 → AreStopped rules.answers rules.may_want (lines_of (input ++ left_bytes n)) a c stop → EndsBy rules (record { left = l; left_after = n; written = a; written_after = c }) (ended_of stop)
+  stop_ends WriteFailed taken within h = record { input = input; later = left_bytes n; taken = taken; left = tells_left n; within = within; begun = h }
+  stop_ends NoMemory taken within h = record { input = input; later = left_bytes n; taken = taken; left = tells_left n; within = within; short = h }
+
+  stops : (stop : Stop) (ended : Ended) → ended ≡ ended_of stop → Consumes l n input → length input ≤ 2 ^ 30 → AreStopped rules.answers rules.may_want (lines_of (input ++ left_bytes n)) a c stop → EndsBy rules (record { left = l; left_after = n; written = a; written_after = c }) ended
+  stops stop ended is taken within here =
+      subst (λ (e : Ended). EndsBy rules (record { left = l; left_after = n; written = a; written_after = c }) e) (sym is) (stop_ends stop taken within here)
+
+module _ (rules : Rules) (l m n a b c : Option (List ℕ)) (count : ℕ) (kept : List ℕ) (p : Bool) (state : IsTaken rules.answers l m a b count kept p) (stop : Stop) where
+  pub ends_block : (ended : Ended) (more : ℕ) (bytes : List ℕ) → ended ≡ ended_of stop → Consumes m n bytes → length bytes ≡ more → count + more ≤ 2 ^ 30 → AreStopped rules.answers rules.may_want (closed_lines kept bytes) b c stop → EndsBy rules (record { left = l; left_after = n; written = a; written_after = c }) ended
+  ends_block ended more bytes is read size within here =
+      let known = closed_lines [] state.input in
+      let next = closed_lines (open_line [] state.input) bytes in
+      let later = closed_lines (open_line [] (state.input ++ bytes)) (left_bytes n) ++ last_line (open_line [] ((state.input ++ bytes) ++ left_bytes n)) in
+      let fronts = closed-fronts kept (open_line [] state.input) bytes (same_front kept (open_line [] state.input) state.front) in
+      let all : AreStopped rules.answers rules.may_want (known ++ next) a c stop =
+      stopped_after rules.answers rules.may_want stop known next a b c p state.answered
+      (stopped_fronts rules.answers rules.may_want stop (closed_lines kept bytes) next b c fronts here) in
+      let joined : AreStopped rules.answers rules.may_want (closed_lines [] (state.input ++ bytes)) a c stop =
+      subst (λ (lines : List (List ℕ)). AreStopped rules.answers rules.may_want lines a c stop) (sym (closed-append [] state.input bytes)) all in
+      stops rules l n a c (state.input ++ bytes) stop ended is
+      (consumes_more l m n state.input bytes (state.input ++ bytes) state.taken read refl)
+      (omega (arith, length-append state.input bytes, state.size, size, within))
+      (subst (λ (lines : List (List ℕ)). AreStopped rules.answers rules.may_want lines a c stop) (sym (lines-append (state.input ++ bytes) (left_bytes n)))
+      (stopped_front rules.answers rules.may_want stop (closed_lines [] (state.input ++ bytes)) later a c joined))
+
+  pub ends_last : (ended : Ended) → ended ≡ ended_of stop → Consumes m n [] → IsAtEnd n → count ≤ 2 ^ 30 → AreStopped rules.answers rules.may_want (last_line kept) b c stop → EndsBy rules (record { left = l; left_after = n; written = a; written_after = c }) ended
+  ends_last ended is read at_end within here =
+      let known = closed_lines [] state.input in
+      let last = last_line (open_line [] state.input) in
+      let fronts : map kept_front (last_line kept) ≡ map kept_front last =
+      ap (λ (o : List ℕ). map kept_front (last_line o)) state.front ∙ last-fronts (open_line [] state.input) in
+      let same : lines_of state.input ≡ lines_of (state.input ++ left_bytes n) =
+      ap (λ (bytes : List ℕ). lines_of bytes) (sym (append-nil state.input))
+      ∙ ap (λ (bytes : List ℕ). lines_of (state.input ++ bytes)) (sym (none_left n at_end)) in
+      stops rules l n a c state.input stop ended is
+      (consumes_more l m n state.input [] state.input state.taken read (sym (append-nil state.input)))
+      (omega (arith, state.size, within))
+      (subst (λ (lines : List (List ℕ)). AreStopped rules.answers rules.may_want lines a c stop) same
+      (stopped_after rules.answers rules.may_want stop known last a b c p state.answered
+      (stopped_fronts rules.answers rules.may_want stop (last_line kept) last b c fronts here)))
+
+verdict_ends : (rules : Rules) (told : Told) (refused : Bool) → IsAnswered rules told refused → EndsBy rules told (verdict_of refused)
+verdict_ends rules told true h = h
+verdict_ends rules told false h = h
+
+pub ends_verdict : (rules : Rules) (told : Told) (refused : Bool) (ended : Ended) → ended ≡ verdict_of refused → IsAnswered rules told refused → EndsBy rules told ended
+ends_verdict rules told refused ended is h = subst (λ (e : Ended). EndsBy rules told e) (sym is) (verdict_ends rules told refused h)
+
+-- a read that gave no byte
+pub read_nothing : (m n : Option (List ℕ)) (bytes : List ℕ) (count : ℕ) → count ≡ 0 → Consumes m n (take count bytes) → Consumes m n []
+read_nothing m n bytes count none read = subst (λ (k : ℕ). Consumes m n (take k bytes)) none read

@@ -1,0 +1,14 @@
+use Rattle.std.proofs.Common.{◌≡◌, ◌≤◌, ◌^◌, ◌-◌}
+use Rattle.bk_lines.proofs.Taking.{IsTaken}
+use Rattle.bk_lines.proofs.input.answer_lines.Given as goal
+
+abbrev pub invariant-reads : goal.invariant-reads
+invariant-reads g l = record {
+  state : IsTaken (g.A.Answerer.answers l.fn.answerer) (g.S.Source.left l.fn.source) (g.S.Source.left l.source) (g.O.Sink.written l.fn.out) (g.O.Sink.written l.out) l.taken l.kept.items l.refused;
+  within : l.taken ≤ 2 ^ 30;
+  same_source : g.S.Source.faults l.source ≡ g.S.Source.faults l.fn.source;
+  same_out : g.O.Sink.faults l.out ≡ g.O.Sink.faults l.fn.out;
+}
+
+abbrev pub decreases-reads : goal.decreases-reads
+decreases-reads g l = 2 ^ 30 - l.taken

@@ -1,0 +1,102 @@
+-- How a run over lines ends, what was taken then and what stands written.
+use Rattle.std.specs.Prelude.{◌≡◌, ℕ, ◌^◌, ◌<◌, ◌≤◌, Bool, true, false, List, [], ◌++◌, length, Option, None, Some, IsSomeAnd}
+use Rattle.std.specs.Io.KnownBytes.{Consumes, IsAtEnd}
+use Rattle.bk_ports.specs.Causes.{Rose}
+use Rattle.bk_lines.specs.Lines.{closed_lines, lines_of}
+use Rattle.bk_lines.specs.Answered.{AreAnswered, AreBegun, AreCutShort}
+use Rattle.bk_lines.specs.declared.Ended.{Ended}
+use Rattle.bk_lines.specs.declared.line.Stop.{Stop}
+use Rattle.bk_lines.specs.declared.line.Stop.TheVariants as stops
+use Rattle.bk_lines.specs.declared.Ended.TheVariants.{NoneRefused, SomeRefused, ReadFailed, WriteFailed, NoMemory, TooMany}
+
+-- which replies lines may have, and at which lines memory may be wanting
+pub record Rules : Type 1 where
+  pub answers : List ℕ → List (List ℕ) → Bool → Type 0
+  pub may_want : List ℕ → Type 0
+
+-- the bytes that a source has left and that a sink has taken, before and after a run, where they tell them
+pub record Told : Type 0 where
+  pub left : Option (List ℕ)
+  pub left_after : Option (List ℕ)
+  pub written : Option (List ℕ)
+  pub written_after : Option (List ℕ)
+
+-- bytes that a source has left, where it tells them
+abbrev pub Tells : Option (List ℕ) → List ℕ → Type 0
+Tells None bytes = Unit {0}
+Tells (Some told) bytes = told ≡ bytes
+
+-- the input was read to its end, and all its lines are answered
+pub record IsAnswered (rules : Rules) (told : Told) (refused : Bool) : Type 0 where
+  pub input : List ℕ
+  pub taken : Consumes told.left told.left_after input
+  pub at_end : IsAtEnd told.left_after
+  pub within : length input ≤ 2 ^ 30
+  pub answered : AreAnswered rules.answers (lines_of input) told.written told.written_after refused
+
+-- a read failed: all lines whose line feed was taken are answered, and nothing else was written
+pub record IsCutOff (rules : Rules) (told : Told) : Type 0 where
+  pub input : List ℕ
+  pub taken : Consumes told.left told.left_after input
+  pub within : length input ≤ 2 ^ 30
+  pub refused : Bool
+  pub answered : AreAnswered rules.answers (closed_lines [] input) told.written told.written_after refused
+
+-- 2^30 bytes were taken and the next read gave more: all lines whose line feed is among the first 2^30 bytes are answered
+pub record IsTooMany (rules : Rules) (told : Told) : Type 0 where
+  pub first : List ℕ
+  pub more : List ℕ
+  pub taken : Consumes told.left told.left_after (first ++ more)
+  pub full : length first ≡ 2 ^ 30
+  pub some : 0 < length more
+  pub refused : Bool
+  pub answered : AreAnswered rules.answers (closed_lines [] first) told.written told.written_after refused
+
+-- a write failed at a line of the input, of which `later` was not taken yet
+pub record IsBroken (rules : Rules) (told : Told) : Type 0 where
+  pub input : List ℕ
+  pub later : List ℕ
+  pub taken : Consumes told.left told.left_after input
+  pub left : Tells told.left_after later
+  pub within : length input ≤ 2 ^ 30
+  pub begun : AreBegun rules.answers (lines_of (input ++ later)) told.written told.written_after
+
+-- memory was wanting at a line of the input, of which `later` was not taken yet
+pub record IsCutShort (rules : Rules) (told : Told) : Type 0 where
+  pub input : List ℕ
+  pub later : List ℕ
+  pub taken : Consumes told.left told.left_after input
+  pub left : Tells told.left_after later
+  pub within : length input ≤ 2 ^ 30
+  pub short : AreCutShort rules.answers rules.may_want (lines_of (input ++ later)) told.written told.written_after
+
+-- what each ending says
+abbrev pub EndsBy : Rules → Told → Ended → Type 0
+EndsBy rules told NoneRefused = IsAnswered rules told false
+EndsBy rules told SomeRefused = IsAnswered rules told true
+EndsBy rules told ReadFailed = IsCutOff rules told
+EndsBy rules told WriteFailed = IsBroken rules told
+EndsBy rules told NoMemory = IsCutShort rules told
+EndsBy rules told TooMany = IsTooMany rules told
+
+-- how a run ends whose lines were answered to the end of the input, some of them by a refusal or none
+abbrev pub verdict_of : Bool → Ended
+verdict_of true = SomeRefused
+verdict_of false = NoneRefused
+
+-- how a run ends whose lines could not all be answered
+abbrev pub ended_of : Stop → Ended
+ended_of stops.WriteFailed = WriteFailed
+ended_of stops.NoMemory = NoMemory
+
+-- no read and no write failed, memory is wanting at no line, and the source told at most 2^30 bytes. The numbers are the
+-- counts of faults of the source and of the sink, before and after.
+pub record IsUndisturbed (rules : Rules) (left : Option (List ℕ)) (read read_after write write_after : ℕ) : Type 0 where
+  pub reads : ¬ Rose read read_after
+  pub writes : ¬ Rose write write_after
+  pub memory : (line : List ℕ) → ¬ rules.may_want line
+  pub within : IsSomeAnd left (λ input. length input ≤ 2 ^ 30)
+
+-- all lines were answered
+abbrev pub HasVerdict : Ended → Type 0
+HasVerdict ended = (refused : Bool) × (ended ≡ verdict_of refused)

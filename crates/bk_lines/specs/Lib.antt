@@ -1,0 +1,5 @@
+pub mod Lines
+pub mod Reply
+pub mod Answer
+pub mod Answered
+pub mod Ending

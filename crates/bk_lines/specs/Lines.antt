@@ -1,0 +1,25 @@
+-- Bytes cut into lines. A line ends at a line feed, which isn't part of it, or at the end of the bytes.
+use Rattle.std.specs.Prelude.{ℕ, true, false, ◌==◌, List, [], ◌∷◌, ◌++◌, take}
+
+-- where a line has begun with some bytes and more bytes follow: the lines that a line feed ends
+abbrev pub closed_lines : List ℕ → List ℕ → List (List ℕ)
+closed_lines begun [] = []
+closed_lines begun (b ∷ bs) = elim (b == 10) [ true ↦ begun ∷ closed_lines [] bs | false ↦ closed_lines (begun ++ b ∷ []) bs ]
+
+-- and what comes after the last line feed, which is the line that is still open
+abbrev pub open_line : List ℕ → List ℕ → List ℕ
+open_line begun [] = begun
+open_line begun (b ∷ bs) = elim (b == 10) [ true ↦ open_line [] bs | false ↦ open_line (begun ++ b ∷ []) bs ]
+
+-- the end of the bytes ends a line that has bytes
+abbrev pub last_line : List ℕ → List (List ℕ)
+last_line [] = []
+last_line (b ∷ bs) = (b ∷ bs) ∷ []
+
+-- all lines of the bytes
+abbrev pub lines_of : List ℕ → List (List ℕ)
+lines_of bytes = closed_lines [] bytes ++ last_line (open_line [] bytes)
+
+-- what is kept of a line. A line of more than 8,192 bytes is too long, whatever follows its first 8,193 bytes.
+abbrev pub kept_front : List ℕ → List ℕ
+kept_front line = take 8193 line

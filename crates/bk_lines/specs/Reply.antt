@@ -1,0 +1,30 @@
+-- What is answered to lines.
+use Rattle.std.specs.Prelude.{ℕ, Bool, List, [], ◌∷◌}
+use Rattle.std.specs.List.{concat, flat_map, list_any}
+use Rattle.bk_lines.specs.Lines.{kept_front}
+
+-- the answer to one line: the pieces that are written, each by one call, and whether they are the text of a refusal
+pub record Reply : Type 0 where
+  pub pieces : List (List ℕ)
+  pub refused : Bool
+
+abbrev pub reply_text : Reply → List ℕ
+reply_text reply = concat reply.pieces
+
+abbrev pub is_refused : Reply → Bool
+is_refused reply = reply.refused
+
+-- what is written for replies, one after another
+abbrev pub text_of : List Reply → List ℕ
+text_of replies = flat_map reply_text replies
+
+-- at least one line is refused
+abbrev pub some_refused : List Reply → Bool
+some_refused replies = list_any is_refused replies
+
+-- each line has its reply, in the order of the lines, where `answers` says which replies a line may have
+abbrev pub AreReplies : (List ℕ → List (List ℕ) → Bool → Type 0) → List (List ℕ) → List Reply → Type 0
+AreReplies answers [] [] = Unit {0}
+AreReplies answers [] (reply ∷ replies) = ⊥
+AreReplies answers (line ∷ lines) [] = ⊥
+AreReplies answers (line ∷ lines) (reply ∷ replies) = answers (kept_front line) reply.pieces reply.refused × AreReplies answers lines replies

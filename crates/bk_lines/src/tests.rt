@@ -1,0 +1,121 @@
+//! Runs over lines whose answers are easy to foresee.
+
+use crate::{Answerer, Ended, Outcome, answer_lines};
+use arrayvec::ArrayVec;
+use bk_ports::{Failed, FillSource, MemSink, MemSource, Sink};
+
+// A line is answered by its length. One that begins with `!` is refused, and at one that begins with `?` memory is wanting.
+struct Lengths;
+
+impl Answerer for Lengths {
+    ghost answers = { λ _ _ _ _. Unit {0} };
+
+    ghost may_want = { λ _ _. Unit {0} };
+
+    fn answer<O: Sink>(
+        &self,
+        line: &[u8],
+        buffer: &mut ArrayVec<u8, 9000>,
+        out: &mut O,
+    ) -> Result<Outcome, Failed> {
+        if line.first() == Some(&b'?') {
+            return Ok(Outcome::NoMemory);
+        }
+        let mut digits = itoa::Buffer::new();
+        buffer.clear();
+        let _ = buffer.try_extend_from_slice(digits.format(line.len()).as_bytes());
+        let _ = buffer.try_push(b'\n');
+        out.write_all(buffer)?;
+        if line.first() == Some(&b'!') {
+            Ok(Outcome::Refused)
+        } else {
+            Ok(Outcome::Accepted)
+        }
+    }
+
+    ghost empty_line = { λ _. tt };
+}
+
+#[test]
+fn lines_come_in_any_cuts(rt: HostRuntime) {
+    let rows: [(&[u8], Ended, &[u8]); 9] = [
+        (b"", Ended::NoneRefused, b""),
+        (b"\n", Ended::NoneRefused, b""),
+        (b"a", Ended::NoneRefused, b"1\n"),
+        (b"ab\n\ncde\n", Ended::NoneRefused, b"2\n3\n"),
+        (b"\n\nab\n\ncde", Ended::NoneRefused, b"2\n3\n"),
+        (b"ab\n!\ncde\n", Ended::SomeRefused, b"2\n1\n3\n"),
+        (b"ab\ncde\n!x", Ended::SomeRefused, b"2\n3\n2\n"),
+        (b"ab\n!\n?\ncde\n", Ended::NoMemory, b"2\n1\n"),
+        (b"ab\n?", Ended::NoMemory, b"2\n"),
+    ];
+    for (input, ending, text) in rows {
+        for most in 1..12 {
+            let mut source = MemSource::new(input, most, &[]);
+            let mut room = [0; 100];
+            let mut out = MemSink::new(&mut room, &[]);
+            assert_eq!(rt;
+                answer_lines(&Lengths, &mut source, &mut out),
+                ending,
+                "at most {most}"
+            );
+            assert_eq!(rt; out.written(), text, "at most {most}");
+        }
+    }
+}
+
+#[test]
+fn a_long_line_is_kept_as_far_as_it_counts(rt: HostRuntime) {
+    let rows: [(u64, &[u8]); 5] = [
+        (8191, b"8191\n"),
+        (8192, b"8192\n"),
+        (8193, b"8193\n"),
+        (9000, b"8193\n"),
+        (40_000, b"8193\n"),
+    ];
+    for (length, text) in rows {
+        let mut source = FillSource::new(b'a', length);
+        let mut room = [0; 100];
+        let mut out = MemSink::new(&mut room, &[]);
+        assert_eq!(rt;
+            answer_lines(&Lengths, &mut source, &mut out),
+            Ended::NoneRefused
+        );
+        assert_eq!(rt; out.written(), text, "a line of {length} bytes");
+    }
+}
+
+#[test]
+fn a_long_line_ends_at_its_line_feed(rt: HostRuntime) {
+    let mut input = [b'a'; 9004];
+    input[9000] = b'\n';
+    for most in [1, 10, 8192, 8193, 9000, 9001, 9004] {
+        let mut source = MemSource::new(&input, most, &[]);
+        let mut room = [0; 100];
+        let mut out = MemSink::new(&mut room, &[]);
+        assert_eq!(rt;
+            answer_lines(&Lengths, &mut source, &mut out),
+            Ended::NoneRefused
+        );
+        assert_eq!(rt; out.written(), b"8193\n3\n".as_slice(), "at most {most}");
+    }
+}
+
+#[test]
+fn a_fault_ends_the_run(rt: HostRuntime) {
+    let rows: [(usize, &[u64], &[(u64, usize)], Ended, &[u8]); 6] = [
+        (3, &[2], &[], Ended::ReadFailed, b"2\n2\n"),
+        (4, &[1], &[], Ended::ReadFailed, b"2\n"),
+        (100, &[0], &[], Ended::ReadFailed, b""),
+        (100, &[1], &[], Ended::ReadFailed, b"2\n2\n"),
+        (3, &[2], &[(1, 1)], Ended::WriteFailed, b"2\n2"),
+        (3, &[], &[(2, 2)], Ended::WriteFailed, b"2\n2\n3\n"),
+    ];
+    for (most, read_fails, write_fails, ending, text) in rows {
+        let mut source = MemSource::new(b"ab\ncd\nefg", most, read_fails);
+        let mut room = [0; 100];
+        let mut out = MemSink::new(&mut room, write_fails);
+        assert_eq!(rt; answer_lines(&Lengths, &mut source, &mut out), ending);
+        assert_eq!(rt; out.written(), text);
+    }
+}
