@@ -6,22 +6,22 @@ use Rattle.bk_tiling.specs.declared.Square.{Square}
 use Rattle.bk_profile.proofs.GapTest.{by_tests}
 use Rattle.bk_profile.specs.Gap.{Divides, Fits, IsGap, fits, misfit, next_group, with_group}
 
-abbrev segment : ℕ → ℕ → ℕ → Segment
+abbrev pub segment : ℕ → ℕ → ℕ → Segment
 segment x width level = record { x = x; width = width; level = level }
 
-abbrev one_group : List Square
+abbrev pub one_group : List Square
 one_group = with_group [] (segment 0 33 0) (18 ∷ 15 ∷ [])
 
-abbrev two_groups : List Square
+abbrev pub two_groups : List Square
 two_groups = with_group one_group (segment 18 15 15) (7 ∷ 8 ∷ [])
 
-abbrev three_groups : List Square
+abbrev pub three_groups : List Square
 three_groups = with_group two_groups (segment 0 18 18) (14 ∷ 4 ∷ [])
 
 pub third_gap : IsGap 33 two_groups (segment 0 18 18)
 third_gap = by_tests _ _ _ refl refl refl refl refl refl
 
-ten_is_not_eleven : Fits (segment 14 11 22) (10 ∷ []) → ⊥
+pub ten_is_not_eleven : Fits (segment 14 11 22) (10 ∷ []) → ⊥
 ten_is_not_eleven h = omega arith
 
 -- the fourth group is all that is left, and does not fill its gap of 11 columns

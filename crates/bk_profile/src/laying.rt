@@ -8,13 +8,16 @@ ghost use Rattle.bk_profile.specs.Refused.{HasCode, IsOpen, IsRefused, first_sum
 use crate::profile::{Profile, sum_of};
 use bk_code::Code;
 use bk_tiling::Tiling;
+use thiserror::Error;
 
 /// Why laying gives no tiling.
-#[derive(Clone, Copy, Debug, PartialEq, Eq)]
+#[derive(Clone, Copy, Debug, PartialEq, Eq, Error)]
 pub enum Refusal {
     /// The sum of this group, counted from 1, isn't the width of the gap at its turn; all groups before it fit.
+    #[error("Gap")]
     Gap { group: usize, gap: u64, sum: u64 },
     /// All groups fit, and the least depth is below the greatest in the end.
+    #[error("Open")]
     Open { least: u64, greatest: u64 },
 }
 

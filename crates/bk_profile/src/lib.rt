@@ -30,6 +30,7 @@ mod tests {
     use bk_code::{Code, flat};
     use bk_tiling::{LONGEST_SIDE, MOST_SQUARES, Square, Tiling};
     use std::process::Abort;
+    use std::test::Fail;
 
     // The code with these groups.
     fn code_with(rt: &impl Abort, groups: &[&[u64]]) -> Code {
@@ -166,5 +167,22 @@ mod tests {
         assert_eq!(rt; (profile.least(), profile.greatest()), (15, 18));
         let laid = [Square { x: 0, y: 0, s: 18 }, Square { x: 18, y: 0, s: 15 }];
         assert_eq!(rt; profile.laid(), laid.as_slice());
+    }
+
+    #[test]
+    fn names_its_refusals(rt: HostRuntime) -> Result<(), Fail> {
+        let gap = Refusal::Gap {
+            group: 2,
+            gap: 15,
+            sum: 16,
+        };
+        let open = Refusal::Open {
+            least: 23,
+            greatest: 32,
+        };
+        for (refusal, name) in [(gap, "Gap"), (open, "Open")] {
+            assert_eq!(rt; format!(in rt.alloc(); "{refusal}")?.as_str(), name);
+        }
+        Ok(())
     }
 }
