@@ -1,0 +1,7 @@
+pub mod Coprime
+pub mod DivisorLaws
+pub mod FractionExamples
+pub mod FractionLaws
+pub mod ProportionSteps
+pub mod WholeNumbers
+pub mod WrittenNumbers

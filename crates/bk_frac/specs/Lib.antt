@@ -1,0 +1,4 @@
+pub mod Divisor
+pub mod Fraction
+pub mod Inside
+pub mod Proportion
