@@ -1,0 +1,4 @@
+pub mod AnswerExamples
+pub mod Spaces
+pub mod Codes
+pub mod Verdicts

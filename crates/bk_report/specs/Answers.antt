@@ -1,0 +1,48 @@
+-- The texts of answers to accepted items. Each is a line, and ends with a line feed.
+use Rattle.std.specs.List.{join_with_byte}
+use Rattle.std.specs.Prelude.{List, MatchOption, None, Option, Some, [], codes, decimal, ℕ, ◌++◌, ◌∷◌, ◌≡◌}
+use Rattle.bk_tiling.specs.Tiling.{Rectangle, Tiling, order}
+use Rattle.bk_code.specs.Code.{code_of}
+use Rattle.bk_text.specs.CodeText.{code_text, size_text}
+use Rattle.bk_simple.specs.Simple.{IsFirstPart, IsLeastRepeated, IsPerfect, IsSimple}
+
+-- the pieces, with one blank between each two
+abbrev pub spaced : List (List ℕ) → List ℕ
+spaced pieces = join_with_byte 32 pieces
+
+-- the pieces as a line
+abbrev pub line : List (List ℕ) → List ℕ
+line pieces = spaced pieces ++ 10 ∷ []
+
+-- perfect, or imperfect and the least side that occurs twice
+abbrev pub perfect_text : Option ℕ → List ℕ
+perfect_text None = codes "perfect"
+perfect_text (Some side) = spaced (codes "imperfect" ∷ decimal side ∷ [])
+
+-- simple, or compound and a rectangle that some of the squares form
+abbrev pub simple_text : Option Rectangle → List ℕ
+simple_text None = codes "simple"
+simple_text (Some r) =
+    spaced (codes "compound" ∷ (decimal r.x ++ codes "," ++ decimal r.y) ∷ size_text r.width r.height ∷ [])
+
+-- the two verdicts on a tiling: the least side that occurs twice, and none where it is perfect; the first
+-- rectangle that some of its squares form, and none where it is simple
+pub record AreVerdicts (t : Tiling) (repeated : Option ℕ) (part : Option Rectangle) : Type 0 where
+  pub perfect : MatchOption repeated (IsPerfect t) (IsLeastRepeated t)
+  pub simple : MatchOption part (IsSimple t) (IsFirstPart t)
+
+-- the order, the size and the verdicts of a tiling as a line
+abbrev pub verdict_line : Tiling → Option ℕ → Option Rectangle → List ℕ
+verdict_line t repeated part = line (codes "ok" ∷ decimal (order t) ∷ size_text t.width t.height
+    ∷ perfect_text repeated ∷ simple_text part ∷ [])
+
+-- check: the bytes are that line of a tiling
+pub record IsCheckLine (t : Tiling) (bytes : List ℕ) : Type 0 where
+  pub repeated : Option ℕ
+  pub part : Option Rectangle
+  pub verdicts : AreVerdicts t repeated part
+  pub text : bytes ≡ verdict_line t repeated part
+
+-- canon, each line of images, and solve
+abbrev pub tiling_line : Tiling → List ℕ
+tiling_line t = line (size_text t.width t.height ∷ code_text (code_of t) ∷ [])

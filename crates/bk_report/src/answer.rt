@@ -1,0 +1,96 @@
+//! The texts of answers to accepted items.
+
+ghost use Rattle.std.specs.Prelude.{◌≡◌, ◌≤◌, ◌++◌, ◌+◌, option_map, length};
+ghost use Rattle.arrayvec.specs.ArrayVec.{array_vec_len};
+ghost use Rattle.bk_simple.specs.Border.{rectangle_of};
+ghost use Rattle.bk_report.specs.AnswerLaws.{ATilingHasOneCheckLine};
+ghost use Rattle.bk_report.specs.Answers.{IsCheckLine, perfect_text, simple_text, tiling_line, verdict_line};
+
+use arrayvec::ArrayVec;
+use bk_code::code_of;
+use bk_grammar::{push_bytes, push_number};
+use bk_simple::{SubRect, part, repeated};
+use bk_text::{write_code, write_size};
+use bk_tiling::Tiling;
+
+/// Clears the buffer and leaves the answer of `check` to an item that has this tiling, with its line feed: `ok`, the
+/// order, the size, and whether it is perfect and simple (Brooks, Smith, Stone and Tutte 1940). The text is this
+/// project's own.
+pub fn write_check(tiling: &Tiling, out: &mut ArrayVec<u8, 9000>)
+    ensures { IsCheckLine tiling.now out.new.items }
+{
+    out.clear();
+    push_verdicts(tiling, repeated(tiling), part(tiling), out);
+}
+
+/// Clears the buffer and leaves the size and the code of a tiling in Bouwkamp's notation (1946-47), with its line feed:
+/// the answer of each command that gives a tiling.
+pub fn write_tiling(tiling: &Tiling, out: &mut ArrayVec<u8, 9000>)
+    ensures { out.new.items ≡ tiling_line tiling.now }
+{
+    out.clear();
+    write_size(tiling.width(), tiling.height(), out);
+    out.push(b' ');
+    write_code(&code_of(tiling), out);
+    out.push(b'\n');
+}
+
+/// A tiling has one line of `check`.
+pub fn a_tiling_has_one_check_line()
+    ensures { ATilingHasOneCheckLine }
+{}
+
+// Appends the order, the size and the verdicts of a tiling as a line.
+fn push_verdicts(
+    tiling: &Tiling,
+    repeated: Option<u64>,
+    part: Option<SubRect>,
+    out: &mut ArrayVec<u8, 9000>,
+)
+    requires { array_vec_len out.old ≤ 8000 }
+    ensures { out.new.items ≡ out.old.items ++ verdict_line tiling.now repeated (option_map rectangle_of part) }
+{
+    push_bytes(b"ok ", out);
+    push_number(tiling.order() as u64, out);
+    out.push(b' ');
+    write_size(tiling.width(), tiling.height(), out);
+    out.push(b' ');
+    push_perfect(repeated, out);
+    out.push(b' ');
+    push_simple(part, out);
+    out.push(b'\n');
+}
+
+// Appends 'perfect', or 'imperfect' and the side.
+fn push_perfect(repeated: Option<u64>, out: &mut ArrayVec<u8, 9000>)
+    requires { array_vec_len out.old ≤ 8500 }
+    ensures text { out.new.items ≡ out.old.items ++ perfect_text repeated }
+    ensures short { length (perfect_text repeated) ≤ 30 }
+{
+    match repeated {
+        None => push_bytes(b"perfect", out),
+        Some(side) => {
+            push_bytes(b"imperfect ", out);
+            push_number(side, out);
+        }
+    }
+}
+
+// Appends 'simple', or 'compound' and the rectangle.
+fn push_simple(part: Option<SubRect>, out: &mut ArrayVec<u8, 9000>)
+    requires { array_vec_len out.old ≤ 8500 }
+    ensures text { out.new.items ≡ out.old.items ++ simple_text (option_map rectangle_of part) }
+    ensures short { length (simple_text (option_map rectangle_of part)) ≤ 100 }
+{
+    match part {
+        None => push_bytes(b"simple", out),
+        Some(r) => {
+            push_bytes(b"compound ", out);
+            push_number(r.x, out);
+            out.push(b',');
+            push_number(r.y, out);
+            out.push(b' ');
+            write_size(r.width, r.height, out);
+        }
+    }
+}

@@ -1,0 +1,10 @@
+//! The texts of answers.
+#![tactic(auto)]
+
+mod answer;
+mod refusal;
+#[cfg(test)]
+mod tests;
+
+pub use answer::{a_tiling_has_one_check_line, write_check, write_tiling};
+pub use refusal::{Refused, write_refused};

@@ -1,0 +1,113 @@
+//! Why an item is refused, and the texts that say so.
+
+ghost use Rattle.std.specs.Prelude.{◌≡◌, ◌≤◌, ◌++◌, ◌+◌, ◌∷◌, codes, decimal, flat_map, length};
+ghost use Rattle.arrayvec.specs.ArrayVec.{array_vec_len};
+ghost use Rattle.bk_report.specs.Refusals.{no_text, refusal_line, refusal_text};
+
+use arrayvec::ArrayVec;
+use bk_grammar::{push_bytes, push_number};
+use bk_text::write_size;
+
+/// Why an item is refused. The names and their order are this project's own.
+#[derive(Clone, Copy, Debug, PartialEq, Eq)]
+pub enum Refused {
+    /// The line is too long.
+    Long,
+    /// The line is outside its grammar, and leaves it behind so many bytes.
+    Text { at: usize },
+    /// There are too many sides, wires or squares of a word.
+    Many,
+    /// Another order is stated than the number of sides.
+    Order { sides: usize },
+    /// The sum of a group, counted from 1, isn't the width of the gap.
+    Gap { group: usize, gap: u64, sum: u64 },
+    /// All groups fit, and the depths in the end lie between these two.
+    Open { least: u64, greatest: u64 },
+    /// Another size is stated than that of the tiling.
+    Size { width: u64, height: u64 },
+    /// The drawing would be too large.
+    Large,
+    /// A net can't have so many nodes.
+    Nodes { count: u64 },
+    /// A wire, counted from 1, has a node that isn't there, or one node twice.
+    Wire { place: usize },
+    /// A node isn't joined to the last one by wires.
+    Loose { node: u16 },
+    /// A number of the stated elimination is too wide.
+    Wide,
+    /// No tiling has the word.
+    Nothing,
+    /// A move, counted from 1, is illegal.
+    Illegal { place: usize },
+    /// The word isn't complete.
+    Unfinished,
+    /// No more items are kept.
+    More,
+}
+
+/// Clears the buffer and leaves the line of a refusal, with its line feed.
+pub fn write_refused(refused: &Refused, out: &mut ArrayVec<u8, 9000>)
+    ensures { out.new.items ≡ refusal_line refused.now }
+{
+    out.clear();
+    push_refusal(refused, out);
+    out.push(b'\n');
+}
+
+// Appends the text of a refusal.
+fn push_refusal(refused: &Refused, out: &mut ArrayVec<u8, 9000>)
+    requires { array_vec_len out.old ≤ 8000 }
+    ensures text { out.new.items ≡ out.old.items ++ refusal_text refused.now }
+    ensures short { array_vec_len out.new ≤ array_vec_len out.old + 80 }
+{
+    match *refused {
+        Refused::Long => push_bytes(b"no long", out),
+        Refused::Text { at } => push_no(b"text", &[at as u64], out),
+        Refused::Many => push_bytes(b"no many", out),
+        Refused::Order { sides } => push_no(b"order", &[sides as u64], out),
+        Refused::Gap { group, gap, sum } => push_no(b"gap", &[group as u64, gap, sum], out),
+        Refused::Open { least, greatest } => push_no(b"open", &[least, greatest], out),
+        Refused::Size { width, height } => {
+            push_bytes(b"no size ", out);
+            write_size(width, height, out);
+        }
+        Refused::Large => push_bytes(b"no large", out),
+        Refused::Nodes { count } => push_no(b"nodes", &[count], out),
+        Refused::Wire { place } => push_no(b"wire", &[place as u64], out),
+        Refused::Loose { node } => push_no(b"loose", &[u64::from(node)], out),
+        Refused::Wide => push_bytes(b"wide", out),
+        Refused::Nothing => push_bytes(b"none", out),
+        Refused::Illegal { place } => {
+            push_bytes(b"illegal ", out);
+            push_number(place as u64, out);
+        }
+        Refused::Unfinished => push_bytes(b"unfinished", out),
+        Refused::More => push_bytes(b"no more", out),
+    }
+}
+
+// Appends 'no', what is refused, and its numbers.
+fn push_no(what: &[u8], numbers: &[u64], out: &mut ArrayVec<u8, 9000>)
+    requires room { array_vec_len out.old ≤ 8000 }
+    requires word { length what.now ≤ 5 }
+    requires few { length numbers.now ≤ 3 }
+    ensures text { out.new.items ≡ out.old.items ++ no_text what.now numbers.now }
+    ensures short { array_vec_len out.new ≤ array_vec_len out.old + 71 }
+{
+    push_bytes(b"no ", out);
+    push_bytes(what, out);
+    push_numbers(numbers, out);
+}
+
+// Appends numbers, with a blank before each.
+fn push_numbers(numbers: &[u64], out: &mut ArrayVec<u8, 9000>)
+    requires room { array_vec_len out.old ≤ 8800 }
+    requires few { length numbers.now ≤ 3 }
+    ensures text { out.new.items ≡ out.old.items ++ flat_map (λ n. 32 ∷ decimal n) numbers.now }
+    ensures short { array_vec_len out.new ≤ array_vec_len out.old + 63 }
+{
+    for number in numbers {
+        out.push(b' ');
+        push_number(*number, out);
+    }
+}

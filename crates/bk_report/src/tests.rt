@@ -1,0 +1,71 @@
+//! Lines as they are written.
+
+use crate::{Refused, write_check, write_refused, write_tiling};
+use arrayvec::ArrayVec;
+use bk_tiling::{Square, Tiling};
+use std::test::Fail;
+
+#[test]
+fn refusals_have_their_texts(rt: HostRuntime) -> Result<(), Fail> {
+    let mut line = ArrayVec::new();
+    for (refused, text) in [
+        (Refused::Long, "no long\n"),
+        (Refused::Text { at: 0 }, "no text 0\n"),
+        (Refused::Many, "no many\n"),
+        (Refused::Order { sides: 9 }, "no order 9\n"),
+        (
+            Refused::Gap {
+                group: 2,
+                gap: 15,
+                sum: 16,
+            },
+            "no gap 2 15 16\n",
+        ),
+        (
+            Refused::Open {
+                least: 23,
+                greatest: 32,
+            },
+            "no open 23 32\n",
+        ),
+        (
+            Refused::Size {
+                width: 33,
+                height: 32,
+            },
+            "no size 33x32\n",
+        ),
+        (Refused::Large, "no large\n"),
+        (Refused::Nodes { count: 202 }, "no nodes 202\n"),
+        (Refused::Wire { place: 2 }, "no wire 2\n"),
+        (Refused::Loose { node: 65_535 }, "no loose 65535\n"),
+        (Refused::Wide, "wide\n"),
+        (Refused::Nothing, "none\n"),
+        (Refused::Illegal { place: 1 }, "illegal 1\n"),
+        (Refused::Unfinished, "unfinished\n"),
+        (Refused::More, "no more\n"),
+    ] {
+        write_refused(&refused, &mut line);
+        assert_eq!(rt; line.as_slice(), text.as_bytes());
+    }
+    Ok(())
+}
+
+#[test]
+fn a_tiling_has_its_lines(rt: HostRuntime) -> Result<(), Fail> {
+    let squares = [
+        Square { x: 0, y: 0, s: 2 },
+        Square { x: 2, y: 0, s: 1 },
+        Square { x: 2, y: 1, s: 1 },
+    ];
+    let tiling = Tiling::try_new(3, 2, &squares)?;
+    let mut line = ArrayVec::new();
+    write_tiling(&tiling, &mut line);
+    assert_eq!(rt; line.as_slice(), b"3x2 [2,1][1]\n".as_slice());
+    write_check(&tiling, &mut line);
+    assert_eq!(rt;
+        line.as_slice(),
+        b"ok 3 3x2 imperfect 1 compound 2,0 1x2\n".as_slice()
+    );
+    Ok(())
+}
