@@ -1,0 +1,7 @@
+pub mod Words
+pub mod Item
+pub mod Refusing
+pub mod Answer
+pub mod AnswerLaws
+pub mod EmptyLine
+pub mod Running

@@ -1,0 +1,76 @@
+-- What a run does with its words, its source and its sinks, and which status it ends with.
+use Rattle.std.specs.Prelude.{List, Option, String, false, true, ℕ, ◌≡◌, ◌≢◌, ◌⊎◌}
+use Rattle.std.specs.declared.alloc.Global.{Global}
+use Rattle.std.specs.Io.KnownBytes.{Appends}
+use Rattle.bk_ports.specs.Causes.{AppendsPrefix, Rose}
+use Rattle.bk_lines.specs.Ending.{IsAnswered, IsCutOff, IsBroken, IsCutShort, IsTooMany, IsUndisturbed, Rules, Told}
+use Rattle.bk_lines.specs.declared.Ended.{Ended}
+use Rattle.bk_lines.specs.declared.Ended.TheVariants.{NoMemory, NoneRefused, ReadFailed, SomeRefused, TooMany, WriteFailed}
+use Rattle.bk_top.specs.Answer.{AnswersLine, MayWant}
+use Rattle.bk_top.specs.Words.{Asks, AsksNothing, usage}
+use Rattle.bk_top.specs.declared.command.Command.{Command}
+
+-- what stands outside: the bytes that the source has left, that `out` has taken and that `err` has taken, where they
+-- tell them, and each one's count of faults
+pub record Outside : Type 0 where
+  pub left : Option (List ℕ)
+  pub read_faults : ℕ
+  pub written : Option (List ℕ)
+  pub write_faults : ℕ
+  pub errors : Option (List ℕ)
+  pub error_faults : ℕ
+
+-- which answers lines may have
+abbrev pub rules_of : Command → Rules
+rules_of command = record { answers = AnswersLine command; may_want = MayWant command }
+
+-- what source and `out` tell, before and after a run
+abbrev pub told : Outside → Outside → Told
+told before after =
+    record { left = before.left; left_after = after.left; written = before.written; written_after = after.written }
+
+-- the status for each ending
+abbrev pub status_of : Ended → ℕ
+status_of NoneRefused = 0
+status_of SomeRefused = 1
+status_of ReadFailed = 3
+status_of WriteFailed = 4
+status_of NoMemory = 6
+status_of TooMany = 7
+
+-- the run of a command that answers lines
+pub record AnswersLines (command : Command) (before after : Outside) (status : ℕ) : Type 0 where
+  -- what was read and what stands written at each status
+  pub all_accepted : status ≡ 0 → IsAnswered (rules_of command) (told before after) false
+  pub some_refused : status ≡ 1 → IsAnswered (rules_of command) (told before after) true
+  pub read_failed : status ≡ 3 → IsCutOff (rules_of command) (told before after)
+  pub write_failed : status ≡ 4 → IsBroken (rules_of command) (told before after)
+  pub memory_wanting : status ≡ 6 → IsCutShort (rules_of command) (told before after)
+  pub too_many : status ≡ 7 → IsTooMany (rules_of command) (told before after)
+  -- there is no other status
+  pub no_other : (ended : Ended) × (status ≡ status_of ended)
+  -- where no call fails, no memory is wanting and at most 2^30 bytes come, the lines decide
+  pub complete : IsUndisturbed (rules_of command) before.left before.read_faults after.read_faults before.write_faults
+      after.write_faults → (status ≡ 0) ⊎ (status ≡ 1)
+  -- the counts of faults, whatever is told of the bytes
+  pub read_rose : status ≡ 3 → Rose before.read_faults after.read_faults
+  pub read_kept : status ≢ 3 → after.read_faults ≡ before.read_faults
+  pub write_rose : status ≡ 4 → Rose before.write_faults after.write_faults
+  pub write_kept : status ≢ 4 → after.write_faults ≡ before.write_faults
+
+-- one call wrote this text: all of it stands there and the count is as it was, or a beginning of it stands there and
+-- the count rose
+abbrev pub WritesErrors : List ℕ → Outside → Outside → Type 0
+WritesErrors text before after =
+    (Appends before.errors after.errors text × (after.error_faults ≡ before.error_faults))
+    ⊎ (AppendsPrefix before.errors after.errors text × Rose before.error_faults after.error_faults)
+
+-- nothing was written on errors
+abbrev pub NoErrors : Outside → Outside → Type 0
+NoErrors before after = (after.errors ≡ before.errors) × (after.error_faults ≡ before.error_faults)
+
+-- a whole run
+pub record IsRun (words : List (String Global)) (before after : Outside) (status : ℕ) : Type 0 where
+  pub status_2_asks_nothing : status ≡ 2 → AsksNothing words
+  pub nothing_asked : AsksNothing words → (status ≡ 2) × WritesErrors usage before after
+  pub lines : (command : Command) → Asks words command → AnswersLines command before after status × NoErrors before after

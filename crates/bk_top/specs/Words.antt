@@ -1,0 +1,21 @@
+-- What the words of a command line ask.
+use Rattle.std.specs.Prelude.{List, String, [], codes, map, string_bytes, ℕ, ◌∷◌, ◌≡◌}
+use Rattle.std.specs.declared.alloc.Global.{Global}
+use Rattle.bk_top.specs.declared.command.Command.{Command}
+use Rattle.bk_top.specs.declared.command.Command.TheVariants.{Check}
+
+-- the word that names a command
+abbrev pub name_of : Command → List ℕ
+name_of Check = codes "check"
+
+-- the words ask that this command answers lines: they are its name alone
+abbrev pub Asks : List (String Global) → Command → Type 0
+Asks words command = map string_bytes words ≡ name_of command ∷ []
+
+-- the words ask nothing
+abbrev pub AsksNothing : List (String Global) → Type 0
+AsksNothing words = (command : Command) → Asks words command → ⊥
+
+-- what is written on errors where the words ask nothing
+abbrev pub usage : List ℕ
+usage = codes "usage: bouwkamp COMMAND [--NAME VALUE]...\n"

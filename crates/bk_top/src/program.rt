@@ -1,0 +1,70 @@
+//! The run of the program.
+
+ghost use Rattle.std.specs.Prelude.{◌≡◌, ◌≢◌};
+ghost use Rattle.bk_top.specs.Running.{IsRun, status_of};
+
+use crate::asked::command_asked;
+use bk_lines::{Ended, answer_lines};
+use bk_ports::{Sink, Source};
+use std::alloc::Global;
+
+// What is written on errors where the words ask nothing.
+const USAGE: &[u8; 42] = b"usage: bouwkamp COMMAND [--NAME VALUE]...\n";
+
+/// Does what the words of the command line ask, without the program's name, and gives the status. The commands, their
+/// answers and the statuses are this project's own.
+///
+/// A command that answers lines reads the source to its end. Its status is 0 where all lines are answered and none is
+/// refused, 1 where at least one is refused, 3 after a failed read, 4 after a failed write, 6 where memory is wanting
+/// and 7 where the input has more than 2^30 bytes. Where the words ask nothing, `err` gets the line of usage, the
+/// status is 2, and source and `out` are as they were.
+pub fn run<S: Source, O: Sink, E: Sink>(
+    _alloc: Global,
+    words: &[String],
+    source: &mut S,
+    out: &mut O,
+    err: &mut E,
+) -> u8
+    ensures ran { IsRun words.now
+        (record {
+          left = S.left source.old;
+          read_faults = S.faults source.old;
+          written = O.written out.old;
+          write_faults = O.faults out.old;
+          errors = E.written err.old;
+          error_faults = E.faults err.old;
+        })
+        (record {
+          left = S.left source.new;
+          read_faults = S.faults source.new;
+          written = O.written out.new;
+          write_faults = O.faults out.new;
+          errors = E.written err.new;
+          error_faults = E.faults err.new;
+        })
+        result }
+    ensures untouched { result ≡ 2 → (source.new ≡ source.old) × (out.new ≡ out.old) }
+    ensures silent { result ≢ 2 → err.new ≡ err.old }
+{
+    match command_asked(words) {
+        Some(command) => status(answer_lines(&command, source, out)),
+        None => {
+            let _ = err.write_all(USAGE);
+            2
+        }
+    }
+}
+
+// The status that a run over lines ends with.
+fn status(ended: Ended) -> u8
+    ensures { result ≡ status_of ended }
+{
+    match ended {
+        Ended::NoneRefused => 0,
+        Ended::SomeRefused => 1,
+        Ended::ReadFailed => 3,
+        Ended::WriteFailed => 4,
+        Ended::NoMemory => 6,
+        Ended::TooMany => 7,
+    }
+}
