@@ -2,13 +2,13 @@
 #![tactic(auto)]
 
 ghost use Rattle.std.specs.List.Sorted.{IsNonDecreasing, IsPermutation};
-ghost use Rattle.std.specs.Prelude.{IfNone, IfSome, IsNone, IsSome, IsTrue, count_by, length, nat_le, slice_get, slice_index, ℕ, ⊤, ◌&&◌, ◌+◌, ◌<◌, ◌^◌, ◌||◌, ◌↔◌, ◌≡◌, ◌≢◌, ◌≤◌};
+ghost use Rattle.std.specs.Prelude.{IfNone, IfSome, IsNone, IsSome, count_by, length, nat_le, ◌&&◌, ◌+◌, ◌<◌, ◌^◌, ◌||◌, ◌↔◌, ◌≡◌, ◌≢◌};
 ghost use Rattle.bk_simple.specs.Border.{IsUncut, is_inside, is_outside, rectangle_of};
 ghost use Rattle.bk_simple.specs.FirstLaws.{AFirstPartIsOne, ALeastRepeatedSideIsOne};
 ghost use Rattle.bk_simple.specs.Neighbours.{IsFirstTwice, NoneTwice};
 ghost use Rattle.bk_simple.specs.Simple.{IsFirstPart, IsLeastRepeated, IsPart, IsPerfect, IsSimple, top_left};
 ghost use Rattle.bk_simple.specs.Corners.{IsBetween, IsFirstPartFrom, IsPartAt};
-ghost use Rattle.bk_tiling.specs.Tiling.{Rectangle, order, sides_of};
+ghost use Rattle.bk_tiling.specs.Tiling.{Rectangle, sides_of};
 
 use arrayvec::ArrayVec;
 use bk_tiling::{MOST_SQUARES, Square, Tiling};

@@ -1,0 +1,207 @@
+-- Where the counts stand among the bytes of a word.
+use Rattle.std.specs.List.{AllByRecursion}
+use Rattle.std.specs.Prelude.{List, Some, [], cond, count_by, drop, false, length, map, refl, slice_get, suc, take, true, zero, ℕ, ◌++◌, ◌+◌, ◌-◌, ◌<◌, ◌∷◌, ◌≡◌, ◌≤◌}
+use Rattle.std.proofs.Common.{Bool, ap, arith, get_or, length-append, subst, sym, ◌∙◌}
+use Rattle.std.proofs.Math.Seq.{drop-cons, take-append_seam}
+use Rattle.std.proofs.lemmas.Bool.{cond-false, cond-true}
+use Rattle.std.proofs.lemmas.List.{drop_all, length-drop, take-append-drop, take_all}
+use Rattle.std.proofs.lemmas.List.Sums.{sum_by-cons}
+use Rattle.bk_word.specs.KeptWord.{CanStand, IsKeptWord}
+use Rattle.bk_word.specs.Stored.{IsStored, front_signs, is_count, moves_in, sign_byte, sign_of, stored, stored_move}
+use Rattle.bk_word.specs.Word.{Move, Word, order_of}
+use Rattle.bk_word.specs.declared.Sign.{Sign}
+use Rattle.bk_word.proofs.StoredBytes.{order_more, order_one, stored_one}
+
+-- the move whose count stands first
+abbrev pub move_of : ℕ → List ℕ → Move
+move_of b bytes = record { count = b; signs = front_signs bytes }
+
+pub at_count : (b : ℕ) (bytes : List ℕ) → is_count b ≡ true → moves_in (b ∷ bytes) ≡ move_of b bytes ∷ moves_in bytes
+at_count b bytes h = cond-true _ _ _ h
+
+pub at_sign : (b : ℕ) (bytes : List ℕ) → is_count b ≡ false → moves_in (b ∷ bytes) ≡ moves_in bytes
+at_sign b bytes h = cond-false _ _ _ h
+
+-- the bytes from a place on
+pub from_place : (bytes : List ℕ) (i : ℕ) → i < length bytes → drop i bytes ≡ get_or bytes i 0 ∷ drop (i + 1) bytes
+from_place bytes i within = let next : suc i ≡ i + 1 = omega arith in drop-cons bytes i 0 within ∙ ap (λ (k : ℕ). get_or bytes i 0 ∷ drop k bytes) next
+
+pub count_here : (bytes : List ℕ) (i : ℕ) → i < length bytes → is_count (get_or bytes i 0) ≡ true → moves_in (drop i bytes) ≡ move_of (get_or bytes i 0) (drop (i + 1) bytes) ∷ moves_in (drop (i + 1) bytes)
+count_here bytes i within h = ap moves_in (from_place bytes i within) ∙ at_count (get_or bytes i 0) (drop (i + 1) bytes) h
+
+pub sign_here : (bytes : List ℕ) (i : ℕ) → i < length bytes → is_count (get_or bytes i 0) ≡ false → moves_in (drop i bytes) ≡ moves_in (drop (i + 1) bytes)
+sign_here bytes i within h = ap moves_in (from_place bytes i within) ∙ at_sign (get_or bytes i 0) (drop (i + 1) bytes) h
+
+-- the signs from a place on
+pub no_sign_here : (bytes : List ℕ) (i : ℕ) → i < length bytes → is_count (get_or bytes i 0) ≡ true → front_signs (drop i bytes) ≡ []
+no_sign_here bytes i within h = ap front_signs (from_place bytes i within) ∙ cond-true _ _ _ h
+
+pub further_sign : (bytes : List ℕ) (i : ℕ) → i < length bytes → is_count (get_or bytes i 0) ≡ false → front_signs (drop i bytes) ≡ sign_of (get_or bytes i 0) ∷ front_signs (drop (i + 1) bytes)
+further_sign bytes i within h = ap front_signs (from_place bytes i within) ∙ cond-false _ _ _ h
+
+-- as many counts as moves
+pub counts_moves : (bytes : List ℕ) → count_by is_count bytes ≡ length (moves_in bytes)
+counts_moves [] = refl
+counts_moves (b ∷ bytes) = cases (is_count b) refl (counts_moves bytes)
+  where
+    cases : (t : Bool) → is_count b ≡ t → count_by is_count bytes ≡ length (moves_in bytes) → count_by is_count (b ∷ bytes) ≡ length (moves_in (b ∷ bytes))
+    cases true h others = omega (arith, sum_by-cons (λ (k : ℕ). cond {A = ℕ} (is_count k) 1 0) b bytes, cond-true {A = ℕ} (is_count b) 1 0 h, others, ap (λ (w : Word). length w) (at_count b bytes h))
+    cases false h others = omega (arith, sum_by-cons (λ (k : ℕ). cond {A = ℕ} (is_count k) 1 0) b bytes, cond-false {A = ℕ} (is_count b) 1 0 h, others, ap (λ (w : Word). length w) (at_sign b bytes h))
+
+-- the move at a place
+pub first_dropped : (w : Word) (i : ℕ) (m : Move) (rest : Word) → drop i w ≡ m ∷ rest → slice_get w i ≡ Some m
+first_dropped [] zero m rest e = absurd (cc)
+first_dropped [] (suc i) m rest e = absurd (cc)
+first_dropped (n ∷ w) zero m rest e = let same : n ≡ m = cc in ap (λ (k : Move). Some k) same
+first_dropped (n ∷ w) (suc i) m rest e = first_dropped w i m rest e
+
+pub stands_dropped : (w : Word) (i : ℕ) (m : Move) (rest : Word) → drop i w ≡ m ∷ rest → AllByRecursion CanStand w → CanStand m
+stands_dropped [] zero m rest e all = absurd (cc)
+stands_dropped [] (suc i) m rest e all = absurd (cc)
+stands_dropped (n ∷ w) zero m rest e all = let same : n ≡ m = cc in subst CanStand same all.0
+stands_dropped (n ∷ w) (suc i) m rest e all = stands_dropped w i m rest e all.1
+
+pub few_dropped : (w : Word) (i : ℕ) (m : Move) (rest : Word) → drop i w ≡ m ∷ rest → m.count ≤ order_of w
+few_dropped [] zero m rest e = absurd (cc)
+few_dropped [] (suc i) m rest e = absurd (cc)
+few_dropped (n ∷ w) zero m rest e = let same : n ≡ m = cc in subst (λ (k : Move). k.count ≤ order_of (n ∷ w)) same (omega (arith, order_more n w))
+few_dropped (n ∷ w) (suc i) m rest e = omega (arith, order_more n w, few_dropped w i m rest e)
+
+-- the last move is taken off
+append_same : (a b x y : List ℕ) → length x ≡ length y → a ++ x ≡ b ++ y → a ≡ b
+append_same [] [] x y n e = refl
+append_same [] (c ∷ b) x y n e = absurd (omega (arith, length-append b y, ap (λ (l : List ℕ). length l) e))
+append_same (c ∷ a) [] x y n e = absurd (omega (arith, length-append a x, ap (λ (l : List ℕ). length l) e))
+append_same (c ∷ a) (d ∷ b) x y n e =
+    let first : c ≡ d = cc in
+    let others : a ++ x ≡ b ++ y = cc in
+    λ i. first i ∷ append_same a b x y n others i
+
+front_before : (a : List ℕ) (c : ℕ) (rest : List ℕ) → is_count c ≡ true → front_signs (a ++ c ∷ rest) ≡ front_signs a
+front_before [] c rest h = cond-true _ _ _ h
+front_before (b ∷ a) c rest h = ap (λ (l : List Sign). cond (is_count b) [] (sign_of b ∷ l)) (front_before a c rest h)
+
+moves_before : (a : List ℕ) (c : ℕ) (rest : List ℕ) → is_count c ≡ true → moves_in (a ++ c ∷ rest) ≡ moves_in a ++ moves_in (c ∷ rest)
+moves_before [] c rest h = refl
+moves_before (b ∷ a) c rest h = cases (is_count b) refl (moves_before a c rest h)
+  where
+    cases : (t : Bool) → is_count b ≡ t → moves_in (a ++ c ∷ rest) ≡ moves_in a ++ moves_in (c ∷ rest) → moves_in (b ∷ a ++ c ∷ rest) ≡ moves_in (b ∷ a) ++ moves_in (c ∷ rest)
+    cases true low others =
+        at_count b (a ++ c ∷ rest) low
+        ∙ (λ i. record { count = b; signs = front_before a c rest h i } ∷ others i)
+        ∙ ap (λ (w : Word). w ++ moves_in (c ∷ rest)) (sym (at_count b a low))
+    cases false high others = at_sign b (a ++ c ∷ rest) high ∙ others ∙ ap (λ (w : Word). w ++ moves_in (c ∷ rest)) (sym (at_sign b a high))
+
+all_signs : (bytes : List ℕ) → moves_in bytes ≡ [] → length (map sign_byte (front_signs bytes)) ≡ length bytes
+all_signs [] e = refl
+all_signs (b ∷ bytes) e = cases (is_count b) refl (all_signs bytes)
+  where
+    cases : (t : Bool) → is_count b ≡ t → (moves_in bytes ≡ [] → length (map sign_byte (front_signs bytes)) ≡ length bytes) → length (map sign_byte (front_signs (b ∷ bytes))) ≡ length (b ∷ bytes)
+    cases true h others = let is : move_of b bytes ∷ moves_in bytes ≡ [] = sym (at_count b bytes h) ∙ e in absurd (cc)
+    cases false h others =
+        let fewer : moves_in bytes ≡ [] = sym (at_sign b bytes h) ∙ e in
+        ap (λ (l : List Sign). length (map sign_byte l)) (cond-false _ _ _ h) ∙ ap (λ (n : ℕ). suc n) (others fewer)
+
+all_front : (v w : Word) → AllByRecursion CanStand (v ++ w) → AllByRecursion CanStand v
+all_front [] w all = tt
+all_front (m ∷ v) w all = (all.0, all_front v w all.1)
+
+-- what stands before the last count
+pub last_off : (a : List ℕ) (c : ℕ) (rest : List ℕ) → is_count c ≡ true → moves_in rest ≡ [] → IsStored (a ++ c ∷ rest) → (moves_in (a ++ c ∷ rest) ≡ moves_in a ++ move_of c rest ∷ []) × IsStored a
+last_off a c rest h none s =
+    let moves : moves_in (a ++ c ∷ rest) ≡ moves_in a ++ move_of c rest ∷ [] =
+    moves_before a c rest h ∙ ap (λ (w : Word). moves_in a ++ w) (at_count c rest h ∙ ap (λ (w : Word). move_of c rest ∷ w) none) in
+    let kept : IsKeptWord (moves_in a ++ move_of c rest ∷ []) = subst IsKeptWord moves s.kept in
+    let whole : a ++ c ∷ rest ≡ stored (moves_in a) ++ stored_move (move_of c rest) = s.same ∙ ap stored moves ∙ stored_one (moves_in a) (move_of c rest) in
+    let long : length (c ∷ rest) ≡ length (stored_move (move_of c rest)) = ap (λ (n : ℕ). suc n) (sym (all_signs rest none)) in (
+      moves,
+      record {
+        same = append_same a (stored (moves_in a)) (c ∷ rest) (stored_move (move_of c rest)) long whole;
+        kept = record { moves = all_front (moves_in a) (move_of c rest ∷ []) kept.moves; few = omega (arith, kept.few, order_one (moves_in a) (move_of c rest)) };
+      },
+    )
+
+-- one iteration of the search of a count
+pub count_passed : (bytes : List ℕ) (k i left : ℕ) → k < length bytes → left ≤ i → 0 < left → is_count (get_or bytes k 0) ≡ true → moves_in (drop k bytes) ≡ drop (i - left) (moves_in bytes)
+    → moves_in (drop (k + 1) bytes) ≡ drop (i - (left - 1)) (moves_in bytes)
+count_passed bytes k i left within few some h e =
+    let next : drop (i - left) (moves_in bytes) ≡ move_of (get_or bytes k 0) (drop (k + 1) bytes) ∷ moves_in (drop (k + 1) bytes) = sym e ∙ count_here bytes k within h in
+    let more : suc (i - left) ≡ i - (left - 1) = omega arith in
+    sym (tail_dropped (moves_in bytes) (i - left) _ _ next) ∙ ap (λ (n : ℕ). drop n (moves_in bytes)) more
+  where
+    tail_dropped : (w : Word) (n : ℕ) (m : Move) (rest : Word) → drop n w ≡ m ∷ rest → drop (suc n) w ≡ rest
+    tail_dropped [] zero m rest e = absurd (cc)
+    tail_dropped [] (suc n) m rest e = absurd (cc)
+    tail_dropped (k ∷ w) zero m rest e = cc
+    tail_dropped (k ∷ w) (suc n) m rest e = tail_dropped w n m rest e
+
+-- no further count where all bytes were passed
+pub none_left : (bytes : List ℕ) (k i left : ℕ) → length bytes ≤ k → i < length (moves_in bytes) → moves_in (drop k bytes) ≡ drop (i - left) (moves_in bytes) → ⊥
+none_left bytes k i left all some e =
+    let none : drop (i - left) (moves_in bytes) ≡ [] = sym e ∙ ap moves_in (drop_all k bytes all) in
+    omega (arith, length-drop (i - left) (moves_in bytes), ap (λ (w : Word). length w) none)
+
+-- at the last count no move is left behind
+pub none_behind : (bytes : List ℕ) (k : ℕ) → k < length bytes → 0 < length (moves_in bytes) → is_count (get_or bytes k 0) ≡ true → moves_in (drop k bytes) ≡ drop (length (moves_in bytes) - 1) (moves_in bytes) → moves_in (drop (k + 1) bytes) ≡ []
+none_behind bytes k within some h e =
+    let last : move_of (get_or bytes k 0) (drop (k + 1) bytes) ∷ moves_in (drop (k + 1) bytes) ≡ drop (length (moves_in bytes) - 1) (moves_in bytes) = sym (count_here bytes k within h) ∙ e in
+    empty (moves_in (drop (k + 1) bytes)) (omega (arith, length-drop (length (moves_in bytes) - 1) (moves_in bytes), ap (λ (w : Word). length w) last))
+  where
+    empty : (w : Word) → length w ≡ 0 → w ≡ []
+    empty [] e = refl
+    empty (m ∷ w) e = absurd (omega arith)
+
+-- the word without its last move
+pub popped : (bytes : List ℕ) (w : Word) (k : ℕ) → IsStored bytes → moves_in bytes ≡ w → k < length bytes → 0 < length w → is_count (get_or bytes k 0) ≡ true → moves_in (drop k bytes) ≡ drop (length (moves_in bytes) - 1) (moves_in bytes)
+    → (moves_in (take k bytes) ≡ take (length w - 1) w) × IsStored (take k bytes)
+popped bytes w k s is within some h behind =
+    let c : ℕ = get_or bytes k 0 in
+    let none = none_behind bytes k within (subst (λ (v : Word). 0 < length v) (sym is) some) h behind in
+    let whole : take k bytes ++ c ∷ drop (k + 1) bytes ≡ bytes = ap (λ (z : List ℕ). take k bytes ++ z) (sym (from_place bytes k within)) ∙ take-append-drop k bytes in
+    let off = last_off (take k bytes) c (drop (k + 1) bytes) h none (subst IsStored (sym whole) s) in
+    let word : w ≡ moves_in (take k bytes) ++ move_of c (drop (k + 1) bytes) ∷ [] = sym is ∙ ap moves_in (sym whole) ∙ off.0 in
+    (sym (ap (λ (v : Word). take (length v - 1) v) word ∙ front_taken (moves_in (take k bytes)) (move_of c (drop (k + 1) bytes))), off.1)
+  where
+    front_taken : (v : Word) (m : Move) → take (length (v ++ m ∷ []) - 1) (v ++ m ∷ []) ≡ v
+    front_taken v m =
+        let n : length (v ++ m ∷ []) - 1 ≡ length v = omega (arith, length-append v (m ∷ [])) in
+        ap (λ (k : ℕ). take k (v ++ m ∷ [])) n ∙ take-append_seam v (m ∷ [])
+
+-- the move whose count stands at a place
+pub got : (bytes : List ℕ) (w : Word) (i k : ℕ) → IsStored bytes → moves_in bytes ≡ w → k < length bytes → is_count (get_or bytes k 0) ≡ true → moves_in (drop k bytes) ≡ drop i (moves_in bytes)
+    → drop i w ≡ move_of (get_or bytes k 0) (drop (k + 1) bytes) ∷ moves_in (drop (k + 1) bytes)
+got bytes w i k s is within h behind = ap (λ (v : Word). drop i v) (sym is) ∙ sym behind ∙ count_here bytes k within h
+
+pub got_stands : (bytes : List ℕ) (w : Word) (i : ℕ) (m : Move) (rest : Word) → IsStored bytes → moves_in bytes ≡ w → drop i w ≡ m ∷ rest → CanStand m × (m.count ≤ 200)
+got_stands bytes w i m rest s is e =
+    let kept : IsKeptWord w = subst IsKeptWord is s.kept in
+    (stands_dropped w i m rest e kept.moves, omega (arith, kept.few, few_dropped w i m rest e))
+
+-- the bytes from a place to the end
+pub to_end : (bytes : List ℕ) (k : ℕ) → take (length bytes - k) (drop k bytes) ≡ drop k bytes
+to_end bytes k = take_all (length bytes - k) (drop k bytes) (omega (arith, length-drop k bytes))
+
+-- the signs of a move that is kept
+pub few_signs : (bytes : List ℕ) (w : Word) (i : ℕ) (m : Move) (rest : Word) → IsStored bytes → moves_in bytes ≡ w → drop i w ≡ m ∷ rest → length m.signs ≤ 201
+few_signs bytes w i m rest s is e = let h = got_stands bytes w i m rest s is e in omega (arith, h.0.most, h.1)
+
+pub got_move : (S B : List ℕ) (w : Word) (i k : ℕ) (signs : List Sign) → S ≡ B → IsStored B → moves_in B ≡ w → k < length S → is_count (get_or S k 0) ≡ true → moves_in (drop k S) ≡ drop i (moves_in S)
+    → signs ≡ front_signs (take (length S - (k + 1)) (drop (k + 1) S)) → slice_get w i ≡ Some (record { count = get_or S k 0; signs = signs })
+got_move S B w i k signs same s is within h behind e =
+    let word : moves_in S ≡ w = ap moves_in same ∙ is in
+    let read : signs ≡ front_signs (drop (k + 1) S) = e ∙ ap front_signs (to_end S (k + 1)) in
+    first_dropped w i _ _ (got S w i k (subst IsStored (sym same) s) word within h behind) ∙ (λ j. Some (record { count = get_or S k 0; signs = sym read j }))
+
+-- what is left of a word without its last move
+pub record Popped (bytes : List ℕ) (w : Word) : Type 0 where
+  pub moves : moves_in bytes ≡ take (length w - 1) w
+  pub is_stored : IsStored bytes
+
+pub popped_at : (S B left : List ℕ) (w : Word) (n k : ℕ) → S ≡ B → IsStored B → moves_in B ≡ w → n ≡ length w → 0 < length w → k < length S → is_count (get_or S k 0) ≡ true → moves_in (drop k S) ≡ drop (n - 1) (moves_in S) → left ≡ take k B
+    → Popped left w
+popped_at S B left w n k same s is count some within h behind e =
+    let word : moves_in S ≡ w = ap moves_in same ∙ is in
+    let last : moves_in (drop k S) ≡ drop (length (moves_in S) - 1) (moves_in S) = behind ∙ ap (λ (m : ℕ). drop (m - 1) (moves_in S)) (count ∙ ap (λ (v : Word). length v) (sym word)) in
+    let off = popped S w k (subst IsStored (sym same) s) word within some h last in
+    let left_is : left ≡ take k S = e ∙ ap (λ (z : List ℕ). take k z) (sym same) in
+    record { moves = ap moves_in left_is ∙ off.0; is_stored = subst IsStored (sym left_is) off.1 }

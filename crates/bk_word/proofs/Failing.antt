@@ -1,0 +1,11 @@
+-- What is known of a call that failed, or did not.
+use Rattle.std.specs.Prelude.{Err, IsOk, Ok, OnOk, Result, false, true, ◌≡◌}
+use Rattle.std.specs.Result.{is_err}
+
+pub on_ok : {T E : Type 0} (r : Result T E) (P : Type 0) → OnOk r P → is_err r ≡ false → P
+on_ok (Ok v) P h e = h
+on_ok (Err f) P h e = absurd (cc)
+
+pub no_err : {T E : Type 0} (r : Result T E) → IsOk r → is_err r ≡ true → false ≡ true
+no_err (Ok v) h e = e
+no_err (Err f) h e = h

@@ -1,0 +1,38 @@
+-- What was taken of a text is the word that it is the text of.
+use Rattle.std.specs.List.{AllByRecursion}
+use Rattle.std.specs.Prelude.{List, [], ℕ, ◌∷◌, ◌<◌, ◌≡◌, ◌≤◌}
+use Rattle.std.proofs.Common.{arith, inl, inr, subst, sym, ◌∙◌, ◌⊎◌}
+use Rattle.bk_word.specs.KeptWord.{CanStand, IsKeptWord}
+use Rattle.bk_word.specs.Stored.{IsStored, moves_in}
+use Rattle.bk_word.specs.Taken.{KeepsTextOf}
+use Rattle.bk_word.specs.Word.{Word, order_of}
+use Rattle.bk_word.specs.WordText.{IsTextOf, IsWrittenMove}
+use Rattle.bk_word.specs.declared.reading.Taken.{Taken}
+use Rattle.bk_word.proofs.StoredBytes.{stored_kept}
+
+all_stand : (w : Word) → AllByRecursion IsWrittenMove w → AllByRecursion CanStand w
+all_stand [] all = tt
+all_stand (m ∷ w) all = (all.0.stands, all_stand w all.1)
+
+-- the word of a text, of at most 200 squares, and its bytes
+pub record HasBytes (text bytes : List ℕ) : Type 0 where
+  pub is : IsTextOf text (moves_in bytes)
+  pub are_stored : IsStored bytes
+  pub few : order_of (moves_in bytes) ≤ 200
+
+pub bytes_kept : (text bytes : List ℕ) (t : Taken) → KeepsTextOf text t → t.order ≤ 200 → bytes ≡ t.bytes.items → HasBytes text bytes
+bytes_kept text bytes t (w, is, keeps) few same =
+    let order : order_of w ≤ 200 = omega (arith, few, keeps.order) in
+    let kept : IsKeptWord w = record { moves = all_stand w is.moves; few = order } in
+    let s = stored_kept bytes w (same ∙ keeps.bytes order) kept in
+    record { is = subst (IsTextOf text) (sym s.0) is; are_stored = s.1; few = subst (λ (v : Word). order_of v ≤ 200) (sym s.0) order }
+
+two : (a b : ℕ) → (a < b) ⊎ (b ≤ a)
+two a b = grind arith
+
+-- a word that takes memory has more than 16 squares
+pub many_squares : (w : Word) → (order_of w ≤ 16 → ⊥) → 16 < order_of w
+many_squares w h = elim (two 16 (order_of w)) [
+  | inl more ↦ more
+  | inr few ↦ absurd (h few)
+]

@@ -1,0 +1,13 @@
+pub mod ListLaws
+pub mod WordOrder
+pub mod WordExamples
+pub mod StoredBytes
+pub mod StoredOrder
+pub mod CountPlaces
+pub mod WordsRead
+pub mod WordsSpelled
+pub mod Failing
+pub mod WordPieces
+pub mod WordProgress
+pub mod ItemParts
+pub mod KeptTexts

@@ -1,0 +1,111 @@
+-- The bytes of a word are those of one word, and few.
+use Rattle.std.specs.List.{AllByRecursion}
+use Rattle.std.specs.Prelude.{List, [], length, map, refl, true, ℕ, ◌*◌, ◌++◌, ◌+◌, ◌<◌, ◌∷◌, ◌≡◌, ◌≤◌}
+use Rattle.std.proofs.Common.{ap, arith, length-append, subst, sym, ◌∙◌}
+use Rattle.std.proofs.lemmas.Bool.{cond-true, lt-ltb}
+use Rattle.std.proofs.lemmas.Grind.{flat_map-append}
+use Rattle.std.proofs.lemmas.List.{append-nil, length-map}
+use Rattle.std.proofs.lemmas.List.Sums.{sum_by-append, sum_by-cons}
+use Rattle.bk_word.specs.KeptWord.{CanStand, IsKeptWord}
+use Rattle.bk_word.specs.Stored.{IsKeptBuffer, IsStored, front_signs, is_count, moves_in, sign_byte, stored, stored_move}
+use Rattle.bk_word.specs.Word.{Move, Word, order_of}
+use Rattle.bk_word.specs.declared.Sign.{Sign}
+use Rattle.bk_word.specs.declared.Sign.TheVariants.{Above, Even, Under}
+
+-- counts that a byte holds
+abbrev pub AreLow : Word → Type 0
+AreLow w = AllByRecursion (λ (m : Move). m.count < 201) w
+
+pub order_more : (m : Move) (w : Word) → order_of (m ∷ w) ≡ m.count + order_of w
+order_more m w = sum_by-cons (λ (k : Move). k.count) m w
+
+pub few_low : (w : Word) → order_of w ≤ 200 → AreLow w
+few_low [] few = tt
+few_low (m ∷ w) few = (omega (arith, order_more m w), few_low w (omega (arith, order_more m w)))
+
+pub count_first : (m : Move) → m.count < 201 → is_count m.count ≡ true
+count_first m low = lt-ltb m.count 201 low
+
+-- what stands behind the byte of a sign
+sign_next : (s : Sign) (bytes : List ℕ) → (front_signs (sign_byte s ∷ bytes) ≡ s ∷ front_signs bytes) × (moves_in (sign_byte s ∷ bytes) ≡ moves_in bytes)
+sign_next Above bytes = (refl, refl)
+sign_next Even bytes = (refl, refl)
+sign_next Under bytes = (refl, refl)
+
+no_front : (w : Word) → AreLow w → front_signs (stored w) ≡ []
+no_front [] low = refl
+no_front (m ∷ w) low = cond-true _ _ _ (count_first m low.0)
+
+front_read : (ss : List Sign) (w : Word) → AreLow w → front_signs (map sign_byte ss ++ stored w) ≡ ss
+front_read [] w low = no_front w low
+front_read (s ∷ ss) w low = (sign_next s (map sign_byte ss ++ stored w)).0 ∙ ap (λ (l : List Sign). s ∷ l) (front_read ss w low)
+
+front_passed : (ss : List Sign) (bytes : List ℕ) → moves_in (map sign_byte ss ++ bytes) ≡ moves_in bytes
+front_passed [] bytes = refl
+front_passed (s ∷ ss) bytes = (sign_next s (map sign_byte ss ++ bytes)).1 ∙ front_passed ss bytes
+
+abbrev with_front : ℕ → List Sign → Word → Word
+with_front count signs w = record { count = count; signs = signs } ∷ w
+
+-- the stored word is read as itself
+pub read_back : (w : Word) → AreLow w → moves_in (stored w) ≡ w
+read_back [] low = refl
+read_back (m ∷ w) low =
+    cond-true _ _ _ (count_first m low.0)
+    ∙ (λ i. with_front m.count (front_read m.signs w low.1 i) (moves_in (map sign_byte m.signs ++ stored w)))
+    ∙ ap (with_front m.count m.signs) (front_passed m.signs (stored w) ∙ read_back w low.1)
+
+-- bytes that store a word which can be kept
+pub stored_kept : (bytes : List ℕ) (w : Word) → bytes ≡ stored w → IsKeptWord w → (moves_in bytes ≡ w) × IsStored bytes
+stored_kept bytes w is kept =
+    let back : moves_in bytes ≡ w = ap moves_in is ∙ read_back w (few_low w kept.few) in
+    (back, record { same = is ∙ ap stored (sym back); kept = subst IsKeptWord (sym back) kept })
+
+pub stored_append : (v w : Word) → stored (v ++ w) ≡ stored v ++ stored w
+stored_append v w = flat_map-append stored_move v w
+
+pub stored_one : (w : Word) (m : Move) → stored (w ++ m ∷ []) ≡ stored w ++ stored_move m
+stored_one w m = stored_append w (m ∷ []) ∙ ap (λ (z : List ℕ). stored w ++ z) (append-nil (stored_move m))
+
+pub order_append : (v w : Word) → order_of (v ++ w) ≡ order_of v + order_of w
+order_append v w = sum_by-append (λ (k : Move). k.count) v w
+
+pub order_one : (w : Word) (m : Move) → order_of (w ++ m ∷ []) ≡ order_of w + m.count
+order_one w m = omega (arith, order_append w (m ∷ []), order_more m [])
+
+-- a move of n squares has at most 3 n bytes, and so has a word
+pub short : (w : Word) → AllByRecursion (λ (m : Move). (0 < m.count) × (length m.signs ≤ m.count + 1)) w → length (stored w) ≤ 3 * order_of w
+short [] all = omega arith
+short (m ∷ w) all =
+    let bytes : length (stored_move m ++ stored w) ≡ length (stored_move m) + length (stored w) = length-append (stored_move m) (stored w) in
+    let signs : length (map sign_byte m.signs) ≡ length m.signs = length-map m.signs sign_byte in
+    omega (arith, bytes, signs, short w all.1, all.0.0, all.0.1, order_more m w)
+
+pub standing : (w : Word) → AllByRecursion CanStand w → AllByRecursion (λ (m : Move). (0 < m.count) × (length m.signs ≤ m.count + 1)) w
+standing [] all = tt
+standing (m ∷ w) all = ((all.0.some, all.0.most), standing w all.1)
+
+pub kept_short : (bytes : List ℕ) → IsStored bytes → length bytes ≤ 3 * order_of (moves_in bytes)
+kept_short bytes s = subst (λ (z : List ℕ). length z ≤ 3 * order_of (moves_in bytes)) (sym s.same) (short (moves_in bytes) (standing (moves_in bytes) s.kept.moves))
+
+pub all_one : (w : Word) (m : Move) → AllByRecursion CanStand w → CanStand m → AllByRecursion CanStand (w ++ m ∷ [])
+all_one [] m all one = (one, tt)
+all_one (n ∷ w) m all one = (all.0, all_one w m all.1 one)
+
+-- a further move
+pub kept_one : (w : Word) (m : Move) → IsKeptWord w → CanStand m → order_of w + m.count ≤ 200 → IsKeptWord (w ++ m ∷ [])
+kept_one w m kept one few = record { moves = all_one w m kept.moves one; few = omega (arith, order_one w m) }
+
+pub pushed : (bytes : List ℕ) (w : Word) (m : Move) → IsStored bytes → moves_in bytes ≡ w → CanStand m → order_of w + m.count ≤ 200
+    → (moves_in (bytes ++ stored_move m) ≡ w ++ m ∷ []) × IsStored (bytes ++ stored_move m)
+pushed bytes w m s is one few =
+    let kept : IsKeptWord w = subst IsKeptWord is s.kept in
+    stored_kept (bytes ++ stored_move m) (w ++ m ∷ []) (ap (λ (z : List ℕ). z ++ stored_move m) (s.same ∙ ap stored is) ∙ sym (stored_one w m)) (kept_one w m kept one few)
+
+-- a move has room where so few squares are hung
+pub has_room : (bytes : List ℕ) (w : Word) (m : Move) (capacity : ℕ) → IsKeptBuffer bytes capacity → moves_in bytes ≡ w → CanStand m → order_of w + m.count ≤ 16
+    → length bytes + length (stored_move m) ≤ capacity
+has_room bytes w m capacity kept is one few =
+    let signs : length (map sign_byte m.signs) ≡ length m.signs = length-map m.signs sign_byte in
+    let before : length bytes ≤ 3 * order_of w = subst (λ (v : Word). length bytes ≤ 3 * order_of v) is (kept_short bytes kept.stored) in
+    omega (arith, signs, before, kept.room, one.some, one.most)

@@ -1,0 +1,218 @@
+-- How far the text of a word was read, with what was taken of it.
+use Rattle.std.specs.List.{AllByRecursion}
+use Rattle.std.specs.Prelude.{List, None, Option, Some, [], decimal, false, if◌then◌else◌, length, map, nat_le, nat_lt, option_and_then, option_map, refl, replicate, take, true, ℕ, ◌*◌, ◌++◌, ◌+◌, ◌-◌, ◌<◌, ◌==◌, ◌∷◌, ◌≡◌, ◌≤◌}
+use Rattle.std.proofs.Common.{Bool, ap, append_assoc, arith, get_or, length-append, subst, sym, ◌∙◌}
+use Rattle.std.proofs.lemmas.List.{append-nil, length-replicate, map-append, take_all, take_more}
+use Rattle.bk_grammar.specs.Longest.{Begins}
+use Rattle.bk_grammar.proofs.Leaving.{leaves_at_end, leaves_before}
+use Rattle.bk_word.specs.Reader.{kind_of, may_end, next_place}
+use Rattle.bk_word.specs.Taken.{Before, Count, Keeps, KeepsTextOf, Reading, Signs, bare, counted, place_of, step, taken, with_sign}
+use Rattle.bk_word.specs.Word.{Move, Word, order_of}
+use Rattle.bk_word.specs.WordText.{IsNoWordText, IsTextOf, IsWordText, IsWrittenMove, letter, move_text}
+use Rattle.bk_word.specs.declared.Sign.{Sign}
+use Rattle.bk_word.specs.declared.Sign.TheVariants.{Even}
+use Rattle.bk_word.specs.declared.reader.Kind.{Kind}
+use Rattle.bk_word.specs.declared.reader.Kind.TheVariants.{Digit, Dot, Letter, Other}
+use Rattle.bk_word.specs.declared.reader.Place.{Place}
+use Rattle.bk_word.specs.declared.reader.Place.TheVariants.{BeforeCount, InCount, InSigns}
+use Rattle.bk_word.specs.declared.reading.Taken.{Taken}
+use Rattle.bk_word.proofs.StoredBytes.{short}
+use Rattle.bk_word.proofs.WordsRead.{behind, count_read, dotted_read, ended, move_read, read, text_is_read}
+use Rattle.bk_word.proofs.WordsSpelled.{CanBeRead, dotted, further, is_text, spelled, text_found}
+
+-- ---- what was read leads to where the reader stands
+
+dotted_leads : (v w : Word) (x : List ℕ) → AllByRecursion IsWrittenMove w → read (dotted w ++ x) (Before v) ≡ read x (Before (v ++ w))
+dotted_leads v [] x all = ap (λ (z : Word). read x (Before z)) (sym (append-nil v))
+dotted_leads v (m ∷ w) x all =
+    ap (λ (z : List ℕ). read z (Before v)) (append_assoc (move_text m ++ 46 ∷ []) (dotted w) x ∙ append_assoc (move_text m) (46 ∷ []) (dotted w ++ x))
+    ∙ dotted_read v m (dotted w ++ x) all.0
+    ∙ dotted_leads (v ++ m ∷ []) w x all.1
+    ∙ ap (λ (z : Word). read x (Before z)) (append_assoc v (m ∷ []) w)
+
+behind_signs : (w : Word) (m : Move) (ss : List Sign) → 0 < length ss → behind w m ss ≡ Signs w m
+behind_signs w m [] some = absurd (omega arith)
+behind_signs w m (s ∷ ss) some = refl
+
+leads : (r : Reading) (x : List ℕ) → CanBeRead r → read (spelled r ++ x) (Before []) ≡ read x r
+leads (Before w) x can = dotted_leads [] w x can
+leads (Count w c) x can =
+    ap (λ (z : List ℕ). read z (Before [])) (append_assoc (dotted w) (decimal c) x)
+    ∙ dotted_leads [] w (decimal c ++ x) can.0
+    ∙ count_read w c x can.1.0 can.1.1
+leads (Signs w m) x can =
+    ap (λ (z : List ℕ). read z (Before [])) (append_assoc (dotted w) (move_text m) x)
+    ∙ dotted_leads [] w (move_text m ++ x) can.0
+    ∙ move_read w m x can.1.0 can.1.1 can.3
+    ∙ ap (λ (r : Reading). read x r) (behind_signs w m m.signs can.2)
+
+-- ---- what was read begins a text
+
+more_signs : ℕ → List Sign
+more_signs n = replicate n Even
+
+many_signs : (n : ℕ) → length (more_signs n) ≡ n
+unfolding more_signs
+many_signs n = length-replicate n Even
+
+begins : (r : Reading) → CanBeRead r → Begins IsWordText (spelled r)
+begins (Before w) can =
+    let text : IsTextOf (dotted w ++ move_text (bare 1)) (w ++ bare 1 ∷ []) = is_text w (bare 1) can (record { stands = record { some = omega arith; least = omega arith; most = omega arith }; digits = omega arith }) in
+    (move_text (bare 1), (w ++ bare 1 ∷ [], text))
+begins (Count w c) can =
+    let ss : List Sign = more_signs (c - 1) in
+    let n : length (more_signs (c - 1)) ≡ c - 1 = many_signs (c - 1) in
+    let m : Move = record { count = c; signs = more_signs (c - 1) } in
+    let text : IsTextOf (dotted w ++ (decimal c ++ map letter (more_signs (c - 1)))) (w ++ record { count = c; signs = more_signs (c - 1) } ∷ []) =
+    is_text w (record { count = c; signs = more_signs (c - 1) }) can.0 (record { stands = record { some = can.1.0; least = omega (arith, n); most = omega (arith, n) }; digits = can.1.1 }) in
+    (map letter (more_signs (c - 1)), (w ++ record { count = c; signs = more_signs (c - 1) } ∷ [], subst (λ (z : List ℕ). IsTextOf z (w ++ record { count = c; signs = more_signs (c - 1) } ∷ [])) (sym (append_assoc (dotted w) (decimal c) (map letter (more_signs (c - 1))))) text))
+begins (Signs w m) can = filled w m (more_signs (m.count - 1 - length m.signs)) can (many_signs (m.count - 1 - length m.signs))
+  where
+    filled : (w : Word) (m : Move) (ss : List Sign) → CanBeRead (Signs w m) → length ss ≡ m.count - 1 - length m.signs → Begins IsWordText (spelled (Signs w m))
+    filled w m ss can n =
+        let all : length (m.signs ++ ss) ≡ length m.signs + length ss = length-append m.signs ss in
+        let text : IsTextOf (dotted w ++ (decimal m.count ++ map letter (m.signs ++ ss))) (w ++ record { count = m.count; signs = m.signs ++ ss } ∷ []) =
+        is_text w (record { count = m.count; signs = m.signs ++ ss }) can.0 (record { stands = record { some = can.1.0; least = omega (arith, n, all); most = omega (arith, n, all, can.3) }; digits = can.1.1 }) in
+        let same : dotted w ++ (decimal m.count ++ map letter (m.signs ++ ss)) ≡ (dotted w ++ move_text m) ++ map letter ss =
+        ap (λ (z : List ℕ). dotted w ++ (decimal m.count ++ z)) (map-append letter m.signs ss)
+        ∙ ap (λ (z : List ℕ). dotted w ++ z) (sym (append_assoc (decimal m.count) (map letter m.signs) (map letter ss)))
+        ∙ sym (append_assoc (dotted w) (move_text m) (map letter ss)) in
+        (map letter ss, (w ++ record { count = m.count; signs = m.signs ++ ss } ∷ [], subst (λ (z : List ℕ). IsTextOf z (w ++ record { count = m.count; signs = m.signs ++ ss } ∷ [])) same text))
+
+-- ---- the place goes along with what was read
+
+place_when : (test : Bool) (next : Reading) (p : Place) → (test ≡ true → place_of next ≡ p) → option_map place_of (if test then Some next else None) ≡ (if test then Some p else None)
+place_when true next p f = ap (λ (q : Place). Some q) (f refl)
+place_when false next p f = refl
+
+steps_place : (r : Reading) (k : Kind) → CanBeRead r → option_map place_of (step r k) ≡ next_place (place_of r) k
+steps_place (Before w) (Digit d) can = place_when (nat_lt 0 d) (Count w d) (InCount d) (λ h. refl)
+steps_place (Before w) (Letter s) can = refl
+steps_place (Before w) Dot can = refl
+steps_place (Before w) Other can = refl
+steps_place (Count w c) (Digit d) can = place_when (nat_lt c 100) (Count w (c * 10 + d)) (InCount (c * 10 + d)) (λ h. refl)
+steps_place (Count w c) (Letter s) can =
+    let least : c - 1 - 1 ≡ c - 2 = omega arith in
+    let most : c + 1 - 1 ≡ c = omega arith in
+    λ i. Some (InSigns (least i) (most i))
+steps_place (Count w c) Dot can = place_when (nat_le c 1) (Before (w ++ bare c ∷ [])) BeforeCount (λ h. refl)
+steps_place (Count w c) Other can = refl
+steps_place (Signs w m) (Digit d) can = refl
+steps_place (Signs w m) (Letter s) can =
+    let least : m.count - 1 - length (m.signs ++ s ∷ []) ≡ m.count - 1 - length m.signs - 1 = omega (arith, length-append m.signs (s ∷ [])) in
+    let most : m.count + 1 - length (m.signs ++ s ∷ []) ≡ m.count + 1 - length m.signs - 1 = omega (arith, length-append m.signs (s ∷ [])) in
+    place_when (nat_lt 0 (m.count + 1 - length m.signs)) (Signs w (with_sign m s)) (InSigns (m.count - 1 - length m.signs - 1) (m.count + 1 - length m.signs - 1)) (λ h i. InSigns (least i) (most i))
+steps_place (Signs w m) Dot can = place_when ((m.count - 1 - length m.signs) == 0) (Before (w ++ m ∷ [])) BeforeCount (λ h. refl)
+steps_place (Signs w m) Other can = refl
+
+-- where a word may end
+none_when : (test : Bool) (w : Word) → test ≡ false → (if test then Some w else None) ≡ None
+none_when true w e = absurd (cc)
+none_when false w e = refl
+
+some_when : (test : Bool) (w : Word) → test ≡ true → (if test then Some w else None) ≡ Some w
+some_when true w e = refl
+some_when false w e = absurd (cc)
+
+no_end : (r : Reading) → may_end (place_of r) ≡ false → ended r ≡ None
+no_end (Before w) e = refl
+no_end (Count w c) e = none_when (nat_le c 1) (w ++ bare c ∷ []) e
+no_end (Signs w m) e = none_when ((m.count - 1 - length m.signs) == 0) (w ++ m ∷ []) e
+
+an_end : (r : Reading) → may_end (place_of r) ≡ true → ended r ≡ Some (counted r)
+an_end (Before w) e = absurd (cc)
+an_end (Count w c) e = some_when (nat_le c 1) (w ++ bare c ∷ []) e
+an_end (Signs w m) e = some_when ((m.count - 1 - length m.signs) == 0) (w ++ m ∷ []) e
+
+-- ---- progress
+
+pub record Progress (front : List ℕ) (p : Place) (t : Taken) : Type 0 where
+  pub r : Reading
+  pub can : CanBeRead r
+  pub spells : spelled r ≡ front
+  pub place : p ≡ place_of r
+  pub keeps : Keeps (taken r) t
+
+pub at_start : (t : Taken) → Keeps [] t → Progress [] BeforeCount t
+at_start t keeps = record { r = Before []; can = tt; spells = refl; place = refl; keeps = keeps }
+
+from_some : (o : Option Reading) (p : Place) → option_map place_of o ≡ Some p → (next : Reading) × (o ≡ Some next) × (p ≡ place_of next)
+from_some None p e = absurd (cc)
+from_some (Some next) p e = (next, refl, cc)
+
+from_none : (o : Option Reading) → option_map place_of o ≡ None → o ≡ None
+from_none None e = refl
+from_none (Some next) e = absurd (cc)
+
+step_at : (p next : Place) (r : Reading) (k : Kind) → CanBeRead r → p ≡ place_of r → next_place p k ≡ Some next → (to : Reading) × (step r k ≡ Some to) × (next ≡ place_of to)
+step_at p next r k can place e = from_some (step r k) next (steps_place r k can ∙ ap (λ (q : Place). next_place q k) (sym place) ∙ e)
+
+-- one byte further
+pub one_further : (bs : List ℕ) (i : ℕ) (p next : Place) (t more : Taken) → i < length bs → Progress (take i bs) p t → next_place p (kind_of (get_or bs i 0)) ≡ Some next
+    → ((r to : Reading) → p ≡ place_of r → step r (kind_of (get_or bs i 0)) ≡ Some to → Keeps (taken r) t → Keeps (taken to) more) → Progress (take (i + 1) bs) next more
+one_further bs i p next t more within g e keeps =
+    let to = step_at p next g.r (kind_of (get_or bs i 0)) g.can g.place e in
+    let f = further g.r to.0 (get_or bs i 0) g.can to.1 in
+    record {
+      r = to.0;
+      can = f.can;
+      spells = f.spells ∙ ap (λ (z : List ℕ). z ++ get_or bs i 0 ∷ []) g.spells ∙ sym (take_more bs i 0 within);
+      place = to.2;
+      keeps = keeps g.r to.0 g.place to.1 g.keeps;
+    }
+
+-- a byte behind which there is no place begins no rest of a text
+pub stops : (bs : List ℕ) (i : ℕ) (p : Place) (t : Taken) → i < length bs → Progress (take i bs) p t → next_place p (kind_of (get_or bs i 0)) ≡ None → IsNoWordText bs i
+stops bs i p t within g e =
+    let none : step g.r (kind_of (get_or bs i 0)) ≡ None = from_none (step g.r (kind_of (get_or bs i 0))) (steps_place g.r (kind_of (get_or bs i 0)) g.can ∙ ap (λ (q : Place). next_place q (kind_of (get_or bs i 0))) (sym g.place) ∙ e) in
+    leaves_before IsWordText bs i within (subst (Begins IsWordText) g.spells (begins g.r g.can)) (λ x h. no_more x none h)
+  where
+    no_more : (x : List ℕ) → step g.r (kind_of (get_or bs i 0)) ≡ None → ¬ (IsWordText (take i bs ++ get_or bs i 0 ∷ x))
+    no_more x none (w, text) =
+        let found : read (take i bs ++ get_or bs i 0 ∷ x) (Before []) ≡ Some w = text_is_read (take i bs ++ get_or bs i 0 ∷ x) w text in
+        let led : read (take i bs ++ get_or bs i 0 ∷ x) (Before []) ≡ read (get_or bs i 0 ∷ x) g.r = ap (λ (z : List ℕ). read (z ++ get_or bs i 0 ∷ x) (Before [])) (sym g.spells) ∙ leads g.r (get_or bs i 0 ∷ x) g.can in
+        let stuck : read (get_or bs i 0 ∷ x) g.r ≡ None = ap (λ (o : Option Reading). option_and_then (read x) o) none in
+        absurd (cc)
+
+pub whole : (bs : List ℕ) (i : ℕ) (p : Place) (t : Taken) → length bs ≤ i → Progress (take i bs) p t → Progress bs p t
+whole bs i p t all g = subst (λ (z : List ℕ). Progress z p t) (take_all i bs all) g
+
+-- bytes that end where no text may end leave the grammar at their end
+pub stops_at_end : (bs : List ℕ) (p : Place) (t : Taken) → Progress bs p t → may_end p ≡ false → IsNoWordText bs (length bs)
+stops_at_end bs p t g e =
+    leaves_at_end IsWordText bs (subst (Begins IsWordText) g.spells (begins g.r g.can)) (λ h. no_text h)
+  where
+    no_text : ¬ (IsWordText bs)
+    no_text (w, text) =
+        let found : read bs (Before []) ≡ Some w = text_is_read bs w text in
+        let led : read bs (Before []) ≡ ended g.r = ap (λ (z : List ℕ). read z (Before [])) (sym g.spells ∙ sym (append-nil (spelled g.r))) ∙ leads g.r [] g.can in
+        let stuck : ended g.r ≡ None = no_end g.r (ap may_end (sym g.place) ∙ e) in
+        absurd (cc)
+
+-- at an end the bytes are a text
+pub text_kept : (bs : List ℕ) (p : Place) (t last : Taken) → Progress bs p t → may_end p ≡ true → ((r : Reading) → p ≡ place_of r → Keeps (taken r) t → Keeps (counted r) last) → KeepsTextOf bs last
+text_kept bs p t last g e keeps =
+    (counted g.r, subst (λ (z : List ℕ). IsTextOf z (counted g.r)) g.spells (text_found g.r (counted g.r) g.can (an_end g.r (ap may_end (sym g.place) ∙ e))), keeps g.r g.place g.keeps)
+
+-- ---- room
+
+abbrev Short : Word → Type 0
+Short w = AllByRecursion (λ (m : Move). (0 < m.count) × (length m.signs ≤ m.count + 1)) w
+
+all_short : (w : Word) → AllByRecursion IsWrittenMove w → Short w
+all_short [] all = tt
+all_short (m ∷ w) all = ((all.0.stands.some, all.0.stands.most), all_short w all.1)
+
+one_short : (w : Word) (m : Move) → Short w → 0 < m.count → length m.signs ≤ m.count + 1 → Short (w ++ m ∷ [])
+one_short [] m all some most = ((some, most), tt)
+one_short (n ∷ w) m all some most = (all.0, one_short w m all.1 some most)
+
+taken_short : (r : Reading) → CanBeRead r → Short (taken r)
+taken_short (Before w) can = all_short w can
+taken_short (Count w c) can = all_short w can.0
+taken_short (Signs w m) can = one_short w m (all_short w can.0) can.1.0 can.3
+
+pub has_room : (front : List ℕ) (p : Place) (t : Taken) → Progress front p t → t.order ≤ 200 → length t.bytes.items ≤ 600
+has_room front p t g few =
+    let order : order_of (taken g.r) ≤ 200 = omega (arith, few, g.keeps.order) in
+    omega (arith, short (taken g.r) (taken_short g.r g.can), ap (λ (z : List ℕ). length z) (g.keeps.bytes order), order)

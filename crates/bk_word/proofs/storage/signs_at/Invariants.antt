@@ -1,0 +1,6 @@
+use Rattle.std.specs.Prelude.{drop, ◌++◌, ◌≡◌}
+use Rattle.bk_word.specs.Stored.{front_signs}
+use Rattle.bk_word.proofs.storage.signs_at.Given as goal
+
+abbrev pub invariant-loop-byte : goal.invariant-loop-byte
+invariant-loop-byte l = l.signs.items ++ front_signs (drop l.byte-index l.bytes) ≡ front_signs l.bytes

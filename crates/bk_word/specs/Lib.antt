@@ -1,0 +1,11 @@
+pub mod Word
+pub mod KeptWord
+pub mod WordText
+pub mod WordTextLaws
+pub mod WordItem
+pub mod ReadWord
+pub mod Reader
+pub mod Stored
+pub mod Taken
+pub mod Outline
+pub mod Play

@@ -1,0 +1,220 @@
+//! Words: lists of moves that hang squares under valleys.
+#![tactic(auto)]
+
+ghost use Rattle.std.specs.Cmp.{IsTotalOrder};
+ghost use Rattle.std.specs.Prelude.{IfOk, IsOk, OnErr, OnOk, Some, [], length, slice_get, take, ◌+◌, ◌++◌, ◌-◌, ◌<◌, ◌∷◌, ◌≡◌, ◌≤◌};
+ghost use Rattle.bk_word.specs.KeptWord.{CanStand, IsKeptWord};
+ghost use Rattle.bk_word.specs.Stored.{IsStored, moves_in, stored};
+ghost use Rattle.bk_word.specs.Word.{order_of, word_cmp};
+ghost use Rattle.bk_word.specs.WordTextLaws.{ATextIsOfOneWord, AWrittenWordIsRead};
+
+mod item;
+mod reader;
+mod reading;
+mod storage;
+#[cfg(test)]
+mod tests;
+mod writer;
+
+use arrayvec::ArrayVec;
+pub use item::word_item;
+pub use reading::{WordFault, read_word, text_order};
+use smallvec::SmallVec;
+use std::alloc::Global;
+use std::cmp::Ordering;
+use std::marker::Model;
+use storage::{bytes_of, count_place, counts, signs_at, sum_of_counts};
+use thiserror::Error;
+pub use writer::write_word;
+
+/// A word hangs at most so many squares.
+pub const LARGEST_ORDER: usize = 200;
+
+/// A word of at most so many squares takes no memory.
+pub const INLINE_ORDER: usize = 16;
+
+// So many bytes of a word are kept without memory. A word of n squares has at most 3 n bytes.
+const INLINE_BYTES: usize = 64;
+
+/// How the left one of two neighbouring bottoms stands to the right one.
+#[derive(Clone, Copy, Debug, Default, PartialEq, Eq, Drop)]
+pub enum Sign {
+    /// The left one is higher.
+    Above,
+    /// Both are level.
+    #[default]
+    Even,
+    /// The left one is lower.
+    Under,
+}
+
+/// Which simple tilings a catalogue holds.
+#[derive(Clone, Copy, Debug, PartialEq, Eq, Drop)]
+pub enum Class {
+    /// Those whose sides all differ.
+    Perfect,
+    /// Those with two equal sides.
+    Imperfect,
+    /// All.
+    Simple,
+}
+
+/// A move: how many squares are hung under a valley, and the signs between their bottoms and those beside the valley, from
+/// left to right.
+#[derive(Drop)]
+pub struct Move {
+    pub count: u8,
+    pub signs: ArrayVec<Sign, 201>,
+}
+
+impl Model for Move {
+    ghost use Rattle.bk_word.specs.Word.{Move as SeenMove};
+
+    ghost Value = { SeenMove };
+
+    ghost view = { λ m. record { count = m.count; signs = m.signs.items } };
+}
+
+/// There is no memory.
+#[derive(Clone, Copy, Debug, Drop, Error)]
+#[error("NoMemory")]
+pub struct NoMemory;
+
+/// A word: a list of moves, whose order is the sum of their counts, at most 200. Each move hangs a square, and has one sign
+/// less than squares, as many or one more. Words are our own.
+#[derive(Drop)]
+pub struct Word {
+    bytes: SmallVec<u8, INLINE_BYTES>,
+}
+
+impl Model for Word {
+    ghost use Rattle.bk_word.specs.Word.{Word as Moves};
+    ghost use Rattle.bk_word.specs.Stored.{IsKeptBuffer, moves_in};
+
+    ghost Value = { Moves };
+
+    ghost view = { λ w. moves_in w.bytes.items };
+
+    ghost invariant = { λ w. IsKeptBuffer w.bytes.items w.bytes.capacity };
+}
+
+impl Word {
+    /// The word of no moves, which takes no memory.
+    pub fn new(alloc: Global) -> Word
+        ensures { result ≡ [] }
+    {
+        Word {
+            bytes: SmallVec::new(alloc),
+        }
+    }
+
+    /// Appends a move. Where there is no memory the word is as it was. It takes none where the order is then at most 16.
+    pub fn push(&mut self, m: &Move) -> Result<(), NoMemory>
+        requires stands { CanStand m.now }
+        requires few { order_of self.old + m.now.count ≤ LARGEST_ORDER }
+        ensures ok { OnOk result (self.new ≡ self.old ++ m.now ∷ []) }
+        ensures unchanged { OnErr result (self.new ≡ self.old) }
+        ensures inline { order_of self.old + m.now.count ≤ INLINE_ORDER → IsOk result }
+    {
+        let bytes = bytes_of(m.count, m.signs.as_slice());
+        if self.bytes.extend_from_slice(bytes.as_slice()).is_err() {
+            return Err(NoMemory);
+        }
+        Ok(())
+    }
+
+    /// Takes the last move off. There must be one.
+    pub fn pop(&mut self)
+        requires { 0 < length self.old }
+        ensures { self.new ≡ take (length self.old - 1) self.old }
+    {
+        let last = self.moves() - 1;
+        let place = count_place(self.bytes.as_slice(), last);
+        self.bytes.truncate(place);
+    }
+
+    /// How many moves there are.
+    pub fn moves(&self) -> usize
+        ensures value { result ≡ length self.now }
+        ensures kept { IsKeptWord self.now }
+    {
+        counts(self.bytes.as_slice())
+    }
+
+    /// The move at place i, from 0.
+    pub fn get(&self, i: usize) -> Move
+        requires { i < length self.now }
+        ensures value { slice_get self.now i ≡ Some result }
+        ensures stands { CanStand result }
+        ensures few { result.count ≤ LARGEST_ORDER }
+    {
+        let bytes = self.bytes.as_slice();
+        let place = count_place(bytes, i);
+        Move {
+            count: bytes[place],
+            signs: signs_at(&bytes[place + 1..]),
+        }
+    }
+
+    /// The order: how many squares the moves hang.
+    pub fn order(&self) -> usize
+        ensures value { result ≡ order_of self.now }
+        ensures few { result ≤ LARGEST_ORDER }
+    {
+        sum_of_counts(self.bytes.as_slice())
+    }
+
+    /// A copy of the word. It takes no memory where the order is at most 16.
+    pub fn copy(&self, alloc: Global) -> Result<Word, NoMemory>
+        ensures ok { IfOk result (λ w. w ≡ self.now) }
+        ensures inline { order_of self.now ≤ INLINE_ORDER → IsOk result }
+    {
+        Word::from_bytes(alloc, self.bytes.as_slice())
+    }
+
+    /// Which of two words comes first: they go by their moves, and these by their counts and then by their signs, above
+    /// before even before under. A proper prefix comes first, of moves and of signs.
+    pub fn cmp(&self, other: &Word) -> Ordering
+        ensures { result ≡ word_cmp self.now other.now }
+    {
+        self.bytes.as_slice().cmp(other.bytes.as_slice())
+    }
+
+    // The word that is stored so.
+    pub(crate) fn from_bytes(alloc: Global, bytes: &[u8]) -> Result<Word, NoMemory>
+        requires { IsStored bytes.now }
+        ensures ok { IfOk result (λ w. w ≡ moves_in bytes.now) }
+        ensures inline { order_of (moves_in bytes.now) ≤ INLINE_ORDER → IsOk result }
+    {
+        match SmallVec::from_slice(alloc, bytes) {
+            Ok(bytes) => {
+                let _fits = bytes.len();
+                Ok(Word { bytes })
+            }
+            Err(_) => Err(NoMemory),
+        }
+    }
+
+    // The bytes in which the word is stored.
+    pub(crate) fn bytes(&self) -> &[u8]
+        ensures value { result.now ≡ stored self.now }
+        ensures kept { IsKeptWord self.now }
+    {
+        self.bytes.as_slice()
+    }
+}
+
+/// The order of words is total.
+pub fn words_are_in_total_order()
+    ensures { IsTotalOrder word_cmp }
+{}
+
+/// No bytes are the text of two words.
+pub fn a_text_is_of_one_word()
+    ensures { ATextIsOfOneWord }
+{}
+
+/// What is written of a word is its text.
+pub fn a_written_word_is_read()
+    ensures { AWrittenWordIsRead }
+{}

@@ -1,0 +1,109 @@
+//! The bytes in which a word is stored.
+#![tactic(auto)]
+
+ghost use Rattle.std.specs.Prelude.{count_by, drop, length, map, slice_index, true, ◌<◌, ◌∷◌, ◌≡◌, ◌≤◌};
+ghost use Rattle.bk_word.specs.Word.{order_of};
+ghost use Rattle.bk_word.specs.Stored.{front_signs, is_count, moves_in, sign_byte, sign_of as sign_of_byte};
+
+use crate::{LARGEST_ORDER, Sign};
+use arrayvec::ArrayVec;
+
+// The least byte of a sign. Those of counts are below it.
+const FIRST_SIGN: u8 = 201;
+
+// Whether a byte is that of a count.
+pub(crate) fn is_count(byte: u8) -> bool
+    ensures { result ≡ is_count byte }
+{
+    byte < FIRST_SIGN
+}
+
+// The byte of a sign.
+pub(crate) fn byte_of(sign: Sign) -> u8
+    ensures { result ≡ sign_byte sign }
+{
+    match sign {
+        Sign::Above => 201,
+        Sign::Even => 202,
+        Sign::Under => 203,
+    }
+}
+
+// The sign that a byte stands for.
+pub(crate) fn sign_of(byte: u8) -> Sign
+    ensures { result ≡ sign_of_byte byte }
+{
+    match byte {
+        201 => Sign::Above,
+        202 => Sign::Even,
+        _ => Sign::Under,
+    }
+}
+
+// The bytes of a move of so many squares with these signs.
+pub(crate) fn bytes_of(count: u8, signs: &[Sign]) -> ArrayVec<u8, 202>
+    requires { length signs.now ≤ 201 }
+    ensures { result.items ≡ count ∷ map sign_byte signs.now }
+{
+    let mut bytes = ArrayVec::new();
+    bytes.push(count);
+    for sign in signs {
+        bytes.push(byte_of(*sign));
+    }
+    bytes
+}
+
+// The signs before the first count, of which there are at most 201.
+pub(crate) fn signs_at(bytes: &[u8]) -> ArrayVec<Sign, 201>
+    requires { length (front_signs bytes.now) ≤ 201 }
+    ensures { result.items ≡ front_signs bytes.now }
+{
+    let mut signs = ArrayVec::new();
+    for byte in bytes {
+        if is_count(*byte) {
+            return signs;
+        }
+        signs.push(sign_of(*byte));
+    }
+    signs
+}
+
+// The place of the byte of the i-th count, from 0, which must be there.
+pub(crate) fn count_place(bytes: &[u8], i: usize) -> usize
+    requires { i < length (moves_in bytes.now) }
+    ensures within { result < length bytes.now }
+    ensures count { is_count (slice_index bytes.now result) ≡ true }
+    ensures behind { moves_in (drop result bytes.now) ≡ drop i (moves_in bytes.now) }
+{
+    let mut left = i;
+    for (place, byte) in bytes.iter().enumerate() {
+        if is_count(*byte) {
+            if left == 0 {
+                return place;
+            }
+            left -= 1;
+        }
+    }
+    unreachable!()
+}
+
+// How many counts there are.
+pub(crate) fn counts(bytes: &[u8]) -> usize
+    ensures { result ≡ count_by is_count bytes.now }
+{
+    bytes.iter().filter(|byte| is_count(**byte)).count()
+}
+
+// The sum of the counts.
+pub(crate) fn sum_of_counts(bytes: &[u8]) -> usize
+    requires { order_of (moves_in bytes.now) ≤ LARGEST_ORDER }
+    ensures { result ≡ order_of (moves_in bytes.now) }
+{
+    let mut order = 0;
+    for byte in bytes {
+        if is_count(*byte) {
+            order += usize::from(*byte);
+        }
+    }
+    order
+}
