@@ -1,0 +1,3 @@
+pub mod DrawingExamples
+pub mod Rows
+pub mod RightSide

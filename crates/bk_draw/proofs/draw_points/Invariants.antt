@@ -1,0 +1,5 @@
+use Rattle.bk_draw.specs.Mark.{IsDrawnBetween}
+use Rattle.bk_draw.proofs.draw_points.Given as goal
+
+abbrev pub invariant-loop-x : goal.invariant-loop-x
+invariant-loop-x l = IsDrawnBetween l.q l.y l.from l.x l.initial.points l.points

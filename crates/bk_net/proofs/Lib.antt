@@ -1,0 +1,16 @@
+pub mod WholeNumberLaws
+pub mod OneFlowLaws
+pub mod DiagramExamples
+pub mod FlowExamples
+pub mod NetLineExamples
+pub mod SmithLists
+pub mod SidesFlow
+pub mod Hanging
+pub mod Joining
+pub mod ReadingAll
+pub mod NodeDigits
+pub mod NetLinesRead
+pub mod NetLinesMeant
+pub mod NetStopping
+pub mod NetProgress
+pub mod NodeNumbers

@@ -1,0 +1,87 @@
+-- How far a network line was read, with the wires that are kept.
+use Rattle.std.specs.Prelude.{Bool, Err, IfErr, IfOk, List, None, Ok, Result, Some, [], false, length, refl, take, ℕ, ◌+◌, ◌<◌, ◌≡◌, ◌≤◌}
+use Rattle.std.proofs.Common.{ap, arith, get_or, subst, sym, ◌∙◌}
+use Rattle.std.proofs.lemmas.List.{take_all, take_more}
+use Rattle.bk_net.specs.Gathered.{IsNoNet, Keeps, and_wire}
+use Rattle.bk_net.specs.NetLine.{IsNetLine, IsNoNetLine, Item, NetLine, Skip}
+use Rattle.bk_net.specs.ReadNet.{IsFaultOf, stands_for}
+use Rattle.bk_net.specs.Reader.{ended_wire, ending_at, kind_of, last_wire, next_place}
+use Rattle.bk_net.specs.declared.NetFault.{NetFault}
+use Rattle.bk_net.specs.declared.NetFault.TheVariants.{Many, Nodes as NodesFault, Text, Wire}
+use Rattle.bk_net.specs.declared.NetLine.{NetLine as NetLineRead}
+use Rattle.bk_net.specs.declared.TheConstants.{MOST_WIRES}
+use Rattle.bk_net.specs.declared.reader.Ending.{Ending}
+use Rattle.bk_net.specs.declared.reader.Ending.TheVariants.{Empty, Nodes}
+use Rattle.bk_net.specs.declared.reader.Place.{Place}
+use Rattle.bk_net.specs.declared.reader.Place.TheVariants.{Start}
+use Rattle.bk_net.proofs.NetLinesMeant.{read_is_line}
+use Rattle.bk_net.proofs.NetStopping.{Leads, leads_on, read_whole, stops_at, stops_at_end}
+use Rattle.bk_net.proofs.ReadingAll.{line_at, line_of}
+
+pub record Progress (front : List ℕ) (p : Place) (kept : List (ℕ × ℕ)) (many : Bool) : Type 0 where
+  pub all : List (ℕ × ℕ)
+  pub leads : Leads front p all
+  pub keeps : Keeps all kept many
+
+pub at_start : Progress [] Start [] false
+at_start = record { all = []; leads = λ x. refl; keeps = record { same = λ e. refl; more = λ e. absurd (cc) } }
+
+-- one byte further
+pub one_further : (bs : List ℕ) (i : ℕ) (p q : Place) (kept next_kept : List (ℕ × ℕ)) (many next_many : Bool) → i < length bs → Progress (take i bs) p kept many
+    → next_place p (kind_of (get_or bs i 0)) ≡ Some q
+    → ((all : List (ℕ × ℕ)) → Keeps all kept many → Keeps (and_wire (ended_wire p (kind_of (get_or bs i 0))) all) next_kept next_many)
+    → Progress (take (i + 1) bs) q next_kept next_many
+one_further bs i p q kept next_kept many next_many within progress next keeps =
+    subst (λ (z : List ℕ). Progress z q next_kept next_many) (sym (take_more bs i 0 within)) (record {
+      all = and_wire (ended_wire p (kind_of (get_or bs i 0))) progress.all;
+      leads = leads_on (take i bs) p q progress.all (get_or bs i 0) progress.leads next;
+      keeps = keeps progress.all progress.keeps;
+    })
+
+-- where the reader stops, the bytes leave the grammar
+pub no_next : (bs : List ℕ) (i : ℕ) (p : Place) (kept : List (ℕ × ℕ)) (many : Bool) → i < length bs → Progress (take i bs) p kept many → next_place p (kind_of (get_or bs i 0)) ≡ None → IsNoNetLine bs i
+no_next bs i p kept many within progress none = stops_at bs i p progress.all within progress.leads none
+
+pub no_ending : (bs : List ℕ) (p : Place) (kept : List (ℕ × ℕ)) (many : Bool) → Progress bs p kept many → ending_at p ≡ None → IsNoNetLine bs (length bs)
+no_ending bs p kept many progress none = stops_at_end bs p progress.all progress.leads none
+
+-- the whole line was read
+pub whole : (bs : List ℕ) (i : ℕ) (p : Place) (kept : List (ℕ × ℕ)) (many : Bool) → length bs ≤ i → Progress (take i bs) p kept many → Progress bs p kept many
+whole bs i p kept many all progress = subst (λ (z : List ℕ). Progress z p kept many) (take_all i bs all) progress
+
+-- at an end the bytes are a line
+whole_line : (bs : List ℕ) (p : Place) (ws : List (ℕ × ℕ)) (ending : Ending) → Leads bs p ws → ending_at p ≡ Some ending → IsNetLine (line_of ending (and_wire (last_wire p) ws)) bs
+whole_line bs p ws ending leads e = read_is_line bs (line_of ending (and_wire (last_wire p) ws)) (read_whole bs p ws leads ∙ ap (λ o. line_at o (and_wire (last_wire p) ws)) e)
+
+pub skip_found : (bs : List ℕ) (p : Place) (kept : List (ℕ × ℕ)) (many : Bool) → Progress bs p kept many → ending_at p ≡ Some Empty → IsNetLine Skip bs
+skip_found bs p kept many progress e = whole_line bs p progress.all Empty progress.leads e
+
+-- all wires of a line of so many nodes, and what is kept of them
+pub record HasWires (bs : List ℕ) (nodes : ℕ) (kept : List (ℕ × ℕ)) (many : Bool) : Type 0 where
+  pub wires : List (ℕ × ℕ)
+  pub line : IsNetLine (Item nodes wires) bs
+  pub keeps : Keeps wires kept many
+
+pub wires_found : (bs : List ℕ) (p : Place) (kept last_kept : List (ℕ × ℕ)) (many last_many : Bool) (nodes : ℕ) → Progress bs p kept many → ending_at p ≡ Some (Nodes nodes)
+    → ((all : List (ℕ × ℕ)) → Keeps all kept many → Keeps (and_wire (last_wire p) all) last_kept last_many) → HasWires bs nodes last_kept last_many
+wires_found bs p kept last_kept many last_many nodes progress e keeps =
+    record { wires = and_wire (last_wire p) progress.all; line = whole_line bs p progress.all (Nodes nodes) progress.leads e; keeps = keeps progress.all progress.keeps }
+
+-- the kept wires are all of them
+all_kept : (bs : List ℕ) (nodes : ℕ) (kept : List (ℕ × ℕ)) (many : Bool) → HasWires bs nodes kept many → many ≡ false → IsNetLine (Item nodes kept) bs
+all_kept bs nodes kept many h few = subst (λ (ws : List (ℕ × ℕ)). IsNetLine (Item nodes ws) bs) (sym (h.keeps.same few)) h.line
+
+pub item_is : (r : Result NetLineRead NetFault) (bs : List ℕ) (nodes : ℕ) (kept : List (ℕ × ℕ)) (many : Bool) → HasWires bs nodes kept many → IfOk r (λ l. many ≡ false) → IfOk r (λ l. stands_for l ≡ Item nodes kept)
+    → IfOk r (λ l. IsNetLine (stands_for l) bs)
+item_is (Ok l) bs nodes kept many h few is = subst (λ (z : NetLine). IsNetLine z bs) (sym is) (all_kept bs nodes kept many h few)
+item_is (Err fault) bs nodes kept many h few is = tt
+
+one_fault : (fault : NetFault) (bs : List ℕ) (nodes : ℕ) (kept : List (ℕ × ℕ)) (many : Bool) → HasWires bs nodes kept many → length kept ≤ MOST_WIRES → IsNoNet nodes many kept fault → IsFaultOf fault bs
+one_fault (Text at) bs nodes kept many h few none = absurd none
+one_fault Many bs nodes kept many h few none = (nodes, h.wires, h.line, h.keeps.more none)
+one_fault (NodesFault count) bs nodes kept many h few none = (kept, subst (λ (n : ℕ). IsNetLine (Item n kept) bs) (sym none.1) (all_kept bs nodes kept many h none.0), few, λ is. none.2 (omega (arith, is.0, none.1), omega (arith, is.1, none.1)))
+one_fault (Wire place) bs nodes kept many h few none = (nodes, kept, all_kept bs nodes kept many h none.0, few, none.1, none.2)
+
+pub fault_is : (r : Result NetLineRead NetFault) (bs : List ℕ) (nodes : ℕ) (kept : List (ℕ × ℕ)) (many : Bool) → HasWires bs nodes kept many → length kept ≤ MOST_WIRES → IfErr r (IsNoNet nodes many kept) → IfErr r (λ fault. IsFaultOf fault bs)
+fault_is (Ok l) bs nodes kept many h few none = tt
+fault_is (Err fault) bs nodes kept many h few none = one_fault fault bs nodes kept many h few none

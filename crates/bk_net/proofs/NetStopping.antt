@@ -1,0 +1,100 @@
+-- Where the reader of a network line stops, and that it stops right there.
+use Rattle.std.specs.Prelude.{List, None, Option, Some, [], codes, drop, length, option_and_then, refl, suc, take, ℕ, ◌++◌, ◌<◌, ◌∷◌, ◌≡◌, ◌≤◌}
+use Rattle.std.proofs.Common.{ap, append_assoc, arith, get_or, inl, inr, subst, sym, ◌∙◌}
+use Rattle.std.proofs.Math.Seq.{take-suc}
+use Rattle.std.proofs.lemmas.Bool.{cases_lt}
+use Rattle.std.proofs.lemmas.List.{append-nil, take-append-drop, take-take, take_all}
+use Rattle.bk_grammar.specs.Longest.{Begins}
+use Rattle.bk_net.specs.Gathered.{and_wire}
+use Rattle.bk_net.specs.NetLine.{IsNetLine, IsNoNetLine, NetLine, SomeNetLine}
+use Rattle.bk_net.specs.Reader.{ended_wire, ending_at, kind_of, last_wire, next_place}
+use Rattle.bk_net.specs.declared.reader.Place.{Place}
+use Rattle.bk_net.specs.declared.reader.Place.TheVariants.{BehindDash, Between, Comment as InComment, Count, First, Second, Start}
+use Rattle.bk_net.proofs.NetLinesMeant.{read_is_line}
+use Rattle.bk_net.proofs.NetLinesRead.{line_is_read}
+use Rattle.bk_net.proofs.ReadingAll.{line_at, read, read_next}
+
+abbrev Found : Option NetLine → Type 0
+Found None = ⊥
+Found (Some l) = Unit {0}
+
+found : (o : Option NetLine) → Found o → (l : NetLine) × (o ≡ Some l)
+found None h = absurd h
+found (Some l) h = (l, refl)
+
+-- from each place some bytes complete a line
+completion : (p : Place) (ws : List (ℕ × ℕ)) → (text : List ℕ) × Found (read text p ws)
+completion Start ws = ([], tt)
+completion (Count n) ws = ([], tt)
+completion (Between n) ws = ([], tt)
+completion (First n a) ws = (codes "-0", tt)
+completion (BehindDash n a) ws = (codes "0", tt)
+completion (Second n a b) ws = ([], tt)
+completion (InComment ending) ws = ([], tt)
+
+-- behind the front of a line the reader stands at this place, with these wires
+abbrev pub Leads : List ℕ → Place → List (ℕ × ℕ) → Type 0
+Leads front p ws = (x : List ℕ) → read (front ++ x) Start [] ≡ read x p ws
+
+pub leads_on : (front : List ℕ) (p q : Place) (ws : List (ℕ × ℕ)) (b : ℕ) → Leads front p ws → next_place p (kind_of b) ≡ Some q → Leads (front ++ b ∷ []) q (and_wire (ended_wire p (kind_of b)) ws)
+leads_on front p q ws b leads next x =
+    ap (λ (z : List ℕ). read z Start []) (append_assoc front (b ∷ []) x) ∙ leads (b ∷ x) ∙ read_next p q (kind_of b) ws (and_wire (ended_wire p (kind_of b)) ws) b x refl next refl
+
+-- a front that leads to a place begins a line
+begins : (front : List ℕ) (p : Place) (ws : List (ℕ × ℕ)) → Leads front p ws → Begins SomeNetLine front
+begins front p ws leads =
+    let c = completion p ws in
+    let l = found (read c.0 p ws) c.1 in
+    (c.0, (l.0, read_is_line (front ++ c.0) l.0 (leads c.0 ∙ l.1)))
+
+-- a byte behind which there is no place begins no rest of a line
+no_more : (front : List ℕ) (p : Place) (ws : List (ℕ × ℕ)) (b : ℕ) (x : List ℕ) → Leads front p ws → next_place p (kind_of b) ≡ None → ¬ (SomeNetLine (front ++ b ∷ x))
+no_more front p ws b x leads none (l, line) =
+    let read' : read (b ∷ x) p ws ≡ Some l = sym (leads (b ∷ x)) ∙ line_is_read l (front ++ b ∷ x) line in
+    let stopped : read (b ∷ x) p ws ≡ None = ap (λ next. option_and_then (λ q. read x q (and_wire (ended_wire p (kind_of b)) ws)) next) none in
+    absurd (cc)
+
+begins_shorter : (Grammar : List ℕ → Type 0) (bs more : List ℕ) → Begins Grammar (bs ++ more) → Begins Grammar bs
+begins_shorter Grammar bs more (rest, h) = (more ++ rest, subst Grammar (append_assoc bs more rest) h)
+
+-- the bytes leave the grammar where the reader has no place for the next one
+pub stops_at : (bs : List ℕ) (at : ℕ) (p : Place) (ws : List (ℕ × ℕ)) → at < length bs → Leads (take at bs) p ws → next_place p (kind_of (get_or bs at 0)) ≡ None → IsNoNetLine bs at
+stops_at bs at p ws within leads none =
+    let byte : ℕ = get_or bs at 0 in
+    let front : take (suc at) bs ≡ take at bs ++ byte ∷ [] = take-suc bs at 0 within in
+    let whole : bs ≡ take at bs ++ byte ∷ drop (suc at) bs = sym (take-append-drop (suc at) bs) ∙ ap (λ z. z ++ drop (suc at) bs) front ∙ append_assoc (take at bs) (byte ∷ []) (drop (suc at) bs) in (
+      λ h. no_more (take at bs) p ws byte (drop (suc at) bs) leads none (subst SomeNetLine whole h),
+      record { inside = omega arith; begins = begins (take at bs) p ws leads; longest = λ longer few h. longest front longer few h },
+    )
+  where
+    longest : take (suc at) bs ≡ take at bs ++ get_or bs at 0 ∷ [] → (longer : ℕ) → longer ≤ length bs → Begins SomeNetLine (take longer bs) → longer ≤ at
+    longest front longer few h = elim (cases_lt at longer) [
+      | inl above ↦ (
+          let cut : take longer bs ≡ take (suc at) bs ++ drop (suc at) (take longer bs) =
+          sym (take-append-drop (suc at) (take longer bs)) ∙ ap (λ z. z ++ drop (suc at) (take longer bs)) (take-take (suc at) longer bs above) in
+          let shorter : Begins SomeNetLine (take at bs ++ get_or bs at 0 ∷ []) =
+          subst (Begins SomeNetLine) front (begins_shorter SomeNetLine (take (suc at) bs) (drop (suc at) (take longer bs)) (subst (Begins SomeNetLine) cut h)) in
+          absurd (no_more (take at bs) p ws (get_or bs at 0) shorter.0 leads none (subst SomeNetLine (append_assoc (take at bs) (get_or bs at 0 ∷ []) shorter.0) shorter.1)))
+      | inr below ↦ below
+    ]
+
+-- at the end of the bytes the reader has read what the place and the wires tell
+pub read_whole : (bs : List ℕ) (p : Place) (ws : List (ℕ × ℕ)) → Leads bs p ws → read bs Start [] ≡ line_at (ending_at p) (and_wire (last_wire p) ws)
+read_whole bs p ws leads = ap (λ z. read z Start []) (sym (append-nil bs)) ∙ leads []
+
+-- bytes that end where no line may end leave the grammar at their end
+pub stops_at_end : (bs : List ℕ) (p : Place) (ws : List (ℕ × ℕ)) → Leads bs p ws → ending_at p ≡ None → IsNoNetLine bs (length bs)
+stops_at_end bs p ws leads none = (
+  λ (l, line).
+      let read' : read [] p ws ≡ Some l = sym (read_whole bs p ws leads) ∙ line_is_read l bs line in
+      let stopped : read [] p ws ≡ None = ap (λ e. line_at e (and_wire (last_wire p) ws)) none in
+      absurd (cc),
+  record { inside = omega arith; begins = subst (Begins SomeNetLine) (sym (take_all (length bs) bs (omega arith))) (begins bs p ws leads); longest = λ longer few h. few },
+)
+
+-- a network line stands for one thing only
+pub one_meaning : (bs : List ℕ) (l m : NetLine) → IsNetLine l bs → IsNetLine m bs → l ≡ m
+one_meaning bs l m a b =
+    let first : read bs Start [] ≡ Some l = line_is_read l bs a in
+    let second : read bs Start [] ≡ Some m = line_is_read m bs b in
+    cc

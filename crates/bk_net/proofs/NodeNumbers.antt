@@ -1,0 +1,299 @@
+-- The wires of a Smith diagram by its squares: each from the number of its group to that of the group of the square under
+-- its left column, which a search in the order of the code finds.
+use Rattle.std.specs.List.Sorted.{IsPartitionPoint, IsPartitionedBy}
+use Rattle.std.specs.Prelude.{slice_index}
+use Rattle.std.proofs.Common.{Bool, List, [], ap, arith, cond, count_by, false, inl, inr, length, map, nat_eq, refl, slice_index_or, subst, suc, sym, take, true, zero, ℕ, ◌&&◌, ◌++◌, ◌+◌, ◌-◌, ◌<◌, ◌∙◌, ◌∷◌, ◌≡◌, ◌≢◌, ◌≤◌, ◌⊎◌}
+use Rattle.std.proofs.lemmas.Bool.Decides.{nat_tests}
+use Rattle.std.proofs.lemmas.List.{take_more}
+use Rattle.bk_tiling.proofs.Cells.{covers_from, in_all, none_counted, not_both, one_counted, over_from, true_or_false}
+use Rattle.bk_tiling.proofs.ListLaws.{length_append, length_map}
+use Rattle.bk_tiling.proofs.Groups.{row_of}
+use Rattle.bk_tiling.proofs.Members.{one_at}
+use Rattle.bk_tiling.proofs.Scaling.{before_cases}
+use Rattle.bk_tiling.proofs.TilingGroups.{one_there}
+use Rattle.bk_tiling.proofs.TilingLaws.{side_of, within_of}
+use Rattle.bk_tiling.specs.CodeOrder.{InCodeOrder, comes_before}
+use Rattle.bk_tiling.specs.Column.{covers_column}
+use Rattle.bk_tiling.specs.SquareGroups.{square_groups}
+use Rattle.bk_tiling.specs.Tiling.{IsOneOf, IsTiling, Tiling, covers}
+use Rattle.bk_tiling.specs.declared.Square.{Square}
+use Rattle.bk_net.proofs.Hanging.{numbers_from}
+use Rattle.bk_net.proofs.SidesFlow.{begins_below, below_from, place, row_is, square_at, the_one_flow}
+use Rattle.bk_net.proofs.SmithLists.{HasGroup, count_at, group_wires}
+use Rattle.bk_net.specs.Diagram.{node_below, smith_diagram}
+use Rattle.bk_net.specs.GroupNumbers.{group_numbers, is_no_later}
+
+two : (a b : ℕ) → (a < b) ⊎ (b ≤ a)
+two a b = grind arith
+
+-- ---- wires by squares
+
+-- a wire for each square, from its number to the node that below gives
+abbrev pub wires_by : (Square → ℕ) → List ℕ → List Square → List (ℕ × ℕ)
+wires_by below [] squares = []
+wires_by below (n ∷ numbers) [] = []
+wires_by below (n ∷ numbers) (q ∷ squares) = (n, below q) ∷ wires_by below numbers squares
+
+wires_by-group : (below : Square → ℕ) (n : ℕ) (g : List Square) (numbers : List ℕ) (squares : List Square)
+    → wires_by below (map (λ q. n) g ++ numbers) (g ++ squares) ≡ map (λ q. (n, below q)) g ++ wires_by below numbers squares
+wires_by-group below n [] numbers squares = refl
+wires_by-group below n (q ∷ g) numbers squares = ap (λ (ws : List (ℕ × ℕ)). (n, below q) ∷ ws) (wires_by-group below n g numbers squares)
+
+wires_by-groups : (below : Square → ℕ) (n : ℕ) (groups : List (List Square)) → group_wires below n groups ≡ wires_by below (numbers_from n groups) (row_of groups)
+wires_by-groups below n [] = refl
+wires_by-groups below n (g ∷ groups) =
+    ap (λ (ws : List (ℕ × ℕ)). map (λ q. (n, below q)) g ++ ws) (wires_by-groups below (n + 1) groups)
+    ∙ sym (wires_by-group below n g (numbers_from (n + 1) groups) (row_of groups))
+
+wires_by-at : (below : Square → ℕ) (numbers : List ℕ) (squares : List Square) (i : ℕ) (d : ℕ × ℕ) (q : Square) → i < length numbers → i < length squares
+    → slice_index_or (wires_by below numbers squares) i d ≡ (slice_index numbers i, below (slice_index_or squares i q))
+wires_by-at below [] squares i d q a b = absurd (omega arith)
+wires_by-at below (n ∷ numbers) [] i d q a b = absurd (omega arith)
+wires_by-at below (n ∷ numbers) (r ∷ squares) zero d q a b = refl
+wires_by-at below (n ∷ numbers) (r ∷ squares) (suc i) d q a b = wires_by-at below numbers squares i d q (omega arith) (omega arith)
+
+wires_by-length : (below : Square → ℕ) (numbers : List ℕ) (squares : List Square) → length numbers ≡ length squares → length (wires_by below numbers squares) ≡ length squares
+wires_by-length below [] [] e = refl
+wires_by-length below [] (q ∷ squares) e = absurd (omega arith)
+wires_by-length below (n ∷ numbers) [] e = absurd (omega arith)
+wires_by-length below (n ∷ numbers) (q ∷ squares) e = ap suc (wires_by-length below numbers squares (omega arith))
+
+numbers-length : (n : ℕ) (groups : List (List Square)) → length (numbers_from n groups) ≡ length (row_of groups)
+numbers-length n [] = refl
+numbers-length n (g ∷ groups) = omega (
+  arith,
+  length_append (map (λ (q : Square). n) g) (numbers_from (n + 1) groups),
+  length_append g (row_of groups),
+  length_map (λ (q : Square). n) g,
+  numbers-length (n + 1) groups,
+)
+
+-- ---- the group of the square at a place
+
+pub record HasNumber (n : ℕ) (groups : List (List Square)) (m : ℕ) (d : Square) : Type 0 where
+  pub place : ℕ
+  pub below : place < length groups
+  pub number : slice_index (numbers_from n groups) m ≡ n + place
+  pub is : IsOneOf (slice_index_or (row_of groups) m d) (slice_index_or groups place [])
+
+number_near : (n : ℕ) (g : List Square) (numbers : List ℕ) (m : ℕ) → m < length g → slice_index (map (λ q. n) g ++ numbers) m ≡ n
+number_near n [] numbers m h = absurd (omega arith)
+number_near n (q ∷ g) numbers zero h = refl
+number_near n (q ∷ g) numbers (suc m) h = number_near n g numbers m (omega arith)
+
+number_far : (n : ℕ) (g : List Square) (numbers : List ℕ) (m : ℕ) → length g ≤ m → slice_index (map (λ q. n) g ++ numbers) m ≡ slice_index numbers (m - length g)
+number_far n [] numbers m h = ap (slice_index numbers) (omega arith)
+number_far n (q ∷ g) numbers zero h = absurd (omega arith)
+number_far n (q ∷ g) numbers (suc m) h = number_far n g numbers m (omega arith) ∙ ap (slice_index numbers) (omega arith)
+
+square_near : (g squares : List Square) (m : ℕ) (d : Square) → m < length g → slice_index_or (g ++ squares) m d ≡ slice_index_or g m d
+square_near [] squares m d h = absurd (omega arith)
+square_near (q ∷ g) squares zero d h = refl
+square_near (q ∷ g) squares (suc m) d h = square_near g squares m d (omega arith)
+
+square_far : (g squares : List Square) (m : ℕ) (d : Square) → length g ≤ m → slice_index_or (g ++ squares) m d ≡ slice_index_or squares (m - length g) d
+square_far [] squares m d h = ap (λ (k : ℕ). slice_index_or squares k d) (omega arith)
+square_far (q ∷ g) squares zero d h = absurd (omega arith)
+square_far (q ∷ g) squares (suc m) d h = square_far g squares m d (omega arith) ∙ ap (λ (k : ℕ). slice_index_or squares k d) (omega arith)
+
+has_number : (n : ℕ) (groups : List (List Square)) (m : ℕ) (d : Square) → m < length (row_of groups) → HasNumber n groups m d
+has_number n [] m d h = absurd (omega arith)
+has_number n (g ∷ groups) m d h = cases (two m (length g)) (has_number (n + 1) groups (m - length g) d)
+  where
+    cases : (m < length g) ⊎ (length g ≤ m) → (m - length g < length (row_of groups) → HasNumber (n + 1) groups (m - length g) d) → HasNumber n (g ∷ groups) m d
+    cases (inl near) rest = record {
+      place = 0;
+      below = omega arith;
+      number = number_near n g (numbers_from (n + 1) groups) m near ∙ omega arith;
+      is = subst (λ (q : Square). IsOneOf q g) (sym (square_near g (row_of groups) m d near)) (one_at g m d near);
+    }
+    cases (inr far) rest =
+        let r = rest (omega (arith, length_append g (row_of groups))) in
+        record {
+          place = suc r.place;
+          below = omega (arith, r.below);
+          number = number_far n g (numbers_from (n + 1) groups) m far ∙ r.number ∙ omega arith;
+          is = subst (λ (q : Square). IsOneOf q (slice_index_or groups r.place [])) (sym (square_far g (row_of groups) m d far)) r.is;
+        }
+
+-- ---- squares in the order of a code, by their places
+
+at_place : (squares : List Square) (q : Square) → IsOneOf q squares → (m : ℕ) × (m < length squares) × ((d : Square) → slice_index_or squares m d ≡ q)
+at_place [] q h = absurd h
+at_place (r ∷ squares) q (inl e) = (0, omega arith, λ d. sym e)
+at_place (r ∷ squares) q (inr h) = let found = at_place squares q h in (suc found.0, omega (arith, found.1), found.2)
+
+order_places : (squares : List Square) → InCodeOrder squares → (i j : ℕ) (d : Square) → i < j → j < length squares → comes_before (slice_index_or squares i d) (slice_index_or squares j d) ≡ true
+order_places [] o i j d a b = absurd (omega arith)
+order_places (q ∷ squares) o zero zero d a b = absurd (omega arith)
+order_places (q ∷ squares) o zero (suc j) d a b = in_all (λ r. comes_before q r ≡ true) squares o.0 (slice_index_or squares j d) (one_at squares j d (omega arith))
+order_places (q ∷ squares) o (suc i) zero d a b = absurd (omega arith)
+order_places (q ∷ squares) o (suc i) (suc j) d a b = order_places squares o.1 i j d (omega arith) (omega arith)
+
+later_from : (x y : ℕ) (q r : Square) → comes_before q r ≡ true → is_no_later x y r ≡ true → is_no_later x y q ≡ true
+later_from x y q r a b = grind (arith, nat_tests)
+
+no_later_to : (x y : ℕ) (r : Square) → is_no_later x y r ≡ true → (r.y < y) ⊎ ((r.y ≡ y) × (r.x ≤ x))
+no_later_to x y r e = grind (arith, nat_tests)
+
+no_later_from : (x y : ℕ) (r : Square) → r.y ≡ y → r.x ≤ x → is_no_later x y r ≡ true
+no_later_from x y r a b = grind (arith, nat_tests)
+
+-- squares in the order of a code are parted at a cell
+pub parted : (squares : List Square) → InCodeOrder squares → (x y : ℕ) → IsPartitionedBy (is_no_later x y) squares
+parted squares o x y i j d up below e = cases (three i j)
+  where
+    three : (i j : ℕ) → (i < j) ⊎ (i ≡ j) ⊎ (j < i)
+    three i j = grind arith
+
+    cases : (i < j) ⊎ (i ≡ j) ⊎ (j < i) → is_no_later x y (slice_index_or squares i d) ≡ true
+    cases (inl l) = later_from x y (slice_index_or squares i d) (slice_index_or squares j d) (order_places squares o i j d l below) e
+    cases (inr (inl same)) = ap (λ (k : ℕ). is_no_later x y (slice_index_or squares k d)) same ∙ e
+    cases (inr (inr l)) = absurd (omega arith)
+
+-- ---- the node below a square
+
+-- that the square's left column at its bottom lies over a square of that level
+abbrev under : Square → Square → Bool
+under q r = nat_eq r.y (q.y + q.s) && covers_column q.x r
+
+under_level : (q r : Square) → under q r ≡ true → r.y ≡ q.y + q.s
+under_level q r e = grind (arith, nat_tests)
+
+module _ (t : Tiling) (tiling : IsTiling t) (q : Square) (one : IsOneOf q t.squares) where
+  -- at the bottom of the tiling there is none
+  pub at_bottom : q.y + q.s ≡ t.height → length (square_groups t.squares) ≡ node_below (square_groups t.squares) q
+  at_bottom low = cases (place t tiling q one).found
+    where
+      none : count_by (under q) (row_of (square_groups t.squares)) ≡ 0
+      none = ap (count_by (under q)) (row_is t tiling) ∙ none_counted (under q) t.squares (λ r h e. omega (arith, under_level q r e, (within_of t tiling r h).bottom, side_of t tiling r h, low))
+
+      cases : ((node_below (square_groups t.squares) q < length (square_groups t.squares)) × (0 < count_by (under q) (slice_index_or (square_groups t.squares) (node_below (square_groups t.squares) q) [])))
+          ⊎ ((node_below (square_groups t.squares) q ≡ length (square_groups t.squares)) × (count_by (under q) (row_of (square_groups t.squares)) ≡ 0)) → length (square_groups t.squares) ≡ node_below (square_groups t.squares) q
+      cases (inl h) = absurd (omega (arith, h.1, count_at (under q) (square_groups t.squares) (node_below (square_groups t.squares) q), none))
+      cases (inr h) = sym h.0
+
+  -- above it, it is the group of the square that a search finds
+  pub record IsFound (k : ℕ) : Type 0 where
+    pub some : 0 < k
+    pub is : slice_index (group_numbers t.squares) (k - 1) ≡ node_below (square_groups t.squares) q
+
+  pub found : (k : ℕ) → q.y + q.s ≢ t.height → k ≤ length t.squares
+      → IsPartitionPoint (λ r. is_no_later q.x (q.y + q.s) r ≡ true) (λ r. is_no_later q.x (q.y + q.s) r ≡ false) t.squares k → IsFound k
+  found k high within parts = from (at_place t.squares below.0 below.1)
+    where
+      inside : q.y + q.s < t.height
+      inside = let w = (within_of t tiling q one).bottom in omega arith
+
+      below : (r : Square) × IsOneOf r t.squares × (covers q.x (q.y + q.s) r ≡ true)
+      below = square_at t tiling q.x (q.y + q.s) (let w = (within_of t tiling q one).right in omega (arith, side_of t tiling q one)) inside
+
+      level : (below.0).y ≡ q.y + q.s
+      level = begins_below t tiling q below.0 q.x one (omega arith) (omega (arith, side_of t tiling q one)) below.1 below.2
+
+      left : (below.0).x ≤ q.x
+      left = (over_from q.x (q.y + q.s) below.0 below.2).left
+
+      right : q.x < (below.0).x + (below.0).s
+      right = (over_from q.x (q.y + q.s) below.0 below.2).right
+
+      tests : under q below.0 ≡ true
+      tests = below_from q below.0 level left right
+
+      from : (m : ℕ) × (m < length t.squares) × ((d : Square) → slice_index_or t.squares m d ≡ below.0) → IsFound k
+      from (m, there, at) = record { some = omega (arith, last); is = ap (slice_index (group_numbers t.squares)) (omega (arith, last)) ∙ number }
+        where
+          -- a later one that comes no later than the cell would lie over it too
+          no_later_one : (j : ℕ) → m < j → j < length t.squares → is_no_later q.x (q.y + q.s) (slice_index_or t.squares j q) ≡ true → ⊥
+          no_later_one j up end e = by (no_later_to q.x (q.y + q.s) (slice_index_or t.squares j q) e) (before_cases below.0 (slice_index_or t.squares j q) before)
+            where
+              before : comes_before below.0 (slice_index_or t.squares j q) ≡ true
+              before = subst (λ (r : Square). comes_before r (slice_index_or t.squares j q) ≡ true) (at q) (order_places t.squares tiling.ordered m j q up end)
+
+              by : ((slice_index_or t.squares j q).y < q.y + q.s) ⊎ (((slice_index_or t.squares j q).y ≡ q.y + q.s) × ((slice_index_or t.squares j q).x ≤ q.x))
+                  → ((below.0).y < (slice_index_or t.squares j q).y) ⊎ (((below.0).y ≡ (slice_index_or t.squares j q).y) × ((below.0).x < (slice_index_or t.squares j q).x)) → ⊥
+              by (inl a) (inl b) = omega (arith, level)
+              by (inl a) (inr b) = omega (arith, level, b.0)
+              by (inr a) (inl b) = omega (arith, level, a.0)
+              by (inr a) (inr b) = omega (arith, b.1, ap (λ (r : Square). r.x) same)
+                where
+                  same : below.0 ≡ slice_index_or t.squares j q
+                  same = one_there t tiling below.0 (slice_index_or t.squares j q) (slice_index_or t.squares j q).x (q.y + q.s) below.1
+                      (covers_from (slice_index_or t.squares j q).x (q.y + q.s) below.0 (omega (arith, b.1)) (omega (arith, a.1, right)) (omega (arith, level)) (omega (arith, level, side_of t tiling below.0 below.1)))
+                      (one_at t.squares j q end)
+                      (covers_from (slice_index_or t.squares j q).x (q.y + q.s) (slice_index_or t.squares j q) (omega arith) (omega (arith, side_of t tiling (slice_index_or t.squares j q) (one_at t.squares j q end))) (omega (arith, a.0)) (omega (arith, a.0, side_of t tiling (slice_index_or t.squares j q) (one_at t.squares j q end))))
+
+          last : m + 1 ≡ k
+          last = by (two m k)
+            where
+              by : (m < k) ⊎ (k ≤ m) → m + 1 ≡ k
+              by (inr late) = absurd (not_both (is_no_later q.x (q.y + q.s) (slice_index_or t.squares m q))
+                  (ap (is_no_later q.x (q.y + q.s)) (at q) ∙ no_later_from q.x (q.y + q.s) below.0 level left) (parts.1 m q late there))
+              by (inl soon) = more (two (m + 1) k)
+                where
+                  more : (m + 1 < k) ⊎ (k ≤ m + 1) → m + 1 ≡ k
+                  more (inl h) = absurd (no_later_one (m + 1) (omega arith) (omega arith) (parts.0 (m + 1) q (omega arith) h))
+                  more (inr h) = omega arith
+
+          h : HasNumber 0 (square_groups t.squares) m q
+          h = has_number 0 (square_groups t.squares) m q (omega (arith, ap length (row_is t tiling)))
+
+          g : HasGroup (under q) (square_groups t.squares) (node_below (square_groups t.squares) q)
+          g = place t tiling q one
+
+          its_group : IsOneOf below.0 (slice_index_or (square_groups t.squares) h.place [])
+          its_group = subst (λ (r : Square). IsOneOf r (slice_index_or (square_groups t.squares) h.place [])) (ap (λ (l : List Square). slice_index_or l m q) (row_is t tiling) ∙ at q) h.is
+
+          same_node : nat_eq (node_below (square_groups t.squares) q) h.place ≡ true
+          same_node = by (true_or_false (nat_eq (node_below (square_groups t.squares) q) h.place))
+            where
+              by : (nat_eq (node_below (square_groups t.squares) q) h.place ≡ true) ⊎ (nat_eq (node_below (square_groups t.squares) q) h.place ≡ false) → nat_eq (node_below (square_groups t.squares) q) h.place ≡ true
+              by (inl e) = e
+              by (inr e) = absurd (omega (
+                arith,
+                one_counted (under q) (slice_index_or (square_groups t.squares) h.place []) below.0 its_group tests,
+                g.counts h.place h.below,
+                ap (λ (b : Bool). cond {A = ℕ} b 1 0) e,
+              ))
+
+          equal : (a b : ℕ) → nat_eq a b ≡ true → a ≡ b
+          equal a b e = grind (arith, nat_tests)
+
+          number : slice_index (group_numbers t.squares) m ≡ node_below (square_groups t.squares) q
+          number = h.number ∙ omega (arith, equal (node_below (square_groups t.squares) q) h.place same_node)
+
+-- ---- the wires
+
+module _ (t : Tiling) (tiling : IsTiling t) where
+  pub wires_are : (smith_diagram t).wires ≡ wires_by (node_below (square_groups t.squares)) (group_numbers t.squares) t.squares
+  wires_are = wires_by-groups (node_below (square_groups t.squares)) 0 (square_groups t.squares)
+      ∙ ap (wires_by (node_below (square_groups t.squares)) (group_numbers t.squares)) (row_is t tiling)
+
+  pub numbers_many : length (group_numbers t.squares) ≡ length t.squares
+  numbers_many = numbers-length 0 (square_groups t.squares) ∙ ap length (row_is t tiling)
+
+  pub wires_many : length (smith_diagram t).wires ≡ length t.squares
+  wires_many = ap length wires_are ∙ wires_by-length (node_below (square_groups t.squares)) (group_numbers t.squares) t.squares numbers_many
+
+  pub wire_at : (i : ℕ) (q : Square) (d : ℕ × ℕ) → i < length t.squares → slice_index_or (smith_diagram t).wires i d ≡ (slice_index (group_numbers t.squares) i, node_below (square_groups t.squares) (slice_index_or t.squares i q))
+  wire_at i q d h = ap (λ (ws : List (ℕ × ℕ)). slice_index_or ws i d) wires_are
+      ∙ wires_by-at (node_below (square_groups t.squares)) (group_numbers t.squares) t.squares i d q (omega (arith, numbers_many)) h
+
+  -- its ends
+  pub record HasEnds (from to : ℕ) : Type 0 where
+    pub from_node : from < length (square_groups t.squares) + 1
+    pub to_node : to < length (square_groups t.squares) + 1
+    pub differ : from ≢ to
+
+  pub ends_at : (i : ℕ) (q : Square) → i < length t.squares → HasEnds (slice_index (group_numbers t.squares) i) (node_below (square_groups t.squares) (slice_index_or t.squares i q))
+  ends_at i q h = record { from_node = here.0; to_node = here.1; differ = here.2 }
+    where
+      here : (slice_index (group_numbers t.squares) i < length (square_groups t.squares) + 1) × (node_below (square_groups t.squares) (slice_index_or t.squares i q) < length (square_groups t.squares) + 1)
+          × (slice_index (group_numbers t.squares) i ≢ node_below (square_groups t.squares) (slice_index_or t.squares i q))
+      here = subst (λ (w : ℕ × ℕ). (w.0 < length (square_groups t.squares) + 1) × (w.1 < length (square_groups t.squares) + 1) × (w.0 ≢ w.1)) (wire_at i q (0, 0) h)
+          ((the_one_flow t tiling).0.ends i (0, 0) (omega (arith, wires_many)))
+
+  -- a further wire
+  pub wires_more : (i : ℕ) (q : Square) (wires : List (ℕ × ℕ)) → i < length t.squares → wires ≡ take i (smith_diagram t).wires
+      → wires ++ (slice_index (group_numbers t.squares) i, node_below (square_groups t.squares) (slice_index_or t.squares i q)) ∷ [] ≡ take (i + 1) (smith_diagram t).wires
+  wires_more i q wires h e = (λ k. e k ++ sym (wire_at i q (0, 0) h) k ∷ []) ∙ sym (take_more (smith_diagram t).wires i (0, 0) (omega (arith, wires_many)))

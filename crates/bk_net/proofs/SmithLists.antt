@@ -1,0 +1,267 @@
+-- Lists of groups and their wires: what flows out and in, as sums; the group in which a test passes; and columns counted
+-- two ways.
+use Rattle.std.specs.List.{AllByRecursion, enumerate_from, flat_map, list_any, position_or_len}
+use Rattle.std.specs.Prelude.{pos, ℤ, ◌+ℤ◌, ◌-ℤ◌}
+use Rattle.std.proofs.Common.{Bool, Contains, List, Some, [], ap, arith, cond, count_by, false, inl, inr, length, map, nat_eq, not, refl, slice_get, slice_index_or, subst, suc, sym, true, zero, ℕ, ◌++◌, ◌+◌, ◌<◌, ◌||◌, ◌∙◌, ◌∷◌, ◌≡◌, ◌≤◌, ◌⊎◌}
+use Rattle.std.proofs.lemmas.Bool.Decides.{nat_tests}
+use Rattle.std.proofs.lemmas.Int.{ints}
+use Rattle.std.proofs.lemmas.List.Sums.{sum_by-append}
+use Rattle.bk_tiling.proofs.Cells.{count-cons, covers_from, over_from}
+use Rattle.bk_tiling.proofs.ListLaws.{length_map, map_append}
+use Rattle.bk_tiling.proofs.Rows.{laid_sides, total}
+use Rattle.bk_tiling.specs.Tiling.{IsOneOf, covers}
+use Rattle.bk_tiling.specs.declared.Square.{Square}
+use Rattle.bk_tiling.proofs.Groups.{row_of}
+use Rattle.bk_net.specs.Flow.{outflow}
+
+contains_left : {A : Type 0} (xs ys : List A) (x : A) → Contains xs x → Contains (xs ++ ys) x
+contains_left [] ys x c = absurd (omega (arith, c.1))
+contains_left (y ∷ xs) ys x (zero, below, is) = (zero, omega arith, is)
+contains_left (y ∷ xs) ys x (suc k, below, is) = let c = contains_left xs ys x (k, omega (arith, below), is) in (suc c.0, omega (arith, c.1), c.2)
+
+contains_right : {A : Type 0} (xs ys : List A) (x : A) → Contains ys x → Contains (xs ++ ys) x
+contains_right [] ys x c = c
+contains_right (y ∷ xs) ys x c = let d = contains_right xs ys x c in (suc d.0, omega (arith, d.1), d.2)
+
+-- the wires of groups, from node n on, where each square ends at the node that below gives
+abbrev pub group_wires : (Square → ℕ) → ℕ → List (List Square) → List (ℕ × ℕ)
+group_wires below n groups = flat_map (λ p. map (λ q. (p.0, below q)) p.1) (enumerate_from n groups)
+
+abbrev pub in_total : (Square → ℕ) → ℕ → List Square → ℕ
+in_total below v [] = 0
+in_total below v (q ∷ squares) = cond (nat_eq (below q) v) q.s 0 + in_total below v squares
+
+abbrev pub out_total : ℕ → ℕ → List (List Square) → ℕ
+out_total n v [] = 0
+out_total n v (g ∷ groups) = cond (nat_eq n v) (total (laid_sides g)) 0 + out_total (n + 1) v groups
+
+outflow-append : (ws vs : List (ℕ × ℕ)) (cs ds : List ℤ) (v : ℕ) → length ws ≡ length cs → outflow (ws ++ vs) (cs ++ ds) v ≡ outflow ws cs v +ℤ outflow vs ds v
+outflow-append [] vs [] ds v e = omega (arith, ints)
+outflow-append [] vs (c ∷ cs) ds v e = absurd (omega arith)
+outflow-append (w ∷ ws) vs [] ds v e = absurd (omega arith)
+outflow-append (w ∷ ws) vs (c ∷ cs) ds v e = omega (arith, ints, outflow-append ws vs cs ds v (omega arith))
+
+one_wire : (a b : Bool) (s m n : ℕ) (r : ℤ) → r ≡ pos (cond a m 0) -ℤ pos n → (cond a (pos s) (pos 0) -ℤ cond b (pos s) (pos 0)) +ℤ r ≡ pos (cond a (s + m) 0) -ℤ pos (cond b s 0 + n)
+one_wire true true s m n r e = omega (arith, ints)
+one_wire true false s m n r e = omega (arith, ints)
+one_wire false true s m n r e = omega (arith, ints)
+one_wire false false s m n r e = omega (arith, ints)
+
+no_wire : (a : Bool) → pos 0 ≡ pos (cond {A = ℕ} a 0 0) -ℤ pos 0
+no_wire true = omega (arith, ints)
+no_wire false = omega (arith, ints)
+
+group_outflow : (below : Square → ℕ) (n v : ℕ) (g : List Square) → outflow (map (λ q. (n, below q)) g) (map (λ q. pos q.s) g) v ≡ pos (cond (nat_eq n v) (total (laid_sides g)) 0) -ℤ pos (in_total below v g)
+group_outflow below n v [] = no_wire (nat_eq n v)
+group_outflow below n v (q ∷ g) = one_wire (nat_eq n v) (nat_eq (below q) v) q.s (total (laid_sides g)) (in_total below v g) (outflow (map (λ q. (n, below q)) g) (map (λ q. pos q.s) g) v) (group_outflow below n v g)
+
+in_total-append : (below : Square → ℕ) (v : ℕ) (front back : List Square) → in_total below v (front ++ back) ≡ in_total below v front + in_total below v back
+in_total-append below v [] back = omega arith
+in_total-append below v (q ∷ front) back = omega (arith, in_total-append below v front back)
+
+pub all_outflow : (below : Square → ℕ) (n v : ℕ) (groups : List (List Square)) → outflow (group_wires below n groups) (map (λ q. pos q.s) (row_of groups)) v ≡ pos (out_total n v groups) -ℤ pos (in_total below v (row_of groups))
+all_outflow below n v [] = omega (arith, ints)
+all_outflow below n v (g ∷ groups) = ap (λ (cs : List ℤ). outflow (map (λ q. (n, below q)) g ++ group_wires below (n + 1) groups) cs v) (map_append (λ q. pos q.s) g (row_of groups))
+    ∙ outflow-append (map (λ q. (n, below q)) g) (group_wires below (n + 1) groups) (map (λ q. pos q.s) g) (map (λ q. pos q.s) (row_of groups)) v (length_map (λ q. (n, below q)) g ∙ sym (length_map (λ q. pos q.s) g))
+    ∙ omega (arith, ints, group_outflow below n v g, all_outflow below (n + 1) v groups, in_total-append below v g (row_of groups))
+
+out_none : (n v : ℕ) (groups : List (List Square)) → v < n → out_total n v groups ≡ 0
+out_none n v [] h = refl
+out_none n v (g ∷ groups) h = omega (arith, differ, out_none (n + 1) v groups (omega arith))
+  where
+    differ : cond (nat_eq n v) (total (laid_sides g)) 0 ≡ 0
+    differ = grind (arith, nat_tests)
+
+pub out_at : (n v k : ℕ) (groups : List (List Square)) (g : List Square) → slice_get groups k ≡ Some g → v ≡ n + k → out_total n v groups ≡ total (laid_sides g)
+out_at n v k [] g e f = absurd (cc)
+out_at n v zero (h ∷ groups) g e f = omega (arith, here, out_none (n + 1) v groups (omega arith), ap (λ (x : List Square). total (laid_sides x)) same)
+  where
+    same : h ≡ g
+    same = cc
+
+    here : cond (nat_eq n v) (total (laid_sides h)) 0 ≡ total (laid_sides h)
+    here = grind (arith, nat_tests)
+out_at n v (suc k) (h ∷ groups) g e f = omega (arith, differ, out_at (n + 1) v k groups g e (omega arith))
+  where
+    differ : cond (nat_eq n v) (total (laid_sides h)) 0 ≡ 0
+    differ = grind (arith, nat_tests)
+
+-- each current is what f gives for its wire
+pub group_currents : (below : Square → ℕ) (f : ℕ × ℕ → ℤ) (n : ℕ) (groups : List (List Square)) → ((k : ℕ) (g : List Square) → slice_get groups k ≡ Some g → (q : Square) → IsOneOf q g → pos q.s ≡ f (n + k, below q))
+    → map (λ q. pos q.s) (row_of groups) ≡ map f (group_wires below n groups)
+group_currents below f n [] each = refl
+group_currents below f n (g ∷ groups) each = map_append (λ q. pos q.s) g (row_of groups)
+    ∙ (λ i. own g (λ q h. each 0 g refl q h ∙ ap (λ (v : ℕ). f (v, below q)) (omega arith)) i ++ group_currents below f (n + 1) groups (λ k h e q m. each (suc k) h e q m ∙ ap (λ (v : ℕ). f (v, below q)) (omega arith)) i)
+    ∙ sym (map_append f (map (λ q. (n, below q)) g) (group_wires below (n + 1) groups))
+  where
+    own : (g : List Square) → ((q : Square) → IsOneOf q g → pos q.s ≡ f (n, below q)) → map (λ q. pos q.s) g ≡ map f (map (λ q. (n, below q)) g)
+    own [] each = refl
+    own (q ∷ g) each = λ i. each q (inl refl) i ∷ own g (λ r h. each r (inr h)) i
+
+-- each wire, and all of them
+pub wire_in : (below : Square → ℕ) (n : ℕ) (groups : List (List Square)) (k : ℕ) (g : List Square) (q : Square) → slice_get groups k ≡ Some g → IsOneOf q g → Contains (group_wires below n groups) (n + k, below q)
+wire_in below n [] k g q e h = absurd (cc)
+wire_in below n (x ∷ groups) zero g q e h = contains_left (map (λ q. (n, below q)) x) (group_wires below (n + 1) groups) (n + 0, below q) (own x (subst (IsOneOf q) (sym same) h))
+  where
+    same : x ≡ g
+    same = cc
+
+    at : n ≡ n + 0
+    at = omega arith
+
+    own : (g : List Square) → IsOneOf q g → Contains {X = ℕ × ℕ} (map (λ q. (n, below q)) g) (n + 0, below q)
+    own [] h = absurd h
+    own (r ∷ g) (inl e) = (0, omega arith, λ i. (at i, below (sym e i)))
+    own (r ∷ g) (inr h) = let c = own g h in (suc c.0, omega (arith, c.1), c.2)
+wire_in below n (x ∷ groups) (suc k) g q e h = contains_right (map (λ q. (n, below q)) x) (group_wires below (n + 1) groups) (n + suc k, below q) (subst (λ (v : ℕ). Contains {X = ℕ × ℕ} (group_wires below (n + 1) groups) (v, below q)) (omega arith) (wire_in below (n + 1) groups k g q e h))
+
+all_join : (P : ℕ × ℕ → Type 0) (ws vs : List (ℕ × ℕ)) → AllByRecursion P ws → AllByRecursion P vs → AllByRecursion P (ws ++ vs)
+all_join P [] vs a b = b
+all_join P (w ∷ ws) vs a b = (a.0, all_join P ws vs a.1 b)
+
+pub wires_each : (P : ℕ × ℕ → Type 0) (below : Square → ℕ) (n : ℕ) (groups : List (List Square)) → ((k : ℕ) (g : List Square) → slice_get groups k ≡ Some g → (q : Square) → IsOneOf q g → P (n + k, below q)) → AllByRecursion P (group_wires below n groups)
+wires_each P below n [] each = tt
+wires_each P below n (g ∷ groups) each = all_join P (map (λ q. (n, below q)) g) (group_wires below (n + 1) groups)
+    (own g (λ q h. subst (λ (v : ℕ). P (v, below q)) (omega arith) (each 0 g refl q h)))
+    (wires_each P below (n + 1) groups (λ k h e q m. subst (λ (v : ℕ). P (v, below q)) (omega arith) (each (suc k) h e q m)))
+  where
+    own : (g : List Square) → ((q : Square) → IsOneOf q g → P (n, below q)) → AllByRecursion P (map (λ q. (n, below q)) g)
+    own [] each = tt
+    own (q ∷ g) each = (each q (inl refl), own g (λ r h. each r (inr h)))
+
+-- ---- the group in which a test passes
+
+pub count_row : (f : Square → Bool) (g : List Square) (groups : List (List Square)) → count_by f (row_of (g ∷ groups)) ≡ count_by f g + count_by f (row_of groups)
+count_row f g groups = sum_by-append (λ q. cond (f q) 1 0) g (row_of groups)
+
+pub count_at : (f : Square → Bool) (groups : List (List Square)) (v : ℕ) → count_by f (slice_index_or groups v []) ≤ count_by f (row_of groups)
+count_at f [] v = omega arith
+count_at f (g ∷ groups) zero = omega (arith, count_row f g groups)
+count_at f (g ∷ groups) (suc v) = omega (arith, count_row f g groups, count_at f groups v)
+
+any_count : (f : Square → Bool) (g : List Square) → ((list_any f g ≡ true) × (0 < count_by f g)) ⊎ ((list_any f g ≡ false) × (count_by f g ≡ 0))
+any_count f [] = inr (refl, refl)
+any_count f (q ∷ g) = cases (f q) refl (any_count f g)
+  where
+    cases : (b : Bool) → f q ≡ b → ((list_any f g ≡ true) × (0 < count_by f g)) ⊎ ((list_any f g ≡ false) × (count_by f g ≡ 0)) → ((f q || list_any f g ≡ true) × (0 < count_by f (q ∷ g))) ⊎ ((f q || list_any f g ≡ false) × (count_by f (q ∷ g) ≡ 0))
+    cases true e rest = inl (ap (λ (c : Bool). c || list_any f g) e, omega (arith, count-cons f q g, ap (λ (c : Bool). cond {A = ℕ} c 1 0) e))
+    cases false e (inl h) = inl (ap (λ (c : Bool). c || list_any f g) e ∙ h.0, omega (arith, count-cons f q g, h.1))
+    cases false e (inr h) = inr (ap (λ (c : Bool). c || list_any f g) e ∙ h.0, omega (arith, count-cons f q g, h.1, ap (λ (c : Bool). cond {A = ℕ} c 1 0) e))
+
+pub record HasGroup (f : Square → Bool) (groups : List (List Square)) (place : ℕ) : Type 0 where
+  pub most : place ≤ length groups
+  pub found : ((place < length groups) × (0 < count_by f (slice_index_or groups place []))) ⊎ ((place ≡ length groups) × (count_by f (row_of groups) ≡ 0))
+  pub counts : (v : ℕ) → v < length groups → count_by f (slice_index_or groups v []) ≡ cond (nat_eq place v) 1 0
+
+pub has_group : (f : Square → Bool) (groups : List (List Square)) → count_by f (row_of groups) ≤ 1 → HasGroup f groups (position_or_len (list_any f) groups)
+has_group f [] once = record { most = omega arith; found = inr (refl, refl); counts = λ v h. absurd (omega arith) }
+has_group f (g ∷ groups) once = cases (any_count f g) (has_group f groups)
+  where
+    place_of : (b : Bool) → list_any f g ≡ b → cond (not b) (1 + position_or_len (list_any f) groups) 0 ≡ position_or_len (list_any f) (g ∷ groups)
+    place_of b same = ap (λ (c : Bool). cond (not c) (1 + position_or_len (list_any f) groups) 0) (sym same)
+
+    shift : (a v : ℕ) → ◌≡◌ {A = ℕ} (cond (nat_eq (1 + a) (suc v)) 1 0) (cond (nat_eq a v) 1 0)
+    shift a v = grind (arith, nat_tests)
+
+    far : (v : ℕ) → ◌≡◌ {A = ℕ} (cond (nat_eq 0 (suc v)) 1 0) 0
+    far v = grind (arith, nat_tests)
+
+    near : (a : ℕ) → ◌≡◌ {A = ℕ} (cond (nat_eq (1 + a) 0) 1 0) 0
+    near a = grind (arith, nat_tests)
+
+    at : (a : ℕ) → slice_index_or (g ∷ groups) (1 + a) [] ≡ slice_index_or groups a []
+    at a = λ i. slice_index_or (g ∷ groups) (step i) []
+      where
+        step : 1 + a ≡ suc a
+        step = omega arith
+
+    cases : ((list_any f g ≡ true) × (0 < count_by f g)) ⊎ ((list_any f g ≡ false) × (count_by f g ≡ 0)) → (count_by f (row_of groups) ≤ 1 → HasGroup f groups (position_or_len (list_any f) groups)) → HasGroup f (g ∷ groups) (position_or_len (list_any f) (g ∷ groups))
+    cases (inl h) rest = subst (HasGroup f (g ∷ groups)) (place_of true h.0) (record { most = omega arith; found = inl (omega arith, h.1); counts = counts })
+      where
+        counts : (v : ℕ) → v < length (g ∷ groups) → count_by f (slice_index_or (g ∷ groups) v []) ≡ cond (nat_eq 0 v) 1 0
+        counts zero l = omega (arith, h.1, count_row f g groups)
+        counts (suc v) l = omega (arith, h.1, count_row f g groups, count_at f groups v, far v)
+    cases (inr h) rest = subst (HasGroup f (g ∷ groups)) (place_of false h.0) (record { most = omega (arith, r.most); found = found r.found; counts = counts })
+      where
+        r : HasGroup f groups (position_or_len (list_any f) groups)
+        r = rest (omega (arith, count_row f g groups))
+
+        found : ((position_or_len (list_any f) groups < length groups) × (0 < count_by f (slice_index_or groups (position_or_len (list_any f) groups) []))) ⊎ ((position_or_len (list_any f) groups ≡ length groups) × (count_by f (row_of groups) ≡ 0))
+            → ((1 + position_or_len (list_any f) groups < length (g ∷ groups)) × (0 < count_by f (slice_index_or (g ∷ groups) (1 + position_or_len (list_any f) groups) []))) ⊎ ((1 + position_or_len (list_any f) groups ≡ length (g ∷ groups)) × (count_by f (row_of (g ∷ groups)) ≡ 0))
+        found (inl k) = inl (omega (arith, k.0), subst (λ (l : List Square). 0 < count_by f l) (sym (at (position_or_len (list_any f) groups))) k.1)
+        found (inr k) = inr (omega (arith, k.0), omega (arith, count_row f g groups, h.1, k.1))
+
+        counts : (v : ℕ) → v < length (g ∷ groups) → count_by f (slice_index_or (g ∷ groups) v []) ≡ cond (nat_eq (1 + position_or_len (list_any f) groups) v) 1 0
+        counts zero l = omega (arith, h.1, near (position_or_len (list_any f) groups))
+        counts (suc v) l = omega (arith, r.counts v (omega arith), shift (position_or_len (list_any f) groups) v)
+
+-- ---- columns, counted by squares
+
+-- over how many of n columns from a on the square lies at level j
+abbrev pub cols : ℕ → ℕ → ℕ → Square → ℕ
+cols zero a j q = 0
+cols (suc n) a j q = cond (covers a j q) 1 0 + cols n (a + 1) j q
+
+abbrev pub all_cols : ℕ → ℕ → ℕ → List Square → ℕ
+all_cols n a j [] = 0
+all_cols n a j (q ∷ squares) = cols n a j q + all_cols n a j squares
+
+all_cols-none : (a j : ℕ) (squares : List Square) → all_cols 0 a j squares ≡ 0
+all_cols-none a j [] = refl
+all_cols-none a j (q ∷ squares) = omega (arith, all_cols-none a j squares)
+
+all_cols-one : (n a j : ℕ) (squares : List Square) → all_cols (suc n) a j squares ≡ count_by (covers a j) squares + all_cols n (a + 1) j squares
+all_cols-one n a j [] = refl
+all_cols-one n a j (q ∷ squares) = omega (arith, count-cons (covers a j) q squares, all_cols-one n a j squares)
+
+pub all_cols-are : (n a j : ℕ) (squares : List Square) → ((c : ℕ) → a ≤ c → c < a + n → count_by (covers c j) squares ≡ 1) → all_cols n a j squares ≡ n
+all_cols-are zero a j squares once = all_cols-none a j squares
+all_cols-are (suc n) a j squares once = omega (arith, all_cols-one n a j squares, once a (omega arith) (omega arith), all_cols-are n (a + 1) j squares (λ c lo hi. once c (omega arith) (omega arith)))
+
+no_cell : (c j : ℕ) (q : Square) → (covers c j q ≡ true → ⊥) → ◌≡◌ {A = ℕ} (cond (covers c j q) 1 0) 0
+no_cell c j q h = by (covers c j q) refl
+  where
+    by : (b : Bool) → covers c j q ≡ b → ◌≡◌ {A = ℕ} (cond b 1 0) 0
+    by true e = absurd (h e)
+    by false e = refl
+
+one_cell : (c j : ℕ) (q : Square) → covers c j q ≡ true → ◌≡◌ {A = ℕ} (cond (covers c j q) 1 0) 1
+one_cell c j q e = ap (λ (b : Bool). cond {A = ℕ} b 1 0) e
+
+pub cols_none : (n a j : ℕ) (q : Square) → ((c : ℕ) → a ≤ c → c < a + n → covers c j q ≡ true → ⊥) → cols n a j q ≡ 0
+cols_none zero a j q none = refl
+cols_none (suc n) a j q none = omega (arith, no_cell a j q (none a (omega arith) (omega arith)), cols_none n (a + 1) j q (λ c lo hi. none c (omega arith) (omega arith)))
+
+cols_from : (n a j : ℕ) (q : Square) → q.y ≤ j → j < q.y + q.s → q.x ≤ a → a ≤ q.x + q.s → q.x + q.s ≤ a + n → a + cols n a j q ≡ q.x + q.s
+cols_from zero a j q top low lo mid hi = omega arith
+cols_from (suc n) a j q top low lo mid hi = cases (two a (q.x + q.s)) (cols_from n (a + 1) j q top low)
+  where
+    two : (a b : ℕ) → (a < b) ⊎ (b ≤ a)
+    two a b = grind arith
+
+    cases : (a < q.x + q.s) ⊎ (q.x + q.s ≤ a) → (q.x ≤ a + 1 → a + 1 ≤ q.x + q.s → q.x + q.s ≤ a + 1 + n → a + 1 + cols n (a + 1) j q ≡ q.x + q.s) → a + (cond (covers a j q) 1 0 + cols n (a + 1) j q) ≡ q.x + q.s
+    cases (inl h) rest = omega (arith, one_cell a j q (covers_from a j q lo h top low), rest (omega arith) (omega arith) (omega arith))
+    cases (inr h) rest = omega (
+      arith,
+      no_cell a j q (λ e. omega (arith, (over_from a j q e).right)),
+      cols_none n (a + 1) j q (λ c l k e. omega (arith, (over_from c j q e).right)),
+    )
+
+pub cols_all : (n a j : ℕ) (q : Square) → q.y ≤ j → j < q.y + q.s → a ≤ q.x → q.x + q.s ≤ a + n → cols n a j q ≡ q.s
+cols_all zero a j q top low lo hi = omega arith
+cols_all (suc n) a j q top low lo hi = cases (two a q.x) (cols_all n (a + 1) j q top low)
+  where
+    two : (a b : ℕ) → (a < b) ⊎ (b ≤ a)
+    two a b = grind arith
+
+    cases : (a < q.x) ⊎ (q.x ≤ a) → (a + 1 ≤ q.x → q.x + q.s ≤ a + 1 + n → cols n (a + 1) j q ≡ q.s) → cond (covers a j q) 1 0 + cols n (a + 1) j q ≡ q.s
+    cases (inl h) rest = omega (arith, no_cell a j q (λ e. omega (arith, (over_from a j q e).left)), rest (omega arith) (omega arith))
+    cases (inr h) rest = omega (arith, cols_from (suc n) a j q top low (omega arith) (omega arith) hi)
+
+pub in_is_cols : (below : Square → ℕ) (v n a j : ℕ) (squares : List Square) → ((q : Square) → IsOneOf q squares → cond (nat_eq (below q) v) q.s 0 ≡ cols n a j q) → in_total below v squares ≡ all_cols n a j squares
+in_is_cols below v n a j [] each = refl
+in_is_cols below v n a j (q ∷ squares) each = omega (arith, each q (inl refl), in_is_cols below v n a j squares (λ r h. each r (inr h)))
+
+pub in_is_none : (below : Square → ℕ) (v : ℕ) (squares : List Square) → ((q : Square) → IsOneOf q squares → cond (nat_eq (below q) v) q.s 0 ≡ 0) → in_total below v squares ≡ 0
+in_is_none below v [] each = refl
+in_is_none below v (q ∷ squares) each = omega (arith, each q (inl refl), in_is_none below v squares (λ r h. each r (inr h)))

@@ -1,0 +1,12 @@
+pub mod Net
+pub mod Flow
+pub mod Diagram
+pub mod NetLine
+pub mod SmithFlow
+pub mod KeptNet
+pub mod GroupNumbers
+pub mod Labels
+pub mod Reader
+pub mod ReadNet
+pub mod Gathered
+pub mod NetLineLaws

@@ -1,0 +1,265 @@
+//! Networks of unit resistances, Smith diagrams and their flows.
+#![tactic(auto)]
+
+ghost use Rattle.bk_net.specs.Flow.{Flow, IsFlow, IsOneFlow};
+ghost use Rattle.bk_net.specs.KeptNet.{IsKeptNet};
+ghost use Rattle.bk_net.specs.Net.{HasNoLoose, IsLeastLoose, IsNet, Net as SeenNet};
+ghost use Rattle.bk_net.specs.NetLineLaws.{ANetLineHasOneMeaning};
+ghost use Rattle.bk_net.specs.SmithFlow.{SidesAreTheOneFlow};
+ghost use Rattle.std.specs.Prelude.{IfNone, IfSome, [], length, pos, ◌++◌, ◌<◌, ◌∷◌, ◌≡◌, ◌≢◌, ◌≤ℤ◌, ◌≤◌};
+
+mod diagram;
+mod labels;
+mod read;
+mod reader;
+
+use arrayvec::ArrayVec;
+pub use diagram::net_of;
+use labels::labels_of;
+pub use read::read_net;
+use std::marker::Model;
+use thiserror::Error;
+
+/// A net has at most so many nodes: one for each group of a tiling, and the bottom.
+pub const MOST_NODES: usize = 201;
+
+/// A net has at most so many wires.
+pub const MOST_WIRES: usize = 200;
+
+/// A network of unit resistances: 2 to 201 nodes, numbered from 0, and at most 200 wires, each between two different
+/// nodes. The current goes in at node 0 and out at the last node (Brooks, Smith, Stone and Tutte 1940).
+#[derive(Drop)]
+pub struct Net {
+    nodes: u16,
+    wires: ArrayVec<(u16, u16), MOST_WIRES>,
+}
+
+impl Model for Net {
+    ghost use Rattle.bk_net.specs.KeptNet.{IsKeptNet};
+    ghost use Rattle.bk_net.specs.Net.{Net as SeenNet};
+
+    ghost Value = { SeenNet };
+
+    ghost view = { λ n. record { nodes = n.nodes; wires = n.wires.items } };
+
+    ghost invariant = { λ n. IsKeptNet (record { nodes = n.nodes; wires = n.wires.items }) };
+}
+
+impl Net {
+    /// A net of so many nodes, with no wires.
+    pub fn new(nodes: u16) -> Net
+        requires some { 2 ≤ nodes }
+        requires few { nodes ≤ MOST_NODES }
+        ensures { result ≡ record { nodes = nodes; wires = [] } }
+    {
+        Net {
+            nodes,
+            wires: ArrayVec::new(),
+        }
+    }
+
+    /// Appends a wire from one node to another. Its current counts as positive in this direction.
+    pub fn add(&mut self, from: u16, to: u16)
+        requires room { length self.old.wires < MOST_WIRES }
+        requires from_node { from < self.old.nodes }
+        requires to_node { to < self.old.nodes }
+        requires differ { from ≢ to }
+        ensures nodes { self.new.nodes ≡ self.old.nodes }
+        ensures wires { self.new.wires ≡ self.old.wires ++ (from, to) ∷ [] }
+    {
+        self.wires.push((from, to));
+    }
+
+    /// How many nodes there are, 2 to 201.
+    pub fn nodes(&self) -> u16
+        ensures value { result ≡ self.now.nodes }
+        ensures kept { IsKeptNet self.now }
+    {
+        self.nodes
+    }
+
+    /// The wires, in the order in which they were appended.
+    pub fn wires(&self) -> &[(u16, u16)]
+        ensures value { result.now ≡ self.now.wires }
+        ensures kept { IsKeptNet self.now }
+    {
+        self.wires.as_slice()
+    }
+    /// The least node that is not joined to the last one by wires, whichever way they lead. There is none exactly where
+    /// every node is joined to the last, and then a total fixes the flow (Kirchhoff).
+    pub fn loose(&self) -> Option<u16>
+        ensures none { IfNone result (HasNoLoose self.now) }
+        ensures some { IfSome result (IsLeastLoose self.now) }
+    {
+        let nodes = self.nodes();
+        let labels = labels_of(nodes, self.wires());
+        let last = labels[usize::from(nodes - 1)];
+        for v in 0..nodes {
+            if labels[usize::from(v)] != last {
+                return Some(v);
+            }
+        }
+        None
+    }
+}
+
+/// What a network line stands for: nothing, or a net.
+#[derive(Drop)]
+pub enum NetLine {
+    Skip,
+    Item { net: Net },
+}
+
+/// Why a network line is refused.
+#[derive(Debug, Drop, Error)]
+pub enum NetFault {
+    /// The bytes are no network line: the longest start of them that begins one has `at` bytes.
+    #[error("Text")]
+    Text { at: usize },
+    /// There are more than 200 wires.
+    #[error("Many")]
+    Many,
+    /// The number of nodes is not 2 to 201.
+    #[error("Nodes")]
+    Nodes { count: u64 },
+    /// The wire at this place, from 1, is the first that names a node that is not there, or one node twice.
+    #[error("Wire")]
+    Wire { place: usize },
+}
+
+/// Where every node of a net is joined to the last, a flow of a total of at least 1 is the one flow of
+/// its total (Kirchhoff).
+pub fn a_joined_net_has_one_flow()
+    ensures { (net : SeenNet) (f : Flow) → IsNet net → HasNoLoose net → IsFlow net f → pos 1 ≤ℤ f.total → IsOneFlow net f }
+{}
+
+/// The Smith diagram of a tiling is a net without a loose node, and the sides are its one flow.
+pub fn sides_are_the_one_flow()
+    ensures { SidesAreTheOneFlow }
+{}
+
+/// A network line stands for one thing only.
+pub fn a_net_line_has_one_meaning()
+    ensures { ANetLineHasOneMeaning }
+{}
+
+#[cfg(test)]
+mod tests {
+    use super::*;
+    use bk_tiling::{Square, Tiling};
+    use std::test::Fail;
+
+    fn at(x: u64, y: u64, s: u64) -> Square {
+        Square { x, y, s }
+    }
+
+    #[test]
+    fn hangs_nine_squares(rt: HostRuntime) {
+        let squares = [
+            at(0, 0, 18),
+            at(18, 0, 15),
+            at(18, 15, 7),
+            at(25, 15, 8),
+            at(0, 18, 14),
+            at(14, 18, 4),
+            at(14, 22, 10),
+            at(24, 22, 1),
+            at(24, 23, 9),
+        ];
+        let tiling = Tiling::try_new(33, 32, &squares).expect(&rt, "they tile it");
+        let (net, levels) = net_of(&tiling);
+        let wires = [
+            (0, 2),
+            (0, 1),
+            (1, 3),
+            (1, 4),
+            (2, 5),
+            (2, 3),
+            (3, 5),
+            (3, 4),
+            (4, 5),
+        ];
+        assert_eq!(rt; net.nodes(), 6);
+        assert_eq!(rt; net.wires(), wires.as_slice());
+        assert_eq!(rt; levels.as_slice(), [0, 15, 18, 22, 23, 32].as_slice());
+    }
+
+    #[test]
+    fn hangs_few_squares(rt: HostRuntime) {
+        let four = [at(0, 0, 1), at(1, 0, 1), at(0, 1, 1), at(1, 1, 1)];
+        let one = [at(0, 0, 1)];
+        let rows: [(u64, &[Square], &[(u16, u16)]); 2] = [
+            (2, &four, &[(0, 1), (0, 1), (1, 2), (1, 2)]),
+            (1, &one, &[(0, 1)]),
+        ];
+        for (size, squares, wires) in rows {
+            let tiling = Tiling::try_new(size, size, squares).expect(&rt, "they tile it");
+            let (net, _levels) = net_of(&tiling);
+            assert_eq!(rt; net.wires(), wires);
+            assert_eq!(rt; net.loose(), None);
+        }
+    }
+
+    // What a line is read as: its nodes and its least loose node, or the fault.
+    fn meaning(line: &[u8]) -> Result<(u16, Option<u16>), NetFault> {
+        match read_net(line)? {
+            NetLine::Skip => Ok((0, None)),
+            NetLine::Item { net } => Ok((net.nodes(), net.loose())),
+        }
+    }
+
+    #[test]
+    fn reads_lines(rt: HostRuntime) -> Result<(), Fail> {
+        let read: [(&[u8], (u16, Option<u16>)); 7] = [
+            (b"", (0, None)),
+            (b" \t; 2 0-1", (0, None)),
+            (b"4 0-1 0-2 1-2 1-3 2-3", (4, None)),
+            (b" 2  1-0\r;", (2, None)),
+            (b"4 0-1 2-3", (4, Some(0))),
+            (b"3 0-2", (3, Some(1))),
+            (b"2", (2, Some(0))),
+        ];
+        for (line, want) in read {
+            assert_eq!(rt; meaning(line)?, want);
+        }
+        let refused: [(&[u8], &[u8]); 12] = [
+            (b"2 0", b"Text 3"),
+            (b"2 0-", b"Text 4"),
+            (b"02 0-1", b"Text 1"),
+            (b"2 0-1x", b"Text 5"),
+            (b"2 0 -1", b"Text 3"),
+            (b"1000 0-1", b"Text 3"),
+            (b"1", b"Nodes 1"),
+            (b"202 0-1", b"Nodes 202"),
+            (b"0 0-0", b"Nodes 0"),
+            (b"3 0-1 1-3", b"Wire 2"),
+            (b"3 0-1 0-2 1-1 3-3", b"Wire 3"),
+            (b"2 0-1 ,", b"Text 6"),
+        ];
+        for (line, want) in refused {
+            let fault = meaning(line).err().ok_or("it is refused")?;
+            let place = match fault {
+                NetFault::Text { at } | NetFault::Wire { place: at } => at as u64,
+                NetFault::Many => 0,
+                NetFault::Nodes { count } => count,
+            };
+            let text = format!(in rt.alloc(); "{fault} {place}")?;
+            assert_eq!(rt; text.as_bytes(), want);
+        }
+        Ok(())
+    }
+
+    #[test]
+    fn refuses_many_wires(rt: HostRuntime) -> Result<(), Fail> {
+        let mut line = Vec::new(rt.alloc());
+        line.push(b'2')?;
+        for _ in 0..200 {
+            line.extend_from_slice(b" 0-1")?;
+        }
+        assert_eq!(rt; meaning(&line)?, (2, None));
+        line.extend_from_slice(b" 1-0")?;
+        let fault = meaning(&line).err().ok_or("it is refused")?;
+        assert!(rt; matches!(fault, NetFault::Many));
+        Ok(())
+    }
+}

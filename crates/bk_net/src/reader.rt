@@ -1,0 +1,166 @@
+//! Reading a network line byte by byte.
+#![tactic(auto)]
+
+ghost use Rattle.std.specs.Prelude.{◌≡◌};
+ghost use Rattle.bk_net.specs.Reader.{ended_wire as ended_before, ending_at, kind_of as kind_of_byte, last_wire as last, longer as longer_number, next_place};
+
+/// What a byte is to the grammar of network lines; a digit with its value.
+#[derive(Clone, Copy)]
+pub enum Kind {
+    Blank,
+    Digit(u8),
+    Dash,
+    Semicolon,
+    Other,
+}
+
+/// What a line is, once it could end: nothing, or a net of so many nodes.
+#[derive(Clone, Copy)]
+pub enum Ending {
+    Empty,
+    Nodes(u16),
+}
+
+/// Where the reader of a line stands: the numbers are the number of nodes, and what was read of the wire at hand.
+#[derive(Clone, Copy)]
+pub enum Place {
+    Start,
+    Count(u16),
+    Between(u16),
+    First(u16, u16),
+    BehindDash(u16, u16),
+    Second(u16, u16, u16),
+    Comment(Ending),
+}
+
+// What a byte is to the grammar.
+pub(crate) fn kind_of(byte: u8) -> Kind
+    ensures { result ≡ kind_of_byte byte }
+{
+    match byte {
+        b'0'..=b'9' => Kind::Digit(byte - b'0'),
+        b' ' | b'\t' | b'\r' => Kind::Blank,
+        b'-' => Kind::Dash,
+        b';' => Kind::Semicolon,
+        _ => Kind::Other,
+    }
+}
+
+// A number and a further digit: none goes on behind a 0, nor behind three digits.
+fn longer(value: u16, digit: u8) -> Option<u16>
+    ensures { result ≡ longer_number value digit }
+{
+    if 0 < value && value < 100 {
+        Some(value * 10 + u16::from(digit))
+    } else {
+        None
+    }
+}
+
+impl Place {
+    // The place behind a further byte, or `None` where no line goes on with it.
+    pub(crate) fn next(self, kind: Kind) -> Option<Place>
+        ensures { result ≡ next_place self kind }
+    {
+        match self {
+            Place::Start => at_start(kind),
+            Place::Count(nodes) => in_count(nodes, kind),
+            Place::Between(nodes) => between(nodes, kind),
+            Place::First(nodes, from) => in_first(nodes, from, kind),
+            Place::BehindDash(nodes, from) => match kind {
+                Kind::Digit(digit) => Some(Place::Second(nodes, from, u16::from(digit))),
+                _ => None,
+            },
+            Place::Second(nodes, from, to) => in_second(nodes, from, to, kind),
+            Place::Comment(_) => Some(self),
+        }
+    }
+
+    // The wire that ends before a further byte.
+    pub(crate) fn ended_wire(self, kind: Kind) -> Option<(u16, u16)>
+        ensures { result ≡ ended_before self kind }
+    {
+        match (self, kind) {
+            (Place::Second(_, from, to), Kind::Blank | Kind::Semicolon) => Some((from, to)),
+            _ => None,
+        }
+    }
+
+    // The wire that ends with the line.
+    pub(crate) fn last_wire(self) -> Option<(u16, u16)>
+        ensures { result ≡ last self }
+    {
+        match self {
+            Place::Second(_, from, to) => Some((from, to)),
+            _ => None,
+        }
+    }
+
+    // What a line is that ends here, or `None` where none does.
+    pub(crate) fn ending(self) -> Option<Ending>
+        ensures { result ≡ ending_at self }
+    {
+        match self {
+            Place::Start => Some(Ending::Empty),
+            Place::Count(nodes) | Place::Between(nodes) | Place::Second(nodes, _, _) => {
+                Some(Ending::Nodes(nodes))
+            }
+            Place::Comment(ending) => Some(ending),
+            Place::First(_, _) | Place::BehindDash(_, _) => None,
+        }
+    }
+}
+
+fn at_start(kind: Kind) -> Option<Place>
+    ensures { result ≡ next_place Place.Start kind }
+{
+    match kind {
+        Kind::Blank => Some(Place::Start),
+        Kind::Digit(digit) => Some(Place::Count(u16::from(digit))),
+        Kind::Semicolon => Some(Place::Comment(Ending::Empty)),
+        _ => None,
+    }
+}
+
+fn in_count(nodes: u16, kind: Kind) -> Option<Place>
+    ensures { result ≡ next_place (Place.Count nodes) kind }
+{
+    match kind {
+        Kind::Blank => Some(Place::Between(nodes)),
+        Kind::Digit(digit) => longer(nodes, digit).map(Place::Count),
+        Kind::Semicolon => Some(Place::Comment(Ending::Nodes(nodes))),
+        _ => None,
+    }
+}
+
+fn between(nodes: u16, kind: Kind) -> Option<Place>
+    ensures { result ≡ next_place (Place.Between nodes) kind }
+{
+    match kind {
+        Kind::Blank => Some(Place::Between(nodes)),
+        Kind::Digit(digit) => Some(Place::First(nodes, u16::from(digit))),
+        Kind::Semicolon => Some(Place::Comment(Ending::Nodes(nodes))),
+        _ => None,
+    }
+}
+
+fn in_first(nodes: u16, from: u16, kind: Kind) -> Option<Place>
+    ensures { result ≡ next_place (Place.First nodes from) kind }
+{
+    match kind {
+        Kind::Digit(digit) => longer(from, digit).map(|from| Place::First(nodes, from)),
+        Kind::Dash => Some(Place::BehindDash(nodes, from)),
+        _ => None,
+    }
+}
+
+fn in_second(nodes: u16, from: u16, to: u16, kind: Kind) -> Option<Place>
+    ensures { result ≡ next_place (Place.Second nodes from to) kind }
+{
+    match kind {
+        Kind::Blank => Some(Place::Between(nodes)),
+        Kind::Digit(digit) => longer(to, digit).map(|to| Place::Second(nodes, from, to)),
+        Kind::Semicolon => Some(Place::Comment(Ending::Nodes(nodes))),
+        _ => None,
+    }
+}

@@ -1,0 +1,126 @@
+-- The greatest of the images, found one by one.
+use Rattle.std.specs.Cmp.Lexicographic.{nat_list_cmp_total, slice_cmp}
+use Rattle.std.specs.Ordering.{is_le, nat_cmp, ordering_reverse}
+use Rattle.std.specs.declared.cmp.Ordering.{Ordering}
+use Rattle.std.specs.declared.cmp.Ordering.TheVariants.{Equal, Greater, Less}
+use Rattle.std.proofs.Common.{List, [], ap, arith, false, get_or, inl, inr, refl, subst, sym, true, ℕ, ◌+◌, ◌<◌, ◌∙◌, ◌∷◌, ◌≡◌, ◌≤◌, ◌⊎◌}
+use Rattle.std.proofs.lemmas.Cmp.{tied_itself}
+use Rattle.bk_code.specs.Code.{code_of, flat}
+use Rattle.bk_tiling.specs.Tiling.{IsTiling, Tiling}
+use Rattle.bk_sym.proofs.CanonicalLaws.{cmp_equal}
+use Rattle.bk_sym.proofs.Composing.{image-Same}
+use Rattle.bk_sym.specs.Canonical.{IsAtMost, IsCanonicalOf, IsGreatestImage, Lies, scaled_down_tiling}
+use Rattle.bk_sym.specs.Image.{image}
+use Rattle.bk_sym.specs.declared.Turn.{Turn}
+use Rattle.bk_sym.specs.declared.Turn.TheVariants.{FlipX, FlipY, Half, Same, Swap, SwapFlipX, SwapFlipY, SwapHalf}
+
+pub at_most-refl : (t : Tiling) → IsAtMost t t
+at_most-refl t = ap is_le (tied_itself nat_list_cmp_total (flat (code_of t)))
+
+clash : false ≡ true → ⊥
+clash e = cc
+
+pub at_most-total : (t u : Tiling) → ¬ (IsAtMost t u) → IsAtMost u t
+at_most-total t u later = cases (slice_cmp nat_cmp (flat (code_of t)) (flat (code_of u))) refl
+  where
+    cases : (r : Ordering) → slice_cmp nat_cmp (flat (code_of t)) (flat (code_of u)) ≡ r → IsAtMost u t
+    cases Less e = absurd (later (ap is_le e))
+    cases Equal e = absurd (later (ap is_le e))
+    cases Greater e = ap is_le (nat_list_cmp_total.antisymm (flat (code_of u)) (flat (code_of t)) ∙ ap ordering_reverse e)
+
+at_most_lists : (xs ys zs : List ℕ) → is_le (slice_cmp nat_cmp xs ys) ≡ true → is_le (slice_cmp nat_cmp ys zs) ≡ true → is_le (slice_cmp nat_cmp xs zs) ≡ true
+at_most_lists xs ys zs a b = cases (slice_cmp nat_cmp xs ys) refl (slice_cmp nat_cmp ys zs) refl
+  where
+    cases : (r : Ordering) → slice_cmp nat_cmp xs ys ≡ r → (q : Ordering) → slice_cmp nat_cmp ys zs ≡ q → is_le (slice_cmp nat_cmp xs zs) ≡ true
+    cases Greater e q f = absurd (clash (sym (ap is_le e) ∙ a))
+    cases Equal e q f = subst (λ (list : List ℕ). is_le (slice_cmp nat_cmp list zs) ≡ true) (sym (cmp_equal xs ys e)) b
+    cases Less e Greater f = absurd (clash (sym (ap is_le f) ∙ b))
+    cases Less e Equal f = subst (λ (list : List ℕ). is_le (slice_cmp nat_cmp xs list) ≡ true) (cmp_equal ys zs f) a
+    cases Less e Less f = ap is_le (nat_list_cmp_total.trans xs ys zs e f)
+
+pub at_most-trans : (t u v : Tiling) → IsAtMost t u → IsAtMost u v → IsAtMost t v
+at_most-trans t u v = at_most_lists (flat (code_of t)) (flat (code_of u)) (flat (code_of v))
+
+-- no image by one of the first k turns has a greater flat list than c
+abbrev pub NoneGreater : Tiling → List Turn → ℕ → Tiling → Type 0
+NoneGreater t turns k c = (j : ℕ) → j < k → Lies (image (get_or turns j Same) t) → IsAtMost (image (get_or turns j Same) t) c
+
+pub none_greater-more : (t : Tiling) (turns : List Turn) (k : ℕ) (c : Tiling) → NoneGreater t turns k c
+    → (Lies (image (get_or turns k Same) t) → IsAtMost (image (get_or turns k Same) t) c) → NoneGreater t turns (k + 1) c
+none_greater-more t turns k c before here j below = cases (two j k)
+  where
+    two : (a b : ℕ) → (a < b) ⊎ (b ≤ a)
+    two a b = grind arith
+
+    cases : (j < k) ⊎ (k ≤ j) → Lies (image (get_or turns j Same) t) → IsAtMost (image (get_or turns j Same) t) c
+    cases (inl h) = before j h
+    cases (inr h) = let e : k ≡ j = omega arith in subst (λ n. Lies (image (get_or turns n Same) t) → IsAtMost (image (get_or turns n Same) t) c) e here
+
+-- all turns but one
+abbrev pub others : List Turn
+others = FlipX ∷ FlipY ∷ Half ∷ Swap ∷ SwapFlipX ∷ SwapFlipY ∷ SwapHalf ∷ []
+
+pub greatest_from : (t c : Tiling) → NoneGreater t others 7 c → (Lies (image Same t) → IsAtMost (image Same t) c) → IsGreatestImage t c
+greatest_from t c none same Same = same
+greatest_from t c none same FlipX = none 0 (omega arith)
+greatest_from t c none same FlipY = none 1 (omega arith)
+greatest_from t c none same Half = none 2 (omega arith)
+greatest_from t c none same Swap = none 3 (omega arith)
+greatest_from t c none same SwapFlipX = none 4 (omega arith)
+greatest_from t c none same SwapFlipY = none 5 (omega arith)
+greatest_from t c none same SwapHalf = none 6 (omega arith)
+
+-- what is known of the greatest image so far
+pub record IsGreatestSoFar (t : Tiling) (first : Turn) (turns : List Turn) (k : ℕ) (c : Tiling) : Type 0 where
+  pub turn : Turn
+  pub image_of : c ≡ image turn t
+  pub lying : Lies c
+  pub from_first : IsAtMost (image first t) c
+  pub none_greater : NoneGreater t turns k c
+
+pub so_far-more : (t : Tiling) (first : Turn) (turns : List Turn) (k : ℕ) (c b new : Tiling) → IsGreatestSoFar t first turns k c
+    → b ≡ image (get_or turns k Same) t → Lies (image (get_or turns k Same) t) → (new ≡ c) ⊎ (new ≡ b) → IsAtMost c new → IsAtMost b new → IsGreatestSoFar t first turns (k + 1) new
+so_far-more t first turns k c b new far is lies one over_c over_b = from one
+  where
+    most : NoneGreater t turns (k + 1) new
+    most = none_greater-more t turns k new (λ j below h. at_most-trans (image (get_or turns j Same) t) c new (far.none_greater j below h) over_c)
+        (λ h. subst (λ (u : Tiling). IsAtMost u new) is over_b)
+
+    over_first : IsAtMost (image first t) new
+    over_first = at_most-trans (image first t) c new far.from_first over_c
+
+    from : (new ≡ c) ⊎ (new ≡ b) → IsGreatestSoFar t first turns (k + 1) new
+    from (inl e) = record { turn = far.turn; image_of = e ∙ far.image_of; lying = subst Lies (sym e) far.lying; from_first = over_first; none_greater = most }
+    from (inr e) = record { turn = get_or turns k Same; image_of = e ∙ is; lying = subst Lies (sym (e ∙ is)) lies; from_first = over_first; none_greater = most }
+
+pub so_far-same : (t : Tiling) (first : Turn) (turns : List Turn) (k : ℕ) (c new : Tiling) → IsGreatestSoFar t first turns k c
+    → (Lies (image (get_or turns k Same) t) → IsAtMost (image (get_or turns k Same) t) c) → new ≡ c → IsGreatestSoFar t first turns (k + 1) new
+so_far-same t first turns k c new far here e = subst (IsGreatestSoFar t first turns (k + 1)) (sym e) (record {
+  turn = far.turn;
+  image_of = far.image_of;
+  lying = far.lying;
+  from_first = far.from_first;
+  none_greater = none_greater-more t turns k c far.none_greater here;
+})
+
+pub so_far-none : (t : Tiling) (first : Turn) (turns : List Turn) (c : Tiling) → c ≡ image first t → Lies (image first t) → IsGreatestSoFar t first turns 0 c
+so_far-none t first turns c is lies = record {
+  turn = first;
+  image_of = is;
+  lying = subst Lies (sym is) lies;
+  from_first = subst (λ (u : Tiling). IsAtMost (image first t) u) (sym is) (at_most-refl (image first t));
+  none_greater = λ j below. absurd (omega arith);
+}
+
+-- an image that lies by no turn at all is the first one tried
+pub so_far-all : (t : Tiling) (first : Turn) (c : Tiling) → IsTiling t → (Lies t → first ≡ Same) → IsGreatestSoFar t first others 7 c → IsGreatestImage t c
+so_far-all t first c tiling unturned far = greatest_from t c far.none_greater
+    (λ h. subst (λ (turn : Turn). IsAtMost (image turn t) c) (unturned (subst Lies (image-Same t tiling) h)) far.from_first)
+
+pub canonical_from : (t s c : Tiling) (first : Turn) → IsTiling s → s ≡ scaled_down_tiling t → (Lies s → first ≡ Same) → IsGreatestSoFar s first others 7 c → IsCanonicalOf t c
+canonical_from t s c first tiling small unturned far = record {
+  turn = far.turn;
+  image_of = far.image_of ∙ ap (image far.turn) small;
+  lying = far.lying;
+  greatest = subst (λ (u : Tiling). IsGreatestImage u c) small (so_far-all s first c tiling unturned far);
+}

@@ -1,0 +1,70 @@
+-- Images and canonical tilings.
+use Rattle.std.specs.Prelude.{[], refl, ◌∷◌, ◌≡◌}
+use Rattle.std.proofs.Common.{arith, lit≤}
+use Rattle.bk_tiling.proofs.ExampleTilings.{rectangle_33x32, rectangle_3x2, rectangle_69x61, turned_33x32}
+use Rattle.bk_code.specs.Code.{code_of}
+use Rattle.bk_sym.specs.Canonical.{IsCanonical, IsCanonicalOf}
+use Rattle.bk_sym.specs.Image.{image}
+use Rattle.bk_sym.specs.Turns.{after, undoing}
+use Rattle.bk_sym.specs.declared.Turn.TheVariants.{FlipX, FlipY, Half, Same, Swap, SwapFlipX, SwapFlipY, SwapHalf}
+
+code-FlipX : code_of (image FlipX rectangle_3x2) ≡ (1 ∷ 2 ∷ []) ∷ (1 ∷ []) ∷ []
+code-FlipX = refl
+
+code-Half : code_of (image Half rectangle_3x2) ≡ (1 ∷ 2 ∷ []) ∷ (1 ∷ []) ∷ []
+code-Half = refl
+
+code-Swap : code_of (image Swap rectangle_3x2) ≡ (2 ∷ []) ∷ (1 ∷ 1 ∷ []) ∷ []
+code-Swap = refl
+
+code-SwapHalf : code_of (image SwapHalf rectangle_3x2) ≡ (1 ∷ 1 ∷ []) ∷ (2 ∷ []) ∷ []
+code-SwapHalf = refl
+
+code-turned : code_of turned_33x32 ≡ (36 ∷ 28 ∷ []) ∷ (8 ∷ 20 ∷ []) ∷ (30 ∷ 14 ∷ []) ∷ (2 ∷ 18 ∷ []) ∷ (16 ∷ []) ∷ []
+code-turned = refl
+
+-- its canonical tiling
+canonical-turned : IsCanonicalOf turned_33x32 rectangle_33x32
+canonical-turned = record {
+  turn = Swap;
+  image_of = refl;
+  lying = lit≤ tt;
+  greatest = elim [
+    | Same ↦ λ le. absurd (omega arith)
+    | FlipX ↦ λ le. absurd (omega arith)
+    | FlipY ↦ λ le. absurd (omega arith)
+    | Half ↦ λ le. absurd (omega arith)
+    | Swap ↦ λ le. refl
+    | SwapFlipX ↦ λ le. refl
+    | SwapFlipY ↦ λ le. refl
+    | SwapHalf ↦ λ le. refl
+  ];
+}
+
+-- the larger of the two is its own canonical tiling
+canonical-69x61 : IsCanonical rectangle_69x61
+canonical-69x61 = record {
+  turn = Same;
+  image_of = refl;
+  lying = omega arith;
+  greatest = elim [
+    | Same ↦ λ le. refl
+    | FlipX ↦ λ le. refl
+    | FlipY ↦ λ le. refl
+    | Half ↦ λ le. refl
+    | Swap ↦ λ le. absurd (omega arith)
+    | SwapFlipX ↦ λ le. absurd (omega arith)
+    | SwapFlipY ↦ λ le. absurd (omega arith)
+    | SwapHalf ↦ λ le. absurd (omega arith)
+  ];
+}
+
+-- two quarter turns are a half turn, and the two quarter turns undo each other
+quarter-twice : after SwapFlipX SwapFlipX ≡ Half
+quarter-twice = refl
+
+quarter-undone : after SwapFlipY SwapFlipX ≡ Same
+quarter-undone = refl
+
+undone-quarter : undoing SwapFlipX ≡ SwapFlipY
+undone-quarter = refl

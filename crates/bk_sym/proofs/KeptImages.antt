@@ -1,0 +1,98 @@
+-- Images and tilings in lowest terms are no larger than a `Tiling` of the code can be.
+use Rattle.std.specs.List.{AllByRecursion}
+use Rattle.std.specs.Prelude.{◌/◌, ◌^◌}
+use Rattle.std.proofs.Common.{Bool, List, [], ap, arith, cond, false, length, map, refl, subst, suc, sym, take, true, ℕ, ◌<◌, ◌∙◌, ◌∷◌, ◌≡◌, ◌≤◌}
+use Rattle.std.proofs.Math.Nat.{div-le_self}
+use Rattle.std.proofs.lemmas.List.{take_all}
+use Rattle.bk_tiling.proofs.Cells.{all_from, in_all}
+use Rattle.bk_tiling.proofs.ListLaws.{length_map}
+use Rattle.bk_tiling.proofs.PuttingInOrder.{from_order}
+use Rattle.bk_tiling.specs.CodeOrder.{comes_before, in_code_order, with_square}
+use Rattle.bk_tiling.specs.Kept.{IsKept, IsSide}
+use Rattle.bk_tiling.specs.Tiling.{IsOneOf, Tiling}
+use Rattle.bk_tiling.specs.declared.Square.{Square}
+use Rattle.bk_tiling.specs.declared.TheConstants.{MOST_SQUARES}
+use Rattle.bk_sym.proofs.Images.{from_map, images_are_tilings}
+use Rattle.bk_sym.proofs.ScaledDown.{scaled_is_tiling, side_divisor}
+use Rattle.bk_sym.specs.Canonical.{scaled_down_tiling}
+use Rattle.bk_sym.specs.Image.{image, image_size, image_square}
+use Rattle.bk_sym.specs.declared.Turn.{Turn}
+use Rattle.bk_sym.specs.declared.Turn.TheVariants.{FlipX, FlipY, Half, Same, Swap, SwapFlipX, SwapFlipY, SwapHalf}
+
+-- a turn keeps the side of a square
+pub side-image_square : (turn : Turn) (w h : ℕ) (q : Square) → (image_square turn w h q).s ≡ q.s
+side-image_square Same w h q = refl
+side-image_square FlipX w h q = refl
+side-image_square FlipY w h q = refl
+side-image_square Half w h q = refl
+side-image_square Swap w h q = refl
+side-image_square SwapFlipX w h q = refl
+side-image_square SwapFlipY w h q = refl
+side-image_square SwapHalf w h q = refl
+
+-- each square of an image has the side of a square of the tiling
+pub side_from_image : (turn : Turn) (t : Tiling) (p : Square) → IsOneOf p (image turn t).squares → (q : Square) × IsOneOf q t.squares × (p.s ≡ q.s)
+side_from_image turn t p h =
+    let found = from_map (image_square turn t.width t.height) t.squares p (from_order (map (image_square turn t.width t.height) t.squares) p h) in
+    (found.0, found.1, ap (λ (r : Square). r.s) found.2 ∙ side-image_square turn t.width t.height found.0)
+
+length-with_square : (q : Square) (squares : List Square) → length (with_square q squares) ≡ suc (length squares)
+length-with_square q [] = refl
+length-with_square q (r ∷ squares) = cases (comes_before q r) (length-with_square q squares)
+  where
+    cases : (b : Bool) → length (with_square q squares) ≡ suc (length squares) → length (cond b (q ∷ r ∷ squares) (r ∷ with_square q squares)) ≡ suc (suc (length squares))
+    cases true e = refl
+    cases false e = ap suc e
+
+length-in_code_order : (squares : List Square) → length (in_code_order squares) ≡ length squares
+length-in_code_order [] = refl
+length-in_code_order (q ∷ squares) = length-with_square q (in_code_order squares) ∙ ap suc (length-in_code_order squares)
+
+size_fits : (turn : Turn) (w h most : ℕ) → w < most → h < most → ((image_size turn w h).0 < most) × ((image_size turn w h).1 < most)
+size_fits Same w h most a b = (a, b)
+size_fits FlipX w h most a b = (a, b)
+size_fits FlipY w h most a b = (a, b)
+size_fits Half w h most a b = (a, b)
+size_fits Swap w h most a b = (b, a)
+size_fits SwapFlipX w h most a b = (b, a)
+size_fits SwapFlipY w h most a b = (b, a)
+size_fits SwapHalf w h most a b = (b, a)
+
+pub kept_image : (turn : Turn) (t : Tiling) → IsKept t → IsKept (image turn t)
+kept_image turn t kept = record {
+  tiling = images_are_tilings t turn kept.tiling;
+  few = omega (arith, kept.few, length-in_code_order (map (image_square turn t.width t.height) t.squares), length_map (image_square turn t.width t.height) t.squares);
+  sides = all_from (λ q. IsSide q.s) (image turn t).squares (λ p h. let found = side_from_image turn t p h in
+      subst IsSide (sym found.2) (in_all (λ q. IsSide q.s) t.squares kept.sides found.0 found.1));
+  width_fits = (size_fits turn t.width t.height (2 ^ 64) kept.width_fits kept.height_fits).0;
+  height_fits = (size_fits turn t.width t.height (2 ^ 64) kept.width_fits kept.height_fits).1;
+}
+
+sides_divided : (g : ℕ) (squares : List Square) → AllByRecursion (λ q. IsSide q.s) squares
+    → AllByRecursion (λ (q : Square). 0 < q.s) (map (λ q. record { x = q.x / g; y = q.y / g; s = q.s / g }) squares)
+    → AllByRecursion (λ (q : Square). IsSide q.s) (map (λ q. record { x = q.x / g; y = q.y / g; s = q.s / g }) squares)
+sides_divided g [] sides some = tt
+sides_divided g (q ∷ squares) sides some = ((some.0, omega (arith, sides.0.1, div-le_self q.s g)), sides_divided g squares sides.1 some.1)
+
+pub kept_scaled : (t : Tiling) → IsKept t → IsKept (scaled_down_tiling t)
+kept_scaled t kept = record {
+  tiling = scaled_is_tiling t kept.tiling;
+  few = subst (λ n. n ≤ MOST_SQUARES) (sym (length_map (λ q. record { x = q.x / side_divisor t; y = q.y / side_divisor t; s = q.s / side_divisor t }) t.squares)) kept.few;
+  sides = sides_divided (side_divisor t) t.squares kept.sides (scaled_is_tiling t kept.tiling).tiles.sides;
+  width_fits = omega (arith, kept.width_fits, div-le_self t.width (side_divisor t));
+  height_fits = omega (arith, kept.height_fits, div-le_self t.height (side_divisor t));
+}
+
+-- squares made of all squares of a list
+pub all_taken : (f : Square → Square) (k : ℕ) (xs ys made : List Square) → xs ≡ ys → length xs ≤ k → made ≡ map f (take k xs) → made ≡ map f ys
+all_taken f k xs ys made same all e = e ∙ ap (map f) (take_all k xs all ∙ same)
+
+pub all_turned : (turn : Turn) (t : Tiling) (w h k : ℕ) (xs made : List Square) → w ≡ t.width → h ≡ t.height → xs ≡ t.squares → length xs ≤ k
+    → made ≡ map (image_square turn w h) (take k xs) → made ≡ map (image_square turn t.width t.height) t.squares
+all_turned turn t w h k xs made ew eh same all e =
+    all_taken (image_square turn w h) k xs t.squares made same all e
+    ∙ ap (λ (n : ℕ). map (image_square turn n h) t.squares) ew ∙ ap (λ (n : ℕ). map (image_square turn t.width n) t.squares) eh
+
+-- the tiling that these numbers and squares make
+pub made : (w h : ℕ) (squares : List Square) (t : Tiling) → w ≡ t.width → h ≡ t.height → squares ≡ t.squares → record { width = w; height = h; squares = squares } ≡ t
+made w h squares t ew eh es = λ i. record { width = ew i; height = eh i; squares = es i }

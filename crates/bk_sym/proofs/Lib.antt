@@ -1,0 +1,12 @@
+pub mod ImageExamples
+pub mod Images
+pub mod ScaledDown
+pub mod CanonicalLaws
+pub mod SortedSquares
+pub mod Composing
+pub mod Multiples
+pub mod Comparing
+pub mod KeptImages
+pub mod Greatest
+pub mod OwnCanonical
+pub mod AlikeLaws

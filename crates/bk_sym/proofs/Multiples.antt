@@ -1,0 +1,202 @@
+-- Tilings enlarged: their divisors, and their images.
+use Rattle.std.specs.Int.{IsGcd}
+use Rattle.std.specs.Prelude.{◌%◌, ◌/◌}
+use Rattle.std.proofs.Common.{Bool, List, [], ap, arith, cond, false, inl, inr, map, refl, subst, suc, sym, true, zero, ℕ, ◌*◌, ◌+◌, ◌-◌, ◌<◌, ◌∙◌, ◌∷◌, ◌≡◌, ◌≤◌, ◌⊎◌}
+use Rattle.std.proofs.Math.Nat.{div-add-mod, mod-eq_of_lt, mod-lt, mul-le-mul_left, mul-add-mod_self_left}
+use Rattle.std.proofs.lemmas.Bool.{both_ways, cases_Bool}
+use Rattle.std.proofs.lemmas.Nat.Gcd.{IsGcd-from_mod, IsGcd-from_zero, le_of_dvd, same_from_IsGcd}
+use Rattle.bk_frac.proofs.DivisorLaws.{gcd_spec}
+use Rattle.bk_frac.specs.Divisor.{gcd, gcd_of, gcd_within}
+use Rattle.bk_tiling.proofs.Scaling.{before_cases, before_from, mul_below, mul_one}
+use Rattle.bk_tiling.proofs.TilingLaws.{within_of}
+use Rattle.bk_tiling.specs.CodeOrder.{comes_before, in_code_order, with_square}
+use Rattle.bk_tiling.specs.Scale.{enlarged, enlarged_square}
+use Rattle.bk_tiling.specs.Tiling.{IsOneOf, IsTiling, Tiling}
+use Rattle.bk_tiling.specs.declared.Square.{Square}
+use Rattle.bk_sym.proofs.Composing.{square_same}
+use Rattle.bk_sym.proofs.ScaledDown.{side_divisor}
+use Rattle.bk_sym.specs.Image.{image, image_size, image_square}
+use Rattle.bk_sym.specs.declared.Turn.{Turn}
+use Rattle.bk_sym.specs.declared.Turn.TheVariants.{FlipX, FlipY, Half, Same, Swap, SwapFlipX, SwapFlipY, SwapHalf}
+
+-- remainders of multiples are multiples of remainders
+mul-mod : (k a b : ℕ) → 0 < k → 0 < b → (k * a) % (k * b) ≡ k * (a % b)
+mul-mod k a b some big =
+    let split : k * a ≡ (k * b) * (a / b) + k * (a % b) = omega (arith, ap (λ n. k * n) (div-add-mod a b)) in
+    ap (λ n. n % (k * b)) split ∙ mul-add-mod_self_left (k * b) (a / b) (k * (a % b)) ∙ mod-eq_of_lt (mul_below k (a % b) b some (mod-lt a big))
+
+gcd_within-mul : (k turns a b : ℕ) → 0 < k → b < turns → IsGcd (k * a) (k * b) (k * gcd_within turns a b)
+gcd_within-mul k zero a b some few = absurd (omega arith)
+gcd_within-mul k (suc turns) a zero some few = IsGcd-from_zero (k * a) (k * 0) (omega arith)
+gcd_within-mul k (suc turns) a (suc b) some few =
+    IsGcd-from_mod (k * a) (k * suc b) (k * gcd_within turns (suc b) (a % suc b))
+    (subst (λ n. IsGcd (k * suc b) n (k * gcd_within turns (suc b) (a % suc b))) (sym (mul-mod k a (suc b) some (omega arith)))
+    (gcd_within-mul k turns (suc b) (a % suc b) some (omega (arith, mod-lt a {m = suc b} (omega arith)))))
+
+-- the divisor of multiples is the multiple of the divisor
+gcd-mul : (k a b : ℕ) → 0 < k → gcd (k * a) (k * b) ≡ k * gcd a b
+gcd-mul k a b some = same_from_IsGcd (k * a) (k * b) (gcd (k * a) (k * b)) (k * gcd a b) (gcd_spec (k * a) (k * b)) (gcd_within-mul k (suc b) a b some (omega arith))
+
+side_divisor-enlarged : (k : ℕ) (squares : List Square) → 0 < k → gcd_of (map (λ q. q.s) (map (enlarged_square k) squares)) ≡ k * gcd_of (map (λ q. q.s) squares)
+side_divisor-enlarged k [] some = omega arith
+side_divisor-enlarged k (q ∷ squares) some =
+    ap (gcd (k * q.s)) (side_divisor-enlarged k squares some) ∙ gcd-mul k q.s (gcd_of (map (λ q. q.s) squares)) some
+
+pub divisor_of_multiple : (k : ℕ) (t : Tiling) → 0 < k → side_divisor (enlarged k t) ≡ k * side_divisor t
+divisor_of_multiple k t some = side_divisor-enlarged k t.squares some
+
+-- a divisor of two numbers is no greater than the greater of them
+pub gcd-below : (a b most : ℕ) → a < most → b < most → gcd a b < most
+gcd-below a b most ha hb = cases (two a) (two b)
+  where
+    two : (n : ℕ) → (0 < n) ⊎ (n ≡ 0)
+    two n = grind arith
+
+    cases : (0 < a) ⊎ (a ≡ 0) → (0 < b) ⊎ (b ≡ 0) → gcd a b < most
+    cases (inl some) other = omega (arith, le_of_dvd some (gcd_spec a b).0)
+    cases (inr none) (inl some) = omega (arith, le_of_dvd some (gcd_spec a b).1)
+    cases (inr none) (inr zero_b) = subst (λ n. gcd a n < most) (sym zero_b) ha
+
+-- a multiple of a multiple
+times : (m n x : ℕ) → m * (n * x) ≡ (m * n) * x
+times m n x = omega arith
+
+list_twice : (m n : ℕ) (squares : List Square) → map (enlarged_square m) (map (enlarged_square n) squares) ≡ map (enlarged_square (m * n)) squares
+list_twice m n [] = refl
+list_twice m n (q ∷ squares) = λ i. record { x = times m n q.x i; y = times m n q.y i; s = times m n q.s i } ∷ list_twice m n squares i
+
+pub enlarged-enlarged : (m n : ℕ) (t : Tiling) → enlarged m (enlarged n t) ≡ enlarged (m * n) t
+enlarged-enlarged m n t = λ i. record { width = times m n t.width i; height = times m n t.height i; squares = list_twice m n t.squares i }
+
+list_once : (squares : List Square) → map (enlarged_square 1) squares ≡ squares
+list_once [] = refl
+list_once (q ∷ squares) = λ i. record { x = single q.x i; y = single q.y i; s = single q.s i } ∷ list_once squares i
+  where
+    single : (n : ℕ) → 1 * n ≡ n
+    single n = omega arith
+
+pub enlarged-once : (t : Tiling) → enlarged 1 t ≡ t
+enlarged-once t = λ i. record { width = single t.width i; height = single t.height i; squares = list_once t.squares i }
+  where
+    single : (n : ℕ) → 1 * n ≡ n
+    single n = omega arith
+
+-- equal multiples are those of equal tilings
+list_back : (k : ℕ) (qs rs : List Square) → 0 < k → map (enlarged_square k) qs ≡ map (enlarged_square k) rs → qs ≡ rs
+list_back k [] [] some e = refl
+list_back k [] (r ∷ rs) some e = absurd (cc)
+list_back k (q ∷ qs) [] some e = absurd (cc)
+list_back k (q ∷ qs) (r ∷ rs) some e = λ i. record { x = x i; y = y i; s = s i } ∷ list_back k qs rs some rest i
+  where
+    first : enlarged_square k q ≡ enlarged_square k r
+    first = cc
+
+    rest : map (enlarged_square k) qs ≡ map (enlarged_square k) rs
+    rest = cc
+
+    x : q.x ≡ r.x
+    x = mul_one k q.x r.x some (ap (λ (p : Square). p.x) first)
+
+    y : q.y ≡ r.y
+    y = mul_one k q.y r.y some (ap (λ (p : Square). p.y) first)
+
+    s : q.s ≡ r.s
+    s = mul_one k q.s r.s some (ap (λ (p : Square). p.s) first)
+
+pub enlarged-back : (k : ℕ) (t u : Tiling) → 0 < k → enlarged k t ≡ enlarged k u → t ≡ u
+enlarged-back k t u some e = λ i. record { width = width i; height = height i; squares = list_back k t.squares u.squares some (ap (λ (v : Tiling). v.squares) e) i }
+  where
+    width : t.width ≡ u.width
+    width = mul_one k t.width u.width some (ap (λ (v : Tiling). v.width) e)
+
+    height : t.height ≡ u.height
+    height = mul_one k t.height u.height some (ap (λ (v : Tiling). v.height) e)
+
+-- squares enlarged stand in the order in which they stood
+before_enlarged : (k : ℕ) (q r : Square) → 0 < k → comes_before (enlarged_square k q) (enlarged_square k r) ≡ comes_before q r
+before_enlarged k q r some = cases (cases_Bool (comes_before q r)) (cases_Bool (comes_before (enlarged_square k q) (enlarged_square k r)))
+  where
+    up : (q.y < r.y) ⊎ ((q.y ≡ r.y) × (q.x < r.x)) → (k * q.y < k * r.y) ⊎ ((k * q.y ≡ k * r.y) × (k * q.x < k * r.x))
+    up (inl h) = inl (mul_below k q.y r.y some h)
+    up (inr h) = inr (ap (λ (n : ℕ). k * n) h.0, mul_below k q.x r.x some h.1)
+
+    two : (a b : ℕ) → (a < b) ⊎ (b ≤ a)
+    two a b = grind arith
+
+    below : (a b : ℕ) → k * a < k * b → a < b
+    below a b h = from (two a b)
+      where
+        from : (a < b) ⊎ (b ≤ a) → a < b
+        from (inl l) = l
+        from (inr l) = absurd (omega (arith, h, mul-le-mul_left k l))
+
+    down : (k * q.y < k * r.y) ⊎ ((k * q.y ≡ k * r.y) × (k * q.x < k * r.x)) → (q.y < r.y) ⊎ ((q.y ≡ r.y) × (q.x < r.x))
+    down (inl h) = inl (below q.y r.y h)
+    down (inr h) = inr (mul_one k q.y r.y some h.0, below q.x r.x h.1)
+
+    cases : (comes_before q r ≡ true) ⊎ (comes_before q r ≡ false) → (comes_before (enlarged_square k q) (enlarged_square k r) ≡ true) ⊎ (comes_before (enlarged_square k q) (enlarged_square k r) ≡ false)
+        → comes_before (enlarged_square k q) (enlarged_square k r) ≡ comes_before q r
+    cases (inl a) b = before_from (enlarged_square k q) (enlarged_square k r) (up (before_cases q r a)) ∙ sym a
+    cases (inr a) (inl b) = absurd (both_ways (comes_before q r) a (before_from q r (down (before_cases (enlarged_square k q) (enlarged_square k r) b))))
+    cases (inr a) (inr b) = b ∙ sym a
+
+with_enlarged : (k : ℕ) (q : Square) (squares : List Square) → 0 < k → with_square (enlarged_square k q) (map (enlarged_square k) squares) ≡ map (enlarged_square k) (with_square q squares)
+with_enlarged k q [] some = refl
+with_enlarged k q (r ∷ squares) some =
+    ap (λ b. cond b (enlarged_square k q ∷ enlarged_square k r ∷ map (enlarged_square k) squares) (enlarged_square k r ∷ with_square (enlarged_square k q) (map (enlarged_square k) squares))) (before_enlarged k q r some)
+    ∙ cases (comes_before q r) (with_enlarged k q squares some)
+  where
+    cases : (b : Bool) → with_square (enlarged_square k q) (map (enlarged_square k) squares) ≡ map (enlarged_square k) (with_square q squares)
+        → cond b (enlarged_square k q ∷ enlarged_square k r ∷ map (enlarged_square k) squares) (enlarged_square k r ∷ with_square (enlarged_square k q) (map (enlarged_square k) squares))
+        ≡ map (enlarged_square k) (cond b (q ∷ r ∷ squares) (r ∷ with_square q squares))
+    cases true e = refl
+    cases false e = ap (λ (rest : List Square). enlarged_square k r ∷ rest) e
+
+order_enlarged : (k : ℕ) (squares : List Square) → 0 < k → in_code_order (map (enlarged_square k) squares) ≡ map (enlarged_square k) (in_code_order squares)
+order_enlarged k [] some = refl
+order_enlarged k (q ∷ squares) some = ap (with_square (enlarged_square k q)) (order_enlarged k squares some) ∙ with_enlarged k q (in_code_order squares) some
+
+-- an image of an enlarged square is the image enlarged
+far_side : (k w x s : ℕ) → x + s ≤ w → k * w - k * x - k * s ≡ k * (w - x - s)
+far_side k w x s h =
+    let rest : w ≡ x + s + (w - x - s) = omega arith in
+    let all : k * w ≡ k * x + k * s + k * (w - x - s) = ap (λ n. k * n) rest ∙ omega arith in
+    omega (arith, all)
+
+image_square-enlarged : (turn : Turn) (k w h : ℕ) (q : Square) → q.x + q.s ≤ w → q.y + q.s ≤ h
+    → image_square turn (k * w) (k * h) (enlarged_square k q) ≡ enlarged_square k (image_square turn w h q)
+image_square-enlarged Same k w h q right bottom = refl
+image_square-enlarged FlipX k w h q right bottom = square_same _ _ (far_side k w q.x q.s right) refl refl
+image_square-enlarged FlipY k w h q right bottom = square_same _ _ refl (far_side k h q.y q.s bottom) refl
+image_square-enlarged Half k w h q right bottom = square_same _ _ (far_side k w q.x q.s right) (far_side k h q.y q.s bottom) refl
+image_square-enlarged Swap k w h q right bottom = refl
+image_square-enlarged SwapFlipX k w h q right bottom = square_same _ _ (far_side k h q.y q.s bottom) refl refl
+image_square-enlarged SwapFlipY k w h q right bottom = square_same _ _ refl (far_side k w q.x q.s right) refl
+image_square-enlarged SwapHalf k w h q right bottom = square_same _ _ (far_side k h q.y q.s bottom) (far_side k w q.x q.s right) refl
+
+size-enlarged : (turn : Turn) (k w h : ℕ) → image_size turn (k * w) (k * h) ≡ (k * (image_size turn w h).0, k * (image_size turn w h).1)
+size-enlarged Same k w h = refl
+size-enlarged FlipX k w h = refl
+size-enlarged FlipY k w h = refl
+size-enlarged Half k w h = refl
+size-enlarged Swap k w h = refl
+size-enlarged SwapFlipX k w h = refl
+size-enlarged SwapFlipY k w h = refl
+size-enlarged SwapHalf k w h = refl
+
+list-image : (turn : Turn) (k w h : ℕ) (squares : List Square) → ((q : Square) → IsOneOf q squares → (q.x + q.s ≤ w) × (q.y + q.s ≤ h))
+    → map (image_square turn (k * w) (k * h)) (map (enlarged_square k) squares) ≡ map (enlarged_square k) (map (image_square turn w h) squares)
+list-image turn k w h [] within = refl
+list-image turn k w h (q ∷ squares) within = λ i.
+    image_square-enlarged turn k w h q (within q (inl refl)).0 (within q (inl refl)).1 i ∷ list-image turn k w h squares (λ r m. within r (inr m)) i
+
+pub image-enlarged : (turn : Turn) (k : ℕ) (t : Tiling) → 0 < k → IsTiling t → image turn (enlarged k t) ≡ enlarged k (image turn t)
+image-enlarged turn k t some tiling = λ i. record {
+  width = (size-enlarged turn k t.width t.height i).0;
+  height = (size-enlarged turn k t.width t.height i).1;
+  squares = squares i;
+}
+  where
+    squares : in_code_order (map (image_square turn (k * t.width) (k * t.height)) (map (enlarged_square k) t.squares)) ≡ map (enlarged_square k) (in_code_order (map (image_square turn t.width t.height) t.squares))
+    squares = ap in_code_order (list-image turn k t.width t.height t.squares (λ q m. let w = within_of t tiling q m in (omega (arith, w.right), omega (arith, w.bottom))))
+        ∙ order_enlarged k (map (image_square turn t.width t.height) t.squares) some

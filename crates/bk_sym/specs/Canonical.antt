@@ -1,0 +1,42 @@
+-- The tiling in lowest terms, and the canonical tiling.
+use Rattle.std.specs.Cmp.Lexicographic.{slice_cmp}
+use Rattle.std.specs.Ordering.{is_le, nat_cmp}
+use Rattle.std.specs.Prelude.{IsTrue, map, ◌/◌, ◌≡◌, ◌≤◌}
+use Rattle.bk_tiling.specs.Tiling.{Tiling}
+use Rattle.bk_code.specs.Code.{code_of, flat}
+use Rattle.bk_frac.specs.Divisor.{gcd_of}
+use Rattle.bk_sym.specs.Image.{image}
+use Rattle.bk_sym.specs.declared.Turn.{Turn}
+
+-- the tiling with all places and sides divided by the greatest common divisor of the sides
+abbrev pub scaled_down_tiling : Tiling → Tiling
+scaled_down_tiling t =
+    let g = gcd_of (map (λ q. q.s) t.squares) in record {
+      width = t.width / g;
+      height = t.height / g;
+      squares = map (λ q. record { x = q.x / g; y = q.y / g; s = q.s / g }) t.squares;
+    }
+
+-- the flat list of sides of the first tiling is lexicographically at most that of the second
+abbrev pub IsAtMost : Tiling → Tiling → Type 0
+IsAtMost t u = IsTrue (is_le (slice_cmp nat_cmp (flat (code_of t)) (flat (code_of u))))
+
+-- the tiling lies: it is at least as wide as high
+abbrev pub Lies : Tiling → Type 0
+Lies t = t.height ≤ t.width
+
+-- no image of t that lies has a greater flat list than c
+abbrev pub IsGreatestImage : Tiling → Tiling → Type 0
+IsGreatestImage t c = (turn : Turn) → Lies (image turn t) → IsAtMost (image turn t) c
+
+-- c is canonical for t: among the images of t in lowest terms that are at least as wide as high, it is
+-- the one with the greatest flat list. A width and a flat list fix a tiling, so there is only one
+pub record IsCanonicalOf (t c : Tiling) : Type 0 where
+  pub turn : Turn
+  pub image_of : c ≡ image turn (scaled_down_tiling t)
+  pub lying : Lies c
+  pub greatest : IsGreatestImage (scaled_down_tiling t) c
+
+-- the tiling is its own canonical tiling
+abbrev pub IsCanonical : Tiling → Type 0
+IsCanonical t = IsCanonicalOf t t

@@ -1,0 +1,4 @@
+pub mod Image
+pub mod Turns
+pub mod Canonical
+pub mod ImageLaws

@@ -1,0 +1,356 @@
+//! The turns and mirrors of a tiling, and its canonical tiling.
+#![tactic(auto)]
+
+ghost use Rattle.std.specs.Prelude.{IsTrue, ◌+◌, ◌<◌, ◌↔◌, ◌≡◌, ◌≤◌, ◌⊎◌};
+ghost use Rattle.bk_code.specs.Code.{code_cmp, code_of};
+ghost use Rattle.bk_frac.specs.Divisor.{gcd as common_divisor, gcd_of};
+ghost use Rattle.bk_sym.specs.Canonical.{IsAtMost, IsCanonical, IsCanonicalOf, IsGreatestImage, Lies, scaled_down_tiling};
+ghost use Rattle.bk_sym.specs.Image.{image, image_size, image_square};
+ghost use Rattle.bk_sym.specs.ImageLaws.{ACanonicalTilingIsItsOwn, ACanonicalTilingIsOne, AlikeTilingsHaveOneCanonical, ImagesAreTilings, ImagesAreUndone, ImagesOfImages, OneCanonicalMeansAlike};
+ghost use Rattle.bk_sym.specs.declared.Turn.TheVariants.{Same};
+ghost use Rattle.bk_tiling.specs.CodeOrder.{InCodeOrder, in_code_order};
+ghost use Rattle.bk_tiling.specs.Kept.{IsKept};
+ghost use Rattle.bk_tiling.specs.Tiling.{sides_of};
+
+use arrayvec::ArrayVec;
+use bk_frac::gcd;
+use bk_tiling::{MOST_SQUARES, Square, Tiling};
+use std::cmp::Ordering;
+
+/// A turn or a mirror of a rectangle.
+#[derive(Clone, Copy, Debug, PartialEq, Eq, Drop)]
+pub enum Turn {
+    /// As it is.
+    Same,
+    /// Left and right exchanged.
+    FlipX,
+    /// Top and bottom exchanged.
+    FlipY,
+    /// Turned by a half turn.
+    Half,
+    /// Columns and levels exchanged.
+    Swap,
+    /// Columns and levels exchanged, and then left and right.
+    SwapFlipX,
+    /// Columns and levels exchanged, and then top and bottom.
+    SwapFlipY,
+    /// Columns and levels exchanged, and then turned by a half turn.
+    SwapHalf,
+}
+
+// All turns but the one that leaves a tiling as it is.
+const OTHERS: [Turn; 7] = [
+    Turn::FlipX,
+    Turn::FlipY,
+    Turn::Half,
+    Turn::Swap,
+    Turn::SwapFlipX,
+    Turn::SwapFlipY,
+    Turn::SwapHalf,
+];
+
+/// That image of a tiling: its squares turned or mirrored with the rectangle.
+pub fn image(tiling: &Tiling, which: Turn) -> Tiling
+    ensures value { result ≡ image which tiling.now }
+    ensures kept { IsKept result }
+{
+    let (width, height) = (tiling.width(), tiling.height());
+    let mut squares = ArrayVec::new();
+    for q in tiling.squares() {
+        squares.push(turned(*q, which, width, height));
+    }
+    put_in_order(&mut squares);
+    let (width, height) = turned_size(which, width, height);
+    Tiling::from_known(width, height, squares)
+}
+
+// Where a square of a rectangle of this size stands in the image.
+fn turned(q: Square, which: Turn, width: u64, height: u64) -> Square
+    requires right { q.x + q.s ≤ width }
+    requires bottom { q.y + q.s ≤ height }
+    ensures { result ≡ image_square which width height q }
+{
+    let right = width - q.x - q.s;
+    let bottom = height - q.y - q.s;
+    let (x, y) = match which {
+        Turn::Same => (q.x, q.y),
+        Turn::FlipX => (right, q.y),
+        Turn::FlipY => (q.x, bottom),
+        Turn::Half => (right, bottom),
+        Turn::Swap => (q.y, q.x),
+        Turn::SwapFlipX => (bottom, q.x),
+        Turn::SwapFlipY => (q.y, right),
+        Turn::SwapHalf => (bottom, right),
+    };
+    Square { x, y, s: q.s }
+}
+
+// The width and the height of the image of a rectangle of this size.
+fn turned_size(which: Turn, width: u64, height: u64) -> (u64, u64)
+    ensures { result ≡ image_size which width height }
+{
+    match which {
+        Turn::Same | Turn::FlipX | Turn::FlipY | Turn::Half => (width, height),
+        Turn::Swap | Turn::SwapFlipX | Turn::SwapFlipY | Turn::SwapHalf => (height, width),
+    }
+}
+
+// Sorts squares, of which no two begin at one place, into code order.
+fn put_in_order(squares: &mut ArrayVec<Square, MOST_SQUARES>)
+    requires { InCodeOrder (in_code_order squares.old.items) }
+    ensures { squares.new.items ≡ in_code_order squares.old.items }
+{
+    squares.sort_unstable_by_key(|q| (q.y, q.x));
+}
+
+/// The tiling in lowest terms: all places and sides divided by the greatest common divisor of the sides.
+pub fn scale_down(tiling: &Tiling) -> Tiling
+    ensures value { result ≡ scaled_down_tiling tiling.now }
+    ensures kept { IsKept result }
+{
+    let divisor = side_divisor(tiling);
+    let mut squares = ArrayVec::new();
+    for q in tiling.squares() {
+        squares.push(Square {
+            x: q.x / divisor,
+            y: q.y / divisor,
+            s: q.s / divisor,
+        });
+    }
+    Tiling::from_known(tiling.width() / divisor, tiling.height() / divisor, squares)
+}
+
+// The greatest common divisor of the sides.
+fn side_divisor(tiling: &Tiling) -> u64
+    ensures value { result ≡ gcd_of (sides_of tiling.now) }
+    ensures some { 0 < result }
+{
+    let squares = tiling.squares();
+    let mut divisor = 0;
+    for i in (0..squares.len()).rev() {
+        divisor = common(squares[i].s, divisor);
+        if divisor == 1 {
+            return 1;
+        }
+    }
+    divisor
+}
+
+// The greatest common divisor of two numbers.
+fn common(a: u64, b: u64) -> u64
+    ensures { result ≡ common_divisor a b }
+{
+    gcd(u128::from(a), u128::from(b)) as u64
+}
+
+/// The canonical tiling: of the images in lowest terms that are at least as wide as high, the one whose flat list of sides
+/// is lexicographically greatest. This choice is our own; all images and all multiples of a tiling have the same.
+pub fn canonical(tiling: &Tiling) -> Tiling
+    ensures canonical { IsCanonicalOf tiling.now result }
+    ensures kept { IsKept result }
+{
+    let small = scale_down(tiling);
+    let first = first_lying(&small);
+    let mut greatest = image(&small, first);
+    for which in OTHERS {
+        if which != first && lies(&small, which) {
+            greatest = later_of(greatest, image(&small, which));
+        }
+    }
+    greatest
+}
+
+/// Whether a tiling is its own canonical tiling.
+pub fn is_canonical(tiling: &Tiling) -> bool
+    ensures { IsTrue result ↔ IsCanonical tiling.now }
+{
+    if tiling.height() > tiling.width() {
+        return false;
+    }
+    if side_divisor(tiling) > 1 {
+        return false;
+    }
+    is_greatest(tiling)
+}
+
+// Whether no image that lies has a greater flat list of sides.
+fn is_greatest(tiling: &Tiling) -> bool
+    requires { IsKept tiling.now }
+    ensures { IsTrue result ↔ IsGreatestImage tiling.now tiling.now }
+{
+    for which in OTHERS {
+        if lies(tiling, which) && !is_at_most(&image(tiling, which), tiling) {
+            return false;
+        }
+    }
+    true
+}
+
+// A turn whose image lies: none, where the tiling does.
+fn first_lying(tiling: &Tiling) -> Turn
+    ensures lying { Lies (image result tiling.now) }
+    ensures same { Lies tiling.now → result ≡ Same }
+{
+    if tiling.height() <= tiling.width() {
+        Turn::Same
+    } else {
+        Turn::Swap
+    }
+}
+
+// Whether that image is at least as wide as high.
+fn lies(tiling: &Tiling, which: Turn) -> bool
+    ensures { IsTrue result ↔ Lies (image which tiling.now) }
+{
+    let (width, height) = turned_size(which, tiling.width(), tiling.height());
+    height <= width
+}
+
+// Of two tilings the one with the greater flat list of sides.
+fn later_of(a: Tiling, b: Tiling) -> Tiling
+    ensures one { (result ≡ a) ⊎ (result ≡ b) }
+    ensures first { IsAtMost a result }
+    ensures second { IsAtMost b result }
+{
+    if is_at_most(&b, &a) { a } else { b }
+}
+
+// Whether the flat list of sides of one tiling is lexicographically at most that of another.
+fn is_at_most(a: &Tiling, b: &Tiling) -> bool
+    ensures { IsTrue result ↔ IsAtMost a.now b.now }
+{
+    compare(a, b).is_le()
+}
+
+// How the flat lists of sides of two tilings compare.
+fn compare(a: &Tiling, b: &Tiling) -> Ordering
+    ensures { result ≡ code_cmp (code_of a.now) (code_of b.now) }
+{
+    a.squares()
+        .iter()
+        .map(|q| q.s)
+        .cmp(b.squares().iter().map(|q| q.s))
+}
+
+/// Each image of a tiling is a tiling.
+pub fn images_are_tilings()
+    ensures { ImagesAreTilings }
+{}
+
+/// A tiling has at most one canonical tiling, and it is a tiling.
+pub fn a_canonical_tiling_is_one()
+    ensures { ACanonicalTilingIsOne }
+{}
+
+/// An image of an image is an image: the turns form a group of eight.
+pub fn images_of_images()
+    ensures { ImagesOfImages }
+{}
+
+/// A tiling is an image of each of its images.
+pub fn images_are_undone()
+    ensures { ImagesAreUndone }
+{}
+
+/// Tilings that are images of each other, up to scale, have the same canonical tiling: all images and all multiples of a
+/// tiling have.
+pub fn alike_tilings_have_one_canonical()
+    ensures { AlikeTilingsHaveOneCanonical }
+{}
+
+/// Of two tilings with the same canonical tiling each is an image of the other, up to scale.
+pub fn one_canonical_means_alike()
+    ensures { OneCanonicalMeansAlike }
+{}
+
+/// A canonical tiling is its own canonical tiling.
+pub fn a_canonical_tiling_is_its_own()
+    ensures { ACanonicalTilingIsItsOwn }
+{}
+
+#[cfg(test)]
+mod tests {
+    use super::*;
+    use std::process::Abort;
+    use std::test::Fail;
+
+    // The tiling of a rectangle of this size by squares of these columns, levels and sides.
+    fn tiling(width: u64, height: u64, placed: &[(u64, u64, u64)]) -> Result<Tiling, Fail> {
+        let mut squares = ArrayVec::<Square, MOST_SQUARES>::new();
+        for (x, y, s) in placed {
+            squares.try_push(Square {
+                x: *x,
+                y: *y,
+                s: *s,
+            })?;
+        }
+        Ok(Tiling::try_new(width, height, squares.as_slice())?)
+    }
+
+    // Asserts the size of a tiling and its sides in code order.
+    fn assert_sides(rt: &impl Abort, tiling: &Tiling, width: u64, height: u64, sides: &[u64]) {
+        assert_eq!(rt; tiling.width(), width);
+        assert_eq!(rt; tiling.height(), height);
+        assert_eq!(rt; tiling.order(), sides.len());
+        for (q, side) in tiling.squares().iter().zip(sides) {
+            assert_eq!(rt; q.s, *side);
+        }
+    }
+
+    #[test]
+    fn eight_images(rt: HostRuntime) -> Result<(), Fail> {
+        let three = tiling(3, 2, &[(0, 0, 2), (2, 0, 1), (2, 1, 1)])?;
+        for which in [Turn::Same, Turn::FlipY] {
+            assert_sides(&rt, &image(&three, which), 3, 2, &[2, 1, 1]);
+        }
+        for which in [Turn::FlipX, Turn::Half] {
+            assert_sides(&rt, &image(&three, which), 3, 2, &[1, 2, 1]);
+        }
+        for which in [Turn::Swap, Turn::SwapFlipX] {
+            assert_sides(&rt, &image(&three, which), 2, 3, &[2, 1, 1]);
+        }
+        for which in [Turn::SwapFlipY, Turn::SwapHalf] {
+            assert_sides(&rt, &image(&three, which), 2, 3, &[1, 1, 2]);
+        }
+        Ok(())
+    }
+
+    #[test]
+    fn one_canonical(rt: HostRuntime) -> Result<(), Fail> {
+        let turned = tiling(
+            64,
+            66,
+            &[
+                (0, 0, 36),
+                (36, 0, 28),
+                (36, 28, 8),
+                (44, 28, 20),
+                (0, 36, 30),
+                (30, 36, 14),
+                (44, 48, 2),
+                (46, 48, 18),
+                (30, 50, 16),
+            ],
+        )?;
+        assert!(rt; !is_canonical(&turned));
+        assert_sides(
+            &rt,
+            &scale_down(&turned),
+            32,
+            33,
+            &[18, 14, 4, 10, 15, 7, 1, 9, 8],
+        );
+
+        let nine = canonical(&turned);
+        assert!(rt; is_canonical(&nine));
+        assert_sides(&rt, &nine, 33, 32, &[18, 15, 7, 8, 14, 4, 10, 1, 9]);
+        assert_sides(
+            &rt,
+            &canonical(&nine),
+            33,
+            32,
+            &[18, 15, 7, 8, 14, 4, 10, 1, 9],
+        );
+        Ok(())
+    }
+}
