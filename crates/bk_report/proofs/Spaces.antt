@@ -1,6 +1,8 @@
 -- Texts whose pieces have a blank before each.
-use Rattle.std.proofs.Common.{List, [], ap, ◌++◌, ◌∷◌, ◌≡◌, ◌∙◌, ℕ, append_assoc}
-use Rattle.std.specs.Prelude.{codes, decimal, flat_map, map}
+use Rattle.std.proofs.Common.{List, [], ap, append_assoc, arith, length, refl, sym, ℕ, ◌++◌, ◌<◌, ◌∙◌, ◌∷◌, ◌≡◌, ◌≤◌}
+use Rattle.std.specs.Prelude.{codes, decimal, flat_map, map, ◌^◌}
+use Rattle.std.proofs.lemmas.Fmt.{length-decimal-le}
+use Rattle.std.proofs.lemmas.Grind.{flat_map-append}
 use Rattle.std.proofs.lemmas.List.{append-nil}
 use Rattle.bk_report.specs.Answers.{line, spaced}
 use Rattle.bk_report.specs.Refusals.{no_text}
@@ -26,3 +28,31 @@ verdict_pieces front number size perfect simple = simp append_assoc
 -- and of the line of a tiling
 pub tiling_pieces : (front size code : List ℕ) → (((front ++ size) ++ 32 ∷ []) ++ code) ++ 10 ∷ [] ≡ front ++ line (size ∷ code ∷ [])
 tiling_pieces front size code = simp append_assoc
+
+-- pieces with a blank before each
+blanks_before : (piece : List ℕ) (pieces : List (List ℕ)) → piece ++ flat_map (λ l. 32 ∷ l) pieces ≡ spaced (piece ∷ pieces)
+blanks_before piece [] = append-nil piece
+blanks_before piece (next ∷ pieces) = ap (λ (l : List ℕ). piece ++ 32 ∷ l) (blanks_before next pieces)
+
+blanks_map : {A : Type 0} (f : A → List ℕ) (xs : List A) → flat_map (λ x. 32 ∷ f x) xs ≡ flat_map (λ l. 32 ∷ l) (map f xs)
+blanks_map f [] = refl
+blanks_map f (x ∷ xs) = ap (λ (l : List ℕ). 32 ∷ f x ++ l) (blanks_map f xs)
+
+-- a number and pieces, `;`, and a number and pieces again: the pieces of a Smith diagram, one after another
+pub net_pieces : {A B : Type 0} (f : A → List ℕ) (g : B → List ℕ) (nodes width : List ℕ) (xs : List A) (ys : List B)
+    → ((((nodes ++ flat_map (λ x. 32 ∷ f x) xs) ++ codes " ; ") ++ width) ++ flat_map (λ y. 32 ∷ g y) ys) ++ 10 ∷ []
+    ≡ line ((nodes ∷ map f xs) ++ codes ";" ∷ width ∷ map g ys)
+net_pieces f g nodes width xs ys =
+    let blanks : List (List ℕ) → List ℕ = flat_map (λ l. 32 ∷ l) in
+    ap (λ (l : List ℕ). l ++ 10 ∷ [])
+    (append_assoc ((nodes ++ flat_map (λ x. 32 ∷ f x) xs) ++ codes " ; ") width (flat_map (λ y. 32 ∷ g y) ys)
+    ∙ append_assoc (nodes ++ flat_map (λ x. 32 ∷ f x) xs) (codes " ; ") (width ++ flat_map (λ y. 32 ∷ g y) ys)
+    ∙ append_assoc nodes (flat_map (λ x. 32 ∷ f x) xs) (codes " ; " ++ (width ++ flat_map (λ y. 32 ∷ g y) ys))
+    ∙ ap (λ (l : List ℕ). nodes ++ (l ++ (codes " ; " ++ (width ++ flat_map (λ y. 32 ∷ g y) ys)))) (blanks_map f xs)
+    ∙ ap (λ (l : List ℕ). nodes ++ (blanks (map f xs) ++ (codes " ; " ++ (width ++ l)))) (blanks_map g ys)
+    ∙ ap (λ (l : List ℕ). nodes ++ l) (sym (flat_map-append (λ (l : List ℕ). 32 ∷ l) (map f xs) (codes ";" ∷ width ∷ map g ys)))
+    ∙ blanks_before nodes (map f xs ++ codes ";" ∷ width ∷ map g ys))
+
+-- a node's number has at most five digits
+pub short_node : (n : ℕ) → n < 2 ^ 16 → length (decimal n) ≤ 5
+short_node n small = length-decimal-le 5 n (omega arith) (omega arith) (omega arith)

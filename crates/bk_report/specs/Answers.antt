@@ -1,9 +1,11 @@
 -- The texts of answers to accepted items. Each is a line, and ends with a line feed.
 use Rattle.std.specs.List.{join_with_byte}
-use Rattle.std.specs.Prelude.{List, MatchOption, None, Option, Some, [], codes, decimal, ℕ, ◌++◌, ◌∷◌, ◌≡◌}
+use Rattle.std.specs.Prelude.{List, MatchOption, None, Option, Some, [], codes, decimal, map, ℕ, ◌++◌, ◌∷◌, ◌≡◌}
 use Rattle.bk_tiling.specs.Tiling.{Rectangle, Tiling, order}
 use Rattle.bk_code.specs.Code.{code_of}
 use Rattle.bk_text.specs.CodeText.{code_text, size_text}
+use Rattle.bk_net.specs.Diagram.{smith_diagram}
+use Rattle.bk_net.specs.Net.{Net}
 use Rattle.bk_simple.specs.Simple.{IsFirstPart, IsLeastRepeated, IsPerfect, IsSimple}
 
 -- the pieces, with one blank between each two
@@ -46,3 +48,19 @@ pub record IsCheckLine (t : Tiling) (bytes : List ℕ) : Type 0 where
 -- canon, each line of images, and solve
 abbrev pub tiling_line : Tiling → List ℕ
 tiling_line t = line (size_text t.width t.height ∷ code_text (code_of t) ∷ [])
+
+-- a wire: its two nodes with a dash between
+abbrev pub wire_text : ℕ × ℕ → List ℕ
+wire_text w = decimal w.0 ++ codes "-" ++ decimal w.1
+
+-- the number of nodes and the wires of a net
+abbrev pub net_words : Net → List (List ℕ)
+net_words net = decimal net.nodes ∷ map wire_text net.wires
+
+-- the width and the sides of a tiling: the total and the currents of the one flow of its Smith diagram
+abbrev pub side_words : Tiling → List (List ℕ)
+side_words t = decimal t.width ∷ map (λ q. decimal q.s) t.squares
+
+-- net: the Smith diagram, and then the width and the sides
+abbrev pub net_line : Tiling → List ℕ
+net_line t = line (net_words (smith_diagram t) ++ codes ";" ∷ side_words t)

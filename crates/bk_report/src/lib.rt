@@ -2,9 +2,11 @@
 #![tactic(auto)]
 
 mod answer;
+mod net;
 mod refusal;
 #[cfg(test)]
 mod tests;
 
 pub use answer::{a_tiling_has_one_check_line, write_check, write_tiling};
+pub use net::write_net;
 pub use refusal::{Refused, write_refused};

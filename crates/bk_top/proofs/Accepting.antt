@@ -12,8 +12,9 @@ use Rattle.bk_report.specs.declared.refusal.Refused.TheVariants.{Gap, Illegal, L
 use Rattle.bk_top.specs.Answer.{AnswersLine, answers, no_item, refuses}
 use Rattle.bk_top.specs.AnswerLaws.{BeginsWith, CheckAcceptsTilings}
 use Rattle.bk_top.specs.Item.{HasItem, IsStatedBy}
+use Rattle.bk_top.specs.Refusing.{IsLineRefused}
 use Rattle.bk_top.specs.declared.command.Command.TheVariants.{Check}
-use Rattle.bk_top.proofs.OneAnswer.{cause_of, not_refused, skip_not_stated}
+use Rattle.bk_top.proofs.OneAnswer.{CommandCause, by_line, by_tiling, cause_of, command_cause, not_refused, skip_not_stated}
 
 -- no refusal begins so: its first byte is another
 first_byte : (text : List ℕ) → BeginsWith (codes "ok") text → get_or text 0 0 ≡ 111
@@ -55,13 +56,18 @@ accepted : (bytes : List ℕ) (item : Line) (pieces : List (List ℕ)) (refused 
     → BeginsWith (codes "ok") (concat pieces) → (t : Tiling) × IsStatedBy item t
 accepted bytes item pieces refused has (no_item a) b = absurd (omega (arith, first_byte [] b))
 accepted bytes item pieces refused has (refuses r h) b = absurd (refusal_byte r (first_byte (refusal_line r ++ []) b))
-accepted bytes item pieces refused has (answers t _ has' an) b = (t, subst (λ (i : Line). IsStatedBy i t) (one_meaning bytes has'.item item has'.is_item.meaning has.meaning) has'.stated)
+accepted bytes item pieces refused has (answers t _ has' _ an) b = (t, subst (λ (i : Line). IsStatedBy i t) (one_meaning bytes has'.item item has'.is_item.meaning has.meaning) has'.stated)
+
+-- check refuses for no cause of its own
+check_refuses : (bytes : List ℕ) (r : Refused) → CommandCause Check bytes r → IsLineRefused bytes r
+check_refuses bytes r (by_line h) = h
+check_refuses bytes r (by_tiling t has n e) = absurd (n tt)
 
 accepts : (bytes : List ℕ) (item : Line) (pieces : List (List ℕ)) (refused : Bool) (t : Tiling) → HasItem bytes item → AnswersLine Check bytes pieces refused
     → IsStatedBy item t → BeginsWith (codes "ok") (concat pieces)
 accepts bytes item pieces refused t has (no_item a) st = absurd (skip_not_stated bytes item t a has st)
-accepts bytes item pieces refused t has (refuses r h) st = absurd (not_refused bytes item t r has st (cause_of bytes r h))
-accepts bytes item pieces refused t has (answers u _ has' (text, c, e)) st = check_begins u text pieces c e
+accepts bytes item pieces refused t has (refuses r h) st = absurd (not_refused bytes item t r has st (cause_of bytes r (check_refuses bytes r (command_cause Check bytes r h))))
+accepts bytes item pieces refused t has (answers u _ has' _ (text, c, e)) st = check_begins u text pieces c e
 
 pub accepted_exactly : CheckAcceptsTilings
 accepted_exactly bytes item pieces refused has an = (

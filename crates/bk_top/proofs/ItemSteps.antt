@@ -4,7 +4,7 @@ use Rattle.std.specs.Prelude.{IfErr, IfOk}
 use Rattle.bk_tiling.specs.Tiling.{Tiling}
 use Rattle.bk_profile.specs.declared.laying.Refusal.{Refusal}
 use Rattle.bk_report.specs.declared.refusal.Refused.{Refused}
-use Rattle.bk_report.specs.declared.refusal.Refused.TheVariants.{Order, Size}
+use Rattle.bk_report.specs.declared.refusal.Refused.TheVariants.{Large, Order, Size}
 use Rattle.bk_text.specs.CodeLine.{Line}
 use Rattle.bk_text.specs.ReadLine.{IsFaultOf}
 use Rattle.bk_text.specs.declared.TextFault.{TextFault}
@@ -12,6 +12,8 @@ use Rattle.bk_text.specs.declared.TextFault.TheVariants as faults
 use Rattle.bk_top.specs.declared.answer.TheConstants.{LONGEST_LINE}
 use Rattle.bk_top.specs.Item.{AllowsOrder, AllowsSize, HasItem, IsFoundFor, IsFoundIn, IsLaidBy, IsStatedBy, order_of}
 use Rattle.bk_top.specs.Refusing.{IsItemRefused, IsLineRefused, IsNotLaid, no_line, not_laid, other_order, other_size, refused_for, refused_item, refused_text, too_many}
+use Rattle.bk_top.specs.RefusedBy.{Allows, IsRefusedBy, any_command, too_large}
+use Rattle.bk_top.specs.declared.command.Command.{Command}
 use Rattle.bk_top.proofs.OneAnswer.{order_is_sides}
 
 -- another order is stated than this number of sides
@@ -51,3 +53,12 @@ module _ (bytes : List ℕ) (item : Line) (is : HasItem bytes item) where
 pub not_read : (bytes : List ℕ) (fault : TextFault) (r : Refused) → length bytes ≤ LONGEST_LINE → IsFaultOf fault bytes → r ≡ refused_text fault → IsLineRefused bytes r
 not_read bytes (faults.Text at) r short h e = subst (IsLineRefused bytes) (sym e) (no_line at short h)
 not_read bytes faults.Many r short (line, is, many) e = subst (IsLineRefused bytes) (sym e) (too_many line short is many)
+
+-- what a command finds and refuses, from what is found and refused for any command
+module _ (command : Command) (bytes : List ℕ) where
+  pub refused_for_all : (r : Result (Option Tiling) Refused) → IfErr r (IsLineRefused bytes) → IfErr r (IsRefusedBy command bytes)
+  refused_for_all (Ok found) h = tt
+  refused_for_all (Err r) h = any_command r h
+
+  pub refused_as_large : (r : Result (Option Tiling) Refused) (t : Tiling) → r ≡ Ok (Some t) → IfOk r (IsFoundIn bytes) → (Allows command t → ⊥) → IsRefusedBy command bytes Large
+  refused_as_large r t e h = too_large t (subst (λ (s : Result (Option Tiling) Refused). IfOk s (IsFoundIn bytes)) e h)

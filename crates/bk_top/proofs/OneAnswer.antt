@@ -12,17 +12,20 @@ use Rattle.bk_profile.specs.Refused.{first_sum}
 use Rattle.bk_profile.specs.declared.laying.Refusal.{Refusal}
 use Rattle.bk_text.specs.CodeLine.{Flat, IsLine, IsNoLine, Item, Line, Skip}
 use Rattle.bk_text.proofs.LinesRead.{one_meaning}
+use Rattle.bk_sym.proofs.CanonicalLaws.{a_canonical_tiling_is_one}
+use Rattle.bk_report.specs.Answers.{tiling_line}
 use Rattle.bk_report.specs.Refusals.{refusal_line}
 use Rattle.bk_report.proofs.Verdicts.{one_check_line}
 use Rattle.bk_report.specs.declared.refusal.Refused.{Refused}
-use Rattle.bk_report.specs.declared.refusal.Refused.TheVariants.{Long, Many, Order, Size, Text}
+use Rattle.bk_report.specs.declared.refusal.Refused.TheVariants.{Large, Long, Many, Order, Size, Text}
 use Rattle.bk_top.specs.Answer.{IsAnswerTo, answers, no_item, refuses}
 use Rattle.bk_top.specs.AnswerLaws.{ALineHasOneAnswer}
-use Rattle.bk_top.specs.Item.{AllowsOrder, AllowsSize, HasItem, IsLaidBy, IsStatedBy, order_of}
+use Rattle.bk_top.specs.RefusedBy.{Allows, IsRefusedBy, any_command, too_large}
+use Rattle.bk_top.specs.Item.{AllowsOrder, AllowsSize, HasItem, HasTiling, IsLaidBy, IsStatedBy, order_of}
 use Rattle.bk_top.specs.Refusing.{IsItemRefused, IsLineRefused, IsNotLaid, no_line, not_laid, other_order, other_size, refused_for, refused_item, too_long, too_many}
 use Rattle.bk_top.specs.declared.answer.TheConstants.{LONGEST_LINE}
 use Rattle.bk_top.specs.declared.command.Command.{Command}
-use Rattle.bk_top.specs.declared.command.Command.TheVariants.{Check}
+use Rattle.bk_top.specs.declared.command.Command.TheVariants.{Canon, Check, Draw, Images, Net}
 use Rattle.bk_top.proofs.TilingsLaid.{code_not_refused, width_is_first_sum}
 
 -- an item has one tiling, and one cause why it has none
@@ -146,23 +149,57 @@ skip_not_stated bytes item t skip has st = subst (λ (i : Line). IsLaidBy i t) (
 -- a tiling has one answer
 same_answer : (command : Command) (t : Tiling) (pieces others : List (List ℕ)) → IsTiling t → IsAnswerTo command t pieces → IsAnswerTo command t others → pieces ≡ others
 same_answer Check t pieces others tiling (line, c, e) (other, d, f) = e ∙ ap (λ (l : List ℕ). l ∷ []) (one_check_line t line other tiling c d) ∙ sym f
+same_answer Canon t pieces others tiling (u, c, e) (v, d, f) = e ∙ ap (λ (z : Tiling). tiling_line z ∷ []) (a_canonical_tiling_is_one t u v tiling c d).1 ∙ sym f
+same_answer Images t pieces others tiling e f = e ∙ sym f
+same_answer Net t pieces others tiling e f = e ∙ sym f
+same_answer Draw t pieces others tiling e f = e ∙ sym f
 
 is_tiling : (item : Line) (t : Tiling) → IsLaidBy item t → IsTiling t
 is_tiling Skip t p = absurd p
 is_tiling (Item order size code) t p = p.tiling
 is_tiling (Flat order width height sides) t p = p.tiling
 
+same_tiling : (bytes : List ℕ) (t u : Tiling) → HasTiling bytes t → HasTiling bytes u → u ≡ t
+same_tiling bytes t u has has' =
+    one_tiling has.item u t
+    (subst (λ (i : Line). IsLaidBy i u) (one_meaning bytes has'.item has.item has'.is_item.meaning has.is_item.meaning) has'.stated.laid)
+    has.stated.laid
+
+-- why a command refuses a line: a cause that counts for any command, or the tiling is too large
+pub data CommandCause (command : Command) (bytes : List ℕ) (r : Refused) : Type 0 where
+  by_line : IsLineRefused bytes r → CommandCause command bytes r
+  by_tiling : (t : Tiling) → HasTiling bytes t → (Allows command t → ⊥) → r ≡ Large → CommandCause command bytes r
+
+pub command_cause : (command : Command) (bytes : List ℕ) (r : Refused) → IsRefusedBy command bytes r → CommandCause command bytes r
+command_cause command bytes r (any_command _ h) = by_line h
+command_cause command bytes r (too_large t has n) = by_tiling t has n refl
+
+one_refusal : (command : Command) (bytes : List ℕ) (r s : Refused) → CommandCause command bytes r → CommandCause command bytes s → r ≡ s
+one_refusal command bytes r s (by_line h) (by_line k) = one_line_cause bytes r s (cause_of bytes r h) (cause_of bytes s k)
+one_refusal command bytes r s (by_line h) (by_tiling t has n e) = absurd (not_refused bytes has.item t r has.is_item has.stated (cause_of bytes r h))
+one_refusal command bytes r s (by_tiling t has n e) (by_line k) = absurd (not_refused bytes has.item t s has.is_item has.stated (cause_of bytes s k))
+one_refusal command bytes r s (by_tiling t has n e) (by_tiling u has' m d) = e ∙ sym d
+
+skip_kept : (command : Command) (bytes : List ℕ) (r : Refused) → HasItem bytes Skip → CommandCause command bytes r → ⊥
+skip_kept command bytes r skip (by_line h) = skip_not_refused bytes r skip (cause_of bytes r h)
+skip_kept command bytes r skip (by_tiling t has n e) = skip_not_stated bytes has.item t skip has.is_item has.stated
+
+tiling_kept : (command : Command) (bytes : List ℕ) (t : Tiling) (r : Refused) → HasTiling bytes t → Allows command t → CommandCause command bytes r → ⊥
+tiling_kept command bytes t r has allowed (by_line h) = not_refused bytes has.item t r has.is_item has.stated (cause_of bytes r h)
+tiling_kept command bytes t r has allowed (by_tiling u has' n e) = n (subst (Allows command) (same_tiling bytes u t has' has) allowed)
+
 pub one_answer : ALineHasOneAnswer
 one_answer command bytes pieces others refused other (no_item a) (no_item b) = (refl, refl)
-one_answer command bytes pieces others refused other (no_item a) (refuses r h) = absurd (skip_not_refused bytes r a (cause_of bytes r h))
-one_answer command bytes pieces others refused other (no_item a) (answers t _ has an) = absurd (skip_not_stated bytes has.item t a has.is_item has.stated)
-one_answer command bytes pieces others refused other (refuses r h) (no_item b) = absurd (skip_not_refused bytes r b (cause_of bytes r h))
+one_answer command bytes pieces others refused other (no_item a) (refuses r h) = absurd (skip_kept command bytes r a (command_cause command bytes r h))
+one_answer command bytes pieces others refused other (no_item a) (answers t _ has _ an) = absurd (skip_not_stated bytes has.item t a has.is_item has.stated)
+one_answer command bytes pieces others refused other (refuses r h) (no_item b) = absurd (skip_kept command bytes r b (command_cause command bytes r h))
 one_answer command bytes pieces others refused other (refuses r h) (refuses s k) =
-    (ap (λ (z : Refused). refusal_line z ∷ []) (one_line_cause bytes r s (cause_of bytes r h) (cause_of bytes s k)), refl)
-one_answer command bytes pieces others refused other (refuses r h) (answers t _ has an) = absurd (not_refused bytes has.item t r has.is_item has.stated (cause_of bytes r h))
-one_answer command bytes pieces others refused other (answers t _ has an) (no_item b) = absurd (skip_not_stated bytes has.item t b has.is_item has.stated)
-one_answer command bytes pieces others refused other (answers t _ has an) (refuses s k) = absurd (not_refused bytes has.item t s has.is_item has.stated (cause_of bytes s k))
-one_answer command bytes pieces others refused other (answers t _ has an) (answers u _ has' an') =
-    let moved : IsLaidBy has.item u = subst (λ (i : Line). IsLaidBy i u) (one_meaning bytes has'.item has.item has'.is_item.meaning has.is_item.meaning) has'.stated.laid in
-    let same : u ≡ t = one_tiling has.item u t moved has.stated.laid in
-    (same_answer command t pieces others (is_tiling has.item t has.stated.laid) an (subst (λ (z : Tiling). IsAnswerTo command z others) same an'), refl)
+    (ap (λ (z : Refused). refusal_line z ∷ []) (one_refusal command bytes r s (command_cause command bytes r h) (command_cause command bytes s k)), refl)
+one_answer command bytes pieces others refused other (refuses r h) (answers t _ has allowed an) = absurd (tiling_kept command bytes t r has allowed (command_cause command bytes r h))
+one_answer command bytes pieces others refused other (answers t _ has _ an) (no_item b) = absurd (skip_not_stated bytes has.item t b has.is_item has.stated)
+one_answer command bytes pieces others refused other (answers t _ has allowed an) (refuses s k) = absurd (tiling_kept command bytes t s has allowed (command_cause command bytes s k))
+one_answer command bytes pieces others refused other (answers t _ has _ an) (answers u _ has' _ an') = (
+  same_answer command t pieces others (is_tiling has.item t has.stated.laid) an
+      (subst (λ (z : Tiling). IsAnswerTo command z others) (same_tiling bytes t u has has') an'),
+  refl,
+)

@@ -1,5 +1,5 @@
 -- The status of a run says how it ended.
-use Rattle.std.proofs.Common.{Err, List, Ok, Result, ap, arith, cond, inl, inr, refl, subst, sym, ℕ, ◌==◌, ◌∙◌, ◌≡◌, ◌⊎◌}
+use Rattle.std.proofs.Common.{Err, List, Ok, Result, [], ap, arith, cond, get_or, inl, inr, refl, subst, sym, ℕ, ◌*◌, ◌+◌, ◌==◌, ◌∙◌, ◌≡◌, ◌⊎◌}
 use Rattle.std.specs.Prelude.{Bool, OnErr, OnOk, String, false, true}
 use Rattle.std.specs.declared.alloc.Global.{Global}
 use Rattle.std.specs.Io.KnownBytes.{Appends}
@@ -8,9 +8,9 @@ use Rattle.bk_lines.specs.Ending.{EndsBy, HasVerdict, IsUndisturbed, verdict_of}
 use Rattle.bk_lines.specs.declared.Ended.{Ended}
 use Rattle.bk_lines.specs.declared.Ended.TheVariants.{NoMemory, NoneRefused, ReadFailed, SomeRefused, TooMany, WriteFailed}
 use Rattle.bk_top.specs.Running.{AnswersLines, IsRun, NoErrors, Outside, WritesErrors, rules_of, status_of, told}
-use Rattle.bk_top.specs.Words.{Asks, AsksNothing, usage}
+use Rattle.bk_top.specs.Words.{Asks, AsksNothing, name_of, usage}
 use Rattle.bk_top.specs.declared.command.Command.{Command}
-use Rattle.bk_top.specs.declared.command.Command.TheVariants.{Check}
+use Rattle.bk_top.specs.declared.command.Command.TheVariants.{Canon, Check, Draw, Images, Net}
 
 -- each status belongs to one ending
 named_by : ℕ → Ended
@@ -68,9 +68,22 @@ answers_lines command before after ended status ends s =
       write_kept = λ other. ends.write_kept (λ e. other (s ∙ ap status_of e));
     }
 
+-- each name belongs to one command: its first two letters tell
+command_by : List ℕ → Command
+command_by name = let two : ℕ = get_or name 0 0 * 256 + get_or name 1 0 in
+    cond (two == 25448) Check (cond (two == 25441) Canon (cond (two == 26989) Images (cond (two == 28261) Net Draw)))
+
+named_command : (command : Command) → command_by (name_of command) ≡ command
+unfolding command_by
+named_command Check = refl
+named_command Canon = refl
+named_command Images = refl
+named_command Net = refl
+named_command Draw = refl
+
 -- words ask for one command
 one_command : (words : List (String Global)) (a b : Command) → Asks words a → Asks words b → a ≡ b
-one_command words Check Check p q = refl
+one_command words a b p q = sym (named_command a) ∙ ap (λ (l : List (List ℕ)). command_by (get_or l 0 [])) (sym p ∙ q) ∙ named_command b
 
 -- a run where the words ask for a command
 pub run_of_lines : (words : List (String Global)) (command : Command) (before after : Outside) (ended : Ended) (status : ℕ) → Asks words command

@@ -2,6 +2,7 @@
 use Rattle.std.specs.Prelude.{Bool, List, codes, ℕ, ◌++◌, ◌↔◌, ◌≡◌}
 use Rattle.std.specs.List.{concat}
 use Rattle.bk_tiling.specs.Tiling.{Tiling}
+use Rattle.bk_lines.specs.Lines.{kept_front}
 use Rattle.bk_text.specs.CodeLine.{Line}
 use Rattle.bk_top.specs.Answer.{AnswersLine}
 use Rattle.bk_top.specs.Item.{HasItem, IsStatedBy}
@@ -12,6 +13,11 @@ use Rattle.bk_top.specs.declared.command.Command.TheVariants.{Check}
 abbrev pub ALineHasOneAnswer : Type 0
 ALineHasOneAnswer = (command : Command) (bytes : List ℕ) (pieces others : List (List ℕ)) (refused other : Bool)
     → AnswersLine command bytes pieces refused → AnswersLine command bytes others other → (pieces ≡ others) × (refused ≡ other)
+
+-- what is kept of a line, its first 8,193 bytes, has the answer of the line
+abbrev pub AFrontHasTheAnswer : Type 0
+AFrontHasTheAnswer = (command : Command) (bytes : List ℕ) (pieces : List (List ℕ)) (refused : Bool)
+    → AnswersLine command (kept_front bytes) pieces refused ↔ AnswersLine command bytes pieces refused
 
 -- the text begins so
 abbrev pub BeginsWith : List ℕ → List ℕ → Type 0

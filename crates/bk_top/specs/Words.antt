@@ -2,11 +2,15 @@
 use Rattle.std.specs.Prelude.{List, String, [], codes, map, string_bytes, ℕ, ◌∷◌, ◌≡◌}
 use Rattle.std.specs.declared.alloc.Global.{Global}
 use Rattle.bk_top.specs.declared.command.Command.{Command}
-use Rattle.bk_top.specs.declared.command.Command.TheVariants.{Check}
+use Rattle.bk_top.specs.declared.command.Command.TheVariants.{Canon, Check, Draw, Images, Net}
 
 -- the word that names a command
 abbrev pub name_of : Command → List ℕ
 name_of Check = codes "check"
+name_of Canon = codes "canon"
+name_of Images = codes "images"
+name_of Net = codes "net"
+name_of Draw = codes "draw"
 
 -- the words ask that this command answers lines: they are its name alone
 abbrev pub Asks : List (String Global) → Command → Type 0

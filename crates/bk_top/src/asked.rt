@@ -23,6 +23,10 @@ fn command_named(name: &str) -> Option<Command>
 {
     match name {
         "check" => Some(Command::Check),
+        "canon" => Some(Command::Canon),
+        "images" => Some(Command::Images),
+        "net" => Some(Command::Net),
+        "draw" => Some(Command::Draw),
         _ => None,
     }
 }

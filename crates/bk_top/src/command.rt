@@ -1,14 +1,17 @@
 //! The commands that answer lines.
 
-ghost use Rattle.std.specs.Prelude.{OnErr, OnOk, false};
+ghost use Rattle.std.specs.Prelude.{IfErr, IfOk, IsTrue, OnErr, OnOk, false, ◌↔◌};
 ghost use Rattle.bk_ports.specs.Causes.{HasCause};
 ghost use Rattle.bk_lines.specs.Answer.{IsBegun, IsWritten};
 
 use crate::answer::lay_line;
+use crate::several::{write_drawing, write_images};
 use arrayvec::ArrayVec;
+use bk_draw::LARGEST_DRAWN;
 use bk_lines::{Answerer, Outcome};
 use bk_ports::{Failed, Sink};
-use bk_report::{write_check, write_refused};
+use bk_report::{Refused, write_check, write_net, write_refused, write_tiling};
+use bk_sym::canonical;
 use bk_tiling::Tiling;
 
 /// A command that answers lines.
@@ -16,10 +19,40 @@ use bk_tiling::Tiling;
 pub enum Command {
     /// Whether a code is that of a tiling, and what the tiling is.
     Check,
+    /// The canonical tiling.
+    Canon,
+    /// The eight images: turned and mirrored.
+    Images,
+    /// The Smith diagram, and the sides as its currents.
+    Net,
+    /// A drawing in characters, where it is at most 400 wide and 400 high.
+    Draw,
 }
 
 impl Command {
     ghost use Rattle.bk_top.specs.Answer.{IsAnswerTo};
+    ghost use Rattle.bk_top.specs.RefusedBy.{Allows, IsFoundBy, IsRefusedBy};
+
+    // The tiling that the item of a line speaks of, none where the line has no item, or why the command refuses it.
+    fn tiling_for(self, line: &[u8]) -> Result<Option<Tiling>, Refused>
+        ensures found { IfOk result (IsFoundBy self line.now) }
+        ensures refused { IfErr result (IsRefusedBy self line.now) }
+    {
+        match lay_line(line) {
+            Ok(Some(tiling)) if !self.allows(&tiling) => Err(Refused::Large),
+            found => found,
+        }
+    }
+
+    // Whether the command answers this tiling.
+    fn allows(self, tiling: &Tiling) -> bool
+        ensures { IsTrue result ↔ Allows self tiling.now }
+    {
+        match self {
+            Command::Draw => tiling.width() <= LARGEST_DRAWN && tiling.height() <= LARGEST_DRAWN,
+            Command::Check | Command::Canon | Command::Images | Command::Net => true,
+        }
+    }
 
     // Writes the answer to a line whose item speaks of this tiling.
     fn write_answer<O: Sink>(
@@ -28,6 +61,7 @@ impl Command {
         buffer: &mut ArrayVec<u8, 9000>,
         out: &mut O,
     ) -> Result<(), Failed>
+        requires { Allows self tiling.now }
         ensures written { OnOk result (IsWritten (λ pieces _. IsAnswerTo self tiling.now pieces) (O.written out.old) (O.written out.new) false) }
         ensures failed { OnErr result (IsBegun (λ pieces _. IsAnswerTo self tiling.now pieces) (O.written out.old) (O.written out.new)) }
         ensures cause { HasCause (O.faults out.old) (O.faults out.new) result }
@@ -37,6 +71,16 @@ impl Command {
                 write_check(tiling, buffer);
                 out.write_all(buffer.as_slice())
             }
+            Command::Canon => {
+                write_tiling(&canonical(tiling), buffer);
+                out.write_all(buffer.as_slice())
+            }
+            Command::Images => write_images(tiling, buffer, out),
+            Command::Net => {
+                write_net(tiling, buffer);
+                out.write_all(buffer.as_slice())
+            }
+            Command::Draw => write_drawing(tiling, out),
         }
     }
 }
@@ -54,7 +98,7 @@ impl Answerer for Command {
         buffer: &mut ArrayVec<u8, 9000>,
         out: &mut O,
     ) -> Result<Outcome, Failed> {
-        match lay_line(line) {
+        match self.tiling_for(line) {
             Ok(None) => Ok(Outcome::Accepted),
             Ok(Some(tiling)) => {
                 self.write_answer(&tiling, buffer, out)?;

@@ -1,12 +1,13 @@
 //! What the words of a command line ask, done over a source and sinks.
 #![tactic(auto)]
 
-ghost use Rattle.bk_top.specs.AnswerLaws.{ALineHasOneAnswer, CheckAcceptsTilings};
+ghost use Rattle.bk_top.specs.AnswerLaws.{AFrontHasTheAnswer, ALineHasOneAnswer, CheckAcceptsTilings};
 
 mod answer;
 mod asked;
 mod command;
 mod program;
+mod several;
 #[cfg(test)]
 mod tests;
 
@@ -17,6 +18,11 @@ pub use program::run;
 /// A line has at most one answer.
 pub fn a_line_has_one_answer()
     ensures { ALineHasOneAnswer }
+{}
+
+/// A line is answered as its first 8,193 bytes are, which are all that is kept of it.
+pub fn a_front_has_the_answer()
+    ensures { AFrontHasTheAnswer }
 {}
 
 /// `check` accepts a code exactly when its squares tile the stated rectangle in code order: the answer to a line of at

@@ -106,6 +106,69 @@ fn lines_that_are_too_long_or_have_too_many_sides(rt: HostRuntime) -> Result<(),
 }
 
 #[test]
+fn tilings_are_turned_hung_and_drawn(rt: HostRuntime) -> Result<(), Fail> {
+    let no_pairs: &[(u64, usize)] = &[];
+    for (command, input, writes, status, output) in [
+        (
+            "canon",
+            "[36,28][8,20][30,14][2,18][16]",
+            no_pairs,
+            0,
+            "33x32 [18,15][7,8][14,4][10,1][9]\n",
+        ),
+        (
+            "canon",
+            "33x32 [18,15][7,8][14,4][10,1][9]",
+            no_pairs,
+            0,
+            "33x32 [18,15][7,8][14,4][10,1][9]\n",
+        ),
+        (
+            "images",
+            "[2,1][1]",
+            no_pairs,
+            0,
+            "3x2 [2,1][1]\n3x2 [1,2][1]\n3x2 [2,1][1]\n3x2 [1,2][1]\n\
+             2x3 [2][1,1]\n2x3 [2][1,1]\n2x3 [1,1][2]\n2x3 [1,1][2]\n",
+        ),
+        (
+            "net",
+            "[18,15][7,8][14,4][10,1][9]",
+            no_pairs,
+            0,
+            "6 0-2 0-1 1-3 1-4 2-5 2-3 3-5 3-4 4-5 ; 33 18 15 7 8 14 4 10 1 9\n",
+        ),
+        (
+            "net",
+            "[1,1][1,1]\n[1]",
+            no_pairs,
+            0,
+            "3 0-1 0-1 1-2 1-2 ; 2 1 1 1 1\n2 0-1 ; 1 1\n",
+        ),
+        ("draw", "[2,1][1]", no_pairs, 0, "+-++\n| ++\n+-++\n"),
+        (
+            "draw",
+            "[401]\n4x4 [401]",
+            no_pairs,
+            1,
+            "no large\nno size 401x401\n",
+        ),
+        ("draw", "[2,1][1]", &[(1, 0)], 4, "+-++\n"),
+    ] {
+        let command = words(&rt, command)?;
+        let mut source = MemSource::new(input.as_bytes(), 90, &[]);
+        let mut room = [0; 120];
+        let mut out = MemSink::new(&mut room, writes);
+        let mut no_room = [];
+        let mut err = MemSink::new(&mut no_room, &[]);
+        let got = run(rt.alloc(), &command, &mut source, &mut out, &mut err);
+        assert_eq!(rt; out.written(), output.as_bytes(), "{input}");
+        assert_eq!(rt; got, status, "{input}");
+    }
+    Ok(())
+}
+
+#[test]
 fn faults_end_the_run(rt: HostRuntime) -> Result<(), Fail> {
     let check = words(&rt, "check")?;
     let no_calls: &[u64] = &[];

@@ -7,7 +7,7 @@ pub returns-in_err-write_answer-in-Ok-Some-clause-failed : goal.returns-in_err-w
 returns-in_err-write_answer-in-Ok-Some-clause-failed g c =
     at_err (IsBegun (AnswersLine c.args.self.now c.args.line.now) (g.O.Sink.written c.args.out.now) (g.O.Sink.written c.write_answer.new.out)) c.from_residual.result
     (tiling_begun c.args.self.now c.args.line.now (g.O.Sink.written c.args.out.now) (g.O.Sink.written c.write_answer.new.out)
-    c.in-Ok-Some.field-0 c.in-Ok-Some.tiling c.in-Ok-Some.field-0-is c.in-Ok-Some.ensures.laid c.in_err-write_answer-in-Ok-Some.ensures.failed)
+    c.in-Ok-Some.field-0 c.in-Ok-Some.tiling c.in-Ok-Some.field-0-is c.in-Ok-Some.ensures.found c.in_err-write_answer-in-Ok-Some.ensures.failed)
 
 pub returns-in_err-write_all-in-Err-clause-failed : goal.returns-in_err-write_all-in-Err-clause-failed
 returns-in_err-write_all-in-Err-clause-failed g c =
@@ -18,12 +18,12 @@ returns-in_err-write_all-in-Err-clause-failed g c =
 pub returns-in-Ok-None-clause-outcome : goal.returns-in-Ok-None-clause-outcome
 returns-in-Ok-None-clause-outcome g c =
     none_written c.args.self.now c.args.line.now (g.O.Sink.written c.args.out.now) (g.O.Sink.written c.args.out.now)
-    c.in-Ok-None.field-0 c.in-Ok-None.field-0-is c.in-Ok-None.ensures.laid
+    c.in-Ok-None.field-0 c.in-Ok-None.field-0-is c.in-Ok-None.ensures.found
 
 pub returns-in_ok-write_answer-in-Ok-Some-clause-outcome : goal.returns-in_ok-write_answer-in-Ok-Some-clause-outcome
 returns-in_ok-write_answer-in-Ok-Some-clause-outcome g c =
     tiling_written c.args.self.now c.args.line.now (g.O.Sink.written c.args.out.now) (g.O.Sink.written c.write_answer.new.out)
-    c.in-Ok-Some.field-0 c.in-Ok-Some.tiling c.in-Ok-Some.field-0-is c.in-Ok-Some.ensures.laid c.in_ok-write_answer-in-Ok-Some.ensures.written
+    c.in-Ok-Some.field-0 c.in-Ok-Some.tiling c.in-Ok-Some.field-0-is c.in-Ok-Some.ensures.found c.in_ok-write_answer-in-Ok-Some.ensures.written
 
 pub returns-in_ok-write_all-in-Err-clause-outcome : goal.returns-in_ok-write_all-in-Err-clause-outcome
 returns-in_ok-write_all-in-Err-clause-outcome g c =

@@ -1,0 +1,62 @@
+//! The text of a Smith diagram.
+
+ghost use Rattle.std.specs.Prelude.{decimal, flat_map, length, ◌+◌, ◌++◌, ◌*◌, ◌≡◌, ◌≤◌, ◌∷◌};
+ghost use Rattle.arrayvec.specs.ArrayVec.{array_vec_len};
+ghost use Rattle.bk_report.specs.Answers.{net_line, wire_text};
+
+use arrayvec::ArrayVec;
+use bk_grammar::{push_bytes, push_number};
+use bk_net::{Net, net_of};
+use bk_tiling::Tiling;
+
+/// Clears the buffer and leaves the Smith diagram of a tiling (Brooks, Smith, Stone and Tutte 1940), with its line feed:
+/// the number of nodes and the wires `A-B`, then ` ; `, the width and the sides in code order. The width is the total
+/// and the sides are the currents of the one flow. The text is this project's own.
+pub fn write_net(tiling: &Tiling, out: &mut ArrayVec<u8, 9000>)
+    ensures { out.new.items ≡ net_line tiling.now }
+{
+    let (net, _levels) = net_of(tiling);
+    out.clear();
+    push_net(&net, out);
+    push_bytes(b" ; ", out);
+    push_sides(tiling, out);
+    out.push(b'\n');
+}
+
+// Appends the number of nodes, and the wires with a blank before each.
+fn push_net(net: &Net, out: &mut ArrayVec<u8, 9000>)
+    requires { array_vec_len out.old ≤ 6000 }
+    ensures text { out.new.items ≡ out.old.items ++ decimal net.now.nodes ++ flat_map (λ w. 32 ∷ wire_text w) net.now.wires }
+    ensures short { array_vec_len out.new ≤ array_vec_len out.old + 2405 }
+{
+    push_node(net.nodes(), out);
+    for (from, to) in net.wires() {
+        out.push(b' ');
+        push_node(*from, out);
+        out.push(b'-');
+        push_node(*to, out);
+    }
+}
+
+// Appends the width of a tiling, and the sides with a blank before each.
+fn push_sides(tiling: &Tiling, out: &mut ArrayVec<u8, 9000>)
+    requires { array_vec_len out.old ≤ 4000 }
+    ensures text { out.new.items ≡ out.old.items ++ decimal tiling.now.width ++ flat_map (λ q. 32 ∷ decimal q.s) tiling.now.squares }
+    ensures short { array_vec_len out.new ≤ array_vec_len out.old + 4220 }
+{
+    push_number(tiling.width(), out);
+    for q in tiling.squares() {
+        out.push(b' ');
+        push_number(q.s, out);
+    }
+}
+
+// Appends the number of a node.
+#[tactic(auto, using(crate::proofs::Spaces::short_node))]
+fn push_node(node: u16, out: &mut ArrayVec<u8, 9000>)
+    requires { array_vec_len out.old ≤ 8900 }
+    ensures text { out.new.items ≡ out.old.items ++ decimal node }
+    ensures short { length (decimal node) ≤ 5 }
+{
+    push_number(u64::from(node), out);
+}
