@@ -1,8 +1,8 @@
 -- Answers as they are written.
 use Rattle.std.specs.Fmt.{digits}
 use Rattle.std.specs.Prelude.{None, [], codes, refl, ◌++◌, ◌∷◌, ◌≡◌}
-use Rattle.bk_tiling.proofs.ExampleTilings.{rectangle_33x32}
-use Rattle.bk_report.specs.Answers.{net_line, verdict_line}
+use Rattle.bk_tiling.proofs.ExampleTilings.{rectangle_33x32, square_2x2}
+use Rattle.bk_report.specs.Answers.{dual_line, net_line, verdict_line}
 use Rattle.bk_report.specs.Refusals.{refusal_line}
 use Rattle.bk_report.specs.declared.refusal.Refused.TheVariants.{Gap, Size}
 
@@ -21,3 +21,11 @@ refused_size = refl
 pub diagram : net_line rectangle_33x32 ≡ codes "6 0-2 0-1 1-3 1-4 2-5 2-3 3-5 3-4 4-5 ; 33 18 15 7 8 14 4 10 1 9" ++ 10 ∷ []
 unfolding digits
 diagram = refl
+
+pub dual : dual_line rectangle_33x32 ≡ codes "6 0-2 0-1 1-2 1-3 2-5 2-4 3-4 3-5 4-5 ; 32 18 14 4 10 15 7 1 9 8 ; 1 5 6 7 2 3 8 9 4 ; 0" ++ 10 ∷ []
+unfolding digits
+dual = refl
+
+pub dual_with_crossing : dual_line square_2x2 ≡ codes "3 0-1 0-1 1-2 1-2 ; 2 1 1 1 1 ; 1 3 2 4 ; 1" ++ 10 ∷ []
+unfolding digits
+dual_with_crossing = refl

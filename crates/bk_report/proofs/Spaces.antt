@@ -53,6 +53,36 @@ net_pieces f g nodes width xs ys =
     ∙ ap (λ (l : List ℕ). nodes ++ l) (sym (flat_map-append (λ (l : List ℕ). 32 ∷ l) (map f xs) (codes ";" ∷ width ∷ map g ys)))
     ∙ blanks_before nodes (map f xs ++ codes ";" ∷ width ∷ map g ys))
 
+-- pieces with a blank before each, and more of them
+then_pieces : {A : Type 0} (f : A → List ℕ) (xs : List A) (more : List (List ℕ))
+    → flat_map (λ x. 32 ∷ f x) xs ++ flat_map (λ l. 32 ∷ l) more ≡ flat_map (λ l. 32 ∷ l) (map f xs ++ more)
+then_pieces f xs more =
+    ap (λ (l : List ℕ). l ++ flat_map (λ l. 32 ∷ l) more) (blanks_map f xs) ∙ sym (flat_map-append (λ (l : List ℕ). 32 ∷ l) (map f xs) more)
+
+to_the_right : (nodes wires height sides numbers count : List ℕ)
+    → ((((((((nodes ++ wires) ++ codes " ; ") ++ height) ++ sides) ++ codes " ;") ++ numbers) ++ codes " ; ") ++ count) ++ 10 ∷ []
+    ≡ (nodes ++ (wires ++ (codes " ; " ++ (height ++ (sides ++ (codes " ;" ++ (numbers ++ (codes " ; " ++ count)))))))) ++ 10 ∷ []
+to_the_right nodes wires height sides numbers count = simp append_assoc
+
+-- a Smith diagram, `;`, pieces, `;` and a number: the pieces of a dual diagram, one after another
+pub dual_pieces : {A B C : Type 0} (f : A → List ℕ) (g : B → List ℕ) (h : C → List ℕ) (nodes height count : List ℕ) (xs : List A) (ys : List B) (zs : List C)
+    → ((((((((nodes ++ flat_map (λ x. 32 ∷ f x) xs) ++ codes " ; ") ++ height) ++ flat_map (λ y. 32 ∷ g y) ys) ++ codes " ;")
+    ++ flat_map (λ z. 32 ∷ h z) zs) ++ codes " ; ") ++ count) ++ 10 ∷ []
+    ≡ line ((nodes ∷ map f xs) ++ (codes ";" ∷ (height ∷ map g ys) ++ (codes ";" ∷ map h zs ++ (codes ";" ∷ count ∷ []))))
+dual_pieces f g h nodes height count xs ys zs =
+    let wires : List ℕ = flat_map (λ x. 32 ∷ f x) xs in
+    let sides : List ℕ = flat_map (λ y. 32 ∷ g y) ys in
+    let numbers : List ℕ = flat_map (λ z. 32 ∷ h z) zs in
+    let last : List (List ℕ) = codes ";" ∷ count ∷ [] in
+    let third : List (List ℕ) = codes ";" ∷ map h zs ++ last in
+    let second : List (List ℕ) = codes ";" ∷ height ∷ map g ys ++ third in
+    to_the_right nodes wires height sides numbers count
+    ∙ ap (λ (l : List ℕ). (nodes ++ (wires ++ (codes " ; " ++ (height ++ (sides ++ (codes " ;" ++ (numbers ++ (codes " ; " ++ l)))))))) ++ 10 ∷ []) (sym (append-nil count))
+    ∙ ap (λ (l : List ℕ). (nodes ++ (wires ++ (codes " ; " ++ (height ++ (sides ++ (codes " ;" ++ l)))))) ++ 10 ∷ []) (then_pieces h zs last)
+    ∙ ap (λ (l : List ℕ). (nodes ++ (wires ++ (codes " ; " ++ (height ++ l)))) ++ 10 ∷ []) (then_pieces g ys third)
+    ∙ ap (λ (l : List ℕ). (nodes ++ l) ++ 10 ∷ []) (then_pieces f xs second)
+    ∙ ap (λ (l : List ℕ). l ++ 10 ∷ []) (blanks_before nodes (map f xs ++ second))
+
 -- a node's number has at most five digits
 pub short_node : (n : ℕ) → n < 2 ^ 16 → length (decimal n) ≤ 5
 short_node n small = length-decimal-le 5 n (omega arith) (omega arith) (omega arith)

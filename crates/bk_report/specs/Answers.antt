@@ -4,6 +4,9 @@ use Rattle.std.specs.Prelude.{List, MatchOption, None, Option, Some, [], codes, 
 use Rattle.bk_tiling.specs.Tiling.{Rectangle, Tiling, order}
 use Rattle.bk_code.specs.Code.{code_of}
 use Rattle.bk_text.specs.CodeText.{code_text, size_text}
+use Rattle.bk_sym.specs.Image.{image}
+use Rattle.bk_sym.specs.declared.Turn.TheVariants.{Swap}
+use Rattle.bk_dual.specs.Dual.{crossings, dual_diagram, dual_order}
 use Rattle.bk_net.specs.Diagram.{smith_diagram}
 use Rattle.bk_net.specs.Net.{Net}
 use Rattle.bk_simple.specs.Simple.{IsFirstPart, IsLeastRepeated, IsPerfect, IsSimple}
@@ -64,3 +67,9 @@ side_words t = decimal t.width ∷ map (λ q. decimal q.s) t.squares
 -- net: the Smith diagram, and then the width and the sides
 abbrev pub net_line : Tiling → List ℕ
 net_line t = line (net_words (smith_diagram t) ++ codes ";" ∷ side_words t)
+
+-- dual: the dual diagram with the height and the sides in its order, then the number of the square of each wire, and then
+-- how many crossings there are
+abbrev pub dual_line : Tiling → List ℕ
+dual_line t = line (net_words (dual_diagram t) ++ (codes ";" ∷ side_words (image Swap t) ++ (codes ";"
+    ∷ map decimal (dual_order t) ++ (codes ";" ∷ decimal (crossings t) ∷ []))))

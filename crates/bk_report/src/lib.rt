@@ -2,11 +2,13 @@
 #![tactic(auto)]
 
 mod answer;
+mod dual;
 mod net;
 mod refusal;
 #[cfg(test)]
 mod tests;
 
 pub use answer::{a_tiling_has_one_check_line, write_check, write_tiling};
+pub use dual::write_dual;
 pub use net::write_net;
 pub use refusal::{Refused, write_refused};

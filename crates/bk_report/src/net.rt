@@ -24,7 +24,7 @@ pub fn write_net(tiling: &Tiling, out: &mut ArrayVec<u8, 9000>)
 }
 
 // Appends the number of nodes, and the wires with a blank before each.
-fn push_net(net: &Net, out: &mut ArrayVec<u8, 9000>)
+pub(crate) fn push_net(net: &Net, out: &mut ArrayVec<u8, 9000>)
     requires { array_vec_len out.old ≤ 6000 }
     ensures text { out.new.items ≡ out.old.items ++ decimal net.now.nodes ++ flat_map (λ w. 32 ∷ wire_text w) net.now.wires }
     ensures short { array_vec_len out.new ≤ array_vec_len out.old + 2405 }
@@ -39,7 +39,7 @@ fn push_net(net: &Net, out: &mut ArrayVec<u8, 9000>)
 }
 
 // Appends the width of a tiling, and the sides with a blank before each.
-fn push_sides(tiling: &Tiling, out: &mut ArrayVec<u8, 9000>)
+pub(crate) fn push_sides(tiling: &Tiling, out: &mut ArrayVec<u8, 9000>)
     requires { array_vec_len out.old ≤ 4000 }
     ensures text { out.new.items ≡ out.old.items ++ decimal tiling.now.width ++ flat_map (λ q. 32 ∷ decimal q.s) tiling.now.squares }
     ensures short { array_vec_len out.new ≤ array_vec_len out.old + 4220 }
@@ -53,7 +53,7 @@ fn push_sides(tiling: &Tiling, out: &mut ArrayVec<u8, 9000>)
 
 // Appends the number of a node.
 #[tactic(auto, using(crate::proofs::Spaces::short_node))]
-fn push_node(node: u16, out: &mut ArrayVec<u8, 9000>)
+pub(crate) fn push_node(node: u16, out: &mut ArrayVec<u8, 9000>)
     requires { array_vec_len out.old ≤ 8900 }
     ensures text { out.new.items ≡ out.old.items ++ decimal node }
     ensures short { length (decimal node) ≤ 5 }

@@ -1,6 +1,6 @@
 //! Lines as they are written.
 
-use crate::{Refused, write_check, write_refused, write_tiling};
+use crate::{Refused, write_check, write_net, write_refused, write_tiling};
 use arrayvec::ArrayVec;
 use bk_tiling::{Square, Tiling};
 use std::test::Fail;
@@ -67,5 +67,7 @@ fn a_tiling_has_its_lines(rt: HostRuntime) -> Result<(), Fail> {
         line.as_slice(),
         b"ok 3 3x2 imperfect 1 compound 2,0 1x2\n".as_slice()
     );
+    write_net(&tiling, &mut line);
+    assert_eq!(rt; line.as_slice(), b"3 0-2 0-1 1-2 ; 3 2 1 1\n".as_slice());
     Ok(())
 }

@@ -25,7 +25,7 @@ use Rattle.bk_top.specs.Item.{AllowsOrder, AllowsSize, HasItem, HasTiling, IsLai
 use Rattle.bk_top.specs.Refusing.{IsItemRefused, IsLineRefused, IsNotLaid, no_line, not_laid, other_order, other_size, refused_for, refused_item, too_long, too_many}
 use Rattle.bk_top.specs.declared.answer.TheConstants.{LONGEST_LINE}
 use Rattle.bk_top.specs.declared.command.Command.{Command}
-use Rattle.bk_top.specs.declared.command.Command.TheVariants.{Canon, Check, Draw, Images, Net}
+use Rattle.bk_top.specs.declared.command.Command.TheVariants.{Canon, Check, Draw, Dual, Images, Net}
 use Rattle.bk_top.proofs.TilingsLaid.{code_not_refused, width_is_first_sum}
 
 -- an item has one tiling, and one cause why it has none
@@ -152,6 +152,7 @@ same_answer Check t pieces others tiling (line, c, e) (other, d, f) = e ∙ ap (
 same_answer Canon t pieces others tiling (u, c, e) (v, d, f) = e ∙ ap (λ (z : Tiling). tiling_line z ∷ []) (a_canonical_tiling_is_one t u v tiling c d).1 ∙ sym f
 same_answer Images t pieces others tiling e f = e ∙ sym f
 same_answer Net t pieces others tiling e f = e ∙ sym f
+same_answer Dual t pieces others tiling e f = e ∙ sym f
 same_answer Draw t pieces others tiling e f = e ∙ sym f
 
 is_tiling : (item : Line) (t : Tiling) → IsLaidBy item t → IsTiling t

@@ -10,7 +10,7 @@ use Rattle.bk_lines.specs.declared.Ended.TheVariants.{NoMemory, NoneRefused, Rea
 use Rattle.bk_top.specs.Running.{AnswersLines, IsRun, NoErrors, Outside, WritesErrors, rules_of, status_of, told}
 use Rattle.bk_top.specs.Words.{Asks, AsksNothing, name_of, usage}
 use Rattle.bk_top.specs.declared.command.Command.{Command}
-use Rattle.bk_top.specs.declared.command.Command.TheVariants.{Canon, Check, Draw, Images, Net}
+use Rattle.bk_top.specs.declared.command.Command.TheVariants.{Canon, Check, Draw, Dual, Images, Net}
 
 -- each status belongs to one ending
 named_by : ℕ → Ended
@@ -71,7 +71,7 @@ answers_lines command before after ended status ends s =
 -- each name belongs to one command: its first two letters tell
 command_by : List ℕ → Command
 command_by name = let two : ℕ = get_or name 0 0 * 256 + get_or name 1 0 in
-    cond (two == 25448) Check (cond (two == 25441) Canon (cond (two == 26989) Images (cond (two == 28261) Net Draw)))
+    cond (two == 25448) Check (cond (two == 25441) Canon (cond (two == 26989) Images (cond (two == 28261) Net (cond (two == 25717) Dual Draw))))
 
 named_command : (command : Command) → command_by (name_of command) ≡ command
 unfolding command_by
@@ -79,6 +79,7 @@ named_command Check = refl
 named_command Canon = refl
 named_command Images = refl
 named_command Net = refl
+named_command Dual = refl
 named_command Draw = refl
 
 -- words ask for one command

@@ -8,13 +8,13 @@ use Rattle.bk_sym.specs.Image.{image}
 use Rattle.bk_sym.specs.declared.Turn.{Turn}
 use Rattle.bk_sym.specs.declared.Turn.TheVariants.{FlipX, FlipY, Half, Same, Swap, SwapFlipX, SwapFlipY, SwapHalf}
 use Rattle.bk_draw.specs.Drawing.{drawing_row}
-use Rattle.bk_report.specs.Answers.{IsCheckLine, net_line, tiling_line}
+use Rattle.bk_report.specs.Answers.{IsCheckLine, dual_line, net_line, tiling_line}
 use Rattle.bk_report.specs.Refusals.{refusal_line}
 use Rattle.bk_report.specs.declared.refusal.Refused.{Refused}
 use Rattle.bk_top.specs.Item.{HasItem, HasTiling}
 use Rattle.bk_top.specs.RefusedBy.{Allows, IsRefusedBy}
 use Rattle.bk_top.specs.declared.command.Command.{Command}
-use Rattle.bk_top.specs.declared.command.Command.TheVariants.{Canon, Check, Draw, Images, Net}
+use Rattle.bk_top.specs.declared.command.Command.TheVariants.{Canon, Check, Draw, Dual, Images, Net}
 
 -- all turns, in the order in which images are given
 abbrev pub turns : List Turn
@@ -34,6 +34,7 @@ IsAnswerTo Check t pieces = (line : List ℕ) × IsCheckLine t line × (pieces �
 IsAnswerTo Canon t pieces = (c : Tiling) × IsCanonicalOf t c × (pieces ≡ tiling_line c ∷ [])
 IsAnswerTo Images t pieces = pieces ≡ image_lines t
 IsAnswerTo Net t pieces = pieces ≡ net_line t ∷ []
+IsAnswerTo Dual t pieces = pieces ≡ dual_line t ∷ []
 IsAnswerTo Draw t pieces = pieces ≡ drawing_lines t
 
 -- the answer to a line: the pieces that are written, each by one call, and whether they are the text of a refusal
@@ -52,4 +53,5 @@ MayWant Check bytes = ⊥
 MayWant Canon bytes = ⊥
 MayWant Images bytes = ⊥
 MayWant Net bytes = ⊥
+MayWant Dual bytes = ⊥
 MayWant Draw bytes = ⊥

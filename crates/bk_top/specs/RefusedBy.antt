@@ -8,7 +8,7 @@ use Rattle.bk_text.specs.CodeLine.{Skip}
 use Rattle.bk_top.specs.Item.{HasItem, HasTiling}
 use Rattle.bk_top.specs.Refusing.{IsLineRefused}
 use Rattle.bk_top.specs.declared.command.Command.{Command}
-use Rattle.bk_top.specs.declared.command.Command.TheVariants.{Canon, Check, Draw, Images, Net}
+use Rattle.bk_top.specs.declared.command.Command.TheVariants.{Canon, Check, Draw, Dual, Images, Net}
 
 -- the tilings that a command answers: all, but a drawing is at most 400 wide and 400 high
 abbrev pub Allows : Command → Tiling → Type 0
@@ -16,6 +16,7 @@ Allows Check t = Unit {0}
 Allows Canon t = Unit {0}
 Allows Images t = Unit {0}
 Allows Net t = Unit {0}
+Allows Dual t = Unit {0}
 Allows Draw t = (t.width ≤ LARGEST_DRAWN) × (t.height ≤ LARGEST_DRAWN)
 
 -- why a command refuses a line. The first cause counts

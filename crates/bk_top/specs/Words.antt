@@ -2,7 +2,7 @@
 use Rattle.std.specs.Prelude.{List, String, [], codes, map, string_bytes, ℕ, ◌∷◌, ◌≡◌}
 use Rattle.std.specs.declared.alloc.Global.{Global}
 use Rattle.bk_top.specs.declared.command.Command.{Command}
-use Rattle.bk_top.specs.declared.command.Command.TheVariants.{Canon, Check, Draw, Images, Net}
+use Rattle.bk_top.specs.declared.command.Command.TheVariants.{Canon, Check, Draw, Dual, Images, Net}
 
 -- the word that names a command
 abbrev pub name_of : Command → List ℕ
@@ -10,6 +10,7 @@ name_of Check = codes "check"
 name_of Canon = codes "canon"
 name_of Images = codes "images"
 name_of Net = codes "net"
+name_of Dual = codes "dual"
 name_of Draw = codes "draw"
 
 -- the words ask that this command answers lines: they are its name alone

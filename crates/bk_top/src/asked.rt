@@ -26,6 +26,7 @@ fn command_named(name: &str) -> Option<Command>
         "canon" => Some(Command::Canon),
         "images" => Some(Command::Images),
         "net" => Some(Command::Net),
+        "dual" => Some(Command::Dual),
         "draw" => Some(Command::Draw),
         _ => None,
     }

@@ -10,7 +10,7 @@ use arrayvec::ArrayVec;
 use bk_draw::LARGEST_DRAWN;
 use bk_lines::{Answerer, Outcome};
 use bk_ports::{Failed, Sink};
-use bk_report::{Refused, write_check, write_net, write_refused, write_tiling};
+use bk_report::{Refused, write_check, write_dual, write_net, write_refused, write_tiling};
 use bk_sym::canonical;
 use bk_tiling::Tiling;
 
@@ -25,6 +25,8 @@ pub enum Command {
     Images,
     /// The Smith diagram, and the sides as its currents.
     Net,
+    /// The dual diagram, the sides as its currents, the squares of its wires, and the crossings.
+    Dual,
     /// A drawing in characters, where it is at most 400 wide and 400 high.
     Draw,
 }
@@ -50,7 +52,8 @@ impl Command {
     {
         match self {
             Command::Draw => tiling.width() <= LARGEST_DRAWN && tiling.height() <= LARGEST_DRAWN,
-            Command::Check | Command::Canon | Command::Images | Command::Net => true,
+            Command::Check | Command::Canon | Command::Images | Command::Net | Command::Dual =>
+                true,
         }
     }
 
@@ -78,6 +81,10 @@ impl Command {
             Command::Images => write_images(tiling, buffer, out),
             Command::Net => {
                 write_net(tiling, buffer);
+                out.write_all(buffer.as_slice())
+            }
+            Command::Dual => {
+                write_dual(tiling, buffer);
                 out.write_all(buffer.as_slice())
             }
             Command::Draw => write_drawing(tiling, out),

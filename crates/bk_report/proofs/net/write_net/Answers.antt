@@ -1,5 +1,4 @@
 use Rattle.bk_tiling.specs.declared.Square.{Square}
-use Rattle.std.proofs.Common.{ℕ}
 use Rattle.std.specs.Prelude.{decimal}
 use Rattle.bk_net.specs.Diagram.{smith_diagram}
 use Rattle.bk_report.specs.Answers.{wire_text}

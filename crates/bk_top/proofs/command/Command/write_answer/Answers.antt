@@ -1,9 +1,9 @@
 use Rattle.std.proofs.Common.{[], refl, subst, ◌∙◌, ◌∷◌}
-use Rattle.bk_report.specs.Answers.{net_line, tiling_line}
+use Rattle.bk_report.specs.Answers.{dual_line, net_line, tiling_line}
 use Rattle.bk_top.specs.declared.command.Command.{Command}
 use Rattle.bk_top.specs.RefusedBy.{Allows}
 use Rattle.bk_top.specs.Answer.{drawing_lines, image_lines}
-use Rattle.bk_top.specs.declared.command.Command.TheVariants.{Canon, Check, Draw, Images, Net}
+use Rattle.bk_top.specs.declared.command.Command.TheVariants.{Canon, Check, Draw, Dual, Images, Net}
 use Rattle.bk_top.proofs.Writing.{by_command, piece_begun, piece_written, pieces_begun, pieces_written}
 use Rattle.bk_top.proofs.command.Command.write_answer.Goals as goal
 
@@ -58,6 +58,20 @@ returns-in-Net-clause-failed g c =
     (net_line c.args.tiling.now) c.as_slice-in-Net.result.now
     (by_command c.args.self Net c.args.tiling.now (net_line c.args.tiling.now ∷ []) c.in-Net.is refl)
     (c.as_slice-in-Net.ensures.value ∙ c.write_net.ensures) c.write_all-in-Net.ensures.err
+
+pub returns-in-Dual-clause-written : goal.returns-in-Dual-clause-written
+returns-in-Dual-clause-written g c =
+    piece_written c.args.self c.args.tiling.now (g.O.Sink.written c.args.out.now) (g.O.Sink.written c.write_all-in-Dual.new.self) c.write_all-in-Dual.result
+    (dual_line c.args.tiling.now) c.as_slice-in-Dual.result.now
+    (by_command c.args.self Dual c.args.tiling.now (dual_line c.args.tiling.now ∷ []) c.in-Dual.is refl)
+    (c.as_slice-in-Dual.ensures.value ∙ c.write_dual.ensures) c.write_all-in-Dual.ensures.ok
+
+pub returns-in-Dual-clause-failed : goal.returns-in-Dual-clause-failed
+returns-in-Dual-clause-failed g c =
+    piece_begun c.args.self c.args.tiling.now (g.O.Sink.written c.args.out.now) (g.O.Sink.written c.write_all-in-Dual.new.self) c.write_all-in-Dual.result
+    (dual_line c.args.tiling.now) c.as_slice-in-Dual.result.now
+    (by_command c.args.self Dual c.args.tiling.now (dual_line c.args.tiling.now ∷ []) c.in-Dual.is refl)
+    (c.as_slice-in-Dual.ensures.value ∙ c.write_dual.ensures) c.write_all-in-Dual.ensures.err
 
 pub returns-in-Draw-clause-written : goal.returns-in-Draw-clause-written
 returns-in-Draw-clause-written g c =

@@ -1,0 +1,42 @@
+//! The text of a dual diagram.
+
+ghost use Rattle.std.specs.Prelude.{decimal, flat_map, length, ◌+◌, ◌++◌, ◌*◌, ◌≡◌, ◌≤◌, ◌∷◌};
+ghost use Rattle.arrayvec.specs.ArrayVec.{array_vec_len};
+ghost use Rattle.bk_report.specs.Answers.{dual_line};
+
+use crate::net::{push_net, push_node, push_sides};
+use arrayvec::ArrayVec;
+use bk_dual::{crossings, dual_of, dual_order};
+use bk_grammar::{push_bytes, push_number};
+use bk_sym::{Turn, image};
+use bk_tiling::Tiling;
+
+/// Clears the buffer and leaves the dual diagram of a tiling (Brooks, Smith, Stone and Tutte 1940), with its line feed:
+/// the line that `net` has for the image with columns and levels exchanged, then ` ; ` and for each wire the number of
+/// its square, then ` ; ` and how many crossings there are. The text is this project's own.
+pub fn write_dual(tiling: &Tiling, out: &mut ArrayVec<u8, 9000>)
+    ensures { out.new.items ≡ dual_line tiling.now }
+{
+    out.clear();
+    push_net(&dual_of(tiling), out);
+    push_bytes(b" ; ", out);
+    push_sides(&image(tiling, Turn::Swap), out);
+    push_bytes(b" ;", out);
+    push_places(dual_order(tiling).as_slice(), out);
+    push_bytes(b" ; ", out);
+    push_number(u64::from(crossings(tiling)), out);
+    out.push(b'\n');
+}
+
+// Appends the numbers with a blank before each.
+fn push_places(numbers: &[u16], out: &mut ArrayVec<u8, 9000>)
+    requires few { length numbers.now ≤ 200 }
+    requires room { array_vec_len out.old ≤ 7000 }
+    ensures text { out.new.items ≡ out.old.items ++ flat_map (λ n. 32 ∷ decimal n) numbers.now }
+    ensures short { array_vec_len out.new ≤ array_vec_len out.old + 1200 }
+{
+    for number in numbers {
+        out.push(b' ');
+        push_node(*number, out);
+    }
+}
