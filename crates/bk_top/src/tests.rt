@@ -28,6 +28,12 @@ fn codes_are_checked(rt: HostRuntime) -> Result<(), Fail> {
             "[50, 35, 27], [8, 19], [15, 17, 11], [6, 24], [29, 25, 9, 2], [7, 18], [16], [42], [4, 37], [33]",
             "ok 21 112x112 perfect simple\n",
         ),
+        (
+            "9 33x32 [18,15][7,8][14,4][10,1][9] ; 2u.2aa.2ue.2eue.1e\n\
+             9 69x61 [36,33][5,28][25,9,2][7][16] ; 2u.2aa.3uue.1ea.1ee\n\
+             ; end order 9 listed 2\n",
+            "ok 9 33x32 perfect simple\nok 9 69x61 perfect simple\n",
+        ),
         ("[1]", "ok 1 1x1 perfect simple\n"),
         ("[1][1]", "ok 2 1x2 imperfect 1 simple\n"),
         ("[1,1][1,1]", "ok 4 2x2 imperfect 1 compound 0,0 2x1\n"),
