@@ -1,0 +1,15 @@
+pub mod PrimitiveLaws
+pub mod BridgeExamples
+pub mod LadderExamples
+pub mod NetRows
+pub mod NoZero
+pub mod TableLaws
+pub mod WholePotentials
+pub mod Proportions
+pub mod Solution
+pub mod OnePrimitive
+pub mod Spanning
+pub mod Filled
+pub mod Currents
+pub mod WideLaws
+pub mod FlowLawExamples

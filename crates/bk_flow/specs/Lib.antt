@@ -1,0 +1,5 @@
+pub mod Table
+pub mod Wide
+pub mod FlowNumbers
+pub mod Refusal
+pub mod FlowLaws
