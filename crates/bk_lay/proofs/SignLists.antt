@@ -1,0 +1,35 @@
+-- Signs between levels, one level more at a time.
+use Rattle.std.proofs.Common.{List, None, Option, Some, [], ap, arith, length, refl, ℕ, ◌++◌, ◌-◌, ◌∷◌, ◌≡◌, ◌≤◌}
+use Rattle.std.specs.Prelude.{option_to_list}
+use Rattle.bk_lay.specs.TilingWord.{sign_between, signs_between}
+
+-- the last of some levels
+abbrev pub last_of_levels : List ℕ → Option ℕ
+last_of_levels [] = None
+last_of_levels (a ∷ []) = Some a
+last_of_levels (a ∷ b ∷ levels) = last_of_levels (b ∷ levels)
+
+pub last_after : (levels : List ℕ) (b : ℕ) → last_of_levels (levels ++ b ∷ []) ≡ Some b
+last_after [] b = refl
+last_after (a ∷ []) b = refl
+last_after (a ∷ c ∷ levels) b = last_after (c ∷ levels) b
+
+-- one level more gives one sign more, where there was a level
+pub signs_after : (levels : List ℕ) (b : ℕ) → signs_between levels ++ signs_between (option_to_list (last_of_levels levels) ++ b ∷ []) ≡ signs_between (levels ++ b ∷ [])
+signs_after [] b = refl
+signs_after (a ∷ []) b = refl
+signs_after (a ∷ c ∷ levels) b = ap (λ signs. sign_between a c ∷ signs) (signs_after (c ∷ levels) b)
+
+-- there are fewer signs than levels
+pub few_signs : (levels : List ℕ) → length (signs_between levels) ≤ length levels - 1
+few_signs [] = omega arith
+few_signs (a ∷ []) = omega arith
+few_signs (a ∷ b ∷ levels) = omega (arith, few_signs (b ∷ levels))
+
+pub last_of_option : (o : Option ℕ) → last_of_levels (option_to_list o) ≡ o
+last_of_option None = refl
+last_of_option (Some a) = refl
+
+pub few_of_option : (o : Option ℕ) → length (option_to_list o) ≤ 1
+few_of_option None = omega arith
+few_of_option (Some a) = omega arith

@@ -1,0 +1,105 @@
+-- The turns of the code, one after another: the word so far is gone on with, the order is never passed, and where the
+-- leftmost valley lies at the height the word is whole.
+use Rattle.std.specs.List.{AllByRecursion}
+use Rattle.std.proofs.Common.{List, [], ap, arith, filter, length, subst, sym, ℕ, ◌++◌, ◌+◌, ◌-◌, ◌<◌, ◌^◌, ◌∙◌, ◌∷◌, ◌≡◌, ◌≤◌}
+use Rattle.std.proofs.lemmas.List.Sums.{count_by-le-length, length-filter, sum_by-append, sum_by-cons}
+use Rattle.bk_tiling.proofs.Cells.{all_from}
+use Rattle.bk_tiling.proofs.ListLaws.{append_assoc, append_nil, length_append, length_map}
+use Rattle.bk_tiling.proofs.TilingLaws.{within_of}
+use Rattle.bk_tiling.specs.Kept.{IsKept}
+use Rattle.bk_tiling.specs.Tiling.{IsOneOf, Tiling}
+use Rattle.bk_tiling.specs.declared.Square.{Square}
+use Rattle.bk_tiling.specs.declared.TheConstants.{MOST_SQUARES}
+use Rattle.bk_word.specs.KeptWord.{CanStand}
+use Rattle.bk_word.specs.Word.{Move, Word, order_of}
+use Rattle.bk_lay.proofs.Depicting.{some_signs}
+use Rattle.bk_lay.proofs.Filling.{in_tiling, valley_is_filled}
+use Rattle.bk_lay.proofs.MeetingRuns.{leftmost_in_outline, segment_of}
+use Rattle.bk_lay.proofs.NextTurn.{Turned, few_levels, found, meets, same_bottoms, same_squares}
+use Rattle.bk_lay.proofs.WordPlay.{tiling_word_is_complete}
+use Rattle.bk_lay.proofs.Words.{all_full, nothing_laid, some_moves_follow}
+use Rattle.bk_lay.specs.LevelRuns.{IsOutline, Meet, begins_under, bottoms_of, last_level, runs_under}
+use Rattle.bk_lay.specs.TilingWord.{IsWordOf, MovesFollow, bottoms, move_under, signs_between, squares_under}
+use Rattle.bk_lay.specs.declared.outline.Outline.{Outline}
+
+module _ (t : Tiling) (kept : IsKept t) where
+  pub first_turn : (w : Word) (o : Outline) → w ≡ [] → IsOutline t.width [] o → length o.left.items + length o.right.items ≡ 0 → Turned t w o
+  first_turn w o empty is alone = record {
+    laid = [];
+    fills = nothing_laid t kept.tiling;
+    outline = is;
+    follows = λ rest m. subst (λ (v : Word). MovesFollow t [] (v ++ rest)) (sym empty) m;
+    room = omega arith;
+  }
+
+  pub last_turn : (w : Word) (o : Outline) → Turned t w o → t.height ≤ o.valley.level → IsWordOf t w
+  last_turn w o turned high = subst (MovesFollow t []) (append_nil w)
+      (turned.follows [] (all_full t kept.tiling turned.laid turned.fills (segment_of o.valley) (leftmost_in_outline t.width turned.laid o turned.outline) high))
+
+  -- the squares that were found, and their move
+  module _ (w : Word) (o : Outline) (turned : Turned t w o) (low : o.valley.level < t.height) (squares : List Square) (is : squares ≡ filter (begins_under o.valley) t.squares) where
+    under : squares ≡ squares_under t (segment_of o.valley)
+    under = is ∙ same_squares t turned.laid o kept.tiling turned.fills turned.outline low
+
+    of_tiling : (q : Square) → IsOneOf q squares → IsOneOf q t.squares
+    of_tiling q h = in_tiling t turned.laid (segment_of o.valley) kept.tiling turned.fills (found t turned.laid o kept.tiling turned.fills turned.outline low) low q (subst (IsOneOf q) under h)
+
+    pub few_squares : length squares ≤ MOST_SQUARES
+    few_squares = let few = kept.few in omega (arith, ap length is, length-filter (begins_under o.valley) t.squares, count_by-le-length (begins_under o.valley) t.squares)
+
+    pub right_fits : AllByRecursion (λ q. q.x + q.s < 2 ^ 64) squares
+    right_fits = all_from (λ q. q.x + q.s < 2 ^ 64) squares (λ q h. let w = (within_of t kept.tiling q (of_tiling q h)).right in let fits = kept.width_fits in omega arith)
+
+    pub bottom_fits : AllByRecursion (λ q. q.y + q.s < 2 ^ 64) squares
+    bottom_fits = all_from (λ q. q.y + q.s < 2 ^ 64) squares (λ q h. let w = (within_of t kept.tiling q (of_tiling q h)).bottom in let fits = kept.height_fits in omega arith)
+
+    pub some_squares : 0 < length squares
+    some_squares = omega (arith, ap length under, (valley_is_filled t turned.laid (segment_of o.valley) kept.tiling turned.fills (found t turned.laid o kept.tiling turned.fills turned.outline low) low).0)
+
+    module _ (m : Move) (count : m.count ≡ length squares) (signs : m.signs ≡ signs_between (last_level o.left.items ++ bottoms_of squares ++ last_level o.right.items)) where
+      pub same_move : m ≡ move_under t turned.laid (segment_of o.valley)
+      same_move = λ i. record { count = counts i; signs = all_signs i }
+        where
+          counts : m.count ≡ length (squares_under t (segment_of o.valley))
+          counts = count ∙ ap length under
+
+          all_signs : m.signs ≡ signs_between (bottoms t turned.laid (segment_of o.valley))
+          all_signs = signs ∙ ap (λ (l : List Square). signs_between (last_level o.left.items ++ bottoms_of l ++ last_level o.right.items)) under
+              ∙ ap signs_between (sym (same_bottoms t turned.laid o kept.tiling turned.fills turned.outline low))
+
+      goes_on : (rest : Word) → MovesFollow t (turned.laid ++ squares_under t (segment_of o.valley)) rest → MovesFollow t [] (w ++ m ∷ rest)
+      goes_on rest f = turned.follows (m ∷ rest) (segment_of o.valley, found t turned.laid o kept.tiling turned.fills turned.outline low, low, same_move, f)
+
+      -- the order of the word so far and of the move is at most that of the tiling
+      pub order_fits : order_of w + m.count ≤ length t.squares
+      order_fits = omega (arith, (tiling_word_is_complete t (w ++ m ∷ more.0) kept.tiling (goes_on more.0 more.1)).1, sum_by-append (λ (m : Move). m.count) w (m ∷ more.0), sum_by-cons (λ (m : Move). m.count) m more.0)
+        where
+          more : (rest : Word) × MovesFollow t (turned.laid ++ squares_under t (segment_of o.valley)) rest
+          more = some_moves_follow t kept.tiling (turned.laid ++ squares_under t (segment_of o.valley)) (valley_is_filled t turned.laid (segment_of o.valley) kept.tiling turned.fills (found t turned.laid o kept.tiling turned.fills turned.outline low) low).1
+
+      pub can_stand : CanStand m
+      can_stand = record { some = omega (arith, count, some_squares); least = omega (arith, long, count); most = omega (arith, long, few_levels o.left.items, few_levels o.right.items, count) }
+        where
+          levels : length (last_level o.left.items ++ bottoms_of squares ++ last_level o.right.items) ≡ length (last_level o.left.items) + length squares + length (last_level o.right.items)
+          levels = omega (arith, length_append (last_level o.left.items ++ bottoms_of squares) (last_level o.right.items), length_append (last_level o.left.items) (bottoms_of squares), length_map (λ (q : Square). q.y + q.s) squares)
+
+          long : length m.signs + 1 ≡ length (last_level o.left.items) + length squares + length (last_level o.right.items)
+          long = omega (arith, ap length signs, some_signs (last_level o.left.items ++ bottoms_of squares ++ last_level o.right.items) (omega (arith, levels, some_squares)), levels)
+
+      pub order_more : order_of (w ++ m ∷ []) ≡ order_of w + m.count
+      order_more = omega (arith, sum_by-append (λ (m : Move). m.count) w (m ∷ []), sum_by-cons (λ (m : Move). m.count) m [])
+
+      -- each turn comes nearer to the tiling's order
+      pub smaller : (v : Word) → v ≡ w ++ m ∷ [] → length t.squares - order_of v < length t.squares - order_of w
+      smaller v is = omega (arith, ap order_of is, order_more, order_fits, count, some_squares)
+
+      pub next_turn : (p : Outline) → ((width : ℕ) (laid : List Square) → Meet width laid o.left.items (o.right.items ++ runs_under squares) → IsOutline width laid p)
+          → length p.left.items + length p.right.items < length o.left.items + (length o.right.items + length squares) → Turned t (w ++ m ∷ []) p
+      next_turn p known fewer = record {
+        laid = turned.laid ++ squares_under t (segment_of o.valley);
+        fills = (valley_is_filled t turned.laid (segment_of o.valley) kept.tiling turned.fills (found t turned.laid o kept.tiling turned.fills turned.outline low) low).1;
+        outline = known t.width (turned.laid ++ squares_under t (segment_of o.valley))
+            (subst (λ (l : List Square). Meet t.width (turned.laid ++ squares_under t (segment_of o.valley)) o.left.items (o.right.items ++ runs_under l)) (sym under) (meets t turned.laid o kept.tiling turned.fills turned.outline low));
+        follows = λ rest f. subst (MovesFollow t []) (sym (append_assoc w (m ∷ []) rest)) (goes_on rest f);
+        room = let before = turned.room in omega (arith, order_more, count);
+      }

@@ -1,0 +1,74 @@
+-- A test of a word against a tiling: the valleys are given, and each is tested.
+use Rattle.std.proofs.Common.{Bool, List, [], ap, arith, nat_eq, nat_le, nat_lt, not, refl, subst, suc, sym, true, zero, ℕ, ◌++◌, ◌+◌, ◌-◌, ◌<◌, ◌||◌, ◌∙◌, ◌∷◌, ◌≡◌}
+use Rattle.std.proofs.lemmas.Bool.Decides.{nat_tests}
+use Rattle.bk_tiling.proofs.ColumnTest.{after_of, all_below, each_below, eq_of, le_of, lt_of}
+use Rattle.bk_tiling.specs.Column.{IsLevel, depth}
+use Rattle.bk_tiling.specs.declared.Segment.{Segment}
+use Rattle.bk_tiling.specs.Tiling.{Tiling}
+use Rattle.bk_tiling.specs.declared.Square.{Square}
+use Rattle.bk_word.specs.Word.{Word}
+use Rattle.bk_lay.proofs.Valleys.{leftmost_by_falling}
+use Rattle.bk_lay.specs.TilingWord.{IsLeftmostValley, IsValley, MovesFollow, move_under, squares_under}
+use Rattle.bk_lay.specs.WordLaws.{NeverDeeperBefore}
+
+abbrev pub deeper_before : List Square → ℕ → ℕ → Bool
+deeper_before laid level zero = true
+deeper_before laid level (suc c) = nat_lt level (depth laid c)
+
+-- the segment is the leftmost valley
+pub record PassesAsValley (width : ℕ) (laid : List Square) (v : Segment) : Type 0 where
+  pub some : nat_lt 0 v.width ≡ true
+  pub within : nat_le (v.x + v.width) width ≡ true
+  pub level : all_below (λ k. nat_eq (depth laid (v.x + k)) v.level) v.width ≡ true
+  pub falls : all_below (λ c. nat_le (depth laid (suc c)) (depth laid c)) v.x ≡ true
+  pub before : deeper_before laid v.level v.x ≡ true
+  pub after : not (nat_lt (v.x + v.width) width) || nat_lt v.level (depth laid (v.x + v.width)) ≡ true
+
+before_of : (laid : List Square) (level x : ℕ) → deeper_before laid level x ≡ true → (c : ℕ) → suc c ≡ x → level < depth laid c
+before_of laid level zero e c s = absurd (omega arith)
+before_of laid level (suc d) e c s = subst (λ (k : ℕ). level < depth laid k) same (lt_of level (depth laid d) e)
+  where
+    same : d ≡ c
+    same = omega arith
+
+pub passes_as_valley : (width : ℕ) (laid : List Square) (v : Segment) → PassesAsValley width laid v → IsLeftmostValley width laid v
+passes_as_valley width laid v p = leftmost_by_falling width laid v valley falls
+  where
+    flat : IsLevel width laid v
+    flat = record {
+      some = lt_of 0 v.width p.some;
+      within = le_of (v.x + v.width) width p.within;
+      level = λ c low high. let e : v.x + (c - v.x) ≡ c = omega arith in
+          sym (ap (depth laid) e) ∙ eq_of (depth laid (v.x + (c - v.x))) v.level (each_below (λ k. nat_eq (depth laid (v.x + k)) v.level) v.width p.level (c - v.x) (omega arith));
+    }
+
+    ends : v.x + v.width < width → nat_lt (v.x + v.width) width ≡ true
+    ends h = grind (arith, nat_tests)
+
+    valley : IsValley width laid v
+    valley = record {
+      flat = flat;
+      left = before_of laid v.level v.x p.before;
+      right = λ h. lt_of v.level (depth laid (v.x + v.width)) (after_of (nat_lt (v.x + v.width) width) (nat_lt v.level (depth laid (v.x + v.width))) p.after (ends h));
+    }
+
+    falls : NeverDeeperBefore laid v
+    falls c h = le_of (depth laid (suc c)) (depth laid c) (each_below (λ c. nat_le (depth laid (suc c)) (depth laid c)) v.x p.falls c (omega arith))
+
+-- the moves under these valleys, laid one after another
+abbrev pub moves_under : Tiling → List Square → List Segment → Word
+moves_under t laid [] = []
+moves_under t laid (v ∷ valleys) = move_under t laid v ∷ moves_under t (laid ++ squares_under t v) valleys
+
+-- each is the leftmost valley at its turn, and at the end all columns are filled
+abbrev pub ArePassing : Tiling → List Square → List Segment → Type 0
+ArePassing t laid [] = all_below (λ c. nat_eq (depth laid c) t.height) t.width ≡ true
+ArePassing t laid (v ∷ valleys) = PassesAsValley t.width laid v × (nat_lt v.level t.height ≡ true) × ArePassing t (laid ++ squares_under t v) valleys
+
+pub word_by_valleys : (t : Tiling) (laid : List Square) (valleys : List Segment) → ArePassing t laid valleys → MovesFollow t laid (moves_under t laid valleys)
+word_by_valleys t laid [] p = λ c h. eq_of (depth laid c) t.height (each_below (λ c. nat_eq (depth laid c) t.height) t.width p c h)
+word_by_valleys t laid (v ∷ valleys) p = (v, passes_as_valley t.width laid v p.0, lt_of v.level t.height p.1, refl, word_by_valleys t (laid ++ squares_under t v) valleys p.2)
+
+abbrev pub by_tests : (width : ℕ) (laid : List Square) (v : Segment) → nat_lt 0 v.width ≡ true → nat_le (v.x + v.width) width ≡ true → all_below (λ k. nat_eq (depth laid (v.x + k)) v.level) v.width ≡ true
+    → all_below (λ c. nat_le (depth laid (suc c)) (depth laid c)) v.x ≡ true → deeper_before laid v.level v.x ≡ true → not (nat_lt (v.x + v.width) width) || nat_lt v.level (depth laid (v.x + v.width)) ≡ true → PassesAsValley width laid v
+by_tests width laid v a b c d e f = record { some = a; within = b; level = c; falls = d; before = e; after = f }

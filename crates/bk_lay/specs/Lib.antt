@@ -1,0 +1,4 @@
+pub mod TilingWord
+pub mod Depiction
+pub mod WordLaws
+pub mod LevelRuns
