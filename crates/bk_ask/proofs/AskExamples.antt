@@ -1,0 +1,52 @@
+-- Command lines that ask something, and some that ask nothing.
+use Rattle.std.specs.Fmt.{digits}
+use Rattle.std.specs.Prelude.{None, Some, codes}
+use Rattle.std.proofs.Common.{List, [], ap, arith, false, nat_eq, refl, slice_index, ℕ, ◌∷◌, ◌≡◌}
+use Rattle.std.proofs.lemmas.Bool.Decides.{nat_tests}
+use Rattle.bk_word.specs.declared.Class.TheVariants.{Perfect}
+use Rattle.bk_ask.specs.Asked.{Asks, AsksNothing}
+use Rattle.bk_ask.specs.declared.Ask.TheVariants as asks
+use Rattle.bk_ask.proofs.OptionLaws.{none_stands, option_of}
+use Rattle.bk_ask.proofs.Unasked.{nothing_listed, nothing_with_options}
+
+-- texts that differ at a place differ
+differ : (xs ys : List ℕ) (i : ℕ) → nat_eq (slice_index xs i) (slice_index ys i) ≡ false → xs ≡ ys → ⊥
+differ xs ys i t e = apart (slice_index xs i) (slice_index ys i) t (ap (λ bytes. slice_index bytes i) e)
+  where
+    apart : (a b : ℕ) → nat_eq a b ≡ false → a ≡ b → ⊥
+    apart a b t e = grind (arith, nat_tests)
+
+pub check_alone : Asks (codes "check" ∷ []) asks.Check
+check_alone = record { options = []; line = refl; say = refl }
+
+-- in any order, and the class perfect where it is left out
+pub list_nine : Asks (codes "list" ∷ codes "--limit" ∷ codes "1" ∷ codes "--order" ∷ codes "9" ∷ []) (asks.List 9 Perfect None (Some 1))
+unfolding digits
+list_nine = record {
+  options = codes "--limit" ∷ codes "1" ∷ codes "--order" ∷ codes "9" ∷ [];
+  line = refl;
+  say = record {
+    options = record {
+      whole = refl;
+      known = ((3, omega arith, refl), ((0, omega arith, refl), tt));
+      once = ((differ (codes "--order") (codes "--limit") 2 refl, tt), (tt, tt));
+    };
+    has_order = record { value = codes "9"; stands = (1, omega arith, refl); means = record { at_least = omega arith; at_most = omega arith; text = refl } };
+    has_class = record {
+      named = None;
+      has = (differ (codes "--limit") (codes "--class") 2 refl, (differ (codes "--order") (codes "--class") 2 refl, tt));
+      is = refl;
+    };
+    has_from = (differ (codes "--limit") (codes "--from") 2 refl, (differ (codes "--order") (codes "--from") 2 refl, tt));
+    has_limit = record { value = codes "1"; stands = (0, omega arith, refl); means = record { at_least = omega arith; at_most = omega arith; text = refl } };
+  };
+}
+
+-- an order is wanted
+pub list_alone : AsksNothing (codes "list" ∷ [])
+list_alone = nothing_listed [] (λ order class from limit l. none_stands (option_of (codes "--order") l.has_order.value) l.has_order.stands)
+
+-- `check` stands alone
+pub check_with_order : AsksNothing (codes "check" ∷ codes "--order" ∷ codes "9" ∷ [])
+check_with_order =
+    nothing_with_options (codes "check") (codes "--order") (codes "9" ∷ []) (differ (codes "check") (codes "list") 0 refl) (differ (codes "check") (codes "trial") 0 refl)

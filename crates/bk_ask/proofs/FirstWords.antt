@@ -1,0 +1,25 @@
+-- The first word is taken off.
+use Rattle.std.specs.Prelude.{IfNone, List, Option, String, [], drop, length, map, nat_eq, string_bytes, take, true, ℕ, ◌-◌, ◌∷◌, ◌≡◌, ◌≤◌}
+use Rattle.std.specs.declared.alloc.Global.{Global}
+use Rattle.std.proofs.Common.{ap, arith, eqb-true, get_or, refl, subst, sym, ◌∙◌}
+use Rattle.std.proofs.lemmas.List.{take_rest}
+use Rattle.bk_ask.specs.Asked.{AsksNothing}
+
+cut_one : {A : Type 0} (l : List A) (a : A) → 1 ≤ length l → a ≡ get_or l 0 a → l ≡ a ∷ take (length l - 1) (drop 1 l)
+cut_one [] a one is = absurd (omega arith)
+cut_one (x ∷ xs) a one is = rw (take_rest (x ∷ xs) 1) (ap (λ z. z ∷ xs) (sym is))
+
+-- the words behind the first one
+abbrev pub later_words : List (String Global) → List (List ℕ)
+later_words words = map string_bytes (take (length words - 1) (drop 1 words))
+
+pub split_words : (words : List (String Global)) (command : String Global) (name : List ℕ) → 1 ≤ length words → command ≡ get_or words 0 command → name ≡ string_bytes command
+    → map string_bytes words ≡ name ∷ later_words words
+split_words words command name one is same = ap (map string_bytes) (cut_one words command one is) ∙ ap (λ (n : List ℕ). n ∷ later_words words) (sym same)
+
+pub no_words : (words : List (String Global)) → true ≡ nat_eq (length words) 0 → map string_bytes words ≡ []
+no_words [] test = refl
+no_words (word ∷ words) test = absurd (omega (arith, eqb-true (length (word ∷ words)) 0 (sym test)))
+
+pub none_along : {A : Type 0} (o : Option A) (words more : List (List ℕ)) → words ≡ more → IfNone o (AsksNothing more) → IfNone o (AsksNothing words)
+none_along o words more same none = subst (λ (w : List (List ℕ)). IfNone o (AsksNothing w)) (sym same) none

@@ -1,0 +1,10 @@
+pub mod OptionLaws
+pub mod ValueLaws
+pub mod OneAsk
+pub mod OptionSteps
+pub mod NumberTexts
+pub mod CursorTexts
+pub mod KnownNames
+pub mod Unasked
+pub mod FirstWords
+pub mod AskExamples

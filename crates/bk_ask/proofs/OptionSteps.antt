@@ -1,0 +1,105 @@
+-- Words are looked through option by option.
+use Rattle.std.specs.Prelude.{Contains, List, String, [], drop, length, map, refl, string_bytes, take, ℕ, ◌-◌, ◌<◌, ◌∷◌, ◌≡◌, ◌≢◌, ◌≤◌}
+use Rattle.std.specs.Str.{bytes_eq}
+use Rattle.std.specs.declared.alloc.Global.{Global}
+use Rattle.std.proofs.Common.{Bool, ap, arith, eq-eqb, eqb-true, false, get_or, nat_eq, subst, sym, true, ◌∙◌}
+use Rattle.std.proofs.lemmas.List.{length-map, take_rest}
+use Rattle.std.proofs.lemmas.Slice.Eq.{bytes_eq-Decides}
+use Rattle.bk_ask.specs.Options.{AreOptions, IsLeftOut, NamedValue, options_in}
+use Rattle.bk_ask.proofs.OptionLaws.{later_stands, option_of}
+
+-- all words are options of these names just where those that are left are
+pub record StandOrFall (names all left : List (List ℕ)) : Type 0 where
+  pub stand : AreOptions names left → AreOptions names all
+  pub fall : AreOptions names all → AreOptions names left
+
+-- all words say no more of the option of this name than those that are left
+pub record SayTheSame (name : List ℕ) (all left : List (List ℕ)) : Type 0 where
+  pub out : IsLeftOut (options_in left) name → IsLeftOut (options_in all) name
+  pub has : (value : List ℕ) → Contains (options_in left) (option_of name value) → Contains (options_in all) (option_of name value)
+
+pub one_more : (names : List (List ℕ)) (name value : List ℕ) (words : List (List ℕ)) → Contains names name → IsLeftOut (options_in words) name → AreOptions names words
+    → AreOptions names (name ∷ value ∷ words)
+one_more names name value words known out are = record {
+  whole = ap (λ (rest : List (List ℕ)). name ∷ value ∷ rest) are.whole;
+  known = (known, are.known);
+  once = (out, are.once);
+}
+
+pub first_known : (names : List (List ℕ)) (name value : List ℕ) (words : List (List ℕ)) → AreOptions names (name ∷ value ∷ words) → Contains names name
+first_known names name value words are = are.known.0
+
+pub first_once : (names : List (List ℕ)) (name value : List ℕ) (words : List (List ℕ)) → AreOptions names (name ∷ value ∷ words) → IsLeftOut (options_in words) name
+first_once names name value words are = are.once.0
+
+pub one_less : (names : List (List ℕ)) (name value : List ℕ) (words : List (List ℕ)) → AreOptions names (name ∷ value ∷ words) → AreOptions names words
+one_less names name value words are = record {
+  whole = ap (λ (line : List (List ℕ)). drop 2 line) are.whole;
+  known = are.known.1;
+  once = are.once.1;
+}
+
+pub stand_start : (names words : List (List ℕ)) → StandOrFall names words words
+stand_start names words = record { stand = λ are. are; fall = λ are. are }
+
+pub stand_more : (names all : List (List ℕ)) (name value : List ℕ) (words : List (List ℕ)) → Contains names name → IsLeftOut (options_in words) name
+    → StandOrFall names all (name ∷ value ∷ words) → StandOrFall names all words
+stand_more names all name value words known out so = record {
+  stand = λ are. so.stand (one_more names name value words known out are);
+  fall = λ are. one_less names name value words (so.fall are);
+}
+
+pub say_start : (name : List ℕ) (words : List (List ℕ)) → SayTheSame name words words
+say_start name words = record { out = λ out. out; has = λ value has. has }
+
+pub say_more : (name : List ℕ) (all : List (List ℕ)) (first value : List ℕ) (words : List (List ℕ)) → first ≢ name → SayTheSame name all (first ∷ value ∷ words) → SayTheSame name all words
+say_more name all first value words other so = record {
+  out = λ out. so.out (other, out);
+  has = λ v has. so.has v (later_stands (option_of first value) (options_in words) (option_of name v) has);
+}
+
+pub none_left : (words : List (List ℕ)) → length words < 2 → options_in words ≡ []
+none_left [] few = refl
+none_left (word ∷ []) few = refl
+none_left (word ∷ next ∷ words) few = absurd (omega arith)
+
+pub end_stands : (names words : List (List ℕ)) → length words ≡ 0 → AreOptions names words
+end_stands names [] none = record { whole = refl; known = tt; once = tt }
+end_stands names (word ∷ words) none = absurd (omega arith)
+
+pub end_falls : (names words : List (List ℕ)) → length words < 2 → AreOptions names words → length words ≡ 0
+end_falls names [] few are = refl
+end_falls names (word ∷ []) few are = ap length are.whole
+end_falls names (word ∷ next ∷ words) few are = absurd (omega arith)
+
+-- ---- the words as the code holds them
+
+-- a list of at least two, cut behind them
+pub cut_two : {A : Type 0} (l : List A) (a : A) → 2 ≤ length l → a ≡ get_or l 0 a → l ≡ a ∷ get_or l 1 a ∷ take (length l - 2) (drop 2 l)
+cut_two [] a two is = absurd (omega arith)
+cut_two (x ∷ []) a two is = absurd (omega arith)
+cut_two (x ∷ y ∷ ys) a two is = rw (take_rest (x ∷ y ∷ ys) 2) (ap (λ z. z ∷ y ∷ ys) (sym is))
+
+pub other_name : (text name : List ℕ) → false ≡ bytes_eq text name → text ≢ name
+other_name text name test same =
+    let true' : bytes_eq text name ≡ true = (bytes_eq-Decides text name).1 same in
+    cc
+
+pub say_rest : (name : List ℕ) (all : List (List ℕ)) (words : List (String Global)) (first : String Global) (text : List ℕ) → 2 ≤ length words → first ≡ get_or words 0 first
+    → text ≡ string_bytes first → false ≡ bytes_eq text name → SayTheSame name all (map string_bytes words) → SayTheSame name all (map string_bytes (take (length words - 2) (drop 2 words)))
+say_rest name all words first text two is same test so =
+    let cut : words ≡ first ∷ get_or words 1 first ∷ take (length words - 2) (drop 2 words) = cut_two words first two is in
+    say_more name all (string_bytes first) (string_bytes (get_or words 1 first)) (map string_bytes (take (length words - 2) (drop 2 words)))
+    (λ e. other_name text name test (same ∙ e)) (subst (λ (w : List (String Global)). SayTheSame name all (map string_bytes w)) cut so)
+
+pub say_none : (name : List ℕ) (all : List (List ℕ)) (words : List (String Global)) → length words < 2 → SayTheSame name all (map string_bytes words) → IsLeftOut (options_in all) name
+say_none name all words few so =
+    so.out (subst (λ (options : List NamedValue). IsLeftOut options name) (sym (none_left (map string_bytes words) (omega (arith, length-map words string_bytes)))) tt)
+
+pub stand_end : (names all : List (List ℕ)) (words : List (String Global)) (empty : Bool) → length words < 2 → empty ≡ nat_eq (length words) 0 → StandOrFall names all (map string_bytes words)
+    → (empty ≡ true → AreOptions names all) × (AreOptions names all → empty ≡ true)
+stand_end names all words empty few is so =
+    let same : length (map string_bytes words) ≡ length words = length-map words string_bytes in (
+      λ e. so.stand (end_stands names (map string_bytes words) (same ∙ eqb-true (length words) 0 (sym is ∙ e))),
+      λ are. is ∙ eq-eqb (length words) 0 (sym same ∙ end_falls names (map string_bytes words) (omega arith) (so.fall are)),
+    )

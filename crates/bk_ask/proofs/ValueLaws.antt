@@ -1,0 +1,30 @@
+-- The value of an option means one thing.
+use Rattle.std.specs.Prelude.{List, cond, length, nat_eq, refl, ℕ, ◌<◌, ◌^◌, ◌≡◌}
+use Rattle.std.proofs.Common.{ap, arith, sym, ◌∙◌}
+use Rattle.std.proofs.lemmas.Fmt.{decimal_injective}
+use Rattle.bk_word.specs.Word.{Word}
+use Rattle.bk_word.specs.declared.Class.{Class}
+use Rattle.bk_word.specs.declared.Class.TheVariants.{Imperfect, Perfect, Simple}
+use Rattle.bk_word.proofs.WordsRead.{one_word}
+use Rattle.bk_ask.specs.OptionValues.{IsClassName, IsCursor, IsNumberWithin, class_name}
+
+pub one_number : (least most : ℕ) → most < 2 ^ 64 → (bytes : List ℕ) (a b : ℕ) → IsNumberWithin least most bytes a → IsNumberWithin least most bytes b → a ≡ b
+one_number least most fits bytes a b first second =
+    decimal_injective a b (omega (arith, first.at_most)) (omega (arith, second.at_most)) (sym first.text ∙ second.text)
+
+pub one_cursor : (bytes : List ℕ) (v w : Word) → IsCursor bytes v → IsCursor bytes w → v ≡ w
+one_cursor bytes v w first second = one_word bytes v w first.text second.text
+
+-- the class whose name has this length
+class_of_length : ℕ → Class
+class_of_length n = cond (nat_eq n 7) Perfect (cond (nat_eq n 9) Imperfect Simple)
+
+by_length : (class : Class) → class ≡ class_of_length (length (class_name class))
+unfolding class_of_length
+by_length Perfect = refl
+by_length Imperfect = refl
+by_length Simple = refl
+
+pub one_class : (bytes : List ℕ) (a b : Class) → IsClassName bytes a → IsClassName bytes b → a ≡ b
+one_class bytes a b first second =
+    by_length a ∙ ap (λ (name : List ℕ). class_of_length (length name)) (sym first ∙ second) ∙ sym (by_length b)

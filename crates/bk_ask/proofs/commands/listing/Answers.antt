@@ -1,0 +1,14 @@
+use Rattle.std.proofs.Common.{map, string_bytes, sym, ◌∙◌}
+use Rattle.bk_ask.proofs.OptionLaws.{fault_of, none_of}
+use Rattle.bk_ask.proofs.Unasked.{nothing_listed}
+use Rattle.bk_ask.proofs.commands.listing.Goals as goal
+
+pub returns-in_err-order-clause-none : goal.returns-in_err-order-clause-none
+returns-in_err-order-clause-none c =
+    none_of c.from_residual.result _
+    (nothing_listed (map string_bytes c.args.options.now) (λ order class from limit l. c.in_err-order.ensures.none order l.has_order))
+
+pub returns-in_err-class-clause-none : goal.returns-in_err-class-clause-none
+returns-in_err-class-clause-none c =
+    none_of c.from_residual-in_err-class.result _
+    (nothing_listed (map string_bytes c.args.options.now) (λ order class from limit l. fault_of c.class_in.result _ (sym c.ok.ensures.value ∙ c.in_err-class.was) c.class_in.ensures.err class l.has_class))

@@ -1,0 +1,67 @@
+-- What a command line asks.
+use Rattle.std.specs.Prelude.{List, Option, [], codes, ℕ, ◌∷◌, ◌≡◌}
+use Rattle.bk_word.specs.Word.{Word}
+use Rattle.bk_word.specs.declared.Class.{Class}
+use Rattle.bk_word.specs.declared.Class.TheVariants.{Perfect}
+use Rattle.bk_ask.specs.Options.{AreOptions, Given, MayHave, NamedValue, options_in, or_else}
+use Rattle.bk_ask.specs.OptionValues.{IsClassName, IsCursor, IsNumberWithin}
+use Rattle.bk_ask.specs.declared.Ask.{Ask}
+use Rattle.bk_ask.specs.declared.Ask.TheVariants as asks
+
+-- the word that names the command
+abbrev pub command_name : Ask → List ℕ
+command_name asks.Check = codes "check"
+command_name asks.Canon = codes "canon"
+command_name asks.Images = codes "images"
+command_name asks.Net = codes "net"
+command_name asks.Flow = codes "flow"
+command_name asks.Word = codes "word"
+command_name asks.Solve = codes "solve"
+command_name asks.Draw = codes "draw"
+command_name asks.Dual = codes "dual"
+command_name (asks.List order class from limit) = codes "list"
+command_name (asks.Trial seed count) = codes "trial"
+command_name asks.Help = codes "help"
+
+-- the names of the options of `list`, and of those of `trial`
+abbrev pub listing_names : List (List ℕ)
+listing_names = codes "--order" ∷ codes "--class" ∷ codes "--from" ∷ codes "--limit" ∷ []
+
+abbrev pub trial_names : List (List ℕ)
+trial_names = codes "--seed" ∷ codes "--count" ∷ []
+
+-- the class: the one that is named, else perfect
+pub record MayHaveClass (options : List NamedValue) (class : Class) : Type 0 where
+  pub named : Option Class
+  pub has : MayHave options (codes "--class") IsClassName named
+  pub is : class ≡ or_else named Perfect
+
+-- list: an order from 2 to 16; and it may have a class, a word after which to start, and a limit
+pub record AsksListing (words : List (List ℕ)) (order : ℕ) (class : Class) (from : Option Word) (limit : Option ℕ) : Type 0 where
+  pub options : AreOptions listing_names words
+  pub has_order : Given (options_in words) (codes "--order") (IsNumberWithin 2 16) order
+  pub has_class : MayHaveClass (options_in words) class
+  pub has_from : MayHave (options_in words) (codes "--from") IsCursor from
+  pub has_limit : MayHave (options_in words) (codes "--limit") (IsNumberWithin 0 1_000_000_000) limit
+
+-- trial: a seed and a count
+pub record AsksTrial (words : List (List ℕ)) (seed count : ℕ) : Type 0 where
+  pub options : AreOptions trial_names words
+  pub has_seed : Given (options_in words) (codes "--seed") (IsNumberWithin 0 18_446_744_073_709_551_615) seed
+  pub has_count : Given (options_in words) (codes "--count") (IsNumberWithin 0 100_000) count
+
+-- what the words behind the command's name say. All commands but `list` and `trial` stand alone
+abbrev pub OptionsSay : List (List ℕ) → Ask → Type 0
+OptionsSay words (asks.List order class from limit) = AsksListing words order class from limit
+OptionsSay words (asks.Trial seed count) = AsksTrial words seed count
+OptionsSay words _ = words ≡ []
+
+-- the words of a command line, without the program's name, ask this: the first one names the command
+pub record Asks (words : List (List ℕ)) (ask : Ask) : Type 0 where
+  pub options : List (List ℕ)
+  pub line : words ≡ command_name ask ∷ options
+  pub say : OptionsSay options ask
+
+-- the words ask nothing
+abbrev pub AsksNothing : List (List ℕ) → Type 0
+AsksNothing words = (ask : Ask) → Asks words ask → ⊥

@@ -1,0 +1,28 @@
+-- The text of `help`.
+use Rattle.std.specs.Prelude.{List, [], codes, flat_map, ℕ, ◌++◌, ◌∷◌}
+
+-- how a command line is built
+abbrev pub usage : List ℕ
+usage = codes "usage: bouwkamp COMMAND [--NAME VALUE]..."
+
+-- the usage, and then each command with what it does
+abbrev pub help_lines : List (List ℕ)
+help_lines =
+    usage
+    ∷ codes "check: test each code"
+    ∷ codes "canon: canonical code of each code"
+    ∷ codes "images: the eight images of each code"
+    ∷ codes "net: Smith diagram of each code"
+    ∷ codes "flow: currents of each network"
+    ∷ codes "word: word of each code"
+    ∷ codes "solve: code of each word"
+    ∷ codes "draw: drawing of each code"
+    ∷ codes "list --order N [--class CLASS] [--from WORD] [--limit K]: catalogue of an order"
+    ∷ codes "trial --seed S --count C: trial codes"
+    ∷ codes "dual: dual diagram of each code"
+    ∷ codes "help: this text"
+    ∷ []
+
+-- the lines, each with its line feed
+abbrev pub help_text : List ℕ
+help_text = flat_map (λ line. line ++ 10 ∷ []) help_lines

@@ -1,0 +1,5 @@
+pub mod Options
+pub mod OptionValues
+pub mod Asked
+pub mod AskLaws
+pub mod Help

@@ -1,0 +1,31 @@
+-- The values that options may have.
+use Rattle.std.specs.Prelude.{List, [], codes, decimal, slice_index, ℕ, ◌∷◌, ◌≡◌, ◌≤◌, ◌⊎◌}
+use Rattle.bk_word.specs.Word.{Word, order_of}
+use Rattle.bk_word.specs.WordText.{IsTextOf}
+use Rattle.bk_word.specs.declared.Class.{Class}
+use Rattle.bk_word.specs.declared.Class.TheVariants.{Imperfect, Perfect, Simple}
+
+-- a number from `least` to `most`, written in digits without a sign and without a leading 0
+pub record IsNumberWithin (least most : ℕ) (bytes : List ℕ) (n : ℕ) : Type 0 where
+  pub at_least : least ≤ n
+  pub at_most : n ≤ most
+  pub text : bytes ≡ decimal n
+
+-- the text of a word of an order of at most 16
+pub record IsCursor (bytes : List ℕ) (w : Word) : Type 0 where
+  pub text : IsTextOf bytes w
+  pub few : order_of w ≤ 16
+
+-- the name of a class
+abbrev pub class_name : Class → List ℕ
+class_name Perfect = codes "perfect"
+class_name Imperfect = codes "imperfect"
+class_name Simple = codes "simple"
+
+-- the bytes name the class
+abbrev pub IsClassName : List ℕ → Class → Type 0
+IsClassName bytes class = bytes ≡ class_name class
+
+-- the bytes are `0`, or begin with another digit
+abbrev pub BeginsNumber : List ℕ → Type 0
+BeginsNumber bytes = (bytes ≡ 48 ∷ []) ⊎ ((49 ≤ slice_index bytes 0) × (slice_index bytes 0 ≤ 57))

@@ -1,0 +1,125 @@
+//! What each command asks with its options.
+
+ghost use Rattle.std.specs.Prelude.{IfErr, IfNone, IfOk, IfSome, [], codes, map, string_bytes, Option, ℕ, ◌∷◌};
+ghost use Rattle.bk_word.specs.Word.{Word as Moves};
+ghost use Rattle.bk_word.specs.declared.Class.{Class as ClassOf};
+ghost use Rattle.bk_ask.specs.Asked.{Asks, AsksNothing, MayHaveClass};
+ghost use Rattle.bk_ask.specs.Options.{Given, MayHave, NamesDiffer, options_in};
+ghost use Rattle.bk_ask.specs.OptionValues.{IsCursor, IsNumberWithin};
+
+use crate::Ask;
+use crate::options::{are_options, value_of};
+use crate::values::{class_named, cursor_in, number_within};
+use bk_word::{Class, Word};
+use std::alloc::Global;
+
+// The words ask nothing.
+#[derive(Clone, Copy, Drop)]
+pub(crate) struct Unasked;
+
+// What a command asks that stands alone.
+pub(crate) fn command_alone(name: &str) -> Option<Ask>
+    ensures some { IfSome result (Asks (name.now ∷ [])) }
+    ensures none { IfNone result (AsksNothing (name.now ∷ [])) }
+{
+    match name {
+        "check" => Some(Ask::Check),
+        "canon" => Some(Ask::Canon),
+        "images" => Some(Ask::Images),
+        "net" => Some(Ask::Net),
+        "flow" => Some(Ask::Flow),
+        "word" => Some(Ask::Word),
+        "solve" => Some(Ask::Solve),
+        "draw" => Some(Ask::Draw),
+        "dual" => Some(Ask::Dual),
+        "help" => Some(Ask::Help),
+        _ => None,
+    }
+}
+
+// What `list` asks with these options.
+pub(crate) fn listing(alloc: Global, options: &[String]) -> Option<Ask>
+    ensures some { IfSome result (Asks (codes "list" ∷ map string_bytes options.now)) }
+    ensures none { IfNone result (AsksNothing (codes "list" ∷ map string_bytes options.now)) }
+{
+    if !are_options(&["--order", "--class", "--from", "--limit"], options) {
+        return None;
+    }
+    let order = number_given(options, "--order", 2, 16)? as u8;
+    let class = class_in(options).ok()?;
+    let from = cursor_given(alloc, options).ok()?;
+    let limit = limit_in(options).ok()?;
+    Some(Ask::List {
+        order,
+        class,
+        from,
+        limit,
+    })
+}
+
+// What `trial` asks with these options.
+pub(crate) fn trial(options: &[String]) -> Option<Ask>
+    ensures some { IfSome result (Asks (codes "trial" ∷ map string_bytes options.now)) }
+    ensures none { IfNone result (AsksNothing (codes "trial" ∷ map string_bytes options.now)) }
+{
+    if !are_options(&["--seed", "--count"], options) {
+        return None;
+    }
+    let seed = number_given(options, "--seed", 0, u64::MAX)?;
+    let count = number_given(options, "--count", 0, 100_000)? as u32;
+    Some(Ask::Trial { seed, count })
+}
+
+// The number of the option of this name, where its value is a number in this range.
+fn number_given(options: &[String], name: &str, least: u64, most: u64) -> Option<u64>
+    requires { NamesDiffer (options_in (map string_bytes options.now)) }
+    ensures some { IfSome result (Given (options_in (map string_bytes options.now)) name.now (IsNumberWithin least most)) }
+    ensures none { IfNone result ((n : ℕ) → Given (options_in (map string_bytes options.now)) name.now (IsNumberWithin least most) n → ⊥) }
+{
+    match value_of(options, name) {
+        Some(value) => number_within(least, most, value),
+        None => None,
+    }
+}
+
+// The class, which is perfect where none is named.
+fn class_in(options: &[String]) -> Result<Class, Unasked>
+    requires { NamesDiffer (options_in (map string_bytes options.now)) }
+    ensures ok { IfOk result (MayHaveClass (options_in (map string_bytes options.now))) }
+    ensures err { IfErr result (λ _. (class : ClassOf) → MayHaveClass (options_in (map string_bytes options.now)) class → ⊥) }
+{
+    match value_of(options, "--class") {
+        Some(name) => class_named(name).ok_or(Unasked),
+        None => Ok(Class::Perfect),
+    }
+}
+
+// The word after which to start, if there is one.
+fn cursor_given(alloc: Global, options: &[String]) -> Result<Option<Word>, Unasked>
+    requires { NamesDiffer (options_in (map string_bytes options.now)) }
+    ensures ok { IfOk result (MayHave (options_in (map string_bytes options.now)) (codes "--from") IsCursor) }
+    ensures err { IfErr result (λ _. (from : Option Moves) → MayHave (options_in (map string_bytes options.now)) (codes "--from") IsCursor from → ⊥) }
+{
+    match value_of(options, "--from") {
+        Some(text) => match cursor_in(alloc, text) {
+            Some(word) => Ok(Some(word)),
+            None => Err(Unasked),
+        },
+        None => Ok(None),
+    }
+}
+
+// How many entries to list at most, if that is said.
+fn limit_in(options: &[String]) -> Result<Option<u64>, Unasked>
+    requires { NamesDiffer (options_in (map string_bytes options.now)) }
+    ensures ok { IfOk result (MayHave (options_in (map string_bytes options.now)) (codes "--limit") (IsNumberWithin 0 1_000_000_000)) }
+    ensures err { IfErr result (λ _. (limit : Option ℕ) → MayHave (options_in (map string_bytes options.now)) (codes "--limit") (IsNumberWithin 0 1_000_000_000) limit → ⊥) }
+{
+    match value_of(options, "--limit") {
+        Some(text) => match number_within(0, 1_000_000_000, text) {
+            Some(limit) => Ok(Some(limit)),
+            None => Err(Unasked),
+        },
+        None => Ok(None),
+    }
+}

@@ -1,0 +1,111 @@
+//! What the words of a command line ask, and the text of `help`.
+#![tactic(auto)]
+
+ghost use Rattle.std.specs.Prelude.{IfNone, IfSome, map, string_bytes, ◌≡◌};
+ghost use Rattle.bk_ask.specs.AskLaws.{WordsAskOneThing};
+ghost use Rattle.bk_ask.specs.Asked.{Asks, AsksNothing};
+ghost use Rattle.bk_ask.specs.Help.{help_text};
+
+mod commands;
+mod options;
+#[cfg(test)]
+mod tests;
+mod values;
+
+use arrayvec::ArrayVec;
+use bk_grammar::push_bytes;
+use bk_word::{Class, Word};
+use commands::{command_alone, listing, trial};
+use std::alloc::Global;
+
+/// What a command line asks.
+#[derive(Drop)]
+pub enum Ask {
+    /// Whether each code is that of a tiling, and what the tiling is.
+    Check,
+    /// The canonical code of each code.
+    Canon,
+    /// The eight images of each code.
+    Images,
+    /// The Smith diagram of each code.
+    Net,
+    /// The currents of each network.
+    Flow,
+    /// The word of each code.
+    Word,
+    /// The code of each word.
+    Solve,
+    /// A drawing of each code.
+    Draw,
+    /// The dual diagram of each code.
+    Dual,
+    /// The catalogue of an order, 2 to 16, and a class: what comes after a word of order at most 16, and at most so many
+    /// entries.
+    List {
+        order: u8,
+        class: Class,
+        from: Option<Word>,
+        limit: Option<u64>,
+    },
+    /// A line about so many trial codes, at most 100,000.
+    Trial {
+        seed: u64,
+        count: u32,
+    },
+    /// The text of `help`.
+    Help,
+}
+
+/// What the words of a command line ask, without the program's name. The first word is the command. `check`, `canon`,
+/// `images`, `net`, `flow`, `word`, `solve`, `draw`, `dual` and `help` stand alone. After `list` and `trial` come pairs of
+/// a name and a value, in any order and each name at most once.
+///
+/// `list` has `--order` with 2 to 16, and may have `--class` with `perfect`, `imperfect` or `simple`, which is else
+/// `perfect`, `--from` with the text of a word of order at most 16, and `--limit` with 0 to 1,000,000,000. `trial` has
+/// `--seed` with 0 to 18,446,744,073,709,551,615 and `--count` with 0 to 100,000. A number is `0`, or digits without a
+/// leading 0 and without a sign.
+///
+/// `None` comes exactly where the words ask nothing. It takes no memory. The form is our own.
+pub fn asked(alloc: Global, words: &[String]) -> Option<Ask>
+    ensures some { IfSome result (Asks (map string_bytes words.now)) }
+    ensures none { IfNone result (AsksNothing (map string_bytes words.now)) }
+{
+    let [command, options @ ..] = words else {
+        return None;
+    };
+    match command.as_str() {
+        "list" => listing(alloc, options),
+        "trial" => trial(options),
+        name if options.is_empty() => command_alone(name),
+        _ => None,
+    }
+}
+
+// How a command line is built, and then each command with what it does.
+const HELP: &[u8; 442] = b"usage: bouwkamp COMMAND [--NAME VALUE]...\n\
+check: test each code\n\
+canon: canonical code of each code\n\
+images: the eight images of each code\n\
+net: Smith diagram of each code\n\
+flow: currents of each network\n\
+word: word of each code\n\
+solve: code of each word\n\
+draw: drawing of each code\n\
+list --order N [--class CLASS] [--from WORD] [--limit K]: catalogue of an order\n\
+trial --seed S --count C: trial codes\n\
+dual: dual diagram of each code\n\
+help: this text\n";
+
+/// Clears the buffer and leaves the text of `help`: how a command line is built, and a line for each command. The text is
+/// our own.
+pub fn write_help(out: &mut ArrayVec<u8, 9000>)
+    ensures { out.new.items ≡ help_text }
+{
+    out.clear();
+    push_bytes(HELP, out);
+}
+
+/// Words ask one thing only.
+pub fn words_ask_one_thing()
+    ensures { WordsAskOneThing }
+{}
