@@ -30,7 +30,7 @@ pub tiling_pieces : (front size code : List ℕ) → (((front ++ size) ++ 32 ∷
 tiling_pieces front size code = simp append_assoc
 
 -- pieces with a blank before each
-blanks_before : (piece : List ℕ) (pieces : List (List ℕ)) → piece ++ flat_map (λ l. 32 ∷ l) pieces ≡ spaced (piece ∷ pieces)
+pub blanks_before : (piece : List ℕ) (pieces : List (List ℕ)) → piece ++ flat_map (λ l. 32 ∷ l) pieces ≡ spaced (piece ∷ pieces)
 blanks_before piece [] = append-nil piece
 blanks_before piece (next ∷ pieces) = ap (λ (l : List ℕ). piece ++ 32 ∷ l) (blanks_before next pieces)
 

@@ -3,12 +3,16 @@
 
 mod answer;
 mod dual;
+mod listing;
 mod net;
 mod refusal;
 #[cfg(test)]
 mod tests;
+mod word;
 
 pub use answer::{a_tiling_has_one_check_line, write_check, write_tiling};
 pub use dual::write_dual;
+pub use listing::{Last, write_entry, write_last};
 pub use net::write_net;
 pub use refusal::{Refused, write_refused};
+pub use word::write_word_line;

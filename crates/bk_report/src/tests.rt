@@ -1,8 +1,12 @@
 //! Lines as they are written.
 
-use crate::{Refused, write_check, write_net, write_refused, write_tiling};
+use crate::{
+    Last, Refused, write_check, write_entry, write_last, write_net, write_refused, write_tiling,
+    write_word_line,
+};
 use arrayvec::ArrayVec;
 use bk_tiling::{Square, Tiling};
+use bk_word::{Class, read_word};
 use std::test::Fail;
 
 #[test]
@@ -69,5 +73,58 @@ fn a_tiling_has_its_lines(rt: HostRuntime) -> Result<(), Fail> {
     );
     write_net(&tiling, &mut line);
     assert_eq!(rt; line.as_slice(), b"3 0-2 0-1 1-2 ; 3 2 1 1\n".as_slice());
+    Ok(())
+}
+
+#[test]
+fn a_word_has_its_lines(rt: HostRuntime) -> Result<(), Fail> {
+    let squares = [
+        Square { x: 0, y: 0, s: 2 },
+        Square { x: 2, y: 0, s: 1 },
+        Square { x: 2, y: 1, s: 1 },
+    ];
+    let tiling = Tiling::try_new(3, 2, &squares)?;
+    let word = read_word(rt.alloc(), b"2u.1e")?;
+    assert!(rt; word.moves() > 0);
+    let mut line = ArrayVec::new();
+    write_word_line(&word, &mut line);
+    assert_eq!(rt; line.as_slice(), b"2u.1e\n".as_slice());
+    write_entry(&tiling, &word, &mut line);
+    assert_eq!(rt; line.as_slice(), b"3 3x2 [2,1][1] ; 2u.1e\n".as_slice());
+    Ok(())
+}
+
+#[test]
+fn listings_have_their_last_lines(rt: HostRuntime) -> Result<(), Fail> {
+    let word = read_word(rt.alloc(), b"2u.1e")?;
+    assert!(rt; word.moves() > 0);
+    let mut line = ArrayVec::new();
+    for (last, order, class, listed, text) in [
+        (Last::End, 9, Class::Perfect, 2, "; end order 9 listed 2\n"),
+        (
+            Last::Limit,
+            9,
+            Class::Perfect,
+            1,
+            "; limit order 9 listed 1\n",
+        ),
+        (
+            Last::End,
+            2,
+            Class::Imperfect,
+            1,
+            "; end order 2 class imperfect listed 1\n",
+        ),
+        (
+            Last::Wide,
+            16,
+            Class::Simple,
+            u64::MAX,
+            "; wide order 16 class simple listed 18446744073709551615 at 2u.1e\n",
+        ),
+    ] {
+        write_last(last, order, class, listed, &word, &mut line);
+        assert_eq!(rt; line.as_slice(), text.as_bytes());
+    }
     Ok(())
 }

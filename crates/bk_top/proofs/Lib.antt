@@ -1,8 +1,1 @@
-pub mod TilingsLaid
-pub mod OneAnswer
-pub mod KeptFronts
-pub mod Accepting
-pub mod ItemSteps
-pub mod PieceByPiece
-pub mod Writing
 pub mod Statuses

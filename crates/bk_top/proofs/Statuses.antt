@@ -9,8 +9,8 @@ use Rattle.bk_lines.specs.declared.Ended.{Ended}
 use Rattle.bk_lines.specs.declared.Ended.TheVariants.{NoMemory, NoneRefused, ReadFailed, SomeRefused, TooMany, WriteFailed}
 use Rattle.bk_top.specs.Running.{AnswersLines, IsRun, NoErrors, Outside, WritesErrors, rules_of, status_of, told}
 use Rattle.bk_top.specs.Words.{Asks, AsksNothing, name_of, usage}
-use Rattle.bk_top.specs.declared.command.Command.{Command}
-use Rattle.bk_top.specs.declared.command.Command.TheVariants.{Canon, Check, Draw, Dual, Images, Net}
+use Rattle.bk_answer.specs.declared.command.Command.{Command}
+use Rattle.bk_answer.specs.declared.command.Command.TheVariants.{Canon, Check, Draw, Dual, Images, Net}
 
 -- each status belongs to one ending
 named_by : ℕ → Ended

@@ -1,8 +1,2 @@
 pub mod Words
-pub mod Item
-pub mod Refusing
-pub mod RefusedBy
-pub mod Answer
-pub mod AnswerLaws
-pub mod EmptyLine
 pub mod Running

@@ -6,9 +6,9 @@ use Rattle.bk_ports.specs.Causes.{AppendsPrefix, Rose}
 use Rattle.bk_lines.specs.Ending.{IsAnswered, IsCutOff, IsBroken, IsCutShort, IsTooMany, IsUndisturbed, Rules, Told}
 use Rattle.bk_lines.specs.declared.Ended.{Ended}
 use Rattle.bk_lines.specs.declared.Ended.TheVariants.{NoMemory, NoneRefused, ReadFailed, SomeRefused, TooMany, WriteFailed}
-use Rattle.bk_top.specs.Answer.{AnswersLine, MayWant}
+use Rattle.bk_answer.specs.Answer.{AnswersLine, MayWant}
 use Rattle.bk_top.specs.Words.{Asks, AsksNothing, usage}
-use Rattle.bk_top.specs.declared.command.Command.{Command}
+use Rattle.bk_answer.specs.declared.command.Command.{Command}
 
 -- what stands outside: the bytes that the source has left, that `out` has taken and that `err` has taken, where they
 -- tell them, and each one's count of faults

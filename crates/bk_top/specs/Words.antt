@@ -1,8 +1,8 @@
 -- What the words of a command line ask.
 use Rattle.std.specs.Prelude.{List, String, [], codes, map, string_bytes, ℕ, ◌∷◌, ◌≡◌}
 use Rattle.std.specs.declared.alloc.Global.{Global}
-use Rattle.bk_top.specs.declared.command.Command.{Command}
-use Rattle.bk_top.specs.declared.command.Command.TheVariants.{Canon, Check, Draw, Dual, Images, Net}
+use Rattle.bk_answer.specs.declared.command.Command.{Command}
+use Rattle.bk_answer.specs.declared.command.Command.TheVariants.{Canon, Check, Draw, Dual, Images, Net}
 
 -- the word that names a command
 abbrev pub name_of : Command → List ℕ

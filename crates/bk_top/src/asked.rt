@@ -3,7 +3,7 @@
 ghost use Rattle.std.specs.Prelude.{IfNone, IfSome, codes, ◌≡◌};
 ghost use Rattle.bk_top.specs.Words.{Asks, AsksNothing, name_of};
 
-use crate::command::Command;
+use bk_answer::Command;
 
 // The command that the words ask for, none where they ask nothing.
 pub(crate) fn command_asked(words: &[String]) -> Option<Command>

@@ -4,6 +4,7 @@ ghost use Rattle.std.specs.Prelude.{◌≡◌, ◌≢◌};
 ghost use Rattle.bk_top.specs.Running.{IsRun, status_of};
 
 use crate::asked::command_asked;
+use bk_answer::LineAnswerer;
 use bk_lines::{Ended, answer_lines};
 use bk_ports::{Sink, Source};
 use std::alloc::Global;
@@ -19,7 +20,7 @@ const USAGE: &[u8; 42] = b"usage: bouwkamp COMMAND [--NAME VALUE]...\n";
 /// and 7 where the input has more than 2^30 bytes. Where the words ask nothing, `err` gets the line of usage, the
 /// status is 2, and source and `out` are as they were.
 pub fn run<S: Source, O: Sink, E: Sink>(
-    _alloc: Global,
+    alloc: Global,
     words: &[String],
     source: &mut S,
     out: &mut O,
@@ -47,7 +48,7 @@ pub fn run<S: Source, O: Sink, E: Sink>(
     ensures silent { result ≢ 2 → err.new ≡ err.old }
 {
     match command_asked(words) {
-        Some(command) => status(answer_lines(&command, source, out)),
+        Some(command) => status(answer_lines(&LineAnswerer { command, alloc }, source, out)),
         None => {
             let _ = err.write_all(USAGE);
             2

@@ -1,0 +1,76 @@
+-- The answer of check begins with 'ok' exactly where some tiling is stated.
+use Rattle.std.specs.List.{concat}
+use Rattle.std.proofs.Common.{Bool, List, Option, [], ap, arith, get_or, refl, subst, sym, ℕ, ◌++◌, ◌∷◌, ◌≡◌}
+use Rattle.std.specs.Prelude.{codes}
+use Rattle.bk_tiling.specs.Tiling.{Rectangle, Tiling}
+use Rattle.bk_text.specs.CodeLine.{Line}
+use Rattle.bk_text.proofs.LinesRead.{one_meaning}
+use Rattle.bk_report.specs.Answers.{IsCheckLine, verdict_line}
+use Rattle.bk_report.specs.Refusals.{refusal_line}
+use Rattle.bk_report.specs.declared.refusal.Refused.{Refused}
+use Rattle.bk_report.specs.declared.refusal.Refused.TheVariants.{Gap, Illegal, Large, Long, Loose, Many, More, Nodes, Nothing, Open, Order, Size, Text, Unfinished, Wide, Wire}
+use Rattle.bk_answer.specs.Answer.{AnswersLine, answers, no_item, refuses}
+use Rattle.bk_answer.specs.AnswerLaws.{BeginsWith, CheckAcceptsTilings}
+use Rattle.bk_answer.specs.Item.{HasItem, IsStatedBy}
+use Rattle.bk_answer.specs.Refusing.{IsLineRefused}
+use Rattle.bk_answer.specs.declared.command.Command.TheVariants.{Check}
+use Rattle.bk_answer.proofs.OneAnswer.{CommandCause, by_line, by_tiling, cause_of, command_cause, not_refused, skip_not_stated}
+
+-- no refusal begins so: its first byte is another
+first_byte : (text : List ℕ) → BeginsWith (codes "ok") text → get_or text 0 0 ≡ 111
+first_byte text (rest, e) = ap (λ (l : List ℕ). get_or l 0 0) e
+
+refusal_byte : (r : Refused) → get_or (refusal_line r ++ []) 0 0 ≡ 111 → ⊥
+refusal_byte Long e = omega (arith, e)
+refusal_byte (Text at) e = omega (arith, e)
+refusal_byte Many e = omega (arith, e)
+refusal_byte (Order sides) e = omega (arith, e)
+refusal_byte (Gap group width sum) e = omega (arith, e)
+refusal_byte (Open least greatest) e = omega (arith, e)
+refusal_byte (Size width height) e = omega (arith, e)
+refusal_byte Large e = omega (arith, e)
+refusal_byte (Nodes count) e = omega (arith, e)
+refusal_byte (Wire place) e = omega (arith, e)
+refusal_byte (Loose node) e = omega (arith, e)
+refusal_byte Wide e = omega (arith, e)
+refusal_byte Nothing e = omega (arith, e)
+refusal_byte (Illegal place) e = omega (arith, e)
+refusal_byte Unfinished e = omega (arith, e)
+refusal_byte More e = omega (arith, e)
+
+behind_two : List ℕ → List ℕ
+behind_two [] = []
+behind_two (a ∷ []) = []
+behind_two (a ∷ b ∷ rest) = rest
+
+verdict_begins : (t : Tiling) (repeated : Option ℕ) (part : Option Rectangle) → BeginsWith (codes "ok") (verdict_line t repeated part ++ [])
+unfolding behind_two
+verdict_begins t repeated part = (behind_two (verdict_line t repeated part ++ []), refl)
+
+check_begins : (t : Tiling) (text : List ℕ) (pieces : List (List ℕ)) → IsCheckLine t text → pieces ≡ text ∷ [] → BeginsWith (codes "ok") (concat pieces)
+check_begins t text pieces c e =
+    subst (λ (l : List (List ℕ)). BeginsWith (codes "ok") (concat l)) (sym e)
+    (subst (λ (l : List ℕ). BeginsWith (codes "ok") (l ++ [])) (sym c.text) (verdict_begins t c.repeated c.part))
+
+accepted : (bytes : List ℕ) (item : Line) (pieces : List (List ℕ)) (refused : Bool) → HasItem bytes item → AnswersLine Check bytes pieces refused
+    → BeginsWith (codes "ok") (concat pieces) → (t : Tiling) × IsStatedBy item t
+accepted bytes item pieces refused has (no_item a) b = absurd (omega (arith, first_byte [] b))
+accepted bytes item pieces refused has (refuses r h) b = absurd (refusal_byte r (first_byte (refusal_line r ++ []) b))
+accepted bytes item pieces refused has (answers t _ has' _ an) b = (t, subst (λ (i : Line). IsStatedBy i t) (one_meaning bytes has'.item item has'.is_item.meaning has.meaning) has'.stated)
+
+-- check refuses for no cause of its own
+check_refuses : (bytes : List ℕ) (r : Refused) → CommandCause Check bytes r → IsLineRefused bytes r
+check_refuses bytes r (by_line h) = h
+check_refuses bytes r (by_tiling t has n e) = absurd (n tt)
+
+accepts : (bytes : List ℕ) (item : Line) (pieces : List (List ℕ)) (refused : Bool) (t : Tiling) → HasItem bytes item → AnswersLine Check bytes pieces refused
+    → IsStatedBy item t → BeginsWith (codes "ok") (concat pieces)
+accepts bytes item pieces refused t has (no_item a) st = absurd (skip_not_stated bytes item t a has st)
+accepts bytes item pieces refused t has (refuses r h) st = absurd (not_refused bytes item t r has st (cause_of bytes r (check_refuses bytes r (command_cause Check bytes r h))))
+accepts bytes item pieces refused t has (answers u _ has' _ (text, c, e)) st = check_begins u text pieces c e
+
+pub accepted_exactly : CheckAcceptsTilings
+accepted_exactly bytes item pieces refused has an = (
+  accepted bytes item pieces refused has an,
+  λ (stated : (t : Tiling) × IsStatedBy item t). accepts bytes item pieces refused stated.0 has an stated.1,
+)

@@ -1,0 +1,60 @@
+-- What the item of a line states, and the tilings that it speaks of.
+use Rattle.std.specs.Prelude.{IfSome, List, MatchOption, Option, Some, length, ℕ, ◌≡◌, ◌≤◌}
+use Rattle.bk_tiling.specs.Tiling.{Tiling, order}
+use Rattle.bk_tiling.specs.declared.TheConstants.{MOST_SQUARES}
+use Rattle.bk_profile.specs.Refused.{HasCode, HasFlat}
+use Rattle.bk_text.specs.CodeLine.{Flat, IsLine, Item, Line, Skip}
+use Rattle.bk_text.specs.ReadLine.{sides_of_line}
+use Rattle.bk_answer.specs.declared.answer.TheConstants.{LONGEST_LINE}
+
+-- the number of sides
+abbrev pub order_of : Line → ℕ
+order_of item = length (sides_of_line item)
+
+-- the bytes are a line that is not too long, and stand for an item of not too many sides
+pub record HasItem (bytes : List ℕ) (item : Line) : Type 0 where
+  pub short : length bytes ≤ LONGEST_LINE
+  pub meaning : IsLine item bytes
+  pub few : order_of item ≤ MOST_SQUARES
+
+-- the item allows this order: it states no other
+abbrev pub AllowsOrder : Line → ℕ → Type 0
+AllowsOrder Skip n = Unit {0}
+AllowsOrder (Item order size code) n = IfSome order (λ stated. stated ≡ n)
+AllowsOrder (Flat order width height sides) n = order ≡ n
+
+-- the size that is stated, where one is
+abbrev pub IsSize : Option (ℕ × ℕ) → ℕ → ℕ → Type 0
+IsSize size w h = IfSome size (λ stated. (stated.0 ≡ w) × (stated.1 ≡ h))
+
+-- the item allows this size: it states no other
+abbrev pub AllowsSize : Line → ℕ → ℕ → Type 0
+AllowsSize Skip w h = Unit {0}
+AllowsSize (Item order size code) w h = IsSize size w h
+AllowsSize (Flat order width height sides) w h = IsSize (Some (width, height)) w h
+
+-- the tiling has the code of the item, or the width and the flat list of a table row
+abbrev pub IsLaidBy : Line → Tiling → Type 0
+IsLaidBy Skip t = ⊥
+IsLaidBy (Item order size code) t = HasCode code t
+IsLaidBy (Flat order width height sides) t = HasFlat width sides t
+
+-- the tiling is the one that the item speaks of: its squares tile the stated rectangle in code order
+pub record IsStatedBy (item : Line) (t : Tiling) : Type 0 where
+  pub laid : IsLaidBy item t
+  pub order_is : AllowsOrder item (order t)
+  pub size_is : AllowsSize item t.width t.height
+
+-- the bytes are a line whose item speaks of the tiling
+pub record HasTiling (bytes : List ℕ) (t : Tiling) : Type 0 where
+  pub item : Line
+  pub is_item : HasItem bytes item
+  pub stated : IsStatedBy item t
+
+-- what is found for an item: its tiling, or none where there is no item
+abbrev pub IsFoundFor : Line → Option Tiling → Type 0
+IsFoundFor item found = MatchOption found (item ≡ Skip) (IsStatedBy item)
+
+-- what is found in a line
+abbrev pub IsFoundIn : List ℕ → Option Tiling → Type 0
+IsFoundIn bytes found = MatchOption found (HasItem bytes Skip) (HasTiling bytes)

@@ -1,0 +1,24 @@
+-- The pieces of an entry and of the last line of a listing, one after another.
+use Rattle.std.proofs.Common.{List, [], ap, append_assoc, sym, ℕ, ◌++◌, ◌∙◌, ◌∷◌, ◌≡◌}
+use Rattle.std.specs.Prelude.{codes, flat_map}
+use Rattle.std.proofs.lemmas.Grind.{flat_map-append}
+use Rattle.bk_report.proofs.Spaces.{blanks_before}
+use Rattle.bk_report.specs.Answers.{line}
+
+pub entry_pieces : (number size code word : List ℕ)
+    → ((((((number ++ 32 ∷ []) ++ size) ++ 32 ∷ []) ++ code) ++ codes " ; ") ++ word) ++ 10 ∷ []
+    ≡ line (number ∷ size ∷ code ∷ codes ";" ∷ word ∷ [])
+entry_pieces number size code word = simp append_assoc
+
+to_the_right : (name order class listed wide : List ℕ)
+    → (((((((codes "; " ++ name) ++ codes " order ") ++ order) ++ class) ++ codes " listed ") ++ listed) ++ wide) ++ 10 ∷ []
+    ≡ (codes ";" ++ ((32 ∷ name) ++ ((32 ∷ codes "order") ++ ((32 ∷ order) ++ (class ++ ((32 ∷ codes "listed") ++ ((32 ∷ listed) ++ wide))))))) ++ 10 ∷ []
+to_the_right name order class listed wide = simp append_assoc
+
+pub last_pieces : (name order listed : List ℕ) (class wide : List (List ℕ))
+    → (((((((codes "; " ++ name) ++ codes " order ") ++ order) ++ flat_map (λ l. 32 ∷ l) class) ++ codes " listed ") ++ listed) ++ flat_map (λ l. 32 ∷ l) wide) ++ 10 ∷ []
+    ≡ line ((codes ";" ∷ name ∷ codes "order" ∷ order ∷ []) ++ (class ++ (codes "listed" ∷ listed ∷ wide)))
+last_pieces name order listed class wide =
+    to_the_right name order (flat_map (λ l. 32 ∷ l) class) listed (flat_map (λ l. 32 ∷ l) wide)
+    ∙ ap (λ (l : List ℕ). (codes ";" ++ ((32 ∷ name) ++ ((32 ∷ codes "order") ++ ((32 ∷ order) ++ l)))) ++ 10 ∷ []) (sym (flat_map-append (λ (l : List ℕ). 32 ∷ l) class (codes "listed" ∷ listed ∷ wide)))
+    ∙ ap (λ (l : List ℕ). l ++ 10 ∷ []) (blanks_before (codes ";") (name ∷ codes "order" ∷ order ∷ class ++ (codes "listed" ∷ listed ∷ wide)))

@@ -1,0 +1,108 @@
+//! The lines of listings.
+
+ghost use Rattle.std.specs.Prelude.{flat_map, length, ◌+◌, ◌++◌, ◌<◌, ◌∷◌, ◌≡◌, ◌≤◌};
+ghost use Rattle.arrayvec.specs.ArrayVec.{array_vec_len};
+ghost use Rattle.bk_report.specs.Listings.{class_words, entry_line, last_line, last_name, wide_words};
+
+use arrayvec::ArrayVec;
+use bk_code::code_of;
+use bk_grammar::{push_bytes, push_number};
+use bk_text::{write_code, write_size};
+use bk_tiling::Tiling;
+use bk_word::{Class, Word, write_word};
+
+/// How a listing ended.
+#[derive(Clone, Copy, Debug, PartialEq, Eq)]
+pub enum Last {
+    /// No further entry is there.
+    End,
+    /// As many entries as were asked for are listed.
+    Limit,
+    /// The next word is too wide to decide.
+    Wide,
+}
+
+/// Clears the buffer and leaves the entry of a tiling and its word in a catalogue, with its line feed: the order, the
+/// size, the code (Bouwkamp 1946-47), and then ` ; ` and the text of the word. The word must have a move.
+pub fn write_entry(tiling: &Tiling, word: &Word, out: &mut ArrayVec<u8, 9000>)
+    requires { 0 < length word.now }
+    ensures { out.new.items ≡ entry_line tiling.now word.now }
+{
+    out.clear();
+    push_number(tiling.order() as u64, out);
+    out.push(b' ');
+    write_size(tiling.width(), tiling.height(), out);
+    out.push(b' ');
+    write_code(&code_of(tiling), out);
+    push_bytes(b" ; ", out);
+    write_word(word, out);
+    out.push(b'\n');
+}
+
+/// Clears the buffer and leaves the last line of a listing, with its line feed: `; end`, `; limit` or `; wide`, the
+/// order, the class unless that is the perfect one, how many entries were listed, and for `wide` the word at which it
+/// ended. That word must then have a move. The text is this project's own.
+pub fn write_last(
+    last: Last,
+    order: u8,
+    class: Class,
+    listed: u64,
+    word: &Word,
+    out: &mut ArrayVec<u8, 9000>,
+)
+    requires { last ≡ Last.Wide → 0 < length word.now }
+    ensures { out.new.items ≡ last_line last order class listed word.now }
+{
+    out.clear();
+    push_bytes(b"; ", out);
+    push_name(last, out);
+    push_bytes(b" order ", out);
+    push_number(u64::from(order), out);
+    push_class(class, out);
+    push_bytes(b" listed ", out);
+    push_number(listed, out);
+    push_wide(last, word, out);
+    out.push(b'\n');
+}
+
+// Appends how a listing ended.
+fn push_name(last: Last, out: &mut ArrayVec<u8, 9000>)
+    requires { array_vec_len out.old ≤ 8000 }
+    ensures text { out.new.items ≡ out.old.items ++ last_name last }
+    ensures short { length (last_name last) ≤ 5 }
+{
+    match last {
+        Last::End => push_bytes(b"end", out),
+        Last::Limit => push_bytes(b"limit", out),
+        Last::Wide => push_bytes(b"wide", out),
+    }
+}
+
+// Appends a class with a blank before each word, and nothing for the perfect one.
+fn push_class(class: Class, out: &mut ArrayVec<u8, 9000>)
+    requires { array_vec_len out.old ≤ 8000 }
+    ensures text { out.new.items ≡ out.old.items ++ flat_map (λ l. 32 ∷ l) (class_words class) }
+    ensures short { length (flat_map (λ l. 32 ∷ l) (class_words class)) ≤ 20 }
+{
+    match class {
+        Class::Perfect => {}
+        Class::Imperfect => push_bytes(b" class imperfect", out),
+        Class::Simple => push_bytes(b" class simple", out),
+    }
+}
+
+// Appends the wide word at which a listing ended, where it did so.
+fn push_wide(last: Last, word: &Word, out: &mut ArrayVec<u8, 9000>)
+    requires some { last ≡ Last.Wide → 0 < length word.now }
+    requires room { array_vec_len out.old ≤ 7000 }
+    ensures text { out.new.items ≡ out.old.items ++ flat_map (λ l. 32 ∷ l) (wide_words last word.now) }
+    ensures short { length (flat_map (λ l. 32 ∷ l) (wide_words last word.now)) ≤ 1000 }
+{
+    match last {
+        Last::End | Last::Limit => {}
+        Last::Wide => {
+            push_bytes(b" at ", out);
+            write_word(word, out);
+        }
+    }
+}

@@ -1,5 +1,0 @@
-use Rattle.bk_top.proofs.Accepting.{accepted_exactly}
-use Rattle.bk_top.proofs.check_accepts_tilings.Goals as goal
-
-pub returns : goal.returns
-returns c = accepted_exactly
