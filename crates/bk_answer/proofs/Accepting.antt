@@ -9,12 +9,12 @@ use Rattle.bk_report.specs.Answers.{IsCheckLine, verdict_line}
 use Rattle.bk_report.specs.Refusals.{refusal_line}
 use Rattle.bk_report.specs.declared.refusal.Refused.{Refused}
 use Rattle.bk_report.specs.declared.refusal.Refused.TheVariants.{Gap, Illegal, Large, Long, Loose, Many, More, Nodes, Nothing, Open, Order, Size, Text, Unfinished, Wide, Wire}
-use Rattle.bk_answer.specs.Answer.{AnswersLine, answers, no_item, refuses}
 use Rattle.bk_answer.specs.AnswerLaws.{BeginsWith, CheckAcceptsTilings}
 use Rattle.bk_answer.specs.Item.{HasItem, IsStatedBy}
 use Rattle.bk_answer.specs.Refusing.{IsLineRefused}
-use Rattle.bk_answer.specs.declared.command.Command.TheVariants.{Check}
+use Rattle.bk_answer.specs.declared.command.CodeCommand.TheVariants.{Check}
 use Rattle.bk_answer.proofs.OneAnswer.{CommandCause, by_line, by_tiling, cause_of, command_cause, not_refused, skip_not_stated}
+use Rattle.bk_answer.specs.CodeAnswer.{AnswersCodeLine, answers, no_item, refuses}
 
 -- no refusal begins so: its first byte is another
 first_byte : (text : List ℕ) → BeginsWith (codes "ok") text → get_or text 0 0 ≡ 111
@@ -52,7 +52,7 @@ check_begins t text pieces c e =
     subst (λ (l : List (List ℕ)). BeginsWith (codes "ok") (concat l)) (sym e)
     (subst (λ (l : List ℕ). BeginsWith (codes "ok") (l ++ [])) (sym c.text) (verdict_begins t c.repeated c.part))
 
-accepted : (bytes : List ℕ) (item : Line) (pieces : List (List ℕ)) (refused : Bool) → HasItem bytes item → AnswersLine Check bytes pieces refused
+accepted : (bytes : List ℕ) (item : Line) (pieces : List (List ℕ)) (refused : Bool) → HasItem bytes item → AnswersCodeLine Check bytes pieces refused
     → BeginsWith (codes "ok") (concat pieces) → (t : Tiling) × IsStatedBy item t
 accepted bytes item pieces refused has (no_item a) b = absurd (omega (arith, first_byte [] b))
 accepted bytes item pieces refused has (refuses r h) b = absurd (refusal_byte r (first_byte (refusal_line r ++ []) b))
@@ -63,7 +63,7 @@ check_refuses : (bytes : List ℕ) (r : Refused) → CommandCause Check bytes r 
 check_refuses bytes r (by_line h) = h
 check_refuses bytes r (by_tiling t has n e) = absurd (n tt)
 
-accepts : (bytes : List ℕ) (item : Line) (pieces : List (List ℕ)) (refused : Bool) (t : Tiling) → HasItem bytes item → AnswersLine Check bytes pieces refused
+accepts : (bytes : List ℕ) (item : Line) (pieces : List (List ℕ)) (refused : Bool) (t : Tiling) → HasItem bytes item → AnswersCodeLine Check bytes pieces refused
     → IsStatedBy item t → BeginsWith (codes "ok") (concat pieces)
 accepts bytes item pieces refused t has (no_item a) st = absurd (skip_not_stated bytes item t a has st)
 accepts bytes item pieces refused t has (refuses r h) st = absurd (not_refused bytes item t r has st (cause_of bytes r (check_refuses bytes r (command_cause Check bytes r h))))

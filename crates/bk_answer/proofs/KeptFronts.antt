@@ -6,13 +6,16 @@ use Rattle.bk_lines.specs.Lines.{kept_front}
 use Rattle.bk_report.specs.Refusals.{refusal_line}
 use Rattle.bk_report.specs.declared.refusal.Refused.{Refused}
 use Rattle.bk_report.specs.declared.refusal.Refused.TheVariants.{Long}
-use Rattle.bk_answer.specs.Answer.{AnswersLine, answers, no_item, refuses}
 use Rattle.bk_answer.specs.AnswerLaws.{AFrontHasTheAnswer}
-use Rattle.bk_answer.specs.RefusedBy.{any_command}
 use Rattle.bk_answer.specs.Refusing.{too_long}
 use Rattle.bk_answer.specs.declared.answer.TheConstants.{LONGEST_LINE}
+use Rattle.bk_answer.specs.declared.command.CodeCommand.{CodeCommand}
 use Rattle.bk_answer.specs.declared.command.Command.{Command}
+use Rattle.bk_answer.specs.declared.command.Command.TheVariants.{Flow, OfCodes}
+use Rattle.bk_answer.proofs.OneNetAnswer.{long_net_answer}
 use Rattle.bk_answer.proofs.OneAnswer.{Cause, CommandCause, at_item, at_long, at_many, at_text, by_line, by_tiling, cause_of, command_cause}
+use Rattle.bk_answer.specs.Answer.{AnswersLine}
+use Rattle.bk_answer.specs.CodeAnswer.{AnswersCodeLine, answers, any_command, no_item, refuses}
 
 -- a line of more than 8,192 bytes is refused as too long, whatever it holds
 long_cause : (bytes : List ℕ) (r : Refused) → LONGEST_LINE < length bytes → Cause bytes r → r ≡ Long
@@ -21,17 +24,22 @@ long_cause bytes r long (at_text at h n e) = absurd (omega arith)
 long_cause bytes r long (at_many item h l m e) = absurd (omega arith)
 long_cause bytes r long (at_item item has c) = absurd (omega (arith, has.short))
 
-long_refusal : (command : Command) (bytes : List ℕ) (r : Refused) → LONGEST_LINE < length bytes → CommandCause command bytes r → r ≡ Long
+long_refusal : (command : CodeCommand) (bytes : List ℕ) (r : Refused) → LONGEST_LINE < length bytes → CommandCause command bytes r → r ≡ Long
 long_refusal command bytes r long (by_line h) = long_cause bytes r long (cause_of bytes r h)
 long_refusal command bytes r long (by_tiling t has n e) = absurd (omega (arith, has.is_item.short))
 
+long_code_answer : (command : CodeCommand) (bytes others : List ℕ) (pieces : List (List ℕ)) (refused : Bool) → LONGEST_LINE < length bytes → LONGEST_LINE < length others
+    → AnswersCodeLine command bytes pieces refused → AnswersCodeLine command others pieces refused
+long_code_answer command bytes others pieces refused long longer (no_item a) = absurd (omega (arith, a.short))
+long_code_answer command bytes others pieces refused long longer (refuses r h) =
+    subst (λ (z : Refused). AnswersCodeLine command others (refusal_line z ∷ []) true) (sym (long_refusal command bytes r long (command_cause command bytes r h)))
+    (refuses Long (any_command Long (too_long longer)))
+long_code_answer command bytes others pieces refused long longer (answers t _ has _ an) = absurd (omega (arith, has.is_item.short))
+
 long_answer : (command : Command) (bytes others : List ℕ) (pieces : List (List ℕ)) (refused : Bool) → LONGEST_LINE < length bytes → LONGEST_LINE < length others
     → AnswersLine command bytes pieces refused → AnswersLine command others pieces refused
-long_answer command bytes others pieces refused long longer (no_item a) = absurd (omega (arith, a.short))
-long_answer command bytes others pieces refused long longer (refuses r h) =
-    subst (λ (z : Refused). AnswersLine command others (refusal_line z ∷ []) true) (sym (long_refusal command bytes r long (command_cause command bytes r h)))
-    (refuses Long (any_command Long (too_long longer)))
-long_answer command bytes others pieces refused long longer (answers t _ has _ an) = absurd (omega (arith, has.is_item.short))
+long_answer (OfCodes command) = long_code_answer command
+long_answer Flow = long_net_answer
 
 two : (n : ℕ) → (n ≤ 8193) ⊎ (8193 < n)
 two n = grind arith

@@ -1,7 +1,9 @@
 pub mod TilingsLaid
+pub mod OneNetAnswer
 pub mod OneAnswer
 pub mod KeptFronts
 pub mod Accepting
-pub mod ItemSteps
 pub mod PieceByPiece
 pub mod Writing
+pub mod ItemSteps
+pub mod ReplySteps

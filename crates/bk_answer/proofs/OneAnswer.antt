@@ -1,5 +1,5 @@
 -- A line has one answer.
-use Rattle.std.proofs.Common.{List, [], ap, arith, length, refl, subst, sym, ℕ, ◌<◌, ◌∙◌, ◌∷◌, ◌≡◌, ◌≤◌}
+use Rattle.std.proofs.Common.{Bool, List, [], ap, arith, length, refl, subst, sym, ℕ, ◌<◌, ◌∙◌, ◌∷◌, ◌≡◌, ◌≤◌}
 use Rattle.std.proofs.lemmas.List.{length-map}
 use Rattle.bk_tiling.specs.Tiling.{IsTiling, Tiling}
 use Rattle.bk_tiling.specs.declared.Square.{Square}
@@ -18,15 +18,20 @@ use Rattle.bk_report.specs.Refusals.{refusal_line}
 use Rattle.bk_report.proofs.Verdicts.{one_check_line}
 use Rattle.bk_report.specs.declared.refusal.Refused.{Refused}
 use Rattle.bk_report.specs.declared.refusal.Refused.TheVariants.{Large, Long, Many, Order, Size, Text}
-use Rattle.bk_answer.specs.Answer.{IsAnswerTo, answers, no_item, refuses}
 use Rattle.bk_answer.specs.AnswerLaws.{ALineHasOneAnswer}
-use Rattle.bk_answer.specs.RefusedBy.{Allows, IsRefusedBy, any_command, too_large}
 use Rattle.bk_answer.specs.Item.{AllowsOrder, AllowsSize, HasItem, HasTiling, IsLaidBy, IsStatedBy, order_of}
 use Rattle.bk_answer.specs.Refusing.{IsItemRefused, IsLineRefused, IsNotLaid, no_line, not_laid, other_order, other_size, refused_for, refused_item, too_long, too_many}
 use Rattle.bk_answer.specs.declared.answer.TheConstants.{LONGEST_LINE}
-use Rattle.bk_answer.specs.declared.command.Command.{Command}
-use Rattle.bk_answer.specs.declared.command.Command.TheVariants.{Canon, Check, Draw, Dual, Images, Net}
+use Rattle.bk_answer.specs.declared.command.CodeCommand.{CodeCommand}
+use Rattle.bk_answer.specs.declared.command.CodeCommand.TheVariants.{Canon, Check, Draw, Dual, Images, Net, Word}
+use Rattle.bk_answer.specs.declared.command.Command.TheVariants.{Flow, OfCodes}
+use Rattle.bk_word.specs.Word.{Word as Moves}
+use Rattle.bk_lay.proofs.Valleys.{a_tiling_has_one_word as one_word}
+use Rattle.bk_report.specs.Listings.{word_line}
+use Rattle.bk_answer.proofs.OneNetAnswer.{one_net_answer}
 use Rattle.bk_answer.proofs.TilingsLaid.{code_not_refused, width_is_first_sum}
+use Rattle.bk_answer.specs.CodeAnswer.{AnswersCodeLine, IsRefusedBy, answers, any_command, no_item, refuses, too_large}
+use Rattle.bk_answer.specs.Telling.{Allows, IsAnswerTo}
 
 -- an item has one tiling, and one cause why it has none
 one_tiling : (item : Line) (t u : Tiling) → IsLaidBy item t → IsLaidBy item u → t ≡ u
@@ -147,12 +152,13 @@ pub skip_not_stated : (bytes : List ℕ) (item : Line) (t : Tiling) → HasItem 
 skip_not_stated bytes item t skip has st = subst (λ (i : Line). IsLaidBy i t) (one_meaning bytes item Skip has.meaning skip.meaning) st.laid
 
 -- a tiling has one answer
-same_answer : (command : Command) (t : Tiling) (pieces others : List (List ℕ)) → IsTiling t → IsAnswerTo command t pieces → IsAnswerTo command t others → pieces ≡ others
+same_answer : (command : CodeCommand) (t : Tiling) (pieces others : List (List ℕ)) → IsTiling t → IsAnswerTo command t pieces → IsAnswerTo command t others → pieces ≡ others
 same_answer Check t pieces others tiling (line, c, e) (other, d, f) = e ∙ ap (λ (l : List ℕ). l ∷ []) (one_check_line t line other tiling c d) ∙ sym f
 same_answer Canon t pieces others tiling (u, c, e) (v, d, f) = e ∙ ap (λ (z : Tiling). tiling_line z ∷ []) (a_canonical_tiling_is_one t u v tiling c d).1 ∙ sym f
 same_answer Images t pieces others tiling e f = e ∙ sym f
 same_answer Net t pieces others tiling e f = e ∙ sym f
 same_answer Dual t pieces others tiling e f = e ∙ sym f
+same_answer Word t pieces others tiling (w, p, e) (v, q, f) = e ∙ ap (λ (z : Moves). word_line z ∷ []) (one_word t w v p q) ∙ sym f
 same_answer Draw t pieces others tiling e f = e ∙ sym f
 
 is_tiling : (item : Line) (t : Tiling) → IsLaidBy item t → IsTiling t
@@ -167,40 +173,45 @@ same_tiling bytes t u has has' =
     has.stated.laid
 
 -- why a command refuses a line: a cause that counts for any command, or the tiling is too large
-pub data CommandCause (command : Command) (bytes : List ℕ) (r : Refused) : Type 0 where
+pub data CommandCause (command : CodeCommand) (bytes : List ℕ) (r : Refused) : Type 0 where
   by_line : IsLineRefused bytes r → CommandCause command bytes r
   by_tiling : (t : Tiling) → HasTiling bytes t → (Allows command t → ⊥) → r ≡ Large → CommandCause command bytes r
 
-pub command_cause : (command : Command) (bytes : List ℕ) (r : Refused) → IsRefusedBy command bytes r → CommandCause command bytes r
+pub command_cause : (command : CodeCommand) (bytes : List ℕ) (r : Refused) → IsRefusedBy command bytes r → CommandCause command bytes r
 command_cause command bytes r (any_command _ h) = by_line h
 command_cause command bytes r (too_large t has n) = by_tiling t has n refl
 
-one_refusal : (command : Command) (bytes : List ℕ) (r s : Refused) → CommandCause command bytes r → CommandCause command bytes s → r ≡ s
+one_refusal : (command : CodeCommand) (bytes : List ℕ) (r s : Refused) → CommandCause command bytes r → CommandCause command bytes s → r ≡ s
 one_refusal command bytes r s (by_line h) (by_line k) = one_line_cause bytes r s (cause_of bytes r h) (cause_of bytes s k)
 one_refusal command bytes r s (by_line h) (by_tiling t has n e) = absurd (not_refused bytes has.item t r has.is_item has.stated (cause_of bytes r h))
 one_refusal command bytes r s (by_tiling t has n e) (by_line k) = absurd (not_refused bytes has.item t s has.is_item has.stated (cause_of bytes s k))
 one_refusal command bytes r s (by_tiling t has n e) (by_tiling u has' m d) = e ∙ sym d
 
-skip_kept : (command : Command) (bytes : List ℕ) (r : Refused) → HasItem bytes Skip → CommandCause command bytes r → ⊥
+skip_kept : (command : CodeCommand) (bytes : List ℕ) (r : Refused) → HasItem bytes Skip → CommandCause command bytes r → ⊥
 skip_kept command bytes r skip (by_line h) = skip_not_refused bytes r skip (cause_of bytes r h)
 skip_kept command bytes r skip (by_tiling t has n e) = skip_not_stated bytes has.item t skip has.is_item has.stated
 
-tiling_kept : (command : Command) (bytes : List ℕ) (t : Tiling) (r : Refused) → HasTiling bytes t → Allows command t → CommandCause command bytes r → ⊥
+tiling_kept : (command : CodeCommand) (bytes : List ℕ) (t : Tiling) (r : Refused) → HasTiling bytes t → Allows command t → CommandCause command bytes r → ⊥
 tiling_kept command bytes t r has allowed (by_line h) = not_refused bytes has.item t r has.is_item has.stated (cause_of bytes r h)
 tiling_kept command bytes t r has allowed (by_tiling u has' n e) = n (subst (Allows command) (same_tiling bytes u t has' has) allowed)
 
-pub one_answer : ALineHasOneAnswer
-one_answer command bytes pieces others refused other (no_item a) (no_item b) = (refl, refl)
-one_answer command bytes pieces others refused other (no_item a) (refuses r h) = absurd (skip_kept command bytes r a (command_cause command bytes r h))
-one_answer command bytes pieces others refused other (no_item a) (answers t _ has _ an) = absurd (skip_not_stated bytes has.item t a has.is_item has.stated)
-one_answer command bytes pieces others refused other (refuses r h) (no_item b) = absurd (skip_kept command bytes r b (command_cause command bytes r h))
-one_answer command bytes pieces others refused other (refuses r h) (refuses s k) =
+one_code_answer : (command : CodeCommand) (bytes : List ℕ) (pieces others : List (List ℕ)) (refused other : Bool) → AnswersCodeLine command bytes pieces refused
+    → AnswersCodeLine command bytes others other → (pieces ≡ others) × (refused ≡ other)
+one_code_answer command bytes pieces others refused other (no_item a) (no_item b) = (refl, refl)
+one_code_answer command bytes pieces others refused other (no_item a) (refuses r h) = absurd (skip_kept command bytes r a (command_cause command bytes r h))
+one_code_answer command bytes pieces others refused other (no_item a) (answers t _ has _ an) = absurd (skip_not_stated bytes has.item t a has.is_item has.stated)
+one_code_answer command bytes pieces others refused other (refuses r h) (no_item b) = absurd (skip_kept command bytes r b (command_cause command bytes r h))
+one_code_answer command bytes pieces others refused other (refuses r h) (refuses s k) =
     (ap (λ (z : Refused). refusal_line z ∷ []) (one_refusal command bytes r s (command_cause command bytes r h) (command_cause command bytes s k)), refl)
-one_answer command bytes pieces others refused other (refuses r h) (answers t _ has allowed an) = absurd (tiling_kept command bytes t r has allowed (command_cause command bytes r h))
-one_answer command bytes pieces others refused other (answers t _ has _ an) (no_item b) = absurd (skip_not_stated bytes has.item t b has.is_item has.stated)
-one_answer command bytes pieces others refused other (answers t _ has allowed an) (refuses s k) = absurd (tiling_kept command bytes t s has allowed (command_cause command bytes s k))
-one_answer command bytes pieces others refused other (answers t _ has _ an) (answers u _ has' _ an') = (
+one_code_answer command bytes pieces others refused other (refuses r h) (answers t _ has allowed an) = absurd (tiling_kept command bytes t r has allowed (command_cause command bytes r h))
+one_code_answer command bytes pieces others refused other (answers t _ has _ an) (no_item b) = absurd (skip_not_stated bytes has.item t b has.is_item has.stated)
+one_code_answer command bytes pieces others refused other (answers t _ has allowed an) (refuses s k) = absurd (tiling_kept command bytes t s has allowed (command_cause command bytes s k))
+one_code_answer command bytes pieces others refused other (answers t _ has _ an) (answers u _ has' _ an') = (
   same_answer command t pieces others (is_tiling has.item t has.stated.laid) an
       (subst (λ (z : Tiling). IsAnswerTo command z others) (same_tiling bytes t u has has') an'),
   refl,
 )
+
+pub one_answer : ALineHasOneAnswer
+one_answer (OfCodes command) = one_code_answer command
+one_answer Flow = one_net_answer

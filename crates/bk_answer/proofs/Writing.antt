@@ -1,82 +1,76 @@
--- What is written for a line is its answer.
+-- What is written for a tiling is what is told of it.
 use Rattle.std.specs.List.{concat}
-use Rattle.std.proofs.Common.{Err, List, None, Ok, Option, Result, Some, [], subst, sym, ℕ, ◌∷◌, ◌≡◌}
-use Rattle.std.specs.Prelude.{Bool, OnErr, OnOk, false, true}
-use Rattle.std.specs.Io.KnownBytes.{Appends}
-use Rattle.bk_ports.specs.Causes.{AppendsPrefix}
-use Rattle.bk_lines.proofs.Pieces.{begins_one, writes_none, writes_one}
-use Rattle.bk_lines.specs.Answer.{IsBegun, IsWritten}
-use Rattle.bk_tiling.specs.Tiling.{Tiling}
-use Rattle.bk_text.specs.CodeLine.{Skip}
-use Rattle.bk_report.specs.Refusals.{refusal_line}
-use Rattle.bk_report.specs.declared.refusal.Refused.{Refused}
-use Rattle.bk_answer.specs.Answer.{AnswersLine, IsAnswerTo, answers, no_item, refuses}
-use Rattle.bk_answer.specs.Item.{HasItem, HasTiling}
-use Rattle.bk_answer.specs.RefusedBy.{Allows, IsFoundBy, IsRefusedBy}
-use Rattle.bk_answer.specs.declared.command.Command.{Command}
+use Rattle.std.proofs.Common.{Bool, Err, List, Ok, Option, Result, [], false, true, inl, inr, arith, subst, sym, ℕ, ◌<◌, ◌∷◌, ◌≡◌, ◌≤◌, ◌⊎◌}
+use Rattle.std.specs.Prelude.{IsOk, OnErr, OnOk, Some, None, refl}
+use Rattle.std.specs.Io.KnownBytes.{Appends, Keeps}
+use Rattle.bk_ports.specs.Causes.{AppendsPrefix, HasCause}
+use Rattle.bk_ports.specs.declared.Failed.{Failed}
+use Rattle.bk_lines.proofs.Pieces.{begins_one, writes_one}
+use Rattle.bk_lines.specs.declared.Outcome.{Outcome}
+use Rattle.bk_lines.specs.declared.Outcome.TheVariants.{NoMemory}
+use Rattle.bk_tiling.specs.Tiling.{Tiling, order}
+use Rattle.bk_word.specs.declared.TheConstants.{INLINE_ORDER}
+use Rattle.bk_answer.specs.Replies.{Replies, accepted_if}
+use Rattle.bk_answer.specs.Telling.{IsAnswerTo, Tells, tells}
+use Rattle.bk_answer.specs.declared.command.CodeCommand.{CodeCommand}
 
--- the pieces that are an answer to a tiling
-abbrev pub ToTiling : Command → Tiling → List (List ℕ) → Bool → Type 0
-ToTiling command t pieces refused = IsAnswerTo command t pieces
+-- what is told of a tiling by this command
+pub by_command : (command this : CodeCommand) (t : Tiling) (pieces : List (List ℕ)) → command ≡ this → IsAnswerTo this t pieces → IsAnswerTo command t pieces
+by_command command this t pieces e = subst (λ (c : CodeCommand). IsAnswerTo c t pieces) (sym e)
 
--- what answers a tiling by this command
-pub by_command : (command this : Command) (t : Tiling) (pieces : List (List ℕ)) → command ≡ this → IsAnswerTo this t pieces → IsAnswerTo command t pieces
-by_command command this t pieces e = subst (λ (c : Command). IsAnswerTo c t pieces) (sym e)
+-- one piece is written
+module _ {T : Type 0} (A : List (List ℕ) → Bool → Type 0) (V : Type 0) (a b : Option (List ℕ)) where
+  one_written : (line piece : List ℕ) (w : Result T Failed) → A (line ∷ []) false → piece ≡ line → OnOk w (Appends a b piece) → OnErr w (AppendsPrefix a b piece)
+      → Replies A V a b (accepted_if w)
+  one_written line piece (Ok x) an e ok err = writes_one A false line a b an (subst (λ (l : List ℕ). Appends a b l) e ok)
+  one_written line piece (Err x) an e ok err = begins_one A false line a b an (subst (λ (l : List ℕ). AppendsPrefix a b l) e err)
 
-at_ok : {T E : Type 0} {P Q : Type 0} (r : Result T E) → (P → Q) → OnOk r P → OnOk r Q
-at_ok (Ok x) f h = f h
-at_ok (Err x) f h = tt
+  pub piece_replies : (line piece : List ℕ) (w : Result T Failed) (r : Result Outcome Failed) → A (line ∷ []) false → piece ≡ line → OnOk w (Appends a b piece)
+      → OnErr w (AppendsPrefix a b piece) → r ≡ accepted_if w → Replies A V a b r
+  piece_replies line piece w r an e ok err is = subst (Replies A V a b) (sym is) (one_written line piece w an e ok err)
 
-if_err : {T E : Type 0} {P Q : Type 0} (r : Result T E) → (P → Q) → OnErr r P → OnErr r Q
-if_err (Ok x) f h = tt
-if_err (Err x) f h = f h
+module _ {T : Type 0} (command : CodeCommand) (t : Tiling) (V : Type 0) (a b : Option (List ℕ)) where
+  -- one piece is told
+  pub piece_told : (line piece : List ℕ) (w : Result T Failed) (r : Result Outcome Failed) → IsAnswerTo command t (line ∷ []) → piece ≡ line → OnOk w (Appends a b piece)
+      → OnErr w (AppendsPrefix a b piece) → r ≡ accepted_if w → Replies (Tells command t) V a b r
+  piece_told line piece w r an = piece_replies (Tells command t) V a b line piece w r (tells (line ∷ []) an)
 
-module _ {T E : Type 0} (command : Command) (t : Tiling) (a b : Option (List ℕ)) (r : Result T E) where
-  -- an answer of one piece
-  pub piece_written : (line piece : List ℕ) → IsAnswerTo command t (line ∷ []) → piece ≡ line → OnOk r (Appends a b piece) → OnOk r (IsWritten (ToTiling command t) a b false)
-  piece_written line piece an e = at_ok r (λ w. writes_one (ToTiling command t) false line a b an (subst (λ (l : List ℕ). Appends a b l) e w))
+  -- these pieces are told
+  all_told : (pieces : List (List ℕ)) (w : Result T Failed) → IsAnswerTo command t pieces → OnOk w (Appends a b (concat pieces)) → OnErr w (AppendsPrefix a b (concat pieces))
+      → Replies (Tells command t) V a b (accepted_if w)
+  all_told pieces (Ok x) an ok err = record { pieces = pieces; answer = tells pieces an; written = ok }
+  all_told pieces (Err x) an ok err = record { pieces = pieces; refused = false; answer = tells pieces an; written = err }
 
-  pub piece_begun : (line piece : List ℕ) → IsAnswerTo command t (line ∷ []) → piece ≡ line → OnErr r (AppendsPrefix a b piece) → OnErr r (IsBegun (ToTiling command t) a b)
-  piece_begun line piece an e = if_err r (λ w. begins_one (ToTiling command t) false line a b an (subst (λ (l : List ℕ). AppendsPrefix a b l) e w))
+  pub pieces_told : (pieces : List (List ℕ)) (w : Result T Failed) (r : Result Outcome Failed) → IsAnswerTo command t pieces → OnOk w (Appends a b (concat pieces))
+      → OnErr w (AppendsPrefix a b (concat pieces)) → r ≡ accepted_if w → Replies (Tells command t) V a b r
+  pieces_told pieces w r an ok err is = subst (Replies (Tells command t) V a b) (sym is) (all_told pieces w an ok err)
 
-  -- an answer of these pieces
-  pub pieces_written : (pieces : List (List ℕ)) → IsAnswerTo command t pieces → OnOk r (Appends a b (concat pieces)) → OnOk r (IsWritten (ToTiling command t) a b false)
-  pieces_written pieces an = at_ok r (λ w. record { pieces = pieces; answer = an; written = w })
+-- the cause of a call is that of what it wrote
+module _ {T : Type 0} (before now : ℕ) where
+  cause_if : (w : Result T Failed) → HasCause before now w → HasCause before now (accepted_if w)
+  cause_if (Ok x) h = record { later = h.later; ok = h.ok; failed = tt }
+  cause_if (Err x) h = record { later = h.later; ok = tt; failed = h.failed }
 
-  pub pieces_begun : (pieces : List (List ℕ)) → IsAnswerTo command t pieces → OnErr r (AppendsPrefix a b (concat pieces)) → OnErr r (IsBegun (ToTiling command t) a b)
-  pieces_begun pieces an = if_err r (λ w. record { pieces = pieces; refused = false; answer = an; written = w })
+  pub cause_told : (w : Result T Failed) (r : Result Outcome Failed) → HasCause before now w → r ≡ accepted_if w → HasCause before now r
+  cause_told w r h is = subst (HasCause before now) (sym is) (cause_if w h)
 
--- where a call failed, what is known then
-pub at_err : {T E : Type 0} (P : Type 0) (r : Result T E) → P → OnErr r P
-at_err P (Ok x) h = tt
-at_err P (Err x) h = h
+-- nothing is written
+kept : (a : Option (List ℕ)) → Keeps a a
+kept None = tt
+kept (Some xs) = refl
 
-module _ (command : Command) (bytes : List ℕ) (a b : Option (List ℕ)) where
-  pub none_written : (found : Option Tiling) → found ≡ None → IsFoundBy command bytes found → IsWritten (AnswersLine command bytes) a a false
-  none_written found e h =
-      let has : HasItem bytes Skip = subst (λ (f : Option Tiling). IsFoundBy command bytes f) e h in
-      writes_none (AnswersLine command bytes) false a (no_item has)
+two : (a b : ℕ) → (a ≤ b) ⊎ (b < a)
+two a b = grind arith
 
-  pub tiling_written : (found : Option Tiling) (t : Tiling) → found ≡ Some t → IsFoundBy command bytes found
-      → IsWritten (ToTiling command t) a b false → IsWritten (AnswersLine command bytes) a b false
-  tiling_written found t e h w =
-      let has : HasTiling bytes t × Allows command t = subst (λ (f : Option Tiling). IsFoundBy command bytes f) e h in
-      record { pieces = w.pieces; answer = answers t w.pieces has.0 has.1 w.answer; written = w.written }
+not_err : {T E : Type 0} (r : Result T E) (x : E) → r ≡ Err x → IsOk r → ⊥
+not_err (Ok y) x e ok = cc
+not_err (Err y) x e ok = let no : false ≡ true = ok in cc
 
-  pub tiling_begun : (found : Option Tiling) (t : Tiling) → found ≡ Some t → IsFoundBy command bytes found
-      → IsBegun (ToTiling command t) a b → IsBegun (AnswersLine command bytes) a b
-  tiling_begun found t e h w =
-      let has : HasTiling bytes t × Allows command t = subst (λ (f : Option Tiling). IsFoundBy command bytes f) e h in
-      record { pieces = w.pieces; refused = false; answer = answers t w.pieces has.0 has.1 w.answer; written = w.written }
-
-  pub refusal_written : (r : Refused) (piece line : List ℕ) → IsRefusedBy command bytes r → piece ≡ line → line ≡ refusal_line r → Appends a b piece
-      → IsWritten (AnswersLine command bytes) a b true
-  refusal_written r piece line h e d w =
-      writes_one (AnswersLine command bytes) true (refusal_line r) a b (refuses r h)
-      (subst (λ (l : List ℕ). Appends a b l) d (subst (λ (l : List ℕ). Appends a b l) e w))
-
-  pub refusal_begun : (r : Refused) (piece line : List ℕ) → IsRefusedBy command bytes r → piece ≡ line → line ≡ refusal_line r → AppendsPrefix a b piece
-      → IsBegun (AnswersLine command bytes) a b
-  refusal_begun r piece line h e d w =
-      begins_one (AnswersLine command bytes) true (refusal_line r) a b (refuses r h)
-      (subst (λ (l : List ℕ). AppendsPrefix a b l) d (subst (λ (l : List ℕ). AppendsPrefix a b l) e w))
+-- memory was wanting, which it may past 16 squares
+pub wants : {T E : Type 0} (A : List (List ℕ) → Bool → Type 0) (t : Tiling) (r : Result T E) (x : E) (a : Option (List ℕ)) → r ≡ Err x → (order t ≤ INLINE_ORDER → IsOk r)
+    → Replies A (INLINE_ORDER < order t) a a (Ok NoMemory)
+wants A t r x a e inline = record { cause = by (two (order t) INLINE_ORDER); kept = kept a }
+  where
+    by : (order t ≤ INLINE_ORDER) ⊎ (INLINE_ORDER < order t) → INLINE_ORDER < order t
+    by (inl h) = absurd (not_err r x e (inline h))
+    by (inr h) = h

@@ -7,7 +7,8 @@ use Rattle.bk_text.specs.CodeLine.{Line}
 use Rattle.bk_answer.specs.Answer.{AnswersLine}
 use Rattle.bk_answer.specs.Item.{HasItem, IsStatedBy}
 use Rattle.bk_answer.specs.declared.command.Command.{Command}
-use Rattle.bk_answer.specs.declared.command.Command.TheVariants.{Check}
+use Rattle.bk_answer.specs.declared.command.CodeCommand.TheVariants.{Check}
+use Rattle.bk_answer.specs.declared.command.Command.TheVariants.{OfCodes}
 
 -- a line has at most one answer
 abbrev pub ALineHasOneAnswer : Type 0
@@ -27,5 +28,5 @@ BeginsWith front text = (rest : List ℕ) × (text ≡ front ++ rest)
 -- where some tiling has the code, the order and the size that the line states, and only there
 abbrev pub CheckAcceptsTilings : Type 0
 CheckAcceptsTilings = (bytes : List ℕ) (item : Line) (pieces : List (List ℕ)) (refused : Bool)
-    → HasItem bytes item → AnswersLine Check bytes pieces refused
+    → HasItem bytes item → AnswersLine (OfCodes Check) bytes pieces refused
     → BeginsWith (codes "ok") (concat pieces) ↔ (t : Tiling) × IsStatedBy item t

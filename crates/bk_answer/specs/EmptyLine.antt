@@ -2,12 +2,16 @@
 use Rattle.std.proofs.Common.{inl, lit≤}
 use Rattle.std.specs.Prelude.{[], false, refl}
 use Rattle.bk_text.specs.CodeLine.{Skip}
-use Rattle.bk_answer.specs.Answer.{AnswersLine, no_item}
+use Rattle.bk_answer.specs.Answer.{AnswersLine}
+use Rattle.bk_answer.specs.CodeAnswer.{no_item}
+use Rattle.bk_answer.specs.NetAnswer.{no_net_item}
 use Rattle.bk_answer.specs.Item.{HasItem}
 use Rattle.bk_answer.specs.declared.command.Command.{Command}
+use Rattle.bk_answer.specs.declared.command.Command.TheVariants.{Flow, OfCodes}
 
 empty_has_none : HasItem [] Skip
 empty_has_none = record { short = lit≤ tt; meaning = ([], [], refl, tt, inl refl); few = lit≤ tt }
 
 pub no_answer_to_empty : (command : Command) → AnswersLine command [] [] false
-no_answer_to_empty command = no_item empty_has_none
+no_answer_to_empty (OfCodes command) = no_item empty_has_none
+no_answer_to_empty Flow = no_net_item (record { short = lit≤ tt; meaning = ([], [], refl, tt, inl refl) })

@@ -1,5 +1,5 @@
 -- What the item of a line states, and the tilings that it speaks of.
-use Rattle.std.specs.Prelude.{IfSome, List, MatchOption, Option, Some, length, ℕ, ◌≡◌, ◌≤◌}
+use Rattle.std.specs.Prelude.{IfSome, List, Option, Some, length, ℕ, ◌≡◌, ◌≤◌}
 use Rattle.bk_tiling.specs.Tiling.{Tiling, order}
 use Rattle.bk_tiling.specs.declared.TheConstants.{MOST_SQUARES}
 use Rattle.bk_profile.specs.Refused.{HasCode, HasFlat}
@@ -50,11 +50,3 @@ pub record HasTiling (bytes : List ℕ) (t : Tiling) : Type 0 where
   pub item : Line
   pub is_item : HasItem bytes item
   pub stated : IsStatedBy item t
-
--- what is found for an item: its tiling, or none where there is no item
-abbrev pub IsFoundFor : Line → Option Tiling → Type 0
-IsFoundFor item found = MatchOption found (item ≡ Skip) (IsStatedBy item)
-
--- what is found in a line
-abbrev pub IsFoundIn : List ℕ → Option Tiling → Type 0
-IsFoundIn bytes found = MatchOption found (HasItem bytes Skip) (HasTiling bytes)

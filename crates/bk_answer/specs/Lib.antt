@@ -1,6 +1,9 @@
 pub mod Item
 pub mod Refusing
-pub mod RefusedBy
+pub mod Telling
+pub mod CodeAnswer
+pub mod NetAnswer
+pub mod Replies
 pub mod Answer
 pub mod AnswerLaws
 pub mod EmptyLine

@@ -1,23 +1,28 @@
-//! The commands that answer lines.
+//! The commands that answer lines, and what is told of a tiling.
 
-ghost use Rattle.std.specs.Prelude.{IfErr, IfOk, IsTrue, OnErr, OnOk, false, ◌↔◌};
+ghost use Rattle.std.specs.Prelude.{IsTrue, ◌<◌, ◌↔◌, ◌≡◌};
 ghost use Rattle.bk_ports.specs.Causes.{HasCause};
-ghost use Rattle.bk_lines.specs.Answer.{IsBegun, IsWritten};
+ghost use Rattle.bk_tiling.specs.Tiling.{IsTiling, Tiling as Seen, order};
+ghost use Rattle.bk_sym.specs.Canonical.{IsCanonicalOf};
+ghost use Rattle.bk_report.specs.Answers.{tiling_line};
+ghost use Rattle.bk_answer.specs.Replies.{Replies, accepted_if};
+ghost use Rattle.bk_answer.specs.Telling.{Tells};
 
-use crate::answer::lay_line;
 use crate::several::{write_drawing, write_images};
 use arrayvec::ArrayVec;
 use bk_draw::LARGEST_DRAWN;
-use bk_lines::{Answerer, Outcome};
+use bk_lay::word_of;
+use bk_lines::Outcome;
 use bk_ports::{Failed, Sink};
-use bk_report::{Refused, write_check, write_dual, write_net, write_refused, write_tiling};
+use bk_report::{write_check, write_dual, write_net, write_tiling, write_word_line};
 use bk_sym::canonical;
 use bk_tiling::Tiling;
+use bk_word::{INLINE_ORDER, NoMemory};
 use std::alloc::Global;
 
-/// A command that answers lines.
+/// A command that reads lines of codes: what it tells of the tiling of a code.
 #[derive(Clone, Copy, Debug, PartialEq, Eq)]
-pub enum Command {
+pub enum CodeCommand {
     /// Whether a code is that of a tiling, and what the tiling is.
     Check,
     /// The canonical tiling.
@@ -28,108 +33,110 @@ pub enum Command {
     Net,
     /// The dual diagram, the sides as its currents, the squares of its wires, and the crossings.
     Dual,
+    /// The word: the squares laid valley by valley.
+    Word,
     /// A drawing in characters, where it is at most 400 wide and 400 high.
     Draw,
 }
 
-impl Command {
-    ghost use Rattle.bk_answer.specs.Answer.{IsAnswerTo};
-    ghost use Rattle.bk_answer.specs.RefusedBy.{Allows, IsFoundBy, IsRefusedBy};
+/// A command that answers lines.
+#[derive(Clone, Copy, Debug, PartialEq, Eq)]
+pub enum Command {
+    /// It reads lines of codes.
+    OfCodes(CodeCommand),
+    /// The currents of networks: it reads network lines.
+    Flow,
+}
 
-    // The tiling that the item of a line speaks of, none where the line has no item, or why the command refuses it.
-    fn tiling_for(self, line: &[u8]) -> Result<Option<Tiling>, Refused>
-        ensures found { IfOk result (IsFoundBy self line.now) }
-        ensures refused { IfErr result (IsRefusedBy self line.now) }
-    {
-        match lay_line(line) {
-            Ok(Some(tiling)) if !self.allows(&tiling) => Err(Refused::Large),
-            found => found,
-        }
-    }
+impl CodeCommand {
+    ghost use Rattle.bk_answer.specs.Telling.{Allows, Tells, WantsMemory};
 
     // Whether the command answers this tiling.
-    fn allows(self, tiling: &Tiling) -> bool
+    pub(crate) fn allows(self, tiling: &Tiling) -> bool
         ensures { IsTrue result ↔ Allows self tiling.now }
     {
         match self {
-            Command::Draw => tiling.width() <= LARGEST_DRAWN && tiling.height() <= LARGEST_DRAWN,
-            Command::Check | Command::Canon | Command::Images | Command::Net | Command::Dual =>
-                true,
+            CodeCommand::Draw => tiling.width() <= LARGEST_DRAWN
+                && tiling.height() <= LARGEST_DRAWN,
+            CodeCommand::Check
+            | CodeCommand::Canon
+            | CodeCommand::Images
+            | CodeCommand::Net
+            | CodeCommand::Dual
+            | CodeCommand::Word => true,
         }
     }
 
-    // Writes the answer to a line whose item speaks of this tiling.
-    fn write_answer<O: Sink>(
+    // Writes what is told of a tiling.
+    pub(crate) fn tell<O: Sink>(
         self,
+        alloc: Global,
         tiling: &Tiling,
         buffer: &mut ArrayVec<u8, 9000>,
         out: &mut O,
-    ) -> Result<(), Failed>
-        requires { Allows self tiling.now }
-        ensures written { OnOk result (IsWritten (λ pieces _. IsAnswerTo self tiling.now pieces) (O.written out.old) (O.written out.new) false) }
-        ensures failed { OnErr result (IsBegun (λ pieces _. IsAnswerTo self tiling.now pieces) (O.written out.old) (O.written out.new)) }
+    ) -> Result<Outcome, Failed>
+        requires tiling { IsTiling tiling.now }
+        requires allowed { Allows self tiling.now }
+        ensures reply { Replies (Tells self tiling.now) (WantsMemory self tiling.now) (O.written out.old) (O.written out.new) result }
         ensures cause { HasCause (O.faults out.old) (O.faults out.new) result }
     {
         match self {
-            Command::Check => {
+            CodeCommand::Check => {
                 write_check(tiling, buffer);
-                out.write_all(buffer.as_slice())
+                accepted(out.write_all(buffer.as_slice()))
             }
-            Command::Canon => {
-                write_tiling(&canonical(tiling), buffer);
-                out.write_all(buffer.as_slice())
+            CodeCommand::Canon => {
+                write_canonical(tiling, buffer);
+                accepted(out.write_all(buffer.as_slice()))
             }
-            Command::Images => write_images(tiling, buffer, out),
-            Command::Net => {
+            CodeCommand::Images => accepted(write_images(tiling, buffer, out)),
+            CodeCommand::Net => {
                 write_net(tiling, buffer);
-                out.write_all(buffer.as_slice())
+                accepted(out.write_all(buffer.as_slice()))
             }
-            Command::Dual => {
+            CodeCommand::Dual => {
                 write_dual(tiling, buffer);
-                out.write_all(buffer.as_slice())
+                accepted(out.write_all(buffer.as_slice()))
             }
-            Command::Draw => write_drawing(tiling, out),
+            CodeCommand::Word => tell_word(alloc, tiling, buffer, out),
+            CodeCommand::Draw => accepted(write_drawing(tiling, out)),
         }
     }
 }
 
-/// A command that answers lines, and where it takes memory from. The commands that are here take none.
-#[derive(Clone, Copy)]
-pub struct LineAnswerer {
-    /// What is asked of each line.
-    pub command: Command,
-    /// Where memory comes from.
-    pub alloc: Global,
+// Clears the buffer and leaves the line of the canonical tiling.
+fn write_canonical(tiling: &Tiling, buffer: &mut ArrayVec<u8, 9000>)
+    ensures { (c : Seen) × IsCanonicalOf tiling.now c × (buffer.new.items ≡ tiling_line c) }
+{
+    write_tiling(&canonical(tiling), buffer);
 }
 
-impl Answerer for LineAnswerer {
-    ghost use Rattle.bk_answer.specs.Answer.{AnswersLine, MayWant};
-
-    ghost answers = { λ a. AnswersLine a.command };
-
-    ghost may_want = { λ a. MayWant a.command };
-
-    fn answer<O: Sink>(
-        &self,
-        line: &[u8],
-        buffer: &mut ArrayVec<u8, 9000>,
-        out: &mut O,
-    ) -> Result<Outcome, Failed> {
-        match self.command.tiling_for(line) {
-            Ok(None) => Ok(Outcome::Accepted),
-            Ok(Some(tiling)) => {
-                self.command.write_answer(&tiling, buffer, out)?;
-                Ok(Outcome::Accepted)
-            }
-            Err(refused) => {
-                write_refused(&refused, buffer);
-                out.write_all(buffer.as_slice())?;
-                Ok(Outcome::Refused)
-            }
+// Writes the word of a tiling, or says that memory is wanting.
+fn tell_word<O: Sink>(
+    alloc: Global,
+    tiling: &Tiling,
+    buffer: &mut ArrayVec<u8, 9000>,
+    out: &mut O,
+) -> Result<Outcome, Failed>
+    requires { IsTiling tiling.now }
+    ensures reply { Replies (Tells CodeCommand.Word tiling.now) (INLINE_ORDER < order tiling.now) (O.written out.old) (O.written out.new) result }
+    ensures cause { HasCause (O.faults out.old) (O.faults out.new) result }
+{
+    match word_of(alloc, tiling) {
+        Ok(word) => {
+            write_word_line(&word, buffer);
+            accepted(out.write_all(buffer.as_slice()))
         }
+        Err(NoMemory) => Ok(Outcome::NoMemory),
     }
+}
 
-    ghost use Rattle.bk_answer.specs.EmptyLine.{no_answer_to_empty};
-
-    ghost empty_line = { λ a. no_answer_to_empty a.command };
+// What a call that writes an answer comes to.
+pub(crate) fn accepted(written: Result<(), Failed>) -> Result<Outcome, Failed>
+    ensures { result ≡ accepted_if written }
+{
+    match written {
+        Ok(()) => Ok(Outcome::Accepted),
+        Err(failed) => Err(failed),
+    }
 }

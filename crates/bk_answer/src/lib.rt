@@ -5,10 +5,11 @@ ghost use Rattle.bk_answer.specs.AnswerLaws.{AFrontHasTheAnswer, ALineHasOneAnsw
 
 mod answer;
 mod command;
+mod flow;
 mod several;
 
-pub use answer::LONGEST_LINE;
-pub use command::{Command, LineAnswerer};
+pub use answer::{LONGEST_LINE, LineAnswerer};
+pub use command::{CodeCommand, Command};
 
 /// A line has at most one answer.
 pub fn a_line_has_one_answer()

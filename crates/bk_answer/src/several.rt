@@ -4,7 +4,7 @@ ghost use Rattle.std.specs.List.{concat};
 ghost use Rattle.std.specs.Prelude.{OnErr, OnOk, ◌≤◌};
 ghost use Rattle.std.specs.Io.KnownBytes.{Appends};
 ghost use Rattle.bk_ports.specs.Causes.{AppendsPrefix, HasCause};
-ghost use Rattle.bk_answer.specs.Answer.{drawing_lines, image_lines};
+ghost use Rattle.bk_answer.specs.Telling.{drawing_lines, image_lines};
 
 use arrayvec::ArrayVec;
 use bk_draw::{LARGEST_DRAWN, draw_row};

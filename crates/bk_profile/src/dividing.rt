@@ -7,7 +7,7 @@ ghost use Rattle.bk_tiling.specs.Tiling.{Tiling as Tiled};
 ghost use Rattle.bk_profile.specs.Gap.{next_group};
 ghost use Rattle.bk_profile.specs.Refused.{HasFlat, IsFlatRefused};
 
-use crate::laying::{Refusal, closed};
+use crate::laying::{Refusal, even_height};
 use crate::profile::{Profile, sum_of};
 use bk_tiling::{LONGEST_SIDE, MOST_SQUARES, Tiling};
 
@@ -51,7 +51,10 @@ pub fn lay_flat(width: u64, sides: &[u64]) -> Result<Tiling, Refusal>
         rest = left;
         group += 1;
     }
-    closed(profile)
+    match even_height(&profile) {
+        Ok(height) => Ok(profile.into_tiling(height)),
+        Err(refusal) => Err(refusal),
+    }
 }
 
 // How many sides the next group has: the least number of them whose sum reaches the width of the gap, or all.

@@ -2,7 +2,8 @@
 
 ghost use Rattle.std.specs.Prelude.{IfErr, IfOk, IsOkAnd, length, ◌<◌, ◌≡◌};
 ghost use Rattle.bk_tiling.specs.Tiling.{Tiling as Tiled};
-ghost use Rattle.bk_profile.specs.Laid.{IsLaidOut, IsLaidTiling};
+ghost use Rattle.bk_tiling.specs.Kept.{IsKept};
+ghost use Rattle.bk_profile.specs.Laid.{IsLaidOut};
 ghost use Rattle.bk_profile.specs.Refused.{HasCode, IsOpen, IsRefused, first_sum};
 
 use crate::profile::{Profile, sum_of};
@@ -41,19 +42,27 @@ pub fn lay_code(code: &Code) -> Result<Tiling, Refusal>
             });
         }
     }
-    closed(profile)
+    match even_height(&profile) {
+        Ok(height) => Ok(profile.into_tiling(height)),
+        Err(refusal) => Err(refusal),
+    }
 }
 
-// The tiling that is laid, or the depths of an uneven outline.
-pub(crate) fn closed(profile: Profile) -> Result<Tiling, Refusal>
-    requires { IsLaidOut profile }
-    ensures even { IfOk result (IsLaidTiling profile) }
-    ensures uneven { IfErr result (IsOpen profile) }
+// The height of what is laid, or the depths of an uneven outline.
+pub(crate) fn even_height(profile: &Profile) -> Result<u64, Refusal>
+    requires { IsLaidOut profile.now }
+    ensures even { IfOk result (λ height. IsKept (record {
+      width = profile.now.width;
+      height = height;
+      squares = profile.now.squares;
+    })) }
+    ensures uneven { IfErr result (IsOpen profile.now) }
 {
     let least = profile.least();
     let greatest = profile.greatest();
     if least < greatest {
         return Err(Refusal::Open { least, greatest });
     }
-    Ok(Tiling::from_known(profile.width(), greatest, profile.into_laid()))
+    let _narrow = profile.width();
+    Ok(greatest)
 }

@@ -2,14 +2,14 @@
 
 ghost use Rattle.std.specs.List.{AllByRecursion};
 ghost use Rattle.std.specs.Prelude.{[], IfErr, OnErr, OnOk, length, sum, ◌*◌, ◌+◌, ◌++◌, ◌<◌, ◌^◌, ◌≡◌, ◌≤◌};
-ghost use Rattle.bk_tiling.specs.Kept.{IsSide};
+ghost use Rattle.bk_tiling.specs.Kept.{IsKept, IsSide};
 ghost use Rattle.bk_tiling.specs.SquareGroups.{laid_group};
 ghost use Rattle.bk_profile.specs.Gap.{IsGap};
-ghost use Rattle.bk_profile.specs.Laid.{IsGreatestDepth, IsLeastDepth, IsProfile, LaysGroup, MisfitsGap};
+ghost use Rattle.bk_profile.specs.Laid.{IsGreatestDepth, IsLaidTiling, IsLeastDepth, IsProfile, LaysGroup, MisfitsGap};
 
 use crate::runs::{MOST_RUNS, Run, hang, highest, lowest, segment};
 use arrayvec::ArrayVec;
-use bk_tiling::{LONGEST_SIDE, MOST_SQUARES, Segment, Square};
+use bk_tiling::{LONGEST_SIDE, MOST_SQUARES, Segment, Square, Tiling};
 use std::marker::Model;
 
 /// The sum of a group isn't the width of the gap that it was to go into.
@@ -98,16 +98,12 @@ impl Profile {
         self.laid.as_slice()
     }
 
-    // The squares laid, where the profile isn't needed any more.
-    pub(crate) fn into_laid(self) -> ArrayVec<Square, MOST_SQUARES>
-        ensures { result.items ≡ self.squares }
+    // The tiling of this height, where what is laid is one.
+    pub(crate) fn into_tiling(self, height: u64) -> Tiling
+        requires { IsKept (record { width = self.width; height = height; squares = self.squares }) }
+        ensures { IsLaidTiling self result }
     {
-        let Profile {
-            width: _,
-            laid,
-            outline: _,
-        } = self;
-        laid
+        Tiling::from_known(self.width, height, self.laid)
     }
 
     // The width.

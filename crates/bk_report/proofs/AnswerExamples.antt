@@ -1,9 +1,10 @@
 -- Answers as they are written.
 use Rattle.std.specs.Fmt.{digits}
-use Rattle.std.specs.Prelude.{None, [], codes, refl, ◌++◌, ◌∷◌, ◌≡◌}
+use Rattle.std.specs.Prelude.{None, [], codes, negsuc, pos, refl, ◌++◌, ◌∷◌, ◌≡◌}
 use Rattle.bk_tiling.proofs.ExampleTilings.{rectangle_33x32, square_2x2}
-use Rattle.bk_report.specs.Answers.{dual_line, net_line, verdict_line}
+use Rattle.bk_report.specs.Answers.{dual_line, flow_line, net_line, verdict_line}
 use Rattle.bk_report.specs.Refusals.{refusal_line}
+use Rattle.bk_report.specs.Trial.{trial_line}
 use Rattle.bk_report.specs.declared.refusal.Refused.TheVariants.{Gap, Size}
 
 pub checked : verdict_line rectangle_33x32 None None ≡ codes "ok 9 33x32 perfect simple" ++ 10 ∷ []
@@ -29,3 +30,11 @@ dual = refl
 pub dual_with_crossing : dual_line square_2x2 ≡ codes "3 0-1 0-1 1-2 1-2 ; 2 1 1 1 1 ; 1 3 2 4 ; 1" ++ 10 ∷ []
 unfolding digits
 dual_with_crossing = refl
+
+pub flowing : flow_line (record { total = pos 2; currents = pos 1 ∷ negsuc 0 ∷ pos 0 ∷ [] }) ≡ codes "2 1 -1 0" ++ 10 ∷ []
+unfolding digits
+flowing = refl
+
+pub trials : trial_line 0 2 2 1 0 272 ≡ codes "trial seed 0 count 2 ok 2 perfect 1 simple 0 squares 272" ++ 10 ∷ []
+unfolding digits
+trials = refl

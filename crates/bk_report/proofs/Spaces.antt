@@ -29,6 +29,12 @@ verdict_pieces front number size perfect simple = simp append_assoc
 pub tiling_pieces : (front size code : List ℕ) → (((front ++ size) ++ 32 ∷ []) ++ code) ++ 10 ∷ [] ≡ front ++ line (size ∷ code ∷ [])
 tiling_pieces front size code = simp append_assoc
 
+-- and of a line about trial codes
+pub trial_pieces : (seed count ok perfect simple squares : List ℕ)
+    → ((((((((((((([] ++ codes "trial seed ") ++ seed) ++ codes " count ") ++ count) ++ codes " ok ") ++ ok) ++ codes " perfect ") ++ perfect) ++ codes " simple ") ++ simple) ++ codes " squares ") ++ squares) ++ 10 ∷ [])
+    ≡ line (codes "trial" ∷ codes "seed" ∷ seed ∷ codes "count" ∷ count ∷ codes "ok" ∷ ok ∷ codes "perfect" ∷ perfect ∷ codes "simple" ∷ simple ∷ codes "squares" ∷ squares ∷ [])
+trial_pieces seed count ok perfect simple squares = simp append_assoc
+
 -- pieces with a blank before each
 pub blanks_before : (piece : List ℕ) (pieces : List (List ℕ)) → piece ++ flat_map (λ l. 32 ∷ l) pieces ≡ spaced (piece ∷ pieces)
 blanks_before piece [] = append-nil piece
@@ -52,6 +58,11 @@ net_pieces f g nodes width xs ys =
     ∙ ap (λ (l : List ℕ). nodes ++ (blanks (map f xs) ++ (codes " ; " ++ (width ++ l)))) (blanks_map g ys)
     ∙ ap (λ (l : List ℕ). nodes ++ l) (sym (flat_map-append (λ (l : List ℕ). 32 ∷ l) (map f xs) (codes ";" ∷ width ∷ map g ys)))
     ∙ blanks_before nodes (map f xs ++ codes ";" ∷ width ∷ map g ys))
+
+-- a number and numbers with a blank before each: the pieces of a flow, one after another
+pub flow_pieces : {A : Type 0} (f : A → List ℕ) (total : List ℕ) (xs : List A)
+    → (total ++ flat_map (λ x. 32 ∷ f x) xs) ++ 10 ∷ [] ≡ line (total ∷ map f xs)
+flow_pieces f total xs = ap (λ (l : List ℕ). (total ++ l) ++ 10 ∷ []) (blanks_map f xs) ∙ ap (λ (l : List ℕ). l ++ 10 ∷ []) (blanks_before total (map f xs))
 
 -- pieces with a blank before each, and more of them
 then_pieces : {A : Type 0} (f : A → List ℕ) (xs : List A) (more : List (List ℕ))

@@ -1,4 +1,5 @@
 -- The texts of answers to accepted items. Each is a line, and ends with a line feed.
+use Rattle.std.specs.Fmt.{signed_decimal}
 use Rattle.std.specs.List.{join_with_byte}
 use Rattle.std.specs.Prelude.{List, MatchOption, None, Option, Some, [], codes, decimal, map, ℕ, ◌++◌, ◌∷◌, ◌≡◌}
 use Rattle.bk_tiling.specs.Tiling.{Rectangle, Tiling, order}
@@ -9,6 +10,7 @@ use Rattle.bk_sym.specs.declared.Turn.TheVariants.{Swap}
 use Rattle.bk_dual.specs.Dual.{crossings, dual_diagram, dual_order}
 use Rattle.bk_net.specs.Diagram.{smith_diagram}
 use Rattle.bk_net.specs.Net.{Net}
+use Rattle.bk_flow.specs.FlowNumbers.{FlowNumbers}
 use Rattle.bk_simple.specs.Simple.{IsFirstPart, IsLeastRepeated, IsPerfect, IsSimple}
 
 -- the pieces, with one blank between each two
@@ -73,3 +75,7 @@ net_line t = line (net_words (smith_diagram t) ++ codes ";" ∷ side_words t)
 abbrev pub dual_line : Tiling → List ℕ
 dual_line t = line (net_words (dual_diagram t) ++ (codes ";" ∷ side_words (image Swap t) ++ (codes ";"
     ∷ map decimal (dual_order t) ++ (codes ";" ∷ decimal (crossings t) ∷ []))))
+
+-- flow: the total and the currents
+abbrev pub flow_line : FlowNumbers → List ℕ
+flow_line f = line (signed_decimal f.total ∷ map signed_decimal f.currents)

@@ -2,3 +2,4 @@ pub mod Answers
 pub mod Refusals
 pub mod AnswerLaws
 pub mod Listings
+pub mod Trial

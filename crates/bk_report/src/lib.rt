@@ -3,16 +3,20 @@
 
 mod answer;
 mod dual;
+mod flow;
 mod listing;
 mod net;
 mod refusal;
 #[cfg(test)]
 mod tests;
+mod trial;
 mod word;
 
 pub use answer::{a_tiling_has_one_check_line, write_check, write_tiling};
 pub use dual::write_dual;
+pub use flow::write_flow;
 pub use listing::{Last, write_entry, write_last};
 pub use net::write_net;
 pub use refusal::{Refused, write_refused};
+pub use trial::write_trial;
 pub use word::write_word_line;

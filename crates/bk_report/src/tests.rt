@@ -1,10 +1,12 @@
 //! Lines as they are written.
 
 use crate::{
-    Last, Refused, write_check, write_entry, write_last, write_net, write_refused, write_tiling,
-    write_word_line,
+    Last, Refused, write_check, write_entry, write_flow, write_last, write_net, write_refused,
+    write_tiling, write_trial, write_word_line,
 };
 use arrayvec::ArrayVec;
+use bk_flow::solve;
+use bk_net::{NetLine, read_net};
 use bk_tiling::{Square, Tiling};
 use bk_word::{Class, read_word};
 use std::test::Fail;
@@ -127,4 +129,54 @@ fn listings_have_their_last_lines(rt: HostRuntime) -> Result<(), Fail> {
         assert_eq!(rt; line.as_slice(), text.as_bytes());
     }
     Ok(())
+}
+
+#[test]
+fn a_flow_has_its_line(rt: HostRuntime) -> Result<(), Fail> {
+    let mut out = ArrayVec::new();
+    let rows: [(&[u8], &[u8]); 2] = [
+        (b"4 0-1 0-2 1-2 1-3 2-3", b"2 1 1 0 1 1\n"),
+        (b"2 1-0", b"1 -1\n"),
+    ];
+    for (line, text) in rows {
+        if let NetLine::Item { net } = read_net(line)? {
+            write_flow(&solve(rt.alloc(), &net)?, &mut out);
+        }
+        assert_eq!(rt; out.as_slice(), text);
+    }
+    Ok(())
+}
+
+#[test]
+fn trials_have_their_lines(rt: HostRuntime) {
+    let mut line = ArrayVec::new();
+    for (seed, count, ok, perfect, squares, text) in [
+        (
+            0,
+            2,
+            2,
+            1,
+            272,
+            "trial seed 0 count 2 ok 2 perfect 1 simple 0 squares 272\n",
+        ),
+        (
+            0,
+            0,
+            0,
+            0,
+            0,
+            "trial seed 0 count 0 ok 0 perfect 0 simple 0 squares 0\n",
+        ),
+        (
+            u64::MAX,
+            2,
+            2,
+            1,
+            274,
+            "trial seed 18446744073709551615 count 2 ok 2 perfect 1 simple 0 squares 274\n",
+        ),
+    ] {
+        write_trial(seed, count, ok, perfect, 0, squares, &mut line);
+        assert_eq!(rt; line.as_slice(), text.as_bytes());
+    }
 }

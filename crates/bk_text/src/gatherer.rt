@@ -62,37 +62,43 @@ impl Gatherer {
         }
     }
 
-    // What a line stands for that ends at a place.
-    pub fn finish(mut self, place: Place, ending: Ending) -> Result<Line, TextFault>
+    // Takes the side that ends with the line.
+    pub fn take_last(&mut self, place: Place)
         requires { ForSome (last_side place) IsSide }
-        ensures few { IfOk result (λ _. (with_ended (last_side place) self).many ≡ false) }
-        ensures line { IfOk result (λ line. stands_for line ≡ line_gathered ending (with_ended (last_side place) self)) }
-        ensures fits { IfOk result (λ line. length (sides_of_line (stands_for line)) ≤ MOST_SQUARES) }
-        ensures many { IfErr result (λ fault. fault ≡ TextFault.Many) }
-        ensures full { OnErr result ((with_ended (last_side place) self).many ≡ true) }
-        ensures was { IsGathered self }
+        ensures after { self.new ≡ with_ended (last_side place) self.old }
+        ensures was { IsGathered self.old }
     {
+        let _ = &self.many;
         if let Some(side) = place.last_side() {
             self.add_side(side);
         }
-        let Gatherer { code, sides, many } = self;
-        if many {
+    }
+
+    // What a line stands for that ends so.
+    pub fn finish(self, ending: Ending) -> Result<Line, TextFault>
+        ensures few { IfOk result (λ _. self.many ≡ false) }
+        ensures line { IfOk result (λ line. stands_for line ≡ line_gathered ending self) }
+        ensures fits { IfOk result (λ line. length (sides_of_line (stands_for line)) ≤ MOST_SQUARES) }
+        ensures many { IfErr result (λ fault. fault ≡ TextFault.Many) }
+        ensures full { OnErr result (self.many ≡ true) }
+    {
+        if self.many {
             return Err(TextFault::Many);
         }
-        Ok(match ending {
-            Ending::Empty => Line::Skip,
-            Ending::Coded(header) => Line::Item {
+        match ending {
+            Ending::Empty => Ok(Line::Skip),
+            Ending::Coded(header) => Ok(Line::Item {
                 order: header.order,
                 size: header.size,
-                code,
-            },
-            Ending::Row(table) => Line::Flat {
+                code: self.code,
+            }),
+            Ending::Row(table) => Ok(Line::Flat {
                 order: table.order,
                 width: table.width,
                 height: table.height,
-                sides,
-            },
-        })
+                sides: self.sides,
+            }),
+        }
     }
 
     // Adds a side, which is kept where there is room.

@@ -68,7 +68,10 @@ pub fn read_line(line: &[u8]) -> Result<Line, TextFault>
         place = next;
     }
     match place.ending() {
-        Some(ending) => gatherer.finish(place, ending),
+        Some(ending) => {
+            gatherer.take_last(place);
+            gatherer.finish(ending)
+        }
         None => Err(TextFault::Text { at: line.len() }),
     }
 }

@@ -7,8 +7,10 @@ use Rattle.bk_lines.specs.Ending.{IsAnswered, IsCutOff, IsBroken, IsCutShort, Is
 use Rattle.bk_lines.specs.declared.Ended.{Ended}
 use Rattle.bk_lines.specs.declared.Ended.TheVariants.{NoMemory, NoneRefused, ReadFailed, SomeRefused, TooMany, WriteFailed}
 use Rattle.bk_answer.specs.Answer.{AnswersLine, MayWant}
-use Rattle.bk_top.specs.Words.{Asks, AsksNothing, usage}
 use Rattle.bk_answer.specs.declared.command.Command.{Command}
+use Rattle.bk_ask.specs.Help.{help_text}
+use Rattle.bk_ask.specs.declared.Ask.TheVariants.{Help}
+use Rattle.bk_top.specs.Words.{AsksNothing, WordsAsk, ask_of, usage}
 
 -- what stands outside: the bytes that the source has left, that `out` has taken and that `err` has taken, where they
 -- tell them, and each one's count of faults
@@ -60,10 +62,15 @@ pub record AnswersLines (command : Command) (before after : Outside) (status : �
 
 -- one call wrote this text: all of it stands there and the count is as it was, or a beginning of it stands there and
 -- the count rose
+abbrev pub IsToldText : List ℕ → Option (List ℕ) → Option (List ℕ) → ℕ → ℕ → Type 0
+IsToldText text written written_after faults faults_after =
+    (Appends written written_after text × (faults_after ≡ faults))
+    ⊎ (AppendsPrefix written written_after text × Rose faults faults_after)
+
+-- one call wrote this text on errors
 abbrev pub WritesErrors : List ℕ → Outside → Outside → Type 0
 WritesErrors text before after =
-    (Appends before.errors after.errors text × (after.error_faults ≡ before.error_faults))
-    ⊎ (AppendsPrefix before.errors after.errors text × Rose before.error_faults after.error_faults)
+    IsToldText text before.errors after.errors before.error_faults after.error_faults
 
 -- nothing was written on errors
 abbrev pub NoErrors : Outside → Outside → Type 0
@@ -73,4 +80,6 @@ NoErrors before after = (after.errors ≡ before.errors) × (after.error_faults 
 pub record IsRun (words : List (String Global)) (before after : Outside) (status : ℕ) : Type 0 where
   pub status_2_asks_nothing : status ≡ 2 → AsksNothing words
   pub nothing_asked : AsksNothing words → (status ≡ 2) × WritesErrors usage before after
-  pub lines : (command : Command) → Asks words command → AnswersLines command before after status × NoErrors before after
+  pub lines : (command : Command) → WordsAsk words (ask_of command)
+      → AnswersLines command before after status × NoErrors before after
+  pub help : WordsAsk words Help → (status ≡ 0) × WritesErrors help_text before after

@@ -1,25 +1,46 @@
--- What the words of a command line ask.
-use Rattle.std.specs.Prelude.{List, String, [], codes, map, string_bytes, ℕ, ◌∷◌, ◌≡◌}
+-- What the words of a command line ask, as far as it is built.
+use Rattle.std.specs.Prelude.{List, String, codes, map, string_bytes, ℕ, ⊤, ◌⊎◌}
 use Rattle.std.specs.declared.alloc.Global.{Global}
 use Rattle.bk_answer.specs.declared.command.Command.{Command}
-use Rattle.bk_answer.specs.declared.command.Command.TheVariants.{Canon, Check, Draw, Dual, Images, Net}
+use Rattle.bk_answer.specs.declared.command.CodeCommand.TheVariants as codes_of
+use Rattle.bk_answer.specs.declared.command.Command.TheVariants.{Flow, OfCodes}
+use Rattle.bk_ask.specs.Asked.{Asks}
+use Rattle.bk_ask.specs.declared.Ask.{Ask}
+use Rattle.bk_ask.specs.declared.Ask.TheVariants as asks
 
--- the word that names a command
-abbrev pub name_of : Command → List ℕ
-name_of Check = codes "check"
-name_of Canon = codes "canon"
-name_of Images = codes "images"
-name_of Net = codes "net"
-name_of Dual = codes "dual"
-name_of Draw = codes "draw"
+-- what is asked where this command shall answer lines
+abbrev pub ask_of : Command → Ask
+ask_of (OfCodes codes_of.Check) = asks.Check
+ask_of (OfCodes codes_of.Canon) = asks.Canon
+ask_of (OfCodes codes_of.Images) = asks.Images
+ask_of (OfCodes codes_of.Net) = asks.Net
+ask_of (OfCodes codes_of.Dual) = asks.Dual
+ask_of (OfCodes codes_of.Draw) = asks.Draw
+ask_of (OfCodes codes_of.Word) = asks.Word
+ask_of Flow = asks.Flow
 
--- the words ask that this command answers lines: they are its name alone
-abbrev pub Asks : List (String Global) → Command → Type 0
-Asks words command = map string_bytes words ≡ name_of command ∷ []
+-- the words ask this
+abbrev pub WordsAsk : List (String Global) → Ask → Type 0
+WordsAsk words ask = Asks (map string_bytes words) ask
 
--- the words ask nothing
+-- the commands that are built
+abbrev pub IsBuilt : Ask → Type 0
+IsBuilt asks.Solve = ⊥
+IsBuilt (asks.List order class from limit) = ⊥
+IsBuilt (asks.Trial seed count) = ⊥
+IsBuilt _ = ⊤
+
+-- the words ask nothing, or a command that isn't built
 abbrev pub AsksNothing : List (String Global) → Type 0
-AsksNothing words = (command : Command) → Asks words command → ⊥
+AsksNothing words = (ask : Ask) → WordsAsk words ask → IsBuilt ask → ⊥
+
+-- the words ask no command that answers lines
+abbrev pub AsksNoLines : List (String Global) → Type 0
+AsksNoLines words = (command : Command) → WordsAsk words (ask_of command) → ⊥
+
+-- nothing is asked but a text on errors
+abbrev pub AsksErrorsOnly : List (String Global) → Type 0
+AsksErrorsOnly words = AsksNothing words ⊎ WordsAsk words asks.Help
 
 -- what is written on errors where the words ask nothing
 abbrev pub usage : List ℕ

@@ -1,33 +1,26 @@
-//! The words of a command line.
+//! What is done for what is asked.
 
-ghost use Rattle.std.specs.Prelude.{IfNone, IfSome, codes, ◌≡◌};
-ghost use Rattle.bk_top.specs.Words.{Asks, AsksNothing, name_of};
+ghost use Rattle.std.specs.Prelude.{IfNone, IfSome, ◌≡◌};
+ghost use Rattle.bk_answer.specs.declared.command.Command.{Command as Commands};
+ghost use Rattle.bk_top.specs.Words.{ask_of};
 
-use bk_answer::Command;
+use bk_answer::{CodeCommand, Command};
+use bk_ask::Ask;
 
-// The command that the words ask for, none where they ask nothing.
-pub(crate) fn command_asked(words: &[String]) -> Option<Command>
-    ensures some { IfSome result (Asks words.now) }
-    ensures none { IfNone result (AsksNothing words.now) }
+// The command that answers lines, if that is asked.
+pub(crate) fn command_of(ask: &Ask) -> Option<Command>
+    ensures some { IfSome result (λ command. ask.now ≡ ask_of command) }
+    ensures none { IfNone result ((command : Commands) → ask.now ≡ ask_of command → ⊥) }
 {
-    match words {
-        [word] => command_named(word.as_str()),
-        _ => None,
-    }
-}
-
-// The command of this name.
-fn command_named(name: &str) -> Option<Command>
-    ensures some { IfSome result (λ command. name.now ≡ name_of command) }
-    ensures none { IfNone result ((command : Command) → name.now ≡ name_of command → ⊥) }
-{
-    match name {
-        "check" => Some(Command::Check),
-        "canon" => Some(Command::Canon),
-        "images" => Some(Command::Images),
-        "net" => Some(Command::Net),
-        "dual" => Some(Command::Dual),
-        "draw" => Some(Command::Draw),
-        _ => None,
+    match ask {
+        Ask::Check => Some(Command::OfCodes(CodeCommand::Check)),
+        Ask::Canon => Some(Command::OfCodes(CodeCommand::Canon)),
+        Ask::Images => Some(Command::OfCodes(CodeCommand::Images)),
+        Ask::Net => Some(Command::OfCodes(CodeCommand::Net)),
+        Ask::Dual => Some(Command::OfCodes(CodeCommand::Dual)),
+        Ask::Draw => Some(Command::OfCodes(CodeCommand::Draw)),
+        Ask::Word => Some(Command::OfCodes(CodeCommand::Word)),
+        Ask::Flow => Some(Command::Flow),
+        Ask::Solve | Ask::List { .. } | Ask::Trial { .. } | Ask::Help => None,
     }
 }

@@ -3,6 +3,7 @@
 
 mod asked;
 mod program;
+mod telling;
 #[cfg(test)]
 mod tests;
 

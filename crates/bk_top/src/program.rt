@@ -1,24 +1,25 @@
 //! The run of the program.
 
-ghost use Rattle.std.specs.Prelude.{◌≡◌, ◌≢◌};
+ghost use Rattle.std.specs.Prelude.{◌≡◌};
 ghost use Rattle.bk_top.specs.Running.{IsRun, status_of};
+ghost use Rattle.bk_top.specs.Words.{AsksErrorsOnly, AsksNoLines};
 
-use crate::asked::command_asked;
+use crate::asked::command_of;
+use crate::telling::{tell_help, tell_usage};
 use bk_answer::LineAnswerer;
+use bk_ask::{Ask, asked};
 use bk_lines::{Ended, answer_lines};
 use bk_ports::{Sink, Source};
 use std::alloc::Global;
-
-// What is written on errors where the words ask nothing.
-const USAGE: &[u8; 42] = b"usage: bouwkamp COMMAND [--NAME VALUE]...\n";
 
 /// Does what the words of the command line ask, without the program's name, and gives the status. The commands, their
 /// answers and the statuses are this project's own.
 ///
 /// A command that answers lines reads the source to its end. Its status is 0 where all lines are answered and none is
 /// refused, 1 where at least one is refused, 3 after a failed read, 4 after a failed write, 6 where memory is wanting
-/// and 7 where the input has more than 2^30 bytes. Where the words ask nothing, `err` gets the line of usage, the
-/// status is 2, and source and `out` are as they were.
+/// and 7 where the input has more than 2^30 bytes. `help` writes its text to `err`, and its status is 0. Where the words
+/// ask nothing, or a command that isn't built, `err` gets the line of usage, and the status is 2. Else nothing is written
+/// to `err`. Where no command that answers lines is asked, the source is as it was.
 pub fn run<S: Source, O: Sink, E: Sink>(
     alloc: Global,
     words: &[String],
@@ -44,13 +45,24 @@ pub fn run<S: Source, O: Sink, E: Sink>(
           error_faults = E.faults err.new;
         })
         result }
-    ensures untouched { result ≡ 2 → (source.new ≡ source.old) × (out.new ≡ out.old) }
-    ensures silent { result ≢ 2 → err.new ≡ err.old }
+    ensures unread { AsksNoLines words.now → source.new ≡ source.old }
+    ensures unwritten { AsksErrorsOnly words.now → out.new ≡ out.old }
+    ensures silent { ¬ AsksErrorsOnly words.now → err.new ≡ err.old }
 {
-    match command_asked(words) {
-        Some(command) => status(answer_lines(&LineAnswerer { command, alloc }, source, out)),
-        None => {
-            let _ = err.write_all(USAGE);
+    let Some(ask) = asked(alloc, words) else {
+        tell_usage(err);
+        return 2;
+    };
+    if let Some(command) = command_of(&ask) {
+        return status(answer_lines(&LineAnswerer { command, alloc }, source, out));
+    }
+    match ask {
+        Ask::Help => {
+            tell_help(err);
+            0
+        }
+        _ => {
+            tell_usage(err);
             2
         }
     }

@@ -6,10 +6,13 @@ use bk_ports::{FillSource, MemSink, MemSource};
 use std::alloc::AllocError;
 use std::test::Fail;
 
-// The one word of a command line.
-fn words(rt: &HostRuntime, word: &str) -> Result<Vec<String>, AllocError> {
-    let word = String::from_str(rt.alloc(), word)?;
-    Ok(vec![in rt.alloc(); word]?)
+// The words of a command line, with a blank between each two.
+fn words(rt: &HostRuntime, line: &str) -> Result<Vec<String>, AllocError> {
+    let mut words = Vec::new(rt.alloc());
+    for word in line.split(' ') {
+        words.push(String::from_str(rt.alloc(), word)?)?;
+    }
+    Ok(words)
 }
 
 #[test]
@@ -189,6 +192,69 @@ fn tilings_are_turned_hung_and_drawn(rt: HostRuntime) -> Result<(), Fail> {
 }
 
 #[test]
+fn words_of_tilings_and_flows_of_networks(rt: HostRuntime) -> Result<(), Fail> {
+    for (command, input, status, output) in [
+        (
+            "word",
+            "[25,17,23][11,6][5,24][22,3][19]\n[1]\n[1,1][1,1]\n4x4 [1]",
+            1,
+            "3ua.2aue.2ue.2ea.1ee\n1\n2e.2e\nno size 1x1\n",
+        ),
+        (
+            "flow",
+            "6 0-2 0-1 1-3 1-4 2-5 2-3 3-5 3-4 4-5 ; 33 18 15 7 8 14 4 10 1 9\n\
+             4 0-1 0-2 1-2 1-3 2-3\n2 1-0\n; a comment\n",
+            0,
+            "33 18 15 7 8 14 4 10 1 9\n2 1 1 0 1 1\n1 -1\n",
+        ),
+        (
+            "flow",
+            "4 0-1 2-3\n2\n1\n3 0-1 1-3\n202\n2 0-1x",
+            1,
+            "no loose 0\nno loose 0\nno nodes 1\nno wire 2\nno nodes 202\nno text 5\n",
+        ),
+        (
+            "flow",
+            "18 0-1 1-2 2-3 3-4 4-5 5-6 6-7 7-8 8-9 9-10 10-11 11-12 12-13 13-14 14-15 15-16 16-17",
+            0,
+            "1 1 1 1 1 1 1 1 1 1 1 1 1 1 1 1 1 1\n",
+        ),
+    ] {
+        let command = words(&rt, command)?;
+        let mut source = MemSource::new(input.as_bytes(), 90, &[]);
+        let mut room = [0; 120];
+        let mut out = MemSink::new(&mut room, &[]);
+        let mut no_room = [];
+        let mut err = MemSink::new(&mut no_room, &[]);
+        let got = run(rt.alloc(), &command, &mut source, &mut out, &mut err);
+        assert_eq!(rt; out.written(), output.as_bytes(), "{input}");
+        assert_eq!(rt; got, status, "{input}");
+    }
+    Ok(())
+}
+
+#[test]
+fn a_word_of_two_hundred_moves(rt: HostRuntime) -> Result<(), Fail> {
+    let word = words(&rt, "word")?;
+    let mut input = ArrayVec::<u8, 9000>::new();
+    let mut answer = ArrayVec::<u8, 9000>::new();
+    for i in 0..200 {
+        let _ = input.try_extend_from_slice(b"[1]");
+        let _ = answer.try_extend_from_slice(if i == 0 { b"1" } else { b".1" });
+    }
+    let _ = answer.try_extend_from_slice(b"\n");
+    let mut source = MemSource::new(&input, 9_000, &[]);
+    let mut room = [0; 400];
+    let mut out = MemSink::new(&mut room, &[]);
+    let mut no_room = [];
+    let mut err = MemSink::new(&mut no_room, &[]);
+    let status = run(rt.alloc(), &word, &mut source, &mut out, &mut err);
+    assert_eq!(rt; out.written(), answer.as_slice());
+    assert_eq!(rt; status, 0);
+    Ok(())
+}
+
+#[test]
 fn faults_end_the_run(rt: HostRuntime) -> Result<(), Fail> {
     let check = words(&rt, "check")?;
     let no_calls: &[u64] = &[];
@@ -246,27 +312,71 @@ fn faults_end_the_run(rt: HostRuntime) -> Result<(), Fail> {
     Ok(())
 }
 
+const USAGE: &str = "usage: bouwkamp COMMAND [--NAME VALUE]...\n";
+
+const HELP: &str = "usage: bouwkamp COMMAND [--NAME VALUE]...\n\
+    check: test each code\n\
+    canon: canonical code of each code\n\
+    images: the eight images of each code\n\
+    net: Smith diagram of each code\n\
+    flow: currents of each network\n\
+    word: word of each code\n\
+    solve: code of each word\n\
+    draw: drawing of each code\n\
+    list --order N [--class CLASS] [--from WORD] [--limit K]: catalogue of an order\n\
+    trial --seed S --count C: trial codes\n\
+    dual: dual diagram of each code\n\
+    help: this text\n";
+
+// Words that ask nothing, and `help`: a text on errors, of which a failed write keeps a part, and no read.
 #[test]
-fn other_words_give_the_usage_line(rt: HostRuntime) -> Result<(), Fail> {
-    let check = String::from_str(rt.alloc(), "check")?;
-    let more = String::from_str(rt.alloc(), "--")?;
-    let none = Vec::new(rt.alloc());
-    for asked in [
-        &none,
-        &words(&rt, "checks")?,
-        &vec![in rt.alloc(); check, more]?,
+fn texts_on_errors(rt: HostRuntime) -> Result<(), Fail> {
+    let no_pairs: &[(u64, usize)] = &[];
+    for (line, writes, status, text) in [
+        ("", no_pairs, 2, USAGE),
+        ("checks", no_pairs, 2, USAGE),
+        ("check --", no_pairs, 2, USAGE),
+        ("list", no_pairs, 2, USAGE),
+        ("list --order 1", no_pairs, 2, USAGE),
+        ("list --order 17", no_pairs, 2, USAGE),
+        ("list --order=9", no_pairs, 2, USAGE),
+        ("list --order 9 --order 9", no_pairs, 2, USAGE),
+        ("list --order 9 --from 3", no_pairs, 2, USAGE),
+        (
+            "list --order 9 --from 17uuuuuuuuuuuuuuuu",
+            no_pairs,
+            2,
+            USAGE,
+        ),
+        ("list --order 9 --class compound", no_pairs, 2, USAGE),
+        ("trial --seed 0", no_pairs, 2, USAGE),
+        ("check --", &[(0, 5)], 2, "usage"),
+        ("help", no_pairs, 0, HELP),
+        ("help", &[(0, 6)], 0, "usage:"),
+        ("help me", no_pairs, 2, USAGE),
     ] {
+        let words = words(&rt, line)?;
         let mut source = MemSource::new(b"[1]\n", 1, &[0]);
         let mut no_room = [];
         let mut out = MemSink::new(&mut no_room, &[]);
-        let mut room = [0; 50];
-        let mut err = MemSink::new(&mut room, &[]);
-        assert_eq!(rt; run(rt.alloc(), asked, &mut source, &mut out, &mut err), 2);
-        assert_eq!(rt;
-            err.written(),
-            b"usage: bouwkamp COMMAND [--NAME VALUE]...\n".as_slice()
-        );
+        let mut room = [0; 500];
+        let mut err = MemSink::new(&mut room, writes);
+        let got = run(rt.alloc(), &words, &mut source, &mut out, &mut err);
+        assert_eq!(rt; got, status, "{line}");
+        assert_eq!(rt; err.written(), text.as_bytes(), "{line}");
     }
+    Ok(())
+}
+
+#[test]
+fn no_words(rt: HostRuntime) -> Result<(), Fail> {
+    let mut source = MemSource::new(b"", 1, &[]);
+    let mut no_room = [];
+    let mut out = MemSink::new(&mut no_room, &[]);
+    let mut room = [0; 50];
+    let mut err = MemSink::new(&mut room, &[]);
+    assert_eq!(rt; run(rt.alloc(), &[], &mut source, &mut out, &mut err), 2);
+    assert_eq!(rt; err.written(), USAGE.as_bytes());
     Ok(())
 }
 

@@ -1,11 +1,12 @@
-use Rattle.std.specs.Prelude.{List, length, take, ℕ, ◌+◌, ◌≤◌}
+use Rattle.std.specs.Prelude.{List, false, length, take, true, ℕ, ◌+◌, ◌≡◌, ◌≤◌}
 use Rattle.std.proofs.Common.{ap, arith, subst, sym, ◌∙◌}
 use Rattle.std.proofs.lemmas.List.{take_all}
-use Rattle.bk_text.specs.Gathered.{Gathered, gathered_after, line_gathered, with_ended}
-use Rattle.bk_text.specs.Reader.{last_side, next_place}
+use Rattle.bk_text.specs.Gathered.{Gathered, gathered_after, line_gathered}
+use Rattle.bk_text.specs.Reader.{next_place}
+use Rattle.bk_text.specs.CodeLine.{IsLine}
 use Rattle.bk_text.specs.declared.reader.Place.{Place}
 use Rattle.bk_text.proofs.LineRange.{fault_is, range_is, read_is}
-use Rattle.bk_text.proofs.Progress.{Progress, group_fits, line_found, many_found, no_ending, no_next, one_further, side_fits}
+use Rattle.bk_text.proofs.Progress.{Progress, group_fits, last_fits, line_found, many_found, no_ending, no_next, one_further, side_fits}
 use Rattle.bk_text.proofs.read_line.Goals as goal
 
 pub returns-in_default-clause-fault : goal.returns-in_default-clause-fault
@@ -34,18 +35,24 @@ returns-in-None-clause-fault c =
     no_ending c.args.line.now c.loop-at.place c.loop-at.gatherer (whole c.args.line.now c.loop-at.at c.loop-at.place c.loop-at.gatherer (omega arith) c.loop-at.invariant)
     (sym c.ending.ensures ∙ c.in-None.is)
 
+pub take_last-requires : goal.take_last-requires
+take_last-requires c = last_fits c.args.line.now c.loop-at.place c.loop-at.gatherer (whole c.args.line.now c.loop-at.at c.loop-at.place c.loop-at.gatherer (omega arith) c.loop-at.invariant)
+
 pub returns-in-Some-ending-clause-fault : goal.returns-in-Some-ending-clause-fault
 returns-in-Some-ending-clause-fault c =
-    fault_is c.finish.result (with_ended (last_side c.loop-at.place) c.loop-at.gatherer).many c.args.line.now c.finish.ensures.many c.finish.ensures.full
+    fault_is c.finish.result c.take_last.new.self.many c.args.line.now c.finish.ensures.many c.finish.ensures.full
     (λ many. many_found c.args.line.now c.loop-at.place c.loop-at.gatherer c.in-Some-ending.ending
-    (whole c.args.line.now c.loop-at.at c.loop-at.place c.loop-at.gatherer (omega arith) c.loop-at.invariant) c.finish.ensures.was (sym c.ending.ensures ∙ c.in-Some-ending.is) many)
+    (whole c.args.line.now c.loop-at.at c.loop-at.place c.loop-at.gatherer (omega arith) c.loop-at.invariant) c.take_last.ensures.was (sym c.ending.ensures ∙ c.in-Some-ending.is)
+    (subst (λ (g : Gathered). g.many ≡ true) c.take_last.ensures.after many))
 
 pub returns-in-Some-ending-clause-read : goal.returns-in-Some-ending-clause-read
 returns-in-Some-ending-clause-read c =
-    read_is c.finish.result (line_gathered c.in-Some-ending.ending (with_ended (last_side c.loop-at.place) c.loop-at.gatherer))
-    (with_ended (last_side c.loop-at.place) c.loop-at.gatherer).many c.args.line.now c.finish.ensures.few c.finish.ensures.line
-    (λ few. line_found c.args.line.now c.loop-at.place c.loop-at.gatherer c.in-Some-ending.ending
-    (whole c.args.line.now c.loop-at.at c.loop-at.place c.loop-at.gatherer (omega arith) c.loop-at.invariant) c.finish.ensures.was (sym c.ending.ensures ∙ c.in-Some-ending.is) few)
+    read_is c.finish.result (line_gathered c.in-Some-ending.ending c.take_last.new.self)
+    c.take_last.new.self.many c.args.line.now c.finish.ensures.few c.finish.ensures.line
+    (λ few. subst (λ (g : Gathered). IsLine (line_gathered c.in-Some-ending.ending g) c.args.line.now) (sym c.take_last.ensures.after)
+    (line_found c.args.line.now c.loop-at.place c.loop-at.gatherer c.in-Some-ending.ending
+    (whole c.args.line.now c.loop-at.at c.loop-at.place c.loop-at.gatherer (omega arith) c.loop-at.invariant) c.take_last.ensures.was (sym c.ending.ensures ∙ c.in-Some-ending.is)
+    (subst (λ (g : Gathered). g.many ≡ false) c.take_last.ensures.after few)))
 
 pub returns-in-Some-ending-clause-range : goal.returns-in-Some-ending-clause-range
 returns-in-Some-ending-clause-range c = range_is c.finish.result c.args.line.now (returns-in-Some-ending-clause-read c) c.finish.ensures.fits

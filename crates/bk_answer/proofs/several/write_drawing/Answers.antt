@@ -3,9 +3,9 @@ use Rattle.std.proofs.lemmas.List.FromFn.{get_or-map-range_with_len, length-map-
 use Rattle.std.proofs.lemmas.Result.{err_from_is_err_and}
 use Rattle.bk_tiling.specs.Tiling.{Tiling}
 use Rattle.bk_draw.specs.Drawing.{drawing_row}
-use Rattle.bk_answer.specs.Answer.{drawing_lines}
 use Rattle.bk_answer.proofs.PieceByPiece.{failed_later, written_all, written_more, written_part}
 use Rattle.bk_answer.proofs.several.write_drawing.Goals as goal
+use Rattle.bk_answer.specs.Telling.{drawing_lines}
 
 abbrev row_line : Tiling → ℕ → List ℕ
 row_line t y = drawing_row t y ++ 10 ∷ []

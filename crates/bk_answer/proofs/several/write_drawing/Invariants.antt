@@ -1,7 +1,7 @@
 use Rattle.std.proofs.Common.{◌≡◌}
-use Rattle.bk_answer.specs.Answer.{drawing_lines}
 use Rattle.bk_answer.proofs.PieceByPiece.{AreWritten}
 use Rattle.bk_answer.proofs.several.write_drawing.Given as goal
+use Rattle.bk_answer.specs.Telling.{drawing_lines}
 
 abbrev pub invariant-loop-y : goal.invariant-loop-y
 invariant-loop-y g l =

@@ -5,9 +5,9 @@ use Rattle.bk_sym.specs.Image.{image}
 use Rattle.bk_sym.specs.declared.Turn.{Turn}
 use Rattle.bk_sym.specs.declared.Turn.TheVariants.{Same}
 use Rattle.bk_report.specs.Answers.{tiling_line}
-use Rattle.bk_answer.specs.Answer.{image_lines, turns}
 use Rattle.bk_answer.proofs.PieceByPiece.{failed_later, written_all, written_more, written_part}
 use Rattle.bk_answer.proofs.several.write_images.Goals as goal
+use Rattle.bk_answer.specs.Telling.{image_lines, turns}
 
 pub returns-in_err-write_all-clause-failed : goal.returns-in_err-write_all-clause-failed
 returns-in_err-write_all-clause-failed g c =

@@ -1,4 +1,4 @@
-use Rattle.std.proofs.Common.{ap, arith, length, ◌++◌, ◌<◌, ◌∙◌, ◌≡◌}
+use Rattle.std.proofs.Common.{Err, Ok, ap, arith, length, ◌++◌, ◌<◌, ◌∙◌, ◌≡◌}
 use Rattle.std.proofs.lemmas.List.{length-take-le, take-append-drop}
 use Rattle.bk_profile.proofs.Division.{flat_refused_has_none}
 use Rattle.bk_profile.proofs.FlatTurns.{ends_ok, ends_only, ends_refused, group_good, group_room, misfit_turn, next_turn, none_left, numbers, rest_good, too_wide}
@@ -60,11 +60,14 @@ loop-rest-preserved c =
     let some : 0 < length c.loop-rest.rest.now = omega (arith, c.group_len.ensures.some, c.group_len.ensures.within) in
     next_turn c.args.width c.args.sides.now c.loop-rest.group c.loop-rest.profile c.loop-rest.rest.now c.loop-rest.invariant c.requires.few c.requires.sides c.split_at.result.0.now c.split_at.result.1.now c.gap.result c.gap.ensures.gap next some split long c.lay.new.self c.in_default.ensures.ok
 
-pub returns-clause-ok : goal.returns-clause-ok
-returns-clause-ok c = ends_ok c.args.width c.args.sides.now c.loop-rest.group c.loop-rest.profile c.loop-rest.rest.now c.loop-rest.invariant c.requires.few c.requires.some (none_left c.loop-rest.rest.now c.is_empty.result c.is_empty.ensures c.loop-rest-test.false) c.closed.result c.closed.ensures.even
+pub returns-in-Ok-clause-ok : goal.returns-in-Ok-clause-ok
+returns-in-Ok-clause-ok c = ends_ok c.args.width c.args.sides.now c.loop-rest.group c.loop-rest.profile c.loop-rest.rest.now c.loop-rest.invariant c.requires.few c.requires.some (none_left c.loop-rest.rest.now c.is_empty.result c.is_empty.ensures c.loop-rest-test.false) (Ok c.into_tiling.result) c.into_tiling.ensures
 
-pub returns-clause-refused : goal.returns-clause-refused
-returns-clause-refused c = ends_refused c.args.width c.args.sides.now c.loop-rest.group c.loop-rest.profile c.loop-rest.rest.now c.loop-rest.invariant c.requires.few c.requires.some (none_left c.loop-rest.rest.now c.is_empty.result c.is_empty.ensures c.loop-rest-test.false) c.closed.result c.closed.ensures.uneven
+pub returns-in-Ok-clause-only : goal.returns-in-Ok-clause-only
+returns-in-Ok-clause-only c t has = ends_only c.args.width c.args.sides.now c.loop-rest.group c.loop-rest.profile c.loop-rest.rest.now c.loop-rest.invariant c.requires.few c.requires.some (none_left c.loop-rest.rest.now c.is_empty.result c.is_empty.ensures c.loop-rest-test.false) (Ok c.into_tiling.result) c.into_tiling.ensures tt t has
 
-pub returns-clause-only : goal.returns-clause-only
-returns-clause-only c t has = ends_only c.args.width c.args.sides.now c.loop-rest.group c.loop-rest.profile c.loop-rest.rest.now c.loop-rest.invariant c.requires.few c.requires.some (none_left c.loop-rest.rest.now c.is_empty.result c.is_empty.ensures c.loop-rest-test.false) c.closed.result c.closed.ensures.even c.closed.ensures.uneven t has
+pub returns-in-Err-even_height-clause-refused : goal.returns-in-Err-even_height-clause-refused
+returns-in-Err-even_height-clause-refused c = ends_refused c.args.width c.args.sides.now c.loop-rest.group c.loop-rest.profile c.loop-rest.rest.now c.loop-rest.invariant c.requires.few c.requires.some (none_left c.loop-rest.rest.now c.is_empty.result c.is_empty.ensures c.loop-rest-test.false) (Err c.in-Err-even_height.refusal) c.in-Err-even_height.ensures.uneven
+
+pub returns-in-Err-even_height-clause-only : goal.returns-in-Err-even_height-clause-only
+returns-in-Err-even_height-clause-only c t has = ends_only c.args.width c.args.sides.now c.loop-rest.group c.loop-rest.profile c.loop-rest.rest.now c.loop-rest.invariant c.requires.few c.requires.some (none_left c.loop-rest.rest.now c.is_empty.result c.is_empty.ensures c.loop-rest-test.false) (Err c.in-Err-even_height.refusal) tt c.in-Err-even_height.ensures.uneven t has

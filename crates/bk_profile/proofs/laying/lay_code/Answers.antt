@@ -1,4 +1,4 @@
-use Rattle.std.proofs.Common.{arith, ◌+◌, ◌≡◌}
+use Rattle.std.proofs.Common.{Err, Ok, arith, ◌+◌, ◌≡◌}
 use Rattle.bk_profile.proofs.CodeLaid.{width_bounds}
 use Rattle.bk_profile.proofs.Turns.{ends_ok, ends_only, first_read, misfit_turn, next_turn, read_room, refused_has_none}
 use Rattle.bk_profile.specs.Refused.{Misfits, first_sum}
@@ -31,8 +31,11 @@ returns-in-Err-clause-only c t has =
 pub loop-g-preserved : goal.loop-g-preserved
 loop-g-preserved c = next_turn c.args.code.now c.loop-g.g c.group-in-loop-g.result.now c.loop-g.profile c.lay.new.self c.loop-g.invariant (omega (arith, c.loop-g-test.true, c.groups-count.ensures.value)) c.group-in-loop-g.ensures c.in_default.ensures.ok
 
-pub returns-clause-ok : goal.returns-clause-ok
-returns-clause-ok c = ends_ok c.args.code.now c.loop-g.g c.loop-g.profile c.groups-count.ensures.kept c.requires c.loop-g.invariant (omega (arith, c.loop-g-test.false, c.groups-count.ensures.value)) c.closed.result c.closed.ensures.even
+pub returns-in-Ok-clause-ok : goal.returns-in-Ok-clause-ok
+returns-in-Ok-clause-ok c = ends_ok c.args.code.now c.loop-g.g c.loop-g.profile c.groups-count.ensures.kept c.requires c.loop-g.invariant (omega (arith, c.loop-g-test.false, c.groups-count.ensures.value)) (Ok c.into_tiling.result) c.into_tiling.ensures
 
-pub returns-clause-only : goal.returns-clause-only
-returns-clause-only c t has = ends_only c.args.code.now c.loop-g.g c.loop-g.profile c.groups-count.ensures.kept c.requires c.loop-g.invariant (omega (arith, c.loop-g-test.false, c.groups-count.ensures.value)) c.closed.result c.closed.ensures.even c.closed.ensures.uneven t has
+pub returns-in-Ok-clause-only : goal.returns-in-Ok-clause-only
+returns-in-Ok-clause-only c t has = ends_only c.args.code.now c.loop-g.g c.loop-g.profile c.groups-count.ensures.kept c.requires c.loop-g.invariant (omega (arith, c.loop-g-test.false, c.groups-count.ensures.value)) (Ok c.into_tiling.result) c.into_tiling.ensures tt t has
+
+pub returns-in-Err-even_height-clause-only : goal.returns-in-Err-even_height-clause-only
+returns-in-Err-even_height-clause-only c t has = ends_only c.args.code.now c.loop-g.g c.loop-g.profile c.groups-count.ensures.kept c.requires c.loop-g.invariant (omega (arith, c.loop-g-test.false, c.groups-count.ensures.value)) (Err c.in-Err-even_height.refusal) tt c.in-Err-even_height.ensures.uneven t has

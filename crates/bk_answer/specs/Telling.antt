@@ -1,0 +1,63 @@
+-- What a command tells of a tiling.
+use Rattle.std.specs.List.{range_with_len}
+use Rattle.std.specs.Prelude.{Bool, List, [], false, map, ℕ, ◌+◌, ◌++◌, ◌<◌, ◌∷◌, ◌≡◌, ◌≤◌}
+use Rattle.bk_tiling.specs.Tiling.{Tiling, order}
+use Rattle.bk_sym.specs.Canonical.{IsCanonicalOf}
+use Rattle.bk_sym.specs.Image.{image}
+use Rattle.bk_sym.specs.declared.Turn.{Turn}
+use Rattle.bk_sym.specs.declared.Turn.TheVariants.{FlipX, FlipY, Half, Same, Swap, SwapFlipX, SwapFlipY, SwapHalf}
+use Rattle.bk_draw.specs.Drawing.{drawing_row}
+use Rattle.bk_draw.specs.declared.TheConstants.{LARGEST_DRAWN}
+use Rattle.bk_word.specs.Word.{Word as Moves}
+use Rattle.bk_word.specs.declared.TheConstants.{INLINE_ORDER}
+use Rattle.bk_lay.specs.TilingWord.{IsWordOf}
+use Rattle.bk_report.specs.Answers.{IsCheckLine, dual_line, net_line, tiling_line}
+use Rattle.bk_report.specs.Listings.{word_line}
+use Rattle.bk_answer.specs.declared.command.CodeCommand.{CodeCommand}
+use Rattle.bk_answer.specs.declared.command.CodeCommand.TheVariants.{Canon, Check, Draw, Dual, Images, Net, Word}
+
+-- all turns, in the order in which images are given
+abbrev pub turns : List Turn
+turns = Same ∷ FlipX ∷ FlipY ∷ Half ∷ Swap ∷ SwapFlipX ∷ SwapFlipY ∷ SwapHalf ∷ []
+
+-- the lines of the eight images of a tiling
+abbrev pub image_lines : Tiling → List (List ℕ)
+image_lines t = map (λ turn. tiling_line (image turn t)) turns
+
+-- the rows of the drawing of a tiling, from top to bottom
+abbrev pub drawing_lines : Tiling → List (List ℕ)
+drawing_lines t = map (λ y. drawing_row t y ++ 10 ∷ []) (range_with_len 0 (t.height + 1))
+
+-- what is told of a tiling, as pieces that are written one after another
+abbrev pub IsAnswerTo : CodeCommand → Tiling → List (List ℕ) → Type 0
+IsAnswerTo Check t pieces = (line : List ℕ) × IsCheckLine t line × (pieces ≡ line ∷ [])
+IsAnswerTo Canon t pieces = (c : Tiling) × IsCanonicalOf t c × (pieces ≡ tiling_line c ∷ [])
+IsAnswerTo Images t pieces = pieces ≡ image_lines t
+IsAnswerTo Net t pieces = pieces ≡ net_line t ∷ []
+IsAnswerTo Dual t pieces = pieces ≡ dual_line t ∷ []
+IsAnswerTo Word t pieces = (w : Moves) × IsWordOf t w × (pieces ≡ word_line w ∷ [])
+IsAnswerTo Draw t pieces = pieces ≡ drawing_lines t
+
+-- these pieces are told, and they are no refusal
+pub data Tells (command : CodeCommand) (t : Tiling) : List (List ℕ) → Bool → Type 0 where
+  tells : (pieces : List (List ℕ)) → IsAnswerTo command t pieces → Tells command t pieces false
+
+-- the tilings of which a command tells: all, but a drawing is at most 400 wide and 400 high
+abbrev pub Allows : CodeCommand → Tiling → Type 0
+Allows Check t = Unit {0}
+Allows Canon t = Unit {0}
+Allows Images t = Unit {0}
+Allows Net t = Unit {0}
+Allows Dual t = Unit {0}
+Allows Word t = Unit {0}
+Allows Draw t = (t.width ≤ LARGEST_DRAWN) × (t.height ≤ LARGEST_DRAWN)
+
+-- the tilings at which memory may be wanting: none, but a word of more than 16 squares takes memory
+abbrev pub WantsMemory : CodeCommand → Tiling → Type 0
+WantsMemory Check t = ⊥
+WantsMemory Canon t = ⊥
+WantsMemory Images t = ⊥
+WantsMemory Net t = ⊥
+WantsMemory Dual t = ⊥
+WantsMemory Word t = INLINE_ORDER < order t
+WantsMemory Draw t = ⊥

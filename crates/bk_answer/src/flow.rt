@@ -1,0 +1,67 @@
+//! The answer to a network line.
+
+ghost use Rattle.std.specs.Prelude.{length, ◌≡◌, ◌≤◌};
+ghost use Rattle.bk_ports.specs.Causes.{HasCause};
+ghost use Rattle.bk_answer.specs.NetAnswer.{AnswersNet, AnswersNetLine, MayWantForNet, NetWants, refused_net};
+ghost use Rattle.bk_answer.specs.Replies.{Replies};
+
+use crate::answer::{LONGEST_LINE, refuse};
+use crate::command::accepted;
+use arrayvec::ArrayVec;
+use bk_flow::{FlowFault, solve};
+use bk_lines::Outcome;
+use bk_net::{Net, NetFault, NetLine, read_net};
+use bk_ports::{Failed, Sink};
+use bk_report::{Refused, write_flow};
+use std::alloc::Global;
+
+// Answers a network line that isn't too long.
+pub(crate) fn answer_net_line<O: Sink>(
+    alloc: Global,
+    line: &[u8],
+    buffer: &mut ArrayVec<u8, 9000>,
+    out: &mut O,
+) -> Result<Outcome, Failed>
+    requires { length line.now ≤ LONGEST_LINE }
+    ensures reply { Replies (AnswersNetLine line.now) (MayWantForNet line.now) (O.written out.old) (O.written out.new) result }
+    ensures cause { HasCause (O.faults out.old) (O.faults out.new) result }
+{
+    match read_net(line) {
+        Ok(NetLine::Skip) => Ok(Outcome::Accepted),
+        Ok(NetLine::Item { net }) => answer_net(alloc, &net, buffer, out),
+        Err(fault) => refuse(refused_net(&fault), buffer, out),
+    }
+}
+
+// Answers a net by its flow.
+fn answer_net<O: Sink>(
+    alloc: Global,
+    net: &Net,
+    buffer: &mut ArrayVec<u8, 9000>,
+    out: &mut O,
+) -> Result<Outcome, Failed>
+    ensures reply { Replies (AnswersNet net.now) (NetWants net.now) (O.written out.old) (O.written out.new) result }
+    ensures cause { HasCause (O.faults out.old) (O.faults out.new) result }
+{
+    match solve(alloc, net) {
+        Ok(flow) => {
+            write_flow(&flow, buffer);
+            accepted(out.write_all(buffer.as_slice()))
+        }
+        Err(FlowFault::Loose { node }) => refuse(Refused::Loose { node }, buffer, out),
+        Err(FlowFault::Wide) => refuse(Refused::Wide, buffer, out),
+        Err(FlowFault::NoMemory) => Ok(Outcome::NoMemory),
+    }
+}
+
+// What is answered to bytes that give no net.
+fn refused_net(fault: &NetFault) -> Refused
+    ensures { result ≡ refused_net fault.now }
+{
+    match *fault {
+        NetFault::Text { at } => Refused::Text { at },
+        NetFault::Many => Refused::Many,
+        NetFault::Nodes { count } => Refused::Nodes { count },
+        NetFault::Wire { place } => Refused::Wire { place },
+    }
+}

@@ -1,0 +1,198 @@
+-- A rectangle that grows stays tiled.
+use Rattle.std.specs.List.{AllByRecursion}
+use Rattle.std.proofs.Common.{Bool, List, [], arith, cond, false, inl, inr, length, map, nat_le, refl, subst, suc, sym, true, zero, zero-add, ℕ, ◌%◌, ◌+◌, ◌<◌, ◌^◌, ◌∷◌, ◌≡◌, ◌≤◌, ◌⊎◌}
+use Rattle.std.specs.Prelude.{IsPermutation}
+use Rattle.std.proofs.lemmas.Bool.{le-leb}
+use Rattle.std.proofs.lemmas.List.Elements.{All-from_recursion}
+use Rattle.std.proofs.lemmas.Bool.Decides.{nat_tests}
+use Rattle.bk_tiling.proofs.Cells.{all_from, in_all}
+use Rattle.bk_tiling.proofs.ListLaws.{length_append, length_map}
+use Rattle.bk_tiling.proofs.OneRefusal.{kept_from, tiles_apart, tiles_cells}
+use Rattle.bk_tiling.proofs.Refusing.{IsSortedByPlace, sorted_in_order}
+use Rattle.bk_tiling.proofs.Sizes.{most_height, most_width}
+use Rattle.bk_tiling.specs.CodeOrder.{in_code_order}
+use Rattle.bk_tiling.specs.Kept.{IsKept, IsSide}
+use Rattle.bk_tiling.specs.Refusal.{sized}
+use Rattle.bk_tiling.specs.Scale.{moved_square}
+use Rattle.bk_tiling.specs.Tiling.{IsOneOf, IsWithin, Rectangle, Tiles, Tiling}
+use Rattle.bk_tiling.specs.declared.Square.{Square}
+use Rattle.bk_gen.specs.Attaching.{attached, goes_up_or_down, is_set, next_side, with_above, with_below, with_left, with_next, with_right}
+use Rattle.bk_gen.specs.Growing.{IsGrowing}
+use Rattle.bk_gen.proofs.Joining.{HasCell, IsPart, Splits, all_joined, tiles_alone, tiles_joined}
+use Rattle.bk_gen.proofs.MovedSquares.{all_moved, moved_rectangle, tiles_moved}
+
+-- with its squares in order it is what a `Tiling` keeps
+pub kept_in_order : (t : Tiling) → IsGrowing t → IsKept (record t { squares = in_code_order t.squares })
+kept_in_order t g = kept_from t.width t.height t.squares (in_code_order t.squares) g.width_fits g.height_fits g.accepted refl
+
+-- its squares sorted by place stand in the order of a code
+pub growing_sorted : (t : Tiling) → IsGrowing t → (sorted : List Square) → IsPermutation t.squares sorted → IsSortedByPlace sorted → sorted ≡ in_code_order t.squares
+growing_sorted t g sorted permuted by_place =
+    sorted_in_order t.squares sorted (All-from_recursion (λ (q : Square). IsSide q.s) t.squares (g.accepted).sides) (tiles_apart t.width t.height t.squares (g.accepted).tiles) permuted by_place
+
+pub growing_width : (t : Tiling) → IsGrowing t → t.width ≤ 199999999999999800
+growing_width t g = most_width (record t { squares = in_code_order t.squares }) (kept_in_order t g)
+
+pub growing_height : (t : Tiling) → IsGrowing t → t.height ≤ 199999999999999800
+growing_height t g = most_height (record t { squares = in_code_order t.squares }) (kept_in_order t g)
+
+abbrev square_at : ℕ → ℕ → ℕ → Square
+square_at x y s = record { x = x; y = y; s = s }
+
+two : (a b : ℕ) → (a < b) ⊎ (b ≤ a)
+two a b = grind arith
+
+-- two rectangles side by side, the left one of width a
+abbrev beside : ℕ → ℕ → ℕ → Rectangle
+beside x a h = record { x = x; y = 0; width = a; height = h }
+
+-- two rectangles one above the other, the upper one of height a
+abbrev stacked : ℕ → ℕ → ℕ → Rectangle
+stacked y w a = record { x = 0; y = y; width = w; height = a }
+
+module _ (n a b h : ℕ) (sum : n ≡ a + b) where
+  left_part : IsPart (sized n h) (beside 0 a h)
+  left_part = record { left = omega arith; right = omega arith; top = omega arith; bottom = omega arith }
+
+  right_part : IsPart (sized n h) (beside a b h)
+  right_part = record { left = omega arith; right = omega arith; top = omega arith; bottom = omega arith }
+
+  split_beside : Splits (sized n h) (beside 0 a h) (beside a b h)
+  split_beside i j has = cases (two i a)
+    where
+      cases : (i < a) ⊎ (a ≤ i) → (HasCell (beside 0 a h) i j × (HasCell (beside a b h) i j → ⊥)) ⊎ ((HasCell (beside 0 a h) i j → ⊥) × HasCell (beside a b h) i j)
+      cases (inl l) = inl (record { left = omega arith; right = omega arith; top = omega arith; bottom = omega (arith, has.bottom) }, λ no. omega (arith, no.left))
+      cases (inr m) = inr (λ no. omega (arith, no.right), record { left = m; right = omega (arith, has.right); top = omega arith; bottom = omega (arith, has.bottom) })
+
+  upper_part : IsPart (sized h n) (stacked 0 h a)
+  upper_part = record { left = omega arith; right = omega arith; top = omega arith; bottom = omega arith }
+
+  lower_part : IsPart (sized h n) (stacked a h b)
+  lower_part = record { left = omega arith; right = omega arith; top = omega arith; bottom = omega arith }
+
+  split_stacked : Splits (sized h n) (stacked 0 h a) (stacked a h b)
+  split_stacked i j has = cases (two j a)
+    where
+      cases : (j < a) ⊎ (a ≤ j) → (HasCell (stacked 0 h a) i j × (HasCell (stacked a h b) i j → ⊥)) ⊎ ((HasCell (stacked 0 h a) i j → ⊥) × HasCell (stacked a h b) i j)
+      cases (inl l) = inl (record { left = omega arith; right = omega (arith, has.right); top = omega arith; bottom = omega arith }, λ no. omega (arith, no.top))
+      cases (inr m) = inr (λ no. omega (arith, no.bottom), record { left = omega arith; right = omega (arith, has.right); top = m; bottom = omega (arith, has.bottom) })
+
+swapped : (r a b : Rectangle) → Splits r a b → Splits r b a
+swapped r a b splits i j has = cases (splits i j has)
+  where
+    cases : (HasCell a i j × (HasCell b i j → ⊥)) ⊎ ((HasCell a i j → ⊥) × HasCell b i j) → (HasCell b i j × (HasCell a i j → ⊥)) ⊎ ((HasCell b i j → ⊥) × HasCell a i j)
+    cases (inl (in_a, not_b)) = inr (not_b, in_a)
+    cases (inr (not_a, in_b)) = inl (in_b, not_a)
+
+module _ (t : Tiling) (g : IsGrowing t) (few : length t.squares < 200) where
+  some_width : 0 < t.width
+  some_width = (tiles_cells t.width t.height t.squares (g.accepted).tiles).0
+
+  some_height : 0 < t.height
+  some_height = (tiles_cells t.width t.height t.squares (g.accepted).tiles).1
+
+  pub grows_right : t.height ≤ 999_999_999_999_999 → IsGrowing (with_right t)
+  grows_right side = record {
+    accepted = record {
+      few = omega (arith, length_append t.squares (square_at t.width 0 t.height ∷ []));
+      sides = all_joined (λ q. IsSide q.s) t.squares (square_at t.width 0 t.height ∷ []) (g.accepted).sides ((some_height, side), tt);
+      tiles = tiles_joined (sized (t.width + t.height) t.height) (beside 0 t.width t.height) (beside t.width t.height t.height) t.squares (square_at t.width 0 t.height ∷ [])
+          (left_part (t.width + t.height) t.width t.height t.height refl) (right_part (t.width + t.height) t.width t.height t.height refl) (split_beside (t.width + t.height) t.width t.height t.height refl) (g.accepted).tiles (tiles_alone (square_at t.width 0 t.height) some_height);
+    };
+    width_fits = omega (arith, growing_width t g);
+    height_fits = g.height_fits;
+  }
+
+  pub grows_below : t.width ≤ 999_999_999_999_999 → IsGrowing (with_below t)
+  grows_below side = record {
+    accepted = record {
+      few = omega (arith, length_append t.squares (square_at 0 t.height t.width ∷ []));
+      sides = all_joined (λ q. IsSide q.s) t.squares (square_at 0 t.height t.width ∷ []) (g.accepted).sides ((some_width, side), tt);
+      tiles = tiles_joined (sized t.width (t.height + t.width)) (stacked 0 t.width t.height) (stacked t.height t.width t.width) t.squares (square_at 0 t.height t.width ∷ [])
+          (upper_part (t.height + t.width) t.height t.width t.width refl) (lower_part (t.height + t.width) t.height t.width t.width refl) (split_stacked (t.height + t.width) t.height t.width t.width refl) (g.accepted).tiles (tiles_alone (square_at 0 t.height t.width) some_width);
+    };
+    width_fits = g.width_fits;
+    height_fits = omega (arith, growing_height t g);
+  }
+
+  sides_moved : (right down : ℕ) → AllByRecursion (λ q. IsSide q.s) (map (moved_square right down) t.squares)
+  sides_moved right down = all_moved (λ q. IsSide q.s) (λ q. IsSide q.s) right down (λ q is. is) t.squares (g.accepted).sides
+
+  moved_right : moved_rectangle t.height 0 (sized t.width t.height) ≡ beside t.height t.width t.height
+  moved_right = λ z. record { x = zero-add t.height z; y = 0; width = t.width; height = t.height }
+
+  moved_down : moved_rectangle 0 t.width (sized t.width t.height) ≡ stacked t.width t.width t.height
+  moved_down = λ z. record { x = 0; y = zero-add t.width z; width = t.width; height = t.height }
+
+  pub grows_left : t.height ≤ 999_999_999_999_999 → IsGrowing (with_left t)
+  grows_left side = record {
+    accepted = record {
+      few = omega (arith, length_append (map (moved_square t.height 0) t.squares) (square_at 0 0 t.height ∷ []), length_map (moved_square t.height 0) t.squares);
+      sides = all_joined (λ q. IsSide q.s) (map (moved_square t.height 0) t.squares) (square_at 0 0 t.height ∷ []) (sides_moved t.height 0) ((some_height, side), tt);
+      tiles = tiles_joined (sized (t.width + t.height) t.height) (beside t.height t.width t.height) (beside 0 t.height t.height) (map (moved_square t.height 0) t.squares) (square_at 0 0 t.height ∷ [])
+          (right_part (t.width + t.height) t.height t.width t.height (omega arith)) (left_part (t.width + t.height) t.height t.width t.height (omega arith))
+          (swapped (sized (t.width + t.height) t.height) (beside 0 t.height t.height) (beside t.height t.width t.height) (split_beside (t.width + t.height) t.height t.width t.height (omega arith)))
+          (subst (λ (r : Rectangle). Tiles r (map (moved_square t.height 0) t.squares)) moved_right (tiles_moved t.height 0 (sized t.width t.height) t.squares (g.accepted).tiles))
+          (tiles_alone (square_at 0 0 t.height) some_height);
+    };
+    width_fits = omega (arith, growing_width t g);
+    height_fits = g.height_fits;
+  }
+
+  pub grows_above : t.width ≤ 999_999_999_999_999 → IsGrowing (with_above t)
+  grows_above side = record {
+    accepted = record {
+      few = omega (arith, length_append (map (moved_square 0 t.width) t.squares) (square_at 0 0 t.width ∷ []), length_map (moved_square 0 t.width) t.squares);
+      sides = all_joined (λ q. IsSide q.s) (map (moved_square 0 t.width) t.squares) (square_at 0 0 t.width ∷ []) (sides_moved 0 t.width) ((some_width, side), tt);
+      tiles = tiles_joined (sized t.width (t.height + t.width)) (stacked t.width t.width t.height) (stacked 0 t.width t.width) (map (moved_square 0 t.width) t.squares) (square_at 0 0 t.width ∷ [])
+          (lower_part (t.height + t.width) t.width t.height t.width (omega arith)) (upper_part (t.height + t.width) t.width t.height t.width (omega arith))
+          (swapped (sized t.width (t.height + t.width)) (stacked 0 t.width t.width) (stacked t.width t.width t.height) (split_stacked (t.height + t.width) t.width t.height t.width (omega arith)))
+          (subst (λ (r : Rectangle). Tiles r (map (moved_square 0 t.width) t.squares)) moved_down (tiles_moved 0 t.width (sized t.width t.height) t.squares (g.accepted).tiles))
+          (tiles_alone (square_at 0 0 t.width) some_width);
+    };
+    width_fits = g.width_fits;
+    height_fits = omega (arith, growing_height t g);
+  }
+
+-- squares that are moved keep within the types of the code
+pub fit_moved : (right down : ℕ) (t : Tiling) → IsGrowing t → right ≤ 999_999_999_999_999 → down ≤ 999_999_999_999_999
+    → AllByRecursion (λ q. (q.x + right < 2 ^ 64) × (q.y + down < 2 ^ 64)) t.squares
+fit_moved right down t g few_right few_down = all_from (λ q. (q.x + right < 2 ^ 64) × (q.y + down < 2 ^ 64)) t.squares fits
+  where
+    fits : (q : Square) → IsOneOf q t.squares → (q.x + right < 2 ^ 64) × (q.y + down < 2 ^ 64)
+    fits q h =
+        let within = in_all (IsWithin (sized t.width t.height)) t.squares ((g.accepted).tiles).within q h in
+        (omega (arith, within.right, growing_width t g), omega (arith, within.bottom, growing_height t g))
+
+-- by the bits of a number
+pub grows_next : (v i : ℕ) (t : Tiling) → IsGrowing t → length t.squares < 200 → next_side v i t ≤ 999_999_999_999_999 → IsGrowing (with_next v i t)
+grows_next v i t g few side = cases (goes_up_or_down v i) (is_set v (i % 64)) side
+  where
+    cases : (b c : Bool) → cond b t.width t.height ≤ 999_999_999_999_999 → IsGrowing (cond b (cond c (with_above t) (with_below t)) (cond c (with_left t) (with_right t)))
+    cases true true side = grows_above t g few side
+    cases true false side = grows_below t g few side
+    cases false true side = grows_left t g few side
+    cases false false side = grows_right t g few side
+
+-- one square more
+pub next_length : (v i : ℕ) (t : Tiling) → length (with_next v i t).squares ≡ length t.squares + 1
+next_length v i t = cases (goes_up_or_down v i) (is_set v (i % 64))
+  where
+    cases : (b c : Bool) → length (cond b (cond c (with_above t) (with_below t)) (cond c (with_left t) (with_right t))).squares ≡ length t.squares + 1
+    cases true true = omega (arith, length_append (map (moved_square 0 t.width) t.squares) (square_at 0 0 t.width ∷ []), length_map (moved_square 0 t.width) t.squares)
+    cases true false = omega (arith, length_append t.squares (square_at 0 t.height t.width ∷ []))
+    cases false true = omega (arith, length_append (map (moved_square t.height 0) t.squares) (square_at 0 0 t.height ∷ []), length_map (moved_square t.height 0) t.squares)
+    cases false false = omega (arith, length_append t.squares (square_at t.width 0 t.height ∷ []))
+
+pub no_leb : (a b : ℕ) → b < a → nat_le a b ≡ false
+no_leb a b less = grind (arith, nat_tests)
+
+pub grows_on : (n v i : ℕ) (t : Tiling) → IsGrowing t → length t.squares + n ≤ 200 → IsGrowing (attached n v i t)
+grows_on zero v i t g few = g
+grows_on (suc n) v i t g few = cases (two 999_999_999_999_999 (next_side v i t))
+    (λ side. grows_on n v (i + 1) (with_next v i t) (grows_next v i t g (omega arith) side) (omega (arith, next_length v i t)))
+  where
+    cases : (999_999_999_999_999 < next_side v i t) ⊎ (next_side v i t ≤ 999_999_999_999_999) → (next_side v i t ≤ 999_999_999_999_999 → IsGrowing (attached n v (i + 1) (with_next v i t)))
+        → IsGrowing (attached (suc n) v i t)
+    cases (inl more) rest = subst (λ (b : Bool). IsGrowing (cond b (attached n v (i + 1) (with_next v i t)) t)) (sym (no_leb (next_side v i t) 999_999_999_999_999 more)) g
+    cases (inr side) rest = subst (λ (b : Bool). IsGrowing (cond b (attached n v (i + 1) (with_next v i t)) t)) (sym (le-leb (next_side v i t) 999_999_999_999_999 side)) (rest side)

@@ -1,0 +1,7 @@
+pub mod Joining
+pub mod MovedSquares
+pub mod GrowingLaws
+pub mod TrialExamples
+pub mod SampleLaws
+pub mod UnderWay
+pub mod MovedFront

@@ -1,0 +1,4 @@
+pub mod Attaching
+pub mod Growing
+pub mod TrialCodes
+pub mod TrialLaws

@@ -1,0 +1,8 @@
+-- Trial codes are codes of tilings. A statement alone; it is proved apart.
+use Rattle.std.specs.Prelude.{ℕ}
+use Rattle.bk_tiling.specs.Kept.{IsKept}
+use Rattle.bk_gen.specs.TrialCodes.{mixed, trial_tiling}
+
+-- each trial code is the code of a tiling of at most 200 squares, none too large
+abbrev pub EachSampleHasATiling : Type 0
+EachSampleHasATiling = (seed k : ℕ) → IsKept (trial_tiling (mixed seed k))

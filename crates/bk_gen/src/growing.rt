@@ -1,0 +1,181 @@
+//! A rectangle that grows square by square.
+
+ghost use Rattle.std.specs.List.{AllByRecursion};
+ghost use Rattle.std.specs.Prelude.{length, map, ◌+◌, ◌<◌, ◌^◌, ◌≡◌, ◌≤◌};
+ghost use Rattle.bk_tiling.specs.Scale.{moved_square};
+ghost use Rattle.bk_gen.specs.Attaching.{goes_up_or_down, is_set};
+
+use arrayvec::ArrayVec;
+use bk_tiling::{MOST_SQUARES, Square, Tiling};
+use std::marker::Model;
+
+// A rectangle tiled by squares that stand in any order.
+#[derive(Drop)]
+pub(crate) struct Growing {
+    width: u64,
+    height: u64,
+    squares: ArrayVec<Square, MOST_SQUARES>,
+}
+
+impl Model for Growing {
+    ghost use Rattle.bk_tiling.specs.Tiling.{Tiling as Tiled};
+    ghost use Rattle.bk_gen.specs.Growing.{IsGrowing};
+
+    ghost Value = { Tiled };
+
+    ghost view = { λ g. record { width = g.width; height = g.height; squares = g.squares.items } };
+
+    ghost invariant = { λ g. IsGrowing (record { width = g.width; height = g.height; squares = g.squares.items }) };
+}
+
+impl Growing {
+    ghost use Rattle.bk_tiling.specs.CodeOrder.{in_code_order};
+    ghost use Rattle.bk_tiling.specs.declared.TheConstants.{LONGEST_SIDE};
+    ghost use Rattle.bk_gen.specs.Attaching.{next_side, with_above, with_below, with_left, with_next, with_right};
+    ghost use Rattle.bk_gen.specs.Growing.{IsGrowing};
+
+    // The rectangle tiled by these squares.
+    pub(crate) fn of(width: u64, height: u64, squares: &[Square]) -> Growing
+        requires { IsGrowing (record { width = width; height = height; squares = squares.now }) }
+        ensures { result ≡ record { width = width; height = height; squares = squares.now } }
+    {
+        let mut copy = ArrayVec::new();
+        for q in squares {
+            copy.push(*q);
+        }
+        Growing {
+            width,
+            height,
+            squares: copy,
+        }
+    }
+
+    // How many squares there are.
+    pub(crate) fn order(&self) -> usize
+        ensures value { result ≡ length self.now.squares }
+        ensures growing { IsGrowing self.now }
+    {
+        self.squares.len()
+    }
+
+    // The side of the square that is attached at this turn.
+    pub(crate) fn next_side(&self, v: u64, turn: usize) -> u64
+        ensures { result ≡ next_side v turn self.now }
+    {
+        if goes_up_or_down(v, turn) {
+            self.width
+        } else {
+            self.height
+        }
+    }
+
+    // Attaches the square of this turn.
+    pub(crate) fn attach(&mut self, v: u64, turn: usize)
+        requires few { length self.old.squares < MOST_SQUARES }
+        requires side { next_side v turn self.old ≤ LONGEST_SIDE }
+        ensures { self.new ≡ with_next v turn self.old }
+    {
+        match (goes_up_or_down(v, turn), is_set(v, turn % 64)) {
+            (false, false) => self.attach_right(),
+            (false, true) => self.attach_left(),
+            (true, false) => self.attach_below(),
+            (true, true) => self.attach_above(),
+        }
+    }
+
+    fn attach_right(&mut self)
+        requires few { length self.old.squares < MOST_SQUARES }
+        requires side { self.old.height ≤ LONGEST_SIDE }
+        ensures { self.new ≡ with_right self.old }
+    {
+        self.squares.push(Square {
+            x: self.width,
+            y: 0,
+            s: self.height,
+        });
+        self.width += self.height;
+    }
+
+    fn attach_left(&mut self)
+        requires few { length self.old.squares < MOST_SQUARES }
+        requires side { self.old.height ≤ LONGEST_SIDE }
+        ensures { self.new ≡ with_left self.old }
+    {
+        move_all(self.squares.as_mut_slice(), self.height, 0);
+        self.squares.push(Square {
+            x: 0,
+            y: 0,
+            s: self.height,
+        });
+        self.width += self.height;
+    }
+
+    fn attach_below(&mut self)
+        requires few { length self.old.squares < MOST_SQUARES }
+        requires side { self.old.width ≤ LONGEST_SIDE }
+        ensures { self.new ≡ with_below self.old }
+    {
+        self.squares.push(Square {
+            x: 0,
+            y: self.height,
+            s: self.width,
+        });
+        self.height += self.width;
+    }
+
+    fn attach_above(&mut self)
+        requires few { length self.old.squares < MOST_SQUARES }
+        requires side { self.old.width ≤ LONGEST_SIDE }
+        ensures { self.new ≡ with_above self.old }
+    {
+        move_all(self.squares.as_mut_slice(), 0, self.width);
+        self.squares.push(Square {
+            x: 0,
+            y: 0,
+            s: self.width,
+        });
+        self.height += self.width;
+    }
+
+    // The tiling, with its squares in code order.
+    pub(crate) fn into_tiling(self) -> Tiling
+        ensures { result ≡ record self { squares = in_code_order self.squares } }
+    {
+        let Growing {
+            width,
+            height,
+            mut squares,
+        } = self;
+        squares.sort_unstable_by_key(|q| (q.y, q.x));
+        Tiling::from_known(width, height, squares)
+    }
+}
+
+// Moves squares to the right and down.
+fn move_all(squares: &mut [Square], right: u64, down: u64)
+    requires { AllByRecursion (λ q. (q.x + right < 2 ^ 64) × (q.y + down < 2 ^ 64)) squares.old }
+    ensures { squares.new ≡ map (moved_square right down) squares.old }
+{
+    for q in squares.iter_mut() {
+        *q = Square {
+            x: q.x + right,
+            y: q.y + down,
+            s: q.s,
+        };
+    }
+}
+
+// Whether the next square goes below or above: the number and the turn are odd.
+fn goes_up_or_down(v: u64, turn: usize) -> bool
+    ensures { result ≡ goes_up_or_down v turn }
+{
+    v % 2 == 1 && turn % 2 == 1
+}
+
+// Whether a bit of the number is 1, the lowest being bit 0.
+fn is_set(v: u64, place: usize) -> bool
+    requires { place < 64 }
+    ensures { result ≡ is_set v place }
+{
+    (v >> place) % 2 == 1
+}

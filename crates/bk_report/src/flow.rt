@@ -1,0 +1,45 @@
+//! The text of a flow.
+
+ghost use Rattle.std.specs.Fmt.{signed_decimal};
+ghost use Rattle.std.specs.Prelude.{flat_map, length, ◌+◌, ◌++◌, ◌≡◌, ◌≤◌, ◌∷◌};
+ghost use Rattle.arrayvec.specs.ArrayVec.{array_vec_len};
+ghost use Rattle.bk_report.specs.Answers.{flow_line};
+
+use arrayvec::ArrayVec;
+use bk_flow::Flow;
+use bk_grammar::push_bytes;
+use itoa::Buffer;
+
+/// Clears the buffer and leaves a flow (Kirchhoff), with its line feed: the total and the currents in the order of the
+/// wires, joined by single blanks, each negative one with `-` before it. The text is this project's own.
+pub fn write_flow(flow: &Flow, out: &mut ArrayVec<u8, 9000>)
+    ensures { out.new.items ≡ flow_line flow.now }
+{
+    out.clear();
+    push_whole(flow.total(), out);
+    push_currents(flow.currents(), out);
+    out.push(b'\n');
+}
+
+// Appends currents with a blank before each.
+fn push_currents(currents: &[i128], out: &mut ArrayVec<u8, 9000>)
+    requires few { length currents.now ≤ 200 }
+    requires room { array_vec_len out.old ≤ 40 }
+    ensures text { out.new.items ≡ out.old.items ++ flat_map (λ c. 32 ∷ signed_decimal c) currents.now }
+    ensures short { array_vec_len out.new ≤ array_vec_len out.old + 8200 }
+{
+    for current in currents {
+        out.push(b' ');
+        push_whole(*current, out);
+    }
+}
+
+// Appends a whole number, a negative one with `-` before its digits.
+fn push_whole(number: i128, out: &mut ArrayVec<u8, 9000>)
+    requires { array_vec_len out.old ≤ 8900 }
+    ensures text { out.new.items ≡ out.old.items ++ signed_decimal number }
+    ensures short { length (signed_decimal number) ≤ 40 }
+{
+    let mut buffer = Buffer::new();
+    push_bytes(buffer.format(number).as_bytes(), out);
+}

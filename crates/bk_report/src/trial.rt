@@ -1,0 +1,43 @@
+//! The text of a line about trial codes.
+
+ghost use Rattle.std.specs.Prelude.{decimal, length, ◌+◌, ◌++◌, ◌≡◌, ◌≤◌};
+ghost use Rattle.arrayvec.specs.ArrayVec.{array_vec_len};
+ghost use Rattle.bk_report.specs.Trial.{trial_line};
+
+use arrayvec::ArrayVec;
+use bk_grammar::{push_bytes, push_number};
+
+/// Clears the buffer and leaves a line about `count` trial codes of a seed, with its line feed: how many of them were
+/// accepted, how many were perfect and how many simple (Brooks, Smith, Stone and Tutte 1940), and how many squares they had
+/// together. The text is this project's own.
+pub fn write_trial(
+    seed: u64,
+    count: u32,
+    ok: u64,
+    perfect: u64,
+    simple: u64,
+    squares: u64,
+    out: &mut ArrayVec<u8, 9000>,
+)
+    ensures { out.new.items ≡ trial_line seed count ok perfect simple squares }
+{
+    out.clear();
+    push_named(b"trial seed ", seed, out);
+    push_named(b" count ", u64::from(count), out);
+    push_named(b" ok ", ok, out);
+    push_named(b" perfect ", perfect, out);
+    push_named(b" simple ", simple, out);
+    push_named(b" squares ", squares, out);
+    out.push(b'\n');
+}
+
+// Appends a name and a number.
+fn push_named(name: &[u8], number: u64, out: &mut ArrayVec<u8, 9000>)
+    requires name { length name.now ≤ 20 }
+    requires room { array_vec_len out.old ≤ 8000 }
+    ensures text { out.new.items ≡ (out.old.items ++ name.now) ++ decimal number }
+    ensures short { array_vec_len out.new ≤ array_vec_len out.old + 40 }
+{
+    push_bytes(name, out);
+    push_number(number, out);
+}

@@ -1,0 +1,3 @@
+pub mod SampleRead
+pub mod Counted
+pub mod Tallies

@@ -1,0 +1,3 @@
+pub mod Counting
+pub mod TrialLine
+pub mod TrialLineLaws
