@@ -11,7 +11,8 @@ use Rattle.bk_answer.specs.Refusing.{too_long}
 use Rattle.bk_answer.specs.declared.answer.TheConstants.{LONGEST_LINE}
 use Rattle.bk_answer.specs.declared.command.CodeCommand.{CodeCommand}
 use Rattle.bk_answer.specs.declared.command.Command.{Command}
-use Rattle.bk_answer.specs.declared.command.Command.TheVariants.{Flow, OfCodes}
+use Rattle.bk_answer.specs.declared.command.Command.TheVariants.{Flow, OfCodes, Solve}
+use Rattle.bk_answer.proofs.OneWordAnswer.{long_word_answer}
 use Rattle.bk_answer.proofs.OneNetAnswer.{long_net_answer}
 use Rattle.bk_answer.proofs.OneAnswer.{Cause, CommandCause, at_item, at_long, at_many, at_text, by_line, by_tiling, cause_of, command_cause}
 use Rattle.bk_answer.specs.Answer.{AnswersLine}
@@ -40,6 +41,7 @@ long_answer : (command : Command) (bytes others : List ℕ) (pieces : List (List
     → AnswersLine command bytes pieces refused → AnswersLine command others pieces refused
 long_answer (OfCodes command) = long_code_answer command
 long_answer Flow = long_net_answer
+long_answer Solve = long_word_answer
 
 two : (n : ℕ) → (n ≤ 8193) ⊎ (8193 < n)
 two n = grind arith

@@ -1,5 +1,7 @@
 pub mod TilingsLaid
 pub mod OneNetAnswer
+pub mod OneItem
+pub mod OneWordAnswer
 pub mod OneAnswer
 pub mod KeptFronts
 pub mod Accepting

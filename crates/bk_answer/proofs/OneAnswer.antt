@@ -24,11 +24,12 @@ use Rattle.bk_answer.specs.Refusing.{IsItemRefused, IsLineRefused, IsNotLaid, no
 use Rattle.bk_answer.specs.declared.answer.TheConstants.{LONGEST_LINE}
 use Rattle.bk_answer.specs.declared.command.CodeCommand.{CodeCommand}
 use Rattle.bk_answer.specs.declared.command.CodeCommand.TheVariants.{Canon, Check, Draw, Dual, Images, Net, Word}
-use Rattle.bk_answer.specs.declared.command.Command.TheVariants.{Flow, OfCodes}
+use Rattle.bk_answer.specs.declared.command.Command.TheVariants.{Flow, OfCodes, Solve}
 use Rattle.bk_word.specs.Word.{Word as Moves}
 use Rattle.bk_lay.proofs.Valleys.{a_tiling_has_one_word as one_word}
 use Rattle.bk_report.specs.Listings.{word_line}
 use Rattle.bk_answer.proofs.OneNetAnswer.{one_net_answer}
+use Rattle.bk_answer.proofs.OneWordAnswer.{one_word_answer}
 use Rattle.bk_answer.proofs.TilingsLaid.{code_not_refused, width_is_first_sum}
 use Rattle.bk_answer.specs.CodeAnswer.{AnswersCodeLine, IsRefusedBy, answers, any_command, no_item, refuses, too_large}
 use Rattle.bk_answer.specs.Telling.{Allows, IsAnswerTo}
@@ -215,3 +216,4 @@ one_code_answer command bytes pieces others refused other (answers t _ has _ an)
 pub one_answer : ALineHasOneAnswer
 one_answer (OfCodes command) = one_code_answer command
 one_answer Flow = one_net_answer
+one_answer Solve = one_word_answer

@@ -1,5 +1,5 @@
 -- Steps of answering: from the answer to a tiling to that to its item, and from there to that to its line.
-use Rattle.std.proofs.Common.{Bool, Err, List, Ok, Option, Result, [], false, length, refl, subst, sym, true, ℕ, ◌<◌, ◌∷◌, ◌≡◌}
+use Rattle.std.proofs.Common.{Bool, Err, List, Ok, Option, Result, [], false, length, refl, subst, sym, true, ℕ, ◌+◌, ◌<◌, ◌∷◌, ◌≡◌}
 use Rattle.std.specs.Prelude.{IfErr, IfOk, OnErr}
 use Rattle.std.specs.Io.KnownBytes.{Appends}
 use Rattle.bk_ports.specs.Causes.{AppendsPrefix}
@@ -11,11 +11,12 @@ use Rattle.bk_lines.specs.declared.Outcome.TheVariants as outcomes
 use Rattle.bk_tiling.specs.Tiling.{Tiling}
 use Rattle.bk_report.specs.Refusals.{refusal_line}
 use Rattle.bk_report.specs.declared.refusal.Refused.{Refused}
-use Rattle.bk_report.specs.declared.refusal.Refused.TheVariants.{Long, Size}
+use Rattle.bk_report.specs.declared.refusal.Refused.TheVariants.{Long, Size, Text}
 use Rattle.bk_text.specs.CodeLine.{Line, Skip}
 use Rattle.bk_answer.specs.declared.answer.TheConstants.{LONGEST_LINE}
 use Rattle.bk_answer.specs.declared.command.Command.{Command}
-use Rattle.bk_answer.specs.declared.command.Command.TheVariants.{Flow, OfCodes}
+use Rattle.bk_answer.specs.declared.command.Command.TheVariants.{Flow, OfCodes, Solve}
+use Rattle.bk_answer.specs.WordAnswer.{word_too_long}
 use Rattle.bk_answer.specs.NetAnswer.{net_too_long}
 use Rattle.bk_answer.specs.Answer.{AnswersLine}
 use Rattle.bk_answer.specs.CodeAnswer.{AnswersCodeLine, AnswersItem, AnswersTiling, ItemWants, MayWantForCode, answers, any_command, item_refused, item_told, large_item, large_tiling, no_item, other_size, refuses, skipped, told, too_large}
@@ -45,6 +46,12 @@ pub refusal_replies : (A : List (List ℕ) → Bool → Type 0) (V : Type 0) (r 
     → IfOk result (λ o. (o ≡ outcomes.Refused) × Appends a b (refusal_line r)) → OnErr result (AppendsPrefix a b (refusal_line r)) → Replies A V a b result
 refusal_replies A V r a b (Ok o) h ok err = subst (HasOutcome A V a b) (sym ok.0) (writes_one A true (refusal_line r) a b h ok.1)
 refusal_replies A V r a b (Err f) h ok err = begins_one A true (refusal_line r) a b h err
+
+-- the same of a text that leaves its grammar, where the place is reckoned in two ways
+pub text_replies : (A : List (List ℕ) → Bool → Type 0) (V : Type 0) (n k reckoned : ℕ) (a b : Option (List ℕ)) (result : Result Outcome Failed) → k ≡ reckoned → A (refusal_line (Text (n + k)) ∷ []) true
+    → IfOk result (λ o. (o ≡ outcomes.Refused) × Appends a b (refusal_line (Text (n + reckoned)))) → OnErr result (AppendsPrefix a b (refusal_line (Text (n + reckoned)))) → Replies A V a b result
+text_replies A V n k reckoned a b result e h =
+    refusal_replies A V (Text (n + reckoned)) a b result (subst (λ (m : ℕ). A (refusal_line (Text (n + m)) ∷ []) true) e h)
 
 -- a tiling is answered by what is told of it
 pub tells_tiling : (command : CodeCommand) (size : Option (ℕ × ℕ)) (t : Tiling) (pieces : List (List ℕ)) (refused : Bool) → IsSize size t.width t.height → Allows command t
@@ -98,6 +105,7 @@ line_answer command bytes item pieces refused has (item_told t _ s a h) = answer
 pub long_line : (command : Command) (bytes : List ℕ) → LONGEST_LINE < length bytes → AnswersLine command bytes (refusal_line Long ∷ []) true
 long_line (OfCodes command) bytes long = refuses Long (any_command Long (too_long long))
 long_line Flow bytes long = net_too_long long
+long_line Solve bytes long = word_too_long long
 
 -- a line without an item
 pub skip_written : (command : CodeCommand) (item : Line) (a : Option (List ℕ)) → item ≡ Skip → IsWritten (AnswersItem command item) a a false

@@ -5,9 +5,10 @@ use Rattle.bk_text.specs.CodeLine.{Skip}
 use Rattle.bk_answer.specs.Answer.{AnswersLine}
 use Rattle.bk_answer.specs.CodeAnswer.{no_item}
 use Rattle.bk_answer.specs.NetAnswer.{no_net_item}
+use Rattle.bk_answer.specs.WordAnswer.{no_word_item}
 use Rattle.bk_answer.specs.Item.{HasItem}
 use Rattle.bk_answer.specs.declared.command.Command.{Command}
-use Rattle.bk_answer.specs.declared.command.Command.TheVariants.{Flow, OfCodes}
+use Rattle.bk_answer.specs.declared.command.Command.TheVariants.{Flow, OfCodes, Solve}
 
 empty_has_none : HasItem [] Skip
 empty_has_none = record { short = lit≤ tt; meaning = ([], [], refl, tt, inl refl); few = lit≤ tt }
@@ -15,3 +16,4 @@ empty_has_none = record { short = lit≤ tt; meaning = ([], [], refl, tt, inl re
 pub no_answer_to_empty : (command : Command) → AnswersLine command [] [] false
 no_answer_to_empty (OfCodes command) = no_item empty_has_none
 no_answer_to_empty Flow = no_net_item (record { short = lit≤ tt; meaning = ([], [], refl, tt, inl refl) })
+no_answer_to_empty Solve = no_word_item (lit≤ tt) ([], [], refl, tt, inl refl)

@@ -3,6 +3,7 @@ pub mod Refusing
 pub mod Telling
 pub mod CodeAnswer
 pub mod NetAnswer
+pub mod WordAnswer
 pub mod Replies
 pub mod Answer
 pub mod AnswerLaws

@@ -15,6 +15,7 @@ ghost use Rattle.bk_answer.specs.Telling.{WantsMemory};
 
 use crate::command::{CodeCommand, Command};
 use crate::flow::answer_net_line;
+use crate::solve::answer_word_line;
 use arrayvec::ArrayVec;
 use bk_code::{Code, flat};
 use bk_lines::{Answerer, Outcome};
@@ -56,6 +57,7 @@ impl Answerer for LineAnswerer {
         match self.command {
             Command::OfCodes(command) => command.answer_line(self.alloc, line, buffer, out),
             Command::Flow => answer_net_line(self.alloc, line, buffer, out),
+            Command::Solve => answer_word_line(self.alloc, line, buffer, out),
         }
     }
 

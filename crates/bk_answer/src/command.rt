@@ -46,6 +46,8 @@ pub enum Command {
     OfCodes(CodeCommand),
     /// The currents of networks: it reads network lines.
     Flow,
+    /// The tilings of words: it reads word lines.
+    Solve,
 }
 
 impl CodeCommand {

@@ -7,6 +7,7 @@ mod answer;
 mod command;
 mod flow;
 mod several;
+mod solve;
 
 pub use answer::{LONGEST_LINE, LineAnswerer};
 pub use command::{CodeCommand, Command};

@@ -1,9 +1,9 @@
--- What the words of a command line ask, as far as it is built.
-use Rattle.std.specs.Prelude.{List, String, codes, map, string_bytes, ℕ, ⊤, ◌⊎◌}
+-- What the words of a command line ask.
+use Rattle.std.specs.Prelude.{List, String, codes, map, string_bytes, ℕ, ◌⊎◌}
 use Rattle.std.specs.declared.alloc.Global.{Global}
 use Rattle.bk_answer.specs.declared.command.Command.{Command}
 use Rattle.bk_answer.specs.declared.command.CodeCommand.TheVariants as codes_of
-use Rattle.bk_answer.specs.declared.command.Command.TheVariants.{Flow, OfCodes}
+use Rattle.bk_answer.specs.declared.command.Command.TheVariants.{Flow, OfCodes, Solve}
 use Rattle.bk_ask.specs.Asked.{Asks}
 use Rattle.bk_ask.specs.declared.Ask.{Ask}
 use Rattle.bk_ask.specs.declared.Ask.TheVariants as asks
@@ -18,21 +18,15 @@ ask_of (OfCodes codes_of.Dual) = asks.Dual
 ask_of (OfCodes codes_of.Draw) = asks.Draw
 ask_of (OfCodes codes_of.Word) = asks.Word
 ask_of Flow = asks.Flow
+ask_of Solve = asks.Solve
 
 -- the words ask this
 abbrev pub WordsAsk : List (String Global) → Ask → Type 0
 WordsAsk words ask = Asks (map string_bytes words) ask
 
--- the commands that are built
-abbrev pub IsBuilt : Ask → Type 0
-IsBuilt asks.Solve = ⊥
-IsBuilt (asks.List order class from limit) = ⊥
-IsBuilt (asks.Trial seed count) = ⊥
-IsBuilt _ = ⊤
-
--- the words ask nothing, or a command that isn't built
+-- the words ask nothing
 abbrev pub AsksNothing : List (String Global) → Type 0
-AsksNothing words = (ask : Ask) → WordsAsk words ask → IsBuilt ask → ⊥
+AsksNothing words = (ask : Ask) → WordsAsk words ask → ⊥
 
 -- the words ask no command that answers lines
 abbrev pub AsksNoLines : List (String Global) → Type 0

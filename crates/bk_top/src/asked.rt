@@ -21,6 +21,7 @@ pub(crate) fn command_of(ask: &Ask) -> Option<Command>
         Ask::Draw => Some(Command::OfCodes(CodeCommand::Draw)),
         Ask::Word => Some(Command::OfCodes(CodeCommand::Word)),
         Ask::Flow => Some(Command::Flow),
-        Ask::Solve | Ask::List { .. } | Ask::Trial { .. } | Ask::Help => None,
+        Ask::Solve => Some(Command::Solve),
+        Ask::List { .. } | Ask::Trial { .. } | Ask::Help => None,
     }
 }

@@ -2,6 +2,9 @@
 #![tactic(auto)]
 
 mod asked;
+mod lines;
+#[cfg(test)]
+mod listing_tests;
 mod program;
 mod telling;
 #[cfg(test)]

@@ -5,10 +5,12 @@ ghost use Rattle.bk_top.specs.Running.{IsRun, status_of};
 ghost use Rattle.bk_top.specs.Words.{AsksErrorsOnly, AsksNoLines};
 
 use crate::asked::command_of;
+use crate::lines::{listing_status, try_codes};
 use crate::telling::{tell_help, tell_usage};
 use bk_answer::LineAnswerer;
 use bk_ask::{Ask, asked};
 use bk_lines::{Ended, answer_lines};
+use bk_list::write_listing;
 use bk_ports::{Sink, Source};
 use std::alloc::Global;
 
@@ -17,8 +19,10 @@ use std::alloc::Global;
 ///
 /// A command that answers lines reads the source to its end. Its status is 0 where all lines are answered and none is
 /// refused, 1 where at least one is refused, 3 after a failed read, 4 after a failed write, 6 where memory is wanting
-/// and 7 where the input has more than 2^30 bytes. `help` writes its text to `err`, and its status is 0. Where the words
-/// ask nothing, or a command that isn't built, `err` gets the line of usage, and the status is 2. Else nothing is written
+/// and 7 where the input has more than 2^30 bytes. `list` writes a listing, and its status is 0 where it ends at its limit or
+/// because there are no more members, 5 where it ends at a wide word, and 4 after a failed write. `trial` writes its line, and
+/// its status is 0, or 4 after a failed write. `help` writes its text to `err`, and its status is 0. Where the words
+/// ask nothing, `err` gets the line of usage, and the status is 2. Else nothing is written
 /// to `err`. Where no command that answers lines is asked, the source is as it was.
 pub fn run<S: Source, O: Sink, E: Sink>(
     alloc: Global,
@@ -57,14 +61,18 @@ pub fn run<S: Source, O: Sink, E: Sink>(
         return status(answer_lines(&LineAnswerer { command, alloc }, source, out));
     }
     match ask {
+        Ask::List {
+            order,
+            class,
+            from,
+            limit,
+        } => listing_status(&write_listing(alloc, order, class, from, limit, out)),
+        Ask::Trial { seed, count } => try_codes(seed, count, out),
         Ask::Help => {
             tell_help(err);
             0
         }
-        _ => {
-            tell_usage(err);
-            2
-        }
+        _ => unreachable!(),
     }
 }
 

@@ -192,7 +192,7 @@ fn tilings_are_turned_hung_and_drawn(rt: HostRuntime) -> Result<(), Fail> {
 }
 
 #[test]
-fn words_of_tilings_and_flows_of_networks(rt: HostRuntime) -> Result<(), Fail> {
+fn words_flows_and_tilings_of_words(rt: HostRuntime) -> Result<(), Fail> {
     for (command, input, status, output) in [
         (
             "word",
@@ -218,6 +218,24 @@ fn words_of_tilings_and_flows_of_networks(rt: HostRuntime) -> Result<(), Fail> {
             "18 0-1 1-2 2-3 3-4 4-5 5-6 6-7 7-8 8-9 9-10 10-11 11-12 12-13 13-14 14-15 15-16 16-17",
             0,
             "1 1 1 1 1 1 1 1 1 1 1 1 1 1 1 1 1 1\n",
+        ),
+        (
+            "solve",
+            "2u.2eu.1e\n 2e.2e ; a comment\n2u.2ea.1e\n \t; no word\n",
+            1,
+            "8x5 [5,3][2,1][1]\n2x2 [1,1][1,1]\nnone\n",
+        ),
+        (
+            "solve",
+            "2u.2e.1\n2uu\n2u.2eu\n2.1\n2u.\n  2ux\n201\n2u.2eu ; not done",
+            1,
+            "illegal 2\nillegal 1\nunfinished\nno text 1\nno text 3\nno text 4\nno text 3\nunfinished\n",
+        ),
+        (
+            "solve",
+            "1.1.1.1.1.1.1.1.1.1.1.1.1.1.1.1.1",
+            0,
+            "1x17 [1][1][1][1][1][1][1][1][1][1][1][1][1][1][1][1][1]\n",
         ),
     ] {
         let command = words(&rt, command)?;
@@ -251,6 +269,38 @@ fn a_word_of_two_hundred_moves(rt: HostRuntime) -> Result<(), Fail> {
     let status = run(rt.alloc(), &word, &mut source, &mut out, &mut err);
     assert_eq!(rt; out.written(), answer.as_slice());
     assert_eq!(rt; status, 0);
+    Ok(())
+}
+
+// The answer of `solve` to a front, a part so many times, and an end; none of them has a line feed.
+fn solved(
+    rt: &HostRuntime,
+    front: &str,
+    part: &str,
+    times: usize,
+    end: &str,
+    answer: &str,
+) -> Result<bool, AllocError> {
+    let solve = words(rt, "solve")?;
+    let mut input = ArrayVec::<u8, 9000>::new();
+    let _ = input.try_extend_from_slice(front.as_bytes());
+    for _ in 0..times {
+        let _ = input.try_extend_from_slice(part.as_bytes());
+    }
+    let _ = input.try_extend_from_slice(end.as_bytes());
+    let mut source = MemSource::new(&input, 9_000, &[]);
+    let mut room = [0; 60];
+    let mut out = MemSink::new(&mut room, &[]);
+    let mut no_room = [];
+    let mut err = MemSink::new(&mut no_room, &[]);
+    let status = run(rt.alloc(), &solve, &mut source, &mut out, &mut err);
+    Ok(status == 1 && out.written() == answer.as_bytes())
+}
+
+#[test]
+fn words_that_are_wide_or_have_too_many_squares(rt: HostRuntime) -> Result<(), Fail> {
+    assert!(rt; solved(&rt, "2u", ".2eu", 98, ".1e", "wide\n")?);
+    assert!(rt; solved(&rt, "201", "u", 200, "", "no many\n")?);
     Ok(())
 }
 

@@ -43,3 +43,15 @@ returns-in-Flow-clause-failed g c =
     reply_begun (AnswersLine c.args.self.now.command c.args.line.now) (MayWant c.args.self.now.command c.args.line.now) (g.O.Sink.written c.args.out.now) (g.O.Sink.written c.answer_net_line.new.out) c.answer_net_line.result
     (subst (λ (d : Command). Replies (AnswersLine d c.args.line.now) (MayWant d c.args.line.now) (g.O.Sink.written c.args.out.now) (g.O.Sink.written c.answer_net_line.new.out) c.answer_net_line.result)
     (sym c.in-Flow.is) c.answer_net_line.ensures.reply)
+
+pub returns-in-Solve-clause-outcome : goal.returns-in-Solve-clause-outcome
+returns-in-Solve-clause-outcome g c =
+    reply_outcome (AnswersLine c.args.self.now.command c.args.line.now) (MayWant c.args.self.now.command c.args.line.now) (g.O.Sink.written c.args.out.now) (g.O.Sink.written c.answer_word_line.new.out) c.answer_word_line.result
+    (subst (λ (d : Command). Replies (AnswersLine d c.args.line.now) (MayWant d c.args.line.now) (g.O.Sink.written c.args.out.now) (g.O.Sink.written c.answer_word_line.new.out) c.answer_word_line.result)
+    (sym c.in-Solve.is) c.answer_word_line.ensures.reply)
+
+pub returns-in-Solve-clause-failed : goal.returns-in-Solve-clause-failed
+returns-in-Solve-clause-failed g c =
+    reply_begun (AnswersLine c.args.self.now.command c.args.line.now) (MayWant c.args.self.now.command c.args.line.now) (g.O.Sink.written c.args.out.now) (g.O.Sink.written c.answer_word_line.new.out) c.answer_word_line.result
+    (subst (λ (d : Command). Replies (AnswersLine d c.args.line.now) (MayWant d c.args.line.now) (g.O.Sink.written c.args.out.now) (g.O.Sink.written c.answer_word_line.new.out) c.answer_word_line.result)
+    (sym c.in-Solve.is) c.answer_word_line.ensures.reply)

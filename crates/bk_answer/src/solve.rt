@@ -1,0 +1,66 @@
+//! The answer to a word line.
+
+ghost use Rattle.std.specs.Prelude.{length, ◌<◌, ◌≤◌};
+ghost use Rattle.bk_ports.specs.Causes.{HasCause};
+ghost use Rattle.bk_word.specs.Word.{order_of};
+ghost use Rattle.bk_answer.specs.Replies.{Replies};
+ghost use Rattle.bk_answer.specs.WordAnswer.{AnswersWord, AnswersWordLine, MayWantForWord};
+
+use crate::answer::{LONGEST_LINE, refuse};
+use crate::command::accepted;
+use arrayvec::ArrayVec;
+use bk_lines::Outcome;
+use bk_ports::{Failed, Sink};
+use bk_report::{Refused, write_tiling};
+use bk_skel::{SolveFault, realise};
+use bk_word::{INLINE_ORDER, Word, WordFault, read_word, word_item};
+use std::alloc::Global;
+
+// Answers a word line that isn't too long.
+pub(crate) fn answer_word_line<O: Sink>(
+    alloc: Global,
+    line: &[u8],
+    buffer: &mut ArrayVec<u8, 9000>,
+    out: &mut O,
+) -> Result<Outcome, Failed>
+    requires { length line.now ≤ LONGEST_LINE }
+    ensures reply { Replies (AnswersWordLine line.now) (MayWantForWord line.now) (O.written out.old) (O.written out.new) result }
+    ensures cause { HasCause (O.faults out.old) (O.faults out.new) result }
+{
+    let Some((start, end)) = word_item(line) else {
+        return Ok(Outcome::Accepted);
+    };
+    match read_word(alloc, &line[start..end]) {
+        Ok(word) => {
+            let _few = word.order();
+            answer_word(alloc, &word, buffer, out)
+        }
+        Err(WordFault::Text { at }) => refuse(Refused::Text { at: start + at }, buffer, out),
+        Err(WordFault::Many) => refuse(Refused::Many, buffer, out),
+        Err(WordFault::NoMemory) => Ok(Outcome::NoMemory),
+    }
+}
+
+// Answers a word by its tiling.
+fn answer_word<O: Sink>(
+    alloc: Global,
+    word: &Word,
+    buffer: &mut ArrayVec<u8, 9000>,
+    out: &mut O,
+) -> Result<Outcome, Failed>
+    requires { 0 < length word.now }
+    ensures reply { Replies (AnswersWord word.now) (INLINE_ORDER < order_of word.now) (O.written out.old) (O.written out.new) result }
+    ensures cause { HasCause (O.faults out.old) (O.faults out.new) result }
+{
+    match realise(alloc, word) {
+        Ok(Some(tiling)) => {
+            write_tiling(&tiling, buffer);
+            accepted(out.write_all(buffer.as_slice()))
+        }
+        Ok(None) => refuse(Refused::Nothing, buffer, out),
+        Err(SolveFault::Illegal { place }) => refuse(Refused::Illegal { place }, buffer, out),
+        Err(SolveFault::OpenEnd) => refuse(Refused::Unfinished, buffer, out),
+        Err(SolveFault::Wide) => refuse(Refused::Wide, buffer, out),
+        Err(SolveFault::NoMemory) => Ok(Outcome::NoMemory),
+    }
+}

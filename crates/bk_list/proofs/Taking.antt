@@ -1,0 +1,75 @@
+-- The first members after a cursor, one more at a time, up to the end of the listing.
+use Rattle.std.specs.List.{AllByRecursion}
+use Rattle.std.specs.Ordering.{ordering_reverse}
+use Rattle.std.specs.declared.cmp.Ordering.{Ordering}
+use Rattle.std.specs.declared.cmp.Ordering.TheVariants.{Equal, Greater, Less}
+use Rattle.std.proofs.Common.{Contains, List, None, Option, Some, [], ap, arith, inl, inr, length, refl, subst, sym, zero, ℕ, ◌++◌, ◌∙◌, ◌∷◌, ◌≡◌, ◌⊎◌}
+use Rattle.bk_word.proofs.WordOrder.{word_total}
+use Rattle.bk_word.specs.Play.{IsComplete}
+use Rattle.bk_word.specs.Word.{Follows, Word, order_of, word_cmp}
+use Rattle.bk_word.specs.declared.Class.{Class}
+use Rattle.bk_skel.specs.WideWord.{IsWideWord}
+use Rattle.bk_walk.specs.Catalogue.{Entry, IsEntry}
+use Rattle.bk_report.specs.declared.listing.Last.TheVariants.{End, Wide}
+use Rattle.bk_list.proofs.Continuing.{after_each, after_last, both, first_or_later}
+use Rattle.bk_list.proofs.OneEntry.{one_entry}
+use Rattle.bk_list.proofs.SameWords.{word_same}
+use Rattle.bk_list.specs.Listing.{AreFirst, EndsBy, HasAll, IsBelowLimit, StopsAt}
+use Rattle.bk_list.specs.ListingLaws.{cursor_after}
+use Rattle.bk_walk.specs.Walking.{HasNoneAfter, HasNoneBetween, IsWideAfter}
+
+pub first_none : (n : ℕ) (class : Class) (cursor : Word) → AreFirst n class cursor []
+first_none n class cursor = record { each = tt; after = tt; ascending = tt; none_between = λ e entry h. inr tt }
+
+pub last_word : (cursor : Word) (entries : List Entry) (e : Entry) → cursor_after cursor (entries ++ e ∷ []) ≡ e.word
+last_word cursor [] e = refl
+last_word cursor (f ∷ entries) e = last_word f.word entries e
+
+ordering_turned : (r : Ordering) → r ≡ Greater → ordering_reverse r ≡ Less
+ordering_turned r e = ap ordering_reverse e
+
+-- the one word is before the other where that one is greater
+turned : (v w : Word) → word_cmp v w ≡ Greater → Follows v w
+turned v w e = word_total.antisymm w v ∙ ordering_turned (word_cmp v w) e
+
+-- the least member after a cursor is the first one
+module _ (n : ℕ) (class : Class) (cursor : Word) (e : Entry) (is : IsEntry n class e) (after : Follows e.word cursor) (least : HasNoneBetween n class cursor e.word) where
+  it_or_later : (f : Entry) → IsEntry n class f → Follows f.word cursor → (r : Ordering) → word_cmp e.word f.word ≡ r → Contains (e ∷ []) f ⊎ (Follows f.word e.word × Unit {0})
+  it_or_later f entry h Less c = inr (c, tt)
+  it_or_later f entry h Equal c = inl (zero, omega arith, one_entry n class e f is entry (word_same e.word f.word c))
+  it_or_later f entry h Greater c = absurd (least f entry h (turned e.word f.word c))
+
+  first_one : AreFirst n class cursor (e ∷ [])
+  first_one = record {
+    each = (is, tt);
+    after = (after, tt);
+    ascending = (tt, tt);
+    none_between = λ f entry h. it_or_later f entry h (word_cmp e.word f.word) refl;
+  }
+
+pub first_more : (n : ℕ) (class : Class) (cursor : Word) (entries : List Entry) (e : Entry) → AreFirst n class cursor entries → IsEntry n class e
+    → Follows e.word (cursor_after cursor entries) → HasNoneBetween n class (cursor_after cursor entries) e.word → AreFirst n class cursor (entries ++ e ∷ [])
+first_more n class cursor entries e first is after least = both n class cursor entries (e ∷ []) first (first_one n class (cursor_after cursor entries) e is after least)
+
+-- where no member comes after the last one, all are there
+pub all_there : (n : ℕ) (class : Class) (cursor : Word) (entries : List Entry) → AreFirst n class cursor entries → HasNoneAfter n class (cursor_after cursor entries) → HasAll n class cursor entries
+all_there n class cursor entries first none e entry h = cases (first_or_later n class cursor entries [] first (first_none n class (cursor_after cursor entries)) e entry h)
+  where
+    cases : Contains entries e ⊎ (AllByRecursion (λ listed. Follows e.word listed.word) entries × Follows e.word (cursor_after cursor entries)) → Contains entries e
+    cases (inl c) = c
+    cases (inr later) = absurd (none e entry later.1)
+
+-- and where a wide word comes next, the listing may stop there
+pub stops_there : (n : ℕ) (class : Class) (cursor : Word) (entries : List Entry) (w : Word) → AreFirst n class cursor entries → IsWideAfter n class (cursor_after cursor entries) w → StopsAt n class cursor entries w
+stops_there n class cursor entries w first wide = record {
+  complete = wide.complete;
+  order = wide.order;
+  after = after_last cursor entries first.after first.ascending w wide.after;
+  wide = wide.wide;
+  below = after_each cursor entries first.ascending w wide.after;
+  all_below = λ e entry h under. cases e entry under (first_or_later n class cursor entries [] first (first_none n class (cursor_after cursor entries)) e entry h);
+}
+  where
+    cases : (e : Entry) → IsEntry n class e → Follows w e.word → Contains entries e ⊎ (AllByRecursion (λ listed. Follows e.word listed.word) entries × Follows e.word (cursor_after cursor entries)) → Contains entries e
+    cases e entry under (inl c) = c
+    cases e entry under (inr later) = absurd (wide.least e entry later.1 under)

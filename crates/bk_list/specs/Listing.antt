@@ -1,0 +1,67 @@
+-- Listings: what a listing of a catalogue writes, from a cursor and under a limit.
+use Rattle.std.specs.List.{AllByRecursion}
+use Rattle.std.specs.Prelude.{Contains, List, None, Option, Some, flat_map, length, ℕ, ⊤, ◌++◌, ◌<◌, ◌≡◌, ◌⊎◌}
+use Rattle.bk_word.specs.Play.{IsComplete}
+use Rattle.bk_word.specs.Word.{Follows, Word, order_of}
+use Rattle.bk_word.specs.declared.Class.{Class}
+use Rattle.bk_skel.specs.WideWord.{IsWideWord}
+use Rattle.bk_walk.specs.Catalogue.{AreAscending, Entry, IsEntry}
+use Rattle.bk_report.specs.Listings.{entry_line, last_line}
+use Rattle.bk_report.specs.declared.listing.Last.{Last}
+use Rattle.bk_report.specs.declared.listing.Last.TheVariants.{End, Limit, Wide}
+
+-- the entries of the first members after the cursor: they ascend, and each other member after the cursor
+-- comes after all of them
+pub record AreFirst (n : ℕ) (class : Class) (cursor : Word) (entries : List Entry) : Type 0 where
+  pub each : AllByRecursion (IsEntry n class) entries
+  pub after : AllByRecursion (λ e. Follows e.word cursor) entries
+  pub ascending : AreAscending entries
+  pub none_between : (e : Entry) → IsEntry n class e → Follows e.word cursor
+      → Contains entries e ⊎ AllByRecursion (λ listed. Follows e.word listed.word) entries
+
+-- the entries are fewer than the limit, where there is one
+abbrev pub IsBelowLimit : Option ℕ → List Entry → Type 0
+IsBelowLimit None entries = ⊤
+IsBelowLimit (Some limit) entries = length entries < limit
+
+-- the entries are as many as the limit, where there is one, or fewer
+abbrev pub IsWithinLimit : Option ℕ → List Entry → Type 0
+IsWithinLimit limit entries = IsBelowLimit limit entries ⊎ (limit ≡ Some (length entries))
+
+-- each member after the cursor, and with a word below the bound, is among the entries
+abbrev pub HasAllBelow : ℕ → Class → Word → Word → List Entry → Type 0
+HasAllBelow n class cursor bound entries =
+    (e : Entry) → IsEntry n class e → Follows e.word cursor → Follows bound e.word → Contains entries e
+
+-- each member after the cursor is among the entries
+abbrev pub HasAll : ℕ → Class → Word → List Entry → Type 0
+HasAll n class cursor entries = (e : Entry) → IsEntry n class e → Follows e.word cursor → Contains entries e
+
+-- a word at which a listing may stop: complete, of the order, after the cursor and wide; the entries are
+-- those of all members after the cursor and below it
+pub record StopsAt (n : ℕ) (class : Class) (cursor : Word) (entries : List Entry) (w : Word) : Type 0 where
+  pub complete : IsComplete w
+  pub order : order_of w ≡ n
+  pub after : Follows w cursor
+  pub wide : IsWideWord w
+  pub below : AllByRecursion (λ e. Follows w e.word) entries
+  pub all_below : HasAllBelow n class cursor w entries
+
+-- how the listing of these entries may end: at its limit; or below it, because there are no more members,
+-- or at a wide word
+abbrev pub EndsBy : ℕ → Class → Word → Option ℕ → List Entry → Last → Word → Type 0
+EndsBy n class cursor limit entries Limit w = limit ≡ Some (length entries)
+EndsBy n class cursor limit entries End w = IsBelowLimit limit entries × HasAll n class cursor entries
+EndsBy n class cursor limit entries Wide w = IsBelowLimit limit entries × StopsAt n class cursor entries w
+
+-- the line of an entry
+abbrev pub line_of : Entry → List ℕ
+line_of e = entry_line e.tiling e.word
+
+-- the bytes are a listing that ends so: an entry line for each of the first members, and one last line
+pub record IsListing (n : ℕ) (class : Class) (cursor : Word) (limit : Option ℕ) (last : Last) (bytes : List ℕ) : Type 0 where
+  pub entries : List Entry
+  pub word : Word
+  pub first : AreFirst n class cursor entries
+  pub ends : EndsBy n class cursor limit entries last word
+  pub text : bytes ≡ flat_map line_of entries ++ last_line last n class (length entries) word

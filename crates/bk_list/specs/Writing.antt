@@ -1,0 +1,63 @@
+-- What a listing writes, and what of it stands written where a write fails.
+use Rattle.std.specs.Prelude.{List, Option, flat_map, length, ℕ, ◌≡◌, ◌⊎◌}
+use Rattle.std.specs.Io.KnownBytes.{Appends}
+use Rattle.bk_ports.specs.Causes.{AppendsPrefix}
+use Rattle.bk_word.specs.Word.{Follows, Word}
+use Rattle.bk_word.specs.declared.Class.{Class}
+use Rattle.bk_walk.specs.Catalogue.{Entry, IsEntry}
+use Rattle.bk_report.specs.declared.listing.Last.{Last}
+use Rattle.bk_list.specs.Listing.{AreFirst, EndsBy, IsListing, IsWithinLimit, line_of}
+use Rattle.bk_walk.specs.Walking.{HasNoneAfter, HasNoneBetween, IsWideAfter}
+use Rattle.bk_list.specs.declared.entries.Next.{Next}
+use Rattle.bk_list.specs.declared.entries.Next.TheVariants.{Member, Nothing, WideWord}
+
+-- a listing that ends so was written, and nothing else
+pub record WritesListing (n : ℕ) (class : Class) (cursor : Word) (limit : Option ℕ) (last : Last) (written written_after : Option (List ℕ)) : Type 0 where
+  pub bytes : List ℕ
+  pub listing : IsListing n class cursor limit last bytes
+  pub appends : Appends written written_after bytes
+
+-- the bytes are the entry lines of the first members, of no more than the limit: every listing begins with them
+pub record AreEntryLines (n : ℕ) (class : Class) (cursor : Word) (limit : Option ℕ) (bytes : List ℕ) : Type 0 where
+  pub entries : List Entry
+  pub first : AreFirst n class cursor entries
+  pub within : IsWithinLimit limit entries
+  pub text : bytes ≡ flat_map line_of entries
+
+-- the bytes are a listing, or its first entry lines
+abbrev pub IsFront : ℕ → Class → Word → Option ℕ → List ℕ → Type 0
+IsFront n class cursor limit bytes =
+    AreEntryLines n class cursor limit bytes ⊎ ((last : Last) × IsListing n class cursor limit last bytes)
+
+-- a beginning of a listing was written, and nothing else
+pub record BeginsListing (n : ℕ) (class : Class) (cursor : Word) (limit : Option ℕ) (written written_after : Option (List ℕ)) : Type 0 where
+  pub bytes : List ℕ
+  pub front : IsFront n class cursor limit bytes
+  pub begins : AppendsPrefix written written_after bytes
+
+-- the least member after the cursor, of which the one call wrote what is said
+pub record TakesNext (n : ℕ) (class : Class) (cursor : Word) (e : Entry) : Type 0 where
+  pub entry : IsEntry n class e
+  pub after : Follows e.word cursor
+  pub least : HasNoneBetween n class cursor e.word
+
+-- one member more was listed; or nothing was written, because there is none, or a wide word comes
+abbrev pub IsNext : ℕ → Class → Word → Word → Option (List ℕ) → Option (List ℕ) → Next → Type 0
+IsNext n class cursor then written written_after Member =
+    (e : Entry) × TakesNext n class cursor e × (then ≡ e.word) × Appends written written_after (line_of e)
+IsNext n class cursor then written written_after Nothing = HasNoneAfter n class cursor × (written_after ≡ written)
+IsNext n class cursor then written written_after WideWord =
+    IsWideAfter n class cursor then × (written_after ≡ written)
+
+-- the write of the next entry failed
+abbrev pub IsNextBegun : ℕ → Class → Word → Option (List ℕ) → Option (List ℕ) → Type 0
+IsNextBegun n class cursor written written_after =
+    (e : Entry) × TakesNext n class cursor e × AppendsPrefix written written_after (line_of e)
+
+-- all entries of a listing that ends so were written, so many
+pub record HasEntries (n : ℕ) (class : Class) (cursor : Word) (limit : Option ℕ) (last : Last) (listed : ℕ) (word : Word) (written written_after : Option (List ℕ)) : Type 0 where
+  pub entries : List Entry
+  pub first : AreFirst n class cursor entries
+  pub ends : EndsBy n class cursor limit entries last word
+  pub count : listed ≡ length entries
+  pub appends : Appends written written_after (flat_map line_of entries)

@@ -1,0 +1,83 @@
+//! The entries of a listing, written as soon as each is known.
+
+ghost use Rattle.std.specs.Prelude.{IfOk, IsTrue, OnErr, Some, false, ◌≡◌, ◌≤◌};
+ghost use Rattle.bk_ports.specs.Causes.{HasCause};
+ghost use Rattle.bk_list.specs.Writing.{BeginsListing, HasEntries, IsNext, IsNextBegun};
+
+use arrayvec::ArrayVec;
+use bk_ports::{Failed, Sink};
+use bk_report::{Last, write_entry};
+use bk_skel::Steps;
+use bk_walk::Walk;
+use std::sync::ledger::Ledger;
+
+// What comes after the cursor.
+pub(crate) enum Next {
+    // a member, whose entry is written
+    Member,
+    // no member
+    Nothing,
+    // a wide word
+    WideWord,
+}
+
+// Writes the entries of a listing, up to its end, and gives how it ends and how many entries it has.
+pub(crate) fn write_entries<L: Ledger, O: Sink>(
+    walk: &mut Walk,
+    limit: Option<u64>,
+    steps: &mut Steps<L>,
+    buffer: &mut ArrayVec<u8, 9000>,
+    out: &mut O,
+) -> Result<(Last, u64), Failed>
+    requires { walk.old.order ≤ 16 }
+    ensures ended { IfOk result (λ r. HasEntries walk.old.order walk.old.class walk.old.cursor limit r.0 r.1 walk.new.cursor (O.written out.old) (O.written out.new)) }
+    ensures begun { OnErr result (BeginsListing walk.old.order walk.old.class walk.old.cursor limit (O.written out.old) (O.written out.new)) }
+    ensures cause { HasCause (O.faults out.old) (O.faults out.new) result }
+{
+    let mut listed: u64 = 0;
+    'members: loop {
+        if is_reached(limit, listed) {
+            return Ok((Last::Limit, listed));
+        }
+        match write_next(walk, steps, buffer, out)? {
+            Next::Member => listed += 1,
+            Next::Nothing => return Ok((Last::End, listed)),
+            Next::WideWord => return Ok((Last::Wide, listed)),
+        }
+    }
+}
+
+// Whether as many entries are listed as the limit allows.
+fn is_reached(limit: Option<u64>, listed: u64) -> bool
+    ensures yes { IsTrue result → limit ≡ Some listed }
+    ensures no { result ≡ false → limit ≡ Some listed → ⊥ }
+{
+    match limit {
+        Some(most) => most == listed,
+        None => false,
+    }
+}
+
+// Writes the entry of the next member, by one call.
+fn write_next<L: Ledger, O: Sink>(
+    walk: &mut Walk,
+    steps: &mut Steps<L>,
+    buffer: &mut ArrayVec<u8, 9000>,
+    out: &mut O,
+) -> Result<Next, Failed>
+    ensures next { IfOk result (IsNext walk.old.order walk.old.class walk.old.cursor walk.new.cursor (O.written out.old) (O.written out.new)) }
+    ensures begun { OnErr result (IsNextBegun walk.old.order walk.old.class walk.old.cursor (O.written out.old) (O.written out.new)) }
+    ensures cause { HasCause (O.faults out.old) (O.faults out.new) result }
+    ensures order { walk.new.order ≡ walk.old.order }
+    ensures class { walk.new.class ≡ walk.old.class }
+{
+    match walk.advance(steps) {
+        None => Ok(Next::Nothing),
+        Some(Err(_)) => Ok(Next::WideWord),
+        Some(Ok(entry)) => {
+            write_entry(&entry.tiling, &entry.word, buffer);
+            out.write_all(buffer.as_slice())?;
+            Ok(Next::Member)
+        }
+    }
+}

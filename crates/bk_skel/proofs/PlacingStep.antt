@@ -1,0 +1,102 @@
+-- One turn of the placing under the names that the code has for its parts.
+use Rattle.std.specs.List.{AllByRecursion}
+use Rattle.std.proofs.Common.{List, Some, [], ap, arith, drop, length, refl, slice_get, subst, sum, sym, take, ℕ, ◌++◌, ◌+◌, ◌-◌, ◌<◌, ◌∙◌, ◌∷◌, ◌≡◌, ◌≤◌}
+use Rattle.bk_tiling.proofs.ListLaws.{get_some}
+use Rattle.bk_tiling.specs.CodeOrder.{in_code_order}
+use Rattle.bk_tiling.specs.Column.{depth}
+use Rattle.bk_tiling.specs.Kept.{IsSide}
+use Rattle.bk_tiling.specs.SquareGroups.{laid_group}
+use Rattle.bk_tiling.specs.Tiling.{Tiling}
+use Rattle.bk_tiling.specs.declared.Segment.{Segment}
+use Rattle.bk_tiling.specs.declared.Square.{Square}
+use Rattle.bk_tiling.specs.declared.TheConstants.{MOST_SQUARES}
+use Rattle.bk_word.specs.Outline.{Outline, start, valley_of}
+use Rattle.bk_word.specs.Play.{IsComplete, IsLegal, after_moves, numbers_from, outline_of}
+use Rattle.bk_word.specs.Word.{Move, Word, order_of}
+use Rattle.bk_word.specs.declared.Sign.{Sign}
+use Rattle.bk_skel.proofs.PlacingLoop.{IsPlacedTo, can_lay, first_width, length_cut, new_fits, placed_closed, placed_end, placed_more, placed_none, placed_start}
+use Rattle.bk_skel.specs.LaidTiling.{IsLaidWith}
+use Rattle.bk_skel.specs.Board.{CanLay, IsClosed, IsTurn, front_of}
+use Rattle.bk_skel.specs.TurnRecord.{SaysWhere}
+use Rattle.bk_skel.specs.declared.turns.Turn.{Turn}
+
+module _ (w : Word) (legal : IsLegal w) (given : List ℕ) (all_sides : AllByRecursion IsSide given) (few : length given ≤ MOST_SQUARES) (i : ℕ) (below : i < length w)
+    (laid : List Square) (numbers : List ℕ) (s : IsPlacedTo w given i laid numbers) (turn : Turn) (says : SaysWhere w i turn) where
+  abbrev m : Move
+  m = (get_some w i below).0
+
+  at : slice_get w i ≡ Some (get_some w i below).0
+  at = (get_some w i below).1
+
+  -- the sides of the move are there
+  pub sides_there : length laid + turn.count ≤ length given
+  sides_there = omega (arith, new_fits given all_sides few w legal i laid numbers s (get_some w i below).0 at, says.count (get_some w i below).0 at)
+
+  module _ (width from many first closed : ℕ) (signs : List Sign) (new : List ℕ) (width_is : width ≡ first_width w given) (from_is : from ≡ length laid) (many_is : many ≡ turn.count) (first_is : first ≡ turn.first)
+      (closed_is : closed ≡ turn.closed) (signs_are : (n : Move) → slice_get w i ≡ Some n → signs ≡ n.signs) (new_is : new ≡ take (from + many - from) (drop from given)) where
+    taken : new ≡ take (get_some w i below).0.count (drop (length laid) given)
+    taken = new_is ∙ (λ j. take (count j) (drop (from_is j) given))
+      where
+        count : from + many - from ≡ (get_some w i below).0.count
+        count = omega (arith, many_is, says.count (get_some w i below).0 at)
+
+    place : first ≡ length (front_of (after_moves start (take i w)))
+    place = first_is ∙ says.first
+
+    end : first + closed ≡ length (front_of (after_moves start (take i w))) + length (valley_of (after_moves start (take i w)))
+    end = omega (arith, place, closed_is, says.closed)
+
+    own_signs : (get_some w i below).0.signs ≡ signs
+    own_signs = sym (signs_are (get_some w i below).0 at)
+
+    pub step_can : (o : Outline) × CanLay width laid numbers first (first + closed) signs new o
+    step_can = (
+      after_moves start (take i w),
+      subst (λ (n : ℕ). CanLay n laid numbers first (first + closed) signs new (after_moves start (take i w))) (sym width_is)
+          (subst (λ (gs : List Sign). CanLay (first_width w given) laid numbers first (first + closed) gs new (after_moves start (take i w))) own_signs
+          (subst (λ (ns : List ℕ). CanLay (first_width w given) laid numbers first (first + closed) (get_some w i below).0.signs ns (after_moves start (take i w))) (sym taken)
+          (can_lay given all_sides few w legal i laid numbers s (get_some w i below).0 at first (first + closed) place end))),
+    )
+
+    turn_as : (v : Segment) → IsTurn width laid (record { count = length new; signs = signs }) new v
+        → IsTurn (first_width w given) laid (record { count = length (take (get_some w i below).0.count (drop (length laid) given)); signs = (get_some w i below).0.signs }) (take (get_some w i below).0.count (drop (length laid) given)) v
+    turn_as v t = subst (λ (n : ℕ). IsTurn n laid (record { count = length (take (get_some w i below).0.count (drop (length laid) given)); signs = (get_some w i below).0.signs }) (take (get_some w i below).0.count (drop (length laid) given)) v) width_is
+        (subst (λ (gs : List Sign). IsTurn width laid (record { count = length (take (get_some w i below).0.count (drop (length laid) given)); signs = gs }) (take (get_some w i below).0.count (drop (length laid) given)) v) (sym own_signs)
+        (subst (λ (ns : List ℕ). IsTurn width laid (record { count = length ns; signs = signs }) ns v) taken t))
+
+    turn_back : (v : Segment) → IsTurn (first_width w given) laid (record { count = length (take (get_some w i below).0.count (drop (length laid) given)); signs = (get_some w i below).0.signs }) (take (get_some w i below).0.count (drop (length laid) given)) v
+        → IsTurn width laid (record { count = length new; signs = signs }) new v
+    turn_back v t = subst (λ (ns : List ℕ). IsTurn width laid (record { count = length ns; signs = signs }) ns v) (sym taken)
+        (subst (λ (gs : List Sign). IsTurn width laid (record { count = length (take (get_some w i below).0.count (drop (length laid) given)); signs = gs }) (take (get_some w i below).0.count (drop (length laid) given)) v) own_signs
+        (subst (λ (n : ℕ). IsTurn n laid (record { count = length (take (get_some w i below).0.count (drop (length laid) given)); signs = (get_some w i below).0.signs }) (take (get_some w i below).0.count (drop (length laid) given)) v) (sym width_is) t))
+
+    pub step_none : ((v : Segment) → IsTurn width laid (record { count = length new; signs = signs }) new v → ⊥) → (t : Tiling) → IsLaidWith w given t → ⊥
+    step_none never = placed_none given all_sides few w legal i laid numbers s (get_some w i below).0 at first (first + closed) place end (λ v t. never v (turn_back v t))
+
+    pub step_more : (next : List Square) (next_numbers : List ℕ) → (v : Segment) × (IsTurn width laid (record { count = length new; signs = signs }) new v × (next ≡ laid ++ laid_group v.x v.level new))
+        → next_numbers ≡ (take first numbers ++ numbers_from (length laid + 1) (length new)) ++ drop (first + closed) numbers → IsPlacedTo w given (i + 1) next next_numbers
+    step_more next next_numbers (v, (t, e)) f = subst (λ (l : List Square). IsPlacedTo w given (i + 1) l next_numbers) (sym (e ∙ ap (λ (ns : List ℕ). laid ++ laid_group v.x v.level ns) taken))
+        (subst (IsPlacedTo w given (i + 1) (laid ++ laid_group v.x v.level (take (get_some w i below).0.count (drop (length laid) given)))) (sym (f ∙ ap (λ (ns : List ℕ). (take first numbers ++ numbers_from (length laid + 1) (length ns)) ++ drop (first + closed) numbers) taken))
+        (placed_more given all_sides few w legal i laid numbers s (get_some w i below).0 at first (first + closed) place end v (turn_as v t)))
+
+pub first_is_there : (w : Word) (complete : IsComplete w) (given : List ℕ) → AllByRecursion IsSide given → length given ≤ MOST_SQUARES → length given ≡ order_of w → (turn : Turn) → SaysWhere w 0 turn → (from : ℕ) → from ≡ turn.count → from ≡ length (take from given)
+first_is_there w complete given all_sides few count turn says from e =
+    sym (length_cut from given (omega (arith, e, sides_there w complete.legal given all_sides few 0 complete.some [] [] (placed_start given all_sides few w complete count) turn says)))
+
+pub width_as : (w : Word) (given : List ℕ) (turn : Turn) (from sum_is : ℕ) → 0 < length w → SaysWhere w 0 turn → from ≡ turn.count → sum_is ≡ sum (take from given) → sum_is ≡ first_width w given
+width_as [] given turn from sum_is h says e f = absurd (omega arith)
+width_as (m ∷ w) given turn from sum_is h says e f = f ∙ ap (λ (k : ℕ). sum (take k given)) (e ∙ says.count m refl)
+
+pub start_as : (w : Word) (given : List ℕ) (laid : List Square) (numbers : List ℕ) → laid ≡ [] → numbers ≡ [] → IsPlacedTo w given 0 [] [] → IsPlacedTo w given 0 laid numbers
+start_as w given laid numbers e f s = subst (λ (l : List Square). IsPlacedTo w given 0 l numbers) (sym e) (subst (IsPlacedTo w given 0 []) (sym f) s)
+
+module _ (w : Word) (complete : IsComplete w) (given : List ℕ) (all_sides : AllByRecursion IsSide given) (few : length given ≤ MOST_SQUARES) (count : length given ≡ order_of w) (i : ℕ) (done : length w ≤ i)
+    (laid : List Square) (numbers seen : List ℕ) (s : IsPlacedTo w given i laid numbers) (width : ℕ) (width_is : width ≡ first_width w given) (seen_is : seen ≡ numbers) where
+  pub end_can : (o : Outline) × IsClosed width laid seen o
+  end_can = (
+    outline_of w,
+    subst (λ (n : ℕ). IsClosed n laid seen (outline_of w)) (sym width_is) (subst (λ (ns : List ℕ). IsClosed (first_width w given) laid ns (outline_of w)) (sym seen_is) (placed_closed given all_sides few w complete count i done laid numbers s)),
+  )
+
+  pub end_is : (t : Tiling) → t ≡ record { width = width; height = depth laid 0; squares = in_code_order laid } → IsLaidWith w given t
+  end_is t e = subst (IsLaidWith w given) (sym (e ∙ ap (λ (n : ℕ). record { width = n; height = depth laid 0; squares = in_code_order laid }) width_is)) (placed_end given all_sides few w complete count i done laid numbers s)

@@ -1,0 +1,65 @@
+-- A word played on a skeleton, move by move, up to its first illegal move.
+use Rattle.std.proofs.Common.{Some, [], ap, arith, length, refl, slice_get, subst, suc, sym, take, zero, ℕ, ◌++◌, ◌+◌, ◌-◌, ◌<◌, ◌∙◌, ◌∷◌, ◌≡◌, ◌≤◌}
+use Rattle.bk_word.specs.Outline.{IsLegalMove, start}
+use Rattle.bk_word.specs.Play.{IsLegal, outline_of}
+use Rattle.bk_word.specs.Word.{Move, Word, order_of}
+use Rattle.bk_skel.proofs.PlacingLoop.{order_cons}
+use Rattle.bk_skel.proofs.StoredMoves.{legal-last, legal-snoc}
+use Rattle.bk_skel.specs.Realised.{IsFirstIllegal}
+
+pub take_more : (w : Word) (i : ℕ) (m : Move) → slice_get w i ≡ Some m → take (i + 1) w ≡ take i w ++ m ∷ []
+take_more [] i m e = absurd (cc)
+take_more (n ∷ w) zero m e = ap (λ (k : Move). k ∷ []) same
+  where
+    same : n ≡ m
+    same = cc
+take_more (n ∷ w) (suc i) m e = ap (λ (k : ℕ). take k (n ∷ w)) step ∙ ap (λ (v : Word). n ∷ v) (take_more w i m e)
+  where
+    step : suc i + 1 ≡ suc (i + 1)
+    step = omega arith
+
+order_fits : (w : Word) (i : ℕ) (m : Move) → slice_get w i ≡ Some m → order_of (take i w) + m.count ≤ order_of w
+order_fits [] i m e = absurd (cc)
+order_fits (n ∷ w) zero m e = omega (arith, order_cons n w, ap (λ (k : Move). k.count) same)
+  where
+    same : n ≡ m
+    same = cc
+order_fits (n ∷ w) (suc i) m e = omega (arith, order_cons n w, order_cons n (take i w), order_fits w i m e)
+
+-- what is played after i moves
+pub record IsPlayedTo (w : Word) (i : ℕ) (skel : Word) : Type 0 where
+  pub moves : skel ≡ take i w
+  pub legal : IsLegal skel
+
+pub played_first : (w skel : Word) → skel ≡ [] → IsPlayedTo w 0 skel
+played_first w skel e = record { moves = e; legal = subst IsLegal (sym e) tt }
+
+module _ (w : Word) (i : ℕ) (skel : Word) (p : IsPlayedTo w i skel) (m : Move) (at : slice_get w i ≡ Some m) where
+  more : skel ++ m ∷ [] ≡ take (i + 1) w
+  more = ap (λ (v : Word). v ++ m ∷ []) p.moves ∙ sym (take_more w i m at)
+
+  pub played_more : IsLegalMove (outline_of skel) m → (next : Word) → next ≡ skel ++ m ∷ [] → IsPlayedTo w (i + 1) next
+  played_more legal next e = record { moves = e ∙ more; legal = subst IsLegal (sym e) (legal-snoc start skel m p.legal legal) }
+
+  pub played_few : order_of skel + m.count ≤ order_of w
+  played_few = omega (arith, order_fits w i m at, ap order_of p.moves)
+
+  pub first_illegal : i < length w → (IsLegalMove (outline_of skel) m → ⊥) → IsFirstIllegal w (i + 1)
+  first_illegal below never = record {
+    some = omega arith;
+    within = omega arith;
+    before = subst (λ (k : ℕ). IsLegal (take k w)) back (subst IsLegal p.moves p.legal);
+    here = λ l. never (legal-last start skel m (subst IsLegal (sym more) l));
+  }
+    where
+      back : i ≡ i + 1 - 1
+      back = omega arith
+
+take_whole : (w : Word) (i : ℕ) → length w ≤ i → take i w ≡ w
+take_whole [] zero h = refl
+take_whole [] (suc i) h = refl
+take_whole (m ∷ w) zero h = absurd (omega arith)
+take_whole (m ∷ w) (suc i) h = ap (λ (v : Word). m ∷ v) (take_whole w i (omega arith))
+
+pub played_last : (w : Word) (i : ℕ) (skel : Word) → IsPlayedTo w i skel → length w ≤ i → (skel ≡ w) × IsLegal w
+played_last w i skel p done = let same : skel ≡ w = p.moves ∙ take_whole w i done in (same, subst IsLegal same p.legal)

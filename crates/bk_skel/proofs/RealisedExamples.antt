@@ -1,0 +1,59 @@
+-- A word and the sides of its tiling in the order of laying, which isn't the order of the code; and a word with an illegal
+-- move.
+use Rattle.std.proofs.Common.{List, [], arith, refl, ℕ, ◌++◌, ◌∷◌}
+use Rattle.bk_tiling.proofs.ExampleTilings.{rectangle_65x47}
+use Rattle.bk_tiling.proofs.TilingTest.{tiling_from_test}
+use Rattle.bk_tiling.specs.SquareGroups.{laid_group}
+use Rattle.bk_tiling.specs.declared.Segment.{Segment}
+use Rattle.bk_tiling.specs.declared.Square.{Square}
+use Rattle.bk_word.proofs.WordExamples.{word_65x47}
+use Rattle.bk_word.specs.Word.{Word}
+use Rattle.bk_word.specs.declared.Sign.TheVariants.{Even, Under}
+use Rattle.bk_lay.proofs.WordExamples.{the_word_65x47}
+use Rattle.bk_lay.proofs.WordTest.{by_tests, passes_as_valley}
+use Rattle.bk_skel.specs.LaidTiling.{IsLaidWith}
+use Rattle.bk_skel.specs.Realised.{IsFirstIllegal}
+
+abbrev segment : ℕ → ℕ → ℕ → Segment
+segment x width level = record { x = x; width = width; level = level }
+
+abbrev laid_65x47 : List Square
+laid_65x47 = laid_group 0 0 (25 ∷ 17 ∷ 23 ∷ []) ++ laid_group 25 17 (11 ∷ 6 ∷ []) ++ laid_group 0 25 (22 ∷ 3 ∷ []) ++ laid_group 36 23 (5 ∷ 24 ∷ []) ++ laid_group 22 28 (19 ∷ [])
+
+laid-65x47 : IsLaidWith word_65x47 (25 ∷ 17 ∷ 23 ∷ 11 ∷ 6 ∷ 22 ∷ 3 ∷ 5 ∷ 24 ∷ 19 ∷ []) rectangle_65x47
+laid-65x47 = record {
+  tiling = tiling_from_test rectangle_65x47 refl;
+  word = the_word_65x47;
+  laid = laid_65x47;
+  levels = 0 ∷ 17 ∷ 25 ∷ 23 ∷ 28 ∷ 47 ∷ [];
+  along = (
+    segment 0 65 0,
+    passes_as_valley _ _ _ (by_tests _ _ _ refl refl refl refl refl refl),
+    (
+      segment 25 17 17,
+      passes_as_valley _ _ _ (by_tests _ _ _ refl refl refl refl refl refl),
+      (
+        segment 0 25 25,
+        passes_as_valley _ _ _ (by_tests _ _ _ refl refl refl refl refl refl),
+        (
+          segment 36 29 23,
+          passes_as_valley _ _ _ (by_tests _ _ _ refl refl refl refl refl refl),
+          (segment 22 19 28, passes_as_valley _ _ _ (by_tests _ _ _ refl refl refl refl refl refl), (refl, refl)),
+        ),
+      ),
+    ),
+  );
+  sides = refl;
+}
+
+-- the second move of 2u.2e.1 wants a sign towards its left neighbour too
+abbrev illegal_word : Word
+illegal_word = record { count = 2; signs = Under ∷ [] } ∷ record { count = 2; signs = Even ∷ [] } ∷ record { count = 1; signs = [] } ∷ []
+
+illegal-2 : IsFirstIllegal illegal_word 2
+illegal-2 = record {
+  some = omega arith;
+  within = omega arith;
+  before = (record { some = omega arith; signs = refl }, tt);
+  here = λ legal. absurd (omega (arith, (legal.1).0.signs));
+}

@@ -1,0 +1,87 @@
+-- What the faults and the flow of a word's net say of the word.
+use Rattle.std.proofs.Common.{ap, arith, false, inl, inr, length, subst, sym, true, ℕ, ◌<◌, ◌≡◌, ◌≤◌, ◌⊎◌}
+use Rattle.bk_net.specs.Net.{HasNoLoose, Net}
+use Rattle.bk_flow.specs.Refusal.{IsRefusedFor}
+use Rattle.bk_flow.specs.Wide.{IsWide}
+use Rattle.bk_flow.specs.declared.FlowFault.TheVariants.{Loose, NoMemory, Wide}
+use Rattle.bk_flow.specs.declared.FlowFault.{FlowFault}
+use Rattle.bk_word.specs.Outline.{start}
+use Rattle.bk_word.specs.Play.{IsComplete, IsLegal, outline_of}
+use Rattle.bk_word.specs.Word.{Word, order_of}
+use Rattle.bk_word.specs.declared.TheConstants.{INLINE_ORDER}
+use Rattle.bk_skel.proofs.NoLoose.{a_word_net_has_no_loose}
+use Rattle.bk_skel.proofs.WordTilings.{wires_many}
+use Rattle.bk_skel.proofs.Shape.{Shaped, shaped_moves, shaped_start}
+use Rattle.bk_skel.specs.WideWord.{HasLargeCurrent, IsWideWord}
+use Rattle.bk_skel.specs.WordNet.{net_of_word}
+
+module _ (w : Word) (net : Net) (is : net ≡ net_of_word w) where
+  pub net_few : order_of w ≤ 16 → length net.wires ≤ 16
+  net_few few = omega (arith, ap (λ (n : Net). length n.wires) is, wires_many w, few)
+
+  pub net_joined : IsComplete w → HasNoLoose net
+  net_joined complete = subst HasNoLoose (sym is) (a_word_net_has_no_loose w complete).1
+
+  pub narrow_net : (IsWide net → false ≡ true) → IsWide (net_of_word w) → ⊥
+  narrow_net never wide = impossible (never (subst IsWide (sym is) wide))
+    where
+      impossible : false ≡ true → ⊥
+      impossible e = cc
+
+  pub wide_net : IsWide net → IsWideWord w
+  wide_net wide = inl (subst IsWide is wide)
+
+-- where all moves are legal and the word isn't complete, more than one segment is left
+pub open_end : (skel w : Word) → skel ≡ w → 0 < length w → IsLegal w → (IsComplete skel → ⊥) → IsLegal w × (1 < length (outline_of w).segments)
+open_end skel w same some legal never = (legal, cases (three (length (outline_of w).segments)))
+  where
+    shaped : Shaped (outline_of w)
+    shaped = shaped_moves start w legal shaped_start
+
+    three : (n : ℕ) → (n ≡ 0) ⊎ (n ≡ 1) ⊎ (1 < n)
+    three n = grind arith
+
+    cases : (length (outline_of w).segments ≡ 0) ⊎ (length (outline_of w).segments ≡ 1) ⊎ (1 < length (outline_of w).segments) → 1 < length (outline_of w).segments
+    cases (inl e) = absurd (omega (arith, e, shaped.many))
+    cases (inr (inl e)) = absurd (never (subst IsComplete (sym same) (record { legal = legal; some = some; one = e })))
+    cases (inr (inr h)) = h
+
+-- where the net isn't wide, the word is wide by its currents
+pub wide_by_currents : {E : Type 0} → (w : Word) → (IsWide (net_of_word w) → ⊥) → (E → HasLargeCurrent (net_of_word w)) × (HasLargeCurrent (net_of_word w) → E) → (E → IsWideWord w) × (IsWideWord w → E)
+wide_by_currents {E} w never both = (λ e. inr (both.0 e), λ wide. from wide)
+  where
+    from : IsWideWord w → E
+    from (inl wide) = absurd (never wide)
+    from (inr large) = both.1 large
+
+module _ (skel w : Word) (same : skel ≡ w) (complete : IsComplete skel) (net : Net) (is : net ≡ net_of_word skel) (fault : FlowFault) (refused : IsRefusedFor fault net) where
+  pub memory_fault : fault ≡ NoMemory → IsComplete w × (INLINE_ORDER < order_of w)
+  memory_fault e = (subst IsComplete same complete, from (subst (λ (f : FlowFault). IsRefusedFor f net) e refused))
+    where
+      from : HasNoLoose net × (16 < length net.wires) → INLINE_ORDER < order_of w
+      from r = omega (arith, r.1, ap (λ (n : Net). length n.wires) is, wires_many skel, ap order_of same)
+
+  pub wide_fault : fault ≡ Wide → IsComplete w × IsWideWord w
+  wide_fault e = (subst IsComplete same complete, subst IsWideWord same (from (subst (λ (f : FlowFault). IsRefusedFor f net) e refused)))
+    where
+      from : HasNoLoose net × IsWide net → IsWideWord skel
+      from r = wide_net skel net is r.1
+
+  pub loose_fault : (node : ℕ) → fault ≡ Loose node → ⊥
+  loose_fault node e = from (subst (λ (f : FlowFault). IsRefusedFor f net) e refused)
+    where
+      from : IsRefusedFor (Loose node) net → ⊥
+      from r = (r.0).1 (net_joined skel net is complete node (r.0).0)
+
+pub large_word : (skel w : Word) → skel ≡ w → IsComplete skel → HasLargeCurrent (net_of_word skel) → IsComplete w × IsWideWord w
+large_word skel w same complete large = (subst IsComplete same complete, subst IsWideWord same (inr large))
+
+pub not_wide : (skel w : Word) (net : Net) → skel ≡ w → net ≡ net_of_word skel → (IsWide net → ⊥) → (HasLargeCurrent (net_of_word skel) → false ≡ true) → IsWideWord w → ⊥
+not_wide skel w net same is never small wide = from (subst IsWideWord (sym same) wide)
+  where
+    impossible : false ≡ true → ⊥
+    impossible e = cc
+
+    from : IsWideWord skel → ⊥
+    from (inl wide) = never (subst IsWide (sym is) wide)
+    from (inr large) = impossible (small large)

@@ -1,0 +1,205 @@
+-- What is stored of a skeleton whose last move is taken back.
+use Rattle.std.specs.List.{concat, splice}
+use Rattle.std.proofs.Common.{List, [], ap, arith, drop, filter, length, map, max, refl, subst, sym, take, take_all, ℕ, ◌++◌, ◌+◌, ◌-◌, ◌<◌, ◌∙◌, ◌∷◌, ◌≡◌, ◌≤◌}
+use Rattle.std.proofs.lemmas.List.{length-drop, take_at}
+use Rattle.std.proofs.lemmas.List.Sums.{length-filter}
+use Rattle.bk_tiling.proofs.ListLaws.{length_append, length_map}
+use Rattle.bk_word.specs.Outline.{IsLegalMove, Outline, start}
+use Rattle.bk_word.specs.Play.{after_move, new_squares, outline_of, parts}
+use Rattle.bk_word.specs.Word.{Move, Word, order_of}
+use Rattle.bk_word.specs.declared.Sign.{Sign}
+use Rattle.bk_word.specs.declared.TheConstants.{LARGEST_ORDER}
+use Rattle.bk_skel.proofs.MovedParts.{length-numbers, many_segments}
+use Rattle.bk_skel.proofs.PlayedFlat.{closed_are, ends_are, ends_were, shows_back, signs_are, sizes_after_many, sizes_are}
+use Rattle.bk_skel.proofs.Shape.{Filled, Shaped, filled_parts, shaped_moves, shaped_start, valley_in}
+use Rattle.bk_skel.proofs.SkelFacts.{Counted, counted, snoc_one}
+use Rattle.bk_skel.proofs.StoredMoves.{Ends, after-snoc, last_move, legal-front, legal-last, order-snoc, signs-snoc, turns-snoc}
+use Rattle.bk_skel.proofs.TurnParts.{closed_is, first_is, sides_are, start_is}
+use Rattle.bk_skel.proofs.ValleyCut.{AtValley}
+use Rattle.bk_skel.specs.Skeleton.{IsStored, Shows, first_touched, open_sides, signs_before, signs_of, sizes_after, sizes_before, turn_at, turns_from}
+use Rattle.bk_skel.specs.Valley.{IsKeptSkeleton, segment_sizes}
+use Rattle.bk_skel.specs.declared.turns.Turn.{Turn}
+
+shows_self : (o : Outline) → Shows o (concat o.segments) (segment_sizes o) o.signs (concat o.closed)
+shows_self o = record { ends_are = refl; sizes_are = refl; signs_are = refl; closed_are = refl }
+
+-- what is stored before the last move, and the numbers that taking it back rests on
+pub record TakesBack (w : Word) (ends sizes : List ℕ) (signs : List Sign) (closed : List ℕ) (rest : List Turn) (turn : Turn) (played : List Sign) : Type 0 where
+  pub front : Word
+  pub last : Move
+  pub whole : w ≡ front ++ last ∷ []
+  pub stored : IsStored front
+      (splice ends turn.first (turn.first + turn.count) (drop (length closed - turn.closed) closed))
+      (splice sizes (first_touched turn) (first_touched turn + (turn.parted + 1)) (sizes_before turn))
+      (splice signs (first_touched turn) (first_touched turn + turn.parted) (signs_before turn))
+      (take (length closed - turn.closed) closed)
+      rest
+      (take turn.from played)
+  pub closed_within : turn.closed ≤ length closed
+  pub ends_within : turn.first + turn.count ≤ length ends
+  pub ends_fit : length ends - turn.count + turn.closed ≤ LARGEST_ORDER
+  pub sizes_within : first_touched turn + (turn.parted + 1) ≤ length sizes
+  pub signs_within : first_touched turn + turn.parted ≤ length signs
+  pub sizes_fit : length sizes - (turn.parted + 1) + (open_sides turn + 1) ≤ LARGEST_ORDER
+  pub signs_fit : length signs - turn.parted + open_sides turn ≤ LARGEST_ORDER
+
+module _ (front : Word) (m : Move) (kept : IsKeptSkeleton front) (legal : IsLegalMove (outline_of front) m) (few : order_of front + m.count ≤ 200) (from : ℕ) where
+  c : Counted front (concat (outline_of front).segments) (segment_sizes (outline_of front)) (outline_of front).signs (concat (outline_of front).closed)
+  c = counted front (concat (outline_of front).segments) (segment_sizes (outline_of front)) (outline_of front).signs (concat (outline_of front).closed) kept (shows_self (outline_of front))
+
+  abbrev v : AtValley (outline_of front)
+  v = valley_in (outline_of front) c.shaped
+
+  abbrev f : Filled (outline_of front) v
+  f = filled_parts (outline_of front) v c.shaped
+
+  abbrev turn : Turn
+  turn = turn_at (segment_sizes (outline_of front)) (outline_of front).signs m from
+
+  pub closed_in : (closed : List ℕ) → closed ≡ concat (after_move (outline_of front) m).closed → turn.closed ≤ length closed
+  closed_in closed e = omega (arith, closed_is (outline_of front) c.shaped m from v f, ap length (e ∙ closed_are (outline_of front) c.shaped m legal from), length_append (concat (outline_of front).closed) v.valley)
+
+  long_ends : (ends : List ℕ) → ends ≡ concat (after_move (outline_of front) m).segments → length ends ≡ length (concat v.before) + length (concat v.left) + (m.count + (length (concat v.right) + length (concat v.after)))
+  long_ends ends e = ap length (e ∙ ends_are (outline_of front) c.shaped m legal from) ∙ omega (
+    arith,
+    length_append (concat v.before ++ concat v.left) (new_squares (outline_of front) m ++ (concat v.right ++ concat v.after)),
+    length_append (concat v.before) (concat v.left),
+    length_append (new_squares (outline_of front) m) (concat v.right ++ concat v.after),
+    length_append (concat v.right) (concat v.after),
+    length-numbers (length (outline_of front).hung + 1) m.count,
+  )
+
+  pub ends_in : (ends : List ℕ) → ends ≡ concat (after_move (outline_of front) m).segments → turn.first + m.count ≤ length ends
+  ends_in ends e = omega (arith, first_is (outline_of front) c.shaped m from v f, long_ends ends e)
+
+  long_sizes : (sizes : List ℕ) → sizes ≡ segment_sizes (after_move (outline_of front) m) → length sizes ≡ length v.before + ((turn.parted + 1) + length v.after)
+  long_sizes sizes e = ap length (e ∙ sizes_are (outline_of front) c.shaped m legal from) ∙ omega (
+    arith,
+    length_append (map length v.before) (sizes_after turn m.signs ++ map length v.after),
+    length_append (sizes_after turn m.signs) (map length v.after),
+    length_map (length {A = ℕ}) v.before,
+    length_map (length {A = ℕ}) v.after,
+    sizes_after_many (max turn.left 1) (max turn.right 1) m.signs,
+  )
+
+  pub sizes_in : (sizes : List ℕ) → sizes ≡ segment_sizes (after_move (outline_of front) m) → first_touched turn + (turn.parted + 1) ≤ length sizes
+  sizes_in sizes e = omega (arith, start_is (outline_of front) c.shaped m from v f, long_sizes sizes e)
+
+  pub sizes_few : (sizes : List ℕ) → sizes ≡ segment_sizes (after_move (outline_of front) m) → length sizes - (turn.parted + 1) + (open_sides turn + 1) ≤ 200
+  sizes_few sizes e = omega (arith, sides_are (outline_of front) c.shaped m from v f, long_sizes sizes e, many_segments (outline_of front) v, length_map (length {A = ℕ}) (outline_of front).segments, c.few)
+
+  long_signs : (signs : List Sign) → signs ≡ (after_move (outline_of front) m).signs → length signs ≡ length v.before + (turn.parted + length v.after)
+  long_signs signs e = ap length (e ∙ signs_are (outline_of front) c.shaped m legal from) ∙ omega (
+    arith,
+    length_append v.before_signs (filter parts m.signs ++ v.after_signs),
+    length_append (filter parts m.signs) v.after_signs,
+    length-filter parts m.signs,
+    v.before_many,
+    v.after_many,
+  )
+
+  pub signs_in : (signs : List Sign) → signs ≡ (after_move (outline_of front) m).signs → first_touched turn + turn.parted ≤ length signs
+  signs_in signs e = omega (arith, start_is (outline_of front) c.shaped m from v f, long_signs signs e)
+
+  pub signs_few : (signs : List Sign) → signs ≡ (after_move (outline_of front) m).signs → length signs - turn.parted + open_sides turn ≤ 200
+  signs_few signs e = omega (arith, sides_are (outline_of front) c.shaped m from v f, long_signs signs e, many_segments (outline_of front) v, length_map (length {A = ℕ}) (outline_of front).segments, c.few)
+
+  -- the squares that stand after the move, without the new ones and with those closed, are those that stood before
+  pub ends_few : (ends : List ℕ) → ends ≡ concat (after_move (outline_of front) m).segments → length ends - m.count + turn.closed ≤ 200
+  ends_few ends e = omega (
+    arith,
+    closed_is (outline_of front) c.shaped m from v f,
+    long_ends ends e,
+    kept.few,
+    c.all,
+    ap length (ends_were (outline_of front) c.shaped m legal from),
+    length_append (concat v.before ++ concat v.left) (v.valley ++ (concat v.right ++ concat v.after)),
+    length_append (concat v.before) (concat v.left),
+    length_append v.valley (concat v.right ++ concat v.after),
+    length_append (concat v.right) (concat v.after),
+  )
+
+-- the last move taken back
+pub takes_back : (w : Word) (ends sizes : List ℕ) (signs : List Sign) (closed : List ℕ) (turns rest : List Turn) (turn : Turn) (played : List Sign)
+    → IsStored w ends sizes signs closed turns played → turns ≡ rest ++ turn ∷ [] → 0 < length w → TakesBack w ends sizes signs closed rest turn played
+takes_back w ends sizes signs closed turns rest turn played s cut some = back (last_move w some)
+  where
+    back : Ends w → TakesBack w ends sizes signs closed rest turn played
+    back r = record {
+      front = r.front;
+      last = r.last;
+      whole = r.whole;
+      stored = record {
+        kept = kept;
+        shows = subst (λ (t : Turn). Shows (outline_of r.front) (splice ends t.first (t.first + t.count) (drop (length closed - t.closed) closed)) (splice sizes (first_touched t) (first_touched t + (t.parted + 1)) (sizes_before t))
+            (splice signs (first_touched t) (first_touched t + t.parted) (signs_before t)) (take (length closed - t.closed) closed)) (sym turn_is)
+            (shows_back (outline_of r.front) shaped r.last legal (0 + length (signs_of r.front)) ends sizes signs closed shows);
+        turns_are = rest_is;
+        played_are = ap (λ (t : Turn). take t.from played) turn_is ∙ ap (take (0 + length (signs_of r.front))) (s.played_are ∙ ap signs_of r.whole ∙ signs-snoc r.front r.last) ∙ take_at (signs_of r.front) (r.last).signs (0 + length (signs_of r.front)) (omega arith);
+      };
+      closed_within = subst (λ (t : Turn). t.closed ≤ length closed) (sym turn_is) (closed_in r.front r.last kept legal few (0 + length (signs_of r.front)) closed (shows).closed_are);
+      ends_within = subst (λ (t : Turn). t.first + t.count ≤ length ends) (sym turn_is) (ends_in r.front r.last kept legal few (0 + length (signs_of r.front)) ends shows.ends_are);
+      ends_fit = subst (λ (t : Turn). length ends - t.count + t.closed ≤ 200) (sym turn_is) (ends_few r.front r.last kept legal few (0 + length (signs_of r.front)) ends shows.ends_are);
+      sizes_within = subst (λ (t : Turn). first_touched t + (t.parted + 1) ≤ length sizes) (sym turn_is) (sizes_in r.front r.last kept legal few (0 + length (signs_of r.front)) sizes shows.sizes_are);
+      signs_within = subst (λ (t : Turn). first_touched t + t.parted ≤ length signs) (sym turn_is) (signs_in r.front r.last kept legal few (0 + length (signs_of r.front)) signs shows.signs_are);
+      sizes_fit = subst (λ (t : Turn). length sizes - (t.parted + 1) + (open_sides t + 1) ≤ 200) (sym turn_is) (sizes_few r.front r.last kept legal few (0 + length (signs_of r.front)) sizes shows.sizes_are);
+      signs_fit = subst (λ (t : Turn). length signs - t.parted + open_sides t ≤ 200) (sym turn_is) (signs_few r.front r.last kept legal few (0 + length (signs_of r.front)) signs shows.signs_are);
+    }
+      where
+        whole_kept : IsKeptSkeleton (r.front ++ r.last ∷ [])
+        whole_kept = subst IsKeptSkeleton r.whole s.kept
+
+        kept : IsKeptSkeleton r.front
+        kept = record { legal = legal-front start r.front r.last whole_kept.legal; few = omega (arith, order-snoc r.front r.last, whole_kept.few) }
+
+        legal : IsLegalMove (outline_of r.front) r.last
+        legal = legal-last start r.front r.last whole_kept.legal
+
+        few : order_of r.front + r.last.count ≤ 200
+        few = omega (arith, order-snoc r.front r.last, whole_kept.few)
+
+        shows : Shows (after_move (outline_of r.front) r.last) ends sizes signs closed
+        shows = subst (λ (o : Outline). Shows o ends sizes signs closed) (ap outline_of r.whole ∙ after-snoc start r.front r.last) s.shows
+
+        shaped : Shaped (outline_of r.front)
+        shaped = shaped_moves start r.front kept.legal shaped_start
+
+        pair : (rest ≡ turns_from start 0 r.front) × (turn ≡ turn_at (segment_sizes (outline_of r.front)) (outline_of r.front).signs r.last (0 + length (signs_of r.front)))
+        pair = snoc_one rest (turns_from start 0 r.front) turn (turn_at (segment_sizes (outline_of r.front)) (outline_of r.front).signs r.last (0 + length (signs_of r.front)))
+            (sym cut ∙ s.turns_are ∙ ap (turns_from start 0) r.whole ∙ turns-snoc start 0 r.front r.last)
+
+        rest_is : rest ≡ turns_from start 0 r.front
+        rest_is = pair.0
+
+        turn_is : turn ≡ turn_at (segment_sizes (outline_of r.front)) (outline_of r.front).signs r.last (0 + length (signs_of r.front))
+        turn_is = pair.1
+
+-- the lists after a move was taken back, by those before
+pub record Back (ends sizes : List ℕ) (signs : List Sign) (closed : List ℕ) (played : List Sign) (turn : Turn) (new_ends new_sizes : List ℕ) (new_signs : List Sign) (new_closed : List ℕ) (new_played : List Sign) : Type 0 where
+  pub ends_new : new_ends ≡ splice ends turn.first (turn.first + turn.count) (drop (length closed - turn.closed) closed)
+  pub sizes_new : new_sizes ≡ splice sizes (first_touched turn) (first_touched turn + (turn.parted + 1)) (sizes_before turn)
+  pub signs_new : new_signs ≡ splice signs (first_touched turn) (first_touched turn + turn.parted) (signs_before turn)
+  pub closed_new : new_closed ≡ take (length closed - turn.closed) closed
+  pub played_new : new_played ≡ take turn.from played
+
+pub stored_back : {w : Word} {ends sizes : List ℕ} {signs : List Sign} {closed : List ℕ} {rest : List Turn} {turn : Turn} {played : List Sign} {new_ends new_sizes : List ℕ} {new_signs : List Sign} {new_closed : List ℕ} {new_played : List Sign}
+    → (b : TakesBack w ends sizes signs closed rest turn played) → Back ends sizes signs closed played turn new_ends new_sizes new_signs new_closed new_played
+    → IsStored b.front new_ends new_sizes new_signs new_closed rest new_played
+stored_back {ends = ends} {sizes = sizes} {signs = signs} {closed = closed} {rest = rest} {turn = turn} {played = played} {new_ends = new_ends} {new_sizes = new_sizes} {new_signs = new_signs} {new_closed = new_closed} {new_played = new_played} b n =
+    subst (λ (l : List ℕ). IsStored b.front l new_sizes new_signs new_closed rest new_played) (sym n.ends_new)
+    (subst (λ (l : List ℕ). IsStored b.front (splice ends turn.first (turn.first + turn.count) (drop (length closed - turn.closed) closed)) l new_signs new_closed rest new_played) (sym n.sizes_new)
+    (subst (λ (l : List Sign). IsStored b.front (splice ends turn.first (turn.first + turn.count) (drop (length closed - turn.closed) closed)) (splice sizes (first_touched turn) (first_touched turn + (turn.parted + 1)) (sizes_before turn)) l new_closed rest new_played) (sym n.signs_new)
+    (subst (λ (l : List ℕ × List Sign). IsStored b.front (splice ends turn.first (turn.first + turn.count) (drop (length closed - turn.closed) closed)) (splice sizes (first_touched turn) (first_touched turn + (turn.parted + 1)) (sizes_before turn)) (splice signs (first_touched turn) (first_touched turn + turn.parted) (signs_before turn)) l.0 rest l.1)
+    (λ i. (sym n.closed_new i, sym n.played_new i)) b.stored)))
+
+-- what stands from a place on, as it is read
+pub behind_read : (xs read : List ℕ) (kept n : ℕ) → read ≡ xs → kept ≡ n → take (length read - kept) (drop kept read) ≡ drop n xs
+behind_read xs read kept n e f = take_all (length read - kept) (drop kept read) (omega (arith, length-drop kept read)) ∙ (λ i. drop (f i) (e i))
+
+-- the moves that are left
+pub front_left : {w : Word} {ends sizes : List ℕ} {signs : List Sign} {closed : List ℕ} {rest : List Turn} {turn : Turn} {played : List Sign}
+    → (b : TakesBack w ends sizes signs closed rest turn played) → (now : Word) → w ≡ now → b.front ≡ take (length now - 1) now
+front_left b now e = sym (take_at b.front (b.last ∷ []) (length now - 1) long) ∙ ap (take (length now - 1)) (sym b.whole ∙ e)
+  where
+    long : length b.front ≡ length now - 1
+    long = omega (arith, ap (length {A = Move}) e, ap (length {A = Move}) b.whole, length_append b.front (b.last ∷ []))

@@ -1,0 +1,15 @@
+use Rattle.std.proofs.Common.{refl}
+use Rattle.bk_skel.proofs.RealisedWord.{narrow_net, net_few, net_joined, wide_by_currents, wide_net}
+use Rattle.bk_skel.proofs.realising.realise_small.Goals as goal
+
+pub solve_small-requires-clause-few : goal.solve_small-requires-clause-few
+solve_small-requires-clause-few c = net_few c.args.skel.now c.net.result c.net.ensures c.requires.few
+
+pub solve_small-requires-clause-joined : goal.solve_small-requires-clause-joined
+solve_small-requires-clause-joined c = net_joined c.args.skel.now c.net.result c.net.ensures c.requires.closed
+
+pub returns-in-Ok-clause-wide : goal.returns-in-Ok-clause-wide
+returns-in-Ok-clause-wide c = wide_by_currents c.args.skel.now (narrow_net c.args.skel.now c.net.result c.net.ensures c.in-Ok.ensures.wide.1) c.realised.ensures.wide
+
+pub returns-in-Err-clause-wide : goal.returns-in-Err-clause-wide
+returns-in-Err-clause-wide c = (λ e. wide_net c.args.skel.now c.net.result c.net.ensures (c.in-Err.ensures.wide.0 refl), λ h. refl)

@@ -1,0 +1,22 @@
+use Rattle.std.proofs.Common.{refl}
+use Rattle.bk_skel.proofs.PlacingLists.{not_true}
+use Rattle.bk_skel.proofs.WordTilings.{large_by, large_from, none_by, realised_by, sides_many}
+use Rattle.bk_skel.proofs.realising.realised.Goals as goal
+
+pub returns-then-has_large-clause-wide : goal.returns-then-has_large-clause-wide
+returns-then-has_large-clause-wide c = (λ e. large_by c.args.skel.now c.requires.closed c.args.flow.now.total c.args.flow.now.currents c.requires.flow c.currents-currents.result.now c.currents-currents.ensures.value (c.has_large.ensures.0 c.if-has_large.true), λ h. refl)
+
+pub placed-requires-clause-count : goal.placed-requires-clause-count
+placed-requires-clause-count c = sides_many c.args.skel.now c.requires.closed c.args.flow.now.total c.args.flow.now.currents c.requires.flow c.currents-currents.result.now c.in-Some.sides.items c.deref.result.now c.currents-currents.ensures.value c.in-Some.ensures.currents c.deref.ensures.0
+
+pub returns-in-Some-clause-realised : goal.returns-in-Some-clause-realised
+returns-in-Some-clause-realised c = realised_by c.args.skel.now c.requires.closed c.args.flow.now.total c.args.flow.now.currents c.requires.flow c.currents-currents.result.now c.in-Some.sides.items c.deref.result.now c.currents-currents.ensures.value c.in-Some.ensures.currents c.deref.ensures.0 c.placed.result c.placed.ensures.placed c.placed.ensures.only
+
+pub returns-in-Some-clause-wide : goal.returns-in-Some-clause-wide
+returns-in-Some-clause-wide c = (λ e. absurd (not_true _ e refl), λ h. absurd (not_true c.has_large.result (c.has_large.ensures.1 (large_from c.args.skel.now c.requires.closed c.args.flow.now.total c.args.flow.now.currents c.requires.flow c.currents-currents.result.now c.currents-currents.ensures.value h)) c.if-has_large.false))
+
+pub returns-in-None-clause-realised : goal.returns-in-None-clause-realised
+returns-in-None-clause-realised c = none_by c.args.skel.now c.requires.closed c.args.flow.now.total c.args.flow.now.currents c.requires.flow c.currents-currents.result.now c.currents-currents.ensures.value c.in-None.ensures.none
+
+pub returns-in-None-clause-wide : goal.returns-in-None-clause-wide
+returns-in-None-clause-wide c = (λ e. absurd (not_true _ e refl), λ h. absurd (not_true c.has_large.result (c.has_large.ensures.1 (large_from c.args.skel.now c.requires.closed c.args.flow.now.total c.args.flow.now.currents c.requires.flow c.currents-currents.result.now c.currents-currents.ensures.value h)) c.if-has_large.false))

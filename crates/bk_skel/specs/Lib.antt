@@ -1,0 +1,12 @@
+pub mod WordNet
+pub mod WideWord
+pub mod Renumbering
+pub mod WordFlow
+pub mod FlowTiling
+pub mod LaidTiling
+pub mod Board
+pub mod Valley
+pub mod Skeleton
+pub mod Wiring
+pub mod TurnRecord
+pub mod Realised

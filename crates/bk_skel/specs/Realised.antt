@@ -1,0 +1,38 @@
+-- What the net of a word makes of it: its one primitive tiling, none, or a refusal.
+use Rattle.std.specs.Prelude.{None, Option, Some, length, take, ℕ, ◌-◌, ◌<◌, ◌≡◌, ◌≤◌}
+use Rattle.bk_tiling.specs.Scale.{IsPrimitiveTiling}
+use Rattle.bk_tiling.specs.Tiling.{IsTiling, Tiling}
+use Rattle.bk_word.specs.Play.{IsComplete, IsLegal, outline_of}
+use Rattle.bk_word.specs.Word.{Word, order_of}
+use Rattle.bk_word.specs.declared.TheConstants.{INLINE_ORDER}
+use Rattle.bk_lay.specs.TilingWord.{IsWordOf}
+use Rattle.bk_skel.specs.WideWord.{IsWideWord}
+use Rattle.bk_skel.specs.declared.realising.SolveFault.TheVariants.{Illegal, NoMemory, OpenEnd, Wide}
+use Rattle.bk_skel.specs.declared.realising.SolveFault.{SolveFault}
+
+-- t is the primitive tiling of the word, and there is no other
+pub record IsTilingOf (w : Word) (t : Tiling) : Type 0 where
+  pub tiling : IsTiling t
+  pub primitive : IsPrimitiveTiling t
+  pub word : IsWordOf t w
+  pub only : (u : Tiling) → IsTiling u → IsPrimitiveTiling u → IsWordOf u w → u ≡ t
+
+-- the primitive tiling of the word, or that no tiling has the word
+abbrev pub IsRealised : Word → Option Tiling → Type 0
+IsRealised w (Some t) = IsTilingOf w t
+IsRealised w None = (t : Tiling) → IsTiling t → ¬ (IsWordOf t w)
+
+-- the move at this place, from 1, is the first that isn't legal after those before it
+pub record IsFirstIllegal (w : Word) (place : ℕ) : Type 0 where
+  pub some : 0 < place
+  pub within : place ≤ length w
+  pub before : IsLegal (take (place - 1) w)
+  pub here : ¬ (IsLegal (take place w))
+
+-- why the word has no answer: its first illegal move; more than one segment that is left; a number that is too large;
+-- or memory that is wanting, past the squares of a small word
+abbrev pub IsSolveFault : Word → SolveFault → Type 0
+IsSolveFault w (Illegal place) = IsFirstIllegal w place
+IsSolveFault w OpenEnd = IsLegal w × (1 < length (outline_of w).segments)
+IsSolveFault w Wide = IsComplete w × IsWideWord w
+IsSolveFault w NoMemory = IsComplete w × (INLINE_ORDER < order_of w)

@@ -1,0 +1,250 @@
+//! Squares placed along the moves of a complete word, from their sides.
+
+ghost use Rattle.std.specs.List.{AllByRecursion};
+ghost use Rattle.std.specs.Prelude.{IfSome, IsSomeAnd, IsTrue, drop, false, length, map, sum, take, true, ℕ, ◌*◌, ◌+◌, ◌++◌, ◌<◌, ◌^◌, ◌↔◌, ◌≡◌, ◌≤◌};
+ghost use Rattle.bk_tiling.specs.CodeOrder.{in_code_order};
+ghost use Rattle.bk_tiling.specs.Column.{depth};
+ghost use Rattle.bk_tiling.specs.Kept.{IsSide};
+ghost use Rattle.bk_tiling.specs.Refusal.{HaveSides, ShareNoCell};
+ghost use Rattle.bk_tiling.specs.SquareGroups.{laid_group};
+ghost use Rattle.bk_tiling.specs.Tiling.{Tiling as Tiled};
+ghost use Rattle.bk_tiling.specs.declared.Segment.{Segment as Gap};
+ghost use Rattle.bk_word.specs.Outline.{Outline};
+ghost use Rattle.bk_word.specs.Play.{IsComplete, numbers_from};
+ghost use Rattle.bk_word.specs.Word.{order_of};
+ghost use Rattle.bk_lay.specs.TilingWord.{sign_between, signs_between};
+ghost use Rattle.bk_skel.specs.LaidTiling.{IsLaidWith};
+ghost use Rattle.bk_skel.specs.Board.{CanLay, IsClosed, IsFittingGap, IsNumber, IsTurn, bottom_at, columns_of, square_at};
+
+use crate::skeleton::Skel;
+use arrayvec::ArrayVec;
+use bk_tiling::{LONGEST_SIDE, MOST_SQUARES, Segment, Square, Tiling};
+use bk_word::Sign;
+
+// The numbers of the laid squares that are open, from left to right. Squares are numbered from 1 in the order of laying.
+pub(crate) type Numbers = ArrayVec<u8, MOST_SQUARES>;
+
+/// The tiling of a closed skeleton's word whose squares have these sides, in the order in which the word lays them; each is
+/// 1 to 999,999,999,999,999. It is the only one. `None` comes exactly where no tiling of the word has them: where the
+/// squares of a move don't fill its valley, or their bottoms don't compare as its signs say (own).
+pub fn placed(skel: &Skel, sides: &[u64]) -> Option<Tiling>
+    requires closed { IsComplete skel.now }
+    requires count { length sides.now ≡ order_of skel.now }
+    requires sides { AllByRecursion IsSide sides.now }
+    ensures placed { IfSome result (IsLaidWith skel.now sides.now) }
+    ensures only { (u : Tiled) → IsLaidWith skel.now sides.now u → IsSomeAnd result (λ t. t ≡ u) }
+{
+    let moves = skel.moves();
+    let width = sum_of(&sides[..usize::from(skel.turn(0).count)]);
+    let mut laid = ArrayVec::new();
+    let mut numbers = ArrayVec::new();
+    for i in 0..moves {
+        let turn = skel.turn(i);
+        let from = laid.len();
+        let new = &sides[from..from + usize::from(turn.count)];
+        let first = usize::from(turn.first);
+        let end = first + usize::from(turn.closed);
+        let signs = skel.signs_at(i);
+        if !lay_move(&mut laid, &mut numbers, width, first, end, signs, new) {
+            return None;
+        }
+    }
+    Some(closed(laid, &numbers, width))
+}
+
+// Lays squares of these sides in the leftmost valley, whose squares' numbers stand from `first` up to `end`. It is true
+// where they fill it and the bottoms compare as the signs say.
+pub(crate) fn lay_move(
+    laid: &mut ArrayVec<Square, MOST_SQUARES>,
+    numbers: &mut Numbers,
+    width: u64,
+    first: usize,
+    end: usize,
+    signs: &[Sign],
+    new: &[u64],
+) -> bool
+    requires { (o : Outline) × CanLay width laid.old.items numbers.old.items first end signs.now new.now o }
+    ensures turn { result ≡ true → (v : Gap) × (IsTurn width laid.old.items (record { count = length new.now; signs = signs.now }) new.now v × (laid.new.items ≡ laid.old.items ++ laid_group v.x v.level new.now)) }
+    ensures numbers { result ≡ true → numbers.new.items ≡ (take first numbers.old.items ++ numbers_from (length laid.old.items + 1) (length new.now)) ++ drop end numbers.old.items }
+    ensures none { result ≡ false → (v : Gap) → ¬ (IsTurn width laid.old.items (record { count = length new.now; signs = signs.now }) new.now v) }
+{
+    let gap = gap_under(laid, &numbers[first..end], width);
+    if sum_of(new) != gap.width {
+        return false;
+    }
+    let from = laid.len() + 1;
+    push_group(laid, gap, new);
+    *numbers = hung_in(numbers, first, end, from, new.len());
+    let left = first.saturating_sub(1);
+    signs_fit(laid, &numbers[left..left + signs.len() + 1], signs)
+}
+
+// The tiling of all squares that are laid, whose bottoms lie at one level.
+pub(crate) fn closed(laid: ArrayVec<Square, MOST_SQUARES>, numbers: &[u8], width: u64) -> Tiling
+    requires { (o : Outline) × IsClosed width laid.items numbers.now o }
+    ensures { result ≡ record { width = width; height = depth laid.items 0; squares = in_code_order laid.items } }
+{
+    let height = bottom_of(&laid, numbers[0]);
+    let mut squares = laid;
+    put_in_order(&mut squares);
+    Tiling::from_known(width, height, squares)
+}
+
+// Puts squares into code order, of which no two share a cell.
+fn put_in_order(squares: &mut ArrayVec<Square, MOST_SQUARES>)
+    requires sides { HaveSides squares.old.items }
+    requires apart { ShareNoCell squares.old.items }
+    ensures { squares.new.items ≡ in_code_order squares.old.items }
+{
+    squares.sort_unstable_by_key(|q| (q.y, q.x));
+}
+
+// The gap under the squares of these numbers: the columns over which they stand, at the level of their bottoms. Where
+// there are none it is the top.
+fn gap_under(laid: &[Square], numbers: &[u8], width: u64) -> Segment
+    requires { (v : Gap) × IsFittingGap width laid.now numbers.now v }
+    ensures { (v : Gap) → IsFittingGap width laid.now numbers.now v → result ≡ v }
+{
+    if numbers.is_empty() {
+        return Segment {
+            x: 0,
+            width,
+            level: 0,
+        };
+    }
+    let first = square_of(laid, numbers[0]);
+    Segment {
+        x: first.x,
+        width: columns_over(laid, numbers),
+        level: first.y + first.s,
+    }
+}
+
+// The square of a number.
+fn square_of(laid: &[Square], number: u8) -> Square
+    requires { IsNumber laid.now number }
+    ensures { result ≡ square_at laid.now number }
+{
+    laid[usize::from(number) - 1]
+}
+
+// How many columns the squares of these numbers stand over, which stand side by side.
+fn columns_over(laid: &[Square], numbers: &[u8]) -> u64
+    requires known { AllByRecursion (IsNumber laid.now) numbers.now }
+    requires fits { columns_of laid.now numbers.now < 2 ^ 63 }
+    ensures { result ≡ columns_of laid.now numbers.now }
+{
+    let mut columns = 0;
+    for number in numbers {
+        columns += square_of(laid, *number).s;
+    }
+    columns
+}
+
+// The sum of sides.
+pub(crate) fn sum_of(sides: &[u64]) -> u64
+    requires few { length sides.now ≤ MOST_SQUARES }
+    requires sides { AllByRecursion IsSide sides.now }
+    ensures sum { result ≡ sum sides.now }
+    ensures small { result ≤ LONGEST_SIDE * length sides.now }
+{
+    let mut total = 0;
+    for side in sides {
+        total += *side;
+    }
+    total
+}
+
+// Appends the squares of a group under a gap.
+fn push_group(laid: &mut ArrayVec<Square, MOST_SQUARES>, gap: Segment, sides: &[u64])
+    requires room { length laid.old.items + length sides.now ≤ MOST_SQUARES }
+    requires fits { gap.x + sum sides.now < 2 ^ 63 }
+    ensures { laid.new.items ≡ laid.old.items ++ laid_group gap.x gap.level sides.now }
+{
+    let mut x = gap.x;
+    for side in sides {
+        laid.push(Square {
+            x,
+            y: gap.level,
+            s: *side,
+        });
+        x += *side;
+    }
+}
+
+// The open squares where those from one place up to another give way to so many new ones, numbered from a number on.
+fn hung_in(numbers: &[u8], first: usize, end: usize, from: usize, count: usize) -> Numbers
+    requires order { first ≤ end }
+    requires within { end ≤ length numbers.now }
+    requires room { length numbers.now + count ≤ MOST_SQUARES }
+    requires last { from + count ≤ MOST_SQUARES + 1 }
+    ensures { result.items ≡ (take first numbers.now ++ numbers_from from count) ++ drop end numbers.now }
+{
+    let mut hung = ArrayVec::new();
+    push_all(&mut hung, &numbers[..first]);
+    push_new(&mut hung, from, count);
+    push_all(&mut hung, &numbers[end..]);
+    hung
+}
+
+// Appends numbers.
+fn push_all(numbers: &mut Numbers, more: &[u8])
+    requires { length numbers.old.items + length more.now ≤ MOST_SQUARES }
+    ensures { numbers.new.items ≡ numbers.old.items ++ more.now }
+{
+    for number in more {
+        numbers.push(*number);
+    }
+}
+
+// Appends so many numbers, from a number on.
+fn push_new(numbers: &mut Numbers, from: usize, count: usize)
+    requires room { length numbers.old.items + count ≤ MOST_SQUARES }
+    requires fits { from + count ≤ MOST_SQUARES + 1 }
+    ensures { numbers.new.items ≡ numbers.old.items ++ numbers_from from count }
+{
+    for i in 0..count {
+        numbers.push((from + i) as u8);
+    }
+}
+
+// Whether the bottoms of squares compare as the signs between them say.
+fn signs_fit(laid: &[Square], numbers: &[u8], signs: &[Sign]) -> bool
+    requires known { AllByRecursion (IsNumber laid.now) numbers.now }
+    requires low { (n : ℕ) → IsNumber laid.now n → bottom_at laid.now n < 2 ^ 63 }
+    requires count { length signs.now + 1 ≡ length numbers.now }
+    ensures { IsTrue result ↔ (signs.now ≡ signs_between (map (bottom_at laid.now) numbers.now)) }
+{
+    let mut left = bottom_of(laid, numbers[0]);
+    for i in 0..signs.len() {
+        let right = bottom_of(laid, numbers[i + 1]);
+        if signs[i] != sign_of(left, right) {
+            return false;
+        }
+        left = right;
+    }
+    true
+}
+
+// The level of the bottom of a square.
+fn bottom_of(laid: &[Square], number: u8) -> u64
+    requires known { IsNumber laid.now number }
+    requires low { bottom_at laid.now number < 2 ^ 63 }
+    ensures { result ≡ bottom_at laid.now number }
+{
+    let square = square_of(laid, number);
+    square.y + square.s
+}
+
+// How a bottom stands to the one right of it.
+fn sign_of(left: u64, right: u64) -> Sign
+    ensures { result ≡ sign_between left right }
+{
+    if left < right {
+        Sign::Above
+    } else if left == right {
+        Sign::Even
+    } else {
+        Sign::Under
+    }
+}

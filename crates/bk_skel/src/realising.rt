@@ -1,0 +1,259 @@
+//! The primitive tiling of a word, from the flow of its net.
+
+ghost use Rattle.std.specs.List.{AllByRecursion};
+ghost use Rattle.std.specs.Prelude.{All, Any, IfErr, IfNone, IfOk, IfSome, IsErr, IsTrue, OnOk, length, map, nat_abs, pos, ◌<◌, ◌^◌, ◌↔◌, ◌≡◌, ◌≤◌, ◌≤ℤ◌};
+ghost use Rattle.bk_net.specs.Flow.{IsPrimitiveFlow};
+ghost use Rattle.bk_tiling.specs.Kept.{IsSide};
+ghost use Rattle.bk_word.specs.Play.{IsComplete, IsLegal};
+ghost use Rattle.bk_word.specs.Word.{order_of};
+ghost use Rattle.bk_skel.specs.Realised.{IsFirstIllegal, IsRealised, IsSolveFault};
+ghost use Rattle.bk_skel.specs.WideWord.{HasLargeCurrent, IsWideWord};
+ghost use Rattle.bk_skel.specs.WordNet.{net_of_word};
+
+use crate::placing::placed;
+use crate::skeleton::Skel;
+use arrayvec::ArrayVec;
+use bk_flow::{Flow, FlowFault, solve, solve_small};
+use bk_frac::Wide;
+use bk_tiling::{LONGEST_SIDE, MOST_SQUARES, Tiling};
+use bk_word::{INLINE_ORDER, Word};
+use std::alloc::Global;
+
+/// Why a word has no answer.
+#[derive(Clone, Copy, Debug, PartialEq, Eq)]
+pub enum SolveFault {
+    /// The move at this place, from 1, is the first that is not legal after those before it.
+    Illegal { place: usize },
+    /// All moves are legal, and more than one segment is left.
+    OpenEnd,
+    /// The stated elimination of the word's net writes a number that passes 2^127 - 1 in magnitude, or a current of its
+    /// primitive flow is 1,000,000,000,000,000 or more in magnitude.
+    Wide,
+    /// There is no memory left.
+    NoMemory,
+}
+
+/// The primitive tiling whose word is the list of moves of a closed skeleton of at most 16 squares: no other has this word
+/// (Brooks, Smith, Stone and Tutte 1940). `None` comes exactly where the word isn't wide and no tiling has it. `Wide` comes
+/// exactly where the word is wide (own). It takes no memory.
+pub fn realise_small(skel: &Skel) -> Result<Option<Tiling>, Wide>
+    requires closed { IsComplete skel.now }
+    requires few { order_of skel.now ≤ INLINE_ORDER }
+    ensures realised { IfOk result (IsRealised skel.now) }
+    ensures wide { IsErr result ↔ IsWideWord skel.now }
+{
+    match solve_small(&skel.net()) {
+        Ok(flow) => realised(skel, &flow),
+        Err(Wide) => Err(Wide),
+    }
+}
+
+/// The primitive tiling that has a word of at least one move; no other has it (Brooks, Smith, Stone and Tutte 1940). It is
+/// refused with the first of these that holds: a move is illegal; more than one segment is left; there is no memory, never
+/// at 16 squares or fewer; the word is wide. `None` comes exactly where the word is complete and not wide, and no tiling
+/// has it (own).
+pub fn realise(alloc: Global, word: &Word) -> Result<Option<Tiling>, SolveFault>
+    requires { 0 < length word.now }
+    ensures complete { OnOk result (IsComplete word.now) }
+    ensures narrow { OnOk result (¬ (IsWideWord word.now)) }
+    ensures realised { IfOk result (IsRealised word.now) }
+    ensures refused { IfErr result (IsSolveFault word.now) }
+{
+    let skel = match skeleton_of(word) {
+        Ok(skel) => skel,
+        Err(place) => return Err(SolveFault::Illegal { place }),
+    };
+    if !skel.is_closed() {
+        return Err(SolveFault::OpenEnd);
+    }
+    let flow = match solve(alloc, &skel.net()) {
+        Ok(flow) => flow,
+        Err(FlowFault::NoMemory) => return Err(SolveFault::NoMemory),
+        Err(FlowFault::Wide) => return Err(SolveFault::Wide),
+        Err(FlowFault::Loose { node: _ }) => unreachable!(),
+    };
+    match realised(&skel, &flow) {
+        Ok(tiling) => Ok(tiling),
+        Err(Wide) => Err(SolveFault::Wide),
+    }
+}
+
+// The skeleton of a word, or the place of its first illegal move, from 1.
+fn skeleton_of(word: &Word) -> Result<Skel, usize>
+    ensures skeleton { IfOk result (λ skel. skel ≡ word.now) }
+    ensures legal { OnOk result (IsLegal word.now) }
+    ensures illegal { IfErr result (IsFirstIllegal word.now) }
+{
+    let mut skel = Skel::new();
+    for i in 0..word.moves() {
+        let m = word.get(i);
+        if !skel.legal(&m) {
+            return Err(i + 1);
+        }
+        skel.play(&m);
+    }
+    Ok(skel)
+}
+
+// What a flow of a word's net makes of the word.
+fn realised(skel: &Skel, flow: &Flow) -> Result<Option<Tiling>, Wide>
+    requires closed { IsComplete skel.now }
+    requires flow { IsPrimitiveFlow (net_of_word skel.now) flow.now.total flow.now.currents }
+    ensures realised { IfOk result (IsRealised skel.now) }
+    ensures wide { IsErr result ↔ HasLargeCurrent (net_of_word skel.now) }
+{
+    let currents = flow.currents();
+    if has_large(currents) {
+        return Err(Wide);
+    }
+    match sides_of(currents) {
+        Some(sides) => Ok(placed(skel, &sides)),
+        None => Ok(None),
+    }
+}
+
+// Whether a current is too large for a side, in magnitude.
+fn has_large(currents: &[i128]) -> bool
+    ensures { IsTrue result ↔ Any (λ c. 10 ^ 15 ≤ nat_abs c) currents.now }
+{
+    for current in currents {
+        if current.unsigned_abs() > u128::from(LONGEST_SIDE) {
+            return true;
+        }
+    }
+    false
+}
+
+// The currents as sides, where each is at least 1.
+fn sides_of(currents: &[i128]) -> Option<ArrayVec<u64, MOST_SQUARES>>
+    requires few { length currents.now ≤ MOST_SQUARES }
+    requires small { All (λ c. nat_abs c < 10 ^ 15) currents.now }
+    ensures sides { IfSome result (λ s. AllByRecursion IsSide s.items) }
+    ensures currents { IfSome result (λ s. currents.now ≡ map pos s.items) }
+    ensures none { IfNone result (¬ (AllByRecursion (λ c. pos 1 ≤ℤ c) currents.now)) }
+{
+    let mut sides = ArrayVec::new();
+    for current in currents {
+        if *current < 1 {
+            return None;
+        }
+        sides.push(*current as u64);
+    }
+    Some(sides)
+}
+
+#[cfg(test)]
+mod tests {
+    use super::*;
+    use bk_word::read_word;
+    use std::process::Abort;
+    use std::test::Fail;
+
+    // A tiling's width, its height and its sides in code order.
+    type Rectangle = (u64, u64, &'static [u64]);
+
+    // Asserts that a word is realised as this rectangle, also without memory where its order is at most 16.
+    fn assert_realised(rt: &impl Abort, alloc: Global, text: &[u8], want: Option<Rectangle>) {
+        let word = read_word(alloc, text).expect(rt, "it is a word");
+        assert!(rt; word.moves() > 0);
+        let tiling = realise(alloc, &word).expect(rt, "it is complete and not wide");
+        assert_rectangle(rt, &tiling, want);
+        if word.order() > INLINE_ORDER {
+            return;
+        }
+        let skel = skeleton_of(&word).expect(rt, "it is legal");
+        assert!(rt; skel.is_closed());
+        assert!(rt; skel.order() <= INLINE_ORDER);
+        let small = realise_small(&skel).ok().expect(rt, "it is not wide");
+        assert_rectangle(rt, &small, want);
+    }
+
+    // Asserts size and sides of a tiling, or that there is none.
+    fn assert_rectangle(rt: &impl Abort, tiling: &Option<Tiling>, want: Option<Rectangle>) {
+        let Some((width, height, sides)) = want else {
+            assert!(rt; tiling.is_none());
+            return;
+        };
+        let tiling = tiling.as_ref().expect(rt, "some tiling has the word");
+        assert_eq!(rt; (tiling.width(), tiling.height()), (width, height));
+        assert_eq!(rt; tiling.order(), sides.len());
+        for (q, side) in tiling.squares().iter().zip(sides) {
+            assert_eq!(rt; q.s, *side);
+        }
+    }
+
+    #[test]
+    fn realises_words(rt: HostRuntime) {
+        let rows: [(&[u8], Option<Rectangle>); 8] = [
+            (b"2u.2eu.1e", Some((8, 5, &[5, 3, 2, 1, 1]))),
+            (b"2e.2e", Some((2, 2, &[1, 1, 1, 1]))),
+            (b"1", Some((1, 1, &[1]))),
+            (b"2u.2ea.1e", None),
+            (b"2a.1u.1e", None),
+            (
+                b"2u.2aa.2ue.2eue.1e",
+                Some((33, 32, &[18, 15, 7, 8, 14, 4, 10, 1, 9])),
+            ),
+            (
+                b"3ua.2aue.2ue.2ea.1ee",
+                Some((65, 47, &[25, 17, 23, 11, 6, 5, 24, 22, 3, 19])),
+            ),
+            (
+                b"1.1.1.1.1.1.1.1.1.1.1.1.1.1.1.1.1",
+                Some((1, 17, &[1; 17])),
+            ),
+        ];
+        for (text, want) in rows {
+            assert_realised(&rt, rt.alloc(), text, want);
+        }
+    }
+
+    // Why a word is refused.
+    fn refusal(rt: &impl Abort, alloc: Global, text: &[u8]) -> Option<SolveFault> {
+        let word = read_word(alloc, text).expect(rt, "it is a word");
+        assert!(rt; word.moves() > 0);
+        realise(alloc, &word).err()
+    }
+
+    #[test]
+    fn refuses_words(rt: HostRuntime) -> Result<(), Fail> {
+        let rows: [(&[u8], SolveFault); 4] = [
+            (b"2u.2e.1", SolveFault::Illegal { place: 2 }),
+            (b"2uu", SolveFault::Illegal { place: 1 }),
+            (b"2u.2eu", SolveFault::OpenEnd),
+            (b"1.2a", SolveFault::OpenEnd),
+        ];
+        for (text, want) in rows {
+            assert_eq!(rt; refusal(&rt, rt.alloc(), text), Some(want));
+        }
+        let mut stairs = Vec::new(rt.alloc());
+        stairs.extend_from_slice(b"2u")?;
+        for _ in 0..98 {
+            stairs.extend_from_slice(b".2eu")?;
+        }
+        stairs.extend_from_slice(b".1e")?;
+        assert_eq!(rt; refusal(&rt, rt.alloc(), &stairs), Some(SolveFault::Wide));
+        Ok(())
+    }
+
+    #[test]
+    fn places_sides(rt: HostRuntime) {
+        let rows: [(&[u64], Option<Rectangle>); 5] = [
+            (&[5, 3, 2, 1, 1], Some((8, 5, &[5, 3, 2, 1, 1]))),
+            (&[10, 6, 4, 2, 2], Some((16, 10, &[10, 6, 4, 2, 2]))),
+            (&[5, 3, 1, 2, 1], None),
+            (&[5, 3, 2, 2, 1], None),
+            (&[3, 5, 2, 1, 1], None),
+        ];
+        let word = read_word(rt.alloc(), b"2u.2eu.1e").expect(&rt, "it is a word");
+        let skel = skeleton_of(&word).expect(&rt, "it is legal");
+        assert!(rt; skel.is_closed() && skel.order() == 5);
+        for (sides, want) in rows {
+            assert_eq!(rt; sides.len(), 5);
+            for side in sides {
+                assert!(rt; *side >= 1 && *side <= LONGEST_SIDE);
+            }
+            assert_rectangle(&rt, &placed(&skel, sides), want);
+        }
+    }
+}

@@ -1,0 +1,32 @@
+//! How listings and trials end.
+
+ghost use Rattle.std.specs.Prelude.{◌≡◌};
+ghost use Rattle.bk_top.specs.Running.{IsTried, status_of_listing};
+
+use arrayvec::ArrayVec;
+use bk_ports::{Failed, Sink};
+use bk_report::Last;
+use bk_trial::trial;
+
+// The status that a listing ends with.
+pub(crate) fn listing_status(ended: &Result<Last, Failed>) -> u8
+    ensures { result ≡ status_of_listing ended.now }
+{
+    match ended {
+        Ok(Last::End | Last::Limit) => 0,
+        Ok(Last::Wide) => 5,
+        Err(Failed) => 4,
+    }
+}
+
+// Writes the line about trial codes, and gives the status.
+pub(crate) fn try_codes<O: Sink>(seed: u64, count: u32, out: &mut O) -> u8
+    ensures { IsTried seed count (O.written out.old) (O.written out.new) (O.faults out.old) (O.faults out.new) result }
+{
+    let mut line = ArrayVec::<u8, 9000>::new();
+    trial(seed, count, &mut line);
+    match out.write_all(line.as_slice()) {
+        Ok(()) => 0,
+        Err(Failed) => 4,
+    }
+}

@@ -1,0 +1,115 @@
+-- What a pass over the signs between open segments has counted up to a place.
+use Rattle.std.proofs.Common.{Bool, List, [], ap, arith, cond, drop, false, length, max, nat_eq, refl, slice_index_or, suc, sym, true, zero, ℕ, ◌&&◌, ◌+◌, ◌<◌, ◌∙◌, ◌∷◌, ◌≡◌, ◌≤◌}
+use Rattle.bk_word.specs.declared.Sign.{Sign}
+use Rattle.bk_word.specs.declared.Sign.TheVariants.{Above, Even, Under}
+use Rattle.bk_walk.proofs.ClosingLaws.{bound_unders, drop_one, unders, unders-cons}
+use Rattle.bk_walk.specs.ClosingBound.{closing_bound}
+use Rattle.bk_walk.specs.SingleValleys.{single_valley, single_valleys, single_valleys_from}
+
+drop_none : {A : Type 0} (xs : List A) → drop 0 xs ≡ xs
+drop_none [] = refl
+drop_none (x ∷ xs) = refl
+
+pub drop_here : {A : Type 0} (d : A) (xs : List A) (i : ℕ) → i < length xs → drop i xs ≡ slice_index_or xs i d ∷ drop (i + 1) xs
+drop_here d [] i h = absurd (omega arith)
+drop_here d (x ∷ xs) zero h = ap (λ ys. x ∷ ys) (sym (drop_one x xs))
+drop_here d (x ∷ xs) (suc i) h = drop_here d xs i (omega arith) ∙ (λ j. slice_index_or xs i d ∷ drop (next j) (x ∷ xs))
+  where
+    next : suc (i + 1) ≡ suc i + 1
+    next = omega arith
+
+pub drop_all : {A : Type 0} (xs : List A) (i : ℕ) → length xs ≤ i → drop i xs ≡ []
+drop_all [] zero h = refl
+drop_all [] (suc i) h = refl
+drop_all (x ∷ xs) zero h = absurd (omega arith)
+drop_all (x ∷ xs) (suc i) h = drop_all xs i (omega arith)
+
+-- the greatest number of closings of the segments up to a place by the signs up to it, and how many of these are above
+pub record IsCounted (signs : List Sign) (i most aboves : ℕ) : Type 0 where
+  pub split : closing_bound signs ≡ max (most + unders (drop i signs)) (aboves + closing_bound (drop i signs))
+  pub order : aboves ≤ most
+  pub few : most ≤ i
+
+pub counted_start : (signs : List Sign) → IsCounted signs 0 0 0
+counted_start signs = record { split = omega (arith, bound_unders signs, ap closing_bound (drop_none signs), ap unders (drop_none signs)); order = omega arith; few = omega arith }
+
+here : (signs : List Sign) (i : ℕ) (g : Sign) → i < length signs → slice_index_or signs i Above ≡ g → drop i signs ≡ g ∷ drop (i + 1) signs
+here signs i g h e = drop_here Above signs i h ∙ ap (λ (s : Sign). s ∷ drop (i + 1) signs) e
+
+module _ (signs : List Sign) (i most aboves : ℕ) (m a : ℕ) (h : i < length signs) where
+  pub counted_above : slice_index_or signs i Above ≡ Above → m ≡ max most (aboves + 1) → a ≡ aboves + 1 → IsCounted signs i most aboves → IsCounted signs (i + 1) m a
+  counted_above e f g c = record {
+    split = omega (arith, c.split, f, g, ap closing_bound (here signs i Above h e), ap unders (here signs i Above h e), unders-cons Above (drop (i + 1) signs), bound_unders (drop (i + 1) signs));
+    order = omega (arith, f, g);
+    few = omega (arith, f, g, c.order, c.few);
+  }
+
+  pub counted_even : slice_index_or signs i Above ≡ Even → m ≡ most → a ≡ aboves → IsCounted signs i most aboves → IsCounted signs (i + 1) m a
+  counted_even e f g c = record {
+    split = omega (arith, c.split, f, g, ap closing_bound (here signs i Even h e), ap unders (here signs i Even h e), unders-cons Even (drop (i + 1) signs));
+    order = omega (arith, c.order, f, g);
+    few = omega (arith, c.few, f);
+  }
+
+  pub counted_under : slice_index_or signs i Above ≡ Under → m ≡ most + 1 → a ≡ aboves → IsCounted signs i most aboves → IsCounted signs (i + 1) m a
+  counted_under e f g c = record {
+    split = omega (arith, c.split, c.order, f, g, ap closing_bound (here signs i Under h e), ap unders (here signs i Under h e), unders-cons Under (drop (i + 1) signs));
+    order = omega (arith, c.order, f, g);
+    few = omega (arith, c.few, f);
+  }
+
+pub counted_end : (signs : List Sign) (i most aboves : ℕ) → length signs ≤ i → IsCounted signs i most aboves → most ≡ closing_bound signs
+counted_end signs i most aboves h c = omega (arith, c.split, c.order, ap closing_bound (drop_all signs i h), ap unders (drop_all signs i h))
+
+-- ---- valleys of one square
+
+-- what is found up to a place, and what is still to be found behind it, are all
+pub record IsFound (signs : List Sign) (sizes : List ℕ) (i found : ℕ) (low : Bool) : Type 0 where
+  pub split : single_valleys signs sizes ≡ found + single_valleys_from low (drop i signs) (drop i sizes)
+  pub few : found ≤ i
+
+pub found_start : (signs : List Sign) (sizes : List ℕ) → IsFound signs sizes 0 0 true
+found_start signs sizes = record { split = omega (arith, same); few = omega arith }
+  where
+    same : single_valleys_from true (drop 0 signs) (drop 0 sizes) ≡ single_valleys_from true signs sizes
+    same = λ i. single_valleys_from true (drop_none signs i) (drop_none sizes i)
+
+at_place : (low : Bool) (signs : List Sign) (sizes : List ℕ) (i : ℕ) (g : Sign) → i < length signs → length sizes ≡ length signs + 1 → slice_index_or signs i Above ≡ g
+    → single_valleys_from low (drop i signs) (drop i sizes) ≡ single_valleys_from low (g ∷ drop (i + 1) signs) (slice_index_or sizes i 0 ∷ drop (i + 1) sizes)
+at_place low signs sizes i g h k e = λ j. single_valleys_from low (here signs i g h e j) (drop_here 0 sizes i (omega (arith, h, k)) j)
+
+pub single_few : (low : Bool) (size : ℕ) → single_valley low size ≤ 1
+single_few low size = most (low && nat_eq size 1)
+  where
+    most : (b : Bool) → ◌≤◌ (cond {A = ℕ} b 1 0) 1
+    most true = omega arith
+    most false = omega arith
+
+module _ (signs : List Sign) (sizes : List ℕ) (i found : ℕ) (low : Bool) (n : ℕ) (next : Bool) (h : i < length signs) (long : length sizes ≡ length signs + 1) where
+  pub found_above : slice_index_or signs i Above ≡ Above → n ≡ found + single_valley low (slice_index_or sizes i 0) → next ≡ false → IsFound signs sizes i found low → IsFound signs sizes (i + 1) n next
+  found_above e f g c = record {
+    split = omega (arith, c.split, f, at_place low signs sizes i Above h long e, ap (λ (b : Bool). single_valleys_from b (drop (i + 1) signs) (drop (i + 1) sizes)) g);
+    few = omega (arith, c.few, f, single_few low (slice_index_or sizes i 0));
+  }
+
+  pub found_even : slice_index_or signs i Above ≡ Even → n ≡ found → next ≡ false → IsFound signs sizes i found low → IsFound signs sizes (i + 1) n next
+  found_even e f g c = record {
+    split = omega (arith, c.split, f, at_place low signs sizes i Even h long e, ap (λ (b : Bool). single_valleys_from b (drop (i + 1) signs) (drop (i + 1) sizes)) g);
+    few = omega (arith, c.few, f);
+  }
+
+  pub found_under : slice_index_or signs i Above ≡ Under → n ≡ found → next ≡ true → IsFound signs sizes i found low → IsFound signs sizes (i + 1) n next
+  found_under e f g c = record {
+    split = omega (arith, c.split, f, at_place low signs sizes i Under h long e, ap (λ (b : Bool). single_valleys_from b (drop (i + 1) signs) (drop (i + 1) sizes)) g);
+    few = omega (arith, c.few, f);
+  }
+
+pub found_end : (signs : List Sign) (sizes : List ℕ) (i found : ℕ) (low : Bool) → i ≡ length signs → length sizes ≡ length signs + 1 → IsFound signs sizes i found low
+    → found + single_valley low (slice_index_or sizes (length signs) 0) ≡ single_valleys signs sizes
+found_end signs sizes i found low e long c = omega (arith, c.split, same, place)
+  where
+    same : single_valleys_from low (drop i signs) (drop i sizes) ≡ single_valley low (slice_index_or sizes i 0)
+    same = λ j. single_valleys_from low (drop_all signs i (omega (arith, e)) j) ((drop_here 0 sizes i (omega (arith, e, long)) ∙ ap (λ (ss : List ℕ). slice_index_or sizes i 0 ∷ ss) (drop_all sizes (i + 1) (omega (arith, e, long)))) j)
+
+    place : single_valley low (slice_index_or sizes i 0) ≡ single_valley low (slice_index_or sizes (length signs) 0)
+    place = λ j. single_valley low (slice_index_or sizes (e j) 0)

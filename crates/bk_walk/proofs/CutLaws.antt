@@ -1,0 +1,137 @@
+-- Cuts that hold for all moves of one count whose signs begin alike.
+use Rattle.std.proofs.Common.{Contains, IsTrue, List, None, Option, Some, [], ap, arith, drop, inl, inr, length, nat_lt, refl, slice_get, slice_index_or, subst, suc, sym, take, true, zero, ℕ, ◌++◌, ◌+◌, ◌-◌, ◌<◌, ◌∙◌, ◌∷◌, ◌≡◌, ◌≤◌, ◌⊎◌}
+use Rattle.std.proofs.lemmas.Bool.Decides.{nat_tests}
+use Rattle.bk_word.specs.Outline.{IsLegalMove, has_left_wall, open_side, valley_of}
+use Rattle.bk_word.specs.Play.{outline_of}
+use Rattle.bk_word.specs.Word.{Move, Word, order_of}
+use Rattle.bk_word.specs.declared.Class.{Class}
+use Rattle.bk_word.specs.declared.Class.TheVariants.{Perfect}
+use Rattle.bk_word.specs.declared.Sign.{Sign}
+use Rattle.bk_word.specs.declared.Sign.TheVariants.{Above, Even}
+use Rattle.bk_walk.proofs.CuttingBounds.{too_many_singles_is_barren, too_many_to_close_is_barren}
+use Rattle.bk_walk.proofs.CuttingFirst.{shorter_first_is_barren}
+use Rattle.bk_walk.proofs.CuttingPairs.{even_squares_are_barren, one_under_one_is_barren}
+use Rattle.bk_walk.proofs.Fitting.{less_longer, take_drop}
+use Rattle.bk_walk.proofs.MoveOrder.{Begins, IsLess, IsShort, begun_before, less_from, less_to, moves_between, next_short, signs_cmp}
+use Rattle.bk_walk.proofs.Places.{move_from_parts, one_legal}
+use Rattle.bk_walk.specs.ClosingBound.{closing_bound}
+use Rattle.bk_walk.specs.SingleValleys.{single_valleys, sizes_of}
+use Rattle.bk_walk.specs.Cuts.{IsBarren, own_signs}
+use Rattle.bk_walk.specs.MoveCuts.{EndsEven, IsCut, IsNear}
+use Rattle.bk_walk.specs.NextMove.{IsMoveFrom, move_after, move_of, signs_after}
+
+-- the move with its first signs alone
+abbrev pub front_signs : ℕ → Move → Move
+front_signs k m = record { count = m.count; signs = take k m.signs }
+
+front_from : (k : ℕ) (m other : Move) → IsMoveFrom m other → IsMoveFrom (front_signs k m) other
+front_from k m other from e = cases (less_to other (front_signs k m) e)
+  where
+    cases : IsLess other (front_signs k m) → ⊥
+    cases (inl h) = from (less_from other m (inl h))
+    cases (inr (h, f)) = from (less_from other m (inr (h, ap (signs_cmp other.signs) (take_drop k m.signs) ∙ less_longer other.signs (take k m.signs) (drop k m.signs) f)))
+
+pub cut_by_front : (n : ℕ) (class : Class) (front : Word) (m : Move) (k : ℕ)
+    → ((other : Move) → IsLegalMove (outline_of front) other → other.count ≡ m.count → Begins (take k m.signs) other.signs → IsBarren n class (front ++ other ∷ []))
+    → IsCut n class front m (move_after (front_signs k m))
+cut_by_front n class front m k barren = record {
+  up = begun_before (front_signs k m) m refl (record { rest = drop k m.signs; is = take_drop k m.signs });
+  barren = λ other legal from to. let b = moves_between (front_signs k m) other (front_from k m other from) to in barren other legal b.0 b.1;
+}
+
+pub after_near : (k : ℕ) (m : Move) → IsNear m (move_after (front_signs k m))
+after_near k m = cases (signs_after (take k m.signs)) (next_short (take k m.signs))
+  where
+    shorter : (k : ℕ) (a : List Sign) → length (take k a) ≤ length a
+    shorter zero a = omega arith
+    shorter (suc k) [] = omega arith
+    shorter (suc k) (s ∷ a) = omega (arith, shorter k a)
+
+    cases : (r : Option (List Sign)) → IsShort (length (take k m.signs)) r → IsNear m (move_of m.count r)
+    cases None h = record { least = omega arith; most = omega arith; signs = omega arith }
+    cases (Some next) h = record { least = omega arith; most = omega arith; signs = omega (arith, shorter k m.signs) }
+
+pub near_itself : (m : Move) → IsNear m m
+near_itself m = record { least = omega arith; most = omega arith; signs = omega arith }
+
+take_all : (a : List Sign) → take (length a) a ≡ a
+take_all [] = refl
+take_all (s ∷ a) = ap (λ l. s ∷ l) (take_all a)
+
+pub whole_front : (m : Move) → front_signs (length m.signs) m ≡ m
+whole_front m = move_from_parts (front_signs (length m.signs) m) m refl (take_all m.signs)
+
+get_front : (a rest : List Sign) (i : ℕ) (s : Sign) → slice_get a i ≡ Some s → slice_get (a ++ rest) i ≡ Some s
+get_front [] rest i s e = absurd (cc)
+get_front (t ∷ a) rest zero s e = e
+get_front (t ∷ a) rest (suc i) s e = get_front a rest i s e
+
+get_take : (k : ℕ) (a : List Sign) (i : ℕ) (s : Sign) → i < k → slice_get a i ≡ Some s → slice_get (take k a) i ≡ Some s
+get_take zero a i s h e = absurd (omega arith)
+get_take (suc k) [] i s h e = e
+get_take (suc k) (t ∷ a) zero s h e = e
+get_take (suc k) (t ∷ a) (suc i) s h e = get_take k a i s (omega arith) e
+
+in_take : (n j : ℕ) (a : List Sign) (s : Sign) → j < n → slice_get a j ≡ Some s → Contains (take n a) s
+in_take zero j a s h e = absurd (omega arith)
+in_take (suc n) j [] s h e = absurd (cc)
+in_take (suc n) zero (t ∷ a) s h e = (zero, omega arith, cc)
+in_take (suc n) (suc j) (t ∷ a) s h e = let c = in_take n j a s (omega arith) e in (suc c.0, omega (arith, c.1), c.2)
+
+get_drop : (f j : ℕ) (a : List Sign) (s : Sign) → slice_get a (f + j) ≡ Some s → slice_get (drop f a) j ≡ Some s
+get_drop zero j a s e = subst (λ (k : ℕ). slice_get a k ≡ Some s) (omega arith) e
+get_drop (suc f) j [] s e = absurd (cc)
+get_drop (suc f) j (t ∷ a) s e = get_drop f j a s (subst (λ (k : ℕ). slice_get (t ∷ a) k ≡ Some s) same e)
+  where
+    same : suc f + j ≡ suc (f + j)
+    same = omega arith
+
+pub even_cut : (n : ℕ) (class : Class) (front : Word) (m : Move) (kept : ℕ) → (class ≡ Perfect) ⊎ (3 ≤ n)
+    → EndsEven (open_side (has_left_wall (outline_of front))) m.count m.signs kept → IsCut n class front m (move_after (front_signs kept m))
+even_cut n class front m kept which ends = cut_by_front n class front m kept (λ other legal count b. even_squares_are_barren n class front other which (contains other count b))
+  where
+    from : ℕ
+    from = open_side (has_left_wall (outline_of front))
+
+    contains : (other : Move) → other.count ≡ m.count → Begins (take kept m.signs) other.signs → Contains (own_signs (outline_of front) other) Even
+    contains other count b = in_take (other.count - 1) (kept - 1 - open_side (has_left_wall (outline_of front))) (drop (open_side (has_left_wall (outline_of front))) other.signs) Even
+        (let low = ends.low in let high = ends.high in omega arith)
+        (get_drop (open_side (has_left_wall (outline_of front))) (kept - 1 - open_side (has_left_wall (outline_of front))) other.signs Even
+        (subst (λ (i : ℕ). slice_get other.signs i ≡ Some Even) place
+        (subst (λ (l : List Sign). slice_get l (kept - 1) ≡ Some Even) (sym b.is) (get_front (take kept m.signs) b.rest (kept - 1) Even (get_take kept m.signs (kept - 1) Even (let low = ends.low in omega arith) ends.even)))))
+      where
+        place : kept - 1 ≡ open_side (has_left_wall (outline_of front)) + (kept - 1 - open_side (has_left_wall (outline_of front)))
+        place = let low = ends.low in omega arith
+
+pub single_cut : (n : ℕ) (class : Class) (front : Word) (m : Move) → m.count ≡ 1 → length (valley_of (outline_of front)) ≡ 1 → IsCut n class front m (move_after (front_signs 0 m))
+single_cut n class front m one valley = cut_by_front n class front m 0 (λ other legal count b. one_under_one_is_barren n class front other (count ∙ one) valley)
+
+pub first_cut : (n : ℕ) (class : Class) (m : Move) → m.count ≡ 2 → m.signs ≡ Above ∷ [] → IsLegalMove (outline_of []) m → IsCut n class [] m (move_after m)
+first_cut n class m two signs legal = subst (λ (f : Move). IsCut n class [] m (move_after f)) (whole_front m) (cut_by_front n class [] m (length m.signs) barren)
+  where
+    barren : (other : Move) → IsLegalMove (outline_of []) other → other.count ≡ m.count → Begins (take (length m.signs) m.signs) other.signs → IsBarren n class ([] ++ other ∷ [])
+    barren other lawful count b = subst (λ (k : Move). IsBarren n class (k ∷ [])) (sym same) (shorter_first_is_barren n class)
+      where
+        same : other ≡ record { count = 2; signs = Above ∷ [] }
+        same = one_legal (outline_of []) m other legal lawful count (subst (λ (l : List Sign). Begins l other.signs) (take_all m.signs) b) ∙ move_from_parts m (record { count = 2; signs = Above ∷ [] }) two signs
+
+one_sign : (signs : List Sign) → length signs ≡ 1 → slice_index_or signs 0 Above ≡ Above → signs ≡ Above ∷ []
+one_sign [] h e = absurd (omega arith)
+one_sign (s ∷ []) h e = ap (λ t. t ∷ []) e
+one_sign (s ∷ t ∷ signs) h e = absurd (omega arith)
+
+pub shorter_cut : (n : ℕ) (class : Class) (front : Word) (m : Move) → length front ≡ 0 → m.count ≡ 2 → slice_index_or m.signs 0 Above ≡ Above
+    → IsLegalMove (outline_of front) m → IsCut n class front m (move_after m)
+shorter_cut n class [] m none two above legal = first_cut n class m two (one_sign m.signs (omega (arith, legal.signs)) above) legal
+shorter_cut n class (k ∷ front) m none two above legal = absurd (omega arith)
+
+-- fewer squares are left than must still hang
+pub owes_closings : (n : ℕ) (class : Class) (front : Word) (left closings : ℕ) → left ≡ n - order_of front → closings ≡ closing_bound (outline_of front).signs → left < closings → IsBarren n class front
+owes_closings n class front left closings l c many = too_many_to_close_is_barren n class front (omega arith)
+
+pub owes_singles : (n : ℕ) (class : Class) (front : Word) (left closings singles : ℕ) → 2 ≤ n → left ≡ n - order_of front → closings ≡ closing_bound (outline_of front).signs
+    → singles ≡ single_valleys (outline_of front).signs (sizes_of (outline_of front)) → IsTrue (nat_lt (left - closings) singles) → closings ≤ left → IsBarren n class front
+owes_singles n class front left closings singles least l c s many few = too_many_singles_is_barren n class front least (omega (arith, more (left - closings) singles many))
+  where
+    more : (a b : ℕ) → nat_lt a b ≡ true → a < b
+    more a b e = grind (arith, nat_tests)

@@ -1,0 +1,190 @@
+-- What a turn of a search knows of the place where it stands, and where it leads.
+use Rattle.std.proofs.Common.{List, Some, [], ap, arith, inl, inr, length, refl, slice_get, subst, suc, sym, take, zero, ℕ, ◌++◌, ◌+◌, ◌-◌, ◌<◌, ◌∙◌, ◌∷◌, ◌≡◌, ◌≤◌, ◌⊎◌}
+use Rattle.bk_tiling.proofs.ListLaws.{length_append}
+use Rattle.bk_lay.proofs.WordPlay.{order-cons, tiling_word_is_complete}
+use Rattle.bk_word.specs.Outline.{IsLegalMove, Outline, has_left_wall, has_right_wall, start}
+use Rattle.bk_word.specs.Play.{IsComplete, IsLegal, outline_of}
+use Rattle.bk_word.specs.Word.{Move, Word, order_of}
+use Rattle.bk_word.specs.declared.Class.{Class}
+use Rattle.bk_walk.proofs.CutLaws.{after_near, whole_front}
+use Rattle.bk_walk.proofs.Fitting.{HasShape, IsFit, fit}
+use Rattle.bk_walk.proofs.MoveOrder.{less_from}
+use Rattle.bk_walk.proofs.Places.{IsLast, legal_front, legal_rest, order_append}
+use Rattle.bk_walk.proofs.Ranks.{open_one}
+use Rattle.bk_walk.proofs.SearchTurns.{climbs, cuts, ends, goes_down, pushed_tree, reaches, turns_back}
+use Rattle.bk_walk.specs.Catalogue.{Entry, IsEntry}
+use Rattle.bk_walk.specs.Cuts.{IsBarren}
+use Rattle.bk_walk.specs.MoveCuts.{IsCut, IsNear}
+use Rattle.bk_walk.specs.NextMove.{IsLeastFrom, IsMoveFrom, first_move, fitted, move_after, open_sides}
+use Rattle.bk_walk.specs.Search.{Advances, Ends, IsClimbed, IsStand, IsTreeWord, Reaches}
+
+pub last_is : {A : Type 0} (xs : List A) (k : ℕ) (x : A) → length xs ≡ k + 1 → slice_get xs k ≡ Some x → xs ≡ take k xs ++ x ∷ []
+last_is [] k x h e = absurd (omega arith)
+last_is (y ∷ []) zero x h e = ap (λ z. z ∷ []) (cc)
+last_is (y ∷ z ∷ xs) zero x h e = absurd (omega arith)
+last_is (y ∷ xs) (suc k) x h e = ap (λ l. y ∷ l) (last_is xs k x (omega arith) e)
+
+shape_from : (o : Outline) (m : Move) → IsLegalMove o m → HasShape (open_sides o) m
+shape_from o m l = let some = l.some in record { some = l.some; long = omega (arith, l.signs) }
+
+legal_from : (o : Outline) (m : Move) → HasShape (open_sides o) m → IsLegalMove o m
+legal_from o m h = let some = h.some in record { some = h.some; signs = omega (arith, h.long) }
+
+pub fit_least : (o : Outline) (x : Move) → 0 < x.count → IsLeastFrom o x (fitted (open_sides o) x)
+fit_least o x some = record {
+  legal = legal_from o (fitted (open_sides o) x) f.shape;
+  from = f.from;
+  least = λ other legal from. f.least other (shape_from o other legal) from;
+}
+  where
+    f : IsFit (open_sides o) x (fitted (open_sides o) x)
+    f = fit (open_sides o) x some
+
+count_up : (a b : Move) → IsMoveFrom a b → a.count ≤ b.count
+count_up a b from = cases (two b.count a.count)
+  where
+    two : (m n : ℕ) → (m < n) ⊎ (n ≤ m)
+    two m n = grind arith
+
+    cases : (b.count < a.count) ⊎ (a.count ≤ b.count) → a.count ≤ b.count
+    cases (inl h) = absurd (from (less_from b a (inl h)))
+    cases (inr h) = h
+
+pub last_from_fit : (n : ℕ) (front : Word) (x : Move) → 0 < x.count → n < order_of front + (fitted (open_sides (outline_of front)) x).count → IsLast n front x
+last_from_fit n front x some many m legal from few = omega (arith, count_up (fitted (open_sides (outline_of front)) x) m ((fit_least (outline_of front) x some).least m legal from))
+
+-- a legal move of few squares has few signs
+pub few_signs : (o : Outline) (m : Move) → IsLegalMove o m → length m.signs ≤ m.count + 1
+few_signs o m l = omega (arith, l.signs, open_one (has_left_wall o), open_one (has_right_wall o))
+
+move_after_near : (m : Move) → IsNear m (move_after m)
+move_after_near m = subst (λ (k : Move). IsNear m (move_after k)) (whole_front m) (after_near (length m.signs) m)
+
+-- the last move of moves that are legal and few
+pub record IsLastMove (front : Word) (m : Move) : Type 0 where
+  pub legal_front : IsLegal front
+  pub legal : IsLegalMove (outline_of front) m
+  pub small : order_of front + m.count ≤ 16
+  pub count : m.count ≤ 16
+  pub signs : length m.signs ≤ 17
+
+pub last_move : (before front : Word) (m : Move) → IsLegal before → order_of before ≤ 16 → before ≡ front ++ m ∷ [] → IsLastMove front m
+last_move before front m l few e = record { legal_front = legal_front start front (m ∷ []) lawful; legal = legal.0; small = omega (arith, order); count = omega (arith, order); signs = omega (arith, few_signs (outline_of front) m legal.0, order) }
+  where
+    lawful : IsLegal (front ++ m ∷ [])
+    lawful = subst IsLegal e l
+
+    legal : IsLegalMove (outline_of front) m × Unit {0}
+    legal = legal_rest start front (m ∷ []) lawful
+
+    order : order_of front + m.count ≤ 16
+    order = omega (arith, few, ap order_of e, order_append front (m ∷ []), order-cons m [])
+
+pub taken_last : (before front : Word) (m : Move) (moves : ℕ) → moves ≡ length before → 0 < moves → slice_get before (moves - 1) ≡ Some m
+    → front ≡ take (length before - 1) before → before ≡ front ++ m ∷ []
+taken_last before front m moves e some g f = last_is before (moves - 1) m (omega arith) g ∙ ap (λ l. l ++ m ∷ []) (ap (λ k. take (k - 1) before) e ∙ sym f)
+
+entry_whole : (n : ℕ) (class : Class) (e : Entry) → IsEntry n class e → IsComplete e.word × (order_of e.word ≡ n)
+entry_whole n class e is = let done = tiling_word_is_complete e.tiling e.word (is.member).tiling is.word in (done.0, done.1 ∙ (is.member).order)
+
+front_of_more : (front : Word) (m : Move) → take (length (front ++ m ∷ []) - 1) (front ++ m ∷ []) ≡ front
+front_of_more front m = ap (λ k. take k (front ++ m ∷ [])) one ∙ taken front
+  where
+    one : length (front ++ m ∷ []) - 1 ≡ length front
+    one = omega (arith, length_append front (m ∷ []))
+
+    taken : (w : Word) → take (length w) (w ++ m ∷ []) ≡ w
+    taken [] = refl
+    taken (k ∷ w) = ap (λ l. k ∷ l) (taken w)
+
+-- a turn from a place, by the least legal move that is not before the move there
+module _ (n : ℕ) (class : Class) (front : Word) (x m : Move) (few : n ≤ 16) (s : IsStand n front x) (fits : m ≡ fitted (open_sides (outline_of front)) x) where
+  pub turn_least : IsLeastFrom (outline_of front) x m
+  turn_least = subst (IsLeastFrom (outline_of front) x) (sym fits) (fit_least (outline_of front) x s.some)
+
+  pub turn_signs : length m.signs ≤ m.count + 1
+  turn_signs = few_signs (outline_of front) m turn_least.legal
+
+  turn_last : n < order_of front + m.count → IsLast n front x
+  turn_last many = last_from_fit n front x s.some (subst (λ (k : Move). n < order_of front + k.count) fits many)
+
+  -- back, after the last move
+  pub turn_climbs : (new : Word) (next : Move) (met : ℕ) → IsClimbed front new next → n < order_of front + m.count → met ≤ 0 → Advances n class (front ++ x ∷ []) (new ++ next ∷ []) met × IsStand n new next
+  turn_climbs new next met c many none = (advances, stand)
+    where
+      l : IsLastMove new c.last
+      l = last_move front new c.last s.legal (omega (arith, s.small)) c.was
+
+      near : IsNear c.last (move_after c.last)
+      near = move_after_near c.last
+
+      stand : IsStand n new next
+      stand = record {
+        legal = l.legal_front;
+        small = omega (arith, s.small, ap order_of c.was, order_append new (c.last ∷ []), order-cons c.last []);
+        some = omega (arith, near.least, (l.legal).some, ap (λ (k : Move). k.count) c.next);
+        count = omega (arith, near.most, l.count, ap (λ (k : Move). k.count) c.next);
+        signs = omega (arith, near.signs, l.signs, ap (λ (k : Move). length k.signs) c.next);
+      }
+
+      advances : Advances n class (front ++ x ∷ []) (new ++ next ∷ []) met
+      advances = subst (λ (b : Word). Advances n class (b ++ x ∷ []) (new ++ next ∷ []) met) (sym c.was)
+          (subst (λ (k : Move). Advances n class ((new ++ c.last ∷ []) ++ x ∷ []) (new ++ k ∷ []) met) (sym c.next)
+          (climbs n class new c.last x met l.legal (subst (λ (b : Word). IsLast n b x) c.was (turn_last many)) none))
+
+  -- to the end
+  pub turn_ends : (met : ℕ) → front ≡ [] → n < order_of front + m.count → met ≤ 0 → Ends n class (front ++ x ∷ []) met
+  turn_ends met e many none = subst (λ (b : Word). Ends n class (b ++ x ∷ []) met) (sym e) (ends n class x met (subst (λ (b : Word). IsLast n b x) e (turn_last many)) none)
+
+  -- over moves that are cut
+  pub turn_cuts : (next : Move) (met : ℕ) → IsCut n class front m next → IsNear m next → order_of front + m.count ≤ n → met ≤ 0 → Advances n class (front ++ x ∷ []) (front ++ next ∷ []) met × IsStand n front next
+  turn_cuts next met cut near small none = (
+    cuts n class front x m next met turn_least cut none,
+    record {
+      legal = s.legal;
+      small = s.small;
+      some = omega (arith, near.least, (turn_least.legal).some);
+      count = omega (arith, near.most);
+      signs = omega (arith, near.signs, turn_signs);
+    },
+  )
+
+  -- down, by a push
+  module _ (small : order_of front + m.count ≤ n) (pushed : Word) (push : pushed ≡ front ++ m ∷ []) (met : ℕ) (one : met ≤ 1) where
+    tree : IsTreeWord n pushed
+    tree = subst (IsTreeWord n) (sym push) (pushed_tree n class front x m met s.legal turn_least small one)
+
+    pub turn_turns_back : (popped : Word) (next : Move) → popped ≡ take (length pushed - 1) pushed → next ≡ move_after m → IsBarren n class pushed
+        → Advances n class (front ++ x ∷ []) (popped ++ next ∷ []) met × IsStand n popped next
+    turn_turns_back popped next pop after barren = (
+      subst (λ (b : Word). Advances n class (front ++ x ∷ []) (b ++ next ∷ []) met) (sym same)
+          (subst (λ (k : Move). Advances n class (front ++ x ∷ []) (front ++ k ∷ []) met) (sym after)
+          (turns_back n class front x m met s.legal turn_least small one (subst (IsBarren n class) push barren))),
+      subst (λ (b : Word). IsStand n b next) (sym same) (record {
+        legal = s.legal;
+        small = s.small;
+        some = omega (arith, near.least, (turn_least.legal).some, ap (λ (k : Move). k.count) after);
+        count = omega (arith, near.most, ap (λ (k : Move). k.count) after);
+        signs = omega (arith, near.signs, turn_signs, ap (λ (k : Move). length k.signs) after);
+      }),
+    )
+      where
+        same : popped ≡ front
+        same = pop ∙ ap (λ b. take (length b - 1) b) push ∙ front_of_more front m
+
+        near : IsNear m (move_after m)
+        near = move_after_near m
+
+    pub turn_goes_down : (next : Move) → next ≡ first_move → (IsComplete pushed → order_of pushed ≡ n → ⊥) → Advances n class (front ++ x ∷ []) (pushed ++ next ∷ []) met × IsStand n pushed next
+    turn_goes_down next first unready = (
+      subst (λ (b : Word). Advances n class (front ++ x ∷ []) (b ++ next ∷ []) met) (sym push)
+          (subst (λ (k : Move). Advances n class (front ++ x ∷ []) ((front ++ m ∷ []) ++ k ∷ []) met) (sym first)
+          (goes_down n class front x m met s.legal turn_least small one not)),
+      subst (IsStand n pushed) (sym first) (record { legal = tree.legal; small = tree.small; some = omega arith; count = omega arith; signs = omega arith }),
+    )
+      where
+        not : (e : Entry) → IsEntry n class e → e.word ≡ front ++ m ∷ [] → ⊥
+        not e is same = unready (subst IsComplete (same ∙ sym push) (entry_whole n class e is).0) (sym (ap order_of (same ∙ sym push)) ∙ (entry_whole n class e is).1)
+
+    pub turn_reaches : Reaches n class (front ++ x ∷ []) pushed met
+    turn_reaches = subst (λ (b : Word). Reaches n class (front ++ x ∷ []) b met) (sym push) (reaches n class front x m met s.legal turn_least small one)

@@ -1,0 +1,37 @@
+-- Cuts: the legal moves at a state that are passed over, because no member's word goes on by them.
+use Rattle.std.specs.Prelude.{List, Some, [], count_by, length, slice_get, ℕ, ◌++◌, ◌+◌, ◌-◌, ◌<◌, ◌∷◌, ◌≡◌, ◌≤◌}
+use Rattle.std.specs.declared.cmp.Ordering.TheVariants.{Less}
+use Rattle.bk_word.specs.Outline.{IsLegalMove}
+use Rattle.bk_word.specs.Play.{outline_of}
+use Rattle.bk_word.specs.Word.{Move, Word, move_cmp}
+use Rattle.bk_word.specs.declared.Class.{Class}
+use Rattle.bk_word.specs.declared.Sign.{Sign}
+use Rattle.bk_word.specs.declared.Sign.TheVariants.{Even}
+use Rattle.bk_walk.specs.ClosingBound.{closing_bound, is_above}
+use Rattle.bk_walk.specs.Cuts.{IsBarren}
+use Rattle.bk_walk.specs.NextMove.{IsMoveFrom}
+
+-- the legal moves from the one on and before the next may be passed over, because no member's word begins with these
+-- moves and one of them
+pub record IsCut (n : ℕ) (class : Class) (front : Word) (m next : Move) : Type 0 where
+  pub up : move_cmp m next ≡ Less
+  pub barren : (other : Move) → IsLegalMove (outline_of front) other → IsMoveFrom m other → move_cmp other next ≡ Less
+      → IsBarren n class (front ++ other ∷ [])
+
+-- the next move is little greater: its count is at most one more, and its signs are not more
+pub record IsNear (m next : Move) : Type 0 where
+  pub least : m.count ≤ next.count
+  pub most : next.count ≤ m.count + 1
+  pub signs : length next.signs ≤ length m.signs
+
+-- so many signs of a move of this count are those up to an even one between two of its own squares, where its own signs
+-- begin at the place
+pub record EndsEven (from count : ℕ) (signs : List Sign) (kept : ℕ) : Type 0 where
+  pub low : from < kept
+  pub high : kept < from + count
+  pub even : slice_get signs (kept - 1) ≡ Some Even
+
+-- the closing bound of the signs, and how many of them are above
+pub record IsTally (signs : List Sign) (bound aboves : ℕ) : Type 0 where
+  pub bound_is : bound ≡ closing_bound signs
+  pub aboves_is : aboves ≡ count_by is_above signs

@@ -1,0 +1,59 @@
+-- A walk through the catalogue: what is seen of it, and what it answers.
+use Rattle.std.specs.Prelude.{Bool, None, Option, Some, [], length, take, true, ℕ, ◌<◌, ◌^◌, ◌≡◌, ◌≤◌}
+use Rattle.bk_tiling.specs.Tiling.{Tiling}
+use Rattle.bk_word.specs.Play.{IsComplete}
+use Rattle.bk_word.specs.Word.{Follows, Word, order_of}
+use Rattle.bk_word.specs.declared.Class.{Class}
+use Rattle.bk_word.specs.declared.TheConstants.{INLINE_ORDER}
+use Rattle.bk_lay.specs.TilingWord.{IsWordOf}
+use Rattle.bk_skel.specs.WideWord.{IsWideWord}
+use Rattle.bk_walk.specs.Catalogue.{Entry, IsEntry, IsMember}
+
+-- what is seen of a walk: its order and class, the word after which it goes on, whether it has ended, and how many moves
+-- it has pushed, up to the last number of 64 bits
+pub record WalkState : Type 0 where
+  pub order : ℕ
+  pub class : Class
+  pub cursor : Word
+  pub ended : Bool
+  pub pushes : ℕ
+
+-- the word after which a walk starts: the given one, or that of no moves
+abbrev pub start_cursor : Option Word → Word
+start_cursor None = []
+start_cursor (Some word) = word
+
+-- no member's word is after the cursor
+abbrev pub HasNoneAfter : ℕ → Class → Word → Type 0
+HasNoneAfter n class cursor = (e : Entry) → IsEntry n class e → Follows e.word cursor → ⊥
+
+-- no member's word is after the cursor and before the word
+abbrev pub HasNoneBetween : ℕ → Class → Word → Word → Type 0
+HasNoneBetween n class cursor word =
+    (e : Entry) → IsEntry n class e → Follows e.word cursor → Follows word e.word → ⊥
+
+-- the least member after the cursor, and its word
+pub record IsNextMember (n : ℕ) (class : Class) (cursor : Word) (t : Tiling) (word : Word) : Type 0 where
+  pub member : IsMember n class t
+  pub word_is : IsWordOf t word
+  pub after : Follows word cursor
+  pub least : HasNoneBetween n class cursor word
+
+-- a complete word of the order that is after the cursor and wide, with no member's word between
+pub record IsWideAfter (n : ℕ) (class : Class) (cursor word : Word) : Type 0 where
+  pub complete : IsComplete word
+  pub order : order_of word ≡ n
+  pub after : Follows word cursor
+  pub wide : IsWideWord word
+  pub least : HasNoneBetween n class cursor word
+
+-- what a walk keeps: its order is 2 to 16, its cursor hangs at most 16 squares, the moves that it has played begin the cursor and hang
+-- at most as many squares as the order, and where it has ended no member is left
+pub record IsKeptWalk (n : ℕ) (class : Class) (cursor played : Word) (ended : Bool) (pushes : ℕ) : Type 0 where
+  pub least : 2 ≤ n
+  pub most : n ≤ INLINE_ORDER
+  pub few : order_of cursor ≤ INLINE_ORDER
+  pub begun : take (length played) cursor ≡ played
+  pub small : order_of played ≤ n
+  pub none : ended ≡ true → HasNoneAfter n class cursor
+  pub known : pushes < 2 ^ 64

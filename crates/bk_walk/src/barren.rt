@@ -1,0 +1,164 @@
+//! Cuts: which moves are passed over, because no member's word goes on by them.
+#![tactic(auto)]
+
+ghost use Rattle.std.specs.Prelude.{IfSome, IsTrue, Some, [], false, length, slice_get, ℕ, ◌+◌, ◌<◌, ◌≡◌, ◌≤◌, ◌⊎◌};
+ghost use Rattle.bk_word.specs.Outline.{IsLegalMove, has_left_wall, open_side};
+ghost use Rattle.bk_word.specs.Play.{outline_of};
+ghost use Rattle.bk_word.specs.Word.{order_of};
+ghost use Rattle.bk_word.specs.declared.Class.{Class};
+ghost use Rattle.bk_word.specs.declared.Class.TheVariants.{Perfect};
+ghost use Rattle.bk_word.specs.declared.Sign.TheVariants.{Above};
+ghost use Rattle.bk_walk.specs.Cuts.{IsBarren};
+ghost use Rattle.bk_walk.specs.MoveCuts.{EndsEven, IsCut, IsNear};
+
+use crate::cuts::{closing_bound, single_valleys};
+use crate::moves::{MOST_COUNT, MOST_SIGNS, pass};
+use crate::owing::skip_owing;
+use bk_skel::Skel;
+use bk_word::{Class, Move, Sign};
+
+// Passes over a legal move by which no member's word of the order and the class goes on, and over others of which this is as
+// plain. False where it isn't plain; the move is then as it was.
+pub(crate) fn skip(skel: &Skel, class: Class, order: u8, m: &mut Move) -> bool
+    requires legal { IsLegalMove (outline_of skel.now) m.old }
+    requires count { m.old.count < MOST_COUNT }
+    requires signs { length m.old.signs ≤ MOST_SIGNS }
+    requires small { order_of skel.now + m.old.count ≤ order }
+    ensures cut { IsTrue result → IsCut order class skel.now m.old m.new }
+    ensures near { IsNear m.old m.new }
+    ensures kept { result ≡ false → m.new ≡ m.old }
+{
+    if skip_even(skel, class, order, m) {
+        return true;
+    }
+    if skip_single(skel, m) {
+        return true;
+    }
+    if skip_shorter(skel, m) {
+        return true;
+    }
+    skip_owing(skel, order, m)
+}
+
+// Passes over a move with two equal squares side by side under one segment, and over all of its count whose signs are the
+// same up to there. Where the class isn't perfect, this is a cut at orders of at least 3.
+fn skip_even(skel: &Skel, class: Class, order: u8, m: &mut Move) -> bool
+    requires count { m.old.count < MOST_COUNT }
+    requires signs { length m.old.signs ≤ MOST_SIGNS }
+    ensures cut { IsTrue result → IsCut order class skel.now m.old m.new }
+    ensures near { IsNear m.old m.new }
+    ensures kept { result ≡ false → m.new ≡ m.old }
+{
+    if !bars_even(class, order) {
+        return false;
+    }
+    let (left_wall, _) = skel.walls();
+    match first_even(m, open_side_of(left_wall)) {
+        None => false,
+        Some(kept) => {
+            m.signs.truncate(kept);
+            pass(m);
+            true
+        }
+    }
+}
+
+// Whether no member has two equal squares side by side under one segment.
+fn bars_even(class: Class, order: u8) -> bool
+    ensures { IsTrue result → (class ≡ Perfect) ⊎ (3 ≤ order) }
+{
+    match class {
+        Class::Perfect => true,
+        Class::Imperfect | Class::Simple => order >= 3,
+    }
+}
+
+// Whether the left one of two bottoms is higher.
+fn is_above(sign: Sign) -> bool
+    ensures { IsTrue result → sign ≡ Above }
+{
+    match sign {
+        Sign::Above => true,
+        Sign::Even | Sign::Under => false,
+    }
+}
+
+// One for a side of the valley that is no wall.
+pub(crate) fn open_side_of(wall: bool) -> usize
+    ensures { result ≡ open_side wall }
+{
+    if wall { 0 } else { 1 }
+}
+
+// How many signs there are up to the first even one between two of the move's own squares, where its own begin at `from`.
+fn first_even(m: &Move, from: usize) -> Option<usize>
+    requires count { m.now.count < MOST_COUNT }
+    requires from { from ≤ 1 }
+    ensures { IfSome result (EndsEven from m.now.count m.now.signs) }
+{
+    let end = from + usize::from(m.count);
+    for (i, sign) in m.signs.as_slice().iter().enumerate() {
+        if i >= from && i + 1 < end && *sign == Sign::Even {
+            return Some(i + 1);
+        }
+    }
+    None
+}
+
+// Passes over all moves of one square, where it would stand under just one.
+fn skip_single(skel: &Skel, m: &mut Move) -> bool
+    ensures cut { IsTrue result → (n : ℕ) (class : Class) → IsCut n class skel.now m.old m.new }
+    ensures near { IsNear m.old m.new }
+    ensures kept { result ≡ false → m.new ≡ m.old }
+{
+    if m.count != 1 || skel.valley_len() != 1 {
+        return false;
+    }
+    m.signs.clear();
+    pass(m);
+    true
+}
+
+// Passes over the first move of two squares of which the left one is the shorter.
+fn skip_shorter(skel: &Skel, m: &mut Move) -> bool
+    requires legal { IsLegalMove (outline_of skel.now) m.old }
+    requires signs { length m.old.signs ≤ MOST_SIGNS }
+    ensures cut { IsTrue result → (n : ℕ) (class : Class) → IsCut n class skel.now m.old m.new }
+    ensures near { IsNear m.old m.new }
+    ensures kept { result ≡ false → m.new ≡ m.old }
+{
+    if skel.moves() != 0 || m.count != 2 || !is_above(m.signs.as_slice()[0]) {
+        return false;
+    }
+    pass(m);
+    true
+}
+
+// Whether it is plain that no member's word of the order begins with these moves, in any class.
+pub(crate) fn is_barren(skel: &Skel, order: u8) -> bool
+    requires { 2 ≤ order }
+    ensures { IsTrue result → (class : Class) → IsBarren order class skel.now }
+{
+    is_whole_early(skel, order) || owes_too_many(skel, order)
+}
+
+// Whether one segment is left while fewer squares hang than the order.
+fn is_whole_early(skel: &Skel, order: u8) -> bool
+    ensures { IsTrue result → (class : Class) → IsBarren order class skel.now }
+{
+    skel.is_closed() && skel.order() < usize::from(order)
+}
+
+// Whether fewer squares are left than must still hang: one for each segment that ends above its neighbour on one segment's
+// side, and one more for each valley of just one square.
+fn owes_too_many(skel: &Skel, order: u8) -> bool
+    requires { 2 ≤ order }
+    ensures { IsTrue result → (class : Class) → IsBarren order class skel.now }
+{
+    if skel.moves() == 0 {
+        return false;
+    }
+    let left = usize::from(order).saturating_sub(skel.order());
+    let closings = closing_bound(skel.signs());
+    closings > left || single_valleys(skel.signs(), skel.sizes()) > left - closings
+}

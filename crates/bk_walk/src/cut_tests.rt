@@ -1,0 +1,37 @@
+//! Worked rows.
+
+use crate::cuts::{closing_bound, single_valleys};
+use crate::lines::{line_bound, on_line, push_lines};
+use arrayvec::ArrayVec;
+use bk_word::Sign::{Above, Even, Under};
+
+#[test]
+fn segments_above_a_neighbour_are_closed(rt: HostRuntime) {
+    assert_eq!(rt; closing_bound(&[]), 0);
+    assert_eq!(rt; closing_bound(&[Under]), 1);
+    assert_eq!(rt; closing_bound(&[Above, Above, Above]), 3);
+    assert_eq!(rt; closing_bound(&[Under, Above, Under]), 2);
+    assert_eq!(rt; closing_bound(&[Above, Under, Under, Above]), 3);
+    assert_eq!(rt; closing_bound(&[Even, Under, Even]), 1);
+}
+
+#[test]
+fn valleys_of_one_square_are_counted(rt: HostRuntime) {
+    assert_eq!(rt; single_valleys(&[], &[1]), 1);
+    assert_eq!(rt; single_valleys(&[Above, Under], &[1, 1, 1]), 2);
+    assert_eq!(rt; single_valleys(&[Above, Under], &[1, 1, 2]), 1);
+    assert_eq!(rt; single_valleys(&[Under, Above], &[1, 1, 1]), 1);
+    assert_eq!(rt; single_valleys(&[Under, Above], &[1, 2, 1]), 0);
+}
+
+#[test]
+fn lines_are_followed(rt: HostRuntime) {
+    let mut lines: ArrayVec<bool, 16> = ArrayVec::new();
+    push_lines(&mut lines, false, true, 2);
+    assert_eq!(rt; lines.as_slice(), [false, true].as_slice());
+    assert_eq!(rt; line_bound(&[Under], &[1, 1], &[1, 2], &lines), 2);
+    let valley = on_line(&lines, 2);
+    push_lines(&mut lines, valley, false, 1);
+    assert_eq!(rt; lines.as_slice(), [false, true, true].as_slice());
+    assert_eq!(rt; line_bound(&[], &[2], &[1, 3], &lines), 1);
+}

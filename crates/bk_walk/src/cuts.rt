@@ -1,0 +1,55 @@
+//! How many squares are still to hang at least, by the open segments: a walk goes no further where fewer are left.
+
+ghost use Rattle.std.specs.Prelude.{length, ◌+◌, ◌≡◌};
+ghost use Rattle.bk_walk.specs.ClosingBound.{closing_bound};
+ghost use Rattle.bk_walk.specs.SingleValleys.{single_valley, single_valleys};
+
+use bk_word::Sign;
+
+/// The closing bound of the signs between open segments: the greatest number, over all segments, of segments that end above
+/// their neighbour on its side. A later move closes each of these. (Own.)
+pub(crate) fn closing_bound(signs: &[Sign]) -> usize
+    ensures { result ≡ closing_bound signs.now }
+{
+    let mut most: usize = 0;
+    let mut aboves: usize = 0;
+    for sign in signs {
+        match *sign {
+            Sign::Above => {
+                aboves += 1;
+                most = most.max(aboves);
+            }
+            Sign::Even => {}
+            Sign::Under => most += 1,
+        }
+    }
+    most
+}
+
+/// How many valleys have just one square: the signs between the open segments, and how many squares each segment has, from
+/// left to right. There is one segment more than signs. A move that closes such a valley hangs at least two squares. (Own.)
+pub(crate) fn single_valleys(signs: &[Sign], sizes: &[u8]) -> usize
+    requires { length sizes.now ≡ length signs.now + 1 }
+    ensures { result ≡ single_valleys signs.now sizes.now }
+{
+    let mut found: usize = 0;
+    let mut low = true;
+    for (i, sign) in signs.iter().enumerate() {
+        match *sign {
+            Sign::Above => {
+                found += single_valley(low, sizes[i]);
+                low = false;
+            }
+            Sign::Even => low = false,
+            Sign::Under => low = true,
+        }
+    }
+    found + single_valley(low, sizes[signs.len()])
+}
+
+// One for a segment of one square that is low at the left.
+fn single_valley(low: bool, size: u8) -> usize
+    ensures { result ≡ single_valley low size }
+{
+    usize::from(low && size == 1)
+}

@@ -1,0 +1,119 @@
+//! The catalogue of simple tilings, and the tree of words that is searched for it.
+#![tactic(auto)]
+
+ghost use Rattle.bk_walk.specs.ClosingBound.{TheClosingBoundIsMost, TooManyToCloseIsBarren};
+ghost use Rattle.bk_walk.specs.Corners.{CornersAreNoLonger};
+ghost use Rattle.bk_walk.specs.Cuts.{OneSegmentIsBarren, EvenSquaresAreBarren, OneUnderOneIsBarren, ShorterFirstIsBarren};
+ghost use Rattle.bk_walk.specs.Listing.{ANextMemberIsListed, ListingsContinue, NoMemberIsListed};
+ghost use Rattle.bk_walk.specs.SingleValleys.{TooManySinglesIsBarren};
+ghost use Rattle.bk_walk.specs.TreeLaws.{TheTreeCountIsMost, TheTreeCountIsOne, TreeCountsAdd, AtLeastAdds, ALegalWordIsOne};
+ghost use Rattle.bk_walk.specs.VerticalCut.{TheLineBoundIsMost, TooManyLinesIsBarren};
+
+mod barren;
+#[cfg(test)]
+mod cut_tests;
+mod cuts;
+mod judging;
+mod lines;
+mod moves;
+mod owing;
+mod resuming;
+mod search;
+#[cfg(test)]
+mod tests;
+mod walk;
+
+pub use walk::{Entry, Walk, WideAt};
+
+/// A list of words of the tree, each once, has at most as many as the tree count.
+pub fn the_tree_count_is_most()
+    ensures { TheTreeCountIsMost }
+{}
+
+/// The tree count is one number.
+pub fn the_tree_count_is_one()
+    ensures { TheTreeCountIsOne }
+{}
+
+/// The counts up to a word between and from it on add up.
+pub fn tree_counts_add()
+    ensures { TreeCountsAdd }
+{}
+
+/// And so do numbers of words of the tree.
+pub fn at_least_adds()
+    ensures { AtLeastAdds }
+{}
+
+/// A legal word of at most the order, after the cursor, is one word up to itself.
+pub fn a_legal_word_is_one()
+    ensures { ALegalWordIsOne }
+{}
+
+/// No member's word goes on from moves that leave one segment, while they hang fewer squares than the order.
+pub fn one_segment_is_barren()
+    ensures { OneSegmentIsBarren }
+{}
+
+/// No member's word, of the class perfect or of an order of at least 3, has a move with the sign even between two of
+/// its own squares.
+pub fn even_squares_are_barren()
+    ensures { EvenSquaresAreBarren }
+{}
+
+/// No member's word has a move of one square that closes a segment of just one square.
+pub fn one_under_one_is_barren()
+    ensures { OneUnderOneIsBarren }
+{}
+
+/// No member's word begins with a move of two squares of which the left one is the shorter.
+pub fn shorter_first_is_barren()
+    ensures { ShorterFirstIsBarren }
+{}
+
+/// The closing bound is the greatest number of closings.
+pub fn the_closing_bound_is_most()
+    ensures { TheClosingBoundIsMost }
+{}
+
+/// No member's word goes on from moves after which fewer squares are left than segments that must be closed.
+pub fn too_many_to_close_is_barren()
+    ensures { TooManyToCloseIsBarren }
+{}
+
+/// No member's word of an order of at least 2 goes on from moves after which fewer squares are left than segments that
+/// must be closed and valleys of one square.
+pub fn too_many_singles_is_barren()
+    ensures { TooManySinglesIsBarren }
+{}
+
+/// No member's word of an order of at least 3 goes on from moves after which fewer squares are left than segments that
+/// must be closed, with those on which vertical lines from the top end, and valleys of one square.
+pub fn too_many_lines_is_barren()
+    ensures { TooManyLinesIsBarren }
+{}
+
+/// The bound with lines is the greatest number of closings, where a segment that a line touches has one more.
+pub fn the_line_bound_is_most()
+    ensures { TheLineBoundIsMost }
+{}
+
+/// No square that comes to the top left corner in a lying image of a canonical tiling is longer than its top left square.
+pub fn corners_are_no_longer()
+    ensures { CornersAreNoLonger }
+{}
+
+/// A listing of all members after a cursor up to a word, continued from that word, is one listing.
+pub fn listings_continue()
+    ensures { ListingsContinue }
+{}
+
+/// The least member after a cursor is all that is listed up to its word.
+pub fn a_next_member_is_listed()
+    ensures { ANextMemberIsListed }
+{}
+
+/// Where no member is after the cursor, nothing is listed.
+pub fn no_member_is_listed()
+    ensures { NoMemberIsListed }
+{}

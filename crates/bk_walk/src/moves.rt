@@ -1,0 +1,87 @@
+//! Which move comes next at a state.
+#![tactic(auto)]
+
+ghost use Rattle.std.specs.Prelude.{IsTrue, None, Some, [], false, length, ◌+◌, ◌<◌, ◌≡◌, ◌≤◌};
+ghost use Rattle.bk_walk.specs.NextMove.{fitted, first_move as first_of_all, move_after, padded, signs_after};
+
+use arrayvec::ArrayVec;
+use bk_word::{Move, Sign};
+
+// A search of the order 16 meets moves of at most so many squares and so many signs.
+pub(crate) const MOST_COUNT: u8 = 17;
+
+pub(crate) const MOST_SIGNS: usize = 18;
+
+// The move that no legal one is before.
+pub(crate) fn first_move() -> Move
+    ensures { result ≡ first_of_all }
+{
+    Move {
+        count: 1,
+        signs: ArrayVec::new(),
+    }
+}
+
+// Makes of the signs those that are next after all that begin with them: raises the last that isn't under, and drops those
+// behind it. Where all are under, it drops all and answers false.
+fn raise(signs: &mut ArrayVec<Sign, 201>) -> bool
+    requires { length signs.old.items ≤ MOST_SIGNS }
+    ensures raised { IsTrue result → signs_after signs.old.items ≡ Some signs.new.items }
+    ensures none { result ≡ false → signs_after signs.old.items ≡ None }
+    ensures empty { result ≡ false → signs.new.items ≡ [] }
+{
+    'signs: while let Some(sign) = signs.pop() {
+        match sign {
+            Sign::Above => {
+                signs.push(Sign::Even);
+                return true;
+            }
+            Sign::Even => {
+                signs.push(Sign::Under);
+                return true;
+            }
+            Sign::Under => {}
+        }
+    }
+    false
+}
+
+// Makes of the move the next after all of its count whose signs begin with its own.
+pub(crate) fn pass(m: &mut Move)
+    requires count { m.old.count ≤ MOST_COUNT }
+    requires signs { length m.old.signs ≤ MOST_SIGNS }
+    ensures { m.new ≡ move_after m.old }
+{
+    if !raise(&mut m.signs) {
+        m.count += 1;
+    }
+}
+
+// Puts signs above behind those of the move, up to so many as a legal move wants at a valley with so many open sides.
+fn pad(m: &mut Move, sides: usize)
+    requires some { 0 < m.old.count }
+    requires few { m.old.count ≤ MOST_COUNT + 1 }
+    requires sides { sides ≤ 2 }
+    ensures { m.new ≡ padded sides m.old }
+{
+    let wanted = usize::from(m.count) - 1 + sides;
+    'signs: while m.signs.len() < wanted {
+        m.signs.push(Sign::Above);
+    }
+}
+
+// Makes of the move the least legal one that isn't before it, at a valley with so many open sides.
+pub(crate) fn fit(m: &mut Move, sides: usize)
+    requires some { 0 < m.old.count }
+    requires count { m.old.count ≤ MOST_COUNT }
+    requires signs { length m.old.signs ≤ MOST_SIGNS }
+    requires sides { sides ≤ 2 }
+    ensures { m.new ≡ fitted sides m.old }
+{
+    let wanted = usize::from(m.count) - 1 + sides;
+    if m.signs.len() > wanted {
+        m.signs.truncate(wanted);
+        pass(m);
+    }
+    pad(m, sides);
+}

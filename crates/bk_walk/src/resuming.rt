@@ -1,0 +1,70 @@
+//! Where a walk goes on: after its cursor.
+#![tactic(auto)]
+
+ghost use Rattle.std.specs.Prelude.{IsTrue, [], false, length, take, ◌++◌, ◌+◌, ◌<◌, ◌^◌, ◌∷◌, ◌≡◌, ◌≤◌};
+ghost use Rattle.bk_word.specs.Outline.{IsLegalMove};
+ghost use Rattle.bk_word.specs.Play.{outline_of};
+ghost use Rattle.bk_word.specs.Word.{order_of};
+ghost use Rattle.bk_word.specs.declared.Class.{Class};
+ghost use Rattle.bk_walk.specs.Search.{Counts, IsPlace, IsStand};
+
+use crate::moves::first_move;
+use crate::search::play;
+use bk_skel::{Skel, Steps};
+use bk_word::{INLINE_ORDER, LARGEST_ORDER, Move, NoMemory, Word};
+use std::alloc::Global;
+use std::sync::ledger::Ledger;
+
+// Plays the moves of the cursor that are not played yet, as far as they are legal and hang at most as many squares as the
+// order. It gives the move from which a search looks for the next legal one.
+pub(crate) fn resume<L: Ledger>(
+    skel: &mut Skel,
+    cursor: &Word,
+    order: u8,
+    pushes: &mut u64,
+    steps: &mut Steps<L>,
+) -> Move
+    requires order { order ≤ INLINE_ORDER }
+    requires begun { take (length skel.old) cursor.now ≡ skel.old }
+    requires small { order_of skel.old ≤ order }
+    requires few { order_of cursor.now ≤ INLINE_ORDER }
+    requires known { pushes.old < 2 ^ 64 }
+    ensures stand { IsStand order skel.new result }
+    ensures place { (class : Class) → IsPlace order class cursor.now (skel.new ++ result ∷ []) 0 }
+    ensures few { steps.new ≤ steps.old + 16 }
+    ensures counts { Counts pushes.old pushes.new steps.old steps.new }
+{
+    'moves: for i in skel.moves()..cursor.moves() {
+        let m = cursor.get(i);
+        if !can_play(skel, &m, order) {
+            return m;
+        }
+        play(skel, &m, pushes, steps);
+    }
+    first_move()
+}
+
+// Whether a move is legal, and hangs no more squares than the order leaves.
+fn can_play(skel: &Skel, m: &Move, order: u8) -> bool
+    requires { m.now.count ≤ LARGEST_ORDER }
+    ensures legal { IsTrue result → IsLegalMove (outline_of skel.now) m.now }
+    ensures few { IsTrue result → order_of skel.now + m.now.count ≤ order }
+    ensures no { result ≡ false → IsLegalMove (outline_of skel.now) m.now → order_of skel.now + m.now.count ≤ order → ⊥ }
+{
+    skel.order() + usize::from(m.count) <= usize::from(order) && skel.legal(m)
+}
+
+// The word of the moves that are played, at most 16 squares. It takes no memory.
+pub(crate) fn word_played(alloc: Global, skel: &Skel) -> Word
+    requires { order_of skel.now ≤ INLINE_ORDER }
+    ensures { result ≡ skel.now }
+{
+    let mut word = Word::new(alloc);
+    'moves: for i in 0..skel.moves() {
+        match word.push(&skel.get(i)) {
+            Ok(()) => {}
+            Err(NoMemory) => unreachable!(),
+        }
+    }
+    word
+}
