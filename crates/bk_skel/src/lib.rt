@@ -18,7 +18,7 @@ mod turns;
 
 pub use counting::Steps;
 pub use placing::placed;
-pub use realising::{SolveFault, realise, realise_small};
+pub use realising::{SolveFault, Undecided, realise, realise_small, realise_whole};
 pub use skeleton::{Skel, Valley};
 
 /// The net of a complete word has no loose node.

@@ -33,6 +33,20 @@ pub enum SolveFault {
     NoMemory,
 }
 
+/// That whole numbers of 64 bits don't decide which tiling a word has.
+#[derive(Clone, Copy, Debug, PartialEq, Eq)]
+pub struct Undecided;
+
+/// What `realise_small` gives where the word isn't wide, found in whole numbers without the stated elimination. `Undecided`
+/// where that can't tell; then `realise_small` can. It takes no memory. (Own.)
+pub fn realise_whole(skel: &Skel) -> Result<Option<Tiling>, Undecided>
+    requires closed { IsComplete skel.now }
+    requires few { order_of skel.now ≤ INLINE_ORDER }
+    ensures { IfOk result (IsRealised skel.now) }
+{
+    Err(Undecided)
+}
+
 /// The primitive tiling whose word is the list of moves of a closed skeleton of at most 16 squares: no other has this word
 /// (Brooks, Smith, Stone and Tutte 1940). `None` comes exactly where the word isn't wide and no tiling has it. `Wide` comes
 /// exactly where the word is wide (own). It takes no memory.

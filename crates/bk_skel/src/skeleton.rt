@@ -5,6 +5,7 @@
 //! The closed squares stand in the order of closing, so that a move's are the last ones when it is taken back. Each list is
 //! as long as what is used of it, and nothing is copied but what stands right of the valley.
 
+ghost use Rattle.std.specs.List.{concat};
 ghost use Rattle.std.specs.Prelude.{IsTrue, Some, [], length, slice_get, take, ◌+◌, ◌++◌, ◌-◌, ◌<◌, ◌∷◌, ◌≡◌, ◌≤◌, ◌↔◌};
 ghost use Rattle.bk_word.specs.Outline.{IsLegalMove, has_left_wall, has_right_wall, open_side, valley_of};
 ghost use Rattle.bk_word.specs.Play.{IsComplete, outline_of};
@@ -183,6 +184,14 @@ impl Skel {
     {
         let (place, _) = leftmost(&self.sizes, &self.signs);
         usize::from(self.sizes[place])
+    }
+
+    /// The numbers of the open squares, segment by segment from left to right. Squares are numbered from 1 in the order of
+    /// hanging.
+    pub fn ends(&self) -> &[u8]
+        ensures { result.now ≡ concat (outline_of self.now).segments }
+    {
+        self.ends.as_slice()
     }
 
     /// How many squares each open segment has, from left to right.
