@@ -13,7 +13,7 @@ ghost use Rattle.bk_skel.specs.WordNet.{net_of_word};
 use crate::placing::placed;
 use crate::skeleton::Skel;
 use arrayvec::ArrayVec;
-use bk_flow::{Flow, FlowFault, solve, solve_small};
+use bk_flow::{Flow, FlowFault, solve, solve_small, solve_whole};
 use bk_frac::Wide;
 use bk_tiling::{LONGEST_SIDE, MOST_SQUARES, Tiling};
 use bk_word::{INLINE_ORDER, Word};
@@ -44,7 +44,13 @@ pub fn realise_whole(skel: &Skel) -> Result<Option<Tiling>, Undecided>
     requires few { order_of skel.now ≤ INLINE_ORDER }
     ensures { IfOk result (IsRealised skel.now) }
 {
-    Err(Undecided)
+    let Some(flow) = solve_whole(&skel.net()) else {
+        return Err(Undecided);
+    };
+    match realised(skel, &flow) {
+        Ok(tiling) => Ok(tiling),
+        Err(Wide) => Err(Undecided),
+    }
 }
 
 /// The primitive tiling whose word is the list of moves of a closed skeleton of at most 16 squares: no other has this word
