@@ -32,7 +32,7 @@ none_before s q x y e = not s.y s.x (cases s q e)
     not a d (inr h) = omega (arith, x, h.1)
 
 -- the top left square comes first
-top_left_first : (squares : List Square) (q : Square) → InCodeOrder squares → IsOneOf q squares → q.x ≡ 0 → q.y ≡ 0 → HasHead squares q
+pub top_left_first : (squares : List Square) (q : Square) → InCodeOrder squares → IsOneOf q squares → q.x ≡ 0 → q.y ≡ 0 → HasHead squares q
 top_left_first [] q o h x y = absurd h
 top_left_first (s ∷ squares) q o (inl same) x y = record { head = s; tail = squares; is = refl; same = sym same }
 top_left_first (s ∷ squares) q o (inr h) x y = absurd (none_before s q x y (in_all (λ z. comes_before s z ≡ true) squares o.0 q h))

@@ -31,6 +31,7 @@ pub mod LineCounting
 pub mod BoundsOfWords
 pub mod BoundExamples
 pub mod CornerLaws
+pub mod CornerTest
 pub mod VerticalParts
 pub mod OwingLaws
 pub mod Listed

@@ -7,6 +7,7 @@ ghost use Rattle.bk_word.specs.Word.{order_of};
 ghost use Rattle.bk_walk.specs.Catalogue.{IsOfClass};
 ghost use Rattle.bk_walk.specs.WholeWords.{Qualifies, Tells};
 
+use crate::corners::begins_greatest;
 use bk_simple::{part, repeated};
 use bk_skel::{Skel, realise_small};
 use bk_sym::is_canonical;
@@ -48,6 +49,9 @@ fn qualifies(tiling: &Tiling, class: Class) -> bool
     ensures yes { IsTrue result → Qualifies class tiling.now }
     ensures no { result ≡ false → Qualifies class tiling.now → ⊥ }
 {
+    if !begins_greatest(tiling) {
+        return false;
+    }
     if tiling.height() > tiling.width() || !is_of_class(tiling, class) {
         return false;
     }

@@ -10,6 +10,7 @@ ghost use Rattle.bk_walk.specs.TreeLaws.{TheTreeCountIsMost, TheTreeCountIsOne, 
 ghost use Rattle.bk_walk.specs.VerticalCut.{TheLineBoundIsMost, TooManyLinesIsBarren};
 
 mod barren;
+mod corners;
 #[cfg(test)]
 mod cut_tests;
 mod cuts;
