@@ -1,0 +1,56 @@
+//! How many moves the search for a whole catalogue pushes, for the figures of `bench/`: a line for each order among the words
+//! of the command line, in the class perfect. Words that are no order from 2 to 16 are passed over.
+#![tactic(auto)]
+
+ghost use Rattle.std.specs.Prelude.{◌<◌, ◌≡◌, ◌≤◌};
+
+use bk_skel::Steps;
+use bk_walk::Walk;
+use bk_word::Class;
+use std::alloc::Global;
+use std::marker::Brand;
+use std::sync::ledger::{Blank, Ledger};
+use std::{env, io};
+
+// No order up to 16 is known to have more members.
+const MOST_MEMBERS: u64 = 100_000;
+
+fn main(rt: HostRuntime) -> io::Result<()> {
+    for word in env::args(&rt)?.skip(1) {
+        match word.as_str().parse::<u8>() {
+            Ok(order) if order >= 2 && order <= 16 => {
+                let (members, pushes) = counted(rt.alloc(), order);
+                println!(rt; "{order} {members} {pushes}")?;
+            }
+            _ => {}
+        }
+    }
+    Ok(())
+}
+
+// How many members the catalogue of an order has, and how many moves are pushed to find them all.
+fn counted(alloc: Global, order: u8) -> (u64, u64)
+    requires least { 2 ≤ order }
+    requires most { order ≤ 16 }
+{
+    walked::<Brand>(alloc, order, Blank::new(1))
+}
+
+// How many members a walk of the order gives before it ends or names a wide word, and how many moves it pushes.
+fn walked<L: Ledger>(alloc: Global, order: u8, blank: Blank) -> (u64, u64)
+    requires least { 2 ≤ order }
+    requires most { order ≤ 16 }
+    requires name { blank.name ≡ L.name }
+    requires parts { blank.parts ≡ L.parts }
+    requires some { 0 < L.parts }
+{
+    let mut steps = Steps::<L>::new(blank);
+    let mut walk = Walk::new(alloc, order, Class::Perfect, None);
+    for members in 0..MOST_MEMBERS {
+        match walk.advance(&mut steps) {
+            Some(Ok(_)) => {}
+            Some(Err(_)) | None => return (members, walk.pushes()),
+        }
+    }
+    (MOST_MEMBERS, walk.pushes())
+}
