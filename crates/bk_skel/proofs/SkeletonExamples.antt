@@ -1,15 +1,17 @@
 -- How 2u.2eu.1e is stored and placed, the word of the 8 by 5 rectangle of the sides 5, 3, 2, 1 and 1: its valleys, segments,
 -- records of moves, and squares.
-use Rattle.std.proofs.Common.{List, Some, [], ap, false, inl, refl, slice_get, take, true, ◌++◌, ◌∷◌, ◌≡◌}
+use Rattle.std.proofs.Common.{List, Some, [], ap, arith, false, inl, refl, slice_get, take, true, ◌++◌, ◌∷◌, ◌≡◌}
 use Rattle.bk_tiling.specs.SquareGroups.{laid_group}
+use Rattle.bk_tiling.specs.declared.Segment.{Segment}
 use Rattle.bk_tiling.specs.declared.Square.{Square}
 use Rattle.bk_word.proofs.WordExamples.{staircase}
 use Rattle.bk_word.specs.Outline.{start}
 use Rattle.bk_word.specs.Play.{outline_of}
 use Rattle.bk_word.specs.Word.{Move}
 use Rattle.bk_word.specs.declared.Sign.TheVariants.{Even, Under}
-use Rattle.bk_skel.specs.Board.{IsGap, back_of, bottom_at, columns_of, front_of, square_at}
-use Rattle.bk_skel.specs.Skeleton.{first_touched, joined_sizes, moves_stored, open_sides, signs_before, signs_of, sizes_after, sizes_before, turns_from}
+use Rattle.bk_lay.proofs.WordTest.{by_tests, passes_as_valley}
+use Rattle.bk_skel.specs.Board.{IsGap, IsTurn, back_of, bottom_at, columns_of, front_of, square_at}
+use Rattle.bk_skel.specs.Skeleton.{Shows, first_touched, joined_sizes, moves_stored, open_sides, signs_before, signs_of, sizes_after, sizes_before, turns_from}
 use Rattle.bk_skel.specs.TurnRecord.{SaysWhere}
 use Rattle.bk_skel.specs.Valley.{leftmost_valley, segment_sizes}
 use Rattle.bk_skel.specs.declared.turns.Turn.{Turn}
@@ -85,6 +87,10 @@ says_where = record { count = λ m e. same m e; first = refl; closed = refl }
     same : (m : Move) → slice_get staircase 2 ≡ Some m → turn_3.count ≡ m.count
     same m e = let third : record { count = 1; signs = Even ∷ [] } ≡ m = cc in ap (λ (n : Move). n.count) third
 
+-- the flat lists after two moves: the open squares, the segments' sizes, the sign between them, and the closed square
+shown : Shows (outline_of (take 2 staircase)) (1 ∷ 3 ∷ 4 ∷ []) (2 ∷ 1 ∷ []) (Under ∷ []) (2 ∷ [])
+shown = record { ends_are = refl; sizes_are = refl; signs_are = refl; closed_are = refl }
+
 -- ---- the squares that are laid after two moves
 
 abbrev laid : List Square
@@ -109,5 +115,22 @@ back : back_of (outline_of (take 2 staircase)) ≡ []
 back = refl
 
 -- square 4 stands over the gap of one column at the right wall
-gap_4 : IsGap 8 laid (4 ∷ []) (record { x = 7; width = 1; level = 4 })
+abbrev gap : Segment
+gap = record { x = 7; width = 1; level = 4 }
+
+gap_4 : IsGap 8 laid (4 ∷ []) gap
 gap_4 = inl (record { x = 7; y = 3; s = 1 }, (3, refl, refl), refl, refl, refl)
+
+-- a square of the side 1 fills it, and its bottom is even with that of square 3; one of the side 2 is too wide
+last_turn : IsTurn 8 laid (record { count = 1; signs = Even ∷ [] }) (1 ∷ []) gap
+last_turn = record {
+  found = passes_as_valley _ _ _ (by_tests _ _ _ refl refl refl refl refl refl);
+  count = refl;
+  some = omega arith;
+  positive = (omega arith, tt);
+  fills = refl;
+  signs = refl;
+}
+
+too_wide : ¬ (IsTurn 8 laid (record { count = 1; signs = Even ∷ [] }) (2 ∷ []) gap)
+too_wide t = absurd (omega (arith, t.fills))
