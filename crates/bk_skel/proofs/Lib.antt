@@ -16,11 +16,13 @@ pub mod FlowWord
 pub mod FlowTilings
 pub mod PlacedWord
 pub mod ExactNodes
+pub mod PlacesInLists
+pub mod WordNodes
 pub mod Renumbering
-pub mod Ground
-pub mod GroundEnd
-pub mod GroundAgrees
-pub mod GroundSight
+pub mod ShownOutline
+pub mod TilingOfTurns
+pub mod TurnsOfTiling
+pub mod NumberedValley
 pub mod ValleyCut
 pub mod PlacingLists
 pub mod PlacingTurn
@@ -46,4 +48,5 @@ pub mod Playing
 pub mod RealisedWord
 pub mod NetRead
 pub mod RealisedExamples
+pub mod SkeletonExamples
 pub mod LaidOnce

@@ -17,19 +17,6 @@ group_push x level (a ∷ sides) s = ap (λ (rest : List Square). (record { x = 
     same : x + a + sum sides ≡ x + sum (a ∷ sides)
     same = omega (arith, sum_by-cons (λ (n : ℕ). n) a sides)
 
-pub numbers_more : (n k : ℕ) → numbers_from n (k + 1) ≡ numbers_from n k ++ (n + k) ∷ []
-numbers_more n zero = ap (λ (m : ℕ). m ∷ []) same
-  where
-    same : n ≡ n + 0
-    same = omega arith
-numbers_more n (suc k) = (λ i. numbers_from n (step i)) ∙ ap (λ (rest : List ℕ). n ∷ rest) (numbers_more (n + 1) k ∙ ap (λ (m : ℕ). numbers_from (n + 1) k ++ m ∷ []) same)
-  where
-    step : suc k + 1 ≡ suc (k + 1)
-    step = omega arith
-
-    same : n + 1 + k ≡ n + suc k
-    same = omega arith
-
 pub numbers-length : (n k : ℕ) → length (numbers_from n k) ≡ k
 numbers-length n zero = refl
 numbers-length n (suc k) = ap suc (numbers-length (n + 1) k)

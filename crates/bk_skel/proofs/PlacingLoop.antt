@@ -22,10 +22,10 @@ use Rattle.bk_word.specs.Word.{Move, Word, order_of}
 use Rattle.bk_lay.proofs.Valleys.{one_leftmost_valley}
 use Rattle.bk_lay.specs.TilingWord.{MovesFollow}
 use Rattle.bk_skel.specs.WordFlow.{LaidAlong}
-use Rattle.bk_skel.proofs.Ground.{group_count, shows_start, sum_is_total}
-use Rattle.bk_skel.proofs.GroundAgrees.{AgreesAt, AgreesOn, agrees_on, agrees_start}
-use Rattle.bk_skel.proofs.GroundEnd.{Turns, all_deep, built, follow_turns, is_tiling}
-use Rattle.bk_skel.proofs.GroundSight.{shows_turn}
+use Rattle.bk_skel.proofs.ShownOutline.{group_count, shows_start, sum_is_total}
+use Rattle.bk_skel.proofs.TurnsOfTiling.{AgreesAt, AgreesOn, agrees_on, agrees_start}
+use Rattle.bk_skel.proofs.TilingOfTurns.{Turns, all_deep, built, follow_turns, is_tiling}
+use Rattle.bk_skel.proofs.NumberedValley.{shows_turn}
 use Rattle.bk_skel.proofs.PlacingTurn.{few_after, gap, known_after, low_after, numbers_after, only}
 use Rattle.bk_skel.specs.LaidTiling.{IsLaidWith}
 use Rattle.bk_skel.specs.Board.{CanLay, IsBoard, IsClosed, IsNumber, IsTurn, front_of}

@@ -1,6 +1,6 @@
 -- One move of the placing, seen in the lists that the code keeps: the numbers of the valley's squares, the gap over which
 -- they stand, and the window of numbers whose bottoms the signs compare.
-use Rattle.std.specs.List.{AllByRecursion, concat}
+use Rattle.std.specs.List.{AllByRecursion, concat, splice}
 use Rattle.std.proofs.Common.{List, Some, [], ap, arith, drop, false, inl, inr, length, map, refl, slice_get, slice_index_or, subst, suc, sum, sym, take, zero, ℕ, ◌*◌, ◌++◌, ◌+◌, ◌-◌, ◌<◌, ◌==◌, ◌^◌, ◌∙◌, ◌∷◌, ◌≡◌, ◌≤◌, ◌⊎◌}
 use Rattle.std.proofs.lemmas.Bool.Decides.{nat_tests}
 use Rattle.std.proofs.lemmas.List.Sums.{sum_by-cons}
@@ -21,8 +21,8 @@ use Rattle.bk_lay.proofs.Steps.{get_append, get_last, one_of}
 use Rattle.bk_lay.proofs.Valleys.{one_leftmost_valley}
 use Rattle.bk_lay.specs.Depiction.{Span}
 use Rattle.bk_lay.specs.TilingWord.{depth_before, depth_from, signs_between}
-use Rattle.bk_skel.proofs.Ground.{group_count}
-use Rattle.bk_skel.proofs.GroundSight.{Sees, SeesLeft, SeesRight, numbered_square, open_after, open_parts, sees}
+use Rattle.bk_skel.proofs.ShownOutline.{group_count}
+use Rattle.bk_skel.proofs.NumberedValley.{Sees, SeesLeft, SeesRight, numbered_square, open_after, open_parts, sees}
 use Rattle.bk_skel.proofs.PlacingLists.{numbers-length}
 use Rattle.bk_skel.specs.Board.{CanLay, IsFittingGap, IsGap, IsNumber, IsTurn, back_of, bottom_at, columns_of, front_of, square_at}
 
@@ -362,9 +362,10 @@ module _ (width : ℕ) (laid : List Square) (numbers : List ℕ) (first end : �
   pub low_as : (new_laid : List Square) → new_laid ≡ laid ++ laid_group gap.x gap.level new → (n : ℕ) → IsNumber new_laid n → bottom_at new_laid n < 2 ^ 63
   low_as new_laid e n h = subst (λ (ls : List Square). bottom_at ls n < 2 ^ 63) (sym e) (bottom_low n (subst (λ (ls : List Square). IsNumber ls n) e h))
 
-pub laid_as : (g gap : Segment) (laid next given : List Square) (new : List ℕ) → g ≡ gap → next ≡ laid ++ laid_group g.x g.level new → given ≡ next → given ≡ laid ++ laid_group gap.x gap.level new
-laid_as g gap laid next given new e f h = h ∙ f ∙ ap (λ (v : Segment). laid ++ laid_group v.x v.level new) e
+pub laid_as : (g v : Segment) (laid next given : List Square) (new : List ℕ) → g ≡ v → next ≡ laid ++ laid_group g.x g.level new → given ≡ next → given ≡ laid ++ laid_group v.x v.level new
+laid_as g v laid next given new e f h = h ∙ f ∙ ap (λ (u : Segment). laid ++ laid_group u.x u.level new) e
 
-pub numbers_as : (numbers shown next given : List ℕ) (laid : List Square) (first end many from count : ℕ) → shown ≡ numbers → many ≡ length laid → from ≡ many + 1 → next ≡ (take first shown ++ numbers_from from count) ++ drop end shown → given ≡ next
+pub numbers_as : (numbers next given : List ℕ) (laid : List Square) (first end from count : ℕ) → from ≡ length laid + 1 → next ≡ splice numbers first end (numbers_from from count) → given ≡ next
     → given ≡ (take first numbers ++ numbers_from (length laid + 1) count) ++ drop end numbers
-numbers_as numbers shown next given laid first end many from count a b e f h = h ∙ f ∙ (λ i. (take first (a i) ++ numbers_from ((e ∙ ap (λ (n : ℕ). n + 1) b) i) count) ++ drop end (a i))
+numbers_as numbers next given laid first end from count e f h = h ∙ f ∙ sym (append_assoc (take first numbers) (numbers_from from count) (drop end numbers))
+    ∙ (λ i. (take first numbers ++ numbers_from (e i) count) ++ drop end numbers)

@@ -1,4 +1,5 @@
 -- How a skeleton is stored: its outline as flat lists, and a record for each move, by which the move is taken back.
+-- Example (SkeletonExamples): the last move of 2u.2eu.1e makes one segment of three squares of one of two and one of one.
 use Rattle.std.specs.List.{concat}
 use Rattle.std.specs.Prelude.{List, [], cond, count_by, flat_map, length, map, max, min, nat_eq, slice_index, slice_range, sum, take, ℕ, ◌+◌, ◌-◌, ◌∷◌, ◌≡◌}
 use Rattle.bk_word.specs.Outline.{Outline, start, valley_place}

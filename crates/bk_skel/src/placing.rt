@@ -17,6 +17,7 @@ ghost use Rattle.bk_skel.specs.LaidTiling.{IsLaidWith};
 ghost use Rattle.bk_skel.specs.Board.{CanLay, IsClosed, IsFittingGap, IsNumber, IsTurn, bottom_at, columns_of, square_at};
 
 use crate::skeleton::Skel;
+use crate::splicing::splice_numbers;
 use arrayvec::ArrayVec;
 use bk_tiling::{LONGEST_SIDE, MOST_SQUARES, Segment, Square, Tiling};
 use bk_word::Sign;
@@ -72,9 +73,9 @@ pub(crate) fn lay_move(
     if sum_of(new) != gap.width {
         return false;
     }
-    let from = laid.len() + 1;
+    let number = (laid.len() + 1) as u8;
     push_group(laid, gap, new);
-    *numbers = hung_in(numbers, first, end, from, new.len());
+    splice_numbers(numbers, first, end, number, new.len() as u8);
     let left = first.saturating_sub(1);
     signs_fit(laid, &numbers[left..left + signs.len() + 1], signs)
 }
@@ -169,42 +170,6 @@ fn push_group(laid: &mut ArrayVec<Square, MOST_SQUARES>, gap: Segment, sides: &[
             s: *side,
         });
         x += *side;
-    }
-}
-
-// The open squares where those from one place up to another give way to so many new ones, numbered from a number on.
-fn hung_in(numbers: &[u8], first: usize, end: usize, from: usize, count: usize) -> Numbers
-    requires order { first ≤ end }
-    requires within { end ≤ length numbers.now }
-    requires room { length numbers.now + count ≤ MOST_SQUARES }
-    requires last { from + count ≤ MOST_SQUARES + 1 }
-    ensures { result.items ≡ (take first numbers.now ++ numbers_from from count) ++ drop end numbers.now }
-{
-    let mut hung = ArrayVec::new();
-    push_all(&mut hung, &numbers[..first]);
-    push_new(&mut hung, from, count);
-    push_all(&mut hung, &numbers[end..]);
-    hung
-}
-
-// Appends numbers.
-fn push_all(numbers: &mut Numbers, more: &[u8])
-    requires { length numbers.old.items + length more.now ≤ MOST_SQUARES }
-    ensures { numbers.new.items ≡ numbers.old.items ++ more.now }
-{
-    for number in more {
-        numbers.push(*number);
-    }
-}
-
-// Appends so many numbers, from a number on.
-fn push_new(numbers: &mut Numbers, from: usize, count: usize)
-    requires room { length numbers.old.items + count ≤ MOST_SQUARES }
-    requires fits { from + count ≤ MOST_SQUARES + 1 }
-    ensures { numbers.new.items ≡ numbers.old.items ++ numbers_from from count }
-{
-    for i in 0..count {
-        numbers.push((from + i) as u8);
     }
 }
 

@@ -18,7 +18,7 @@ use Rattle.bk_lay.proofs.Laying.{under_chain}
 use Rattle.bk_lay.proofs.Valleys.{one_leftmost_valley}
 use Rattle.bk_lay.specs.TilingWord.{IsLeftmostValley, MovesFollow, depth_before, depth_from, move_under, signs_between, squares_under}
 use Rattle.bk_skel.proofs.AlongWord.{Along, along_move, along_start, top_valley}
-use Rattle.bk_skel.proofs.Ground.{fills_total, sum_is_total}
+use Rattle.bk_skel.proofs.ShownOutline.{fills_total, sum_is_total}
 use Rattle.bk_skel.proofs.OneTiling.{along_prefix}
 use Rattle.bk_skel.specs.LaidTiling.{IsLaidWith}
 use Rattle.bk_skel.specs.Board.{IsTurn}

@@ -23,7 +23,7 @@ use Rattle.bk_lay.proofs.Laying.{ordered_filter}
 use Rattle.bk_lay.proofs.Steps.{zip_length}
 use Rattle.bk_lay.specs.Depiction.{IsSegment}
 use Rattle.bk_lay.specs.TilingWord.{MovesFollow, bottoms, depth_before, depth_from, hangs_under, move_under, signs_between, squares_under}
-use Rattle.bk_skel.proofs.Ground.{fills_total, group_count}
+use Rattle.bk_skel.proofs.ShownOutline.{fills_total, group_count}
 use Rattle.bk_skel.specs.Board.{IsTurn, ShowsLaid}
 use Rattle.bk_skel.specs.WordFlow.{LaidAlong}
 

@@ -20,7 +20,7 @@ use Rattle.bk_word.specs.declared.Sign.{Sign}
 use Rattle.bk_lay.specs.Depiction.{IsNumbered, IsSegment, Span}
 use Rattle.bk_lay.specs.TilingWord.{IsLeftmostValley, depth_before, depth_from}
 use Rattle.bk_skel.proofs.BottomChain.{concat-append, concat-cut, concat-joined, concat-singles}
-use Rattle.bk_skel.proofs.Ground.{fills_total, first_is, last_is, level_signs, number_levels, place_in, shows_move, zip_after, zip_before}
+use Rattle.bk_skel.proofs.ShownOutline.{fills_total, first_is, last_is, level_signs, number_levels, place_in, shows_move, zip_after, zip_before}
 use Rattle.bk_skel.specs.Board.{IsGap, IsTurn, ShowsLaid, back_of, bottom_at, front_of, square_at}
 
 -- the square of a number

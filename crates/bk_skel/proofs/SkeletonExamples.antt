@@ -1,0 +1,136 @@
+-- How 2u.2eu.1e is stored and placed, the word of the 8 by 5 rectangle of the sides 5, 3, 2, 1 and 1: its valleys, segments,
+-- records of moves, and squares.
+use Rattle.std.proofs.Common.{List, Some, [], ap, arith, false, inl, refl, slice_get, take, true, ◌++◌, ◌∷◌, ◌≡◌}
+use Rattle.bk_tiling.specs.SquareGroups.{laid_group}
+use Rattle.bk_tiling.specs.declared.Segment.{Segment}
+use Rattle.bk_tiling.specs.declared.Square.{Square}
+use Rattle.bk_word.proofs.WordExamples.{staircase}
+use Rattle.bk_word.specs.Outline.{start}
+use Rattle.bk_word.specs.Play.{outline_of}
+use Rattle.bk_word.specs.Word.{Move}
+use Rattle.bk_word.specs.declared.Sign.TheVariants.{Even, Under}
+use Rattle.bk_lay.proofs.WordTest.{by_tests, passes_as_valley}
+use Rattle.bk_skel.specs.Board.{IsGap, IsTurn, back_of, bottom_at, columns_of, front_of, square_at}
+use Rattle.bk_skel.specs.Skeleton.{Shows, first_touched, joined_sizes, moves_stored, open_sides, signs_before, signs_of, sizes_after, sizes_before, turns_from}
+use Rattle.bk_skel.specs.TurnRecord.{SaysWhere}
+use Rattle.bk_skel.specs.Valley.{leftmost_valley, segment_sizes}
+use Rattle.bk_skel.specs.declared.turns.Turn.{Turn}
+
+-- ---- the leftmost valley before each move, and how many squares each open segment has
+
+first_valley : leftmost_valley (outline_of []) ≡ record { place = 0; left_wall = true; right_wall = true; squares = [] }
+first_valley = refl
+
+second_valley : leftmost_valley (outline_of (take 1 staircase)) ≡ record { place = 1; left_wall = false; right_wall = true; squares = 2 ∷ [] }
+second_valley = refl
+
+third_valley : leftmost_valley (outline_of (take 2 staircase)) ≡ record { place = 1; left_wall = false; right_wall = true; squares = 4 ∷ [] }
+third_valley = refl
+
+sizes_at_first : segment_sizes (outline_of []) ≡ 0 ∷ []
+sizes_at_first = refl
+
+sizes_after_one : segment_sizes (outline_of (take 1 staircase)) ≡ 1 ∷ 1 ∷ []
+sizes_after_one = refl
+
+sizes_after_two : segment_sizes (outline_of (take 2 staircase)) ≡ 2 ∷ 1 ∷ []
+sizes_after_two = refl
+
+sizes_after_all : segment_sizes (outline_of staircase) ≡ 3 ∷ []
+sizes_after_all = refl
+
+-- ---- the records of the moves
+
+abbrev turn_1 : Turn
+turn_1 = record { place = 0; first = 0; left = 0; closed = 0; right = 0; count = 2; parted = 1; from = 0; to = 1 }
+
+abbrev turn_2 : Turn
+turn_2 = record { place = 1; first = 1; left = 1; closed = 1; right = 0; count = 2; parted = 1; from = 1; to = 3 }
+
+abbrev turn_3 : Turn
+turn_3 = record { place = 1; first = 2; left = 2; closed = 1; right = 0; count = 1; parted = 0; from = 3; to = 4 }
+
+turns : turns_from start 0 staircase ≡ turn_1 ∷ turn_2 ∷ turn_3 ∷ []
+turns = refl
+
+signs : signs_of staircase ≡ Under ∷ Even ∷ Under ∷ Even ∷ []
+signs = refl
+
+stored : moves_stored (turn_1 ∷ turn_2 ∷ turn_3 ∷ []) (Under ∷ Even ∷ Under ∷ Even ∷ []) ≡ staircase
+stored = refl
+
+-- the third move touches both segments: they had two squares and one, with the sign under between them, and its own sign
+-- makes one segment of three of them
+touched : first_touched turn_3 ≡ 0
+touched = refl
+
+sides : open_sides turn_3 ≡ 1
+sides = refl
+
+sizes : sizes_before turn_3 ≡ 2 ∷ 1 ∷ []
+sizes = refl
+
+between : signs_before turn_3 ≡ Under ∷ []
+between = refl
+
+joined : sizes_after turn_3 (Even ∷ []) ≡ 3 ∷ []
+joined = refl
+
+-- of a first segment of two squares and a last one of three, whose signs are even, under, even
+joined_both : joined_sizes 2 3 (Even ∷ Under ∷ Even ∷ []) ≡ 3 ∷ 4 ∷ []
+joined_both = refl
+
+-- the valley of the third move has square 4 alone, with squares 1 and 3 before it
+says_where : SaysWhere staircase 2 turn_3
+says_where = record { count = λ m e. same m e; first = refl; closed = refl }
+  where
+    same : (m : Move) → slice_get staircase 2 ≡ Some m → turn_3.count ≡ m.count
+    same m e = let third : record { count = 1; signs = Even ∷ [] } ≡ m = cc in ap (λ (n : Move). n.count) third
+
+-- the flat lists after two moves: the open squares, the segments' sizes, the sign between them, and the closed square
+shown : Shows (outline_of (take 2 staircase)) (1 ∷ 3 ∷ 4 ∷ []) (2 ∷ 1 ∷ []) (Under ∷ []) (2 ∷ [])
+shown = record { ends_are = refl; sizes_are = refl; signs_are = refl; closed_are = refl }
+
+-- ---- the squares that are laid after two moves
+
+abbrev laid : List Square
+laid = laid_group 0 0 (5 ∷ 3 ∷ []) ++ laid_group 5 3 (2 ∷ 1 ∷ [])
+
+square_3 : square_at laid 3 ≡ record { x = 5; y = 3; s = 2 }
+square_3 = refl
+
+bottom_3 : bottom_at laid 3 ≡ 5
+bottom_3 = refl
+
+bottom_4 : bottom_at laid 4 ≡ 4
+bottom_4 = refl
+
+columns_1-3 : columns_of laid (1 ∷ 3 ∷ []) ≡ 7
+columns_1-3 = refl
+
+front : front_of (outline_of (take 2 staircase)) ≡ 1 ∷ 3 ∷ []
+front = refl
+
+back : back_of (outline_of (take 2 staircase)) ≡ []
+back = refl
+
+-- square 4 stands over the gap of one column at the right wall
+abbrev gap : Segment
+gap = record { x = 7; width = 1; level = 4 }
+
+gap_4 : IsGap 8 laid (4 ∷ []) gap
+gap_4 = inl (record { x = 7; y = 3; s = 1 }, (3, refl, refl), refl, refl, refl)
+
+-- a square of the side 1 fills it, and its bottom is even with that of square 3; one of the side 2 is too wide
+last_turn : IsTurn 8 laid (record { count = 1; signs = Even ∷ [] }) (1 ∷ []) gap
+last_turn = record {
+  found = passes_as_valley _ _ _ (by_tests _ _ _ refl refl refl refl refl refl);
+  count = refl;
+  some = omega arith;
+  positive = (omega arith, tt);
+  fills = refl;
+  signs = refl;
+}
+
+too_wide : ¬ (IsTurn 8 laid (record { count = 1; signs = Even ∷ [] }) (2 ∷ []) gap)
+too_wide t = absurd (omega (arith, t.fills))
