@@ -9,11 +9,11 @@ use Rattle.bk_word.specs.Play.{IsComplete}
 use Rattle.bk_word.specs.Word.{Follows, Word, order_of, word_cmp}
 use Rattle.bk_word.specs.declared.Class.{Class}
 use Rattle.bk_skel.specs.WideWord.{IsWideWord}
+use Rattle.bk_walk.proofs.Starting.{word_same}
 use Rattle.bk_walk.specs.Catalogue.{Entry, IsEntry}
 use Rattle.bk_report.specs.declared.listing.Last.TheVariants.{End, Wide}
 use Rattle.bk_list.proofs.Continuing.{after_each, after_last, both, first_or_later}
 use Rattle.bk_list.proofs.OneEntry.{one_entry}
-use Rattle.bk_list.proofs.SameWords.{word_same}
 use Rattle.bk_list.specs.Listing.{AreFirst, EndsBy, HasAll, IsBelowLimit, StopsAt}
 use Rattle.bk_list.specs.ListingLaws.{cursor_after}
 use Rattle.bk_walk.specs.Walking.{HasNoneAfter, HasNoneBetween, IsWideAfter}
