@@ -3,3 +3,5 @@ pub mod OneEntry
 pub mod WordCounts
 pub mod Taking
 pub mod ListingSteps
+pub mod TwoSquares
+pub mod ListingExamples
