@@ -1,6 +1,7 @@
 pub mod Continuing
 pub mod OneEntry
-pub mod SameWords
 pub mod WordCounts
 pub mod Taking
 pub mod ListingSteps
+pub mod TwoSquares
+pub mod ListingExamples

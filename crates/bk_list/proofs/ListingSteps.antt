@@ -1,5 +1,4 @@
 -- A listing, line by line: what stands written after so many entries, and after the last line.
-use Rattle.std.specs.List.{AllByRecursion}
 use Rattle.std.specs.Prelude.{IfOk, MatchResult, OnErr, Option, Result, flat_map}
 use Rattle.std.specs.Io.KnownBytes.{Appends}
 use Rattle.std.proofs.KnownBytes.{Appends-nil, Appends-trans}
@@ -13,13 +12,13 @@ use Rattle.bk_tiling.proofs.ListLaws.{length_append}
 use Rattle.bk_tiling.specs.Tiling.{Tiling}
 use Rattle.bk_word.specs.Word.{Follows, Word}
 use Rattle.bk_word.specs.declared.Class.{Class}
-use Rattle.bk_walk.specs.Catalogue.{Entry, IsEntry}
+use Rattle.bk_walk.specs.Catalogue.{Entry}
 use Rattle.bk_report.specs.Listings.{last_line}
 use Rattle.bk_report.specs.declared.listing.Last.{Last}
 use Rattle.bk_report.specs.declared.listing.Last.TheVariants.{End, Limit, Wide}
 use Rattle.bk_list.proofs.Taking.{all_there, first_more, first_none, last_word, stops_there}
 use Rattle.bk_list.proofs.WordCounts.{few_entries}
-use Rattle.bk_list.specs.Listing.{AreFirst, EndsBy, HasAll, IsBelowLimit, IsWithinLimit, line_of}
+use Rattle.bk_list.specs.Listing.{AreFirst, EndsBy, IsBelowLimit, IsWithinLimit, line_of}
 use Rattle.bk_list.specs.ListingLaws.{cursor_after}
 use Rattle.bk_walk.specs.Walking.{HasNoneAfter, IsNextMember, IsWideAfter}
 use Rattle.bk_list.specs.Writing.{BeginsListing, HasEntries, IsNext, IsNextBegun, TakesNext, WritesListing}

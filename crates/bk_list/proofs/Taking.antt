@@ -3,18 +3,15 @@ use Rattle.std.specs.List.{AllByRecursion}
 use Rattle.std.specs.Ordering.{ordering_reverse}
 use Rattle.std.specs.declared.cmp.Ordering.{Ordering}
 use Rattle.std.specs.declared.cmp.Ordering.TheVariants.{Equal, Greater, Less}
-use Rattle.std.proofs.Common.{Contains, List, None, Option, Some, [], ap, arith, inl, inr, length, refl, subst, sym, zero, ℕ, ◌++◌, ◌∙◌, ◌∷◌, ◌≡◌, ◌⊎◌}
+use Rattle.std.proofs.Common.{Contains, List, [], ap, arith, inl, inr, refl, zero, ℕ, ◌++◌, ◌∙◌, ◌∷◌, ◌≡◌, ◌⊎◌}
 use Rattle.bk_word.proofs.WordOrder.{word_total}
-use Rattle.bk_word.specs.Play.{IsComplete}
-use Rattle.bk_word.specs.Word.{Follows, Word, order_of, word_cmp}
+use Rattle.bk_word.specs.Word.{Follows, Word, word_cmp}
 use Rattle.bk_word.specs.declared.Class.{Class}
-use Rattle.bk_skel.specs.WideWord.{IsWideWord}
+use Rattle.bk_walk.proofs.Starting.{word_same}
 use Rattle.bk_walk.specs.Catalogue.{Entry, IsEntry}
-use Rattle.bk_report.specs.declared.listing.Last.TheVariants.{End, Wide}
 use Rattle.bk_list.proofs.Continuing.{after_each, after_last, both, first_or_later}
 use Rattle.bk_list.proofs.OneEntry.{one_entry}
-use Rattle.bk_list.proofs.SameWords.{word_same}
-use Rattle.bk_list.specs.Listing.{AreFirst, EndsBy, HasAll, IsBelowLimit, StopsAt}
+use Rattle.bk_list.specs.Listing.{AreFirst, HasAll, StopsAt}
 use Rattle.bk_list.specs.ListingLaws.{cursor_after}
 use Rattle.bk_walk.specs.Walking.{HasNoneAfter, HasNoneBetween, IsWideAfter}
 

@@ -9,12 +9,13 @@ use Rattle.std.proofs.Math.Nat.{mul-le-mul_right}
 use Rattle.bk_lay.proofs.WordPlay.{order-cons, tiling_word_is_complete}
 use Rattle.bk_word.specs.Outline.{IsLegalMove, Outline, has_left_wall, has_right_wall, open_side, start}
 use Rattle.bk_word.specs.Play.{AreLegalFrom, after_move}
-use Rattle.bk_word.specs.Word.{Follows, Move, Word, move_cmp, order_of, sign_cmp, sign_place, word_cmp}
+use Rattle.bk_word.specs.Word.{Move, Word, move_cmp, order_of, sign_cmp, sign_place, word_cmp}
 use Rattle.bk_word.specs.declared.Class.{Class}
 use Rattle.bk_word.specs.declared.Sign.{Sign}
 use Rattle.bk_word.specs.declared.Sign.TheVariants.{Above, Even, Under}
 use Rattle.bk_walk.specs.Catalogue.{AreAscending, Entry, IsEntry}
-use Rattle.bk_list.proofs.SameWords.{less_by, move_same}
+use Rattle.bk_walk.proofs.MoveOrder.{less_to}
+use Rattle.bk_walk.proofs.Places.{move_same}
 
 abbrev power : ℕ → ℕ → ℕ
 power base zero = 1
@@ -132,7 +133,7 @@ step_falls : (o : Outline) (n : ℕ) (m k : Move) (v w : Word) → AreLegalFrom 
     → (AreLegalFrom (after_move o m) w → order_of w ≡ n - m.count → word_cmp v w ≡ Less → left (n - m.count) w < left (n - m.count) v)
     → (r : Ordering) → move_cmp m k ≡ r → ordering_then (move_cmp m k) (word_cmp v w) ≡ Less → left n (k ∷ w) < left n (m ∷ v)
 unfolding left
-step_falls o n m k v w p q a b more Less f e = by_less (less_by m k f)
+step_falls o n m k v w p q a b more Less f e = by_less (less_to m k f)
   where
     under : left (n - k.count) w ≤ power 12 (n - k.count)
     under = left_below (after_move o k) (n - k.count) w q.1 (omega (arith, order-cons k w, b))

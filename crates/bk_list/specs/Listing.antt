@@ -58,7 +58,8 @@ EndsBy n class cursor limit entries Wide w = IsBelowLimit limit entries × Stops
 abbrev pub line_of : Entry → List ℕ
 line_of e = entry_line e.tiling e.word
 
--- the bytes are a listing that ends so: an entry line for each of the first members, and one last line
+-- the bytes are a listing that ends so: an entry line for each of the first members, and one last line. The whole
+-- listing of order 2 and the class imperfect is `2 2x1 [1,1] ; 2e` and `; end order 2 class imperfect listed 1`
 pub record IsListing (n : ℕ) (class : Class) (cursor : Word) (limit : Option ℕ) (last : Last) (bytes : List ℕ) : Type 0 where
   pub entries : List Entry
   pub word : Word

@@ -35,3 +35,8 @@ pub mod CornerTest
 pub mod VerticalParts
 pub mod OwingLaws
 pub mod Listed
+pub mod Carrying
+pub mod PartsKept
+pub mod ClassesKept
+pub mod GreatestImage
+pub mod ListedOnce

@@ -12,3 +12,4 @@ pub mod SingleValleys
 pub mod VerticalCut
 pub mod Corners
 pub mod Listing
+pub mod Once

@@ -5,6 +5,7 @@ ghost use Rattle.bk_walk.specs.ClosingBound.{TheClosingBoundIsMost, TooManyToClo
 ghost use Rattle.bk_walk.specs.Corners.{CornersAreNoLonger};
 ghost use Rattle.bk_walk.specs.Cuts.{OneSegmentIsBarren, EvenSquaresAreBarren, OneUnderOneIsBarren, ShorterFirstIsBarren};
 ghost use Rattle.bk_walk.specs.Listing.{ANextMemberIsListed, ListingsContinue, NoMemberIsListed};
+ghost use Rattle.bk_walk.specs.Once.{EachSimpleTilingIsListedOnce};
 ghost use Rattle.bk_walk.specs.SingleValleys.{TooManySinglesIsBarren};
 ghost use Rattle.bk_walk.specs.TreeLaws.{TheTreeCountIsMost, TheTreeCountIsOne, TreeCountsAdd, AtLeastAdds, ALegalWordIsOne};
 ghost use Rattle.bk_walk.specs.VerticalCut.{TheLineBoundIsMost, TooManyLinesIsBarren};
@@ -117,4 +118,9 @@ pub fn a_next_member_is_listed()
 /// Where no member is after the cursor, nothing is listed.
 pub fn no_member_is_listed()
     ensures { NoMemberIsListed }
+{}
+
+/// A simple tiling is listed once in the catalogue of its order and class: as the entry of its canonical tiling.
+pub fn each_simple_tiling_is_listed_once()
+    ensures { EachSimpleTilingIsListedOnce }
 {}

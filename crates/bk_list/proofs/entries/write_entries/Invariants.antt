@@ -1,4 +1,4 @@
-use Rattle.std.proofs.Common.{ℕ, ◌-◌, ◌^◌, ◌≡◌, ◌≤◌}
+use Rattle.std.proofs.Common.{◌-◌, ◌^◌, ◌≡◌}
 use Rattle.bk_list.proofs.ListingSteps.{IsListed}
 use Rattle.bk_list.proofs.entries.write_entries.Given as goal
 
