@@ -11,5 +11,6 @@ pub mod OnePrimitive
 pub mod Spanning
 pub mod Filled
 pub mod Currents
+pub mod KeptCurrents
 pub mod WideLaws
 pub mod FlowLawExamples

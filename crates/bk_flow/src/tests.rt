@@ -1,6 +1,6 @@
 ghost use Rattle.std.specs.Prelude.{◌+◌, ◌*◌, ◌≡◌, ◌≤◌};
 
-use crate::{Flow, FlowFault, SMALL, solve, solve_small};
+use crate::{Flow, FlowFault, SMALL, solve, solve_small, solve_whole};
 use bk_frac::Wide;
 use bk_net::{Net, NetLine, read_net};
 use std::test::Fail;
@@ -13,15 +13,16 @@ fn net_in(line: &[u8]) -> Result<Net, Fail> {
     }
 }
 
-// The flow of a small net without a loose node.
-fn small_flow(net: &Net) -> Result<Flow, Fail> {
+// The two flows of a small net without a loose node, by the stated elimination and in whole numbers.
+fn small_flows(net: &Net) -> Result<[Flow; 2], Fail> {
     if let Some(node) = net.loose() {
         return Err(FlowFault::Loose { node }.into());
     }
     if net.wires().len() > SMALL {
         return Err("the net is small".into());
     }
-    Ok(solve_small(net)?)
+    let whole = solve_whole(net).ok_or("whole numbers decide it")?;
+    Ok([solve_small(net)?, whole])
 }
 
 #[test]
@@ -43,9 +44,10 @@ fn flows_of_small_nets(rt: HostRuntime) -> Result<(), Fail> {
         let flow = solve(rt.alloc(), &net)?;
         assert_eq!(rt; flow.total(), total);
         assert_eq!(rt; flow.currents(), currents);
-        let small = small_flow(&net)?;
-        assert_eq!(rt; small.total(), total);
-        assert_eq!(rt; small.currents(), currents);
+        for small in &small_flows(&net)? {
+            assert_eq!(rt; small.total(), total);
+            assert_eq!(rt; small.currents(), currents);
+        }
     }
     Ok(())
 }
