@@ -33,4 +33,3 @@ pub mod BoundExamples
 pub mod CornerLaws
 pub mod VerticalParts
 pub mod OwingLaws
-pub mod Listed

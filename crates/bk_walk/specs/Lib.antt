@@ -11,4 +11,3 @@ pub mod ClosingBound
 pub mod SingleValleys
 pub mod VerticalCut
 pub mod Corners
-pub mod Listing
