@@ -34,7 +34,6 @@ pub mod CornerLaws
 pub mod CornerTest
 pub mod VerticalParts
 pub mod OwingLaws
-pub mod Listed
 pub mod Carrying
 pub mod PartsKept
 pub mod ClassesKept

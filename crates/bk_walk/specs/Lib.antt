@@ -11,5 +11,4 @@ pub mod ClosingBound
 pub mod SingleValleys
 pub mod VerticalCut
 pub mod Corners
-pub mod Listing
 pub mod Once

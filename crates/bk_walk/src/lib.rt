@@ -4,7 +4,6 @@
 ghost use Rattle.bk_walk.specs.ClosingBound.{TheClosingBoundIsMost, TooManyToCloseIsBarren};
 ghost use Rattle.bk_walk.specs.Corners.{CornersAreNoLonger};
 ghost use Rattle.bk_walk.specs.Cuts.{OneSegmentIsBarren, EvenSquaresAreBarren, OneUnderOneIsBarren, ShorterFirstIsBarren};
-ghost use Rattle.bk_walk.specs.Listing.{ANextMemberIsListed, ListingsContinue, NoMemberIsListed};
 ghost use Rattle.bk_walk.specs.Once.{EachSimpleTilingIsListedOnce};
 ghost use Rattle.bk_walk.specs.SingleValleys.{TooManySinglesIsBarren};
 ghost use Rattle.bk_walk.specs.TreeLaws.{TheTreeCountIsMost, TheTreeCountIsOne, TreeCountsAdd, AtLeastAdds, ALegalWordIsOne};
@@ -103,21 +102,6 @@ pub fn the_line_bound_is_most()
 /// No square that comes to the top left corner in a lying image of a canonical tiling is longer than its top left square.
 pub fn corners_are_no_longer()
     ensures { CornersAreNoLonger }
-{}
-
-/// A listing of all members after a cursor up to a word, continued from that word, is one listing.
-pub fn listings_continue()
-    ensures { ListingsContinue }
-{}
-
-/// The least member after a cursor is all that is listed up to its word.
-pub fn a_next_member_is_listed()
-    ensures { ANextMemberIsListed }
-{}
-
-/// Where no member is after the cursor, nothing is listed.
-pub fn no_member_is_listed()
-    ensures { NoMemberIsListed }
 {}
 
 /// A simple tiling is listed once in the catalogue of its order and class: as the entry of its canonical tiling.

@@ -1,5 +1,0 @@
-use Rattle.bk_walk.proofs.Listed.{no_member_is_listed as the_law}
-use Rattle.bk_walk.proofs.no_member_is_listed.Goals as goal
-
-pub returns : goal.returns
-returns c = the_law
