@@ -33,3 +33,4 @@ pub mod BoundExamples
 pub mod CornerLaws
 pub mod VerticalParts
 pub mod OwingLaws
+pub mod LinedMoves

@@ -13,6 +13,7 @@ mod barren;
 mod cut_tests;
 mod cuts;
 mod judging;
+mod lined;
 mod lines;
 mod moves;
 mod owing;
