@@ -1,9 +1,8 @@
 -- What a pass over the signs between open segments has counted up to a place.
-use Rattle.std.proofs.Common.{Bool, List, [], ap, arith, cond, drop, false, length, max, nat_eq, refl, slice_index_or, suc, sym, true, zero, ℕ, ◌&&◌, ◌+◌, ◌<◌, ◌∙◌, ◌∷◌, ◌≡◌, ◌≤◌}
+use Rattle.std.proofs.Common.{Bool, List, [], ap, arith, cond, drop, false, length, nat_eq, refl, slice_index_or, suc, sym, true, zero, ℕ, ◌&&◌, ◌+◌, ◌<◌, ◌∙◌, ◌∷◌, ◌≡◌, ◌≤◌}
 use Rattle.bk_word.specs.declared.Sign.{Sign}
 use Rattle.bk_word.specs.declared.Sign.TheVariants.{Above, Even, Under}
-use Rattle.bk_walk.proofs.ClosingLaws.{bound_unders, drop_one, unders, unders-cons}
-use Rattle.bk_walk.specs.ClosingBound.{closing_bound}
+use Rattle.bk_walk.proofs.ClosingLaws.{drop_one}
 use Rattle.bk_walk.specs.SingleValleys.{single_valley, single_valleys, single_valleys_from}
 
 drop_none : {A : Type 0} (xs : List A) → drop 0 xs ≡ xs
@@ -24,42 +23,8 @@ drop_all [] (suc i) h = refl
 drop_all (x ∷ xs) zero h = absurd (omega arith)
 drop_all (x ∷ xs) (suc i) h = drop_all xs i (omega arith)
 
--- the greatest number of closings of the segments up to a place by the signs up to it, and how many of these are above
-pub record IsCounted (signs : List Sign) (i most aboves : ℕ) : Type 0 where
-  pub split : closing_bound signs ≡ max (most + unders (drop i signs)) (aboves + closing_bound (drop i signs))
-  pub order : aboves ≤ most
-  pub few : most ≤ i
-
-pub counted_start : (signs : List Sign) → IsCounted signs 0 0 0
-counted_start signs = record { split = omega (arith, bound_unders signs, ap closing_bound (drop_none signs), ap unders (drop_none signs)); order = omega arith; few = omega arith }
-
 here : (signs : List Sign) (i : ℕ) (g : Sign) → i < length signs → slice_index_or signs i Above ≡ g → drop i signs ≡ g ∷ drop (i + 1) signs
 here signs i g h e = drop_here Above signs i h ∙ ap (λ (s : Sign). s ∷ drop (i + 1) signs) e
-
-module _ (signs : List Sign) (i most aboves : ℕ) (m a : ℕ) (h : i < length signs) where
-  pub counted_above : slice_index_or signs i Above ≡ Above → m ≡ max most (aboves + 1) → a ≡ aboves + 1 → IsCounted signs i most aboves → IsCounted signs (i + 1) m a
-  counted_above e f g c = record {
-    split = omega (arith, c.split, f, g, ap closing_bound (here signs i Above h e), ap unders (here signs i Above h e), unders-cons Above (drop (i + 1) signs), bound_unders (drop (i + 1) signs));
-    order = omega (arith, f, g);
-    few = omega (arith, f, g, c.order, c.few);
-  }
-
-  pub counted_even : slice_index_or signs i Above ≡ Even → m ≡ most → a ≡ aboves → IsCounted signs i most aboves → IsCounted signs (i + 1) m a
-  counted_even e f g c = record {
-    split = omega (arith, c.split, f, g, ap closing_bound (here signs i Even h e), ap unders (here signs i Even h e), unders-cons Even (drop (i + 1) signs));
-    order = omega (arith, c.order, f, g);
-    few = omega (arith, c.few, f);
-  }
-
-  pub counted_under : slice_index_or signs i Above ≡ Under → m ≡ most + 1 → a ≡ aboves → IsCounted signs i most aboves → IsCounted signs (i + 1) m a
-  counted_under e f g c = record {
-    split = omega (arith, c.split, c.order, f, g, ap closing_bound (here signs i Under h e), ap unders (here signs i Under h e), unders-cons Under (drop (i + 1) signs));
-    order = omega (arith, c.order, f, g);
-    few = omega (arith, c.few, f);
-  }
-
-pub counted_end : (signs : List Sign) (i most aboves : ℕ) → length signs ≤ i → IsCounted signs i most aboves → most ≡ closing_bound signs
-counted_end signs i most aboves h c = omega (arith, c.split, c.order, ap closing_bound (drop_all signs i h), ap unders (drop_all signs i h))
 
 -- ---- valleys of one square
 

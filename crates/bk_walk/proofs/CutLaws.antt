@@ -8,17 +8,17 @@ use Rattle.bk_word.specs.declared.Class.{Class}
 use Rattle.bk_word.specs.declared.Class.TheVariants.{Perfect}
 use Rattle.bk_word.specs.declared.Sign.{Sign}
 use Rattle.bk_word.specs.declared.Sign.TheVariants.{Above, Even}
-use Rattle.bk_walk.proofs.CuttingBounds.{too_many_singles_is_barren, too_many_to_close_is_barren}
 use Rattle.bk_walk.proofs.CuttingFirst.{shorter_first_is_barren}
+use Rattle.bk_walk.proofs.CuttingLines.{too_many_lines_is_barren}
 use Rattle.bk_walk.proofs.CuttingPairs.{even_squares_are_barren, one_under_one_is_barren}
 use Rattle.bk_walk.proofs.Fitting.{less_longer, take_drop}
 use Rattle.bk_walk.proofs.MoveOrder.{Begins, IsLess, IsShort, begun_before, less_from, less_to, moves_between, next_short, signs_cmp}
 use Rattle.bk_walk.proofs.Places.{move_from_parts, one_legal}
-use Rattle.bk_walk.specs.ClosingBound.{closing_bound}
 use Rattle.bk_walk.specs.SingleValleys.{single_valleys, sizes_of}
 use Rattle.bk_walk.specs.Cuts.{IsBarren, own_signs}
 use Rattle.bk_walk.specs.MoveCuts.{EndsEven, IsCut, IsNear}
 use Rattle.bk_walk.specs.NextMove.{IsMoveFrom, move_after, move_of, signs_after}
+use Rattle.bk_walk.specs.VerticalCut.{line_bound_of}
 
 -- the move with its first signs alone
 abbrev pub front_signs : ℕ → Move → Move
@@ -126,12 +126,12 @@ shorter_cut n class [] m none two above legal = first_cut n class m two (one_sig
 shorter_cut n class (k ∷ front) m none two above legal = absurd (omega arith)
 
 -- fewer squares are left than must still hang
-pub owes_closings : (n : ℕ) (class : Class) (front : Word) (left closings : ℕ) → left ≡ n - order_of front → closings ≡ closing_bound (outline_of front).signs → left < closings → IsBarren n class front
-owes_closings n class front left closings l c many = too_many_to_close_is_barren n class front (omega arith)
+pub owes_lines : (n : ℕ) (class : Class) (front : Word) (left closings : ℕ) → 3 ≤ n → left ≡ n - order_of front → closings ≡ line_bound_of front → left < closings → IsBarren n class front
+owes_lines n class front left closings least l c many = too_many_lines_is_barren n class front least (omega arith)
 
-pub owes_singles : (n : ℕ) (class : Class) (front : Word) (left closings singles : ℕ) → 2 ≤ n → left ≡ n - order_of front → closings ≡ closing_bound (outline_of front).signs
+pub owes_singles : (n : ℕ) (class : Class) (front : Word) (left closings singles : ℕ) → 3 ≤ n → left ≡ n - order_of front → closings ≡ line_bound_of front
     → singles ≡ single_valleys (outline_of front).signs (sizes_of (outline_of front)) → IsTrue (nat_lt (left - closings) singles) → closings ≤ left → IsBarren n class front
-owes_singles n class front left closings singles least l c s many few = too_many_singles_is_barren n class front least (omega (arith, more (left - closings) singles many))
+owes_singles n class front left closings singles least l c s many few = too_many_lines_is_barren n class front least (omega (arith, more (left - closings) singles many))
   where
     more : (a b : ℕ) → nat_lt a b ≡ true → a < b
     more a b e = grind (arith, nat_tests)

@@ -39,3 +39,4 @@ pub mod PartsKept
 pub mod ClassesKept
 pub mod GreatestImage
 pub mod ListedOnce
+pub mod LinedMoves

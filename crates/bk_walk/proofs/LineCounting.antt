@@ -17,11 +17,11 @@ pub record IsLined (signs : List Sign) (sizes ends : List ℕ) (lines : List Boo
   pub few : aboves ≤ i
   pub low : most ≤ i + 1
 
-drop_none : {A : Type 0} (xs : List A) → drop 0 xs ≡ xs
+pub drop_none : {A : Type 0} (xs : List A) → drop 0 xs ≡ xs
 drop_none [] = refl
 drop_none (x ∷ xs) = refl
 
-drop_more : {A : Type 0} (xs : List A) (i j : ℕ) → drop j (drop i xs) ≡ drop (i + j) xs
+pub drop_more : {A : Type 0} (xs : List A) (i j : ℕ) → drop j (drop i xs) ≡ drop (i + j) xs
 drop_more [] i j = nothing j (drop i []) (empty i) ∙ sym (empty (i + j))
   where
     empty : {A : Type 0} (k : ℕ) → drop {A = A} k [] ≡ []
@@ -41,7 +41,7 @@ drop_more (x ∷ xs) (suc i) j = drop_more xs i j ∙ (λ k. drop (same k) (x �
     same : suc (i + j) ≡ suc i + j
     same = omega arith
 
-sum-cons : (n : ℕ) (ns : List ℕ) → sum (n ∷ ns) ≡ n + sum ns
+pub sum-cons : (n : ℕ) (ns : List ℕ) → sum (n ∷ ns) ≡ n + sum ns
 sum-cons n ns = sum_by-cons (λ x. x) n ns
 
 module _ (signs : List Sign) (sizes ends : List ℕ) (lines : List Bool) (long : length sizes ≡ length signs + 1) where

@@ -3,7 +3,7 @@
 use Rattle.std.specs.List.{list_any}
 use Rattle.std.specs.Prelude.{Bool, List, [], cond, count_by, drop, false, length, max, nat_eq, replicate, slice_index_or, take, ℕ, ◌||◌, ◌++◌, ◌+◌, ◌-◌, ◌<◌, ◌∷◌, ◌≡◌, ◌≤◌}
 use Rattle.bk_word.specs.Outline.{Outline, start, valley_of}
-use Rattle.bk_word.specs.Play.{after_move, outline_of}
+use Rattle.bk_word.specs.Play.{IsLegal, after_move, outline_of}
 use Rattle.bk_word.specs.Word.{Move, Word, order_of}
 use Rattle.bk_word.specs.declared.Class.{Class}
 use Rattle.bk_word.specs.declared.Sign.{Sign}
@@ -34,6 +34,11 @@ lines_along o lines (m ∷ moves) = lines_along (after_move o m) (lines_after o 
 -- of each square of the word whether its left edge lies on a line
 abbrev pub lines_of : Word → List Bool
 lines_of w = lines_along start [] w
+
+-- a legal word, and its lines
+pub record IsLinedWord (w : Word) (lines : List Bool) : Type 0 where
+  pub legal : IsLegal w
+  pub lines_are : lines ≡ lines_of w
 
 -- whether the first of these segments, if there is one, begins on a line
 abbrev pub next_on_line : List Bool → List (List ℕ) → Bool

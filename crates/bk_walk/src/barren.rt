@@ -11,7 +11,8 @@ ghost use Rattle.bk_word.specs.declared.Sign.TheVariants.{Above};
 ghost use Rattle.bk_walk.specs.Cuts.{IsBarren};
 ghost use Rattle.bk_walk.specs.MoveCuts.{EndsEven, IsCut, IsNear};
 
-use crate::cuts::{closing_bound, single_valleys};
+use crate::cuts::single_valleys;
+use crate::lined::LinedSkel;
 use crate::moves::{MOST_COUNT, MOST_SIGNS, pass};
 use crate::owing::skip_owing;
 use bk_skel::Skel;
@@ -135,11 +136,10 @@ fn skip_shorter(skel: &Skel, m: &mut Move) -> bool
 }
 
 // Whether it is plain that no member's word of the order begins with these moves, in any class.
-pub(crate) fn is_barren(skel: &Skel, order: u8) -> bool
-    requires { 2 ≤ order }
-    ensures { IsTrue result → (class : Class) → IsBarren order class skel.now }
+pub(crate) fn is_barren(lined: &LinedSkel, order: u8) -> bool
+    ensures { IsTrue result → (class : Class) → IsBarren order class lined.now }
 {
-    is_whole_early(skel, order) || owes_too_many(skel, order)
+    is_whole_early(lined.skel(), order) || owes_too_many(lined, order)
 }
 
 // Whether one segment is left while fewer squares hang than the order.
@@ -150,15 +150,16 @@ fn is_whole_early(skel: &Skel, order: u8) -> bool
 }
 
 // Whether fewer squares are left than must still hang: one for each segment that ends above its neighbour on one segment's
-// side, and one more for each valley of just one square.
-fn owes_too_many(skel: &Skel, order: u8) -> bool
-    requires { 2 ≤ order }
-    ensures { IsTrue result → (class : Class) → IsBarren order class skel.now }
+// side, one for that segment itself where a vertical line from the top bounds it or ended on it, and one more for each valley
+// of just one square. At orders under 3 nothing is said.
+fn owes_too_many(lined: &LinedSkel, order: u8) -> bool
+    ensures { IsTrue result → (class : Class) → IsBarren order class lined.now }
 {
-    if skel.moves() == 0 {
+    if order < 3 {
         return false;
     }
+    let skel = lined.skel();
     let left = usize::from(order).saturating_sub(skel.order());
-    let closings = closing_bound(skel.signs());
+    let closings = lined.line_bound();
     closings > left || single_valleys(skel.signs(), skel.sizes()) > left - closings
 }

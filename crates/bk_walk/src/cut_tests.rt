@@ -1,19 +1,9 @@
 //! Worked rows.
 
-use crate::cuts::{closing_bound, single_valleys};
+use crate::cuts::single_valleys;
 use crate::lines::{line_bound, on_line, push_lines};
 use arrayvec::ArrayVec;
 use bk_word::Sign::{Above, Even, Under};
-
-#[test]
-fn segments_above_a_neighbour_are_closed(rt: HostRuntime) {
-    assert_eq!(rt; closing_bound(&[]), 0);
-    assert_eq!(rt; closing_bound(&[Under]), 1);
-    assert_eq!(rt; closing_bound(&[Above, Above, Above]), 3);
-    assert_eq!(rt; closing_bound(&[Under, Above, Under]), 2);
-    assert_eq!(rt; closing_bound(&[Above, Under, Under, Above]), 3);
-    assert_eq!(rt; closing_bound(&[Even, Under, Even]), 1);
-}
 
 #[test]
 fn valleys_of_one_square_are_counted(rt: HostRuntime) {

@@ -1,30 +1,9 @@
-//! How many squares are still to hang at least, by the open segments: a walk goes no further where fewer are left.
+//! How many valleys have just one square: a move that closes one hangs at least two.
 
 ghost use Rattle.std.specs.Prelude.{length, ◌+◌, ◌≡◌};
-ghost use Rattle.bk_walk.specs.ClosingBound.{closing_bound};
 ghost use Rattle.bk_walk.specs.SingleValleys.{single_valley, single_valleys};
 
 use bk_word::Sign;
-
-/// The closing bound of the signs between open segments: the greatest number, over all segments, of segments that end above
-/// their neighbour on its side. A later move closes each of these. (Own.)
-pub(crate) fn closing_bound(signs: &[Sign]) -> usize
-    ensures { result ≡ closing_bound signs.now }
-{
-    let mut most: usize = 0;
-    let mut aboves: usize = 0;
-    for sign in signs {
-        match *sign {
-            Sign::Above => {
-                aboves += 1;
-                most = most.max(aboves);
-            }
-            Sign::Even => {}
-            Sign::Under => most += 1,
-        }
-    }
-    most
-}
 
 /// How many valleys have just one square: the signs between the open segments, and how many squares each segment has, from
 /// left to right. There is one segment more than signs. A move that closes such a valley hangs at least two squares. (Own.)

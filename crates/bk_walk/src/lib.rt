@@ -15,6 +15,7 @@ mod corners;
 mod cut_tests;
 mod cuts;
 mod judging;
+mod lined;
 mod lines;
 mod moves;
 mod owing;

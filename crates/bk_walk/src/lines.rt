@@ -1,9 +1,11 @@
 //! How many squares are still to hang at least, by the vertical lines that run from the top between squares of the first move.
 
 ghost use Rattle.std.specs.List.{list_any};
-ghost use Rattle.std.specs.Prelude.{cond, drop, length, replicate, sum, take, ◌||◌, ◌+◌, ◌++◌, ◌-◌, ◌<◌, ◌∷◌, ◌≡◌, ◌≤◌};
+ghost use Rattle.std.specs.Prelude.{[], cond, drop, length, replicate, slice_index_or, sum, take, ◌||◌, ◌+◌, ◌++◌, ◌-◌, ◌<◌, ◌∷◌, ◌^◌, ◌≡◌, ◌≤◌};
+ghost use Rattle.bk_word.specs.Outline.{valley_place};
 ghost use Rattle.bk_walk.specs.VerticalCut.{begins_on_line, line_bound, on_line, segments_of, touched};
 
+use crate::owing::first_above;
 use arrayvec::ArrayVec;
 use bk_word::Sign;
 
@@ -58,6 +60,31 @@ pub(crate) fn line_bound(signs: &[Sign], sizes: &[u8], ends: &[u8], lines: &[boo
         start += usize::from(sizes[i]);
     }
     most.max(aboves + touch(ends, start, sizes[signs.len()], 0, lines))
+}
+
+/// Whether the left edge of the leftmost valley lies on a line. It takes what `line_bound` takes. (Own.)
+pub(crate) fn valley_on_line(signs: &[Sign], sizes: &[u8], ends: &[u8], lines: &[bool]) -> bool
+    requires long { length sizes.now ≡ length signs.now + 1 }
+    requires enough { sum sizes.now ≤ length ends.now }
+    ensures { result ≡ begins_on_line lines.now (slice_index_or (segments_of sizes.now ends.now) (valley_place signs.now) []) }
+{
+    let place = first_above(signs);
+    let start = squares_before(sizes, place);
+    let end = start + usize::from(sizes[place]);
+    begins_on_line(&ends[start..end], lines)
+}
+
+// How many squares the segments before a place have, by how many each has.
+fn squares_before(sizes: &[u8], place: usize) -> usize
+    requires within { place ≤ length sizes.now }
+    requires few { sum sizes.now < 2 ^ 64 }
+    ensures { result ≡ sum (take place sizes.now) }
+{
+    let mut squares: usize = 0;
+    'sizes: for i in 0..place {
+        squares += usize::from(sizes[i]);
+    }
+    squares
 }
 
 // One where a line bounds the segment of so many of the squares from a place on, in front of a segment of as many as is said

@@ -38,7 +38,7 @@ pub(crate) fn skip_owing(skel: &Skel, order: u8, m: &mut Move) -> bool
 }
 
 // The place of the first sign above, or how many signs there are: where the leftmost valley stands.
-fn first_above(signs: &[Sign]) -> usize
+pub(crate) fn first_above(signs: &[Sign]) -> usize
     ensures value { result ≡ valley_place signs.now }
     ensures within { result ≤ length signs.now }
 {

@@ -8,6 +8,7 @@ ghost use Rattle.bk_word.specs.Word.{order_of};
 ghost use Rattle.bk_word.specs.declared.Class.{Class};
 ghost use Rattle.bk_walk.specs.Search.{Counts, IsPlace, IsStand};
 
+use crate::lined::LinedSkel;
 use crate::moves::first_move;
 use crate::search::play;
 use bk_skel::{Skel, Steps};
@@ -18,39 +19,40 @@ use std::sync::ledger::Ledger;
 // Plays the moves of the cursor that are not played yet, as far as they are legal and hang at most as many squares as the
 // order. It gives the move from which a search looks for the next legal one.
 pub(crate) fn resume<L: Ledger>(
-    skel: &mut Skel,
+    lined: &mut LinedSkel,
     cursor: &Word,
     order: u8,
     pushes: &mut u64,
     steps: &mut Steps<L>,
 ) -> Move
     requires order { order ≤ INLINE_ORDER }
-    requires begun { take (length skel.old) cursor.now ≡ skel.old }
-    requires small { order_of skel.old ≤ order }
+    requires begun { take (length lined.old) cursor.now ≡ lined.old }
+    requires small { order_of lined.old ≤ order }
     requires few { order_of cursor.now ≤ INLINE_ORDER }
     requires known { pushes.old < 2 ^ 64 }
-    ensures stand { IsStand order skel.new result }
-    ensures place { (class : Class) → IsPlace order class cursor.now (skel.new ++ result ∷ []) 0 }
+    ensures stand { IsStand order lined.new result }
+    ensures place { (class : Class) → IsPlace order class cursor.now (lined.new ++ result ∷ []) 0 }
     ensures few { steps.new ≤ steps.old + 16 }
     ensures counts { Counts pushes.old pushes.new steps.old steps.new }
 {
-    'moves: for i in skel.moves()..cursor.moves() {
+    'moves: for i in lined.skel().moves()..cursor.moves() {
         let m = cursor.get(i);
-        if !can_play(skel, &m, order) {
+        if !can_play(lined, &m, order) {
             return m;
         }
-        play(skel, &m, pushes, steps);
+        play(lined, &m, pushes, steps);
     }
     first_move()
 }
 
 // Whether a move is legal, and hangs no more squares than the order leaves.
-fn can_play(skel: &Skel, m: &Move, order: u8) -> bool
+fn can_play(lined: &LinedSkel, m: &Move, order: u8) -> bool
     requires { m.now.count ≤ LARGEST_ORDER }
-    ensures legal { IsTrue result → IsLegalMove (outline_of skel.now) m.now }
-    ensures few { IsTrue result → order_of skel.now + m.now.count ≤ order }
-    ensures no { result ≡ false → IsLegalMove (outline_of skel.now) m.now → order_of skel.now + m.now.count ≤ order → ⊥ }
+    ensures legal { IsTrue result → IsLegalMove (outline_of lined.now) m.now }
+    ensures few { IsTrue result → order_of lined.now + m.now.count ≤ order }
+    ensures no { result ≡ false → IsLegalMove (outline_of lined.now) m.now → order_of lined.now + m.now.count ≤ order → ⊥ }
 {
+    let skel = lined.skel();
     skel.order() + usize::from(m.count) <= usize::from(order) && skel.legal(m)
 }
 

@@ -10,8 +10,9 @@ ghost use Rattle.bk_walk.specs.Search.{Counts, Finds, IsClimbed, IsStand, Leads}
 
 use crate::barren::{is_barren, open_side_of, skip};
 use crate::judging::{Leaf, judge};
+use crate::lined::LinedSkel;
 use crate::moves::{first_move, fit, pass};
-use bk_skel::{Skel, Steps};
+use bk_skel::Steps;
 use bk_tiling::Tiling;
 use bk_word::{Class, LARGEST_ORDER, Move};
 use std::sync::ledger::Ledger;
@@ -39,7 +40,7 @@ pub(crate) enum Found {
 
 // Searches on from a place, up to the next member's word or a wide one before it.
 pub(crate) fn search<L: Ledger>(
-    skel: &mut Skel,
+    lined: &mut LinedSkel,
     next: &mut Move,
     class: Class,
     order: u8,
@@ -48,16 +49,16 @@ pub(crate) fn search<L: Ledger>(
 ) -> Found
     requires least { 2 ≤ order }
     requires order { order ≤ 16 }
-    requires stand { IsStand order skel.old next.old }
+    requires stand { IsStand order lined.old next.old }
     requires known { pushes.old < 2 ^ 64 }
-    ensures finds { Finds order class (skel.old ++ next.old ∷ []) skel.new (steps.new - steps.old) result }
+    ensures finds { Finds order class (lined.old ++ next.old ∷ []) lined.new (steps.new - steps.old) result }
     ensures counts { Counts pushes.old pushes.new steps.old steps.new }
 {
     'turns: loop {
-        match take_turn(skel, next, class, order, pushes, steps) {
+        match take_turn(lined, next, class, order, pushes, steps) {
             Turn::On => {}
             Turn::End => return Found::Ended,
-            Turn::Complete => match judge(skel, class) {
+            Turn::Complete => match judge(lined.skel(), class) {
                 Leaf::Member(tiling) => return Found::Member(tiling),
                 Leaf::Wide => return Found::Wide,
                 Leaf::Other => {}
@@ -68,7 +69,7 @@ pub(crate) fn search<L: Ledger>(
 
 // Goes one turn on: back from moves after which none is left, over moves that are cut, or down by a move that is pushed.
 fn take_turn<L: Ledger>(
-    skel: &mut Skel,
+    lined: &mut LinedSkel,
     next: &mut Move,
     class: Class,
     order: u8,
@@ -77,30 +78,30 @@ fn take_turn<L: Ledger>(
 ) -> Turn
     requires least { 2 ≤ order }
     requires order { order ≤ 16 }
-    requires stand { IsStand order skel.old next.old }
+    requires stand { IsStand order lined.old next.old }
     requires known { pushes.old < 2 ^ 64 }
-    ensures leads { Leads order class (skel.old ++ next.old ∷ []) skel.new next.new (steps.new - steps.old) result }
+    ensures leads { Leads order class (lined.old ++ next.old ∷ []) lined.new next.new (steps.new - steps.old) result }
     ensures counts { Counts pushes.old pushes.new steps.old steps.new }
 {
-    fit(next, open_sides(skel));
-    if skel.order() + usize::from(next.count) > usize::from(order) {
-        return if climb(skel, next) {
+    fit(next, open_sides(lined));
+    if lined.skel().order() + usize::from(next.count) > usize::from(order) {
+        return if climb(lined, next) {
             Turn::On
         } else {
             Turn::End
         };
     }
-    if skip(skel, class, order, next) {
+    if skip(lined.skel(), class, order, next) {
         return Turn::On;
     }
-    play(skel, next, pushes, steps);
-    if is_barren(skel, order) {
-        skel.pop();
+    play(lined, next, pushes, steps);
+    if is_barren(lined, order) {
+        lined.pop();
         pass(next);
         return Turn::On;
     }
     *next = first_move();
-    if is_whole(skel, order) {
+    if is_whole(lined, order) {
         Turn::Complete
     } else {
         Turn::On
@@ -108,47 +109,53 @@ fn take_turn<L: Ledger>(
 }
 
 // How many sides of the leftmost valley are no walls.
-fn open_sides(skel: &Skel) -> usize
-    ensures value { result ≡ sides_open (outline_of skel.now) }
+fn open_sides(lined: &LinedSkel) -> usize
+    ensures value { result ≡ sides_open (outline_of lined.now) }
     ensures few { result ≤ 2 }
 {
-    let (left, right) = skel.walls();
+    let (left, right) = lined.skel().walls();
     open_side_of(left) + open_side_of(right)
 }
 
 // Takes the last move back, and makes of the other the next after it. False where there is no move.
-fn climb(skel: &mut Skel, next: &mut Move) -> bool
-    requires small { order_of skel.old ≤ 16 }
-    ensures on { IsTrue result → IsClimbed skel.old skel.new next.new }
-    ensures end { result ≡ false → skel.old ≡ [] }
-    ensures kept { result ≡ false → skel.new ≡ [] }
+fn climb(lined: &mut LinedSkel, next: &mut Move) -> bool
+    requires small { order_of lined.old ≤ 16 }
+    ensures on { IsTrue result → IsClimbed lined.old lined.new next.new }
+    ensures end { result ≡ false → lined.old ≡ [] }
+    ensures kept { result ≡ false → lined.new ≡ [] }
 {
-    let moves = skel.moves();
+    let moves = lined.skel().moves();
     if moves == 0 {
         return false;
     }
-    *next = skel.get(moves - 1);
-    skel.pop();
+    *next = lined.skel().get(moves - 1);
+    lined.pop();
     pass(next);
     true
 }
 
 // Pushes a move, and counts it.
-pub(crate) fn play<L: Ledger>(skel: &mut Skel, m: &Move, pushes: &mut u64, steps: &mut Steps<L>)
-    requires legal { IsLegalMove (outline_of skel.old) m.now }
-    requires few { order_of skel.old + m.now.count ≤ LARGEST_ORDER }
-    ensures moves { skel.new ≡ skel.old ++ m.now ∷ [] }
+pub(crate) fn play<L: Ledger>(
+    lined: &mut LinedSkel,
+    m: &Move,
+    pushes: &mut u64,
+    steps: &mut Steps<L>,
+)
+    requires legal { IsLegalMove (outline_of lined.old) m.now }
+    requires few { order_of lined.old + m.now.count ≤ LARGEST_ORDER }
+    ensures moves { lined.new ≡ lined.old ++ m.now ∷ [] }
     ensures step { steps.new ≡ steps.old + 1 }
     ensures count { pushes.new ≡ min (pushes.old + 1) (2 ^ 64 - 1) }
 {
-    skel.push(m, steps);
+    lined.push(m, steps);
     *pushes = pushes.saturating_add(1);
 }
 
 // Whether the moves are a complete word of the order.
-fn is_whole(skel: &Skel, order: u8) -> bool
-    ensures whole { IsTrue result → IsComplete skel.now × (order_of skel.now ≡ order) }
-    ensures unready { result ≡ false → IsComplete skel.now → order_of skel.now ≡ order → ⊥ }
+fn is_whole(lined: &LinedSkel, order: u8) -> bool
+    ensures whole { IsTrue result → IsComplete lined.now × (order_of lined.now ≡ order) }
+    ensures unready { result ≡ false → IsComplete lined.now → order_of lined.now ≡ order → ⊥ }
 {
+    let skel = lined.skel();
     skel.order() == usize::from(order) && skel.is_closed()
 }

@@ -8,10 +8,11 @@ ghost use Rattle.bk_walk.specs.Search.{Counts};
 ghost use Rattle.bk_walk.specs.Tree.{IsAtMostTree};
 ghost use Rattle.bk_walk.specs.Walking.{HasNoneAfter, IsNextMember, IsWideAfter, start_cursor};
 
+use crate::lined::LinedSkel;
 use crate::resuming::{resume, word_played};
 use crate::search::{Found, search};
 use bk_code::{Code, code_of};
-use bk_skel::{Skel, Steps};
+use bk_skel::Steps;
 use bk_tiling::Tiling;
 use bk_word::{Class, INLINE_ORDER, Word};
 use std::alloc::Global;
@@ -41,7 +42,7 @@ pub struct Walk {
     order: u8,
     class: Class,
     cursor: Word,
-    skel: Skel,
+    lined: LinedSkel,
     pushes: u64,
     ended: bool,
 }
@@ -53,7 +54,7 @@ impl Model for Walk {
 
     ghost view = { λ w. record { order = w.order; class = w.class; cursor = w.cursor; ended = w.ended; pushes = w.pushes } };
 
-    ghost invariant = { λ w. IsKeptWalk w.order w.class w.cursor w.skel w.ended w.pushes };
+    ghost invariant = { λ w. IsKeptWalk w.order w.class w.cursor w.lined w.ended w.pushes };
 }
 
 impl Walk {
@@ -74,7 +75,7 @@ impl Walk {
             order,
             class,
             cursor,
-            skel: Skel::new(),
+            lined: LinedSkel::new(),
             pushes: 0,
             ended: false,
         }
@@ -107,14 +108,14 @@ impl Walk {
             return None;
         }
         let mut next = resume(
-            &mut self.skel,
+            &mut self.lined,
             &self.cursor,
             self.order,
             &mut self.pushes,
             steps,
         );
         match search(
-            &mut self.skel,
+            &mut self.lined,
             &mut next,
             self.class,
             self.order,
@@ -126,14 +127,14 @@ impl Walk {
                 None
             }
             Found::Member(tiling) => {
-                self.cursor = word_played(self.alloc, &self.skel);
-                let word = word_played(self.alloc, &self.skel);
+                self.cursor = word_played(self.alloc, self.lined.skel());
+                let word = word_played(self.alloc, self.lined.skel());
                 let code = code_of(&tiling);
                 Some(Ok(Entry { tiling, code, word }))
             }
             Found::Wide => {
-                self.cursor = word_played(self.alloc, &self.skel);
-                let word = word_played(self.alloc, &self.skel);
+                self.cursor = word_played(self.alloc, self.lined.skel());
+                let word = word_played(self.alloc, self.lined.skel());
                 Some(Err(WideAt { word }))
             }
         }

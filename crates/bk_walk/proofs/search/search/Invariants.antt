@@ -6,10 +6,10 @@ use Rattle.bk_walk.proofs.search.search.Given as goal
 
 abbrev pub invariant-turns : goal.invariant-turns
 invariant-turns g l = record {
-  stand : IsStand l.order l.skel l.next;
-  on : Continues l.order l.class (l.initial.skel ++ l.initial.next ∷ []) (l.skel ++ l.next ∷ []) (l.steps - l.initial.steps);
+  stand : IsStand l.order l.lined l.next;
+  on : Continues l.order l.class (l.initial.lined ++ l.initial.next ∷ []) (l.lined ++ l.next ∷ []) (l.steps - l.initial.steps);
   counts : Counts l.initial.pushes l.pushes l.initial.steps l.steps;
 }
 
 abbrev pub decreases-turns : goal.decreases-turns
-decreases-turns g l = left_after (l.skel ++ l.next ∷ [])
+decreases-turns g l = left_after (l.lined ++ l.next ∷ [])

@@ -1,0 +1,101 @@
+-- The lines of a word, as a move is played and taken back, and whether one stands at the left of its valley.
+use Rattle.std.specs.List.{concat, sum}
+use Rattle.std.proofs.Common.{Bool, List, [], ap, arith, drop, length, nat_eq, refl, replicate, slice_index_or, subst, suc, sym, take, zero, ℕ, ◌++◌, ◌+◌, ◌-◌, ◌<◌, ◌∙◌, ◌∷◌, ◌≡◌}
+use Rattle.std.proofs.Math.Seq.{take-append_seam}
+use Rattle.std.proofs.lemmas.List.{take-append-drop}
+use Rattle.bk_tiling.proofs.ListLaws.{append_assoc}
+use Rattle.bk_skel.proofs.NoLoose.{closed_count}
+use Rattle.bk_skel.proofs.Shape.{hung_many}
+use Rattle.bk_word.specs.Outline.{IsLegalMove, Outline, start, valley_of, valley_place}
+use Rattle.bk_word.specs.Play.{IsLegal, after_move, outline_of}
+use Rattle.bk_word.specs.Word.{Move, Word, order_of}
+use Rattle.bk_word.specs.declared.Sign.{Sign}
+use Rattle.bk_walk.proofs.BoundsOfWords.{segments_again}
+use Rattle.bk_walk.proofs.LineCounting.{drop_more, drop_none, sum-cons}
+use Rattle.bk_walk.proofs.LineMoves.{lines-append, lines_long}
+use Rattle.bk_walk.proofs.Places.{legal_front, legal_more}
+use Rattle.bk_walk.specs.SingleValleys.{sizes_of}
+use Rattle.bk_walk.specs.VerticalCut.{IsLinedWord, begins_on_line, lines_after, lines_along, lines_of, segments_of}
+
+-- ---- the valley
+
+pub segment_at : (sizes ends : List ℕ) (i : ℕ) → i < length sizes → slice_index_or (segments_of sizes ends) i [] ≡ take (slice_index_or sizes i 0) (drop (sum (take i sizes)) ends)
+segment_at [] ends i h = absurd (omega arith)
+segment_at (n ∷ sizes) ends zero h = ap (take n) (sym (drop_none ends))
+segment_at (n ∷ sizes) ends (suc i) h = segment_at sizes (drop n ends) i (omega arith) ∙ ap (take (slice_index_or sizes i 0)) (drop_more ends n (sum (take i sizes)) ∙ (λ j. drop (sym (sum-cons n (take i sizes)) j) ends))
+
+-- the squares of the valley, where it stands at the place and so many squares are open before it
+pub valley_slice : (signs : List Sign) (sizes ends : List ℕ) (place before size : ℕ) → place ≡ valley_place signs → place < length sizes → before ≡ sum (take place sizes) → size ≡ slice_index_or sizes place 0
+    → take (before + size - before) (drop before ends) ≡ slice_index_or (segments_of sizes ends) (valley_place signs) []
+valley_slice signs sizes ends place before size e within b s = (λ i. take (long i) (drop (b i) ends)) ∙ sym (segment_at sizes ends place within) ∙ (λ i. slice_index_or (segments_of sizes ends) (e i) [])
+  where
+    long : before + size - before ≡ slice_index_or sizes place 0
+    long = omega (arith, s)
+
+valley_by_lists : (w : Word) → slice_index_or (segments_of (sizes_of (outline_of w)) (concat (outline_of w).segments)) (valley_place (outline_of w).signs) [] ≡ valley_of (outline_of w)
+valley_by_lists w = λ i. slice_index_or (segments_again (outline_of w).segments i) (valley_place (outline_of w).signs) []
+
+-- by the lists that show a word: whether its valley begins on a line
+pub valley_begins : (w : Word) (lines shown : List Bool) (signs : List Sign) (sizes ends : List ℕ) (is_on : Bool) → shown ≡ lines → signs ≡ (outline_of w).signs → sizes ≡ sizes_of (outline_of w)
+    → ends ≡ concat (outline_of w).segments → is_on ≡ begins_on_line shown (slice_index_or (segments_of sizes ends) (valley_place signs) []) → is_on ≡ begins_on_line lines (valley_of (outline_of w))
+valley_begins w lines shown signs sizes ends is_on l s z e on = on ∙ (λ i. begins_on_line (l i) (slice_index_or (segments_of (z i) (e i)) (valley_place (s i)) [])) ∙ ap (begins_on_line lines) (valley_by_lists w)
+
+-- ---- moves
+
+pub lined_none : IsLinedWord [] []
+lined_none = record { legal = tt; lines_are = refl }
+
+pub lines_counted : (w : Word) → IsLegal w → length (lines_of w) ≡ order_of w
+lines_counted w legal = omega (arith, lines_long start [] w legal refl, hung_many start w)
+
+pub lined_count : (w : Word) (lines : List Bool) → IsLinedWord w lines → length lines ≡ order_of w
+lined_count w lines lined = ap length lined.lines_are ∙ lines_counted w lined.legal
+
+pub lined_more : (w more : Word) (lines lines_then : List Bool) (m : Move) (count : ℕ) (is_on is_first : Bool) → IsLinedWord w lines → IsLegalMove (outline_of w) m
+    → is_on ≡ begins_on_line lines (valley_of (outline_of w)) → is_first ≡ nat_eq (length w) 0 → count ≡ m.count → more ≡ w ++ m ∷ [] → lines_then ≡ lines ++ is_on ∷ replicate (count - 1) is_first
+    → IsLinedWord more lines_then
+lined_more w more lines lines_then m count is_on is_first lined legal on first same e f = record {
+  legal = subst IsLegal (sym e) (legal_more start w m lined.legal legal);
+  lines_are = f ∙ (λ i. lines ++ on i ∷ replicate (same i - 1) (first_node i)) ∙ ap (λ ls. lines_after (outline_of w) ls m) lined.lines_are ∙ sym (lines-append start [] w (m ∷ [])) ∙ ap lines_of (sym e);
+}
+  where
+    nodes : length w ≡ length (outline_of w).closed
+    nodes = omega (arith, closed_count start w)
+
+    first_node : is_first ≡ nat_eq (length (outline_of w).closed) 0
+    first_node = first ∙ ap (λ k. nat_eq k 0) nodes
+
+append_none : (lines : List Bool) → lines ≡ lines ++ []
+append_none [] = refl
+append_none (b ∷ lines) = ap (λ bs. b ∷ bs) (append_none lines)
+
+-- the lines of more moves are put behind
+lines_go_on : (o : Outline) (lines : List Bool) (w : Word) → (more : List Bool) × (lines_along o lines w ≡ lines ++ more)
+lines_go_on o lines [] = ([], append_none lines)
+lines_go_on o lines (m ∷ w) = let on = begins_on_line lines (valley_of o) ∷ replicate (m.count - 1) (nat_eq (length o.closed) 0) in
+    let behind = lines_go_on (after_move o m) (lines_after o lines m) w in (on ++ behind.0, behind.1 ∙ append_assoc lines on behind.0)
+
+pub lines_of_front : (front rest : Word) → IsLegal front → take (order_of front) (lines_of (front ++ rest)) ≡ lines_of front
+lines_of_front front rest legal = front_of (lines_go_on (outline_of front) (lines_of front) rest)
+  where
+    front_of : ((more : List Bool) × (lines_along (outline_of front) (lines_of front) rest ≡ lines_of front ++ more)) → take (order_of front) (lines_of (front ++ rest)) ≡ lines_of front
+    front_of (more, e) = ap (take (order_of front)) (lines-append start [] front rest ∙ e) ∙ (λ i. take (sym (lines_counted front legal) i) (lines_of front ++ more)) ∙ take-append_seam (lines_of front) more
+
+pub lined_less : (w front : Word) (lines lines_then : List Bool) (order : ℕ) → IsLinedWord w lines → front ≡ take (length w - 1) w → order ≡ order_of front → lines_then ≡ take order lines
+    → IsLinedWord front lines_then
+lined_less w front lines lines_then order lined e o f = subst (λ v. IsLinedWord v lines_then) (sym e) (record {
+  legal = lawful;
+  lines_are = f ∙ (λ i. take (order_is i) (lines_are i)) ∙ lines_of_front (take (length w - 1) w) (drop (length w - 1) w) lawful;
+})
+  where
+    whole : w ≡ take (length w - 1) w ++ drop (length w - 1) w
+    whole = sym (take-append-drop (length w - 1) w)
+
+    lawful : IsLegal (take (length w - 1) w)
+    lawful = legal_front start (take (length w - 1) w) (drop (length w - 1) w) (subst IsLegal whole lined.legal)
+
+    order_is : order ≡ order_of (take (length w - 1) w)
+    order_is = o ∙ ap order_of e
+
+    lines_are : lines ≡ lines_of (take (length w - 1) w ++ drop (length w - 1) w)
+    lines_are = lined.lines_are ∙ ap lines_of whole
