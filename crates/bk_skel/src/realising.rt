@@ -33,7 +33,7 @@ pub enum SolveFault {
     NoMemory,
 }
 
-/// That whole numbers of 64 bits don't decide which tiling a word has.
+/// That whole numbers don't decide which tiling a word has.
 #[derive(Clone, Copy, Debug, PartialEq, Eq)]
 pub struct Undecided;
 
