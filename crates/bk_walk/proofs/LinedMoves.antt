@@ -19,7 +19,7 @@ use Rattle.bk_walk.specs.VerticalCut.{IsLinedWord, begins_on_line, lines_after, 
 
 -- ---- the valley
 
-pub segment_at : (sizes ends : List ℕ) (i : ℕ) → i < length sizes → slice_index_or (segments_of sizes ends) i [] ≡ take (slice_index_or sizes i 0) (drop (sum (take i sizes)) ends)
+segment_at : (sizes ends : List ℕ) (i : ℕ) → i < length sizes → slice_index_or (segments_of sizes ends) i [] ≡ take (slice_index_or sizes i 0) (drop (sum (take i sizes)) ends)
 segment_at [] ends i h = absurd (omega arith)
 segment_at (n ∷ sizes) ends zero h = ap (take n) (sym (drop_none ends))
 segment_at (n ∷ sizes) ends (suc i) h = segment_at sizes (drop n ends) i (omega arith) ∙ ap (take (slice_index_or sizes i 0)) (drop_more ends n (sum (take i sizes)) ∙ (λ j. drop (sym (sum-cons n (take i sizes)) j) ends))
@@ -42,10 +42,7 @@ valley_begins w lines shown signs sizes ends is_on l s z e on = on ∙ (λ i. be
 
 -- ---- moves
 
-pub lined_none : IsLinedWord [] []
-lined_none = record { legal = tt; lines_are = refl }
-
-pub lines_counted : (w : Word) → IsLegal w → length (lines_of w) ≡ order_of w
+lines_counted : (w : Word) → IsLegal w → length (lines_of w) ≡ order_of w
 lines_counted w legal = omega (arith, lines_long start [] w legal refl, hung_many start w)
 
 pub lined_count : (w : Word) (lines : List Bool) → IsLinedWord w lines → length lines ≡ order_of w
@@ -75,7 +72,7 @@ lines_go_on o lines [] = ([], append_none lines)
 lines_go_on o lines (m ∷ w) = let on = begins_on_line lines (valley_of o) ∷ replicate (m.count - 1) (nat_eq (length o.closed) 0) in
     let behind = lines_go_on (after_move o m) (lines_after o lines m) w in (on ++ behind.0, behind.1 ∙ append_assoc lines on behind.0)
 
-pub lines_of_front : (front rest : Word) → IsLegal front → take (order_of front) (lines_of (front ++ rest)) ≡ lines_of front
+lines_of_front : (front rest : Word) → IsLegal front → take (order_of front) (lines_of (front ++ rest)) ≡ lines_of front
 lines_of_front front rest legal = front_of (lines_go_on (outline_of front) (lines_of front) rest)
   where
     front_of : ((more : List Bool) × (lines_along (outline_of front) (lines_of front) rest ≡ lines_of front ++ more)) → take (order_of front) (lines_of (front ++ rest)) ≡ lines_of front

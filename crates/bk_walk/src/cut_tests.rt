@@ -1,7 +1,7 @@
 //! Worked rows.
 
 use crate::cuts::single_valleys;
-use crate::lines::{line_bound, on_line, push_lines};
+use crate::lines::{line_bound, on_line, push_lines, valley_on_line};
 use arrayvec::ArrayVec;
 use bk_word::Sign::{Above, Even, Under};
 
@@ -24,4 +24,14 @@ fn lines_are_followed(rt: HostRuntime) {
     push_lines(&mut lines, valley, false, 1);
     assert_eq!(rt; lines.as_slice(), [false, true, true].as_slice());
     assert_eq!(rt; line_bound(&[], &[2], &[1, 3], &lines), 1);
+}
+
+#[test]
+fn lines_stand_at_valleys(rt: HostRuntime) {
+    let lines: &[bool] = &[false, true, true, false];
+    assert!(rt; valley_on_line(&[Under], &[1, 1], &[1, 2], lines));
+    assert!(rt; !valley_on_line(&[Above], &[1, 1], &[1, 2], lines));
+    assert!(rt; valley_on_line(&[Under, Above], &[2, 1, 1], &[1, 4, 3, 2], lines));
+    assert!(rt; !valley_on_line(&[Under, Under], &[1, 1, 2], &[2, 3, 4, 1], lines));
+    assert!(rt; !valley_on_line(&[], &[0], &[], &[]));
 }
