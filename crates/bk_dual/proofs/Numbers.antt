@@ -2,6 +2,7 @@
 use Rattle.std.specs.List.{position_or_len}
 use Rattle.std.specs.List.Sorted.{IsPartitionPoint}
 use Rattle.std.proofs.Common.{Bool, List, [], ap, arith, false, inl, inr, length, map, refl, slice_index_or, subst, suc, sym, true, zero, ℕ, ◌&&◌, ◌+◌, ◌-◌, ◌<◌, ◌==◌, ◌∙◌, ◌∷◌, ◌≡◌, ◌≤◌, ◌⊎◌}
+use Rattle.std.proofs.lemmas.Bool.{cases_lt}
 use Rattle.std.proofs.lemmas.Bool.Decides.{nat_tests}
 use Rattle.std.proofs.lemmas.List.Sums.{fails_before_first, passes_at_first, position_or_len_is}
 use Rattle.bk_tiling.proofs.Cells.{covers_from, in_all, not_both}
@@ -20,9 +21,6 @@ use Rattle.std.specs.Prelude.{pos, ℤ, ◌-ℤ◌}
 use Rattle.bk_net.specs.Diagram.{node_levels}
 use Rattle.bk_net.specs.SmithFlow.{smith_flow}
 use Rattle.bk_dual.specs.Dual.{dual_flow, dual_order, number_at, side_numbered}
-
-two : (a b : ℕ) → (a < b) ⊎ (b ≤ a)
-two a b = grind arith
 
 at_place : (squares : List Square) (q : Square) → IsOneOf q squares → (m : ℕ) × (m < length squares) × ((d : Square) → slice_index_or squares m d ≡ q)
 at_place [] q h = absurd h
@@ -80,12 +78,12 @@ module _ (squares : List Square) (ordered : InCodeOrder squares) (q : Square) (o
   counted k within parts = omega (arith, has_place.is, last)
     where
       last : k ≡ has_place.place + 1
-      last = by (two has_place.place k)
+      last = by (cases_lt has_place.place k)
         where
           by : (has_place.place < k) ⊎ (k ≤ has_place.place) → k ≡ has_place.place + 1
           by (inr late) = absurd (not_both (is_no_later q.x q.y (slice_index_or squares has_place.place q))
               (ap (is_no_later q.x q.y) (has_place.at q) ∙ no_later_itself q) (parts.1 has_place.place q late has_place.within))
-          by (inl soon) = more (two (has_place.place + 1) k)
+          by (inl soon) = more (cases_lt (has_place.place + 1) k)
             where
               more : (has_place.place + 1 < k) ⊎ (k ≤ has_place.place + 1) → k ≡ has_place.place + 1
               more (inr h) = omega arith
@@ -108,7 +106,7 @@ side_at (q ∷ squares) (suc m) d h = side_at squares m d (omega arith)
 
 -- where a square passes a test, the first place is one of the squares
 first_within : (test : Square → Bool) (squares : List Square) (q : Square) → IsOneOf q squares → test q ≡ true → position_or_len test squares < length squares
-first_within test squares q one e = by (two (position_or_len test squares) (length squares)) (at_place squares q one)
+first_within test squares q one e = by (cases_lt (position_or_len test squares) (length squares)) (at_place squares q one)
   where
     by : (position_or_len test squares < length squares) ⊎ (length squares ≤ position_or_len test squares) → (m : ℕ) × (m < length squares) × ((d : Square) → slice_index_or squares m d ≡ q) → position_or_len test squares < length squares
     by (inl h) at = h

@@ -2,7 +2,7 @@
 use Rattle.std.specs.List.{AllByRecursion}
 use Rattle.std.proofs.Common.{Bool, List, [], arith, cond, false, inl, inr, length, map, nat_le, refl, subst, suc, sym, true, zero, zero-add, ℕ, ◌%◌, ◌+◌, ◌<◌, ◌^◌, ◌∷◌, ◌≡◌, ◌≤◌, ◌⊎◌}
 use Rattle.std.specs.Prelude.{IsPermutation}
-use Rattle.std.proofs.lemmas.Bool.{le-leb}
+use Rattle.std.proofs.lemmas.Bool.{le-leb, cases_lt}
 use Rattle.std.proofs.lemmas.List.Elements.{All-from_recursion}
 use Rattle.std.proofs.lemmas.Bool.Decides.{nat_tests}
 use Rattle.bk_tiling.proofs.Cells.{all_from, in_all}
@@ -39,9 +39,6 @@ growing_height t g = most_height (record t { squares = in_code_order t.squares }
 abbrev square_at : ℕ → ℕ → ℕ → Square
 square_at x y s = record { x = x; y = y; s = s }
 
-two : (a b : ℕ) → (a < b) ⊎ (b ≤ a)
-two a b = grind arith
-
 -- two rectangles side by side, the left one of width a
 abbrev beside : ℕ → ℕ → ℕ → Rectangle
 beside x a h = record { x = x; y = 0; width = a; height = h }
@@ -58,7 +55,7 @@ module _ (n a b h : ℕ) (sum : n ≡ a + b) where
   right_part = record { left = omega arith; right = omega arith; top = omega arith; bottom = omega arith }
 
   split_beside : Splits (sized n h) (beside 0 a h) (beside a b h)
-  split_beside i j has = cases (two i a)
+  split_beside i j has = cases (cases_lt i a)
     where
       cases : (i < a) ⊎ (a ≤ i) → (HasCell (beside 0 a h) i j × (HasCell (beside a b h) i j → ⊥)) ⊎ ((HasCell (beside 0 a h) i j → ⊥) × HasCell (beside a b h) i j)
       cases (inl l) = inl (record { left = omega arith; right = omega arith; top = omega arith; bottom = omega (arith, has.bottom) }, λ no. omega (arith, no.left))
@@ -71,7 +68,7 @@ module _ (n a b h : ℕ) (sum : n ≡ a + b) where
   lower_part = record { left = omega arith; right = omega arith; top = omega arith; bottom = omega arith }
 
   split_stacked : Splits (sized h n) (stacked 0 h a) (stacked a h b)
-  split_stacked i j has = cases (two j a)
+  split_stacked i j has = cases (cases_lt j a)
     where
       cases : (j < a) ⊎ (a ≤ j) → (HasCell (stacked 0 h a) i j × (HasCell (stacked a h b) i j → ⊥)) ⊎ ((HasCell (stacked 0 h a) i j → ⊥) × HasCell (stacked a h b) i j)
       cases (inl l) = inl (record { left = omega arith; right = omega (arith, has.right); top = omega arith; bottom = omega arith }, λ no. omega (arith, no.top))
@@ -189,7 +186,7 @@ no_leb a b less = grind (arith, nat_tests)
 
 pub grows_on : (n v i : ℕ) (t : Tiling) → IsGrowing t → length t.squares + n ≤ 200 → IsGrowing (attached n v i t)
 grows_on zero v i t g few = g
-grows_on (suc n) v i t g few = cases (two 999_999_999_999_999 (next_side v i t))
+grows_on (suc n) v i t g few = cases (cases_lt 999_999_999_999_999 (next_side v i t))
     (λ side. grows_on n v (i + 1) (with_next v i t) (grows_next v i t g (omega arith) side) (omega (arith, next_length v i t)))
   where
     cases : (999_999_999_999_999 < next_side v i t) ⊎ (next_side v i t ≤ 999_999_999_999_999) → (next_side v i t ≤ 999_999_999_999_999 → IsGrowing (attached n v (i + 1) (with_next v i t)))

@@ -3,6 +3,7 @@
 use Rattle.std.specs.List.Sorted.{IsPartitionPoint, IsPartitionedBy}
 use Rattle.std.specs.Prelude.{slice_index}
 use Rattle.std.proofs.Common.{Bool, List, [], ap, arith, cond, count_by, false, inl, inr, length, map, nat_eq, refl, slice_index_or, subst, suc, sym, take, true, zero, ℕ, ◌&&◌, ◌++◌, ◌+◌, ◌-◌, ◌<◌, ◌∙◌, ◌∷◌, ◌≡◌, ◌≢◌, ◌≤◌, ◌⊎◌}
+use Rattle.std.proofs.lemmas.Bool.{cases_lt}
 use Rattle.std.proofs.lemmas.Bool.Decides.{nat_tests}
 use Rattle.std.proofs.lemmas.List.{take_more}
 use Rattle.bk_tiling.proofs.Cells.{covers_from, in_all, none_counted, not_both, one_counted, over_from, true_or_false}
@@ -22,9 +23,6 @@ use Rattle.bk_net.proofs.SidesFlow.{begins_below, below_from, place, row_is, squ
 use Rattle.bk_net.proofs.SmithLists.{HasGroup, count_at, group_wires}
 use Rattle.bk_net.specs.Diagram.{node_below, smith_diagram}
 use Rattle.bk_net.specs.GroupNumbers.{group_numbers, is_no_later}
-
-two : (a b : ℕ) → (a < b) ⊎ (b ≤ a)
-two a b = grind arith
 
 -- ---- wires by squares
 
@@ -98,7 +96,7 @@ square_far (q ∷ g) squares (suc m) d h = square_far g squares m d (omega arith
 
 has_number : (n : ℕ) (groups : List (List Square)) (m : ℕ) (d : Square) → m < length (row_of groups) → HasNumber n groups m d
 has_number n [] m d h = absurd (omega arith)
-has_number n (g ∷ groups) m d h = cases (two m (length g)) (has_number (n + 1) groups (m - length g) d)
+has_number n (g ∷ groups) m d h = cases (cases_lt m (length g)) (has_number (n + 1) groups (m - length g) d)
   where
     cases : (m < length g) ⊎ (length g ≤ m) → (m - length g < length (row_of groups) → HasNumber (n + 1) groups (m - length g) d) → HasNumber n (g ∷ groups) m d
     cases (inl near) rest = record {
@@ -224,12 +222,12 @@ module _ (t : Tiling) (tiling : IsTiling t) (q : Square) (one : IsOneOf q t.squa
                       (covers_from (slice_index_or t.squares j q).x (q.y + q.s) (slice_index_or t.squares j q) (omega arith) (omega (arith, side_of t tiling (slice_index_or t.squares j q) (one_at t.squares j q end))) (omega (arith, a.0)) (omega (arith, a.0, side_of t tiling (slice_index_or t.squares j q) (one_at t.squares j q end))))
 
           last : m + 1 ≡ k
-          last = by (two m k)
+          last = by (cases_lt m k)
             where
               by : (m < k) ⊎ (k ≤ m) → m + 1 ≡ k
               by (inr late) = absurd (not_both (is_no_later q.x (q.y + q.s) (slice_index_or t.squares m q))
                   (ap (is_no_later q.x (q.y + q.s)) (at q) ∙ no_later_from q.x (q.y + q.s) below.0 level left) (parts.1 m q late there))
-              by (inl soon) = more (two (m + 1) k)
+              by (inl soon) = more (cases_lt (m + 1) k)
                 where
                   more : (m + 1 < k) ⊎ (k ≤ m + 1) → m + 1 ≡ k
                   more (inl h) = absurd (no_later_one (m + 1) (omega arith) (omega arith) (parts.0 (m + 1) q (omega arith) h))

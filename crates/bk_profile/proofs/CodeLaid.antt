@@ -1,6 +1,7 @@
 -- A code is laid to the one tiling that has it, or no tiling has it.
 use Rattle.std.specs.List.{AllByRecursion}
 use Rattle.std.proofs.Common.{List, [], ap, arith, inl, inr, length, subst, sum, sym, ℕ, true, ◌*◌, ◌+◌, ◌-◌, ◌<◌, ◌^◌, ◌∙◌, ◌∷◌, ◌≡◌, ◌≤◌, ◌⊎◌}
+use Rattle.std.proofs.lemmas.Bool.{cases_lt}
 use Rattle.std.proofs.lemmas.List.{length-append}
 use Rattle.std.proofs.lemmas.List.Sums.{sum_by-cons}
 use Rattle.bk_tiling.proofs.Cells.{column_from, counted_one, depth_comes_from, depth_reaches, over_from}
@@ -20,12 +21,9 @@ use Rattle.bk_profile.specs.Gap.{IsGap, LaysTo}
 use Rattle.bk_profile.specs.Laid.{IsGreatestDepth, IsLaidOut, IsLeastDepth, Laid}
 use Rattle.bk_profile.specs.Refused.{EndsOpen, HasCode, Misfits, first_sum}
 
-two : (a b : ℕ) → (a < b) ⊎ (b ≤ a)
-two a b = grind arith
-
 -- all columns of a tiling have its height as depth
 pub even_below : (t : Tiling) → IsTiling t → (c : ℕ) → c < t.width → depth t.squares c ≡ t.height
-even_below t tiling c wide = cases (two (depth t.squares c) t.height) (two t.height (depth t.squares c))
+even_below t tiling c wide = cases (cases_lt (depth t.squares c) t.height) (cases_lt t.height (depth t.squares c))
   where
     from : (q : Square) × IsOneOf q t.squares × (covers c (t.height - 1) q ≡ true) → t.height - 1 < depth t.squares c
     from (q, k, e) = let o = over_from c (t.height - 1) q e in omega (arith, o.bottom, depth_reaches t.squares c q k (column_from c q o.left o.right))

@@ -1,6 +1,7 @@
 -- There is one gap, so laying has one outcome; laying some groups and then others.
 use Rattle.std.specs.List.{AllByRecursion}
 use Rattle.std.proofs.Common.{List, [], ap, arith, inl, inr, length, refl, subst, sym, ℕ, ◌++◌, ◌+◌, ◌<◌, ◌∙◌, ◌∷◌, ◌≡◌, ◌≤◌, ◌⊎◌}
+use Rattle.std.proofs.lemmas.Bool.{cases_lt}
 use Rattle.std.proofs.lemmas.List.{length-append}
 use Rattle.bk_tiling.specs.Column.{depth}
 use Rattle.bk_tiling.specs.Kept.{IsSide}
@@ -12,9 +13,6 @@ use Rattle.bk_code.specs.Kept.{IsSideGroup}
 use Rattle.bk_profile.proofs.Hanging.{length_group}
 use Rattle.bk_profile.specs.Gap.{Fits, IsGap, LaysTo, with_group}
 
-two : (a b : ℕ) → (a < b) ⊎ (b ≤ a)
-two a b = grind arith
-
 same_level : (w : ℕ) (laid : List Square) (g h : Segment) → IsGap w laid g → IsGap w laid h → g.level ≤ h.level
 same_level w laid g h a b =
     let at : depth laid h.x ≡ h.level = (b.flat).level h.x (omega arith) (omega (arith, (b.flat).some)) in
@@ -22,14 +20,14 @@ same_level w laid g h a b =
     omega arith
 
 not_before : (w : ℕ) (laid : List Square) (g h : Segment) → IsGap w laid g → IsGap w laid h → g.level ≡ h.level → h.x ≤ g.x
-not_before w laid g h a b e = cases (two g.x h.x)
+not_before w laid g h a b e = cases (cases_lt g.x h.x)
   where
     cases : (g.x < h.x) ⊎ (h.x ≤ g.x) → h.x ≤ g.x
     cases (inl c) = absurd (omega (arith, (a.flat).level g.x (omega arith) (omega (arith, (a.flat).some)), b.leftmost g.x c, e))
     cases (inr c) = c
 
 not_shorter : (w : ℕ) (laid : List Square) (g h : Segment) → IsGap w laid g → IsGap w laid h → g.level ≡ h.level → g.x ≡ h.x → h.width ≤ g.width
-not_shorter w laid g h a b e f = cases (two g.width h.width)
+not_shorter w laid g h a b e f = cases (cases_lt g.width h.width)
   where
     cases : (g.width < h.width) ⊎ (h.width ≤ g.width) → h.width ≤ g.width
     cases (inl c) = absurd (omega (arith, a.ends (omega (arith, (b.flat).within, c, f)), (b.flat).level (g.x + g.width) (omega (arith, f)) (omega (arith, f, c)), e))
