@@ -6,7 +6,9 @@ use Rattle.std.proofs.lemmas.Bool.{le-leb, cases_lt}
 use Rattle.std.proofs.lemmas.List.Elements.{All-from_recursion}
 use Rattle.std.proofs.lemmas.Bool.Decides.{nat_tests}
 use Rattle.bk_tiling.proofs.Cells.{all_from, in_all}
+use Rattle.bk_tiling.proofs.JoinedParts.{HasCell, IsPart, Splits, all_joined, tiles_alone, tiles_joined}
 use Rattle.bk_tiling.proofs.ListLaws.{length_append, length_map}
+use Rattle.bk_tiling.proofs.MovedSquares.{all_moved, moved_rectangle, tiles_moved}
 use Rattle.bk_tiling.proofs.OneRefusal.{kept_from, tiles_apart, tiles_cells}
 use Rattle.bk_tiling.proofs.Refusing.{IsSortedByPlace, sorted_in_order}
 use Rattle.bk_tiling.proofs.Sizes.{most_height, most_width}
@@ -18,8 +20,6 @@ use Rattle.bk_tiling.specs.Tiling.{IsOneOf, IsWithin, Rectangle, Tiles, Tiling}
 use Rattle.bk_tiling.specs.declared.Square.{Square}
 use Rattle.bk_gen.specs.Attaching.{attached, goes_up_or_down, is_set, next_side, with_above, with_below, with_left, with_next, with_right}
 use Rattle.bk_gen.specs.Growing.{IsGrowing}
-use Rattle.bk_gen.proofs.Joining.{HasCell, IsPart, Splits, all_joined, tiles_alone, tiles_joined}
-use Rattle.bk_gen.proofs.MovedSquares.{all_moved, moved_rectangle, tiles_moved}
 
 -- with its squares in order it is what a `Tiling` keeps
 pub kept_in_order : (t : Tiling) → IsGrowing t → IsKept (record t { squares = in_code_order t.squares })

@@ -2,12 +2,11 @@
 use Rattle.std.specs.List.{AllByRecursion}
 use Rattle.std.proofs.Common.{List, [], ap, arith, cond, count_by, inl, inr, map, refl, subst, sum, sym, true, ℕ, ◌++◌, ◌+◌, ◌-◌, ◌<◌, ◌∙◌, ◌∷◌, ◌≡◌, ◌≤◌, ◌⊎◌}
 use Rattle.std.proofs.lemmas.Bool.{cases_lt}
-use Rattle.std.proofs.lemmas.Bool.Decides.{nat_tests}
-use Rattle.std.proofs.lemmas.List.Sums.{sum_by-append, sum_by-cons}
+use Rattle.std.proofs.lemmas.List.Sums.{sum_by-append}
 use Rattle.bk_tiling.proofs.Cells.{column_from, column_left, column_right, counted_one, covers_from, depth_comes_from, depth_reaches, from_append, in_all, no_two, one_counted, over_from}
 use Rattle.bk_tiling.proofs.ListLaws.{append_assoc, append_nil}
 use Rattle.bk_tiling.proofs.Members.{in_back, in_front}
-use Rattle.bk_tiling.proofs.Rows.{chain_over, chain_total, chain_within, laid_sides, total}
+use Rattle.bk_tiling.proofs.Rows.{chain_over, chain_total, chain_within, laid_sides, sum_is_total}
 use Rattle.bk_tiling.proofs.TilingLaws.{cell_once, side_of, within_of}
 use Rattle.bk_tiling.specs.CodeOrder.{InCodeOrder, comes_before}
 use Rattle.bk_tiling.specs.Column.{covers_column, depth}
@@ -15,22 +14,16 @@ use Rattle.bk_tiling.specs.Tiling.{IsOneOf, IsTiling, Tiling, covers}
 use Rattle.bk_tiling.specs.declared.Square.{Square}
 use Rattle.bk_tiling.proofs.Groups.{AllIn, IsGroup, IsRow, chain_is_group, groups_row, row_of}
 use Rattle.bk_tiling.proofs.NextCorner.{IsNoLater, next_corner}
+use Rattle.bk_tiling.proofs.OrderLaws.{before_level}
 use Rattle.bk_tiling.proofs.TilingGroups.{all_groups}
 use Rattle.bk_tiling.specs.SquareGroups.{laid_group, square_groups}
 use Rattle.bk_profile.specs.Gap.{IsGap, LaysTo}
 use Rattle.bk_profile.specs.LayingLaws.{ACodeIsLaid}
 
-pub sum_is_total : (sides : List ℕ) → sum sides ≡ total sides
-sum_is_total [] = refl
-sum_is_total (s ∷ sides) = omega (arith, sum_by-cons (λ (n : ℕ). n) s sides, sum_is_total sides)
-
 before_all : (front back : List Square) → InCodeOrder (front ++ back) → (q r : Square) → IsOneOf q front → IsOneOf r back → comes_before q r ≡ true
 before_all [] back o q r h k = absurd h
 before_all (p ∷ front) back o q r (inl e) k = ap (λ (s : Square). comes_before s r) e ∙ in_all (λ s. comes_before p s ≡ true) (front ++ back) o.0 r (in_back front back r k)
 before_all (p ∷ front) back o q r (inr h) k = before_all front back o.1 q r h k
-
-before_level : (q r : Square) → comes_before q r ≡ true → q.y ≤ r.y
-before_level q r e = grind (arith, nat_tests)
 
 module _ (t : Tiling) (tiling : IsTiling t) (laid group back : List Square) (is : t.squares ≡ laid ++ (group ++ back)) (g : IsGroup t.squares group) where
   abbrev row : IsRow t.squares group

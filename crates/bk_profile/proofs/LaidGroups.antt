@@ -2,12 +2,12 @@
 use Rattle.std.specs.List.{AllByRecursion}
 use Rattle.std.proofs.Common.{Bool, List, [], ap, arith, false, inl, inr, length, refl, subst, sym, true, ℕ, ◌++◌, ◌+◌, ◌<◌, ◌∙◌, ◌∷◌, ◌≡◌, ◌≤◌, ◌⊎◌}
 use Rattle.std.proofs.lemmas.Bool.{cases_lt}
-use Rattle.std.proofs.lemmas.Bool.Decides.{nat_tests}
 use Rattle.bk_tiling.proofs.Cells.{all_from, column_from, depth-append, depth_reaches, from_append, in_all, true_or_false}
 use Rattle.bk_tiling.proofs.Group.{HasOver, depth_under, filled_group, group_sides, group_top, group_within, over_group}
+use Rattle.bk_tiling.proofs.Groups.{beside_from, beside_to}
 use Rattle.bk_tiling.proofs.ListLaws.{append_assoc, append_nil}
 use Rattle.bk_tiling.proofs.PuttingInOrder.{group_ordered}
-use Rattle.bk_tiling.proofs.Rows.{total}
+use Rattle.bk_tiling.proofs.Rows.{sum_is_total, total}
 use Rattle.bk_tiling.proofs.Scaling.{before_from}
 use Rattle.bk_tiling.specs.CodeOrder.{InCodeOrder, comes_before, stands_beside}
 use Rattle.bk_tiling.specs.Column.{IsFilled, depth}
@@ -17,15 +17,8 @@ use Rattle.bk_tiling.specs.declared.Segment.{Segment}
 use Rattle.bk_tiling.specs.declared.Square.{Square}
 use Rattle.bk_code.proofs.GroupSteps.{before, groups_cons, groups_some, side_groups}
 use Rattle.bk_code.specs.Code.{Code}
-use Rattle.bk_profile.proofs.CodeLaying.{sum_is_total}
 use Rattle.bk_profile.proofs.Storing.{there}
 use Rattle.bk_profile.specs.Gap.{Fits, IsGap, LaysTo, with_group}
-
-beside_from : (q r : Square) → q.y ≡ r.y → q.x + q.s ≡ r.x → stands_beside q r ≡ true
-beside_from q r a b = grind (arith, nat_tests)
-
-beside_to : (q r : Square) → stands_beside q r ≡ true → (q.y ≡ r.y) × (q.x + q.s ≡ r.x)
-beside_to q r e = (grind (arith, nat_tests), grind (arith, nat_tests))
 
 -- the square is the last of these
 abbrev pub IsLast : List Square → Square → Type 0

@@ -3,6 +3,7 @@ use Rattle.std.specs.List.{AllByRecursion}
 use Rattle.std.proofs.Common.{List, [], ap, arith, inl, inr, length, refl, subst, sym, ℕ, ◌++◌, ◌+◌, ◌<◌, ◌∙◌, ◌∷◌, ◌≡◌, ◌≤◌, ◌⊎◌}
 use Rattle.std.proofs.lemmas.Bool.{cases_lt}
 use Rattle.std.proofs.lemmas.List.{length-append}
+use Rattle.bk_tiling.proofs.Group.{length_group}
 use Rattle.bk_tiling.specs.Column.{depth}
 use Rattle.bk_tiling.specs.Kept.{IsSide}
 use Rattle.bk_tiling.specs.SquareGroups.{laid_group}
@@ -10,7 +11,6 @@ use Rattle.bk_tiling.specs.declared.Segment.{Segment}
 use Rattle.bk_tiling.specs.declared.Square.{Square}
 use Rattle.bk_code.specs.Code.{Code, flat}
 use Rattle.bk_code.specs.Kept.{IsSideGroup}
-use Rattle.bk_profile.proofs.Hanging.{length_group}
 use Rattle.bk_profile.specs.Gap.{Fits, IsGap, LaysTo, with_group}
 
 same_level : (w : ℕ) (laid : List Square) (g h : Segment) → IsGap w laid g → IsGap w laid h → g.level ≤ h.level

@@ -1,41 +1,20 @@
 -- Tilings enlarged: their divisors, and their images.
-use Rattle.std.specs.Int.{IsGcd}
-use Rattle.std.specs.Prelude.{◌%◌, ◌/◌}
-use Rattle.std.proofs.Common.{Bool, List, [], ap, arith, cond, false, inl, inr, map, refl, subst, suc, sym, true, zero, ℕ, ◌*◌, ◌+◌, ◌-◌, ◌<◌, ◌∙◌, ◌∷◌, ◌≡◌, ◌≤◌, ◌⊎◌}
-use Rattle.std.proofs.Math.Nat.{div-add-mod, mod-eq_of_lt, mod-lt, mul-le-mul_left, mul-add-mod_self_left}
+use Rattle.std.proofs.Common.{Bool, List, [], ap, arith, cond, false, inl, inr, map, refl, sym, true, ℕ, ◌*◌, ◌+◌, ◌-◌, ◌<◌, ◌∙◌, ◌∷◌, ◌≡◌, ◌≤◌, ◌⊎◌}
+use Rattle.std.proofs.Math.Nat.{mul-le-mul_left}
 use Rattle.std.proofs.lemmas.Bool.{both_ways, cases_Bool}
-use Rattle.std.proofs.lemmas.Nat.Gcd.{IsGcd-from_mod, IsGcd-from_zero, le_of_dvd, same_from_IsGcd}
-use Rattle.bk_frac.proofs.DivisorLaws.{gcd_spec}
-use Rattle.bk_frac.specs.Divisor.{gcd, gcd_of, gcd_within}
+use Rattle.bk_frac.specs.Divisor.{gcd, gcd_of}
 use Rattle.bk_tiling.proofs.Scaling.{before_cases, before_from, mul_below, mul_one}
 use Rattle.bk_tiling.proofs.TilingLaws.{within_of}
 use Rattle.bk_tiling.specs.CodeOrder.{comes_before, in_code_order, with_square}
 use Rattle.bk_tiling.specs.Scale.{enlarged, enlarged_square}
 use Rattle.bk_tiling.specs.Tiling.{IsOneOf, IsTiling, Tiling}
 use Rattle.bk_tiling.specs.declared.Square.{Square}
+use Rattle.bk_frac.proofs.Coprime.{gcd-mul}
 use Rattle.bk_sym.proofs.Composing.{square_same}
 use Rattle.bk_sym.proofs.ScaledDown.{side_divisor}
 use Rattle.bk_sym.specs.Image.{image, image_size, image_square}
 use Rattle.bk_sym.specs.declared.Turn.{Turn}
 use Rattle.bk_sym.specs.declared.Turn.TheVariants.{FlipX, FlipY, Half, Same, Swap, SwapFlipX, SwapFlipY, SwapHalf}
-
--- remainders of multiples are multiples of remainders
-mul-mod : (k a b : ℕ) → 0 < k → 0 < b → (k * a) % (k * b) ≡ k * (a % b)
-mul-mod k a b some big =
-    let split : k * a ≡ (k * b) * (a / b) + k * (a % b) = omega (arith, ap (λ n. k * n) (div-add-mod a b)) in
-    ap (λ n. n % (k * b)) split ∙ mul-add-mod_self_left (k * b) (a / b) (k * (a % b)) ∙ mod-eq_of_lt (mul_below k (a % b) b some (mod-lt a big))
-
-gcd_within-mul : (k turns a b : ℕ) → 0 < k → b < turns → IsGcd (k * a) (k * b) (k * gcd_within turns a b)
-gcd_within-mul k zero a b some few = absurd (omega arith)
-gcd_within-mul k (suc turns) a zero some few = IsGcd-from_zero (k * a) (k * 0) (omega arith)
-gcd_within-mul k (suc turns) a (suc b) some few =
-    IsGcd-from_mod (k * a) (k * suc b) (k * gcd_within turns (suc b) (a % suc b))
-    (subst (λ n. IsGcd (k * suc b) n (k * gcd_within turns (suc b) (a % suc b))) (sym (mul-mod k a (suc b) some (omega arith)))
-    (gcd_within-mul k turns (suc b) (a % suc b) some (omega (arith, mod-lt a {m = suc b} (omega arith)))))
-
--- the divisor of multiples is the multiple of the divisor
-gcd-mul : (k a b : ℕ) → 0 < k → gcd (k * a) (k * b) ≡ k * gcd a b
-gcd-mul k a b some = same_from_IsGcd (k * a) (k * b) (gcd (k * a) (k * b)) (k * gcd a b) (gcd_spec (k * a) (k * b)) (gcd_within-mul k (suc b) a b some (omega arith))
 
 side_divisor-enlarged : (k : ℕ) (squares : List Square) → 0 < k → gcd_of (map (λ q. q.s) (map (enlarged_square k) squares)) ≡ k * gcd_of (map (λ q. q.s) squares)
 side_divisor-enlarged k [] some = omega arith
@@ -44,18 +23,6 @@ side_divisor-enlarged k (q ∷ squares) some =
 
 pub divisor_of_multiple : (k : ℕ) (t : Tiling) → 0 < k → side_divisor (enlarged k t) ≡ k * side_divisor t
 divisor_of_multiple k t some = side_divisor-enlarged k t.squares some
-
--- a divisor of two numbers is no greater than the greater of them
-pub gcd-below : (a b most : ℕ) → a < most → b < most → gcd a b < most
-gcd-below a b most ha hb = cases (two a) (two b)
-  where
-    two : (n : ℕ) → (0 < n) ⊎ (n ≡ 0)
-    two n = grind arith
-
-    cases : (0 < a) ⊎ (a ≡ 0) → (0 < b) ⊎ (b ≡ 0) → gcd a b < most
-    cases (inl some) other = omega (arith, le_of_dvd some (gcd_spec a b).0)
-    cases (inr none) (inl some) = omega (arith, le_of_dvd some (gcd_spec a b).1)
-    cases (inr none) (inr zero_b) = subst (λ n. gcd a n < most) (sym zero_b) ha
 
 -- a multiple of a multiple
 times : (m n x : ℕ) → m * (n * x) ≡ (m * n) * x
@@ -68,7 +35,7 @@ list_twice m n (q ∷ squares) = λ i. record { x = times m n q.x i; y = times m
 pub enlarged-enlarged : (m n : ℕ) (t : Tiling) → enlarged m (enlarged n t) ≡ enlarged (m * n) t
 enlarged-enlarged m n t = λ i. record { width = times m n t.width i; height = times m n t.height i; squares = list_twice m n t.squares i }
 
-list_once : (squares : List Square) → map (enlarged_square 1) squares ≡ squares
+pub list_once : (squares : List Square) → map (enlarged_square 1) squares ≡ squares
 list_once [] = refl
 list_once (q ∷ squares) = λ i. record { x = single q.x i; y = single q.y i; s = single q.s i } ∷ list_once squares i
   where

@@ -22,7 +22,6 @@ use Rattle.bk_sym.specs.Canonical.{scaled_down_tiling}
 mul_below_back : (k a b : ℕ) → k * a < k * b → a < b
 mul_below_back k a b h = cases (cases_lt a b)
   where
-
     cases : (a < b) ⊎ (b ≤ a) → a < b
     cases (inl l) = l
     cases (inr l) = absurd (omega (arith, h, mul-le-mul_left k l))

@@ -1,10 +1,10 @@
 -- A group of squares laid side by side on level columns: which cells it covers, how deep the columns are then, and
 -- that what is laid still fills these columns once.
 use Rattle.std.specs.List.{AllByRecursion}
-use Rattle.std.proofs.Common.{Bool, List, [], ap, arith, cond, count_by, false, inl, inr, map, max, refl, subst, sym, true, ℕ, ◌++◌, ◌+◌, ◌<◌, ◌∙◌, ◌∷◌, ◌≡◌, ◌≤◌, ◌⊎◌}
+use Rattle.std.proofs.Common.{Bool, List, [], ap, arith, cond, count_by, false, inl, inr, length, map, max, refl, subst, sum, sym, true, ℕ, ◌++◌, ◌+◌, ◌<◌, ◌∙◌, ◌∷◌, ◌≡◌, ◌≤◌, ◌⊎◌}
 use Rattle.std.proofs.lemmas.List.Sums.{sum_by-append}
 use Rattle.bk_tiling.proofs.Cells.{column_from, column_left, column_right, count-cons, covers_from, depth_reaches, none_counted, over_from}
-use Rattle.bk_tiling.proofs.Rows.{total}
+use Rattle.bk_tiling.proofs.Rows.{sum_is_total, total}
 use Rattle.bk_tiling.specs.Column.{covers_column, depth}
 use Rattle.bk_tiling.specs.Tiling.{IsOneOf, covers}
 use Rattle.bk_tiling.specs.declared.Square.{Square}
@@ -231,3 +231,15 @@ module _ (laid : List Square) (x level : ℕ) (sides : List ℕ) (level_there : 
       place (inl a) b = away (inl a)
       place (inr a) (inr b) = away (inr b)
       place (inr a) (inl b) = under a b
+
+pub length_group : (x y : ℕ) (sides : List ℕ) → length (laid_group x y sides) ≡ length sides
+length_group x y [] = refl
+length_group x y (s ∷ sides) = omega (arith, length_group (x + s) y sides)
+
+-- one more square of a group
+pub group_push : (x y : ℕ) (sides : List ℕ) (s : ℕ) → laid_group x y (sides ++ s ∷ []) ≡ laid_group x y sides ++ (record { x = x + sum sides; y = y; s = s }) ∷ []
+group_push x y sides s = go x sides ∙ ap (λ n. laid_group x y sides ++ (record { x = x + n; y = y; s = s }) ∷ []) (sym (sum_is_total sides))
+  where
+    go : (x : ℕ) (sides : List ℕ) → laid_group x y (sides ++ s ∷ []) ≡ laid_group x y sides ++ (record { x = x + total sides; y = y; s = s }) ∷ []
+    go x [] = ap (λ n. (record { x = n; y = y; s = s }) ∷ []) (omega arith)
+    go x (t ∷ sides) = ap (λ (l : List Square). (record { x = x; y = y; s = t }) ∷ l) (go (x + t) sides ∙ ap (λ n. laid_group (x + t) y sides ++ (record { x = n; y = y; s = s }) ∷ []) (omega arith))

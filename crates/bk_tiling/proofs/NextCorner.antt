@@ -6,6 +6,7 @@ use Rattle.std.proofs.lemmas.Bool.Decides.{nat_tests}
 use Rattle.std.proofs.lemmas.List.Sums.{sum_by-append}
 use Rattle.bk_tiling.proofs.Cells.{counted_one, covers_from, from_append, in_all, one_counted, over_from}
 use Rattle.bk_tiling.proofs.Members.{in_back}
+use Rattle.bk_tiling.proofs.OrderLaws.{before_level}
 use Rattle.bk_tiling.proofs.TilingLaws.{wide_enough}
 use Rattle.bk_tiling.specs.CodeOrder.{InCodeOrder, comes_before}
 use Rattle.bk_tiling.specs.Tiling.{IsOneOf, IsTiling, IsWithin, Tiling, covers, whole}
@@ -19,9 +20,6 @@ pub record IsNoLater (q : Square) (i j : ℕ) : Type 0 where
 order_at : (front : List Square) (q : Square) (back : List Square) → InCodeOrder (front ++ q ∷ back) → AllByRecursion (λ r. comes_before q r ≡ true) back
 order_at [] q back o = o.0
 order_at (p ∷ front) q back o = order_at front q back o.1
-
-before_level : (q r : Square) → comes_before q r ≡ true → q.y ≤ r.y
-before_level q r e = grind (arith, nat_tests)
 
 before_column : (q r : Square) → comes_before q r ≡ true → q.y ≡ r.y → q.x ≤ r.x
 before_column q r e same = grind (arith, nat_tests)
