@@ -1,10 +1,9 @@
 -- A rectangle that grows stays tiled.
 use Rattle.std.specs.List.{AllByRecursion}
-use Rattle.std.proofs.Common.{Bool, List, [], arith, cond, false, inl, inr, length, map, nat_le, refl, subst, suc, sym, true, zero, zero-add, ℕ, ◌%◌, ◌+◌, ◌<◌, ◌^◌, ◌∷◌, ◌≡◌, ◌≤◌, ◌⊎◌}
+use Rattle.std.proofs.Common.{Bool, List, [], arith, cond, false, inl, inr, length, map, refl, subst, suc, sym, true, zero, zero-add, ℕ, ◌%◌, ◌+◌, ◌<◌, ◌^◌, ◌∷◌, ◌≡◌, ◌≤◌, ◌⊎◌}
 use Rattle.std.specs.Prelude.{IsPermutation}
-use Rattle.std.proofs.lemmas.Bool.{le-leb, cases_lt}
+use Rattle.std.proofs.lemmas.Bool.{le-leb, cases_lt, lt-leb}
 use Rattle.std.proofs.lemmas.List.Elements.{All-from_recursion}
-use Rattle.std.proofs.lemmas.Bool.Decides.{nat_tests}
 use Rattle.bk_tiling.proofs.Cells.{all_from, in_all}
 use Rattle.bk_tiling.proofs.JoinedParts.{HasCell, IsPart, Splits, all_joined, tiles_alone, tiles_joined}
 use Rattle.bk_tiling.proofs.ListLaws.{length_append, length_map}
@@ -181,9 +180,6 @@ next_length v i t = cases (goes_up_or_down v i) (is_set v (i % 64))
     cases false true = omega (arith, length_append (map (moved_square t.height 0) t.squares) (square_at 0 0 t.height ∷ []), length_map (moved_square t.height 0) t.squares)
     cases false false = omega (arith, length_append t.squares (square_at t.width 0 t.height ∷ []))
 
-pub no_leb : (a b : ℕ) → b < a → nat_le a b ≡ false
-no_leb a b less = grind (arith, nat_tests)
-
 pub grows_on : (n v i : ℕ) (t : Tiling) → IsGrowing t → length t.squares + n ≤ 200 → IsGrowing (attached n v i t)
 grows_on zero v i t g few = g
 grows_on (suc n) v i t g few = cases (cases_lt 999_999_999_999_999 (next_side v i t))
@@ -191,5 +187,5 @@ grows_on (suc n) v i t g few = cases (cases_lt 999_999_999_999_999 (next_side v 
   where
     cases : (999_999_999_999_999 < next_side v i t) ⊎ (next_side v i t ≤ 999_999_999_999_999) → (next_side v i t ≤ 999_999_999_999_999 → IsGrowing (attached n v (i + 1) (with_next v i t)))
         → IsGrowing (attached (suc n) v i t)
-    cases (inl more) rest = subst (λ (b : Bool). IsGrowing (cond b (attached n v (i + 1) (with_next v i t)) t)) (sym (no_leb (next_side v i t) 999_999_999_999_999 more)) g
+    cases (inl more) rest = subst (λ (b : Bool). IsGrowing (cond b (attached n v (i + 1) (with_next v i t)) t)) (sym (lt-leb (next_side v i t) 999_999_999_999_999 more)) g
     cases (inr side) rest = subst (λ (b : Bool). IsGrowing (cond b (attached n v (i + 1) (with_next v i t)) t)) (sym (le-leb (next_side v i t) 999_999_999_999_999 side)) (rest side)

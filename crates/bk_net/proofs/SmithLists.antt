@@ -3,6 +3,7 @@
 use Rattle.std.specs.List.{AllByRecursion, enumerate_from, flat_map, list_any, position_or_len}
 use Rattle.std.specs.Prelude.{pos, ℤ, ◌+ℤ◌, ◌-ℤ◌}
 use Rattle.std.proofs.Common.{Bool, Contains, List, Some, [], ap, arith, cond, count_by, false, inl, inr, length, map, nat_eq, not, refl, slice_get, slice_index_or, subst, suc, sym, true, zero, ℕ, ◌++◌, ◌+◌, ◌<◌, ◌||◌, ◌∙◌, ◌∷◌, ◌≡◌, ◌≤◌, ◌⊎◌}
+use Rattle.std.proofs.lemmas.Bool.{cases_lt}
 use Rattle.std.proofs.lemmas.Bool.Decides.{nat_tests}
 use Rattle.std.proofs.lemmas.Int.{ints}
 use Rattle.std.proofs.lemmas.List.Elements.{Contains-append_left, Contains-append_right}
@@ -224,11 +225,8 @@ cols_none (suc n) a j q none = omega (arith, no_cell a j q (none a (omega arith)
 
 cols_from : (n a j : ℕ) (q : Square) → q.y ≤ j → j < q.y + q.s → q.x ≤ a → a ≤ q.x + q.s → q.x + q.s ≤ a + n → a + cols n a j q ≡ q.x + q.s
 cols_from zero a j q top low lo mid hi = omega arith
-cols_from (suc n) a j q top low lo mid hi = cases (two a (q.x + q.s)) (cols_from n (a + 1) j q top low)
+cols_from (suc n) a j q top low lo mid hi = cases (cases_lt a (q.x + q.s)) (cols_from n (a + 1) j q top low)
   where
-    two : (a b : ℕ) → (a < b) ⊎ (b ≤ a)
-    two a b = grind arith
-
     cases : (a < q.x + q.s) ⊎ (q.x + q.s ≤ a) → (q.x ≤ a + 1 → a + 1 ≤ q.x + q.s → q.x + q.s ≤ a + 1 + n → a + 1 + cols n (a + 1) j q ≡ q.x + q.s) → a + (cond (covers a j q) 1 0 + cols n (a + 1) j q) ≡ q.x + q.s
     cases (inl h) rest = omega (arith, covers_one a j q (covers_from a j q lo h top low), rest (omega arith) (omega arith) (omega arith))
     cases (inr h) rest = omega (
@@ -239,11 +237,8 @@ cols_from (suc n) a j q top low lo mid hi = cases (two a (q.x + q.s)) (cols_from
 
 pub cols_all : (n a j : ℕ) (q : Square) → q.y ≤ j → j < q.y + q.s → a ≤ q.x → q.x + q.s ≤ a + n → cols n a j q ≡ q.s
 cols_all zero a j q top low lo hi = omega arith
-cols_all (suc n) a j q top low lo hi = cases (two a q.x) (cols_all n (a + 1) j q top low)
+cols_all (suc n) a j q top low lo hi = cases (cases_lt a q.x) (cols_all n (a + 1) j q top low)
   where
-    two : (a b : ℕ) → (a < b) ⊎ (b ≤ a)
-    two a b = grind arith
-
     cases : (a < q.x) ⊎ (q.x ≤ a) → (a + 1 ≤ q.x → q.x + q.s ≤ a + 1 + n → cols n (a + 1) j q ≡ q.s) → cond (covers a j q) 1 0 + cols n (a + 1) j q ≡ q.s
     cases (inl h) rest = omega (arith, no_cell a j q (λ e. omega (arith, (over_from a j q e).left)), rest (omega arith) (omega arith))
     cases (inr h) rest = omega (arith, cols_from (suc n) a j q top low (omega arith) (omega arith) hi)

@@ -25,3 +25,4 @@ pub mod JoinedParts
 pub mod MovedSquares
 pub mod PairCounts
 pub mod GroupCount
+pub mod EnlargedTilings
