@@ -4,8 +4,9 @@ use Rattle.std.proofs.Common.{Bool, List, [], arith, cond, false, inl, inr, leng
 use Rattle.std.specs.Prelude.{IsPermutation}
 use Rattle.std.proofs.lemmas.Bool.{le-leb, cases_lt, lt-leb}
 use Rattle.std.proofs.lemmas.List.Elements.{All-from_recursion}
+use Rattle.bk_tiling.proofs.AllOfLists.{all_append}
 use Rattle.bk_tiling.proofs.Cells.{all_from, in_all}
-use Rattle.bk_tiling.proofs.JoinedParts.{HasCell, IsPart, Splits, all_joined, tiles_alone, tiles_joined}
+use Rattle.bk_tiling.proofs.JoinedParts.{HasCell, IsPart, Splits, tiles_alone, tiles_joined}
 use Rattle.bk_tiling.proofs.ListLaws.{length_append, length_map}
 use Rattle.bk_tiling.proofs.MovedSquares.{all_moved, moved_rectangle, tiles_moved}
 use Rattle.bk_tiling.proofs.OneRefusal.{kept_from, tiles_apart, tiles_cells}
@@ -91,7 +92,7 @@ module _ (t : Tiling) (g : IsGrowing t) (few : length t.squares < 200) where
   grows_right side = record {
     accepted = record {
       few = omega (arith, length_append t.squares (square_at t.width 0 t.height ∷ []));
-      sides = all_joined (λ q. IsSide q.s) t.squares (square_at t.width 0 t.height ∷ []) (g.accepted).sides ((some_height, side), tt);
+      sides = all_append (λ q. IsSide q.s) t.squares (square_at t.width 0 t.height ∷ []) (g.accepted).sides ((some_height, side), tt);
       tiles = tiles_joined (sized (t.width + t.height) t.height) (beside 0 t.width t.height) (beside t.width t.height t.height) t.squares (square_at t.width 0 t.height ∷ [])
           (left_part (t.width + t.height) t.width t.height t.height refl) (right_part (t.width + t.height) t.width t.height t.height refl) (split_beside (t.width + t.height) t.width t.height t.height refl) (g.accepted).tiles (tiles_alone (square_at t.width 0 t.height) some_height);
     };
@@ -103,7 +104,7 @@ module _ (t : Tiling) (g : IsGrowing t) (few : length t.squares < 200) where
   grows_below side = record {
     accepted = record {
       few = omega (arith, length_append t.squares (square_at 0 t.height t.width ∷ []));
-      sides = all_joined (λ q. IsSide q.s) t.squares (square_at 0 t.height t.width ∷ []) (g.accepted).sides ((some_width, side), tt);
+      sides = all_append (λ q. IsSide q.s) t.squares (square_at 0 t.height t.width ∷ []) (g.accepted).sides ((some_width, side), tt);
       tiles = tiles_joined (sized t.width (t.height + t.width)) (stacked 0 t.width t.height) (stacked t.height t.width t.width) t.squares (square_at 0 t.height t.width ∷ [])
           (upper_part (t.height + t.width) t.height t.width t.width refl) (lower_part (t.height + t.width) t.height t.width t.width refl) (split_stacked (t.height + t.width) t.height t.width t.width refl) (g.accepted).tiles (tiles_alone (square_at 0 t.height t.width) some_width);
     };
@@ -124,7 +125,7 @@ module _ (t : Tiling) (g : IsGrowing t) (few : length t.squares < 200) where
   grows_left side = record {
     accepted = record {
       few = omega (arith, length_append (map (moved_square t.height 0) t.squares) (square_at 0 0 t.height ∷ []), length_map (moved_square t.height 0) t.squares);
-      sides = all_joined (λ q. IsSide q.s) (map (moved_square t.height 0) t.squares) (square_at 0 0 t.height ∷ []) (sides_moved t.height 0) ((some_height, side), tt);
+      sides = all_append (λ q. IsSide q.s) (map (moved_square t.height 0) t.squares) (square_at 0 0 t.height ∷ []) (sides_moved t.height 0) ((some_height, side), tt);
       tiles = tiles_joined (sized (t.width + t.height) t.height) (beside t.height t.width t.height) (beside 0 t.height t.height) (map (moved_square t.height 0) t.squares) (square_at 0 0 t.height ∷ [])
           (right_part (t.width + t.height) t.height t.width t.height (omega arith)) (left_part (t.width + t.height) t.height t.width t.height (omega arith))
           (swapped (sized (t.width + t.height) t.height) (beside 0 t.height t.height) (beside t.height t.width t.height) (split_beside (t.width + t.height) t.height t.width t.height (omega arith)))
@@ -139,7 +140,7 @@ module _ (t : Tiling) (g : IsGrowing t) (few : length t.squares < 200) where
   grows_above side = record {
     accepted = record {
       few = omega (arith, length_append (map (moved_square 0 t.width) t.squares) (square_at 0 0 t.width ∷ []), length_map (moved_square 0 t.width) t.squares);
-      sides = all_joined (λ q. IsSide q.s) (map (moved_square 0 t.width) t.squares) (square_at 0 0 t.width ∷ []) (sides_moved 0 t.width) ((some_width, side), tt);
+      sides = all_append (λ q. IsSide q.s) (map (moved_square 0 t.width) t.squares) (square_at 0 0 t.width ∷ []) (sides_moved 0 t.width) ((some_width, side), tt);
       tiles = tiles_joined (sized t.width (t.height + t.width)) (stacked t.width t.width t.height) (stacked 0 t.width t.width) (map (moved_square 0 t.width) t.squares) (square_at 0 0 t.width ∷ [])
           (lower_part (t.height + t.width) t.width t.height t.width (omega arith)) (upper_part (t.height + t.width) t.width t.height t.width (omega arith))
           (swapped (sized t.width (t.height + t.width)) (stacked 0 t.width t.width) (stacked t.width t.width t.height) (split_stacked (t.height + t.width) t.width t.height t.width (omega arith)))

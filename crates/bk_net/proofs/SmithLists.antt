@@ -8,6 +8,7 @@ use Rattle.std.proofs.lemmas.Bool.Decides.{nat_tests}
 use Rattle.std.proofs.lemmas.Int.{ints}
 use Rattle.std.proofs.lemmas.List.Elements.{Contains-append_left, Contains-append_right}
 use Rattle.std.proofs.lemmas.List.Sums.{sum_by-append}
+use Rattle.bk_tiling.proofs.AllOfLists.{all_append}
 use Rattle.bk_tiling.proofs.Cells.{count-cons, covers_from, over_from}
 use Rattle.bk_tiling.proofs.Group.{covers_one}
 use Rattle.bk_tiling.proofs.ListLaws.{length_map, map_append}
@@ -109,13 +110,9 @@ wire_in below n (x ∷ groups) zero g q e h = Contains-append_left (map (λ q. (
     own (r ∷ g) (inr h) = let c = own g h in (suc c.0, omega (arith, c.1), c.2)
 wire_in below n (x ∷ groups) (suc k) g q e h = Contains-append_right (map (λ q. (n, below q)) x) (group_wires below (n + 1) groups) (n + suc k, below q) (subst (λ (v : ℕ). Contains {X = ℕ × ℕ} (group_wires below (n + 1) groups) (v, below q)) (omega arith) (wire_in below (n + 1) groups k g q e h))
 
-all_join : (P : ℕ × ℕ → Type 0) (ws vs : List (ℕ × ℕ)) → AllByRecursion P ws → AllByRecursion P vs → AllByRecursion P (ws ++ vs)
-all_join P [] vs a b = b
-all_join P (w ∷ ws) vs a b = (a.0, all_join P ws vs a.1 b)
-
 pub wires_each : (P : ℕ × ℕ → Type 0) (below : Square → ℕ) (n : ℕ) (groups : List (List Square)) → ((k : ℕ) (g : List Square) → slice_get groups k ≡ Some g → (q : Square) → IsOneOf q g → P (n + k, below q)) → AllByRecursion P (group_wires below n groups)
 wires_each P below n [] each = tt
-wires_each P below n (g ∷ groups) each = all_join P (map (λ q. (n, below q)) g) (group_wires below (n + 1) groups)
+wires_each P below n (g ∷ groups) each = all_append P (map (λ q. (n, below q)) g) (group_wires below (n + 1) groups)
     (own g (λ q h. subst (λ (v : ℕ). P (v, below q)) (omega arith) (each 0 g refl q h)))
     (wires_each P below (n + 1) groups (λ k h e q m. subst (λ (v : ℕ). P (v, below q)) (omega arith) (each (suc k) h e q m)))
   where

@@ -3,6 +3,7 @@ use Rattle.std.specs.List.{AllByRecursion}
 use Rattle.std.proofs.Common.{List, [], ap, arith, inl, inr, length, refl, subst, sym, ℕ, ◌++◌, ◌+◌, ◌<◌, ◌∙◌, ◌∷◌, ◌≡◌, ◌≤◌, ◌⊎◌}
 use Rattle.std.proofs.lemmas.Bool.{cases_lt}
 use Rattle.std.proofs.lemmas.List.{length-append}
+use Rattle.bk_tiling.proofs.AllOfLists.{all_append}
 use Rattle.bk_tiling.proofs.Group.{length_group}
 use Rattle.bk_tiling.specs.Column.{depth}
 use Rattle.bk_tiling.specs.Kept.{IsSide}
@@ -82,10 +83,6 @@ lays_length w laid [] end lays = omega (arith, ap length lays)
 lays_length w laid (group ∷ code) end (gap, is, fits, lays) =
     omega (arith, lays_length w (with_group laid gap group) code end lays, length-append laid (laid_group gap.x gap.level group), length_group gap.x gap.level group, length-append group (flat code))
 
-sides_append : (laid more : List Square) → AllByRecursion (λ q. IsSide q.s) laid → AllByRecursion (λ q. IsSide q.s) more → AllByRecursion (λ q. IsSide q.s) (laid ++ more)
-sides_append [] more a b = b
-sides_append (q ∷ laid) more a b = (a.0, sides_append laid more a.1 b)
-
 group_good : (x y : ℕ) (sides : List ℕ) → AllByRecursion IsSide sides → AllByRecursion (λ q. IsSide q.s) (laid_group x y sides)
 group_good x y [] good = tt
 group_good x y (s ∷ sides) good = (good.0, group_good (x + s) y sides good.1)
@@ -93,4 +90,4 @@ group_good x y (s ∷ sides) good = (good.0, group_good (x + s) y sides good.1)
 pub lays_sides : (w : ℕ) (laid : List Square) (code : Code) (end : List Square) → AllByRecursion IsSideGroup code → LaysTo w laid code end → AllByRecursion (λ q. IsSide q.s) laid → AllByRecursion (λ q. IsSide q.s) end
 lays_sides w laid [] end good lays sides = subst (AllByRecursion (λ q. IsSide q.s)) lays sides
 lays_sides w laid (group ∷ code) end good (gap, is, fits, lays) sides =
-    lays_sides w (with_group laid gap group) code end good.1 lays (sides_append laid (laid_group gap.x gap.level group) sides (group_good gap.x gap.level group good.0.1))
+    lays_sides w (with_group laid gap group) code end good.1 lays (all_append (λ q. IsSide q.s) laid (laid_group gap.x gap.level group) sides (group_good gap.x gap.level group good.0.1))

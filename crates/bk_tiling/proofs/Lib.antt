@@ -26,3 +26,4 @@ pub mod MovedSquares
 pub mod PairCounts
 pub mod GroupCount
 pub mod EnlargedTilings
+pub mod AllOfLists
