@@ -23,9 +23,6 @@ pub some_group : (squares : List Square) → 0 < length squares → 0 < length (
 some_group [] h = absurd (omega arith)
 some_group (q ∷ squares) h = groups_some q squares
 
-beside_level : (p q : Square) → stands_beside p q ≡ true → p.y ≡ q.y
-beside_level p q e = grind (arith, nat_tests)
-
 beside_column : (p q : Square) → stands_beside p q ≡ true → p.x + p.s ≡ q.x
 beside_column p q e = grind (arith, nat_tests)
 
