@@ -1,5 +1,6 @@
 -- A word line has one answer.
 use Rattle.std.proofs.Common.{Bool, List, [], ap, arith, false, inl, inr, length, refl, subst, sym, take, true, ℕ, ◌+◌, ◌-◌, ◌<◌, ◌∙◌, ◌∷◌, ◌≡◌, ◌≤◌, ◌⊎◌}
+use Rattle.std.proofs.lemmas.Bool.{cases_lt}
 use Rattle.std.specs.Prelude.{suc, zero}
 use Rattle.std.proofs.lemmas.List.{take-take, take_all}
 use Rattle.bk_grammar.specs.Grammar.{LineEnd}
@@ -30,16 +31,13 @@ legal_front o (m ∷ w) (suc k) h = (h.0, legal_front (after_move o m) w k h.1)
 not_illegal : (w : Word) (place : ℕ) → IsLegal w → IsFirstIllegal w place → ⊥
 not_illegal w place legal h = h.here (legal_front start_outline w place legal)
 
-two : (a b : ℕ) → (a < b) ⊎ (b ≤ a)
-two a b = grind arith
-
 not_sooner : (w : Word) (p q : ℕ) → IsFirstIllegal w p → IsFirstIllegal w q → p < q → ⊥
 not_sooner w p q a b less =
     let front : take p (take (q - 1) w) ≡ take p w = take-take p (q - 1) w (omega arith) in
     a.here (subst IsLegal front (legal_front start_outline (take (q - 1) w) p b.before))
 
 one_place : (w : Word) (p q : ℕ) → IsFirstIllegal w p → IsFirstIllegal w q → p ≡ q
-one_place w p q a b = cases (two p q) (two q p)
+one_place w p q a b = cases (cases_lt p q) (cases_lt q p)
   where
     cases : (p < q) ⊎ (q ≤ p) → (q < p) ⊎ (p ≤ q) → p ≡ q
     cases (inl h) k = absurd (not_sooner w p q a b h)

@@ -111,10 +111,6 @@ long_line Solve bytes long = word_too_long long
 pub skip_written : (command : CodeCommand) (item : Line) (a : Option (List ℕ)) → item ≡ Skip → IsWritten (AnswersItem command item) a a false
 skip_written command item a e = writes_none (AnswersItem command item) false a (skipped e)
 
--- the value of a result
-pub from_ok : {T E : Type 0} (P : T → Type 0) (r : Result T E) (x : T) → r ≡ Ok x → IfOk r P → P x
-from_ok P r x e = subst (λ s. IfOk s P) e
-
 pub from_err : {T E : Type 0} (P : E → Type 0) (r : Result T E) (x : E) → r ≡ Err x → IfErr r P → P x
 from_err P r x e = subst (λ s. IfErr s P) e
 

@@ -1,13 +1,13 @@
 -- A tiling is laid by its code, so its code is not refused.
 use Rattle.std.proofs.Common.{refl, subst, sym, ℕ, ◌≡◌}
 use Rattle.bk_tiling.specs.Tiling.{IsTiling, Tiling}
+use Rattle.bk_code.proofs.CodeOfTiling.{code_some}
 use Rattle.bk_code.specs.Code.{Code, code_of}
 use Rattle.bk_profile.proofs.CodeLaid.{no_misfit, not_open, width_is}
 use Rattle.bk_profile.proofs.CodeLaying.{a_code_is_laid}
 use Rattle.bk_profile.specs.Refused.{HasCode, IsRefused, first_sum}
 use Rattle.bk_profile.specs.declared.laying.Refusal.{Refusal}
 use Rattle.bk_profile.specs.declared.laying.Refusal.TheVariants.{Gap, Open}
-use Rattle.bk_report.proofs.Codes.{code_some}
 
 not_refused : (t : Tiling) (r : Refusal) → IsTiling t → IsRefused t.width (code_of t) r → ⊥
 not_refused t (Gap n gap total) tiling h = no_misfit t.width (code_of t) t.squares n gap total (a_code_is_laid t tiling) h

@@ -3,3 +3,4 @@ pub mod FlatList
 pub mod Storing
 pub mod GroupSteps
 pub mod CodesOrdered
+pub mod CodeOfTiling

@@ -3,6 +3,7 @@ use Rattle.std.specs.List.{AllByRecursion}
 use Rattle.std.proofs.Common.{List, [], ap, arith, drop, get_or, length, refl, subst, suc, sym, take, zero, ℕ, ◌++◌, ◌+◌, ◌-◌, ◌<◌, ◌∙◌, ◌∷◌, ◌≡◌, ◌≤◌}
 use Rattle.std.specs.Prelude.{slice_range}
 use Rattle.std.proofs.lemmas.List.{append-nil, append_assoc, drop-append-le, drop-drop, drop_at, length-append, length-drop, take-append-drop, take-append-le, take_all}
+use Rattle.bk_tiling.proofs.AllOfLists.{all_append}
 use Rattle.bk_tiling.specs.Kept.{IsSide}
 use Rattle.bk_tiling.specs.declared.TheConstants.{MOST_SQUARES}
 use Rattle.bk_code.specs.Code.{Code, flat, with_side}
@@ -206,10 +207,6 @@ group_good [] g good l = absurd (omega arith)
 group_good (group ∷ code) zero good l = good.0
 group_good (group ∷ code) (suc g) good l = group_good code g good.1 (omega arith)
 
-sides_append : (sides more : List ℕ) → AllByRecursion IsSide sides → AllByRecursion IsSide more → AllByRecursion IsSide (sides ++ more)
-sides_append [] more a b = b
-sides_append (s ∷ sides) more a b = (a.0, sides_append sides more a.1 b)
-
 pub flat_good : (code : Code) → AllByRecursion IsSideGroup code → AllByRecursion IsSide (flat code)
 flat_good [] good = tt
-flat_good (group ∷ code) good = sides_append group (flat code) good.0.1 (flat_good code good.1)
+flat_good (group ∷ code) good = all_append IsSide group (flat code) good.0.1 (flat_good code good.1)

@@ -1,8 +1,8 @@
 -- How the squares of a tiling meet at a point: by their corners, by their sides, or by their inside.
 use Rattle.std.proofs.Common.{Bool, List, [], arith, cond, count_by, false, inl, inr, refl, suc, true, zero, ℕ, ◌&&◌, ◌*◌, ◌+◌, ◌-◌, ◌<◌, ◌==◌, ◌∷◌, ◌≡◌, ◌≢◌, ◌≤◌, ◌⊎◌, nat_le, nat_lt}
 use Rattle.std.proofs.lemmas.Bool.Decides.{nat_tests}
-use Rattle.bk_tiling.proofs.Cells.{count-cons, none_counted, one_counted, over_from}
-use Rattle.bk_tiling.proofs.TilingLaws.{cell_once, side_of, within_of}
+use Rattle.bk_tiling.proofs.Cells.{count-cons, none_counted, one_counted}
+use Rattle.bk_tiling.proofs.TilingLaws.{cell_most, cell_once, side_of, within_of}
 use Rattle.bk_tiling.specs.Point.{is_at_edge, is_at_side, is_corner}
 use Rattle.bk_tiling.specs.Tiling.{IsOneOf, IsTiling, Tiling, covers}
 use Rattle.bk_tiling.specs.declared.Square.{Square}
@@ -143,25 +143,6 @@ module _ (t : Tiling) (tiling : IsTiling t) (other : Square → Bool) where
 
   pub none_among : count_by (λ q. other q && among 0 q) t.squares ≡ 0
   none_among = none_counted (λ q. other q && among 0 q) t.squares (λ q h e. no_among q (and_right_true (other q) (among 0 q) e))
-
--- no cell lies in two squares
-pub cell_most : (t : Tiling) → IsTiling t → (i j : ℕ) → count_by (covers i j) t.squares ≤ 1
-cell_most t tiling i j = cases (two i t.width) (two j t.height)
-  where
-    two : (a b : ℕ) → (a < b) ⊎ (b ≤ a)
-    two a b = grind arith
-
-    outside : (t.width ≤ i) ⊎ (t.height ≤ j) → count_by (covers i j) t.squares ≡ 0
-    outside far = none_counted (covers i j) t.squares (λ q h e. let o = over_from i j q e in let w = within_of t tiling q h in let r = w.right in let b = w.bottom in let c = o.right in let d = o.bottom in past far r b c d)
-      where
-        past : (t.width ≤ i) ⊎ (t.height ≤ j) → {a b : ℕ} → a ≤ 0 + t.width → b ≤ 0 + t.height → i < a → j < b → ⊥
-        past (inl h) a b c d = omega arith
-        past (inr h) a b c d = omega arith
-
-    cases : (i < t.width) ⊎ (t.width ≤ i) → (j < t.height) ⊎ (t.height ≤ j) → count_by (covers i j) t.squares ≤ 1
-    cases (inl a) (inl b) = omega (arith, cell_once t tiling i j a b)
-    cases (inr a) b = omega (arith, outside (inl a))
-    cases (inl a) (inr b) = omega (arith, outside (inr b))
 
 -- where four squares have a corner, one has its top left corner
 pub crossing_begins : (t : Tiling) → IsTiling t → (x y : ℕ) → count_by (is_corner x y) t.squares ≡ 4 → count_by (top_left x y) t.squares ≡ 1

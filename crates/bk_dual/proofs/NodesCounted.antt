@@ -1,21 +1,21 @@
 -- The nodes of a diagram and of its dual, counted by the corners of squares.
 use Rattle.std.specs.Cmp.{both_ways}
-use Rattle.std.proofs.Common.{Bool, List, [], ap, arith, cond, count_by, false, length, map, refl, sum_by, true, ℕ, ◌&&◌, ◌+◌, ◌<◌, ◌==◌, ◌∙◌, ◌∷◌, ◌≡◌}
+use Rattle.std.proofs.Common.{Bool, List, [], ap, arith, cond, count_by, length, map, refl, sum_by, ℕ, ◌&&◌, ◌+◌, ◌<◌, ◌==◌, ◌∙◌, ◌∷◌, ◌≡◌}
 use Rattle.std.proofs.lemmas.Bool.Decides.{nat_tests}
 use Rattle.std.proofs.lemmas.List.Sums.{sum_by-cons}
+use Rattle.bk_tiling.proofs.GroupCount.{AreLaid, groups_counted}
 use Rattle.bk_tiling.proofs.ListLaws.{length_map}
-use Rattle.bk_tiling.proofs.OrderLaws.{in_code_order-count, in_code_order-length}
-use Rattle.bk_tiling.proofs.TilingLaws.{cell_once, side_of, wide_enough}
-use Rattle.bk_tiling.specs.CodeOrder.{comes_before, in_code_order, stands_beside, with_square}
+use Rattle.bk_tiling.proofs.OrderLaws.{in_code_order-count, in_code_order-length, sum_ordered}
+use Rattle.bk_tiling.proofs.TilingLaws.{cell_most, cell_once, side_of, wide_enough}
+use Rattle.bk_tiling.specs.CodeOrder.{stands_beside}
 use Rattle.bk_tiling.specs.SquareGroups.{square_groups}
 use Rattle.bk_tiling.specs.Tiling.{IsTiling, Tiling}
 use Rattle.bk_tiling.specs.declared.Square.{Square}
 use Rattle.bk_sym.proofs.Images.{images_are_tilings}
 use Rattle.bk_sym.specs.Image.{image, image_square}
 use Rattle.bk_sym.specs.declared.Turn.TheVariants.{Swap}
-use Rattle.bk_dual.proofs.CornerCounts.{among, at_square, bottom_left, cell_most, none_among, none_between, on_left, on_top, over_here, top_left, top_right}
+use Rattle.bk_dual.proofs.CornerCounts.{among, at_square, bottom_left, none_among, none_between, on_left, on_top, over_here, top_left, top_right}
 use Rattle.bk_dual.proofs.CrossingCount.{crossings_at_squares}
-use Rattle.bk_dual.proofs.GroupCount.{AreLaid, groups_counted}
 use Rattle.bk_dual.proofs.PointSums.{sum_plus, sum_same, sum_same_in}
 use Rattle.bk_dual.specs.Dual.{is_crossing}
 use Rattle.bk_dual.specs.NodeSum.{NodesAndCrossings}
@@ -31,19 +31,6 @@ turned_beside_is w h p r = both_ways (stands_beside (image_square Swap w h p) (i
 
 count_same : (f g : Square → Bool) (squares : List Square) → ((q : Square) → f q ≡ g q) → count_by f squares ≡ count_by g squares
 count_same f g squares each = sum_same (λ q. cond {A = ℕ} (f q) 1 0) (λ q. cond {A = ℕ} (g q) 1 0) squares (λ q. ap (λ (b : Bool). cond {A = ℕ} b 1 0) (each q))
-
--- sums over squares put in order, and over images
-sum_with : (f : Square → ℕ) (q : Square) (squares : List Square) → sum_by f (with_square q squares) ≡ f q + sum_by f squares
-sum_with f q [] = sum_by-cons f q []
-sum_with f q (r ∷ squares) = cases (comes_before q r) (sum_with f q squares)
-  where
-    cases : (b : Bool) → sum_by f (with_square q squares) ≡ f q + sum_by f squares → sum_by f (cond b (q ∷ r ∷ squares) (r ∷ with_square q squares)) ≡ f q + sum_by f (r ∷ squares)
-    cases true e = sum_by-cons f q (r ∷ squares)
-    cases false e = omega (arith, sum_by-cons f r (with_square q squares), sum_by-cons f r squares, e)
-
-sum_ordered : (f : Square → ℕ) (squares : List Square) → sum_by f (in_code_order squares) ≡ sum_by f squares
-sum_ordered f [] = refl
-sum_ordered f (q ∷ squares) = omega (arith, sum_with f q (in_code_order squares), sum_ordered f squares, sum_by-cons f q squares)
 
 sum_map : (f : Square → ℕ) (g : Square → Square) (squares : List Square) → sum_by f (map g squares) ≡ sum_by (λ q. f (g q)) squares
 sum_map f g [] = refl

@@ -2,9 +2,10 @@
 use Rattle.std.specs.List.{position_or_len}
 use Rattle.std.specs.List.Sorted.{IsPartitionPoint}
 use Rattle.std.proofs.Common.{Bool, List, [], ap, arith, false, inl, inr, length, map, refl, slice_index_or, subst, suc, sym, true, zero, ℕ, ◌&&◌, ◌+◌, ◌-◌, ◌<◌, ◌==◌, ◌∙◌, ◌∷◌, ◌≡◌, ◌≤◌, ◌⊎◌}
+use Rattle.std.proofs.lemmas.Bool.{cases_lt}
 use Rattle.std.proofs.lemmas.Bool.Decides.{nat_tests}
 use Rattle.std.proofs.lemmas.List.Sums.{fails_before_first, passes_at_first, position_or_len_is}
-use Rattle.bk_tiling.proofs.Cells.{covers_from, in_all, not_both}
+use Rattle.bk_tiling.proofs.Cells.{covers_from, not_both}
 use Rattle.bk_tiling.proofs.Members.{one_at}
 use Rattle.bk_tiling.proofs.PuttingInOrder.{from_order, in_order}
 use Rattle.bk_tiling.proofs.TilingGroups.{one_there}
@@ -17,24 +18,10 @@ use Rattle.bk_sym.specs.Image.{image, image_square}
 use Rattle.bk_sym.specs.declared.Turn.TheVariants.{Swap}
 use Rattle.bk_net.specs.GroupNumbers.{is_no_later}
 use Rattle.std.specs.Prelude.{pos, ℤ, ◌-ℤ◌}
+use Rattle.bk_tiling.proofs.Places.{at_place, later_place}
 use Rattle.bk_net.specs.Diagram.{node_levels}
 use Rattle.bk_net.specs.SmithFlow.{smith_flow}
 use Rattle.bk_dual.specs.Dual.{dual_flow, dual_order, number_at, side_numbered}
-
-two : (a b : ℕ) → (a < b) ⊎ (b ≤ a)
-two a b = grind arith
-
-at_place : (squares : List Square) (q : Square) → IsOneOf q squares → (m : ℕ) × (m < length squares) × ((d : Square) → slice_index_or squares m d ≡ q)
-at_place [] q h = absurd h
-at_place (r ∷ squares) q (inl e) = (0, omega arith, λ d. sym e)
-at_place (r ∷ squares) q (inr h) = let found = at_place squares q h in (suc found.0, omega (arith, found.1), found.2)
-
-order_places : (squares : List Square) → InCodeOrder squares → (i j : ℕ) (d : Square) → i < j → j < length squares → comes_before (slice_index_or squares i d) (slice_index_or squares j d) ≡ true
-order_places [] o i j d a b = absurd (omega arith)
-order_places (q ∷ squares) o zero zero d a b = absurd (omega arith)
-order_places (q ∷ squares) o zero (suc j) d a b = in_all (λ r. comes_before q r ≡ true) squares o.0 (slice_index_or squares j d) (one_at squares j d (omega arith))
-order_places (q ∷ squares) o (suc i) zero d a b = absurd (omega arith)
-order_places (q ∷ squares) o (suc i) (suc j) d a b = order_places squares o.1 i j d (omega arith) (omega arith)
 
 -- whether a square stands at a place
 abbrev stands_at : ℕ → ℕ → Square → Bool
@@ -70,7 +57,7 @@ module _ (squares : List Square) (ordered : InCodeOrder squares) (q : Square) (o
         at = at;
         is = position_or_len_is (stands_at q.x q.y) squares m q (omega arith)
             (λ k below. earlier_stands_apart q (slice_index_or squares k q)
-            (subst (λ (r : Square). comes_before (slice_index_or squares k q) r ≡ true) (at q) (order_places squares ordered k m q below there)))
+            (subst (λ (r : Square). comes_before (slice_index_or squares k q) r ≡ true) (at q) (later_place squares ordered k m q below there)))
             (λ h. ap (stands_at q.x q.y) (at q) ∙ stands_itself q);
       }
 
@@ -80,12 +67,12 @@ module _ (squares : List Square) (ordered : InCodeOrder squares) (q : Square) (o
   counted k within parts = omega (arith, has_place.is, last)
     where
       last : k ≡ has_place.place + 1
-      last = by (two has_place.place k)
+      last = by (cases_lt has_place.place k)
         where
           by : (has_place.place < k) ⊎ (k ≤ has_place.place) → k ≡ has_place.place + 1
           by (inr late) = absurd (not_both (is_no_later q.x q.y (slice_index_or squares has_place.place q))
               (ap (is_no_later q.x q.y) (has_place.at q) ∙ no_later_itself q) (parts.1 has_place.place q late has_place.within))
-          by (inl soon) = more (two (has_place.place + 1) k)
+          by (inl soon) = more (cases_lt (has_place.place + 1) k)
             where
               more : (has_place.place + 1 < k) ⊎ (k ≤ has_place.place + 1) → k ≡ has_place.place + 1
               more (inr h) = omega arith
@@ -93,7 +80,7 @@ module _ (squares : List Square) (ordered : InCodeOrder squares) (q : Square) (o
                   (parts.0 (has_place.place + 1) q (omega arith) h)
                   (later_is_later q (slice_index_or squares (has_place.place + 1) q)
                   (subst (λ (r : Square). comes_before r (slice_index_or squares (has_place.place + 1) q) ≡ true) (has_place.at q)
-                  (order_places squares ordered has_place.place (has_place.place + 1) q (omega arith) (omega arith)))))
+                  (later_place squares ordered has_place.place (has_place.place + 1) q (omega arith) (omega arith)))))
 
 -- the square of the tiling that has an image
 pub from_image : (t : Tiling) (p : Square) → IsOneOf p (image Swap t).squares → IsOneOf (record { x = p.y; y = p.x; s = p.s }) t.squares
@@ -108,7 +95,7 @@ side_at (q ∷ squares) (suc m) d h = side_at squares m d (omega arith)
 
 -- where a square passes a test, the first place is one of the squares
 first_within : (test : Square → Bool) (squares : List Square) (q : Square) → IsOneOf q squares → test q ≡ true → position_or_len test squares < length squares
-first_within test squares q one e = by (two (position_or_len test squares) (length squares)) (at_place squares q one)
+first_within test squares q one e = by (cases_lt (position_or_len test squares) (length squares)) (at_place squares q one)
   where
     by : (position_or_len test squares < length squares) ⊎ (length squares ≤ position_or_len test squares) → (m : ℕ) × (m < length squares) × ((d : Square) → slice_index_or squares m d ≡ q) → position_or_len test squares < length squares
     by (inl h) at = h

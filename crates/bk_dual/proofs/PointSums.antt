@@ -1,8 +1,7 @@
 -- Sums over lists: of sums, of terms that are alike, and over numbers of which one counts.
 use Rattle.std.specs.List.{range_with_len}
-use Rattle.std.proofs.Common.{Bool, List, [], ap, arith, count_by, inl, inr, refl, suc, sum_by, zero, ℕ, ◌+◌, ◌<◌, ◌∷◌, ◌≡◌, ◌≢◌, ◌≤◌, ◌⊎◌}
+use Rattle.std.proofs.Common.{List, [], ap, arith, inl, inr, refl, suc, sum_by, zero, ℕ, ◌+◌, ◌<◌, ◌∷◌, ◌≡◌, ◌≢◌, ◌≤◌, ◌⊎◌}
 use Rattle.std.proofs.lemmas.List.Sums.{sum_by-cons}
-use Rattle.bk_tiling.proofs.Cells.{count-cons}
 use Rattle.bk_tiling.specs.Tiling.{IsOneOf}
 use Rattle.bk_tiling.specs.declared.Square.{Square}
 
@@ -22,26 +21,6 @@ sum_none f (x ∷ xs) each = omega (arith, sum_by-cons f x xs, each x, sum_none 
 pub sum_same_in : (f g : Square → ℕ) (squares : List Square) → ((q : Square) → IsOneOf q squares → f q ≡ g q) → sum_by f squares ≡ sum_by g squares
 sum_same_in f g [] each = refl
 sum_same_in f g (q ∷ squares) each = omega (arith, sum_by-cons f q squares, sum_by-cons g q squares, each q (inl refl), sum_same_in f g squares (λ r h. each r (inr h)))
-
--- the sum over pairs, either way round
-pub pairs_cons : (f : Square → Square → Bool) (q : Square) (ps rs : List Square)
-    → sum_by (λ p. count_by (f p) (q ∷ rs)) ps ≡ count_by (λ p. f p q) ps + sum_by (λ p. count_by (f p) rs) ps
-pairs_cons f q [] rs = refl
-pairs_cons f q (p ∷ ps) rs = omega (
-  arith,
-  sum_by-cons (λ p. count_by (f p) (q ∷ rs)) p ps,
-  sum_by-cons (λ p. count_by (f p) rs) p ps,
-  count-cons (λ p. f p q) p ps,
-  count-cons (f p) q rs,
-  pairs_cons f q ps rs,
-)
-
-pub pairs_turned : (f : Square → Square → Bool) (ps rs : List Square) → sum_by (λ p. count_by (f p) rs) ps ≡ sum_by (λ r. count_by (λ p. f p r) ps) rs
-pairs_turned f ps [] = none ps
-  where
-    none : (ps : List Square) → sum_by (λ p. count_by (f p) []) ps ≡ 0
-    none ps = sum_none (λ p. count_by (f p) []) ps (λ p. refl)
-pairs_turned f ps (r ∷ rs) = omega (arith, pairs_cons f r ps rs, pairs_turned f ps rs, sum_by-cons (λ r. count_by (λ p. f p r) ps) r rs)
 
 -- over numbers of which at most one counts
 none_after : (f : ℕ → ℕ) (k a n : ℕ) → k < a → ((j : ℕ) → j ≢ k → f j ≡ 0) → sum_by f (range_with_len a n) ≡ 0

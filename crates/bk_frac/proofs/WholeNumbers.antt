@@ -92,7 +92,7 @@ quotient_is g z w some e = cancel_left g (int_div z (pos g)) w some (exact g z d
     divides : g ∣ nat_abs z
     divides = subst (λ (n : ℕ). g ∣ n) (sym (abs-mul g w) ∙ ap nat_abs e) (dvd-mul_right g (nat_abs w))
 
-neg-abs : (n : ℕ) → nat_abs (neg_ℤ (pos n)) ≡ n
+pub neg-abs : (n : ℕ) → nat_abs (neg_ℤ (pos n)) ≡ n
 neg-abs zero = refl
 neg-abs (suc n) = refl
 

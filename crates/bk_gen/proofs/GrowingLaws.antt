@@ -1,12 +1,14 @@
 -- A rectangle that grows stays tiled.
 use Rattle.std.specs.List.{AllByRecursion}
-use Rattle.std.proofs.Common.{Bool, List, [], arith, cond, false, inl, inr, length, map, nat_le, refl, subst, suc, sym, true, zero, zero-add, ℕ, ◌%◌, ◌+◌, ◌<◌, ◌^◌, ◌∷◌, ◌≡◌, ◌≤◌, ◌⊎◌}
+use Rattle.std.proofs.Common.{Bool, List, [], arith, cond, false, inl, inr, length, map, refl, subst, suc, sym, true, zero, zero-add, ℕ, ◌%◌, ◌+◌, ◌<◌, ◌^◌, ◌∷◌, ◌≡◌, ◌≤◌, ◌⊎◌}
 use Rattle.std.specs.Prelude.{IsPermutation}
-use Rattle.std.proofs.lemmas.Bool.{le-leb}
+use Rattle.std.proofs.lemmas.Bool.{le-leb, cases_lt, lt-leb}
 use Rattle.std.proofs.lemmas.List.Elements.{All-from_recursion}
-use Rattle.std.proofs.lemmas.Bool.Decides.{nat_tests}
+use Rattle.bk_tiling.proofs.AllOfLists.{all_append}
 use Rattle.bk_tiling.proofs.Cells.{all_from, in_all}
+use Rattle.bk_tiling.proofs.JoinedParts.{HasCell, IsPart, Splits, tiles_alone, tiles_joined}
 use Rattle.bk_tiling.proofs.ListLaws.{length_append, length_map}
+use Rattle.bk_tiling.proofs.MovedSquares.{all_moved, moved_rectangle, tiles_moved}
 use Rattle.bk_tiling.proofs.OneRefusal.{kept_from, tiles_apart, tiles_cells}
 use Rattle.bk_tiling.proofs.Refusing.{IsSortedByPlace, sorted_in_order}
 use Rattle.bk_tiling.proofs.Sizes.{most_height, most_width}
@@ -18,8 +20,6 @@ use Rattle.bk_tiling.specs.Tiling.{IsOneOf, IsWithin, Rectangle, Tiles, Tiling}
 use Rattle.bk_tiling.specs.declared.Square.{Square}
 use Rattle.bk_gen.specs.Attaching.{attached, goes_up_or_down, is_set, next_side, with_above, with_below, with_left, with_next, with_right}
 use Rattle.bk_gen.specs.Growing.{IsGrowing}
-use Rattle.bk_gen.proofs.Joining.{HasCell, IsPart, Splits, all_joined, tiles_alone, tiles_joined}
-use Rattle.bk_gen.proofs.MovedSquares.{all_moved, moved_rectangle, tiles_moved}
 
 -- with its squares in order it is what a `Tiling` keeps
 pub kept_in_order : (t : Tiling) → IsGrowing t → IsKept (record t { squares = in_code_order t.squares })
@@ -39,9 +39,6 @@ growing_height t g = most_height (record t { squares = in_code_order t.squares }
 abbrev square_at : ℕ → ℕ → ℕ → Square
 square_at x y s = record { x = x; y = y; s = s }
 
-two : (a b : ℕ) → (a < b) ⊎ (b ≤ a)
-two a b = grind arith
-
 -- two rectangles side by side, the left one of width a
 abbrev beside : ℕ → ℕ → ℕ → Rectangle
 beside x a h = record { x = x; y = 0; width = a; height = h }
@@ -58,7 +55,7 @@ module _ (n a b h : ℕ) (sum : n ≡ a + b) where
   right_part = record { left = omega arith; right = omega arith; top = omega arith; bottom = omega arith }
 
   split_beside : Splits (sized n h) (beside 0 a h) (beside a b h)
-  split_beside i j has = cases (two i a)
+  split_beside i j has = cases (cases_lt i a)
     where
       cases : (i < a) ⊎ (a ≤ i) → (HasCell (beside 0 a h) i j × (HasCell (beside a b h) i j → ⊥)) ⊎ ((HasCell (beside 0 a h) i j → ⊥) × HasCell (beside a b h) i j)
       cases (inl l) = inl (record { left = omega arith; right = omega arith; top = omega arith; bottom = omega (arith, has.bottom) }, λ no. omega (arith, no.left))
@@ -71,7 +68,7 @@ module _ (n a b h : ℕ) (sum : n ≡ a + b) where
   lower_part = record { left = omega arith; right = omega arith; top = omega arith; bottom = omega arith }
 
   split_stacked : Splits (sized h n) (stacked 0 h a) (stacked a h b)
-  split_stacked i j has = cases (two j a)
+  split_stacked i j has = cases (cases_lt j a)
     where
       cases : (j < a) ⊎ (a ≤ j) → (HasCell (stacked 0 h a) i j × (HasCell (stacked a h b) i j → ⊥)) ⊎ ((HasCell (stacked 0 h a) i j → ⊥) × HasCell (stacked a h b) i j)
       cases (inl l) = inl (record { left = omega arith; right = omega (arith, has.right); top = omega arith; bottom = omega arith }, λ no. omega (arith, no.top))
@@ -95,7 +92,7 @@ module _ (t : Tiling) (g : IsGrowing t) (few : length t.squares < 200) where
   grows_right side = record {
     accepted = record {
       few = omega (arith, length_append t.squares (square_at t.width 0 t.height ∷ []));
-      sides = all_joined (λ q. IsSide q.s) t.squares (square_at t.width 0 t.height ∷ []) (g.accepted).sides ((some_height, side), tt);
+      sides = all_append (λ q. IsSide q.s) t.squares (square_at t.width 0 t.height ∷ []) (g.accepted).sides ((some_height, side), tt);
       tiles = tiles_joined (sized (t.width + t.height) t.height) (beside 0 t.width t.height) (beside t.width t.height t.height) t.squares (square_at t.width 0 t.height ∷ [])
           (left_part (t.width + t.height) t.width t.height t.height refl) (right_part (t.width + t.height) t.width t.height t.height refl) (split_beside (t.width + t.height) t.width t.height t.height refl) (g.accepted).tiles (tiles_alone (square_at t.width 0 t.height) some_height);
     };
@@ -107,7 +104,7 @@ module _ (t : Tiling) (g : IsGrowing t) (few : length t.squares < 200) where
   grows_below side = record {
     accepted = record {
       few = omega (arith, length_append t.squares (square_at 0 t.height t.width ∷ []));
-      sides = all_joined (λ q. IsSide q.s) t.squares (square_at 0 t.height t.width ∷ []) (g.accepted).sides ((some_width, side), tt);
+      sides = all_append (λ q. IsSide q.s) t.squares (square_at 0 t.height t.width ∷ []) (g.accepted).sides ((some_width, side), tt);
       tiles = tiles_joined (sized t.width (t.height + t.width)) (stacked 0 t.width t.height) (stacked t.height t.width t.width) t.squares (square_at 0 t.height t.width ∷ [])
           (upper_part (t.height + t.width) t.height t.width t.width refl) (lower_part (t.height + t.width) t.height t.width t.width refl) (split_stacked (t.height + t.width) t.height t.width t.width refl) (g.accepted).tiles (tiles_alone (square_at 0 t.height t.width) some_width);
     };
@@ -128,7 +125,7 @@ module _ (t : Tiling) (g : IsGrowing t) (few : length t.squares < 200) where
   grows_left side = record {
     accepted = record {
       few = omega (arith, length_append (map (moved_square t.height 0) t.squares) (square_at 0 0 t.height ∷ []), length_map (moved_square t.height 0) t.squares);
-      sides = all_joined (λ q. IsSide q.s) (map (moved_square t.height 0) t.squares) (square_at 0 0 t.height ∷ []) (sides_moved t.height 0) ((some_height, side), tt);
+      sides = all_append (λ q. IsSide q.s) (map (moved_square t.height 0) t.squares) (square_at 0 0 t.height ∷ []) (sides_moved t.height 0) ((some_height, side), tt);
       tiles = tiles_joined (sized (t.width + t.height) t.height) (beside t.height t.width t.height) (beside 0 t.height t.height) (map (moved_square t.height 0) t.squares) (square_at 0 0 t.height ∷ [])
           (right_part (t.width + t.height) t.height t.width t.height (omega arith)) (left_part (t.width + t.height) t.height t.width t.height (omega arith))
           (swapped (sized (t.width + t.height) t.height) (beside 0 t.height t.height) (beside t.height t.width t.height) (split_beside (t.width + t.height) t.height t.width t.height (omega arith)))
@@ -143,7 +140,7 @@ module _ (t : Tiling) (g : IsGrowing t) (few : length t.squares < 200) where
   grows_above side = record {
     accepted = record {
       few = omega (arith, length_append (map (moved_square 0 t.width) t.squares) (square_at 0 0 t.width ∷ []), length_map (moved_square 0 t.width) t.squares);
-      sides = all_joined (λ q. IsSide q.s) (map (moved_square 0 t.width) t.squares) (square_at 0 0 t.width ∷ []) (sides_moved 0 t.width) ((some_width, side), tt);
+      sides = all_append (λ q. IsSide q.s) (map (moved_square 0 t.width) t.squares) (square_at 0 0 t.width ∷ []) (sides_moved 0 t.width) ((some_width, side), tt);
       tiles = tiles_joined (sized t.width (t.height + t.width)) (stacked t.width t.width t.height) (stacked 0 t.width t.width) (map (moved_square 0 t.width) t.squares) (square_at 0 0 t.width ∷ [])
           (lower_part (t.height + t.width) t.width t.height t.width (omega arith)) (upper_part (t.height + t.width) t.width t.height t.width (omega arith))
           (swapped (sized t.width (t.height + t.width)) (stacked 0 t.width t.width) (stacked t.width t.width t.height) (split_stacked (t.height + t.width) t.width t.height t.width (omega arith)))
@@ -184,15 +181,12 @@ next_length v i t = cases (goes_up_or_down v i) (is_set v (i % 64))
     cases false true = omega (arith, length_append (map (moved_square t.height 0) t.squares) (square_at 0 0 t.height ∷ []), length_map (moved_square t.height 0) t.squares)
     cases false false = omega (arith, length_append t.squares (square_at t.width 0 t.height ∷ []))
 
-pub no_leb : (a b : ℕ) → b < a → nat_le a b ≡ false
-no_leb a b less = grind (arith, nat_tests)
-
 pub grows_on : (n v i : ℕ) (t : Tiling) → IsGrowing t → length t.squares + n ≤ 200 → IsGrowing (attached n v i t)
 grows_on zero v i t g few = g
-grows_on (suc n) v i t g few = cases (two 999_999_999_999_999 (next_side v i t))
+grows_on (suc n) v i t g few = cases (cases_lt 999_999_999_999_999 (next_side v i t))
     (λ side. grows_on n v (i + 1) (with_next v i t) (grows_next v i t g (omega arith) side) (omega (arith, next_length v i t)))
   where
     cases : (999_999_999_999_999 < next_side v i t) ⊎ (next_side v i t ≤ 999_999_999_999_999) → (next_side v i t ≤ 999_999_999_999_999 → IsGrowing (attached n v (i + 1) (with_next v i t)))
         → IsGrowing (attached (suc n) v i t)
-    cases (inl more) rest = subst (λ (b : Bool). IsGrowing (cond b (attached n v (i + 1) (with_next v i t)) t)) (sym (no_leb (next_side v i t) 999_999_999_999_999 more)) g
+    cases (inl more) rest = subst (λ (b : Bool). IsGrowing (cond b (attached n v (i + 1) (with_next v i t)) t)) (sym (lt-leb (next_side v i t) 999_999_999_999_999 more)) g
     cases (inr side) rest = subst (λ (b : Bool). IsGrowing (cond b (attached n v (i + 1) (with_next v i t)) t)) (sym (le-leb (next_side v i t) 999_999_999_999_999 side)) (rest side)

@@ -1,5 +1,3 @@
-pub mod Joining
-pub mod MovedSquares
 pub mod GrowingLaws
 pub mod TrialExamples
 pub mod SampleLaws

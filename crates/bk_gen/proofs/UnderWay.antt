@@ -1,10 +1,10 @@
 -- Squares attached turn by turn.
 use Rattle.std.proofs.Common.{Bool, ap, arith, cond, length, refl, suc, sym, zero, ℕ, ◌+◌, ◌-◌, ◌<◌, ◌∙◌, ◌≡◌, ◌≤◌}
-use Rattle.std.proofs.lemmas.Bool.{le-leb}
+use Rattle.std.proofs.lemmas.Bool.{le-leb, lt-leb}
 use Rattle.bk_tiling.specs.Tiling.{Tiling}
 use Rattle.bk_gen.specs.Attaching.{attached, next_side, with_next}
 use Rattle.bk_gen.specs.TrialCodes.{first_rectangle}
-use Rattle.bk_gen.proofs.GrowingLaws.{next_length, no_leb}
+use Rattle.bk_gen.proofs.GrowingLaws.{next_length}
 
 -- the turns that are left lead from the rectangle as it is now to what all turns lead to from the first one
 pub record IsUnderWay (v end turn : ℕ) (first now : Tiling) : Type 0 where
@@ -25,7 +25,7 @@ attach_more (suc n) v i t some side =
 
 attach_stop : (n v i : ℕ) (t : Tiling) → 999_999_999_999_999 < next_side v i t → attached n v i t ≡ t
 attach_stop zero v i t more = refl
-attach_stop (suc n) v i t more = ap (λ (b : Bool). cond b (attached n v (i + 1) (with_next v i t)) t) (no_leb (next_side v i t) 999_999_999_999_999 more)
+attach_stop (suc n) v i t more = ap (λ (b : Bool). cond b (attached n v (i + 1) (with_next v i t)) t) (lt-leb (next_side v i t) 999_999_999_999_999 more)
 
 pub under_way_more : (v end turn : ℕ) (first now : Tiling) → turn < end → next_side v turn now ≤ 999_999_999_999_999 → IsUnderWay v end turn first now
     → IsUnderWay v end (turn + 1) first (with_next v turn now)

@@ -3,3 +3,4 @@ pub mod NumberLaws
 pub mod NumbersRead
 pub mod FirstByte
 pub mod Leaving
+pub mod BlankBytes

@@ -1,11 +1,12 @@
 -- Digits that were read one by one are a number.
 use Rattle.std.specs.Char.{digit_value}
-use Rattle.std.specs.Prelude.{List, [], length, suc, zero, ℕ, ◌*◌, ◌+◌, ◌<◌, ◌^◌, ◌∷◌, ◌≡◌, ◌≢◌, ◌≤◌, ◌⊎◌}
+use Rattle.std.specs.Prelude.{List, [], length, suc, zero, ℕ, ◌*◌, ◌+◌, ◌<◌, ◌^◌, ◌∷◌, ◌≡◌, ◌≢◌, ◌≤◌}
 use Rattle.std.specs.Str.Parse.{AllDigits, digits_value_after}
 use Rattle.std.proofs.lemmas.Int.Digits.{digits_value-lt}
 use Rattle.std.proofs.lemmas.Str.Parse.{digit_from_value}
 use Rattle.std.proofs.Common.{ap, arith, inl, inr, subst, sym, ◌∙◌}
 use Rattle.std.proofs.Math.Nat.{pow-le-pow_right}
+use Rattle.std.proofs.lemmas.Bool.{cases_lt}
 use Rattle.std.proofs.lemmas.Grind.{pow_more}
 use Rattle.std.proofs.lemmas.Str.{digit_value_digit}
 use Rattle.bk_grammar.specs.Grammar.{Number}
@@ -37,14 +38,11 @@ grows v (d ∷ ds) =
 pub powers : (i j : ℕ) → i ≤ j → 10 ^ i ≤ 10 ^ j
 powers i j h = pow-le-pow_right {n = 10} (omega arith) {i = i} {j = j} h
 
-two : (a b : ℕ) → (a < b) ⊎ (b ≤ a)
-two a b = grind arith
-
 -- a first digit but 0, and digits that end a number which isn't too great
 pub number_read : (most greatest b d n : ℕ) (ds : List ℕ) → greatest < 10 ^ most → d ≤ greatest → 0 < d → d < 10 → b ≡ 48 + d → Longer greatest d n ds → Number most n (b ∷ ds)
 number_read most greatest b d n ds bound fits some small is longer =
     let value : digit_value b ≡ d = value_of_digit d b small is in
-    let few : length ds < most = elim (two (length ds) most) [
+    let few : length ds < most = elim (cases_lt (length ds) most) [
       | inl h ↦ h
       | inr h ↦ absurd (omega (arith, grows d ds, at_least d (10 ^ length ds) some, powers most (length ds) h, longer.1, longer.2 fits))
     ] in

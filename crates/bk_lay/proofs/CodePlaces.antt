@@ -1,35 +1,14 @@
 -- Squares in code order, cut where squares with given corners would stand.
 use Rattle.std.specs.List.{AllWithin}
-use Rattle.std.proofs.Common.{Bool, List, [], ap, arith, cond, count_by, drop, false, filter, get_or, inl, inr, length, refl, slice_range, subst, suc, sym, take, true, zero, ℕ, ◌-◌, ◌<◌, ◌∙◌, ◌∷◌, ◌≡◌, ◌≤◌, ◌⊎◌}
+use Rattle.std.proofs.Common.{Bool, List, [], ap, arith, cond, count_by, drop, false, filter, inl, inr, length, refl, slice_range, suc, sym, take, true, zero, ℕ, ◌-◌, ◌∙◌, ◌∷◌, ◌≡◌, ◌≤◌, ◌⊎◌}
 use Rattle.std.proofs.lemmas.Bool.Decides.{nat_tests}
 use Rattle.bk_tiling.proofs.Cells.{count-cons, in_all, none_counted, not_both, true_or_false}
-use Rattle.bk_tiling.proofs.Members.{one_at}
+use Rattle.bk_tiling.proofs.OrderLaws.{comes_before-trans}
 use Rattle.bk_tiling.specs.CodeOrder.{InCodeOrder, comes_before}
 use Rattle.bk_tiling.specs.Tiling.{IsOneOf}
 use Rattle.bk_tiling.specs.declared.Square.{Square}
 use Rattle.bk_lay.specs.LevelRuns.{begins_under, corner}
 use Rattle.bk_lay.specs.declared.outline.Run.{Run}
-
--- one before a square that comes before a corner does so too
-before_all : (q r c : Square) → comes_before q r ≡ true → comes_before r c ≡ true → comes_before q c ≡ true
-before_all q r c a b = grind (arith, nat_tests)
-
-later_place : (squares : List Square) → InCodeOrder squares → (i j : ℕ) (d : Square) → i < j → j < length squares → comes_before (get_or squares i d) (get_or squares j d) ≡ true
-later_place [] o i j d h k = absurd (omega arith)
-later_place (q ∷ squares) o i zero d h k = absurd (omega arith)
-later_place (q ∷ squares) o zero (suc j) d h k = in_all (λ r. comes_before q r ≡ true) squares o.0 (get_or squares j d) (one_at squares j d (omega arith))
-later_place (q ∷ squares) o (suc i) (suc j) d h k = later_place squares o.1 i j d (omega arith) (omega arith)
-
--- what `partition_point` asks
-pub parted_at : (squares : List Square) (c : Square) → InCodeOrder squares → (i j : ℕ) (d : Square) → i ≤ j → j < length squares → comes_before (get_or squares j d) c ≡ true → comes_before (get_or squares i d) c ≡ true
-parted_at squares c o i j d h k e = cases (two i j h)
-  where
-    two : (i j : ℕ) → i ≤ j → (i ≡ j) ⊎ (i < j)
-    two i j h = grind arith
-
-    cases : (i ≡ j) ⊎ (i < j) → comes_before (get_or squares i d) c ≡ true
-    cases (inl same) = subst (λ (k : ℕ). comes_before (get_or squares k d) c ≡ true) (sym same) e
-    cases (inr less) = before_all (get_or squares i d) (get_or squares j d) c (later_place squares o i j d less k) e
 
 -- where the first i pass a test and the others fail it, i pass it
 pub count_of_front : (p : Square → Bool) (squares : List Square) (i : ℕ) → i ≤ length squares → AllWithin (λ q. p q ≡ true) squares 0 i → AllWithin (λ q. p q ≡ false) squares i (length squares) → i ≡ count_by p squares
@@ -90,7 +69,7 @@ module _ (r : Run) (order : r.x ≤ r.end) where
     where
       none : (s : Square) → IsOneOf s (q ∷ squares) → comes_before s c ≡ true → ⊥
       none s (inl same) f = not_both (comes_before s c) f (ap (λ (s : Square). comes_before s c) same ∙ e)
-      none s (inr k) f = not_both (comes_before q c) (before_all q s c (in_all (λ s. comes_before q s ≡ true) squares o.0 s k) f) e
+      none s (inr k) f = not_both (comes_before q c) (comes_before-trans q s c (in_all (λ s. comes_before q s ≡ true) squares o.0 s k) f) e
 
   none_under : (squares : List Square) → ((s : Square) → IsOneOf s squares → begins_under r s ≡ false) → filter (begins_under r) squares ≡ []
   none_under [] none = refl
@@ -140,5 +119,5 @@ module _ (r : Run) (order : r.x ≤ r.end) where
           none s (inr k) = later (true_or_false (comes_before s (corner r.end r.level)))
             where
               later : (comes_before s (corner r.end r.level) ≡ true) ⊎ (comes_before s (corner r.end r.level) ≡ false) → begins_under r s ≡ false
-              later (inl g) = absurd (not_both (comes_before q (corner r.end r.level)) (before_all q s (corner r.end r.level) (in_all (λ s. comes_before q s ≡ true) squares o.0 s k) g) f)
+              later (inl g) = absurd (not_both (comes_before q (corner r.end r.level)) (comes_before-trans q s (corner r.end r.level) (in_all (λ s. comes_before q s ≡ true) squares o.0 s k) g) f)
               later (inr g) = hangs_no_more s g

@@ -1,6 +1,7 @@
 -- The squares of a tiling under the leftmost valley of what is laid fill it, and what is laid then fills the tiling
 -- from the top again.
 use Rattle.std.proofs.Common.{List, [], arith, count_by, inl, inr, length, subst, suc, sym, true, ℕ, ◌++◌, ◌+◌, ◌-◌, ◌<◌, ◌∷◌, ◌≡◌, ◌≤◌, ◌⊎◌}
+use Rattle.std.proofs.lemmas.Bool.{cases_lt}
 use Rattle.std.proofs.lemmas.Bool.Decides.{nat_tests}
 use Rattle.std.proofs.lemmas.List.Sums.{sum_by-append}
 use Rattle.bk_tiling.proofs.Cells.{IsOver, all_from, column_from, column_left, column_right, count-filter, counted_one, covers_from, depth_comes_from, depth_reaches, from_append, from_filter, in_all, in_filter, no_two, none_counted, one_counted, over_from}
@@ -123,13 +124,10 @@ module _ (t : Tiling) (laid : List Square) (v : Segment) (tiling : IsTiling t) (
 
   -- over a cell above the new depth there is one square of those laid then
   filled : (c j : ℕ) → c < t.width → j < depth (laid ++ squares_under t v) c → count_by (covers c j) (laid ++ squares_under t v) ≡ 1
-  filled c j wide deep = cases (either j (depth laid c))
+  filled c j wide deep = cases (cases_lt j (depth laid c))
     where
       split : count_by (covers c j) (laid ++ squares_under t v) ≡ count_by (covers c j) laid + count_by (covers c j) (squares_under t v)
       split = sum_by-append _ laid (squares_under t v)
-
-      either : (a b : ℕ) → (a < b) ⊎ (b ≤ a)
-      either a b = grind arith
 
       -- an old cell: none of the new squares lies over it
       none_new : j < depth laid c → (q : Square) → IsOneOf q (squares_under t v) → covers c j q ≡ true → ⊥

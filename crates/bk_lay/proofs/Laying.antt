@@ -2,6 +2,7 @@
 -- the new depth of its columns.
 use Rattle.std.specs.List.{AllByRecursion}
 use Rattle.std.proofs.Common.{Bool, List, [], ap, arith, cond, false, filter, inl, inr, refl, sym, true, ℕ, ◌++◌, ◌+◌, ◌<◌, ◌∙◌, ◌∷◌, ◌≡◌, ◌≤◌, ◌⊎◌}
+use Rattle.std.proofs.lemmas.Bool.{cases_lt}
 use Rattle.std.proofs.lemmas.Bool.Decides.{nat_tests}
 use Rattle.bk_tiling.proofs.Cells.{column_from, column_left, column_right, counted_one, covers_from, depth-append, depth_comes_from, depth_reaches, from_append, in_all, in_filter, no_two, over_from}
 use Rattle.bk_tiling.proofs.Rows.{Chain}
@@ -45,11 +46,8 @@ module _ (level end : ℕ) where
     apart : (q r : Square) → IsOneOf q squares → IsOneOf r squares → (c : ℕ) → q.x ≤ c → c < q.x + q.s → r.x ≤ c → c < r.x + r.s → q ≡ r
 
   chain : (squares : List Square) (x : ℕ) → x ≤ end → Row x squares → Chain x squares end
-  chain [] x h row = cases (two x end)
+  chain [] x h row = cases (cases_lt x end)
     where
-      two : (a b : ℕ) → (a < b) ⊎ (b ≤ a)
-      two a b = grind arith
-
       cases : (x < end) ⊎ (end ≤ x) → x ≡ end
       cases (inl k) = let there = row.over x (omega arith) k in absurd there.1
       cases (inr k) = omega arith

@@ -2,7 +2,7 @@
 -- and the runs beside the valley meet the runs under them.
 use Rattle.std.proofs.Common.{Bool, List, [], ap, arith, cond, false, filter, inl, inr, length, nat_lt, refl, subst, sym, true, ℕ, ◌++◌, ◌+◌, ◌-◌, ◌<◌, ◌∙◌, ◌∷◌, ◌≡◌, ◌≤◌, ◌⊎◌}
 use Rattle.std.proofs.lemmas.Bool.Decides.{nat_tests}
-use Rattle.bk_tiling.proofs.Cells.{covers_from, true_or_false}
+use Rattle.bk_tiling.proofs.Cells.{covers_from, filter_same, true_or_false}
 use Rattle.bk_tiling.proofs.ListLaws.{append_assoc, append_nil, length_append}
 use Rattle.bk_tiling.proofs.Rows.{Chain}
 use Rattle.bk_tiling.proofs.TilingLaws.{side_of}
@@ -19,10 +19,6 @@ use Rattle.bk_lay.specs.LevelRuns.{FallingRuns, IsFallingRun, IsOutline, IsRun, 
 use Rattle.bk_lay.specs.TilingWord.{IsLeftmostValley, MovesFollow, bottoms, depth_before, depth_from, hangs_under, squares_under}
 use Rattle.bk_lay.specs.declared.outline.Outline.{Outline}
 use Rattle.bk_lay.specs.declared.outline.Run.{Run}
-
-filter_same : (p q : Square → Bool) (squares : List Square) → ((s : Square) → IsOneOf s squares → p s ≡ q s) → filter p squares ≡ filter q squares
-filter_same p q [] same = refl
-filter_same p q (s ∷ squares) same = (λ i. cond (same s (inl refl) i) (s ∷ filter_same p q squares (λ u k. same u (inr k)) i) (filter_same p q squares (λ u k. same u (inr k)) i))
 
 last_level_is : (front : List Run) (r : Run) → last_level (front ++ r ∷ []) ≡ r.level ∷ []
 last_level_is [] r = refl

@@ -11,10 +11,10 @@ use Rattle.bk_tiling.specs.Column.{AreRuns, IsLevel, depth}
 use Rattle.bk_tiling.specs.declared.Segment.{Segment}
 use Rattle.bk_tiling.specs.Tiling.{IsOneOf, IsTiling, Tiling}
 use Rattle.bk_tiling.specs.declared.Square.{Square}
+use Rattle.bk_word.proofs.PlayLists.{parts_filter}
 use Rattle.bk_word.specs.Outline.{IsLegalMove, Outline, has_left_wall, has_right_wall, open_side, valley_of, valley_place}
 use Rattle.bk_word.specs.Play.{after_move, joined, numbers_from, parts, segments_apart, signs_apart}
 use Rattle.bk_word.specs.declared.Sign.{Sign}
-use Rattle.bk_word.specs.declared.Sign.TheVariants.{Above, Even, Under}
 use Rattle.bk_lay.proofs.Depicting.{FirstIs, LastIs, left_count, right_count, signs_new, some_signs}
 use Rattle.bk_lay.proofs.Filling.{IsUnder, in_tiling, is_under, valley_is_filled}
 use Rattle.bk_lay.proofs.Joining.{Joined, join, levels}
@@ -31,7 +31,7 @@ zip_append R [] ys (u ∷ us) vs a b = absurd a
 zip_append R (x ∷ xs) ys [] vs a b = absurd a
 zip_append R (x ∷ xs) ys (u ∷ us) vs a b = (a.0, zip_append R xs ys us vs a.1 b)
 
-zip_map : {A B : Type 0} (R S : A → B → Type 0) → ((x : A) (u : B) → R x u → S x u) → (xs : List A) (us : List B) → AllZip R xs us → AllZip S xs us
+pub zip_map : {A B : Type 0} (R S : A → B → Type 0) → ((x : A) (u : B) → R x u → S x u) → (xs : List A) (us : List B) → AllZip R xs us → AllZip S xs us
 zip_map R S f [] [] a = tt
 zip_map R S f [] (u ∷ us) a = absurd a
 zip_map R S f (x ∷ xs) [] a = absurd a
@@ -44,7 +44,7 @@ zip_length R (x ∷ xs) [] z = absurd z
 zip_length R (x ∷ xs) (y ∷ ys) z = ap suc (zip_length R xs ys z.1)
 
 -- what stands before, at and after a place
-zip_before : {A B : Type 0} (R : A → B → Type 0) (xs : List A) (x : A) (ys : List A) (us : List B) → AllZip R (xs ++ x ∷ ys) us → AllZip R xs (take (length xs) us)
+pub zip_before : {A B : Type 0} (R : A → B → Type 0) (xs : List A) (x : A) (ys : List A) (us : List B) → AllZip R (xs ++ x ∷ ys) us → AllZip R xs (take (length xs) us)
 zip_before R [] x ys us z = tt
 zip_before R (w ∷ xs) x ys [] z = absurd z
 zip_before R (w ∷ xs) x ys (u ∷ us) z = (z.0, zip_before R xs x ys us z.1)
@@ -55,7 +55,7 @@ zip_at R [] x ys (u ∷ us) d z = z.0
 zip_at R (w ∷ xs) x ys [] d z = absurd z
 zip_at R (w ∷ xs) x ys (u ∷ us) d z = zip_at R xs x ys us d z.1
 
-zip_after : {A B : Type 0} (R : A → B → Type 0) (xs : List A) (x : A) (ys : List A) (us : List B) → AllZip R (xs ++ x ∷ ys) us → AllZip R ys (drop (suc (length xs)) us)
+pub zip_after : {A B : Type 0} (R : A → B → Type 0) (xs : List A) (x : A) (ys : List A) (us : List B) → AllZip R (xs ++ x ∷ ys) us → AllZip R ys (drop (suc (length xs)) us)
 zip_after R [] x ys [] z = absurd z
 zip_after R [] x ys (u ∷ us) z = z.1
 zip_after R (w ∷ xs) x ys [] z = absurd z
@@ -84,11 +84,11 @@ one_of (r ∷ squares) zero q e = inl (inside r q e)
     inside r q f = cc
 one_of (r ∷ squares) (suc k) q e = inr (one_of squares k q e)
 
-span_more : (laid more : List Square) (level x : ℕ) (numbers : List ℕ) (end : ℕ) → Span laid level x numbers end → Span (laid ++ more) level x numbers end
+pub span_more : (laid more : List Square) (level x : ℕ) (numbers : List ℕ) (end : ℕ) → Span laid level x numbers end → Span (laid ++ more) level x numbers end
 span_more laid more level x [] end s = s
 span_more laid more level x (n ∷ numbers) end s = (s.0, ((s.1).0, (s.1).1, get_append laid more (s.1).0 s.0 (s.1).2), s.2, s.3, span_more laid more level (x + (s.0).s) numbers end s.4)
 
-segment_more : (laid more : List Square) (v : Segment) (numbers : List ℕ) → IsSegment laid v numbers → IsSegment (laid ++ more) v numbers
+pub segment_more : (laid more : List Square) (v : Segment) (numbers : List ℕ) → IsSegment laid v numbers → IsSegment (laid ++ more) v numbers
 segment_more laid more v numbers (inl s) = inl (span_more laid more v.level v.x numbers (v.x + v.width) s)
 segment_more laid more v numbers (inr s) = inr s
 
@@ -96,30 +96,20 @@ hangs_more : (nodes more : List Segment) (q : Square) (node : ℕ) → Hangs nod
 hangs_more nodes more q node h = (h.0, get_append nodes more node h.0 h.1, h.2, h.3, h.4)
 
 -- the run of columns under a square
-abbrev run_of : Square → Segment
+abbrev pub run_of : Square → Segment
 run_of q = record { x = q.x; width = q.s; level = q.y + q.s }
 
 -- each new square is a segment of its own
-new_segments : (laid front : List Square) (squares : List Square) → laid ≡ front ++ squares → (n : ℕ) → n ≡ length front → AllZip (IsSegment laid) (map run_of squares) (map (λ q. q ∷ []) (numbers_from (n + 1) (length squares)))
+pub new_segments : (laid front : List Square) (squares : List Square) → laid ≡ front ++ squares → (n : ℕ) → n ≡ length front → AllZip (IsSegment laid) (map run_of squares) (map (λ q. q ∷ []) (numbers_from (n + 1) (length squares)))
 new_segments laid front [] is n e = tt
 new_segments laid front (q ∷ squares) is n e = (inl (q, (n, omega arith, at), refl, refl, refl), new_segments laid (front ++ q ∷ []) squares (is ∙ sym (append_assoc front (q ∷ []) squares)) (n + 1) (omega (arith, length_append front (q ∷ []))))
   where
     at : slice_get laid n ≡ Some q
     at = (λ i. slice_get (is i) (e i)) ∙ get_last front q squares
 
-parts_filter : (signs : List Sign) → AllByRecursion (λ sign. parts sign ≡ true) (filter parts signs)
-parts_filter [] = tt
-parts_filter (Above ∷ signs) = (refl, parts_filter signs)
-parts_filter (Even ∷ signs) = parts_filter signs
-parts_filter (Under ∷ signs) = (refl, parts_filter signs)
-
-new_levels : (squares : List Square) → levels (map run_of squares) ≡ map (λ q. q.y + q.s) squares
+pub new_levels : (squares : List Square) → levels (map run_of squares) ≡ map (λ q. q.y + q.s) squares
 new_levels [] = refl
 new_levels (q ∷ squares) = ap (λ ls. (q.y + q.s) ∷ ls) (new_levels squares)
-
-numbers-length : (n k : ℕ) → length (numbers_from n k) ≡ k
-numbers-length n zero = refl
-numbers-length n (suc k) = ap suc (numbers-length (n + 1) k)
 
 module _ (t : Tiling) (laid : List Square) (v : Segment) (tiling : IsTiling t) (fills : FillsFromTop t laid) (found : IsLeftmostValley t.width laid v) (low : v.level < t.height) where
   -- runs beside the valley stay level

@@ -61,7 +61,7 @@ leftmost_by_falling width laid v valley falls = record { valley = valley; leftmo
     at u other (inl h) = h
     at u other (inr h) = let some = (other.flat).some in absurd (no_valley_before width laid v valley falls u other (u.x + u.width - 1) (omega arith) h)
 
-segment_path : (v u : Segment) → v.x ≡ u.x → v.width ≡ u.width → v.level ≡ u.level → v ≡ u
+pub segment_path : (v u : Segment) → v.x ≡ u.x → v.width ≡ u.width → v.level ≡ u.level → v ≡ u
 segment_path v u a b c = λ i. record { x = a i; width = b i; level = c i }
 
 not_wider : (width : ℕ) (laid : List Square) (v u : Segment) → IsValley width laid v → IsValley width laid u → v.x ≡ u.x → v.level ≡ u.level → v.width < u.width → ⊥

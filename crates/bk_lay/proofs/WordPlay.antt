@@ -2,7 +2,6 @@
 use Rattle.std.specs.List.{AllByRecursion}
 use Rattle.std.proofs.Common.{Bool, List, [], ap, arith, cond, count_by, false, inl, inr, length, map, refl, subst, suc, sym, true, ℕ, ◌++◌, ◌+◌, ◌<◌, ◌∙◌, ◌∷◌, ◌≡◌, ◌≤◌, ◌⊎◌}
 use Rattle.std.proofs.lemmas.Bool.Decides.{nat_tests}
-use Rattle.std.proofs.lemmas.List.Sums.{sum_by-cons}
 use Rattle.bk_tiling.proofs.Cells.{column_from, count-cons, counted_one, covers_from, depth_reaches, in_all, no_two, one_counted}
 use Rattle.bk_tiling.proofs.ListLaws.{length_append}
 use Rattle.bk_tiling.proofs.TilingLaws.{wide_enough, within_of}
@@ -10,6 +9,7 @@ use Rattle.bk_tiling.specs.Column.{AreRuns, IsLevel, depth}
 use Rattle.bk_tiling.specs.declared.Segment.{Segment}
 use Rattle.bk_tiling.specs.Tiling.{IsOneOf, IsTiling, Tiling, covers}
 use Rattle.bk_tiling.specs.declared.Square.{Square}
+use Rattle.bk_word.proofs.StoredBytes.{order_more}
 use Rattle.bk_word.specs.Outline.{IsLegalMove, Outline, start}
 use Rattle.bk_word.specs.Play.{AreLegalFrom, IsComplete, after_move, after_moves, parts}
 use Rattle.bk_word.specs.Word.{Move, Word, order_of}
@@ -79,7 +79,7 @@ record Ends (t : Tiling) (before : ℕ) (o : Outline) (w : Word) : Type 0 where
   long : length laid ≡ before + order_of w
 
 pub order-cons : (m : Move) (w : Word) → order_of (m ∷ w) ≡ m.count + order_of w
-order-cons m w = sum_by-cons (λ m. m.count) m w
+order-cons m w = order_more m w
 
 ends : (t : Tiling) → IsTiling t → (laid : List Square) (nodes : List Segment) (o : Outline) (w : Word) → FillsFromTop t laid → Depicts t laid nodes o → MovesFollow t laid w → Ends t (length laid) o w
 ends t tiling laid nodes o [] fills depicts p = record { legal = tt; laid = laid; fills = fills; full = p; nodes = nodes; depicts = depicts; long = omega arith }
@@ -99,7 +99,7 @@ ends t tiling laid nodes o (m ∷ w) fills depicts p = onto (ends t tiling (laid
       full = e.full;
       nodes = e.nodes;
       depicts = e.depicts;
-      long = omega (arith, e.long, length_append laid (squares_under t p.0), order-cons m w, count);
+      long = omega (arith, e.long, length_append laid (squares_under t p.0), order_more m w, count);
     }
 
 even_of : (m n : ℕ) → m ≡ n → sign_between m n ≡ Even

@@ -1,5 +1,6 @@
 -- Every tiling has a word: there is a leftmost valley at each turn, and each turn lays a square.
 use Rattle.std.proofs.Common.{List, [], ap, arith, inl, inr, refl, subst, suc, sym, zero, ℕ, ◌++◌, ◌+◌, ◌-◌, ◌<◌, ◌∙◌, ◌∷◌, ◌≡◌, ◌≤◌, ◌⊎◌}
+use Rattle.std.proofs.lemmas.Bool.{cases_lt}
 use Rattle.bk_tiling.proofs.Cells.{column_from, depth-append, depth_comes_from, depth_reaches, in_all}
 use Rattle.bk_tiling.proofs.TilingLaws.{wide_enough, within_of}
 use Rattle.bk_tiling.specs.Column.{IsLevel, depth}
@@ -176,22 +177,16 @@ module _ (t : Tiling) (tiling : IsTiling t) where
   moves_from : (fuel : ℕ) (laid : List Square) → FillsFromTop t laid → full t.height t.width ≤ total laid t.width + fuel → (w : Word) × MovesFollow t laid w
   moves_from zero laid fills enough = last (there_is_a_valley t.width laid (wide_enough t tiling))
     where
-      two : (a b : ℕ) → (a < b) ⊎ (b ≤ a)
-      two a b = grind arith
-
       last : ((v : Segment) × IsLeftmostValley t.width laid v × NeverDeeperBefore laid v) → (w : Word) × MovesFollow t laid w
-      last found = cases (two (found.0).level t.height)
+      last found = cases (cases_lt (found.0).level t.height)
         where
           cases : ((found.0).level < t.height) ⊎ (t.height ≤ (found.0).level) → (w : Word) × MovesFollow t laid w
           cases (inl low) = absurd (omega (arith, rises laid fills found.0 found.1 low, total_most t.height (laid ++ squares_under t found.0) (most (laid ++ squares_under t found.0) (valley_is_filled t laid found.0 tiling fills found.1 low).1) t.width))
           cases (inr high) = ([], all_full laid fills found.0 found.1 high)
   moves_from (suc fuel) laid fills enough = last (there_is_a_valley t.width laid (wide_enough t tiling)) (moves_from fuel)
     where
-      two : (a b : ℕ) → (a < b) ⊎ (b ≤ a)
-      two a b = grind arith
-
       last : ((v : Segment) × IsLeftmostValley t.width laid v × NeverDeeperBefore laid v) → ((laid : List Square) → FillsFromTop t laid → full t.height t.width ≤ total laid t.width + fuel → (w : Word) × MovesFollow t laid w) → (w : Word) × MovesFollow t laid w
-      last found rest = cases (two (found.0).level t.height)
+      last found rest = cases (cases_lt (found.0).level t.height)
         where
           cases : ((found.0).level < t.height) ⊎ (t.height ≤ (found.0).level) → (w : Word) × MovesFollow t laid w
           cases (inr high) = ([], all_full laid fills found.0 found.1 high)

@@ -1,14 +1,13 @@
 -- Lines that are answered one after another.
-use Rattle.std.proofs.Common.{◌≡◌, ℕ, ◌+◌, ◌<◌, Bool, true, false, ◌||◌, ◌==◌, List, [], ◌∷◌, ◌++◌, length, take, map, Option, Some, None, Result, Ok, Err, IfOk, IfErr, refl, sym, ap, ◌∙◌, subst, arith}
+use Rattle.std.proofs.Common.{◌≡◌, ℕ, ◌<◌, Bool, true, false, ◌||◌, ◌==◌, List, [], ◌∷◌, ◌++◌, length, map, Option, Some, None, Result, Ok, Err, IfOk, IfErr, refl, sym, ap, ◌∙◌, subst, arith}
 use Rattle.std.specs.List.{concat}
 use Rattle.std.specs.Io.KnownBytes.{Appends, Keeps}
 use Rattle.std.proofs.lemmas.Bool.{true≢false}
 use Rattle.std.proofs.lemmas.List.{append_assoc, append-nil}
 use Rattle.std.proofs.lemmas.Grind.{flat_map-append}
 use Rattle.std.proofs.lemmas.List.Folds.{list_any-append}
-use Rattle.std.proofs.Math.Seq.{take-append-add}
 use Rattle.bk_ports.specs.Causes.{AppendsPrefix}
-use Rattle.bk_ports.proofs.KnownSteps.{appends_more}
+use Rattle.bk_ports.proofs.KnownSteps.{appends_more, prefix_after}
 use Rattle.bk_lines.specs.Lines.{kept_front, last_line}
 use Rattle.bk_lines.specs.Reply.{Reply, AreReplies, reply_text, is_refused, text_of, some_refused}
 use Rattle.bk_lines.specs.Answer.{IsWritten, IsBegun, IsWanting, IsStopped}
@@ -26,10 +25,6 @@ kept_appends : (a b : Option (List ℕ)) → Keeps a b → Appends a b []
 kept_appends None b k = tt
 kept_appends (Some xs) None k = absurd k
 kept_appends (Some xs) (Some ys) k = k ∙ sym (append-nil xs)
-
--- a write that failed after a whole one
-prefix_after : (a b c : Option (List ℕ)) (xs ys : List ℕ) → Appends a b xs → AppendsPrefix b c ys → AppendsPrefix a c (xs ++ ys)
-prefix_after a b c xs ys p q = (length xs + q.0, appends_more a b c xs (take q.0 ys) (take (length xs + q.0) (xs ++ ys)) p q.1 (take-append-add xs ys q.0))
 
 or_false : (b : Bool) → (b || false) ≡ b
 or_false true = refl

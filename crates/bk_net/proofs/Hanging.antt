@@ -4,6 +4,7 @@ use Rattle.std.specs.Prelude.{not}
 use Rattle.std.proofs.Common.{Bool, List, [], ap, arith, cond, drop, false, get_or, length, map, refl, suc, sym, take, true, zero, ℕ, ◌++◌, ◌+◌, ◌-◌, ◌<◌, ◌∙◌, ◌∷◌, ◌≡◌, ◌≤◌}
 use mathlib.Core.Bool.{true≢false}
 use Rattle.std.proofs.lemmas.List.{drop_more, length-append, length-take-le, take-append-drop, take_more}
+use Rattle.bk_tiling.proofs.GroupCount.{groups_some}
 use Rattle.bk_tiling.proofs.ListLaws.{append_assoc, append_nil, map_append}
 use Rattle.bk_tiling.specs.CodeOrder.{begins_group, stands_beside}
 use Rattle.bk_tiling.specs.SquareGroups.{square_groups}
@@ -34,15 +35,6 @@ before_next true false p q (g ∷ []) some = refl
 before_next false false p q (g ∷ []) some = refl
 before_next true false p q (g ∷ h ∷ groups) some = refl
 before_next false false p q (g ∷ h ∷ groups) some = refl
-
-before_some : (b : Bool) (p : Square) (groups : List (List Square)) → 0 < length (before b p groups)
-before_some true p [] = omega arith
-before_some true p (g ∷ groups) = omega arith
-before_some false p groups = omega arith
-
-pub groups_some : (q : Square) (squares : List Square) → 0 < length (square_groups (q ∷ squares))
-groups_some q [] = omega arith
-groups_some q (r ∷ squares) = before_some (stands_beside q r) q (square_groups (r ∷ squares))
 
 -- the square after some others
 groups_next : (squares : List Square) (q : Square) (rest : List Square) → square_groups (squares ++ q ∷ []) ≡ with_next (begins_group (squares ++ q ∷ rest) (length squares)) (square_groups squares) q
@@ -184,10 +176,6 @@ groups_few (q ∷ r ∷ squares) = put (stands_beside q r) (square_groups (r ∷
     put true [] few some = omega arith
     put true (g ∷ groups) few some = omega arith
     put false groups few some = omega arith
-
-pub some_group : (squares : List Square) → 0 < length squares → 0 < length (square_groups squares)
-some_group [] h = absurd (omega arith)
-some_group (q ∷ squares) h = groups_some q squares
 
 -- the same, with how many there are of each
 pub record AreKnown (squares : List Square) (i : ℕ) (levels nodes : List ℕ) (groups : ℕ) : Type 0 where

@@ -1,6 +1,7 @@
 -- Nodes that are joined by wires, and their labels.
 use Rattle.std.specs.Prelude.{List, slice_index, slice_index_or}
 use Rattle.std.proofs.Common.{Bool, [], ap, arith, cond, false, inl, inr, length, nat_eq, refl, subst, suc, sym, true, zero, ℕ, ◌+◌, ◌-◌, ◌<◌, ◌∙◌, ◌∷◌, ◌≡◌, ◌≢◌, ◌≤◌, ◌⊎◌}
+use Rattle.std.proofs.lemmas.Bool.{cases_lt}
 use Rattle.std.proofs.lemmas.Bool.Decides.{nat_tests}
 use Rattle.bk_net.specs.Labels.{AreLabels, EndsBelow, IsRelabelled, relabelled}
 use Rattle.bk_net.specs.Net.{HasNoLoose, IsJoined, IsLeastLoose, IsLoose, Net, against, along, here}
@@ -42,11 +43,8 @@ module _ (nodes : ℕ) (wires : List (ℕ × ℕ)) (before after : List ℕ) (do
           equal a b e = grind (arith, nat_tests)
 
   new_closed : (k : ℕ) (d : ℕ × ℕ) → k < done + 1 → slice_index after (slice_index_or wires k d).0 ≡ slice_index after (slice_index_or wires k d).1
-  new_closed k d h = cases (two k done)
+  new_closed k d h = cases (cases_lt k done)
     where
-      two : (k done : ℕ) → (k < done) ⊎ (done ≤ k)
-      two k done = grind arith
-
       cases : (k < done) ⊎ (done ≤ k) → slice_index after (slice_index_or wires k d).0 ≡ slice_index after (slice_index_or wires k d).1
       cases (inl old) = let e = ends k d (omega (arith, below)) in
           each_node (slice_index_or wires k d).0 e.0 ∙ ap (relabelled (slice_index before w.0) (slice_index before w.1)) (are.closed k d old) ∙ sym (each_node (slice_index_or wires k d).1 e.1)
@@ -84,11 +82,8 @@ module _ (net : Net) (labels : List ℕ) (are : AreLabels net.nodes net.wires la
   one_joined u v a b e = joined_on net.wires (subst (IsJoined net.wires u) e (are.joined u a)) (joined_back net.wires (are.joined v b))
 
   pub least : (v : ℕ) → v < net.nodes → 0 < net.nodes → ((u : ℕ) → u < v → slice_index labels u ≡ slice_index labels (net.nodes - 1)) → slice_index labels v ≢ slice_index labels (net.nodes - 1) → IsLeastLoose net v
-  least v h some before differ = ((h, λ j. differ (one_label j)), λ u loose. cases u loose (two u v))
+  least v h some before differ = ((h, λ j. differ (one_label j)), λ u loose. cases u loose (cases_lt u v))
     where
-      two : (u v : ℕ) → (u < v) ⊎ (v ≤ u)
-      two u v = grind arith
-
       cases : (u : ℕ) → IsLoose net u → (u < v) ⊎ (v ≤ u) → v ≤ u
       cases u loose (inl l) = absurd (loose.1 (one_joined u (net.nodes - 1) loose.0 (omega arith) (before u l)))
       cases u loose (inr l) = l

@@ -4,6 +4,7 @@ use Rattle.std.specs.Prelude.{List, None, Option, Some, [], if◌then◌else◌,
 use Rattle.std.proofs.Common.{Bool, ap, append_assoc, arith, false, inl, inr, ltb-true, refl, subst, sym, true, ◌∙◌}
 use Rattle.std.proofs.lemmas.Bool.{and_parts}
 use Rattle.std.proofs.lemmas.List.{append-nil}
+use Rattle.bk_grammar.proofs.FirstByte.{blank_first}
 use Rattle.bk_grammar.specs.Grammar.{Blanks, IsBlank, LineEnd, ◌then◌}
 use Rattle.bk_net.specs.Gathered.{and_wire}
 use Rattle.bk_net.specs.NetLine.{IsNetLine, Item, NetLine, NodeNumber, Skip, Wire, Wires}
@@ -53,12 +54,9 @@ NextRest (Some q) ws l bs = RestOf q ws l bs
 
 -- ---- one byte
 
-blank_before : (Rest : List ℕ → Type 0) (b : ℕ) (bs : List ℕ) → IsBlank b → (Blanks then Rest) bs → (Blanks then Rest) (b ∷ bs)
-blank_before Rest b bs blank (a, x, e, blanks, rest) = (b ∷ a, x, ap (λ (z : List ℕ). b ∷ z) e, (blank, blanks), rest)
-
 -- a blank ends a number, and with it the number of nodes or a wire
 blank_ends : (n : ℕ) (ws : List (ℕ × ℕ)) (l : NetLine) (b : ℕ) (bs : List ℕ) → IsBlank b → BetweenRest n ws l bs → WiresRest n ws l (b ∷ bs)
-blank_ends n ws l b bs blank ([], end, is) = ([], ([], b ∷ bs, refl, refl, blank_before _ b bs blank end), is)
+blank_ends n ws l b bs blank ([], end, is) = ([], ([], b ∷ bs, refl, refl, blank_first _ b bs blank end), is)
 blank_ends n ws l b bs blank (w ∷ more, (a, x, e, blanks, (t, y, f, wire, (s, z, g, wires, end))), is) = (
   w ∷ more,
   (
@@ -105,8 +103,8 @@ start_digit d ws l b bs e small (n, ds, rest, is, goes, (more, wires, meant)) no
     ([], b ∷ bs, refl, tt, (b ∷ ds, rest, ap (λ (z : List ℕ). b ∷ z) is, first_digit d b n ds e small goes, wires))
 
 start_blank : (ws : List (ℕ × ℕ)) (l : NetLine) (b : ℕ) (bs : List ℕ) → IsBlank b → RestOf Start ws l bs → RestOf Start ws l (b ∷ bs)
-start_blank ws Skip b bs blank h none = blank_before _ b bs blank (h none)
-start_blank ws (Item n more) b bs blank h none = blank_before _ b bs blank (h none)
+start_blank ws Skip b bs blank h none = blank_first _ b bs blank (h none)
+start_blank ws (Item n more) b bs blank h none = blank_first _ b bs blank (h none)
 
 between_digit : (n d : ℕ) (ws : List (ℕ × ℕ)) (l : NetLine) (b : ℕ) (bs : List ℕ) → digit_value b ≡ d → digit_value b < 10 → RestOf (First n d) ws l bs → BetweenRest n ws l (b ∷ bs)
 between_digit n d ws l b bs e small (a, ds, rest, is, goes, (others, dash, (c, text, more_bytes, f, number, (more, (s, z, g, wires, end), meant)))) = (
@@ -128,8 +126,8 @@ between_digit n d ws l b bs e small (a, ds, rest, is, goes, (others, dash, (c, t
 )
 
 between_blank : (n : ℕ) (ws : List (ℕ × ℕ)) (l : NetLine) (b : ℕ) (bs : List ℕ) → IsBlank b → BetweenRest n ws l bs → BetweenRest n ws l (b ∷ bs)
-between_blank n ws l b bs blank ([], end, is) = ([], blank_before _ b bs blank end, is)
-between_blank n ws l b bs blank (w ∷ more, rest, is) = (w ∷ more, blank_before _ b bs blank rest, is)
+between_blank n ws l b bs blank ([], end, is) = ([], blank_first _ b bs blank end, is)
+between_blank n ws l b bs blank (w ∷ more, rest, is) = (w ∷ more, blank_first _ b bs blank rest, is)
 
 between_comment : (n : ℕ) (ws : List (ℕ × ℕ)) (l : NetLine) (b : ℕ) (bs : List ℕ) → b ≡ 59 → l ≡ Item n ws → BetweenRest n ws l (b ∷ bs)
 between_comment n ws l b bs e is = ([], ([], b ∷ bs, refl, tt, inr (bs, ap (λ (c : ℕ). c ∷ bs) e)), is ∙ ap (Item n) (sym (append-nil ws)))

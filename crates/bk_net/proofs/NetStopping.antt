@@ -1,9 +1,8 @@
 -- Where the reader of a network line stops, and that it stops right there.
-use Rattle.std.specs.Prelude.{List, None, Option, Some, [], codes, drop, length, option_and_then, refl, suc, take, ℕ, ◌++◌, ◌<◌, ◌∷◌, ◌≡◌, ◌≤◌}
-use Rattle.std.proofs.Common.{ap, append_assoc, arith, get_or, inl, inr, subst, sym, ◌∙◌}
-use Rattle.std.proofs.Math.Seq.{take-suc}
-use Rattle.std.proofs.lemmas.Bool.{cases_lt}
-use Rattle.std.proofs.lemmas.List.{append-nil, take-append-drop, take-take, take_all}
+use Rattle.std.specs.Prelude.{List, None, Option, Some, [], codes, length, option_and_then, refl, take, ℕ, ◌++◌, ◌<◌, ◌∷◌, ◌≡◌}
+use Rattle.std.proofs.Common.{ap, append_assoc, get_or, sym, ◌∙◌}
+use Rattle.std.proofs.lemmas.List.{append-nil}
+use Rattle.bk_grammar.proofs.Leaving.{leaves_at_end, leaves_before}
 use Rattle.bk_grammar.specs.Longest.{Begins}
 use Rattle.bk_net.specs.Gathered.{and_wire}
 use Rattle.bk_net.specs.NetLine.{IsNetLine, IsNoNetLine, NetLine, SomeNetLine}
@@ -54,29 +53,10 @@ no_more front p ws b x leads none (l, line) =
     let stopped : read (b ∷ x) p ws ≡ None = ap (λ next. option_and_then (λ q. read x q (and_wire (ended_wire p (kind_of b)) ws)) next) none in
     absurd (cc)
 
-begins_shorter : (Grammar : List ℕ → Type 0) (bs more : List ℕ) → Begins Grammar (bs ++ more) → Begins Grammar bs
-begins_shorter Grammar bs more (rest, h) = (more ++ rest, subst Grammar (append_assoc bs more rest) h)
-
 -- the bytes leave the grammar where the reader has no place for the next one
 pub stops_at : (bs : List ℕ) (at : ℕ) (p : Place) (ws : List (ℕ × ℕ)) → at < length bs → Leads (take at bs) p ws → next_place p (kind_of (get_or bs at 0)) ≡ None → IsNoNetLine bs at
 stops_at bs at p ws within leads none =
-    let byte : ℕ = get_or bs at 0 in
-    let front : take (suc at) bs ≡ take at bs ++ byte ∷ [] = take-suc bs at 0 within in
-    let whole : bs ≡ take at bs ++ byte ∷ drop (suc at) bs = sym (take-append-drop (suc at) bs) ∙ ap (λ z. z ++ drop (suc at) bs) front ∙ append_assoc (take at bs) (byte ∷ []) (drop (suc at) bs) in (
-      λ h. no_more (take at bs) p ws byte (drop (suc at) bs) leads none (subst SomeNetLine whole h),
-      record { inside = omega arith; begins = begins (take at bs) p ws leads; longest = λ longer few h. longest front longer few h },
-    )
-  where
-    longest : take (suc at) bs ≡ take at bs ++ get_or bs at 0 ∷ [] → (longer : ℕ) → longer ≤ length bs → Begins SomeNetLine (take longer bs) → longer ≤ at
-    longest front longer few h = elim (cases_lt at longer) [
-      | inl above ↦ (
-          let cut : take longer bs ≡ take (suc at) bs ++ drop (suc at) (take longer bs) =
-          sym (take-append-drop (suc at) (take longer bs)) ∙ ap (λ z. z ++ drop (suc at) (take longer bs)) (take-take (suc at) longer bs above) in
-          let shorter : Begins SomeNetLine (take at bs ++ get_or bs at 0 ∷ []) =
-          subst (Begins SomeNetLine) front (begins_shorter SomeNetLine (take (suc at) bs) (drop (suc at) (take longer bs)) (subst (Begins SomeNetLine) cut h)) in
-          absurd (no_more (take at bs) p ws (get_or bs at 0) shorter.0 leads none (subst SomeNetLine (append_assoc (take at bs) (get_or bs at 0 ∷ []) shorter.0) shorter.1)))
-      | inr below ↦ below
-    ]
+    leaves_before SomeNetLine bs at within (begins (take at bs) p ws leads) (λ x. no_more (take at bs) p ws (get_or bs at 0) x leads none)
 
 -- at the end of the bytes the reader has read what the place and the wires tell
 pub read_whole : (bs : List ℕ) (p : Place) (ws : List (ℕ × ℕ)) → Leads bs p ws → read bs Start [] ≡ line_at (ending_at p) (and_wire (last_wire p) ws)
@@ -84,13 +64,13 @@ read_whole bs p ws leads = ap (λ z. read z Start []) (sym (append-nil bs)) ∙ 
 
 -- bytes that end where no line may end leave the grammar at their end
 pub stops_at_end : (bs : List ℕ) (p : Place) (ws : List (ℕ × ℕ)) → Leads bs p ws → ending_at p ≡ None → IsNoNetLine bs (length bs)
-stops_at_end bs p ws leads none = (
-  λ (l, line).
-      let read' : read [] p ws ≡ Some l = sym (read_whole bs p ws leads) ∙ line_is_read l bs line in
-      let stopped : read [] p ws ≡ None = ap (λ e. line_at e (and_wire (last_wire p) ws)) none in
-      absurd (cc),
-  record { inside = omega arith; begins = subst (Begins SomeNetLine) (sym (take_all (length bs) bs (omega arith))) (begins bs p ws leads); longest = λ longer few h. few },
-)
+stops_at_end bs p ws leads none = leaves_at_end SomeNetLine bs (begins bs p ws leads) no_line
+  where
+    no_line : ¬ (SomeNetLine bs)
+    no_line (l, line) =
+        let read' : read [] p ws ≡ Some l = sym (read_whole bs p ws leads) ∙ line_is_read l bs line in
+        let stopped : read [] p ws ≡ None = ap (λ e. line_at e (and_wire (last_wire p) ws)) none in
+        absurd (cc)
 
 -- a network line stands for one thing only
 pub one_meaning : (bs : List ℕ) (l m : NetLine) → IsNetLine l bs → IsNetLine m bs → l ≡ m

@@ -3,12 +3,14 @@
 use Rattle.std.specs.List.Sorted.{IsPartitionPoint, IsPartitionedBy}
 use Rattle.std.specs.Prelude.{slice_index}
 use Rattle.std.proofs.Common.{Bool, List, [], ap, arith, cond, count_by, false, inl, inr, length, map, nat_eq, refl, slice_index_or, subst, suc, sym, take, true, zero, ℕ, ◌&&◌, ◌++◌, ◌+◌, ◌-◌, ◌<◌, ◌∙◌, ◌∷◌, ◌≡◌, ◌≢◌, ◌≤◌, ◌⊎◌}
+use Rattle.std.proofs.lemmas.Bool.{cases_lt}
 use Rattle.std.proofs.lemmas.Bool.Decides.{nat_tests}
 use Rattle.std.proofs.lemmas.List.{take_more}
-use Rattle.bk_tiling.proofs.Cells.{covers_from, in_all, none_counted, not_both, one_counted, over_from, true_or_false}
+use Rattle.bk_tiling.proofs.Cells.{covers_from, none_counted, not_both, one_counted, over_from, true_or_false}
 use Rattle.bk_tiling.proofs.ListLaws.{length_append, length_map}
 use Rattle.bk_tiling.proofs.Groups.{row_of}
 use Rattle.bk_tiling.proofs.Members.{one_at}
+use Rattle.bk_tiling.proofs.Places.{at_place, later_place}
 use Rattle.bk_tiling.proofs.Scaling.{before_cases}
 use Rattle.bk_tiling.proofs.TilingGroups.{one_there}
 use Rattle.bk_tiling.proofs.TilingLaws.{side_of, within_of}
@@ -22,9 +24,6 @@ use Rattle.bk_net.proofs.SidesFlow.{begins_below, below_from, place, row_is, squ
 use Rattle.bk_net.proofs.SmithLists.{HasGroup, count_at, group_wires}
 use Rattle.bk_net.specs.Diagram.{node_below, smith_diagram}
 use Rattle.bk_net.specs.GroupNumbers.{group_numbers, is_no_later}
-
-two : (a b : ℕ) → (a < b) ⊎ (b ≤ a)
-two a b = grind arith
 
 -- ---- wires by squares
 
@@ -98,7 +97,7 @@ square_far (q ∷ g) squares (suc m) d h = square_far g squares m d (omega arith
 
 has_number : (n : ℕ) (groups : List (List Square)) (m : ℕ) (d : Square) → m < length (row_of groups) → HasNumber n groups m d
 has_number n [] m d h = absurd (omega arith)
-has_number n (g ∷ groups) m d h = cases (two m (length g)) (has_number (n + 1) groups (m - length g) d)
+has_number n (g ∷ groups) m d h = cases (cases_lt m (length g)) (has_number (n + 1) groups (m - length g) d)
   where
     cases : (m < length g) ⊎ (length g ≤ m) → (m - length g < length (row_of groups) → HasNumber (n + 1) groups (m - length g) d) → HasNumber n (g ∷ groups) m d
     cases (inl near) rest = record {
@@ -118,18 +117,6 @@ has_number n (g ∷ groups) m d h = cases (two m (length g)) (has_number (n + 1)
 
 -- ---- squares in the order of a code, by their places
 
-at_place : (squares : List Square) (q : Square) → IsOneOf q squares → (m : ℕ) × (m < length squares) × ((d : Square) → slice_index_or squares m d ≡ q)
-at_place [] q h = absurd h
-at_place (r ∷ squares) q (inl e) = (0, omega arith, λ d. sym e)
-at_place (r ∷ squares) q (inr h) = let found = at_place squares q h in (suc found.0, omega (arith, found.1), found.2)
-
-order_places : (squares : List Square) → InCodeOrder squares → (i j : ℕ) (d : Square) → i < j → j < length squares → comes_before (slice_index_or squares i d) (slice_index_or squares j d) ≡ true
-order_places [] o i j d a b = absurd (omega arith)
-order_places (q ∷ squares) o zero zero d a b = absurd (omega arith)
-order_places (q ∷ squares) o zero (suc j) d a b = in_all (λ r. comes_before q r ≡ true) squares o.0 (slice_index_or squares j d) (one_at squares j d (omega arith))
-order_places (q ∷ squares) o (suc i) zero d a b = absurd (omega arith)
-order_places (q ∷ squares) o (suc i) (suc j) d a b = order_places squares o.1 i j d (omega arith) (omega arith)
-
 later_from : (x y : ℕ) (q r : Square) → comes_before q r ≡ true → is_no_later x y r ≡ true → is_no_later x y q ≡ true
 later_from x y q r a b = grind (arith, nat_tests)
 
@@ -147,7 +134,7 @@ parted squares o x y i j d up below e = cases (three i j)
     three i j = grind arith
 
     cases : (i < j) ⊎ (i ≡ j) ⊎ (j < i) → is_no_later x y (slice_index_or squares i d) ≡ true
-    cases (inl l) = later_from x y (slice_index_or squares i d) (slice_index_or squares j d) (order_places squares o i j d l below) e
+    cases (inl l) = later_from x y (slice_index_or squares i d) (slice_index_or squares j d) (later_place squares o i j d l below) e
     cases (inr (inl same)) = ap (λ (k : ℕ). is_no_later x y (slice_index_or squares k d)) same ∙ e
     cases (inr (inr l)) = absurd (omega arith)
 
@@ -208,7 +195,7 @@ module _ (t : Tiling) (tiling : IsTiling t) (q : Square) (one : IsOneOf q t.squa
           no_later_one j up end e = by (no_later_to q.x (q.y + q.s) (slice_index_or t.squares j q) e) (before_cases below.0 (slice_index_or t.squares j q) before)
             where
               before : comes_before below.0 (slice_index_or t.squares j q) ≡ true
-              before = subst (λ (r : Square). comes_before r (slice_index_or t.squares j q) ≡ true) (at q) (order_places t.squares tiling.ordered m j q up end)
+              before = subst (λ (r : Square). comes_before r (slice_index_or t.squares j q) ≡ true) (at q) (later_place t.squares tiling.ordered m j q up end)
 
               by : ((slice_index_or t.squares j q).y < q.y + q.s) ⊎ (((slice_index_or t.squares j q).y ≡ q.y + q.s) × ((slice_index_or t.squares j q).x ≤ q.x))
                   → ((below.0).y < (slice_index_or t.squares j q).y) ⊎ (((below.0).y ≡ (slice_index_or t.squares j q).y) × ((below.0).x < (slice_index_or t.squares j q).x)) → ⊥
@@ -224,12 +211,12 @@ module _ (t : Tiling) (tiling : IsTiling t) (q : Square) (one : IsOneOf q t.squa
                       (covers_from (slice_index_or t.squares j q).x (q.y + q.s) (slice_index_or t.squares j q) (omega arith) (omega (arith, side_of t tiling (slice_index_or t.squares j q) (one_at t.squares j q end))) (omega (arith, a.0)) (omega (arith, a.0, side_of t tiling (slice_index_or t.squares j q) (one_at t.squares j q end))))
 
           last : m + 1 ≡ k
-          last = by (two m k)
+          last = by (cases_lt m k)
             where
               by : (m < k) ⊎ (k ≤ m) → m + 1 ≡ k
               by (inr late) = absurd (not_both (is_no_later q.x (q.y + q.s) (slice_index_or t.squares m q))
                   (ap (is_no_later q.x (q.y + q.s)) (at q) ∙ no_later_from q.x (q.y + q.s) below.0 level left) (parts.1 m q late there))
-              by (inl soon) = more (two (m + 1) k)
+              by (inl soon) = more (cases_lt (m + 1) k)
                 where
                   more : (m + 1 < k) ⊎ (k ≤ m + 1) → m + 1 ≡ k
                   more (inl h) = absurd (no_later_one (m + 1) (omega arith) (omega arith) (parts.0 (m + 1) q (omega arith) h))

@@ -4,9 +4,9 @@ use Rattle.std.specs.Char.{digit_value}
 use Rattle.std.specs.Prelude.{List, None, Option, Some, [], if◌then◌else◌, nat_le, option_and_then, ℕ, ◌&&◌, ◌-◌, ◌<◌, ◌==◌, ◌||◌, ◌∷◌, ◌≡◌, ◌≤◌}
 use Rattle.std.proofs.Common.{Bool, ap, arith, false, inl, inr, leb-true, refl, true, ℕ, ◌+◌, ◌∙◌}
 use Rattle.std.proofs.lemmas.Bool.{and_from, and_parts, cond-true, eqb-true, le-leb}
-use Rattle.std.proofs.lemmas.Bool.Decides.{nat_tests}
 use Rattle.std.proofs.lemmas.Str.{digit_value_digit}
 use Rattle.std.proofs.lemmas.Str.Parse.{digit_from_value}
+use Rattle.bk_grammar.proofs.BlankBytes.{blank_means}
 use Rattle.bk_grammar.specs.Grammar.{IsBlank}
 use Rattle.bk_net.specs.Gathered.{and_wire}
 use Rattle.bk_net.specs.NetLine.{Item, NetLine, Skip}
@@ -58,9 +58,6 @@ digit_means b h =
     let parts = and_parts (nat_le 48 b) (nat_le b 57) h in
     let value = value_below b (leb-true 48 b parts.0) (leb-true b 57 parts.1) in
     (omega (arith, value), omega (arith, value, leb-true b 57 parts.1))
-
-blank_means : (b : ℕ) → (b == 32) || ((b == 9) || (b == 13)) ≡ true → IsBlank b
-blank_means b h = grind (arith, nat_tests, h)
 
 pub means : (b : ℕ) → Means (kind_of b) b
 means b =

@@ -2,6 +2,7 @@
 use Rattle.std.specs.List.{AllByRecursion}
 use Rattle.std.specs.Prelude.{pos, ℤ, ◌-ℤ◌}
 use Rattle.std.proofs.Common.{Bool, Contains, List, Some, [], ap, arith, cond, count_by, false, inl, inr, length, map, nat_eq, refl, slice_get, slice_index_or, subst, suc, sym, true, zero, ℕ, ◌&&◌, ◌++◌, ◌+◌, ◌-◌, ◌<◌, ◌∙◌, ◌∷◌, ◌≡◌, ◌≤◌, ◌⊎◌}
+use Rattle.std.proofs.lemmas.Bool.{cases_lt}
 use Rattle.std.proofs.lemmas.Bool.Decides.{nat_tests}
 use Rattle.std.proofs.lemmas.Int.{ints}
 use Rattle.std.proofs.lemmas.List.Elements.{All-from_recursion}
@@ -21,9 +22,6 @@ use Rattle.bk_net.specs.Diagram.{group_level, node_below, node_levels, smith_dia
 use Rattle.bk_net.specs.Flow.{IsFlow, IsOneFlow, outflow, potential}
 use Rattle.bk_net.specs.Net.{HasNoLoose, IsJoined, IsNet, along, here}
 use Rattle.bk_net.specs.SmithFlow.{SidesAreTheOneFlow, smith_flow}
-
-two : (a b : ℕ) → (a < b) ⊎ (b ≤ a)
-two a b = grind arith
 
 get_all : {A : Type 0} (P : A → Type 0) (xs : List A) (k : ℕ) (x : A) → AllByRecursion P xs → slice_get xs k ≡ Some x → P x
 get_all P [] k x all e = absurd (cc)
@@ -64,7 +62,7 @@ module _ (t : Tiling) (tiling : IsTiling t) where
 
   -- a square over a cell just below a square's bottom begins there
   pub begins_below : (q r : Square) (i : ℕ) → IsOneOf q t.squares → q.x ≤ i → i < q.x + q.s → IsOneOf r t.squares → covers i (q.y + q.s) r ≡ true → r.y ≡ q.y + q.s
-  begins_below q r i a lo hi b e = cases (two r.y (q.y + q.s))
+  begins_below q r i a lo hi b e = cases (cases_lt r.y (q.y + q.s))
     where
       cases : (r.y < q.y + q.s) ⊎ (q.y + q.s ≤ r.y) → r.y ≡ q.y + q.s
       cases (inl h) = let same : q ≡ r = one_there t tiling q r i (q.y + q.s - 1) a (covers_from i (q.y + q.s - 1) q lo hi (omega (arith, side_of t tiling q a)) (omega (arith, side_of t tiling q a))) b
@@ -102,7 +100,7 @@ module _ (t : Tiling) (tiling : IsTiling t) where
   -- ---- the node below a square
 
   pub tests_once : (q : Square) → IsOneOf q t.squares → count_by (λ r. nat_eq r.y (q.y + q.s) && covers_column q.x r) t.squares ≤ 1
-  tests_once q h = cases (two (q.y + q.s) t.height)
+  tests_once q h = cases (cases_lt (q.y + q.s) t.height)
     where
       to_cell : (r : Square) → IsOneOf r t.squares → (nat_eq r.y (q.y + q.s) && covers_column q.x r) ≡ true → covers q.x (q.y + q.s) r ≡ true
       to_cell r k e = let b = below_to q r e in covers_from q.x (q.y + q.s) r b.left b.right (omega (arith, b.level)) (omega (arith, b.level, side_of t tiling r k))
@@ -148,7 +146,7 @@ module _ (t : Tiling) (tiling : IsTiling t) where
           ⊎ ((node_below (square_groups t.squares) q ≡ length (square_groups t.squares)) × (count_by (λ r. nat_eq r.y (q.y + q.s) && covers_column q.x r) (row_of (square_groups t.squares)) ≡ 0))
           → ((node_below (square_groups t.squares) q ≡ length (square_groups t.squares)) × (q.y + q.s ≡ t.height)) ⊎ ((g : List Square) × (slice_get (square_groups t.squares) (node_below (square_groups t.squares) q) ≡ Some g) × (group_level g ≡ q.y + q.s))
       cases (inl k) = let g = get_some (square_groups t.squares) (node_below (square_groups t.squares) q) k.0 in inr (g.0, g.1, group g.0 g.1 k.1)
-      cases (inr k) = inl (k.0, bottom (two (q.y + q.s) t.height))
+      cases (inr k) = inl (k.0, bottom (cases_lt (q.y + q.s) t.height))
         where
           bottom : (q.y + q.s < t.height) ⊎ (t.height ≤ q.y + q.s) → q.y + q.s ≡ t.height
           bottom (inr l) = omega (arith, (within_of t tiling q h).bottom)
@@ -204,7 +202,7 @@ module _ (t : Tiling) (tiling : IsTiling t) where
     below_height = let w = (within_of t tiling row.first first).bottom in omega (arith, side_of t tiling row.first first)
 
     pub end_within : (group_of v g e).0.row.end ≤ t.width
-    end_within = cases (two row.first.x row.end)
+    end_within = cases (cases_lt row.first.x row.end)
       where
         cases : (row.first.x < row.end) ⊎ (row.end ≤ row.first.x) → row.end ≤ t.width
         cases (inr h) = let w = (within_of t tiling row.first first).right in omega (arith, side_of t tiling row.first first)
@@ -221,7 +219,7 @@ module _ (t : Tiling) (tiling : IsTiling t) where
 
     -- a square that begins at its level does not reach over its left end, nor over its right end
     not_left : (z : Square) → IsOneOf z t.squares → z.y ≡ (group_of v g e).0.row.first.y → z.x < (group_of v g e).0.row.first.x → (group_of v g e).0.row.first.x ≤ z.x + z.s → ⊥
-    not_left z h ey lo hi = cases (two row.first.x (z.x + z.s))
+    not_left z h ey lo hi = cases (cases_lt row.first.x (z.x + z.s))
       where
         cases : (row.first.x < z.x + z.s) ⊎ (z.x + z.s ≤ row.first.x) → ⊥
         cases (inl k) = let same : z ≡ row.first = one_there t tiling z row.first row.first.x row.first.y h (covers_from row.first.x row.first.y z (omega arith) k (omega (arith, ey)) (omega (arith, ey, side_of t tiling z h)))
@@ -229,7 +227,7 @@ module _ (t : Tiling) (tiling : IsTiling t) where
         cases (inr k) = (group_of v g e).0.left z h ey (omega arith)
 
     pub not_right : (z : Square) → IsOneOf z t.squares → z.y ≡ (group_of v g e).0.row.first.y → z.x ≤ (group_of v g e).0.row.end → (group_of v g e).0.row.end < z.x + z.s → ⊥
-    not_right z h ey lo hi = cases (two z.x row.end)
+    not_right z h ey lo hi = cases (cases_lt z.x row.end)
       where
         cases : (z.x < row.end) ⊎ (row.end ≤ z.x) → ⊥
         cases (inr k) = row.right z h ey (omega arith)
@@ -241,7 +239,7 @@ module _ (t : Tiling) (tiling : IsTiling t) where
 
     -- a square that ends at its level over one of its columns ends on it with all its columns
     ends_on : (q : Square) → IsOneOf q t.squares → q.y + q.s ≡ (group_of v g e).0.row.first.y → (c : ℕ) → (group_of v g e).0.row.first.x ≤ c → c < (group_of v g e).0.row.end → q.x ≤ c → c < q.x + q.s → ((group_of v g e).0.row.first.x ≤ q.x) × (q.x + q.s ≤ (group_of v g e).0.row.end)
-    ends_on q h ey c lo hi l r = (left (two q.x row.first.x), right (two row.end (q.x + q.s)))
+    ends_on q h ey c lo hi l r = (left (cases_lt q.x row.first.x), right (cases_lt row.end (q.x + q.s)))
       where
         under : (i : ℕ) → q.x ≤ i → i < q.x + q.s → (z : Square) × IsOneOf z t.squares × (z.y ≡ row.first.y) × (z.x ≤ i) × (i < z.x + z.s)
         under i a b = from (square_at i row.first.y (let w = (within_of t tiling q h).right in omega arith) below_height)
@@ -281,7 +279,7 @@ module _ (t : Tiling) (tiling : IsTiling t) where
             by false f = sym (cols_none (row.end - row.first.x) row.first.x (row.first.y - 1) q none)
               where
                 none : (c : ℕ) → row.first.x ≤ c → c < row.first.x + (row.end - row.first.x) → covers c (row.first.y - 1) q ≡ true → ⊥
-                none c lo hi m = cases (two row.first.y (q.y + q.s))
+                none c lo hi m = cases (cases_lt row.first.y (q.y + q.s))
                   where
                     cases : (row.first.y < q.y + q.s) ⊎ (q.y + q.s ≤ row.first.y) → ⊥
                     cases (inl k) = from (at_level c lo (omega (arith, some_width)))
@@ -341,7 +339,7 @@ module _ (t : Tiling) (tiling : IsTiling t) where
       (ap (λ (s : Square). s.x) same ∙ (known t tiling).x, ap (λ (s : Square). s.y) same ∙ (known t tiling).y)
 
   top_end : (group_of 0 (known t tiling).group top_group).0.row.end ≡ t.width
-  top_end = cases (two row0.end t.width)
+  top_end = cases (cases_lt row0.end t.width)
     where
       row0 : IsRow t.squares (known t tiling).group
       row0 = (group_of 0 (known t tiling).group top_group).0.row
@@ -355,14 +353,14 @@ module _ (t : Tiling) (tiling : IsTiling t) where
 
   -- any other group lies deeper
   pub deep : (v : ℕ) (g : List Square) (e : slice_get (square_groups t.squares) (suc v) ≡ Some g) → 0 < (group_of (suc v) g e).0.row.first.y
-  deep v g e = cases (two 0 row1.first.y)
+  deep v g e = cases (cases_lt 0 row1.first.y)
     where
       row1 : IsRow t.squares g
       row1 = (group_of (suc v) g e).0.row
 
       cases : (0 < (group_of (suc v) g e).0.row.first.y) ⊎ ((group_of (suc v) g e).0.row.first.y ≤ 0) → 0 < (group_of (suc v) g e).0.row.first.y
       cases (inl h) = h
-      cases (inr h) = absurd (from (two 0 (group_of (suc v) g e).0.row.first.x))
+      cases (inr h) = absurd (from (cases_lt 0 (group_of (suc v) g e).0.row.first.x))
         where
           from : (0 < (group_of (suc v) g e).0.row.first.x) ⊎ ((group_of (suc v) g e).0.row.first.x ≤ 0) → ⊥
           from (inl k) = at (square_at ((group_of (suc v) g e).0.row.first.x - 1) 0 (omega (arith, some_width (suc v) g e, end_within (suc v) g e)) (omega (arith, below_height (suc v) g e)))
@@ -420,12 +418,12 @@ module _ (t : Tiling) (tiling : IsTiling t) where
           ))
 
   joined : (fuel v : ℕ) → v < length (square_groups t.squares) + 1 → ((g : List Square) → slice_get (square_groups t.squares) v ≡ Some g → t.height ≤ group_level g + fuel) → IsJoined (smith_diagram t).wires v (length (square_groups t.squares))
-  joined zero v few enough = cases (two v (length (square_groups t.squares)))
+  joined zero v few enough = cases (cases_lt v (length (square_groups t.squares)))
     where
       cases : (v < length (square_groups t.squares)) ⊎ (length (square_groups t.squares) ≤ v) → IsJoined (smith_diagram t).wires v (length (square_groups t.squares))
       cases (inr h) = let same : v ≡ length (square_groups t.squares) = omega arith in subst (λ (u : ℕ). IsJoined (smith_diagram t).wires v u) same here
       cases (inl h) = let g = get_some (square_groups t.squares) v h in absurd (omega (arith, enough g.0 g.1, below_height v g.0 g.1, level_is g.0 (group_of v g.0 g.1).0.row))
-  joined (suc fuel) v few enough = cases (two v (length (square_groups t.squares))) (joined fuel)
+  joined (suc fuel) v few enough = cases (cases_lt v (length (square_groups t.squares))) (joined fuel)
     where
       cases : (v < length (square_groups t.squares)) ⊎ (length (square_groups t.squares) ≤ v) → ((v : ℕ) → v < length (square_groups t.squares) + 1 → ((g : List Square) → slice_get (square_groups t.squares) v ≡ Some g → t.height ≤ group_level g + fuel) → IsJoined (smith_diagram t).wires v (length (square_groups t.squares))) → IsJoined (smith_diagram t).wires v (length (square_groups t.squares))
       cases (inr h) rest = let same : v ≡ length (square_groups t.squares) = omega arith in subst (λ (u : ℕ). IsJoined (smith_diagram t).wires v u) same here

@@ -3,25 +3,20 @@
 use Rattle.std.specs.List.{AllByRecursion, enumerate_from, flat_map, list_any, position_or_len}
 use Rattle.std.specs.Prelude.{pos, ℤ, ◌+ℤ◌, ◌-ℤ◌}
 use Rattle.std.proofs.Common.{Bool, Contains, List, Some, [], ap, arith, cond, count_by, false, inl, inr, length, map, nat_eq, not, refl, slice_get, slice_index_or, subst, suc, sym, true, zero, ℕ, ◌++◌, ◌+◌, ◌<◌, ◌||◌, ◌∙◌, ◌∷◌, ◌≡◌, ◌≤◌, ◌⊎◌}
+use Rattle.std.proofs.lemmas.Bool.{cases_lt}
 use Rattle.std.proofs.lemmas.Bool.Decides.{nat_tests}
 use Rattle.std.proofs.lemmas.Int.{ints}
+use Rattle.std.proofs.lemmas.List.Elements.{Contains-append_left, Contains-append_right}
 use Rattle.std.proofs.lemmas.List.Sums.{sum_by-append}
+use Rattle.bk_tiling.proofs.AllOfLists.{all_append}
 use Rattle.bk_tiling.proofs.Cells.{count-cons, covers_from, over_from}
+use Rattle.bk_tiling.proofs.Group.{covers_one}
 use Rattle.bk_tiling.proofs.ListLaws.{length_map, map_append}
 use Rattle.bk_tiling.proofs.Rows.{laid_sides, total}
 use Rattle.bk_tiling.specs.Tiling.{IsOneOf, covers}
 use Rattle.bk_tiling.specs.declared.Square.{Square}
 use Rattle.bk_tiling.proofs.Groups.{row_of}
 use Rattle.bk_net.specs.Flow.{outflow}
-
-contains_left : {A : Type 0} (xs ys : List A) (x : A) → Contains xs x → Contains (xs ++ ys) x
-contains_left [] ys x c = absurd (omega (arith, c.1))
-contains_left (y ∷ xs) ys x (zero, below, is) = (zero, omega arith, is)
-contains_left (y ∷ xs) ys x (suc k, below, is) = let c = contains_left xs ys x (k, omega (arith, below), is) in (suc c.0, omega (arith, c.1), c.2)
-
-contains_right : {A : Type 0} (xs ys : List A) (x : A) → Contains ys x → Contains (xs ++ ys) x
-contains_right [] ys x c = c
-contains_right (y ∷ xs) ys x c = let d = contains_right xs ys x c in (suc d.0, omega (arith, d.1), d.2)
 
 -- the wires of groups, from node n on, where each square ends at the node that below gives
 abbrev pub group_wires : (Square → ℕ) → ℕ → List (List Square) → List (ℕ × ℕ)
@@ -101,7 +96,7 @@ group_currents below f n (g ∷ groups) each = map_append (λ q. pos q.s) g (row
 -- each wire, and all of them
 pub wire_in : (below : Square → ℕ) (n : ℕ) (groups : List (List Square)) (k : ℕ) (g : List Square) (q : Square) → slice_get groups k ≡ Some g → IsOneOf q g → Contains (group_wires below n groups) (n + k, below q)
 wire_in below n [] k g q e h = absurd (cc)
-wire_in below n (x ∷ groups) zero g q e h = contains_left (map (λ q. (n, below q)) x) (group_wires below (n + 1) groups) (n + 0, below q) (own x (subst (IsOneOf q) (sym same) h))
+wire_in below n (x ∷ groups) zero g q e h = Contains-append_left (map (λ q. (n, below q)) x) (group_wires below (n + 1) groups) (n + 0, below q) (own x (subst (IsOneOf q) (sym same) h))
   where
     same : x ≡ g
     same = cc
@@ -113,15 +108,11 @@ wire_in below n (x ∷ groups) zero g q e h = contains_left (map (λ q. (n, belo
     own [] h = absurd h
     own (r ∷ g) (inl e) = (0, omega arith, λ i. (at i, below (sym e i)))
     own (r ∷ g) (inr h) = let c = own g h in (suc c.0, omega (arith, c.1), c.2)
-wire_in below n (x ∷ groups) (suc k) g q e h = contains_right (map (λ q. (n, below q)) x) (group_wires below (n + 1) groups) (n + suc k, below q) (subst (λ (v : ℕ). Contains {X = ℕ × ℕ} (group_wires below (n + 1) groups) (v, below q)) (omega arith) (wire_in below (n + 1) groups k g q e h))
-
-all_join : (P : ℕ × ℕ → Type 0) (ws vs : List (ℕ × ℕ)) → AllByRecursion P ws → AllByRecursion P vs → AllByRecursion P (ws ++ vs)
-all_join P [] vs a b = b
-all_join P (w ∷ ws) vs a b = (a.0, all_join P ws vs a.1 b)
+wire_in below n (x ∷ groups) (suc k) g q e h = Contains-append_right (map (λ q. (n, below q)) x) (group_wires below (n + 1) groups) (n + suc k, below q) (subst (λ (v : ℕ). Contains {X = ℕ × ℕ} (group_wires below (n + 1) groups) (v, below q)) (omega arith) (wire_in below (n + 1) groups k g q e h))
 
 pub wires_each : (P : ℕ × ℕ → Type 0) (below : Square → ℕ) (n : ℕ) (groups : List (List Square)) → ((k : ℕ) (g : List Square) → slice_get groups k ≡ Some g → (q : Square) → IsOneOf q g → P (n + k, below q)) → AllByRecursion P (group_wires below n groups)
 wires_each P below n [] each = tt
-wires_each P below n (g ∷ groups) each = all_join P (map (λ q. (n, below q)) g) (group_wires below (n + 1) groups)
+wires_each P below n (g ∷ groups) each = all_append P (map (λ q. (n, below q)) g) (group_wires below (n + 1) groups)
     (own g (λ q h. subst (λ (v : ℕ). P (v, below q)) (omega arith) (each 0 g refl q h)))
     (wires_each P below (n + 1) groups (λ k h e q m. subst (λ (v : ℕ). P (v, below q)) (omega arith) (each (suc k) h e q m)))
   where
@@ -225,22 +216,16 @@ no_cell c j q h = by (covers c j q) refl
     by true e = absurd (h e)
     by false e = refl
 
-one_cell : (c j : ℕ) (q : Square) → covers c j q ≡ true → ◌≡◌ {A = ℕ} (cond (covers c j q) 1 0) 1
-one_cell c j q e = ap (λ (b : Bool). cond {A = ℕ} b 1 0) e
-
 pub cols_none : (n a j : ℕ) (q : Square) → ((c : ℕ) → a ≤ c → c < a + n → covers c j q ≡ true → ⊥) → cols n a j q ≡ 0
 cols_none zero a j q none = refl
 cols_none (suc n) a j q none = omega (arith, no_cell a j q (none a (omega arith) (omega arith)), cols_none n (a + 1) j q (λ c lo hi. none c (omega arith) (omega arith)))
 
 cols_from : (n a j : ℕ) (q : Square) → q.y ≤ j → j < q.y + q.s → q.x ≤ a → a ≤ q.x + q.s → q.x + q.s ≤ a + n → a + cols n a j q ≡ q.x + q.s
 cols_from zero a j q top low lo mid hi = omega arith
-cols_from (suc n) a j q top low lo mid hi = cases (two a (q.x + q.s)) (cols_from n (a + 1) j q top low)
+cols_from (suc n) a j q top low lo mid hi = cases (cases_lt a (q.x + q.s)) (cols_from n (a + 1) j q top low)
   where
-    two : (a b : ℕ) → (a < b) ⊎ (b ≤ a)
-    two a b = grind arith
-
     cases : (a < q.x + q.s) ⊎ (q.x + q.s ≤ a) → (q.x ≤ a + 1 → a + 1 ≤ q.x + q.s → q.x + q.s ≤ a + 1 + n → a + 1 + cols n (a + 1) j q ≡ q.x + q.s) → a + (cond (covers a j q) 1 0 + cols n (a + 1) j q) ≡ q.x + q.s
-    cases (inl h) rest = omega (arith, one_cell a j q (covers_from a j q lo h top low), rest (omega arith) (omega arith) (omega arith))
+    cases (inl h) rest = omega (arith, covers_one a j q (covers_from a j q lo h top low), rest (omega arith) (omega arith) (omega arith))
     cases (inr h) rest = omega (
       arith,
       no_cell a j q (λ e. omega (arith, (over_from a j q e).right)),
@@ -249,11 +234,8 @@ cols_from (suc n) a j q top low lo mid hi = cases (two a (q.x + q.s)) (cols_from
 
 pub cols_all : (n a j : ℕ) (q : Square) → q.y ≤ j → j < q.y + q.s → a ≤ q.x → q.x + q.s ≤ a + n → cols n a j q ≡ q.s
 cols_all zero a j q top low lo hi = omega arith
-cols_all (suc n) a j q top low lo hi = cases (two a q.x) (cols_all n (a + 1) j q top low)
+cols_all (suc n) a j q top low lo hi = cases (cases_lt a q.x) (cols_all n (a + 1) j q top low)
   where
-    two : (a b : ℕ) → (a < b) ⊎ (b ≤ a)
-    two a b = grind arith
-
     cases : (a < q.x) ⊎ (q.x ≤ a) → (a + 1 ≤ q.x → q.x + q.s ≤ a + 1 + n → cols n (a + 1) j q ≡ q.s) → cond (covers a j q) 1 0 + cols n (a + 1) j q ≡ q.s
     cases (inl h) rest = omega (arith, no_cell a j q (λ e. omega (arith, (over_from a j q e).left)), rest (omega arith) (omega arith))
     cases (inr h) rest = omega (arith, cols_from (suc n) a j q top low (omega arith) (omega arith) hi)

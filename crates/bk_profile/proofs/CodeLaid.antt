@@ -1,13 +1,12 @@
 -- A code is laid to the one tiling that has it, or no tiling has it.
 use Rattle.std.specs.List.{AllByRecursion}
-use Rattle.std.proofs.Common.{List, [], ap, arith, inl, inr, length, subst, sum, sym, ℕ, true, ◌*◌, ◌+◌, ◌-◌, ◌<◌, ◌^◌, ◌∙◌, ◌∷◌, ◌≡◌, ◌≤◌, ◌⊎◌}
+use Rattle.std.proofs.Common.{List, [], ap, arith, length, subst, sum, sym, ℕ, ◌*◌, ◌+◌, ◌<◌, ◌^◌, ◌∙◌, ◌∷◌, ◌≡◌, ◌≤◌}
 use Rattle.std.proofs.lemmas.List.{length-append}
 use Rattle.std.proofs.lemmas.List.Sums.{sum_by-cons}
-use Rattle.bk_tiling.proofs.Cells.{column_from, counted_one, depth_comes_from, depth_reaches, over_from}
-use Rattle.bk_tiling.proofs.TilingLaws.{cell_once, wide_enough, within_of}
-use Rattle.bk_tiling.specs.Column.{covers_column, depth}
+use Rattle.bk_tiling.proofs.TilingLaws.{even_below, wide_enough}
+use Rattle.bk_tiling.specs.Column.{depth}
 use Rattle.bk_tiling.specs.Kept.{IsKept, IsSide}
-use Rattle.bk_tiling.specs.Tiling.{IsOneOf, IsTiling, Tiling, covers}
+use Rattle.bk_tiling.specs.Tiling.{IsTiling, Tiling}
 use Rattle.bk_tiling.specs.declared.Segment.{Segment}
 use Rattle.bk_tiling.specs.declared.Square.{Square}
 use Rattle.bk_tiling.specs.declared.TheConstants.{LONGEST_SIDE}
@@ -19,24 +18,6 @@ use Rattle.bk_profile.proofs.LayingOnce.{Halves, gap_of_none, gap_unique, lays_l
 use Rattle.bk_profile.specs.Gap.{IsGap, LaysTo}
 use Rattle.bk_profile.specs.Laid.{IsGreatestDepth, IsLaidOut, IsLeastDepth, Laid}
 use Rattle.bk_profile.specs.Refused.{EndsOpen, HasCode, Misfits, first_sum}
-
-two : (a b : ℕ) → (a < b) ⊎ (b ≤ a)
-two a b = grind arith
-
--- all columns of a tiling have its height as depth
-pub even_below : (t : Tiling) → IsTiling t → (c : ℕ) → c < t.width → depth t.squares c ≡ t.height
-even_below t tiling c wide = cases (two (depth t.squares c) t.height) (two t.height (depth t.squares c))
-  where
-    from : (q : Square) × IsOneOf q t.squares × (covers c (t.height - 1) q ≡ true) → t.height - 1 < depth t.squares c
-    from (q, k, e) = let o = over_from c (t.height - 1) q e in omega (arith, o.bottom, depth_reaches t.squares c q k (column_from c q o.left o.right))
-
-    deep : (q : Square) × IsOneOf q t.squares × (covers_column c q ≡ true) × (t.height < q.y + q.s) → ⊥
-    deep (q, k, e, d) = omega (arith, d, (within_of t tiling q k).bottom)
-
-    cases : (depth t.squares c < t.height) ⊎ (t.height ≤ depth t.squares c) → (t.height < depth t.squares c) ⊎ (depth t.squares c ≤ t.height) → depth t.squares c ≡ t.height
-    cases (inl a) b = absurd (omega (arith, a, from (counted_one (covers c (t.height - 1)) t.squares (omega (arith, a, cell_once t tiling c (t.height - 1) wide (omega (arith, a)))))))
-    cases (inr a) (inl b) = absurd (deep (depth_comes_from t.squares c t.height b))
-    cases (inr a) (inr b) = omega (arith, a, b)
 
 -- a tiling's width is the sum of the first group of its code
 pub width_is : (code : Code) (t : Tiling) → HasCode code t → 0 < length code → first_sum code ≡ t.width

@@ -1,12 +1,12 @@
 -- The groups of a tiling's code fit into the gaps, one after another, and the squares are then laid as they stand in it.
 use Rattle.std.specs.List.{AllByRecursion}
 use Rattle.std.proofs.Common.{List, [], ap, arith, cond, count_by, inl, inr, map, refl, subst, sum, sym, true, ℕ, ◌++◌, ◌+◌, ◌-◌, ◌<◌, ◌∙◌, ◌∷◌, ◌≡◌, ◌≤◌, ◌⊎◌}
-use Rattle.std.proofs.lemmas.Bool.Decides.{nat_tests}
-use Rattle.std.proofs.lemmas.List.Sums.{sum_by-append, sum_by-cons}
+use Rattle.std.proofs.lemmas.Bool.{cases_lt}
+use Rattle.std.proofs.lemmas.List.Sums.{sum_by-append}
 use Rattle.bk_tiling.proofs.Cells.{column_from, column_left, column_right, counted_one, covers_from, depth_comes_from, depth_reaches, from_append, in_all, no_two, one_counted, over_from}
 use Rattle.bk_tiling.proofs.ListLaws.{append_assoc, append_nil}
 use Rattle.bk_tiling.proofs.Members.{in_back, in_front}
-use Rattle.bk_tiling.proofs.Rows.{chain_over, chain_total, chain_within, laid_sides, total}
+use Rattle.bk_tiling.proofs.Rows.{chain_over, chain_total, chain_within, laid_sides, sum_is_total}
 use Rattle.bk_tiling.proofs.TilingLaws.{cell_once, side_of, within_of}
 use Rattle.bk_tiling.specs.CodeOrder.{InCodeOrder, comes_before}
 use Rattle.bk_tiling.specs.Column.{covers_column, depth}
@@ -14,25 +14,16 @@ use Rattle.bk_tiling.specs.Tiling.{IsOneOf, IsTiling, Tiling, covers}
 use Rattle.bk_tiling.specs.declared.Square.{Square}
 use Rattle.bk_tiling.proofs.Groups.{AllIn, IsGroup, IsRow, chain_is_group, groups_row, row_of}
 use Rattle.bk_tiling.proofs.NextCorner.{IsNoLater, next_corner}
+use Rattle.bk_tiling.proofs.OrderLaws.{before_level}
 use Rattle.bk_tiling.proofs.TilingGroups.{all_groups}
 use Rattle.bk_tiling.specs.SquareGroups.{laid_group, square_groups}
 use Rattle.bk_profile.specs.Gap.{IsGap, LaysTo}
 use Rattle.bk_profile.specs.LayingLaws.{ACodeIsLaid}
 
-two : (a b : ℕ) → (a < b) ⊎ (b ≤ a)
-two a b = grind arith
-
-pub sum_is_total : (sides : List ℕ) → sum sides ≡ total sides
-sum_is_total [] = refl
-sum_is_total (s ∷ sides) = omega (arith, sum_by-cons (λ (n : ℕ). n) s sides, sum_is_total sides)
-
 before_all : (front back : List Square) → InCodeOrder (front ++ back) → (q r : Square) → IsOneOf q front → IsOneOf r back → comes_before q r ≡ true
 before_all [] back o q r h k = absurd h
 before_all (p ∷ front) back o q r (inl e) k = ap (λ (s : Square). comes_before s r) e ∙ in_all (λ s. comes_before p s ≡ true) (front ++ back) o.0 r (in_back front back r k)
 before_all (p ∷ front) back o q r (inr h) k = before_all front back o.1 q r h k
-
-before_level : (q r : Square) → comes_before q r ≡ true → q.y ≤ r.y
-before_level q r e = grind (arith, nat_tests)
 
 module _ (t : Tiling) (tiling : IsTiling t) (laid group back : List Square) (is : t.squares ≡ laid ++ (group ++ back)) (g : IsGroup t.squares group) where
   abbrev row : IsRow t.squares group
@@ -55,14 +46,14 @@ module _ (t : Tiling) (tiling : IsTiling t) (laid group back : List Square) (is 
 
   -- a cell is covered by what is laid, or the next square stands no later
   laid_or_later : (i j : ℕ) → i < t.width → j < t.height → (IsNoLater g.row.first i j → ⊥) → (q : Square) × IsOneOf q laid × (covers i j q ≡ true)
-  laid_or_later i j a b not = from (two 0 (count_by (covers i j) laid))
+  laid_or_later i j a b not = from (cases_lt 0 (count_by (covers i j) laid))
     where
       from : (0 < count_by (covers i j) laid) ⊎ (count_by (covers i j) laid ≤ 0) → (q : Square) × IsOneOf q laid × (covers i j q ≡ true)
       from (inl h) = counted_one (covers i j) laid h
       from (inr h) = absurd (not (next_corner t laid g.row.first (g.row.rest ++ back) tiling next_is i j a b (λ r k e. omega (arith, h, one_counted (covers i j) laid r k e))))
 
   least : (c : ℕ) → c < t.width → g.row.first.y ≤ depth laid c
-  least c wide = cases (two 0 g.row.first.y)
+  least c wide = cases (cases_lt 0 g.row.first.y)
     where
       cases : (0 < g.row.first.y) ⊎ (g.row.first.y ≤ 0) → g.row.first.y ≤ depth laid c
       cases (inr h) = omega arith
@@ -88,7 +79,7 @@ module _ (t : Tiling) (tiling : IsTiling t) (laid group back : List Square) (is 
   one_over q r i j a e b f = let o = over_from i j q e in let w = within_of t tiling q a in no_two (covers i j) t.squares (omega (arith, cell_once t tiling i j (omega (arith, o.right, w.right)) (omega (arith, o.bottom, w.bottom)))) q r a e b f
 
   end_within : g.row.end ≤ t.width
-  end_within = cases (two g.row.first.x g.row.end)
+  end_within = cases (cases_lt g.row.first.x g.row.end)
     where
       cases : (g.row.first.x < g.row.end) ⊎ (g.row.end ≤ g.row.first.x) → g.row.end ≤ t.width
       cases (inr h) = let w = (within_of t tiling g.row.first (in_group g.row.first first_in)).right in omega (arith, side_of t tiling g.row.first (in_group g.row.first first_in))
@@ -101,7 +92,7 @@ module _ (t : Tiling) (tiling : IsTiling t) (laid group back : List Square) (is 
   some_width = omega (arith, (chain_within group g.row.first.x g.row.end g.row.chain g.row.first first_in).1, side_of t tiling g.row.first (in_group g.row.first first_in))
 
   level : (c : ℕ) → g.row.first.x ≤ c → c < g.row.end → depth laid c ≡ g.row.first.y
-  level c lo hi = cases (two g.row.first.y (depth laid c))
+  level c lo hi = cases (cases_lt g.row.first.y (depth laid c))
     where
       cases : (g.row.first.y < depth laid c) ⊎ (depth laid c ≤ g.row.first.y) → depth laid c ≡ g.row.first.y
       cases (inr h) = omega (arith, least c (omega (arith, end_within)))
@@ -126,7 +117,7 @@ module _ (t : Tiling) (tiling : IsTiling t) (laid group back : List Square) (is 
       from (z, h, e) = cases (from_append laid (group ++ back) z (subst (IsOneOf z) is h))
         where
           reaches : g.row.first.y ≡ z.y → g.row.first.y < depth laid g.row.end
-          reaches ey = by (two z.x g.row.end)
+          reaches ey = by (cases_lt z.x g.row.end)
             where
               by : (z.x < g.row.end) ⊎ (g.row.end ≤ z.x) → g.row.first.y < depth laid g.row.end
               by (inr k) = absurd (g.row.right z h (sym ey) (omega (arith, (over_from g.row.end g.row.first.y z e).left)))

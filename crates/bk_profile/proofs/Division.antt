@@ -1,6 +1,7 @@
 -- How a flat list is divided: in one way, and for the flat list of a tiling's code into the groups of that code.
 use Rattle.std.specs.List.{AllByRecursion}
-use Rattle.std.proofs.Common.{Bool, List, [], ap, arith, cond, drop, false, length, map, nat_le, refl, subst, suc, sum, sym, take, true, zero, ℕ, ◌++◌, ◌+◌, ◌-◌, ◌<◌, ◌∙◌, ◌∷◌, ◌≡◌, ◌≤◌}
+use Rattle.std.proofs.Common.{Bool, List, [], ap, arith, cond, drop, length, map, nat_le, refl, subst, suc, sum, sym, take, true, zero, ℕ, ◌++◌, ◌+◌, ◌-◌, ◌<◌, ◌∙◌, ◌∷◌, ◌≡◌, ◌≤◌}
+use Rattle.std.proofs.lemmas.Bool.{lt-leb}
 use Rattle.std.proofs.lemmas.Bool.Decides.{nat_tests}
 use Rattle.std.proofs.lemmas.List.{drop_at}
 use Rattle.std.proofs.lemmas.List.Sums.{sum_by-cons}
@@ -24,14 +25,11 @@ use Rattle.bk_profile.specs.declared.laying.Refusal.TheVariants.{Gap, Open}
 reached : (n s : ℕ) → n ≤ s → nat_le n s ≡ true
 reached n s h = grind (arith, nat_tests)
 
-not_reached : (n s : ℕ) → s < n → nat_le n s ≡ false
-not_reached n s h = grind (arith, nat_tests)
-
 next_ends : (n s : ℕ) (sides : List ℕ) → n ≤ s → next_group n (s ∷ sides) ≡ s ∷ []
 next_ends n s sides h = ap (λ (b : Bool). s ∷ cond b [] (next_group (n - s) sides)) (reached n s h)
 
 next_goes_on : (n s : ℕ) (sides : List ℕ) → s < n → next_group n (s ∷ sides) ≡ s ∷ next_group (n - s) sides
-next_goes_on n s sides h = ap (λ (b : Bool). s ∷ cond b [] (next_group (n - s) sides)) (not_reached n s h)
+next_goes_on n s sides h = ap (λ (b : Bool). s ∷ cond b [] (next_group (n - s) sides)) (lt-leb n s h)
 
 -- the prefix with which the sum reaches a number
 pub reaches : (n : ℕ) (sides : List ℕ) (i : ℕ) → i < length sides → sum (take i sides) < n → n ≤ sum (take (i + 1) sides) → take (i + 1) sides ≡ next_group n sides

@@ -5,6 +5,7 @@ use Rattle.std.specs.declared.result.Result.TheVariants.{Err, Ok}
 use mathlib.Core.Bool.{true≢false}
 use Rattle.std.proofs.Common.{Bool, List, [], ap, arith, eqb-true, false, length, refl, subst, sum, sym, true, ℕ, ◌==◌, ◌++◌, ◌+◌, ◌<◌, ◌∙◌, ◌∷◌, ◌≡◌, ◌≤◌}
 use Rattle.std.proofs.lemmas.List.{append-nil, append_assoc, length-append}
+use Rattle.bk_tiling.proofs.AllOfLists.{all_left, all_right}
 use Rattle.bk_tiling.specs.Kept.{IsSide}
 use Rattle.bk_tiling.specs.Tiling.{Tiling}
 use Rattle.bk_tiling.specs.declared.Segment.{Segment}
@@ -22,14 +23,6 @@ use Rattle.bk_profile.specs.Laid.{IsLaidOut, IsLaidTiling, IsUneven, Laid, LaysG
 use Rattle.bk_profile.specs.Refused.{HasFlat, IsFlatRefused, IsOpen}
 use Rattle.bk_profile.specs.declared.laying.Refusal.{Refusal}
 use Rattle.bk_profile.specs.declared.laying.Refusal.TheVariants.{Gap, Open}
-
-sides_back : (front back : List ℕ) → AllByRecursion IsSide (front ++ back) → AllByRecursion IsSide back
-sides_back [] back good = good
-sides_back (s ∷ front) back good = sides_back front back good.1
-
-sides_front : (front back : List ℕ) → AllByRecursion IsSide (front ++ back) → AllByRecursion IsSide front
-sides_front [] back good = tt
-sides_front (s ∷ front) back good = (good.0, sides_front front back good.1)
 
 all_more : (code : Code) (group : List ℕ) → AllByRecursion IsSideGroup code → IsSideGroup group → AllByRecursion IsSideGroup (code ++ group ∷ [])
 all_more [] group all one = (one, tt)
@@ -57,7 +50,7 @@ module _ (width : ℕ) (sides : List ℕ) (number : ℕ) (p : Laid) (rest : List
   rest_few = omega (arith, count, few)
 
   pub rest_good : AllByRecursion IsSide rest
-  rest_good = sides_back (flat turn.code) rest (subst (AllByRecursion IsSide) (sym turn.flat_is) good)
+  rest_good = all_right IsSide (flat turn.code) rest (subst (AllByRecursion IsSide) (sym turn.flat_is) good)
 
   pub numbers : number ≤ length sides + 1
   numbers = omega (arith, turn.number_is, count, groups turn.code turn.good, lays_length width [] turn.code p.squares turn.lays)
@@ -69,7 +62,7 @@ module _ (width : ℕ) (sides : List ℕ) (number : ℕ) (p : Laid) (rest : List
   -- the next group
   module _ (group left : List ℕ) (gap : Segment) (is : IsGap p.width p.squares gap) (next : group ≡ next_group gap.width rest) (some : 0 < length rest) (split : group ++ left ≡ rest) (long : 0 < length group) where
     pub group_good : AllByRecursion IsSide group
-    group_good = sides_front group left (subst (AllByRecursion IsSide) (sym split) rest_good)
+    group_good = all_left IsSide group left (subst (AllByRecursion IsSide) (sym split) rest_good)
 
     pub group_room : length p.squares + length group ≤ MOST_SQUARES
     group_room = omega (arith, count, few, ap length split, length-append group left)

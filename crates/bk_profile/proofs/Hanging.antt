@@ -4,8 +4,8 @@ use Rattle.std.proofs.Common.{List, [], ap, arith, drop, get_or, inl, inr, lengt
 use Rattle.std.proofs.lemmas.List.{get_or-drop, get_or-take, length-append, length-drop, length-map, length-take-le, take-append-drop}
 use Rattle.std.proofs.lemmas.List.Elements.{All-append}
 use Rattle.std.proofs.lemmas.List.Sums.{sum_by-append, sum_by-cons}
-use Rattle.bk_tiling.proofs.Group.{depth_beside, depth_under}
-use Rattle.bk_tiling.proofs.Rows.{total}
+use Rattle.bk_tiling.proofs.Group.{depth_beside, depth_under, length_group}
+use Rattle.bk_tiling.proofs.Rows.{sum_is_total, total}
 use Rattle.bk_tiling.specs.Column.{depth}
 use Rattle.bk_tiling.specs.Kept.{IsSide}
 use Rattle.bk_tiling.specs.SquareGroups.{laid_group}
@@ -13,7 +13,6 @@ use Rattle.bk_tiling.specs.Tiling.{IsOneOf}
 use Rattle.bk_tiling.specs.declared.Segment.{Segment}
 use Rattle.bk_tiling.specs.declared.Square.{Square}
 use Rattle.bk_tiling.specs.declared.TheConstants.{LONGEST_SIDE}
-use Rattle.bk_profile.proofs.CodeLaying.{sum_is_total}
 use Rattle.bk_profile.proofs.RunStarts.{no_run}
 use Rattle.bk_profile.specs.Gap.{IsGap}
 use Rattle.bk_profile.specs.Outline.{AreLevel, IsLowest, IsOutline, run_under, runs_under, start, width_of}
@@ -58,10 +57,6 @@ under_low : (level : ℕ) (sides : List ℕ) (most : ℕ) → AllByRecursion IsS
 under_low level [] most good low k d l = absurd (omega arith)
 under_low level (s ∷ sides) most good low zero d l = omega (arith, good.0.1)
 under_low level (s ∷ sides) most good low (suc k) d l = under_low level sides most good.1 low k d (omega arith)
-
-pub length_group : (x y : ℕ) (sides : List ℕ) → length (laid_group x y sides) ≡ length sides
-length_group x y [] = refl
-length_group x y (s ∷ sides) = omega (arith, length_group (x + s) y sides)
 
 all_take : (P : Run → Type 0) (runs : List Run) (a : ℕ) → a ≤ length runs → All P runs → All P (take a runs)
 all_take P runs a within all k d l =

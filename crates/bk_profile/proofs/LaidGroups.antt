@@ -1,12 +1,13 @@
 -- What is laid group by group stands in the order of a code, fills its columns, and has the groups as its code.
 use Rattle.std.specs.List.{AllByRecursion}
 use Rattle.std.proofs.Common.{Bool, List, [], ap, arith, false, inl, inr, length, refl, subst, sym, true, ℕ, ◌++◌, ◌+◌, ◌<◌, ◌∙◌, ◌∷◌, ◌≡◌, ◌≤◌, ◌⊎◌}
-use Rattle.std.proofs.lemmas.Bool.Decides.{nat_tests}
+use Rattle.std.proofs.lemmas.Bool.{cases_lt}
 use Rattle.bk_tiling.proofs.Cells.{all_from, column_from, depth-append, depth_reaches, from_append, in_all, true_or_false}
 use Rattle.bk_tiling.proofs.Group.{HasOver, depth_under, filled_group, group_sides, group_top, group_within, over_group}
+use Rattle.bk_tiling.proofs.Groups.{beside_from, beside_to}
 use Rattle.bk_tiling.proofs.ListLaws.{append_assoc, append_nil}
 use Rattle.bk_tiling.proofs.PuttingInOrder.{group_ordered}
-use Rattle.bk_tiling.proofs.Rows.{total}
+use Rattle.bk_tiling.proofs.Rows.{sum_is_total, total}
 use Rattle.bk_tiling.proofs.Scaling.{before_from}
 use Rattle.bk_tiling.specs.CodeOrder.{InCodeOrder, comes_before, stands_beside}
 use Rattle.bk_tiling.specs.Column.{IsFilled, depth}
@@ -16,18 +17,8 @@ use Rattle.bk_tiling.specs.declared.Segment.{Segment}
 use Rattle.bk_tiling.specs.declared.Square.{Square}
 use Rattle.bk_code.proofs.GroupSteps.{before, groups_cons, groups_some, side_groups}
 use Rattle.bk_code.specs.Code.{Code}
-use Rattle.bk_profile.proofs.CodeLaying.{sum_is_total}
 use Rattle.bk_profile.proofs.Storing.{there}
 use Rattle.bk_profile.specs.Gap.{Fits, IsGap, LaysTo, with_group}
-
-two : (a b : ℕ) → (a < b) ⊎ (b ≤ a)
-two a b = grind arith
-
-beside_from : (q r : Square) → q.y ≡ r.y → q.x + q.s ≡ r.x → stands_beside q r ≡ true
-beside_from q r a b = grind (arith, nat_tests)
-
-beside_to : (q r : Square) → stands_beside q r ≡ true → (q.y ≡ r.y) × (q.x + q.s ≡ r.x)
-beside_to q r e = (grind (arith, nat_tests), grind (arith, nat_tests))
 
 -- the square is the last of these
 abbrev pub IsLast : List Square → Square → Type 0
@@ -140,7 +131,7 @@ module _ (w : ℕ) (laid : List Square) (code : Code) (gap : Segment) (group : L
     side = group_sides gap.x gap.level group good q h;
     right = omega (arith, (group_within gap.x gap.level group q h).1, wide, within);
     least = λ c a. omega (arith, is.least c a, depth-append laid more c, top);
-    before_it = λ c a. cases c a (two c gap.x);
+    before_it = λ c a. cases c a (cases_lt c gap.x);
   }
     where
       top : q.y ≡ gap.level
@@ -151,7 +142,7 @@ module _ (w : ℕ) (laid : List Square) (code : Code) (gap : Segment) (group : L
       cases c a (inr k) = omega (arith, under c k (omega (arith, a, (group_within gap.x gap.level group q h).1)), top)
 
   old_first : (p q : Square) → IsOneOf p laid → IsOneOf q more → comes_before p q ≡ true
-  old_first p q h k = before_from p q (cases (two p.y gap.level) (two gap.x (p.x + p.s)))
+  old_first p q h k = before_from p q (cases (cases_lt p.y gap.level) (cases_lt gap.x (p.x + p.s)))
     where
       top : q.y ≡ gap.level
       top = group_top gap.x gap.level group q k

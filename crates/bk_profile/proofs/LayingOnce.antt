@@ -1,7 +1,10 @@
 -- There is one gap, so laying has one outcome; laying some groups and then others.
 use Rattle.std.specs.List.{AllByRecursion}
 use Rattle.std.proofs.Common.{List, [], ap, arith, inl, inr, length, refl, subst, sym, ℕ, ◌++◌, ◌+◌, ◌<◌, ◌∙◌, ◌∷◌, ◌≡◌, ◌≤◌, ◌⊎◌}
+use Rattle.std.proofs.lemmas.Bool.{cases_lt}
 use Rattle.std.proofs.lemmas.List.{length-append}
+use Rattle.bk_tiling.proofs.AllOfLists.{all_append}
+use Rattle.bk_tiling.proofs.Group.{length_group}
 use Rattle.bk_tiling.specs.Column.{depth}
 use Rattle.bk_tiling.specs.Kept.{IsSide}
 use Rattle.bk_tiling.specs.SquareGroups.{laid_group}
@@ -9,11 +12,7 @@ use Rattle.bk_tiling.specs.declared.Segment.{Segment}
 use Rattle.bk_tiling.specs.declared.Square.{Square}
 use Rattle.bk_code.specs.Code.{Code, flat}
 use Rattle.bk_code.specs.Kept.{IsSideGroup}
-use Rattle.bk_profile.proofs.Hanging.{length_group}
 use Rattle.bk_profile.specs.Gap.{Fits, IsGap, LaysTo, with_group}
-
-two : (a b : ℕ) → (a < b) ⊎ (b ≤ a)
-two a b = grind arith
 
 same_level : (w : ℕ) (laid : List Square) (g h : Segment) → IsGap w laid g → IsGap w laid h → g.level ≤ h.level
 same_level w laid g h a b =
@@ -22,14 +21,14 @@ same_level w laid g h a b =
     omega arith
 
 not_before : (w : ℕ) (laid : List Square) (g h : Segment) → IsGap w laid g → IsGap w laid h → g.level ≡ h.level → h.x ≤ g.x
-not_before w laid g h a b e = cases (two g.x h.x)
+not_before w laid g h a b e = cases (cases_lt g.x h.x)
   where
     cases : (g.x < h.x) ⊎ (h.x ≤ g.x) → h.x ≤ g.x
     cases (inl c) = absurd (omega (arith, (a.flat).level g.x (omega arith) (omega (arith, (a.flat).some)), b.leftmost g.x c, e))
     cases (inr c) = c
 
 not_shorter : (w : ℕ) (laid : List Square) (g h : Segment) → IsGap w laid g → IsGap w laid h → g.level ≡ h.level → g.x ≡ h.x → h.width ≤ g.width
-not_shorter w laid g h a b e f = cases (two g.width h.width)
+not_shorter w laid g h a b e f = cases (cases_lt g.width h.width)
   where
     cases : (g.width < h.width) ⊎ (h.width ≤ g.width) → h.width ≤ g.width
     cases (inl c) = absurd (omega (arith, a.ends (omega (arith, (b.flat).within, c, f)), (b.flat).level (g.x + g.width) (omega (arith, f)) (omega (arith, f, c)), e))
@@ -84,10 +83,6 @@ lays_length w laid [] end lays = omega (arith, ap length lays)
 lays_length w laid (group ∷ code) end (gap, is, fits, lays) =
     omega (arith, lays_length w (with_group laid gap group) code end lays, length-append laid (laid_group gap.x gap.level group), length_group gap.x gap.level group, length-append group (flat code))
 
-sides_append : (laid more : List Square) → AllByRecursion (λ q. IsSide q.s) laid → AllByRecursion (λ q. IsSide q.s) more → AllByRecursion (λ q. IsSide q.s) (laid ++ more)
-sides_append [] more a b = b
-sides_append (q ∷ laid) more a b = (a.0, sides_append laid more a.1 b)
-
 group_good : (x y : ℕ) (sides : List ℕ) → AllByRecursion IsSide sides → AllByRecursion (λ q. IsSide q.s) (laid_group x y sides)
 group_good x y [] good = tt
 group_good x y (s ∷ sides) good = (good.0, group_good (x + s) y sides good.1)
@@ -95,4 +90,4 @@ group_good x y (s ∷ sides) good = (good.0, group_good (x + s) y sides good.1)
 pub lays_sides : (w : ℕ) (laid : List Square) (code : Code) (end : List Square) → AllByRecursion IsSideGroup code → LaysTo w laid code end → AllByRecursion (λ q. IsSide q.s) laid → AllByRecursion (λ q. IsSide q.s) end
 lays_sides w laid [] end good lays sides = subst (AllByRecursion (λ q. IsSide q.s)) lays sides
 lays_sides w laid (group ∷ code) end good (gap, is, fits, lays) sides =
-    lays_sides w (with_group laid gap group) code end good.1 lays (sides_append laid (laid_group gap.x gap.level group) sides (group_good gap.x gap.level group good.0.1))
+    lays_sides w (with_group laid gap group) code end good.1 lays (all_append (λ q. IsSide q.s) laid (laid_group gap.x gap.level group) sides (group_good gap.x gap.level group good.0.1))

@@ -1,17 +1,16 @@
 -- A profile before and after a group is laid into the gap of its outline.
 use Rattle.std.specs.List.{All, AllByRecursion, HoldsAt}
-use Rattle.std.proofs.Common.{List, [], ap, arith, drop, get_or, length, subst, sum, sym, take, ℕ, ◌*◌, ◌++◌, ◌+◌, ◌<◌, ◌∙◌, ◌∷◌, ◌≡◌, ◌≤◌}
+use Rattle.std.proofs.Common.{List, ap, arith, drop, get_or, length, subst, sym, take, ℕ, ◌*◌, ◌++◌, ◌+◌, ◌<◌, ◌∙◌, ◌≡◌, ◌≤◌}
 use Rattle.std.proofs.lemmas.List.{length-append}
-use Rattle.bk_tiling.proofs.Group.{filled_group}
-use Rattle.bk_tiling.proofs.Rows.{total}
+use Rattle.bk_tiling.proofs.Group.{filled_group, length_group}
+use Rattle.bk_tiling.proofs.Rows.{sum_is_total, total}
 use Rattle.bk_tiling.specs.Column.{depth}
 use Rattle.bk_tiling.specs.Kept.{IsSide}
 use Rattle.bk_tiling.specs.SquareGroups.{laid_group}
 use Rattle.bk_tiling.specs.declared.Segment.{Segment}
 use Rattle.bk_tiling.specs.declared.Square.{Square}
 use Rattle.bk_tiling.specs.declared.TheConstants.{LONGEST_SIDE, MOST_SQUARES}
-use Rattle.bk_profile.proofs.CodeLaying.{sum_is_total}
-use Rattle.bk_profile.proofs.Hanging.{length_group, outline_laid}
+use Rattle.bk_profile.proofs.Hanging.{outline_laid}
 use Rattle.bk_profile.proofs.RunStarts.{gap_from_runs, greatest_depth, least_depth, no_run}
 use Rattle.bk_profile.specs.Gap.{Fits, IsGap, with_group}
 use Rattle.bk_profile.specs.Laid.{IsGreatestDepth, IsLeastDepth, Laid}
@@ -82,11 +81,3 @@ pub greatest_read : (p : Laid) (runs once : List Run) (greatest : ℕ) → IsSto
 greatest_read p runs once greatest stored e most some =
     let at : (k : ℕ) × (k < length runs) × HoldsAt (λ (r : Run). r.level ≡ greatest) runs k = subst (λ (l : List Run). (k : ℕ) × (k < length l) × HoldsAt (λ (r : Run). r.level ≡ greatest) l k) e some in
     greatest_depth p.width p.squares runs at.0 greatest stored.outline (subst (λ (l : List Run). All (λ (r : Run). r.level ≤ greatest) l) e most) at.1 at.2
-
--- one more square of a group
-pub group_push : (x y : ℕ) (sides : List ℕ) (s : ℕ) → laid_group x y (sides ++ s ∷ []) ≡ laid_group x y sides ++ (record { x = x + sum sides; y = y; s = s }) ∷ []
-group_push x y sides s = go x sides ∙ ap (λ n. laid_group x y sides ++ (record { x = x + n; y = y; s = s }) ∷ []) (sym (sum_is_total sides))
-  where
-    go : (x : ℕ) (sides : List ℕ) → laid_group x y (sides ++ s ∷ []) ≡ laid_group x y sides ++ (record { x = x + total sides; y = y; s = s }) ∷ []
-    go x [] = ap (λ n. (record { x = n; y = y; s = s }) ∷ []) (omega arith)
-    go x (t ∷ sides) = ap (λ (l : List Square). (record { x = x; y = y; s = t }) ∷ l) (go (x + t) sides ∙ ap (λ n. laid_group (x + t) y sides ++ (record { x = n; y = y; s = s }) ∷ []) (omega arith))

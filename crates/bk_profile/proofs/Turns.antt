@@ -1,13 +1,13 @@
 -- Laying a code group by group: what each turn needs and keeps, and how it ends.
-use Rattle.std.specs.List.{AllByRecursion}
 use Rattle.std.specs.Prelude.{IfErr, IfOk, IsOkAnd, Result}
 use Rattle.std.specs.declared.result.Result.TheVariants.{Err, Ok}
-use Rattle.std.proofs.Common.{List, [], ap, arith, drop, get_or, length, refl, subst, suc, sum, sym, take, zero, ℕ, ◌++◌, ◌+◌, ◌<◌, ◌∙◌, ◌∷◌, ◌≡◌, ◌≤◌}
+use Rattle.std.proofs.Common.{List, [], ap, arith, drop, get_or, length, refl, subst, sum, sym, take, ℕ, ◌++◌, ◌+◌, ◌<◌, ◌∙◌, ◌∷◌, ◌≡◌, ◌≤◌}
 use Rattle.std.proofs.lemmas.List.{append_assoc, drop_more, length-append, length-take-le, take-append-drop, take_all, take_more}
 use Rattle.bk_tiling.proofs.NextCorner.{same_tiling}
 use Rattle.bk_tiling.specs.Tiling.{Tiling}
 use Rattle.bk_tiling.specs.declared.TheConstants.{MOST_SQUARES}
 use Rattle.bk_code.proofs.GroupSteps.{side_groups}
+use Rattle.bk_code.proofs.Storing.{group_good}
 use Rattle.bk_code.specs.Code.{Code, flat}
 use Rattle.bk_code.specs.Kept.{IsKeptCode, IsSideGroup}
 use Rattle.bk_profile.proofs.CodeLaid.{laid_out, lays_code, no_misfit, not_open, width_is}
@@ -25,11 +25,6 @@ flat_append (group ∷ code) more = ap (λ (l : List ℕ). group ++ l) (flat_app
 -- the groups up to one, that one, and those after it
 split_at : (code : Code) (k : ℕ) → k < length code → code ≡ take k code ++ get_or code k [] ∷ drop (k + 1) code
 split_at code k l = sym (take-append-drop k code) ∙ ap (λ (c : Code). take k code ++ c) (drop_more code k [] l)
-
-group_good : (code : Code) (k : ℕ) → AllByRecursion IsSideGroup code → k < length code → IsSideGroup (get_or code k [])
-group_good [] k good l = absurd (omega arith)
-group_good (group ∷ code) zero good l = good.0
-group_good (group ∷ code) (suc k) good l = group_good code k good.1 (omega arith)
 
 -- a group that is read
 pub read_good : (code : Code) (k : ℕ) (group : List ℕ) → IsKeptCode code → k < length code → group ≡ get_or code k [] → IsSideGroup group

@@ -1,6 +1,5 @@
 pub mod AnswerExamples
 pub mod Spaces
-pub mod Codes
 pub mod Verdicts
 pub mod ListingPieces
 pub mod ListingExamples

@@ -3,6 +3,7 @@ use Rattle.std.specs.List.{AllByRecursion}
 use Prim.Native.Nat.{◌∣◌}
 use Rattle.std.proofs.Common.{List, [], ap, arith, inl, inr, map, refl, subst, sym, ℕ, ◌*◌, ◌<◌, ◌∙◌, ◌∷◌, ◌≡◌}
 use Rattle.std.proofs.lemmas.Nat.Gcd.{dvd_antisymm}
+use Rattle.bk_tiling.proofs.EnlargedTilings.{enlarged-back, enlarged-enlarged, enlarged-once}
 use Rattle.bk_frac.proofs.DivisorLaws.{gcd_of-greatest}
 use Rattle.bk_tiling.specs.Scale.{AreAlike, enlarged}
 use Rattle.bk_tiling.specs.Tiling.{IsOneOf, IsTiling, Tiling}
@@ -11,7 +12,7 @@ use Rattle.bk_sym.proofs.CanonicalLaws.{a_canonical_tiling_is_one}
 use Rattle.bk_sym.proofs.Composing.{images_are_undone, images_of_images}
 use Rattle.bk_sym.proofs.Images.{images_are_tilings}
 use Rattle.bk_sym.proofs.KeptImages.{side_from_image}
-use Rattle.bk_sym.proofs.Multiples.{divisor_of_multiple, enlarged-back, enlarged-enlarged, enlarged-once, image-enlarged}
+use Rattle.bk_sym.proofs.Multiples.{divisor_of_multiple, image-enlarged}
 use Rattle.bk_sym.proofs.ScaledDown.{scaled_is_tiling, side_divides, side_divisor, some_divisor, whole_again}
 use Rattle.bk_sym.specs.Canonical.{IsAtMost, IsCanonicalOf, Lies, scaled_down_tiling}
 use Rattle.bk_sym.specs.Image.{image}

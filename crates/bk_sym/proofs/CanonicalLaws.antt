@@ -6,6 +6,7 @@ use Rattle.std.specs.declared.cmp.Ordering.{Ordering}
 use Rattle.std.specs.declared.cmp.Ordering.TheVariants.{Equal, Greater, Less}
 use Rattle.std.proofs.Common.{Bool, List, [], ap, arith, cond, false, inl, inr, length, map, refl, subst, sym, true, ℕ, ◌*◌, ◌+◌, ◌<◌, ◌∙◌, ◌∷◌, ◌≡◌, ◌≤◌, ◌⊎◌}
 use Rattle.std.proofs.lemmas.Bool.Decides.{nat_tests}
+use Rattle.bk_tiling.proofs.EnlargedTilings.{enlarged-once}
 use Rattle.bk_tiling.proofs.Scaling.{mul_one}
 use Rattle.bk_tiling.specs.CodeOrder.{comes_before, in_code_order, with_square}
 use Rattle.bk_tiling.specs.Scale.{enlarged, enlarged_square}
@@ -15,7 +16,6 @@ use Rattle.bk_code.proofs.FlatList.{a_flat_list_fixes_a_tiling}
 use Rattle.bk_code.specs.Code.{code_of, flat}
 use Rattle.bk_sym.proofs.Images.{images_are_tilings}
 use Rattle.bk_sym.proofs.KeptImages.{side-image_square}
-use Rattle.bk_sym.proofs.Multiples.{enlarged-once}
 use Rattle.bk_sym.proofs.ScaledDown.{scaled_is_tiling, side_divisor, whole_again}
 use Rattle.bk_sym.specs.Canonical.{IsAtMost, IsCanonical, scaled_down_tiling}
 use Rattle.bk_sym.specs.Image.{image, image_square}

@@ -4,6 +4,7 @@ use Rattle.std.specs.Ordering.{is_le, nat_cmp, ordering_reverse}
 use Rattle.std.specs.declared.cmp.Ordering.{Ordering}
 use Rattle.std.specs.declared.cmp.Ordering.TheVariants.{Equal, Greater, Less}
 use Rattle.std.proofs.Common.{List, [], ap, arith, false, get_or, inl, inr, refl, subst, sym, true, ℕ, ◌+◌, ◌<◌, ◌∙◌, ◌∷◌, ◌≡◌, ◌≤◌, ◌⊎◌}
+use Rattle.std.proofs.lemmas.Bool.{cases_lt}
 use Rattle.std.proofs.lemmas.Cmp.{tied_itself}
 use Rattle.bk_code.specs.Code.{code_of, flat}
 use Rattle.bk_tiling.specs.Tiling.{IsTiling, Tiling}
@@ -47,11 +48,8 @@ NoneGreater t turns k c = (j : ℕ) → j < k → Lies (image (get_or turns j Sa
 
 pub none_greater-more : (t : Tiling) (turns : List Turn) (k : ℕ) (c : Tiling) → NoneGreater t turns k c
     → (Lies (image (get_or turns k Same) t) → IsAtMost (image (get_or turns k Same) t) c) → NoneGreater t turns (k + 1) c
-none_greater-more t turns k c before here j below = cases (two j k)
+none_greater-more t turns k c before here j below = cases (cases_lt j k)
   where
-    two : (a b : ℕ) → (a < b) ⊎ (b ≤ a)
-    two a b = grind arith
-
     cases : (j < k) ⊎ (k ≤ j) → Lies (image (get_or turns j Same) t) → IsAtMost (image (get_or turns j Same) t) c
     cases (inl h) = before j h
     cases (inr h) = let e : k ≡ j = omega arith in subst (λ n. Lies (image (get_or turns n Same) t) → IsAtMost (image (get_or turns n Same) t) c) e here

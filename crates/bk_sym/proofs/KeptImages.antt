@@ -1,13 +1,13 @@
 -- Images and tilings in lowest terms are no larger than a `Tiling` of the code can be.
 use Rattle.std.specs.List.{AllByRecursion}
 use Rattle.std.specs.Prelude.{◌/◌, ◌^◌}
-use Rattle.std.proofs.Common.{Bool, List, [], ap, arith, cond, false, length, map, refl, subst, suc, sym, take, true, ℕ, ◌<◌, ◌∙◌, ◌∷◌, ◌≡◌, ◌≤◌}
+use Rattle.std.proofs.Common.{List, [], ap, arith, length, map, refl, subst, sym, take, ℕ, ◌<◌, ◌∙◌, ◌∷◌, ◌≡◌, ◌≤◌}
 use Rattle.std.proofs.Math.Nat.{div-le_self}
 use Rattle.std.proofs.lemmas.List.{take_all}
 use Rattle.bk_tiling.proofs.Cells.{all_from, in_all}
 use Rattle.bk_tiling.proofs.ListLaws.{length_map}
+use Rattle.bk_tiling.proofs.OrderLaws.{in_code_order-length}
 use Rattle.bk_tiling.proofs.PuttingInOrder.{from_order}
-use Rattle.bk_tiling.specs.CodeOrder.{comes_before, in_code_order, with_square}
 use Rattle.bk_tiling.specs.Kept.{IsKept, IsSide}
 use Rattle.bk_tiling.specs.Tiling.{IsOneOf, Tiling}
 use Rattle.bk_tiling.specs.declared.Square.{Square}
@@ -36,18 +36,6 @@ side_from_image turn t p h =
     let found = from_map (image_square turn t.width t.height) t.squares p (from_order (map (image_square turn t.width t.height) t.squares) p h) in
     (found.0, found.1, ap (λ (r : Square). r.s) found.2 ∙ side-image_square turn t.width t.height found.0)
 
-length-with_square : (q : Square) (squares : List Square) → length (with_square q squares) ≡ suc (length squares)
-length-with_square q [] = refl
-length-with_square q (r ∷ squares) = cases (comes_before q r) (length-with_square q squares)
-  where
-    cases : (b : Bool) → length (with_square q squares) ≡ suc (length squares) → length (cond b (q ∷ r ∷ squares) (r ∷ with_square q squares)) ≡ suc (suc (length squares))
-    cases true e = refl
-    cases false e = ap suc e
-
-length-in_code_order : (squares : List Square) → length (in_code_order squares) ≡ length squares
-length-in_code_order [] = refl
-length-in_code_order (q ∷ squares) = length-with_square q (in_code_order squares) ∙ ap suc (length-in_code_order squares)
-
 size_fits : (turn : Turn) (w h most : ℕ) → w < most → h < most → ((image_size turn w h).0 < most) × ((image_size turn w h).1 < most)
 size_fits Same w h most a b = (a, b)
 size_fits FlipX w h most a b = (a, b)
@@ -61,7 +49,7 @@ size_fits SwapHalf w h most a b = (b, a)
 pub kept_image : (turn : Turn) (t : Tiling) → IsKept t → IsKept (image turn t)
 kept_image turn t kept = record {
   tiling = images_are_tilings t turn kept.tiling;
-  few = omega (arith, kept.few, length-in_code_order (map (image_square turn t.width t.height) t.squares), length_map (image_square turn t.width t.height) t.squares);
+  few = omega (arith, kept.few, in_code_order-length (map (image_square turn t.width t.height) t.squares), length_map (image_square turn t.width t.height) t.squares);
   sides = all_from (λ q. IsSide q.s) (image turn t).squares (λ p h. let found = side_from_image turn t p h in
       subst IsSide (sym found.2) (in_all (λ q. IsSide q.s) t.squares kept.sides found.0 found.1));
   width_fits = (size_fits turn t.width t.height (2 ^ 64) kept.width_fits kept.height_fits).0;

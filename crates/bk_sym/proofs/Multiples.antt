@@ -1,41 +1,20 @@
 -- Tilings enlarged: their divisors, and their images.
-use Rattle.std.specs.Int.{IsGcd}
-use Rattle.std.specs.Prelude.{◌%◌, ◌/◌}
-use Rattle.std.proofs.Common.{Bool, List, [], ap, arith, cond, false, inl, inr, map, refl, subst, suc, sym, true, zero, ℕ, ◌*◌, ◌+◌, ◌-◌, ◌<◌, ◌∙◌, ◌∷◌, ◌≡◌, ◌≤◌, ◌⊎◌}
-use Rattle.std.proofs.Math.Nat.{div-add-mod, mod-eq_of_lt, mod-lt, mul-le-mul_left, mul-add-mod_self_left}
-use Rattle.std.proofs.lemmas.Bool.{both_ways, cases_Bool}
-use Rattle.std.proofs.lemmas.Nat.Gcd.{IsGcd-from_mod, IsGcd-from_zero, le_of_dvd, same_from_IsGcd}
-use Rattle.bk_frac.proofs.DivisorLaws.{gcd_spec}
-use Rattle.bk_frac.specs.Divisor.{gcd, gcd_of, gcd_within}
+use Rattle.std.proofs.Common.{Bool, List, [], ap, arith, cond, false, inl, inr, map, refl, sym, true, ℕ, ◌*◌, ◌+◌, ◌-◌, ◌<◌, ◌∙◌, ◌∷◌, ◌≡◌, ◌≤◌, ◌⊎◌}
+use Rattle.std.proofs.Math.Nat.{mul-le-mul_left}
+use Rattle.std.proofs.lemmas.Bool.{both_ways, cases_Bool, cases_lt}
+use Rattle.bk_frac.specs.Divisor.{gcd, gcd_of}
 use Rattle.bk_tiling.proofs.Scaling.{before_cases, before_from, mul_below, mul_one}
 use Rattle.bk_tiling.proofs.TilingLaws.{within_of}
 use Rattle.bk_tiling.specs.CodeOrder.{comes_before, in_code_order, with_square}
 use Rattle.bk_tiling.specs.Scale.{enlarged, enlarged_square}
 use Rattle.bk_tiling.specs.Tiling.{IsOneOf, IsTiling, Tiling}
 use Rattle.bk_tiling.specs.declared.Square.{Square}
+use Rattle.bk_frac.proofs.Coprime.{gcd-mul}
 use Rattle.bk_sym.proofs.Composing.{square_same}
 use Rattle.bk_sym.proofs.ScaledDown.{side_divisor}
 use Rattle.bk_sym.specs.Image.{image, image_size, image_square}
 use Rattle.bk_sym.specs.declared.Turn.{Turn}
 use Rattle.bk_sym.specs.declared.Turn.TheVariants.{FlipX, FlipY, Half, Same, Swap, SwapFlipX, SwapFlipY, SwapHalf}
-
--- remainders of multiples are multiples of remainders
-mul-mod : (k a b : ℕ) → 0 < k → 0 < b → (k * a) % (k * b) ≡ k * (a % b)
-mul-mod k a b some big =
-    let split : k * a ≡ (k * b) * (a / b) + k * (a % b) = omega (arith, ap (λ n. k * n) (div-add-mod a b)) in
-    ap (λ n. n % (k * b)) split ∙ mul-add-mod_self_left (k * b) (a / b) (k * (a % b)) ∙ mod-eq_of_lt (mul_below k (a % b) b some (mod-lt a big))
-
-gcd_within-mul : (k turns a b : ℕ) → 0 < k → b < turns → IsGcd (k * a) (k * b) (k * gcd_within turns a b)
-gcd_within-mul k zero a b some few = absurd (omega arith)
-gcd_within-mul k (suc turns) a zero some few = IsGcd-from_zero (k * a) (k * 0) (omega arith)
-gcd_within-mul k (suc turns) a (suc b) some few =
-    IsGcd-from_mod (k * a) (k * suc b) (k * gcd_within turns (suc b) (a % suc b))
-    (subst (λ n. IsGcd (k * suc b) n (k * gcd_within turns (suc b) (a % suc b))) (sym (mul-mod k a (suc b) some (omega arith)))
-    (gcd_within-mul k turns (suc b) (a % suc b) some (omega (arith, mod-lt a {m = suc b} (omega arith)))))
-
--- the divisor of multiples is the multiple of the divisor
-gcd-mul : (k a b : ℕ) → 0 < k → gcd (k * a) (k * b) ≡ k * gcd a b
-gcd-mul k a b some = same_from_IsGcd (k * a) (k * b) (gcd (k * a) (k * b)) (k * gcd a b) (gcd_spec (k * a) (k * b)) (gcd_within-mul k (suc b) a b some (omega arith))
 
 side_divisor-enlarged : (k : ℕ) (squares : List Square) → 0 < k → gcd_of (map (λ q. q.s) (map (enlarged_square k) squares)) ≡ k * gcd_of (map (λ q. q.s) squares)
 side_divisor-enlarged k [] some = omega arith
@@ -45,73 +24,6 @@ side_divisor-enlarged k (q ∷ squares) some =
 pub divisor_of_multiple : (k : ℕ) (t : Tiling) → 0 < k → side_divisor (enlarged k t) ≡ k * side_divisor t
 divisor_of_multiple k t some = side_divisor-enlarged k t.squares some
 
--- a divisor of two numbers is no greater than the greater of them
-pub gcd-below : (a b most : ℕ) → a < most → b < most → gcd a b < most
-gcd-below a b most ha hb = cases (two a) (two b)
-  where
-    two : (n : ℕ) → (0 < n) ⊎ (n ≡ 0)
-    two n = grind arith
-
-    cases : (0 < a) ⊎ (a ≡ 0) → (0 < b) ⊎ (b ≡ 0) → gcd a b < most
-    cases (inl some) other = omega (arith, le_of_dvd some (gcd_spec a b).0)
-    cases (inr none) (inl some) = omega (arith, le_of_dvd some (gcd_spec a b).1)
-    cases (inr none) (inr zero_b) = subst (λ n. gcd a n < most) (sym zero_b) ha
-
--- a multiple of a multiple
-times : (m n x : ℕ) → m * (n * x) ≡ (m * n) * x
-times m n x = omega arith
-
-list_twice : (m n : ℕ) (squares : List Square) → map (enlarged_square m) (map (enlarged_square n) squares) ≡ map (enlarged_square (m * n)) squares
-list_twice m n [] = refl
-list_twice m n (q ∷ squares) = λ i. record { x = times m n q.x i; y = times m n q.y i; s = times m n q.s i } ∷ list_twice m n squares i
-
-pub enlarged-enlarged : (m n : ℕ) (t : Tiling) → enlarged m (enlarged n t) ≡ enlarged (m * n) t
-enlarged-enlarged m n t = λ i. record { width = times m n t.width i; height = times m n t.height i; squares = list_twice m n t.squares i }
-
-list_once : (squares : List Square) → map (enlarged_square 1) squares ≡ squares
-list_once [] = refl
-list_once (q ∷ squares) = λ i. record { x = single q.x i; y = single q.y i; s = single q.s i } ∷ list_once squares i
-  where
-    single : (n : ℕ) → 1 * n ≡ n
-    single n = omega arith
-
-pub enlarged-once : (t : Tiling) → enlarged 1 t ≡ t
-enlarged-once t = λ i. record { width = single t.width i; height = single t.height i; squares = list_once t.squares i }
-  where
-    single : (n : ℕ) → 1 * n ≡ n
-    single n = omega arith
-
--- equal multiples are those of equal tilings
-list_back : (k : ℕ) (qs rs : List Square) → 0 < k → map (enlarged_square k) qs ≡ map (enlarged_square k) rs → qs ≡ rs
-list_back k [] [] some e = refl
-list_back k [] (r ∷ rs) some e = absurd (cc)
-list_back k (q ∷ qs) [] some e = absurd (cc)
-list_back k (q ∷ qs) (r ∷ rs) some e = λ i. record { x = x i; y = y i; s = s i } ∷ list_back k qs rs some rest i
-  where
-    first : enlarged_square k q ≡ enlarged_square k r
-    first = cc
-
-    rest : map (enlarged_square k) qs ≡ map (enlarged_square k) rs
-    rest = cc
-
-    x : q.x ≡ r.x
-    x = mul_one k q.x r.x some (ap (λ (p : Square). p.x) first)
-
-    y : q.y ≡ r.y
-    y = mul_one k q.y r.y some (ap (λ (p : Square). p.y) first)
-
-    s : q.s ≡ r.s
-    s = mul_one k q.s r.s some (ap (λ (p : Square). p.s) first)
-
-pub enlarged-back : (k : ℕ) (t u : Tiling) → 0 < k → enlarged k t ≡ enlarged k u → t ≡ u
-enlarged-back k t u some e = λ i. record { width = width i; height = height i; squares = list_back k t.squares u.squares some (ap (λ (v : Tiling). v.squares) e) i }
-  where
-    width : t.width ≡ u.width
-    width = mul_one k t.width u.width some (ap (λ (v : Tiling). v.width) e)
-
-    height : t.height ≡ u.height
-    height = mul_one k t.height u.height some (ap (λ (v : Tiling). v.height) e)
-
 -- squares enlarged stand in the order in which they stood
 before_enlarged : (k : ℕ) (q r : Square) → 0 < k → comes_before (enlarged_square k q) (enlarged_square k r) ≡ comes_before q r
 before_enlarged k q r some = cases (cases_Bool (comes_before q r)) (cases_Bool (comes_before (enlarged_square k q) (enlarged_square k r)))
@@ -120,11 +32,8 @@ before_enlarged k q r some = cases (cases_Bool (comes_before q r)) (cases_Bool (
     up (inl h) = inl (mul_below k q.y r.y some h)
     up (inr h) = inr (ap (λ (n : ℕ). k * n) h.0, mul_below k q.x r.x some h.1)
 
-    two : (a b : ℕ) → (a < b) ⊎ (b ≤ a)
-    two a b = grind arith
-
     below : (a b : ℕ) → k * a < k * b → a < b
-    below a b h = from (two a b)
+    below a b h = from (cases_lt a b)
       where
         from : (a < b) ⊎ (b ≤ a) → a < b
         from (inl l) = l

@@ -1,11 +1,12 @@
 -- A tiling is canonical exactly where it lies, is in lowest terms, and is the greatest of its images.
 use Rattle.std.proofs.Common.{ap, arith, subst, sym, ℕ, ◌*◌, ◌∙◌, ◌≡◌}
+use Rattle.bk_tiling.proofs.EnlargedTilings.{enlarged-once}
 use Rattle.bk_tiling.proofs.Scaling.{mul_one}
 use Rattle.bk_tiling.specs.Scale.{enlarged}
 use Rattle.bk_tiling.specs.Tiling.{IsTiling, Tiling}
 use Rattle.bk_sym.proofs.CanonicalLaws.{own_canonical}
 use Rattle.bk_sym.proofs.Composing.{image-Same}
-use Rattle.bk_sym.proofs.Multiples.{divisor_of_multiple, enlarged-once}
+use Rattle.bk_sym.proofs.Multiples.{divisor_of_multiple}
 use Rattle.bk_sym.proofs.ScaledDown.{scaled_is_tiling, side_divisor, some_divisor, whole_again}
 use Rattle.bk_sym.specs.Canonical.{IsCanonical, IsGreatestImage, Lies, scaled_down_tiling}
 use Rattle.bk_sym.specs.declared.Turn.TheVariants.{Same}

@@ -4,6 +4,7 @@ use Rattle.std.specs.Prelude.{◌/◌}
 use Prim.Native.Nat.{◌∣◌}
 use Rattle.std.proofs.Common.{List, [], ap, arith, inl, inr, length, map, refl, subst, suc, sym, true, zero, ℕ, ◌*◌, ◌+◌, ◌-◌, ◌<◌, ◌∙◌, ◌∷◌, ◌≡◌, ◌≤◌, ◌⊎◌}
 use Rattle.std.proofs.Math.Nat.{dvd-add, mul-div_cancel', mul-le-mul_left}
+use Rattle.std.proofs.lemmas.Bool.{cases_lt}
 use Rattle.std.proofs.lemmas.Nat.Gcd.{dvd-zero}
 use Rattle.bk_tiling.proofs.Cells.{all_from, counted_one, covers_from, no_two, over_from}
 use Rattle.bk_tiling.proofs.ListLaws.{length_map}
@@ -19,11 +20,8 @@ use Rattle.bk_sym.proofs.Images.{count_same, same_cover}
 use Rattle.bk_sym.specs.Canonical.{scaled_down_tiling}
 
 mul_below_back : (k a b : ℕ) → k * a < k * b → a < b
-mul_below_back k a b h = cases (two a b)
+mul_below_back k a b h = cases (cases_lt a b)
   where
-    two : (a b : ℕ) → (a < b) ⊎ (b ≤ a)
-    two a b = grind arith
-
     cases : (a < b) ⊎ (b ≤ a) → a < b
     cases (inl l) = l
     cases (inr l) = absurd (omega (arith, h, mul-le-mul_left k l))
@@ -61,20 +59,17 @@ scaled_down_is k t h tiling = record {
     order [] o = tt
     order (q ∷ squares) o = (before_each q squares o.0, order squares o.1)
 
-two : (a b : ℕ) → (a < b) ⊎ (b ≤ a)
-two a b = grind arith
-
 -- what divides all sides divides all places and the size
 module _ (t : Tiling) (tiling : IsTiling t) (g : ℕ) (sides : (q : Square) → IsOneOf q t.squares → g ∣ q.s) where
   ends_at : (i j x : ℕ) → i + 1 ≡ x → (r : Square) → covers i j r ≡ true → (x < r.x + r.s → ⊥) → r.x + r.s ≡ x
-  ends_at i j x e r f not = let o = over_from i j r f in cases (two x (r.x + r.s))
+  ends_at i j x e r f not = let o = over_from i j r f in cases (cases_lt x (r.x + r.s))
     where
       cases : (x < r.x + r.s) ⊎ (r.x + r.s ≤ x) → r.x + r.s ≡ x
       cases (inl h) = absurd (not h)
       cases (inr h) = omega (arith, (over_from i j r f).right)
 
   sinks_at : (i j y : ℕ) → j + 1 ≡ y → (r : Square) → covers i j r ≡ true → (y < r.y + r.s → ⊥) → r.y + r.s ≡ y
-  sinks_at i j y e r f not = cases (two y (r.y + r.s))
+  sinks_at i j y e r f not = cases (cases_lt y (r.y + r.s))
     where
       cases : (y < r.y + r.s) ⊎ (r.y + r.s ≤ y) → r.y + r.s ≡ y
       cases (inl h) = absurd (not h)
@@ -128,7 +123,7 @@ module _ (t : Tiling) (tiling : IsTiling t) (g : ℕ) (sides : (q : Square) → 
 
   column : (n : ℕ) (q : Square) → IsOneOf q t.squares → q.x < n → g ∣ q.x
   column zero q h few = absurd (omega arith)
-  column (suc n) q h few = cases (two 0 q.x) (column n)
+  column (suc n) q h few = cases (cases_lt 0 q.x) (column n)
     where
       cases : (0 < q.x) ⊎ (q.x ≤ 0) → ((r : Square) → IsOneOf r t.squares → r.x < n → g ∣ r.x) → g ∣ q.x
       cases (inr h) rest = none q.x h
@@ -136,7 +131,7 @@ module _ (t : Tiling) (tiling : IsTiling t) (g : ℕ) (sides : (q : Square) → 
 
   level : (n : ℕ) (q : Square) → IsOneOf q t.squares → q.y < n → g ∣ q.y
   level zero q h few = absurd (omega arith)
-  level (suc n) q h few = cases (two 0 q.y) (level n)
+  level (suc n) q h few = cases (cases_lt 0 q.y) (level n)
     where
       cases : (0 < q.y) ⊎ (q.y ≤ 0) → ((r : Square) → IsOneOf r t.squares → r.y < n → g ∣ r.y) → g ∣ q.y
       cases (inr h) rest = none q.y h
@@ -171,7 +166,7 @@ module _ (t : Tiling) (tiling : IsTiling t) (g : ℕ) (sides : (q : Square) → 
   y_divides q h = level (suc q.y) q h (omega arith)
 
   pub positive : 0 < g
-  positive = cases (two 0 g)
+  positive = cases (cases_lt 0 g)
     where
       cases : (0 < g) ⊎ (g ≤ 0) → 0 < g
       cases (inl h) = h

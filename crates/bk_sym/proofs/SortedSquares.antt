@@ -5,14 +5,12 @@ use Rattle.std.specs.List.Sorted.{IsPermutation, IsSortedByKey}
 use Rattle.std.specs.Ordering.{is_lt, nat_cmp, ordering_then}
 use Rattle.std.proofs.Common.{Bool, List, [], ap, arith, cond, count_by, false, get_or, inl, inr, length, refl, subst, suc, sym, true, ℕ, ◌&&◌, ◌<◌, ◌==◌, ◌∙◌, ◌∷◌, ◌≡◌, ◌⊎◌}
 use Rattle.std.proofs.lemmas.Bool.{and_from, and_parts, both_ways, eq-eqb, eqb-true, false_from_ne_true}
-use Rattle.std.proofs.lemmas.Bool.Decides.{nat_tests}
 use Rattle.std.proofs.lemmas.Cmp.{nat_cmp_total, on_total, then_total}
 use Rattle.std.proofs.lemmas.List.Elements.{recursion_from_All}
 use Rattle.std.proofs.lemmas.List.Sorted.{ranks_by, sorted_far, sum_by-IsPermutation}
 use Rattle.bk_tiling.proofs.Cells.{count-cons, counted_one, in_all, one_counted}
-use Rattle.bk_tiling.proofs.Scaling.{before_cases}
 use Rattle.bk_tiling.specs.CodeOrder.{InCodeOrder, comes_before, in_code_order}
-use Rattle.bk_tiling.proofs.OrderLaws.{in_code_order-count}
+use Rattle.bk_tiling.proofs.OrderLaws.{before_by_rank, in_code_order-count}
 use Rattle.bk_tiling.specs.Tiling.{IsOneOf}
 use Rattle.bk_tiling.specs.declared.Square.{Square}
 use Rattle.bk_sym.proofs.Composing.{square_same}
@@ -68,14 +66,6 @@ same_squares (y ∷ ys) (z ∷ zs) a b counts = λ i. first i ∷ same_squares y
     rest : (p : Square → Bool) → count_by p ys ≡ count_by p zs
     rest p = let here : ◌≡◌ {A = ℕ} (cond (p y) 1 0) (cond (p z) 1 0) = ap (λ (q : Square). cond {A = ℕ} (p q) 1 0) first in
         omega (arith, here, counts p, count-cons p y ys, count-cons p z zs)
-
--- a square that comes before another is ranked before it
-before_by_rank : (p q : Square) → comes_before p q ≡ true → is_lt (ordering_then (nat_cmp p.y q.y) (nat_cmp p.x q.x)) ≡ true
-before_by_rank p q e = cases (before_cases p q e)
-  where
-    cases : (p.y < q.y) ⊎ ((p.y ≡ q.y) × (p.x < q.x)) → is_lt (ordering_then (nat_cmp p.y q.y) (nat_cmp p.x q.x)) ≡ true
-    cases (inl h) = grind (arith, nat_tests)
-    cases (inr h) = grind (arith, nat_tests)
 
 pub order_from_sort : (xs ys : List Square) → IsPermutation xs ys → IsSortedByKey (λ (q : Square). (q.y, q.x)) (λ (a b : ℕ × ℕ). ordering_then (nat_cmp a.0 b.0) (nat_cmp a.1 b.1)) ys
     → InCodeOrder (in_code_order xs) → ys ≡ in_code_order xs

@@ -2,7 +2,7 @@
 use Rattle.std.specs.Prelude.{Bool, false, if◌then◌else◌, nat_le, true, ℕ, ◌&&◌, ◌+◌, ◌-◌, ◌<◌, ◌==◌, ◌||◌, ◌≡◌}
 use Rattle.std.proofs.Common.{arith, leb-true, refl}
 use Rattle.std.proofs.lemmas.Bool.{and_parts, eqb-true}
-use Rattle.std.proofs.lemmas.Bool.Decides.{nat_tests}
+use Rattle.bk_grammar.proofs.BlankBytes.{blank_means}
 use Rattle.bk_grammar.specs.Grammar.{IsBlank}
 use Rattle.bk_text.specs.Reader.{kind_of}
 use Rattle.bk_text.specs.declared.reader.Bracket.{Bracket}
@@ -39,9 +39,6 @@ digit_means b h =
     let low = leb-true 49 b parts.0 in
     let high = leb-true b 57 parts.1 in
     (omega arith, omega arith, omega arith)
-
-blank_means : (b : ℕ) → (b == 32) || ((b == 9) || (b == 13)) ≡ true → IsBlank b
-blank_means b h = grind (arith, nat_tests, h)
 
 pub means : (b : ℕ) → Means (kind_of b) b
 means b =

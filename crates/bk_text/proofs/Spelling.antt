@@ -50,11 +50,6 @@ at_place P [] i all within = absurd (omega (arith, within))
 at_place P (n ∷ ns) zero all within = all.0
 at_place P (n ∷ ns) (suc i) all within = at_place P ns i all.1 (omega (arith, within))
 
-pub group_at : (code : Code) (i : ℕ) → AllByRecursion IsSideGroup code → i < length code → IsSideGroup (get_or code i [])
-group_at [] i all within = absurd (omega (arith, within))
-group_at (g ∷ code) zero all within = all.0
-group_at (g ∷ code) (suc i) all within = group_at code i all.1 (omega (arith, within))
-
 -- the text of a group is written whole
 pub whole_group : (ns old mid new : List ℕ) (i : ℕ) → 0 < length ns → length ns ≤ i + 1
     → mid ≡ old ++ 91 ∷ decimal (get_or ns 0 0) ++ flat_map side_text (take i (take (length ns - 1) (drop 1 ns))) → new ≡ mid ++ 93 ∷ [] → new ≡ old ++ group_text ns

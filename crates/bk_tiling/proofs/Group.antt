@@ -1,10 +1,11 @@
 -- A group of squares laid side by side on level columns: which cells it covers, how deep the columns are then, and
 -- that what is laid still fills these columns once.
 use Rattle.std.specs.List.{AllByRecursion}
-use Rattle.std.proofs.Common.{Bool, List, [], ap, arith, cond, count_by, false, inl, inr, map, max, refl, subst, sym, true, ℕ, ◌++◌, ◌+◌, ◌<◌, ◌∙◌, ◌∷◌, ◌≡◌, ◌≤◌, ◌⊎◌}
+use Rattle.std.proofs.Common.{Bool, List, [], ap, arith, cond, count_by, false, inl, inr, length, map, max, refl, subst, sum, sym, true, ℕ, ◌++◌, ◌+◌, ◌<◌, ◌∙◌, ◌∷◌, ◌≡◌, ◌≤◌, ◌⊎◌}
+use Rattle.std.proofs.lemmas.Bool.{cases_lt}
 use Rattle.std.proofs.lemmas.List.Sums.{sum_by-append}
 use Rattle.bk_tiling.proofs.Cells.{column_from, column_left, column_right, count-cons, covers_from, depth_reaches, none_counted, over_from}
-use Rattle.bk_tiling.proofs.Rows.{total}
+use Rattle.bk_tiling.proofs.Rows.{sum_is_total, total}
 use Rattle.bk_tiling.specs.Column.{covers_column, depth}
 use Rattle.bk_tiling.specs.Tiling.{IsOneOf, covers}
 use Rattle.bk_tiling.specs.declared.Square.{Square}
@@ -70,11 +71,8 @@ covers_one c j q e = ap (λ (b : Bool). cond {A = ℕ} b 1 0) e
 
 pub over_group : (x level : ℕ) (sides : List ℕ) (c : ℕ) → x ≤ c → c < x + total sides → HasOver level c (laid_group x level sides)
 over_group x level [] c lo hi = absurd (omega arith)
-over_group x level (s ∷ sides) c lo hi = cases (two c (x + s)) (over_group (x + s) level sides c)
+over_group x level (s ∷ sides) c lo hi = cases (cases_lt c (x + s)) (over_group (x + s) level sides c)
   where
-    two : (a b : ℕ) → (a < b) ⊎ (b ≤ a)
-    two a b = grind arith
-
     cases : (c < x + s) ⊎ (x + s ≤ c) → (x + s ≤ c → c < x + s + total sides → HasOver level c (laid_group (x + s) level sides)) → HasOver level c (laid_group x level (s ∷ sides))
     cases (inl h) rest = record { square = record { x = x; y = level; s = s }; is = inl refl; left = lo; right = h; top = refl; deep = deep; counted = counted }
       where
@@ -137,9 +135,6 @@ group_list x level [] = refl
 group_list x level (s ∷ sides) = ap (λ rest. s ∷ rest) (group_list (x + s) level sides)
 
 module _ (laid : List Square) (x level : ℕ) (sides : List ℕ) (level_there : (c : ℕ) → x ≤ c → c < x + total sides → depth laid c ≡ level) where
-  two : (a b : ℕ) → (a < b) ⊎ (b ≤ a)
-  two a b = grind arith
-
   pub depth_beside : (c : ℕ) → (c < x) ⊎ (x + total sides ≤ c) → depth (laid ++ laid_group x level sides) c ≡ depth laid c
   depth_beside c away = depth-append-max laid (laid_group x level sides) c ∙ step (depth laid c) (depth (laid_group x level sides) c) (no_depth (laid_group x level sides) c (beside_group x level sides c away))
     where
@@ -188,7 +183,7 @@ module _ (laid : List Square) (x level : ℕ) (sides : List ℕ) (level_there : 
   -- what is laid fills its columns once, with the group too
   pub filled_group : (width : ℕ) → ((c j : ℕ) → c < width → j < depth laid c → count_by (covers c j) laid ≡ 1)
       → (c j : ℕ) → c < width → j < depth (laid ++ laid_group x level sides) c → count_by (covers c j) (laid ++ laid_group x level sides) ≡ 1
-  filled_group width filled c j wide deep = place (two c x) (two c (x + total sides))
+  filled_group width filled c j wide deep = place (cases_lt c x) (cases_lt c (x + total sides))
     where
       split : count_by (covers c j) (laid ++ laid_group x level sides) ≡ count_by (covers c j) laid + count_by (covers c j) (laid_group x level sides)
       split = sum_by-append (λ q. cond (covers c j q) 1 0) laid (laid_group x level sides)
@@ -202,7 +197,7 @@ module _ (laid : List Square) (x level : ℕ) (sides : List ℕ) (level_there : 
       )
 
       under : x ≤ c → c < x + total sides → count_by (covers c j) (laid ++ laid_group x level sides) ≡ 1
-      under lo hi = cases (two j level)
+      under lo hi = cases (cases_lt j level)
         where
           over : HasOver level c (laid_group x level sides)
           over = over_group x level sides c lo hi
@@ -231,3 +226,15 @@ module _ (laid : List Square) (x level : ℕ) (sides : List ℕ) (level_there : 
       place (inl a) b = away (inl a)
       place (inr a) (inr b) = away (inr b)
       place (inr a) (inl b) = under a b
+
+pub length_group : (x y : ℕ) (sides : List ℕ) → length (laid_group x y sides) ≡ length sides
+length_group x y [] = refl
+length_group x y (s ∷ sides) = omega (arith, length_group (x + s) y sides)
+
+-- one more square of a group
+pub group_push : (x y : ℕ) (sides : List ℕ) (s : ℕ) → laid_group x y (sides ++ s ∷ []) ≡ laid_group x y sides ++ (record { x = x + sum sides; y = y; s = s }) ∷ []
+group_push x y sides s = go x sides ∙ ap (λ n. laid_group x y sides ++ (record { x = x + n; y = y; s = s }) ∷ []) (sym (sum_is_total sides))
+  where
+    go : (x : ℕ) (sides : List ℕ) → laid_group x y (sides ++ s ∷ []) ≡ laid_group x y sides ++ (record { x = x + total sides; y = y; s = s }) ∷ []
+    go x [] = ap (λ n. (record { x = n; y = y; s = s }) ∷ []) (omega arith)
+    go x (t ∷ sides) = ap (λ (l : List Square). (record { x = x; y = y; s = t }) ∷ l) (go (x + t) sides ∙ ap (λ n. laid_group (x + t) y sides ++ (record { x = n; y = y; s = s }) ∷ []) (omega arith))

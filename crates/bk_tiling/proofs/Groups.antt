@@ -44,10 +44,10 @@ pub record Split (p : Square) (squares : List Square) : Type 0 where
   pub own : AllIn (p ∷ squares) group
   pub others : AllByRecursion (λ g. IsGroup (p ∷ squares) g × AllIn squares g) groups
 
-beside_from : (p r : Square) → p.y ≡ r.y → p.x + p.s ≡ r.x → stands_beside p r ≡ true
+pub beside_from : (p r : Square) → p.y ≡ r.y → p.x + p.s ≡ r.x → stands_beside p r ≡ true
 beside_from p r a b = grind (arith, nat_tests)
 
-beside_to : (p r : Square) → stands_beside p r ≡ true → (p.y ≡ r.y) × (p.x + p.s ≡ r.x)
+pub beside_to : (p r : Square) → stands_beside p r ≡ true → (p.y ≡ r.y) × (p.x + p.s ≡ r.x)
 beside_to p r e = (grind (arith, nat_tests), grind (arith, nat_tests))
 
 all_more : (p : Square) (squares group : List Square) → AllIn squares group → AllIn (p ∷ squares) group

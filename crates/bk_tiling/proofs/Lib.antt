@@ -20,3 +20,10 @@ pub mod Sizes
 pub mod Refusing
 pub mod Sweeping
 pub mod OneRefusal
+pub mod Places
+pub mod JoinedParts
+pub mod MovedSquares
+pub mod PairCounts
+pub mod GroupCount
+pub mod EnlargedTilings
+pub mod AllOfLists

@@ -2,10 +2,12 @@
 -- leave free. So a width and a flat list of sides fix a tiling.
 use Rattle.std.specs.List.{AllByRecursion}
 use Rattle.std.proofs.Common.{List, [], ap, append_assoc, arith, cond, count_by, inl, inr, map, refl, subst, sym, true, ℕ, ◌++◌, ◌<◌, ◌∙◌, ◌∷◌, ◌≡◌, ◌≤◌, ◌⊎◌}
+use Rattle.std.proofs.lemmas.Bool.{cases_lt}
 use Rattle.std.proofs.lemmas.Bool.Decides.{nat_tests}
 use Rattle.std.proofs.lemmas.List.Sums.{sum_by-append}
 use Rattle.bk_tiling.proofs.Cells.{counted_one, covers_from, from_append, in_all, one_counted, over_from}
 use Rattle.bk_tiling.proofs.Members.{in_back}
+use Rattle.bk_tiling.proofs.OrderLaws.{before_level}
 use Rattle.bk_tiling.proofs.TilingLaws.{wide_enough}
 use Rattle.bk_tiling.specs.CodeOrder.{InCodeOrder, comes_before}
 use Rattle.bk_tiling.specs.Tiling.{IsOneOf, IsTiling, IsWithin, Tiling, covers, whole}
@@ -19,9 +21,6 @@ pub record IsNoLater (q : Square) (i j : ℕ) : Type 0 where
 order_at : (front : List Square) (q : Square) (back : List Square) → InCodeOrder (front ++ q ∷ back) → AllByRecursion (λ r. comes_before q r ≡ true) back
 order_at [] q back o = o.0
 order_at (p ∷ front) q back o = order_at front q back o.1
-
-before_level : (q r : Square) → comes_before q r ≡ true → q.y ≤ r.y
-before_level q r e = grind (arith, nat_tests)
 
 before_column : (q r : Square) → comes_before q r ≡ true → q.y ≡ r.y → q.x ≤ r.x
 before_column q r e same = grind (arith, nat_tests)
@@ -45,7 +44,7 @@ next_corner t front q back tiling is i j wide low free = cases (from_append fron
 module _ (t u : Tiling) (tiling : IsTiling t) (other : IsTiling u) (widths : t.width ≡ u.width) where
   -- after common squares the one next of t stands no later than that of u
   no_later : (front : List Square) (q r : Square) (tb ub : List Square) → t.squares ≡ front ++ q ∷ tb → u.squares ≡ front ++ r ∷ ub → IsNoLater q r.x r.y
-  no_later front q r tb ub ti ui = cases (two r.y t.height)
+  no_later front q r tb ub ti ui = cases (cases_lt r.y t.height)
     where
       q_in : IsOneOf q t.squares
       q_in = subst (IsOneOf q) (sym ti) (in_back front (q ∷ tb) q (inl refl))
@@ -64,9 +63,6 @@ module _ (t u : Tiling) (tiling : IsTiling t) (other : IsTiling u) (widths : t.w
 
       r_side : 0 < r.s
       r_side = in_all (λ q. 0 < q.s) u.squares (other.tiles).sides r r_in
-
-      two : (a b : ℕ) → (a < b) ⊎ (b ≤ a)
-      two a b = grind arith
 
       own : covers r.x r.y r ≡ true
       own = covers_from r.x r.y r (omega arith) (omega (arith, r_side)) (omega arith) (omega (arith, r_side))

@@ -1,9 +1,11 @@
 -- Squares in the order of a code: putting them in order keeps each, and changes nothing where they stand so.
 use Rattle.std.specs.List.{AllByRecursion}
 use Rattle.std.specs.Prelude.{Bool, IsTrue, List, [], cond, count_by, false, length, nat_lt, refl, suc, true, ◌<◌, ◌==◌, ◌∷◌, ◌≡◌, ◌⊎◌}
-use Rattle.std.proofs.Common.{ap, arith, eqb-true, inl, inr, ltb-true, subst, sym, ◌∙◌}
+use Rattle.std.proofs.Common.{ap, arith, eqb-true, inl, inr, ltb-true, subst, sum_by, sym, ℕ, ◌+◌, ◌∙◌, ◌≤◌}
 use Rattle.std.proofs.lemmas.Bool.{and_from, and_left, and_parts, and_right, both_ways, cases_Bool, eq-eqb, le-ltb, lt-ltb, ne_eqb, or_cases, or_from, or_left, or_right}
+use Rattle.std.proofs.lemmas.Bool.Decides.{nat_tests}
 use Rattle.std.proofs.lemmas.List.Sums.{sum_by-cons}
+use Rattle.std.specs.Ordering.{is_lt, nat_cmp, ordering_then}
 use Rattle.bk_tiling.specs.CodeOrder.{InCodeOrder, comes_before, in_code_order, with_square}
 use Rattle.bk_tiling.specs.declared.Square.{Square}
 
@@ -122,3 +124,22 @@ with_square-length q (p ∷ qs) =
 pub in_code_order-length : (qs : List Square) → length (in_code_order qs) ≡ length qs
 in_code_order-length [] = refl
 in_code_order-length (q ∷ qs) = with_square-length q (in_code_order qs) ∙ ap suc (in_code_order-length qs)
+
+pub before_by_rank : (p q : Square) → comes_before p q ≡ true → is_lt (ordering_then (nat_cmp p.y q.y) (nat_cmp p.x q.x)) ≡ true
+before_by_rank p q e = grind (arith, nat_tests)
+
+pub before_level : (q r : Square) → comes_before q r ≡ true → q.y ≤ r.y
+before_level q r e = grind (arith, nat_tests)
+
+-- sums over squares put in order, and over images
+sum_with : (f : Square → ℕ) (q : Square) (squares : List Square) → sum_by f (with_square q squares) ≡ f q + sum_by f squares
+sum_with f q [] = sum_by-cons f q []
+sum_with f q (r ∷ squares) = cases (comes_before q r) (sum_with f q squares)
+  where
+    cases : (b : Bool) → sum_by f (with_square q squares) ≡ f q + sum_by f squares → sum_by f (cond b (q ∷ r ∷ squares) (r ∷ with_square q squares)) ≡ f q + sum_by f (r ∷ squares)
+    cases true e = sum_by-cons f q (r ∷ squares)
+    cases false e = omega (arith, sum_by-cons f r (with_square q squares), sum_by-cons f r squares, e)
+
+pub sum_ordered : (f : Square → ℕ) (squares : List Square) → sum_by f (in_code_order squares) ≡ sum_by f squares
+sum_ordered f [] = refl
+sum_ordered f (q ∷ squares) = omega (arith, sum_with f q (in_code_order squares), sum_ordered f squares, sum_by-cons f q squares)

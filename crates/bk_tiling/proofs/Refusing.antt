@@ -4,13 +4,13 @@ use Rattle.std.specs.List.Sorted.{IsPermutation, IsSortedByKey}
 use Rattle.std.specs.Ordering.{is_lt, nat_cmp, ordering_then}
 use Rattle.std.specs.Prelude.{AllPairs, slice_index_or}
 use Rattle.std.proofs.Common.{Bool, List, [], ap, arith, cond, count_by, false, inl, inr, length, max, refl, subst, suc, sym, true, zero, ℕ, ◌+◌, ◌<◌, ◌∷◌, ◌≡◌, ◌≤◌, ◌⊎◌}
-use Rattle.std.proofs.lemmas.Bool.Decides.{nat_tests}
 use Rattle.std.proofs.lemmas.Cmp.{nat_cmp_total, on_total, then_total}
 use Rattle.std.proofs.lemmas.List.Elements.{recursion_from_All}
 use Rattle.std.proofs.lemmas.List.Sorted.{All-permutation, IsPermutation-sym, ranks_by, sorted_far, sum_by-IsPermutation}
 use Rattle.bk_tiling.proofs.Cells.{all_from, count-cons, covers_from, in_all, none_counted, not_both, one_counted, over_from, true_or_false}
 use Rattle.bk_tiling.proofs.Group.{covers_one}
 use Rattle.bk_tiling.proofs.Members.{one_at}
+use Rattle.bk_tiling.proofs.OrderLaws.{before_by_rank}
 use Rattle.bk_tiling.proofs.PuttingInOrder.{from_order, in_order, ordered}
 use Rattle.bk_tiling.proofs.Scaling.{before_from, same_members}
 use Rattle.bk_tiling.specs.CodeOrder.{InCodeOrder, comes_before, in_code_order}
@@ -109,9 +109,6 @@ strictly (q ∷ squares) some once sorted = (
 abbrev pub IsSortedByPlace : List Square → Type 0
 IsSortedByPlace squares = IsSortedByKey (λ (q : Square). (q.y, q.x)) (λ (a b : ℕ × ℕ). ordering_then (nat_cmp a.0 b.0) (nat_cmp a.1 b.1)) squares
 
-by_place : (p q : Square) → comes_before p q ≡ true → is_lt (ordering_then (nat_cmp p.y q.y) (nat_cmp p.x q.x)) ≡ true
-by_place p q e = grind (arith, nat_tests)
-
 none_after : (squares : List Square) → IsSortedByPlace squares → AllPairs (λ p q. comes_before q p ≡ false) squares
 none_after squares sorted i j d up below = cases (true_or_false (comes_before (slice_index_or squares j d) (slice_index_or squares i d)))
   where
@@ -120,7 +117,7 @@ none_after squares sorted i j d up below = cases (true_or_false (comes_before (s
 
     cases : (comes_before (slice_index_or squares j d) (slice_index_or squares i d) ≡ true) ⊎ (comes_before (slice_index_or squares j d) (slice_index_or squares i d) ≡ false)
         → comes_before (slice_index_or squares j d) (slice_index_or squares i d) ≡ false
-    cases (inl e) = absurd (not_both _ (by_place (slice_index_or squares j d) (slice_index_or squares i d) e)
+    cases (inl e) = absurd (not_both _ (before_by_rank (slice_index_or squares j d) (slice_index_or squares i d) e)
         (sorted_far (λ (p q : Square). is_lt (ordering_then (nat_cmp p.y q.y) (nat_cmp p.x q.x))) (ranks_by total (λ (q : Square). (q.y, q.x))) squares sorted i j d (omega arith) below))
     cases (inr e) = e
 

@@ -1,5 +1,6 @@
 -- Levels of a rectangle covered from left to right, and rows of levels from top to bottom.
 use Rattle.std.proofs.Common.{List, Some, arith, count_by, inl, inr, min, ℕ, ◌+◌, ◌<◌, ◌≡◌, ◌≤◌, ◌⊎◌}
+use Rattle.std.proofs.lemmas.Bool.{cases_lt}
 use Rattle.std.specs.List.{find}
 use Rattle.std.proofs.lemmas.List.Elements.{recursion_from_All}
 use Rattle.bk_tiling.proofs.Cells.{covers_from, in_all, one_counted, over_from}
@@ -11,9 +12,6 @@ use Rattle.bk_tiling.specs.declared.Square.{Square}
 -- each cell of the columns before x lies in a square, from level y to the level before `until`
 abbrev pub IsCoveredTo : List Square → ℕ → ℕ → ℕ → Type 0
 IsCoveredTo squares x y until = (i j : ℕ) → i < x → y ≤ j → j < until → 0 < count_by (covers i j) squares
-
-two : (a b : ℕ) → (a < b) ⊎ (b ≤ a)
-two a b = grind arith
 
 -- the square over the next free cell of a level
 pub record IsOver (width height : ℕ) (squares : List Square) (x y : ℕ) (q : Square) : Type 0 where
@@ -36,7 +34,7 @@ is_over width height squares x y q within e =
 
 -- covers further columns
 pub covered_more : (width height : ℕ) (squares : List Square) (x y until : ℕ) (q : Square) → IsOver width height squares x y q → IsCoveredTo squares x y until → IsCoveredTo squares (q.x + q.s) y (min until (q.y + q.s))
-covered_more width height squares x y until q over covered i j left high low = cases (two i x)
+covered_more width height squares x y until q over covered i j left high low = cases (cases_lt i x)
   where
     cases : (i < x) ⊎ (x ≤ i) → 0 < count_by (covers i j) squares
     cases (inl before) = covered i j before high (omega arith)
@@ -45,7 +43,7 @@ covered_more width height squares x y until q over covered i j left high low = c
 -- further levels are covered
 pub levels_more : (width : ℕ) (squares : List Square) (y until : ℕ) → ((i j : ℕ) → i < width → j < y → 0 < count_by (covers i j) squares) → IsCoveredTo squares width y until
     → (i j : ℕ) → i < width → j < until → 0 < count_by (covers i j) squares
-levels_more width squares y until above row i j wide low = cases (two j y)
+levels_more width squares y until above row i j wide low = cases (cases_lt j y)
   where
     cases : (j < y) ⊎ (y ≤ j) → 0 < count_by (covers i j) squares
     cases (inl before) = above i j wide before

@@ -1,17 +1,12 @@
 -- A trial code that is written stands for itself.
-use Rattle.std.specs.List.{AllByRecursion, onto_first}
 use Rattle.std.specs.Prelude.{Err, IsOkAnd, None, Ok, Result, Some}
 use Rattle.std.specs.Result.{result_ok}
-use Rattle.std.proofs.Common.{Bool, List, [], ap, arith, cond, false, inl, length, map, refl, subst, true, ℕ, ◌∷◌, ◌≡◌}
-use Rattle.std.proofs.lemmas.List.{append-nil, length-map}
-use Rattle.bk_tiling.specs.CodeOrder.{stands_beside}
-use Rattle.bk_tiling.specs.Kept.{IsKept, IsSide}
-use Rattle.bk_tiling.specs.SquareGroups.{square_groups}
+use Rattle.std.proofs.Common.{List, [], ap, arith, inl, length, refl, subst, ℕ, ◌≡◌}
+use Rattle.std.proofs.lemmas.List.{append-nil}
+use Rattle.bk_tiling.specs.Kept.{IsKept}
 use Rattle.bk_tiling.specs.Tiling.{Tiling}
-use Rattle.bk_tiling.specs.declared.Square.{Square}
-use Rattle.bk_code.specs.Code.{Code, code_of}
-use Rattle.bk_code.specs.Kept.{IsKeptCode, IsSideGroup}
-use Rattle.bk_code.proofs.FlatList.{flat_is_sides}
+use Rattle.bk_code.proofs.CodeOfTiling.{code_kept, code_some}
+use Rattle.bk_code.specs.Code.{code_of}
 use Rattle.bk_text.specs.CodeLine.{IsLine, Item, Line}
 use Rattle.bk_text.specs.CodeText.{code_text}
 use Rattle.bk_text.specs.ReadLine.{IsFaultOf, sides_of_line}
@@ -20,31 +15,6 @@ use Rattle.bk_text.specs.declared.TextFault.TheVariants.{Many, Text}
 use Rattle.bk_text.proofs.LinesRead.{one_meaning}
 use Rattle.bk_text.proofs.WrittenLines.{written_code}
 use Rattle.bk_profile.specs.declared.laying.Refusal.{Refusal}
-use Rattle.bk_report.proofs.Codes.{code_some}
-
-abbrev groups_of : List (List Square) → Code
-groups_of groups = map (map (λ q. q.s)) groups
-
-onto_kept : (q : Square) (groups : List (List Square)) → IsSide q.s → AllByRecursion IsSideGroup (groups_of groups) → AllByRecursion IsSideGroup (groups_of (onto_first q groups))
-onto_kept q [] side all = ((omega arith, (side, tt)), tt)
-onto_kept q (group ∷ groups) side all = ((omega arith, (side, all.0.1)), all.1)
-
-groups_kept : (squares : List Square) → AllByRecursion (λ q. IsSide q.s) squares → AllByRecursion IsSideGroup (groups_of (square_groups squares))
-groups_kept [] sides = tt
-groups_kept (q ∷ []) sides = ((omega arith, (sides.0, tt)), tt)
-groups_kept (q ∷ r ∷ squares) sides = cases (stands_beside q r) (groups_kept (r ∷ squares) sides.1)
-  where
-    cases : (b : Bool) → AllByRecursion IsSideGroup (groups_of (square_groups (r ∷ squares)))
-        → AllByRecursion IsSideGroup (groups_of (cond b (onto_first q (square_groups (r ∷ squares))) ((q ∷ []) ∷ square_groups (r ∷ squares))))
-    cases true rest = onto_kept q (square_groups (r ∷ squares)) sides.0 rest
-    cases false rest = ((omega arith, (sides.0, tt)), rest)
-
--- the code of a tiling that a `Tiling` can be is one that a `Code` can be
-pub code_kept : (t : Tiling) → IsKept t → IsKeptCode (code_of t)
-code_kept t kept = record {
-  groups = groups_kept t.squares kept.sides;
-  few = omega (arith, ap length (flat_is_sides t), length-map t.squares (λ (q : Square). q.s), kept.few);
-}
 
 -- and so its text is a line that stands for it
 pub written_is_line : (t : Tiling) → IsKept t → IsLine (Item None None (code_of t)) (code_text (code_of t))

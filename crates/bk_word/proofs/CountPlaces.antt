@@ -6,6 +6,7 @@ use Rattle.std.proofs.Math.Seq.{drop-cons, take-append_seam}
 use Rattle.std.proofs.lemmas.Bool.{cond-false, cond-true}
 use Rattle.std.proofs.lemmas.List.{drop_all, length-drop, take-append-drop, take_all}
 use Rattle.std.proofs.lemmas.List.Sums.{sum_by-cons}
+use Rattle.bk_word.proofs.ListLaws.{all_left}
 use Rattle.bk_word.specs.KeptWord.{CanStand, IsKeptWord}
 use Rattle.bk_word.specs.Stored.{IsStored, front_signs, is_count, moves_in, sign_byte, sign_of, stored, stored_move}
 use Rattle.bk_word.specs.Word.{Move, Word, order_of}
@@ -102,10 +103,6 @@ all_signs (b ∷ bytes) e = cases (is_count b) refl (all_signs bytes)
         let fewer : moves_in bytes ≡ [] = sym (at_sign b bytes h) ∙ e in
         ap (λ (l : List Sign). length (map sign_byte l)) (cond-false _ _ _ h) ∙ ap (λ (n : ℕ). suc n) (others fewer)
 
-all_front : (v w : Word) → AllByRecursion CanStand (v ++ w) → AllByRecursion CanStand v
-all_front [] w all = tt
-all_front (m ∷ v) w all = (all.0, all_front v w all.1)
-
 -- what stands before the last count
 pub last_off : (a : List ℕ) (c : ℕ) (rest : List ℕ) → is_count c ≡ true → moves_in rest ≡ [] → IsStored (a ++ c ∷ rest) → (moves_in (a ++ c ∷ rest) ≡ moves_in a ++ move_of c rest ∷ []) × IsStored a
 last_off a c rest h none s =
@@ -117,7 +114,7 @@ last_off a c rest h none s =
       moves,
       record {
         same = append_same a (stored (moves_in a)) (c ∷ rest) (stored_move (move_of c rest)) long whole;
-        kept = record { moves = all_front (moves_in a) (move_of c rest ∷ []) kept.moves; few = omega (arith, kept.few, order_one (moves_in a) (move_of c rest)) };
+        kept = record { moves = all_left CanStand (moves_in a) (move_of c rest ∷ []) kept.moves; few = omega (arith, kept.few, order_one (moves_in a) (move_of c rest)) };
       },
     )
 

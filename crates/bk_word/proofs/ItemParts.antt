@@ -4,6 +4,7 @@ use Rattle.std.specs.Prelude.{List, [], drop, length, slice_range, suc, take, ze
 use Rattle.std.proofs.Common.{ap, append_assoc, arith, get_or, length-append, length-drop, length-take, refl, subst, sym, ◌∙◌}
 use Rattle.std.proofs.lemmas.List.{drop-drop, drop-take, take-append-drop, take-take}
 use Rattle.bk_grammar.specs.Grammar.{Blanks, Comment, IsBlank, Nothing, ◌or◌}
+use Rattle.bk_word.proofs.ListLaws.{all_left, all_right}
 use Rattle.bk_word.specs.WordItem.{IsItemAt, IsItemOf}
 
 -- a list in three parts
@@ -13,14 +14,6 @@ three_parts text start end order =
     sym (take-append-drop start text)
     ∙ ap (λ (z : List ℕ). take start text ++ z) (sym (take-append-drop (end - start) (drop start text)) ∙ ap (λ (z : List ℕ). slice_range text start end ++ z) rest)
     ∙ sym (append_assoc (take start text) (slice_range text start end) (drop end text))
-
-all_left : (P : ℕ → Type 0) (a b : List ℕ) → AllByRecursion P (a ++ b) → AllByRecursion P a
-all_left P [] b all = tt
-all_left P (x ∷ a) b all = (all.0, all_left P a b all.1)
-
-all_right : (P : ℕ → Type 0) (a b : List ℕ) → AllByRecursion P (a ++ b) → AllByRecursion P b
-all_right P [] b all = all
-all_right P (x ∷ a) b all = all_right P a b all.1
 
 -- the byte at a place of a part
 get_append : (a b : List ℕ) (i : ℕ) → get_or (a ++ b) (length a + i) 0 ≡ get_or b i 0

@@ -1,7 +1,8 @@
 -- What was taken of a text is the word that it is the text of.
 use Rattle.std.specs.List.{AllByRecursion}
 use Rattle.std.specs.Prelude.{List, [], ℕ, ◌∷◌, ◌<◌, ◌≡◌, ◌≤◌}
-use Rattle.std.proofs.Common.{arith, inl, inr, subst, sym, ◌∙◌, ◌⊎◌}
+use Rattle.std.proofs.Common.{arith, inl, inr, subst, sym, ◌∙◌}
+use Rattle.std.proofs.lemmas.Bool.{cases_lt}
 use Rattle.bk_word.specs.KeptWord.{CanStand, IsKeptWord}
 use Rattle.bk_word.specs.Stored.{IsStored, moves_in}
 use Rattle.bk_word.specs.Taken.{KeepsTextOf}
@@ -27,12 +28,9 @@ bytes_kept text bytes t (w, is, keeps) few same =
     let s = stored_kept bytes w (same ∙ keeps.bytes order) kept in
     record { is = subst (IsTextOf text) (sym s.0) is; are_stored = s.1; few = subst (λ (v : Word). order_of v ≤ 200) (sym s.0) order }
 
-two : (a b : ℕ) → (a < b) ⊎ (b ≤ a)
-two a b = grind arith
-
 -- a word that takes memory has more than 16 squares
 pub many_squares : (w : Word) → (order_of w ≤ 16 → ⊥) → 16 < order_of w
-many_squares w h = elim (two 16 (order_of w)) [
+many_squares w h = elim (cases_lt 16 (order_of w)) [
   | inl more ↦ more
   | inr few ↦ absurd (h few)
 ]

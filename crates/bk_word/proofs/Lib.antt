@@ -11,3 +11,4 @@ pub mod WordPieces
 pub mod WordProgress
 pub mod ItemParts
 pub mod KeptTexts
+pub mod PlayLists

@@ -1,8 +1,8 @@
 -- The text of a word, piece by piece of its bytes.
 use Rattle.std.specs.List.{AllByRecursion}
-use Rattle.std.specs.Prelude.{List, [], cond, decimal, drop, flat_map, length, map, refl, slice_index_or, take, true, ℕ, ◌*◌, ◌++◌, ◌+◌, ◌<◌, ◌∷◌, ◌≡◌, ◌≤◌, ◌⊎◌}
+use Rattle.std.specs.Prelude.{List, [], cond, decimal, drop, flat_map, length, map, refl, slice_index_or, take, true, ℕ, ◌*◌, ◌++◌, ◌+◌, ◌<◌, ◌∷◌, ◌≡◌, ◌≤◌}
 use Rattle.std.proofs.Common.{Bool, ap, append_assoc, arith, false, get_or, inl, inr, length-append, sym, ◌∙◌}
-use Rattle.std.proofs.lemmas.Bool.{cond-true}
+use Rattle.std.proofs.lemmas.Bool.{cond-true, cases_lt}
 use Rattle.std.proofs.lemmas.Fmt.{decimal_digit, length-decimal-le}
 use Rattle.std.proofs.lemmas.Grind.{flat_map-append}
 use Rattle.std.proofs.lemmas.List.{append-nil, length-map, take-append-drop, take_more}
@@ -48,14 +48,11 @@ text_pieces m w low =
 
 -- ---- lengths
 
-two : (a b : ℕ) → (a < b) ⊎ (b ≤ a)
-two a b = grind arith
-
 short_move : (m : Move) → CanStand m → m.count ≤ 200 → length (46 ∷ move_text m) ≤ 4 * m.count
 short_move m can few =
     let parts : length (move_text m) ≡ length (decimal m.count) + length (map letter m.signs) = length-append (decimal m.count) (map letter m.signs) in
     let letters : length (map letter m.signs) ≡ length m.signs = length-map m.signs letter in
-    elim (two m.count 2) [
+    elim (cases_lt m.count 2) [
       | inl one ↦ omega (arith, parts, letters, can.some, can.most, ap (λ (z : List ℕ). length z) (decimal_digit m.count (omega arith)))
       | inr more ↦ omega (arith, parts, letters, can.some, can.most, length-decimal-le 3 m.count (omega arith) (omega arith) (omega arith))
     ]

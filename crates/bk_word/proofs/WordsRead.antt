@@ -1,8 +1,8 @@
 -- The reader of words with all it has read; the reader in the code keeps less. And each text of a word is read as that word.
 use Rattle.std.specs.List.{AllByRecursion}
-use Rattle.std.specs.Prelude.{List, None, Option, Some, [], decimal, if◌then◌else◌, length, map, nat_le, option_and_then, refl, true, ℕ, ◌%◌, ◌&&◌, ◌*◌, ◌++◌, ◌+◌, ◌-◌, ◌/◌, ◌<◌, ◌==◌, ◌∷◌, ◌≡◌, ◌≤◌, ◌⊎◌}
+use Rattle.std.specs.Prelude.{List, None, Option, Some, [], decimal, if◌then◌else◌, length, map, nat_le, option_and_then, refl, true, ℕ, ◌%◌, ◌&&◌, ◌*◌, ◌++◌, ◌+◌, ◌-◌, ◌/◌, ◌<◌, ◌==◌, ◌∷◌, ◌≡◌, ◌≤◌}
 use Rattle.std.proofs.Common.{ap, append_assoc, arith, eq-eqb, inl, inr, length-append, sym, ◌∙◌}
-use Rattle.std.proofs.lemmas.Bool.{and_from, cond-true, le-leb, lt-ltb}
+use Rattle.std.proofs.lemmas.Bool.{and_from, cond-true, le-leb, lt-ltb, cases_lt}
 use Rattle.std.proofs.lemmas.Fmt.{decimal_digit, decimal_step}
 use Rattle.std.proofs.lemmas.List.{append-nil}
 use Rattle.bk_word.specs.Reader.{kind_of}
@@ -63,17 +63,14 @@ one_more w n x some few fewer =
     ∙ fewer ((48 + n % 10) ∷ x)
     ∙ read_next (Count w (n / 10)) (Count w n) (Digit (n % 10)) (48 + n % 10) x (kind_digit (n % 10) (omega arith)) (further_digit w n few)
 
-two : (a b : ℕ) → (a < b) ⊎ (b ≤ a)
-two a b = grind arith
-
 two_digits : (w : Word) (n : ℕ) (x : List ℕ) → 0 < n → n < 100 → read (decimal n ++ x) (Before w) ≡ read x (Count w n)
-two_digits w n x some few = elim (two n 10) [
+two_digits w n x some few = elim (cases_lt n 10) [
   | inl h ↦ one_digit w n x some h
   | inr h ↦ one_more w n x h (omega arith) (λ y. one_digit w (n / 10) y (omega arith) (omega arith))
 ]
 
 pub count_read : (w : Word) (n : ℕ) (x : List ℕ) → 0 < n → n ≤ 999 → read (decimal n ++ x) (Before w) ≡ read x (Count w n)
-count_read w n x some few = elim (two n 100) [
+count_read w n x some few = elim (cases_lt n 100) [
   | inl h ↦ two_digits w n x some h
   | inr h ↦ one_more w n x (omega arith) (omega arith) (λ y. two_digits w (n / 10) y (omega arith) (omega arith))
 ]

@@ -1,6 +1,6 @@
 use Rattle.std.proofs.Common.{arith, ◌<◌, ◌^◌, ◌≡◌}
+use Rattle.bk_frac.proofs.Coprime.{gcd-below}
 use Rattle.bk_frac.specs.Divisor.{gcd}
-use Rattle.bk_sym.proofs.Multiples.{gcd-below}
 use Rattle.bk_sym.proofs.common.Goals as goal
 
 pub overflow_cast-result : goal.overflow_cast-result

@@ -1,9 +1,10 @@
 use Rattle.std.proofs.Common.{rules}
 use Rattle.std.proofs.lemmas.List.Sorted.{IsPartitionPoint-from_clause}
+use Rattle.bk_tiling.proofs.Places.{parted_at}
 use Rattle.bk_tiling.specs.CodeOrder.{comes_before}
-use Rattle.bk_lay.proofs.CodePlaces.{count_of_front, parted_at}
-use Rattle.bk_lay.specs.LevelRuns.{corner}
+use Rattle.bk_lay.proofs.CodePlaces.{count_of_front}
 use Rattle.bk_lay.proofs.turns.place_in_order.Goals as goal
+use Rattle.bk_lay.specs.LevelRuns.{corner}
 
 pub returns-clause-count : goal.returns-clause-count
 returns-clause-count c =

@@ -1,15 +1,16 @@
 use Rattle.std.proofs.Common.{ap, arith, get_or, length, subst, sym, ◌++◌, ◌+◌, ◌∙◌, ◌∷◌, ◌≡◌, List, ℕ, [], slice_index_or}
 use Rattle.std.specs.Prelude.{slice_index}
 use Rattle.std.proofs.lemmas.List.{length-append, take_all}
+use Rattle.bk_tiling.proofs.GroupCount.{some_group}
 use Rattle.bk_tiling.proofs.Members.{one_at}
 use Rattle.bk_tiling.specs.SquareGroups.{square_groups}
 use Rattle.bk_tiling.specs.Tiling.{IsOneOf}
 use Rattle.bk_tiling.specs.declared.Square.{Square}
-use Rattle.bk_net.proofs.Hanging.{groups_few, some_group}
+use Rattle.bk_net.proofs.Hanging.{groups_few}
 use Rattle.bk_net.proofs.NodeNumbers.{HasEnds, ends_at, numbers_many, wires_many, wires_more}
 use Rattle.bk_net.specs.Diagram.{node_below, smith_diagram}
-use Rattle.bk_net.specs.GroupNumbers.{group_numbers}
 use Rattle.bk_net.proofs.diagram.wired.Goals as goal
+use Rattle.bk_net.specs.GroupNumbers.{group_numbers}
 
 abbrev nowhere : Square
 nowhere = record { x = 0; y = 0; s = 0 }

@@ -1,4 +1,4 @@
-use Rattle.bk_report.proofs.Codes.{code_some}
+use Rattle.bk_code.proofs.CodeOfTiling.{code_some}
 use Rattle.bk_report.proofs.answer.write_tiling.Goals as goal
 
 pub write_code-requires-clause-some : goal.write_code-requires-clause-some

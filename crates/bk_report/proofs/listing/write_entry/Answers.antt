@@ -2,8 +2,8 @@ use Rattle.std.specs.Prelude.{decimal}
 use Rattle.bk_code.specs.Code.{code_of}
 use Rattle.bk_text.specs.CodeText.{code_text, size_text}
 use Rattle.bk_tiling.specs.Tiling.{order}
+use Rattle.bk_code.proofs.CodeOfTiling.{code_some}
 use Rattle.bk_word.specs.WordText.{word_text}
-use Rattle.bk_report.proofs.Codes.{code_some}
 use Rattle.bk_report.proofs.ListingPieces.{entry_pieces}
 use Rattle.bk_report.proofs.listing.write_entry.Goals as goal
 

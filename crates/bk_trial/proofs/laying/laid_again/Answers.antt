@@ -1,9 +1,9 @@
 use Rattle.std.proofs.Common.{refl, ◌++◌, ◌∙◌}
+use Rattle.bk_code.proofs.CodeOfTiling.{code_some}
 use Rattle.bk_code.specs.Code.{code_of}
 use Rattle.bk_text.specs.CodeText.{code_text}
 use Rattle.bk_text.specs.ReadLine.{stands_for}
 use Rattle.bk_gen.proofs.SampleLaws.{sample_kept}
-use Rattle.bk_report.proofs.Codes.{code_some}
 use Rattle.bk_trial.specs.TrialLine.{tiling_at}
 use Rattle.bk_trial.proofs.SampleRead.{no_fault_of, reads_code}
 use Rattle.bk_trial.proofs.laying.laid_again.Goals as goal

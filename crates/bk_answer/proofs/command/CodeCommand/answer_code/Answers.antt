@@ -3,13 +3,14 @@ use Rattle.std.specs.Prelude.{IfSome}
 use Rattle.bk_report.specs.declared.refusal.Refused.TheVariants.{Order}
 use Rattle.bk_text.specs.CodeLine.{Item}
 use Rattle.std.proofs.lemmas.Bool.{both_ways}
+use Rattle.std.proofs.lemmas.Result.{IfOk-at_ok}
 use Rattle.bk_answer.specs.CodeAnswer.{AnswersItem, AnswersTiling, ItemWants, item_refused}
 use Rattle.bk_answer.specs.Item.{IsLaidBy, IsSize}
 use Rattle.bk_answer.specs.Refusing.{IsNotLaid}
 use Rattle.bk_answer.specs.Telling.{WantsMemory}
 use Rattle.bk_answer.proofs.ItemSteps.{failed_laying, wrong_order}
-use Rattle.bk_answer.proofs.ReplySteps.{from_err, from_ok, item_answer, item_wants, refusal_replies, replies_more}
 use Rattle.bk_answer.proofs.command.CodeCommand.answer_code.Goals as goal
+use Rattle.bk_answer.proofs.ReplySteps.{from_err, item_answer, item_wants, refusal_replies, replies_more}
 
 pub returns-then-not-allows_order-clause-reply : goal.returns-then-not-allows_order-clause-reply
 returns-then-not-allows_order-clause-reply g c =
@@ -23,10 +24,10 @@ returns-in-Ok-clause-reply g c =
     replies_more (AnswersTiling c.args.self c.args.size c.in-Ok.tiling) (AnswersItem c.args.self (Item c.args.order c.args.size c.args.code.now))
     (IsSize c.args.size c.in-Ok.tiling.width c.in-Ok.tiling.height × WantsMemory c.args.self c.in-Ok.tiling) (ItemWants c.args.self (Item c.args.order c.args.size c.args.code.now))
     (item_answer c.args.self (Item c.args.order c.args.size c.args.code.now) c.args.size c.in-Ok.tiling
-    (from_ok (IsLaidBy (Item c.args.order c.args.size c.args.code.now)) c.lay_code-laid.result c.in-Ok.tiling c.in-Ok.is c.lay_code-laid.ensures.ok)
+    (IfOk-at_ok (IsLaidBy (Item c.args.order c.args.size c.args.code.now)) c.in-Ok.is c.lay_code-laid.ensures.ok)
     (subst (λ (l : List ℕ). IfSome c.args.order (λ stated. stated ≡ length l)) c.flat-sides.ensures.value (c.allows_order.ensures.0 c.if-not-allows_order.false)) (λ s. s) (λ s. s))
     (item_wants c.args.self (Item c.args.order c.args.size c.args.code.now) c.args.size c.in-Ok.tiling
-    (from_ok (IsLaidBy (Item c.args.order c.args.size c.args.code.now)) c.lay_code-laid.result c.in-Ok.tiling c.in-Ok.is c.lay_code-laid.ensures.ok)
+    (IfOk-at_ok (IsLaidBy (Item c.args.order c.args.size c.args.code.now)) c.in-Ok.is c.lay_code-laid.ensures.ok)
     (subst (λ (l : List ℕ). IfSome c.args.order (λ stated. stated ≡ length l)) c.flat-sides.ensures.value (c.allows_order.ensures.0 c.if-not-allows_order.false)) (λ s. s) (λ s. s)) (g.O.Sink.written c.args.out.now) (g.O.Sink.written c.answer_tiling.new.out) c.answer_tiling.result c.answer_tiling.ensures.reply
 
 pub returns-in-Err-clause-reply : goal.returns-in-Err-clause-reply

@@ -1,16 +1,17 @@
+use Rattle.std.proofs.lemmas.Result.{IfOk-at_ok}
 use Rattle.bk_text.specs.ReadLine.{IsFaultOf, stands_for}
 use Rattle.bk_text.specs.CodeLine.{IsLine}
 use Rattle.bk_answer.specs.CodeAnswer.{AnswersCodeLine, AnswersItem, ItemWants, MayWantForCode, any_command, refuses}
 use Rattle.bk_answer.specs.Item.{HasItem}
 use Rattle.bk_answer.proofs.ItemSteps.{not_read}
-use Rattle.bk_answer.proofs.ReplySteps.{from_err, from_ok, line_answer, line_wants, refusal_replies, replies_more}
 use Rattle.bk_answer.proofs.command.CodeCommand.answer_line.Goals as goal
+use Rattle.bk_answer.proofs.ReplySteps.{from_err, line_answer, line_wants, refusal_replies, replies_more}
 
 pub returns-in-Ok-clause-reply : goal.returns-in-Ok-clause-reply
 returns-in-Ok-clause-reply g c =
     let has : HasItem c.args.line.now (stands_for c.in-Ok.item) = record {
       short = c.requires;
-      meaning = from_ok (λ l. IsLine (stands_for l) c.args.line.now) c.read_line-read.result c.in-Ok.item c.in-Ok.is c.read_line-read.ensures.read;
+      meaning = IfOk-at_ok (λ l. IsLine (stands_for l) c.args.line.now) c.in-Ok.is c.read_line-read.ensures.read;
       few = c.answer_item.ensures.few;
     } in
     replies_more (AnswersItem c.args.self (stands_for c.in-Ok.item)) (AnswersCodeLine c.args.self c.args.line.now)

@@ -1,18 +1,27 @@
--- How many groups there are: the squares, less those at whose top left corner another has its top right corner.
+-- How many groups there are: one or more, and the squares, less those at whose top left corner another has its top right corner.
 use Rattle.std.specs.List.{onto_first}
 use Rattle.std.proofs.Common.{Bool, List, [], ap, arith, cond, count_by, false, inl, inr, length, refl, sum_by, sym, true, ℕ, ◌+◌, ◌<◌, ◌∙◌, ◌∷◌, ◌≡◌, ◌≤◌}
 use Rattle.std.proofs.lemmas.Bool.Decides.{nat_tests}
 use Rattle.std.proofs.lemmas.List.Sums.{sum_by-cons}
-use Rattle.bk_tiling.proofs.Cells.{count-cons, covers_from, in_all, none_counted, one_counted}
+use Rattle.bk_tiling.proofs.Cells.{count-cons, covers_from, in_all, none_counted, one_counted, one_for}
+use Rattle.bk_tiling.proofs.PairCounts.{pairs_cons, pairs_turned}
 use Rattle.bk_tiling.specs.CodeOrder.{InCodeOrder, comes_before, stands_beside}
 use Rattle.bk_tiling.specs.SquareGroups.{square_groups}
 use Rattle.bk_tiling.specs.Tiling.{IsOneOf, covers}
 use Rattle.bk_tiling.specs.declared.Square.{Square}
-use Rattle.bk_net.proofs.Hanging.{groups_some}
-use Rattle.bk_dual.proofs.PointSums.{pairs_cons, pairs_turned}
 
-beside_level : (p q : Square) → stands_beside p q ≡ true → p.y ≡ q.y
-beside_level p q e = grind (arith, nat_tests)
+put_some : (b : Bool) (q : Square) (groups : List (List Square)) → 0 < length (cond b (onto_first q groups) ((q ∷ []) ∷ groups))
+put_some true q [] = omega arith
+put_some true q (g ∷ groups) = omega arith
+put_some false q groups = omega arith
+
+pub groups_some : (q : Square) (squares : List Square) → 0 < length (square_groups (q ∷ squares))
+groups_some q [] = omega arith
+groups_some q (r ∷ squares) = put_some (stands_beside q r) q (square_groups (r ∷ squares))
+
+pub some_group : (squares : List Square) → 0 < length squares → 0 < length (square_groups squares)
+some_group [] h = absurd (omega arith)
+some_group (q ∷ squares) h = groups_some q squares
 
 beside_column : (p q : Square) → stands_beside p q ≡ true → p.x + p.s ≡ q.x
 beside_column p q e = grind (arith, nat_tests)
@@ -57,9 +66,6 @@ none_past q r squares laid = none_counted (stands_beside q) squares (λ p h e. c
       one_for (covers r.x r.y q) (covers_from r.x r.y q (omega arith) right (omega (arith, level)) (omega (arith, level, some))),
       one_counted (covers r.x r.y) (r ∷ squares) r (inl refl) (covers_from r.x r.y r (omega arith) (omega (arith, more)) (omega arith) (omega (arith, more))),
     )
-      where
-        one_for : (b : Bool) → b ≡ true → ◌≡◌ {A = ℕ} (cond b 1 0) 1
-        one_for b e = ap (λ (c : Bool). cond {A = ℕ} c 1 0) e
 
 -- the groups, and the pairs of squares of which one stands beside the other
 groups_more : (b : Bool) (q : Square) (groups : List (List Square)) → 0 < length groups → length (cond b (onto_first q groups) ((q ∷ []) ∷ groups)) + cond {A = ℕ} b 1 0 ≡ length groups + 1

@@ -1,7 +1,7 @@
 -- Squares that tile two parts of a rectangle tile it together.
-use Rattle.std.specs.List.{AllByRecursion}
 use Rattle.std.proofs.Common.{Bool, List, [], ap, arith, cond, count_by, inl, inr, true, ℕ, ◌++◌, ◌+◌, ◌<◌, ◌∷◌, ◌≡◌, ◌≤◌, ◌⊎◌}
 use Rattle.std.proofs.lemmas.List.Sums.{sum_by-append}
+use Rattle.bk_tiling.proofs.AllOfLists.{all_append}
 use Rattle.bk_tiling.proofs.Cells.{all_from, count-cons, covers_from, in_all, none_counted, over_from}
 use Rattle.bk_tiling.proofs.ListLaws.{length_append}
 use Rattle.bk_tiling.specs.Tiling.{IsOneOf, IsWithin, Rectangle, Tiles, covers}
@@ -50,15 +50,11 @@ none_outside part squares i j tiles outside = none_counted (covers i j) squares 
 count-append : (i j : ℕ) (p q : List Square) → count_by (covers i j) (p ++ q) ≡ count_by (covers i j) p + count_by (covers i j) q
 count-append i j p q = sum_by-append (λ (s : Square). cond {A = ℕ} (covers i j s) 1 0) p q
 
-pub all_joined : (P : Square → Type 0) (p q : List Square) → AllByRecursion P p → AllByRecursion P q → AllByRecursion P (p ++ q)
-all_joined P [] q a b = b
-all_joined P (s ∷ p) q a b = (a.0, all_joined P p q a.1 b)
-
 pub tiles_joined : (r a b : Rectangle) (p q : List Square) → IsPart r a → IsPart r b → Splits r a b → Tiles a p → Tiles b q → Tiles r (p ++ q)
 tiles_joined r a b p q in_a in_b splits first second = record {
   some = omega (arith, length_append p q, first.some);
-  sides = all_joined (λ s. 0 < s.s) p q first.sides second.sides;
-  within = all_joined (IsWithin r) p q (all_from (IsWithin r) p (λ s h. within_part r a s in_a (in_all (IsWithin a) p first.within s h)))
+  sides = all_append (λ s. 0 < s.s) p q first.sides second.sides;
+  within = all_append (IsWithin r) p q (all_from (IsWithin r) p (λ s h. within_part r a s in_a (in_all (IsWithin a) p first.within s h)))
       (all_from (IsWithin r) q (λ s h. within_part r b s in_b (in_all (IsWithin b) q second.within s h)));
   once = λ i j left right top bottom. once i j (splits i j (record { left = left; right = right; top = top; bottom = bottom }));
 }

@@ -1,0 +1,8 @@
+-- The bytes that a test finds to be blanks.
+use Rattle.std.proofs.Common.{arith}
+use Rattle.std.proofs.lemmas.Bool.Decides.{nat_tests}
+use Rattle.std.specs.Prelude.{true, ℕ, ◌==◌, ◌||◌, ◌≡◌}
+use Rattle.bk_grammar.specs.Grammar.{IsBlank}
+
+pub blank_means : (b : ℕ) → (b == 32) || ((b == 9) || (b == 13)) ≡ true → IsBlank b
+blank_means b h = grind (arith, nat_tests, h)

@@ -1,0 +1,16 @@
+-- Lists that the play of a word is made of: numbers in their order, and the signs that part segments.
+use Rattle.std.proofs.Common.{List, [], ap, filter, length, refl, suc, true, zero, ℕ, ◌+◌, ◌∷◌, ◌≡◌}
+use Rattle.std.specs.List.{AllByRecursion}
+use Rattle.bk_word.specs.Play.{numbers_from, parts}
+use Rattle.bk_word.specs.declared.Sign.{Sign}
+use Rattle.bk_word.specs.declared.Sign.TheVariants.{Above, Even, Under}
+
+pub numbers-length : (n k : ℕ) → length (numbers_from n k) ≡ k
+numbers-length n zero = refl
+numbers-length n (suc k) = ap suc (numbers-length (n + 1) k)
+
+pub parts_filter : (signs : List Sign) → AllByRecursion (λ sign. parts sign ≡ true) (filter parts signs)
+parts_filter [] = tt
+parts_filter (Above ∷ signs) = (refl, parts_filter signs)
+parts_filter (Even ∷ signs) = parts_filter signs
+parts_filter (Under ∷ signs) = (refl, parts_filter signs)
