@@ -1,8 +1,7 @@
 -- What holds along a word of a tiling, from the first turn to the last: the sides of the squares that hang from a
 -- node sum to the width of its valley, and each valley but the first lies below the top.
 use Rattle.std.specs.List.{AllByRecursion}
-use Rattle.std.proofs.Common.{List, Some, [], ap, arith, cond, inl, inr, length, nat_eq, refl, replicate, slice_get, subst, suc, sym, true, zero, ℕ, ◌++◌, ◌+◌, ◌<◌, ◌∙◌, ◌∷◌, ◌≡◌, ◌≤◌, ◌⊎◌}
-use Rattle.std.proofs.lemmas.Bool.Decides.{nat_tests}
+use Rattle.std.proofs.Common.{List, Some, [], ap, arith, inl, inr, length, refl, replicate, slice_get, subst, suc, sym, true, zero, ℕ, ◌++◌, ◌+◌, ◌<◌, ◌∙◌, ◌∷◌, ◌≡◌, ◌≤◌, ◌⊎◌}
 use Rattle.bk_tiling.proofs.Cells.{column_from, counted_one, depth-append, depth_reaches, in_filter, over_from}
 use Rattle.bk_tiling.proofs.ListLaws.{length_append, length_map, map_append}
 use Rattle.bk_tiling.proofs.Members.{in_back}
@@ -23,8 +22,8 @@ use Rattle.bk_lay.proofs.Valleys.{one_leftmost_valley}
 use Rattle.bk_lay.proofs.Words.{nothing_laid}
 use Rattle.bk_lay.specs.Depiction.{Depicts, FillsFromTop, Hangs, IsSegment}
 use Rattle.bk_lay.specs.TilingWord.{IsLeftmostValley, IsWordOf, MovesFollow, hangs_under, move_under, squares_under}
-use Rattle.bk_skel.proofs.Numbering.{times}
 use Rattle.bk_skel.proofs.Sums.{out_sum, out_sum-append, out_sum-here, out_sum-none}
+use Rattle.bk_skel.proofs.Wires.{times_other}
 use Rattle.bk_skel.specs.WordFlow.{LaidAlong}
 
 -- once something is laid: the first valley is the top, and all columns lie below it
@@ -67,9 +66,6 @@ all_snoc : {A : Type 0} (P : A → Type 0) (xs : List A) (x : A) → AllByRecurs
 all_snoc P [] x all p = (p, tt)
 all_snoc P (y ∷ xs) x all p = (all.0, all_snoc P xs x all.1 p)
 
-two : (a b : ℕ) → (a < b) ⊎ (b ≤ a)
-two a b = grind arith
-
 -- the leftmost valley of nothing laid is the top
 pub top_valley : (t : Tiling) → IsTiling t → (v : Segment) → IsLeftmostValley t.width [] v → (v.x ≡ 0) × (v.width ≡ t.width)
 top_valley t tiling v found = let same : top ≡ v = one_leftmost_valley t.width [] top v is found in (sym (ap (λ (s : Segment). s.x) same), sym (ap (λ (s : Segment). s.width) same))
@@ -107,13 +103,6 @@ module _ (t : Tiling) (laid : List Square) (nodes : List Segment) (o : Outline) 
   here : out_sum (replicate (length (squares_under t v)) (length o.closed)) (laid_sides (squares_under t v)) (length o.closed) ≡ v.width
   here = ap (λ (n : ℕ). out_sum (replicate n (length o.closed)) (laid_sides (squares_under t v)) (length o.closed)) (sym (length_map (λ q. q.s) (squares_under t v)))
       ∙ out_sum-here (laid_sides (squares_under t v)) (length o.closed) ∙ new_sum
-
-  times_other : (n x k : ℕ) → (x ≡ k → ⊥) → times k (replicate n x) ≡ 0
-  times_other zero x k h = refl
-  times_other (suc n) x k h = omega (arith, differ x k h, times_other n x k h)
-    where
-      differ : (x k : ℕ) → (x ≡ k → ⊥) → ◌≡◌ {A = ℕ} (cond (nat_eq k x) 1 0) 0
-      differ x k h = grind (arith, nat_tests)
 
   elsewhere : (k : ℕ) → (length o.closed ≡ k → ⊥) → out_sum (replicate (length (squares_under t v)) (length o.closed)) (laid_sides (squares_under t v)) k ≡ 0
   elsewhere k h = out_sum-none (replicate (length (squares_under t v)) (length o.closed)) (laid_sides (squares_under t v)) k (times_other (length (squares_under t v)) (length o.closed) k h)

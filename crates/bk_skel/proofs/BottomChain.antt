@@ -2,6 +2,7 @@
 -- numbers of the open segments in a row.
 use Rattle.std.specs.List.{concat}
 use Rattle.std.proofs.Common.{List, [], ap, arith, cond, drop, inl, inr, length, map, nat_eq, refl, slice_get, slice_index_or, subst, suc, sym, take, zero, ℕ, ◌++◌, ◌+◌, ◌<◌, ◌∙◌, ◌∷◌, ◌≡◌, ◌≤◌, ◌⊎◌}
+use Rattle.std.proofs.lemmas.Bool.{cases_lt}
 use Rattle.std.proofs.lemmas.Bool.Decides.{nat_tests}
 use Rattle.bk_tiling.proofs.ListLaws.{append_assoc, length_append}
 use Rattle.bk_tiling.proofs.Rows.{total}
@@ -95,11 +96,8 @@ chain_level laid level x (n ∷ numbers) end b each = both (chain_level laid lev
     here : (b.0).y + (b.0).s ≡ level
     here = each n b.0 (omega (arith, one)) b.1
 
-    two : (a b : ℕ) → (a < b) ⊎ (b ≤ a)
-    two a b = grind arith
-
     both : Span laid level (x + (b.0).s) numbers end × ((c : ℕ) → x + (b.0).s ≤ c → c < end → depth laid c ≡ level) → Span laid level x (n ∷ numbers) end × ((c : ℕ) → x ≤ c → c < end → depth laid c ≡ level)
-    both rest = ((b.0, b.1, b.2, here, rest.0), λ c lo hi. cases c lo hi (two c (x + (b.0).s)))
+    both rest = ((b.0, b.1, b.2, here, rest.0), λ c lo hi. cases c lo hi (cases_lt c (x + (b.0).s)))
       where
         cases : (c : ℕ) → x ≤ c → c < end → (c < x + (b.0).s) ⊎ (x + (b.0).s ≤ c) → depth laid c ≡ level
         cases c lo hi (inl h) = b.3 c (omega (arith, b.2)) (omega (arith, b.2)) ∙ here

@@ -2,9 +2,9 @@
 -- laid fills its columns once. The word's signs play no part here.
 use Rattle.std.specs.List.{AllByRecursion, concat}
 use Rattle.std.specs.Prelude.{nat_abs, pos, ◌-ℤ◌}
-use Rattle.std.proofs.Common.{List, Some, [], ap, arith, cond, count_by, drop, inl, inr, length, map, nat_eq, refl, replicate, slice_get, slice_index_or, subst, suc, sym, take, zero, ℕ, ◌++◌, ◌+◌, ◌<◌, ◌∙◌, ◌∷◌, ◌≡◌, ◌≤◌, ◌⊎◌}
-use Rattle.std.proofs.lemmas.Bool.Decides.{nat_tests}
+use Rattle.std.proofs.Common.{List, Some, [], ap, arith, count_by, drop, inl, inr, length, map, refl, replicate, slice_get, slice_index_or, subst, suc, sym, take, zero, ℕ, ◌++◌, ◌+◌, ◌<◌, ◌∙◌, ◌∷◌, ◌≡◌, ◌≤◌, ◌⊎◌}
 use Rattle.std.proofs.lemmas.Int.{ints}
+use Rattle.std.proofs.lemmas.List.{length-take-le, take-append-drop}
 use Rattle.bk_tiling.proofs.Cells.{from_append}
 use Rattle.bk_tiling.proofs.ListLaws.{append_assoc, get_below, length_append, length_map, map_append}
 use Rattle.bk_tiling.proofs.Rows.{laid_sides, total}
@@ -14,41 +14,19 @@ use Rattle.bk_tiling.specs.declared.Square.{Square}
 use Rattle.bk_tiling.proofs.Group.{depth_beside, depth_under, filled_group, group_list, group_sides, group_top, group_within}
 use Rattle.bk_tiling.specs.SquareGroups.{laid_group}
 use Rattle.bk_net.specs.Flow.{Flow, IsFlow, potential}
+use Rattle.bk_word.proofs.ListLaws.{all_left, all_right}
 use Rattle.bk_word.specs.Outline.{Outline, valley_of, valley_place}
 use Rattle.bk_word.specs.Play.{after_move, new_squares, numbers_from, segments_apart, signs_apart}
 use Rattle.bk_word.specs.Word.{Move}
-use Rattle.bk_lay.proofs.Steps.{get_append}
+use Rattle.bk_lay.proofs.Steps.{get_append, one_of}
 use Rattle.bk_lay.specs.Depiction.{IsNumbered, Span}
 use Rattle.bk_skel.proofs.BottomChain.{BottomChain, chain_group, chain_join, chain_least, chain_level, chain_more, chain_split, concat-append, concat-cut, concat-joined, concat-singles}
 use Rattle.bk_skel.proofs.FlowFacts.{HasSides, IsLater, balance, drop_of, sides_count, times_below}
 use Rattle.bk_skel.proofs.NoLoose.{Played}
 use Rattle.bk_skel.proofs.Numbering.{HasPlace, length-replicate, place_of_number, times}
-use Rattle.bk_skel.proofs.Sums.{get_side, out_sum, out_sum-append, out_sum-here, out_sum-none, span_sum_of, weighted, weighted_nil}
-use Rattle.bk_skel.proofs.Wires.{get_back, get_front, get_replicate}
+use Rattle.bk_skel.proofs.Sums.{get_side, out_sum, out_sum-append, out_sum-here, out_sum-none, positive_total, span_sum_of, weighted, weighted_nil}
+use Rattle.bk_skel.proofs.Wires.{first_counted, get_back, get_front, get_replicate, same_if_counted}
 use Rattle.bk_skel.specs.WordNet.{end_of, net_after}
-
-take_drop : (n : ℕ) (xs : List ℕ) → xs ≡ take n xs ++ drop n xs
-take_drop zero [] = refl
-take_drop zero (x ∷ xs) = refl
-take_drop (suc n) [] = refl
-take_drop (suc n) (x ∷ xs) = ap (λ (ys : List ℕ). x ∷ ys) (take_drop n xs)
-
-length_take : (n : ℕ) (xs : List ℕ) → n ≤ length xs → length (take n xs) ≡ n
-length_take zero xs h = take_zero xs
-  where
-    take_zero : (xs : List ℕ) → length (take 0 xs) ≡ 0
-    take_zero [] = refl
-    take_zero (x ∷ xs) = refl
-length_take (suc n) [] h = absurd (omega arith)
-length_take (suc n) (x ∷ xs) h = ap suc (length_take n xs (omega arith))
-
-all_front : (P : ℕ → Type 0) (xs ys : List ℕ) → AllByRecursion P (xs ++ ys) → AllByRecursion P xs
-all_front P [] ys a = tt
-all_front P (x ∷ xs) ys a = (a.0, all_front P xs ys a.1)
-
-all_back : (P : ℕ → Type 0) (xs ys : List ℕ) → AllByRecursion P (xs ++ ys) → AllByRecursion P ys
-all_back P [] ys a = a
-all_back P (x ∷ xs) ys a = all_back P xs ys a.1
 
 pub get_either : (xs ys : List Square) (k : ℕ) (q : Square) → slice_get (xs ++ ys) k ≡ Some q → ((k < length xs) × (slice_get xs k ≡ Some q)) ⊎ ((j : ℕ) × (k ≡ length xs + j) × (slice_get ys j ≡ Some q))
 get_either [] ys k q e = inr (k, omega arith, e)
@@ -59,19 +37,10 @@ get_either (x ∷ xs) ys (suc k) q e = cases (get_either xs ys k q e)
     cases (inl h) = inl (omega (arith, h.0), h.1)
     cases (inr h) = inr (h.0, omega (arith, h.1), h.2)
 
-get_one_of : (squares : List Square) (k : ℕ) (q : Square) → slice_get squares k ≡ Some q → IsOneOf q squares
-get_one_of [] k q e = absurd (cc)
-get_one_of (r ∷ squares) zero q e = inl (cc)
-get_one_of (r ∷ squares) (suc k) q e = inr (get_one_of squares k q e)
-
 pub get_value : (xs : List ℕ) (k x : ℕ) → slice_get xs k ≡ Some x → slice_index_or xs k 0 ≡ x
 get_value [] k x e = absurd (cc)
 get_value (y ∷ xs) zero x e = cc
 get_value (y ∷ xs) (suc k) x e = get_value xs k x e
-
-positive_total : (sides : List ℕ) → AllByRecursion (λ s. 0 < s) sides → 0 < length sides → 0 < total sides
-positive_total [] a h = absurd (omega arith)
-positive_total (s ∷ sides) a h = omega (arith, a.0)
 
 module _ (O : Outline) (played : Played O) (f : Flow) (flow : IsFlow (net_after O) f) (s : HasSides f) (width : ℕ) (width_is : width ≡ out_sum O.hung s.sides 0) where
   ends : List (List ℕ)
@@ -126,19 +95,19 @@ module _ (O : Outline) (played : Played O) (f : Flow) (flow : IsFlow (net_after 
     )
 
     pub next_sides : NextSides laid o m base.rest
-    next_sides = record { new = take m.count base.rest; further = drop m.count base.rest; parts = take_drop m.count base.rest; count = counts; some = all_front (λ s. 0 < s) (take m.count base.rest) (drop m.count base.rest) positive; sum = sum }
+    next_sides = record { new = take m.count base.rest; further = drop m.count base.rest; parts = sym (take-append-drop m.count base.rest); count = counts; some = all_left (λ s. 0 < s) (take m.count base.rest) (drop m.count base.rest) positive; sum = sum }
       where
         counts : length (take m.count base.rest) ≡ m.count
-        counts = length_take m.count base.rest (omega (arith, long))
+        counts = length-take-le m.count base.rest (omega (arith, long))
 
         positive : AllByRecursion (λ s. 0 < s) (take m.count base.rest ++ drop m.count base.rest)
-        positive = subst (AllByRecursion (λ s. 0 < s)) (take_drop m.count base.rest) (all_back (λ s. 0 < s) (laid_sides laid) base.rest (subst (AllByRecursion (λ s. 0 < s)) base.prefix s.positive))
+        positive = subst (AllByRecursion (λ s. 0 < s)) (sym (take-append-drop m.count base.rest)) (all_right (λ s. 0 < s) (laid_sides laid) base.rest (subst (AllByRecursion (λ s. 0 < s)) base.prefix s.positive))
 
         i : ℕ
         i = length o.closed
 
         all_sides : s.sides ≡ laid_sides laid ++ (take m.count base.rest ++ drop m.count base.rest)
-        all_sides = base.prefix ∙ ap (λ (r : List ℕ). laid_sides laid ++ r) (take_drop m.count base.rest)
+        all_sides = base.prefix ∙ ap (λ (r : List ℕ). laid_sides laid ++ r) (sym (take-append-drop m.count base.rest))
 
         sum : total (take m.count base.rest) ≡ out_sum O.hung s.sides (length o.closed)
         sum = omega (
@@ -179,7 +148,7 @@ module _ (O : Outline) (played : Played O) (f : Flow) (flow : IsFlow (net_after 
 
           tops : (k : ℕ) (q : Square) → ((k < length laid) × (slice_get laid k ≡ Some q)) ⊎ ((j : ℕ) × (k ≡ length laid + j) × (slice_get (laid_group x level n.new) j ≡ Some q)) → pos q.y ≡ potential f 0 -ℤ potential f (slice_index_or O.hung k 0)
           tops k q (inl h) = base.tops k q h.1
-          tops k q (inr (j, e, at)) = ap pos (group_top x level n.new q (get_one_of (laid_group x level n.new) j q at)) ∙ valley.level_is ∙ ap (λ (v : ℕ). potential f 0 -ℤ potential f v) (sym hangs)
+          tops k q (inr (j, e, at)) = ap pos (group_top x level n.new q (one_of (laid_group x level n.new) j q at)) ∙ valley.level_is ∙ ap (λ (v : ℕ). potential f 0 -ℤ potential f v) (sym hangs)
             where
               few : j < m.count
               few = omega (arith, get_below (laid_group x level n.new) j q at, n.count, ap length (group_list x level n.new), length_map (λ q. q.s) (laid_group x level n.new))
@@ -248,11 +217,8 @@ module _ (O : Outline) (played : Played O) (f : Flow) (flow : IsFlow (net_after 
             number : 1 + k ≡ n
             number = omega (arith, is)
 
-        equal : (a b : ℕ) → 0 < cond (nat_eq a b) 1 0 → a ≡ b
-        equal a b l = grind (arith, nat_tests)
-
         place : end_of (O.closed ++ O.segments) (1 + k) ≡ length o.closed
-        place = equal (end_of (O.closed ++ O.segments) (1 + k)) (length o.closed) (omega (arith, h, stands, p.counts (length o.closed)))
+        place = same_if_counted (end_of (O.closed ++ O.segments) (1 + k)) (length o.closed) (omega (arith, h, stands, p.counts (length o.closed)))
 
     pub valley_at : 0 < length o.closed → BottomChain laid 0 (concat o.segments) width → (x : ℕ) × ((level : ℕ) × ValleyAt laid o x level (total (next_sides).new))
     valley_at begun chain = (a, (nat_abs (potential f 0 -ℤ potential f (length o.closed)), found))
@@ -288,11 +254,8 @@ module _ (O : Outline) (played : Played O) (f : Flow) (flow : IsFlow (net_after 
         level_is [] e c = absurd (omega (arith, sum, ap (weighted s.sides 1) e, weighted_nil s.sides 1, positive_total (next_sides).new (next_sides).some (omega (arith, (next_sides).count, some))))
         level_is (n ∷ numbers) e c = sym (ap (λ z. pos (nat_abs z)) here) ∙ here
           where
-            one : (n : ℕ) (numbers : List ℕ) → 0 < times n (n ∷ numbers)
-            one n numbers = grind (arith, nat_tests)
-
             here : pos ((c.0).y + (c.0).s) ≡ potential f 0 -ℤ potential f (length o.closed)
-            here = ends_here n c.0 (subst (λ (ns : List ℕ). 0 < times n ns) (sym e) (one n numbers)) c.1
+            here = ends_here n c.0 (subst (λ (ns : List ℕ). 0 < times n ns) (sym e) (first_counted n numbers)) c.1
 
         found : ValleyAt laid o first.0 (nat_abs (potential f 0 -ℤ potential f (length o.closed))) (total (next_sides).new)
         found = record {

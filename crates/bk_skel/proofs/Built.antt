@@ -2,18 +2,14 @@
 -- the total.
 use Rattle.std.specs.List.{AllByRecursion, concat}
 use Rattle.std.specs.Prelude.{nat_abs, pos, ◌-ℤ◌}
-use Rattle.std.proofs.Common.{List, Some, [], ap, arith, cond, count_by, drop, inl, inr, length, nat_eq, refl, slice_get, slice_index_or, subst, suc, sym, take, ℕ, ◌++◌, ◌+◌, ◌<◌, ◌∙◌, ◌∷◌, ◌≡◌, ◌≤◌, ◌⊎◌}
-use Rattle.std.proofs.lemmas.Bool.Decides.{nat_tests}
+use Rattle.std.proofs.Common.{List, Some, [], ap, arith, drop, inl, inr, length, refl, slice_get, slice_index_or, subst, suc, sym, take, ℕ, ◌++◌, ◌+◌, ◌<◌, ◌∙◌, ◌∷◌, ◌≡◌, ◌⊎◌}
 use Rattle.std.proofs.lemmas.Int.{ints}
-use Rattle.bk_tiling.proofs.Cells.{all_from, column_from, depth_reaches}
 use Rattle.bk_tiling.proofs.ListLaws.{get_below}
-use Rattle.bk_tiling.proofs.OrderLaws.{in_code_order-count}
 use Rattle.bk_tiling.proofs.Rows.{laid_sides, total}
 use Rattle.bk_tiling.specs.CodeOrder.{in_code_order}
 use Rattle.bk_tiling.specs.Column.{depth}
-use Rattle.bk_tiling.specs.Tiling.{IsOneOf, IsTiling, IsWithin, Tiling, covers, whole}
+use Rattle.bk_tiling.specs.Tiling.{IsTiling, Tiling}
 use Rattle.bk_tiling.specs.declared.Square.{Square}
-use Rattle.bk_tiling.proofs.PuttingInOrder.{from_order, in_order, ordered}
 use Rattle.bk_tiling.specs.SquareGroups.{laid_group}
 use Rattle.bk_net.specs.Flow.{Flow, IsFlow, potential}
 use Rattle.bk_word.specs.Outline.{Outline, start, valley_of, valley_place}
@@ -23,16 +19,13 @@ use Rattle.bk_lay.proofs.Steps.{get_append}
 use Rattle.bk_lay.specs.Depiction.{IsNumbered}
 use Rattle.bk_skel.proofs.BottomChain.{BottomChain, chain_level}
 use Rattle.bk_skel.proofs.Building.{Base, NextSides, ValleyAt, base_move, chain_move, get_value, more, next_sides, valley_at}
+use Rattle.bk_skel.proofs.FilledColumns.{columns_are_tiling}
 use Rattle.bk_skel.proofs.FlowFacts.{HasSides, IsLater, drop_of, is_later}
 use Rattle.bk_skel.proofs.NoLoose.{Played, played_move}
-use Rattle.bk_skel.proofs.Numbering.{HasPlace, place_of_number, times, times-append, times_in}
+use Rattle.bk_skel.proofs.Numbering.{HasPlace, place_of_number, times, times-concat, times_in}
 use Rattle.bk_skel.proofs.Sums.{get_side, out_sum}
-use Rattle.bk_skel.proofs.Wires.{get_back}
+use Rattle.bk_skel.proofs.Wires.{get_back, same_if_counted}
 use Rattle.bk_skel.specs.WordNet.{end_of, net_after}
-
-times-concat : (n : ℕ) (lists : List (List ℕ)) → times n (concat lists) ≡ times_in n lists
-times-concat n [] = refl
-times-concat n (numbers ∷ lists) = omega (arith, times-append n numbers (concat lists), times-concat n lists)
 
 module _ (O : Outline) (played : Played O) (f : Flow) (flow : IsFlow (net_after O) f) (s : HasSides f) (width : ℕ) (width_is : width ≡ out_sum O.hung s.sides 0) where
   -- one turn: the group that is laid, and its valley
@@ -138,11 +131,8 @@ module _ (O : Outline) (played : Played O) (f : Flow) (flow : IsFlow (net_after 
         stands : times (1 + k) (slice_index_or (O.closed ++ O.segments) (length O.closed) []) ≡ times n (concat O.segments)
         stands = ap (times (1 + k)) (get_back O.closed O.segments 0 (length O.closed) [] (omega arith)) ∙ (λ i. times (number i) (slice_index_or O.segments 0 [])) ∙ sym (only n O.segments one) ∙ sym (times-concat n O.segments)
 
-        equal : (a b : ℕ) → 0 < cond (nat_eq a b) 1 0 → a ≡ b
-        equal a b l = grind (arith, nat_tests)
-
         place : end_of (O.closed ++ O.segments) (1 + k) ≡ length O.closed
-        place = equal (end_of (O.closed ++ O.segments) (1 + k)) (length O.closed) (omega (arith, h, stands, p.counts (length O.closed)))
+        place = same_if_counted (end_of (O.closed ++ O.segments) (1 + k)) (length O.closed) (omega (arith, h, stands, p.counts (length O.closed)))
 
     pub all_deep : (c : ℕ) → c < width → depth all c ≡ nat_abs (potential f 0 -ℤ potential f (length O.closed))
     all_deep c h = (chain_level all (nat_abs (potential f 0 -ℤ potential f (length O.closed))) 0 (concat O.segments) width chain ends_last).1 c (omega arith) h
@@ -150,33 +140,5 @@ module _ (O : Outline) (played : Played O) (f : Flow) (flow : IsFlow (net_after 
     abbrev pub built : Tiling
     built = record { width = width; height = nat_abs (potential f 0 -ℤ potential f (length O.closed)); squares = in_code_order all }
 
-    within : (q : Square) → IsOneOf q all → IsWithin (whole built) q
-    within q h = record { left = omega arith; right = omega (arith, i.1); top = omega arith; bottom = omega (arith, depth_reaches all q.x q h (column_from q.x q (omega arith) (omega (arith, i.0))), all_deep q.x (omega (arith, i.0, i.1))) }
-      where
-        i : (0 < q.s) × (q.x + q.s ≤ width)
-        i = base.inside q h
-
-    once : (i j : ℕ) → i < width → j < nat_abs (potential f 0 -ℤ potential f (length O.closed)) → count_by (covers i j) all ≡ 1
-    once i j a b = base.filled i j a (omega (arith, all_deep i a))
-
-    own_once : (q : Square) → IsOneOf q all → count_by (covers q.x q.y) all ≤ 1
-    own_once q h = let i = base.inside q h in let w = (within q h).bottom in omega (arith, once q.x q.y (omega (arith, i.0, i.1)) (omega (arith, i.0)))
-
     pub is_tiling : 0 < length all → IsTiling built
-    is_tiling more = record {
-      tiles = record {
-        some = cases all more (λ q h. in_order all q h);
-        sides = all_from (λ q. 0 < q.s) (in_code_order all) (λ q h. (base.inside q (from_order all q h)).0);
-        within = all_from (IsWithin (whole built)) (in_code_order all) (λ q h. within q (from_order all q h));
-        once = λ i j a b c d. in_code_order-count (covers i j) all ∙ once i j (omega arith) (omega arith);
-      };
-      ordered = ordered all (λ q h. (base.inside q h).0) own_once;
-    }
-      where
-        some_in : (q : Square) (squares : List Square) → IsOneOf q squares → 0 < length squares
-        some_in q [] h = absurd h
-        some_in q (r ∷ squares) h = omega arith
-
-        cases : (squares : List Square) → 0 < length squares → ((q : Square) → IsOneOf q squares → IsOneOf q (in_code_order all)) → 0 < length (in_code_order all)
-        cases [] h g = absurd (omega arith)
-        cases (q ∷ squares) h g = some_in q (in_code_order all) (g q (inl refl))
+    is_tiling = columns_are_tiling width (nat_abs (potential f 0 -ℤ potential f (length O.closed))) all base.inside base.filled all_deep

@@ -1,6 +1,7 @@
 -- Each move of a tiling's word hangs one whole group: each valley that is filled is the run of columns of a group of the
 -- tiling's code, and no valley is filled twice.
 use Rattle.std.proofs.Common.{List, Some, [], ap, arith, inl, inr, length, refl, slice_get, subst, suc, sym, true, ℕ, ◌++◌, ◌+◌, ◌-◌, ◌<◌, ◌∙◌, ◌∷◌, ◌≡◌, ◌≤◌, ◌⊎◌}
+use Rattle.std.proofs.lemmas.Bool.{cases_lt}
 use Rattle.bk_tiling.proofs.Cells.{column_from, counted_one, covers_from, depth-append, depth_reaches, from_append, in_filter, over_from}
 use Rattle.bk_tiling.proofs.Members.{in_back}
 use Rattle.bk_tiling.proofs.Rows.{chain_within, laid_sides, total}
@@ -19,9 +20,6 @@ use Rattle.bk_word.specs.Word.{Move, Word}
 use Rattle.bk_lay.proofs.Filling.{cell, hangs, in_tiling, is_laid, is_under}
 use Rattle.bk_lay.specs.TilingWord.{IsLeftmostValley, IsWordOf, MovesFollow, hangs_under, squares_under}
 use Rattle.bk_skel.proofs.AlongWord.{Along, along_move, along_start, get_snoc}
-
-two : (a b : ℕ) → (a < b) ⊎ (b ≤ a)
-two a b = grind arith
 
 pub find_group : (groups : List (List Square)) (q : Square) → IsOneOf q (row_of groups) → (k : ℕ) × ((g : List Square) × (slice_get groups k ≡ Some g) × IsOneOf q g)
 find_group [] q h = absurd h
@@ -75,7 +73,7 @@ module _ (t : Tiling) (laid : List Square) (nodes : List Segment) (o : Outline) 
       from (q, h, e) = of (find_group (square_groups t.squares) q (subst (IsOneOf q) (sym (row_is t tiling)) (new_in q h)))
         where
           of : (k : ℕ) × ((g : List Square) × (slice_get (square_groups t.squares) k ≡ Some g) × IsOneOf q g) → IsGroupRun t v
-          of (k, (g, is, m)) = record { place = k; group = g; is = is; first = row.first; rest = row.rest; squares = row.is; x = begins (two row.first.x v.x); y = level; wide = wide (two row.end (v.x + v.width)) (two (v.x + v.width) row.end) }
+          of (k, (g, is, m)) = record { place = k; group = g; is = is; first = row.first; rest = row.rest; squares = row.is; x = begins (cases_lt row.first.x v.x); y = level; wide = wide (cases_lt row.end (v.x + v.width)) (cases_lt (v.x + v.width) row.end) }
             where
               row : IsRow t.squares g
               row = (group_of t tiling k g is).0.row
@@ -94,7 +92,7 @@ module _ (t : Tiling) (laid : List Square) (nodes : List Segment) (o : Outline) 
               begins (inl l) = absurd (before (at_level t tiling k g is (v.x - 1) (omega arith) (omega (arith, within.1, at_x, side_of t tiling q (new_in q h)))))
                 where
                   before : (r : Square) × IsOneOf r g × (covers (v.x - 1) (group_of t tiling k g is).0.row.first.y r ≡ true) → ⊥
-                  before (r, n, f) = by (two v.x (r.x + r.s))
+                  before (r, n, f) = by (cases_lt v.x (r.x + r.s))
                     where
                       cover : covers (v.x - 1) v.level r ≡ true
                       cover = subst (λ (j : ℕ). covers (v.x - 1) j r ≡ true) level f
@@ -119,11 +117,11 @@ module _ (t : Tiling) (laid : List Square) (nodes : List Segment) (o : Outline) 
                 where
                   over : (r : Square) × IsOneOf r (squares_under t v) × (covers (group_of t tiling k g is).0.row.end v.level r ≡ true) → ⊥
                   over (r, n, f) = let o = over_from (group_of t tiling k g is).0.row.end v.level r f in not_right t tiling k g is r (new_in r n) ((is_under t laid v tiling a.fills found low r n).level ∙ sym level) o.left o.right
-              wide (inr l) (inr z) = omega (arith, width_is t tiling k g is, begins (two (group_of t tiling k g is).0.row.first.x v.x))
+              wide (inr l) (inr z) = omega (arith, width_is t tiling k g is, begins (cases_lt (group_of t tiling k g is).0.row.first.x v.x))
               wide (inr l) (inl z) = absurd (beyond (at_level t tiling k g is (v.x + v.width) (omega (arith, within.0, at_x)) z))
                 where
                   beyond : (r : Square) × IsOneOf r g × (covers (v.x + v.width) (group_of t tiling k g is).0.row.first.y r ≡ true) → ⊥
-                  beyond (r, n, f) = by (two r.x (v.x + v.width)) (under_at (v.x + v.width - 1) (omega (arith, flat.some)) (omega (arith, flat.some)))
+                  beyond (r, n, f) = by (cases_lt r.x (v.x + v.width)) (under_at (v.x + v.width - 1) (omega (arith, flat.some)) (omega (arith, flat.some)))
                     where
                       cover : covers (v.x + v.width) v.level r ≡ true
                       cover = subst (λ (j : ℕ). covers (v.x + v.width) j r ≡ true) level f
@@ -158,7 +156,7 @@ module _ (t : Tiling) (laid : List Square) (nodes : List Segment) (o : Outline) 
     where
       right : (q : Square) → IsOneOf q laid ⊎ IsOneOf q (squares_under t v) → q.x + q.s < t.width → q.y < depth (laid ++ squares_under t v) (q.x + q.s)
       right q (inl h) e = omega (arith, x.right q h e, depth-append laid (squares_under t v) (q.x + q.s))
-      right q (inr h) e = cases (two (q.x + q.s) (v.x + v.width))
+      right q (inr h) e = cases (cases_lt (q.x + q.s) (v.x + v.width))
         where
           cases : (q.x + q.s < v.x + v.width) ⊎ (v.x + v.width ≤ q.x + q.s) → q.y < depth (laid ++ squares_under t v) (q.x + q.s)
           cases (inl l) = let u = is_under t laid v tiling a.fills found low q h in omega (arith, u.level, deeper (q.x + q.s) (omega (arith, u.left)) l)
@@ -167,7 +165,7 @@ module _ (t : Tiling) (laid : List Square) (nodes : List Segment) (o : Outline) 
 
       left : (q : Square) → IsOneOf q laid ⊎ IsOneOf q (squares_under t v) → (c : ℕ) → suc c ≡ q.x → q.y < depth (laid ++ squares_under t v) c
       left q (inl h) c e = omega (arith, x.left q h c e, depth-append laid (squares_under t v) c)
-      left q (inr h) c e = cases (two c v.x)
+      left q (inr h) c e = cases (cases_lt c v.x)
         where
           cases : (c < v.x) ⊎ (v.x ≤ c) → q.y < depth (laid ++ squares_under t v) c
           cases (inl l) = let u = is_under t laid v tiling a.fills found low q h in omega (arith, u.level, (found.valley).left c (omega (arith, u.left)), depth-append laid (squares_under t v) c)

@@ -27,6 +27,7 @@ use Rattle.bk_skel.proofs.BottomChain.{BottomChain}
 use Rattle.bk_skel.proofs.Built.{LaidTurns, Result, all_deep, bottom_at, build_all, built, is_tiling}
 use Rattle.bk_skel.proofs.FlowFacts.{HasSides, has_sides, is_later, sides_count, total_is}
 use Rattle.bk_skel.proofs.FlowWord.{Placing, follow}
+use Rattle.bk_skel.proofs.LaidFlow.{pos_sides}
 use Rattle.bk_skel.proofs.NoLoose.{Played, closed_count, played_start, played_word}
 use Rattle.bk_skel.proofs.Sums.{out_sum, weighted, weighted_nil}
 use Rattle.bk_skel.proofs.Wires.{found_time}
@@ -109,10 +110,6 @@ module _ (w : Word) (f : Flow) (complete : IsComplete w) (flow : IsFlow (net_aft
     sides_count (outline_of w) own.numbered f flow (has_sides f places.long),
     (r.base).count,
   ))) ∙ append_nil (laid_sides r.all)
-
-  pos_sides : (squares : List Square) → map (λ q. pos q.s) squares ≡ map pos (laid_sides squares)
-  pos_sides [] = refl
-  pos_sides (q ∷ squares) = ap (λ (rest : List ℤ). pos q.s ∷ rest) (pos_sides squares)
 
   first_closed : (v : Word) (o : Outline) → 0 < length v → outline_of v ≡ o → slice_index_or (o.closed ++ o.segments) 0 [] ≡ []
   first_closed [] o h e = absurd (omega arith)

@@ -1,7 +1,7 @@
 -- The tiling whose squares were placed move by move has the word of these moves, where the bottoms compare as its
 -- signs say.
 use Rattle.std.specs.List.{AllByRecursion, AllZip}
-use Rattle.std.proofs.Common.{Bool, List, Some, [], ap, arith, cond, false, inl, inr, length, map, nat_eq, nat_lt, refl, slice_get, slice_index_or, subst, suc, sym, true, ℕ, ◌++◌, ◌+◌, ◌-◌, ◌<◌, ◌∙◌, ◌∷◌, ◌≡◌, ◌≤◌, ◌⊎◌}
+use Rattle.std.proofs.Common.{Bool, List, Some, [], ap, arith, cond, false, inl, inr, length, map, nat_eq, refl, slice_get, slice_index_or, subst, suc, sym, true, ℕ, ◌++◌, ◌+◌, ◌-◌, ◌<◌, ◌∙◌, ◌∷◌, ◌≡◌, ◌≤◌, ◌⊎◌}
 use Rattle.std.proofs.lemmas.Bool.Decides.{nat_tests}
 use Rattle.bk_tiling.proofs.Cells.{covers_from, from_filter, in_all, in_filter, no_two}
 use Rattle.bk_tiling.proofs.ListLaws.{append_assoc, append_nil, length_append, length_map}
@@ -27,14 +27,15 @@ use Rattle.bk_lay.proofs.Laying.{ordered_filter}
 use Rattle.bk_lay.proofs.Places.{HasFirst, HasLast, Placed, placed}
 use Rattle.bk_lay.proofs.Steps.{get_append, move_depicts, zip_at, zip_length}
 use Rattle.bk_lay.proofs.ValleySegment.{valley_segment}
-use Rattle.bk_lay.proofs.Valleys.{one_leftmost_valley}
+use Rattle.bk_lay.proofs.Valleys.{one_leftmost_valley, segment_path}
 use Rattle.bk_lay.proofs.Words.{there_is_a_valley}
 use Rattle.bk_lay.specs.Depiction.{Depicts, FillsFromTop, Hangs, IsNumbered, IsSegment, Span}
 use Rattle.bk_lay.specs.TilingWord.{IsLeftmostValley, MovesFollow, bottoms, depth_before, depth_from, hangs_under, move_under, signs_between, squares_under}
 use Rattle.bk_lay.specs.WordLaws.{NeverDeeperBefore}
 use Rattle.bk_skel.proofs.AlongWord.{top_valley}
 use Rattle.bk_skel.proofs.LaidFlow.{get_one}
-use Rattle.bk_skel.proofs.Sums.{span_sum}
+use Rattle.bk_skel.proofs.ShownOutline.{depth_from_end, runs_at}
+use Rattle.bk_skel.proofs.Sums.{positive_total, span_sum}
 use Rattle.bk_skel.specs.FlowTiling.{SignsCompare, bottoms_of_move, segment_bottom}
 use Rattle.bk_skel.specs.WordFlow.{LaidAlong}
 
@@ -51,17 +52,6 @@ Placing width laid o (m ∷ w) all = (x : ℕ) × ((level : ℕ) × ((new : List
 pub placing_prefix : (width : ℕ) (laid : List Square) (o : Outline) (w : Word) (all : List Square) → Placing width laid o w all → (more : List Square) × (all ≡ laid ++ more)
 placing_prefix width laid o [] all p = ([], sym p ∙ sym (append_nil laid))
 placing_prefix width laid o (m ∷ w) all (x, (level, (new, (turn, rest)))) = let r = placing_prefix width (laid ++ laid_group x level new) (after_move o m) w all rest in (laid_group x level new ++ r.0, r.1 ∙ append_assoc laid (laid_group x level new) r.0)
-
-segment_path : (v u : Segment) → v.x ≡ u.x → v.width ≡ u.width → v.level ≡ u.level → v ≡ u
-segment_path v u a b c = λ i. record { x = a i; width = b i; level = c i }
-
-runs_at : (width : ℕ) (laid : List Square) (x : ℕ) (front : List Segment) (r : Segment) (back : List Segment) → AreRuns width laid x (front ++ r ∷ back) → IsLevel width laid r
-runs_at width laid x [] r back cut = cut.1
-runs_at width laid x (u ∷ front) r back cut = runs_at width laid (x + u.width) front r back cut.2
-
-some_total : (new : List ℕ) → AllByRecursion (λ s. 0 < s) new → 0 < length new → 0 < total new
-some_total [] a h = absurd (omega arith)
-some_total (s ∷ new) a h = omega (arith, a.0)
 
 module _ (t : Tiling) (tiling : IsTiling t) (all : List Square) (all_in : (q : Square) → IsOneOf q all → IsOneOf q t.squares) (full : (c : ℕ) → c < t.width → depth all c ≡ t.height)
     (bottom : ℕ → ℕ) (bottom_is : (n : ℕ) (q : Square) → IsNumbered all n q → bottom n ≡ q.y + q.s) where
@@ -83,7 +73,7 @@ module _ (t : Tiling) (tiling : IsTiling t) (all : List Square) (all_in : (q : S
     flat = (found.valley).flat
 
     new_some : 0 < total new
-    new_some = some_total new turn.some (omega (arith, turn.count, legal))
+    new_some = positive_total new turn.some (omega (arith, turn.count, legal))
 
     -- the valley is where the group was placed
     valley_is : v ≡ record { x = x; width = total new; level = level }
@@ -239,11 +229,8 @@ module _ (t : Tiling) (tiling : IsTiling t) (all : List Square) (all_in : (q : S
           less : (a b : ℕ) → a < b → nat_eq a b ≡ false
           less a b e = grind (arith, nat_tests)
 
-          outside : (a b : ℕ) → a ≡ b → nat_lt a b ≡ false
-          outside a b e = grind (arith, nat_tests)
-
           cases : ((p.after ≡ []) × (v.x + v.width ≡ t.width)) ⊎ HasFirst t.width laid (v.x + v.width) p.after → cond (has_right_wall o) [] (segment_bottom bottom (slice_index_or o.segments (valley_place o.signs + 1) []) ∷ []) ≡ depth_from t.width laid (v.x + v.width)
-          cases (inl (none, at)) = by true (equal (valley_place o.signs) (length o.signs) (omega (arith, number, signs_count, ap length none))) ∙ sym (ap (λ (b : Bool). cond b (depth laid (v.x + v.width) ∷ []) []) (outside (v.x + v.width) t.width at))
+          cases (inl (none, at)) = by true (equal (valley_place o.signs) (length o.signs) (omega (arith, number, signs_count, ap length none))) ∙ sym (depth_from_end t.width laid (v.x + v.width) at)
           cases (inr h) = by false (less (valley_place o.signs) (length o.signs) (omega (arith, number, signs_count, ap length h.is))) ∙ ap (λ (n : ℕ). n ∷ []) (ap (λ (n : ℕ). segment_bottom bottom (slice_index_or o.segments n [])) next ∙ here) ∙ sym h.level
             where
               next : valley_place o.signs + 1 ≡ length (p.before ++ v ∷ [])

@@ -3,7 +3,6 @@
 use Rattle.std.specs.List.{AllByRecursion, AllZip}
 use Rattle.std.specs.Prelude.{pos, ℤ, ◌-ℤ◌}
 use Rattle.std.proofs.Common.{List, Some, [], ap, arith, cond, inl, inr, length, map, nat_eq, refl, slice_get, slice_index_or, subst, suc, sym, true, zero, ℕ, ◌++◌, ◌+◌, ◌<◌, ◌∙◌, ◌∷◌, ◌≡◌, ◌⊎◌}
-use Rattle.std.proofs.lemmas.Bool.Decides.{nat_tests}
 use Rattle.std.proofs.lemmas.Int.{ints}
 use Rattle.bk_tiling.proofs.ListLaws.{get_below, get_some, length_append, length_map, map_append}
 use Rattle.bk_tiling.proofs.Rows.{laid_sides}
@@ -26,7 +25,7 @@ use Rattle.bk_skel.proofs.AlongWord.{AtEnd, HasBegun, NotBegun, at_end}
 use Rattle.bk_skel.proofs.NoLoose.{closed_count}
 use Rattle.bk_skel.proofs.Numbering.{HasPlace, Numbered, numbered_moves, numbered_start, place_of_number, times}
 use Rattle.bk_skel.proofs.Sums.{in_is_weighted, out_sum, outflow_is, span_sum, weighted, weighted_nil}
-use Rattle.bk_skel.proofs.Wires.{get_front, wires_by}
+use Rattle.bk_skel.proofs.Wires.{get_front, same_or_none, wires_by}
 use Rattle.bk_skel.specs.WordFlow.{LaidSidesAreAFlow, laid_flow}
 use Rattle.bk_skel.specs.WordNet.{end_of, net_after}
 
@@ -47,7 +46,7 @@ get_mapped g [] k v d e = absurd (cc)
 get_mapped g (u ∷ segments) zero v d e = let same : u ≡ v = cc in ap (λ (s : Segment). g s.level) same
 get_mapped g (u ∷ segments) (suc k) v d e = get_mapped g segments k v d e
 
-pos_sides : (squares : List Square) → map (λ q. pos q.s) squares ≡ map pos (laid_sides squares)
+pub pos_sides : (squares : List Square) → map (λ q. pos q.s) squares ≡ map pos (laid_sides squares)
 pos_sides [] = refl
 pos_sides (q ∷ squares) = ap (λ rest. pos q.s ∷ rest) (pos_sides squares)
 
@@ -71,11 +70,8 @@ currents_by (q ∷ laid) (h ∷ hung) f b g long each = λ i. first i ∷ curren
 -- a number that stands in a span is that of a square that ends at its level
 in_span : (laid : List Square) (level x : ℕ) (numbers : List ℕ) (end m : ℕ) → Span laid level x numbers end → 0 < times m numbers → (q : Square) × IsNumbered laid m q × (q.y + q.s ≡ level)
 in_span laid level x [] end m span h = absurd (omega arith)
-in_span laid level x (n ∷ numbers) end m (q, at, place, bottom, rest) h = cases (either m n) (in_span laid level (x + q.s) numbers end m rest)
+in_span laid level x (n ∷ numbers) end m (q, at, place, bottom, rest) h = cases (same_or_none m n) (in_span laid level (x + q.s) numbers end m rest)
   where
-    either : (m n : ℕ) → (n ≡ m) ⊎ ◌≡◌ {A = ℕ} (cond (nat_eq m n) 1 0) 0
-    either m n = grind (arith, nat_tests)
-
     cases : (n ≡ m) ⊎ ◌≡◌ {A = ℕ} (cond (nat_eq m n) 1 0) 0 → (0 < times m numbers → (q : Square) × IsNumbered laid m q × (q.y + q.s ≡ level)) → (q : Square) × IsNumbered laid m q × (q.y + q.s ≡ level)
     cases (inl e) more = (q, subst (λ (k : ℕ). IsNumbered laid k q) e at, bottom)
     cases (inr e) more = more (omega (arith, e))

@@ -1,6 +1,6 @@
 -- The word and the sides in the order of laying fix the tiling.
 use Rattle.std.proofs.Common.{List, [], arith, map, refl, sym, ℕ, ◌*◌, ◌∙◌, ◌∷◌, ◌≡◌}
-use Rattle.bk_tiling.specs.Scale.{enlarged, enlarged_square}
+use Rattle.bk_tiling.proofs.EnlargedTilings.{enlarged-once}
 use Rattle.bk_tiling.specs.Tiling.{Tiling}
 use Rattle.bk_tiling.specs.declared.Square.{Square}
 use Rattle.bk_word.specs.Word.{Word}
@@ -10,18 +10,11 @@ use Rattle.bk_skel.specs.LaidTiling.{IsLaidWith}
 once : (n : ℕ) → 1 * n ≡ n
 once n = omega arith
 
-squares_once : (squares : List Square) → map (enlarged_square 1) squares ≡ squares
-squares_once [] = refl
-squares_once (q ∷ squares) = λ i. record { x = once q.x i; y = once q.y i; s = once q.s i } ∷ squares_once squares i
-
-tiling_once : (t : Tiling) → enlarged 1 t ≡ t
-tiling_once t = λ i. record { width = once t.width i; height = once t.height i; squares = squares_once t.squares i }
-
 sides_once : (squares : List Square) → map (λ q. 1 * q.s) squares ≡ map (λ q. q.s) squares
 sides_once [] = refl
 sides_once (q ∷ squares) = λ i. once q.s i ∷ sides_once squares i
 
 pub laid_once : (w : Word) (given : List ℕ) (t u : Tiling) → IsLaidWith w given t → IsLaidWith w given u → t ≡ u
-laid_once w given t u a b = sym (tiling_once t)
+laid_once w given t u a b = sym (enlarged-once t)
     ∙ laid_sides_fix_a_tiling t u w a.laid b.laid a.levels b.levels 1 1 a.tiling b.tiling (omega arith) (omega arith) a.word b.word a.along b.along (sides_once a.laid ∙ a.sides ∙ sym b.sides ∙ sym (sides_once b.laid))
-    ∙ tiling_once u
+    ∙ enlarged-once u

@@ -10,6 +10,7 @@ pub mod OneTiling
 pub mod PrimitiveTiling
 pub mod BottomChain
 pub mod FlowFacts
+pub mod FilledColumns
 pub mod Building
 pub mod Built
 pub mod FlowWord

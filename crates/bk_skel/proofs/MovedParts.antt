@@ -1,11 +1,13 @@
 -- The outline after a move, by the parts of the outline that is cut at its leftmost valley.
-use Rattle.std.proofs.Common.{List, [], ap, arith, drop, false, filter, inl, inr, length, map, nat_eq, refl, slice_index_or, suc, sym, take, true, zero, ℕ, ◌++◌, ◌+◌, ◌-◌, ◌<◌, ◌∙◌, ◌∷◌, ◌≡◌, ◌≤◌, ◌⊎◌}
+use Rattle.std.proofs.Common.{List, [], ap, arith, drop, false, filter, inl, inr, length, map, nat_eq, refl, slice_index_or, suc, sym, take, zero, ℕ, ◌++◌, ◌+◌, ◌-◌, ◌<◌, ◌∙◌, ◌∷◌, ◌≡◌, ◌≤◌, ◌⊎◌}
 use Rattle.std.proofs.lemmas.Bool.Decides.{nat_tests}
 use Rattle.std.proofs.lemmas.List.{drop_at, take_at}
 use Rattle.std.proofs.lemmas.List.Elements.{filter-append}
+use Rattle.bk_tiling.proofs.Cells.{not_both}
 use Rattle.bk_tiling.proofs.ListLaws.{append_assoc, length_append, length_map}
+use Rattle.bk_word.proofs.PlayLists.{numbers-length}
 use Rattle.bk_word.specs.Outline.{IsLegalMove, Outline, has_left_wall, has_right_wall, open_side, valley_of, valley_place}
-use Rattle.bk_word.specs.Play.{after_move, before_first_list, joined, new_squares, numbers_from, parts, segments_apart, signs_apart}
+use Rattle.bk_word.specs.Play.{after_move, before_first_list, joined, new_squares, parts, segments_apart, signs_apart}
 use Rattle.bk_word.specs.Word.{Move}
 use Rattle.bk_word.specs.declared.Sign.{Sign}
 use Rattle.bk_word.specs.declared.Sign.TheVariants.{Above, Even, Under}
@@ -17,10 +19,7 @@ joined_behind [] [] signs back many part = refl
 joined_behind [] (g ∷ front_signs) signs back many part = absurd (omega arith)
 joined_behind (s ∷ front) [] signs back many part = absurd (omega arith)
 joined_behind (s ∷ front) (Above ∷ front_signs) signs back many part = ap (λ (l : List (List ℕ)). s ∷ l) (joined_behind front front_signs signs back (omega arith) part.1)
-joined_behind (s ∷ front) (Even ∷ front_signs) signs back many part = absurd (not_even part.0)
-  where
-    not_even : false ≡ true → ⊥
-    not_even e = cc
+joined_behind (s ∷ front) (Even ∷ front_signs) signs back many part = absurd (not_both false part.0 refl)
 joined_behind (s ∷ front) (Under ∷ front_signs) signs back many part = ap (λ (l : List (List ℕ)). s ∷ l) (joined_behind front front_signs signs back (omega arith) part.1)
 
 -- so does what stands behind
@@ -29,10 +28,7 @@ joined_alone [] [] many part s = refl
 joined_alone [] (t ∷ segments) many part s = absurd (omega arith)
 joined_alone (g ∷ signs) [] many part s = absurd (omega arith)
 joined_alone (Above ∷ signs) (t ∷ segments) many part s = ap (λ (l : List (List ℕ)). s ∷ l) (joined_alone signs segments (omega arith) part.1 t)
-joined_alone (Even ∷ signs) (t ∷ segments) many part s = absurd (not_even part.0)
-  where
-    not_even : false ≡ true → ⊥
-    not_even e = cc
+joined_alone (Even ∷ signs) (t ∷ segments) many part s = absurd (not_both false part.0 refl)
 joined_alone (Under ∷ signs) (t ∷ segments) many part s = ap (λ (l : List (List ℕ)). s ∷ l) (joined_alone signs segments (omega arith) part.1 t)
 
 before_front : (s : List ℕ) (front back : List (List ℕ)) → 0 < length front → before_first_list s (front ++ back) ≡ before_first_list s front ++ back
@@ -64,10 +60,7 @@ joined_before (Even ∷ signs) back_signs (s ∷ t ∷ segments) back many backs
 pub filter_part : (signs : List Sign) → AllPart signs → filter parts signs ≡ signs
 filter_part [] part = refl
 filter_part (Above ∷ signs) part = ap (λ (l : List Sign). Above ∷ l) (filter_part signs part.1)
-filter_part (Even ∷ signs) part = absurd (not_even part.0)
-  where
-    not_even : false ≡ true → ⊥
-    not_even e = cc
+filter_part (Even ∷ signs) part = absurd (not_both false part.0 refl)
 filter_part (Under ∷ signs) part = ap (λ (l : List Sign). Under ∷ l) (filter_part signs part.1)
 
 -- how many segments and signs stand at one side of a valley: none, or one of each
@@ -181,10 +174,6 @@ module _ (o : Outline) (v : AtValley o) where
           beyond (suc n) (g ∷ l) h = beyond n l (omega arith)
       cases (inr (s, e, f)) = ap (drop (valley_place o.signs + 1)) (whole ∙ sym (append_assoc (v.before_signs ++ v.left_signs) v.right_signs v.after_signs)) ∙ drop_at ((v.before_signs ++ v.left_signs) ++ v.right_signs) v.after_signs (valley_place o.signs + 1) (omega (arith, length_append (v.before_signs ++ v.left_signs) v.right_signs, front, ap length f))
 
-pub length-numbers : (n k : ℕ) → length (numbers_from n k) ≡ k
-length-numbers n zero = refl
-length-numbers n (suc k) = ap suc (length-numbers (n + 1) k)
-
 -- the outline after a legal move: the valley and the segments beside it give way
 module _ (o : Outline) (v : AtValley o) (m : Move) (legal : IsLegalMove o m) where
   -- the new squares, each a segment, between the segments beside the valley
@@ -200,7 +189,7 @@ module _ (o : Outline) (v : AtValley o) (m : Move) (legal : IsLegalMove o m) whe
     length_append v.left (map (λ q. q ∷ []) (new_squares o m) ++ v.right),
     length_append (map (λ q. q ∷ []) (new_squares o m)) v.right,
     length_map (λ (q : ℕ). q ∷ []) (new_squares o m),
-    length-numbers (length o.hung + 1) m.count,
+    numbers-length (length o.hung + 1) m.count,
   )
 
   pub apart_segments : segments_apart o m ≡ v.before ++ ((v.left ++ (map (λ q. q ∷ []) (new_squares o m) ++ v.right)) ++ v.after)

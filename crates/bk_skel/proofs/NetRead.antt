@@ -1,18 +1,18 @@
 -- The net of a word, read from what a skeleton stores.
-use Rattle.std.specs.List.{concat, list_any}
+use Rattle.std.specs.List.{list_any}
 use Rattle.std.proofs.Common.{Bool, List, [], ap, arith, cond, drop, false, inl, inr, length, map, nat_eq, not, refl, replicate, slice_index, subst, suc, sum, sym, take, true, zero, zip, ℕ, ◌++◌, ◌+◌, ◌<◌, ◌∙◌, ◌∷◌, ◌≡◌, ◌≤◌, ◌⊎◌}
 use Rattle.std.proofs.lemmas.Bool.Decides.{nat_tests}
-use Rattle.std.proofs.lemmas.List.{length-take-le}
+use Rattle.std.proofs.lemmas.List.{length-take-le, take-append-drop}
 use Rattle.std.proofs.lemmas.List.Sums.{sum_by-cons}
 use Rattle.std.proofs.lemmas.List.Elements.{recursion_from_All}
 use Rattle.bk_tiling.proofs.ListLaws.{append_assoc, append_nil, length_append, map_append}
 use Rattle.bk_net.specs.Net.{Net}
+use Rattle.bk_word.proofs.StoredBytes.{order_more}
 use Rattle.bk_word.specs.Outline.{Outline, start, valley_of, valley_place}
 use Rattle.bk_word.specs.Play.{IsComplete, after_move, after_moves, numbers_from, outline_of}
 use Rattle.bk_word.specs.Word.{Word, order_of}
 use Rattle.bk_word.specs.declared.Sign.{Sign}
-use Rattle.bk_lay.proofs.WordPlay.{order-cons}
-use Rattle.bk_skel.proofs.Numbering.{Numbered, any_times, length-replicate, numbered_moves, numbered_start, times, times-append, times_in, times_in-append, times_one}
+use Rattle.bk_skel.proofs.Numbering.{Numbered, any_times, length-replicate, numbered_moves, numbered_start, times, times-concat, times_in, times_in-append, times_one}
 use Rattle.bk_skel.proofs.NoLoose.{a_word_net_has_no_loose, closed_count, hung_number}
 use Rattle.bk_skel.proofs.SkelReads.{counted_in, size_index}
 use Rattle.bk_skel.proofs.TurnParts.{sum_lengths}
@@ -36,7 +36,7 @@ counts_turns o from (m ∷ w) = ap (λ (l : List ℕ). m.count ∷ l) (counts_tu
 
 pub counts_sum : (w : Word) → sum (map (λ m. m.count) w) ≡ order_of w
 counts_sum [] = refl
-counts_sum (m ∷ w) = omega (arith, sum_by-cons (λ (n : ℕ). n) m.count (map (λ m. m.count) w), order-cons m w, counts_sum w)
+counts_sum (m ∷ w) = omega (arith, sum_by-cons (λ (n : ℕ). n) m.count (map (λ m. m.count) w), order_more m w, counts_sum w)
 
 -- the wires of squares that hang from the nodes in order
 zip_replicate : (node count : ℕ) (ends : List ℕ) → count ≤ length ends → zip (replicate count node) (take count ends) ≡ map (λ e. (node, e)) (take count ends)
@@ -61,15 +61,10 @@ zip-append [] (u ∷ us) ys vs e = absurd (omega arith)
 zip-append (x ∷ xs) [] ys vs e = absurd (omega arith)
 zip-append {A = A} {B = B} (x ∷ xs) (u ∷ us) ys vs e = ap (λ (l : List (A × B)). (x, u) ∷ l) (zip-append xs us ys vs (omega arith))
 
-take_drop : (n : ℕ) (xs : List ℕ) → xs ≡ take n xs ++ drop n xs
-take_drop zero xs = refl
-take_drop (suc n) [] = refl
-take_drop (suc n) (x ∷ xs) = ap (λ (l : List ℕ). x ∷ l) (take_drop n xs)
-
 pub zip_nodes : (node : ℕ) (counts ends : List ℕ) → length ends ≡ sum counts → zip (nodes_from node counts) ends ≡ wires_from node counts ends
 zip_nodes node [] ends e = refl
 zip_nodes node (count ∷ counts) ends e =
-    ap (zip (replicate count node ++ nodes_from (node + 1) counts)) (take_drop count ends)
+    ap (zip (replicate count node ++ nodes_from (node + 1) counts)) (sym (take-append-drop count ends))
     ∙ zip-append (replicate count node) (take count ends) (nodes_from (node + 1) counts) (drop count ends) (length-replicate count node ∙ sym (length-take-le count ends within))
     ∙ (λ i. zip_replicate node count ends within i ++ zip_nodes (node + 1) counts (drop count ends) left i)
   where
@@ -80,12 +75,7 @@ zip_nodes node (count ∷ counts) ends e =
     within = omega (arith, all)
 
     left : length (drop count ends) ≡ sum counts
-    left = omega (arith, all, within, ap length (take_drop count ends), length_append (take count ends) (drop count ends), length-take-le count ends within)
-
--- the numbers of the closed squares are those of squares
-times_concat : (m : ℕ) (lists : List (List ℕ)) → times m (concat lists) ≡ times_in m lists
-times_concat m [] = refl
-times_concat m (s ∷ lists) = omega (arith, times-append m s (concat lists), times_concat m lists)
+    left = omega (arith, all, within, ap length (take-append-drop count ends), length_append (take count ends) (drop count ends), length-take-le count ends within)
 
 times_here : (xs : List ℕ) (i : ℕ) → i < length xs → 0 < times (slice_index xs i) xs
 times_here [] i h = absurd (omega arith)
@@ -95,6 +85,7 @@ times_here (x ∷ xs) zero h = omega (arith, same x)
     same x = grind (arith, nat_tests)
 times_here (x ∷ xs) (suc i) h = omega (arith, times_here xs i (omega arith))
 
+-- the numbers of the closed squares are those of squares
 pub closed_numbers : {w : Word} {ends sizes : List ℕ} {signs : List Sign} {closed : List ℕ} {turns : List Turn} {played : List Sign} → IsStored w ends sizes signs closed turns played → AreNumbers 200 closed
 closed_numbers {w = w} {closed = closed} s = record { positive = λ i h. (number i h).0; small = λ i h. omega (arith, (number i h).1, (counted_in s).hung, (s.kept).few) }
   where
@@ -103,7 +94,7 @@ closed_numbers {w = w} {closed = closed} s = record { positive = λ i h. (number
       arith,
       times_here closed i h,
       ap (times (slice_index closed i)) (s.shows).closed_are,
-      times_concat (slice_index closed i) (outline_of w).closed,
+      times-concat (slice_index closed i) (outline_of w).closed,
       times_in-append (slice_index closed i) (outline_of w).closed (outline_of w).segments,
     ))
 

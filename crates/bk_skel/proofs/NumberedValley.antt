@@ -1,9 +1,8 @@
 -- What is seen of an outline that shows what is laid by the numbers of its open squares alone, from left to right: the
 -- squares of the leftmost valley stand side by side among them, and the bottoms beside them are the depths there.
 use Rattle.std.specs.List.{AllZip, concat}
-use Rattle.std.proofs.Common.{Bool, List, Some, [], ap, arith, cond, drop, false, inl, inr, length, map, nat_eq, nat_lt, refl, slice_get, slice_index_or, subst, suc, sym, take, zero, ℕ, ◌++◌, ◌+◌, ◌-◌, ◌<◌, ◌∙◌, ◌∷◌, ◌≡◌, ◌⊎◌}
-use Rattle.std.proofs.lemmas.Bool.Decides.{nat_tests}
-use Rattle.bk_tiling.proofs.ListLaws.{append_assoc, append_nil, length_append}
+use Rattle.std.proofs.Common.{List, Some, [], ap, arith, drop, inl, inr, length, map, nat_eq, refl, slice_get, slice_index_or, subst, suc, sym, take, zero, ℕ, ◌++◌, ◌+◌, ◌-◌, ◌<◌, ◌∙◌, ◌∷◌, ◌≡◌, ◌⊎◌}
+use Rattle.bk_tiling.proofs.ListLaws.{append_assoc, append_nil}
 use Rattle.bk_tiling.specs.Column.{AreRuns, IsLevel, depth}
 use Rattle.bk_tiling.specs.SquareGroups.{laid_group}
 use Rattle.bk_tiling.specs.declared.Segment.{Segment}
@@ -14,13 +13,13 @@ use Rattle.bk_word.specs.Word.{Move}
 use Rattle.bk_lay.proofs.Depicting.{left_count, right_count}
 use Rattle.bk_lay.proofs.Joining.{levels}
 use Rattle.bk_lay.proofs.Places.{HasFirst, HasLast, Placed}
-use Rattle.bk_lay.proofs.Steps.{zip_at, zip_length}
+use Rattle.bk_lay.proofs.Steps.{zip_after, zip_at, zip_before, zip_length}
 use Rattle.bk_lay.proofs.Valleys.{one_leftmost_valley}
 use Rattle.bk_word.specs.declared.Sign.{Sign}
 use Rattle.bk_lay.specs.Depiction.{IsNumbered, IsSegment, Span}
 use Rattle.bk_lay.specs.TilingWord.{IsLeftmostValley, depth_before, depth_from}
 use Rattle.bk_skel.proofs.BottomChain.{concat-append, concat-cut, concat-joined, concat-singles}
-use Rattle.bk_skel.proofs.ShownOutline.{fills_total, first_is, last_is, level_signs, number_levels, place_in, shows_move, zip_after, zip_before}
+use Rattle.bk_skel.proofs.ShownOutline.{depth_from_end, fills_total, first_is, last_is, level_signs, number_levels, one_run, place_in, runs_at, shows_move}
 use Rattle.bk_skel.specs.Board.{IsGap, IsTurn, ShowsLaid, back_of, bottom_at, front_of, square_at}
 
 -- the square of a number
@@ -66,10 +65,6 @@ zip_last R [] x (u ∷ []) z = record { front = []; last = u; is = refl; here = 
 zip_last R [] x (u ∷ w ∷ us) z = absurd z.1
 zip_last R (y ∷ xs) x [] z = absurd z
 zip_last R (y ∷ xs) x (u ∷ us) z = let r = zip_last R xs x us z.1 in record { front = u ∷ r.front; last = r.last; is = ap (λ (l : List (List ℕ)). u ∷ l) r.is; here = r.here }
-
-runs_at : (width : ℕ) (laid : List Square) (x : ℕ) (front : List Segment) (r : Segment) (back : List Segment) → AreRuns width laid x (front ++ r ∷ back) → IsLevel width laid r
-runs_at width laid x [] r back cut = cut.1
-runs_at width laid x (u ∷ front) r back cut = runs_at width laid (x + u.width) front r back cut.2
 
 -- a segment that lies below the top is a span
 pub segment_span : (width : ℕ) (laid : List Square) → ((c : ℕ) → c < width → 0 < depth laid c) → (r : Segment) (numbers : List ℕ) → IsLevel width laid r → IsSegment laid r numbers → Span laid r.level r.x numbers (r.x + r.width)
@@ -136,7 +131,7 @@ module _ (width : ℕ) (laid : List Square) (o : Outline) (s : ShowsLaid width l
     found = found;
     gap = inr (ap valley_of first, top);
     left = record { shape = inl (ap front_of first, ap (depth_before laid) whole.0) };
-    right = record { shape = inl (ap back_of first, bare (outside (v.x + v.width) width (omega (arith, whole.0, whole.1)))) };
+    right = record { shape = inl (ap back_of first, depth_from_end width laid (v.x + v.width) (omega (arith, whole.0, whole.1))) };
     empty = λ e. (ap front_of first, ap back_of first);
     signs = signs;
   }
@@ -144,25 +139,14 @@ module _ (width : ℕ) (laid : List Square) (o : Outline) (s : ShowsLaid width l
       one : length s.runs ≡ 1
       one = zip_length (IsSegment laid) s.runs o.segments s.segments ∙ ap (λ (p : Outline). length p.segments) first
 
-      only : (before after : List Segment) → AreRuns width laid 0 (before ++ v ∷ after) → length before ≡ 0 → length after ≡ 0 → (v.x ≡ 0) × (v.width ≡ width)
-      only [] [] cut a b = (cut.0, omega (arith, cut.2))
-      only [] (r ∷ after) cut a b = absurd (omega arith)
-      only (r ∷ before) after cut a b = absurd (omega arith)
-
       whole : (v.x ≡ 0) × (v.width ≡ width)
-      whole = only before after cut (omega (arith, one, ap length is, length_append before (v ∷ after))) (omega (arith, one, ap length is, length_append before (v ∷ after)))
+      whole = one_run width laid before v after cut (sym (ap length is) ∙ one)
 
       level : v.level ≡ 0
       level = sym (flat.level v.x (omega arith) (omega (arith, flat.some))) ∙ ap (λ (l : List Square). depth l v.x) none
 
       top : v ≡ record { x = 0; width = width; level = 0 }
       top = λ i. record { x = whole.0 i; width = whole.1 i; level = level i }
-
-      bare : nat_lt (v.x + v.width) width ≡ false → depth_from width laid (v.x + v.width) ≡ []
-      bare e = ap (λ (b : Bool). cond b (depth laid (v.x + v.width) ∷ []) []) e
-
-      outside : (a b : ℕ) → a ≡ b → nat_lt a b ≡ false
-      outside a b e = grind (arith, nat_tests)
 
   -- once something is laid
   begun : ((c : ℕ) → c < width → 0 < depth laid c) → Sees width laid o
@@ -216,13 +200,7 @@ module _ (width : ℕ) (laid : List Square) (o : Outline) (s : ShowsLaid width l
               )
 
       at_right : ((after ≡ []) × (v.x + v.width ≡ width)) ⊎ HasFirst width laid (v.x + v.width) after → ((back_of o ≡ []) × (depth_from width laid (v.x + v.width) ≡ [])) ⊎ ((n : ℕ) × ((ns : List ℕ) × ((back_of o ≡ n ∷ ns) × (depth_from width laid (v.x + v.width) ≡ bottom_at laid n ∷ []))))
-      at_right (inl (none, at)) = inl (none_right (drop (suc (valley_place o.signs)) o.segments) backs none, bare (outside (v.x + v.width) width at))
-        where
-          bare : nat_lt (v.x + v.width) width ≡ false → depth_from width laid (v.x + v.width) ≡ []
-          bare e = ap (λ (b : Bool). cond b (depth laid (v.x + v.width) ∷ []) []) e
-
-          outside : (a b : ℕ) → a ≡ b → nat_lt a b ≡ false
-          outside a b e = grind (arith, nat_tests)
+      at_right (inl (none, at)) = inl (none_right (drop (suc (valley_place o.signs)) o.segments) backs none, depth_from_end width laid (v.x + v.width) at)
       at_right (inr h) = from (drop (suc (valley_place o.signs)) o.segments) (subst (λ (l : List Segment). AllZip (IsSegment laid) l (drop (suc (valley_place o.signs)) o.segments)) h.is backs)
         where
           there : IsLevel width laid h.first

@@ -30,7 +30,7 @@ use Rattle.bk_skel.proofs.LaidFlow.{laid_sides_are_a_flow}
 use Rattle.bk_skel.proofs.NoLoose.{a_word_has_one_flow}
 use Rattle.bk_skel.specs.WordFlow.{AWordHasOneTiling, LaidAlong, LaidSidesFixATiling, laid_flow}
 
-append_parts : (a b c d : List ℕ) → length a ≡ length c → a ++ b ≡ c ++ d → (a ≡ c) × (b ≡ d)
+pub append_parts : (a b c d : List ℕ) → length a ≡ length c → a ++ b ≡ c ++ d → (a ≡ c) × (b ≡ d)
 append_parts [] b [] d l e = (refl, e)
 append_parts [] b (n ∷ c) d l e = absurd (omega arith)
 append_parts (m ∷ a) b [] d l e = absurd (omega arith)

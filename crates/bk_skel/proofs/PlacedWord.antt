@@ -3,9 +3,10 @@
 use Rattle.std.specs.List.{AllByRecursion}
 use Rattle.std.specs.Prelude.{nat_abs, neg_ℤ, negsuc, pos, ℤ, ◌*ℤ◌, ◌-ℤ◌, ◌≤ℤ◌}
 use Rattle.std.proofs.Common.{Bool, List, [], ap, arith, cond, false, inl, inr, length, map, refl, replicate, slice_get, slice_index_or, subst, suc, sym, true, zero, ℕ, ◌*◌, ◌++◌, ◌+◌, ◌-◌, ◌<◌, ◌∙◌, ◌∷◌, ◌≡◌, ◌≤◌, ◌⊎◌}
-use Rattle.std.proofs.Math.IntN.{negsuc-*ℤ-pos, pos-*ℤ-negsuc, pos-*ℤ-pos}
+use Rattle.std.proofs.Math.IntN.{negsuc-*ℤ-pos, pos-*ℤ-pos}
 use Rattle.std.proofs.lemmas.Bool.Decides.{nat_tests}
 use Rattle.std.proofs.lemmas.Int.{ints}
+use Rattle.bk_frac.proofs.WholeNumbers.{abs-mul}
 use Rattle.bk_tiling.proofs.Cells.{all_from, in_all}
 use Rattle.bk_tiling.proofs.ListLaws.{length_append, length_map}
 use Rattle.bk_tiling.proofs.Rows.{Chain, chain_total, laid_sides, total}
@@ -39,6 +40,8 @@ use Rattle.bk_skel.proofs.LaidFlow.{end_level, laid_sides_are_a_flow, potential_
 use Rattle.bk_skel.proofs.NoLoose.{Played, a_word_has_one_flow, a_word_net_has_no_loose, closed_count, hung_number, played_move, played_start, played_word}
 use Rattle.bk_skel.proofs.Numbering.{length-replicate, place_of_number, times, times_at, times_in, times_in-append}
 use Rattle.bk_skel.proofs.OneTiling.{along_prefix, laid_along}
+use Rattle.bk_skel.proofs.Sums.{positive_sides}
+use Rattle.bk_skel.proofs.Wires.{first_counted}
 use Rattle.bk_skel.specs.FlowTiling.{AWordOfATilingIsPlaced, PlacesWord, SignsCompare, bottom_in, bottoms_of_move, segment_bottom}
 use Rattle.bk_skel.specs.WordFlow.{LaidAlong, laid_flow}
 use Rattle.bk_skel.specs.WordNet.{end_of, net_after}
@@ -75,10 +78,7 @@ map_append_ℕ f (x ∷ xs) ys = ap (λ (zs : List ℕ). f x ∷ zs) (map_append
 module _ (k l most : ℕ) (b c : ℕ → ℕ) (alike : (n : ℕ) → 1 ≤ n → n ≤ most → k * b n ≡ l * c n) where
   segment_alike : (numbers : List ℕ) → ((n : ℕ) → 0 < times n numbers → (1 ≤ n) × (n ≤ most)) → k * segment_bottom b numbers ≡ l * segment_bottom c numbers
   segment_alike [] each = omega arith
-  segment_alike (n ∷ numbers) each = let r = each n (one n numbers) in alike n r.0 r.1
-    where
-      one : (n : ℕ) (numbers : List ℕ) → 0 < times n (n ∷ numbers)
-      one n numbers = grind (arith, nat_tests)
+  segment_alike (n ∷ numbers) each = let r = each n (first_counted n numbers) in alike n r.0 r.1
 
   new_alike : (n j : ℕ) → 1 ≤ n → n + j ≤ most + 1 → map (λ m. k * m) (map b (numbers_from n j)) ≡ map (λ m. l * m) (map c (numbers_from n j))
   new_alike n zero h e = refl
@@ -104,14 +104,6 @@ module _ (k l most : ℕ) (b c : ℕ → ℕ) (alike : (n : ℕ) → 1 ≤ n →
 
       at : (p n : ℕ) → 0 < times n (slice_index_or o.segments p []) → (1 ≤ n) × (n ≤ most)
       at p n h = each n (omega (arith, h, times_at n p o.segments))
-
-abs_scaled : (a : ℕ) (z : ℤ) → nat_abs (pos a *ℤ z) ≡ a * nat_abs z
-abs_scaled a (pos n) = ap nat_abs (pos-*ℤ-pos a n)
-abs_scaled a (negsuc n) = ap nat_abs (pos-*ℤ-negsuc a n) ∙ abs_neg (a * suc n)
-  where
-    abs_neg : (k : ℕ) → nat_abs (neg_ℤ (pos k)) ≡ k
-    abs_neg zero = refl
-    abs_neg (suc k) = refl
 
 current_positive : (c : ℤ) (s wide all : ℕ) → 0 < s → 0 < all → c *ℤ pos wide ≡ pos s *ℤ pos all → pos 1 ≤ℤ c
 current_positive (pos zero) s wide all h k e = absurd (omega (arith, mul_below s 0 all h k, same (zero * wide) (s * all) (sym (pos-*ℤ-pos zero wide) ∙ e ∙ pos-*ℤ-pos s all)))
@@ -164,7 +156,7 @@ module _ (t : Tiling) (w : Word) (f : Flow) (tiling : IsTiling t) (p : IsWordOf 
 
   -- the drops
   drops : (v : ℕ) → v < length (outline_of w).closed + 1 → all * nat_abs (potential (laid_flow t tl.0 (tl.1).0) 0 -ℤ potential (laid_flow t tl.0 (tl.1).0) v) ≡ t.width * nat_abs (potential f 0 -ℤ potential f v)
-  drops v few = sym (abs_scaled all (potential (laid_flow t tl.0 (tl.1).0) 0 -ℤ potential (laid_flow t tl.0 (tl.1).0) v)) ∙ ap nat_abs between ∙ abs_scaled t.width (potential f 0 -ℤ potential f v)
+  drops v few = sym (abs-mul all (potential (laid_flow t tl.0 (tl.1).0) 0 -ℤ potential (laid_flow t tl.0 (tl.1).0) v)) ∙ ap nat_abs between ∙ abs-mul t.width (potential f 0 -ℤ potential f v)
     where
       level : (v : ℕ) → v < length (outline_of w).closed + 1 → f.total *ℤ potential (laid_flow t tl.0 (tl.1).0) v -ℤ pos t.width *ℤ potential f v
           ≡ f.total *ℤ potential (laid_flow t tl.0 (tl.1).0) (last_node (net_after (outline_of w))) -ℤ pos t.width *ℤ potential f (last_node (net_after (outline_of w)))
@@ -218,10 +210,6 @@ module _ (t : Tiling) (w : Word) (f : Flow) (tiling : IsTiling t) (p : IsWordOf 
       new_sum : total (laid_sides (squares_under t q.0)) ≡ (q.0).width
       new_sum = omega (arith, chain_total (squares_under t q.0) (q.0).x ((q.0).x + (q.0).width) chain)
 
-      positive : (squares : List Square) → ((r : Square) → IsOneOf r squares → 0 < r.s) → AllByRecursion (λ s. 0 < s) (laid_sides squares)
-      positive [] each = tt
-      positive (r ∷ squares) each = (each r (inl refl), positive squares (λ s h. each s (inr h)))
-
       place_of : IsSegment laid q.0 (valley_of o) → NotBegun laid nodes o ⊎ HasBegun t laid nodes o
           → Span laid (q.0).level (q.0).x (valley_of o) ((q.0).x + total (laid_sides (squares_under t q.0))) ⊎ ((laid ≡ []) × (valley_of o ≡ []) × ((q.0).x ≡ 0) × ((q.0).level ≡ 0) × (total (laid_sides (squares_under t q.0)) ≡ t.width))
       place_of (inl span) b = inl (subst (λ (n : ℕ). Span laid (q.0).level (q.0).x (valley_of o) ((q.0).x + n)) (sym new_sum) span)
@@ -231,7 +219,7 @@ module _ (t : Tiling) (w : Word) (f : Flow) (tiling : IsTiling t) (p : IsWordOf 
       turn : IsPlacing t.width laid o m (q.0).x (q.0).level (laid_sides (squares_under t q.0))
       turn = record {
         count = length_map (λ r. r.s) (squares_under t q.0) ∙ sym (ap (λ (n : Move). n.count) q.3);
-        some = positive (squares_under t q.0) (λ r h. in_all (λ q. 0 < q.s) t.squares (tiling.tiles).sides r (in_tiling t laid q.0 tiling a.fills q.1 q.2 r h));
+        some = positive_sides (squares_under t q.0) (λ r h. in_all (λ q. 0 < q.s) t.squares (tiling.tiles).sides r (in_tiling t laid q.0 tiling a.fills q.1 q.2 r h));
         place = place_of (valley_segment t laid nodes o q.0 tiling a.depicts q.1) a.begun;
       }
 

@@ -1,7 +1,7 @@
 -- Where things stand in lists: squares in lists without repeats, wires, and numbers that a map takes one to one.
 use Rattle.std.specs.List.{position_or_len}
 use Rattle.std.proofs.Common.{Bool, List, Option, Some, [], ap, arith, cond, false, inl, inr, length, map, nat_eq, not, refl, slice_get, slice_index_or, subst, suc, sym, true, zero, ℕ, ◌++◌, ◌+◌, ◌<◌, ◌∙◌, ◌∷◌, ◌≡◌, ◌≤◌, ◌⊎◌}
-use Rattle.std.proofs.lemmas.Bool.Decides.{nat_tests}
+use Rattle.std.proofs.lemmas.Bool.{cases_lt}
 use Rattle.bk_tiling.proofs.Cells.{not_both}
 use Rattle.bk_tiling.proofs.ListLaws.{length_map}
 use Rattle.bk_tiling.specs.Tiling.{IsOneOf}
@@ -14,10 +14,7 @@ use Rattle.bk_lay.proofs.WordPlay.{NoneTwice, fewer}
 use Rattle.bk_lay.specs.Depiction.{IsNumbered, Span}
 use Rattle.bk_skel.proofs.Building.{get_either}
 use Rattle.bk_skel.proofs.Numbering.{times}
-use Rattle.bk_skel.proofs.Wires.{wires_by}
-
-pub two : (a b : ℕ) → (a < b) ⊎ (b ≤ a)
-two a b = grind arith
+use Rattle.bk_skel.proofs.Wires.{same_or_none, wires_by}
 
 -- ---- numbers counted as squares, to compare how many there are
 
@@ -39,7 +36,7 @@ in_upto f (suc n) q (inr h) = let r = in_upto f n q h in (r.0, omega (arith, r.1
 
 to_upto : (f : ℕ → ℕ) (n k : ℕ) → k < n → IsOneOf (sq (f k)) (upto f n)
 to_upto f zero k h = absurd (omega arith)
-to_upto f (suc n) k h = cases (two k n) (to_upto f n k)
+to_upto f (suc n) k h = cases (cases_lt k n) (to_upto f n k)
   where
     cases : (k < n) ⊎ (n ≤ k) → (k < n → IsOneOf (sq (f k)) (upto f n)) → IsOneOf (sq (f k)) (sq (f n) ∷ upto f n)
     cases (inl l) rest = inr (rest l)
@@ -101,11 +98,6 @@ get_map f [] k x e = absurd (cc)
 get_map f (y ∷ xs) zero x e = let same : y ≡ x = cc in ap (λ z. Some (f z)) same
 get_map f (y ∷ xs) (suc k) x e = get_map f xs k x e
 
-pub get_value : (xs : List ℕ) (k x : ℕ) → slice_get xs k ≡ Some x → slice_index_or xs k 0 ≡ x
-get_value [] k x e = absurd (cc)
-get_value (y ∷ xs) zero x e = cc
-get_value (y ∷ xs) (suc k) x e = get_value xs k x e
-
 pub get_after : {A : Type 0} (xs ys : List A) (i j : ℕ) → j ≡ length xs + i → slice_get (xs ++ ys) j ≡ slice_get ys i
 get_after [] ys i j e = ap (slice_get ys) same
   where
@@ -152,11 +144,8 @@ wire_at below n (g ∷ groups) j q e = cases (get_either g (row_of groups) j q e
 -- a number that stands in a span is that of a square within it
 pub span_within : (laid : List Square) (level x : ℕ) (numbers : List ℕ) (end m : ℕ) → Span laid level x numbers end → 0 < times m numbers → (q : Square) × IsNumbered laid m q × (q.y + q.s ≡ level) × (x ≤ q.x) × (q.x + q.s ≤ end)
 span_within laid level x [] end m span h = absurd (omega arith)
-span_within laid level x (n ∷ numbers) end m (q, at, place, bottom, rest) h = cases (either m n) (span_within laid level (x + q.s) numbers end m rest)
+span_within laid level x (n ∷ numbers) end m (q, at, place, bottom, rest) h = cases (same_or_none m n) (span_within laid level (x + q.s) numbers end m rest)
   where
-    either : (m n : ℕ) → (n ≡ m) ⊎ ◌≡◌ {A = ℕ} (cond (nat_eq m n) 1 0) 0
-    either m n = grind (arith, nat_tests)
-
     order : (numbers : List ℕ) (x : ℕ) → Span laid level x numbers end → x ≤ end
     order [] x s = omega (arith, s)
     order (k ∷ numbers) x s = omega (arith, order numbers (x + (s.0).s) s.4)

@@ -1,6 +1,7 @@
 -- The tiling of all laid squares as the code keeps it.
 use Rattle.std.specs.List.{AllByRecursion, AllZip, concat}
 use Rattle.std.proofs.Common.{List, [], ap, arith, inl, inr, length, slice_index_or, subst, sym, ℕ, ◌*◌, ◌++◌, ◌+◌, ◌<◌, ◌^◌, ◌∙◌, ◌∷◌, ◌≡◌, ◌≤◌, ◌⊎◌}
+use Rattle.std.proofs.lemmas.Bool.{cases_lt}
 use Rattle.std.proofs.lemmas.List.Elements.{All-from_recursion}
 use Rattle.bk_tiling.proofs.Cells.{depth_comes_from}
 use Rattle.bk_tiling.proofs.OneRefusal.{tiles_apart}
@@ -26,14 +27,11 @@ module _ (width : ℕ) (laid : List Square) (numbers : List ℕ) (o : Outline) (
   apart = tiles_apart width (depth laid 0) laid (tiles width (c.board).some laid o (c.board).shows c.one c.some)
 
   low : depth laid 0 ≤ LONGEST_SIDE * length laid
-  low = cases (two (depth laid 0) (LONGEST_SIDE * length laid))
+  low = cases (cases_lt (LONGEST_SIDE * length laid) (depth laid 0))
     where
-      two : (a b : ℕ) → (a ≤ b) ⊎ (b < a)
-      two a b = grind arith
-
-      cases : (depth laid 0 ≤ LONGEST_SIDE * length laid) ⊎ (LONGEST_SIDE * length laid < depth laid 0) → depth laid 0 ≤ LONGEST_SIDE * length laid
-      cases (inl h) = h
-      cases (inr h) = let q = depth_comes_from laid 0 (LONGEST_SIDE * length laid) h in absurd (omega (arith, (c.board).low q.0 q.1, q.3))
+      cases : (LONGEST_SIDE * length laid < depth laid 0) ⊎ (depth laid 0 ≤ LONGEST_SIDE * length laid) → depth laid 0 ≤ LONGEST_SIDE * length laid
+      cases (inr h) = h
+      cases (inl h) = let q = depth_comes_from laid 0 (LONGEST_SIDE * length laid) h in absurd (omega (arith, (c.board).low q.0 q.1, q.3))
 
   pub kept : IsKept (record { width = width; height = depth laid 0; squares = in_code_order laid })
   kept = record {

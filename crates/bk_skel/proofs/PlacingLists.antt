@@ -1,25 +1,7 @@
 -- Lists of numbers, sides and signs, as the placing goes through them.
-use Rattle.std.proofs.Common.{Bool, List, [], ap, arith, drop, false, get_or, length, map, refl, slice_index_or, subst, suc, sum, sym, true, zero, ℕ, ◌++◌, ◌+◌, ◌<◌, ◌∙◌, ◌∷◌, ◌≡◌, ◌≤◌}
-use Rattle.std.proofs.lemmas.List.Sums.{sum_by-cons}
-use Rattle.bk_tiling.specs.SquareGroups.{laid_group}
-use Rattle.bk_tiling.specs.declared.Square.{Square}
-use Rattle.bk_word.specs.Play.{numbers_from}
+use Rattle.std.proofs.Common.{List, [], arith, drop, get_or, length, map, refl, slice_index_or, subst, suc, sym, zero, ℕ, ◌+◌, ◌<◌, ◌∷◌, ◌≡◌, ◌≤◌}
 use Rattle.bk_word.specs.declared.Sign.{Sign}
 use Rattle.bk_lay.specs.TilingWord.{sign_between, signs_between}
-
-pub group_push : (x level : ℕ) (sides : List ℕ) (s : ℕ) → laid_group x level (sides ++ s ∷ []) ≡ laid_group x level sides ++ (record { x = x + sum sides; y = level; s = s }) ∷ []
-group_push x level [] s = ap (λ (n : ℕ). (record { x = n; y = level; s = s }) ∷ []) same
-  where
-    same : x ≡ x + 0
-    same = omega arith
-group_push x level (a ∷ sides) s = ap (λ (rest : List Square). (record { x = x; y = level; s = a }) ∷ rest) (group_push (x + a) level sides s ∙ ap (λ (n : ℕ). laid_group (x + a) level sides ++ (record { x = n; y = level; s = s }) ∷ []) same)
-  where
-    same : x + a + sum sides ≡ x + sum (a ∷ sides)
-    same = omega (arith, sum_by-cons (λ (n : ℕ). n) a sides)
-
-pub numbers-length : (n k : ℕ) → length (numbers_from n k) ≡ k
-numbers-length n zero = refl
-numbers-length n (suc k) = ap suc (numbers-length (n + 1) k)
 
 -- the signs from a place on: the one there and the further ones
 pub record SignsAt (b : ℕ → ℕ) (signs : List Sign) (numbers : List ℕ) (i : ℕ) (d : Sign) : Type 0 where
@@ -68,6 +50,3 @@ signs_done b [] (n ∷ []) (suc i) g h e = absurd (omega arith)
 signs_done b (s ∷ signs) [] i g h e = absurd (omega arith)
 signs_done b (s ∷ signs) (n ∷ numbers) zero g h e = absurd (omega arith)
 signs_done b (s ∷ signs) (n ∷ numbers) (suc i) g h e = signs_done b signs numbers i (omega arith) (omega arith) (omega arith)
-
-pub not_true : (b : Bool) → b ≡ true → b ≡ false → ⊥
-not_true b h e = cc

@@ -3,11 +3,11 @@
 use Rattle.std.specs.List.{AllByRecursion, concat}
 use Rattle.std.proofs.Common.{List, Some, [], ap, append_assoc, arith, drop, length, refl, slice_get, subst, suc, sum, sym, take, zero, ℕ, ◌*◌, ◌++◌, ◌+◌, ◌<◌, ◌∙◌, ◌∷◌, ◌≡◌, ◌≤◌}
 use Rattle.std.proofs.lemmas.List.Sums.{sum_by-cons}
-use Rattle.std.proofs.lemmas.List.{drop-drop}
+use Rattle.std.proofs.lemmas.List.{drop-drop, length-take-le, take-append-drop}
 use Rattle.bk_tiling.proofs.PuttingInOrder.{in_order}
 use Rattle.bk_tiling.proofs.ListLaws.{append_nil, length_append, length_map, map_append}
-use Rattle.bk_tiling.proofs.Rows.{laid_sides, total}
-use Rattle.bk_tiling.proofs.Group.{group_list}
+use Rattle.bk_tiling.proofs.Rows.{laid_sides, sum_is_total, total}
+use Rattle.bk_tiling.proofs.Group.{group_list, length_group}
 use Rattle.bk_tiling.specs.Column.{depth}
 use Rattle.bk_tiling.specs.CodeOrder.{in_code_order}
 use Rattle.bk_tiling.specs.Kept.{IsSide}
@@ -16,13 +16,14 @@ use Rattle.bk_tiling.specs.Tiling.{IsOneOf, IsTiling, Tiling}
 use Rattle.bk_tiling.specs.declared.Segment.{Segment}
 use Rattle.bk_tiling.specs.declared.Square.{Square}
 use Rattle.bk_tiling.specs.declared.TheConstants.{LONGEST_SIDE, MOST_SQUARES}
+use Rattle.bk_word.proofs.StoredBytes.{order_more}
 use Rattle.bk_word.specs.Outline.{IsLegalMove, Outline, start, valley_of}
 use Rattle.bk_word.specs.Play.{AreLegalFrom, IsComplete, IsLegal, after_move, after_moves, numbers_from, outline_of}
 use Rattle.bk_word.specs.Word.{Move, Word, order_of}
 use Rattle.bk_lay.proofs.Valleys.{one_leftmost_valley}
 use Rattle.bk_lay.specs.TilingWord.{MovesFollow}
 use Rattle.bk_skel.specs.WordFlow.{LaidAlong}
-use Rattle.bk_skel.proofs.ShownOutline.{group_count, shows_start, sum_is_total}
+use Rattle.bk_skel.proofs.ShownOutline.{shows_start}
 use Rattle.bk_skel.proofs.TurnsOfTiling.{AgreesAt, AgreesOn, agrees_on, agrees_start}
 use Rattle.bk_skel.proofs.TilingOfTurns.{Turns, all_deep, built, follow_turns, is_tiling}
 use Rattle.bk_skel.proofs.NumberedValley.{shows_turn}
@@ -91,22 +92,9 @@ all_drop P zero xs a = a
 all_drop P (suc k) [] a = tt
 all_drop P (suc k) (x ∷ xs) a = all_drop P k xs a.1
 
-pub length_cut : (k : ℕ) (xs : List ℕ) → k ≤ length xs → length (take k xs) ≡ k
-length_cut zero xs h = refl
-length_cut (suc k) [] h = absurd (omega arith)
-length_cut (suc k) (x ∷ xs) h = ap suc (length_cut k xs (omega arith))
-
-cut_again : (k : ℕ) (xs : List ℕ) → xs ≡ take k xs ++ drop k xs
-cut_again zero xs = refl
-cut_again (suc k) [] = refl
-cut_again (suc k) (x ∷ xs) = ap (λ (ys : List ℕ). x ∷ ys) (cut_again k xs)
-
 sum_bounds : (sides : List ℕ) → AllByRecursion IsSide sides → (length sides ≤ sum sides) × (sum sides ≤ LONGEST_SIDE * length sides)
 sum_bounds [] a = (omega arith, omega arith)
 sum_bounds (s ∷ sides) a = let r = sum_bounds sides a.1 in (omega (arith, sum_by-cons (λ (n : ℕ). n) s sides, r.0, (a.0).0), omega (arith, sum_by-cons (λ (n : ℕ). n) s sides, r.1, (a.0).1))
-
-pub order_cons : (m : Move) (w : Word) → order_of (m ∷ w) ≡ m.count + order_of w
-order_cons m w = sum_by-cons (λ (k : Move). k.count) m w
 
 module _ (given : List ℕ) (all_sides : AllByRecursion IsSide given) (few : length given ≤ MOST_SQUARES) where
   placed_first : (m : Move) (v : Word) → IsComplete (m ∷ v) → length given ≡ order_of (m ∷ v) → IsPlacedTo (m ∷ v) given 0 [] []
@@ -124,18 +112,18 @@ module _ (given : List ℕ) (all_sides : AllByRecursion IsSide given) (few : len
     sides = refl;
     turns = λ all p. p;
     agrees = λ t l. subst (λ (n : ℕ). AgreesAt n t [] start (m ∷ v) given) (sym (sum_is_total (take m.count given)))
-        (subst (λ (rest : List ℕ). AgreesAt (total (take m.count given)) t [] start (m ∷ v) rest) (sym (cut_again m.count given))
-        (agrees_start t m v (take m.count given) (drop m.count given) some long (subst (λ (rest : List ℕ). IsLaidWith (m ∷ v) rest t) (cut_again m.count given) l)));
+        (subst (λ (rest : List ℕ). AgreesAt (total (take m.count given)) t [] start (m ∷ v) rest) (take-append-drop m.count given)
+        (agrees_start t m v (take m.count given) (drop m.count given) some long (subst (λ (rest : List ℕ). IsLaidWith (m ∷ v) rest t) (sym (take-append-drop m.count given)) l)));
   }
     where
       some : 0 < m.count
       some = ((complete.legal).0).some
 
       fits : m.count ≤ length given
-      fits = omega (arith, count, order_cons m v)
+      fits = omega (arith, count, order_more m v)
 
       long : length (take m.count given) ≡ m.count
-      long = length_cut m.count given fits
+      long = length-take-le m.count given fits
 
       bounds : (length (take m.count given) ≤ sum (take m.count given)) × (sum (take m.count given) ≤ LONGEST_SIDE * length (take m.count given))
       bounds = sum_bounds (take m.count given) (all_take IsSide m.count given all_sides)
@@ -155,7 +143,7 @@ module _ (given : List ℕ) (all_sides : AllByRecursion IsSide given) (few : len
     rest_is = split_at w i m at
 
     order_is : order_of (drop i w) ≡ m.count + order_of (drop (i + 1) w)
-    order_is = ap order_of rest_is ∙ order_cons m (drop (i + 1) w)
+    order_is = ap order_of rest_is ∙ order_more m (drop (i + 1) w)
 
     left : length given ≡ length laid + length (drop (length laid) given)
     left = ap length s.sides ∙ length_append (laid_sides laid) (drop (length laid) given) ∙ ap (λ (n : ℕ). n + length (drop (length laid) given)) (length_map (λ q. q.s) laid)
@@ -171,7 +159,7 @@ module _ (given : List ℕ) (all_sides : AllByRecursion IsSide given) (few : len
 
     module _ (first end : ℕ) (first_is : first ≡ length (front_of (after_moves start (take i w)))) (end_is : end ≡ length (front_of (after_moves start (take i w))) + length (valley_of (after_moves start (take i w)))) where
       long : length (take m.count (drop (length laid) given)) ≡ m.count
-      long = length_cut m.count (drop (length laid) given) fits
+      long = length-take-le m.count (drop (length laid) given) fits
 
       abbrev new : List ℕ
       new = take m.count (drop (length laid) given)
@@ -190,7 +178,7 @@ module _ (given : List ℕ) (all_sides : AllByRecursion IsSide given) (few : len
       }
 
       parted : drop (length laid) given ≡ take m.count (drop (length laid) given) ++ drop m.count (drop (length laid) given)
-      parted = cut_again m.count (drop (length laid) given)
+      parted = sym (take-append-drop m.count (drop (length laid) given))
 
       agree : (t : Tiling) → IsLaidWith w given t → AgreesOn (first_width w given) t laid (after_moves start (take i w)) m (drop (i + 1) w) (take m.count (drop (length laid) given)) (drop m.count (drop (length laid) given))
       agree t l = agrees_on (first_width w given) t laid (after_moves start (take i w)) m (drop (i + 1) w) (take m.count (drop (length laid) given)) (drop m.count (drop (length laid) given)) legal_here.some long
@@ -210,7 +198,7 @@ module _ (given : List ℕ) (all_sides : AllByRecursion IsSide given) (few : len
         own_turn = subst (λ (n : Move). IsTurn (first_width w given) laid n (take m.count (drop (length laid) given)) v) (sym same_move) turn
 
         group_long : length (laid_group v.x v.level (take m.count (drop (length laid) given))) ≡ m.count
-        group_long = group_count v.x v.level (take m.count (drop (length laid) given)) ∙ long
+        group_long = length_group v.x v.level (take m.count (drop (length laid) given)) ∙ long
 
         laid_long : length (laid ++ laid_group v.x v.level (take m.count (drop (length laid) given))) ≡ length laid + m.count
         laid_long = length_append laid (laid_group v.x v.level (take m.count (drop (length laid) given))) ∙ ap (λ (n : ℕ). length laid + n) group_long
@@ -281,7 +269,7 @@ module _ (given : List ℕ) (all_sides : AllByRecursion IsSide given) (few : len
       where
         from : (v : Word) → 0 < length v → IsLegal v → length laid ≡ order_of v → 0 < length laid
         from [] h legal e = absurd (omega arith)
-        from (m ∷ v) h legal e = omega (arith, e, order_cons m v, (legal.0).some)
+        from (m ∷ v) h legal e = omega (arith, e, order_more m v, (legal.0).some)
 
     squares_sides : (squares : List Square) (sides : List ℕ) → laid_sides squares ≡ sides → AllByRecursion IsSide sides → AllByRecursion (λ q. IsSide q.s) squares
     squares_sides [] sides e a = tt

@@ -1,6 +1,7 @@
 -- One turn of the placing under the names that the code has for its parts.
 use Rattle.std.specs.List.{AllByRecursion}
 use Rattle.std.proofs.Common.{List, Some, [], ap, arith, drop, length, refl, slice_get, subst, sum, sym, take, ℕ, ◌++◌, ◌+◌, ◌-◌, ◌<◌, ◌∙◌, ◌∷◌, ◌≡◌, ◌≤◌}
+use Rattle.std.proofs.lemmas.List.{length-take-le}
 use Rattle.bk_tiling.proofs.ListLaws.{get_some}
 use Rattle.bk_tiling.specs.CodeOrder.{in_code_order}
 use Rattle.bk_tiling.specs.Column.{depth}
@@ -14,7 +15,7 @@ use Rattle.bk_word.specs.Outline.{Outline, start, valley_of}
 use Rattle.bk_word.specs.Play.{IsComplete, IsLegal, after_moves, numbers_from, outline_of}
 use Rattle.bk_word.specs.Word.{Move, Word, order_of}
 use Rattle.bk_word.specs.declared.Sign.{Sign}
-use Rattle.bk_skel.proofs.PlacingLoop.{IsPlacedTo, can_lay, first_width, length_cut, new_fits, placed_closed, placed_end, placed_more, placed_none, placed_start}
+use Rattle.bk_skel.proofs.PlacingLoop.{IsPlacedTo, can_lay, first_width, new_fits, placed_closed, placed_end, placed_more, placed_none, placed_start}
 use Rattle.bk_skel.specs.LaidTiling.{IsLaidWith}
 use Rattle.bk_skel.specs.Board.{CanLay, IsClosed, IsTurn, front_of}
 use Rattle.bk_skel.specs.TurnRecord.{SaysWhere}
@@ -81,7 +82,7 @@ module _ (w : Word) (legal : IsLegal w) (given : List ℕ) (all_sides : AllByRec
 
 pub first_is_there : (w : Word) (complete : IsComplete w) (given : List ℕ) → AllByRecursion IsSide given → length given ≤ MOST_SQUARES → length given ≡ order_of w → (turn : Turn) → SaysWhere w 0 turn → (from : ℕ) → from ≡ turn.count → from ≡ length (take from given)
 first_is_there w complete given all_sides few count turn says from e =
-    sym (length_cut from given (omega (arith, e, sides_there w complete.legal given all_sides few 0 complete.some [] [] (placed_start given all_sides few w complete count) turn says)))
+    sym (length-take-le from given (omega (arith, e, sides_there w complete.legal given all_sides few 0 complete.some [] [] (placed_start given all_sides few w complete count) turn says)))
 
 pub width_as : (w : Word) (given : List ℕ) (turn : Turn) (from sum_is : ℕ) → 0 < length w → SaysWhere w 0 turn → from ≡ turn.count → sum_is ≡ sum (take from given) → sum_is ≡ first_width w given
 width_as [] given turn from sum_is h says e f = absurd (omega arith)

@@ -6,7 +6,7 @@ use Rattle.std.proofs.lemmas.Bool.Decides.{nat_tests}
 use Rattle.std.proofs.lemmas.List.Sums.{sum_by-cons}
 use Rattle.std.proofs.lemmas.List.{drop_at, take_at}
 use Rattle.bk_tiling.proofs.Cells.{from_append}
-use Rattle.bk_tiling.proofs.Group.{group_top}
+use Rattle.bk_tiling.proofs.Group.{group_top, length_group}
 use Rattle.bk_tiling.proofs.ListLaws.{append_assoc, get_some, length_append, length_map, map_append}
 use Rattle.bk_tiling.specs.Kept.{IsSide}
 use Rattle.bk_tiling.specs.SquareGroups.{laid_group}
@@ -14,6 +14,8 @@ use Rattle.bk_tiling.specs.Tiling.{IsOneOf}
 use Rattle.bk_tiling.specs.declared.Segment.{Segment}
 use Rattle.bk_tiling.specs.declared.Square.{Square}
 use Rattle.bk_tiling.specs.declared.TheConstants.{LONGEST_SIDE, MOST_SQUARES}
+use Rattle.bk_word.proofs.ListLaws.{all_append, all_left, all_right}
+use Rattle.bk_word.proofs.PlayLists.{numbers-length}
 use Rattle.bk_word.specs.Outline.{Outline, valley_of}
 use Rattle.bk_word.specs.Play.{after_move, numbers_from}
 use Rattle.bk_word.specs.declared.Sign.{Sign}
@@ -21,18 +23,13 @@ use Rattle.bk_lay.proofs.Steps.{get_append, get_last, one_of}
 use Rattle.bk_lay.proofs.Valleys.{one_leftmost_valley}
 use Rattle.bk_lay.specs.Depiction.{Span}
 use Rattle.bk_lay.specs.TilingWord.{depth_before, depth_from, signs_between}
-use Rattle.bk_skel.proofs.ShownOutline.{group_count}
 use Rattle.bk_skel.proofs.NumberedValley.{Sees, SeesLeft, SeesRight, numbered_square, open_after, open_parts, sees}
-use Rattle.bk_skel.proofs.PlacingLists.{numbers-length}
 use Rattle.bk_skel.specs.Board.{CanLay, IsFittingGap, IsGap, IsNumber, IsTurn, back_of, bottom_at, columns_of, front_of, square_at}
 
 -- a span is as wide as the sides of its squares sum to
 pub span_columns : (laid : List Square) (level x : ℕ) (numbers : List ℕ) (end : ℕ) → Span laid level x numbers end → x + columns_of laid numbers ≡ end
 span_columns laid level x [] end s = omega (arith, s)
 span_columns laid level x (n ∷ numbers) end s = omega (arith, sum_by-cons (λ (m : ℕ). (square_at laid m).s) n numbers, span_columns laid level (x + (s.0).s) numbers end s.4, ap (λ (q : Square). q.s) (numbered_square laid n s.0 s.1))
-
-pub segment_path : (v u : Segment) → v.x ≡ u.x → v.width ≡ u.width → v.level ≡ u.level → v ≡ u
-segment_path v u a b c = λ i. record { x = a i; width = b i; level = c i }
 
 pub some_from : (n : ℕ) → false ≡ (n == 0) → 0 < n
 some_from n e = grind (arith, nat_tests)
@@ -85,18 +82,6 @@ bottoms_new front (q ∷ squares) n e = λ i. first i ∷ (rest ∙ bottoms_new 
 
     rest : map (bottom_at (front ++ q ∷ squares)) (numbers_from (n + 1) (length squares)) ≡ map (bottom_at ((front ++ q ∷ []) ++ squares)) (numbers_from (n + 1) (length squares))
     rest = ap (λ (l : List Square). map (bottom_at l) (numbers_from (n + 1) (length squares))) (sym (append_assoc front (q ∷ []) squares))
-
-pub all_append : (P : ℕ → Type 0) (xs ys : List ℕ) → AllByRecursion P xs → AllByRecursion P ys → AllByRecursion P (xs ++ ys)
-all_append P [] ys a b = b
-all_append P (x ∷ xs) ys a b = (a.0, all_append P xs ys a.1 b)
-
-pub all_front : (P : ℕ → Type 0) (xs ys : List ℕ) → AllByRecursion P (xs ++ ys) → AllByRecursion P xs
-all_front P [] ys a = tt
-all_front P (x ∷ xs) ys a = (a.0, all_front P xs ys a.1)
-
-pub all_back : (P : ℕ → Type 0) (xs ys : List ℕ) → AllByRecursion P (xs ++ ys) → AllByRecursion P ys
-all_back P [] ys a = a
-all_back P (x ∷ xs) ys a = all_back P xs ys a.1
 
 all_known_more : (laid more : List Square) (numbers : List ℕ) → AllByRecursion (IsNumber laid) numbers → AllByRecursion (IsNumber (laid ++ more)) numbers
 all_known_more laid more [] a = tt
@@ -193,7 +178,7 @@ module _ (width : ℕ) (laid : List Square) (numbers : List ℕ) (first end : �
   fitting = subst (λ (ns : List ℕ). IsFittingGap width laid ns gap) (sym valley_is) (record {
     gap = seen.gap;
     some = some_width;
-    known = all_front (IsNumber laid) (valley_of o) (back_of o) (all_back (IsNumber laid) (front_of o) (valley_of o ++ back_of o) known);
+    known = all_left (IsNumber laid) (valley_of o) (back_of o) (all_right (IsNumber laid) (front_of o) (valley_of o ++ back_of o) known);
     fits = omega (arith, flat_within, (c.board).narrow);
     low = omega (arith, level_small);
   })
@@ -227,7 +212,7 @@ module _ (width : ℕ) (laid : List Square) (numbers : List ℕ) (first end : �
   numbers_after = (λ i. (front_is i ++ numbers_from (((c.board).shows).count i + 1) (length new)) ++ back_is i) ∙ sym (open_after o (record { count = length new; signs = signs }))
 
   group_long : length (laid_group gap.x gap.level new) ≡ length new
-  group_long = group_count gap.x gap.level new
+  group_long = length_group gap.x gap.level new
 
   long : length (laid ++ laid_group gap.x gap.level new) ≡ length laid + length new
   long = omega (arith, length_append laid (laid_group gap.x gap.level new), group_long)
@@ -235,9 +220,9 @@ module _ (width : ℕ) (laid : List Square) (numbers : List ℕ) (first end : �
   pub known_after : AllByRecursion (IsNumber (laid ++ laid_group gap.x gap.level new)) ((take first numbers ++ numbers_from (length laid + 1) (length new)) ++ drop end numbers)
   known_after = all_append (IsNumber (laid ++ laid_group gap.x gap.level new)) (take first numbers ++ numbers_from (length laid + 1) (length new)) (drop end numbers)
       (all_append (IsNumber (laid ++ laid_group gap.x gap.level new)) (take first numbers) (numbers_from (length laid + 1) (length new))
-      (all_known_more laid (laid_group gap.x gap.level new) (take first numbers) (subst (AllByRecursion (IsNumber laid)) (sym front_is) (all_front (IsNumber laid) (front_of o) (valley_of o ++ back_of o) known)))
+      (all_known_more laid (laid_group gap.x gap.level new) (take first numbers) (subst (AllByRecursion (IsNumber laid)) (sym front_is) (all_left (IsNumber laid) (front_of o) (valley_of o ++ back_of o) known)))
       (known_new (laid ++ laid_group gap.x gap.level new) (length laid + 1) (length new) (omega arith) (omega (arith, long))))
-      (all_known_more laid (laid_group gap.x gap.level new) (drop end numbers) (subst (AllByRecursion (IsNumber laid)) (sym back_is) (all_back (IsNumber laid) (valley_of o) (back_of o) (all_back (IsNumber laid) (front_of o) (valley_of o ++ back_of o) known))))
+      (all_known_more laid (laid_group gap.x gap.level new) (drop end numbers) (subst (AllByRecursion (IsNumber laid)) (sym back_is) (all_right (IsNumber laid) (valley_of o) (back_of o) (all_right (IsNumber laid) (front_of o) (valley_of o ++ back_of o) known))))
 
   module _ (l : CutLeft laid (front_of o) (depth_before laid gap.x)) (r : CutRight laid (back_of o) (depth_from width laid (gap.x + gap.width))) where
     news : List ℕ
@@ -274,10 +259,10 @@ module _ (width : ℕ) (laid : List Square) (numbers : List ℕ) (first end : �
         ∙ middle l.others ((l.beside ++ numbers_from (length laid + 1) (length new)) ++ r.beside) r.others (first - 1) (length signs + 1) (omega (arith, l.place, c.first_is)) count
 
     left_known : AllByRecursion (IsNumber laid) l.beside
-    left_known = all_back (IsNumber laid) l.others l.beside (subst (AllByRecursion (IsNumber laid)) l.is (all_front (IsNumber laid) (front_of o) (valley_of o ++ back_of o) known))
+    left_known = all_right (IsNumber laid) l.others l.beside (subst (AllByRecursion (IsNumber laid)) l.is (all_left (IsNumber laid) (front_of o) (valley_of o ++ back_of o) known))
 
     right_known : AllByRecursion (IsNumber laid) r.beside
-    right_known = all_front (IsNumber laid) r.beside r.others (subst (AllByRecursion (IsNumber laid)) r.is (all_back (IsNumber laid) (valley_of o) (back_of o) (all_back (IsNumber laid) (front_of o) (valley_of o ++ back_of o) known)))
+    right_known = all_left (IsNumber laid) r.beside r.others (subst (AllByRecursion (IsNumber laid)) r.is (all_right (IsNumber laid) (valley_of o) (back_of o) (all_right (IsNumber laid) (front_of o) (valley_of o ++ back_of o) known)))
 
     new_bottoms : map (bottom_at (laid ++ laid_group gap.x gap.level new)) (numbers_from (length laid + 1) (length new)) ≡ map (λ q. q.y + q.s) (laid_group gap.x gap.level new)
     new_bottoms = ap (λ (k : ℕ). map (bottom_at (laid ++ laid_group gap.x gap.level new)) (numbers_from (length laid + 1) k)) (sym group_long)

@@ -4,6 +4,7 @@ use Rattle.std.proofs.Common.{List, [], ap, arith, cond, count_by, drop, filter,
 use Rattle.std.proofs.lemmas.List.{drop_at, take_at}
 use Rattle.std.proofs.lemmas.List.Sums.{length-filter, sum_by-cons}
 use Rattle.bk_tiling.proofs.ListLaws.{append_assoc, append_nil, length_append, length_map, map_append}
+use Rattle.bk_word.proofs.PlayLists.{numbers-length}
 use Rattle.bk_word.specs.Outline.{IsLegalMove, Outline, valley_of}
 use Rattle.bk_word.specs.Play.{after_move, joined, new_squares, parts}
 use Rattle.bk_word.specs.Word.{Move}
@@ -11,7 +12,7 @@ use Rattle.bk_word.specs.declared.Sign.{Sign}
 use Rattle.bk_word.specs.declared.Sign.TheVariants.{Above, Even, Under}
 use Rattle.bk_skel.proofs.BottomChain.{concat-append, concat-joined, concat-singles}
 use Rattle.bk_skel.proofs.FlatMoves.{sizes_between, splice_at}
-use Rattle.bk_skel.proofs.MovedParts.{left_one, length-numbers, many_between, right_one, segments_after, signs_after, valley_is}
+use Rattle.bk_skel.proofs.MovedParts.{left_one, many_between, right_one, segments_after, signs_after, valley_is}
 use Rattle.bk_skel.proofs.Shape.{Filled, Shaped, filled_parts, valley_in}
 use Rattle.bk_skel.proofs.TurnParts.{closed_is, first_is, left_is, right_is, sides_are, signs_before_are, sizes_before_are, start_is}
 use Rattle.bk_skel.proofs.ValleyCut.{AtValley}
@@ -69,7 +70,7 @@ module _ (o : Outline) (shaped : Shaped o) (m : Move) (legal : IsLegalMove o m) 
       ∙ ap (λ (l : List ℕ). map length v.before ++ l) (map_append length (joined m.signs between) v.after ∙ ap (λ (l : List ℕ). l ++ map length v.after) middle)
     where
       middle : map length (joined m.signs between) ≡ sizes_after turn m.signs
-      middle = sizes_between v.left v.right (new_squares o m) m.signs (left_one o v).1 (right_one o v).1 f.left f.right (omega (arith, legal.some, length-numbers (length o.hung + 1) m.count)) (many_between o v m legal)
+      middle = sizes_between v.left v.right (new_squares o m) m.signs (left_one o v).1 (right_one o v).1 f.left f.right (omega (arith, legal.some, numbers-length (length o.hung + 1) m.count)) (many_between o v m legal)
           ∙ (λ i. joined_sizes (max (sym (left_is o shaped m from v f) i) 1) (max (sym (right_is o shaped m from v f) i) 1) m.signs)
 
   pub signs_are : (after_move o m).signs ≡ v.before_signs ++ (filter parts m.signs ++ v.after_signs)
@@ -130,7 +131,7 @@ module _ (o : Outline) (shaped : Shaped o) (m : Move) (legal : IsLegalMove o m) 
       (take (length closed - turn.closed) closed)
   shows_back ends sizes signs closed s = record {
     ends_are = (λ i. splice ((s.ends_are ∙ ends_are) i) turn.first (turn.first + turn.count) (last i))
-        ∙ splice_at (concat v.before ++ concat v.left) (new_squares o m) (concat v.right ++ concat v.after) v.valley turn.first (turn.first + turn.count) first_long (ap (λ n. turn.first + n) (length-numbers (length o.hung + 1) m.count))
+        ∙ splice_at (concat v.before ++ concat v.left) (new_squares o m) (concat v.right ++ concat v.after) v.valley turn.first (turn.first + turn.count) first_long (ap (λ n. turn.first + n) (numbers-length (length o.hung + 1) m.count))
         ∙ sym ends_were;
     sizes_are = (λ i. splice ((s.sizes_are ∙ sizes_are) i) (first_touched turn) (first_touched turn + (turn.parted + 1)) (sizes_before_are o shaped m from v f i))
         ∙ splice_at (map length v.before) (sizes_after turn m.signs) (map length v.after) (map length v.left ++ (length v.valley ∷ map length v.right)) (first_touched turn) (first_touched turn + (turn.parted + 1)) start_long (ap (λ n. first_touched turn + n) sizes_many)

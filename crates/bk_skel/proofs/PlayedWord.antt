@@ -1,9 +1,9 @@
 -- A word played on a skeleton, move by move, up to its first illegal move.
 use Rattle.std.proofs.Common.{Some, [], ap, arith, length, refl, slice_get, subst, suc, sym, take, zero, ℕ, ◌++◌, ◌+◌, ◌-◌, ◌<◌, ◌∙◌, ◌∷◌, ◌≡◌, ◌≤◌}
+use Rattle.bk_word.proofs.StoredBytes.{order_more}
 use Rattle.bk_word.specs.Outline.{IsLegalMove, start}
 use Rattle.bk_word.specs.Play.{IsLegal, outline_of}
 use Rattle.bk_word.specs.Word.{Move, Word, order_of}
-use Rattle.bk_skel.proofs.PlacingLoop.{order_cons}
 use Rattle.bk_skel.proofs.StoredMoves.{legal-last, legal-snoc}
 use Rattle.bk_skel.specs.Realised.{IsFirstIllegal}
 
@@ -20,11 +20,11 @@ take_more (n ∷ w) (suc i) m e = ap (λ (k : ℕ). take k (n ∷ w)) step ∙ a
 
 order_fits : (w : Word) (i : ℕ) (m : Move) → slice_get w i ≡ Some m → order_of (take i w) + m.count ≤ order_of w
 order_fits [] i m e = absurd (cc)
-order_fits (n ∷ w) zero m e = omega (arith, order_cons n w, ap (λ (k : Move). k.count) same)
+order_fits (n ∷ w) zero m e = omega (arith, order_more n w, ap (λ (k : Move). k.count) same)
   where
     same : n ≡ m
     same = cc
-order_fits (n ∷ w) (suc i) m e = omega (arith, order_cons n w, order_cons n (take i w), order_fits w i m e)
+order_fits (n ∷ w) (suc i) m e = omega (arith, order_more n w, order_more n (take i w), order_fits w i m e)
 
 -- what is played after i moves
 pub record IsPlayedTo (w : Word) (i : ℕ) (skel : Word) : Type 0 where

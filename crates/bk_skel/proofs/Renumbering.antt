@@ -1,6 +1,7 @@
 -- The net of a tiling's word is its Smith diagram, with nodes and wires renumbered.
 use Rattle.std.specs.List.{position_or_len}
 use Rattle.std.proofs.Common.{List, Some, [], ap, arith, inl, inr, length, map, option_map, refl, slice_get, slice_index_or, subst, suc, sym, zero, ℕ, ◌++◌, ◌+◌, ◌<◌, ◌∙◌, ◌∷◌, ◌≡◌, ◌≤◌, ◌⊎◌}
+use Rattle.std.proofs.lemmas.Bool.{cases_lt}
 use Rattle.bk_tiling.proofs.ListLaws.{get_below, get_some, length_append, length_map}
 use Rattle.bk_tiling.specs.declared.Segment.{Segment}
 use Rattle.bk_tiling.specs.Tiling.{IsOneOf, IsTiling, Tiling, covers}
@@ -19,14 +20,15 @@ use Rattle.bk_lay.proofs.Steps.{one_of}
 use Rattle.bk_lay.proofs.WordPlay.{fewer}
 use Rattle.bk_lay.specs.TilingWord.{IsWordOf}
 use Rattle.bk_skel.proofs.AlongWord.{HasBegun, NotBegun}
+use Rattle.bk_skel.proofs.Building.{get_value}
 use Rattle.bk_skel.proofs.ExactNodes.{ExactEnd, IsGroupRun, exact_end}
 use Rattle.bk_skel.proofs.LaidFlow.{get_one}
 use Rattle.bk_skel.proofs.NoLoose.{closed_count}
 use Rattle.bk_skel.proofs.Wires.{wires_length}
 use Rattle.bk_skel.specs.Renumbering.{IsRenumbering, WordNetIsSmithDiagram}
 use Rattle.bk_skel.specs.WordNet.{end_of, net_of_word}
-use Rattle.bk_skel.proofs.PlacesInLists.{WireAt, get_map, get_value, one_index, pos_found, two, wire_at, wires_got}
-use Rattle.bk_skel.proofs.WordNodes.{all_in_laid, as_many, closed_is, complete, ends_there, hung_group, hung_is, in_place, laid_in, laid_once, node_apart, node_below_groups, node_last, node_of_word, node_run}
+use Rattle.bk_skel.proofs.PlacesInLists.{WireAt, get_map, one_index, pos_found, wire_at, wires_got}
+use Rattle.bk_skel.proofs.WordNodes.{all_in_laid, as_many, closed_is, complete, ends_there, heads, hung_group, hung_is, in_place, laid_in, laid_once, node_apart, node_below_groups, node_last, node_of_word, node_run}
 
 module _ (t : Tiling) (w : Word) (tiling : IsTiling t) (p : IsWordOf t w) where
   abbrev e : ExactEnd t (outline_of w)
@@ -106,9 +108,6 @@ module _ (t : Tiling) (w : Word) (tiling : IsTiling t) (p : IsWordOf t w) where
               top : v ≡ b.top
               top = get_one e.nodes 0 v b.top is (ap (λ (l : List Segment). slice_get l 0) b.nodes_are)
 
-              heads : {c d : Square} {xs ys : List Square} → r.group ≡ c ∷ xs → r.group ≡ d ∷ ys → c ≡ d
-              heads g h = cc
-
               zeroth : (k : ℕ) → r.place ≡ k → r.place ≡ 0
               zeroth zero f = f
               zeroth (suc k) f = absurd (omega (arith, deep t tiling k r.group at_place, ap (λ (z : Square). z.y) (heads (group_of t tiling (suc k) r.group at_place).0.row.is r.squares), r.y, ap (λ (s : Segment). s.level) top, b.level))
@@ -117,14 +116,14 @@ module _ (t : Tiling) (w : Word) (tiling : IsTiling t) (p : IsWordOf t w) where
                   at_place = subst (λ (i : ℕ). slice_get (square_groups t.squares) i ≡ Some r.group) f r.is
 
   below_all : (k : ℕ) → k < (net_of_word w).nodes → node k < (net_of_word w).nodes
-  below_all k h = cases (two k (length e.nodes))
+  below_all k h = cases (cases_lt k (length e.nodes))
     where
       cases : (k < length e.nodes) ⊎ (length e.nodes ≤ k) → node k < (net_of_word w).nodes
       cases (inl l) = omega (arith, node_below_groups t w tiling p k l, as_many t w tiling p, closed_is t w tiling p)
       cases (inr l) = omega (arith, node_last t w tiling p k (omega (arith, closed_is t w tiling p)), as_many t w tiling p, closed_is t w tiling p)
 
   apart_all : (j k : ℕ) → j < (net_of_word w).nodes → k < (net_of_word w).nodes → node j ≡ node k → j ≡ k
-  apart_all j k a b f = cases (two j (length e.nodes)) (two k (length e.nodes))
+  apart_all j k a b f = cases (cases_lt j (length e.nodes)) (cases_lt k (length e.nodes))
     where
       cases : (j < length e.nodes) ⊎ (length e.nodes ≤ j) → (k < length e.nodes) ⊎ (length e.nodes ≤ k) → j ≡ k
       cases (inl l) (inl m) = node_apart t w tiling p j k l m f

@@ -3,14 +3,16 @@
 use Rattle.std.specs.List.{AllByRecursion, concat}
 use Rattle.std.proofs.Common.{List, [], ap, arith, filter, inl, inr, length, map, refl, replicate, subst, suc, sym, ℕ, ◌++◌, ◌+◌, ◌<◌, ◌∙◌, ◌∷◌, ◌≡◌, ◌≤◌, ◌⊎◌}
 use Rattle.bk_tiling.proofs.ListLaws.{length_append}
+use Rattle.bk_word.proofs.ListLaws.{all_append, all_left, all_right}
+use Rattle.bk_word.proofs.PlayLists.{numbers-length}
+use Rattle.bk_word.proofs.StoredBytes.{order_more}
 use Rattle.bk_word.specs.Outline.{IsLegalMove, Outline, start, valley_of}
 use Rattle.bk_word.specs.Play.{AreLegalFrom, after_move, after_moves, before_first_list, joined, new_squares, parts, segments_apart, signs_apart}
 use Rattle.bk_word.specs.Word.{Move, Word, order_of}
 use Rattle.bk_word.specs.declared.Sign.{Sign}
 use Rattle.bk_word.specs.declared.Sign.TheVariants.{Above, Even, Under}
-use Rattle.bk_lay.proofs.WordPlay.{order-cons}
 use Rattle.bk_skel.proofs.BottomChain.{concat-append, concat-joined, concat-singles}
-use Rattle.bk_skel.proofs.MovedParts.{apart_segments, apart_signs, length-numbers, many_between, many_segments, valley_is}
+use Rattle.bk_skel.proofs.MovedParts.{apart_segments, apart_signs, many_between, many_segments, valley_is}
 use Rattle.bk_skel.proofs.Numbering.{length-replicate}
 use Rattle.bk_skel.proofs.ValleyCut.{AllPart, AtValley, at_valley}
 
@@ -56,18 +58,6 @@ joined_filled (Above ∷ signs) (s ∷ segments) all = (all.0, joined_filled sig
 joined_filled (Under ∷ signs) (s ∷ segments) all = (all.0, joined_filled signs segments all.1)
 joined_filled (Even ∷ signs) (s ∷ segments) all = before_filled s (joined signs segments) all.0 (joined_filled signs segments all.1)
 
-pub filled_append : (front back : List (List ℕ)) → AllFilled front → AllFilled back → AllFilled (front ++ back)
-filled_append [] back a b = b
-filled_append (s ∷ front) back a b = (a.0, filled_append front back a.1 b)
-
-pub filled_front : (front back : List (List ℕ)) → AllFilled (front ++ back) → AllFilled front
-filled_front [] back a = tt
-filled_front (s ∷ front) back a = (a.0, filled_front front back a.1)
-
-pub filled_back : (front back : List (List ℕ)) → AllFilled (front ++ back) → AllFilled back
-filled_back [] back a = a
-filled_back (s ∷ front) back a = filled_back front back a.1
-
 filled_none : (l : List (List ℕ)) → length l ≡ 0 → AllFilled l
 filled_none [] e = tt
 filled_none (s ∷ l) e = absurd (omega arith)
@@ -99,17 +89,17 @@ filled_parts o v shaped = cases shaped.filled
       after = filled_none v.after (omega (arith, one, many_segments o v));
     }
     cases (inr all) = record {
-      before = filled_front v.before (v.left ++ (v.valley ∷ (v.right ++ v.after))) whole;
-      left = filled_front v.left (v.valley ∷ (v.right ++ v.after)) back;
-      right = filled_front v.right v.after (filled_back v.left (v.valley ∷ (v.right ++ v.after)) back).1;
-      after = filled_back v.right v.after (filled_back v.left (v.valley ∷ (v.right ++ v.after)) back).1;
+      before = all_left (λ s. 0 < length s) v.before (v.left ++ (v.valley ∷ (v.right ++ v.after))) whole;
+      left = all_left (λ s. 0 < length s) v.left (v.valley ∷ (v.right ++ v.after)) back;
+      right = all_left (λ s. 0 < length s) v.right v.after (all_right (λ s. 0 < length s) v.left (v.valley ∷ (v.right ++ v.after)) back).1;
+      after = all_right (λ s. 0 < length s) v.right v.after (all_right (λ s. 0 < length s) v.left (v.valley ∷ (v.right ++ v.after)) back).1;
     }
       where
         whole : AllFilled (v.before ++ (v.left ++ (v.valley ∷ (v.right ++ v.after))))
         whole = subst AllFilled v.segments all
 
         back : AllFilled (v.left ++ (v.valley ∷ (v.right ++ v.after)))
-        back = filled_back v.before (v.left ++ (v.valley ∷ (v.right ++ v.after))) whole
+        back = all_right (λ s. 0 < length s) v.before (v.left ++ (v.valley ∷ (v.right ++ v.after))) whole
 
 pub valley_in : (o : Outline) → Shaped o → AtValley o
 valley_in o shaped = at_valley o shaped.parted shaped.many
@@ -117,9 +107,9 @@ valley_in o shaped = at_valley o shaped.parted shaped.many
 -- after a move each segment has a square
 pub filled_move : (o : Outline) (m : Move) → IsLegalMove o m → Shaped o → AllFilled (after_move o m).segments
 filled_move o m legal shaped = subst (λ (l : List (List ℕ)). AllFilled (joined (signs_apart o m) l)) (sym (apart_segments o v m legal)) (joined_filled (signs_apart o m) (v.before ++ ((v.left ++ (map (λ q. q ∷ []) (new_squares o m) ++ v.right)) ++ v.after))
-    (filled_append v.before ((v.left ++ (map (λ q. q ∷ []) (new_squares o m) ++ v.right)) ++ v.after) f.before
-    (filled_append (v.left ++ (map (λ q. q ∷ []) (new_squares o m) ++ v.right)) v.after
-    (filled_append v.left (map (λ q. q ∷ []) (new_squares o m) ++ v.right) f.left (filled_append (map (λ q. q ∷ []) (new_squares o m)) v.right (filled_singles (new_squares o m)) f.right)) f.after)))
+    (all_append (λ s. 0 < length s) v.before ((v.left ++ (map (λ q. q ∷ []) (new_squares o m) ++ v.right)) ++ v.after) f.before
+    (all_append (λ s. 0 < length s) (v.left ++ (map (λ q. q ∷ []) (new_squares o m) ++ v.right)) v.after
+    (all_append (λ s. 0 < length s) v.left (map (λ q. q ∷ []) (new_squares o m) ++ v.right) f.left (all_append (λ s. 0 < length s) (map (λ q. q ∷ []) (new_squares o m)) v.right (filled_singles (new_squares o m)) f.right)) f.after)))
   where
     v : AtValley o
     v = valley_in o shaped
@@ -178,7 +168,7 @@ shaped_move o m legal shaped = record {
           ap length (concat-append (map (λ q. q ∷ []) (new_squares o m)) v.right),
           length_append (concat (map (λ q. q ∷ []) (new_squares o m))) (concat v.right),
           ap length (concat-singles (new_squares o m)),
-          length-numbers (length o.hung + 1) m.count,
+          numbers-length (length o.hung + 1) m.count,
         )
 
     counted : length (concat (o.closed ++ valley_of o ∷ [])) + length (concat (joined (signs_apart o m) (segments_apart o m))) ≡ length (o.hung ++ replicate m.count (length o.closed))
@@ -190,4 +180,4 @@ shaped_moves o (m ∷ w) legal shaped = shaped_moves (after_move o m) w legal.1 
 
 pub hung_many : (o : Outline) (w : Word) → length (after_moves o w).hung ≡ length o.hung + order_of w
 hung_many o [] = omega arith
-hung_many o (m ∷ w) = omega (arith, order-cons m w, hung_many (after_move o m) w, length_append o.hung (replicate m.count (length o.closed)), length-replicate m.count (length o.closed))
+hung_many o (m ∷ w) = omega (arith, order_more m w, hung_many (after_move o m) w, length_append o.hung (replicate m.count (length o.closed)), length-replicate m.count (length o.closed))

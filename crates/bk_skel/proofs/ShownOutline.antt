@@ -1,87 +1,33 @@
 -- Squares laid in the leftmost valley of an outline that shows what is laid: the outline after the move shows what is
 -- laid then. No tiling is known yet.
 use Rattle.std.specs.List.{AllByRecursion, AllZip}
-use Rattle.std.proofs.Common.{Bool, List, Some, [], ap, arith, cond, drop, false, filter, inl, inr, length, map, nat_lt, refl, replicate, slice_get, subst, suc, sum, sym, take, true, ℕ, ◌++◌, ◌+◌, ◌-◌, ◌<◌, ◌∙◌, ◌∷◌, ◌≡◌, ◌≤◌, ◌⊎◌}
+use Rattle.std.proofs.Common.{Bool, List, [], ap, arith, cond, drop, false, filter, inl, inr, length, map, nat_lt, refl, replicate, subst, suc, sym, take, true, ℕ, ◌++◌, ◌+◌, ◌-◌, ◌<◌, ◌∙◌, ◌∷◌, ◌≡◌, ◌≤◌, ◌⊎◌}
 use Rattle.std.proofs.lemmas.Bool.Decides.{nat_tests}
-use Rattle.std.proofs.lemmas.List.Sums.{sum_by-cons}
 use Rattle.bk_tiling.proofs.Cells.{depth-append, from_append}
-use Rattle.bk_tiling.proofs.Group.{HasOver, depth_beside, depth_under, filled_group, group_list, group_sides, group_within, over_group}
-use Rattle.bk_tiling.proofs.ListLaws.{append_assoc, length_append, length_map, map_append}
-use Rattle.bk_tiling.proofs.Rows.{total}
+use Rattle.bk_tiling.proofs.Group.{HasOver, depth_beside, depth_under, filled_group, group_sides, group_within, length_group, over_group}
+use Rattle.bk_tiling.proofs.ListLaws.{length_append, length_map, map_append}
+use Rattle.bk_tiling.proofs.Rows.{sum_is_total, total}
 use Rattle.bk_tiling.specs.Column.{AreRuns, IsLevel, depth}
 use Rattle.bk_tiling.specs.SquareGroups.{laid_group}
 use Rattle.bk_tiling.specs.Tiling.{IsOneOf}
 use Rattle.bk_tiling.specs.declared.Segment.{Segment}
 use Rattle.bk_tiling.specs.declared.Square.{Square}
+use Rattle.bk_word.proofs.PlayLists.{parts_filter}
 use Rattle.bk_word.specs.Outline.{Outline, start, valley_place}
 use Rattle.bk_word.specs.Play.{after_move, joined, new_squares, numbers_from, parts, segments_apart, signs_apart}
 use Rattle.bk_word.specs.Word.{Move}
-use Rattle.bk_word.specs.declared.Sign.TheVariants.{Above, Even, Under}
 use Rattle.bk_word.specs.declared.Sign.{Sign}
 use Rattle.bk_lay.proofs.Depicting.{FirstIs, LastIs, signs_new}
 use Rattle.bk_lay.proofs.Joining.{Joined, join, levels}
 use Rattle.bk_lay.proofs.Places.{HasFirst, HasLast, Placed, placed}
-use Rattle.bk_lay.proofs.Steps.{get_append, get_last, one_of, zip_append, zip_length}
-use Rattle.bk_lay.specs.Depiction.{IsNumbered, IsSegment, Span}
+use Rattle.bk_lay.proofs.Steps.{new_levels, new_segments, one_of, run_of, segment_more, zip_after, zip_append, zip_before, zip_length, zip_map}
+use Rattle.bk_lay.specs.Depiction.{IsNumbered, IsSegment}
 use Rattle.bk_lay.specs.TilingWord.{IsLeftmostValley, depth_before, depth_from, signs_between}
 use Rattle.bk_skel.proofs.Numbering.{length-replicate}
 use Rattle.bk_skel.specs.Board.{IsTurn, ShowsLaid}
 
-zip_map : {A B : Type 0} (R S : A → B → Type 0) → ((x : A) (u : B) → R x u → S x u) → (xs : List A) (us : List B) → AllZip R xs us → AllZip S xs us
-zip_map R S f [] [] a = tt
-zip_map R S f [] (u ∷ us) a = absurd a
-zip_map R S f (x ∷ xs) [] a = absurd a
-zip_map R S f (x ∷ xs) (u ∷ us) a = (f x u a.0, zip_map R S f xs us a.1)
-
-pub zip_before : {A B : Type 0} (R : A → B → Type 0) (xs : List A) (x : A) (ys : List A) (us : List B) → AllZip R (xs ++ x ∷ ys) us → AllZip R xs (take (length xs) us)
-zip_before R [] x ys us z = tt
-zip_before R (w ∷ xs) x ys [] z = absurd z
-zip_before R (w ∷ xs) x ys (u ∷ us) z = (z.0, zip_before R xs x ys us z.1)
-
-pub zip_after : {A B : Type 0} (R : A → B → Type 0) (xs : List A) (x : A) (ys : List A) (us : List B) → AllZip R (xs ++ x ∷ ys) us → AllZip R ys (drop (suc (length xs)) us)
-zip_after R [] x ys [] z = absurd z
-zip_after R [] x ys (u ∷ us) z = z.1
-zip_after R (w ∷ xs) x ys [] z = absurd z
-zip_after R (w ∷ xs) x ys (u ∷ us) z = zip_after R xs x ys us z.1
-
-span_more : (laid more : List Square) (level x : ℕ) (numbers : List ℕ) (end : ℕ) → Span laid level x numbers end → Span (laid ++ more) level x numbers end
-span_more laid more level x [] end s = s
-span_more laid more level x (n ∷ numbers) end s = (s.0, ((s.1).0, (s.1).1, get_append laid more (s.1).0 s.0 (s.1).2), s.2, s.3, span_more laid more level (x + (s.0).s) numbers end s.4)
-
-segment_more : (laid more : List Square) (v : Segment) (numbers : List ℕ) → IsSegment laid v numbers → IsSegment (laid ++ more) v numbers
-segment_more laid more v numbers (inl s) = inl (span_more laid more v.level v.x numbers (v.x + v.width) s)
-segment_more laid more v numbers (inr s) = inr s
-
--- the run of columns under a square
-abbrev run_of : Square → Segment
-run_of q = record { x = q.x; width = q.s; level = q.y + q.s }
-
-new_segments : (laid front : List Square) (squares : List Square) → laid ≡ front ++ squares → (n : ℕ) → n ≡ length front → AllZip (IsSegment laid) (map run_of squares) (map (λ q. q ∷ []) (numbers_from (n + 1) (length squares)))
-new_segments laid front [] is n e = tt
-new_segments laid front (q ∷ squares) is n e = (inl (q, (n, omega arith, at), refl, refl, refl), new_segments laid (front ++ q ∷ []) squares (is ∙ sym (append_assoc front (q ∷ []) squares)) (n + 1) (omega (arith, length_append front (q ∷ []))))
-  where
-    at : slice_get laid n ≡ Some q
-    at = (λ i. slice_get (is i) (e i)) ∙ get_last front q squares
-
-parts_filter : (signs : List Sign) → AllByRecursion (λ sign. parts sign ≡ true) (filter parts signs)
-parts_filter [] = tt
-parts_filter (Above ∷ signs) = (refl, parts_filter signs)
-parts_filter (Even ∷ signs) = parts_filter signs
-parts_filter (Under ∷ signs) = (refl, parts_filter signs)
-
-new_levels : (squares : List Square) → levels (map run_of squares) ≡ map (λ q. q.y + q.s) squares
-new_levels [] = refl
-new_levels (q ∷ squares) = ap (λ ls. (q.y + q.s) ∷ ls) (new_levels squares)
-
-pub sum_is_total : (sides : List ℕ) → sum sides ≡ total sides
-sum_is_total [] = refl
-sum_is_total (s ∷ sides) = omega (arith, sum_by-cons (λ (n : ℕ). n) s sides, sum_is_total sides)
-
 pub fills_total : (width : ℕ) (laid : List Square) (m : Move) (new : List ℕ) (v : Segment) → IsTurn width laid m new v → total new ≡ v.width
 fills_total width laid m new v turn = sym (sum_is_total new) ∙ turn.fills
-
-pub group_count : (x level : ℕ) (sides : List ℕ) → length (laid_group x level sides) ≡ length sides
-group_count x level sides = sym (length_map (λ q. q.s) (laid_group x level sides)) ∙ ap length (group_list x level sides)
 
 pub shows_start : (width : ℕ) → 0 < width → ShowsLaid width [] start
 shows_start width wide = record {
@@ -95,6 +41,22 @@ shows_start width wide = record {
   inside = λ q h. absurd h;
   begun = inl (refl, refl);
 }
+
+pub runs_at : (width : ℕ) (laid : List Square) (x : ℕ) (front : List Segment) (r : Segment) (back : List Segment) → AreRuns width laid x (front ++ r ∷ back) → IsLevel width laid r
+runs_at width laid x [] r back cut = cut.1
+runs_at width laid x (u ∷ front) r back cut = runs_at width laid (x + u.width) front r back cut.2
+
+pub one_run : (width : ℕ) (laid : List Square) (before : List Segment) (v : Segment) (after : List Segment) → AreRuns width laid 0 (before ++ v ∷ after) → length (before ++ v ∷ after) ≡ 1 → (v.x ≡ 0) × (v.width ≡ width)
+one_run width laid [] v [] cut one = (cut.0, omega (arith, cut.2))
+one_run width laid [] v (r ∷ after) cut one = absurd (omega arith)
+one_run width laid (r ∷ before) v after cut one = absurd (omega (arith, one, length_append before (v ∷ after)))
+
+-- past the last column there is no depth
+pub depth_from_end : (width : ℕ) (laid : List Square) (c : ℕ) → c ≡ width → depth_from width laid c ≡ []
+depth_from_end width laid c e = ap (λ (b : Bool). cond b (depth laid c ∷ []) []) (past c width e)
+  where
+    past : (a b : ℕ) → a ≡ b → nat_lt a b ≡ false
+    past a b e = grind (arith, nat_tests)
 
 -- the leftmost valley among the runs
 abbrev pub place_in : (width : ℕ) (laid : List Square) (o : Outline) (s : ShowsLaid width laid o) → 0 < width → Placed width laid 0 s.runs
@@ -122,14 +84,8 @@ module _ (width : ℕ) (laid : List Square) (o : Outline) (s : ShowsLaid width l
   pub first_is : FirstIs (levels after) (depth_from width laid (v.x + v.width))
   first_is = record { shape = cases right }
     where
-      bare : nat_lt (v.x + v.width) width ≡ false → depth_from width laid (v.x + v.width) ≡ []
-      bare e = ap (λ (b : Bool). cond b (depth laid (v.x + v.width) ∷ []) []) e
-
-      test : (a b : ℕ) → a ≡ b → nat_lt a b ≡ false
-      test a b e = grind (arith, nat_tests)
-
       cases : ((after ≡ []) × (v.x + v.width ≡ width)) ⊎ HasFirst width laid (v.x + v.width) after → ((levels after ≡ []) × (depth_from width laid (v.x + v.width) ≡ [])) ⊎ ((r : ℕ) × (back : List ℕ) × (levels after ≡ r ∷ back) × (depth_from width laid (v.x + v.width) ≡ r ∷ []))
-      cases (inl (none, at)) = inl (ap levels none, bare (test (v.x + v.width) width at))
+      cases (inl (none, at)) = inl (ap levels none, depth_from_end width laid (v.x + v.width) at)
       cases (inr h) = inr ((h.first).level, levels h.back, ap levels h.is, h.level)
 
   module _ (m : Move) (new : List ℕ) (count : length new ≡ m.count) (some : 0 < m.count) (positive : AllByRecursion (λ s. 0 < s) new) (fills : total new ≡ v.width)
@@ -191,7 +147,7 @@ module _ (width : ℕ) (laid : List Square) (o : Outline) (s : ShowsLaid width l
     S = IsSegment (laid ++ laid_group v.x v.level new)
 
     new_count : length (laid_group v.x v.level new) ≡ m.count
-    new_count = group_count v.x v.level new ∙ count
+    new_count = length_group v.x v.level new ∙ count
 
     new_zip : AllZip (IsSegment (laid ++ laid_group v.x v.level new)) (before ++ map run_of (laid_group v.x v.level new) ++ after) (segments_apart o m)
     new_zip = zip_append (IsSegment (laid ++ laid_group v.x v.level new)) (before ++ map run_of (laid_group v.x v.level new)) after (take (valley_place o.signs) o.segments ++ map (λ q. q ∷ []) (new_squares o m)) (drop (valley_place o.signs + 1) o.segments)
@@ -231,15 +187,10 @@ module _ (width : ℕ) (laid : List Square) (o : Outline) (s : ShowsLaid width l
     -- the columns lie below the top then
     deep : ((laid ≡ []) × (o ≡ start)) ⊎ ((c : ℕ) → c < width → 0 < depth laid c) → (c : ℕ) → c < width → 0 < depth (laid ++ laid_group v.x v.level new) c
     deep (inr h) c k = omega (arith, h c k, depth-append laid (laid_group v.x v.level new) c)
-    deep (inl (none, first)) c k = from (whole before after (subst (λ (runs : List Segment). AreRuns width laid 0 runs) is s.cut) (omega (arith, one, ap length is, length_append before (v ∷ after))) (omega (arith, one, ap length is, length_append before (v ∷ after))))
+    deep (inl (none, first)) c k = from (one_run width laid before v after (subst (λ (runs : List Segment). AreRuns width laid 0 runs) is s.cut) (sym (ap length is) ∙ one))
       where
         one : length s.runs ≡ 1
         one = zip_length (IsSegment laid) s.runs o.segments s.segments ∙ ap (λ (p : Outline). length p.segments) first
-
-        whole : (before after : List Segment) → AreRuns width laid 0 (before ++ v ∷ after) → length before ≡ 0 → length after ≡ 0 → (v.x ≡ 0) × (v.width ≡ width)
-        whole [] [] cut a b = (cut.0, omega (arith, cut.2))
-        whole [] (r ∷ after) cut a b = absurd (omega arith)
-        whole (r ∷ before) after cut a b = absurd (omega arith)
 
         from : (v.x ≡ 0) × (v.width ≡ width) → 0 < depth (laid ++ laid_group v.x v.level new) c
         from at = over (over_group v.x v.level new c (omega (arith, at.0)) (omega (arith, at.0, at.1, fills)))

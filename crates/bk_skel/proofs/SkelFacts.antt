@@ -3,6 +3,7 @@ use Rattle.std.specs.List.{concat, splice}
 use Rattle.std.proofs.Common.{List, [], ap, arith, count_by, filter, inl, inr, length, map, refl, replicate, slice_range, subst, sum, sym, ℕ, ◌++◌, ◌+◌, ◌-◌, ◌∙◌, ◌∷◌, ◌≡◌, ◌≤◌, ◌⊎◌}
 use Rattle.std.proofs.lemmas.List.Sums.{length-filter}
 use Rattle.bk_tiling.proofs.ListLaws.{length_append, length_map}
+use Rattle.bk_word.proofs.StoredBytes.{order_one}
 use Rattle.bk_word.specs.Outline.{IsLegalMove, Outline, start}
 use Rattle.bk_word.specs.Play.{after_move, joined, new_squares, numbers_from, outline_of, parts}
 use Rattle.bk_word.specs.Word.{Move, Word, order_of}
@@ -12,7 +13,7 @@ use Rattle.bk_skel.proofs.MovedParts.{many_between, many_segments, many_signs, s
 use Rattle.bk_skel.proofs.Numbering.{length-replicate}
 use Rattle.bk_skel.proofs.PlayedFlat.{ends_were, shows_move}
 use Rattle.bk_skel.proofs.Shape.{AllFilled, Filled, Shaped, filled_many, filled_move, filled_parts, hung_many, joined_many, shaped_move, shaped_moves, shaped_start, valley_in}
-use Rattle.bk_skel.proofs.StoredMoves.{after-snoc, few_signs, legal-snoc, order-snoc, signs-snoc, turns-snoc}
+use Rattle.bk_skel.proofs.StoredMoves.{after-snoc, few_signs, legal-snoc, signs-snoc, turns-snoc}
 use Rattle.bk_skel.proofs.TurnParts.{closed_is, first_is, left_is, right_is, sides_are, start_is, sum_lengths}
 use Rattle.bk_skel.proofs.ValleyCut.{AtValley}
 use Rattle.bk_skel.specs.Skeleton.{IsStored, Shows, first_touched, open_sides, signs_of, sizes_after, turn_at}
@@ -122,7 +123,7 @@ pub stored_move : (w : Word) (m : Move) (ends sizes : List ℕ) (signs : List Si
     (turns ++ turn ∷ [])
     (played ++ m.signs)
 stored_move w m ends sizes signs closed turns played turn s legal room e = record {
-  kept = record { legal = legal-snoc start w m (s.kept).legal legal; few = omega (arith, order-snoc w m, room) };
+  kept = record { legal = legal-snoc start w m (s.kept).legal legal; few = omega (arith, order_one w m, room) };
   shows = subst (λ (o : Outline). Shows o (splice ends turn.first (turn.first + turn.closed) (numbers_from (length ends + length closed + 1) m.count))
       (splice sizes (first_touched turn) (first_touched turn + (open_sides turn + 1)) (sizes_after turn m.signs))
       (splice signs (first_touched turn) (first_touched turn + open_sides turn) (filter parts m.signs))

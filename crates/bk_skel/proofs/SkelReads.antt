@@ -2,11 +2,11 @@
 use Rattle.std.proofs.Common.{List, Some, [], ap, arith, get_or, length, map, nat_eq, refl, slice_get, slice_index, slice_index_or, slice_range, subst, suc, sum, sym, take, zero, ℕ, ◌++◌, ◌+◌, ◌<◌, ◌∙◌, ◌∷◌, ◌≡◌, ◌≤◌}
 use Rattle.std.proofs.lemmas.List.Sums.{sum_by-take-drop}
 use Rattle.bk_tiling.proofs.ListLaws.{length_append, length_map}
+use Rattle.bk_word.proofs.StoredBytes.{order_more}
 use Rattle.bk_word.specs.Outline.{Outline, start, valley_of, valley_place}
 use Rattle.bk_word.specs.Play.{AreLegalFrom, after_move, outline_of}
 use Rattle.bk_word.specs.Word.{Word, order_of}
 use Rattle.bk_word.specs.declared.Sign.{Sign}
-use Rattle.bk_lay.proofs.WordPlay.{order-cons}
 use Rattle.bk_skel.proofs.EndNodes.{CutAt, cut_at, here_is, sum_next}
 use Rattle.bk_skel.proofs.SkelFacts.{Counted, counted}
 use Rattle.bk_skel.proofs.StoredMoves.{few_signs}
@@ -74,9 +74,9 @@ turn_spans o from [] legal few i d h = absurd (omega arith)
 turn_spans o from (m ∷ w) legal few zero d h = record {
   order = omega arith;
   within = omega (arith, length_append m.signs (signs_of w));
-  few = omega (arith, few_signs o m legal.0, order-cons m w);
+  few = omega (arith, few_signs o m legal.0, order_more m w);
 }
-turn_spans o from (m ∷ w) legal few (suc i) d h = let r = turn_spans (after_move o m) (from + length m.signs) w legal.1 (omega (arith, order-cons m w)) i d (omega arith) in record {
+turn_spans o from (m ∷ w) legal few (suc i) d h = let r = turn_spans (after_move o m) (from + length m.signs) w legal.1 (omega (arith, order_more m w)) i d (omega arith) in record {
   order = r.order;
   within = omega (arith, r.within, length_append m.signs (signs_of w));
   few = r.few;

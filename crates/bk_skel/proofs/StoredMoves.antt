@@ -3,11 +3,11 @@ use Rattle.std.proofs.Common.{Bool, List, [], false, true, ap, arith, length, re
 use Rattle.std.proofs.lemmas.List.{drop_at, take_at}
 use Rattle.std.proofs.lemmas.Grind.{flat_map-append}
 use Rattle.bk_tiling.proofs.ListLaws.{append_assoc, append_nil, length_append}
+use Rattle.bk_word.proofs.StoredBytes.{order_more}
 use Rattle.bk_word.specs.Outline.{IsLegalMove, Outline, has_left_wall, has_right_wall, open_side, start}
 use Rattle.bk_word.specs.Play.{AreLegalFrom, after_move, after_moves}
 use Rattle.bk_word.specs.Word.{Move, Word, order_of}
 use Rattle.bk_word.specs.declared.Sign.{Sign}
-use Rattle.bk_lay.proofs.WordPlay.{order-cons}
 use Rattle.bk_skel.specs.Skeleton.{moves_stored, signs_of, turn_at, turns_from}
 use Rattle.bk_skel.specs.Valley.{segment_sizes}
 use Rattle.bk_skel.specs.declared.turns.Turn.{Turn}
@@ -28,11 +28,7 @@ pub legal-last : (o : Outline) (w : Word) (m : Move) → AreLegalFrom o (w ++ m 
 legal-last o [] m legal = legal.0
 legal-last o (n ∷ w) m legal = legal-last (after_move o n) w m legal.1
 
-pub order-snoc : (w : Word) (m : Move) → order_of (w ++ m ∷ []) ≡ order_of w + m.count
-order-snoc [] m = omega (arith, order-cons m [])
-order-snoc (n ∷ w) m = omega (arith, order-cons n (w ++ m ∷ []), order-cons n w, order-snoc w m)
-
-signs-cons : (n : Move) (w : Word) → signs_of (n ∷ w) ≡ n.signs ++ signs_of w
+pub signs-cons : (n : Move) (w : Word) → signs_of (n ∷ w) ≡ n.signs ++ signs_of w
 signs-cons n w = refl
 
 pub signs-snoc : (w : Word) (m : Move) → signs_of (w ++ m ∷ []) ≡ signs_of w ++ m.signs
@@ -75,11 +71,11 @@ few_signs o m legal = omega (arith, legal.signs, one (has_left_wall o), one (has
 
 pub signs_many : (o : Outline) (w : Word) → AreLegalFrom o w → length (signs_of w) ≤ 2 * order_of w
 signs_many o [] legal = omega arith
-signs_many o (m ∷ w) legal = omega (arith, (legal.0).some, few_signs o m legal.0, order-cons m w, signs_many (after_move o m) w legal.1, length_append m.signs (signs_of w), ap length (signs-cons m w))
+signs_many o (m ∷ w) legal = omega (arith, (legal.0).some, few_signs o m legal.0, order_more m w, signs_many (after_move o m) w legal.1, length_append m.signs (signs_of w), ap length (signs-cons m w))
 
 pub moves_many : (o : Outline) (w : Word) → AreLegalFrom o w → length w ≤ order_of w
 moves_many o [] legal = omega arith
-moves_many o (m ∷ w) legal = omega (arith, (legal.0).some, order-cons m w, moves_many (after_move o m) w legal.1)
+moves_many o (m ∷ w) legal = omega (arith, (legal.0).some, order_more m w, moves_many (after_move o m) w legal.1)
 
 -- a word of some moves ends with one
 pub record Ends (w : Word) : Type 0 where

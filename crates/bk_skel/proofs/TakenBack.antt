@@ -4,16 +4,18 @@ use Rattle.std.proofs.Common.{List, [], ap, arith, drop, filter, length, map, ma
 use Rattle.std.proofs.lemmas.List.{length-drop, take_at}
 use Rattle.std.proofs.lemmas.List.Sums.{length-filter}
 use Rattle.bk_tiling.proofs.ListLaws.{length_append, length_map}
+use Rattle.bk_word.proofs.PlayLists.{numbers-length}
+use Rattle.bk_word.proofs.StoredBytes.{order_one}
 use Rattle.bk_word.specs.Outline.{IsLegalMove, Outline, start}
 use Rattle.bk_word.specs.Play.{after_move, new_squares, outline_of, parts}
 use Rattle.bk_word.specs.Word.{Move, Word, order_of}
 use Rattle.bk_word.specs.declared.Sign.{Sign}
 use Rattle.bk_word.specs.declared.TheConstants.{LARGEST_ORDER}
-use Rattle.bk_skel.proofs.MovedParts.{length-numbers, many_segments}
+use Rattle.bk_skel.proofs.MovedParts.{many_segments}
 use Rattle.bk_skel.proofs.PlayedFlat.{closed_are, ends_are, ends_were, shows_back, signs_are, sizes_after_many, sizes_are}
 use Rattle.bk_skel.proofs.Shape.{Filled, Shaped, filled_parts, shaped_moves, shaped_start, valley_in}
 use Rattle.bk_skel.proofs.SkelFacts.{Counted, counted, snoc_one}
-use Rattle.bk_skel.proofs.StoredMoves.{Ends, after-snoc, last_move, legal-front, legal-last, order-snoc, signs-snoc, turns-snoc}
+use Rattle.bk_skel.proofs.StoredMoves.{Ends, after-snoc, last_move, legal-front, legal-last, signs-snoc, turns-snoc}
 use Rattle.bk_skel.proofs.TurnParts.{closed_is, first_is, sides_are, start_is}
 use Rattle.bk_skel.proofs.ValleyCut.{AtValley}
 use Rattle.bk_skel.specs.Skeleton.{IsStored, Shows, first_touched, open_sides, signs_before, signs_of, sizes_after, sizes_before, turn_at, turns_from}
@@ -66,7 +68,7 @@ module _ (front : Word) (m : Move) (kept : IsKeptSkeleton front) (legal : IsLega
     length_append (concat v.before) (concat v.left),
     length_append (new_squares (outline_of front) m) (concat v.right ++ concat v.after),
     length_append (concat v.right) (concat v.after),
-    length-numbers (length (outline_of front).hung + 1) m.count,
+    numbers-length (length (outline_of front).hung + 1) m.count,
   )
 
   pub ends_in : (ends : List ℕ) → ends ≡ concat (after_move (outline_of front) m).segments → turn.first + m.count ≤ length ends
@@ -150,13 +152,13 @@ takes_back w ends sizes signs closed turns rest turn played s cut some = back (l
         whole_kept = subst IsKeptSkeleton r.whole s.kept
 
         kept : IsKeptSkeleton r.front
-        kept = record { legal = legal-front start r.front r.last whole_kept.legal; few = omega (arith, order-snoc r.front r.last, whole_kept.few) }
+        kept = record { legal = legal-front start r.front r.last whole_kept.legal; few = omega (arith, order_one r.front r.last, whole_kept.few) }
 
         legal : IsLegalMove (outline_of r.front) r.last
         legal = legal-last start r.front r.last whole_kept.legal
 
         few : order_of r.front + r.last.count ≤ 200
-        few = omega (arith, order-snoc r.front r.last, whole_kept.few)
+        few = omega (arith, order_one r.front r.last, whole_kept.few)
 
         shows : Shows (after_move (outline_of r.front) r.last) ends sizes signs closed
         shows = subst (λ (o : Outline). Shows o ends sizes signs closed) (ap outline_of r.whole ∙ after-snoc start r.front r.last) s.shows

@@ -1,11 +1,10 @@
 -- Turns that were played to the end of a word: what is laid then tiles the rectangle, and the tiling has the word.
-use Rattle.std.proofs.Common.{List, [], ap, arith, count_by, inl, length, map, refl, subst, sym, true, ℕ, ◌++◌, ◌+◌, ◌<◌, ◌∙◌, ◌∷◌, ◌≡◌, ◌≤◌}
-use Rattle.bk_tiling.proofs.Cells.{all_from, column_from, covers_from, depth_reaches, from_filter, in_all, in_filter, no_two}
-use Rattle.bk_tiling.proofs.Group.{HasOver, group_sides, group_top, group_within, over_group}
+use Rattle.std.proofs.Common.{List, [], ap, arith, length, map, refl, subst, sym, true, ℕ, ◌++◌, ◌+◌, ◌<◌, ◌∙◌, ◌∷◌, ◌≡◌}
+use Rattle.bk_tiling.proofs.Cells.{covers_from, from_filter, in_all, in_filter, no_two}
+use Rattle.bk_tiling.proofs.Group.{HasOver, group_sides, group_top, group_within, length_group, over_group}
 use Rattle.bk_tiling.proofs.ListLaws.{append_assoc, append_nil}
 use Rattle.bk_tiling.proofs.Members.{in_back, in_front}
-use Rattle.bk_tiling.proofs.OrderLaws.{in_code_order-count}
-use Rattle.bk_tiling.proofs.PuttingInOrder.{from_order, group_ordered, in_order, ordered}
+use Rattle.bk_tiling.proofs.PuttingInOrder.{group_ordered}
 use Rattle.bk_tiling.proofs.Rows.{total}
 use Rattle.bk_tiling.proofs.Scaling.{same_members}
 use Rattle.bk_tiling.proofs.TilingLaws.{cell_once, within_of}
@@ -13,7 +12,7 @@ use Rattle.bk_tiling.specs.CodeOrder.{in_code_order}
 use Rattle.bk_tiling.specs.Column.{AreRuns, IsLevel, depth}
 use Rattle.bk_tiling.specs.SquareGroups.{laid_group}
 use Rattle.bk_tiling.specs.Refusal.{sized}
-use Rattle.bk_tiling.specs.Tiling.{IsOneOf, IsTiling, IsWithin, Tiles, Tiling, covers, whole}
+use Rattle.bk_tiling.specs.Tiling.{IsOneOf, IsTiling, Tiles, Tiling, covers}
 use Rattle.bk_tiling.specs.declared.Segment.{Segment}
 use Rattle.bk_tiling.specs.declared.Square.{Square}
 use Rattle.bk_word.specs.Outline.{Outline}
@@ -23,7 +22,8 @@ use Rattle.bk_lay.proofs.Laying.{ordered_filter}
 use Rattle.bk_lay.proofs.Steps.{zip_length}
 use Rattle.bk_lay.specs.Depiction.{IsSegment}
 use Rattle.bk_lay.specs.TilingWord.{MovesFollow, bottoms, depth_before, depth_from, hangs_under, move_under, signs_between, squares_under}
-use Rattle.bk_skel.proofs.ShownOutline.{fills_total, group_count}
+use Rattle.bk_skel.proofs.FilledColumns.{columns_are_tiling, columns_tile}
+use Rattle.bk_skel.proofs.ShownOutline.{fills_total}
 use Rattle.bk_skel.specs.Board.{IsTurn, ShowsLaid}
 use Rattle.bk_skel.specs.WordFlow.{LaidAlong}
 
@@ -48,44 +48,11 @@ module _ (width : ℕ) (wide : 0 < width) (all : List Square) (o : Outline) (s :
   abbrev pub built : Tiling
   built = record { width = width; height = depth all 0; squares = in_code_order all }
 
-  within : (q : Square) → IsOneOf q all → IsWithin (whole built) q
-  within q h = record { left = omega arith; right = omega (arith, i.1); top = omega arith; bottom = omega (arith, depth_reaches all q.x q h (column_from q.x q (omega arith) (omega (arith, i.0))), all_deep q.x (omega (arith, i.0, i.1))) }
-    where
-      i : (0 < q.s) × (q.x + q.s ≤ width)
-      i = s.inside q h
-
-  once : (i j : ℕ) → i < width → j < depth all 0 → count_by (covers i j) all ≡ 1
-  once i j a b = s.filled i j a (omega (arith, all_deep i a))
-
-  own_once : (q : Square) → IsOneOf q all → count_by (covers q.x q.y) all ≤ 1
-  own_once q h = let i = s.inside q h in let w = (within q h).bottom in omega (arith, once q.x q.y (omega (arith, i.0, i.1)) (omega (arith, i.0)))
-
   pub tiles : Tiles (sized width (depth all 0)) all
-  tiles = record {
-    some = some;
-    sides = all_from (λ q. 0 < q.s) all (λ q h. (s.inside q h).0);
-    within = all_from (IsWithin (whole built)) all within;
-    once = λ i j a b c d. once i j (omega arith) (omega arith);
-  }
+  tiles = columns_tile width (depth all 0) all s.inside s.filled all_deep some
 
   pub is_tiling : IsTiling built
-  is_tiling = record {
-    tiles = record {
-      some = cases all some (λ q h. in_order all q h);
-      sides = all_from (λ q. 0 < q.s) (in_code_order all) (λ q h. (s.inside q (from_order all q h)).0);
-      within = all_from (IsWithin (whole built)) (in_code_order all) (λ q h. within q (from_order all q h));
-      once = λ i j a b c d. in_code_order-count (covers i j) all ∙ once i j (omega arith) (omega arith);
-    };
-    ordered = ordered all (λ q h. (s.inside q h).0) own_once;
-  }
-    where
-      some_in : (q : Square) (squares : List Square) → IsOneOf q squares → 0 < length squares
-      some_in q [] h = absurd h
-      some_in q (r ∷ squares) h = omega arith
-
-      cases : (squares : List Square) → 0 < length squares → ((q : Square) → IsOneOf q squares → IsOneOf q (in_code_order all)) → 0 < length (in_code_order all)
-      cases [] h g = absurd (omega arith)
-      cases (q ∷ squares) h g = some_in q (in_code_order all) (g q (inl refl))
+  is_tiling = columns_are_tiling width (depth all 0) all s.inside s.filled all_deep some
 
 module _ (t : Tiling) (tiling : IsTiling t) (all : List Square) (all_in : (q : Square) → IsOneOf q all → IsOneOf q t.squares) (full : (c : ℕ) → c < t.width → depth all c ≡ t.height) where
   module _ (laid : List Square) (m : Move) (new : List ℕ) (v : Segment) (turn : IsTurn t.width laid m new v) (more : List Square) (all_is : all ≡ (laid ++ laid_group v.x v.level new) ++ more) where
@@ -135,7 +102,7 @@ module _ (t : Tiling) (tiling : IsTiling t) (all : List Square) (all_in : (q : S
     move_is = λ i. record { count = count i; signs = (turn.signs ∙ same) i }
       where
         count : m.count ≡ length (squares_under t v)
-        count = sym turn.count ∙ sym (group_count v.x v.level new) ∙ sym (ap length new_is)
+        count = sym turn.count ∙ sym (length_group v.x v.level new) ∙ sym (ap length new_is)
 
         same : signs_between (depth_before laid v.x ++ map (λ q. q.y + q.s) (laid_group v.x v.level new) ++ depth_from t.width laid (v.x + v.width)) ≡ signs_between (bottoms t laid v)
         same = ap (λ (squares : List Square). signs_between (depth_before laid v.x ++ map (λ q. q.y + q.s) squares ++ depth_from t.width laid (v.x + v.width))) (sym new_is)

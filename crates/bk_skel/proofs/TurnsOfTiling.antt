@@ -1,12 +1,12 @@
 -- A tiling of a word with given sides, held against the play of the word with these sides: each turn of the play is one
 -- of the tiling's.
 use Rattle.std.specs.List.{AllByRecursion}
-use Rattle.std.proofs.Common.{List, [], ap, arith, inl, inr, length, map, refl, subst, sym, ℕ, ◌++◌, ◌+◌, ◌<◌, ◌∙◌, ◌∷◌, ◌≡◌}
+use Rattle.std.proofs.Common.{List, [], ap, arith, length, map, refl, subst, sym, ℕ, ◌++◌, ◌+◌, ◌<◌, ◌∙◌, ◌∷◌, ◌≡◌}
 use Rattle.bk_tiling.proofs.Cells.{all_from, in_all}
 use Rattle.bk_tiling.proofs.Groups.{chain_is_group}
 use Rattle.bk_tiling.proofs.ListLaws.{append_assoc, length_map, map_append}
-use Rattle.bk_tiling.proofs.Rows.{Chain, chain_total, laid_sides, total}
-use Rattle.bk_tiling.specs.Tiling.{IsOneOf, IsTiling, Tiling}
+use Rattle.bk_tiling.proofs.Rows.{Chain, chain_total, laid_sides, sum_is_total, total}
+use Rattle.bk_tiling.specs.Tiling.{IsTiling, Tiling}
 use Rattle.bk_tiling.specs.SquareGroups.{laid_group}
 use Rattle.bk_tiling.specs.declared.Segment.{Segment}
 use Rattle.bk_tiling.specs.declared.Square.{Square}
@@ -18,23 +18,12 @@ use Rattle.bk_lay.proofs.Laying.{under_chain}
 use Rattle.bk_lay.proofs.Valleys.{one_leftmost_valley}
 use Rattle.bk_lay.specs.TilingWord.{IsLeftmostValley, MovesFollow, depth_before, depth_from, move_under, signs_between, squares_under}
 use Rattle.bk_skel.proofs.AlongWord.{Along, along_move, along_start, top_valley}
-use Rattle.bk_skel.proofs.ShownOutline.{fills_total, sum_is_total}
-use Rattle.bk_skel.proofs.OneTiling.{along_prefix}
+use Rattle.bk_skel.proofs.ShownOutline.{fills_total}
+use Rattle.bk_skel.proofs.OneTiling.{along_prefix, append_parts}
+use Rattle.bk_skel.proofs.Sums.{positive_sides}
 use Rattle.bk_skel.specs.LaidTiling.{IsLaidWith}
 use Rattle.bk_skel.specs.Board.{IsTurn}
 use Rattle.bk_skel.specs.WordFlow.{LaidAlong}
-
-pub append_parts : (a b c d : List ℕ) → length a ≡ length c → a ++ b ≡ c ++ d → (a ≡ c) × (b ≡ d)
-append_parts [] b [] d l e = (refl, e)
-append_parts [] b (n ∷ c) d l e = absurd (omega arith)
-append_parts (m ∷ a) b [] d l e = absurd (omega arith)
-append_parts (m ∷ a) b (n ∷ c) d l e = let rest = append_parts a b c d (omega arith) tails in ((λ i. heads i ∷ rest.0 i), rest.1)
-  where
-    heads : m ≡ n
-    heads = cc
-
-    tails : a ++ b ≡ c ++ d
-    tails = cc
 
 -- the tiling has this width; these squares of it are laid, these moves follow, and these sides
 pub record AgreesAt (width : ℕ) (t : Tiling) (laid : List Square) (o : Outline) (w : Word) (rest : List ℕ) : Type 0 where
@@ -78,17 +67,13 @@ module _ (t : Tiling) (tiling : IsTiling t) (laid : List Square) (nodes : List S
   group = chain_is_group (squares_under t v) v.x v.level (v.x + v.width) chain (all_from (λ r. r.y ≡ v.level) (squares_under t v) (λ r h. (is_under t laid v tiling a.fills found low r h).level))
       ∙ ap (laid_group v.x v.level) parts.0
 
-  positive : (squares : List Square) → ((r : Square) → IsOneOf r squares → 0 < r.s) → AllByRecursion (λ s. 0 < s) (laid_sides squares)
-  positive [] each = tt
-  positive (r ∷ squares) each = (each r (inl refl), positive squares (λ s h. each s (inr h)))
-
   its_turn : OwnTurn t laid o m w new further v
   its_turn = record {
     turn = record {
       found = found;
       count = count;
       some = some;
-      positive = subst (AllByRecursion (λ s. 0 < s)) parts.0 (positive (squares_under t v) (λ r h. in_all (λ q. 0 < q.s) t.squares (tiling.tiles).sides r (in_tiling t laid v tiling a.fills found low r h)));
+      positive = subst (AllByRecursion (λ s. 0 < s)) parts.0 (positive_sides (squares_under t v) (λ r h. in_all (λ q. 0 < q.s) t.squares (tiling.tiles).sides r (in_tiling t laid v tiling a.fills found low r h)));
       fills = omega (arith, chain_total (squares_under t v) v.x (v.x + v.width) chain, ap total parts.0, sum_is_total new);
       signs = ap (λ (n : Move). n.signs) same ∙ ap (λ (squares : List Square). signs_between (depth_before laid v.x ++ map (λ q. q.y + q.s) squares ++ depth_from t.width laid (v.x + v.width))) group;
     };

@@ -2,6 +2,7 @@
 -- segments beside it give way.
 use Rattle.std.specs.List.{AllByRecursion}
 use Rattle.std.proofs.Common.{List, [], ap, arith, false, inl, inr, length, refl, suc, true, ℕ, ◌++◌, ◌+◌, ◌∙◌, ◌∷◌, ◌≡◌, ◌⊎◌}
+use Rattle.bk_tiling.proofs.Cells.{not_both}
 use Rattle.bk_tiling.proofs.ListLaws.{append_assoc, length_append}
 use Rattle.bk_word.specs.Outline.{Outline, valley_place}
 use Rattle.bk_word.specs.Play.{parts}
@@ -61,10 +62,7 @@ split (s ∷ segments) (Above ∷ signs) part many = record {
   rises = inr (signs, refl);
   part = part;
 }
-split (s ∷ segments) (Even ∷ signs) part many = absurd (not_even part.0)
-  where
-    not_even : false ≡ true → ⊥
-    not_even e = cc
+split (s ∷ segments) (Even ∷ signs) part many = absurd (not_both false part.0 refl)
 split (s ∷ segments) (Under ∷ signs) part many = let r = split segments signs part.1 (omega arith) in record {
   fronts = s ∷ r.fronts;
   valley = r.valley;

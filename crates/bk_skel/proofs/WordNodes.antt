@@ -1,8 +1,8 @@
 -- Each node of the net of a tiling's word but the last is a group of the tiling's squares, that is a node of its Smith
 -- diagram; the squares hang from the nodes and end at them as they do there.
 use Rattle.std.specs.List.{AllByRecursion, AllZip, list_any, position_or_len}
-use Rattle.std.proofs.Common.{List, Some, [], ap, arith, cond, count_by, inl, inr, length, map, nat_eq, refl, slice_get, slice_index_or, subst, sym, true, ℕ, ◌&&◌, ◌++◌, ◌+◌, ◌<◌, ◌∙◌, ◌∷◌, ◌≡◌, ◌≤◌, ◌⊎◌}
-use Rattle.std.proofs.lemmas.Bool.Decides.{nat_tests}
+use Rattle.std.proofs.Common.{List, Some, [], ap, arith, count_by, inl, inr, length, map, nat_eq, refl, slice_get, slice_index_or, subst, sym, true, ℕ, ◌&&◌, ◌++◌, ◌+◌, ◌<◌, ◌∙◌, ◌∷◌, ◌≡◌, ◌≤◌, ◌⊎◌}
+use Rattle.std.proofs.lemmas.Bool.{cases_lt}
 use Rattle.bk_tiling.proofs.Cells.{covers_from, in_all, one_counted, over_from}
 use Rattle.bk_tiling.proofs.ListLaws.{get_below, get_some, length_append, length_map}
 use Rattle.bk_tiling.proofs.Rows.{chain_total, laid_sides, total}
@@ -25,13 +25,18 @@ use Rattle.bk_lay.proofs.ValleySegment.{all_laid}
 use Rattle.bk_lay.proofs.WordPlay.{NoneTwice, none_twice, one_run, tiling_word_is_complete}
 use Rattle.bk_lay.specs.Depiction.{Depicts, Hangs, IsNumbered, IsSegment}
 use Rattle.bk_lay.specs.TilingWord.{IsWordOf}
+use Rattle.bk_skel.proofs.Building.{get_value}
 use Rattle.bk_skel.proofs.ExactNodes.{ExactEnd, IsGroupRun, exact_end}
 use Rattle.bk_skel.proofs.LaidFlow.{get_one, zip_get}
 use Rattle.bk_skel.proofs.NoLoose.{Played, played_word}
 use Rattle.bk_skel.proofs.Numbering.{HasPlace, place_of_number, times}
-use Rattle.bk_skel.proofs.Wires.{get_back, get_front}
+use Rattle.bk_skel.proofs.Wires.{get_back, get_front, same_if_counted}
 use Rattle.bk_skel.specs.WordNet.{end_of}
-use Rattle.bk_skel.proofs.PlacesInLists.{get_after, get_map, get_value, index_of, not_more, span_within, two}
+use Rattle.bk_skel.proofs.PlacesInLists.{get_after, get_map, index_of, not_more, span_within}
+
+-- a list has one first square
+pub heads : {group xs ys : List Square} {a b : Square} → group ≡ a ∷ xs → group ≡ b ∷ ys → a ≡ b
+heads g h = cc
 
 module _ (t : Tiling) (w : Word) (tiling : IsTiling t) (p : IsWordOf t w) where
   abbrev pub e : ExactEnd t (outline_of w)
@@ -62,11 +67,8 @@ module _ (t : Tiling) (w : Word) (tiling : IsTiling t) (p : IsWordOf t w) where
   group_at : ℕ → ℕ → ℕ
   group_at i j = position_or_len (list_any (covers i j)) (square_groups t.squares)
 
-  equal : (a b : ℕ) → 0 < cond (nat_eq a b) 1 0 → a ≡ b
-  equal a b l = grind (arith, nat_tests)
-
   pub in_place : (k : ℕ) (g : List Square) (q : Square) (i j : ℕ) → slice_get (square_groups t.squares) k ≡ Some g → IsOneOf q g → covers i j q ≡ true → position_or_len (list_any (covers i j)) (square_groups t.squares) ≡ k
-  in_place k g q i j is h c = equal (position_or_len (list_any (covers i j)) (square_groups t.squares)) k (omega (
+  in_place k g q i j is h c = same_if_counted (position_or_len (list_any (covers i j)) (square_groups t.squares)) k (omega (
     arith,
     (has_group (covers i j) (square_groups t.squares) (omega (arith, ap (count_by (covers i j)) (row_is t tiling), cell_once t tiling i j (omega (arith, (over_from i j q c).right, (within_of t tiling q q_in).right)) (omega (arith, (over_from i j q c).bottom, (within_of t tiling q q_in).bottom))))).counts k (get_below (square_groups t.squares) k g is),
     ap (count_by (covers i j)) (get_index (square_groups t.squares) k g is),
@@ -93,9 +95,6 @@ module _ (t : Tiling) (w : Word) (tiling : IsTiling t) (p : IsWordOf t w) where
   over_node : (v : Segment) (r : IsGroupRun t v) (c : ℕ) → v.x ≤ c → c < v.x + v.width → (s : Square) × IsOneOf s r.group × (covers c v.level s ≡ true)
   over_node v r c lo hi = from (at_level t tiling r.place r.group r.is c (omega (arith, ap (λ (s : Square). s.x) same, r.x)) (omega (arith, chain_total r.group (group_of t tiling r.place r.group r.is).0.row.first.x (group_of t tiling r.place r.group r.is).0.row.end (group_of t tiling r.place r.group r.is).0.row.chain, r.wide, ap (λ (s : Square). s.x) same, r.x)))
     where
-      heads : {a b : Square} {xs ys : List Square} → r.group ≡ a ∷ xs → r.group ≡ b ∷ ys → a ≡ b
-      heads f g = cc
-
       same : (group_of t tiling r.place r.group r.is).0.row.first ≡ r.first
       same = heads (group_of t tiling r.place r.group r.is).0.row.is r.squares
 
@@ -136,9 +135,6 @@ module _ (t : Tiling) (w : Word) (tiling : IsTiling t) (p : IsWordOf t w) where
     where
       group : a.group ≡ b.group
       group = get_one (square_groups t.squares) b.place a.group b.group (subst (λ (k : ℕ). slice_get (square_groups t.squares) k ≡ Some a.group) f a.is) b.is
-
-      heads : {c d : Square} {xs ys : List Square} → a.group ≡ c ∷ xs → a.group ≡ d ∷ ys → c ≡ d
-      heads g h = cc
 
       first : a.first ≡ b.first
       first = heads a.squares (group ∙ b.squares)
@@ -202,7 +198,7 @@ module _ (t : Tiling) (w : Word) (tiling : IsTiling t) (p : IsWordOf t w) where
 
   -- the node_of_word at which a laid square ends
   pub ends_there : (k : ℕ) (q : Square) → slice_get e.laid k ≡ Some q → node_of_word (end_of ((outline_of w).closed ++ (outline_of w).segments) (1 + k)) ≡ node_below (square_groups t.squares) q
-  ends_there k q f = at (two (end_of ((outline_of w).closed ++ (outline_of w).segments) (1 + k)) (length e.nodes))
+  ends_there k q f = at (cases_lt (end_of ((outline_of w).closed ++ (outline_of w).segments) (1 + k)) (length e.nodes))
     where
       q_in : IsOneOf q t.squares
       q_in = laid_in q (one_of e.laid k q f)
@@ -236,16 +232,13 @@ module _ (t : Tiling) (w : Word) (tiling : IsTiling t) (p : IsWordOf t w) where
               b = ends_on v (get_append e.nodes d.runs (end_of ((outline_of w).closed ++ (outline_of w).segments) (1 + k)) v is)
 
               found : (s : Square) × IsOneOf s r.group × (covers q.x v.level s ≡ true) → node_below (square_groups t.squares) q ≡ r.place
-              found (s, m, c) = equal (node_below (square_groups t.squares) q) r.place (omega (
+              found (s, m, c) = same_if_counted (node_below (square_groups t.squares) q) r.place (omega (
                 arith,
                 (place t tiling q q_in).counts r.place (get_below (square_groups t.squares) r.place r.group r.is),
                 ap (count_by (λ z. nat_eq z.y (q.y + q.s) && covers_column q.x z)) (get_index (square_groups t.squares) r.place r.group r.is),
                 one_counted (λ z. nat_eq z.y (q.y + q.s) && covers_column q.x z) r.group s m (below_from q s (level_of ∙ sym b.0) (over_from q.x v.level s c).left (over_from q.x v.level s c).right),
               ))
                 where
-                  heads : {c d : Square} {xs ys : List Square} → r.group ≡ c ∷ xs → r.group ≡ d ∷ ys → c ≡ d
-                  heads g h = cc
-
                   level_of : s.y ≡ v.level
                   level_of = top_of t tiling r.group (group_of t tiling r.place r.group r.is).0.row s m ∙ ap (λ (z : Square). z.y) (heads (group_of t tiling r.place r.group r.is).0.row.is r.squares) ∙ r.y
       at (inr h) = on (get_some (e.nodes ++ d.runs) (end_of ((outline_of w).closed ++ (outline_of w).segments) (1 + k)) (omega (arith, pl.below, zip_length (IsSegment e.laid) (e.nodes ++ d.runs) ((outline_of w).closed ++ (outline_of w).segments) lists)))

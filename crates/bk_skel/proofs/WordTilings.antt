@@ -14,7 +14,7 @@ use Rattle.bk_word.specs.Play.{IsComplete, outline_of}
 use Rattle.bk_word.specs.Word.{Word, order_of}
 use Rattle.bk_lay.specs.TilingWord.{IsWordOf}
 use Rattle.bk_skel.proofs.FlowTilings.{a_flow_places_a_tiling, a_primitive_flow_is_a_primitive_tiling}
-use Rattle.bk_skel.proofs.LaidFlow.{laid_sides_are_a_flow}
+use Rattle.bk_skel.proofs.LaidFlow.{laid_sides_are_a_flow, pos_sides}
 use Rattle.bk_skel.proofs.PlacedWord.{a_word_of_a_tiling_is_placed}
 use Rattle.bk_skel.proofs.Shape.{hung_many}
 use Rattle.bk_skel.proofs.PrimitiveTiling.{a_word_has_one_primitive_tiling}
@@ -48,13 +48,6 @@ pos_same (q ∷ squares) (s ∷ sides) e = λ i. first i ∷ pos_same squares si
     rest : map (λ r. pos r.s) squares ≡ map pos sides
     rest = cc
 
-pos_sides : (squares : List Square) (sides : List ℕ) → map (λ q. q.s) squares ≡ sides → map (λ q. pos q.s) squares ≡ map pos sides
-pos_sides squares sides e = from squares ∙ ap (map pos) e
-  where
-    from : (squares : List Square) → map (λ q. pos q.s) squares ≡ map pos (map (λ q. q.s) squares)
-    from [] = refl
-    from (q ∷ squares) = ap (λ (rest : List ℤ). pos q.s ∷ rest) (from squares)
-
 module _ (w : Word) (complete : IsComplete w) (f : Flow) (one : IsOneFlow (net_of_word w) f) (primitive : IsPrimitive f) where
   -- where a tiling has the word, some tiling has the currents as its sides
   placed_by : (t : Tiling) → IsTiling t → IsWordOf t w → PlacesWord w f
@@ -79,7 +72,7 @@ module _ (w : Word) (complete : IsComplete w) (f : Flow) (one : IsOneFlow (net_o
     }
       where
         same : map (λ q. pos q.s) l.laid ≡ f.currents
-        same = pos_sides l.laid sides l.sides ∙ sym currents
+        same = pos_sides l.laid ∙ ap (map pos) l.sides ∙ sym currents
 
         width : pos t.width ≡ f.total
         width = sym (laid_sides_are_a_flow t w l.laid l.levels l.tiling l.word l.along).first ∙ ap (λ (cs : List ℤ). outflow (net_of_word w).wires cs 0) same ∙ (one.flow).first

@@ -1,5 +1,6 @@
 use Rattle.std.proofs.Common.{arith, length, ◌+◌, ◌∙◌, ◌≡◌}
-use Rattle.bk_skel.proofs.PlacingTurn.{gap_some, segment_path, some_from}
+use Rattle.bk_lay.proofs.Valleys.{segment_path}
+use Rattle.bk_skel.proofs.PlacingTurn.{gap_some, some_from}
 use Rattle.bk_skel.proofs.placing.gap_under.Goals as goal
 
 pub columns_over-requires-clause-fits : goal.columns_over-requires-clause-fits

@@ -1,9 +1,9 @@
 use Rattle.std.proofs.Common.{List, [], ap, arith, get_or, sym, take, ℕ, ◌++◌, ◌+◌, ◌∙◌, ◌∷◌, ◌≡◌}
 use Rattle.std.proofs.lemmas.List.{append_assoc, take_more}
 use Rattle.std.proofs.lemmas.List.Sums.{sum_by_more}
+use Rattle.bk_tiling.proofs.Group.{group_push}
 use Rattle.bk_tiling.specs.SquareGroups.{laid_group}
 use Rattle.bk_tiling.specs.declared.Square.{Square}
-use Rattle.bk_skel.proofs.PlacingLists.{group_push}
 use Rattle.bk_skel.proofs.placing.push_group.Goals as goal
 
 pub loop-side-preserved : goal.loop-side-preserved
