@@ -1,7 +1,8 @@
 -- A listing that was cut goes on from the word of its last entry.
 use Rattle.std.specs.List.{AllByRecursion}
 use Rattle.std.proofs.Common.{Contains, List, None, Some, [], inl, inr, length, ℕ, ◌++◌, ◌∷◌, ◌≡◌, ◌⊎◌}
-use Rattle.bk_word.proofs.ListLaws.{all_append, contains_left, contains_right}
+use Rattle.std.proofs.lemmas.List.Elements.{Contains-append_left, Contains-append_right}
+use Rattle.bk_word.proofs.ListLaws.{all_append}
 use Rattle.bk_word.proofs.WordOrder.{follows_trans}
 use Rattle.bk_word.specs.Word.{Follows, Word}
 use Rattle.bk_word.specs.declared.Class.{Class}
@@ -57,11 +58,11 @@ module _ (n : ℕ) (class : Class) (cursor : Word) (entries more : List Entry) (
   }
     where
       between : (e : Entry) → IsEntry n class e → Contains entries e ⊎ (AllByRecursion (λ listed. Follows e.word listed.word) entries × Follows e.word (cursor_after cursor entries)) → Contains (entries ++ more) e ⊎ AllByRecursion (λ listed. Follows e.word listed.word) (entries ++ more)
-      between e entry (inl c) = inl (contains_left entries more e c)
+      between e entry (inl c) = inl (Contains-append_left entries more e c)
       between e entry (inr later) = second (b.none_between e entry later.1)
         where
           second : Contains more e ⊎ AllByRecursion (λ listed. Follows e.word listed.word) more → Contains (entries ++ more) e ⊎ AllByRecursion (λ listed. Follows e.word listed.word) (entries ++ more)
-          second (inl c) = inl (contains_right entries more e c)
+          second (inl c) = inl (Contains-append_right entries more e c)
           second (inr each) = inr (all_append (λ listed. Follows e.word listed.word) entries more later.0 each)
 
   -- where each later member is among the further entries, each is among both
@@ -69,8 +70,8 @@ module _ (n : ℕ) (class : Class) (cursor : Word) (entries more : List Entry) (
   among_both e entry h rest = cases (first_or_later e entry h)
     where
       cases : Contains entries e ⊎ (AllByRecursion (λ listed. Follows e.word listed.word) entries × Follows e.word (cursor_after cursor entries)) → Contains (entries ++ more) e
-      cases (inl c) = contains_left entries more e c
-      cases (inr later) = contains_right entries more e (rest later.1)
+      cases (inl c) = Contains-append_left entries more e c
+      cases (inr later) = Contains-append_right entries more e (rest later.1)
 
   ends_both : (last : Last) (w : Word) → EndsBy n class (cursor_after cursor entries) None more last w → EndsBy n class cursor None (entries ++ more) last w
   ends_both Limit w e = absurd (no_limit (length more) e)

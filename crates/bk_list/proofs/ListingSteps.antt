@@ -1,11 +1,10 @@
 -- A listing, line by line: what stands written after so many entries, and after the last line.
-use Rattle.std.specs.Prelude.{IfOk, MatchResult, OnErr, Option, Result, flat_map}
+use Rattle.std.specs.Prelude.{OnErr, Option, Result, flat_map}
 use Rattle.std.specs.Io.KnownBytes.{Appends}
 use Rattle.std.proofs.KnownBytes.{Appends-nil, Appends-trans}
-use Rattle.std.proofs.Common.{Err, List, None, Ok, Some, [], ap, append-nil, arith, inl, inr, length, refl, subst, sym, take, ℕ, ◌++◌, ◌+◌, ◌<◌, ◌^◌, ◌∙◌, ◌∷◌, ◌≡◌, ◌≤◌, ◌⊎◌}
-use Rattle.std.proofs.Math.Seq.{take-append-add}
+use Rattle.std.proofs.Common.{Err, List, None, Ok, Some, [], ap, append-nil, arith, inl, inr, length, refl, subst, sym, ℕ, ◌++◌, ◌+◌, ◌<◌, ◌^◌, ◌∙◌, ◌∷◌, ◌≡◌, ◌≤◌, ◌⊎◌}
 use Rattle.std.proofs.lemmas.Grind.{flat_map-append}
-use Rattle.bk_ports.proofs.KnownSteps.{appends_more}
+use Rattle.bk_ports.proofs.KnownSteps.{prefix_after}
 use Rattle.bk_ports.specs.Causes.{AppendsPrefix}
 use Rattle.bk_lay.proofs.WordPlay.{tiling_word_is_complete}
 use Rattle.bk_tiling.proofs.ListLaws.{length_append}
@@ -37,12 +36,6 @@ pub on_err : {A E : Type 0} {P : Type 0} (r : Result A E) → P → OnErr r P
 on_err (Ok a) p = tt
 on_err (Err e) p = p
 
-pub if_ok : {A E : Type 0} (P : A → Type 0) (r : Result A E) (a : A) → r ≡ Ok a → IfOk r P → P a
-if_ok {A} {E} P r a is h = subst (λ (r : Result A E). IfOk r P) is h
-
-pub match_ok : {A E : Type 0} (P : A → Type 0) (Q : E → Type 0) (r : Result A E) (a : A) → r ≡ Ok a → MatchResult r P Q → P a
-match_ok {A} {E} P Q r a is h = subst (λ (r : Result A E). MatchResult r P Q) is h
-
 -- the next entry, by other names of the order, of the class and of what came
 pub next_as : (k n : ℕ) (one class : Class) (cursor then : Word) (b c : Option (List ℕ)) (x next : Next) → k ≡ n → one ≡ class → x ≡ next → IsNext k one cursor then b c x → IsNext n class cursor then b c next
 next_as k n one class cursor then b c x next e f g h =
@@ -56,10 +49,6 @@ pub entries_as : (k n : ℕ) (one class : Class) (cursor : Word) (limit : Option
     → HasEntries k one cursor limit last listed word a b → HasEntries n class cursor limit last listed word a b
 entries_as k n one class cursor limit last listed word a b e f h =
     subst (λ (k : ℕ). HasEntries k class cursor limit last listed word a b) e (subst (λ (one : Class). HasEntries k one cursor limit last listed word a b) f h)
-
--- a write that failed after a whole one
-pub prefix_after : (a b c : Option (List ℕ)) (xs ys : List ℕ) → Appends a b xs → AppendsPrefix b c ys → AppendsPrefix a c (xs ++ ys)
-prefix_after a b c xs ys p q = (length xs + q.0, appends_more a b c xs (take q.0 ys) (take (length xs + q.0) (xs ++ ys)) p q.1 (take-append-add xs ys q.0))
 
 -- where the listing stands: so many of the first members are written, no more than the limit, and the cursor is the word
 -- of the last one

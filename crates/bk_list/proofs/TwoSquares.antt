@@ -1,6 +1,7 @@
 -- The one canonical tiling of two squares: two of side 1, side by side.
 use Rattle.std.specs.List.{AllByRecursion}
 use Rattle.std.proofs.Common.{Bool, List, [], ap, arith, cond, count_by, inl, inr, length, refl, subst, sym, true, ℕ, ◌*◌, ◌+◌, ◌-◌, ◌<◌, ◌∷◌, ◌∙◌, ◌≡◌, ◌≤◌, ◌⊎◌}
+use Rattle.std.proofs.lemmas.Bool.{cases_lt}
 use Rattle.bk_tiling.proofs.Cells.{IsOver, count-cons, counted_one, covers_from, over_from}
 use Rattle.bk_tiling.proofs.Scaling.{before_cases}
 use Rattle.bk_tiling.proofs.Sizes.{high_enough}
@@ -26,9 +27,6 @@ two_from [] e = absurd (omega arith)
 two_from (q ∷ []) e = absurd (omega arith)
 two_from (q ∷ r ∷ []) e = record { first = q; second = r; are = refl }
 two_from (q ∷ r ∷ s ∷ squares) e = absurd (omega arith)
-
-two : (a b : ℕ) → (a < b) ⊎ (b ≤ a)
-two a b = grind arith
 
 module _ (t : Tiling) (q r : Square) (tiling : IsTiling t) (are : t.squares ≡ q ∷ r ∷ []) (lies : t.height ≤ t.width) where
   wide : 0 < t.width
@@ -130,7 +128,7 @@ module _ (t : Tiling) (q r : Square) (tiling : IsTiling t) (are : t.squares ≡ 
 
   -- they touch
   beside : r.x ≡ q.s
-  beside = cases (two r.x q.s) (two q.s r.x)
+  beside = cases (cases_lt r.x q.s) (cases_lt q.s r.x)
     where
       cases : (r.x < q.s) ⊎ (q.s ≤ r.x) → (q.s < r.x) ⊎ (r.x ≤ q.s) → r.x ≡ q.s
       cases (inl h) any =

@@ -4,26 +4,24 @@ use Rattle.std.specs.List.{AllByRecursion}
 use Rattle.std.specs.Ordering.{ordering_then}
 use Rattle.std.specs.declared.cmp.Ordering.{Ordering}
 use Rattle.std.specs.declared.cmp.Ordering.TheVariants.{Equal, Greater, Less}
-use Rattle.std.proofs.Common.{Bool, List, [], ap, arith, false, inl, inr, length, refl, subst, suc, sym, true, zero, ℕ, ◌*◌, ◌+◌, ◌-◌, ◌<◌, ◌^◌, ◌∙◌, ◌∷◌, ◌≡◌, ◌≤◌, ◌⊎◌}
+use Rattle.std.proofs.Common.{List, [], ap, arith, inl, inr, length, refl, subst, suc, sym, zero, ℕ, ◌*◌, ◌+◌, ◌-◌, ◌<◌, ◌^◌, ◌∙◌, ◌∷◌, ◌≡◌, ◌≤◌, ◌⊎◌}
 use Rattle.std.proofs.Math.Nat.{mul-le-mul_right}
-use Rattle.bk_lay.proofs.WordPlay.{order-cons, tiling_word_is_complete}
-use Rattle.bk_word.specs.Outline.{IsLegalMove, Outline, has_left_wall, has_right_wall, open_side, start}
+use Rattle.bk_lay.proofs.WordPlay.{tiling_word_is_complete}
+use Rattle.bk_word.specs.Outline.{IsLegalMove, Outline, has_left_wall, has_right_wall, start}
 use Rattle.bk_word.specs.Play.{AreLegalFrom, after_move}
 use Rattle.bk_word.specs.Word.{Move, Word, move_cmp, order_of, sign_cmp, sign_place, word_cmp}
 use Rattle.bk_word.specs.declared.Class.{Class}
 use Rattle.bk_word.specs.declared.Sign.{Sign}
 use Rattle.bk_word.specs.declared.Sign.TheVariants.{Above, Even, Under}
+use Rattle.bk_word.proofs.StoredBytes.{order_more}
 use Rattle.bk_walk.specs.Catalogue.{AreAscending, Entry, IsEntry}
 use Rattle.bk_walk.proofs.MoveOrder.{less_to}
 use Rattle.bk_walk.proofs.Places.{move_same}
+use Rattle.bk_walk.proofs.Ranks.{open_one, some_power}
 
 abbrev power : ℕ → ℕ → ℕ
 power base zero = 1
 power base (suc k) = base * power base k
-
-some_power : (base k : ℕ) → 0 < base → 0 < power base k
-some_power base zero some = omega arith
-some_power base (suc k) some = omega (arith, some_power base k some, mul-le-mul_right {m = 1} {n = base} (power base k) some)
 
 power-add : (base a b : ℕ) → power base (a + b) ≡ power base a * power base b
 power-add base zero b = let e : zero + b ≡ b = omega arith in ap (power base) e ∙ omega arith
@@ -71,10 +69,6 @@ signs_fall (Under ∷ a) (Above ∷ b) l e = absurd (cc)
 signs_fall (Under ∷ a) (Even ∷ b) l e = absurd (cc)
 signs_fall (Under ∷ a) (Under ∷ b) l e = omega (arith, signs_fall a b (one_shorter Under Under a b l) e, ap (power 3) (one_shorter Under Under a b l))
 
-open_one : (b : Bool) → open_side b ≤ 1
-open_one true = omega arith
-open_one false = omega arith
-
 -- with the words that begin with a greater count before those with these signs or greater ones
 abbrev part : ℕ → Move → ℕ
 part n m = (power 3 m.count + signs_left m.signs) * power 12 (n - m.count)
@@ -106,8 +100,8 @@ unfolding left
 left_below o n [] legal few = some_power 12 n (omega arith)
 left_below o n (m ∷ w) legal few =
     let some = (legal.0).some in
-    let more : order_of w ≤ n - m.count = omega (arith, order-cons m w) in
-    let within : m.count ≤ n = omega (arith, order-cons m w) in
+    let more : order_of w ≤ n - m.count = omega (arith, order_more m w) in
+    let within : m.count ≤ n = omega (arith, order_more m w) in
     omega (
       arith,
       step_below o n m (left (n - m.count) w) legal.0 (left_below (after_move o m) (n - m.count) w legal.1 more),
@@ -136,13 +130,13 @@ unfolding left
 step_falls o n m k v w p q a b more Less f e = by_less (less_to m k f)
   where
     under : left (n - k.count) w ≤ power 12 (n - k.count)
-    under = left_below (after_move o k) (n - k.count) w q.1 (omega (arith, order-cons k w, b))
+    under = left_below (after_move o k) (n - k.count) w q.1 (omega (arith, order_more k w, b))
 
     by_less : (m.count < k.count) ⊎ ((m.count ≡ k.count) × (slice_cmp sign_cmp m.signs k.signs ≡ Less)) → part n k + left (n - k.count) w < part n m + left (n - m.count) v
     by_less (inl less) = omega (
       arith,
       step_below o n k (left (n - k.count) w) q.0 under,
-      count_falls n m.count k.count less (omega (arith, order-cons k w, b)),
+      count_falls n m.count k.count less (omega (arith, order_more k w, b)),
       some_left (n - m.count) v,
     )
     by_less (inr (same, signs)) =
@@ -163,15 +157,15 @@ step_falls o n m k v w p q a b more Equal f e =
     let same : m ≡ k = move_same m k f in
     let rest : word_cmp v w ≡ Less = sym (ap (λ z. ordering_then z (word_cmp v w)) f) ∙ e in
     subst (λ (x : Move). AreLegalFrom (after_move o x) w → order_of w ≡ n - x.count → part n x + left (n - x.count) w < part n m + left (n - m.count) v) same
-    (λ l c. omega (arith, more l c rest)) q.1 (omega (arith, order-cons k w, b))
+    (λ l c. omega (arith, more l c rest)) q.1 (omega (arith, order_more k w, b))
 step_falls o n m k v w p q a b more Greater f e = let h : Greater ≡ Less = sym (ap (λ z. ordering_then z (word_cmp v w)) f) ∙ e in absurd (cc)
 
 left_falls : (o : Outline) (n : ℕ) (v w : Word) → AreLegalFrom o v → AreLegalFrom o w → order_of v ≡ n → order_of w ≡ n → word_cmp v w ≡ Less → left n w < left n v
 left_falls o n [] [] p q a b e = absurd (cc)
-left_falls o n [] (k ∷ w) p q a b e = let some = (q.0).some in absurd (omega (arith, order-cons k w, a, b))
+left_falls o n [] (k ∷ w) p q a b e = let some = (q.0).some in absurd (omega (arith, order_more k w, a, b))
 left_falls o n (m ∷ v) [] p q a b e = absurd (cc)
 left_falls o n (m ∷ v) (k ∷ w) p q a b e =
-    step_falls o n m k v w p q a b (λ l c h. left_falls (after_move o m) (n - m.count) v w p.1 l (omega (arith, order-cons m v, a)) c h) (move_cmp m k) refl e
+    step_falls o n m k v w p q a b (λ l c h. left_falls (after_move o m) (n - m.count) v w p.1 l (omega (arith, order_more m v, a)) c h) (move_cmp m k) refl e
 
 -- the word of an entry
 abbrev IsWhole : ℕ → Word → Type 0

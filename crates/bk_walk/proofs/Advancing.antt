@@ -48,6 +48,13 @@ before_not_before u v w f g = cases (word_cmp w v) refl
 pub not_both : (v w : Word) → Follows v w → Follows w v → ⊥
 not_both v w f g = not_itself v (follows_trans v w v g f)
 
+-- words before a place, and then a word that is not before it
+ascending_to : (n : ℕ) (cursor place word : Word) → (Follows place word → ⊥) → (words : List Word) → AllByRecursion (λ w. IsInTree n cursor None w × Follows place w) words → AreAscendingWords words
+    → AreAscendingWords (words ++ word ∷ [])
+ascending_to n cursor place word from [] all up = (tt, tt)
+ascending_to n cursor place word from (w ∷ words) all up =
+    (all_append (λ v. Follows v w) words (word ∷ []) up.0 (before_not_before w place word (all.0).1 from, tt), ascending_to n cursor place word from words all.1 up.1)
+
 -- the place moves on, over what no member's word is among
 module _ (n : ℕ) (class : Class) (place next : Word) (up : Follows next place)
     (none : (e : Entry) → IsEntry n class e → (Follows place e.word → ⊥) → Follows next e.word → ⊥) (cursor : Word) (met : ℕ) (p : IsPlace n class cursor place met) where
@@ -73,17 +80,13 @@ module _ (n : ℕ) (class : Class) (place next : Word) (up : Follows next place)
     in_tree : IsInTree n cursor None word
     in_tree = record { legal = tree.legal; some = some; small = tree.small; after = p.after word tree from; within = tt }
 
-    ascending_on : (words : List Word) → AllByRecursion (λ w. IsInTree n cursor None w × Follows place w) words → AreAscendingWords words → AreAscendingWords (words ++ word ∷ [])
-    ascending_on [] all up = (tt, tt)
-    ascending_on (w ∷ words) all up = (all_append (λ v. Follows v w) words (word ∷ []) up.0 (before_not_before w place word (all.0).1 from, tt), ascending_on words all.1 up.1)
-
     pub met_on : IsPlace n class cursor next (met + 1)
     met_on = record {
       passed = passed_on;
       after = after_on;
       words = p.words ++ word ∷ [];
       each = all_append (λ w. IsInTree n cursor None w × Follows next w) p.words (word ∷ []) (each_on p.words p.each) ((in_tree, to), tt);
-      ascending = ascending_on p.words p.each p.ascending;
+      ascending = ascending_to n cursor place word from p.words p.each p.ascending;
       count = omega (arith, p.count, length_append p.words (word ∷ []));
     }
 
@@ -103,10 +106,6 @@ module _ (n : ℕ) (class : Class) (place word : Word) (tree : IsTreeWord n word
     each_to words all.1,
   )
 
-  ascending_to : (words : List Word) → AllByRecursion (λ w. IsInTree n cursor None w × Follows place w) words → AreAscendingWords words → AreAscendingWords (words ++ word ∷ [])
-  ascending_to [] all up = (tt, tt)
-  ascending_to (w ∷ words) all up = (all_append (λ v. Follows v w) words (word ∷ []) up.0 (before_not_before w place word (all.0).1 from, tt), ascending_to words all.1 up.1)
-
   pub met_at : IsMet n class cursor word (met + 1)
   met_at = record {
     after = p.after word tree from;
@@ -115,7 +114,7 @@ module _ (n : ℕ) (class : Class) (place word : Word) (tree : IsTreeWord n word
       words = p.words ++ word ∷ [];
       each = all_append (IsInTree n cursor (Some word)) p.words (word ∷ []) (each_to p.words p.each)
           (record { legal = tree.legal; some = some; small = tree.small; after = p.after word tree from; within = not_itself word }, tt);
-      ascending = ascending_to p.words p.each p.ascending;
+      ascending = ascending_to n cursor place word from p.words p.each p.ascending;
       count = omega (arith, p.count, length_append p.words (word ∷ []));
     };
   }

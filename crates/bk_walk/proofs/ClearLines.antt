@@ -2,6 +2,7 @@
 use Rattle.std.specs.List.{AllByRecursion, AllZip, list_any}
 use Rattle.std.proofs.Common.{Bool, List, Some, [], ap, arith, drop, false, inl, inr, length, map, nat_eq, refl, replicate, slice_get, slice_index_or, subst, suc, sym, take, true, zero, ℕ, ◌||◌, ◌++◌, ◌+◌, ◌-◌, ◌<◌, ◌∙◌, ◌∷◌, ◌≡◌, ◌≤◌, ◌⊎◌}
 use Rattle.std.proofs.lemmas.Bool.Decides.{nat_tests}
+use Rattle.std.proofs.lemmas.Option.{slice_get_within}
 use Rattle.bk_tiling.proofs.Cells.{from_append, in_all}
 use Rattle.bk_tiling.proofs.ListLaws.{length_append}
 use Rattle.bk_tiling.proofs.Rows.{Chain, chain_within}
@@ -15,6 +16,7 @@ use Rattle.bk_word.specs.Play.{after_move, after_moves, before_first_list, joine
 use Rattle.bk_word.specs.Word.{Move, Word}
 use Rattle.bk_word.specs.declared.Sign.{Sign}
 use Rattle.bk_word.specs.declared.Sign.TheVariants.{Above, Even, Under}
+use Rattle.bk_word.proofs.ListLaws.{all_append}
 use Rattle.bk_lay.proofs.Filling.{in_tiling, valley_is_filled}
 use Rattle.bk_lay.proofs.Laying.{under_chain}
 use Rattle.bk_lay.proofs.Places.{Placed, placed}
@@ -25,15 +27,12 @@ use Rattle.bk_lay.specs.Depiction.{Hangs, IsNumbered, IsSegment, Span}
 use Rattle.bk_lay.specs.TilingWord.{IsLeftmostValley, IsWordOf, MovesFollow, move_under, squares_under}
 use Rattle.bk_skel.proofs.AlongWord.{Along, HasBegun, NotBegun, along_move, along_start}
 use Rattle.bk_skel.proofs.Wires.{get_back, get_front}
+use Rattle.bk_skel.proofs.Numbering.{length-replicate}
 use Rattle.bk_walk.specs.VerticalCut.{begins_on_line, lines_after, lines_along, on_line}
 
 -- the fact holds of each number in the lists
 abbrev pub Each : (ℕ → Type 0) → List (List ℕ) → Type 0
 Each P segments = AllByRecursion (AllByRecursion P) segments
-
-all_append : (P : ℕ → Type 0) (xs ys : List ℕ) → AllByRecursion P xs → AllByRecursion P ys → AllByRecursion P (xs ++ ys)
-all_append P [] ys a b = b
-all_append P (x ∷ xs) ys a b = (a.0, all_append P xs ys a.1 b)
 
 each_append : (P : ℕ → Type 0) (xs ys : List (List ℕ)) → Each P xs → Each P ys → Each P (xs ++ ys)
 each_append P [] ys a b = b
@@ -118,11 +117,6 @@ one_number laid n s r a b = one_found s r (sym a.2 ∙ (λ i. slice_get laid (sa
 number_more : (laid new : List Square) (n : ℕ) (s : Square) → IsNumbered laid n s → IsNumbered (laid ++ new) n s
 number_more laid new n s a = (a.0, a.1, get_append laid new a.0 s a.2)
 
-get_within : (laid : List Square) (k : ℕ) (s : Square) → slice_get laid k ≡ Some s → k < length laid
-get_within [] k s e = absurd (cc)
-get_within (q ∷ laid) zero s e = omega arith
-get_within (q ∷ laid) (suc k) s e = omega (arith, get_within laid k s e)
-
 span_order : (laid : List Square) (level x : ℕ) (numbers : List ℕ) (end : ℕ) → Span laid level x numbers end → x ≤ end
 span_order laid level x [] end s = omega (arith, s)
 span_order laid level x (n ∷ numbers) end s = omega (arith, span_order laid level (x + (s.0).s) numbers end s.4)
@@ -136,7 +130,7 @@ module _ (laid new : List Square) (lines added : List Bool) (v : Segment) (long 
       (one_number (laid ++ new) n s r (number_more laid new n s number) is) (old.0, λ q h. cases q (from_append laid new q h) beside)
     where
       before : on_line lines n ≡ true
-      before = sym (get_front lines added (n - 1) false (omega (arith, long, number.1, get_within laid number.0 s number.2))) ∙ on
+      before = sym (get_front lines added (n - 1) false (omega (arith, long, number.1, slice_get_within laid number.0 s number.2))) ∙ on
 
       old : (0 < s.x) × ((q : Square) → IsOneOf q laid → (q.x + q.s ≤ s.x) ⊎ (s.x ≤ q.x))
       old = clear before s number
@@ -302,10 +296,6 @@ module _ (t : Tiling) (laid : List Square) (nodes : List Segment) (o : Outline) 
       next : suc (length p.before) ≡ valley_place o.signs + 1
       next = omega (arith, number)
 
-  replicated : (b : Bool) (k : ℕ) → length (replicate k b) ≡ k
-  replicated b zero = refl
-  replicated b (suc k) = ap suc (replicated b k)
-
   pub lines_more : length (lines_after o lines (move_under t laid v)) ≡ length (laid ++ squares_under t v)
   lines_more = omega (
     arith,
@@ -313,7 +303,7 @@ module _ (t : Tiling) (laid : List Square) (nodes : List Segment) (o : Outline) 
     (valley_is_filled t laid v tiling a.fills found low).0,
     length_append lines (begins_on_line lines (valley_of o) ∷ replicate (length (squares_under t v) - 1) (nat_eq (length o.closed) 0)),
     length_append laid (squares_under t v),
-    replicated (nat_eq (length o.closed) 0) (length (squares_under t v) - 1),
+    length-replicate (length (squares_under t v) - 1) (nat_eq (length o.closed) 0),
   )
 
 -- ---- along a word

@@ -1,7 +1,8 @@
 -- The closing bound: it is the greatest number of closings, a move lowers it by at most 1, and at the end it is 0.
-use Rattle.std.proofs.Common.{List, [], ap, arith, cond, count_by, drop, filter, inl, inr, length, max, refl, suc, sym, take, zero, ℕ, ◌++◌, ◌+◌, ◌-◌, ◌<◌, ◌∙◌, ◌∷◌, ◌≡◌, ◌≤◌, ◌⊎◌}
+use Rattle.std.proofs.Common.{Bool, List, [], ap, arith, cond, count_by, drop, false, filter, inl, inr, length, max, refl, suc, sym, take, true, zero, ℕ, ◌++◌, ◌+◌, ◌-◌, ◌<◌, ◌∙◌, ◌∷◌, ◌≡◌, ◌≤◌, ◌⊎◌}
 use Rattle.std.proofs.lemmas.List.{take-append-drop}
 use Rattle.std.proofs.lemmas.List.Sums.{sum_by-append, sum_by-cons}
+use Rattle.std.proofs.lemmas.Bool.{cases_lt}
 use Rattle.bk_tiling.proofs.ListLaws.{append_nil}
 use Rattle.bk_word.specs.Outline.{Outline, valley_place}
 use Rattle.bk_word.specs.Play.{after_move, parts}
@@ -68,9 +69,9 @@ pub record AroundValley (signs : List Sign) : Type 0 where
   pub none : aboves (take (valley_place signs) signs) ≡ 0
   pub behind : ((drop (valley_place signs) signs ≡ []) × (drop (valley_place signs + 1) signs ≡ [])) ⊎ (drop (valley_place signs) signs ≡ Above ∷ drop (valley_place signs + 1) signs)
 
-pub drop_one : {A : Type 0} (x : A) (xs : List A) → drop 1 (x ∷ xs) ≡ xs
-drop_one x [] = refl
-drop_one x (y ∷ xs) = refl
+pub at_most_one : (a : Bool) → ◌≤◌ (cond {A = ℕ} a 1 0) 1
+at_most_one true = omega arith
+at_most_one false = omega arith
 
 pub drop_next : {A : Type 0} (x : A) (xs : List A) (k : ℕ) → drop (suc k + 1) (x ∷ xs) ≡ drop (k + 1) xs
 drop_next x xs k = λ i. drop (next i) (x ∷ xs)
@@ -86,7 +87,7 @@ behind_next s signs k (inr e) = inr (e ∙ ap (λ ss. Above ∷ ss) (sym (drop_n
 
 pub around_valley : (signs : List Sign) → AroundValley signs
 around_valley [] = record { none = refl; behind = inl (refl, refl) }
-around_valley (Above ∷ signs) = record { none = refl; behind = inr (ap (λ ss. Above ∷ ss) (sym (drop_one Above signs))) }
+around_valley (Above ∷ signs) = record { none = refl; behind = inr refl }
 around_valley (Even ∷ signs) = let a = around_valley signs in record { none = omega (arith, a.none, aboves-cons Even (take (valley_place signs) signs)); behind = behind_next Even signs (valley_place signs) a.behind }
 around_valley (Under ∷ signs) = let a = around_valley signs in record { none = omega (arith, a.none, aboves-cons Under (take (valley_place signs) signs)); behind = behind_next Under signs (valley_place signs) a.behind }
 
@@ -96,14 +97,10 @@ record LastSign (xs : List Sign) (k : ℕ) : Type 0 where
   is : take k xs ≡ take (k - 1) xs ++ last
   few : length last ≤ 1
 
-pub take_none : (xs : List Sign) → take 0 xs ≡ []
-take_none [] = refl
-take_none (x ∷ xs) = refl
-
 last_of : (xs : List Sign) (j : ℕ) → (last : List Sign) × (take (suc j) xs ≡ take j xs ++ last) × (length last ≤ 1)
 last_of [] zero = ([], refl, omega arith)
 last_of [] (suc j) = ([], refl, omega arith)
-last_of (x ∷ xs) zero = (x ∷ [], ap (λ ys. x ∷ ys) (take_none xs), omega arith)
+last_of (x ∷ xs) zero = (x ∷ [], refl, omega arith)
 last_of (x ∷ xs) (suc j) = onto (last_of xs j)
   where
     onto : (last : List Sign) × (take (suc j) xs ≡ take j xs ++ last) × (length last ≤ 1) → (last : List Sign) × (take (suc (suc j)) (x ∷ xs) ≡ take (suc j) (x ∷ xs) ++ last) × (length last ≤ 1)
@@ -201,11 +198,8 @@ the_closing_bound_is_most (Even ∷ signs) = onto (the_closing_bound_is_most sig
   where
     onto : IsMostClosings signs (closing_bound signs) → IsMostClosings (Even ∷ signs) (closing_bound signs)
     onto m = record { most = most_closings (Even ∷ signs); place = suc m.place; within = omega (arith, m.within); met = omega (arith, closings-next Even signs m.place, m.met) }
-the_closing_bound_is_most (Under ∷ signs) = onto (the_closing_bound_is_most signs) (two (closing_bound signs) (suc (unders signs)))
+the_closing_bound_is_most (Under ∷ signs) = onto (the_closing_bound_is_most signs) (cases_lt (closing_bound signs) (suc (unders signs)))
   where
-    two : (a b : ℕ) → (a < b) ⊎ (b ≤ a)
-    two a b = grind arith
-
     onto : IsMostClosings signs (closing_bound signs) → (closing_bound signs < suc (unders signs)) ⊎ (suc (unders signs) ≤ closing_bound signs) → IsMostClosings (Under ∷ signs) (closing_bound (Under ∷ signs))
     onto m (inl h) = record { most = most_closings (Under ∷ signs); place = 0; within = omega arith; met = omega (arith, closings-first (Under ∷ signs), unders-cons Under signs, h) }
     onto m (inr h) = record { most = most_closings (Under ∷ signs); place = suc m.place; within = omega (arith, m.within); met = omega (arith, closings-next Under signs m.place, m.met, h) }

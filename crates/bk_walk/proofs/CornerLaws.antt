@@ -5,28 +5,31 @@ use Rattle.std.specs.declared.cmp.Ordering.{Ordering}
 use Rattle.std.specs.declared.cmp.Ordering.TheVariants.{Less}
 use Rattle.std.proofs.Common.{List, [], ap, arith, false, inl, inr, map, refl, sym, true, ℕ, ◌<◌, ◌∙◌, ◌∷◌, ◌≡◌, ◌≤◌, ◌⊎◌}
 use Rattle.std.proofs.lemmas.Bool.Decides.{nat_tests}
+use Rattle.std.proofs.lemmas.Bool.{cases_lt}
 use Rattle.bk_tiling.proofs.Cells.{in_all}
 use Rattle.bk_tiling.proofs.PuttingInOrder.{in_order}
 use Rattle.bk_tiling.specs.CodeOrder.{InCodeOrder, comes_before}
 use Rattle.bk_tiling.specs.Tiling.{IsOneOf, Tiling}
 use Rattle.bk_tiling.specs.declared.Square.{Square}
+use Rattle.bk_tiling.proofs.Scaling.{before_cases}
 use Rattle.bk_code.proofs.FlatList.{flat_is_sides}
 use Rattle.bk_code.specs.Code.{code_of, flat}
 use Rattle.bk_sym.proofs.Images.{images_are_tilings, in_map}
 use Rattle.bk_sym.proofs.OwnCanonical.{own_greatest}
 use Rattle.bk_sym.specs.Canonical.{IsAtMost}
 use Rattle.bk_sym.specs.Image.{image, image_square}
-use Rattle.bk_sym.specs.declared.Turn.{Turn}
-use Rattle.bk_sym.specs.declared.Turn.TheVariants.{FlipX, FlipY, Half, Same, Swap, SwapFlipX, SwapFlipY, SwapHalf}
-use Rattle.bk_walk.proofs.CuttingFirst.{HasHead}
+use Rattle.bk_sym.proofs.KeptImages.{side-image_square}
 use Rattle.bk_walk.specs.Corners.{CornersAreNoLonger}
 
-none_before : (s q : Square) → q.x ≡ 0 → q.y ≡ 0 → comes_before s q ≡ true → ⊥
-none_before s q x y e = not s.y s.x (cases s q e)
-  where
-    cases : (s q : Square) → comes_before s q ≡ true → (s.y < q.y) ⊎ ((s.y ≡ q.y) × (s.x < q.x))
-    cases s q e = grind (arith, nat_tests)
+pub record HasHead (squares : List Square) (m : Square) : Type 0 where
+  pub head : Square
+  pub tail : List Square
+  pub is : squares ≡ head ∷ tail
+  pub same : head ≡ m
 
+none_before : (s q : Square) → q.x ≡ 0 → q.y ≡ 0 → comes_before s q ≡ true → ⊥
+none_before s q x y e = not s.y s.x (before_cases s q e)
+  where
     not : (a d : ℕ) → (a < q.y) ⊎ ((a ≡ q.y) × (d < q.x)) → ⊥
     not a d (inl h) = omega (arith, y)
     not a d (inr h) = omega (arith, x, h.1)
@@ -36,16 +39,6 @@ pub top_left_first : (squares : List Square) (q : Square) → InCodeOrder square
 top_left_first [] q o h x y = absurd h
 top_left_first (s ∷ squares) q o (inl same) x y = record { head = s; tail = squares; is = refl; same = sym same }
 top_left_first (s ∷ squares) q o (inr h) x y = absurd (none_before s q x y (in_all (λ z. comes_before s z ≡ true) squares o.0 q h))
-
-side_in_image : (turn : Turn) (w h : ℕ) (q : Square) → (image_square turn w h q).s ≡ q.s
-side_in_image Same w h q = refl
-side_in_image FlipX w h q = refl
-side_in_image FlipY w h q = refl
-side_in_image Half w h q = refl
-side_in_image Swap w h q = refl
-side_in_image SwapFlipX w h q = refl
-side_in_image SwapFlipY w h q = refl
-side_in_image SwapHalf w h q = refl
 
 sides_begin : (t : Tiling) (q : Square) (h : HasHead t.squares q) → flat (code_of t) ≡ q.s ∷ map (λ s. s.s) h.tail
 sides_begin t q h = flat_is_sides t ∙ ap (map (λ s. s.s)) h.is ∙ ap (λ (s : Square). s.s ∷ map (λ s. s.s) h.tail) h.same
@@ -64,11 +57,8 @@ not_at_most t u less most = clash (ap is_le (sym (nat_list_cmp_total.antisymm (f
     clash e = cc
 
 pub corners_are_no_longer : CornersAreNoLonger
-corners_are_no_longer t turn q r tiling canonical a lies b = cases (two q.s r.s)
+corners_are_no_longer t turn q r tiling canonical a lies b = cases (cases_lt q.s r.s)
   where
-    two : (m n : ℕ) → (m < n) ⊎ (n ≤ m)
-    two m n = grind arith
-
     first : HasHead t.squares q
     first = top_left_first t.squares q tiling.ordered a.is a.x a.y
 
@@ -78,5 +68,5 @@ corners_are_no_longer t turn q r tiling canonical a lies b = cases (two q.s r.s)
 
     cases : (q.s < r.s) ⊎ (r.s ≤ q.s) → r.s ≤ q.s
     cases (inr h) = h
-    cases (inl h) = absurd (not_at_most t (image turn t) (shorter_is_less t (image turn t) q (image_square turn t.width t.height r) first turned (omega (arith, h, side_in_image turn t.width t.height r)))
+    cases (inl h) = absurd (not_at_most t (image turn t) (shorter_is_less t (image turn t) q (image_square turn t.width t.height r) first turned (omega (arith, h, side-image_square turn t.width t.height r)))
         (own_greatest t tiling canonical turn lies))

@@ -6,8 +6,7 @@ use Rattle.bk_tiling.specs.Tiling.{IsOneOf, IsTiling, IsWithin, Tiling, covers, 
 use Rattle.bk_tiling.specs.declared.Square.{Square}
 use Rattle.bk_sym.specs.Canonical.{IsCanonical}
 use Rattle.bk_sym.specs.declared.Turn.TheVariants.{FlipX, FlipY, Half, Same}
-use Rattle.bk_walk.proofs.CornerLaws.{corners_are_no_longer, top_left_first}
-use Rattle.bk_walk.proofs.CuttingFirst.{HasHead}
+use Rattle.bk_walk.proofs.CornerLaws.{HasHead, corners_are_no_longer, top_left_first}
 use Rattle.bk_walk.specs.Corners.{IsTopLeft}
 
 head_at : (squares : List Square) (q d : Square) → HasHead squares q → slice_index_or squares 0 d ≡ q
@@ -43,7 +42,7 @@ first_in_corner t tiling d = subst (IsTopLeft t) (sym (head_at t.squares q d (to
     top = omega (arith, over.top)
 
 -- a square in a corner of a canonical tiling is no longer than the one in the top left corner
-in_corner : (t : Tiling) (q r : Square) → IsTiling t → IsCanonical t → IsTopLeft t q → IsOneOf r t.squares → (r.x ≡ 0) ⊎ (r.x + r.s ≡ t.width) → (r.y ≡ 0) ⊎ (r.y + r.s ≡ t.height) → r.s ≤ q.s
+pub in_corner : (t : Tiling) (q r : Square) → IsTiling t → IsCanonical t → IsTopLeft t q → IsOneOf r t.squares → (r.x ≡ 0) ⊎ (r.x + r.s ≡ t.width) → (r.y ≡ 0) ⊎ (r.y + r.s ≡ t.height) → r.s ≤ q.s
 in_corner t q r tiling canonical first is (inl x) (inl y) = corners_are_no_longer t Same q r tiling canonical first canonical.lying (record { is = is; x = x; y = y })
 in_corner t q r tiling canonical first is (inr x) (inl y) = corners_are_no_longer t FlipX q r tiling canonical first canonical.lying (record { is = is; x = omega (arith, x); y = y })
 in_corner t q r tiling canonical first is (inl x) (inr y) = corners_are_no_longer t FlipY q r tiling canonical first canonical.lying (record { is = is; x = x; y = omega (arith, y) })

@@ -1,30 +1,13 @@
 -- What a pass over the signs between open segments has counted up to a place.
-use Rattle.std.proofs.Common.{Bool, List, [], ap, arith, cond, drop, false, length, nat_eq, refl, slice_index_or, suc, sym, true, zero, ℕ, ◌&&◌, ◌+◌, ◌<◌, ◌∙◌, ◌∷◌, ◌≡◌, ◌≤◌}
+use Rattle.std.proofs.Common.{Bool, List, ap, arith, drop, false, length, nat_eq, slice_index_or, true, ℕ, ◌&&◌, ◌+◌, ◌<◌, ◌∙◌, ◌∷◌, ◌≡◌, ◌≤◌}
+use Rattle.std.proofs.lemmas.List.{drop_all, drop_more}
 use Rattle.bk_word.specs.declared.Sign.{Sign}
 use Rattle.bk_word.specs.declared.Sign.TheVariants.{Above, Even, Under}
-use Rattle.bk_walk.proofs.ClosingLaws.{drop_one}
+use Rattle.bk_walk.proofs.ClosingLaws.{at_most_one}
 use Rattle.bk_walk.specs.SingleValleys.{single_valley, single_valleys, single_valleys_from}
 
-drop_none : {A : Type 0} (xs : List A) → drop 0 xs ≡ xs
-drop_none [] = refl
-drop_none (x ∷ xs) = refl
-
-pub drop_here : {A : Type 0} (d : A) (xs : List A) (i : ℕ) → i < length xs → drop i xs ≡ slice_index_or xs i d ∷ drop (i + 1) xs
-drop_here d [] i h = absurd (omega arith)
-drop_here d (x ∷ xs) zero h = ap (λ ys. x ∷ ys) (sym (drop_one x xs))
-drop_here d (x ∷ xs) (suc i) h = drop_here d xs i (omega arith) ∙ (λ j. slice_index_or xs i d ∷ drop (next j) (x ∷ xs))
-  where
-    next : suc (i + 1) ≡ suc i + 1
-    next = omega arith
-
-pub drop_all : {A : Type 0} (xs : List A) (i : ℕ) → length xs ≤ i → drop i xs ≡ []
-drop_all [] zero h = refl
-drop_all [] (suc i) h = refl
-drop_all (x ∷ xs) zero h = absurd (omega arith)
-drop_all (x ∷ xs) (suc i) h = drop_all xs i (omega arith)
-
 here : (signs : List Sign) (i : ℕ) (g : Sign) → i < length signs → slice_index_or signs i Above ≡ g → drop i signs ≡ g ∷ drop (i + 1) signs
-here signs i g h e = drop_here Above signs i h ∙ ap (λ (s : Sign). s ∷ drop (i + 1) signs) e
+here signs i g h e = drop_more signs i Above h ∙ ap (λ (s : Sign). s ∷ drop (i + 1) signs) e
 
 -- ---- valleys of one square
 
@@ -34,21 +17,14 @@ pub record IsFound (signs : List Sign) (sizes : List ℕ) (i found : ℕ) (low :
   pub few : found ≤ i
 
 pub found_start : (signs : List Sign) (sizes : List ℕ) → IsFound signs sizes 0 0 true
-found_start signs sizes = record { split = omega (arith, same); few = omega arith }
-  where
-    same : single_valleys_from true (drop 0 signs) (drop 0 sizes) ≡ single_valleys_from true signs sizes
-    same = λ i. single_valleys_from true (drop_none signs i) (drop_none sizes i)
+found_start signs sizes = record { split = omega arith; few = omega arith }
 
 at_place : (low : Bool) (signs : List Sign) (sizes : List ℕ) (i : ℕ) (g : Sign) → i < length signs → length sizes ≡ length signs + 1 → slice_index_or signs i Above ≡ g
     → single_valleys_from low (drop i signs) (drop i sizes) ≡ single_valleys_from low (g ∷ drop (i + 1) signs) (slice_index_or sizes i 0 ∷ drop (i + 1) sizes)
-at_place low signs sizes i g h k e = λ j. single_valleys_from low (here signs i g h e j) (drop_here 0 sizes i (omega (arith, h, k)) j)
+at_place low signs sizes i g h k e = λ j. single_valleys_from low (here signs i g h e j) (drop_more sizes i 0 (omega (arith, h, k)) j)
 
 pub single_few : (low : Bool) (size : ℕ) → single_valley low size ≤ 1
-single_few low size = most (low && nat_eq size 1)
-  where
-    most : (b : Bool) → ◌≤◌ (cond {A = ℕ} b 1 0) 1
-    most true = omega arith
-    most false = omega arith
+single_few low size = at_most_one (low && nat_eq size 1)
 
 module _ (signs : List Sign) (sizes : List ℕ) (i found : ℕ) (low : Bool) (n : ℕ) (next : Bool) (h : i < length signs) (long : length sizes ≡ length signs + 1) where
   pub found_above : slice_index_or signs i Above ≡ Above → n ≡ found + single_valley low (slice_index_or sizes i 0) → next ≡ false → IsFound signs sizes i found low → IsFound signs sizes (i + 1) n next
@@ -74,7 +50,7 @@ pub found_end : (signs : List Sign) (sizes : List ℕ) (i found : ℕ) (low : Bo
 found_end signs sizes i found low e long c = omega (arith, c.split, same, place)
   where
     same : single_valleys_from low (drop i signs) (drop i sizes) ≡ single_valley low (slice_index_or sizes i 0)
-    same = λ j. single_valleys_from low (drop_all signs i (omega (arith, e)) j) ((drop_here 0 sizes i (omega (arith, e, long)) ∙ ap (λ (ss : List ℕ). slice_index_or sizes i 0 ∷ ss) (drop_all sizes (i + 1) (omega (arith, e, long)))) j)
+    same = λ j. single_valleys_from low (drop_all i signs (omega (arith, e)) j) ((drop_more sizes i 0 (omega (arith, e, long)) ∙ ap (λ (ss : List ℕ). slice_index_or sizes i 0 ∷ ss) (drop_all (i + 1) sizes (omega (arith, e, long)))) j)
 
     place : single_valley low (slice_index_or sizes i 0) ≡ single_valley low (slice_index_or sizes (length signs) 0)
     place = λ j. single_valley low (slice_index_or sizes (e j) 0)

@@ -1,6 +1,7 @@
 -- Cuts that hold for all moves of one count whose signs begin alike.
-use Rattle.std.proofs.Common.{Contains, IsTrue, List, None, Option, Some, [], ap, arith, drop, inl, inr, length, nat_lt, refl, slice_get, slice_index_or, subst, suc, sym, take, true, zero, ℕ, ◌++◌, ◌+◌, ◌-◌, ◌<◌, ◌∙◌, ◌∷◌, ◌≡◌, ◌≤◌, ◌⊎◌}
-use Rattle.std.proofs.lemmas.Bool.Decides.{nat_tests}
+use Rattle.std.proofs.Common.{Contains, IsTrue, List, None, Option, Some, [], ap, arith, drop, inl, inr, length, nat_lt, refl, slice_get, slice_index_or, subst, suc, sym, take, zero, ℕ, ◌++◌, ◌+◌, ◌-◌, ◌<◌, ◌∙◌, ◌∷◌, ◌≡◌, ◌≤◌, ◌⊎◌}
+use Rattle.std.proofs.lemmas.List.{take-append-drop}
+use Rattle.std.proofs.Math.Seq.{take-length}
 use Rattle.bk_word.specs.Outline.{IsLegalMove, has_left_wall, open_side, valley_of}
 use Rattle.bk_word.specs.Play.{outline_of}
 use Rattle.bk_word.specs.Word.{Move, Word, order_of}
@@ -8,10 +9,12 @@ use Rattle.bk_word.specs.declared.Class.{Class}
 use Rattle.bk_word.specs.declared.Class.TheVariants.{Perfect}
 use Rattle.bk_word.specs.declared.Sign.{Sign}
 use Rattle.bk_word.specs.declared.Sign.TheVariants.{Above, Even}
+use Rattle.bk_tiling.proofs.ColumnTest.{lt_of}
+use Rattle.bk_lay.proofs.Steps.{get_append}
 use Rattle.bk_walk.proofs.CuttingFirst.{shorter_first_is_barren}
 use Rattle.bk_walk.proofs.CuttingLines.{too_many_lines_is_barren}
 use Rattle.bk_walk.proofs.CuttingPairs.{even_squares_are_barren, one_under_one_is_barren}
-use Rattle.bk_walk.proofs.Fitting.{less_longer, take_drop}
+use Rattle.bk_walk.proofs.Fitting.{less_longer}
 use Rattle.bk_walk.proofs.MoveOrder.{Begins, IsLess, IsShort, begun_before, less_from, less_to, moves_between, next_short, signs_cmp}
 use Rattle.bk_walk.proofs.Places.{move_from_parts, one_legal}
 use Rattle.bk_walk.specs.SingleValleys.{single_valleys, sizes_of}
@@ -29,13 +32,13 @@ front_from k m other from e = cases (less_to other (front_signs k m) e)
   where
     cases : IsLess other (front_signs k m) → ⊥
     cases (inl h) = from (less_from other m (inl h))
-    cases (inr (h, f)) = from (less_from other m (inr (h, ap (signs_cmp other.signs) (take_drop k m.signs) ∙ less_longer other.signs (take k m.signs) (drop k m.signs) f)))
+    cases (inr (h, f)) = from (less_from other m (inr (h, ap (signs_cmp other.signs) (sym (take-append-drop k m.signs)) ∙ less_longer other.signs (take k m.signs) (drop k m.signs) f)))
 
 pub cut_by_front : (n : ℕ) (class : Class) (front : Word) (m : Move) (k : ℕ)
     → ((other : Move) → IsLegalMove (outline_of front) other → other.count ≡ m.count → Begins (take k m.signs) other.signs → IsBarren n class (front ++ other ∷ []))
     → IsCut n class front m (move_after (front_signs k m))
 cut_by_front n class front m k barren = record {
-  up = begun_before (front_signs k m) m refl (record { rest = drop k m.signs; is = take_drop k m.signs });
+  up = begun_before (front_signs k m) m refl (record { rest = drop k m.signs; is = sym (take-append-drop k m.signs) });
   barren = λ other legal from to. let b = moves_between (front_signs k m) other (front_from k m other from) to in barren other legal b.0 b.1;
 }
 
@@ -54,17 +57,8 @@ after_near k m = cases (signs_after (take k m.signs)) (next_short (take k m.sign
 pub near_itself : (m : Move) → IsNear m m
 near_itself m = record { least = omega arith; most = omega arith; signs = omega arith }
 
-take_all : (a : List Sign) → take (length a) a ≡ a
-take_all [] = refl
-take_all (s ∷ a) = ap (λ l. s ∷ l) (take_all a)
-
 pub whole_front : (m : Move) → front_signs (length m.signs) m ≡ m
-whole_front m = move_from_parts (front_signs (length m.signs) m) m refl (take_all m.signs)
-
-get_front : (a rest : List Sign) (i : ℕ) (s : Sign) → slice_get a i ≡ Some s → slice_get (a ++ rest) i ≡ Some s
-get_front [] rest i s e = absurd (cc)
-get_front (t ∷ a) rest zero s e = e
-get_front (t ∷ a) rest (suc i) s e = get_front a rest i s e
+whole_front m = move_from_parts (front_signs (length m.signs) m) m refl (take-length m.signs)
 
 get_take : (k : ℕ) (a : List Sign) (i : ℕ) (s : Sign) → i < k → slice_get a i ≡ Some s → slice_get (take k a) i ≡ Some s
 get_take zero a i s h e = absurd (omega arith)
@@ -98,7 +92,7 @@ even_cut n class front m kept which ends = cut_by_front n class front m kept (λ
         (let low = ends.low in let high = ends.high in omega arith)
         (get_drop (open_side (has_left_wall (outline_of front))) (kept - 1 - open_side (has_left_wall (outline_of front))) other.signs Even
         (subst (λ (i : ℕ). slice_get other.signs i ≡ Some Even) place
-        (subst (λ (l : List Sign). slice_get l (kept - 1) ≡ Some Even) (sym b.is) (get_front (take kept m.signs) b.rest (kept - 1) Even (get_take kept m.signs (kept - 1) Even (let low = ends.low in omega arith) ends.even)))))
+        (subst (λ (l : List Sign). slice_get l (kept - 1) ≡ Some Even) (sym b.is) (get_append (take kept m.signs) b.rest (kept - 1) Even (get_take kept m.signs (kept - 1) Even (let low = ends.low in omega arith) ends.even)))))
       where
         place : kept - 1 ≡ open_side (has_left_wall (outline_of front)) + (kept - 1 - open_side (has_left_wall (outline_of front)))
         place = let low = ends.low in omega arith
@@ -113,7 +107,7 @@ first_cut n class m two signs legal = subst (λ (f : Move). IsCut n class [] m (
     barren other lawful count b = subst (λ (k : Move). IsBarren n class (k ∷ [])) (sym same) (shorter_first_is_barren n class)
       where
         same : other ≡ record { count = 2; signs = Above ∷ [] }
-        same = one_legal (outline_of []) m other legal lawful count (subst (λ (l : List Sign). Begins l other.signs) (take_all m.signs) b) ∙ move_from_parts m (record { count = 2; signs = Above ∷ [] }) two signs
+        same = one_legal (outline_of []) m other legal lawful count (subst (λ (l : List Sign). Begins l other.signs) (take-length m.signs) b) ∙ move_from_parts m (record { count = 2; signs = Above ∷ [] }) two signs
 
 one_sign : (signs : List Sign) → length signs ≡ 1 → slice_index_or signs 0 Above ≡ Above → signs ≡ Above ∷ []
 one_sign [] h e = absurd (omega arith)
@@ -131,7 +125,4 @@ owes_lines n class front left closings least l c many = too_many_lines_is_barren
 
 pub owes_singles : (n : ℕ) (class : Class) (front : Word) (left closings singles : ℕ) → 3 ≤ n → left ≡ n - order_of front → closings ≡ line_bound_of front
     → singles ≡ single_valleys (outline_of front).signs (sizes_of (outline_of front)) → IsTrue (nat_lt (left - closings) singles) → closings ≤ left → IsBarren n class front
-owes_singles n class front left closings singles least l c s many few = too_many_lines_is_barren n class front least (omega (arith, more (left - closings) singles many))
-  where
-    more : (a b : ℕ) → nat_lt a b ≡ true → a < b
-    more a b e = grind (arith, nat_tests)
+owes_singles n class front left closings singles least l c s many few = too_many_lines_is_barren n class front least (omega (arith, lt_of (left - closings) singles many))

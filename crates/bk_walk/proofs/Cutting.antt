@@ -1,6 +1,7 @@
 -- The cuts of a walk: after moves that leave one segment, no member's word goes on; and pairs of equal squares that
 -- are a part.
 use Rattle.std.proofs.Common.{List, [], ap, arith, inl, inr, length, refl, subst, sym, true, ℕ, ◌++◌, ◌+◌, ◌-◌, ◌<◌, ◌∙◌, ◌∷◌, ◌≡◌, ◌≤◌, ◌⊎◌}
+use Rattle.std.proofs.lemmas.Bool.{cases_lt}
 use Rattle.bk_tiling.proofs.Cells.{column_from, column_left, column_right, counted_one, depth_comes_from, depth_reaches, in_all, no_two, over_from}
 use Rattle.bk_tiling.proofs.TilingLaws.{cell_once, side_of, wide_enough, within_of}
 use Rattle.bk_tiling.specs.Column.{AreRuns, covers_column, depth}
@@ -57,11 +58,8 @@ module _ (n : ℕ) (t : Tiling) (front rest : Word) (tiling : IsTiling t) (order
   wide_of : (q : Square) → IsOneOf q t.squares → q.x < t.width
   wide_of q h = let a = (within_of t tiling q h).right in omega (arith, side_of t tiling q h)
 
-  two : (a b : ℕ) → (a < b) ⊎ (b ≤ a)
-  two a b = grind arith
-
   higher : level.0 < t.height
-  higher = cases (two level.0 t.height)
+  higher = cases (cases_lt level.0 t.height)
     where
       cases : (level.0 < t.height) ⊎ (t.height ≤ level.0) → level.0 < t.height
       cases (inl h) = h
@@ -103,7 +101,7 @@ module _ (n : ℕ) (t : Tiling) (front rest : Word) (tiling : IsTiling t) (order
           from (z, k, f, g) = subst (λ (y : Square). (y.x ≤ c) × (c < y.x + y.s)) (only z (subst (IsOneOf z) e k)) (column_left c z f, column_right c z f)
 
   some_laid : 2 ≤ length r.laid
-  some_laid = cases (two 1 (length r.laid))
+  some_laid = cases (cases_lt 1 (length r.laid))
     where
       cases : (1 < length r.laid) ⊎ (length r.laid ≤ 1) → 2 ≤ length r.laid
       cases (inl h) = omega arith

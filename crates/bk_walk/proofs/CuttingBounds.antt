@@ -2,9 +2,10 @@
 use Rattle.std.specs.List.{AllZip}
 use Rattle.std.proofs.Common.{List, [], ap, arith, inl, inr, length, map, refl, subst, sym, true, ℕ, ◌++◌, ◌+◌, ◌<◌, ◌∙◌, ◌∷◌, ◌≡◌, ◌≤◌, ◌⊎◌}
 use Rattle.std.proofs.lemmas.Bool.Decides.{nat_tests}
+use Rattle.std.proofs.lemmas.List.{nil_from_length}
 use Rattle.bk_tiling.proofs.Cells.{covers_from, in_all, no_two}
-use Rattle.bk_tiling.proofs.ListLaws.{append_assoc, append_nil, length_map}
-use Rattle.bk_tiling.proofs.TilingLaws.{cell_once, side_of, wide_enough, within_of}
+use Rattle.bk_tiling.proofs.ListLaws.{append_assoc, append_nil}
+use Rattle.bk_tiling.proofs.TilingLaws.{cell_once, side_of, within_of}
 use Rattle.bk_tiling.specs.Column.{AreRuns}
 use Rattle.bk_tiling.specs.declared.Segment.{Segment}
 use Rattle.bk_tiling.specs.Tiling.{IsOneOf, IsTiling, Tiling, covers}
@@ -13,28 +14,24 @@ use Rattle.bk_word.specs.Outline.{Outline, start, valley_of}
 use Rattle.bk_word.specs.Play.{after_move, outline_of}
 use Rattle.bk_word.specs.Word.{Move, Word, order_of}
 use Rattle.bk_word.specs.declared.Class.{Class}
-use Rattle.bk_lay.proofs.Joining.{length-signs, levels}
 use Rattle.bk_lay.proofs.SquaresOnce.{own_cell, squares_once}
-use Rattle.bk_lay.proofs.Steps.{one_of, zip_length}
+use Rattle.bk_lay.proofs.Steps.{one_of}
 use Rattle.bk_lay.proofs.WordPlay.{fewer, tiling_word_is_complete}
 use Rattle.bk_lay.specs.Depiction.{IsSegment}
-use Rattle.bk_lay.specs.TilingWord.{IsWordOf, signs_between}
+use Rattle.bk_lay.specs.TilingWord.{IsWordOf}
+use Rattle.bk_skel.proofs.Shape.{Shaped}
 use Rattle.bk_walk.proofs.ClosingLaws.{bound_after}
 use Rattle.bk_walk.proofs.CuttingPairs.{one_under_one_is_barren}
 use Rattle.bk_walk.proofs.Parts.{Reached, reached}
-use Rattle.bk_walk.proofs.Potential.{after_moves-append, bound_is_barren, legal_move}
-use Rattle.bk_walk.proofs.SingleLaws.{HasShape, singles_after}
+use Rattle.bk_walk.proofs.Potential.{after_moves-append, bound_is_barren, legal_before, legal_move}
+use Rattle.bk_walk.proofs.SingleLaws.{singles_after}
 use Rattle.bk_walk.specs.Catalogue.{Entry, IsEntry}
 use Rattle.bk_walk.specs.ClosingBound.{TooManyToCloseIsBarren, closing_bound}
 use Rattle.bk_walk.specs.SingleValleys.{TooManySinglesIsBarren, single_valley, single_valleys, sizes_of}
+use Rattle.bk_walk.proofs.BoundsOfWords.{shape_of_word}
 
 pub outline-snoc : (front : Word) (m : Move) → outline_of (front ++ m ∷ []) ≡ after_move (outline_of front) m
 outline-snoc front m = after_moves-append start front (m ∷ [])
-
-no_signs : (runs : List Segment) → length runs ≡ 1 → signs_between (map (λ v. v.level) runs) ≡ []
-no_signs [] e = absurd (omega arith)
-no_signs (v ∷ []) e = refl
-no_signs (v ∷ u ∷ runs) e = absurd (omega arith)
 
 module _ (n : ℕ) (class : Class) (e : Entry) (entry : IsEntry n class e) where
   -- at the end of a member's word one segment is left, so no sign
@@ -45,7 +42,7 @@ module _ (n : ℕ) (class : Class) (e : Entry) (entry : IsEntry n class e) where
   one_left = ((tiling_word_is_complete e.tiling e.word (entry.member).tiling entry.word).0).one
 
   pub no_sign_left : (outline_of e.word).signs ≡ []
-  no_sign_left = let d = (at_end.along).depicts in d.signs ∙ no_signs d.runs (zip_length (IsSegment at_end.laid) d.runs (outline_of e.word).segments d.segments ∙ one_left)
+  no_sign_left = nil_from_length (outline_of e.word).signs (omega (arith, one_left, (shape_of_word e.word ((tiling_word_is_complete e.tiling e.word (entry.member).tiling entry.word).0).legal).many))
 
   pub closing_falls : (front : Word) (m : Move) (rest : Word) → e.word ≡ front ++ m ∷ rest → closing_bound (outline_of front).signs ≤ 1 + closing_bound (outline_of (front ++ m ∷ [])).signs
   closing_falls front m rest word = omega (arith, bound_after (outline_of front) m, ap (λ (o : Outline). closing_bound o.signs) (outline-snoc front m))
@@ -60,10 +57,6 @@ too_many_to_close_is_barren n class front few e rest entry word = close_cut n cl
 
 -- ---- valleys of one square
 
-runs_long : (width : ℕ) (laid : List Square) (runs : List Segment) → 0 < width → AreRuns width laid 0 runs → length runs ≡ length (signs_between (levels runs)) + 1
-runs_long width laid [] wide cut = absurd (omega (arith, cut))
-runs_long width laid (v ∷ runs) wide cut = omega (arith, length-signs v.level (levels runs), length_map (λ (u : Segment). u.level) runs)
-
 -- where one square is as wide as the tiling and ends at the bottom, and the tiling is not higher than wide, it is the only one
 one_square : (t : Tiling) (q : Square) → IsTiling t → t.height ≤ t.width → IsOneOf q t.squares → q.x ≡ 0 → q.s ≡ t.width → length t.squares ≤ 1
 one_square t q tiling wide h x s = omega (arith, fewer t.squares (q ∷ []) (squares_once t tiling) (λ r k. inl (same r k)))
@@ -77,19 +70,8 @@ single_case : (size : ℕ) → ((size ≡ 1) × (single_valley true size ≡ 1))
 single_case size = grind (arith, nat_tests)
 
 module _ (n : ℕ) (class : Class) (e : Entry) (entry : IsEntry n class e) where
-  pub shape_at : (front rest : Word) → e.word ≡ front ++ rest → HasShape (outline_of front)
-  shape_at front rest word = record {
-    long = omega (
-      arith,
-      zip_length (IsSegment r.laid) ((r.along).depicts).runs (outline_of front).segments ((r.along).depicts).segments,
-      runs_long (e.tiling).width r.laid ((r.along).depicts).runs (wide_enough e.tiling (entry.member).tiling) ((r.along).depicts).cut,
-      ap length ((r.along).depicts).signs,
-    );
-    parted = ((r.along).depicts).parted;
-  }
-    where
-      r : Reached e.tiling (outline_of front) rest (order_of front)
-      r = reached e.tiling front rest (entry.member).tiling (subst (IsWordOf e.tiling) word entry.word)
+  pub shape_at : (front rest : Word) → e.word ≡ front ++ rest → Shaped (outline_of front)
+  shape_at front rest word = shape_of_word front (legal_before n class e entry front rest word)
 
   -- the last segment has not just one square
   last_is_none : 2 ≤ n → (segments : List (List ℕ)) → (outline_of e.word).segments ≡ segments → single_valleys [] (map length segments) ≡ 0

@@ -1,27 +1,22 @@
 -- The cut of a walk by how many squares are left, where lines run down between squares of the first move.
 use Rattle.std.specs.List.{list_any}
-use Rattle.std.proofs.Common.{Bool, List, [], ap, arith, cond, false, length, refl, subst, true, ℕ, ◌||◌, ◌++◌, ◌+◌, ◌<◌, ◌∙◌, ◌∷◌, ◌≡◌, ◌≤◌}
-use Rattle.bk_word.specs.Outline.{Outline, start}
-use Rattle.bk_word.specs.Play.{AreLegalFrom, after_move, outline_of}
+use Rattle.std.proofs.Common.{Bool, List, [], ap, arith, cond, false, length, refl, true, ℕ, ◌||◌, ◌++◌, ◌+◌, ◌<◌, ◌∙◌, ◌∷◌, ◌≡◌, ◌≤◌}
+use Rattle.bk_word.specs.Outline.{start}
+use Rattle.bk_word.specs.Play.{after_move, outline_of}
 use Rattle.bk_word.specs.Word.{Move, Word, order_of}
 use Rattle.bk_word.specs.declared.Class.{Class}
-use Rattle.bk_lay.proofs.WordPlay.{tiling_word_is_complete}
 use Rattle.bk_walk.proofs.ClearLines.{clear_word, line_left}
 use Rattle.bk_walk.proofs.VerticalParts.{line_is_compound}
 use Rattle.bk_walk.proofs.CuttingBounds.{no_sign_left, no_single_left, one_left, outline-snoc, shape_at, singles_fall}
 use Rattle.bk_walk.proofs.LineMoves.{line_bound_after, lines-append, lines_long}
-use Rattle.bk_walk.proofs.Potential.{bound_is_barren, legal_move}
+use Rattle.bk_walk.proofs.Potential.{bound_is_barren, legal_before, legal_move}
 use Rattle.bk_walk.specs.Catalogue.{Entry, IsEntry}
 use Rattle.bk_walk.specs.SingleValleys.{single_valleys, sizes_of}
 use Rattle.bk_walk.specs.VerticalCut.{TooManyLinesIsBarren, line_bound, line_bound_of, lines_after, lines_of, on_line, touched}
 
-legal_front : (o : Outline) (front rest : Word) → AreLegalFrom o (front ++ rest) → AreLegalFrom o front
-legal_front o [] rest legal = tt
-legal_front o (m ∷ front) rest legal = (legal.0, legal_front (after_move o m) front rest legal.1)
-
 module _ (n : ℕ) (class : Class) (e : Entry) (entry : IsEntry n class e) where
   lines_as_long : (front rest : Word) → e.word ≡ front ++ rest → length (lines_of front) ≡ length (outline_of front).hung
-  lines_as_long front rest word = lines_long start [] front (legal_front start front rest (subst (AreLegalFrom start) word ((tiling_word_is_complete e.tiling e.word (entry.member).tiling entry.word).0).legal)) refl
+  lines_as_long front rest word = lines_long start [] front (legal_before n class e entry front rest word) refl
 
   lines_fall : (front : Word) (m : Move) (rest : Word) → e.word ≡ front ++ m ∷ rest → line_bound_of front ≤ 1 + line_bound_of (front ++ m ∷ [])
   lines_fall front m rest word = omega (

@@ -4,6 +4,7 @@ use Rattle.std.specs.Prelude.{AllPairs, ◌≢◌}
 use Rattle.std.proofs.Common.{Bool, Contains, List, [], ap, arith, drop, false, inl, inr, length, map, nat_eq, refl, slice_index_or, subst, suc, sym, take, true, zero, ℕ, ◌++◌, ◌+◌, ◌-◌, ◌<◌, ◌∙◌, ◌∷◌, ◌≡◌, ◌≤◌, ◌⊎◌}
 use Rattle.std.proofs.lemmas.Bool.Decides.{nat_tests}
 use Rattle.std.proofs.lemmas.List.Elements.{recursion_from_All}
+use Rattle.std.proofs.lemmas.Bool.{cases_lt}
 use Rattle.bk_tiling.proofs.Cells.{counted_one, covers_from, in_all, over_from}
 use Rattle.bk_tiling.proofs.ListLaws.{append_assoc, length_append, length_map}
 use Rattle.bk_tiling.proofs.Rows.{Chain}
@@ -33,35 +34,17 @@ use Rattle.bk_walk.proofs.Parts.{IsWithinWhole, Reached, reached}
 use Rattle.bk_walk.specs.Catalogue.{Entry, IsEntry, IsOfClass}
 use Rattle.bk_walk.specs.Cuts.{EvenSquaresAreBarren, OneUnderOneIsBarren, own_signs}
 
-two : (a b : ℕ) → (a < b) ⊎ (b ≤ a)
-two a b = grind arith
-
 -- the signs between the bottoms of the new squares, cut out of the move's signs
 take_signs : (bs ds : List ℕ) → take (length bs - 1) (signs_between (bs ++ ds)) ≡ signs_between bs
-take_signs [] ds = none (signs_between ds)
+take_signs [] ds = λ i. take (same i) (signs_between ds)
   where
-    none : (ss : List Sign) → take (0 - 1) ss ≡ []
-    none ss = (λ i. take (same i) ss) ∙ nil ss
-      where
-        same : 0 - 1 ≡ 0
-        same = omega arith
-
-        nil : (ss : List Sign) → take 0 ss ≡ []
-        nil [] = refl
-        nil (s ∷ ss) = refl
-take_signs (b ∷ []) ds = none (signs_between (b ∷ ds))
-  where
-    none : (ss : List Sign) → take (1 - 1) ss ≡ []
-    none [] = refl
-    none (s ∷ ss) = refl
+    same : 0 - 1 ≡ 0
+    same = omega arith
+take_signs (b ∷ []) ds = refl
 take_signs (b ∷ c ∷ bs) ds = (λ i. take (same i) (sign_between b c ∷ signs_between ((c ∷ bs) ++ ds))) ∙ ap (λ (ss : List Sign). sign_between b c ∷ ss) (take_signs (c ∷ bs) ds)
   where
     same : suc (suc (length bs)) - 1 ≡ suc (length (c ∷ bs) - 1)
     same = omega arith
-
-drop_none : (ss : List Sign) → drop 0 ss ≡ ss
-drop_none [] = refl
-drop_none (s ∷ ss) = refl
 
 pub own_signs_are : (t : Tiling) (laid : List Square) (nodes : List Segment) (o : Outline) (v : Segment) → IsTiling t → Depicts t laid nodes o → IsLeftmostValley t.width laid v → 0 < length (squares_under t v)
     → own_signs o (move_under t laid v) ≡ signs_between (map (λ q. q.y + q.s) (squares_under t v))
@@ -96,11 +79,10 @@ own_signs_are t laid nodes o v tiling d found some = cases (subst (λ (w : Segme
 
     first : (l : ℕ) (bs ds : List ℕ) → 0 < length bs → drop 1 (signs_between ((l ∷ bs) ++ ds)) ≡ signs_between (bs ++ ds)
     first l [] ds h = absurd (omega arith)
-    first l (b ∷ bs) ds h = drop_none (signs_between ((b ∷ bs) ++ ds))
+    first l (b ∷ bs) ds h = refl
 
     cases : ((p.before ≡ []) × (v.x ≡ 0)) ⊎ HasLast laid v.x p.before → own_signs o (move_under t laid v) ≡ signs_between (map (λ q. q.y + q.s) (squares_under t v))
     cases (inl (none, at)) = by true [] (zeroth (valley_place o.signs) (number ∙ ap length none)) (ap (depth_before laid) at)
-        ∙ ap (take (length (map (λ q. q.y + q.s) (squares_under t v)) - 1)) (drop_none (signs_between (map (λ q. q.y + q.s) (squares_under t v) ++ depth_from t.width laid (v.x + v.width))))
         ∙ take_signs (map (λ q. q.y + q.s) (squares_under t v)) (depth_from t.width laid (v.x + v.width))
     cases (inr h) = by false ((h.last).level ∷ []) (later (valley_place o.signs) (omega (arith, number, ap length h.is, length_append h.front (h.last ∷ [])))) h.level
         ∙ ap (take (length (map (λ q. q.y + q.s) (squares_under t v)) - 1)) (first (h.last).level (map (λ q. q.y + q.s) (squares_under t v)) (depth_from t.width laid (v.x + v.width)) (omega (arith, some, length_map (λ q. q.y + q.s) (squares_under t v))))
@@ -154,21 +136,16 @@ distinct_sides (q ∷ squares) d = (
     sides [] h = tt
     sides (r ∷ rest) h = ((λ e. h.0 (sym e)), sides rest h.1)
 
+differs : (r : Square) (squares : List Square) → AllByRecursion (λ m. m ≡ r.s → ⊥) (map (λ q. q.s) squares) → (q : Square) → IsOneOf q squares → q.s ≡ r.s → ⊥
+differs r [] all q h e = h
+differs r (s ∷ squares) all q (inl h) e = all.0 (sym (ap (λ (s : Square). s.s) h) ∙ e)
+differs r (s ∷ squares) all q (inr h) e = differs r squares all.1 q h e
+
 same_side : (squares : List Square) → AreDistinct (map (λ q. q.s) squares) → (p q : Square) → IsOneOf p squares → IsOneOf q squares → p.s ≡ q.s → p ≡ q
 same_side [] d p q a b e = absurd a
 same_side (r ∷ squares) d p q (inl a) (inl b) e = a ∙ sym b
-same_side (r ∷ squares) d p q (inl a) (inr b) e = absurd (differs squares d.0 q b (sym e ∙ ap (λ (s : Square). s.s) a))
-  where
-    differs : (squares : List Square) → AllByRecursion (λ m. m ≡ r.s → ⊥) (map (λ q. q.s) squares) → (q : Square) → IsOneOf q squares → q.s ≡ r.s → ⊥
-    differs [] all q h e = h
-    differs (s ∷ squares) all q (inl h) e = all.0 (sym (ap (λ (s : Square). s.s) h) ∙ e)
-    differs (s ∷ squares) all q (inr h) e = differs squares all.1 q h e
-same_side (r ∷ squares) d p q (inr a) (inl b) e = absurd (differs squares d.0 p a (e ∙ ap (λ (s : Square). s.s) b))
-  where
-    differs : (squares : List Square) → AllByRecursion (λ m. m ≡ r.s → ⊥) (map (λ q. q.s) squares) → (q : Square) → IsOneOf q squares → q.s ≡ r.s → ⊥
-    differs [] all q h e = h
-    differs (s ∷ squares) all q (inl h) e = all.0 (sym (ap (λ (s : Square). s.s) h) ∙ e)
-    differs (s ∷ squares) all q (inr h) e = differs squares all.1 q h e
+same_side (r ∷ squares) d p q (inl a) (inr b) e = absurd (differs r squares d.0 q b (sym e ∙ ap (λ (s : Square). s.s) a))
+same_side (r ∷ squares) d p q (inr a) (inl b) e = absurd (differs r squares d.0 p a (e ∙ ap (λ (s : Square). s.s) b))
 same_side (r ∷ squares) d p q (inr a) (inr b) e = same_side squares d.1 p q a b e
 
 side_by_side : (t : Tiling) (p q : Square) → IsTiling t → IsOneOf p t.squares → IsOneOf q t.squares → p.x + p.s ≡ q.x → p.y ≡ q.y → p.s ≡ q.s → 3 ≤ length t.squares → IsCompound t
@@ -176,7 +153,7 @@ side_by_side t p q tiling a b beside level equal many = pair_is_part t tiling (r
     (record { right = let w = (within_of t tiling q b).right in omega arith; bottom = let w = (within_of t tiling p a).bottom in omega arith })
     p q a b (λ e. omega (arith, beside, side_of t tiling p a, ap (λ (s : Square). s.x) e))
     (record { left = omega arith; right = omega arith; top = omega arith; bottom = omega arith }) (record { left = omega arith; right = omega arith; top = omega arith; bottom = omega arith })
-    (λ i j a b c d. cases i j a b c d (two i (p.x + p.s))) many
+    (λ i j a b c d. cases i j a b c d (cases_lt i (p.x + p.s))) many
   where
     cases : (i j : ℕ) → p.x ≤ i → i < p.x + (p.s + q.s) → p.y ≤ j → j < p.y + p.s → (i < p.x + p.s) ⊎ (p.x + p.s ≤ i) → (covers i j p ≡ true) ⊎ (covers i j q ≡ true)
     cases i j a b c d (inl h) = inl (covers_from i j p a h c d)
@@ -224,7 +201,7 @@ pub even_squares_are_barren : EvenSquaresAreBarren
 even_squares_are_barren n class front m either even e rest entry word = even_cut n class front m either even e rest entry (word ∙ append_assoc front (m ∷ []) rest)
 
 one_below : (t : Tiling) (p q : Square) → IsTiling t → IsOneOf p t.squares → IsOneOf q t.squares → p.x ≡ q.x → p.y + p.s ≡ q.y → p.s ≡ q.s → (IsCompound t → ⊥) → t.height ≤ t.width → ⊥
-one_below t p q tiling a b column below equal simple wide = cases (two p.s t.width)
+one_below t p q tiling a b column below equal simple wide = cases (cases_lt p.s t.width)
   where
     r : Rectangle
     r = record { x = p.x; y = p.y; width = p.s; height = p.s + q.s }
@@ -236,7 +213,7 @@ one_below t p q tiling a b column below equal simple wide = cases (two p.s t.wid
     apart e = omega (arith, below, side_of t tiling p a, ap (λ (s : Square). s.y) e)
 
     fill : (i j : ℕ) → p.x ≤ i → i < p.x + p.s → p.y ≤ j → j < p.y + (p.s + q.s) → (covers i j p ≡ true) ⊎ (covers i j q ≡ true)
-    fill i j c d e f = by (two j (p.y + p.s))
+    fill i j c d e f = by (cases_lt j (p.y + p.s))
       where
         by : (j < p.y + p.s) ⊎ (p.y + p.s ≤ j) → (covers i j p ≡ true) ⊎ (covers i j q ≡ true)
         by (inl h) = inl (covers_from i j p c d e h)
@@ -265,7 +242,7 @@ one_below t p q tiling a b column below equal simple wide = cases (two p.s t.wid
 
     cases : (p.s < t.width) ⊎ (t.width ≤ p.s) → ⊥
     cases (inr h) = let w = (within_of t tiling q b).bottom in omega (arith, side_of t tiling q b)
-    cases (inl h) = at (two 0 p.x)
+    cases (inl h) = at (cases_lt 0 p.x)
       where
         at : (0 < p.x) ⊎ (p.x ≤ 0) → ⊥
         at (inl k) = simple (third 0 (omega arith) (λ l. absurd (omega arith)))

@@ -1,9 +1,9 @@
 -- The least legal move that is not before a given one.
 use Rattle.std.specs.declared.cmp.Ordering.TheVariants.{Less}
-use Rattle.std.proofs.Common.{Bool, List, None, Option, Some, [], ap, arith, cond, drop, false, inl, inr, length, nat_lt, refl, replicate, suc, take, true, zero, ℕ, ◌++◌, ◌+◌, ◌-◌, ◌<◌, ◌∙◌, ◌∷◌, ◌≡◌, ◌≤◌}
+use Rattle.std.proofs.Common.{Bool, List, None, Option, Some, [], ap, arith, cond, drop, false, inl, inr, length, nat_lt, refl, replicate, suc, sym, take, true, zero, ℕ, ◌++◌, ◌+◌, ◌-◌, ◌<◌, ◌∙◌, ◌∷◌, ◌≡◌, ◌≤◌}
 use Rattle.std.proofs.lemmas.Bool.Decides.{nat_tests}
-use Rattle.std.proofs.lemmas.List.{length-replicate}
-use Rattle.bk_tiling.proofs.ListLaws.{length_append}
+use Rattle.std.proofs.lemmas.List.{length-replicate, length-take-le, take-append-drop}
+use Rattle.bk_tiling.proofs.ListLaws.{append_nil, length_append}
 use Rattle.bk_word.specs.Word.{Move, move_cmp}
 use Rattle.bk_word.specs.declared.Sign.{Sign}
 use Rattle.bk_word.specs.declared.Sign.TheVariants.{Above, Even, Under}
@@ -100,26 +100,16 @@ padded_least sides m other h shape from e = cases (less_to other (padded sides m
 abbrev front_of : ℕ → Move → Move
 front_of sides m = record { count = m.count; signs = take (signs_wanted sides m.count) m.signs }
 
-pub take_drop : (k : ℕ) (a : List Sign) → a ≡ take k a ++ drop k a
-take_drop zero a = refl
-take_drop (suc k) [] = refl
-take_drop (suc k) (s ∷ a) = ap (λ l. s ∷ l) (take_drop k a)
-
-take_long : (k : ℕ) (a : List Sign) → k ≤ length a → length (take k a) ≡ k
-take_long zero a h = refl
-take_long (suc k) [] h = absurd (omega arith)
-take_long (suc k) (s ∷ a) h = ap suc (take_long k a (omega arith))
-
 -- more signs than are wanted
 module _ (sides : ℕ) (m : Move) (some : 0 < m.count) (many : signs_wanted sides m.count < length m.signs) where
   k : ℕ
   k = signs_wanted sides m.count
 
   fits : length (take (signs_wanted sides m.count) m.signs) ≡ signs_wanted sides m.count
-  fits = take_long (signs_wanted sides m.count) m.signs (omega arith)
+  fits = length-take-le (signs_wanted sides m.count) m.signs (omega arith)
 
   cut_after : move_cmp m (move_after (front_of sides m)) ≡ Less
-  cut_after = begun_before (front_of sides m) m refl (record { rest = drop (signs_wanted sides m.count) m.signs; is = take_drop (signs_wanted sides m.count) m.signs })
+  cut_after = begun_before (front_of sides m) m refl (record { rest = drop (signs_wanted sides m.count) m.signs; is = sym (take-append-drop (signs_wanted sides m.count) m.signs) })
 
   cut_short : IsShortMove sides (move_after (front_of sides m))
   cut_short = cases (signs_after (take (signs_wanted sides m.count) m.signs)) (next_short (take (signs_wanted sides m.count) m.signs))
@@ -129,10 +119,10 @@ module _ (sides : ℕ) (m : Move) (some : 0 < m.count) (many : signs_wanted side
       cases (Some next) h = record { some = some; few = omega (arith, fits) }
 
   front_less : (b : List Sign) → signs_cmp b (take (signs_wanted sides m.count) m.signs) ≡ Less → signs_cmp b m.signs ≡ Less
-  front_less b e = ap (signs_cmp b) (take_drop (signs_wanted sides m.count) m.signs) ∙ less_longer b (take (signs_wanted sides m.count) m.signs) (drop (signs_wanted sides m.count) m.signs) e
+  front_less b e = ap (signs_cmp b) (sym (take-append-drop (signs_wanted sides m.count) m.signs)) ∙ less_longer b (take (signs_wanted sides m.count) m.signs) (drop (signs_wanted sides m.count) m.signs) e
 
   front_is_less : signs_cmp (take (signs_wanted sides m.count) m.signs) m.signs ≡ Less
-  front_is_less = cases (drop (signs_wanted sides m.count) m.signs) (take_drop (signs_wanted sides m.count) m.signs)
+  front_is_less = cases (drop (signs_wanted sides m.count) m.signs) (sym (take-append-drop (signs_wanted sides m.count) m.signs))
     where
       cases : (rest : List Sign) → m.signs ≡ take (signs_wanted sides m.count) m.signs ++ rest → signs_cmp (take (signs_wanted sides m.count) m.signs) m.signs ≡ Less
       cases [] e = absurd (omega (arith, ap length e, length_append (take (signs_wanted sides m.count) m.signs) [], fits))
@@ -142,11 +132,7 @@ module _ (sides : ℕ) (m : Move) (some : 0 < m.count) (many : signs_wanted side
   front_only other shape from (e, b) = cases b.rest b.is
     where
       cases : (rest : List Sign) → other.signs ≡ take (signs_wanted sides m.count) m.signs ++ rest → ⊥
-      cases [] f = from (less_from other m (inr (e, ap (λ l. signs_cmp l m.signs) (f ∙ same (take (signs_wanted sides m.count) m.signs)) ∙ front_is_less)))
-        where
-          same : (a : List Sign) → a ++ [] ≡ a
-          same [] = refl
-          same (s ∷ a) = ap (λ l. s ∷ l) (same a)
+      cases [] f = from (less_from other m (inr (e, ap (λ l. signs_cmp l m.signs) (f ∙ append_nil (take (signs_wanted sides m.count) m.signs)) ∙ front_is_less)))
       cases (s ∷ rest) f = let w = ap (signs_wanted sides) e in omega (arith, ap length f, length_append (take (signs_wanted sides m.count) m.signs) (s ∷ rest), fits, shape.long)
 
   front_from : (other : Move) → IsMoveFrom m other → IsMoveFrom (front_of sides m) other

@@ -1,7 +1,8 @@
 -- Each tiling has a canonical tiling: one of its images in lowest terms that lie is the greatest.
 use Rattle.std.specs.Cmp.Lexicographic.{slice_cmp}
 use Rattle.std.specs.Ordering.{is_le, nat_cmp}
-use Rattle.std.proofs.Common.{arith, false, get_or, inl, inr, refl, subst, suc, true, zero, ℕ, ◌+◌, ◌<◌, ◌≡◌, ◌≤◌, ◌⊎◌}
+use Rattle.std.proofs.Common.{arith, false, get_or, inl, inr, refl, subst, suc, true, zero, ℕ, ◌+◌, ◌<◌, ◌≡◌, ◌⊎◌}
+use Rattle.std.proofs.lemmas.Bool.{cases_lt}
 use Rattle.bk_code.specs.Code.{code_of, flat}
 use Rattle.bk_tiling.proofs.Cells.{not_both, true_or_false}
 use Rattle.bk_tiling.specs.Tiling.{IsTiling, Tiling}
@@ -11,9 +12,6 @@ use Rattle.bk_sym.specs.Canonical.{IsAtMost, IsCanonicalOf, Lies, scaled_down_ti
 use Rattle.bk_sym.specs.Image.{image}
 use Rattle.bk_sym.specs.declared.Turn.{Turn}
 use Rattle.bk_sym.specs.declared.Turn.TheVariants.{Same, Swap}
-
-two : (a b : ℕ) → (a ≤ b) ⊎ (b < a)
-two a b = grind arith
 
 at_most_or : (t u : Tiling) → IsAtMost t u ⊎ (IsAtMost t u → ⊥)
 at_most_or t u = cases (true_or_false (is_le (slice_cmp nat_cmp (flat (code_of t)) (flat (code_of u)))))
@@ -25,13 +23,13 @@ at_most_or t u = cases (true_or_false (is_le (slice_cmp nat_cmp (flat (code_of t
 module _ (s : Tiling) (first : Turn) (lies : Lies (image first s)) where
   -- the greatest of the first image and of those by k other turns
   one_more : (k : ℕ) → (c : Tiling) × IsGreatestSoFar s first others k c → (c : Tiling) × IsGreatestSoFar s first others (k + 1) c
-  one_more k (c, far) = cases (two (image (get_or others k Same) s).height (image (get_or others k Same) s).width) (at_most_or (image (get_or others k Same) s) c)
+  one_more k (c, far) = cases (cases_lt (image (get_or others k Same) s).width (image (get_or others k Same) s).height) (at_most_or (image (get_or others k Same) s) c)
     where
-      cases : Lies (image (get_or others k Same) s) ⊎ ((image (get_or others k Same) s).width < (image (get_or others k Same) s).height) → IsAtMost (image (get_or others k Same) s) c ⊎ (IsAtMost (image (get_or others k Same) s) c → ⊥)
+      cases : ((image (get_or others k Same) s).width < (image (get_or others k Same) s).height) ⊎ Lies (image (get_or others k Same) s) → IsAtMost (image (get_or others k Same) s) c ⊎ (IsAtMost (image (get_or others k Same) s) c → ⊥)
           → (c : Tiling) × IsGreatestSoFar s first others (k + 1) c
       cases a (inl most) = (c, so_far-same s first others k c c far (λ _. most) refl)
-      cases (inr stands) (inr later) = (c, so_far-same s first others k c c far (λ h. absurd (omega (arith, h, stands))) refl)
-      cases (inl lying) (inr later) = (
+      cases (inl stands) (inr later) = (c, so_far-same s first others k c c far (λ h. absurd (omega (arith, h, stands))) refl)
+      cases (inr lying) (inr later) = (
         image (get_or others k Same) s,
         so_far-more s first others k c (image (get_or others k Same) s) (image (get_or others k Same) s) far refl lying (inr refl)
             (at_most-total (image (get_or others k Same) s) c later) (at_most-refl (image (get_or others k Same) s)),
@@ -42,7 +40,7 @@ module _ (s : Tiling) (first : Turn) (lies : Lies (image first s)) where
   greatest (suc k) = let more = one_more k (greatest k) in (more.0, subst (λ (n : ℕ). IsGreatestSoFar s first others n more.0) (omega arith) more.1)
 
 pub every_tiling_has_a_canonical : (t : Tiling) → IsTiling t → (c : Tiling) × IsCanonicalOf t c
-every_tiling_has_a_canonical t tiling = cases (two (scaled_down_tiling t).height (scaled_down_tiling t).width)
+every_tiling_has_a_canonical t tiling = cases (cases_lt (scaled_down_tiling t).width (scaled_down_tiling t).height)
   where
     small : IsTiling (scaled_down_tiling t)
     small = scaled_is_tiling t tiling
@@ -51,6 +49,6 @@ every_tiling_has_a_canonical t tiling = cases (two (scaled_down_tiling t).height
     from first lies unturned = let found = greatest (scaled_down_tiling t) first lies 7 in
         (found.0, canonical_from t (scaled_down_tiling t) found.0 first small refl unturned found.1)
 
-    cases : Lies (scaled_down_tiling t) ⊎ ((scaled_down_tiling t).width < (scaled_down_tiling t).height) → (c : Tiling) × IsCanonicalOf t c
-    cases (inl lies) = from Same lies (λ _. refl)
-    cases (inr stands) = from Swap (omega (arith, stands)) (λ lies. absurd (omega (arith, lies, stands)))
+    cases : ((scaled_down_tiling t).width < (scaled_down_tiling t).height) ⊎ Lies (scaled_down_tiling t) → (c : Tiling) × IsCanonicalOf t c
+    cases (inr lies) = from Same lies (λ _. refl)
+    cases (inl stands) = from Swap (omega (arith, stands)) (λ lies. absurd (omega (arith, lies, stands)))

@@ -1,11 +1,11 @@
 -- What a pass over the open segments has counted up to a place, with the lines that touch them.
 use Rattle.std.specs.List.{list_any, sum}
-use Rattle.std.proofs.Common.{Bool, List, [], ap, arith, cond, drop, false, length, max, refl, slice_index_or, suc, sym, take, true, zero, ℕ, ◌||◌, ◌+◌, ◌<◌, ◌∙◌, ◌∷◌, ◌≡◌, ◌≤◌}
+use Rattle.std.proofs.Common.{Bool, List, [], ap, arith, cond, drop, false, length, max, refl, slice_index_or, sym, take, ℕ, ◌||◌, ◌+◌, ◌<◌, ◌∙◌, ◌∷◌, ◌≡◌, ◌≤◌}
 use Rattle.std.proofs.lemmas.List.Sums.{sum_by-cons}
+use Rattle.std.proofs.lemmas.List.{drop-drop, drop_all, drop_more}
 use Rattle.bk_word.specs.declared.Sign.{Sign}
 use Rattle.bk_word.specs.declared.Sign.TheVariants.{Above, Even, Under}
-use Rattle.bk_walk.proofs.ClosingLaws.{unders, unders-cons}
-use Rattle.bk_walk.proofs.CountingLaws.{drop_all, drop_here}
+use Rattle.bk_walk.proofs.ClosingLaws.{at_most_one, unders, unders-cons}
 use Rattle.bk_walk.proofs.LineLaws.{bound_unders}
 use Rattle.bk_walk.specs.ClosingBound.{is_above, is_under}
 use Rattle.bk_walk.specs.VerticalCut.{begins_on_line, line_bound, next_on_line, on_line, segments_of, touched}
@@ -17,55 +17,28 @@ pub record IsLined (signs : List Sign) (sizes ends : List ℕ) (lines : List Boo
   pub few : aboves ≤ i
   pub low : most ≤ i + 1
 
-pub drop_none : {A : Type 0} (xs : List A) → drop 0 xs ≡ xs
-drop_none [] = refl
-drop_none (x ∷ xs) = refl
-
-pub drop_more : {A : Type 0} (xs : List A) (i j : ℕ) → drop j (drop i xs) ≡ drop (i + j) xs
-drop_more [] i j = nothing j (drop i []) (empty i) ∙ sym (empty (i + j))
-  where
-    empty : {A : Type 0} (k : ℕ) → drop {A = A} k [] ≡ []
-    empty zero = refl
-    empty (suc k) = refl
-
-    nothing : {A : Type 0} (j : ℕ) (ys : List A) → ys ≡ [] → drop j ys ≡ []
-    nothing zero ys e = drop_none ys ∙ e
-    nothing (suc j) [] e = refl
-    nothing (suc j) (y ∷ ys) e = absurd (cc)
-drop_more (x ∷ xs) zero j = λ i. drop (same i) (x ∷ xs)
-  where
-    same : j ≡ 0 + j
-    same = omega arith
-drop_more (x ∷ xs) (suc i) j = drop_more xs i j ∙ (λ k. drop (same k) (x ∷ xs))
-  where
-    same : suc (i + j) ≡ suc i + j
-    same = omega arith
-
 pub sum-cons : (n : ℕ) (ns : List ℕ) → sum (n ∷ ns) ≡ n + sum ns
 sum-cons n ns = sum_by-cons (λ x. x) n ns
 
 module _ (signs : List Sign) (sizes ends : List ℕ) (lines : List Bool) (long : length sizes ≡ length signs + 1) where
   pub lined_start : sum sizes ≤ length ends → IsLined signs sizes ends lines 0 0 0 0
   lined_start enough = record {
-    split = omega (arith, few sizes long, ap unders (drop_none signs), same);
-    within = omega (arith, enough, ap sum (drop_none sizes));
+    split = omega (arith, few sizes long);
+    within = omega (arith, enough);
     few = omega arith;
     low = omega arith;
   }
     where
-      same : line_bound (drop 0 signs) (touched lines (segments_of (drop 0 sizes) (drop 0 ends))) ≡ line_bound signs (touched lines (segments_of sizes ends))
-      same = λ i. line_bound (drop_none signs i) (touched lines (segments_of (drop_none sizes i) (drop_none ends i)))
-
       few : (sizes : List ℕ) → length sizes ≡ length signs + 1 → unders signs ≤ line_bound signs (touched lines (segments_of sizes ends))
       few [] e = absurd (omega arith)
       few (n ∷ sizes) e = bound_unders lines signs (take n ends) (segments_of sizes (drop n ends))
 
   module _ (i start : ℕ) (h : i < length signs) where
     sizes_here : drop i sizes ≡ slice_index_or sizes i 0 ∷ drop (i + 1) sizes
-    sizes_here = drop_here 0 sizes i (omega (arith, h, long))
+    sizes_here = drop_more sizes i 0 (omega (arith, h, long))
 
     sizes_next : drop (i + 1) sizes ≡ slice_index_or sizes (i + 1) 0 ∷ drop (i + 1 + 1) sizes
-    sizes_next = drop_here 0 sizes (i + 1) (omega (arith, h, long))
+    sizes_next = drop_more sizes (i + 1) 0 (omega (arith, h, long))
 
     -- both segments lie within the squares
     pub two_within : (most aboves : ℕ) → IsLined signs sizes ends lines i start most aboves → start + slice_index_or sizes i 0 + slice_index_or sizes (i + 1) 0 ≤ length ends
@@ -85,25 +58,21 @@ module _ (signs : List Sign) (sizes ends : List ℕ) (lines : List Bool) (long :
     behind = segments_of (drop (i + 1) sizes) (drop (start + slice_index_or sizes i 0) ends)
 
     first_behind : next_on_line lines (segments_of (drop (i + 1) sizes) (drop (slice_index_or sizes i 0) (drop start ends))) ≡ begins_on_line lines (take (slice_index_or sizes (i + 1) 0) (drop (start + slice_index_or sizes i 0) ends))
-    first_behind = λ j. next_on_line lines (segments_of (sizes_next j) (drop_more ends start (slice_index_or sizes i 0) j))
+    first_behind = λ j. next_on_line lines (segments_of (sizes_next j) (drop-drop (slice_index_or sizes i 0) start ends j))
 
     marks_here : touched lines (segments_of (drop i sizes) (drop start ends)) ≡ mark ∷ touched lines (segments_of (drop (i + 1) sizes) (drop (start + slice_index_or sizes i 0) ends))
     marks_here = (λ j. touched lines (segments_of (sizes_here j) (drop start ends)))
-        ∙ (λ j. (list_any (on_line lines) (take (slice_index_or sizes i 0) (drop start ends)) || first_behind j) ∷ touched lines (segments_of (drop (i + 1) sizes) (drop_more ends start (slice_index_or sizes i 0) j)))
+        ∙ (λ j. (list_any (on_line lines) (take (slice_index_or sizes i 0) (drop start ends)) || first_behind j) ∷ touched lines (segments_of (drop (i + 1) sizes) (drop-drop (slice_index_or sizes i 0) start ends j)))
 
     split_here : (g : Sign) → slice_index_or signs i Above ≡ g → line_bound (drop i signs) (touched lines (segments_of (drop i sizes) (drop start ends)))
         ≡ max (unders (g ∷ drop (i + 1) signs) + cond {A = ℕ} mark 1 0) (cond {A = ℕ} (is_above g) 1 0 + line_bound (drop (i + 1) signs) (touched lines (segments_of (drop (i + 1) sizes) (drop (start + slice_index_or sizes i 0) ends))))
-    split_here g e = λ j. line_bound ((drop_here Above signs i h ∙ ap (λ (s : Sign). s ∷ drop (i + 1) signs) e) j) (marks_here j)
+    split_here g e = λ j. line_bound ((drop_more signs i Above h ∙ ap (λ (s : Sign). s ∷ drop (i + 1) signs) e) j) (marks_here j)
 
     unders_here : (g : Sign) → slice_index_or signs i Above ≡ g → unders (drop i signs) ≡ unders (g ∷ drop (i + 1) signs)
-    unders_here g e = ap unders (drop_here Above signs i h ∙ ap (λ (s : Sign). s ∷ drop (i + 1) signs) e)
+    unders_here g e = ap unders (drop_more signs i Above h ∙ ap (λ (s : Sign). s ∷ drop (i + 1) signs) e)
 
     one : cond {A = ℕ} mark 1 0 ≤ 1
-    one = most mark
-      where
-        most : (b : Bool) → ◌≤◌ (cond {A = ℕ} b 1 0) 1
-        most true = omega arith
-        most false = omega arith
+    one = at_most_one mark
 
     -- the greatest number so far with this segment, and what is counted behind it
     module _ (most aboves m here a s : ℕ) (c : IsLined signs sizes ends lines i start most aboves) (more : here ≡ max most (aboves + cond {A = ℕ} mark 1 0)) (next : s ≡ start + slice_index_or sizes i 0) where
@@ -129,7 +98,7 @@ module _ (signs : List Sign) (sizes ends : List ℕ) (lines : List Bool) (long :
 
   module _ (i start most aboves : ℕ) (e : i ≡ length signs) (c : IsLined signs sizes ends lines i start most aboves) where
     last : drop i sizes ≡ slice_index_or sizes i 0 ∷ []
-    last = drop_here 0 sizes i (omega (arith, e, long)) ∙ ap (λ (ns : List ℕ). slice_index_or sizes i 0 ∷ ns) (drop_all sizes (i + 1) (omega (arith, e, long)))
+    last = drop_more sizes i 0 (omega (arith, e, long)) ∙ ap (λ (ns : List ℕ). slice_index_or sizes i 0 ∷ ns) (drop_all (i + 1) sizes (omega (arith, e, long)))
 
     size_is : slice_index_or sizes i 0 ≡ slice_index_or sizes (length signs) 0
     size_is = λ j. slice_index_or sizes (e j) 0
@@ -143,10 +112,10 @@ module _ (signs : List Sign) (sizes ends : List ℕ) (lines : List Bool) (long :
 
     pub lined_end : (result one : ℕ) → one ≡ cond (list_any (on_line lines) (take (slice_index_or sizes (length signs) 0) (drop start ends)) || begins_on_line lines (take 0 (drop (start + slice_index_or sizes (length signs) 0) ends))) 1 0
         → result ≡ max most (aboves + one) → result ≡ line_bound signs (touched lines (segments_of sizes ends))
-    lined_end result one is at = omega (arith, at, is, c.split, ap unders (drop_all signs i (omega (arith, e))), same, place)
+    lined_end result one is at = omega (arith, at, is, c.split, ap unders (drop_all i signs (omega (arith, e))), same, place)
       where
         same : line_bound (drop i signs) (touched lines (segments_of (drop i sizes) (drop start ends))) ≡ cond {A = ℕ} (list_any (on_line lines) (take (slice_index_or sizes i 0) (drop start ends)) || false) 1 0
-        same = λ j. line_bound (drop_all signs i (omega (arith, e)) j) (touched lines (segments_of (last j) (drop start ends)))
+        same = λ j. line_bound (drop_all i signs (omega (arith, e)) j) (touched lines (segments_of (last j) (drop start ends)))
 
         place : ◌≡◌ {A = ℕ} (cond {A = ℕ} (list_any (on_line lines) (take (slice_index_or sizes i 0) (drop start ends)) || false) 1 0)
             (cond {A = ℕ} (list_any (on_line lines) (take (slice_index_or sizes (length signs) 0) (drop start ends)) || begins_on_line lines (take 0 (drop (start + slice_index_or sizes (length signs) 0) ends))) 1 0)

@@ -2,24 +2,17 @@
 use Rattle.std.specs.List.{list_any}
 use Rattle.std.proofs.Common.{Bool, List, [], ap, arith, cond, drop, false, filter, inl, inr, length, refl, slice_index_or, suc, take, true, zero, ℕ, ◌||◌, ◌++◌, ◌+◌, ◌<◌, ◌∷◌, ◌≡◌, ◌≤◌, ◌⊎◌}
 use Rattle.std.proofs.lemmas.List.Sums.{sum_by-take-drop}
+use Rattle.std.proofs.lemmas.Bool.{cases_lt, or_left, or_right}
 use Rattle.bk_word.specs.Play.{before_first_list, joined, parts}
 use Rattle.bk_word.specs.declared.Sign.{Sign}
 use Rattle.bk_word.specs.declared.Sign.TheVariants.{Above, Even, Under}
-use Rattle.bk_walk.proofs.ClosingLaws.{closings-first, closings-next, unders, unders-append, unders-cons, unders-parts}
+use Rattle.bk_walk.proofs.ClosingLaws.{at_most_one, closings-first, closings-next, unders, unders-append, unders-cons, unders-parts}
 use Rattle.bk_walk.specs.ClosingBound.{closings, is_above, is_under}
 use Rattle.bk_walk.specs.VerticalCut.{IsMostMarked, TheLineBoundIsMost, begins_on_line, line_bound, next_on_line, on_line, touched}
 
 -- the bound of segments
 abbrev pub bound : List Bool → List Sign → List (List ℕ) → ℕ
 bound lines signs segments = line_bound signs (touched lines segments)
-
-or_left : (a b : Bool) → a ≡ true → (a || b) ≡ true
-or_left true b e = refl
-or_left false b e = absurd (cc)
-
-or_right : (a b : Bool) → b ≡ true → (a || b) ≡ true
-or_right true b e = refl
-or_right false b e = e
 
 or_more : (a b c d : Bool) → (a ≡ true → c ≡ true) → (b ≡ true → d ≡ true) → (a || b) ≡ true → (c || d) ≡ true
 or_more true b c d f g e = or_left c d (f refl)
@@ -28,10 +21,6 @@ or_more false b c d f g e = or_right c d (g e)
 more : (a b : Bool) → (a ≡ true → b ≡ true) → ◌≤◌ (cond {A = ℕ} a 1 0) (cond {A = ℕ} b 1 0)
 more false b f = omega arith
 more true b f = omega (arith, ap (λ (c : Bool). cond {A = ℕ} c 1 0) (f refl))
-
-at_most_one : (a : Bool) → ◌≤◌ (cond {A = ℕ} a 1 0) 1
-at_most_one true = omega arith
-at_most_one false = omega arith
 
 any_left : (p : ℕ → Bool) (xs ys : List ℕ) → list_any p xs ≡ true → list_any p (xs ++ ys) ≡ true
 any_left p [] ys e = absurd (cc)
@@ -181,15 +170,12 @@ module _ (lines later : List Bool) (keeps : (q : ℕ) → on_line lines q ≡ tr
     omega (arith, few, valley either, mark_more s (begins_on_line lines v) (next_on_line later (news ++ rest)) first, ap (λ (b : Bool). cond {A = ℕ} b 1 0) low),
   )
     where
-      one : (b : Bool) → ◌≤◌ (cond {A = ℕ} b 1 0) 1
-      one b = at_most_one b
-
       few_behind : ((signs ≡ []) × (back ≡ [])) ⊎ ((signs ≡ Above ∷ back) × (length (l ∷ ms) ≡ suc (length news)) × (length rest ≡ suc (length back))) → unders signs ≤ unders back
       few_behind (inl h) = omega (arith, ap unders h.0)
       few_behind (inr h) = omega (arith, ap unders h.0, unders-cons Above back)
 
       few : unders (g ∷ signs) ≤ 1 + unders ((l ∷ ms) ++ back)
-      few = omega (arith, few_behind either, unders-cons g signs, one (is_under g), unders-append (l ∷ ms) back)
+      few = omega (arith, few_behind either, unders-cons g signs, at_most_one (is_under g), unders-append (l ∷ ms) back)
 
       valley : ((signs ≡ []) × (back ≡ [])) ⊎ ((signs ≡ Above ∷ back) × (length (l ∷ ms) ≡ suc (length news)) × (length rest ≡ suc (length back))) → bound lines signs (v ∷ rest) ≤ 1 + bound later (ms ++ back) (news ++ rest)
       valley (inl h) = from_valley signs v rest ms back news (inl h.0)
@@ -237,11 +223,8 @@ pub the_line_bound_is_most : TheLineBoundIsMost
 the_line_bound_is_most signs [] e = absurd (omega arith)
 the_line_bound_is_most [] (mark ∷ []) e = record { most = most_marked [] (mark ∷ []) e; place = 0; within = omega arith; met = omega (arith, closings-first []) }
 the_line_bound_is_most [] (mark ∷ next ∷ marks) e = absurd (omega arith)
-the_line_bound_is_most (g ∷ signs) (mark ∷ marks) e = cases (the_line_bound_is_most signs marks (omega arith)) (two (unders (g ∷ signs) + cond {A = ℕ} mark 1 0) (cond {A = ℕ} (is_above g) 1 0 + line_bound signs marks))
+the_line_bound_is_most (g ∷ signs) (mark ∷ marks) e = cases (the_line_bound_is_most signs marks (omega arith)) (cases_lt (unders (g ∷ signs) + cond {A = ℕ} mark 1 0) (cond {A = ℕ} (is_above g) 1 0 + line_bound signs marks))
   where
-    two : (a b : ℕ) → (a < b) ⊎ (b ≤ a)
-    two a b = grind arith
-
     cases : IsMostMarked signs marks (line_bound signs marks)
         → (unders (g ∷ signs) + cond {A = ℕ} mark 1 0 < cond {A = ℕ} (is_above g) 1 0 + line_bound signs marks) ⊎ (cond {A = ℕ} (is_above g) 1 0 + line_bound signs marks ≤ unders (g ∷ signs) + cond {A = ℕ} mark 1 0)
         → IsMostMarked (g ∷ signs) (mark ∷ marks) (line_bound (g ∷ signs) (mark ∷ marks))

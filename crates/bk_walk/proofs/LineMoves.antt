@@ -1,5 +1,7 @@
 -- A move lowers the bound with lines by at most 1: the lists of LineLaws are those of the outline.
 use Rattle.std.proofs.Common.{Bool, List, [], ap, arith, drop, false, inl, inr, length, map, nat_eq, refl, replicate, slice_index_or, suc, sym, take, true, zero, ℕ, ◌++◌, ◌+◌, ◌-◌, ◌<◌, ◌∙◌, ◌∷◌, ◌≡◌, ◌≤◌, ◌⊎◌}
+use Rattle.std.proofs.Math.Seq.{drop-cons, take-suc}
+use Rattle.std.proofs.lemmas.List.{length-drop, length-take-le}
 use Rattle.bk_tiling.proofs.ListLaws.{append_assoc, length_append}
 use Rattle.bk_word.specs.Outline.{IsLegalMove, Outline, valley_of, valley_place}
 use Rattle.bk_word.specs.Play.{AreLegalFrom, after_move, after_moves, new_squares, numbers_from, segments_apart, signs_apart}
@@ -8,29 +10,12 @@ use Rattle.bk_word.specs.declared.Sign.{Sign}
 use Rattle.bk_word.specs.declared.Sign.TheVariants.{Above, Even, Under}
 use Rattle.bk_skel.proofs.Numbering.{length-replicate}
 use Rattle.bk_skel.proofs.Wires.{get_back, get_front}
-use Rattle.bk_walk.proofs.ClosingLaws.{AroundValley, around_valley, drop_one, take_none, unders}
+use Rattle.bk_skel.proofs.Shape.{Shaped}
+use Rattle.bk_walk.proofs.ClosingLaws.{AroundValley, around_valley, unders}
 use Rattle.bk_walk.proofs.LineLaws.{bound, from_first, from_last, from_valley, joined_bound}
-use Rattle.bk_walk.proofs.SingleLaws.{HasShape, place_within, same_length, wall_test}
+use Rattle.bk_walk.proofs.SingleLaws.{place_within, same_length, wall_test}
 use Rattle.bk_walk.specs.ClosingBound.{is_above}
 use Rattle.bk_walk.specs.VerticalCut.{begins_on_line, lines_after, lines_along, next_on_line, on_line}
-
-drop_none : {A : Type 0} (xs : List A) → drop 0 xs ≡ xs
-drop_none [] = refl
-drop_none (x ∷ xs) = refl
-
-drop_at : {A : Type 0} (d : A) (xs : List A) (j : ℕ) → j < length xs → drop j xs ≡ slice_index_or xs j d ∷ drop (suc j) xs
-drop_at d [] j h = absurd (omega arith)
-drop_at d (x ∷ xs) zero h = ap (λ ys. x ∷ ys) (sym (drop_none xs))
-drop_at d (x ∷ xs) (suc j) h = drop_at d xs j (omega arith)
-
-take_at : {A : Type 0} (d : A) (xs : List A) (j : ℕ) → j < length xs → take (suc j) xs ≡ take j xs ++ slice_index_or xs j d ∷ []
-take_at d [] j h = absurd (omega arith)
-take_at d (x ∷ xs) zero h = ap (λ ys. x ∷ ys) (nothing xs)
-  where
-    nothing : {A : Type 0} (xs : List A) → take 0 xs ≡ []
-    nothing [] = refl
-    nothing (x ∷ xs) = refl
-take_at d (x ∷ xs) (suc j) h = ap (λ ys. x ∷ ys) (take_at d xs j (omega arith))
 
 -- what a move needs on the lists
 record Fits (lines later : List Bool) (p : ℕ) (signs : List Sign) (segments : List (List ℕ)) (ms : List Sign) (news : List (List ℕ)) : Type 0 where
@@ -49,21 +34,21 @@ module _ (lines later : List Bool) (keeps : (q : ℕ) → on_line lines q ≡ tr
   at_first signs (v ∷ rest) ms news f = omega (arith, from_valley lines later keeps signs v rest ms (drop 1 signs) news (either f.behind), same)
     where
       none : take (0 - 1) signs ≡ []
-      none = (λ i. take (zeroth i) signs) ∙ take_none signs
+      none = λ i. take (zeroth i) signs
         where
           zeroth : 0 - 1 ≡ 0
           zeroth = omega arith
 
       same : bound later ((take (0 - 1) signs ++ ms) ++ drop 1 signs) (news ++ drop 1 (v ∷ rest)) ≡ bound later (ms ++ drop 1 signs) (news ++ rest)
-      same = λ i. bound later ((none i ++ ms) ++ drop 1 signs) (news ++ drop_one v rest i)
+      same = λ i. bound later ((none i ++ ms) ++ drop 1 signs) (news ++ rest)
 
       either : ((drop 0 signs ≡ []) × (drop (0 + 1) signs ≡ [])) ⊎ (drop 0 signs ≡ Above ∷ drop (0 + 1) signs)
           → (signs ≡ []) ⊎ ((signs ≡ Above ∷ drop 1 signs) × (length ms ≡ length news) × (length rest ≡ suc (length (drop 1 signs))))
-      either (inl h) = inl (sym (drop_none signs) ∙ h.0)
+      either (inl h) = inl h.0
       either (inr h) = inr (is, omega (arith, f.fit (omega (arith, ap length is)), ap (λ (ss : List Sign). length (ss ++ ms)) none), omega (arith, f.long, ap length is))
         where
           is : signs ≡ Above ∷ drop 1 signs
-          is = sym (drop_none signs) ∙ h
+          is = h
 
   at_next : (j : ℕ) (signs : List Sign) (segments : List (List ℕ)) (ms : List Sign) (news : List (List ℕ)) → Fits lines later (suc j) signs segments ms news
       → bound lines signs segments ≤ 1 + bound later ((take (suc j - 1) signs ++ ms) ++ drop (suc j + 1) signs) ((take (suc j) segments ++ news) ++ drop (suc j + 1) segments)
@@ -83,11 +68,11 @@ module _ (lines later : List Bool) (keeps : (q : ℕ) → on_line lines q ≡ tr
       g = slice_index_or signs j Even
 
       signs_are : drop j signs ≡ slice_index_or signs j Even ∷ drop (suc j) signs
-      signs_are = drop_at Even signs j few
+      signs_are = drop-cons signs j Even few
 
       segments_are : drop j segments ≡ slice_index_or segments j [] ∷ slice_index_or segments (suc j) [] ∷ drop (suc j + 1) segments
-      segments_are = drop_at [] segments j (omega (arith, few, f.long))
-          ∙ ap (λ ss. slice_index_or segments j [] ∷ ss) (drop_at [] segments (suc j) (omega (arith, few, f.long)) ∙ (λ i. slice_index_or segments (suc j) [] ∷ drop (sym next i) segments))
+      segments_are = drop-cons segments j [] (omega (arith, few, f.long))
+          ∙ ap (λ ss. slice_index_or segments j [] ∷ ss) (drop-cons segments (suc j) [] (omega (arith, few, f.long)) ∙ (λ i. slice_index_or segments (suc j) [] ∷ drop (sym next i) segments))
 
       either : ((drop (suc j) signs ≡ []) × (drop (suc j + 1) signs ≡ [])) ⊎ (drop (suc j) signs ≡ Above ∷ drop (suc j + 1) signs)
           → ((drop (suc j) signs ≡ []) × (drop (suc j + 1) signs ≡ [])) ⊎ ((drop (suc j) signs ≡ Above ∷ drop (suc j + 1) signs) × (length ms ≡ suc (length news)) × (length (drop (suc j + 1) segments) ≡ suc (length (drop (suc j + 1) signs))))
@@ -101,30 +86,18 @@ module _ (lines later : List Bool) (keeps : (q : ℕ) → on_line lines q ≡ tr
           length_append (take j signs) ms,
           length_append (take (suc j) segments) news,
           length_append (take j segments) (slice_index_or segments j [] ∷ []),
-          ap length (take_at [] segments j (omega (arith, few, f.long))),
-          taken signs j (omega (arith, few)),
-          taken segments j (omega (arith, few, f.long)),
+          ap length (take-suc segments j [] (omega (arith, few, f.long))),
+          length-take-le j signs (omega (arith, few)),
+          length-take-le j segments (omega (arith, few, f.long)),
         ),
-        omega (arith, f.long, right, dropped signs (suc j + 1), dropped segments (suc j + 1)),
+        omega (arith, f.long, right, length-drop (suc j + 1) signs, length-drop (suc j + 1) segments),
       )
         where
           back : suc j - 1 ≡ j
           back = omega arith
 
-          taken : {A : Type 0} (xs : List A) (k : ℕ) → k ≤ length xs → length (take k xs) ≡ k
-          taken [] zero e = refl
-          taken [] (suc k) e = absurd (omega arith)
-          taken (x ∷ xs) zero e = refl
-          taken (x ∷ xs) (suc k) e = ap suc (taken xs k (omega arith))
-
-          dropped : {A : Type 0} (xs : List A) (k : ℕ) → length (drop k xs) ≡ length xs - k
-          dropped [] zero = omega arith
-          dropped [] (suc k) = omega arith
-          dropped (x ∷ xs) zero = omega arith
-          dropped (x ∷ xs) (suc k) = omega (arith, dropped xs k)
-
           right : suc j < length signs
-          right = omega (arith, ap length h, dropped signs (suc j))
+          right = omega (arith, ap length h, length-drop (suc j) signs)
 
       last : (unders (slice_index_or signs j Even ∷ drop (suc j) signs) ≤ 1 + unders (ms ++ drop (suc j + 1) signs))
           × (bound lines (slice_index_or signs j Even ∷ drop (suc j) signs) (slice_index_or segments j [] ∷ slice_index_or segments (suc j) [] ∷ drop (suc j + 1) segments)
@@ -149,7 +122,7 @@ module _ (lines later : List Bool) (keeps : (q : ℕ) → on_line lines q ≡ tr
           left = (λ i. (take (back i) signs ++ ms) ++ drop (suc j + 1) signs) ∙ append_assoc (take j signs) ms (drop (suc j + 1) signs)
 
           right : (take (suc j) segments ++ news) ++ drop (suc j + 1) segments ≡ take j segments ++ slice_index_or segments j [] ∷ (news ++ drop (suc j + 1) segments)
-          right = (λ i. (take_at [] segments j (omega (arith, few, f.long)) i ++ news) ++ drop (suc j + 1) segments)
+          right = (λ i. (take-suc segments j [] (omega (arith, few, f.long)) i ++ news) ++ drop (suc j + 1) segments)
               ∙ append_assoc (take j segments ++ slice_index_or segments j [] ∷ []) news (drop (suc j + 1) segments)
               ∙ append_assoc (take j segments) (slice_index_or segments j [] ∷ []) (news ++ drop (suc j + 1) segments)
 
@@ -173,7 +146,7 @@ true_within [] k e = absurd (cc)
 true_within (x ∷ xs) zero e = omega arith
 true_within (x ∷ xs) (suc k) e = omega (arith, true_within xs k e)
 
-module _ (o : Outline) (lines : List Bool) (m : Move) (legal : IsLegalMove o m) (shape : HasShape o) (long : length lines ≡ length o.hung) where
+module _ (o : Outline) (lines : List Bool) (m : Move) (legal : IsLegalMove o m) (shape : Shaped o) (long : length lines ≡ length o.hung) where
   later : List Bool
   later = lines ++ begins_on_line lines (valley_of o) ∷ replicate (m.count - 1) (nat_eq (length o.closed) 0)
 
@@ -194,7 +167,7 @@ module _ (o : Outline) (lines : List Bool) (m : Move) (legal : IsLegalMove o m) 
 
   fits : Fits lines (lines_after o lines m) (valley_place o.signs) o.signs o.segments m.signs (map (λ q. q ∷ []) (new_squares o m))
   fits = record {
-    long = shape.long;
+    long = shape.many;
     within = place_within o.signs;
     behind = a.behind;
     low = λ j e. low_before o.signs j (omega (arith, e));
@@ -219,14 +192,10 @@ lines_long o lines (m ∷ w) legal e = lines_long (after_move o m) (lines_after 
   e,
   (legal.0).some,
   length_append lines (begins_on_line lines (valley_of o) ∷ replicate (m.count - 1) (nat_eq (length o.closed) 0)),
-  replicated (nat_eq (length o.closed) 0) (m.count - 1),
+  length-replicate (m.count - 1) (nat_eq (length o.closed) 0),
   length_append o.hung (replicate m.count (length o.closed)),
   length-replicate m.count (length o.closed),
 ))
-  where
-    replicated : (b : Bool) (k : ℕ) → length (replicate k b) ≡ k
-    replicated b zero = refl
-    replicated b (suc k) = ap suc (replicated b k)
 
 pub lines-append : (o : Outline) (lines : List Bool) (front rest : Word) → lines_along o lines (front ++ rest) ≡ lines_along (after_moves o front) (lines_along o lines front) rest
 lines-append o lines [] rest = refl

@@ -2,18 +2,19 @@
 use Rattle.std.specs.List.{concat, sum}
 use Rattle.std.proofs.Common.{Bool, List, [], ap, arith, drop, length, nat_eq, refl, replicate, slice_index_or, subst, suc, sym, take, zero, ℕ, ◌++◌, ◌+◌, ◌-◌, ◌<◌, ◌∙◌, ◌∷◌, ◌≡◌}
 use Rattle.std.proofs.Math.Seq.{take-append_seam}
-use Rattle.std.proofs.lemmas.List.{take-append-drop}
+use Rattle.std.proofs.lemmas.List.{drop-drop, take-append-drop}
 use Rattle.bk_tiling.proofs.ListLaws.{append_assoc}
 use Rattle.bk_skel.proofs.NoLoose.{closed_count}
 use Rattle.bk_skel.proofs.Shape.{hung_many}
+use Rattle.bk_skel.proofs.StoredMoves.{legal-snoc}
 use Rattle.bk_word.specs.Outline.{IsLegalMove, Outline, start, valley_of, valley_place}
 use Rattle.bk_word.specs.Play.{IsLegal, after_move, outline_of}
 use Rattle.bk_word.specs.Word.{Move, Word, order_of}
 use Rattle.bk_word.specs.declared.Sign.{Sign}
 use Rattle.bk_walk.proofs.BoundsOfWords.{segments_again}
-use Rattle.bk_walk.proofs.LineCounting.{drop_more, drop_none, sum-cons}
+use Rattle.bk_walk.proofs.LineCounting.{sum-cons}
 use Rattle.bk_walk.proofs.LineMoves.{lines-append, lines_long}
-use Rattle.bk_walk.proofs.Places.{legal_front, legal_more}
+use Rattle.bk_walk.proofs.Places.{legal_front}
 use Rattle.bk_walk.specs.SingleValleys.{sizes_of}
 use Rattle.bk_walk.specs.VerticalCut.{IsLinedWord, begins_on_line, lines_after, lines_along, lines_of, segments_of}
 
@@ -21,8 +22,8 @@ use Rattle.bk_walk.specs.VerticalCut.{IsLinedWord, begins_on_line, lines_after, 
 
 segment_at : (sizes ends : List ℕ) (i : ℕ) → i < length sizes → slice_index_or (segments_of sizes ends) i [] ≡ take (slice_index_or sizes i 0) (drop (sum (take i sizes)) ends)
 segment_at [] ends i h = absurd (omega arith)
-segment_at (n ∷ sizes) ends zero h = ap (take n) (sym (drop_none ends))
-segment_at (n ∷ sizes) ends (suc i) h = segment_at sizes (drop n ends) i (omega arith) ∙ ap (take (slice_index_or sizes i 0)) (drop_more ends n (sum (take i sizes)) ∙ (λ j. drop (sym (sum-cons n (take i sizes)) j) ends))
+segment_at (n ∷ sizes) ends zero h = refl
+segment_at (n ∷ sizes) ends (suc i) h = segment_at sizes (drop n ends) i (omega arith) ∙ ap (take (slice_index_or sizes i 0)) (drop-drop (sum (take i sizes)) n ends ∙ (λ j. drop (sym (sum-cons n (take i sizes)) j) ends))
 
 -- the squares of the valley, where it stands at the place and so many squares are open before it
 pub valley_slice : (signs : List Sign) (sizes ends : List ℕ) (place before size : ℕ) → place ≡ valley_place signs → place < length sizes → before ≡ sum (take place sizes) → size ≡ slice_index_or sizes place 0
@@ -52,7 +53,7 @@ pub lined_more : (w more : Word) (lines lines_then : List Bool) (m : Move) (coun
     → is_on ≡ begins_on_line lines (valley_of (outline_of w)) → is_first ≡ nat_eq (length w) 0 → count ≡ m.count → more ≡ w ++ m ∷ [] → lines_then ≡ lines ++ is_on ∷ replicate (count - 1) is_first
     → IsLinedWord more lines_then
 lined_more w more lines lines_then m count is_on is_first lined legal on first same e f = record {
-  legal = subst IsLegal (sym e) (legal_more start w m lined.legal legal);
+  legal = subst IsLegal (sym e) (legal-snoc start w m lined.legal legal);
   lines_are = f ∙ (λ i. lines ++ on i ∷ replicate (same i - 1) (first_node i)) ∙ ap (λ ls. lines_after (outline_of w) ls m) lined.lines_are ∙ sym (lines-append start [] w (m ∷ [])) ∙ ap lines_of (sym e);
 }
   where

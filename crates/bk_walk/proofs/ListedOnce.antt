@@ -1,11 +1,10 @@
 -- A simple tiling is listed once in the catalogue: as the entry of its canonical tiling.
 use Rattle.std.specs.List.{AllByRecursion}
 use Rattle.std.proofs.Common.{Contains, List, [], ap, arith, refl, subst, suc, sym, zero, ℕ, ◌++◌, ◌∙◌, ◌∷◌, ◌≡◌}
-use Rattle.std.proofs.lemmas.List.Elements.{All-contains, All-from_recursion}
+use Rattle.std.proofs.lemmas.List.Elements.{All-contains, All-from_recursion, Contains-append_left, Contains-append_right}
 use Rattle.bk_tiling.specs.Tiling.{IsTiling, Tiling}
 use Rattle.bk_sym.proofs.AlikeLaws.{a_canonical_tiling_is_its_own, alike_tilings_have_one_canonical, one_canonical_means_alike}
 use Rattle.bk_sym.specs.Canonical.{IsCanonicalOf}
-use Rattle.bk_word.proofs.ListLaws.{contains_left, contains_right}
 use Rattle.bk_word.specs.Word.{Follows, Word}
 use Rattle.bk_word.specs.declared.Class.{Class}
 use Rattle.bk_lay.proofs.Valleys.{a_tiling_has_one_word}
@@ -36,7 +35,7 @@ contained P entries e all c = All-contains P entries e (All-from_recursion P ent
 not_before : (before after : List Entry) (e : Entry) → AreAscending (before ++ e ∷ after) → Contains before e → ⊥
 not_before [] after e up c = absurd (omega (arith, c.1))
 not_before (f ∷ before) after e up (zero, below, is) = not_itself e.word (subst (λ (g : Entry). Follows e.word g.word) is
-    (contained (λ g. Follows g.word f.word) (before ++ e ∷ after) e up.0 (contains_right before (e ∷ after) e (0, omega arith, refl))))
+    (contained (λ g. Follows g.word f.word) (before ++ e ∷ after) e up.0 (Contains-append_right before (e ∷ after) e (0, omega arith, refl))))
 not_before (f ∷ before) after e up (suc k, below, is) = not_before before after e up.1 (k, omega (arith, below), is)
 
 not_after : (before after : List Entry) (e : Entry) → AreAscending (before ++ e ∷ after) → Contains after e → ⊥
@@ -75,11 +74,11 @@ module _ (n : ℕ) (class : Class) (t : Tiling) (entries : List Entry) (tiling :
 
     none_before : HasNoImageOf t parts.before
     none_before f k image = not_before parts.before parts.after entry ascending
-        (subst (Contains parts.before) (only f (in_list f (contains_left parts.before (entry ∷ parts.after) f k)) image) k)
+        (subst (Contains parts.before) (only f (in_list f (Contains-append_left parts.before (entry ∷ parts.after) f k)) image) k)
 
     none_after : HasNoImageOf t parts.after
     none_after f k image = not_after parts.before parts.after entry ascending
-        (subst (Contains parts.after) (only f (in_list f (contains_right parts.before (entry ∷ parts.after) f (suc k.0, omega (arith, k.1), k.2))) image) k)
+        (subst (Contains parts.after) (only f (in_list f (Contains-append_right parts.before (entry ∷ parts.after) f (suc k.0, omega (arith, k.1), k.2))) image) k)
 
     listed_as : IsListedOnce n class t entries
     listed_as = record {

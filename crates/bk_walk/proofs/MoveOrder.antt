@@ -99,18 +99,7 @@ next_short [] = tt
 next_short (s ∷ a) = one_more_short s (length a) (signs_after a) (next_short a)
 
 pub three : (x y : ℕ) → (x < y) ⊎ ((x ≡ y) ⊎ (y < x))
-three x y = cases (two x y)
-  where
-    two : (a b : ℕ) → (a < b) ⊎ (b ≤ a)
-    two a b = grind arith
-
-    cases : (x < y) ⊎ (y ≤ x) → (x < y) ⊎ ((x ≡ y) ⊎ (y < x))
-    cases (inl h) = inl h
-    cases (inr h) = more (two y x)
-      where
-        more : (y < x) ⊎ (x ≤ y) → (x < y) ⊎ ((x ≡ y) ⊎ (y < x))
-        more (inl k) = inr (inr k)
-        more (inr k) = inr (inl (omega arith))
+three x y = grind arith
 
 -- a move is before another by its count, or by its signs where the counts are equal
 abbrev pub IsLess : Move → Move → Type 0

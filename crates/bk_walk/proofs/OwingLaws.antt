@@ -1,27 +1,22 @@
 -- A cut by the first signs of a move: they ask for more squares than are left after it.
 use Rattle.std.proofs.Common.{List, [], ap, append_assoc, arith, count_by, drop, length, max, refl, slice_index_or, subst, suc, sym, take, zero, ℕ, ◌++◌, ◌+◌, ◌-◌, ◌<◌, ◌∙◌, ◌∷◌, ◌≡◌, ◌≤◌}
-use Rattle.bk_lay.proofs.WordPlay.{order-cons}
+use Rattle.std.proofs.lemmas.List.{drop_all, drop_more, take-append-drop, take_all}
 use Rattle.bk_word.specs.Outline.{Outline, start, valley_place}
-use Rattle.bk_word.specs.Play.{after_move, after_moves, outline_of, signs_apart}
+use Rattle.bk_word.specs.Play.{outline_of, signs_apart}
 use Rattle.bk_word.specs.Word.{Move, Word, order_of}
 use Rattle.bk_word.specs.declared.Class.{Class}
 use Rattle.bk_word.specs.declared.Sign.{Sign}
 use Rattle.bk_word.specs.declared.Sign.TheVariants.{Above, Even, Under}
+use Rattle.bk_word.proofs.StoredBytes.{order_append, order_more}
+use Rattle.bk_skel.proofs.StoredMoves.{after-snoc}
 use Rattle.bk_walk.proofs.ClosingLaws.{aboves-append, aboves-cons, bound-append, bound-parts, unders, unders-cons}
-use Rattle.bk_walk.proofs.CountingLaws.{drop_all, drop_here}
 use Rattle.bk_walk.proofs.CutLaws.{cut_by_front, front_signs}
 use Rattle.bk_walk.proofs.CuttingBounds.{too_many_to_close_is_barren}
-use Rattle.bk_walk.proofs.Fitting.{take_drop}
 use Rattle.bk_walk.proofs.MoveOrder.{Begins}
-use Rattle.bk_walk.proofs.Places.{order_append}
 use Rattle.bk_walk.specs.ClosingBound.{closing_bound, is_under}
 use Rattle.bk_walk.specs.Cuts.{IsBarren}
 use Rattle.bk_walk.specs.MoveCuts.{IsCut, IsTally}
 use Rattle.bk_walk.specs.NextMove.{move_after}
-
-after_more : (o : Outline) (front : Word) (m : Move) → after_moves o (front ++ m ∷ []) ≡ after_move (after_moves o front) m
-after_more o [] m = refl
-after_more o (k ∷ front) m = after_more (after_move o k) front m
 
 -- the first signs ask for no less than all do
 front_owes : (before front rest behind : List Sign) → closing_bound (before ++ front) + unders behind ≤ closing_bound (before ++ (front ++ rest) ++ behind)
@@ -33,7 +28,7 @@ pub owing_cut : (n : ℕ) (class : Class) (front : Word) (m : Move) (kept room l
 owing_cut n class front m kept room left under place p u l r over = cut_by_front n class front m kept (λ other legal count b. barren other count b)
   where
     barren : (other : Move) → other.count ≡ m.count → Begins (take kept m.signs) other.signs → IsBarren n class (front ++ other ∷ [])
-    barren other count b = too_many_to_close_is_barren n class (front ++ other ∷ []) (omega (arith, order_append front (other ∷ []), order-cons other [], owes, count))
+    barren other count b = too_many_to_close_is_barren n class (front ++ other ∷ []) (omega (arith, order_append front (other ∷ []), order_more other [], owes, count))
       where
         before : List Sign
         before = take (valley_place (outline_of front).signs - 1) (outline_of front).signs
@@ -47,7 +42,7 @@ owing_cut n class front m kept room left under place p u l r over = cut_by_front
 
         all : closing_bound (outline_of (front ++ other ∷ [])).signs
             ≡ closing_bound (take (valley_place (outline_of front).signs - 1) (outline_of front).signs ++ (take kept m.signs ++ b.rest) ++ drop (valley_place (outline_of front).signs + 1) (outline_of front).signs)
-        all = ap (λ (o : Outline). closing_bound o.signs) (after_more start front other) ∙ bound-parts (signs_apart (outline_of front) other)
+        all = ap (λ (o : Outline). closing_bound o.signs) (after-snoc start front other) ∙ bound-parts (signs_apart (outline_of front) other)
             ∙ ap (λ l. closing_bound (take (valley_place (outline_of front).signs - 1) (outline_of front).signs ++ l ++ drop (valley_place (outline_of front).signs + 1) (outline_of front).signs)) b.is
 
         owes : n - order_of front - m.count < closing_bound (outline_of (front ++ other ∷ [])).signs
@@ -99,13 +94,7 @@ pub tally_next : (before signs : List Sign) (i bound above : ℕ) → i < length
 tally_next before signs i bound above h t = subst (λ (l : List Sign). IsTally l bound above) (append_assoc before (take i signs) (slice_index_or signs i Above ∷ []) ∙ ap (λ l. before ++ l) (sym (take_here signs i h))) t
 
 pub tally_all : (before signs : List Sign) (i bound above : ℕ) → length signs ≤ i → IsTally (before ++ take i signs) bound above → IsTally (before ++ signs) bound above
-tally_all before signs i bound above h t = subst (λ (l : List Sign). IsTally (before ++ l) bound above) (all signs i h) t
-  where
-    all : (xs : List Sign) (i : ℕ) → length xs ≤ i → take i xs ≡ xs
-    all [] zero h = refl
-    all [] (suc i) h = refl
-    all (x ∷ xs) zero h = absurd (omega arith)
-    all (x ∷ xs) (suc i) h = ap (λ l. x ∷ l) (all xs i (omega arith))
+tally_all before signs i bound above h t = subst (λ (l : List Sign). IsTally (before ++ l) bound above) (take_all i signs h) t
 
 -- a bound that passes the room at a place
 pub tally_over : (signs : List Sign) (i bound above room : ℕ) → i < length signs → room < bound → IsTally (take i signs ++ slice_index_or signs i Above ∷ []) bound above → room < closing_bound signs
@@ -115,15 +104,15 @@ tally_over signs i bound above room h over t = omega (
   t.bound_is,
   ap closing_bound (sym (take_here signs i h)),
   bound_more (take (i + 1) signs) (drop (i + 1) signs),
-  ap closing_bound (take_drop (i + 1) signs),
+  ap closing_bound (sym (take-append-drop (i + 1) signs)),
 )
 
 -- the valley's place, from a place on
 pub place_above : (signs : List Sign) (i : ℕ) → i < length signs → slice_index_or signs i Above ≡ Above → valley_place (drop i signs) ≡ 0
-place_above signs i h e = ap valley_place (drop_here Above signs i h) ∙ ap (λ s. valley_place (s ∷ drop (i + 1) signs)) e
+place_above signs i h e = ap valley_place (drop_more signs i Above h) ∙ ap (λ s. valley_place (s ∷ drop (i + 1) signs)) e
 
 pub place_on : (signs : List Sign) (i : ℕ) (s : Sign) → i < length signs → slice_index_or signs i Above ≡ s → (s ≡ Above → ⊥) → valley_place (drop i signs) ≡ 1 + valley_place (drop (i + 1) signs)
-place_on signs i s h e not = ap valley_place (drop_here Above signs i h) ∙ ap (λ t. valley_place (t ∷ drop (i + 1) signs)) e ∙ step s not
+place_on signs i s h e not = ap valley_place (drop_more signs i Above h) ∙ ap (λ t. valley_place (t ∷ drop (i + 1) signs)) e ∙ step s not
   where
     step : (s : Sign) → (s ≡ Above → ⊥) → valley_place (s ∷ drop (i + 1) signs) ≡ 1 + valley_place (drop (i + 1) signs)
     step Above not = absurd (not refl)
@@ -131,4 +120,4 @@ place_on signs i s h e not = ap valley_place (drop_here Above signs i h) ∙ ap 
     step Under not = omega arith
 
 pub place_end : (signs : List Sign) (i : ℕ) → length signs ≤ i → valley_place (drop i signs) ≡ 0
-place_end signs i h = ap valley_place (drop_all signs i h)
+place_end signs i h = ap valley_place (drop_all i signs h)

@@ -12,8 +12,9 @@ use Rattle.bk_simple.specs.Simple.{IsCompound}
 use Rattle.bk_word.specs.Outline.{Outline, start}
 use Rattle.bk_word.specs.Play.{after_move, after_moves, outline_of}
 use Rattle.bk_word.specs.Word.{Move, Word, order_of}
+use Rattle.bk_word.proofs.StoredBytes.{order_more}
 use Rattle.bk_lay.proofs.SquaresOnce.{squares_once}
-use Rattle.bk_lay.proofs.WordPlay.{NoneTwice, fewer, order-cons}
+use Rattle.bk_lay.proofs.WordPlay.{NoneTwice, fewer}
 use Rattle.bk_lay.specs.TilingWord.{IsWordOf, MovesFollow, squares_under}
 use Rattle.bk_skel.proofs.AlongWord.{Along, along_move, along_start}
 
@@ -30,7 +31,7 @@ reach t tiling laid nodes o (m ∷ front) rest a p = onto (reach t tiling (laid 
     (subst (λ (n : Move). Along t (laid ++ squares_under t p.0) (nodes ++ p.0 ∷ []) (after_move o n)) (sym p.3) (along_move t laid nodes o p.0 tiling a p.1 p.2)) p.4)
   where
     onto : Reached t (after_moves (after_move o m) front) rest (length (laid ++ squares_under t p.0) + order_of front) → Reached t (after_moves (after_move o m) front) rest (length laid + order_of (m ∷ front))
-    onto r = record { laid = r.laid; nodes = r.nodes; along = r.along; moves = r.moves; long = omega (arith, r.long, length_append laid (squares_under t p.0), order-cons m front, ap (λ (n : Move). n.count) p.3) }
+    onto r = record { laid = r.laid; nodes = r.nodes; along = r.along; moves = r.moves; long = omega (arith, r.long, length_append laid (squares_under t p.0), order_more m front, ap (λ (n : Move). n.count) p.3) }
 
 pub reached : (t : Tiling) (front rest : Word) → IsTiling t → IsWordOf t (front ++ rest) → Reached t (outline_of front) rest (order_of front)
 reached t front rest tiling p = onto (reach t tiling [] [] start front rest (along_start t tiling) p)

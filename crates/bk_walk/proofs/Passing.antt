@@ -3,12 +3,12 @@ use Rattle.std.specs.Ordering.{ordering_then}
 use Rattle.std.specs.declared.cmp.Ordering.{Ordering}
 use Rattle.std.specs.declared.cmp.Ordering.TheVariants.{Equal, Greater, Less}
 use Rattle.std.proofs.Common.{[], ap, append_assoc, arith, refl, subst, sym, ℕ, ◌++◌, ◌+◌, ◌∙◌, ◌∷◌, ◌≡◌, ◌≤◌}
-use Rattle.bk_lay.proofs.WordPlay.{order-cons}
 use Rattle.bk_word.specs.Outline.{IsLegalMove, start}
 use Rattle.bk_word.specs.Play.{IsLegal, after_moves, outline_of}
 use Rattle.bk_word.specs.Word.{Follows, Move, Word, move_cmp, order_of, word_cmp}
+use Rattle.bk_word.proofs.StoredBytes.{order_append, order_more}
 use Rattle.bk_walk.proofs.MoveOrder.{Begins, greater, moves_between}
-use Rattle.bk_walk.proofs.Places.{IsLast, LiesBetween, before_first, before_one, legal_rest, lies_between, move_itself, move_same, not_before_first, one_legal, order_append}
+use Rattle.bk_walk.proofs.Places.{IsLast, LiesBetween, before_first, before_one, legal_rest, lies_between, move_itself, move_same, not_before_first, one_legal}
 use Rattle.bk_walk.specs.NextMove.{IsLeastFrom, IsMoveFrom, first_move, move_after}
 use Rattle.bk_walk.specs.Search.{IsTreeWord}
 
@@ -22,7 +22,7 @@ goes_on : (n : ℕ) (front : Word) (m : Move) (rest w : Word) → IsTreeWord n w
 goes_on n front m rest w tree e = (legal_rest start front (m ∷ rest) (subst IsLegal e tree.legal)).0
 
 few_from : (n : ℕ) (front : Word) (m : Move) (rest w : Word) → IsTreeWord n w → w ≡ front ++ m ∷ rest → order_of front + m.count ≤ n
-few_from n front m rest w tree e = omega (arith, tree.small, ap order_of e, order_append front (m ∷ rest), order-cons m rest)
+few_from n front m rest w tree e = omega (arith, tree.small, ap order_of e, order_append front (m ∷ rest), order_more m rest)
 
 -- where no legal move is left, no word of the tree that begins with these moves is left
 last_over : (n : ℕ) (front : Word) (x : Move) (w rest : Word) → IsTreeWord n w → IsLast n front x → w ≡ front ++ rest → (word_cmp rest (x ∷ []) ≡ Less → ⊥) → ⊥

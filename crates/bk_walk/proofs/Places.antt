@@ -4,8 +4,7 @@ use Rattle.std.specs.Ordering.{nat_cmp, ordering_then}
 use Rattle.std.specs.declared.cmp.Ordering.{Ordering}
 use Rattle.std.specs.declared.cmp.Ordering.TheVariants.{Equal, Greater, Less}
 use Rattle.std.proofs.Common.{List, [], ap, arith, inl, inr, length, refl, sym, ℕ, ◌++◌, ◌+◌, ◌<◌, ◌∙◌, ◌∷◌, ◌≡◌, ◌≤◌, ◌⊎◌}
-use Rattle.bk_tiling.proofs.ListLaws.{length_append}
-use Rattle.bk_lay.proofs.WordPlay.{order-cons}
+use Rattle.bk_tiling.proofs.ListLaws.{append_nil, length_append}
 use Rattle.bk_word.specs.Outline.{IsLegalMove, Outline}
 use Rattle.bk_word.specs.Play.{AreLegalFrom, after_move, after_moves, outline_of}
 use Rattle.bk_word.specs.Word.{Move, Word, move_cmp, order_of, word_cmp}
@@ -83,14 +82,6 @@ pub legal_front : (o : Outline) (front rest : Word) → AreLegalFrom o (front ++
 legal_front o [] rest l = tt
 legal_front o (m ∷ front) rest l = (l.0, legal_front (after_move o m) front rest l.1)
 
-pub legal_more : (o : Outline) (front : Word) (m : Move) → AreLegalFrom o front → IsLegalMove (after_moves o front) m → AreLegalFrom o (front ++ m ∷ [])
-legal_more o [] m l h = (h, tt)
-legal_more o (n ∷ front) m l h = (l.0, legal_more (after_move o n) front m l.1 h)
-
-pub order_append : (v w : Word) → order_of (v ++ w) ≡ order_of v + order_of w
-order_append [] w = omega arith
-order_append (m ∷ v) w = omega (arith, order-cons m (v ++ w), order-cons m v, order_append v w)
-
 -- what begins a word that is not before one move, or is before one
 pub not_before_first : (m x : Move) (rest more : Word) → (word_cmp (m ∷ rest) (x ∷ more) ≡ Less → ⊥) → IsMoveFrom x m
 not_before_first m x rest more f e = f (ap (λ z. ordering_then z (word_cmp rest more)) e)
@@ -120,12 +111,8 @@ before_first o (m ∷ w) l e = absurd (cases (less_to m first_move (before_one m
 pub one_legal : (o : Outline) (m n : Move) → IsLegalMove o m → IsLegalMove o n → n.count ≡ m.count → Begins m.signs n.signs → n ≡ m
 one_legal o m n l k e b = move_from_parts n m e (cases b.rest b.is)
   where
-    none : (a : List Sign) → a ++ [] ≡ a
-    none [] = refl
-    none (s ∷ a) = ap (λ l. s ∷ l) (none a)
-
     cases : (rest : List Sign) → n.signs ≡ m.signs ++ rest → n.signs ≡ m.signs
-    cases [] f = f ∙ none m.signs
+    cases [] f = f ∙ append_nil m.signs
     cases (s ∷ rest) f = absurd (omega (arith, l.signs, k.signs, ap length f, length_append m.signs (s ∷ rest)))
 
 -- no legal move is left that is not before x

@@ -7,13 +7,13 @@ use Rattle.std.specs.declared.cmp.Ordering.TheVariants.{Equal, Greater, Less}
 use Rattle.std.proofs.Common.{Bool, List, [], ap, false, true, arith, inl, inr, length, map, refl, suc, sym, zero, ℕ, ◌*◌, ◌++◌, ◌+◌, ◌-◌, ◌<◌, ◌∙◌, ◌∷◌, ◌≡◌, ◌≤◌}
 use Rattle.std.proofs.Math.Nat.{mul-le-mul_right}
 use Rattle.bk_tiling.proofs.ListLaws.{length_append}
-use Rattle.bk_lay.proofs.WordPlay.{order-cons}
 use Rattle.bk_word.proofs.ListLaws.{all_append}
 use Rattle.bk_word.specs.Outline.{Outline, has_left_wall, has_right_wall, open_side, start}
 use Rattle.bk_word.specs.Play.{AreLegalFrom, IsLegal, after_move}
 use Rattle.bk_word.specs.Word.{Follows, Move, Word, move_cmp, order_of, sign_cmp, sign_place}
 use Rattle.bk_word.specs.declared.Sign.{Sign}
 use Rattle.bk_word.specs.declared.Sign.TheVariants.{Above, Even, Under}
+use Rattle.bk_word.proofs.StoredBytes.{order_more}
 use Rattle.bk_walk.proofs.MoveOrder.{IsLess, greater, less_to, signs_cmp}
 use Rattle.bk_walk.proofs.Places.{move_same}
 
@@ -27,7 +27,7 @@ number base zero digits = 0
 number base (suc k) [] = 0
 number base (suc k) (d ∷ digits) = (1 + d) * power base k + number base k digits
 
-some_power : (base k : ℕ) → 0 < base → 0 < power base k
+pub some_power : (base k : ℕ) → 0 < base → 0 < power base k
 some_power base zero some = omega arith
 some_power base (suc k) some = omega (arith, some_power base k some, mul-le-mul_right {m = 1} {n = base} (power base k) some)
 
@@ -156,12 +156,12 @@ open_one false = omega arith
 
 pub small_from : (o : Outline) (w : Word) (k : ℕ) → AreLegalFrom o w → order_of w ≤ k → k ≤ 16 → IsSmallWord k w
 small_from o [] k l h b = record { moves = tt; few = omega arith }
-small_from o (m ∷ w) k l h b = onto (small_from (after_move o m) w (k - m.count) l.1 (omega (arith, order-cons m w)) (omega arith))
+small_from o (m ∷ w) k l h b = onto (small_from (after_move o m) w (k - m.count) l.1 (omega (arith, order_more m w)) (omega arith))
   where
     onto : IsSmallWord (k - m.count) w → IsSmallWord k (m ∷ w)
     onto s = let some = (l.0).some in let signs = (l.0).signs in record {
-      moves = (record { count = omega (arith, order-cons m w); signs = omega (arith, order-cons m w, open_one (has_left_wall o), open_one (has_right_wall o)) }, s.moves);
-      few = omega (arith, s.few, order-cons m w);
+      moves = (record { count = omega (arith, order_more m w); signs = omega (arith, order_more m w, open_one (has_left_wall o), open_one (has_right_wall o)) }, s.moves);
+      few = omega (arith, s.few, order_more m w);
     }
 
 pub small_place : (front : Word) (x : Move) → IsLegal front → order_of front ≤ 16 → IsSmallMove x → AllByRecursion IsSmallMove (front ++ x ∷ []) × (length (front ++ x ∷ []) ≤ 18)

@@ -3,13 +3,16 @@ use Rattle.std.specs.List.{AllByRecursion}
 use Rattle.std.proofs.Common.{Bool, List, [], ap, arith, drop, false, filter, inl, inr, length, map, nat_eq, refl, slice_index_or, suc, take, true, zero, ℕ, ◌++◌, ◌+◌, ◌-◌, ◌<◌, ◌∷◌, ◌≡◌, ◌≤◌, ◌⊎◌}
 use Rattle.std.proofs.lemmas.Bool.Decides.{nat_tests}
 use Rattle.std.proofs.lemmas.List.{length-drop, length-take}
+use Rattle.std.proofs.lemmas.Bool.{cases_lt}
 use Rattle.bk_tiling.proofs.ListLaws.{length_append, length_map}
 use Rattle.bk_word.specs.Outline.{IsLegalMove, Outline, has_right_wall, open_side, valley_of, valley_place}
-use Rattle.bk_word.specs.Play.{after_move, before_first_list, joined, new_squares, numbers_from, parts}
+use Rattle.bk_word.specs.Play.{after_move, before_first_list, joined, new_squares, parts}
 use Rattle.bk_word.specs.Word.{Move}
 use Rattle.bk_word.specs.declared.Sign.{Sign}
 use Rattle.bk_word.specs.declared.Sign.TheVariants.{Above, Even, Under}
-use Rattle.bk_walk.proofs.ClosingLaws.{drop_next, drop_one}
+use Rattle.bk_word.proofs.PlayLists.{numbers-length}
+use Rattle.bk_skel.proofs.Shape.{Shaped}
+use Rattle.bk_walk.proofs.ClosingLaws.{drop_next}
 use Rattle.bk_walk.specs.SingleValleys.{single_valley, single_valleys, single_valleys_from, sizes_of}
 
 -- the valleys of one square among segments, from the first on
@@ -85,17 +88,9 @@ at_valley : (signs : List Sign) (segments : List (List ℕ)) → singles true si
     ≤ single_valley true (length (slice_index_or segments (valley_place signs) [])) + singles false (drop (valley_place signs + 1) signs) (drop (valley_place signs + 1) segments)
 at_valley signs [] = omega arith
 at_valley [] (s ∷ segments) = omega arith
-at_valley (Above ∷ signs) (s ∷ segments) = omega (arith, same)
-  where
-    same : singles false (drop 1 (Above ∷ signs)) (drop 1 (s ∷ segments)) ≡ singles false signs segments
-    same = λ i. singles false (drop_one Above signs i) (drop_one s segments i)
+at_valley (Above ∷ signs) (s ∷ segments) = omega arith
 at_valley (Even ∷ signs) (s ∷ segments) = omega (arith, at_valley signs segments, low_is_more true signs segments, behind_next Even signs s segments (valley_place signs))
 at_valley (Under ∷ signs) (s ∷ segments) = omega (arith, at_valley signs segments, behind_next Under signs s segments (valley_place signs))
-
--- an outline has one segment more than signs, and none of these is even
-pub record HasShape (o : Outline) : Type 0 where
-  pub long : length o.segments ≡ length o.signs + 1
-  pub parted : AllByRecursion (λ sign. parts sign ≡ true) o.signs
 
 pub place_within : (signs : List Sign) → valley_place signs ≤ length signs
 place_within [] = omega arith
@@ -109,11 +104,7 @@ parted_behind [] (suc k) p = tt
 parted_behind (s ∷ signs) zero p = p
 parted_behind (s ∷ signs) (suc k) p = parted_behind signs k p.1
 
-length-numbers : (n k : ℕ) → length (numbers_from n k) ≡ k
-length-numbers n zero = refl
-length-numbers n (suc k) = ap suc (length-numbers (n + 1) k)
-
-module _ (o : Outline) (m : Move) (legal : IsLegalMove o m) (shape : HasShape o) where
+module _ (o : Outline) (m : Move) (legal : IsLegalMove o m) (shape : Shaped o) where
   p : ℕ
   p = valley_place o.signs
 
@@ -126,9 +117,6 @@ module _ (o : Outline) (m : Move) (legal : IsLegalMove o m) (shape : HasShape o)
   pub wall_test : (a b : ℕ) → (a ≡ b → open_side (nat_eq a b) ≡ 0) × ((a ≡ b → ⊥) → open_side (nat_eq a b) ≡ 1)
   wall_test a b = ((λ e. grind (arith, nat_tests)), (λ e. grind (arith, nat_tests)))
 
-  two : (a b : ℕ) → (a < b) ⊎ (b ≤ a)
-  two a b = grind arith
-
   pub front_long : length (take (valley_place o.signs - 1) o.signs ++ m.signs) ≡ valley_place o.signs - 1 + length m.signs
   front_long = omega (arith, length_append (take (valley_place o.signs - 1) o.signs) m.signs, length-take (valley_place o.signs - 1) o.signs, place_within o.signs)
 
@@ -137,14 +125,14 @@ module _ (o : Outline) (m : Move) (legal : IsLegalMove o m) (shape : HasShape o)
     arith,
     length_append (take (valley_place o.signs) o.segments) (map (λ q. q ∷ []) (new_squares o m)),
     length_map (λ (q : ℕ). q ∷ []) (new_squares o m),
-    length-numbers (length o.hung + 1) m.count,
+    numbers-length (length o.hung + 1) m.count,
     length-take (valley_place o.signs) o.segments,
     place_within o.signs,
-    shape.long,
+    shape.many,
   )
 
   pub same_length : valley_place o.signs < length o.signs → length (take (valley_place o.signs - 1) o.signs ++ m.signs) ≡ length (take (valley_place o.signs) o.segments ++ map (λ q. q ∷ []) (new_squares o m))
-  same_length h = cases (two 0 (valley_place o.signs))
+  same_length h = cases (cases_lt 0 (valley_place o.signs))
     where
       right : open_side (has_right_wall o) ≡ 1
       right = (wall_test (valley_place o.signs) (length o.signs)).1 (λ e. absurd (omega arith))
@@ -155,14 +143,14 @@ module _ (o : Outline) (m : Move) (legal : IsLegalMove o m) (shape : HasShape o)
 
   -- behind the valley
   behind_kept : singles false (drop (valley_place o.signs + 1) o.signs) (drop (valley_place o.signs + 1) o.segments) ≤ singles true (after_move o m).signs (after_move o m).segments
-  behind_kept = cases (two (valley_place o.signs) (length o.signs))
+  behind_kept = cases (cases_lt (valley_place o.signs) (length o.signs))
     where
       none : (back : List Sign) (rest : List (List ℕ)) → length rest ≡ 0 → singles false back rest ≡ 0
       none back [] e = refl
       none back (s ∷ rest) e = absurd (omega arith)
 
       cases : (valley_place o.signs < length o.signs) ⊎ (length o.signs ≤ valley_place o.signs) → singles false (drop (valley_place o.signs + 1) o.signs) (drop (valley_place o.signs + 1) o.segments) ≤ singles true (after_move o m).signs (after_move o m).segments
-      cases (inr h) = omega (arith, none (drop (valley_place o.signs + 1) o.signs) (drop (valley_place o.signs + 1) o.segments) (omega (arith, length-drop (valley_place o.signs + 1) o.segments, shape.long)))
+      cases (inr h) = omega (arith, none (drop (valley_place o.signs + 1) o.signs) (drop (valley_place o.signs + 1) o.segments) (omega (arith, length-drop (valley_place o.signs + 1) o.segments, shape.many)))
       cases (inl h) = omega (
         arith,
         kept true (take (valley_place o.signs - 1) o.signs ++ m.signs) (take (valley_place o.signs) o.segments ++ map (λ q. q ∷ []) (new_squares o m)) (drop (valley_place o.signs + 1) o.signs) (drop (valley_place o.signs + 1) o.segments)

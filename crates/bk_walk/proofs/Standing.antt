@@ -1,16 +1,21 @@
 -- What a turn of a search knows of the place where it stands, and where it leads.
-use Rattle.std.proofs.Common.{List, Some, [], ap, arith, inl, inr, length, refl, slice_get, subst, suc, sym, take, zero, ℕ, ◌++◌, ◌+◌, ◌-◌, ◌<◌, ◌∙◌, ◌∷◌, ◌≡◌, ◌≤◌, ◌⊎◌}
+use Rattle.std.proofs.Common.{List, Some, [], ap, arith, inl, inr, length, slice_get, subst, sym, take, ℕ, ◌++◌, ◌+◌, ◌-◌, ◌<◌, ◌∙◌, ◌∷◌, ◌≡◌, ◌≤◌, ◌⊎◌}
+use Rattle.std.proofs.lemmas.Bool.{cases_lt}
+use Rattle.std.proofs.lemmas.List.{take_all, take_at}
+use Rattle.std.proofs.lemmas.Grind.{take_at_read}
+use Rattle.std.proofs.lemmas.Option.{get_or_from_slice_get, slice_get_within}
 use Rattle.bk_tiling.proofs.ListLaws.{length_append}
-use Rattle.bk_lay.proofs.WordPlay.{order-cons, tiling_word_is_complete}
-use Rattle.bk_word.specs.Outline.{IsLegalMove, Outline, has_left_wall, has_right_wall, start}
+use Rattle.bk_lay.proofs.WordPlay.{tiling_word_is_complete}
+use Rattle.bk_word.specs.Outline.{IsLegalMove, Outline, start}
 use Rattle.bk_word.specs.Play.{IsComplete, IsLegal, outline_of}
 use Rattle.bk_word.specs.Word.{Move, Word, order_of}
 use Rattle.bk_word.specs.declared.Class.{Class}
+use Rattle.bk_word.proofs.StoredBytes.{order_append, order_more}
+use Rattle.bk_skel.proofs.StoredMoves.{few_signs}
 use Rattle.bk_walk.proofs.CutLaws.{after_near, whole_front}
 use Rattle.bk_walk.proofs.Fitting.{HasShape, IsFit, fit}
 use Rattle.bk_walk.proofs.MoveOrder.{less_from}
-use Rattle.bk_walk.proofs.Places.{IsLast, legal_front, legal_rest, order_append}
-use Rattle.bk_walk.proofs.Ranks.{open_one}
+use Rattle.bk_walk.proofs.Places.{IsLast, legal_front, legal_rest}
 use Rattle.bk_walk.proofs.SearchTurns.{climbs, cuts, ends, goes_down, pushed_tree, reaches, turns_back}
 use Rattle.bk_walk.specs.Catalogue.{Entry, IsEntry}
 use Rattle.bk_walk.specs.Cuts.{IsBarren}
@@ -18,11 +23,8 @@ use Rattle.bk_walk.specs.MoveCuts.{IsCut, IsNear}
 use Rattle.bk_walk.specs.NextMove.{IsLeastFrom, IsMoveFrom, first_move, fitted, move_after, open_sides}
 use Rattle.bk_walk.specs.Search.{Advances, Ends, IsClimbed, IsStand, IsTreeWord, Reaches}
 
-pub last_is : {A : Type 0} (xs : List A) (k : ℕ) (x : A) → length xs ≡ k + 1 → slice_get xs k ≡ Some x → xs ≡ take k xs ++ x ∷ []
-last_is [] k x h e = absurd (omega arith)
-last_is (y ∷ []) zero x h e = ap (λ z. z ∷ []) (cc)
-last_is (y ∷ z ∷ xs) zero x h e = absurd (omega arith)
-last_is (y ∷ xs) (suc k) x h e = ap (λ l. y ∷ l) (last_is xs k x (omega arith) e)
+pub take_next : {A : Type 0} (xs : List A) (i : ℕ) (x : A) → slice_get xs i ≡ Some x → take (i + 1) xs ≡ take i xs ++ x ∷ []
+take_next xs i x e = (take_at_read xs i x (slice_get_within xs i x e)).1 ∙ ap (λ y. take i xs ++ y ∷ []) (get_or_from_slice_get xs i x x e)
 
 shape_from : (o : Outline) (m : Move) → IsLegalMove o m → HasShape (open_sides o) m
 shape_from o m l = let some = l.some in record { some = l.some; long = omega (arith, l.signs) }
@@ -41,21 +43,14 @@ fit_least o x some = record {
     f = fit (open_sides o) x some
 
 count_up : (a b : Move) → IsMoveFrom a b → a.count ≤ b.count
-count_up a b from = cases (two b.count a.count)
+count_up a b from = cases (cases_lt b.count a.count)
   where
-    two : (m n : ℕ) → (m < n) ⊎ (n ≤ m)
-    two m n = grind arith
-
     cases : (b.count < a.count) ⊎ (a.count ≤ b.count) → a.count ≤ b.count
     cases (inl h) = absurd (from (less_from b a (inl h)))
     cases (inr h) = h
 
 pub last_from_fit : (n : ℕ) (front : Word) (x : Move) → 0 < x.count → n < order_of front + (fitted (open_sides (outline_of front)) x).count → IsLast n front x
 last_from_fit n front x some many m legal from few = omega (arith, count_up (fitted (open_sides (outline_of front)) x) m ((fit_least (outline_of front) x some).least m legal from))
-
--- a legal move of few squares has few signs
-pub few_signs : (o : Outline) (m : Move) → IsLegalMove o m → length m.signs ≤ m.count + 1
-few_signs o m l = omega (arith, l.signs, open_one (has_left_wall o), open_one (has_right_wall o))
 
 move_after_near : (m : Move) → IsNear m (move_after m)
 move_after_near m = subst (λ (k : Move). IsNear m (move_after k)) (whole_front m) (after_near (length m.signs) m)
@@ -78,24 +73,17 @@ last_move before front m l few e = record { legal_front = legal_front start fron
     legal = legal_rest start front (m ∷ []) lawful
 
     order : order_of front + m.count ≤ 16
-    order = omega (arith, few, ap order_of e, order_append front (m ∷ []), order-cons m [])
+    order = omega (arith, few, ap order_of e, order_append front (m ∷ []), order_more m [])
 
 pub taken_last : (before front : Word) (m : Move) (moves : ℕ) → moves ≡ length before → 0 < moves → slice_get before (moves - 1) ≡ Some m
     → front ≡ take (length before - 1) before → before ≡ front ++ m ∷ []
-taken_last before front m moves e some g f = last_is before (moves - 1) m (omega arith) g ∙ ap (λ l. l ++ m ∷ []) (ap (λ k. take (k - 1) before) e ∙ sym f)
+taken_last before front m moves e some g f = sym (take_all (moves - 1 + 1) before (omega arith)) ∙ take_next before (moves - 1) m g ∙ ap (λ l. l ++ m ∷ []) (ap (λ k. take (k - 1) before) e ∙ sym f)
 
 entry_whole : (n : ℕ) (class : Class) (e : Entry) → IsEntry n class e → IsComplete e.word × (order_of e.word ≡ n)
 entry_whole n class e is = let done = tiling_word_is_complete e.tiling e.word (is.member).tiling is.word in (done.0, done.1 ∙ (is.member).order)
 
 front_of_more : (front : Word) (m : Move) → take (length (front ++ m ∷ []) - 1) (front ++ m ∷ []) ≡ front
-front_of_more front m = ap (λ k. take k (front ++ m ∷ [])) one ∙ taken front
-  where
-    one : length (front ++ m ∷ []) - 1 ≡ length front
-    one = omega (arith, length_append front (m ∷ []))
-
-    taken : (w : Word) → take (length w) (w ++ m ∷ []) ≡ w
-    taken [] = refl
-    taken (k ∷ w) = ap (λ l. k ∷ l) (taken w)
+front_of_more front m = take_at front (m ∷ []) (length (front ++ m ∷ []) - 1) (omega (arith, length_append front (m ∷ [])))
 
 -- a turn from a place, by the least legal move that is not before the move there
 module _ (n : ℕ) (class : Class) (front : Word) (x m : Move) (few : n ≤ 16) (s : IsStand n front x) (fits : m ≡ fitted (open_sides (outline_of front)) x) where
@@ -121,7 +109,7 @@ module _ (n : ℕ) (class : Class) (front : Word) (x m : Move) (few : n ≤ 16) 
       stand : IsStand n new next
       stand = record {
         legal = l.legal_front;
-        small = omega (arith, s.small, ap order_of c.was, order_append new (c.last ∷ []), order-cons c.last []);
+        small = omega (arith, s.small, ap order_of c.was, order_append new (c.last ∷ []), order_more c.last []);
         some = omega (arith, near.least, (l.legal).some, ap (λ (k : Move). k.count) c.next);
         count = omega (arith, near.most, l.count, ap (λ (k : Move). k.count) c.next);
         signs = omega (arith, near.signs, l.signs, ap (λ (k : Move). length k.signs) c.next);

@@ -3,15 +3,15 @@ use Rattle.std.specs.declared.cmp.Ordering.{Ordering}
 use Rattle.std.specs.declared.cmp.Ordering.TheVariants.{Equal, Greater, Less}
 use Rattle.std.specs.Ordering.{ordering_reverse, ordering_then}
 use Rattle.std.proofs.Common.{[], ap, append-nil, arith, refl, subst, sym, ℕ, ◌++◌, ◌+◌, ◌∙◌, ◌∷◌, ◌≡◌, ◌≤◌}
-use Rattle.bk_lay.proofs.WordPlay.{order-cons}
 use Rattle.bk_word.proofs.WordOrder.{follows_trans, word_total}
 use Rattle.bk_word.specs.Outline.{IsLegalMove, start}
 use Rattle.bk_word.specs.Play.{IsLegal, outline_of}
 use Rattle.bk_word.specs.Word.{Follows, Move, Word, move_cmp, order_of, word_cmp}
 use Rattle.bk_word.specs.declared.Class.{Class}
+use Rattle.bk_word.proofs.StoredBytes.{order_append, order_more}
 use Rattle.bk_walk.proofs.Advancing.{before_not_before, entry_word, not_both}
 use Rattle.bk_walk.proofs.MoveOrder.{greater}
-use Rattle.bk_walk.proofs.Places.{LiesBetween, before_first, front_cmp, legal_rest, lies_between, move_itself, move_same, not_before_first, order_append}
+use Rattle.bk_walk.proofs.Places.{LiesBetween, before_first, front_cmp, legal_rest, lies_between, move_itself, move_same, not_before_first}
 use Rattle.bk_walk.proofs.TreeCounts.{not_itself}
 use Rattle.bk_walk.specs.NextMove.{first_move}
 use Rattle.bk_walk.specs.Search.{IsPlace, IsTreeWord}
@@ -72,7 +72,7 @@ begins_beside n class front x rest not = begins_at n class (front ++ x ∷ rest)
         up = front_cmp front (x ∷ []) (x ∷ y ∷ rest) ∙ ap (λ z. ordering_then z (word_cmp [] (y ∷ rest))) (move_itself x)
 
     never : (w more : Word) → IsTreeWord n w → w ≡ front ++ x ∷ more → ⊥
-    never w more tree e = not ((legal_rest start front (x ∷ more) (subst IsLegal e tree.legal)).0) (omega (arith, tree.small, ap order_of e, order_append front (x ∷ more), order-cons x more))
+    never w more tree e = not ((legal_rest start front (x ∷ more) (subst IsLegal e tree.legal)).0) (omega (arith, tree.small, ap order_of e, order_append front (x ∷ more), order_more x more))
 
     after : (w : Word) → IsTreeWord n w → (Follows (front ++ x ∷ []) w → ⊥) → Follows w (front ++ x ∷ rest)
     after w tree from = cases (word_cmp w (front ++ x ∷ rest)) refl

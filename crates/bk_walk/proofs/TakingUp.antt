@@ -1,31 +1,24 @@
 -- A walk takes up its cursor: it plays the moves that are legal and few, one after another.
-use Rattle.std.proofs.Common.{List, Some, [], ap, arith, drop, length, min, refl, slice_get, subst, suc, sym, take, zero, ℕ, ◌++◌, ◌+◌, ◌-◌, ◌^◌, ◌∙◌, ◌∷◌, ◌≡◌, ◌≤◌}
-use Rattle.bk_tiling.proofs.ListLaws.{length_append}
-use Rattle.bk_lay.proofs.WordPlay.{order-cons}
+use Rattle.std.proofs.Common.{List, Some, [], ap, arith, drop, length, min, slice_get, subst, sym, take, ℕ, ◌++◌, ◌+◌, ◌-◌, ◌^◌, ◌∙◌, ◌∷◌, ◌≡◌, ◌≤◌}
+use Rattle.std.proofs.lemmas.List.{take-append-drop, take_all}
+use Rattle.bk_tiling.proofs.ListLaws.{append_assoc, length_append}
 use Rattle.bk_word.specs.KeptWord.{CanStand}
 use Rattle.bk_word.specs.Outline.{IsLegalMove, Outline, has_left_wall, has_right_wall, start}
 use Rattle.bk_word.specs.Play.{IsLegal, outline_of}
 use Rattle.bk_word.specs.Word.{Move, Word, order_of}
 use Rattle.bk_word.specs.declared.Class.{Class}
-use Rattle.bk_walk.proofs.Places.{legal_more, legal_rest, order_append}
+use Rattle.bk_word.proofs.StoredBytes.{order_append, order_more}
+use Rattle.bk_skel.proofs.StoredMoves.{legal-snoc}
+use Rattle.bk_walk.proofs.Places.{legal_rest}
 use Rattle.bk_walk.proofs.Ranks.{IsSmallWord, open_one, small_from}
 use Rattle.bk_walk.proofs.SearchLoop.{counts_then}
 use Rattle.bk_walk.proofs.Starting.{begins_below, begins_beside}
 use Rattle.bk_walk.specs.NextMove.{first_move}
 use Rattle.bk_walk.specs.Search.{Counts, IsPlace, IsStand}
+use Rattle.bk_walk.proofs.Standing.{take_next}
 
-suc_one : (i : ℕ) → suc i + 1 ≡ suc (i + 1)
-suc_one i = omega arith
-
-pub take_next : {A : Type 0} (xs : List A) (i : ℕ) (x : A) → slice_get xs i ≡ Some x → take (i + 1) xs ≡ take i xs ++ x ∷ []
-take_next [] i x e = absurd (cc)
-take_next (y ∷ xs) zero x e = ap (λ z. z ∷ []) (cc)
-take_next (y ∷ xs) (suc i) x e = ap (λ k. take k (y ∷ xs)) (suc_one i) ∙ ap (λ l. y ∷ l) (take_next xs i x e)
-
-pub split_at : {A : Type 0} (xs : List A) (i : ℕ) (x : A) → slice_get xs i ≡ Some x → xs ≡ take i xs ++ x ∷ drop (i + 1) xs
-split_at [] i x e = absurd (cc)
-split_at (y ∷ xs) zero x e = ap (λ z. z ∷ xs) (cc)
-split_at (y ∷ xs) (suc i) x e = ap (λ l. y ∷ l) (split_at xs i x e) ∙ ap (λ k. y ∷ (take i xs ++ x ∷ drop k (y ∷ xs))) (sym (suc_one i))
+split_at : {A : Type 0} (xs : List A) (i : ℕ) (x : A) → slice_get xs i ≡ Some x → xs ≡ take i xs ++ x ∷ drop (i + 1) xs
+split_at xs i x e = sym (take-append-drop (i + 1) xs) ∙ ap (λ l. l ++ drop (i + 1) xs) (take_next xs i x e) ∙ append_assoc (take i xs) (x ∷ []) (drop (i + 1) xs)
 
 -- as far as the cursor is taken up
 pub record TakesUp (n : ℕ) (cursor first played : Word) (i pushes pushes_now steps steps_now : ℕ) : Type 0 where
@@ -40,8 +33,8 @@ pub takes_more : (n : ℕ) (cursor first played more : Word) (m : Move) (i pushe
     → TakesUp n cursor first more (i + 1) pushes then steps st
 takes_more n cursor first played more m i pushes now then steps sn st t g legal few e s p = record {
   begun = take_next cursor i m g ∙ ap (λ l. l ++ m ∷ []) t.begun ∙ sym e;
-  legal = subst IsLegal (sym e) (legal_more start played m t.legal legal);
-  small = omega (arith, ap order_of e, order_append played (m ∷ []), order-cons m []);
+  legal = subst IsLegal (sym e) (legal-snoc start played m t.legal legal);
+  small = omega (arith, ap order_of e, order_append played (m ∷ []), order_more m []);
   one_each = omega (arith, t.one_each, ap length e, length_append played (m ∷ []));
   counts = counts_then pushes now then steps sn st t.counts (record { more = omega arith; counted = p ∙ ap (λ k. min (now + k) (2 ^ 64 - 1)) (omega arith) });
 }
@@ -63,7 +56,7 @@ stuck_stand n cursor first played m i pushes now steps sn few t g stands = recor
 }
   where
     count : m.count ≤ 16
-    count = omega (arith, few, ap order_of (split_at cursor i m g), order_append (take i cursor) (m ∷ drop (i + 1) cursor), order-cons m (drop (i + 1) cursor))
+    count = omega (arith, few, ap order_of (split_at cursor i m g), order_append (take i cursor) (m ∷ drop (i + 1) cursor), order_more m (drop (i + 1) cursor))
 
 pub stuck_place : (n : ℕ) (class : Class) (cursor first played : Word) (m : Move) (i pushes now steps sn : ℕ) → TakesUp n cursor first played i pushes now steps sn → slice_get cursor i ≡ Some m
     → (IsLegalMove (outline_of played) m → order_of played + m.count ≤ n → ⊥) → IsPlace n class cursor (played ++ m ∷ []) 0
@@ -74,13 +67,7 @@ stuck_place n class cursor first played m i pushes now steps sn t g not =
 pub whole_place : (n : ℕ) (class : Class) (cursor first played : Word) (x : Move) (i pushes now steps sn : ℕ) → TakesUp n cursor first played i pushes now steps sn → length cursor ≤ i → x ≡ first_move
     → IsPlace n class cursor (played ++ x ∷ []) 0
 whole_place n class cursor first played x i pushes now steps sn t h e =
-    subst (λ (w : Word). IsPlace n class cursor (w ++ x ∷ []) 0) (sym (all cursor i h) ∙ t.begun) (subst (λ (m : Move). IsPlace n class cursor (cursor ++ m ∷ []) 0) (sym e) (begins_below n class cursor))
-  where
-    all : {A : Type 0} (xs : List A) (i : ℕ) → length xs ≤ i → take i xs ≡ xs
-    all [] zero h = refl
-    all [] (suc i) h = refl
-    all (x ∷ xs) zero h = absurd (omega arith)
-    all (x ∷ xs) (suc i) h = ap (λ l. x ∷ l) (all xs i (omega arith))
+    subst (λ (w : Word). IsPlace n class cursor (w ++ x ∷ []) 0) (sym (take_all i cursor h) ∙ t.begun) (subst (λ (m : Move). IsPlace n class cursor (cursor ++ m ∷ []) 0) (sym e) (begins_below n class cursor))
 
 pub whole_played_stand : (n : ℕ) (cursor first played : Word) (x : Move) (i pushes now steps sn : ℕ) → TakesUp n cursor first played i pushes now steps sn → x ≡ first_move → IsStand n played x
 whole_played_stand n cursor first played x i pushes now steps sn t e = subst (IsStand n played) (sym e) (record { legal = t.legal; small = t.small; some = omega arith; count = omega arith; signs = omega arith })
@@ -93,4 +80,4 @@ legal_stands word i m l g = stands (outline_of (take i word)) (legal_rest start 
     stands o k = record { some = k.some; least = omega (arith, k.signs); most = omega (arith, k.signs, open_one (has_left_wall o), open_one (has_right_wall o)) }
 
 pub order_at : (word : Word) (i : ℕ) (m : Move) (k : ℕ) → slice_get word i ≡ Some m → order_of word ≤ k → order_of (take i word) + m.count ≤ k
-order_at word i m k g few = omega (arith, few, ap order_of (split_at word i m g), order_append (take i word) (m ∷ drop (i + 1) word), order-cons m (drop (i + 1) word))
+order_at word i m k g few = omega (arith, few, ap order_of (split_at word i m g), order_append (take i word) (m ∷ drop (i + 1) word), order_more m (drop (i + 1) word))

@@ -5,8 +5,9 @@ use Rattle.std.specs.Ordering.{ordering_reverse}
 use Rattle.std.specs.declared.cmp.Ordering.{Ordering}
 use Rattle.std.specs.declared.cmp.Ordering.TheVariants.{Equal, Greater, Less}
 use Rattle.std.proofs.Common.{Contains, List, None, Option, Some, [], ap, arith, inl, inr, length, refl, subst, suc, sym, zero, ℕ, ◌++◌, ◌+◌, ◌∙◌, ◌∷◌, ◌≡◌, ◌≤◌, ◌⊎◌}
+use Rattle.std.proofs.lemmas.List.Elements.{Contains-append_left, Contains-append_right}
 use Rattle.bk_tiling.proofs.ListLaws.{length_append}
-use Rattle.bk_word.proofs.ListLaws.{all_append, contains_left, contains_right}
+use Rattle.bk_word.proofs.ListLaws.{all_append}
 use Rattle.bk_word.proofs.WordOrder.{word_total}
 use Rattle.bk_word.specs.Word.{Follows, Word, word_cmp}
 use Rattle.bk_walk.specs.Tree.{AreAscendingWords, HasAtLeast, IsInTree, IsNotAfter, IsTreeCount}
@@ -127,12 +128,12 @@ module _ (n : ℕ) (cursor between : Word) (bound : Option Word) (from : Follows
   }
     where
       in_part : (w : Word) → IsInTree n cursor bound w → (r : Ordering) → word_cmp between w ≡ r → Contains (s.words ++ t.words) w
-      in_part w h Less e = contains_right s.words t.words w (t.all w (record { legal = h.legal; some = h.some; small = h.small; after = e; within = h.within }))
-      in_part w h Equal e = contains_left s.words t.words w (s.all w (record { legal = h.legal; some = h.some; small = h.small; after = h.after; within = λ f. impossible (sym e ∙ f) }))
+      in_part w h Less e = Contains-append_right s.words t.words w (t.all w (record { legal = h.legal; some = h.some; small = h.small; after = e; within = h.within }))
+      in_part w h Equal e = Contains-append_left s.words t.words w (s.all w (record { legal = h.legal; some = h.some; small = h.small; after = h.after; within = λ f. impossible (sym e ∙ f) }))
         where
           impossible : Equal ≡ Less → ⊥
           impossible g = cc
-      in_part w h Greater e = contains_left s.words t.words w (s.all w (record { legal = h.legal; some = h.some; small = h.small; after = h.after; within = λ f. impossible (sym e ∙ f) }))
+      in_part w h Greater e = Contains-append_left s.words t.words w (s.all w (record { legal = h.legal; some = h.some; small = h.small; after = h.after; within = λ f. impossible (sym e ∙ f) }))
         where
           impossible : Greater ≡ Less → ⊥
           impossible g = cc

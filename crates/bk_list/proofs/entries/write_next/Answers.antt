@@ -1,16 +1,17 @@
 use Rattle.std.proofs.Common.{List, take, subst, ℕ, ◌∙◌}
 use Rattle.std.specs.Io.KnownBytes.{Appends}
-use Rattle.bk_list.proofs.ListingSteps.{if_ok, match_ok, on_err, taken, word_some}
+use Rattle.std.proofs.lemmas.Result.{IfOk-at_ok, MatchResult-at_ok}
+use Rattle.bk_list.proofs.ListingSteps.{on_err, taken, word_some}
 use Rattle.bk_list.proofs.entries.write_next.Goals as goal
 
 pub write_entry-requires : goal.write_entry-requires
 write_entry-requires g c =
-    let next = if_ok _ c.in-Some-Ok.field-0 c.in-Some-Ok.entry c.in-Some-Ok.field-0-is c.in-Some-Ok.ensures.entry in
+    let next = IfOk-at_ok _ c.in-Some-Ok.field-0-is c.in-Some-Ok.ensures.entry in
     word_some c.args.walk.now.order c.args.walk.now.class c.args.walk.now.cursor c.in-Some-Ok.entry.tiling c.in-Some-Ok.entry.word next.0
 
 pub returns-in_err-write_all-in-Some-Ok-clause-begun : goal.returns-in_err-write_all-in-Some-Ok-clause-begun
 returns-in_err-write_all-in-Some-Ok-clause-begun g c =
-    let next = if_ok _ c.in-Some-Ok.field-0 c.in-Some-Ok.entry c.in-Some-Ok.field-0-is c.in-Some-Ok.ensures.entry in
+    let next = IfOk-at_ok _ c.in-Some-Ok.field-0-is c.in-Some-Ok.ensures.entry in
     let err = c.in_err-write_all-in-Some-Ok.ensures.err in
     on_err c.from_residual.result (
       record { tiling = c.in-Some-Ok.entry.tiling; word = c.in-Some-Ok.entry.word },
@@ -23,9 +24,9 @@ returns-in_err-write_all-in-Some-Ok-clause-begun g c =
 
 pub returns-clause-next : goal.returns-clause-next
 returns-clause-next g c =
-    let next = if_ok _ c.in-Some-Ok.field-0 c.in-Some-Ok.entry c.in-Some-Ok.field-0-is c.in-Some-Ok.ensures.entry in (
+    let next = IfOk-at_ok _ c.in-Some-Ok.field-0-is c.in-Some-Ok.ensures.entry in (
       record { tiling = c.in-Some-Ok.entry.tiling; word = c.in-Some-Ok.entry.word },
       taken c.args.walk.now.order c.args.walk.now.class c.args.walk.now.cursor c.in-Some-Ok.entry.tiling c.in-Some-Ok.entry.word next.0,
-      match_ok _ _ c.in-Some-Ok.field-0 c.in-Some-Ok.entry c.in-Some-Ok.field-0-is c.in-Some-Ok.ensures.cursor,
+      MatchResult-at_ok _ _ c.in-Some-Ok.entry c.in-Some-Ok.field-0-is c.in-Some-Ok.ensures.cursor,
       subst (Appends (g.O.Sink.written c.args.out.now) (g.O.Sink.written c.write_all.new.self)) (c.as_slice.ensures.value ∙ c.write_entry.ensures) c.in_ok-write_all-in-Some-Ok.ensures.ok,
     )

@@ -1,7 +1,8 @@
 use Rattle.std.proofs.Common.{[], ap, arith, false, sym, true, ◌++◌, ◌∙◌, ◌∷◌, ◌≡◌}
 use Rattle.bk_word.specs.Word.{order_of}
-use Rattle.bk_walk.proofs.TakingUp.{legal_stands, order_at, take_next}
+use Rattle.bk_walk.proofs.TakingUp.{legal_stands, order_at}
 use Rattle.bk_walk.proofs.resuming.word_played.Goals as goal
+use Rattle.bk_walk.proofs.Standing.{take_next}
 
 pub push-requires-clause-stands : goal.push-requires-clause-stands
 push-requires-clause-stands c = legal_stands c.args.skel.now c.moves.i c.get.result c.moves-i-end.ensures.kept.legal c.get.ensures

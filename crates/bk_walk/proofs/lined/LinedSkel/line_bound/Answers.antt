@@ -1,6 +1,7 @@
 use Rattle.std.proofs.Common.{ap, arith, length, sum, ◌∙◌, ◌≡◌}
 use Rattle.bk_word.specs.Play.{outline_of}
-use Rattle.bk_walk.proofs.BoundsOfWords.{line_bound_by_lists, sizes_long, sizes_sum}
+use Rattle.bk_skel.proofs.TurnParts.{sum_lengths}
+use Rattle.bk_walk.proofs.BoundsOfWords.{line_bound_by_lists, sizes_long}
 use Rattle.bk_walk.specs.VerticalCut.{line_bound, line_bound_of, lines_of, segments_of, touched}
 use Rattle.bk_walk.proofs.lined.LinedSkel.line_bound.Goals as goal
 
@@ -8,7 +9,7 @@ pub line_bound-requires-clause-long : goal.line_bound-requires-clause-long
 line_bound-requires-clause-long c = omega (arith, sizes_long c.self.inside.skel c.self.invariant.legal, ap length c.sizes.ensures, ap length c.signs.ensures)
 
 pub line_bound-requires-clause-enough : goal.line_bound-requires-clause-enough
-line_bound-requires-clause-enough c = omega (arith, sizes_sum (outline_of c.self.inside.skel).segments, ap sum c.sizes.ensures, ap length c.ends.ensures)
+line_bound-requires-clause-enough c = omega (arith, sum_lengths (outline_of c.self.inside.skel).segments, ap sum c.sizes.ensures, ap length c.ends.ensures)
 
 pub returns : goal.returns
 returns c =

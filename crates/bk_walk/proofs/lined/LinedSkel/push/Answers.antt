@@ -2,7 +2,8 @@ use Rattle.std.proofs.Common.{ap, arith, length, nat_eq, subst, sum, sym, ◌∙
 use Rattle.bk_word.specs.Outline.{IsLegalMove}
 use Rattle.bk_word.specs.Play.{outline_of}
 use Rattle.bk_word.specs.Word.{Move, Word, order_of}
-use Rattle.bk_walk.proofs.BoundsOfWords.{sizes_long, sizes_sum}
+use Rattle.bk_skel.proofs.TurnParts.{sum_lengths}
+use Rattle.bk_walk.proofs.BoundsOfWords.{sizes_long}
 use Rattle.bk_walk.proofs.LinedMoves.{lined_count, lined_more, valley_begins}
 use Rattle.bk_walk.proofs.lined.LinedSkel.push.Goals as goal
 
@@ -10,7 +11,7 @@ pub valley_on_line-is_on-requires-clause-long : goal.valley_on_line-is_on-requir
 valley_on_line-is_on-requires-clause-long g c = omega (arith, sizes_long c.self.inside.skel c.self.invariant.legal, ap length c.sizes.ensures, ap length c.signs.ensures)
 
 pub valley_on_line-is_on-requires-clause-enough : goal.valley_on_line-is_on-requires-clause-enough
-valley_on_line-is_on-requires-clause-enough g c = omega (arith, sizes_sum (outline_of c.self.inside.skel).segments, ap sum c.sizes.ensures, ap length c.ends.ensures)
+valley_on_line-is_on-requires-clause-enough g c = omega (arith, sum_lengths (outline_of c.self.inside.skel).segments, ap sum c.sizes.ensures, ap length c.ends.ensures)
 
 pub push_lines-requires : goal.push_lines-requires
 push_lines-requires g c =
