@@ -39,6 +39,9 @@ use Rattle.bk_skel.proofs.Sums.{positive_total, span_sum}
 use Rattle.bk_skel.specs.FlowTiling.{SignsCompare, bottoms_of_move, segment_bottom}
 use Rattle.bk_skel.specs.WordFlow.{LaidAlong}
 
+not_nil : (n : ℕ) (ns : List ℕ) → n ∷ ns ≡ [] → ⊥
+not_nil n ns e = cc
+
 -- one turn of placing: the group fills the segment that the move closes
 pub record IsPlacing (width : ℕ) (laid : List Square) (o : Outline) (m : Move) (x level : ℕ) (new : List ℕ) : Type 0 where
   pub count : length new ≡ m.count
@@ -79,9 +82,6 @@ module _ (t : Tiling) (tiling : IsTiling t) (all : List Square) (all_in : (q : S
     valley_is : v ≡ record { x = x; width = total new; level = level }
     valley_is = cases (valley_of o) refl turn.place (valley_segment t laid nodes o v tiling d found)
       where
-        not_nil : (n : ℕ) (ns : List ℕ) → n ∷ ns ≡ [] → ⊥
-        not_nil n ns e = cc
-
         cases : (numbers : List ℕ) → valley_of o ≡ numbers → Span laid level x (valley_of o) (x + total new) ⊎ ((laid ≡ []) × (valley_of o ≡ []) × (x ≡ 0) × (level ≡ 0) × (total new ≡ t.width)) → IsSegment laid v (valley_of o)
             → v ≡ record { x = x; width = total new; level = level }
         cases numbers e (inr (none, nil, a, b, c)) seg = segment_path v (record { x = x; width = total new; level = level }) (top.0 ∙ sym a) (top.1 ∙ sym c) (deep ∙ sym b)
@@ -171,9 +171,6 @@ module _ (t : Tiling) (tiling : IsTiling t) (all : List Square) (all_in : (q : S
     segment_level r [] level (inr top) = sym top.0
     segment_level r (n ∷ numbers) level (inl span) = own_bottom n span.0 span.1 ∙ span.3
     segment_level r (n ∷ numbers) level (inr top) = absurd (not_nil n numbers top.1)
-      where
-        not_nil : (n : ℕ) (ns : List ℕ) → n ∷ ns ≡ [] → ⊥
-        not_nil n ns e = cc
 
     module _ (p : Placed t.width laid 0 d.runs) (same : p.valley ≡ v) where
       is : d.runs ≡ p.before ++ v ∷ p.after
