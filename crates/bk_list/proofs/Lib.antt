@@ -3,5 +3,4 @@ pub mod OneEntry
 pub mod WordCounts
 pub mod Taking
 pub mod ListingSteps
-pub mod TwoSquares
 pub mod ListingExamples

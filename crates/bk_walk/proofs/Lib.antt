@@ -40,3 +40,5 @@ pub mod ClassesKept
 pub mod GreatestImage
 pub mod ListedOnce
 pub mod LinedMoves
+pub mod TwoSquares
+pub mod CatalogueExamples

@@ -32,7 +32,8 @@ abbrev pub HasNoneBetween : ℕ → Class → Word → Word → Type 0
 HasNoneBetween n class cursor word =
     (e : Entry) → IsEntry n class e → Follows e.word cursor → Follows word e.word → ⊥
 
--- the least member after the cursor, and its word
+-- the least member after the cursor, and its word. Of order 2 and the class imperfect it is at the start the row of two
+-- squares of side 1 with the word 2e, and after 2e there is none
 pub record IsNextMember (n : ℕ) (class : Class) (cursor : Word) (t : Tiling) (word : Word) : Type 0 where
   pub member : IsMember n class t
   pub word_is : IsWordOf t word

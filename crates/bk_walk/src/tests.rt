@@ -80,8 +80,15 @@ fn whole_orders<L: Ledger>(rt: &impl Abort, alloc: Global, blank: Blank)
         lists(rt, &mut walk, members, &mut steps);
     }
     for order in 3..9 {
-        let mut walk = walk_from(rt, alloc, order, Class::Simple, None);
-        lists(rt, &mut walk, &[], &mut steps);
+        lists_none(rt, alloc, order, &mut steps);
+    }
+}
+
+// Walks of the order list no member in any class.
+fn lists_none<L: Ledger>(rt: &impl Abort, alloc: Global, order: u8, steps: &mut Steps<L>) {
+    for class in [Class::Perfect, Class::Imperfect, Class::Simple] {
+        let mut walk = walk_from(rt, alloc, order, class, None);
+        lists(rt, &mut walk, &[], steps);
     }
 }
 
