@@ -4,3 +4,4 @@ pub mod WordCounts
 pub mod Taking
 pub mod ListingSteps
 pub mod ListingExamples
+pub mod WholeListing
