@@ -5,7 +5,9 @@ use Rattle.std.proofs.Common.{[], inl, inr, refl, ◌++◌, ◌∷◌}
 use Rattle.bk_word.specs.declared.Class.TheVariants.{Imperfect, Perfect}
 use Rattle.bk_report.specs.declared.listing.Last.TheVariants.{End, Limit}
 use Rattle.bk_walk.proofs.CatalogueExamples.{entry_is, no_perfect, only, row_entry}
+use Rattle.bk_list.proofs.WholeListing.{a_whole_listing_is_the_catalogue}
 use Rattle.bk_list.specs.Listing.{AreFirst, IsListing}
+use Rattle.bk_list.specs.ListingLaws.{WritesCatalogue}
 
 none_yet : AreFirst 2 Imperfect [] []
 none_yet = record { each = tt; after = tt; ascending = tt; none_between = λ e is h. inr tt }
@@ -17,6 +19,10 @@ one_listed = record { each = (entry_is, tt); after = (refl, tt); ascending = (tt
 pub whole_listing : IsListing 2 Imperfect [] None End (codes "2 2x1 [1,1] ; 2e" ++ 10 ∷ codes "; end order 2 class imperfect listed 1" ++ 10 ∷ [])
 unfolding digits
 whole_listing = record { entries = row_entry ∷ []; word = []; first = one_listed; ends = (tt, λ e is h. only e is); text = refl }
+
+-- so these are the lines of the whole catalogue
+pub whole_catalogue : WritesCatalogue 2 Imperfect (codes "2 2x1 [1,1] ; 2e" ++ 10 ∷ codes "; end order 2 class imperfect listed 1" ++ 10 ∷ [])
+whole_catalogue = a_whole_listing_is_the_catalogue 2 Imperfect _ whole_listing
 
 -- list --order 2 --class imperfect --limit 1: the limit is reached, whether or not there are more
 pub at_the_limit : IsListing 2 Imperfect [] (Some 1) Limit (codes "2 2x1 [1,1] ; 2e" ++ 10 ∷ codes "; limit order 2 class imperfect listed 1" ++ 10 ∷ [])

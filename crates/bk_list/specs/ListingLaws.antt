@@ -23,6 +23,7 @@ AListingGoesOn = (n : ℕ) (class : Class) (cursor : Word) (entries more : List 
     → AreFirst n class cursor (entries ++ more) × EndsBy n class cursor None (entries ++ more) last w
 
 -- the bytes are the lines of the whole catalogue, an entry line for each of its entries in order, and one last line
+-- Of order 2 and the class imperfect these are `2 2x1 [1,1] ; 2e` and `; end order 2 class imperfect listed 1`.
 pub record WritesCatalogue (n : ℕ) (class : Class) (bytes : List ℕ) : Type 0 where
   pub entries : List Entry
   pub catalogue : IsCatalogue n class entries

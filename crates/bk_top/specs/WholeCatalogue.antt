@@ -15,7 +15,7 @@ pub record AppendsCatalogue (n : ℕ) (class : Class) (before after : Outside) :
   pub appends : Appends before.written after.written bytes
 
 -- a run that is asked for a listing from the start, without a limit, and ends with status 0 has written the whole
--- catalogue: so `list --order 9` writes two entries and a last line
+-- catalogue: for order 2 and the class imperfect the lines `2 2x1 [1,1] ; 2e` and `; end order 2 class imperfect listed 1`
 abbrev pub AWholeListIsTheCatalogue : Type 0
 AWholeListIsTheCatalogue = (words : List (String Global)) (n : ℕ) (class : Class) (before after : Outside) (status : ℕ)
     → IsRun words before after status → WordsAsk words (asks.List n class None None) → status ≡ 0
