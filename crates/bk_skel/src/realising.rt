@@ -1,7 +1,7 @@
 //! The primitive tiling of a word, from the flow of its net.
 
 ghost use Rattle.std.specs.List.{AllByRecursion};
-ghost use Rattle.std.specs.Prelude.{All, Any, IfErr, IfNone, IfOk, IfSome, IsErr, IsTrue, OnOk, length, map, nat_abs, pos, ◌<◌, ◌^◌, ◌↔◌, ◌≡◌, ◌≤◌, ◌≤ℤ◌};
+ghost use Rattle.std.specs.Prelude.{All, Any, IfErr, IfNone, IfOk, IfSome, IsErr, IsOk, IsTrue, OnOk, length, map, nat_abs, pos, ◌<◌, ◌^◌, ◌↔◌, ◌≡◌, ◌≤◌, ◌≤ℤ◌};
 ghost use Rattle.bk_net.specs.Flow.{IsPrimitiveFlow};
 ghost use Rattle.bk_tiling.specs.Kept.{IsSide};
 ghost use Rattle.bk_word.specs.Play.{IsComplete, IsLegal};
@@ -55,12 +55,13 @@ pub fn realise_whole(skel: &Skel) -> Result<Option<Tiling>, Undecided>
 
 /// The primitive tiling whose word is the list of moves of a closed skeleton of at most 16 squares: no other has this word
 /// (Brooks, Smith, Stone and Tutte 1940). `None` comes exactly where the word isn't wide and no tiling has it. `Wide` comes
-/// exactly where the word is wide (own). It takes no memory.
+/// exactly where the word is wide (own), which is never (`no_small_word_is_wide`). It takes no memory.
 pub fn realise_small(skel: &Skel) -> Result<Option<Tiling>, Wide>
     requires closed { IsComplete skel.now }
     requires few { order_of skel.now ≤ INLINE_ORDER }
     ensures realised { IfOk result (IsRealised skel.now) }
     ensures wide { IsErr result ↔ IsWideWord skel.now }
+    ensures narrow { IsOk result }
 {
     match solve_small(&skel.net()) {
         Ok(flow) => realised(skel, &flow),
