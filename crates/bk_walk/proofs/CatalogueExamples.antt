@@ -1,6 +1,6 @@
 -- The catalogues of order 2: of the class imperfect the row of two squares of side 1, with the word 2e; of the class perfect
 -- none. What a walk gives from the start.
-use Rattle.std.proofs.Common.{Contains, [], arith, inl, inr, lit<, lit≤, refl, subst, sym, ◌∷◌, ◌≡◌}
+use Rattle.std.proofs.Common.{Contains, [], arith, lit<, lit≤, refl, subst, sym, ◌∷◌, ◌≡◌}
 use Rattle.bk_tiling.proofs.TilingTest.{tiling_from_test}
 use Rattle.bk_tiling.specs.Tiling.{IsTiling, Tiling}
 use Rattle.bk_simple.specs.Simple.{IsPerfect, IsSimple}

@@ -20,6 +20,7 @@ pub mod TakingUp
 pub mod Answering
 pub mod Potential
 pub mod ClosingLaws
+pub mod WordBoundLaws
 pub mod CuttingBounds
 pub mod SingleLaws
 pub mod LineLaws

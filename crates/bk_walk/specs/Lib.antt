@@ -10,5 +10,6 @@ pub mod Walking
 pub mod ClosingBound
 pub mod SingleValleys
 pub mod VerticalCut
+pub mod WordBounds
 pub mod Corners
 pub mod Once

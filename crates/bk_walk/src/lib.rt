@@ -8,6 +8,7 @@ ghost use Rattle.bk_walk.specs.Once.{EachSimpleTilingIsListedOnce};
 ghost use Rattle.bk_walk.specs.SingleValleys.{TooManySinglesIsBarren};
 ghost use Rattle.bk_walk.specs.TreeLaws.{TheTreeCountIsMost, TheTreeCountIsOne, TreeCountsAdd, AtLeastAdds, ALegalWordIsOne};
 ghost use Rattle.bk_walk.specs.VerticalCut.{TheLineBoundIsMost, TooManyLinesIsBarren};
+ghost use Rattle.bk_walk.specs.WordBounds.{ClosingsAreHung, LinesAreHung, SinglesAreHung};
 
 mod barren;
 mod corners;
@@ -76,6 +77,21 @@ pub fn shorter_first_is_barren()
 /// The closing bound is the greatest number of closings.
 pub fn the_closing_bound_is_most()
     ensures { TheClosingBoundIsMost }
+{}
+
+/// After its first moves a complete word hangs at least as many squares as segments must be closed.
+pub fn closings_are_hung()
+    ensures { ClosingsAreHung }
+{}
+
+/// A complete word without pairs hangs one more for each valley of one square.
+pub fn singles_are_hung()
+    ensures { SinglesAreHung }
+{}
+
+/// It hangs one more where lines from the top end on a segment, if none comes down to the last one.
+pub fn lines_are_hung()
+    ensures { LinesAreHung }
 {}
 
 /// No member's word goes on from moves after which fewer squares are left than segments that must be closed.

@@ -1,0 +1,12 @@
+pub mod WideNodes
+pub mod TopLines
+pub mod MarkedSquares
+pub mod CutsOfLayouts
+pub mod CutsOfTilings
+pub mod OpenRuns
+pub mod ApartLines
+pub mod SharedLines
+pub mod SharedPairs
+pub mod NumberedLines
+pub mod InnerLines
+pub mod CutByNodes

@@ -1,0 +1,216 @@
+-- P on words: nodes and squares of the word against those of its layout.
+use Rattle.std.proofs.Common.{List, None, Option, Some, [], ap, arith, cond, inl, inr, length, map, nat_eq, option_map, refl, replicate, slice_get, slice_index_or, subst, suc, sym, zero, ℕ, ◌++◌, ◌+◌, ◌-◌, ◌<◌, ◌∙◌, ◌∷◌, ◌≡◌, ◌≤◌, ◌⊎◌}
+use Rattle.std.proofs.lemmas.Bool.Decides.{nat_tests}
+use Rattle.bk_tiling.proofs.ListLaws.{append_assoc, append_nil, get_some, length_append, length_map}
+use Rattle.bk_word.proofs.PlayLists.{numbers-length}
+use Rattle.bk_word.specs.Outline.{Outline, start, valley_of}
+use Rattle.bk_word.specs.Play.{after_move, after_moves, numbers_from, outline_of}
+use Rattle.bk_word.specs.Word.{Word}
+use Rattle.bk_lay.proofs.Steps.{get_append}
+use Rattle.bk_skel.proofs.Numbering.{HasPlace, Numbered, numbered_moves, numbered_start, place_of_number, times, times_at, times_in, times_in-append, times_one, times_some}
+use Rattle.bk_skel.proofs.PlacesInLists.{get_map, wires_got}
+use Rattle.bk_skel.proofs.Shape.{hung_many}
+use Rattle.bk_skel.proofs.Wires.{wires_length}
+use Rattle.bk_skel.specs.WordNet.{end_of, net_of_word}
+use Rattle.bk_layout.proofs.Counting.{at_most, got_same, got_times, none_for, once_times, one_for, same_or_other, times_got}
+use Rattle.bk_layout.specs.Layout.{Fits, Layout, net_of_layout}
+use Rattle.bk_layout.specs.LayoutLaws.{IsWordOfLayout}
+use Rattle.bk_walk.proofs.Potential.{after_moves-append}
+use Rattle.bk_free_cuts.proofs.MarkedSquares.{numbers_at}
+use Rattle.bk_free_cuts.proofs.OpenRuns.{index_at}
+use Rattle.bk_free_cuts.proofs.WideNodes.{got_low}
+
+closed_grows : (o : Outline) (w : Word) → (more : List (List ℕ)) × ((after_moves o w).closed ≡ o.closed ++ more)
+closed_grows o [] = ([], sym (append_nil o.closed))
+closed_grows o (m ∷ w) = let r = closed_grows (after_move o m) w in ((valley_of o ∷ []) ++ r.0, r.1 ∙ append_assoc o.closed (valley_of o ∷ []) r.0)
+
+hung_grows : (o : Outline) (w : Word) → (more : List ℕ) × ((after_moves o w).hung ≡ o.hung ++ more)
+hung_grows o [] = ([], sym (append_nil o.hung))
+hung_grows o (m ∷ w) = let r = hung_grows (after_move o m) w in (replicate m.count (length o.closed) ++ r.0, r.1 ∙ append_assoc o.hung (replicate m.count (length o.closed)) r.0)
+
+pub got_index : (xs : List ℕ) (k : ℕ) → k < length xs → slice_get xs k ≡ Some (slice_index_or xs k 0)
+got_index [] k h = absurd (omega arith)
+got_index (y ∷ xs) zero h = refl
+got_index (y ∷ xs) (suc k) h = got_index xs k (omega arith)
+
+index_got : (xs : List ℕ) (k x : ℕ) → slice_get xs k ≡ Some x → slice_index_or xs k 0 ≡ x
+index_got [] k x e = absurd (cc)
+index_got (y ∷ xs) zero x e = cc
+index_got (y ∷ xs) (suc k) x e = index_got xs k x e
+
+in_lists : (lists : List (List ℕ)) (v : ℕ) (numbers : List ℕ) (k c : ℕ) → slice_get lists v ≡ Some numbers → slice_get numbers k ≡ Some c → 0 < times c (slice_index_or lists v [])
+in_lists lists v numbers k c e f = subst (λ (xs : List ℕ). 0 < times c xs) (sym (index_at lists v numbers e)) (got_times numbers k c f)
+
+list_low : (lists : List (List ℕ)) (v : ℕ) (numbers : List ℕ) → slice_get lists v ≡ Some numbers → v < length lists
+list_low [] v numbers e = absurd (cc)
+list_low (x ∷ lists) zero numbers e = omega arith
+list_low (x ∷ lists) (suc v) numbers e = omega (arith, list_low lists v numbers e)
+
+place_is : (p v : ℕ) → 0 < cond {A = ℕ} (nat_eq p v) 1 0 → p ≡ v
+place_is p v h = grind (arith, nat_tests)
+
+-- a number stands in one list alone
+one_place : (m : ℕ) (lists : List (List ℕ)) (place v : ℕ) → HasPlace m lists place → 0 < times m (slice_index_or lists v []) → place ≡ v
+one_place m lists place v p h = place_is place v (omega (arith, h, p.counts v))
+
+pair_got : (a b c d : ℕ) → ◌≡◌ {A = Option (ℕ × ℕ)} (Some (a, b)) (Some (c, d)) → (a ≡ c) × (b ≡ d)
+pair_got a b c d e = (ap first e, ap second e)
+  where
+    first : Option (ℕ × ℕ) → ℕ
+    first None = 0
+    first (Some x) = x.0
+
+    second : Option (ℕ × ℕ) → ℕ
+    second None = 0
+    second (Some x) = x.1
+
+module _ (l : Layout) (fits : Fits l) (w : Word) (word : IsWordOfLayout l w) where
+  ow : Outline
+  ow = outline_of w
+
+  numbered_w : Numbered (outline_of w)
+  numbered_w = numbered_moves start w numbered_start
+
+  hung_w : length (outline_of w).hung ≡ l.squares
+  hung_w = omega (arith, hung_many start w, word.order)
+
+  wires_w : length (net_of_word w).wires ≡ length (outline_of w).hung
+  wires_w = wires_length (end_of ((outline_of w).closed ++ (outline_of w).segments)) 1 (outline_of w).hung
+
+  pub square_low : (k : ℕ) → k < length (outline_of w).hung → word.square k < l.squares
+  square_low k h = omega (arith, hung_w, wires_w, word.net.wire_apart.below k (omega (arith, h, wires_w)))
+
+  square_apart : (j k : ℕ) → j < length (outline_of w).hung → k < length (outline_of w).hung → word.square j ≡ word.square k → j ≡ k
+  square_apart j k a b e = word.net.wire_apart.apart j k (omega (arith, a, wires_w)) (omega (arith, b, wires_w)) e
+
+  pub node_apart : (u v : ℕ) → u ≤ length (outline_of w).closed → v ≤ length (outline_of w).closed → word.node u ≡ word.node v → u ≡ v
+  node_apart u v a b e = word.net.node_apart.apart u v (omega (arith, a)) (omega (arith, b)) e
+
+  pub wire : (k : ℕ) → k < length (outline_of w).hung
+      → (l.above (word.square k) ≡ word.node (slice_index_or (outline_of w).hung k 0)) × (l.below (word.square k) ≡ word.node (end_of ((outline_of w).closed ++ (outline_of w).segments) (1 + k)))
+  wire k h = pair_got (l.above (word.square k)) (l.below (word.square k)) (word.node (slice_index_or (outline_of w).hung k 0)) (word.node (end_of ((outline_of w).closed ++ (outline_of w).segments) (1 + k)))
+      (sym there ∙ word.net.each k (omega (arith, h, wires_w)) ∙ ap (option_map (λ (x : ℕ × ℕ). (word.node x.0, word.node x.1))) (wires_got (end_of ((outline_of w).closed ++ (outline_of w).segments)) 1 (outline_of w).hung k h))
+    where
+      there : slice_get (net_of_layout l).wires (word.square k) ≡ Some (l.above (word.square k), l.below (word.square k))
+      there = get_map (λ (q : ℕ). (l.above q, l.below q)) (numbers_from 0 l.squares) (word.square k) (word.square k)
+          (numbers_at 0 l.squares (word.square k) (square_low k h) ∙ ap (λ (x : ℕ). Some x) (omega arith))
+
+  pub place_of : (k : ℕ) → k < length (outline_of w).hung → HasPlace (1 + k) ((outline_of w).closed ++ (outline_of w).segments) (end_of ((outline_of w).closed ++ (outline_of w).segments) (1 + k))
+  place_of k h = place_of_number (outline_of w) numbered_w (1 + k) (omega arith) (omega (arith, h))
+
+  module _ (front rest : Word) (is : w ≡ front ++ rest) where
+    o : Outline
+    o = outline_of front
+
+    at_end : outline_of w ≡ after_moves (outline_of front) rest
+    at_end = ap outline_of is ∙ after_moves-append start front rest
+
+    closed_then : (more : List (List ℕ)) × ((outline_of w).closed ≡ (outline_of front).closed ++ more)
+    closed_then = let r = closed_grows (outline_of front) rest in (r.0, ap (λ (x : Outline). x.closed) at_end ∙ r.1)
+
+    hung_then : (more : List ℕ) × ((outline_of w).hung ≡ (outline_of front).hung ++ more)
+    hung_then = let r = hung_grows (outline_of front) rest in (r.0, ap (λ (x : Outline). x.hung) at_end ∙ r.1)
+
+    pub hung_less : length (outline_of front).hung ≤ length (outline_of w).hung
+    hung_less = omega (arith, ap length hung_then.1, length_append (outline_of front).hung hung_then.0)
+
+    pub closed_less : length (outline_of front).closed ≤ length (outline_of w).closed
+    closed_less = omega (arith, ap length closed_then.1, length_append (outline_of front).closed closed_then.0)
+
+    pub above_is : (k v : ℕ) → slice_get (outline_of front).hung k ≡ Some v → l.above (word.square k) ≡ word.node v
+    above_is k v e = (wire k (omega (arith, got_low (outline_of front).hung k v e, hung_less))).0
+        ∙ ap word.node (index_got (outline_of w).hung k v (ap (λ (xs : List ℕ). slice_get xs k) hung_then.1 ∙ get_append (outline_of front).hung hung_then.0 k v e))
+
+    pub closed_got : (v : ℕ) (numbers : List ℕ) → slice_get (outline_of front).closed v ≡ Some numbers → slice_get ((outline_of w).closed ++ (outline_of w).segments) v ≡ Some numbers
+    closed_got v numbers e = get_append (outline_of w).closed (outline_of w).segments v numbers (ap (λ (xs : List (List ℕ)). slice_get xs v) closed_then.1 ∙ get_append (outline_of front).closed closed_then.0 v numbers e)
+
+    pub below_is : (v : ℕ) (numbers : List ℕ) (k c : ℕ) → slice_get (outline_of front).closed v ≡ Some numbers → slice_get numbers k ≡ Some (suc c) → c < length (outline_of w).hung → l.below (word.square c) ≡ word.node v
+    below_is v numbers k c e f h = (wire c h).1 ∙ ap word.node (one_place (1 + c) ((outline_of w).closed ++ (outline_of w).segments) (end_of ((outline_of w).closed ++ (outline_of w).segments) (1 + c)) v (place_of c h)
+        (subst (λ (n : ℕ). 0 < times n (slice_index_or ((outline_of w).closed ++ (outline_of w).segments) v [])) same (in_lists ((outline_of w).closed ++ (outline_of w).segments) v numbers k (suc c) (closed_got v numbers e) f)))
+      where
+        same : suc c ≡ 1 + c
+        same = omega arith
+
+    -- ---- a square of an open segment does not end on a closed node
+
+    module _ (x i a : ℕ) (s : List ℕ) (e : slice_get (outline_of front).segments x ≡ Some s) (f : slice_get s i ≡ Some a) where
+      open_times : 0 < times_in a (outline_of front).segments
+      open_times = omega (arith, in_lists (outline_of front).segments x s i a e f, times_at a x (outline_of front).segments)
+
+      numbered_o : times_in a (outline_of front).closed + times_in a (outline_of front).segments ≡ times a (numbers_from 1 (length (outline_of front).hung))
+      numbered_o = omega (arith, numbered_moves start front numbered_start a, times_in-append a (outline_of front).closed (outline_of front).segments)
+
+      pub open_low : (1 ≤ a) × (a ≤ length (outline_of front).hung)
+      open_low = let r = times_some a 1 (length (outline_of front).hung) (omega (arith, open_times, numbered_o)) in (r.0, omega (arith, r.1))
+
+      open_within : a - 1 < length (outline_of w).hung
+      open_within = omega (arith, open_low.0, open_low.1, hung_less)
+
+      pub fresh : (v : ℕ) → v < length (outline_of front).closed → l.below (word.square (a - 1)) ≡ word.node v → ⊥
+      fresh v low g = from (get_some (outline_of front).closed v low)
+        where
+          p : HasPlace (1 + (a - 1)) ((outline_of w).closed ++ (outline_of w).segments) (end_of ((outline_of w).closed ++ (outline_of w).segments) (1 + (a - 1)))
+          p = place_of (a - 1) open_within
+
+          at_v : end_of ((outline_of w).closed ++ (outline_of w).segments) (1 + (a - 1)) ≡ v
+          at_v = node_apart (end_of ((outline_of w).closed ++ (outline_of w).segments) (1 + (a - 1))) v
+              (omega (arith, p.below, length_append (outline_of w).closed (outline_of w).segments, (word.complete).one)) (omega (arith, low, closed_less)) (sym (wire (a - 1) open_within).1 ∙ g)
+
+          number : 1 + (a - 1) ≡ a
+          number = omega (arith, open_low.0)
+
+          from : (numbers : List ℕ) × (slice_get (outline_of front).closed v ≡ Some numbers) → ⊥
+          from (numbers, h) = omega (arith, times_one a 1 (length (outline_of front).hung) open_low.0 (omega (arith, open_low.1)), numbered_o, open_times, times_at a v (outline_of front).closed, there)
+            where
+              there : 0 < times a (slice_index_or (outline_of front).closed v [])
+              there = subst (λ (xs : List ℕ). 0 < times a xs) (index_at ((outline_of w).closed ++ (outline_of w).segments) v numbers (closed_got v numbers h) ∙ sym (index_at (outline_of front).closed v numbers h))
+                  (subst (λ (n : ℕ). 0 < times n (slice_index_or ((outline_of w).closed ++ (outline_of w).segments) v [])) number
+                  (subst (λ (u : ℕ). 0 < times (1 + (a - 1)) (slice_index_or ((outline_of w).closed ++ (outline_of w).segments) u [])) at_v p.here))
+
+  -- ---- each square of the layout is one of the word
+
+  all_squares : List ℕ
+  all_squares = map word.square (numbers_from 0 (length (outline_of w).hung))
+
+  at_place : (k : ℕ) → k < length (outline_of w).hung → slice_get (map word.square (numbers_from 0 (length (outline_of w).hung))) k ≡ Some (word.square k)
+  at_place k h = get_map word.square (numbers_from 0 (length (outline_of w).hung)) k k (numbers_at 0 (length (outline_of w).hung) k h ∙ ap (λ (x : ℕ). Some x) (omega arith))
+
+  long : length (map word.square (numbers_from 0 (length (outline_of w).hung))) ≡ length (outline_of w).hung
+  long = length_map word.square (numbers_from 0 (length (outline_of w).hung)) ∙ numbers-length 0 (length (outline_of w).hung)
+
+  low_place : (k q : ℕ) → slice_get (map word.square (numbers_from 0 (length (outline_of w).hung))) k ≡ Some q → (k < length (outline_of w).hung) × (word.square k ≡ q)
+  low_place k q e = (below, got_same (word.square k) q (sym (at_place k below) ∙ e))
+    where
+      below : k < length (outline_of w).hung
+      below = omega (arith, got_low (map word.square (numbers_from 0 (length (outline_of w).hung))) k q e, long)
+
+  few : (q : ℕ) → times q (map word.square (numbers_from 0 (length (outline_of w).hung))) ≤ 1
+  few q = once_times (map word.square (numbers_from 0 (length (outline_of w).hung))) q
+      (λ j k e f. square_apart j k (low_place j q e).0 (low_place k q f).0 ((low_place j q e).1 ∙ sym (low_place k q f).1))
+
+  pub numbered_square : (q : ℕ) → q < l.squares → (k : ℕ) × (k < length (outline_of w).hung) × (word.square k ≡ q)
+  numbered_square q h = cases (two (times q (map word.square (numbers_from 0 (length (outline_of w).hung)))))
+    where
+      two : (n : ℕ) → (n ≡ 0) ⊎ (0 < n)
+      two n = grind arith
+
+      none : times q (map word.square (numbers_from 0 (length (outline_of w).hung))) ≡ 0 → ⊥
+      none e = omega (arith, long, hung_w, at_most l.squares (q ∷ map word.square (numbers_from 0 (length (outline_of w).hung))) low once)
+        where
+          low : (x : ℕ) → 0 < times x (q ∷ map word.square (numbers_from 0 (length (outline_of w).hung))) → x < l.squares
+          low x k = by_place (times_got (q ∷ map word.square (numbers_from 0 (length (outline_of w).hung))) x k)
+            where
+              by_place : (j : ℕ) × (slice_get (q ∷ map word.square (numbers_from 0 (length (outline_of w).hung))) j ≡ Some x) → x < l.squares
+              by_place (zero, g) = omega (arith, h, got_same q x g)
+              by_place (suc j, g) = omega (arith, square_low j (low_place j x g).0, (low_place j x g).1)
+
+          once : (x : ℕ) → x < l.squares → times x (q ∷ map word.square (numbers_from 0 (length (outline_of w).hung))) ≤ 1
+          once x k = same (same_or_other x q)
+            where
+              same : (x ≡ q) ⊎ (x ≡ q → ⊥) → times x (q ∷ map word.square (numbers_from 0 (length (outline_of w).hung))) ≤ 1
+              same (inl g) = omega (arith, one_for x q g, ap (λ (y : ℕ). times y (map word.square (numbers_from 0 (length (outline_of w).hung)))) g, e)
+              same (inr g) = omega (arith, none_for x q g, few x)
+
+      cases : (times q (map word.square (numbers_from 0 (length (outline_of w).hung))) ≡ 0) ⊎ (0 < times q (map word.square (numbers_from 0 (length (outline_of w).hung)))) → (k : ℕ) × (k < length (outline_of w).hung) × (word.square k ≡ q)
+      cases (inl e) = absurd (none e)
+      cases (inr k) = let g = times_got (map word.square (numbers_from 0 (length (outline_of w).hung))) q k in (g.0, (low_place g.0 q g.1).0, (low_place g.0 q g.1).1)

@@ -1,0 +1,5 @@
+pub mod FreeCuts
+pub mod OpenSegments
+pub mod SharedNodes
+pub mod LineNumbers
+pub mod NodeCut

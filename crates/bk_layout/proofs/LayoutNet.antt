@@ -1,0 +1,216 @@
+-- The net of the word of a layout is the layout's net: nodes by the order of closing, squares by that of hanging.
+use Rattle.std.specs.List.{AllZip}
+use Rattle.std.proofs.Common.{List, Some, [], ap, arith, inl, inr, length, map, option_map, refl, slice_get, slice_index_or, subst, suc, sym, zero, ℕ, ◌++◌, ◌+◌, ◌-◌, ◌<◌, ◌∙◌, ◌∷◌, ◌≡◌, ◌≤◌, ◌⊎◌}
+use Rattle.bk_tiling.proofs.ListLaws.{length_append, length_map, map_append}
+use Rattle.bk_word.proofs.PlayLists.{numbers-length}
+use Rattle.bk_word.specs.Outline.{Outline, start}
+use Rattle.bk_word.specs.Play.{numbers_from, outline_of}
+use Rattle.bk_lay.proofs.Steps.{get_append, get_last}
+use Rattle.bk_skel.proofs.Numbering.{HasPlace, place_of_number, times, times-append}
+use Rattle.bk_skel.proofs.PlacesInLists.{get_map, wires_got}
+use Rattle.bk_skel.proofs.Shape.{hung_many}
+use Rattle.bk_skel.proofs.Wires.{wires_length}
+use Rattle.bk_skel.specs.Renumbering.{IsRenumbering}
+use Rattle.bk_skel.specs.WordNet.{end_of, net_after}
+use Rattle.bk_layout.proofs.Counting.{got_times, none_for, one_for, same_or_other, times_got, times_once}
+use Rattle.bk_layout.proofs.SquareLists.{index_got, lists_at, sq_of}
+use Rattle.bk_layout.proofs.Sweep.{State}
+use Rattle.bk_layout.proofs.SweepEnd.{Ended, WholeSweep, done_many, is_laid, laid_many, one_segment, sweep}
+use Rattle.bk_layout.proofs.Turning.{AtLeft, walls_of}
+use Rattle.bk_layout.proofs.Chains.{Chain}
+use Rattle.bk_layout.specs.Layout.{Fits, IsFirst, IsLast, Layout, net_of_layout}
+use Rattle.bk_layout.specs.LayoutLaws.{ALayoutHasAFreeWord, IsWordOfLayout}
+
+got_index : (xs : List ℕ) (k : ℕ) → k < length xs → slice_get xs k ≡ Some (slice_index_or xs k 0)
+got_index [] k h = absurd (omega arith)
+got_index (y ∷ xs) zero h = refl
+got_index (y ∷ xs) (suc k) h = got_index xs k (omega arith)
+
+index_map : (f : List ℕ → List ℕ) (lists : List (List ℕ)) (k : ℕ) → k < length lists → slice_index_or (map f lists) k [] ≡ f (slice_index_or lists k [])
+index_map f [] k h = absurd (omega arith)
+index_map f (s ∷ lists) zero h = refl
+index_map f (s ∷ lists) (suc k) h = index_map f lists k (omega arith)
+
+index_of : (f : ℕ → List ℕ) (xs : List ℕ) (k : ℕ) → k < length xs → slice_index_or (map f xs) k [] ≡ f (slice_index_or xs k 0)
+index_of f [] k h = absurd (omega arith)
+index_of f (s ∷ xs) zero h = refl
+index_of f (s ∷ xs) (suc k) h = index_of f xs k (omega arith)
+
+zip_got : (R : ℕ → ℕ → Type 0) (xs ys : List ℕ) (k : ℕ) → AllZip R xs ys → k < length xs → R (slice_index_or xs k 0) (slice_index_or ys k 0)
+zip_got R [] ys k z h = absurd (omega arith)
+zip_got R (x ∷ xs) [] k z h = absurd z
+zip_got R (x ∷ xs) (y ∷ ys) zero z h = z.0
+zip_got R (x ∷ xs) (y ∷ ys) (suc k) z h = zip_got R xs ys k z.1 (omega arith)
+
+map_times : (f : ℕ → ℕ) (xs : List ℕ) (m : ℕ) → 0 < times m xs → 0 < times (f m) (map f xs)
+map_times f [] m h = absurd (omega arith)
+map_times f (x ∷ xs) m h = cases (same_or_other m x) (map_times f xs m)
+  where
+    cases : (m ≡ x) ⊎ (m ≡ x → ⊥) → (0 < times m xs → 0 < times (f m) (map f xs)) → 0 < times (f m) (map f (x ∷ xs))
+    cases (inl e) rest = omega (arith, one_for (f m) (f x) (ap f e))
+    cases (inr e) rest = omega (arith, rest (omega (arith, h, none_for m x e)))
+
+numbers_got : (from k n : ℕ) → k < n → slice_get (numbers_from from n) k ≡ Some (from + k)
+numbers_got from k zero h = absurd (omega arith)
+numbers_got from zero (suc n) h = ap (λ (x : ℕ). Some x) (omega arith)
+numbers_got from (suc k) (suc n) h = numbers_got (from + 1) k n (omega arith) ∙ ap (λ (x : ℕ). Some x) (omega arith)
+
+module _ (l : Layout) (fits : Fits l) (o : Outline) (st : State l o) (end : Ended l o st) where
+  -- all nodes in the order of closing, the bottom last
+  abbrev all_nodes : List ℕ
+  all_nodes = st.done ++ (l.bottom ∷ [])
+
+  abbrev pub node : ℕ → ℕ
+  node k = slice_index_or (st.done ++ (l.bottom ∷ [])) k 0
+
+  abbrev pub square : ℕ → ℕ
+  square k = slice_index_or st.laid k 0
+
+  closed_many : length o.closed ≡ l.bottom
+  closed_many = sym (length_map (map (sq_of st.laid)) o.closed) ∙ ap length st.closed ∙ length_map l.ending st.done ∙ done_many l fits o st end
+
+  nodes_many : length all_nodes ≡ l.bottom + 1
+  nodes_many = omega (arith, length_append st.done (l.bottom ∷ []), done_many l fits o st end)
+
+  hung_is : length o.hung ≡ l.squares
+  hung_is = sym st.long ∙ laid_many l fits o st end
+
+  word_wires : length (net_after o).wires ≡ l.squares
+  word_wires = wires_length (end_of (o.closed ++ o.segments)) 1 o.hung ∙ hung_is
+
+  layout_wires : length (net_of_layout l).wires ≡ l.squares
+  layout_wires = length_map (λ (q : ℕ). (l.above q, l.below q)) (numbers_from 0 l.squares) ∙ numbers-length 0 l.squares
+
+  -- ---- squares
+
+  square_got : (k : ℕ) → k < l.squares → slice_get st.laid k ≡ Some (square k)
+  square_got k h = got_index st.laid k (omega (arith, h, laid_many l fits o st end))
+
+  square_low : (k : ℕ) → k < l.squares → square k < l.squares
+  square_low k h = st.laid_low (square k) (got_times st.laid k (square k) (square_got k h))
+
+  square_apart : (j k : ℕ) → j < l.squares → k < l.squares → square j ≡ square k → j ≡ k
+  square_apart j k a b e = times_once st.laid (square k) (omega (arith, is_laid l fits o st end (square k) (square_low k b))) j k (square_got j a ∙ ap (λ (x : ℕ). Some x) e) (square_got k b)
+
+  -- ---- nodes
+
+  bottom_open : (n : ℕ) → times l.bottom st.done ≡ n → n ≡ 0
+  bottom_open zero e = refl
+  bottom_open (suc n) e = absurd (omega (arith, st.done_low l.bottom (omega (arith, e))))
+
+  nodes_once : (v : ℕ) → times v all_nodes ≤ 1
+  nodes_once v = cases (same_or_other v l.bottom)
+    where
+      cases : (v ≡ l.bottom) ⊎ (v ≡ l.bottom → ⊥) → times v all_nodes ≤ 1
+      cases (inl e) = omega (arith, times-append v st.done (l.bottom ∷ []), one_for v l.bottom e, ap (λ (u : ℕ). times u st.done) e, bottom_open (times l.bottom st.done) refl)
+      cases (inr e) = omega (arith, times-append v st.done (l.bottom ∷ []), none_for v l.bottom e, st.done_once v)
+
+  nodes_low : (v : ℕ) → 0 < times v all_nodes → v < l.bottom + 1
+  nodes_low v h = cases (same_or_other v l.bottom)
+    where
+      cases : (v ≡ l.bottom) ⊎ (v ≡ l.bottom → ⊥) → v < l.bottom + 1
+      cases (inl e) = omega (arith, e)
+      cases (inr e) = omega (arith, st.done_low v (omega (arith, h, times-append v st.done (l.bottom ∷ []), none_for v l.bottom e)))
+
+  node_got : (k : ℕ) → k < l.bottom + 1 → slice_get all_nodes k ≡ Some (node k)
+  node_got k h = got_index all_nodes k (omega (arith, h, nodes_many))
+
+  node_low : (k : ℕ) → k < l.bottom + 1 → node k < l.bottom + 1
+  node_low k h = nodes_low (node k) (got_times all_nodes k (node k) (node_got k h))
+
+  node_apart : (j k : ℕ) → j < l.bottom + 1 → k < l.bottom + 1 → node j ≡ node k → j ≡ k
+  node_apart j k a b e = times_once all_nodes (node k) (nodes_once (node k)) j k (node_got j a ∙ ap (λ (x : ℕ). Some x) e) (node_got k b)
+
+  first_node : node 0 ≡ 0
+  first_node = index_got all_nodes 0 0 (get_append st.done (l.bottom ∷ []) 0 0 st.top)
+
+  last_node : (k : ℕ) → suc k ≡ l.bottom + 1 → node k ≡ k
+  last_node k h = index_got all_nodes k l.bottom ((λ i. slice_get all_nodes (same i)) ∙ get_last st.done l.bottom []) ∙ omega (arith, h)
+    where
+      same : k ≡ length st.done
+      same = omega (arith, h, done_many l fits o st end)
+
+  -- ---- each wire
+
+  from_node : (k : ℕ) → k < l.squares → node (slice_index_or o.hung k 0) ≡ l.above (square k)
+  from_node k h = index_got all_nodes (slice_index_or o.hung k 0) (l.above (square k)) (get_append st.done (l.bottom ∷ []) (slice_index_or o.hung k 0) (l.above (square k))
+      (zip_got (λ q j. slice_get st.done j ≡ Some (l.above q)) st.laid o.hung k st.hung (omega (arith, h, laid_many l fits o st end))))
+
+  lists_are : lists_at st.laid (o.closed ++ o.segments) ≡ map l.ending all_nodes
+  lists_are = map_append (map (sq_of st.laid)) o.closed o.segments ∙ (λ i. st.closed i ++ end.one i) ∙ sym (map_append l.ending st.done (l.bottom ∷ []))
+
+  to_node : (k : ℕ) → k < l.squares → node (end_of (o.closed ++ o.segments) (1 + k)) ≡ l.below (square k)
+  to_node k h = at (end_of (o.closed ++ o.segments) (1 + k)) (place_of_number o st.numbered (1 + k) (omega arith) (omega (arith, h, hung_is)))
+    where
+      as_index : 1 + k - 1 ≡ k
+      as_index = omega arith
+
+      at : (place : ℕ) → HasPlace (1 + k) (o.closed ++ o.segments) place → node place ≡ l.below (square k)
+      at place p = sym (on (times_got (l.ending (node place)) (square k) (subst (λ (xs : List ℕ). 0 < times (square k) xs) ends inside)))
+        where
+          many : length (o.closed ++ o.segments) ≡ length all_nodes
+          many = sym (length_map (map (sq_of st.laid)) (o.closed ++ o.segments)) ∙ ap length lists_are ∙ length_map l.ending all_nodes
+
+          ends : map (sq_of st.laid) (slice_index_or (o.closed ++ o.segments) place []) ≡ l.ending (node place)
+          ends = sym (index_map (map (sq_of st.laid)) (o.closed ++ o.segments) place p.below) ∙ ap (λ (x : List (List ℕ)). slice_index_or x place []) lists_are ∙ index_of l.ending all_nodes place (omega (arith, p.below, many))
+
+          inside : 0 < times (square k) (map (sq_of st.laid) (slice_index_or (o.closed ++ o.segments) place []))
+          inside = subst (λ (j : ℕ). 0 < times (slice_index_or st.laid j 0) (map (sq_of st.laid) (slice_index_or (o.closed ++ o.segments) place []))) as_index
+              (map_times (sq_of st.laid) (slice_index_or (o.closed ++ o.segments) place []) (1 + k) p.here)
+
+          on : (j : ℕ) × (slice_get (l.ending (node place)) j ≡ Some (square k)) → l.below (square k) ≡ node place
+          on (j, e) = (fits.lists.ending_is (node place) j (square k) e).1
+
+  each : (k : ℕ) → k < l.squares → slice_get (net_of_layout l).wires (square k) ≡ option_map (λ (x : ℕ × ℕ). (node x.0, node x.1)) (slice_get (net_after o).wires k)
+  each k h = there ∙ (λ i. Some (sym (from_node k h) i, sym (to_node k h) i)) ∙ sym (ap (option_map (λ (x : ℕ × ℕ). (node x.0, node x.1))) (wires_got (end_of (o.closed ++ o.segments)) 1 o.hung k (omega (arith, h, hung_is))))
+    where
+      number : slice_get (numbers_from 0 l.squares) (square k) ≡ Some (square k)
+      number = numbers_got 0 (square k) l.squares (square_low k h) ∙ ap (λ (x : ℕ). Some x) (omega arith)
+
+      there : slice_get (net_of_layout l).wires (square k) ≡ Some (l.above (square k), l.below (square k))
+      there = get_map (λ (q : ℕ). (l.above q, l.below q)) (numbers_from 0 l.squares) (square k) (square k) number
+
+  pub renumbering : IsRenumbering (net_after o) (net_of_layout l) node square
+  renumbering = record {
+    nodes = omega (arith, closed_many);
+    wires = word_wires ∙ sym layout_wires;
+    node_apart = record { below = λ k h. omega (arith, closed_many, node_low k (omega (arith, h, closed_many))); apart = λ j k a b e. node_apart j k (omega (arith, a, closed_many)) (omega (arith, b, closed_many)) e };
+    wire_apart = record { below = λ k h. omega (arith, word_wires, square_low k (omega (arith, h, word_wires))); apart = λ j k a b e. square_apart j k (omega (arith, a, word_wires)) (omega (arith, b, word_wires)) e };
+    first = first_node;
+    last = λ k h. last_node k (omega (arith, h, closed_many));
+    each = λ k h. each k (omega (arith, h, word_wires));
+  }
+
+  pub hung_many_is : length o.hung ≡ l.squares
+  hung_many_is = hung_is
+
+last_segment : (f : ℕ → ℕ) (segments : List (List ℕ)) (s : List ℕ) → map (map f) segments ≡ s ∷ [] → map f (slice_index_or segments 0 []) ≡ s
+last_segment f [] s e = absurd (omega (arith, ap length e))
+last_segment f (x ∷ segments) s e = ap (λ (y : List (List ℕ)). slice_index_or y 0 []) e
+
+-- the word of a sweep
+pub word_of_sweep : (l : Layout) → Fits l → (s : WholeSweep l) → IsWordOfLayout l s.word
+word_of_sweep l fits s = record {
+  complete = record { legal = s.legal; some = s.some; one = one_segment l fits (outline_of s.word) s.last s.end };
+  order = omega (arith, hung_many start s.word, hung_many_is l fits (outline_of s.word) s.last s.end);
+  free = s.free;
+  no_twins = s.no_twins;
+  first_count = s.first_count;
+  node = node l fits (outline_of s.word) s.last s.end;
+  square = square l fits (outline_of s.word) s.last s.end;
+  net = renumbering l fits (outline_of s.word) s.last s.end;
+  wall = s.wall;
+  lines = s.lines;
+  nodes = s.nodes;
+  end = last_segment (sq_of s.last.laid) (outline_of s.word).segments (l.ending l.bottom) (s.end).one;
+  end_from = end_walls.0;
+  end_to = end_walls.1;
+}
+  where
+    end_walls : ((q : ℕ) → IsFirst (l.ending l.bottom) q → l.left q ≡ 0) × ((q : ℕ) → IsLast (l.ending l.bottom) q → l.right q ≡ 1)
+    end_walls = walls_of l (outline_of s.word).signs (l.ending l.bottom)
+        (subst (λ (x : List (List ℕ)). Chain l (outline_of s.word).signs x) (s.end).one (s.last).chain)
+        (subst (λ (x : List (List ℕ)). AtLeft l x) (s.end).one (s.last).wall)
+
+pub a_layout_has_a_free_word : ALayoutHasAFreeWord
+a_layout_has_a_free_word l fits = let s = sweep l fits in (s.word, word_of_sweep l fits s)

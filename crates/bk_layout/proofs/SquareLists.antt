@@ -1,0 +1,102 @@
+-- Lists of numbers as lists of the squares that have these numbers, in the order in which squares were hung.
+use Rattle.std.proofs.Common.{List, Some, [], ap, arith, length, map, refl, slice_get, slice_index_or, subst, suc, sym, zero, ℕ, ◌++◌, ◌+◌, ◌-◌, ◌<◌, ◌∙◌, ◌∷◌, ◌≡◌, ◌≤◌}
+use Rattle.bk_tiling.proofs.ListLaws.{append_assoc, length_append}
+use Rattle.bk_word.specs.Outline.{Outline}
+use Rattle.bk_word.specs.Play.{before_first_list, joined, numbers_from}
+use Rattle.bk_word.specs.declared.Sign.{Sign}
+use Rattle.bk_word.specs.declared.Sign.TheVariants.{Above, Even, Under}
+use Rattle.bk_skel.proofs.BottomChain.{concat-joined}
+use Rattle.bk_skel.proofs.Numbering.{Numbered, times, times-concat, times_in, times_in-append, times_some}
+use Rattle.bk_layout.proofs.Chains.{singles}
+use Rattle.bk_layout.proofs.Counting.{one_for}
+
+-- the square of a number
+abbrev pub sq_of : List ℕ → ℕ → ℕ
+sq_of laid m = slice_index_or laid (m - 1) 0
+
+abbrev pub lists_at : List ℕ → List (List ℕ) → List (List ℕ)
+lists_at laid lists = map (map (sq_of laid)) lists
+
+pub index_more : (xs ys : List ℕ) (k : ℕ) → k < length xs → slice_index_or (xs ++ ys) k 0 ≡ slice_index_or xs k 0
+index_more [] ys k h = absurd (omega arith)
+index_more (x ∷ xs) ys zero h = refl
+index_more (x ∷ xs) ys (suc k) h = index_more xs ys k (omega arith)
+
+-- what stands at a place, by either way of reading it
+pub index_got : (xs : List ℕ) (k x : ℕ) → slice_get xs k ≡ Some x → slice_index_or xs k 0 ≡ x
+index_got [] k x e = absurd (cc)
+index_got (y ∷ xs) zero x e = cc
+index_got (y ∷ xs) (suc k) x e = index_got xs k x e
+
+index_here : (xs : List ℕ) (y : ℕ) (ys : List ℕ) (k : ℕ) → k ≡ length xs → slice_index_or (xs ++ y ∷ ys) k 0 ≡ y
+index_here [] y ys zero e = refl
+index_here [] y ys (suc k) e = absurd (omega arith)
+index_here (x ∷ xs) y ys zero e = absurd (omega arith)
+index_here (x ∷ xs) y ys (suc k) e = index_here xs y ys k (omega arith)
+
+-- the numbers are those of squares that were laid
+abbrev pub AreLaid : List ℕ → List (List ℕ) → Type 0
+AreLaid laid lists = (m : ℕ) → 0 < times_in m lists → (1 ≤ m) × (m ≤ length laid)
+
+pub list_more : (laid new : List ℕ) (numbers : List ℕ) → ((m : ℕ) → 0 < times m numbers → (1 ≤ m) × (m ≤ length laid)) → map (sq_of (laid ++ new)) numbers ≡ map (sq_of laid) numbers
+list_more laid new [] f = refl
+list_more laid new (n ∷ numbers) f = λ i. here i ∷ list_more laid new numbers (λ m h. f m (omega (arith, h))) i
+  where
+    at : (1 ≤ n) × (n ≤ length laid)
+    at = f n (omega (arith, one_for n n refl))
+
+    here : sq_of (laid ++ new) n ≡ sq_of laid n
+    here = index_more laid new (n - 1) (omega (arith, at.0, at.1))
+
+pub lists_more : (laid new : List ℕ) (lists : List (List ℕ)) → AreLaid laid lists → lists_at (laid ++ new) lists ≡ lists_at laid lists
+lists_more laid new [] f = refl
+lists_more laid new (numbers ∷ lists) f = λ i. list_more laid new numbers (λ m h. f m (omega (arith, h))) i ∷ lists_more laid new lists (λ m h. f m (omega (arith, h))) i
+
+-- the numbers of new squares are theirs
+pub new_numbers : (laid new : List ℕ) (from : ℕ) → from ≡ length laid + 1 → map (sq_of (laid ++ new)) (numbers_from from (length new)) ≡ new
+new_numbers laid [] from e = refl
+new_numbers laid (q ∷ new) from e =
+    let rest : map (sq_of (laid ++ q ∷ new)) (numbers_from (from + 1) (length new)) ≡ new =
+    subst (λ (all : List ℕ). map (sq_of all) (numbers_from (from + 1) (length new)) ≡ new) (append_assoc laid (q ∷ []) new) (new_numbers (laid ++ q ∷ []) new (from + 1) (omega (arith, e, length_append laid (q ∷ [])))) in
+    λ i. index_here laid q new (from - 1) (omega (arith, e)) i ∷ rest i
+
+-- and they stay theirs
+pub new_numbers_more : (laid new more : List ℕ) (from : ℕ) → from ≡ length laid + 1 → map (sq_of ((laid ++ new) ++ more)) (numbers_from from (length new)) ≡ new
+new_numbers_more laid [] more from e = refl
+new_numbers_more laid (q ∷ new) more from e =
+    let rest : map (sq_of ((laid ++ q ∷ new) ++ more)) (numbers_from (from + 1) (length new)) ≡ new =
+    subst (λ (all : List ℕ). map (sq_of (all ++ more)) (numbers_from (from + 1) (length new)) ≡ new) (append_assoc laid (q ∷ []) new)
+    (new_numbers_more (laid ++ q ∷ []) new more (from + 1) (omega (arith, e, length_append laid (q ∷ [])))) in
+    let first : sq_of ((laid ++ q ∷ new) ++ more) from ≡ q =
+    index_more (laid ++ q ∷ new) more (from - 1) (omega (arith, e, length_append laid (q ∷ new))) ∙ index_here laid q new (from - 1) (omega (arith, e)) in
+    λ i. first i ∷ rest i
+
+pub map_singles : (f : ℕ → ℕ) (numbers : List ℕ) → map (map f) (singles numbers) ≡ singles (map f numbers)
+map_singles f [] = refl
+map_singles f (n ∷ numbers) = ap (λ (x : List (List ℕ)). (f n ∷ []) ∷ x) (map_singles f numbers)
+
+map_both : (f : ℕ → ℕ) (xs ys : List ℕ) → map f (xs ++ ys) ≡ map f xs ++ map f ys
+map_both f [] ys = refl
+map_both f (x ∷ xs) ys = ap (λ (z : List ℕ). f x ∷ z) (map_both f xs ys)
+
+map_before : (f : ℕ → ℕ) (s : List ℕ) (lists : List (List ℕ)) → map (map f) (before_first_list s lists) ≡ before_first_list (map f s) (map (map f) lists)
+map_before f s [] = refl
+map_before f s (t ∷ lists) = ap (λ (x : List ℕ). x ∷ map (map f) lists) (map_both f s t)
+
+pub map_joined : (f : ℕ → ℕ) (signs : List Sign) (lists : List (List ℕ)) → map (map f) (joined signs lists) ≡ joined signs (map (map f) lists)
+map_joined f signs [] = refl
+map_joined f [] (s ∷ lists) = refl
+map_joined f (Above ∷ signs) (s ∷ lists) = ap (λ (x : List (List ℕ)). map f s ∷ x) (map_joined f signs lists)
+map_joined f (Under ∷ signs) (s ∷ lists) = ap (λ (x : List (List ℕ)). map f s ∷ x) (map_joined f signs lists)
+map_joined f (Even ∷ signs) (s ∷ lists) = map_before f s (joined signs lists) ∙ ap (before_first_list (map f s)) (map_joined f signs lists)
+
+-- what stands closed and open has the numbers of what was hung
+pub all_laid : (o : Outline) → Numbered o → (laid : List ℕ) → length laid ≡ length o.hung → (m : ℕ) → 0 < times_in m o.closed + times_in m o.segments → (1 ≤ m) × (m ≤ length laid)
+all_laid o numbered laid long m h = let r = times_some m 1 (length o.hung) (omega (arith, h, numbered m, times_in-append m o.closed o.segments)) in (r.0, omega (arith, r.1, long))
+
+pub times_singles : (m : ℕ) (numbers : List ℕ) → times_in m (singles numbers) ≡ times m numbers
+times_singles m [] = refl
+times_singles m (n ∷ numbers) = omega (arith, times_singles m numbers)
+
+pub times_joined : (m : ℕ) (signs : List Sign) (lists : List (List ℕ)) → times_in m (joined signs lists) ≡ times_in m lists
+times_joined m signs lists = sym (times-concat m (joined signs lists)) ∙ ap (times m) (concat-joined signs lists) ∙ times-concat m lists

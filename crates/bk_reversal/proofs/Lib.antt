@@ -1,0 +1,11 @@
+pub mod ReversalExamples
+pub mod Pieces
+pub mod MoveChain
+pub mod Drops
+pub mod Trace
+pub mod BadMove
+pub mod ReversedFits
+pub mod UpTo
+pub mod Measure
+pub mod RuleScan
+pub mod FitsFive

@@ -1,0 +1,3 @@
+pub mod Reversal
+pub mod ReversalLaws
+pub mod RuleR
