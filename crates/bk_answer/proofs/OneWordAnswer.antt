@@ -12,7 +12,8 @@ use Rattle.bk_word.specs.WordText.{IsNoWordText, IsTextOf}
 use Rattle.bk_word.specs.declared.TheConstants.{LARGEST_ORDER}
 use Rattle.bk_word.proofs.WordsRead.{one_word}
 use Rattle.bk_lay.specs.TilingWord.{IsWordOf}
-use Rattle.bk_skel.specs.Realised.{IsFirstIllegal, IsTilingOf}
+use Rattle.bk_skel.specs.SolveRefusal.{IsFirstIllegal}
+use Rattle.bk_word_net.specs.Realised.{IsTilingOf}
 use Rattle.bk_report.specs.Answers.{tiling_line}
 use Rattle.bk_report.specs.Refusals.{refusal_line}
 use Rattle.bk_report.specs.declared.refusal.Refused.TheVariants.{Illegal, Text}

@@ -2,8 +2,7 @@
 use Rattle.std.specs.List.{onto_first}
 use Rattle.std.proofs.Common.{Bool, List, [], ap, arith, cond, drop, false, get_or, length, map, refl, subst, suc, sym, take, true, zero, ℕ, ◌++◌, ◌+◌, ◌<◌, ◌∙◌, ◌∷◌, ◌≡◌}
 use Rattle.std.specs.Prelude.{not}
-use Rattle.std.proofs.lemmas.List.{drop_more, length-take-le, take-append-drop, take_more}
-use Rattle.bk_tiling.proofs.ListLaws.{length_map}
+use Rattle.std.proofs.lemmas.List.{drop_more, length-map, length-take-le, take-append-drop, take_more}
 use Rattle.bk_tiling.specs.CodeOrder.{begins_group, stands_beside}
 use Rattle.bk_tiling.specs.Kept.{IsKept}
 use Rattle.bk_tiling.specs.SquareGroups.{square_groups}
@@ -91,7 +90,7 @@ step_room t squares i code kept same within is =
       arith,
       ap (λ (c : Code). length (flat c)) is,
       ap length (flat_groups (take i squares)),
-      length_map (λ (q : Square). q.s) (take i squares),
+      length-map (take i squares) (λ (q : Square). q.s),
       length-take-le i squares (omega arith),
       ap length same,
       kept.few,

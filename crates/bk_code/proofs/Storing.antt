@@ -3,7 +3,7 @@ use Rattle.std.specs.List.{AllByRecursion}
 use Rattle.std.proofs.Common.{List, [], ap, arith, drop, get_or, length, refl, subst, suc, sym, take, zero, ℕ, ◌++◌, ◌+◌, ◌-◌, ◌<◌, ◌∙◌, ◌∷◌, ◌≡◌, ◌≤◌}
 use Rattle.std.specs.Prelude.{slice_range}
 use Rattle.std.proofs.lemmas.List.{append-nil, append_assoc, drop-append-le, drop-drop, drop_at, length-append, length-drop, take-append-drop, take-append-le, take_all}
-use Rattle.bk_tiling.proofs.AllOfLists.{all_append}
+use Rattle.bk_laws.proofs.AllOfLists.{all_append}
 use Rattle.bk_tiling.specs.Kept.{IsSide}
 use Rattle.bk_tiling.specs.declared.TheConstants.{MOST_SQUARES}
 use Rattle.bk_code.specs.Code.{Code, flat, with_side}

@@ -3,8 +3,8 @@ use Rattle.std.specs.Cmp.{both_ways}
 use Rattle.std.proofs.Common.{Bool, List, [], ap, arith, cond, count_by, length, map, refl, sum_by, ℕ, ◌&&◌, ◌+◌, ◌<◌, ◌==◌, ◌∙◌, ◌∷◌, ◌≡◌}
 use Rattle.std.proofs.lemmas.Bool.Decides.{nat_tests}
 use Rattle.std.proofs.lemmas.List.Sums.{sum_by-cons}
+use Rattle.std.proofs.lemmas.List.{length-map}
 use Rattle.bk_tiling.proofs.GroupCount.{AreLaid, groups_counted}
-use Rattle.bk_tiling.proofs.ListLaws.{length_map}
 use Rattle.bk_tiling.proofs.OrderLaws.{in_code_order-count, in_code_order-length, sum_ordered}
 use Rattle.bk_tiling.proofs.TilingLaws.{cell_most, cell_once, side_of, wide_enough}
 use Rattle.bk_tiling.specs.CodeOrder.{stands_beside}
@@ -59,7 +59,7 @@ module _ (t : Tiling) (tiling : IsTiling t) where
     arith,
     groups_counted (image Swap t).squares (laid (image Swap t) (images_are_tilings t Swap tiling)),
     in_code_order-length (map (image_square Swap t.width t.height) t.squares),
-    length_map (image_square Swap t.width t.height) t.squares,
+    length-map t.squares (image_square Swap t.width t.height),
     sum_ordered (λ r. count_by (λ p. stands_beside p r) (image Swap t).squares) (map (image_square Swap t.width t.height) t.squares),
     sum_map (λ r. count_by (λ p. stands_beside p r) (image Swap t).squares) (image_square Swap t.width t.height) t.squares,
     sum_same (λ r. count_by (λ p. stands_beside p (image_square Swap t.width t.height r)) (image Swap t).squares) (λ r. count_by (bottom_left r.x r.y) t.squares) t.squares

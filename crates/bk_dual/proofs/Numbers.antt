@@ -2,10 +2,10 @@
 use Rattle.std.specs.List.{position_or_len}
 use Rattle.std.specs.List.Sorted.{IsPartitionPoint}
 use Rattle.std.proofs.Common.{Bool, List, [], ap, arith, false, inl, inr, length, map, refl, slice_index_or, subst, suc, sym, true, zero, ℕ, ◌&&◌, ◌+◌, ◌-◌, ◌<◌, ◌==◌, ◌∙◌, ◌∷◌, ◌≡◌, ◌≤◌, ◌⊎◌}
-use Rattle.std.proofs.lemmas.Bool.{cases_lt}
+use Rattle.std.proofs.lemmas.Bool.{both_ways, cases_lt}
 use Rattle.std.proofs.lemmas.Bool.Decides.{nat_tests}
 use Rattle.std.proofs.lemmas.List.Sums.{fails_before_first, passes_at_first, position_or_len_is}
-use Rattle.bk_tiling.proofs.Cells.{covers_from, not_both}
+use Rattle.bk_tiling.proofs.Cells.{covers_from}
 use Rattle.bk_tiling.proofs.Members.{one_at}
 use Rattle.bk_tiling.proofs.PuttingInOrder.{from_order, in_order}
 use Rattle.bk_tiling.proofs.TilingGroups.{one_there}
@@ -70,17 +70,17 @@ module _ (squares : List Square) (ordered : InCodeOrder squares) (q : Square) (o
       last = by (cases_lt has_place.place k)
         where
           by : (has_place.place < k) ⊎ (k ≤ has_place.place) → k ≡ has_place.place + 1
-          by (inr late) = absurd (not_both (is_no_later q.x q.y (slice_index_or squares has_place.place q))
-              (ap (is_no_later q.x q.y) (has_place.at q) ∙ no_later_itself q) (parts.1 has_place.place q late has_place.within))
+          by (inr late) = absurd (both_ways (is_no_later q.x q.y (slice_index_or squares has_place.place q))
+              (parts.1 has_place.place q late has_place.within) (ap (is_no_later q.x q.y) (has_place.at q) ∙ no_later_itself q))
           by (inl soon) = more (cases_lt (has_place.place + 1) k)
             where
               more : (has_place.place + 1 < k) ⊎ (k ≤ has_place.place + 1) → k ≡ has_place.place + 1
               more (inr h) = omega arith
-              more (inl h) = absurd (not_both (is_no_later q.x q.y (slice_index_or squares (has_place.place + 1) q))
-                  (parts.0 (has_place.place + 1) q (omega arith) h)
+              more (inl h) = absurd (both_ways (is_no_later q.x q.y (slice_index_or squares (has_place.place + 1) q))
                   (later_is_later q (slice_index_or squares (has_place.place + 1) q)
                   (subst (λ (r : Square). comes_before r (slice_index_or squares (has_place.place + 1) q) ≡ true) (has_place.at q)
-                  (later_place squares ordered has_place.place (has_place.place + 1) q (omega arith) (omega arith)))))
+                  (later_place squares ordered has_place.place (has_place.place + 1) q (omega arith) (omega arith))))
+                  (parts.0 (has_place.place + 1) q (omega arith) h))
 
 -- the square of the tiling that has an image
 pub from_image : (t : Tiling) (p : Square) → IsOneOf p (image Swap t).squares → IsOneOf (record { x = p.y; y = p.x; s = p.s }) t.squares
@@ -99,7 +99,7 @@ first_within test squares q one e = by (cases_lt (position_or_len test squares) 
   where
     by : (position_or_len test squares < length squares) ⊎ (length squares ≤ position_or_len test squares) → (m : ℕ) × (m < length squares) × ((d : Square) → slice_index_or squares m d ≡ q) → position_or_len test squares < length squares
     by (inl h) at = h
-    by (inr h) (m, there, at) = absurd (not_both (test (slice_index_or squares m q)) (ap test (at q) ∙ e) (fails_before_first test squares m q (omega arith)))
+    by (inr h) (m, there, at) = absurd (both_ways (test (slice_index_or squares m q)) (fails_before_first test squares m q (omega arith)) (ap test (at q) ∙ e))
 
 stands_x : (x y : ℕ) (q : Square) → stands_at x y q ≡ true → q.x ≡ x
 stands_x x y q e = grind (arith, nat_tests)

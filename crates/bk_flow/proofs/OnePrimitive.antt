@@ -7,9 +7,9 @@ use Rattle.std.proofs.lemmas.Int.{ints, unsigned_abs-mul}
 use Rattle.std.proofs.lemmas.List.Elements.{All-from_recursion}
 use Rattle.std.proofs.lemmas.Nat.Gcd.{dvd_antisymm}
 use Prim.Native.Nat.{◌∣◌}
+use Rattle.bk_laws.proofs.WholeNumbers.{cancel_right}
 use Rattle.bk_frac.proofs.Coprime.{gcd-mul}
 use Rattle.bk_frac.proofs.DivisorLaws.{gcd_of-divides, gcd_of-greatest}
-use Rattle.bk_frac.proofs.WholeNumbers.{cancel_right}
 use Rattle.bk_frac.proofs.WrittenNumbers.{some-magnitude}
 use Rattle.bk_frac.specs.Divisor.{gcd, gcd_of}
 use Rattle.bk_net.specs.Flow.{Flow, IsPrimitive}

@@ -1,13 +1,13 @@
 -- The cut P.
 use Rattle.std.proofs.Common.{List, Some, [], ap, arith, inl, inr, length, refl, replicate, slice_get, subst, suc, sym, ℕ, ◌++◌, ◌-◌, ◌<◌, ◌∙◌, ◌∷◌, ◌≡◌, ◌≤◌, ◌⊎◌}
-use Rattle.bk_tiling.proofs.ListLaws.{length_append}
+use Rattle.std.proofs.lemmas.List.{length-append, length-replicate}
 use Rattle.bk_word.specs.Outline.{Outline, start, valley_of}
 use Rattle.bk_word.specs.Play.{AreLegalFrom, after_move, after_moves, outline_of}
 use Rattle.bk_word.specs.Word.{Word}
-use Rattle.bk_skel.proofs.Numbering.{length-replicate, numbered_start}
+use Rattle.bk_word_net.proofs.Numbering.{numbered_start}
 use Rattle.bk_layout.specs.Layout.{Layout}
 use Rattle.bk_layout.specs.LayoutLaws.{HangByNodesFrom, IsWordOfLayout}
-use Rattle.bk_walk.proofs.Places.{legal_front}
+use Rattle.bk_word.proofs.PlayLaws.{legal_front}
 use Rattle.bk_free_cuts.proofs.InnerLines.{AllKnown, IsKnown, known_along, known_at}
 use Rattle.bk_free_cuts.proofs.NumberedLines.{AllStand, all_along, index_stand, sides_long}
 use Rattle.bk_free_cuts.proofs.SharedLines.{hung_less, open_low, square_low}
@@ -25,9 +25,9 @@ along_long o sides [] e = e
 along_long o sides (m ∷ w) e = along_long (after_move o m) (sides_after o sides m) w (omega (
   arith,
   e,
-  length_append sides (new_sides (length o.hung) m.count (left_end sides (valley_of o)) (right_end sides (valley_of o))),
+  length-append sides (new_sides (length o.hung) m.count (left_end sides (valley_of o)) (right_end sides (valley_of o))),
   sides_long (length o.hung) m.count (left_end sides (valley_of o)) (right_end sides (valley_of o)),
-  length_append o.hung (replicate m.count (length o.closed)),
+  length-append o.hung (replicate m.count (length o.closed)),
   length-replicate m.count (length o.closed),
 ))
 

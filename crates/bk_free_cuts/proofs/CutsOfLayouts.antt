@@ -1,7 +1,7 @@
 -- What no word of a simple layout begins with.
 use Rattle.std.proofs.Common.{Contains, List, Some, [], ap, arith, drop, inl, inr, length, map, slice_get, slice_index_or, subst, suc, sym, take, true, zero, ℕ, ◌++◌, ◌+◌, ◌-◌, ◌<◌, ◌∙◌, ◌∷◌, ◌≡◌, ◌≤◌, ◌⊎◌}
-use Rattle.std.proofs.lemmas.List.{nil_from_length}
-use Rattle.bk_tiling.proofs.ListLaws.{get_some, length_map}
+use Rattle.std.proofs.lemmas.List.{length-map, nil_from_length}
+use Rattle.bk_laws.proofs.ListPlaces.{get_map, get_some}
 use Rattle.bk_word.specs.Outline.{Outline, has_left_wall, open_side, start, valley_of, valley_place}
 use Rattle.bk_word.specs.Play.{AreLegalFrom, IsComplete, after_move, after_moves, new_squares, outline_of}
 use Rattle.bk_word.specs.Word.{Move, Word, order_of}
@@ -9,23 +9,22 @@ use Rattle.bk_word.specs.declared.Sign.{Sign}
 use Rattle.bk_word.specs.declared.Sign.TheVariants.{Even}
 use Rattle.bk_word.proofs.PlayLists.{numbers-length}
 use Rattle.bk_word.proofs.StoredBytes.{order_append}
-use Rattle.bk_skel.proofs.Shape.{AllFilled, Shaped, filled_move, shaped_move, shaped_moves, shaped_start}
+use Rattle.bk_word_net.proofs.Shape.{AllFilled, Shaped, filled_move, shaped_move, shaped_moves, shaped_start}
 use Rattle.bk_layout.proofs.SweepStart.{top_ends_none}
 use Rattle.bk_layout.specs.FreeWord.{AreFreeFrom, HangNoTwinsFrom, HangsNoTwins, IsFreeMove}
 use Rattle.bk_layout.specs.Layout.{Fits, Layout}
 use Rattle.bk_layout.specs.LayoutLaws.{HangByNodesFrom, HangsNode, IsWordOfLayout}
-use Rattle.bk_walk.proofs.Places.{legal_front}
-use Rattle.bk_walk.specs.ClosingBound.{closing_bound}
-use Rattle.bk_walk.specs.Cuts.{own_signs}
-use Rattle.bk_walk.specs.SingleValleys.{single_valleys, sizes_of}
-use Rattle.bk_walk.specs.VerticalCut.{line_bound_of, lines_of, on_line}
-use Rattle.bk_skel.proofs.PlacesInLists.{get_map}
-use Rattle.bk_chains.specs.SimpleLayout.{IsSimpleLayout, Touches}
-use Rattle.bk_walk.proofs.WordBoundLaws.{closings_are_hung, lines_are_hung, singles_are_hung}
+use Rattle.bk_word.proofs.PlayLaws.{legal_front}
+use Rattle.bk_bounds.specs.ClosingBound.{closing_bound}
+use Rattle.bk_word.specs.OwnSigns.{own_signs}
+use Rattle.bk_bounds.specs.SingleValleys.{single_valleys, sizes_of}
+use Rattle.bk_bounds.specs.VerticalCut.{line_bound_of, lines_of, on_line}
+use Rattle.bk_tiling_layout.specs.SimpleLayout.{IsSimpleLayout, Touches}
+use Rattle.bk_bounds.proofs.WordBoundLaws.{closings_are_hung, lines_are_hung, singles_are_hung}
 use Rattle.bk_free_cuts.proofs.MarkedSquares.{IsTopLine, some_marked, tops_of_word}
 use Rattle.bk_free_cuts.proofs.TopLines.{no_line_down}
 use Rattle.bk_free_cuts.proofs.WideNodes.{ends_left, ends_right, no_wide_bottom, no_wide_node}
-use Rattle.bk_walk.specs.WordBounds.{EndsNoLine, HangNoPairsFrom, HangsNoPair, IsWithoutPairs}
+use Rattle.bk_bounds.specs.WordBounds.{EndsNoLine, HangNoPairsFrom, HangsNoPair, IsWithoutPairs}
 use Rattle.bk_free_cuts.specs.FreeCuts.{AreOuterWalls}
 
 pub nodes_rest : (l : Layout) (f : ℕ → ℕ) (o : Outline) (front rest : Word) → HangByNodesFrom l f o (front ++ rest) → HangByNodesFrom l f (after_moves o front) rest
@@ -43,10 +42,10 @@ free_rest o (m ∷ front) rest p = free_rest (after_move o m) front rest p.1
 -- ---- a move of one square under one
 
 valley_many : (l : Layout) (f : ℕ → ℕ) (o : Outline) (m : Move) (h : HangsNode l f o m) → length (l.ending h.node) ≡ length (valley_of o)
-valley_many l f o m h = ap length (sym h.ends) ∙ length_map f (valley_of o)
+valley_many l f o m h = ap length (sym h.ends) ∙ length-map (valley_of o) f
 
 new_many : (l : Layout) (f : ℕ → ℕ) (o : Outline) (m : Move) (h : HangsNode l f o m) → length (l.hanging h.node) ≡ m.count
-new_many l f o m h = ap length (sym h.hangs) ∙ length_map f (new_squares o m) ∙ numbers-length (length o.hung + 1) m.count
+new_many l f o m h = ap length (sym h.hangs) ∙ length-map (new_squares o m) f ∙ numbers-length (length o.hung + 1) m.count
 
 hangs_no_pair : (l : Layout) (simple : IsSimpleLayout l) (f : ℕ → ℕ) (o : Outline) (m : Move) → HangsNode l f o m → HangsNoPair o m
 hangs_no_pair l simple f o m h one count = simple.pairs h.node (valley_many l f o m h ∙ one) (new_many l f o m h ∙ count)
@@ -171,7 +170,7 @@ module _ (l : Layout) (fits : Fits l) (w : Word) (word : IsWordOfLayout l w) whe
       last_fits many s e one = from (get_some (l.ending l.bottom) 0 (omega (arith, ending_one)))
         where
           ending_one : length (l.ending l.bottom) ≡ 1
-          ending_one = ap length (sym word.end) ∙ length_map square (slice_index_or (outline_of w).segments 0 []) ∙ ap (λ (x : List (List ℕ)). length (slice_index_or x 0 [])) e ∙ one
+          ending_one = ap length (sym word.end) ∙ length-map (slice_index_or (outline_of w).segments 0 []) square ∙ ap (λ (x : List (List ℕ)). length (slice_index_or x 0 [])) e ∙ one
 
           from : (q : ℕ) × (slice_get (l.ending l.bottom) 0 ≡ Some q) → ⊥
           from (q, at) = let i = fits.lists.ending_is l.bottom 0 q at in

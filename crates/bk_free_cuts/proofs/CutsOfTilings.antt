@@ -1,15 +1,15 @@
 -- The cuts on free words of simple tilings.
 use Rattle.std.proofs.Common.{refl, [], arith, length, ℕ, ◌++◌, ◌+◌, ◌<◌, ◌∙◌, ◌∷◌, ◌≡◌, ◌≤◌}
-use Rattle.bk_tiling.proofs.ListLaws.{append_assoc}
+use Rattle.std.proofs.lemmas.List.{append_assoc}
 use Rattle.bk_tiling.proofs.TilingLaws.{side_of, within_of}
 use Rattle.bk_tiling.specs.Tiling.{IsTiling, Tiling}
 use Rattle.bk_word.specs.Word.{Move, Word}
 use Rattle.bk_layout.proofs.LayoutNet.{a_layout_has_a_free_word}
 use Rattle.bk_layout.specs.Layout.{Fits}
-use Rattle.bk_chains.proofs.LineEnds.{number_column, number_one, number_zero}
-use Rattle.bk_chains.proofs.SimpleFits.{a_simple_tiling_has_a_simple_layout}
-use Rattle.bk_chains.proofs.TilingFits.{a_tiling_has_a_layout, in_square}
-use Rattle.bk_chains.specs.TilingLayout.{layout_of, square_of}
+use Rattle.bk_tiling_layout.proofs.LineEnds.{number_column, number_one, number_zero}
+use Rattle.bk_tiling_layout.proofs.SimpleFits.{a_simple_tiling_has_a_simple_layout}
+use Rattle.bk_tiling_layout.proofs.TilingFits.{a_tiling_has_a_layout, in_square}
+use Rattle.bk_tiling_layout.specs.TilingLayout.{layout_of, square_of}
 use Rattle.bk_free_cuts.proofs.ApartLines.{lines_of_a_tiling_are_apart}
 use Rattle.bk_free_cuts.proofs.CutsOfLayouts.{closings_fit, evens_fit, free_fits, lines_fit, one_segment_fits, pairs_fit, singles_fit}
 use Rattle.bk_free_cuts.specs.FreeCuts.{ASimpleTilingHasASoundLayout, AreOuterWalls, EvenSquaresAreFreeBarren, OneSegmentIsFreeBarren, OneUnderOneIsFreeBarren, StayingAboveIsFreeBarren, TooManyLinesIsFreeBarren, TooManySinglesIsFreeBarren, TooManyToCloseIsFreeBarren}

@@ -2,15 +2,15 @@
 use Rattle.std.specs.List.{list_any}
 use Rattle.std.proofs.Common.{Bool, List, Some, [], ap, arith, false, inl, inr, length, nat_eq, refl, replicate, slice_get, slice_index_or, subst, suc, sym, true, zero, ℕ, ◌||◌, ◌++◌, ◌+◌, ◌-◌, ◌<◌, ◌∙◌, ◌∷◌, ◌≡◌, ◌⊎◌}
 use Rattle.std.proofs.lemmas.Bool.Decides.{nat_tests}
-use Rattle.bk_tiling.proofs.ListLaws.{length_append}
+use Rattle.std.proofs.lemmas.List.{length-append}
+use Rattle.bk_laws.proofs.ListPlaces.{get_map}
 use Rattle.bk_word.specs.Outline.{Outline, start, valley_of}
 use Rattle.bk_word.specs.Play.{AreLegalFrom, after_move, numbers_from}
 use Rattle.bk_word.specs.Word.{Move, Word}
-use Rattle.bk_skel.proofs.PlacesInLists.{get_map}
 use Rattle.bk_layout.specs.Layout.{AreNeighbours, Fits, Layout}
 use Rattle.bk_layout.specs.LayoutLaws.{HangByLinesFrom, HangByNodesFrom, HangsByLines, HangsNode}
-use Rattle.bk_walk.proofs.LineMoves.{lines_long}
-use Rattle.bk_walk.specs.VerticalCut.{begins_on_line, lines_after, lines_along, on_line}
+use Rattle.bk_bounds.proofs.LineMoves.{lines_long}
+use Rattle.bk_bounds.specs.VerticalCut.{begins_on_line, lines_after, lines_along, on_line}
 
 -- the line stands between two squares that hang from the top
 pub record IsTopLine (l : Layout) (line : ℕ) : Type 0 where
@@ -77,7 +77,7 @@ module _ (l : Layout) (fits : Fits l) (f : ℕ → ℕ) where
 
   pub tops_along : (o : Outline) (lines : List Bool) (w : Word) → AreLegalFrom o w → length lines ≡ length o.hung → 0 < length o.closed → HangByLinesFrom l square o w → AreOnTopLines lines → AreOnTopLines (lines_along o lines w)
   tops_along o lines [] legal long closed by_lines tops = tops
-  tops_along o lines (m ∷ w) legal long closed by_lines tops = tops_along (after_move o m) (lines_after o lines m) w legal.1 as_long (omega (arith, length_append o.closed (valley_of o ∷ []))) by_lines.1 (tops_later o lines m long by_lines.0 tops closed)
+  tops_along o lines (m ∷ w) legal long closed by_lines tops = tops_along (after_move o m) (lines_after o lines m) w legal.1 as_long (omega (arith, length-append o.closed (valley_of o ∷ []))) by_lines.1 (tops_later o lines m long by_lines.0 tops closed)
     where
       as_long : length (lines_after o lines m) ≡ length (after_move o m).hung
       as_long = lines_long o lines (m ∷ []) (legal.0, tt) long

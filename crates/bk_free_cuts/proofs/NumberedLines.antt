@@ -1,13 +1,14 @@
 -- The numbers of lines in a word stand for the layout's lines.
 use Rattle.std.proofs.Common.{List, Some, [], ap, arith, inl, inr, length, map, refl, replicate, slice_get, slice_index_or, subst, suc, sym, zero, ℕ, ◌++◌, ◌+◌, ◌-◌, ◌<◌, ◌∙◌, ◌∷◌, ◌≡◌, ◌⊎◌}
-use Rattle.bk_tiling.proofs.ListLaws.{length_append, length_map}
+use Rattle.std.proofs.lemmas.List.{length-append, length-map, length-replicate}
+use Rattle.bk_laws.proofs.ListPlaces.{get_map}
+use Rattle.bk_laws.proofs.Occurrences.{times_at, times_in-append}
 use Rattle.bk_word.specs.Outline.{Outline, start, valley_of, valley_place}
 use Rattle.bk_word.specs.Play.{AreLegalFrom, after_move, new_squares, numbers_from}
 use Rattle.bk_word.specs.Word.{Move, Word}
 use Rattle.bk_word.proofs.PlayLists.{numbers-length}
-use Rattle.bk_skel.proofs.NoLoose.{hung_number}
-use Rattle.bk_skel.proofs.Numbering.{Numbered, length-replicate, numbered_move, numbered_start, times_at, times_in-append}
-use Rattle.bk_skel.proofs.PlacesInLists.{get_map}
+use Rattle.bk_word_net.proofs.NoLoose.{hung_number}
+use Rattle.bk_word_net.proofs.Numbering.{Numbered, numbered_move, numbered_start}
 use Rattle.bk_layout.proofs.Counting.{got_same, got_times}
 use Rattle.bk_layout.specs.Layout.{Fits, IsLast, Layout}
 use Rattle.bk_layout.specs.LayoutLaws.{HangByNodesFrom, HangsNode}
@@ -67,7 +68,7 @@ module _ (l : Layout) (square : ℕ → ℕ) where
 
   module _ (fits : Fits l) (o : Outline) (sides : List (ℕ × ℕ)) (m : Move) (h : HangsNode l (λ number. square (number - 1)) o m) (all : AllStand sides) where
     many : length (l.hanging h.node) ≡ m.count
-    many = ap length (sym h.hangs) ∙ length_map (λ number. square (number - 1)) (new_squares o m) ∙ numbers-length (length o.hung + 1) m.count
+    many = ap length (sym h.hangs) ∙ length-map (new_squares o m) (λ number. square (number - 1)) ∙ numbers-length (length o.hung + 1) m.count
 
     -- the last of some numbers
     last_of : (a : ℕ) (more : List ℕ) → (z : ℕ) × (slice_get (a ∷ more) (length more) ≡ Some z) × (right_end sides (a ∷ more) ≡ (sides_at sides z).1)
@@ -94,7 +95,7 @@ module _ (l : Layout) (square : ℕ → ℕ) where
       ap (λ (n : ℕ). l.left (square n)) (omega arith) ∙ fits.lines.same_left h.node (square (a - 1)) (square (length o.hung + 0)) (ap (λ (xs : List ℕ). slice_get xs 0) (sym is)) (hung_at o m h 0 some)
           ∙ (index_stand sides all (a - 1) (low 0 a refl)).0,
       λ k e. fits.lines.same_right h.node (square ((last_of a more).0 - 1)) (square (length o.hung + k))
-          (subst (λ (xs : List ℕ). IsLast xs (square ((last_of a more).0 - 1))) is (length more, ap suc (sym (length_map (λ number. square (number - 1)) more)), get_map (λ number. square (number - 1)) (a ∷ more) (length more) (last_of a more).0 (last_of a more).1))
+          (subst (λ (xs : List ℕ). IsLast xs (square ((last_of a more).0 - 1))) is (length more, ap suc (sym (length-map more (λ number. square (number - 1)))), get_map (λ number. square (number - 1)) (a ∷ more) (length more) (last_of a more).0 (last_of a more).1))
           (k, omega (arith, e, many), hung_at o m h k (omega (arith, e)))
           ∙ (index_stand sides all ((last_of a more).0 - 1) (low (length more) (last_of a more).0 (last_of a more).1)).1 ∙ ap (line_of l square) (sym (last_of a more).2),
     )
@@ -119,9 +120,9 @@ module _ (l : Layout) (square : ℕ → ℕ) where
       long_then = omega (
         arith,
         long,
-        length_append sides (new_sides (length o.hung) m.count (left_end sides (valley_of o)) (right_end sides (valley_of o))),
+        length-append sides (new_sides (length o.hung) m.count (left_end sides (valley_of o)) (right_end sides (valley_of o))),
         sides_long (length o.hung) m.count (left_end sides (valley_of o)) (right_end sides (valley_of o)),
-        length_append o.hung (replicate m.count (length o.closed)),
+        length-append o.hung (replicate m.count (length o.closed)),
         length-replicate m.count (length o.closed),
       )
 

@@ -1,31 +1,32 @@
 -- P on words: nodes and squares of the word against those of its layout.
 use Rattle.std.proofs.Common.{List, None, Option, Some, [], ap, arith, cond, inl, inr, length, map, nat_eq, option_map, refl, replicate, slice_get, slice_index_or, subst, suc, sym, zero, ℕ, ◌++◌, ◌+◌, ◌-◌, ◌<◌, ◌∙◌, ◌∷◌, ◌≡◌, ◌≤◌, ◌⊎◌}
 use Rattle.std.proofs.lemmas.Bool.Decides.{nat_tests}
-use Rattle.bk_tiling.proofs.ListLaws.{append_assoc, append_nil, get_some, length_append, length_map}
+use Rattle.std.proofs.lemmas.List.{append-nil, append_assoc, length-append, length-map}
+use Rattle.bk_laws.proofs.Occurrences.{times, times_at, times_in, times_in-append}
+use Rattle.bk_laws.proofs.ListPlaces.{get_append, get_map, get_some}
 use Rattle.bk_word.proofs.PlayLists.{numbers-length}
 use Rattle.bk_word.specs.Outline.{Outline, start, valley_of}
 use Rattle.bk_word.specs.Play.{after_move, after_moves, numbers_from, outline_of}
 use Rattle.bk_word.specs.Word.{Word}
-use Rattle.bk_lay.proofs.Steps.{get_append}
-use Rattle.bk_skel.proofs.Numbering.{HasPlace, Numbered, numbered_moves, numbered_start, place_of_number, times, times_at, times_in, times_in-append, times_one, times_some}
-use Rattle.bk_skel.proofs.PlacesInLists.{get_map, wires_got}
-use Rattle.bk_skel.proofs.Shape.{hung_many}
-use Rattle.bk_skel.proofs.Wires.{wires_length}
-use Rattle.bk_skel.specs.WordNet.{end_of, net_of_word}
+use Rattle.bk_word_net.proofs.Numbering.{HasPlace, Numbered, numbered_moves, numbered_start, place_of_number, times_one, times_some}
+use Rattle.bk_word_net.proofs.PlacesInLists.{wires_got}
+use Rattle.bk_word_net.proofs.Shape.{hung_many}
+use Rattle.bk_word_net.proofs.Wires.{wires_length}
+use Rattle.bk_word_net.specs.WordNet.{end_of, net_of_word}
 use Rattle.bk_layout.proofs.Counting.{at_most, got_same, got_times, none_for, once_times, one_for, same_or_other, times_got}
 use Rattle.bk_layout.specs.Layout.{Fits, Layout, net_of_layout}
 use Rattle.bk_layout.specs.LayoutLaws.{IsWordOfLayout}
-use Rattle.bk_walk.proofs.Potential.{after_moves-append}
+use Rattle.bk_word.proofs.PlayLaws.{after_moves-append}
 use Rattle.bk_free_cuts.proofs.MarkedSquares.{numbers_at}
 use Rattle.bk_free_cuts.proofs.OpenRuns.{index_at}
 use Rattle.bk_free_cuts.proofs.WideNodes.{got_low}
 
 closed_grows : (o : Outline) (w : Word) → (more : List (List ℕ)) × ((after_moves o w).closed ≡ o.closed ++ more)
-closed_grows o [] = ([], sym (append_nil o.closed))
+closed_grows o [] = ([], sym (append-nil o.closed))
 closed_grows o (m ∷ w) = let r = closed_grows (after_move o m) w in ((valley_of o ∷ []) ++ r.0, r.1 ∙ append_assoc o.closed (valley_of o ∷ []) r.0)
 
 hung_grows : (o : Outline) (w : Word) → (more : List ℕ) × ((after_moves o w).hung ≡ o.hung ++ more)
-hung_grows o [] = ([], sym (append_nil o.hung))
+hung_grows o [] = ([], sym (append-nil o.hung))
 hung_grows o (m ∷ w) = let r = hung_grows (after_move o m) w in (replicate m.count (length o.closed) ++ r.0, r.1 ∙ append_assoc o.hung (replicate m.count (length o.closed)) r.0)
 
 pub got_index : (xs : List ℕ) (k : ℕ) → k < length xs → slice_get xs k ≡ Some (slice_index_or xs k 0)
@@ -112,10 +113,10 @@ module _ (l : Layout) (fits : Fits l) (w : Word) (word : IsWordOfLayout l w) whe
     hung_then = let r = hung_grows (outline_of front) rest in (r.0, ap (λ (x : Outline). x.hung) at_end ∙ r.1)
 
     pub hung_less : length (outline_of front).hung ≤ length (outline_of w).hung
-    hung_less = omega (arith, ap length hung_then.1, length_append (outline_of front).hung hung_then.0)
+    hung_less = omega (arith, ap length hung_then.1, length-append (outline_of front).hung hung_then.0)
 
     pub closed_less : length (outline_of front).closed ≤ length (outline_of w).closed
-    closed_less = omega (arith, ap length closed_then.1, length_append (outline_of front).closed closed_then.0)
+    closed_less = omega (arith, ap length closed_then.1, length-append (outline_of front).closed closed_then.0)
 
     pub above_is : (k v : ℕ) → slice_get (outline_of front).hung k ≡ Some v → l.above (word.square k) ≡ word.node v
     above_is k v e = (wire k (omega (arith, got_low (outline_of front).hung k v e, hung_less))).0
@@ -154,7 +155,7 @@ module _ (l : Layout) (fits : Fits l) (w : Word) (word : IsWordOfLayout l w) whe
 
           at_v : end_of ((outline_of w).closed ++ (outline_of w).segments) (1 + (a - 1)) ≡ v
           at_v = node_apart (end_of ((outline_of w).closed ++ (outline_of w).segments) (1 + (a - 1))) v
-              (omega (arith, p.below, length_append (outline_of w).closed (outline_of w).segments, (word.complete).one)) (omega (arith, low, closed_less)) (sym (wire (a - 1) open_within).1 ∙ g)
+              (omega (arith, p.below, length-append (outline_of w).closed (outline_of w).segments, (word.complete).one)) (omega (arith, low, closed_less)) (sym (wire (a - 1) open_within).1 ∙ g)
 
           number : 1 + (a - 1) ≡ a
           number = omega (arith, open_low.0)
@@ -176,7 +177,7 @@ module _ (l : Layout) (fits : Fits l) (w : Word) (word : IsWordOfLayout l w) whe
   at_place k h = get_map word.square (numbers_from 0 (length (outline_of w).hung)) k k (numbers_at 0 (length (outline_of w).hung) k h ∙ ap (λ (x : ℕ). Some x) (omega arith))
 
   long : length (map word.square (numbers_from 0 (length (outline_of w).hung))) ≡ length (outline_of w).hung
-  long = length_map word.square (numbers_from 0 (length (outline_of w).hung)) ∙ numbers-length 0 (length (outline_of w).hung)
+  long = length-map (numbers_from 0 (length (outline_of w).hung)) word.square ∙ numbers-length 0 (length (outline_of w).hung)
 
   low_place : (k q : ℕ) → slice_get (map word.square (numbers_from 0 (length (outline_of w).hung))) k ≡ Some q → (k < length (outline_of w).hung) × (word.square k ≡ q)
   low_place k q e = (below, got_same (word.square k) q (sym (at_place k below) ∙ e))

@@ -1,18 +1,20 @@
 -- P on words: two lines at one open segment, and a closed node.
 use Rattle.std.proofs.Common.{List, Some, [], ap, arith, inl, inr, length, refl, slice_get, slice_index_or, subst, suc, sym, ℕ, ◌++◌, ◌+◌, ◌-◌, ◌<◌, ◌∙◌, ◌≡◌, ◌≤◌, ◌⊎◌}
 use Rattle.std.proofs.lemmas.Bool.{cases_lt}
-use Rattle.bk_tiling.proofs.ListLaws.{get_some, length_append}
+use Rattle.std.proofs.lemmas.List.{length-append}
+use Rattle.bk_laws.proofs.Occurrences.{times, times_at, times_in-append}
+use Rattle.bk_laws.proofs.ListPlaces.{get_some}
 use Rattle.bk_word.specs.Outline.{start}
 use Rattle.bk_word.specs.Play.{AreLegalFrom, outline_of}
 use Rattle.bk_word.specs.Word.{Word}
-use Rattle.bk_skel.proofs.NoLoose.{Played, played_moves, played_start}
-use Rattle.bk_skel.proofs.Numbering.{HasPlace, times, times_at, times_in-append, times_some}
-use Rattle.bk_skel.specs.WordNet.{end_of}
+use Rattle.bk_word_net.proofs.NoLoose.{Played, played_moves, played_start}
+use Rattle.bk_word_net.proofs.Numbering.{HasPlace, times_some}
+use Rattle.bk_word_net.specs.WordNet.{end_of}
 use Rattle.bk_layout.proofs.Counting.{got_same}
 use Rattle.bk_layout.specs.Layout.{Fits, Layout}
 use Rattle.bk_layout.specs.LayoutLaws.{IsWordOfLayout}
-use Rattle.bk_chains.specs.SimpleLayout.{AreOutermost, HasOneBetween, IsSimpleLayout, Touches}
-use Rattle.bk_walk.proofs.Places.{legal_front}
+use Rattle.bk_tiling_layout.specs.SimpleLayout.{AreOutermost, HasOneBetween, IsSimpleLayout, Touches}
+use Rattle.bk_word.proofs.PlayLaws.{legal_front}
 use Rattle.bk_free_cuts.proofs.OpenRuns.{index_at, open_segments_end_together}
 use Rattle.bk_free_cuts.proofs.SharedLines.{above_is, below_is, closed_got, closed_less, fresh, got_index, hung_less, node_apart, numbered_square, open_low, place_of, square_low, wire}
 use Rattle.bk_free_cuts.specs.OpenSegments.{EndsTogether}
@@ -56,7 +58,7 @@ module _ (l : Layout) (fits : Fits l) (simple : IsSimpleLayout l) (lines : AreLi
 
           at_v : end_of ((outline_of w).closed ++ (outline_of w).segments) (1 + k) ≡ v
           at_v = node_apart l fits w word (end_of ((outline_of w).closed ++ (outline_of w).segments) (1 + k)) v
-              (omega (arith, p.below, length_append (outline_of w).closed (outline_of w).segments, (word.complete).one)) (omega (arith, closed, closed_less l fits w word front rest is))
+              (omega (arith, p.below, length-append (outline_of w).closed (outline_of w).segments, (word.complete).one)) (omega (arith, closed, closed_less l fits w word front rest is))
               (sym (wire l fits w word k low).1 ∙ ap l.below same ∙ bottom)
 
           from : (numbers : List ℕ) × (slice_get (outline_of front).closed v ≡ Some numbers) → ⊥

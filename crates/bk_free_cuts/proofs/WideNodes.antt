@@ -1,9 +1,9 @@
 -- In a simple layout no node but the top and the bottom reaches from wall to wall, and no single square does at the bottom.
 use Rattle.std.proofs.Common.{List, Some, [], ap, arith, inl, inr, length, slice_get, subst, suc, sym, zero, ℕ, ◌<◌, ◌∙◌, ◌∷◌, ◌≡◌, ◌≤◌, ◌⊎◌}
-use Rattle.bk_tiling.proofs.ListLaws.{get_some}
+use Rattle.bk_laws.proofs.ListPlaces.{get_some}
 use Rattle.bk_layout.proofs.Counting.{got_same, same_or_other}
 use Rattle.bk_layout.specs.Layout.{Fits, IsFirst, IsLast, Layout}
-use Rattle.bk_chains.specs.SimpleLayout.{AreOutermost, HasOneBetween, IsSimpleLayout, Touches}
+use Rattle.bk_tiling_layout.specs.SimpleLayout.{AreOutermost, HasOneBetween, IsSimpleLayout, Touches}
 use Rattle.bk_free_cuts.specs.FreeCuts.{AreOuterWalls}
 
 pub got_low : (xs : List ℕ) (k x : ℕ) → slice_get xs k ≡ Some x → k < length xs

@@ -11,12 +11,12 @@ use Rattle.bk_word.specs.declared.Sign.TheVariants.{Even}
 use Rattle.bk_layout.specs.FreeWord.{IsFreeMove}
 use Rattle.bk_layout.specs.Layout.{Fits, Layout}
 use Rattle.bk_layout.specs.LayoutLaws.{IsWordOfLayout}
-use Rattle.bk_chains.specs.SimpleLayout.{IsSimpleLayout}
-use Rattle.bk_chains.specs.TilingLayout.{layout_of}
-use Rattle.bk_walk.specs.ClosingBound.{closing_bound}
-use Rattle.bk_walk.specs.Cuts.{own_signs}
-use Rattle.bk_walk.specs.SingleValleys.{single_valleys, sizes_of}
-use Rattle.bk_walk.specs.VerticalCut.{line_bound_of}
+use Rattle.bk_tiling_layout.specs.SimpleLayout.{IsSimpleLayout}
+use Rattle.bk_tiling_layout.specs.TilingLayout.{layout_of}
+use Rattle.bk_bounds.specs.ClosingBound.{closing_bound}
+use Rattle.bk_word.specs.OwnSigns.{own_signs}
+use Rattle.bk_bounds.specs.SingleValleys.{single_valleys, sizes_of}
+use Rattle.bk_bounds.specs.VerticalCut.{line_bound_of}
 use Rattle.bk_free_cuts.specs.SharedNodes.{AreLinesApart}
 
 -- no square stands at the right of the right wall, at the left of the left wall, or at one line with both its edges

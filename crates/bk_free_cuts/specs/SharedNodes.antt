@@ -7,8 +7,8 @@ use Rattle.bk_word.specs.Play.{outline_of}
 use Rattle.bk_word.specs.Word.{Word}
 use Rattle.bk_layout.specs.Layout.{Fits, Layout}
 use Rattle.bk_layout.specs.LayoutLaws.{IsWordOfLayout}
-use Rattle.bk_chains.specs.SimpleLayout.{IsSimpleLayout}
-use Rattle.bk_chains.specs.TilingLayout.{layout_of}
+use Rattle.bk_tiling_layout.specs.SimpleLayout.{IsSimpleLayout}
+use Rattle.bk_tiling_layout.specs.TilingLayout.{layout_of}
 
 -- along a node no line stands twice at the squares that end there
 pub record AreLinesApart (l : Layout) : Type 0 where

@@ -4,10 +4,10 @@ use Rattle.std.proofs.Common.{Bool, List, [], arith, cond, false, inl, inr, leng
 use Rattle.std.specs.Prelude.{IsPermutation}
 use Rattle.std.proofs.lemmas.Bool.{le-leb, cases_lt, lt-leb}
 use Rattle.std.proofs.lemmas.List.Elements.{All-from_recursion}
-use Rattle.bk_tiling.proofs.AllOfLists.{all_append}
+use Rattle.std.proofs.lemmas.List.{length-append, length-map}
+use Rattle.bk_laws.proofs.AllOfLists.{all_append}
 use Rattle.bk_tiling.proofs.Cells.{all_from, in_all}
 use Rattle.bk_tiling.proofs.JoinedParts.{HasCell, IsPart, Splits, tiles_alone, tiles_joined}
-use Rattle.bk_tiling.proofs.ListLaws.{length_append, length_map}
 use Rattle.bk_tiling.proofs.MovedSquares.{all_moved, moved_rectangle, tiles_moved}
 use Rattle.bk_tiling.proofs.OneRefusal.{kept_from, tiles_apart, tiles_cells}
 use Rattle.bk_tiling.proofs.Refusing.{IsSortedByPlace, sorted_in_order}
@@ -91,7 +91,7 @@ module _ (t : Tiling) (g : IsGrowing t) (few : length t.squares < 200) where
   pub grows_right : t.height ≤ 999_999_999_999_999 → IsGrowing (with_right t)
   grows_right side = record {
     accepted = record {
-      few = omega (arith, length_append t.squares (square_at t.width 0 t.height ∷ []));
+      few = omega (arith, length-append t.squares (square_at t.width 0 t.height ∷ []));
       sides = all_append (λ q. IsSide q.s) t.squares (square_at t.width 0 t.height ∷ []) (g.accepted).sides ((some_height, side), tt);
       tiles = tiles_joined (sized (t.width + t.height) t.height) (beside 0 t.width t.height) (beside t.width t.height t.height) t.squares (square_at t.width 0 t.height ∷ [])
           (left_part (t.width + t.height) t.width t.height t.height refl) (right_part (t.width + t.height) t.width t.height t.height refl) (split_beside (t.width + t.height) t.width t.height t.height refl) (g.accepted).tiles (tiles_alone (square_at t.width 0 t.height) some_height);
@@ -103,7 +103,7 @@ module _ (t : Tiling) (g : IsGrowing t) (few : length t.squares < 200) where
   pub grows_below : t.width ≤ 999_999_999_999_999 → IsGrowing (with_below t)
   grows_below side = record {
     accepted = record {
-      few = omega (arith, length_append t.squares (square_at 0 t.height t.width ∷ []));
+      few = omega (arith, length-append t.squares (square_at 0 t.height t.width ∷ []));
       sides = all_append (λ q. IsSide q.s) t.squares (square_at 0 t.height t.width ∷ []) (g.accepted).sides ((some_width, side), tt);
       tiles = tiles_joined (sized t.width (t.height + t.width)) (stacked 0 t.width t.height) (stacked t.height t.width t.width) t.squares (square_at 0 t.height t.width ∷ [])
           (upper_part (t.height + t.width) t.height t.width t.width refl) (lower_part (t.height + t.width) t.height t.width t.width refl) (split_stacked (t.height + t.width) t.height t.width t.width refl) (g.accepted).tiles (tiles_alone (square_at 0 t.height t.width) some_width);
@@ -124,7 +124,7 @@ module _ (t : Tiling) (g : IsGrowing t) (few : length t.squares < 200) where
   pub grows_left : t.height ≤ 999_999_999_999_999 → IsGrowing (with_left t)
   grows_left side = record {
     accepted = record {
-      few = omega (arith, length_append (map (moved_square t.height 0) t.squares) (square_at 0 0 t.height ∷ []), length_map (moved_square t.height 0) t.squares);
+      few = omega (arith, length-append (map (moved_square t.height 0) t.squares) (square_at 0 0 t.height ∷ []), length-map t.squares (moved_square t.height 0));
       sides = all_append (λ q. IsSide q.s) (map (moved_square t.height 0) t.squares) (square_at 0 0 t.height ∷ []) (sides_moved t.height 0) ((some_height, side), tt);
       tiles = tiles_joined (sized (t.width + t.height) t.height) (beside t.height t.width t.height) (beside 0 t.height t.height) (map (moved_square t.height 0) t.squares) (square_at 0 0 t.height ∷ [])
           (right_part (t.width + t.height) t.height t.width t.height (omega arith)) (left_part (t.width + t.height) t.height t.width t.height (omega arith))
@@ -139,7 +139,7 @@ module _ (t : Tiling) (g : IsGrowing t) (few : length t.squares < 200) where
   pub grows_above : t.width ≤ 999_999_999_999_999 → IsGrowing (with_above t)
   grows_above side = record {
     accepted = record {
-      few = omega (arith, length_append (map (moved_square 0 t.width) t.squares) (square_at 0 0 t.width ∷ []), length_map (moved_square 0 t.width) t.squares);
+      few = omega (arith, length-append (map (moved_square 0 t.width) t.squares) (square_at 0 0 t.width ∷ []), length-map t.squares (moved_square 0 t.width));
       sides = all_append (λ q. IsSide q.s) (map (moved_square 0 t.width) t.squares) (square_at 0 0 t.width ∷ []) (sides_moved 0 t.width) ((some_width, side), tt);
       tiles = tiles_joined (sized t.width (t.height + t.width)) (stacked t.width t.width t.height) (stacked 0 t.width t.width) (map (moved_square 0 t.width) t.squares) (square_at 0 0 t.width ∷ [])
           (lower_part (t.height + t.width) t.width t.height t.width (omega arith)) (upper_part (t.height + t.width) t.width t.height t.width (omega arith))
@@ -176,10 +176,10 @@ pub next_length : (v i : ℕ) (t : Tiling) → length (with_next v i t).squares 
 next_length v i t = cases (goes_up_or_down v i) (is_set v (i % 64))
   where
     cases : (b c : Bool) → length (cond b (cond c (with_above t) (with_below t)) (cond c (with_left t) (with_right t))).squares ≡ length t.squares + 1
-    cases true true = omega (arith, length_append (map (moved_square 0 t.width) t.squares) (square_at 0 0 t.width ∷ []), length_map (moved_square 0 t.width) t.squares)
-    cases true false = omega (arith, length_append t.squares (square_at 0 t.height t.width ∷ []))
-    cases false true = omega (arith, length_append (map (moved_square t.height 0) t.squares) (square_at 0 0 t.height ∷ []), length_map (moved_square t.height 0) t.squares)
-    cases false false = omega (arith, length_append t.squares (square_at t.width 0 t.height ∷ []))
+    cases true true = omega (arith, length-append (map (moved_square 0 t.width) t.squares) (square_at 0 0 t.width ∷ []), length-map t.squares (moved_square 0 t.width))
+    cases true false = omega (arith, length-append t.squares (square_at 0 t.height t.width ∷ []))
+    cases false true = omega (arith, length-append (map (moved_square t.height 0) t.squares) (square_at 0 0 t.height ∷ []), length-map t.squares (moved_square t.height 0))
+    cases false false = omega (arith, length-append t.squares (square_at t.width 0 t.height ∷ []))
 
 pub grows_on : (n v i : ℕ) (t : Tiling) → IsGrowing t → length t.squares + n ≤ 200 → IsGrowing (attached n v i t)
 grows_on zero v i t g few = g

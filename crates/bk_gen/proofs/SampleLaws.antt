@@ -3,7 +3,8 @@ use Rattle.std.specs.List.{AllByRecursion, list_all}
 use Rattle.std.specs.Prelude.{Bool, IsTrue, slice_index_or}
 use Rattle.std.proofs.Common.{List, [], arith, leb-true, length, ltb-true, nat_le, nat_lt, refl, suc, zero, ℕ, ◌%◌, ◌&&◌, ◌-◌, ◌∷◌, ◌≤◌}
 use Rattle.std.proofs.lemmas.Bool.{and_parts}
-use Rattle.bk_tiling.proofs.TilingTest.{all_from_test, tiles_from_test}
+use Rattle.bk_laws.proofs.AllOfLists.{all_from_test}
+use Rattle.bk_tiling.proofs.TilingTest.{tiles_from_test}
 use Rattle.bk_tiling.specs.Kept.{IsKept, IsSide}
 use Rattle.bk_tiling.specs.Refusal.{sized}
 use Rattle.bk_tiling.specs.declared.Square.{Square}

@@ -2,7 +2,8 @@
 use Rattle.std.specs.List.{AllWithin}
 use Rattle.std.proofs.Common.{Bool, List, [], ap, arith, cond, count_by, drop, false, filter, inl, inr, length, refl, slice_range, suc, sym, take, true, zero, ℕ, ◌-◌, ◌∙◌, ◌∷◌, ◌≡◌, ◌≤◌, ◌⊎◌}
 use Rattle.std.proofs.lemmas.Bool.Decides.{nat_tests}
-use Rattle.bk_tiling.proofs.Cells.{count-cons, in_all, none_counted, not_both, true_or_false}
+use Rattle.std.proofs.lemmas.Bool.{both_ways, cases_Bool}
+use Rattle.bk_tiling.proofs.Cells.{count-cons, in_all, none_counted}
 use Rattle.bk_tiling.proofs.OrderLaws.{comes_before-trans}
 use Rattle.bk_tiling.specs.CodeOrder.{InCodeOrder, comes_before}
 use Rattle.bk_tiling.specs.Tiling.{IsOneOf}
@@ -68,8 +69,8 @@ module _ (r : Run) (order : r.x ≤ r.end) where
   none_later q squares c o e = none_counted (λ q. comes_before q c) (q ∷ squares) none
     where
       none : (s : Square) → IsOneOf s (q ∷ squares) → comes_before s c ≡ true → ⊥
-      none s (inl same) f = not_both (comes_before s c) f (ap (λ (s : Square). comes_before s c) same ∙ e)
-      none s (inr k) f = not_both (comes_before q c) (comes_before-trans q s c (in_all (λ s. comes_before q s ≡ true) squares o.0 s k) f) e
+      none s (inl same) f = both_ways (comes_before s c) (ap (λ (s : Square). comes_before s c) same ∙ e) f
+      none s (inr k) f = both_ways (comes_before q c) e (comes_before-trans q s c (in_all (λ s. comes_before q s ≡ true) squares o.0 s k) f)
 
   none_under : (squares : List Square) → ((s : Square) → IsOneOf s squares → begins_under r s ≡ false) → filter (begins_under r) squares ≡ []
   none_under [] none = refl
@@ -78,7 +79,7 @@ module _ (r : Run) (order : r.x ≤ r.end) where
   -- the second corner comes no earlier than the first
   pub range_order : (squares : List Square) → count_by (λ q. comes_before q (corner r.x r.level)) squares ≤ count_by (λ q. comes_before q (corner r.end r.level)) squares
   range_order [] = omega arith
-  range_order (q ∷ squares) = cases (true_or_false (comes_before q (corner r.x r.level))) (range_order squares)
+  range_order (q ∷ squares) = cases (cases_Bool (comes_before q (corner r.x r.level))) (range_order squares)
     where
       cases : (comes_before q (corner r.x r.level) ≡ true) ⊎ (comes_before q (corner r.x r.level) ≡ false)
           → count_by (λ q. comes_before q (corner r.x r.level)) squares ≤ count_by (λ q. comes_before q (corner r.end r.level)) squares
@@ -93,7 +94,7 @@ module _ (r : Run) (order : r.x ≤ r.end) where
   pub range_is_under : (squares : List Square) → InCodeOrder squares
       → slice_range squares (count_by (λ q. comes_before q (corner r.x r.level)) squares) (count_by (λ q. comes_before q (corner r.end r.level)) squares) ≡ filter (begins_under r) squares
   range_is_under [] o = refl
-  range_is_under (q ∷ squares) o = cases (true_or_false (comes_before q (corner r.x r.level))) (true_or_false (comes_before q (corner r.end r.level))) (range_is_under squares o.1)
+  range_is_under (q ∷ squares) o = cases (cases_Bool (comes_before q (corner r.x r.level))) (cases_Bool (comes_before q (corner r.end r.level))) (range_is_under squares o.1)
     where
       filter_case : (b : Bool) → begins_under r q ≡ b → filter (begins_under r) (q ∷ squares) ≡ cond b (q ∷ filter (begins_under r) squares) (filter (begins_under r) squares)
       filter_case b e = ap (λ (b : Bool). cond b (q ∷ filter (begins_under r) squares) (filter (begins_under r) squares)) e
@@ -116,8 +117,8 @@ module _ (r : Run) (order : r.x ≤ r.end) where
         where
           none : (s : Square) → IsOneOf s (q ∷ squares) → begins_under r s ≡ false
           none s (inl same) = ap (begins_under r) same ∙ hangs_no_more q f
-          none s (inr k) = later (true_or_false (comes_before s (corner r.end r.level)))
+          none s (inr k) = later (cases_Bool (comes_before s (corner r.end r.level)))
             where
               later : (comes_before s (corner r.end r.level) ≡ true) ⊎ (comes_before s (corner r.end r.level) ≡ false) → begins_under r s ≡ false
-              later (inl g) = absurd (not_both (comes_before q (corner r.end r.level)) (comes_before-trans q s (corner r.end r.level) (in_all (λ s. comes_before q s ≡ true) squares o.0 s k) g) f)
+              later (inl g) = absurd (both_ways (comes_before q (corner r.end r.level)) f (comes_before-trans q s (corner r.end r.level) (in_all (λ s. comes_before q s ≡ true) squares o.0 s k) g))
               later (inr g) = hangs_no_more s g

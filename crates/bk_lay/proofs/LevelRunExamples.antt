@@ -1,7 +1,8 @@
 -- The outline under the first three squares of the 65 by 47 rectangle, 25, 17 and 23 from left to right: the valley is
 -- the run under 17, with one run at either side.
 use Rattle.std.proofs.Common.{List, [], ap, arith, nat_eq, refl, subst, sym, true, ℕ, ◌+◌, ◌-◌, ◌<◌, ◌∙◌, ◌∷◌, ◌≡◌}
-use Rattle.bk_tiling.proofs.ColumnTest.{all_below, each_below, eq_of}
+use Rattle.std.proofs.lemmas.Bool.{eqb-true}
+use Rattle.bk_laws.proofs.Tests.{all_below, each_below}
 use Rattle.bk_tiling.specs.Column.{depth}
 use Rattle.bk_tiling.specs.declared.Square.{Square}
 use Rattle.bk_lay.specs.LevelRuns.{IsOutline, IsRun, last_level, runs_under}
@@ -21,7 +22,7 @@ abbrev pub the_outline : Outline
 the_outline = record { left = record { items = run 0 25 25 ∷ [] }; valley = run 25 42 17; right = record { items = run 42 65 23 ∷ [] } }
 
 run_by_test : (laid : List Square) (r : Run) → r.x < r.end → all_below (λ k. nat_eq (depth laid (r.x + k)) r.level) (r.end - r.x) ≡ true → IsRun laid r
-run_by_test laid r some e = record { some = some; level = λ c lo hi. let at : r.x + (c - r.x) ≡ c = omega arith in sym (ap (depth laid) at) ∙ eq_of (depth laid (r.x + (c - r.x))) r.level (each_below (λ k. nat_eq (depth laid (r.x + k)) r.level) (r.end - r.x) e (c - r.x) (omega arith)) }
+run_by_test laid r some e = record { some = some; level = λ c lo hi. let at : r.x + (c - r.x) ≡ c = omega arith in sym (ap (depth laid) at) ∙ eqb-true (depth laid (r.x + (c - r.x))) r.level (each_below (λ k. nat_eq (depth laid (r.x + k)) r.level) (r.end - r.x) e (c - r.x) (omega arith)) }
 
 pub outline_of_three : IsOutline 65 three_squares the_outline
 outline_of_three = record {

@@ -2,8 +2,9 @@
 -- and the runs beside the valley meet the runs under them.
 use Rattle.std.proofs.Common.{Bool, List, [], ap, arith, cond, false, filter, inl, inr, length, nat_lt, refl, subst, sym, true, ℕ, ◌++◌, ◌+◌, ◌-◌, ◌<◌, ◌∙◌, ◌∷◌, ◌≡◌, ◌≤◌, ◌⊎◌}
 use Rattle.std.proofs.lemmas.Bool.Decides.{nat_tests}
-use Rattle.bk_tiling.proofs.Cells.{covers_from, filter_same, true_or_false}
-use Rattle.bk_tiling.proofs.ListLaws.{append_assoc, append_nil, length_append}
+use Rattle.std.proofs.lemmas.Bool.{cases_Bool}
+use Rattle.std.proofs.lemmas.List.{append-nil, append_assoc, length-append}
+use Rattle.bk_tiling.proofs.Cells.{covers_from, filter_same}
 use Rattle.bk_tiling.proofs.Rows.{Chain}
 use Rattle.bk_tiling.proofs.TilingLaws.{side_of}
 use Rattle.bk_tiling.specs.Column.{depth}
@@ -53,7 +54,7 @@ module _ (laid more : List Square) where
 
 -- runs under squares that stand side by side go on from runs further right
 under_meets : (laid : List Square) (squares : List Square) (x end : ℕ) (right : List Run) (width : ℕ) → Chain x squares end → ((q : Square) → IsOneOf q squares → IsRun laid (run_under q)) → RunsFromRight laid end right width → RunsFromRight laid x (right ++ runs_under squares) width
-under_meets laid [] x end right width c is f = let one : RunsFromRight laid x right width = subst (λ (y : ℕ). RunsFromRight laid y right width) (sym c) f in subst (λ (l : List Run). RunsFromRight laid x l width) (sym (append_nil right)) one
+under_meets laid [] x end right width c is f = let one : RunsFromRight laid x right width = subst (λ (y : ℕ). RunsFromRight laid y right width) (sym c) f in subst (λ (l : List Run). RunsFromRight laid x l width) (sym (append-nil right)) one
 under_meets laid (q ∷ squares) x end right width c is f = subst (λ (y : ℕ). RunsFromRight laid y (right ++ runs_under (q ∷ squares)) width) c.0
     (subst (λ (l : List Run). RunsFromRight laid q.x l width) (append_assoc right (runs_under squares) (run_under q ∷ []))
     (right_more laid (right ++ runs_under squares) (run_under q) width
@@ -62,7 +63,7 @@ under_meets laid (q ∷ squares) x end right width c is f = subst (λ (y : ℕ).
 
 pub length_under : (squares : List Square) → length (runs_under squares) ≡ length squares
 length_under [] = refl
-length_under (q ∷ squares) = omega (arith, length_append (runs_under squares) (run_under q ∷ []), length_under squares)
+length_under (q ∷ squares) = omega (arith, length-append (runs_under squares) (run_under q ∷ []), length_under squares)
 
 module _ (t : Tiling) (laid : List Square) (o : Outline) (tiling : IsTiling t) (fills : FillsFromTop t laid) (is : IsOutline t.width laid o) (low : o.valley.level < t.height) where
   pub found : IsLeftmostValley t.width laid (segment_of o.valley)
@@ -73,7 +74,7 @@ module _ (t : Tiling) (laid : List Square) (o : Outline) (tiling : IsTiling t) (
 
   -- the squares that begin under the valley are those that hang under it
   pub same_squares : filter (begins_under o.valley) t.squares ≡ squares_under t (segment_of o.valley)
-  same_squares = filter_same (begins_under o.valley) (hangs_under (segment_of o.valley)) t.squares (λ q h. same q h (true_or_false (begins_under o.valley q)) (true_or_false (hangs_under (segment_of o.valley) q)))
+  same_squares = filter_same (begins_under o.valley) (hangs_under (segment_of o.valley)) t.squares (λ q h. same q h (cases_Bool (begins_under o.valley q)) (cases_Bool (hangs_under (segment_of o.valley) q)))
     where
       level_of : (q : Square) → begins_under o.valley q ≡ true → q.y ≡ o.valley.level
       level_of q e = grind (arith, nat_tests)

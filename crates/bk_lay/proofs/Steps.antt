@@ -3,8 +3,10 @@
 use Rattle.std.specs.List.{AllByRecursion, AllZip}
 use Rattle.std.proofs.Common.{Bool, List, None, Some, [], ap, arith, cond, drop, false, filter, inl, inr, length, map, nat_eq, nat_lt, refl, replicate, slice_get, slice_index_or, subst, suc, sym, take, true, zero, ℕ, ◌++◌, ◌+◌, ◌-◌, ◌<◌, ◌∙◌, ◌∷◌, ◌≡◌, ◌≤◌, ◌⊎◌}
 use Rattle.std.proofs.lemmas.Bool.Decides.{nat_tests}
+use Rattle.std.proofs.lemmas.List.{append_assoc, length-append, length-map, map-append}
+use Rattle.bk_laws.proofs.ZippedLists.{zip_after, zip_append, zip_at, zip_before, zip_length, zip_map}
+use Rattle.bk_laws.proofs.ListPlaces.{get_append, get_last}
 use Rattle.bk_tiling.proofs.Cells.{in_all}
-use Rattle.bk_tiling.proofs.ListLaws.{append_assoc, length_append, length_map, map_append}
 use Rattle.bk_tiling.proofs.Rows.{Chain}
 use Rattle.bk_tiling.proofs.TilingLaws.{wide_enough}
 use Rattle.bk_tiling.specs.Column.{AreRuns, IsLevel, depth}
@@ -24,54 +26,6 @@ use Rattle.bk_lay.proofs.Valleys.{one_leftmost_valley}
 use Rattle.bk_lay.specs.Depiction.{Depicts, FillsFromTop, Hangs, IsNumbered, IsSegment, Span}
 use Rattle.bk_lay.specs.TilingWord.{IsLeftmostValley, bottoms, depth_before, depth_from, move_under, signs_between, squares_under}
 use Rattle.bk_lay.specs.WordLaws.{MoveDepicts, StartDepictsNothing}
-
-pub zip_append : {A B : Type 0} (R : A → B → Type 0) (xs ys : List A) (us vs : List B) → AllZip R xs us → AllZip R ys vs → AllZip R (xs ++ ys) (us ++ vs)
-zip_append R [] ys [] vs a b = b
-zip_append R [] ys (u ∷ us) vs a b = absurd a
-zip_append R (x ∷ xs) ys [] vs a b = absurd a
-zip_append R (x ∷ xs) ys (u ∷ us) vs a b = (a.0, zip_append R xs ys us vs a.1 b)
-
-pub zip_map : {A B : Type 0} (R S : A → B → Type 0) → ((x : A) (u : B) → R x u → S x u) → (xs : List A) (us : List B) → AllZip R xs us → AllZip S xs us
-zip_map R S f [] [] a = tt
-zip_map R S f [] (u ∷ us) a = absurd a
-zip_map R S f (x ∷ xs) [] a = absurd a
-zip_map R S f (x ∷ xs) (u ∷ us) a = (f x u a.0, zip_map R S f xs us a.1)
-
-pub zip_length : {A B : Type 0} (R : A → B → Type 0) (xs : List A) (us : List B) → AllZip R xs us → length xs ≡ length us
-zip_length R [] [] z = refl
-zip_length R [] (y ∷ ys) z = absurd z
-zip_length R (x ∷ xs) [] z = absurd z
-zip_length R (x ∷ xs) (y ∷ ys) z = ap suc (zip_length R xs ys z.1)
-
--- what stands before, at and after a place
-pub zip_before : {A B : Type 0} (R : A → B → Type 0) (xs : List A) (x : A) (ys : List A) (us : List B) → AllZip R (xs ++ x ∷ ys) us → AllZip R xs (take (length xs) us)
-zip_before R [] x ys us z = tt
-zip_before R (w ∷ xs) x ys [] z = absurd z
-zip_before R (w ∷ xs) x ys (u ∷ us) z = (z.0, zip_before R xs x ys us z.1)
-
-pub zip_at : {A B : Type 0} (R : A → B → Type 0) (xs : List A) (x : A) (ys : List A) (us : List B) (d : B) → AllZip R (xs ++ x ∷ ys) us → R x (slice_index_or us (length xs) d)
-zip_at R [] x ys [] d z = absurd z
-zip_at R [] x ys (u ∷ us) d z = z.0
-zip_at R (w ∷ xs) x ys [] d z = absurd z
-zip_at R (w ∷ xs) x ys (u ∷ us) d z = zip_at R xs x ys us d z.1
-
-pub zip_after : {A B : Type 0} (R : A → B → Type 0) (xs : List A) (x : A) (ys : List A) (us : List B) → AllZip R (xs ++ x ∷ ys) us → AllZip R ys (drop (suc (length xs)) us)
-zip_after R [] x ys [] z = absurd z
-zip_after R [] x ys (u ∷ us) z = z.1
-zip_after R (w ∷ xs) x ys [] z = absurd z
-zip_after R (w ∷ xs) x ys (u ∷ us) z = zip_after R xs x ys us z.1
-
-pub get_append : {A : Type 0} (xs ys : List A) (k : ℕ) (x : A) → slice_get xs k ≡ Some x → slice_get (xs ++ ys) k ≡ Some x
-get_append [] ys k x e = absurd (impossible e)
-  where
-    impossible : None ≡ Some x → ⊥
-    impossible f = cc
-get_append (w ∷ xs) ys zero x e = e
-get_append (w ∷ xs) ys (suc k) x e = get_append xs ys k x e
-
-pub get_last : {A : Type 0} (xs : List A) (x : A) (ys : List A) → slice_get (xs ++ x ∷ ys) (length xs) ≡ Some x
-get_last [] x ys = refl
-get_last (w ∷ xs) x ys = get_last xs x ys
 
 pub one_of : (squares : List Square) (k : ℕ) (q : Square) → slice_get squares k ≡ Some q → IsOneOf q squares
 one_of [] k q e = absurd (impossible e)
@@ -102,7 +56,7 @@ run_of q = record { x = q.x; width = q.s; level = q.y + q.s }
 -- each new square is a segment of its own
 pub new_segments : (laid front : List Square) (squares : List Square) → laid ≡ front ++ squares → (n : ℕ) → n ≡ length front → AllZip (IsSegment laid) (map run_of squares) (map (λ q. q ∷ []) (numbers_from (n + 1) (length squares)))
 new_segments laid front [] is n e = tt
-new_segments laid front (q ∷ squares) is n e = (inl (q, (n, omega arith, at), refl, refl, refl), new_segments laid (front ++ q ∷ []) squares (is ∙ sym (append_assoc front (q ∷ []) squares)) (n + 1) (omega (arith, length_append front (q ∷ []))))
+new_segments laid front (q ∷ squares) is n e = (inl (q, (n, omega arith, at), refl, refl, refl), new_segments laid (front ++ q ∷ []) squares (is ∙ sym (append_assoc front (q ∷ []) squares)) (n + 1) (omega (arith, length-append front (q ∷ []))))
   where
     at : slice_get laid n ≡ Some q
     at = (λ i. slice_get (is i) (e i)) ∙ get_last front q squares
@@ -162,17 +116,17 @@ module _ (t : Tiling) (laid : List Square) (v : Segment) (tiling : IsTiling t) (
       lb = levels before
 
       level_signs : o.signs ≡ signs_between (levels before ++ v.level ∷ levels after)
-      level_signs = d.signs ∙ ap (λ runs. signs_between (levels runs)) is ∙ ap signs_between (map_append (λ r. r.level) before (v ∷ after))
+      level_signs = d.signs ∙ ap (λ runs. signs_between (levels runs)) is ∙ ap signs_between (map-append (λ r. r.level) before (v ∷ after))
 
       number_levels : valley_place o.signs ≡ length (levels before)
-      number_levels = number ∙ sym (length_map (λ r. r.level) before)
+      number_levels = number ∙ sym (length-map before (λ r. r.level))
 
       last_is : LastIs (levels before) (depth_before laid v.x)
       last_is = record { shape = cases left }
         where
           cases : ((before ≡ []) × (v.x ≡ 0)) ⊎ HasLast laid v.x before → ((levels before ≡ []) × (depth_before laid v.x ≡ [])) ⊎ ((front : List ℕ) × (l : ℕ) × (levels before ≡ front ++ l ∷ []) × (depth_before laid v.x ≡ l ∷ []))
           cases (inl (none, at)) = inl (ap levels none, ap (depth_before laid) at)
-          cases (inr h) = inr (levels h.front, (h.last).level, ap levels h.is ∙ map_append (λ r. r.level) h.front (h.last ∷ []), h.level)
+          cases (inr h) = inr (levels h.front, (h.last).level, ap levels h.is ∙ map-append (λ r. r.level) h.front (h.last ∷ []), h.level)
 
       first_is : FirstIs (levels after) (depth_from t.width laid (v.x + v.width))
       first_is = record { shape = cases right }
@@ -197,7 +151,7 @@ module _ (t : Tiling) (laid : List Square) (v : Segment) (tiling : IsTiling t) (
           ns = map (λ q. q.y + q.s) (squares_under t v)
 
           total : length (bottoms t laid v) ≡ length (depth_before laid v.x) + length (squares_under t v) + length (depth_from t.width laid (v.x + v.width))
-          total = omega (arith, length_append (depth_before laid v.x ++ ns) (depth_from t.width laid (v.x + v.width)), length_append (depth_before laid v.x) ns, length_map (λ q. q.y + q.s) (squares_under t v))
+          total = omega (arith, length-append (depth_before laid v.x ++ ns) (depth_from t.width laid (v.x + v.width)), length-append (depth_before laid v.x) ns, length-map (squares_under t v) (λ q. q.y + q.s))
 
           whole : length (signs_between (bottoms t laid v)) + 1 ≡ length (depth_before laid v.x) + length (squares_under t v) + length (depth_from t.width laid (v.x + v.width))
           whole = some_signs (bottoms t laid v) (omega (arith, total, some)) ∙ total
@@ -220,7 +174,7 @@ module _ (t : Tiling) (laid : List Square) (v : Segment) (tiling : IsTiling t) (
           ∙ ap signs_between (sym cut)
         where
           cut : levels (before ++ map run_of (squares_under t v) ++ after) ≡ levels before ++ map (λ q. q.y + q.s) (squares_under t v) ++ levels after
-          cut = map_append (λ r. r.level) (before ++ map run_of (squares_under t v)) after ∙ ap (λ ls. ls ++ levels after) (map_append (λ r. r.level) before (map run_of (squares_under t v)) ∙ ap (λ ls. levels before ++ ls) (new_levels (squares_under t v)))
+          cut = map-append (λ r. r.level) (before ++ map run_of (squares_under t v)) after ∙ ap (λ ls. ls ++ levels after) (map-append (λ r. r.level) before (map run_of (squares_under t v)) ∙ ap (λ ls. levels before ++ ls) (new_levels (squares_under t v)))
 
       new_zip : AllZip (IsSegment (laid ++ squares_under t v)) (before ++ map run_of (squares_under t v) ++ after) (segments_apart o (move_under t laid v))
       new_zip = zip_append S (before ++ map run_of (squares_under t v)) after (take (valley_place o.signs) o.segments ++ map (λ q. q ∷ []) (numbers_from (length o.hung + 1) (length (squares_under t v)))) (drop (valley_place o.signs + 1) o.segments)
@@ -285,7 +239,7 @@ module _ (t : Tiling) (laid : List Square) (v : Segment) (tiling : IsTiling t) (
         where
           joins : (level : ℕ) × Joined t.width (laid ++ squares_under t v) sides 0 level (joined (signs_between (levels (before ++ map run_of (squares_under t v) ++ after))) (segments_apart o (move_under t laid v))) (filter parts (signs_between (levels (before ++ map run_of (squares_under t v) ++ after))))
           joins = join_all (before ++ map run_of (squares_under t v) ++ after) (segments_apart o (move_under t laid v))
-              (omega (arith, length_append (before ++ map run_of (squares_under t v)) after, length_append before (map run_of (squares_under t v)), length_map run_of (squares_under t v), some))
+              (omega (arith, length-append (before ++ map run_of (squares_under t v)) after, length-append before (map run_of (squares_under t v)), length-map (squares_under t v) run_of, some))
               (runs_new_all 0 before after whole_cut) new_zip
 
           j : Joined t.width (laid ++ squares_under t v) sides 0 joins.0 (joined (signs_between (levels (before ++ map run_of (squares_under t v) ++ after))) (segments_apart o (move_under t laid v))) (filter parts (signs_between (levels (before ++ map run_of (squares_under t v) ++ after))))

@@ -3,8 +3,8 @@
 use Rattle.std.specs.List.{AllByRecursion}
 use Rattle.std.proofs.Common.{List, [], ap, arith, filter, length, subst, sym, ℕ, ◌++◌, ◌+◌, ◌-◌, ◌<◌, ◌^◌, ◌∙◌, ◌∷◌, ◌≡◌, ◌≤◌}
 use Rattle.std.proofs.lemmas.List.Sums.{count_by-le-length, length-filter, sum_by-append, sum_by-cons}
+use Rattle.std.proofs.lemmas.List.{append-nil, append_assoc, length-append, length-map}
 use Rattle.bk_tiling.proofs.Cells.{all_from}
-use Rattle.bk_tiling.proofs.ListLaws.{append_assoc, append_nil, length_append, length_map}
 use Rattle.bk_tiling.proofs.TilingLaws.{within_of}
 use Rattle.bk_tiling.specs.Kept.{IsKept}
 use Rattle.bk_tiling.specs.Tiling.{IsOneOf, Tiling}
@@ -33,7 +33,7 @@ module _ (t : Tiling) (kept : IsKept t) where
   }
 
   pub last_turn : (w : Word) (o : Outline) → Turned t w o → t.height ≤ o.valley.level → IsWordOf t w
-  last_turn w o turned high = subst (MovesFollow t []) (append_nil w)
+  last_turn w o turned high = subst (MovesFollow t []) (append-nil w)
       (turned.follows [] (all_full t kept.tiling turned.laid turned.fills (segment_of o.valley) (leftmost_in_outline t.width turned.laid o turned.outline) high))
 
   -- the squares that were found, and their move
@@ -81,7 +81,7 @@ module _ (t : Tiling) (kept : IsKept t) where
       can_stand = record { some = omega (arith, count, some_squares); least = omega (arith, long, count); most = omega (arith, long, few_levels o.left.items, few_levels o.right.items, count) }
         where
           levels : length (last_level o.left.items ++ bottoms_of squares ++ last_level o.right.items) ≡ length (last_level o.left.items) + length squares + length (last_level o.right.items)
-          levels = omega (arith, length_append (last_level o.left.items ++ bottoms_of squares) (last_level o.right.items), length_append (last_level o.left.items) (bottoms_of squares), length_map (λ (q : Square). q.y + q.s) squares)
+          levels = omega (arith, length-append (last_level o.left.items ++ bottoms_of squares) (last_level o.right.items), length-append (last_level o.left.items) (bottoms_of squares), length-map squares (λ (q : Square). q.y + q.s))
 
           long : length m.signs + 1 ≡ length (last_level o.left.items) + length squares + length (last_level o.right.items)
           long = omega (arith, ap length signs, some_signs (last_level o.left.items ++ bottoms_of squares ++ last_level o.right.items) (omega (arith, levels, some_squares)), levels)

@@ -2,6 +2,7 @@
 -- tiling are laid where all columns are full.
 use Rattle.std.specs.List.{AllByRecursion, AllZip}
 use Rattle.std.proofs.Common.{List, [], ap, arith, length, slice_index_or, subst, sym, true, ℕ, ◌++◌, ◌<◌, ◌∙◌, ◌∷◌, ◌≡◌}
+use Rattle.bk_laws.proofs.ZippedLists.{zip_at}
 use Rattle.bk_tiling.proofs.Cells.{counted_one, covers_from, in_all, no_two}
 use Rattle.bk_tiling.proofs.TilingLaws.{cell_once, side_of, wide_enough, within_of}
 use Rattle.bk_tiling.specs.Column.{depth}
@@ -12,7 +13,6 @@ use Rattle.bk_word.specs.Outline.{Outline, valley_of, valley_place}
 use Rattle.bk_word.specs.Play.{parts}
 use Rattle.bk_word.specs.declared.Sign.{Sign}
 use Rattle.bk_lay.proofs.Places.{Placed, placed}
-use Rattle.bk_lay.proofs.Steps.{zip_at}
 use Rattle.bk_lay.proofs.Valleys.{one_leftmost_valley}
 use Rattle.bk_lay.specs.Depiction.{Depicts, FillsFromTop, IsSegment}
 use Rattle.bk_lay.specs.TilingWord.{IsLeftmostValley}

@@ -2,8 +2,9 @@
 use Rattle.std.specs.List.{AllByRecursion}
 use Rattle.std.proofs.Common.{Bool, List, [], ap, arith, cond, count_by, false, inl, inr, length, map, refl, subst, suc, sym, true, ℕ, ◌++◌, ◌+◌, ◌<◌, ◌∙◌, ◌∷◌, ◌≡◌, ◌≤◌, ◌⊎◌}
 use Rattle.std.proofs.lemmas.Bool.Decides.{nat_tests}
+use Rattle.std.proofs.lemmas.List.{length-append}
+use Rattle.bk_laws.proofs.ZippedLists.{zip_length}
 use Rattle.bk_tiling.proofs.Cells.{column_from, count-cons, counted_one, covers_from, depth_reaches, in_all, no_two, one_counted}
-use Rattle.bk_tiling.proofs.ListLaws.{length_append}
 use Rattle.bk_tiling.proofs.TilingLaws.{wide_enough, within_of}
 use Rattle.bk_tiling.specs.Column.{AreRuns, IsLevel, depth}
 use Rattle.bk_tiling.specs.declared.Segment.{Segment}
@@ -16,7 +17,7 @@ use Rattle.bk_word.specs.Word.{Move, Word, order_of}
 use Rattle.bk_word.specs.declared.Sign.{Sign}
 use Rattle.bk_word.specs.declared.Sign.TheVariants.{Even}
 use Rattle.bk_lay.proofs.Filling.{valley_is_filled}
-use Rattle.bk_lay.proofs.Steps.{move_depicts, start_depicts_nothing, zip_length}
+use Rattle.bk_lay.proofs.Steps.{move_depicts, start_depicts_nothing}
 use Rattle.bk_lay.proofs.Words.{nothing_laid}
 use Rattle.bk_lay.specs.Depiction.{Depicts, FillsFromTop, IsSegment}
 use Rattle.bk_lay.specs.TilingWord.{IsWordOf, MovesFollow, sign_between, signs_between, squares_under}
@@ -99,7 +100,7 @@ ends t tiling laid nodes o (m ∷ w) fills depicts p = onto (ends t tiling (laid
       full = e.full;
       nodes = e.nodes;
       depicts = e.depicts;
-      long = omega (arith, e.long, length_append laid (squares_under t p.0), order_more m w, count);
+      long = omega (arith, e.long, length-append laid (squares_under t p.0), order_more m w, count);
     }
 
 even_of : (m n : ℕ) → m ≡ n → sign_between m n ≡ Even

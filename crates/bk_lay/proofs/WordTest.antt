@@ -1,7 +1,8 @@
 -- A test of a word against a tiling: the valleys are given, and each is tested.
 use Rattle.std.proofs.Common.{Bool, List, [], ap, arith, nat_eq, nat_le, nat_lt, not, refl, subst, suc, sym, true, zero, ℕ, ◌++◌, ◌+◌, ◌-◌, ◌<◌, ◌||◌, ◌∙◌, ◌∷◌, ◌≡◌}
 use Rattle.std.proofs.lemmas.Bool.Decides.{nat_tests}
-use Rattle.bk_tiling.proofs.ColumnTest.{after_of, all_below, each_below, eq_of, le_of, lt_of}
+use Rattle.std.proofs.lemmas.Bool.{eqb-true, leb-true, ltb-true}
+use Rattle.bk_laws.proofs.Tests.{after_of, all_below, each_below}
 use Rattle.bk_tiling.specs.Column.{IsLevel, depth}
 use Rattle.bk_tiling.specs.declared.Segment.{Segment}
 use Rattle.bk_tiling.specs.Tiling.{Tiling}
@@ -26,7 +27,7 @@ pub record PassesAsValley (width : ℕ) (laid : List Square) (v : Segment) : Typ
 
 before_of : (laid : List Square) (level x : ℕ) → deeper_before laid level x ≡ true → (c : ℕ) → suc c ≡ x → level < depth laid c
 before_of laid level zero e c s = absurd (omega arith)
-before_of laid level (suc d) e c s = subst (λ (k : ℕ). level < depth laid k) same (lt_of level (depth laid d) e)
+before_of laid level (suc d) e c s = subst (λ (k : ℕ). level < depth laid k) same (ltb-true level (depth laid d) e)
   where
     same : d ≡ c
     same = omega arith
@@ -36,10 +37,10 @@ passes_as_valley width laid v p = leftmost_by_falling width laid v valley falls
   where
     flat : IsLevel width laid v
     flat = record {
-      some = lt_of 0 v.width p.some;
-      within = le_of (v.x + v.width) width p.within;
+      some = ltb-true 0 v.width p.some;
+      within = leb-true (v.x + v.width) width p.within;
       level = λ c low high. let e : v.x + (c - v.x) ≡ c = omega arith in
-          sym (ap (depth laid) e) ∙ eq_of (depth laid (v.x + (c - v.x))) v.level (each_below (λ k. nat_eq (depth laid (v.x + k)) v.level) v.width p.level (c - v.x) (omega arith));
+          sym (ap (depth laid) e) ∙ eqb-true (depth laid (v.x + (c - v.x))) v.level (each_below (λ k. nat_eq (depth laid (v.x + k)) v.level) v.width p.level (c - v.x) (omega arith));
     }
 
     ends : v.x + v.width < width → nat_lt (v.x + v.width) width ≡ true
@@ -49,11 +50,11 @@ passes_as_valley width laid v p = leftmost_by_falling width laid v valley falls
     valley = record {
       flat = flat;
       left = before_of laid v.level v.x p.before;
-      right = λ h. lt_of v.level (depth laid (v.x + v.width)) (after_of (nat_lt (v.x + v.width) width) (nat_lt v.level (depth laid (v.x + v.width))) p.after (ends h));
+      right = λ h. ltb-true v.level (depth laid (v.x + v.width)) (after_of (nat_lt (v.x + v.width) width) (nat_lt v.level (depth laid (v.x + v.width))) p.after (ends h));
     }
 
     falls : NeverDeeperBefore laid v
-    falls c h = le_of (depth laid (suc c)) (depth laid c) (each_below (λ c. nat_le (depth laid (suc c)) (depth laid c)) v.x p.falls c (omega arith))
+    falls c h = leb-true (depth laid (suc c)) (depth laid c) (each_below (λ c. nat_le (depth laid (suc c)) (depth laid c)) v.x p.falls c (omega arith))
 
 -- the moves under these valleys, laid one after another
 abbrev pub moves_under : Tiling → List Square → List Segment → Word
@@ -66,8 +67,8 @@ ArePassing t laid [] = all_below (λ c. nat_eq (depth laid c) t.height) t.width 
 ArePassing t laid (v ∷ valleys) = PassesAsValley t.width laid v × (nat_lt v.level t.height ≡ true) × ArePassing t (laid ++ squares_under t v) valleys
 
 pub word_by_valleys : (t : Tiling) (laid : List Square) (valleys : List Segment) → ArePassing t laid valleys → MovesFollow t laid (moves_under t laid valleys)
-word_by_valleys t laid [] p = λ c h. eq_of (depth laid c) t.height (each_below (λ c. nat_eq (depth laid c) t.height) t.width p c h)
-word_by_valleys t laid (v ∷ valleys) p = (v, passes_as_valley t.width laid v p.0, lt_of v.level t.height p.1, refl, word_by_valleys t (laid ++ squares_under t v) valleys p.2)
+word_by_valleys t laid [] p = λ c h. eqb-true (depth laid c) t.height (each_below (λ c. nat_eq (depth laid c) t.height) t.width p c h)
+word_by_valleys t laid (v ∷ valleys) p = (v, passes_as_valley t.width laid v p.0, ltb-true v.level t.height p.1, refl, word_by_valleys t (laid ++ squares_under t v) valleys p.2)
 
 abbrev pub by_tests : (width : ℕ) (laid : List Square) (v : Segment) → nat_lt 0 v.width ≡ true → nat_le (v.x + v.width) width ≡ true → all_below (λ k. nat_eq (depth laid (v.x + k)) v.level) v.width ≡ true
     → all_below (λ c. nat_le (depth laid (suc c)) (depth laid c)) v.x ≡ true → deeper_before laid v.level v.x ≡ true → not (nat_lt (v.x + v.width) width) || nat_lt v.level (depth laid (v.x + v.width)) ≡ true → PassesAsValley width laid v

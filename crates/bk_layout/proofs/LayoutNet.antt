@@ -1,17 +1,18 @@
 -- The net of the word of a layout is the layout's net: nodes by the order of closing, squares by that of hanging.
 use Rattle.std.specs.List.{AllZip}
 use Rattle.std.proofs.Common.{List, Some, [], ap, arith, inl, inr, length, map, option_map, refl, slice_get, slice_index_or, subst, suc, sym, zero, ℕ, ◌++◌, ◌+◌, ◌-◌, ◌<◌, ◌∙◌, ◌∷◌, ◌≡◌, ◌≤◌, ◌⊎◌}
-use Rattle.bk_tiling.proofs.ListLaws.{length_append, length_map, map_append}
+use Rattle.std.proofs.lemmas.List.{length-append, length-map, map-append}
+use Rattle.bk_laws.proofs.Occurrences.{times, times-append}
+use Rattle.bk_laws.proofs.ListPlaces.{get_append, get_last, get_map}
 use Rattle.bk_word.proofs.PlayLists.{numbers-length}
 use Rattle.bk_word.specs.Outline.{Outline, start}
 use Rattle.bk_word.specs.Play.{numbers_from, outline_of}
-use Rattle.bk_lay.proofs.Steps.{get_append, get_last}
-use Rattle.bk_skel.proofs.Numbering.{HasPlace, place_of_number, times, times-append}
-use Rattle.bk_skel.proofs.PlacesInLists.{get_map, wires_got}
-use Rattle.bk_skel.proofs.Shape.{hung_many}
-use Rattle.bk_skel.proofs.Wires.{wires_length}
-use Rattle.bk_skel.specs.Renumbering.{IsRenumbering}
-use Rattle.bk_skel.specs.WordNet.{end_of, net_after}
+use Rattle.bk_word_net.proofs.Numbering.{HasPlace, place_of_number}
+use Rattle.bk_word_net.proofs.PlacesInLists.{wires_got}
+use Rattle.bk_word_net.proofs.Shape.{hung_many}
+use Rattle.bk_word_net.proofs.Wires.{wires_length}
+use Rattle.bk_word_net.specs.Renumbering.{IsRenumbering}
+use Rattle.bk_word_net.specs.WordNet.{end_of, net_after}
 use Rattle.bk_layout.proofs.Counting.{got_times, none_for, one_for, same_or_other, times_got, times_once}
 use Rattle.bk_layout.proofs.SquareLists.{index_got, lists_at, sq_of}
 use Rattle.bk_layout.proofs.Sweep.{State}
@@ -67,10 +68,10 @@ module _ (l : Layout) (fits : Fits l) (o : Outline) (st : State l o) (end : Ende
   square k = slice_index_or st.laid k 0
 
   closed_many : length o.closed ≡ l.bottom
-  closed_many = sym (length_map (map (sq_of st.laid)) o.closed) ∙ ap length st.closed ∙ length_map l.ending st.done ∙ done_many l fits o st end
+  closed_many = sym (length-map o.closed (map (sq_of st.laid))) ∙ ap length st.closed ∙ length-map st.done l.ending ∙ done_many l fits o st end
 
   nodes_many : length all_nodes ≡ l.bottom + 1
-  nodes_many = omega (arith, length_append st.done (l.bottom ∷ []), done_many l fits o st end)
+  nodes_many = omega (arith, length-append st.done (l.bottom ∷ []), done_many l fits o st end)
 
   hung_is : length o.hung ≡ l.squares
   hung_is = sym st.long ∙ laid_many l fits o st end
@@ -79,7 +80,7 @@ module _ (l : Layout) (fits : Fits l) (o : Outline) (st : State l o) (end : Ende
   word_wires = wires_length (end_of (o.closed ++ o.segments)) 1 o.hung ∙ hung_is
 
   layout_wires : length (net_of_layout l).wires ≡ l.squares
-  layout_wires = length_map (λ (q : ℕ). (l.above q, l.below q)) (numbers_from 0 l.squares) ∙ numbers-length 0 l.squares
+  layout_wires = length-map (numbers_from 0 l.squares) (λ (q : ℕ). (l.above q, l.below q)) ∙ numbers-length 0 l.squares
 
   -- ---- squares
 
@@ -137,7 +138,7 @@ module _ (l : Layout) (fits : Fits l) (o : Outline) (st : State l o) (end : Ende
       (zip_got (λ q j. slice_get st.done j ≡ Some (l.above q)) st.laid o.hung k st.hung (omega (arith, h, laid_many l fits o st end))))
 
   lists_are : lists_at st.laid (o.closed ++ o.segments) ≡ map l.ending all_nodes
-  lists_are = map_append (map (sq_of st.laid)) o.closed o.segments ∙ (λ i. st.closed i ++ end.one i) ∙ sym (map_append l.ending st.done (l.bottom ∷ []))
+  lists_are = map-append (map (sq_of st.laid)) o.closed o.segments ∙ (λ i. st.closed i ++ end.one i) ∙ sym (map-append l.ending st.done (l.bottom ∷ []))
 
   to_node : (k : ℕ) → k < l.squares → node (end_of (o.closed ++ o.segments) (1 + k)) ≡ l.below (square k)
   to_node k h = at (end_of (o.closed ++ o.segments) (1 + k)) (place_of_number o st.numbered (1 + k) (omega arith) (omega (arith, h, hung_is)))
@@ -149,7 +150,7 @@ module _ (l : Layout) (fits : Fits l) (o : Outline) (st : State l o) (end : Ende
       at place p = sym (on (times_got (l.ending (node place)) (square k) (subst (λ (xs : List ℕ). 0 < times (square k) xs) ends inside)))
         where
           many : length (o.closed ++ o.segments) ≡ length all_nodes
-          many = sym (length_map (map (sq_of st.laid)) (o.closed ++ o.segments)) ∙ ap length lists_are ∙ length_map l.ending all_nodes
+          many = sym (length-map (o.closed ++ o.segments) (map (sq_of st.laid))) ∙ ap length lists_are ∙ length-map all_nodes l.ending
 
           ends : map (sq_of st.laid) (slice_index_or (o.closed ++ o.segments) place []) ≡ l.ending (node place)
           ends = sym (index_map (map (sq_of st.laid)) (o.closed ++ o.segments) place p.below) ∙ ap (λ (x : List (List ℕ)). slice_index_or x place []) lists_are ∙ index_of l.ending all_nodes place (omega (arith, p.below, many))

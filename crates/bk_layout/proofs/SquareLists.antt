@@ -1,12 +1,13 @@
 -- Lists of numbers as lists of the squares that have these numbers, in the order in which squares were hung.
 use Rattle.std.proofs.Common.{List, Some, [], ap, arith, length, map, refl, slice_get, slice_index_or, subst, suc, sym, zero, ℕ, ◌++◌, ◌+◌, ◌-◌, ◌<◌, ◌∙◌, ◌∷◌, ◌≡◌, ◌≤◌}
-use Rattle.bk_tiling.proofs.ListLaws.{append_assoc, length_append}
+use Rattle.std.proofs.lemmas.List.{append_assoc, length-append}
+use Rattle.bk_laws.proofs.Occurrences.{times, times-concat, times_in, times_in-append}
 use Rattle.bk_word.specs.Outline.{Outline}
 use Rattle.bk_word.specs.Play.{before_first_list, joined, numbers_from}
 use Rattle.bk_word.specs.declared.Sign.{Sign}
 use Rattle.bk_word.specs.declared.Sign.TheVariants.{Above, Even, Under}
-use Rattle.bk_skel.proofs.BottomChain.{concat-joined}
-use Rattle.bk_skel.proofs.Numbering.{Numbered, times, times-concat, times_in, times_in-append, times_some}
+use Rattle.bk_word_net.proofs.BottomChain.{concat-joined}
+use Rattle.bk_word_net.proofs.Numbering.{Numbered, times_some}
 use Rattle.bk_layout.proofs.Chains.{singles}
 use Rattle.bk_layout.proofs.Counting.{one_for}
 
@@ -57,7 +58,7 @@ pub new_numbers : (laid new : List ℕ) (from : ℕ) → from ≡ length laid + 
 new_numbers laid [] from e = refl
 new_numbers laid (q ∷ new) from e =
     let rest : map (sq_of (laid ++ q ∷ new)) (numbers_from (from + 1) (length new)) ≡ new =
-    subst (λ (all : List ℕ). map (sq_of all) (numbers_from (from + 1) (length new)) ≡ new) (append_assoc laid (q ∷ []) new) (new_numbers (laid ++ q ∷ []) new (from + 1) (omega (arith, e, length_append laid (q ∷ [])))) in
+    subst (λ (all : List ℕ). map (sq_of all) (numbers_from (from + 1) (length new)) ≡ new) (append_assoc laid (q ∷ []) new) (new_numbers (laid ++ q ∷ []) new (from + 1) (omega (arith, e, length-append laid (q ∷ [])))) in
     λ i. index_here laid q new (from - 1) (omega (arith, e)) i ∷ rest i
 
 -- and they stay theirs
@@ -66,9 +67,9 @@ new_numbers_more laid [] more from e = refl
 new_numbers_more laid (q ∷ new) more from e =
     let rest : map (sq_of ((laid ++ q ∷ new) ++ more)) (numbers_from (from + 1) (length new)) ≡ new =
     subst (λ (all : List ℕ). map (sq_of (all ++ more)) (numbers_from (from + 1) (length new)) ≡ new) (append_assoc laid (q ∷ []) new)
-    (new_numbers_more (laid ++ q ∷ []) new more (from + 1) (omega (arith, e, length_append laid (q ∷ [])))) in
+    (new_numbers_more (laid ++ q ∷ []) new more (from + 1) (omega (arith, e, length-append laid (q ∷ [])))) in
     let first : sq_of ((laid ++ q ∷ new) ++ more) from ≡ q =
-    index_more (laid ++ q ∷ new) more (from - 1) (omega (arith, e, length_append laid (q ∷ new))) ∙ index_here laid q new (from - 1) (omega (arith, e)) in
+    index_more (laid ++ q ∷ new) more (from - 1) (omega (arith, e, length-append laid (q ∷ new))) ∙ index_here laid q new (from - 1) (omega (arith, e)) in
     λ i. first i ∷ rest i
 
 pub map_singles : (f : ℕ → ℕ) (numbers : List ℕ) → map (map f) (singles numbers) ≡ singles (map f numbers)

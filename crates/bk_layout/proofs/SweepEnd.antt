@@ -1,13 +1,14 @@
 -- The end of the sweep: one segment is left, all that ends on the bottom; then all nodes but the bottom are closed, and all
 -- squares are laid.
 use Rattle.std.proofs.Common.{List, Option, Some, [], ap, arith, cond, inl, inr, length, map, nat_eq, refl, slice_get, subst, suc, sym, zero, ℕ, ◌++◌, ◌+◌, ◌<◌, ◌∙◌, ◌∷◌, ◌≡◌, ◌≤◌, ◌⊎◌}
-use Rattle.bk_tiling.proofs.ListLaws.{append_assoc, append_nil, get_some, length_map}
+use Rattle.std.proofs.lemmas.List.{append-nil, append_assoc, length-map}
+use Rattle.bk_laws.proofs.Occurrences.{times, times_in}
+use Rattle.bk_laws.proofs.ListPlaces.{get_some}
 use Rattle.bk_word.specs.Outline.{Outline, start}
 use Rattle.bk_word.specs.Play.{AreLegalFrom, IsLegal, after_move, after_moves, outline_of}
 use Rattle.bk_word.specs.Word.{Move, Word}
-use Rattle.bk_skel.proofs.Numbering.{times, times_in}
-use Rattle.bk_skel.proofs.Shape.{valley_in}
-use Rattle.bk_skel.proofs.ValleyCut.{AtValley}
+use Rattle.bk_word_net.proofs.Shape.{valley_in}
+use Rattle.bk_word_net.proofs.ValleyCut.{AtValley}
 use Rattle.bk_layout.proofs.Counting.{at_most, just_as_many, none_for, same_or_other}
 use Rattle.bk_layout.proofs.SquareLists.{lists_at, sq_of}
 use Rattle.bk_layout.proofs.Sweep.{State, ValleyAt, ending_times, valley_at}
@@ -88,7 +89,7 @@ onward l fits o st more = cases (same_or_other (l.below at.q) l.bottom)
         step low h s.0 s.2 (more (after_move o (move l fits o st v at low h)) s.0 s.1)
 
     cases : (l.below at.q ≡ l.bottom) ⊎ (l.below at.q ≡ l.bottom → ⊥) → Swept l o st
-    cases (inl e) = record { word = []; legal = tt; free = tt; no_twins = λ n. tt; last = st; end = ended l o st v at e; more = []; grows = sym (append_nil st.laid); lines = tt; nodes = tt }
+    cases (inl e) = record { word = []; legal = tt; free = tt; no_twins = λ n. tt; last = st; end = ended l o st v at e; more = []; grows = sym (append-nil st.laid); lines = tt; nodes = tt }
     cases (inr n) = going (less (l.below at.q) l.bottom (fits.nodes.ends_below at.q at.known).1 n)
 
 swept : (l : Layout) → Fits l → (steps : ℕ) (o : Outline) (st : State l o) → l.bottom ≤ length st.done + steps → Swept l o st
@@ -138,7 +139,7 @@ module _ (l : Layout) (fits : Fits l) (o : Outline) (st : State l o) (end : Ende
   laid_many = just_as_many l.squares st.laid st.laid_low is_laid
 
   pub one_segment : length o.segments ≡ 1
-  one_segment = sym (length_map (map (sq_of st.laid)) o.segments) ∙ ap length end.one
+  one_segment = sym (length-map o.segments (map (sq_of st.laid))) ∙ ap length end.one
 
 -- ---- the whole sweep
 

@@ -1,17 +1,18 @@
 -- The first move of the sweep: all that hangs from the top.
 use Rattle.std.specs.List.{AllZip}
 use Rattle.std.proofs.Common.{List, Some, [], ap, arith, cond, filter, inl, inr, length, map, nat_eq, refl, replicate, slice_get, subst, suc, sym, ℕ, ◌++◌, ◌+◌, ◌-◌, ◌<◌, ◌∙◌, ◌∷◌, ◌≡◌, ◌≤◌, ◌⊎◌}
-use Rattle.bk_tiling.proofs.ListLaws.{append_nil, get_some}
+use Rattle.std.proofs.lemmas.List.{append-nil, length-replicate}
+use Rattle.bk_laws.proofs.Occurrences.{times, times_in}
+use Rattle.bk_laws.proofs.ListPlaces.{get_append, get_some}
 use Rattle.bk_word.specs.declared.Sign.TheVariants.{Even}
 use Rattle.bk_word.specs.Outline.{IsLegalMove, start}
 use Rattle.bk_word.specs.Play.{after_move, joined, numbers_from, parts, segments_apart, signs_apart}
 use Rattle.bk_word.specs.Word.{Move}
 use Rattle.bk_word.specs.declared.Sign.{Sign}
-use Rattle.bk_skel.proofs.Numbering.{length-replicate, numbered_move, numbered_start, times, times_in}
-use Rattle.bk_skel.proofs.Shape.{shaped_move, shaped_start}
+use Rattle.bk_word_net.proofs.Numbering.{numbered_move, numbered_start}
+use Rattle.bk_word_net.proofs.Shape.{shaped_move, shaped_start}
 use Rattle.bk_layout.proofs.Chains.{Chain, even_neighbours, last_from, sign, sign_at, signs_of, singles, singles_wall}
 use Rattle.bk_layout.proofs.Counting.{got_same, none_for, one_for, same_or_other, times_got}
-use Rattle.bk_lay.proofs.Steps.{get_append}
 use Rattle.bk_layout.proofs.SquareLists.{index_got, lists_at, map_joined, map_singles, new_numbers, new_numbers_more, sq_of, times_joined, times_singles}
 use Rattle.bk_layout.proofs.Sweep.{State, hanging_times}
 use Rattle.bk_layout.proofs.Turning.{AtLeft, chain_joined, many_signs}
@@ -95,10 +96,10 @@ module _ (l : Layout) (fits : Fits l) (h : Hung l 0) where
   numbers_are = new_numbers [] new 1 (omega arith)
 
   apart_is : lists_at new (segments_apart start first_move) ≡ singles new
-  apart_is = ap (lists_at new) (append_nil (singles (numbers_from 1 (length new)))) ∙ map_singles (sq_of new) (numbers_from 1 (length new)) ∙ ap singles numbers_are
+  apart_is = ap (lists_at new) (append-nil (singles (numbers_from 1 (length new)))) ∙ map_singles (sq_of new) (numbers_from 1 (length new)) ∙ ap singles numbers_are
 
   marks_are : signs_apart start first_move ≡ signs_of l new
-  marks_are = append_nil (signs_of l new)
+  marks_are = append-nil (signs_of l new)
 
   after_is : lists_at new (after_move start first_move).segments ≡ joined (signs_of l new) (singles new)
   after_is = map_joined (sq_of new) (signs_apart start first_move) (segments_apart start first_move) ∙ (λ i. joined (marks_are i) (apart_is i))

@@ -1,18 +1,19 @@
 -- One step of the sweep: what hangs from the valley's node is hung by a legal, free move.
 use Rattle.std.specs.List.{AllZip}
 use Rattle.std.proofs.Common.{List, Some, [], ap, arith, cond, filter, inl, inr, length, map, nat_eq, refl, replicate, slice_get, subst, suc, sym, ℕ, ◌++◌, ◌+◌, ◌-◌, ◌<◌, ◌∙◌, ◌∷◌, ◌≡◌, ◌≤◌, ◌⊎◌}
-use Rattle.bk_tiling.proofs.ListLaws.{append_assoc, get_some, length_append, length_map, map_append}
+use Rattle.std.proofs.lemmas.List.{append_assoc, length-append, length-map, length-replicate, map-append}
+use Rattle.bk_laws.proofs.Occurrences.{times, times-append, times_in, times_in-append}
+use Rattle.bk_laws.proofs.ZippedLists.{zip_append, zip_map}
+use Rattle.bk_laws.proofs.ListPlaces.{get_after, get_append, get_last, get_map, get_some}
 use Rattle.bk_word.specs.Outline.{IsLegalMove, Outline, has_left_wall, open_side, valley_of}
 use Rattle.bk_word.specs.Play.{after_move, joined, new_squares, parts, segments_apart, signs_apart}
 use Rattle.bk_word.specs.Word.{Move}
 use Rattle.bk_word.specs.declared.Sign.{Sign}
 use Rattle.bk_word.specs.declared.Sign.TheVariants.{Even}
-use Rattle.bk_skel.proofs.PlacesInLists.{get_after, get_map}
-use Rattle.bk_lay.proofs.Steps.{get_append, get_last, zip_append, zip_map}
-use Rattle.bk_skel.proofs.MovedParts.{apart_segments, apart_signs, left_open, right_open, valley_is}
-use Rattle.bk_skel.proofs.Numbering.{length-replicate, numbered_move, times, times-append, times_in, times_in-append}
-use Rattle.bk_skel.proofs.Shape.{shaped_move}
-use Rattle.bk_skel.proofs.ValleyCut.{AtValley}
+use Rattle.bk_word_net.proofs.MovedParts.{apart_segments, apart_signs, left_open, right_open, valley_is}
+use Rattle.bk_word_net.proofs.Numbering.{numbered_move}
+use Rattle.bk_word_net.proofs.Shape.{shaped_move}
+use Rattle.bk_word_net.proofs.ValleyCut.{AtValley}
 use Rattle.bk_layout.proofs.Chains.{Chain, even_neighbours, last_from, sign, sign_at, signs_of, singles}
 use Rattle.bk_layout.proofs.Counting.{got_same, got_times, none_for, one_for, same_or_other, times_got}
 use Rattle.bk_layout.proofs.SquareLists.{AreLaid, all_laid, index_got, index_more, list_more, lists_at, lists_more, map_joined, map_singles, new_numbers, new_numbers_more, sq_of, times_joined, times_singles}
@@ -40,10 +41,10 @@ module _ (l : Layout) (fits : Fits l) (o : Outline) (st : State l o) (v : AtVall
   laid_then = st.laid ++ (h.first ∷ h.more)
 
   left_many : length at.left.beyond ≡ length v.left
-  left_many = at.left.beyond_many ∙ length_map (map (sq_of laid)) v.left
+  left_many = at.left.beyond_many ∙ length-map v.left (map (sq_of laid))
 
   right_many : length at.right.beyond ≡ length v.right
-  right_many = at.right.beyond_many ∙ length_map (map (sq_of laid)) v.right
+  right_many = at.right.beyond_many ∙ length-map v.right (map (sq_of laid))
 
   pub legal : IsLegalMove o move
   legal = record {
@@ -54,9 +55,9 @@ module _ (l : Layout) (fits : Fits l) (o : Outline) (st : State l o) (v : AtVall
       right_many,
       left_open o v,
       right_open o v,
-      many_signs l (at.left.beyond ++ (h.first ∷ (h.more ++ at.right.beyond))) (omega (arith, length_append at.left.beyond (h.first ∷ (h.more ++ at.right.beyond)))),
-      length_append at.left.beyond (h.first ∷ (h.more ++ at.right.beyond)),
-      length_append h.more at.right.beyond,
+      many_signs l (at.left.beyond ++ (h.first ∷ (h.more ++ at.right.beyond))) (omega (arith, length-append at.left.beyond (h.first ∷ (h.more ++ at.right.beyond)))),
+      length-append at.left.beyond (h.first ∷ (h.more ++ at.right.beyond)),
+      length-append h.more at.right.beyond,
     );
   }
 
@@ -122,7 +123,7 @@ module _ (l : Layout) (fits : Fits l) (o : Outline) (st : State l o) (v : AtVall
       new_at k x e number at = index_got (laid_then ++ more) (number - 1) x (get_append laid_then more (number - 1) x (get_after laid new k (number - 1) (omega (arith, at, st.long)) ∙ e))
 
       first : (a : ℕ) → slice_get (valley_of o) 0 ≡ Some a → l.left (sq_of (laid_then ++ more) (length o.hung + 1)) ≡ l.left (sq_of (laid_then ++ more) a)
-      first a e = ap l.left (new_at 0 h.first refl (length o.hung + 1) (omega arith)) ∙ left_line ∙ ap l.left (sym (index_more laid_then more (a - 1) (omega (arith, in_range.0, in_range.1, length_append laid new)) ∙ index_more laid new (a - 1) (omega (arith, in_range.0, in_range.1)) ∙ square))
+      first a e = ap l.left (new_at 0 h.first refl (length o.hung + 1) (omega arith)) ∙ left_line ∙ ap l.left (sym (index_more laid_then more (a - 1) (omega (arith, in_range.0, in_range.1, length-append laid new)) ∙ index_more laid new (a - 1) (omega (arith, in_range.0, in_range.1)) ∙ square))
         where
           in_valley : slice_get v.valley 0 ≡ Some a
           in_valley = ap (λ (xs : List ℕ). slice_get xs 0) (sym (valley_is o v)) ∙ e
@@ -156,8 +157,8 @@ module _ (l : Layout) (fits : Fits l) (o : Outline) (st : State l o) (v : AtVall
   }
     where
       alone : (a b c : List (List ℕ)) (s : List ℕ) → length (a ++ (b ++ (s ∷ c))) ≡ 1 → a ++ (b ++ (s ∷ c)) ≡ s ∷ []
-      alone (x ∷ a) b c s e = absurd (omega (arith, e, length_append a (b ++ (s ∷ c)), length_append b (s ∷ c)))
-      alone [] (x ∷ b) c s e = absurd (omega (arith, e, length_append b (s ∷ c)))
+      alone (x ∷ a) b c s e = absurd (omega (arith, e, length-append a (b ++ (s ∷ c)), length-append b (s ∷ c)))
+      alone [] (x ∷ b) c s e = absurd (omega (arith, e, length-append b (s ∷ c)))
       alone [] [] (x ∷ c) s e = absurd (omega (arith, e))
       alone [] [] [] s e = refl
 
@@ -166,7 +167,7 @@ module _ (l : Layout) (fits : Fits l) (o : Outline) (st : State l o) (v : AtVall
         where
           cut : lists_at laid o.segments ≡ l.ending node ∷ []
           cut = at.cut ∙ alone (lists_at laid v.before) (lists_at laid v.left) (lists_at laid v.right ++ lists_at laid v.after) (at.q ∷ at.qs)
-              (ap length (sym at.cut) ∙ length_map (map (sq_of laid)) o.segments ∙ one) ∙ ap (λ (x : List ℕ). x ∷ []) (sym at.whole)
+              (ap length (sym at.cut) ∙ length-map o.segments (map (sq_of laid)) ∙ one) ∙ ap (λ (x : List ℕ). x ∷ []) (sym at.whole)
 
   chain_apart : Chain l apart_marks apart × AtLeft l apart
   chain_apart = at.left.hang h.first [] (h.more ++ at.right.beyond) (singles h.more ++ (lists_at st.laid v.right ++ lists_at st.laid v.after)) v.after_signs left_line
@@ -194,10 +195,10 @@ module _ (l : Layout) (fits : Fits l) (o : Outline) (st : State l o) (v : AtVall
 
   apart_is : lists_at laid_then (segments_apart o move) ≡ apart
   apart_is = ap (lists_at laid_then) (apart_segments o v move legal)
-      ∙ map_append (map (sq_of laid_then)) v.before ((v.left ++ (singles (new_squares o move) ++ v.right)) ++ v.after)
-      ∙ ap (λ (x : List (List ℕ)). lists_at laid_then v.before ++ x) (map_append (map (sq_of laid_then)) (v.left ++ (singles (new_squares o move) ++ v.right)) v.after
-      ∙ ap (λ (x : List (List ℕ)). x ++ lists_at laid_then v.after) (map_append (map (sq_of laid_then)) v.left (singles (new_squares o move) ++ v.right)
-      ∙ ap (λ (x : List (List ℕ)). lists_at laid_then v.left ++ x) (map_append (map (sq_of laid_then)) (singles (new_squares o move)) v.right)))
+      ∙ map-append (map (sq_of laid_then)) v.before ((v.left ++ (singles (new_squares o move) ++ v.right)) ++ v.after)
+      ∙ ap (λ (x : List (List ℕ)). lists_at laid_then v.before ++ x) (map-append (map (sq_of laid_then)) (v.left ++ (singles (new_squares o move) ++ v.right)) v.after
+      ∙ ap (λ (x : List (List ℕ)). x ++ lists_at laid_then v.after) (map-append (map (sq_of laid_then)) v.left (singles (new_squares o move) ++ v.right)
+      ∙ ap (λ (x : List (List ℕ)). lists_at laid_then v.left ++ x) (map-append (map (sq_of laid_then)) (singles (new_squares o move)) v.right)))
       ∙ (λ i. same_before i ++ ((same_left i ++ (news_are i ++ same_right i)) ++ same_after i))
       ∙ regroup (lists_at laid v.before) (lists_at laid v.left) (singles new) (lists_at laid v.right) (lists_at laid v.after)
     where
@@ -258,7 +259,7 @@ module _ (l : Layout) (fits : Fits l) (o : Outline) (st : State l o) (v : AtVall
   hung_then (x ∷ xs) f = (there, hung_then xs (λ y k. f y (omega (arith, k))))
     where
       many : length o.closed ≡ length st.done
-      many = sym (length_map (map (sq_of st.laid)) o.closed) ∙ ap length st.closed ∙ length_map l.ending st.done
+      many = sym (length-map o.closed (map (sq_of st.laid))) ∙ ap length st.closed ∙ length-map st.done l.ending
 
       there : slice_get done_then (length o.closed) ≡ Some (l.above x)
       there = (λ i. slice_get done_then (many i)) ∙ get_last st.done node [] ∙ ap (λ (u : ℕ). Some u) (sym (f x (omega (arith, one_for x x refl))))
@@ -267,9 +268,9 @@ module _ (l : Layout) (fits : Fits l) (o : Outline) (st : State l o) (v : AtVall
   new_above x k = let g = times_got new x k in fits.lists.hanging_is node g.0 x (ap (λ (xs : List ℕ). slice_get xs g.0) h.is ∙ g.1)
 
   closed_then : lists_at laid_then (after_move o move).closed ≡ map l.ending done_then
-  closed_then = map_append (map (sq_of laid_then)) o.closed (valley_of o ∷ [])
+  closed_then = map-append (map (sq_of laid_then)) o.closed (valley_of o ∷ [])
       ∙ (λ i. (lists_more laid new o.closed (λ m k. all_laid o st.numbered st.laid st.long m (omega (arith, k))) ∙ st.closed) i ++ (valley i ∷ []))
-      ∙ sym (map_append l.ending st.done (node ∷ []))
+      ∙ sym (map-append l.ending st.done (node ∷ []))
     where
       one : lists_at laid_then (v.valley ∷ []) ≡ lists_at laid (v.valley ∷ [])
       one = lists_more laid new (v.valley ∷ []) (λ m k. laid_before m (omega (arith, k, parts_times m)))
@@ -287,7 +288,7 @@ module _ (l : Layout) (fits : Fits l) (o : Outline) (st : State l o) (v : AtVall
       done = done_then;
       shaped = shaped_move o move legal st.shaped;
       numbered = numbered_move o move st.numbered;
-      long = omega (arith, st.long, length_append st.laid new, length_append o.hung (replicate move.count (length o.closed)), length-replicate move.count (length o.closed));
+      long = omega (arith, st.long, length-append st.laid new, length-append o.hung (replicate move.count (length o.closed)), length-replicate move.count (length o.closed));
       chain = chain_then.0;
       wall = chain_then.1;
       closed = closed_then;
@@ -302,7 +303,7 @@ module _ (l : Layout) (fits : Fits l) (o : Outline) (st : State l o) (v : AtVall
       laid_low = λ q k. low_laid q (two (times q st.laid) (times q new) (omega (arith, k, times-append q st.laid new)));
       done_low = λ u k. low_done u k (same_or_other u node);
     },
-    omega (arith, length_append st.done (node ∷ [])),
+    omega (arith, length-append st.done (node ∷ [])),
     refl,
   )
     where

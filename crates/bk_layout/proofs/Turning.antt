@@ -1,9 +1,9 @@
 -- The leftmost valley of a chain is all that ends on one node; what hangs from that node makes a chain in its place.
 use Rattle.std.proofs.Common.{List, Option, Some, [], ap, arith, false, filter, inl, inr, length, refl, slice_get, subst, sym, true, ℕ, ◌++◌, ◌+◌, ◌<◌, ◌∙◌, ◌∷◌, ◌≡◌}
-use Rattle.bk_tiling.proofs.ListLaws.{append_nil}
+use Rattle.std.proofs.lemmas.List.{append-nil}
 use Rattle.bk_word.specs.declared.Sign.{Sign}
 use Rattle.bk_word.specs.declared.Sign.TheVariants.{Above, Under}
-use Rattle.bk_skel.proofs.ValleyCut.{Beside}
+use Rattle.bk_word_net.proofs.ValleyCut.{Beside}
 use Rattle.bk_word.specs.Play.{joined, parts}
 use Rattle.bk_layout.proofs.Chains.{Chain, Known, Linked, Run, chain_behind, chain_known, chain_other, join_chain, known_first, known_last, last_from, sign, signs_of, singles, singles_before, singles_wall}
 use Rattle.bk_layout.proofs.Counting.{got_same}
@@ -65,9 +65,9 @@ right_of l fits q qs right after right_signs after_signs (inl (none, no_signs)) 
       where
         hang : (p : ℕ) (ps : List ℕ) → Known l p ps → Linked l (p ∷ ps) → l.right (last_from p ps) ≡ l.right (last_from q qs) → Chain l (signs_of l (p ∷ (ps ++ [])) ++ []) (singles (p ∷ ps) ++ (right ++ after))
         hang p ps known linked line = subst (λ (r : List (List ℕ)). Chain l (signs_of l (p ∷ (ps ++ [])) ++ []) (singles (p ∷ ps) ++ r)) (sym empty)
-            (subst (λ (r : List (List ℕ)). Chain l (signs_of l (p ∷ (ps ++ [])) ++ []) r) (sym (append_nil (singles (p ∷ ps))))
-            (subst (λ (g : List Sign). Chain l g (singles (p ∷ ps))) (sym (append_nil (signs_of l (p ∷ (ps ++ [])))))
-            (subst (λ (xs : List ℕ). Chain l (signs_of l (p ∷ xs)) (singles (p ∷ ps))) (sym (append_nil ps)) (singles_wall l p ps known linked (line ∙ c.2)))))
+            (subst (λ (r : List (List ℕ)). Chain l (signs_of l (p ∷ (ps ++ [])) ++ []) r) (sym (append-nil (singles (p ∷ ps))))
+            (subst (λ (g : List Sign). Chain l g (singles (p ∷ ps))) (sym (append-nil (signs_of l (p ∷ (ps ++ [])))))
+            (subst (λ (xs : List ℕ). Chain l (signs_of l (p ∷ xs)) (singles (p ∷ ps))) (sym (append-nil ps)) (singles_wall l p ps known linked (line ∙ c.2)))))
 right_of l fits q qs right after right_signs after_signs (inr (s, one, one_sign)) no_after many c = beside s one
     (subst (λ (g : List Sign). Chain l (g ++ after_signs) ((q ∷ qs) ∷ (s ∷ after))) one_sign (subst (λ (r : List (List ℕ)). Chain l (right_signs ++ after_signs) ((q ∷ qs) ∷ (r ++ after))) one c))
   where

@@ -3,8 +3,8 @@ use Rattle.std.specs.Prelude.{Some, [], length, map, slice_get, slice_index_or, 
 use Rattle.bk_word.specs.Outline.{Outline, start, valley_of}
 use Rattle.bk_word.specs.Play.{IsComplete, after_move, new_squares, outline_of}
 use Rattle.bk_word.specs.Word.{Move, Word, order_of}
-use Rattle.bk_skel.specs.Renumbering.{IsRenumbering}
-use Rattle.bk_skel.specs.WordNet.{net_of_word}
+use Rattle.bk_word_net.specs.Renumbering.{IsRenumbering}
+use Rattle.bk_word_net.specs.WordNet.{net_of_word}
 use Rattle.bk_layout.specs.FreeWord.{IsFree, IsWithoutTwins}
 use Rattle.bk_layout.specs.Layout.{Fits, HasNoTwins, IsFirst, IsLast, Layout, net_of_layout}
 

@@ -2,11 +2,11 @@
 use Rattle.std.specs.List.{AllByRecursion}
 use Rattle.std.proofs.Common.{Contains, List, None, Some, [], inl, inr, length, ℕ, ◌++◌, ◌∷◌, ◌≡◌, ◌⊎◌}
 use Rattle.std.proofs.lemmas.List.Elements.{Contains-append_left, Contains-append_right}
-use Rattle.bk_word.proofs.ListLaws.{all_append}
+use Rattle.bk_laws.proofs.AllOfLists.{all_append}
 use Rattle.bk_word.proofs.WordOrder.{follows_trans}
 use Rattle.bk_word.specs.Word.{Follows, Word}
 use Rattle.bk_word.specs.declared.Class.{Class}
-use Rattle.bk_walk.specs.Catalogue.{AreAscending, Entry, IsEntry}
+use Rattle.bk_catalogue.specs.Catalogue.{AreAscending, Entry, IsEntry}
 use Rattle.bk_report.specs.declared.listing.Last.{Last}
 use Rattle.bk_report.specs.declared.listing.Last.TheVariants.{End, Limit, Wide}
 use Rattle.bk_list.specs.Listing.{AreFirst, EndsBy}

@@ -4,14 +4,14 @@ use Rattle.std.specs.Io.KnownBytes.{Appends}
 use Rattle.std.proofs.KnownBytes.{Appends-nil, Appends-trans}
 use Rattle.std.proofs.Common.{Err, List, None, Ok, Some, [], ap, append-nil, arith, inl, inr, length, refl, subst, sym, ℕ, ◌++◌, ◌+◌, ◌<◌, ◌^◌, ◌∙◌, ◌∷◌, ◌≡◌, ◌≤◌, ◌⊎◌}
 use Rattle.std.proofs.lemmas.Grind.{flat_map-append}
+use Rattle.std.proofs.lemmas.List.{length-append}
 use Rattle.bk_ports.proofs.KnownSteps.{prefix_after}
 use Rattle.bk_ports.specs.Causes.{AppendsPrefix}
 use Rattle.bk_lay.proofs.WordPlay.{tiling_word_is_complete}
-use Rattle.bk_tiling.proofs.ListLaws.{length_append}
 use Rattle.bk_tiling.specs.Tiling.{Tiling}
 use Rattle.bk_word.specs.Word.{Follows, Word}
 use Rattle.bk_word.specs.declared.Class.{Class}
-use Rattle.bk_walk.specs.Catalogue.{Entry}
+use Rattle.bk_catalogue.specs.Catalogue.{Entry}
 use Rattle.bk_report.specs.Listings.{last_line}
 use Rattle.bk_report.specs.declared.listing.Last.{Last}
 use Rattle.bk_report.specs.declared.listing.Last.TheVariants.{End, Limit, Wide}
@@ -92,8 +92,8 @@ limit_more (Some l) entries e below = cases (two (length entries) l below)
     two k l h = grind arith
 
     cases : (length entries + 1 < l) ⊎ (l ≡ length entries + 1) → IsWithinLimit (Some l) (entries ++ e ∷ [])
-    cases (inl h) = inl (omega (arith, length_append entries (e ∷ [])))
-    cases (inr h) = let same : l ≡ length (entries ++ e ∷ []) = omega (arith, length_append entries (e ∷ [])) in inr (ap (λ z. Some z) same)
+    cases (inl h) = inl (omega (arith, length-append entries (e ∷ [])))
+    cases (inr h) = let same : l ≡ length (entries ++ e ∷ []) = omega (arith, length-append entries (e ∷ [])) in inr (ap (λ z. Some z) same)
 
 pub below : (limit : Option ℕ) (entries : List Entry) (listed : ℕ) → listed ≡ length entries → (limit ≡ Some listed → ⊥) → IsWithinLimit limit entries → IsBelowLimit limit entries
 below limit entries listed count not (inl h) = h
@@ -116,7 +116,7 @@ module _ (n : ℕ) (class : Class) (start cursor : Word) (limit : Option ℕ) (l
       let t = next.1 in
       let first : AreFirst n class start (s.entries ++ e ∷ []) = first_then e t in
       let count = s.count in
-      let more : listed + 1 ≡ length (s.entries ++ e ∷ []) = omega (arith, count, length_append s.entries (e ∷ [])) in
+      let more : listed + 1 ≡ length (s.entries ++ e ∷ []) = omega (arith, count, length-append s.entries (e ∷ [])) in
       let fits : length (s.entries ++ e ∷ []) + 1 < 2 ^ 64 = few_entries n class (s.entries ++ e ∷ []) few first.each first.ascending in
       record {
         entries = s.entries ++ e ∷ [];

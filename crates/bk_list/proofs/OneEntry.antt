@@ -2,9 +2,9 @@
 use Rattle.std.proofs.Common.{subst, ℕ, ◌≡◌}
 use Rattle.bk_word.specs.declared.Class.{Class}
 use Rattle.bk_lay.specs.TilingWord.{IsWordOf}
-use Rattle.bk_skel.proofs.PrimitiveTiling.{a_word_has_one_primitive_tiling}
-use Rattle.bk_walk.proofs.Members.{canonical_primitive}
-use Rattle.bk_walk.specs.Catalogue.{Entry, IsEntry}
+use Rattle.bk_word_net.proofs.PrimitiveTiling.{a_word_has_one_primitive_tiling}
+use Rattle.bk_sym.proofs.CanonicalPrimitive.{canonical_primitive}
+use Rattle.bk_catalogue.specs.Catalogue.{Entry, IsEntry}
 
 same_tiling : (n : ℕ) (class : Class) (e f : Entry) → IsEntry n class e → IsEntry n class f → e.word ≡ f.word → e.tiling ≡ f.tiling
 same_tiling n class e f is that same = a_word_has_one_primitive_tiling e.tiling f.tiling f.word (is.member).tiling (that.member).tiling

@@ -8,7 +8,7 @@ use Rattle.bk_word.proofs.WordOrder.{word_total}
 use Rattle.bk_word.specs.Word.{Follows, Word, word_cmp}
 use Rattle.bk_word.specs.declared.Class.{Class}
 use Rattle.bk_walk.proofs.Starting.{word_same}
-use Rattle.bk_walk.specs.Catalogue.{Entry, IsEntry}
+use Rattle.bk_catalogue.specs.Catalogue.{Entry, IsEntry}
 use Rattle.bk_list.proofs.Continuing.{after_each, after_last, both, first_or_later}
 use Rattle.bk_list.proofs.OneEntry.{one_entry}
 use Rattle.bk_list.specs.Listing.{AreFirst, HasAll, StopsAt}

@@ -6,6 +6,7 @@ use Rattle.std.specs.declared.cmp.Ordering.{Ordering}
 use Rattle.std.specs.declared.cmp.Ordering.TheVariants.{Equal, Greater, Less}
 use Rattle.std.proofs.Common.{List, [], ap, arith, inl, inr, length, refl, subst, suc, sym, zero, ℕ, ◌*◌, ◌+◌, ◌-◌, ◌<◌, ◌^◌, ◌∙◌, ◌∷◌, ◌≡◌, ◌≤◌, ◌⊎◌}
 use Rattle.std.proofs.Math.Nat.{mul-le-mul_right}
+use Rattle.bk_laws.proofs.Powers.{power, power-cut, power_up, some_power}
 use Rattle.bk_lay.proofs.WordPlay.{tiling_word_is_complete}
 use Rattle.bk_word.specs.Outline.{IsLegalMove, Outline, has_left_wall, has_right_wall, start}
 use Rattle.bk_word.specs.Play.{AreLegalFrom, after_move}
@@ -14,25 +15,10 @@ use Rattle.bk_word.specs.declared.Class.{Class}
 use Rattle.bk_word.specs.declared.Sign.{Sign}
 use Rattle.bk_word.specs.declared.Sign.TheVariants.{Above, Even, Under}
 use Rattle.bk_word.proofs.StoredBytes.{order_more}
-use Rattle.bk_walk.specs.Catalogue.{AreAscending, Entry, IsEntry}
-use Rattle.bk_walk.proofs.MoveOrder.{less_to}
-use Rattle.bk_walk.proofs.Places.{move_same}
-use Rattle.bk_walk.proofs.Ranks.{open_one, some_power}
-
-abbrev power : ℕ → ℕ → ℕ
-power base zero = 1
-power base (suc k) = base * power base k
-
-power-add : (base a b : ℕ) → power base (a + b) ≡ power base a * power base b
-power-add base zero b = let e : zero + b ≡ b = omega arith in ap (power base) e ∙ omega arith
-power-add base (suc a) b = let e : suc a + b ≡ suc (a + b) = omega arith in ap (power base) e ∙ omega (arith, ap (λ z. base * z) (power-add base a b))
-
--- a power is cut in two
-power-cut : (base a b : ℕ) → a ≤ b → power base b ≡ power base a * power base (b - a)
-power-cut base a b le = let e : b ≡ a + (b - a) = omega arith in ap (power base) e ∙ power-add base a (b - a)
-
-power_up : (base a b : ℕ) → 0 < base → a ≤ b → power base a ≤ power base b
-power_up base a b some le = omega (arith, power-cut base a b le, mul-le-mul_right {m = 1} {n = power base (b - a)} (power base a) (some_power base (b - a) some))
+use Rattle.bk_catalogue.specs.Catalogue.{AreAscending, Entry, IsEntry}
+use Rattle.bk_tree.proofs.MoveOrder.{less_to}
+use Rattle.bk_tree.proofs.Places.{move_same}
+use Rattle.bk_tree.proofs.Ranks.{open_one}
 
 four_fit : (k : ℕ) → 0 < k → 4 * power 3 k ≤ power 12 k
 four_fit zero some = absurd (omega arith)

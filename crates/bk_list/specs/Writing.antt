@@ -4,7 +4,7 @@ use Rattle.std.specs.Io.KnownBytes.{Appends}
 use Rattle.bk_ports.specs.Causes.{AppendsPrefix}
 use Rattle.bk_word.specs.Word.{Follows, Word}
 use Rattle.bk_word.specs.declared.Class.{Class}
-use Rattle.bk_walk.specs.Catalogue.{Entry, IsEntry}
+use Rattle.bk_catalogue.specs.Catalogue.{Entry, IsEntry}
 use Rattle.bk_report.specs.declared.listing.Last.{Last}
 use Rattle.bk_list.specs.Listing.{AreFirst, EndsBy, IsListing, IsWithinLimit, line_of}
 use Rattle.bk_walk.specs.Walking.{HasNoneAfter, HasNoneBetween, IsWideAfter}

@@ -3,9 +3,8 @@ use Rattle.std.specs.List.{AllByRecursion, enumerate_from, flat_map, onto_first}
 use Rattle.std.specs.Prelude.{not}
 use Rattle.std.proofs.Common.{Bool, List, [], ap, arith, cond, drop, false, get_or, length, map, refl, suc, sym, take, true, zero, ℕ, ◌++◌, ◌+◌, ◌-◌, ◌<◌, ◌∙◌, ◌∷◌, ◌≡◌, ◌≤◌}
 use mathlib.Core.Bool.{true≢false}
-use Rattle.std.proofs.lemmas.List.{drop_more, length-append, length-take-le, take-append-drop, take_more}
+use Rattle.std.proofs.lemmas.List.{append-nil, append_assoc, drop_more, length-append, length-take-le, map-append, take-append-drop, take_more}
 use Rattle.bk_tiling.proofs.GroupCount.{groups_some}
-use Rattle.bk_tiling.proofs.ListLaws.{append_assoc, append_nil, map_append}
 use Rattle.bk_tiling.specs.CodeOrder.{begins_group, stands_beside}
 use Rattle.bk_tiling.specs.SquareGroups.{square_groups}
 use Rattle.bk_tiling.specs.declared.Square.{Square}
@@ -101,7 +100,7 @@ levels_onto q (g ∷ []) all = ap (λ (l : ℕ). l ∷ []) (level_onto q g all.0
 levels_onto q (g ∷ h ∷ groups) all = ap (λ (l : List ℕ). group_level g ∷ l) (levels_onto q (h ∷ groups) all.1)
 
 pub levels_next : (b : Bool) (groups : List (List Square)) (q : Square) → NoneEmpty groups → map group_level (with_next b groups q) ≡ more_levels b (map group_level groups) q.y
-levels_next true groups q all = map_append group_level groups ((q ∷ []) ∷ [])
+levels_next true groups q all = map-append group_level groups ((q ∷ []) ∷ [])
 levels_next false groups q all = levels_onto q groups all
 
 -- the numbers from n on
@@ -117,9 +116,9 @@ numbers_new n (g ∷ groups) q =
 numbers_onto : (n : ℕ) (groups : List (List Square)) (q : Square) → 0 < length groups → numbers_from n (onto_last q groups) ≡ numbers_from n groups ++ (n + length groups - 1) ∷ []
 numbers_onto n [] q some = absurd (omega arith)
 numbers_onto n (g ∷ []) q some =
-    append_nil (map (λ p. n) (g ++ q ∷ []))
-    ∙ map_append (λ p. n) g (q ∷ [])
-    ∙ (λ i. sym (append_nil (map (λ p. n) g)) i ++ at i ∷ [])
+    append-nil (map (λ p. n) (g ++ q ∷ []))
+    ∙ map-append (λ p. n) g (q ∷ [])
+    ∙ (λ i. sym (append-nil (map (λ p. n) g)) i ++ at i ∷ [])
   where
     at : n ≡ n + 1 - 1
     at = omega arith

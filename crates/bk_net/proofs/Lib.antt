@@ -1,4 +1,3 @@
-pub mod WholeNumberLaws
 pub mod OneFlowLaws
 pub mod DiagramExamples
 pub mod FlowExamples

@@ -3,11 +3,10 @@
 use Rattle.std.specs.List.Sorted.{IsPartitionPoint, IsPartitionedBy}
 use Rattle.std.specs.Prelude.{slice_index}
 use Rattle.std.proofs.Common.{Bool, List, [], ap, arith, cond, count_by, false, inl, inr, length, map, nat_eq, refl, slice_index_or, subst, suc, sym, take, true, zero, ℕ, ◌&&◌, ◌++◌, ◌+◌, ◌-◌, ◌<◌, ◌∙◌, ◌∷◌, ◌≡◌, ◌≢◌, ◌≤◌, ◌⊎◌}
-use Rattle.std.proofs.lemmas.Bool.{cases_lt}
+use Rattle.std.proofs.lemmas.Bool.{both_ways, cases_Bool, cases_lt}
 use Rattle.std.proofs.lemmas.Bool.Decides.{nat_tests}
-use Rattle.std.proofs.lemmas.List.{take_more}
-use Rattle.bk_tiling.proofs.Cells.{covers_from, none_counted, not_both, one_counted, over_from, true_or_false}
-use Rattle.bk_tiling.proofs.ListLaws.{length_append, length_map}
+use Rattle.std.proofs.lemmas.List.{length-append, length-map, take_more}
+use Rattle.bk_tiling.proofs.Cells.{covers_from, none_counted, one_counted, over_from}
 use Rattle.bk_tiling.proofs.Groups.{row_of}
 use Rattle.bk_tiling.proofs.Members.{one_at}
 use Rattle.bk_tiling.proofs.Places.{at_place, later_place}
@@ -61,9 +60,9 @@ numbers-length : (n : ℕ) (groups : List (List Square)) → length (numbers_fro
 numbers-length n [] = refl
 numbers-length n (g ∷ groups) = omega (
   arith,
-  length_append (map (λ (q : Square). n) g) (numbers_from (n + 1) groups),
-  length_append g (row_of groups),
-  length_map (λ (q : Square). n) g,
+  length-append (map (λ (q : Square). n) g) (numbers_from (n + 1) groups),
+  length-append g (row_of groups),
+  length-map g (λ (q : Square). n),
   numbers-length (n + 1) groups,
 )
 
@@ -107,7 +106,7 @@ has_number n (g ∷ groups) m d h = cases (cases_lt m (length g)) (has_number (n
       is = subst (λ (q : Square). IsOneOf q g) (sym (square_near g (row_of groups) m d near)) (one_at g m d near);
     }
     cases (inr far) rest =
-        let r = rest (omega (arith, length_append g (row_of groups))) in
+        let r = rest (omega (arith, length-append g (row_of groups))) in
         record {
           place = suc r.place;
           below = omega (arith, r.below);
@@ -214,8 +213,8 @@ module _ (t : Tiling) (tiling : IsTiling t) (q : Square) (one : IsOneOf q t.squa
           last = by (cases_lt m k)
             where
               by : (m < k) ⊎ (k ≤ m) → m + 1 ≡ k
-              by (inr late) = absurd (not_both (is_no_later q.x (q.y + q.s) (slice_index_or t.squares m q))
-                  (ap (is_no_later q.x (q.y + q.s)) (at q) ∙ no_later_from q.x (q.y + q.s) below.0 level left) (parts.1 m q late there))
+              by (inr late) = absurd (both_ways (is_no_later q.x (q.y + q.s) (slice_index_or t.squares m q))
+                  (parts.1 m q late there) (ap (is_no_later q.x (q.y + q.s)) (at q) ∙ no_later_from q.x (q.y + q.s) below.0 level left))
               by (inl soon) = more (cases_lt (m + 1) k)
                 where
                   more : (m + 1 < k) ⊎ (k ≤ m + 1) → m + 1 ≡ k
@@ -232,7 +231,7 @@ module _ (t : Tiling) (tiling : IsTiling t) (q : Square) (one : IsOneOf q t.squa
           its_group = subst (λ (r : Square). IsOneOf r (slice_index_or (square_groups t.squares) h.place [])) (ap (λ (l : List Square). slice_index_or l m q) (row_is t tiling) ∙ at q) h.is
 
           same_node : nat_eq (node_below (square_groups t.squares) q) h.place ≡ true
-          same_node = by (true_or_false (nat_eq (node_below (square_groups t.squares) q) h.place))
+          same_node = by (cases_Bool (nat_eq (node_below (square_groups t.squares) q) h.place))
             where
               by : (nat_eq (node_below (square_groups t.squares) q) h.place ≡ true) ⊎ (nat_eq (node_below (square_groups t.squares) q) h.place ≡ false) → nat_eq (node_below (square_groups t.squares) q) h.place ≡ true
               by (inl e) = e

@@ -6,9 +6,12 @@ use Rattle.std.proofs.lemmas.Bool.{cases_lt}
 use Rattle.std.proofs.lemmas.Bool.Decides.{nat_tests}
 use Rattle.std.proofs.lemmas.Int.{ints}
 use Rattle.std.proofs.lemmas.List.Elements.{All-from_recursion}
+use Rattle.std.proofs.lemmas.Option.{slice_get_within}
+use Rattle.std.proofs.lemmas.List.{length-append, length-map}
+use Rattle.bk_laws.proofs.Totals.{total}
+use Rattle.bk_laws.proofs.ListPlaces.{get_some}
 use Rattle.bk_tiling.proofs.Cells.{count-cons, counted_one, covers_from, in_all, none_counted, one_counted, over_from}
-use Rattle.bk_tiling.proofs.ListLaws.{get_below, get_some, length_append, length_map}
-use Rattle.bk_tiling.proofs.Rows.{chain_over, chain_total, chain_within, laid_sides, total}
+use Rattle.bk_tiling.proofs.Rows.{chain_over, chain_total, chain_within, laid_sides}
 use Rattle.bk_tiling.proofs.TilingLaws.{cell_once, side_of, wide_enough, within_of}
 use Rattle.bk_tiling.specs.Column.{covers_column}
 use Rattle.bk_tiling.specs.Tiling.{IsOneOf, IsTiling, Tiling, covers}
@@ -260,7 +263,7 @@ module _ (t : Tiling) (tiling : IsTiling t) where
         ∙ all_cols-are (row.end - row.first.x) row.first.x (row.first.y - 1) t.squares (λ c lo hi. cell_once t tiling c (row.first.y - 1) (omega (arith, end_within)) (omega (arith, below_height)))
       where
         few : v < length (square_groups t.squares)
-        few = get_below (square_groups t.squares) v g e
+        few = slice_get_within (square_groups t.squares) v g e
 
         counts : (q : Square) (h : IsOneOf q t.squares) → count_by (λ r. nat_eq r.y (q.y + q.s) && covers_column q.x r) g ≡ cond (nat_eq (node_below (square_groups t.squares) q) v) 1 0
         counts q h = ap (count_by (λ r. nat_eq r.y (q.y + q.s) && covers_column q.x r)) (sym (get_index (square_groups t.squares) v g e)) ∙ (place q h).counts v few
@@ -314,7 +317,7 @@ module _ (t : Tiling) (tiling : IsTiling t) where
             by true f = from (counted_one (λ r. nat_eq r.y (q.y + q.s) && covers_column q.x r) g (omega (
               arith,
               ap (count_by (λ r. nat_eq r.y (q.y + q.s) && covers_column q.x r)) (get_index (square_groups t.squares) v g e),
-              (place q h).counts v (get_below (square_groups t.squares) v g e),
+              (place q h).counts v (slice_get_within (square_groups t.squares) v g e),
               ap (λ (b : Bool). cond {A = ℕ} b 1 0) f,
             )))
               where
@@ -390,7 +393,7 @@ module _ (t : Tiling) (tiling : IsTiling t) where
 
   flow : IsFlow (smith_diagram t) (smith_flow t)
   flow = record {
-    nodes = length_map (λ l. pos t.height -ℤ pos l) (node_levels t) ∙ omega (arith, length_append (map group_level (square_groups t.squares)) (t.height ∷ []), length_map group_level (square_groups t.squares));
+    nodes = length-map (node_levels t) (λ l. pos t.height -ℤ pos l) ∙ omega (arith, length-append (map group_level (square_groups t.squares)) (t.height ∷ []), length-map (square_groups t.squares) group_level);
     differences = differences;
     first = omega (arith, ints, flows 0, out 0 (known t tiling).group top_group, into_none 0 (known t tiling).group top_group top_corner.1, top_corner.0, top_end);
     between = between;
@@ -412,7 +415,7 @@ module _ (t : Tiling) (tiling : IsTiling t) where
       wires : AllByRecursion (λ w. (w.0 < length (square_groups t.squares) + 1) × (w.1 < length (square_groups t.squares) + 1) × (w.0 ≡ w.1 → ⊥)) (smith_diagram t).wires
       wires = wires_each (λ w. (w.0 < length (square_groups t.squares) + 1) × (w.1 < length (square_groups t.squares) + 1) × (w.0 ≡ w.1 → ⊥)) (node_below (square_groups t.squares)) 0 (square_groups t.squares)
           (λ k g e q h. (
-            omega (arith, get_below (square_groups t.squares) k g e),
+            omega (arith, slice_get_within (square_groups t.squares) k g e),
             omega (arith, (place q (in_group k g e q h)).most),
             λ same. let at : k ≡ node_below (square_groups t.squares) q = omega (arith, same) in absurd (omega (arith, ints, drop k g e q h, side_of t tiling q (in_group k g e q h), ap (potential (smith_flow t)) at)),
           ))
@@ -439,7 +442,7 @@ module _ (t : Tiling) (tiling : IsTiling t) where
               on : (h : List Square) → slice_get (square_groups t.squares) (node_below (square_groups t.squares) (group_of v g e).0.row.first) ≡ Some h
                   → ((node_below (square_groups t.squares) (group_of v g e).0.row.first ≡ length (square_groups t.squares)) × ((group_of v g e).0.row.first.y + (group_of v g e).0.row.first.s ≡ t.height)) ⊎ ((k : List Square) × (slice_get (square_groups t.squares) (node_below (square_groups t.squares) (group_of v g e).0.row.first) ≡ Some k) × (group_level k ≡ (group_of v g e).0.row.first.y + (group_of v g e).0.row.first.s))
                   → t.height ≤ group_level h + fuel
-              on h f (inl (a, b)) = absurd (omega (arith, get_below (square_groups t.squares) (node_below (square_groups t.squares) (group_of v g e).0.row.first) h f, a))
+              on h f (inl (a, b)) = absurd (omega (arith, slice_get_within (square_groups t.squares) (node_below (square_groups t.squares) (group_of v g e).0.row.first) h f, a))
               on h f (inr (k, a, b)) = omega (arith, ap group_level (same_group (sym f ∙ a)), b, side_of t tiling (group_of v g e).0.row.first (first v g e), enough g e, level_is g (group_of v g e).0.row)
                 where
                   same_group : Some h ≡ Some k → h ≡ k

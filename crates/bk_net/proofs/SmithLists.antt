@@ -8,11 +8,12 @@ use Rattle.std.proofs.lemmas.Bool.Decides.{nat_tests}
 use Rattle.std.proofs.lemmas.Int.{ints}
 use Rattle.std.proofs.lemmas.List.Elements.{Contains-append_left, Contains-append_right}
 use Rattle.std.proofs.lemmas.List.Sums.{sum_by-append}
-use Rattle.bk_tiling.proofs.AllOfLists.{all_append}
+use Rattle.std.proofs.lemmas.List.{length-map, map-append}
+use Rattle.bk_laws.proofs.Totals.{total}
+use Rattle.bk_laws.proofs.AllOfLists.{all_append}
 use Rattle.bk_tiling.proofs.Cells.{count-cons, covers_from, over_from}
 use Rattle.bk_tiling.proofs.Group.{covers_one}
-use Rattle.bk_tiling.proofs.ListLaws.{length_map, map_append}
-use Rattle.bk_tiling.proofs.Rows.{laid_sides, total}
+use Rattle.bk_tiling.proofs.Rows.{laid_sides}
 use Rattle.bk_tiling.specs.Tiling.{IsOneOf, covers}
 use Rattle.bk_tiling.specs.declared.Square.{Square}
 use Rattle.bk_tiling.proofs.Groups.{row_of}
@@ -56,8 +57,8 @@ in_total-append below v (q ∷ front) back = omega (arith, in_total-append below
 
 pub all_outflow : (below : Square → ℕ) (n v : ℕ) (groups : List (List Square)) → outflow (group_wires below n groups) (map (λ q. pos q.s) (row_of groups)) v ≡ pos (out_total n v groups) -ℤ pos (in_total below v (row_of groups))
 all_outflow below n v [] = omega (arith, ints)
-all_outflow below n v (g ∷ groups) = ap (λ (cs : List ℤ). outflow (map (λ q. (n, below q)) g ++ group_wires below (n + 1) groups) cs v) (map_append (λ q. pos q.s) g (row_of groups))
-    ∙ outflow-append (map (λ q. (n, below q)) g) (group_wires below (n + 1) groups) (map (λ q. pos q.s) g) (map (λ q. pos q.s) (row_of groups)) v (length_map (λ q. (n, below q)) g ∙ sym (length_map (λ q. pos q.s) g))
+all_outflow below n v (g ∷ groups) = ap (λ (cs : List ℤ). outflow (map (λ q. (n, below q)) g ++ group_wires below (n + 1) groups) cs v) (map-append (λ q. pos q.s) g (row_of groups))
+    ∙ outflow-append (map (λ q. (n, below q)) g) (group_wires below (n + 1) groups) (map (λ q. pos q.s) g) (map (λ q. pos q.s) (row_of groups)) v (length-map g (λ q. (n, below q)) ∙ sym (length-map g (λ q. pos q.s)))
     ∙ omega (arith, ints, group_outflow below n v g, all_outflow below (n + 1) v groups, in_total-append below v g (row_of groups))
 
 out_none : (n v : ℕ) (groups : List (List Square)) → v < n → out_total n v groups ≡ 0
@@ -85,9 +86,9 @@ out_at n v (suc k) (h ∷ groups) g e f = omega (arith, differ, out_at (n + 1) v
 pub group_currents : (below : Square → ℕ) (f : ℕ × ℕ → ℤ) (n : ℕ) (groups : List (List Square)) → ((k : ℕ) (g : List Square) → slice_get groups k ≡ Some g → (q : Square) → IsOneOf q g → pos q.s ≡ f (n + k, below q))
     → map (λ q. pos q.s) (row_of groups) ≡ map f (group_wires below n groups)
 group_currents below f n [] each = refl
-group_currents below f n (g ∷ groups) each = map_append (λ q. pos q.s) g (row_of groups)
+group_currents below f n (g ∷ groups) each = map-append (λ q. pos q.s) g (row_of groups)
     ∙ (λ i. own g (λ q h. each 0 g refl q h ∙ ap (λ (v : ℕ). f (v, below q)) (omega arith)) i ++ group_currents below f (n + 1) groups (λ k h e q m. each (suc k) h e q m ∙ ap (λ (v : ℕ). f (v, below q)) (omega arith)) i)
-    ∙ sym (map_append f (map (λ q. (n, below q)) g) (group_wires below (n + 1) groups))
+    ∙ sym (map-append f (map (λ q. (n, below q)) g) (group_wires below (n + 1) groups))
   where
     own : (g : List Square) → ((q : Square) → IsOneOf q g → pos q.s ≡ f (n, below q)) → map (λ q. pos q.s) g ≡ map f (map (λ q. (n, below q)) g)
     own [] each = refl

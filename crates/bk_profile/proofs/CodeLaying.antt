@@ -3,10 +3,11 @@ use Rattle.std.specs.List.{AllByRecursion}
 use Rattle.std.proofs.Common.{List, [], ap, arith, cond, count_by, inl, inr, map, refl, subst, sum, sym, true, ℕ, ◌++◌, ◌+◌, ◌-◌, ◌<◌, ◌∙◌, ◌∷◌, ◌≡◌, ◌≤◌, ◌⊎◌}
 use Rattle.std.proofs.lemmas.Bool.{cases_lt}
 use Rattle.std.proofs.lemmas.List.Sums.{sum_by-append}
+use Rattle.std.proofs.lemmas.List.{append-nil, append_assoc}
+use Rattle.bk_laws.proofs.Totals.{sum_is_total}
 use Rattle.bk_tiling.proofs.Cells.{column_from, column_left, column_right, counted_one, covers_from, depth_comes_from, depth_reaches, from_append, in_all, no_two, one_counted, over_from}
-use Rattle.bk_tiling.proofs.ListLaws.{append_assoc, append_nil}
 use Rattle.bk_tiling.proofs.Members.{in_back, in_front}
-use Rattle.bk_tiling.proofs.Rows.{chain_over, chain_total, chain_within, laid_sides, sum_is_total}
+use Rattle.bk_tiling.proofs.Rows.{chain_over, chain_total, chain_within, laid_sides}
 use Rattle.bk_tiling.proofs.TilingLaws.{cell_once, side_of, within_of}
 use Rattle.bk_tiling.specs.CodeOrder.{InCodeOrder, comes_before}
 use Rattle.bk_tiling.specs.Column.{covers_column, depth}
@@ -157,7 +158,7 @@ module _ (t : Tiling) (tiling : IsTiling t) (laid group back : List Square) (is 
   group_is = ap (λ (l : List Square). laid ++ l) (sym (chain_is_group group g.row.first.x g.row.first.y g.row.end g.row.chain g.row.tops))
 
 lays : (t : Tiling) → IsTiling t → (groups : List (List Square)) (laid : List Square) → t.squares ≡ laid ++ row_of groups → AllByRecursion (λ g. IsGroup t.squares g × AllIn t.squares g) groups → LaysTo t.width laid (map (map (λ q. q.s)) groups) t.squares
-lays t tiling [] laid is all = sym (append_nil laid) ∙ sym is
+lays t tiling [] laid is all = sym (append-nil laid) ∙ sym is
 lays t tiling (g ∷ groups) laid is all = (
   record { x = all.0.0.row.first.x; width = all.0.0.row.end - all.0.0.row.first.x; level = all.0.0.row.first.y },
   gap t tiling laid g (row_of groups) is all.0.0,

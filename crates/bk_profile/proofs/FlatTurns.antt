@@ -5,7 +5,7 @@ use Rattle.std.specs.declared.result.Result.TheVariants.{Err, Ok}
 use mathlib.Core.Bool.{true≢false}
 use Rattle.std.proofs.Common.{Bool, List, [], ap, arith, eqb-true, false, length, refl, subst, sum, sym, true, ℕ, ◌==◌, ◌++◌, ◌+◌, ◌<◌, ◌∙◌, ◌∷◌, ◌≡◌, ◌≤◌}
 use Rattle.std.proofs.lemmas.List.{append-nil, append_assoc, length-append}
-use Rattle.bk_tiling.proofs.AllOfLists.{all_left, all_right}
+use Rattle.bk_laws.proofs.AllOfLists.{all_left, all_right}
 use Rattle.bk_tiling.specs.Kept.{IsSide}
 use Rattle.bk_tiling.specs.Tiling.{Tiling}
 use Rattle.bk_tiling.specs.declared.Segment.{Segment}

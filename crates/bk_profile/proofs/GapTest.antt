@@ -1,7 +1,8 @@
 -- A test of a gap, by which the gap of an example is shown by computation.
 use Rattle.std.proofs.Common.{List, ap, arith, nat_eq, nat_le, nat_lt, not, sym, true, ℕ, ◌+◌, ◌-◌, ◌<◌, ◌||◌, ◌∙◌, ◌≡◌}
 use Rattle.std.proofs.lemmas.Bool.Decides.{nat_tests}
-use Rattle.bk_tiling.proofs.ColumnTest.{after_of, all_below, each_below, eq_of, le_of, lt_of}
+use Rattle.std.proofs.lemmas.Bool.{eqb-true, leb-true, ltb-true}
+use Rattle.bk_laws.proofs.Tests.{after_of, all_below, each_below}
 use Rattle.bk_tiling.specs.Column.{IsLevel, depth}
 use Rattle.bk_tiling.specs.declared.Segment.{Segment}
 use Rattle.bk_tiling.specs.declared.Square.{Square}
@@ -19,9 +20,9 @@ pub record PassesAsGap (width : ℕ) (laid : List Square) (v : Segment) : Type 0
 pub passes_as_gap : (width : ℕ) (laid : List Square) (v : Segment) → PassesAsGap width laid v → IsGap width laid v
 passes_as_gap width laid v p = record {
   flat = flat;
-  least = λ c h. le_of v.level (depth laid c) (each_below (λ c. nat_le v.level (depth laid c)) width p.least c h);
-  leftmost = λ c h. lt_of v.level (depth laid c) (each_below (λ c. nat_lt v.level (depth laid c)) v.x p.before c h);
-  ends = λ h. lt_of v.level (depth laid (v.x + v.width)) (after_of (nat_lt (v.x + v.width) width) (nat_lt v.level (depth laid (v.x + v.width))) p.after (end h));
+  least = λ c h. leb-true v.level (depth laid c) (each_below (λ c. nat_le v.level (depth laid c)) width p.least c h);
+  leftmost = λ c h. ltb-true v.level (depth laid c) (each_below (λ c. nat_lt v.level (depth laid c)) v.x p.before c h);
+  ends = λ h. ltb-true v.level (depth laid (v.x + v.width)) (after_of (nat_lt (v.x + v.width) width) (nat_lt v.level (depth laid (v.x + v.width))) p.after (end h));
 }
   where
     end : v.x + v.width < width → nat_lt (v.x + v.width) width ≡ true
@@ -29,10 +30,10 @@ passes_as_gap width laid v p = record {
 
     flat : IsLevel width laid v
     flat = record {
-      some = lt_of 0 v.width p.some;
-      within = le_of (v.x + v.width) width p.within;
+      some = ltb-true 0 v.width p.some;
+      within = leb-true (v.x + v.width) width p.within;
       level = λ c low high. let e : v.x + (c - v.x) ≡ c = omega arith in
-          sym (ap (depth laid) e) ∙ eq_of (depth laid (v.x + (c - v.x))) v.level (each_below (λ k. nat_eq (depth laid (v.x + k)) v.level) v.width p.level (c - v.x) (omega arith));
+          sym (ap (depth laid) e) ∙ eqb-true (depth laid (v.x + (c - v.x))) v.level (each_below (λ k. nat_eq (depth laid (v.x + k)) v.level) v.width p.level (c - v.x) (omega arith));
     }
 
 abbrev pub by_tests : (width : ℕ) (laid : List Square) (v : Segment) → nat_lt 0 v.width ≡ true → nat_le (v.x + v.width) width ≡ true → all_below (λ k. nat_eq (depth laid (v.x + k)) v.level) v.width ≡ true

@@ -1,13 +1,13 @@
 -- What is laid group by group stands in the order of a code, fills its columns, and has the groups as its code.
 use Rattle.std.specs.List.{AllByRecursion}
 use Rattle.std.proofs.Common.{Bool, List, [], ap, arith, false, inl, inr, length, refl, subst, sym, true, ℕ, ◌++◌, ◌+◌, ◌<◌, ◌∙◌, ◌∷◌, ◌≡◌, ◌≤◌, ◌⊎◌}
-use Rattle.std.proofs.lemmas.Bool.{cases_lt}
-use Rattle.bk_tiling.proofs.Cells.{all_from, column_from, depth-append, depth_reaches, from_append, in_all, true_or_false}
+use Rattle.std.proofs.lemmas.Bool.{cases_Bool, cases_lt}
+use Rattle.std.proofs.lemmas.List.{append-nil, append_assoc}
+use Rattle.bk_laws.proofs.Totals.{sum_is_total, total}
+use Rattle.bk_tiling.proofs.Cells.{all_from, column_from, depth-append, depth_reaches, from_append, in_all}
 use Rattle.bk_tiling.proofs.Group.{HasOver, depth_under, filled_group, group_sides, group_top, group_within, over_group}
 use Rattle.bk_tiling.proofs.Groups.{beside_from, beside_to}
-use Rattle.bk_tiling.proofs.ListLaws.{append_assoc, append_nil}
 use Rattle.bk_tiling.proofs.PuttingInOrder.{group_ordered}
-use Rattle.bk_tiling.proofs.Rows.{sum_is_total, total}
 use Rattle.bk_tiling.proofs.Scaling.{before_from}
 use Rattle.bk_tiling.specs.CodeOrder.{InCodeOrder, comes_before, stands_beside}
 use Rattle.bk_tiling.specs.Column.{IsFilled, depth}
@@ -57,7 +57,7 @@ groups_append [] x y sides some cut = group_alone x y sides some
 groups_append (q ∷ []) x y [] some cut = absurd (omega arith)
 groups_append (q ∷ []) x y (s ∷ sides) some cut =
     groups_cons q (record { x = x; y = y; s = s }) (laid_group (x + s) y sides)
-    ∙ ap (λ (b : Bool). before b q.s (side_groups (laid_group x y (s ∷ sides)))) (apart (true_or_false (stands_beside q (record { x = x; y = y; s = s }))))
+    ∙ ap (λ (b : Bool). before b q.s (side_groups (laid_group x y (s ∷ sides)))) (apart (cases_Bool (stands_beside q (record { x = x; y = y; s = s }))))
     ∙ ap (before false q.s) (group_alone x y (s ∷ sides) (omega arith))
   where
     apart : (stands_beside q (record { x = x; y = y; s = s }) ≡ true) ⊎ (stands_beside q (record { x = x; y = y; s = s }) ≡ false) → stands_beside q (record { x = x; y = y; s = s }) ≡ false
@@ -186,7 +186,7 @@ abbrev pub AreGroups : Code → Type 0
 AreGroups code = AllByRecursion (λ group. (0 < length group) × AllByRecursion (λ s. 0 < s) group) code
 
 pub laid_groups : (w : ℕ) (laid : List Square) (done code : Code) (end : List Square) → IsLaid w laid done → AreGroups code → LaysTo w laid code end → IsLaid w end (done ++ code)
-laid_groups w laid done [] end is_laid good lays = subst (λ (l : List Square). IsLaid w l (done ++ [])) lays (subst (IsLaid w laid) (sym (append_nil done)) is_laid)
+laid_groups w laid done [] end is_laid good lays = subst (λ (l : List Square). IsLaid w l (done ++ [])) lays (subst (IsLaid w laid) (sym (append-nil done)) is_laid)
 laid_groups w laid done (group ∷ code) end is_laid good (gap, is, fits, lays) =
     subst (IsLaid w end) (append_assoc done (group ∷ []) code)
     (laid_groups w (with_group laid gap group) (done ++ group ∷ []) code end (laid_step w laid done gap group is_laid is fits good.0.1 good.0.0) good.1 lays)

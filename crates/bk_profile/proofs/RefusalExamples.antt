@@ -1,6 +1,7 @@
 -- Codes and flat lists that no tiling has, with the reason.
 use Rattle.std.proofs.Common.{List, [], arith, nat_le, refl, ◌∷◌, ◌≡◌}
-use Rattle.bk_tiling.proofs.ColumnTest.{each_below, le_of}
+use Rattle.std.proofs.lemmas.Bool.{leb-true}
+use Rattle.bk_laws.proofs.Tests.{each_below}
 use Rattle.bk_tiling.specs.Column.{depth}
 use Rattle.bk_tiling.specs.declared.Square.{Square}
 use Rattle.bk_profile.proofs.GapExamples.{fourth_does_not_fit, one_group, segment, ten_is_not_eleven, three_groups}
@@ -94,8 +95,8 @@ four_end_open = record {
   laid = four_groups;
   lays = lays_four;
   uneven = record {
-    least_is = record { column = 24; within = omega arith; there = refl; below = λ c h. le_of 23 (depth four_groups c) (each_below (λ c. nat_le 23 (depth four_groups c)) 33 refl c h) };
-    greatest_is = record { column = 0; within = omega arith; there = refl; above = λ c h. le_of (depth four_groups c) 32 (each_below (λ c. nat_le (depth four_groups c) 32) 33 refl c h) };
+    least_is = record { column = 24; within = omega arith; there = refl; below = λ c h. leb-true 23 (depth four_groups c) (each_below (λ c. nat_le 23 (depth four_groups c)) 33 refl c h) };
+    greatest_is = record { column = 0; within = omega arith; there = refl; above = λ c h. leb-true (depth four_groups c) 32 (each_below (λ c. nat_le (depth four_groups c) 32) 33 refl c h) };
     uneven = omega arith;
   };
 }

@@ -1,12 +1,12 @@
 -- A later move that begins with even and above: its first square may be reversed.
 use Rattle.std.proofs.Common.{Bool, List, Some, [], ap, arith, cond, false, inl, inr, length, map, nat_eq, refl, slice_get, subst, suc, sym, true, ℕ, ◌++◌, ◌+◌, ◌<◌, ◌∙◌, ◌∷◌, ◌≡◌, ◌≤◌, ◌⊎◌}
-use Rattle.bk_tiling.proofs.Cells.{not_both}
-use Rattle.bk_tiling.proofs.ListLaws.{length_map}
+use Rattle.std.proofs.lemmas.Bool.{both_ways}
+use Rattle.std.proofs.lemmas.List.{length-map}
+use Rattle.bk_laws.proofs.Occurrences.{times, times-append, times_in, times_in-append}
 use Rattle.bk_word.specs.Outline.{Outline, valley_place}
 use Rattle.bk_word.specs.declared.Sign.{Sign}
 use Rattle.bk_word.specs.declared.Sign.TheVariants.{Above, Even, Under}
-use Rattle.bk_skel.proofs.Numbering.{times, times-append, times_in, times_in-append}
-use Rattle.bk_skel.proofs.ValleyCut.{AllPart, AtValley}
+use Rattle.bk_word_net.proofs.ValleyCut.{AllPart, AtValley}
 use Rattle.bk_layout.proofs.Chains.{Chain, Known, Meet, Run, chain_behind, chain_known, even_neighbours, known_first, known_last, last_append, last_from, singles}
 use Rattle.bk_layout.proofs.Counting.{none_for, one_for, same_or_other}
 use Rattle.bk_layout.proofs.SquareLists.{lists_at, sq_of}
@@ -36,7 +36,7 @@ first_there l fits [] g x xs rest part place c f = f
 first_there l fits ([] ∷ front) g x xs rest part place c f = absurd f
 first_there l fits ((y ∷ ys) ∷ front) [] x xs rest part place c f = absurd (omega (arith, place))
 first_there l fits ((y ∷ ys) ∷ front) (Above ∷ g) x xs rest part place c f = absurd (omega (arith, place))
-first_there l fits ((y ∷ ys) ∷ front) (Even ∷ g) x xs rest part place c f = absurd (not_both false part.0 refl)
+first_there l fits ((y ∷ ys) ∷ front) (Even ∷ g) x xs rest part place c f = absurd (both_ways false refl part.0)
 first_there l fits ((y ∷ ys) ∷ []) (Under ∷ g) x xs rest part place c f =
     first_there l fits [] g x xs rest part.1 (omega arith) c.3 (fits.go_on.on_left x (known_first l x xs (chain_known l g x xs rest c.3)) (under_left l (last_from y ys) x c.2.1).1).0
 first_there l fits ((y ∷ ys) ∷ [] ∷ front) (Under ∷ g) x xs rest part place c f = absurd c
@@ -126,7 +126,7 @@ module _ (l : Layout) (fits : Fits l) (o : Outline) (st : State l o) (c : AtVall
 
   chain_here : Chain l ((move l fits o st c at low h).signs ++ c.after_signs) (list ∷ (h.first ∷ []) ∷ (singles h.more ++ (lists_at st.laid c.right ++ lists_at st.laid c.after)))
   chain_here = chain_behind l (lists_at st.laid c.before) c.before_signs ((move l fits o st c at low h).signs ++ c.after_signs) list ((h.first ∷ []) ∷ (singles h.more ++ (lists_at st.laid c.right ++ lists_at st.laid c.after)))
-      (length_map (map (sq_of st.laid)) c.before ∙ c.before_many)
+      (length-map c.before (map (sq_of st.laid)) ∙ c.before_many)
       (subst (λ (x : List (List ℕ)). Chain l (c.before_signs ++ ((move l fits o st c at low h).signs ++ c.after_signs)) (lists_at st.laid c.before ++ (lists_at st.laid x ++ ((h.first ∷ []) ∷ (singles h.more ++ (lists_at st.laid c.right ++ lists_at st.laid c.after)))))) one
       (marks_chain l fits o st c at low h).0)
 
@@ -157,7 +157,7 @@ module _ (l : Layout) (fits : Fits l) (o : Outline) (st : State l o) (c : AtVall
 
   x_first : IsFirst (l.ending (l.below t.x)) t.x
   x_first = first_there l fits (lists_at st.laid c.before) o.signs t.x t.xs ((at.q ∷ at.qs) ∷ (lists_at st.laid c.right ++ lists_at st.laid c.after)) st.shaped.parted
-      (omega (arith, c.place, length_map (map (sq_of st.laid)) c.before))
+      (omega (arith, c.place, length-map c.before (map (sq_of st.laid))))
       (subst (λ (x : List (List ℕ)). Chain l o.signs x) cut_is st.chain)
       (at_head l fits o.signs (lists_at st.laid c.before ++ (t.x ∷ t.xs) ∷ ((at.q ∷ at.qs) ∷ (lists_at st.laid c.right ++ lists_at st.laid c.after))) (subst (λ (x : List (List ℕ)). Chain l o.signs x) cut_is st.chain) (subst (λ (x : List (List ℕ)). AtLeft l x) cut_is st.wall))
 

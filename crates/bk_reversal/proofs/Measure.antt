@@ -1,7 +1,7 @@
 -- Words as numbers: words of one order that become less can't do so for ever.
 use Rattle.std.specs.List.{AllByRecursion}
 use Rattle.std.proofs.Common.{Bool, List, [], ap, arith, inl, inr, length, map, false, refl, subst, suc, true, zero, ℕ, ◌++◌, ◌+◌, ◌<◌, ◌∷◌, ◌≡◌, ◌≤◌, ◌⊎◌}
-use Rattle.bk_tiling.proofs.ListLaws.{length_append, length_map}
+use Rattle.std.proofs.lemmas.List.{length-append, length-map}
 use Rattle.bk_word.proofs.StoredBytes.{order_more}
 use Rattle.bk_word.specs.Outline.{Outline, has_left_wall, has_right_wall, open_side}
 use Rattle.bk_word.specs.Play.{AreLegalFrom, after_move}
@@ -83,8 +83,8 @@ few_digits o (m ∷ w) legal = omega (
   order_more m w,
   legal.0.some,
   legal.0.signs,
-  length_append (m.count ∷ map sign_place m.signs) (digits w),
-  length_map sign_place m.signs,
+  length-append (m.count ∷ map sign_place m.signs) (digits w),
+  length-map m.signs sign_place,
   one_side (has_left_wall o),
   one_side (has_right_wall o),
 )

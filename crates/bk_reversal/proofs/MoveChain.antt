@@ -1,8 +1,8 @@
 -- The segments just after a move of the sweep, each still apart, and the signs between them.
 use Rattle.std.proofs.Common.{List, [], ap, arith, length, map, slice_get, subst, suc, sym, ℕ, ◌++◌, ◌+◌, ◌<◌, ◌∙◌, ◌∷◌, ◌≡◌}
-use Rattle.bk_tiling.proofs.ListLaws.{length_append, length_map}
+use Rattle.std.proofs.lemmas.List.{length-append, length-map}
 use Rattle.bk_word.specs.Outline.{Outline}
-use Rattle.bk_skel.proofs.ValleyCut.{AtValley}
+use Rattle.bk_word_net.proofs.ValleyCut.{AtValley}
 use Rattle.bk_layout.proofs.Chains.{Chain, last_from, singles}
 use Rattle.bk_layout.proofs.SquareLists.{lists_at, sq_of}
 use Rattle.bk_layout.proofs.Sweep.{State, ValleyAt}
@@ -31,9 +31,9 @@ module _ (l : Layout) (fits : Fits l) (o : Outline) (st : State l o) (v : AtVall
   pub many_marks : length (move l fits o st v at low h).signs + 1 ≡ length v.left + (suc (length h.more) + length v.right)
   many_marks = omega (
     arith,
-    at.left.beyond_many ∙ length_map (map (sq_of st.laid)) v.left,
-    at.right.beyond_many ∙ length_map (map (sq_of st.laid)) v.right,
-    many_signs l (at.left.beyond ++ (h.first ∷ (h.more ++ at.right.beyond))) (omega (arith, length_append at.left.beyond (h.first ∷ (h.more ++ at.right.beyond)))),
-    length_append at.left.beyond (h.first ∷ (h.more ++ at.right.beyond)),
-    length_append h.more at.right.beyond,
+    at.left.beyond_many ∙ length-map v.left (map (sq_of st.laid)),
+    at.right.beyond_many ∙ length-map v.right (map (sq_of st.laid)),
+    many_signs l (at.left.beyond ++ (h.first ∷ (h.more ++ at.right.beyond))) (omega (arith, length-append at.left.beyond (h.first ∷ (h.more ++ at.right.beyond)))),
+    length-append at.left.beyond (h.first ∷ (h.more ++ at.right.beyond)),
+    length-append h.more at.right.beyond,
   )

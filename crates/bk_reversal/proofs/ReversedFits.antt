@@ -1,10 +1,10 @@
 -- A layout with a square reversed fits. Here u is the node above the square, v the one below.
 use Rattle.std.proofs.Common.{Bool, List, Some, [], ap, arith, cond, false, inl, inr, length, map, nat_eq, refl, slice_get, subst, suc, sym, true, zero, ℕ, ◌++◌, ◌+◌, ◌<◌, ◌∙◌, ◌∷◌, ◌≡◌, ◌≤◌, ◌⊎◌}
 use Rattle.std.specs.List.{AllZip}
-use Rattle.bk_skel.proofs.Numbering.{times, times-append, times_in, times_in-append}
-use Rattle.bk_skel.proofs.ValleyCut.{AtValley}
+use Rattle.bk_laws.proofs.ListPlaces.{get_some}
+use Rattle.bk_laws.proofs.Occurrences.{times, times-append, times_in, times_in-append}
+use Rattle.bk_word_net.proofs.ValleyCut.{AtValley}
 use Rattle.bk_word.specs.Outline.{Outline, start}
-use Rattle.bk_tiling.proofs.ListLaws.{get_some}
 use Rattle.bk_word.specs.Play.{after_move}
 use Rattle.bk_word.specs.Word.{Move, Word}
 use Rattle.bk_reversal.proofs.Trace.{IsStep, Trace, Whole, traced, whole_from}
@@ -13,14 +13,13 @@ use Rattle.bk_word.specs.declared.Sign.{Sign}
 use Rattle.bk_word.specs.declared.Sign.TheVariants.{Above, Even, Under}
 use Rattle.bk_layout.proofs.Chains.{Chain, Known, Run, chain_known, known_first, known_last, last_from, sign, signs_of, singles, singles_wall}
 use Rattle.bk_layout.proofs.SquareLists.{lists_at, sq_of, times_singles}
-use Rattle.bk_layout.proofs.Sweep.{State, ValleyAt, valley_at}
+use Rattle.bk_layout.proofs.Sweep.{State, ValleyAt, ending_times, hanging_times, valley_at}
 use Rattle.bk_layout.proofs.SweepStep.{move, state_then}
 use Rattle.bk_layout.proofs.Turning.{AtLeft}
 use Rattle.bk_layout.proofs.WholeRuns.{Hung, hung_from, is_last}
 use Rattle.bk_reversal.proofs.MoveChain.{apart_of, many_marks, marks_chain}
 use Rattle.bk_reversal.proofs.Drops.{Drops, IsLess, drops_before, drops_behind, same_before, same_behind}
 use Rattle.bk_layout.proofs.Counting.{got_same, none_for, one_for, same_or_other, times_got}
-use Rattle.bk_layout.proofs.Sweep.{ending_times, hanging_times}
 use Rattle.bk_layout.specs.Layout.{AreLines, AreLists, AreNeighbours, AreNodes, DoLinesGoOn, Fits, HasNoTwins, IsFirst, IsLast, Layout}
 use Rattle.bk_reversal.proofs.Pieces.{Sorted, end_cases, end_length, end_new, end_old, got_below, init_below, init_got, init_length, put_at, put_other, test_fails, test_holds, sorted_has, sorted_is, sorted_once, tail_got, tail_length, times_end, times_init, times_tail}
 use Rattle.bk_reversal.specs.Reversal.{CanReverse, IsUpToReversals, put, reversed, without_first, without_last}

@@ -6,8 +6,8 @@ use Rattle.bk_word.specs.Play.{after_move}
 use Rattle.bk_word.specs.Word.{Move, Word, order_of}
 use Rattle.bk_word.specs.declared.Sign.{Sign}
 use Rattle.bk_word.specs.declared.Sign.TheVariants.{Above, Even, Under}
-use Rattle.bk_skel.proofs.MovedParts.{left_open}
-use Rattle.bk_skel.proofs.ValleyCut.{Beside}
+use Rattle.bk_word_net.proofs.MovedParts.{left_open}
+use Rattle.bk_word_net.proofs.ValleyCut.{Beside}
 use Rattle.bk_layout.proofs.LayoutNet.{word_of_sweep}
 use Rattle.bk_layout.proofs.Sweep.{State}
 use Rattle.bk_layout.proofs.SweepStart.{first_move}

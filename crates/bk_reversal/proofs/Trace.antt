@@ -1,11 +1,11 @@
 -- The moves of a sweep with the states between them.
 use Rattle.std.proofs.Common.{List, Option, Some, [], ap, arith, inl, inr, length, refl, subst, suc, sym, zero, ℕ, ◌++◌, ◌+◌, ◌<◌, ◌∙◌, ◌∷◌, ◌≡◌, ◌≤◌, ◌⊎◌}
-use Rattle.bk_tiling.proofs.ListLaws.{append_assoc, append_nil}
+use Rattle.std.proofs.lemmas.List.{append-nil, append_assoc}
 use Rattle.bk_word.specs.Outline.{IsLegalMove, Outline, start}
 use Rattle.bk_word.specs.Play.{AreLegalFrom, after_move, after_moves}
 use Rattle.bk_word.specs.Word.{Move, Word}
-use Rattle.bk_skel.proofs.Shape.{valley_in}
-use Rattle.bk_skel.proofs.ValleyCut.{AtValley}
+use Rattle.bk_word_net.proofs.Shape.{valley_in}
+use Rattle.bk_word_net.proofs.ValleyCut.{AtValley}
 use Rattle.bk_layout.proofs.Counting.{same_or_other}
 use Rattle.bk_layout.proofs.SquareLists.{sq_of}
 use Rattle.bk_layout.proofs.Sweep.{State, ValleyAt, valley_at}
@@ -74,7 +74,7 @@ pub record Facts (l : Layout) (o : Outline) (st : State l o) (w : Word) : Type 0
   pub nodes : HangByNodesFrom l (sq_of last.laid) o w
 
 pub facts : (l : Layout) (fits : Fits l) (o : Outline) (st : State l o) (w : Word) → Trace l fits o st w → Facts l o st w
-facts l fits o st [] end = record { legal = tt; free = tt; no_twins = λ n. tt; last = st; end = end; more = []; grows = sym (append_nil st.laid); lines = tt; nodes = tt }
+facts l fits o st [] end = record { legal = tt; free = tt; no_twins = λ n. tt; last = st; end = end; more = []; grows = sym (append-nil st.laid); lines = tt; nodes = tt }
 facts l fits o st (mv ∷ w) tr = from (facts l fits (after_move o mv) tr.0 w tr.2)
   where
     s : IsStep l fits o st mv tr.0

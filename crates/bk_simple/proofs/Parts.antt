@@ -1,11 +1,12 @@
 -- A rectangle is a part of a tiling exactly where no square lies across its border, and at least two squares and not
 -- all lie in it.
 use Rattle.std.specs.List.{AllByRecursion, position_or_len}
-use Rattle.std.specs.Prelude.{Bool, IsTrue, List, count_by, false, filter, get_or, length, max, true, ℕ, ◌&&◌, ◌+◌, ◌-◌, ◌<◌, ◌==◌, ◌∷◌, [], ◌≡◌, ◌≢◌, ◌≤◌, ◌||◌, ◌⊎◌, cond, refl, zero, suc}
+use Rattle.std.specs.Prelude.{Bool, IsTrue, List, [], cond, count_by, false, filter, get_or, length, max, refl, true, ℕ, ◌&&◌, ◌+◌, ◌-◌, ◌<◌, ◌==◌, ◌||◌, ◌∷◌, ◌≡◌, ◌≢◌, ◌≤◌, ◌⊎◌}
 use Rattle.std.proofs.Common.{ap, arith, inl, inr, subst, sym, ◌∙◌}
 use Rattle.std.proofs.lemmas.Bool.{and_from, and_parts, both_ways, cases_Bool, cases_eq, cases_lt, eq-eqb, eqb-true, false_from_ne_true, le-leb, leb-false, leb-true, or_cases, or_left, or_parts, or_right}
 use Rattle.std.proofs.lemmas.List.Elements.{All-from_recursion, recursion_from_All}
-use Rattle.std.proofs.lemmas.List.Sums.{AllPass-from_list_all, fails_before_first, get_or-le-sum_by, length-filter, list_all-from_AllPass, passes_at_first, position_or_len_is, sum_by-cons}
+use Rattle.std.proofs.lemmas.List.Sums.{AllPass-from_list_all, fails_before_first, length-filter, list_all-from_AllPass, passes_at_first, position_or_len_is, sum_by-cons}
+use Rattle.bk_laws.proofs.Counts.{count_two}
 use Rattle.bk_tiling.proofs.Cells.{IsOver, covers_from, over_from}
 use Rattle.bk_tiling.proofs.TilingLaws.{cell_once}
 use Rattle.bk_tiling.specs.Tiling.{IsTiling, IsWithin, Rectangle, Tiling, covers, order, whole}
@@ -75,22 +76,6 @@ all_filter P p (x ∷ xs) all = step (cases_Bool (p x)) (all_filter P p xs all.1
     step : (p x ≡ true) ⊎ (p x ≡ false) → AllByRecursion P (filter p xs) → AllByRecursion P (cond (p x) (x ∷ filter p xs) (filter p xs))
     step (inl yes_p) rest = subst (λ b. AllByRecursion P (cond b (x ∷ filter p xs) (filter p xs))) (sym yes_p) (all.0 yes_p, rest)
     step (inr no_p) rest = subst (λ b. AllByRecursion P (cond b (x ∷ filter p xs) (filter p xs))) (sym no_p) rest
-
--- what passes is counted, and two that pass twice
-count_one : {X : Type 0} (p : X → Bool) (xs : List X) (k : ℕ) (d : X) → k < length xs → p (get_or xs k d) ≡ true → 1 ≤ count_by p xs
-count_one p xs k d below e =
-    let here : ◌≡◌ {A = ℕ} (cond (p (get_or xs k d)) 1 0) 1 = ap (λ b. cond b 1 0) e in
-    omega (arith, here, get_or-le-sum_by (λ x. cond (p x) 1 0) xs k d below)
-
-pub count_two : {X : Type 0} (p : X → Bool) (xs : List X) (a b : ℕ) (d : X) → a < b → b < length xs → p (get_or xs a d) ≡ true → p (get_or xs b d) ≡ true → 2 ≤ count_by p xs
-count_two p [] a b d ab l t u = absurd (omega arith)
-count_two p (x ∷ xs) zero zero d ab l t u = absurd (omega arith)
-count_two p (x ∷ xs) zero (suc b) d ab l t u =
-    let e : ◌≡◌ {A = ℕ} (cond (p x) 1 0) 1 = ap (λ b. cond b 1 0) t in
-    omega (arith, e, count_one p xs b d (omega arith) u, sum_by-cons (λ y. cond (p y) 1 0) x xs)
-count_two p (x ∷ xs) (suc a) zero d ab l t u = absurd (omega arith)
-count_two p (x ∷ xs) (suc a) (suc b) d ab l t u =
-    omega (arith, count_two p xs a b d (omega arith) (omega arith) t u, sum_by-cons (λ y. cond (p y) 1 0) x xs)
 
 -- the first place that passes is no later than one that does
 first_below : {X : Type 0} (p : X → Bool) (xs : List X) (k : ℕ) (d : X) → k < length xs → p (get_or xs k d) ≡ true → position_or_len p xs < length xs

@@ -5,9 +5,9 @@ use Rattle.std.proofs.Common.{ap, arith, inl, inr, sym, ◌∙◌}
 use Rattle.std.proofs.lemmas.Bool.{cases_Bool, cases_lt, eq-eqb, eqb-true}
 use Rattle.std.proofs.lemmas.List.Sorted.{sum_by-IsPermutation}
 use Rattle.std.proofs.lemmas.List.Sums.{sum_by-cons}
+use Rattle.bk_laws.proofs.Counts.{count_two}
 use Rattle.bk_tiling.specs.Tiling.{Tiling, sides_of}
 use Rattle.bk_tiling.specs.declared.Square.{Square}
-use Rattle.bk_simple.proofs.Parts.{count_two}
 use Rattle.bk_simple.specs.Neighbours.{IsFirstTwice, NoneTwice}
 use Rattle.bk_simple.specs.Simple.{IsLeastRepeated, IsPerfect, IsRepeated}
 

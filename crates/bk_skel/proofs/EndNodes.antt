@@ -1,12 +1,11 @@
 -- The nodes at which squares end, found from the last node to the first.
 use Rattle.std.specs.List.{concat, list_any}
 use Rattle.std.proofs.Common.{Bool, List, [], ap, arith, cond, drop, false, length, map, nat_eq, not, refl, slice_index, slice_range, suc, sum, sym, take, true, zero, ℕ, ◌++◌, ◌+◌, ◌-◌, ◌<◌, ◌∙◌, ◌∷◌, ◌≡◌}
-use Rattle.std.proofs.lemmas.List.{drop_at, take_at}
+use Rattle.std.proofs.lemmas.List.{append_assoc, drop_at, length-append, length-map, map-append, take_at}
 use Rattle.std.proofs.lemmas.List.Sums.{sum_by-append, sum_by-cons}
-use Rattle.bk_tiling.proofs.ListLaws.{append_assoc, length_append, length_map, map_append}
-use Rattle.bk_skel.proofs.BottomChain.{concat-append}
+use Rattle.bk_word_net.proofs.BottomChain.{concat-append}
 use Rattle.bk_skel.proofs.TurnParts.{sum_lengths}
-use Rattle.bk_skel.specs.WordNet.{end_of}
+use Rattle.bk_word_net.specs.WordNet.{end_of}
 
 -- lists cut at a place
 pub record CutAt (lists : List (List ℕ)) (place : ℕ) : Type 0 where
@@ -35,11 +34,11 @@ sum_next (x ∷ xs) (suc j) h = omega (arith, sum_by-cons (λ (n : ℕ). n) x (t
 
 module _ (lists : List (List ℕ)) (j : ℕ) (c : CutAt lists j) where
   fronts : sum (take j (map length lists)) ≡ length (concat c.front)
-  fronts = ap sum (ap (take j) (ap (map length) c.whole ∙ map_append length c.front (c.here ∷ c.back)) ∙ take_at (map length c.front) (length c.here ∷ map length c.back) j (length_map length c.front ∙ c.long)) ∙ sum_lengths c.front
+  fronts = ap sum (ap (take j) (ap (map length) c.whole ∙ map-append length c.front (c.here ∷ c.back)) ∙ take_at (map length c.front) (length c.here ∷ map length c.back) j (length-map c.front length ∙ c.long)) ∙ sum_lengths c.front
 
   next : sum (take (suc j) (map length lists)) ≡ length (concat c.front) + length c.here
-  next = ap sum (ap (take (suc j)) (ap (map length) c.whole ∙ map_append length c.front (c.here ∷ c.back) ∙ sym (append_assoc (map length c.front) (length c.here ∷ []) (map length c.back)))
-      ∙ take_at (map length c.front ++ length c.here ∷ []) (map length c.back) (suc j) (omega (arith, length_append (map length c.front) (length c.here ∷ []), length_map length c.front, c.long)))
+  next = ap sum (ap (take (suc j)) (ap (map length) c.whole ∙ map-append length c.front (c.here ∷ c.back) ∙ sym (append_assoc (map length c.front) (length c.here ∷ []) (map length c.back)))
+      ∙ take_at (map length c.front ++ length c.here ∷ []) (map length c.back) (suc j) (omega (arith, length-append (map length c.front) (length c.here ∷ []), length-map c.front length, c.long)))
       ∙ sum_by-append (λ (n : ℕ). n) (map length c.front) (length c.here ∷ []) ∙ omega (arith, sum_lengths c.front, sum_by-cons (λ (n : ℕ). n) (length c.here) [])
 
   pub here_is : slice_range (concat lists) (sum (take j (map length lists))) (sum (take (suc j) (map length lists))) ≡ c.here
@@ -54,7 +53,7 @@ module _ (lists : List (List ℕ)) (j : ℕ) (c : CutAt lists j) where
   drop_here = ap (drop j) c.whole ∙ drop_at c.front (c.here ∷ c.back) j c.long
 
   drop_next : drop (suc j) lists ≡ c.back
-  drop_next = ap (drop (suc j)) (c.whole ∙ sym (append_assoc c.front (c.here ∷ []) c.back)) ∙ drop_at (c.front ++ c.here ∷ []) c.back (suc j) (omega (arith, length_append c.front (c.here ∷ []), c.long))
+  drop_next = ap (drop (suc j)) (c.whole ∙ sym (append_assoc c.front (c.here ∷ []) c.back)) ∙ drop_at (c.front ++ c.here ∷ []) c.back (suc j) (omega (arith, length-append c.front (c.here ∷ []), c.long))
 
 either : (b : Bool) (j n : ℕ) → ◌≡◌ {A = ℕ} (cond b j (suc j + n)) (j + cond (not b) (1 + n) 0)
 either true j n = omega arith
@@ -71,7 +70,7 @@ marked_node lists closed sizes j start end q old new flat long within at till ma
     marked ∙ (λ i. cond (list_any (nat_eq q) (squares i)) j (was i)) ∙ found_here c.here c.back q j ∙ ap (λ (l : List (List ℕ)). j + end_of l q) (sym (drop_here lists j c))
   where
     c : CutAt lists j
-    c = cut_at lists j (omega (arith, ap length long, length_map length lists))
+    c = cut_at lists j (omega (arith, ap length long, length-map lists length))
 
     squares : slice_range closed start end ≡ c.here
     squares = (λ i. slice_range (flat i) ((at ∙ ap (λ (l : List ℕ). sum (take j l)) long) i) ((till ∙ ap (λ (l : List ℕ). sum (take (suc j) l)) long) i)) ∙ here_is lists j c

@@ -1,13 +1,12 @@
 -- The flat lists of an outline, where a move is played and where it is taken back.
 use Rattle.std.specs.List.{concat, splice}
 use Rattle.std.proofs.Common.{List, [], ap, arith, drop, length, map, max, refl, suc, sym, ℕ, ◌++◌, ◌+◌, ◌<◌, ◌∙◌, ◌∷◌, ◌≡◌, ◌≤◌}
-use Rattle.std.proofs.lemmas.List.{drop_at, take_at}
-use Rattle.bk_tiling.proofs.ListLaws.{append_assoc, length_append}
+use Rattle.std.proofs.lemmas.List.{append_assoc, drop_at, length-append, take_at}
 use Rattle.bk_word.specs.Outline.{start}
 use Rattle.bk_word.specs.Play.{before_first_list, joined}
 use Rattle.bk_word.specs.declared.Sign.{Sign}
 use Rattle.bk_word.specs.declared.Sign.TheVariants.{Above, Even, Under}
-use Rattle.bk_skel.proofs.Shape.{AllFilled}
+use Rattle.bk_word_net.proofs.Shape.{AllFilled}
 use Rattle.bk_skel.specs.Skeleton.{joined_sizes, next_size}
 
 -- all segments have one square but the last, which has so many
@@ -47,12 +46,12 @@ sizes_joined (Above ∷ signs) s (t ∷ segments) size last e many singles = (λ
 sizes_joined (Under ∷ signs) s (t ∷ segments) size last e many singles = (λ i. e i ∷ sizes_joined signs t segments (next_size last signs) last (next_single last signs t segments many singles) (omega arith) (rest_single last t segments singles) i)
 sizes_joined (Even ∷ signs) s (t ∷ segments) size last e many singles =
     ap (map length) (joined_next signs s t segments)
-    ∙ sizes_joined signs (s ++ t) segments (size + next_size last signs) last (omega (arith, length_append s t, e, next_single last signs t segments many singles)) (omega arith) (rest_single last t segments singles)
+    ∙ sizes_joined signs (s ++ t) segments (size + next_size last signs) last (omega (arith, length-append s t, e, next_single last signs t segments many singles)) (omega arith) (rest_single last t segments singles)
 
 -- the segments that a move touches, apart: those beside the valley and the new squares between them
 singles_after : (numbers : List ℕ) (right : List (List ℕ)) → length right ≤ 1 → AllFilled right → AreSingles (max (length (concat right)) 1) (map (λ q. q ∷ []) numbers ++ right)
 singles_after [] [] one filled = tt
-singles_after [] (r ∷ []) one filled = omega (arith, length_append r [], filled.0)
+singles_after [] (r ∷ []) one filled = omega (arith, length-append r [], filled.0)
 singles_after [] (r ∷ u ∷ right) one filled = absurd (omega arith)
 singles_after (n ∷ []) [] one filled = omega arith
 singles_after (n ∷ []) (r ∷ right) one filled = (refl, singles_after [] (r ∷ right) one filled)
@@ -64,7 +63,7 @@ pub sizes_between : (left right : List (List ℕ)) (numbers : List ℕ) (signs :
     → map length (joined signs (left ++ (map (λ q. q ∷ []) numbers ++ right))) ≡ joined_sizes (max (length (concat left)) 1) (max (length (concat right)) 1) signs
 sizes_between left right [] signs one other filled full some many = absurd (omega arith)
 sizes_between [] right (n ∷ numbers) signs one other filled full some many = sizes_joined signs (n ∷ []) (map (λ q. q ∷ []) numbers ++ right) (max 0 1) (max (length (concat right)) 1) (omega arith) (omega arith) (singles_after numbers right other full)
-sizes_between (l ∷ []) right (n ∷ numbers) signs one other filled full some many = sizes_joined signs l ((n ∷ []) ∷ (map (λ q. q ∷ []) numbers ++ right)) (max (length (concat (l ∷ []))) 1) (max (length (concat right)) 1) (omega (arith, length_append l [], filled.0)) (omega arith) (singles_after (n ∷ numbers) right other full)
+sizes_between (l ∷ []) right (n ∷ numbers) signs one other filled full some many = sizes_joined signs l ((n ∷ []) ∷ (map (λ q. q ∷ []) numbers ++ right)) (max (length (concat (l ∷ []))) 1) (max (length (concat right)) 1) (omega (arith, length-append l [], filled.0)) (omega arith) (singles_after (n ∷ numbers) right other full)
 sizes_between (l ∷ u ∷ left) right (n ∷ numbers) signs one other filled full some many = absurd (omega arith)
 
 -- a part of a list gives way, and comes back
@@ -72,4 +71,4 @@ pub splice_at : {X : Type 0} (front middle back new : List X) (start end : ℕ) 
 splice_at {X = X} front middle back new start end at till = (λ i. take_at front (middle ++ back) start at i ++ (new ++ rest i))
   where
     rest : drop end (front ++ (middle ++ back)) ≡ back
-    rest = ap (drop end) (sym (append_assoc front middle back)) ∙ drop_at (front ++ middle) back end (omega (arith, length_append front middle))
+    rest = ap (drop end) (sym (append_assoc front middle back)) ∙ drop_at (front ++ middle) back end (omega (arith, length-append front middle))

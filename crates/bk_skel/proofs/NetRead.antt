@@ -2,32 +2,32 @@
 use Rattle.std.specs.List.{list_any}
 use Rattle.std.proofs.Common.{Bool, List, [], ap, arith, cond, drop, false, inl, inr, length, map, nat_eq, not, refl, replicate, slice_index, subst, suc, sum, sym, take, true, zero, zip, ℕ, ◌++◌, ◌+◌, ◌<◌, ◌∙◌, ◌∷◌, ◌≡◌, ◌≤◌, ◌⊎◌}
 use Rattle.std.proofs.lemmas.Bool.Decides.{nat_tests}
-use Rattle.std.proofs.lemmas.List.{length-take-le, take-append-drop}
+use Rattle.std.proofs.lemmas.List.{append-nil, append_assoc, length-append, length-replicate, length-take-le, map-append, take-append-drop}
 use Rattle.std.proofs.lemmas.List.Sums.{sum_by-cons}
 use Rattle.std.proofs.lemmas.List.Elements.{recursion_from_All}
-use Rattle.bk_tiling.proofs.ListLaws.{append_assoc, append_nil, length_append, map_append}
+use Rattle.bk_laws.proofs.Occurrences.{times, times-concat, times_in, times_in-append}
 use Rattle.bk_net.specs.Net.{Net}
 use Rattle.bk_word.proofs.StoredBytes.{order_more}
 use Rattle.bk_word.specs.Outline.{Outline, start, valley_of, valley_place}
 use Rattle.bk_word.specs.Play.{IsComplete, after_move, after_moves, numbers_from, outline_of}
 use Rattle.bk_word.specs.Word.{Word, order_of}
 use Rattle.bk_word.specs.declared.Sign.{Sign}
-use Rattle.bk_skel.proofs.Numbering.{Numbered, any_times, length-replicate, numbered_moves, numbered_start, times, times-concat, times_in, times_in-append, times_one}
-use Rattle.bk_skel.proofs.NoLoose.{a_word_net_has_no_loose, closed_count, hung_number}
+use Rattle.bk_word_net.proofs.Numbering.{Numbered, any_times, numbered_moves, numbered_start, times_one}
+use Rattle.bk_word_net.proofs.NoLoose.{a_word_net_has_no_loose, closed_count, hung_number}
 use Rattle.bk_skel.proofs.SkelReads.{counted_in, size_index}
 use Rattle.bk_skel.proofs.TurnParts.{sum_lengths}
 use Rattle.bk_skel.proofs.StoredMoves.{turns_many}
 use Rattle.bk_skel.specs.Skeleton.{IsStored, turns_from}
 use Rattle.bk_skel.specs.Valley.{segment_sizes}
 use Rattle.bk_skel.specs.Wiring.{AreNumbers, AreWires, closed_of, counts_of, wires_from}
-use Rattle.bk_skel.specs.WordNet.{end_of, net_of_word}
+use Rattle.bk_word_net.specs.WordNet.{end_of, net_of_word}
 use Rattle.bk_skel.specs.declared.turns.Turn.{Turn}
 
 -- how many squares the records say that each move closes and hangs
 pub closed_turns : (o : Outline) (from : ℕ) (w : Word) → map length (after_moves o w).closed ≡ map length o.closed ++ closed_of (turns_from o from w)
-closed_turns o from [] = sym (append_nil (map length o.closed))
+closed_turns o from [] = sym (append-nil (map length o.closed))
 closed_turns o from (m ∷ w) = closed_turns (after_move o m) (from + length m.signs) w
-    ∙ ap (λ (l : List ℕ). l ++ closed_of (turns_from (after_move o m) (from + length m.signs) w)) (map_append length o.closed (valley_of o ∷ []) ∙ ap (λ n. map length o.closed ++ n ∷ []) (sym (size_index o.segments (valley_place o.signs))))
+    ∙ ap (λ (l : List ℕ). l ++ closed_of (turns_from (after_move o m) (from + length m.signs) w)) (map-append length o.closed (valley_of o ∷ []) ∙ ap (λ n. map length o.closed ++ n ∷ []) (sym (size_index o.segments (valley_place o.signs))))
     ∙ append_assoc (map length o.closed) (slice_index (segment_sizes o) (valley_place o.signs) ∷ []) (closed_of (turns_from (after_move o m) (from + length m.signs) w))
 
 pub counts_turns : (o : Outline) (from : ℕ) (w : Word) → counts_of (turns_from o from w) ≡ map (λ m. m.count) w
@@ -50,10 +50,10 @@ nodes_from node [] = []
 nodes_from node (count ∷ counts) = replicate count node ++ nodes_from (node + 1) counts
 
 pub hung_nodes : (o : Outline) (w : Word) → (after_moves o w).hung ≡ o.hung ++ nodes_from (length o.closed) (map (λ m. m.count) w)
-hung_nodes o [] = sym (append_nil o.hung)
+hung_nodes o [] = sym (append-nil o.hung)
 hung_nodes o (m ∷ w) = hung_nodes (after_move o m) w
     ∙ append_assoc o.hung (replicate m.count (length o.closed)) (nodes_from (length (o.closed ++ valley_of o ∷ [])) (map (λ m. m.count) w))
-    ∙ ap (λ n. o.hung ++ (replicate m.count (length o.closed) ++ nodes_from n (map (λ m. m.count) w))) (length_append o.closed (valley_of o ∷ []))
+    ∙ ap (λ n. o.hung ++ (replicate m.count (length o.closed) ++ nodes_from n (map (λ m. m.count) w))) (length-append o.closed (valley_of o ∷ []))
 
 zip-append : {A B : Type 0} (xs : List A) (us : List B) (ys : List A) (vs : List B) → length xs ≡ length us → zip (xs ++ ys) (us ++ vs) ≡ zip xs us ++ zip ys vs
 zip-append [] [] ys vs e = refl
@@ -75,7 +75,7 @@ zip_nodes node (count ∷ counts) ends e =
     within = omega (arith, all)
 
     left : length (drop count ends) ≡ sum counts
-    left = omega (arith, all, within, ap length (take-append-drop count ends), length_append (take count ends) (drop count ends), length-take-le count ends within)
+    left = omega (arith, all, within, ap length (take-append-drop count ends), length-append (take count ends) (drop count ends), length-take-le count ends within)
 
 times_here : (xs : List ℕ) (i : ℕ) → i < length xs → 0 < times (slice_index xs i) xs
 times_here [] i h = absurd (omega arith)

@@ -15,9 +15,10 @@ use Rattle.bk_tiling.specs.declared.Square.{Square}
 use Rattle.bk_tiling.specs.declared.TheConstants.{LONGEST_SIDE}
 use Rattle.bk_word.specs.Outline.{Outline, start}
 use Rattle.bk_lay.specs.Depiction.{IsSegment, Span}
-use Rattle.bk_skel.proofs.TilingOfTurns.{is_tiling, tiles}
-use Rattle.bk_skel.proofs.NumberedValley.{numbered_bottom, segment_span}
-use Rattle.bk_skel.specs.Board.{IsClosed, IsNumber, bottom_at}
+use Rattle.bk_word_net.proofs.TilingOfTurns.{is_tiling, tiles}
+use Rattle.bk_word_net.proofs.NumberedValley.{numbered_bottom, segment_span}
+use Rattle.bk_skel.specs.Board.{IsClosed}
+use Rattle.bk_word_net.specs.LaidOutline.{IsNumber, bottom_at}
 
 module _ (width : ℕ) (laid : List Square) (numbers : List ℕ) (o : Outline) (c : IsClosed width laid numbers o) where
   pub sides : HaveSides laid

@@ -3,10 +3,10 @@
 use Rattle.std.specs.List.{AllByRecursion, concat}
 use Rattle.std.proofs.Common.{List, Some, [], ap, append_assoc, arith, drop, length, refl, slice_get, subst, suc, sum, sym, take, zero, ℕ, ◌*◌, ◌++◌, ◌+◌, ◌<◌, ◌∙◌, ◌∷◌, ◌≡◌, ◌≤◌}
 use Rattle.std.proofs.lemmas.List.Sums.{sum_by-cons}
-use Rattle.std.proofs.lemmas.List.{drop-drop, length-take-le, take-append-drop}
+use Rattle.std.proofs.lemmas.List.{append-nil, drop-drop, length-append, length-map, length-take-le, map-append, take-append-drop}
+use Rattle.bk_laws.proofs.Totals.{sum_is_total, total}
 use Rattle.bk_tiling.proofs.PuttingInOrder.{in_order}
-use Rattle.bk_tiling.proofs.ListLaws.{append_nil, length_append, length_map, map_append}
-use Rattle.bk_tiling.proofs.Rows.{laid_sides, sum_is_total, total}
+use Rattle.bk_tiling.proofs.Rows.{laid_sides}
 use Rattle.bk_tiling.proofs.Group.{group_list, length_group}
 use Rattle.bk_tiling.specs.Column.{depth}
 use Rattle.bk_tiling.specs.CodeOrder.{in_code_order}
@@ -22,14 +22,15 @@ use Rattle.bk_word.specs.Play.{AreLegalFrom, IsComplete, IsLegal, after_move, af
 use Rattle.bk_word.specs.Word.{Move, Word, order_of}
 use Rattle.bk_lay.proofs.Valleys.{one_leftmost_valley}
 use Rattle.bk_lay.specs.TilingWord.{MovesFollow}
-use Rattle.bk_skel.specs.WordFlow.{LaidAlong}
-use Rattle.bk_skel.proofs.ShownOutline.{shows_start}
-use Rattle.bk_skel.proofs.TurnsOfTiling.{AgreesAt, AgreesOn, agrees_on, agrees_start}
-use Rattle.bk_skel.proofs.TilingOfTurns.{Turns, all_deep, built, follow_turns, is_tiling}
-use Rattle.bk_skel.proofs.NumberedValley.{shows_turn}
+use Rattle.bk_word_net.specs.WordFlow.{LaidAlong}
+use Rattle.bk_word_net.proofs.ShownOutline.{shows_start}
+use Rattle.bk_word_net.proofs.TurnsOfTiling.{AgreesAt, AgreesOn, agrees_on, agrees_start}
+use Rattle.bk_word_net.proofs.TilingOfTurns.{Turns, all_deep, built, follow_turns, is_tiling}
+use Rattle.bk_word_net.proofs.NumberedValley.{shows_turn}
 use Rattle.bk_skel.proofs.PlacingTurn.{few_after, gap, known_after, low_after, numbers_after, only}
-use Rattle.bk_skel.specs.LaidTiling.{IsLaidWith}
-use Rattle.bk_skel.specs.Board.{CanLay, IsBoard, IsClosed, IsNumber, IsTurn, front_of}
+use Rattle.bk_word_net.specs.LaidTiling.{IsLaidWith}
+use Rattle.bk_skel.specs.Board.{CanLay, IsBoard, IsClosed}
+use Rattle.bk_word_net.specs.LaidOutline.{IsNumber, IsTurn, front_of}
 
 -- the width: what the sides of the first move sum to
 abbrev pub first_width : Word → List ℕ → ℕ
@@ -146,7 +147,7 @@ module _ (given : List ℕ) (all_sides : AllByRecursion IsSide given) (few : len
     order_is = ap order_of rest_is ∙ order_more m (drop (i + 1) w)
 
     left : length given ≡ length laid + length (drop (length laid) given)
-    left = ap length s.sides ∙ length_append (laid_sides laid) (drop (length laid) given) ∙ ap (λ (n : ℕ). n + length (drop (length laid) given)) (length_map (λ q. q.s) laid)
+    left = ap length s.sides ∙ length-append (laid_sides laid) (drop (length laid) given) ∙ ap (λ (n : ℕ). n + length (drop (length laid) given)) (length-map laid (λ q. q.s))
 
     fits : m.count ≤ length (drop (length laid) given)
     fits = omega (arith, left, s.many, order_is)
@@ -201,13 +202,13 @@ module _ (given : List ℕ) (all_sides : AllByRecursion IsSide given) (few : len
         group_long = length_group v.x v.level (take m.count (drop (length laid) given)) ∙ long
 
         laid_long : length (laid ++ laid_group v.x v.level (take m.count (drop (length laid) given))) ≡ length laid + m.count
-        laid_long = length_append laid (laid_group v.x v.level (take m.count (drop (length laid) given))) ∙ ap (λ (n : ℕ). length laid + n) group_long
+        laid_long = length-append laid (laid_group v.x v.level (take m.count (drop (length laid) given))) ∙ ap (λ (n : ℕ). length laid + n) group_long
 
         further : drop m.count (drop (length laid) given) ≡ drop (length (laid ++ laid_group v.x v.level (take m.count (drop (length laid) given)))) given
         further = drop-drop m.count (length laid) given ∙ ap (λ (k : ℕ). drop k given) (sym laid_long)
 
         laid_next : laid_sides (laid ++ laid_group v.x v.level (take m.count (drop (length laid) given))) ≡ laid_sides laid ++ take m.count (drop (length laid) given)
-        laid_next = map_append (λ q. q.s) laid (laid_group v.x v.level (take m.count (drop (length laid) given))) ∙ ap (λ (xs : List ℕ). laid_sides laid ++ xs) (group_list v.x v.level (take m.count (drop (length laid) given)))
+        laid_next = map-append (λ q. q.s) laid (laid_group v.x v.level (take m.count (drop (length laid) given))) ∙ ap (λ (xs : List ℕ). laid_sides laid ++ xs) (group_list v.x v.level (take m.count (drop (length laid) given)))
 
         sides_next : given ≡ laid_sides (laid ++ laid_group v.x v.level (take m.count (drop (length laid) given))) ++ drop (length (laid ++ laid_group v.x v.level (take m.count (drop (length laid) given)))) given
         sides_next = s.sides ∙ ap (λ (xs : List ℕ). laid_sides laid ++ xs) (parted ∙ ap (λ (xs : List ℕ). take m.count (drop (length laid) given) ++ xs) further)
@@ -259,7 +260,7 @@ module _ (given : List ℕ) (all_sides : AllByRecursion IsSide given) (few : len
     none_left (suc k) (x ∷ xs) e = none_left k xs (omega arith)
 
     sides_are : laid_sides laid ≡ given
-    sides_are = sym (s.sides ∙ ap (λ (xs : List ℕ). laid_sides laid ++ xs) (none_left (length laid) given all_laid) ∙ append_nil (laid_sides laid))
+    sides_are = sym (s.sides ∙ ap (λ (xs : List ℕ). laid_sides laid ++ xs) (none_left (length laid) given all_laid) ∙ append-nil (laid_sides laid))
 
     board : IsBoard (first_width w given) laid numbers (outline_of w)
     board = subst (λ (v : Word). IsBoard (first_width w given) laid numbers (after_moves start v)) (take_whole w i done).0 s.board

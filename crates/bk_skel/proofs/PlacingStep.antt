@@ -2,7 +2,7 @@
 use Rattle.std.specs.List.{AllByRecursion}
 use Rattle.std.proofs.Common.{List, Some, [], ap, arith, drop, length, refl, slice_get, subst, sum, sym, take, ℕ, ◌++◌, ◌+◌, ◌-◌, ◌<◌, ◌∙◌, ◌∷◌, ◌≡◌, ◌≤◌}
 use Rattle.std.proofs.lemmas.List.{length-take-le}
-use Rattle.bk_tiling.proofs.ListLaws.{get_some}
+use Rattle.bk_laws.proofs.ListPlaces.{get_some}
 use Rattle.bk_tiling.specs.CodeOrder.{in_code_order}
 use Rattle.bk_tiling.specs.Column.{depth}
 use Rattle.bk_tiling.specs.Kept.{IsSide}
@@ -16,8 +16,9 @@ use Rattle.bk_word.specs.Play.{IsComplete, IsLegal, after_moves, numbers_from, o
 use Rattle.bk_word.specs.Word.{Move, Word, order_of}
 use Rattle.bk_word.specs.declared.Sign.{Sign}
 use Rattle.bk_skel.proofs.PlacingLoop.{IsPlacedTo, can_lay, first_width, new_fits, placed_closed, placed_end, placed_more, placed_none, placed_start}
-use Rattle.bk_skel.specs.LaidTiling.{IsLaidWith}
-use Rattle.bk_skel.specs.Board.{CanLay, IsClosed, IsTurn, front_of}
+use Rattle.bk_word_net.specs.LaidTiling.{IsLaidWith}
+use Rattle.bk_skel.specs.Board.{CanLay, IsClosed}
+use Rattle.bk_word_net.specs.LaidOutline.{IsTurn, front_of}
 use Rattle.bk_skel.specs.TurnRecord.{SaysWhere}
 use Rattle.bk_skel.specs.declared.turns.Turn.{Turn}
 

@@ -4,27 +4,28 @@ use Rattle.std.specs.List.{AllByRecursion, concat, splice}
 use Rattle.std.proofs.Common.{List, Some, [], ap, arith, drop, false, inl, inr, length, map, refl, slice_get, slice_index_or, subst, suc, sum, sym, take, zero, ℕ, ◌*◌, ◌++◌, ◌+◌, ◌-◌, ◌<◌, ◌==◌, ◌^◌, ◌∙◌, ◌∷◌, ◌≡◌, ◌≤◌, ◌⊎◌}
 use Rattle.std.proofs.lemmas.Bool.Decides.{nat_tests}
 use Rattle.std.proofs.lemmas.List.Sums.{sum_by-cons}
-use Rattle.std.proofs.lemmas.List.{drop_at, take_at}
+use Rattle.std.proofs.lemmas.List.{append_assoc, drop_at, length-append, length-map, map-append, take_at}
+use Rattle.bk_laws.proofs.AllOfLists.{all_append, all_left, all_right}
+use Rattle.bk_laws.proofs.ListPlaces.{get_append, get_last, get_some}
 use Rattle.bk_tiling.proofs.Cells.{from_append}
 use Rattle.bk_tiling.proofs.Group.{group_top, length_group}
-use Rattle.bk_tiling.proofs.ListLaws.{append_assoc, get_some, length_append, length_map, map_append}
 use Rattle.bk_tiling.specs.Kept.{IsSide}
 use Rattle.bk_tiling.specs.SquareGroups.{laid_group}
 use Rattle.bk_tiling.specs.Tiling.{IsOneOf}
 use Rattle.bk_tiling.specs.declared.Segment.{Segment}
 use Rattle.bk_tiling.specs.declared.Square.{Square}
 use Rattle.bk_tiling.specs.declared.TheConstants.{LONGEST_SIDE, MOST_SQUARES}
-use Rattle.bk_word.proofs.ListLaws.{all_append, all_left, all_right}
 use Rattle.bk_word.proofs.PlayLists.{numbers-length}
 use Rattle.bk_word.specs.Outline.{Outline, valley_of}
 use Rattle.bk_word.specs.Play.{after_move, numbers_from}
 use Rattle.bk_word.specs.declared.Sign.{Sign}
-use Rattle.bk_lay.proofs.Steps.{get_append, get_last, one_of}
+use Rattle.bk_lay.proofs.Steps.{one_of}
 use Rattle.bk_lay.proofs.Valleys.{one_leftmost_valley}
 use Rattle.bk_lay.specs.Depiction.{Span}
 use Rattle.bk_lay.specs.TilingWord.{depth_before, depth_from, signs_between}
-use Rattle.bk_skel.proofs.NumberedValley.{Sees, SeesLeft, SeesRight, numbered_square, open_after, open_parts, sees}
-use Rattle.bk_skel.specs.Board.{CanLay, IsFittingGap, IsGap, IsNumber, IsTurn, back_of, bottom_at, columns_of, front_of, square_at}
+use Rattle.bk_word_net.proofs.NumberedValley.{Sees, SeesLeft, SeesRight, numbered_square, open_after, open_parts, sees}
+use Rattle.bk_skel.specs.Board.{CanLay, IsFittingGap, columns_of}
+use Rattle.bk_word_net.specs.LaidOutline.{IsGap, IsNumber, IsTurn, back_of, bottom_at, front_of, square_at}
 
 -- a span is as wide as the sides of its squares sum to
 pub span_columns : (laid : List Square) (level x : ℕ) (numbers : List ℕ) (end : ℕ) → Span laid level x numbers end → x + columns_of laid numbers ≡ end
@@ -61,7 +62,7 @@ gap_some width laid (n ∷ numbers) v h f = cases f.gap
 
 -- numbers of laid squares stay so, with the same squares
 known_more : (laid more : List Square) (n : ℕ) → IsNumber laid n → IsNumber (laid ++ more) n
-known_more laid more n h = (h.0, omega (arith, h.1, length_append laid more))
+known_more laid more n h = (h.0, omega (arith, h.1, length-append laid more))
 
 square_more : (laid more : List Square) (n : ℕ) → IsNumber laid n → square_at (laid ++ more) n ≡ square_at laid n
 square_more laid more n h = from (get_some laid (n - 1) (omega (arith, h.0, h.1)))
@@ -75,7 +76,7 @@ bottoms_more laid more (n ∷ numbers) known = λ i. ap (λ (q : Square). q.y + 
 
 bottoms_new : (front squares : List Square) (n : ℕ) → n ≡ length front + 1 → map (bottom_at (front ++ squares)) (numbers_from n (length squares)) ≡ map (λ q. q.y + q.s) squares
 bottoms_new front [] n e = refl
-bottoms_new front (q ∷ squares) n e = λ i. first i ∷ (rest ∙ bottoms_new (front ++ q ∷ []) squares (n + 1) (omega (arith, e, length_append front (q ∷ [])))) i
+bottoms_new front (q ∷ squares) n e = λ i. first i ∷ (rest ∙ bottoms_new (front ++ q ∷ []) squares (n + 1) (omega (arith, e, length-append front (q ∷ [])))) i
   where
     first : bottom_at (front ++ q ∷ squares) n ≡ q.y + q.s
     first = ap (λ (r : Square). r.y + r.s) (numbered_square (front ++ q ∷ squares) n q (length front, omega (arith, e), get_last front q squares))
@@ -108,7 +109,7 @@ cut_left laid front depths s = cases s.shape
   where
     cases : ((front ≡ []) × (depths ≡ [])) ⊎ ((ns : List ℕ) × ((n : ℕ) × ((front ≡ ns ++ n ∷ []) × (depths ≡ bottom_at laid n ∷ [])))) → CutLeft laid front depths
     cases (inl (none, bare)) = record { others = []; beside = []; is = none; place = omega (arith, ap length none); depths_are = bare }
-    cases (inr (ns, (n, (is, at)))) = record { others = ns; beside = n ∷ []; is = is; place = omega (arith, ap length is, length_append ns (n ∷ [])); depths_are = at }
+    cases (inr (ns, (n, (is, at)))) = record { others = ns; beside = n ∷ []; is = is; place = omega (arith, ap length is, length-append ns (n ∷ [])); depths_are = at }
 
 record CutRight (laid : List Square) (back depths : List ℕ) : Type 0 where
   beside : List ℕ
@@ -146,7 +147,7 @@ module _ (width : ℕ) (laid : List Square) (numbers : List ℕ) (first end : �
   order = omega (arith, c.first_is, c.end_is)
 
   pub within : end ≤ length numbers
-  within = omega (arith, c.end_is, ap length parts, length_append (front_of o) (valley_of o ++ back_of o), length_append (valley_of o) (back_of o))
+  within = omega (arith, c.end_is, ap length parts, length-append (front_of o) (valley_of o ++ back_of o), length-append (valley_of o) (back_of o))
 
   pub valley_is : take (end - first) (drop first numbers) ≡ valley_of o
   valley_is = ap (λ (ns : List ℕ). take (end - first) (drop first ns)) parts ∙ middle (front_of o) (valley_of o) (back_of o) first (end - first) c.first_is (omega (arith, c.first_is, c.end_is))
@@ -155,7 +156,7 @@ module _ (width : ℕ) (laid : List Square) (numbers : List ℕ) (first end : �
   front_is = ap (take first) parts ∙ take_at (front_of o) (valley_of o ++ back_of o) first (sym c.first_is)
 
   back_is : drop end numbers ≡ back_of o
-  back_is = ap (drop end) (parts ∙ sym (append_assoc (front_of o) (valley_of o) (back_of o))) ∙ drop_at (front_of o ++ valley_of o) (back_of o) end (omega (arith, c.end_is, length_append (front_of o) (valley_of o)))
+  back_is = ap (drop end) (parts ∙ sym (append_assoc (front_of o) (valley_of o) (back_of o))) ∙ drop_at (front_of o ++ valley_of o) (back_of o) end (omega (arith, c.end_is, length-append (front_of o) (valley_of o)))
 
   flat_within : gap.x + gap.width ≤ width
   flat_within = (((seen.found).valley).flat).within
@@ -198,14 +199,14 @@ module _ (width : ℕ) (laid : List Square) (numbers : List ℕ) (first end : �
   few_after = omega (
     arith,
     (c.board).few,
-    length_append (take first numbers ++ numbers_from (length laid + 1) (length new)) (drop end numbers),
-    length_append (take first numbers) (numbers_from (length laid + 1) (length new)),
+    length-append (take first numbers ++ numbers_from (length laid + 1) (length new)) (drop end numbers),
+    length-append (take first numbers) (numbers_from (length laid + 1) (length new)),
     numbers-length (length laid + 1) (length new),
     ap length front_is,
     ap length back_is,
     ap length parts,
-    length_append (front_of o) (valley_of o ++ back_of o),
-    length_append (valley_of o) (back_of o),
+    length-append (front_of o) (valley_of o ++ back_of o),
+    length-append (valley_of o) (back_of o),
   )
 
   pub numbers_after : (take first numbers ++ numbers_from (length laid + 1) (length new)) ++ drop end numbers ≡ concat (after_move o (record { count = length new; signs = signs })).segments
@@ -215,7 +216,7 @@ module _ (width : ℕ) (laid : List Square) (numbers : List ℕ) (first end : �
   group_long = length_group gap.x gap.level new
 
   long : length (laid ++ laid_group gap.x gap.level new) ≡ length laid + length new
-  long = omega (arith, length_append laid (laid_group gap.x gap.level new), group_long)
+  long = omega (arith, length-append laid (laid_group gap.x gap.level new), group_long)
 
   pub known_after : AllByRecursion (IsNumber (laid ++ laid_group gap.x gap.level new)) ((take first numbers ++ numbers_from (length laid + 1) (length new)) ++ drop end numbers)
   known_after = all_append (IsNumber (laid ++ laid_group gap.x gap.level new)) (take first numbers ++ numbers_from (length laid + 1) (length new)) (drop end numbers)
@@ -238,10 +239,10 @@ module _ (width : ℕ) (laid : List Square) (numbers : List ℕ) (first end : �
         ∙ ap (λ (ns : List ℕ). l.others ++ ns) (sym (append_assoc (l.beside ++ numbers_from (length laid + 1) (length new)) r.beside r.others))
 
     left_long : length (depth_before laid gap.x) ≡ length l.beside
-    left_long = ap length l.depths_are ∙ length_map (bottom_at laid) l.beside
+    left_long = ap length l.depths_are ∙ length-map l.beside (bottom_at laid)
 
     right_long : length (depth_from width laid (gap.x + gap.width)) ≡ length r.beside
-    right_long = ap length r.depths_are ∙ length_map (bottom_at laid) r.beside
+    right_long = ap length r.depths_are ∙ length-map r.beside (bottom_at laid)
 
     count : length signs + 1 ≡ length ((l.beside ++ numbers_from (length laid + 1) (length new)) ++ r.beside)
     count = omega (
@@ -249,8 +250,8 @@ module _ (width : ℕ) (laid : List Square) (numbers : List ℕ) (first end : �
       seen.signs (record { count = length new; signs = signs }) c.legal,
       left_long,
       right_long,
-      length_append (l.beside ++ numbers_from (length laid + 1) (length new)) r.beside,
-      length_append l.beside (numbers_from (length laid + 1) (length new)),
+      length-append (l.beside ++ numbers_from (length laid + 1) (length new)) r.beside,
+      length-append l.beside (numbers_from (length laid + 1) (length new)),
       numbers-length (length laid + 1) (length new),
     )
 
@@ -270,8 +271,8 @@ module _ (width : ℕ) (laid : List Square) (numbers : List ℕ) (first end : �
 
     bottoms : map (bottom_at (laid ++ laid_group gap.x gap.level new)) ((l.beside ++ numbers_from (length laid + 1) (length new)) ++ r.beside)
         ≡ depth_before laid gap.x ++ map (λ q. q.y + q.s) (laid_group gap.x gap.level new) ++ depth_from width laid (gap.x + gap.width)
-    bottoms = map_append (bottom_at (laid ++ laid_group gap.x gap.level new)) (l.beside ++ numbers_from (length laid + 1) (length new)) r.beside
-        ∙ ap (λ (ns : List ℕ). ns ++ map (bottom_at (laid ++ laid_group gap.x gap.level new)) r.beside) (map_append (bottom_at (laid ++ laid_group gap.x gap.level new)) l.beside (numbers_from (length laid + 1) (length new)))
+    bottoms = map-append (bottom_at (laid ++ laid_group gap.x gap.level new)) (l.beside ++ numbers_from (length laid + 1) (length new)) r.beside
+        ∙ ap (λ (ns : List ℕ). ns ++ map (bottom_at (laid ++ laid_group gap.x gap.level new)) r.beside) (map-append (bottom_at (laid ++ laid_group gap.x gap.level new)) l.beside (numbers_from (length laid + 1) (length new)))
         ∙ (λ i. ((bottoms_more laid (laid_group gap.x gap.level new) l.beside left_known ∙ sym l.depths_are) i ++ new_bottoms i) ++ (bottoms_more laid (laid_group gap.x gap.level new) r.beside right_known ∙ sym r.depths_are) i)
 
     shown : Window (laid ++ laid_group gap.x gap.level new) (take (length signs + 1) (drop (first - 1) ((take first numbers ++ numbers_from (length laid + 1) (length new)) ++ drop end numbers))) signs
@@ -292,8 +293,8 @@ module _ (width : ℕ) (laid : List Square) (numbers : List ℕ) (first end : �
       l.place,
       c.first_is,
       ap length row,
-      length_append l.others (((l.beside ++ numbers_from (length laid + 1) (length new)) ++ r.beside) ++ r.others),
-      length_append ((l.beside ++ numbers_from (length laid + 1) (length new)) ++ r.beside) r.others,
+      length-append l.others (((l.beside ++ numbers_from (length laid + 1) (length new)) ++ r.beside) ++ r.others),
+      length-append ((l.beside ++ numbers_from (length laid + 1) (length new)) ++ r.beside) r.others,
     )
 
   -- the window

@@ -1,21 +1,20 @@
 -- The flat lists of an outline, where a move is played and where it is taken back.
 use Rattle.std.specs.List.{concat, splice}
 use Rattle.std.proofs.Common.{List, [], ap, arith, cond, count_by, drop, filter, length, map, max, refl, slice_range, sym, take, ℕ, ◌++◌, ◌+◌, ◌-◌, ◌∙◌, ◌∷◌, ◌≡◌}
-use Rattle.std.proofs.lemmas.List.{drop_at, take_at}
+use Rattle.std.proofs.lemmas.List.{append-nil, append_assoc, drop_at, length-append, length-map, map-append, take_at}
 use Rattle.std.proofs.lemmas.List.Sums.{length-filter, sum_by-cons}
-use Rattle.bk_tiling.proofs.ListLaws.{append_assoc, append_nil, length_append, length_map, map_append}
 use Rattle.bk_word.proofs.PlayLists.{numbers-length}
 use Rattle.bk_word.specs.Outline.{IsLegalMove, Outline, valley_of}
 use Rattle.bk_word.specs.Play.{after_move, joined, new_squares, parts}
 use Rattle.bk_word.specs.Word.{Move}
 use Rattle.bk_word.specs.declared.Sign.{Sign}
 use Rattle.bk_word.specs.declared.Sign.TheVariants.{Above, Even, Under}
-use Rattle.bk_skel.proofs.BottomChain.{concat-append, concat-joined, concat-singles}
+use Rattle.bk_word_net.proofs.BottomChain.{concat-append, concat-joined, concat-singles}
 use Rattle.bk_skel.proofs.FlatMoves.{sizes_between, splice_at}
-use Rattle.bk_skel.proofs.MovedParts.{left_one, many_between, right_one, segments_after, signs_after, valley_is}
-use Rattle.bk_skel.proofs.Shape.{Filled, Shaped, filled_parts, valley_in}
+use Rattle.bk_word_net.proofs.MovedParts.{left_one, many_between, right_one, segments_after, signs_after, valley_is}
+use Rattle.bk_word_net.proofs.Shape.{Filled, Shaped, filled_parts, valley_in}
 use Rattle.bk_skel.proofs.TurnParts.{closed_is, first_is, left_is, right_is, sides_are, signs_before_are, sizes_before_are, start_is}
-use Rattle.bk_skel.proofs.ValleyCut.{AtValley}
+use Rattle.bk_word_net.proofs.ValleyCut.{AtValley}
 use Rattle.bk_skel.specs.Skeleton.{Shows, first_touched, joined_sizes, next_size, open_sides, signs_before, sizes_after, sizes_before, turn_at}
 use Rattle.bk_skel.specs.Valley.{segment_sizes}
 use Rattle.bk_skel.specs.declared.turns.Turn.{Turn}
@@ -48,8 +47,8 @@ module _ (o : Outline) (shaped : Shaped o) (m : Move) (legal : IsLegalMove o m) 
       ∙ sym (append_assoc (concat v.before) (concat v.left) (v.valley ++ (concat v.right ++ concat v.after)))
 
   sizes_were : segment_sizes o ≡ map length v.before ++ ((map length v.left ++ (length v.valley ∷ map length v.right)) ++ map length v.after)
-  sizes_were = ap (map length) v.segments ∙ map_append length v.before (v.left ++ (v.valley ∷ (v.right ++ v.after)))
-      ∙ ap (λ (l : List ℕ). map length v.before ++ l) (map_append length v.left (v.valley ∷ (v.right ++ v.after)) ∙ ap (λ (l : List ℕ). map length v.left ++ (length v.valley ∷ l)) (map_append length v.right v.after)
+  sizes_were = ap (map length) v.segments ∙ map-append length v.before (v.left ++ (v.valley ∷ (v.right ++ v.after)))
+      ∙ ap (λ (l : List ℕ). map length v.before ++ l) (map-append length v.left (v.valley ∷ (v.right ++ v.after)) ∙ ap (λ (l : List ℕ). map length v.left ++ (length v.valley ∷ l)) (map-append length v.right v.after)
       ∙ sym (append_assoc (map length v.left) (length v.valley ∷ map length v.right) (map length v.after)))
 
   signs_were : o.signs ≡ v.before_signs ++ ((v.left_signs ++ v.right_signs) ++ v.after_signs)
@@ -66,8 +65,8 @@ module _ (o : Outline) (shaped : Shaped o) (m : Move) (legal : IsLegalMove o m) 
       regroup a b c d e = simp append_assoc
 
   pub sizes_are : segment_sizes (after_move o m) ≡ map length v.before ++ (sizes_after turn m.signs ++ map length v.after)
-  sizes_are = ap (map length) (segments_after o v m legal) ∙ map_append length v.before (joined m.signs between ++ v.after)
-      ∙ ap (λ (l : List ℕ). map length v.before ++ l) (map_append length (joined m.signs between) v.after ∙ ap (λ (l : List ℕ). l ++ map length v.after) middle)
+  sizes_are = ap (map length) (segments_after o v m legal) ∙ map-append length v.before (joined m.signs between ++ v.after)
+      ∙ ap (λ (l : List ℕ). map length v.before ++ l) (map-append length (joined m.signs between) v.after ∙ ap (λ (l : List ℕ). l ++ map length v.after) middle)
     where
       middle : map length (joined m.signs between) ≡ sizes_after turn m.signs
       middle = sizes_between v.left v.right (new_squares o m) m.signs (left_one o v).1 (right_one o v).1 f.left f.right (omega (arith, legal.some, numbers-length (length o.hung + 1) m.count)) (many_between o v m legal)
@@ -77,26 +76,26 @@ module _ (o : Outline) (shaped : Shaped o) (m : Move) (legal : IsLegalMove o m) 
   signs_are = signs_after o v m legal
 
   pub closed_are : concat (after_move o m).closed ≡ concat o.closed ++ v.valley
-  closed_are = concat-append o.closed (valley_of o ∷ []) ∙ ap (λ (l : List ℕ). concat o.closed ++ l) (append_nil (valley_of o) ∙ valley_is o v)
+  closed_are = concat-append o.closed (valley_of o ∷ []) ∙ ap (λ (l : List ℕ). concat o.closed ++ l) (append-nil (valley_of o) ∙ valley_is o v)
 
   -- how far the parts reach
   first_long : length (concat v.before ++ concat v.left) ≡ turn.first
-  first_long = length_append (concat v.before) (concat v.left) ∙ sym (first_is o shaped m from v f)
+  first_long = length-append (concat v.before) (concat v.left) ∙ sym (first_is o shaped m from v f)
 
   closed_long : turn.first + length v.valley ≡ turn.first + turn.closed
   closed_long = omega (arith, closed_is o shaped m from v f)
 
   start_long : length (map length v.before) ≡ first_touched turn
-  start_long = length_map length v.before ∙ sym (start_is o shaped m from v f)
+  start_long = length-map v.before length ∙ sym (start_is o shaped m from v f)
 
   start_signs : length v.before_signs ≡ first_touched turn
   start_signs = sym v.before_many ∙ sym (start_is o shaped m from v f)
 
   sizes_long : first_touched turn + length (map length v.left ++ (length v.valley ∷ map length v.right)) ≡ first_touched turn + (open_sides turn + 1)
-  sizes_long = omega (arith, sides_are o shaped m from v f, length_append (map length v.left) (length v.valley ∷ map length v.right), length_map length v.left, length_map length v.right)
+  sizes_long = omega (arith, sides_are o shaped m from v f, length-append (map length v.left) (length v.valley ∷ map length v.right), length-map v.left length, length-map v.right length)
 
   signs_long : first_touched turn + length (v.left_signs ++ v.right_signs) ≡ first_touched turn + open_sides turn
-  signs_long = omega (arith, sides_are o shaped m from v f, length_append v.left_signs v.right_signs, (left_one o v).0, (right_one o v).0)
+  signs_long = omega (arith, sides_are o shaped m from v f, length-append v.left_signs v.right_signs, (left_one o v).0, (right_one o v).0)
 
   -- the lists that are stored after a move
   pub shows_move : (ends sizes : List ℕ) (signs : List Sign) (closed : List ℕ) → Shows o ends sizes signs closed
@@ -146,7 +145,7 @@ module _ (o : Outline) (shaped : Shaped o) (m : Move) (legal : IsLegalMove o m) 
       whole = s.closed_are ∙ closed_are
 
       rest : length (concat o.closed) ≡ length (concat o.closed ++ v.valley) - turn.closed
-      rest = omega (arith, length_append (concat o.closed) v.valley, closed_is o shaped m from v f)
+      rest = omega (arith, length-append (concat o.closed) v.valley, closed_is o shaped m from v f)
 
       last : drop (length closed - turn.closed) closed ≡ v.valley
       last = (λ i. drop (length (whole i) - turn.closed) (whole i)) ∙ drop_at (concat o.closed) v.valley (length (concat o.closed ++ v.valley) - turn.closed) rest

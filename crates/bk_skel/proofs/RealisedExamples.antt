@@ -11,8 +11,8 @@ use Rattle.bk_word.specs.Word.{Word}
 use Rattle.bk_word.specs.declared.Sign.TheVariants.{Even, Under}
 use Rattle.bk_lay.proofs.WordExamples.{the_word_65x47}
 use Rattle.bk_lay.proofs.WordTest.{by_tests, passes_as_valley}
-use Rattle.bk_skel.specs.LaidTiling.{IsLaidWith}
-use Rattle.bk_skel.specs.Realised.{IsFirstIllegal}
+use Rattle.bk_word_net.specs.LaidTiling.{IsLaidWith}
+use Rattle.bk_skel.specs.SolveRefusal.{IsFirstIllegal}
 
 abbrev segment : ℕ → ℕ → ℕ → Segment
 segment x width level = record { x = x; width = width; level = level }

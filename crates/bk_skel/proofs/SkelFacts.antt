@@ -2,20 +2,19 @@
 use Rattle.std.specs.List.{concat, splice}
 use Rattle.std.proofs.Common.{List, [], ap, arith, count_by, filter, inl, inr, length, map, refl, replicate, slice_range, subst, sum, sym, ℕ, ◌++◌, ◌+◌, ◌-◌, ◌∙◌, ◌∷◌, ◌≡◌, ◌≤◌, ◌⊎◌}
 use Rattle.std.proofs.lemmas.List.Sums.{length-filter}
-use Rattle.bk_tiling.proofs.ListLaws.{length_append, length_map}
+use Rattle.std.proofs.lemmas.List.{length-append, length-map, length-replicate}
 use Rattle.bk_word.proofs.StoredBytes.{order_one}
 use Rattle.bk_word.specs.Outline.{IsLegalMove, Outline, start}
 use Rattle.bk_word.specs.Play.{after_move, joined, new_squares, numbers_from, outline_of, parts}
 use Rattle.bk_word.specs.Word.{Move, Word, order_of}
 use Rattle.bk_word.specs.declared.Sign.{Sign}
 use Rattle.bk_word.specs.declared.TheConstants.{LARGEST_ORDER}
-use Rattle.bk_skel.proofs.MovedParts.{many_between, many_segments, many_signs, segments_after}
-use Rattle.bk_skel.proofs.Numbering.{length-replicate}
+use Rattle.bk_word_net.proofs.MovedParts.{many_between, many_segments, many_signs, segments_after}
 use Rattle.bk_skel.proofs.PlayedFlat.{ends_were, shows_move}
-use Rattle.bk_skel.proofs.Shape.{AllFilled, Filled, Shaped, filled_many, filled_move, filled_parts, hung_many, joined_many, shaped_move, shaped_moves, shaped_start, valley_in}
+use Rattle.bk_word_net.proofs.Shape.{AllFilled, Filled, Shaped, filled_many, filled_move, filled_parts, hung_many, joined_many, shaped_move, shaped_moves, shaped_start, valley_in}
 use Rattle.bk_skel.proofs.StoredMoves.{after-snoc, few_signs, legal-snoc, signs-snoc, turns-snoc}
 use Rattle.bk_skel.proofs.TurnParts.{closed_is, first_is, left_is, right_is, sides_are, start_is, sum_lengths}
-use Rattle.bk_skel.proofs.ValleyCut.{AtValley}
+use Rattle.bk_word_net.proofs.ValleyCut.{AtValley}
 use Rattle.bk_skel.specs.Skeleton.{IsStored, Shows, first_touched, open_sides, signs_of, sizes_after, turn_at}
 use Rattle.bk_skel.specs.Valley.{IsKeptSkeleton, segment_sizes}
 use Rattle.bk_skel.specs.declared.turns.Turn.{Turn}
@@ -46,7 +45,7 @@ counted w ends sizes signs closed kept s = record {
     hung = hung_many start w ∙ omega arith
 
     long : length sizes ≡ length (outline_of w).segments
-    long = ap length s.sizes_are ∙ length_map length (outline_of w).segments
+    long = ap length s.sizes_are ∙ length-map (outline_of w).segments length
 
     few : (length (outline_of w).segments ≡ 1) ⊎ AllFilled (outline_of w).segments → length sizes ≤ 200
     few (inl one) = omega (arith, long, one)
@@ -84,21 +83,21 @@ touches w m ends sizes signs closed from kept s legal room = record {
     f = filled_parts (outline_of w) v c.shaped
 
     long : length sizes ≡ length (outline_of w).segments
-    long = ap length s.sizes_are ∙ length_map length (outline_of w).segments
+    long = ap length s.sizes_are ∙ length-map (outline_of w).segments length
 
     squares : length ends ≡ length (concat v.before) + (length (concat v.left) + (length v.valley + (length (concat v.right) + length (concat v.after))))
     squares = ap length (s.ends_are ∙ ends_were (outline_of w) c.shaped m legal from) ∙ omega (
       arith,
-      length_append (concat v.before ++ concat v.left) (v.valley ++ (concat v.right ++ concat v.after)),
-      length_append (concat v.before) (concat v.left),
-      length_append v.valley (concat v.right ++ concat v.after),
-      length_append (concat v.right) (concat v.after),
+      length-append (concat v.before ++ concat v.left) (v.valley ++ (concat v.right ++ concat v.after)),
+      length-append (concat v.before) (concat v.left),
+      length-append v.valley (concat v.right ++ concat v.after),
+      length-append (concat v.right) (concat v.after),
     )
 
     after_long : length (after_move (outline_of w) m).segments ≡ length v.before + ((count_by parts m.signs + 1) + length v.after)
     after_long = ap length (segments_after (outline_of w) v m legal)
-        ∙ length_append v.before (joined m.signs (v.left ++ (map (λ q. q ∷ []) (new_squares (outline_of w) m) ++ v.right)) ++ v.after)
-        ∙ ap (λ n. length v.before + n) (length_append (joined m.signs (v.left ++ (map (λ q. q ∷ []) (new_squares (outline_of w) m) ++ v.right))) v.after
+        ∙ length-append v.before (joined m.signs (v.left ++ (map (λ q. q ∷ []) (new_squares (outline_of w) m) ++ v.right)) ++ v.after)
+        ∙ ap (λ n. length v.before + n) (length-append (joined m.signs (v.left ++ (map (λ q. q ∷ []) (new_squares (outline_of w) m) ++ v.right))) v.after
         ∙ ap (λ n. n + length v.after) (joined_many m.signs (v.left ++ (map (λ q. q ∷ []) (new_squares (outline_of w) m) ++ v.right)) (many_between (outline_of w) v m legal) ∙ ap (λ n. n + 1) (length-filter parts m.signs)))
 
     after_few : length (after_move (outline_of w) m).segments ≤ 200
@@ -106,7 +105,7 @@ touches w m ends sizes signs closed from kept s legal room = record {
       arith,
       filled_many (after_move (outline_of w) m).segments (filled_move (outline_of w) m legal c.shaped),
       (shaped_move (outline_of w) m legal c.shaped).counted,
-      length_append (outline_of w).hung (replicate m.count (length (outline_of w).closed)),
+      length-append (outline_of w).hung (replicate m.count (length (outline_of w).closed)),
       length-replicate m.count (length (outline_of w).closed),
       c.hung,
       room,

@@ -1,7 +1,7 @@
 -- What is read of a skeleton: its leftmost valley and its moves.
 use Rattle.std.proofs.Common.{List, Some, [], ap, arith, get_or, length, map, nat_eq, refl, slice_get, slice_index, slice_index_or, slice_range, subst, suc, sum, sym, take, zero, ℕ, ◌++◌, ◌+◌, ◌<◌, ◌∙◌, ◌∷◌, ◌≡◌, ◌≤◌}
 use Rattle.std.proofs.lemmas.List.Sums.{sum_by-take-drop}
-use Rattle.bk_tiling.proofs.ListLaws.{length_append, length_map}
+use Rattle.std.proofs.lemmas.List.{length-append, length-map}
 use Rattle.bk_word.proofs.StoredBytes.{order_more}
 use Rattle.bk_word.specs.Outline.{Outline, start, valley_of, valley_place}
 use Rattle.bk_word.specs.Play.{AreLegalFrom, after_move, outline_of}
@@ -39,7 +39,7 @@ segment_read o ends sizes signs closed place s h =
     ∙ here_is o.segments place cut ∙ sym (list_at o.segments place cut)
   where
     cut : CutAt o.segments place
-    cut = cut_at o.segments place (omega (arith, ap length s.sizes_are, length_map (length {A = ℕ}) o.segments))
+    cut = cut_at o.segments place (omega (arith, ap length s.sizes_are, length-map o.segments (length {A = ℕ})))
 
     next : sum (take place sizes) + slice_index sizes place ≡ sum (take (suc place) (map length o.segments))
     next = sym (sum_next sizes place h) ∙ ap (λ (l : List ℕ). sum (take (suc place) l)) s.sizes_are
@@ -73,12 +73,12 @@ pub turn_spans : (o : Outline) (from : ℕ) (w : Word) → AreLegalFrom o w → 
 turn_spans o from [] legal few i d h = absurd (omega arith)
 turn_spans o from (m ∷ w) legal few zero d h = record {
   order = omega arith;
-  within = omega (arith, length_append m.signs (signs_of w));
+  within = omega (arith, length-append m.signs (signs_of w));
   few = omega (arith, few_signs o m legal.0, order_more m w);
 }
 turn_spans o from (m ∷ w) legal few (suc i) d h = let r = turn_spans (after_move o m) (from + length m.signs) w legal.1 (omega (arith, order_more m w)) i d (omega arith) in record {
   order = r.order;
-  within = omega (arith, r.within, length_append m.signs (signs_of w));
+  within = omega (arith, r.within, length-append m.signs (signs_of w));
   few = r.few;
 }
 
@@ -94,7 +94,7 @@ get_map f (x ∷ xs) (suc i) d h = get_map f xs i d (omega arith)
 -- the move at a place, as it is read
 pub move_read : (w : Word) (turns : List Turn) (played read : List Sign) (i : ℕ) (d : Turn) → moves_stored turns played ≡ w → i < length w → read ≡ slice_range played (get_or turns i d).from (get_or turns i d).to
     → slice_get w i ≡ Some (record { count = (get_or turns i d).count; signs = read })
-move_read w turns played read i d whole h e = ap (λ (l : Word). slice_get l i) (sym whole) ∙ get_map (move_of played) turns i d (omega (arith, ap length whole, length_map (move_of played) turns))
+move_read w turns played read i d whole h e = ap (λ (l : Word). slice_get l i) (sym whole) ∙ get_map (move_of played) turns i d (omega (arith, ap length whole, length-map turns (move_of played)))
     ∙ (λ j. Some (record { count = (get_or turns i d).count; signs = sym e j }))
 
 -- a front of a list of numbers has no more than all

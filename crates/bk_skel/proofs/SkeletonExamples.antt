@@ -10,7 +10,8 @@ use Rattle.bk_word.specs.Play.{outline_of}
 use Rattle.bk_word.specs.Word.{Move}
 use Rattle.bk_word.specs.declared.Sign.TheVariants.{Even, Under}
 use Rattle.bk_lay.proofs.WordTest.{by_tests, passes_as_valley}
-use Rattle.bk_skel.specs.Board.{IsGap, IsTurn, back_of, bottom_at, columns_of, front_of, square_at}
+use Rattle.bk_word_net.specs.LaidOutline.{IsGap, IsTurn, back_of, bottom_at, front_of, square_at}
+use Rattle.bk_skel.specs.Board.{columns_of}
 use Rattle.bk_skel.specs.Skeleton.{Shows, first_touched, joined_sizes, moves_stored, open_sides, signs_before, signs_of, sizes_after, sizes_before, turns_from}
 use Rattle.bk_skel.specs.TurnRecord.{SaysWhere}
 use Rattle.bk_skel.specs.Valley.{leftmost_valley, segment_sizes}

@@ -1,8 +1,7 @@
 -- A word and the records and signs that are stored of it: one more move, and the last one.
 use Rattle.std.proofs.Common.{Bool, List, [], false, true, ap, arith, length, refl, slice_range, suc, sym, take, ℕ, ◌*◌, ◌++◌, ◌+◌, ◌-◌, ◌<◌, ◌∙◌, ◌∷◌, ◌≡◌, ◌≤◌}
-use Rattle.std.proofs.lemmas.List.{drop_at, take_at}
+use Rattle.std.proofs.lemmas.List.{append-nil, append_assoc, drop_at, length-append, take_at}
 use Rattle.std.proofs.lemmas.Grind.{flat_map-append}
-use Rattle.bk_tiling.proofs.ListLaws.{append_assoc, append_nil, length_append}
 use Rattle.bk_word.proofs.StoredBytes.{order_more}
 use Rattle.bk_word.specs.Outline.{IsLegalMove, Outline, has_left_wall, has_right_wall, open_side, start}
 use Rattle.bk_word.specs.Play.{AreLegalFrom, after_move, after_moves}
@@ -32,7 +31,7 @@ pub signs-cons : (n : Move) (w : Word) → signs_of (n ∷ w) ≡ n.signs ++ sig
 signs-cons n w = refl
 
 pub signs-snoc : (w : Word) (m : Move) → signs_of (w ++ m ∷ []) ≡ signs_of w ++ m.signs
-signs-snoc w m = flat_map-append (λ (m : Move). m.signs) w (m ∷ []) ∙ ap (λ (l : List Sign). signs_of w ++ l) (append_nil m.signs)
+signs-snoc w m = flat_map-append (λ (m : Move). m.signs) w (m ∷ []) ∙ ap (λ (l : List Sign). signs_of w ++ l) (append-nil m.signs)
 
 pub turns-snoc : (o : Outline) (from : ℕ) (w : Word) (m : Move) → turns_from o from (w ++ m ∷ []) ≡ turns_from o from w ++ turn_at (segment_sizes (after_moves o w)) (after_moves o w).signs m (from + length (signs_of w)) ∷ []
 turns-snoc o from [] m = ap (λ n. turn_at (segment_sizes o) o.signs m n ∷ []) (omega arith)
@@ -40,13 +39,13 @@ turns-snoc o from (n ∷ w) m = ap (λ (l : List Turn). turn_at (segment_sizes o
     ∙ ap (λ k. turns_from (after_move o n) (from + length n.signs) w ++ turn_at (segment_sizes (after_moves (after_move o n) w)) (after_moves (after_move o n) w).signs m k ∷ []) same)
   where
     same : from + length n.signs + length (signs_of w) ≡ from + length (signs_of (n ∷ w))
-    same = omega (arith, ap length (signs-cons n w), length_append n.signs (signs_of w))
+    same = omega (arith, ap length (signs-cons n w), length-append n.signs (signs_of w))
 
 -- what is stored of a word is the word
 stored_from : (o : Outline) (from : ℕ) (w : Word) (front : List Sign) → length front ≡ from → moves_stored (turns_from o from w) (front ++ signs_of w) ≡ w
 stored_from o from [] front e = refl
 stored_from o from (n ∷ w) front e = (λ i. record { count = n.count; signs = own i } ∷ moves_stored (turns_from (after_move o n) (from + length n.signs) w) (whole i))
-    ∙ ap (λ (l : Word). n ∷ l) (stored_from (after_move o n) (from + length n.signs) w (front ++ n.signs) (omega (arith, e, length_append front n.signs)))
+    ∙ ap (λ (l : Word). n ∷ l) (stored_from (after_move o n) (from + length n.signs) w (front ++ n.signs) (omega (arith, e, length-append front n.signs)))
   where
     whole : front ++ signs_of (n ∷ w) ≡ (front ++ n.signs) ++ signs_of w
     whole = sym (append_assoc front n.signs (signs_of w))
@@ -71,7 +70,7 @@ few_signs o m legal = omega (arith, legal.signs, one (has_left_wall o), one (has
 
 pub signs_many : (o : Outline) (w : Word) → AreLegalFrom o w → length (signs_of w) ≤ 2 * order_of w
 signs_many o [] legal = omega arith
-signs_many o (m ∷ w) legal = omega (arith, (legal.0).some, few_signs o m legal.0, order_more m w, signs_many (after_move o m) w legal.1, length_append m.signs (signs_of w), ap length (signs-cons m w))
+signs_many o (m ∷ w) legal = omega (arith, (legal.0).some, few_signs o m legal.0, order_more m w, signs_many (after_move o m) w legal.1, length-append m.signs (signs_of w), ap length (signs-cons m w))
 
 pub moves_many : (o : Outline) (w : Word) → AreLegalFrom o w → length w ≤ order_of w
 moves_many o [] legal = omega arith

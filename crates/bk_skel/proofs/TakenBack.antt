@@ -1,9 +1,8 @@
 -- What is stored of a skeleton whose last move is taken back.
 use Rattle.std.specs.List.{concat, splice}
 use Rattle.std.proofs.Common.{List, [], ap, arith, drop, filter, length, map, max, refl, subst, sym, take, take_all, ℕ, ◌++◌, ◌+◌, ◌-◌, ◌<◌, ◌∙◌, ◌∷◌, ◌≡◌, ◌≤◌}
-use Rattle.std.proofs.lemmas.List.{length-drop, take_at}
+use Rattle.std.proofs.lemmas.List.{length-append, length-drop, length-map, take_at}
 use Rattle.std.proofs.lemmas.List.Sums.{length-filter}
-use Rattle.bk_tiling.proofs.ListLaws.{length_append, length_map}
 use Rattle.bk_word.proofs.PlayLists.{numbers-length}
 use Rattle.bk_word.proofs.StoredBytes.{order_one}
 use Rattle.bk_word.specs.Outline.{IsLegalMove, Outline, start}
@@ -11,13 +10,13 @@ use Rattle.bk_word.specs.Play.{after_move, new_squares, outline_of, parts}
 use Rattle.bk_word.specs.Word.{Move, Word, order_of}
 use Rattle.bk_word.specs.declared.Sign.{Sign}
 use Rattle.bk_word.specs.declared.TheConstants.{LARGEST_ORDER}
-use Rattle.bk_skel.proofs.MovedParts.{many_segments}
+use Rattle.bk_word_net.proofs.MovedParts.{many_segments}
 use Rattle.bk_skel.proofs.PlayedFlat.{closed_are, ends_are, ends_were, shows_back, signs_are, sizes_after_many, sizes_are}
-use Rattle.bk_skel.proofs.Shape.{Filled, Shaped, filled_parts, shaped_moves, shaped_start, valley_in}
+use Rattle.bk_word_net.proofs.Shape.{Filled, Shaped, filled_parts, shaped_moves, shaped_start, valley_in}
 use Rattle.bk_skel.proofs.SkelFacts.{Counted, counted, snoc_one}
 use Rattle.bk_skel.proofs.StoredMoves.{Ends, after-snoc, last_move, legal-front, legal-last, signs-snoc, turns-snoc}
 use Rattle.bk_skel.proofs.TurnParts.{closed_is, first_is, sides_are, start_is}
-use Rattle.bk_skel.proofs.ValleyCut.{AtValley}
+use Rattle.bk_word_net.proofs.ValleyCut.{AtValley}
 use Rattle.bk_skel.specs.Skeleton.{IsStored, Shows, first_touched, open_sides, signs_before, signs_of, sizes_after, sizes_before, turn_at, turns_from}
 use Rattle.bk_skel.specs.Valley.{IsKeptSkeleton, segment_sizes}
 use Rattle.bk_skel.specs.declared.turns.Turn.{Turn}
@@ -59,15 +58,15 @@ module _ (front : Word) (m : Move) (kept : IsKeptSkeleton front) (legal : IsLega
   turn = turn_at (segment_sizes (outline_of front)) (outline_of front).signs m from
 
   pub closed_in : (closed : List ℕ) → closed ≡ concat (after_move (outline_of front) m).closed → turn.closed ≤ length closed
-  closed_in closed e = omega (arith, closed_is (outline_of front) c.shaped m from v f, ap length (e ∙ closed_are (outline_of front) c.shaped m legal from), length_append (concat (outline_of front).closed) v.valley)
+  closed_in closed e = omega (arith, closed_is (outline_of front) c.shaped m from v f, ap length (e ∙ closed_are (outline_of front) c.shaped m legal from), length-append (concat (outline_of front).closed) v.valley)
 
   long_ends : (ends : List ℕ) → ends ≡ concat (after_move (outline_of front) m).segments → length ends ≡ length (concat v.before) + length (concat v.left) + (m.count + (length (concat v.right) + length (concat v.after)))
   long_ends ends e = ap length (e ∙ ends_are (outline_of front) c.shaped m legal from) ∙ omega (
     arith,
-    length_append (concat v.before ++ concat v.left) (new_squares (outline_of front) m ++ (concat v.right ++ concat v.after)),
-    length_append (concat v.before) (concat v.left),
-    length_append (new_squares (outline_of front) m) (concat v.right ++ concat v.after),
-    length_append (concat v.right) (concat v.after),
+    length-append (concat v.before ++ concat v.left) (new_squares (outline_of front) m ++ (concat v.right ++ concat v.after)),
+    length-append (concat v.before) (concat v.left),
+    length-append (new_squares (outline_of front) m) (concat v.right ++ concat v.after),
+    length-append (concat v.right) (concat v.after),
     numbers-length (length (outline_of front).hung + 1) m.count,
   )
 
@@ -77,10 +76,10 @@ module _ (front : Word) (m : Move) (kept : IsKeptSkeleton front) (legal : IsLega
   long_sizes : (sizes : List ℕ) → sizes ≡ segment_sizes (after_move (outline_of front) m) → length sizes ≡ length v.before + ((turn.parted + 1) + length v.after)
   long_sizes sizes e = ap length (e ∙ sizes_are (outline_of front) c.shaped m legal from) ∙ omega (
     arith,
-    length_append (map length v.before) (sizes_after turn m.signs ++ map length v.after),
-    length_append (sizes_after turn m.signs) (map length v.after),
-    length_map (length {A = ℕ}) v.before,
-    length_map (length {A = ℕ}) v.after,
+    length-append (map length v.before) (sizes_after turn m.signs ++ map length v.after),
+    length-append (sizes_after turn m.signs) (map length v.after),
+    length-map v.before (length {A = ℕ}),
+    length-map v.after (length {A = ℕ}),
     sizes_after_many (max turn.left 1) (max turn.right 1) m.signs,
   )
 
@@ -88,13 +87,13 @@ module _ (front : Word) (m : Move) (kept : IsKeptSkeleton front) (legal : IsLega
   sizes_in sizes e = omega (arith, start_is (outline_of front) c.shaped m from v f, long_sizes sizes e)
 
   pub sizes_few : (sizes : List ℕ) → sizes ≡ segment_sizes (after_move (outline_of front) m) → length sizes - (turn.parted + 1) + (open_sides turn + 1) ≤ 200
-  sizes_few sizes e = omega (arith, sides_are (outline_of front) c.shaped m from v f, long_sizes sizes e, many_segments (outline_of front) v, length_map (length {A = ℕ}) (outline_of front).segments, c.few)
+  sizes_few sizes e = omega (arith, sides_are (outline_of front) c.shaped m from v f, long_sizes sizes e, many_segments (outline_of front) v, length-map (outline_of front).segments (length {A = ℕ}), c.few)
 
   long_signs : (signs : List Sign) → signs ≡ (after_move (outline_of front) m).signs → length signs ≡ length v.before + (turn.parted + length v.after)
   long_signs signs e = ap length (e ∙ signs_are (outline_of front) c.shaped m legal from) ∙ omega (
     arith,
-    length_append v.before_signs (filter parts m.signs ++ v.after_signs),
-    length_append (filter parts m.signs) v.after_signs,
+    length-append v.before_signs (filter parts m.signs ++ v.after_signs),
+    length-append (filter parts m.signs) v.after_signs,
     length-filter parts m.signs,
     v.before_many,
     v.after_many,
@@ -104,7 +103,7 @@ module _ (front : Word) (m : Move) (kept : IsKeptSkeleton front) (legal : IsLega
   signs_in signs e = omega (arith, start_is (outline_of front) c.shaped m from v f, long_signs signs e)
 
   pub signs_few : (signs : List Sign) → signs ≡ (after_move (outline_of front) m).signs → length signs - turn.parted + open_sides turn ≤ 200
-  signs_few signs e = omega (arith, sides_are (outline_of front) c.shaped m from v f, long_signs signs e, many_segments (outline_of front) v, length_map (length {A = ℕ}) (outline_of front).segments, c.few)
+  signs_few signs e = omega (arith, sides_are (outline_of front) c.shaped m from v f, long_signs signs e, many_segments (outline_of front) v, length-map (outline_of front).segments (length {A = ℕ}), c.few)
 
   -- the squares that stand after the move, without the new ones and with those closed, are those that stood before
   pub ends_few : (ends : List ℕ) → ends ≡ concat (after_move (outline_of front) m).segments → length ends - m.count + turn.closed ≤ 200
@@ -115,10 +114,10 @@ module _ (front : Word) (m : Move) (kept : IsKeptSkeleton front) (legal : IsLega
     kept.few,
     c.all,
     ap length (ends_were (outline_of front) c.shaped m legal from),
-    length_append (concat v.before ++ concat v.left) (v.valley ++ (concat v.right ++ concat v.after)),
-    length_append (concat v.before) (concat v.left),
-    length_append v.valley (concat v.right ++ concat v.after),
-    length_append (concat v.right) (concat v.after),
+    length-append (concat v.before ++ concat v.left) (v.valley ++ (concat v.right ++ concat v.after)),
+    length-append (concat v.before) (concat v.left),
+    length-append v.valley (concat v.right ++ concat v.after),
+    length-append (concat v.right) (concat v.after),
   )
 
 -- the last move taken back
@@ -204,4 +203,4 @@ pub front_left : {w : Word} {ends sizes : List ℕ} {signs : List Sign} {closed 
 front_left b now e = sym (take_at b.front (b.last ∷ []) (length now - 1) long) ∙ ap (take (length now - 1)) (sym b.whole ∙ e)
   where
     long : length b.front ≡ length now - 1
-    long = omega (arith, ap (length {A = Move}) e, ap (length {A = Move}) b.whole, length_append b.front (b.last ∷ []))
+    long = omega (arith, ap (length {A = Move}) e, ap (length {A = Move}) b.whole, length-append b.front (b.last ∷ []))

@@ -2,17 +2,16 @@
 use Rattle.std.specs.List.{concat}
 use Rattle.std.proofs.Common.{List, [], ap, arith, cond, inl, inr, length, map, min, nat_eq, refl, slice_index, slice_range, suc, sum, sym, take, zero, ℕ, ◌++◌, ◌+◌, ◌-◌, ◌<◌, ◌∙◌, ◌∷◌, ◌≡◌, ◌≤◌}
 use Rattle.std.proofs.lemmas.Bool.Decides.{nat_tests}
-use Rattle.std.proofs.lemmas.List.{take_at}
+use Rattle.std.proofs.lemmas.List.{append-nil, append_assoc, length-append, take_at}
 use Rattle.std.proofs.lemmas.List.Sums.{sum_by-cons}
-use Rattle.bk_tiling.proofs.ListLaws.{append_assoc, append_nil, length_append}
 use Rattle.bk_word.specs.Outline.{Outline, valley_place}
 use Rattle.bk_word.specs.Word.{Move}
 use Rattle.bk_word.specs.declared.Sign.{Sign}
 use Rattle.bk_word.specs.declared.Sign.TheVariants.{Above, Under}
-use Rattle.bk_skel.proofs.BottomChain.{concat-append}
-use Rattle.bk_skel.proofs.MovedParts.{left_one, many_signs, none_after, none_before, right_one}
-use Rattle.bk_skel.proofs.Shape.{AllFilled, Filled, Shaped}
-use Rattle.bk_skel.proofs.ValleyCut.{AtValley, Beside}
+use Rattle.bk_word_net.proofs.BottomChain.{concat-append}
+use Rattle.bk_word_net.proofs.MovedParts.{left_one, many_signs, none_after, none_before, right_one}
+use Rattle.bk_word_net.proofs.Shape.{AllFilled, Filled, Shaped}
+use Rattle.bk_word_net.proofs.ValleyCut.{AtValley, Beside}
 use Rattle.bk_skel.specs.Skeleton.{first_touched, open_sides, signs_before, sizes_before, turn_at}
 use Rattle.bk_skel.specs.Valley.{segment_sizes}
 use Rattle.bk_skel.specs.declared.turns.Turn.{Turn}
@@ -20,7 +19,7 @@ use Rattle.bk_skel.specs.declared.turns.Turn.{Turn}
 -- the sum of some lengths
 pub sum_lengths : (l : List (List ℕ)) → sum (map length l) ≡ length (concat l)
 sum_lengths [] = refl
-sum_lengths (s ∷ l) = omega (arith, sum_by-cons (λ (n : ℕ). n) (length s) (map length l), sum_lengths l, length_append s (concat l))
+sum_lengths (s ∷ l) = omega (arith, sum_by-cons (λ (n : ℕ). n) (length s) (map length l), sum_lengths l, length-append s (concat l))
 
 take_map : (n : ℕ) (l : List (List ℕ)) → take n (map length l) ≡ map length (take n l)
 take_map zero l = refl
@@ -36,7 +35,7 @@ size_at (t ∷ front) s back (suc n) e = size_at front s back n (omega arith)
 -- a segment beside a valley, or none: how many there are, by how many squares they have
 pub one_beside : (l : List (List ℕ)) → length l ≤ 1 → AllFilled l → min (length (concat l)) 1 ≡ length l
 one_beside [] one filled = omega arith
-one_beside (s ∷ []) one filled = omega (arith, length_append s [], filled.0)
+one_beside (s ∷ []) one filled = omega (arith, length-append s [], filled.0)
 one_beside (s ∷ t ∷ l) one filled = absurd (omega arith)
 
 -- the sizes of the valley and the segments beside it, of which one without squares is none
@@ -45,7 +44,7 @@ pub three_sizes : (left right : List (List ℕ)) (n : ℕ) → length left ≤ 1
 three_sizes left right n one other filled full = (λ i. slice_range (length (concat left) ∷ n ∷ length (concat right) ∷ []) (1 - one_beside left one filled i) (2 + one_beside right other full i)) ∙ cases left right one other
   where
     alone : (s : List ℕ) → length (s ++ []) ≡ length s
-    alone s = ap length (append_nil s)
+    alone s = ap length (append-nil s)
 
     cases : (left right : List (List ℕ)) → length left ≤ 1 → length right ≤ 1 → slice_range (length (concat left) ∷ n ∷ length (concat right) ∷ []) (1 - length left) (2 + length right) ≡ map length left ++ (n ∷ map length right)
     cases [] [] one other = refl
@@ -79,13 +78,13 @@ module _ (o : Outline) (shaped : Shaped o) (m : Move) (from : ℕ) (v : AtValley
   fronts = v.segments ∙ sym (append_assoc v.before v.left (v.valley ∷ (v.right ++ v.after)))
 
   place_long : length (v.before ++ v.left) ≡ valley_place o.signs
-  place_long = length_append v.before v.left ∙ sym v.place
+  place_long = length-append v.before v.left ∙ sym v.place
 
   pub first_is : (turn_at (segment_sizes o) o.signs m from).first ≡ length (concat v.before) + length (concat v.left)
   first_is = ap sum (take_map (valley_place o.signs) o.segments)
       ∙ sum_lengths (take (valley_place o.signs) o.segments)
       ∙ ap (λ (l : List (List ℕ)). length (concat l)) (ap (take (valley_place o.signs)) fronts ∙ take_at (v.before ++ v.left) (v.valley ∷ (v.right ++ v.after)) (valley_place o.signs) place_long)
-      ∙ ap length (concat-append v.before v.left) ∙ length_append (concat v.before) (concat v.left)
+      ∙ ap length (concat-append v.before v.left) ∙ length-append (concat v.before) (concat v.left)
 
   pub closed_is : (turn_at (segment_sizes o) o.signs m from).closed ≡ length v.valley
   closed_is = ap (λ (l : List (List ℕ)). slice_index (map length l) (valley_place o.signs)) fronts ∙ size_at (v.before ++ v.left) v.valley (v.right ++ v.after) (valley_place o.signs) place_long
@@ -104,7 +103,7 @@ module _ (o : Outline) (shaped : Shaped o) (m : Move) (from : ℕ) (v : AtValley
       cases (inr (s, e, g)) = none (valley_place o.signs) (slice_index (map length o.segments) (valley_place o.signs - 1)) (omega (arith, v.place, ap length e))
           ∙ ap (λ (l : List (List ℕ)). slice_index (map length l) (valley_place o.signs - 1)) (v.segments ∙ (λ i. v.before ++ (e i ++ (v.valley ∷ (v.right ++ v.after)))))
           ∙ size_at v.before s (v.valley ∷ (v.right ++ v.after)) (valley_place o.signs - 1) (omega (arith, v.place, ap length e))
-          ∙ sym (ap length (append_nil s)) ∙ sym (ap (λ (l : List (List ℕ)). length (concat l)) e)
+          ∙ sym (ap length (append-nil s)) ∙ sym (ap (λ (l : List (List ℕ)). length (concat l)) e)
 
   pub right_is : (turn_at (segment_sizes o) o.signs m from).right ≡ length (concat v.right)
   right_is = cases v.right_beside
@@ -122,8 +121,8 @@ module _ (o : Outline) (shaped : Shaped o) (m : Move) (from : ℕ) (v : AtValley
       cases (inl (e, g)) = wall (valley_place o.signs) (length o.signs) (slice_index (map length o.segments) (valley_place o.signs + 1)) (omega (arith, v.place, many_signs o v, ap length e, none_after o v (ap length e))) ∙ sym (ap (λ (l : List (List ℕ)). length (concat l)) e)
       cases (inr (s, e, g)) = none (valley_place o.signs) (length o.signs) (slice_index (map length o.segments) (valley_place o.signs + 1)) (omega (arith, v.place, many_signs o v, ap length e))
           ∙ ap (λ (l : List (List ℕ)). slice_index (map length l) (valley_place o.signs + 1)) (behind ∙ (λ i. ((v.before ++ v.left) ++ (v.valley ∷ [])) ++ (e i ++ v.after)))
-          ∙ size_at ((v.before ++ v.left) ++ (v.valley ∷ [])) s v.after (valley_place o.signs + 1) (omega (arith, length_append (v.before ++ v.left) (v.valley ∷ []), place_long))
-          ∙ sym (ap length (append_nil s)) ∙ sym (ap (λ (l : List (List ℕ)). length (concat l)) e)
+          ∙ size_at ((v.before ++ v.left) ++ (v.valley ∷ [])) s v.after (valley_place o.signs + 1) (omega (arith, length-append (v.before ++ v.left) (v.valley ∷ []), place_long))
+          ∙ sym (ap length (append-nil s)) ∙ sym (ap (λ (l : List (List ℕ)). length (concat l)) e)
 
   pub left_min : min (turn_at (segment_sizes o) o.signs m from).left 1 ≡ length v.left
   left_min = ap (λ n. min n 1) left_is ∙ one_beside v.left (left_one o v).1 f.left

@@ -2,13 +2,13 @@
 use Rattle.std.specs.List.{concat}
 use Rattle.std.proofs.Common.{List, Some, [], ap, arith, drop, length, map, refl, slice_get, slice_index_or, slice_index, slice_range, subst, suc, sum, sym, take, zero, ℕ, ◌+◌, ◌-◌, ◌<◌, ◌∙◌, ◌∷◌, ◌≡◌, ◌≤◌}
 use Rattle.std.proofs.lemmas.List.Sums.{sum_by-cons}
-use Rattle.bk_tiling.proofs.ListLaws.{length_append}
+use Rattle.std.proofs.lemmas.List.{length-append}
 use Rattle.bk_word.specs.Outline.{Outline, start, valley_of, valley_place}
 use Rattle.bk_word.specs.Play.{after_move, after_moves}
 use Rattle.bk_word.specs.Word.{Move, Word}
 use Rattle.bk_word.specs.declared.Sign.{Sign}
 use Rattle.bk_skel.proofs.StoredMoves.{signs-cons}
-use Rattle.bk_skel.specs.Board.{front_of}
+use Rattle.bk_word_net.specs.LaidOutline.{front_of}
 use Rattle.bk_skel.specs.Skeleton.{move_of, moves_stored, signs_of, turns_from}
 use Rattle.bk_skel.specs.TurnRecord.{SaysWhere}
 use Rattle.bk_skel.specs.declared.turns.Turn.{Turn}
@@ -20,7 +20,7 @@ no_turn = record { place = 0; first = 0; left = 0; closed = 0; right = 0; count 
 sizes_taken : (p : ℕ) (lists : List (List ℕ)) → sum (take p (map length lists)) ≡ length (concat (take p lists))
 sizes_taken zero lists = refl
 sizes_taken (suc p) [] = refl
-sizes_taken (suc p) (ns ∷ lists) = omega (arith, sum_by-cons (λ (n : ℕ). n) (length ns) (take p (map length lists)), sizes_taken p lists, length_append ns (concat (take p lists)))
+sizes_taken (suc p) (ns ∷ lists) = omega (arith, sum_by-cons (λ (n : ℕ). n) (length ns) (take p (map length lists)), sizes_taken p lists, length-append ns (concat (take p lists)))
 
 size_there : (p : ℕ) (lists : List (List ℕ)) → slice_index (map length lists) p ≡ length (slice_index_or lists p [])
 size_there zero [] = refl
@@ -63,8 +63,8 @@ record Within (from end : ℕ) (turn : Turn) : Type 0 where
 
 within_there : (o : Outline) (from : ℕ) (w : Word) (i : ℕ) (d : Turn) → i < length w → Within from (from + length (signs_of w)) (slice_index_or (turns_from o from w) i d)
 within_there o from [] i d h = absurd (omega arith)
-within_there o from (n ∷ w) zero d h = record { after = omega arith; order = omega arith; before = omega (arith, length_append n.signs (signs_of w), ap length (signs-cons n w)) }
-within_there o from (n ∷ w) (suc i) d h = let r = within_there (after_move o n) (from + length n.signs) w i d (omega arith) in record { after = omega (arith, r.after); order = r.order; before = omega (arith, r.before, length_append n.signs (signs_of w), ap length (signs-cons n w)) }
+within_there o from (n ∷ w) zero d h = record { after = omega arith; order = omega arith; before = omega (arith, length-append n.signs (signs_of w), ap length (signs-cons n w)) }
+within_there o from (n ∷ w) (suc i) d h = let r = within_there (after_move o n) (from + length n.signs) w i d (omega arith) in record { after = omega (arith, r.after); order = r.order; before = omega (arith, r.before, length-append n.signs (signs_of w), ap length (signs-cons n w)) }
 
 pub signs_within : (v w : Word) (turns seen : List Turn) (played : List Sign) (i : ℕ) (d : Turn) → v ≡ w → turns ≡ turns_from start 0 v → seen ≡ turns → played ≡ signs_of v → i < length w
     → ((slice_index_or seen i d).from ≤ (slice_index_or seen i d).to) × ((slice_index_or seen i d).to ≤ length played)

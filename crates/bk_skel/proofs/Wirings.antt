@@ -1,13 +1,12 @@
 -- Wires that are appended node by node.
 use Rattle.std.specs.List.{concat, list_any}
 use Rattle.std.proofs.Common.{List, [], ap, arith, cond, drop, get_or, length, map, nat_eq, refl, replicate, slice_index, subst, suc, sum, sym, take, zero, ℕ, ◌++◌, ◌+◌, ◌-◌, ◌<◌, ◌∙◌, ◌∷◌, ◌≡◌, ◌≤◌}
-use Rattle.std.proofs.lemmas.List.{drop_all}
+use Rattle.std.proofs.lemmas.List.{append_assoc, drop_all, length-map}
 use Rattle.std.proofs.lemmas.List.Sums.{sum_by-cons}
-use Rattle.bk_tiling.proofs.ListLaws.{append_assoc, length_map}
 use Rattle.bk_skel.proofs.EndNodes.{marked_node, sum_next}
-use Rattle.bk_skel.proofs.Wires.{get_replicate}
+use Rattle.bk_word_net.proofs.Wires.{get_replicate}
 use Rattle.bk_skel.specs.Wiring.{AreWires, closed_of, counts_of, wires_from}
-use Rattle.bk_skel.specs.WordNet.{end_of}
+use Rattle.bk_word_net.specs.WordNet.{end_of}
 use Rattle.bk_skel.specs.declared.turns.Turn.{Turn}
 
 -- the record that stands for none
@@ -80,12 +79,12 @@ pub none_marked : (turns : List Turn) (lists : List (List ℕ)) (ended : List �
 none_marked turns lists ended k e long h = ap (λ (l : List ℕ). slice_index l k) e ∙ get_replicate 200 (length turns) k 0 h ∙ omega (arith, ap (λ (l : List (List ℕ)). end_of l (k + 1)) none)
   where
     none : drop (length turns) lists ≡ []
-    none = drop_all (length turns) lists (omega (arith, ap length long, length_map (λ (t : Turn). t.closed) turns, length_map (length {A = ℕ}) lists))
+    none = drop_all (length turns) lists (omega (arith, ap length long, length-map turns (λ (t : Turn). t.closed), length-map lists (length {A = ℕ})))
 
 -- the squares that one node closes
 pub closed_next : (turns : List Turn) (node count end : ℕ) (d : Turn) → 0 < node → node ≤ length turns → count ≡ (get_or turns (node - 1) d).closed → end ≡ sum (take node (closed_of turns)) → end ≡ sum (take (node - 1) (closed_of turns)) + count
 closed_next turns zero count end d some within e at = absurd (omega arith)
-closed_next turns (suc node) count end d some within e at = omega (arith, at, e, sum_next (closed_of turns) node (omega (arith, length_map (λ (t : Turn). t.closed) turns)), closed_at turns node d (omega arith), same, gets)
+closed_next turns (suc node) count end d some within e at = omega (arith, at, e, sum_next (closed_of turns) node (omega (arith, length-map turns (λ (t : Turn). t.closed))), closed_at turns node d (omega arith), same, gets)
   where
     back : suc node - 1 ≡ node
     back = omega arith
@@ -103,7 +102,7 @@ pub mark_next : (turns : List Turn) (lists : List (List ℕ)) (closed ended new 
 mark_next turns lists closed ended new zero count end k d some within e at flat long marked before = absurd (omega arith)
 mark_next turns lists closed ended new (suc node) count end k d some within e at flat long marked before =
     subst (λ (n : ℕ). slice_index new k ≡ n + end_of (drop n lists) (k + 1)) (sym back)
-    (marked_node lists closed (closed_of turns) node (end - count) end (k + 1) (slice_index ended k) (slice_index new k) flat long (omega (arith, length_map (λ (t : Turn). t.closed) turns))
+    (marked_node lists closed (closed_of turns) node (end - count) end (k + 1) (slice_index ended k) (slice_index new k) flat long (omega (arith, length-map turns (λ (t : Turn). t.closed)))
     (omega (arith, closed_next turns (suc node) count end d some within e at, ap (λ n. sum (take n (closed_of turns))) back)) at
     (marked ∙ ap (λ n. cond (list_any (nat_eq (k + 1)) (take (end - (end - count)) (drop (end - count) closed))) n (slice_index ended k)) back) before)
   where

@@ -4,7 +4,7 @@ use Rattle.std.specs.Prelude.{Some, length, slice_get, take, ℕ, ◌≡◌}
 use Rattle.bk_word.specs.Outline.{valley_of}
 use Rattle.bk_word.specs.Play.{outline_of}
 use Rattle.bk_word.specs.Word.{Move, Word}
-use Rattle.bk_skel.specs.Board.{front_of}
+use Rattle.bk_word_net.specs.LaidOutline.{front_of}
 use Rattle.bk_skel.specs.declared.turns.Turn.{Turn}
 
 -- how many squares the move at place i hangs, and where its valley's squares stood among the open ones

@@ -2,7 +2,7 @@
 
 ghost use Rattle.std.specs.List.{concat, list_any};
 ghost use Rattle.std.specs.Prelude.{List, cond, length, map, nat_eq, replicate, slice_index, sum, ℕ, ◌+◌, ◌++◌, ◌<◌, ◌≡◌, ◌≤◌};
-ghost use Rattle.bk_skel.specs.WordNet.{end_of};
+ghost use Rattle.bk_word_net.specs.WordNet.{end_of};
 ghost use Rattle.bk_skel.specs.Wiring.{AreNumbers, AreWires, closed_of, counts_of, wires_from};
 
 use crate::turns::Turn;

@@ -13,8 +13,9 @@ ghost use Rattle.bk_word.specs.Outline.{Outline};
 ghost use Rattle.bk_word.specs.Play.{IsComplete, numbers_from};
 ghost use Rattle.bk_word.specs.Word.{order_of};
 ghost use Rattle.bk_lay.specs.TilingWord.{sign_between, signs_between};
-ghost use Rattle.bk_skel.specs.LaidTiling.{IsLaidWith};
-ghost use Rattle.bk_skel.specs.Board.{CanLay, IsClosed, IsFittingGap, IsNumber, IsTurn, bottom_at, columns_of, square_at};
+ghost use Rattle.bk_word_net.specs.LaidTiling.{IsLaidWith};
+ghost use Rattle.bk_skel.specs.Board.{CanLay, IsClosed, IsFittingGap, columns_of};
+ghost use Rattle.bk_word_net.specs.LaidOutline.{IsNumber, IsTurn, bottom_at, square_at};
 
 use crate::skeleton::Skel;
 use crate::splicing::splice_numbers;

@@ -6,9 +6,10 @@ ghost use Rattle.bk_net.specs.Flow.{IsPrimitiveFlow};
 ghost use Rattle.bk_tiling.specs.Kept.{IsSide};
 ghost use Rattle.bk_word.specs.Play.{IsComplete, IsLegal};
 ghost use Rattle.bk_word.specs.Word.{order_of};
-ghost use Rattle.bk_skel.specs.Realised.{IsFirstIllegal, IsRealised, IsSolveFault};
-ghost use Rattle.bk_skel.specs.WideWord.{HasLargeCurrent, IsWideWord};
-ghost use Rattle.bk_skel.specs.WordNet.{net_of_word};
+ghost use Rattle.bk_skel.specs.SolveRefusal.{IsFirstIllegal, IsSolveFault};
+ghost use Rattle.bk_word_net.specs.Realised.{IsRealised};
+ghost use Rattle.bk_word_net.specs.WideWord.{HasLargeCurrent, IsWideWord};
+ghost use Rattle.bk_word_net.specs.WordNet.{net_of_word};
 
 use crate::placing::placed;
 use crate::skeleton::Skel;

@@ -12,7 +12,7 @@ ghost use Rattle.bk_word.specs.Play.{IsComplete, outline_of};
 ghost use Rattle.bk_word.specs.Word.{Move as SeenMove, order_of};
 ghost use Rattle.bk_skel.specs.Valley.{IsKeptSkeleton, leftmost_valley, segment_sizes};
 ghost use Rattle.bk_skel.specs.TurnRecord.{SaysWhere};
-ghost use Rattle.bk_skel.specs.WordNet.{net_of_word};
+ghost use Rattle.bk_word_net.specs.WordNet.{net_of_word};
 
 use crate::counting::Steps;
 use crate::netting::{end_nodes, wired};

@@ -6,8 +6,8 @@ use Rattle.std.specs.declared.cmp.Ordering.{Ordering}
 use Rattle.std.specs.declared.cmp.Ordering.TheVariants.{Equal, Greater, Less}
 use Rattle.std.proofs.Common.{Bool, List, [], ap, arith, cond, false, inl, inr, length, map, refl, subst, sym, true, ℕ, ◌*◌, ◌+◌, ◌<◌, ◌∙◌, ◌∷◌, ◌≡◌, ◌≤◌, ◌⊎◌}
 use Rattle.std.proofs.lemmas.Bool.Decides.{nat_tests}
+use Rattle.bk_laws.proofs.Products.{mul_one}
 use Rattle.bk_tiling.proofs.EnlargedTilings.{enlarged-once}
-use Rattle.bk_tiling.proofs.Scaling.{mul_one}
 use Rattle.bk_tiling.specs.CodeOrder.{comes_before, in_code_order, with_square}
 use Rattle.bk_tiling.specs.Scale.{enlarged, enlarged_square}
 use Rattle.bk_tiling.specs.Tiling.{IsTiling, Tiling}

@@ -3,9 +3,8 @@ use Rattle.std.specs.List.{AllByRecursion}
 use Rattle.std.specs.Prelude.{◌/◌, ◌^◌}
 use Rattle.std.proofs.Common.{List, [], ap, arith, length, map, refl, subst, sym, take, ℕ, ◌<◌, ◌∙◌, ◌∷◌, ◌≡◌, ◌≤◌}
 use Rattle.std.proofs.Math.Nat.{div-le_self}
-use Rattle.std.proofs.lemmas.List.{take_all}
+use Rattle.std.proofs.lemmas.List.{length-map, take_all}
 use Rattle.bk_tiling.proofs.Cells.{all_from, in_all}
-use Rattle.bk_tiling.proofs.ListLaws.{length_map}
 use Rattle.bk_tiling.proofs.OrderLaws.{in_code_order-length}
 use Rattle.bk_tiling.proofs.PuttingInOrder.{from_order}
 use Rattle.bk_tiling.specs.Kept.{IsKept, IsSide}
@@ -49,7 +48,7 @@ size_fits SwapHalf w h most a b = (b, a)
 pub kept_image : (turn : Turn) (t : Tiling) → IsKept t → IsKept (image turn t)
 kept_image turn t kept = record {
   tiling = images_are_tilings t turn kept.tiling;
-  few = omega (arith, kept.few, in_code_order-length (map (image_square turn t.width t.height) t.squares), length_map (image_square turn t.width t.height) t.squares);
+  few = omega (arith, kept.few, in_code_order-length (map (image_square turn t.width t.height) t.squares), length-map t.squares (image_square turn t.width t.height));
   sides = all_from (λ q. IsSide q.s) (image turn t).squares (λ p h. let found = side_from_image turn t p h in
       subst IsSide (sym found.2) (in_all (λ q. IsSide q.s) t.squares kept.sides found.0 found.1));
   width_fits = (size_fits turn t.width t.height (2 ^ 64) kept.width_fits kept.height_fits).0;
@@ -65,7 +64,7 @@ sides_divided g (q ∷ squares) sides some = ((some.0, omega (arith, sides.0.1, 
 pub kept_scaled : (t : Tiling) → IsKept t → IsKept (scaled_down_tiling t)
 kept_scaled t kept = record {
   tiling = scaled_is_tiling t kept.tiling;
-  few = subst (λ n. n ≤ MOST_SQUARES) (sym (length_map (λ q. record { x = q.x / side_divisor t; y = q.y / side_divisor t; s = q.s / side_divisor t }) t.squares)) kept.few;
+  few = subst (λ n. n ≤ MOST_SQUARES) (sym (length-map t.squares (λ q. record { x = q.x / side_divisor t; y = q.y / side_divisor t; s = q.s / side_divisor t }))) kept.few;
   sides = sides_divided (side_divisor t) t.squares kept.sides (scaled_is_tiling t kept.tiling).tiles.sides;
   width_fits = omega (arith, kept.width_fits, div-le_self t.width (side_divisor t));
   height_fits = omega (arith, kept.height_fits, div-le_self t.height (side_divisor t));

@@ -10,3 +10,5 @@ pub mod KeptImages
 pub mod Greatest
 pub mod OwnCanonical
 pub mod AlikeLaws
+pub mod GreatestImage
+pub mod CanonicalPrimitive

@@ -2,8 +2,9 @@
 use Rattle.std.proofs.Common.{Bool, List, [], ap, arith, cond, false, inl, inr, map, refl, sym, true, ℕ, ◌*◌, ◌+◌, ◌-◌, ◌<◌, ◌∙◌, ◌∷◌, ◌≡◌, ◌≤◌, ◌⊎◌}
 use Rattle.std.proofs.Math.Nat.{mul-le-mul_left}
 use Rattle.std.proofs.lemmas.Bool.{both_ways, cases_Bool, cases_lt}
+use Rattle.bk_laws.proofs.Products.{mul_below, mul_one}
 use Rattle.bk_frac.specs.Divisor.{gcd, gcd_of}
-use Rattle.bk_tiling.proofs.Scaling.{before_cases, before_from, mul_below, mul_one}
+use Rattle.bk_tiling.proofs.Scaling.{before_cases, before_from}
 use Rattle.bk_tiling.proofs.TilingLaws.{within_of}
 use Rattle.bk_tiling.specs.CodeOrder.{comes_before, in_code_order, with_square}
 use Rattle.bk_tiling.specs.Scale.{enlarged, enlarged_square}

@@ -1,7 +1,7 @@
 -- A tiling is canonical exactly where it lies, is in lowest terms, and is the greatest of its images.
 use Rattle.std.proofs.Common.{ap, arith, subst, sym, ℕ, ◌*◌, ◌∙◌, ◌≡◌}
+use Rattle.bk_laws.proofs.Products.{mul_one}
 use Rattle.bk_tiling.proofs.EnlargedTilings.{enlarged-once}
-use Rattle.bk_tiling.proofs.Scaling.{mul_one}
 use Rattle.bk_tiling.specs.Scale.{enlarged}
 use Rattle.bk_tiling.specs.Tiling.{IsTiling, Tiling}
 use Rattle.bk_sym.proofs.CanonicalLaws.{own_canonical}

@@ -6,9 +6,10 @@ use Rattle.std.proofs.Common.{List, [], ap, arith, inl, inr, length, map, refl, 
 use Rattle.std.proofs.Math.Nat.{dvd-add, mul-div_cancel', mul-le-mul_left}
 use Rattle.std.proofs.lemmas.Bool.{cases_lt}
 use Rattle.std.proofs.lemmas.Nat.Gcd.{dvd-zero}
+use Rattle.std.proofs.lemmas.List.{length-map}
+use Rattle.bk_laws.proofs.Products.{mul_below, mul_not_below, mul_one}
 use Rattle.bk_tiling.proofs.Cells.{all_from, counted_one, covers_from, no_two, over_from}
-use Rattle.bk_tiling.proofs.ListLaws.{length_map}
-use Rattle.bk_tiling.proofs.Scaling.{before_cases, before_from, in_enlarged, mul_below, mul_not_below, mul_one}
+use Rattle.bk_tiling.proofs.Scaling.{before_cases, before_from, in_enlarged}
 use Rattle.bk_tiling.proofs.TilingLaws.{cell_once, side_of, wide_enough, within_of}
 use Rattle.bk_tiling.specs.CodeOrder.{InCodeOrder, comes_before}
 use Rattle.bk_tiling.specs.Scale.{enlarged, enlarged_square}
@@ -30,7 +31,7 @@ mul_below_back k a b h = cases (cases_lt a b)
 pub scaled_down_is : (k : ℕ) (t : Tiling) → 0 < k → IsTiling (enlarged k t) → IsTiling t
 scaled_down_is k t h tiling = record {
   tiles = record {
-    some = omega (arith, (tiling.tiles).some, length_map (enlarged_square k) t.squares);
+    some = omega (arith, (tiling.tiles).some, length-map t.squares (enlarged_square k));
     sides = all_from (λ q. 0 < q.s) t.squares (λ q m. mul_below_back k 0 q.s (omega (arith, side_of (enlarged k t) tiling (enlarged_square k q) (in_enlarged k t.squares q m))));
     within = all_from (IsWithin (whole t)) t.squares (λ q m. let w = within_of (enlarged k t) tiling (enlarged_square k q) (in_enlarged k t.squares q m) in
         record { left = omega arith; right = mul_not_below k (q.x + q.s) (0 + t.width) (omega (arith, w.right)) h; top = omega arith; bottom = mul_not_below k (q.y + q.s) (0 + t.height) (omega (arith, w.bottom)) h });

@@ -1,6 +1,6 @@
 -- Tilings enlarged: twice, by one, and the tiling that was enlarged.
 use Rattle.std.proofs.Common.{List, [], ap, arith, map, refl, ℕ, ◌*◌, ◌<◌, ◌∷◌, ◌≡◌}
-use Rattle.bk_tiling.proofs.Scaling.{mul_one}
+use Rattle.bk_laws.proofs.Products.{mul_one}
 use Rattle.bk_tiling.specs.Scale.{enlarged, enlarged_square}
 use Rattle.bk_tiling.specs.Tiling.{Tiling}
 use Rattle.bk_tiling.specs.declared.Square.{Square}

@@ -4,8 +4,8 @@ use Rattle.std.specs.List.{AllByRecursion}
 use Rattle.std.proofs.Common.{Bool, List, [], ap, arith, cond, count_by, false, inl, inr, length, map, max, refl, subst, sum, sym, true, ℕ, ◌++◌, ◌+◌, ◌<◌, ◌∙◌, ◌∷◌, ◌≡◌, ◌≤◌, ◌⊎◌}
 use Rattle.std.proofs.lemmas.Bool.{cases_lt}
 use Rattle.std.proofs.lemmas.List.Sums.{sum_by-append}
+use Rattle.bk_laws.proofs.Totals.{sum_is_total, total}
 use Rattle.bk_tiling.proofs.Cells.{column_from, column_left, column_right, count-cons, covers_from, depth_reaches, none_counted, over_from}
-use Rattle.bk_tiling.proofs.Rows.{sum_is_total, total}
 use Rattle.bk_tiling.specs.Column.{covers_column, depth}
 use Rattle.bk_tiling.specs.Tiling.{IsOneOf, covers}
 use Rattle.bk_tiling.specs.declared.Square.{Square}

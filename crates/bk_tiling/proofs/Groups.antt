@@ -3,7 +3,8 @@
 use Rattle.std.specs.List.{AllByRecursion, flat_map, onto_first}
 use Rattle.std.proofs.Common.{Bool, List, [], ap, arith, cond, false, inl, inr, refl, subst, sym, true, ℕ, ◌+◌, ◌<◌, ◌∙◌, ◌∷◌, ◌≡◌, ◌⊎◌}
 use Rattle.std.proofs.lemmas.Bool.Decides.{nat_tests}
-use Rattle.bk_tiling.proofs.Cells.{covers_from, in_all, not_both, true_or_false}
+use Rattle.std.proofs.lemmas.Bool.{both_ways, cases_Bool}
+use Rattle.bk_tiling.proofs.Cells.{covers_from, in_all}
 use Rattle.bk_tiling.proofs.Rows.{Chain, chain_order, laid_sides}
 use Rattle.bk_tiling.proofs.Scaling.{before_cases}
 use Rattle.bk_tiling.specs.CodeOrder.{InCodeOrder, comes_before, stands_beside}
@@ -155,11 +156,11 @@ module _ (p r : Square) (squares : List Square) (a : Apart (p ∷ r ∷ squares)
       where
         right : (z : Square) → IsOneOf z (p ∷ r ∷ squares) → z.y ≡ p.y → z.x ≡ p.x + p.s → ⊥
         right z (inl same) ey ex = omega (arith, p_side, ex, ap (λ (q : Square). q.x) same)
-        right z (inr (inl same)) ey ex = not_both (stands_beside p r) (beside_from p r (sym ey ∙ ap (λ (q : Square). q.y) same) (sym ex ∙ ap (λ (q : Square). q.x) same)) e
+        right z (inr (inl same)) ey ex = both_ways (stands_beside p r) e (beside_from p r (sym ey ∙ ap (λ (q : Square). q.y) same) (sym ex ∙ ap (λ (q : Square). q.x) same))
         right z (inr (inr h)) ey ex = no_later z h (sym ey) (sym ex)
 
         left : (z : Square) → IsOneOf z (p ∷ r ∷ squares) → z.y ≡ s.row.first.y → z.x + z.s ≡ s.row.first.x → ⊥
-        left z (inl same) ey ex = not_both (stands_beside p r) (beside_from p r (sym (ap (λ (q : Square). q.y) same) ∙ ey ∙ ap (λ (q : Square). q.y) s.first) (sym (ap (λ (q : Square). q.x + q.s) same) ∙ ex ∙ ap (λ (q : Square). q.x) s.first)) e
+        left z (inl same) ey ex = both_ways (stands_beside p r) e (beside_from p r (sym (ap (λ (q : Square). q.y) same) ∙ ey ∙ ap (λ (q : Square). q.y) s.first) (sym (ap (λ (q : Square). q.x + q.s) same) ∙ ex ∙ ap (λ (q : Square). q.x) s.first))
         left z (inr (inl same)) ey ex = omega (arith, r_side, ex, ap (λ (q : Square). q.x) s.first, ap (λ (q : Square). q.x + q.s) same)
         left z (inr (inr h)) ey ex = by (before_cases r z (second_before z h))
           where
@@ -184,7 +185,7 @@ split p [] a = record {
     right : (z : Square) → IsOneOf z (p ∷ []) → z.y ≡ p.y → z.x ≡ p.x + p.s → ⊥
     right z (inl same) ey ex = omega (arith, a.sides p (inl refl), ex, ap (λ (q : Square). q.x) same)
     right z (inr h) ey ex = h
-split p (r ∷ squares) a = cases (true_or_false (stands_beside p r)) (split r squares (tail_apart p (r ∷ squares) a))
+split p (r ∷ squares) a = cases (cases_Bool (stands_beside p r)) (split r squares (tail_apart p (r ∷ squares) a))
   where
     cases : (stands_beside p r ≡ true) ⊎ (stands_beside p r ≡ false) → Split r squares → Split p (r ∷ squares)
     cases (inl e) s = joined p r squares a s e

@@ -1,9 +1,9 @@
 -- Squares that tile two parts of a rectangle tile it together.
 use Rattle.std.proofs.Common.{Bool, List, [], ap, arith, cond, count_by, inl, inr, true, ℕ, ◌++◌, ◌+◌, ◌<◌, ◌∷◌, ◌≡◌, ◌≤◌, ◌⊎◌}
 use Rattle.std.proofs.lemmas.List.Sums.{sum_by-append}
-use Rattle.bk_tiling.proofs.AllOfLists.{all_append}
+use Rattle.std.proofs.lemmas.List.{length-append}
+use Rattle.bk_laws.proofs.AllOfLists.{all_append}
 use Rattle.bk_tiling.proofs.Cells.{all_from, count-cons, covers_from, in_all, none_counted, over_from}
-use Rattle.bk_tiling.proofs.ListLaws.{length_append}
 use Rattle.bk_tiling.specs.Tiling.{IsOneOf, IsWithin, Rectangle, Tiles, covers}
 use Rattle.bk_tiling.specs.declared.Square.{Square}
 
@@ -52,7 +52,7 @@ count-append i j p q = sum_by-append (λ (s : Square). cond {A = ℕ} (covers i 
 
 pub tiles_joined : (r a b : Rectangle) (p q : List Square) → IsPart r a → IsPart r b → Splits r a b → Tiles a p → Tiles b q → Tiles r (p ++ q)
 tiles_joined r a b p q in_a in_b splits first second = record {
-  some = omega (arith, length_append p q, first.some);
+  some = omega (arith, length-append p q, first.some);
   sides = all_append (λ s. 0 < s.s) p q first.sides second.sides;
   within = all_append (IsWithin r) p q (all_from (IsWithin r) p (λ s h. within_part r a s in_a (in_all (IsWithin a) p first.within s h)))
       (all_from (IsWithin r) q (λ s h. within_part r b s in_b (in_all (IsWithin b) q second.within s h)));

@@ -2,13 +2,11 @@ pub mod Cells
 pub mod TilingLaws
 pub mod TilingTest
 pub mod OrderLaws
-pub mod ColumnTest
 pub mod ExampleTilings
 pub mod TilingExamples
 pub mod LargeExamples
 pub mod Members
 pub mod Scaling
-pub mod ListLaws
 pub mod Rows
 pub mod NextCorner
 pub mod Group
@@ -26,4 +24,3 @@ pub mod MovedSquares
 pub mod PairCounts
 pub mod GroupCount
 pub mod EnlargedTilings
-pub mod AllOfLists

@@ -2,8 +2,8 @@
 use Rattle.std.specs.List.{AllByRecursion}
 use Rattle.std.proofs.Common.{Bool, List, [], ap, arith, cond, count_by, map, nat_le, nat_lt, refl, subst, ℕ, ◌&&◌, ◌+◌, ◌-◌, ◌<◌, ◌∙◌, ◌∷◌, ◌≡◌, ◌≤◌}
 use Rattle.std.proofs.lemmas.Bool.Decides.{nat_tests}
+use Rattle.std.proofs.lemmas.List.{length-map}
 use Rattle.bk_tiling.proofs.Cells.{count-cons}
-use Rattle.bk_tiling.proofs.ListLaws.{length_map}
 use Rattle.bk_tiling.specs.Scale.{moved_square}
 use Rattle.bk_tiling.specs.Tiling.{IsWithin, Rectangle, Tiles, covers}
 use Rattle.bk_tiling.specs.declared.Square.{Square}
@@ -38,7 +38,7 @@ all_moved P Q right down f (q ∷ squares) all = (f q all.0, all_moved P Q right
 
 pub tiles_moved : (right down : ℕ) (r : Rectangle) (squares : List Square) → Tiles r squares → Tiles (moved_rectangle right down r) (map (moved_square right down) squares)
 tiles_moved right down r squares tiles = record {
-  some = omega (arith, length_map (moved_square right down) squares, tiles.some);
+  some = omega (arith, length-map squares (moved_square right down), tiles.some);
   sides = all_moved (λ q. 0 < q.s) (λ q. 0 < q.s) right down (λ q some. some) squares tiles.sides;
   within = all_moved (IsWithin r) (IsWithin (moved_rectangle right down r)) right down within squares tiles.within;
   once = λ i j left right' top bottom. once i j left right' top bottom;

@@ -1,7 +1,8 @@
 -- Squares put into the order of a code: the same squares, and in order where each lies alone over its first cell.
 use Rattle.std.specs.List.{AllByRecursion}
 use Rattle.std.proofs.Common.{Bool, List, [], ap, arith, cond, count_by, false, inl, inr, refl, subst, sym, true, ℕ, ◌+◌, ◌<◌, ◌∙◌, ◌∷◌, ◌≡◌, ◌≤◌, ◌⊎◌}
-use Rattle.bk_tiling.proofs.Cells.{all_from, count-cons, covers_from, in_all, not_both, one_counted, true_or_false}
+use Rattle.std.proofs.lemmas.Bool.{both_ways, cases_Bool}
+use Rattle.bk_tiling.proofs.Cells.{all_from, count-cons, covers_from, in_all, one_counted}
 use Rattle.bk_tiling.proofs.OrderLaws.{AreApart, comes_before-trans}
 use Rattle.bk_tiling.proofs.Scaling.{before_from}
 use Rattle.bk_tiling.specs.CodeOrder.{InCodeOrder, comes_before, in_code_order, with_square}
@@ -48,7 +49,7 @@ in_order (q ∷ squares) p (inr k) = in_with q (in_code_order squares) p (inr (i
 
 with_ordered : (q : Square) (squares : List Square) → ((r : Square) → IsOneOf r squares → AreApart q r) → InCodeOrder squares → InCodeOrder (with_square q squares)
 with_ordered q [] apart o = (tt, tt)
-with_ordered q (r ∷ squares) apart o = cases (true_or_false (comes_before q r)) (with_ordered q squares (λ p h. apart p (inr h)) o.1)
+with_ordered q (r ∷ squares) apart o = cases (cases_Bool (comes_before q r)) (with_ordered q squares (λ p h. apart p (inr h)) o.1)
   where
     cases : (comes_before q r ≡ true) ⊎ (comes_before q r ≡ false) → InCodeOrder (with_square q squares) → InCodeOrder (cond (comes_before q r) (q ∷ r ∷ squares) (r ∷ with_square q squares))
     cases (inl e) rest = subst (λ (b : Bool). InCodeOrder (cond b (q ∷ r ∷ squares) (r ∷ with_square q squares))) (sym e)
@@ -57,7 +58,7 @@ with_ordered q (r ∷ squares) apart o = cases (true_or_false (comes_before q r)
         (all_from (λ p. comes_before r p ≡ true) (with_square q squares) (λ p h. first p (from_with q squares p h)), rest)
       where
         other : AreApart q r → comes_before r q ≡ true
-        other (inl f) = absurd (not_both (comes_before q r) f e)
+        other (inl f) = absurd (both_ways (comes_before q r) e f)
         other (inr f) = f
 
         first : (p : Square) → (p ≡ q) ⊎ IsOneOf p squares → comes_before r p ≡ true

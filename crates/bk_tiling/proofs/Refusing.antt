@@ -7,7 +7,8 @@ use Rattle.std.proofs.Common.{Bool, List, [], ap, arith, cond, count_by, false, 
 use Rattle.std.proofs.lemmas.Cmp.{nat_cmp_total, on_total, then_total}
 use Rattle.std.proofs.lemmas.List.Elements.{recursion_from_All}
 use Rattle.std.proofs.lemmas.List.Sorted.{All-permutation, IsPermutation-sym, ranks_by, sorted_far, sum_by-IsPermutation}
-use Rattle.bk_tiling.proofs.Cells.{all_from, count-cons, covers_from, in_all, none_counted, not_both, one_counted, over_from, true_or_false}
+use Rattle.std.proofs.lemmas.Bool.{both_ways, cases_Bool}
+use Rattle.bk_tiling.proofs.Cells.{all_from, count-cons, covers_from, in_all, none_counted, one_counted, over_from}
 use Rattle.bk_tiling.proofs.Group.{covers_one}
 use Rattle.bk_tiling.proofs.Members.{one_at}
 use Rattle.bk_tiling.proofs.OrderLaws.{before_by_rank}
@@ -96,7 +97,7 @@ strictly (q ∷ squares) some once sorted = (
       where
         cases : ((q.y < r.y) ⊎ ((q.y ≡ r.y) × (q.x < r.x))) ⊎ ((r.y < q.y) ⊎ ((r.y ≡ q.y) × (r.x < q.x))) ⊎ ((q.y ≡ r.y) × (q.x ≡ r.x)) → comes_before q r ≡ true
         cases (inl a) = before_from q r a
-        cases (inr (inl a)) = absurd (not_both (comes_before r q) (before_from r q a) (not_after r h))
+        cases (inr (inl a)) = absurd (both_ways (comes_before r q) (not_after r h) (before_from r q a))
         cases (inr (inr (y, x))) = absurd (omega (
           arith,
           once q.x q.y,
@@ -110,15 +111,15 @@ abbrev pub IsSortedByPlace : List Square → Type 0
 IsSortedByPlace squares = IsSortedByKey (λ (q : Square). (q.y, q.x)) (λ (a b : ℕ × ℕ). ordering_then (nat_cmp a.0 b.0) (nat_cmp a.1 b.1)) squares
 
 none_after : (squares : List Square) → IsSortedByPlace squares → AllPairs (λ p q. comes_before q p ≡ false) squares
-none_after squares sorted i j d up below = cases (true_or_false (comes_before (slice_index_or squares j d) (slice_index_or squares i d)))
+none_after squares sorted i j d up below = cases (cases_Bool (comes_before (slice_index_or squares j d) (slice_index_or squares i d)))
   where
     total : IsTotalOrder (λ (a b : ℕ × ℕ). ordering_then (nat_cmp a.0 b.0) (nat_cmp a.1 b.1))
     total = then_total (on_total (λ (a : ℕ × ℕ). a.0) nat_cmp_total) (on_total (λ (a : ℕ × ℕ). a.1) nat_cmp_total)
 
     cases : (comes_before (slice_index_or squares j d) (slice_index_or squares i d) ≡ true) ⊎ (comes_before (slice_index_or squares j d) (slice_index_or squares i d) ≡ false)
         → comes_before (slice_index_or squares j d) (slice_index_or squares i d) ≡ false
-    cases (inl e) = absurd (not_both _ (before_by_rank (slice_index_or squares j d) (slice_index_or squares i d) e)
-        (sorted_far (λ (p q : Square). is_lt (ordering_then (nat_cmp p.y q.y) (nat_cmp p.x q.x))) (ranks_by total (λ (q : Square). (q.y, q.x))) squares sorted i j d (omega arith) below))
+    cases (inl e) = absurd (both_ways _ (sorted_far (λ (p q : Square). is_lt (ordering_then (nat_cmp p.y q.y) (nat_cmp p.x q.x))) (ranks_by total (λ (q : Square). (q.y, q.x))) squares sorted i j d (omega arith) below)
+        (before_by_rank (slice_index_or squares j d) (slice_index_or squares i d) e))
     cases (inr e) = e
 
 members : (qs rs : List Square) → IsPermutation qs rs → (q : Square) → IsOneOf q rs → IsOneOf q qs

@@ -4,16 +4,16 @@ use Rattle.std.specs.declared.cmp.Ordering.{Ordering}
 use Rattle.std.specs.declared.cmp.Ordering.TheVariants.{Equal, Greater, Less}
 use Rattle.std.specs.Ordering.{ordering_reverse}
 use Rattle.std.proofs.Common.{List, None, Some, [], ap, arith, inl, inr, length, refl, sym, ℕ, ◌++◌, ◌+◌, ◌<◌, ◌∙◌, ◌∷◌, ◌≡◌, ◌⊎◌}
-use Rattle.bk_tiling.proofs.ListLaws.{length_append}
+use Rattle.std.proofs.lemmas.List.{length-append}
+use Rattle.bk_laws.proofs.AllOfLists.{all_append}
 use Rattle.bk_lay.proofs.WordPlay.{tiling_word_is_complete}
-use Rattle.bk_word.proofs.ListLaws.{all_append}
 use Rattle.bk_word.proofs.WordOrder.{follows_trans, word_total}
 use Rattle.bk_word.specs.Word.{Follows, Word, word_cmp}
 use Rattle.bk_word.specs.declared.Class.{Class}
-use Rattle.bk_walk.proofs.TreeCounts.{not_itself}
-use Rattle.bk_walk.specs.Catalogue.{Entry, IsEntry}
+use Rattle.bk_word.proofs.FollowLaws.{not_itself}
+use Rattle.bk_catalogue.specs.Catalogue.{Entry, IsEntry}
 use Rattle.bk_walk.specs.Search.{IsEnd, IsMet, IsPlace, IsTreeWord}
-use Rattle.bk_walk.specs.Tree.{AreAscendingWords, IsInTree}
+use Rattle.bk_tree.specs.Tree.{AreAscendingWords, IsInTree}
 
 pub entry_word : (n : ℕ) (class : Class) (e : Entry) → IsEntry n class e → IsTreeWord n e.word
 entry_word n class e is = record {
@@ -87,7 +87,7 @@ module _ (n : ℕ) (class : Class) (place next : Word) (up : Follows next place)
       words = p.words ++ word ∷ [];
       each = all_append (λ w. IsInTree n cursor None w × Follows next w) p.words (word ∷ []) (each_on p.words p.each) ((in_tree, to), tt);
       ascending = ascending_to n cursor place word from p.words p.each p.ascending;
-      count = omega (arith, p.count, length_append p.words (word ∷ []));
+      count = omega (arith, p.count, length-append p.words (word ∷ []));
     }
 
 -- up to a word of the tree, which is met
@@ -115,7 +115,7 @@ module _ (n : ℕ) (class : Class) (place word : Word) (tree : IsTreeWord n word
       each = all_append (IsInTree n cursor (Some word)) p.words (word ∷ []) (each_to p.words p.each)
           (record { legal = tree.legal; some = some; small = tree.small; after = p.after word tree from; within = not_itself word }, tt);
       ascending = ascending_to n cursor place word from p.words p.each p.ascending;
-      count = omega (arith, p.count, length_append p.words (word ∷ []));
+      count = omega (arith, p.count, length-append p.words (word ∷ []));
     };
   }
     where

@@ -5,10 +5,10 @@ use Rattle.bk_word.specs.Play.{IsComplete}
 use Rattle.bk_word.specs.Word.{Word, order_of}
 use Rattle.bk_word.specs.declared.Class.{Class}
 use Rattle.bk_lay.specs.TilingWord.{IsWordOf}
-use Rattle.bk_skel.specs.WideWord.{IsWideWord}
-use Rattle.bk_walk.specs.Catalogue.{IsMember}
+use Rattle.bk_word_net.specs.WideWord.{IsWideWord}
+use Rattle.bk_catalogue.specs.Catalogue.{IsMember}
 use Rattle.bk_walk.specs.Search.{Ends, IsPlace, Meets}
-use Rattle.bk_walk.specs.Tree.{HasAtLeast, IsAtMostTree}
+use Rattle.bk_tree.specs.Tree.{HasAtLeast, IsAtMostTree}
 use Rattle.bk_walk.specs.Walking.{HasNoneAfter, IsKeptWalk, IsNextMember, IsWideAfter}
 
 fewer_of_tree : (n : ℕ) (cursor : Word) (bound : Option Word) (more few : ℕ) → few ≤ more → HasAtLeast n cursor bound more → HasAtLeast n cursor bound few

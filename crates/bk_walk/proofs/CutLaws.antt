@@ -2,6 +2,8 @@
 use Rattle.std.proofs.Common.{Contains, IsTrue, List, None, Option, Some, [], ap, arith, drop, inl, inr, length, nat_lt, refl, slice_get, slice_index_or, subst, suc, sym, take, zero, ℕ, ◌++◌, ◌+◌, ◌-◌, ◌<◌, ◌∙◌, ◌∷◌, ◌≡◌, ◌≤◌, ◌⊎◌}
 use Rattle.std.proofs.lemmas.List.{take-append-drop}
 use Rattle.std.proofs.Math.Seq.{take-length}
+use Rattle.std.proofs.lemmas.Bool.{ltb-true}
+use Rattle.bk_laws.proofs.ListPlaces.{get_append}
 use Rattle.bk_word.specs.Outline.{IsLegalMove, has_left_wall, open_side, valley_of}
 use Rattle.bk_word.specs.Play.{outline_of}
 use Rattle.bk_word.specs.Word.{Move, Word, order_of}
@@ -9,19 +11,18 @@ use Rattle.bk_word.specs.declared.Class.{Class}
 use Rattle.bk_word.specs.declared.Class.TheVariants.{Perfect}
 use Rattle.bk_word.specs.declared.Sign.{Sign}
 use Rattle.bk_word.specs.declared.Sign.TheVariants.{Above, Even}
-use Rattle.bk_tiling.proofs.ColumnTest.{lt_of}
-use Rattle.bk_lay.proofs.Steps.{get_append}
-use Rattle.bk_walk.proofs.CuttingFirst.{shorter_first_is_barren}
-use Rattle.bk_walk.proofs.CuttingLines.{too_many_lines_is_barren}
-use Rattle.bk_walk.proofs.CuttingPairs.{even_squares_are_barren, one_under_one_is_barren}
-use Rattle.bk_walk.proofs.Fitting.{less_longer}
-use Rattle.bk_walk.proofs.MoveOrder.{Begins, IsLess, IsShort, begun_before, less_from, less_to, moves_between, next_short, signs_cmp}
-use Rattle.bk_walk.proofs.Places.{move_from_parts, one_legal}
-use Rattle.bk_walk.specs.SingleValleys.{single_valleys, sizes_of}
-use Rattle.bk_walk.specs.Cuts.{IsBarren, own_signs}
+use Rattle.bk_barren.proofs.CuttingFirst.{shorter_first_is_barren}
+use Rattle.bk_barren.proofs.CuttingLines.{too_many_lines_is_barren}
+use Rattle.bk_barren.proofs.CuttingPairs.{even_squares_are_barren, one_under_one_is_barren}
+use Rattle.bk_tree.proofs.Fitting.{less_longer}
+use Rattle.bk_tree.proofs.MoveOrder.{Begins, IsLess, IsShort, begun_before, less_from, less_to, moves_between, next_short, signs_cmp}
+use Rattle.bk_tree.proofs.Places.{move_from_parts, one_legal}
+use Rattle.bk_bounds.specs.SingleValleys.{single_valleys, sizes_of}
+use Rattle.bk_barren.specs.Cuts.{IsBarren}
+use Rattle.bk_word.specs.OwnSigns.{own_signs}
 use Rattle.bk_walk.specs.MoveCuts.{EndsEven, IsCut, IsNear}
-use Rattle.bk_walk.specs.NextMove.{IsMoveFrom, move_after, move_of, signs_after}
-use Rattle.bk_walk.specs.VerticalCut.{line_bound_of}
+use Rattle.bk_tree.specs.NextMove.{IsMoveFrom, move_after, move_of, signs_after}
+use Rattle.bk_bounds.specs.VerticalCut.{line_bound_of}
 
 -- the move with its first signs alone
 abbrev pub front_signs : ℕ → Move → Move
@@ -125,4 +126,4 @@ owes_lines n class front left closings least l c many = too_many_lines_is_barren
 
 pub owes_singles : (n : ℕ) (class : Class) (front : Word) (left closings singles : ℕ) → 3 ≤ n → left ≡ n - order_of front → closings ≡ line_bound_of front
     → singles ≡ single_valleys (outline_of front).signs (sizes_of (outline_of front)) → IsTrue (nat_lt (left - closings) singles) → closings ≤ left → IsBarren n class front
-owes_singles n class front left closings singles least l c s many few = too_many_lines_is_barren n class front least (omega (arith, lt_of (left - closings) singles many))
+owes_singles n class front left closings singles least l c s many few = too_many_lines_is_barren n class front least (omega (arith, ltb-true (left - closings) singles many))

@@ -2,21 +2,20 @@
 use Rattle.std.specs.List.{concat, sum}
 use Rattle.std.proofs.Common.{Bool, List, [], ap, arith, drop, length, nat_eq, refl, replicate, slice_index_or, subst, suc, sym, take, zero, ℕ, ◌++◌, ◌+◌, ◌-◌, ◌<◌, ◌∙◌, ◌∷◌, ◌≡◌}
 use Rattle.std.proofs.Math.Seq.{take-append_seam}
-use Rattle.std.proofs.lemmas.List.{drop-drop, take-append-drop}
-use Rattle.bk_tiling.proofs.ListLaws.{append_assoc}
-use Rattle.bk_skel.proofs.NoLoose.{closed_count}
-use Rattle.bk_skel.proofs.Shape.{hung_many}
+use Rattle.std.proofs.lemmas.List.{append_assoc, drop-drop, take-append-drop}
+use Rattle.bk_word_net.proofs.NoLoose.{closed_count}
+use Rattle.bk_word_net.proofs.Shape.{hung_many}
 use Rattle.bk_skel.proofs.StoredMoves.{legal-snoc}
 use Rattle.bk_word.specs.Outline.{IsLegalMove, Outline, start, valley_of, valley_place}
 use Rattle.bk_word.specs.Play.{IsLegal, after_move, outline_of}
 use Rattle.bk_word.specs.Word.{Move, Word, order_of}
 use Rattle.bk_word.specs.declared.Sign.{Sign}
-use Rattle.bk_walk.proofs.BoundsOfWords.{segments_again}
-use Rattle.bk_walk.proofs.LineCounting.{sum-cons}
-use Rattle.bk_walk.proofs.LineMoves.{lines-append, lines_long}
-use Rattle.bk_walk.proofs.Places.{legal_front}
-use Rattle.bk_walk.specs.SingleValleys.{sizes_of}
-use Rattle.bk_walk.specs.VerticalCut.{IsLinedWord, begins_on_line, lines_after, lines_along, lines_of, segments_of}
+use Rattle.bk_bounds.proofs.BoundsOfWords.{segments_again}
+use Rattle.bk_bounds.proofs.LineCounting.{sum-cons}
+use Rattle.bk_bounds.proofs.LineMoves.{lines-append, lines_long}
+use Rattle.bk_word.proofs.PlayLaws.{legal_front}
+use Rattle.bk_bounds.specs.SingleValleys.{sizes_of}
+use Rattle.bk_bounds.specs.VerticalCut.{IsLinedWord, begins_on_line, lines_after, lines_along, lines_of, segments_of}
 
 -- ---- the valley
 

@@ -9,14 +9,14 @@ use Rattle.bk_word.specs.declared.Sign.{Sign}
 use Rattle.bk_word.specs.declared.Sign.TheVariants.{Above, Even, Under}
 use Rattle.bk_word.proofs.StoredBytes.{order_append, order_more}
 use Rattle.bk_skel.proofs.StoredMoves.{after-snoc}
-use Rattle.bk_walk.proofs.ClosingLaws.{aboves-append, aboves-cons, bound-append, bound-parts, unders, unders-cons}
+use Rattle.bk_bounds.proofs.ClosingLaws.{aboves-append, aboves-cons, bound-append, bound-parts, unders, unders-cons}
 use Rattle.bk_walk.proofs.CutLaws.{cut_by_front, front_signs}
-use Rattle.bk_walk.proofs.CuttingBounds.{too_many_to_close_is_barren}
-use Rattle.bk_walk.proofs.MoveOrder.{Begins}
-use Rattle.bk_walk.specs.ClosingBound.{closing_bound, is_under}
-use Rattle.bk_walk.specs.Cuts.{IsBarren}
+use Rattle.bk_barren.proofs.CuttingBounds.{too_many_to_close_is_barren}
+use Rattle.bk_tree.proofs.MoveOrder.{Begins}
+use Rattle.bk_bounds.specs.ClosingBound.{closing_bound, is_under}
+use Rattle.bk_barren.specs.Cuts.{IsBarren}
 use Rattle.bk_walk.specs.MoveCuts.{IsCut, IsTally}
-use Rattle.bk_walk.specs.NextMove.{move_after}
+use Rattle.bk_tree.specs.NextMove.{move_after}
 
 -- the first signs ask for no less than all do
 front_owes : (before front rest behind : List Sign) → closing_bound (before ++ front) + unders behind ≤ closing_bound (before ++ (front ++ rest) ++ behind)

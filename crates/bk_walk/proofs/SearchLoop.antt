@@ -4,10 +4,10 @@ use Rattle.std.proofs.Common.{[], ap, arith, length, ℕ, ◌++◌, ◌+◌, ◌
 use Rattle.bk_word.specs.Play.{IsComplete}
 use Rattle.bk_word.specs.Word.{Follows, Move, Word, order_of}
 use Rattle.bk_word.specs.declared.Class.{Class}
-use Rattle.bk_walk.proofs.Ranks.{IsSmallMove, left_after, less_left, small_place}
+use Rattle.bk_tree.proofs.Ranks.{IsSmallMove, left_after, less_left, small_place}
 use Rattle.bk_walk.proofs.SearchTurns.{fewer_at, fewer_end, fewer_met}
-use Rattle.bk_walk.specs.Catalogue.{Entry, IsEntry}
-use Rattle.bk_walk.specs.NextMove.{first_move}
+use Rattle.bk_catalogue.specs.Catalogue.{Entry, IsEntry}
+use Rattle.bk_tree.specs.NextMove.{first_move}
 use Rattle.bk_walk.specs.Search.{Advances, Counts, Ends, IsPlace, IsStand, Meets, Reaches}
 
 -- from the place where the search began to the one where it stands, with so many words met on the way

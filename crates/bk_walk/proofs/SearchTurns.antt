@@ -3,7 +3,7 @@ use Rattle.std.specs.declared.cmp.Ordering.{Ordering}
 use Rattle.std.specs.declared.cmp.Ordering.TheVariants.{Equal, Greater, Less}
 use Rattle.std.specs.Ordering.{ordering_reverse, ordering_then}
 use Rattle.std.proofs.Common.{[], ap, append_assoc, arith, inl, inr, length, refl, subst, sym, ℕ, ◌++◌, ◌+◌, ◌<◌, ◌∙◌, ◌∷◌, ◌≡◌, ◌≤◌, ◌⊎◌}
-use Rattle.bk_tiling.proofs.ListLaws.{append_nil, length_append}
+use Rattle.std.proofs.lemmas.List.{append-nil, length-append}
 use Rattle.bk_word.proofs.WordOrder.{follows_trans}
 use Rattle.bk_word.specs.Outline.{IsLegalMove, start}
 use Rattle.bk_word.specs.Play.{IsLegal, outline_of}
@@ -12,14 +12,14 @@ use Rattle.bk_word.specs.declared.Class.{Class}
 use Rattle.bk_word.proofs.StoredBytes.{order_append, order_more}
 use Rattle.bk_skel.proofs.StoredMoves.{legal-snoc}
 use Rattle.bk_walk.proofs.Advancing.{ended, entry_word, met_at, met_on, moved_on}
-use Rattle.bk_walk.proofs.MoveOrder.{begun_before, move_total, moves_between}
+use Rattle.bk_tree.proofs.MoveOrder.{begun_before, move_total, moves_between}
 use Rattle.bk_walk.proofs.Passing.{IsOver, climb_over, end_over, move_over, push_over}
-use Rattle.bk_walk.proofs.Places.{IsLast, before_one, front_cmp, move_itself, move_same, one_legal}
-use Rattle.bk_walk.proofs.TreeCounts.{not_itself}
-use Rattle.bk_walk.specs.Catalogue.{Entry, IsEntry}
-use Rattle.bk_walk.specs.Cuts.{IsBarren}
+use Rattle.bk_tree.proofs.Places.{IsLast, before_one, front_cmp, move_itself, move_same, one_legal}
+use Rattle.bk_word.proofs.FollowLaws.{not_itself}
+use Rattle.bk_catalogue.specs.Catalogue.{Entry, IsEntry}
+use Rattle.bk_barren.specs.Cuts.{IsBarren}
 use Rattle.bk_walk.specs.MoveCuts.{IsCut}
-use Rattle.bk_walk.specs.NextMove.{IsLeastFrom, IsMoveFrom, first_move, move_after}
+use Rattle.bk_tree.specs.NextMove.{IsLeastFrom, IsMoveFrom, first_move, move_after}
 use Rattle.bk_walk.specs.Search.{Advances, Ends, IsEnd, IsMet, IsPlace, IsTreeWord, Reaches}
 
 -- fewer words were met, too
@@ -53,7 +53,7 @@ up_by_move : (front : Word) (x next : Move) (rest more : Word) → move_cmp x ne
 up_by_move front x next rest more e = front_cmp front (x ∷ rest) (next ∷ more) ∙ ap (λ z. ordering_then z (word_cmp rest more)) e
 
 after_itself : (m : Move) → move_cmp m (move_after m) ≡ Less
-after_itself m = begun_before m m refl (record { rest = []; is = sym (append_nil m.signs) })
+after_itself m = begun_before m m refl (record { rest = []; is = sym (append-nil m.signs) })
 
 pub climbs : (n : ℕ) (class : Class) (front : Word) (l x : Move) (met : ℕ) → IsLegalMove (outline_of front) l → IsLast n (front ++ l ∷ []) x → met ≤ 0
     → Advances n class ((front ++ l ∷ []) ++ x ∷ []) (front ++ move_after l ∷ []) met
@@ -87,7 +87,7 @@ module _ (n : ℕ) (class : Class) (front : Word) (x m : Move) (met : ℕ) (lega
   pushed_tree = record { legal = legal-snoc start front m legal least.legal; small = omega (arith, order_append front (m ∷ []), order_more m []) }
 
   pushed_some : 0 < length (front ++ m ∷ [])
-  pushed_some = omega (arith, length_append front (m ∷ []))
+  pushed_some = omega (arith, length-append front (m ∷ []))
 
   pushed_from : Follows (front ++ x ∷ []) (front ++ m ∷ []) → ⊥
   pushed_from f = least.from (before_one m x [] (sym (front_cmp front (m ∷ []) (x ∷ [])) ∙ f))

@@ -1,10 +1,9 @@
 -- What a turn of a search knows of the place where it stands, and where it leads.
 use Rattle.std.proofs.Common.{List, Some, [], ap, arith, inl, inr, length, slice_get, subst, sym, take, ℕ, ◌++◌, ◌+◌, ◌-◌, ◌<◌, ◌∙◌, ◌∷◌, ◌≡◌, ◌≤◌, ◌⊎◌}
 use Rattle.std.proofs.lemmas.Bool.{cases_lt}
-use Rattle.std.proofs.lemmas.List.{take_all, take_at}
+use Rattle.std.proofs.lemmas.List.{length-append, take_all, take_at}
 use Rattle.std.proofs.lemmas.Grind.{take_at_read}
 use Rattle.std.proofs.lemmas.Option.{get_or_from_slice_get, slice_get_within}
-use Rattle.bk_tiling.proofs.ListLaws.{length_append}
 use Rattle.bk_lay.proofs.WordPlay.{tiling_word_is_complete}
 use Rattle.bk_word.specs.Outline.{IsLegalMove, Outline, start}
 use Rattle.bk_word.specs.Play.{IsComplete, IsLegal, outline_of}
@@ -13,14 +12,15 @@ use Rattle.bk_word.specs.declared.Class.{Class}
 use Rattle.bk_word.proofs.StoredBytes.{order_append, order_more}
 use Rattle.bk_skel.proofs.StoredMoves.{few_signs}
 use Rattle.bk_walk.proofs.CutLaws.{after_near, whole_front}
-use Rattle.bk_walk.proofs.Fitting.{HasShape, IsFit, fit}
-use Rattle.bk_walk.proofs.MoveOrder.{less_from}
-use Rattle.bk_walk.proofs.Places.{IsLast, legal_front, legal_rest}
+use Rattle.bk_tree.proofs.Fitting.{HasShape, IsFit, fit}
+use Rattle.bk_tree.proofs.MoveOrder.{less_from}
+use Rattle.bk_tree.proofs.Places.{IsLast}
+use Rattle.bk_word.proofs.PlayLaws.{legal_front, legal_rest}
 use Rattle.bk_walk.proofs.SearchTurns.{climbs, cuts, ends, goes_down, pushed_tree, reaches, turns_back}
-use Rattle.bk_walk.specs.Catalogue.{Entry, IsEntry}
-use Rattle.bk_walk.specs.Cuts.{IsBarren}
+use Rattle.bk_catalogue.specs.Catalogue.{Entry, IsEntry}
+use Rattle.bk_barren.specs.Cuts.{IsBarren}
 use Rattle.bk_walk.specs.MoveCuts.{IsCut, IsNear}
-use Rattle.bk_walk.specs.NextMove.{IsLeastFrom, IsMoveFrom, first_move, fitted, move_after, open_sides}
+use Rattle.bk_tree.specs.NextMove.{IsLeastFrom, IsMoveFrom, first_move, fitted, move_after, open_sides}
 use Rattle.bk_walk.specs.Search.{Advances, Ends, IsClimbed, IsStand, IsTreeWord, Reaches}
 
 pub take_next : {A : Type 0} (xs : List A) (i : ℕ) (x : A) → slice_get xs i ≡ Some x → take (i + 1) xs ≡ take i xs ++ x ∷ []
@@ -83,7 +83,7 @@ entry_whole : (n : ℕ) (class : Class) (e : Entry) → IsEntry n class e → Is
 entry_whole n class e is = let done = tiling_word_is_complete e.tiling e.word (is.member).tiling is.word in (done.0, done.1 ∙ (is.member).order)
 
 front_of_more : (front : Word) (m : Move) → take (length (front ++ m ∷ []) - 1) (front ++ m ∷ []) ≡ front
-front_of_more front m = take_at front (m ∷ []) (length (front ++ m ∷ []) - 1) (omega (arith, length_append front (m ∷ [])))
+front_of_more front m = take_at front (m ∷ []) (length (front ++ m ∷ []) - 1) (omega (arith, length-append front (m ∷ [])))
 
 -- a turn from a place, by the least legal move that is not before the move there
 module _ (n : ℕ) (class : Class) (front : Word) (x m : Move) (few : n ≤ 16) (s : IsStand n front x) (fits : m ≡ fitted (open_sides (outline_of front)) x) where

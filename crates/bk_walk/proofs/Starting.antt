@@ -10,10 +10,11 @@ use Rattle.bk_word.specs.Word.{Follows, Move, Word, move_cmp, order_of, word_cmp
 use Rattle.bk_word.specs.declared.Class.{Class}
 use Rattle.bk_word.proofs.StoredBytes.{order_append, order_more}
 use Rattle.bk_walk.proofs.Advancing.{before_not_before, entry_word, not_both}
-use Rattle.bk_walk.proofs.MoveOrder.{greater}
-use Rattle.bk_walk.proofs.Places.{LiesBetween, before_first, front_cmp, legal_rest, lies_between, move_itself, move_same, not_before_first}
-use Rattle.bk_walk.proofs.TreeCounts.{not_itself}
-use Rattle.bk_walk.specs.NextMove.{first_move}
+use Rattle.bk_tree.proofs.MoveOrder.{greater}
+use Rattle.bk_tree.proofs.Places.{LiesBetween, before_first, front_cmp, lies_between, move_itself, move_same, not_before_first}
+use Rattle.bk_word.proofs.PlayLaws.{legal_rest}
+use Rattle.bk_word.proofs.FollowLaws.{not_itself}
+use Rattle.bk_tree.specs.NextMove.{first_move}
 use Rattle.bk_walk.specs.Search.{IsPlace, IsTreeWord}
 
 pub word_same : (v w : Word) → word_cmp v w ≡ Equal → v ≡ w

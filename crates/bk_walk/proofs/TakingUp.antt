@@ -1,7 +1,6 @@
 -- A walk takes up its cursor: it plays the moves that are legal and few, one after another.
 use Rattle.std.proofs.Common.{List, Some, [], ap, arith, drop, length, min, slice_get, subst, sym, take, ℕ, ◌++◌, ◌+◌, ◌-◌, ◌^◌, ◌∙◌, ◌∷◌, ◌≡◌, ◌≤◌}
-use Rattle.std.proofs.lemmas.List.{take-append-drop, take_all}
-use Rattle.bk_tiling.proofs.ListLaws.{append_assoc, length_append}
+use Rattle.std.proofs.lemmas.List.{append_assoc, length-append, take-append-drop, take_all}
 use Rattle.bk_word.specs.KeptWord.{CanStand}
 use Rattle.bk_word.specs.Outline.{IsLegalMove, Outline, has_left_wall, has_right_wall, start}
 use Rattle.bk_word.specs.Play.{IsLegal, outline_of}
@@ -9,11 +8,11 @@ use Rattle.bk_word.specs.Word.{Move, Word, order_of}
 use Rattle.bk_word.specs.declared.Class.{Class}
 use Rattle.bk_word.proofs.StoredBytes.{order_append, order_more}
 use Rattle.bk_skel.proofs.StoredMoves.{legal-snoc}
-use Rattle.bk_walk.proofs.Places.{legal_rest}
-use Rattle.bk_walk.proofs.Ranks.{IsSmallWord, open_one, small_from}
+use Rattle.bk_word.proofs.PlayLaws.{legal_rest}
+use Rattle.bk_tree.proofs.Ranks.{IsSmallWord, open_one, small_from}
 use Rattle.bk_walk.proofs.SearchLoop.{counts_then}
 use Rattle.bk_walk.proofs.Starting.{begins_below, begins_beside}
-use Rattle.bk_walk.specs.NextMove.{first_move}
+use Rattle.bk_tree.specs.NextMove.{first_move}
 use Rattle.bk_walk.specs.Search.{Counts, IsPlace, IsStand}
 use Rattle.bk_walk.proofs.Standing.{take_next}
 
@@ -35,7 +34,7 @@ takes_more n cursor first played more m i pushes now then steps sn st t g legal 
   begun = take_next cursor i m g ∙ ap (λ l. l ++ m ∷ []) t.begun ∙ sym e;
   legal = subst IsLegal (sym e) (legal-snoc start played m t.legal legal);
   small = omega (arith, ap order_of e, order_append played (m ∷ []), order_more m []);
-  one_each = omega (arith, t.one_each, ap length e, length_append played (m ∷ []));
+  one_each = omega (arith, t.one_each, ap length e, length-append played (m ∷ []));
   counts = counts_then pushes now then steps sn st t.counts (record { more = omega arith; counted = p ∙ ap (λ k. min (now + k) (2 ^ 64 - 1)) (omega arith) });
 }
 

@@ -1,15 +1,4 @@
-pub mod Catalogue
-pub mod Tree
-pub mod TreeLaws
-pub mod Cuts
-pub mod NextMove
 pub mod MoveCuts
 pub mod Search
 pub mod WholeWords
 pub mod Walking
-pub mod ClosingBound
-pub mod SingleValleys
-pub mod VerticalCut
-pub mod WordBounds
-pub mod Corners
-pub mod Once

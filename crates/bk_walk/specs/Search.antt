@@ -6,15 +6,15 @@ use Rattle.bk_word.specs.Play.{IsComplete, IsLegal}
 use Rattle.bk_word.specs.Word.{Follows, Move, Word, order_of}
 use Rattle.bk_word.specs.declared.Class.{Class}
 use Rattle.bk_lay.specs.TilingWord.{IsWordOf}
-use Rattle.bk_skel.specs.WideWord.{IsWideWord}
-use Rattle.bk_walk.specs.Catalogue.{Entry, IsEntry, IsMember}
+use Rattle.bk_word_net.specs.WideWord.{IsWideWord}
+use Rattle.bk_catalogue.specs.Catalogue.{Entry, IsEntry, IsMember}
 use Rattle.bk_walk.specs.declared.search.Found.{Found}
 use Rattle.bk_walk.specs.declared.search.Found.TheVariants.{Ended, Member, Wide}
-use Rattle.bk_walk.specs.NextMove.{first_move, move_after}
+use Rattle.bk_tree.specs.NextMove.{first_move, move_after}
 use Rattle.bk_walk.specs.declared.moves.TheConstants.{MOST_COUNT, MOST_SIGNS}
 use Rattle.bk_walk.specs.declared.search.Turn.{Turn}
 use Rattle.bk_walk.specs.declared.search.Turn.TheVariants.{Complete, End, On}
-use Rattle.bk_walk.specs.Tree.{AreAscendingWords, HasAtLeast, IsInTree}
+use Rattle.bk_tree.specs.Tree.{AreAscendingWords, HasAtLeast, IsInTree}
 
 -- a legal word of at most so many squares
 pub record IsTreeWord (n : ℕ) (w : Word) : Type 0 where

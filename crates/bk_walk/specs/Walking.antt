@@ -6,8 +6,8 @@ use Rattle.bk_word.specs.Word.{Follows, Word, order_of}
 use Rattle.bk_word.specs.declared.Class.{Class}
 use Rattle.bk_word.specs.declared.TheConstants.{INLINE_ORDER}
 use Rattle.bk_lay.specs.TilingWord.{IsWordOf}
-use Rattle.bk_skel.specs.WideWord.{IsWideWord}
-use Rattle.bk_walk.specs.Catalogue.{Entry, IsEntry, IsMember}
+use Rattle.bk_word_net.specs.WideWord.{IsWideWord}
+use Rattle.bk_catalogue.specs.Catalogue.{Entry, IsEntry, IsMember}
 
 -- what is seen of a walk: its order and class, the word after which it goes on, whether it has ended, and how many moves
 -- it has pushed, up to the last number of 64 bits

@@ -6,8 +6,8 @@ use Rattle.bk_sym.specs.Canonical.{IsCanonical}
 use Rattle.bk_word.specs.Word.{Word, order_of}
 use Rattle.bk_word.specs.declared.Class.{Class}
 use Rattle.bk_lay.specs.TilingWord.{IsWordOf}
-use Rattle.bk_skel.specs.WideWord.{IsWideWord}
-use Rattle.bk_walk.specs.Catalogue.{Entry, IsEntry, IsMember, IsOfClass}
+use Rattle.bk_word_net.specs.WideWord.{IsWideWord}
+use Rattle.bk_catalogue.specs.Catalogue.{Entry, IsEntry, IsMember, IsOfClass}
 use Rattle.bk_walk.specs.declared.judging.Leaf.{Leaf}
 use Rattle.bk_walk.specs.declared.judging.Leaf.TheVariants.{Member, Other, Wide}
 

@@ -8,7 +8,7 @@ ghost use Rattle.bk_word.specs.Word.{order_of};
 ghost use Rattle.bk_word.specs.declared.Class.{Class};
 ghost use Rattle.bk_word.specs.declared.Class.TheVariants.{Perfect};
 ghost use Rattle.bk_word.specs.declared.Sign.TheVariants.{Above};
-ghost use Rattle.bk_walk.specs.Cuts.{IsBarren};
+ghost use Rattle.bk_barren.specs.Cuts.{IsBarren};
 ghost use Rattle.bk_walk.specs.MoveCuts.{EndsEven, IsCut, IsNear};
 
 use crate::cuts::single_valleys;

@@ -1,7 +1,7 @@
 //! How many valleys have just one square: a move that closes one hangs at least two.
 
 ghost use Rattle.std.specs.Prelude.{length, ◌+◌, ◌≡◌};
-ghost use Rattle.bk_walk.specs.SingleValleys.{single_valley, single_valleys};
+ghost use Rattle.bk_bounds.specs.SingleValleys.{single_valley, single_valleys};
 
 use bk_word::Sign;
 

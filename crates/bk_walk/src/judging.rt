@@ -4,9 +4,9 @@
 ghost use Rattle.std.specs.Prelude.{IfOk, IsErr, IsTrue, false, ◌≡◌, ◌≤◌, ◌↔◌};
 ghost use Rattle.bk_word.specs.Play.{IsComplete};
 ghost use Rattle.bk_word.specs.Word.{order_of};
-ghost use Rattle.bk_skel.specs.Realised.{IsRealised};
-ghost use Rattle.bk_skel.specs.WideWord.{IsWideWord};
-ghost use Rattle.bk_walk.specs.Catalogue.{IsOfClass};
+ghost use Rattle.bk_word_net.specs.Realised.{IsRealised};
+ghost use Rattle.bk_word_net.specs.WideWord.{IsWideWord};
+ghost use Rattle.bk_catalogue.specs.Catalogue.{IsOfClass};
 ghost use Rattle.bk_walk.specs.WholeWords.{Qualifies, Tells};
 
 use crate::corners::begins_greatest;

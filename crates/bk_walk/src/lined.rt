@@ -5,7 +5,7 @@ ghost use Rattle.std.specs.Prelude.{[], length, take, ◌++◌, ◌+◌, ◌-◌
 ghost use Rattle.bk_word.specs.Outline.{IsLegalMove};
 ghost use Rattle.bk_word.specs.Play.{IsLegal, outline_of};
 ghost use Rattle.bk_word.specs.Word.{order_of};
-ghost use Rattle.bk_walk.specs.VerticalCut.{line_bound_of};
+ghost use Rattle.bk_bounds.specs.VerticalCut.{line_bound_of};
 
 use crate::lines::{line_bound, push_lines, valley_on_line};
 use arrayvec::ArrayVec;
@@ -24,7 +24,7 @@ pub(crate) struct LinedSkel {
 
 impl Model for LinedSkel {
     ghost use Rattle.bk_word.specs.Word.{Word as Moves};
-    ghost use Rattle.bk_walk.specs.VerticalCut.{IsLinedWord};
+    ghost use Rattle.bk_bounds.specs.VerticalCut.{IsLinedWord};
 
     ghost Value = { Moves };
 

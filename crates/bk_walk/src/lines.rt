@@ -3,7 +3,7 @@
 ghost use Rattle.std.specs.List.{list_any};
 ghost use Rattle.std.specs.Prelude.{[], cond, drop, length, replicate, slice_index_or, sum, take, ◌||◌, ◌+◌, ◌++◌, ◌-◌, ◌<◌, ◌∷◌, ◌^◌, ◌≡◌, ◌≤◌};
 ghost use Rattle.bk_word.specs.Outline.{valley_place};
-ghost use Rattle.bk_walk.specs.VerticalCut.{begins_on_line, line_bound, on_line, segments_of, touched};
+ghost use Rattle.bk_bounds.specs.VerticalCut.{begins_on_line, line_bound, on_line, segments_of, touched};
 
 use crate::owing::first_above;
 use arrayvec::ArrayVec;

@@ -6,7 +6,7 @@ ghost use Rattle.bk_word.specs.Outline.{valley_place};
 ghost use Rattle.bk_word.specs.Word.{order_of};
 ghost use Rattle.bk_word.specs.declared.Class.{Class};
 ghost use Rattle.bk_word.specs.declared.Sign.{Sign as SeenSign};
-ghost use Rattle.bk_walk.specs.ClosingBound.{closing_bound, is_under};
+ghost use Rattle.bk_bounds.specs.ClosingBound.{closing_bound, is_under};
 ghost use Rattle.bk_walk.specs.MoveCuts.{IsCut, IsNear, IsTally};
 
 use crate::moves::{MOST_COUNT, MOST_SIGNS, pass};

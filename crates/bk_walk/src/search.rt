@@ -5,7 +5,7 @@ ghost use Rattle.std.specs.Prelude.{IsTrue, Some, [], false, length, min, â—Œ++â
 ghost use Rattle.bk_word.specs.Outline.{IsLegalMove};
 ghost use Rattle.bk_word.specs.Play.{IsComplete, outline_of};
 ghost use Rattle.bk_word.specs.Word.{order_of};
-ghost use Rattle.bk_walk.specs.NextMove.{open_sides as sides_open};
+ghost use Rattle.bk_tree.specs.NextMove.{open_sides as sides_open};
 ghost use Rattle.bk_walk.specs.Search.{Counts, Finds, IsClimbed, IsStand, Leads};
 
 use crate::barren::{is_barren, open_side_of, skip};

@@ -6,7 +6,7 @@ use Rattle.std.proofs.Math.Seq.{drop-cons, take-append_seam}
 use Rattle.std.proofs.lemmas.Bool.{cond-false, cond-true}
 use Rattle.std.proofs.lemmas.List.{drop_all, length-drop, take-append-drop, take_all}
 use Rattle.std.proofs.lemmas.List.Sums.{sum_by-cons}
-use Rattle.bk_word.proofs.ListLaws.{all_left}
+use Rattle.bk_laws.proofs.AllOfLists.{all_left}
 use Rattle.bk_word.specs.KeptWord.{CanStand, IsKeptWord}
 use Rattle.bk_word.specs.Stored.{IsStored, front_signs, is_count, moves_in, sign_byte, sign_of, stored, stored_move}
 use Rattle.bk_word.specs.Word.{Move, Word, order_of}

@@ -3,8 +3,8 @@ use Rattle.std.specs.List.{AllByRecursion}
 use Rattle.std.specs.Prelude.{List, [], drop, length, slice_range, suc, take, zero, ℕ, ◌++◌, ◌+◌, ◌-◌, ◌<◌, ◌∷◌, ◌≡◌, ◌≢◌, ◌≤◌}
 use Rattle.std.proofs.Common.{ap, append_assoc, arith, get_or, length-append, length-drop, length-take, refl, subst, sym, ◌∙◌}
 use Rattle.std.proofs.lemmas.List.{drop-drop, drop-take, take-append-drop, take-take}
+use Rattle.bk_laws.proofs.AllOfLists.{all_left, all_right}
 use Rattle.bk_grammar.specs.Grammar.{Blanks, Comment, IsBlank, Nothing, ◌or◌}
-use Rattle.bk_word.proofs.ListLaws.{all_left, all_right}
 use Rattle.bk_word.specs.WordItem.{IsItemAt, IsItemOf}
 
 -- a list in three parts

@@ -1,4 +1,3 @@
-pub mod ListLaws
 pub mod WordOrder
 pub mod WordExamples
 pub mod StoredBytes
@@ -12,3 +11,5 @@ pub mod WordProgress
 pub mod ItemParts
 pub mod KeptTexts
 pub mod PlayLists
+pub mod PlayLaws
+pub mod FollowLaws

@@ -9,3 +9,4 @@ pub mod Stored
 pub mod Taken
 pub mod Outline
 pub mod Play
+pub mod OwnSigns

@@ -2,8 +2,9 @@ use Rattle.std.proofs.Common.{length, subst, ◌<◌, ◌∙◌}
 use Rattle.bk_word.specs.Play.{IsComplete, IsLegal, outline_of}
 use Rattle.bk_word.specs.Word.{order_of}
 use Rattle.bk_word.specs.declared.TheConstants.{INLINE_ORDER}
-use Rattle.bk_skel.specs.Realised.{IsRealised, IsSolveFault}
-use Rattle.bk_skel.specs.WideWord.{IsWideWord}
+use Rattle.bk_word_net.specs.Realised.{IsRealised}
+use Rattle.bk_skel.specs.SolveRefusal.{IsSolveFault}
+use Rattle.bk_word_net.specs.WideWord.{IsWideWord}
 use Rattle.bk_report.specs.Answers.{tiling_line}
 use Rattle.bk_report.specs.declared.refusal.Refused.TheVariants.{Illegal, Nothing, Unfinished, Wide}
 use Rattle.bk_answer.specs.WordAnswer.{AnswersWord, illegal, no_tiling, realised, unfinished, wide_word}

@@ -1,6 +1,6 @@
 use Rattle.std.proofs.Common.{List, ap, arith, length, subst, sym, ◌∷◌, []}
+use Rattle.std.proofs.lemmas.List.{length-append}
 use Rattle.arrayvec.specs.ArrayVec.{ArrayVec}
-use Rattle.bk_tiling.proofs.ListLaws.{length_append}
 use Rattle.bk_lay.proofs.MeetingRuns.{falls_on, joins}
 use Rattle.bk_lay.specs.LevelRuns.{AreBeside}
 use Rattle.bk_lay.specs.declared.outline.Run.{Run}
@@ -11,14 +11,14 @@ falling-preserved-then-next-valley c = record {
   beside = λ width laid m. subst (λ (l : List Run). AreBeside width laid l c.in-Some.next c.pop_no_deeper.new.runs.items) (sym c.push.ensures.items)
       (falls_on width laid c.falling.left.items c.falling.valley c.pop_no_deeper.new.runs.items c.in-Some.next
       (subst (λ (l : List Run). AreBeside width laid c.falling.left.items c.falling.valley l) c.in-Some.ensures.taken.0 (c.falling.invariant.beside width laid m)) c.if-next-valley.true);
-  fewer = omega (arith, c.push.ensures.len, ap length c.in-Some.ensures.taken.0, length_append c.pop_no_deeper.new.runs.items (c.in-Some.next ∷ []), c.falling.invariant.fewer);
+  fewer = omega (arith, c.push.ensures.len, ap length c.in-Some.ensures.taken.0, length-append c.pop_no_deeper.new.runs.items (c.in-Some.next ∷ []), c.falling.invariant.fewer);
 }
 
 pub falling-preserved : goal.falling-preserved
 falling-preserved c = record {
   beside = λ width laid m. joins width laid c.falling.left.items c.falling.valley c.pop_no_deeper.new.runs.items c.in-Some.next
       (subst (λ (l : List Run). AreBeside width laid c.falling.left.items c.falling.valley l) c.in-Some.ensures.taken.0 (c.falling.invariant.beside width laid m)) (omega (arith, c.in-Some.ensures.taken.1, c.if-next-valley.false));
-  fewer = omega (arith, ap length c.in-Some.ensures.taken.0, length_append c.pop_no_deeper.new.runs.items (c.in-Some.next ∷ []), c.falling.invariant.fewer);
+  fewer = omega (arith, ap length c.in-Some.ensures.taken.0, length-append c.pop_no_deeper.new.runs.items (c.in-Some.next ∷ []), c.falling.invariant.fewer);
 }
 
 pub returns-clause-beside : goal.returns-clause-beside

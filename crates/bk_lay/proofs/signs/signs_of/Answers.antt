@@ -1,7 +1,6 @@
 use Rattle.std.proofs.Common.{List, Option, [], ap, arith, get_or, length, sym, take, ℕ, ◌++◌, ◌+◌, ◌∙◌, ◌∷◌, ◌≡◌, ◌≤◌}
 use Rattle.std.specs.Prelude.{option_to_list}
-use Rattle.std.proofs.lemmas.List.{length-take-le, take_all, take_more}
-use Rattle.bk_tiling.proofs.ListLaws.{append_assoc, length_append, length_map, map_append}
+use Rattle.std.proofs.lemmas.List.{append_assoc, length-append, length-map, length-take-le, map-append, take_all, take_more}
 use Rattle.bk_tiling.specs.declared.Square.{Square}
 use Rattle.bk_word.specs.declared.Sign.{Sign}
 use Rattle.bk_lay.proofs.SignLists.{few_of_option, few_signs, last_after, last_of_levels, signs_after}
@@ -11,12 +10,12 @@ use Rattle.bk_lay.proofs.signs.signs_of.Goals as goal
 
 -- no more signs than squares, while levels are told from the left
 few : (before : Option ℕ) (squares : List Square) (i : ℕ) → i ≤ length squares → length (signs_between (option_to_list before ++ bottoms_of (take i squares))) ≤ i
-few before squares i h = omega (arith, few_signs (option_to_list before ++ bottoms_of (take i squares)), length_append (option_to_list before) (bottoms_of (take i squares)), length_map (λ (q : Square). q.y + q.s) (take i squares), length-take-le i squares h, few_of_option before)
+few before squares i h = omega (arith, few_signs (option_to_list before ++ bottoms_of (take i squares)), length-append (option_to_list before) (bottoms_of (take i squares)), length-map (take i squares) (λ (q : Square). q.y + q.s), length-take-le i squares h, few_of_option before)
 
 one_more : (before : Option ℕ) (squares : List Square) (i : ℕ) (d : Square) → i + 1 ≤ length squares
     → option_to_list before ++ bottoms_of (take (i + 1) squares) ≡ (option_to_list before ++ bottoms_of (take i squares)) ++ ((get_or squares i d).y + (get_or squares i d).s) ∷ []
 one_more before squares i d h = ap (λ (l : List Square). option_to_list before ++ bottoms_of l) (take_more squares i d (omega arith))
-    ∙ ap (λ (l : List ℕ). option_to_list before ++ l) (map_append (λ (q : Square). q.y + q.s) (take i squares) (get_or squares i d ∷ []))
+    ∙ ap (λ (l : List ℕ). option_to_list before ++ l) (map-append (λ (q : Square). q.y + q.s) (take i squares) (get_or squares i d ∷ []))
     ∙ sym (append_assoc (option_to_list before) (bottoms_of (take i squares)) (((get_or squares i d).y + (get_or squares i d).s) ∷ []))
 
 signs_step : (signs more : List Sign) (levels : List ℕ) (last : Option ℕ) (b : ℕ) → more ≡ signs ++ signs_between (option_to_list last ++ b ∷ []) → signs ≡ signs_between levels → last ≡ last_of_levels levels → more ≡ signs_between (levels ++ b ∷ [])

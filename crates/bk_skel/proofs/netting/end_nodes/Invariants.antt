@@ -1,7 +1,7 @@
 use Rattle.std.specs.List.{concat}
 use Rattle.std.proofs.Common.{List, drop, length, map, slice_index, sum, take, ℕ, ◌+◌, ◌<◌, ◌≡◌, ◌≤◌}
 use Rattle.bk_skel.specs.Wiring.{closed_of}
-use Rattle.bk_skel.specs.WordNet.{end_of}
+use Rattle.bk_word_net.specs.WordNet.{end_of}
 use Rattle.bk_skel.proofs.netting.end_nodes.Given as goal
 
 abbrev pub invariant-nodes : goal.invariant-nodes

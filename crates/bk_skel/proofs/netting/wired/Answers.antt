@@ -1,5 +1,5 @@
 use Rattle.std.proofs.Common.{ap, arith, length, ◌+◌, ◌∙◌, ◌≡◌}
-use Rattle.bk_tiling.proofs.ListLaws.{length_append, length_map}
+use Rattle.std.proofs.lemmas.List.{length-append, length-map}
 use Rattle.bk_skel.proofs.Wirings.{next_count, no_turn, wires_here, wires_more}
 use Rattle.bk_skel.specs.Wiring.{counts_of, wires_from}
 use Rattle.bk_skel.proofs.netting.wired.Goals as goal
@@ -14,7 +14,7 @@ pub loop-node-preserved : goal.loop-node-preserved
 loop-node-preserved c =
     let i = c.loop-node.invariant in
     let wires = c.add_wires.ensures.wires in
-    let many : length c.add_wires.new.net.wires ≡ length c.loop-node.net.wires + length c.split_at.result.0.now = ap length wires ∙ length_append _ _ ∙ ap (λ n. length c.loop-node.net.wires + n) (length_map _ c.split_at.result.0.now) in
+    let many : length c.add_wires.new.net.wires ≡ length c.loop-node.net.wires + length c.split_at.result.0.now = ap length wires ∙ length-append _ _ ∙ ap (λ n. length c.loop-node.net.wires + n) (length-map c.split_at.result.0.now _) in
     record {
       nodes = c.add_wires.ensures.nodes ∙ i.nodes;
       many = omega (arith, i.many, many, c.split_at.ensures.front_len, c.split_at.ensures.back_len, i.left, c.from.ensures, next_count c.args.turns.now c.loop-node.node no_turn (omega arith));

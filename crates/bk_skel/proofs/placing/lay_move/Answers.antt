@@ -1,5 +1,5 @@
 use Rattle.std.proofs.Common.{ap, arith, length, refl, sym, ℕ, ◌++◌, ◌+◌, ◌-◌, ◌∙◌, ◌≤◌}
-use Rattle.bk_tiling.proofs.Cells.{not_both}
+use Rattle.std.proofs.lemmas.Bool.{both_ways}
 use Rattle.bk_tiling.specs.SquareGroups.{laid_group}
 use Rattle.bk_tiling.specs.declared.Segment.{Segment}
 use Rattle.bk_lay.specs.TilingWord.{signs_between}
@@ -50,7 +50,7 @@ pub returns-clause-turn : goal.returns-clause-turn
 returns-clause-turn c e = ((gap c.args.width c.args.laid.now.items c.args.numbers.now.items c.args.first c.args.end c.args.signs.now c.args.new.now c.requires.0 c.requires.1), (turn c.args.width c.args.laid.now.items c.args.numbers.now.items c.args.first c.args.end c.args.signs.now c.args.new.now c.requires.0 c.requires.1 (sym c.sum_of.ensures.sum ∙ c.if-sum_of-gap.false ∙ ap (λ (v : Segment). v.width) (c.gap_under-gap.ensures (gap c.args.width c.args.laid.now.items c.args.numbers.now.items c.args.first c.args.end c.args.signs.now c.args.new.now c.requires.0 c.requires.1) (fitting_as c.args.width c.args.laid.now.items c.args.numbers.now.items c.args.first c.args.end c.args.signs.now c.args.new.now c.requires.0 c.requires.1 c.deref.result.now c.deref-2.result.now c.deref.ensures.0 c.deref-2.ensures.0))) (c.signs_fit.ensures.0 e ∙ ap signs_between ((window_as c.args.width c.args.laid.now.items c.args.numbers.now.items c.args.first c.args.end c.args.signs.now c.args.new.now c.requires.0 c.requires.1 c.deref-3.result.now c.deref-4.result.now c.saturating_sub-left.result (c.saturating_sub-left.result + length c.args.signs.now + 1 - c.saturating_sub-left.result) (laid_as c.gap_under-gap.result (gap c.args.width c.args.laid.now.items c.args.numbers.now.items c.args.first c.args.end c.args.signs.now c.args.new.now c.requires.0 c.requires.1) c.args.laid.now.items c.push_group.new.laid.items c.deref-3.result.now c.args.new.now (c.gap_under-gap.ensures (gap c.args.width c.args.laid.now.items c.args.numbers.now.items c.args.first c.args.end c.args.signs.now c.args.new.now c.requires.0 c.requires.1) (fitting_as c.args.width c.args.laid.now.items c.args.numbers.now.items c.args.first c.args.end c.args.signs.now c.args.new.now c.requires.0 c.requires.1 c.deref.result.now c.deref-2.result.now c.deref.ensures.0 c.deref-2.ensures.0)) c.push_group.ensures c.deref-3.ensures.0) (numbers_as c.args.numbers.now.items c.splice_numbers.new.list.items c.deref-4.result.now c.args.laid.now.items c.args.first c.args.end (c.len.result + 1) (length c.args.new.now) (ap (λ (n : ℕ). n + 1) c.len.ensures.value) c.splice_numbers.ensures c.deref-4.ensures.0) c.saturating_sub-left.ensures (omega arith))).bottoms), c.push_group.ensures ∙ ap (λ (v : Segment). c.args.laid.now.items ++ laid_group v.x v.level c.args.new.now) (c.gap_under-gap.ensures (gap c.args.width c.args.laid.now.items c.args.numbers.now.items c.args.first c.args.end c.args.signs.now c.args.new.now c.requires.0 c.requires.1) (fitting_as c.args.width c.args.laid.now.items c.args.numbers.now.items c.args.first c.args.end c.args.signs.now c.args.new.now c.requires.0 c.requires.1 c.deref.result.now c.deref-2.result.now c.deref.ensures.0 c.deref-2.ensures.0))))
 
 pub returns-clause-none : goal.returns-clause-none
-returns-clause-none c e v t = not_both c.signs_fit.result (c.signs_fit.ensures.1 (signs_as c.args.width c.args.laid.now.items c.args.numbers.now.items c.args.first c.args.end c.args.signs.now c.args.new.now c.requires.0 c.requires.1 v t ∙ ap signs_between (sym ((window_as c.args.width c.args.laid.now.items c.args.numbers.now.items c.args.first c.args.end c.args.signs.now c.args.new.now c.requires.0 c.requires.1 c.deref-3.result.now c.deref-4.result.now c.saturating_sub-left.result (c.saturating_sub-left.result + length c.args.signs.now + 1 - c.saturating_sub-left.result) (laid_as c.gap_under-gap.result (gap c.args.width c.args.laid.now.items c.args.numbers.now.items c.args.first c.args.end c.args.signs.now c.args.new.now c.requires.0 c.requires.1) c.args.laid.now.items c.push_group.new.laid.items c.deref-3.result.now c.args.new.now (c.gap_under-gap.ensures (gap c.args.width c.args.laid.now.items c.args.numbers.now.items c.args.first c.args.end c.args.signs.now c.args.new.now c.requires.0 c.requires.1) (fitting_as c.args.width c.args.laid.now.items c.args.numbers.now.items c.args.first c.args.end c.args.signs.now c.args.new.now c.requires.0 c.requires.1 c.deref.result.now c.deref-2.result.now c.deref.ensures.0 c.deref-2.ensures.0)) c.push_group.ensures c.deref-3.ensures.0) (numbers_as c.args.numbers.now.items c.splice_numbers.new.list.items c.deref-4.result.now c.args.laid.now.items c.args.first c.args.end (c.len.result + 1) (length c.args.new.now) (ap (λ (n : ℕ). n + 1) c.len.ensures.value) c.splice_numbers.ensures c.deref-4.ensures.0) c.saturating_sub-left.ensures (omega arith))).bottoms))) e
+returns-clause-none c e v t = both_ways c.signs_fit.result e (c.signs_fit.ensures.1 (signs_as c.args.width c.args.laid.now.items c.args.numbers.now.items c.args.first c.args.end c.args.signs.now c.args.new.now c.requires.0 c.requires.1 v t ∙ ap signs_between (sym ((window_as c.args.width c.args.laid.now.items c.args.numbers.now.items c.args.first c.args.end c.args.signs.now c.args.new.now c.requires.0 c.requires.1 c.deref-3.result.now c.deref-4.result.now c.saturating_sub-left.result (c.saturating_sub-left.result + length c.args.signs.now + 1 - c.saturating_sub-left.result) (laid_as c.gap_under-gap.result (gap c.args.width c.args.laid.now.items c.args.numbers.now.items c.args.first c.args.end c.args.signs.now c.args.new.now c.requires.0 c.requires.1) c.args.laid.now.items c.push_group.new.laid.items c.deref-3.result.now c.args.new.now (c.gap_under-gap.ensures (gap c.args.width c.args.laid.now.items c.args.numbers.now.items c.args.first c.args.end c.args.signs.now c.args.new.now c.requires.0 c.requires.1) (fitting_as c.args.width c.args.laid.now.items c.args.numbers.now.items c.args.first c.args.end c.args.signs.now c.args.new.now c.requires.0 c.requires.1 c.deref.result.now c.deref-2.result.now c.deref.ensures.0 c.deref-2.ensures.0)) c.push_group.ensures c.deref-3.ensures.0) (numbers_as c.args.numbers.now.items c.splice_numbers.new.list.items c.deref-4.result.now c.args.laid.now.items c.args.first c.args.end (c.len.result + 1) (length c.args.new.now) (ap (λ (n : ℕ). n + 1) c.len.ensures.value) c.splice_numbers.ensures c.deref-4.ensures.0) c.saturating_sub-left.ensures (omega arith))).bottoms)))
 
 pub returns-clause-numbers : goal.returns-clause-numbers
 returns-clause-numbers c e = numbers_as c.args.numbers.now.items c.splice_numbers.new.list.items c.splice_numbers.new.list.items c.args.laid.now.items c.args.first c.args.end (c.len.result + 1) (length c.args.new.now) (ap (λ (n : ℕ). n + 1) c.len.ensures.value) c.splice_numbers.ensures refl

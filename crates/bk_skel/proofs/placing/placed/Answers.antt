@@ -1,5 +1,5 @@
 use Rattle.std.proofs.Common.{arith, drop, refl, take, ◌+◌, ◌-◌}
-use Rattle.bk_skel.proofs.LaidOnce.{laid_once}
+use Rattle.bk_word_net.proofs.LaidOnce.{laid_once}
 use Rattle.bk_skel.proofs.PlacingLoop.{placed_start}
 use Rattle.bk_skel.proofs.PlacingStep.{end_can, end_is, first_is_there, sides_there, start_as, step_can, step_more, step_none, width_as}
 use Rattle.bk_skel.proofs.placing.placed.Goals as goal

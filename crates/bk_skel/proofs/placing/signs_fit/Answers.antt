@@ -1,6 +1,6 @@
 use Rattle.std.proofs.Common.{rules}
 use Rattle.bk_skel.proofs.PlacingLists.{signs_done}
-use Rattle.bk_skel.specs.Board.{bottom_at}
+use Rattle.bk_word_net.specs.LaidOutline.{bottom_at}
 use Rattle.bk_skel.proofs.placing.signs_fit.Goals as goal
 
 pub returns : goal.returns

@@ -1,6 +1,6 @@
 use Rattle.std.proofs.Common.{drop, get_or, map, ◌≡◌}
 use Rattle.bk_lay.specs.TilingWord.{signs_between}
-use Rattle.bk_skel.specs.Board.{bottom_at}
+use Rattle.bk_word_net.specs.LaidOutline.{bottom_at}
 use Rattle.bk_skel.proofs.placing.signs_fit.Given as goal
 
 abbrev pub invariant-loop-i : goal.invariant-loop-i

@@ -1,10 +1,10 @@
 use Rattle.std.proofs.Common.{refl}
-use Rattle.bk_tiling.proofs.Cells.{not_both}
+use Rattle.std.proofs.lemmas.Bool.{both_ways}
 use Rattle.bk_skel.proofs.RealisedWord.{large_word, loose_fault, memory_fault, not_wide, open_end, wide_fault}
 use Rattle.bk_skel.proofs.realising.realise.Goals as goal
 
 pub returns-then-not-is_closed-clause-refused : goal.returns-then-not-is_closed-clause-refused
-returns-then-not-is_closed-clause-refused c = open_end c.in-Ok.skel c.args.word.now c.in-Ok.ensures.skeleton c.requires c.in-Ok.ensures.legal (λ complete. not_both c.is_closed.result (c.is_closed.ensures.1 complete) c.if-not-is_closed.true)
+returns-then-not-is_closed-clause-refused c = open_end c.in-Ok.skel c.args.word.now c.in-Ok.ensures.skeleton c.requires c.in-Ok.ensures.legal (λ complete. both_ways c.is_closed.result c.if-not-is_closed.true (c.is_closed.ensures.1 complete))
 
 pub returns-in-Err-NoMemory-clause-refused : goal.returns-in-Err-NoMemory-clause-refused
 returns-in-Err-NoMemory-clause-refused c = memory_fault c.in-Ok.skel c.args.word.now c.in-Ok.ensures.skeleton (c.is_closed.ensures.0 c.if-not-is_closed.false) c.net.result c.net.ensures c.in-Err-NoMemory.field-0 c.in-Err-NoMemory.ensures.refused c.in-Err-NoMemory.field-0-is

@@ -1,6 +1,6 @@
 use Rattle.std.proofs.Common.{Err, Ok, Result, inr, refl}
 use Rattle.std.specs.Prelude.{IsErr, IsOk}
-use Rattle.bk_skel.proofs.NarrowWords.{no_small_word_is_wide}
+use Rattle.bk_word_net.proofs.NarrowWords.{no_small_word_is_wide}
 use Rattle.bk_skel.proofs.RealisedWord.{narrow_net, net_few, net_joined, wide_by_currents, wide_net}
 use Rattle.bk_skel.proofs.realising.realise_small.Goals as goal
 

@@ -1,6 +1,6 @@
 use Rattle.std.proofs.Common.{refl}
-use Rattle.bk_tiling.proofs.Cells.{not_both}
-use Rattle.bk_skel.proofs.WordTilings.{large_by, large_from, none_by, realised_by, sides_many}
+use Rattle.std.proofs.lemmas.Bool.{both_ways}
+use Rattle.bk_word_net.proofs.WordTilings.{large_by, large_from, none_by, realised_by, sides_many}
 use Rattle.bk_skel.proofs.realising.realised.Goals as goal
 
 pub returns-then-has_large-clause-wide : goal.returns-then-has_large-clause-wide
@@ -13,10 +13,10 @@ pub returns-in-Some-clause-realised : goal.returns-in-Some-clause-realised
 returns-in-Some-clause-realised c = realised_by c.args.skel.now c.requires.closed c.args.flow.now.total c.args.flow.now.currents c.requires.flow c.currents-currents.result.now c.in-Some.sides.items c.deref.result.now c.currents-currents.ensures.value c.in-Some.ensures.currents c.deref.ensures.0 c.placed.result c.placed.ensures.placed c.placed.ensures.only
 
 pub returns-in-Some-clause-wide : goal.returns-in-Some-clause-wide
-returns-in-Some-clause-wide c = (λ e. absurd (not_both _ e refl), λ h. absurd (not_both c.has_large.result (c.has_large.ensures.1 (large_from c.args.skel.now c.requires.closed c.args.flow.now.total c.args.flow.now.currents c.requires.flow c.currents-currents.result.now c.currents-currents.ensures.value h)) c.if-has_large.false))
+returns-in-Some-clause-wide c = (λ e. absurd (both_ways _ refl e), λ h. absurd (both_ways c.has_large.result c.if-has_large.false (c.has_large.ensures.1 (large_from c.args.skel.now c.requires.closed c.args.flow.now.total c.args.flow.now.currents c.requires.flow c.currents-currents.result.now c.currents-currents.ensures.value h))))
 
 pub returns-in-None-clause-realised : goal.returns-in-None-clause-realised
 returns-in-None-clause-realised c = none_by c.args.skel.now c.requires.closed c.args.flow.now.total c.args.flow.now.currents c.requires.flow c.currents-currents.result.now c.currents-currents.ensures.value c.in-None.ensures.none
 
 pub returns-in-None-clause-wide : goal.returns-in-None-clause-wide
-returns-in-None-clause-wide c = (λ e. absurd (not_both _ e refl), λ h. absurd (not_both c.has_large.result (c.has_large.ensures.1 (large_from c.args.skel.now c.requires.closed c.args.flow.now.total c.args.flow.now.currents c.requires.flow c.currents-currents.result.now c.currents-currents.ensures.value h)) c.if-has_large.false))
+returns-in-None-clause-wide c = (λ e. absurd (both_ways _ refl e), λ h. absurd (both_ways c.has_large.result c.if-has_large.false (c.has_large.ensures.1 (large_from c.args.skel.now c.requires.closed c.args.flow.now.total c.args.flow.now.currents c.requires.flow c.currents-currents.result.now c.currents-currents.ensures.value h))))

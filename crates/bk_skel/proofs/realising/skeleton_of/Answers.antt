@@ -1,5 +1,5 @@
 use Rattle.std.proofs.Common.{arith}
-use Rattle.bk_tiling.proofs.Cells.{not_both}
+use Rattle.std.proofs.lemmas.Bool.{both_ways}
 use Rattle.bk_skel.proofs.PlayedWord.{first_illegal, played_few, played_first, played_last, played_more}
 use Rattle.bk_skel.proofs.realising.skeleton_of.Goals as goal
 
@@ -16,7 +16,7 @@ pub loop-i-preserved : goal.loop-i-preserved
 loop-i-preserved c = played_more c.args.word.now c.loop-i.i c.loop-i.skel c.loop-i.invariant c.get-m.result c.get-m.ensures.value (c.legal.ensures.0 c.if-not-legal.false) c.play.new.self c.play.ensures
 
 pub returns-then-not-legal-clause-illegal : goal.returns-then-not-legal-clause-illegal
-returns-then-not-legal-clause-illegal c = first_illegal c.args.word.now c.loop-i.i c.loop-i.skel c.loop-i.invariant c.get-m.result c.get-m.ensures.value (omega (arith, c.loop-i-test.true, c.moves-i-end.ensures.value)) (λ l. not_both c.legal.result (c.legal.ensures.1 l) c.if-not-legal.true)
+returns-then-not-legal-clause-illegal c = first_illegal c.args.word.now c.loop-i.i c.loop-i.skel c.loop-i.invariant c.get-m.result c.get-m.ensures.value (omega (arith, c.loop-i-test.true, c.moves-i-end.ensures.value)) (λ l. both_ways c.legal.result c.if-not-legal.true (c.legal.ensures.1 l))
 
 pub returns-clause-skeleton : goal.returns-clause-skeleton
 returns-clause-skeleton c = (played_last c.args.word.now c.loop-i.i c.loop-i.skel c.loop-i.invariant (omega (arith, c.loop-i-test.false, c.moves-i-end.ensures.value))).0

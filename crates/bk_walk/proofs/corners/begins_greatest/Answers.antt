@@ -1,5 +1,5 @@
 use Rattle.std.proofs.Common.{arith}
-use Rattle.bk_walk.proofs.CornerTest.{not_canonical}
+use Rattle.bk_barren.proofs.CornerTest.{not_canonical}
 use Rattle.bk_walk.proofs.corners.begins_greatest.Goals as goal
 
 pub returns-then-is_at_wall-2 : goal.returns-then-is_at_wall-2

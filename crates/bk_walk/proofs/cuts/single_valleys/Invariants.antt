@@ -1,4 +1,4 @@
-use Rattle.bk_walk.proofs.CountingLaws.{IsFound}
+use Rattle.bk_bounds.proofs.CountingLaws.{IsFound}
 use Rattle.bk_walk.proofs.cuts.single_valleys.Given as goal
 
 abbrev pub invariant-loop-i : goal.invariant-loop-i

@@ -1,6 +1,6 @@
 use Rattle.std.proofs.Common.{ap, arith, ◌∙◌}
 use Rattle.bk_walk.proofs.LinedMoves.{valley_slice}
-use Rattle.bk_walk.specs.VerticalCut.{begins_on_line}
+use Rattle.bk_bounds.specs.VerticalCut.{begins_on_line}
 use Rattle.bk_walk.proofs.lines.valley_on_line.Goals as goal
 
 pub returns : goal.returns

@@ -1,6 +1,6 @@
 use Rattle.std.proofs.Common.{ap, arith, refl, sym, ◌+◌, ◌-◌, ◌∙◌, ◌≡◌}
-use Rattle.bk_walk.proofs.LastSigns.{fill_none, fill_one, filled_up}
-use Rattle.bk_walk.specs.NextMove.{padded}
+use Rattle.bk_tree.proofs.LastSigns.{fill_none, fill_one, filled_up}
+use Rattle.bk_tree.specs.NextMove.{padded}
 use Rattle.bk_walk.proofs.moves.pad.Goals as goal
 
 pub signs-init : goal.signs-init

@@ -5,9 +5,9 @@ use Rattle.bk_word.specs.Word.{Move, order_of}
 use Rattle.bk_word.specs.declared.Sign.{Sign}
 use Rattle.bk_walk.proofs.CutLaws.{after_near, front_signs}
 use Rattle.bk_walk.proofs.OwingLaws.{owing_cut}
-use Rattle.bk_walk.specs.ClosingBound.{closing_bound, is_under}
+use Rattle.bk_bounds.specs.ClosingBound.{closing_bound, is_under}
 use Rattle.bk_walk.specs.MoveCuts.{IsCut, IsNear}
-use Rattle.bk_walk.specs.NextMove.{move_after}
+use Rattle.bk_tree.specs.NextMove.{move_after}
 use Rattle.bk_walk.proofs.owing.skip_owing.Goals as goal
 
 same : (c : goal.After-pass) → c.pass.new.m ≡ move_after (front_signs c.in-Some.kept c.args.m.now)

@@ -1,5 +1,5 @@
 use Rattle.std.proofs.Common.{[], ◌++◌, ◌-◌, ◌∷◌}
-use Rattle.bk_walk.proofs.Ranks.{left_after}
+use Rattle.bk_tree.proofs.Ranks.{left_after}
 use Rattle.bk_walk.proofs.SearchLoop.{Continues}
 use Rattle.bk_walk.specs.Search.{Counts, IsStand}
 use Rattle.bk_walk.proofs.search.search.Given as goal

@@ -4,7 +4,7 @@ use Rattle.bk_word.specs.Play.{outline_of}
 use Rattle.bk_word.specs.Word.{Move, Word, order_of}
 use Rattle.bk_walk.proofs.Standing.{turn_climbs, turn_cuts, turn_ends, turn_goes_down, turn_least, turn_reaches, turn_signs, turn_turns_back}
 use Rattle.bk_walk.specs.MoveCuts.{IsCut}
-use Rattle.bk_walk.specs.NextMove.{fitted, open_sides}
+use Rattle.bk_tree.specs.NextMove.{fitted, open_sides}
 use Rattle.bk_walk.specs.Search.{Leads}
 use Rattle.bk_walk.specs.declared.search.Turn.{Turn}
 use Rattle.bk_walk.proofs.search.take_turn.Goals as goal

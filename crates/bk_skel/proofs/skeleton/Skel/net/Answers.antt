@@ -6,7 +6,7 @@ use Rattle.bk_skel.proofs.NetRead.{ReadsNet, closed_many, closed_numbers, closed
 use Rattle.bk_skel.proofs.SkelReads.{counted_in}
 use Rattle.bk_skel.specs.Skeleton.{moves_stored}
 use Rattle.bk_skel.specs.Wiring.{AreNumbers, AreWires, closed_of, counts_of, wires_from}
-use Rattle.bk_skel.specs.WordNet.{end_of, net_of_word}
+use Rattle.bk_word_net.specs.WordNet.{end_of, net_of_word}
 use Rattle.bk_skel.specs.declared.turns.Turn.{Turn}
 use Rattle.bk_skel.proofs.skeleton.Skel.net.Goals as goal
 

@@ -1,5 +1,5 @@
 use Rattle.std.proofs.Common.{ap, arith, length}
-use Rattle.bk_tiling.proofs.ListLaws.{length_map}
+use Rattle.std.proofs.lemmas.List.{length-map}
 use Rattle.bk_skel.proofs.TurnRecords.{no_turn, signs_seen, signs_within}
 use Rattle.bk_skel.specs.Skeleton.{move_of, moves_stored}
 use Rattle.bk_skel.proofs.skeleton.Skel.signs_at.Goals as goal
@@ -15,4 +15,4 @@ slice_bounds-result-end c = omega (arith, (signs_within (moves_stored c.self.ins
 
 pub returns : goal.returns
 returns c m e = signs_seen (moves_stored c.self.inside.turns.items c.self.inside.played.items) c.args.self.now c.self.inside.turns.items c.deref.result.now c.self.inside.played.items c.deref-2.result.now c.args.i no_turn c.from.result c.from-2.result m c.self.view_is c.deref.ensures.0 c.deref-2.ensures.0
-    (omega (arith, c.requires, ap length c.self.view_is, length_map (move_of c.self.inside.played.items) c.self.inside.turns.items)) c.from.ensures c.from-2.ensures e
+    (omega (arith, c.requires, ap length c.self.view_is, length-map c.self.inside.turns.items (move_of c.self.inside.played.items))) c.from.ensures c.from-2.ensures e

@@ -1,8 +1,8 @@
 use Rattle.std.proofs.Common.{ap, arith, length, sum, ◌∙◌, ◌≡◌}
 use Rattle.bk_word.specs.Play.{outline_of}
 use Rattle.bk_skel.proofs.TurnParts.{sum_lengths}
-use Rattle.bk_walk.proofs.BoundsOfWords.{line_bound_by_lists, sizes_long}
-use Rattle.bk_walk.specs.VerticalCut.{line_bound, line_bound_of, lines_of, segments_of, touched}
+use Rattle.bk_bounds.proofs.BoundsOfWords.{line_bound_by_lists, sizes_long}
+use Rattle.bk_bounds.specs.VerticalCut.{line_bound, line_bound_of, lines_of, segments_of, touched}
 use Rattle.bk_walk.proofs.lined.LinedSkel.line_bound.Goals as goal
 
 pub line_bound-requires-clause-long : goal.line_bound-requires-clause-long

@@ -3,7 +3,7 @@ use Rattle.bk_word.specs.Outline.{IsLegalMove}
 use Rattle.bk_word.specs.Play.{outline_of}
 use Rattle.bk_word.specs.Word.{Move, Word, order_of}
 use Rattle.bk_skel.proofs.TurnParts.{sum_lengths}
-use Rattle.bk_walk.proofs.BoundsOfWords.{sizes_long}
+use Rattle.bk_bounds.proofs.BoundsOfWords.{sizes_long}
 use Rattle.bk_walk.proofs.LinedMoves.{lined_count, lined_more, valley_begins}
 use Rattle.bk_walk.proofs.lined.LinedSkel.push.Goals as goal
 

@@ -1,0 +1,11 @@
+pub mod CornerLaws
+pub mod CornerTest
+pub mod Parts
+pub mod VerticalParts
+pub mod ClearLines
+pub mod Cutting
+pub mod CuttingPairs
+pub mod CuttingFirst
+pub mod CuttingBounds
+pub mod CuttingLines
+pub mod BegunWords

@@ -1,0 +1,5 @@
+use Rattle.bk_barren.proofs.CuttingPairs.{one_under_one_is_barren as the_law}
+use Rattle.bk_barren.proofs.one_under_one_is_barren.Goals as goal
+
+pub returns : goal.returns
+returns c = the_law

@@ -1,0 +1,29 @@
+-- The bounds after the moves of a legal word, by the flat lists of the open segments: how many squares each has, and the
+-- numbers of these squares.
+use Rattle.std.specs.List.{concat}
+use Rattle.std.proofs.Common.{List, [], ap, arith, length, map, refl, ℕ, ◌+◌, ◌∙◌, ◌∷◌, ◌≡◌}
+use Rattle.std.proofs.lemmas.List.{drop_at, length-map, take_at}
+use Rattle.bk_word.specs.Outline.{start}
+use Rattle.bk_word.specs.Play.{IsLegal, outline_of}
+use Rattle.bk_word.specs.Word.{Word}
+use Rattle.bk_word_net.proofs.Shape.{Shaped, shaped_moves, shaped_start}
+use Rattle.bk_bounds.specs.SingleValleys.{sizes_of}
+use Rattle.bk_bounds.specs.VerticalCut.{line_bound, line_bound_of, lines_of, segments_of, touched}
+
+-- ---- the flat lists make the segments again
+
+pub segments_again : (segments : List (List ℕ)) → segments_of (map length segments) (concat segments) ≡ segments
+segments_again [] = refl
+segments_again (s ∷ segments) = (λ i. take_at s (concat segments) (length s) refl i ∷ segments_of (map length segments) (drop_at s (concat segments) (length s) refl i)) ∙ ap (λ ss. s ∷ ss) (segments_again segments)
+
+pub line_bound_by_lists : (w : Word) → line_bound (outline_of w).signs (touched (lines_of w) (segments_of (sizes_of (outline_of w)) (concat (outline_of w).segments))) ≡ line_bound_of w
+line_bound_by_lists w = λ i. line_bound (outline_of w).signs (touched (lines_of w) (segments_again (outline_of w).segments i))
+
+-- ---- there is one segment more than signs
+
+pub shape_of_word : (w : Word) → IsLegal w → Shaped (outline_of w)
+shape_of_word w legal = shaped_moves start w legal shaped_start
+
+-- so what the bounds require of the flat lists holds
+pub sizes_long : (w : Word) → IsLegal w → length (sizes_of (outline_of w)) ≡ length (outline_of w).signs + 1
+sizes_long w legal = omega (arith, length-map (outline_of w).segments (λ (s : List ℕ). length s), (shape_of_word w legal).many)

@@ -1,0 +1,9 @@
+pub mod ClosingLaws
+pub mod SingleLaws
+pub mod LineLaws
+pub mod LineMoves
+pub mod WordBoundLaws
+pub mod BoundsOfWords
+pub mod BoundExamples
+pub mod CountingLaws
+pub mod LineCounting

@@ -1,0 +1,4 @@
+pub mod ClosingBound
+pub mod SingleValleys
+pub mod VerticalCut
+pub mod WordBounds

@@ -1,0 +1,10 @@
+pub mod AllOfLists
+pub mod ListPlaces
+pub mod ZippedLists
+pub mod Counts
+pub mod Occurrences
+pub mod Tests
+pub mod Totals
+pub mod Products
+pub mod Powers
+pub mod WholeNumbers

@@ -1,0 +1,51 @@
+-- What stands at a place of a list: in lists laid end to end, and in a mapped list.
+use Rattle.std.proofs.Common.{List, None, Some, [], ap, arith, length, map, refl, slice_get, slice_index_or, suc, zero, ℕ, ◌++◌, ◌+◌, ◌<◌, ◌∷◌, ◌≡◌}
+
+-- there is an element at each place below the length
+pub get_some : {A : Type 0} (xs : List A) (k : ℕ) → k < length xs → (x : A) × (slice_get xs k ≡ Some x)
+get_some [] k h = absurd (omega arith)
+get_some (x ∷ xs) zero h = (x, refl)
+get_some (x ∷ xs) (suc k) h = get_some xs k (omega arith)
+
+-- what stands at a place of the first list stands there in both, end to end
+pub get_append : {A : Type 0} (xs ys : List A) (k : ℕ) (x : A) → slice_get xs k ≡ Some x → slice_get (xs ++ ys) k ≡ Some x
+get_append [] ys k x e = absurd (impossible e)
+  where
+    impossible : None ≡ Some x → ⊥
+    impossible f = cc
+get_append (w ∷ xs) ys zero x e = e
+get_append (w ∷ xs) ys (suc k) x e = get_append xs ys k x e
+
+-- the element between two lists stands at the place after the first
+pub get_last : {A : Type 0} (xs : List A) (x : A) (ys : List A) → slice_get (xs ++ x ∷ ys) (length xs) ≡ Some x
+get_last [] x ys = refl
+get_last (w ∷ xs) x ys = get_last xs x ys
+
+-- the second list begins where the first ends
+pub get_after : {A : Type 0} (xs ys : List A) (i j : ℕ) → j ≡ length xs + i → slice_get (xs ++ ys) j ≡ slice_get ys i
+get_after [] ys i j e = ap (slice_get ys) same
+  where
+    same : j ≡ i
+    same = omega arith
+get_after (x ∷ xs) ys i zero e = absurd (omega arith)
+get_after (x ∷ xs) ys i (suc j) e = get_after xs ys i j (omega arith)
+
+-- a mapped list has the mapped element
+pub get_map : {A B : Type 0} (f : A → B) (xs : List A) (k : ℕ) (x : A) → slice_get xs k ≡ Some x → slice_get (map f xs) k ≡ Some (f x)
+get_map f [] k x e = absurd (cc)
+get_map f (y ∷ xs) zero x e = let same : y ≡ x = cc in ap (λ z. Some (f z)) same
+get_map f (y ∷ xs) (suc k) x e = get_map f xs k x e
+
+-- the same of elements with a value for places past the end: in the first list, and in the second
+pub get_front : {A : Type 0} (xs ys : List A) (k : ℕ) (d : A) → k < length xs → slice_index_or (xs ++ ys) k d ≡ slice_index_or xs k d
+get_front [] ys k d h = absurd (omega arith)
+get_front (x ∷ xs) ys zero d h = refl
+get_front (x ∷ xs) ys (suc k) d h = get_front xs ys k d (omega arith)
+
+pub get_back : {A : Type 0} (xs ys : List A) (k j : ℕ) (d : A) → j ≡ length xs + k → slice_index_or (xs ++ ys) j d ≡ slice_index_or ys k d
+get_back [] ys k j d e = λ i. slice_index_or ys (same i) d
+  where
+    same : j ≡ k
+    same = omega arith
+get_back (x ∷ xs) ys k zero d e = absurd (omega arith)
+get_back (x ∷ xs) ys k (suc j) d e = get_back xs ys k j d (omega arith)

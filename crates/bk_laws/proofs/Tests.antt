@@ -1,0 +1,31 @@
+-- Tests over all numbers below a number, and a test that is asked only where another passes.
+use Rattle.std.proofs.Common.{Bool, ap, arith, false, inl, inr, not, suc, true, zero, ℕ, ◌&&◌, ◌<◌, ◌||◌, ◌∙◌, ◌≡◌, ◌≤◌, ◌⊎◌}
+use Rattle.std.proofs.lemmas.Bool.{and_parts}
+
+-- the test passes at each number below n
+abbrev pub all_below : (ℕ → Bool) → ℕ → Bool
+all_below p zero = true
+all_below p (suc n) = p n && all_below p n
+
+-- so it passes at any of them
+pub each_below : (p : ℕ → Bool) (n : ℕ) → all_below p n ≡ true → (c : ℕ) → c < n → p c ≡ true
+each_below p zero e c h = absurd (omega arith)
+each_below p (suc n) e c h = cases (last c n (omega arith)) (each_below p n parts.1)
+  where
+    parts : (p n ≡ true) × (all_below p n ≡ true)
+    parts = and_parts (p n) (all_below p n) e
+
+    last : (c n : ℕ) → c ≤ n → (c ≡ n) ⊎ (c < n)
+    last c n h = grind arith
+
+    cases : (c ≡ n) ⊎ (c < n) → ((c : ℕ) → c < n → p c ≡ true) → p c ≡ true
+    cases (inl same) rest = ap p same ∙ parts.0
+    cases (inr below) rest = rest c below
+
+-- where the first test passes, the second was asked and passes
+pub after_of : (a : Bool) (b : Bool) → not a || b ≡ true → a ≡ true → b ≡ true
+after_of true b e f = e
+after_of false b e f = absurd (impossible f)
+  where
+    impossible : false ≡ true → ⊥
+    impossible g = cc

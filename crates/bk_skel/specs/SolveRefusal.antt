@@ -1,0 +1,23 @@
+-- What the net of a word makes of it: its one primitive tiling, none, or a refusal.
+use Rattle.std.specs.Prelude.{length, take, ℕ, ◌-◌, ◌<◌, ◌≤◌}
+use Rattle.bk_word.specs.Play.{IsComplete, IsLegal, outline_of}
+use Rattle.bk_word.specs.Word.{Word, order_of}
+use Rattle.bk_word.specs.declared.TheConstants.{INLINE_ORDER}
+use Rattle.bk_word_net.specs.WideWord.{IsWideWord}
+use Rattle.bk_skel.specs.declared.realising.SolveFault.TheVariants.{Illegal, NoMemory, OpenEnd, Wide}
+use Rattle.bk_skel.specs.declared.realising.SolveFault.{SolveFault}
+
+-- the move at this place, from 1, is the first that isn't legal after those before it
+pub record IsFirstIllegal (w : Word) (place : ℕ) : Type 0 where
+  pub some : 0 < place
+  pub within : place ≤ length w
+  pub before : IsLegal (take (place - 1) w)
+  pub here : ¬ (IsLegal (take place w))
+
+-- why the word has no answer: its first illegal move; more than one segment that is left; a number that is too large;
+-- or memory that is wanting, past the squares of a small word
+abbrev pub IsSolveFault : Word → SolveFault → Type 0
+IsSolveFault w (Illegal place) = IsFirstIllegal w place
+IsSolveFault w OpenEnd = IsLegal w × (1 < length (outline_of w).segments)
+IsSolveFault w Wide = IsComplete w × IsWideWord w
+IsSolveFault w NoMemory = IsComplete w × (INLINE_ORDER < order_of w)

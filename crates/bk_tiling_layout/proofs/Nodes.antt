@@ -1,0 +1,278 @@
+-- The nodes of a tiling: each has a level and an interval of columns; what hangs from it and what ends on it.
+use Rattle.std.proofs.Common.{List, Some, [], ap, arith, cond, count_by, inl, inr, length, map, nat_eq, refl, slice_get, slice_index_or, subst, suc, sym, true, zero, ℕ, ◌&&◌, ◌++◌, ◌+◌, ◌-◌, ◌<◌, ◌∙◌, ◌∷◌, ◌≡◌, ◌≤◌, ◌⊎◌}
+use Rattle.std.proofs.lemmas.Bool.{cases_lt}
+use Rattle.std.proofs.lemmas.Bool.Decides.{nat_tests}
+use Rattle.std.proofs.lemmas.Option.{slice_get_within}
+use Rattle.bk_tiling.proofs.Cells.{counted_one, covers_from, in_all, one_counted}
+use Rattle.bk_tiling.proofs.Groups.{IsGroup, row_of}
+use Rattle.bk_tiling.proofs.Rows.{chain_over, chain_within}
+use Rattle.bk_tiling.proofs.TilingGroups.{known, one_there}
+use Rattle.bk_tiling.proofs.TilingLaws.{cell_once, wide_enough}
+use Rattle.bk_tiling.specs.Column.{covers_column}
+use Rattle.bk_tiling.specs.SquareGroups.{square_groups}
+use Rattle.bk_tiling.specs.Tiling.{IsOneOf, IsTiling, Tiling, covers}
+use Rattle.bk_tiling.specs.declared.Square.{Square}
+use Rattle.bk_net.proofs.NodeNumbers.{at_bottom}
+use Rattle.bk_net.proofs.SidesFlow.{below_from, get_index, group_of, in_group, place, row_is, stands_on}
+use Rattle.bk_net.proofs.SmithLists.{HasGroup, has_group}
+use Rattle.bk_net.specs.Diagram.{group_level, node_below, node_levels}
+use Rattle.bk_tiling_layout.proofs.Edges.{Hangs, IsCell, IsOn, bottom_within, cell, hangs_below, meet, right_within, side}
+use Rattle.bk_tiling_layout.specs.TilingLayout.{node_above}
+
+-- a node stretches over columns at a level. What hangs from it are the squares with tops there, and what ends on it are those
+-- with bottoms there; no square stands beside these at either end
+pub record IsNode (t : Tiling) (v : ℕ) : Type 0 where
+  pub left : ℕ
+  pub right : ℕ
+  pub level : ℕ
+  pub some : left < right
+  pub wide : right ≤ t.width
+  pub is_level : slice_index_or (node_levels t) v 0 ≡ level
+  pub hang_to : (q : Square) → IsOneOf q t.squares → node_above (square_groups t.squares) q ≡ v → (q.y ≡ level) × (left ≤ q.x) × (q.x + q.s ≤ right)
+  pub hang_from : (q : Square) (c : ℕ) → IsOneOf q t.squares → q.y ≡ level → left ≤ c → c < right → q.x ≤ c → c < q.x + q.s → node_above (square_groups t.squares) q ≡ v
+  pub end_to : (q : Square) → IsOneOf q t.squares → node_below (square_groups t.squares) q ≡ v → (q.y + q.s ≡ level) × (left ≤ q.x) × (q.x + q.s ≤ right)
+  pub end_from : (q : Square) (c : ℕ) → IsOneOf q t.squares → q.y + q.s ≡ level → left ≤ c → c < right → q.x ≤ c → c < q.x + q.s → node_below (square_groups t.squares) q ≡ v
+  pub under : (q : Square) (c : ℕ) → IsOneOf q t.squares → left ≤ c → c < right → IsOn c level q → q.y ≡ level
+  pub beyond_left : (z : Square) → IsOneOf z t.squares → z.y ≡ level → z.x + z.s ≡ left → ⊥
+  pub beyond_right : (z : Square) → IsOneOf z t.squares → z.y ≡ level → z.x ≡ right → ⊥
+  pub inner : ((v < length (square_groups t.squares)) × (level < t.height)) ⊎ ((v ≡ length (square_groups t.squares)) × (level ≡ t.height) × (left ≡ 0) × (right ≡ t.width))
+  pub top : v ≡ 0 → (level ≡ 0) × (left ≡ 0) × (right ≡ t.width)
+
+level_of_group : (groups : List (List Square)) (v h : ℕ) (g : List Square) → slice_get groups v ≡ Some g → slice_index_or (map group_level groups ++ h ∷ []) v 0 ≡ group_level g
+level_of_group [] v h g e = absurd (cc)
+level_of_group (f ∷ groups) zero h g e = let same : f ≡ g = cc in ap group_level same
+level_of_group (f ∷ groups) (suc v) h g e = level_of_group groups v h g e
+
+level_of_bottom : (groups : List (List Square)) (h : ℕ) → slice_index_or (map group_level groups ++ h ∷ []) (length groups) 0 ≡ h
+level_of_bottom [] h = refl
+level_of_bottom (g ∷ groups) h = level_of_bottom groups h
+
+one_if : (a b : ℕ) → a ≡ b → ◌≡◌ {A = ℕ} (cond (nat_eq a b) 1 0) 1
+one_if a b e = grind (arith, nat_tests)
+
+if_one : (a b : ℕ) → ◌<◌ 0 (cond {A = ℕ} (nat_eq a b) 1 0) → a ≡ b
+if_one a b h = grind (arith, nat_tests)
+
+-- the square lies under another's bottom, over its left column
+pub record IsUnder (q r : Square) : Type 0 where
+  pub level : r.y ≡ q.y + q.s
+  pub left : r.x ≤ q.x
+  pub right : q.x < r.x + r.s
+
+under_to : (q r : Square) → (nat_eq r.y (q.y + q.s) && covers_column q.x r) ≡ true → IsUnder q r
+under_to q r e = record { level = grind (arith, nat_tests); left = grind (arith, nat_tests); right = grind (arith, nat_tests) }
+
+-- a group, by its columns
+module _ (t : Tiling) (tiling : IsTiling t) (g : List Square) (k : IsGroup t.squares g) (own : (q : Square) → IsOneOf q g → IsOneOf q t.squares) where
+  first_in : IsOneOf k.row.first g
+  first_in = subst (IsOneOf k.row.first) (sym k.row.is) (inl refl)
+
+  tops : (q : Square) → IsOneOf q g → q.y ≡ k.row.first.y
+  tops q h = in_all (λ q. q.y ≡ k.row.first.y) g k.row.tops q h
+
+  within : (q : Square) → IsOneOf q g → (k.row.first.x ≤ q.x) × (q.x + q.s ≤ k.row.end)
+  within q h = chain_within g k.row.first.x k.row.end k.row.chain q h
+
+  over : (c : ℕ) → k.row.first.x ≤ c → c < k.row.end → (r : Square) × IsOneOf r g × IsOn c k.row.first.y r
+  over c lo hi = from (chain_over g k.row.first.x k.row.end k.row.chain c lo hi)
+    where
+      from : (r : Square) × IsOneOf r g × (r.x ≤ c) × (c < r.x + r.s) → (r : Square) × IsOneOf r g × IsOn c k.row.first.y r
+      from (r, h, a, b) = (r, h, record { left = a; right = b; top = omega (arith, tops r h); bottom = omega (arith, tops r h, side t tiling r (own r h)) })
+
+  in_under : (q : Square) (c : ℕ) → IsOneOf q t.squares → k.row.first.x ≤ c → c < k.row.end → IsOn c k.row.first.y q → IsOneOf q g
+  in_under q c h lo hi on = let r = over c lo hi in subst (λ (s : Square). IsOneOf s g) (sym (meet t tiling c k.row.first.y q r.0 h (own r.0 r.1) on r.2)) r.1
+
+  in_level : (q : Square) (c : ℕ) → IsOneOf q t.squares → q.y ≡ k.row.first.y → k.row.first.x ≤ c → c < k.row.end → q.x ≤ c → c < q.x + q.s → IsOneOf q g
+  in_level q c h level lo hi a b = in_under q c h lo hi (record { left = a; right = b; top = omega (arith, level); bottom = omega (arith, level, side t tiling q h) })
+
+  first_own : IsOneOf k.row.first t.squares
+  first_own = own k.row.first first_in
+
+  some_columns : k.row.first.x < k.row.end
+  some_columns = omega (arith, (within k.row.first first_in).1, side t tiling k.row.first first_own)
+
+  end_within : k.row.end ≤ t.width
+  end_within = let r = over (k.row.end - 1) (omega (arith, some_columns)) (omega (arith, some_columns)) in omega (arith, (r.2).right, right_within t tiling r.0 (own r.0 r.1))
+
+  low : k.row.first.y < t.height
+  low = omega (arith, bottom_within t tiling k.row.first first_own, side t tiling k.row.first first_own)
+
+  -- a square that ends at its level over one of its columns ends on it with all its columns
+  ends_within : (q : Square) (c : ℕ) → IsOneOf q t.squares → q.y + q.s ≡ k.row.first.y → k.row.first.x ≤ c → c < k.row.end → q.x ≤ c → c < q.x + q.s → (k.row.first.x ≤ q.x) × (q.x + q.s ≤ k.row.end)
+  ends_within q c h level lo hi a b = (left (cases_lt q.x k.row.first.x), right (cases_lt k.row.end (q.x + q.s)))
+    where
+      left : (q.x < k.row.first.x) ⊎ (k.row.first.x ≤ q.x) → k.row.first.x ≤ q.x
+      left (inr m) = m
+      left (inl m) = absurd (from (hangs_below t tiling q (k.row.first.x - 1) h (omega arith) (omega arith) (omega (arith, level, low))))
+        where
+          from : Hangs t tiling q (k.row.first.x - 1) → ⊥
+          from z = cases (cases_lt k.row.first.x (z.square.x + z.square.s))
+            where
+              cases : (k.row.first.x < z.square.x + z.square.s) ⊎ (z.square.x + z.square.s ≤ k.row.first.x) → ⊥
+              cases (inl n) = omega (arith, (within z.square (in_level z.square k.row.first.x z.is (omega (arith, z.level, level)) (omega arith) some_columns (omega (arith, z.left)) n)).0, z.left, m)
+              cases (inr n) = k.left z.square z.is (omega (arith, z.level, level)) (omega (arith, n, z.right))
+
+      right : (k.row.end < q.x + q.s) ⊎ (q.x + q.s ≤ k.row.end) → q.x + q.s ≤ k.row.end
+      right (inr m) = m
+      right (inl m) = absurd (from (hangs_below t tiling q k.row.end h (omega arith) m (omega (arith, level, low))))
+        where
+          from : Hangs t tiling q k.row.end → ⊥
+          from z = cases (cases_lt z.square.x k.row.end)
+            where
+              cases : (z.square.x < k.row.end) ⊎ (k.row.end ≤ z.square.x) → ⊥
+              cases (inl n) = omega (arith, (within z.square (in_level z.square (k.row.end - 1) z.is (omega (arith, z.level, level)) (omega (arith, some_columns)) (omega (arith, some_columns)) (omega arith) (omega (arith, z.right)))).1, z.right)
+              cases (inr n) = k.row.right z.square z.is (omega (arith, z.level, level)) (omega (arith, n, z.left))
+
+  -- where it begins at the top left corner, it reaches to the right edge
+  reaches : k.row.first.x ≡ 0 → k.row.first.y ≡ 0 → k.row.end ≡ t.width
+  reaches x y = cases (cases_lt k.row.end t.width)
+    where
+      cases : (k.row.end < t.width) ⊎ (t.width ≤ k.row.end) → k.row.end ≡ t.width
+      cases (inr m) = omega (arith, m, end_within)
+      cases (inl m) = absurd (from (cell t tiling k.row.end 0 m (omega (arith, low))))
+        where
+          from : IsCell t tiling k.row.end 0 → ⊥
+          from z = by (cases_lt z.square.x k.row.end)
+            where
+              by : (z.square.x < k.row.end) ⊎ (k.row.end ≤ z.square.x) → ⊥
+              by (inl n) = omega (arith, (within z.square (in_level z.square (k.row.end - 1) z.is (omega (arith, z.on.top, y)) (omega (arith, some_columns)) (omega (arith, some_columns)) (omega arith) (omega (arith, z.on.right)))).1, z.on.right)
+              by (inr n) = k.row.right z.square z.is (omega (arith, z.on.top, y)) (omega (arith, n, z.on.left))
+
+module _ (t : Tiling) (tiling : IsTiling t) where
+  -- the group of a square
+  pub own_group : (q : Square) → IsOneOf q t.squares → HasGroup (covers q.x q.y) (square_groups t.squares) (node_above (square_groups t.squares) q)
+  own_group q h = has_group (covers q.x q.y) (square_groups t.squares) (omega (
+    arith,
+    ap (count_by (covers q.x q.y)) (row_is t tiling),
+    cell_once t tiling q.x q.y (omega (arith, side t tiling q h, right_within t tiling q h)) (omega (arith, side t tiling q h, bottom_within t tiling q h)),
+  ))
+
+  own_cell : (q : Square) → IsOneOf q t.squares → covers q.x q.y q ≡ true
+  own_cell q h = covers_from q.x q.y q (omega arith) (omega (arith, side t tiling q h)) (omega arith) (omega (arith, side t tiling q h))
+
+  pub above_bottom : (q : Square) → IsOneOf q t.squares → node_above (square_groups t.squares) q < length (square_groups t.squares)
+  above_bottom q h = cases (own_group q h).found
+    where
+      cases : ((node_above (square_groups t.squares) q < length (square_groups t.squares)) × (0 < count_by (covers q.x q.y) (slice_index_or (square_groups t.squares) (node_above (square_groups t.squares) q) [])))
+          ⊎ ((node_above (square_groups t.squares) q ≡ length (square_groups t.squares)) × (count_by (covers q.x q.y) (row_of (square_groups t.squares)) ≡ 0)) → node_above (square_groups t.squares) q < length (square_groups t.squares)
+      cases (inl m) = m.0
+      cases (inr m) = absurd (omega (arith, m.1, ap (count_by (covers q.x q.y)) (row_is t tiling), one_counted (covers q.x q.y) t.squares q h (own_cell q h)))
+
+  module _ (v : ℕ) (g : List Square) (e : slice_get (square_groups t.squares) v ≡ Some g) where
+    few : v < length (square_groups t.squares)
+    few = slice_get_within (square_groups t.squares) v g e
+
+    abbrev group : IsGroup t.squares g
+    group = (group_of t tiling v g e).0
+
+    own_in : (q : Square) → IsOneOf q g → IsOneOf q t.squares
+    own_in q h = in_group t tiling v g e q h
+
+    above_to : (q : Square) → IsOneOf q t.squares → node_above (square_groups t.squares) q ≡ v → IsOneOf q g
+    above_to q h same = from (counted_one (covers q.x q.y) g (omega (arith, ap (count_by (covers q.x q.y)) (get_index (square_groups t.squares) v g e), (own_group q h).counts v few, one_if (node_above (square_groups t.squares) q) v same)))
+      where
+        from : (r : Square) × IsOneOf r g × (covers q.x q.y r ≡ true) → IsOneOf q g
+        from (r, m, f) = subst (λ (s : Square). IsOneOf s g) (sym (one_there t tiling q r q.x q.y h (own_cell q h) (own_in r m) f)) m
+
+    pub above_from : (q : Square) → IsOneOf q g → node_above (square_groups t.squares) q ≡ v
+    above_from q h = if_one (node_above (square_groups t.squares) q) v (omega (arith, one_counted (covers q.x q.y) g q h (own_cell q (own_in q h)), ap (count_by (covers q.x q.y)) (get_index (square_groups t.squares) v g e), (own_group q (own_in q h)).counts v few))
+
+    below_to : (q : Square) → IsOneOf q t.squares → node_below (square_groups t.squares) q ≡ v → (q.y + q.s ≡ (group_of t tiling v g e).0.row.first.y) × ((group_of t tiling v g e).0.row.first.x ≤ q.x) × (q.x + q.s ≤ (group_of t tiling v g e).0.row.end)
+    below_to q h same = from (counted_one (λ r. nat_eq r.y (q.y + q.s) && covers_column q.x r) g (omega (
+      arith,
+      ap (count_by (λ r. nat_eq r.y (q.y + q.s) && covers_column q.x r)) (get_index (square_groups t.squares) v g e),
+      (place t tiling q h).counts v few,
+      one_if (node_below (square_groups t.squares) q) v same,
+    )))
+      where
+        from : (r : Square) × IsOneOf r g × ((nat_eq r.y (q.y + q.s) && covers_column q.x r) ≡ true) → (q.y + q.s ≡ (group_of t tiling v g e).0.row.first.y) × ((group_of t tiling v g e).0.row.first.x ≤ q.x) × (q.x + q.s ≤ (group_of t tiling v g e).0.row.end)
+        from (r, m, f) = (level, on.0, on.1)
+          where
+            u : IsUnder q r
+            u = under_to q r f
+
+            level : q.y + q.s ≡ (group_of t tiling v g e).0.row.first.y
+            level = omega (arith, u.level, tops t tiling g group own_in r m)
+
+            on : ((group_of t tiling v g e).0.row.first.x ≤ q.x) × (q.x + q.s ≤ (group_of t tiling v g e).0.row.end)
+            on = let w = within t tiling g group own_in r m in ends_within t tiling g group own_in q q.x h level (omega (arith, w.0, u.left)) (omega (arith, w.1, u.right)) (omega arith) (omega (arith, side t tiling q h))
+
+    below_from_level : (q : Square) (c : ℕ) → IsOneOf q t.squares → q.y + q.s ≡ (group_of t tiling v g e).0.row.first.y → (group_of t tiling v g e).0.row.first.x ≤ c → c < (group_of t tiling v g e).0.row.end → q.x ≤ c → c < q.x + q.s → node_below (square_groups t.squares) q ≡ v
+    below_from_level q c h level lo hi a b = from (over t tiling g group own_in q.x on.0 (omega (arith, on.1, side t tiling q h)))
+      where
+        on : ((group_of t tiling v g e).0.row.first.x ≤ q.x) × (q.x + q.s ≤ (group_of t tiling v g e).0.row.end)
+        on = ends_within t tiling g group own_in q c h level lo hi a b
+
+        from : (r : Square) × IsOneOf r g × IsOn q.x (group_of t tiling v g e).0.row.first.y r → node_below (square_groups t.squares) q ≡ v
+        from (r, m, o) = if_one (node_below (square_groups t.squares) q) v (omega (
+          arith,
+          one_counted (λ r. nat_eq r.y (q.y + q.s) && covers_column q.x r) g r m (below_from q r (omega (arith, tops t tiling g group own_in r m, level)) o.left o.right),
+          ap (count_by (λ r. nat_eq r.y (q.y + q.s) && covers_column q.x r)) (get_index (square_groups t.squares) v g e),
+          (place t tiling q h).counts v few,
+        ))
+
+    at_top : v ≡ 0 → ((group_of t tiling v g e).0.row.first.y ≡ 0) × ((group_of t tiling v g e).0.row.first.x ≡ 0)
+    at_top zero_is = (ap (λ (s : Square). s.y) same ∙ (known t tiling).y, ap (λ (s : Square). s.x) same ∙ (known t tiling).x)
+      where
+        is : Some g ≡ Some (known t tiling).group
+        is = sym e ∙ ap (slice_get (square_groups t.squares)) zero_is ∙ ap (λ (gs : List (List Square)). slice_get gs 0) (known t tiling).is
+
+        groups_same : {a b : List Square} → Some a ≡ Some b → a ≡ b
+        groups_same f = cc
+
+        heads : {a b : Square} {xs ys zs : List Square} → zs ≡ a ∷ xs → zs ≡ b ∷ ys → a ≡ b
+        heads f h = cc
+
+        same : (group_of t tiling v g e).0.row.first ≡ (known t tiling).first
+        same = heads (group_of t tiling v g e).0.row.is (groups_same is ∙ (known t tiling).own.row.is) ∙ (known t tiling).at_first
+
+    pub inner_node : IsNode t v
+    inner_node = record {
+      left = (group_of t tiling v g e).0.row.first.x;
+      right = (group_of t tiling v g e).0.row.end;
+      level = (group_of t tiling v g e).0.row.first.y;
+      some = some_columns t tiling g group own_in;
+      wide = end_within t tiling g group own_in;
+      is_level = level_of_group (square_groups t.squares) v t.height g e ∙ ap group_level (group_of t tiling v g e).0.row.is;
+      hang_to = λ q h same. let m = above_to q h same in let w = within t tiling g group own_in q m in (tops t tiling g group own_in q m, w.0, w.1);
+      hang_from = λ q c h level lo hi a b. above_from q (in_level t tiling g group own_in q c h level lo hi a b);
+      end_to = below_to;
+      end_from = below_from_level;
+      under = λ q c h lo hi on. tops t tiling g group own_in q (in_under t tiling g group own_in q c h lo hi on);
+      beyond_left = λ z h ey ex. (group_of t tiling v g e).0.left z h ey ex;
+      beyond_right = λ z h ey ex. (group_of t tiling v g e).0.row.right z h ey ex;
+      inner = inl (few, low t tiling g group own_in);
+      top = λ zero_is. let k = at_top zero_is in (k.0, k.1, reaches t tiling g group own_in k.1 k.0);
+    }
+
+  not_above_bottom : (q : Square) → IsOneOf q t.squares → node_above (square_groups t.squares) q ≡ length (square_groups t.squares) → ⊥
+  not_above_bottom q h e = omega (arith, above_bottom q h, e)
+
+  ends_at_height : (q : Square) → IsOneOf q t.squares → node_below (square_groups t.squares) q ≡ length (square_groups t.squares) → q.y + q.s ≡ t.height
+  ends_at_height q h e = cases (stands_on t tiling q h).is
+    where
+      cases : ((node_below (square_groups t.squares) q ≡ length (square_groups t.squares)) × (q.y + q.s ≡ t.height)) ⊎ ((g : List Square) × (slice_get (square_groups t.squares) (node_below (square_groups t.squares) q) ≡ Some g) × (group_level g ≡ q.y + q.s)) → q.y + q.s ≡ t.height
+      cases (inl m) = m.1
+      cases (inr (g, f, l)) = absurd (omega (arith, e, slice_get_within (square_groups t.squares) (node_below (square_groups t.squares) q) g f))
+
+  pub bottom_node : IsNode t (length (square_groups t.squares))
+  bottom_node = record {
+    left = 0;
+    right = t.width;
+    level = t.height;
+    some = wide_enough t tiling;
+    wide = omega arith;
+    is_level = level_of_bottom (square_groups t.squares) t.height;
+    hang_to = λ q h e. absurd (not_above_bottom q h e);
+    hang_from = λ q c h level lo hi a b. absurd (omega (arith, level, bottom_within t tiling q h, side t tiling q h));
+    end_to = λ q h e. (ends_at_height q h e, omega arith, right_within t tiling q h);
+    end_from = λ q c h level lo hi a b. sym (at_bottom t tiling q h level);
+    under = λ q c h lo hi on. absurd (omega (arith, on.bottom, bottom_within t tiling q h));
+    beyond_left = λ z h ey ex. omega (arith, ey, bottom_within t tiling z h, side t tiling z h);
+    beyond_right = λ z h ey ex. omega (arith, ey, bottom_within t tiling z h, side t tiling z h);
+    inner = inr (refl, refl, refl, refl);
+    top = λ e. absurd (omega (arith, e, ap length (known t tiling).is));
+  }
+
+  pub most_nodes : (q : Square) → IsOneOf q t.squares → node_below (square_groups t.squares) q ≤ length (square_groups t.squares)
+  most_nodes q h = (place t tiling q h).most

@@ -1,0 +1,6 @@
+pub mod MoveOrder
+pub mod Fitting
+pub mod LastSigns
+pub mod Places
+pub mod Ranks
+pub mod TreeCounts

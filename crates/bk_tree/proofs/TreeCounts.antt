@@ -1,0 +1,155 @@
+-- The tree count: no list of its words is longer, and the counts of two parts of the tree add up.
+use Rattle.std.specs.List.{AllByRecursion}
+use Rattle.std.specs.Ordering.{ordering_reverse}
+use Rattle.std.specs.declared.cmp.Ordering.{Ordering}
+use Rattle.std.specs.declared.cmp.Ordering.TheVariants.{Equal, Greater, Less}
+use Rattle.std.proofs.Common.{Contains, List, None, Option, Some, [], ap, arith, inl, inr, length, refl, subst, suc, sym, zero, ℕ, ◌++◌, ◌+◌, ◌∙◌, ◌∷◌, ◌≡◌, ◌≤◌, ◌⊎◌}
+use Rattle.std.proofs.lemmas.List.Elements.{Contains-append_left, Contains-append_right}
+use Rattle.std.proofs.lemmas.List.{length-append}
+use Rattle.bk_laws.proofs.AllOfLists.{all_append}
+use Rattle.bk_word.proofs.WordOrder.{word_total}
+use Rattle.bk_word.specs.Word.{Follows, Word, word_cmp}
+use Rattle.bk_tree.specs.Tree.{AreAscendingWords, HasAtLeast, IsInTree, IsNotAfter, IsTreeCount}
+use Rattle.bk_tree.specs.TreeLaws.{ALegalWordIsOne, AtLeastAdds, TheTreeCountIsMost, TheTreeCountIsOne, TreeCountsAdd}
+use Rattle.bk_word.proofs.FollowLaws.{not_itself}
+
+abbrev IsIn : Word → List Word → Type 0
+IsIn w [] = ⊥
+IsIn w (v ∷ words) = (w ≡ v) ⊎ IsIn w words
+
+record Without (w : Word) (words : List Word) : Type 0 where
+  rest : List Word
+  long : length words ≡ suc (length rest)
+  others : (v : Word) → IsIn v words → (v ≡ w) ⊎ IsIn v rest
+
+without : (w : Word) (words : List Word) → IsIn w words → Without w words
+without w [] h = absurd h
+without w (v ∷ words) (inl same) = record { rest = words; long = refl; others = others }
+  where
+    others : (u : Word) → IsIn u (v ∷ words) → (u ≡ w) ⊎ IsIn u words
+    others u (inl e) = inl (e ∙ sym same)
+    others u (inr h) = inr h
+without w (v ∷ words) (inr h) = onto (without w words h)
+  where
+    onto : Without w words → Without w (v ∷ words)
+    onto r = record { rest = v ∷ r.rest; long = ap suc r.long; others = others }
+      where
+        next : (u : Word) → (u ≡ w) ⊎ IsIn u r.rest → (u ≡ w) ⊎ IsIn u (v ∷ r.rest)
+        next u (inl e) = inl e
+        next u (inr k) = inr (inr k)
+
+        others : (u : Word) → IsIn u (v ∷ words) → (u ≡ w) ⊎ IsIn u (v ∷ r.rest)
+        others u (inl e) = inr (inl e)
+        others u (inr k) = next u (r.others u k)
+
+in_all_words : (P : Word → Type 0) (words : List Word) → AllByRecursion P words → (w : Word) → IsIn w words → P w
+in_all_words P [] all w h = absurd h
+in_all_words P (v ∷ words) all w (inl same) = subst P (sym same) all.0
+in_all_words P (v ∷ words) all w (inr h) = in_all_words P words all.1 w h
+
+fewer : (words more : List Word) → AreAscendingWords words → ((w : Word) → IsIn w words → IsIn w more) → length words ≤ length more
+fewer [] more up f = omega arith
+fewer (w ∷ words) more up f = let r = without w more (f w (inl refl)) in omega (arith, r.long, fewer words r.rest up.1 (λ v h. cases v h (r.others v (f v (inr h)))))
+  where
+    cases : (v : Word) → IsIn v words → (v ≡ w) ⊎ IsIn v (without w more (f w (inl refl))).rest → IsIn v (without w more (f w (inl refl))).rest
+    cases v h (inl e) = absurd (not_itself w (subst (λ (u : Word). Follows u w) e (in_all_words (λ u. Follows u w) words up.0 v h)))
+    cases v h (inr k) = k
+
+in_from : (words : List Word) (w : Word) → Contains words w → IsIn w words
+in_from [] w c = absurd (omega (arith, c.1))
+in_from (v ∷ words) w (zero, few, e) = inl (sym e)
+in_from (v ∷ words) w (suc k, few, e) = inr (in_from words w (k, omega (arith, few), e))
+
+pub the_tree_count_is_most : TheTreeCountIsMost
+the_tree_count_is_most n cursor bound count number t h = omega (arith, t.count, h.count, fewer h.words t.words h.ascending (λ w k. in_from t.words w (t.all w (in_all_words (IsInTree n cursor bound) h.words h.each w k))))
+
+pub the_tree_count_is_one : TheTreeCountIsOne
+the_tree_count_is_one n cursor bound count other a b = omega (
+  arith,
+  the_tree_count_is_most n cursor bound count other a (record { words = b.words; each = b.each; ascending = b.ascending; count = omega (arith, b.count) }),
+  the_tree_count_is_most n cursor bound other count b (record { words = a.words; each = a.each; ascending = a.ascending; count = omega (arith, a.count) }),
+)
+
+-- u is not after v, and w is: then w is after u
+pub after_not_after : (u v w : Word) → (Follows u v → ⊥) → Follows w v → Follows w u
+after_not_after u v w not f = cases (word_cmp u v) refl
+  where
+    cases : (r : Ordering) → word_cmp u v ≡ r → word_cmp u w ≡ Less
+    cases Less e = word_total.trans u v w e f
+    cases Equal e = word_total.congr u v w e ∙ f
+    cases Greater e = absurd (not (word_total.antisymm v u ∙ ap ordering_reverse e))
+
+pub not_after_not_after : (u v w : Word) → (Follows u v → ⊥) → (Follows v w → ⊥) → Follows u w → ⊥
+not_after_not_after u v w a b f = cases (word_cmp v w) refl
+  where
+    cases : (r : Ordering) → word_cmp v w ≡ r → ⊥
+    cases Less e = a (word_total.trans v w u e f)
+    cases Equal e = a (word_total.congr v w u e ∙ f)
+    cases Greater e = b (word_total.antisymm w v ∙ ap ordering_reverse e)
+
+not_after_bound : (bound : Option Word) (u v : Word) → (Follows u v → ⊥) → IsNotAfter bound v → IsNotAfter bound u
+not_after_bound None u v a b = tt
+not_after_bound (Some w) u v a b = not_after_not_after u v w a b
+
+module _ (n : ℕ) (cursor between : Word) (bound : Option Word) (from : Follows cursor between → ⊥) (to : IsNotAfter bound between) where
+  lower : (w : Word) → IsInTree n cursor (Some between) w → IsInTree n cursor bound w
+  lower w t = record { legal = t.legal; some = t.some; small = t.small; after = t.after; within = not_after_bound bound w between t.within to }
+
+  upper : (w : Word) → IsInTree n between bound w → IsInTree n cursor bound w
+  upper w t = record { legal = t.legal; some = t.some; small = t.small; after = after_not_after cursor between w from t.after; within = t.within }
+
+  all_with : (P Q : Word → Type 0) → ((w : Word) → P w → Q w) → (words : List Word) → AllByRecursion P words → AllByRecursion Q words
+  all_with P Q f [] all = tt
+  all_with P Q f (w ∷ words) all = (f w all.0, all_with P Q f words all.1)
+
+  ascending : (front back : List Word) → AllByRecursion (IsInTree n cursor (Some between)) front → AllByRecursion (IsInTree n between bound) back → AreAscendingWords front → AreAscendingWords back → AreAscendingWords (front ++ back)
+  ascending [] back a b up more = more
+  ascending (w ∷ front) back a b up more = (
+    all_append (λ v. Follows v w) front back up.0 (all_with (IsInTree n between bound) (λ v. Follows v w) (λ v t. after_not_after w between v (a.0).within t.after) back b),
+    ascending front back a.1 b up.1 more,
+  )
+
+  each : (front back : List Word) → AllByRecursion (IsInTree n cursor (Some between)) front → AllByRecursion (IsInTree n between bound) back → AllByRecursion (IsInTree n cursor bound) (front ++ back)
+  each front back a b = all_append (IsInTree n cursor bound) front back (all_with (IsInTree n cursor (Some between)) (IsInTree n cursor bound) lower front a) (all_with (IsInTree n between bound) (IsInTree n cursor bound) upper back b)
+
+  pub counts_add : (a b : ℕ) → IsTreeCount n cursor (Some between) a → IsTreeCount n between bound b → IsTreeCount n cursor bound (a + b)
+  counts_add a b s t = record {
+    words = s.words ++ t.words;
+    each = each s.words t.words s.each t.each;
+    ascending = ascending s.words t.words s.each t.each s.ascending t.ascending;
+    all = λ w h. in_part w h (word_cmp between w) refl;
+    count = omega (arith, s.count, t.count, length-append s.words t.words);
+  }
+    where
+      in_part : (w : Word) → IsInTree n cursor bound w → (r : Ordering) → word_cmp between w ≡ r → Contains (s.words ++ t.words) w
+      in_part w h Less e = Contains-append_right s.words t.words w (t.all w (record { legal = h.legal; some = h.some; small = h.small; after = e; within = h.within }))
+      in_part w h Equal e = Contains-append_left s.words t.words w (s.all w (record { legal = h.legal; some = h.some; small = h.small; after = h.after; within = λ f. impossible (sym e ∙ f) }))
+        where
+          impossible : Equal ≡ Less → ⊥
+          impossible g = cc
+      in_part w h Greater e = Contains-append_left s.words t.words w (s.all w (record { legal = h.legal; some = h.some; small = h.small; after = h.after; within = λ f. impossible (sym e ∙ f) }))
+        where
+          impossible : Greater ≡ Less → ⊥
+          impossible g = cc
+
+  pub at_least_adds_to : (a b : ℕ) → HasAtLeast n cursor (Some between) a → HasAtLeast n between bound b → HasAtLeast n cursor bound (a + b)
+  at_least_adds_to a b s t = record {
+    words = s.words ++ t.words;
+    each = each s.words t.words s.each t.each;
+    ascending = ascending s.words t.words s.each t.each s.ascending t.ascending;
+    count = omega (arith, s.count, t.count, length-append s.words t.words);
+  }
+
+pub tree_counts_add : TreeCountsAdd
+tree_counts_add n cursor between bound a b from to s t = counts_add n cursor between bound from to a b s t
+
+pub at_least_adds : AtLeastAdds
+at_least_adds n cursor between bound a b from to s t = at_least_adds_to n cursor between bound from to a b s t
+
+pub a_legal_word_is_one : ALegalWordIsOne
+a_legal_word_is_one n cursor w legal some small after = record {
+  words = w ∷ [];
+  each = (record { legal = legal; some = some; small = small; after = after; within = not_itself w }, tt);
+  ascending = (tt, tt);
+  count = omega arith;
+}

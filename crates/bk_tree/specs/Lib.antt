@@ -1,0 +1,3 @@
+pub mod NextMove
+pub mod Tree
+pub mod TreeLaws

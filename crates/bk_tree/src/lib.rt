@@ -1,0 +1,29 @@
+//! The tree of legal words: which move comes next, and how many words there are.
+#![tactic(auto)]
+
+ghost use Rattle.bk_tree.specs.TreeLaws.{ALegalWordIsOne, AtLeastAdds, TheTreeCountIsMost, TheTreeCountIsOne, TreeCountsAdd};
+
+/// A list of words of the tree, each once, has at most as many as the tree count.
+pub fn the_tree_count_is_most()
+    ensures { TheTreeCountIsMost }
+{}
+
+/// The tree count is one number.
+pub fn the_tree_count_is_one()
+    ensures { TheTreeCountIsOne }
+{}
+
+/// The counts up to a word between and from it on add up.
+pub fn tree_counts_add()
+    ensures { TreeCountsAdd }
+{}
+
+/// And so do numbers of words of the tree.
+pub fn at_least_adds()
+    ensures { AtLeastAdds }
+{}
+
+/// A legal word of at most the order, after the cursor, is one word up to itself.
+pub fn a_legal_word_is_one()
+    ensures { ALegalWordIsOne }
+{}

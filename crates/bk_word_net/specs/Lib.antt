@@ -1,0 +1,9 @@
+pub mod WordNet
+pub mod WideWord
+pub mod NarrowWord
+pub mod Renumbering
+pub mod WordFlow
+pub mod FlowTiling
+pub mod LaidTiling
+pub mod LaidOutline
+pub mod Realised
