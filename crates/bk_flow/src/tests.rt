@@ -1,6 +1,6 @@
 ghost use Rattle.std.specs.Prelude.{◌+◌, ◌*◌, ◌≡◌, ◌≤◌};
 
-use crate::{Flow, FlowFault, SMALL, solve, solve_small, solve_whole};
+use crate::{Flow, FlowFault, SMALL, solve, solve_in_fractions, solve_whole};
 use bk_frac::Wide;
 use bk_net::{Net, NetLine, read_net};
 use std::test::Fail;
@@ -13,7 +13,7 @@ fn net_in(line: &[u8]) -> Result<Net, Fail> {
     }
 }
 
-// The two flows of a small net without a loose node, by the stated elimination and in whole numbers.
+// The flow of a small net without a loose node twice, by the stated elimination and in whole numbers.
 fn small_flows(net: &Net) -> Result<[Flow; 2], Fail> {
     if let Some(node) = net.loose() {
         return Err(FlowFault::Loose { node }.into());
@@ -22,7 +22,7 @@ fn small_flows(net: &Net) -> Result<[Flow; 2], Fail> {
         return Err("the net is small".into());
     }
     let whole = solve_whole(net).ok_or("whole numbers decide it")?;
-    Ok([solve_small(net)?, whole])
+    Ok([solve_in_fractions(net)?, whole])
 }
 
 #[test]

@@ -8,7 +8,6 @@ use Rattle.bk_flow.specs.declared.FlowFault.{FlowFault}
 use Rattle.bk_word.specs.Outline.{start}
 use Rattle.bk_word.specs.Play.{IsComplete, IsLegal, outline_of}
 use Rattle.bk_word.specs.Word.{Word, order_of}
-use Rattle.bk_word.specs.declared.TheConstants.{INLINE_ORDER}
 use Rattle.bk_word_net.proofs.NoLoose.{a_word_net_has_no_loose}
 use Rattle.bk_word_net.proofs.WordTilings.{wires_many}
 use Rattle.bk_word_net.proofs.Shape.{Shaped, shaped_moves, shaped_start}
@@ -55,10 +54,10 @@ wide_by_currents {E} w never both = (λ e. inr (both.0 e), λ wide. from wide)
     from (inr large) = both.1 large
 
 module _ (skel w : Word) (same : skel ≡ w) (complete : IsComplete skel) (net : Net) (is : net ≡ net_of_word skel) (fault : FlowFault) (refused : IsRefusedFor fault net) where
-  pub memory_fault : fault ≡ NoMemory → IsComplete w × (INLINE_ORDER < order_of w)
+  pub memory_fault : fault ≡ NoMemory → IsComplete w × (16 < order_of w)
   memory_fault e = (subst IsComplete same complete, from (subst (λ (f : FlowFault). IsRefusedFor f net) e refused))
     where
-      from : HasNoLoose net × (16 < length net.wires) → INLINE_ORDER < order_of w
+      from : HasNoLoose net × (16 < length net.wires) → 16 < order_of w
       from r = omega (arith, r.1, ap (λ (n : Net). length n.wires) is, wires_many skel, ap order_of same)
 
   pub wide_fault : fault ≡ Wide → IsComplete w × IsWideWord w

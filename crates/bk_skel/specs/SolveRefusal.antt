@@ -2,7 +2,6 @@
 use Rattle.std.specs.Prelude.{length, take, ℕ, ◌-◌, ◌<◌, ◌≤◌}
 use Rattle.bk_word.specs.Play.{IsComplete, IsLegal, outline_of}
 use Rattle.bk_word.specs.Word.{Word, order_of}
-use Rattle.bk_word.specs.declared.TheConstants.{INLINE_ORDER}
 use Rattle.bk_word_net.specs.WideWord.{IsWideWord}
 use Rattle.bk_skel.specs.declared.realising.SolveFault.TheVariants.{Illegal, NoMemory, OpenEnd, Wide}
 use Rattle.bk_skel.specs.declared.realising.SolveFault.{SolveFault}
@@ -15,9 +14,9 @@ pub record IsFirstIllegal (w : Word) (place : ℕ) : Type 0 where
   pub here : ¬ (IsLegal (take place w))
 
 -- why the word has no answer: its first illegal move; more than one segment that is left; a number that is too large;
--- or memory that is wanting, past the squares of a small word
+-- or memory that is wanting, past 16 squares
 abbrev pub IsSolveFault : Word → SolveFault → Type 0
 IsSolveFault w (Illegal place) = IsFirstIllegal w place
 IsSolveFault w OpenEnd = IsLegal w × (1 < length (outline_of w).segments)
 IsSolveFault w Wide = IsComplete w × IsWideWord w
-IsSolveFault w NoMemory = IsComplete w × (INLINE_ORDER < order_of w)
+IsSolveFault w NoMemory = IsComplete w × (16 < order_of w)

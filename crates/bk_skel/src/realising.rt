@@ -14,7 +14,7 @@ ghost use Rattle.bk_word_net.specs.WordNet.{net_of_word};
 use crate::placing::placed;
 use crate::skeleton::Skel;
 use arrayvec::ArrayVec;
-use bk_flow::{Flow, FlowFault, solve, solve_small, solve_whole};
+use bk_flow::{Flow, FlowFault, solve, solve_small};
 use bk_frac::Wide;
 use bk_tiling::{LONGEST_SIDE, MOST_SQUARES, Tiling};
 use bk_word::{INLINE_ORDER, Word};
@@ -34,39 +34,19 @@ pub enum SolveFault {
     NoMemory,
 }
 
-/// That whole numbers don't decide which tiling a word has.
-#[derive(Clone, Copy, Debug, PartialEq, Eq)]
-pub struct Undecided;
-
-/// What `realise_small` gives where the word isn't wide, found in whole numbers without the stated elimination. `Undecided`
-/// where that can't tell; then `realise_small` can. It takes no memory. (Own.)
-pub fn realise_whole(skel: &Skel) -> Result<Option<Tiling>, Undecided>
-    requires closed { IsComplete skel.now }
-    requires few { order_of skel.now ≤ INLINE_ORDER }
-    ensures { IfOk result (IsRealised skel.now) }
-{
-    let Some(flow) = solve_whole(&skel.net()) else {
-        return Err(Undecided);
-    };
-    match realised(skel, &flow) {
-        Ok(tiling) => Ok(tiling),
-        Err(Wide) => Err(Undecided),
-    }
-}
-
 /// The primitive tiling whose word is the list of moves of a closed skeleton of at most 16 squares: no other has this word
 /// (Brooks, Smith, Stone and Tutte 1940). `None` comes exactly where the word isn't wide and no tiling has it. `Wide` comes
-/// exactly where the word is wide (own), which is never (`no_small_word_is_wide`). It takes no memory.
+/// exactly where the word is wide (own), which no such word is (`no_small_word_is_wide`). It takes no memory.
 pub fn realise_small(skel: &Skel) -> Result<Option<Tiling>, Wide>
     requires closed { IsComplete skel.now }
-    requires few { order_of skel.now ≤ INLINE_ORDER }
+    requires few { order_of skel.now ≤ 16 }
     ensures realised { IfOk result (IsRealised skel.now) }
     ensures wide { IsErr result ↔ IsWideWord skel.now }
     ensures narrow { IsOk result }
 {
     match solve_small(&skel.net()) {
         Ok(flow) => realised(skel, &flow),
-        Err(Wide) => Err(Wide),
+        Err(Wide) => unreachable!(),
     }
 }
 

@@ -1,15 +1,13 @@
 -- What a walk answers, from what its search found.
 use Rattle.std.proofs.Common.{None, Option, Some, [], ap, arith, length, refl, subst, sym, take, true, ℕ, ◌+◌, ◌-◌, ◌<◌, ◌^◌, ◌≡◌, ◌≤◌}
 use Rattle.bk_tiling.specs.Tiling.{Tiling}
-use Rattle.bk_word.specs.Play.{IsComplete}
 use Rattle.bk_word.specs.Word.{Word, order_of}
 use Rattle.bk_word.specs.declared.Class.{Class}
 use Rattle.bk_lay.specs.TilingWord.{IsWordOf}
-use Rattle.bk_word_net.specs.WideWord.{IsWideWord}
 use Rattle.bk_catalogue.specs.Catalogue.{IsMember}
 use Rattle.bk_walk.specs.Search.{Ends, IsPlace, Meets}
 use Rattle.bk_tree.specs.Tree.{HasAtLeast, IsAtMostTree}
-use Rattle.bk_walk.specs.Walking.{HasNoneAfter, IsKeptWalk, IsNextMember, IsWideAfter}
+use Rattle.bk_walk.specs.Walking.{HasNoneAfter, IsKeptWalk, IsNextMember}
 
 fewer_of_tree : (n : ℕ) (cursor : Word) (bound : Option Word) (more few : ℕ) → few ≤ more → HasAtLeast n cursor bound more → HasAtLeast n cursor bound few
 fewer_of_tree n cursor bound more few h t = record { words = t.words; each = t.each; ascending = t.ascending; count = omega (arith, t.count) }
@@ -28,10 +26,6 @@ module _ (n : ℕ) (class : Class) (cursor place : Word) (p : IsPlace n class cu
   pub next_member : (t : Tiling) (word found : Word) → found ≡ word → IsMember n class t → IsWordOf t word → Meets n class place word (ended - began) → IsNextMember n class cursor t found
   next_member t word found same member is m = subst (λ (w : Word). IsNextMember n class cursor t w) (sym same)
       (record { member = member; word_is = is; after = (m cursor 0 p).after; least = (m cursor 0 p).passed })
-
-  pub wide_after : (word found : Word) → found ≡ word → IsComplete word → order_of word ≡ n → IsWideWord word → Meets n class place word (ended - began) → IsWideAfter n class cursor found
-  wide_after word found same complete order wide m = subst (λ (w : Word). IsWideAfter n class cursor w) (sym same)
-      (record { complete = complete; order = order; after = (m cursor 0 p).after; wide = wide; least = (m cursor 0 p).passed })
 
 -- a walk that has ended keeps its cursor
 pub kept_at_end : (n : ℕ) (class : Class) (cursor played : Word) (pushes : ℕ) → 2 ≤ n → n ≤ 16 → order_of cursor ≤ 16 → played ≡ [] → HasNoneAfter n class cursor → pushes < 2 ^ 64 → IsKeptWalk n class cursor played true pushes

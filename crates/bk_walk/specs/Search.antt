@@ -6,10 +6,9 @@ use Rattle.bk_word.specs.Play.{IsComplete, IsLegal}
 use Rattle.bk_word.specs.Word.{Follows, Move, Word, order_of}
 use Rattle.bk_word.specs.declared.Class.{Class}
 use Rattle.bk_lay.specs.TilingWord.{IsWordOf}
-use Rattle.bk_word_net.specs.WideWord.{IsWideWord}
 use Rattle.bk_catalogue.specs.Catalogue.{Entry, IsEntry, IsMember}
 use Rattle.bk_walk.specs.declared.search.Found.{Found}
-use Rattle.bk_walk.specs.declared.search.Found.TheVariants.{Ended, Member, Wide}
+use Rattle.bk_walk.specs.declared.search.Found.TheVariants.{Ended, Member}
 use Rattle.bk_tree.specs.NextMove.{first_move, move_after}
 use Rattle.bk_walk.specs.declared.moves.TheConstants.{MOST_COUNT, MOST_SIGNS}
 use Rattle.bk_walk.specs.declared.search.Turn.{Turn}
@@ -92,10 +91,8 @@ abbrev pub Meets : ℕ → Class → Word → Word → ℕ → Type 0
 Meets n class place word met = (cursor : Word) (before : ℕ) → IsPlace n class cursor place before
     → IsMet n class cursor word (before + met)
 
--- what a search finds from a place: the word of a member, a wide word, or the end
+-- what a search finds from a place: the word of a member, or the end
 abbrev pub Finds : ℕ → Class → Word → Word → ℕ → Found → Type 0
 Finds n class place front met (Member t) =
     IsMember n class t × IsWordOf t front × Meets n class place front met × (order_of front ≡ n)
-Finds n class place front met Wide =
-    IsComplete front × IsWideWord front × Meets n class place front met × (order_of front ≡ n)
 Finds n class place front met Ended = Ends n class place met × (front ≡ [])

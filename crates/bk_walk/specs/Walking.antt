@@ -4,7 +4,6 @@ use Rattle.bk_tiling.specs.Tiling.{Tiling}
 use Rattle.bk_word.specs.Play.{IsComplete}
 use Rattle.bk_word.specs.Word.{Follows, Word, order_of}
 use Rattle.bk_word.specs.declared.Class.{Class}
-use Rattle.bk_word.specs.declared.TheConstants.{INLINE_ORDER}
 use Rattle.bk_lay.specs.TilingWord.{IsWordOf}
 use Rattle.bk_word_net.specs.WideWord.{IsWideWord}
 use Rattle.bk_catalogue.specs.Catalogue.{Entry, IsEntry, IsMember}
@@ -52,8 +51,8 @@ pub record IsWideAfter (n : ℕ) (class : Class) (cursor word : Word) : Type 0 w
 -- at most as many squares as the order, and where it has ended no member is left
 pub record IsKeptWalk (n : ℕ) (class : Class) (cursor played : Word) (ended : Bool) (pushes : ℕ) : Type 0 where
   pub least : 2 ≤ n
-  pub most : n ≤ INLINE_ORDER
-  pub few : order_of cursor ≤ INLINE_ORDER
+  pub most : n ≤ 16
+  pub few : order_of cursor ≤ 16
   pub begun : take (length played) cursor ≡ played
   pub small : order_of played ≤ n
   pub none : ended ≡ true → HasNoneAfter n class cursor

@@ -12,7 +12,7 @@ use crate::lined::LinedSkel;
 use crate::moves::first_move;
 use crate::search::play;
 use bk_skel::{Skel, Steps};
-use bk_word::{INLINE_ORDER, LARGEST_ORDER, Move, NoMemory, Word};
+use bk_word::{LARGEST_ORDER, Move, NoMemory, Word};
 use std::alloc::Global;
 use std::sync::ledger::Ledger;
 
@@ -25,10 +25,10 @@ pub(crate) fn resume<L: Ledger>(
     pushes: &mut u64,
     steps: &mut Steps<L>,
 ) -> Move
-    requires order { order ≤ INLINE_ORDER }
+    requires order { order ≤ 16 }
     requires begun { take (length lined.old) cursor.now ≡ lined.old }
     requires small { order_of lined.old ≤ order }
-    requires few { order_of cursor.now ≤ INLINE_ORDER }
+    requires few { order_of cursor.now ≤ 16 }
     requires known { pushes.old < 2 ^ 64 }
     ensures stand { IsStand order lined.new result }
     ensures place { (class : Class) → IsPlace order class cursor.now (lined.new ++ result ∷ []) 0 }
@@ -58,7 +58,7 @@ fn can_play(lined: &LinedSkel, m: &Move, order: u8) -> bool
 
 // The word of the moves that are played, at most 16 squares. It takes no memory.
 pub(crate) fn word_played(alloc: Global, skel: &Skel) -> Word
-    requires { order_of skel.now ≤ INLINE_ORDER }
+    requires { order_of skel.now ≤ 16 }
     ensures { result ≡ skel.now }
 {
     let mut word = Word::new(alloc);

@@ -32,13 +32,11 @@ pub(crate) enum Turn {
 pub(crate) enum Found {
     // this member, whose word is that of the skeleton
     Member(Tiling),
-    // a wide word, that of the skeleton
-    Wide,
     // nothing more
     Ended,
 }
 
-// Searches on from a place, up to the next member's word or a wide one before it.
+// Searches on from a place, up to the next member's word.
 pub(crate) fn search<L: Ledger>(
     lined: &mut LinedSkel,
     next: &mut Move,
@@ -60,7 +58,6 @@ pub(crate) fn search<L: Ledger>(
             Turn::End => return Found::Ended,
             Turn::Complete => match judge(lined.skel(), class) {
                 Leaf::Member(tiling) => return Found::Member(tiling),
-                Leaf::Wide => return Found::Wide,
                 Leaf::Other => {}
             },
         }

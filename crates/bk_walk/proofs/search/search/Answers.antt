@@ -1,7 +1,6 @@
 use Rattle.std.proofs.Common.{[], ap, arith, subst, sym, ℕ, ◌++◌, ◌-◌, ◌∙◌, ◌∷◌}
 use Rattle.bk_word.specs.Word.{Follows, Move, order_of}
 use Rattle.bk_lay.specs.TilingWord.{IsWordOf}
-use Rattle.bk_word_net.specs.WideWord.{IsWideWord}
 use Rattle.bk_walk.proofs.SearchLoop.{Continues, continues_none, continues_on, continues_past, counts_none, counts_then, ends_then, meets_then, nearer, whole_stand}
 use Rattle.bk_catalogue.specs.Catalogue.{IsEntry, IsMember}
 use Rattle.bk_walk.proofs.search.search.Goals as goal
@@ -43,17 +42,6 @@ returns-in-Member-clause-finds g c =
     let tells = c.in-Member.ensures in (
       subst (λ (n : ℕ). IsMember n c.args.class c.in-Member.tiling) (ap order_of c.skel.ensures.value ∙ leads.2) tells.0,
       subst (IsWordOf c.in-Member.tiling) c.skel.ensures.value tells.1,
-      meets_then c.args.order c.args.class (c.args.lined.now ++ c.args.next.now ∷ []) (c.turns.lined ++ c.turns.next ∷ []) c.take_turn.new.lined (c.turns.steps - c.args.steps.now)
-          (c.take_turn.new.steps - c.turns.steps) (c.take_turn.new.steps - c.args.steps.now) c.turns.invariant.on leads.0
-          (let now = c.in-Complete.ensures.counts in let counts = c.turns.invariant.counts in omega (arith, now.more, counts.more)),
-      leads.2,
-    )
-
-pub returns-in-Wide-clause-finds : goal.returns-in-Wide-clause-finds
-returns-in-Wide-clause-finds g c =
-    let leads = c.in-Complete.ensures.leads in (
-      leads.1,
-      subst IsWideWord c.skel.ensures.value c.in-Wide.ensures,
       meets_then c.args.order c.args.class (c.args.lined.now ++ c.args.next.now ∷ []) (c.turns.lined ++ c.turns.next ∷ []) c.take_turn.new.lined (c.turns.steps - c.args.steps.now)
           (c.take_turn.new.steps - c.turns.steps) (c.take_turn.new.steps - c.args.steps.now) c.turns.invariant.on leads.0
           (let now = c.in-Complete.ensures.counts in let counts = c.turns.invariant.counts in omega (arith, now.more, counts.more)),
