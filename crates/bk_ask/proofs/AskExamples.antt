@@ -6,6 +6,7 @@ use Rattle.std.proofs.lemmas.Bool.Decides.{nat_tests}
 use Rattle.bk_word.specs.declared.Class.TheVariants.{Perfect}
 use Rattle.bk_ask.specs.Asked.{Asks, AsksNothing}
 use Rattle.bk_ask.specs.declared.Ask.TheVariants as asks
+use Rattle.bk_ask.specs.declared.Kind.TheVariants as kinds
 use Rattle.bk_ask.proofs.OptionLaws.{none_stands, option_of}
 use Rattle.bk_ask.proofs.Unasked.{nothing_listed, nothing_with_options}
 
@@ -49,4 +50,21 @@ list_alone = nothing_listed [] (λ order class from limit l. none_stands (option
 -- `check` stands alone
 pub check_with_order : AsksNothing (codes "check" ∷ codes "--order" ∷ codes "9" ∷ [])
 check_with_order =
-    nothing_with_options (codes "check") (codes "--order") (codes "9" ∷ []) (differ (codes "check") (codes "list") 0 refl) (differ (codes "check") (codes "trial") 0 refl)
+    nothing_with_options (codes "check") (codes "--order") (codes "9" ∷ [])
+    (record {
+      no_list = differ (codes "check") (codes "list") 0 refl;
+      no_trial = differ (codes "check") (codes "trial") 0 refl;
+      no_verify = differ (codes "check") (codes "verify") 0 refl;
+      no_pair = differ (codes "check") (codes "pair") 0 refl;
+    })
+
+-- the kind perfect where it is left out
+pub pair_alone : Asks (codes "pair" ∷ []) (asks.Pair kinds.Perfect)
+pair_alone = record {
+  options = [];
+  line = refl;
+  say = record {
+    options = record { whole = refl; known = tt; once = tt };
+    has_kind = record { named = None; has = tt; is = refl };
+  };
+}

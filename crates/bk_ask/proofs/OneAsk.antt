@@ -4,13 +4,15 @@ use Rattle.std.proofs.Common.{ap, arith, inl, inr, lit<, subst, sym, ◌∙◌, 
 use Rattle.bk_word.specs.Word.{Word}
 use Rattle.bk_word.specs.declared.Class.{Class}
 use Rattle.bk_word.specs.declared.Class.TheVariants.{Perfect}
-use Rattle.bk_ask.specs.Asked.{Asks, AsksListing, AsksTrial, OptionsSay, command_name}
-use Rattle.bk_ask.specs.OptionValues.{IsClassName, IsCursor, IsNumberWithin}
+use Rattle.bk_ask.specs.Asked.{Asks, AsksListing, AsksPair, AsksTrial, AsksVerify, OptionsSay, command_name}
+use Rattle.bk_ask.specs.OptionValues.{IsClassName, IsCursor, IsKindName, IsNumberWithin}
 use Rattle.bk_ask.specs.Options.{NamesDiffer, options_in, or_else}
 use Rattle.bk_ask.specs.declared.Ask.{Ask}
 use Rattle.bk_ask.specs.declared.Ask.TheVariants as asks
+use Rattle.bk_ask.specs.declared.Kind.{Kind}
+use Rattle.bk_ask.specs.declared.Kind.TheVariants as kinds
 use Rattle.bk_ask.proofs.OptionLaws.{given_once, may_have_once}
-use Rattle.bk_ask.proofs.ValueLaws.{one_class, one_cursor, one_number}
+use Rattle.bk_ask.proofs.ValueLaws.{one_class, one_cursor, one_kind, one_number}
 
 -- the commands counted: those that stand alone come first
 abbrev pub place : Ask → ℕ
@@ -23,9 +25,12 @@ place asks.Word = 5
 place asks.Solve = 6
 place asks.Draw = 7
 place asks.Dual = 8
-place asks.Help = 9
-place (asks.List order class from limit) = 10
-place (asks.Trial seed count) = 11
+place asks.Alike = 9
+place asks.Help = 10
+place (asks.List order class from limit) = 11
+place (asks.Trial seed count) = 12
+place (asks.Verify order) = 13
+place (asks.Pair kind) = 14
 
 -- a number that tells a name: the sum of its bytes, the first one twice
 abbrev pub mark : List ℕ → ℕ
@@ -36,21 +41,12 @@ abbrev pub place_by_mark : ℕ → ℕ
 place_by_mark n =
     cond (nat_eq n 609) 0 (cond (nat_eq n 626) 1 (cond (nat_eq n 735) 2 (cond (nat_eq n 437) 3 (
     cond (nat_eq n 542) 4 (cond (nat_eq n 563) 5 (cond (nat_eq n 668) 6 (cond (nat_eq n 530) 7 (
-    cond (nat_eq n 522) 8 (cond (nat_eq n 529) 9 (cond (nat_eq n 552) 10 11))))))))))
+    cond (nat_eq n 522) 8 (cond (nat_eq n 615) 9 (cond (nat_eq n 529) 10 (cond (nat_eq n 552) 11 (
+    cond (nat_eq n 656) 12 (cond (nat_eq n 779) 13 14)))))))))))))
 
 pub place_of_name : (a : Ask) → place a ≡ place_by_mark (mark (command_name a))
 place_of_name asks.Check = refl
-place_of_name asks.Canon = refl
-place_of_name asks.Images = refl
-place_of_name asks.Net = refl
-place_of_name asks.Flow = refl
-place_of_name asks.Word = refl
-place_of_name asks.Solve = refl
-place_of_name asks.Draw = refl
-place_of_name asks.Dual = refl
-place_of_name asks.Help = refl
-place_of_name (asks.List order class from limit) = refl
-place_of_name (asks.Trial seed count) = refl
+place_of_name _ = refl
 
 same_place : (a b : Ask) → command_name a ≡ command_name b → place a ≡ place b
 same_place a b same = place_of_name a ∙ ap (λ (name : List ℕ). place_by_mark (mark name)) same ∙ sym (place_of_name b)
@@ -60,21 +56,14 @@ abbrev alone_at : ℕ → Ask
 alone_at n =
     cond (nat_eq n 0) asks.Check (cond (nat_eq n 1) asks.Canon (cond (nat_eq n 2) asks.Images (
     cond (nat_eq n 3) asks.Net (cond (nat_eq n 4) asks.Flow (cond (nat_eq n 5) asks.Word (cond (nat_eq n 6) asks.Solve (
-    cond (nat_eq n 7) asks.Draw (cond (nat_eq n 8) asks.Dual asks.Help))))))))
+    cond (nat_eq n 7) asks.Draw (cond (nat_eq n 8) asks.Dual (cond (nat_eq n 9) asks.Alike asks.Help)))))))))
 
-alone : (a : Ask) → place a < 10 → a ≡ alone_at (place a)
-alone asks.Check few = refl
-alone asks.Canon few = refl
-alone asks.Images few = refl
-alone asks.Net few = refl
-alone asks.Flow few = refl
-alone asks.Word few = refl
-alone asks.Solve few = refl
-alone asks.Draw few = refl
-alone asks.Dual few = refl
-alone asks.Help few = refl
+alone : (a : Ask) → place a < 11 → a ≡ alone_at (place a)
 alone (asks.List order class from limit) few = absurd (omega arith)
 alone (asks.Trial seed count) few = absurd (omega arith)
+alone (asks.Verify order) few = absurd (omega arith)
+alone (asks.Pair kind) few = absurd (omega arith)
+alone _ few = refl
 
 -- ---- what the options say
 
@@ -101,64 +90,46 @@ trial_once words seed seed' count count' a b =
     given_once (options_in words) (codes "--count") (IsNumberWithin 0 100_000) (one_number 0 100_000 (lit< tt)) count count' once a.has_count b.has_count in
     cc
 
--- what another ask says at the place of `list`, and at that of `trial`
+verify_once : (words : List (List ℕ)) (order order' : ℕ) → AsksVerify words order → AsksVerify words order' → asks.Verify order ≡ asks.Verify order'
+verify_once words order order' a b =
+    ap asks.Verify
+    (given_once (options_in words) (codes "--order") (IsNumberWithin 2 16) (one_number 2 16 (lit< tt)) order order' a.options.once a.has_order b.has_order)
+
+pair_once : (words : List (List ℕ)) (kind kind' : Kind) → AsksPair words kind → AsksPair words kind' → asks.Pair kind ≡ asks.Pair kind'
+pair_once words kind kind' a b =
+    let names : a.has_kind.named ≡ b.has_kind.named =
+    may_have_once (options_in words) (codes "--kind") IsKindName one_kind a.has_kind.named b.has_kind.named a.options.once a.has_kind.has b.has_kind.has in
+    ap asks.Pair (a.has_kind.is ∙ ap (λ (named : Option Kind). or_else named kinds.Perfect) names ∙ sym b.has_kind.is)
+
+-- what another ask says at the place of a command with options
 same_listing : (words : List (List ℕ)) (order : ℕ) (class : Class) (from : Option Word) (limit : Option ℕ) → AsksListing words order class from limit
-    → (b : Ask) → 10 ≡ place b → OptionsSay words b → asks.List order class from limit ≡ b
-same_listing words order class from limit a asks.Check at say = absurd (omega arith)
-same_listing words order class from limit a asks.Canon at say = absurd (omega arith)
-same_listing words order class from limit a asks.Images at say = absurd (omega arith)
-same_listing words order class from limit a asks.Net at say = absurd (omega arith)
-same_listing words order class from limit a asks.Flow at say = absurd (omega arith)
-same_listing words order class from limit a asks.Word at say = absurd (omega arith)
-same_listing words order class from limit a asks.Solve at say = absurd (omega arith)
-same_listing words order class from limit a asks.Draw at say = absurd (omega arith)
-same_listing words order class from limit a asks.Dual at say = absurd (omega arith)
-same_listing words order class from limit a asks.Help at say = absurd (omega arith)
-same_listing words order class from limit a (asks.List order' class' from' limit') at say =
-    listing_once words order order' class class' from from' limit limit' a say
-same_listing words order class from limit a (asks.Trial seed count) at say = absurd (omega arith)
+    → (b : Ask) → 11 ≡ place b → OptionsSay words b → asks.List order class from limit ≡ b
+same_listing words order class from limit a (asks.List order' class' from' limit') at say = listing_once words order order' class class' from from' limit limit' a say
+same_listing words order class from limit a _ at say = absurd (omega arith)
 
-same_trial : (words : List (List ℕ)) (seed count : ℕ) → AsksTrial words seed count → (b : Ask) → 11 ≡ place b → OptionsSay words b → asks.Trial seed count ≡ b
-same_trial words seed count a asks.Check at say = absurd (omega arith)
-same_trial words seed count a asks.Canon at say = absurd (omega arith)
-same_trial words seed count a asks.Images at say = absurd (omega arith)
-same_trial words seed count a asks.Net at say = absurd (omega arith)
-same_trial words seed count a asks.Flow at say = absurd (omega arith)
-same_trial words seed count a asks.Word at say = absurd (omega arith)
-same_trial words seed count a asks.Solve at say = absurd (omega arith)
-same_trial words seed count a asks.Draw at say = absurd (omega arith)
-same_trial words seed count a asks.Dual at say = absurd (omega arith)
-same_trial words seed count a asks.Help at say = absurd (omega arith)
-same_trial words seed count a (asks.List order class from limit) at say = absurd (omega arith)
+same_trial : (words : List (List ℕ)) (seed count : ℕ) → AsksTrial words seed count → (b : Ask) → 12 ≡ place b → OptionsSay words b → asks.Trial seed count ≡ b
 same_trial words seed count a (asks.Trial seed' count') at say = trial_once words seed seed' count count' a say
+same_trial words seed count a _ at say = absurd (omega arith)
 
-few_or_more : (n : ℕ) → (n < 10) ⊎ (10 ≤ n)
-few_or_more n = grind arith
+same_verify : (words : List (List ℕ)) (order : ℕ) → AsksVerify words order → (b : Ask) → 13 ≡ place b → OptionsSay words b → asks.Verify order ≡ b
+same_verify words order a (asks.Verify order') at say = verify_once words order order' a say
+same_verify words order a _ at say = absurd (omega arith)
 
-both_alone : (a b : Ask) → place a ≡ place b → place a < 10 → a ≡ b
+same_pair : (words : List (List ℕ)) (kind : Kind) → AsksPair words kind → (b : Ask) → 14 ≡ place b → OptionsSay words b → asks.Pair kind ≡ b
+same_pair words kind a (asks.Pair kind') at say = pair_once words kind kind' a say
+same_pair words kind a _ at say = absurd (omega arith)
+
+both_alone : (a b : Ask) → place a ≡ place b → place a < 11 → a ≡ b
 both_alone a b at few =
-    let few' : place b < 10 = omega (arith, at, few) in
+    let few' : place b < 11 = omega (arith, at, few) in
     alone a few ∙ ap alone_at at ∙ sym (alone b few')
 
-with_options : (words : List (List ℕ)) (a b : Ask) → place a ≡ place b → 10 ≤ place a → OptionsSay words a → OptionsSay words b → a ≡ b
-with_options words asks.Check b at more say say' = absurd (omega arith)
-with_options words asks.Canon b at more say say' = absurd (omega arith)
-with_options words asks.Images b at more say say' = absurd (omega arith)
-with_options words asks.Net b at more say say' = absurd (omega arith)
-with_options words asks.Flow b at more say say' = absurd (omega arith)
-with_options words asks.Word b at more say say' = absurd (omega arith)
-with_options words asks.Solve b at more say say' = absurd (omega arith)
-with_options words asks.Draw b at more say say' = absurd (omega arith)
-with_options words asks.Dual b at more say say' = absurd (omega arith)
-with_options words asks.Help b at more say say' = absurd (omega arith)
-with_options words (asks.List order class from limit) b at more say say' = same_listing words order class from limit say b at say'
-with_options words (asks.Trial seed count) b at more say say' = same_trial words seed count say b at say'
-
 pub same_options : (words : List (List ℕ)) (a b : Ask) → place a ≡ place b → OptionsSay words a → OptionsSay words b → a ≡ b
-same_options words a b at say say' = elim (few_or_more (place a)) [
-  | inl few ↦ both_alone a b at few
-  | inr more ↦ with_options words a b at more say say'
-]
+same_options words (asks.List order class from limit) b at say say' = same_listing words order class from limit say b at say'
+same_options words (asks.Trial seed count) b at say say' = same_trial words seed count say b at say'
+same_options words (asks.Verify order) b at say say' = same_verify words order say b at say'
+same_options words (asks.Pair kind) b at say say' = same_pair words kind say b at say'
+same_options words a b at say say' = both_alone a b at (omega arith)
 
 abbrev pub rest_of : List (List ℕ) → List (List ℕ)
 rest_of [] = []

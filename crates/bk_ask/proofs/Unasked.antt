@@ -1,11 +1,13 @@
 -- When words ask nothing.
-use Rattle.std.specs.Prelude.{List, Option, codes, ℕ, ◌∷◌, ◌≡◌}
+use Rattle.std.specs.Prelude.{List, Option, [], codes, ℕ, ◌∷◌, ◌≡◌}
 use Rattle.std.proofs.Common.{ap, arith, subst, sym, ◌∙◌}
 use Rattle.bk_word.specs.Word.{Word}
 use Rattle.bk_word.specs.declared.Class.{Class}
-use Rattle.bk_ask.specs.Asked.{Asks, AsksListing, AsksNothing, AsksTrial, OptionsSay, command_name}
+use Rattle.bk_ask.specs.Asked.{Asks, AsksListing, AsksNothing, AsksPair, AsksTrial, AsksVerify, OptionsSay, command_name}
 use Rattle.bk_ask.specs.declared.Ask.{Ask}
 use Rattle.bk_ask.specs.declared.Ask.TheVariants as asks
+use Rattle.bk_ask.specs.declared.Kind.{Kind}
+use Rattle.bk_ask.proofs.OptionLaws.{none_stands, option_of}
 use Rattle.bk_ask.proofs.OneAsk.{first_of, mark, place, place_by_mark, place_of_name, rest_of}
 
 pub named_place : (name : List ℕ) (options : List (List ℕ)) (ask : Ask) → Asks (name ∷ options) ask → place_by_mark (mark name) ≡ place ask
@@ -14,40 +16,34 @@ named_place name options ask is = ap (λ (words : List (List ℕ)). place_by_mar
 pub options_say : (name : List ℕ) (options : List (List ℕ)) (ask : Ask) → Asks (name ∷ options) ask → OptionsSay options ask
 options_say name options ask is = subst (λ (rest : List (List ℕ)). OptionsSay rest ask) (sym (ap rest_of is.line)) is.say
 
--- no options make it a listing, or a trial
+-- no options make it a listing, a trial, or that a list is held against a catalogue, or pairs
 abbrev pub NoListing : List (List ℕ) → Type 0
 NoListing options = (order : ℕ) (class : Class) (from : Option Word) (limit : Option ℕ) → AsksListing options order class from limit → ⊥
 
 abbrev pub NoTrial : List (List ℕ) → Type 0
 NoTrial options = (seed count : ℕ) → AsksTrial options seed count → ⊥
 
-listed : (options : List (List ℕ)) → NoListing options → (ask : Ask) → 10 ≡ place ask → OptionsSay options ask → ⊥
-listed options none asks.Check at say = omega arith
-listed options none asks.Canon at say = omega arith
-listed options none asks.Images at say = omega arith
-listed options none asks.Net at say = omega arith
-listed options none asks.Flow at say = omega arith
-listed options none asks.Word at say = omega arith
-listed options none asks.Solve at say = omega arith
-listed options none asks.Draw at say = omega arith
-listed options none asks.Dual at say = omega arith
-listed options none asks.Help at say = omega arith
-listed options none (asks.List order class from limit) at say = none order class from limit say
-listed options none (asks.Trial seed count) at say = omega arith
+abbrev pub NoVerify : List (List ℕ) → Type 0
+NoVerify options = (order : ℕ) → AsksVerify options order → ⊥
 
-tried : (options : List (List ℕ)) → NoTrial options → (ask : Ask) → 11 ≡ place ask → OptionsSay options ask → ⊥
-tried options none asks.Check at say = omega arith
-tried options none asks.Canon at say = omega arith
-tried options none asks.Images at say = omega arith
-tried options none asks.Net at say = omega arith
-tried options none asks.Flow at say = omega arith
-tried options none asks.Word at say = omega arith
-tried options none asks.Solve at say = omega arith
-tried options none asks.Draw at say = omega arith
-tried options none asks.Dual at say = omega arith
-tried options none asks.Help at say = omega arith
-tried options none (asks.List order class from limit) at say = omega arith
+abbrev pub NoPair : List (List ℕ) → Type 0
+NoPair options = (kind : Kind) → AsksPair options kind → ⊥
+
+listed : (options : List (List ℕ)) → NoListing options → (ask : Ask) → 11 ≡ place ask → OptionsSay options ask → ⊥
+listed options none (asks.List order class from limit) at say = none order class from limit say
+listed options none _ at say = omega arith
+
+tried : (options : List (List ℕ)) → NoTrial options → (ask : Ask) → 12 ≡ place ask → OptionsSay options ask → ⊥
 tried options none (asks.Trial seed count) at say = none seed count say
+tried options none _ at say = omega arith
+
+verified : (options : List (List ℕ)) → NoVerify options → (ask : Ask) → 13 ≡ place ask → OptionsSay options ask → ⊥
+verified options none (asks.Verify order) at say = none order say
+verified options none _ at say = omega arith
+
+paired : (options : List (List ℕ)) → NoPair options → (ask : Ask) → 14 ≡ place ask → OptionsSay options ask → ⊥
+paired options none (asks.Pair kind) at say = none kind say
+paired options none _ at say = omega arith
 
 pub nothing_listed : (options : List (List ℕ)) → NoListing options → AsksNothing (codes "list" ∷ options)
 nothing_listed options none ask is =
@@ -57,21 +53,63 @@ pub nothing_tried : (options : List (List ℕ)) → NoTrial options → AsksNoth
 nothing_tried options none ask is =
     tried options none ask (named_place (codes "trial") options ask is) (options_say (codes "trial") options ask is)
 
--- only `list` and `trial` have options
-other : (name word : List ℕ) (options : List (List ℕ)) → (name ≡ codes "list" → ⊥) → (name ≡ codes "trial" → ⊥) → (ask : Ask) → name ≡ command_name ask → OptionsSay (word ∷ options) ask → ⊥
-other name word options no_list no_trial asks.Check named say = cc
-other name word options no_list no_trial asks.Canon named say = cc
-other name word options no_list no_trial asks.Images named say = cc
-other name word options no_list no_trial asks.Net named say = cc
-other name word options no_list no_trial asks.Flow named say = cc
-other name word options no_list no_trial asks.Word named say = cc
-other name word options no_list no_trial asks.Solve named say = cc
-other name word options no_list no_trial asks.Draw named say = cc
-other name word options no_list no_trial asks.Dual named say = cc
-other name word options no_list no_trial asks.Help named say = cc
-other name word options no_list no_trial (asks.List order class from limit) named say = no_list named
-other name word options no_list no_trial (asks.Trial seed count) named say = no_trial named
+pub nothing_verified : (options : List (List ℕ)) → NoVerify options → AsksNothing (codes "verify" ∷ options)
+nothing_verified options none ask is =
+    verified options none ask (named_place (codes "verify") options ask is) (options_say (codes "verify") options ask is)
 
-pub nothing_with_options : (name word : List ℕ) (options : List (List ℕ)) → (name ≡ codes "list" → ⊥) → (name ≡ codes "trial" → ⊥) → AsksNothing (name ∷ word ∷ options)
-nothing_with_options name word options no_list no_trial ask is =
-    other name word options no_list no_trial ask (ap first_of is.line) (options_say name (word ∷ options) ask is)
+pub nothing_paired : (options : List (List ℕ)) → NoPair options → AsksNothing (codes "pair" ∷ options)
+nothing_paired options none ask is =
+    paired options none ask (named_place (codes "pair") options ask is) (options_say (codes "pair") options ask is)
+
+-- the name of no command that has options
+pub record HasNoOptions (name : List ℕ) : Type 0 where
+  pub no_list : name ≡ codes "list" → ⊥
+  pub no_trial : name ≡ codes "trial" → ⊥
+  pub no_verify : name ≡ codes "verify" → ⊥
+  pub no_pair : name ≡ codes "pair" → ⊥
+
+other : (name word : List ℕ) (options : List (List ℕ)) → HasNoOptions name → (ask : Ask) → name ≡ command_name ask → OptionsSay (word ∷ options) ask → ⊥
+other name word options none (asks.List order class from limit) named say = none.no_list named
+other name word options none (asks.Trial seed count) named say = none.no_trial named
+other name word options none (asks.Verify order) named say = none.no_verify named
+other name word options none (asks.Pair kind) named say = none.no_pair named
+other name word options none _ named say = cc
+
+pub nothing_with_options : (name word : List ℕ) (options : List (List ℕ)) → HasNoOptions name → AsksNothing (name ∷ word ∷ options)
+nothing_with_options name word options none ask is =
+    other name word options none ask (ap first_of is.line) (options_say name (word ∷ options) ask is)
+
+-- the name of no command that may stand alone
+pub record IsNoneAlone (name : List ℕ) : Type 0 where
+  pub no_check : name ≡ codes "check" → ⊥
+  pub no_canon : name ≡ codes "canon" → ⊥
+  pub no_images : name ≡ codes "images" → ⊥
+  pub no_net : name ≡ codes "net" → ⊥
+  pub no_flow : name ≡ codes "flow" → ⊥
+  pub no_word : name ≡ codes "word" → ⊥
+  pub no_solve : name ≡ codes "solve" → ⊥
+  pub no_draw : name ≡ codes "draw" → ⊥
+  pub no_dual : name ≡ codes "dual" → ⊥
+  pub no_alike : name ≡ codes "alike" → ⊥
+  pub no_help : name ≡ codes "help" → ⊥
+  pub no_pair : name ≡ codes "pair" → ⊥
+
+none_alone : (name : List ℕ) → IsNoneAlone name → (ask : Ask) → name ≡ command_name ask → OptionsSay [] ask → ⊥
+none_alone name none asks.Check named say = none.no_check named
+none_alone name none asks.Canon named say = none.no_canon named
+none_alone name none asks.Images named say = none.no_images named
+none_alone name none asks.Net named say = none.no_net named
+none_alone name none asks.Flow named say = none.no_flow named
+none_alone name none asks.Word named say = none.no_word named
+none_alone name none asks.Solve named say = none.no_solve named
+none_alone name none asks.Draw named say = none.no_draw named
+none_alone name none asks.Dual named say = none.no_dual named
+none_alone name none asks.Alike named say = none.no_alike named
+none_alone name none asks.Help named say = none.no_help named
+none_alone name none (asks.List order class from limit) named say = none_stands (option_of (codes "--order") say.has_order.value) say.has_order.stands
+none_alone name none (asks.Trial seed count) named say = none_stands (option_of (codes "--seed") say.has_seed.value) say.has_seed.stands
+none_alone name none (asks.Verify order) named say = none_stands (option_of (codes "--order") say.has_order.value) say.has_order.stands
+none_alone name none (asks.Pair kind) named say = none.no_pair named
+
+pub nothing_alone : (name : List ℕ) → IsNoneAlone name → AsksNothing (name ∷ [])
+nothing_alone name none ask is = none_alone name none ask (ap first_of is.line) (options_say name [] ask is)

@@ -6,7 +6,9 @@ use Rattle.bk_word.specs.Word.{Word}
 use Rattle.bk_word.specs.declared.Class.{Class}
 use Rattle.bk_word.specs.declared.Class.TheVariants.{Imperfect, Perfect, Simple}
 use Rattle.bk_word.proofs.WordsRead.{one_word}
-use Rattle.bk_ask.specs.OptionValues.{IsClassName, IsCursor, IsNumberWithin, class_name}
+use Rattle.bk_ask.specs.OptionValues.{IsClassName, IsCursor, IsKindName, IsNumberWithin, class_name, kind_name}
+use Rattle.bk_ask.specs.declared.Kind.{Kind}
+use Rattle.bk_ask.specs.declared.Kind.TheVariants as kinds
 
 pub one_number : (least most : ℕ) → most < 2 ^ 64 → (bytes : List ℕ) (a b : ℕ) → IsNumberWithin least most bytes a → IsNumberWithin least most bytes b → a ≡ b
 one_number least most fits bytes a b first second =
@@ -28,3 +30,16 @@ by_length Simple = refl
 pub one_class : (bytes : List ℕ) (a b : Class) → IsClassName bytes a → IsClassName bytes b → a ≡ b
 one_class bytes a b first second =
     by_length a ∙ ap (λ (name : List ℕ). class_of_length (length name)) (sym first ∙ second) ∙ sym (by_length b)
+
+-- the kind whose name has this length
+kind_of_length : ℕ → Kind
+kind_of_length n = cond (nat_eq n 7) kinds.Perfect kinds.Any
+
+kind_by_length : (kind : Kind) → kind ≡ kind_of_length (length (kind_name kind))
+unfolding kind_of_length
+kind_by_length kinds.Perfect = refl
+kind_by_length kinds.Any = refl
+
+pub one_kind : (bytes : List ℕ) (a b : Kind) → IsKindName bytes a → IsKindName bytes b → a ≡ b
+one_kind bytes a b first second =
+    kind_by_length a ∙ ap (λ (name : List ℕ). kind_of_length (length name)) (sym first ∙ second) ∙ sym (kind_by_length b)

@@ -4,9 +4,11 @@ use Rattle.bk_word.specs.Word.{Word}
 use Rattle.bk_word.specs.declared.Class.{Class}
 use Rattle.bk_word.specs.declared.Class.TheVariants.{Perfect}
 use Rattle.bk_ask.specs.Options.{AreOptions, Given, MayHave, NamedValue, options_in, or_else}
-use Rattle.bk_ask.specs.OptionValues.{IsClassName, IsCursor, IsNumberWithin}
+use Rattle.bk_ask.specs.OptionValues.{IsClassName, IsCursor, IsKindName, IsNumberWithin}
 use Rattle.bk_ask.specs.declared.Ask.{Ask}
 use Rattle.bk_ask.specs.declared.Ask.TheVariants as asks
+use Rattle.bk_ask.specs.declared.Kind.{Kind}
+use Rattle.bk_ask.specs.declared.Kind.TheVariants as kinds
 
 -- the word that names the command
 abbrev pub command_name : Ask → List ℕ
@@ -21,14 +23,23 @@ command_name asks.Draw = codes "draw"
 command_name asks.Dual = codes "dual"
 command_name (asks.List order class from limit) = codes "list"
 command_name (asks.Trial seed count) = codes "trial"
+command_name (asks.Verify order) = codes "verify"
+command_name asks.Alike = codes "alike"
+command_name (asks.Pair kind) = codes "pair"
 command_name asks.Help = codes "help"
 
--- the names of the options of `list`, and of those of `trial`
+-- the names of the options of `list`, of those of `trial`, of those of `verify` and of those of `pair`
 abbrev pub listing_names : List (List ℕ)
 listing_names = codes "--order" ∷ codes "--class" ∷ codes "--from" ∷ codes "--limit" ∷ []
 
 abbrev pub trial_names : List (List ℕ)
 trial_names = codes "--seed" ∷ codes "--count" ∷ []
+
+abbrev pub verify_names : List (List ℕ)
+verify_names = codes "--order" ∷ []
+
+abbrev pub pair_names : List (List ℕ)
+pair_names = codes "--kind" ∷ []
 
 -- the class: the one that is named, else perfect
 pub record MayHaveClass (options : List NamedValue) (class : Class) : Type 0 where
@@ -50,10 +61,28 @@ pub record AsksTrial (words : List (List ℕ)) (seed count : ℕ) : Type 0 where
   pub has_seed : Given (options_in words) (codes "--seed") (IsNumberWithin 0 18_446_744_073_709_551_615) seed
   pub has_count : Given (options_in words) (codes "--count") (IsNumberWithin 0 100_000) count
 
--- what the words behind the command's name say. All commands but `list` and `trial` stand alone
+-- verify: an order from 2 to 16
+pub record AsksVerify (words : List (List ℕ)) (order : ℕ) : Type 0 where
+  pub options : AreOptions verify_names words
+  pub has_order : Given (options_in words) (codes "--order") (IsNumberWithin 2 16) order
+
+-- the kind of pairs: the one that is named, else perfect
+pub record MayHaveKind (options : List NamedValue) (kind : Kind) : Type 0 where
+  pub named : Option Kind
+  pub has : MayHave options (codes "--kind") IsKindName named
+  pub is : kind ≡ or_else named kinds.Perfect
+
+-- pair: it may have a kind
+pub record AsksPair (words : List (List ℕ)) (kind : Kind) : Type 0 where
+  pub options : AreOptions pair_names words
+  pub has_kind : MayHaveKind (options_in words) kind
+
+-- what the words behind the command's name say. All commands but `list`, `trial`, `verify` and `pair` stand alone
 abbrev pub OptionsSay : List (List ℕ) → Ask → Type 0
 OptionsSay words (asks.List order class from limit) = AsksListing words order class from limit
 OptionsSay words (asks.Trial seed count) = AsksTrial words seed count
+OptionsSay words (asks.Verify order) = AsksVerify words order
+OptionsSay words (asks.Pair kind) = AsksPair words kind
 OptionsSay words _ = words ≡ []
 
 -- the words of a command line, without the program's name, ask this: the first one names the command

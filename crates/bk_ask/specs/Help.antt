@@ -20,6 +20,9 @@ help_lines =
     ∷ codes "list --order N [--class CLASS] [--from WORD] [--limit K]: catalogue of an order"
     ∷ codes "trial --seed S --count C: trial codes"
     ∷ codes "dual: dual diagram of each code"
+    ∷ codes "verify --order N: hold a list against the catalogue"
+    ∷ codes "alike: group codes by size"
+    ∷ codes "pair [--kind KIND]: join rectangles to squares"
     ∷ codes "help: this text"
     ∷ []
 

@@ -4,6 +4,8 @@ use Rattle.bk_word.specs.Word.{Word, order_of}
 use Rattle.bk_word.specs.WordText.{IsTextOf}
 use Rattle.bk_word.specs.declared.Class.{Class}
 use Rattle.bk_word.specs.declared.Class.TheVariants.{Imperfect, Perfect, Simple}
+use Rattle.bk_ask.specs.declared.Kind.{Kind}
+use Rattle.bk_ask.specs.declared.Kind.TheVariants as kinds
 
 -- a number from `least` to `most`, written in digits without a sign and without a leading 0
 pub record IsNumberWithin (least most : ℕ) (bytes : List ℕ) (n : ℕ) : Type 0 where
@@ -25,6 +27,15 @@ class_name Simple = codes "simple"
 -- the bytes name the class
 abbrev pub IsClassName : List ℕ → Class → Type 0
 IsClassName bytes class = bytes ≡ class_name class
+
+-- the name of a kind of pairs
+abbrev pub kind_name : Kind → List ℕ
+kind_name kinds.Perfect = codes "perfect"
+kind_name kinds.Any = codes "any"
+
+-- the bytes name the kind
+abbrev pub IsKindName : List ℕ → Kind → Type 0
+IsKindName bytes kind = bytes ≡ kind_name kind
 
 -- the bytes are `0`, or begin with another digit
 abbrev pub BeginsNumber : List ℕ → Type 0

@@ -1,15 +1,16 @@
 //! What each command asks with its options.
 
-ghost use Rattle.std.specs.Prelude.{IfErr, IfNone, IfOk, IfSome, [], codes, map, string_bytes, Option, ℕ, ◌∷◌};
+ghost use Rattle.std.specs.Prelude.{IfErr, IfNone, IfOk, IfSome, [], codes, map, string_bytes, Option, ℕ, ◌∷◌, ◌≢◌};
 ghost use Rattle.bk_word.specs.Word.{Word as Moves};
 ghost use Rattle.bk_word.specs.declared.Class.{Class as ClassOf};
-ghost use Rattle.bk_ask.specs.Asked.{Asks, AsksNothing, MayHaveClass};
+ghost use Rattle.bk_ask.specs.declared.Kind.{Kind as KindOf};
+ghost use Rattle.bk_ask.specs.Asked.{Asks, AsksNothing, MayHaveClass, MayHaveKind};
 ghost use Rattle.bk_ask.specs.Options.{Given, MayHave, NamesDiffer, options_in};
 ghost use Rattle.bk_ask.specs.OptionValues.{IsCursor, IsNumberWithin};
 
-use crate::Ask;
 use crate::options::{are_options, value_of};
-use crate::values::{class_named, cursor_in, number_within};
+use crate::values::{class_named, cursor_in, kind_named, number_within};
+use crate::{Ask, Kind};
 use bk_word::{Class, Word};
 use std::alloc::Global;
 
@@ -17,8 +18,9 @@ use std::alloc::Global;
 #[derive(Clone, Copy, Drop)]
 pub(crate) struct Unasked;
 
-// What a command asks that stands alone.
+// What a command asks that stands alone. `pair` may stand alone too, and isn't looked for here.
 pub(crate) fn command_alone(name: &str) -> Option<Ask>
+    requires { name.now ≢ codes "pair" }
     ensures some { IfSome result (Asks (name.now ∷ [])) }
     ensures none { IfNone result (AsksNothing (name.now ∷ [])) }
 {
@@ -32,6 +34,7 @@ pub(crate) fn command_alone(name: &str) -> Option<Ask>
         "solve" => Some(Ask::Solve),
         "draw" => Some(Ask::Draw),
         "dual" => Some(Ask::Dual),
+        "alike" => Some(Ask::Alike),
         "help" => Some(Ask::Help),
         _ => None,
     }
@@ -45,7 +48,7 @@ pub(crate) fn listing(alloc: Global, options: &[String]) -> Option<Ask>
     if !are_options(&["--order", "--class", "--from", "--limit"], options) {
         return None;
     }
-    let order = number_given(options, "--order", 2, 16)? as u8;
+    let order = order_given(options)?;
     let class = class_in(options).ok()?;
     let from = cursor_given(alloc, options).ok()?;
     let limit = limit_in(options).ok()?;
@@ -70,6 +73,42 @@ pub(crate) fn trial(options: &[String]) -> Option<Ask>
     Some(Ask::Trial { seed, count })
 }
 
+// What `verify` asks with these options.
+pub(crate) fn verify(options: &[String]) -> Option<Ask>
+    ensures some { IfSome result (Asks (codes "verify" ∷ map string_bytes options.now)) }
+    ensures none { IfNone result (AsksNothing (codes "verify" ∷ map string_bytes options.now)) }
+{
+    if !are_options(&["--order"], options) {
+        return None;
+    }
+    let order = order_given(options)?;
+    Some(Ask::Verify { order })
+}
+
+// What `pair` asks with these options.
+pub(crate) fn pair(options: &[String]) -> Option<Ask>
+    ensures some { IfSome result (Asks (codes "pair" ∷ map string_bytes options.now)) }
+    ensures none { IfNone result (AsksNothing (codes "pair" ∷ map string_bytes options.now)) }
+{
+    if !are_options(&["--kind"], options) {
+        return None;
+    }
+    let kind = kind_in(options).ok()?;
+    Some(Ask::Pair { kind })
+}
+
+// The order of a catalogue, 2 to 16.
+fn order_given(options: &[String]) -> Option<u8>
+    requires { NamesDiffer (options_in (map string_bytes options.now)) }
+    ensures some { IfSome result (Given (options_in (map string_bytes options.now)) (codes "--order") (IsNumberWithin 2 16)) }
+    ensures none { IfNone result ((n : ℕ) → Given (options_in (map string_bytes options.now)) (codes "--order") (IsNumberWithin 2 16) n → ⊥) }
+{
+    match number_given(options, "--order", 2, 16) {
+        Some(order) => Some(order as u8),
+        None => None,
+    }
+}
+
 // The number of the option of this name, where its value is a number in this range.
 fn number_given(options: &[String], name: &str, least: u64, most: u64) -> Option<u64>
     requires { NamesDiffer (options_in (map string_bytes options.now)) }
@@ -91,6 +130,18 @@ fn class_in(options: &[String]) -> Result<Class, Unasked>
     match value_of(options, "--class") {
         Some(name) => class_named(name).ok_or(Unasked),
         None => Ok(Class::Perfect),
+    }
+}
+
+// The kind of pairs, which is the perfect one where none is named.
+fn kind_in(options: &[String]) -> Result<Kind, Unasked>
+    requires { NamesDiffer (options_in (map string_bytes options.now)) }
+    ensures ok { IfOk result (MayHaveKind (options_in (map string_bytes options.now))) }
+    ensures err { IfErr result (λ _. (kind : KindOf) → MayHaveKind (options_in (map string_bytes options.now)) kind → ⊥) }
+{
+    match value_of(options, "--kind") {
+        Some(name) => kind_named(name).ok_or(Unasked),
+        None => Ok(Kind::Perfect),
     }
 }
 

@@ -15,7 +15,7 @@ mod values;
 use arrayvec::ArrayVec;
 use bk_grammar::push_bytes;
 use bk_word::{Class, Word};
-use commands::{command_alone, listing, trial};
+use commands::{command_alone, listing, pair, trial, verify};
 use std::alloc::Global;
 
 /// What a command line asks.
@@ -52,18 +52,38 @@ pub enum Ask {
         seed: u64,
         count: u32,
     },
+    /// What a list that others made lacks, repeats and has too much, held against the catalogue of an order, 2 to 16.
+    Verify {
+        order: u8,
+    },
+    /// The codes, grouped by the sizes of their canonical tilings.
+    Alike,
+    /// The pairs of rectangles of one size that are laid together to a square.
+    Pair {
+        kind: Kind,
+    },
     /// The text of `help`.
     Help,
 }
 
+/// Which squares count that are made of two rectangles. The kinds are our own.
+#[derive(Clone, Copy, Debug, PartialEq, Eq)]
+pub enum Kind {
+    /// The perfect ones.
+    Perfect,
+    /// All of them.
+    Any,
+}
+
 /// What the words of a command line ask, without the program's name. The first word is the command. `check`, `canon`,
-/// `images`, `net`, `flow`, `word`, `solve`, `draw`, `dual` and `help` stand alone. After `list` and `trial` come pairs of
-/// a name and a value, in any order and each name at most once.
+/// `images`, `net`, `flow`, `word`, `solve`, `draw`, `dual`, `alike` and `help` stand alone. After `list`, `trial`, `verify`
+/// and `pair` come pairs of a name and a value, in any order and each name at most once.
 ///
 /// `list` has `--order` with 2 to 16, and may have `--class` with `perfect`, `imperfect` or `simple`, which is else
 /// `perfect`, `--from` with the text of a word of order at most 16, and `--limit` with 0 to 1,000,000,000. `trial` has
-/// `--seed` with 0 to 18,446,744,073,709,551,615 and `--count` with 0 to 100,000. A number is `0`, or digits without a
-/// leading 0 and without a sign.
+/// `--seed` with 0 to 18,446,744,073,709,551,615 and `--count` with 0 to 100,000. `verify` has `--order` with 2 to 16. `pair`
+/// may have `--kind` with `perfect` or `any`, which is else `perfect`. A number is `0`, or digits without a leading 0 and
+/// without a sign.
 ///
 /// `None` comes exactly where the words ask nothing. It takes no memory. The form is our own.
 pub fn asked(alloc: Global, words: &[String]) -> Option<Ask>
@@ -76,13 +96,15 @@ pub fn asked(alloc: Global, words: &[String]) -> Option<Ask>
     match command.as_str() {
         "list" => listing(alloc, options),
         "trial" => trial(options),
+        "verify" => verify(options),
+        "pair" => pair(options),
         name if options.is_empty() => command_alone(name),
         _ => None,
     }
 }
 
 // How a command line is built, and then each command with what it does.
-const HELP: &[u8; 442] = b"usage: bouwkamp COMMAND [--NAME VALUE]...\n\
+const HELP: &[u8; 568] = b"usage: bouwkamp COMMAND [--NAME VALUE]...\n\
 check: test each code\n\
 canon: canonical code of each code\n\
 images: the eight images of each code\n\
@@ -94,6 +116,9 @@ draw: drawing of each code\n\
 list --order N [--class CLASS] [--from WORD] [--limit K]: catalogue of an order\n\
 trial --seed S --count C: trial codes\n\
 dual: dual diagram of each code\n\
+verify --order N: hold a list against the catalogue\n\
+alike: group codes by size\n\
+pair [--kind KIND]: join rectangles to squares\n\
 help: this text\n";
 
 /// Clears the buffer and leaves the text of `help`: how a command line is built, and a line for each command. The text is

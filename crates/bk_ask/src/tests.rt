@@ -20,6 +20,8 @@ enum Shown {
     Alone(&'static str),
     Listing(u8, Class, Option<usize>, Option<u64>),
     Trial(u64, u32),
+    Verify(u8),
+    Pair(Kind),
 }
 
 fn seen(ask: Option<Ask>) -> Shown {
@@ -34,6 +36,7 @@ fn seen(ask: Option<Ask>) -> Shown {
         Some(Ask::Solve) => Shown::Alone("solve"),
         Some(Ask::Draw) => Shown::Alone("draw"),
         Some(Ask::Dual) => Shown::Alone("dual"),
+        Some(Ask::Alike) => Shown::Alone("alike"),
         Some(Ask::Help) => Shown::Alone("help"),
         Some(
             Ask::List {
@@ -44,13 +47,15 @@ fn seen(ask: Option<Ask>) -> Shown {
             },
         ) => Shown::Listing(order, class, from.map(|word| word.order()), limit),
         Some(Ask::Trial { seed, count }) => Shown::Trial(seed, count),
+        Some(Ask::Verify { order }) => Shown::Verify(order),
+        Some(Ask::Pair { kind }) => Shown::Pair(kind),
     }
 }
 
 #[test]
 fn commands_that_stand_alone(rt: HostRuntime) -> Result<(), Fail> {
     for name in [
-        "check", "canon", "images", "net", "flow", "word", "solve", "draw", "dual", "help",
+        "check", "canon", "images", "net", "flow", "word", "solve", "draw", "dual", "alike", "help",
     ] {
         let words = words(rt.alloc(), name)?;
         assert_eq!(rt;
@@ -93,6 +98,11 @@ fn commands_with_options(rt: HostRuntime) -> Result<(), Fail> {
             "trial --count 100000 --seed 18446744073709551615",
             Shown::Trial(u64::MAX, 100_000),
         ),
+        ("verify --order 2", Shown::Verify(2)),
+        ("verify --order 16", Shown::Verify(16)),
+        ("pair", Shown::Pair(Kind::Perfect)),
+        ("pair --kind perfect", Shown::Pair(Kind::Perfect)),
+        ("pair --kind any", Shown::Pair(Kind::Any)),
     ] {
         let words = words(rt.alloc(), line)?;
         assert_eq!(rt; seen(asked(rt.alloc(), words.as_slice())), ask, "{line}");
@@ -108,9 +118,18 @@ fn words_that_ask_nothing(rt: HostRuntime) -> Result<(), Fail> {
         "check ",
         "check check",
         "help --order 9",
-        "verify --order 9",
-        "alike",
-        "pair",
+        "verify",
+        "verify --order 1",
+        "verify --order 17",
+        "verify --order 9 --order 9",
+        "verify --order 9 --class perfect",
+        "alike --kind any",
+        "pair any",
+        "pair --kind",
+        "pair --kind Any",
+        "pair --kind imperfect",
+        "pair --kind any --kind any",
+        "pair --kind any --order 9",
         "list",
         "list --order 17",
         "list --order 1",
@@ -172,6 +191,9 @@ fn help(rt: HostRuntime) {
         list --order N [--class CLASS] [--from WORD] [--limit K]: catalogue of an order\n\
         trial --seed S --count C: trial codes\n\
         dual: dual diagram of each code\n\
+        verify --order N: hold a list against the catalogue\n\
+        alike: group codes by size\n\
+        pair [--kind KIND]: join rectangles to squares\n\
         help: this text\n";
     assert_eq!(rt; out.as_slice(), text.as_bytes());
 }

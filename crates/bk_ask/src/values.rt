@@ -3,8 +3,10 @@
 ghost use Rattle.std.specs.Prelude.{IfNone, IfSome, IsTrue, ℕ, ◌↔◌};
 ghost use Rattle.bk_word.specs.Word.{Word as Moves};
 ghost use Rattle.bk_word.specs.declared.Class.{Class as ClassOf};
-ghost use Rattle.bk_ask.specs.OptionValues.{BeginsNumber, IsClassName, IsCursor, IsNumberWithin};
+ghost use Rattle.bk_ask.specs.declared.Kind.{Kind as KindOf};
+ghost use Rattle.bk_ask.specs.OptionValues.{BeginsNumber, IsClassName, IsCursor, IsKindName, IsNumberWithin};
 
+use crate::Kind;
 use bk_word::{Class, INLINE_ORDER, Word, read_word, text_order};
 use std::alloc::Global;
 
@@ -51,6 +53,18 @@ pub(crate) fn class_named(name: &str) -> Option<Class>
         "perfect" => Some(Class::Perfect),
         "imperfect" => Some(Class::Imperfect),
         "simple" => Some(Class::Simple),
+        _ => None,
+    }
+}
+
+// The kind of this name.
+pub(crate) fn kind_named(name: &str) -> Option<Kind>
+    ensures some { IfSome result (IsKindName name.now) }
+    ensures none { IfNone result ((kind : KindOf) → IsKindName name.now kind → ⊥) }
+{
+    match name {
+        "perfect" => Some(Kind::Perfect),
+        "any" => Some(Kind::Any),
         _ => None,
     }
 }

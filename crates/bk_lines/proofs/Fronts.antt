@@ -1,10 +1,9 @@
--- Lines of which the same front is kept have the same answers.
+-- Lines of which the same front is kept.
 use Rattle.std.proofs.Common.{◌≡◌, ℕ, zero, suc, ◌==◌, Bool, true, false, List, [], ◌∷◌, ◌++◌, length, ◌+◌, min, take, map, Result, Ok, Err, IsOk, OnOk, ◌≤◌, refl, sym, ap, ◌∙◌, arith, ⊎_elim, subst}
 use Rattle.std.proofs.lemmas.Bool.{cases_Bool, false≢true}
 use Rattle.std.proofs.lemmas.List.{append-nil, take_min, length-take, take_all}
 use Rattle.std.proofs.Math.Seq.{take-append-add}
 use Rattle.bk_lines.specs.Lines.{closed_lines, open_line, last_line, kept_front}
-use Rattle.bk_lines.specs.Reply.{Reply, AreReplies}
 use Rattle.bk_lines.proofs.Cuts.{closed-feed, closed-other, open-feed, open-other}
 
 -- what is added to a front is added to the line
@@ -51,17 +50,6 @@ front-front xs = ap (λ (l : List ℕ). take 8193 l) (sym (append-nil (take 8193
 pub last-fronts : (xs : List ℕ) → map kept_front (last_line (kept_front xs)) ≡ map kept_front (last_line xs)
 last-fronts [] = refl
 last-fronts (x ∷ xs) = ap (λ (l : List ℕ). l ∷ []) (front-front (x ∷ xs))
-
--- lines of which the same fronts are kept have the same replies
-pub replies-fronts : (answers : List ℕ → List (List ℕ) → Bool → Type 0) (lines others : List (List ℕ)) (replies : List Reply) → map kept_front lines ≡ map kept_front others → AreReplies answers lines replies → AreReplies answers others replies
-replies-fronts answers [] [] replies e are = are
-replies-fronts answers [] (o ∷ os) replies e are = absurd (cc)
-replies-fronts answers (l ∷ ls) [] replies e are = absurd (cc)
-replies-fronts answers (l ∷ ls) (o ∷ os) [] e are = are
-replies-fronts answers (l ∷ ls) (o ∷ os) (r ∷ rs) e are =
-    let here : kept_front l ≡ kept_front o = cc in
-    let rest : map kept_front ls ≡ map kept_front os = cc in
-    (subst (λ (f : List ℕ). answers f r.pieces r.refused) here are.0, replies-fronts answers ls os rs rest are.1)
 
 -- lines that are split as other lines of which the same fronts are kept
 pub record IsSplitAs (lines front back : List (List ℕ)) : Type 0 where

@@ -1,20 +1,20 @@
--- Lines that are answered one after another.
-use Rattle.std.proofs.Common.{◌≡◌, ℕ, ◌<◌, Bool, true, false, ◌||◌, ◌==◌, List, [], ◌∷◌, ◌++◌, length, map, Option, Some, None, Result, Ok, Err, IfOk, IfErr, refl, sym, ap, ◌∙◌, subst, arith}
+-- Lines that are entered one after another.
+use Rattle.std.proofs.Common.{◌≡◌, ℕ, ◌+◌, ◌<◌, Bool, true, false, ◌||◌, ◌==◌, List, [], ◌∷◌, ◌++◌, length, map, Option, Some, None, Result, Ok, Err, IfOk, IfErr, refl, sym, ap, ◌∙◌, subst, arith}
 use Rattle.std.specs.List.{concat}
 use Rattle.std.specs.Io.KnownBytes.{Appends, Keeps}
 use Rattle.std.proofs.lemmas.Bool.{true≢false}
-use Rattle.std.proofs.lemmas.List.{append_assoc, append-nil}
+use Rattle.std.proofs.lemmas.List.{append_assoc, append-nil, length-append, length-map}
 use Rattle.std.proofs.lemmas.Grind.{flat_map-append}
 use Rattle.std.proofs.lemmas.List.Folds.{list_any-append}
 use Rattle.bk_ports.specs.Causes.{AppendsPrefix}
 use Rattle.bk_ports.proofs.KnownSteps.{appends_more, prefix_after}
 use Rattle.bk_lines.specs.Lines.{kept_front, last_line}
-use Rattle.bk_lines.specs.Reply.{Reply, AreReplies, reply_text, is_refused, text_of, some_refused}
+use Rattle.bk_lines.specs.Reply.{Reply, reply_text, is_refused, text_of, some_refused}
 use Rattle.bk_lines.specs.Answer.{IsWritten, IsBegun, IsWanting, IsStopped}
-use Rattle.bk_lines.specs.Answered.{AreAnswered, AreBegun, AreCutShort, AreStopped}
+use Rattle.bk_lines.specs.Entering.{AreAllEntered, AreEntered, Entering, IsEntryBegun, IsEntryStopped, IsEntryWanting}
 use Rattle.bk_lines.specs.declared.line.Stop.{Stop}
 use Rattle.bk_lines.specs.declared.line.Stop.TheVariants.{WriteFailed, NoMemory}
-use Rattle.bk_lines.proofs.Fronts.{replies-fronts, split_as}
+use Rattle.bk_lines.proofs.Fronts.{split_as}
 
 -- known bytes that stay grow by nothing
 pub appends_nothing : (w : Option (List ℕ)) → Appends w w []
@@ -30,20 +30,42 @@ or_false : (b : Bool) → (b || false) ≡ b
 or_false true = refl
 or_false false = refl
 
-module _ (answers : List ℕ → List (List ℕ) → Bool → Type 0) where
-  replies-append : (xs ys : List (List ℕ)) (rs ss : List Reply) → AreReplies answers xs rs → AreReplies answers ys ss → AreReplies answers (xs ++ ys) (rs ++ ss)
-  replies-append [] ys [] ss p q = q
-  replies-append [] ys (r ∷ rs) ss p q = absurd p
-  replies-append (x ∷ xs) ys [] ss p q = absurd p
-  replies-append (x ∷ xs) ys (r ∷ rs) ss p q = (p.0, replies-append xs ys rs ss p.1 q)
+-- lines of which the same fronts are kept are as many
+pub fronts_many : (xs ys : List (List ℕ)) → map kept_front xs ≡ map kept_front ys → length xs ≡ length ys
+fronts_many xs ys e =
+    sym (length-map xs kept_front) ∙ ap (λ (l : List (List ℕ)). length l) e ∙ length-map ys kept_front
 
-  pub answered_none : (w : Option (List ℕ)) → AreAnswered answers [] w w false
-  answered_none w = record { replies = []; each = tt; written = appends_nothing w; any = refl }
+module _ {State : Type 0} (rules : Entering State) where
+  -- from a number that is the same
+  from_number : (s l : State) (m n : ℕ) (xs : List (List ℕ)) (rs : List Reply) → m ≡ n → AreEntered rules s m xs rs l → AreEntered rules s n xs rs l
+  from_number s l m n xs rs e are = subst (λ (k : ℕ). AreEntered rules s k xs rs l) e are
 
-  pub answered_more : (xs ys : List (List ℕ)) (a b c : Option (List ℕ)) (p q : Bool) → AreAnswered answers xs a b p → AreAnswered answers ys b c q → AreAnswered answers (xs ++ ys) a c (p || q)
-  answered_more xs ys a b c p q first next = record {
+  entered-append : (s m l : State) (n : ℕ) (xs ys : List (List ℕ)) (rs ss : List Reply) → AreEntered rules s n xs rs m → AreEntered rules m (n + length xs) ys ss l → AreEntered rules s n (xs ++ ys) (rs ++ ss) l
+  entered-append s m l n [] ys [] ss p q =
+      from_number s l (n + 0) n ys ss (omega arith) (subst (λ (t : State). AreEntered rules t (n + 0) ys ss l) p q)
+  entered-append s m l n [] ys (r ∷ rs) ss p q = absurd p
+  entered-append s m l n (x ∷ xs) ys [] ss p q = absurd p
+  entered-append s m l n (x ∷ xs) ys (r ∷ rs) ss p q =
+      (p.0, p.1, entered-append p.0 m l (n + 1) xs ys rs ss p.2 (from_number m l (n + length (x ∷ xs)) ((n + 1) + length xs) ys ss (omega arith) q))
+
+  -- lines of which the same fronts are kept are entered alike
+  entered-fronts : (s l : State) (n : ℕ) (lines others : List (List ℕ)) (rs : List Reply) → map kept_front lines ≡ map kept_front others → AreEntered rules s n lines rs l → AreEntered rules s n others rs l
+  entered-fronts s l n [] [] rs e are = are
+  entered-fronts s l n [] (o ∷ os) rs e are = absurd (cc)
+  entered-fronts s l n (x ∷ xs) [] rs e are = absurd (cc)
+  entered-fronts s l n (x ∷ xs) (o ∷ os) [] e are = are
+  entered-fronts s l n (x ∷ xs) (o ∷ os) (r ∷ rs) e are =
+      let here : kept_front x ≡ kept_front o = cc in
+      let rest : map kept_front xs ≡ map kept_front os = cc in
+      (are.0, subst (λ (f : List ℕ). rules.enters s n f r.pieces r.refused are.0) here are.1, entered-fronts are.0 l (n + 1) xs os rs rest are.2)
+
+  pub entered_none : (s : State) (n : ℕ) (w : Option (List ℕ)) → AreAllEntered rules s n [] w w false s
+  entered_none s n w = record { replies = []; each = refl; written = appends_nothing w; any = refl }
+
+  pub entered_more : (s m l : State) (n : ℕ) (xs ys : List (List ℕ)) (a b c : Option (List ℕ)) (p q : Bool) → AreAllEntered rules s n xs a b p m → AreAllEntered rules m (n + length xs) ys b c q l → AreAllEntered rules s n (xs ++ ys) a c (p || q) l
+  entered_more s m l n xs ys a b c p q first next = record {
     replies = first.replies ++ next.replies;
-    each = replies-append xs ys first.replies next.replies first.each next.each;
+    each = entered-append s m l n xs ys first.replies next.replies first.each next.each;
     written =
         appends_more a b c (text_of first.replies) (text_of next.replies) (text_of (first.replies ++ next.replies))
         first.written next.written (flat_map-append reply_text first.replies next.replies);
@@ -53,153 +75,174 @@ module _ (answers : List ℕ → List (List ℕ) → Bool → Type 0) where
         ∙ ap (λ (v : Bool). p || v) next.any;
   }
 
-  begun_after : (xs ys : List (List ℕ)) (a b c : Option (List ℕ)) (p : Bool) → AreAnswered answers xs a b p → AreBegun answers ys b c → AreBegun answers (xs ++ ys) a c
-  begun_after xs ys a b c p first next = record {
+  pub entered_fronts : (s l : State) (n : ℕ) (xs ys : List (List ℕ)) (a b : Option (List ℕ)) (p : Bool) → map kept_front xs ≡ map kept_front ys → AreAllEntered rules s n xs a b p l → AreAllEntered rules s n ys a b p l
+  entered_fronts s l n xs ys a b p e are = record {
+    replies = are.replies;
+    each = entered-fronts s l n xs ys are.replies e are.each;
+    written = are.written;
+    any = are.any;
+  }
+
+  begun_after : (s m : State) (n : ℕ) (xs ys : List (List ℕ)) (a b c : Option (List ℕ)) (p : Bool) → AreAllEntered rules s n xs a b p m → IsEntryBegun rules m (n + length xs) ys b c → IsEntryBegun rules s n (xs ++ ys) a c
+  begun_after s m n xs ys a b c p first next = record {
     begun = xs ++ next.begun;
     unseen = next.unseen;
     split = ap (λ (l : List (List ℕ)). xs ++ l) next.split ∙ sym (append_assoc xs next.begun next.unseen);
     replies = first.replies ++ next.replies;
-    each = replies-append xs next.begun first.replies next.replies first.each next.each;
+    last = next.last;
+    each = entered-append s m next.last n xs next.begun first.replies next.replies first.each next.each;
     written =
         subst (λ (l : List ℕ). AppendsPrefix a c l) (sym (flat_map-append reply_text first.replies next.replies))
         (prefix_after a b c (text_of first.replies) (text_of next.replies) first.written next.written);
   }
 
-  begun_front : (xs ys : List (List ℕ)) (a b : Option (List ℕ)) → AreBegun answers xs a b → AreBegun answers (xs ++ ys) a b
-  begun_front xs ys a b s = record {
-    begun = s.begun;
-    unseen = s.unseen ++ ys;
-    split = ap (λ (l : List (List ℕ)). l ++ ys) s.split ∙ append_assoc s.begun s.unseen ys;
-    replies = s.replies;
-    each = s.each;
-    written = s.written;
+  begun_front : (s : State) (n : ℕ) (xs ys : List (List ℕ)) (a b : Option (List ℕ)) → IsEntryBegun rules s n xs a b → IsEntryBegun rules s n (xs ++ ys) a b
+  begun_front s n xs ys a b h = record {
+    begun = h.begun;
+    unseen = h.unseen ++ ys;
+    split = ap (λ (l : List (List ℕ)). l ++ ys) h.split ∙ append_assoc h.begun h.unseen ys;
+    replies = h.replies;
+    last = h.last;
+    each = h.each;
+    written = h.written;
   }
 
-  begun_fronts : (xs ys : List (List ℕ)) (a b : Option (List ℕ)) → map kept_front xs ≡ map kept_front ys → AreBegun answers xs a b → AreBegun answers ys a b
-  begun_fronts xs ys a b e s =
-      let t = split_as ys s.begun s.unseen (sym (ap (λ (l : List (List ℕ)). map kept_front l) s.split) ∙ e) in
+  begun_fronts : (s : State) (n : ℕ) (xs ys : List (List ℕ)) (a b : Option (List ℕ)) → map kept_front xs ≡ map kept_front ys → IsEntryBegun rules s n xs a b → IsEntryBegun rules s n ys a b
+  begun_fronts s n xs ys a b e h =
+      let t = split_as ys h.begun h.unseen (sym (ap (λ (l : List (List ℕ)). map kept_front l) h.split) ∙ e) in
       record {
         begun = t.first;
         unseen = t.later;
         split = t.split;
-        replies = s.replies;
-        each = replies-fronts answers s.begun t.first s.replies t.same_first s.each;
-        written = s.written;
+        replies = h.replies;
+        last = h.last;
+        each = entered-fronts s h.last n h.begun t.first h.replies t.same_first h.each;
+        written = h.written;
       }
 
-  pub answered_fronts : (xs ys : List (List ℕ)) (a b : Option (List ℕ)) (p : Bool) → map kept_front xs ≡ map kept_front ys → AreAnswered answers xs a b p → AreAnswered answers ys a b p
-  answered_fronts xs ys a b p e s = record {
-    replies = s.replies;
-    each = replies-fronts answers xs ys s.replies e s.each;
-    written = s.written;
-    any = s.any;
+  wanting_after : (s m : State) (n : ℕ) (xs ys : List (List ℕ)) (a b c : Option (List ℕ)) (p : Bool) → AreAllEntered rules s n xs a b p m → IsEntryWanting rules m (n + length xs) ys b c → IsEntryWanting rules s n (xs ++ ys) a c
+  wanting_after s m n xs ys a b c p first next =
+      let same : (n + length xs) + length next.done ≡ n + length (xs ++ next.done) = omega (arith, length-append xs next.done) in
+      record {
+        done = xs ++ next.done;
+        line = next.line;
+        unseen = next.unseen;
+        split = ap (λ (l : List (List ℕ)). xs ++ l) next.split ∙ sym (append_assoc xs next.done (next.line ∷ next.unseen));
+        replies = first.replies ++ next.replies;
+        last = next.last;
+        each = entered-append s m next.last n xs next.done first.replies next.replies first.each next.each;
+        cause = subst (λ (k : ℕ). rules.may_want next.last k (kept_front next.line)) same next.cause;
+        written =
+            appends_more a b c (text_of first.replies) (text_of next.replies) (text_of (first.replies ++ next.replies))
+            first.written next.written (flat_map-append reply_text first.replies next.replies);
+      }
+
+  wanting_front : (s : State) (n : ℕ) (xs ys : List (List ℕ)) (a b : Option (List ℕ)) → IsEntryWanting rules s n xs a b → IsEntryWanting rules s n (xs ++ ys) a b
+  wanting_front s n xs ys a b h = record {
+    done = h.done;
+    line = h.line;
+    unseen = h.unseen ++ ys;
+    split = ap (λ (l : List (List ℕ)). l ++ ys) h.split ∙ append_assoc h.done (h.line ∷ h.unseen) ys;
+    replies = h.replies;
+    last = h.last;
+    each = h.each;
+    cause = h.cause;
+    written = h.written;
   }
 
-  -- one line
-  pub answered_line : (line front : List ℕ) (a b : Option (List ℕ)) (p : Bool) → front ≡ kept_front line → IsWritten (answers front) a b p → AreAnswered answers (line ∷ []) a b p
-  answered_line line front a b p e s = record {
-    replies = record { pieces = s.pieces; refused = p } ∷ [];
-    each = (subst (λ (l : List ℕ). answers l s.pieces p) e s.answer, tt);
-    written = subst (λ (l : List ℕ). Appends a b l) (sym (append-nil (concat s.pieces))) s.written;
+  -- a split line in a list of lines of which the same fronts are kept
+  wanting_split : (s l : State) (n : ℕ) (ys done first later : List (List ℕ)) (line : List ℕ) (unseen : List (List ℕ)) (rs : List Reply) (a b : Option (List ℕ)) → ys ≡ first ++ later → map kept_front done ≡ map kept_front first → map kept_front (line ∷ unseen) ≡ map kept_front later → rules.may_want l (n + length done) (kept_front line) → AreEntered rules s n done rs l → Appends a b (text_of rs) → IsEntryWanting rules s n ys a b
+  wanting_split s l n ys done first [] line unseen rs a b split e f cause each written = absurd (cc)
+  wanting_split s l n ys done first (o ∷ os) line unseen rs a b split e f cause each written =
+      let here : kept_front line ≡ kept_front o = cc in
+      record {
+        done = first;
+        line = o;
+        unseen = os;
+        split = split;
+        replies = rs;
+        last = l;
+        each = entered-fronts s l n done first rs e each;
+        cause =
+            subst (λ (k : ℕ). rules.may_want l (n + k) (kept_front o)) (fronts_many done first e)
+            (subst (λ (k : List ℕ). rules.may_want l (n + length done) k) here cause);
+        written = written;
+      }
+
+  wanting_fronts : (s : State) (n : ℕ) (xs ys : List (List ℕ)) (a b : Option (List ℕ)) → map kept_front xs ≡ map kept_front ys → IsEntryWanting rules s n xs a b → IsEntryWanting rules s n ys a b
+  wanting_fronts s n xs ys a b e h =
+      let t = split_as ys h.done (h.line ∷ h.unseen) (sym (ap (λ (l : List (List ℕ)). map kept_front l) h.split) ∙ e) in
+      wanting_split s h.last n ys h.done t.first t.later h.line h.unseen h.replies a b t.split t.same_first t.same_later h.cause h.each h.written
+
+  -- whatever stopped the lines
+  pub stopped_after : (stop : Stop) (s m : State) (n : ℕ) (xs ys : List (List ℕ)) (a b c : Option (List ℕ)) (p : Bool) → AreAllEntered rules s n xs a b p m → IsEntryStopped rules m (n + length xs) ys b c stop → IsEntryStopped rules s n (xs ++ ys) a c stop
+  stopped_after WriteFailed s m n xs ys a b c p first next = begun_after s m n xs ys a b c p first next
+  stopped_after NoMemory s m n xs ys a b c p first next = wanting_after s m n xs ys a b c p first next
+
+  pub stopped_front : (stop : Stop) (s : State) (n : ℕ) (xs ys : List (List ℕ)) (a b : Option (List ℕ)) → IsEntryStopped rules s n xs a b stop → IsEntryStopped rules s n (xs ++ ys) a b stop
+  stopped_front WriteFailed s n xs ys a b h = begun_front s n xs ys a b h
+  stopped_front NoMemory s n xs ys a b h = wanting_front s n xs ys a b h
+
+  pub stopped_fronts : (stop : Stop) (s : State) (n : ℕ) (xs ys : List (List ℕ)) (a b : Option (List ℕ)) → map kept_front xs ≡ map kept_front ys → IsEntryStopped rules s n xs a b stop → IsEntryStopped rules s n ys a b stop
+  stopped_fronts WriteFailed s n xs ys a b e h = begun_fronts s n xs ys a b e h
+  stopped_fronts NoMemory s n xs ys a b e h = wanting_fronts s n xs ys a b e h
+
+-- what is said of one line, where it was entered, and where it was not
+abbrev pub IsLineEntered : {State : Type 0} → Entering State → State → State → ℕ → List ℕ → Option (List ℕ) → Option (List ℕ) → Bool → Type 0
+IsLineEntered rules s l n front a b p = IsWritten (λ pieces refused. rules.enters s n front pieces refused l) a b p
+
+abbrev pub IsLineStopped : {State : Type 0} → Entering State → State → ℕ → List ℕ → Option (List ℕ) → Option (List ℕ) → Stop → Type 0
+IsLineStopped {State} rules s n front a b stop =
+    IsStopped (λ pieces refused. (l : State) × rules.enters s n front pieces refused l) (rules.may_want s n front) a b stop
+
+-- one line
+module _ {State : Type 0} (rules : Entering State) (s : State) (n : ℕ) (line front : List ℕ) (a b : Option (List ℕ)) (e : front ≡ kept_front line) where
+  entered_line : (l : State) (p : Bool) → IsLineEntered rules s l n front a b p → AreAllEntered rules s n (line ∷ []) a b p l
+  entered_line l p h = record {
+    replies = record { pieces = h.pieces; refused = p } ∷ [];
+    each = (l, subst (λ (f : List ℕ). rules.enters s n f h.pieces p l) e h.answer, refl);
+    written = subst (λ (t : List ℕ). Appends a b t) (sym (append-nil (concat h.pieces))) h.written;
     any = or_false p;
   }
 
-  begun_line : (line front : List ℕ) (a b : Option (List ℕ)) → front ≡ kept_front line → IsBegun (answers front) a b → AreBegun answers (line ∷ []) a b
-  begun_line line front a b e s = record {
+  begun_line : IsBegun (λ pieces refused. (l : State) × rules.enters s n front pieces refused l) a b → IsEntryBegun rules s n (line ∷ []) a b
+  begun_line h = record {
     begun = line ∷ [];
     unseen = [];
     split = refl;
-    replies = record { pieces = s.pieces; refused = s.refused } ∷ [];
-    each = (subst (λ (l : List ℕ). answers l s.pieces s.refused) e s.answer, tt);
-    written = subst (λ (l : List ℕ). AppendsPrefix a b l) (sym (append-nil (concat s.pieces))) s.written;
+    replies = record { pieces = h.pieces; refused = h.refused } ∷ [];
+    last = h.answer.0;
+    each = (h.answer.0, subst (λ (f : List ℕ). rules.enters s n f h.pieces h.refused h.answer.0) e h.answer.1, refl);
+    written = subst (λ (t : List ℕ). AppendsPrefix a b t) (sym (append-nil (concat h.pieces))) h.written;
   }
 
-  module _ (may_want : List ℕ → Type 0) where
-    short_after : (xs ys : List (List ℕ)) (a b c : Option (List ℕ)) (p : Bool) → AreAnswered answers xs a b p → AreCutShort answers may_want ys b c → AreCutShort answers may_want (xs ++ ys) a c
-    short_after xs ys a b c p first next = record {
-      done = xs ++ next.done;
-      line = next.line;
-      unseen = next.unseen;
-      split = ap (λ (l : List (List ℕ)). xs ++ l) next.split ∙ sym (append_assoc xs next.done (next.line ∷ next.unseen));
-      cause = next.cause;
-      replies = first.replies ++ next.replies;
-      each = replies-append xs next.done first.replies next.replies first.each next.each;
-      written =
-          appends_more a b c (text_of first.replies) (text_of next.replies) (text_of (first.replies ++ next.replies))
-          first.written next.written (flat_map-append reply_text first.replies next.replies);
-    }
+  wanting_line : IsWanting (rules.may_want s n front) a b → IsEntryWanting rules s n (line ∷ []) a b
+  wanting_line h =
+      let same : n ≡ n + 0 = omega arith in
+      record {
+        done = [];
+        line = line;
+        unseen = [];
+        split = refl;
+        replies = [];
+        last = s;
+        each = refl;
+        cause = subst (λ (k : ℕ). rules.may_want s k (kept_front line)) same (subst (λ (f : List ℕ). rules.may_want s n f) e h.cause);
+        written = kept_appends a b h.kept;
+      }
 
-    short_front : (xs ys : List (List ℕ)) (a b : Option (List ℕ)) → AreCutShort answers may_want xs a b → AreCutShort answers may_want (xs ++ ys) a b
-    short_front xs ys a b s = record {
-      done = s.done;
-      line = s.line;
-      unseen = s.unseen ++ ys;
-      split = ap (λ (l : List (List ℕ)). l ++ ys) s.split ∙ append_assoc s.done (s.line ∷ s.unseen) ys;
-      cause = s.cause;
-      replies = s.replies;
-      each = s.each;
-      written = s.written;
-    }
+  stopped_line : (stop : Stop) → IsLineStopped rules s n front a b stop → IsEntryStopped rules s n (line ∷ []) a b stop
+  stopped_line WriteFailed h = begun_line h
+  stopped_line NoMemory h = wanting_line h
 
-    -- a split line in a list of lines of which the same fronts are kept
-    short_split : (xs ys done first later : List (List ℕ)) (line : List ℕ) (unseen : List (List ℕ)) (rs : List Reply) (a b : Option (List ℕ)) → ys ≡ first ++ later → map kept_front done ≡ map kept_front first → map kept_front (line ∷ unseen) ≡ map kept_front later → may_want (kept_front line) → AreReplies answers done rs → Appends a b (text_of rs) → AreCutShort answers may_want ys a b
-    short_split xs ys done first [] line unseen rs a b split e f cause each written = absurd (cc)
-    short_split xs ys done first (l ∷ ls) line unseen rs a b split e f cause each written =
-        let here : kept_front line ≡ kept_front l = cc in
-        record {
-          done = first;
-          line = l;
-          unseen = ls;
-          split = split;
-          cause = subst (λ (k : List ℕ). may_want k) here cause;
-          replies = rs;
-          each = replies-fronts answers done first rs e each;
-          written = written;
-        }
+  -- by the result of the call that entered it
+  pub line_entered : (l : State) (r : Result Bool Stop) → IfOk r (λ p. IsLineEntered rules s l n front a b p) → IfOk r (λ p. AreAllEntered rules s n (line ∷ []) a b p l)
+  line_entered l (Ok p) h = entered_line l p h
+  line_entered l (Err stop) h = tt
 
-    short_fronts : (xs ys : List (List ℕ)) (a b : Option (List ℕ)) → map kept_front xs ≡ map kept_front ys → AreCutShort answers may_want xs a b → AreCutShort answers may_want ys a b
-    short_fronts xs ys a b e s =
-        let t = split_as ys s.done (s.line ∷ s.unseen) (sym (ap (λ (l : List (List ℕ)). map kept_front l) s.split) ∙ e) in
-        short_split xs ys s.done t.first t.later s.line s.unseen s.replies a b t.split t.same_first t.same_later s.cause s.each s.written
-
-    short_line : (line front : List ℕ) (a b : Option (List ℕ)) → front ≡ kept_front line → IsWanting (may_want front) a b → AreCutShort answers may_want (line ∷ []) a b
-    short_line line front a b e s = record {
-      done = [];
-      line = line;
-      unseen = [];
-      split = refl;
-      cause = subst (λ (l : List ℕ). may_want l) e s.cause;
-      replies = [];
-      each = tt;
-      written = kept_appends a b s.kept;
-    }
-
-    -- whatever stopped the answers
-    pub stopped_line : (stop : Stop) (line front : List ℕ) (a b : Option (List ℕ)) → front ≡ kept_front line → IsStopped (answers front) (may_want front) a b stop → AreStopped answers may_want (line ∷ []) a b stop
-    stopped_line WriteFailed line front a b e s = begun_line line front a b e s
-    stopped_line NoMemory line front a b e s = short_line line front a b e s
-
-    pub stopped_after : (stop : Stop) (xs ys : List (List ℕ)) (a b c : Option (List ℕ)) (p : Bool) → AreAnswered answers xs a b p → AreStopped answers may_want ys b c stop → AreStopped answers may_want (xs ++ ys) a c stop
-    stopped_after WriteFailed xs ys a b c p first next = begun_after xs ys a b c p first next
-    stopped_after NoMemory xs ys a b c p first next = short_after xs ys a b c p first next
-
-    pub stopped_front : (stop : Stop) (xs ys : List (List ℕ)) (a b : Option (List ℕ)) → AreStopped answers may_want xs a b stop → AreStopped answers may_want (xs ++ ys) a b stop
-    stopped_front WriteFailed xs ys a b s = begun_front xs ys a b s
-    stopped_front NoMemory xs ys a b s = short_front xs ys a b s
-
-    pub stopped_fronts : (stop : Stop) (xs ys : List (List ℕ)) (a b : Option (List ℕ)) → map kept_front xs ≡ map kept_front ys → AreStopped answers may_want xs a b stop → AreStopped answers may_want ys a b stop
-    stopped_fronts WriteFailed xs ys a b e s = begun_fronts xs ys a b e s
-    stopped_fronts NoMemory xs ys a b e s = short_fronts xs ys a b e s
-
--- one line, by the result of the call that answered it
-module _ (answers : List ℕ → List (List ℕ) → Bool → Type 0) (line front : List ℕ) (a b : Option (List ℕ)) where
-  pub line_answered : (r : Result Bool Stop) → front ≡ kept_front line → IfOk r (λ p. IsWritten (answers front) a b p) → IfOk r (λ p. AreAnswered answers (line ∷ []) a b p)
-  line_answered (Ok p) e s = answered_line answers line front a b p e s
-  line_answered (Err stop) e s = tt
-
-  pub line_stopped : (may_want : List ℕ → Type 0) (r : Result Bool Stop) → front ≡ kept_front line → IfErr r (λ stop. IsStopped (answers front) (may_want front) a b stop) → IfErr r (λ stop. AreStopped answers may_want (line ∷ []) a b stop)
-  line_stopped may_want (Ok p) e s = tt
-  line_stopped may_want (Err stop) e s = stopped_line answers may_want stop line front a b e s
+  pub line_stopped : (r : Result Bool Stop) → IfErr r (λ stop. IsLineStopped rules s n front a b stop) → IfErr r (λ stop. IsEntryStopped rules s n (line ∷ []) a b stop)
+  line_stopped (Ok p) h = tt
+  line_stopped (Err stop) h = stopped_line stop h
 
 pub not_none : (line : List ℕ) → (length line == 0) ≡ false → 0 < length line
 not_none [] e = absurd (true≢false e)
@@ -210,9 +253,13 @@ last_whole [] some = absurd (omega arith)
 last_whole (b ∷ bs) some = refl
 
 -- the same of the line at the end of the input, if it has bytes
-module _ (answers : List ℕ → List (List ℕ) → Bool → Type 0) (line front : List ℕ) (a b : Option (List ℕ)) where
-  pub last_answered : (r : Result Bool Stop) → 0 < length line → front ≡ kept_front line → IfOk r (λ p. IsWritten (answers front) a b p) → IfOk r (λ p. AreAnswered answers (last_line line) a b p)
-  last_answered r some e s = subst (λ (lines : List (List ℕ)). IfOk r (λ p. AreAnswered answers lines a b p)) (sym (last_whole line some)) (line_answered answers line front a b r e s)
+module _ {State : Type 0} (rules : Entering State) (s : State) (n : ℕ) (line front : List ℕ) (a b : Option (List ℕ)) (some : 0 < length line) (e : front ≡ kept_front line) where
+  pub last_entered : (l : State) (r : Result Bool Stop) → IfOk r (λ p. IsLineEntered rules s l n front a b p) → IfOk r (λ p. AreAllEntered rules s n (last_line line) a b p l)
+  last_entered l r h =
+      subst (λ (lines : List (List ℕ)). IfOk r (λ p. AreAllEntered rules s n lines a b p l)) (sym (last_whole line some))
+      (line_entered rules s n line front a b e l r h)
 
-  pub last_stopped : (may_want : List ℕ → Type 0) (r : Result Bool Stop) → 0 < length line → front ≡ kept_front line → IfErr r (λ stop. IsStopped (answers front) (may_want front) a b stop) → IfErr r (λ stop. AreStopped answers may_want (last_line line) a b stop)
-  last_stopped may_want r some e s = subst (λ (lines : List (List ℕ)). IfErr r (λ stop. AreStopped answers may_want lines a b stop)) (sym (last_whole line some)) (line_stopped answers line front a b may_want r e s)
+  pub last_stopped : (r : Result Bool Stop) → IfErr r (λ stop. IsLineStopped rules s n front a b stop) → IfErr r (λ stop. IsEntryStopped rules s n (last_line line) a b stop)
+  last_stopped r h =
+      subst (λ (lines : List (List ℕ)). IfErr r (λ stop. IsEntryStopped rules s n lines a b stop)) (sym (last_whole line some))
+      (line_stopped rules s n line front a b e r h)

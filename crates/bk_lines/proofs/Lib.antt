@@ -3,6 +3,7 @@ pub mod Fronts
 pub mod Joining
 pub mod Blocks
 pub mod Taking
+pub mod Stateless
 pub mod Pieces
 pub mod LineExamples
 pub mod OneReply

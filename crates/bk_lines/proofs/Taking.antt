@@ -1,17 +1,18 @@
--- An input of which some bytes are taken, and their lines answered.
+-- An input of which some bytes are taken, and their lines entered.
 use Rattle.std.proofs.Common.{◌≡◌, ℕ, ◌+◌, ◌^◌, ◌<◌, ◌≤◌, Bool, true, false, ◌||◌, List, [], ◌++◌, length, take, map, Option, Some, None, refl, sym, ap, ◌∙◌, subst, arith}
 use Rattle.std.specs.Io.KnownBytes.{Consumes, Keeps, IsAtEnd}
 use Rattle.std.proofs.lemmas.List.{append_assoc, append-nil, length-append}
 use Rattle.bk_ports.proofs.KnownSteps.{consumes_more}
 use Rattle.bk_lines.specs.Lines.{closed_lines, open_line, last_line, lines_of, kept_front}
-use Rattle.bk_lines.specs.Answered.{AreAnswered, AreStopped}
-use Rattle.bk_lines.specs.Ending.{Rules, Told, Tells, IsAnswered, IsCutOff, IsTooMany, EndsBy, ended_of, verdict_of}
+use Rattle.bk_lines.specs.Entering.{AreAllEntered, Entering, IsEntryStopped}
+use Rattle.bk_lines.specs.Entries.{AreEntriesTooMany, EntersBy, IsEntered, IsEntryCutOff}
+use Rattle.bk_lines.specs.Ending.{Told, Tells, ended_of, verdict_of}
 use Rattle.bk_lines.specs.declared.Ended.{Ended}
 use Rattle.bk_lines.specs.declared.line.Stop.{Stop}
 use Rattle.bk_lines.specs.declared.line.Stop.TheVariants.{WriteFailed, NoMemory}
 use Rattle.bk_lines.proofs.Cuts.{closed-append, open-append}
 use Rattle.bk_lines.proofs.Fronts.{closed-fronts, open-fronts, front-front, last-fronts}
-use Rattle.bk_lines.proofs.Joining.{answered_none, answered_more, answered_fronts, stopped_after, stopped_front, stopped_fronts}
+use Rattle.bk_lines.proofs.Joining.{entered_none, entered_more, entered_fronts, fronts_many, stopped_after, stopped_front, stopped_fronts}
 
 -- the bytes of a source, where it tells them
 left_bytes : Option (List ℕ) → List ℕ
@@ -38,13 +39,14 @@ consumes_kept (Some old) None c xs p k = absurd p
 consumes_kept (Some old) (Some bs) None xs p k = absurd k
 consumes_kept (Some old) (Some bs) (Some cs) xs p k = p ∙ ap (λ (l : List ℕ). xs ++ l) (sym k)
 
--- some bytes are taken, of which the lines with a line feed are answered, and the front of the open line is kept
-pub record IsTaken (answers : List ℕ → List (List ℕ) → Bool → Type 0) (left now_left before now : Option (List ℕ)) (count : ℕ) (kept : List ℕ) (refused : Bool) : Type 0 where
+-- some bytes are taken, of which the lines with a line feed are entered, and the front of the open line is kept, with its number
+pub record IsTaken {State : Type 0} (rules : Entering State) (start : State) (left now_left before now : Option (List ℕ)) (count : ℕ) (kept : List ℕ) (number : ℕ) (refused : Bool) (state : State) : Type 0 where
   pub input : List ℕ
   pub taken : Consumes left now_left input
   pub size : length input ≡ count
   pub front : kept ≡ kept_front (open_line [] input)
-  pub answered : AreAnswered answers (closed_lines [] input) before now refused
+  pub numbered : number ≡ 1 + length (closed_lines [] input)
+  pub entered : AreAllEntered rules start 1 (closed_lines [] input) before now refused state
 
 -- what is kept of the open line has the same front
 same_front : (kept whole : List ℕ) → kept ≡ kept_front whole → kept_front kept ≡ kept_front whole
@@ -56,19 +58,24 @@ lines-append input later =
     ap (λ (l : List (List ℕ)). l ++ last_line (open_line [] (input ++ later))) (closed-append [] input later)
     ∙ append_assoc (closed_lines [] input) (closed_lines (open_line [] input) later) (last_line (open_line [] (input ++ later)))
 
-module _ (answers : List ℕ → List (List ℕ) → Bool → Type 0) where
-  pub taken_none : (left w : Option (List ℕ)) (kept : List ℕ) → kept ≡ [] → IsTaken answers left left w w 0 kept false
-  taken_none left w kept none = record {
+module _ {State : Type 0} (rules : Entering State) (start : State) where
+  pub taken_none : (left w : Option (List ℕ)) (kept : List ℕ) (number : ℕ) → kept ≡ [] → number ≡ 1 → IsTaken rules start left left w w 0 kept number false start
+  taken_none left w kept number none first = record {
     input = [];
     taken = consumes_nothing left;
     size = refl;
     front = none;
-    answered = answered_none answers w;
+    numbered = first;
+    entered = entered_none rules start 1 w;
   }
 
-  pub taken_more : (l m n a b c : Option (List ℕ)) (count more : ℕ) (kept now_kept bytes : List ℕ) (p q : Bool) → IsTaken answers l m a b count kept p → Consumes m n bytes → length bytes ≡ more → now_kept ≡ kept_front (open_line kept bytes) → AreAnswered answers (closed_lines kept bytes) b c q → IsTaken answers l n a c (count + more) now_kept (p || q)
-  taken_more l m n a b c count more kept now_kept bytes p q state read size front here =
+  pub taken_more : (s t : State) (l m n a b c : Option (List ℕ)) (count more : ℕ) (kept now_kept bytes : List ℕ) (number now_number : ℕ) (p q : Bool) → IsTaken rules start l m a b count kept number p s → Consumes m n bytes → length bytes ≡ more → now_kept ≡ kept_front (open_line kept bytes) → now_number ≡ number + length (closed_lines kept bytes) → AreAllEntered rules s number (closed_lines kept bytes) b c q t → IsTaken rules start l n a c (count + more) now_kept now_number (p || q) t
+  taken_more s t l m n a b c count more kept now_kept bytes number now_number p q state read size front next here =
       let same = same_front kept (open_line [] state.input) state.front in
+      let known = closed_lines [] state.input in
+      let added = closed_lines (open_line [] state.input) bytes in
+      let fronts = closed-fronts kept (open_line [] state.input) bytes same in
+      let joined : closed_lines [] (state.input ++ bytes) ≡ known ++ added = closed-append [] state.input bytes in
       record {
         input = state.input ++ bytes;
         taken = consumes_more l m n state.input bytes (state.input ++ bytes) state.taken read refl;
@@ -76,29 +83,31 @@ module _ (answers : List ℕ → List (List ℕ) → Bool → Type 0) where
         front =
             front ∙ open-fronts kept (open_line [] state.input) bytes same
             ∙ ap (λ (o : List ℕ). kept_front o) (sym (open-append [] state.input bytes));
-        answered =
-            subst (λ (lines : List (List ℕ)). AreAnswered answers lines a c (p || q)) (sym (closed-append [] state.input bytes))
-            (answered_more answers (closed_lines [] state.input) (closed_lines (open_line [] state.input) bytes) a b c p q state.answered
-            (answered_fronts answers (closed_lines kept bytes) (closed_lines (open_line [] state.input) bytes) b c q
-            (closed-fronts kept (open_line [] state.input) bytes same) here));
+        numbered =
+            omega (arith, next, state.numbered, fronts_many (closed_lines kept bytes) added fronts, length-append known added, ap (λ (x : List (List ℕ)). length x) joined);
+        entered =
+            subst (λ (lines : List (List ℕ)). AreAllEntered rules start 1 lines a c (p || q) t) (sym joined)
+            (entered_more rules start s t 1 known added a b c p q state.entered
+            (subst (λ (i : ℕ). AreAllEntered rules s i added b c q t) state.numbered
+            (entered_fronts rules s t number (closed_lines kept bytes) added b c q fronts here)));
       }
 
-module _ (rules : Rules) (l m n a b c : Option (List ℕ)) (count : ℕ) (kept : List ℕ) (p : Bool) (state : IsTaken rules.answers l m a b count kept p) where
+module _ {State : Type 0} (rules : Entering State) (start s : State) (l m n a b c : Option (List ℕ)) (count : ℕ) (kept : List ℕ) (number : ℕ) (p : Bool) (state : IsTaken rules start l m a b count kept number p s) where
   -- the lines of the end of the input
   last_same : map kept_front (last_line kept) ≡ map kept_front (last_line (open_line [] state.input))
   last_same =
       ap (λ (o : List ℕ). map kept_front (last_line o)) state.front ∙ last-fronts (open_line [] state.input)
 
-  pub ends_read : Keeps m n → count ≤ 2 ^ 30 → IsCutOff rules (record { left = l; left_after = n; written = a; written_after = b })
+  pub ends_read : Keeps m n → count ≤ 2 ^ 30 → IsEntryCutOff rules start (record { left = l; left_after = n; written = a; written_after = b }) s
   ends_read still within = record {
     input = state.input;
     taken = consumes_kept l m n state.input state.taken still;
     within = omega (arith, state.size);
     refused = p;
-    answered = state.answered;
+    entered = state.entered;
   }
 
-  pub ends_more : (more : List ℕ) → Consumes m n more → 0 < length more → count ≡ 2 ^ 30 → IsTooMany rules (record { left = l; left_after = n; written = a; written_after = b })
+  pub ends_more : (more : List ℕ) → Consumes m n more → 0 < length more → count ≡ 2 ^ 30 → AreEntriesTooMany rules start (record { left = l; left_after = n; written = a; written_after = b }) s
   ends_more more read some full = record {
     first = state.input;
     more = more;
@@ -106,70 +115,73 @@ module _ (rules : Rules) (l m n a b c : Option (List ℕ)) (count : ℕ) (kept :
     full = state.size ∙ full;
     some = some;
     refused = p;
-    answered = state.answered;
+    entered = state.entered;
   }
 
-  pub ends_all : (q : Bool) → Consumes m n [] → IsAtEnd n → count ≤ 2 ^ 30 → AreAnswered rules.answers (last_line kept) b c q → IsAnswered rules (record { left = l; left_after = n; written = a; written_after = c }) (p || q)
-  ends_all q read at_end within here = record {
+  pub ends_all : (q : Bool) (t : State) → Consumes m n [] → IsAtEnd n → count ≤ 2 ^ 30 → AreAllEntered rules s number (last_line kept) b c q t → IsEntered rules start (record { left = l; left_after = n; written = a; written_after = c }) (p || q) t
+  ends_all q t read at_end within here = record {
     input = state.input;
     taken = consumes_more l m n state.input [] state.input state.taken read (sym (append-nil state.input));
     at_end = at_end;
     within = omega (arith, state.size);
-    answered =
-        answered_more rules.answers (closed_lines [] state.input) (last_line (open_line [] state.input)) a b c p q state.answered
-        (answered_fronts rules.answers (last_line kept) (last_line (open_line [] state.input)) b c q last_same here);
+    entered =
+        entered_more rules start s t 1 (closed_lines [] state.input) (last_line (open_line [] state.input)) a b c p q state.entered
+        (subst (λ (i : ℕ). AreAllEntered rules s i (last_line (open_line [] state.input)) b c q t) state.numbered
+        (entered_fronts rules s t number (last_line kept) (last_line (open_line [] state.input)) b c q last_same here));
   }
 
--- where answers stopped at a line of the input
-module _ (rules : Rules) (l n a c : Option (List ℕ)) (input : List ℕ) where
-  stop_ends : (stop : Stop) → Consumes l n input → length input ≤ 2 ^ 30 → AreStopped rules.answers rules.may_want (lines_of (input ++ left_bytes n)) a c stop → EndsBy rules (record { left = l; left_after = n; written = a; written_after = c }) (ended_of stop)
+-- where a line of the input was not entered
+module _ {State : Type 0} (rules : Entering State) (start last : State) (l n a c : Option (List ℕ)) (input : List ℕ) where
+  stop_ends : (stop : Stop) → Consumes l n input → length input ≤ 2 ^ 30 → IsEntryStopped rules start 1 (lines_of (input ++ left_bytes n)) a c stop → EntersBy rules start last (record { left = l; left_after = n; written = a; written_after = c }) (ended_of stop)
   stop_ends WriteFailed taken within h = record { input = input; later = left_bytes n; taken = taken; left = tells_left n; within = within; begun = h }
   stop_ends NoMemory taken within h = record { input = input; later = left_bytes n; taken = taken; left = tells_left n; within = within; short = h }
 
-  stops : (stop : Stop) (ended : Ended) → ended ≡ ended_of stop → Consumes l n input → length input ≤ 2 ^ 30 → AreStopped rules.answers rules.may_want (lines_of (input ++ left_bytes n)) a c stop → EndsBy rules (record { left = l; left_after = n; written = a; written_after = c }) ended
+  stops : (stop : Stop) (ended : Ended) → ended ≡ ended_of stop → Consumes l n input → length input ≤ 2 ^ 30 → IsEntryStopped rules start 1 (lines_of (input ++ left_bytes n)) a c stop → EntersBy rules start last (record { left = l; left_after = n; written = a; written_after = c }) ended
   stops stop ended is taken within here =
-      subst (λ (e : Ended). EndsBy rules (record { left = l; left_after = n; written = a; written_after = c }) e) (sym is) (stop_ends stop taken within here)
+      subst (λ (e : Ended). EntersBy rules start last (record { left = l; left_after = n; written = a; written_after = c }) e) (sym is) (stop_ends stop taken within here)
 
-module _ (rules : Rules) (l m n a b c : Option (List ℕ)) (count : ℕ) (kept : List ℕ) (p : Bool) (state : IsTaken rules.answers l m a b count kept p) (stop : Stop) where
-  pub ends_block : (ended : Ended) (more : ℕ) (bytes : List ℕ) → ended ≡ ended_of stop → Consumes m n bytes → length bytes ≡ more → count + more ≤ 2 ^ 30 → AreStopped rules.answers rules.may_want (closed_lines kept bytes) b c stop → EndsBy rules (record { left = l; left_after = n; written = a; written_after = c }) ended
+module _ {State : Type 0} (rules : Entering State) (start s last : State) (l m n a b c : Option (List ℕ)) (count : ℕ) (kept : List ℕ) (number : ℕ) (p : Bool) (state : IsTaken rules start l m a b count kept number p s) (stop : Stop) where
+  pub ends_block : (ended : Ended) (more : ℕ) (bytes : List ℕ) → ended ≡ ended_of stop → Consumes m n bytes → length bytes ≡ more → count + more ≤ 2 ^ 30 → IsEntryStopped rules s number (closed_lines kept bytes) b c stop → EntersBy rules start last (record { left = l; left_after = n; written = a; written_after = c }) ended
   ends_block ended more bytes is read size within here =
       let known = closed_lines [] state.input in
       let next = closed_lines (open_line [] state.input) bytes in
       let later = closed_lines (open_line [] (state.input ++ bytes)) (left_bytes n) ++ last_line (open_line [] ((state.input ++ bytes) ++ left_bytes n)) in
       let fronts = closed-fronts kept (open_line [] state.input) bytes (same_front kept (open_line [] state.input) state.front) in
-      let all : AreStopped rules.answers rules.may_want (known ++ next) a c stop =
-      stopped_after rules.answers rules.may_want stop known next a b c p state.answered
-      (stopped_fronts rules.answers rules.may_want stop (closed_lines kept bytes) next b c fronts here) in
-      let joined : AreStopped rules.answers rules.may_want (closed_lines [] (state.input ++ bytes)) a c stop =
-      subst (λ (lines : List (List ℕ)). AreStopped rules.answers rules.may_want lines a c stop) (sym (closed-append [] state.input bytes)) all in
-      stops rules l n a c (state.input ++ bytes) stop ended is
+      let all : IsEntryStopped rules start 1 (known ++ next) a c stop =
+      stopped_after rules stop start s 1 known next a b c p state.entered
+      (subst (λ (i : ℕ). IsEntryStopped rules s i next b c stop) state.numbered
+      (stopped_fronts rules stop s number (closed_lines kept bytes) next b c fronts here)) in
+      let joined : IsEntryStopped rules start 1 (closed_lines [] (state.input ++ bytes)) a c stop =
+      subst (λ (lines : List (List ℕ)). IsEntryStopped rules start 1 lines a c stop) (sym (closed-append [] state.input bytes)) all in
+      stops rules start last l n a c (state.input ++ bytes) stop ended is
       (consumes_more l m n state.input bytes (state.input ++ bytes) state.taken read refl)
       (omega (arith, length-append state.input bytes, state.size, size, within))
-      (subst (λ (lines : List (List ℕ)). AreStopped rules.answers rules.may_want lines a c stop) (sym (lines-append (state.input ++ bytes) (left_bytes n)))
-      (stopped_front rules.answers rules.may_want stop (closed_lines [] (state.input ++ bytes)) later a c joined))
+      (subst (λ (lines : List (List ℕ)). IsEntryStopped rules start 1 lines a c stop) (sym (lines-append (state.input ++ bytes) (left_bytes n)))
+      (stopped_front rules stop start 1 (closed_lines [] (state.input ++ bytes)) later a c joined))
 
-  pub ends_last : (ended : Ended) → ended ≡ ended_of stop → Consumes m n [] → IsAtEnd n → count ≤ 2 ^ 30 → AreStopped rules.answers rules.may_want (last_line kept) b c stop → EndsBy rules (record { left = l; left_after = n; written = a; written_after = c }) ended
+  pub ends_last : (ended : Ended) → ended ≡ ended_of stop → Consumes m n [] → IsAtEnd n → count ≤ 2 ^ 30 → IsEntryStopped rules s number (last_line kept) b c stop → EntersBy rules start last (record { left = l; left_after = n; written = a; written_after = c }) ended
   ends_last ended is read at_end within here =
       let known = closed_lines [] state.input in
-      let last = last_line (open_line [] state.input) in
-      let fronts : map kept_front (last_line kept) ≡ map kept_front last =
+      let final = last_line (open_line [] state.input) in
+      let fronts : map kept_front (last_line kept) ≡ map kept_front final =
       ap (λ (o : List ℕ). map kept_front (last_line o)) state.front ∙ last-fronts (open_line [] state.input) in
       let same : lines_of state.input ≡ lines_of (state.input ++ left_bytes n) =
       ap (λ (bytes : List ℕ). lines_of bytes) (sym (append-nil state.input))
       ∙ ap (λ (bytes : List ℕ). lines_of (state.input ++ bytes)) (sym (none_left n at_end)) in
-      stops rules l n a c state.input stop ended is
+      stops rules start last l n a c state.input stop ended is
       (consumes_more l m n state.input [] state.input state.taken read (sym (append-nil state.input)))
       (omega (arith, state.size, within))
-      (subst (λ (lines : List (List ℕ)). AreStopped rules.answers rules.may_want lines a c stop) same
-      (stopped_after rules.answers rules.may_want stop known last a b c p state.answered
-      (stopped_fronts rules.answers rules.may_want stop (last_line kept) last b c fronts here)))
+      (subst (λ (lines : List (List ℕ)). IsEntryStopped rules start 1 lines a c stop) same
+      (stopped_after rules stop start s 1 known final a b c p state.entered
+      (subst (λ (i : ℕ). IsEntryStopped rules s i final b c stop) state.numbered
+      (stopped_fronts rules stop s number (last_line kept) final b c fronts here))))
 
-verdict_ends : (rules : Rules) (told : Told) (refused : Bool) → IsAnswered rules told refused → EndsBy rules told (verdict_of refused)
-verdict_ends rules told true h = h
-verdict_ends rules told false h = h
+verdict_ends : {State : Type 0} (rules : Entering State) (start last : State) (told : Told) (refused : Bool) → IsEntered rules start told refused last → EntersBy rules start last told (verdict_of refused)
+verdict_ends rules start last told true h = h
+verdict_ends rules start last told false h = h
 
-pub ends_verdict : (rules : Rules) (told : Told) (refused : Bool) (ended : Ended) → ended ≡ verdict_of refused → IsAnswered rules told refused → EndsBy rules told ended
-ends_verdict rules told refused ended is h = subst (λ (e : Ended). EndsBy rules told e) (sym is) (verdict_ends rules told refused h)
+pub ends_verdict : {State : Type 0} (rules : Entering State) (start last : State) (told : Told) (refused : Bool) (ended : Ended) → ended ≡ verdict_of refused → IsEntered rules start told refused last → EntersBy rules start last told ended
+ends_verdict rules start last told refused ended is h = subst (λ (e : Ended). EntersBy rules start last told e) (sym is) (verdict_ends rules start last told refused h)
 
 -- a read that gave no byte
 pub read_nothing : (m n : Option (List ℕ)) (bytes : List ℕ) (count : ℕ) → count ≡ 0 → Consumes m n (take count bytes) → Consumes m n []

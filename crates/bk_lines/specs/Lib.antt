@@ -3,3 +3,5 @@ pub mod Reply
 pub mod Answer
 pub mod Answered
 pub mod Ending
+pub mod Entering
+pub mod Entries

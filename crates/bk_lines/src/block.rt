@@ -1,38 +1,44 @@
 //! The lines of one block of bytes.
 
-ghost use Rattle.std.specs.Prelude.{◌≡◌, IfOk, IfErr, OnOk};
+ghost use Rattle.std.specs.Prelude.{◌≡◌, ◌≤◌, ◌+◌, ◌^◌, length, IfOk, IfErr, OnOk};
 ghost use Rattle.bk_lines.specs.Lines.{closed_lines, open_line, kept_front};
-ghost use Rattle.bk_lines.specs.Answered.{AreAnswered, AreStopped, CountFits};
+ghost use Rattle.bk_lines.specs.Answered.{CountFits};
+ghost use Rattle.bk_lines.specs.Entering.{AreAllEntered, IsEntryStopped};
 
-use crate::Answerer;
+use crate::Register;
 use crate::line::{OpenLine, Stop, close_line, keep};
 use arrayvec::ArrayVec;
 use bk_ports::Sink;
 use memchr::memchr;
 
-// Answers the lines that end in the block, the first of which began with the kept bytes, and keeps what follows the
+// Enters the lines that end in the block, the first of which began with the kept bytes, and keeps what follows the
 // last line feed. It says whether one of them is refused.
-pub fn answer_block<A: Answerer, O: Sink>(
-    answerer: &A,
+pub fn enter_block<R: Register, O: Sink>(
+    register: &mut R,
     block: &[u8],
     kept: &mut OpenLine,
     buffer: &mut ArrayVec<u8, 9000>,
     out: &mut O,
 ) -> Result<bool, Stop>
-    ensures answered { IfOk result (λ refused. AreAnswered (A.answers answerer.now) (closed_lines kept.old.items block.now)
-        (O.written out.old) (O.written out.new) refused) }
-    ensures stopped { IfErr result (λ stop. AreStopped (A.answers answerer.now) (A.may_want answerer.now)
-        (closed_lines kept.old.items block.now) (O.written out.old) (O.written out.new) stop) }
+    requires early { kept.old.number + length block.now ≤ 2 ^ 31 }
+    requires ready { R.is_ready register.old kept.old.number }
+    ensures entered { IfOk result (λ refused. AreAllEntered (record { enters = R.enters; may_want = R.may_want }) register.old
+        kept.old.number (closed_lines kept.old.front.items block.now) (O.written out.old) (O.written out.new) refused register.new) }
+    ensures stopped { IfErr result (λ stop. IsEntryStopped (record { enters = R.enters; may_want = R.may_want }) register.old
+        kept.old.number (closed_lines kept.old.front.items block.now) (O.written out.old) (O.written out.new) stop) }
     ensures count { CountFits (O.faults out.old) (O.faults out.new) result }
-    ensures front { OnOk result (kept.new.items ≡ kept_front (open_line kept.old.items block.now)) }
+    ensures ready { OnOk result (R.is_ready register.new kept.new.number) }
+    ensures number { OnOk result (kept.new.number ≡ kept.old.number + length (closed_lines kept.old.front.items block.now)) }
+    ensures early { OnOk result (kept.new.number ≤ kept.old.number + length block.now) }
+    ensures front { OnOk result (kept.new.front.items ≡ kept_front (open_line kept.old.front.items block.now)) }
 {
     let mut refused = false;
     let mut rest = block;
     'lines: while let Some(end) = memchr(b'\n', rest) {
-        let is_refused = close_line(answerer, kept, &rest[..end], buffer, out)?;
+        let is_refused = close_line(register, kept, &rest[..end], buffer, out)?;
         refused |= is_refused;
         rest = &rest[end + 1..];
     }
-    keep(kept, rest);
+    keep(&mut kept.front, rest);
     Ok(refused)
 }

@@ -4,12 +4,14 @@ ghost use Rattle.std.specs.Prelude.{◌≡◌, ◌≢◌, ◌≤◌, ◌<◌, �
 ghost use Rattle.std.specs.Io.KnownBytes.{ReadConsumes};
 ghost use Rattle.bk_ports.specs.Causes.{HasCause, Rose};
 ghost use Rattle.bk_lines.specs.Lines.{last_line};
-ghost use Rattle.bk_lines.specs.Answered.{AreAnswered, AreStopped, CountFits};
-ghost use Rattle.bk_lines.specs.Ending.{EndsBy, HasVerdict, IsUndisturbed, ended_of, verdict_of};
+ghost use Rattle.bk_lines.specs.Answered.{CountFits};
+ghost use Rattle.bk_lines.specs.Ending.{ended_of, verdict_of};
+ghost use Rattle.bk_lines.specs.Entering.{AreAllEntered, IsEntryStopped};
+ghost use Rattle.bk_lines.specs.Entries.{EntersBy, IsCalm, IsDoneOrWanting};
 
-use crate::block::answer_block;
-use crate::line::{OpenLine, Stop, answer_line};
-use crate::{Answerer, Ended};
+use crate::block::enter_block;
+use crate::line::{Front, OpenLine, Stop, enter_line};
+use crate::{Ended, Register};
 use arrayvec::ArrayVec;
 use bk_ports::{Failed, Sink, Source};
 
@@ -19,16 +21,18 @@ const MOST_BYTES: usize = 1 << 30;
 // A read takes at most so many bytes.
 const BLOCK: usize = 16_384;
 
-/// Takes the bytes of the source to their end and answers their lines, in order. Each line that was taken with its line
-/// feed is answered before the next read. Of a longer input 2^30 bytes are taken, and then a read tells that there are
-/// more.
-pub fn answer_lines<S: Source, O: Sink, A: Answerer>(
-    answerer: &A,
+/// Takes the bytes of the source to their end and enters their lines in the register, in order and numbered from 1. Each line
+/// that was taken with its line feed is entered before the next read. Of a longer input 2^30 bytes are taken, and then a read
+/// tells that there are more.
+pub fn enter_lines<R: Register, S: Source, O: Sink>(
+    register: &mut R,
     source: &mut S,
     out: &mut O,
 ) -> Ended
-    // What each ending says of the bytes.
-    ensures ending { EndsBy (record { answers = A.answers answerer.now; may_want = A.may_want answerer.now })
+    requires { R.is_ready register.old 1 }
+
+    // What each ending says of the bytes and of the register.
+    ensures ending { EntersBy (record { enters = R.enters; may_want = R.may_want }) register.old register.new
         (record {
           left = S.left source.old;
           left_after = S.left source.new;
@@ -37,10 +41,9 @@ pub fn answer_lines<S: Source, O: Sink, A: Answerer>(
         })
         result }
 
-    // Where nothing goes wrong, all lines are answered.
-    ensures complete { IsUndisturbed (record { answers = A.answers answerer.now; may_want = A.may_want answerer.now })
-        (S.left source.old) (S.faults source.old) (S.faults source.new) (O.faults out.old) (O.faults out.new)
-        → HasVerdict result }
+    // Where nothing goes wrong, all lines are entered, or memory is wanting.
+    ensures complete { IsCalm (S.left source.old) (S.faults source.old) (S.faults source.new) (O.faults out.old) (O.faults out.new)
+        → IsDoneOrWanting result }
 
     // And of the counts of faults, whatever is told of the bytes.
     ensures read_failed { result ≡ Ended.ReadFailed → Rose (S.faults source.old) (S.faults source.new) }
@@ -49,7 +52,10 @@ pub fn answer_lines<S: Source, O: Sink, A: Answerer>(
     ensures all_written { result ≢ Ended.WriteFailed → O.faults out.new ≡ O.faults out.old }
 {
     let mut block = [0u8; BLOCK];
-    let mut kept = OpenLine::new();
+    let mut kept = OpenLine {
+        number: 1,
+        front: Front::new(),
+    };
     let mut buffer = ArrayVec::<u8, 9000>::new();
     let mut refused = false;
     let mut taken: usize = 0;
@@ -58,7 +64,7 @@ pub fn answer_lines<S: Source, O: Sink, A: Answerer>(
             return Ended::ReadFailed;
         };
         if count == 0 {
-            return match answer_last(answerer, &kept, &mut buffer, out) {
+            return match enter_last(register, &kept, &mut buffer, out) {
                 Ok(is_refused) => verdict(refused | is_refused),
                 Err(stop) => stop.ended(),
             };
@@ -66,7 +72,7 @@ pub fn answer_lines<S: Source, O: Sink, A: Answerer>(
         if taken == MOST_BYTES {
             return Ended::TooMany;
         }
-        match answer_block(answerer, &block[..count], &mut kept, &mut buffer, out) {
+        match enter_block(register, &block[..count], &mut kept, &mut buffer, out) {
             Ok(is_refused) => refused |= is_refused,
             Err(stop) => return stop.ended(),
         }
@@ -101,26 +107,28 @@ fn read_block<S: Source>(
     source.read(&mut block[..most])
 }
 
-// Answers the line that the end of the input ends, if it has bytes, and says whether it is refused.
-fn answer_last<A: Answerer, O: Sink>(
-    answerer: &A,
+// Enters the line that the end of the input ends, if it has bytes, and says whether it is refused.
+fn enter_last<R: Register, O: Sink>(
+    register: &mut R,
     kept: &OpenLine,
     buffer: &mut ArrayVec<u8, 9000>,
     out: &mut O,
 ) -> Result<bool, Stop>
-    ensures answered { IfOk result (λ refused. AreAnswered (A.answers answerer.now) (last_line kept.now.items)
-        (O.written out.old) (O.written out.new) refused) }
-    ensures stopped { IfErr result (λ stop. AreStopped (A.answers answerer.now) (A.may_want answerer.now)
-        (last_line kept.now.items) (O.written out.old) (O.written out.new) stop) }
+    requires early { kept.now.number ≤ 2 ^ 31 }
+    requires ready { R.is_ready register.old kept.now.number }
+    ensures entered { IfOk result (λ refused. AreAllEntered (record { enters = R.enters; may_want = R.may_want }) register.old
+        kept.now.number (last_line kept.now.front.items) (O.written out.old) (O.written out.new) refused register.new) }
+    ensures stopped { IfErr result (λ stop. IsEntryStopped (record { enters = R.enters; may_want = R.may_want }) register.old
+        kept.now.number (last_line kept.now.front.items) (O.written out.old) (O.written out.new) stop) }
     ensures count { CountFits (O.faults out.old) (O.faults out.new) result }
 {
-    if kept.is_empty() {
+    if kept.front.is_empty() {
         return Ok(false);
     }
-    answer_line(answerer, kept, buffer, out)
+    enter_line(register, kept.number, &kept.front, buffer, out)
 }
 
-// How a run ends that answered all lines.
+// How a run ends that entered all lines.
 fn verdict(refused: bool) -> Ended
     ensures { result ≡ verdict_of refused }
 {

@@ -4,19 +4,21 @@
 //! 2^30 bytes an input are this program's own.
 #![tactic(auto)]
 
-ghost use Rattle.std.specs.Prelude.{◌≤◌, ℕ, [], List, Bool, false, length, IfOk, OnErr};
+ghost use Rattle.std.specs.Prelude.{◌≤◌, ◌+◌, ◌^◌, ℕ, [], List, Bool, false, length, IfOk, OnErr, OnOk};
 ghost use Rattle.bk_ports.specs.Causes.{HasCause};
 ghost use Rattle.bk_lines.specs.Answer.{HasOutcome, IsBegun};
 
 mod block;
 mod input;
 mod line;
+mod steady;
 #[cfg(test)]
 mod tests;
 
 use arrayvec::ArrayVec;
 use bk_ports::{Failed, Sink};
-pub use input::answer_lines;
+pub use input::enter_lines;
+pub use steady::answer_lines;
 
 /// What came of a line.
 #[derive(Clone, Copy, Debug, PartialEq, Eq)]
@@ -53,6 +55,44 @@ pub trait Answerer {
 
     /// An empty line needs no answer.
     ghost empty_line: { (a : Self) → answers a [] [] false };
+}
+
+/// Enters lines one after another, and keeps what it needs of them. Lines are numbered from 1, and all of them count.
+pub trait Register {
+    /// How a line is entered: the state before, the number of the line, the line, the pieces that are written for it, each by
+    /// one call, whether they are the text of a refusal, and the state after.
+    ghost enters: { Self → ℕ → List ℕ → List (List ℕ) → Bool → Self → Type 0 };
+
+    /// Where memory may be wanting: the state before, the number of the line, and the line.
+    ghost may_want: { Self → ℕ → List ℕ → Type 0 };
+
+    /// What holds of the state before the line of this number.
+    ghost is_ready: { Self → ℕ → Type 0 };
+
+    /// Enters a line, which comes without its line feed and has bytes. Of a line of more than 8,192 bytes its first 8,193
+    /// come. The buffer holds any bytes before and after.
+    fn enter<O: Sink>(
+        &mut self,
+        number: u64,
+        line: &[u8],
+        buffer: &mut ArrayVec<u8, 9000>,
+        out: &mut O,
+    ) -> Result<Outcome, Failed>
+        requires short { length line.now ≤ 8193 }
+        requires early { number ≤ 2 ^ 31 }
+        requires ready { is_ready self.old number }
+        ensures outcome { IfOk result (λ o. HasOutcome (λ pieces refused. enters self.old number line.now pieces refused self.new)
+            (may_want self.old number line.now) (O.written out.old) (O.written out.new) o) }
+        ensures failed { OnErr result (IsBegun (λ pieces refused. (last : Self) × enters self.old number line.now pieces refused last)
+            (O.written out.old) (O.written out.new)) }
+        ensures cause { HasCause (O.faults out.old) (O.faults out.new) result }
+        ensures ready { OnOk result (is_ready self.new (number + 1)) };
+
+    /// An empty line changes nothing and needs no answer.
+    ghost empty_line: { (s : Self) (n : ℕ) → enters s n [] [] false s };
+
+    /// And what follows it is entered in its turn.
+    ghost still_ready: { (s : Self) (n : ℕ) → is_ready s n → is_ready s (n + 1) };
 }
 
 /// How a run over lines ends, and what stands written then.

@@ -1,50 +1,64 @@
 //! One line, which may come in pieces.
 
-ghost use Rattle.std.specs.Prelude.{◌≡◌, ◌≤◌, ◌++◌, ◌∷◌, [], length, IfOk, IfErr};
+ghost use Rattle.std.specs.Prelude.{◌≡◌, ◌≤◌, ◌+◌, ◌^◌, ◌++◌, ◌∷◌, [], length, IfOk, IfErr, OnOk};
 ghost use Rattle.bk_lines.specs.Lines.{kept_front};
 ghost use Rattle.bk_lines.specs.Answer.{IsWritten, IsStopped};
-ghost use Rattle.bk_lines.specs.Answered.{AreAnswered, AreStopped, CountFits};
+ghost use Rattle.bk_lines.specs.Answered.{CountFits};
+ghost use Rattle.bk_lines.specs.Entering.{AreAllEntered, IsEntryStopped};
 
-use crate::{Answerer, Outcome};
+use crate::{Outcome, Register};
 use arrayvec::ArrayVec;
 use bk_ports::{Failed, Sink};
 
-// What is kept of a line whose end has not come: its first 8,193 bytes.
-pub type OpenLine = ArrayVec<u8, 8193>;
+// What is kept of a line: its first 8,193 bytes.
+pub type Front = ArrayVec<u8, 8193>;
 
-// Why no further line is answered.
+// A line whose end has not come.
+#[derive(Drop)]
+pub struct OpenLine {
+    // Its number, from 1.
+    pub number: u64,
+    // What is kept of its bytes.
+    pub front: Front,
+}
+
+// Why no further line is entered.
 #[derive(Clone, Copy, Debug, PartialEq, Eq)]
 pub enum Stop {
     WriteFailed,
     NoMemory,
 }
 
-// Adds bytes to the open line, as far as they are kept.
-pub fn keep(kept: &mut OpenLine, piece: &[u8])
-    ensures { kept.new.items ≡ kept_front (kept.old.items ++ piece.now) }
+// Adds bytes to a line, as far as they are kept.
+pub fn keep(front: &mut Front, piece: &[u8])
+    ensures { front.new.items ≡ kept_front (front.old.items ++ piece.now) }
 {
-    let fitting = kept.remaining_capacity().min(piece.len());
-    let _fits = kept.try_extend_from_slice(&piece[..fitting]);
+    let fitting = front.remaining_capacity().min(piece.len());
+    let _fits = front.try_extend_from_slice(&piece[..fitting]);
 }
 
-// Answers a line, of which the kept front is here, and says whether it is refused.
-pub fn answer_line<A: Answerer, O: Sink>(
-    answerer: &A,
+// Enters a line, of which the kept front is here, and says whether it is refused.
+pub fn enter_line<R: Register, O: Sink>(
+    register: &mut R,
+    number: u64,
     line: &[u8],
     buffer: &mut ArrayVec<u8, 9000>,
     out: &mut O,
 ) -> Result<bool, Stop>
-    requires { length line.now ≤ 8193 }
-    ensures answered { IfOk result (λ refused. IsWritten (A.answers answerer.now line.now)
+    requires short { length line.now ≤ 8193 }
+    requires early { number ≤ 2 ^ 31 }
+    requires ready { R.is_ready register.old number }
+    ensures entered { IfOk result (λ refused. IsWritten (λ pieces p. R.enters register.old number line.now pieces p register.new)
         (O.written out.old) (O.written out.new) refused) }
-    ensures stopped { IfErr result (λ stop. IsStopped (A.answers answerer.now line.now) (A.may_want answerer.now line.now)
-        (O.written out.old) (O.written out.new) stop) }
+    ensures stopped { IfErr result (λ stop. IsStopped (λ pieces p. (last : R) × R.enters register.old number line.now pieces p last)
+        (R.may_want register.old number line.now) (O.written out.old) (O.written out.new) stop) }
     ensures count { CountFits (O.faults out.old) (O.faults out.new) result }
+    ensures ready { OnOk result (R.is_ready register.new (number + 1)) }
 {
     if line.is_empty() {
         return Ok(false);
     }
-    match answerer.answer(line, buffer, out) {
+    match register.enter(number, line, buffer, out) {
         Ok(Outcome::Accepted) => Ok(false),
         Ok(Outcome::Refused) => Ok(true),
         Ok(Outcome::NoMemory) => Err(Stop::NoMemory),
@@ -52,27 +66,33 @@ pub fn answer_line<A: Answerer, O: Sink>(
     }
 }
 
-// Answers the line that began with the kept bytes and has this end, and says whether it is refused.
-pub fn close_line<A: Answerer, O: Sink>(
-    answerer: &A,
+// Enters the line that began with the kept bytes and has this end, and says whether it is refused.
+pub fn close_line<R: Register, O: Sink>(
+    register: &mut R,
     kept: &mut OpenLine,
     end: &[u8],
     buffer: &mut ArrayVec<u8, 9000>,
     out: &mut O,
 ) -> Result<bool, Stop>
-    ensures answered { IfOk result (λ refused. AreAnswered (A.answers answerer.now) ((kept.old.items ++ end.now) ∷ [])
-        (O.written out.old) (O.written out.new) refused) }
-    ensures stopped { IfErr result (λ stop. AreStopped (A.answers answerer.now) (A.may_want answerer.now)
-        ((kept.old.items ++ end.now) ∷ []) (O.written out.old) (O.written out.new) stop) }
+    requires early { kept.old.number ≤ 2 ^ 31 }
+    requires ready { R.is_ready register.old kept.old.number }
+    ensures entered { IfOk result (λ refused. AreAllEntered (record { enters = R.enters; may_want = R.may_want }) register.old
+        kept.old.number ((kept.old.front.items ++ end.now) ∷ []) (O.written out.old) (O.written out.new) refused register.new) }
+    ensures stopped { IfErr result (λ stop. IsEntryStopped (record { enters = R.enters; may_want = R.may_want }) register.old
+        kept.old.number ((kept.old.front.items ++ end.now) ∷ []) (O.written out.old) (O.written out.new) stop) }
     ensures count { CountFits (O.faults out.old) (O.faults out.new) result }
-    ensures emptied { kept.new.items ≡ [] }
+    ensures ready { OnOk result (R.is_ready register.new kept.new.number) }
+    ensures next { kept.new.number ≡ kept.old.number + 1 }
+    ensures emptied { kept.new.front.items ≡ [] }
 {
-    if kept.is_empty() {
+    let number = kept.number;
+    kept.number = number + 1;
+    if kept.front.is_empty() {
         let front = &end[..end.len().min(8193)];
-        return answer_line(answerer, front, buffer, out);
+        return enter_line(register, number, front, buffer, out);
     }
-    keep(kept, end);
-    let answered = answer_line(answerer, kept, buffer, out);
-    kept.clear();
-    answered
+    keep(&mut kept.front, end);
+    let entered = enter_line(register, number, &kept.front, buffer, out);
+    kept.front.clear();
+    entered
 }

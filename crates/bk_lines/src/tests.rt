@@ -1,6 +1,6 @@
 //! Runs over lines whose answers are easy to foresee.
 
-use crate::{Answerer, Ended, Outcome, answer_lines};
+use crate::{Answerer, Ended, Outcome, Register, answer_lines, enter_lines};
 use arrayvec::ArrayVec;
 use bk_ports::{Failed, FillSource, MemSink, MemSource, Sink};
 
@@ -117,5 +117,59 @@ fn a_fault_ends_the_run(rt: HostRuntime) {
         let mut out = MemSink::new(&mut room, write_fails);
         assert_eq!(rt; answer_lines(&Lengths, &mut source, &mut out), ending);
         assert_eq!(rt; out.written(), text);
+    }
+}
+
+// A register of the numbers of lines: each is answered by its number, and the last one is kept.
+#[derive(Drop)]
+struct Numbers {
+    last: u64,
+}
+
+impl Register for Numbers {
+    ghost enters = { λ _ _ _ _ _ _. Unit {0} };
+
+    ghost may_want = { λ _ _ _. Unit {0} };
+
+    ghost is_ready = { λ _ _. Unit {0} };
+
+    fn enter<O: Sink>(
+        &mut self,
+        number: u64,
+        line: &[u8],
+        buffer: &mut ArrayVec<u8, 9000>,
+        out: &mut O,
+    ) -> Result<Outcome, Failed> {
+        let outcome = Lengths.answer(line, buffer, out)?;
+        self.last = number;
+        Ok(outcome)
+    }
+
+    ghost empty_line = { λ _ _. tt };
+
+    ghost still_ready = { λ _ _ _. tt };
+}
+
+#[test]
+fn all_lines_are_numbered(rt: HostRuntime) {
+    let rows: [(&[u8], Ended, &[u8], u64); 6] = [
+        (b"", Ended::NoneRefused, b"", 0),
+        (b"a", Ended::NoneRefused, b"1\n", 1),
+        (b"ab\n\n\ncde\n\n", Ended::NoneRefused, b"2\n3\n", 4),
+        (b"\n\na\n\n!b", Ended::SomeRefused, b"1\n2\n", 5),
+        (b"a\n\n?\nb", Ended::NoMemory, b"1\n", 3),
+        (b"\n\n\n", Ended::NoneRefused, b"", 0),
+    ];
+    for (input, ending, text, last) in rows {
+        for most in 1..12 {
+            let mut source = MemSource::new(input, most, &[]);
+            let mut room = [0; 100];
+            let mut out = MemSink::new(&mut room, &[]);
+            let mut numbers = Numbers { last: 0 };
+            let ended = enter_lines(&mut numbers, &mut source, &mut out);
+            assert_eq!(rt; ended, ending, "at most {most}");
+            assert_eq!(rt; out.written(), text, "at most {most}");
+            assert_eq!(rt; numbers.last, last, "at most {most}");
+        }
     }
 }

@@ -3,3 +3,5 @@ pub mod Spaces
 pub mod Verdicts
 pub mod ListingPieces
 pub mod ListingExamples
+pub mod ListPieces
+pub mod ListLineExamples

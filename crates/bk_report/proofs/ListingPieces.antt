@@ -3,12 +3,12 @@ use Rattle.std.proofs.Common.{List, [], ap, append_assoc, sym, ℕ, ◌++◌, �
 use Rattle.std.specs.Prelude.{codes, flat_map}
 use Rattle.std.proofs.lemmas.Grind.{flat_map-append}
 use Rattle.bk_report.proofs.Spaces.{blanks_before}
-use Rattle.bk_report.specs.Answers.{line}
+use Rattle.bk_report.specs.Answers.{line, spaced}
 
-pub entry_pieces : (number size code word : List ℕ)
-    → ((((((number ++ 32 ∷ []) ++ size) ++ 32 ∷ []) ++ code) ++ codes " ; ") ++ word) ++ 10 ∷ []
-    ≡ line (number ∷ size ∷ code ∷ codes ";" ∷ word ∷ [])
-entry_pieces number size code word = simp append_assoc
+pub entry_pieces : (front number size code word : List ℕ)
+    → ((((front ++ number) ++ 32 ∷ []) ++ spaced (size ∷ code ∷ [])) ++ codes " ; ") ++ word
+    ≡ front ++ spaced (number ∷ size ∷ code ∷ codes ";" ∷ word ∷ [])
+entry_pieces front number size code word = simp append_assoc
 
 to_the_right : (name order class listed wide : List ℕ)
     → (((((((codes "; " ++ name) ++ codes " order ") ++ order) ++ class) ++ codes " listed ") ++ listed) ++ wide) ++ 10 ∷ []

@@ -25,9 +25,9 @@ pub verdict_pieces : (front number size perfect simple : List ℕ)
     ≡ front ++ line (codes "ok" ∷ number ∷ size ∷ perfect ∷ simple ∷ [])
 verdict_pieces front number size perfect simple = simp append_assoc
 
--- and of the line of a tiling
-pub tiling_pieces : (front size code : List ℕ) → (((front ++ size) ++ 32 ∷ []) ++ code) ++ 10 ∷ [] ≡ front ++ line (size ∷ code ∷ [])
-tiling_pieces front size code = simp append_assoc
+-- and of a size and a code
+pub tiling_words : (front size code : List ℕ) → ((front ++ size) ++ 32 ∷ []) ++ code ≡ front ++ spaced (size ∷ code ∷ [])
+tiling_words front size code = simp append_assoc
 
 -- and of a line about trial codes
 pub trial_pieces : (seed count ok perfect simple squares : List ℕ)

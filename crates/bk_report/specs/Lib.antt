@@ -3,3 +3,4 @@ pub mod Refusals
 pub mod AnswerLaws
 pub mod Listings
 pub mod Trial
+pub mod ListLines

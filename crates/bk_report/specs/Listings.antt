@@ -16,9 +16,13 @@ abbrev pub word_line : Word → List ℕ
 word_line w = line (word_text w ∷ [])
 
 -- an entry: the number of squares, the size, the code, and after a semicolon the word
+abbrev pub entry_words : Tiling → Word → List (List ℕ)
+entry_words t w =
+    decimal (order t) ∷ size_text t.width t.height ∷ code_text (code_of t) ∷ codes ";" ∷ word_text w ∷ []
+
+-- and as a line
 abbrev pub entry_line : Tiling → Word → List ℕ
-entry_line t w =
-    line (decimal (order t) ∷ size_text t.width t.height ∷ code_text (code_of t) ∷ codes ";" ∷ word_text w ∷ [])
+entry_line t w = line (entry_words t w)
 
 -- how a listing ended, in one word
 abbrev pub last_name : Last → List ℕ

@@ -1,10 +1,12 @@
 //! The texts of answers to accepted items.
 
-ghost use Rattle.std.specs.Prelude.{◌≡◌, ◌≤◌, ◌++◌, ◌+◌, option_map, length};
+ghost use Rattle.std.specs.Prelude.{◌≡◌, ◌≤◌, ◌++◌, ◌+◌, ◌∷◌, [], option_map, length};
 ghost use Rattle.arrayvec.specs.ArrayVec.{array_vec_len};
+ghost use Rattle.bk_code.specs.Code.{code_of};
 ghost use Rattle.bk_simple.specs.Border.{rectangle_of};
+ghost use Rattle.bk_text.specs.CodeText.{code_text, size_text};
 ghost use Rattle.bk_report.specs.AnswerLaws.{ATilingHasOneCheckLine};
-ghost use Rattle.bk_report.specs.Answers.{IsCheckLine, perfect_text, simple_text, tiling_line, verdict_line};
+ghost use Rattle.bk_report.specs.Answers.{IsCheckLine, perfect_text, simple_text, spaced, tiling_line, verdict_line};
 
 use arrayvec::ArrayVec;
 use bk_code::code_of;
@@ -29,10 +31,30 @@ pub fn write_tiling(tiling: &Tiling, out: &mut ArrayVec<u8, 9000>)
     ensures { out.new.items ≡ tiling_line tiling.now }
 {
     out.clear();
+    push_tiling(tiling, out);
+    out.push(b'\n');
+}
+
+// Appends the size and the code of a tiling.
+pub(crate) fn push_tiling(tiling: &Tiling, out: &mut ArrayVec<u8, 9000>)
+    requires { array_vec_len out.old ≤ 5000 }
+    ensures text { out.new.items ≡ out.old.items ++ spaced (size_text tiling.now.width tiling.now.height ∷ code_text (code_of tiling.now) ∷ []) }
+    ensures short { array_vec_len out.new ≤ array_vec_len out.old + 3442 }
+{
     write_size(tiling.width(), tiling.height(), out);
     out.push(b' ');
+    push_code(tiling, out);
+}
+
+// Appends the code of a tiling. It has a square, so its code has a group.
+pub(crate) fn push_code(tiling: &Tiling, out: &mut ArrayVec<u8, 9000>)
+    requires { array_vec_len out.old ≤ 5600 }
+    ensures text { out.new.items ≡ out.old.items ++ code_text (code_of tiling.now) }
+    ensures short { length (code_text (code_of tiling.now)) ≤ 3400 }
+{
+    let order = tiling.order();
+    prove!(0 < order);
     write_code(&code_of(tiling), out);
-    out.push(b'\n');
 }
 
 /// A tiling has one line of `check`.

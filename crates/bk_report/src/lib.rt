@@ -5,6 +5,7 @@ mod answer;
 mod dual;
 mod flow;
 mod listing;
+mod lists;
 mod net;
 mod refusal;
 #[cfg(test)]
@@ -16,6 +17,10 @@ pub use answer::{a_tiling_has_one_check_line, write_check, write_tiling};
 pub use dual::write_dual;
 pub use flow::write_flow;
 pub use listing::{Last, write_entry, write_last};
+pub use lists::{
+    write_alike, write_foreign, write_group, write_line_refused, write_member, write_missing,
+    write_pair, write_pairs, write_repeats, write_verified,
+};
 pub use net::write_net;
 pub use refusal::{Refused, write_refused};
 pub use trial::write_trial;

@@ -2,12 +2,12 @@
 
 ghost use Rattle.std.specs.Prelude.{flat_map, length, ◌+◌, ◌++◌, ◌<◌, ◌∷◌, ◌≡◌, ◌≤◌};
 ghost use Rattle.arrayvec.specs.ArrayVec.{array_vec_len};
-ghost use Rattle.bk_report.specs.Listings.{class_words, entry_line, last_line, last_name, wide_words};
+ghost use Rattle.bk_report.specs.Answers.{spaced};
+ghost use Rattle.bk_report.specs.Listings.{class_words, entry_line, entry_words, last_line, last_name, wide_words};
 
+use crate::answer::push_tiling;
 use arrayvec::ArrayVec;
-use bk_code::code_of;
 use bk_grammar::{push_bytes, push_number};
-use bk_text::{write_code, write_size};
 use bk_tiling::Tiling;
 use bk_word::{Class, Word, write_word};
 
@@ -29,14 +29,22 @@ pub fn write_entry(tiling: &Tiling, word: &Word, out: &mut ArrayVec<u8, 9000>)
     ensures { out.new.items ≡ entry_line tiling.now word.now }
 {
     out.clear();
+    push_entry(tiling, word, out);
+    out.push(b'\n');
+}
+
+// Appends the entry of a tiling and its word.
+pub(crate) fn push_entry(tiling: &Tiling, word: &Word, out: &mut ArrayVec<u8, 9000>)
+    requires some { 0 < length word.now }
+    requires room { array_vec_len out.old ≤ 4000 }
+    ensures text { out.new.items ≡ out.old.items ++ spaced (entry_words tiling.now word.now) }
+    ensures short { array_vec_len out.new ≤ array_vec_len out.old + 4600 }
+{
     push_number(tiling.order() as u64, out);
     out.push(b' ');
-    write_size(tiling.width(), tiling.height(), out);
-    out.push(b' ');
-    write_code(&code_of(tiling), out);
+    push_tiling(tiling, out);
     push_bytes(b" ; ", out);
     write_word(word, out);
-    out.push(b'\n');
 }
 
 /// Clears the buffer and leaves the last line of a listing, with its line feed: `; end`, `; limit` or `; wide`, the
@@ -66,7 +74,7 @@ pub fn write_last(
 }
 
 // Appends how a listing ended.
-fn push_name(last: Last, out: &mut ArrayVec<u8, 9000>)
+pub(crate) fn push_name(last: Last, out: &mut ArrayVec<u8, 9000>)
     requires { array_vec_len out.old ≤ 8000 }
     ensures text { out.new.items ≡ out.old.items ++ last_name last }
     ensures short { length (last_name last) ≤ 5 }
@@ -92,7 +100,7 @@ fn push_class(class: Class, out: &mut ArrayVec<u8, 9000>)
 }
 
 // Appends the wide word at which a listing ended, where it did so.
-fn push_wide(last: Last, word: &Word, out: &mut ArrayVec<u8, 9000>)
+pub(crate) fn push_wide(last: Last, word: &Word, out: &mut ArrayVec<u8, 9000>)
     requires some { last ≡ Last.Wide → 0 < length word.now }
     requires room { array_vec_len out.old ≤ 7000 }
     ensures text { out.new.items ≡ out.old.items ++ flat_map (λ l. 32 ∷ l) (wide_words last word.now) }

@@ -55,7 +55,7 @@ pub fn write_refused(refused: &Refused, out: &mut ArrayVec<u8, 9000>)
 }
 
 // Appends the text of a refusal.
-fn push_refusal(refused: &Refused, out: &mut ArrayVec<u8, 9000>)
+pub(crate) fn push_refusal(refused: &Refused, out: &mut ArrayVec<u8, 9000>)
     requires { array_vec_len out.old ≤ 8000 }
     ensures text { out.new.items ≡ out.old.items ++ refusal_text refused.now }
     ensures short { array_vec_len out.new ≤ array_vec_len out.old + 80 }

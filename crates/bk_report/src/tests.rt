@@ -1,8 +1,10 @@
 //! Lines as they are written.
 
 use crate::{
-    Last, Refused, write_check, write_entry, write_flow, write_last, write_net, write_refused,
-    write_tiling, write_trial, write_word_line,
+    Last, Refused, write_alike, write_check, write_entry, write_flow, write_foreign, write_group,
+    write_last, write_line_refused, write_member, write_missing, write_net, write_pair,
+    write_pairs, write_refused, write_repeats, write_tiling, write_trial, write_verified,
+    write_word_line,
 };
 use arrayvec::ArrayVec;
 use bk_flow::solve;
@@ -128,6 +130,65 @@ fn listings_have_their_last_lines(rt: HostRuntime) -> Result<(), Fail> {
         write_last(last, order, class, listed, &word, &mut line);
         assert_eq!(rt; line.as_slice(), text.as_bytes());
     }
+    Ok(())
+}
+
+#[test]
+fn lines_of_lists_have_their_texts(rt: HostRuntime) -> Result<(), Fail> {
+    let squares = [
+        Square { x: 0, y: 0, s: 2 },
+        Square { x: 2, y: 0, s: 1 },
+        Square { x: 2, y: 1, s: 1 },
+    ];
+    let tiling = Tiling::try_new(3, 2, &squares)?;
+    let mut line = ArrayVec::new();
+    write_line_refused(16_385, &Refused::More, &mut line);
+    assert_eq!(rt; line.as_slice(), b"line 16385 no more\n".as_slice());
+    write_repeats(2, 1, &mut line);
+    assert_eq!(rt; line.as_slice(), b"line 2 repeats 1\n".as_slice());
+    write_foreign(3, &mut line);
+    assert_eq!(rt; line.as_slice(), b"line 3 foreign\n".as_slice());
+    write_group(33, 32, 2, &mut line);
+    assert_eq!(rt; line.as_slice(), b"33x32 2\n".as_slice());
+    write_member(4, &tiling, &mut line);
+    assert_eq!(rt; line.as_slice(), b"4 [2,1][1]\n".as_slice());
+    write_pair(1, 2, &tiling, &mut line);
+    assert_eq!(rt; line.as_slice(), b"1 2 3x2 [2,1][1]\n".as_slice());
+    write_alike(1, 2, 3, &mut line);
+    assert_eq!(rt;
+        line.as_slice(),
+        b"; groups 1 items 2 refused 3\n".as_slice()
+    );
+    write_pairs(1, 2, 3, &mut line);
+    assert_eq!(rt;
+        line.as_slice(),
+        b"; pairs 1 items 2 refused 3\n".as_slice()
+    );
+    Ok(())
+}
+
+#[test]
+fn verified_lists_have_their_lines(rt: HostRuntime) -> Result<(), Fail> {
+    let squares = [
+        Square { x: 0, y: 0, s: 2 },
+        Square { x: 2, y: 0, s: 1 },
+        Square { x: 2, y: 1, s: 1 },
+    ];
+    let tiling = Tiling::try_new(3, 2, &squares)?;
+    let word = read_word(rt.alloc(), b"2u.1e")?;
+    assert!(rt; word.moves() > 0);
+    let mut line = ArrayVec::new();
+    write_missing(&tiling, &word, &mut line);
+    assert_eq!(rt;
+        line.as_slice(),
+        b"missing 3 3x2 [2,1][1] ; 2u.1e\n".as_slice()
+    );
+    write_verified(Last::End, 9, [1, 2, 3, 4, 5], &word, &mut line);
+    let end = "; end order 9 members 1 missing 2 foreign 3 repeated 4 refused 5\n";
+    assert_eq!(rt; line.as_slice(), end.as_bytes());
+    write_verified(Last::Wide, 9, [1, 2, 3, 4, 5], &word, &mut line);
+    let wide = "; wide order 9 members 1 missing 2 foreign 3 repeated 4 refused 5 at 2u.1e\n";
+    assert_eq!(rt; line.as_slice(), wide.as_bytes());
     Ok(())
 }
 

@@ -32,7 +32,7 @@ pub fn write_trial(
 }
 
 // Appends a name and a number.
-fn push_named(name: &[u8], number: u64, out: &mut ArrayVec<u8, 9000>)
+pub(crate) fn push_named(name: &[u8], number: u64, out: &mut ArrayVec<u8, 9000>)
     requires name { length name.now ≤ 20 }
     requires room { array_vec_len out.old ≤ 8000 }
     ensures text { out.new.items ≡ (out.old.items ++ name.now) ++ decimal number }

@@ -18,6 +18,22 @@ returns-in-trial-clause-none c =
     ∙ ap (λ (name : List ℕ). name ∷ later_words words) c.in-trial.is)
     c.trial.ensures.none
 
+pub returns-in-verify-clause-none : goal.returns-in-verify-clause-none
+returns-in-verify-clause-none c =
+    let words = c.args.words.now in
+    none_along c.verify.result (map string_bytes words) _
+    (split_words words c.command-item.result c.as_str.result.now c.in-len1-up.len_at_least c.command-item.is c.as_str.ensures.value
+    ∙ ap (λ (name : List ℕ). name ∷ later_words words) c.in-verify.is)
+    c.verify.ensures.none
+
+pub returns-in-pair-clause-none : goal.returns-in-pair-clause-none
+returns-in-pair-clause-none c =
+    let words = c.args.words.now in
+    none_along c.pair.result (map string_bytes words) _
+    (split_words words c.command-item.result c.as_str.result.now c.in-len1-up.len_at_least c.command-item.is c.as_str.ensures.value
+    ∙ ap (λ (name : List ℕ). name ∷ later_words words) c.in-pair.is)
+    c.pair.ensures.none
+
 pub returns-in_default-as_str-clause-none : goal.returns-in_default-as_str-clause-none
 returns-in_default-as_str-clause-none c =
     let words = c.args.words.now in

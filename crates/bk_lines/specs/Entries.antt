@@ -1,0 +1,73 @@
+-- How a run ends that enters the lines of an input in a register, what was taken then and what stands written.
+use Rattle.std.specs.Prelude.{◌≡◌, ℕ, ◌^◌, ◌<◌, ◌≤◌, ◌⊎◌, Bool, true, false, List, [], ◌++◌, length, Option, IsSomeAnd}
+use Rattle.std.specs.Io.KnownBytes.{Consumes, IsAtEnd}
+use Rattle.bk_ports.specs.Causes.{Rose}
+use Rattle.bk_lines.specs.Lines.{closed_lines, lines_of}
+use Rattle.bk_lines.specs.Ending.{HasVerdict, Tells, Told}
+use Rattle.bk_lines.specs.Entering.{AreAllEntered, Entering, IsEntryBegun, IsEntryWanting}
+use Rattle.bk_lines.specs.declared.Ended.{Ended}
+use Rattle.bk_lines.specs.declared.Ended.TheVariants.{NoneRefused, SomeRefused, ReadFailed, WriteFailed, NoMemory, TooMany}
+
+-- the input was read to its end, and all its lines are entered
+pub record IsEntered {State : Type 0} (rules : Entering State) (state : State) (told : Told) (refused : Bool) (last : State) : Type 0 where
+  pub input : List ℕ
+  pub taken : Consumes told.left told.left_after input
+  pub at_end : IsAtEnd told.left_after
+  pub within : length input ≤ 2 ^ 30
+  pub entered : AreAllEntered rules state 1 (lines_of input) told.written told.written_after refused last
+
+-- a read failed: all lines whose line feed was taken are entered, and nothing else was written
+pub record IsEntryCutOff {State : Type 0} (rules : Entering State) (state : State) (told : Told) (last : State) : Type 0 where
+  pub input : List ℕ
+  pub taken : Consumes told.left told.left_after input
+  pub within : length input ≤ 2 ^ 30
+  pub refused : Bool
+  pub entered : AreAllEntered rules state 1 (closed_lines [] input) told.written told.written_after refused last
+
+-- 2^30 bytes were taken and the next read gave more: all lines whose line feed is among the first 2^30 bytes are entered
+pub record AreEntriesTooMany {State : Type 0} (rules : Entering State) (state : State) (told : Told) (last : State) : Type 0 where
+  pub first : List ℕ
+  pub more : List ℕ
+  pub taken : Consumes told.left told.left_after (first ++ more)
+  pub full : length first ≡ 2 ^ 30
+  pub some : 0 < length more
+  pub refused : Bool
+  pub entered : AreAllEntered rules state 1 (closed_lines [] first) told.written told.written_after refused last
+
+-- a write failed at a line of the input, of which `later` was not taken yet
+pub record IsEntryBroken {State : Type 0} (rules : Entering State) (state : State) (told : Told) : Type 0 where
+  pub input : List ℕ
+  pub later : List ℕ
+  pub taken : Consumes told.left told.left_after input
+  pub left : Tells told.left_after later
+  pub within : length input ≤ 2 ^ 30
+  pub begun : IsEntryBegun rules state 1 (lines_of (input ++ later)) told.written told.written_after
+
+-- memory was wanting at a line of the input, of which `later` was not taken yet
+pub record IsEntryCutShort {State : Type 0} (rules : Entering State) (state : State) (told : Told) : Type 0 where
+  pub input : List ℕ
+  pub later : List ℕ
+  pub taken : Consumes told.left told.left_after input
+  pub left : Tells told.left_after later
+  pub within : length input ≤ 2 ^ 30
+  pub short : IsEntryWanting rules state 1 (lines_of (input ++ later)) told.written told.written_after
+
+-- what each ending says, of the state at the start and of the last one
+abbrev pub EntersBy : {State : Type 0} → Entering State → State → State → Told → Ended → Type 0
+EntersBy rules state last told NoneRefused = IsEntered rules state told false last
+EntersBy rules state last told SomeRefused = IsEntered rules state told true last
+EntersBy rules state last told ReadFailed = IsEntryCutOff rules state told last
+EntersBy rules state last told WriteFailed = IsEntryBroken rules state told
+EntersBy rules state last told NoMemory = IsEntryCutShort rules state told
+EntersBy rules state last told TooMany = AreEntriesTooMany rules state told last
+
+-- no read and no write failed, and the source told at most 2^30 bytes. The numbers are the counts of faults of the source and
+-- of the sink, before and after.
+pub record IsCalm (left : Option (List ℕ)) (read read_after write write_after : ℕ) : Type 0 where
+  pub reads : ¬ Rose read read_after
+  pub writes : ¬ Rose write write_after
+  pub within : IsSomeAnd left (λ input. length input ≤ 2 ^ 30)
+
+-- all lines were entered, or memory was wanting
+abbrev pub IsDoneOrWanting : Ended → Type 0
+IsDoneOrWanting ended = HasVerdict ended ⊎ (ended ≡ NoMemory)

@@ -1,0 +1,76 @@
+//! A run over lines each of which is answered for itself.
+
+ghost use Rattle.std.specs.Prelude.{◌≡◌, ◌≢◌};
+ghost use Rattle.bk_ports.specs.Causes.{Rose};
+ghost use Rattle.bk_lines.specs.Ending.{EndsBy, HasVerdict, IsUndisturbed};
+
+use crate::input::enter_lines;
+use crate::{Answerer, Ended, Outcome, Register};
+use arrayvec::ArrayVec;
+use bk_ports::{Failed, Sink, Source};
+
+// A register that keeps nothing: each line is answered for itself.
+struct Steady<'a, A> {
+    answerer: &'a A,
+}
+
+impl<A: Answerer> Register for Steady<'_, A> {
+    ghost use Rattle.std.specs.Prelude.{◌≡◌};
+
+    ghost enters = { λ s number line pieces refused l. A.answers s.answerer.now line pieces refused × (l.answerer.now ≡ s.answerer.now) };
+
+    ghost may_want = { λ s number line. A.may_want s.answerer.now line };
+
+    ghost is_ready = { λ _ _. Unit {0} };
+
+    fn enter<O: Sink>(
+        &mut self,
+        _number: u64,
+        line: &[u8],
+        buffer: &mut ArrayVec<u8, 9000>,
+        out: &mut O,
+    ) -> Result<Outcome, Failed> {
+        self.answerer.answer(line, buffer, out)
+    }
+
+    ghost use Rattle.std.specs.Prelude.{refl};
+
+    ghost empty_line = { λ s n. (A.empty_line s.answerer.now, refl) };
+
+    ghost still_ready = { λ s n h. tt };
+}
+
+/// Takes the bytes of the source to their end and answers their lines, in order. Each line that was taken with its line
+/// feed is answered before the next read. Of a longer input 2^30 bytes are taken, and then a read tells that there are
+/// more.
+pub fn answer_lines<S: Source, O: Sink, A: Answerer>(
+    answerer: &A,
+    source: &mut S,
+    out: &mut O,
+) -> Ended
+    // What each ending says of the bytes.
+    ensures ending { EndsBy (record { answers = A.answers answerer.now; may_want = A.may_want answerer.now })
+        (record {
+          left = S.left source.old;
+          left_after = S.left source.new;
+          written = O.written out.old;
+          written_after = O.written out.new;
+        })
+        result }
+
+    // Where nothing goes wrong, all lines are answered.
+    ensures complete { IsUndisturbed (record { answers = A.answers answerer.now; may_want = A.may_want answerer.now })
+        (S.left source.old) (S.faults source.old) (S.faults source.new) (O.faults out.old) (O.faults out.new)
+        → HasVerdict result }
+
+    // And of the counts of faults, whatever is told of the bytes.
+    ensures read_failed { result ≡ Ended.ReadFailed → Rose (S.faults source.old) (S.faults source.new) }
+    ensures none_failed { result ≢ Ended.ReadFailed → S.faults source.new ≡ S.faults source.old }
+    ensures write_failed { result ≡ Ended.WriteFailed → Rose (O.faults out.old) (O.faults out.new) }
+    ensures all_written { result ≢ Ended.WriteFailed → O.faults out.new ≡ O.faults out.old }
+{
+    let mut steady = Steady { answerer };
+    let ended = enter_lines(&mut steady, source, out);
+    let Steady { answerer: _ } = steady;
+    ended
+}

@@ -1,5 +1,0 @@
-use Rattle.bk_code.proofs.CodeOfTiling.{code_some}
-use Rattle.bk_report.proofs.answer.write_tiling.Goals as goal
-
-pub write_code-requires-clause-some : goal.write_code-requires-clause-some
-write_code-requires-clause-some c = rw c.code_of.ensures (code_some c.args.tiling.now c.width.ensures.kept.tiling)

@@ -1,0 +1,10 @@
+use Rattle.std.specs.Prelude.{decimal}
+use Rattle.bk_code.specs.Code.{code_of}
+use Rattle.bk_text.specs.CodeText.{code_text, size_text}
+use Rattle.bk_report.proofs.ListPieces.{pair_pieces}
+use Rattle.bk_report.proofs.lists.write_pair.Goals as goal
+
+pub returns : goal.returns
+returns c =
+    rw (c.push-2.ensures.items, c.push_tiling.ensures.text, c.push.ensures.items, c.push_named.ensures.text, c.push_number.ensures.text, c.clear.ensures)
+    (pair_pieces (decimal c.args.first) (decimal c.args.second) (size_text c.args.tiling.now.width c.args.tiling.now.height) (code_text (code_of c.args.tiling.now)))

@@ -1,0 +1,69 @@
+-- The texts about the lines of a list that is read: what is said of one line, and what stands after all of them.
+use Rattle.std.specs.Prelude.{List, [], codes, decimal, ℕ, ◌++◌, ◌∷◌}
+use Rattle.bk_tiling.specs.Tiling.{Tiling}
+use Rattle.bk_code.specs.Code.{code_of}
+use Rattle.bk_text.specs.CodeText.{code_text, size_text}
+use Rattle.bk_word.specs.Word.{Word}
+use Rattle.bk_report.specs.Answers.{line}
+use Rattle.bk_report.specs.Listings.{entry_words, last_name, wide_words}
+use Rattle.bk_report.specs.Refusals.{refusal_text}
+use Rattle.bk_report.specs.declared.listing.Last.{Last}
+use Rattle.bk_report.specs.declared.refusal.Refused.{Refused}
+
+-- what is said of the line of a number
+abbrev pub about_line : ℕ → List (List ℕ) → List ℕ
+about_line number pieces = line (codes "line" ∷ decimal number ∷ pieces)
+
+-- it is refused
+abbrev pub refused_line : ℕ → Refused → List ℕ
+refused_line number refused = about_line number (refusal_text refused ∷ [])
+
+-- it repeats an earlier one
+abbrev pub repeats_line : ℕ → ℕ → List ℕ
+repeats_line number first = about_line number (codes "repeats" ∷ decimal first ∷ [])
+
+-- it has no member of the catalogue
+abbrev pub foreign_line : ℕ → List ℕ
+foreign_line number = about_line number (codes "foreign" ∷ [])
+
+-- a member of the catalogue that no line has, as an entry
+abbrev pub missing_line : Tiling → Word → List ℕ
+missing_line t w = line (codes "missing" ∷ entry_words t w)
+
+-- the last line of a list that was held against a catalogue: how that ended, the order, how many members the catalogue has,
+-- how many are missing, how many lines are foreign, repeated and refused, and a wide word
+abbrev pub verified_line : Last → ℕ → ℕ → ℕ → ℕ → ℕ → ℕ → Word → List ℕ
+verified_line last n members missing foreign repeated refused w = line (codes ";" ∷ last_name last
+    ∷ codes "order" ∷ decimal n
+    ∷ codes "members" ∷ decimal members
+    ∷ codes "missing" ∷ decimal missing
+    ∷ codes "foreign" ∷ decimal foreign
+    ∷ codes "repeated" ∷ decimal repeated
+    ∷ codes "refused" ∷ decimal refused ∷ wide_words last w)
+
+-- the size of a group and how many items it has
+abbrev pub group_line : ℕ → ℕ → ℕ → List ℕ
+group_line width height items = line (size_text width height ∷ decimal items ∷ [])
+
+-- an item of a group: the number of its line, and its code
+abbrev pub member_line : ℕ → Tiling → List ℕ
+member_line number t = line (decimal number ∷ code_text (code_of t) ∷ [])
+
+-- the numbers of the lines of two items, and the size and the code of what is made of them
+abbrev pub pair_line : ℕ → ℕ → Tiling → List ℕ
+pair_line first second t =
+    line (decimal first ∷ decimal second ∷ size_text t.width t.height ∷ code_text (code_of t) ∷ [])
+
+-- the last line behind groups: how many groups and items there are, and how many lines were refused
+abbrev pub alike_line : ℕ → ℕ → ℕ → List ℕ
+alike_line groups items refused = line (codes ";"
+    ∷ codes "groups" ∷ decimal groups
+    ∷ codes "items" ∷ decimal items
+    ∷ codes "refused" ∷ decimal refused ∷ [])
+
+-- the last line behind pairs
+abbrev pub pairs_line : ℕ → ℕ → ℕ → List ℕ
+pairs_line pairs items refused = line (codes ";"
+    ∷ codes "pairs" ∷ decimal pairs
+    ∷ codes "items" ∷ decimal items
+    ∷ codes "refused" ∷ decimal refused ∷ [])
