@@ -3,11 +3,14 @@
 use Rattle.std.specs.List.{AllByRecursion, position_or_len}
 use Rattle.std.specs.Prelude.{Bool, IsTrue, List, [], cond, count_by, false, filter, get_or, length, max, refl, true, ℕ, ◌&&◌, ◌+◌, ◌-◌, ◌<◌, ◌==◌, ◌||◌, ◌∷◌, ◌≡◌, ◌≢◌, ◌≤◌, ◌⊎◌}
 use Rattle.std.proofs.Common.{ap, arith, inl, inr, subst, sym, ◌∙◌}
-use Rattle.std.proofs.lemmas.Bool.{and_from, and_parts, both_ways, cases_Bool, cases_eq, cases_lt, eq-eqb, eqb-true, false_from_ne_true, le-leb, leb-false, leb-true, or_cases, or_left, or_parts, or_right}
+use Rattle.std.proofs.lemmas.Bool.{and_from, and_parts, both_ways, cases_Bool, cases_eq, cases_lt, eq-eqb, eqb-true, false_from_ne_true, le-leb, leb-false, leb-true, or_cases, or_left, or_parts, or_right, true_from_ne_false}
 use Rattle.std.proofs.lemmas.List.Elements.{All-from_recursion, recursion_from_All}
 use Rattle.std.proofs.lemmas.List.Sums.{AllPass-from_list_all, fails_before_first, length-filter, list_all-from_AllPass, passes_at_first, position_or_len_is, sum_by-cons}
 use Rattle.bk_laws.proofs.Counts.{count_two}
+use Rattle.std.proofs.lemmas.Bool.Decides.{nat_tests}
 use Rattle.bk_tiling.proofs.Cells.{IsOver, covers_from, over_from}
+use Rattle.bk_tiling.proofs.Places.{later_place}
+use Rattle.bk_tiling.specs.CodeOrder.{comes_before}
 use Rattle.bk_tiling.proofs.TilingLaws.{cell_once}
 use Rattle.bk_tiling.specs.Tiling.{IsTiling, IsWithin, Rectangle, Tiling, covers, order, whole}
 use Rattle.bk_tiling.specs.declared.Square.{Square}
@@ -280,6 +283,39 @@ module _ (t : Tiling) (r : Rectangle) (tiling : IsTiling t) (part : IsPart t r) 
       each k d few (inr h) (inl o) = or_right _ _ o
       each k d few (inr h) (inr o) = absurd (across k d few h (meets_from r (get_or t.squares k d) o))
 
+  -- the square at the bottom right corner doesn't stand before that at the top left one
+  pub corners_in_order : top_left t r ≤ bottom_right t r
+  corners_in_order = cases (cases_lt (top_left t r) (bottom_right t r))
+    where
+      p : Square
+      p = at (top_left t r)
+
+      q : Square
+      q = at (bottom_right t r)
+
+      corners : IsBetween p q r
+      corners = between_corners none
+
+      inside : is_inside r q ≡ true
+      inside = true_from_ne_false (is_inside r q) (λ cut. across (bottom_right t r) none bottom_right_below cut (record {
+        left = omega (arith, corners.right, corners.wide);
+        right = omega (arith, corners.right, side_at t tiling (bottom_right t r) none bottom_right_below);
+        top = omega (arith, corners.bottom, corners.high);
+        bottom = omega (arith, corners.bottom, side_at t tiling (bottom_right t r) none bottom_right_below);
+      }))
+
+      not_before : comes_before q p ≡ true → ⊥
+      not_before e = let within = inside_means r q inside in grind (arith, nat_tests, e, within.left, within.top, corners.left, corners.top)
+
+      cases : (top_left t r < bottom_right t r) ⊎ (bottom_right t r ≤ top_left t r) → top_left t r ≤ bottom_right t r
+      cases (inl up) = omega arith
+      cases (inr down) = equal_or (cases_eq (bottom_right t r) (top_left t r))
+        where
+          equal_or : (bottom_right t r ≡ top_left t r) ⊎ (bottom_right t r ≡ top_left t r → ⊥) → top_left t r ≤ bottom_right t r
+          equal_or (inl same) = omega (arith, same)
+          equal_or (inr other) =
+              absurd (not_before (later_place t.squares tiling.ordered (bottom_right t r) (top_left t r) none (omega (arith, down, other)) top_left_below))
+
 -- what the trial of one pair of squares shows
 module _ (t : Tiling) (tiling : IsTiling t) (i j : ℕ) (d : Square) where
   corners_at : (r : Rectangle) → IsPartAt t i j r → IsBetween (get_or t.squares i d) (get_or t.squares j d) r
@@ -293,6 +329,27 @@ module _ (t : Tiling) (tiling : IsTiling t) (i j : ℕ) (d : Square) where
   module _ (tried : Rectangle) (h : IsBetween (get_or t.squares i d) (get_or t.squares j d) tried) where
     tried_part : (r : Rectangle) → IsPartAt t i j r → IsPart t tried
     tried_part r p = subst (IsPart t) (between-one (get_or t.squares i d) (get_or t.squares j d) r tried (corners_at r p) h) p.part
+
+    -- a part holds the squares at its corners
+    pub none_outside_first : i < length t.squares → is_inside tried (get_or t.squares i d) ≡ false → (r : Rectangle) → ¬ (IsPartAt t i j r)
+    none_outside_first few outside r p =
+        let side = side_at t tiling i d few in
+        across t tried tiling (tried_part r p) i d few outside (record {
+          left = omega (arith, h.left, side);
+          right = omega (arith, h.left, h.wide);
+          top = omega (arith, h.top, side);
+          bottom = omega (arith, h.top, h.high);
+        })
+
+    pub none_outside_last : j < length t.squares → is_inside tried (get_or t.squares j d) ≡ false → (r : Rectangle) → ¬ (IsPartAt t i j r)
+    none_outside_last few outside r p =
+        let side = side_at t tiling j d few in
+        across t tried tiling (tried_part r p) j d few outside (record {
+          left = omega (arith, h.right, h.wide);
+          right = omega (arith, h.right, side);
+          top = omega (arith, h.bottom, h.high);
+          bottom = omega (arith, h.bottom, side);
+        })
 
     pub none_cut : ¬ (IsUncut tried t.squares) → (r : Rectangle) → ¬ (IsPartAt t i j r)
     none_cut cut r p = cut (uncut_part t tried tiling (tried_part r p))
@@ -318,6 +375,10 @@ module _ (t : Tiling) (tiling : IsTiling t) (i j : ℕ) (d : Square) where
 module _ (t : Tiling) (i : ℕ) where
   abbrev pub NoneBelow : ℕ → Type 0
   NoneBelow j = (r : Rectangle) → IsPart t r → top_left t r ≡ i → j ≤ bottom_right t r
+
+  -- no bottom right square stands before the top left one
+  pub none_below_start : IsTiling t → NoneBelow i
+  none_below_start tiling r part first = subst (λ k. k ≤ bottom_right t r) first (corners_in_order t r tiling part)
 
   pub none_below_more : (j : ℕ) → NoneBelow j → ((r : Rectangle) → ¬ (IsPartAt t i j r)) → NoneBelow (j + 1)
   none_below_more j below here r part first =

@@ -83,7 +83,7 @@ fn part_from(tiling: &Tiling, i: usize) -> Option<SubRect>
     ensures none { IfNone result ((r : Rectangle) → IsPart tiling.now r → top_left tiling.now r ≢ i) }
     ensures first { IfSome result (λ r. IsFirstPartFrom tiling.now i (rectangle_of r)) }
 {
-    for j in 0..tiling.order() {
+    for j in i..tiling.order() {
         if let Some(found) = part_at(tiling, i, j) {
             return Some(found);
         }
@@ -100,6 +100,9 @@ fn part_at(tiling: &Tiling, i: usize, j: usize) -> Option<SubRect>
 {
     let squares = tiling.squares();
     let tried = between(squares[i], squares[j])?;
+    if !lies_inside(&tried, squares[i]) || !lies_inside(&tried, squares[j]) {
+        return None;
+    }
     let inside = count_inside(tiling, &tried)?;
     if inside >= 2 && inside < tiling.order() {
         Some(tried)

@@ -1,9 +1,9 @@
 use Rattle.std.proofs.Common.{false, true, arith, ◌≡◌}
 use Rattle.bk_tiling.specs.declared.Square.{Square}
-use Rattle.bk_simple.proofs.Parts.{none_between, none_cut, none_single, none_whole, part_at_from}
+use Rattle.bk_simple.proofs.Parts.{none_between, none_cut, none_outside_first, none_outside_last, none_single, none_whole, part_at_from}
 use Rattle.bk_simple.specs.Border.{rectangle_of}
 use Rattle.bk_simple.proofs.part_at.Goals as goal
-use Rattle.bk_simple.proofs.part_at.Goals.{else-inside-ge2-via-then-inside-ge2+else-inside-order, else-inside-ge2-via-else-inside-ge2}
+use Rattle.bk_simple.proofs.part_at.Goals.{else-inside-ge2-via-then-inside-ge2+else-inside-order, else-inside-ge2-via-else-inside-ge2, then-not-lies_inside-via-else-not-lies_inside+then-not-lies_inside-2, then-not-lies_inside-via-then-not-lies_inside}
 
 abbrev none : Square
 none = record { x = 0; y = 0; s = 0 }
@@ -12,6 +12,19 @@ pub returns-in_err-tried-clause-none : goal.returns-in_err-tried-clause-none
 returns-in_err-tried-clause-none c =
     rw c.from_residual.ensures
     (none_between c.args.tiling.now c.squares-squares.ensures.kept.tiling c.args.i c.args.j none (rw c.squares-squares.ensures.value at c.in_err-tried.ensures.none))
+
+pub returns-then-not-lies_inside-clause-none : goal.returns-then-not-lies_inside-clause-none
+returns-then-not-lies_inside-clause-none c =
+    elim c.then-not-lies_inside.branch [
+      | then-not-lies_inside-via-then-not-lies_inside w ↦
+          none_outside_first c.args.tiling.now c.squares-squares.ensures.kept.tiling c.args.i c.args.j none (rectangle_of c.in_ok-tried.tried)
+          (rw c.squares-squares.ensures.value at c.in_ok-tried.ensures.some) c.requires.first
+          (let e = rw c.squares-squares.ensures.value at c.lies_inside.ensures in cc)
+      | then-not-lies_inside-via-else-not-lies_inside+then-not-lies_inside-2 w ↦
+          none_outside_last c.args.tiling.now c.squares-squares.ensures.kept.tiling c.args.i c.args.j none (rectangle_of c.in_ok-tried.tried)
+          (rw c.squares-squares.ensures.value at c.in_ok-tried.ensures.some) c.requires.last
+          (let e = rw c.squares-squares.ensures.value at w.lies_inside-else-not-lies_inside.ensures in cc)
+    ]
 
 pub returns-in_err-inside-clause-none : goal.returns-in_err-inside-clause-none
 returns-in_err-inside-clause-none c =

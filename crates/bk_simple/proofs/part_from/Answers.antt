@@ -1,7 +1,10 @@
 use Rattle.std.proofs.Common.{arith, subst, ◌≡◌}
 use Rattle.bk_tiling.specs.Tiling.{order}
-use Rattle.bk_simple.proofs.Parts.{NoneBelow, none_from}
+use Rattle.bk_simple.proofs.Parts.{NoneBelow, none_below_start, none_from}
 use Rattle.bk_simple.proofs.part_from.Goals as goal
+
+pub loop-j-init : goal.loop-j-init
+loop-j-init c = none_below_start c.args.tiling.now c.args.i c.order-j-end.ensures.kept.tiling
 
 pub returns-clause-none : goal.returns-clause-none
 returns-clause-none c =

@@ -1,0 +1,93 @@
+#!/usr/bin/env python3
+"""Runs the gate in one piece, and writes its times and the sizes of the crates into docs/GATE.md, between the two marks that stand there.
+
+What an earlier run passed on this machine is kept and not proved again; for the times from nothing give --anew. The status is the gate's.
+
+    scripts/gate_times.py [--anew]
+"""
+import os
+import re
+import resource
+import subprocess
+import sys
+import time
+
+TOP = os.path.dirname(os.path.dirname(os.path.abspath(__file__)))
+PAGE = f"{TOP}/docs/GATE.md"
+BEGIN, END = "<!-- times: begin -->\n", "<!-- times: end -->\n"
+
+
+def crate_names():
+    with open(f"{TOP}/crates.txt", encoding="utf-8") as file:
+        lines = [line.partition("#")[0].partition(":")[0].split() for line in file]
+    return [words[0] for words in lines if words]
+
+
+def files_of(name, part, ending):
+    return [f"{folder}/{it}" for folder, _, found in os.walk(f"{TOP}/crates/{name}/{part}") for it in found if it.endswith(ending)]
+
+
+def lines_of(files):
+    count = 0
+    for it in files:
+        with open(it, "rb") as file:
+            count += sum(1 for _ in file)
+    return count
+
+
+def tests_of(name):
+    count = 0
+    for it in files_of(name, "src", ".rt"):
+        with open(it, encoding="utf-8") as file:
+            count += file.read().count("#[test]")
+    return count
+
+
+def sizes(name):
+    """Returns the lines of code, of definitions and of proofs, and the numbers of edits and of tests."""
+    parts = [lines_of(files_of(name, *it)) for it in (("src", ".rt"), ("specs", ".antt"), ("proofs", ".antt"))]
+    return [*parts, len(files_of(name, "must-fail", ".edit")), tests_of(name)]
+
+
+def run_gate(words):
+    """Runs the gate. Returns its status, its last lines, and for each crate when its proof was done, in seconds from the start."""
+    began, done, last = time.monotonic(), {}, []
+    ran = subprocess.Popen(["rt", "ci", *words], cwd=TOP, stdin=subprocess.DEVNULL, stdout=subprocess.PIPE, stderr=subprocess.STDOUT, text=True)
+    for line in ran.stdout:
+        print(line, end="", flush=True)
+        found = re.fullmatch(r"(?:rt: )?(\w+) (proved|is kept: .*)\n", line)
+        if found:
+            done.setdefault(found[1], time.monotonic() - began if found[2] == "proved" else None)
+        last = [*last[-1:], line.rstrip("\n")]
+    return ran.wait(), last, done, time.monotonic() - began
+
+
+def table(words, last, done, wall):
+    used = resource.getrusage(resource.RUSAGE_CHILDREN)
+    spent = used.ru_utime + used.ru_stime
+    told = "from nothing" if "--anew" in words else "over what earlier runs on the machine had passed"
+    yield f"One run of `rt ci`, {told}, on {len(os.sched_getaffinity(0))} processors, on {time.strftime('%d %B %Y')}: {wall / 60:.0f} minutes, "
+    yield f"{spent / 60:.0f} minutes of processor time. It ended with:\n\n"
+    yield from (f"    {it}\n" for it in last)
+    yield "\n| crate | proved at | src | specs | proofs | edits | tests |\n|---|---|---|---|---|---|---|\n"
+    total = [0] * 5
+    for name in crate_names():
+        of, at = sizes(name), done.get(name)
+        total = [a + b for a, b in zip(total, of)]
+        yield f"| `{name}` | {'kept' if at is None else f'{at:.0f} s'} | {' | '.join(map(str, of))} |\n"
+    yield f"| all {len(crate_names())} | | {' | '.join(map(str, total))} |\n"
+
+
+def main(words):
+    status, last, done, wall = run_gate(words)
+    with open(PAGE, encoding="utf-8") as file:
+        page = file.read()
+    front, _, rest = page.partition(BEGIN)
+    _, _, back = rest.partition(END)
+    with open(PAGE, "w", encoding="utf-8") as file:
+        file.write(front + BEGIN + "".join(table(words, last, done, wall)) + END + back)
+    return status
+
+
+if __name__ == "__main__":
+    sys.exit(main(sys.argv[1:]))
