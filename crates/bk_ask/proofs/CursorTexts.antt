@@ -20,7 +20,7 @@ few_squares text order (v, is, at) few w text_of = omega (arith, ap order_of (on
 no_fault : (text : List ℕ) (order : ℕ) → HasOrder text order → order ≤ 16 → (fault : WordFault) → IsFaultOf fault text → ⊥
 no_fault text order (v, is, at) few (Text place) (outside, longest) = outside (v, is)
 no_fault text order has few Many (w, is, many) = omega (arith, few_squares text order has few w is)
-no_fault text order has few NoMemory (w, is, many, kept) = omega (arith, few_squares text order has few w is)
+no_fault text order has few NoMemory (w, is, many, kept, long) = omega (arith, few_squares text order has few w is)
 
 pub record IsRead (text : List ℕ) (o : Option Word) : Type 0 where
   pub some : IfSome o (IsCursor text)

@@ -90,3 +90,88 @@ fn a_writer_is_a_sink(rt: HostRuntime) {
         "a flush fails"
     );
 }
+
+// A reader of the digits from 1 on, one a call, whose second call is interrupted.
+#[derive(Drop)]
+struct Digits(u8);
+
+impl Read for Digits {
+    fn read(&mut self, buf: &mut [u8]) -> io::Result<usize> {
+        self.0 = self.0.saturating_add(1);
+        if self.0 == 2 {
+            return Err(interrupted());
+        }
+        match buf.first_mut() {
+            Some(first) => {
+                *first = b'0'.saturating_add(self.0);
+                Ok(1)
+            }
+            None => Ok(0),
+        }
+    }
+}
+
+#[test]
+fn a_source_answers_an_error_and_reads_on(rt: HostRuntime) {
+    let mut buf = [0; 4];
+    let mut source = StdSource::new(Digits(0));
+    for want in ["1", "failed", "3", "4"] {
+        let got = piece(&mut source, &mut buf).unwrap_or(b"failed");
+        assert_eq!(rt; got, want.as_bytes());
+    }
+}
+
+// A writer that does one thing at each call, as its bytes say: a digit is a write that takes at most so many bytes, `!` one
+// that is interrupted, `f` a flush, and `x` one that fails. Any other call fails, and the writer stays where it is.
+#[derive(Drop)]
+struct Script(&'static [u8]);
+
+fn interrupted() -> io::Error {
+    io::Error::from(ErrorKind::Interrupted)
+}
+
+impl Write for Script {
+    fn write(&mut self, buf: &[u8]) -> io::Result<usize> {
+        let Some((step, rest)) = self.0.split_first() else {
+            return Err(interrupted());
+        };
+        if step.is_ascii_digit() {
+            self.0 = rest;
+            return Ok(buf.len().min(usize::from(*step - b'0')));
+        }
+        if *step == b'!' {
+            self.0 = rest;
+        }
+        Err(interrupted())
+    }
+
+    fn flush(&mut self) -> io::Result<()> {
+        let Some((step, rest)) = self.0.split_first() else {
+            return Err(interrupted());
+        };
+        if *step == b'f' || *step == b'x' {
+            self.0 = rest;
+        }
+        if *step == b'f' {
+            Ok(())
+        } else {
+            Err(interrupted())
+        }
+    }
+}
+
+#[test]
+fn a_sink_answers_an_error_and_writes_on(rt: HostRuntime) {
+    let mut sink = StdSink::new(Script(b"21f!1x1f0f"));
+    for (bytes, fits) in [
+        ("abc", true),
+        ("de", false),
+        ("f", false),
+        ("g", true),
+        ("h", false),
+        ("", true),
+        ("i", false),
+    ] {
+        assert_eq!(rt; sink.write_all(bytes.as_bytes()).is_ok(), fits, "{bytes}");
+    }
+}
