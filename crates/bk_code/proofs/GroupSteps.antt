@@ -1,6 +1,6 @@
 -- The groups of a list of squares, square by square: each begins a group or goes on in the last one.
 use Rattle.std.specs.List.{onto_first}
-use Rattle.std.proofs.Common.{Bool, List, [], ap, arith, cond, drop, false, get_or, length, map, refl, subst, suc, sym, take, true, zero, ℕ, ◌++◌, ◌+◌, ◌<◌, ◌∙◌, ◌∷◌, ◌≡◌}
+use Rattle.std.proofs.Common.{Bool, List, [], ap, arith, cond, drop, false, get_or, length, map, refl, subst, sym, take, true, ℕ, ◌++◌, ◌+◌, ◌<◌, ◌∙◌, ◌∷◌, ◌≡◌}
 use Rattle.std.specs.Prelude.{not}
 use Rattle.std.proofs.lemmas.List.{drop_more, length-map, length-take-le, take-append-drop, take_more}
 use Rattle.bk_tiling.specs.CodeOrder.{begins_group, stands_beside}
@@ -8,10 +8,8 @@ use Rattle.bk_tiling.specs.Kept.{IsKept}
 use Rattle.bk_tiling.specs.SquareGroups.{square_groups}
 use Rattle.bk_tiling.specs.Tiling.{Tiling}
 use Rattle.bk_tiling.specs.declared.Square.{Square}
-use Rattle.bk_tiling.specs.declared.TheConstants.{MOST_SQUARES}
 use Rattle.bk_code.specs.Code.{Code, flat, with_side}
 use Rattle.bk_code.proofs.FlatList.{flat_groups}
-use mathlib.Core.Bool.{true≢false}
 
 -- the sides of squares, in groups
 abbrev pub side_groups : List Square → Code
@@ -84,7 +82,7 @@ groups_step squares i d within =
     count = omega (arith, length-take-le i squares (omega arith))
 
 -- there is room for the side of a further square, which is one that a square may have
-pub step_room : (t : Tiling) (squares : List Square) (i : ℕ) (code : Code) → IsKept t → squares ≡ t.squares → i < length squares → code ≡ side_groups (take i squares) → length (flat code) < MOST_SQUARES
+pub step_room : (t : Tiling) (squares : List Square) (i : ℕ) (code : Code) → IsKept t → squares ≡ t.squares → i < length squares → code ≡ side_groups (take i squares) → length (flat code) < 200
 step_room t squares i code kept same within is =
     omega (
       arith,
@@ -95,11 +93,6 @@ step_room t squares i code kept same within is =
       ap length same,
       kept.few,
     )
-
-pub step_some : (squares : List Square) (i : ℕ) (code : Code) → i < length squares → begins_group squares i ≡ false → code ≡ side_groups (take i squares) → 0 < length code
-step_some squares zero code within e is = absurd (true≢false e)
-step_some [] (suc i) code within e is = absurd (omega arith)
-step_some (q ∷ squares) (suc i) code within e is = subst (λ (c : Code). 0 < length c) (sym is) (groups_some q (take i squares))
 
 -- a side that is added as the square at its place begins a group or not
 pub step_is : (t : Tiling) (squares : List Square) (i : ℕ) (code next : Code) (b : Bool) (d : Square) → squares ≡ t.squares → i < length squares → code ≡ side_groups (take i squares)

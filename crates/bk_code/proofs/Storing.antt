@@ -5,7 +5,6 @@ use Rattle.std.specs.Prelude.{slice_range}
 use Rattle.std.proofs.lemmas.List.{append-nil, append_assoc, drop-append-le, drop-drop, drop_at, length-append, length-drop, take-append-drop, take-append-le, take_all}
 use Rattle.bk_laws.proofs.AllOfLists.{all_append}
 use Rattle.bk_tiling.specs.Kept.{IsSide}
-use Rattle.bk_tiling.specs.declared.TheConstants.{MOST_SQUARES}
 use Rattle.bk_code.specs.Code.{Code, flat, with_side}
 use Rattle.bk_code.specs.Kept.{IsKeptCode, IsSideGroup}
 use Rattle.bk_code.specs.Stored.{AreStarts, IsStored, Rise, groups_at, groups_from}
@@ -115,7 +114,7 @@ all_side (group ∷ []) s all one = ((omega (arith, length-append group (s ∷ [
 all_side (group ∷ next ∷ code) s all one = (all.0, all_side (next ∷ code) s all.1 one)
 
 -- what is stored after a further group
-pub stored_more : (starts xs : List ℕ) (ys : List ℕ) → IsStored starts xs → 0 < length ys → AllByRecursion IsSide ys → length xs + length ys ≤ MOST_SQUARES → IsStored (starts ++ length xs ∷ []) (xs ++ ys)
+pub stored_more : (starts xs : List ℕ) (ys : List ℕ) → IsStored starts xs → 0 < length ys → AllByRecursion IsSide ys → length xs + length ys ≤ 200 → IsStored (starts ++ length xs ∷ []) (xs ++ ys)
 stored_more starts xs ys stored some sides room = record {
   starts_rise = starts_more starts (length xs) (length (xs ++ ys)) stored.starts_rise (omega (arith, length-append xs ys));
   code = subst IsKeptCode (sym cut) (record {
@@ -128,7 +127,7 @@ stored_more starts xs ys stored some sides room = record {
     cut = groups_more starts xs ys stored.starts_rise
 
 -- and after a further side of the last group
-pub stored_side : (starts xs : List ℕ) (s : ℕ) → IsStored starts xs → 0 < length starts → IsSide s → length xs < MOST_SQUARES → IsStored starts (xs ++ s ∷ [])
+pub stored_side : (starts xs : List ℕ) (s : ℕ) → IsStored starts xs → 0 < length starts → IsSide s → length xs < 200 → IsStored starts (xs ++ s ∷ [])
 stored_side starts xs s stored some side room = record {
   starts_rise = starts_on starts (length xs) (length (xs ++ s ∷ [])) some stored.starts_rise (omega (arith, length-append xs (s ∷ [])));
   code = subst IsKeptCode (sym cut) (record {
@@ -195,10 +194,10 @@ sides_count starts xs code stored view = ap length (sym (groups_flat starts xs s
 pub starts_count : (starts xs : List ℕ) (code : Code) → groups_at starts xs ≡ code → length starts ≡ length code
 starts_count starts xs code view = sym (groups_length starts xs) ∙ ap (λ (c : Code). length c) view
 
-pub sides_room : (starts xs : List ℕ) (code : Code) → IsStored starts xs → groups_at starts xs ≡ code → length (flat code) < MOST_SQUARES → length xs < MOST_SQUARES
+pub sides_room : (starts xs : List ℕ) (code : Code) → IsStored starts xs → groups_at starts xs ≡ code → length (flat code) < 200 → length xs < 200
 sides_room starts xs code stored view room = omega (arith, sides_count starts xs code stored view)
 
-pub starts_room : (starts xs : List ℕ) (code : Code) → IsStored starts xs → groups_at starts xs ≡ code → length (flat code) < MOST_SQUARES → length starts < MOST_SQUARES
+pub starts_room : (starts xs : List ℕ) (code : Code) → IsStored starts xs → groups_at starts xs ≡ code → length (flat code) < 200 → length starts < 200
 starts_room starts xs code stored view room = omega (arith, sides_count starts xs code stored view, starts_below starts (length xs) stored.starts_rise)
 
 -- the groups of a code, and its flat list, are of sides

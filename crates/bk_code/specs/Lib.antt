@@ -1,4 +1,6 @@
+-- What the crate says.
 pub mod Code
 pub mod CodeLaws
 pub mod Kept
+-- How its code keeps it.
 pub mod Stored

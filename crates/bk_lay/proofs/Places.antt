@@ -1,6 +1,6 @@
 -- Where the leftmost valley stands among the level runs of the columns.
 use Rattle.std.specs.List.{AllByRecursion}
-use Rattle.std.proofs.Common.{Bool, List, [], ap, arith, cond, false, inl, inr, length, nat_lt, refl, suc, sym, true, zero, ℕ, ◌++◌, ◌+◌, ◌-◌, ◌<◌, ◌∙◌, ◌∷◌, ◌≡◌, ◌≤◌, ◌⊎◌}
+use Rattle.std.proofs.Common.{Bool, List, [], ap, arith, cond, false, inl, inr, length, nat_lt, refl, subst, suc, sym, true, zero, ℕ, ◌++◌, ◌+◌, ◌-◌, ◌<◌, ◌∙◌, ◌∷◌, ◌≡◌, ◌≤◌, ◌⊎◌}
 use Rattle.std.proofs.lemmas.Bool.Decides.{nat_tests}
 use Rattle.bk_tiling.specs.Column.{AreRuns, depth}
 use Rattle.bk_tiling.specs.declared.Segment.{Segment}
@@ -10,7 +10,7 @@ use Rattle.bk_word.specs.Play.{parts}
 use Rattle.bk_word.specs.declared.Sign.{Sign}
 use Rattle.bk_word.specs.declared.Sign.TheVariants.{Above, Even, Under}
 use Rattle.bk_lay.proofs.Joining.{levels, sign_case}
-use Rattle.bk_lay.proofs.Valleys.{leftmost_by_falling}
+use Rattle.bk_lay.proofs.Valleys.{leftmost_by_falling, one_leftmost_valley}
 use Rattle.bk_lay.specs.TilingWord.{IsLeftmostValley, depth_before, depth_from, sign_between, signs_between}
 
 -- the last of the runs before the valley
@@ -131,3 +131,26 @@ module _ (width : ℕ) (laid : List Square) where
   pub placed : (runs : List Segment) → 0 < width → AreRuns width laid 0 runs → AllByRecursion (λ sign. parts sign ≡ true) (signs_between (levels runs)) → Placed width laid 0 runs
   placed [] wide cut parted = absurd (omega (arith, cut))
   placed (v ∷ runs) wide cut parted = place v runs 0 cut parted (λ c e. absurd (omega arith)) (λ c e. absurd (omega arith))
+
+-- where a segment stands among the runs that is their leftmost valley
+pub record Stands (width : ℕ) (laid : List Square) (runs : List Segment) (v : Segment) : Type 0 where
+  pub before : List Segment
+  pub after : List Segment
+  pub is : runs ≡ before ++ v ∷ after
+  pub number : valley_place (signs_between (levels runs)) ≡ length before
+  pub left : ((before ≡ []) × (v.x ≡ 0)) ⊎ HasLast laid v.x before
+  pub right : ((after ≡ []) × (v.x + v.width ≡ width)) ⊎ HasFirst width laid (v.x + v.width) after
+
+pub stands : (width : ℕ) (laid : List Square) (runs : List Segment) (v : Segment) → Placed width laid 0 runs → IsLeftmostValley width laid v
+    → Stands width laid runs v
+stands width laid runs v p found = record {
+  before = p.before;
+  after = p.after;
+  is = p.is ∙ ap (λ (w : Segment). p.before ++ w ∷ p.after) same;
+  number = p.number;
+  left = subst (λ (w : Segment). ((p.before ≡ []) × (w.x ≡ 0)) ⊎ HasLast laid w.x p.before) same p.left;
+  right = subst (λ (w : Segment). ((p.after ≡ []) × (w.x + w.width ≡ width)) ⊎ HasFirst width laid (w.x + w.width) p.after) same p.right;
+}
+  where
+    same : p.valley ≡ v
+    same = one_leftmost_valley width laid p.valley v p.leftmost found

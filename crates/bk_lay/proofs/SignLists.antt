@@ -26,10 +26,6 @@ few_signs [] = omega arith
 few_signs (a ∷ []) = omega arith
 few_signs (a ∷ b ∷ levels) = omega (arith, few_signs (b ∷ levels))
 
-pub last_of_option : (o : Option ℕ) → last_of_levels (option_to_list o) ≡ o
-last_of_option None = refl
-last_of_option (Some a) = refl
-
 pub few_of_option : (o : Option ℕ) → length (option_to_list o) ≤ 1
 few_of_option None = omega arith
 few_of_option (Some a) = omega arith

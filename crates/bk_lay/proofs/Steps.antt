@@ -1,7 +1,7 @@
 -- One step of the play is one step of laying: the move under the leftmost valley is legal, and the outline after it is
 -- that of what is laid then.
-use Rattle.std.specs.List.{AllByRecursion, AllZip}
-use Rattle.std.proofs.Common.{Bool, List, None, Some, [], ap, arith, cond, drop, false, filter, inl, inr, length, map, nat_eq, nat_lt, refl, replicate, slice_get, slice_index_or, subst, suc, sym, take, true, zero, ℕ, ◌++◌, ◌+◌, ◌-◌, ◌<◌, ◌∙◌, ◌∷◌, ◌≡◌, ◌≤◌, ◌⊎◌}
+use Rattle.std.specs.List.{AllZip}
+use Rattle.std.proofs.Common.{Bool, List, None, Some, [], ap, arith, cond, drop, false, filter, inl, inr, length, map, nat_eq, nat_lt, refl, replicate, slice_get, slice_index_or, subst, suc, sym, take, zero, ℕ, ◌++◌, ◌+◌, ◌-◌, ◌<◌, ◌∙◌, ◌∷◌, ◌≡◌, ◌≤◌, ◌⊎◌}
 use Rattle.std.proofs.lemmas.Bool.Decides.{nat_tests}
 use Rattle.std.proofs.lemmas.List.{append_assoc, length-append, length-map, map-append}
 use Rattle.bk_laws.proofs.ZippedLists.{zip_after, zip_append, zip_at, zip_before, zip_length, zip_map}
@@ -21,8 +21,8 @@ use Rattle.bk_lay.proofs.Depicting.{FirstIs, LastIs, left_count, right_count, si
 use Rattle.bk_lay.proofs.Filling.{IsUnder, in_tiling, is_under, valley_is_filled}
 use Rattle.bk_lay.proofs.Joining.{Joined, join, levels}
 use Rattle.bk_lay.proofs.Laying.{new_depth, same_depth, under_chain}
-use Rattle.bk_lay.proofs.Places.{HasFirst, HasLast, Placed, placed}
-use Rattle.bk_lay.proofs.Valleys.{one_leftmost_valley}
+use Rattle.bk_lay.proofs.Places.{HasFirst, HasLast, Stands}
+use Rattle.bk_lay.proofs.ValleySegment.{valley_stands}
 use Rattle.bk_lay.specs.Depiction.{Depicts, FillsFromTop, Hangs, IsNumbered, IsSegment, Span}
 use Rattle.bk_lay.specs.TilingWord.{IsLeftmostValley, bottoms, depth_before, depth_from, move_under, signs_between, squares_under}
 use Rattle.bk_lay.specs.WordLaws.{MoveDepicts, StartDepictsNothing}
@@ -246,25 +246,16 @@ module _ (t : Tiling) (laid : List Square) (v : Segment) (tiling : IsTiling t) (
           j = joins.1
 
 pub move_depicts : MoveDepicts
-move_depicts t laid nodes o v tiling fills d found low = (legal t laid v tiling fills found low nodes o d p.before p.after is number left right, depicts t laid v tiling fills found low nodes o d p.before p.after is number left right)
+move_depicts t laid nodes o v tiling fills d found low = (
+  legal t laid v tiling fills found low nodes o d s.before s.after s.is number s.left s.right,
+  depicts t laid v tiling fills found low nodes o d s.before s.after s.is number s.left s.right,
+)
   where
-    p : Placed t.width laid 0 d.runs
-    p = placed t.width laid d.runs (wide_enough t tiling) d.cut (subst (λ (signs : List Sign). AllByRecursion (λ sign. parts sign ≡ true) signs) d.signs d.parted)
+    s : Stands t.width laid d.runs v
+    s = valley_stands t laid nodes o v tiling d found
 
-    same : p.valley ≡ v
-    same = one_leftmost_valley t.width laid p.valley v p.leftmost found
-
-    is : d.runs ≡ p.before ++ v ∷ p.after
-    is = p.is ∙ ap (λ (w : Segment). p.before ++ w ∷ p.after) same
-
-    number : valley_place o.signs ≡ length p.before
-    number = ap valley_place d.signs ∙ p.number
-
-    left : ((p.before ≡ []) × (v.x ≡ 0)) ⊎ HasLast laid v.x p.before
-    left = subst (λ (w : Segment). ((p.before ≡ []) × (w.x ≡ 0)) ⊎ HasLast laid w.x p.before) same p.left
-
-    right : ((p.after ≡ []) × (v.x + v.width ≡ t.width)) ⊎ HasFirst t.width laid (v.x + v.width) p.after
-    right = subst (λ (w : Segment). ((p.after ≡ []) × (w.x + w.width ≡ t.width)) ⊎ HasFirst t.width laid (w.x + w.width) p.after) same p.right
+    number : valley_place o.signs ≡ length s.before
+    number = ap valley_place d.signs ∙ s.number
 
 pub start_depicts_nothing : StartDepictsNothing
 start_depicts_nothing t tiling = record { runs = top ∷ []; cut = (refl, record { some = wide_enough t tiling; within = omega arith; level = λ c a b. refl }, omega arith); segments = (inr (refl, refl), tt); signs = refl; parted = tt; closed = tt; hung = tt }

@@ -9,7 +9,6 @@ use Rattle.bk_tiling.proofs.TilingLaws.{within_of}
 use Rattle.bk_tiling.specs.Kept.{IsKept}
 use Rattle.bk_tiling.specs.Tiling.{IsOneOf, Tiling}
 use Rattle.bk_tiling.specs.declared.Square.{Square}
-use Rattle.bk_tiling.specs.declared.TheConstants.{MOST_SQUARES}
 use Rattle.bk_word.specs.KeptWord.{CanStand}
 use Rattle.bk_word.specs.Word.{Move, Word, order_of}
 use Rattle.bk_lay.proofs.Depicting.{some_signs}
@@ -44,7 +43,7 @@ module _ (t : Tiling) (kept : IsKept t) where
     of_tiling : (q : Square) → IsOneOf q squares → IsOneOf q t.squares
     of_tiling q h = in_tiling t turned.laid (segment_of o.valley) kept.tiling turned.fills (found t turned.laid o kept.tiling turned.fills turned.outline low) low q (subst (IsOneOf q) under h)
 
-    pub few_squares : length squares ≤ MOST_SQUARES
+    pub few_squares : length squares ≤ 200
     few_squares = let few = kept.few in omega (arith, ap length is, length-filter (begins_under o.valley) t.squares, count_by-le-length (begins_under o.valley) t.squares)
 
     pub right_fits : AllByRecursion (λ q. q.x + q.s < 2 ^ 64) squares

@@ -1,7 +1,7 @@
 -- The leftmost valley of what is laid is the segment that the play of the word closes next; and all squares of a
 -- tiling are laid where all columns are full.
 use Rattle.std.specs.List.{AllByRecursion, AllZip}
-use Rattle.std.proofs.Common.{List, [], ap, arith, length, slice_index_or, subst, sym, true, ℕ, ◌++◌, ◌<◌, ◌∙◌, ◌∷◌, ◌≡◌}
+use Rattle.std.proofs.Common.{List, [], ap, arith, length, slice_index_or, subst, sym, true, ℕ, ◌<◌, ◌∙◌, ◌≡◌}
 use Rattle.bk_laws.proofs.ZippedLists.{zip_at}
 use Rattle.bk_tiling.proofs.Cells.{counted_one, covers_from, in_all, no_two}
 use Rattle.bk_tiling.proofs.TilingLaws.{cell_once, side_of, wide_enough, within_of}
@@ -12,26 +12,29 @@ use Rattle.bk_tiling.specs.declared.Square.{Square}
 use Rattle.bk_word.specs.Outline.{Outline, valley_of, valley_place}
 use Rattle.bk_word.specs.Play.{parts}
 use Rattle.bk_word.specs.declared.Sign.{Sign}
-use Rattle.bk_lay.proofs.Places.{Placed, placed}
-use Rattle.bk_lay.proofs.Valleys.{one_leftmost_valley}
+use Rattle.bk_lay.proofs.Joining.{levels}
+use Rattle.bk_lay.proofs.Places.{Stands, placed, stands}
 use Rattle.bk_lay.specs.Depiction.{Depicts, FillsFromTop, IsSegment}
-use Rattle.bk_lay.specs.TilingWord.{IsLeftmostValley}
+use Rattle.bk_lay.specs.TilingWord.{IsLeftmostValley, signs_between}
 
-pub valley_segment : (t : Tiling) (laid : List Square) (nodes : List Segment) (o : Outline) (v : Segment) → IsTiling t → Depicts t laid nodes o → IsLeftmostValley t.width laid v → IsSegment laid v (valley_of o)
-valley_segment t laid nodes o v tiling d found = subst (λ (n : ℕ). IsSegment laid v (slice_index_or o.segments n [])) (sym number)
-    (zip_at (IsSegment laid) p.before v p.after o.segments [] (subst (λ (runs : List Segment). AllZip (IsSegment laid) runs o.segments) is d.segments))
+-- the leftmost valley of what is laid stands among the runs of the outline that depicts it
+pub valley_stands : (t : Tiling) (laid : List Square) (nodes : List Segment) (o : Outline) (v : Segment) → IsTiling t
+    → (d : Depicts t laid nodes o) → IsLeftmostValley t.width laid v → Stands t.width laid d.runs v
+valley_stands t laid nodes o v tiling d found = stands t.width laid d.runs v (placed t.width laid d.runs (wide_enough t tiling) d.cut parted) found
   where
-    p : Placed t.width laid 0 d.runs
-    p = placed t.width laid d.runs (wide_enough t tiling) d.cut (subst (λ (signs : List Sign). AllByRecursion (λ sign. parts sign ≡ true) signs) d.signs d.parted)
+    parted : AllByRecursion (λ sign. parts sign ≡ true) (signs_between (levels d.runs))
+    parted = subst (λ (signs : List Sign). AllByRecursion (λ sign. parts sign ≡ true) signs) d.signs d.parted
 
-    same : p.valley ≡ v
-    same = one_leftmost_valley t.width laid p.valley v p.leftmost found
+pub valley_segment : (t : Tiling) (laid : List Square) (nodes : List Segment) (o : Outline) (v : Segment) → IsTiling t → Depicts t laid nodes o
+    → IsLeftmostValley t.width laid v → IsSegment laid v (valley_of o)
+valley_segment t laid nodes o v tiling d found = subst (λ (n : ℕ). IsSegment laid v (slice_index_or o.segments n [])) (sym number)
+    (zip_at (IsSegment laid) s.before v s.after o.segments [] (subst (λ (runs : List Segment). AllZip (IsSegment laid) runs o.segments) s.is d.segments))
+  where
+    s : Stands t.width laid d.runs v
+    s = valley_stands t laid nodes o v tiling d found
 
-    is : d.runs ≡ p.before ++ v ∷ p.after
-    is = p.is ∙ ap (λ (w : Segment). p.before ++ w ∷ p.after) same
-
-    number : valley_place o.signs ≡ length p.before
-    number = ap valley_place d.signs ∙ p.number
+    number : valley_place o.signs ≡ length s.before
+    number = ap valley_place d.signs ∙ s.number
 
 module _ (t : Tiling) (tiling : IsTiling t) where
   pub all_laid : (laid : List Square) → FillsFromTop t laid → ((c : ℕ) → c < t.width → depth laid c ≡ t.height) → (q : Square) → IsOneOf q t.squares → IsOneOf q laid

@@ -79,9 +79,6 @@ record Ends (t : Tiling) (before : ℕ) (o : Outline) (w : Word) : Type 0 where
   depicts : Depicts t laid nodes (after_moves o w)
   long : length laid ≡ before + order_of w
 
-pub order-cons : (m : Move) (w : Word) → order_of (m ∷ w) ≡ m.count + order_of w
-order-cons m w = order_more m w
-
 ends : (t : Tiling) → IsTiling t → (laid : List Square) (nodes : List Segment) (o : Outline) (w : Word) → FillsFromTop t laid → Depicts t laid nodes o → MovesFollow t laid w → Ends t (length laid) o w
 ends t tiling laid nodes o [] fills depicts p = record { legal = tt; laid = laid; fills = fills; full = p; nodes = nodes; depicts = depicts; long = omega arith }
 ends t tiling laid nodes o (m ∷ w) fills depicts p = onto (ends t tiling (laid ++ squares_under t p.0) (nodes ++ p.0 ∷ []) (after_move o m) w (valley_is_filled t laid p.0 tiling fills p.1 p.2).1 there.1 p.4)

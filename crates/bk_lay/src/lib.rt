@@ -1,7 +1,7 @@
 //! The word of a tiling.
 #![tactic(auto)]
 
-ghost use Rattle.bk_lay.specs.WordLaws.{EveryTilingHasAWord, ATilingHasOneWord, TilingWordIsComplete};
+ghost use Rattle.bk_lay.specs.WordLaws.{EveryTilingHasAWord, ATilingHasOneWord, LeftmostIsFirstRise, TilingWordIsComplete};
 
 mod outline;
 mod signs;
@@ -24,4 +24,9 @@ pub fn a_tiling_has_one_word()
 /// The word of a tiling is legal and complete, and hangs as many squares as the tiling has.
 pub fn a_tiling_word_is_complete()
     ensures { TilingWordIsComplete }
+{}
+
+/// A valley is the leftmost one exactly where the columns never get deeper from the left wall to it.
+pub fn the_leftmost_valley_is_the_first_rise()
+    ensures { LeftmostIsFirstRise }
 {}

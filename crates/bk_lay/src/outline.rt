@@ -48,7 +48,7 @@ impl Outline {
 
     // The move that hangs these squares under the valley.
     pub(crate) fn move_under(&self, squares: &[Square]) -> Move
-        requires few { length squares.now ≤ MOST_SQUARES }
+        requires few { length squares.now ≤ 200 }
         requires fit { AllByRecursion (λ q. q.y + q.s < 2 ^ 64) squares.now }
         ensures count { result.count ≡ length squares.now }
         ensures signs { result.signs ≡ signs_between (last_level self.now.left.items ++ bottoms_of squares.now ++ last_level self.now.right.items) }
@@ -64,7 +64,7 @@ impl Outline {
     // Lays squares that fill the valley from left to right, and goes on to the valley that is then the leftmost.
     pub(crate) fn lay(&mut self, squares: &[Square])
         requires some { 0 < length squares.now }
-        requires room { length self.old.left.items + (length self.old.right.items + length squares.now) ≤ MOST_SQUARES }
+        requires room { length self.old.left.items + (length self.old.right.items + length squares.now) ≤ 200 }
         requires right { AllByRecursion (λ q. q.x + q.s < 2 ^ 64) squares.now }
         requires fit { AllByRecursion (λ q. q.y + q.s < 2 ^ 64) squares.now }
         ensures outline { (width : ℕ) (laid : List Placed)
@@ -89,7 +89,7 @@ fn level_of_last(runs: &[Run]) -> Option<u64>
 
 // Appends the runs under squares that stand from left to right, the last one first.
 fn push_runs(right: &mut ArrayVec<Run, MOST_SQUARES>, squares: &[Square])
-    requires room { length right.old.items + length squares.now ≤ MOST_SQUARES }
+    requires room { length right.old.items + length squares.now ≤ 200 }
     requires right { AllByRecursion (λ q. q.x + q.s < 2 ^ 64) squares.now }
     requires fit { AllByRecursion (λ q. q.y + q.s < 2 ^ 64) squares.now }
     ensures { right.new.items ≡ right.old.items ++ runs_under squares.now }
@@ -112,7 +112,7 @@ fn take_valley(
     right: &mut ArrayVec<Run, MOST_SQUARES>,
 ) -> Run
     requires some { 0 < length left.old.items + length right.old.items }
-    requires room { length left.old.items + length right.old.items ≤ MOST_SQUARES }
+    requires room { length left.old.items + length right.old.items ≤ 200 }
     ensures beside { (width : ℕ) (laid : List Placed) → Meet width laid left.old.items right.old.items
         → AreBeside width laid left.new.items result right.new.items }
     ensures deeper { IsDeeperAtEnd result.level right.new.items }

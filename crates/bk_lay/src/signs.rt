@@ -18,7 +18,7 @@ pub(crate) fn signs_of(
     squares: &[Square],
     after: Option<u64>,
 ) -> ArrayVec<Sign, MOST_SIGNS>
-    requires few { length squares.now ≤ MOST_SQUARES }
+    requires few { length squares.now ≤ 200 }
     requires fit { AllByRecursion (λ q. q.y + q.s < 2 ^ 64) squares.now }
     ensures { result.items ≡ signs_between (option_to_list before ++ bottoms_of squares.now ++ option_to_list after) }
 {

@@ -17,7 +17,7 @@ use std::alloc::Global;
 /// is no memory only where the order is above 16. This word is our own.
 pub fn word_of(alloc: Global, tiling: &Tiling) -> Result<Word, NoMemory>
     ensures word { IfOk result (IsWordOf tiling.now) }
-    ensures inline { order tiling.now ≤ INLINE_ORDER → IsOk result }
+    ensures inline { order tiling.now ≤ 16 → IsOk result }
 {
     let mut word = Word::new(alloc);
     let mut outline = Outline::new(tiling.width());

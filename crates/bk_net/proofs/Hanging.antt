@@ -136,9 +136,6 @@ pub record AreGroups (squares : List Square) (levels nodes : List ℕ) (groups :
   pub nodes_are : nodes ≡ group_numbers squares
   pub groups_are : groups ≡ length (square_groups squares)
 
-pub begin_groups : (squares : List Square) → AreGroups (take 0 squares) [] [] 0
-begin_groups squares = record { levels_are = refl; nodes_are = refl; groups_are = refl }
-
 -- a square that begins no group has one before it
 pub groups_before : (squares : List Square) (i : ℕ) → i < length squares → begins_group squares i ≡ false → 0 < length (square_groups (take i squares))
 groups_before squares zero within e = absurd (true≢false e)

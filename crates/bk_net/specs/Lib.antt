@@ -1,12 +1,14 @@
+-- What the crate says.
 pub mod Net
 pub mod Flow
 pub mod Diagram
-pub mod NetLine
 pub mod SmithFlow
 pub mod KeptNet
+pub mod NetLine
+pub mod ReadNet
+pub mod NetLineLaws
+-- How its code keeps it.
 pub mod GroupNumbers
 pub mod Labels
 pub mod Reader
-pub mod ReadNet
 pub mod Gathered
-pub mod NetLineLaws

@@ -1,2 +1,4 @@
+-- What the crate says.
 pub mod Causes
+-- How its code keeps it.
 pub mod Stores

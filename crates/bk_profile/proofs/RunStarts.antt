@@ -1,6 +1,6 @@
 -- Level runs side by side: where each begins, the run over a column, and the gap and the depths that they show.
 use Rattle.std.specs.List.{All, HoldsAt}
-use Rattle.std.proofs.Common.{List, [], ap, arith, get_or, length, subst, suc, sym, take, zero, ℕ, ◌+◌, ◌<◌, ◌∙◌, ◌∷◌, ◌≡◌, ◌≤◌, ⊎_elim}
+use Rattle.std.proofs.Common.{List, [], ap, arith, get_or, length, suc, sym, take, zero, ℕ, ⊎_elim, ◌+◌, ◌<◌, ◌∙◌, ◌∷◌, ◌≡◌, ◌≤◌}
 use Rattle.std.proofs.lemmas.Bool.{cases_lt}
 use Rattle.std.proofs.lemmas.List.{take_all}
 use Rattle.std.proofs.lemmas.List.Sums.{sum_by-cons, sum_by-take-le, sum_by_more}
@@ -107,15 +107,6 @@ gap_from_runs w laid runs a b gap outline lowest x end level = record {
 
     before_first : (c : ℕ) (at : Lies 0 runs c) → c < gap.x → at.place < a
     before_first c at l = ⊎_elim (λ (k : at.place < a). k) (λ (k : a ≤ at.place). absurd (omega (arith, at.from, x, l, start_le runs a at.place k))) (cases_lt at.place a)
-
--- the gap, from what is computed of the outline, which is read twice
-pub gap_computed : (w : ℕ) (laid : List Square) (runs once twice : List Run) (places : ℕ × ℕ) (gap : Segment) → IsOutline w laid runs → once ≡ runs → twice ≡ runs → IsLowest once (length once) places.0 places.1
-    → gap.x ≡ start twice places.0 → gap.x + gap.width ≡ start twice places.1 → ((d : Run) → gap.level ≡ (get_or twice places.0 d).level) → IsGap w laid gap
-gap_computed w laid runs once twice places gap outline e f lowest x end level =
-    gap_from_runs w laid runs places.0 places.1 gap outline
-    (subst (λ (l : List Run). IsLowest l (length l) places.0 places.1) e lowest)
-    (x ∙ ap (λ (l : List Run). start l places.0) f) (end ∙ ap (λ (l : List Run). start l places.1) f)
-    (λ d. level d ∙ ap (λ (l : List Run). (get_or l places.0 d).level) f)
 
 -- the columns of a run lie in the width and have its level
 in_width : (w : ℕ) (laid : List Square) (runs : List Run) (k : ℕ) → IsOutline w laid runs → k < length runs → (start runs k < w) × (depth laid (start runs k) ≡ (get_or runs k no_run).level)

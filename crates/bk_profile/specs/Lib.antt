@@ -1,6 +1,8 @@
+-- What the crate says.
 pub mod Gap
-pub mod LayingLaws
-pub mod Outline
-pub mod Laid
 pub mod Refused
+pub mod LayingLaws
+pub mod Laid
+-- How its code keeps it.
+pub mod Outline
 pub mod Stored

@@ -24,3 +24,4 @@ pub mod MovedSquares
 pub mod PairCounts
 pub mod GroupCount
 pub mod EnlargedTilings
+pub mod RefusalExamples

@@ -2,7 +2,7 @@
 use Rattle.std.specs.List.{AllByRecursion}
 use Rattle.std.specs.Prelude.{Bool, IsTrue, List, [], cond, count_by, false, length, nat_lt, refl, suc, true, ◌<◌, ◌==◌, ◌∷◌, ◌≡◌, ◌⊎◌}
 use Rattle.std.proofs.Common.{ap, arith, eqb-true, inl, inr, ltb-true, subst, sum_by, sym, ℕ, ◌+◌, ◌∙◌, ◌≤◌}
-use Rattle.std.proofs.lemmas.Bool.{and_from, and_left, and_parts, and_right, both_ways, cases_Bool, eq-eqb, le-ltb, lt-ltb, ne_eqb, or_cases, or_from, or_left, or_right}
+use Rattle.std.proofs.lemmas.Bool.{and_from, and_parts, both_ways, cases_Bool, eq-eqb, lt-ltb, or_cases, or_left, or_right}
 use Rattle.std.proofs.lemmas.Bool.Decides.{nat_tests}
 use Rattle.std.proofs.lemmas.List.Sums.{sum_by-cons}
 use Rattle.std.specs.Ordering.{is_lt, nat_cmp, ordering_then}
@@ -14,13 +14,6 @@ pub comes_before-cases : (p q : Square) → IsTrue (comes_before p q) → (p.y <
 comes_before-cases p q h = elim (or_cases _ _ h) [
   | inl above ↦ inl (ltb-true p.y q.y above)
   | inr level ↦ let parts = and_parts (p.y == q.y) (nat_lt p.x q.x) level in inr (eqb-true p.y q.y parts.0, ltb-true p.x q.x parts.1)
-]
-
--- then the other doesn't stand before it
-pub comes_before-asym : (p q : Square) → IsTrue (comes_before p q) → comes_before q p ≡ false
-comes_before-asym p q h = elim (comes_before-cases p q h) [
-  | inl above ↦ or_from _ _ (le-ltb q.y p.y (omega arith)) (and_left _ _ (ne_eqb q.y p.y (λ e. omega arith)))
-  | inr level ↦ or_from _ _ (le-ltb q.y p.y (omega (arith, level.0))) (and_right _ _ (le-ltb q.x p.x (omega (arith, level.1))))
 ]
 
 with_square-first : (q : Square) (qs : List Square) → AllByRecursion (λ p. IsTrue (comes_before q p)) qs → with_square q qs ≡ q ∷ qs

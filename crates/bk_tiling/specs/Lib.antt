@@ -1,11 +1,13 @@
-pub mod CodeOrder
+-- What the crate says.
 pub mod Tiling
+pub mod CodeOrder
 pub mod Column
-pub mod Scale
-pub mod Point
 pub mod SquareGroups
+pub mod Row
+pub mod Point
+pub mod Scale
 pub mod Kept
 pub mod Refusal
-pub mod Sharing
 pub mod RefusalLaws
-pub mod Row
+-- How its code keeps it.
+pub mod Sharing

@@ -1,0 +1,54 @@
+-- The first overlap and the first cell that is not covered, worked out.
+use Rattle.std.proofs.Common.{List, [], arith, count_by, inl, inr, length, refl, slice_index_or, suc, zero, ℕ, ◌<◌, ◌∷◌}
+use Rattle.bk_tiling.proofs.Cells.{over_from}
+use Rattle.bk_tiling.proofs.ExampleTilings.{square_at}
+use Rattle.bk_tiling.specs.Refusal.{IsFirstOverlap, IsFirstUncovered, IsLesserPair, SharesCell}
+use Rattle.bk_tiling.specs.Tiling.{covers}
+use Rattle.bk_tiling.specs.declared.Square.{Square}
+
+-- three squares, of which the third lies over the corners of both others
+abbrev crossing : List Square
+crossing = square_at 0 0 2 ∷ square_at 2 0 2 ∷ square_at 1 1 2 ∷ []
+
+side_by_side : ¬ (SharesCell (square_at 0 0 2) (square_at 2 0 2))
+side_by_side s =
+    let first = over_from s.column s.level (square_at 0 0 2) s.in_first in
+    let second = over_from s.column s.level (square_at 2 0 2) s.in_second in
+    omega (arith, first.right, second.left)
+
+-- the places 0 and 1 share no cell, and 0 and 2 the cell in column 1 at level 1; 1 and 2 share a cell too, and come later
+first_overlap : IsFirstOverlap crossing 0 2
+first_overlap = record {
+  ascending = omega arith;
+  below = omega arith;
+  here = λ d. record { column = 1; level = 1; in_first = refl; in_second = refl };
+  before = before;
+}
+  where
+    before : (a b : ℕ) (d : Square) → a < b → b < length crossing → IsLesserPair a b 0 2
+        → ¬ (SharesCell (slice_index_or crossing a d) (slice_index_or crossing b d))
+    before zero zero d up within less s = omega arith
+    before zero (suc zero) d up within less s = side_by_side s
+    before zero (suc (suc b)) d up within (inl less) s = omega arith
+    before zero (suc (suc b)) d up within (inr less) s = omega (arith, less.1)
+    before (suc a) b d up within (inl less) s = omega arith
+    before (suc a) b d up within (inr less) s = omega (arith, less.0)
+
+-- a square of side 2 and one of side 1 in a rectangle of 3 columns and 2 levels: the cell in column 2 at level 1 is free
+abbrev open_corner : List Square
+open_corner = square_at 0 0 2 ∷ square_at 2 0 1 ∷ []
+
+first_uncovered : IsFirstUncovered 3 2 open_corner 2 1
+first_uncovered = record { column = omega arith; level = omega arith; free = refl; above = above; left = left }
+  where
+    above : (i j : ℕ) → i < 3 → j < 1 → 0 < count_by (covers i j) open_corner
+    above i (suc j) within up = absurd (omega arith)
+    above zero zero within up = omega arith
+    above (suc zero) zero within up = omega arith
+    above (suc (suc zero)) zero within up = omega arith
+    above (suc (suc (suc i))) zero within up = absurd (omega arith)
+
+    left : (i : ℕ) → i < 2 → 0 < count_by (covers i 1) open_corner
+    left zero within = omega arith
+    left (suc zero) within = omega arith
+    left (suc (suc i)) within = absurd (omega arith)
