@@ -2,7 +2,6 @@
 use Rattle.std.specs.List.{AllByRecursion}
 use Rattle.std.specs.Prelude.{List, length, ℕ, ◌<◌, ◌≤◌}
 use Rattle.bk_tiling.specs.Kept.{IsSide}
-use Rattle.bk_tiling.specs.declared.TheConstants.{MOST_SQUARES}
 use Rattle.bk_code.specs.Code.{Code, flat}
 
 -- a group: it has a side, and each is one that a square may have
@@ -12,4 +11,4 @@ IsSideGroup group = (0 < length group) × AllByRecursion IsSide group
 -- what holds of each `Code`
 pub record IsKeptCode (code : Code) : Type 0 where
   pub groups : AllByRecursion IsSideGroup code
-  pub few : length (flat code) ≤ MOST_SQUARES
+  pub few : length (flat code) ≤ 200

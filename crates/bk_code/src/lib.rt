@@ -49,7 +49,7 @@ impl Code {
     pub fn add_group(&mut self, sides: &[u64])
         requires some { 0 < length sides.now }
         requires sides { AllByRecursion IsSide sides.now }
-        requires room { length (flat self.old) + length sides.now ≤ MOST_SQUARES }
+        requires room { length (flat self.old) + length sides.now ≤ 200 }
         ensures group { self.new ≡ self.old ++ sides.now ∷ [] }
         ensures flat { flat self.new ≡ flat self.old ++ sides.now }
     {
@@ -61,7 +61,7 @@ impl Code {
     /// Appends a group of one side.
     pub fn begin_group(&mut self, first: u64)
         requires side { IsSide first }
-        requires room { length (flat self.old) < MOST_SQUARES }
+        requires room { length (flat self.old) < 200 }
         ensures group { self.new ≡ self.old ++ (first ∷ []) ∷ [] }
         ensures flat { flat self.new ≡ flat self.old ++ first ∷ [] }
     {
@@ -73,7 +73,7 @@ impl Code {
     pub fn push_side(&mut self, side: u64)
         requires some { 0 < length self.old }
         requires side { IsSide side }
-        requires room { length (flat self.old) < MOST_SQUARES }
+        requires room { length (flat self.old) < 200 }
         ensures group { self.new ≡ with_side self.old side }
         ensures flat { flat self.new ≡ flat self.old ++ side ∷ [] }
     {
@@ -124,7 +124,7 @@ fn bounds(starts: &[usize], sides: &[u64], g: usize) -> (usize, usize)
 
 // Appends sides, for which there is room.
 fn append(sides: &mut ArrayVec<u64, MOST_SQUARES>, more: &[u64])
-    requires { length sides.old.items + length more.now ≤ MOST_SQUARES }
+    requires { length sides.old.items + length more.now ≤ 200 }
     ensures { sides.new.items ≡ sides.old.items ++ more.now }
 {
     if sides.try_extend_from_slice(more).is_err() {

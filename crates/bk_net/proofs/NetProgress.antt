@@ -9,7 +9,6 @@ use Rattle.bk_net.specs.Reader.{ended_wire, ending_at, kind_of, last_wire, next_
 use Rattle.bk_net.specs.declared.NetFault.{NetFault}
 use Rattle.bk_net.specs.declared.NetFault.TheVariants.{Many, Nodes as NodesFault, Text, Wire}
 use Rattle.bk_net.specs.declared.NetLine.{NetLine as NetLineRead}
-use Rattle.bk_net.specs.declared.TheConstants.{MOST_WIRES}
 use Rattle.bk_net.specs.declared.reader.Ending.{Ending}
 use Rattle.bk_net.specs.declared.reader.Ending.TheVariants.{Empty, Nodes}
 use Rattle.bk_net.specs.declared.reader.Place.{Place}
@@ -76,12 +75,12 @@ pub item_is : (r : Result NetLineRead NetFault) (bs : List ℕ) (nodes : ℕ) (k
 item_is (Ok l) bs nodes kept many h few is = subst (λ (z : NetLine). IsNetLine z bs) (sym is) (all_kept bs nodes kept many h few)
 item_is (Err fault) bs nodes kept many h few is = tt
 
-one_fault : (fault : NetFault) (bs : List ℕ) (nodes : ℕ) (kept : List (ℕ × ℕ)) (many : Bool) → HasWires bs nodes kept many → length kept ≤ MOST_WIRES → IsNoNet nodes many kept fault → IsFaultOf fault bs
+one_fault : (fault : NetFault) (bs : List ℕ) (nodes : ℕ) (kept : List (ℕ × ℕ)) (many : Bool) → HasWires bs nodes kept many → length kept ≤ 200 → IsNoNet nodes many kept fault → IsFaultOf fault bs
 one_fault (Text at) bs nodes kept many h few none = absurd none
 one_fault Many bs nodes kept many h few none = (nodes, h.wires, h.line, h.keeps.more none)
 one_fault (NodesFault count) bs nodes kept many h few none = (kept, subst (λ (n : ℕ). IsNetLine (Item n kept) bs) (sym none.1) (all_kept bs nodes kept many h none.0), few, λ is. none.2 (omega (arith, is.0, none.1), omega (arith, is.1, none.1)))
 one_fault (Wire place) bs nodes kept many h few none = (nodes, kept, all_kept bs nodes kept many h none.0, few, none.1, none.2)
 
-pub fault_is : (r : Result NetLineRead NetFault) (bs : List ℕ) (nodes : ℕ) (kept : List (ℕ × ℕ)) (many : Bool) → HasWires bs nodes kept many → length kept ≤ MOST_WIRES → IfErr r (IsNoNet nodes many kept) → IfErr r (λ fault. IsFaultOf fault bs)
+pub fault_is : (r : Result NetLineRead NetFault) (bs : List ℕ) (nodes : ℕ) (kept : List (ℕ × ℕ)) (many : Bool) → HasWires bs nodes kept many → length kept ≤ 200 → IfErr r (IsNoNet nodes many kept) → IfErr r (λ fault. IsFaultOf fault bs)
 fault_is (Ok l) bs nodes kept many h few none = tt
 fault_is (Err fault) bs nodes kept many h few none = one_fault fault bs nodes kept many h few none

@@ -3,7 +3,6 @@ use Rattle.std.specs.Prelude.{Bool, List, None, Option, Some, [], false, length,
 use Rattle.bk_net.specs.ReadNet.{IsFirstFault, IsNodeCount}
 use Rattle.bk_net.specs.declared.NetFault.{NetFault}
 use Rattle.bk_net.specs.declared.NetFault.TheVariants.{Many, Nodes, Text, Wire}
-use Rattle.bk_net.specs.declared.TheConstants.{MOST_WIRES}
 
 -- wires, and one more if there is one
 abbrev pub and_wire : Option (ℕ × ℕ) → List (ℕ × ℕ) → List (ℕ × ℕ)
@@ -13,7 +12,7 @@ and_wire (Some w) wires = wires ++ w ∷ []
 -- all wires are kept, or there are more than 200 of them
 pub record Keeps (all kept : List (ℕ × ℕ)) (many : Bool) : Type 0 where
   pub same : many ≡ false → kept ≡ all
-  pub more : many ≡ true → MOST_WIRES < length all
+  pub more : many ≡ true → 200 < length all
 
 -- why the kept wires make no net of so many nodes
 abbrev pub IsNoNet : ℕ → Bool → List (ℕ × ℕ) → NetFault → Type 0

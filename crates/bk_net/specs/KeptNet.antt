@@ -1,10 +1,9 @@
 -- Which nets a `Net` of the code can be: those of at most 201 nodes and 200 wires.
 use Rattle.std.specs.Prelude.{length, ◌≤◌}
 use Rattle.bk_net.specs.Net.{IsNet, Net}
-use Rattle.bk_net.specs.declared.TheConstants.{MOST_NODES, MOST_WIRES}
 
 -- what holds of each `Net`
 pub record IsKeptNet (net : Net) : Type 0 where
   pub is : IsNet net
-  pub few_nodes : net.nodes ≤ MOST_NODES
-  pub few_wires : length net.wires ≤ MOST_WIRES
+  pub few_nodes : net.nodes ≤ 201
+  pub few_wires : length net.wires ≤ 200

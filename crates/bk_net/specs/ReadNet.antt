@@ -6,7 +6,6 @@ use Rattle.bk_net.specs.declared.NetFault.{NetFault}
 use Rattle.bk_net.specs.declared.NetFault.TheVariants.{Many, Nodes, Text, Wire}
 use Rattle.bk_net.specs.declared.NetLine.{NetLine as NetLineRead}
 use Rattle.bk_net.specs.declared.NetLine.TheVariants as read
-use Rattle.bk_net.specs.declared.TheConstants.{MOST_NODES, MOST_WIRES}
 
 -- what a line that was read stands for
 abbrev pub stands_for : NetLineRead → NetLine
@@ -32,15 +31,15 @@ pub record IsFirstFault (nodes : ℕ) (wires : List (ℕ × ℕ)) (place : ℕ) 
 
 -- 2 to 201
 abbrev pub IsNodeCount : ℕ → Type 0
-IsNodeCount nodes = (2 ≤ nodes) × (nodes ≤ MOST_NODES)
+IsNodeCount nodes = (2 ≤ nodes) × (nodes ≤ 201)
 
 -- why bytes are refused: they leave the grammar of network lines behind `at` bytes; or they are such a line, of more than
 -- 200 wires; or of so many nodes, which are fewer than 2 or more than 201; or with a first wire at fault
 abbrev pub IsFaultOf : NetFault → List ℕ → Type 0
 IsFaultOf (Text at) bytes = IsNoNetLine bytes at
-IsFaultOf Many bytes = (nodes : ℕ) × (wires : List (ℕ × ℕ)) × IsNetLine (Item nodes wires) bytes × (MOST_WIRES < length wires)
+IsFaultOf Many bytes = (nodes : ℕ) × (wires : List (ℕ × ℕ)) × IsNetLine (Item nodes wires) bytes × (200 < length wires)
 IsFaultOf (Nodes count) bytes =
-    (wires : List (ℕ × ℕ)) × IsNetLine (Item count wires) bytes × (length wires ≤ MOST_WIRES) × ¬ (IsNodeCount count)
+    (wires : List (ℕ × ℕ)) × IsNetLine (Item count wires) bytes × (length wires ≤ 200) × ¬ (IsNodeCount count)
 IsFaultOf (Wire place) bytes =
-    (nodes : ℕ) × (wires : List (ℕ × ℕ)) × IsNetLine (Item nodes wires) bytes × (length wires ≤ MOST_WIRES)
+    (nodes : ℕ) × (wires : List (ℕ × ℕ)) × IsNetLine (Item nodes wires) bytes × (length wires ≤ 200)
     × IsNodeCount nodes × IsFirstFault nodes wires place

@@ -9,7 +9,7 @@ use arrayvec::ArrayVec;
 
 // For each node the number of a node that it is joined to: the same number for all nodes that are joined to one another.
 pub(crate) fn labels_of(nodes: u16, wires: &[(u16, u16)]) -> ArrayVec<u16, MOST_NODES>
-    requires few { nodes ≤ MOST_NODES }
+    requires few { nodes ≤ 201 }
     requires ends { EndsBelow nodes wires.now }
     ensures { AreLabels nodes wires.now result.items (length wires.now) }
 {
@@ -24,7 +24,7 @@ pub(crate) fn labels_of(nodes: u16, wires: &[(u16, u16)]) -> ArrayVec<u16, MOST_
 
 // For each node its own number.
 fn own_labels(nodes: u16) -> ArrayVec<u16, MOST_NODES>
-    requires { nodes ≤ MOST_NODES }
+    requires { nodes ≤ 201 }
     ensures many { length result.items ≡ nodes }
     ensures own { (v : ℕ) → v < nodes → slice_index result.items v ≡ v }
 {

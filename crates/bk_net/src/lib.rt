@@ -49,7 +49,7 @@ impl Net {
     /// A net of so many nodes, with no wires.
     pub fn new(nodes: u16) -> Net
         requires some { 2 ≤ nodes }
-        requires few { nodes ≤ MOST_NODES }
+        requires few { nodes ≤ 201 }
         ensures { result ≡ record { nodes = nodes; wires = [] } }
     {
         Net {
@@ -60,7 +60,7 @@ impl Net {
 
     /// Appends a wire from one node to another. Its current counts as positive in this direction.
     pub fn add(&mut self, from: u16, to: u16)
-        requires room { length self.old.wires < MOST_WIRES }
+        requires room { length self.old.wires < 200 }
         requires from_node { from < self.old.nodes }
         requires to_node { to < self.old.nodes }
         requires differ { from ≢ to }

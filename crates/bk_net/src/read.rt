@@ -57,7 +57,7 @@ fn with_wire(
 
 // The net of so many nodes with the kept wires, unless there were more.
 fn net_item(nodes: u16, many: bool, wires: &[(u16, u16)]) -> Result<NetLine, NetFault>
-    requires few { length wires.now ≤ MOST_WIRES }
+    requires few { length wires.now ≤ 200 }
     ensures all { IfOk result (λ l. many ≡ false) }
     ensures item { IfOk result (λ l. stands_for l ≡ Item nodes wires.now) }
     ensures kept { IfOk result IsKeptLine }
@@ -95,7 +95,7 @@ fn first_fault(nodes: u16, wires: &[(u16, u16)]) -> Option<usize>
 // The net of so many nodes with these wires.
 fn net_with(nodes: u16, wires: &[(u16, u16)]) -> Net
     requires count { IsNodeCount nodes }
-    requires few { length wires.now ≤ MOST_WIRES }
+    requires few { length wires.now ≤ 200 }
     requires ends { All (JoinsNodes nodes) wires.now }
     ensures { result ≡ record { nodes = nodes; wires = wires.now } }
 {

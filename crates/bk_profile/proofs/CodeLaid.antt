@@ -9,7 +9,6 @@ use Rattle.bk_tiling.specs.Kept.{IsKept, IsSide}
 use Rattle.bk_tiling.specs.Tiling.{IsTiling, Tiling}
 use Rattle.bk_tiling.specs.declared.Segment.{Segment}
 use Rattle.bk_tiling.specs.declared.Square.{Square}
-use Rattle.bk_tiling.specs.declared.TheConstants.{LONGEST_SIDE}
 use Rattle.bk_code.specs.Code.{Code, flat}
 use Rattle.bk_code.specs.Kept.{IsKeptCode, IsSideGroup}
 use Rattle.bk_profile.proofs.CodeLaying.{a_code_is_laid}
@@ -86,10 +85,10 @@ kept_even p least greatest out low high even narrow small = record {
     count : length p.squares ≡ 0 + length (flat out.code)
     count = lays_length p.width [] out.code p.squares out.lays
 
-pub sum_bounds : (sides : List ℕ) → AllByRecursion IsSide sides → (sum sides ≤ length sides * LONGEST_SIDE) × (length sides ≤ sum sides)
+pub sum_bounds : (sides : List ℕ) → AllByRecursion IsSide sides → (sum sides ≤ length sides * 999_999_999_999_999) × (length sides ≤ sum sides)
 sum_bounds [] good = (omega arith, omega arith)
 sum_bounds (s ∷ sides) good =
-    let rest : (sum sides ≤ length sides * LONGEST_SIDE) × (length sides ≤ sum sides) = sum_bounds sides good.1 in
+    let rest : (sum sides ≤ length sides * 999_999_999_999_999) × (length sides ≤ sum sides) = sum_bounds sides good.1 in
     let total : sum (s ∷ sides) ≡ s + sum sides = sum_by-cons (λ (n : ℕ). n) s sides in
     (omega (arith, good.0.1, rest.0), omega (arith, good.0.0, rest.1))
 
@@ -97,6 +96,6 @@ sum_bounds (s ∷ sides) good =
 pub width_bounds : (code : Code) → IsKeptCode code → 0 < length code → (0 < first_sum code) × (first_sum code ≤ 200000000000000000)
 width_bounds [] kept some = absurd (omega arith)
 width_bounds (group ∷ code) kept some =
-    let b : (sum group ≤ length group * LONGEST_SIDE) × (length group ≤ sum group) = sum_bounds group kept.groups.0.1 in
+    let b : (sum group ≤ length group * 999_999_999_999_999) × (length group ≤ sum group) = sum_bounds group kept.groups.0.1 in
     let few : length group ≤ 200 = omega (arith, kept.few, length-append group (flat code)) in
     (omega (arith, b.1, kept.groups.0.0), omega (arith, b.0, few))

@@ -9,7 +9,6 @@ use Rattle.bk_laws.proofs.AllOfLists.{all_left, all_right}
 use Rattle.bk_tiling.specs.Kept.{IsSide}
 use Rattle.bk_tiling.specs.Tiling.{Tiling}
 use Rattle.bk_tiling.specs.declared.Segment.{Segment}
-use Rattle.bk_tiling.specs.declared.TheConstants.{MOST_SQUARES}
 use Rattle.bk_code.proofs.FlatList.{a_flat_list_fixes_a_tiling}
 use Rattle.bk_code.proofs.GroupSteps.{side_groups}
 use Rattle.bk_code.proofs.Storing.{flat_more}
@@ -42,11 +41,11 @@ pub first_turn : (width : ℕ) (sides : List ℕ) (p : Laid) → p ≡ record { 
 first_turn width sides p new = subst (λ (q : Laid). Dividing width sides 1 q sides) (sym new)
     (record { code = []; width_is = refl; lays = refl; number_is = refl; flat_is = refl; good = tt; goes_on = λ more d. d })
 
-module _ (width : ℕ) (sides : List ℕ) (number : ℕ) (p : Laid) (rest : List ℕ) (turn : Dividing width sides number p rest) (few : length sides ≤ MOST_SQUARES) (good : AllByRecursion IsSide sides) where
+module _ (width : ℕ) (sides : List ℕ) (number : ℕ) (p : Laid) (rest : List ℕ) (turn : Dividing width sides number p rest) (few : length sides ≤ 200) (good : AllByRecursion IsSide sides) where
   count : length p.squares + length rest ≡ length sides
   count = omega (arith, lays_length width [] turn.code p.squares turn.lays, ap length turn.flat_is, length-append (flat turn.code) rest)
 
-  pub rest_few : length rest ≤ MOST_SQUARES
+  pub rest_few : length rest ≤ 200
   rest_few = omega (arith, count, few)
 
   pub rest_good : AllByRecursion IsSide rest
@@ -64,7 +63,7 @@ module _ (width : ℕ) (sides : List ℕ) (number : ℕ) (p : Laid) (rest : List
     pub group_good : AllByRecursion IsSide group
     group_good = all_left IsSide group left (subst (AllByRecursion IsSide) (sym split) rest_good)
 
-    pub group_room : length p.squares + length group ≤ MOST_SQUARES
+    pub group_room : length p.squares + length group ≤ 200
     group_room = omega (arith, count, few, ap length split, length-append group left)
 
     here : IsGap width p.squares gap
@@ -122,7 +121,7 @@ module _ (width : ℕ) (sides : List ℕ) (number : ℕ) (p : Laid) (rest : List
         same = gap_unique p.width p.squares m.gap gap m.is_gap is
 
 -- after the last turn
-module _ (width : ℕ) (sides : List ℕ) (number : ℕ) (p : Laid) (rest : List ℕ) (turn : Dividing width sides number p rest) (few : length sides ≤ MOST_SQUARES) (some : 0 < length sides) (over : rest ≡ []) where
+module _ (width : ℕ) (sides : List ℕ) (number : ℕ) (p : Laid) (rest : List ℕ) (turn : Dividing width sides number p rest) (few : length sides ≤ 200) (some : 0 < length sides) (over : rest ≡ []) where
   pub flat_all : flat turn.code ≡ sides
   flat_all = sym (append-nil (flat turn.code)) ∙ ap (λ (l : List ℕ). flat turn.code ++ l) (sym over) ∙ turn.flat_is
 
@@ -172,7 +171,7 @@ abbrev whole_gap : ℕ → Segment
 whole_gap width = record { x = 0; width = width; level = 0 }
 
 -- a width that no sum of sides reaches
-pub too_wide : (width total : ℕ) (sides : List ℕ) → 0 < length sides → length sides ≤ MOST_SQUARES → AllByRecursion IsSide sides → 199999999999999800 < width → total ≡ sum sides → IsFlatRefused width sides (Gap 1 width total)
+pub too_wide : (width total : ℕ) (sides : List ℕ) → 0 < length sides → length sides ≤ 200 → AllByRecursion IsSide sides → 199999999999999800 < width → total ≡ sum sides → IsFlatRefused width sides (Gap 1 width total)
 too_wide width total [] some few good wide is = absurd (omega arith)
 too_wide width total (s ∷ sides) some few good wide is = record {
   code = (s ∷ sides) ∷ [];

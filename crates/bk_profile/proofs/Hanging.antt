@@ -12,7 +12,6 @@ use Rattle.bk_tiling.specs.SquareGroups.{laid_group}
 use Rattle.bk_tiling.specs.Tiling.{IsOneOf}
 use Rattle.bk_tiling.specs.declared.Segment.{Segment}
 use Rattle.bk_tiling.specs.declared.Square.{Square}
-use Rattle.bk_tiling.specs.declared.TheConstants.{LONGEST_SIDE}
 use Rattle.bk_profile.proofs.RunStarts.{no_run}
 use Rattle.bk_profile.specs.Gap.{IsGap}
 use Rattle.bk_profile.specs.Outline.{AreLevel, IsLowest, IsOutline, run_under, runs_under, start, width_of}
@@ -53,7 +52,7 @@ under_some level [] good k d l = absurd (omega arith)
 under_some level (s ∷ sides) good zero d l = good.0.0
 under_some level (s ∷ sides) good (suc k) d l = under_some level sides good.1 k d (omega arith)
 
-under_low : (level : ℕ) (sides : List ℕ) (most : ℕ) → AllByRecursion IsSide sides → level + LONGEST_SIDE ≤ most → All (λ (r : Run). r.level ≤ most) (runs_under level sides)
+under_low : (level : ℕ) (sides : List ℕ) (most : ℕ) → AllByRecursion IsSide sides → level + 999_999_999_999_999 ≤ most → All (λ (r : Run). r.level ≤ most) (runs_under level sides)
 under_low level [] most good low k d l = absurd (omega arith)
 under_low level (s ∷ sides) most good low zero d l = omega (arith, good.0.1)
 under_low level (s ∷ sides) most good low (suc k) d l = under_low level sides most good.1 low k d (omega arith)
@@ -108,8 +107,8 @@ module _ (w : ℕ) (laid : List Square) (runs : List Run) (a b : ℕ) (gap : Seg
   longer : length new ≡ length laid + length sides
   longer = omega (arith, length-append laid (laid_group gap.x gap.level sides), length_group gap.x gap.level sides)
 
-  most : length laid * LONGEST_SIDE ≤ length new * LONGEST_SIDE
-  most = omega (arith, ap (λ n. n * LONGEST_SIDE) longer)
+  most : length laid * 999_999_999_999_999 ≤ length new * 999_999_999_999_999
+  most = omega (arith, ap (λ n. n * 999_999_999_999_999) longer)
 
   pub outline_laid : 0 < length sides → IsOutline w new hung
   outline_laid some = record {
@@ -130,9 +129,9 @@ module _ (w : ℕ) (laid : List Square) (runs : List Run) (a b : ℕ) (gap : Seg
       lowest.some,
       lowest.within,
     );
-    low = All-append (λ (r : Run). r.level ≤ length new * LONGEST_SIDE) (take a runs ++ runs_under gap.level sides) (drop b runs)
-        (All-append (λ (r : Run). r.level ≤ length new * LONGEST_SIDE) (take a runs) (runs_under gap.level sides)
-        (all_take (λ (r : Run). r.level ≤ length new * LONGEST_SIDE) runs a (omega (arith, first)) (all_lower (length laid * LONGEST_SIDE) (length new * LONGEST_SIDE) runs most outline.low))
-        (under_low gap.level sides (length new * LONGEST_SIDE) good (omega (arith, level no_run, outline.low a no_run first, ap (λ n. n * LONGEST_SIDE) longer, some))))
-        (all_drop (λ (r : Run). r.level ≤ length new * LONGEST_SIDE) runs b (all_lower (length laid * LONGEST_SIDE) (length new * LONGEST_SIDE) runs most outline.low));
+    low = All-append (λ (r : Run). r.level ≤ length new * 999_999_999_999_999) (take a runs ++ runs_under gap.level sides) (drop b runs)
+        (All-append (λ (r : Run). r.level ≤ length new * 999_999_999_999_999) (take a runs) (runs_under gap.level sides)
+        (all_take (λ (r : Run). r.level ≤ length new * 999_999_999_999_999) runs a (omega (arith, first)) (all_lower (length laid * 999_999_999_999_999) (length new * 999_999_999_999_999) runs most outline.low))
+        (under_low gap.level sides (length new * 999_999_999_999_999) good (omega (arith, level no_run, outline.low a no_run first, ap (λ n. n * 999_999_999_999_999) longer, some))))
+        (all_drop (λ (r : Run). r.level ≤ length new * 999_999_999_999_999) runs b (all_lower (length laid * 999_999_999_999_999) (length new * 999_999_999_999_999) runs most outline.low));
   }

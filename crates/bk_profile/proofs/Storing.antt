@@ -9,7 +9,6 @@ use Rattle.bk_tiling.specs.Kept.{IsSide}
 use Rattle.bk_tiling.specs.SquareGroups.{laid_group}
 use Rattle.bk_tiling.specs.declared.Segment.{Segment}
 use Rattle.bk_tiling.specs.declared.Square.{Square}
-use Rattle.bk_tiling.specs.declared.TheConstants.{LONGEST_SIDE, MOST_SQUARES}
 use Rattle.bk_profile.proofs.Hanging.{outline_laid}
 use Rattle.bk_profile.proofs.RunStarts.{gap_from_runs, greatest_depth, least_depth, no_run}
 use Rattle.bk_profile.specs.Gap.{Fits, IsGap, with_group}
@@ -48,7 +47,7 @@ module _ (p : Laid) (runs once twice : List Run) (places : ℕ × ℕ) (gap : Se
   gap_read = gap_from_runs p.width p.squares runs places.0 places.1 gap stored.outline lowest_runs x_is end_is level_is
 
   -- the gap's level and right end are small numbers
-  pub level_small : gap.level ≤ MOST_SQUARES * LONGEST_SIDE
+  pub level_small : gap.level ≤ 200 * 999_999_999_999_999
   level_small = omega (
     arith,
     level_is no_run,
@@ -59,7 +58,7 @@ module _ (p : Laid) (runs once twice : List Run) (places : ℕ × ℕ) (gap : Se
   pub end_small : gap.x + gap.width ≤ 200000000000000000
   end_small = let a = (gap_read.flat).within in let b = (stored.profile).narrow in omega arith
 
-  pub stored_laid : (sides : List ℕ) → Fits gap sides → AllByRecursion IsSide sides → 0 < length sides → length p.squares + length sides ≤ MOST_SQUARES
+  pub stored_laid : (sides : List ℕ) → Fits gap sides → AllByRecursion IsSide sides → 0 < length sides → length p.squares + length sides ≤ 200
       → IsStored (record { width = p.width; squares = with_group p.squares gap sides }) ((take places.0 runs ++ runs_under gap.level sides) ++ drop places.1 runs)
   stored_laid sides fits good some room = record {
     profile = record {

@@ -5,11 +5,9 @@ use Rattle.std.proofs.Common.{List, [], ap, arith, drop, get_or, length, refl, s
 use Rattle.std.proofs.lemmas.List.{append_assoc, drop_more, length-append, length-take-le, take-append-drop, take_all, take_more}
 use Rattle.bk_tiling.proofs.NextCorner.{same_tiling}
 use Rattle.bk_tiling.specs.Tiling.{Tiling}
-use Rattle.bk_tiling.specs.declared.TheConstants.{MOST_SQUARES}
 use Rattle.bk_code.proofs.GroupSteps.{side_groups}
-use Rattle.bk_code.proofs.Storing.{group_good}
 use Rattle.bk_code.specs.Code.{Code, flat}
-use Rattle.bk_code.specs.Kept.{IsKeptCode, IsSideGroup}
+use Rattle.bk_code.specs.Kept.{IsKeptCode}
 use Rattle.bk_profile.proofs.CodeLaid.{laid_out, lays_code, no_misfit, not_open, width_is}
 use Rattle.bk_profile.proofs.LayingOnce.{lays_length, lays_push, lays_unique}
 use Rattle.bk_profile.specs.Gap.{IsGap, LaysTo, with_group}
@@ -26,11 +24,7 @@ flat_append (group ∷ code) more = ap (λ (l : List ℕ). group ++ l) (flat_app
 split_at : (code : Code) (k : ℕ) → k < length code → code ≡ take k code ++ get_or code k [] ∷ drop (k + 1) code
 split_at code k l = sym (take-append-drop k code) ∙ ap (λ (c : Code). take k code ++ c) (drop_more code k [] l)
 
--- a group that is read
-pub read_good : (code : Code) (k : ℕ) (group : List ℕ) → IsKeptCode code → k < length code → group ≡ get_or code k [] → IsSideGroup group
-read_good code k group kept l is = subst IsSideGroup (sym is) (group_good code k kept.groups l)
-
-pub read_room : (code : Code) (k : ℕ) (group : List ℕ) (n : ℕ) → IsKeptCode code → k < length code → group ≡ get_or code k [] → n ≡ length (flat (take k code)) → n + length group ≤ MOST_SQUARES
+pub read_room : (code : Code) (k : ℕ) (group : List ℕ) (n : ℕ) → IsKeptCode code → k < length code → group ≡ get_or code k [] → n ≡ length (flat (take k code)) → n + length group ≤ 200
 read_room code k group n kept l is count =
     omega (
       arith,
@@ -42,9 +36,6 @@ read_room code k group n kept l is count =
       length-append (flat (take k code)) (get_or code k [] ++ flat (drop (k + 1) code)),
       length-append (get_or code k []) (flat (drop (k + 1) code)),
     )
-
-pub read_few : (code : Code) (k : ℕ) (group : List ℕ) → IsKeptCode code → k < length code → group ≡ get_or code k [] → length group ≤ MOST_SQUARES
-read_few code k group kept l is = omega (arith, read_room code k group (length (flat (take k code))) kept l is refl)
 
 pub first_read : (code : Code) (group : List ℕ) (n : ℕ) → 0 < length code → group ≡ get_or code 0 [] → n ≡ sum group → n ≡ first_sum code
 first_read [] group n some is e = absurd (omega arith)

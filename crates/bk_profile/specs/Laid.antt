@@ -4,7 +4,6 @@ use Rattle.bk_tiling.specs.Column.{IsFilled, depth}
 use Rattle.bk_tiling.specs.Tiling.{IsTiling, Tiling}
 use Rattle.bk_tiling.specs.declared.Segment.{Segment}
 use Rattle.bk_tiling.specs.declared.Square.{Square}
-use Rattle.bk_tiling.specs.declared.TheConstants.{MOST_SQUARES}
 use Rattle.bk_code.specs.Code.{Code}
 use Rattle.bk_code.specs.Kept.{IsKeptCode}
 use Rattle.bk_profile.specs.Gap.{Fits, IsGap, LaysTo, with_group}
@@ -17,8 +16,8 @@ pub record Laid : Type 0 where
 -- what holds of each `Profile`
 pub record IsProfile (p : Laid) : Type 0 where
   pub some : 0 < p.width
-  pub narrow : p.width ≤ 200000000000000000
-  pub few : length p.squares ≤ MOST_SQUARES
+  pub narrow : p.width ≤ 200_000_000_000_000_000
+  pub few : length p.squares ≤ 200
   -- each cell above a column's depth lies in exactly one of the squares
   pub filled : IsFilled p.width p.squares
 

@@ -3,7 +3,6 @@ use Rattle.std.specs.List.{All}
 use Rattle.std.specs.Prelude.{List, [], length, map, slice_index_or, sum_by, take, ℕ, ⊤, ◌*◌, ◌++◌, ◌+◌, ◌<◌, ◌∷◌, ◌≡◌, ◌≤◌}
 use Rattle.bk_tiling.specs.Column.{depth}
 use Rattle.bk_tiling.specs.declared.Square.{Square}
-use Rattle.bk_tiling.specs.declared.TheConstants.{LONGEST_SIDE}
 use Rattle.bk_profile.specs.declared.runs.Run.{Run}
 
 -- how many columns the runs have
@@ -25,7 +24,7 @@ pub record IsOutline (width : ℕ) (laid : List Square) (runs : List Run) : Type
   pub whole : width_of runs ≡ width
   pub level : AreLevel laid 0 runs
   pub few : length runs ≤ length laid + 1
-  pub low : All (λ r. r.level ≤ length laid * LONGEST_SIDE) runs
+  pub low : All (λ r. r.level ≤ length laid * 999_999_999_999_999) runs
 
 -- among the first n runs those from place a up to b are the leftmost ones of least level that touch
 pub record IsLowest (runs : List Run) (n a b : ℕ) : Type 0 where

@@ -21,9 +21,9 @@ const WIDEST: u64 = 199_999_999_999_999_800;
 /// division is our own.
 pub fn lay_flat(width: u64, sides: &[u64]) -> Result<Tiling, Refusal>
     requires wide { 0 < width }
-    requires narrow { width ≤ 999999999999999999 }
+    requires narrow { width ≤ 999_999_999_999_999_999 }
     requires some { 0 < length sides.now }
-    requires few { length sides.now ≤ MOST_SQUARES }
+    requires few { length sides.now ≤ 200 }
     requires sides { AllByRecursion IsSide sides.now }
     ensures ok { IfOk result (HasFlat width sides.now) }
     ensures only { (t : Tiled) → HasFlat width sides.now t → IsOkAnd result (λ u. u ≡ t) }
@@ -61,7 +61,7 @@ pub fn lay_flat(width: u64, sides: &[u64]) -> Result<Tiling, Refusal>
 fn group_len(gap: u64, rest: &[u64]) -> usize
     requires gap { 0 < gap }
     requires some { 0 < length rest.now }
-    requires few { length rest.now ≤ MOST_SQUARES }
+    requires few { length rest.now ≤ 200 }
     requires sides { AllByRecursion IsSide rest.now }
     ensures group { take result rest.now ≡ next_group gap rest.now }
     ensures some { 0 < result }

@@ -45,7 +45,7 @@ impl Profile {
     /// The profile of this width, 1 to 200,000,000,000,000,000, with no square laid.
     pub fn new(width: u64) -> Profile
         requires some { 0 < width }
-        requires narrow { width ≤ 200000000000000000 }
+        requires narrow { width ≤ 200_000_000_000_000_000 }
         ensures { result ≡ record { width = width; squares = [] } }
     {
         let mut outline = ArrayVec::new();
@@ -71,7 +71,7 @@ impl Profile {
     pub fn lay(&mut self, sides: &[u64]) -> Result<(), GapFault>
         requires some { 0 < length sides.now }
         requires sides { AllByRecursion IsSide sides.now }
-        requires room { length self.old.squares + length sides.now ≤ MOST_SQUARES }
+        requires room { length self.old.squares + length sides.now ≤ 200 }
         ensures ok { OnOk result (LaysGroup self.old sides.now self.new) }
         ensures err { IfErr result (λ fault. MisfitsGap self.old sides.now fault.gap fault.sum) }
         ensures same { OnErr result (self.new ≡ self.old) }
@@ -132,7 +132,7 @@ impl Profile {
 
 // The sum of sides.
 pub(crate) fn sum_of(sides: &[u64]) -> u64
-    requires few { length sides.now ≤ MOST_SQUARES }
+    requires few { length sides.now ≤ 200 }
     requires sides { AllByRecursion IsSide sides.now }
     ensures { result ≡ sum sides.now }
 {
@@ -145,7 +145,7 @@ pub(crate) fn sum_of(sides: &[u64]) -> u64
 
 // Appends the squares of a group under a gap.
 fn push_group(laid: &mut ArrayVec<Square, MOST_SQUARES>, gap: Segment, sides: &[u64])
-    requires room { length laid.old.items + length sides.now ≤ MOST_SQUARES }
+    requires room { length laid.old.items + length sides.now ≤ 200 }
     requires fits { gap.x + sum sides.now < 2 ^ 63 }
     ensures { laid.new.items ≡ laid.old.items ++ laid_group gap.x gap.level sides.now }
 {

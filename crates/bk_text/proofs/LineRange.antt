@@ -4,7 +4,6 @@ use Rattle.std.specs.Prelude.{Bool, Err, IfErr, IfOk, List, Ok, OnErr, Result, [
 use Rattle.std.proofs.Common.{arith, subst, sym}
 use Rattle.bk_grammar.specs.Grammar.{Number}
 use Rattle.bk_tiling.specs.Kept.{IsSide}
-use Rattle.bk_tiling.specs.declared.TheConstants.{MOST_SQUARES}
 use Rattle.bk_text.specs.CodeLine.{Flat, IsLine, Item, Line, Skip, TableSides}
 use Rattle.bk_text.specs.ReadLine.{IsFaultOf, IsInRange, sides_of_line, stands_for}
 use Rattle.bk_text.specs.declared.Line.{Line as LineRead}
@@ -20,7 +19,7 @@ column_range [] bs h = absurd h
 column_range (n ∷ []) bs (a, x, e, gap, side) = (omega arith, (side_range n x side, tt))
 column_range (n ∷ m ∷ ns) bs (a, x, e, gap, (f, y, e', side, rest)) = let others = column_range (m ∷ ns) y rest in (omega arith, (side_range n f side, others.1))
 
-pub line_range : (l : Line) (bs : List ℕ) → IsLine l bs → length (sides_of_line l) ≤ MOST_SQUARES → IsInRange l
+pub line_range : (l : Line) (bs : List ℕ) → IsLine l bs → length (sides_of_line l) ≤ 200 → IsInRange l
 line_range Skip bs h few = tt
 line_range (Item order size []) bs (a, x, e, blanks, (f, y, e', header, (k, z, e'', groups, end))) few = absurd groups
 line_range (Item order size (g ∷ gs)) bs h few = omega arith
@@ -34,7 +33,7 @@ pub read_is : (r : Result LineRead TextFault) (l : Line) (many : Bool) (bs : Lis
 read_is (Ok x) l many bs few is line = subst (λ (z : Line). IsLine z bs) (sym is) (line few)
 read_is (Err fault) l many bs few is line = tt
 
-pub range_is : (r : Result LineRead TextFault) (bs : List ℕ) → IfOk r (λ x. IsLine (stands_for x) bs) → IfOk r (λ x. length (sides_of_line (stands_for x)) ≤ MOST_SQUARES) → IfOk r (λ x. IsInRange (stands_for x))
+pub range_is : (r : Result LineRead TextFault) (bs : List ℕ) → IfOk r (λ x. IsLine (stands_for x) bs) → IfOk r (λ x. length (sides_of_line (stands_for x)) ≤ 200) → IfOk r (λ x. IsInRange (stands_for x))
 range_is (Ok x) bs line few = line_range (stands_for x) bs line few
 range_is (Err fault) bs line few = tt
 

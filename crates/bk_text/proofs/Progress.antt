@@ -5,7 +5,6 @@ use Rattle.std.proofs.lemmas.Grind.{flat_map-append}
 use Rattle.std.proofs.lemmas.List.{append-nil, take_more}
 use Rattle.bk_code.specs.Code.{flat}
 use Rattle.bk_tiling.specs.Kept.{IsSide}
-use Rattle.bk_tiling.specs.declared.TheConstants.{MOST_SQUARES}
 use Rattle.bk_text.specs.CodeLine.{Flat, IsLine, IsNoLine, Item, Line}
 use Rattle.bk_text.specs.Gathered.{Gathered, IsGathered, gathered_after, kept_count, line_gathered, nothing_gathered, with_closed, with_ended, with_group, with_side}
 use Rattle.bk_text.specs.ReadLine.{sides_of_line}
@@ -27,7 +26,7 @@ use Rattle.bk_text.proofs.WhatWasRead.{read_is_line}
 pub record Keeps (g : Gathered) (t : Lists) : Type 0 where
   pub groups : g.many ≡ false → g.groups ≡ t.groups
   pub sides : g.many ≡ false → g.sides ≡ t.sides
-  pub more : g.many ≡ true → MOST_SQUARES < read_count t
+  pub more : g.many ≡ true → 200 < read_count t
 
 pub record Progress (front : List ℕ) (p : Place) (g : Gathered) : Type 0 where
   pub lists : Lists
@@ -40,7 +39,7 @@ at_start = record { lists = no_lists; leads = λ x. refl; fits = refl; keeps = r
 
 -- a side is kept, or is one too many
 keeps_side : (n : ℕ) (g : Gathered) (t : Lists) → IsGathered g → Keeps g t → Keeps (with_side n g) (record { groups = t.groups; sides = t.sides ++ n ∷ [] })
-keeps_side n g t is keeps = cases (nat_lt (kept_count g) MOST_SQUARES) (λ e. ltb-true (kept_count g) MOST_SQUARES e) (λ e. ltb-false (kept_count g) MOST_SQUARES e)
+keeps_side n g t is keeps = cases (nat_lt (kept_count g) 200) (λ e. ltb-true (kept_count g) 200 e) (λ e. ltb-false (kept_count g) 200 e)
   where
     longer : length (t.sides ++ n ∷ []) ≡ length t.sides + 1
     longer = length-append t.sides (n ∷ [])
@@ -48,11 +47,11 @@ keeps_side n g t is keeps = cases (nat_lt (kept_count g) MOST_SQUARES) (λ e. lt
     all : g.many ≡ false → kept_count g ≡ read_count t
     all few = λ i. length (flat (keeps.groups few i)) + length (keeps.sides few i)
 
-    which : (many : Bool) → g.many ≡ many → MOST_SQUARES ≤ kept_count g → MOST_SQUARES < length (flat t.groups) + length (t.sides ++ n ∷ [])
+    which : (many : Bool) → g.many ≡ many → 200 ≤ kept_count g → 200 < length (flat t.groups) + length (t.sides ++ n ∷ [])
     which true e full = omega (arith, keeps.more e, longer)
     which false e full = omega (arith, all e, longer, full)
 
-    cases : (room : Bool) → (room ≡ true → kept_count g < MOST_SQUARES) → (room ≡ false → MOST_SQUARES ≤ kept_count g)
+    cases : (room : Bool) → (room ≡ true → kept_count g < 200) → (room ≡ false → 200 ≤ kept_count g)
         → Keeps (if room then record { groups = g.groups; sides = g.sides ++ n ∷ []; many = g.many } else record { groups = g.groups; sides = g.sides; many = true }) (record { groups = t.groups; sides = t.sides ++ n ∷ [] })
     cases true fits full = record {
       groups = keeps.groups;
@@ -98,7 +97,7 @@ abbrev with_room : Bool → ℕ → Gathered → Gathered
 with_room room n g = if room then record { groups = g.groups; sides = g.sides ++ n ∷ []; many = g.many } else record { groups = g.groups; sides = g.sides; many = true }
 
 side_added : (n : ℕ) (g : Gathered) → (with_side n g).many ≡ false → 0 < length (with_side n g).sides
-side_added n g few = cases (nat_lt (kept_count g) MOST_SQUARES) few
+side_added n g few = cases (nat_lt (kept_count g) 200) few
   where
     cases : (room : Bool) → (with_room room n g).many ≡ false → 0 < length (with_room room n g).sides
     cases true few' = omega (arith, length-append g.sides (n ∷ []))
@@ -153,7 +152,7 @@ line_found bs p g ending progress is ends few =
     (whole_line bs p g ending progress ends)
 
 pub many_found : (bs : List ℕ) (p : Place) (g : Gathered) (ending : Ending) → Progress bs p g → IsGathered g → ending_at p ≡ Some ending
-    → (with_ended (last_side p) g).many ≡ true → (line : Line) × IsLine line bs × (MOST_SQUARES < length (sides_of_line line))
+    → (with_ended (last_side p) g).many ≡ true → (line : Line) × IsLine line bs × (200 < length (sides_of_line line))
 many_found bs p g ending progress is ends many =
     let keeps = keeps_ended (last_side p) g progress.lists is progress.keeps in (
       line_of ending (and_side (last_side p) progress.lists),

@@ -3,7 +3,6 @@ use Rattle.std.specs.List.{AllByRecursion}
 use Rattle.std.specs.Prelude.{Bool, List, None, Option, Some, [], false, if◌then◌else◌, length, nat_lt, true, ℕ, ◌++◌, ◌+◌, ◌∷◌, ◌≡◌, ◌≤◌}
 use Rattle.bk_code.specs.Code.{flat}
 use Rattle.bk_tiling.specs.Kept.{IsSide}
-use Rattle.bk_tiling.specs.declared.TheConstants.{MOST_SQUARES}
 use Rattle.bk_text.specs.CodeLine.{Flat, Item, Line, Skip}
 use Rattle.bk_text.specs.declared.reader.Ending.{Ending}
 use Rattle.bk_text.specs.declared.reader.Ending.TheVariants.{Coded, Empty, Row}
@@ -24,8 +23,8 @@ kept_count g = length (flat g.groups) + length g.sides
 -- what holds of the sides that are kept
 pub record IsGathered (g : Gathered) : Type 0 where
   pub each : AllByRecursion IsSide g.sides
-  pub few : kept_count g ≤ MOST_SQUARES
-  pub full : g.many ≡ true → kept_count g ≡ MOST_SQUARES
+  pub few : kept_count g ≤ 200
+  pub full : g.many ≡ true → kept_count g ≡ 200
 
 abbrev pub nothing_gathered : Gathered
 nothing_gathered = record { groups = []; sides = []; many = false }
@@ -33,7 +32,7 @@ nothing_gathered = record { groups = []; sides = []; many = false }
 -- with a further side, which is kept where there is room
 abbrev pub with_side : ℕ → Gathered → Gathered
 with_side n g =
-    if nat_lt (kept_count g) MOST_SQUARES then record { groups = g.groups; sides = g.sides ++ n ∷ []; many = g.many }
+    if nat_lt (kept_count g) 200 then record { groups = g.groups; sides = g.sides ++ n ∷ []; many = g.many }
     else record { groups = g.groups; sides = g.sides; many = true }
 
 -- with the open group closed

@@ -3,7 +3,6 @@ use Rattle.std.specs.List.{AllByRecursion}
 use Rattle.std.specs.Prelude.{List, [], length, ℕ, ◌<◌, ◌^◌, ◌≤◌}
 use Rattle.bk_code.specs.Code.{flat}
 use Rattle.bk_tiling.specs.Kept.{IsSide}
-use Rattle.bk_tiling.specs.declared.TheConstants.{MOST_SQUARES}
 use Rattle.bk_text.specs.CodeLine.{Flat, IsLine, IsNoLine, Item, Line, Skip}
 use Rattle.bk_text.specs.declared.Line.{Line as LineRead}
 use Rattle.bk_text.specs.declared.Line.TheVariants as read
@@ -31,10 +30,10 @@ abbrev pub IsInRange : Line → Type 0
 IsInRange Skip = Unit {0}
 IsInRange (Item order size code) = 0 < length code
 IsInRange (Flat order width height sides) =
-    IsHeaderNumber order × IsHeaderNumber width × IsHeaderNumber height × (0 < length sides) × (length sides ≤ MOST_SQUARES)
+    IsHeaderNumber order × IsHeaderNumber width × IsHeaderNumber height × (0 < length sides) × (length sides ≤ 200)
     × AllByRecursion IsSide sides
 
 -- why bytes are refused: they leave the grammar of lines behind `at` bytes, or are a line of more than 200 sides
 abbrev pub IsFaultOf : TextFault → List ℕ → Type 0
 IsFaultOf (Text at) bytes = IsNoLine bytes at
-IsFaultOf Many bytes = (line : Line) × IsLine line bytes × (MOST_SQUARES < length (sides_of_line line))
+IsFaultOf Many bytes = (line : Line) × IsLine line bytes × (200 < length (sides_of_line line))

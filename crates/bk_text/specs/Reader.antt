@@ -1,7 +1,5 @@
 -- A reader of a line, byte by byte: where it stands, and what it makes of each byte.
 use Rattle.std.specs.Prelude.{Bool, true, false, None, Option, Some, nat_le, if◌then◌else◌, ℕ, ◌&&◌, ◌*◌, ◌+◌, ◌-◌, ◌/◌, ◌==◌, ◌||◌}
-use Rattle.bk_tiling.specs.declared.TheConstants.{LONGEST_SIDE}
-use Rattle.bk_text.specs.declared.reader.TheConstants.{LARGEST_HEADER_NUMBER}
 use Rattle.bk_text.specs.declared.reader.Bracket.{Bracket}
 use Rattle.bk_text.specs.declared.reader.Bracket.TheVariants.{Round, Square}
 use Rattle.bk_text.specs.declared.reader.Ending.{Ending}
@@ -31,9 +29,9 @@ kind_of b =
 
 -- the greatest number that may stand in a field
 abbrev pub most : Field → ℕ
-most (Column table) = LONGEST_SIDE
-most (Side header bracket) = LONGEST_SIDE
-most field = LARGEST_HEADER_NUMBER
+most (Column table) = 999_999_999_999_999
+most (Side header bracket) = 999_999_999_999_999
+most field = 999_999_999_999_999_999
 
 -- behind a further digit of a number
 abbrev pub longer : Field → ℕ → ℕ → Option Place

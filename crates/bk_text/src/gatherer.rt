@@ -78,7 +78,7 @@ impl Gatherer {
     pub fn finish(self, ending: Ending) -> Result<Line, TextFault>
         ensures few { IfOk result (λ _. self.many ≡ false) }
         ensures line { IfOk result (λ line. stands_for line ≡ line_gathered ending self) }
-        ensures fits { IfOk result (λ line. length (sides_of_line (stands_for line)) ≤ MOST_SQUARES) }
+        ensures fits { IfOk result (λ line. length (sides_of_line (stands_for line)) ≤ 200) }
         ensures many { IfErr result (λ fault. fault ≡ TextFault.Many) }
         ensures full { OnErr result (self.many ≡ true) }
     {

@@ -9,7 +9,6 @@ use Rattle.bk_tiling.proofs.TilingLaws.{cell_once, side_of, wide_enough, within_
 use Rattle.bk_tiling.specs.Kept.{IsKept, IsSide}
 use Rattle.bk_tiling.specs.Tiling.{IsOneOf, IsTiling, Tiling, covers}
 use Rattle.bk_tiling.specs.declared.Square.{Square}
-use Rattle.bk_tiling.specs.declared.TheConstants.{LONGEST_SIDE, MOST_SQUARES}
 
 -- the sum of f at the numbers below n
 abbrev total_below : ℕ → (ℕ → ℕ) → ℕ
@@ -83,15 +82,15 @@ height_of_sides t tiling = reach (λ q. q.y) t.height t.squares over
         let o = over_from 0 j found.0 found.2 in
         one_counted (λ q. in_span q.y q.s j) t.squares found.0 found.1 (and_from _ _ (le-leb _ _ o.top) (lt-ltb _ _ o.bottom))
 
-pub sides_end_to_end : (squares : List Square) → AllByRecursion (λ q. IsSide q.s) squares → sum_by (λ (q : Square). q.s) squares ≤ length squares * LONGEST_SIDE
+pub sides_end_to_end : (squares : List Square) → AllByRecursion (λ q. IsSide q.s) squares → sum_by (λ (q : Square). q.s) squares ≤ length squares * 999_999_999_999_999
 sides_end_to_end [] sides = omega arith
 sides_end_to_end (q ∷ squares) sides = omega (arith, sum_by-cons (λ (p : Square). p.s) q squares, sides.0.1, sides_end_to_end squares sides.1)
 
 -- of at most 200 squares with sides as long as a `Tiling` takes: the type of the code holds the size with room to spare
-pub width_of_few : (t : Tiling) → IsTiling t → length t.squares ≤ MOST_SQUARES → AllByRecursion (λ q. IsSide q.s) t.squares → t.width ≤ 199999999999999800
+pub width_of_few : (t : Tiling) → IsTiling t → length t.squares ≤ 200 → AllByRecursion (λ q. IsSide q.s) t.squares → t.width ≤ 199999999999999800
 width_of_few t tiling few sides = omega (arith, width_of_sides t tiling, sides_end_to_end t.squares sides)
 
-pub height_of_few : (t : Tiling) → IsTiling t → length t.squares ≤ MOST_SQUARES → AllByRecursion (λ q. IsSide q.s) t.squares → t.height ≤ 199999999999999800
+pub height_of_few : (t : Tiling) → IsTiling t → length t.squares ≤ 200 → AllByRecursion (λ q. IsSide q.s) t.squares → t.height ≤ 199999999999999800
 height_of_few t tiling few sides = omega (arith, height_of_sides t tiling, sides_end_to_end t.squares sides)
 
 pub most_width : (t : Tiling) → IsKept t → t.width ≤ 199999999999999800

@@ -2,16 +2,15 @@
 use Rattle.std.specs.List.{AllByRecursion}
 use Rattle.std.specs.Prelude.{length, ℕ, ◌<◌, ◌^◌, ◌≤◌}
 use Rattle.bk_tiling.specs.Tiling.{IsTiling, Tiling}
-use Rattle.bk_tiling.specs.declared.TheConstants.{LONGEST_SIDE, MOST_SQUARES}
 
 -- a side that a square may have
 abbrev pub IsSide : ℕ → Type 0
-IsSide s = (0 < s) × (s ≤ LONGEST_SIDE)
+IsSide s = (0 < s) × (s ≤ 999_999_999_999_999)
 
 -- what holds of each `Tiling`
 pub record IsKept (t : Tiling) : Type 0 where
   pub tiling : IsTiling t
-  pub few : length t.squares ≤ MOST_SQUARES
+  pub few : length t.squares ≤ 200
   pub sides : AllByRecursion (λ q. IsSide q.s) t.squares
   -- its size fits the types of the code
   pub width_fits : t.width < 2 ^ 64

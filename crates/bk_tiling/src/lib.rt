@@ -179,7 +179,7 @@ fn stands_beside(before: Square, here: Square) -> bool
 
 // The squares, put in code order.
 fn put_in_order(squares: &[Square]) -> ArrayVec<Square, MOST_SQUARES>
-    requires few { length squares.now ≤ MOST_SQUARES }
+    requires few { length squares.now ≤ 200 }
     requires apart { ShareNoCell squares.now }
     requires sides { HaveSides squares.now }
     ensures { result.items ≡ in_code_order squares.now }

@@ -33,13 +33,6 @@ count_here bytes i within h = ap moves_in (from_place bytes i within) ∙ at_cou
 pub sign_here : (bytes : List ℕ) (i : ℕ) → i < length bytes → is_count (get_or bytes i 0) ≡ false → moves_in (drop i bytes) ≡ moves_in (drop (i + 1) bytes)
 sign_here bytes i within h = ap moves_in (from_place bytes i within) ∙ at_sign (get_or bytes i 0) (drop (i + 1) bytes) h
 
--- the signs from a place on
-pub no_sign_here : (bytes : List ℕ) (i : ℕ) → i < length bytes → is_count (get_or bytes i 0) ≡ true → front_signs (drop i bytes) ≡ []
-no_sign_here bytes i within h = ap front_signs (from_place bytes i within) ∙ cond-true _ _ _ h
-
-pub further_sign : (bytes : List ℕ) (i : ℕ) → i < length bytes → is_count (get_or bytes i 0) ≡ false → front_signs (drop i bytes) ≡ sign_of (get_or bytes i 0) ∷ front_signs (drop (i + 1) bytes)
-further_sign bytes i within h = ap front_signs (from_place bytes i within) ∙ cond-false _ _ _ h
-
 -- as many counts as moves
 pub counts_moves : (bytes : List ℕ) → count_by is_count bytes ≡ length (moves_in bytes)
 counts_moves [] = refl

@@ -1,10 +1,10 @@
 -- What was taken of a text is the word that it is the text of.
 use Rattle.std.specs.List.{AllByRecursion}
-use Rattle.std.specs.Prelude.{List, [], ℕ, ◌∷◌, ◌<◌, ◌≡◌, ◌≤◌}
-use Rattle.std.proofs.Common.{arith, inl, inr, subst, sym, ◌∙◌}
+use Rattle.std.specs.Prelude.{List, [], length, ℕ, ◌∷◌, ◌<◌, ◌≡◌, ◌≤◌}
+use Rattle.std.proofs.Common.{ap, arith, inl, inr, subst, sym, ◌∙◌}
 use Rattle.std.proofs.lemmas.Bool.{cases_lt}
 use Rattle.bk_word.specs.KeptWord.{CanStand, IsKeptWord}
-use Rattle.bk_word.specs.Stored.{IsStored, moves_in}
+use Rattle.bk_word.specs.Stored.{IsStored, moves_in, stored}
 use Rattle.bk_word.specs.Taken.{KeepsTextOf}
 use Rattle.bk_word.specs.Word.{Word, order_of}
 use Rattle.bk_word.specs.WordText.{IsTextOf, IsWrittenMove}
@@ -34,3 +34,13 @@ many_squares w h = elim (cases_lt 16 (order_of w)) [
   | inl more ↦ more
   | inr few ↦ absurd (h few)
 ]
+
+-- and more than 64 bytes
+pub many_bytes : (bytes : List ℕ) → IsStored bytes → (length bytes ≤ 64 → ⊥) → 64 < length (stored (moves_in bytes))
+many_bytes bytes are h = elim (cases_lt 64 (length bytes)) [
+  | inl more ↦ omega (arith, more, same)
+  | inr few ↦ absurd (h few)
+]
+  where
+    same : length bytes ≡ length (stored (moves_in bytes))
+    same = ap (λ (z : List ℕ). length z) are.same

@@ -1,5 +1,5 @@
 -- A word that is played in two parts: what is played after the first, and that both are legal where the word is.
-use Rattle.std.proofs.Common.{[], ◌++◌, ◌+◌, ◌∷◌, refl, ◌≡◌}
+use Rattle.std.proofs.Common.{[], refl, ◌++◌, ◌∷◌, ◌≡◌}
 use Rattle.bk_word.specs.Outline.{Outline}
 use Rattle.bk_word.specs.Play.{AreLegalFrom, after_move, after_moves}
 use Rattle.bk_word.specs.Word.{Word}

@@ -102,7 +102,14 @@ pushed bytes w m s is one few =
     let kept : IsKeptWord w = subst IsKeptWord is s.kept in
     stored_kept (bytes ++ stored_move m) (w ++ m ∷ []) (ap (λ (z : List ℕ). z ++ stored_move m) (s.same ∙ ap stored is) ∙ sym (stored_one w m)) (kept_one w m kept one few)
 
--- a move has room where so few squares are hung
+-- a move has room where the word then has at most 64 bytes
+pub has_bytes : (bytes : List ℕ) (w : Word) (m : Move) (capacity : ℕ) → IsKeptBuffer bytes capacity → moves_in bytes ≡ w
+    → length (stored w) + length (stored_move m) ≤ 64 → length bytes + length (stored_move m) ≤ capacity
+has_bytes bytes w m capacity kept is few =
+    let same : length bytes ≡ length (stored w) = ap (λ (z : List ℕ). length z) ((kept.stored).same ∙ ap stored is) in
+    omega (arith, same, kept.room)
+
+-- and so where so few squares are hung
 pub has_room : (bytes : List ℕ) (w : Word) (m : Move) (capacity : ℕ) → IsKeptBuffer bytes capacity → moves_in bytes ≡ w → CanStand m → order_of w + m.count ≤ 16
     → length bytes + length (stored_move m) ≤ capacity
 has_room bytes w m capacity kept is one few =

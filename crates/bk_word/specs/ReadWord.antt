@@ -1,14 +1,14 @@
 -- When the text of a word is refused.
-use Rattle.std.specs.Prelude.{List, ℕ, ◌<◌, ◌≤◌}
+use Rattle.std.specs.Prelude.{List, length, ℕ, ◌<◌, ◌≤◌}
+use Rattle.bk_word.specs.Stored.{stored}
 use Rattle.bk_word.specs.Word.{Word, order_of}
 use Rattle.bk_word.specs.WordText.{IsNoWordText, IsTextOf}
-use Rattle.bk_word.specs.declared.TheConstants.{INLINE_ORDER, LARGEST_ORDER}
 use Rattle.bk_word.specs.declared.reading.WordFault.{WordFault}
 use Rattle.bk_word.specs.declared.reading.WordFault.TheVariants.{Many, NoMemory, Text}
 
 -- why bytes are refused: they leave the grammar of words behind `at` bytes; or they are the text of a word, of more than
--- 200 squares; or of one that is to take memory, of more than 16 squares
+-- 200 squares; or of one that is to take memory, of more than 16 squares and more than 64 bytes
 abbrev pub IsFaultOf : WordFault → List ℕ → Type 0
 IsFaultOf (Text at) bytes = IsNoWordText bytes at
-IsFaultOf Many bytes = (w : Word) × IsTextOf bytes w × (LARGEST_ORDER < order_of w)
-IsFaultOf NoMemory bytes = (w : Word) × IsTextOf bytes w × (INLINE_ORDER < order_of w) × (order_of w ≤ LARGEST_ORDER)
+IsFaultOf Many bytes = (w : Word) × IsTextOf bytes w × (200 < order_of w)
+IsFaultOf NoMemory bytes = (w : Word) × IsTextOf bytes w × (16 < order_of w) × (order_of w ≤ 200) × (64 < length (stored w))

@@ -6,7 +6,6 @@ use Rattle.bk_word.specs.Word.{Move, Word}
 use Rattle.bk_word.specs.WordText.{letter}
 use Rattle.bk_word.specs.declared.Sign.{Sign}
 use Rattle.bk_word.specs.declared.Sign.TheVariants.{Above, Even, Under}
-use Rattle.bk_word.specs.declared.TheConstants.{INLINE_BYTES}
 
 -- the byte of a sign
 abbrev pub sign_byte : Sign → ℕ
@@ -52,4 +51,4 @@ pub record IsStored (bytes : List ℕ) : Type 0 where
 -- they stand in a buffer of so many bytes, which has at least those that need no memory
 pub record IsKeptBuffer (bytes : List ℕ) (capacity : ℕ) : Type 0 where
   pub stored : IsStored bytes
-  pub room : INLINE_BYTES ≤ capacity
+  pub room : 64 ≤ capacity

@@ -4,7 +4,6 @@ use Rattle.bk_word.specs.Stored.{stored}
 use Rattle.bk_word.specs.Word.{Move, Word, order_of}
 use Rattle.bk_word.specs.WordText.{IsTextOf, capped_order}
 use Rattle.bk_word.specs.declared.Sign.{Sign}
-use Rattle.bk_word.specs.declared.TheConstants.{LARGEST_ORDER}
 use Rattle.bk_word.specs.declared.reader.Kind.{Kind}
 use Rattle.bk_word.specs.declared.reader.Kind.TheVariants.{Digit, Dot, Letter}
 use Rattle.bk_word.specs.declared.reader.Place.{Place}
@@ -56,7 +55,7 @@ counted (Signs w m) = w ++ m ∷ []
 -- what is kept of a word: its order as far as the limit, and its bytes where it is not above that
 pub record Keeps (w : Word) (t : Taken) : Type 0 where
   pub order : t.order ≡ capped_order w
-  pub bytes : order_of w ≤ LARGEST_ORDER → t.bytes.items ≡ stored w
+  pub bytes : order_of w ≤ 200 → t.bytes.items ≡ stored w
 
 -- it is kept of the word that the bytes are the text of
 abbrev pub KeepsTextOf : List ℕ → Taken → Type 0

@@ -4,7 +4,7 @@
 ghost use Rattle.std.specs.Cmp.{IsTotalOrder};
 ghost use Rattle.std.specs.Prelude.{IfOk, IsOk, OnErr, OnOk, Some, [], length, slice_get, take, ◌+◌, ◌++◌, ◌-◌, ◌<◌, ◌∷◌, ◌≡◌, ◌≤◌};
 ghost use Rattle.bk_word.specs.KeptWord.{CanStand, IsKeptWord};
-ghost use Rattle.bk_word.specs.Stored.{IsStored, moves_in, stored};
+ghost use Rattle.bk_word.specs.Stored.{IsStored, moves_in, stored, stored_move};
 ghost use Rattle.bk_word.specs.Word.{order_of, word_cmp};
 ghost use Rattle.bk_word.specs.WordTextLaws.{ATextIsOfOneWord, AWrittenWordIsRead};
 
@@ -108,13 +108,15 @@ impl Word {
         }
     }
 
-    /// Appends a move. Where there is no memory the word is as it was. It takes none where the order is then at most 16.
+    /// Appends a move. Where there is no memory the word is as it was. It takes none where the word then has at most 64 bytes,
+    /// a byte for each count and each sign, and so none where the order is then at most 16.
     pub fn push(&mut self, m: &Move) -> Result<(), NoMemory>
         requires stands { CanStand m.now }
-        requires few { order_of self.old + m.now.count ≤ LARGEST_ORDER }
+        requires few { order_of self.old + m.now.count ≤ 200 }
         ensures ok { OnOk result (self.new ≡ self.old ++ m.now ∷ []) }
         ensures unchanged { OnErr result (self.new ≡ self.old) }
-        ensures inline { order_of self.old + m.now.count ≤ INLINE_ORDER → IsOk result }
+        ensures inline { order_of self.old + m.now.count ≤ 16 → IsOk result }
+        ensures bytes { length (stored self.old) + length (stored_move m.now) ≤ 64 → IsOk result }
     {
         let bytes = bytes_of(m.count, m.signs.as_slice());
         if self.bytes.extend_from_slice(bytes.as_slice()).is_err() {
@@ -146,7 +148,7 @@ impl Word {
         requires { i < length self.now }
         ensures value { slice_get self.now i ≡ Some result }
         ensures stands { CanStand result }
-        ensures few { result.count ≤ LARGEST_ORDER }
+        ensures few { result.count ≤ 200 }
     {
         let bytes = self.bytes.as_slice();
         let place = count_place(bytes, i);
@@ -159,15 +161,16 @@ impl Word {
     /// The order: how many squares the moves hang.
     pub fn order(&self) -> usize
         ensures value { result ≡ order_of self.now }
-        ensures few { result ≤ LARGEST_ORDER }
+        ensures few { result ≤ 200 }
     {
         sum_of_counts(self.bytes.as_slice())
     }
 
-    /// A copy of the word. It takes no memory where the order is at most 16.
+    /// A copy of the word. It takes no memory where the word has at most 64 bytes, nor so where the order is at most 16.
     pub fn copy(&self, alloc: Global) -> Result<Word, NoMemory>
         ensures ok { IfOk result (λ w. w ≡ self.now) }
-        ensures inline { order_of self.now ≤ INLINE_ORDER → IsOk result }
+        ensures inline { order_of self.now ≤ 16 → IsOk result }
+        ensures bytes { length (stored self.now) ≤ 64 → IsOk result }
     {
         Word::from_bytes(alloc, self.bytes.as_slice())
     }
@@ -184,7 +187,8 @@ impl Word {
     pub(crate) fn from_bytes(alloc: Global, bytes: &[u8]) -> Result<Word, NoMemory>
         requires { IsStored bytes.now }
         ensures ok { IfOk result (λ w. w ≡ moves_in bytes.now) }
-        ensures inline { order_of (moves_in bytes.now) ≤ INLINE_ORDER → IsOk result }
+        ensures inline { order_of (moves_in bytes.now) ≤ 16 → IsOk result }
+        ensures bytes { length bytes.now ≤ 64 → IsOk result }
     {
         match SmallVec::from_slice(alloc, bytes) {
             Ok(bytes) => {

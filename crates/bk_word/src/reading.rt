@@ -31,7 +31,8 @@ pub enum WordFault {
 /// Reads the text of a word: its moves with a dot between each two, and of each the count, in 1 to 3 digits without a
 /// leading 0, and the letters `a`, `e` and `u` of its signs. It is refused, in this order: `Text` exactly where the bytes are
 /// no such text, with the length of their longest start that begins one; `Many` exactly where the order is above 200;
-/// `NoMemory` where there is none, and never where the order is at most 16. The form is our own.
+/// `NoMemory` where there is none, and never where the order is at most 16 or the word has at most 64 bytes, a byte for each
+/// count and each sign. The form is our own.
 pub fn read_word(alloc: Global, text: &[u8]) -> Result<Word, WordFault>
     ensures read { IfOk result (λ w. IsTextOf text.now w) }
     ensures fault { IfErr result (λ fault. IsFaultOf fault text.now) }
@@ -103,7 +104,7 @@ impl Taken {
 
     // Takes a further byte.
     fn take(&mut self, place: Place, kind: Kind)
-        requires room { self.old.order ≤ LARGEST_ORDER → length self.old.bytes.items ≤ 600 }
+        requires room { self.old.order ≤ 200 → length self.old.bytes.items ≤ 600 }
         ensures { (r next : Reading) → place ≡ place_of r → step r kind ≡ Some next → Keeps (taken r) self.old → Keeps (taken next) self.new }
     {
         match kind {
@@ -118,9 +119,9 @@ impl Taken {
 
     // Takes the count that ends at a place, if there is one.
     fn end_count(&mut self, place: Place)
-        requires room { self.old.order ≤ LARGEST_ORDER → length self.old.bytes.items ≤ 600 }
+        requires room { self.old.order ≤ 200 → length self.old.bytes.items ≤ 600 }
         ensures keeps { (r : Reading) → place ≡ place_of r → Keeps (taken r) self.old → Keeps (counted r) self.new }
-        ensures room { self.new.order ≤ LARGEST_ORDER → length self.new.bytes.items ≤ 601 }
+        ensures room { self.new.order ≤ 200 → length self.new.bytes.items ≤ 601 }
     {
         if let Place::InCount(count) = place {
             self.add_count(count);
@@ -128,9 +129,9 @@ impl Taken {
     }
 
     fn add_count(&mut self, count: u16)
-        requires room { self.old.order ≤ LARGEST_ORDER → length self.old.bytes.items ≤ 600 }
+        requires room { self.old.order ≤ 200 → length self.old.bytes.items ≤ 600 }
         ensures keeps { (w : Moves) → Keeps w self.old → Keeps (w ++ bare count ∷ []) self.new }
-        ensures room { self.new.order ≤ LARGEST_ORDER → length self.new.bytes.items ≤ 601 }
+        ensures room { self.new.order ≤ 200 → length self.new.bytes.items ≤ 601 }
     {
         match u8::try_from(u32::from(self.order) + u32::from(count)) {
             Ok(order) if usize::from(order) <= LARGEST_ORDER => {
@@ -142,7 +143,7 @@ impl Taken {
     }
 
     fn add_sign(&mut self, sign: Sign)
-        requires room { self.old.order ≤ LARGEST_ORDER → length self.old.bytes.items ≤ 601 }
+        requires room { self.old.order ≤ 200 → length self.old.bytes.items ≤ 601 }
         ensures { (w : Moves) (m : SeenMove) → Keeps (w ++ m ∷ []) self.old → Keeps (w ++ with_sign m sign ∷ []) self.new }
     {
         if usize::from(self.order) <= LARGEST_ORDER {

@@ -96,7 +96,7 @@ pub(crate) fn counts(bytes: &[u8]) -> usize
 
 // The sum of the counts.
 pub(crate) fn sum_of_counts(bytes: &[u8]) -> usize
-    requires { order_of (moves_in bytes.now) ≤ LARGEST_ORDER }
+    requires { order_of (moves_in bytes.now) ≤ 200 }
     ensures { result ≡ order_of (moves_in bytes.now) }
 {
     let mut order = 0;

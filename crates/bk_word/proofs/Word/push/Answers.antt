@@ -3,7 +3,7 @@ use Rattle.std.proofs.Common.{ap, arith, subst, sym, ℕ, ◌∙◌}
 use Rattle.bk_word.specs.Stored.{IsStored, moves_in, sign_byte, stored_move}
 use Rattle.bk_word.specs.declared.Sign.{Sign}
 use Rattle.bk_word.proofs.Failing.{no_err, on_ok}
-use Rattle.bk_word.proofs.StoredBytes.{has_room, pushed}
+use Rattle.bk_word.proofs.StoredBytes.{has_bytes, has_room, pushed}
 use Rattle.bk_word.proofs.Word.push.Goals as goal
 
 pushed_bytes : (c : goal.Else-is_err) → c.extend_from_slice.new.self.items ≡ c.self.inside.bytes.items ++ stored_move c.args.m.now
@@ -28,4 +28,13 @@ move_bytes c =
 pub returns-then-is_err-clause-inline : goal.returns-then-is_err-clause-inline
 returns-then-is_err-clause-inline c = λ few. no_err c.extend_from_slice.result
     (c.extend_from_slice.ensures.succeeds (omega (arith, ap (λ (z : List ℕ). length z) (move_bytes c), has_room c.self.inside.bytes.items c.args.self.now c.args.m.now c.self.inside.bytes.capacity c.self.invariant c.self.view_is c.requires.stands few)))
+    (sym c.is_err.ensures.value ∙ c.if-is_err.true)
+
+pub returns-then-is_err-clause-bytes : goal.returns-then-is_err-clause-bytes
+returns-then-is_err-clause-bytes c = λ few. no_err c.extend_from_slice.result
+    (c.extend_from_slice.ensures.succeeds (omega (
+      arith,
+      ap (λ (z : List ℕ). length z) (move_bytes c),
+      has_bytes c.self.inside.bytes.items c.args.self.now c.args.m.now c.self.inside.bytes.capacity c.self.invariant c.self.view_is few,
+    )))
     (sym c.is_err.ensures.value ∙ c.if-is_err.true)

@@ -1,6 +1,5 @@
 use Rattle.std.proofs.Common.{List, ap, arith, length, refl, subst, sym, ◌+◌, ◌≤◌, ◌∙◌}
 use Rattle.bk_tiling.specs.declared.Square.{Square}
-use Rattle.bk_tiling.specs.declared.TheConstants.{MOST_SQUARES}
 use Rattle.bk_profile.proofs.Storing.{Reads, gap_read, level_small, stored_laid}
 use Rattle.bk_profile.specs.Gap.{Fits}
 use Rattle.bk_profile.specs.Laid.{Laid, LaysGroup, MisfitsGap}
@@ -27,7 +26,7 @@ pub invariant_of-self : goal.invariant_of-self
 invariant_of-self c =
     let reads : Reads c.self.inside.outline.items c.deref.result.now c.deref-2.result.now c.lowest-first.result c.segment-gap.result = record { once_is = c.deref.ensures.0; twice_is = c.deref-2.ensures.0; lowest = c.lowest-first.ensures; x = c.segment-gap.ensures.x; end = c.segment-gap.ensures.end; level = c.segment-gap.ensures.level } in
     let fits : Fits c.segment-gap.result c.args.sides.now = sym c.sum_of-sum.ensures ∙ c.if-sum-gap.false in
-    let room : length c.self.inside.laid.items + length c.args.sides.now ≤ MOST_SQUARES = omega (arith, c.requires.room, ap (λ (p : Laid). length p.squares) c.self.view_is) in
+    let room : length c.self.inside.laid.items + length c.args.sides.now ≤ 200 = omega (arith, c.requires.room, ap (λ (p : Laid). length p.squares) c.self.view_is) in
     rw (c.push_group.ensures, c.hang.ensures) (stored_laid _ _ _ _ _ _ c.self.invariant reads c.args.sides.now fits c.requires.sides c.requires.some room)
 
 pub returns-clause-ok : goal.returns-clause-ok
