@@ -9,18 +9,24 @@ use Rattle.bk_catalogue.specs.Catalogue.{Entry, IsEntry}
 use Rattle.bk_word.proofs.PlayLaws.{legal_front, legal_rest}
 
 module _ (n : ℕ) (class : Class) (e : Entry) (entry : IsEntry n class e) where
+  -- the first moves of a member's word are legal
   pub legal_before : (front rest : Word) → e.word ≡ front ++ rest → IsLegal front
-  legal_before front rest word = legal_front start front rest (subst (AreLegalFrom start) word ((tiling_word_is_complete e.tiling e.word (entry.member).tiling entry.word).0).legal)
+  legal_before front rest word = legal_front start front rest
+      (subst (AreLegalFrom start) word ((tiling_word_is_complete e.tiling e.word (entry.member).tiling entry.word).0).legal)
 
+  -- and so is the next one
   pub legal_move : (front : Word) (m : Move) (rest : Word) → e.word ≡ front ++ m ∷ rest → IsLegalMove (outline_of front) m
-  legal_move front m rest word = (legal_rest start front (m ∷ rest) (subst (AreLegalFrom start) word ((tiling_word_is_complete e.tiling e.word (entry.member).tiling entry.word).0).legal)).0
+  legal_move front m rest word = (legal_rest start front (m ∷ rest)
+      (subst (AreLegalFrom start) word ((tiling_word_is_complete e.tiling e.word (entry.member).tiling entry.word).0).legal)).0
 
+  -- the whole is complete
   pub complete_word : (front rest : Word) → e.word ≡ front ++ rest → IsComplete (front ++ rest)
   complete_word front rest word = subst IsComplete word (tiling_word_is_complete e.tiling e.word (entry.member).tiling entry.word).0
 
   -- what a word has at least, the order has
   pub within_order : (front rest : Word) (bound : ℕ) → e.word ≡ front ++ rest → bound ≤ order_of (front ++ rest) → n < bound → ⊥
-  within_order front rest bound word least few = omega (arith, few, least, orders, (entry.member).order, (tiling_word_is_complete e.tiling e.word (entry.member).tiling entry.word).1)
+  within_order front rest bound word least few =
+      omega (arith, few, least, orders, (entry.member).order, (tiling_word_is_complete e.tiling e.word (entry.member).tiling entry.word).1)
     where
       orders : order_of e.word ≡ order_of (front ++ rest)
       orders = λ i. order_of (word i)

@@ -21,6 +21,7 @@ use Rattle.bk_sym.specs.Image.{image, image_square}
 use Rattle.bk_sym.proofs.KeptImages.{side-image_square}
 use Rattle.bk_barren.specs.Corners.{CornersAreNoLonger}
 
+-- the list of squares begins with this square
 pub record HasHead (squares : List Square) (m : Square) : Type 0 where
   pub head : Square
   pub tail : List Square
@@ -44,8 +45,10 @@ sides_begin : (t : Tiling) (q : Square) (h : HasHead t.squares q) → flat (code
 sides_begin t q h = flat_is_sides t ∙ ap (map (λ s. s.s)) h.is ∙ ap (λ (s : Square). s.s ∷ map (λ s. s.s) h.tail) h.same
 
 -- the tiling whose top left square is the shorter has the smaller flat list
-shorter_is_less : (t u : Tiling) (q r : Square) → HasHead t.squares q → HasHead u.squares r → q.s < r.s → slice_cmp nat_cmp (flat (code_of t)) (flat (code_of u)) ≡ Less
-shorter_is_less t u q r a b h = (λ i. slice_cmp nat_cmp (sides_begin t q a i) (sides_begin u r b i)) ∙ ap (λ (o : Ordering). ordering_then o (slice_cmp nat_cmp (map (λ s. s.s) a.tail) (map (λ s. s.s) b.tail))) (smaller q.s r.s h)
+shorter_is_less : (t u : Tiling) (q r : Square) → HasHead t.squares q → HasHead u.squares r → q.s < r.s
+    → slice_cmp nat_cmp (flat (code_of t)) (flat (code_of u)) ≡ Less
+shorter_is_less t u q r a b h = (λ i. slice_cmp nat_cmp (sides_begin t q a i) (sides_begin u r b i))
+    ∙ ap (λ (o : Ordering). ordering_then o (slice_cmp nat_cmp (map (λ s. s.s) a.tail) (map (λ s. s.s) b.tail))) (smaller q.s r.s h)
   where
     smaller : (m n : ℕ) → m < n → nat_cmp m n ≡ Less
     smaller m n k = grind (arith, nat_tests)
@@ -56,6 +59,7 @@ not_at_most t u less most = clash (ap is_le (sym (nat_list_cmp_total.antisymm (f
     clash : false ≡ true → ⊥
     clash e = cc
 
+-- the law: else an image would have a greater list of sides
 pub corners_are_no_longer : CornersAreNoLonger
 corners_are_no_longer t turn q r tiling canonical a lies b = cases (cases_lt q.s r.s)
   where
@@ -64,9 +68,11 @@ corners_are_no_longer t turn q r tiling canonical a lies b = cases (cases_lt q.s
 
     turned : HasHead (image turn t).squares (image_square turn t.width t.height r)
     turned = top_left_first (image turn t).squares (image_square turn t.width t.height r) (images_are_tilings t turn tiling).ordered
-        (in_order (map (image_square turn t.width t.height) t.squares) (image_square turn t.width t.height r) (in_map (image_square turn t.width t.height) t.squares r b.is)) b.x b.y
+        (in_order (map (image_square turn t.width t.height) t.squares) (image_square turn t.width t.height r)
+        (in_map (image_square turn t.width t.height) t.squares r b.is)) b.x b.y
 
     cases : (q.s < r.s) ⊎ (r.s ≤ q.s) → r.s ≤ q.s
     cases (inr h) = h
-    cases (inl h) = absurd (not_at_most t (image turn t) (shorter_is_less t (image turn t) q (image_square turn t.width t.height r) first turned (omega (arith, h, side-image_square turn t.width t.height r)))
+    cases (inl h) = absurd (not_at_most t (image turn t)
+        (shorter_is_less t (image turn t) q (image_square turn t.width t.height r) first turned (omega (arith, h, side-image_square turn t.width t.height r)))
         (own_greatest t tiling canonical turn lies))

@@ -14,7 +14,8 @@ head_at squares q d h = ap (λ (l : List Square). slice_index_or l 0 d) h.is ∙
 
 -- the first square stands in the top left corner
 first_in_corner : (t : Tiling) → IsTiling t → (d : Square) → IsTopLeft t (slice_index_or t.squares 0 d)
-first_in_corner t tiling d = subst (IsTopLeft t) (sym (head_at t.squares q d (top_left_first t.squares q tiling.ordered found.1 left top))) (record { is = found.1; x = left; y = top })
+first_in_corner t tiling d = subst (IsTopLeft t) (sym (head_at t.squares q d (top_left_first t.squares q tiling.ordered found.1 left top)))
+    (record { is = found.1; x = left; y = top })
   where
     one : IsOneOf (slice_index_or t.squares 0 d) t.squares
     one = one_at t.squares 0 d (tiling.tiles).some
@@ -42,11 +43,16 @@ first_in_corner t tiling d = subst (IsTopLeft t) (sym (head_at t.squares q d (to
     top = omega (arith, over.top)
 
 -- a square in a corner of a canonical tiling is no longer than the one in the top left corner
-pub in_corner : (t : Tiling) (q r : Square) → IsTiling t → IsCanonical t → IsTopLeft t q → IsOneOf r t.squares → (r.x ≡ 0) ⊎ (r.x + r.s ≡ t.width) → (r.y ≡ 0) ⊎ (r.y + r.s ≡ t.height) → r.s ≤ q.s
-in_corner t q r tiling canonical first is (inl x) (inl y) = corners_are_no_longer t Same q r tiling canonical first canonical.lying (record { is = is; x = x; y = y })
-in_corner t q r tiling canonical first is (inr x) (inl y) = corners_are_no_longer t FlipX q r tiling canonical first canonical.lying (record { is = is; x = omega (arith, x); y = y })
-in_corner t q r tiling canonical first is (inl x) (inr y) = corners_are_no_longer t FlipY q r tiling canonical first canonical.lying (record { is = is; x = x; y = omega (arith, y) })
-in_corner t q r tiling canonical first is (inr x) (inr y) = corners_are_no_longer t Half q r tiling canonical first canonical.lying (record { is = is; x = omega (arith, x); y = omega (arith, y) })
+pub in_corner : (t : Tiling) (q r : Square) → IsTiling t → IsCanonical t → IsTopLeft t q → IsOneOf r t.squares → (r.x ≡ 0)
+    ⊎ (r.x + r.s ≡ t.width) → (r.y ≡ 0) ⊎ (r.y + r.s ≡ t.height) → r.s ≤ q.s
+in_corner t q r tiling canonical first is (inl x) (inl y) =
+    corners_are_no_longer t Same q r tiling canonical first canonical.lying (record { is = is; x = x; y = y })
+in_corner t q r tiling canonical first is (inr x) (inl y) =
+    corners_are_no_longer t FlipX q r tiling canonical first canonical.lying (record { is = is; x = omega (arith, x); y = y })
+in_corner t q r tiling canonical first is (inl x) (inr y) =
+    corners_are_no_longer t FlipY q r tiling canonical first canonical.lying (record { is = is; x = x; y = omega (arith, y) })
+in_corner t q r tiling canonical first is (inr x) (inr y) =
+    corners_are_no_longer t Half q r tiling canonical first canonical.lying (record { is = is; x = omega (arith, x); y = omega (arith, y) })
 
 -- the square of this number is longer than the first one, and stands in a corner
 pub record IsLongerInCorner (squares : List Square) (width height k : ℕ) (c d : Square) : Type 0 where
@@ -55,10 +61,18 @@ pub record IsLongerInCorner (squares : List Square) (width height k : ℕ) (c d 
   pub left_or_right : ((slice_index_or squares k d).x ≡ 0) ⊎ ((slice_index_or squares k d).x + (slice_index_or squares k d).s ≡ width)
   pub top_or_bottom : ((slice_index_or squares k d).y ≡ 0) ⊎ ((slice_index_or squares k d).y + (slice_index_or squares k d).s ≡ height)
 
-pub not_canonical : (t : Tiling) (squares : List Square) (width height k : ℕ) (c d : Square) → IsTiling t → squares ≡ t.squares → width ≡ t.width → height ≡ t.height
+-- a longer square in a corner shows that the tiling isn't its own canonical one
+pub not_canonical : (t : Tiling) (squares : List Square) (width height k : ℕ) (c d : Square) → IsTiling t → squares ≡ t.squares
+    → width ≡ t.width → height ≡ t.height
     → IsLongerInCorner squares width height k c d → IsCanonical t → ⊥
 not_canonical t squares width height k c d tiling e w h longer canonical =
-    go (subst (λ (n : ℕ). IsLongerInCorner t.squares t.width n k c d) h (subst (λ (n : ℕ). IsLongerInCorner t.squares n height k c d) w (subst (λ (l : List Square). IsLongerInCorner l width height k c d) e longer)))
+    go (subst (λ (n : ℕ). IsLongerInCorner t.squares t.width n k c d) h
+    (subst (λ (n : ℕ). IsLongerInCorner t.squares n height k c d) w (subst (λ (l : List Square). IsLongerInCorner l width height k c d) e longer)))
   where
     go : IsLongerInCorner t.squares t.width t.height k c d → ⊥
-    go l = omega (arith, l.longer, in_corner t (slice_index_or t.squares 0 c) (slice_index_or t.squares k d) tiling canonical (first_in_corner t tiling c) (one_at t.squares k d l.within) l.left_or_right l.top_or_bottom)
+    go l = omega (
+      arith,
+      l.longer,
+      in_corner t (slice_index_or t.squares 0 c) (slice_index_or t.squares k d) tiling canonical
+          (first_in_corner t tiling c) (one_at t.squares k d l.within) l.left_or_right l.top_or_bottom,
+    )

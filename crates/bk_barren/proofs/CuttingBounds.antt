@@ -33,11 +33,15 @@ module _ (n : ℕ) (class : Class) (e : Entry) (entry : IsEntry n class e) where
   at_end : Reached e.tiling (outline_of e.word) [] (order_of e.word)
   at_end = reached e.tiling e.word [] (entry.member).tiling (subst (IsWordOf e.tiling) (sym (append-nil e.word)) entry.word)
 
+  -- a member's word leaves one segment
   pub one_left : length (outline_of e.word).segments ≡ 1
   one_left = ((tiling_word_is_complete e.tiling e.word (entry.member).tiling entry.word).0).one
 
+-- the law
 pub too_many_to_close_is_barren : TooManyToCloseIsBarren
-too_many_to_close_is_barren n class front few e rest entry word = within_order n class e entry front rest (order_of front + closing_bound (outline_of front).signs) word (closings_are_hung front rest (complete_word n class e entry front rest word)) few
+too_many_to_close_is_barren n class front few e rest entry word =
+    within_order n class e entry front rest (order_of front + closing_bound (outline_of front).signs) word
+    (closings_are_hung front rest (complete_word n class e entry front rest word)) few
 
 -- ---- valleys of one square
 
@@ -47,13 +51,15 @@ one_square t q tiling wide h x s = omega (arith, fewer t.squares (q ∷ []) (squ
   where
     same : (r : Square) → IsOneOf r t.squares → r ≡ q
     same r k = let a = (within_of t tiling r k).right in let b = (within_of t tiling r k).bottom in let c = (within_of t tiling q h).bottom in
-        no_two (covers r.x r.y) t.squares (omega (arith, cell_once t tiling r.x r.y (omega (arith, side_of t tiling r k)) (omega (arith, side_of t tiling r k)))) r q k (own_cell t tiling r k) h
+        no_two (covers r.x r.y) t.squares (omega
+        (arith, cell_once t tiling r.x r.y (omega (arith, side_of t tiling r k)) (omega (arith, side_of t tiling r k)))) r q k (own_cell t tiling r k) h
         (covers_from r.x r.y q (omega arith) (omega (arith, side_of t tiling r k)) (omega arith) (omega (arith, side_of t tiling r k)))
 
 module _ (n : ℕ) (class : Class) (e : Entry) (entry : IsEntry n class e) where
   -- the last segment has not just one square
   last_is_none : 2 ≤ n → (s : List ℕ) → (outline_of e.word).segments ≡ s ∷ [] → length s ≡ 1 → ⊥
-  last_is_none many s f one = not_one one ((end.along).depicts).runs ((end.along).depicts).cut (subst (AllZip (IsSegment end.laid) ((end.along).depicts).runs) f ((end.along).depicts).segments)
+  last_is_none many s f one = not_one one ((end.along).depicts).runs ((end.along).depicts).cut
+      (subst (AllZip (IsSegment end.laid) ((end.along).depicts).runs) f ((end.along).depicts).segments)
     where
       end : Reached e.tiling (outline_of e.word) [] (order_of e.word)
       end = at_end n class e entry
@@ -74,7 +80,9 @@ module _ (n : ℕ) (class : Class) (e : Entry) (entry : IsEntry n class e) where
             arith,
             many,
             (entry.member).order,
-            one_square e.tiling q (entry.member).tiling ((entry.member).canonical).lying (in_all (λ z. IsOneOf z (e.tiling).squares) end.laid ((end.along).fills).squares q (one_of end.laid at.0 q at.2)) (omega (arith, qx, cut.0)) (omega (arith, ends, cut.0, cut.2)),
+            one_square e.tiling q (entry.member).tiling ((entry.member).canonical).lying
+                (in_all (λ z. IsOneOf z (e.tiling).squares) end.laid ((end.along).fills).squares q (one_of end.laid at.0 q at.2))
+                (omega (arith, qx, cut.0)) (omega (arith, ends, cut.0, cut.2)),
           )
 
   -- no move hangs one square from a valley of one
@@ -82,13 +90,17 @@ module _ (n : ℕ) (class : Class) (e : Entry) (entry : IsEntry n class e) where
   no_pairs front [] word = tt
   no_pairs front (m ∷ rest) word = (
     (λ valley count. one_under_one_is_barren n class front m count valley e rest entry (word ∙ sym (append_assoc front (m ∷ []) rest))),
-    subst (λ (o : Outline). HangNoPairsFrom o rest) (after_moves-append start front (m ∷ [])) (no_pairs (front ++ m ∷ []) rest (word ∙ sym (append_assoc front (m ∷ []) rest))),
+    subst (λ (o : Outline). HangNoPairsFrom o rest) (after_moves-append start front (m ∷ []))
+        (no_pairs (front ++ m ∷ []) rest (word ∙ sym (append_assoc front (m ∷ []) rest))),
   )
 
+  -- a member's word hangs no pairs
   pub without_pairs : 2 ≤ n → (front rest : Word) → e.word ≡ front ++ rest → IsWithoutPairs (front ++ rest)
   without_pairs many front rest word = subst IsWithoutPairs word (record { moves = no_pairs [] e.word refl; last = last_is_none many })
 
+-- the law
 pub too_many_singles_is_barren : TooManySinglesIsBarren
 too_many_singles_is_barren n class front many few e rest entry word =
-    within_order n class e entry front rest (order_of front + closing_bound (outline_of front).signs + single_valleys (outline_of front).signs (sizes_of (outline_of front))) word
+    within_order n class e entry front rest (order_of front + closing_bound (outline_of front).signs
+    + single_valleys (outline_of front).signs (sizes_of (outline_of front))) word
     (singles_are_hung front rest (complete_word n class e entry front rest word) (without_pairs n class e entry many front rest word)) few

@@ -33,8 +33,10 @@ above_levels m n e = cases (sign_case m n)
     cases (inr (inl h)) = absurd (other (sym h.1 ∙ e))
     cases (inr (inr h)) = absurd (another (sym h.1 ∙ e))
 
+-- the law: the right one would come to the corner of an image
 pub shorter_first_is_barren : ShorterFirstIsBarren
-shorter_first_is_barren n class e rest entry word = new (squares_under e.tiling p.0) refl (under_chain e.tiling [] p.0 tiling (nothing_laid e.tiling tiling) p.1 p.2) signs
+shorter_first_is_barren n class e rest entry word =
+    new (squares_under e.tiling p.0) refl (under_chain e.tiling [] p.0 tiling (nothing_laid e.tiling tiling) p.1 p.2) signs
   where
     tiling : IsTiling e.tiling
     tiling = (entry.member).tiling
@@ -49,19 +51,27 @@ shorter_first_is_barren n class e rest entry word = new (squares_under e.tiling 
     level = let flat = ((p.1).valley).flat in sym (flat.level (p.0).x (omega arith) (omega (arith, flat.some)))
 
     signs : Above ∷ [] ≡ signs_between (map (λ q. q.y + q.s) (squares_under e.tiling p.0))
-    signs = ap (own_signs start) p.3 ∙ own_signs_are e.tiling [] [] start p.0 tiling (start_depicts_nothing e.tiling tiling) p.1 (valley_is_filled e.tiling [] p.0 tiling (nothing_laid e.tiling tiling) p.1 p.2).0
+    signs = ap (own_signs start) p.3 ∙ own_signs_are e.tiling [] [] start p.0 tiling (start_depicts_nothing e.tiling tiling) p.1
+        (valley_is_filled e.tiling [] p.0 tiling (nothing_laid e.tiling tiling) p.1 p.2).0
 
     count : 2 ≡ length (squares_under e.tiling p.0)
     count = ap (λ (m : Move). m.count) p.3
 
     top : (q : Square) → IsOneOf q (squares_under e.tiling p.0) → (q.y ≡ 0) × IsOneOf q (e.tiling).squares
-    top q h = ((is_under e.tiling [] p.0 tiling (nothing_laid e.tiling tiling) p.1 p.2 q h).level ∙ level, in_tiling e.tiling [] p.0 tiling (nothing_laid e.tiling tiling) p.1 p.2 q h)
+    top q h = (
+      (is_under e.tiling [] p.0 tiling (nothing_laid e.tiling tiling) p.1 p.2 q h).level
+          ∙ level,
+      in_tiling e.tiling [] p.0 tiling (nothing_laid e.tiling tiling) p.1 p.2 q h,
+    )
 
-    new : (squares : List Square) → squares_under e.tiling p.0 ≡ squares → Chain (p.0).x (squares_under e.tiling p.0) ((p.0).x + (p.0).width) → Above ∷ [] ≡ signs_between (map (λ q. q.y + q.s) (squares_under e.tiling p.0)) → ⊥
+    new : (squares : List Square) → squares_under e.tiling p.0 ≡ squares
+        → Chain (p.0).x (squares_under e.tiling p.0) ((p.0).x + (p.0).width)
+        → Above ∷ [] ≡ signs_between (map (λ q. q.y + q.s) (squares_under e.tiling p.0)) → ⊥
     new [] f c s = omega (arith, count, ap length f)
     new (q ∷ []) f c s = omega (arith, count, ap length f)
     new (q ∷ r ∷ z ∷ squares) f c s = omega (arith, count, ap length f)
-    new (q ∷ r ∷ []) f c s = both (subst (λ (l : List Square). Chain (p.0).x l ((p.0).x + (p.0).width)) f c) (subst (λ (l : List Square). Above ∷ [] ≡ signs_between (map (λ q. q.y + q.s) l)) f s)
+    new (q ∷ r ∷ []) f c s = both (subst (λ (l : List Square). Chain (p.0).x l ((p.0).x + (p.0).width)) f c)
+        (subst (λ (l : List Square). Above ∷ [] ≡ signs_between (map (λ q. q.y + q.s) l)) f s)
       where
         a : (q.y ≡ 0) × IsOneOf q (e.tiling).squares
         a = top q (subst (IsOneOf q) (sym f) (inl refl))
@@ -75,7 +85,8 @@ shorter_first_is_barren n class e rest entry word = new (squares_under e.tiling 
           above_levels (q.y + q.s) (r.y + r.s) sign,
           a.0,
           b.0,
-          in_corner e.tiling q r tiling (entry.member).canonical (record { is = a.1; x = d.0 ∙ at.0; y = a.0 }) b.1 (inr (omega (arith, d.1.0, d.1.1, at.0, at.1))) (inl b.0),
+          in_corner e.tiling q r tiling (entry.member).canonical (record { is = a.1; x = d.0 ∙ at.0; y = a.0 }) b.1
+              (inr (omega (arith, d.1.0, d.1.1, at.0, at.1))) (inl b.0),
         )
           where
             sign : sign_between (q.y + q.s) (r.y + r.s) ≡ Above

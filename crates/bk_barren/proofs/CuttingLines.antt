@@ -12,10 +12,12 @@ use Rattle.bk_bounds.specs.SingleValleys.{single_valleys, sizes_of}
 use Rattle.bk_barren.specs.BoundCuts.{TooManyLinesIsBarren}
 use Rattle.bk_bounds.specs.VerticalCut.{line_bound_of, lines_of}
 
+-- the law: a line that is left cuts the tiling in two
 pub too_many_lines_is_barren : TooManyLinesIsBarren
 too_many_lines_is_barren n class front many few e rest entry word =
     within_order n class e entry front rest (order_of front + line_bound_of front + single_valleys (outline_of front).signs (sizes_of (outline_of front))) word
-    (lines_are_hung front rest (complete_word n class e entry front rest word) (without_pairs n class e entry (omega (arith, many)) front rest word) (subst EndsNoLine word no_line)) few
+    (lines_are_hung front rest (complete_word n class e entry front rest word)
+    (without_pairs n class e entry (omega (arith, many)) front rest word) (subst EndsNoLine word no_line)) few
   where
     -- a line that is left at the end of a member's word would cut its tiling
     no_line : EndsNoLine e.word

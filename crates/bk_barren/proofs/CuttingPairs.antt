@@ -42,17 +42,21 @@ take_signs [] ds = λ i. take (same i) (signs_between ds)
     same : 0 - 1 ≡ 0
     same = omega arith
 take_signs (b ∷ []) ds = refl
-take_signs (b ∷ c ∷ bs) ds = (λ i. take (same i) (sign_between b c ∷ signs_between ((c ∷ bs) ++ ds))) ∙ ap (λ (ss : List Sign). sign_between b c ∷ ss) (take_signs (c ∷ bs) ds)
+take_signs (b ∷ c ∷ bs) ds = (λ i. take (same i) (sign_between b c ∷ signs_between ((c ∷ bs) ++ ds)))
+    ∙ ap (λ (ss : List Sign). sign_between b c ∷ ss) (take_signs (c ∷ bs) ds)
   where
     same : suc (suc (length bs)) - 1 ≡ suc (length (c ∷ bs) - 1)
     same = omega arith
 
-pub own_signs_are : (t : Tiling) (laid : List Square) (nodes : List Segment) (o : Outline) (v : Segment) → IsTiling t → Depicts t laid nodes o → IsLeftmostValley t.width laid v → 0 < length (squares_under t v)
+-- the own signs of a tiling's move compare its squares' bottoms
+pub own_signs_are : (t : Tiling) (laid : List Square) (nodes : List Segment) (o : Outline) (v : Segment) → IsTiling t
+    → Depicts t laid nodes o → IsLeftmostValley t.width laid v → 0 < length (squares_under t v)
     → own_signs o (move_under t laid v) ≡ signs_between (map (λ q. q.y + q.s) (squares_under t v))
 own_signs_are t laid nodes o v tiling d found some = cases (subst (λ (w : Segment). ((p.before ≡ []) × (w.x ≡ 0)) ⊎ HasLast laid w.x p.before) same p.left)
   where
     p : Placed t.width laid 0 d.runs
-    p = placed t.width laid d.runs (wide_enough t tiling) d.cut (subst (λ (signs : List Sign). AllByRecursion (λ sign. parts sign ≡ true) signs) d.signs d.parted)
+    p = placed t.width laid d.runs (wide_enough t tiling) d.cut
+        (subst (λ (signs : List Sign). AllByRecursion (λ sign. parts sign ≡ true) signs) d.signs d.parted)
 
     same : p.valley ≡ v
     same = one_leftmost_valley t.width laid p.valley v p.leftmost found
@@ -75,18 +79,25 @@ own_signs_are t laid nodes o v tiling d found some = cases (subst (λ (w : Segme
     counts : length (squares_under t v) - 1 ≡ length (map (λ q. q.y + q.s) (squares_under t v)) - 1
     counts = ap (λ (k : ℕ). k - 1) (sym (length-map (squares_under t v) (λ q. q.y + q.s)))
 
-    by : (b : Bool) (db : List ℕ) → has_left_wall o ≡ b → depth_before laid v.x ≡ db → own_signs o (move_under t laid v) ≡ take (length (map (λ q. q.y + q.s) (squares_under t v)) - 1) (drop (open_side b) (signs_between (db ++ map (λ q. q.y + q.s) (squares_under t v) ++ depth_from t.width laid (v.x + v.width))))
-    by b db e f = λ i. take (counts i) (drop (open_side (e i)) (signs_between (f i ++ map (λ q. q.y + q.s) (squares_under t v) ++ depth_from t.width laid (v.x + v.width))))
+    by : (b : Bool) (db : List ℕ) → has_left_wall o ≡ b → depth_before laid v.x ≡ db
+        → own_signs o (move_under t laid v) ≡ take (length (map (λ q. q.y + q.s) (squares_under t v)) - 1)
+        (drop (open_side b) (signs_between (db ++ map (λ q. q.y + q.s) (squares_under t v) ++ depth_from t.width laid (v.x + v.width))))
+    by b db e f = λ i. take (counts i) (drop (open_side (e i))
+        (signs_between (f i ++ map (λ q. q.y + q.s) (squares_under t v) ++ depth_from t.width laid (v.x + v.width))))
 
     first : (l : ℕ) (bs ds : List ℕ) → 0 < length bs → drop 1 (signs_between ((l ∷ bs) ++ ds)) ≡ signs_between (bs ++ ds)
     first l [] ds h = absurd (omega arith)
     first l (b ∷ bs) ds h = refl
 
-    cases : ((p.before ≡ []) × (v.x ≡ 0)) ⊎ HasLast laid v.x p.before → own_signs o (move_under t laid v) ≡ signs_between (map (λ q. q.y + q.s) (squares_under t v))
+    cases : ((p.before ≡ []) × (v.x ≡ 0)) ⊎ HasLast laid v.x p.before
+        → own_signs o (move_under t laid v) ≡ signs_between (map (λ q. q.y + q.s) (squares_under t v))
     cases (inl (none, at)) = by true [] (zeroth (valley_place o.signs) (number ∙ ap length none)) (ap (depth_before laid) at)
         ∙ take_signs (map (λ q. q.y + q.s) (squares_under t v)) (depth_from t.width laid (v.x + v.width))
-    cases (inr h) = by false ((h.last).level ∷ []) (later (valley_place o.signs) (omega (arith, number, ap length h.is, length-append h.front (h.last ∷ [])))) h.level
-        ∙ ap (take (length (map (λ q. q.y + q.s) (squares_under t v)) - 1)) (first (h.last).level (map (λ q. q.y + q.s) (squares_under t v)) (depth_from t.width laid (v.x + v.width)) (omega (arith, some, length-map (squares_under t v) (λ q. q.y + q.s))))
+    cases (inr h) = by false ((h.last).level ∷ [])
+        (later (valley_place o.signs) (omega (arith, number, ap length h.is, length-append h.front (h.last ∷ [])))) h.level
+        ∙ ap (take (length (map (λ q. q.y + q.s) (squares_under t v)) - 1))
+        (first (h.last).level (map (λ q. q.y + q.s) (squares_under t v)) (depth_from t.width laid (v.x + v.width))
+        (omega (arith, some, length-map (squares_under t v) (λ q. q.y + q.s))))
         ∙ take_signs (map (λ q. q.y + q.s) (squares_under t v)) (depth_from t.width laid (v.x + v.width))
 
 -- two neighbours of one bottom
@@ -112,10 +123,20 @@ even_levels m n e = cases (sign_case m n)
     cases (inr (inl h)) = h.0
     cases (inr (inr h)) = absurd (another (sym h.1 ∙ e))
 
-find_even : (squares : List Square) (x end : ℕ) → Chain x squares end → (k : ℕ) → k < length (signs_between (map (λ q. q.y + q.s) squares)) → slice_index_or (signs_between (map (λ q. q.y + q.s) squares)) k Even ≡ Even → Neighbours squares
+find_even : (squares : List Square) (x end : ℕ) → Chain x squares end → (k : ℕ) → k < length (signs_between (map (λ q. q.y + q.s) squares))
+    → slice_index_or (signs_between (map (λ q. q.y + q.s) squares)) k Even ≡ Even → Neighbours squares
 find_even [] x end c k h e = absurd (omega arith)
 find_even (q ∷ []) x end c k h e = absurd (omega arith)
-find_even (q ∷ r ∷ squares) x end c zero h e = record { left = q; right = r; left_in = inl refl; right_in = inr (inl refl); beside = omega (arith, c.0, (c.1).0); even = even_levels (q.y + q.s) (r.y + r.s) e }
+find_even (q ∷ r ∷ squares) x end c zero h e =
+    record {
+      left = q;
+      right = r;
+      left_in = inl refl;
+      right_in = inr (inl refl);
+      beside = omega (arith, c.0, (c.1).0);
+      even =
+          even_levels (q.y + q.s) (r.y + r.s) e;
+    }
 find_even (q ∷ r ∷ squares) x end c (suc k) h e = onto (find_even (r ∷ squares) (x + q.s) end c.1 k (omega arith) e)
   where
     onto : Neighbours (r ∷ squares) → Neighbours (q ∷ r ∷ squares)
@@ -149,19 +170,25 @@ same_side (r ∷ squares) d p q (inl a) (inr b) e = absurd (differs r squares d.
 same_side (r ∷ squares) d p q (inr a) (inl b) e = absurd (differs r squares d.0 p a (e ∙ ap (λ (s : Square). s.s) b))
 same_side (r ∷ squares) d p q (inr a) (inr b) e = same_side squares d.1 p q a b e
 
-side_by_side : (t : Tiling) (p q : Square) → IsTiling t → IsOneOf p t.squares → IsOneOf q t.squares → p.x + p.s ≡ q.x → p.y ≡ q.y → p.s ≡ q.s → 3 ≤ length t.squares → IsCompound t
+side_by_side : (t : Tiling) (p q : Square) → IsTiling t → IsOneOf p t.squares → IsOneOf q t.squares → p.x + p.s ≡ q.x → p.y ≡ q.y
+    → p.s ≡ q.s → 3 ≤ length t.squares → IsCompound t
 side_by_side t p q tiling a b beside level equal many = pair_is_part t tiling (record { x = p.x; y = p.y; width = p.s + q.s; height = p.s })
     (record { right = let w = (within_of t tiling q b).right in omega arith; bottom = let w = (within_of t tiling p a).bottom in omega arith })
     p q a b (λ e. omega (arith, beside, side_of t tiling p a, ap (λ (s : Square). s.x) e))
-    (record { left = omega arith; right = omega arith; top = omega arith; bottom = omega arith }) (record { left = omega arith; right = omega arith; top = omega arith; bottom = omega arith })
+    (record { left = omega arith; right = omega arith; top = omega arith; bottom = omega arith })
+    (record { left = omega arith; right = omega arith; top = omega arith; bottom = omega arith })
     (λ i j a b c d. cases i j a b c d (cases_lt i (p.x + p.s))) many
   where
-    cases : (i j : ℕ) → p.x ≤ i → i < p.x + (p.s + q.s) → p.y ≤ j → j < p.y + p.s → (i < p.x + p.s) ⊎ (p.x + p.s ≤ i) → (covers i j p ≡ true) ⊎ (covers i j q ≡ true)
+    cases : (i j : ℕ) → p.x ≤ i → i < p.x + (p.s + q.s) → p.y ≤ j → j < p.y + p.s → (i < p.x + p.s) ⊎ (p.x + p.s ≤ i)
+        → (covers i j p ≡ true) ⊎ (covers i j q ≡ true)
     cases i j a b c d (inl h) = inl (covers_from i j p a h c d)
     cases i j a b c d (inr h) = inr (covers_from i j q (omega arith) (omega arith) (omega arith) (omega arith))
 
-even_cut : (n : ℕ) (class : Class) (front : Word) (m : Move) → (class ≡ Perfect) ⊎ (3 ≤ n) → Contains (own_signs (outline_of front) m) Even → (e : Entry) (rest : Word) → IsEntry n class e → e.word ≡ front ++ (m ∷ rest) → ⊥
-even_cut n class front m either (k, few, at) e rest entry word = meet (find_even (squares_under e.tiling (r.moves).0) ((r.moves).0).x (((r.moves).0).x + ((r.moves).0).width) (under_chain e.tiling r.laid (r.moves).0 tiling (r.along).fills found low) k
+even_cut : (n : ℕ) (class : Class) (front : Word) (m : Move) → (class ≡ Perfect) ⊎ (3 ≤ n) → Contains (own_signs (outline_of front) m) Even
+    → (e : Entry) (rest : Word) → IsEntry n class e → e.word ≡ front ++ (m ∷ rest) → ⊥
+even_cut n class front m either (k, few, at) e rest entry word =
+    meet (find_even (squares_under e.tiling (r.moves).0) ((r.moves).0).x (((r.moves).0).x + ((r.moves).0).width)
+    (under_chain e.tiling r.laid (r.moves).0 tiling (r.along).fills found low) k
     (subst (λ (ss : List Sign). k < length ss) signs few) (subst (λ (ss : List Sign). slice_index_or ss k Even ≡ Even) signs at))
   where
     tiling : IsTiling e.tiling
@@ -177,7 +204,9 @@ even_cut n class front m either (k, few, at) e rest entry word = meet (find_even
     low = (r.moves).2
 
     signs : own_signs (outline_of front) m ≡ signs_between (map (λ q. q.y + q.s) (squares_under e.tiling (r.moves).0))
-    signs = ap (own_signs (outline_of front)) (r.moves).3 ∙ own_signs_are e.tiling r.laid r.nodes (outline_of front) (r.moves).0 tiling (r.along).depicts (r.moves).1 (valley_is_filled e.tiling r.laid (r.moves).0 tiling (r.along).fills (r.moves).1 (r.moves).2).0
+    signs = ap (own_signs (outline_of front)) (r.moves).3
+        ∙ own_signs_are e.tiling r.laid r.nodes (outline_of front) (r.moves).0 tiling (r.along).depicts (r.moves).1
+        (valley_is_filled e.tiling r.laid (r.moves).0 tiling (r.along).fills (r.moves).1 (r.moves).2).0
 
     meet : Neighbours (squares_under e.tiling (r.moves).0) → ⊥
     meet b = cases either
@@ -189,19 +218,30 @@ even_cut n class front m either (k, few, at) e rest entry word = meet (find_even
         right_in = in_tiling e.tiling r.laid (r.moves).0 tiling (r.along).fills (r.moves).1 (r.moves).2 b.right b.right_in
 
         level : (b.left).y ≡ (b.right).y
-        level = (is_under e.tiling r.laid (r.moves).0 tiling (r.along).fills (r.moves).1 (r.moves).2 b.left b.left_in).level ∙ sym (is_under e.tiling r.laid (r.moves).0 tiling (r.along).fills (r.moves).1 (r.moves).2 b.right b.right_in).level
+        level = (is_under e.tiling r.laid (r.moves).0 tiling (r.along).fills (r.moves).1 (r.moves).2 b.left b.left_in).level
+            ∙ sym (is_under e.tiling r.laid (r.moves).0 tiling (r.along).fills (r.moves).1 (r.moves).2 b.right b.right_in).level
 
         equal : (b.left).s ≡ (b.right).s
         equal = omega (arith, level, b.even)
 
         cases : (class ≡ Perfect) ⊎ (3 ≤ n) → ⊥
-        cases (inl is) = omega (arith, b.beside, side_of e.tiling tiling b.left left_in, ap (λ (s : Square). s.x) (same_side (e.tiling).squares (distinct_sides (e.tiling).squares (subst (λ (c : Class). IsOfClass c e.tiling) is (entry.member).class)) b.left b.right left_in right_in equal))
-        cases (inr many) = (entry.member).simple (side_by_side e.tiling b.left b.right tiling left_in right_in b.beside level equal (omega (arith, many, (entry.member).order)))
+        cases (inl is) = omega (
+          arith,
+          b.beside,
+          side_of e.tiling tiling b.left left_in,
+          ap (λ (s : Square). s.x) (same_side (e.tiling).squares
+              (distinct_sides (e.tiling).squares (subst (λ (c : Class). IsOfClass c e.tiling) is (entry.member).class)) b.left b.right left_in right_in equal),
+        )
+        cases (inr many) = (entry.member).simple
+            (side_by_side e.tiling b.left b.right tiling left_in right_in b.beside level equal (omega (arith, many, (entry.member).order)))
 
+-- the law: the two squares would be equal, a part
 pub even_squares_are_barren : EvenSquaresAreBarren
-even_squares_are_barren n class front m either even e rest entry word = even_cut n class front m either even e rest entry (word ∙ append_assoc front (m ∷ []) rest)
+even_squares_are_barren n class front m either even e rest entry word =
+    even_cut n class front m either even e rest entry (word ∙ append_assoc front (m ∷ []) rest)
 
-one_below : (t : Tiling) (p q : Square) → IsTiling t → IsOneOf p t.squares → IsOneOf q t.squares → p.x ≡ q.x → p.y + p.s ≡ q.y → p.s ≡ q.s → (IsCompound t → ⊥) → t.height ≤ t.width → ⊥
+one_below : (t : Tiling) (p q : Square) → IsTiling t → IsOneOf p t.squares → IsOneOf q t.squares → p.x ≡ q.x → p.y + p.s ≡ q.y → p.s ≡ q.s
+    → (IsCompound t → ⊥) → t.height ≤ t.width → ⊥
 one_below t p q tiling a b column below equal simple wide = cases (cases_lt p.s t.width)
   where
     r : Rectangle
@@ -237,9 +277,12 @@ one_below t p q tiling a b column below equal simple wide = cases (cases_lt p.s 
     third c h free = from (counted_one (covers c 0) t.squares (omega (arith, cell_once t tiling c 0 h high)))
       where
         from : (s : Square) × IsOneOf s t.squares × (covers c 0 s ≡ true) → IsCompound t
-        from (s, k, f) = let o = over_from c 0 s f in part (three_squares t tiling (record { x = p.x; y = p.y; width = p.s; height = p.s + q.s }) inside p q a b apart p_within q_within fill s k
-            (λ e. let x : s.x ≡ p.x = ap (λ (z : Square). z.x) e in let y : s.s ≡ p.s = ap (λ (z : Square). z.s) e in let l = o.left in let g = o.right in absurd (omega (arith, free (omega arith))))
-            (λ e. let x : s.x ≡ q.x = ap (λ (z : Square). z.x) e in let y : s.s ≡ q.s = ap (λ (z : Square). z.s) e in let l = o.left in let g = o.right in absurd (omega (arith, free (omega arith)))))
+        from (s, k, f) = let o = over_from c 0 s f in
+            part (three_squares t tiling (record { x = p.x; y = p.y; width = p.s; height = p.s + q.s }) inside p q a b apart p_within q_within fill s k
+            (λ e. let x : s.x ≡ p.x = ap (λ (z : Square). z.x) e in let y : s.s ≡ p.s = ap (λ (z : Square). z.s) e in let l = o.left in
+            let g = o.right in absurd (omega (arith, free (omega arith))))
+            (λ e. let x : s.x ≡ q.x = ap (λ (z : Square). z.x) e in let y : s.s ≡ q.s = ap (λ (z : Square). z.s) e in let l = o.left in
+            let g = o.right in absurd (omega (arith, free (omega arith)))))
 
     cases : (p.s < t.width) ⊎ (t.width ≤ p.s) → ⊥
     cases (inr h) = let w = (within_of t tiling q b).bottom in omega (arith, side_of t tiling q b)
@@ -249,8 +292,10 @@ one_below t p q tiling a b column below equal simple wide = cases (cases_lt p.s 
         at (inl k) = simple (third 0 (omega arith) (λ l. absurd (omega arith)))
         at (inr k) = simple (third p.s h (λ l. omega arith))
 
-one_cut : (n : ℕ) (class : Class) (front : Word) (m : Move) → m.count ≡ 1 → length (valley_of (outline_of front)) ≡ 1 → (e : Entry) (rest : Word) → IsEntry n class e → e.word ≡ front ++ (m ∷ rest) → ⊥
-one_cut n class front m count single e rest entry word = new (squares_under e.tiling (r.moves).0) refl (under_chain e.tiling r.laid (r.moves).0 tiling (r.along).fills (r.moves).1 (r.moves).2)
+one_cut : (n : ℕ) (class : Class) (front : Word) (m : Move) → m.count ≡ 1 → length (valley_of (outline_of front)) ≡ 1
+    → (e : Entry) (rest : Word) → IsEntry n class e → e.word ≡ front ++ (m ∷ rest) → ⊥
+one_cut n class front m count single e rest entry word =
+    new (squares_under e.tiling (r.moves).0) refl (under_chain e.tiling r.laid (r.moves).0 tiling (r.along).fills (r.moves).1 (r.moves).2)
   where
     tiling : IsTiling e.tiling
     tiling = (entry.member).tiling
@@ -261,7 +306,8 @@ one_cut n class front m count single e rest entry word = new (squares_under e.ti
     one : length (squares_under e.tiling (r.moves).0) ≡ 1
     one = sym (ap (λ (k : Move). k.count) (r.moves).3) ∙ count
 
-    old : (q : Square) → IsOneOf q (squares_under e.tiling (r.moves).0) → q.x ≡ ((r.moves).0).x → q.s ≡ ((r.moves).0).width → (numbers : List ℕ) → length numbers ≡ 1 → IsSegment r.laid (r.moves).0 numbers → ⊥
+    old : (q : Square) → IsOneOf q (squares_under e.tiling (r.moves).0) → q.x ≡ ((r.moves).0).x → q.s ≡ ((r.moves).0).width
+        → (numbers : List ℕ) → length numbers ≡ 1 → IsSegment r.laid (r.moves).0 numbers → ⊥
     old q h x s [] l seg = omega arith
     old q h x s (k ∷ j ∷ numbers) l seg = omega arith
     old q h x s (k ∷ []) l (inr top) = not_nil top.1
@@ -271,15 +317,20 @@ one_cut n class front m count single e rest entry word = new (squares_under e.ti
     old q h x s (k ∷ []) l (inl (p, at, px, pb, end)) = one_below e.tiling p q tiling
         (in_all (λ z. IsOneOf z (e.tiling).squares) r.laid ((r.along).fills).squares p (one_of r.laid at.0 p at.2))
         (in_tiling e.tiling r.laid (r.moves).0 tiling (r.along).fills (r.moves).1 (r.moves).2 q h)
-        (px ∙ sym x) (pb ∙ sym (is_under e.tiling r.laid (r.moves).0 tiling (r.along).fills (r.moves).1 (r.moves).2 q h).level) (omega (arith, end, s)) (entry.member).simple ((entry.member).canonical).lying
+        (px ∙ sym x) (pb ∙ sym (is_under e.tiling r.laid (r.moves).0 tiling (r.along).fills (r.moves).1 (r.moves).2 q h).level)
+        (omega (arith, end, s)) (entry.member).simple ((entry.member).canonical).lying
 
-    new : (squares : List Square) → squares_under e.tiling (r.moves).0 ≡ squares → Chain ((r.moves).0).x (squares_under e.tiling (r.moves).0) (((r.moves).0).x + ((r.moves).0).width) → ⊥
+    new : (squares : List Square) → squares_under e.tiling (r.moves).0 ≡ squares
+        → Chain ((r.moves).0).x (squares_under e.tiling (r.moves).0) (((r.moves).0).x + ((r.moves).0).width) → ⊥
     new [] f c = omega (arith, one, ap length f)
     new (q ∷ s ∷ squares) f c = omega (arith, one, ap length f)
     new (q ∷ []) f c = under (subst (λ (l : List Square). Chain ((r.moves).0).x l (((r.moves).0).x + ((r.moves).0).width)) f c)
       where
         under : Chain ((r.moves).0).x (q ∷ []) (((r.moves).0).x + ((r.moves).0).width) → ⊥
-        under d = old q (subst (IsOneOf q) (sym f) (inl refl)) d.0 (omega (arith, d.1)) (valley_of (outline_of front)) single (valley_segment e.tiling r.laid r.nodes (outline_of front) (r.moves).0 tiling (r.along).depicts (r.moves).1)
+        under d = old q (subst (IsOneOf q) (sym f) (inl refl)) d.0 (omega (arith, d.1)) (valley_of (outline_of front)) single
+            (valley_segment e.tiling r.laid r.nodes (outline_of front) (r.moves).0 tiling (r.along).depicts (r.moves).1)
 
+-- the law: so would be one under the other
 pub one_under_one_is_barren : OneUnderOneIsBarren
-one_under_one_is_barren n class front m count single e rest entry word = one_cut n class front m count single e rest entry (word ∙ append_assoc front (m ∷ []) rest)
+one_under_one_is_barren n class front m count single e rest entry word =
+    one_cut n class front m count single e rest entry (word ∙ append_assoc front (m ∷ []) rest)

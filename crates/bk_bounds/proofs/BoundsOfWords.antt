@@ -12,15 +12,20 @@ use Rattle.bk_bounds.specs.VerticalCut.{line_bound, line_bound_of, lines_of, seg
 
 -- ---- the flat lists make the segments again
 
+-- the segments, made again from their sizes and the row of all numbers
 pub segments_again : (segments : List (List ℕ)) → segments_of (map length segments) (concat segments) ≡ segments
 segments_again [] = refl
-segments_again (s ∷ segments) = (λ i. take_at s (concat segments) (length s) refl i ∷ segments_of (map length segments) (drop_at s (concat segments) (length s) refl i)) ∙ ap (λ ss. s ∷ ss) (segments_again segments)
+segments_again (s ∷ segments) = (λ i. take_at s (concat segments) (length s) refl i
+    ∷ segments_of (map length segments) (drop_at s (concat segments) (length s) refl i)) ∙ ap (λ ss. s ∷ ss) (segments_again segments)
 
-pub line_bound_by_lists : (w : Word) → line_bound (outline_of w).signs (touched (lines_of w) (segments_of (sizes_of (outline_of w)) (concat (outline_of w).segments))) ≡ line_bound_of w
+-- the bound of a word by these flat lists
+pub line_bound_by_lists : (w : Word) → line_bound (outline_of w).signs
+    (touched (lines_of w) (segments_of (sizes_of (outline_of w)) (concat (outline_of w).segments))) ≡ line_bound_of w
 line_bound_by_lists w = λ i. line_bound (outline_of w).signs (touched (lines_of w) (segments_again (outline_of w).segments i))
 
 -- ---- there is one segment more than signs
 
+-- the outline of a legal word is shaped
 pub shape_of_word : (w : Word) → IsLegal w → Shaped (outline_of w)
 shape_of_word w legal = shaped_moves start w legal shaped_start
 

@@ -10,36 +10,45 @@ use Rattle.bk_word.specs.declared.Sign.{Sign}
 use Rattle.bk_word.specs.declared.Sign.TheVariants.{Above, Even, Under}
 use Rattle.bk_bounds.specs.ClosingBound.{IsMostClosings, TheClosingBoundIsMost, closing_bound, closings, is_above, is_under}
 
+-- how many signs are above, and how many under
 abbrev pub aboves : List Sign → ℕ
 aboves signs = count_by is_above signs
 
+-- how many are under
 abbrev pub unders : List Sign → ℕ
 unders signs = count_by is_under signs
 
+-- counted from the first on
 pub aboves-cons : (s : Sign) (signs : List Sign) → aboves (s ∷ signs) ≡ cond (is_above s) 1 0 + aboves signs
 aboves-cons s signs = sum_by-cons (λ x. cond (is_above x) 1 0) s signs
 
+-- the same for under
 pub unders-cons : (s : Sign) (signs : List Sign) → unders (s ∷ signs) ≡ cond (is_under s) 1 0 + unders signs
 unders-cons s signs = sum_by-cons (λ x. cond (is_under x) 1 0) s signs
 
+-- and over two parts
 pub aboves-append : (xs ys : List Sign) → aboves (xs ++ ys) ≡ aboves xs + aboves ys
 aboves-append xs ys = sum_by-append (λ x. cond (is_above x) 1 0) xs ys
 
+-- the same for under
 pub unders-append : (xs ys : List Sign) → unders (xs ++ ys) ≡ unders xs + unders ys
 unders-append xs ys = sum_by-append (λ x. cond (is_under x) 1 0) xs ys
 
+-- the bound is at least the number of signs under
 pub bound_unders : (xs : List Sign) → unders xs ≤ closing_bound xs
 bound_unders [] = omega arith
 bound_unders (Above ∷ xs) = omega (arith, bound_unders xs, unders-cons Above xs)
 bound_unders (Even ∷ xs) = omega (arith, bound_unders xs, unders-cons Even xs)
 bound_unders (Under ∷ xs) = omega (arith, unders-cons Under xs)
 
+-- and at least that of the signs above
 pub bound_aboves : (xs : List Sign) → aboves xs ≤ closing_bound xs
 bound_aboves [] = omega arith
 bound_aboves (Above ∷ xs) = omega (arith, bound_aboves xs, aboves-cons Above xs)
 bound_aboves (Even ∷ xs) = omega (arith, bound_aboves xs, aboves-cons Even xs)
 bound_aboves (Under ∷ xs) = omega (arith, bound_aboves xs, aboves-cons Under xs)
 
+-- the bound over two parts
 pub bound-append : (xs ys : List Sign) → closing_bound (xs ++ ys) ≡ max (closing_bound xs + unders ys) (aboves xs + closing_bound ys)
 bound-append [] ys = omega (arith, bound_unders ys)
 bound-append (Above ∷ xs) ys = omega (arith, bound-append xs ys, aboves-cons Above xs)
@@ -57,6 +66,7 @@ unders-parts (Above ∷ xs) = omega (arith, unders-parts xs, unders-cons Above x
 unders-parts (Even ∷ xs) = omega (arith, unders-parts xs, unders-cons Even xs)
 unders-parts (Under ∷ xs) = omega (arith, unders-parts xs, unders-cons Under xs, unders-cons Under (filter parts xs))
 
+-- even signs don't matter to it
 pub bound-parts : (xs : List Sign) → closing_bound (filter parts xs) ≡ closing_bound xs
 bound-parts [] = refl
 bound-parts (Above ∷ xs) = ap suc (bound-parts xs)
@@ -66,12 +76,15 @@ bound-parts (Under ∷ xs) = omega (arith, bound-parts xs, unders-parts xs)
 -- the signs around the valley: those before it are not above, and behind it is none or the sign above
 pub record AroundValley (signs : List Sign) : Type 0 where
   pub none : aboves (take (valley_place signs) signs) ≡ 0
-  pub behind : ((drop (valley_place signs) signs ≡ []) × (drop (valley_place signs + 1) signs ≡ [])) ⊎ (drop (valley_place signs) signs ≡ Above ∷ drop (valley_place signs + 1) signs)
+  pub behind : ((drop (valley_place signs) signs ≡ []) × (drop (valley_place signs + 1) signs ≡ []))
+      ⊎ (drop (valley_place signs) signs ≡ Above ∷ drop (valley_place signs + 1) signs)
 
+-- a test counts at most 1
 pub at_most_one : (a : Bool) → ◌≤◌ (cond {A = ℕ} a 1 0) 1
 at_most_one true = omega arith
 at_most_one false = omega arith
 
+-- dropping one more
 pub drop_next : {A : Type 0} (x : A) (xs : List A) (k : ℕ) → drop (suc k + 1) (x ∷ xs) ≡ drop (k + 1) xs
 drop_next x xs k = λ i. drop (next i) (x ∷ xs)
   where
@@ -84,11 +97,14 @@ behind_next : (s : Sign) (signs : List Sign) (k : ℕ) → ((drop k signs ≡ []
 behind_next s signs k (inl (e, f)) = inl (e, drop_next s signs k ∙ f)
 behind_next s signs k (inr e) = inr (e ∙ ap (λ ss. Above ∷ ss) (sym (drop_next s signs k)))
 
+-- signs, cut around the leftmost valley
 pub around_valley : (signs : List Sign) → AroundValley signs
 around_valley [] = record { none = refl; behind = inl (refl, refl) }
 around_valley (Above ∷ signs) = record { none = refl; behind = inr refl }
-around_valley (Even ∷ signs) = let a = around_valley signs in record { none = omega (arith, a.none, aboves-cons Even (take (valley_place signs) signs)); behind = behind_next Even signs (valley_place signs) a.behind }
-around_valley (Under ∷ signs) = let a = around_valley signs in record { none = omega (arith, a.none, aboves-cons Under (take (valley_place signs) signs)); behind = behind_next Under signs (valley_place signs) a.behind }
+around_valley (Even ∷ signs) = let a = around_valley signs in
+    record { none = omega (arith, a.none, aboves-cons Even (take (valley_place signs) signs)); behind = behind_next Even signs (valley_place signs) a.behind }
+around_valley (Under ∷ signs) = let a = around_valley signs in
+    record { none = omega (arith, a.none, aboves-cons Under (take (valley_place signs) signs)); behind = behind_next Under signs (valley_place signs) a.behind }
 
 -- the last sign of a part
 record LastSign (xs : List Sign) (k : ℕ) : Type 0 where
@@ -102,7 +118,8 @@ last_of [] (suc j) = ([], refl, omega arith)
 last_of (x ∷ xs) zero = (x ∷ [], refl, omega arith)
 last_of (x ∷ xs) (suc j) = onto (last_of xs j)
   where
-    onto : (last : List Sign) × (take (suc j) xs ≡ take j xs ++ last) × (length last ≤ 1) → (last : List Sign) × (take (suc (suc j)) (x ∷ xs) ≡ take (suc j) (x ∷ xs) ++ last) × (length last ≤ 1)
+    onto : (last : List Sign) × (take (suc j) xs ≡ take j xs ++ last) × (length last ≤ 1) → (last : List Sign)
+        × (take (suc (suc j)) (x ∷ xs) ≡ take (suc j) (x ∷ xs) ++ last) × (length last ≤ 1)
     onto (last, is, few) = (last, ap (λ ys. x ∷ ys) is, few)
 
 last_sign : (xs : List Sign) (k : ℕ) → LastSign xs k
@@ -141,14 +158,18 @@ bound_without signs = cases a.behind
     back : List Sign
     back = drop (valley_place signs + 1) signs
 
-    whole : closing_bound signs ≡ max (closing_bound (take (valley_place signs) signs) + unders (drop (valley_place signs) signs)) (aboves (take (valley_place signs) signs) + closing_bound (drop (valley_place signs) signs))
-    whole = ap closing_bound (sym (take-append-drop (valley_place signs) signs)) ∙ bound-append (take (valley_place signs) signs) (drop (valley_place signs) signs)
+    whole : closing_bound signs ≡ max (closing_bound (take (valley_place signs) signs) + unders (drop (valley_place signs) signs))
+        (aboves (take (valley_place signs) signs) + closing_bound (drop (valley_place signs) signs))
+    whole = ap closing_bound (sym (take-append-drop (valley_place signs) signs))
+        ∙ bound-append (take (valley_place signs) signs) (drop (valley_place signs) signs)
 
-    before : closing_bound (take (valley_place signs) signs) ≡ max (closing_bound (take (valley_place signs - 1) signs) + unders l.last) (aboves (take (valley_place signs - 1) signs) + closing_bound l.last)
+    before : closing_bound (take (valley_place signs) signs)
+        ≡ max (closing_bound (take (valley_place signs - 1) signs) + unders l.last) (aboves (take (valley_place signs - 1) signs) + closing_bound l.last)
     before = ap closing_bound l.is ∙ bound-append (take (valley_place signs - 1) signs) l.last
 
     apart : closing_bound (take (valley_place signs - 1) signs ++ drop (valley_place signs + 1) signs)
-        ≡ max (closing_bound (take (valley_place signs - 1) signs) + unders (drop (valley_place signs + 1) signs)) (aboves (take (valley_place signs - 1) signs) + closing_bound (drop (valley_place signs + 1) signs))
+        ≡ max (closing_bound (take (valley_place signs - 1) signs) + unders (drop (valley_place signs + 1) signs))
+        (aboves (take (valley_place signs - 1) signs) + closing_bound (drop (valley_place signs + 1) signs))
     apart = bound-append (take (valley_place signs - 1) signs) (drop (valley_place signs + 1) signs)
 
     small : (closing_bound l.last ≤ 1) × (unders l.last ≤ 1)
@@ -157,7 +178,8 @@ bound_without signs = cases a.behind
     low : closing_bound (take (valley_place signs) signs) ≤ closing_bound (take (valley_place signs - 1) signs) + 1
     low = omega (arith, before, small.0, small.1, bound_aboves (take (valley_place signs - 1) signs))
 
-    cases : ((drop (valley_place signs) signs ≡ []) × (drop (valley_place signs + 1) signs ≡ [])) ⊎ (drop (valley_place signs) signs ≡ Above ∷ drop (valley_place signs + 1) signs)
+    cases : ((drop (valley_place signs) signs ≡ []) × (drop (valley_place signs + 1) signs ≡ []))
+        ⊎ (drop (valley_place signs) signs ≡ Above ∷ drop (valley_place signs + 1) signs)
         → closing_bound signs ≤ 1 + closing_bound (take (valley_place signs - 1) signs ++ drop (valley_place signs + 1) signs)
     cases (inl (e, f)) = omega (arith, whole, a.none, apart, low, ap closing_bound e, ap unders e)
     cases (inr e) = omega (arith, whole, a.none, apart, low, ap closing_bound e, ap unders e, unders-cons Above (drop (valley_place signs + 1) signs))
@@ -173,10 +195,12 @@ bound_after o m = omega (
 
 -- ---- it is the greatest number of closings
 
+-- the closings of the first segment
 pub closings-first : (signs : List Sign) → closings signs 0 ≡ unders signs
 closings-first [] = refl
 closings-first (s ∷ signs) = omega arith
 
+-- and those of each other one
 pub closings-next : (s : Sign) (signs : List Sign) (i : ℕ) → closings (s ∷ signs) (suc i) ≡ cond (is_above s) 1 0 + closings signs i
 closings-next s signs i = omega (arith, aboves-cons s (take i signs))
 
@@ -187,18 +211,44 @@ most_closings (Above ∷ signs) (suc i) h = omega (arith, closings-next Above si
 most_closings (Even ∷ signs) (suc i) h = omega (arith, closings-next Even signs i, most_closings signs i (omega arith))
 most_closings (Under ∷ signs) (suc i) h = omega (arith, closings-next Under signs i, most_closings signs i (omega arith))
 
+-- the law: by the signs from the second on
 pub the_closing_bound_is_most : TheClosingBoundIsMost
 the_closing_bound_is_most [] = record { most = most_closings []; place = 0; within = omega arith; met = refl }
 the_closing_bound_is_most (Above ∷ signs) = onto (the_closing_bound_is_most signs)
   where
     onto : IsMostClosings signs (closing_bound signs) → IsMostClosings (Above ∷ signs) (suc (closing_bound signs))
-    onto m = record { most = most_closings (Above ∷ signs); place = suc m.place; within = omega (arith, m.within); met = omega (arith, closings-next Above signs m.place, m.met) }
+    onto m = record {
+      most = most_closings (Above ∷ signs);
+      place = suc m.place;
+      within = omega (arith, m.within);
+      met =
+          omega (arith, closings-next Above signs m.place, m.met);
+    }
 the_closing_bound_is_most (Even ∷ signs) = onto (the_closing_bound_is_most signs)
   where
     onto : IsMostClosings signs (closing_bound signs) → IsMostClosings (Even ∷ signs) (closing_bound signs)
-    onto m = record { most = most_closings (Even ∷ signs); place = suc m.place; within = omega (arith, m.within); met = omega (arith, closings-next Even signs m.place, m.met) }
+    onto m = record {
+      most = most_closings (Even ∷ signs);
+      place = suc m.place;
+      within = omega (arith, m.within);
+      met =
+          omega (arith, closings-next Even signs m.place, m.met);
+    }
 the_closing_bound_is_most (Under ∷ signs) = onto (the_closing_bound_is_most signs) (cases_lt (closing_bound signs) (suc (unders signs)))
   where
-    onto : IsMostClosings signs (closing_bound signs) → (closing_bound signs < suc (unders signs)) ⊎ (suc (unders signs) ≤ closing_bound signs) → IsMostClosings (Under ∷ signs) (closing_bound (Under ∷ signs))
-    onto m (inl h) = record { most = most_closings (Under ∷ signs); place = 0; within = omega arith; met = omega (arith, closings-first (Under ∷ signs), unders-cons Under signs, h) }
-    onto m (inr h) = record { most = most_closings (Under ∷ signs); place = suc m.place; within = omega (arith, m.within); met = omega (arith, closings-next Under signs m.place, m.met, h) }
+    onto : IsMostClosings signs (closing_bound signs) → (closing_bound signs < suc (unders signs))
+        ⊎ (suc (unders signs) ≤ closing_bound signs) → IsMostClosings (Under ∷ signs) (closing_bound (Under ∷ signs))
+    onto m (inl h) = record {
+      most = most_closings (Under ∷ signs);
+      place = 0;
+      within = omega arith;
+      met =
+          omega (arith, closings-first (Under ∷ signs), unders-cons Under signs, h);
+    }
+    onto m (inr h) = record {
+      most = most_closings (Under ∷ signs);
+      place = suc m.place;
+      within = omega (arith, m.within);
+      met =
+          omega (arith, closings-next Under signs m.place, m.met, h);
+    }

@@ -34,6 +34,7 @@ any_first : (lines : List Bool) (s : List ℕ) → begins_on_line lines s ≡ tr
 any_first lines [] e = absurd (cc)
 any_first lines (q ∷ s) e = or_left (on_line lines q) (list_any (on_line lines) s) e
 
+-- the bound with lines is at least the number of signs under
 pub bound_unders : (lines : List Bool) (signs : List Sign) (s : List ℕ) (segments : List (List ℕ)) → unders signs ≤ bound lines signs (s ∷ segments)
 bound_unders lines [] s segments = omega arith
 bound_unders lines (g ∷ signs) s segments = omega arith
@@ -44,7 +45,8 @@ begins-append : (lines : List Bool) (s t : List ℕ) → begins_on_line lines s 
 begins-append lines [] t e = absurd (cc)
 begins-append lines (q ∷ s) t e = e
 
-next_joined : (lines : List Bool) (signs : List Sign) (segments : List (List ℕ)) → next_on_line lines segments ≡ true → next_on_line lines (joined signs segments) ≡ true
+next_joined : (lines : List Bool) (signs : List Sign) (segments : List (List ℕ)) → next_on_line lines segments ≡ true
+    → next_on_line lines (joined signs segments) ≡ true
 next_joined lines signs [] e = absurd (cc)
 next_joined lines [] (s ∷ segments) e = e
 next_joined lines (Above ∷ signs) (s ∷ segments) e = e
@@ -56,20 +58,27 @@ next_joined lines (Even ∷ signs) (s ∷ segments) e = before (joined signs seg
     before (t ∷ rest) = begins-append lines s t e
 
 -- a segment that grows at its left is touched as well as before, and as well as what it grows by
-grown_rest : (lines : List Bool) (signs : List Sign) (s : List ℕ) (segments : List (List ℕ)) → bound lines signs segments ≤ bound lines signs (before_first_list s segments)
+grown_rest : (lines : List Bool) (signs : List Sign) (s : List ℕ) (segments : List (List ℕ))
+    → bound lines signs segments ≤ bound lines signs (before_first_list s segments)
 grown_rest lines signs s [] = omega arith
-grown_rest lines [] s (t ∷ segments) = more (list_any (on_line lines) t || next_on_line lines segments) (list_any (on_line lines) (s ++ t) || next_on_line lines segments)
-    (or_more (list_any (on_line lines) t) (next_on_line lines segments) (list_any (on_line lines) (s ++ t)) (next_on_line lines segments) (any_right (on_line lines) s t) (λ e. e))
+grown_rest lines [] s (t ∷ segments) = more (list_any (on_line lines) t || next_on_line lines segments)
+    (list_any (on_line lines) (s ++ t) || next_on_line lines segments)
+    (or_more (list_any (on_line lines) t) (next_on_line lines segments) (list_any (on_line lines) (s ++ t)) (next_on_line lines segments)
+    (any_right (on_line lines) s t) (λ e. e))
 grown_rest lines (g ∷ signs) s (t ∷ segments) = omega (
   arith,
   more (list_any (on_line lines) t || next_on_line lines segments) (list_any (on_line lines) (s ++ t) || next_on_line lines segments)
-      (or_more (list_any (on_line lines) t) (next_on_line lines segments) (list_any (on_line lines) (s ++ t)) (next_on_line lines segments) (any_right (on_line lines) s t) (λ e. e)),
+      (or_more (list_any (on_line lines) t) (next_on_line lines segments) (list_any (on_line lines) (s ++ t)) (next_on_line lines segments)
+      (any_right (on_line lines) s t) (λ e. e)),
 )
 
 grown_mark : (lines : List Bool) (s t : List ℕ) (segments : List (List ℕ))
-    → ◌≤◌ (cond {A = ℕ} (list_any (on_line lines) s || begins_on_line lines t) 1 0) (cond {A = ℕ} (list_any (on_line lines) (s ++ t) || next_on_line lines segments) 1 0)
+    → ◌≤◌ (cond {A = ℕ} (list_any (on_line lines) s || begins_on_line lines t) 1 0)
+    (cond {A = ℕ} (list_any (on_line lines) (s ++ t) || next_on_line lines segments) 1 0)
 grown_mark lines s t segments = more (list_any (on_line lines) s || begins_on_line lines t) (list_any (on_line lines) (s ++ t) || next_on_line lines segments)
-    (λ e. or_left (list_any (on_line lines) (s ++ t)) (next_on_line lines segments) (either (list_any (on_line lines) s) (begins_on_line lines t) (any_left (on_line lines) s t) (λ f. any_right (on_line lines) s t (any_first lines t f)) e))
+    (λ e. or_left (list_any (on_line lines) (s ++ t)) (next_on_line lines segments)
+    (either (list_any (on_line lines) s) (begins_on_line lines t) (any_left (on_line lines) s t)
+    (λ f. any_right (on_line lines) s t (any_first lines t f)) e))
   where
     either : {P : Type 0} (a b : Bool) → (a ≡ true → P) → (b ≡ true → P) → (a || b) ≡ true → P
     either true b f g e = f refl
@@ -82,7 +91,9 @@ grown_first lines (g ∷ signs) s [] = omega arith
 grown_first lines [] s (t ∷ segments) = omega (arith, grown_mark lines s t segments)
 grown_first lines (g ∷ signs) s (t ∷ segments) = omega (arith, grown_mark lines s t segments)
 
-pub joined_bound : (lines : List Bool) (signs : List Sign) (segments : List (List ℕ)) → bound lines signs segments ≤ bound lines (filter parts signs) (joined signs segments)
+-- joining segments at even signs doesn't lower it
+pub joined_bound : (lines : List Bool) (signs : List Sign) (segments : List (List ℕ))
+    → bound lines signs segments ≤ bound lines (filter parts signs) (joined signs segments)
 joined_bound lines signs [] = omega arith
 joined_bound lines [] (s ∷ segments) = omega arith
 joined_bound lines (Above ∷ signs) (s ∷ segments) = omega (
@@ -92,7 +103,8 @@ joined_bound lines (Above ∷ signs) (s ∷ segments) = omega (
   unders-cons Above signs,
   unders-cons Above (filter parts signs),
   more (list_any (on_line lines) s || next_on_line lines segments) (list_any (on_line lines) s || next_on_line lines (joined signs segments))
-      (or_more (list_any (on_line lines) s) (next_on_line lines segments) (list_any (on_line lines) s) (next_on_line lines (joined signs segments)) (λ e. e) (next_joined lines signs segments)),
+      (or_more (list_any (on_line lines) s) (next_on_line lines segments) (list_any (on_line lines) s)
+      (next_on_line lines (joined signs segments)) (λ e. e) (next_joined lines signs segments)),
 )
 joined_bound lines (Under ∷ signs) (s ∷ segments) = omega (
   arith,
@@ -101,7 +113,8 @@ joined_bound lines (Under ∷ signs) (s ∷ segments) = omega (
   unders-cons Under signs,
   unders-cons Under (filter parts signs),
   more (list_any (on_line lines) s || next_on_line lines segments) (list_any (on_line lines) s || next_on_line lines (joined signs segments))
-      (or_more (list_any (on_line lines) s) (next_on_line lines segments) (list_any (on_line lines) s) (next_on_line lines (joined signs segments)) (λ e. e) (next_joined lines signs segments)),
+      (or_more (list_any (on_line lines) s) (next_on_line lines segments) (list_any (on_line lines) s)
+      (next_on_line lines (joined signs segments)) (λ e. e) (next_joined lines signs segments)),
 )
 joined_bound lines (Even ∷ signs) (s ∷ segments) = omega (
   arith,
@@ -111,7 +124,8 @@ joined_bound lines (Even ∷ signs) (s ∷ segments) = omega (
   grown_first lines (filter parts signs) s (joined signs segments),
   grown_rest lines (filter parts signs) s (joined signs segments),
   more (list_any (on_line lines) s || next_on_line lines segments) (list_any (on_line lines) s || next_on_line lines (joined signs segments))
-      (or_more (list_any (on_line lines) s) (next_on_line lines segments) (list_any (on_line lines) s) (next_on_line lines (joined signs segments)) (λ e. e) (next_joined lines signs segments)),
+      (or_more (list_any (on_line lines) s) (next_on_line lines segments) (list_any (on_line lines) s)
+      (next_on_line lines (joined signs segments)) (λ e. e) (next_joined lines signs segments)),
 )
 
 -- what stands in front makes the bound no smaller
@@ -136,18 +150,23 @@ module _ (lines later : List Bool) (keeps : (q : ℕ) → on_line lines q ≡ tr
   next_more [] e = absurd (cc)
   next_more (s ∷ segments) e = begins_more s e
 
-  mark_more : (s : List ℕ) (b d : Bool) → (b ≡ true → d ≡ true) → ◌≤◌ (cond {A = ℕ} (list_any (on_line lines) s || b) 1 0) (cond {A = ℕ} (list_any (on_line later) s || d) 1 0)
-  mark_more s b d f = more (list_any (on_line lines) s || b) (list_any (on_line later) s || d) (or_more (list_any (on_line lines) s) b (list_any (on_line later) s) d (any_more s) f)
+  mark_more : (s : List ℕ) (b d : Bool) → (b ≡ true → d ≡ true)
+      → ◌≤◌ (cond {A = ℕ} (list_any (on_line lines) s || b) 1 0) (cond {A = ℕ} (list_any (on_line later) s || d) 1 0)
+  mark_more s b d f = more (list_any (on_line lines) s || b) (list_any (on_line later) s || d)
+      (or_more (list_any (on_line lines) s) b (list_any (on_line later) s) d (any_more s) f)
 
   bound_more : (signs : List Sign) (segments : List (List ℕ)) → bound lines signs segments ≤ bound later signs segments
   bound_more signs [] = omega arith
   bound_more [] (s ∷ segments) = mark_more s (next_on_line lines segments) (next_on_line later segments) (next_more segments)
-  bound_more (g ∷ signs) (s ∷ segments) = omega (arith, mark_more s (next_on_line lines segments) (next_on_line later segments) (next_more segments), bound_more signs segments)
+  bound_more (g ∷ signs) (s ∷ segments) = omega
+      (arith, mark_more s (next_on_line lines segments) (next_on_line later segments) (next_more segments), bound_more signs segments)
 
   -- from the valley on
   pub from_valley : (signs : List Sign) (v : List ℕ) (rest : List (List ℕ)) (ms back : List Sign) (news : List (List ℕ))
-      → (signs ≡ []) ⊎ ((signs ≡ Above ∷ back) × (length ms ≡ length news) × (length rest ≡ suc (length back))) → bound lines signs (v ∷ rest) ≤ 1 + bound later (ms ++ back) (news ++ rest)
-  from_valley signs v rest ms back news (inl e) = omega (arith, ap (λ (ss : List Sign). bound lines ss (v ∷ rest)) e, at_most_one (list_any (on_line lines) v || next_on_line lines rest))
+      → (signs ≡ []) ⊎ ((signs ≡ Above ∷ back) × (length ms ≡ length news) × (length rest ≡ suc (length back)))
+      → bound lines signs (v ∷ rest) ≤ 1 + bound later (ms ++ back) (news ++ rest)
+  from_valley signs v rest ms back news (inl e) =
+      omega (arith, ap (λ (ss : List Sign). bound lines ss (v ∷ rest)) e, at_most_one (list_any (on_line lines) v || next_on_line lines rest))
   from_valley signs v [] ms back news (inr h) = absurd (omega (arith, h.2))
   from_valley signs v (r ∷ rest) ms back news (inr h) = omega (
     arith,
@@ -160,34 +179,45 @@ module _ (lines later : List Bool) (keeps : (q : ℕ) → on_line lines q ≡ tr
   )
 
   -- from the last segment in front of it on
-  pub from_last : (g : Sign) (signs : List Sign) (s v : List ℕ) (rest : List (List ℕ)) (ms back : List Sign) (news : List (List ℕ)) → is_above g ≡ false → 0 < length ms
+  pub from_last : (g : Sign) (signs : List Sign) (s v : List ℕ) (rest : List (List ℕ)) (ms back : List Sign) (news : List (List ℕ))
+      → is_above g ≡ false → 0 < length ms
       → (begins_on_line lines v ≡ true → next_on_line later (news ++ rest) ≡ true)
       → ((signs ≡ []) × (back ≡ [])) ⊎ ((signs ≡ Above ∷ back) × (length ms ≡ suc (length news)) × (length rest ≡ suc (length back)))
       → (unders (g ∷ signs) ≤ 1 + unders (ms ++ back)) × (bound lines (g ∷ signs) (s ∷ v ∷ rest) ≤ 1 + bound later (ms ++ back) (s ∷ (news ++ rest)))
   from_last g signs s v rest [] back news low some first either = absurd (omega arith)
   from_last g signs s v rest (l ∷ ms) back news low some first either = (
     omega (arith, few),
-    omega (arith, few, valley either, mark_more s (begins_on_line lines v) (next_on_line later (news ++ rest)) first, ap (λ (b : Bool). cond {A = ℕ} b 1 0) low),
+    omega (
+      arith,
+      few,
+      valley either,
+      mark_more s (begins_on_line lines v) (next_on_line later (news ++ rest)) first,
+      ap (λ (b : Bool). cond {A = ℕ} b 1 0) low,
+    ),
   )
     where
-      few_behind : ((signs ≡ []) × (back ≡ [])) ⊎ ((signs ≡ Above ∷ back) × (length (l ∷ ms) ≡ suc (length news)) × (length rest ≡ suc (length back))) → unders signs ≤ unders back
+      few_behind : ((signs ≡ []) × (back ≡ []))
+          ⊎ ((signs ≡ Above ∷ back) × (length (l ∷ ms) ≡ suc (length news)) × (length rest ≡ suc (length back))) → unders signs ≤ unders back
       few_behind (inl h) = omega (arith, ap unders h.0)
       few_behind (inr h) = omega (arith, ap unders h.0, unders-cons Above back)
 
       few : unders (g ∷ signs) ≤ 1 + unders ((l ∷ ms) ++ back)
       few = omega (arith, few_behind either, unders-cons g signs, at_most_one (is_under g), unders-append (l ∷ ms) back)
 
-      valley : ((signs ≡ []) × (back ≡ [])) ⊎ ((signs ≡ Above ∷ back) × (length (l ∷ ms) ≡ suc (length news)) × (length rest ≡ suc (length back))) → bound lines signs (v ∷ rest) ≤ 1 + bound later (ms ++ back) (news ++ rest)
+      valley : ((signs ≡ []) × (back ≡ [])) ⊎ ((signs ≡ Above ∷ back) × (length (l ∷ ms) ≡ suc (length news))
+          × (length rest ≡ suc (length back))) → bound lines signs (v ∷ rest) ≤ 1 + bound later (ms ++ back) (news ++ rest)
       valley (inl h) = from_valley signs v rest ms back news (inl h.0)
       valley (inr h) = from_valley signs v rest ms back news (inr (h.0, omega (arith, h.1), h.2))
 
-  next_in_front : (j : ℕ) (segments : List (List ℕ)) (rest : List (List ℕ)) → next_on_line lines segments ≡ true → next_on_line later (take j segments ++ slice_index_or segments j [] ∷ rest) ≡ true
+  next_in_front : (j : ℕ) (segments : List (List ℕ)) (rest : List (List ℕ)) → next_on_line lines segments ≡ true
+      → next_on_line later (take j segments ++ slice_index_or segments j [] ∷ rest) ≡ true
   next_in_front j [] rest e = absurd (cc)
   next_in_front zero (s ∷ segments) rest e = begins_more s e
   next_in_front (suc j) (s ∷ segments) rest e = begins_more s e
 
   -- and from the first one on
-  pub from_first : (j : ℕ) (signs : List Sign) (segments : List (List ℕ)) (ns : List Sign) (rest : List (List ℕ)) → j < length signs → length segments ≡ length signs + 1
+  pub from_first : (j : ℕ) (signs : List Sign) (segments : List (List ℕ)) (ns : List Sign) (rest : List (List ℕ)) → j < length signs
+      → length segments ≡ length signs + 1
       → unders (drop j signs) ≤ 1 + unders ns → bound lines (drop j signs) (drop j segments) ≤ 1 + bound later ns (slice_index_or segments j [] ∷ rest)
       → bound lines signs segments ≤ 1 + bound later (take j signs ++ ns) (take j segments ++ slice_index_or segments j [] ∷ rest)
   from_first j [] segments ns rest h e few least = absurd (omega arith)
@@ -213,20 +243,43 @@ first_marked (g ∷ signs) mark marks = omega (arith, closings-first (g ∷ sign
 next_marked : (g : Sign) (signs : List Sign) (i : ℕ) (n m : ℕ) → closings signs i + m ≤ n → closings (g ∷ signs) (suc i) + m ≤ cond (is_above g) 1 0 + n
 next_marked g signs i n m h = omega (arith, closings-next g signs i)
 
-most_marked : (signs : List Sign) (marks : List Bool) → length marks ≡ length signs + 1 → (i : ℕ) → i < length marks → closings signs i + cond {A = ℕ} (slice_index_or marks i false) 1 0 ≤ line_bound signs marks
+most_marked : (signs : List Sign) (marks : List Bool) → length marks ≡ length signs + 1 → (i : ℕ) → i < length marks
+    → closings signs i + cond {A = ℕ} (slice_index_or marks i false) 1 0 ≤ line_bound signs marks
 most_marked signs [] e i h = absurd (omega arith)
 most_marked signs (mark ∷ marks) e zero h = first_marked signs mark marks
 most_marked [] (mark ∷ marks) e (suc i) h = absurd (omega arith)
 most_marked (g ∷ signs) (mark ∷ marks) e (suc i) h = omega (arith, closings-next g signs i, most_marked signs marks (omega arith) i (omega arith))
 
+-- the law: by the segments from the second on
 pub the_line_bound_is_most : TheLineBoundIsMost
 the_line_bound_is_most signs [] e = absurd (omega arith)
-the_line_bound_is_most [] (mark ∷ []) e = record { most = most_marked [] (mark ∷ []) e; place = 0; within = omega arith; met = omega (arith, closings-first []) }
+the_line_bound_is_most [] (mark ∷ []) e = record {
+  most = most_marked [] (mark ∷ []) e;
+  place = 0;
+  within = omega arith;
+  met =
+      omega (arith, closings-first []);
+}
 the_line_bound_is_most [] (mark ∷ next ∷ marks) e = absurd (omega arith)
-the_line_bound_is_most (g ∷ signs) (mark ∷ marks) e = cases (the_line_bound_is_most signs marks (omega arith)) (cases_lt (unders (g ∷ signs) + cond {A = ℕ} mark 1 0) (cond {A = ℕ} (is_above g) 1 0 + line_bound signs marks))
+the_line_bound_is_most (g ∷ signs) (mark ∷ marks) e =
+    cases (the_line_bound_is_most signs marks (omega arith))
+    (cases_lt (unders (g ∷ signs) + cond {A = ℕ} mark 1 0) (cond {A = ℕ} (is_above g) 1 0 + line_bound signs marks))
   where
     cases : IsMostMarked signs marks (line_bound signs marks)
-        → (unders (g ∷ signs) + cond {A = ℕ} mark 1 0 < cond {A = ℕ} (is_above g) 1 0 + line_bound signs marks) ⊎ (cond {A = ℕ} (is_above g) 1 0 + line_bound signs marks ≤ unders (g ∷ signs) + cond {A = ℕ} mark 1 0)
+        → (unders (g ∷ signs) + cond {A = ℕ} mark 1 0 < cond {A = ℕ} (is_above g) 1 0 + line_bound signs marks)
+        ⊎ (cond {A = ℕ} (is_above g) 1 0 + line_bound signs marks ≤ unders (g ∷ signs) + cond {A = ℕ} mark 1 0)
         → IsMostMarked (g ∷ signs) (mark ∷ marks) (line_bound (g ∷ signs) (mark ∷ marks))
-    cases m (inl h) = record { most = most_marked (g ∷ signs) (mark ∷ marks) e; place = suc m.place; within = omega (arith, m.within); met = omega (arith, h, closings-next g signs m.place, m.met) }
-    cases m (inr h) = record { most = most_marked (g ∷ signs) (mark ∷ marks) e; place = 0; within = omega arith; met = omega (arith, h, closings-first (g ∷ signs)) }
+    cases m (inl h) = record {
+      most = most_marked (g ∷ signs) (mark ∷ marks) e;
+      place = suc m.place;
+      within = omega (arith, m.within);
+      met =
+          omega (arith, h, closings-next g signs m.place, m.met);
+    }
+    cases m (inr h) = record {
+      most = most_marked (g ∷ signs) (mark ∷ marks) e;
+      place = 0;
+      within = omega arith;
+      met =
+          omega (arith, h, closings-first (g ∷ signs));
+    }

@@ -43,16 +43,22 @@ module _ (lines later : List Bool) (keeps : (q : ℕ) → on_line lines q ≡ tr
       either : ((drop 0 signs ≡ []) × (drop (0 + 1) signs ≡ [])) ⊎ (drop 0 signs ≡ Above ∷ drop (0 + 1) signs)
           → (signs ≡ []) ⊎ ((signs ≡ Above ∷ drop 1 signs) × (length ms ≡ length news) × (length rest ≡ suc (length (drop 1 signs))))
       either (inl h) = inl h.0
-      either (inr h) = inr (is, omega (arith, f.fit (omega (arith, ap length is)), ap (λ (ss : List Sign). length (ss ++ ms)) none), omega (arith, f.long, ap length is))
+      either (inr h) = inr (
+        is,
+        omega (arith, f.fit (omega (arith, ap length is)), ap (λ (ss : List Sign). length (ss ++ ms)) none),
+        omega (arith, f.long, ap length is),
+      )
         where
           is : signs ≡ Above ∷ drop 1 signs
           is = h
 
   at_next : (j : ℕ) (signs : List Sign) (segments : List (List ℕ)) (ms : List Sign) (news : List (List ℕ)) → Fits lines later (suc j) signs segments ms news
-      → bound lines signs segments ≤ 1 + bound later ((take (suc j - 1) signs ++ ms) ++ drop (suc j + 1) signs) ((take (suc j) segments ++ news) ++ drop (suc j + 1) segments)
+      → bound lines signs segments ≤ 1 + bound later ((take (suc j - 1) signs ++ ms) ++ drop (suc j + 1) signs)
+      ((take (suc j) segments ++ news) ++ drop (suc j + 1) segments)
   at_next j signs segments ms news f = omega (
     arith,
-    from_first lines later keeps j signs segments (ms ++ drop (suc j + 1) signs) (news ++ drop (suc j + 1) segments) few f.long (omega (arith, last.0, ap unders signs_are)) least,
+    from_first lines later keeps j signs segments (ms ++ drop (suc j + 1) signs) (news ++ drop (suc j + 1) segments) few f.long
+        (omega (arith, last.0, ap unders signs_are)) least,
     same,
   )
     where
@@ -70,10 +76,13 @@ module _ (lines later : List Bool) (keeps : (q : ℕ) → on_line lines q ≡ tr
 
       segments_are : drop j segments ≡ slice_index_or segments j [] ∷ slice_index_or segments (suc j) [] ∷ drop (suc j + 1) segments
       segments_are = drop-cons segments j [] (omega (arith, few, f.long))
-          ∙ ap (λ ss. slice_index_or segments j [] ∷ ss) (drop-cons segments (suc j) [] (omega (arith, few, f.long)) ∙ (λ i. slice_index_or segments (suc j) [] ∷ drop (sym next i) segments))
+          ∙ ap (λ ss. slice_index_or segments j [] ∷ ss) (drop-cons segments (suc j) [] (omega (arith, few, f.long))
+          ∙ (λ i. slice_index_or segments (suc j) [] ∷ drop (sym next i) segments))
 
       either : ((drop (suc j) signs ≡ []) × (drop (suc j + 1) signs ≡ [])) ⊎ (drop (suc j) signs ≡ Above ∷ drop (suc j + 1) signs)
-          → ((drop (suc j) signs ≡ []) × (drop (suc j + 1) signs ≡ [])) ⊎ ((drop (suc j) signs ≡ Above ∷ drop (suc j + 1) signs) × (length ms ≡ suc (length news)) × (length (drop (suc j + 1) segments) ≡ suc (length (drop (suc j + 1) signs))))
+          → ((drop (suc j) signs ≡ []) × (drop (suc j + 1) signs ≡ []))
+          ⊎ ((drop (suc j) signs ≡ Above ∷ drop (suc j + 1) signs) × (length ms ≡ suc (length news))
+          × (length (drop (suc j + 1) segments) ≡ suc (length (drop (suc j + 1) signs))))
       either (inl h) = inl h
       either (inr h) = inr (
         h,
@@ -98,15 +107,20 @@ module _ (lines later : List Bool) (keeps : (q : ℕ) → on_line lines q ≡ tr
           right = omega (arith, ap length h, length-drop (suc j) signs)
 
       last : (unders (slice_index_or signs j Even ∷ drop (suc j) signs) ≤ 1 + unders (ms ++ drop (suc j + 1) signs))
-          × (bound lines (slice_index_or signs j Even ∷ drop (suc j) signs) (slice_index_or segments j [] ∷ slice_index_or segments (suc j) [] ∷ drop (suc j + 1) segments)
+          × (bound lines (slice_index_or signs j Even ∷ drop (suc j) signs)
+          (slice_index_or segments j [] ∷ slice_index_or segments (suc j) [] ∷ drop (suc j + 1) segments)
           ≤ 1 + bound later (ms ++ drop (suc j + 1) signs) (slice_index_or segments j [] ∷ (news ++ drop (suc j + 1) segments)))
-      last = from_last lines later keeps (slice_index_or signs j Even) (drop (suc j) signs) (slice_index_or segments j []) (slice_index_or segments (suc j) []) (drop (suc j + 1) segments) ms (drop (suc j + 1) signs) news
+      last = from_last lines later keeps (slice_index_or signs j Even) (drop (suc j) signs) (slice_index_or segments j [])
+          (slice_index_or segments (suc j) []) (drop (suc j + 1) segments) ms (drop (suc j + 1) signs) news
           (f.low j refl) (f.some (omega arith)) f.first (either f.behind)
 
-      least : bound lines (drop j signs) (drop j segments) ≤ 1 + bound later (ms ++ drop (suc j + 1) signs) (slice_index_or segments j [] ∷ (news ++ drop (suc j + 1) segments))
+      least : bound lines (drop j signs) (drop j segments)
+          ≤ 1 + bound later (ms ++ drop (suc j + 1) signs) (slice_index_or segments j [] ∷ (news ++ drop (suc j + 1) segments))
       least = omega (arith, last.1, here)
         where
-          here : bound lines (drop j signs) (drop j segments) ≡ bound lines (slice_index_or signs j Even ∷ drop (suc j) signs) (slice_index_or segments j [] ∷ slice_index_or segments (suc j) [] ∷ drop (suc j + 1) segments)
+          here : bound lines (drop j signs) (drop j segments)
+              ≡ bound lines (slice_index_or signs j Even ∷ drop (suc j) signs)
+              (slice_index_or segments j [] ∷ slice_index_or segments (suc j) [] ∷ drop (suc j + 1) segments)
           here = λ i. bound lines (signs_are i) (segments_are i)
 
       same : bound later ((take (suc j - 1) signs ++ ms) ++ drop (suc j + 1) signs) ((take (suc j) segments ++ news) ++ drop (suc j + 1) segments)
@@ -119,7 +133,8 @@ module _ (lines later : List Bool) (keeps : (q : ℕ) → on_line lines q ≡ tr
           left : (take (suc j - 1) signs ++ ms) ++ drop (suc j + 1) signs ≡ take j signs ++ (ms ++ drop (suc j + 1) signs)
           left = (λ i. (take (back i) signs ++ ms) ++ drop (suc j + 1) signs) ∙ append_assoc (take j signs) ms (drop (suc j + 1) signs)
 
-          right : (take (suc j) segments ++ news) ++ drop (suc j + 1) segments ≡ take j segments ++ slice_index_or segments j [] ∷ (news ++ drop (suc j + 1) segments)
+          right : (take (suc j) segments ++ news) ++ drop (suc j + 1) segments ≡ take j segments
+              ++ slice_index_or segments j [] ∷ (news ++ drop (suc j + 1) segments)
           right = (λ i. (take-suc segments j [] (omega (arith, few, f.long)) i ++ news) ++ drop (suc j + 1) segments)
               ∙ append_assoc (take j segments ++ slice_index_or segments j [] ∷ []) news (drop (suc j + 1) segments)
               ∙ append_assoc (take j segments) (slice_index_or segments j [] ∷ []) (news ++ drop (suc j + 1) segments)
@@ -149,11 +164,13 @@ module _ (o : Outline) (lines : List Bool) (m : Move) (legal : IsLegalMove o m) 
   later = lines ++ begins_on_line lines (valley_of o) ∷ replicate (m.count - 1) (nat_eq (length o.closed) 0)
 
   keeps : (q : ℕ) → on_line lines q ≡ true → on_line (lines_after o lines m) q ≡ true
-  keeps q e = get_front lines (begins_on_line lines (valley_of o) ∷ replicate (m.count - 1) (nat_eq (length o.closed) 0)) (q - 1) false (true_within lines (q - 1) e) ∙ e
+  keeps q e = get_front lines (begins_on_line lines (valley_of o) ∷ replicate (m.count - 1) (nat_eq (length o.closed) 0)) (q - 1) false
+      (true_within lines (q - 1) e) ∙ e
 
   -- the first new square goes on with the line at the left of the valley
   first_is : on_line (lines_after o lines m) (length o.hung + 1) ≡ begins_on_line lines (valley_of o)
-  first_is = get_back lines (begins_on_line lines (valley_of o) ∷ replicate (m.count - 1) (nat_eq (length o.closed) 0)) 0 (length o.hung + 1 - 1) false (omega (arith, long))
+  first_is = get_back lines (begins_on_line lines (valley_of o) ∷ replicate (m.count - 1) (nat_eq (length o.closed) 0)) 0
+      (length o.hung + 1 - 1) false (omega (arith, long))
 
   first_new : (k : ℕ) → 0 < k → begins_on_line lines (valley_of o) ≡ true
       → next_on_line (lines_after o lines m) (map (λ q. q ∷ []) (numbers_from (length o.hung + 1) k) ++ drop (valley_place o.signs + 1) o.segments) ≡ true
@@ -174,6 +191,7 @@ module _ (o : Outline) (lines : List Bool) (m : Move) (legal : IsLegalMove o m) 
     first = λ e. first_new m.count legal.some e;
   }
 
+  -- a legal move lowers it by at most 1
   pub line_bound_after : bound lines o.signs o.segments ≤ 1 + bound (lines_after o lines m) (after_move o m).signs (after_move o m).segments
   line_bound_after = omega (
     arith,
@@ -183,7 +201,9 @@ module _ (o : Outline) (lines : List Bool) (m : Move) (legal : IsLegalMove o m) 
 
 -- ---- along a word
 
-pub lines_long : (o : Outline) (lines : List Bool) (w : Word) → AreLegalFrom o w → length lines ≡ length o.hung → length (lines_along o lines w) ≡ length (after_moves o w).hung
+-- lines are told of each square
+pub lines_long : (o : Outline) (lines : List Bool) (w : Word) → AreLegalFrom o w → length lines ≡ length o.hung
+    → length (lines_along o lines w) ≡ length (after_moves o w).hung
 lines_long o lines [] legal e = e
 lines_long o lines (m ∷ w) legal e = lines_long (after_move o m) (lines_after o lines m) w legal.1 (omega (
   arith,
@@ -195,6 +215,8 @@ lines_long o lines (m ∷ w) legal e = lines_long (after_move o m) (lines_after 
   length-replicate m.count (length o.closed),
 ))
 
-pub lines-append : (o : Outline) (lines : List Bool) (front rest : Word) → lines_along o lines (front ++ rest) ≡ lines_along (after_moves o front) (lines_along o lines front) rest
+-- the lines of two parts, one after the other
+pub lines-append : (o : Outline) (lines : List Bool) (front rest : Word)
+    → lines_along o lines (front ++ rest) ≡ lines_along (after_moves o front) (lines_along o lines front) rest
 lines-append o lines [] rest = refl
 lines-append o lines (m ∷ front) rest = lines-append (after_move o m) (lines_after o lines m) front rest

@@ -79,18 +79,22 @@ kept b (Even ∷ signs) (s ∷ segments) back rest e p = omega (
   low_is_more b (filter parts (signs ++ back)) (before_first_list s (joined (signs ++ back) (segments ++ rest))),
 )
 
-behind_next : (g : Sign) (signs : List Sign) (s : List ℕ) (segments : List (List ℕ)) (k : ℕ) → singles false (drop (suc k + 1) (g ∷ signs)) (drop (suc k + 1) (s ∷ segments)) ≡ singles false (drop (k + 1) signs) (drop (k + 1) segments)
+behind_next : (g : Sign) (signs : List Sign) (s : List ℕ) (segments : List (List ℕ)) (k : ℕ)
+    → singles false (drop (suc k + 1) (g ∷ signs)) (drop (suc k + 1) (s ∷ segments)) ≡ singles false (drop (k + 1) signs) (drop (k + 1) segments)
 behind_next g signs s segments k = λ i. singles false (drop_next g signs k i) (drop_next s segments k i)
 
 -- no segment before the leftmost valley is one
 at_valley : (signs : List Sign) (segments : List (List ℕ)) → singles true signs segments
-    ≤ single_valley true (length (slice_index_or segments (valley_place signs) [])) + singles false (drop (valley_place signs + 1) signs) (drop (valley_place signs + 1) segments)
+    ≤ single_valley true (length (slice_index_or segments (valley_place signs) []))
+    + singles false (drop (valley_place signs + 1) signs) (drop (valley_place signs + 1) segments)
 at_valley signs [] = omega arith
 at_valley [] (s ∷ segments) = omega arith
 at_valley (Above ∷ signs) (s ∷ segments) = omega arith
-at_valley (Even ∷ signs) (s ∷ segments) = omega (arith, at_valley signs segments, low_is_more true signs segments, behind_next Even signs s segments (valley_place signs))
+at_valley (Even ∷ signs) (s ∷ segments) = omega
+    (arith, at_valley signs segments, low_is_more true signs segments, behind_next Even signs s segments (valley_place signs))
 at_valley (Under ∷ signs) (s ∷ segments) = omega (arith, at_valley signs segments, behind_next Under signs s segments (valley_place signs))
 
+-- the leftmost valley is one of the segments
 pub place_within : (signs : List Sign) → valley_place signs ≤ length signs
 place_within [] = omega arith
 place_within (Above ∷ signs) = omega arith
@@ -113,12 +117,20 @@ module _ (o : Outline) (m : Move) (legal : IsLegalMove o m) (shape : Shaped o) w
   new : List (List ℕ)
   new = take (valley_place o.signs) o.segments ++ map (λ q. q ∷ []) (new_squares o m)
 
+  -- a side is open where its place isn't the wall's
   pub wall_test : (a b : ℕ) → (a ≡ b → open_side (nat_eq a b) ≡ 0) × ((a ≡ b → ⊥) → open_side (nat_eq a b) ≡ 1)
   wall_test a b = ((λ e. grind (arith, nat_tests)), (λ e. grind (arith, nat_tests)))
 
+  -- the signs up to the new squares, counted
   pub front_long : length (take (valley_place o.signs - 1) o.signs ++ m.signs) ≡ valley_place o.signs - 1 + length m.signs
-  front_long = omega (arith, length-append (take (valley_place o.signs - 1) o.signs) m.signs, length-take (valley_place o.signs - 1) o.signs, place_within o.signs)
+  front_long = omega (
+    arith,
+    length-append (take (valley_place o.signs - 1) o.signs) m.signs,
+    length-take (valley_place o.signs - 1) o.signs,
+    place_within o.signs,
+  )
 
+  -- and the segments
   pub new_long : length (take (valley_place o.signs) o.segments ++ map (λ q. q ∷ []) (new_squares o m)) ≡ valley_place o.signs + m.count
   new_long = omega (
     arith,
@@ -130,32 +142,45 @@ module _ (o : Outline) (m : Move) (legal : IsLegalMove o m) (shape : Shaped o) w
     shape.many,
   )
 
-  pub same_length : valley_place o.signs < length o.signs → length (take (valley_place o.signs - 1) o.signs ++ m.signs) ≡ length (take (valley_place o.signs) o.segments ++ map (λ q. q ∷ []) (new_squares o m))
+  -- they are as many
+  pub same_length : valley_place o.signs < length o.signs
+      → length (take (valley_place o.signs - 1) o.signs ++ m.signs) ≡ length (take (valley_place o.signs) o.segments ++ map (λ q. q ∷ []) (new_squares o m))
   same_length h = cases (cases_lt 0 (valley_place o.signs))
     where
       right : open_side (has_right_wall o) ≡ 1
       right = (wall_test (valley_place o.signs) (length o.signs)).1 (λ e. absurd (omega arith))
 
-      cases : (0 < valley_place o.signs) ⊎ (valley_place o.signs ≤ 0) → length (take (valley_place o.signs - 1) o.signs ++ m.signs) ≡ length (take (valley_place o.signs) o.segments ++ map (λ q. q ∷ []) (new_squares o m))
+      cases : (0 < valley_place o.signs) ⊎ (valley_place o.signs ≤ 0)
+          → length (take (valley_place o.signs - 1) o.signs ++ m.signs) ≡ length (take (valley_place o.signs) o.segments ++ map (λ q. q ∷ []) (new_squares o m))
       cases (inl k) = omega (arith, front_long, new_long, legal.signs, right, (wall_test (valley_place o.signs) 0).1 (λ e. absurd (omega arith)))
       cases (inr k) = omega (arith, front_long, new_long, legal.signs, right, (wall_test (valley_place o.signs) 0).0 (omega arith))
 
   -- behind the valley
-  behind_kept : singles false (drop (valley_place o.signs + 1) o.signs) (drop (valley_place o.signs + 1) o.segments) ≤ singles true (after_move o m).signs (after_move o m).segments
+  behind_kept : singles false (drop (valley_place o.signs + 1) o.signs) (drop (valley_place o.signs + 1) o.segments)
+      ≤ singles true (after_move o m).signs (after_move o m).segments
   behind_kept = cases (cases_lt (valley_place o.signs) (length o.signs))
     where
       none : (back : List Sign) (rest : List (List ℕ)) → length rest ≡ 0 → singles false back rest ≡ 0
       none back [] e = refl
       none back (s ∷ rest) e = absurd (omega arith)
 
-      cases : (valley_place o.signs < length o.signs) ⊎ (length o.signs ≤ valley_place o.signs) → singles false (drop (valley_place o.signs + 1) o.signs) (drop (valley_place o.signs + 1) o.segments) ≤ singles true (after_move o m).signs (after_move o m).segments
-      cases (inr h) = omega (arith, none (drop (valley_place o.signs + 1) o.signs) (drop (valley_place o.signs + 1) o.segments) (omega (arith, length-drop (valley_place o.signs + 1) o.segments, shape.many)))
+      cases : (valley_place o.signs < length o.signs) ⊎ (length o.signs ≤ valley_place o.signs)
+          → singles false (drop (valley_place o.signs + 1) o.signs) (drop (valley_place o.signs + 1) o.segments)
+          ≤ singles true (after_move o m).signs (after_move o m).segments
+      cases (inr h) = omega (
+        arith,
+        none (drop (valley_place o.signs + 1) o.signs) (drop (valley_place o.signs + 1) o.segments)
+            (omega (arith, length-drop (valley_place o.signs + 1) o.segments, shape.many)),
+      )
       cases (inl h) = omega (
         arith,
-        kept true (take (valley_place o.signs - 1) o.signs ++ m.signs) (take (valley_place o.signs) o.segments ++ map (λ q. q ∷ []) (new_squares o m)) (drop (valley_place o.signs + 1) o.signs) (drop (valley_place o.signs + 1) o.segments)
+        kept true (take (valley_place o.signs - 1) o.signs ++ m.signs)
+            (take (valley_place o.signs) o.segments ++ map (λ q. q ∷ []) (new_squares o m)) (drop (valley_place o.signs + 1) o.signs)
+            (drop (valley_place o.signs + 1) o.segments)
             (same_length h) (parted_behind o.signs (valley_place o.signs + 1) shape.parted),
       )
 
   -- a move takes away at most the valley that it closes
-  pub singles_after : single_valleys o.signs (sizes_of o) ≤ single_valley true (length (valley_of o)) + single_valleys (after_move o m).signs (sizes_of (after_move o m))
+  pub singles_after : single_valleys o.signs (sizes_of o)
+      ≤ single_valley true (length (valley_of o)) + single_valleys (after_move o m).signs (sizes_of (after_move o m))
   singles_after = omega (arith, at_valley o.signs o.segments, behind_kept)

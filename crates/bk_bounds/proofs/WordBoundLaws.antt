@@ -17,6 +17,7 @@ use Rattle.bk_bounds.specs.SingleValleys.{single_valley, single_valleys, sizes_o
 use Rattle.bk_bounds.specs.VerticalCut.{line_bound, lines_after, lines_along, lines_of, on_line, touched}
 use Rattle.bk_bounds.specs.WordBounds.{ClosingsAreHung, LinesAreHung, HangNoPairsFrom, HangsNoPair, SinglesAreHung}
 
+-- without pairs from the start on is so after the first moves
 pub no_pairs_rest : (o : Outline) (front rest : Word) → HangNoPairsFrom o (front ++ rest) → HangNoPairsFrom (after_moves o front) rest
 no_pairs_rest o [] rest p = p
 no_pairs_rest o (m ∷ front) rest p = no_pairs_rest (after_move o m) front rest p.1
@@ -33,11 +34,13 @@ closings_left o (m ∷ rest) legal shaped one =
 abbrev at_end : (front rest : Word) → outline_of (front ++ rest) ≡ after_moves (outline_of front) rest
 at_end front rest = after_moves-append start front rest
 
+-- the laws: the bound falls with each move by at most the squares that it hangs
 pub closings_are_hung : ClosingsAreHung
 closings_are_hung front rest complete = omega (
   arith,
   order_append front rest,
-  closings_left (outline_of front) rest (legal_rest start front rest complete.legal) (shaped_moves start front (legal_front start front rest complete.legal) shaped_start)
+  closings_left (outline_of front) rest (legal_rest start front rest complete.legal)
+      (shaped_moves start front (legal_front start front rest complete.legal) shaped_start)
       (ap (λ (o : Outline). length o.segments) (sym (at_end front rest)) ∙ complete.one),
 )
 
@@ -53,13 +56,15 @@ single_move o m legal no_pair = cases (single_case (length (valley_of o))) (two 
     two : (k : ℕ) → (k ≤ 1) ⊎ (2 ≤ k)
     two k = grind arith
 
-    cases : ((length (valley_of o) ≡ 1) × (single_valley true (length (valley_of o)) ≡ 1)) ⊎ (single_valley true (length (valley_of o)) ≡ 0) → (m.count ≤ 1) ⊎ (2 ≤ m.count)
+    cases : ((length (valley_of o) ≡ 1) × (single_valley true (length (valley_of o)) ≡ 1)) ⊎ (single_valley true (length (valley_of o)) ≡ 0)
+        → (m.count ≤ 1) ⊎ (2 ≤ m.count)
         → single_valley true (length (valley_of o)) + 1 ≤ m.count
     cases (inl h) (inl k) = absurd (no_pair h.0 (omega (arith, k, legal.some)))
     cases (inl h) (inr k) = omega (arith, h.1, k)
     cases (inr h) k = omega (arith, h, legal.some)
 
-last_is_none : (segments : List (List ℕ)) → length segments ≡ 1 → ((s : List ℕ) → segments ≡ s ∷ [] → length s ≡ 1 → ⊥) → single_valleys [] (map length segments) ≡ 0
+last_is_none : (segments : List (List ℕ)) → length segments ≡ 1 → ((s : List ℕ) → segments ≡ s ∷ [] → length s ≡ 1 → ⊥)
+    → single_valleys [] (map length segments) ≡ 0
 last_is_none [] one last = absurd (omega arith)
 last_is_none (s ∷ u ∷ segments) one last = absurd (omega arith)
 last_is_none (s ∷ []) one last = cases (single_case (length s))
@@ -87,7 +92,8 @@ pub singles_are_hung : SinglesAreHung
 singles_are_hung front rest complete pairs = omega (
   arith,
   order_append front rest,
-  singles_left (outline_of front) rest (legal_rest start front rest complete.legal) (shaped_moves start front (legal_front start front rest complete.legal) shaped_start)
+  singles_left (outline_of front) rest (legal_rest start front rest complete.legal)
+      (shaped_moves start front (legal_front start front rest complete.legal) shaped_start)
       (ap (λ (o : Outline). length o.segments) (sym (at_end front rest)) ∙ complete.one)
       (no_pairs_rest start front rest pairs.moves)
       (λ s e. pairs.last s (ap (λ (o : Outline). o.segments) (at_end front rest) ∙ e)),
@@ -95,7 +101,8 @@ singles_are_hung front rest complete pairs = omega (
 
 -- ---- lines from the top
 
-no_line : (lines : List Bool) (segments : List (List ℕ)) → length segments ≡ 1 → ((s : List ℕ) → segments ≡ s ∷ [] → list_any (on_line lines) s ≡ true → ⊥) → line_bound [] (touched lines segments) ≡ 0
+no_line : (lines : List Bool) (segments : List (List ℕ)) → length segments ≡ 1
+    → ((s : List ℕ) → segments ≡ s ∷ [] → list_any (on_line lines) s ≡ true → ⊥) → line_bound [] (touched lines segments) ≡ 0
 no_line lines [] one none = refl
 no_line lines (s ∷ u ∷ segments) one none = absurd (omega arith)
 no_line lines (s ∷ []) one none = cases (list_any (on_line lines) s) refl
@@ -104,7 +111,8 @@ no_line lines (s ∷ []) one none = cases (list_any (on_line lines) s) refl
     cases false f = refl
     cases true f = absurd (none s refl f)
 
-lines_left : (o : Outline) (lines : List Bool) (rest : Word) → AreLegalFrom o rest → Shaped o → length lines ≡ length o.hung → length (after_moves o rest).segments ≡ 1 → HangNoPairsFrom o rest
+lines_left : (o : Outline) (lines : List Bool) (rest : Word) → AreLegalFrom o rest → Shaped o → length lines ≡ length o.hung
+    → length (after_moves o rest).segments ≡ 1 → HangNoPairsFrom o rest
     → ((s : List ℕ) → (after_moves o rest).segments ≡ s ∷ [] → length s ≡ 1 → ⊥)
     → ((s : List ℕ) → (after_moves o rest).segments ≡ s ∷ [] → list_any (on_line (lines_along o lines rest)) s ≡ true → ⊥)
     → line_bound o.signs (touched lines o.segments) + single_valleys o.signs (sizes_of o) ≤ order_of rest
@@ -120,7 +128,8 @@ lines_left o lines (m ∷ rest) legal shaped long one pairs last none = omega (
   line_bound_after o lines m legal.0 shaped long,
   singles_after o m legal.0 shaped,
   single_move o m legal.0 pairs.0,
-  lines_left (after_move o m) (lines_after o lines m) rest legal.1 (shaped_move o m legal.0 shaped) (lines_long o lines (m ∷ []) (legal.0, tt) long) one pairs.1 last none,
+  lines_left (after_move o m) (lines_after o lines m) rest legal.1 (shaped_move o m legal.0 shaped)
+      (lines_long o lines (m ∷ []) (legal.0, tt) long) one pairs.1 last none,
   order_more m rest,
 )
 
@@ -128,7 +137,8 @@ pub lines_are_hung : LinesAreHung
 lines_are_hung front rest complete pairs none = omega (
   arith,
   order_append front rest,
-  lines_left (outline_of front) (lines_of front) rest (legal_rest start front rest complete.legal) (shaped_moves start front (legal_front start front rest complete.legal) shaped_start)
+  lines_left (outline_of front) (lines_of front) rest (legal_rest start front rest complete.legal)
+      (shaped_moves start front (legal_front start front rest complete.legal) shaped_start)
       (lines_long start [] front (legal_front start front rest complete.legal) refl)
       (ap (λ (o : Outline). length o.segments) (sym (at_end front rest)) ∙ complete.one)
       (no_pairs_rest start front rest pairs.moves)

@@ -30,7 +30,9 @@ pub record CarriesTo (t : Tiling) (f : Square → Square) (r r' : Rectangle) : T
   pub cell : (i j : ℕ) → IsCellOf r' i j → IsCellOf r (column i j) (level i j)
   pub same : (i j : ℕ) → IsCellOf r' i j → (q : Square) → IsOneOf q t.squares → covers i j (f q) ≡ covers (column i j) (level i j) q
 
-pub count_mapped : (f : Square → Square) (p c : Square → Bool) (squares : List Square) → ((q : Square) → IsOneOf q squares → p (f q) ≡ c q) → count_by p (map f squares) ≡ count_by c squares
+-- counted among mapped squares
+pub count_mapped : (f : Square → Square) (p c : Square → Bool) (squares : List Square) → ((q : Square) → IsOneOf q squares → p (f q) ≡ c q)
+    → count_by p (map f squares) ≡ count_by c squares
 count_mapped f p c [] each = refl
 count_mapped f p c (q ∷ squares) each = omega (
   arith,
@@ -40,6 +42,7 @@ count_mapped f p c (q ∷ squares) each = omega (
   count_mapped f p c squares (λ r h. each r (inr h)),
 )
 
+-- all squares, counted
 pub count_all : (squares : List Square) → count_by (λ _. true) squares ≡ length squares
 count_all [] = refl
 count_all (q ∷ squares) = omega (arith, count-cons (λ _. true) q squares, count_all squares)
@@ -48,7 +51,8 @@ count_filtered : (p c : Square → Bool) (squares : List Square) → count_by c 
 count_filtered p c [] = refl
 count_filtered p c (q ∷ squares) = cases (p q) refl (count_filtered p c squares)
   where
-    cases : (b : Bool) → p q ≡ b → count_by c (filter p squares) ≡ count_by (λ q. p q && c q) squares → count_by c (cond b (q ∷ filter p squares) (filter p squares)) ≡ count_by (λ q. p q && c q) (q ∷ squares)
+    cases : (b : Bool) → p q ≡ b → count_by c (filter p squares) ≡ count_by (λ q. p q && c q) squares
+        → count_by c (cond b (q ∷ filter p squares) (filter p squares)) ≡ count_by (λ q. p q && c q) (q ∷ squares)
     cases true e rest = let here : ◌≡◌ {A = ℕ} (cond (p q && c q) 1 0) (cond (c q) 1 0) = ap (λ (b : Bool). cond {A = ℕ} (b && c q) 1 0) e in
         omega (arith, count-cons c q (filter p squares), count-cons (λ q. p q && c q) q squares, here, rest)
     cases false e rest = let here : ◌≡◌ {A = ℕ} (cond (p q && c q) 1 0) 0 = ap (λ (b : Bool). cond {A = ℕ} (b && c q) 1 0) e in
@@ -59,6 +63,7 @@ module _ (t u : Tiling) (f g : Square → Square) (carries : Carries t u f g) wh
   pub kept : (p c : Square → Bool) → ((q : Square) → IsOneOf q t.squares → p (f q) ≡ c q) → count_by p u.squares ≡ count_by c t.squares
   kept p c each = carries.counts p ∙ count_mapped f p c t.squares each
 
+  -- a tiling carried to another has as many squares
   pub as_many : length u.squares ≡ length t.squares
   as_many = sym (count_all u.squares) ∙ kept (λ _. true) (λ _. true) (λ q h. refl) ∙ count_all t.squares
 
@@ -93,6 +98,7 @@ module _ (t u : Tiling) (f g : Square → Square) (carries : Carries t u f g) wh
         ∙ sym (count_filtered part.pick (covers (to.column i j) (to.level i j)) t.squares)
         ∙ (part.tiled).once (to.column i j) (to.level i j) k.left k.right k.top k.bottom
 
+    -- a part is carried to a part
     pub carried : IsPart u r'
     carried = record {
       pick = picked;

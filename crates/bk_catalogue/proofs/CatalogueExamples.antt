@@ -16,15 +16,18 @@ use Rattle.bk_lay.specs.TilingWord.{IsWordOf}
 use Rattle.bk_catalogue.proofs.TwoSquares.{only_row_of_two, row_of_two}
 use Rattle.bk_catalogue.specs.Catalogue.{Entry, IsCatalogue, IsEntry}
 
+-- the word 2e of the row of two squares
 abbrev pub row_word : Word
 row_word = two Even ∷ []
 
+-- the row with its word
 abbrev pub row_entry : Entry
 row_entry = record { tiling = row_of_two; word = row_word }
 
 row_is : IsTiling row_of_two
 row_is = tiling_from_test row_of_two refl
 
+-- it has this word
 pub has_word : IsWordOf row_of_two row_word
 has_word = word_by_valleys row_of_two [] (record { x = 0; width = 2; level = 0 } ∷ []) (by_tests _ _ _ refl refl refl refl refl refl, refl, refl)
 
@@ -51,6 +54,7 @@ canonical = record {
   ];
 }
 
+-- it is an entry of order 2 of the class imperfect
 pub entry_is : IsEntry 2 Imperfect row_entry
 entry_is = record { member = record { tiling = row_is; order = refl; simple = simple; class = imperfect; canonical = canonical }; word = has_word }
 
@@ -58,9 +62,11 @@ entry_is = record { member = record { tiling = row_is; order = refl; simple = si
 row_of : (e : Entry) → IsEntry 2 Imperfect e → e.tiling ≡ row_of_two
 row_of e is = only_row_of_two e.tiling (is.member).tiling (is.member).order (is.member).canonical
 
+-- each such entry has this word
 pub row_word_of : (e : Entry) → IsEntry 2 Imperfect e → row_word ≡ e.word
 row_word_of e is = a_tiling_has_one_word row_of_two row_word e.word has_word (subst (λ (t : Tiling). IsWordOf t e.word) (row_of e is) is.word)
 
+-- so there is no other
 pub only : (e : Entry) → IsEntry 2 Imperfect e → Contains (row_entry ∷ []) e
 only e is = (0, lit< tt, λ i. record { tiling = sym (row_of e is) i; word = row_word_of e is i })
 

@@ -58,7 +58,8 @@ module _ (n : ℕ) (class : Class) (t : Tiling) (entries : List Entry) (tiling :
         entry_is = contained (IsEntry n class) entries f catalogue.each k
 
         tilings : f.tiling ≡ c
-        tilings = sym (alike_tilings_have_one_canonical t f.tiling c f.tiling image.turn tiling (entry_is.member).tiling image.alike of (entry_is.member).canonical)
+        tilings = sym (alike_tilings_have_one_canonical t f.tiling c f.tiling image.turn tiling (entry_is.member).tiling image.alike of
+            (entry_is.member).canonical)
 
         words : f.word ≡ word
         words = a_tiling_has_one_word c f.word word (subst (λ (u : Tiling). IsWordOf u f.word) tilings entry_is.word) is_word
@@ -78,14 +79,16 @@ module _ (n : ℕ) (class : Class) (t : Tiling) (entries : List Entry) (tiling :
 
     none_after : HasNoImageOf t parts.after
     none_after f k image = not_after parts.before parts.after entry ascending
-        (subst (Contains parts.after) (only f (in_list f (Contains-append_right parts.before (entry ∷ parts.after) f (suc k.0, omega (arith, k.1), k.2))) image) k)
+        (subst (Contains parts.after) (only f (in_list f
+        (Contains-append_right parts.before (entry ∷ parts.after) f (suc k.0, omega (arith, k.1), k.2))) image) k)
 
     listed_as : IsListedOnce n class t entries
     listed_as = record {
       entry = entry;
       is = is;
       canonical = of;
-      image = let found = one_canonical_means_alike t c c tiling ((is.member).tiling) of (a_canonical_tiling_is_its_own t c tiling of) in record { turn = found.0; alike = found.1 };
+      image = let found = one_canonical_means_alike t c c tiling ((is.member).tiling) of (a_canonical_tiling_is_its_own t c tiling of) in
+          record { turn = found.0; alike = found.1 };
       listed = is_listed;
       only = only;
       before = parts.before;
@@ -95,6 +98,7 @@ module _ (n : ℕ) (class : Class) (t : Tiling) (entries : List Entry) (tiling :
       none_after = none_after;
     }
 
+-- the law: words of entries ascend, so one entry stands at one place
 pub each_simple_tiling_is_listed_once : EachSimpleTilingIsListedOnce
 each_simple_tiling_is_listed_once n class t entries tiling order simple of_class catalogue = with_canonical (every_tiling_has_a_canonical t tiling)
   where

@@ -27,9 +27,11 @@ module _ (t : Tiling) (r : Rectangle) (tiling : IsTiling t) (part : IsPart t r) 
     where
       last : count_by (covers (r.x + r.width - 1) (r.y + r.height - 1)) (filter part.pick t.squares) ≡ 1
       last = let cell = has_cell t r tiling part in
-          (part.tiled).once (r.x + r.width - 1) (r.y + r.height - 1) (omega (arith, cell.0)) (omega (arith, cell.0)) (omega (arith, cell.1)) (omega (arith, cell.1))
+          (part.tiled).once (r.x + r.width - 1) (r.y + r.height - 1) (omega (arith, cell.0)) (omega (arith, cell.0)) (omega (arith, cell.1))
+          (omega (arith, cell.1))
 
-      from : (q : Square) × IsOneOf q (filter part.pick t.squares) × (covers (r.x + r.width - 1) (r.y + r.height - 1) q ≡ true) → (r.x + r.width ≤ t.width) × (r.y + r.height ≤ t.height)
+      from : (q : Square) × IsOneOf q (filter part.pick t.squares) × (covers (r.x + r.width - 1) (r.y + r.height - 1) q ≡ true)
+          → (r.x + r.width ≤ t.width) × (r.y + r.height ≤ t.height)
       from (q, h, e) =
           let o = over_from (r.x + r.width - 1) (r.y + r.height - 1) q e in
           let w = within_of t tiling q (from_filter part.pick t.squares q h).0 in
@@ -56,8 +58,10 @@ module _ (t : Tiling) (r : Rectangle) (tiling : IsTiling t) (part : IsPart t r) 
             record { left = omega (arith, part_inside.0); right = omega (arith, part_inside.0); top = omega arith; bottom = omega arith };
         same = λ i j c q h. let w = within_of t tiling q h in let a = w.right in let b = c.right in let d = c.left in
             same_cover i j (t.width - 1 - i) j (image_square FlipX t.width t.height q) q
-            (λ o. let l = o.left in let m = o.right in let u = o.top in let v = o.bottom in record { left = omega (arith, part_inside.0); right = omega (arith, part_inside.0); top = omega arith; bottom = omega arith })
-            (λ o. let l = o.left in let m = o.right in let u = o.top in let v = o.bottom in record { left = omega (arith, part_inside.0); right = omega (arith, part_inside.0); top = omega arith; bottom = omega arith });
+            (λ o. let l = o.left in let m = o.right in let u = o.top in let v = o.bottom in
+            record { left = omega (arith, part_inside.0); right = omega (arith, part_inside.0); top = omega arith; bottom = omega arith })
+            (λ o. let l = o.left in let m = o.right in let u = o.top in let v = o.bottom in
+            record { left = omega (arith, part_inside.0); right = omega (arith, part_inside.0); top = omega arith; bottom = omega arith });
       })
       part
 
@@ -148,6 +152,7 @@ module _ (k : ℕ) (some : 0 < k) where
         })
         part
 
+-- an enlarged compound tiling is compound
 pub enlarged_compound : (k : ℕ) (t : Tiling) → 0 < k → IsTiling t → IsCompound t → IsCompound (enlarged k t)
 enlarged_compound k t some tiling (r, part) = (larger k some t r tiling part, part_enlarged k some t r tiling part)
 
@@ -157,10 +162,12 @@ module _ (t : Tiling) (tiling : IsTiling t) (compound : IsCompound t) where
   TurnsCompound turn = IsCompound (image turn t)
 
   then_flipped : (turn : Turn) → TurnsCompound turn → TurnsCompound (after FlipX turn)
-  then_flipped turn (r, part) = subst IsCompound (images_of_images t FlipX turn tiling) (flipped (image turn t) r (images_are_tilings t turn tiling) part, part_flipped (image turn t) r (images_are_tilings t turn tiling) part)
+  then_flipped turn (r, part) = subst IsCompound (images_of_images t FlipX turn tiling)
+      (flipped (image turn t) r (images_are_tilings t turn tiling) part, part_flipped (image turn t) r (images_are_tilings t turn tiling) part)
 
   then_swapped : (turn : Turn) → TurnsCompound turn → TurnsCompound (after Swap turn)
-  then_swapped turn (r, part) = subst IsCompound (images_of_images t Swap turn tiling) (swapped (image turn t) r (images_are_tilings t turn tiling) part, part_swapped (image turn t) r (images_are_tilings t turn tiling) part)
+  then_swapped turn (r, part) = subst IsCompound (images_of_images t Swap turn tiling)
+      (swapped (image turn t) r (images_are_tilings t turn tiling) part, part_swapped (image turn t) r (images_are_tilings t turn tiling) part)
 
   by_same : TurnsCompound Same
   by_same = subst IsCompound (sym (image-Same t tiling)) compound
@@ -168,6 +175,7 @@ module _ (t : Tiling) (tiling : IsTiling t) (compound : IsCompound t) where
   by_flip_y : TurnsCompound FlipY
   by_flip_y = then_swapped SwapFlipX (then_flipped Swap (then_swapped Same by_same))
 
+  -- and so is each image
   pub image_compound : (turn : Turn) → IsCompound (image turn t)
   image_compound Same = by_same
   image_compound FlipX = then_flipped Same by_same

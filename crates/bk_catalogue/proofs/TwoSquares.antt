@@ -13,6 +13,7 @@ use Rattle.bk_sym.proofs.Composing.{square_same}
 use Rattle.bk_sym.specs.Canonical.{IsCanonical}
 use Rattle.bk_sym.proofs.CanonicalPrimitive.{canonical_primitive}
 
+-- two squares of side 1, side by side
 abbrev pub row_of_two : Tiling
 row_of_two = record { width = 2; height = 1; squares = record { x = 0; y = 0; s = 1 } ∷ record { x = 1; y = 0; s = 1 } ∷ [] }
 
@@ -168,5 +169,6 @@ module _ (t : Tiling) (q r : Square) (tiling : IsTiling t) (are : t.squares ≡ 
       list : t.squares ≡ row_of_two.squares
       list = are ∙ ap (λ (p : Square). p ∷ r ∷ []) first ∙ ap (λ (p : Square). record { x = 0; y = 0; s = 1 } ∷ p ∷ []) second
 
+-- no other tiling of two squares is its own canonical one
 pub only_row_of_two : (t : Tiling) → IsTiling t → length t.squares ≡ 2 → IsCanonical t → t ≡ row_of_two
 only_row_of_two t tiling order own = let found = two_from t.squares order in are_these t found.first found.second tiling found.are own.lying own

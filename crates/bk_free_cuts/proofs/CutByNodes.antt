@@ -1,4 +1,4 @@
--- The cut P.
+-- The cut by lines that share a node, from the numbers of lines that a word gives.
 use Rattle.std.proofs.Common.{List, Some, [], ap, arith, inl, inr, length, refl, replicate, slice_get, subst, suc, sym, ℕ, ◌++◌, ◌-◌, ◌<◌, ◌∙◌, ◌∷◌, ◌≡◌, ◌≤◌, ◌⊎◌}
 use Rattle.std.proofs.lemmas.List.{length-append, length-replicate}
 use Rattle.bk_word.specs.Outline.{Outline, start, valley_of}
@@ -31,12 +31,15 @@ along_long o sides (m ∷ w) e = along_long (after_move o m) (sides_after o side
   length-replicate m.count (length o.closed),
 ))
 
-module _ (n : ℕ) (front : Word) (s : ShareANode front) (l : Layout) (w rest : Word) (sound : IsSound n l) (word : IsWordOfLayout l w) (is : w ≡ front ++ rest) where
+module _ (n : ℕ) (front : Word) (s : ShareANode front) (l : Layout) (w rest : Word) (sound : IsSound n l) (word : IsWordOfLayout l w)
+    (is : w ≡ front ++ rest) where
   nodes : HangByNodesFrom l (λ number. word.square (number - 1)) start front
-  nodes = nodes_front l (λ number. word.square (number - 1)) start front rest (subst (HangByNodesFrom l (λ number. word.square (number - 1)) start) is word.nodes)
+  nodes = nodes_front l (λ number. word.square (number - 1)) start front rest
+      (subst (HangByNodesFrom l (λ number. word.square (number - 1)) start) is word.nodes)
 
   stand : AllStand l word.square (sides_of front)
-  stand = all_along l word.square sound.fits start [] front (legal_front start front rest (subst (AreLegalFrom start) is (word.complete).legal)) numbered_start refl nodes (λ k p e. absurd (none k p e))
+  stand = all_along l word.square sound.fits start [] front
+      (legal_front start front rest (subst (AreLegalFrom start) is (word.complete).legal)) numbered_start refl nodes (λ k p e. absurd (none k p e))
     where
       none : (k : ℕ) (p : ℕ × ℕ) → slice_get [] k ≡ Some p → ⊥
       none k p e = cc
@@ -50,7 +53,9 @@ module _ (n : ℕ) (front : Word) (s : ShareANode front) (l : Layout) (w rest : 
   long : length (sides_of front) ≡ length (outline_of front).hung
   long = along_long start [] front refl
 
-  lines_at : (number : ℕ) → number - 1 < length (outline_of front).hung → (l.left (word.square (number - 1)) ≡ line_of l word.square (sides_at (sides_of front) number).0) × (l.right (word.square (number - 1)) ≡ line_of l word.square (sides_at (sides_of front) number).1)
+  lines_at : (number : ℕ) → number - 1 < length (outline_of front).hung
+      → (l.left (word.square (number - 1)) ≡ line_of l word.square (sides_at (sides_of front) number).0)
+      × (l.right (word.square (number - 1)) ≡ line_of l word.square (sides_at (sides_of front) number).1)
   lines_at number h = index_stand l word.square (sides_of front) stand (number - 1) (omega (arith, h, long))
 
   a_low : (1 ≤ s.a) × (s.a ≤ length (outline_of front).hung)
@@ -65,16 +70,19 @@ module _ (n : ℕ) (front : Word) (s : ShareANode front) (l : Layout) (w rest : 
   right_is : l.right (word.square (s.b - 1)) ≡ line_of l word.square (sides_at (sides_of front) s.b).1
   right_is = (lines_at s.b (omega (arith, b_low.0, b_low.1))).1
 
-  beside : (line : ℕ) (t : TouchesClosed (outline_of front) (sides_of front) line s.node) → (l.left (word.square t.place) ≡ line_of l word.square line) ⊎ (l.right (word.square t.place) ≡ line_of l word.square line)
+  beside : (line : ℕ) (t : TouchesClosed (outline_of front) (sides_of front) line s.node)
+      → (l.left (word.square t.place) ≡ line_of l word.square line) ⊎ (l.right (word.square t.place) ≡ line_of l word.square line)
   beside line t = cases t.beside
     where
       place : suc t.place - 1 ≡ t.place
       place = omega arith
 
-      at : (l.left (word.square (suc t.place - 1)) ≡ line_of l word.square (sides_at (sides_of front) (suc t.place)).0) × (l.right (word.square (suc t.place - 1)) ≡ line_of l word.square (sides_at (sides_of front) (suc t.place)).1)
+      at : (l.left (word.square (suc t.place - 1)) ≡ line_of l word.square (sides_at (sides_of front) (suc t.place)).0)
+          × (l.right (word.square (suc t.place - 1)) ≡ line_of l word.square (sides_at (sides_of front) (suc t.place)).1)
       at = lines_at (suc t.place) (omega (arith, (t.at).within))
 
-      cases : ((sides_at (sides_of front) (suc t.place)).0 ≡ line) ⊎ ((sides_at (sides_of front) (suc t.place)).1 ≡ line) → (l.left (word.square t.place) ≡ line_of l word.square line) ⊎ (l.right (word.square t.place) ≡ line_of l word.square line)
+      cases : ((sides_at (sides_of front) (suc t.place)).0 ≡ line) ⊎ ((sides_at (sides_of front) (suc t.place)).1 ≡ line)
+          → (l.left (word.square t.place) ≡ line_of l word.square line) ⊎ (l.right (word.square t.place) ≡ line_of l word.square line)
       cases (inl e) = inl (ap (λ (k : ℕ). l.left (word.square k)) (sym place) ∙ at.0 ∙ ap (line_of l word.square) e)
       cases (inr e) = inr (ap (λ (k : ℕ). l.right (word.square k)) (sym place) ∙ at.1 ∙ ap (line_of l word.square) e)
 
@@ -84,21 +92,25 @@ module _ (n : ℕ) (front : Word) (s : ShareANode front) (l : Layout) (w rest : 
   beside_left : (l.left (word.square (s.left).place) ≡ l.left (word.square (s.a - 1))) ⊎ (l.right (word.square (s.left).place) ≡ l.left (word.square (s.a - 1)))
   beside_left = cases (beside (sides_at (sides_of front) s.a).0 s.left)
     where
-      cases : (l.left (word.square (s.left).place) ≡ line_of l word.square (sides_at (sides_of front) s.a).0) ⊎ (l.right (word.square (s.left).place) ≡ line_of l word.square (sides_at (sides_of front) s.a).0)
+      cases : (l.left (word.square (s.left).place) ≡ line_of l word.square (sides_at (sides_of front) s.a).0)
+          ⊎ (l.right (word.square (s.left).place) ≡ line_of l word.square (sides_at (sides_of front) s.a).0)
           → (l.left (word.square (s.left).place) ≡ l.left (word.square (s.a - 1))) ⊎ (l.right (word.square (s.left).place) ≡ l.left (word.square (s.a - 1)))
       cases (inl e) = inl (e ∙ sym left_is)
       cases (inr e) = inr (e ∙ sym left_is)
 
-  beside_right : (l.left (word.square (s.right).place) ≡ l.right (word.square (s.b - 1))) ⊎ (l.right (word.square (s.right).place) ≡ l.right (word.square (s.b - 1)))
+  beside_right : (l.left (word.square (s.right).place) ≡ l.right (word.square (s.b - 1)))
+      ⊎ (l.right (word.square (s.right).place) ≡ l.right (word.square (s.b - 1)))
   beside_right = cases (beside (sides_at (sides_of front) s.b).1 s.right)
     where
-      cases : (l.left (word.square (s.right).place) ≡ line_of l word.square (sides_at (sides_of front) s.b).1) ⊎ (l.right (word.square (s.right).place) ≡ line_of l word.square (sides_at (sides_of front) s.b).1)
+      cases : (l.left (word.square (s.right).place) ≡ line_of l word.square (sides_at (sides_of front) s.b).1)
+          ⊎ (l.right (word.square (s.right).place) ≡ line_of l word.square (sides_at (sides_of front) s.b).1)
           → (l.left (word.square (s.right).place) ≡ l.right (word.square (s.b - 1))) ⊎ (l.right (word.square (s.right).place) ≡ l.right (word.square (s.b - 1)))
       cases (inl e) = inl (e ∙ sym right_is)
       cases (inr e) = inr (e ∙ sym right_is)
 
   -- two lines that are the walls have their numbers
-  no_walls : l.left (word.square (s.a - 1)) ≡ 0 → l.right (word.square (s.b - 1)) ≡ 1 → IsKnown l word.square (sides_at (sides_of front) s.a).0 → IsKnown l word.square (sides_at (sides_of front) s.b).1 → ⊥
+  no_walls : l.left (word.square (s.a - 1)) ≡ 0 → l.right (word.square (s.b - 1)) ≡ 1
+      → IsKnown l word.square (sides_at (sides_of front) s.a).0 → IsKnown l word.square (sides_at (sides_of front) s.b).1 → ⊥
   no_walls e f (inl p) (inr (inl q)) = s.not_walls p q
   no_walls e f (inl p) (inl q) = omega (arith, f, right_is, ap (line_of l word.square) q)
   no_walls e f (inl p) (inr (inr q)) = q.1 (sym right_is ∙ f)
@@ -106,13 +118,18 @@ module _ (n : ℕ) (front : Word) (s : ShareANode front) (l : Layout) (w rest : 
   no_walls e f (inr (inr p)) k = p.0 (sym left_is ∙ e)
 
   cut : ⊥
-  cut = cases (lines_share_the_node_above l w front rest sound.fits sound.simple sound.lines word is s.segment s.i s.j s.a s.b s.node (s.left).place (s.right).place s.numbers s.is s.first s.second s.order (s.left).at beside_left (s.right).at beside_right)
+  cut = cases (lines_share_the_node_above l w front rest sound.fits sound.simple sound.lines word is s.segment s.i s.j s.a s.b s.node
+      (s.left).place (s.right).place s.numbers s.is s.first s.second s.order (s.left).at beside_left (s.right).at beside_right)
     where
       cases : ((s.i ≡ s.j) × (slice_get (outline_of front).hung (s.a - 1) ≡ Some s.node))
-          ⊎ ((l.left (word.square (s.a - 1)) ≡ 0) × (l.right (word.square (s.b - 1)) ≡ 1)) ⊎ ((l.left (word.square (s.a - 1)) ≡ 1) × (l.right (word.square (s.b - 1)) ≡ 0)) → ⊥
+          ⊎ ((l.left (word.square (s.a - 1)) ≡ 0) × (l.right (word.square (s.b - 1)) ≡ 1))
+          ⊎ ((l.left (word.square (s.a - 1)) ≡ 1) × (l.right (word.square (s.b - 1)) ≡ 0)) → ⊥
       cases (inl h) = s.not_own h.0 h.1
-      cases (inr (inl h)) = no_walls h.0 h.1 (known_at l word.square (sides_of front) known (s.a - 1)).0 (known_at l word.square (sides_of front) known (s.b - 1)).1
-      cases (inr (inr h)) = (sound.walls).not_beyond (word.square (s.a - 1)) (square_low l sound.fits w word (s.a - 1) (omega (arith, a_low.0, a_low.1, hung_less l sound.fits w word front rest is))) h.0
+      cases (inr (inl h)) = no_walls h.0 h.1 (known_at l word.square (sides_of front) known (s.a - 1)).0
+          (known_at l word.square (sides_of front) known (s.b - 1)).1
+      cases (inr (inr h)) = (sound.walls).not_beyond (word.square (s.a - 1))
+          (square_low l sound.fits w word (s.a - 1) (omega (arith, a_low.0, a_low.1, hung_less l sound.fits w word front rest is))) h.0
 
+-- the law: the numbers of lines stand for lines, which share no such node
 pub shared_node_is_free_barren : SharedNodeIsFreeBarren
 shared_node_is_free_barren n front s l w rest sound word is = cut n front s l w rest sound word is

@@ -27,7 +27,9 @@ use Rattle.bk_free_cuts.proofs.WideNodes.{ends_left, ends_right, no_wide_bottom,
 use Rattle.bk_bounds.specs.WordBounds.{EndsNoLine, HangNoPairsFrom, HangsNoPair, IsWithoutPairs}
 use Rattle.bk_free_cuts.specs.FreeCuts.{AreOuterWalls}
 
-pub nodes_rest : (l : Layout) (f : ℕ → ℕ) (o : Outline) (front rest : Word) → HangByNodesFrom l f o (front ++ rest) → HangByNodesFrom l f (after_moves o front) rest
+-- what hangs by nodes hangs so after its first moves too
+pub nodes_rest : (l : Layout) (f : ℕ → ℕ) (o : Outline) (front rest : Word) → HangByNodesFrom l f o (front ++ rest)
+    → HangByNodesFrom l f (after_moves o front) rest
 nodes_rest l f o [] rest p = p
 nodes_rest l f o (m ∷ front) rest p = nodes_rest l f (after_move o m) front rest p.1
 
@@ -104,6 +106,7 @@ module _ (l : Layout) (fits : Fits l) (w : Word) (word : IsWordOfLayout l w) whe
     few_hung : order_of front + order_of rest ≡ l.squares
     few_hung = omega (arith, order_append front rest, word.order, ap order_of is)
 
+    -- the closing bound after first moves is at most the squares that are left
     pub closings_fit : order_of front + closing_bound (outline_of front).signs ≤ l.squares
     closings_fit = omega (arith, word.order, ap order_of is, closings_are_hung front rest (subst IsComplete is word.complete))
 
@@ -123,7 +126,8 @@ module _ (l : Layout) (fits : Fits l) (w : Word) (word : IsWordOfLayout l w) whe
   module _ (simple : IsSimpleLayout l) where
     -- no move has the sign even between two of its squares
     pub evens_fit : (front : Word) (m : Move) (rest : Word) → w ≡ front ++ m ∷ rest → Contains (own_signs (outline_of front) m) Even → ⊥
-    evens_fit front m rest is = no_even (outline_of front) m (twins_rest start front (m ∷ rest) (subst (HangNoTwinsFrom start) is (word.no_twins simple.twins))).0
+    evens_fit front m rest is = no_even (outline_of front) m
+        (twins_rest start front (m ∷ rest) (subst (HangNoTwinsFrom start) is (word.no_twins simple.twins))).0
 
     -- no move hangs one square under one
     pub pairs_fit : (front : Word) (m : Move) (rest : Word) → w ≡ front ++ m ∷ rest → HangsNoPair (outline_of front) m
@@ -140,9 +144,13 @@ module _ (l : Layout) (fits : Fits l) (w : Word) (word : IsWordOfLayout l w) whe
       bottom_right = ends_right l fits simple walls l.bottom ending_bottom word.end_from word.end_to
 
       -- one segment is left at the end alone
-      pub one_segment_fits : (front rest : Word) → w ≡ front ++ rest → 0 < length front → order_of front < l.squares → length (outline_of front).segments ≡ 1 → ⊥
+      pub one_segment_fits : (front rest : Word) → w ≡ front ++ rest → 0 < length front → order_of front < l.squares
+          → length (outline_of front).segments ≡ 1 → ⊥
       one_segment_fits front [] is some few one = omega (arith, few, few_hung front [] is)
-      one_segment_fits front (m ∷ rest) is some few one = no_wide_node l fits simple walls h.node above_none h.low (ends_left l fits simple walls h.node ends (h.from_wall one) (h.to_wall one)) (ends_right l fits simple walls h.node ends (h.from_wall one) (h.to_wall one)) bottom_left bottom_right
+      one_segment_fits front (m ∷ rest) is some few one =
+          no_wide_node l fits simple walls h.node above_none h.low
+          (ends_left l fits simple walls h.node ends (h.from_wall one) (h.to_wall one))
+          (ends_right l fits simple walls h.node ends (h.from_wall one) (h.to_wall one)) bottom_left bottom_right
         where
           h : HangsNode l square (outline_of front) m
           h = (nodes front (m ∷ rest) is).0
@@ -170,7 +178,8 @@ module _ (l : Layout) (fits : Fits l) (w : Word) (word : IsWordOfLayout l w) whe
       last_fits many s e one = from (get_some (l.ending l.bottom) 0 (omega (arith, ending_one)))
         where
           ending_one : length (l.ending l.bottom) ≡ 1
-          ending_one = ap length (sym word.end) ∙ length-map (slice_index_or (outline_of w).segments 0 []) square ∙ ap (λ (x : List (List ℕ)). length (slice_index_or x 0 [])) e ∙ one
+          ending_one = ap length (sym word.end) ∙ length-map (slice_index_or (outline_of w).segments 0 []) square
+              ∙ ap (λ (x : List (List ℕ)). length (slice_index_or x 0 [])) e ∙ one
 
           from : (q : ℕ) × (slice_get (l.ending l.bottom) 0 ≡ Some q) → ⊥
           from (q, at) = let i = fits.lists.ending_is l.bottom 0 q at in
@@ -179,8 +188,15 @@ module _ (l : Layout) (fits : Fits l) (w : Word) (word : IsWordOfLayout l w) whe
       without_pairs : 2 ≤ l.squares → IsWithoutPairs w
       without_pairs many = record { moves = hang_no_pairs l simple square start w word.nodes; last = last_fits many }
 
-      pub singles_fit : (front rest : Word) → w ≡ front ++ rest → 2 ≤ l.squares → order_of front + closing_bound (outline_of front).signs + single_valleys (outline_of front).signs (sizes_of (outline_of front)) ≤ l.squares
-      singles_fit front rest is many = omega (arith, word.order, ap order_of is, singles_are_hung front rest (subst IsComplete is word.complete) (subst IsWithoutPairs is (without_pairs many)))
+      -- and so it is with the valleys of one square
+      pub singles_fit : (front rest : Word) → w ≡ front ++ rest → 2 ≤ l.squares
+          → order_of front + closing_bound (outline_of front).signs + single_valleys (outline_of front).signs (sizes_of (outline_of front)) ≤ l.squares
+      singles_fit front rest is many = omega (
+        arith,
+        word.order,
+        ap order_of is,
+        singles_are_hung front rest (subst IsComplete is word.complete) (subst IsWithoutPairs is (without_pairs many)),
+      )
 
       -- no line from the top comes down to the last segment
       ends_no_line : 3 ≤ l.squares → EndsNoLine w
@@ -190,7 +206,8 @@ module _ (l : Layout) (fits : Fits l) (w : Word) (word : IsWordOfLayout l w) whe
           last_is = ap (λ (x : List (List ℕ)). map square (slice_index_or x 0 [])) (sym e) ∙ word.end
 
           from : (j n : ℕ) × (slice_get s j ≡ Some n) × (on_line (lines_of w) n ≡ true) → ⊥
-          from (j, n, at, on) = no_line_down l fits simple walls many bottom_left bottom_right line.p line.q (square n) line.side_by_side there.0 there.1 line.is
+          from (j, n, at, on) = no_line_down l fits simple walls many bottom_left bottom_right line.p line.q (square n) line.side_by_side
+              there.0 there.1 line.is
             where
               line : IsTopLine l (l.left (square n))
               line = tops_of_word l fits word.square w (word.complete).legal word.lines word.nodes (n - 1) on
@@ -198,10 +215,13 @@ module _ (l : Layout) (fits : Fits l) (w : Word) (word : IsWordOfLayout l w) whe
               there : (square n < l.squares) × (l.below (square n) ≡ l.bottom)
               there = fits.lists.ending_is l.bottom j (square n) (ap (λ (xs : List ℕ). slice_get xs j) (sym last_is) ∙ get_map square s j n at)
 
-      pub lines_fit : (front rest : Word) → w ≡ front ++ rest → 3 ≤ l.squares → order_of front + line_bound_of front + single_valleys (outline_of front).signs (sizes_of (outline_of front)) ≤ l.squares
+      -- and with the lines from the top
+      pub lines_fit : (front rest : Word) → w ≡ front ++ rest → 3 ≤ l.squares
+          → order_of front + line_bound_of front + single_valleys (outline_of front).signs (sizes_of (outline_of front)) ≤ l.squares
       lines_fit front rest is many = omega (
         arith,
         word.order,
         ap order_of is,
-        lines_are_hung front rest (subst IsComplete is word.complete) (subst IsWithoutPairs is (without_pairs (omega (arith, many)))) (subst EndsNoLine is (ends_no_line many)),
+        lines_are_hung front rest (subst IsComplete is word.complete) (subst IsWithoutPairs is (without_pairs (omega (arith, many))))
+            (subst EndsNoLine is (ends_no_line many)),
       )

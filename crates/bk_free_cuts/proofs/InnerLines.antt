@@ -14,13 +14,16 @@ module _ (l : Layout) (square : ℕ → ℕ) where
   abbrev NoWall : ℕ → Type 0
   NoWall line = (line ≡ 0 → ⊥) × (line ≡ 1 → ⊥)
 
+  -- the number is that of a wall, or of a line that is none
   abbrev pub IsKnown : ℕ → Type 0
   IsKnown n = (n ≡ 0) ⊎ (n ≡ 1) ⊎ NoWall (line_of l square n)
 
+  -- so are both numbers of each pair
   abbrev pub AllKnown : List (ℕ × ℕ) → Type 0
   AllKnown sides = (k : ℕ) (p : ℕ × ℕ) → slice_get sides k ≡ Some p → IsKnown p.0 × IsKnown p.1
 
-  new_known : (hung count left right : ℕ) → IsKnown left → IsKnown right → ((k : ℕ) → suc k < count → NoWall (l.right (square (hung + k)))) → AllKnown (new_sides hung count left right)
+  new_known : (hung count left right : ℕ) → IsKnown left → IsKnown right → ((k : ℕ) → suc k < count → NoWall (l.right (square (hung + k))))
+      → AllKnown (new_sides hung count left right)
   new_known hung zero left right a b inner j p e = absurd (cc)
   new_known hung (suc zero) left right a b inner zero p e = subst (λ (q : ℕ × ℕ). IsKnown q.0 × IsKnown q.1) (got_same (left, right) p e) (a, b)
   new_known hung (suc zero) left right a b inner (suc j) p e = absurd (cc)
@@ -30,6 +33,7 @@ module _ (l : Layout) (square : ℕ → ℕ) where
       (inr (inr (subst (λ (n : ℕ). NoWall (l.right (square n))) (omega arith) (inner 0 (omega arith))))) b
       (λ k h. subst (λ (n : ℕ). NoWall (l.right (square n))) (omega arith) (inner (suc k) (omega (arith, h)))) j p e
 
+  -- and those at a place
   pub known_at : (sides : List (ℕ × ℕ)) → AllKnown sides → (k : ℕ) → IsKnown (slice_index_or sides k (0, 1)).0 × IsKnown (slice_index_or sides k (0, 1)).1
   known_at [] all zero = (inl refl, inr (inl refl))
   known_at [] all (suc k) = (inl refl, inr (inl refl))
@@ -45,7 +49,9 @@ module _ (l : Layout) (square : ℕ → ℕ) where
   right_known sides all (n ∷ []) = (known_at sides all (n - 1)).1
   right_known sides all (n ∷ k ∷ numbers) = right_known sides all (k ∷ numbers)
 
-  pub known_along : Fits l → AreOuterWalls l → (o : Outline) (sides : List (ℕ × ℕ)) (w : Word) → HangByNodesFrom l (λ number. square (number - 1)) o w → AllKnown sides → AllKnown (sides_along o sides w)
+  -- the numbers that a word gives are all so
+  pub known_along : Fits l → AreOuterWalls l → (o : Outline) (sides : List (ℕ × ℕ)) (w : Word)
+      → HangByNodesFrom l (λ number. square (number - 1)) o w → AllKnown sides → AllKnown (sides_along o sides w)
   known_along fits walls o sides [] nodes all = all
   known_along fits walls o sides (m ∷ w) nodes all = known_along fits walls (after_move o m) (sides_after o sides m) w nodes.1 after
     where
@@ -68,6 +74,9 @@ module _ (l : Layout) (square : ℕ → ℕ) where
       after : AllKnown (sides_after o sides m)
       after k p e = cases (in_two sides (new_sides (length o.hung) m.count (left_end sides (valley_of o)) (right_end sides (valley_of o))) k p e)
         where
-          cases : (slice_get sides k ≡ Some p) ⊎ ((j : ℕ) × (k ≡ length sides + j) × (slice_get (new_sides (length o.hung) m.count (left_end sides (valley_of o)) (right_end sides (valley_of o))) j ≡ Some p)) → IsKnown p.0 × IsKnown p.1
+          cases : (slice_get sides k ≡ Some p) ⊎ ((j : ℕ) × (k ≡ length sides + j)
+              × (slice_get (new_sides (length o.hung) m.count (left_end sides (valley_of o)) (right_end sides (valley_of o))) j ≡ Some p))
+              → IsKnown p.0 × IsKnown p.1
           cases (inl f) = all k p f
-          cases (inr (j, f, g)) = new_known (length o.hung) m.count (left_end sides (valley_of o)) (right_end sides (valley_of o)) (left_known sides all (valley_of o)) (right_known sides all (valley_of o)) inner j p g
+          cases (inr (j, f, g)) = new_known (length o.hung) m.count (left_end sides (valley_of o)) (right_end sides (valley_of o))
+              (left_known sides all (valley_of o)) (right_known sides all (valley_of o)) inner j p g

@@ -10,3 +10,4 @@ pub mod SharedPairs
 pub mod NumberedLines
 pub mod InnerLines
 pub mod CutByNodes
+pub mod NodeCutExamples

@@ -60,7 +60,13 @@ before_later s t (u ∷ lists) h = by_place h.place h.list h.is h.within
 
 before_head : (s t : List ℕ) (lists : List (List ℕ)) → ◌≡◌ {A = Option (List ℕ)} (Some t) (Some s) → StandsAmong s (before_first_list t lists)
 before_head s t [] e = at_head s t [] e
-before_head s t (u ∷ lists) e = record { place = 0; list = t ++ u; is = refl; within = subst (λ (x : List ℕ). StandsIn x (t ++ u)) (got_same t s e) (in_front t u) }
+before_head s t (u ∷ lists) e = record {
+  place = 0;
+  list = t ++ u;
+  is = refl;
+  within =
+      subst (λ (x : List ℕ). StandsIn x (t ++ u)) (got_same t s e) (in_front t u);
+}
 
 joined_stand : (signs : List Sign) (lists : List (List ℕ)) (i : ℕ) (s : List ℕ) → slice_get lists i ≡ Some s → StandsAmong s (joined signs lists)
 joined_stand signs [] i s e = absurd (nothing_got i s e)
@@ -73,10 +79,12 @@ joined_stand (Even ∷ signs) (t ∷ lists) zero s e = before_head s t (joined s
 joined_stand (Even ∷ signs) (t ∷ lists) (suc i) s e = before_later s t (joined signs lists) (joined_stand signs lists i s e)
 
 -- the segments but the valley stand among those apart
-others : (lists news : List (List ℕ)) (p i : ℕ) (s : List ℕ) → slice_get lists i ≡ Some s → (i ≡ p → ⊥) → (j : ℕ) × (slice_get ((take p lists ++ news) ++ drop (p + 1) lists) j ≡ Some s)
+others : (lists news : List (List ℕ)) (p i : ℕ) (s : List ℕ) → slice_get lists i ≡ Some s → (i ≡ p → ⊥) → (j : ℕ)
+    × (slice_get ((take p lists ++ news) ++ drop (p + 1) lists) j ≡ Some s)
 others [] news p i s e other = absurd (nothing_got i s e)
 others (x ∷ lists) news zero zero s e other = absurd (other refl)
-others (x ∷ lists) news zero (suc i) s e other = (length news + i, get_after news (drop (0 + 1) (x ∷ lists)) i (length news + i) refl ∙ ap (λ (rest : List (List ℕ)). slice_get rest i) one ∙ e)
+others (x ∷ lists) news zero (suc i) s e other =
+    (length news + i, get_after news (drop (0 + 1) (x ∷ lists)) i (length news + i) refl ∙ ap (λ (rest : List (List ℕ)). slice_get rest i) one ∙ e)
   where
     one : drop (0 + 1) (x ∷ lists) ≡ lists
     one = λ j. drop (same j) (x ∷ lists)
@@ -86,9 +94,11 @@ others (x ∷ lists) news zero (suc i) s e other = (length news + i, get_after n
 others (x ∷ lists) news (suc p) zero s e other = (0, e)
 others (x ∷ lists) news (suc p) (suc i) s e other = onto (others lists news p i s e (λ f. other (ap suc f)))
   where
-    onto : (j : ℕ) × (slice_get ((take p lists ++ news) ++ drop (p + 1) lists) j ≡ Some s) → (j : ℕ) × (slice_get ((take (suc p) (x ∷ lists) ++ news) ++ drop (suc p + 1) (x ∷ lists)) j ≡ Some s)
+    onto : (j : ℕ) × (slice_get ((take p lists ++ news) ++ drop (p + 1) lists) j ≡ Some s) → (j : ℕ)
+        × (slice_get ((take (suc p) (x ∷ lists) ++ news) ++ drop (suc p + 1) (x ∷ lists)) j ≡ Some s)
     onto (j, f) = (suc j, ap (λ (rest : List (List ℕ)). slice_get ((take p lists ++ news) ++ rest) j) (drop_next x lists p) ∙ f)
 
+-- what is got at a place stands there
 pub index_at : (lists : List (List ℕ)) (i : ℕ) (s : List ℕ) → slice_get lists i ≡ Some s → slice_index_or lists i [] ≡ s
 index_at [] i s e = absurd (nothing_got i s e)
 index_at (t ∷ lists) zero s e = got_same t s e
@@ -103,24 +113,37 @@ only_first (t ∷ u ∷ lists) (suc i) s one e = absurd (omega arith)
 module _ (l : Layout) (f : ℕ → ℕ) where
   -- all that ends on a node
   whole : (s : List ℕ) (v : ℕ) → map f s ≡ l.ending v → EndsTogether l f s
-  whole s v e = record { node = v; from = 0; stands = λ k a g. ap (λ (xs : List ℕ). slice_get xs (0 + k)) (sym e) ∙ get_map f s (0 + k) a (subst (λ (j : ℕ). slice_get s j ≡ Some a) (same k) g) }
+  whole s v e = record {
+    node = v;
+    from = 0;
+    stands = λ k a g. ap (λ (xs : List ℕ). slice_get xs (0 + k)) (sym e)
+        ∙ get_map f s (0 + k) a (subst (λ (j : ℕ). slice_get s j ≡ Some a) (same k) g);
+  }
     where
       same : (k : ℕ) → k ≡ 0 + k
       same k = omega arith
 
   part : (s t : List ℕ) → StandsIn s t → EndsTogether l f t → EndsTogether l f s
-  part s t h e = record { node = e.node; from = e.from + h.from; stands = λ k a g. subst (λ (j : ℕ). slice_get (l.ending e.node) j ≡ Some (f a)) (same k) (e.stands (h.from + k) a (h.at k a g)) }
+  part s t h e = record {
+    node = e.node;
+    from = e.from + h.from;
+    stands =
+        λ k a g. subst (λ (j : ℕ). slice_get (l.ending e.node) j ≡ Some (f a)) (same k) (e.stands (h.from + k) a (h.at k a g));
+  }
     where
       same : (k : ℕ) → e.from + (h.from + k) ≡ e.from + h.from + k
       same k = omega arith
 
-  together : (o : Outline) (rest : Word) → HangByNodesFrom l f o rest → length (after_moves o rest).segments ≡ 1 → map f (slice_index_or (after_moves o rest).segments 0 []) ≡ l.ending l.bottom
+  together : (o : Outline) (rest : Word) → HangByNodesFrom l f o rest → length (after_moves o rest).segments ≡ 1
+      → map f (slice_index_or (after_moves o rest).segments 0 []) ≡ l.ending l.bottom
       → (i : ℕ) (s : List ℕ) → slice_get o.segments i ≡ Some s → EndsTogether l f s
   together o [] nodes one end i s e = whole s l.bottom (ap (map f) (sym (only_first o.segments i s one e)) ∙ end)
   together o (m ∷ rest) nodes one end i s e = cases (same_or_other i (valley_place o.signs)) (together (after_move o m) rest nodes.1 one end)
     where
-      cases : (i ≡ valley_place o.signs) ⊎ (i ≡ valley_place o.signs → ⊥) → ((j : ℕ) (t : List ℕ) → slice_get (after_move o m).segments j ≡ Some t → EndsTogether l f t) → EndsTogether l f s
-      cases (inl at) later = whole s (nodes.0).node (ap (map f) (sym (index_at o.segments (valley_place o.signs) s (subst (λ (j : ℕ). slice_get o.segments j ≡ Some s) at e))) ∙ (nodes.0).ends)
+      cases : (i ≡ valley_place o.signs) ⊎ (i ≡ valley_place o.signs → ⊥)
+          → ((j : ℕ) (t : List ℕ) → slice_get (after_move o m).segments j ≡ Some t → EndsTogether l f t) → EndsTogether l f s
+      cases (inl at) later = whole s (nodes.0).node
+          (ap (map f) (sym (index_at o.segments (valley_place o.signs) s (subst (λ (j : ℕ). slice_get o.segments j ≡ Some s) at e))) ∙ (nodes.0).ends)
       cases (inr other) later = stay (others o.segments (map (λ q. q ∷ []) (new_squares o m)) (valley_place o.signs) i s e other)
         where
           stay : (j : ℕ) × (slice_get (segments_apart o m) j ≡ Some s) → EndsTogether l f s
@@ -129,6 +152,7 @@ module _ (l : Layout) (f : ℕ → ℕ) where
               on : StandsAmong s (joined (signs_apart o m) (segments_apart o m)) → EndsTogether l f s
               on a = part s a.list a.within (later a.place a.list a.is)
 
+-- the law: segments stay together until their node is closed
 pub open_segments_end_together : OpenSegmentsEndTogether
 open_segments_end_together l w front rest word is i s e = together l square (outline_of front) rest
     (nodes_rest l square start front rest (subst (HangByNodesFrom l square start) is word.nodes))

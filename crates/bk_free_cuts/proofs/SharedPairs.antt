@@ -1,4 +1,4 @@
--- P on words: two lines at one open segment, and a closed node.
+-- Lines and nodes that words share: two lines at one open segment, and a closed node.
 use Rattle.std.proofs.Common.{List, Some, [], ap, arith, inl, inr, length, refl, slice_get, slice_index_or, subst, suc, sym, ℕ, ◌++◌, ◌+◌, ◌-◌, ◌<◌, ◌∙◌, ◌≡◌, ◌≤◌, ◌⊎◌}
 use Rattle.std.proofs.lemmas.Bool.{cases_lt}
 use Rattle.std.proofs.lemmas.List.{length-append}
@@ -20,8 +20,10 @@ use Rattle.bk_free_cuts.proofs.SharedLines.{above_is, below_is, closed_got, clos
 use Rattle.bk_free_cuts.specs.OpenSegments.{EndsTogether}
 use Rattle.bk_free_cuts.specs.SharedNodes.{AreLinesApart, IsAtClosed, LinesShareTheNodeAbove}
 
-module _ (l : Layout) (fits : Fits l) (simple : IsSimpleLayout l) (lines : AreLinesApart l) (w : Word) (word : IsWordOfLayout l w) (front rest : Word) (is : w ≡ front ++ rest)
-    (x i j a b : ℕ) (s : List ℕ) (e : slice_get (outline_of front).segments x ≡ Some s) (f : slice_get s i ≡ Some a) (g : slice_get s j ≡ Some b) (order : i ≤ j) (v : ℕ) (closed : v < length (outline_of front).closed) where
+module _ (l : Layout) (fits : Fits l) (simple : IsSimpleLayout l) (lines : AreLinesApart l) (w : Word) (word : IsWordOfLayout l w)
+    (front rest : Word) (is : w ≡ front ++ rest)
+    (x i j a b : ℕ) (s : List ℕ) (e : slice_get (outline_of front).segments x ≡ Some s) (f : slice_get s i ≡ Some a)
+    (g : slice_get s j ≡ Some b) (order : i ≤ j) (v : ℕ) (closed : v < length (outline_of front).closed) where
   played : Played (outline_of front)
   played = played_moves start front (legal_front start front rest (subst (AreLegalFrom start) is (word.complete).legal)) played_start
 
@@ -58,30 +60,43 @@ module _ (l : Layout) (fits : Fits l) (simple : IsSimpleLayout l) (lines : AreLi
 
           at_v : end_of ((outline_of w).closed ++ (outline_of w).segments) (1 + k) ≡ v
           at_v = node_apart l fits w word (end_of ((outline_of w).closed ++ (outline_of w).segments) (1 + k)) v
-              (omega (arith, p.below, length-append (outline_of w).closed (outline_of w).segments, (word.complete).one)) (omega (arith, closed, closed_less l fits w word front rest is))
+              (omega (arith, p.below, length-append (outline_of w).closed (outline_of w).segments, (word.complete).one))
+              (omega (arith, closed, closed_less l fits w word front rest is))
               (sym (wire l fits w word k low).1 ∙ ap l.below same ∙ bottom)
 
           from : (numbers : List ℕ) × (slice_get (outline_of front).closed v ≡ Some numbers) → ⊥
           from (numbers, q) = not_node (slice_index_or (outline_of front).hung k 0) (played.below k within)
-              (sym top ∙ ap l.above (sym same) ∙ above_is l fits w word front rest is k (slice_index_or (outline_of front).hung k 0) (got_index (outline_of front).hung k within))
+              (sym top ∙ ap l.above (sym same) ∙ above_is l fits w word front rest is k (slice_index_or (outline_of front).hung k 0)
+              (got_index (outline_of front).hung k within))
             where
               there : 0 < times (1 + k) (slice_index_or (outline_of front).closed v [])
-              there = subst (λ (xs : List ℕ). 0 < times (1 + k) xs) (index_at ((outline_of w).closed ++ (outline_of w).segments) v numbers (closed_got l fits w word front rest is v numbers q) ∙ sym (index_at (outline_of front).closed v numbers q))
+              there = subst (λ (xs : List ℕ). 0 < times (1 + k) xs)
+                  (index_at ((outline_of w).closed ++ (outline_of w).segments) v numbers
+                  (closed_got l fits w word front rest is v numbers q) ∙ sym (index_at (outline_of front).closed v numbers q))
                   (subst (λ (u : ℕ). 0 < times (1 + k) (slice_index_or ((outline_of w).closed ++ (outline_of w).segments) u [])) at_v p.here)
 
               within : k < length (outline_of front).hung
               within = omega (
                 arith,
-                (times_some (1 + k) 1 (length (outline_of front).hung) (omega (arith, there, times_at (1 + k) v (outline_of front).closed, played.numbered (1 + k), times_in-append (1 + k) (outline_of front).closed (outline_of front).segments))).1,
+                (times_some (1 + k) 1 (length (outline_of front).hung)
+                    (omega (
+                      arith,
+                      there,
+                      times_at (1 + k) v (outline_of front).closed,
+                      played.numbered (1 + k),
+                      times_in-append (1 + k) (outline_of front).closed (outline_of front).segments,
+                    ))).1,
               )
 
-  touches_closed : (c line : ℕ) → IsAtClosed (outline_of front) c v → (l.left (word.square c) ≡ line) ⊎ (l.right (word.square c) ≡ line) → Touches l line (word.node v)
+  touches_closed : (c line : ℕ) → IsAtClosed (outline_of front) c v → (l.left (word.square c) ≡ line) ⊎ (l.right (word.square c) ≡ line)
+      → Touches l line (word.node v)
   touches_closed c line at beside = record { square = word.square c; within = square_low l fits w word c low; beside = beside; at = node at.at }
     where
       low : c < length (outline_of w).hung
       low = omega (arith, at.within, hung_less l fits w word front rest is)
 
-      node : (slice_get (outline_of front).hung c ≡ Some v) ⊎ ((k : ℕ) × (numbers : List ℕ) × (slice_get (outline_of front).closed v ≡ Some numbers) × (slice_get numbers k ≡ Some (suc c)))
+      node : (slice_get (outline_of front).hung c ≡ Some v)
+          ⊎ ((k : ℕ) × (numbers : List ℕ) × (slice_get (outline_of front).closed v ≡ Some numbers) × (slice_get numbers k ≡ Some (suc c)))
           → (l.above (word.square c) ≡ word.node v) ⊎ (l.below (word.square c) ≡ word.node v)
       node (inl h) = inl (above_is l fits w word front rest is c v h)
       node (inr (k, numbers, h, q)) = inr (below_is l fits w word front rest is v numbers k c h q low)
@@ -107,8 +122,10 @@ module _ (l : Layout) (fits : Fits l) (simple : IsSimpleLayout l) (lines : AreLi
         low = omega (arith, a_low.0, a_low.1)
 
         same_node : slice_index_or (outline_of front).hung (a - 1) 0 ≡ v
-        same_node = node_apart l fits w word (slice_index_or (outline_of front).hung (a - 1) 0) v (omega (arith, played.below (a - 1) low, closed_less l fits w word front rest is)) (omega (arith, closed, closed_less l fits w word front rest is))
-            (sym (above_is l fits w word front rest is (a - 1) (slice_index_or (outline_of front).hung (a - 1) 0) (got_index (outline_of front).hung (a - 1) low)) ∙ ap l.above (sym same) ∙ top)
+        same_node = node_apart l fits w word (slice_index_or (outline_of front).hung (a - 1) 0) v
+            (omega (arith, played.below (a - 1) low, closed_less l fits w word front rest is)) (omega (arith, closed, closed_less l fits w word front rest is))
+            (sym (above_is l fits w word front rest is (a - 1) (slice_index_or (outline_of front).hung (a - 1) 0)
+            (got_index (outline_of front).hung (a - 1) low)) ∙ ap l.above (sym same) ∙ top)
 
     own : l.left z ≡ l.right z → ⊥
     own h = lines.order t.node place.0 place.0 z z place.1 place.1 (omega arith) h
@@ -120,7 +137,8 @@ module _ (l : Layout) (fits : Fits l) (simple : IsSimpleLayout l) (lines : AreLi
         cases (inl q) = lines.order t.node place.0 (t.from + j) z (word.square (b - 1)) place.1 (t.stands j b g) (omega (arith, q, order)) h
         cases (inr q) = lines.order t.node (t.from + i) place.0 (word.square (a - 1)) z (t.stands i a f) place.1 q (sym k)
 
-    sides : (l.left z ≡ left_line) ⊎ (l.left z ≡ right_line) → (l.right z ≡ left_line) ⊎ (l.right z ≡ right_line) → (i ≡ j) × (slice_get (outline_of front).hung (a - 1) ≡ Some v)
+    sides : (l.left z ≡ left_line) ⊎ (l.left z ≡ right_line) → (l.right z ≡ left_line) ⊎ (l.right z ≡ right_line) → (i ≡ j)
+        × (slice_get (outline_of front).hung (a - 1) ≡ Some v)
     sides (inl h) (inl k) = absurd (own (h ∙ sym k))
     sides (inl h) (inr k) = is_it h k
     sides (inr h) (inl k) = absurd (turned h k)
@@ -132,7 +150,8 @@ module _ (l : Layout) (fits : Fits l) (simple : IsSimpleLayout l) (lines : AreLi
       down : l.above z.square ≡ l.below z.square → ⊥
       down h = omega (arith, fits.nodes.rises z.square z.within, ap fits.nodes.rank h)
 
-      nodes : (l.above z.square ≡ word.node v) ⊎ (l.above z.square ≡ t.node) → (l.below z.square ≡ word.node v) ⊎ (l.below z.square ≡ t.node) → (i ≡ j) × (slice_get (outline_of front).hung (a - 1) ≡ Some v)
+      nodes : (l.above z.square ≡ word.node v) ⊎ (l.above z.square ≡ t.node) → (l.below z.square ≡ word.node v)
+          ⊎ (l.below z.square ≡ t.node) → (i ≡ j) × (slice_get (outline_of front).hung (a - 1) ≡ Some v)
       nodes (inl h) (inl k) = absurd (down (h ∙ sym k))
       nodes (inl h) (inr k) = sides z.square z.within h k z.left z.right
       nodes (inr h) (inl k) = absurd (from_closed z.square z.within h k)
@@ -140,7 +159,8 @@ module _ (l : Layout) (fits : Fits l) (simple : IsSimpleLayout l) (lines : AreLi
 
   shared : Touches l left_line (word.node v) → Touches l right_line (word.node v)
       → ((i ≡ j) × (slice_get (outline_of front).hung (a - 1) ≡ Some v)) ⊎ ((left_line ≡ 0) × (right_line ≡ 1)) ⊎ ((left_line ≡ 1) × (right_line ≡ 0))
-  shared m n = cases (simple.parts left_line right_line (word.node v) t.node (λ h. lines.order t.node (t.from + i) (t.from + j) (word.square (a - 1)) (word.square (b - 1)) (t.stands i a f) (t.stands j b g) (omega (arith, order)) h)
+  shared m n = cases (simple.parts left_line right_line (word.node v) t.node
+      (λ h. lines.order t.node (t.from + i) (t.from + j) (word.square (a - 1)) (word.square (b - 1)) (t.stands i a f) (t.stands j b g) (omega (arith, order)) h)
       (λ h. not_node v closed (sym h)) m
       (record { square = word.square (a - 1); within = a_is.0; beside = inl refl; at = inr a_is.1 }) n
       (record { square = word.square (b - 1); within = b_is.0; beside = inr refl; at = inr b_is.1 }))
@@ -150,6 +170,7 @@ module _ (l : Layout) (fits : Fits l) (simple : IsSimpleLayout l) (lines : AreLi
       cases (inl z) = inl (one_between z)
       cases (inr o) = inr o.lines
 
+-- the law: else two lines and two nodes would bound a part
 pub lines_share_the_node_above : LinesShareTheNodeAbove
 lines_share_the_node_above l w front rest fits simple lines word is x i j a b v c d s e f g order at_c beside_c at_d beside_d =
     shared l fits simple lines w word front rest is x i j a b s e f g order v at_c.closed

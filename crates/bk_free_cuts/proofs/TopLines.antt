@@ -49,7 +49,14 @@ module _ (l : Layout) (fits : Fits l) (simple : IsSimpleLayout l) (walls : AreOu
     bottom : l.below square ≡ l.bottom
 
   down : (f g : ℕ) → HasOneBetween l f g 0 l.bottom → ((q : ℕ) → q < l.squares → l.left q ≡ g → l.right q ≡ f → ⊥) → IsDown f g
-  down f g b turned = record { square = b.square; within = b.within; left = (sides b.left b.right).0; right = (sides b.left b.right).1; top = (nodes b.above b.under).0; bottom = (nodes b.above b.under).1 }
+  down f g b turned = record {
+    square = b.square;
+    within = b.within;
+    left = (sides b.left b.right).0;
+    right = (sides b.left b.right).1;
+    top = (nodes b.above b.under).0;
+    bottom = (nodes b.above b.under).1;
+  }
     where
       sides : (l.left b.square ≡ f) ⊎ (l.left b.square ≡ g) → (l.right b.square ≡ f) ⊎ (l.right b.square ≡ g) → (l.left b.square ≡ f) × (l.right b.square ≡ g)
       sides (inl e) (inl h) = absurd (walls.apart b.square b.within (e ∙ sym h))
@@ -57,7 +64,8 @@ module _ (l : Layout) (fits : Fits l) (simple : IsSimpleLayout l) (walls : AreOu
       sides (inr e) (inl h) = absurd (turned b.square b.within e h)
       sides (inr e) (inr h) = absurd (walls.apart b.square b.within (e ∙ sym h))
 
-      nodes : (l.above b.square ≡ 0) ⊎ (l.above b.square ≡ l.bottom) → (l.below b.square ≡ 0) ⊎ (l.below b.square ≡ l.bottom) → (l.above b.square ≡ 0) × (l.below b.square ≡ l.bottom)
+      nodes : (l.above b.square ≡ 0) ⊎ (l.above b.square ≡ l.bottom) → (l.below b.square ≡ 0) ⊎ (l.below b.square ≡ l.bottom)
+          → (l.above b.square ≡ 0) × (l.below b.square ≡ l.bottom)
       nodes (inl e) (inr h) = (e, h)
       nodes e (inl h) = absurd (omega (arith, h, (fits.nodes.ends_below b.square b.within).0))
       nodes (inr e) h = absurd (omega (arith, e, fits.nodes.hangs_above b.square b.within))
@@ -72,7 +80,8 @@ module _ (l : Layout) (fits : Fits l) (simple : IsSimpleLayout l) (walls : AreOu
     flag false n = refl
 
     side_by_side : AreNeighbours (l.ending l.bottom) a.square b.square
-    side_by_side = subst (λ (u : ℕ). AreNeighbours (l.ending u) a.square b.square) a.bottom (fits.go_on.meet a.square b.square a.within b.within (a.right ∙ sym b.left)
+    side_by_side = subst (λ (u : ℕ). AreNeighbours (l.ending u) a.square b.square) a.bottom
+        (fits.go_on.meet a.square b.square a.within b.within (a.right ∙ sym b.left)
         (flag (l.goes_right a.square) (λ e. ends_there a.square a.bottom (fits.go_on.on_right a.square a.within e).1))
         (flag (l.goes_left b.square) (λ e. ends_there b.square b.bottom (fits.go_on.on_left b.square b.within e).1)))
 
@@ -129,8 +138,10 @@ module _ (l : Layout) (fits : Fits l) (simple : IsSimpleLayout l) (walls : AreOu
     no_two = three a.square b.square (only 0 (omega (arith, many))) (only 1 (omega (arith, many))) (only 2 (omega (arith, many)))
 
   -- a line between two squares that hang from the top does not come to the bottom
-  pub no_line_down : 3 ≤ l.squares → Touches l 0 l.bottom → Touches l 1 l.bottom → (p q z : ℕ) → AreNeighbours (l.hanging 0) p q → z < l.squares → l.below z ≡ l.bottom → l.left z ≡ l.left q → ⊥
-  no_line_down many bottom_left bottom_right p q z (k, e, g) h at line = no_two many (l.left q) (down 0 (l.left q) at_left (λ x w c d. walls.not_before x w d)) (down (l.left q) 1 at_right (λ x w c d. walls.not_beyond x w c))
+  pub no_line_down : 3 ≤ l.squares → Touches l 0 l.bottom → Touches l 1 l.bottom → (p q z : ℕ) → AreNeighbours (l.hanging 0) p q
+      → z < l.squares → l.below z ≡ l.bottom → l.left z ≡ l.left q → ⊥
+  no_line_down many bottom_left bottom_right p q z (k, e, g) h at line =
+      no_two many (l.left q) (down 0 (l.left q) at_left (λ x w c d. walls.not_before x w d)) (down (l.left q) 1 at_right (λ x w c d. walls.not_beyond x w c))
     where
       p_is : (p < l.squares) × (l.above p ≡ 0)
       p_is = fits.lists.hanging_is 0 k p e

@@ -6,6 +6,7 @@ use Rattle.bk_layout.specs.Layout.{Fits, IsFirst, IsLast, Layout}
 use Rattle.bk_tiling_layout.specs.SimpleLayout.{AreOutermost, HasOneBetween, IsSimpleLayout, Touches}
 use Rattle.bk_free_cuts.specs.FreeCuts.{AreOuterWalls}
 
+-- what is got stands within the list
 pub got_low : (xs : List ℕ) (k x : ℕ) → slice_get xs k ≡ Some x → k < length xs
 got_low [] k x e = absurd (cc)
 got_low (y ∷ xs) zero x e = omega arith
@@ -87,6 +88,7 @@ module _ (l : Layout) (fits : Fits l) (simple : IsSimpleLayout l) (walls : AreOu
       from : (p : ℕ) × (slice_get (l.hanging 0) 0 ≡ Some p) → Touches l 0 0
       from (p, e) = let h = fits.lists.hanging_is 0 0 p e in record { square = p; within = h.0; beside = inl (fits.lines.top_left p e); at = inl h.1 }
 
+  -- and the right wall touches it
   pub top_right : Touches l 1 0
   top_right = from (length (l.hanging 0)) refl_length (fits.nodes.hanging_some 0 fits.some)
     where
@@ -98,14 +100,16 @@ module _ (l : Layout) (fits : Fits l) (simple : IsSimpleLayout l) (walls : AreOu
       from (suc k) e some = on (get_some (l.hanging 0) k (omega (arith, e)))
         where
           on : (p : ℕ) × (slice_get (l.hanging 0) k ≡ Some p) → Touches l 1 0
-          on (p, f) = let h = fits.lists.hanging_is 0 k p f in record { square = p; within = h.0; beside = inr (fits.lines.top_right p (k, sym e, f)); at = inl h.1 }
+          on (p, f) = let h = fits.lists.hanging_is 0 k p f in
+              record { square = p; within = h.0; beside = inr (fits.lines.top_right p (k, sym e, f)); at = inl h.1 }
 
   module _ (v : ℕ) (some : 0 < v) (low : v < l.bottom) (touch_left : Touches l 0 v) (touch_right : Touches l 1 v) where
     -- above a node between, from wall to wall, is one square
     pub one_above : length (l.ending v) ≡ 1
     one_above = cases (simple.parts 0 1 0 v (λ e. no_wall_twice 0 (omega arith) e) (λ e. omega (arith, e, some)) top_left touch_left top_right touch_right)
       where
-        by_nodes : (a : IsAcross 0 v) → ((l.above a.square ≡ 0) × (l.below a.square ≡ v)) ⊎ ((l.above a.square ≡ v) × (l.below a.square ≡ 0)) → length (l.ending v) ≡ 1
+        by_nodes : (a : IsAcross 0 v) → ((l.above a.square ≡ 0) × (l.below a.square ≡ v))
+            ⊎ ((l.above a.square ≡ v) × (l.below a.square ≡ 0)) → length (l.ending v) ≡ 1
         by_nodes a (inl (e, f)) = only_ending v a.square a.within f a.left a.right
         by_nodes a (inr (e, f)) = absurd (omega (arith, f, (fits.nodes.ends_below a.square a.within).0))
 
@@ -119,9 +123,11 @@ module _ (l : Layout) (fits : Fits l) (simple : IsSimpleLayout l) (walls : AreOu
 
     -- and below it, where the walls touch the bottom
     one_under : Touches l 0 l.bottom → Touches l 1 l.bottom → length (l.hanging v) ≡ 1
-    one_under bottom_left bottom_right = cases (simple.parts 0 1 v l.bottom (λ e. no_wall_twice 0 (omega arith) e) (λ e. omega (arith, e, low)) touch_left bottom_left touch_right bottom_right)
+    one_under bottom_left bottom_right = cases
+        (simple.parts 0 1 v l.bottom (λ e. no_wall_twice 0 (omega arith) e) (λ e. omega (arith, e, low)) touch_left bottom_left touch_right bottom_right)
       where
-        by_nodes : (a : IsAcross v l.bottom) → ((l.above a.square ≡ v) × (l.below a.square ≡ l.bottom)) ⊎ ((l.above a.square ≡ l.bottom) × (l.below a.square ≡ v)) → length (l.hanging v) ≡ 1
+        by_nodes : (a : IsAcross v l.bottom) → ((l.above a.square ≡ v) × (l.below a.square ≡ l.bottom))
+            ⊎ ((l.above a.square ≡ l.bottom) × (l.below a.square ≡ v)) → length (l.hanging v) ≡ 1
         by_nodes a (inl (e, f)) = only_hanging v a.square a.within e a.left a.right
         by_nodes a (inr (e, f)) = absurd (omega (arith, e, fits.nodes.hangs_above a.square a.within))
 
@@ -133,10 +139,12 @@ module _ (l : Layout) (fits : Fits l) (simple : IsSimpleLayout l) (walls : AreOu
         cases (inl b) = let a = across v l.bottom b in by_nodes a a.nodes
         cases (inr o) = absurd (outer o.nodes)
 
+    -- no node between the top and the bottom reaches from wall to wall
     pub no_wide_node : Touches l 0 l.bottom → Touches l 1 l.bottom → ⊥
     no_wide_node bottom_left bottom_right = simple.pairs v one_above (one_under bottom_left bottom_right)
 
-  module _ (v : ℕ) (some : 0 < length (l.ending v)) (from_wall : (q : ℕ) → IsFirst (l.ending v) q → l.left q ≡ 0) (to_wall : (q : ℕ) → IsLast (l.ending v) q → l.right q ≡ 1) where
+  module _ (v : ℕ) (some : 0 < length (l.ending v)) (from_wall : (q : ℕ) → IsFirst (l.ending v) q → l.left q ≡ 0)
+      (to_wall : (q : ℕ) → IsLast (l.ending v) q → l.right q ≡ 1) where
     -- the walls touch a node on which squares end from wall to wall
     pub ends_left : Touches l 0 v
     ends_left = from (get_some (l.ending v) 0 some)
@@ -144,6 +152,7 @@ module _ (l : Layout) (fits : Fits l) (simple : IsSimpleLayout l) (walls : AreOu
         from : (p : ℕ) × (slice_get (l.ending v) 0 ≡ Some p) → Touches l 0 v
         from (p, e) = let h = fits.lists.ending_is v 0 p e in record { square = p; within = h.0; beside = inl (from_wall p e); at = inr h.1 }
 
+    -- and the right wall touches it
     pub ends_right : Touches l 1 v
     ends_right = from (length (l.ending v)) refl_length
       where
@@ -200,6 +209,7 @@ module _ (l : Layout) (fits : Fits l) (simple : IsSimpleLayout l) (walls : AreOu
           each : (p : ℕ) → p < l.squares → p ≡ q
           each p h = only_top p h (all_top (suc (fits.nodes.rank (l.above p))) (l.above p) (omega arith) (fits.nodes.hangs_above p h))
 
+    -- no single square ends on the bottom, where there are two squares or more
     pub no_wide_bottom : ⊥
     no_wide_bottom = cases (two (l.above q))
       where

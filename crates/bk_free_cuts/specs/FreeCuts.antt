@@ -1,5 +1,6 @@
 -- What a search through free words may pass over: the words that begin with certain moves, because no layout of a simple
--- tiling has such a word. Said of layouts: what is said of a tiling's is true of some more, in which squares are reversed.
+-- tiling has such a word. It is said of sound layouts and not of tilings, since the words that a search meets also belong to
+-- layouts in which squares of the tiling are reversed. Each cut is one law that ends in `IsFreeBarren`.
 -- Statements alone; each is proved apart.
 use Rattle.std.specs.Prelude.{Contains, [], length, ℕ, ◌++◌, ◌+◌, ◌<◌, ◌∷◌, ◌≡◌, ◌≢◌, ◌≤◌}
 use Rattle.bk_simple.specs.Simple.{IsSimple}

@@ -1,5 +1,6 @@
--- The cut P: moves after which two lines at one open segment share a closed node that they can't share in a word of a sound
--- layout. A statement alone; it is proved apart.
+-- The cut by lines that share a node: moves after which two lines at one open segment share a closed node that they can't
+-- share in a word of a sound layout. A statement alone; it is proved apart.
+-- Example (NodeCutExamples): after 3aa.2ue.1ea the left wall and the line between the squares 2 and 3 share the top.
 use Rattle.std.specs.Prelude.{List, Some, slice_get, suc, ℕ, ◌-◌, ◌≡◌, ◌≤◌, ◌⊎◌}
 use Rattle.bk_word.specs.Outline.{Outline}
 use Rattle.bk_word.specs.Play.{outline_of}

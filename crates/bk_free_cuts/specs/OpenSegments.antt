@@ -1,5 +1,5 @@
--- What a cut by lines and nodes (P) needs of a word of a layout: the squares of one open segment end on one node, side by side.
--- A statement alone; it is proved apart.
+-- What the cut by lines that share a node needs of a word of a layout: the squares of one open segment end on one node, side
+-- by side. A statement alone; it is proved apart.
 use Rattle.std.specs.Prelude.{List, Some, slice_get, ℕ, ◌++◌, ◌+◌, ◌-◌, ◌≡◌}
 use Rattle.bk_word.specs.Play.{outline_of}
 use Rattle.bk_word.specs.Word.{Word}

@@ -1,4 +1,5 @@
--- P on words: two lines at one open segment share no closed node but the one from which the square between them hangs.
+-- Lines that share a node, on words: two lines at one open segment share no closed node but the one from which the square
+-- between them hangs. Else the two lines and that node bound, with the segment's node, a part of the tiling.
 -- Statements alone; each is proved apart.
 use Rattle.std.specs.Prelude.{List, Some, length, slice_get, suc, ℕ, ◌++◌, ◌-◌, ◌<◌, ◌≡◌, ◌≢◌, ◌≤◌, ◌⊎◌}
 use Rattle.bk_tiling.specs.Tiling.{IsTiling, Tiling}

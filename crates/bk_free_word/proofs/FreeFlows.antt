@@ -21,7 +21,9 @@ use Rattle.bk_word_net.proofs.NoLoose.{a_word_has_one_flow, a_word_net_has_no_lo
 use Rattle.bk_word_net.specs.Renumbering.{IsRenumbering}
 use Rattle.bk_word_net.specs.WordNet.{net_of_word}
 use Rattle.bk_layout.specs.Layout.{net_of_layout}
-use Rattle.bk_tiling_layout.proofs.TilingFits.{in_square, levels_of, net_is, node_at}
+use Rattle.bk_tiling_layout.proofs.TilingSquares.{in_square, node_at}
+use Rattle.bk_tiling_layout.proofs.TilingFits.{levels_of}
+use Rattle.bk_tiling_layout.proofs.TilingNet.{net_is}
 use Rattle.bk_tiling_layout.specs.TilingLayout.{layout_of, node_above, square_of}
 use Rattle.bk_free_word.proofs.Totals.{outflow_total, renumbered, total_from, total_same}
 use Rattle.bk_free_word.specs.FreeFlow.{FreeSidesAreTheOneFlow, FreeSquaresHangByFlow, free_flow}

@@ -12,7 +12,8 @@ use Rattle.bk_word_net.specs.WordNet.{net_of_word}
 use Rattle.bk_tiling_layout.proofs.Edges.{bottom_within}
 use Rattle.bk_tiling_layout.proofs.LineEnds.{number_column, number_zero}
 use Rattle.bk_tiling_layout.proofs.SimpleFits.{a_simple_tiling_has_a_simple_layout}
-use Rattle.bk_tiling_layout.proofs.TilingFits.{a_tiling_has_a_layout, in_square}
+use Rattle.bk_tiling_layout.proofs.TilingFits.{a_tiling_has_a_layout}
+use Rattle.bk_tiling_layout.proofs.TilingSquares.{in_square}
 use Rattle.bk_tiling_layout.specs.TilingLayout.{layout_of, square_of}
 use Rattle.bk_layout.proofs.LayoutNet.{a_layout_has_a_free_word}
 use Rattle.bk_layout.specs.LayoutLaws.{HangByLinesFrom, IsWordOfLayout}

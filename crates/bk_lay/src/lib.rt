@@ -9,6 +9,7 @@ mod signs;
 mod tests;
 mod turns;
 
+pub use signs::sign_between;
 pub use turns::word_of;
 
 /// Every tiling has a word.

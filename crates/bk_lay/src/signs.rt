@@ -45,8 +45,9 @@ fn push_sign(signs: &mut ArrayVec<Sign, MOST_SIGNS>, left: Option<u64>, right: u
     }
 }
 
-// The sign between two levels.
-fn sign_between(left: u64, right: u64) -> Sign
+/// The sign between the levels of two neighbouring bottoms, from left to right: above where the left one is less, even where
+/// they are equal, under where it is greater. (Own.)
+pub fn sign_between(left: u64, right: u64) -> Sign
     ensures { result ≡ sign_between left right }
 {
     if left < right {

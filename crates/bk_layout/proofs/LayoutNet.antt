@@ -91,7 +91,8 @@ module _ (l : Layout) (fits : Fits l) (o : Outline) (st : State l o) (end : Ende
   square_low k h = st.laid_low (square k) (got_times st.laid k (square k) (square_got k h))
 
   square_apart : (j k : ℕ) → j < l.squares → k < l.squares → square j ≡ square k → j ≡ k
-  square_apart j k a b e = times_once st.laid (square k) (omega (arith, is_laid l fits o st end (square k) (square_low k b))) j k (square_got j a ∙ ap (λ (x : ℕ). Some x) e) (square_got k b)
+  square_apart j k a b e = times_once st.laid (square k) (omega (arith, is_laid l fits o st end (square k) (square_low k b))) j k
+      (square_got j a ∙ ap (λ (x : ℕ). Some x) e) (square_got k b)
 
   -- ---- nodes
 
@@ -103,7 +104,13 @@ module _ (l : Layout) (fits : Fits l) (o : Outline) (st : State l o) (end : Ende
   nodes_once v = cases (same_or_other v l.bottom)
     where
       cases : (v ≡ l.bottom) ⊎ (v ≡ l.bottom → ⊥) → times v all_nodes ≤ 1
-      cases (inl e) = omega (arith, times-append v st.done (l.bottom ∷ []), one_for v l.bottom e, ap (λ (u : ℕ). times u st.done) e, bottom_open (times l.bottom st.done) refl)
+      cases (inl e) = omega (
+        arith,
+        times-append v st.done (l.bottom ∷ []),
+        one_for v l.bottom e,
+        ap (λ (u : ℕ). times u st.done) e,
+        bottom_open (times l.bottom st.done) refl,
+      )
       cases (inr e) = omega (arith, times-append v st.done (l.bottom ∷ []), none_for v l.bottom e, st.done_once v)
 
   nodes_low : (v : ℕ) → 0 < times v all_nodes → v < l.bottom + 1
@@ -134,7 +141,8 @@ module _ (l : Layout) (fits : Fits l) (o : Outline) (st : State l o) (end : Ende
   -- ---- each wire
 
   from_node : (k : ℕ) → k < l.squares → node (slice_index_or o.hung k 0) ≡ l.above (square k)
-  from_node k h = index_got all_nodes (slice_index_or o.hung k 0) (l.above (square k)) (get_append st.done (l.bottom ∷ []) (slice_index_or o.hung k 0) (l.above (square k))
+  from_node k h = index_got all_nodes (slice_index_or o.hung k 0) (l.above (square k))
+      (get_append st.done (l.bottom ∷ []) (slice_index_or o.hung k 0) (l.above (square k))
       (zip_got (λ q j. slice_get st.done j ≡ Some (l.above q)) st.laid o.hung k st.hung (omega (arith, h, laid_many l fits o st end))))
 
   lists_are : lists_at st.laid (o.closed ++ o.segments) ≡ map l.ending all_nodes
@@ -153,7 +161,8 @@ module _ (l : Layout) (fits : Fits l) (o : Outline) (st : State l o) (end : Ende
           many = sym (length-map (o.closed ++ o.segments) (map (sq_of st.laid))) ∙ ap length lists_are ∙ length-map all_nodes l.ending
 
           ends : map (sq_of st.laid) (slice_index_or (o.closed ++ o.segments) place []) ≡ l.ending (node place)
-          ends = sym (index_map (map (sq_of st.laid)) (o.closed ++ o.segments) place p.below) ∙ ap (λ (x : List (List ℕ)). slice_index_or x place []) lists_are ∙ index_of l.ending all_nodes place (omega (arith, p.below, many))
+          ends = sym (index_map (map (sq_of st.laid)) (o.closed ++ o.segments) place p.below)
+              ∙ ap (λ (x : List (List ℕ)). slice_index_or x place []) lists_are ∙ index_of l.ending all_nodes place (omega (arith, p.below, many))
 
           inside : 0 < times (square k) (map (sq_of st.laid) (slice_index_or (o.closed ++ o.segments) place []))
           inside = subst (λ (j : ℕ). 0 < times (slice_index_or st.laid j 0) (map (sq_of st.laid) (slice_index_or (o.closed ++ o.segments) place []))) as_index
@@ -162,8 +171,10 @@ module _ (l : Layout) (fits : Fits l) (o : Outline) (st : State l o) (end : Ende
           on : (j : ℕ) × (slice_get (l.ending (node place)) j ≡ Some (square k)) → l.below (square k) ≡ node place
           on (j, e) = (fits.lists.ending_is (node place) j (square k) e).1
 
-  each : (k : ℕ) → k < l.squares → slice_get (net_of_layout l).wires (square k) ≡ option_map (λ (x : ℕ × ℕ). (node x.0, node x.1)) (slice_get (net_after o).wires k)
-  each k h = there ∙ (λ i. Some (sym (from_node k h) i, sym (to_node k h) i)) ∙ sym (ap (option_map (λ (x : ℕ × ℕ). (node x.0, node x.1))) (wires_got (end_of (o.closed ++ o.segments)) 1 o.hung k (omega (arith, h, hung_is))))
+  each : (k : ℕ) → k < l.squares → slice_get (net_of_layout l).wires (square k)
+      ≡ option_map (λ (x : ℕ × ℕ). (node x.0, node x.1)) (slice_get (net_after o).wires k)
+  each k h = there ∙ (λ i. Some (sym (from_node k h) i, sym (to_node k h) i))
+      ∙ sym (ap (option_map (λ (x : ℕ × ℕ). (node x.0, node x.1))) (wires_got (end_of (o.closed ++ o.segments)) 1 o.hung k (omega (arith, h, hung_is))))
     where
       number : slice_get (numbers_from 0 l.squares) (square k) ≡ Some (square k)
       number = numbers_got 0 (square k) l.squares (square_low k h) ∙ ap (λ (x : ℕ). Some x) (omega arith)
@@ -175,8 +186,16 @@ module _ (l : Layout) (fits : Fits l) (o : Outline) (st : State l o) (end : Ende
   renumbering = record {
     nodes = omega (arith, closed_many);
     wires = word_wires ∙ sym layout_wires;
-    node_apart = record { below = λ k h. omega (arith, closed_many, node_low k (omega (arith, h, closed_many))); apart = λ j k a b e. node_apart j k (omega (arith, a, closed_many)) (omega (arith, b, closed_many)) e };
-    wire_apart = record { below = λ k h. omega (arith, word_wires, square_low k (omega (arith, h, word_wires))); apart = λ j k a b e. square_apart j k (omega (arith, a, word_wires)) (omega (arith, b, word_wires)) e };
+    node_apart = record {
+      below = λ k h. omega (arith, closed_many, node_low k (omega (arith, h, closed_many)));
+      apart =
+          λ j k a b e. node_apart j k (omega (arith, a, closed_many)) (omega (arith, b, closed_many)) e;
+    };
+    wire_apart = record {
+      below = λ k h. omega (arith, word_wires, square_low k (omega (arith, h, word_wires)));
+      apart =
+          λ j k a b e. square_apart j k (omega (arith, a, word_wires)) (omega (arith, b, word_wires)) e;
+    };
     first = first_node;
     last = λ k h. last_node k (omega (arith, h, closed_many));
     each = λ k h. each k (omega (arith, h, word_wires));
@@ -213,5 +232,6 @@ word_of_sweep l fits s = record {
         (subst (λ (x : List (List ℕ)). Chain l (outline_of s.word).signs x) (s.end).one (s.last).chain)
         (subst (λ (x : List (List ℕ)). AtLeft l x) (s.end).one (s.last).wall)
 
+-- the law: the word of the layout's whole sweep
 pub a_layout_has_a_free_word : ALayoutHasAFreeWord
 a_layout_has_a_free_word l fits = let s = sweep l fits in (s.word, word_of_sweep l fits s)

@@ -15,9 +15,11 @@ use Rattle.bk_layout.proofs.Counting.{one_for}
 abbrev pub sq_of : List ℕ → ℕ → ℕ
 sq_of laid m = slice_index_or laid (m - 1) 0
 
+-- the squares of lists of numbers
 abbrev pub lists_at : List ℕ → List (List ℕ) → List (List ℕ)
 lists_at laid lists = map (map (sq_of laid)) lists
 
+-- what stands in a list stands at the same place when more is put behind
 pub index_more : (xs ys : List ℕ) (k : ℕ) → k < length xs → slice_index_or (xs ++ ys) k 0 ≡ slice_index_or xs k 0
 index_more [] ys k h = absurd (omega arith)
 index_more (x ∷ xs) ys zero h = refl
@@ -39,7 +41,9 @@ index_here (x ∷ xs) y ys (suc k) e = index_here xs y ys k (omega arith)
 abbrev pub AreLaid : List ℕ → List (List ℕ) → Type 0
 AreLaid laid lists = (m : ℕ) → 0 < times_in m lists → (1 ≤ m) × (m ≤ length laid)
 
-pub list_more : (laid new : List ℕ) (numbers : List ℕ) → ((m : ℕ) → 0 < times m numbers → (1 ≤ m) × (m ≤ length laid)) → map (sq_of (laid ++ new)) numbers ≡ map (sq_of laid) numbers
+-- numbers of laid squares keep their squares when more squares are laid
+pub list_more : (laid new : List ℕ) (numbers : List ℕ) → ((m : ℕ) → 0 < times m numbers → (1 ≤ m) × (m ≤ length laid))
+    → map (sq_of (laid ++ new)) numbers ≡ map (sq_of laid) numbers
 list_more laid new [] f = refl
 list_more laid new (n ∷ numbers) f = λ i. here i ∷ list_more laid new numbers (λ m h. f m (omega (arith, h))) i
   where
@@ -49,16 +53,19 @@ list_more laid new (n ∷ numbers) f = λ i. here i ∷ list_more laid new numbe
     here : sq_of (laid ++ new) n ≡ sq_of laid n
     here = index_more laid new (n - 1) (omega (arith, at.0, at.1))
 
+-- and so do lists of them
 pub lists_more : (laid new : List ℕ) (lists : List (List ℕ)) → AreLaid laid lists → lists_at (laid ++ new) lists ≡ lists_at laid lists
 lists_more laid new [] f = refl
-lists_more laid new (numbers ∷ lists) f = λ i. list_more laid new numbers (λ m h. f m (omega (arith, h))) i ∷ lists_more laid new lists (λ m h. f m (omega (arith, h))) i
+lists_more laid new (numbers ∷ lists) f = λ i. list_more laid new numbers (λ m h. f m (omega (arith, h))) i
+    ∷ lists_more laid new lists (λ m h. f m (omega (arith, h))) i
 
 -- the numbers of new squares are theirs
 pub new_numbers : (laid new : List ℕ) (from : ℕ) → from ≡ length laid + 1 → map (sq_of (laid ++ new)) (numbers_from from (length new)) ≡ new
 new_numbers laid [] from e = refl
 new_numbers laid (q ∷ new) from e =
     let rest : map (sq_of (laid ++ q ∷ new)) (numbers_from (from + 1) (length new)) ≡ new =
-    subst (λ (all : List ℕ). map (sq_of all) (numbers_from (from + 1) (length new)) ≡ new) (append_assoc laid (q ∷ []) new) (new_numbers (laid ++ q ∷ []) new (from + 1) (omega (arith, e, length-append laid (q ∷ [])))) in
+    subst (λ (all : List ℕ). map (sq_of all) (numbers_from (from + 1) (length new)) ≡ new) (append_assoc laid (q ∷ []) new)
+    (new_numbers (laid ++ q ∷ []) new (from + 1) (omega (arith, e, length-append laid (q ∷ [])))) in
     λ i. index_here laid q new (from - 1) (omega (arith, e)) i ∷ rest i
 
 -- and they stay theirs
@@ -72,6 +79,7 @@ new_numbers_more laid (q ∷ new) more from e =
     index_more (laid ++ q ∷ new) more (from - 1) (omega (arith, e, length-append laid (q ∷ new))) ∙ index_here laid q new (from - 1) (omega (arith, e)) in
     λ i. first i ∷ rest i
 
+-- a map goes through single segments
 pub map_singles : (f : ℕ → ℕ) (numbers : List ℕ) → map (map f) (singles numbers) ≡ singles (map f numbers)
 map_singles f [] = refl
 map_singles f (n ∷ numbers) = ap (λ (x : List (List ℕ)). (f n ∷ []) ∷ x) (map_singles f numbers)
@@ -84,6 +92,7 @@ map_before : (f : ℕ → ℕ) (s : List ℕ) (lists : List (List ℕ)) → map 
 map_before f s [] = refl
 map_before f s (t ∷ lists) = ap (λ (x : List ℕ). x ∷ map (map f) lists) (map_both f s t)
 
+-- and through the joining of segments
 pub map_joined : (f : ℕ → ℕ) (signs : List Sign) (lists : List (List ℕ)) → map (map f) (joined signs lists) ≡ joined signs (map (map f) lists)
 map_joined f signs [] = refl
 map_joined f [] (s ∷ lists) = refl
@@ -92,12 +101,16 @@ map_joined f (Under ∷ signs) (s ∷ lists) = ap (λ (x : List (List ℕ)). map
 map_joined f (Even ∷ signs) (s ∷ lists) = map_before f s (joined signs lists) ∙ ap (before_first_list (map f s)) (map_joined f signs lists)
 
 -- what stands closed and open has the numbers of what was hung
-pub all_laid : (o : Outline) → Numbered o → (laid : List ℕ) → length laid ≡ length o.hung → (m : ℕ) → 0 < times_in m o.closed + times_in m o.segments → (1 ≤ m) × (m ≤ length laid)
-all_laid o numbered laid long m h = let r = times_some m 1 (length o.hung) (omega (arith, h, numbered m, times_in-append m o.closed o.segments)) in (r.0, omega (arith, r.1, long))
+pub all_laid : (o : Outline) → Numbered o → (laid : List ℕ) → length laid ≡ length o.hung → (m : ℕ)
+    → 0 < times_in m o.closed + times_in m o.segments → (1 ≤ m) × (m ≤ length laid)
+all_laid o numbered laid long m h = let r =
+    times_some m 1 (length o.hung) (omega (arith, h, numbered m, times_in-append m o.closed o.segments)) in (r.0, omega (arith, r.1, long))
 
+-- a number stands in single segments as often as in the row
 pub times_singles : (m : ℕ) (numbers : List ℕ) → times_in m (singles numbers) ≡ times m numbers
 times_singles m [] = refl
 times_singles m (n ∷ numbers) = omega (arith, times_singles m numbers)
 
+-- joining keeps how often a number stands in the segments
 pub times_joined : (m : ℕ) (signs : List Sign) (lists : List (List ℕ)) → times_in m (joined signs lists) ≡ times_in m lists
 times_joined m signs lists = sym (times-concat m (joined signs lists)) ∙ ap (times m) (concat-joined signs lists) ∙ times-concat m lists

@@ -25,7 +25,10 @@ pub record Ended (l : Layout) (o : Outline) (st : State l o) : Type 0 where
 
 -- no further segment stands beside a valley that ends on the bottom
 pub ended : (l : Layout) → (o : Outline) (st : State l o) (v : AtValley o) (at : ValleyAt l o st.laid v) → l.below at.q ≡ l.bottom → Ended l o st
-ended l o st v at e = record { one = at.cut ∙ (λ i. before i ++ (at.left.bottom e i ++ (sym at.whole i ∷ (at.right.bottom e i ++ after i)))) ∙ ap (λ (u : ℕ). l.ending u ∷ []) e }
+ended l o st v at e = record {
+  one = at.cut ∙ (λ i. before i ++ (at.left.bottom e i ++ (sym at.whole i ∷ (at.right.bottom e i ++ after i))))
+      ∙ ap (λ (u : ℕ). l.ending u ∷ []) e;
+}
   where
     none : (x y : List (List ℕ)) → (x ≡ [] → y ≡ []) → lists_at st.laid x ≡ [] → lists_at st.laid y ≡ []
     none [] y f h = ap (lists_at st.laid) (f refl)
@@ -50,10 +53,12 @@ pub record Swept (l : Layout) (o : Outline) (st : State l o) : Type 0 where
   pub lines : HangByLinesFrom l (sq_of last.laid) o word
   pub nodes : HangByNodesFrom l (sq_of last.laid) o word
 
+-- at most as many nodes are closed as there are but the bottom
 pub bounded : (l : Layout) (o : Outline) (st : State l o) → length st.done ≤ l.bottom
 bounded l o st = at_most l.bottom st.done st.done_low (λ q h. st.done_once q)
 
-onward : (l : Layout) → Fits l → (o : Outline) (st : State l o) → ((then : Outline) (s : State l then) → length s.done ≡ suc (length st.done) → Swept l then s) → Swept l o st
+onward : (l : Layout) → Fits l → (o : Outline) (st : State l o)
+    → ((then : Outline) (s : State l then) → length s.done ≡ suc (length st.done) → Swept l then s) → Swept l o st
 onward l fits o st more = cases (same_or_other (l.below at.q) l.bottom)
   where
     v : AtValley o
@@ -65,7 +70,8 @@ onward l fits o st more = cases (same_or_other (l.below at.q) l.bottom)
     less : (a b : ℕ) → a ≤ b → (a ≡ b → ⊥) → a < b
     less a b h n = grind arith
 
-    step : (low : l.below at.q < l.bottom) (h : Hung l (l.below at.q)) (then : State l (after_move o (move l fits o st v at low h))) → then.laid ≡ st.laid ++ (h.first ∷ h.more)
+    step : (low : l.below at.q < l.bottom) (h : Hung l (l.below at.q)) (then : State l (after_move o (move l fits o st v at low h)))
+        → then.laid ≡ st.laid ++ (h.first ∷ h.more)
         → Swept l (after_move o (move l fits o st v at low h)) then → Swept l o st
     step low h then laid s = record {
       word = move l fits o st v at low h ∷ s.word;
@@ -89,7 +95,19 @@ onward l fits o st more = cases (same_or_other (l.below at.q) l.bottom)
         step low h s.0 s.2 (more (after_move o (move l fits o st v at low h)) s.0 s.1)
 
     cases : (l.below at.q ≡ l.bottom) ⊎ (l.below at.q ≡ l.bottom → ⊥) → Swept l o st
-    cases (inl e) = record { word = []; legal = tt; free = tt; no_twins = λ n. tt; last = st; end = ended l o st v at e; more = []; grows = sym (append-nil st.laid); lines = tt; nodes = tt }
+    cases (inl e) = record {
+      word = [];
+      legal = tt;
+      free = tt;
+      no_twins = λ n. tt;
+      last = st;
+      end = ended l o st v at e;
+      more = [];
+      grows =
+          sym (append-nil st.laid);
+      lines = tt;
+      nodes = tt;
+    }
     cases (inr n) = going (less (l.below at.q) l.bottom (fits.nodes.ends_below at.q at.known).1 n)
 
 swept : (l : Layout) → Fits l → (steps : ℕ) (o : Outline) (st : State l o) → l.bottom ≤ length st.done + steps → Swept l o st
@@ -106,7 +124,8 @@ module _ (l : Layout) (fits : Fits l) (o : Outline) (st : State l o) (end : Ende
   all_closed zero v rank low = absurd (omega arith)
   all_closed (suc n) v rank low = cases (same_or_other v 0) (all_closed n)
     where
-      from : (v ≡ 0 → ⊥) → (q : ℕ) × (slice_get (l.ending v) 0 ≡ Some q) → ((u : ℕ) → fits.nodes.rank u < n → u < l.bottom → times u st.done ≡ 1) → times v st.done ≡ 1
+      from : (v ≡ 0 → ⊥) → (q : ℕ) × (slice_get (l.ending v) 0 ≡ Some q)
+          → ((u : ℕ) → fits.nodes.rank u < n → u < l.bottom → times u st.done ≡ 1) → times v st.done ≡ 1
       from n (q, at) rest = omega (
         arith,
         ap (λ (u : ℕ). times u st.done) e.1,
@@ -143,6 +162,7 @@ module _ (l : Layout) (fits : Fits l) (o : Outline) (st : State l o) (end : Ende
 
 -- ---- the whole sweep
 
+-- a word that sweeps the layout to its end, move by move
 pub record WholeSweep (l : Layout) : Type 0 where
   pub word : Word
   pub some : 0 < length word
@@ -156,6 +176,7 @@ pub record WholeSweep (l : Layout) : Type 0 where
   pub lines : HangByLinesFrom l (sq_of last.laid) start word
   pub nodes : HangByNodesFrom l (sq_of last.laid) start word
 
+-- each layout that fits is swept to its end: each move closes one node more
 pub sweep : (l : Layout) → Fits l → WholeSweep l
 sweep l fits = from (hung_from l fits 0 fits.some)
   where

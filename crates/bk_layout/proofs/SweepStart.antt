@@ -27,18 +27,22 @@ top_ends_none l fits = from (l.ending 0) refl
   where
     from : (qs : List ℕ) → l.ending 0 ≡ qs → l.ending 0 ≡ []
     from [] e = e
-    from (q ∷ qs) e = let h = fits.lists.ending_is 0 0 q (ap (λ (xs : List ℕ). slice_get xs 0) e) in absurd (omega (arith, h.1, (fits.nodes.ends_below q h.0).0))
+    from (q ∷ qs) e = let h = fits.lists.ending_is 0 0 q (ap (λ (xs : List ℕ). slice_get xs 0) e) in
+        absurd (omega (arith, h.1, (fits.nodes.ends_below q h.0).0))
 
 module _ (l : Layout) (fits : Fits l) (h : Hung l 0) where
   abbrev new : List ℕ
   new = h.first ∷ h.more
 
+  -- the first move hangs all that hangs from the top
   abbrev pub first_move : Move
   first_move = record { count = length (h.first ∷ h.more); signs = signs_of l (h.first ∷ h.more) }
 
+  -- it is legal
   pub first_legal : IsLegalMove start first_move
   first_legal = record { some = omega arith; signs = many_signs l (h.first ∷ h.more) (omega arith) ∙ omega arith }
 
+  -- it is free
   pub first_free : IsFreeMove start first_move
   first_free no_wall e = absurd (cc)
 
@@ -48,6 +52,7 @@ module _ (l : Layout) (fits : Fits l) (h : Hung l 0) where
   side_by_side : (k x y : ℕ) → slice_get (h.first ∷ h.more) k ≡ Some x → slice_get (h.first ∷ h.more) (suc k) ≡ Some y → AreNeighbours (l.hanging 0) x y
   side_by_side k x y e f = (k, ap (λ (xs : List ℕ). slice_get xs k) h.is ∙ e, ap (λ (xs : List ℕ). slice_get xs (suc k)) h.is ∙ f)
 
+  -- where the layout has no twins, it has no even sign between its squares
   pub first_no_twins : HasNoTwins l → HangsNoTwins start first_move
   first_no_twins single k within even = at_two (get_some (h.first ∷ h.more) k (omega (arith, within))) (get_some (h.first ∷ h.more) (suc k) within)
     where
@@ -56,8 +61,13 @@ module _ (l : Layout) (fits : Fits l) (h : Hung l 0) where
 
       at_two : (x : ℕ) × (slice_get (h.first ∷ h.more) k ≡ Some x) → (y : ℕ) × (slice_get (h.first ∷ h.more) (suc k) ≡ Some y) → ⊥
       at_two (x, e) (y, f) = single 0 x y (side_by_side k x y e f)
-          (even_neighbours l fits.go_on x y (in_top k x e).0 (in_top (suc k) y f).0 (fits.lines.between 0 x y (side_by_side k x y e f), sym (got_same (sign l x y) Even (sym ((λ i. slice_get (signs_of l (h.first ∷ h.more)) (same i)) ∙ sign_at l (h.first ∷ h.more) k x y e f) ∙ even))))
+          (even_neighbours l fits.go_on x y (in_top k x e).0 (in_top (suc k) y f).0 (
+            fits.lines.between 0 x y (side_by_side k x y e f),
+            sym (got_same (sign l x y) Even (sym ((λ i. slice_get (signs_of l (h.first ∷ h.more)) (same i))
+                ∙ sign_at l (h.first ∷ h.more) k x y e f) ∙ even)),
+          ))
 
+  -- its squares hang along the layout's lines
   pub first_by_lines : (more : List ℕ) → HangsByLines l (sq_of ((h.first ∷ h.more) ++ more)) start first_move
   first_by_lines more = record { first = λ a e. absurd (none a e); next = next }
     where
@@ -65,17 +75,22 @@ module _ (l : Layout) (fits : Fits l) (h : Hung l 0) where
       none a e = cc
 
       new_at : (k x : ℕ) → slice_get (h.first ∷ h.more) k ≡ Some x → (number : ℕ) → number ≡ 1 + k → sq_of ((h.first ∷ h.more) ++ more) number ≡ x
-      new_at k x e number at = index_got ((h.first ∷ h.more) ++ more) (number - 1) x (get_append (h.first ∷ h.more) more (number - 1) x ((λ i. slice_get (h.first ∷ h.more) (place i)) ∙ e))
+      new_at k x e number at = index_got ((h.first ∷ h.more) ++ more) (number - 1) x
+          (get_append (h.first ∷ h.more) more (number - 1) x ((λ i. slice_get (h.first ∷ h.more) (place i)) ∙ e))
         where
           place : number - 1 ≡ k
           place = omega (arith, at)
 
-      next : (k : ℕ) → suc k < length (h.first ∷ h.more) → l.right (sq_of ((h.first ∷ h.more) ++ more) (0 + 1 + k)) ≡ l.left (sq_of ((h.first ∷ h.more) ++ more) (0 + 2 + k))
+      next : (k : ℕ) → suc k < length (h.first ∷ h.more)
+          → l.right (sq_of ((h.first ∷ h.more) ++ more) (0 + 1 + k)) ≡ l.left (sq_of ((h.first ∷ h.more) ++ more) (0 + 2 + k))
       next k within = at_two (get_some (h.first ∷ h.more) k (omega (arith, within))) (get_some (h.first ∷ h.more) (suc k) within)
         where
-          at_two : (x : ℕ) × (slice_get (h.first ∷ h.more) k ≡ Some x) → (y : ℕ) × (slice_get (h.first ∷ h.more) (suc k) ≡ Some y) → l.right (sq_of ((h.first ∷ h.more) ++ more) (0 + 1 + k)) ≡ l.left (sq_of ((h.first ∷ h.more) ++ more) (0 + 2 + k))
-          at_two (x, e) (y, f) = ap l.right (new_at k x e (0 + 1 + k) refl) ∙ fits.lines.between 0 x y (side_by_side k x y e f) ∙ ap l.left (sym (new_at (suc k) y f (0 + 2 + k) (omega arith)))
+          at_two : (x : ℕ) × (slice_get (h.first ∷ h.more) k ≡ Some x) → (y : ℕ) × (slice_get (h.first ∷ h.more) (suc k) ≡ Some y)
+              → l.right (sq_of ((h.first ∷ h.more) ++ more) (0 + 1 + k)) ≡ l.left (sq_of ((h.first ∷ h.more) ++ more) (0 + 2 + k))
+          at_two (x, e) (y, f) = ap l.right (new_at k x e (0 + 1 + k) refl) ∙ fits.lines.between 0 x y (side_by_side k x y e f)
+              ∙ ap l.left (sym (new_at (suc k) y f (0 + 2 + k) (omega arith)))
 
+  -- its squares are all that hang from the top
   pub first_by_node : (more : List ℕ) → HangsNode l (sq_of ((h.first ∷ h.more) ++ more)) start first_move
   first_by_node more = record {
     node = 0;
@@ -96,7 +111,8 @@ module _ (l : Layout) (fits : Fits l) (h : Hung l 0) where
   numbers_are = new_numbers [] new 1 (omega arith)
 
   apart_is : lists_at new (segments_apart start first_move) ≡ singles new
-  apart_is = ap (lists_at new) (append-nil (singles (numbers_from 1 (length new)))) ∙ map_singles (sq_of new) (numbers_from 1 (length new)) ∙ ap singles numbers_are
+  apart_is = ap (lists_at new) (append-nil (singles (numbers_from 1 (length new)))) ∙ map_singles (sq_of new) (numbers_from 1 (length new))
+      ∙ ap singles numbers_are
 
   marks_are : signs_apart start first_move ≡ signs_of l new
   marks_are = append-nil (signs_of l new)
@@ -104,15 +120,19 @@ module _ (l : Layout) (fits : Fits l) (h : Hung l 0) where
   after_is : lists_at new (after_move start first_move).segments ≡ joined (signs_of l new) (singles new)
   after_is = map_joined (sq_of new) (signs_apart start first_move) (segments_apart start first_move) ∙ (λ i. joined (marks_are i) (apart_is i))
 
+  -- its first square stands at the left wall
   pub left_wall : l.left h.first ≡ 0
   left_wall = fits.lines.top_left h.first (ap (λ (xs : List ℕ). slice_get xs 0) h.is)
 
   right_wall : l.right (last_from h.first h.more) ≡ 1
-  right_wall = fits.lines.top_right (last_from h.first h.more) (subst (λ (xs : List ℕ). IsLast xs (last_from h.first h.more)) (sym h.is) (is_last h.first h.more))
+  right_wall = fits.lines.top_right (last_from h.first h.more)
+      (subst (λ (xs : List ℕ). IsLast xs (last_from h.first h.more)) (sym h.is) (is_last h.first h.more))
 
-  chain_then : Chain l (after_move start first_move).signs (lists_at new (after_move start first_move).segments) × AtLeft l (lists_at new (after_move start first_move).segments)
+  chain_then : Chain l (after_move start first_move).signs (lists_at new (after_move start first_move).segments)
+      × AtLeft l (lists_at new (after_move start first_move).segments)
   chain_then = subst (λ (x : List (List ℕ)). Chain l (after_move start first_move).signs x × AtLeft l x) (sym after_is)
-      (subst (λ (g : List Sign). Chain l (filter parts g) (joined (signs_of l new) (singles new)) × AtLeft l (joined (signs_of l new) (singles new))) (sym marks_are)
+      (subst (λ (g : List Sign). Chain l (filter parts g) (joined (signs_of l new) (singles new))
+      × AtLeft l (joined (signs_of l new) (singles new))) (sym marks_are)
       (chain_joined l fits (signs_of l new) (singles new) left_wall (singles_wall l h.first h.more h.known h.linked right_wall)))
 
   open_then : (x : ℕ) → times_in x (lists_at new (after_move start first_move).segments) ≡ times x new
@@ -128,6 +148,7 @@ module _ (l : Layout) (fits : Fits l) (h : Hung l 0) where
   hung_then [] f = tt
   hung_then (x ∷ xs) f = (ap (λ (u : ℕ). Some u) (sym (f x (omega (arith, one_for x x refl)))), hung_then xs (λ y k. f y (omega (arith, k))))
 
+  -- after it the state of a sweep holds
   pub first_state : (s : State l (after_move start first_move)) × (s.laid ≡ h.first ∷ h.more)
   first_state = (
     record {

@@ -24,13 +24,15 @@ use Rattle.bk_layout.specs.FreeWord.{HangsNoTwins, IsFreeMove}
 use Rattle.bk_layout.specs.Layout.{Fits, HasNoTwins, IsFirst, IsLast, Layout}
 use Rattle.bk_layout.specs.LayoutLaws.{HangsByLines, HangsNode}
 
-module _ (l : Layout) (fits : Fits l) (o : Outline) (st : State l o) (v : AtValley o) (at : ValleyAt l o st.laid v) (low : l.below at.q < l.bottom) (h : Hung l (l.below at.q)) where
+module _ (l : Layout) (fits : Fits l) (o : Outline) (st : State l o) (v : AtValley o) (at : ValleyAt l o st.laid v)
+    (low : l.below at.q < l.bottom) (h : Hung l (l.below at.q)) where
   abbrev node : ℕ
   node = l.below at.q
 
   abbrev new : List ℕ
   new = h.first ∷ h.more
 
+  -- the next move hangs all that hangs from the valley's node
   abbrev pub move : Move
   move = record { count = length (h.first ∷ h.more); signs = signs_of l (at.left.beyond ++ (h.first ∷ (h.more ++ at.right.beyond))) }
 
@@ -46,6 +48,7 @@ module _ (l : Layout) (fits : Fits l) (o : Outline) (st : State l o) (v : AtVall
   right_many : length at.right.beyond ≡ length v.right
   right_many = at.right.beyond_many ∙ length-map v.right (map (sq_of laid))
 
+  -- it is legal
   pub legal : IsLegalMove o move
   legal = record {
     some = omega arith;
@@ -55,12 +58,14 @@ module _ (l : Layout) (fits : Fits l) (o : Outline) (st : State l o) (v : AtVall
       right_many,
       left_open o v,
       right_open o v,
-      many_signs l (at.left.beyond ++ (h.first ∷ (h.more ++ at.right.beyond))) (omega (arith, length-append at.left.beyond (h.first ∷ (h.more ++ at.right.beyond)))),
+      many_signs l (at.left.beyond ++ (h.first ∷ (h.more ++ at.right.beyond)))
+          (omega (arith, length-append at.left.beyond (h.first ∷ (h.more ++ at.right.beyond)))),
       length-append at.left.beyond (h.first ∷ (h.more ++ at.right.beyond)),
       length-append h.more at.right.beyond,
     );
   }
 
+  -- it is free
   pub free : IsFreeMove o move
   free no_wall e = at.left.free h.first (h.more ++ at.right.beyond) (omega (arith, left_many, left_open o v, ap open_side no_wall)) e
 
@@ -70,7 +75,15 @@ module _ (l : Layout) (fits : Fits l) (o : Outline) (st : State l o) (v : AtVall
     where
       at_two : (x : ℕ) × (slice_get (h.first ∷ h.more) k ≡ Some x) → (y : ℕ) × (slice_get (h.first ∷ h.more) (suc k) ≡ Some y) → ⊥
       at_two (x, e) (y, f) = single node x y (k, ap (λ (xs : List ℕ). slice_get xs k) h.is ∙ e, ap (λ (xs : List ℕ). slice_get xs (suc k)) h.is ∙ f)
-          (even_neighbours l fits.go_on x y (in_node k x e).0 (in_node (suc k) y f).0 (fits.lines.between node x y (k, ap (λ (xs : List ℕ). slice_get xs k) h.is ∙ e, ap (λ (xs : List ℕ). slice_get xs (suc k)) h.is ∙ f), sym (got_same (sign l x y) Even (sym there ∙ even))))
+          (even_neighbours l fits.go_on x y (in_node k x e).0 (in_node (suc k) y f).0 (
+            fits.lines.between node x y (
+              k,
+              ap (λ (xs : List ℕ). slice_get xs k) h.is
+                  ∙ e,
+              ap (λ (xs : List ℕ). slice_get xs (suc k)) h.is ∙ f,
+            ),
+            sym (got_same (sign l x y) Even (sym there ∙ even)),
+          ))
         where
           in_node : (j z : ℕ) → slice_get (h.first ∷ h.more) j ≡ Some z → (z < l.squares) × (l.above z ≡ node)
           in_node j z g = fits.lists.hanging_is node j z (ap (λ (xs : List ℕ). slice_get xs j) h.is ∙ g)
@@ -78,8 +91,10 @@ module _ (l : Layout) (fits : Fits l) (o : Outline) (st : State l o) (v : AtVall
           side : open_side (has_left_wall o) + k ≡ length at.left.beyond + k
           side = omega (arith, left_open o v, left_many)
 
-          deep : (j z : ℕ) → slice_get (h.first ∷ h.more) j ≡ Some z → slice_get (at.left.beyond ++ (h.first ∷ (h.more ++ at.right.beyond))) (length at.left.beyond + j) ≡ Some z
-          deep j z g = get_after at.left.beyond (h.first ∷ (h.more ++ at.right.beyond)) j (length at.left.beyond + j) refl ∙ get_append (h.first ∷ h.more) at.right.beyond j z g
+          deep : (j z : ℕ) → slice_get (h.first ∷ h.more) j ≡ Some z
+              → slice_get (at.left.beyond ++ (h.first ∷ (h.more ++ at.right.beyond))) (length at.left.beyond + j) ≡ Some z
+          deep j z g = get_after at.left.beyond (h.first ∷ (h.more ++ at.right.beyond)) j (length at.left.beyond + j) refl
+              ∙ get_append (h.first ∷ h.more) at.right.beyond j z g
 
           there : slice_get (signs_of l (at.left.beyond ++ (h.first ∷ (h.more ++ at.right.beyond)))) (open_side (has_left_wall o) + k) ≡ Some (sign l x y)
           there = (λ i. slice_get (signs_of l (at.left.beyond ++ (h.first ∷ (h.more ++ at.right.beyond)))) (side i))
@@ -101,10 +116,12 @@ module _ (l : Layout) (fits : Fits l) (o : Outline) (st : State l o) (v : AtVall
   left_line = fits.lines.same_left node at.q h.first first_there (ap (λ (xs : List ℕ). slice_get xs 0) h.is)
 
   right_line : l.right (last_from h.first h.more) ≡ l.right (last_from at.q at.qs)
-  right_line = fits.lines.same_right node (last_from at.q at.qs) (last_from h.first h.more) last_there (subst (λ (xs : List ℕ). IsLast xs (last_from h.first h.more)) (sym h.is) (is_last h.first h.more))
+  right_line = fits.lines.same_right node (last_from at.q at.qs) (last_from h.first h.more) last_there
+      (subst (λ (xs : List ℕ). IsLast xs (last_from h.first h.more)) (sym h.is) (is_last h.first h.more))
 
   abbrev apart : List (List ℕ)
-  apart = lists_at st.laid v.before ++ (lists_at st.laid v.left ++ ((h.first ∷ []) ∷ (singles h.more ++ (lists_at st.laid v.right ++ lists_at st.laid v.after))))
+  apart = lists_at st.laid v.before ++ (lists_at st.laid v.left
+      ++ ((h.first ∷ []) ∷ (singles h.more ++ (lists_at st.laid v.right ++ lists_at st.laid v.after))))
 
   abbrev apart_marks : List Sign
   apart_marks = v.before_signs ++ (signs_of l (at.left.beyond ++ (h.first ∷ (h.more ++ at.right.beyond))) ++ v.after_signs)
@@ -113,17 +130,26 @@ module _ (l : Layout) (fits : Fits l) (o : Outline) (st : State l o) (v : AtVall
   laid_before m k = all_laid o st.numbered st.laid st.long m (omega (arith, k))
 
   parts_times : (m : ℕ) → times_in m o.segments ≡ times_in m v.before + (times_in m v.left + (times m v.valley + (times_in m v.right + times_in m v.after)))
-  parts_times m = ap (times_in m) v.segments ∙ omega (arith, times_in-append m v.before (v.left ++ (v.valley ∷ (v.right ++ v.after))), times_in-append m v.left (v.valley ∷ (v.right ++ v.after)), times_in-append m v.right v.after)
+  parts_times m = ap (times_in m) v.segments
+      ∙ omega (
+        arith,
+        times_in-append m v.before (v.left ++ (v.valley ∷ (v.right ++ v.after))),
+        times_in-append m v.left (v.valley ∷ (v.right ++ v.after)),
+        times_in-append m v.right v.after,
+      )
 
   -- the squares stand along lines, whatever is laid later
   pub by_lines : (more : List ℕ) → HangsByLines l (sq_of (laid_then ++ more)) o move
   by_lines more = record { first = first; next = next }
     where
       new_at : (k x : ℕ) → slice_get new k ≡ Some x → (number : ℕ) → number ≡ length o.hung + 1 + k → sq_of (laid_then ++ more) number ≡ x
-      new_at k x e number at = index_got (laid_then ++ more) (number - 1) x (get_append laid_then more (number - 1) x (get_after laid new k (number - 1) (omega (arith, at, st.long)) ∙ e))
+      new_at k x e number at = index_got (laid_then ++ more) (number - 1) x
+          (get_append laid_then more (number - 1) x (get_after laid new k (number - 1) (omega (arith, at, st.long)) ∙ e))
 
       first : (a : ℕ) → slice_get (valley_of o) 0 ≡ Some a → l.left (sq_of (laid_then ++ more) (length o.hung + 1)) ≡ l.left (sq_of (laid_then ++ more) a)
-      first a e = ap l.left (new_at 0 h.first refl (length o.hung + 1) (omega arith)) ∙ left_line ∙ ap l.left (sym (index_more laid_then more (a - 1) (omega (arith, in_range.0, in_range.1, length-append laid new)) ∙ index_more laid new (a - 1) (omega (arith, in_range.0, in_range.1)) ∙ square))
+      first a e = ap l.left (new_at 0 h.first refl (length o.hung + 1) (omega arith)) ∙ left_line
+          ∙ ap l.left (sym (index_more laid_then more (a - 1) (omega (arith, in_range.0, in_range.1, length-append laid new))
+          ∙ index_more laid new (a - 1) (omega (arith, in_range.0, in_range.1)) ∙ square))
         where
           in_valley : slice_get v.valley 0 ≡ Some a
           in_valley = ap (λ (xs : List ℕ). slice_get xs 0) (sym (valley_is o v)) ∙ e
@@ -134,10 +160,12 @@ module _ (l : Layout) (fits : Fits l) (o : Outline) (st : State l o) (v : AtVall
           square : sq_of laid a ≡ at.q
           square = got_same (sq_of laid a) at.q (sym (get_map (sq_of laid) v.valley 0 a in_valley) ∙ ap (λ (xs : List ℕ). slice_get xs 0) at.is)
 
-      next : (k : ℕ) → suc k < length new → l.right (sq_of (laid_then ++ more) (length o.hung + 1 + k)) ≡ l.left (sq_of (laid_then ++ more) (length o.hung + 2 + k))
+      next : (k : ℕ) → suc k < length new → l.right (sq_of (laid_then ++ more) (length o.hung + 1 + k))
+          ≡ l.left (sq_of (laid_then ++ more) (length o.hung + 2 + k))
       next k within = at_two (get_some new k (omega (arith, within))) (get_some new (suc k) within)
         where
-          at_two : (x : ℕ) × (slice_get new k ≡ Some x) → (y : ℕ) × (slice_get new (suc k) ≡ Some y) → l.right (sq_of (laid_then ++ more) (length o.hung + 1 + k)) ≡ l.left (sq_of (laid_then ++ more) (length o.hung + 2 + k))
+          at_two : (x : ℕ) × (slice_get new k ≡ Some x) → (y : ℕ) × (slice_get new (suc k) ≡ Some y)
+              → l.right (sq_of (laid_then ++ more) (length o.hung + 1 + k)) ≡ l.left (sq_of (laid_then ++ more) (length o.hung + 2 + k))
           at_two (x, e) (y, f) = ap l.right (new_at k x e (length o.hung + 1 + k) refl)
               ∙ fits.lines.between node x y (k, ap (λ (xs : List ℕ). slice_get xs k) h.is ∙ e, ap (λ (xs : List ℕ). slice_get xs (suc k)) h.is ∙ f)
               ∙ ap l.left (sym (new_at (suc k) y f (length o.hung + 2 + k) (omega arith)))
@@ -163,14 +191,16 @@ module _ (l : Layout) (fits : Fits l) (o : Outline) (st : State l o) (v : AtVall
       alone [] [] [] s e = refl
 
       at_walls : length o.segments ≡ 1 → ((q : ℕ) → IsFirst (l.ending node) q → l.left q ≡ 0) × ((q : ℕ) → IsLast (l.ending node) q → l.right q ≡ 1)
-      at_walls one = walls_of l o.signs (l.ending node) (subst (λ (x : List (List ℕ)). Chain l o.signs x) cut st.chain) (subst (λ (x : List (List ℕ)). AtLeft l x) cut st.wall)
+      at_walls one = walls_of l o.signs (l.ending node) (subst (λ (x : List (List ℕ)). Chain l o.signs x) cut st.chain)
+          (subst (λ (x : List (List ℕ)). AtLeft l x) cut st.wall)
         where
           cut : lists_at laid o.segments ≡ l.ending node ∷ []
           cut = at.cut ∙ alone (lists_at laid v.before) (lists_at laid v.left) (lists_at laid v.right ++ lists_at laid v.after) (at.q ∷ at.qs)
               (ap length (sym at.cut) ∙ length-map o.segments (map (sq_of laid)) ∙ one) ∙ ap (λ (x : List ℕ). x ∷ []) (sym at.whole)
 
   chain_apart : Chain l apart_marks apart × AtLeft l apart
-  chain_apart = at.left.hang h.first [] (h.more ++ at.right.beyond) (singles h.more ++ (lists_at st.laid v.right ++ lists_at st.laid v.after)) v.after_signs left_line
+  chain_apart = at.left.hang h.first [] (h.more ++ at.right.beyond)
+      (singles h.more ++ (lists_at st.laid v.right ++ lists_at st.laid v.after)) v.after_signs left_line
       (at.right.hang h.first h.more h.known h.linked right_line)
 
   -- ---- the outline after the move, in squares
@@ -196,7 +226,8 @@ module _ (l : Layout) (fits : Fits l) (o : Outline) (st : State l o) (v : AtVall
   apart_is : lists_at laid_then (segments_apart o move) ≡ apart
   apart_is = ap (lists_at laid_then) (apart_segments o v move legal)
       ∙ map-append (map (sq_of laid_then)) v.before ((v.left ++ (singles (new_squares o move) ++ v.right)) ++ v.after)
-      ∙ ap (λ (x : List (List ℕ)). lists_at laid_then v.before ++ x) (map-append (map (sq_of laid_then)) (v.left ++ (singles (new_squares o move) ++ v.right)) v.after
+      ∙ ap (λ (x : List (List ℕ)). lists_at laid_then v.before ++ x)
+      (map-append (map (sq_of laid_then)) (v.left ++ (singles (new_squares o move) ++ v.right)) v.after
       ∙ ap (λ (x : List (List ℕ)). x ++ lists_at laid_then v.after) (map-append (map (sq_of laid_then)) v.left (singles (new_squares o move) ++ v.right)
       ∙ ap (λ (x : List (List ℕ)). lists_at laid_then v.left ++ x) (map-append (map (sq_of laid_then)) (singles (new_squares o move)) v.right)))
       ∙ (λ i. same_before i ++ ((same_left i ++ (news_are i ++ same_right i)) ++ same_after i))
@@ -219,7 +250,8 @@ module _ (l : Layout) (fits : Fits l) (o : Outline) (st : State l o) (v : AtVall
   -- ---- the counts
 
   open_before : (x : ℕ) → times_in x (lists_at laid o.segments)
-      ≡ times_in x (lists_at laid v.before) + (times_in x (lists_at laid v.left) + (times x (at.q ∷ at.qs) + (times_in x (lists_at laid v.right) + times_in x (lists_at laid v.after))))
+      ≡ times_in x (lists_at laid v.before) + (times_in x (lists_at laid v.left)
+      + (times x (at.q ∷ at.qs) + (times_in x (lists_at laid v.right) + times_in x (lists_at laid v.after))))
   open_before x = ap (times_in x) at.cut ∙ omega (
     arith,
     times_in-append x (lists_at laid v.before) (lists_at laid v.left ++ ((at.q ∷ at.qs) ∷ (lists_at laid v.right ++ lists_at laid v.after))),
@@ -228,7 +260,8 @@ module _ (l : Layout) (fits : Fits l) (o : Outline) (st : State l o) (v : AtVall
   )
 
   open_then : (x : ℕ) → times_in x (lists_at laid_then (after_move o move).segments)
-      ≡ times_in x (lists_at laid v.before) + (times_in x (lists_at laid v.left) + (times x new + (times_in x (lists_at laid v.right) + times_in x (lists_at laid v.after))))
+      ≡ times_in x (lists_at laid v.before) + (times_in x (lists_at laid v.left)
+      + (times x new + (times_in x (lists_at laid v.right) + times_in x (lists_at laid v.after))))
   open_then x = ap (times_in x) after_is ∙ times_joined x apart_marks apart ∙ omega (
     arith,
     times_in-append x (lists_at laid v.before) (lists_at laid v.left ++ (singles new ++ (lists_at laid v.right ++ lists_at laid v.after))),
@@ -254,7 +287,8 @@ module _ (l : Layout) (fits : Fits l) (o : Outline) (st : State l o) (v : AtVall
   fresh : times node st.done ≡ 0
   fresh = omega (arith, st.open_times at.q at.known, open_before at.q, one_for at.q at.q refl, st.done_once (l.above at.q))
 
-  hung_then : (xs : List ℕ) → ((x : ℕ) → 0 < times x xs → l.above x ≡ node) → AllZip (λ q k. slice_get done_then k ≡ Some (l.above q)) xs (replicate (length xs) (length o.closed))
+  hung_then : (xs : List ℕ) → ((x : ℕ) → 0 < times x xs → l.above x ≡ node)
+      → AllZip (λ q k. slice_get done_then k ≡ Some (l.above q)) xs (replicate (length xs) (length o.closed))
   hung_then [] f = tt
   hung_then (x ∷ xs) f = (there, hung_then xs (λ y k. f y (omega (arith, k))))
     where
@@ -281,6 +315,7 @@ module _ (l : Layout) (fits : Fits l) (o : Outline) (st : State l o) (v : AtVall
       valley : map (sq_of laid_then) (valley_of o) ≡ l.ending node
       valley = ap (map (sq_of laid_then)) (valley_is o v) ∙ head (map (sq_of laid_then) v.valley) (map (sq_of laid) v.valley) one ∙ at.is ∙ sym at.whole
 
+  -- after it the state holds again, with one node more closed
   pub state_then : (s : State l (after_move o move)) × (length s.done ≡ suc (length st.done)) × (s.laid ≡ laid_then)
   state_then = (
     record {
@@ -288,15 +323,31 @@ module _ (l : Layout) (fits : Fits l) (o : Outline) (st : State l o) (v : AtVall
       done = done_then;
       shaped = shaped_move o move legal st.shaped;
       numbered = numbered_move o move st.numbered;
-      long = omega (arith, st.long, length-append st.laid new, length-append o.hung (replicate move.count (length o.closed)), length-replicate move.count (length o.closed));
+      long = omega (
+        arith,
+        st.long,
+        length-append st.laid new,
+        length-append o.hung (replicate move.count (length o.closed)),
+        length-replicate move.count (length o.closed),
+      );
       chain = chain_then.0;
       wall = chain_then.1;
       closed = closed_then;
       hung = zip_append (λ q k. slice_get done_then k ≡ Some (l.above q)) st.laid new o.hung (replicate move.count (length o.closed))
-          (zip_map (λ q k. slice_get st.done k ≡ Some (l.above q)) (λ q k. slice_get done_then k ≡ Some (l.above q)) (λ q k e. get_append st.done (node ∷ []) k (l.above q) e) st.laid o.hung st.hung)
+          (zip_map (λ q k. slice_get st.done k ≡ Some (l.above q)) (λ q k. slice_get done_then k ≡ Some (l.above q))
+          (λ q k e. get_append st.done (node ∷ []) k (l.above q) e) st.laid o.hung st.hung)
           (hung_then new (λ x k. (new_above x k).1));
       laid_times = λ q k. omega (arith, times-append q st.laid new, new_times q k, st.laid_times q k, done_more (l.above q));
-      open_times = λ q k. omega (arith, open_then q, new_times q k, open_before q, old_times q k, st.open_times q k, done_more (l.above q), done_more (l.below q));
+      open_times = λ q k. omega (
+        arith,
+        open_then q,
+        new_times q k,
+        open_before q,
+        old_times q k,
+        st.open_times q k,
+        done_more (l.above q),
+        done_more (l.below q),
+      );
       done_once = λ u. once u (same_or_other u node);
       top = get_append st.done (node ∷ []) 0 0 st.top;
       begun = omega (arith, st.begun, done_more 0, none_for 0 node (λ e. omega (arith, e, (fits.nodes.ends_below at.q at.known).0)));

@@ -31,17 +31,20 @@ at_head l fits g [] c a = absurd a
 at_head l fits g ([] ∷ segments) c a = absurd a
 at_head l fits g ((x ∷ xs) ∷ segments) c a = fits.go_on.at_left_wall x (known_first l x xs (chain_known l g x xs segments c)) a
 
-first_there : (l : Layout) → Fits l → (front : List (List ℕ)) (g : List Sign) (x : ℕ) (xs : List ℕ) (rest : List (List ℕ)) → AllPart g → length front ≤ valley_place g → Chain l g (front ++ (x ∷ xs) ∷ rest) → HeadFirst l (front ++ (x ∷ xs) ∷ rest) → IsFirst (l.ending (l.below x)) x
+first_there : (l : Layout) → Fits l → (front : List (List ℕ)) (g : List Sign) (x : ℕ) (xs : List ℕ) (rest : List (List ℕ)) → AllPart g
+    → length front ≤ valley_place g → Chain l g (front ++ (x ∷ xs) ∷ rest) → HeadFirst l (front ++ (x ∷ xs) ∷ rest) → IsFirst (l.ending (l.below x)) x
 first_there l fits [] g x xs rest part place c f = f
 first_there l fits ([] ∷ front) g x xs rest part place c f = absurd f
 first_there l fits ((y ∷ ys) ∷ front) [] x xs rest part place c f = absurd (omega (arith, place))
 first_there l fits ((y ∷ ys) ∷ front) (Above ∷ g) x xs rest part place c f = absurd (omega (arith, place))
 first_there l fits ((y ∷ ys) ∷ front) (Even ∷ g) x xs rest part place c f = absurd (both_ways false refl part.0)
 first_there l fits ((y ∷ ys) ∷ []) (Under ∷ g) x xs rest part place c f =
-    first_there l fits [] g x xs rest part.1 (omega arith) c.3 (fits.go_on.on_left x (known_first l x xs (chain_known l g x xs rest c.3)) (under_left l (last_from y ys) x c.2.1).1).0
+    first_there l fits [] g x xs rest part.1 (omega arith) c.3
+    (fits.go_on.on_left x (known_first l x xs (chain_known l g x xs rest c.3)) (under_left l (last_from y ys) x c.2.1).1).0
 first_there l fits ((y ∷ ys) ∷ [] ∷ front) (Under ∷ g) x xs rest part place c f = absurd c
 first_there l fits ((y ∷ ys) ∷ (z ∷ zs) ∷ front) (Under ∷ g) x xs rest part place c f =
-    first_there l fits ((z ∷ zs) ∷ front) g x xs rest part.1 (omega (arith, place)) c.3 (fits.go_on.on_left z (known_first l z zs (chain_known l g z zs (front ++ (x ∷ xs) ∷ rest) c.3)) (under_left l (last_from y ys) z c.2.1).1).0
+    first_there l fits ((z ∷ zs) ∷ front) g x xs rest part.1 (omega (arith, place)) c.3
+    (fits.go_on.on_left z (known_first l z zs (chain_known l g z zs (front ++ (x ∷ xs) ∷ rest) c.3)) (under_left l (last_from y ys) z c.2.1).1).0
 
 -- ---- the two signs
 
@@ -50,6 +53,7 @@ even_test true b e = absurd (cc)
 even_test false true e = absurd (cc)
 even_test false false e = (refl, refl)
 
+-- a segment before a square q that stands even beside it, while the line at the right of q goes on
 pub record TwoSigns (l : Layout) (s : List ℕ) (q : ℕ) : Type 0 where
   pub x : ℕ
   pub xs : List ℕ
@@ -61,7 +65,8 @@ pub record TwoSigns (l : Layout) (s : List ℕ) (q : ℕ) : Type 0 where
   pub goes_left : l.goes_left q ≡ false
   pub goes_right : l.goes_right q ≡ true
 
-two_signs : (l : Layout) (s : List ℕ) (g a : List Sign) (q : ℕ) (more : List ℕ) (rest : List (List ℕ)) → Chain l (g ++ a) (s ∷ (q ∷ []) ∷ (singles more ++ rest)) → slice_get g 0 ≡ Some Even → slice_get g 1 ≡ Some Above → 0 < length more → TwoSigns l s q
+two_signs : (l : Layout) (s : List ℕ) (g a : List Sign) (q : ℕ) (more : List ℕ) (rest : List (List ℕ))
+    → Chain l (g ++ a) (s ∷ (q ∷ []) ∷ (singles more ++ rest)) → slice_get g 0 ≡ Some Even → slice_get g 1 ≡ Some Above → 0 < length more → TwoSigns l s q
 two_signs l s [] a q more rest c e f two = absurd (cc)
 two_signs l s (g ∷ []) a q more rest c e f two = absurd (cc)
 two_signs l s (g ∷ h ∷ gs) a q [] rest c e f two = absurd (omega arith)
@@ -84,7 +89,8 @@ two_signs l (x ∷ xs) (g ∷ h ∷ gs) a q (y ∷ more) rest c e f two = record
     over : h ≡ Above
     over = cc
 
-run_end : (l : Layout) (x : ℕ) (xs : List ℕ) (q : ℕ) → Run l x xs → AreNeighbours (l.ending (l.below (last_from x xs))) (last_from x xs) q → Run l x (xs ++ (q ∷ []))
+run_end : (l : Layout) (x : ℕ) (xs : List ℕ) (q : ℕ) → Run l x xs → AreNeighbours (l.ending (l.below (last_from x xs))) (last_from x xs) q
+    → Run l x (xs ++ (q ∷ []))
 run_end l x [] q run n = (n, tt)
 run_end l x (y ∷ xs) q run n = (run.0, run_end l y xs q run.1 n)
 
@@ -109,6 +115,7 @@ in_total f w (x ∷ xs) h = on (same_or_other w x) (in_total f w xs)
 none_or_some : (n : ℕ) → (n ≡ 0) ⊎ (0 < n)
 none_or_some n = grind arith
 
+-- a square that may be reversed, and what the state says of the squares and nodes around it
 pub record Bad (l : Layout) (o : Outline) (st : State l o) (q r : ℕ) : Type 0 where
   pub p : ℕ
   pub can : CanReverse l q p r
@@ -116,22 +123,29 @@ pub record Bad (l : Layout) (o : Outline) (st : State l o) (q r : ℕ) : Type 0 
   pub q_not : times q st.laid ≡ 0
   pub v_not : times (l.below q) st.done ≡ 0
 
-module _ (l : Layout) (fits : Fits l) (o : Outline) (st : State l o) (c : AtValley o) (at : ValleyAt l o st.laid c) (low : l.below at.q < l.bottom) (h : Hung l (l.below at.q)) (s : List ℕ) (one : c.left ≡ s ∷ [])
-    (two : 0 < length h.more) (even : slice_get (move l fits o st c at low h).signs 0 ≡ Some Even) (over : slice_get (move l fits o st c at low h).signs 1 ≡ Some Above) where
+module _ (l : Layout) (fits : Fits l) (o : Outline) (st : State l o) (c : AtValley o) (at : ValleyAt l o st.laid c)
+    (low : l.below at.q < l.bottom) (h : Hung l (l.below at.q)) (s : List ℕ) (one : c.left ≡ s ∷ [])
+    (two : 0 < length h.more) (even : slice_get (move l fits o st c at low h).signs 0 ≡ Some Even)
+    (over : slice_get (move l fits o st c at low h).signs 1 ≡ Some Above) where
   abbrev q : ℕ
   q = h.first
 
   abbrev list : List ℕ
   list = map (sq_of st.laid) s
 
-  chain_here : Chain l ((move l fits o st c at low h).signs ++ c.after_signs) (list ∷ (h.first ∷ []) ∷ (singles h.more ++ (lists_at st.laid c.right ++ lists_at st.laid c.after)))
-  chain_here = chain_behind l (lists_at st.laid c.before) c.before_signs ((move l fits o st c at low h).signs ++ c.after_signs) list ((h.first ∷ []) ∷ (singles h.more ++ (lists_at st.laid c.right ++ lists_at st.laid c.after)))
+  chain_here : Chain l ((move l fits o st c at low h).signs ++ c.after_signs)
+      (list ∷ (h.first ∷ []) ∷ (singles h.more ++ (lists_at st.laid c.right ++ lists_at st.laid c.after)))
+  chain_here = chain_behind l (lists_at st.laid c.before) c.before_signs ((move l fits o st c at low h).signs ++ c.after_signs) list
+      ((h.first ∷ []) ∷ (singles h.more ++ (lists_at st.laid c.right ++ lists_at st.laid c.after)))
       (length-map c.before (map (sq_of st.laid)) ∙ c.before_many)
-      (subst (λ (x : List (List ℕ)). Chain l (c.before_signs ++ ((move l fits o st c at low h).signs ++ c.after_signs)) (lists_at st.laid c.before ++ (lists_at st.laid x ++ ((h.first ∷ []) ∷ (singles h.more ++ (lists_at st.laid c.right ++ lists_at st.laid c.after)))))) one
+      (subst (λ (x : List (List ℕ)). Chain l (c.before_signs ++ ((move l fits o st c at low h).signs ++ c.after_signs))
+      (lists_at st.laid c.before ++ (lists_at st.laid x
+      ++ ((h.first ∷ []) ∷ (singles h.more ++ (lists_at st.laid c.right ++ lists_at st.laid c.after)))))) one
       (marks_chain l fits o st c at low h).0)
 
   t : TwoSigns l list q
-  t = two_signs l list (move l fits o st c at low h).signs c.after_signs q h.more (lists_at st.laid c.right ++ lists_at st.laid c.after) chain_here even over two
+  t = two_signs l list (move l fits o st c at low h).signs c.after_signs q h.more (lists_at st.laid c.right ++ lists_at st.laid c.after)
+      chain_here even over two
 
   abbrev p : ℕ
   p = last_from t.x t.xs
@@ -152,14 +166,18 @@ module _ (l : Layout) (fits : Fits l) (o : Outline) (st : State l o) (c : AtVall
   x_is = run_below l fits.lists t.x t.xs t.run
 
   cut_is : lists_at st.laid o.segments ≡ lists_at st.laid c.before ++ (t.x ∷ t.xs) ∷ ((at.q ∷ at.qs) ∷ (lists_at st.laid c.right ++ lists_at st.laid c.after))
-  cut_is = at.cut ∙ ap (λ (x : List (List ℕ)). lists_at st.laid c.before ++ (lists_at st.laid x ++ ((at.q ∷ at.qs) ∷ (lists_at st.laid c.right ++ lists_at st.laid c.after)))) one
+  cut_is = at.cut ∙ ap (λ (x : List (List ℕ)). lists_at st.laid c.before
+      ++ (lists_at st.laid x ++ ((at.q ∷ at.qs) ∷ (lists_at st.laid c.right ++ lists_at st.laid c.after)))) one
       ∙ ap (λ (x : List ℕ). lists_at st.laid c.before ++ (x ∷ ((at.q ∷ at.qs) ∷ (lists_at st.laid c.right ++ lists_at st.laid c.after)))) t.is
 
   x_first : IsFirst (l.ending (l.below t.x)) t.x
-  x_first = first_there l fits (lists_at st.laid c.before) o.signs t.x t.xs ((at.q ∷ at.qs) ∷ (lists_at st.laid c.right ++ lists_at st.laid c.after)) st.shaped.parted
+  x_first = first_there l fits (lists_at st.laid c.before) o.signs t.x t.xs
+      ((at.q ∷ at.qs) ∷ (lists_at st.laid c.right ++ lists_at st.laid c.after)) st.shaped.parted
       (omega (arith, c.place, length-map c.before (map (sq_of st.laid))))
       (subst (λ (x : List (List ℕ)). Chain l o.signs x) cut_is st.chain)
-      (at_head l fits o.signs (lists_at st.laid c.before ++ (t.x ∷ t.xs) ∷ ((at.q ∷ at.qs) ∷ (lists_at st.laid c.right ++ lists_at st.laid c.after))) (subst (λ (x : List (List ℕ)). Chain l o.signs x) cut_is st.chain) (subst (λ (x : List (List ℕ)). AtLeft l x) cut_is st.wall))
+      (at_head l fits o.signs (lists_at st.laid c.before
+      ++ (t.x ∷ t.xs) ∷ ((at.q ∷ at.qs) ∷ (lists_at st.laid c.right ++ lists_at st.laid c.after)))
+      (subst (λ (x : List (List ℕ)). Chain l o.signs x) cut_is st.chain) (subst (λ (x : List (List ℕ)). AtLeft l x) cut_is st.wall))
 
   q_end : last_from t.x (t.xs ++ (q ∷ [])) ≡ q
   q_end = last_append t.x t.xs q []
@@ -170,7 +188,9 @@ module _ (l : Layout) (fits : Fits l) (o : Outline) (st : State l o) (c : AtVall
 
   -- ---- counts
 
-  open_is : (x : ℕ) → times_in x (lists_at st.laid o.segments) ≡ times_in x (lists_at st.laid c.before) + (times x (t.x ∷ t.xs) + (times x (at.q ∷ at.qs) + (times_in x (lists_at st.laid c.right) + times_in x (lists_at st.laid c.after))))
+  open_is : (x : ℕ) → times_in x (lists_at st.laid o.segments)
+      ≡ times_in x (lists_at st.laid c.before) + (times x (t.x ∷ t.xs)
+      + (times x (at.q ∷ at.qs) + (times_in x (lists_at st.laid c.right) + times_in x (lists_at st.laid c.after))))
   open_is x = ap (times_in x) cut_is ∙ omega (
     arith,
     times_in-append x (lists_at st.laid c.before) ((t.x ∷ t.xs) ∷ ((at.q ∷ at.qs) ∷ (lists_at st.laid c.right ++ lists_at st.laid c.after))),
@@ -188,10 +208,26 @@ module _ (l : Layout) (fits : Fits l) (o : Outline) (st : State l o) (c : AtVall
 
   -- all that ends on u, and all but q that ends on v, hangs from closed nodes
   over_u : (x : ℕ) → x < l.squares → l.below x ≡ l.above q → 0 < times (l.above x) st.done
-  over_u x k e = omega (arith, st.open_times x k, open_is x, ap (times x) at.whole, ending_times l fits x (l.below at.q) k, one_for (l.below x) (l.below at.q) (e ∙ q_is.1))
+  over_u x k e = omega (
+    arith,
+    st.open_times x k,
+    open_is x,
+    ap (times x) at.whole,
+    ending_times l fits x (l.below at.q) k,
+    one_for (l.below x) (l.below at.q) (e ∙ q_is.1),
+  )
 
   over_v : (x : ℕ) → x < l.squares → (x ≡ q → ⊥) → l.below x ≡ l.below q → 0 < times (l.above x) st.done
-  over_v x k n e = omega (arith, st.open_times x k, open_is x, ap (times x) whole, times-append x t.xs (q ∷ []), none_for x q n, ending_times l fits x (l.below q) k, one_for (l.below x) (l.below q) e)
+  over_v x k n e = omega (
+    arith,
+    st.open_times x k,
+    open_is x,
+    ap (times x) whole,
+    times-append x t.xs (q ∷ []),
+    none_for x q n,
+    ending_times l fits x (l.below q) k,
+    one_for (l.below x) (l.below q) e,
+  )
 
   up : (x : ℕ) → x < l.squares → times (l.above x) st.done ≡ 0 → times (l.below x) st.done ≡ 0
   up x k e = omega (arith, st.open_times x k, e)
@@ -226,15 +262,18 @@ module _ (l : Layout) (fits : Fits l) (o : Outline) (st : State l o) (c : AtVall
   rank_u = rank_out (l.above q) u_out ∙ put_at (l.above q) top (put (l.below q) (top + 1) (λ w. top + 2 + old w)) (l.above q) refl
 
   rank_v : rank (l.below q) ≡ top + 1
-  rank_v = rank_out (l.below q) v_out ∙ put_other (l.above q) top (put (l.below q) (top + 1) (λ w. top + 2 + old w)) (l.below q) (λ e. u_not_v (sym e)) ∙ put_at (l.below q) (top + 1) (λ w. top + 2 + old w) (l.below q) refl
+  rank_v = rank_out (l.below q) v_out ∙ put_other (l.above q) top (put (l.below q) (top + 1) (λ w. top + 2 + old w)) (l.below q)
+      (λ e. u_not_v (sym e)) ∙ put_at (l.below q) (top + 1) (λ w. top + 2 + old w) (l.below q) refl
 
   rank_w : (w : ℕ) → times w st.done ≡ 0 → (w ≡ l.above q → ⊥) → (w ≡ l.below q → ⊥) → rank w ≡ top + 2 + old w
-  rank_w w e a b = rank_out w e ∙ put_other (l.above q) top (put (l.below q) (top + 1) (λ w. top + 2 + old w)) w a ∙ put_other (l.below q) (top + 1) (λ w. top + 2 + old w) w b
+  rank_w w e a b = rank_out w e ∙ put_other (l.above q) top (put (l.below q) (top + 1) (λ w. top + 2 + old w)) w a
+      ∙ put_other (l.below q) (top + 1) (λ w. top + 2 + old w) w b
 
   which : (w : ℕ) → (w ≡ l.above q) ⊎ ((w ≡ l.below q) ⊎ ((w ≡ l.above q → ⊥) × (w ≡ l.below q → ⊥)))
   which w = on (same_or_other w (l.above q)) (same_or_other w (l.below q))
     where
-      on : (w ≡ l.above q) ⊎ (w ≡ l.above q → ⊥) → (w ≡ l.below q) ⊎ (w ≡ l.below q → ⊥) → (w ≡ l.above q) ⊎ ((w ≡ l.below q) ⊎ ((w ≡ l.above q → ⊥) × (w ≡ l.below q → ⊥)))
+      on : (w ≡ l.above q) ⊎ (w ≡ l.above q → ⊥) → (w ≡ l.below q) ⊎ (w ≡ l.below q → ⊥) → (w ≡ l.above q)
+          ⊎ ((w ≡ l.below q) ⊎ ((w ≡ l.above q → ⊥) × (w ≡ l.below q → ⊥)))
       on (inl e) f = inl e
       on (inr e) (inl f) = inr (inl f)
       on (inr e) (inr f) = inr (inr (e, f))
@@ -250,8 +289,10 @@ module _ (l : Layout) (fits : Fits l) (o : Outline) (st : State l o) (c : AtVall
   rises : (x : ℕ) → x < l.squares → rank (l.above x) < rank (l.below x)
   rises x k = on (none_or_some (times (l.above x) st.done)) (none_or_some (times (l.below x) st.done))
     where
-      ends : times (l.above x) st.done ≡ 0 → times (l.below x) st.done ≡ 0 → (l.above x ≡ l.above q) ⊎ ((l.above x ≡ l.below q) ⊎ ((l.above x ≡ l.above q → ⊥) × (l.above x ≡ l.below q → ⊥)))
-          → (l.below x ≡ l.above q) ⊎ ((l.below x ≡ l.below q) ⊎ ((l.below x ≡ l.above q → ⊥) × (l.below x ≡ l.below q → ⊥))) → (x ≡ q) ⊎ (x ≡ q → ⊥) → rank (l.above x) < rank (l.below x)
+      ends : times (l.above x) st.done ≡ 0 → times (l.below x) st.done ≡ 0 → (l.above x ≡ l.above q)
+          ⊎ ((l.above x ≡ l.below q) ⊎ ((l.above x ≡ l.above q → ⊥) × (l.above x ≡ l.below q → ⊥)))
+          → (l.below x ≡ l.above q) ⊎ ((l.below x ≡ l.below q) ⊎ ((l.below x ≡ l.above q → ⊥) × (l.below x ≡ l.below q → ⊥))) → (x ≡ q)
+          ⊎ (x ≡ q → ⊥) → rank (l.above x) < rank (l.below x)
       ends a b i j (inl e) = omega (arith, ap (λ (z : ℕ). rank (l.above z)) e, ap (λ (z : ℕ). rank (l.below z)) e, rank_u, rank_v)
       ends a b i (inl j) (inr e) = absurd (omega (arith, over_u x k j, a))
       ends a b i (inr (inl j)) (inr e) = absurd (omega (arith, over_v x k e j, a))
@@ -259,7 +300,8 @@ module _ (l : Layout) (fits : Fits l) (o : Outline) (st : State l o) (c : AtVall
       ends a b (inr (inl i)) (inr (inr (j, m))) (inr e) = omega (arith, ap rank i, rank_v, rank_w (l.below x) b j m)
       ends a b (inr (inr (i, n))) (inr (inr (j, m))) (inr e) = omega (arith, rank_w (l.above x) a i n, rank_w (l.below x) b j m, fits.nodes.rises x k)
 
-      on : (times (l.above x) st.done ≡ 0) ⊎ (0 < times (l.above x) st.done) → (times (l.below x) st.done ≡ 0) ⊎ (0 < times (l.below x) st.done) → rank (l.above x) < rank (l.below x)
+      on : (times (l.above x) st.done ≡ 0) ⊎ (0 < times (l.above x) st.done) → (times (l.below x) st.done ≡ 0)
+          ⊎ (0 < times (l.below x) st.done) → rank (l.above x) < rank (l.below x)
       on (inl a) b = ends a (up x k a) (which (l.above x)) (which (l.below x)) (same_or_other x q)
       on (inr a) (inl b) = omega (arith, rank_in (l.above x) a, old_low (l.above x) a, out_high (l.below x) b)
       on (inr a) (inr b) = omega (arith, rank_in (l.above x) a, rank_in (l.below x) b, fits.nodes.rises x k)
@@ -270,7 +312,8 @@ module _ (l : Layout) (fits : Fits l) (o : Outline) (st : State l o) (c : AtVall
       out : times (l.above x) st.done ≡ 0
       out = ap (λ (w : ℕ). times w st.done) e ∙ u_out
 
-      on : (l.below x ≡ l.above q) ⊎ ((l.below x ≡ l.below q) ⊎ ((l.below x ≡ l.above q → ⊥) × (l.below x ≡ l.below q → ⊥))) → rank (l.below q) < rank (l.below x)
+      on : (l.below x ≡ l.above q) ⊎ ((l.below x ≡ l.below q) ⊎ ((l.below x ≡ l.above q → ⊥) × (l.below x ≡ l.below q → ⊥)))
+          → rank (l.below q) < rank (l.below x)
       on (inl j) = absurd (omega (arith, over_u x k j, out))
       on (inr (inl j)) = absurd (omega (arith, over_v x k n j, out))
       on (inr (inr (j, m))) = omega (arith, rank_v, rank_w (l.below x) (up x k out) j m)
@@ -278,6 +321,7 @@ module _ (l : Layout) (fits : Fits l) (o : Outline) (st : State l o) (c : AtVall
   ends_beside : (x : ℕ) → x < l.squares → (x ≡ q → ⊥) → l.below x ≡ l.below q → rank (l.above x) < rank (l.above q)
   ends_beside x k n e = omega (arith, rank_in (l.above x) (over_v x k n e), old_low (l.above x) (over_v x k n e), rank_u)
 
+  -- a move with a left neighbour that begins with even and above gives one: its first square
   pub bad_move : Bad l o st h.first at.q
   bad_move = record {
     p = p;

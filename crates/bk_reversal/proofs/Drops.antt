@@ -8,6 +8,7 @@ use Rattle.bk_word.specs.Word.{Move, Word, move_cmp, sign_cmp, word_cmp}
 use Rattle.bk_word.specs.declared.Sign.{Sign}
 use Rattle.bk_word.specs.declared.Sign.TheVariants.{Above, Even, Under}
 
+-- the signs are the same up to a place at which the first have above, the second under
 abbrev pub Drops : List Sign → List Sign → Type 0
 Drops [] signs = ⊥
 Drops (g ∷ h) [] = ⊥
@@ -33,6 +34,7 @@ never [] d = d
 never (g ∷ a) (inl (e, f)) = differ g e f
 never (g ∷ a) (inr (e, f)) = never a f
 
+-- signs that are the same behind don't matter
 pub drops_before : (x y a : List Sign) → length x ≡ length y → Drops (x ++ a) (y ++ a) → Drops x y
 drops_before [] [] a e d = absurd (never a d)
 drops_before [] (h ∷ y) a e d = absurd (omega arith)
@@ -57,10 +59,12 @@ head_same g h x y e = cc
 tail_same : (g h : Sign) (x y : List Sign) → ◌≡◌ {A = List Sign} (g ∷ x) (h ∷ y) → x ≡ y
 tail_same g h x y e = cc
 
+-- lists of signs that are equal before a rest have equal rests
 pub same_behind : (b x y : List Sign) → b ++ x ≡ b ++ y → x ≡ y
 same_behind [] x y e = e
 same_behind (g ∷ b) x y e = same_behind b x y (tail_same g g (b ++ x) (b ++ y) e)
 
+-- and equal fronts before an equal rest
 pub same_before : (x y a : List Sign) → length x ≡ length y → x ++ a ≡ y ++ a → x ≡ y
 same_before [] [] a e f = refl
 same_before [] (h ∷ y) a e f = absurd (omega arith)
@@ -85,6 +89,8 @@ same_move_cmp m = λ i. ordering_then (same_nats m.count i) (same_signs_cmp m.si
 pub less_word : (v w : Word) → IsLess v w → word_cmp v w ≡ Less
 less_word [] w l = absurd l
 less_word (a ∷ v) [] l = absurd l
-less_word (a ∷ v) (b ∷ w) (inl (e, d)) = ap (λ (n : ℕ). ordering_then (ordering_then (nat_cmp n b.count) (slice_cmp sign_cmp a.signs b.signs)) (slice_cmp move_cmp v w)) e
+less_word (a ∷ v) (b ∷ w) (inl (e, d)) = ap
+    (λ (n : ℕ). ordering_then (ordering_then (nat_cmp n b.count) (slice_cmp sign_cmp a.signs b.signs)) (slice_cmp move_cmp v w)) e
     ∙ (λ i. ordering_then (ordering_then (same_nats b.count i) (drops_less a.signs b.signs d i)) (slice_cmp move_cmp v w))
-less_word (a ∷ v) (b ∷ w) (inr (e, l)) = ap (λ (m : Move). ordering_then (move_cmp m b) (slice_cmp move_cmp v w)) e ∙ (λ i. ordering_then (same_move_cmp b i) (less_word v w l i))
+less_word (a ∷ v) (b ∷ w) (inr (e, l)) = ap (λ (m : Move). ordering_then (move_cmp m b) (slice_cmp move_cmp v w)) e
+    ∙ (λ i. ordering_then (same_move_cmp b i) (less_word v w l i))

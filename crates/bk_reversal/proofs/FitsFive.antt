@@ -151,14 +151,17 @@ same_left (suc zero) q p e f = subst (λ (r : ℕ). left_five p ≡ left_five r)
 same_left (suc (suc zero)) q p e f = subst (λ (r : ℕ). left_five p ≡ left_five r) (some e) (subst (λ (r : ℕ). left_five r ≡ left_five 0) (some f) refl)
 same_left (suc (suc (suc v))) q p e f = none f
 
-same_right : (v q p j k : ℕ) → suc j ≡ length (ending_five v) → suc k ≡ length (hanging_five v) → slice_get (ending_five v) j ≡ Some q → slice_get (hanging_five v) k ≡ Some p → right_five p ≡ right_five q
+same_right : (v q p j k : ℕ) → suc j ≡ length (ending_five v) → suc k ≡ length (hanging_five v) → slice_get (ending_five v) j ≡ Some q
+    → slice_get (hanging_five v) k ≡ Some p → right_five p ≡ right_five q
 same_right zero q p j k m n e f = none e
 same_right (suc zero) q p zero zero m n e f = absurd (omega (arith, n))
-same_right (suc zero) q p zero (suc zero) m n e f = subst (λ (r : ℕ). right_five p ≡ right_five r) (some e) (subst (λ (r : ℕ). right_five r ≡ right_five 1) (some f) refl)
+same_right (suc zero) q p zero (suc zero) m n e f =
+    subst (λ (r : ℕ). right_five p ≡ right_five r) (some e) (subst (λ (r : ℕ). right_five r ≡ right_five 1) (some f) refl)
 same_right (suc zero) q p zero (suc (suc k)) m n e f = none f
 same_right (suc zero) q p (suc j) k m n e f = none e
 same_right (suc (suc zero)) q p zero k m n e f = absurd (omega (arith, m))
-same_right (suc (suc zero)) q p (suc zero) zero m n e f = subst (λ (r : ℕ). right_five p ≡ right_five r) (some e) (subst (λ (r : ℕ). right_five r ≡ right_five 2) (some f) refl)
+same_right (suc (suc zero)) q p (suc zero) zero m n e f =
+    subst (λ (r : ℕ). right_five p ≡ right_five r) (some e) (subst (λ (r : ℕ). right_five r ≡ right_five 2) (some f) refl)
 same_right (suc (suc zero)) q p (suc zero) (suc k) m n e f = none f
 same_right (suc (suc zero)) q p (suc (suc j)) k m n e f = none e
 same_right (suc (suc (suc v))) q p j k m n e f = none f
@@ -204,7 +207,8 @@ at_right_wall (suc (suc (suc zero))) h e = (1, refl, refl)
 at_right_wall (suc (suc (suc (suc zero)))) h e = absurd (omega (arith, e))
 at_right_wall (suc (suc (suc (suc (suc q))))) h e = absurd (omega (arith, h))
 
-meet : (q r : ℕ) → q < 5 → r < 5 → right_five q ≡ left_five r → goes_right_five q ≡ false → goes_left_five r ≡ false → AreNeighbours (ending_five (below_five q)) q r
+meet : (q r : ℕ) → q < 5 → r < 5 → right_five q ≡ left_five r → goes_right_five q ≡ false → goes_left_five r ≡ false
+    → AreNeighbours (ending_five (below_five q)) q r
 meet zero zero h g line e f = absurd (omega (arith, line))
 meet zero (suc zero) h g line e f = absurd (cc)
 meet zero (suc (suc zero)) h g line e f = (0, refl, refl)

@@ -23,11 +23,13 @@ abbrev power : ℕ → ℕ → ℕ
 power b zero = 1
 power b (suc n) = repeated b (power b n)
 
+-- so many digits to a base as one number
 abbrev pub code : ℕ → ℕ → List ℕ → ℕ
 code b zero xs = 0
 code b (suc n) [] = 0
 code b (suc n) (x ∷ xs) = repeated (suc x) (power b n) + code b n xs
 
+-- each is below the base, by two at least
 abbrev pub AreDigits : ℕ → List ℕ → Type 0
 AreDigits b xs = AllByRecursion (λ x. x + 2 ≤ b) xs
 
@@ -40,20 +42,24 @@ code_low b zero xs h d = omega arith
 code_low b (suc n) [] h d = power_some b (suc n) h
 code_low b (suc n) (x ∷ xs) h d = omega (arith, code_low b n xs h d.1, repeated_more (suc (suc x)) b (power b n) (omega (arith, d.0)))
 
+-- the first digit in which they differ is less
 abbrev pub AreLess : List ℕ → List ℕ → Type 0
 AreLess [] ys = ⊥
 AreLess (x ∷ xs) [] = ⊥
 AreLess (x ∷ xs) (y ∷ ys) = (x < y) ⊎ ((x ≡ y) × AreLess xs ys)
 
+-- lesser digits make a lesser number
 pub code_less : (b n : ℕ) (xs ys : List ℕ) → 0 < b → AreDigits b xs → length ys ≤ n → AreLess xs ys → code b n xs < code b n ys
 code_less b n [] ys h d few l = absurd l
 code_less b n (x ∷ xs) [] h d few l = absurd l
 code_less b zero (x ∷ xs) (y ∷ ys) h d few l = absurd (omega (arith, few))
 code_less b (suc n) (x ∷ xs) (y ∷ ys) h d few (inl l) = omega (arith, code_low b n xs h d.1, repeated_more (suc (suc x)) (suc y) (power b n) (omega (arith, l)))
-code_less b (suc n) (x ∷ xs) (y ∷ ys) h d few (inr (e, l)) = omega (arith, code_less b n xs ys h d.1 (omega (arith, few)) l, ap (λ (z : ℕ). repeated (suc z) (power b n)) e)
+code_less b (suc n) (x ∷ xs) (y ∷ ys) h d few (inr (e, l)) =
+    omega (arith, code_less b n xs ys h d.1 (omega (arith, few)) l, ap (λ (z : ℕ). repeated (suc z) (power b n)) e)
 
 -- ---- the digits of a word
 
+-- a word as digits: the count of each move and the places of its signs
 abbrev pub digits : Word → List ℕ
 digits [] = []
 digits (m ∷ w) = (m.count ∷ map sign_place m.signs) ++ digits w
@@ -71,10 +77,13 @@ sign_digits : (b : ℕ) (signs : List Sign) → 4 ≤ b → AreDigits b (map sig
 sign_digits b [] h = tt
 sign_digits b (g ∷ signs) h = (omega (arith, h, place_low g), sign_digits b signs h)
 
+-- they are below a base that is greater than the order
 pub are_digits : (b : ℕ) (w : Word) → 4 ≤ b → order_of w + 2 ≤ b → AreDigits b (digits w)
 are_digits b [] h e = tt
-are_digits b (m ∷ w) h e = append_digits b (m.count ∷ map sign_place m.signs) (digits w) (omega (arith, e, order_more m w), sign_digits b m.signs h) (are_digits b w h (omega (arith, e, order_more m w)))
+are_digits b (m ∷ w) h e = append_digits b (m.count ∷ map sign_place m.signs) (digits w)
+    (omega (arith, e, order_more m w), sign_digits b m.signs h) (are_digits b w h (omega (arith, e, order_more m w)))
 
+-- a legal word has at most three times as many as squares
 pub few_digits : (o : Outline) (w : Word) → AreLegalFrom o w → length (digits w) ≤ order_of w + (order_of w + order_of w)
 few_digits o [] legal = omega arith
 few_digits o (m ∷ w) legal = omega (
@@ -103,8 +112,10 @@ dropped (a ∷ g) [] xs ys d = absurd d
 dropped (a ∷ g) (b ∷ h) xs ys (inl (e, f)) = inl (omega (arith, ap sign_place e, ap sign_place f))
 dropped (a ∷ g) (b ∷ h) xs ys (inr (e, d)) = inr (ap sign_place e, dropped g h xs ys d)
 
+-- a lesser word has lesser digits
 pub less_digits : (v w : Word) → IsLess v w → AreLess (digits v) (digits w)
 less_digits [] w l = absurd l
 less_digits (a ∷ v) [] l = absurd l
 less_digits (a ∷ v) (b ∷ w) (inl (e, d)) = inr (e, dropped a.signs b.signs (digits v) (digits w) d)
-less_digits (a ∷ v) (b ∷ w) (inr (e, l)) = subst (λ (z : Move). AreLess (digits (a ∷ v)) (digits (z ∷ w))) e (same_front (a.count ∷ map sign_place a.signs) (digits v) (digits w) (less_digits v w l))
+less_digits (a ∷ v) (b ∷ w) (inr (e, l)) =
+    subst (λ (z : Move). AreLess (digits (a ∷ v)) (digits (z ∷ w))) e (same_front (a.count ∷ map sign_place a.signs) (digits v) (digits w) (less_digits v w l))

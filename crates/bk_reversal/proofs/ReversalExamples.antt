@@ -4,6 +4,7 @@ use Rattle.std.proofs.Common.{Bool, List, [], arith, false, refl, suc, true, zer
 use Rattle.bk_layout.specs.Layout.{Layout}
 use Rattle.bk_reversal.specs.Reversal.{CanReverse, reversed}
 
+-- the node above each square, and below it
 abbrev pub above_five : ℕ → ℕ
 above_five zero = 0
 above_five (suc zero) = 0
@@ -17,6 +18,7 @@ below_five (suc zero) = 1
 below_five (suc (suc zero)) = 2
 below_five (suc (suc (suc q))) = 3
 
+-- the line at its left, and at its right
 abbrev pub left_five : ℕ → ℕ
 left_five zero = 0
 left_five (suc zero) = 2
@@ -31,6 +33,7 @@ right_five (suc (suc zero)) = 3
 right_five (suc (suc (suc zero))) = 1
 right_five (suc (suc (suc (suc q)))) = 3
 
+-- what hangs from each node, and what ends on it
 abbrev pub hanging_five : ℕ → List ℕ
 hanging_five zero = 0 ∷ 1 ∷ []
 hanging_five (suc zero) = 2 ∷ 3 ∷ []
@@ -44,6 +47,7 @@ ending_five (suc (suc zero)) = 0 ∷ 2 ∷ []
 ending_five (suc (suc (suc zero))) = 4 ∷ 3 ∷ []
 ending_five (suc (suc (suc (suc v)))) = []
 
+-- below which squares the line at the left goes on, and that at the right
 abbrev pub goes_left_five : ℕ → Bool
 goes_left_five zero = false
 goes_left_five (suc zero) = true
@@ -55,6 +59,7 @@ goes_right_five (suc zero) = false
 goes_right_five (suc (suc zero)) = true
 goes_right_five (suc (suc (suc q))) = false
 
+-- the layout of five squares
 abbrev pub layout_five : Layout
 layout_five = record {
   squares = 5;

@@ -17,7 +17,8 @@ use Rattle.bk_layout.specs.Layout.{Fits, HasNoTwins, Layout}
 use Rattle.bk_layout.specs.LayoutLaws.{IsWordOfLayout}
 use Rattle.bk_reversal.proofs.BadMove.{Bad, bad_move}
 use Rattle.bk_reversal.proofs.Measure.{are_digits, code, code_less, digits, few_digits, less_digits}
-use Rattle.bk_reversal.proofs.ReversedFits.{Late, WholeBeside, fits_then, late_out, no_twins_then, later_out, same_then, whole_beside}
+use Rattle.bk_reversal.proofs.ReversedFits.{fits_then, no_twins_then, same_then}
+use Rattle.bk_reversal.proofs.SweepsBeside.{Late, WholeBeside, late_out, later_out, whole_beside}
 use Rattle.bk_reversal.proofs.Trace.{IsStep, Trace, Whole, sweep_of, whole_from}
 use Rattle.bk_reversal.proofs.UpTo.{up_to_both, up_to_itself}
 use Rattle.bk_reversal.specs.Reversal.{CanReverse, IsUpToReversals, reversed}
@@ -56,7 +57,8 @@ scan l fits o st (mv ∷ w) tr = on (wall_or_not (has_left_wall o)) (more_or_one
     s : IsStep l fits o st mv tr.0
     s = tr.1
 
-    further : KeepsRuleR o mv → KeepRuleRFrom (after_move o mv) w ⊎ Broken l fits (after_move o mv) tr.0 w tr.2 → KeepRuleRFrom o (mv ∷ w) ⊎ Broken l fits o st (mv ∷ w) tr
+    further : KeepsRuleR o mv → KeepRuleRFrom (after_move o mv) w ⊎ Broken l fits (after_move o mv) tr.0 w tr.2 → KeepRuleRFrom o (mv ∷ w)
+        ⊎ Broken l fits o st (mv ∷ w) tr
     further k (inl rest) = inl (k, rest)
     further k (inr b) = let out = late_out l fits b.q b.p b.r b.can (after_move o mv) tr.0 w tr.2 b.late in
         let before = later_out l fits b.q b.p b.r b.can o st mv tr.0 tr.1 out.0 out.1 in
@@ -76,7 +78,9 @@ scan l fits o st (mv ∷ w) tr = on (wall_or_not (has_left_wall o)) (more_or_one
         at (inl (none, no_signs)) = absurd (omega (arith, ap (λ (x : List (List ℕ)). length x) none, left_open o s.c, ap open_side no_wall))
         at (inr (t, one, one_sign)) = with (found t one)
 
-    on : (has_left_wall o ≡ true) ⊎ (has_left_wall o ≡ false) → (1 < mv.count) ⊎ (1 < mv.count → ⊥) → ((slice_get mv.signs 0 ≡ Some Even) × (slice_get mv.signs 1 ≡ Some Above)) ⊎ (slice_get mv.signs 0 ≡ Some Even → slice_get mv.signs 1 ≡ Some Above → ⊥)
+    on : (has_left_wall o ≡ true) ⊎ (has_left_wall o ≡ false) → (1 < mv.count) ⊎ (1 < mv.count → ⊥)
+        → ((slice_get mv.signs 0 ≡ Some Even) × (slice_get mv.signs 1 ≡ Some Above))
+        ⊎ (slice_get mv.signs 0 ≡ Some Even → slice_get mv.signs 1 ≡ Some Above → ⊥)
         → KeepRuleRFrom (after_move o mv) w ⊎ Broken l fits (after_move o mv) tr.0 w tr.2 → KeepRuleRFrom o (mv ∷ w) ⊎ Broken l fits o st (mv ∷ w) tr
     on (inl wall) b c rest = further (λ no_wall two even over. differ (has_left_wall o) wall no_wall) rest
     on (inr no_wall) (inr b) c rest = further (λ f two even over. b two) rest
@@ -102,36 +106,59 @@ none_of o (mv ∷ w) single keeps = (here, none_of (after_move o mv) w single.1 
         on (inl wall) = single.0 0 two (ap (slice_get mv.signs) (at wall) ∙ even)
         on (inr wall) = keeps.0 wall two even over
 
-ruled : (bound : ℕ) (of : Layout) (l : Layout) (fits : Fits l) → IsUpToReversals of l → (HasNoTwins of → HasNoTwins l) → (mv : Move) (w : Word) (whole : Whole l fits mv w)
+ruled : (bound : ℕ) (of : Layout) (l : Layout) (fits : Fits l) → IsUpToReversals of l → (HasNoTwins of → HasNoTwins l)
+    → (mv : Move) (w : Word) (whole : Whole l fits mv w)
     → code (of.squares + 4) (of.squares + (of.squares + of.squares)) (digits (mv ∷ w)) < bound → HasWordByRuleR of
 ruled zero of l fits same single mv w whole low = absurd (omega (arith, low))
-ruled (suc bound) of l fits same single mv w whole low = on (scan l fits (after_move start mv) whole.first w whole.trace) (λ m fits_m same_m single_m first word whole_m less. ruled bound of m fits_m same_m single_m first word whole_m less)
+ruled (suc bound) of l fits same single mv w whole low =
+    on (scan l fits (after_move start mv) whole.first w whole.trace)
+    (λ m fits_m same_m single_m first word whole_m less. ruled bound of m fits_m same_m single_m first word whole_m less)
   where
     word_is : IsWordOfLayout l (mv ∷ w)
     word_is = let s = sweep_of l fits mv w whole in subst (λ (z : Word). IsWordOfLayout l z) s.1 (word_of_sweep l fits s.0)
 
     on : KeepRuleRFrom (after_move start mv) w ⊎ Broken l fits (after_move start mv) whole.first w whole.trace
-        → ((m : Layout) (fits_m : Fits m) → IsUpToReversals of m → (HasNoTwins of → HasNoTwins m) → (first : Move) (word : Word) (whole_m : Whole m fits_m first word)
+        → ((m : Layout) (fits_m : Fits m) → IsUpToReversals of m → (HasNoTwins of → HasNoTwins m)
+        → (first : Move) (word : Word) (whole_m : Whole m fits_m first word)
         → code (of.squares + 4) (of.squares + (of.squares + of.squares)) (digits (first ∷ word)) < bound → HasWordByRuleR of) → HasWordByRuleR of
-    on (inl keeps) more = record { turned = l; fits = fits; same = same; word = mv ∷ w; is_word = word_is; keeps = (no_rule_at_start mv, keeps); no_twins = single; none = λ n. none_of start (mv ∷ w) (word_is.no_twins (single n)) (no_rule_at_start mv, keeps) }
+    on (inl keeps) more = record {
+      turned = l;
+      fits = fits;
+      same = same;
+      word = mv ∷ w;
+      is_word = word_is;
+      keeps =
+          (no_rule_at_start mv, keeps);
+      no_twins = single;
+      none = λ n. none_of start (mv ∷ w) (word_is.no_twins (single n)) (no_rule_at_start mv, keeps);
+    }
     on (inr b) more = with (whole_beside l fits b.q b.p b.r b.can mv w whole b.late)
       where
         m : Layout
         m = reversed l b.q b.p b.r
 
         with : WholeBeside l fits b.q b.p b.r b.can mv w → HasWordByRuleR of
-        with x = more (reversed l b.q b.p b.r) (fits_then l fits b.q b.p b.r b.can) (up_to_both of l (reversed l b.q b.p b.r) same (same_then l fits b.q b.p b.r b.can)) (λ n. no_twins_then l fits b.q b.p b.r b.can (single n)) x.first x.word x.whole (omega (arith, low, less))
+        with x = more (reversed l b.q b.p b.r) (fits_then l fits b.q b.p b.r b.can)
+            (up_to_both of l (reversed l b.q b.p b.r) same (same_then l fits b.q b.p b.r b.can))
+            (λ n. no_twins_then l fits b.q b.p b.r b.can (single n)) x.first x.word x.whole (omega (arith, low, less))
           where
             word_m : IsWordOfLayout (reversed l b.q b.p b.r) (x.first ∷ x.word)
-            word_m = let s = sweep_of (reversed l b.q b.p b.r) (fits_then l fits b.q b.p b.r b.can) x.first x.word x.whole in subst (λ (z : Word). IsWordOfLayout (reversed l b.q b.p b.r) z) s.1 (word_of_sweep (reversed l b.q b.p b.r) (fits_then l fits b.q b.p b.r b.can) s.0)
+            word_m = let s = sweep_of (reversed l b.q b.p b.r) (fits_then l fits b.q b.p b.r b.can) x.first x.word x.whole in
+                subst (λ (z : Word). IsWordOfLayout (reversed l b.q b.p b.r) z) s.1
+                (word_of_sweep (reversed l b.q b.p b.r) (fits_then l fits b.q b.p b.r b.can) s.0)
 
             many : order_of (x.first ∷ x.word) ≡ of.squares
             many = word_m.order ∙ same.squares
 
-            less : code (of.squares + 4) (of.squares + (of.squares + of.squares)) (digits (x.first ∷ x.word)) < code (of.squares + 4) (of.squares + (of.squares + of.squares)) (digits (mv ∷ w))
-            less = code_less (of.squares + 4) (of.squares + (of.squares + of.squares)) (digits (x.first ∷ x.word)) (digits (mv ∷ w)) (omega arith) (are_digits (of.squares + 4) (x.first ∷ x.word) (omega arith) (omega (arith, many)))
+            less : code (of.squares + 4) (of.squares + (of.squares + of.squares)) (digits (x.first ∷ x.word))
+                < code (of.squares + 4) (of.squares + (of.squares + of.squares)) (digits (mv ∷ w))
+            less = code_less (of.squares + 4) (of.squares + (of.squares + of.squares)) (digits (x.first ∷ x.word)) (digits (mv ∷ w))
+                (omega arith) (are_digits (of.squares + 4) (x.first ∷ x.word) (omega arith) (omega (arith, many)))
                 (omega (arith, few_digits start (mv ∷ w) word_is.complete.legal, word_is.order, same.squares)) (less_digits (x.first ∷ x.word) (mv ∷ w) x.less)
 
+-- the law: each broken word has a lesser one, so the descent ends at a word that keeps the rule
 pub a_layout_has_a_word_by_rule_r : ALayoutHasAWordByRuleR
 a_layout_has_a_word_by_rule_r l fits = let t = whole_from l fits (hung_from l fits 0 fits.some) in
-    ruled (suc (code (l.squares + 4) (l.squares + (l.squares + l.squares)) (digits (first_move l fits (hung_from l fits 0 fits.some) ∷ t.0)))) l l fits (up_to_itself l) (λ n. n) (first_move l fits (hung_from l fits 0 fits.some)) t.0 t.1 (omega arith)
+    ruled (suc (code (l.squares + 4) (l.squares + (l.squares + l.squares))
+    (digits (first_move l fits (hung_from l fits 0 fits.some) ∷ t.0)))) l l fits (up_to_itself l) (λ n. n)
+    (first_move l fits (hung_from l fits 0 fits.some)) t.0 t.1 (omega arith)

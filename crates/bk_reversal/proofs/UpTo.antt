@@ -6,6 +6,7 @@ use Rattle.bk_reversal.specs.Reversal.{IsUpToReversals}
 differ : {A : Type 0} (b : Bool) → b ≡ true → b ≡ false → A
 differ b e f = absurd (cc)
 
+-- a layout is itself up to reversals
 pub up_to_itself : (l : Layout) → IsUpToReversals l l
 up_to_itself l = record {
   turned = λ q. false;
@@ -100,6 +101,7 @@ module _ (l m n : Layout) (a : IsUpToReversals l m) (b : IsUpToReversals m n) wh
       on (inl (f, k)) = differ (both q) e f
       on (inr (f, k)) = k
 
+  -- and up to reversals is transitive
   pub up_to_both : IsUpToReversals l n
   up_to_both = record {
     turned = both;

@@ -1,4 +1,7 @@
--- Rule R: no move beside a left neighbour, of two squares or more, begins with the signs even and above.
+-- Rule R: no move beside a left neighbour, of two squares or more, begins with the signs even and above. Of all words whose
+-- nets are one up to reversed squares, those that keep it are enough.
+-- Example (RuleExamples): the free word 2a.2uu.2ea.2eue.1e of 33x32 breaks it; with the square of side 7 reversed the layout
+-- has the word 2a.2ua.3euue.1e.1e.
 use Rattle.std.specs.List.{AllByRecursion}
 use Rattle.std.specs.Prelude.{Some, [], false, slice_get, ⊤, ◌<◌, ◌∷◌, ◌≡◌}
 use Rattle.bk_word.specs.Outline.{Outline, has_left_wall, start}

@@ -30,20 +30,30 @@ cut_at (s ∷ lists) (suc place) h = let r = cut_at lists place (omega arith) in
 pub sum_next : (xs : List ℕ) (j : ℕ) → j < length xs → sum (take (suc j) xs) ≡ sum (take j xs) + slice_index xs j
 sum_next [] j h = absurd (omega arith)
 sum_next (x ∷ xs) zero h = omega (arith, sum_by-cons (λ (n : ℕ). n) x [])
-sum_next (x ∷ xs) (suc j) h = omega (arith, sum_by-cons (λ (n : ℕ). n) x (take (suc j) xs), sum_by-cons (λ (n : ℕ). n) x (take j xs), sum_next xs j (omega arith))
+sum_next (x ∷ xs) (suc j) h = omega (
+  arith,
+  sum_by-cons (λ (n : ℕ). n) x (take (suc j) xs),
+  sum_by-cons (λ (n : ℕ). n) x (take j xs),
+  sum_next xs j (omega arith),
+)
 
 module _ (lists : List (List ℕ)) (j : ℕ) (c : CutAt lists j) where
   fronts : sum (take j (map length lists)) ≡ length (concat c.front)
-  fronts = ap sum (ap (take j) (ap (map length) c.whole ∙ map-append length c.front (c.here ∷ c.back)) ∙ take_at (map length c.front) (length c.here ∷ map length c.back) j (length-map c.front length ∙ c.long)) ∙ sum_lengths c.front
+  fronts = ap sum (ap (take j) (ap (map length) c.whole ∙ map-append length c.front (c.here ∷ c.back))
+      ∙ take_at (map length c.front) (length c.here ∷ map length c.back) j (length-map c.front length ∙ c.long)) ∙ sum_lengths c.front
 
   next : sum (take (suc j) (map length lists)) ≡ length (concat c.front) + length c.here
-  next = ap sum (ap (take (suc j)) (ap (map length) c.whole ∙ map-append length c.front (c.here ∷ c.back) ∙ sym (append_assoc (map length c.front) (length c.here ∷ []) (map length c.back)))
-      ∙ take_at (map length c.front ++ length c.here ∷ []) (map length c.back) (suc j) (omega (arith, length-append (map length c.front) (length c.here ∷ []), length-map c.front length, c.long)))
-      ∙ sum_by-append (λ (n : ℕ). n) (map length c.front) (length c.here ∷ []) ∙ omega (arith, sum_lengths c.front, sum_by-cons (λ (n : ℕ). n) (length c.here) [])
+  next = ap sum (ap (take (suc j)) (ap (map length) c.whole ∙ map-append length c.front (c.here ∷ c.back)
+      ∙ sym (append_assoc (map length c.front) (length c.here ∷ []) (map length c.back)))
+      ∙ take_at (map length c.front ++ length c.here ∷ []) (map length c.back) (suc j)
+      (omega (arith, length-append (map length c.front) (length c.here ∷ []), length-map c.front length, c.long)))
+      ∙ sum_by-append (λ (n : ℕ). n) (map length c.front) (length c.here ∷ [])
+      ∙ omega (arith, sum_lengths c.front, sum_by-cons (λ (n : ℕ). n) (length c.here) [])
 
   pub here_is : slice_range (concat lists) (sum (take j (map length lists))) (sum (take (suc j) (map length lists))) ≡ c.here
   here_is = (λ i. slice_range (whole i) (fronts i) (next i))
-      ∙ ap (take (length (concat c.front) + length c.here - length (concat c.front))) (drop_at (concat c.front) (c.here ++ concat c.back) (length (concat c.front)) refl)
+      ∙ ap (take (length (concat c.front) + length c.here - length (concat c.front)))
+      (drop_at (concat c.front) (c.here ++ concat c.back) (length (concat c.front)) refl)
       ∙ take_at c.here (concat c.back) (length (concat c.front) + length c.here - length (concat c.front)) (omega arith)
     where
       whole : concat lists ≡ concat c.front ++ (c.here ++ concat c.back)
@@ -53,7 +63,8 @@ module _ (lists : List (List ℕ)) (j : ℕ) (c : CutAt lists j) where
   drop_here = ap (drop j) c.whole ∙ drop_at c.front (c.here ∷ c.back) j c.long
 
   drop_next : drop (suc j) lists ≡ c.back
-  drop_next = ap (drop (suc j)) (c.whole ∙ sym (append_assoc c.front (c.here ∷ []) c.back)) ∙ drop_at (c.front ++ c.here ∷ []) c.back (suc j) (omega (arith, length-append c.front (c.here ∷ []), c.long))
+  drop_next = ap (drop (suc j)) (c.whole ∙ sym (append_assoc c.front (c.here ∷ []) c.back))
+      ∙ drop_at (c.front ++ c.here ∷ []) c.back (suc j) (omega (arith, length-append c.front (c.here ∷ []), c.long))
 
 either : (b : Bool) (j n : ℕ) → ◌≡◌ {A = ℕ} (cond b j (suc j + n)) (j + cond (not b) (1 + n) 0)
 either true j n = omega arith
@@ -63,17 +74,20 @@ found_here : (s : List ℕ) (back : List (List ℕ)) (q j : ℕ) → ◌≡◌ {
 found_here s back q j = either (list_any (nat_eq q) s) j (end_of back q)
 
 -- one node more: its squares end there, and for the others it is as it was
-pub marked_node : (lists : List (List ℕ)) (closed sizes : List ℕ) (j start end q old new : ℕ) → closed ≡ concat lists → sizes ≡ map length lists → j < length sizes
+pub marked_node : (lists : List (List ℕ)) (closed sizes : List ℕ) (j start end q old new : ℕ) → closed ≡ concat lists
+    → sizes ≡ map length lists → j < length sizes
     → start ≡ sum (take j sizes) → end ≡ sum (take (suc j) sizes)
     → new ≡ cond (list_any (nat_eq q) (slice_range closed start end)) j old → old ≡ suc j + end_of (drop (suc j) lists) q → new ≡ j + end_of (drop j lists) q
 marked_node lists closed sizes j start end q old new flat long within at till marked before =
-    marked ∙ (λ i. cond (list_any (nat_eq q) (squares i)) j (was i)) ∙ found_here c.here c.back q j ∙ ap (λ (l : List (List ℕ)). j + end_of l q) (sym (drop_here lists j c))
+    marked ∙ (λ i. cond (list_any (nat_eq q) (squares i)) j (was i)) ∙ found_here c.here c.back q j
+    ∙ ap (λ (l : List (List ℕ)). j + end_of l q) (sym (drop_here lists j c))
   where
     c : CutAt lists j
     c = cut_at lists j (omega (arith, ap length long, length-map lists length))
 
     squares : slice_range closed start end ≡ c.here
-    squares = (λ i. slice_range (flat i) ((at ∙ ap (λ (l : List ℕ). sum (take j l)) long) i) ((till ∙ ap (λ (l : List ℕ). sum (take (suc j) l)) long) i)) ∙ here_is lists j c
+    squares = (λ i. slice_range (flat i) ((at ∙ ap (λ (l : List ℕ). sum (take j l)) long) i)
+        ((till ∙ ap (λ (l : List ℕ). sum (take (suc j) l)) long) i)) ∙ here_is lists j c
 
     was : old ≡ suc j + end_of c.back q
     was = before ∙ ap (λ (l : List (List ℕ)). suc j + end_of l q) (drop_next lists j c)

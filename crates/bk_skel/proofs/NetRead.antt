@@ -27,8 +27,10 @@ use Rattle.bk_skel.specs.declared.turns.Turn.{Turn}
 pub closed_turns : (o : Outline) (from : ℕ) (w : Word) → map length (after_moves o w).closed ≡ map length o.closed ++ closed_of (turns_from o from w)
 closed_turns o from [] = sym (append-nil (map length o.closed))
 closed_turns o from (m ∷ w) = closed_turns (after_move o m) (from + length m.signs) w
-    ∙ ap (λ (l : List ℕ). l ++ closed_of (turns_from (after_move o m) (from + length m.signs) w)) (map-append length o.closed (valley_of o ∷ []) ∙ ap (λ n. map length o.closed ++ n ∷ []) (sym (size_index o.segments (valley_place o.signs))))
-    ∙ append_assoc (map length o.closed) (slice_index (segment_sizes o) (valley_place o.signs) ∷ []) (closed_of (turns_from (after_move o m) (from + length m.signs) w))
+    ∙ ap (λ (l : List ℕ). l ++ closed_of (turns_from (after_move o m) (from + length m.signs) w))
+    (map-append length o.closed (valley_of o ∷ []) ∙ ap (λ n. map length o.closed ++ n ∷ []) (sym (size_index o.segments (valley_place o.signs))))
+    ∙ append_assoc (map length o.closed) (slice_index (segment_sizes o) (valley_place o.signs) ∷ [])
+    (closed_of (turns_from (after_move o m) (from + length m.signs) w))
 
 pub counts_turns : (o : Outline) (from : ℕ) (w : Word) → counts_of (turns_from o from w) ≡ map (λ m. m.count) w
 counts_turns o from [] = refl
@@ -65,7 +67,8 @@ pub zip_nodes : (node : ℕ) (counts ends : List ℕ) → length ends ≡ sum co
 zip_nodes node [] ends e = refl
 zip_nodes node (count ∷ counts) ends e =
     ap (zip (replicate count node ++ nodes_from (node + 1) counts)) (sym (take-append-drop count ends))
-    ∙ zip-append (replicate count node) (take count ends) (nodes_from (node + 1) counts) (drop count ends) (length-replicate count node ∙ sym (length-take-le count ends within))
+    ∙ zip-append (replicate count node) (take count ends) (nodes_from (node + 1) counts) (drop count ends)
+    (length-replicate count node ∙ sym (length-take-le count ends within))
     ∙ (λ i. zip_replicate node count ends within i ++ zip_nodes (node + 1) counts (drop count ends) left i)
   where
     all : length ends ≡ count + sum counts
@@ -75,7 +78,14 @@ zip_nodes node (count ∷ counts) ends e =
     within = omega (arith, all)
 
     left : length (drop count ends) ≡ sum counts
-    left = omega (arith, all, within, ap length (take-append-drop count ends), length-append (take count ends) (drop count ends), length-take-le count ends within)
+    left = omega (
+      arith,
+      all,
+      within,
+      ap length (take-append-drop count ends),
+      length-append (take count ends) (drop count ends),
+      length-take-le count ends within,
+    )
 
 times_here : (xs : List ℕ) (i : ℕ) → i < length xs → 0 < times (slice_index xs i) xs
 times_here [] i h = absurd (omega arith)
@@ -86,8 +96,10 @@ times_here (x ∷ xs) zero h = omega (arith, same x)
 times_here (x ∷ xs) (suc i) h = omega (arith, times_here xs i (omega arith))
 
 -- the numbers of the closed squares are those of squares
-pub closed_numbers : {w : Word} {ends sizes : List ℕ} {signs : List Sign} {closed : List ℕ} {turns : List Turn} {played : List Sign} → IsStored w ends sizes signs closed turns played → AreNumbers 200 closed
-closed_numbers {w = w} {closed = closed} s = record { positive = λ i h. (number i h).0; small = λ i h. omega (arith, (number i h).1, (counted_in s).hung, (s.kept).few) }
+pub closed_numbers : {w : Word} {ends sizes : List ℕ} {signs : List Sign} {closed : List ℕ} {turns : List Turn} {played : List Sign}
+    → IsStored w ends sizes signs closed turns played → AreNumbers 200 closed
+closed_numbers {w = w} {closed = closed} s =
+    record { positive = λ i h. (number i h).0; small = λ i h. omega (arith, (number i h).1, (counted_in s).hung, (s.kept).few) }
   where
     number : (i : ℕ) → i < length closed → (1 ≤ slice_index closed i) × (slice_index closed i ≤ length (outline_of w).hung)
     number i h = hung_number (outline_of w) (numbered_moves start w numbered_start) (slice_index closed i) (omega (
@@ -98,10 +110,12 @@ closed_numbers {w = w} {closed = closed} s = record { positive = λ i h. (number
       times_in-append (slice_index closed i) (outline_of w).closed (outline_of w).segments,
     ))
 
-pub closed_sizes : {w : Word} {ends sizes : List ℕ} {signs : List Sign} {closed : List ℕ} {turns : List Turn} {played : List Sign} → IsStored w ends sizes signs closed turns played → closed_of turns ≡ map length (outline_of w).closed
+pub closed_sizes : {w : Word} {ends sizes : List ℕ} {signs : List Sign} {closed : List ℕ} {turns : List Turn} {played : List Sign}
+    → IsStored w ends sizes signs closed turns played → closed_of turns ≡ map length (outline_of w).closed
 closed_sizes {w = w} s = ap closed_of s.turns_are ∙ sym (closed_turns start 0 w)
 
-pub closed_many : {w : Word} {ends sizes : List ℕ} {signs : List Sign} {closed : List ℕ} {turns : List Turn} {played : List Sign} → IsStored w ends sizes signs closed turns played → length closed ≡ sum (closed_of turns)
+pub closed_many : {w : Word} {ends sizes : List ℕ} {signs : List Sign} {closed : List ℕ} {turns : List Turn} {played : List Sign}
+    → IsStored w ends sizes signs closed turns played → length closed ≡ sum (closed_of turns)
 closed_many {w = w} s = ap length (s.shows).closed_are ∙ sym (sum_lengths (outline_of w).closed) ∙ ap sum (sym (closed_sizes s))
 
 -- a square that no move closes ends at the last node
@@ -115,14 +129,17 @@ end_last [] s q h = cases (any_times q s)
     there : list_any (nat_eq q) s ≡ true → ◌≡◌ {A = ℕ} 0 (cond (not (list_any (nat_eq q) s)) (1 + 0) 0)
     there e = sym (ap (λ (b : Bool). cond (not b) (1 + 0) 0) e)
 
-    cases : ((list_any (nat_eq q) s ≡ true) × (0 < times q s)) ⊎ ((list_any (nat_eq q) s ≡ false) × (times q s ≡ 0)) → ◌≡◌ {A = ℕ} 0 (cond (not (list_any (nat_eq q) s)) (1 + 0) 0)
+    cases : ((list_any (nat_eq q) s ≡ true) × (0 < times q s)) ⊎ ((list_any (nat_eq q) s ≡ false) × (times q s ≡ 0))
+        → ◌≡◌ {A = ℕ} 0 (cond (not (list_any (nat_eq q) s)) (1 + 0) 0)
     cases (inl a) = there a.0
     cases (inr a) = absurd (omega (arith, h, a.1))
 end_last (x ∷ closed) s q h = cases (any_times q x) (end_last closed s q)
   where
-    cases : ((list_any (nat_eq q) x ≡ true) × (0 < times q x)) ⊎ ((list_any (nat_eq q) x ≡ false) × (times q x ≡ 0)) → (0 < times_in q (closed ++ s ∷ []) → end_of closed q ≡ end_of (closed ++ s ∷ []) q)
+    cases : ((list_any (nat_eq q) x ≡ true) × (0 < times q x)) ⊎ ((list_any (nat_eq q) x ≡ false) × (times q x ≡ 0))
+        → (0 < times_in q (closed ++ s ∷ []) → end_of closed q ≡ end_of (closed ++ s ∷ []) q)
         → ◌≡◌ {A = ℕ} (cond (not (list_any (nat_eq q) x)) (1 + end_of closed q) 0) (cond (not (list_any (nat_eq q) x)) (1 + end_of (closed ++ s ∷ []) q) 0)
-    cases (inl a) rest = ap (λ (b : Bool). cond (not b) (1 + end_of closed q) 0) a.0 ∙ sym (ap (λ (b : Bool). cond (not b) (1 + end_of (closed ++ s ∷ []) q) 0) a.0)
+    cases (inl a) rest = ap (λ (b : Bool). cond (not b) (1 + end_of closed q) 0) a.0
+        ∙ sym (ap (λ (b : Bool). cond (not b) (1 + end_of (closed ++ s ∷ []) q) 0) a.0)
     cases (inr a) rest = open_end (not (list_any (nat_eq q) x)) (end_of closed q) (end_of (closed ++ s ∷ []) q) (λ e. rest (omega (arith, h, a.1)))
 
 one_list : (l : List (List ℕ)) → length l ≡ 1 → (s : List ℕ) × (l ≡ s ∷ [])
@@ -158,9 +175,12 @@ length-numbered f b zero = refl
 length-numbered f b (suc n) = ap suc (length-numbered f (b + 1) n)
 
 -- where each square ends, as it is read, is where it ends in the outline of a complete word
-pub ends_read : (o : Outline) (n : ℕ) (ended : List ℕ) → Numbered o → length o.segments ≡ 1 → n ≡ length o.hung → n ≤ 200 → length ended ≡ 200 → ((k : ℕ) → k < 200 → slice_index ended k ≡ end_of o.closed (k + 1))
+pub ends_read : (o : Outline) (n : ℕ) (ended : List ℕ) → Numbered o → length o.segments ≡ 1 → n ≡ length o.hung → n ≤ 200
+    → length ended ≡ 200 → ((k : ℕ) → k < 200 → slice_index ended k ≡ end_of o.closed (k + 1))
     → take n ended ≡ map (end_of (o.closed ++ o.segments)) (numbers_from 1 n)
-ends_read o n ended numbered one all few long read = by_index (take n ended) (map (end_of (o.closed ++ o.segments)) (numbers_from 1 n)) (taken ∙ sym (length-numbered (end_of (o.closed ++ o.segments)) 1 n)) each
+ends_read o n ended numbered one all few long read =
+    by_index (take n ended) (map (end_of (o.closed ++ o.segments)) (numbers_from 1 n))
+    (taken ∙ sym (length-numbered (end_of (o.closed ++ o.segments)) 1 n)) each
   where
     taken : length (take n ended) ≡ n
     taken = length-take-le n ended (omega arith)
@@ -169,7 +189,8 @@ ends_read o n ended numbered one all few long read = by_index (take n ended) (ma
     last = one_list o.segments one
 
     each : (k : ℕ) → k < length (take n ended) → slice_index (take n ended) k ≡ slice_index (map (end_of (o.closed ++ o.segments)) (numbers_from 1 n)) k
-    each k h = index_take n ended k below ∙ read k (omega (arith, below)) ∙ end_last o.closed last.0 (k + 1) there ∙ ap (λ (l : List (List ℕ)). end_of (o.closed ++ l) (k + 1)) (sym last.1)
+    each k h = index_take n ended k below ∙ read k (omega (arith, below)) ∙ end_last o.closed last.0 (k + 1) there
+        ∙ ap (λ (l : List (List ℕ)). end_of (o.closed ++ l) (k + 1)) (sym last.1)
         ∙ ap (end_of (o.closed ++ o.segments)) same ∙ sym (index_map (end_of (o.closed ++ o.segments)) 1 n k below)
       where
         below : k < n
@@ -179,7 +200,12 @@ ends_read o n ended numbered one all few long read = by_index (take n ended) (ma
         same = omega arith
 
         there : 0 < times_in (k + 1) (o.closed ++ last.0 ∷ [])
-        there = omega (arith, ap (λ (l : List (List ℕ)). times_in (k + 1) (o.closed ++ l)) last.1, numbered (k + 1), times_one (k + 1) 1 (length o.hung) (omega arith) (omega (arith, below)))
+        there = omega (
+          arith,
+          ap (λ (l : List (List ℕ)). times_in (k + 1) (o.closed ++ l)) last.1,
+          numbered (k + 1),
+          times_one (k + 1) 1 (length o.hung) (omega arith) (omega (arith, below)),
+        )
 
 -- the net of a complete word, as it is read
 pub record ReadsNet (w : Word) (turns : List Turn) (ends : List ℕ) : Type 0 where
@@ -187,9 +213,11 @@ pub record ReadsNet (w : Word) (turns : List Turn) (ends : List ℕ) : Type 0 wh
   pub wires : AreWires (length turns + 1) (wires_from 0 (counts_of turns) ends)
   pub net : (record { nodes = length turns + 1; wires = wires_from 0 (counts_of turns) ends }) ≡ net_of_word w
 
-pub reads_net : {w : Word} {ends sizes : List ℕ} {signs : List Sign} {closed : List ℕ} {turns : List Turn} {played : List Sign} → IsStored w ends sizes signs closed turns played → IsComplete w → (ended : List ℕ) (n : ℕ) → n ≡ order_of w → length ended ≡ 200
+pub reads_net : {w : Word} {ends sizes : List ℕ} {signs : List Sign} {closed : List ℕ} {turns : List Turn} {played : List Sign}
+    → IsStored w ends sizes signs closed turns played → IsComplete w → (ended : List ℕ) (n : ℕ) → n ≡ order_of w → length ended ≡ 200
     → ((k : ℕ) → k < 200 → slice_index ended k ≡ end_of (outline_of w).closed (k + 1)) → ReadsNet w turns (take n ended)
-reads_net {w = w} {turns = turns} s complete ended n order long read = record { all = all; wires = subst (λ (m : Net). AreWires m.nodes m.wires) (sym net) good; net = net }
+reads_net {w = w} {turns = turns} s complete ended n order long read =
+    record { all = all; wires = subst (λ (m : Net). AreWires m.nodes m.wires) (sym net) good; net = net }
   where
     hung : length (outline_of w).hung ≡ order_of w
     hung = (counted_in s).hung
@@ -201,17 +229,22 @@ reads_net {w = w} {turns = turns} s complete ended n order long read = record { 
     all = length-take-le n ended (omega (arith, order, (s.kept).few)) ∙ order ∙ sym (ap sum counts ∙ counts_sum w)
 
     ends_are : take n ended ≡ map (end_of ((outline_of w).closed ++ (outline_of w).segments)) (numbers_from 1 (length (outline_of w).hung))
-    ends_are = ends_read (outline_of w) n ended (numbered_moves start w numbered_start) complete.one (order ∙ sym hung) (omega (arith, order, (s.kept).few)) long read
+    ends_are = ends_read (outline_of w) n ended (numbered_moves start w numbered_start) complete.one (order ∙ sym hung)
+        (omega (arith, order, (s.kept).few)) long read
         ∙ ap (λ k. map (end_of ((outline_of w).closed ++ (outline_of w).segments)) (numbers_from 1 k)) (order ∙ sym hung)
 
     nodes : length turns ≡ length (outline_of w).closed
     nodes = omega (arith, ap length s.turns_are, turns_many start 0 w, closed_count start w)
 
-    wires_are : wires_from 0 (counts_of turns) (take n ended) ≡ zip (outline_of w).hung (map (end_of ((outline_of w).closed ++ (outline_of w).segments)) (numbers_from 1 (length (outline_of w).hung)))
-    wires_are = sym (zip_nodes 0 (counts_of turns) (take n ended) all) ∙ (λ i. zip (nodes_from 0 (counts i)) (ends_are i)) ∙ ap (λ (l : List ℕ). zip l (map (end_of ((outline_of w).closed ++ (outline_of w).segments)) (numbers_from 1 (length (outline_of w).hung)))) (sym (hung_nodes start w))
+    wires_are : wires_from 0 (counts_of turns) (take n ended)
+        ≡ zip (outline_of w).hung (map (end_of ((outline_of w).closed ++ (outline_of w).segments)) (numbers_from 1 (length (outline_of w).hung)))
+    wires_are = sym (zip_nodes 0 (counts_of turns) (take n ended) all) ∙ (λ i. zip (nodes_from 0 (counts i)) (ends_are i))
+        ∙ ap (λ (l : List ℕ). zip l (map (end_of ((outline_of w).closed ++ (outline_of w).segments))
+        (numbers_from 1 (length (outline_of w).hung)))) (sym (hung_nodes start w))
 
     net : (record { nodes = length turns + 1; wires = wires_from 0 (counts_of turns) (take n ended) }) ≡ net_of_word w
     net = λ i. record { nodes = nodes i + 1; wires = wires_are i }
 
     good : AreWires (net_of_word w).nodes (net_of_word w).wires
-    good = recursion_from_All (λ (v : ℕ × ℕ). (v.0 < (net_of_word w).nodes) × (v.1 < (net_of_word w).nodes) × (v.0 ≡ v.1 → ⊥)) (net_of_word w).wires ((a_word_net_has_no_loose w complete).0).ends
+    good = recursion_from_All (λ (v : ℕ × ℕ). (v.0 < (net_of_word w).nodes) × (v.1 < (net_of_word w).nodes) × (v.0 ≡ v.1 → ⊥))
+        (net_of_word w).wires ((a_word_net_has_no_loose w complete).0).ends

@@ -52,9 +52,11 @@ module _ (width : ℕ) (laid : List Square) (numbers : List ℕ) (o : Outline) (
 
   -- the first of the open squares reaches down to the height
   pub first_open : (0 < length numbers) × (bottom_at laid (slice_index_or numbers 0 0) ≡ depth laid 0)
-  first_open = subst (λ (ns : List ℕ). (0 < length ns) × (bottom_at laid (slice_index_or ns 0 0) ≡ depth laid 0)) (sym (c.board).numbers_are) (from ((c.board).shows).runs o.segments ((c.board).shows).cut ((c.board).shows).segments)
+  first_open = subst (λ (ns : List ℕ). (0 < length ns) × (bottom_at laid (slice_index_or ns 0 0) ≡ depth laid 0))
+      (sym (c.board).numbers_are) (from ((c.board).shows).runs o.segments ((c.board).shows).cut ((c.board).shows).segments)
     where
-      from : (runs : List Segment) (lists : List (List ℕ)) → AreRuns width laid 0 runs → AllZip (IsSegment laid) runs lists → (0 < length (concat lists)) × (bottom_at laid (slice_index_or (concat lists) 0 0) ≡ depth laid 0)
+      from : (runs : List Segment) (lists : List (List ℕ)) → AreRuns width laid 0 runs → AllZip (IsSegment laid) runs lists
+          → (0 < length (concat lists)) × (bottom_at laid (slice_index_or (concat lists) 0 0) ≡ depth laid 0)
       from [] lists cut z = absurd (omega (arith, cut, (c.board).some))
       from (r ∷ runs) [] cut z = absurd z
       from (r ∷ runs) (u ∷ lists) cut z = first u (segment_span width laid deep r u cut.1 z.0)
@@ -65,7 +67,8 @@ module _ (width : ℕ) (laid : List Square) (numbers : List ℕ) (o : Outline) (
           level : depth laid 0 ≡ r.level
           level = (cut.1).level 0 (omega (arith, cut.0)) (omega (arith, cut.0, some))
 
-          first : (u : List ℕ) → Span laid r.level r.x u (r.x + r.width) → (0 < length (u ++ concat lists)) × (bottom_at laid (slice_index_or (u ++ concat lists) 0 0) ≡ depth laid 0)
+          first : (u : List ℕ) → Span laid r.level r.x u (r.x + r.width) → (0 < length (u ++ concat lists))
+              × (bottom_at laid (slice_index_or (u ++ concat lists) 0 0) ≡ depth laid 0)
           first [] span = absurd (omega (arith, some, span))
           first (n ∷ u) span = (omega arith, numbered_bottom laid n span.0 span.1 ∙ span.3 ∙ sym level)
 
@@ -80,7 +83,8 @@ module _ (width : ℕ) (laid : List Square) (numbers : List ℕ) (o : Outline) (
       from (n ∷ ns) h a = a.0
 
   -- the same for what the code has
-  pub kept_as : (height : ℕ) (squares : List Square) → height ≡ depth laid 0 → squares ≡ in_code_order laid → IsKept (record { width = width; height = height; squares = squares })
+  pub kept_as : (height : ℕ) (squares : List Square) → height ≡ depth laid 0 → squares ≡ in_code_order laid
+      → IsKept (record { width = width; height = height; squares = squares })
   kept_as height squares e f = subst (λ (h : ℕ). IsKept (record { width = width; height = h; squares = squares })) (sym e)
       (subst (λ (qs : List Square). IsKept (record { width = width; height = depth laid 0; squares = qs })) (sym f) kept)
 
@@ -88,4 +92,5 @@ module _ (width : ℕ) (laid : List Square) (numbers : List ℕ) (o : Outline) (
   height_as seen height e f = f ∙ ap (λ (l : List Square). bottom_at l (slice_index_or numbers 0 0)) e ∙ first_open.1
 
   pub known_as : (seen : List Square) → seen ≡ laid → IsNumber seen (slice_index_or numbers 0 0) × (bottom_at seen (slice_index_or numbers 0 0) < 2 ^ 63)
-  known_as seen e = subst (λ (l : List Square). IsNumber l (slice_index_or numbers 0 0) × (bottom_at l (slice_index_or numbers 0 0) < 2 ^ 63)) (sym e) (first_known, bottom_fits)
+  known_as seen e = subst (λ (l : List Square). IsNumber l (slice_index_or numbers 0 0)
+      × (bottom_at l (slice_index_or numbers 0 0) < 2 ^ 63)) (sym e) (first_known, bottom_fits)

@@ -5,10 +5,14 @@ use Rattle.bk_lay.specs.TilingWord.{sign_between, signs_between}
 
 -- the signs from a place on: the one there and the further ones
 pub record SignsAt (b : ℕ → ℕ) (signs : List Sign) (numbers : List ℕ) (i : ℕ) (d : Sign) : Type 0 where
-  pub forth : drop i signs ≡ signs_between (map b (drop i numbers)) → (slice_index_or signs i d ≡ sign_between (b (get_or numbers i 0)) (b (get_or numbers (i + 1) 0))) × (drop (i + 1) signs ≡ signs_between (map b (drop (i + 1) numbers)))
-  pub back : slice_index_or signs i d ≡ sign_between (b (get_or numbers i 0)) (b (get_or numbers (i + 1) 0)) → drop (i + 1) signs ≡ signs_between (map b (drop (i + 1) numbers)) → drop i signs ≡ signs_between (map b (drop i numbers))
+  pub forth : drop i signs ≡ signs_between (map b (drop i numbers))
+      → (slice_index_or signs i d ≡ sign_between (b (get_or numbers i 0)) (b (get_or numbers (i + 1) 0)))
+      × (drop (i + 1) signs ≡ signs_between (map b (drop (i + 1) numbers)))
+  pub back : slice_index_or signs i d ≡ sign_between (b (get_or numbers i 0)) (b (get_or numbers (i + 1) 0))
+      → drop (i + 1) signs ≡ signs_between (map b (drop (i + 1) numbers)) → drop i signs ≡ signs_between (map b (drop i numbers))
 
-pub signs_at : (b : ℕ → ℕ) (signs : List Sign) (numbers : List ℕ) (i : ℕ) (d : Sign) → i < length signs → length signs + 1 ≡ length numbers → SignsAt b signs numbers i d
+pub signs_at : (b : ℕ → ℕ) (signs : List Sign) (numbers : List ℕ) (i : ℕ) (d : Sign) → i < length signs → length signs + 1 ≡ length numbers
+    → SignsAt b signs numbers i d
 signs_at b [] numbers i d h e = absurd (omega arith)
 signs_at b (s ∷ signs) [] i d h e = absurd (omega arith)
 signs_at b (s ∷ signs) (n ∷ []) i d h e = absurd (omega arith)
@@ -42,7 +46,8 @@ signs_at b (s ∷ signs) (n ∷ m ∷ numbers) (suc i) d h e = again (signs_at b
           (subst (λ (k : ℕ). drop k (s ∷ signs) ≡ signs_between (map b (drop k (n ∷ m ∷ numbers)))) next_again g));
     }
 
-pub signs_done : (b : ℕ → ℕ) (signs : List Sign) (numbers : List ℕ) (i : ℕ) → length signs ≤ i → i ≤ length signs → length signs + 1 ≡ length numbers → drop i signs ≡ signs_between (map b (drop i numbers))
+pub signs_done : (b : ℕ → ℕ) (signs : List Sign) (numbers : List ℕ) (i : ℕ) → length signs ≤ i → i ≤ length signs
+    → length signs + 1 ≡ length numbers → drop i signs ≡ signs_between (map b (drop i numbers))
 signs_done b [] [] i g h e = absurd (omega arith)
 signs_done b [] (n ∷ []) zero g h e = refl
 signs_done b [] (n ∷ m ∷ numbers) i g h e = absurd (omega arith)

@@ -95,7 +95,8 @@ all_drop P (suc k) (x ∷ xs) a = all_drop P k xs a.1
 
 sum_bounds : (sides : List ℕ) → AllByRecursion IsSide sides → (length sides ≤ sum sides) × (sum sides ≤ LONGEST_SIDE * length sides)
 sum_bounds [] a = (omega arith, omega arith)
-sum_bounds (s ∷ sides) a = let r = sum_bounds sides a.1 in (omega (arith, sum_by-cons (λ (n : ℕ). n) s sides, r.0, (a.0).0), omega (arith, sum_by-cons (λ (n : ℕ). n) s sides, r.1, (a.0).1))
+sum_bounds (s ∷ sides) a = let r = sum_bounds sides a.1 in
+    (omega (arith, sum_by-cons (λ (n : ℕ). n) s sides, r.0, (a.0).0), omega (arith, sum_by-cons (λ (n : ℕ). n) s sides, r.1, (a.0).1))
 
 module _ (given : List ℕ) (all_sides : AllByRecursion IsSide given) (few : length given ≤ MOST_SQUARES) where
   placed_first : (m : Move) (v : Word) → IsComplete (m ∷ v) → length given ≡ order_of (m ∷ v) → IsPlacedTo (m ∷ v) given 0 [] []
@@ -114,7 +115,8 @@ module _ (given : List ℕ) (all_sides : AllByRecursion IsSide given) (few : len
     turns = λ all p. p;
     agrees = λ t l. subst (λ (n : ℕ). AgreesAt n t [] start (m ∷ v) given) (sym (sum_is_total (take m.count given)))
         (subst (λ (rest : List ℕ). AgreesAt (total (take m.count given)) t [] start (m ∷ v) rest) (take-append-drop m.count given)
-        (agrees_start t m v (take m.count given) (drop m.count given) some long (subst (λ (rest : List ℕ). IsLaidWith (m ∷ v) rest t) (sym (take-append-drop m.count given)) l)));
+        (agrees_start t m v (take m.count given) (drop m.count given) some long
+        (subst (λ (rest : List ℕ). IsLaidWith (m ∷ v) rest t) (sym (take-append-drop m.count given)) l)));
   }
     where
       some : 0 < m.count
@@ -136,7 +138,8 @@ module _ (given : List ℕ) (all_sides : AllByRecursion IsSide given) (few : len
   placed_start [] complete count = absurd (omega (arith, complete.some))
   placed_start (m ∷ v) complete count = placed_first m v complete count
 
-  module _ (w : Word) (legal : IsLegal w) (i : ℕ) (laid : List Square) (numbers : List ℕ) (s : IsPlacedTo w given i laid numbers) (m : Move) (at : slice_get w i ≡ Some m) where
+  module _ (w : Word) (legal : IsLegal w) (i : ℕ) (laid : List Square) (numbers : List ℕ) (s : IsPlacedTo w given i laid numbers) (m : Move)
+      (at : slice_get w i ≡ Some m) where
     o : Outline
     o = after_moves start (take i w)
 
@@ -147,7 +150,8 @@ module _ (given : List ℕ) (all_sides : AllByRecursion IsSide given) (few : len
     order_is = ap order_of rest_is ∙ order_more m (drop (i + 1) w)
 
     left : length given ≡ length laid + length (drop (length laid) given)
-    left = ap length s.sides ∙ length-append (laid_sides laid) (drop (length laid) given) ∙ ap (λ (n : ℕ). n + length (drop (length laid) given)) (length-map laid (λ q. q.s))
+    left = ap length s.sides ∙ length-append (laid_sides laid) (drop (length laid) given)
+        ∙ ap (λ (n : ℕ). n + length (drop (length laid) given)) (length-map laid (λ q. q.s))
 
     fits : m.count ≤ length (drop (length laid) given)
     fits = omega (arith, left, s.many, order_is)
@@ -158,7 +162,8 @@ module _ (given : List ℕ) (all_sides : AllByRecursion IsSide given) (few : len
     legal_here : IsLegalMove (after_moves start (take i w)) m
     legal_here = legal_at start w i m legal at
 
-    module _ (first end : ℕ) (first_is : first ≡ length (front_of (after_moves start (take i w)))) (end_is : end ≡ length (front_of (after_moves start (take i w))) + length (valley_of (after_moves start (take i w)))) where
+    module _ (first end : ℕ) (first_is : first ≡ length (front_of (after_moves start (take i w))))
+        (end_is : end ≡ length (front_of (after_moves start (take i w))) + length (valley_of (after_moves start (take i w)))) where
       long : length (take m.count (drop (length laid) given)) ≡ m.count
       long = length-take-le m.count (drop (length laid) given) fits
 
@@ -181,20 +186,27 @@ module _ (given : List ℕ) (all_sides : AllByRecursion IsSide given) (few : len
       parted : drop (length laid) given ≡ take m.count (drop (length laid) given) ++ drop m.count (drop (length laid) given)
       parted = sym (take-append-drop m.count (drop (length laid) given))
 
-      agree : (t : Tiling) → IsLaidWith w given t → AgreesOn (first_width w given) t laid (after_moves start (take i w)) m (drop (i + 1) w) (take m.count (drop (length laid) given)) (drop m.count (drop (length laid) given))
-      agree t l = agrees_on (first_width w given) t laid (after_moves start (take i w)) m (drop (i + 1) w) (take m.count (drop (length laid) given)) (drop m.count (drop (length laid) given)) legal_here.some long
-          (subst (λ (v : Word). AgreesAt (first_width w given) t laid (after_moves start (take i w)) v (take m.count (drop (length laid) given) ++ drop m.count (drop (length laid) given))) rest_is
+      agree : (t : Tiling) → IsLaidWith w given t
+          → AgreesOn (first_width w given) t laid (after_moves start (take i w)) m (drop (i + 1) w)
+          (take m.count (drop (length laid) given)) (drop m.count (drop (length laid) given))
+      agree t l = agrees_on (first_width w given) t laid (after_moves start (take i w)) m (drop (i + 1) w)
+          (take m.count (drop (length laid) given)) (drop m.count (drop (length laid) given)) legal_here.some long
+          (subst (λ (v : Word). AgreesAt (first_width w given) t laid (after_moves start (take i w)) v
+          (take m.count (drop (length laid) given) ++ drop m.count (drop (length laid) given))) rest_is
           (subst (AgreesAt (first_width w given) t laid (after_moves start (take i w)) (drop i w)) parted (s.agrees t l)))
 
       -- where there is no turn, no tiling has the word with these sides
-      pub placed_none : ((v : Segment) → IsTurn (first_width w given) laid (record { count = length (take m.count (drop (length laid) given)); signs = m.signs }) (take m.count (drop (length laid) given)) v → ⊥)
+      pub placed_none : ((v : Segment) → IsTurn (first_width w given) laid
+          (record { count = length (take m.count (drop (length laid) given)); signs = m.signs }) (take m.count (drop (length laid) given)) v → ⊥)
           → (t : Tiling) → IsLaidWith w given t → ⊥
-      placed_none never t l = let a = agree t l in never a.valley (subst (λ (n : Move). IsTurn (first_width w given) laid n (take m.count (drop (length laid) given)) a.valley) same_move a.turn)
+      placed_none never t l = let a = agree t l in
+          never a.valley (subst (λ (n : Move). IsTurn (first_width w given) laid n (take m.count (drop (length laid) given)) a.valley) same_move a.turn)
 
       the_gap : Segment
       the_gap = gap (first_width w given) laid numbers first end m.signs (take m.count (drop (length laid) given)) (after_moves start (take i w)) can_lay
 
-      module _ (v : Segment) (turn : IsTurn (first_width w given) laid (record { count = length (take m.count (drop (length laid) given)); signs = m.signs }) (take m.count (drop (length laid) given)) v) where
+      module _ (v : Segment) (turn : IsTurn (first_width w given) laid
+          (record { count = length (take m.count (drop (length laid) given)); signs = m.signs }) (take m.count (drop (length laid) given)) v) where
         own_turn : IsTurn (first_width w given) laid m (take m.count (drop (length laid) given)) v
         own_turn = subst (λ (n : Move). IsTurn (first_width w given) laid n (take m.count (drop (length laid) given)) v) (sym same_move) turn
 
@@ -207,49 +219,84 @@ module _ (given : List ℕ) (all_sides : AllByRecursion IsSide given) (few : len
         further : drop m.count (drop (length laid) given) ≡ drop (length (laid ++ laid_group v.x v.level (take m.count (drop (length laid) given)))) given
         further = drop-drop m.count (length laid) given ∙ ap (λ (k : ℕ). drop k given) (sym laid_long)
 
-        laid_next : laid_sides (laid ++ laid_group v.x v.level (take m.count (drop (length laid) given))) ≡ laid_sides laid ++ take m.count (drop (length laid) given)
-        laid_next = map-append (λ q. q.s) laid (laid_group v.x v.level (take m.count (drop (length laid) given))) ∙ ap (λ (xs : List ℕ). laid_sides laid ++ xs) (group_list v.x v.level (take m.count (drop (length laid) given)))
+        laid_next : laid_sides (laid ++ laid_group v.x v.level (take m.count (drop (length laid) given))) ≡ laid_sides laid
+            ++ take m.count (drop (length laid) given)
+        laid_next = map-append (λ q. q.s) laid (laid_group v.x v.level (take m.count (drop (length laid) given)))
+            ∙ ap (λ (xs : List ℕ). laid_sides laid ++ xs) (group_list v.x v.level (take m.count (drop (length laid) given)))
 
-        sides_next : given ≡ laid_sides (laid ++ laid_group v.x v.level (take m.count (drop (length laid) given))) ++ drop (length (laid ++ laid_group v.x v.level (take m.count (drop (length laid) given)))) given
-        sides_next = s.sides ∙ ap (λ (xs : List ℕ). laid_sides laid ++ xs) (parted ∙ ap (λ (xs : List ℕ). take m.count (drop (length laid) given) ++ xs) further)
-            ∙ sym (append_assoc (laid_sides laid) (take m.count (drop (length laid) given)) (drop (length (laid ++ laid_group v.x v.level (take m.count (drop (length laid) given)))) given))
+        sides_next : given ≡ laid_sides (laid ++ laid_group v.x v.level (take m.count (drop (length laid) given)))
+            ++ drop (length (laid ++ laid_group v.x v.level (take m.count (drop (length laid) given)))) given
+        sides_next = s.sides ∙ ap (λ (xs : List ℕ). laid_sides laid ++ xs)
+            (parted ∙ ap (λ (xs : List ℕ). take m.count (drop (length laid) given) ++ xs) further)
+            ∙ sym (append_assoc (laid_sides laid) (take m.count (drop (length laid) given))
+            (drop (length (laid ++ laid_group v.x v.level (take m.count (drop (length laid) given)))) given))
             ∙ ap (λ (xs : List ℕ). xs ++ drop (length (laid ++ laid_group v.x v.level (take m.count (drop (length laid) given)))) given) (sym laid_next)
 
         numbers_next : List ℕ
         numbers_next = (take first numbers ++ numbers_from (length laid + 1) (length (take m.count (drop (length laid) given)))) ++ drop end numbers
 
-        board_next : IsBoard (first_width w given) (laid ++ laid_group v.x v.level (take m.count (drop (length laid) given))) ((take first numbers ++ numbers_from (length laid + 1) (length (take m.count (drop (length laid) given)))) ++ drop end numbers) (after_move (after_moves start (take i w)) m)
+        board_next : IsBoard (first_width w given) (laid ++ laid_group v.x v.level (take m.count (drop (length laid) given)))
+            ((take first numbers ++ numbers_from (length laid + 1) (length (take m.count (drop (length laid) given)))) ++ drop end numbers)
+            (after_move (after_moves start (take i w)) m)
         board_next = record {
-          shows = shows_turn (first_width w given) laid (after_moves start (take i w)) (s.board).shows (s.board).some m (take m.count (drop (length laid) given)) v own_turn;
+          shows = shows_turn (first_width w given) laid (after_moves start (take i w)) (s.board).shows (s.board).some m
+              (take m.count (drop (length laid) given)) v own_turn;
           some = (s.board).some;
           narrow = (s.board).narrow;
-          numbers_are = numbers_after (first_width w given) laid numbers first end m.signs (take m.count (drop (length laid) given)) (after_moves start (take i w)) can_lay
+          numbers_are = numbers_after (first_width w given) laid numbers first end m.signs (take m.count (drop (length laid) given))
+              (after_moves start (take i w)) can_lay
               ∙ ap (λ (n : Move). concat (after_move (after_moves start (take i w)) n).segments) (sym same_move);
-          known = subst (λ (u : Segment). AllByRecursion (IsNumber (laid ++ laid_group u.x u.level (take m.count (drop (length laid) given)))) ((take first numbers ++ numbers_from (length laid + 1) (length (take m.count (drop (length laid) given)))) ++ drop end numbers)) (sym same_gap)
-              (known_after (first_width w given) laid numbers first end m.signs (take m.count (drop (length laid) given)) (after_moves start (take i w)) can_lay);
-          few = omega (arith, laid_long, long, few_after (first_width w given) laid numbers first end m.signs (take m.count (drop (length laid) given)) (after_moves start (take i w)) can_lay);
-          low = subst (λ (u : Segment). (q : Square) → IsOneOf q (laid ++ laid_group u.x u.level (take m.count (drop (length laid) given))) → q.y + q.s ≤ LONGEST_SIDE * length (laid ++ laid_group u.x u.level (take m.count (drop (length laid) given)))) (sym same_gap)
+          known = subst (λ (u : Segment). AllByRecursion
+              (IsNumber (laid ++ laid_group u.x u.level (take m.count (drop (length laid) given))))
+              ((take first numbers ++ numbers_from (length laid + 1) (length (take m.count (drop (length laid) given)))) ++ drop end numbers)) (sym same_gap)
+              (known_after (first_width w given) laid numbers first end m.signs (take m.count (drop (length laid) given))
+              (after_moves start (take i w)) can_lay);
+          few = omega (
+            arith,
+            laid_long,
+            long,
+            few_after (first_width w given) laid numbers first end m.signs
+                (take m.count (drop (length laid) given)) (after_moves start (take i w)) can_lay,
+          );
+          low = subst (λ (u : Segment). (q : Square) → IsOneOf q (laid ++ laid_group u.x u.level (take m.count (drop (length laid) given)))
+              → q.y + q.s ≤ LONGEST_SIDE * length (laid ++ laid_group u.x u.level (take m.count (drop (length laid) given)))) (sym same_gap)
               (low_after (first_width w given) laid numbers first end m.signs (take m.count (drop (length laid) given)) (after_moves start (take i w)) can_lay);
         }
           where
-            same_gap : v ≡ gap (first_width w given) laid numbers first end m.signs (take m.count (drop (length laid) given)) (after_moves start (take i w)) can_lay
-            same_gap = only (first_width w given) laid numbers first end m.signs (take m.count (drop (length laid) given)) (after_moves start (take i w)) can_lay v turn
+            same_gap : v ≡ gap (first_width w given) laid numbers first end m.signs (take m.count (drop (length laid) given))
+                (after_moves start (take i w)) can_lay
+            same_gap = only (first_width w given) laid numbers first end m.signs (take m.count (drop (length laid) given))
+                (after_moves start (take i w)) can_lay v turn
 
-        agrees_next : (t : Tiling) → IsLaidWith w given t → AgreesAt (first_width w given) t (laid ++ laid_group v.x v.level (take m.count (drop (length laid) given))) (after_move (after_moves start (take i w)) m) (drop (i + 1) w) (drop (length (laid ++ laid_group v.x v.level (take m.count (drop (length laid) given)))) given)
-        agrees_next t l = subst (AgreesAt (first_width w given) t (laid ++ laid_group v.x v.level (take m.count (drop (length laid) given))) (after_move (after_moves start (take i w)) m) (drop (i + 1) w)) further
-            (subst (λ (u : Segment). AgreesAt (first_width w given) t (laid ++ laid_group u.x u.level (take m.count (drop (length laid) given))) (after_move (after_moves start (take i w)) m) (drop (i + 1) w) (drop m.count (drop (length laid) given)))
+        agrees_next : (t : Tiling) → IsLaidWith w given t
+            → AgreesAt (first_width w given) t (laid ++ laid_group v.x v.level (take m.count (drop (length laid) given)))
+            (after_move (after_moves start (take i w)) m) (drop (i + 1) w)
+            (drop (length (laid ++ laid_group v.x v.level (take m.count (drop (length laid) given)))) given)
+        agrees_next t l = subst (AgreesAt (first_width w given) t (laid ++ laid_group v.x v.level (take m.count (drop (length laid) given)))
+            (after_move (after_moves start (take i w)) m) (drop (i + 1) w)) further
+            (subst (λ (u : Segment). AgreesAt (first_width w given) t
+            (laid ++ laid_group u.x u.level (take m.count (drop (length laid) given))) (after_move (after_moves start (take i w)) m)
+            (drop (i + 1) w) (drop m.count (drop (length laid) given)))
             (one_leftmost_valley (first_width w given) laid (agree t l).valley v ((agree t l).turn).found turn.found) (agree t l).next)
 
-        pub placed_more : IsPlacedTo w given (i + 1) (laid ++ laid_group v.x v.level (take m.count (drop (length laid) given))) ((take first numbers ++ numbers_from (length laid + 1) (length (take m.count (drop (length laid) given)))) ++ drop end numbers)
+        pub placed_more : IsPlacedTo w given (i + 1) (laid ++ laid_group v.x v.level (take m.count (drop (length laid) given)))
+            ((take first numbers ++ numbers_from (length laid + 1) (length (take m.count (drop (length laid) given)))) ++ drop end numbers)
         placed_more = record {
-          board = subst (IsBoard (first_width w given) (laid ++ laid_group v.x v.level (take m.count (drop (length laid) given))) ((take first numbers ++ numbers_from (length laid + 1) (length (take m.count (drop (length laid) given)))) ++ drop end numbers)) (sym (outline_more start w i m at)) board_next;
+          board = subst (IsBoard (first_width w given) (laid ++ laid_group v.x v.level (take m.count (drop (length laid) given)))
+              ((take first numbers ++ numbers_from (length laid + 1) (length (take m.count (drop (length laid) given))))
+              ++ drop end numbers)) (sym (outline_more start w i m at)) board_next;
           many = omega (arith, laid_long, s.many, order_is);
           sides = sides_next;
-          turns = λ all p. s.turns all (subst (λ (x : Word). Turns (first_width w given) laid x all) (sym rest_is) (v, (take m.count (drop (length laid) given), (own_turn, p))));
-          agrees = λ t l. subst (λ (p : Outline). AgreesAt (first_width w given) t (laid ++ laid_group v.x v.level (take m.count (drop (length laid) given))) p (drop (i + 1) w) (drop (length (laid ++ laid_group v.x v.level (take m.count (drop (length laid) given)))) given)) (sym (outline_more start w i m at)) (agrees_next t l);
+          turns = λ all p. s.turns all (subst (λ (x : Word). Turns (first_width w given) laid x all) (sym rest_is)
+              (v, (take m.count (drop (length laid) given), (own_turn, p))));
+          agrees = λ t l. subst (λ (p : Outline). AgreesAt (first_width w given) t
+              (laid ++ laid_group v.x v.level (take m.count (drop (length laid) given))) p (drop (i + 1) w)
+              (drop (length (laid ++ laid_group v.x v.level (take m.count (drop (length laid) given)))) given))
+              (sym (outline_more start w i m at)) (agrees_next t l);
         }
 
-  module _ (w : Word) (complete : IsComplete w) (count : length given ≡ order_of w) (i : ℕ) (done : length w ≤ i) (laid : List Square) (numbers : List ℕ) (s : IsPlacedTo w given i laid numbers) where
+  module _ (w : Word) (complete : IsComplete w) (count : length given ≡ order_of w) (i : ℕ) (done : length w ≤ i) (laid : List Square)
+      (numbers : List ℕ) (s : IsPlacedTo w given i laid numbers) where
     all_laid : length laid ≡ length given
     all_laid = omega (arith, s.many, ap order_of (take_whole w i done).1)
 
@@ -272,7 +319,8 @@ module _ (given : List ℕ) (all_sides : AllByRecursion IsSide given) (few : len
         from [] h legal e = absurd (omega arith)
         from (m ∷ v) h legal e = omega (arith, e, order_more m v, (legal.0).some)
 
-    squares_sides : (squares : List Square) (sides : List ℕ) → laid_sides squares ≡ sides → AllByRecursion IsSide sides → AllByRecursion (λ q. IsSide q.s) squares
+    squares_sides : (squares : List Square) (sides : List ℕ) → laid_sides squares ≡ sides → AllByRecursion IsSide sides
+        → AllByRecursion (λ q. IsSide q.s) squares
     squares_sides [] sides e a = tt
     squares_sides (q ∷ squares) [] e a = absurd (cc)
     squares_sides (q ∷ squares) (x ∷ sides) e a = (subst IsSide (sym first) a.0, squares_sides squares sides rest a.1)
@@ -284,7 +332,14 @@ module _ (given : List ℕ) (all_sides : AllByRecursion IsSide given) (few : len
         rest = cc
 
     pub placed_closed : IsClosed (first_width w given) laid numbers (outline_of w)
-    placed_closed = record { board = board; one = complete.one; some = some; few = omega (arith, all_laid, few); sides = squares_sides laid given sides_are all_sides }
+    placed_closed = record {
+      board = board;
+      one = complete.one;
+      some = some;
+      few = omega (arith, all_laid, few);
+      sides =
+          squares_sides laid given sides_are all_sides;
+    }
 
     abbrev the_tiling : Tiling
     the_tiling = built (first_width w given) board.some laid (outline_of w) board.shows complete.one some
@@ -306,4 +361,5 @@ module _ (given : List ℕ) (all_sides : AllByRecursion IsSide given) (few : len
     }
       where
         followed : MovesFollow the_tiling [] w × ((all_levels : List ℕ) × LaidAlong the_tiling [] [] w laid all_levels)
-        followed = follow_turns the_tiling tiling laid (λ q h. in_order laid q h) (all_deep (first_width w given) board.some laid (outline_of w) board.shows complete.one some) w [] [] turns
+        followed = follow_turns the_tiling tiling laid (λ q h. in_order laid q h)
+            (all_deep (first_width w given) board.some laid (outline_of w) board.shows complete.one some) w [] [] turns

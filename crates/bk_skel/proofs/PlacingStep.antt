@@ -22,7 +22,8 @@ use Rattle.bk_word_net.specs.LaidOutline.{IsTurn, front_of}
 use Rattle.bk_skel.specs.TurnRecord.{SaysWhere}
 use Rattle.bk_skel.specs.declared.turns.Turn.{Turn}
 
-module _ (w : Word) (legal : IsLegal w) (given : List ℕ) (all_sides : AllByRecursion IsSide given) (few : length given ≤ MOST_SQUARES) (i : ℕ) (below : i < length w)
+module _ (w : Word) (legal : IsLegal w) (given : List ℕ) (all_sides : AllByRecursion IsSide given) (few : length given ≤ MOST_SQUARES)
+    (i : ℕ) (below : i < length w)
     (laid : List Square) (numbers : List ℕ) (s : IsPlacedTo w given i laid numbers) (turn : Turn) (says : SaysWhere w i turn) where
   abbrev m : Move
   m = (get_some w i below).0
@@ -34,8 +35,10 @@ module _ (w : Word) (legal : IsLegal w) (given : List ℕ) (all_sides : AllByRec
   pub sides_there : length laid + turn.count ≤ length given
   sides_there = omega (arith, new_fits given all_sides few w legal i laid numbers s (get_some w i below).0 at, says.count (get_some w i below).0 at)
 
-  module _ (width from many first closed : ℕ) (signs : List Sign) (new : List ℕ) (width_is : width ≡ first_width w given) (from_is : from ≡ length laid) (many_is : many ≡ turn.count) (first_is : first ≡ turn.first)
-      (closed_is : closed ≡ turn.closed) (signs_are : (n : Move) → slice_get w i ≡ Some n → signs ≡ n.signs) (new_is : new ≡ take (from + many - from) (drop from given)) where
+  module _ (width from many first closed : ℕ) (signs : List Sign) (new : List ℕ) (width_is : width ≡ first_width w given)
+      (from_is : from ≡ length laid) (many_is : many ≡ turn.count) (first_is : first ≡ turn.first)
+      (closed_is : closed ≡ turn.closed) (signs_are : (n : Move) → slice_get w i ≡ Some n → signs ≡ n.signs)
+      (new_is : new ≡ take (from + many - from) (drop from given)) where
     taken : new ≡ take (get_some w i below).0.count (drop (length laid) given)
     taken = new_is ∙ (λ j. take (count j) (drop (from_is j) given))
       where
@@ -56,49 +59,84 @@ module _ (w : Word) (legal : IsLegal w) (given : List ℕ) (all_sides : AllByRec
       after_moves start (take i w),
       subst (λ (n : ℕ). CanLay n laid numbers first (first + closed) signs new (after_moves start (take i w))) (sym width_is)
           (subst (λ (gs : List Sign). CanLay (first_width w given) laid numbers first (first + closed) gs new (after_moves start (take i w))) own_signs
-          (subst (λ (ns : List ℕ). CanLay (first_width w given) laid numbers first (first + closed) (get_some w i below).0.signs ns (after_moves start (take i w))) (sym taken)
+          (subst (λ (ns : List ℕ). CanLay (first_width w given) laid numbers first (first + closed) (get_some w i below).0.signs ns
+          (after_moves start (take i w))) (sym taken)
           (can_lay given all_sides few w legal i laid numbers s (get_some w i below).0 at first (first + closed) place end))),
     )
 
     turn_as : (v : Segment) → IsTurn width laid (record { count = length new; signs = signs }) new v
-        → IsTurn (first_width w given) laid (record { count = length (take (get_some w i below).0.count (drop (length laid) given)); signs = (get_some w i below).0.signs }) (take (get_some w i below).0.count (drop (length laid) given)) v
-    turn_as v t = subst (λ (n : ℕ). IsTurn n laid (record { count = length (take (get_some w i below).0.count (drop (length laid) given)); signs = (get_some w i below).0.signs }) (take (get_some w i below).0.count (drop (length laid) given)) v) width_is
-        (subst (λ (gs : List Sign). IsTurn width laid (record { count = length (take (get_some w i below).0.count (drop (length laid) given)); signs = gs }) (take (get_some w i below).0.count (drop (length laid) given)) v) (sym own_signs)
+        → IsTurn (first_width w given) laid (record {
+          count = length (take (get_some w i below).0.count (drop (length laid) given));
+          signs =
+              (get_some w i below).0.signs;
+        }) (take (get_some w i below).0.count (drop (length laid) given)) v
+    turn_as v t = subst (λ (n : ℕ). IsTurn n laid
+        (record { count = length (take (get_some w i below).0.count (drop (length laid) given)); signs = (get_some w i below).0.signs })
+        (take (get_some w i below).0.count (drop (length laid) given)) v) width_is
+        (subst (λ (gs : List Sign). IsTurn width laid
+        (record { count = length (take (get_some w i below).0.count (drop (length laid) given)); signs = gs })
+        (take (get_some w i below).0.count (drop (length laid) given)) v) (sym own_signs)
         (subst (λ (ns : List ℕ). IsTurn width laid (record { count = length ns; signs = signs }) ns v) taken t))
 
-    turn_back : (v : Segment) → IsTurn (first_width w given) laid (record { count = length (take (get_some w i below).0.count (drop (length laid) given)); signs = (get_some w i below).0.signs }) (take (get_some w i below).0.count (drop (length laid) given)) v
+    turn_back : (v : Segment) → IsTurn (first_width w given) laid
+        (record { count = length (take (get_some w i below).0.count (drop (length laid) given)); signs = (get_some w i below).0.signs })
+        (take (get_some w i below).0.count (drop (length laid) given)) v
         → IsTurn width laid (record { count = length new; signs = signs }) new v
     turn_back v t = subst (λ (ns : List ℕ). IsTurn width laid (record { count = length ns; signs = signs }) ns v) (sym taken)
-        (subst (λ (gs : List Sign). IsTurn width laid (record { count = length (take (get_some w i below).0.count (drop (length laid) given)); signs = gs }) (take (get_some w i below).0.count (drop (length laid) given)) v) own_signs
-        (subst (λ (n : ℕ). IsTurn n laid (record { count = length (take (get_some w i below).0.count (drop (length laid) given)); signs = (get_some w i below).0.signs }) (take (get_some w i below).0.count (drop (length laid) given)) v) (sym width_is) t))
+        (subst (λ (gs : List Sign). IsTurn width laid
+        (record { count = length (take (get_some w i below).0.count (drop (length laid) given)); signs = gs })
+        (take (get_some w i below).0.count (drop (length laid) given)) v) own_signs
+        (subst (λ (n : ℕ). IsTurn n laid (record {
+          count = length (take (get_some w i below).0.count (drop (length laid) given));
+          signs =
+              (get_some w i below).0.signs;
+        }) (take (get_some w i below).0.count (drop (length laid) given)) v) (sym width_is) t))
 
     pub step_none : ((v : Segment) → IsTurn width laid (record { count = length new; signs = signs }) new v → ⊥) → (t : Tiling) → IsLaidWith w given t → ⊥
-    step_none never = placed_none given all_sides few w legal i laid numbers s (get_some w i below).0 at first (first + closed) place end (λ v t. never v (turn_back v t))
+    step_none never = placed_none given all_sides few w legal i laid numbers s (get_some w i below).0 at first (first + closed) place end
+        (λ v t. never v (turn_back v t))
 
-    pub step_more : (next : List Square) (next_numbers : List ℕ) → (v : Segment) × (IsTurn width laid (record { count = length new; signs = signs }) new v × (next ≡ laid ++ laid_group v.x v.level new))
-        → next_numbers ≡ (take first numbers ++ numbers_from (length laid + 1) (length new)) ++ drop (first + closed) numbers → IsPlacedTo w given (i + 1) next next_numbers
-    step_more next next_numbers (v, (t, e)) f = subst (λ (l : List Square). IsPlacedTo w given (i + 1) l next_numbers) (sym (e ∙ ap (λ (ns : List ℕ). laid ++ laid_group v.x v.level ns) taken))
-        (subst (IsPlacedTo w given (i + 1) (laid ++ laid_group v.x v.level (take (get_some w i below).0.count (drop (length laid) given)))) (sym (f ∙ ap (λ (ns : List ℕ). (take first numbers ++ numbers_from (length laid + 1) (length ns)) ++ drop (first + closed) numbers) taken))
+    pub step_more : (next : List Square) (next_numbers : List ℕ) → (v : Segment)
+        × (IsTurn width laid (record { count = length new; signs = signs }) new v × (next ≡ laid ++ laid_group v.x v.level new))
+        → next_numbers ≡ (take first numbers ++ numbers_from (length laid + 1) (length new)) ++ drop (first + closed) numbers
+        → IsPlacedTo w given (i + 1) next next_numbers
+    step_more next next_numbers (v, (t, e)) f =
+        subst (λ (l : List Square). IsPlacedTo w given (i + 1) l next_numbers) (sym (e ∙ ap (λ (ns : List ℕ). laid ++ laid_group v.x v.level ns) taken))
+        (subst (IsPlacedTo w given (i + 1) (laid ++ laid_group v.x v.level (take (get_some w i below).0.count (drop (length laid) given))))
+        (sym (f ∙ ap (λ (ns : List ℕ). (take first numbers ++ numbers_from (length laid + 1) (length ns)) ++ drop (first + closed) numbers) taken))
         (placed_more given all_sides few w legal i laid numbers s (get_some w i below).0 at first (first + closed) place end v (turn_as v t)))
 
-pub first_is_there : (w : Word) (complete : IsComplete w) (given : List ℕ) → AllByRecursion IsSide given → length given ≤ MOST_SQUARES → length given ≡ order_of w → (turn : Turn) → SaysWhere w 0 turn → (from : ℕ) → from ≡ turn.count → from ≡ length (take from given)
+pub first_is_there : (w : Word) (complete : IsComplete w) (given : List ℕ) → AllByRecursion IsSide given → length given ≤ MOST_SQUARES
+    → length given ≡ order_of w → (turn : Turn) → SaysWhere w 0 turn → (from : ℕ) → from ≡ turn.count → from ≡ length (take from given)
 first_is_there w complete given all_sides few count turn says from e =
-    sym (length-take-le from given (omega (arith, e, sides_there w complete.legal given all_sides few 0 complete.some [] [] (placed_start given all_sides few w complete count) turn says)))
+    sym (length-take-le from given (omega (
+      arith,
+      e,
+      sides_there w complete.legal given all_sides few 0 complete.some [] [] (placed_start given all_sides few w complete count) turn says,
+    )))
 
-pub width_as : (w : Word) (given : List ℕ) (turn : Turn) (from sum_is : ℕ) → 0 < length w → SaysWhere w 0 turn → from ≡ turn.count → sum_is ≡ sum (take from given) → sum_is ≡ first_width w given
+pub width_as : (w : Word) (given : List ℕ) (turn : Turn) (from sum_is : ℕ) → 0 < length w → SaysWhere w 0 turn → from ≡ turn.count
+    → sum_is ≡ sum (take from given) → sum_is ≡ first_width w given
 width_as [] given turn from sum_is h says e f = absurd (omega arith)
 width_as (m ∷ w) given turn from sum_is h says e f = f ∙ ap (λ (k : ℕ). sum (take k given)) (e ∙ says.count m refl)
 
-pub start_as : (w : Word) (given : List ℕ) (laid : List Square) (numbers : List ℕ) → laid ≡ [] → numbers ≡ [] → IsPlacedTo w given 0 [] [] → IsPlacedTo w given 0 laid numbers
+pub start_as : (w : Word) (given : List ℕ) (laid : List Square) (numbers : List ℕ) → laid ≡ [] → numbers ≡ [] → IsPlacedTo w given 0 [] []
+    → IsPlacedTo w given 0 laid numbers
 start_as w given laid numbers e f s = subst (λ (l : List Square). IsPlacedTo w given 0 l numbers) (sym e) (subst (IsPlacedTo w given 0 []) (sym f) s)
 
-module _ (w : Word) (complete : IsComplete w) (given : List ℕ) (all_sides : AllByRecursion IsSide given) (few : length given ≤ MOST_SQUARES) (count : length given ≡ order_of w) (i : ℕ) (done : length w ≤ i)
-    (laid : List Square) (numbers seen : List ℕ) (s : IsPlacedTo w given i laid numbers) (width : ℕ) (width_is : width ≡ first_width w given) (seen_is : seen ≡ numbers) where
+module _ (w : Word) (complete : IsComplete w) (given : List ℕ) (all_sides : AllByRecursion IsSide given) (few : length given ≤ MOST_SQUARES)
+    (count : length given ≡ order_of w) (i : ℕ) (done : length w ≤ i)
+    (laid : List Square) (numbers seen : List ℕ) (s : IsPlacedTo w given i laid numbers) (width : ℕ)
+    (width_is : width ≡ first_width w given) (seen_is : seen ≡ numbers) where
   pub end_can : (o : Outline) × IsClosed width laid seen o
   end_can = (
     outline_of w,
-    subst (λ (n : ℕ). IsClosed n laid seen (outline_of w)) (sym width_is) (subst (λ (ns : List ℕ). IsClosed (first_width w given) laid ns (outline_of w)) (sym seen_is) (placed_closed given all_sides few w complete count i done laid numbers s)),
+    subst (λ (n : ℕ). IsClosed n laid seen (outline_of w)) (sym width_is)
+        (subst (λ (ns : List ℕ). IsClosed (first_width w given) laid ns (outline_of w)) (sym seen_is)
+        (placed_closed given all_sides few w complete count i done laid numbers s)),
   )
 
   pub end_is : (t : Tiling) → t ≡ record { width = width; height = depth laid 0; squares = in_code_order laid } → IsLaidWith w given t
-  end_is t e = subst (IsLaidWith w given) (sym (e ∙ ap (λ (n : ℕ). record { width = n; height = depth laid 0; squares = in_code_order laid }) width_is)) (placed_end given all_sides few w complete count i done laid numbers s)
+  end_is t e = subst (IsLaidWith w given) (sym
+      (e ∙ ap (λ (n : ℕ). record { width = n; height = depth laid 0; squares = in_code_order laid }) width_is))
+      (placed_end given all_sides few w complete count i done laid numbers s)

@@ -4,7 +4,7 @@ use Rattle.bk_word.proofs.StoredBytes.{order_more}
 use Rattle.bk_word.specs.Outline.{IsLegalMove, start}
 use Rattle.bk_word.specs.Play.{IsLegal, outline_of}
 use Rattle.bk_word.specs.Word.{Move, Word, order_of}
-use Rattle.bk_skel.proofs.StoredMoves.{legal-last, legal-snoc}
+use Rattle.bk_word.proofs.PlayLaws.{legal-last, legal-snoc}
 use Rattle.bk_skel.specs.SolveRefusal.{IsFirstIllegal}
 
 pub take_more : (w : Word) (i : ℕ) (m : Move) → slice_get w i ≡ Some m → take (i + 1) w ≡ take i w ++ m ∷ []

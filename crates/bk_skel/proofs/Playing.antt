@@ -7,12 +7,14 @@ use Rattle.bk_word.specs.Word.{Move, Word, order_of}
 use Rattle.bk_word.specs.declared.Sign.{Sign}
 use Rattle.bk_word.specs.declared.TheConstants.{LARGEST_ORDER}
 use Rattle.bk_skel.proofs.SkelFacts.{Counted, Touches, counted, stored_move, touches}
-use Rattle.bk_skel.proofs.StoredMoves.{moves_many, signs_many, stored_word, turns_many}
+use Rattle.bk_word.proofs.PlayLaws.{moves_many}
+use Rattle.bk_skel.proofs.StoredMoves.{signs_many, stored_word, turns_many}
 use Rattle.bk_skel.specs.Skeleton.{IsStored, first_touched, moves_stored, open_sides, sizes_after, turn_at}
 use Rattle.bk_skel.specs.declared.turns.Turn.{Turn}
 
 -- the move is legal, and what it needs of the lists is there
-pub record Playing (w : Word) (m : Move) (ends sizes : List ℕ) (signs : List Sign) (closed : List ℕ) (turns : List Turn) (played : List Sign) (turn : Turn) : Type 0 where
+pub record Playing (w : Word) (m : Move) (ends sizes : List ℕ) (signs : List Sign) (closed : List ℕ) (turns : List Turn)
+    (played : List Sign) (turn : Turn) : Type 0 where
   pub legal : IsLegalMove (outline_of w) m
   pub few : order_of w + m.count ≤ LARGEST_ORDER
   pub turn_is : turn ≡ turn_at sizes signs m (length played)
@@ -28,8 +30,10 @@ pub record Playing (w : Word) (m : Move) (ends sizes : List ℕ) (signs : List S
   pub played_fit : length played + length m.signs ≤ 400
   pub turns_fit : length turns < 200
 
-pub playing_at : (w : Word) (m : Move) (ends sizes : List ℕ) (signs : List Sign) (closed : List ℕ) (turns : List Turn) (played : List Sign) (turn : Turn) → IsStored w ends sizes signs closed turns played
-    → IsLegalMove (outline_of w) m → order_of w + m.count ≤ LARGEST_ORDER → turn ≡ turn_at sizes signs m (length played) → Playing w m ends sizes signs closed turns played turn
+pub playing_at : (w : Word) (m : Move) (ends sizes : List ℕ) (signs : List Sign) (closed : List ℕ) (turns : List Turn) (played : List Sign)
+    (turn : Turn) → IsStored w ends sizes signs closed turns played
+    → IsLegalMove (outline_of w) m → order_of w + m.count ≤ LARGEST_ORDER → turn ≡ turn_at sizes signs m (length played)
+    → Playing w m ends sizes signs closed turns played turn
 playing_at w m ends sizes signs closed turns played turn s legal few e = record {
   legal = legal;
   few = few;
@@ -51,25 +55,32 @@ playing_at w m ends sizes signs closed turns played turn s legal few e = record 
     c = counted w ends sizes signs closed s.kept s.shows
 
     t : Touches w m ends sizes signs closed turn
-    t = subst (Touches w m ends sizes signs closed) (sym (e ∙ (λ i. turn_at ((s.shows).sizes_are i) ((s.shows).signs_are i) m (length played)))) (touches w m ends sizes signs closed (length played) s.kept s.shows legal few)
+    t = subst (Touches w m ends sizes signs closed)
+        (sym (e ∙ (λ i. turn_at ((s.shows).sizes_are i) ((s.shows).signs_are i) m (length played))))
+        (touches w m ends sizes signs closed (length played) s.kept s.shows legal few)
 
 -- the same where the values are read
-pub playing : {w : Word} {ends sizes : List ℕ} {signs : List Sign} {closed : List ℕ} {turns : List Turn} {played : List Sign} → IsStored w ends sizes signs closed turns played
-    → (now : Word) (count : ℕ) (moved : List Sign) (m : Move) → w ≡ now → record { count = count; signs = moved } ≡ m → IsLegalMove (outline_of now) m → order_of now + m.count ≤ LARGEST_ORDER
-    → (turn : Turn) (read_sizes : List ℕ) (read_signs read_moved : List Sign) (from : ℕ) → turn ≡ turn_at read_sizes read_signs (record { count = count; signs = read_moved }) from
+pub playing : {w : Word} {ends sizes : List ℕ} {signs : List Sign} {closed : List ℕ} {turns : List Turn} {played : List Sign}
+    → {now : Word} {count : ℕ} {moved : List Sign} {m : Move} {turn : Turn} {read_sizes : List ℕ} {read_signs read_moved : List Sign} {from : ℕ}
+    → IsStored w ends sizes signs closed turns played → w ≡ now → record { count = count; signs = moved } ≡ m
+    → IsLegalMove (outline_of now) m → order_of now + m.count ≤ LARGEST_ORDER
+    → turn ≡ turn_at read_sizes read_signs (record { count = count; signs = read_moved }) from
     → read_sizes ≡ sizes → read_signs ≡ signs → read_moved ≡ moved → from ≡ length played
     → Playing w (record { count = count; signs = moved }) ends sizes signs closed turns played turn
-playing {w = w} {ends = ends} {sizes = sizes} {signs = signs} {closed = closed} {turns = turns} {played = played} s now count moved m e f legal few turn read_sizes read_signs read_moved from g a b d h =
+playing {w} {ends} {sizes} {signs} {closed} {turns} {played} {now} {count} {moved} {m} {turn} {read_sizes} {read_signs} {read_moved} {from} s e f
+    legal few g a b d h =
     playing_at w (record { count = count; signs = moved }) ends sizes signs closed turns played turn s
     (subst (λ (p : Word × Move). IsLegalMove (outline_of p.0) p.1) (λ i. (sym e i, sym f i)) legal)
     (omega (arith, few, ap order_of e, ap (λ (m : Move). m.count) f))
     (g ∙ (λ i. turn_at (a i) (b i) (record { count = count; signs = d i }) (h i)))
 
 -- what is stored is stored of the moves that it shows
-pub moves_shown : {w : Word} {ends sizes : List ℕ} {signs : List Sign} {closed : List ℕ} {turns : List Turn} {played : List Sign} → IsStored w ends sizes signs closed turns played → moves_stored turns played ≡ w
+pub moves_shown : {w : Word} {ends sizes : List ℕ} {signs : List Sign} {closed : List ℕ} {turns : List Turn} {played : List Sign}
+    → IsStored w ends sizes signs closed turns played → moves_stored turns played ≡ w
 moves_shown {w = w} s = (λ i. moves_stored (s.turns_are i) (s.played_are i)) ∙ stored_word w
 
-pub stored_shown : (w : Word) (ends sizes : List ℕ) (signs : List Sign) (closed : List ℕ) (turns : List Turn) (played : List Sign) → IsStored w ends sizes signs closed turns played → IsStored (moves_stored turns played) ends sizes signs closed turns played
+pub stored_shown : (w : Word) (ends sizes : List ℕ) (signs : List Sign) (closed : List ℕ) (turns : List Turn) (played : List Sign)
+    → IsStored w ends sizes signs closed turns played → IsStored (moves_stored turns played) ends sizes signs closed turns played
 stored_shown w ends sizes signs closed turns played s = subst (λ (v : Word). IsStored v ends sizes signs closed turns played) (sym (moves_shown s)) s
 
 -- the lists after a move, by those before it
@@ -84,12 +95,27 @@ pub record Played (m : Move) (ends sizes : List ℕ) (signs : List Sign) (closed
 
 pub stored_played : {w : Word} {m : Move} {ends sizes : List ℕ} {signs : List Sign} {closed : List ℕ} {turns : List Turn} {played : List Sign} {turn : Turn}
     {new_ends new_sizes : List ℕ} {new_signs : List Sign} {new_closed : List ℕ} {new_turns : List Turn} {new_played : List Sign}
-    → IsStored w ends sizes signs closed turns played → Playing w m ends sizes signs closed turns played turn → Played m ends sizes signs closed turns played turn new_ends new_sizes new_signs new_closed new_turns new_played
+    → IsStored w ends sizes signs closed turns played → Playing w m ends sizes signs closed turns played turn
+    → Played m ends sizes signs closed turns played turn new_ends new_sizes new_signs new_closed new_turns new_played
     → IsStored (w ++ m ∷ []) new_ends new_sizes new_signs new_closed new_turns new_played
-stored_played {w = w} {m = m} {ends = ends} {sizes = sizes} {signs = signs} {closed = closed} {turns = turns} {played = played} {turn = turn} {new_ends = new_ends} {new_sizes = new_sizes} {new_signs = new_signs} {new_closed = new_closed} {new_turns = new_turns} {new_played = new_played} s p n =
+stored_played {w = w} {m = m} {ends = ends} {sizes = sizes} {signs = signs} {closed = closed} {turns = turns} {played = played}
+    {turn = turn} {new_ends = new_ends} {new_sizes = new_sizes} {new_signs = new_signs} {new_closed = new_closed} {new_turns = new_turns}
+    {new_played = new_played} s p n =
     subst (λ (l : List ℕ). IsStored (w ++ m ∷ []) l new_sizes new_signs new_closed new_turns new_played) (sym n.ends_new)
-    (subst (λ (l : List ℕ). IsStored (w ++ m ∷ []) (splice ends turn.first (turn.first + turn.closed) (numbers_from (length ends + length closed + 1) m.count)) l new_signs new_closed new_turns new_played) (sym n.sizes_new)
-    (subst (λ (l : List Sign). IsStored (w ++ m ∷ []) (splice ends turn.first (turn.first + turn.closed) (numbers_from (length ends + length closed + 1) m.count)) (splice sizes (first_touched turn) (first_touched turn + (open_sides turn + 1)) (sizes_after turn m.signs)) l new_closed new_turns new_played) (sym n.signs_new)
-    (subst (λ (l : List ℕ). IsStored (w ++ m ∷ []) (splice ends turn.first (turn.first + turn.closed) (numbers_from (length ends + length closed + 1) m.count)) (splice sizes (first_touched turn) (first_touched turn + (open_sides turn + 1)) (sizes_after turn m.signs)) (splice signs (first_touched turn) (first_touched turn + open_sides turn) (filter parts m.signs)) l new_turns new_played) (sym n.closed_new)
-    (subst (λ (l : List Turn × List Sign). IsStored (w ++ m ∷ []) (splice ends turn.first (turn.first + turn.closed) (numbers_from (length ends + length closed + 1) m.count)) (splice sizes (first_touched turn) (first_touched turn + (open_sides turn + 1)) (sizes_after turn m.signs)) (splice signs (first_touched turn) (first_touched turn + open_sides turn) (filter parts m.signs)) (closed ++ slice_range ends turn.first (turn.first + turn.closed)) l.0 l.1) (λ i. (sym n.turns_new i, sym n.played_new i))
+    (subst (λ (l : List ℕ). IsStored (w ++ m ∷ [])
+    (splice ends turn.first (turn.first + turn.closed) (numbers_from (length ends + length closed + 1) m.count)) l new_signs new_closed
+    new_turns new_played) (sym n.sizes_new)
+    (subst (λ (l : List Sign). IsStored (w ++ m ∷ [])
+    (splice ends turn.first (turn.first + turn.closed) (numbers_from (length ends + length closed + 1) m.count))
+    (splice sizes (first_touched turn) (first_touched turn + (open_sides turn + 1)) (sizes_after turn m.signs)) l new_closed new_turns
+    new_played) (sym n.signs_new)
+    (subst (λ (l : List ℕ). IsStored (w ++ m ∷ [])
+    (splice ends turn.first (turn.first + turn.closed) (numbers_from (length ends + length closed + 1) m.count))
+    (splice sizes (first_touched turn) (first_touched turn + (open_sides turn + 1)) (sizes_after turn m.signs))
+    (splice signs (first_touched turn) (first_touched turn + open_sides turn) (filter parts m.signs)) l new_turns new_played) (sym n.closed_new)
+    (subst (λ (l : List Turn × List Sign). IsStored (w ++ m ∷ [])
+    (splice ends turn.first (turn.first + turn.closed) (numbers_from (length ends + length closed + 1) m.count))
+    (splice sizes (first_touched turn) (first_touched turn + (open_sides turn + 1)) (sizes_after turn m.signs))
+    (splice signs (first_touched turn) (first_touched turn + open_sides turn) (filter parts m.signs))
+    (closed ++ slice_range ends turn.first (turn.first + turn.closed)) l.0 l.1) (λ i. (sym n.turns_new i, sym n.played_new i))
     (stored_move w m ends sizes signs closed turns played turn s p.legal p.few p.turn_is)))))

@@ -18,7 +18,8 @@ abbrev segment : ℕ → ℕ → ℕ → Segment
 segment x width level = record { x = x; width = width; level = level }
 
 abbrev laid_65x47 : List Square
-laid_65x47 = laid_group 0 0 (25 ∷ 17 ∷ 23 ∷ []) ++ laid_group 25 17 (11 ∷ 6 ∷ []) ++ laid_group 0 25 (22 ∷ 3 ∷ []) ++ laid_group 36 23 (5 ∷ 24 ∷ []) ++ laid_group 22 28 (19 ∷ [])
+laid_65x47 = laid_group 0 0 (25 ∷ 17 ∷ 23 ∷ []) ++ laid_group 25 17 (11 ∷ 6 ∷ []) ++ laid_group 0 25 (22 ∷ 3 ∷ [])
+    ++ laid_group 36 23 (5 ∷ 24 ∷ []) ++ laid_group 22 28 (19 ∷ [])
 
 laid-65x47 : IsLaidWith word_65x47 (25 ∷ 17 ∷ 23 ∷ 11 ∷ 6 ∷ 22 ∷ 3 ∷ 5 ∷ 24 ∷ 19 ∷ []) rectangle_65x47
 laid-65x47 = record {

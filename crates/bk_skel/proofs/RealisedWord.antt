@@ -40,20 +40,23 @@ open_end skel w same some legal never = (legal, cases (three (length (outline_of
     three : (n : ℕ) → (n ≡ 0) ⊎ (n ≡ 1) ⊎ (1 < n)
     three n = grind arith
 
-    cases : (length (outline_of w).segments ≡ 0) ⊎ (length (outline_of w).segments ≡ 1) ⊎ (1 < length (outline_of w).segments) → 1 < length (outline_of w).segments
+    cases : (length (outline_of w).segments ≡ 0) ⊎ (length (outline_of w).segments ≡ 1) ⊎ (1 < length (outline_of w).segments)
+        → 1 < length (outline_of w).segments
     cases (inl e) = absurd (omega (arith, e, shaped.many))
     cases (inr (inl e)) = absurd (never (subst IsComplete (sym same) (record { legal = legal; some = some; one = e })))
     cases (inr (inr h)) = h
 
 -- where the net isn't wide, the word is wide by its currents
-pub wide_by_currents : {E : Type 0} → (w : Word) → (IsWide (net_of_word w) → ⊥) → (E → HasLargeCurrent (net_of_word w)) × (HasLargeCurrent (net_of_word w) → E) → (E → IsWideWord w) × (IsWideWord w → E)
+pub wide_by_currents : {E : Type 0} → (w : Word) → (IsWide (net_of_word w) → ⊥) → (E → HasLargeCurrent (net_of_word w))
+    × (HasLargeCurrent (net_of_word w) → E) → (E → IsWideWord w) × (IsWideWord w → E)
 wide_by_currents {E} w never both = (λ e. inr (both.0 e), λ wide. from wide)
   where
     from : IsWideWord w → E
     from (inl wide) = absurd (never wide)
     from (inr large) = both.1 large
 
-module _ (skel w : Word) (same : skel ≡ w) (complete : IsComplete skel) (net : Net) (is : net ≡ net_of_word skel) (fault : FlowFault) (refused : IsRefusedFor fault net) where
+module _ (skel w : Word) (same : skel ≡ w) (complete : IsComplete skel) (net : Net) (is : net ≡ net_of_word skel) (fault : FlowFault)
+    (refused : IsRefusedFor fault net) where
   pub memory_fault : fault ≡ NoMemory → IsComplete w × (16 < order_of w)
   memory_fault e = (subst IsComplete same complete, from (subst (λ (f : FlowFault). IsRefusedFor f net) e refused))
     where
@@ -75,7 +78,8 @@ module _ (skel w : Word) (same : skel ≡ w) (complete : IsComplete skel) (net :
 pub large_word : (skel w : Word) → skel ≡ w → IsComplete skel → HasLargeCurrent (net_of_word skel) → IsComplete w × IsWideWord w
 large_word skel w same complete large = (subst IsComplete same complete, subst IsWideWord same (inr large))
 
-pub not_wide : (skel w : Word) (net : Net) → skel ≡ w → net ≡ net_of_word skel → (IsWide net → ⊥) → (HasLargeCurrent (net_of_word skel) → false ≡ true) → IsWideWord w → ⊥
+pub not_wide : (skel w : Word) (net : Net) → skel ≡ w → net ≡ net_of_word skel → (IsWide net → ⊥)
+    → (HasLargeCurrent (net_of_word skel) → false ≡ true) → IsWideWord w → ⊥
 not_wide skel w net same is never small wide = from (subst IsWideWord (sym same) wide)
   where
     impossible : false ≡ true → ⊥

@@ -15,7 +15,8 @@ pub behind_room : {X : Type 0} (old grown moved new : List X) (start end room le
     → moved ≡ copy_within grown end len (start + room) → new ≡ take (start + room + (len - end)) moved
     → drop (start + room) new ≡ drop end old
 behind_room old grown moved new start end room len order within same long fits front copied cut =
-    ap (drop (start + room)) (cut ∙ ap (take (start + room + (len - end))) copied ∙ take-paste grown (start + room) (drop end grown) (len - end) (omega arith) (omega (arith, length-drop end grown)))
+    ap (drop (start + room)) (cut ∙ ap (take (start + room + (len - end))) copied
+    ∙ take-paste grown (start + room) (drop end grown) (len - end) (omega arith) (omega (arith, length-drop end grown)))
     ∙ drop_at (take (start + room) grown) (take (len - end) (drop end grown)) (start + room) (length-take-le (start + room) grown (omega arith))
     ∙ take_dropped grown end len (omega arith) ∙ ap (drop end) (ap (λ n. take n grown) same ∙ front)
 
@@ -37,14 +38,16 @@ room_made {X = X} old grown shown moved new start end room len order within same
 
 -- the last item of a room is written
 pub last_put : {X : Type 0} (room : List X) (place : ℕ) (x : X) → length room ≡ place + 1 → set room place x ≡ take place room ++ x ∷ []
-last_put room place x e = sym (take_all (place + 1) (set room place x) (omega (arith, length-set room place x, e))) ∙ take-set_at room place (place + 1) x refl (omega (arith, e))
+last_put room place x e = sym (take_all (place + 1) (set room place x) (omega (arith, length-set room place x, e)))
+    ∙ take-set_at room place (place + 1) x refl (omega (arith, e))
 
 -- one more number
 pub numbers-snoc : (n k : ℕ) → numbers_from n (suc k) ≡ numbers_from n k ++ (n + k) ∷ []
 numbers-snoc n zero = ap (λ m. m ∷ []) (omega arith)
 numbers-snoc n (suc k) = ap (λ (l : List ℕ). n ∷ l) (numbers-snoc (n + 1) k ∙ ap (λ m. numbers_from (n + 1) k ++ m ∷ []) (omega arith))
 
-pub next_number : (room : List ℕ) (first next index : ℕ) → index < length room → next ≡ first + index → take index room ≡ numbers_from first index → take (index + 1) (set room index next) ≡ numbers_from first (index + 1)
+pub next_number : (room : List ℕ) (first next index : ℕ) → index < length room → next ≡ first + index
+    → take index room ≡ numbers_from first index → take (index + 1) (set room index next) ≡ numbers_from first (index + 1)
 next_number room first next index within e put =
     let more : suc index ≡ index + 1 = omega arith in
     take-set_at room index (index + 1) next refl within ∙ (λ i. put i ++ e i ∷ []) ∙ sym (numbers-snoc first index) ∙ ap (numbers_from first) more

@@ -12,7 +12,8 @@ use Rattle.bk_word.specs.declared.TheConstants.{LARGEST_ORDER}
 use Rattle.bk_word_net.proofs.MovedParts.{many_between, many_segments, many_signs, segments_after}
 use Rattle.bk_skel.proofs.PlayedFlat.{ends_were, shows_move}
 use Rattle.bk_word_net.proofs.Shape.{AllFilled, Filled, Shaped, filled_many, filled_move, filled_parts, hung_many, joined_many, shaped_move, shaped_moves, shaped_start, valley_in}
-use Rattle.bk_skel.proofs.StoredMoves.{after-snoc, few_signs, legal-snoc, signs-snoc, turns-snoc}
+use Rattle.bk_word.proofs.PlayLaws.{after-snoc, few_signs, legal-snoc}
+use Rattle.bk_skel.proofs.StoredMoves.{signs-snoc, turns-snoc}
 use Rattle.bk_skel.proofs.TurnParts.{closed_is, first_is, left_is, right_is, sides_are, start_is, sum_lengths}
 use Rattle.bk_word_net.proofs.ValleyCut.{AtValley}
 use Rattle.bk_skel.specs.Skeleton.{IsStored, Shows, first_touched, open_sides, signs_of, sizes_after, turn_at}
@@ -28,7 +29,8 @@ pub record Counted (w : Word) (ends sizes : List ℕ) (signs : List Sign) (close
   pub few : length sizes ≤ 200
   pub total : sum sizes ≡ length ends
 
-pub counted : (w : Word) (ends sizes : List ℕ) (signs : List Sign) (closed : List ℕ) → IsKeptSkeleton w → Shows (outline_of w) ends sizes signs closed → Counted w ends sizes signs closed
+pub counted : (w : Word) (ends sizes : List ℕ) (signs : List Sign) (closed : List ℕ) → IsKeptSkeleton w
+    → Shows (outline_of w) ends sizes signs closed → Counted w ends sizes signs closed
 counted w ends sizes signs closed kept s = record {
   shaped = shaped;
   hung = hung;
@@ -61,15 +63,29 @@ pub record Touches (w : Word) (m : Move) (ends sizes : List ℕ) (signs : List S
   pub beside : turn.left + turn.closed + turn.right ≤ length ends
   pub few_signs : length m.signs ≤ m.count + 1
 
-pub touches : (w : Word) (m : Move) (ends sizes : List ℕ) (signs : List Sign) (closed : List ℕ) (from : ℕ) → IsKeptSkeleton w → Shows (outline_of w) ends sizes signs closed
-    → IsLegalMove (outline_of w) m → order_of w + m.count ≤ 200 → Touches w m ends sizes signs closed (turn_at (segment_sizes (outline_of w)) (outline_of w).signs m from)
+pub touches : (w : Word) (m : Move) (ends sizes : List ℕ) (signs : List Sign) (closed : List ℕ) (from : ℕ) → IsKeptSkeleton w
+    → Shows (outline_of w) ends sizes signs closed
+    → IsLegalMove (outline_of w) m → order_of w + m.count ≤ 200
+    → Touches w m ends sizes signs closed (turn_at (segment_sizes (outline_of w)) (outline_of w).signs m from)
 touches w m ends sizes signs closed from kept s legal room = record {
   first = omega (arith, first_is (outline_of w) c.shaped m from v f, closed_is (outline_of w) c.shaped m from v f, squares);
   sizes_within = omega (arith, start_is (outline_of w) c.shaped m from v f, sides_are (outline_of w) c.shaped m from v f, many_segments (outline_of w) v, long);
-  signs_within = omega (arith, start_is (outline_of w) c.shaped m from v f, sides_are (outline_of w) c.shaped m from v f, many_signs (outline_of w) v, ap length s.signs_are);
+  signs_within = omega (
+    arith,
+    start_is (outline_of w) c.shaped m from v f,
+    sides_are (outline_of w) c.shaped m from v f,
+    many_signs (outline_of w) v,
+    ap length s.signs_are,
+  );
   sizes_fit = omega (arith, sides_are (outline_of w) c.shaped m from v f, many_segments (outline_of w) v, long, after_long, after_few);
   signs_fit = omega (arith, sides_are (outline_of w) c.shaped m from v f, many_signs (outline_of w) v, ap length s.signs_are, after_long, after_few);
-  beside = omega (arith, left_is (outline_of w) c.shaped m from v f, closed_is (outline_of w) c.shaped m from v f, right_is (outline_of w) c.shaped m from v f, squares);
+  beside = omega (
+    arith,
+    left_is (outline_of w) c.shaped m from v f,
+    closed_is (outline_of w) c.shaped m from v f,
+    right_is (outline_of w) c.shaped m from v f,
+    squares,
+  );
   few_signs = few_signs (outline_of w) m legal;
 }
   where
@@ -98,7 +114,8 @@ touches w m ends sizes signs closed from kept s legal room = record {
     after_long = ap length (segments_after (outline_of w) v m legal)
         ∙ length-append v.before (joined m.signs (v.left ++ (map (λ q. q ∷ []) (new_squares (outline_of w) m) ++ v.right)) ++ v.after)
         ∙ ap (λ n. length v.before + n) (length-append (joined m.signs (v.left ++ (map (λ q. q ∷ []) (new_squares (outline_of w) m) ++ v.right))) v.after
-        ∙ ap (λ n. n + length v.after) (joined_many m.signs (v.left ++ (map (λ q. q ∷ []) (new_squares (outline_of w) m) ++ v.right)) (many_between (outline_of w) v m legal) ∙ ap (λ n. n + 1) (length-filter parts m.signs)))
+        ∙ ap (λ n. n + length v.after) (joined_many m.signs (v.left ++ (map (λ q. q ∷ []) (new_squares (outline_of w) m) ++ v.right))
+        (many_between (outline_of w) v m legal) ∙ ap (λ n. n + 1) (length-filter parts m.signs)))
 
     after_few : length (after_move (outline_of w) m).segments ≤ 200
     after_few = omega (
@@ -113,7 +130,8 @@ touches w m ends sizes signs closed from kept s legal room = record {
 
 -- what is stored after a legal move
 pub stored_move : (w : Word) (m : Move) (ends sizes : List ℕ) (signs : List Sign) (closed : List ℕ) (turns : List Turn) (played : List Sign) (turn : Turn)
-    → IsStored w ends sizes signs closed turns played → IsLegalMove (outline_of w) m → order_of w + m.count ≤ LARGEST_ORDER → turn ≡ turn_at sizes signs m (length played)
+    → IsStored w ends sizes signs closed turns played → IsLegalMove (outline_of w) m → order_of w + m.count ≤ LARGEST_ORDER
+    → turn ≡ turn_at sizes signs m (length played)
     → IsStored (w ++ m ∷ [])
     (splice ends turn.first (turn.first + turn.closed) (numbers_from (length ends + length closed + 1) m.count))
     (splice sizes (first_touched turn) (first_touched turn + (open_sides turn + 1)) (sizes_after turn m.signs))
@@ -147,11 +165,13 @@ stored_move w m ends sizes signs closed turns played turn s legal room e = recor
         (splice sizes (first_touched turn) (first_touched turn + (open_sides turn + 1)) (sizes_after turn m.signs))
         (splice signs (first_touched turn) (first_touched turn + open_sides turn) (filter parts m.signs))
         (closed ++ slice_range ends turn.first (turn.first + turn.closed))
-    shown = subst (λ (t : Turn). Shows (after_move (outline_of w) m) (splice ends t.first (t.first + t.closed) (numbers_from (length ends + length closed + 1) m.count))
+    shown = subst (λ (t : Turn). Shows (after_move (outline_of w) m)
+        (splice ends t.first (t.first + t.closed) (numbers_from (length ends + length closed + 1) m.count))
         (splice sizes (first_touched t) (first_touched t + (open_sides t + 1)) (sizes_after t m.signs))
         (splice signs (first_touched t) (first_touched t + open_sides t) (filter parts m.signs))
         (closed ++ slice_range ends t.first (t.first + t.closed))) (sym turn_was)
-        (subst (λ (n : ℕ). let t : Turn = turn_at (segment_sizes (outline_of w)) (outline_of w).signs m (length played) in Shows (after_move (outline_of w) m) (splice ends t.first (t.first + t.closed) (numbers_from n m.count))
+        (subst (λ (n : ℕ). let t : Turn = turn_at (segment_sizes (outline_of w)) (outline_of w).signs m (length played) in
+        Shows (after_move (outline_of w) m) (splice ends t.first (t.first + t.closed) (numbers_from n m.count))
         (splice sizes (first_touched t) (first_touched t + (open_sides t + 1)) (sizes_after t m.signs))
         (splice signs (first_touched t) (first_touched t + open_sides t) (filter parts m.signs))
         (closed ++ slice_range ends t.first (t.first + t.closed))) (sym number)
@@ -176,7 +196,8 @@ snoc_one {A = A} (a ∷ c ∷ xs) [] x y e = absurd (longer a c y (xs ++ x ∷ [
   where
     longer : (a c y : A) (l : List A) → a ∷ c ∷ l ≡ y ∷ [] → ⊥
     longer a c y l e = cc
-snoc_one {A = A} (a ∷ xs) (b ∷ ys) x y e = let r = snoc_one xs ys x y (rest (xs ++ x ∷ []) (ys ++ y ∷ []) e) in ((λ i. head (xs ++ x ∷ []) (ys ++ y ∷ []) e i ∷ r.0 i), r.1)
+snoc_one {A = A} (a ∷ xs) (b ∷ ys) x y e = let r = snoc_one xs ys x y (rest (xs ++ x ∷ []) (ys ++ y ∷ []) e) in
+    ((λ i. head (xs ++ x ∷ []) (ys ++ y ∷ []) e i ∷ r.0 i), r.1)
   where
     rest : (l m : List A) → a ∷ l ≡ b ∷ m → l ≡ m
     rest l m e = cc

@@ -1,31 +1,16 @@
 -- A word and the records and signs that are stored of it: one more move, and the last one.
-use Rattle.std.proofs.Common.{Bool, List, [], false, true, ap, arith, length, refl, slice_range, suc, sym, take, ℕ, ◌*◌, ◌++◌, ◌+◌, ◌-◌, ◌<◌, ◌∙◌, ◌∷◌, ◌≡◌, ◌≤◌}
+use Rattle.std.proofs.Common.{List, [], ap, arith, length, refl, slice_range, suc, sym, take, ℕ, ◌*◌, ◌++◌, ◌+◌, ◌-◌, ◌<◌, ◌∙◌, ◌∷◌, ◌≡◌, ◌≤◌}
 use Rattle.std.proofs.lemmas.List.{append-nil, append_assoc, drop_at, length-append, take_at}
 use Rattle.std.proofs.lemmas.Grind.{flat_map-append}
 use Rattle.bk_word.proofs.StoredBytes.{order_more}
-use Rattle.bk_word.specs.Outline.{IsLegalMove, Outline, has_left_wall, has_right_wall, open_side, start}
+use Rattle.bk_word.specs.Outline.{Outline, start}
 use Rattle.bk_word.specs.Play.{AreLegalFrom, after_move, after_moves}
 use Rattle.bk_word.specs.Word.{Move, Word, order_of}
 use Rattle.bk_word.specs.declared.Sign.{Sign}
 use Rattle.bk_skel.specs.Skeleton.{moves_stored, signs_of, turn_at, turns_from}
 use Rattle.bk_skel.specs.Valley.{segment_sizes}
 use Rattle.bk_skel.specs.declared.turns.Turn.{Turn}
-
-pub after-snoc : (o : Outline) (w : Word) (m : Move) → after_moves o (w ++ m ∷ []) ≡ after_move (after_moves o w) m
-after-snoc o [] m = refl
-after-snoc o (n ∷ w) m = after-snoc (after_move o n) w m
-
-pub legal-snoc : (o : Outline) (w : Word) (m : Move) → AreLegalFrom o w → IsLegalMove (after_moves o w) m → AreLegalFrom o (w ++ m ∷ [])
-legal-snoc o [] m legal last = (last, tt)
-legal-snoc o (n ∷ w) m legal last = (legal.0, legal-snoc (after_move o n) w m legal.1 last)
-
-pub legal-front : (o : Outline) (w : Word) (m : Move) → AreLegalFrom o (w ++ m ∷ []) → AreLegalFrom o w
-legal-front o [] m legal = tt
-legal-front o (n ∷ w) m legal = (legal.0, legal-front (after_move o n) w m legal.1)
-
-pub legal-last : (o : Outline) (w : Word) (m : Move) → AreLegalFrom o (w ++ m ∷ []) → IsLegalMove (after_moves o w) m
-legal-last o [] m legal = legal.0
-legal-last o (n ∷ w) m legal = legal-last (after_move o n) w m legal.1
+use Rattle.bk_word.proofs.PlayLaws.{few_signs}
 
 pub signs-cons : (n : Move) (w : Word) → signs_of (n ∷ w) ≡ n.signs ++ signs_of w
 signs-cons n w = refl
@@ -33,10 +18,13 @@ signs-cons n w = refl
 pub signs-snoc : (w : Word) (m : Move) → signs_of (w ++ m ∷ []) ≡ signs_of w ++ m.signs
 signs-snoc w m = flat_map-append (λ (m : Move). m.signs) w (m ∷ []) ∙ ap (λ (l : List Sign). signs_of w ++ l) (append-nil m.signs)
 
-pub turns-snoc : (o : Outline) (from : ℕ) (w : Word) (m : Move) → turns_from o from (w ++ m ∷ []) ≡ turns_from o from w ++ turn_at (segment_sizes (after_moves o w)) (after_moves o w).signs m (from + length (signs_of w)) ∷ []
+pub turns-snoc : (o : Outline) (from : ℕ) (w : Word) (m : Move)
+    → turns_from o from (w ++ m ∷ []) ≡ turns_from o from w
+    ++ turn_at (segment_sizes (after_moves o w)) (after_moves o w).signs m (from + length (signs_of w)) ∷ []
 turns-snoc o from [] m = ap (λ n. turn_at (segment_sizes o) o.signs m n ∷ []) (omega arith)
 turns-snoc o from (n ∷ w) m = ap (λ (l : List Turn). turn_at (segment_sizes o) o.signs n from ∷ l) (turns-snoc (after_move o n) (from + length n.signs) w m
-    ∙ ap (λ k. turns_from (after_move o n) (from + length n.signs) w ++ turn_at (segment_sizes (after_moves (after_move o n) w)) (after_moves (after_move o n) w).signs m k ∷ []) same)
+    ∙ ap (λ k. turns_from (after_move o n) (from + length n.signs) w
+    ++ turn_at (segment_sizes (after_moves (after_move o n) w)) (after_moves (after_move o n) w).signs m k ∷ []) same)
   where
     same : from + length n.signs + length (signs_of w) ≡ from + length (signs_of (n ∷ w))
     same = omega (arith, ap length (signs-cons n w), length-append n.signs (signs_of w))
@@ -44,14 +32,16 @@ turns-snoc o from (n ∷ w) m = ap (λ (l : List Turn). turn_at (segment_sizes o
 -- what is stored of a word is the word
 stored_from : (o : Outline) (from : ℕ) (w : Word) (front : List Sign) → length front ≡ from → moves_stored (turns_from o from w) (front ++ signs_of w) ≡ w
 stored_from o from [] front e = refl
-stored_from o from (n ∷ w) front e = (λ i. record { count = n.count; signs = own i } ∷ moves_stored (turns_from (after_move o n) (from + length n.signs) w) (whole i))
+stored_from o from (n ∷ w) front e = (λ i. record { count = n.count; signs = own i }
+    ∷ moves_stored (turns_from (after_move o n) (from + length n.signs) w) (whole i))
     ∙ ap (λ (l : Word). n ∷ l) (stored_from (after_move o n) (from + length n.signs) w (front ++ n.signs) (omega (arith, e, length-append front n.signs)))
   where
     whole : front ++ signs_of (n ∷ w) ≡ (front ++ n.signs) ++ signs_of w
     whole = sym (append_assoc front n.signs (signs_of w))
 
     own : slice_range (front ++ signs_of (n ∷ w)) from (from + length n.signs) ≡ n.signs
-    own = ap (take (from + length n.signs - from)) (drop_at front (n.signs ++ signs_of w) from e) ∙ take_at n.signs (signs_of w) (from + length n.signs - from) (omega arith)
+    own = ap (take (from + length n.signs - from)) (drop_at front (n.signs ++ signs_of w) from e)
+        ∙ take_at n.signs (signs_of w) (from + length n.signs - from) (omega arith)
 
 pub stored_word : (w : Word) → moves_stored (turns_from start 0 w) (signs_of w) ≡ w
 stored_word w = stored_from start 0 w [] refl
@@ -60,21 +50,17 @@ pub turns_many : (o : Outline) (from : ℕ) (w : Word) → length (turns_from o 
 turns_many o from [] = refl
 turns_many o from (n ∷ w) = ap suc (turns_many (after_move o n) (from + length n.signs) w)
 
--- a legal move has at most one sign more than squares
-pub few_signs : (o : Outline) (m : Move) → IsLegalMove o m → length m.signs ≤ m.count + 1
-few_signs o m legal = omega (arith, legal.signs, one (has_left_wall o), one (has_right_wall o))
-  where
-    one : (b : Bool) → open_side b ≤ 1
-    one true = omega arith
-    one false = omega arith
-
 pub signs_many : (o : Outline) (w : Word) → AreLegalFrom o w → length (signs_of w) ≤ 2 * order_of w
 signs_many o [] legal = omega arith
-signs_many o (m ∷ w) legal = omega (arith, (legal.0).some, few_signs o m legal.0, order_more m w, signs_many (after_move o m) w legal.1, length-append m.signs (signs_of w), ap length (signs-cons m w))
-
-pub moves_many : (o : Outline) (w : Word) → AreLegalFrom o w → length w ≤ order_of w
-moves_many o [] legal = omega arith
-moves_many o (m ∷ w) legal = omega (arith, (legal.0).some, order_more m w, moves_many (after_move o m) w legal.1)
+signs_many o (m ∷ w) legal = omega (
+  arith,
+  (legal.0).some,
+  few_signs o m legal.0,
+  order_more m w,
+  signs_many (after_move o m) w legal.1,
+  length-append m.signs (signs_of w),
+  ap length (signs-cons m w),
+)
 
 -- a word of some moves ends with one
 pub record Ends (w : Word) : Type 0 where

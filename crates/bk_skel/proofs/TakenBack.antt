@@ -14,10 +14,11 @@ use Rattle.bk_word_net.proofs.MovedParts.{many_segments}
 use Rattle.bk_skel.proofs.PlayedFlat.{closed_are, ends_are, ends_were, shows_back, signs_are, sizes_after_many, sizes_are}
 use Rattle.bk_word_net.proofs.Shape.{Filled, Shaped, filled_parts, shaped_moves, shaped_start, valley_in}
 use Rattle.bk_skel.proofs.SkelFacts.{Counted, counted, snoc_one}
-use Rattle.bk_skel.proofs.StoredMoves.{Ends, after-snoc, last_move, legal-front, legal-last, signs-snoc, turns-snoc}
+use Rattle.bk_skel.proofs.StoredMoves.{Ends, last_move, signs-snoc, turns-snoc}
+use Rattle.bk_word.proofs.PlayLaws.{after-snoc, legal-last, legal_front}
 use Rattle.bk_skel.proofs.TurnParts.{closed_is, first_is, sides_are, start_is}
 use Rattle.bk_word_net.proofs.ValleyCut.{AtValley}
-use Rattle.bk_skel.specs.Skeleton.{IsStored, Shows, first_touched, open_sides, signs_before, signs_of, sizes_after, sizes_before, turn_at, turns_from}
+use Rattle.bk_skel.specs.Skeleton.{IsStored, Shows, first_touched, moves_stored, open_sides, signs_before, signs_of, sizes_after, sizes_before, turn_at, turns_from}
 use Rattle.bk_skel.specs.Valley.{IsKeptSkeleton, segment_sizes}
 use Rattle.bk_skel.specs.declared.turns.Turn.{Turn}
 
@@ -44,9 +45,11 @@ pub record TakesBack (w : Word) (ends sizes : List ℕ) (signs : List Sign) (clo
   pub sizes_fit : length sizes - (turn.parted + 1) + (open_sides turn + 1) ≤ LARGEST_ORDER
   pub signs_fit : length signs - turn.parted + open_sides turn ≤ LARGEST_ORDER
 
-module _ (front : Word) (m : Move) (kept : IsKeptSkeleton front) (legal : IsLegalMove (outline_of front) m) (few : order_of front + m.count ≤ 200) (from : ℕ) where
+module _ (front : Word) (m : Move) (kept : IsKeptSkeleton front) (legal : IsLegalMove (outline_of front) m)
+    (few : order_of front + m.count ≤ 200) (from : ℕ) where
   c : Counted front (concat (outline_of front).segments) (segment_sizes (outline_of front)) (outline_of front).signs (concat (outline_of front).closed)
-  c = counted front (concat (outline_of front).segments) (segment_sizes (outline_of front)) (outline_of front).signs (concat (outline_of front).closed) kept (shows_self (outline_of front))
+  c = counted front (concat (outline_of front).segments) (segment_sizes (outline_of front)) (outline_of front).signs
+      (concat (outline_of front).closed) kept (shows_self (outline_of front))
 
   abbrev v : AtValley (outline_of front)
   v = valley_in (outline_of front) c.shaped
@@ -58,9 +61,15 @@ module _ (front : Word) (m : Move) (kept : IsKeptSkeleton front) (legal : IsLega
   turn = turn_at (segment_sizes (outline_of front)) (outline_of front).signs m from
 
   pub closed_in : (closed : List ℕ) → closed ≡ concat (after_move (outline_of front) m).closed → turn.closed ≤ length closed
-  closed_in closed e = omega (arith, closed_is (outline_of front) c.shaped m from v f, ap length (e ∙ closed_are (outline_of front) c.shaped m legal from), length-append (concat (outline_of front).closed) v.valley)
+  closed_in closed e = omega (
+    arith,
+    closed_is (outline_of front) c.shaped m from v f,
+    ap length (e ∙ closed_are (outline_of front) c.shaped m legal from),
+    length-append (concat (outline_of front).closed) v.valley,
+  )
 
-  long_ends : (ends : List ℕ) → ends ≡ concat (after_move (outline_of front) m).segments → length ends ≡ length (concat v.before) + length (concat v.left) + (m.count + (length (concat v.right) + length (concat v.after)))
+  long_ends : (ends : List ℕ) → ends ≡ concat (after_move (outline_of front) m).segments
+      → length ends ≡ length (concat v.before) + length (concat v.left) + (m.count + (length (concat v.right) + length (concat v.after)))
   long_ends ends e = ap length (e ∙ ends_are (outline_of front) c.shaped m legal from) ∙ omega (
     arith,
     length-append (concat v.before ++ concat v.left) (new_squares (outline_of front) m ++ (concat v.right ++ concat v.after)),
@@ -73,7 +82,8 @@ module _ (front : Word) (m : Move) (kept : IsKeptSkeleton front) (legal : IsLega
   pub ends_in : (ends : List ℕ) → ends ≡ concat (after_move (outline_of front) m).segments → turn.first + m.count ≤ length ends
   ends_in ends e = omega (arith, first_is (outline_of front) c.shaped m from v f, long_ends ends e)
 
-  long_sizes : (sizes : List ℕ) → sizes ≡ segment_sizes (after_move (outline_of front) m) → length sizes ≡ length v.before + ((turn.parted + 1) + length v.after)
+  long_sizes : (sizes : List ℕ) → sizes ≡ segment_sizes (after_move (outline_of front) m)
+      → length sizes ≡ length v.before + ((turn.parted + 1) + length v.after)
   long_sizes sizes e = ap length (e ∙ sizes_are (outline_of front) c.shaped m legal from) ∙ omega (
     arith,
     length-append (map length v.before) (sizes_after turn m.signs ++ map length v.after),
@@ -87,7 +97,14 @@ module _ (front : Word) (m : Move) (kept : IsKeptSkeleton front) (legal : IsLega
   sizes_in sizes e = omega (arith, start_is (outline_of front) c.shaped m from v f, long_sizes sizes e)
 
   pub sizes_few : (sizes : List ℕ) → sizes ≡ segment_sizes (after_move (outline_of front) m) → length sizes - (turn.parted + 1) + (open_sides turn + 1) ≤ 200
-  sizes_few sizes e = omega (arith, sides_are (outline_of front) c.shaped m from v f, long_sizes sizes e, many_segments (outline_of front) v, length-map (outline_of front).segments (length {A = ℕ}), c.few)
+  sizes_few sizes e = omega (
+    arith,
+    sides_are (outline_of front) c.shaped m from v f,
+    long_sizes sizes e,
+    many_segments (outline_of front) v,
+    length-map (outline_of front).segments (length {A = ℕ}),
+    c.few,
+  )
 
   long_signs : (signs : List Sign) → signs ≡ (after_move (outline_of front) m).signs → length signs ≡ length v.before + (turn.parted + length v.after)
   long_signs signs e = ap length (e ∙ signs_are (outline_of front) c.shaped m legal from) ∙ omega (
@@ -103,7 +120,14 @@ module _ (front : Word) (m : Move) (kept : IsKeptSkeleton front) (legal : IsLega
   signs_in signs e = omega (arith, start_is (outline_of front) c.shaped m from v f, long_signs signs e)
 
   pub signs_few : (signs : List Sign) → signs ≡ (after_move (outline_of front) m).signs → length signs - turn.parted + open_sides turn ≤ 200
-  signs_few signs e = omega (arith, sides_are (outline_of front) c.shaped m from v f, long_signs signs e, many_segments (outline_of front) v, length-map (outline_of front).segments (length {A = ℕ}), c.few)
+  signs_few signs e = omega (
+    arith,
+    sides_are (outline_of front) c.shaped m from v f,
+    long_signs signs e,
+    many_segments (outline_of front) v,
+    length-map (outline_of front).segments (length {A = ℕ}),
+    c.few,
+  )
 
   -- the squares that stand after the move, without the new ones and with those closed, are those that stood before
   pub ends_few : (ends : List ℕ) → ends ≡ concat (after_move (outline_of front) m).segments → length ends - m.count + turn.closed ≤ 200
@@ -132,26 +156,37 @@ takes_back w ends sizes signs closed turns rest turn played s cut some = back (l
       whole = r.whole;
       stored = record {
         kept = kept;
-        shows = subst (λ (t : Turn). Shows (outline_of r.front) (splice ends t.first (t.first + t.count) (drop (length closed - t.closed) closed)) (splice sizes (first_touched t) (first_touched t + (t.parted + 1)) (sizes_before t))
+        shows = subst (λ (t : Turn). Shows (outline_of r.front)
+            (splice ends t.first (t.first + t.count) (drop (length closed - t.closed) closed))
+            (splice sizes (first_touched t) (first_touched t + (t.parted + 1)) (sizes_before t))
             (splice signs (first_touched t) (first_touched t + t.parted) (signs_before t)) (take (length closed - t.closed) closed)) (sym turn_is)
             (shows_back (outline_of r.front) shaped r.last legal (0 + length (signs_of r.front)) ends sizes signs closed shows);
         turns_are = rest_is;
-        played_are = ap (λ (t : Turn). take t.from played) turn_is ∙ ap (take (0 + length (signs_of r.front))) (s.played_are ∙ ap signs_of r.whole ∙ signs-snoc r.front r.last) ∙ take_at (signs_of r.front) (r.last).signs (0 + length (signs_of r.front)) (omega arith);
+        played_are = ap (λ (t : Turn). take t.from played) turn_is
+            ∙ ap (take (0 + length (signs_of r.front))) (s.played_are ∙ ap signs_of r.whole ∙ signs-snoc r.front r.last)
+            ∙ take_at (signs_of r.front) (r.last).signs (0 + length (signs_of r.front)) (omega arith);
       };
-      closed_within = subst (λ (t : Turn). t.closed ≤ length closed) (sym turn_is) (closed_in r.front r.last kept legal few (0 + length (signs_of r.front)) closed (shows).closed_are);
-      ends_within = subst (λ (t : Turn). t.first + t.count ≤ length ends) (sym turn_is) (ends_in r.front r.last kept legal few (0 + length (signs_of r.front)) ends shows.ends_are);
-      ends_fit = subst (λ (t : Turn). length ends - t.count + t.closed ≤ 200) (sym turn_is) (ends_few r.front r.last kept legal few (0 + length (signs_of r.front)) ends shows.ends_are);
-      sizes_within = subst (λ (t : Turn). first_touched t + (t.parted + 1) ≤ length sizes) (sym turn_is) (sizes_in r.front r.last kept legal few (0 + length (signs_of r.front)) sizes shows.sizes_are);
-      signs_within = subst (λ (t : Turn). first_touched t + t.parted ≤ length signs) (sym turn_is) (signs_in r.front r.last kept legal few (0 + length (signs_of r.front)) signs shows.signs_are);
-      sizes_fit = subst (λ (t : Turn). length sizes - (t.parted + 1) + (open_sides t + 1) ≤ 200) (sym turn_is) (sizes_few r.front r.last kept legal few (0 + length (signs_of r.front)) sizes shows.sizes_are);
-      signs_fit = subst (λ (t : Turn). length signs - t.parted + open_sides t ≤ 200) (sym turn_is) (signs_few r.front r.last kept legal few (0 + length (signs_of r.front)) signs shows.signs_are);
+      closed_within = subst (λ (t : Turn). t.closed ≤ length closed) (sym turn_is)
+          (closed_in r.front r.last kept legal few (0 + length (signs_of r.front)) closed (shows).closed_are);
+      ends_within = subst (λ (t : Turn). t.first + t.count ≤ length ends) (sym turn_is)
+          (ends_in r.front r.last kept legal few (0 + length (signs_of r.front)) ends shows.ends_are);
+      ends_fit = subst (λ (t : Turn). length ends - t.count + t.closed ≤ 200) (sym turn_is)
+          (ends_few r.front r.last kept legal few (0 + length (signs_of r.front)) ends shows.ends_are);
+      sizes_within = subst (λ (t : Turn). first_touched t + (t.parted + 1) ≤ length sizes) (sym turn_is)
+          (sizes_in r.front r.last kept legal few (0 + length (signs_of r.front)) sizes shows.sizes_are);
+      signs_within = subst (λ (t : Turn). first_touched t + t.parted ≤ length signs) (sym turn_is)
+          (signs_in r.front r.last kept legal few (0 + length (signs_of r.front)) signs shows.signs_are);
+      sizes_fit = subst (λ (t : Turn). length sizes - (t.parted + 1) + (open_sides t + 1) ≤ 200) (sym turn_is)
+          (sizes_few r.front r.last kept legal few (0 + length (signs_of r.front)) sizes shows.sizes_are);
+      signs_fit = subst (λ (t : Turn). length signs - t.parted + open_sides t ≤ 200) (sym turn_is)
+          (signs_few r.front r.last kept legal few (0 + length (signs_of r.front)) signs shows.signs_are);
     }
       where
         whole_kept : IsKeptSkeleton (r.front ++ r.last ∷ [])
         whole_kept = subst IsKeptSkeleton r.whole s.kept
 
         kept : IsKeptSkeleton r.front
-        kept = record { legal = legal-front start r.front r.last whole_kept.legal; few = omega (arith, order_one r.front r.last, whole_kept.few) }
+        kept = record { legal = legal_front start r.front (r.last ∷ []) whole_kept.legal; few = omega (arith, order_one r.front r.last, whole_kept.few) }
 
         legal : IsLegalMove (outline_of r.front) r.last
         legal = legal-last start r.front r.last whole_kept.legal
@@ -165,8 +200,10 @@ takes_back w ends sizes signs closed turns rest turn played s cut some = back (l
         shaped : Shaped (outline_of r.front)
         shaped = shaped_moves start r.front kept.legal shaped_start
 
-        pair : (rest ≡ turns_from start 0 r.front) × (turn ≡ turn_at (segment_sizes (outline_of r.front)) (outline_of r.front).signs r.last (0 + length (signs_of r.front)))
-        pair = snoc_one rest (turns_from start 0 r.front) turn (turn_at (segment_sizes (outline_of r.front)) (outline_of r.front).signs r.last (0 + length (signs_of r.front)))
+        pair : (rest ≡ turns_from start 0 r.front)
+            × (turn ≡ turn_at (segment_sizes (outline_of r.front)) (outline_of r.front).signs r.last (0 + length (signs_of r.front)))
+        pair = snoc_one rest (turns_from start 0 r.front) turn
+            (turn_at (segment_sizes (outline_of r.front)) (outline_of r.front).signs r.last (0 + length (signs_of r.front)))
             (sym cut ∙ s.turns_are ∙ ap (turns_from start 0) r.whole ∙ turns-snoc start 0 r.front r.last)
 
         rest_is : rest ≡ turns_from start 0 r.front
@@ -175,22 +212,38 @@ takes_back w ends sizes signs closed turns rest turn played s cut some = back (l
         turn_is : turn ≡ turn_at (segment_sizes (outline_of r.front)) (outline_of r.front).signs r.last (0 + length (signs_of r.front))
         turn_is = pair.1
 
+-- the same of what the code has stored, where it has a move
+pub taken_back : {self : Word} {ends sizes : List ℕ} {signs : List Sign} {closed : List ℕ} {turns rest : List Turn} {turn : Turn} {played : List Sign}
+    → IsStored (moves_stored turns played) ends sizes signs closed turns played → turns ≡ rest ++ turn ∷ [] → 0 < length self
+    → moves_stored turns played ≡ self → TakesBack (moves_stored turns played) ends sizes signs closed rest turn played
+taken_back {self} {ends} {sizes} {signs} {closed} {turns} {rest} {turn} {played} s cut some same =
+    takes_back (moves_stored turns played) ends sizes signs closed turns rest turn played s cut (omega (arith, some, ap (length {A = Move}) same))
+
 -- the lists after a move was taken back, by those before
-pub record Back (ends sizes : List ℕ) (signs : List Sign) (closed : List ℕ) (played : List Sign) (turn : Turn) (new_ends new_sizes : List ℕ) (new_signs : List Sign) (new_closed : List ℕ) (new_played : List Sign) : Type 0 where
+pub record Back (ends sizes : List ℕ) (signs : List Sign) (closed : List ℕ) (played : List Sign) (turn : Turn) (new_ends new_sizes : List ℕ)
+    (new_signs : List Sign) (new_closed : List ℕ) (new_played : List Sign) : Type 0 where
   pub ends_new : new_ends ≡ splice ends turn.first (turn.first + turn.count) (drop (length closed - turn.closed) closed)
   pub sizes_new : new_sizes ≡ splice sizes (first_touched turn) (first_touched turn + (turn.parted + 1)) (sizes_before turn)
   pub signs_new : new_signs ≡ splice signs (first_touched turn) (first_touched turn + turn.parted) (signs_before turn)
   pub closed_new : new_closed ≡ take (length closed - turn.closed) closed
   pub played_new : new_played ≡ take turn.from played
 
-pub stored_back : {w : Word} {ends sizes : List ℕ} {signs : List Sign} {closed : List ℕ} {rest : List Turn} {turn : Turn} {played : List Sign} {new_ends new_sizes : List ℕ} {new_signs : List Sign} {new_closed : List ℕ} {new_played : List Sign}
+pub stored_back : {w : Word} {ends sizes : List ℕ} {signs : List Sign} {closed : List ℕ} {rest : List Turn} {turn : Turn}
+    {played : List Sign} {new_ends new_sizes : List ℕ} {new_signs : List Sign} {new_closed : List ℕ} {new_played : List Sign}
     → (b : TakesBack w ends sizes signs closed rest turn played) → Back ends sizes signs closed played turn new_ends new_sizes new_signs new_closed new_played
     → IsStored b.front new_ends new_sizes new_signs new_closed rest new_played
-stored_back {ends = ends} {sizes = sizes} {signs = signs} {closed = closed} {rest = rest} {turn = turn} {played = played} {new_ends = new_ends} {new_sizes = new_sizes} {new_signs = new_signs} {new_closed = new_closed} {new_played = new_played} b n =
+stored_back {ends = ends} {sizes = sizes} {signs = signs} {closed = closed} {rest = rest} {turn = turn} {played = played}
+    {new_ends = new_ends} {new_sizes = new_sizes} {new_signs = new_signs} {new_closed = new_closed} {new_played = new_played} b n =
     subst (λ (l : List ℕ). IsStored b.front l new_sizes new_signs new_closed rest new_played) (sym n.ends_new)
-    (subst (λ (l : List ℕ). IsStored b.front (splice ends turn.first (turn.first + turn.count) (drop (length closed - turn.closed) closed)) l new_signs new_closed rest new_played) (sym n.sizes_new)
-    (subst (λ (l : List Sign). IsStored b.front (splice ends turn.first (turn.first + turn.count) (drop (length closed - turn.closed) closed)) (splice sizes (first_touched turn) (first_touched turn + (turn.parted + 1)) (sizes_before turn)) l new_closed rest new_played) (sym n.signs_new)
-    (subst (λ (l : List ℕ × List Sign). IsStored b.front (splice ends turn.first (turn.first + turn.count) (drop (length closed - turn.closed) closed)) (splice sizes (first_touched turn) (first_touched turn + (turn.parted + 1)) (sizes_before turn)) (splice signs (first_touched turn) (first_touched turn + turn.parted) (signs_before turn)) l.0 rest l.1)
+    (subst (λ (l : List ℕ). IsStored b.front (splice ends turn.first (turn.first + turn.count) (drop (length closed - turn.closed) closed))
+    l new_signs new_closed rest new_played) (sym n.sizes_new)
+    (subst (λ (l : List Sign). IsStored b.front
+    (splice ends turn.first (turn.first + turn.count) (drop (length closed - turn.closed) closed))
+    (splice sizes (first_touched turn) (first_touched turn + (turn.parted + 1)) (sizes_before turn)) l new_closed rest new_played) (sym n.signs_new)
+    (subst (λ (l : List ℕ × List Sign). IsStored b.front
+    (splice ends turn.first (turn.first + turn.count) (drop (length closed - turn.closed) closed))
+    (splice sizes (first_touched turn) (first_touched turn + (turn.parted + 1)) (sizes_before turn))
+    (splice signs (first_touched turn) (first_touched turn + turn.parted) (signs_before turn)) l.0 rest l.1)
     (λ i. (sym n.closed_new i, sym n.played_new i)) b.stored)))
 
 -- what stands from a place on, as it is read

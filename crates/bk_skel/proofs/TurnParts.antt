@@ -40,13 +40,17 @@ one_beside (s ∷ t ∷ l) one filled = absurd (omega arith)
 
 -- the sizes of the valley and the segments beside it, of which one without squares is none
 pub three_sizes : (left right : List (List ℕ)) (n : ℕ) → length left ≤ 1 → length right ≤ 1 → AllFilled left → AllFilled right
-    → slice_range (length (concat left) ∷ n ∷ length (concat right) ∷ []) (1 - min (length (concat left)) 1) (2 + min (length (concat right)) 1) ≡ map length left ++ (n ∷ map length right)
-three_sizes left right n one other filled full = (λ i. slice_range (length (concat left) ∷ n ∷ length (concat right) ∷ []) (1 - one_beside left one filled i) (2 + one_beside right other full i)) ∙ cases left right one other
+    → slice_range (length (concat left) ∷ n ∷ length (concat right) ∷ []) (1 - min (length (concat left)) 1)
+    (2 + min (length (concat right)) 1) ≡ map length left ++ (n ∷ map length right)
+three_sizes left right n one other filled full =
+    (λ i. slice_range (length (concat left) ∷ n ∷ length (concat right) ∷ []) (1 - one_beside left one filled i)
+    (2 + one_beside right other full i)) ∙ cases left right one other
   where
     alone : (s : List ℕ) → length (s ++ []) ≡ length s
     alone s = ap length (append-nil s)
 
-    cases : (left right : List (List ℕ)) → length left ≤ 1 → length right ≤ 1 → slice_range (length (concat left) ∷ n ∷ length (concat right) ∷ []) (1 - length left) (2 + length right) ≡ map length left ++ (n ∷ map length right)
+    cases : (left right : List (List ℕ)) → length left ≤ 1 → length right ≤ 1
+        → slice_range (length (concat left) ∷ n ∷ length (concat right) ∷ []) (1 - length left) (2 + length right) ≡ map length left ++ (n ∷ map length right)
     cases [] [] one other = refl
     cases [] (r ∷ []) one other = λ i. n ∷ alone r i ∷ []
     cases [] (r ∷ u ∷ right) one other = absurd (omega arith)
@@ -55,7 +59,8 @@ three_sizes left right n one other filled full = (λ i. slice_range (length (con
     cases (l ∷ []) (r ∷ u ∷ right) one other = absurd (omega arith)
     cases (l ∷ u ∷ left) right one other = absurd (omega arith)
 
-pub two_signs : (left right : List (List ℕ)) (left_signs right_signs : List Sign) → Beside Under left left_signs → Beside Above right right_signs → AllFilled left → AllFilled right
+pub two_signs : (left right : List (List ℕ)) (left_signs right_signs : List Sign) → Beside Under left left_signs
+    → Beside Above right right_signs → AllFilled left → AllFilled right
     → slice_range (Under ∷ Above ∷ []) (1 - min (length (concat left)) 1) (1 + min (length (concat right)) 1) ≡ left_signs ++ right_signs
 two_signs left right left_signs right_signs a b filled full =
     (λ i. slice_range (Under ∷ Above ∷ []) (1 - one_beside left (many a) filled i) (1 + one_beside right (many b) full i)) ∙ cases a b
@@ -64,7 +69,8 @@ two_signs left right left_signs right_signs a b filled full =
     many (inl (e, f)) = omega (arith, ap length e)
     many (inr (s, e, f)) = omega (arith, ap length e)
 
-    cases : Beside Under left left_signs → Beside Above right right_signs → slice_range (Under ∷ Above ∷ []) (1 - length left) (1 + length right) ≡ left_signs ++ right_signs
+    cases : Beside Under left left_signs → Beside Above right right_signs
+        → slice_range (Under ∷ Above ∷ []) (1 - length left) (1 + length right) ≡ left_signs ++ right_signs
     cases (inl (e, f)) (inl (g, h)) = (λ i. slice_range (Under ∷ Above ∷ []) (1 - length (e i)) (1 + length (g i))) ∙ (λ i. sym f i ++ sym h i)
     cases (inl (e, f)) (inr (r, g, h)) = (λ i. slice_range (Under ∷ Above ∷ []) (1 - length (e i)) (1 + length (g i))) ∙ (λ i. sym f i ++ sym h i)
     cases (inr (l, e, f)) (inl (g, h)) = (λ i. slice_range (Under ∷ Above ∷ []) (1 - length (e i)) (1 + length (g i))) ∙ (λ i. sym f i ++ sym h i)
@@ -83,11 +89,13 @@ module _ (o : Outline) (shaped : Shaped o) (m : Move) (from : ℕ) (v : AtValley
   pub first_is : (turn_at (segment_sizes o) o.signs m from).first ≡ length (concat v.before) + length (concat v.left)
   first_is = ap sum (take_map (valley_place o.signs) o.segments)
       ∙ sum_lengths (take (valley_place o.signs) o.segments)
-      ∙ ap (λ (l : List (List ℕ)). length (concat l)) (ap (take (valley_place o.signs)) fronts ∙ take_at (v.before ++ v.left) (v.valley ∷ (v.right ++ v.after)) (valley_place o.signs) place_long)
+      ∙ ap (λ (l : List (List ℕ)). length (concat l))
+      (ap (take (valley_place o.signs)) fronts ∙ take_at (v.before ++ v.left) (v.valley ∷ (v.right ++ v.after)) (valley_place o.signs) place_long)
       ∙ ap length (concat-append v.before v.left) ∙ length-append (concat v.before) (concat v.left)
 
   pub closed_is : (turn_at (segment_sizes o) o.signs m from).closed ≡ length v.valley
-  closed_is = ap (λ (l : List (List ℕ)). slice_index (map length l) (valley_place o.signs)) fronts ∙ size_at (v.before ++ v.left) v.valley (v.right ++ v.after) (valley_place o.signs) place_long
+  closed_is = ap (λ (l : List (List ℕ)). slice_index (map length l) (valley_place o.signs)) fronts
+      ∙ size_at (v.before ++ v.left) v.valley (v.right ++ v.after) (valley_place o.signs) place_long
 
   pub left_is : (turn_at (segment_sizes o) o.signs m from).left ≡ length (concat v.left)
   left_is = cases v.left_beside
@@ -98,10 +106,13 @@ module _ (o : Outline) (shaped : Shaped o) (m : Move) (from : ℕ) (v : AtValley
       none : (p x : ℕ) → 0 < p → ◌≡◌ {A = ℕ} (cond (nat_eq p 0) 0 x) x
       none p x e = grind (arith, nat_tests)
 
-      cases : Beside Under v.left v.left_signs → ◌≡◌ {A = ℕ} (cond (nat_eq (valley_place o.signs) 0) 0 (slice_index (map length o.segments) (valley_place o.signs - 1))) (length (concat v.left))
-      cases (inl (e, g)) = wall (valley_place o.signs) (slice_index (map length o.segments) (valley_place o.signs - 1)) (omega (arith, v.place, ap length e, none_before o v (ap length e))) ∙ sym (ap (λ (l : List (List ℕ)). length (concat l)) e)
+      cases : Beside Under v.left v.left_signs → ◌≡◌ {A = ℕ}
+          (cond (nat_eq (valley_place o.signs) 0) 0 (slice_index (map length o.segments) (valley_place o.signs - 1))) (length (concat v.left))
+      cases (inl (e, g)) = wall (valley_place o.signs) (slice_index (map length o.segments) (valley_place o.signs - 1))
+          (omega (arith, v.place, ap length e, none_before o v (ap length e))) ∙ sym (ap (λ (l : List (List ℕ)). length (concat l)) e)
       cases (inr (s, e, g)) = none (valley_place o.signs) (slice_index (map length o.segments) (valley_place o.signs - 1)) (omega (arith, v.place, ap length e))
-          ∙ ap (λ (l : List (List ℕ)). slice_index (map length l) (valley_place o.signs - 1)) (v.segments ∙ (λ i. v.before ++ (e i ++ (v.valley ∷ (v.right ++ v.after)))))
+          ∙ ap (λ (l : List (List ℕ)). slice_index (map length l) (valley_place o.signs - 1))
+          (v.segments ∙ (λ i. v.before ++ (e i ++ (v.valley ∷ (v.right ++ v.after)))))
           ∙ size_at v.before s (v.valley ∷ (v.right ++ v.after)) (valley_place o.signs - 1) (omega (arith, v.place, ap length e))
           ∙ sym (ap length (append-nil s)) ∙ sym (ap (λ (l : List (List ℕ)). length (concat l)) e)
 
@@ -117,11 +128,17 @@ module _ (o : Outline) (shaped : Shaped o) (m : Move) (from : ℕ) (v : AtValley
       behind : o.segments ≡ ((v.before ++ v.left) ++ (v.valley ∷ [])) ++ (v.right ++ v.after)
       behind = fronts ∙ sym (append_assoc (v.before ++ v.left) (v.valley ∷ []) (v.right ++ v.after))
 
-      cases : Beside Above v.right v.right_signs → ◌≡◌ {A = ℕ} (cond (nat_eq (valley_place o.signs) (length o.signs)) 0 (slice_index (map length o.segments) (valley_place o.signs + 1))) (length (concat v.right))
-      cases (inl (e, g)) = wall (valley_place o.signs) (length o.signs) (slice_index (map length o.segments) (valley_place o.signs + 1)) (omega (arith, v.place, many_signs o v, ap length e, none_after o v (ap length e))) ∙ sym (ap (λ (l : List (List ℕ)). length (concat l)) e)
-      cases (inr (s, e, g)) = none (valley_place o.signs) (length o.signs) (slice_index (map length o.segments) (valley_place o.signs + 1)) (omega (arith, v.place, many_signs o v, ap length e))
-          ∙ ap (λ (l : List (List ℕ)). slice_index (map length l) (valley_place o.signs + 1)) (behind ∙ (λ i. ((v.before ++ v.left) ++ (v.valley ∷ [])) ++ (e i ++ v.after)))
-          ∙ size_at ((v.before ++ v.left) ++ (v.valley ∷ [])) s v.after (valley_place o.signs + 1) (omega (arith, length-append (v.before ++ v.left) (v.valley ∷ []), place_long))
+      cases : Beside Above v.right v.right_signs
+          → ◌≡◌ {A = ℕ} (cond (nat_eq (valley_place o.signs) (length o.signs)) 0
+          (slice_index (map length o.segments) (valley_place o.signs + 1))) (length (concat v.right))
+      cases (inl (e, g)) = wall (valley_place o.signs) (length o.signs) (slice_index (map length o.segments) (valley_place o.signs + 1))
+          (omega (arith, v.place, many_signs o v, ap length e, none_after o v (ap length e))) ∙ sym (ap (λ (l : List (List ℕ)). length (concat l)) e)
+      cases (inr (s, e, g)) = none (valley_place o.signs) (length o.signs) (slice_index (map length o.segments) (valley_place o.signs + 1))
+          (omega (arith, v.place, many_signs o v, ap length e))
+          ∙ ap (λ (l : List (List ℕ)). slice_index (map length l) (valley_place o.signs + 1))
+          (behind ∙ (λ i. ((v.before ++ v.left) ++ (v.valley ∷ [])) ++ (e i ++ v.after)))
+          ∙ size_at ((v.before ++ v.left) ++ (v.valley ∷ [])) s v.after (valley_place o.signs + 1)
+          (omega (arith, length-append (v.before ++ v.left) (v.valley ∷ []), place_long))
           ∙ sym (ap length (append-nil s)) ∙ sym (ap (λ (l : List (List ℕ)). length (concat l)) e)
 
   pub left_min : min (turn_at (segment_sizes o) o.signs m from).left 1 ≡ length v.left

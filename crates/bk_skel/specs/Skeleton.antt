@@ -49,7 +49,8 @@ next_size last (g ∷ signs) = 1
 -- the sizes of segments that the signs join or part: the first of this size, then one square each, and a last one
 abbrev pub joined_sizes : ℕ → ℕ → List Sign → List ℕ
 joined_sizes size last [] = size ∷ []
-joined_sizes size last (g ∷ signs) = cond (parts g) (size ∷ joined_sizes (next_size last signs) last signs) (joined_sizes (size + next_size last signs) last signs)
+joined_sizes size last (g ∷ signs) = cond (parts g) (size ∷ joined_sizes (next_size last signs) last signs)
+    (joined_sizes (size + next_size last signs) last signs)
 
 -- the sizes of the segments that stand in the place of those that a move touches
 abbrev pub sizes_after : Turn → List Sign → List ℕ

@@ -12,7 +12,7 @@ ghost use Rattle.bk_tiling.specs.declared.Segment.{Segment as Gap};
 ghost use Rattle.bk_word.specs.Outline.{Outline};
 ghost use Rattle.bk_word.specs.Play.{IsComplete, numbers_from};
 ghost use Rattle.bk_word.specs.Word.{order_of};
-ghost use Rattle.bk_lay.specs.TilingWord.{sign_between, signs_between};
+ghost use Rattle.bk_lay.specs.TilingWord.{signs_between};
 ghost use Rattle.bk_word_net.specs.LaidTiling.{IsLaidWith};
 ghost use Rattle.bk_skel.specs.Board.{CanLay, IsClosed, IsFittingGap, columns_of};
 ghost use Rattle.bk_word_net.specs.LaidOutline.{IsNumber, IsTurn, bottom_at, square_at};
@@ -20,6 +20,7 @@ ghost use Rattle.bk_word_net.specs.LaidOutline.{IsNumber, IsTurn, bottom_at, squ
 use crate::skeleton::Skel;
 use crate::splicing::splice_numbers;
 use arrayvec::ArrayVec;
+use bk_lay::sign_between;
 use bk_tiling::{LONGEST_SIDE, MOST_SQUARES, Segment, Square, Tiling};
 use bk_word::Sign;
 
@@ -184,7 +185,7 @@ fn signs_fit(laid: &[Square], numbers: &[u8], signs: &[Sign]) -> bool
     let mut left = bottom_of(laid, numbers[0]);
     for i in 0..signs.len() {
         let right = bottom_of(laid, numbers[i + 1]);
-        if signs[i] != sign_of(left, right) {
+        if signs[i] != sign_between(left, right) {
             return false;
         }
         left = right;
@@ -200,17 +201,4 @@ fn bottom_of(laid: &[Square], number: u8) -> u64
 {
     let square = square_of(laid, number);
     square.y + square.s
-}
-
-// How a bottom stands to the one right of it.
-fn sign_of(left: u64, right: u64) -> Sign
-    ensures { result ≡ sign_between left right }
-{
-    if left < right {
-        Sign::Above
-    } else if left == right {
-        Sign::Even
-    } else {
-        Sign::Under
-    }
 }

@@ -260,8 +260,8 @@ impl Skel {
     }
 }
 
-// One for a side of a valley that is no wall.
-fn open_side(wall: bool) -> usize
+/// How many signs a side of a valley asks for: none at a wall, else one. (Own.)
+pub fn open_side(wall: bool) -> usize
     ensures { result ≡ open_side wall }
 {
     if wall { 0 } else { 1 }

@@ -7,6 +7,7 @@ use Rattle.bk_laws.proofs.ListPlaces.{get_some}
 use Rattle.bk_word.specs.Play.{numbers_from}
 use Rattle.bk_tiling_layout.specs.TilingLayout.{put_by, sorted_by}
 
+-- the number stands in the list
 abbrev pub IsIn : ℕ → List ℕ → Type 0
 IsIn q [] = ⊥
 IsIn q (r ∷ rs) = (q ≡ r) ⊎ IsIn q rs
@@ -21,10 +22,12 @@ get_in [] q h = absurd h
 get_in (x ∷ xs) q (inl e) = (0, ap Some (sym e))
 get_in (x ∷ xs) q (inr h) = let k = get_in xs q h in (suc k.0, k.1)
 
+-- the key rises from each number to those behind it
 abbrev pub Ascends : (ℕ → ℕ) → List ℕ → Type 0
 Ascends f [] = Unit {0}
 Ascends f (q ∷ qs) = ((r : ℕ) → IsIn r qs → f q < f r) × Ascends f qs
 
+-- no two numbers of the list have one key
 abbrev pub OnceBy : (ℕ → ℕ) → List ℕ → Type 0
 OnceBy f [] = Unit {0}
 OnceBy f (q ∷ qs) = ((r : ℕ) → IsIn r qs → f q ≡ f r → ⊥) × OnceBy f qs
@@ -113,7 +116,8 @@ filter_from : (p : ℕ → Bool) (xs : List ℕ) (r : ℕ) → IsIn r (filter p 
 filter_from p [] r h = absurd h
 filter_from p (x ∷ xs) r h = cases (p x) refl h (filter_from p xs r)
   where
-    cases : (b : Bool) → p x ≡ b → IsIn r (cond b (x ∷ filter p xs) (filter p xs)) → (IsIn r (filter p xs) → IsIn r xs × (p r ≡ true)) → ((r ≡ x) ⊎ IsIn r xs) × (p r ≡ true)
+    cases : (b : Bool) → p x ≡ b → IsIn r (cond b (x ∷ filter p xs) (filter p xs)) → (IsIn r (filter p xs) → IsIn r xs × (p r ≡ true))
+        → ((r ≡ x) ⊎ IsIn r xs) × (p r ≡ true)
     cases true f (inl k) rest = (inl k, ap p k ∙ f)
     cases true f (inr k) rest = (inr (rest k).0, (rest k).1)
     cases false f k rest = (inr (rest k).0, (rest k).1)
@@ -131,13 +135,19 @@ in_numbers n zero q h = absurd h
 in_numbers n (suc k) q (inl e) = (omega (arith, e), omega (arith, e))
 in_numbers n (suc k) q (inr h) = let r = in_numbers (n + 1) k q h in (omega (arith, r.0), omega (arith, r.1))
 
-once_from : (f : ℕ → ℕ) (p : ℕ → Bool) (m n k : ℕ) → n + k ≡ m → ((q r : ℕ) → q < m → r < m → p q ≡ true → p r ≡ true → f q ≡ f r → q ≡ r) → OnceBy f (filter p (numbers_from n k))
+once_from : (f : ℕ → ℕ) (p : ℕ → Bool) (m n k : ℕ) → n + k ≡ m → ((q r : ℕ) → q < m → r < m → p q ≡ true → p r ≡ true → f q ≡ f r → q ≡ r)
+    → OnceBy f (filter p (numbers_from n k))
 once_from f p m n zero e one = tt
 once_from f p m n (suc k) e one = cases (p n) refl (once_from f p m (n + 1) k (omega (arith, e)) one)
   where
-    cases : (b : Bool) → p n ≡ b → OnceBy f (filter p (numbers_from (n + 1) k)) → OnceBy f (cond b (n ∷ filter p (numbers_from (n + 1) k)) (filter p (numbers_from (n + 1) k)))
+    cases : (b : Bool) → p n ≡ b → OnceBy f (filter p (numbers_from (n + 1) k))
+        → OnceBy f (cond b (n ∷ filter p (numbers_from (n + 1) k)) (filter p (numbers_from (n + 1) k)))
     cases false g rest = rest
-    cases true g rest = ((λ r h s. let a = filter_from p (numbers_from (n + 1) k) r h in let b = in_numbers (n + 1) k r a.0 in omega (arith, b.0, one n r (omega (arith, e)) (omega (arith, e, b.1)) g a.1 s)), rest)
+    cases true g rest = (
+      (λ r h s. let a = filter_from p (numbers_from (n + 1) k) r h in let b = in_numbers (n + 1) k r a.0 in
+          omega (arith, b.0, one n r (omega (arith, e)) (omega (arith, e, b.1)) g a.1 s)),
+      rest,
+    )
 
 -- ---- places in an ascending list
 
@@ -147,6 +157,7 @@ by_place f (x ∷ xs) a j zero q r h d e = absurd (omega arith)
 by_place f (x ∷ xs) a zero (suc k) q r h d e = let same : x ≡ q = cc in omega (arith, ap f same, a.0 r (in_get xs k r e))
 by_place f (x ∷ xs) a (suc j) (suc k) q r h d e = by_place f xs a.1 j k q r (omega arith) d e
 
+-- the number stands first, last, and just before another
 abbrev pub IsFirstOf : List ℕ → ℕ → Type 0
 IsFirstOf qs q = slice_get qs 0 ≡ Some q
 
@@ -161,16 +172,25 @@ module _ (f : ℕ → ℕ) (p : ℕ → Bool) (n : ℕ) (one : (q r : ℕ) → q
   ascends : Ascends f (sorted_by f (filter p (numbers_from 0 n)))
   ascends = sorted_ascends f (filter p (numbers_from 0 n)) (once_from f p n 0 n (omega arith) one)
 
+  -- what stands in the sorted list is below the bound and passes the test
   pub stands_in : (k q : ℕ) → slice_get (sorted_by f (filter p (numbers_from 0 n))) k ≡ Some q → (q < n) × (p q ≡ true)
-  stands_in k q e = let h = filter_from p (numbers_from 0 n) q (sorted_from f (filter p (numbers_from 0 n)) q (in_get (sorted_by f (filter p (numbers_from 0 n))) k q e)) in (omega (arith, (in_numbers 0 n q h.0).1), h.1)
+  stands_in k q e = let h = filter_from p (numbers_from 0 n) q
+      (sorted_from f (filter p (numbers_from 0 n)) q (in_get (sorted_by f (filter p (numbers_from 0 n))) k q e)) in
+      (omega (arith, (in_numbers 0 n q h.0).1), h.1)
 
+  -- and each such number stands in it
   pub has_place : (q : ℕ) → q < n → p q ≡ true → (k : ℕ) × (slice_get (sorted_by f (filter p (numbers_from 0 n))) k ≡ Some q)
-  has_place q h e = get_in (sorted_by f (filter p (numbers_from 0 n))) q (sorted_to f (filter p (numbers_from 0 n)) q (filter_to p (numbers_from 0 n) q (numbers_in 0 n q (omega arith) (omega arith)) e))
+  has_place q h e = get_in (sorted_by f (filter p (numbers_from 0 n))) q
+      (sorted_to f (filter p (numbers_from 0 n)) q (filter_to p (numbers_from 0 n) q (numbers_in 0 n q (omega arith) (omega arith)) e))
 
-  pub in_order : (j k q r : ℕ) → slice_get (sorted_by f (filter p (numbers_from 0 n))) j ≡ Some q → slice_get (sorted_by f (filter p (numbers_from 0 n))) k ≡ Some r → j < k → f q < f r
+  -- the key rises along the list
+  pub in_order : (j k q r : ℕ) → slice_get (sorted_by f (filter p (numbers_from 0 n))) j ≡ Some q
+      → slice_get (sorted_by f (filter p (numbers_from 0 n))) k ≡ Some r → j < k → f q < f r
   in_order j k q r d e h = by_place f (sorted_by f (filter p (numbers_from 0 n))) ascends j k q r h d e
 
-  pub once : (j k q : ℕ) → slice_get (sorted_by f (filter p (numbers_from 0 n))) j ≡ Some q → slice_get (sorted_by f (filter p (numbers_from 0 n))) k ≡ Some q → j ≡ k
+  -- no number stands twice
+  pub once : (j k q : ℕ) → slice_get (sorted_by f (filter p (numbers_from 0 n))) j ≡ Some q
+      → slice_get (sorted_by f (filter p (numbers_from 0 n))) k ≡ Some q → j ≡ k
   once j k q d e = cases (cases_lt j k) (cases_lt k j)
     where
       cases : (j < k) ⊎ (k ≤ j) → (k < j) ⊎ (j ≤ k) → j ≡ k
@@ -178,9 +198,11 @@ module _ (f : ℕ → ℕ) (p : ℕ → Bool) (n : ℕ) (one : (q r : ℕ) → q
       cases (inr h) (inl m) = absurd (omega (arith, in_order k j q q e d m))
       cases (inr h) (inr m) = omega arith
 
+  -- the list of a test that some number passes is not empty
   pub some : (q : ℕ) → q < n → p q ≡ true → 0 < length (sorted_by f (filter p (numbers_from 0 n)))
   some q h e = let k = has_place q h e in omega (arith, slice_get_within (sorted_by f (filter p (numbers_from 0 n))) k.0 q k.1)
 
+  -- the first number has the least key
   pub first_from : (q : ℕ) → IsFirstOf (sorted_by f (filter p (numbers_from 0 n))) q → (r : ℕ) → r < n → p r ≡ true → f q ≤ f r
   first_from q e r h g = from (has_place r h g)
     where
@@ -188,14 +210,17 @@ module _ (f : ℕ → ℕ) (p : ℕ → Bool) (n : ℕ) (one : (q r : ℕ) → q
       from (zero, d) = let same : Some q ≡ Some r = sym e ∙ d in let is : q ≡ r = cc in omega (arith, ap f is)
       from (suc k, d) = omega (arith, in_order 0 (suc k) q r e d (omega arith))
 
+  -- and the number of the least key is the first
   pub first_to : (q : ℕ) → q < n → p q ≡ true → ((r : ℕ) → r < n → p r ≡ true → f q ≤ f r) → IsFirstOf (sorted_by f (filter p (numbers_from 0 n))) q
   first_to q h g least = from (has_place q h g)
     where
       from : (k : ℕ) × (slice_get (sorted_by f (filter p (numbers_from 0 n))) k ≡ Some q) → IsFirstOf (sorted_by f (filter p (numbers_from 0 n))) q
       from (zero, d) = d
-      from (suc k, d) = let r = get_some (sorted_by f (filter p (numbers_from 0 n))) 0 (omega (arith, slice_get_within (sorted_by f (filter p (numbers_from 0 n))) (suc k) q d)) in
+      from (suc k, d) = let r = get_some (sorted_by f (filter p (numbers_from 0 n))) 0
+          (omega (arith, slice_get_within (sorted_by f (filter p (numbers_from 0 n))) (suc k) q d)) in
           absurd (omega (arith, in_order 0 (suc k) r.0 q r.1 d (omega arith), least r.0 (stands_in 0 r.0 r.1).0 (stands_in 0 r.0 r.1).1))
 
+  -- the last number has the greatest key
   pub last_from : (q : ℕ) → IsLastOf (sorted_by f (filter p (numbers_from 0 n))) q → (r : ℕ) → r < n → p r ≡ true → f r ≤ f q
   last_from q (l, end, e) r h g = from (has_place r h g)
     where
@@ -205,27 +230,38 @@ module _ (f : ℕ → ℕ) (p : ℕ → Bool) (n : ℕ) (one : (q r : ℕ) → q
           cases : (k < l) ⊎ (l ≤ k) → f r ≤ f q
           cases (inl m) = omega (arith, in_order k l r q d e m)
           cases (inr m) = let at : k ≡ l = omega (arith, slice_get_within (sorted_by f (filter p (numbers_from 0 n))) k r d, end) in
-              let same : Some r ≡ Some q = sym d ∙ ap (slice_get (sorted_by f (filter p (numbers_from 0 n)))) at ∙ e in let is : r ≡ q = cc in omega (arith, ap f is)
+              let same : Some r ≡ Some q = sym d ∙ ap (slice_get (sorted_by f (filter p (numbers_from 0 n)))) at
+              ∙ e in let is : r ≡ q = cc in omega (arith, ap f is)
 
+  -- and the number of the greatest key is the last
   pub last_to : (q : ℕ) → q < n → p q ≡ true → ((r : ℕ) → r < n → p r ≡ true → f r ≤ f q) → IsLastOf (sorted_by f (filter p (numbers_from 0 n))) q
   last_to q h g most = from (has_place q h g)
     where
       from : (k : ℕ) × (slice_get (sorted_by f (filter p (numbers_from 0 n))) k ≡ Some q) → IsLastOf (sorted_by f (filter p (numbers_from 0 n))) q
       from (k, d) = cases (cases_lt (suc k) (length (sorted_by f (filter p (numbers_from 0 n)))))
         where
-          cases : (suc k < length (sorted_by f (filter p (numbers_from 0 n)))) ⊎ (length (sorted_by f (filter p (numbers_from 0 n))) ≤ suc k) → IsLastOf (sorted_by f (filter p (numbers_from 0 n))) q
+          cases : (suc k < length (sorted_by f (filter p (numbers_from 0 n))))
+              ⊎ (length (sorted_by f (filter p (numbers_from 0 n))) ≤ suc k) → IsLastOf (sorted_by f (filter p (numbers_from 0 n))) q
           cases (inr m) = (k, omega (arith, slice_get_within (sorted_by f (filter p (numbers_from 0 n))) k q d), d)
           cases (inl m) = let r = get_some (sorted_by f (filter p (numbers_from 0 n))) (suc k) m in
               absurd (omega (arith, in_order k (suc k) q r.0 d r.1 (omega arith), most r.0 (stands_in (suc k) r.0 r.1).0 (stands_in (suc k) r.0 r.1).1))
 
+  -- two numbers between whose keys there is no other
   pub record AreNext (q r : ℕ) : Type 0 where
     pub first_in : (q < n) × (p q ≡ true)
     pub second_in : (r < n) × (p r ≡ true)
     pub less : f q < f r
     pub between : (w : ℕ) → w < n → p w ≡ true → (f w ≤ f q) ⊎ (f r ≤ f w)
 
+  -- neighbours of the list are next by their keys
   pub next_from : (q r : ℕ) → AreNextOf (sorted_by f (filter p (numbers_from 0 n))) q r → AreNext q r
-  next_from q r (k, d, e) = record { first_in = stands_in k q d; second_in = stands_in (suc k) r e; less = in_order k (suc k) q r d e (omega arith); between = λ w h g. from w (has_place w h g) }
+  next_from q r (k, d, e) = record {
+    first_in = stands_in k q d;
+    second_in = stands_in (suc k) r e;
+    less =
+        in_order k (suc k) q r d e (omega arith);
+    between = λ w h g. from w (has_place w h g);
+  }
     where
       from : (w : ℕ) → (j : ℕ) × (slice_get (sorted_by f (filter p (numbers_from 0 n))) j ≡ Some w) → (f w ≤ f q) ⊎ (f r ≤ f w)
       from w (j, g) = cases (cases_lt j k) (cases_lt (suc k) j) (cases_lt k j)
@@ -233,18 +269,25 @@ module _ (f : ℕ → ℕ) (p : ℕ → Bool) (n : ℕ) (one : (q r : ℕ) → q
           cases : (j < k) ⊎ (k ≤ j) → (suc k < j) ⊎ (j ≤ suc k) → (k < j) ⊎ (j ≤ k) → (f w ≤ f q) ⊎ (f r ≤ f w)
           cases (inl h) m l = inl (omega (arith, in_order j k w q g d h))
           cases (inr h) (inl m) l = inr (omega (arith, in_order (suc k) j r w e g m))
-          cases (inr h) (inr m) (inl l) = let at : j ≡ suc k = omega arith in let same : Some w ≡ Some r = sym g ∙ ap (slice_get (sorted_by f (filter p (numbers_from 0 n)))) at ∙ e in let is : w ≡ r = cc in inr (omega (arith, ap f is))
-          cases (inr h) (inr m) (inr l) = let at : j ≡ k = omega arith in let same : Some w ≡ Some q = sym g ∙ ap (slice_get (sorted_by f (filter p (numbers_from 0 n)))) at ∙ d in let is : w ≡ q = cc in inl (omega (arith, ap f is))
+          cases (inr h) (inr m) (inl l) = let at : j ≡ suc k = omega arith in let same : Some w ≡ Some r = sym g
+              ∙ ap (slice_get (sorted_by f (filter p (numbers_from 0 n)))) at ∙ e in let is : w ≡ r = cc in inr (omega (arith, ap f is))
+          cases (inr h) (inr m) (inr l) = let at : j ≡ k = omega arith in let same : Some w ≡ Some q = sym g
+              ∙ ap (slice_get (sorted_by f (filter p (numbers_from 0 n)))) at ∙ d in let is : w ≡ q = cc in inl (omega (arith, ap f is))
 
+  -- and numbers that are next by their keys are neighbours
   pub next_to : (q r : ℕ) → AreNext q r → AreNextOf (sorted_by f (filter p (numbers_from 0 n))) q r
   next_to q r next = from (has_place q next.first_in.0 next.first_in.1) (has_place r next.second_in.0 next.second_in.1)
     where
-      from : (k : ℕ) × (slice_get (sorted_by f (filter p (numbers_from 0 n))) k ≡ Some q) → (j : ℕ) × (slice_get (sorted_by f (filter p (numbers_from 0 n))) j ≡ Some r) → AreNextOf (sorted_by f (filter p (numbers_from 0 n))) q r
+      from : (k : ℕ) × (slice_get (sorted_by f (filter p (numbers_from 0 n))) k ≡ Some q) → (j : ℕ)
+          × (slice_get (sorted_by f (filter p (numbers_from 0 n))) j ≡ Some r) → AreNextOf (sorted_by f (filter p (numbers_from 0 n))) q r
       from (k, d) (j, e) = cases (cases_lt k j) (cases_lt (suc k) j)
         where
           cases : (k < j) ⊎ (j ≤ k) → (suc k < j) ⊎ (j ≤ suc k) → AreNextOf (sorted_by f (filter p (numbers_from 0 n))) q r
-          cases (inl h) (inr m) = let at : j ≡ suc k = omega arith in (k, d, subst (λ (i : ℕ). slice_get (sorted_by f (filter p (numbers_from 0 n))) i ≡ Some r) at e)
-          cases (inl h) (inl m) = absurd (between (get_some (sorted_by f (filter p (numbers_from 0 n))) (suc k) (omega (arith, m, slice_get_within (sorted_by f (filter p (numbers_from 0 n))) j r e))))
+          cases (inl h) (inr m) = let at : j ≡ suc k = omega arith in
+              (k, d, subst (λ (i : ℕ). slice_get (sorted_by f (filter p (numbers_from 0 n))) i ≡ Some r) at e)
+          cases (inl h) (inl m) = absurd (between
+              (get_some (sorted_by f (filter p (numbers_from 0 n))) (suc k)
+              (omega (arith, m, slice_get_within (sorted_by f (filter p (numbers_from 0 n))) j r e))))
             where
               between : (w : ℕ) × (slice_get (sorted_by f (filter p (numbers_from 0 n))) (suc k) ≡ Some w) → ⊥
               between (w, g) = past (next.between w (stands_in (suc k) w g).0 (stands_in (suc k) w g).1)
@@ -256,4 +299,5 @@ module _ (f : ℕ → ℕ) (p : ℕ → Bool) (n : ℕ) (one : (q r : ℕ) → q
             where
               later : (j < k) ⊎ (k ≤ j) → ⊥
               later (inl l) = omega (arith, next.less, in_order j k r q e d l)
-              later (inr l) = let at : j ≡ k = omega arith in let same : Some r ≡ Some q = sym e ∙ ap (slice_get (sorted_by f (filter p (numbers_from 0 n)))) at ∙ d in let is : r ≡ q = cc in omega (arith, next.less, ap f is)
+              later (inr l) = let at : j ≡ k = omega arith in let same : Some r ≡ Some q = sym e
+                  ∙ ap (slice_get (sorted_by f (filter p (numbers_from 0 n)))) at ∙ d in let is : r ≡ q = cc in omega (arith, next.less, ap f is)

@@ -23,6 +23,7 @@ pub record IsFrame (t : Tiling) (left right top bottom : ℕ) : Type 0 where
   pub at_top : (q : Square) → IsOneOf q t.squares → q.y < top → top < q.y + q.s → q.x < right → left < q.x + q.s → ⊥
   pub at_bottom : (q : Square) → IsOneOf q t.squares → q.y < bottom → bottom < q.y + q.s → q.x < right → left < q.x + q.s → ⊥
 
+-- the square lies within the frame
 pub record IsInside (left right top bottom : ℕ) (q : Square) : Type 0 where
   pub left_in : left ≤ q.x
   pub right_in : q.x + q.s ≤ right
@@ -33,7 +34,12 @@ inside_to : (r : Rectangle) (q : Square) → r.x ≤ q.x → q.x + q.s ≤ r.x +
 inside_to r q a b c d = grind (arith, nat_tests)
 
 inside_from : (r : Rectangle) (q : Square) → is_inside r q ≡ true → IsInside r.x (r.x + r.width) r.y (r.y + r.height) q
-inside_from r q e = record { left_in = grind (arith, nat_tests); right_in = grind (arith, nat_tests); top_in = grind (arith, nat_tests); bottom_in = grind (arith, nat_tests) }
+inside_from r q e = record {
+  left_in = grind (arith, nat_tests);
+  right_in = grind (arith, nat_tests);
+  top_in = grind (arith, nat_tests);
+  bottom_in = grind (arith, nat_tests);
+}
 
 outside_left : (r : Rectangle) (q : Square) → q.x + q.s ≤ r.x → is_outside r q ≡ true
 outside_left r q a = grind (arith, nat_tests)
@@ -55,11 +61,13 @@ either_second : (a b : Bool) → b ≡ true → (a || b) ≡ true
 either_second true b e = refl
 either_second false b e = e
 
-uncut_from : (r : Rectangle) (squares : List Square) → ((q : Square) → IsOneOf q squares → (is_inside r q || is_outside r q) ≡ true) → IsTrue (list_all (λ q. is_inside r q || is_outside r q) squares)
+uncut_from : (r : Rectangle) (squares : List Square) → ((q : Square) → IsOneOf q squares → (is_inside r q || is_outside r q) ≡ true)
+    → IsTrue (list_all (λ q. is_inside r q || is_outside r q) squares)
 uncut_from r [] each = refl
 uncut_from r (q ∷ squares) each = put (is_inside r q || is_outside r q) (each q (inl refl)) (uncut_from r squares (λ p h. each p (inr h)))
   where
-    put : (b : Bool) → b ≡ true → IsTrue (list_all (λ q. is_inside r q || is_outside r q) squares) → IsTrue (b && list_all (λ q. is_inside r q || is_outside r q) squares)
+    put : (b : Bool) → b ≡ true → IsTrue (list_all (λ q. is_inside r q || is_outside r q) squares)
+        → IsTrue (b && list_all (λ q. is_inside r q || is_outside r q) squares)
     put true e rest = rest
     put false e rest = absurd (cc)
 
@@ -75,7 +83,8 @@ all_counted : (p : Square → Bool) (squares : List Square) → length squares �
 all_counted p [] full q h = absurd h
 all_counted p (r ∷ squares) full q h = cases (cases_Bool (p r)) h (all_counted p squares)
   where
-    cases : (p r ≡ true) ⊎ (p r ≡ false) → (q ≡ r) ⊎ IsOneOf q squares → (length squares ≤ count_by p squares → (q : Square) → IsOneOf q squares → p q ≡ true) → p q ≡ true
+    cases : (p r ≡ true) ⊎ (p r ≡ false) → (q ≡ r) ⊎ IsOneOf q squares
+        → (length squares ≤ count_by p squares → (q : Square) → IsOneOf q squares → p q ≡ true) → p q ≡ true
     cases (inl e) (inl same) rest = ap p same ∙ e
     cases (inl e) (inr k) rest = rest (omega (arith, full, count-cons p r squares, ap (λ (b : Bool). cond {A = ℕ} b 1 0) e)) q k
     cases (inr e) k rest = absurd (omega (arith, full, count-cons p r squares, ap (λ (b : Bool). cond {A = ℕ} b 1 0) e, count_most p squares))
@@ -91,7 +100,13 @@ module _ (t : Tiling) (tiling : IsTiling t) (simple : IsSimple t) (left right to
   height_is = omega (arith, frame.high)
 
   pub inside_or_out : (q : Square) → IsOneOf q t.squares → q.x < right → left < q.x + q.s → q.y < bottom → top < q.y + q.s → IsInside left right top bottom q
-  inside_or_out q h a b c d = record { left_in = one (cases_lt q.x left); right_in = two (cases_lt right (q.x + q.s)); top_in = three (cases_lt q.y top); bottom_in = four (cases_lt bottom (q.y + q.s)) }
+  inside_or_out q h a b c d = record {
+    left_in = one (cases_lt q.x left);
+    right_in = two (cases_lt right (q.x + q.s));
+    top_in =
+        three (cases_lt q.y top);
+    bottom_in = four (cases_lt bottom (q.y + q.s));
+  }
     where
       one : (q.x < left) ⊎ (left ≤ q.x) → left ≤ q.x
       one (inl e) = absurd (frame.at_left q h e b c d)
@@ -113,7 +128,8 @@ module _ (t : Tiling) (tiling : IsTiling t) (simple : IsSimple t) (left right to
   test_from q i = inside_to rect q i.left_in (omega (arith, width_is, i.right_in)) i.top_in (omega (arith, height_is, i.bottom_in))
 
   test_to : (q : Square) → is_inside rect q ≡ true → IsInside left right top bottom q
-  test_to q e = let i = inside_from rect q e in record { left_in = i.left_in; right_in = omega (arith, width_is, i.right_in); top_in = i.top_in; bottom_in = omega (arith, height_is, i.bottom_in) }
+  test_to q e = let i = inside_from rect q e in
+      record { left_in = i.left_in; right_in = omega (arith, width_is, i.right_in); top_in = i.top_in; bottom_in = omega (arith, height_is, i.bottom_in) }
 
   uncut : IsUncut rect t.squares
   uncut = uncut_from rect t.squares each
@@ -124,7 +140,8 @@ module _ (t : Tiling) (tiling : IsTiling t) (simple : IsSimple t) (left right to
           out : is_outside rect q ≡ true → (is_inside rect q || is_outside rect q) ≡ true
           out e = either_second (is_inside rect q) (is_outside rect q) e
 
-          cases : (q.x < right) ⊎ (right ≤ q.x) → (left < q.x + q.s) ⊎ (q.x + q.s ≤ left) → (q.y < bottom) ⊎ (bottom ≤ q.y) → (top < q.y + q.s) ⊎ (q.y + q.s ≤ top) → (is_inside rect q || is_outside rect q) ≡ true
+          cases : (q.x < right) ⊎ (right ≤ q.x) → (left < q.x + q.s) ⊎ (q.x + q.s ≤ left) → (q.y < bottom) ⊎ (bottom ≤ q.y)
+              → (top < q.y + q.s) ⊎ (q.y + q.s ≤ top) → (is_inside rect q || is_outside rect q) ≡ true
           cases (inl a) (inl b) (inl c) (inl d) = either_first (is_inside rect q) (is_outside rect q) (test_from q (inside_or_out q h a b c d))
           cases (inr a) b c d = out (outside_right rect q (omega (arith, width_is, a)))
           cases (inl a) (inr b) c d = out (outside_left rect q b)
@@ -152,19 +169,30 @@ module _ (t : Tiling) (tiling : IsTiling t) (simple : IsSimple t) (left right to
   corner i j a b c d = from (cell t tiling i j (omega (arith, b, frame.within_width)) (omega (arith, d, frame.within_height)))
     where
       from : IsCell t tiling i j → (q : Square) × IsOneOf q t.squares × IsOn i j q × IsInside left right top bottom q
-      from w = (w.square, w.is, w.on, inside_or_out w.square w.is (omega (arith, w.on.left, b)) (omega (arith, w.on.right, a)) (omega (arith, w.on.top, d)) (omega (arith, w.on.bottom, c)))
+      from w = (
+        w.square,
+        w.is,
+        w.on,
+        inside_or_out w.square w.is (omega (arith, w.on.left, b)) (omega (arith, w.on.right, a))
+            (omega (arith, w.on.top, d)) (omega (arith, w.on.bottom, c)),
+      )
 
+  -- in a simple tiling a frame that cuts no square bounds one square, or all
   pub one_or_all : IsOne ⊎ IsAll
   one_or_all = cases (cases_lt (count_by (is_inside rect) t.squares) 2) (cases_lt (count_by (is_inside rect) t.squares) (length t.squares))
     where
-      cases : (count_by (is_inside rect) t.squares < 2) ⊎ (2 ≤ count_by (is_inside rect) t.squares) → (count_by (is_inside rect) t.squares < length t.squares) ⊎ (length t.squares ≤ count_by (is_inside rect) t.squares) → IsOne ⊎ IsAll
-      cases (inr several) (inl few) = absurd (simple (rect, part_from_count t tiling rect (omega (arith, width_is, frame.within_width)) (omega (arith, height_is, frame.within_height)) uncut several few))
-      cases (inl few) b = inl (from (corner left top (omega arith) frame.wide (omega arith) frame.high) (corner (right - 1) (bottom - 1) (omega (arith, frame.wide)) (omega (arith, frame.wide)) (omega (arith, frame.high)) (omega (arith, frame.high))))
+      cases : (count_by (is_inside rect) t.squares < 2) ⊎ (2 ≤ count_by (is_inside rect) t.squares)
+          → (count_by (is_inside rect) t.squares < length t.squares) ⊎ (length t.squares ≤ count_by (is_inside rect) t.squares) → IsOne ⊎ IsAll
+      cases (inr several) (inl few) = absurd (simple
+          (rect, part_from_count t tiling rect (omega (arith, width_is, frame.within_width)) (omega (arith, height_is, frame.within_height)) uncut several few))
+      cases (inl few) b = inl (from (corner left top (omega arith) frame.wide (omega arith) frame.high)
+          (corner (right - 1) (bottom - 1) (omega (arith, frame.wide)) (omega (arith, frame.wide)) (omega (arith, frame.high)) (omega (arith, frame.high))))
         where
           same : (p q : Square) → IsOneOf p t.squares → IsOneOf q t.squares → IsInside left right top bottom p → IsInside left right top bottom q → p ≡ q
           same p q h k i j = no_two (is_inside rect) t.squares (omega (arith, few)) p q h (test_from p i) k (test_from q j)
 
-          from : (q : Square) × IsOneOf q t.squares × IsOn left top q × IsInside left right top bottom q → (q : Square) × IsOneOf q t.squares × IsOn (right - 1) (bottom - 1) q × IsInside left right top bottom q → IsOne
+          from : (q : Square) × IsOneOf q t.squares × IsOn left top q × IsInside left right top bottom q → (q : Square)
+              × IsOneOf q t.squares × IsOn (right - 1) (bottom - 1) q × IsInside left right top bottom q → IsOne
           from (p, h, on, i) (q, k, over, j) = record {
             square = p;
             is = h;
@@ -174,7 +202,9 @@ module _ (t : Tiling) (tiling : IsTiling t) (simple : IsSimple t) (left right to
             bottom_is = omega (arith, over.bottom, i.bottom_in, frame.high, ap (λ (s : Square). s.y + s.s) (same p q h k i j));
             only = λ r m l. same r p m h l i;
           }
-      cases (inr several) (inr full) = inr (from (cell t tiling 0 0 (omega (arith, frame.wide, frame.within_width)) (omega (arith, frame.high, frame.within_height))) (cell t tiling (t.width - 1) (t.height - 1) (omega (arith, frame.wide, frame.within_width)) (omega (arith, frame.high, frame.within_height))))
+      cases (inr several) (inr full) = inr (from
+          (cell t tiling 0 0 (omega (arith, frame.wide, frame.within_width)) (omega (arith, frame.high, frame.within_height)))
+          (cell t tiling (t.width - 1) (t.height - 1) (omega (arith, frame.wide, frame.within_width)) (omega (arith, frame.high, frame.within_height))))
         where
           inside : (q : Square) → IsOneOf q t.squares → IsInside left right top bottom q
           inside q h = test_to q (all_counted (is_inside rect) t.squares full q h)

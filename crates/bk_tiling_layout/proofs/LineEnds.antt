@@ -12,7 +12,8 @@ pub any_from : (p : Square → Bool) (squares : List Square) → list_any p squa
 any_from p [] e = absurd (cc)
 any_from p (r ∷ squares) e = cases (p r) refl e (any_from p squares)
   where
-    cases : (b : Bool) → p r ≡ b → (b || list_any p squares) ≡ true → (list_any p squares ≡ true → (q : Square) × IsOneOf q squares × (p q ≡ true)) → (q : Square) × IsOneOf q (r ∷ squares) × (p q ≡ true)
+    cases : (b : Bool) → p r ≡ b → (b || list_any p squares) ≡ true
+        → (list_any p squares ≡ true → (q : Square) × IsOneOf q squares × (p q ≡ true)) → (q : Square) × IsOneOf q (r ∷ squares) × (p q ≡ true)
     cases true f e rest = (r, inl refl, f)
     cases false f e rest = let k = rest e in (k.0, inr k.1, k.2)
 
@@ -64,13 +65,15 @@ ends_from squares x y e = from (any_from (λ q. (q.x + q.s == x) && (q.y + q.s =
     b : (list_any (λ q. (q.x + q.s == x) && (q.y + q.s == y)) squares ≡ true) × (list_any (λ r. (r.x == x) && (r.y + r.s == y)) squares ≡ true)
     b = both_from (list_any (λ q. (q.x + q.s == x) && (q.y + q.s == y)) squares) (list_any (λ r. (r.x == x) && (r.y + r.s == y)) squares) e
 
-    from : (q : Square) × IsOneOf q squares × (((q.x + q.s == x) && (q.y + q.s == y)) ≡ true) → (r : Square) × IsOneOf r squares × (((r.x == x) && (r.y + r.s == y)) ≡ true) → Ends squares x y
+    from : (q : Square) × IsOneOf q squares × (((q.x + q.s == x) && (q.y + q.s == y)) ≡ true) → (r : Square) × IsOneOf r squares
+        × (((r.x == x) && (r.y + r.s == y)) ≡ true) → Ends squares x y
     from (q, h, f) (r, k, g) = let m = two_from (q.x + q.s) x (q.y + q.s) y f in let n = two_from r.x x (r.y + r.s) y g in
         record { left = q; right = r; left_in = h; right_in = k; left_edge = m.0; right_edge = n.0; left_bottom = m.1; right_bottom = n.1 }
 
 pub ends_to : (squares : List Square) (x y : ℕ) → Ends squares x y → is_end squares x y ≡ true
 ends_to squares x y e = both_to (list_any (λ q. (q.x + q.s == x) && (q.y + q.s == y)) squares) (list_any (λ r. (r.x == x) && (r.y + r.s == y)) squares)
-    (any_to (λ q. (q.x + q.s == x) && (q.y + q.s == y)) squares e.left e.left_in (two_to (e.left.x + e.left.s) x (e.left.y + e.left.s) y e.left_edge e.left_bottom))
+    (any_to (λ q. (q.x + q.s == x) && (q.y + q.s == y)) squares e.left e.left_in
+    (two_to (e.left.x + e.left.s) x (e.left.y + e.left.s) y e.left_edge e.left_bottom))
     (any_to (λ r. (r.x == x) && (r.y + r.s == y)) squares e.right e.right_in (two_to e.right.x x (e.right.y + e.right.s) y e.right_edge e.right_bottom))
 
 -- a square beside which the line at its left edge goes on, and the same at its right edge
@@ -81,6 +84,7 @@ pub record GoesOnLeft (squares : List Square) (q : Square) : Type 0 where
   pub top : beside.y < q.y + q.s
   pub bottom : q.y + q.s < beside.y + beside.s
 
+-- a square at the right of the line at its right edge reaches further than it
 pub record GoesOnRight (squares : List Square) (q : Square) : Type 0 where
   pub beside : Square
   pub is : IsOneOf beside squares
@@ -88,23 +92,31 @@ pub record GoesOnRight (squares : List Square) (q : Square) : Type 0 where
   pub top : beside.y < q.y + q.s
   pub bottom : q.y + q.s < beside.y + beside.s
 
+-- the test that a line goes on at the left, and what it tests: from the test
 pub goes_left_from : (t : Tiling) (q : Square) → goes_on_left t q ≡ true → GoesOnLeft t.squares q
 goes_left_from t q e = from (any_from (λ z. (z.x + z.s == q.x) && (nat_lt z.y (q.y + q.s) && nat_lt (q.y + q.s) (z.y + z.s))) t.squares e)
   where
-    from : (z : Square) × IsOneOf z t.squares × (((z.x + z.s == q.x) && (nat_lt z.y (q.y + q.s) && nat_lt (q.y + q.s) (z.y + z.s))) ≡ true) → GoesOnLeft t.squares q
+    from : (z : Square) × IsOneOf z t.squares × (((z.x + z.s == q.x) && (nat_lt z.y (q.y + q.s) && nat_lt (q.y + q.s) (z.y + z.s))) ≡ true)
+        → GoesOnLeft t.squares q
     from (z, h, f) = let m = three_from (z.x + z.s) q.x z.y (q.y + q.s) (z.y + z.s) f in record { beside = z; is = h; edge = m.0; top = m.1; bottom = m.2 }
 
+-- the same at the right
 pub goes_right_from : (t : Tiling) (q : Square) → goes_on_right t q ≡ true → GoesOnRight t.squares q
 goes_right_from t q e = from (any_from (λ z. (z.x == q.x + q.s) && (nat_lt z.y (q.y + q.s) && nat_lt (q.y + q.s) (z.y + z.s))) t.squares e)
   where
-    from : (z : Square) × IsOneOf z t.squares × (((z.x == q.x + q.s) && (nat_lt z.y (q.y + q.s) && nat_lt (q.y + q.s) (z.y + z.s))) ≡ true) → GoesOnRight t.squares q
+    from : (z : Square) × IsOneOf z t.squares × (((z.x == q.x + q.s) && (nat_lt z.y (q.y + q.s) && nat_lt (q.y + q.s) (z.y + z.s))) ≡ true)
+        → GoesOnRight t.squares q
     from (z, h, f) = let m = three_from z.x (q.x + q.s) z.y (q.y + q.s) (z.y + z.s) f in record { beside = z; is = h; edge = m.0; top = m.1; bottom = m.2 }
 
+-- and to the test, at the left
 pub goes_left_to : (t : Tiling) (q : Square) → GoesOnLeft t.squares q → goes_on_left t q ≡ true
-goes_left_to t q g = any_to (λ z. (z.x + z.s == q.x) && (nat_lt z.y (q.y + q.s) && nat_lt (q.y + q.s) (z.y + z.s))) t.squares g.beside g.is (three_to (g.beside.x + g.beside.s) q.x g.beside.y (q.y + q.s) (g.beside.y + g.beside.s) g.edge g.top g.bottom)
+goes_left_to t q g = any_to (λ z. (z.x + z.s == q.x) && (nat_lt z.y (q.y + q.s) && nat_lt (q.y + q.s) (z.y + z.s))) t.squares g.beside g.is
+    (three_to (g.beside.x + g.beside.s) q.x g.beside.y (q.y + q.s) (g.beside.y + g.beside.s) g.edge g.top g.bottom)
 
+-- and at the right
 pub goes_right_to : (t : Tiling) (q : Square) → GoesOnRight t.squares q → goes_on_right t q ≡ true
-goes_right_to t q g = any_to (λ z. (z.x == q.x + q.s) && (nat_lt z.y (q.y + q.s) && nat_lt (q.y + q.s) (z.y + z.s))) t.squares g.beside g.is (three_to g.beside.x (q.x + q.s) g.beside.y (q.y + q.s) (g.beside.y + g.beside.s) g.edge g.top g.bottom)
+goes_right_to t q g = any_to (λ z. (z.x == q.x + q.s) && (nat_lt z.y (q.y + q.s) && nat_lt (q.y + q.s) (z.y + z.s))) t.squares g.beside g.is
+    (three_to g.beside.x (q.x + q.s) g.beside.y (q.y + q.s) (g.beside.y + g.beside.s) g.edge g.top g.bottom)
 
 -- ---- the first end below a level
 
@@ -122,28 +134,35 @@ module _ (squares : List Square) (x : ℕ) where
   end_is zero y b lo hi e none = absurd (omega arith)
   end_is (suc more) y b lo hi e none = cases (is_end squares x (suc y)) refl (end_is more (suc y) b) (cases_lt (suc y) b)
     where
-      cases : (v : Bool) → is_end squares x (suc y) ≡ v → (suc y < b → b ≤ suc y + more → Ends squares x b → ((c : ℕ) → suc y < c → c < b → Ends squares x c → ⊥) → line_end squares x more (suc y) ≡ b) → (suc y < b) ⊎ (b ≤ suc y) → cond v (suc y) (line_end squares x more (suc y)) ≡ b
+      cases : (v : Bool) → is_end squares x (suc y) ≡ v
+          → (suc y < b → b ≤ suc y + more → Ends squares x b → ((c : ℕ) → suc y < c → c < b → Ends squares x c → ⊥)
+          → line_end squares x more (suc y) ≡ b) → (suc y < b) ⊎ (b ≤ suc y) → cond v (suc y) (line_end squares x more (suc y)) ≡ b
       cases true f rest (inl h) = absurd (none (suc y) (omega arith) h (ends_from squares x (suc y) f))
       cases true f rest (inr h) = omega arith
       cases false f rest (inl h) = rest h (omega arith) e (λ c l m. none c (omega arith) m)
-      cases false f rest (inr h) = let same : b ≡ suc y = omega arith in absurd (both_ways (is_end squares x (suc y)) f (ends_to squares x (suc y) (subst (Ends squares x) same e)))
+      cases false f rest (inr h) = let same : b ≡ suc y = omega arith in
+          absurd (both_ways (is_end squares x (suc y)) f (ends_to squares x (suc y) (subst (Ends squares x) same e)))
 
   -- above it no line ends
   pub none_before : (more y c : ℕ) → y < c → c < line_end squares x more y → Ends squares x c → ⊥
   none_before zero y c lo hi e = omega arith
   none_before (suc more) y c lo hi e = cases (is_end squares x (suc y)) refl hi (none_before more (suc y) c) (cases_lt (suc y) c)
     where
-      cases : (v : Bool) → is_end squares x (suc y) ≡ v → c < cond v (suc y) (line_end squares x more (suc y)) → (suc y < c → c < line_end squares x more (suc y) → Ends squares x c → ⊥) → (suc y < c) ⊎ (c ≤ suc y) → ⊥
+      cases : (v : Bool) → is_end squares x (suc y) ≡ v → c < cond v (suc y) (line_end squares x more (suc y))
+          → (suc y < c → c < line_end squares x more (suc y) → Ends squares x c → ⊥) → (suc y < c) ⊎ (c ≤ suc y) → ⊥
       cases true f h rest k = omega (arith, h)
       cases false f h rest (inl k) = rest k h e
-      cases false f h rest (inr k) = let same : c ≡ suc y = omega arith in both_ways (is_end squares x (suc y)) f (ends_to squares x (suc y) (subst (Ends squares x) same e))
+      cases false f h rest (inr k) = let same : c ≡ suc y = omega arith in
+          both_ways (is_end squares x (suc y)) f (ends_to squares x (suc y) (subst (Ends squares x) same e))
 
   -- it is not passed where no line ends
   pub not_passed : (more y b : ℕ) → b ≤ y + more → ((c : ℕ) → y < c → c < b → Ends squares x c → ⊥) → b ≤ line_end squares x more y
   not_passed zero y b hi none = omega arith
-  not_passed (suc more) y b hi none = cases (is_end squares x (suc y)) refl (not_passed more (suc y) b (omega arith) (λ c l m. none c (omega arith) m)) (cases_lt (suc y) b)
+  not_passed (suc more) y b hi none = cases (is_end squares x (suc y)) refl
+      (not_passed more (suc y) b (omega arith) (λ c l m. none c (omega arith) m)) (cases_lt (suc y) b)
     where
-      cases : (v : Bool) → is_end squares x (suc y) ≡ v → b ≤ line_end squares x more (suc y) → (suc y < b) ⊎ (b ≤ suc y) → b ≤ cond v (suc y) (line_end squares x more (suc y))
+      cases : (v : Bool) → is_end squares x (suc y) ≡ v → b ≤ line_end squares x more (suc y) → (suc y < b) ⊎ (b ≤ suc y)
+          → b ≤ cond v (suc y) (line_end squares x more (suc y))
       cases true f rest (inl k) = absurd (none (suc y) (omega arith) k (ends_from squares x (suc y) f))
       cases true f rest (inr k) = k
       cases false f rest k = rest
@@ -157,7 +176,8 @@ module _ (squares : List Square) (x : ℕ) where
 
       right : y ≡ y + 0
       right = omega arith
-  end_skips (suc d) more y none = ap (λ (n : ℕ). line_end squares x n y) fuel ∙ cases (is_end squares x (suc y)) refl ∙ end_skips d more (suc y) (λ c l m. none c (omega arith) (omega arith)) ∙ ap (line_end squares x more) level
+  end_skips (suc d) more y none = ap (λ (n : ℕ). line_end squares x n y) fuel ∙ cases (is_end squares x (suc y)) refl
+      ∙ end_skips d more (suc y) (λ c l m. none c (omega arith) (omega arith)) ∙ ap (line_end squares x more) level
     where
       fuel : suc d + more ≡ suc (d + more)
       fuel = omega arith
@@ -177,15 +197,19 @@ pair zero b (suc c) d m h k e = absurd (omega (arith, e))
 pair (suc a) b zero d m h k e = absurd (omega (arith, e))
 pair (suc a) b (suc c) d m h k e = let r = pair a b c d m h k (omega (arith, e)) in (ap suc r.0, r.1)
 
+-- equal numbers pass the test of equality
 pub eq_to : (a b : ℕ) → a ≡ b → (a == b) ≡ true
 eq_to a b e = grind (arith, nat_tests)
 
+-- and those that pass it are equal
 pub eq_from : (a b : ℕ) → (a == b) ≡ true → a ≡ b
 eq_from a b e = grind (arith, nat_tests)
 
 module _ (t : Tiling) where
+  -- the left wall has the number 0
   pub number_left : (x y : ℕ) → x ≡ 0 → line_number t x y ≡ 0
-  number_left x y e = ap (λ (b : Bool). if b then 0 else if x == t.width then 1 else 2 + (x * (t.height + 1) + line_end t.squares x (t.height - y) y)) (eq_to x 0 e)
+  number_left x y e = ap (λ (b : Bool). if b then 0 else if x == t.width then 1 else 2
+      + (x * (t.height + 1) + line_end t.squares x (t.height - y) y)) (eq_to x 0 e)
 
   -- what a number is
   pub data IsNumber (x y : ℕ) (n : ℕ) : Type 0 where
@@ -196,11 +220,13 @@ module _ (t : Tiling) where
   pub number_is : (x y : ℕ) → IsNumber x y (line_number t x y)
   number_is x y = cases (x == 0) (x == t.width) refl refl
     where
-      cases : (a b : Bool) → (x == 0) ≡ a → (x == t.width) ≡ b → IsNumber x y (if a then 0 else if b then 1 else 2 + (x * (t.height + 1) + line_end t.squares x (t.height - y) y))
+      cases : (a b : Bool) → (x == 0) ≡ a → (x == t.width) ≡ b
+          → IsNumber x y (if a then 0 else if b then 1 else 2 + (x * (t.height + 1) + line_end t.squares x (t.height - y) y))
       cases true b e f = wall_left (eq_from x 0 e) refl
       cases false true e f = wall_right (λ k. both_ways (x == 0) e (eq_to x 0 k)) (eq_from x t.width f) refl
       cases false false e f = inner (λ k. both_ways (x == 0) e (eq_to x 0 k)) (λ k. both_ways (x == t.width) f (eq_to x t.width k)) refl
 
+  -- and no other line
   pub number_zero : (x y : ℕ) → line_number t x y ≡ 0 → x ≡ 0
   number_zero x y e = cases (number_is x y)
     where
@@ -209,6 +235,7 @@ module _ (t : Tiling) where
       cases (wall_right h k n) = absurd (omega (arith, n, e))
       cases (inner h k n) = absurd (omega (arith, n, e))
 
+  -- the number 1 is that of the right wall alone
   pub number_one : (x y : ℕ) → line_number t x y ≡ 1 → x ≡ t.width
   number_one x y e = cases (number_is x y)
     where
@@ -217,6 +244,7 @@ module _ (t : Tiling) where
       cases (wall_right h k n) = k
       cases (inner h k n) = absurd (omega (arith, n, e))
 
+  -- and the right wall has it
   pub number_right : (x y : ℕ) → 0 < x → x ≡ t.width → line_number t x y ≡ 1
   number_right x y some e = cases (number_is x y)
     where
@@ -226,10 +254,12 @@ module _ (t : Tiling) where
       cases (inner h k n) = absurd (k e)
 
   -- one number, one line: from the right edge of a square, and the left edge of another
-  pub number_both : (x y a b : ℕ) → 0 < x → a < t.width → y ≤ t.height → b ≤ t.height → line_number t x y ≡ line_number t a b → (x ≡ a) × (line_end t.squares x (t.height - y) y ≡ line_end t.squares a (t.height - b) b)
+  pub number_both : (x y a b : ℕ) → 0 < x → a < t.width → y ≤ t.height → b ≤ t.height → line_number t x y ≡ line_number t a b → (x ≡ a)
+      × (line_end t.squares x (t.height - y) y ≡ line_end t.squares a (t.height - b) b)
   number_both x y a b some wide h k e = cases (number_is x y) (number_is a b)
     where
-      cases : IsNumber x y (line_number t x y) → IsNumber a b (line_number t a b) → (x ≡ a) × (line_end t.squares x (t.height - y) y ≡ line_end t.squares a (t.height - b) b)
+      cases : IsNumber x y (line_number t x y) → IsNumber a b (line_number t a b) → (x ≡ a)
+          × (line_end t.squares x (t.height - y) y ≡ line_end t.squares a (t.height - b) b)
       cases (wall_left i n) other = absurd (omega (arith, i))
       cases (wall_right i j n) (wall_left l m) = absurd (omega (arith, n, m, e))
       cases (wall_right i j n) (wall_right l o m) = absurd (omega (arith, o))
@@ -239,6 +269,7 @@ module _ (t : Tiling) where
       cases (inner i j n) (inner l o m) = pair x (line_end t.squares x (t.height - y) y) a (line_end t.squares a (t.height - b) b) (t.height + 1)
           (omega (arith, end_within t.squares x (t.height - y) y)) (omega (arith, end_within t.squares a (t.height - b) b)) (omega (arith, n, m, e))
 
+  -- two levels of a column from which the line ends at one place have one number
   pub number_same : (x y z : ℕ) → line_end t.squares x (t.height - y) y ≡ line_end t.squares x (t.height - z) z → line_number t x y ≡ line_number t x z
   number_same x y z e = ap (λ (n : ℕ). if x == 0 then 0 else if x == t.width then 1 else 2 + (x * (t.height + 1) + n)) e
 
@@ -258,10 +289,13 @@ module _ (t : Tiling) where
       cases (inner i j n) (inner l o m) = (pair x (line_end t.squares x (t.height - y) y) a (line_end t.squares a (t.height - b) b) (t.height + 1)
           (omega (arith, end_within t.squares x (t.height - y) y)) (omega (arith, end_within t.squares a (t.height - b) b)) (omega (arith, n, m, e))).0
 
-  pub number_end : (x y b : ℕ) → 0 < x → x < t.width → line_number t x y ≡ line_number t x b → line_end t.squares x (t.height - y) y ≡ line_end t.squares x (t.height - b) b
+  -- and of two levels of one number the line ends at one place
+  pub number_end : (x y b : ℕ) → 0 < x → x < t.width → line_number t x y ≡ line_number t x b
+      → line_end t.squares x (t.height - y) y ≡ line_end t.squares x (t.height - b) b
   number_end x y b some wide e = cases (number_is x y) (number_is x b)
     where
-      cases : IsNumber x y (line_number t x y) → IsNumber x b (line_number t x b) → line_end t.squares x (t.height - y) y ≡ line_end t.squares x (t.height - b) b
+      cases : IsNumber x y (line_number t x y) → IsNumber x b (line_number t x b)
+          → line_end t.squares x (t.height - y) y ≡ line_end t.squares x (t.height - b) b
       cases (wall_left i n) other = absurd (omega (arith, i))
       cases (wall_right i j n) other = absurd (omega (arith, j))
       cases (inner i j n) (wall_left l m) = absurd (omega (arith, l))

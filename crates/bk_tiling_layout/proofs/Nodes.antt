@@ -29,16 +29,20 @@ pub record IsNode (t : Tiling) (v : ℕ) : Type 0 where
   pub wide : right ≤ t.width
   pub is_level : slice_index_or (node_levels t) v 0 ≡ level
   pub hang_to : (q : Square) → IsOneOf q t.squares → node_above (square_groups t.squares) q ≡ v → (q.y ≡ level) × (left ≤ q.x) × (q.x + q.s ≤ right)
-  pub hang_from : (q : Square) (c : ℕ) → IsOneOf q t.squares → q.y ≡ level → left ≤ c → c < right → q.x ≤ c → c < q.x + q.s → node_above (square_groups t.squares) q ≡ v
+  pub hang_from : (q : Square) (c : ℕ) → IsOneOf q t.squares → q.y ≡ level → left ≤ c → c < right → q.x ≤ c → c < q.x + q.s
+      → node_above (square_groups t.squares) q ≡ v
   pub end_to : (q : Square) → IsOneOf q t.squares → node_below (square_groups t.squares) q ≡ v → (q.y + q.s ≡ level) × (left ≤ q.x) × (q.x + q.s ≤ right)
-  pub end_from : (q : Square) (c : ℕ) → IsOneOf q t.squares → q.y + q.s ≡ level → left ≤ c → c < right → q.x ≤ c → c < q.x + q.s → node_below (square_groups t.squares) q ≡ v
+  pub end_from : (q : Square) (c : ℕ) → IsOneOf q t.squares → q.y + q.s ≡ level → left ≤ c → c < right → q.x ≤ c → c < q.x + q.s
+      → node_below (square_groups t.squares) q ≡ v
   pub under : (q : Square) (c : ℕ) → IsOneOf q t.squares → left ≤ c → c < right → IsOn c level q → q.y ≡ level
   pub beyond_left : (z : Square) → IsOneOf z t.squares → z.y ≡ level → z.x + z.s ≡ left → ⊥
   pub beyond_right : (z : Square) → IsOneOf z t.squares → z.y ≡ level → z.x ≡ right → ⊥
-  pub inner : ((v < length (square_groups t.squares)) × (level < t.height)) ⊎ ((v ≡ length (square_groups t.squares)) × (level ≡ t.height) × (left ≡ 0) × (right ≡ t.width))
+  pub inner : ((v < length (square_groups t.squares)) × (level < t.height))
+      ⊎ ((v ≡ length (square_groups t.squares)) × (level ≡ t.height) × (left ≡ 0) × (right ≡ t.width))
   pub top : v ≡ 0 → (level ≡ 0) × (left ≡ 0) × (right ≡ t.width)
 
-level_of_group : (groups : List (List Square)) (v h : ℕ) (g : List Square) → slice_get groups v ≡ Some g → slice_index_or (map group_level groups ++ h ∷ []) v 0 ≡ group_level g
+level_of_group : (groups : List (List Square)) (v h : ℕ) (g : List Square) → slice_get groups v ≡ Some g
+    → slice_index_or (map group_level groups ++ h ∷ []) v 0 ≡ group_level g
 level_of_group [] v h g e = absurd (cc)
 level_of_group (f ∷ groups) zero h g e = let same : f ≡ g = cc in ap group_level same
 level_of_group (f ∷ groups) (suc v) h g e = level_of_group groups v h g e
@@ -83,7 +87,8 @@ module _ (t : Tiling) (tiling : IsTiling t) (g : List Square) (k : IsGroup t.squ
   in_under q c h lo hi on = let r = over c lo hi in subst (λ (s : Square). IsOneOf s g) (sym (meet t tiling c k.row.first.y q r.0 h (own r.0 r.1) on r.2)) r.1
 
   in_level : (q : Square) (c : ℕ) → IsOneOf q t.squares → q.y ≡ k.row.first.y → k.row.first.x ≤ c → c < k.row.end → q.x ≤ c → c < q.x + q.s → IsOneOf q g
-  in_level q c h level lo hi a b = in_under q c h lo hi (record { left = a; right = b; top = omega (arith, level); bottom = omega (arith, level, side t tiling q h) })
+  in_level q c h level lo hi a b = in_under q c h lo hi
+      (record { left = a; right = b; top = omega (arith, level); bottom = omega (arith, level, side t tiling q h) })
 
   first_own : IsOneOf k.row.first t.squares
   first_own = own k.row.first first_in
@@ -92,13 +97,15 @@ module _ (t : Tiling) (tiling : IsTiling t) (g : List Square) (k : IsGroup t.squ
   some_columns = omega (arith, (within k.row.first first_in).1, side t tiling k.row.first first_own)
 
   end_within : k.row.end ≤ t.width
-  end_within = let r = over (k.row.end - 1) (omega (arith, some_columns)) (omega (arith, some_columns)) in omega (arith, (r.2).right, right_within t tiling r.0 (own r.0 r.1))
+  end_within = let r = over (k.row.end - 1) (omega (arith, some_columns)) (omega (arith, some_columns)) in
+      omega (arith, (r.2).right, right_within t tiling r.0 (own r.0 r.1))
 
   low : k.row.first.y < t.height
   low = omega (arith, bottom_within t tiling k.row.first first_own, side t tiling k.row.first first_own)
 
   -- a square that ends at its level over one of its columns ends on it with all its columns
-  ends_within : (q : Square) (c : ℕ) → IsOneOf q t.squares → q.y + q.s ≡ k.row.first.y → k.row.first.x ≤ c → c < k.row.end → q.x ≤ c → c < q.x + q.s → (k.row.first.x ≤ q.x) × (q.x + q.s ≤ k.row.end)
+  ends_within : (q : Square) (c : ℕ) → IsOneOf q t.squares → q.y + q.s ≡ k.row.first.y → k.row.first.x ≤ c → c < k.row.end → q.x ≤ c
+      → c < q.x + q.s → (k.row.first.x ≤ q.x) × (q.x + q.s ≤ k.row.end)
   ends_within q c h level lo hi a b = (left (cases_lt q.x k.row.first.x), right (cases_lt k.row.end (q.x + q.s)))
     where
       left : (q.x < k.row.first.x) ⊎ (k.row.first.x ≤ q.x) → k.row.first.x ≤ q.x
@@ -109,7 +116,13 @@ module _ (t : Tiling) (tiling : IsTiling t) (g : List Square) (k : IsGroup t.squ
           from z = cases (cases_lt k.row.first.x (z.square.x + z.square.s))
             where
               cases : (k.row.first.x < z.square.x + z.square.s) ⊎ (z.square.x + z.square.s ≤ k.row.first.x) → ⊥
-              cases (inl n) = omega (arith, (within z.square (in_level z.square k.row.first.x z.is (omega (arith, z.level, level)) (omega arith) some_columns (omega (arith, z.left)) n)).0, z.left, m)
+              cases (inl n) = omega (
+                arith,
+                (within z.square
+                    (in_level z.square k.row.first.x z.is (omega (arith, z.level, level)) (omega arith) some_columns (omega (arith, z.left)) n)).0,
+                z.left,
+                m,
+              )
               cases (inr n) = k.left z.square z.is (omega (arith, z.level, level)) (omega (arith, n, z.right))
 
       right : (k.row.end < q.x + q.s) ⊎ (q.x + q.s ≤ k.row.end) → q.x + q.s ≤ k.row.end
@@ -120,7 +133,13 @@ module _ (t : Tiling) (tiling : IsTiling t) (g : List Square) (k : IsGroup t.squ
           from z = cases (cases_lt z.square.x k.row.end)
             where
               cases : (z.square.x < k.row.end) ⊎ (k.row.end ≤ z.square.x) → ⊥
-              cases (inl n) = omega (arith, (within z.square (in_level z.square (k.row.end - 1) z.is (omega (arith, z.level, level)) (omega (arith, some_columns)) (omega (arith, some_columns)) (omega arith) (omega (arith, z.right)))).1, z.right)
+              cases (inl n) = omega (
+                arith,
+                (within z.square
+                    (in_level z.square (k.row.end - 1) z.is (omega (arith, z.level, level)) (omega (arith, some_columns))
+                    (omega (arith, some_columns)) (omega arith) (omega (arith, z.right)))).1,
+                z.right,
+              )
               cases (inr n) = k.row.right z.square z.is (omega (arith, z.level, level)) (omega (arith, n, z.left))
 
   -- where it begins at the top left corner, it reaches to the right edge
@@ -135,7 +154,13 @@ module _ (t : Tiling) (tiling : IsTiling t) (g : List Square) (k : IsGroup t.squ
           from z = by (cases_lt z.square.x k.row.end)
             where
               by : (z.square.x < k.row.end) ⊎ (k.row.end ≤ z.square.x) → ⊥
-              by (inl n) = omega (arith, (within z.square (in_level z.square (k.row.end - 1) z.is (omega (arith, z.on.top, y)) (omega (arith, some_columns)) (omega (arith, some_columns)) (omega arith) (omega (arith, z.on.right)))).1, z.on.right)
+              by (inl n) = omega (
+                arith,
+                (within z.square
+                    (in_level z.square (k.row.end - 1) z.is (omega (arith, z.on.top, y)) (omega (arith, some_columns))
+                    (omega (arith, some_columns)) (omega arith) (omega (arith, z.on.right)))).1,
+                z.on.right,
+              )
               by (inr n) = k.row.right z.square z.is (omega (arith, z.on.top, y)) (omega (arith, n, z.on.left))
 
 module _ (t : Tiling) (tiling : IsTiling t) where
@@ -150,11 +175,14 @@ module _ (t : Tiling) (tiling : IsTiling t) where
   own_cell : (q : Square) → IsOneOf q t.squares → covers q.x q.y q ≡ true
   own_cell q h = covers_from q.x q.y q (omega arith) (omega (arith, side t tiling q h)) (omega arith) (omega (arith, side t tiling q h))
 
+  -- a square hangs from no bottom
   pub above_bottom : (q : Square) → IsOneOf q t.squares → node_above (square_groups t.squares) q < length (square_groups t.squares)
   above_bottom q h = cases (own_group q h).found
     where
-      cases : ((node_above (square_groups t.squares) q < length (square_groups t.squares)) × (0 < count_by (covers q.x q.y) (slice_index_or (square_groups t.squares) (node_above (square_groups t.squares) q) [])))
-          ⊎ ((node_above (square_groups t.squares) q ≡ length (square_groups t.squares)) × (count_by (covers q.x q.y) (row_of (square_groups t.squares)) ≡ 0)) → node_above (square_groups t.squares) q < length (square_groups t.squares)
+      cases : ((node_above (square_groups t.squares) q < length (square_groups t.squares))
+          × (0 < count_by (covers q.x q.y) (slice_index_or (square_groups t.squares) (node_above (square_groups t.squares) q) [])))
+          ⊎ ((node_above (square_groups t.squares) q ≡ length (square_groups t.squares))
+          × (count_by (covers q.x q.y) (row_of (square_groups t.squares)) ≡ 0)) → node_above (square_groups t.squares) q < length (square_groups t.squares)
       cases (inl m) = m.0
       cases (inr m) = absurd (omega (arith, m.1, ap (count_by (covers q.x q.y)) (row_is t tiling), one_counted (covers q.x q.y) t.squares q h (own_cell q h)))
 
@@ -169,15 +197,30 @@ module _ (t : Tiling) (tiling : IsTiling t) where
     own_in q h = in_group t tiling v g e q h
 
     above_to : (q : Square) → IsOneOf q t.squares → node_above (square_groups t.squares) q ≡ v → IsOneOf q g
-    above_to q h same = from (counted_one (covers q.x q.y) g (omega (arith, ap (count_by (covers q.x q.y)) (get_index (square_groups t.squares) v g e), (own_group q h).counts v few, one_if (node_above (square_groups t.squares) q) v same)))
+    above_to q h same = from (counted_one (covers q.x q.y) g
+        (omega (
+          arith,
+          ap (count_by (covers q.x q.y)) (get_index (square_groups t.squares) v g e),
+          (own_group q h).counts v few,
+          one_if (node_above (square_groups t.squares) q) v same,
+        )))
       where
         from : (r : Square) × IsOneOf r g × (covers q.x q.y r ≡ true) → IsOneOf q g
         from (r, m, f) = subst (λ (s : Square). IsOneOf s g) (sym (one_there t tiling q r q.x q.y h (own_cell q h) (own_in r m) f)) m
 
+    -- the squares of the group of this number hang from the node
     pub above_from : (q : Square) → IsOneOf q g → node_above (square_groups t.squares) q ≡ v
-    above_from q h = if_one (node_above (square_groups t.squares) q) v (omega (arith, one_counted (covers q.x q.y) g q h (own_cell q (own_in q h)), ap (count_by (covers q.x q.y)) (get_index (square_groups t.squares) v g e), (own_group q (own_in q h)).counts v few))
+    above_from q h = if_one (node_above (square_groups t.squares) q) v
+        (omega (
+          arith,
+          one_counted (covers q.x q.y) g q h (own_cell q (own_in q h)),
+          ap (count_by (covers q.x q.y)) (get_index (square_groups t.squares) v g e),
+          (own_group q (own_in q h)).counts v few,
+        ))
 
-    below_to : (q : Square) → IsOneOf q t.squares → node_below (square_groups t.squares) q ≡ v → (q.y + q.s ≡ (group_of t tiling v g e).0.row.first.y) × ((group_of t tiling v g e).0.row.first.x ≤ q.x) × (q.x + q.s ≤ (group_of t tiling v g e).0.row.end)
+    below_to : (q : Square) → IsOneOf q t.squares → node_below (square_groups t.squares) q ≡ v
+        → (q.y + q.s ≡ (group_of t tiling v g e).0.row.first.y) × ((group_of t tiling v g e).0.row.first.x ≤ q.x)
+        × (q.x + q.s ≤ (group_of t tiling v g e).0.row.end)
     below_to q h same = from (counted_one (λ r. nat_eq r.y (q.y + q.s) && covers_column q.x r) g (omega (
       arith,
       ap (count_by (λ r. nat_eq r.y (q.y + q.s) && covers_column q.x r)) (get_index (square_groups t.squares) v g e),
@@ -185,7 +228,9 @@ module _ (t : Tiling) (tiling : IsTiling t) where
       one_if (node_below (square_groups t.squares) q) v same,
     )))
       where
-        from : (r : Square) × IsOneOf r g × ((nat_eq r.y (q.y + q.s) && covers_column q.x r) ≡ true) → (q.y + q.s ≡ (group_of t tiling v g e).0.row.first.y) × ((group_of t tiling v g e).0.row.first.x ≤ q.x) × (q.x + q.s ≤ (group_of t tiling v g e).0.row.end)
+        from : (r : Square) × IsOneOf r g × ((nat_eq r.y (q.y + q.s) && covers_column q.x r) ≡ true)
+            → (q.y + q.s ≡ (group_of t tiling v g e).0.row.first.y) × ((group_of t tiling v g e).0.row.first.x ≤ q.x)
+            × (q.x + q.s ≤ (group_of t tiling v g e).0.row.end)
         from (r, m, f) = (level, on.0, on.1)
           where
             u : IsUnder q r
@@ -195,9 +240,13 @@ module _ (t : Tiling) (tiling : IsTiling t) where
             level = omega (arith, u.level, tops t tiling g group own_in r m)
 
             on : ((group_of t tiling v g e).0.row.first.x ≤ q.x) × (q.x + q.s ≤ (group_of t tiling v g e).0.row.end)
-            on = let w = within t tiling g group own_in r m in ends_within t tiling g group own_in q q.x h level (omega (arith, w.0, u.left)) (omega (arith, w.1, u.right)) (omega arith) (omega (arith, side t tiling q h))
+            on = let w = within t tiling g group own_in r m in
+                ends_within t tiling g group own_in q q.x h level (omega (arith, w.0, u.left)) (omega (arith, w.1, u.right)) (omega arith)
+                (omega (arith, side t tiling q h))
 
-    below_from_level : (q : Square) (c : ℕ) → IsOneOf q t.squares → q.y + q.s ≡ (group_of t tiling v g e).0.row.first.y → (group_of t tiling v g e).0.row.first.x ≤ c → c < (group_of t tiling v g e).0.row.end → q.x ≤ c → c < q.x + q.s → node_below (square_groups t.squares) q ≡ v
+    below_from_level : (q : Square) (c : ℕ) → IsOneOf q t.squares → q.y + q.s ≡ (group_of t tiling v g e).0.row.first.y
+        → (group_of t tiling v g e).0.row.first.x ≤ c → c < (group_of t tiling v g e).0.row.end → q.x ≤ c → c < q.x + q.s
+        → node_below (square_groups t.squares) q ≡ v
     below_from_level q c h level lo hi a b = from (over t tiling g group own_in q.x on.0 (omega (arith, on.1, side t tiling q h)))
       where
         on : ((group_of t tiling v g e).0.row.first.x ≤ q.x) × (q.x + q.s ≤ (group_of t tiling v g e).0.row.end)
@@ -206,7 +255,8 @@ module _ (t : Tiling) (tiling : IsTiling t) where
         from : (r : Square) × IsOneOf r g × IsOn q.x (group_of t tiling v g e).0.row.first.y r → node_below (square_groups t.squares) q ≡ v
         from (r, m, o) = if_one (node_below (square_groups t.squares) q) v (omega (
           arith,
-          one_counted (λ r. nat_eq r.y (q.y + q.s) && covers_column q.x r) g r m (below_from q r (omega (arith, tops t tiling g group own_in r m, level)) o.left o.right),
+          one_counted (λ r. nat_eq r.y (q.y + q.s) && covers_column q.x r) g r m
+              (below_from q r (omega (arith, tops t tiling g group own_in r m, level)) o.left o.right),
           ap (count_by (λ r. nat_eq r.y (q.y + q.s) && covers_column q.x r)) (get_index (square_groups t.squares) v g e),
           (place t tiling q h).counts v few,
         ))
@@ -226,6 +276,7 @@ module _ (t : Tiling) (tiling : IsTiling t) where
         same : (group_of t tiling v g e).0.row.first ≡ (known t tiling).first
         same = heads (group_of t tiling v g e).0.row.is (groups_same is ∙ (known t tiling).own.row.is) ∙ (known t tiling).at_first
 
+    -- each group is a node: the columns and the level of its squares
     pub inner_node : IsNode t v
     inner_node = record {
       left = (group_of t tiling v g e).0.row.first.x;
@@ -251,10 +302,13 @@ module _ (t : Tiling) (tiling : IsTiling t) where
   ends_at_height : (q : Square) → IsOneOf q t.squares → node_below (square_groups t.squares) q ≡ length (square_groups t.squares) → q.y + q.s ≡ t.height
   ends_at_height q h e = cases (stands_on t tiling q h).is
     where
-      cases : ((node_below (square_groups t.squares) q ≡ length (square_groups t.squares)) × (q.y + q.s ≡ t.height)) ⊎ ((g : List Square) × (slice_get (square_groups t.squares) (node_below (square_groups t.squares) q) ≡ Some g) × (group_level g ≡ q.y + q.s)) → q.y + q.s ≡ t.height
+      cases : ((node_below (square_groups t.squares) q ≡ length (square_groups t.squares)) × (q.y + q.s ≡ t.height))
+          ⊎ ((g : List Square) × (slice_get (square_groups t.squares) (node_below (square_groups t.squares) q) ≡ Some g)
+          × (group_level g ≡ q.y + q.s)) → q.y + q.s ≡ t.height
       cases (inl m) = m.1
       cases (inr (g, f, l)) = absurd (omega (arith, e, slice_get_within (square_groups t.squares) (node_below (square_groups t.squares) q) g f))
 
+  -- the bottom is a node: the whole width at the height
   pub bottom_node : IsNode t (length (square_groups t.squares))
   bottom_node = record {
     left = 0;
@@ -274,5 +328,6 @@ module _ (t : Tiling) (tiling : IsTiling t) where
     top = λ e. absurd (omega (arith, e, ap length (known t tiling).is));
   }
 
+  -- no square ends below the bottom
   pub most_nodes : (q : Square) → IsOneOf q t.squares → node_below (square_groups t.squares) q ≤ length (square_groups t.squares)
   most_nodes q h = (place t tiling q h).most

@@ -14,7 +14,7 @@ use Rattle.bk_tiling_layout.proofs.LineEnds.{number_column, number_left, number_
 use Rattle.bk_tiling_layout.proofs.Marks.{IsMark, clear, number_there, passes, same_node}
 use Rattle.bk_tiling_layout.proofs.NodeLaws.{beside, level_within}
 use Rattle.bk_tiling_layout.proofs.Nodes.{IsNode, above_bottom, most_nodes}
-use Rattle.bk_tiling_layout.proofs.TilingFits.{HasNumber, ended, ended_from, ended_one, first_of_ended, first_of_hung, has_number, hung, hung_from, hung_node, hung_one, in_square, key, last_of_ended, last_of_hung, node_at, over_hung}
+use Rattle.bk_tiling_layout.proofs.TilingSquares.{HasNumber, ended, ended_from, ended_one, first_of_ended, first_of_hung, has_number, hung, hung_from, hung_node, hung_one, in_square, key, last_of_ended, last_of_hung, node_at, over_hung}
 use Rattle.bk_tiling_layout.proofs.Twins.{common, none_below, none_beside}
 use Rattle.bk_layout.specs.Layout.{HasNoTwins}
 use Rattle.bk_tiling_layout.specs.SimpleLayout.{ASimpleTilingHasASimpleLayout, AreOutermost, HasNoPairs, HasNoParts, HasOneBetween, Touches}
@@ -26,7 +26,8 @@ module _ (t : Tiling) (tiling : IsTiling t) where
   touched_node : (f u : ℕ) → Touches (layout_of t) f u → IsNode t u
   touched_node f u touch = cases touch.at
     where
-      cases : (node_above (square_groups t.squares) (square_of t touch.square) ≡ u) ⊎ (node_below (square_groups t.squares) (square_of t touch.square) ≡ u) → IsNode t u
+      cases : (node_above (square_groups t.squares) (square_of t touch.square) ≡ u)
+          ⊎ (node_below (square_groups t.squares) (square_of t touch.square) ≡ u) → IsNode t u
       cases (inl e) = node_at t tiling u (omega (arith, e, above_bottom t tiling (square_of t touch.square) (in_square t tiling touch.square touch.within)))
       cases (inr e) = node_at t tiling u (omega (arith, e, most_nodes t tiling (square_of t touch.square) (in_square t tiling touch.square touch.within)))
 
@@ -40,16 +41,47 @@ module _ (t : Tiling) (tiling : IsTiling t) where
       q_in : IsOneOf (square_of t touch.square) t.squares
       q_in = in_square t tiling touch.square touch.within
 
-      spans : (((square_of t touch.square).y ≡ node.level) ⊎ ((square_of t touch.square).y + (square_of t touch.square).s ≡ node.level)) × (node.left ≤ (square_of t touch.square).x) × ((square_of t touch.square).x + (square_of t touch.square).s ≤ node.right)
+      spans : (((square_of t touch.square).y ≡ node.level) ⊎ ((square_of t touch.square).y + (square_of t touch.square).s ≡ node.level))
+          × (node.left ≤ (square_of t touch.square).x) × ((square_of t touch.square).x + (square_of t touch.square).s ≤ node.right)
       spans = by touch.at
         where
-          by : (node_above (square_groups t.squares) (square_of t touch.square) ≡ u) ⊎ (node_below (square_groups t.squares) (square_of t touch.square) ≡ u) → (((square_of t touch.square).y ≡ node.level) ⊎ ((square_of t touch.square).y + (square_of t touch.square).s ≡ node.level)) × (node.left ≤ (square_of t touch.square).x) × ((square_of t touch.square).x + (square_of t touch.square).s ≤ node.right)
+          by : (node_above (square_groups t.squares) (square_of t touch.square) ≡ u)
+              ⊎ (node_below (square_groups t.squares) (square_of t touch.square) ≡ u)
+              → (((square_of t touch.square).y ≡ node.level) ⊎ ((square_of t touch.square).y + (square_of t touch.square).s ≡ node.level))
+              × (node.left ≤ (square_of t touch.square).x) × ((square_of t touch.square).x + (square_of t touch.square).s ≤ node.right)
           by (inl e) = let k = node.hang_to (square_of t touch.square) q_in e in (inl k.0, k.1, k.2)
           by (inr e) = let k = node.end_to (square_of t touch.square) q_in e in (inr k.0, k.1, k.2)
 
-      cases : (line_number t (square_of t touch.square).x (square_of t touch.square).y ≡ f) ⊎ (line_number t ((square_of t touch.square).x + (square_of t touch.square).s) (square_of t touch.square).y ≡ f) → HasMark f u node
-      cases (inl e) = record { column = (square_of t touch.square).x; mark = record { square = square_of t touch.square; is = q_in; beside = inl refl; line = e; at = spans.0; from_left = spans.1; to_right = omega (arith, spans.2) } }
-      cases (inr e) = record { column = (square_of t touch.square).x + (square_of t touch.square).s; mark = record { square = square_of t touch.square; is = q_in; beside = inr refl; line = e; at = spans.0; from_left = omega (arith, spans.1); to_right = spans.2 } }
+      cases : (line_number t (square_of t touch.square).x (square_of t touch.square).y ≡ f)
+          ⊎ (line_number t ((square_of t touch.square).x + (square_of t touch.square).s) (square_of t touch.square).y ≡ f) → HasMark f u node
+      cases (inl e) = record {
+        column = (square_of t touch.square).x;
+        mark =
+            record {
+              square = square_of t touch.square;
+              is = q_in;
+              beside = inl refl;
+              line = e;
+              at = spans.0;
+              from_left = spans.1;
+              to_right =
+                  omega (arith, spans.2);
+            };
+      }
+      cases (inr e) = record {
+        column = (square_of t touch.square).x + (square_of t touch.square).s;
+        mark =
+            record {
+              square = square_of t touch.square;
+              is = q_in;
+              beside = inr refl;
+              line = e;
+              at = spans.0;
+              from_left =
+                  omega (arith, spans.1);
+              to_right = spans.2;
+            };
+      }
 
   low_square : (q : Square) → IsOneOf q t.squares → q.y ≤ t.height
   low_square q h = omega (arith, bottom_within t tiling q h)
@@ -61,29 +93,48 @@ module _ (t : Tiling) (tiling : IsTiling t) where
 
   module _ (simple : IsSimple t) where
     -- the second line further to the right, the second node further down
-    module _ (f g u v : ℕ) (upper : IsNode t u) (lower : IsNode t v) (x z : ℕ) (a : IsMark t f x u upper) (b : IsMark t f x v lower) (c : IsMark t g z u upper) (d : IsMark t g z v lower) (high : upper.level < lower.level) (wide : x < z) where
+    module _ (f g u v : ℕ) (upper : IsNode t u) (lower : IsNode t v) (x z : ℕ) (a : IsMark t f x u upper) (b : IsMark t f x v lower)
+        (c : IsMark t g z u upper) (d : IsMark t g z v lower) (high : upper.level < lower.level) (wide : x < z) where
       frame : IsFrame t x z upper.level lower.level
       frame = record {
         wide = wide;
         high = high;
         within_width = omega (arith, c.to_right, upper.wide);
         within_height = level_within t tiling v lower;
-        at_left = λ q h l r m n. let y = common q.y (q.y + q.s) upper.level lower.level (omega (arith, side t tiling q h)) high m n in clear t tiling f x u v upper lower a b y.0 q y.3 y.4 h l r y.1 y.2;
-        at_right = λ q h l r m n. let y = common q.y (q.y + q.s) upper.level lower.level (omega (arith, side t tiling q h)) high m n in clear t tiling g z u v upper lower c d y.0 q y.3 y.4 h l r y.1 y.2;
+        at_left = λ q h l r m n. let y = common q.y (q.y + q.s) upper.level lower.level (omega (arith, side t tiling q h)) high m n in
+            clear t tiling f x u v upper lower a b y.0 q y.3 y.4 h l r y.1 y.2;
+        at_right = λ q h l r m n. let y = common q.y (q.y + q.s) upper.level lower.level (omega (arith, side t tiling q h)) high m n in
+            clear t tiling g z u v upper lower c d y.0 q y.3 y.4 h l r y.1 y.2;
         at_top = λ q h l r m n. let i = common q.x (q.x + q.s) x z (omega (arith, side t tiling q h)) wide m n in
-            omega (arith, l, upper.under q i.0 h (omega (arith, i.3, a.from_left)) (omega (arith, i.4, c.to_right)) (record { left = i.1; right = i.2; top = omega (arith, l); bottom = r }));
+            omega (
+              arith,
+              l,
+              upper.under q i.0 h (omega (arith, i.3, a.from_left)) (omega (arith, i.4, c.to_right))
+                  (record { left = i.1; right = i.2; top = omega (arith, l); bottom = r }),
+            );
         at_bottom = λ q h l r m n. let i = common q.x (q.x + q.s) x z (omega (arith, side t tiling q h)) wide m n in
-            omega (arith, l, lower.under q i.0 h (omega (arith, i.3, b.from_left)) (omega (arith, i.4, d.to_right)) (record { left = i.1; right = i.2; top = omega (arith, l); bottom = r }));
+            omega (
+              arith,
+              l,
+              lower.under q i.0 h (omega (arith, i.3, b.from_left)) (omega (arith, i.4, d.to_right))
+                  (record { left = i.1; right = i.2; top = omega (arith, l); bottom = r }),
+            );
       }
 
       one_between : IsOne t tiling simple x z upper.level lower.level frame → HasOneBetween (layout_of t) f g u v
       one_between one = record {
         square = k.number;
         within = k.below;
-        left = inl (subst (λ (q : Square). line_number t q.x q.y ≡ f) (sym k.is) (left_line ∙ passes t tiling f x u v upper lower a b upper.level (omega arith) high));
-        right = inr (subst (λ (q : Square). line_number t (q.x + q.s) q.y ≡ g) (sym k.is) (right_line ∙ passes t tiling g z u v upper lower c d upper.level (omega arith) high));
-        above = inl (subst (λ (q : Square). node_above (square_groups t.squares) q ≡ u) (sym k.is) (upper.hang_from one.square x one.is one.top_is a.from_left (omega (arith, wide, c.to_right)) (omega (arith, one.left_is)) (omega (arith, one.right_is, wide))));
-        under = inr (subst (λ (q : Square). node_below (square_groups t.squares) q ≡ v) (sym k.is) (lower.end_from one.square x one.is one.bottom_is b.from_left (omega (arith, wide, d.to_right)) (omega (arith, one.left_is)) (omega (arith, one.right_is, wide))));
+        left = inl (subst (λ (q : Square). line_number t q.x q.y ≡ f) (sym k.is)
+            (left_line ∙ passes t tiling f x u v upper lower a b upper.level (omega arith) high));
+        right = inr (subst (λ (q : Square). line_number t (q.x + q.s) q.y ≡ g) (sym k.is)
+            (right_line ∙ passes t tiling g z u v upper lower c d upper.level (omega arith) high));
+        above = inl (subst (λ (q : Square). node_above (square_groups t.squares) q ≡ u) (sym k.is)
+            (upper.hang_from one.square x one.is one.top_is a.from_left (omega (arith, wide, c.to_right)) (omega (arith, one.left_is))
+            (omega (arith, one.right_is, wide))));
+        under = inr (subst (λ (q : Square). node_below (square_groups t.squares) q ≡ v) (sym k.is)
+            (lower.end_from one.square x one.is one.bottom_is b.from_left (omega (arith, wide, d.to_right)) (omega (arith, one.left_is))
+            (omega (arith, one.right_is, wide))));
       }
         where
           k : HasNumber t tiling one.square
@@ -108,16 +159,20 @@ module _ (t : Tiling) (tiling : IsTiling t) where
           first = node_at t tiling 0 (omega arith)
 
           top : u ≡ 0
-          top = same_node t tiling u 0 x upper first (all.top_is ∙ sym (first.top refl).0) a.from_left (omega (arith, wide, c.to_right)) (omega (arith, (first.top refl).1)) (omega (arith, (first.top refl).2, wide, all.right_is))
+          top = same_node t tiling u 0 x upper first (all.top_is ∙ sym (first.top refl).0) a.from_left (omega (arith, wide, c.to_right))
+              (omega (arith, (first.top refl).1)) (omega (arith, (first.top refl).2, wide, all.right_is))
 
-          bottom : ((v < length (square_groups t.squares)) × (lower.level < t.height)) ⊎ ((v ≡ length (square_groups t.squares)) × (lower.level ≡ t.height) × (lower.left ≡ 0) × (lower.right ≡ t.width)) → v ≡ length (square_groups t.squares)
+          bottom : ((v < length (square_groups t.squares)) × (lower.level < t.height))
+              ⊎ ((v ≡ length (square_groups t.squares)) × (lower.level ≡ t.height) × (lower.left ≡ 0) × (lower.right ≡ t.width))
+              → v ≡ length (square_groups t.squares)
           bottom (inl m) = absurd (omega (arith, m.1, all.bottom_is))
           bottom (inr m) = m.0
 
       ordered : HasOneBetween (layout_of t) f g u v ⊎ AreOutermost (layout_of t) f g u v
       ordered = cases (one_or_all t tiling simple x z upper.level lower.level frame)
         where
-          cases : IsOne t tiling simple x z upper.level lower.level frame ⊎ IsAll t tiling simple x z upper.level lower.level frame → HasOneBetween (layout_of t) f g u v ⊎ AreOutermost (layout_of t) f g u v
+          cases : IsOne t tiling simple x z upper.level lower.level frame ⊎ IsAll t tiling simple x z upper.level lower.level frame
+              → HasOneBetween (layout_of t) f g u v ⊎ AreOutermost (layout_of t) f g u v
           cases (inl one) = inl (one_between one)
           cases (inr all) = inr (outermost all)
 
@@ -125,23 +180,36 @@ module _ (t : Tiling) (tiling : IsTiling t) where
     turned (inl a) = inr a
     turned (inr b) = inl b
 
-    lines_turned : (f g u v : ℕ) → HasOneBetween (layout_of t) g f u v ⊎ AreOutermost (layout_of t) g f u v → HasOneBetween (layout_of t) f g u v ⊎ AreOutermost (layout_of t) f g u v
-    lines_turned f g u v (inl h) = inl (record { square = h.square; within = h.within; left = turned h.left; right = turned h.right; above = h.above; under = h.under })
+    lines_turned : (f g u v : ℕ) → HasOneBetween (layout_of t) g f u v ⊎ AreOutermost (layout_of t) g f u v
+        → HasOneBetween (layout_of t) f g u v ⊎ AreOutermost (layout_of t) f g u v
+    lines_turned f g u v (inl h) = inl (record {
+      square = h.square;
+      within = h.within;
+      left = turned h.left;
+      right = turned h.right;
+      above =
+          h.above;
+      under = h.under;
+    })
     lines_turned f g u v (inr h) = inr (record { lines = by h.lines; nodes = h.nodes })
       where
         by : ((g ≡ 0) × (f ≡ 1)) ⊎ ((g ≡ 1) × (f ≡ 0)) → ((f ≡ 0) × (g ≡ 1)) ⊎ ((f ≡ 1) × (g ≡ 0))
         by (inl k) = inr (k.1, k.0)
         by (inr k) = inl (k.1, k.0)
 
-    nodes_turned : (f g u v : ℕ) → HasOneBetween (layout_of t) f g v u ⊎ AreOutermost (layout_of t) f g v u → HasOneBetween (layout_of t) f g u v ⊎ AreOutermost (layout_of t) f g u v
-    nodes_turned f g u v (inl h) = inl (record { square = h.square; within = h.within; left = h.left; right = h.right; above = turned h.above; under = turned h.under })
+    nodes_turned : (f g u v : ℕ) → HasOneBetween (layout_of t) f g v u ⊎ AreOutermost (layout_of t) f g v u
+        → HasOneBetween (layout_of t) f g u v ⊎ AreOutermost (layout_of t) f g u v
+    nodes_turned f g u v (inl h) = inl (record
+        { square = h.square; within = h.within; left = h.left; right = h.right; above = turned h.above; under = turned h.under })
     nodes_turned f g u v (inr h) = inr (record { lines = h.lines; nodes = by h.nodes })
       where
-        by : ((v ≡ 0) × (u ≡ length (square_groups t.squares))) ⊎ ((v ≡ length (square_groups t.squares)) × (u ≡ 0)) → ((u ≡ 0) × (v ≡ length (square_groups t.squares))) ⊎ ((u ≡ length (square_groups t.squares)) × (v ≡ 0))
+        by : ((v ≡ 0) × (u ≡ length (square_groups t.squares))) ⊎ ((v ≡ length (square_groups t.squares)) × (u ≡ 0))
+            → ((u ≡ 0) × (v ≡ length (square_groups t.squares))) ⊎ ((u ≡ length (square_groups t.squares)) × (v ≡ 0))
         by (inl k) = inr (k.1, k.0)
         by (inr k) = inl (k.1, k.0)
 
-    by_columns : (f g u v : ℕ) (upper : IsNode t u) (lower : IsNode t v) (x z : ℕ) → IsMark t f x u upper → IsMark t f x v lower → IsMark t g z u upper → IsMark t g z v lower → upper.level < lower.level → (f ≡ g → ⊥)
+    by_columns : (f g u v : ℕ) (upper : IsNode t u) (lower : IsNode t v) (x z : ℕ) → IsMark t f x u upper → IsMark t f x v lower
+        → IsMark t g z u upper → IsMark t g z v lower → upper.level < lower.level → (f ≡ g → ⊥)
         → HasOneBetween (layout_of t) f g u v ⊎ AreOutermost (layout_of t) f g u v
     by_columns f g u v upper lower x z a b c d high differ = cases (cases_lt x z) (cases_lt z x)
       where
@@ -154,8 +222,10 @@ module _ (t : Tiling) (tiling : IsTiling t) where
             ∙ passes t tiling g z u v upper lower c d upper.level (omega arith) high))
 
     -- two nodes of one level that both lines touch are one, or the lines are
-    level_nodes : (f g u v : ℕ) (first : IsNode t u) (second : IsNode t v) (x z : ℕ) → IsMark t f x u first → IsMark t f x v second → IsMark t g z u first → IsMark t g z v second → first.level ≡ second.level → (f ≡ g → ⊥) → (u ≡ v → ⊥) → ⊥
-    level_nodes f g u v first second x z a b c d level lines nodes = cases (cases_lt x z) (cases_lt z x) (cases_lt second.left first.right) (cases_lt first.left second.right)
+    level_nodes : (f g u v : ℕ) (first : IsNode t u) (second : IsNode t v) (x z : ℕ) → IsMark t f x u first → IsMark t f x v second
+        → IsMark t g z u first → IsMark t g z v second → first.level ≡ second.level → (f ≡ g → ⊥) → (u ≡ v → ⊥) → ⊥
+    level_nodes f g u v first second x z a b c d level lines nodes =
+        cases (cases_lt x z) (cases_lt z x) (cases_lt second.left first.right) (cases_lt first.left second.right)
       where
         over : (i : ℕ) → first.left ≤ i → i < first.right → second.left ≤ i → i < second.right → ⊥
         over i p q r s = nodes (same_node t tiling u v i first second level p q r s)
@@ -167,11 +237,13 @@ module _ (t : Tiling) (tiling : IsTiling t) where
             by (inl r) = over second.left (omega arith) p (omega arith) second.some
             by (inr r) = over first.left (omega arith) first.some r q
 
-        cases : (x < z) ⊎ (z ≤ x) → (z < x) ⊎ (x ≤ z) → (second.left < first.right) ⊎ (first.right ≤ second.left) → (first.left < second.right) ⊎ (second.right ≤ first.left) → ⊥
+        cases : (x < z) ⊎ (z ≤ x) → (z < x) ⊎ (x ≤ z) → (second.left < first.right) ⊎ (first.right ≤ second.left)
+            → (first.left < second.right) ⊎ (second.right ≤ first.left) → ⊥
         cases (inl h) k m n = over x a.from_left (omega (arith, h, c.to_right)) b.from_left (omega (arith, h, d.to_right))
         cases (inr h) (inl k) m n = over z c.from_left (omega (arith, k, a.to_right)) d.from_left (omega (arith, k, b.to_right))
         cases (inr h) (inr k) (inl m) (inl n) = meeting m n
-        cases (inr h) (inr k) (inr m) n = lines (number_there t tiling x u v first second level end begin f u first refl a ∙ sym (number_there t tiling x u v first second level end begin g u first refl (subst (λ (i : ℕ). IsMark t g i u first) same c)))
+        cases (inr h) (inr k) (inr m) n = lines (number_there t tiling x u v first second level end begin f u first refl a
+            ∙ sym (number_there t tiling x u v first second level end begin g u first refl (subst (λ (i : ℕ). IsMark t g i u first) same c)))
           where
             same : z ≡ x
             same = omega arith
@@ -181,7 +253,8 @@ module _ (t : Tiling) (tiling : IsTiling t) where
 
             begin : second.left ≡ x
             begin = omega (arith, m, a.to_right, b.from_left)
-        cases (inr h) (inr k) (inl m) (inr n) = lines (number_there t tiling x v u second first (sym level) end begin f v second refl b ∙ sym (number_there t tiling x v u second first (sym level) end begin g v second refl (subst (λ (i : ℕ). IsMark t g i v second) same d)))
+        cases (inr h) (inr k) (inl m) (inr n) = lines (number_there t tiling x v u second first (sym level) end begin f v second refl b
+            ∙ sym (number_there t tiling x v u second first (sym level) end begin g v second refl (subst (λ (i : ℕ). IsMark t g i v second) same d)))
           where
             same : z ≡ x
             same = omega arith
@@ -219,7 +292,8 @@ module _ (t : Tiling) (tiling : IsTiling t) where
         d_here : IsMark t g c.column v second
         d_here = subst (λ (i : ℕ). IsMark t g i v second) (one_column g c.column d.column u v first second c.mark d.mark) d.mark
 
-        cases : (first.level < second.level) ⊎ (second.level ≤ first.level) → (second.level < first.level) ⊎ (first.level ≤ second.level) → HasOneBetween (layout_of t) f g u v ⊎ AreOutermost (layout_of t) f g u v
+        cases : (first.level < second.level) ⊎ (second.level ≤ first.level) → (second.level < first.level) ⊎ (first.level ≤ second.level)
+            → HasOneBetween (layout_of t) f g u v ⊎ AreOutermost (layout_of t) f g u v
         cases (inl h) k = by_columns f g u v first second a.column c.column a.mark b_here c.mark d_here h lines
         cases (inr h) (inl k) = nodes_turned f g u v (by_columns f g v u second first a.column c.column b_here a.mark d_here c.mark k lines)
         cases (inr h) (inr k) = absurd (level_nodes f g u v first second a.column c.column a.mark b_here c.mark d_here (omega arith) lines nodes)
@@ -241,14 +315,18 @@ module _ (t : Tiling) (tiling : IsTiling t) where
           r_in = in_square t tiling r n.second_in.0
 
           edge : (square_of t q).x + (square_of t q).s ≡ (square_of t r).x
-          edge = beside t tiling v node (square_of t q) (square_of t r) q_in r_in (hung_from t tiling v q n.first_in.1) (hung_from t tiling v r n.second_in.1) n.less
+          edge = beside t tiling v node (square_of t q) (square_of t r) q_in r_in (hung_from t tiling v q n.first_in.1)
+              (hung_from t tiling v r n.second_in.1) n.less
               (over_hung t tiling v (λ w. (w.x ≤ (square_of t q).x) ⊎ ((square_of t r).x ≤ w.x)) n.between)
 
           level : (square_of t q).y ≡ (square_of t r).y
-          level = (node.hang_to (square_of t q) q_in (hung_from t tiling v q n.first_in.1)).0 ∙ sym (node.hang_to (square_of t r) r_in (hung_from t tiling v r n.second_in.1)).0
+          level = (node.hang_to (square_of t q) q_in (hung_from t tiling v q n.first_in.1)).0
+              ∙ sym (node.hang_to (square_of t r) r_in (hung_from t tiling v r n.second_in.1)).0
 
           same : node_below (square_groups t.squares) (square_of t r) ≡ node_below (square_groups t.squares) (square_of t q)
-          same = ended_from t tiling (node_below (square_groups t.squares) (square_of t q)) r (stands_in (key t tiling) (ended t tiling (node_below (square_groups t.squares) (square_of t q))) (length t.squares) (ended_one t tiling (node_below (square_groups t.squares) (square_of t q))) (suc ends.0) r ends.2).1
+          same = ended_from t tiling (node_below (square_groups t.squares) (square_of t q)) r
+              (stands_in (key t tiling) (ended t tiling (node_below (square_groups t.squares) (square_of t q))) (length t.squares)
+              (ended_one t tiling (node_below (square_groups t.squares) (square_of t q))) (suc ends.0) r ends.2).1
 
           under : IsNode t (node_below (square_groups t.squares) (square_of t q))
           under = node_at t tiling (node_below (square_groups t.squares) (square_of t q)) (most_nodes t tiling (square_of t q) q_in)
@@ -257,21 +335,28 @@ module _ (t : Tiling) (tiling : IsTiling t) where
           bottom = (under.end_to (square_of t q) q_in refl).0 ∙ sym (under.end_to (square_of t r) r_in same).0
 
       no_pairs : HasNoPairs (layout_of t)
-      no_pairs v one_above one_under = from (get_some (from_left t (λ q. node_below (square_groups t.squares) (square_of t q) == v)) 0 (omega (arith, one_above))) (get_some (from_left t (λ q. node_above (square_groups t.squares) (square_of t q) == v)) 0 (omega (arith, one_under)))
+      no_pairs v one_above one_under = from (get_some (from_left t (λ q. node_below (square_groups t.squares) (square_of t q) == v)) 0
+          (omega (arith, one_above))) (get_some (from_left t (λ q. node_above (square_groups t.squares) (square_of t q) == v)) 0 (omega (arith, one_under)))
         where
-          from : (p : ℕ) × (slice_get (from_left t (λ q. node_below (square_groups t.squares) (square_of t q) == v)) 0 ≡ Some p) → (q : ℕ) × (slice_get (from_left t (λ q. node_above (square_groups t.squares) (square_of t q) == v)) 0 ≡ Some q) → ⊥
-          from (p, e) (q, h) = none_below t tiling simple many (square_of t p) (square_of t q) p_in q_in level (a.2 node ∙ sym (c.2 node)) (b.2 node ∙ sym (d.2 node))
+          from : (p : ℕ) × (slice_get (from_left t (λ q. node_below (square_groups t.squares) (square_of t q) == v)) 0 ≡ Some p) → (q : ℕ)
+              × (slice_get (from_left t (λ q. node_above (square_groups t.squares) (square_of t q) == v)) 0 ≡ Some q) → ⊥
+          from (p, e) (q, h) = none_below t tiling simple many (square_of t p) (square_of t q) p_in q_in level (a.2 node ∙ sym (c.2 node))
+              (b.2 node ∙ sym (d.2 node))
             where
-              a : (p < length t.squares) × (node_below (square_groups t.squares) (square_of t p) == v ≡ true) × ((node : IsNode t v) → (square_of t p).x ≡ node.left)
+              a : (p < length t.squares) × (node_below (square_groups t.squares) (square_of t p) == v ≡ true)
+                  × ((node : IsNode t v) → (square_of t p).x ≡ node.left)
               a = first_of_ended t tiling v p e
 
-              b : (p < length t.squares) × (node_below (square_groups t.squares) (square_of t p) == v ≡ true) × ((node : IsNode t v) → (square_of t p).x + (square_of t p).s ≡ node.right)
+              b : (p < length t.squares) × (node_below (square_groups t.squares) (square_of t p) == v ≡ true)
+                  × ((node : IsNode t v) → (square_of t p).x + (square_of t p).s ≡ node.right)
               b = last_of_ended t tiling v p (0, sym one_above, e)
 
-              c : (q < length t.squares) × (node_above (square_groups t.squares) (square_of t q) == v ≡ true) × ((node : IsNode t v) → (square_of t q).x ≡ node.left)
+              c : (q < length t.squares) × (node_above (square_groups t.squares) (square_of t q) == v ≡ true)
+                  × ((node : IsNode t v) → (square_of t q).x ≡ node.left)
               c = first_of_hung t tiling v q h
 
-              d : (q < length t.squares) × (node_above (square_groups t.squares) (square_of t q) == v ≡ true) × ((node : IsNode t v) → (square_of t q).x + (square_of t q).s ≡ node.right)
+              d : (q < length t.squares) × (node_above (square_groups t.squares) (square_of t q) == v ≡ true)
+                  × ((node : IsNode t v) → (square_of t q).x + (square_of t q).s ≡ node.right)
               d = last_of_hung t tiling v q (0, sym one_under, h)
 
               node : IsNode t v
@@ -284,7 +369,10 @@ module _ (t : Tiling) (tiling : IsTiling t) where
               q_in = in_square t tiling q c.0
 
               level : (square_of t p).y + (square_of t p).s ≡ (square_of t q).y
-              level = (node.end_to (square_of t p) p_in (ended_from t tiling v p a.1)).0 ∙ sym (node.hang_to (square_of t q) q_in (hung_from t tiling v q c.1)).0
+              level = (node.end_to (square_of t p) p_in (ended_from t tiling v p a.1)).0
+                  ∙ sym (node.hang_to (square_of t q) q_in (hung_from t tiling v q c.1)).0
 
+-- the law: parts, twins and pairs of the layout would be parts of the tiling
 pub a_simple_tiling_has_a_simple_layout : ASimpleTilingHasASimpleLayout
-a_simple_tiling_has_a_simple_layout t tiling simple many = record { parts = no_parts t tiling simple; twins = no_twins t tiling simple many; pairs = no_pairs t tiling simple many }
+a_simple_tiling_has_a_simple_layout t tiling simple many =
+    record { parts = no_parts t tiling simple; twins = no_twins t tiling simple many; pairs = no_pairs t tiling simple many }

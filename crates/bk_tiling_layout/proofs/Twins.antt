@@ -6,7 +6,7 @@ use Rattle.bk_tiling.specs.declared.Square.{Square}
 use Rattle.bk_simple.specs.Simple.{IsSimple}
 use Rattle.bk_tiling_layout.proofs.Edges.{IsOn, bottom_within, meet, right_within, side}
 use Rattle.bk_tiling_layout.proofs.Frames.{IsAll, IsFrame, IsInside, IsOne, one_or_all}
-use Rattle.bk_tiling_layout.proofs.TilingFits.{in_square, one_number}
+use Rattle.bk_tiling_layout.proofs.TilingSquares.{in_square, one_number}
 use Rattle.bk_tiling_layout.specs.TilingLayout.{square_of}
 
 -- a number in two intervals that meet
@@ -31,9 +31,11 @@ module _ (t : Tiling) (tiling : IsTiling t) (simple : IsSimple t) (many : 3 ≤ 
 
   module _ (q r : Square) (left right top bottom : ℕ) (cover : Cover q r left right top bottom) where
     either : (z : Square) → IsOneOf z t.squares → z.x < right → left < z.x + z.s → z.y < bottom → top < z.y + z.s → (z ≡ q) ⊎ (z ≡ r)
-    either z h a b c d = from (common z.x (z.x + z.s) left right (omega (arith, side t tiling z h)) cover.wide a b) (common z.y (z.y + z.s) top bottom (omega (arith, side t tiling z h)) cover.high c d)
+    either z h a b c d = from (common z.x (z.x + z.s) left right (omega (arith, side t tiling z h)) cover.wide a b)
+        (common z.y (z.y + z.s) top bottom (omega (arith, side t tiling z h)) cover.high c d)
       where
-        from : (l : ℕ) × (z.x ≤ l) × (l < z.x + z.s) × (left ≤ l) × (l < right) → (m : ℕ) × (z.y ≤ m) × (m < z.y + z.s) × (top ≤ m) × (m < bottom) → (z ≡ q) ⊎ (z ≡ r)
+        from : (l : ℕ) × (z.x ≤ l) × (l < z.x + z.s) × (left ≤ l) × (l < right) → (m : ℕ) × (z.y ≤ m) × (m < z.y + z.s) × (top ≤ m)
+            × (m < bottom) → (z ≡ q) ⊎ (z ≡ r)
         from (i, i1, i2, i3, i4) (j, j1, j2, j3, j4) = cases (cover.over i j i3 i4 j3 j4)
           where
             own : IsOn i j z
@@ -81,8 +83,11 @@ module _ (t : Tiling) (tiling : IsTiling t) (simple : IsSimple t) (many : 3 ≤ 
     not_all all = three (which 0 (omega (arith, many))) (which 1 (omega (arith, many))) (which 2 (omega (arith, many)))
       where
         which : (k : ℕ) → k < length t.squares → (square_of t k ≡ q) ⊎ (square_of t k ≡ r)
-        which k h = let i = in_square t tiling k h in either (square_of t k) i (omega (arith, all.right_is, side t tiling (square_of t k) i, right_within t tiling (square_of t k) i)) (omega (arith, all.left_is, side t tiling (square_of t k) i))
-            (omega (arith, all.bottom_is, side t tiling (square_of t k) i, bottom_within t tiling (square_of t k) i)) (omega (arith, all.top_is, side t tiling (square_of t k) i))
+        which k h = let i = in_square t tiling k h in
+            either (square_of t k) i (omega (arith, all.right_is, side t tiling (square_of t k) i, right_within t tiling (square_of t k) i))
+            (omega (arith, all.left_is, side t tiling (square_of t k) i))
+            (omega (arith, all.bottom_is, side t tiling (square_of t k) i, bottom_within t tiling (square_of t k) i))
+            (omega (arith, all.top_is, side t tiling (square_of t k) i))
 
         same : (j k : ℕ) → j < k → k < length t.squares → square_of t j ≡ square_of t k → ⊥
         same j k a b e = omega (arith, a, one_number t tiling j k (omega (arith, a, b)) b e)

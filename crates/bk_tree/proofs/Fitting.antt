@@ -22,6 +22,7 @@ shorter_less (Above ∷ a) s rest = shorter_less a s rest
 shorter_less (Even ∷ a) s rest = shorter_less a s rest
 shorter_less (Under ∷ a) s rest = shorter_less a s rest
 
+-- signs that are before others are before these with more behind
 pub less_longer : (b a rest : List Sign) → signs_cmp b a ≡ Less → signs_cmp b (a ++ rest) ≡ Less
 less_longer [] [] rest e = absurd (cc)
 less_longer (t ∷ b) [] rest e = absurd (cc)
@@ -92,7 +93,8 @@ padded_least sides m other h shape from e = cases (less_to other (padded sides m
     cases (inl k) = from (less_from other m (inl k))
     cases (inr (k, f)) = from (less_from other m (inr (
       k,
-      padded_less other.signs m.signs (signs_wanted sides m.count - length m.signs) (let few = h.few in let long = shape.long in let w = ap (signs_wanted sides) k in omega arith) f,
+      padded_less other.signs m.signs (signs_wanted sides m.count - length m.signs)
+          (let few = h.few in let long = shape.long in let w = ap (signs_wanted sides) k in omega arith) f,
     )))
 
 -- as many of the move's signs as are wanted
@@ -108,7 +110,8 @@ module _ (sides : ℕ) (m : Move) (some : 0 < m.count) (many : signs_wanted side
   fits = length-take-le (signs_wanted sides m.count) m.signs (omega arith)
 
   cut_after : move_cmp m (move_after (front_of sides m)) ≡ Less
-  cut_after = begun_before (front_of sides m) m refl (record { rest = drop (signs_wanted sides m.count) m.signs; is = sym (take-append-drop (signs_wanted sides m.count) m.signs) })
+  cut_after = begun_before (front_of sides m) m refl
+      (record { rest = drop (signs_wanted sides m.count) m.signs; is = sym (take-append-drop (signs_wanted sides m.count) m.signs) })
 
   cut_short : IsShortMove sides (move_after (front_of sides m))
   cut_short = cases (signs_after (take (signs_wanted sides m.count) m.signs)) (next_short (take (signs_wanted sides m.count) m.signs))
@@ -118,21 +121,26 @@ module _ (sides : ℕ) (m : Move) (some : 0 < m.count) (many : signs_wanted side
       cases (Some next) h = record { some = some; few = omega (arith, fits) }
 
   front_less : (b : List Sign) → signs_cmp b (take (signs_wanted sides m.count) m.signs) ≡ Less → signs_cmp b m.signs ≡ Less
-  front_less b e = ap (signs_cmp b) (sym (take-append-drop (signs_wanted sides m.count) m.signs)) ∙ less_longer b (take (signs_wanted sides m.count) m.signs) (drop (signs_wanted sides m.count) m.signs) e
+  front_less b e = ap (signs_cmp b) (sym (take-append-drop (signs_wanted sides m.count) m.signs))
+      ∙ less_longer b (take (signs_wanted sides m.count) m.signs) (drop (signs_wanted sides m.count) m.signs) e
 
   front_is_less : signs_cmp (take (signs_wanted sides m.count) m.signs) m.signs ≡ Less
   front_is_less = cases (drop (signs_wanted sides m.count) m.signs) (sym (take-append-drop (signs_wanted sides m.count) m.signs))
     where
-      cases : (rest : List Sign) → m.signs ≡ take (signs_wanted sides m.count) m.signs ++ rest → signs_cmp (take (signs_wanted sides m.count) m.signs) m.signs ≡ Less
+      cases : (rest : List Sign) → m.signs ≡ take (signs_wanted sides m.count) m.signs ++ rest
+          → signs_cmp (take (signs_wanted sides m.count) m.signs) m.signs ≡ Less
       cases [] e = absurd (omega (arith, ap length e, length-append (take (signs_wanted sides m.count) m.signs) [], fits))
       cases (s ∷ rest) e = ap (signs_cmp (take (signs_wanted sides m.count) m.signs)) e ∙ shorter_less (take (signs_wanted sides m.count) m.signs) s rest
 
-  front_only : (other : Move) → HasShape sides other → IsMoveFrom m other → (other.count ≡ m.count) × Begins (take (signs_wanted sides m.count) m.signs) other.signs → ⊥
+  front_only : (other : Move) → HasShape sides other → IsMoveFrom m other → (other.count ≡ m.count)
+      × Begins (take (signs_wanted sides m.count) m.signs) other.signs → ⊥
   front_only other shape from (e, b) = cases b.rest b.is
     where
       cases : (rest : List Sign) → other.signs ≡ take (signs_wanted sides m.count) m.signs ++ rest → ⊥
-      cases [] f = from (less_from other m (inr (e, ap (λ l. signs_cmp l m.signs) (f ∙ append-nil (take (signs_wanted sides m.count) m.signs)) ∙ front_is_less)))
-      cases (s ∷ rest) f = let w = ap (signs_wanted sides) e in omega (arith, ap length f, length-append (take (signs_wanted sides m.count) m.signs) (s ∷ rest), fits, shape.long)
+      cases [] f = from (less_from other m (inr
+          (e, ap (λ l. signs_cmp l m.signs) (f ∙ append-nil (take (signs_wanted sides m.count) m.signs)) ∙ front_is_less)))
+      cases (s ∷ rest) f = let w = ap (signs_wanted sides) e in
+          omega (arith, ap length f, length-append (take (signs_wanted sides m.count) m.signs) (s ∷ rest), fits, shape.long)
 
   front_from : (other : Move) → IsMoveFrom m other → IsMoveFrom (front_of sides m) other
   front_from other from e = cases (less_to other (front_of sides m) e)
@@ -144,11 +152,13 @@ module _ (sides : ℕ) (m : Move) (some : 0 < m.count) (many : signs_wanted side
   cut_least : (other : Move) → HasShape sides other → IsMoveFrom m other → IsMoveFrom (move_after (front_of sides m)) other
   cut_least other shape from e = front_only other shape from (moves_between (front_of sides m) other (front_from other from) e)
 
+-- the move has as many signs as a legal one, and is the least of these that is not before m
 pub record IsFit (sides : ℕ) (m fit : Move) : Type 0 where
   pub shape : HasShape sides fit
   pub from : IsMoveFrom m fit
   pub least : (other : Move) → HasShape sides other → IsMoveFrom m other → IsMoveFrom fit other
 
+-- the fitted move is so
 pub fit : (sides : ℕ) (m : Move) → 0 < m.count → IsFit sides m (fitted sides m)
 fit sides m some = cases (nat_lt (signs_wanted sides m.count) (length m.signs)) refl
   where
@@ -160,6 +170,8 @@ fit sides m some = cases (nat_lt (signs_wanted sides m.count) (length m.signs)) 
     }
     cases true e = let h : signs_wanted sides m.count < length m.signs = grind (arith, nat_tests) in record {
       shape = padded_shape sides (move_after (front_of sides m)) (cut_short sides m some h);
-      from = λ f. padded_from sides (move_after (front_of sides m)) (move_total.trans (padded sides (move_after (front_of sides m))) m (move_after (front_of sides m)) f (cut_after sides m some h));
-      least = λ other shape from. padded_least sides (move_after (front_of sides m)) other (cut_short sides m some h) shape (cut_least sides m some h other shape from);
+      from = λ f. padded_from sides (move_after (front_of sides m))
+          (move_total.trans (padded sides (move_after (front_of sides m))) m (move_after (front_of sides m)) f (cut_after sides m some h));
+      least = λ other shape from. padded_least sides (move_after (front_of sides m)) other (cut_short sides m some h) shape
+          (cut_least sides m some h other shape from);
     }

@@ -11,12 +11,15 @@ use Rattle.bk_word.specs.declared.Sign.{Sign}
 use Rattle.bk_word.specs.declared.Sign.TheVariants.{Above, Even, Under}
 use Rattle.bk_tree.specs.NextMove.{IsMoveFrom, move_after, move_of, raised, signs_after}
 
+-- signs compare as lists do
 abbrev pub signs_cmp : List Sign → List Sign → Ordering
 signs_cmp a b = slice_cmp sign_cmp a b
 
+-- the order of moves is total
 pub move_total : IsTotalOrder move_cmp
 move_total = then_total (on_total (λ (m : Move). m.count) nat_cmp_total) (on_total (λ (m : Move). m.signs) (lists_total (on_total sign_place nat_cmp_total)))
 
+-- signs are equal to themselves
 pub signs_itself : (a : List Sign) → signs_cmp a a ≡ Equal
 signs_itself [] = refl
 signs_itself (Above ∷ a) = signs_itself a
@@ -36,10 +39,12 @@ abbrev IsBelow : List Sign → Option (List Sign) → Type 0
 IsBelow b None = Unit {0}
 IsBelow b (Some next) = signs_cmp b next ≡ Less
 
+-- no signs are before none
 pub none_below : (a : List Sign) → signs_cmp a [] ≡ Less → ⊥
 none_below [] e = cc
 none_below (s ∷ a) e = cc
 
+-- greater isn't less
 pub greater : Greater ≡ Less → ⊥
 greater e = cc
 
@@ -82,6 +87,7 @@ begun_below : (a rest : List Sign) → IsBelow (a ++ rest) (signs_after a)
 begun_below [] rest = tt
 begun_below (s ∷ a) rest = one_more_below s (a ++ rest) (signs_after a) (begun_below a rest)
 
+-- the next signs, where there are some, are at most so many
 abbrev pub IsShort : ℕ → Option (List Sign) → Type 0
 IsShort k None = Unit {0}
 IsShort k (Some next) = length next ≤ k
@@ -94,10 +100,12 @@ one_more_short Above k None h = omega arith
 one_more_short Even k None h = omega arith
 one_more_short Under k None h = tt
 
+-- so they are
 pub next_short : (a : List Sign) → IsShort (length a) (signs_after a)
 next_short [] = tt
 next_short (s ∷ a) = one_more_short s (length a) (signs_after a) (next_short a)
 
+-- two numbers compare in one of three ways
 pub three : (x y : ℕ) → (x < y) ⊎ ((x ≡ y) ⊎ (y < x))
 three x y = grind arith
 
@@ -105,6 +113,7 @@ three x y = grind arith
 abbrev pub IsLess : Move → Move → Type 0
 IsLess m n = (m.count < n.count) ⊎ ((m.count ≡ n.count) × (signs_cmp m.signs n.signs ≡ Less))
 
+-- a move before another has a lesser count, or the same and lesser signs
 pub less_to : (m n : Move) → move_cmp m n ≡ Less → IsLess m n
 less_to m n e = cases (three m.count n.count)
   where
@@ -116,6 +125,7 @@ less_to m n e = cases (three m.count n.count)
     cases (inr (inl h)) = inr (h, by Equal (nat_cmp_is m.count n.count Equal h))
     cases (inr (inr h)) = absurd (greater (by Greater (nat_cmp_is m.count n.count Greater h)))
 
+-- and such a move is before it
 pub less_from : (m n : Move) → IsLess m n → move_cmp m n ≡ Less
 less_from m n (inl h) = ap (λ z. ordering_then z (signs_cmp m.signs n.signs)) (sym (nat_cmp_is m.count n.count Less h))
 less_from m n (inr (h, e)) = ap (λ z. ordering_then z (signs_cmp m.signs n.signs)) (sym (nat_cmp_is m.count n.count Equal h)) ∙ e
@@ -128,7 +138,8 @@ moves_between m other from to = cases (signs_after m.signs) (signs_between m.sig
     not_less e f = from (less_from other m (inr (e, f)))
 
     cases : (r : Option (List Sign)) → ((signs_cmp other.signs m.signs ≡ Less → ⊥) → IsBelow other.signs r → Begins m.signs other.signs)
-        → IsLess other (move_of m.count r) → (other.count < m.count) ⊎ ((other.count ≡ m.count) ⊎ (m.count < other.count)) → (other.count ≡ m.count) × Begins m.signs other.signs
+        → IsLess other (move_of m.count r) → (other.count < m.count) ⊎ ((other.count ≡ m.count) ⊎ (m.count < other.count))
+        → (other.count ≡ m.count) × Begins m.signs other.signs
     cases r f less (inl h) = absurd (from (less_from other m (inl h)))
     cases (Some n) f (inl h) (inr (inl e)) = absurd (omega arith)
     cases (Some n) f (inr (e, b)) (inr (inl k)) = (k, f (not_less k) b)

@@ -27,9 +27,11 @@ signs_same (Under ∷ a) (Above ∷ b) e = absurd (cc)
 signs_same (Under ∷ a) (Even ∷ b) e = absurd (cc)
 signs_same (Under ∷ a) (Under ∷ b) e = ap (λ l. Under ∷ l) (signs_same a b e)
 
+-- moves of one count and equal signs are equal
 pub move_from_parts : (m n : Move) → m.count ≡ n.count → m.signs ≡ n.signs → m ≡ n
 move_from_parts m n e f = λ i. record { count = e i; signs = f i }
 
+-- and so are those that compare as equal
 pub move_same : (m n : Move) → move_cmp m n ≡ Equal → m ≡ n
 move_same m n e = cases (three m.count n.count)
   where
@@ -47,9 +49,11 @@ move_same m n e = cases (three m.count n.count)
     cases (inr (inl h)) = move_from_parts m n h (signs_same m.signs n.signs (by Equal (nat_cmp_is m.count n.count Equal h)))
     cases (inr (inr h)) = absurd (more (by Greater (nat_cmp_is m.count n.count Greater h)))
 
+-- a move compares as equal with itself
 pub move_itself : (m : Move) → move_cmp m m ≡ Equal
 move_itself m = ap (λ z. ordering_then z (signs_cmp m.signs m.signs)) (sym (nat_cmp_is m.count m.count Equal refl)) ∙ signs_itself m.signs
 
+-- equal first moves don't matter to the order of words
 pub front_cmp : (front u v : Word) → word_cmp (front ++ u) (front ++ v) ≡ word_cmp u v
 front_cmp [] u v = refl
 front_cmp (m ∷ front) u v = ap (λ z. ordering_then z (word_cmp (front ++ u) (front ++ v))) (move_itself m) ∙ front_cmp front u v
@@ -61,15 +65,18 @@ pub record LiesBetween (front u v w : Word) : Type 0 where
   pub from : word_cmp rest u ≡ Less → ⊥
   pub to : word_cmp rest v ≡ Less
 
+-- a word that lies between two with one front has this front
 pub lies_between : (front u v w : Word) → (word_cmp w (front ++ u) ≡ Less → ⊥) → word_cmp w (front ++ v) ≡ Less → LiesBetween front u v w
 lies_between [] u v w from to = record { rest = w; is = refl; from = from; to = to }
 lies_between (m ∷ front) u v [] from to = absurd (from refl)
 lies_between (m ∷ front) u v (n ∷ w) from to = cases (move_cmp n m) refl (λ f t. lies_between front u v w f t)
   where
-    cases : (r : Ordering) → move_cmp n m ≡ r → ((word_cmp w (front ++ u) ≡ Less → ⊥) → word_cmp w (front ++ v) ≡ Less → LiesBetween front u v w) → LiesBetween (m ∷ front) u v (n ∷ w)
+    cases : (r : Ordering) → move_cmp n m ≡ r
+        → ((word_cmp w (front ++ u) ≡ Less → ⊥) → word_cmp w (front ++ v) ≡ Less → LiesBetween front u v w) → LiesBetween (m ∷ front) u v (n ∷ w)
     cases Less e f = absurd (from (ap (λ z. ordering_then z (word_cmp w (front ++ u))) e))
     cases Greater e f = absurd (greater (sym (ap (λ z. ordering_then z (word_cmp w (front ++ v))) e) ∙ to))
-    cases Equal e f = onto (f (λ k. from (ap (λ z. ordering_then z (word_cmp w (front ++ u))) e ∙ k)) (sym (ap (λ z. ordering_then z (word_cmp w (front ++ v))) e) ∙ to))
+    cases Equal e f = onto (f (λ k. from (ap (λ z. ordering_then z (word_cmp w (front ++ u))) e ∙ k))
+        (sym (ap (λ z. ordering_then z (word_cmp w (front ++ v))) e) ∙ to))
       where
         onto : LiesBetween front u v w → LiesBetween (m ∷ front) u v (n ∷ w)
         onto b = record { rest = b.rest; is = ap (λ z. z ∷ w) (move_same n m e) ∙ ap (λ l. m ∷ l) b.is; from = b.from; to = b.to }
@@ -82,6 +89,7 @@ pub not_before_none : (rest : Word) → word_cmp rest [] ≡ Less → ⊥
 not_before_none [] e = cc
 not_before_none (m ∷ rest) e = cc
 
+-- what is before a word of one move begins with a lesser move
 pub before_one : (m x : Move) (rest : Word) → word_cmp (m ∷ rest) (x ∷ []) ≡ Less → move_cmp m x ≡ Less
 before_one m x rest e = cases (move_cmp m x) refl
   where

@@ -31,7 +31,8 @@ module _ (A : Type 0) (order : A → A → Ordering) (rank : A → ℕ) (base : 
   below (suc k) [] all = some_power base (suc k) some
   below (suc k) (a ∷ xs) all = omega (arith, below k xs all.1, mul-le-mul_right {m = rank a + 2} {n = base} (power base k) (fits a all.0))
 
-  rises : (k : ℕ) (xs ys : List A) → AllByRecursion P xs → AllByRecursion P ys → length ys ≤ k → slice_cmp order xs ys ≡ Less → number base k (map rank xs) < number base k (map rank ys)
+  rises : (k : ℕ) (xs ys : List A) → AllByRecursion P xs → AllByRecursion P ys → length ys ≤ k → slice_cmp order xs ys ≡ Less
+      → number base k (map rank xs) < number base k (map rank ys)
   rises k [] [] p q few e = absurd (cc)
   rises k (a ∷ xs) [] p q few e = absurd (cc)
   rises zero xs (b ∷ ys) p q few e = absurd (omega arith)
@@ -88,11 +89,13 @@ signs_limit = power 4 18
 
 signs_below : (signs : List Sign) → signs_number signs < signs_limit
 unfolding signs_number signs_limit
-signs_below signs = below Sign sign_cmp sign_place 4 (omega arith) (λ s. Unit {0}) (λ s p. sign_fits s) (λ a b p q e. sign_up a b e) sign_level 18 signs (all_signs signs)
+signs_below signs = below Sign sign_cmp sign_place 4 (omega arith) (λ s. Unit {0}) (λ s p. sign_fits s) (λ a b p q e. sign_up a b e)
+    sign_level 18 signs (all_signs signs)
 
 signs_rise : (a b : List Sign) → length b ≤ 18 → signs_cmp a b ≡ Less → signs_number a < signs_number b
 unfolding signs_number
-signs_rise a b few e = rises Sign sign_cmp sign_place 4 (omega arith) (λ s. Unit {0}) (λ s p. sign_fits s) (λ a b p q e. sign_up a b e) sign_level 18 a b (all_signs a) (all_signs b) few e
+signs_rise a b few e = rises Sign sign_cmp sign_place 4 (omega arith) (λ s. Unit {0}) (λ s p. sign_fits s) (λ a b p q e. sign_up a b e)
+    sign_level 18 a b (all_signs a) (all_signs b) few e
 
 move_rank : Move → ℕ
 move_rank m = m.count * signs_limit + signs_number m.signs
@@ -132,8 +135,10 @@ word_below w all = below Move move_cmp move_rank move_limit some_limit IsSmallMo
 
 word_rises : (v w : Word) → AllByRecursion IsSmallMove v → AllByRecursion IsSmallMove w → length w ≤ 18 → Follows w v → word_number v < word_number w
 unfolding word_number
-word_rises v w p q few e = rises Move move_cmp move_rank move_limit some_limit IsSmallMove move_fits move_up (λ a b e. ap move_rank (move_same a b e)) 18 v w p q few e
+word_rises v w p q few e = rises Move move_cmp move_rank move_limit some_limit IsSmallMove move_fits move_up
+    (λ a b e. ap move_rank (move_same a b e)) 18 v w p q few e
 
+-- of a later word fewer words are left
 pub less_left : (v w : Word) → AllByRecursion IsSmallMove v → AllByRecursion IsSmallMove w → length w ≤ 18 → Follows w v → left_after w < left_after v
 unfolding left_after
 less_left v w p q few e = omega (arith, word_rises v w p q few e, word_below w q)
@@ -143,21 +148,32 @@ pub record IsSmallWord (k : ℕ) (w : Word) : Type 0 where
   pub moves : AllByRecursion IsSmallMove w
   pub few : length w ≤ k
 
+-- a side asks for at most one sign
 pub open_one : (b : Bool) → open_side b ≤ 1
 open_one true = omega arith
 open_one false = omega arith
 
+-- legal words of few squares have small moves
 pub small_from : (o : Outline) (w : Word) (k : ℕ) → AreLegalFrom o w → order_of w ≤ k → k ≤ 16 → IsSmallWord k w
 small_from o [] k l h b = record { moves = tt; few = omega arith }
 small_from o (m ∷ w) k l h b = onto (small_from (after_move o m) w (k - m.count) l.1 (omega (arith, order_more m w)) (omega arith))
   where
     onto : IsSmallWord (k - m.count) w → IsSmallWord k (m ∷ w)
     onto s = let some = (l.0).some in let signs = (l.0).signs in record {
-      moves = (record { count = omega (arith, order_more m w); signs = omega (arith, order_more m w, open_one (has_left_wall o), open_one (has_right_wall o)) }, s.moves);
+      moves = (
+        record {
+          count = omega (arith, order_more m w);
+          signs =
+              omega (arith, order_more m w, open_one (has_left_wall o), open_one (has_right_wall o));
+        },
+        s.moves,
+      );
       few = omega (arith, s.few, order_more m w);
     }
 
-pub small_place : (front : Word) (x : Move) → IsLegal front → order_of front ≤ 16 → IsSmallMove x → AllByRecursion IsSmallMove (front ++ x ∷ []) × (length (front ++ x ∷ []) ≤ 18)
+-- and so does a place behind one
+pub small_place : (front : Word) (x : Move) → IsLegal front → order_of front ≤ 16 → IsSmallMove x
+    → AllByRecursion IsSmallMove (front ++ x ∷ []) × (length (front ++ x ∷ []) ≤ 18)
 small_place front x legal few small = (all_append IsSmallMove front (x ∷ []) s.moves (small, tt), omega (arith, s.few, length-append front (x ∷ [])))
   where
     s : IsSmallWord 16 front

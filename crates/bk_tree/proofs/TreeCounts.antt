@@ -49,7 +49,8 @@ in_all_words P (v ∷ words) all w (inr h) = in_all_words P words all.1 w h
 
 fewer : (words more : List Word) → AreAscendingWords words → ((w : Word) → IsIn w words → IsIn w more) → length words ≤ length more
 fewer [] more up f = omega arith
-fewer (w ∷ words) more up f = let r = without w more (f w (inl refl)) in omega (arith, r.long, fewer words r.rest up.1 (λ v h. cases v h (r.others v (f v (inr h)))))
+fewer (w ∷ words) more up f = let r = without w more (f w (inl refl)) in
+    omega (arith, r.long, fewer words r.rest up.1 (λ v h. cases v h (r.others v (f v (inr h)))))
   where
     cases : (v : Word) → IsIn v words → (v ≡ w) ⊎ IsIn v (without w more (f w (inl refl))).rest → IsIn v (without w more (f w (inl refl))).rest
     cases v h (inl e) = absurd (not_itself w (subst (λ (u : Word). Follows u w) e (in_all_words (λ u. Follows u w) words up.0 v h)))
@@ -60,8 +61,16 @@ in_from [] w c = absurd (omega (arith, c.1))
 in_from (v ∷ words) w (zero, few, e) = inl (sym e)
 in_from (v ∷ words) w (suc k, few, e) = inr (in_from words w (k, omega (arith, few), e))
 
+-- the laws on the tree count: no list of its words is longer than the list of all
 pub the_tree_count_is_most : TheTreeCountIsMost
-the_tree_count_is_most n cursor bound count number t h = omega (arith, t.count, h.count, fewer h.words t.words h.ascending (λ w k. in_from t.words w (t.all w (in_all_words (IsInTree n cursor bound) h.words h.each w k))))
+the_tree_count_is_most n cursor bound count number t h =
+    omega (
+      arith,
+      t.count,
+      h.count,
+      fewer h.words t.words h.ascending
+          (λ w k. in_from t.words w (t.all w (in_all_words (IsInTree n cursor bound) h.words h.each w k))),
+    )
 
 pub the_tree_count_is_one : TheTreeCountIsOne
 the_tree_count_is_one n cursor bound count other a b = omega (
@@ -79,6 +88,7 @@ after_not_after u v w not f = cases (word_cmp u v) refl
     cases Equal e = word_total.congr u v w e ∙ f
     cases Greater e = absurd (not (word_total.antisymm v u ∙ ap ordering_reverse e))
 
+-- what is not after a word that is not after another is not after that
 pub not_after_not_after : (u v w : Word) → (Follows u v → ⊥) → (Follows v w → ⊥) → Follows u w → ⊥
 not_after_not_after u v w a b f = cases (word_cmp v w) refl
   where
@@ -102,16 +112,22 @@ module _ (n : ℕ) (cursor between : Word) (bound : Option Word) (from : Follows
   all_with P Q f [] all = tt
   all_with P Q f (w ∷ words) all = (f w all.0, all_with P Q f words all.1)
 
-  ascending : (front back : List Word) → AllByRecursion (IsInTree n cursor (Some between)) front → AllByRecursion (IsInTree n between bound) back → AreAscendingWords front → AreAscendingWords back → AreAscendingWords (front ++ back)
+  ascending : (front back : List Word) → AllByRecursion (IsInTree n cursor (Some between)) front
+      → AllByRecursion (IsInTree n between bound) back → AreAscendingWords front → AreAscendingWords back → AreAscendingWords (front ++ back)
   ascending [] back a b up more = more
   ascending (w ∷ front) back a b up more = (
-    all_append (λ v. Follows v w) front back up.0 (all_with (IsInTree n between bound) (λ v. Follows v w) (λ v t. after_not_after w between v (a.0).within t.after) back b),
+    all_append (λ v. Follows v w) front back up.0
+        (all_with (IsInTree n between bound) (λ v. Follows v w) (λ v t. after_not_after w between v (a.0).within t.after) back b),
     ascending front back a.1 b up.1 more,
   )
 
-  each : (front back : List Word) → AllByRecursion (IsInTree n cursor (Some between)) front → AllByRecursion (IsInTree n between bound) back → AllByRecursion (IsInTree n cursor bound) (front ++ back)
-  each front back a b = all_append (IsInTree n cursor bound) front back (all_with (IsInTree n cursor (Some between)) (IsInTree n cursor bound) lower front a) (all_with (IsInTree n between bound) (IsInTree n cursor bound) upper back b)
+  each : (front back : List Word) → AllByRecursion (IsInTree n cursor (Some between)) front → AllByRecursion (IsInTree n between bound) back
+      → AllByRecursion (IsInTree n cursor bound) (front ++ back)
+  each front back a b = all_append (IsInTree n cursor bound) front back
+      (all_with (IsInTree n cursor (Some between)) (IsInTree n cursor bound) lower front a)
+      (all_with (IsInTree n between bound) (IsInTree n cursor bound) upper back b)
 
+  -- the words up to one between, and those from it on, are all
   pub counts_add : (a b : ℕ) → IsTreeCount n cursor (Some between) a → IsTreeCount n between bound b → IsTreeCount n cursor bound (a + b)
   counts_add a b s t = record {
     words = s.words ++ t.words;
@@ -122,16 +138,20 @@ module _ (n : ℕ) (cursor between : Word) (bound : Option Word) (from : Follows
   }
     where
       in_part : (w : Word) → IsInTree n cursor bound w → (r : Ordering) → word_cmp between w ≡ r → Contains (s.words ++ t.words) w
-      in_part w h Less e = Contains-append_right s.words t.words w (t.all w (record { legal = h.legal; some = h.some; small = h.small; after = e; within = h.within }))
-      in_part w h Equal e = Contains-append_left s.words t.words w (s.all w (record { legal = h.legal; some = h.some; small = h.small; after = h.after; within = λ f. impossible (sym e ∙ f) }))
+      in_part w h Less e = Contains-append_right s.words t.words w
+          (t.all w (record { legal = h.legal; some = h.some; small = h.small; after = e; within = h.within }))
+      in_part w h Equal e = Contains-append_left s.words t.words w
+          (s.all w (record { legal = h.legal; some = h.some; small = h.small; after = h.after; within = λ f. impossible (sym e ∙ f) }))
         where
           impossible : Equal ≡ Less → ⊥
           impossible g = cc
-      in_part w h Greater e = Contains-append_left s.words t.words w (s.all w (record { legal = h.legal; some = h.some; small = h.small; after = h.after; within = λ f. impossible (sym e ∙ f) }))
+      in_part w h Greater e = Contains-append_left s.words t.words w
+          (s.all w (record { legal = h.legal; some = h.some; small = h.small; after = h.after; within = λ f. impossible (sym e ∙ f) }))
         where
           impossible : Greater ≡ Less → ⊥
           impossible g = cc
 
+  -- and so it is with lists of them
   pub at_least_adds_to : (a b : ℕ) → HasAtLeast n cursor (Some between) a → HasAtLeast n between bound b → HasAtLeast n cursor bound (a + b)
   at_least_adds_to a b s t = record {
     words = s.words ++ t.words;

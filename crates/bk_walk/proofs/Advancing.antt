@@ -49,16 +49,21 @@ pub not_both : (v w : Word) → Follows v w → Follows w v → ⊥
 not_both v w f g = not_itself v (follows_trans v w v g f)
 
 -- words before a place, and then a word that is not before it
-ascending_to : (n : ℕ) (cursor place word : Word) → (Follows place word → ⊥) → (words : List Word) → AllByRecursion (λ w. IsInTree n cursor None w × Follows place w) words → AreAscendingWords words
+ascending_to : (n : ℕ) (cursor place word : Word) → (Follows place word → ⊥) → (words : List Word)
+    → AllByRecursion (λ w. IsInTree n cursor None w × Follows place w) words → AreAscendingWords words
     → AreAscendingWords (words ++ word ∷ [])
 ascending_to n cursor place word from [] all up = (tt, tt)
-ascending_to n cursor place word from (w ∷ words) all up =
-    (all_append (λ v. Follows v w) words (word ∷ []) up.0 (before_not_before w place word (all.0).1 from, tt), ascending_to n cursor place word from words all.1 up.1)
+ascending_to n cursor place word from (w ∷ words) all up = (
+  all_append (λ v. Follows v w) words (word ∷ []) up.0 (before_not_before w place word (all.0).1 from, tt),
+  ascending_to n cursor place word from words all.1 up.1,
+)
 
 -- the place moves on, over what no member's word is among
 module _ (n : ℕ) (class : Class) (place next : Word) (up : Follows next place)
-    (none : (e : Entry) → IsEntry n class e → (Follows place e.word → ⊥) → Follows next e.word → ⊥) (cursor : Word) (met : ℕ) (p : IsPlace n class cursor place met) where
-  each_on : (words : List Word) → AllByRecursion (λ w. IsInTree n cursor None w × Follows place w) words → AllByRecursion (λ w. IsInTree n cursor None w × Follows next w) words
+    (none : (e : Entry) → IsEntry n class e → (Follows place e.word → ⊥) → Follows next e.word → ⊥) (cursor : Word) (met : ℕ)
+    (p : IsPlace n class cursor place met) where
+  each_on : (words : List Word) → AllByRecursion (λ w. IsInTree n cursor None w × Follows place w) words
+      → AllByRecursion (λ w. IsInTree n cursor None w × Follows next w) words
   each_on [] all = tt
   each_on (w ∷ words) all = (((all.0).0, follows_trans w place next (all.0).1 up), each_on words all.1)
 
@@ -92,7 +97,8 @@ module _ (n : ℕ) (class : Class) (place next : Word) (up : Follows next place)
 
 -- up to a word of the tree, which is met
 module _ (n : ℕ) (class : Class) (place word : Word) (tree : IsTreeWord n word) (some : 0 < length word) (from : Follows place word → ⊥)
-    (none : (e : Entry) → IsEntry n class e → (Follows place e.word → ⊥) → Follows word e.word → ⊥) (cursor : Word) (met : ℕ) (p : IsPlace n class cursor place met) where
+    (none : (e : Entry) → IsEntry n class e → (Follows place e.word → ⊥) → Follows word e.word → ⊥) (cursor : Word) (met : ℕ)
+    (p : IsPlace n class cursor place met) where
   each_to : (words : List Word) → AllByRecursion (λ w. IsInTree n cursor None w × Follows place w) words → AllByRecursion (IsInTree n cursor (Some word)) words
   each_to [] all = tt
   each_to (w ∷ words) all = (
@@ -124,7 +130,8 @@ module _ (n : ℕ) (class : Class) (place word : Word) (tree : IsTreeWord n word
       cases e is after before (inr f) = none e is f before
 
 -- the end: no word of the tree is left from the place on
-pub ended : (n : ℕ) (class : Class) (place cursor : Word) (met : ℕ) → ((w : Word) → IsTreeWord n w → (Follows place w → ⊥) → ⊥) → IsPlace n class cursor place met → IsEnd n class cursor met
+pub ended : (n : ℕ) (class : Class) (place cursor : Word) (met : ℕ) → ((w : Word) → IsTreeWord n w → (Follows place w → ⊥) → ⊥)
+    → IsPlace n class cursor place met → IsEnd n class cursor met
 ended n class place cursor met none p = record {
   passed = λ e is after. cases e is after (before_or e.word place);
   count = record { words = p.words; each = each_in p.words p.each; ascending = p.ascending; count = p.count };

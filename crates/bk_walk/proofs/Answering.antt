@@ -23,12 +23,14 @@ module _ (n : ℕ) (class : Class) (cursor place : Word) (p : IsPlace n class cu
   steps_to_word word found same m = subst (λ (w : Word). IsAtMostTree n cursor (Some w) (ended - start)) (sym same)
       (fewer_of_tree n cursor (Some word) (0 + (ended - began)) (ended - start - 16) (omega arith) (m cursor 0 p).count)
 
-  pub next_member : (t : Tiling) (word found : Word) → found ≡ word → IsMember n class t → IsWordOf t word → Meets n class place word (ended - began) → IsNextMember n class cursor t found
+  pub next_member : (t : Tiling) (word found : Word) → found ≡ word → IsMember n class t → IsWordOf t word
+      → Meets n class place word (ended - began) → IsNextMember n class cursor t found
   next_member t word found same member is m = subst (λ (w : Word). IsNextMember n class cursor t w) (sym same)
       (record { member = member; word_is = is; after = (m cursor 0 p).after; least = (m cursor 0 p).passed })
 
 -- a walk that has ended keeps its cursor
-pub kept_at_end : (n : ℕ) (class : Class) (cursor played : Word) (pushes : ℕ) → 2 ≤ n → n ≤ 16 → order_of cursor ≤ 16 → played ≡ [] → HasNoneAfter n class cursor → pushes < 2 ^ 64 → IsKeptWalk n class cursor played true pushes
+pub kept_at_end : (n : ℕ) (class : Class) (cursor played : Word) (pushes : ℕ) → 2 ≤ n → n ≤ 16 → order_of cursor ≤ 16 → played ≡ []
+    → HasNoneAfter n class cursor → pushes < 2 ^ 64 → IsKeptWalk n class cursor played true pushes
 kept_at_end n class cursor played pushes least most few e none known = record {
   least = least;
   most = most;

@@ -33,10 +33,12 @@ front_from k m other from e = cases (less_to other (front_signs k m) e)
   where
     cases : IsLess other (front_signs k m) → ⊥
     cases (inl h) = from (less_from other m (inl h))
-    cases (inr (h, f)) = from (less_from other m (inr (h, ap (signs_cmp other.signs) (sym (take-append-drop k m.signs)) ∙ less_longer other.signs (take k m.signs) (drop k m.signs) f)))
+    cases (inr (h, f)) = from (less_from other m
+        (inr (h, ap (signs_cmp other.signs) (sym (take-append-drop k m.signs)) ∙ less_longer other.signs (take k m.signs) (drop k m.signs) f)))
 
 pub cut_by_front : (n : ℕ) (class : Class) (front : Word) (m : Move) (k : ℕ)
-    → ((other : Move) → IsLegalMove (outline_of front) other → other.count ≡ m.count → Begins (take k m.signs) other.signs → IsBarren n class (front ++ other ∷ []))
+    → ((other : Move) → IsLegalMove (outline_of front) other → other.count ≡ m.count → Begins (take k m.signs) other.signs
+    → IsBarren n class (front ++ other ∷ []))
     → IsCut n class front m (move_after (front_signs k m))
 cut_by_front n class front m k barren = record {
   up = begun_before (front_signs k m) m refl (record { rest = drop k m.signs; is = sym (take-append-drop k m.signs) });
@@ -54,9 +56,6 @@ after_near k m = cases (signs_after (take k m.signs)) (next_short (take k m.sign
     cases : (r : Option (List Sign)) → IsShort (length (take k m.signs)) r → IsNear m (move_of m.count r)
     cases None h = record { least = omega arith; most = omega arith; signs = omega arith }
     cases (Some next) h = record { least = omega arith; most = omega arith; signs = omega (arith, shorter k m.signs) }
-
-pub near_itself : (m : Move) → IsNear m m
-near_itself m = record { least = omega arith; most = omega arith; signs = omega arith }
 
 pub whole_front : (m : Move) → front_signs (length m.signs) m ≡ m
 whole_front m = move_from_parts (front_signs (length m.signs) m) m refl (take-length m.signs)
@@ -83,32 +82,39 @@ get_drop (suc f) j (t ∷ a) s e = get_drop f j a s (subst (λ (k : ℕ). slice_
 
 pub even_cut : (n : ℕ) (class : Class) (front : Word) (m : Move) (kept : ℕ) → (class ≡ Perfect) ⊎ (3 ≤ n)
     → EndsEven (open_side (has_left_wall (outline_of front))) m.count m.signs kept → IsCut n class front m (move_after (front_signs kept m))
-even_cut n class front m kept which ends = cut_by_front n class front m kept (λ other legal count b. even_squares_are_barren n class front other which (contains other count b))
+even_cut n class front m kept which ends =
+    cut_by_front n class front m kept (λ other legal count b. even_squares_are_barren n class front other which (contains other count b))
   where
     from : ℕ
     from = open_side (has_left_wall (outline_of front))
 
     contains : (other : Move) → other.count ≡ m.count → Begins (take kept m.signs) other.signs → Contains (own_signs (outline_of front) other) Even
-    contains other count b = in_take (other.count - 1) (kept - 1 - open_side (has_left_wall (outline_of front))) (drop (open_side (has_left_wall (outline_of front))) other.signs) Even
+    contains other count b = in_take (other.count - 1) (kept - 1 - open_side (has_left_wall (outline_of front)))
+        (drop (open_side (has_left_wall (outline_of front))) other.signs) Even
         (let low = ends.low in let high = ends.high in omega arith)
         (get_drop (open_side (has_left_wall (outline_of front))) (kept - 1 - open_side (has_left_wall (outline_of front))) other.signs Even
         (subst (λ (i : ℕ). slice_get other.signs i ≡ Some Even) place
-        (subst (λ (l : List Sign). slice_get l (kept - 1) ≡ Some Even) (sym b.is) (get_append (take kept m.signs) b.rest (kept - 1) Even (get_take kept m.signs (kept - 1) Even (let low = ends.low in omega arith) ends.even)))))
+        (subst (λ (l : List Sign). slice_get l (kept - 1) ≡ Some Even) (sym b.is)
+        (get_append (take kept m.signs) b.rest (kept - 1) Even (get_take kept m.signs (kept - 1) Even (let low = ends.low in omega arith) ends.even)))))
       where
         place : kept - 1 ≡ open_side (has_left_wall (outline_of front)) + (kept - 1 - open_side (has_left_wall (outline_of front)))
         place = let low = ends.low in omega arith
 
-pub single_cut : (n : ℕ) (class : Class) (front : Word) (m : Move) → m.count ≡ 1 → length (valley_of (outline_of front)) ≡ 1 → IsCut n class front m (move_after (front_signs 0 m))
+pub single_cut : (n : ℕ) (class : Class) (front : Word) (m : Move) → m.count ≡ 1 → length (valley_of (outline_of front)) ≡ 1
+    → IsCut n class front m (move_after (front_signs 0 m))
 single_cut n class front m one valley = cut_by_front n class front m 0 (λ other legal count b. one_under_one_is_barren n class front other (count ∙ one) valley)
 
 pub first_cut : (n : ℕ) (class : Class) (m : Move) → m.count ≡ 2 → m.signs ≡ Above ∷ [] → IsLegalMove (outline_of []) m → IsCut n class [] m (move_after m)
-first_cut n class m two signs legal = subst (λ (f : Move). IsCut n class [] m (move_after f)) (whole_front m) (cut_by_front n class [] m (length m.signs) barren)
+first_cut n class m two signs legal = subst (λ (f : Move). IsCut n class [] m (move_after f)) (whole_front m)
+    (cut_by_front n class [] m (length m.signs) barren)
   where
-    barren : (other : Move) → IsLegalMove (outline_of []) other → other.count ≡ m.count → Begins (take (length m.signs) m.signs) other.signs → IsBarren n class ([] ++ other ∷ [])
+    barren : (other : Move) → IsLegalMove (outline_of []) other → other.count ≡ m.count → Begins (take (length m.signs) m.signs) other.signs
+        → IsBarren n class ([] ++ other ∷ [])
     barren other lawful count b = subst (λ (k : Move). IsBarren n class (k ∷ [])) (sym same) (shorter_first_is_barren n class)
       where
         same : other ≡ record { count = 2; signs = Above ∷ [] }
-        same = one_legal (outline_of []) m other legal lawful count (subst (λ (l : List Sign). Begins l other.signs) (take-length m.signs) b) ∙ move_from_parts m (record { count = 2; signs = Above ∷ [] }) two signs
+        same = one_legal (outline_of []) m other legal lawful count
+            (subst (λ (l : List Sign). Begins l other.signs) (take-length m.signs) b) ∙ move_from_parts m (record { count = 2; signs = Above ∷ [] }) two signs
 
 one_sign : (signs : List Sign) → length signs ≡ 1 → slice_index_or signs 0 Above ≡ Above → signs ≡ Above ∷ []
 one_sign [] h e = absurd (omega arith)
@@ -121,9 +127,12 @@ shorter_cut n class [] m none two above legal = first_cut n class m two (one_sig
 shorter_cut n class (k ∷ front) m none two above legal = absurd (omega arith)
 
 -- fewer squares are left than must still hang
-pub owes_lines : (n : ℕ) (class : Class) (front : Word) (left closings : ℕ) → 3 ≤ n → left ≡ n - order_of front → closings ≡ line_bound_of front → left < closings → IsBarren n class front
+pub owes_lines : (n : ℕ) (class : Class) (front : Word) (left closings : ℕ) → 3 ≤ n → left ≡ n - order_of front
+    → closings ≡ line_bound_of front → left < closings → IsBarren n class front
 owes_lines n class front left closings least l c many = too_many_lines_is_barren n class front least (omega arith)
 
 pub owes_singles : (n : ℕ) (class : Class) (front : Word) (left closings singles : ℕ) → 3 ≤ n → left ≡ n - order_of front → closings ≡ line_bound_of front
-    → singles ≡ single_valleys (outline_of front).signs (sizes_of (outline_of front)) → IsTrue (nat_lt (left - closings) singles) → closings ≤ left → IsBarren n class front
-owes_singles n class front left closings singles least l c s many few = too_many_lines_is_barren n class front least (omega (arith, ltb-true (left - closings) singles many))
+    → singles ≡ single_valleys (outline_of front).signs (sizes_of (outline_of front)) → IsTrue (nat_lt (left - closings) singles)
+    → closings ≤ left → IsBarren n class front
+owes_singles n class front left closings singles least l c s many few =
+    too_many_lines_is_barren n class front least (omega (arith, ltb-true (left - closings) singles many))

@@ -5,7 +5,7 @@ use Rattle.std.proofs.Math.Seq.{take-append_seam}
 use Rattle.std.proofs.lemmas.List.{append_assoc, drop-drop, take-append-drop}
 use Rattle.bk_word_net.proofs.NoLoose.{closed_count}
 use Rattle.bk_word_net.proofs.Shape.{hung_many}
-use Rattle.bk_skel.proofs.StoredMoves.{legal-snoc}
+use Rattle.bk_word.proofs.PlayLaws.{legal-snoc, legal_front}
 use Rattle.bk_word.specs.Outline.{IsLegalMove, Outline, start, valley_of, valley_place}
 use Rattle.bk_word.specs.Play.{IsLegal, after_move, outline_of}
 use Rattle.bk_word.specs.Word.{Move, Word, order_of}
@@ -13,32 +13,39 @@ use Rattle.bk_word.specs.declared.Sign.{Sign}
 use Rattle.bk_bounds.proofs.BoundsOfWords.{segments_again}
 use Rattle.bk_bounds.proofs.LineCounting.{sum-cons}
 use Rattle.bk_bounds.proofs.LineMoves.{lines-append, lines_long}
-use Rattle.bk_word.proofs.PlayLaws.{legal_front}
 use Rattle.bk_bounds.specs.SingleValleys.{sizes_of}
 use Rattle.bk_bounds.specs.VerticalCut.{IsLinedWord, begins_on_line, lines_after, lines_along, lines_of, segments_of}
 
 -- ---- the valley
 
-segment_at : (sizes ends : List ℕ) (i : ℕ) → i < length sizes → slice_index_or (segments_of sizes ends) i [] ≡ take (slice_index_or sizes i 0) (drop (sum (take i sizes)) ends)
+segment_at : (sizes ends : List ℕ) (i : ℕ) → i < length sizes
+    → slice_index_or (segments_of sizes ends) i [] ≡ take (slice_index_or sizes i 0) (drop (sum (take i sizes)) ends)
 segment_at [] ends i h = absurd (omega arith)
 segment_at (n ∷ sizes) ends zero h = refl
-segment_at (n ∷ sizes) ends (suc i) h = segment_at sizes (drop n ends) i (omega arith) ∙ ap (take (slice_index_or sizes i 0)) (drop-drop (sum (take i sizes)) n ends ∙ (λ j. drop (sym (sum-cons n (take i sizes)) j) ends))
+segment_at (n ∷ sizes) ends (suc i) h = segment_at sizes (drop n ends) i (omega arith)
+    ∙ ap (take (slice_index_or sizes i 0)) (drop-drop (sum (take i sizes)) n ends ∙ (λ j. drop (sym (sum-cons n (take i sizes)) j) ends))
 
 -- the squares of the valley, where it stands at the place and so many squares are open before it
-pub valley_slice : (signs : List Sign) (sizes ends : List ℕ) (place before size : ℕ) → place ≡ valley_place signs → place < length sizes → before ≡ sum (take place sizes) → size ≡ slice_index_or sizes place 0
+pub valley_slice : (signs : List Sign) (sizes ends : List ℕ) (place before size : ℕ) → place ≡ valley_place signs → place < length sizes
+    → before ≡ sum (take place sizes) → size ≡ slice_index_or sizes place 0
     → take (before + size - before) (drop before ends) ≡ slice_index_or (segments_of sizes ends) (valley_place signs) []
-valley_slice signs sizes ends place before size e within b s = (λ i. take (long i) (drop (b i) ends)) ∙ sym (segment_at sizes ends place within) ∙ (λ i. slice_index_or (segments_of sizes ends) (e i) [])
+valley_slice signs sizes ends place before size e within b s = (λ i. take (long i) (drop (b i) ends))
+    ∙ sym (segment_at sizes ends place within) ∙ (λ i. slice_index_or (segments_of sizes ends) (e i) [])
   where
     long : before + size - before ≡ slice_index_or sizes place 0
     long = omega (arith, s)
 
-valley_by_lists : (w : Word) → slice_index_or (segments_of (sizes_of (outline_of w)) (concat (outline_of w).segments)) (valley_place (outline_of w).signs) [] ≡ valley_of (outline_of w)
+valley_by_lists : (w : Word) → slice_index_or (segments_of (sizes_of (outline_of w)) (concat (outline_of w).segments))
+    (valley_place (outline_of w).signs) [] ≡ valley_of (outline_of w)
 valley_by_lists w = λ i. slice_index_or (segments_again (outline_of w).segments i) (valley_place (outline_of w).signs) []
 
 -- by the lists that show a word: whether its valley begins on a line
-pub valley_begins : (w : Word) (lines shown : List Bool) (signs : List Sign) (sizes ends : List ℕ) (is_on : Bool) → shown ≡ lines → signs ≡ (outline_of w).signs → sizes ≡ sizes_of (outline_of w)
-    → ends ≡ concat (outline_of w).segments → is_on ≡ begins_on_line shown (slice_index_or (segments_of sizes ends) (valley_place signs) []) → is_on ≡ begins_on_line lines (valley_of (outline_of w))
-valley_begins w lines shown signs sizes ends is_on l s z e on = on ∙ (λ i. begins_on_line (l i) (slice_index_or (segments_of (z i) (e i)) (valley_place (s i)) [])) ∙ ap (begins_on_line lines) (valley_by_lists w)
+pub valley_begins : (w : Word) (lines shown : List Bool) (signs : List Sign) (sizes ends : List ℕ) (is_on : Bool) → shown ≡ lines
+    → signs ≡ (outline_of w).signs → sizes ≡ sizes_of (outline_of w)
+    → ends ≡ concat (outline_of w).segments → is_on ≡ begins_on_line shown (slice_index_or (segments_of sizes ends) (valley_place signs) [])
+    → is_on ≡ begins_on_line lines (valley_of (outline_of w))
+valley_begins w lines shown signs sizes ends is_on l s z e on = on
+    ∙ (λ i. begins_on_line (l i) (slice_index_or (segments_of (z i) (e i)) (valley_place (s i)) [])) ∙ ap (begins_on_line lines) (valley_by_lists w)
 
 -- ---- moves
 
@@ -48,12 +55,15 @@ lines_counted w legal = omega (arith, lines_long start [] w legal refl, hung_man
 pub lined_count : (w : Word) (lines : List Bool) → IsLinedWord w lines → length lines ≡ order_of w
 lined_count w lines lined = ap length lined.lines_are ∙ lines_counted w lined.legal
 
-pub lined_more : (w more : Word) (lines lines_then : List Bool) (m : Move) (count : ℕ) (is_on is_first : Bool) → IsLinedWord w lines → IsLegalMove (outline_of w) m
-    → is_on ≡ begins_on_line lines (valley_of (outline_of w)) → is_first ≡ nat_eq (length w) 0 → count ≡ m.count → more ≡ w ++ m ∷ [] → lines_then ≡ lines ++ is_on ∷ replicate (count - 1) is_first
+pub lined_more : (w more : Word) (lines lines_then : List Bool) (m : Move) (count : ℕ) (is_on is_first : Bool) → IsLinedWord w lines
+    → IsLegalMove (outline_of w) m
+    → is_on ≡ begins_on_line lines (valley_of (outline_of w)) → is_first ≡ nat_eq (length w) 0 → count ≡ m.count → more ≡ w ++ m ∷ []
+    → lines_then ≡ lines ++ is_on ∷ replicate (count - 1) is_first
     → IsLinedWord more lines_then
 lined_more w more lines lines_then m count is_on is_first lined legal on first same e f = record {
   legal = subst IsLegal (sym e) (legal-snoc start w m lined.legal legal);
-  lines_are = f ∙ (λ i. lines ++ on i ∷ replicate (same i - 1) (first_node i)) ∙ ap (λ ls. lines_after (outline_of w) ls m) lined.lines_are ∙ sym (lines-append start [] w (m ∷ [])) ∙ ap lines_of (sym e);
+  lines_are = f ∙ (λ i. lines ++ on i ∷ replicate (same i - 1) (first_node i)) ∙ ap (λ ls. lines_after (outline_of w) ls m) lined.lines_are
+      ∙ sym (lines-append start [] w (m ∷ [])) ∙ ap lines_of (sym e);
 }
   where
     nodes : length w ≡ length (outline_of w).closed
@@ -75,10 +85,13 @@ lines_go_on o lines (m ∷ w) = let on = begins_on_line lines (valley_of o) ∷ 
 lines_of_front : (front rest : Word) → IsLegal front → take (order_of front) (lines_of (front ++ rest)) ≡ lines_of front
 lines_of_front front rest legal = front_of (lines_go_on (outline_of front) (lines_of front) rest)
   where
-    front_of : ((more : List Bool) × (lines_along (outline_of front) (lines_of front) rest ≡ lines_of front ++ more)) → take (order_of front) (lines_of (front ++ rest)) ≡ lines_of front
-    front_of (more, e) = ap (take (order_of front)) (lines-append start [] front rest ∙ e) ∙ (λ i. take (sym (lines_counted front legal) i) (lines_of front ++ more)) ∙ take-append_seam (lines_of front) more
+    front_of : ((more : List Bool) × (lines_along (outline_of front) (lines_of front) rest ≡ lines_of front ++ more))
+        → take (order_of front) (lines_of (front ++ rest)) ≡ lines_of front
+    front_of (more, e) = ap (take (order_of front)) (lines-append start [] front rest ∙ e)
+        ∙ (λ i. take (sym (lines_counted front legal) i) (lines_of front ++ more)) ∙ take-append_seam (lines_of front) more
 
-pub lined_less : (w front : Word) (lines lines_then : List Bool) (order : ℕ) → IsLinedWord w lines → front ≡ take (length w - 1) w → order ≡ order_of front → lines_then ≡ take order lines
+pub lined_less : (w front : Word) (lines lines_then : List Bool) (order : ℕ) → IsLinedWord w lines → front ≡ take (length w - 1) w
+    → order ≡ order_of front → lines_then ≡ take order lines
     → IsLinedWord front lines_then
 lined_less w front lines lines_then order lined e o f = subst (λ v. IsLinedWord v lines_then) (sym e) (record {
   legal = lawful;

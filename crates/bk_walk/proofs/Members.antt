@@ -24,7 +24,9 @@ member_from class t w tiling word q = record {
 -- where the one primitive tiling that has the word does not qualify, no member has it
 pub none_other : (n : ℕ) (class : Class) (t : Tiling) (w : Word) → IsTiling t → IsPrimitiveTiling t → IsWordOf t w → (Qualifies class t → ⊥)
     → (e : Entry) → IsEntry n class e → e.word ≡ w → ⊥
-none_other n class t w tiling primitive word not e is same = not (subst (Qualifies class) one (record { simple = (is.member).simple; of_class = (is.member).class; canonical = (is.member).canonical }))
+none_other n class t w tiling primitive word not e is same =
+    not (subst (Qualifies class) one (record { simple = (is.member).simple; of_class = (is.member).class; canonical = (is.member).canonical }))
   where
     one : e.tiling ≡ t
-    one = a_word_has_one_primitive_tiling e.tiling t w (is.member).tiling tiling (canonical_primitive e.tiling (is.member).tiling (is.member).canonical) primitive (subst (IsWordOf e.tiling) same is.word) word
+    one = a_word_has_one_primitive_tiling e.tiling t w (is.member).tiling tiling
+        (canonical_primitive e.tiling (is.member).tiling (is.member).canonical) primitive (subst (IsWordOf e.tiling) same is.word) word

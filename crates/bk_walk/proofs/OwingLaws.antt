@@ -1,6 +1,6 @@
 -- A cut by the first signs of a move: they ask for more squares than are left after it.
 use Rattle.std.proofs.Common.{List, [], ap, append_assoc, arith, count_by, drop, length, max, refl, slice_index_or, subst, suc, sym, take, zero, ℕ, ◌++◌, ◌+◌, ◌-◌, ◌<◌, ◌∙◌, ◌∷◌, ◌≡◌, ◌≤◌}
-use Rattle.std.proofs.lemmas.List.{drop_all, drop_more, take-append-drop, take_all}
+use Rattle.std.proofs.lemmas.List.{take-append-drop}
 use Rattle.bk_word.specs.Outline.{Outline, start, valley_place}
 use Rattle.bk_word.specs.Play.{outline_of, signs_apart}
 use Rattle.bk_word.specs.Word.{Move, Word, order_of}
@@ -8,7 +8,7 @@ use Rattle.bk_word.specs.declared.Class.{Class}
 use Rattle.bk_word.specs.declared.Sign.{Sign}
 use Rattle.bk_word.specs.declared.Sign.TheVariants.{Above, Even, Under}
 use Rattle.bk_word.proofs.StoredBytes.{order_append, order_more}
-use Rattle.bk_skel.proofs.StoredMoves.{after-snoc}
+use Rattle.bk_word.proofs.PlayLaws.{after-snoc}
 use Rattle.bk_bounds.proofs.ClosingLaws.{aboves-append, aboves-cons, bound-append, bound-parts, unders, unders-cons}
 use Rattle.bk_walk.proofs.CutLaws.{cut_by_front, front_signs}
 use Rattle.bk_barren.proofs.CuttingBounds.{too_many_to_close_is_barren}
@@ -20,7 +20,8 @@ use Rattle.bk_tree.specs.NextMove.{move_after}
 
 -- the first signs ask for no less than all do
 front_owes : (before front rest behind : List Sign) → closing_bound (before ++ front) + unders behind ≤ closing_bound (before ++ (front ++ rest) ++ behind)
-front_owes before front rest behind = omega (arith, bound-append (before ++ (front ++ rest)) behind, ap closing_bound (append_assoc before front rest), bound-append (before ++ front) rest)
+front_owes before front rest behind = omega
+    (arith, bound-append (before ++ (front ++ rest)) behind, ap closing_bound (append_assoc before front rest), bound-append (before ++ front) rest)
 
 pub owing_cut : (n : ℕ) (class : Class) (front : Word) (m : Move) (kept room left under place : ℕ) → place ≡ valley_place (outline_of front).signs
     → under ≡ count_by is_under (drop (place + 1) (outline_of front).signs) → left ≡ n - order_of front - m.count → room ≡ left - under
@@ -28,7 +29,8 @@ pub owing_cut : (n : ℕ) (class : Class) (front : Word) (m : Move) (kept room l
 owing_cut n class front m kept room left under place p u l r over = cut_by_front n class front m kept (λ other legal count b. barren other count b)
   where
     barren : (other : Move) → other.count ≡ m.count → Begins (take kept m.signs) other.signs → IsBarren n class (front ++ other ∷ [])
-    barren other count b = too_many_to_close_is_barren n class (front ++ other ∷ []) (omega (arith, order_append front (other ∷ []), order_more other [], owes, count))
+    barren other count b = too_many_to_close_is_barren n class (front ++ other ∷ [])
+        (omega (arith, order_append front (other ∷ []), order_more other [], owes, count))
       where
         before : List Sign
         before = take (valley_place (outline_of front).signs - 1) (outline_of front).signs
@@ -38,23 +40,28 @@ owing_cut n class front m kept room left under place p u l r over = cut_by_front
 
         room_is : n - order_of front - m.count - unders (drop (valley_place (outline_of front).signs + 1) (outline_of front).signs)
             < closing_bound (take (valley_place (outline_of front).signs - 1) (outline_of front).signs ++ take kept m.signs)
-        room_is = subst (λ (k : ℕ). n - order_of front - m.count - unders (drop (k + 1) (outline_of front).signs) < closing_bound (take (k - 1) (outline_of front).signs ++ take kept m.signs)) p (omega (arith, over, r, l, u))
+        room_is = subst (λ (k : ℕ). n - order_of front - m.count - unders (drop (k + 1) (outline_of front).signs)
+            < closing_bound (take (k - 1) (outline_of front).signs ++ take kept m.signs)) p (omega (arith, over, r, l, u))
 
         all : closing_bound (outline_of (front ++ other ∷ [])).signs
-            ≡ closing_bound (take (valley_place (outline_of front).signs - 1) (outline_of front).signs ++ (take kept m.signs ++ b.rest) ++ drop (valley_place (outline_of front).signs + 1) (outline_of front).signs)
+            ≡ closing_bound (take (valley_place (outline_of front).signs - 1) (outline_of front).signs ++ (take kept m.signs ++ b.rest)
+            ++ drop (valley_place (outline_of front).signs + 1) (outline_of front).signs)
         all = ap (λ (o : Outline). closing_bound o.signs) (after-snoc start front other) ∙ bound-parts (signs_apart (outline_of front) other)
-            ∙ ap (λ l. closing_bound (take (valley_place (outline_of front).signs - 1) (outline_of front).signs ++ l ++ drop (valley_place (outline_of front).signs + 1) (outline_of front).signs)) b.is
+            ∙ ap (λ l. closing_bound (take (valley_place (outline_of front).signs - 1) (outline_of front).signs ++ l
+            ++ drop (valley_place (outline_of front).signs + 1) (outline_of front).signs)) b.is
 
         owes : n - order_of front - m.count < closing_bound (outline_of (front ++ other ∷ [])).signs
         owes = omega (
           arith,
           room_is,
           all,
-          front_owes (take (valley_place (outline_of front).signs - 1) (outline_of front).signs) (take kept m.signs) b.rest (drop (valley_place (outline_of front).signs + 1) (outline_of front).signs),
+          front_owes (take (valley_place (outline_of front).signs - 1) (outline_of front).signs) (take kept m.signs) b.rest
+              (drop (valley_place (outline_of front).signs + 1) (outline_of front).signs),
         )
 
 -- one sign more
-pub tally_above : (signs : List Sign) (bound more : ℕ) (above now : ℕ) → IsTally signs bound above → more ≡ max bound (above + 1) → now ≡ above + 1 → IsTally (signs ++ Above ∷ []) more now
+pub tally_above : (signs : List Sign) (bound more : ℕ) (above now : ℕ) → IsTally signs bound above → more ≡ max bound (above + 1)
+    → now ≡ above + 1 → IsTally (signs ++ Above ∷ []) more now
 tally_above signs bound more above now t e f = let b = t.bound_is in let a = t.aboves_is in record {
   bound_is = omega (arith, bound-append signs (Above ∷ []), unders-cons Above []);
   aboves_is = omega (arith, aboves-append signs (Above ∷ []), aboves-cons Above []);
@@ -66,14 +73,12 @@ tally_even signs bound above low t = let b = t.bound_is in let a = t.aboves_is i
   aboves_is = omega (arith, aboves-append signs (Even ∷ []), aboves-cons Even []);
 }
 
-pub tally_under : (signs : List Sign) (bound more above : ℕ) → above ≤ bound → IsTally signs bound above → more ≡ bound + 1 → IsTally (signs ++ Under ∷ []) more above
+pub tally_under : (signs : List Sign) (bound more above : ℕ) → above ≤ bound → IsTally signs bound above → more ≡ bound + 1
+    → IsTally (signs ++ Under ∷ []) more above
 tally_under signs bound more above low t e = let b = t.bound_is in let a = t.aboves_is in record {
   bound_is = omega (arith, bound-append signs (Under ∷ []), unders-cons Under []);
   aboves_is = omega (arith, aboves-append signs (Under ∷ []), aboves-cons Under []);
 }
-
-pub tally_none : IsTally [] 0 0
-tally_none = record { bound_is = refl; aboves_is = refl }
 
 -- the bound of more signs is no smaller
 pub bound_more : (xs ys : List Sign) → closing_bound xs ≤ closing_bound (xs ++ ys)
@@ -89,15 +94,9 @@ take_here (s ∷ signs) (suc i) h = ap (λ k. take k (s ∷ signs)) next ∙ ap 
     next : suc i + 1 ≡ suc (i + 1)
     next = omega arith
 
--- where the signs up to a place and one more are tallied, so are those up to the next place
-pub tally_next : (before signs : List Sign) (i bound above : ℕ) → i < length signs → IsTally ((before ++ take i signs) ++ slice_index_or signs i Above ∷ []) bound above → IsTally (before ++ take (i + 1) signs) bound above
-tally_next before signs i bound above h t = subst (λ (l : List Sign). IsTally l bound above) (append_assoc before (take i signs) (slice_index_or signs i Above ∷ []) ∙ ap (λ l. before ++ l) (sym (take_here signs i h))) t
-
-pub tally_all : (before signs : List Sign) (i bound above : ℕ) → length signs ≤ i → IsTally (before ++ take i signs) bound above → IsTally (before ++ signs) bound above
-tally_all before signs i bound above h t = subst (λ (l : List Sign). IsTally (before ++ l) bound above) (take_all i signs h) t
-
 -- a bound that passes the room at a place
-pub tally_over : (signs : List Sign) (i bound above room : ℕ) → i < length signs → room < bound → IsTally (take i signs ++ slice_index_or signs i Above ∷ []) bound above → room < closing_bound signs
+pub tally_over : (signs : List Sign) (i bound above room : ℕ) → i < length signs → room < bound
+    → IsTally (take i signs ++ slice_index_or signs i Above ∷ []) bound above → room < closing_bound signs
 tally_over signs i bound above room h over t = omega (
   arith,
   over,
@@ -106,18 +105,3 @@ tally_over signs i bound above room h over t = omega (
   bound_more (take (i + 1) signs) (drop (i + 1) signs),
   ap closing_bound (sym (take-append-drop (i + 1) signs)),
 )
-
--- the valley's place, from a place on
-pub place_above : (signs : List Sign) (i : ℕ) → i < length signs → slice_index_or signs i Above ≡ Above → valley_place (drop i signs) ≡ 0
-place_above signs i h e = ap valley_place (drop_more signs i Above h) ∙ ap (λ s. valley_place (s ∷ drop (i + 1) signs)) e
-
-pub place_on : (signs : List Sign) (i : ℕ) (s : Sign) → i < length signs → slice_index_or signs i Above ≡ s → (s ≡ Above → ⊥) → valley_place (drop i signs) ≡ 1 + valley_place (drop (i + 1) signs)
-place_on signs i s h e not = ap valley_place (drop_more signs i Above h) ∙ ap (λ t. valley_place (t ∷ drop (i + 1) signs)) e ∙ step s not
-  where
-    step : (s : Sign) → (s ≡ Above → ⊥) → valley_place (s ∷ drop (i + 1) signs) ≡ 1 + valley_place (drop (i + 1) signs)
-    step Above not = absurd (not refl)
-    step Even not = omega arith
-    step Under not = omega arith
-
-pub place_end : (signs : List Sign) (i : ℕ) → length signs ≤ i → valley_place (drop i signs) ≡ 0
-place_end signs i h = ap valley_place (drop_all i signs h)

@@ -28,14 +28,16 @@ few_from n front m rest w tree e = omega (arith, tree.small, ap order_of e, orde
 -- where no legal move is left, no word of the tree that begins with these moves is left
 last_over : (n : ℕ) (front : Word) (x : Move) (w rest : Word) → IsTreeWord n w → IsLast n front x → w ≡ front ++ rest → (word_cmp rest (x ∷ []) ≡ Less → ⊥) → ⊥
 last_over n front x w [] tree last e from = from refl
-last_over n front x w (m ∷ rest) tree last e from = last m (goes_on n front m rest w tree e) (not_before_first m x rest [] from) (few_from n front m rest w tree e)
+last_over n front x w (m ∷ rest) tree last e from =
+    last m (goes_on n front m rest w tree e) (not_before_first m x rest [] from) (few_from n front m rest w tree e)
 
 pub end_over : (n : ℕ) (x : Move) (w : Word) → IsTreeWord n w → IsLast n [] x → (Follows (x ∷ []) w → ⊥) → ⊥
 end_over n x w tree last from = last_over n [] x w w tree last refl from
 
 pub climb_over : (n : ℕ) (front : Word) (l x : Move) (w : Word) → IsTreeWord n w → IsLegalMove (outline_of front) l → IsLast n (front ++ l ∷ []) x
     → (Follows ((front ++ l ∷ []) ++ x ∷ []) w → ⊥) → Follows (front ++ move_after l ∷ []) w → ⊥
-climb_over n front l x w tree legal last from to = cases (lies_between front (l ∷ x ∷ []) (move_after l ∷ []) w (λ e. from (ap (word_cmp w) (append_assoc front (l ∷ []) (x ∷ [])) ∙ e)) to)
+climb_over n front l x w tree legal last from to =
+    cases (lies_between front (l ∷ x ∷ []) (move_after l ∷ []) w (λ e. from (ap (word_cmp w) (append_assoc front (l ∷ []) (x ∷ [])) ∙ e)) to)
   where
     by_rest : (rest : Word) → w ≡ front ++ rest → (word_cmp rest (l ∷ x ∷ []) ≡ Less → ⊥) → word_cmp rest (move_after l ∷ []) ≡ Less → ⊥
     by_rest [] e f t = f refl
@@ -80,7 +82,8 @@ move_over n front x m next w tree least from to = cases (lies_between front (x �
 
 pub push_over : (n : ℕ) (front : Word) (x m : Move) (w : Word) → IsTreeWord n w → IsLeastFrom (outline_of front) x m
     → (Follows (front ++ x ∷ []) w → ⊥) → Follows ((front ++ m ∷ []) ++ first_move ∷ []) w → w ≡ front ++ m ∷ []
-push_over n front x m w tree least from to = cases (lies_between front (x ∷ []) (m ∷ first_move ∷ []) w from (sym (ap (word_cmp w) (append_assoc front (m ∷ []) (first_move ∷ []))) ∙ to))
+push_over n front x m w tree least from to =
+    cases (lies_between front (x ∷ []) (m ∷ first_move ∷ []) w from (sym (ap (word_cmp w) (append_assoc front (m ∷ []) (first_move ∷ []))) ∙ to))
   where
     by_rest : (rest : Word) → w ≡ front ++ rest → (word_cmp rest (x ∷ []) ≡ Less → ⊥) → word_cmp rest (m ∷ first_move ∷ []) ≡ Less → w ≡ front ++ m ∷ []
     by_rest [] e f t = absurd (f refl)
@@ -92,7 +95,8 @@ push_over n front x m w tree least from to = cases (lies_between front (x ∷ []
         by_order Equal g = e ∙ ap (λ z. front ++ z ∷ rest) (move_same k m g) ∙ ap (λ z. front ++ m ∷ z) none
           where
             none : rest ≡ []
-            none = before_first (after_moves (outline_of front) (k ∷ [])) rest (legal_rest start front (k ∷ rest) (subst IsLegal e tree.legal)).1 (sym (ap (λ z. ordering_then z (word_cmp rest (first_move ∷ []))) g) ∙ t)
+            none = before_first (after_moves (outline_of front) (k ∷ [])) rest
+                (legal_rest start front (k ∷ rest) (subst IsLegal e tree.legal)).1 (sym (ap (λ z. ordering_then z (word_cmp rest (first_move ∷ []))) g) ∙ t)
 
     cases : LiesBetween front (x ∷ []) (m ∷ first_move ∷ []) w → w ≡ front ++ m ∷ []
     cases b = by_rest b.rest b.is b.from b.to

@@ -17,18 +17,31 @@ pub record Continues (n : ℕ) (class : Class) (place next : Word) (met : ℕ) :
 pub continues_none : (n : ℕ) (class : Class) (place : Word) (met : ℕ) → met ≤ 0 → Continues n class place place met
 continues_none n class place met none = record { on = λ cursor before p. fewer_met n class cursor place before (before + met) (omega arith) p }
 
-pub continues_on : (n : ℕ) (class : Class) (place mid next : Word) (a b met : ℕ) → Continues n class place mid a → Advances n class mid next b → met ≤ a + b → Continues n class place next met
-continues_on n class place mid next a b met c s few = record { on = λ cursor before p. fewer_met n class cursor next (before + a + b) (before + met) (omega arith) (s.on cursor (before + a) (c.on cursor before p)) }
+pub continues_on : (n : ℕ) (class : Class) (place mid next : Word) (a b met : ℕ) → Continues n class place mid a
+    → Advances n class mid next b → met ≤ a + b → Continues n class place next met
+continues_on n class place mid next a b met c s few =
+    record {
+      on = λ cursor before p. fewer_met n class cursor next (before + a + b) (before + met) (omega arith)
+          (s.on cursor (before + a) (c.on cursor before p));
+    }
 
 pub continues_past : (n : ℕ) (class : Class) (place mid word : Word) (a b met : ℕ) → Continues n class place mid a → Reaches n class mid word b
     → ((e : Entry) → IsEntry n class e → e.word ≡ word → ⊥) → met ≤ a + b → Continues n class place (word ++ first_move ∷ []) met
-continues_past n class place mid word a b met c r not few = record { on = λ cursor before p. fewer_met n class cursor (word ++ first_move ∷ []) (before + a + b) (before + met) (omega arith) (r.on not cursor (before + a) (c.on cursor before p)) }
+continues_past n class place mid word a b met c r not few =
+    record {
+      on = λ cursor before p. fewer_met n class cursor (word ++ first_move ∷ []) (before + a + b) (before + met) (omega arith)
+          (r.on not cursor (before + a) (c.on cursor before p));
+    }
 
-pub meets_then : (n : ℕ) (class : Class) (place mid word : Word) (a b met : ℕ) → Continues n class place mid a → Reaches n class mid word b → met ≤ a + b → Meets n class place word met
-meets_then n class place mid word a b met c r few cursor before p = fewer_at n class cursor word (before + a + b) (before + met) (omega arith) (r.reached cursor (before + a) (c.on cursor before p))
+pub meets_then : (n : ℕ) (class : Class) (place mid word : Word) (a b met : ℕ) → Continues n class place mid a → Reaches n class mid word b
+    → met ≤ a + b → Meets n class place word met
+meets_then n class place mid word a b met c r few cursor before p =
+    fewer_at n class cursor word (before + a + b) (before + met) (omega arith) (r.reached cursor (before + a) (c.on cursor before p))
 
-pub ends_then : (n : ℕ) (class : Class) (place mid : Word) (a b met : ℕ) → Continues n class place mid a → Ends n class mid b → met ≤ a + b → Ends n class place met
-ends_then n class place mid a b met c e few cursor before p = fewer_end n class cursor (before + a + b) (before + met) (omega arith) (e cursor (before + a) (c.on cursor before p))
+pub ends_then : (n : ℕ) (class : Class) (place mid : Word) (a b met : ℕ) → Continues n class place mid a → Ends n class mid b → met ≤ a + b
+    → Ends n class place met
+ends_then n class place mid a b met c e few cursor before p =
+    fewer_end n class cursor (before + a + b) (before + met) (omega arith) (e cursor (before + a) (c.on cursor before p))
 
 pub counts_none : (pushes steps : ℕ) → pushes < 2 ^ 64 → Counts pushes pushes steps steps
 counts_none pushes steps known = record { more = omega arith; counted = omega arith }
@@ -40,7 +53,8 @@ pub counts_known : (p q s t : ℕ) → Counts p q s t → q < 2 ^ 64
 counts_known p q s t a = omega (arith, a.counted)
 
 -- a later place is nearer to the end
-pub nearer : (n : ℕ) (front then : Word) (x y : Move) → n ≤ 16 → IsStand n front x → IsStand n then y → Follows (then ++ y ∷ []) (front ++ x ∷ []) → left_after (then ++ y ∷ []) < left_after (front ++ x ∷ [])
+pub nearer : (n : ℕ) (front then : Word) (x y : Move) → n ≤ 16 → IsStand n front x → IsStand n then y
+    → Follows (then ++ y ∷ []) (front ++ x ∷ []) → left_after (then ++ y ∷ []) < left_after (front ++ x ∷ [])
 nearer n front then x y few s t up = less_left (front ++ x ∷ []) (then ++ y ∷ []) (small n front x few s).0 (small n then y few t).0 (small n then y few t).1 up
   where
     small : (n : ℕ) (front : Word) (x : Move) → n ≤ 16 → IsStand n front x → AllByRecursion IsSmallMove (front ++ x ∷ []) × (length (front ++ x ∷ []) ≤ 18)

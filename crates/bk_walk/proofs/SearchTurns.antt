@@ -10,7 +10,7 @@ use Rattle.bk_word.specs.Play.{IsLegal, outline_of}
 use Rattle.bk_word.specs.Word.{Follows, Move, Word, move_cmp, order_of, word_cmp}
 use Rattle.bk_word.specs.declared.Class.{Class}
 use Rattle.bk_word.proofs.StoredBytes.{order_append, order_more}
-use Rattle.bk_skel.proofs.StoredMoves.{legal-snoc}
+use Rattle.bk_word.proofs.PlayLaws.{legal-snoc}
 use Rattle.bk_walk.proofs.Advancing.{ended, entry_word, met_at, met_on, moved_on}
 use Rattle.bk_tree.proofs.MoveOrder.{begun_before, move_total, moves_between}
 use Rattle.bk_walk.proofs.Passing.{IsOver, climb_over, end_over, move_over, push_over}
@@ -24,13 +24,16 @@ use Rattle.bk_walk.specs.Search.{Advances, Ends, IsEnd, IsMet, IsPlace, IsTreeWo
 
 -- fewer words were met, too
 pub fewer_met : (n : ℕ) (class : Class) (cursor place : Word) (more met : ℕ) → met ≤ more → IsPlace n class cursor place more → IsPlace n class cursor place met
-fewer_met n class cursor place more met h p = record { passed = p.passed; after = p.after; words = p.words; each = p.each; ascending = p.ascending; count = omega (arith, p.count) }
+fewer_met n class cursor place more met h p =
+    record { passed = p.passed; after = p.after; words = p.words; each = p.each; ascending = p.ascending; count = omega (arith, p.count) }
 
 pub fewer_end : (n : ℕ) (class : Class) (cursor : Word) (more met : ℕ) → met ≤ more → IsEnd n class cursor more → IsEnd n class cursor met
-fewer_end n class cursor more met h p = let c = p.count in record { passed = p.passed; count = record { words = c.words; each = c.each; ascending = c.ascending; count = omega (arith, c.count) } }
+fewer_end n class cursor more met h p = let c = p.count in
+    record { passed = p.passed; count = record { words = c.words; each = c.each; ascending = c.ascending; count = omega (arith, c.count) } }
 
 pub fewer_at : (n : ℕ) (class : Class) (cursor word : Word) (more met : ℕ) → met ≤ more → IsMet n class cursor word more → IsMet n class cursor word met
-fewer_at n class cursor word more met h p = let c = p.count in record { after = p.after; passed = p.passed; count = record { words = c.words; each = c.each; ascending = c.ascending; count = omega (arith, c.count) } }
+fewer_at n class cursor word more met h p = let c = p.count in
+    record { after = p.after; passed = p.passed; count = record { words = c.words; each = c.each; ascending = c.ascending; count = omega (arith, c.count) } }
 
 -- a move that is not before x stands at or after it
 at_or_after : (x m : Move) → IsMoveFrom x m → (move_cmp x m ≡ Less) ⊎ (x ≡ m)
@@ -57,17 +60,28 @@ after_itself m = begun_before m m refl (record { rest = []; is = sym (append-nil
 
 pub climbs : (n : ℕ) (class : Class) (front : Word) (l x : Move) (met : ℕ) → IsLegalMove (outline_of front) l → IsLast n (front ++ l ∷ []) x → met ≤ 0
     → Advances n class ((front ++ l ∷ []) ++ x ∷ []) (front ++ move_after l ∷ []) met
-climbs n class front l x met legal last few = record { up = up; on = λ cursor before p. fewer_met n class cursor (front ++ move_after l ∷ []) before (before + met) (omega arith) (moved_on n class ((front ++ l ∷ []) ++ x ∷ []) (front ++ move_after l ∷ []) up none cursor before p) }
+climbs n class front l x met legal last few =
+    record {
+      up = up;
+      on = λ cursor before p. fewer_met n class cursor (front ++ move_after l ∷ []) before (before + met) (omega arith)
+          (moved_on n class ((front ++ l ∷ []) ++ x ∷ []) (front ++ move_after l ∷ []) up none cursor before p);
+    }
   where
     up : Follows (front ++ move_after l ∷ []) ((front ++ l ∷ []) ++ x ∷ [])
-    up = ap (λ z. word_cmp z (front ++ move_after l ∷ [])) (append_assoc front (l ∷ []) (x ∷ [])) ∙ up_by_move front l (move_after l) (x ∷ []) [] (after_itself l)
+    up = ap (λ z. word_cmp z (front ++ move_after l ∷ [])) (append_assoc front (l ∷ []) (x ∷ []))
+        ∙ up_by_move front l (move_after l) (x ∷ []) [] (after_itself l)
 
     none : (e : Entry) → IsEntry n class e → (Follows ((front ++ l ∷ []) ++ x ∷ []) e.word → ⊥) → Follows (front ++ move_after l ∷ []) e.word → ⊥
     none e is from to = climb_over n front l x e.word (entry_word n class e is) legal last from to
 
 pub cuts : (n : ℕ) (class : Class) (front : Word) (x m next : Move) (met : ℕ) → IsLeastFrom (outline_of front) x m → IsCut n class front m next → met ≤ 0
     → Advances n class (front ++ x ∷ []) (front ++ next ∷ []) met
-cuts n class front x m next met least cut few = record { up = up; on = λ cursor before p. fewer_met n class cursor (front ++ next ∷ []) before (before + met) (omega arith) (moved_on n class (front ++ x ∷ []) (front ++ next ∷ []) up none cursor before p) }
+cuts n class front x m next met least cut few =
+    record {
+      up = up;
+      on = λ cursor before p. fewer_met n class cursor (front ++ next ∷ []) before (before + met) (omega arith)
+          (moved_on n class (front ++ x ∷ []) (front ++ next ∷ []) up none cursor before p);
+    }
   where
     up : Follows (front ++ next ∷ []) (front ++ x ∷ [])
     up = up_by_move front x next [] [] (from_less x m next least.from cut.up)
@@ -79,10 +93,12 @@ cuts n class front x m next met least cut few = record { up = up; on = λ cursor
         by_move o = cut.barren o.other o.legal o.from o.to e o.rest is (o.is ∙ sym (append_assoc front (o.other ∷ []) o.rest))
 
 pub ends : (n : ℕ) (class : Class) (x : Move) (met : ℕ) → IsLast n [] x → met ≤ 0 → Ends n class (x ∷ []) met
-ends n class x met last few cursor before p = fewer_end n class cursor before (before + met) (omega arith) (ended n class (x ∷ []) cursor before (λ w tree from. end_over n x w tree last from) p)
+ends n class x met last few cursor before p =
+    fewer_end n class cursor before (before + met) (omega arith) (ended n class (x ∷ []) cursor before (λ w tree from. end_over n x w tree last from) p)
 
 -- a move is pushed
-module _ (n : ℕ) (class : Class) (front : Word) (x m : Move) (met : ℕ) (legal : IsLegal front) (least : IsLeastFrom (outline_of front) x m) (small : order_of front + m.count ≤ n) (few : met ≤ 1) where
+module _ (n : ℕ) (class : Class) (front : Word) (x m : Move) (met : ℕ) (legal : IsLegal front) (least : IsLeastFrom (outline_of front) x m)
+    (small : order_of front + m.count ≤ n) (few : met ≤ 1) where
   pub pushed_tree : IsTreeWord n (front ++ m ∷ [])
   pushed_tree = record { legal = legal-snoc start front m legal least.legal; small = omega (arith, order_append front (m ∷ []), order_more m []) }
 
@@ -97,17 +113,21 @@ module _ (n : ℕ) (class : Class) (front : Word) (x m : Move) (met : ℕ) (lega
     where
       cases : (move_cmp x m ≡ Less) ⊎ (x ≡ m) → Follows (front ++ m ∷ first_move ∷ []) (front ++ x ∷ [])
       cases (inl f) = up_by_move front x m [] (first_move ∷ []) f
-      cases (inr f) = front_cmp front (x ∷ []) (m ∷ first_move ∷ []) ∙ ap (λ z. word_cmp (z ∷ []) (m ∷ first_move ∷ [])) f ∙ ap (λ z. ordering_then z (word_cmp [] (first_move ∷ []))) (move_itself m)
+      cases (inr f) = front_cmp front (x ∷ []) (m ∷ first_move ∷ []) ∙ ap (λ z. word_cmp (z ∷ []) (m ∷ first_move ∷ [])) f
+          ∙ ap (λ z. ordering_then z (word_cmp [] (first_move ∷ []))) (move_itself m)
 
   to_on : Follows ((front ++ m ∷ []) ++ first_move ∷ []) (front ++ m ∷ [])
-  to_on = ap (word_cmp (front ++ m ∷ [])) (append_assoc front (m ∷ []) (first_move ∷ [])) ∙ front_cmp front (m ∷ []) (m ∷ first_move ∷ []) ∙ ap (λ z. ordering_then z (word_cmp [] (first_move ∷ []))) (move_itself m)
+  to_on = ap (word_cmp (front ++ m ∷ [])) (append_assoc front (m ∷ []) (first_move ∷ [])) ∙ front_cmp front (m ∷ []) (m ∷ first_move ∷ [])
+      ∙ ap (λ z. ordering_then z (word_cmp [] (first_move ∷ []))) (move_itself m)
 
-  pub goes_down : ((e : Entry) → IsEntry n class e → e.word ≡ front ++ m ∷ [] → ⊥) → Advances n class (front ++ x ∷ []) ((front ++ m ∷ []) ++ first_move ∷ []) met
+  pub goes_down : ((e : Entry) → IsEntry n class e → e.word ≡ front ++ m ∷ [] → ⊥)
+      → Advances n class (front ++ x ∷ []) ((front ++ m ∷ []) ++ first_move ∷ []) met
   goes_down not = record {
     up = up_on;
     on = λ cursor before p. fewer_met n class cursor ((front ++ m ∷ []) ++ first_move ∷ []) (before + 1) (before + met) (omega arith)
         (met_on n class (front ++ x ∷ []) ((front ++ m ∷ []) ++ first_move ∷ []) up_on
-        (λ e is from to. not e is (push_over n front x m e.word (entry_word n class e is) least from to)) cursor before p (front ++ m ∷ []) pushed_tree pushed_some pushed_from to_on);
+        (λ e is from to. not e is (push_over n front x m e.word (entry_word n class e is) least from to)) cursor before p (front ++ m ∷ [])
+        pushed_tree pushed_some pushed_from to_on);
   }
 
   to_next : Follows (front ++ move_after m ∷ []) (front ++ m ∷ [])
@@ -120,7 +140,8 @@ module _ (n : ℕ) (class : Class) (front : Word) (x m : Move) (met : ℕ) (lega
   turns_back barren = record {
     up = up_next;
     on = λ cursor before p. fewer_met n class cursor (front ++ move_after m ∷ []) (before + 1) (before + met) (omega arith)
-        (met_on n class (front ++ x ∷ []) (front ++ move_after m ∷ []) up_next none cursor before p (front ++ m ∷ []) pushed_tree pushed_some pushed_from to_next);
+        (met_on n class (front ++ x ∷ []) (front ++ move_after m ∷ []) up_next none cursor before p (front ++ m ∷ []) pushed_tree
+        pushed_some pushed_from to_next);
   }
     where
       none : (e : Entry) → IsEntry n class e → (Follows (front ++ x ∷ []) e.word → ⊥) → Follows (front ++ move_after m ∷ []) e.word → ⊥
@@ -142,4 +163,6 @@ module _ (n : ℕ) (class : Class) (front : Word) (x m : Move) (met : ℕ) (lega
     where
       none : (e : Entry) → IsEntry n class e → (Follows (front ++ x ∷ []) e.word → ⊥) → Follows (front ++ m ∷ []) e.word → ⊥
       none e is from to = not_itself (front ++ m ∷ [])
-          (subst (λ (w : Word). Follows (front ++ m ∷ []) w) (push_over n front x m e.word (entry_word n class e is) least from (follows_trans e.word (front ++ m ∷ []) ((front ++ m ∷ []) ++ first_move ∷ []) to to_on)) to)
+          (subst (λ (w : Word). Follows (front ++ m ∷ []) w)
+          (push_over n front x m e.word (entry_word n class e is) least from
+          (follows_trans e.word (front ++ m ∷ []) ((front ++ m ∷ []) ++ first_move ∷ []) to to_on)) to)

@@ -10,12 +10,11 @@ use Rattle.bk_word.specs.Play.{IsComplete, IsLegal, outline_of}
 use Rattle.bk_word.specs.Word.{Move, Word, order_of}
 use Rattle.bk_word.specs.declared.Class.{Class}
 use Rattle.bk_word.proofs.StoredBytes.{order_append, order_more}
-use Rattle.bk_skel.proofs.StoredMoves.{few_signs}
+use Rattle.bk_word.proofs.PlayLaws.{few_signs, legal_front, legal_rest}
 use Rattle.bk_walk.proofs.CutLaws.{after_near, whole_front}
 use Rattle.bk_tree.proofs.Fitting.{HasShape, IsFit, fit}
 use Rattle.bk_tree.proofs.MoveOrder.{less_from}
 use Rattle.bk_tree.proofs.Places.{IsLast}
-use Rattle.bk_word.proofs.PlayLaws.{legal_front, legal_rest}
 use Rattle.bk_walk.proofs.SearchTurns.{climbs, cuts, ends, goes_down, pushed_tree, reaches, turns_back}
 use Rattle.bk_catalogue.specs.Catalogue.{Entry, IsEntry}
 use Rattle.bk_barren.specs.Cuts.{IsBarren}
@@ -50,7 +49,8 @@ count_up a b from = cases (cases_lt b.count a.count)
     cases (inr h) = h
 
 pub last_from_fit : (n : ℕ) (front : Word) (x : Move) → 0 < x.count → n < order_of front + (fitted (open_sides (outline_of front)) x).count → IsLast n front x
-last_from_fit n front x some many m legal from few = omega (arith, count_up (fitted (open_sides (outline_of front)) x) m ((fit_least (outline_of front) x some).least m legal from))
+last_from_fit n front x some many m legal from few =
+    omega (arith, count_up (fitted (open_sides (outline_of front)) x) m ((fit_least (outline_of front) x some).least m legal from))
 
 move_after_near : (m : Move) → IsNear m (move_after m)
 move_after_near m = subst (λ (k : Move). IsNear m (move_after k)) (whole_front m) (after_near (length m.signs) m)
@@ -64,7 +64,14 @@ pub record IsLastMove (front : Word) (m : Move) : Type 0 where
   pub signs : length m.signs ≤ 17
 
 pub last_move : (before front : Word) (m : Move) → IsLegal before → order_of before ≤ 16 → before ≡ front ++ m ∷ [] → IsLastMove front m
-last_move before front m l few e = record { legal_front = legal_front start front (m ∷ []) lawful; legal = legal.0; small = omega (arith, order); count = omega (arith, order); signs = omega (arith, few_signs (outline_of front) m legal.0, order) }
+last_move before front m l few e = record {
+  legal_front = legal_front start front (m ∷ []) lawful;
+  legal = legal.0;
+  small =
+      omega (arith, order);
+  count = omega (arith, order);
+  signs = omega (arith, few_signs (outline_of front) m legal.0, order);
+}
   where
     lawful : IsLegal (front ++ m ∷ [])
     lawful = subst IsLegal e l
@@ -77,7 +84,8 @@ last_move before front m l few e = record { legal_front = legal_front start fron
 
 pub taken_last : (before front : Word) (m : Move) (moves : ℕ) → moves ≡ length before → 0 < moves → slice_get before (moves - 1) ≡ Some m
     → front ≡ take (length before - 1) before → before ≡ front ++ m ∷ []
-taken_last before front m moves e some g f = sym (take_all (moves - 1 + 1) before (omega arith)) ∙ take_next before (moves - 1) m g ∙ ap (λ l. l ++ m ∷ []) (ap (λ k. take (k - 1) before) e ∙ sym f)
+taken_last before front m moves e some g f = sym (take_all (moves - 1 + 1) before (omega arith)) ∙ take_next before (moves - 1) m g
+    ∙ ap (λ l. l ++ m ∷ []) (ap (λ k. take (k - 1) before) e ∙ sym f)
 
 entry_whole : (n : ℕ) (class : Class) (e : Entry) → IsEntry n class e → IsComplete e.word × (order_of e.word ≡ n)
 entry_whole n class e is = let done = tiling_word_is_complete e.tiling e.word (is.member).tiling is.word in (done.0, done.1 ∙ (is.member).order)
@@ -97,7 +105,8 @@ module _ (n : ℕ) (class : Class) (front : Word) (x m : Move) (few : n ≤ 16) 
   turn_last many = last_from_fit n front x s.some (subst (λ (k : Move). n < order_of front + k.count) fits many)
 
   -- back, after the last move
-  pub turn_climbs : (new : Word) (next : Move) (met : ℕ) → IsClimbed front new next → n < order_of front + m.count → met ≤ 0 → Advances n class (front ++ x ∷ []) (new ++ next ∷ []) met × IsStand n new next
+  pub turn_climbs : (new : Word) (next : Move) (met : ℕ) → IsClimbed front new next → n < order_of front + m.count → met ≤ 0
+      → Advances n class (front ++ x ∷ []) (new ++ next ∷ []) met × IsStand n new next
   turn_climbs new next met c many none = (advances, stand)
     where
       l : IsLastMove new c.last
@@ -122,10 +131,12 @@ module _ (n : ℕ) (class : Class) (front : Word) (x m : Move) (few : n ≤ 16) 
 
   -- to the end
   pub turn_ends : (met : ℕ) → front ≡ [] → n < order_of front + m.count → met ≤ 0 → Ends n class (front ++ x ∷ []) met
-  turn_ends met e many none = subst (λ (b : Word). Ends n class (b ++ x ∷ []) met) (sym e) (ends n class x met (subst (λ (b : Word). IsLast n b x) e (turn_last many)) none)
+  turn_ends met e many none = subst (λ (b : Word). Ends n class (b ++ x ∷ []) met) (sym e)
+      (ends n class x met (subst (λ (b : Word). IsLast n b x) e (turn_last many)) none)
 
   -- over moves that are cut
-  pub turn_cuts : (next : Move) (met : ℕ) → IsCut n class front m next → IsNear m next → order_of front + m.count ≤ n → met ≤ 0 → Advances n class (front ++ x ∷ []) (front ++ next ∷ []) met × IsStand n front next
+  pub turn_cuts : (next : Move) (met : ℕ) → IsCut n class front m next → IsNear m next → order_of front + m.count ≤ n → met ≤ 0
+      → Advances n class (front ++ x ∷ []) (front ++ next ∷ []) met × IsStand n front next
   turn_cuts next met cut near small none = (
     cuts n class front x m next met turn_least cut none,
     record {
@@ -163,7 +174,8 @@ module _ (n : ℕ) (class : Class) (front : Word) (x m : Move) (few : n ≤ 16) 
         near : IsNear m (move_after m)
         near = move_after_near m
 
-    pub turn_goes_down : (next : Move) → next ≡ first_move → (IsComplete pushed → order_of pushed ≡ n → ⊥) → Advances n class (front ++ x ∷ []) (pushed ++ next ∷ []) met × IsStand n pushed next
+    pub turn_goes_down : (next : Move) → next ≡ first_move → (IsComplete pushed → order_of pushed ≡ n → ⊥)
+        → Advances n class (front ++ x ∷ []) (pushed ++ next ∷ []) met × IsStand n pushed next
     turn_goes_down next first unready = (
       subst (λ (b : Word). Advances n class (front ++ x ∷ []) (b ++ next ∷ []) met) (sym push)
           (subst (λ (k : Move). Advances n class (front ++ x ∷ []) ((front ++ m ∷ []) ++ k ∷ []) met) (sym first)
@@ -172,7 +184,8 @@ module _ (n : ℕ) (class : Class) (front : Word) (x m : Move) (few : n ≤ 16) 
     )
       where
         not : (e : Entry) → IsEntry n class e → e.word ≡ front ++ m ∷ [] → ⊥
-        not e is same = unready (subst IsComplete (same ∙ sym push) (entry_whole n class e is).0) (sym (ap order_of (same ∙ sym push)) ∙ (entry_whole n class e is).1)
+        not e is same = unready (subst IsComplete (same ∙ sym push) (entry_whole n class e is).0)
+            (sym (ap order_of (same ∙ sym push)) ∙ (entry_whole n class e is).1)
 
     pub turn_reaches : Reaches n class (front ++ x ∷ []) pushed met
     turn_reaches = subst (λ (b : Word). Reaches n class (front ++ x ∷ []) b met) (sym push) (reaches n class front x m met s.legal turn_least small one)

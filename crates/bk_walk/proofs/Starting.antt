@@ -47,19 +47,22 @@ begins_at n class cursor place none after = record {
 }
 
 pub begins_below : (n : ℕ) (class : Class) (cursor : Word) → IsPlace n class cursor (cursor ++ first_move ∷ []) 0
-begins_below n class cursor = begins_at n class cursor (cursor ++ first_move ∷ []) none (λ w tree from. before_not_before cursor (cursor ++ first_move ∷ []) w up from)
+begins_below n class cursor = begins_at n class cursor (cursor ++ first_move ∷ []) none
+    (λ w tree from. before_not_before cursor (cursor ++ first_move ∷ []) w up from)
   where
     up : Follows (cursor ++ first_move ∷ []) cursor
     up = ap (λ z. word_cmp z (cursor ++ first_move ∷ [])) (sym (append-nil cursor)) ∙ front_cmp cursor [] (first_move ∷ [])
 
     none : (w : Word) → IsTreeWord n w → Follows w cursor → Follows (cursor ++ first_move ∷ []) w → ⊥
-    none w tree after before = cases (lies_between cursor [] (first_move ∷ []) w (λ f. not_both cursor w (sym (ap (word_cmp w) (append-nil cursor)) ∙ f) after) before)
+    none w tree after before = cases (lies_between cursor [] (first_move ∷ []) w
+        (λ f. not_both cursor w (sym (ap (word_cmp w) (append-nil cursor)) ∙ f) after) before)
       where
         cases : LiesBetween cursor [] (first_move ∷ []) w → ⊥
         cases b = not_itself cursor (subst (λ (v : Word). Follows v cursor) same after)
           where
             same : w ≡ cursor
-            same = b.is ∙ ap (λ z. cursor ++ z) (before_first (outline_of cursor) b.rest (legal_rest start cursor b.rest (subst IsLegal b.is tree.legal)) b.to) ∙ append-nil cursor
+            same = b.is ∙ ap (λ z. cursor ++ z) (before_first (outline_of cursor) b.rest
+                (legal_rest start cursor b.rest (subst IsLegal b.is tree.legal)) b.to) ∙ append-nil cursor
 
 pub begins_beside : (n : ℕ) (class : Class) (front : Word) (x : Move) (rest : Word) → (IsLegalMove (outline_of front) x → order_of front + x.count ≤ n → ⊥)
     → IsPlace n class (front ++ x ∷ rest) (front ++ x ∷ []) 0
@@ -73,7 +76,8 @@ begins_beside n class front x rest not = begins_at n class (front ++ x ∷ rest)
         up = front_cmp front (x ∷ []) (x ∷ y ∷ rest) ∙ ap (λ z. ordering_then z (word_cmp [] (y ∷ rest))) (move_itself x)
 
     never : (w more : Word) → IsTreeWord n w → w ≡ front ++ x ∷ more → ⊥
-    never w more tree e = not ((legal_rest start front (x ∷ more) (subst IsLegal e tree.legal)).0) (omega (arith, tree.small, ap order_of e, order_append front (x ∷ more), order_more x more))
+    never w more tree e = not ((legal_rest start front (x ∷ more) (subst IsLegal e tree.legal)).0)
+        (omega (arith, tree.small, ap order_of e, order_append front (x ∷ more), order_more x more))
 
     after : (w : Word) → IsTreeWord n w → (Follows (front ++ x ∷ []) w → ⊥) → Follows w (front ++ x ∷ rest)
     after w tree from = cases (word_cmp w (front ++ x ∷ rest)) refl

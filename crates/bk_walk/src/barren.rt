@@ -2,7 +2,7 @@
 #![tactic(auto)]
 
 ghost use Rattle.std.specs.Prelude.{IfSome, IsTrue, Some, [], false, length, slice_get, ℕ, ◌+◌, ◌<◌, ◌≡◌, ◌≤◌, ◌⊎◌};
-ghost use Rattle.bk_word.specs.Outline.{IsLegalMove, has_left_wall, open_side};
+ghost use Rattle.bk_word.specs.Outline.{IsLegalMove, has_left_wall};
 ghost use Rattle.bk_word.specs.Play.{outline_of};
 ghost use Rattle.bk_word.specs.Word.{order_of};
 ghost use Rattle.bk_word.specs.declared.Class.{Class};
@@ -15,7 +15,7 @@ use crate::cuts::single_valleys;
 use crate::lined::LinedSkel;
 use crate::moves::{MOST_COUNT, MOST_SIGNS, pass};
 use crate::owing::skip_owing;
-use bk_skel::Skel;
+use bk_skel::{Skel, open_side};
 use bk_word::{Class, Move, Sign};
 
 // Passes over a legal move by which no member's word of the order and the class goes on, and over others of which this is as
@@ -54,7 +54,7 @@ fn skip_even(skel: &Skel, class: Class, order: u8, m: &mut Move) -> bool
         return false;
     }
     let (left_wall, _) = skel.walls();
-    match first_even(m, open_side_of(left_wall)) {
+    match first_even(m, open_side(left_wall)) {
         None => false,
         Some(kept) => {
             m.signs.truncate(kept);
@@ -82,13 +82,6 @@ fn is_above(sign: Sign) -> bool
         Sign::Above => true,
         Sign::Even | Sign::Under => false,
     }
-}
-
-// One for a side of the valley that is no wall.
-pub(crate) fn open_side_of(wall: bool) -> usize
-    ensures { result ≡ open_side wall }
-{
-    if wall { 0 } else { 1 }
 }
 
 // How many signs there are up to the first even one between two of the move's own squares, where its own begin at `from`.

@@ -8,11 +8,11 @@ ghost use Rattle.bk_word.specs.Word.{order_of};
 ghost use Rattle.bk_tree.specs.NextMove.{open_sides as sides_open};
 ghost use Rattle.bk_walk.specs.Search.{Counts, Finds, IsClimbed, IsStand, Leads};
 
-use crate::barren::{is_barren, open_side_of, skip};
+use crate::barren::{is_barren, skip};
 use crate::judging::{Leaf, judge};
 use crate::lined::LinedSkel;
 use crate::moves::{first_move, fit, pass};
-use bk_skel::Steps;
+use bk_skel::{Steps, open_side};
 use bk_tiling::Tiling;
 use bk_word::{Class, LARGEST_ORDER, Move};
 use std::sync::ledger::Ledger;
@@ -111,7 +111,7 @@ fn open_sides(lined: &LinedSkel) -> usize
     ensures few { result ≤ 2 }
 {
     let (left, right) = lined.skel().walls();
-    open_side_of(left) + open_side_of(right)
+    open_side(left) + open_side(right)
 }
 
 // Takes the last move back, and makes of the other the next after it. False where there is no move.

@@ -40,12 +40,14 @@ pub record HasBegun (t : Tiling) (laid : List Square) (nodes : List Segment) (o 
   pub below : AllByRecursion (λ v. 0 < v.level) rest
   pub deep : (c : ℕ) → c < t.width → 0 < depth laid c
 
+-- before the first move: nothing is laid, and the outline is the top alone
 pub record NotBegun (laid : List Square) (nodes : List Segment) (o : Outline) : Type 0 where
   pub no_square : laid ≡ []
   pub no_node : nodes ≡ []
   pub no_list : o.closed ≡ []
   pub valley : valley_of o ≡ []
 
+-- what is laid of a tiling along its word: the outline before or after the first move
 pub record Along (t : Tiling) (laid : List Square) (nodes : List Segment) (o : Outline) : Type 0 where
   pub fills : FillsFromTop t laid
   pub depicts : Depicts t laid nodes o
@@ -54,13 +56,15 @@ pub record Along (t : Tiling) (laid : List Square) (nodes : List Segment) (o : O
   pub begun : NotBegun laid nodes o ⊎ HasBegun t laid nodes o
 
 -- what stands at a place of a list with one more at its end
-pub get_snoc : {A : Type 0} (xs : List A) (x : A) (k : ℕ) (y : A) → slice_get (xs ++ x ∷ []) k ≡ Some y → ((k < length xs) × (slice_get xs k ≡ Some y)) ⊎ ((k ≡ length xs) × (x ≡ y))
+pub get_snoc : {A : Type 0} (xs : List A) (x : A) (k : ℕ) (y : A) → slice_get (xs ++ x ∷ []) k ≡ Some y
+    → ((k < length xs) × (slice_get xs k ≡ Some y)) ⊎ ((k ≡ length xs) × (x ≡ y))
 get_snoc [] x zero y e = inr (refl, cc)
 get_snoc [] x (suc k) y e = absurd (cc)
 get_snoc (w ∷ xs) x zero y e = inl (omega arith, e)
 get_snoc (w ∷ xs) x (suc k) y e = cases (get_snoc xs x k y e)
   where
-    cases : ((k < length xs) × (slice_get xs k ≡ Some y)) ⊎ ((k ≡ length xs) × (x ≡ y)) → ((suc k < length (w ∷ xs)) × (slice_get (w ∷ xs) (suc k) ≡ Some y)) ⊎ ((suc k ≡ length (w ∷ xs)) × (x ≡ y))
+    cases : ((k < length xs) × (slice_get xs k ≡ Some y)) ⊎ ((k ≡ length xs) × (x ≡ y))
+        → ((suc k < length (w ∷ xs)) × (slice_get (w ∷ xs) (suc k) ≡ Some y)) ⊎ ((suc k ≡ length (w ∷ xs)) × (x ≡ y))
     cases (inl h) = inl (omega (arith, h.0), h.1)
     cases (inr h) = inr (omega (arith, h.0), h.1)
 
@@ -70,18 +74,25 @@ all_snoc P (y ∷ xs) x all p = (all.0, all_snoc P xs x all.1 p)
 
 -- the leftmost valley of nothing laid is the top
 pub top_valley : (t : Tiling) → IsTiling t → (v : Segment) → IsLeftmostValley t.width [] v → (v.x ≡ 0) × (v.width ≡ t.width)
-top_valley t tiling v found = let same : top ≡ v = one_leftmost_valley t.width [] top v is found in (sym (ap (λ (s : Segment). s.x) same), sym (ap (λ (s : Segment). s.width) same))
+top_valley t tiling v found = let same : top ≡ v = one_leftmost_valley t.width [] top v is found in
+    (sym (ap (λ (s : Segment). s.x) same), sym (ap (λ (s : Segment). s.width) same))
   where
     top : Segment
     top = record { x = 0; width = t.width; level = 0 }
 
     is : IsLeftmostValley t.width [] top
     is = record {
-      valley = record { flat = record { some = wide_enough t tiling; within = omega arith; level = λ c a b. refl }; left = λ c e. absurd (omega arith); right = λ h. absurd (omega arith) };
+      valley = record {
+        flat = record { some = wide_enough t tiling; within = omega arith; level = λ c a b. refl };
+        left =
+            λ c e. absurd (omega arith);
+        right = λ h. absurd (omega arith);
+      };
       leftmost = λ u other. omega arith;
     }
 
-module _ (t : Tiling) (laid : List Square) (nodes : List Segment) (o : Outline) (v : Segment) (tiling : IsTiling t) (a : Along t laid nodes o) (found : IsLeftmostValley t.width laid v) (low : v.level < t.height) where
+module _ (t : Tiling) (laid : List Square) (nodes : List Segment) (o : Outline) (v : Segment) (tiling : IsTiling t)
+    (a : Along t laid nodes o) (found : IsLeftmostValley t.width laid v) (low : v.level < t.height) where
   step : IsLegalMove o (move_under t laid v) × Depicts t (laid ++ squares_under t v) (nodes ++ v ∷ []) (after_move o (move_under t laid v))
   step = move_depicts t laid nodes o v tiling a.fills a.depicts found low
 
@@ -99,15 +110,18 @@ module _ (t : Tiling) (laid : List Square) (nodes : List Segment) (o : Outline) 
 
   both : (k : ℕ) → out_sum (o.hung ++ replicate (length (squares_under t v)) (length o.closed)) (laid_sides (laid ++ squares_under t v)) k
       ≡ out_sum o.hung (laid_sides laid) k + out_sum (replicate (length (squares_under t v)) (length o.closed)) (laid_sides (squares_under t v)) k
-  both k = ap (λ (s : List ℕ). out_sum (o.hung ++ replicate (length (squares_under t v)) (length o.closed)) s k) (map-append (λ q. q.s) laid (squares_under t v))
+  both k = ap (λ (s : List ℕ). out_sum (o.hung ++ replicate (length (squares_under t v)) (length o.closed)) s k)
+      (map-append (λ q. q.s) laid (squares_under t v))
       ∙ out_sum-append o.hung (replicate (length (squares_under t v)) (length o.closed)) (laid_sides laid) (laid_sides (squares_under t v)) k hung_count
 
   here : out_sum (replicate (length (squares_under t v)) (length o.closed)) (laid_sides (squares_under t v)) (length o.closed) ≡ v.width
-  here = ap (λ (n : ℕ). out_sum (replicate n (length o.closed)) (laid_sides (squares_under t v)) (length o.closed)) (sym (length-map (squares_under t v) (λ q. q.s)))
+  here = ap (λ (n : ℕ). out_sum (replicate n (length o.closed)) (laid_sides (squares_under t v)) (length o.closed))
+      (sym (length-map (squares_under t v) (λ q. q.s)))
       ∙ out_sum-here (laid_sides (squares_under t v)) (length o.closed) ∙ new_sum
 
   elsewhere : (k : ℕ) → (length o.closed ≡ k → ⊥) → out_sum (replicate (length (squares_under t v)) (length o.closed)) (laid_sides (squares_under t v)) k ≡ 0
-  elsewhere k h = out_sum-none (replicate (length (squares_under t v)) (length o.closed)) (laid_sides (squares_under t v)) k (times_other (length (squares_under t v)) (length o.closed) k h)
+  elsewhere k h = out_sum-none (replicate (length (squares_under t v)) (length o.closed)) (laid_sides (squares_under t v)) k
+      (times_other (length (squares_under t v)) (length o.closed) k h)
 
   -- the columns of the valley get deeper
   deeper : (c : ℕ) → v.x ≤ c → c < v.x + v.width → 0 < depth (laid ++ squares_under t v) c
@@ -118,7 +132,12 @@ module _ (t : Tiling) (laid : List Square) (nodes : List Segment) (o : Outline) 
 
       from : (q : Square) × IsOneOf q t.squares × (covers c v.level q ≡ true) → 0 < depth (laid ++ squares_under t v) c
       from (q, k, e) = let over = over_from c v.level q e in let l = over.left in let r = over.right in let b = over.bottom in
-          omega (arith, depth_reaches (laid ++ squares_under t v) c q (in_back laid (squares_under t v) q (in_filter (hangs_under v) t.squares q k (hangs t laid v tiling a.fills found low c q lo hi k e))) (column_from c q l r))
+          omega (
+            arith,
+            depth_reaches (laid ++ squares_under t v) c q
+                (in_back laid (squares_under t v) q (in_filter (hangs_under v) t.squares q k
+                (hangs t laid v tiling a.fills found low c q lo hi k e))) (column_from c q l r),
+          )
 
   begins : NotBegun laid nodes o ⊎ HasBegun t laid nodes o → HasBegun t (laid ++ squares_under t v) (nodes ++ v ∷ []) (after_move o (move_under t laid v))
   begins (inl n) = record {
@@ -143,16 +162,24 @@ module _ (t : Tiling) (laid : List Square) (nodes : List Segment) (o : Outline) 
     level = b.level;
     lists = b.lists ++ valley_of o ∷ [];
     closed_are = ap (λ (s : List (List ℕ)). s ++ valley_of o ∷ []) b.closed_are;
-    below = all_snoc (λ v. 0 < v.level) b.rest v b.below (let flat = (found.valley).flat in let some = flat.some in let within = flat.within in omega (arith, flat.level v.x (omega arith) (omega arith), b.deep v.x (omega arith)));
+    below = all_snoc (λ v. 0 < v.level) b.rest v b.below
+        (let flat = (found.valley).flat in let some = flat.some in let within = flat.within in
+        omega (arith, flat.level v.x (omega arith) (omega arith), b.deep v.x (omega arith)));
     deep = λ c h. omega (arith, b.deep c h, depth-append laid (squares_under t v) c);
   }
 
+  -- it stays so when the squares under the leftmost valley are laid
   pub along_move : Along t (laid ++ squares_under t v) (nodes ++ v ∷ []) (after_move o (move_under t laid v))
   along_move = record {
     fills = (valley_is_filled t laid v tiling a.fills found low).1;
     depicts = step.1;
     out = λ k w e. out k w (get_snoc nodes v k w e);
-    none = λ k h. omega (arith, both k, a.none k (omega (arith, length-append nodes (v ∷ []))), elsewhere k (λ e. absurd (omega (arith, e, closed_count, length-append nodes (v ∷ [])))));
+    none = λ k h. omega (
+      arith,
+      both k,
+      a.none k (omega (arith, length-append nodes (v ∷ []))),
+      elsewhere k (λ e. absurd (omega (arith, e, closed_count, length-append nodes (v ∷ [])))),
+    );
     begun = inr (begins a.begun);
   }
     where
@@ -161,9 +188,11 @@ module _ (t : Tiling) (laid : List Square) (nodes : List Segment) (o : Outline) 
       out k w (inl (h, e)) = omega (arith, both k, a.out k w e, elsewhere k (λ e. absurd (omega (arith, e, closed_count, h))))
       out k w (inr (h, e)) = omega (arith, both k, a.none k (omega (arith, h)), at, here, ap (λ (s : Segment). s.width) e)
         where
-          at : out_sum (replicate (length (squares_under t v)) (length o.closed)) (laid_sides (squares_under t v)) k ≡ out_sum (replicate (length (squares_under t v)) (length o.closed)) (laid_sides (squares_under t v)) (length o.closed)
+          at : out_sum (replicate (length (squares_under t v)) (length o.closed)) (laid_sides (squares_under t v)) k
+              ≡ out_sum (replicate (length (squares_under t v)) (length o.closed)) (laid_sides (squares_under t v)) (length o.closed)
           at = ap (out_sum (replicate (length (squares_under t v)) (length o.closed)) (laid_sides (squares_under t v))) (h ∙ sym closed_count)
 
+-- what stands at the end of a tiling's word: all squares laid, each node with its level
 pub record AtEnd (t : Tiling) (o : Outline) (laid : List Square) (all_levels : List ℕ) : Type 0 where
   pub nodes : List Segment
   pub along : Along t laid nodes o
@@ -178,18 +207,21 @@ to_end t tiling laid nodes o [] a p all_laid all_levels l = record {
   full = subst (λ (s : List Square). (c : ℕ) → c < t.width → depth s c ≡ t.height) l.0 p;
   levels_are = l.1;
 }
-to_end t tiling laid nodes o (m ∷ w) a p all_laid all_levels l = to_end t tiling (laid ++ squares_under t p.0) (nodes ++ p.0 ∷ []) (after_move o m) w next p.4 all_laid all_levels rest
+to_end t tiling laid nodes o (m ∷ w) a p all_laid all_levels l =
+    to_end t tiling (laid ++ squares_under t p.0) (nodes ++ p.0 ∷ []) (after_move o m) w next p.4 all_laid all_levels rest
   where
     same : l.0 ≡ p.0
     same = one_leftmost_valley t.width laid l.0 p.0 l.1 p.1
 
     next : Along t (laid ++ squares_under t p.0) (nodes ++ p.0 ∷ []) (after_move o m)
-    next = subst (λ (n : Move). Along t (laid ++ squares_under t p.0) (nodes ++ p.0 ∷ []) (after_move o n)) (sym p.3) (along_move t laid nodes o p.0 tiling a p.1 p.2)
+    next = subst (λ (n : Move). Along t (laid ++ squares_under t p.0) (nodes ++ p.0 ∷ []) (after_move o n)) (sym p.3)
+        (along_move t laid nodes o p.0 tiling a p.1 p.2)
 
     rest : LaidAlong t (laid ++ squares_under t p.0) (levels (nodes ++ p.0 ∷ [])) w all_laid all_levels
     rest = subst (λ (ls : List ℕ). LaidAlong t (laid ++ squares_under t p.0) ls w all_laid all_levels) (sym (map-append (λ v. v.level) nodes (p.0 ∷ [])))
         (subst (λ (v : Segment). LaidAlong t (laid ++ squares_under t v) (levels nodes ++ v.level ∷ []) w all_laid all_levels) same l.2)
 
+-- at the start nothing is laid
 pub along_start : (t : Tiling) → IsTiling t → Along t [] [] start
 along_start t tiling = record {
   fills = nothing_laid t tiling;
@@ -199,5 +231,7 @@ along_start t tiling = record {
   begun = inl (record { no_square = refl; no_node = refl; no_list = refl; valley = refl });
 }
 
-pub at_end : (t : Tiling) (w : Word) → IsTiling t → IsWordOf t w → (laid : List Square) (all_levels : List ℕ) → LaidAlong t [] [] w laid all_levels → AtEnd t (after_moves start w) laid all_levels
+-- a tiling's word leads there
+pub at_end : (t : Tiling) (w : Word) → IsTiling t → IsWordOf t w → (laid : List Square) (all_levels : List ℕ)
+    → LaidAlong t [] [] w laid all_levels → AtEnd t (after_moves start w) laid all_levels
 at_end t w tiling p laid all_levels l = to_end t tiling [] [] start w (along_start t tiling) p laid all_levels l

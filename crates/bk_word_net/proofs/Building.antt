@@ -31,21 +31,26 @@ use Rattle.bk_word_net.proofs.Sums.{get_side, out_sum, out_sum-append, out_sum-h
 use Rattle.bk_word_net.proofs.Wires.{first_counted, get_replicate, same_if_counted}
 use Rattle.bk_word_net.specs.WordNet.{end_of, net_after}
 
-pub get_either : (xs ys : List Square) (k : ℕ) (q : Square) → slice_get (xs ++ ys) k ≡ Some q → ((k < length xs) × (slice_get xs k ≡ Some q)) ⊎ ((j : ℕ) × (k ≡ length xs + j) × (slice_get ys j ≡ Some q))
+-- what two lists have, one of them has
+pub get_either : (xs ys : List Square) (k : ℕ) (q : Square) → slice_get (xs ++ ys) k ≡ Some q
+    → ((k < length xs) × (slice_get xs k ≡ Some q)) ⊎ ((j : ℕ) × (k ≡ length xs + j) × (slice_get ys j ≡ Some q))
 get_either [] ys k q e = inr (k, omega arith, e)
 get_either (x ∷ xs) ys zero q e = inl (omega arith, e)
 get_either (x ∷ xs) ys (suc k) q e = cases (get_either xs ys k q e)
   where
-    cases : ((k < length xs) × (slice_get xs k ≡ Some q)) ⊎ ((j : ℕ) × (k ≡ length xs + j) × (slice_get ys j ≡ Some q)) → ((suc k < length (x ∷ xs)) × (slice_get (x ∷ xs) (suc k) ≡ Some q)) ⊎ ((j : ℕ) × (suc k ≡ length (x ∷ xs) + j) × (slice_get ys j ≡ Some q))
+    cases : ((k < length xs) × (slice_get xs k ≡ Some q)) ⊎ ((j : ℕ) × (k ≡ length xs + j) × (slice_get ys j ≡ Some q))
+        → ((suc k < length (x ∷ xs)) × (slice_get (x ∷ xs) (suc k) ≡ Some q)) ⊎ ((j : ℕ) × (suc k ≡ length (x ∷ xs) + j) × (slice_get ys j ≡ Some q))
     cases (inl h) = inl (omega (arith, h.0), h.1)
     cases (inr h) = inr (h.0, omega (arith, h.1), h.2)
 
+-- what is got at a place stands there
 pub get_value : (xs : List ℕ) (k x : ℕ) → slice_get xs k ≡ Some x → slice_index_or xs k 0 ≡ x
 get_value [] k x e = absurd (cc)
 get_value (y ∷ xs) zero x e = cc
 get_value (y ∷ xs) (suc k) x e = get_value xs k x e
 
-module _ (O : Outline) (played : Played O) (f : Flow) (flow : IsFlow (net_after O) f) (s : HasSides f) (width : ℕ) (width_is : width ≡ out_sum O.hung s.sides 0) where
+module _ (O : Outline) (played : Played O) (f : Flow) (flow : IsFlow (net_after O) f) (s : HasSides f) (width : ℕ)
+    (width_is : width ≡ out_sum O.hung s.sides 0) where
   ends : List (List ℕ)
   ends = O.closed ++ O.segments
 
@@ -77,6 +82,7 @@ module _ (O : Outline) (played : Played O) (f : Flow) (flow : IsFlow (net_after 
     pub sum : total new ≡ out_sum O.hung s.sides (length o.closed)
 
   module _ (laid : List Square) (o : Outline) (m : Move) (own : Played o) (base : Base laid o) (some : 0 < m.count) (later : IsLater (after_move o m) O) where
+    -- one node more is closed
     pub more : length (o.closed ++ valley_of o ∷ []) ≡ length o.closed + 1
     more = omega (arith, length-append o.closed (valley_of o ∷ []))
 
@@ -97,14 +103,23 @@ module _ (O : Outline) (played : Played O) (f : Flow) (flow : IsFlow (net_after 
       length-replicate m.count (length o.closed),
     )
 
+    -- the sides that the next move lays
     pub next_sides : NextSides laid o m base.rest
-    next_sides = record { new = take m.count base.rest; further = drop m.count base.rest; parts = sym (take-append-drop m.count base.rest); count = counts; some = all_left (λ s. 0 < s) (take m.count base.rest) (drop m.count base.rest) positive; sum = sum }
+    next_sides = record {
+      new = take m.count base.rest;
+      further = drop m.count base.rest;
+      parts = sym (take-append-drop m.count base.rest);
+      count = counts;
+      some = all_left (λ s. 0 < s) (take m.count base.rest) (drop m.count base.rest) positive;
+      sum = sum;
+    }
       where
         counts : length (take m.count base.rest) ≡ m.count
         counts = length-take-le m.count base.rest (omega (arith, long))
 
         positive : AllByRecursion (λ s. 0 < s) (take m.count base.rest ++ drop m.count base.rest)
-        positive = subst (AllByRecursion (λ s. 0 < s)) (sym (take-append-drop m.count base.rest)) (all_right (λ s. 0 < s) (laid_sides laid) base.rest (subst (AllByRecursion (λ s. 0 < s)) base.prefix s.positive))
+        positive = subst (AllByRecursion (λ s. 0 < s)) (sym (take-append-drop m.count base.rest))
+            (all_right (λ s. 0 < s) (laid_sides laid) base.rest (subst (AllByRecursion (λ s. 0 < s)) base.prefix s.positive))
 
         i : ℕ
         i = length o.closed
@@ -115,16 +130,21 @@ module _ (O : Outline) (played : Played O) (f : Flow) (flow : IsFlow (net_after 
         sum : total (take m.count base.rest) ≡ out_sum O.hung s.sides (length o.closed)
         sum = omega (
           arith,
-          (ap (λ (h : List ℕ). out_sum h s.sides (length o.closed)) hung_is ∙ ap (λ (r : List ℕ). out_sum (o.hung ++ (replicate m.count (length o.closed) ++ later.hung)) r (length o.closed)) all_sides),
-          out_sum-append o.hung (replicate m.count (length o.closed) ++ later.hung) (laid_sides laid) (take m.count base.rest ++ drop m.count base.rest) (length o.closed) (omega (arith, base.count, length-map laid (λ q. q.s))),
-          out_sum-append (replicate m.count (length o.closed)) later.hung (take m.count base.rest) (drop m.count base.rest) (length o.closed) (omega (arith, counts, length-replicate m.count (length o.closed))),
+          (ap (λ (h : List ℕ). out_sum h s.sides (length o.closed)) hung_is
+              ∙ ap (λ (r : List ℕ). out_sum (o.hung ++ (replicate m.count (length o.closed) ++ later.hung)) r (length o.closed)) all_sides),
+          out_sum-append o.hung (replicate m.count (length o.closed) ++ later.hung) (laid_sides laid)
+              (take m.count base.rest ++ drop m.count base.rest) (length o.closed) (omega (arith, base.count, length-map laid (λ q. q.s))),
+          out_sum-append (replicate m.count (length o.closed)) later.hung (take m.count base.rest) (drop m.count base.rest)
+              (length o.closed) (omega (arith, counts, length-replicate m.count (length o.closed))),
           out_sum-none o.hung (laid_sides laid) (length o.closed) (times_below o.hung (length o.closed) own.below),
           out_sum-none later.hung (drop m.count base.rest) (length o.closed) (later.hung_from (length o.closed) (omega (arith, more))),
-          (ap (λ (n : ℕ). out_sum (replicate n (length o.closed)) (take m.count base.rest) (length o.closed)) (sym counts) ∙ out_sum-here (take m.count base.rest) (length o.closed)),
+          (ap (λ (n : ℕ). out_sum (replicate n (length o.closed)) (take m.count base.rest) (length o.closed)) (sym counts)
+              ∙ out_sum-here (take m.count base.rest) (length o.closed)),
         )
 
     -- the group laid in the valley
     module _ (x level : ℕ) (n : NextSides laid o m base.rest) (valley : ValleyAt laid o x level (total n.new)) where
+      -- the squares of a move, laid in its valley, keep what holds of the laid ones
       pub base_move : Base (laid ++ laid_group x level n.new) (after_move o m)
       base_move = record {
         filled = filled_group laid x level n.new valley.deep width base.filled;
@@ -132,7 +152,8 @@ module _ (O : Outline) (played : Played O) (f : Flow) (flow : IsFlow (net_after 
         tops = λ k q e. tops k q (get_either laid (laid_group x level n.new) k q e);
         rest = n.further;
         prefix = base.prefix ∙ ap (λ (r : List ℕ). laid_sides laid ++ r) n.parts ∙ sym (append_assoc (laid_sides laid) n.new n.further)
-            ∙ ap (λ (r : List ℕ). r ++ n.further) (ap (λ (r : List ℕ). laid_sides laid ++ r) (sym (group_list x level n.new)) ∙ sym (map-append (λ q. q.s) laid (laid_group x level n.new)));
+            ∙ ap (λ (r : List ℕ). r ++ n.further) (ap (λ (r : List ℕ). laid_sides laid ++ r) (sym (group_list x level n.new))
+            ∙ sym (map-append (λ q. q.s) laid (laid_group x level n.new)));
         count = omega (
           arith,
           length-append laid (laid_group x level n.new),
@@ -149,12 +170,21 @@ module _ (O : Outline) (played : Played O) (f : Flow) (flow : IsFlow (net_after 
           inside q (inl h) = base.inside q h
           inside q (inr h) = (group_sides x level n.new n.some q h, omega (arith, (group_within x level n.new q h).1, valley.fits))
 
-          tops : (k : ℕ) (q : Square) → ((k < length laid) × (slice_get laid k ≡ Some q)) ⊎ ((j : ℕ) × (k ≡ length laid + j) × (slice_get (laid_group x level n.new) j ≡ Some q)) → pos q.y ≡ potential f 0 -ℤ potential f (slice_index_or O.hung k 0)
+          tops : (k : ℕ) (q : Square) → ((k < length laid) × (slice_get laid k ≡ Some q))
+              ⊎ ((j : ℕ) × (k ≡ length laid + j) × (slice_get (laid_group x level n.new) j ≡ Some q))
+              → pos q.y ≡ potential f 0 -ℤ potential f (slice_index_or O.hung k 0)
           tops k q (inl h) = base.tops k q h.1
-          tops k q (inr (j, e, at)) = ap pos (group_top x level n.new q (one_of (laid_group x level n.new) j q at)) ∙ valley.level_is ∙ ap (λ (v : ℕ). potential f 0 -ℤ potential f v) (sym hangs)
+          tops k q (inr (j, e, at)) = ap pos (group_top x level n.new q (one_of (laid_group x level n.new) j q at)) ∙ valley.level_is
+              ∙ ap (λ (v : ℕ). potential f 0 -ℤ potential f v) (sym hangs)
             where
               few : j < m.count
-              few = omega (arith, slice_get_within (laid_group x level n.new) j q at, n.count, ap length (group_list x level n.new), length-map (laid_group x level n.new) (λ q. q.s))
+              few = omega (
+                arith,
+                slice_get_within (laid_group x level n.new) j q at,
+                n.count,
+                ap length (group_list x level n.new),
+                length-map (laid_group x level n.new) (λ q. q.s),
+              )
 
               hangs : slice_index_or O.hung k 0 ≡ length o.closed
               hangs = ap (λ (h : List ℕ). slice_index_or h k 0) hung_is
@@ -162,36 +192,50 @@ module _ (O : Outline) (played : Played O) (f : Flow) (flow : IsFlow (net_after 
                   ∙ get_front (replicate m.count (length o.closed)) later.hung j 0 (omega (arith, few, length-replicate m.count (length o.closed)))
                   ∙ get_replicate m.count (length o.closed) j 0 few
 
+      -- and the open squares keep standing side by side over the whole width
       pub chain_move : BottomChain (laid ++ laid_group x level n.new) 0 (concat (after_move o m).segments) width
       chain_move = subst (λ (ns : List ℕ). BottomChain (laid ++ laid_group x level n.new) 0 ns width) (sym row)
-          (chain_join (laid ++ laid_group x level n.new) 0 (concat (take (valley_place o.signs) o.segments) ++ new_squares o m) (x + total n.new) (concat (drop (suc (valley_place o.signs)) o.segments)) width
+          (chain_join (laid ++ laid_group x level n.new) 0 (concat (take (valley_place o.signs) o.segments) ++ new_squares o m)
+          (x + total n.new) (concat (drop (suc (valley_place o.signs)) o.segments)) width
           (chain_join (laid ++ laid_group x level n.new) 0 (concat (take (valley_place o.signs) o.segments)) x (new_squares o m) (x + total n.new)
-          (chain_more laid (laid_group x level n.new) 0 (concat (take (valley_place o.signs) o.segments)) x valley.before (λ c lo hi. depth_beside laid x level n.new valley.deep c (inl hi)))
+          (chain_more laid (laid_group x level n.new) 0 (concat (take (valley_place o.signs) o.segments)) x valley.before
+          (λ c lo hi. depth_beside laid x level n.new valley.deep c (inl hi)))
           group)
-          (chain_more laid (laid_group x level n.new) (x + total n.new) (concat (drop (suc (valley_place o.signs)) o.segments)) width valley.after (λ c lo hi. depth_beside laid x level n.new valley.deep c (inr lo))))
+          (chain_more laid (laid_group x level n.new) (x + total n.new) (concat (drop (suc (valley_place o.signs)) o.segments)) width
+          valley.after (λ c lo hi. depth_beside laid x level n.new valley.deep c (inr lo))))
         where
           group : BottomChain (laid ++ laid_group x level n.new) x (new_squares o m) (x + total n.new)
           group = subst (λ (k : ℕ). BottomChain (laid ++ laid_group x level n.new) x (numbers_from (length o.hung + 1) k) (x + total n.new)) n.count
-              (chain_group (laid ++ laid_group x level n.new) laid x level n.new refl (λ q h c lo hi. depth_under laid x level n.new valley.deep c q h lo hi) (length o.hung + 1) (omega (arith, base.count)))
+              (chain_group (laid ++ laid_group x level n.new) laid x level n.new refl
+              (λ q h c lo hi. depth_under laid x level n.new valley.deep c q h lo hi) (length o.hung + 1) (omega (arith, base.count)))
 
           same : valley_place o.signs + 1 ≡ suc (valley_place o.signs)
           same = omega arith
 
-          row : concat (after_move o m).segments ≡ (concat (take (valley_place o.signs) o.segments) ++ new_squares o m) ++ concat (drop (suc (valley_place o.signs)) o.segments)
+          row : concat (after_move o m).segments ≡ (concat (take (valley_place o.signs) o.segments) ++ new_squares o m)
+              ++ concat (drop (suc (valley_place o.signs)) o.segments)
           row = concat-joined (signs_apart o m) (segments_apart o m)
               ∙ concat-append (take (valley_place o.signs) o.segments ++ map (λ q. q ∷ []) (new_squares o m)) (drop (valley_place o.signs + 1) o.segments)
               ∙ (λ i. (concat-append (take (valley_place o.signs) o.segments) (map (λ q. q ∷ []) (new_squares o m)) i) ++ concat (drop (same i) o.segments))
-              ∙ ap (λ (ns : List ℕ). (concat (take (valley_place o.signs) o.segments) ++ ns) ++ concat (drop (suc (valley_place o.signs)) o.segments)) (concat-singles (new_squares o m))
+              ∙ ap (λ (ns : List ℕ). (concat (take (valley_place o.signs) o.segments) ++ ns)
+              ++ concat (drop (suc (valley_place o.signs)) o.segments)) (concat-singles (new_squares o m))
 
     -- the bottom of a laid square
     bottom_of : (k : ℕ) (q : Square) → slice_get laid k ≡ Some q → pos (q.y + q.s) ≡ potential f 0 -ℤ potential f (end_of (O.closed ++ O.segments) (1 + k))
     bottom_of k q e = omega (arith, ints, base.tops k q e, drop_of O played.numbered f flow s k few, side)
       where
         few : k < length O.hung
-        few = omega (arith, slice_get_within laid k q e, base.count, ap length hung_is, length-append o.hung (replicate m.count (length o.closed) ++ later.hung))
+        few = omega (
+          arith,
+          slice_get_within laid k q e,
+          base.count,
+          ap length hung_is,
+          length-append o.hung (replicate m.count (length o.closed) ++ later.hung),
+        )
 
         side : slice_index_or s.sides k 0 ≡ q.s
-        side = get_value s.sides k q.s (subst (λ (l : List ℕ). slice_get l k ≡ Some q.s) (sym base.prefix) (get_append (laid_sides laid) base.rest k q.s (get_side laid k q e)))
+        side = get_value s.sides k q.s (subst (λ (l : List ℕ). slice_get l k ≡ Some q.s) (sym base.prefix)
+            (get_append (laid_sides laid) base.rest k q.s (get_side laid k q e)))
 
     closed_at : slice_index_or O.closed (length o.closed) [] ≡ valley_of o
     closed_at = ap (λ (l : List (List ℕ)). slice_index_or l (length o.closed) []) later.closed_is
@@ -209,7 +253,13 @@ module _ (O : Outline) (played : Played O) (f : Flow) (flow : IsFlow (net_after 
     ends_here n q h (k, is, at) = bottom_of k q at ∙ ap (λ (v : ℕ). potential f 0 -ℤ potential f v) place
       where
         few : k < length O.hung
-        few = omega (arith, slice_get_within laid k q at, base.count, ap length hung_is, length-append o.hung (replicate m.count (length o.closed) ++ later.hung))
+        few = omega (
+          arith,
+          slice_get_within laid k q at,
+          base.count,
+          ap length hung_is,
+          length-append o.hung (replicate m.count (length o.closed) ++ later.hung),
+        )
 
         p : HasPlace (1 + k) (O.closed ++ O.segments) (end_of (O.closed ++ O.segments) (1 + k))
         p = place_of_number O played.numbered (1 + k) (omega arith) (omega (arith, few))
@@ -223,14 +273,19 @@ module _ (O : Outline) (played : Played O) (f : Flow) (flow : IsFlow (net_after 
         place : end_of (O.closed ++ O.segments) (1 + k) ≡ length o.closed
         place = same_if_counted (end_of (O.closed ++ O.segments) (1 + k)) (length o.closed) (omega (arith, h, stands, p.counts (length o.closed)))
 
-    pub valley_at : 0 < length o.closed → BottomChain laid 0 (concat o.segments) width → (x : ℕ) × ((level : ℕ) × ValleyAt laid o x level (total (next_sides).new))
+    -- where the squares of the leftmost valley stand, and that the new sides fill it
+    pub valley_at : 0 < length o.closed → BottomChain laid 0 (concat o.segments) width → (x : ℕ)
+        × ((level : ℕ) × ValleyAt laid o x level (total (next_sides).new))
     valley_at begun chain = (a, (nat_abs (potential f 0 -ℤ potential f (length o.closed)), found))
       where
-        cut : BottomChain laid 0 (concat (take (valley_place o.signs) o.segments) ++ (valley_of o ++ concat (drop (suc (valley_place o.signs)) o.segments))) width
+        cut : BottomChain laid 0 (concat (take (valley_place o.signs) o.segments)
+            ++ (valley_of o ++ concat (drop (suc (valley_place o.signs)) o.segments))) width
         cut = subst (λ (ns : List ℕ). BottomChain laid 0 ns width) (concat-cut (valley_place o.signs) o.segments) chain
 
-        first : (mid : ℕ) × BottomChain laid 0 (concat (take (valley_place o.signs) o.segments)) mid × BottomChain laid mid (valley_of o ++ concat (drop (suc (valley_place o.signs)) o.segments)) width
-        first = chain_split laid 0 (concat (take (valley_place o.signs) o.segments)) (valley_of o ++ concat (drop (suc (valley_place o.signs)) o.segments)) width cut
+        first : (mid : ℕ) × BottomChain laid 0 (concat (take (valley_place o.signs) o.segments)) mid
+            × BottomChain laid mid (valley_of o ++ concat (drop (suc (valley_place o.signs)) o.segments)) width
+        first = chain_split laid 0 (concat (take (valley_place o.signs) o.segments))
+            (valley_of o ++ concat (drop (suc (valley_place o.signs)) o.segments)) width cut
 
         a : ℕ
         a = first.0
@@ -241,20 +296,35 @@ module _ (O : Outline) (played : Played O) (f : Flow) (flow : IsFlow (net_after 
         b : ℕ
         b = second.0
 
-        flat : Span laid (nat_abs (potential f 0 -ℤ potential f (length o.closed))) first.0 (valley_of o) second.0 × ((c : ℕ) → first.0 ≤ c → c < second.0 → depth laid c ≡ nat_abs (potential f 0 -ℤ potential f (length o.closed)))
-        flat = chain_level laid (nat_abs (potential f 0 -ℤ potential f (length o.closed))) first.0 (valley_of o) second.0 second.1 (λ n q h at. ap nat_abs (ends_here n q h at))
+        flat : Span laid (nat_abs (potential f 0 -ℤ potential f (length o.closed))) first.0 (valley_of o) second.0
+            × ((c : ℕ) → first.0 ≤ c → c < second.0 → depth laid c ≡ nat_abs (potential f 0 -ℤ potential f (length o.closed)))
+        flat = chain_level laid (nat_abs (potential f 0 -ℤ potential f (length o.closed))) first.0 (valley_of o) second.0 second.1
+            (λ n q h at. ap nat_abs (ends_here n q h at))
 
         sides_there : (k : ℕ) (q : Square) → slice_get laid k ≡ Some q → slice_get s.sides k ≡ Some q.s
-        sides_there k q e = subst (λ (l : List ℕ). slice_get l k ≡ Some q.s) (sym base.prefix) (get_append (laid_sides laid) base.rest k q.s (get_side laid k q e))
+        sides_there k q e = subst (λ (l : List ℕ). slice_get l k ≡ Some q.s) (sym base.prefix)
+            (get_append (laid_sides laid) base.rest k q.s (get_side laid k q e))
 
         sum : total (next_sides).new ≡ weighted s.sides 1 (valley_of o)
         sum = (next_sides).sum ∙ balance O played.numbered f flow s (length o.closed) begun few_closed ∙ ap (weighted s.sides 1) closed_at
 
         wide : first.0 + total (next_sides).new ≡ second.0
-        wide = omega (arith, sum, span_sum_of laid s.sides sides_there (nat_abs (potential f 0 -ℤ potential f (length o.closed))) first.0 (valley_of o) second.0 flat.0)
+        wide = omega (
+          arith,
+          sum,
+          span_sum_of laid s.sides sides_there (nat_abs (potential f 0 -ℤ potential f (length o.closed))) first.0
+              (valley_of o) second.0 flat.0,
+        )
 
-        level_is : (numbers : List ℕ) → valley_of o ≡ numbers → BottomChain laid first.0 numbers second.0 → pos (nat_abs (potential f 0 -ℤ potential f (length o.closed))) ≡ potential f 0 -ℤ potential f (length o.closed)
-        level_is [] e c = absurd (omega (arith, sum, ap (weighted s.sides 1) e, weighted_nil s.sides 1, positive_total (next_sides).new (next_sides).some (omega (arith, (next_sides).count, some))))
+        level_is : (numbers : List ℕ) → valley_of o ≡ numbers → BottomChain laid first.0 numbers second.0
+            → pos (nat_abs (potential f 0 -ℤ potential f (length o.closed))) ≡ potential f 0 -ℤ potential f (length o.closed)
+        level_is [] e c = absurd (omega (
+          arith,
+          sum,
+          ap (weighted s.sides 1) e,
+          weighted_nil s.sides 1,
+          positive_total (next_sides).new (next_sides).some (omega (arith, (next_sides).count, some)),
+        ))
         level_is (n ∷ numbers) e c = sym (ap (λ z. pos (nat_abs z)) here) ∙ here
           where
             here : pos ((c.0).y + (c.0).s) ≡ potential f 0 -ℤ potential f (length o.closed)

@@ -29,7 +29,8 @@ use Rattle.bk_word_net.proofs.Sums.{get_side, out_sum}
 use Rattle.bk_word_net.proofs.Wires.{same_if_counted}
 use Rattle.bk_word_net.specs.WordNet.{end_of, net_after}
 
-module _ (O : Outline) (played : Played O) (f : Flow) (flow : IsFlow (net_after O) f) (s : HasSides f) (width : ℕ) (width_is : width ≡ out_sum O.hung s.sides 0) where
+module _ (O : Outline) (played : Played O) (f : Flow) (flow : IsFlow (net_after O) f) (s : HasSides f) (width : ℕ)
+    (width_is : width ≡ out_sum O.hung s.sides 0) where
   -- one turn: the group that is laid, and its valley
   pub record LaidTurn (laid : List Square) (o : Outline) (m : Move) (x level : ℕ) (new : List ℕ) : Type 0 where
     pub count : length new ≡ m.count
@@ -40,18 +41,22 @@ module _ (O : Outline) (played : Played O) (f : Flow) (flow : IsFlow (net_after 
   -- the turns, to all squares
   abbrev pub LaidTurns : List Square → Outline → Word → List Square → Type 0
   LaidTurns laid o [] all = laid ≡ all
-  LaidTurns laid o (m ∷ w) all = (x : ℕ) × ((level : ℕ) × ((new : List ℕ) × (LaidTurn laid o m x level new × LaidTurns (laid ++ laid_group x level new) (after_move o m) w all)))
+  LaidTurns laid o (m ∷ w) all = (x : ℕ) × ((level : ℕ)
+      × ((new : List ℕ) × (LaidTurn laid o m x level new × LaidTurns (laid ++ laid_group x level new) (after_move o m) w all)))
 
   abbrev State : List Square → Outline → Type 0
   State laid o = ((laid ≡ []) × (o ≡ start)) ⊎ ((0 < length o.closed) × BottomChain laid 0 (concat o.segments) width)
 
+  -- the squares laid by the moves of a word
   pub record Result (laid : List Square) (o : Outline) (w : Word) : Type 0 where
     pub all : List Square
     pub turns : LaidTurns laid o w all
     pub base : Base O played f flow s width width_is all O
     pub last : State all O
 
-  build : (w : Word) (o : Outline) (laid : List Square) → Played o → AreLegalFrom o w → after_moves o w ≡ O → Base O played f flow s width width_is laid o → ((laid ≡ []) × (o ≡ start)) ⊎ ((0 < length o.closed) × BottomChain laid 0 (concat o.segments) width) → Result laid o w
+  build : (w : Word) (o : Outline) (laid : List Square) → Played o → AreLegalFrom o w → after_moves o w ≡ O
+      → Base O played f flow s width width_is laid o → ((laid ≡ []) × (o ≡ start))
+      ⊎ ((0 < length o.closed) × BottomChain laid 0 (concat o.segments) width) → Result laid o w
   build [] o laid own legal e base state = record {
     all = laid;
     turns = refl;
@@ -66,7 +71,8 @@ module _ (O : Outline) (played : Played O) (f : Flow) (flow : IsFlow (net_after 
       n : NextSides O played f flow s width width_is laid o m base.rest
       n = next_sides O played f flow s width width_is laid o m own base (legal.0).some later
 
-      valley : ((laid ≡ []) × (o ≡ start)) ⊎ ((0 < length o.closed) × BottomChain laid 0 (concat o.segments) width) → (x : ℕ) × ((level : ℕ) × ValleyAt O played f flow s width width_is laid o x level (total n.new))
+      valley : ((laid ≡ []) × (o ≡ start)) ⊎ ((0 < length o.closed) × BottomChain laid 0 (concat o.segments) width) → (x : ℕ)
+          × ((level : ℕ) × ValleyAt O played f flow s width width_is laid o x level (total n.new))
       valley (inr (begun, chain)) = valley_at O played f flow s width width_is laid o m own base (legal.0).some later begun chain
       valley (inl (none, is)) = (
         0,
@@ -78,7 +84,8 @@ module _ (O : Outline) (played : Played O) (f : Flow) (flow : IsFlow (net_after 
             fits = omega (arith, whole_width);
             level_is = omega (arith, ints, ap (λ (k : ℕ). potential f k) no_node);
             before = subst (λ (p : Outline). BottomChain laid 0 (concat (take (valley_place p.signs) p.segments)) 0) (sym is) refl;
-            after = subst (λ (p : Outline). BottomChain laid (0 + total n.new) (concat (drop (suc (valley_place p.signs)) p.segments)) width) (sym is) (omega (arith, whole_width));
+            after = subst (λ (p : Outline). BottomChain laid (0 + total n.new) (concat (drop (suc (valley_place p.signs)) p.segments))
+                width) (sym is) (omega (arith, whole_width));
           },
         ),
       )
@@ -89,20 +96,45 @@ module _ (O : Outline) (played : Played O) (f : Flow) (flow : IsFlow (net_after 
           whole_width : total n.new ≡ width
           whole_width = n.sum ∙ ap (out_sum O.hung s.sides) no_node ∙ sym width_is
 
-      from : (x : ℕ) × ((level : ℕ) × ValleyAt O played f flow s width width_is laid o x level (total n.new)) → ((o : Outline) (laid : List Square) → Played o → AreLegalFrom o w → after_moves o w ≡ O → Base O played f flow s width width_is laid o → ((laid ≡ []) × (o ≡ start)) ⊎ ((0 < length o.closed) × BottomChain laid 0 (concat o.segments) width) → Result laid o w) → Result laid o (m ∷ w)
+      from : (x : ℕ) × ((level : ℕ) × ValleyAt O played f flow s width width_is laid o x level (total n.new))
+          → ((o : Outline) (laid : List Square) → Played o → AreLegalFrom o w → after_moves o w ≡ O
+          → Base O played f flow s width width_is laid o → ((laid ≡ []) × (o ≡ start))
+          ⊎ ((0 < length o.closed) × BottomChain laid 0 (concat o.segments) width) → Result laid o w) → Result laid o (m ∷ w)
       from (x, (level, v)) again = onto (again (after_move o m) (laid ++ laid_group x level n.new) (played_move o m (legal.0).some own) legal.1 e
           (base_move O played f flow s width width_is laid o m own base (legal.0).some later x level n v)
-          (inr (omega (arith, more O played f flow s width width_is laid o m own base (legal.0).some later), chain_move O played f flow s width width_is laid o m own base (legal.0).some later x level n v)))
+          (inr (
+            omega (arith, more O played f flow s width width_is laid o m own base (legal.0).some later),
+            chain_move O played f flow s width width_is laid o m own base (legal.0).some later x level n v,
+          )))
         where
           onto : Result (laid ++ laid_group x level n.new) (after_move o m) w → Result laid o (m ∷ w)
-          onto r = record { all = r.all; turns = (x, (level, (n.new, (record { count = n.count; some = n.some; valley = v; base = base }, r.turns)))); base = r.base; last = r.last }
+          onto r = record {
+            all = r.all;
+            turns = (
+              x,
+              (level, (n.new, (record { count = n.count; some = n.some; valley = v; base = base }, r.turns))),
+            );
+            base = r.base;
+            last = r.last;
+          }
 
+  -- a complete word, laid by a flow of its net
   pub build_all : (w : Word) → AreLegalFrom start w → Played start → after_moves start w ≡ O → Result [] start w
-  build_all w legal own e = build w start [] own legal e (record { filled = λ c j a b. absurd (omega arith); inside = λ q h. absurd h; tops = λ k q g. absurd (cc); rest = s.sides; prefix = refl; count = refl }) (inl (refl, refl))
+  build_all w legal own e = build w start [] own legal e
+      (record {
+        filled = λ c j a b. absurd (omega arith);
+        inside = λ q h. absurd h;
+        tops = λ k q g. absurd (cc);
+        rest = s.sides;
+        prefix =
+            refl;
+        count = refl;
+      }) (inl (refl, refl))
 
   -- at the end
 
-  module _ (all : List Square) (base : Base O played f flow s width width_is all O) (one : length O.segments ≡ 1) (chain : BottomChain all 0 (concat O.segments) width) (some : 0 < width) where
+  module _ (all : List Square) (base : Base O played f flow s width width_is all O) (one : length O.segments ≡ 1)
+      (chain : BottomChain all 0 (concat O.segments) width) (some : 0 < width) where
     -- the bottom of a square
     pub bottom_at : (k : ℕ) (q : Square) → slice_get all k ≡ Some q → pos (q.y + q.s) ≡ potential f 0 -ℤ potential f (end_of (O.closed ++ O.segments) (1 + k))
     bottom_at k q e = omega (arith, ints, base.tops k q e, drop_of O played.numbered f flow s k few, side)
@@ -111,7 +143,8 @@ module _ (O : Outline) (played : Played O) (f : Flow) (flow : IsFlow (net_after 
         few = omega (arith, slice_get_within all k q e, base.count)
 
         side : slice_index_or s.sides k 0 ≡ q.s
-        side = get_value s.sides k q.s (subst (λ (l : List ℕ). slice_get l k ≡ Some q.s) (sym base.prefix) (get_append (laid_sides all) base.rest k q.s (get_side all k q e)))
+        side = get_value s.sides k q.s (subst (λ (l : List ℕ). slice_get l k ≡ Some q.s) (sym base.prefix)
+            (get_append (laid_sides all) base.rest k q.s (get_side all k q e)))
 
     height : ℕ
     height = nat_abs (potential f 0 -ℤ potential f (length O.closed))
@@ -121,7 +154,8 @@ module _ (O : Outline) (played : Played O) (f : Flow) (flow : IsFlow (net_after 
     only n (numbers ∷ []) e = omega arith
     only n (numbers ∷ more ∷ lists) e = absurd (omega arith)
 
-    ends_last : (n : ℕ) (q : Square) → 0 < times n (concat O.segments) → IsNumbered all n q → q.y + q.s ≡ nat_abs (potential f 0 -ℤ potential f (length O.closed))
+    ends_last : (n : ℕ) (q : Square) → 0 < times n (concat O.segments) → IsNumbered all n q
+        → q.y + q.s ≡ nat_abs (potential f 0 -ℤ potential f (length O.closed))
     ends_last n q h (k, is, at) = ap nat_abs (bottom_at k q at ∙ ap (λ (v : ℕ). potential f 0 -ℤ potential f v) place)
       where
         p : HasPlace (1 + k) (O.closed ++ O.segments) (end_of (O.closed ++ O.segments) (1 + k))
@@ -131,16 +165,20 @@ module _ (O : Outline) (played : Played O) (f : Flow) (flow : IsFlow (net_after 
         number = omega (arith, is)
 
         stands : times (1 + k) (slice_index_or (O.closed ++ O.segments) (length O.closed) []) ≡ times n (concat O.segments)
-        stands = ap (times (1 + k)) (get_back O.closed O.segments 0 (length O.closed) [] (omega arith)) ∙ (λ i. times (number i) (slice_index_or O.segments 0 [])) ∙ sym (only n O.segments one) ∙ sym (times-concat n O.segments)
+        stands = ap (times (1 + k)) (get_back O.closed O.segments 0 (length O.closed) [] (omega arith))
+            ∙ (λ i. times (number i) (slice_index_or O.segments 0 [])) ∙ sym (only n O.segments one) ∙ sym (times-concat n O.segments)
 
         place : end_of (O.closed ++ O.segments) (1 + k) ≡ length O.closed
         place = same_if_counted (end_of (O.closed ++ O.segments) (1 + k)) (length O.closed) (omega (arith, h, stands, p.counts (length O.closed)))
 
+    -- at the end all columns are as deep as the potential drops
     pub all_deep : (c : ℕ) → c < width → depth all c ≡ nat_abs (potential f 0 -ℤ potential f (length O.closed))
     all_deep c h = (chain_level all (nat_abs (potential f 0 -ℤ potential f (length O.closed))) 0 (concat O.segments) width chain ends_last).1 c (omega arith) h
 
+    -- the rectangle of these squares
     abbrev pub built : Tiling
     built = record { width = width; height = nat_abs (potential f 0 -ℤ potential f (length O.closed)); squares = in_code_order all }
 
+    -- it is a tiling
     pub is_tiling : 0 < length all → IsTiling built
     is_tiling = columns_are_tiling width (nat_abs (potential f 0 -ℤ potential f (length O.closed))) all base.inside base.filled all_deep

@@ -22,11 +22,15 @@ use Rattle.bk_lay.proofs.Filling.{cell, hangs, in_tiling, is_laid, is_under}
 use Rattle.bk_lay.specs.TilingWord.{IsLeftmostValley, IsWordOf, MovesFollow, hangs_under, squares_under}
 use Rattle.bk_word_net.proofs.AlongWord.{Along, along_move, along_start, get_snoc}
 
-pub find_group : (groups : List (List Square)) (q : Square) → IsOneOf q (row_of groups) → (k : ℕ) × ((g : List Square) × (slice_get groups k ≡ Some g) × IsOneOf q g)
+-- a square of some group, with the group's place
+pub find_group : (groups : List (List Square)) (q : Square) → IsOneOf q (row_of groups) → (k : ℕ)
+    × ((g : List Square) × (slice_get groups k ≡ Some g) × IsOneOf q g)
 find_group [] q h = absurd h
 find_group (g ∷ groups) q h = cases (from_append g (row_of groups) q h) (find_group groups q)
   where
-    cases : IsOneOf q g ⊎ IsOneOf q (row_of groups) → (IsOneOf q (row_of groups) → (k : ℕ) × ((g : List Square) × (slice_get groups k ≡ Some g) × IsOneOf q g)) → (k : ℕ) × ((h : List Square) × (slice_get (g ∷ groups) k ≡ Some h) × IsOneOf q h)
+    cases : IsOneOf q g ⊎ IsOneOf q (row_of groups)
+        → (IsOneOf q (row_of groups) → (k : ℕ) × ((g : List Square) × (slice_get groups k ≡ Some g) × IsOneOf q g)) → (k : ℕ)
+        × ((h : List Square) × (slice_get (g ∷ groups) k ≡ Some h) × IsOneOf q h)
     cases (inl k) rest = (0, (g, refl, k))
     cases (inr k) rest = let r = rest k in (suc r.0, r.1)
 
@@ -42,6 +46,7 @@ pub record IsGroupRun (t : Tiling) (v : Segment) : Type 0 where
   pub y : first.y ≡ v.level
   pub wide : total (laid_sides group) ≡ v.width
 
+-- what is laid of a tiling, node by node: each node is a group's run, and hangs just the group's squares
 pub record Exact (t : Tiling) (laid : List Square) (nodes : List Segment) : Type 0 where
   pub right : (q : Square) → IsOneOf q laid → q.x + q.s < t.width → q.y < depth laid (q.x + q.s)
   pub left : (q : Square) → IsOneOf q laid → (c : ℕ) → suc c ≡ q.x → q.y < depth laid c
@@ -49,19 +54,22 @@ pub record Exact (t : Tiling) (laid : List Square) (nodes : List Segment) : Type
   pub passed : (k : ℕ) (v : Segment) → slice_get nodes k ≡ Some v → v.level < depth laid v.x
   pub once : (j k : ℕ) (v : Segment) → slice_get nodes j ≡ Some v → slice_get nodes k ≡ Some v → j ≡ k
 
-module _ (t : Tiling) (laid : List Square) (nodes : List Segment) (o : Outline) (v : Segment) (tiling : IsTiling t) (a : Along t laid nodes o) (x : Exact t laid nodes) (found : IsLeftmostValley t.width laid v) (low : v.level < t.height) where
+module _ (t : Tiling) (laid : List Square) (nodes : List Segment) (o : Outline) (v : Segment) (tiling : IsTiling t)
+    (a : Along t laid nodes o) (x : Exact t laid nodes) (found : IsLeftmostValley t.width laid v) (low : v.level < t.height) where
   flat : IsLevel t.width laid v
   flat = (found.valley).flat
 
   -- the square that hangs under the valley at a column
   under_at : (c : ℕ) → v.x ≤ c → c < v.x + v.width → (q : Square) × IsOneOf q (squares_under t v) × (covers c v.level q ≡ true)
-  under_at c lo hi = from (counted_one (covers c v.level) t.squares (omega (arith, cell t laid v tiling a.fills found low c v.level (omega (arith, flat.within)) low)))
+  under_at c lo hi = from (counted_one (covers c v.level) t.squares
+      (omega (arith, cell t laid v tiling a.fills found low c v.level (omega (arith, flat.within)) low)))
     where
       from : (q : Square) × IsOneOf q t.squares × (covers c v.level q ≡ true) → (q : Square) × IsOneOf q (squares_under t v) × (covers c v.level q ≡ true)
       from (q, k, e) = (q, in_filter (hangs_under v) t.squares q k (hangs t laid v tiling a.fills found low c q lo hi k e), e)
 
   deeper : (c : ℕ) → v.x ≤ c → c < v.x + v.width → v.level < depth (laid ++ squares_under t v) c
-  deeper c lo hi = let q = under_at c lo hi in let o = over_from c v.level q.0 q.2 in omega (arith, o.bottom, depth_reaches (laid ++ squares_under t v) c q.0 (in_back laid (squares_under t v) q.0 q.1) (column_from c q.0 o.left o.right))
+  deeper c lo hi = let q = under_at c lo hi in let o = over_from c v.level q.0 q.2 in
+      omega (arith, o.bottom, depth_reaches (laid ++ squares_under t v) c q.0 (in_back laid (squares_under t v) q.0 q.1) (column_from c q.0 o.left o.right))
 
   new_in : (q : Square) → IsOneOf q (squares_under t v) → IsOneOf q t.squares
   new_in q h = in_tiling t laid v tiling a.fills found low q h
@@ -74,7 +82,18 @@ module _ (t : Tiling) (laid : List Square) (nodes : List Segment) (o : Outline) 
       from (q, h, e) = of (find_group (square_groups t.squares) q (subst (IsOneOf q) (sym (row_is t tiling)) (new_in q h)))
         where
           of : (k : ℕ) × ((g : List Square) × (slice_get (square_groups t.squares) k ≡ Some g) × IsOneOf q g) → IsGroupRun t v
-          of (k, (g, is, m)) = record { place = k; group = g; is = is; first = row.first; rest = row.rest; squares = row.is; x = begins (cases_lt row.first.x v.x); y = level; wide = wide (cases_lt row.end (v.x + v.width)) (cases_lt (v.x + v.width) row.end) }
+          of (k, (g, is, m)) = record {
+            place = k;
+            group = g;
+            is = is;
+            first = row.first;
+            rest = row.rest;
+            squares = row.is;
+            x =
+                begins (cases_lt row.first.x v.x);
+            y = level;
+            wide = wide (cases_lt row.end (v.x + v.width)) (cases_lt (v.x + v.width) row.end);
+          }
             where
               row : IsRow t.squares g
               row = (group_of t tiling k g is).0.row
@@ -88,9 +107,11 @@ module _ (t : Tiling) (laid : List Square) (nodes : List Segment) (o : Outline) 
               at_x : q.x ≡ v.x
               at_x = let l = (is_under t laid v tiling a.fills found low q h).left in omega (arith, (over_from v.x v.level q e).left)
 
-              begins : ((group_of t tiling k g is).0.row.first.x < v.x) ⊎ (v.x ≤ (group_of t tiling k g is).0.row.first.x) → (group_of t tiling k g is).0.row.first.x ≡ v.x
+              begins : ((group_of t tiling k g is).0.row.first.x < v.x) ⊎ (v.x ≤ (group_of t tiling k g is).0.row.first.x)
+                  → (group_of t tiling k g is).0.row.first.x ≡ v.x
               begins (inr l) = omega (arith, within.0, at_x)
-              begins (inl l) = absurd (before (at_level t tiling k g is (v.x - 1) (omega arith) (omega (arith, within.1, at_x, side_of t tiling q (new_in q h)))))
+              begins (inl l) = absurd (before (at_level t tiling k g is (v.x - 1) (omega arith)
+                  (omega (arith, within.1, at_x, side_of t tiling q (new_in q h)))))
                 where
                   before : (r : Square) × IsOneOf r g × (covers (v.x - 1) (group_of t tiling k g is).0.row.first.y r ≡ true) → ⊥
                   before (r, n, f) = by (cases_lt v.x (r.x + r.s))
@@ -105,19 +126,31 @@ module _ (t : Tiling) (laid : List Square) (nodes : List Segment) (o : Outline) 
                       r_level = top_of t tiling g (group_of t tiling k g is).0.row r n ∙ level
 
                       r_laid : IsOneOf r laid
-                      r_laid = is_laid t laid v tiling a.fills found low (v.x - 1) v.level r (omega (arith, flat.within, flat.some)) ((found.valley).left (v.x - 1) (omega arith)) r_in cover
+                      r_laid = is_laid t laid v tiling a.fills found low (v.x - 1) v.level r (omega (arith, flat.within, flat.some))
+                          ((found.valley).left (v.x - 1) (omega arith)) r_in cover
 
                       by : (v.x < r.x + r.s) ⊎ (r.x + r.s ≤ v.x) → ⊥
-                      by (inl z) = let same : q ≡ r = one_there t tiling q r v.x v.level (new_in q h) e r_in (covers_from v.x v.level r (omega (arith, (over_from (v.x - 1) v.level r cover).left)) z (omega (arith, r_level)) (omega (arith, r_level, side_of t tiling r r_in))) in
+                      by (inl z) = let same : q ≡ r = one_there t tiling q r v.x v.level (new_in q h) e r_in
+                          (covers_from v.x v.level r (omega (arith, (over_from (v.x - 1) v.level r cover).left)) z (omega (arith, r_level))
+                          (omega (arith, r_level, side_of t tiling r r_in))) in
                           omega (arith, at_x, ap (λ (s : Square). s.x) same, (over_from (v.x - 1) v.level r cover).left)
                       by (inr z) = let e : r.x + r.s ≡ v.x = omega (arith, (over_from (v.x - 1) v.level r cover).right) in
-                          omega (arith, x.right r r_laid (omega (arith, e, flat.within, flat.some)), ap (depth laid) e, flat.level v.x (omega arith) (omega (arith, flat.some)), r_level)
+                          omega (
+                            arith,
+                            x.right r r_laid (omega (arith, e, flat.within, flat.some)),
+                            ap (depth laid) e,
+                            flat.level v.x (omega arith) (omega (arith, flat.some)),
+                            r_level,
+                          )
 
-              wide : ((group_of t tiling k g is).0.row.end < v.x + v.width) ⊎ (v.x + v.width ≤ (group_of t tiling k g is).0.row.end) → (v.x + v.width < (group_of t tiling k g is).0.row.end) ⊎ ((group_of t tiling k g is).0.row.end ≤ v.x + v.width) → total (laid_sides g) ≡ v.width
+              wide : ((group_of t tiling k g is).0.row.end < v.x + v.width) ⊎ (v.x + v.width ≤ (group_of t tiling k g is).0.row.end)
+                  → (v.x + v.width < (group_of t tiling k g is).0.row.end) ⊎ ((group_of t tiling k g is).0.row.end ≤ v.x + v.width)
+                  → total (laid_sides g) ≡ v.width
               wide (inl l) z = absurd (over (under_at (group_of t tiling k g is).0.row.end (omega (arith, within.1, at_x)) l))
                 where
                   over : (r : Square) × IsOneOf r (squares_under t v) × (covers (group_of t tiling k g is).0.row.end v.level r ≡ true) → ⊥
-                  over (r, n, f) = let o = over_from (group_of t tiling k g is).0.row.end v.level r f in not_right t tiling k g is r (new_in r n) ((is_under t laid v tiling a.fills found low r n).level ∙ sym level) o.left o.right
+                  over (r, n, f) = let o = over_from (group_of t tiling k g is).0.row.end v.level r f in
+                      not_right t tiling k g is r (new_in r n) ((is_under t laid v tiling a.fills found low r n).level ∙ sym level) o.left o.right
               wide (inr l) (inr z) = omega (arith, width_is t tiling k g is, begins (cases_lt (group_of t tiling k g is).0.row.first.x v.x))
               wide (inr l) (inl z) = absurd (beyond (at_level t tiling k g is (v.x + v.width) (omega (arith, within.0, at_x)) z))
                 where
@@ -136,16 +169,28 @@ module _ (t : Tiling) (laid : List Square) (nodes : List Segment) (o : Outline) 
                       inside : v.x + v.width < t.width
                       inside = omega (arith, z, end_within t tiling k g is)
 
-                      by : (r.x < v.x + v.width) ⊎ (v.x + v.width ≤ r.x) → (s : Square) × IsOneOf s (squares_under t v) × (covers (v.x + v.width - 1) v.level s ≡ true) → ⊥
-                      by (inl y) (s, i, j) = let same : s ≡ r = one_there t tiling s r (v.x + v.width - 1) v.level (new_in s i) j r_in (covers_from (v.x + v.width - 1) v.level r (omega arith) (omega (arith, (over_from (v.x + v.width) v.level r cover).right)) (omega (arith, r_level)) (omega (arith, r_level, side_of t tiling r r_in))) in
-                          omega (arith, (is_under t laid v tiling a.fills found low s i).right, ap (λ (q : Square). q.x + q.s) same, (over_from (v.x + v.width) v.level r cover).right)
+                      by : (r.x < v.x + v.width) ⊎ (v.x + v.width ≤ r.x) → (s : Square) × IsOneOf s (squares_under t v)
+                          × (covers (v.x + v.width - 1) v.level s ≡ true) → ⊥
+                      by (inl y) (s, i, j) = let same : s ≡ r =
+                          one_there t tiling s r (v.x + v.width - 1) v.level (new_in s i) j r_in
+                          (covers_from (v.x + v.width - 1) v.level r (omega arith)
+                          (omega (arith, (over_from (v.x + v.width) v.level r cover).right)) (omega (arith, r_level))
+                          (omega (arith, r_level, side_of t tiling r r_in))) in
+                          omega (
+                            arith,
+                            (is_under t laid v tiling a.fills found low s i).right,
+                            ap (λ (q : Square). q.x + q.s) same,
+                            (over_from (v.x + v.width) v.level r cover).right,
+                          )
                       by (inr y) other = omega (
                         arith,
-                        x.left r (is_laid t laid v tiling a.fills found low (v.x + v.width) v.level r inside ((found.valley).right inside) r_in cover) (v.x + v.width - 1) (omega (arith, flat.some, (over_from (v.x + v.width) v.level r cover).left)),
+                        x.left r (is_laid t laid v tiling a.fills found low (v.x + v.width) v.level r inside ((found.valley).right inside)
+                            r_in cover) (v.x + v.width - 1) (omega (arith, flat.some, (over_from (v.x + v.width) v.level r cover).left)),
                         flat.level (v.x + v.width - 1) (omega (arith, flat.some)) (omega (arith, flat.some)),
                         r_level,
                       )
 
+  -- it stays so when the squares under the leftmost valley are laid
   pub exact_move : Exact t (laid ++ squares_under t v) (nodes ++ v ∷ [])
   exact_move = record {
     right = λ q h e. right q (from_append laid (squares_under t v) q h) e;
@@ -169,21 +214,28 @@ module _ (t : Tiling) (laid : List Square) (nodes : List Segment) (o : Outline) 
       left q (inr h) c e = cases (cases_lt c v.x)
         where
           cases : (c < v.x) ⊎ (v.x ≤ c) → q.y < depth (laid ++ squares_under t v) c
-          cases (inl l) = let u = is_under t laid v tiling a.fills found low q h in omega (arith, u.level, (found.valley).left c (omega (arith, u.left)), depth-append laid (squares_under t v) c)
+          cases (inl l) = let u = is_under t laid v tiling a.fills found low q h in
+              omega (arith, u.level, (found.valley).left c (omega (arith, u.left)), depth-append laid (squares_under t v) c)
           cases (inr l) = let u = is_under t laid v tiling a.fills found low q h in omega (arith, u.level, deeper c l (omega (arith, u.right)))
 
       runs : (k : ℕ) (u : Segment) → ((k < length nodes) × (slice_get nodes k ≡ Some u)) ⊎ ((k ≡ length nodes) × (v ≡ u)) → IsGroupRun t u
       runs k u (inl h) = x.runs k u h.1
       runs k u (inr h) = subst (IsGroupRun t) h.1 run
 
-      passed : (k : ℕ) (u : Segment) → ((k < length nodes) × (slice_get nodes k ≡ Some u)) ⊎ ((k ≡ length nodes) × (v ≡ u)) → u.level < depth (laid ++ squares_under t v) u.x
+      passed : (k : ℕ) (u : Segment) → ((k < length nodes) × (slice_get nodes k ≡ Some u)) ⊎ ((k ≡ length nodes) × (v ≡ u))
+          → u.level < depth (laid ++ squares_under t v) u.x
       passed k u (inl h) = omega (arith, x.passed k u h.1, depth-append laid (squares_under t v) u.x)
       passed k u (inr h) = subst (λ (s : Segment). s.level < depth (laid ++ squares_under t v) s.x) h.1 (deeper v.x (omega arith) (omega (arith, flat.some)))
 
       not_old : (k : ℕ) (u : Segment) → slice_get nodes k ≡ Some u → v ≡ u → ⊥
-      not_old k u e same = omega (arith, subst (λ (s : Segment). s.level < depth laid s.x) (sym same) (x.passed k u e), flat.level v.x (omega arith) (omega (arith, flat.some)))
+      not_old k u e same = omega (
+        arith,
+        subst (λ (s : Segment). s.level < depth laid s.x) (sym same) (x.passed k u e),
+        flat.level v.x (omega arith) (omega (arith, flat.some)),
+      )
 
-      once : (j k : ℕ) (u : Segment) → ((j < length nodes) × (slice_get nodes j ≡ Some u)) ⊎ ((j ≡ length nodes) × (v ≡ u)) → ((k < length nodes) × (slice_get nodes k ≡ Some u)) ⊎ ((k ≡ length nodes) × (v ≡ u)) → j ≡ k
+      once : (j k : ℕ) (u : Segment) → ((j < length nodes) × (slice_get nodes j ≡ Some u)) ⊎ ((j ≡ length nodes) × (v ≡ u))
+          → ((k < length nodes) × (slice_get nodes k ≡ Some u)) ⊎ ((k ≡ length nodes) × (v ≡ u)) → j ≡ k
       once j k u (inl h) (inl i) = x.once j k u h.1 i.1
       once j k u (inl h) (inr i) = absurd (not_old j u h.1 i.1)
       once j k u (inr h) (inl i) = absurd (not_old k u i.1 h.1)
@@ -191,6 +243,7 @@ module _ (t : Tiling) (laid : List Square) (nodes : List Segment) (o : Outline) 
 
 -- ---- to the end
 
+-- what is so at the end of a tiling's word
 pub record ExactEnd (t : Tiling) (o : Outline) : Type 0 where
   pub laid : List Square
   pub nodes : List Segment
@@ -198,11 +251,15 @@ pub record ExactEnd (t : Tiling) (o : Outline) : Type 0 where
   pub exact : Exact t laid nodes
   pub full : (c : ℕ) → c < t.width → depth laid c ≡ t.height
 
-exact_to : (t : Tiling) → IsTiling t → (laid : List Square) (nodes : List Segment) (o : Outline) (w : Word) → Along t laid nodes o → Exact t laid nodes → MovesFollow t laid w → ExactEnd t (after_moves o w)
+exact_to : (t : Tiling) → IsTiling t → (laid : List Square) (nodes : List Segment) (o : Outline) (w : Word) → Along t laid nodes o
+    → Exact t laid nodes → MovesFollow t laid w → ExactEnd t (after_moves o w)
 exact_to t tiling laid nodes o [] a x p = record { laid = laid; nodes = nodes; along = a; exact = x; full = p }
 exact_to t tiling laid nodes o (m ∷ w) a x p = exact_to t tiling (laid ++ squares_under t p.0) (nodes ++ p.0 ∷ []) (after_move o m) w
-    (subst (λ (n : Move). Along t (laid ++ squares_under t p.0) (nodes ++ p.0 ∷ []) (after_move o n)) (sym p.3) (along_move t laid nodes o p.0 tiling a p.1 p.2))
+    (subst (λ (n : Move). Along t (laid ++ squares_under t p.0) (nodes ++ p.0 ∷ []) (after_move o n)) (sym p.3)
+    (along_move t laid nodes o p.0 tiling a p.1 p.2))
     (exact_move t laid nodes o p.0 tiling a x p.1 p.2) p.4
 
+-- a tiling's word leads there
 pub exact_end : (t : Tiling) (w : Word) → IsTiling t → IsWordOf t w → ExactEnd t (after_moves start w)
-exact_end t w tiling p = exact_to t tiling [] [] start w (along_start t tiling) (record { right = λ q h. absurd h; left = λ q h. absurd h; runs = λ k v e. absurd (cc); passed = λ k v e. absurd (cc); once = λ j k v e. absurd (cc) }) p
+exact_end t w tiling p = exact_to t tiling [] [] start w (along_start t tiling)
+    (record { right = λ q h. absurd h; left = λ q h. absurd h; runs = λ k v e. absurd (cc); passed = λ k v e. absurd (cc); once = λ j k v e. absurd (cc) }) p

@@ -10,9 +10,16 @@ use Rattle.bk_tiling.specs.Tiling.{IsOneOf, IsTiling, IsWithin, Tiles, covers}
 use Rattle.bk_tiling.specs.declared.Square.{Square}
 
 module _ (width height : ℕ) (all : List Square) (inside : (q : Square) → IsOneOf q all → (0 < q.s) × (q.x + q.s ≤ width))
-    (filled : (c j : ℕ) → c < width → j < depth all c → count_by (covers c j) all ≡ 1) (deep : (c : ℕ) → c < width → depth all c ≡ height) (some : 0 < length all) where
+    (filled : (c j : ℕ) → c < width → j < depth all c → count_by (covers c j) all ≡ 1) (deep : (c : ℕ) → c < width → depth all c ≡ height)
+    (some : 0 < length all) where
   within : (q : Square) → IsOneOf q all → IsWithin (sized width height) q
-  within q h = record { left = omega arith; right = omega (arith, i.1); top = omega arith; bottom = omega (arith, depth_reaches all q.x q h (column_from q.x q (omega arith) (omega (arith, i.0))), deep q.x (omega (arith, i.0, i.1))) }
+  within q h = record {
+    left = omega arith;
+    right = omega (arith, i.1);
+    top = omega arith;
+    bottom =
+        omega (arith, depth_reaches all q.x q h (column_from q.x q (omega arith) (omega (arith, i.0))), deep q.x (omega (arith, i.0, i.1)));
+  }
     where
       i : (0 < q.s) × (q.x + q.s ≤ width)
       i = inside q h
@@ -23,6 +30,7 @@ module _ (width height : ℕ) (all : List Square) (inside : (q : Square) → IsO
   own_once : (q : Square) → IsOneOf q all → count_by (covers q.x q.y) all ≤ 1
   own_once q h = let i = inside q h in let w = (within q h).bottom in omega (arith, once q.x q.y (omega (arith, i.0, i.1)) (omega (arith, i.0)))
 
+  -- columns filled to one depth are tiled
   pub columns_tile : Tiles (sized width height) all
   columns_tile = record {
     some = some;

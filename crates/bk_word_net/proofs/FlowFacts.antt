@@ -17,6 +17,7 @@ use Rattle.bk_word_net.proofs.Sums.{in_is_weighted, out_sum, outflow_is, weighte
 use Rattle.bk_word_net.proofs.Wires.{times_other, wires_by, wires_by-at, wires_length}
 use Rattle.bk_word_net.specs.WordNet.{end_of, net_after}
 
+-- a flow's currents as sides, each at least 1
 pub record HasSides (f : Flow) : Type 0 where
   pub sides : List ℕ
   pub positive : AllByRecursion (λ s. 0 < s) sides
@@ -27,6 +28,7 @@ sides_from [] long = (tt, refl)
 sides_from (pos n ∷ cs) long = let rest = sides_from cs long.1 in ((omega (arith, ints, long.0), rest.0), ap (λ (ds : List ℤ). pos n ∷ ds) rest.1)
 sides_from (negsuc n ∷ cs) long = absurd (omega (arith, ints, long.0))
 
+-- currents of at least 1 are sides
 pub has_sides : (f : Flow) → AllByRecursion (λ c. pos 1 ≤ℤ c) f.currents → HasSides f
 has_sides f long = let s = sides_from f.currents long in record { sides = map nat_abs f.currents; positive = s.0; currents = s.1 }
 
@@ -36,20 +38,27 @@ get_map g (x ∷ xs) zero d e h = refl
 get_map g (x ∷ xs) (suc k) d e h = get_map g xs k d e (omega arith)
 
 module _ (o : Outline) (numbered : Numbered o) (f : Flow) (flow : IsFlow (net_after o) f) (s : HasSides f) where
+  -- there is a side for each square
   pub sides_count : length s.sides ≡ length o.hung
   sides_count = sym (length-map s.sides pos) ∙ sym (ap length s.currents) ∙ ap length flow.differences
-      ∙ length-map (wires_by (end_of (o.closed ++ o.segments)) 1 o.hung) (λ w. potential f w.0 -ℤ potential f w.1) ∙ wires_length (end_of (o.closed ++ o.segments)) 1 o.hung
+      ∙ length-map (wires_by (end_of (o.closed ++ o.segments)) 1 o.hung) (λ w. potential f w.0 -ℤ potential f w.1)
+      ∙ wires_length (end_of (o.closed ++ o.segments)) 1 o.hung
 
   -- the side of a square is the drop of its wire
-  pub drop_of : (k : ℕ) → k < length o.hung → pos (slice_index_or s.sides k 0) ≡ potential f (slice_index_or o.hung k 0) -ℤ potential f (end_of (o.closed ++ o.segments) (1 + k))
+  pub drop_of : (k : ℕ) → k < length o.hung → pos (slice_index_or s.sides k 0)
+      ≡ potential f (slice_index_or o.hung k 0) -ℤ potential f (end_of (o.closed ++ o.segments) (1 + k))
   drop_of k h = sym (get_map pos s.sides k (pos 0) 0 (omega (arith, sides_count)))
       ∙ ap (λ (cs : List ℤ). slice_index_or cs k (pos 0)) (sym s.currents ∙ flow.differences)
-      ∙ get_map (λ w. potential f w.0 -ℤ potential f w.1) (wires_by (end_of (o.closed ++ o.segments)) 1 o.hung) k (pos 0) (0, 0) (omega (arith, h, wires_length (end_of (o.closed ++ o.segments)) 1 o.hung))
+      ∙ get_map (λ w. potential f w.0 -ℤ potential f w.1) (wires_by (end_of (o.closed ++ o.segments)) 1 o.hung) k (pos 0) (0, 0)
+      (omega (arith, h, wires_length (end_of (o.closed ++ o.segments)) 1 o.hung))
       ∙ ap (λ (w : ℕ × ℕ). potential f w.0 -ℤ potential f w.1) (wires_by-at (end_of (o.closed ++ o.segments)) 1 o.hung k (0, 0) h)
 
-  flows : (v : ℕ) → outflow (net_after o).wires f.currents v ≡ pos (out_sum o.hung s.sides v) -ℤ pos (weighted s.sides 1 (slice_index_or (o.closed ++ o.segments) v []))
-  flows v = ap (λ (cs : List ℤ). outflow (net_after o).wires cs v) s.currents ∙ outflow_is (end_of (o.closed ++ o.segments)) 1 o.hung s.sides v (sym sides_count)
-      ∙ ap (λ (n : ℕ). pos (out_sum o.hung s.sides v) -ℤ pos n) (in_is_weighted (end_of (o.closed ++ o.segments)) 1 s.sides v (slice_index_or (o.closed ++ o.segments) v [])
+  flows : (v : ℕ) → outflow (net_after o).wires f.currents v
+      ≡ pos (out_sum o.hung s.sides v) -ℤ pos (weighted s.sides 1 (slice_index_or (o.closed ++ o.segments) v []))
+  flows v = ap (λ (cs : List ℤ). outflow (net_after o).wires cs v) s.currents
+      ∙ outflow_is (end_of (o.closed ++ o.segments)) 1 o.hung s.sides v (sym sides_count)
+      ∙ ap (λ (n : ℕ). pos (out_sum o.hung s.sides v) -ℤ pos n)
+      (in_is_weighted (end_of (o.closed ++ o.segments)) 1 s.sides v (slice_index_or (o.closed ++ o.segments) v [])
       (λ k h. (place_of_number o numbered (1 + k) (omega arith) (omega (arith, sides_count))).counts v))
 
   -- as much hangs from a closed node as ends there
@@ -60,6 +69,7 @@ module _ (o : Outline) (numbered : Numbered o) (f : Flow) (flow : IsFlow (net_af
   pub total_is : pos (out_sum o.hung s.sides 0) -ℤ pos (weighted s.sides 1 (slice_index_or (o.closed ++ o.segments) 0 [])) ≡ f.total
   total_is = sym (flows 0) ∙ flow.first
 
+-- what stands closed and hung in an outline stands so in a later one
 pub record IsLater (o later : Outline) : Type 0 where
   pub hung : List ℕ
   pub hung_is : later.hung ≡ o.hung ++ hung
@@ -67,6 +77,7 @@ pub record IsLater (o later : Outline) : Type 0 where
   pub closed : List (List ℕ)
   pub closed_is : later.closed ≡ o.closed ++ closed
 
+-- further moves lead to a later outline
 pub is_later : (o : Outline) (w : Word) → IsLater o (after_moves o w)
 is_later o [] = record { hung = []; hung_is = sym (append-nil o.hung); hung_from = λ j h. refl; closed = []; closed_is = sym (append-nil o.closed) }
 is_later o (m ∷ w) = from (is_later (after_move o m) w)
@@ -75,11 +86,17 @@ is_later o (m ∷ w) = from (is_later (after_move o m) w)
     from r = record {
       hung = replicate m.count (length o.closed) ++ r.hung;
       hung_is = r.hung_is ∙ append_assoc o.hung (replicate m.count (length o.closed)) r.hung;
-      hung_from = λ j h. omega (arith, times-append j (replicate m.count (length o.closed)) r.hung, times_other m.count (length o.closed) j (λ e. absurd (omega (arith, e))), r.hung_from j (omega (arith, length-append o.closed (valley_of o ∷ []))));
+      hung_from = λ j h. omega (
+        arith,
+        times-append j (replicate m.count (length o.closed)) r.hung,
+        times_other m.count (length o.closed) j (λ e. absurd (omega (arith, e))),
+        r.hung_from j (omega (arith, length-append o.closed (valley_of o ∷ []))),
+      );
       closed = valley_of o ∷ r.closed;
       closed_is = r.closed_is ∙ append_assoc o.closed (valley_of o ∷ []) r.closed;
     }
 
+-- a number that is greater than all of a list isn't in it
 pub times_below : (xs : List ℕ) (n : ℕ) → ((k : ℕ) → k < length xs → slice_index_or xs k 0 < n) → times n xs ≡ 0
 times_below [] n each = refl
 times_below (x ∷ xs) n each = omega (arith, differ, times_below xs n (λ k h. each (suc k) (omega arith)))

@@ -48,8 +48,10 @@ module _ (w : Word) (f : Flow) (complete : IsComplete w) (flow : IsFlow (net_aft
   abbrev width : ℕ
   width = out_sum (outline_of w).hung (has_sides f places.long).sides 0
 
-  r : Result (outline_of w) (played_word w complete) f flow (has_sides f places.long) (out_sum (outline_of w).hung (has_sides f places.long).sides 0) refl [] start w
-  r = build_all (outline_of w) (played_word w complete) f flow (has_sides f places.long) (out_sum (outline_of w).hung (has_sides f places.long).sides 0) refl w complete.legal played_start refl
+  r : Result (outline_of w) (played_word w complete) f flow (has_sides f places.long)
+      (out_sum (outline_of w).hung (has_sides f places.long).sides 0) refl [] start w
+  r = build_all (outline_of w) (played_word w complete) f flow (has_sides f places.long)
+      (out_sum (outline_of w).hung (has_sides f places.long).sides 0) refl w complete.legal played_start refl
 
   begun : 0 < length (outline_of w).closed
   begun = omega (arith, closed_count start w, complete.some)
@@ -57,7 +59,10 @@ module _ (w : Word) (f : Flow) (complete : IsComplete w) (flow : IsFlow (net_aft
   chain : BottomChain r.all 0 (concat (outline_of w).segments) (out_sum (outline_of w).hung (has_sides f places.long).sides 0)
   chain = cases r.last
     where
-      cases : ((r.all ≡ []) × (outline_of w ≡ start)) ⊎ ((0 < length (outline_of w).closed) × BottomChain r.all 0 (concat (outline_of w).segments) (out_sum (outline_of w).hung (has_sides f places.long).sides 0)) → BottomChain r.all 0 (concat (outline_of w).segments) (out_sum (outline_of w).hung (has_sides f places.long).sides 0)
+      cases : ((r.all ≡ []) × (outline_of w ≡ start))
+          ⊎ ((0 < length (outline_of w).closed) × BottomChain r.all 0 (concat (outline_of w).segments)
+          (out_sum (outline_of w).hung (has_sides f places.long).sides 0))
+          → BottomChain r.all 0 (concat (outline_of w).segments) (out_sum (outline_of w).hung (has_sides f places.long).sides 0)
       cases (inl (none, is)) = absurd (omega (arith, begun, ap (λ (p : Outline). length p.closed) is))
       cases (inr h) = h.1
 
@@ -70,30 +75,52 @@ module _ (w : Word) (f : Flow) (complete : IsComplete w) (flow : IsFlow (net_aft
   wide : 0 < out_sum (outline_of w).hung (has_sides f places.long).sides 0
   wide = from r.all some_laid (λ q h. (r.base).inside q h)
     where
-      from : (squares : List Square) → 0 < length squares → ((q : Square) → IsOneOf q squares → (0 < q.s) × (q.x + q.s ≤ out_sum (outline_of w).hung (has_sides f places.long).sides 0)) → 0 < out_sum (outline_of w).hung (has_sides f places.long).sides 0
+      from : (squares : List Square) → 0 < length squares
+          → ((q : Square) → IsOneOf q squares → (0 < q.s) × (q.x + q.s ≤ out_sum (outline_of w).hung (has_sides f places.long).sides 0))
+          → 0 < out_sum (outline_of w).hung (has_sides f places.long).sides 0
       from [] h g = absurd (omega arith)
       from (q ∷ squares) h g = let i = g q (inl refl) in omega (arith, i.0, i.1)
 
   abbrev the_tiling : Tiling
-  the_tiling = built (outline_of w) (played_word w complete) f flow (has_sides f places.long) (out_sum (outline_of w).hung (has_sides f places.long).sides 0) refl r.all r.base complete.one chain wide
+  the_tiling = built (outline_of w) (played_word w complete) f flow (has_sides f places.long)
+      (out_sum (outline_of w).hung (has_sides f places.long).sides 0) refl r.all r.base complete.one chain wide
 
   tiling : IsTiling the_tiling
-  tiling = is_tiling (outline_of w) (played_word w complete) f flow (has_sides f places.long) (out_sum (outline_of w).hung (has_sides f places.long).sides 0) refl r.all r.base complete.one chain wide some_laid
+  tiling = is_tiling (outline_of w) (played_word w complete) f flow (has_sides f places.long)
+      (out_sum (outline_of w).hung (has_sides f places.long).sides 0) refl r.all r.base complete.one chain wide some_laid
 
-  placing : (laid : List Square) (o : Outline) (v : Word) (all : List Square) → LaidTurns (outline_of w) (played_word w complete) f flow (has_sides f places.long) (out_sum (outline_of w).hung (has_sides f places.long).sides 0) refl laid o v all → Placing (out_sum (outline_of w).hung (has_sides f places.long).sides 0) laid o v all
+  placing : (laid : List Square) (o : Outline) (v : Word) (all : List Square)
+      → LaidTurns (outline_of w) (played_word w complete) f flow (has_sides f places.long)
+      (out_sum (outline_of w).hung (has_sides f places.long).sides 0) refl laid o v all
+      → Placing (out_sum (outline_of w).hung (has_sides f places.long).sides 0) laid o v all
   placing laid o [] all p = p
-  placing laid o (m ∷ v) all (x, (level, (new, (turn, rest)))) = (x, (level, (new, (record { count = turn.count; some = turn.some; place = (turn.valley).place }, placing (laid ++ laid_group x level new) (after_move o m) v all rest))))
+  placing laid o (m ∷ v) all (x, (level, (new, (turn, rest)))) = (
+    x,
+    (
+      level,
+      (
+        new,
+        (
+          record { count = turn.count; some = turn.some; place = (turn.valley).place },
+          placing (laid ++ laid_group x level new) (after_move o m) v all rest,
+        ),
+      ),
+    ),
+  )
 
-  bottom_is : (n : ℕ) (q : Square) → IsNumbered r.all n q → nat_abs (potential f 0 -ℤ potential f (end_of ((outline_of w).closed ++ (outline_of w).segments) n)) ≡ q.y + q.s
+  bottom_is : (n : ℕ) (q : Square) → IsNumbered r.all n q
+      → nat_abs (potential f 0 -ℤ potential f (end_of ((outline_of w).closed ++ (outline_of w).segments) n)) ≡ q.y + q.s
   bottom_is n q (k, is, at) = (λ i. nat_abs (potential f 0 -ℤ potential f (end_of ((outline_of w).closed ++ (outline_of w).segments) (number i))))
-      ∙ sym (ap nat_abs (bottom_at (outline_of w) (played_word w complete) f flow (has_sides f places.long) (out_sum (outline_of w).hung (has_sides f places.long).sides 0) refl r.all r.base complete.one chain wide k q at))
+      ∙ sym (ap nat_abs (bottom_at (outline_of w) (played_word w complete) f flow (has_sides f places.long)
+      (out_sum (outline_of w).hung (has_sides f places.long).sides 0) refl r.all r.base complete.one chain wide k q at))
     where
       number : n ≡ 1 + k
       number = omega (arith, is)
 
   followed : IsWordOf the_tiling w × ((all_levels : List ℕ) × LaidAlong the_tiling [] [] w r.all all_levels)
   followed = follow the_tiling tiling r.all (λ q h. in_order r.all q h)
-      (all_deep (outline_of w) (played_word w complete) f flow (has_sides f places.long) (out_sum (outline_of w).hung (has_sides f places.long).sides 0) refl r.all r.base complete.one chain wide)
+      (all_deep (outline_of w) (played_word w complete) f flow (has_sides f places.long)
+      (out_sum (outline_of w).hung (has_sides f places.long).sides 0) refl r.all r.base complete.one chain wide)
       (λ n. nat_abs (potential f 0 -ℤ potential f (end_of ((outline_of w).closed ++ (outline_of w).segments) n))) bottom_is
       w start [] [] [] (nothing_laid the_tiling tiling) (start_depicts_nothing the_tiling tiling) complete.legal (placing [] start w r.all r.turns) places.signs
 
@@ -113,11 +140,19 @@ module _ (w : Word) (f : Flow) (complete : IsComplete w) (flow : IsFlow (net_aft
 
   first_closed : (v : Word) (o : Outline) → 0 < length v → outline_of v ≡ o → slice_index_or (o.closed ++ o.segments) 0 [] ≡ []
   first_closed [] o h e = absurd (omega arith)
-  first_closed (m ∷ v) o h e = ap (λ (p : Outline). slice_index_or (p.closed ++ p.segments) 0 []) (sym e) ∙ ap (λ (l : List (List ℕ)). slice_index_or (l ++ (outline_of (m ∷ v)).segments) 0 []) (is_later (after_move start m) v).closed_is
+  first_closed (m ∷ v) o h e = ap (λ (p : Outline). slice_index_or (p.closed ++ p.segments) 0 []) (sym e)
+      ∙ ap (λ (l : List (List ℕ)). slice_index_or (l ++ (outline_of (m ∷ v)).segments) 0 []) (is_later (after_move start m) v).closed_is
 
   total : pos (out_sum (outline_of w).hung (has_sides f places.long).sides 0) ≡ f.total
-  total = omega (arith, ints, total_is (outline_of w) own.numbered f flow (has_sides f places.long), ap (weighted (has_sides f places.long).sides 1) (first_closed w (outline_of w) complete.some refl), weighted_nil (has_sides f places.long).sides 1)
+  total = omega (
+    arith,
+    ints,
+    total_is (outline_of w) own.numbered f flow (has_sides f places.long),
+    ap (weighted (has_sides f places.long).sides 1) (first_closed w (outline_of w) complete.some refl),
+    weighted_nil (has_sides f places.long).sides 1,
+  )
 
+  -- the tiling that the flow lays
   pub by_flow : (t : Tiling) × IsTilingByFlow w f t
   by_flow = (
     the_tiling,
@@ -132,16 +167,19 @@ module _ (w : Word) (f : Flow) (complete : IsComplete w) (flow : IsFlow (net_aft
     },
   )
 
+-- the law: laid move by move, the columns come to one depth
 pub a_flow_places_a_tiling : AFlowPlacesATiling
 a_flow_places_a_tiling w f complete flow places = by_flow w f complete flow places
 
 abbrev Multiple : ℕ → ℕ → Type 0
 Multiple d n = (m : ℕ) × (n ≡ d * m)
 
-sum_multiple : (d : ℕ) (hung : List ℕ) (squares : List Square) (v : ℕ) → AllByRecursion (λ q. Multiple d q.s) squares → Multiple d (out_sum hung (laid_sides squares) v)
+sum_multiple : (d : ℕ) (hung : List ℕ) (squares : List Square) (v : ℕ) → AllByRecursion (λ q. Multiple d q.s) squares
+    → Multiple d (out_sum hung (laid_sides squares) v)
 sum_multiple d [] squares v all = (0, omega arith)
 sum_multiple d (h ∷ hung) [] v all = (0, omega arith)
-sum_multiple d (h ∷ hung) (q ∷ squares) v all = let rest = sum_multiple d hung squares v all.1 in let m = all.0 in (cond (nat_eq h v) m.0 0 + rest.0, omega (arith, rest.1, one (nat_eq h v) m.0 m.1))
+sum_multiple d (h ∷ hung) (q ∷ squares) v all = let rest = sum_multiple d hung squares v all.1 in let m = all.0 in
+    (cond (nat_eq h v) m.0 0 + rest.0, omega (arith, rest.1, one (nat_eq h v) m.0 m.1))
   where
     one : (b : Bool) (m : ℕ) → q.s ≡ d * m → cond b q.s 0 ≡ d * cond b m 0
     one true m e = e
@@ -150,8 +188,10 @@ sum_multiple d (h ∷ hung) (q ∷ squares) v all = let rest = sum_multiple d hu
 divides : (d n : ℕ) → Multiple d n → d ∣ n
 divides d n (m, e) = subst (λ (k : ℕ). d ∣ k) (mul_comm m d ∙ sym e) (dvd-mul_left d m)
 
+-- the law: the currents are the sides
 pub a_primitive_flow_is_a_primitive_tiling : APrimitiveFlowIsAPrimitiveTiling
-a_primitive_flow_is_a_primitive_tiling w f t complete flow primitive is d each = omega (arith, most, least t.squares ((is.tiling).tiles).some ((is.tiling).tiles).sides each)
+a_primitive_flow_is_a_primitive_tiling w f t complete flow primitive is d each =
+    omega (arith, most, least t.squares ((is.tiling).tiles).some ((is.tiling).tiles).sides each)
   where
     e : AtEnd t (outline_of w) is.laid is.levels
     e = at_end t w is.tiling is.word is.laid is.levels is.along
@@ -169,7 +209,8 @@ a_primitive_flow_is_a_primitive_tiling w f t complete flow primitive is d each =
 
     width_multiple : NotBegun is.laid e.nodes (outline_of w) ⊎ HasBegun t is.laid e.nodes (outline_of w) → Multiple d t.width
     width_multiple (inl n) = absurd (omega (arith, closed_count start w, complete.some, ap length n.no_list))
-    width_multiple (inr b) = let m = sum_multiple d (outline_of w).hung is.laid 0 laid_each in (m.0, sym ((e.along).out 0 b.top (ap (λ (l : List Segment). slice_get l 0) b.nodes_are) ∙ b.width) ∙ m.1)
+    width_multiple (inr b) = let m = sum_multiple d (outline_of w).hung is.laid 0 laid_each in
+        (m.0, sym ((e.along).out 0 b.top (ap (λ (l : List Segment). slice_get l 0) b.nodes_are) ∙ b.width) ∙ m.1)
 
     most : d ≤ 1
     most = primitive d (subst (λ (z : ℤ). d ∣ nat_abs z) is.width (divides d t.width (width_multiple (e.along).begun)))

@@ -32,34 +32,41 @@ use Rattle.bk_word_net.proofs.Wires.{same_or_none, wires_by}
 use Rattle.bk_word_net.specs.WordFlow.{LaidSidesAreAFlow, laid_flow}
 use Rattle.bk_word_net.specs.WordNet.{end_of, net_after}
 
-pub zip_get : {A B : Type 0} (R : A → B → Type 0) (xs : List A) (us : List B) (k : ℕ) (x : A) (d : B) → AllZip R xs us → slice_get xs k ≡ Some x → R x (slice_index_or us k d)
+-- items of two lists that go together, by places
+pub zip_get : {A B : Type 0} (R : A → B → Type 0) (xs : List A) (us : List B) (k : ℕ) (x : A) (d : B) → AllZip R xs us
+    → slice_get xs k ≡ Some x → R x (slice_index_or us k d)
 zip_get R [] us k x d z e = absurd (cc)
 zip_get R (w ∷ xs) [] k x d z e = absurd z
 zip_get R (w ∷ xs) (u ∷ us) zero x d z e = let same : w ≡ x = cc in subst (λ y. R y u) same z.0
 zip_get R (w ∷ xs) (u ∷ us) (suc k) x d z e = zip_get R xs us k x d z.1 e
 
+-- what is got at one place is one item
 pub get_one : {A : Type 0} (xs : List A) (k : ℕ) (x y : A) → slice_get xs k ≡ Some x → slice_get xs k ≡ Some y → x ≡ y
 get_one xs k x y e f = inside (sym e ∙ f)
   where
     inside : Some x ≡ Some y → x ≡ y
     inside g = cc
 
-get_mapped : (g : ℕ → ℤ) (segments : List Segment) (k : ℕ) (v : Segment) (d : ℤ) → slice_get segments k ≡ Some v → slice_index_or (map g (levels segments)) k d ≡ g v.level
+get_mapped : (g : ℕ → ℤ) (segments : List Segment) (k : ℕ) (v : Segment) (d : ℤ) → slice_get segments k ≡ Some v
+    → slice_index_or (map g (levels segments)) k d ≡ g v.level
 get_mapped g [] k v d e = absurd (cc)
 get_mapped g (u ∷ segments) zero v d e = let same : u ≡ v = cc in ap (λ (s : Segment). g s.level) same
 get_mapped g (u ∷ segments) (suc k) v d e = get_mapped g segments k v d e
 
+-- the sides as currents
 pub pos_sides : (squares : List Square) → map (λ q. pos q.s) squares ≡ map pos (laid_sides squares)
 pos_sides [] = refl
 pos_sides (q ∷ squares) = ap (λ rest. pos q.s ∷ rest) (pos_sides squares)
 
 -- currents that are what g gives for their wires
 currents_by : (laid : List Square) (hung : List ℕ) (f : ℕ → ℕ) (b : ℕ) (g : ℕ × ℕ → ℤ) → length hung ≡ length laid
-    → ((k : ℕ) (q : Square) → slice_get laid k ≡ Some q → pos q.s ≡ g (slice_index_or hung k 0, f (b + k))) → map (λ q. pos q.s) laid ≡ map g (wires_by f b hung)
+    → ((k : ℕ) (q : Square) → slice_get laid k ≡ Some q → pos q.s ≡ g (slice_index_or hung k 0, f (b + k)))
+    → map (λ q. pos q.s) laid ≡ map g (wires_by f b hung)
 currents_by [] [] f b g long each = refl
 currents_by [] (h ∷ hung) f b g long each = absurd (omega arith)
 currents_by (q ∷ laid) [] f b g long each = absurd (omega arith)
-currents_by (q ∷ laid) (h ∷ hung) f b g long each = λ i. first i ∷ currents_by laid hung f (b + 1) g (omega arith) (λ k r e. each (suc k) r e ∙ (λ j. g (slice_index_or hung k 0, f (next k j)))) i
+currents_by (q ∷ laid) (h ∷ hung) f b g long each =
+    λ i. first i ∷ currents_by laid hung f (b + 1) g (omega arith) (λ k r e. each (suc k) r e ∙ (λ j. g (slice_index_or hung k 0, f (next k j)))) i
   where
     same : b + 0 ≡ b
     same = omega arith
@@ -71,15 +78,19 @@ currents_by (q ∷ laid) (h ∷ hung) f b g long each = λ i. first i ∷ curren
     first = each 0 q refl ∙ (λ j. g (h, f (same j)))
 
 -- a number that stands in a span is that of a square that ends at its level
-in_span : (laid : List Square) (level x : ℕ) (numbers : List ℕ) (end m : ℕ) → Span laid level x numbers end → 0 < times m numbers → (q : Square) × IsNumbered laid m q × (q.y + q.s ≡ level)
+in_span : (laid : List Square) (level x : ℕ) (numbers : List ℕ) (end m : ℕ) → Span laid level x numbers end → 0 < times m numbers
+    → (q : Square) × IsNumbered laid m q × (q.y + q.s ≡ level)
 in_span laid level x [] end m span h = absurd (omega arith)
 in_span laid level x (n ∷ numbers) end m (q, at, place, bottom, rest) h = cases (same_or_none m n) (in_span laid level (x + q.s) numbers end m rest)
   where
-    cases : (n ≡ m) ⊎ ◌≡◌ {A = ℕ} (cond (nat_eq m n) 1 0) 0 → (0 < times m numbers → (q : Square) × IsNumbered laid m q × (q.y + q.s ≡ level)) → (q : Square) × IsNumbered laid m q × (q.y + q.s ≡ level)
+    cases : (n ≡ m) ⊎ ◌≡◌ {A = ℕ} (cond (nat_eq m n) 1 0) 0
+        → (0 < times m numbers → (q : Square) × IsNumbered laid m q × (q.y + q.s ≡ level)) → (q : Square) × IsNumbered laid m q × (q.y + q.s ≡ level)
     cases (inl e) more = (q, subst (λ (k : ℕ). IsNumbered laid k q) e at, bottom)
     cases (inr e) more = more (omega (arith, e))
 
-module _ (t : Tiling) (w : Word) (tiling : IsTiling t) (p : IsWordOf t w) (o : Outline) (numbered : Numbered o) (some : 0 < length o.closed) (laid : List Square) (all_levels : List ℕ) (e : AtEnd t o laid all_levels) where
+module _ (t : Tiling) (w : Word) (tiling : IsTiling t) (p : IsWordOf t w) (o : Outline) (numbered : Numbered o) (some : 0 < length o.closed)
+    (laid : List Square) (all_levels : List ℕ) (e : AtEnd t o laid all_levels) where
+  -- what the outline depicts at the end
   abbrev pub d : Depicts t laid e.nodes o
   d = (e.along).depicts
 
@@ -93,10 +104,12 @@ module _ (t : Tiling) (w : Word) (tiling : IsTiling t) (p : IsWordOf t w) (o : O
   one : (runs : List Segment) → AreRuns t.width laid 0 runs → length runs ≡ 1 → levels runs ≡ t.height ∷ []
   one [] cut h = absurd (omega arith)
   one (r ∷ u ∷ runs) cut h = absurd (omega arith)
-  one (r ∷ []) cut h = ap (λ (l : ℕ). l ∷ []) (sym ((cut.1).level r.x (omega arith) (let a = (cut.1).some in omega arith)) ∙ e.full r.x (let a = (cut.1).some in let b = (cut.1).within in omega arith))
+  one (r ∷ []) cut h = ap (λ (l : ℕ). l ∷ []) (sym ((cut.1).level r.x (omega arith) (let a = (cut.1).some in omega arith))
+      ∙ e.full r.x (let a = (cut.1).some in let b = (cut.1).within in omega arith))
 
   single : length d.runs ≡ 1
-  single = one_run t laid e.full 0 (wide_enough t tiling) d.runs d.cut (subst (λ (signs : List Sign). AllByRecursion (λ sign. parts sign ≡ true) signs) d.signs d.parted)
+  single = one_run t laid e.full 0 (wide_enough t tiling) d.runs d.cut
+      (subst (λ (signs : List Sign). AllByRecursion (λ sign. parts sign ≡ true) signs) d.signs d.parted)
 
   segments : List Segment
   segments = e.nodes ++ d.runs
@@ -107,24 +120,32 @@ module _ (t : Tiling) (w : Word) (tiling : IsTiling t) (p : IsWordOf t w) (o : O
   lists : AllZip (IsSegment laid) (e.nodes ++ d.runs) (o.closed ++ o.segments)
   lists = zip_append (IsSegment laid) e.nodes d.runs o.closed o.segments d.closed d.segments
 
+  -- the potential of a node is the height left under its level
   pub potential_at : (k : ℕ) (v : Segment) → slice_get (e.nodes ++ d.runs) k ≡ Some v → potential (laid_flow t laid all_levels) k ≡ pos t.height -ℤ pos v.level
-  potential_at k v h = ap (λ (ls : List ℕ). slice_index_or (map (λ l. pos t.height -ℤ pos l) ls) k (pos 0)) (sym level_list) ∙ get_mapped (λ l. pos t.height -ℤ pos l) (e.nodes ++ d.runs) k v (pos 0) h
+  potential_at k v h = ap (λ (ls : List ℕ). slice_index_or (map (λ l. pos t.height -ℤ pos l) ls) k (pos 0)) (sym level_list)
+      ∙ get_mapped (λ l. pos t.height -ℤ pos l) (e.nodes ++ d.runs) k v (pos 0) h
 
   place : (k : ℕ) → k < length laid → HasPlace (1 + k) (o.closed ++ o.segments) (end_of (o.closed ++ o.segments) (1 + k))
   place k h = place_of_number o numbered (1 + k) (omega arith) (omega (arith, hung_count))
 
   -- the bottom of a square is the level of the node at which it ends
-  pub end_level : (k : ℕ) (q : Square) → slice_get laid k ≡ Some q → potential (laid_flow t laid all_levels) (end_of (o.closed ++ o.segments) (1 + k)) ≡ pos t.height -ℤ pos (q.y + q.s)
-  end_level k q h = at (get_some (e.nodes ++ d.runs) (end_of (o.closed ++ o.segments) (1 + k)) (omega (arith, (place k few).below, zip_length (IsSegment laid) (e.nodes ++ d.runs) (o.closed ++ o.segments) lists)))
+  pub end_level : (k : ℕ) (q : Square) → slice_get laid k ≡ Some q
+      → potential (laid_flow t laid all_levels) (end_of (o.closed ++ o.segments) (1 + k)) ≡ pos t.height -ℤ pos (q.y + q.s)
+  end_level k q h = at (get_some (e.nodes ++ d.runs) (end_of (o.closed ++ o.segments) (1 + k))
+      (omega (arith, (place k few).below, zip_length (IsSegment laid) (e.nodes ++ d.runs) (o.closed ++ o.segments) lists)))
     where
       few : k < length laid
       few = slice_get_within laid k q h
 
-      at : (v : Segment) × (slice_get (e.nodes ++ d.runs) (end_of (o.closed ++ o.segments) (1 + k)) ≡ Some v) → potential (laid_flow t laid all_levels) (end_of (o.closed ++ o.segments) (1 + k)) ≡ pos t.height -ℤ pos (q.y + q.s)
-      at (v, f) = potential_at (end_of (o.closed ++ o.segments) (1 + k)) v f ∙ ap (λ (l : ℕ). pos t.height -ℤ pos l) (bottom (zip_get (IsSegment laid) (e.nodes ++ d.runs) (o.closed ++ o.segments) (end_of (o.closed ++ o.segments) (1 + k)) v [] lists f))
+      at : (v : Segment) × (slice_get (e.nodes ++ d.runs) (end_of (o.closed ++ o.segments) (1 + k)) ≡ Some v)
+          → potential (laid_flow t laid all_levels) (end_of (o.closed ++ o.segments) (1 + k)) ≡ pos t.height -ℤ pos (q.y + q.s)
+      at (v, f) = potential_at (end_of (o.closed ++ o.segments) (1 + k)) v f
+          ∙ ap (λ (l : ℕ). pos t.height -ℤ pos l)
+          (bottom (zip_get (IsSegment laid) (e.nodes ++ d.runs) (o.closed ++ o.segments) (end_of (o.closed ++ o.segments) (1 + k)) v [] lists f))
         where
           bottom : IsSegment laid v (slice_index_or (o.closed ++ o.segments) (end_of (o.closed ++ o.segments) (1 + k)) []) → v.level ≡ q.y + q.s
-          bottom (inl span) = found (in_span laid v.level v.x (slice_index_or (o.closed ++ o.segments) (end_of (o.closed ++ o.segments) (1 + k)) []) (v.x + v.width) (1 + k) span (place k few).here)
+          bottom (inl span) = found (in_span laid v.level v.x
+              (slice_index_or (o.closed ++ o.segments) (end_of (o.closed ++ o.segments) (1 + k)) []) (v.x + v.width) (1 + k) span (place k few).here)
             where
               found : (r : Square) × IsNumbered laid (1 + k) r × (r.y + r.s ≡ v.level) → v.level ≡ q.y + q.s
               found (r, (j, is, at), b) = sym b ∙ ap (λ (s : Square). s.y + s.s) (get_one laid k r q (subst (λ (n : ℕ). slice_get laid n ≡ Some r) same at) h)
@@ -137,16 +158,23 @@ module _ (t : Tiling) (w : Word) (tiling : IsTiling t) (p : IsWordOf t w) (o : O
   start_level k q h = at (zip_get (Hangs e.nodes) laid o.hung k q 0 d.hung h)
     where
       at : Hangs e.nodes q (slice_index_or o.hung k 0) → potential (laid_flow t laid all_levels) (slice_index_or o.hung k 0) ≡ pos t.height -ℤ pos q.y
-      at hang = potential_at (slice_index_or o.hung k 0) hang.0 (get_append e.nodes d.runs (slice_index_or o.hung k 0) hang.0 hang.1) ∙ ap (λ (l : ℕ). pos t.height -ℤ pos l) (sym hang.2)
+      at hang = potential_at (slice_index_or o.hung k 0) hang.0 (get_append e.nodes d.runs (slice_index_or o.hung k 0) hang.0 hang.1)
+          ∙ ap (λ (l : ℕ). pos t.height -ℤ pos l) (sym hang.2)
 
-  differences : map (λ q. pos q.s) laid ≡ map (λ w. potential (laid_flow t laid all_levels) w.0 -ℤ potential (laid_flow t laid all_levels) w.1) (net_after o).wires
-  differences = currents_by laid o.hung (end_of (o.closed ++ o.segments)) 1 (λ w. potential (laid_flow t laid all_levels) w.0 -ℤ potential (laid_flow t laid all_levels) w.1) hung_count
+  differences : map (λ q. pos q.s) laid ≡ map
+      (λ w. potential (laid_flow t laid all_levels) w.0 -ℤ potential (laid_flow t laid all_levels) w.1) (net_after o).wires
+  differences = currents_by laid o.hung (end_of (o.closed ++ o.segments)) 1
+      (λ w. potential (laid_flow t laid all_levels) w.0 -ℤ potential (laid_flow t laid all_levels) w.1) hung_count
       (λ k q h. omega (arith, ints, start_level k q h, end_level k q h))
 
   -- what flows in and out
-  flows : (v : ℕ) → outflow (net_after o).wires (map (λ q. pos q.s) laid) v ≡ pos (out_sum o.hung (laid_sides laid) v) -ℤ pos (weighted (laid_sides laid) 1 (slice_index_or (o.closed ++ o.segments) v []))
-  flows v = ap (λ cs. outflow (net_after o).wires cs v) (pos_sides laid) ∙ outflow_is (end_of (o.closed ++ o.segments)) 1 o.hung (laid_sides laid) v (hung_count ∙ sym (length-map laid (λ q. q.s)))
-      ∙ ap (λ (n : ℕ). pos (out_sum o.hung (laid_sides laid) v) -ℤ pos n) (in_is_weighted (end_of (o.closed ++ o.segments)) 1 (laid_sides laid) v (slice_index_or (o.closed ++ o.segments) v []) (λ k h. (place k (omega (arith, length-map laid (λ q. q.s)))).counts v))
+  flows : (v : ℕ) → outflow (net_after o).wires (map (λ q. pos q.s) laid) v
+      ≡ pos (out_sum o.hung (laid_sides laid) v) -ℤ pos (weighted (laid_sides laid) 1 (slice_index_or (o.closed ++ o.segments) v []))
+  flows v = ap (λ cs. outflow (net_after o).wires cs v) (pos_sides laid)
+      ∙ outflow_is (end_of (o.closed ++ o.segments)) 1 o.hung (laid_sides laid) v (hung_count ∙ sym (length-map laid (λ q. q.s)))
+      ∙ ap (λ (n : ℕ). pos (out_sum o.hung (laid_sides laid) v) -ℤ pos n)
+      (in_is_weighted (end_of (o.closed ++ o.segments)) 1 (laid_sides laid) v (slice_index_or (o.closed ++ o.segments) v [])
+      (λ k h. (place k (omega (arith, length-map laid (λ q. q.s)))).counts v))
 
   begun : NotBegun laid e.nodes o ⊎ HasBegun t laid e.nodes o → HasBegun t laid e.nodes o
   begun (inl n) = absurd (omega (arith, some, ap length n.no_list))
@@ -184,18 +212,23 @@ module _ (t : Tiling) (w : Word) (tiling : IsTiling t) (p : IsWordOf t w) (o : O
           sum (inr top) = absurd (omega (arith, deep, top.0))
 
           into : weighted (laid_sides laid) 1 (slice_index_or (o.closed ++ o.segments) (suc v) []) ≡ n.width
-          into = ap (weighted (laid_sides laid) 1) (get_front o.closed o.segments (suc v) [] (omega arith)) ∙ sum (zip_get (IsSegment laid) e.nodes o.closed (suc v) n [] d.closed f)
+          into = ap (weighted (laid_sides laid) 1) (get_front o.closed o.segments (suc v) [] (omega arith))
+              ∙ sum (zip_get (IsSegment laid) e.nodes o.closed (suc v) n [] d.closed f)
 
+  -- the sides are a flow of the word's net
   pub is_flow : IsFlow (net_after o) (laid_flow t laid all_levels)
   is_flow = record {
-    nodes = length-map all_levels (λ l. pos t.height -ℤ pos l) ∙ sym (ap length e.levels_are) ∙ omega (arith, length-append (levels e.nodes) (t.height ∷ []), length-map e.nodes (λ v. v.level), closed_is);
+    nodes = length-map all_levels (λ l. pos t.height -ℤ pos l) ∙ sym (ap length e.levels_are)
+        ∙ omega (arith, length-append (levels e.nodes) (t.height ∷ []), length-map e.nodes (λ v. v.level), closed_is);
     differences = differences;
     first = first;
     between = between;
   }
 
+-- the law: each node is as wide as what hangs from it, and as what ends on it
 pub laid_sides_are_a_flow : LaidSidesAreAFlow
-laid_sides_are_a_flow t w laid all_levels tiling p l = is_flow t w tiling p (outline_of w) (numbered_moves start w numbered_start) some laid all_levels (at_end t w tiling p laid all_levels l)
+laid_sides_are_a_flow t w laid all_levels tiling p l =
+    is_flow t w tiling p (outline_of w) (numbered_moves start w numbered_start) some laid all_levels (at_end t w tiling p laid all_levels l)
   where
     some : 0 < length (outline_of w).closed
     some = let complete = (tiling_word_is_complete t w tiling p).0 in let long = complete.some in omega (arith, closed_count start w)

@@ -14,7 +14,9 @@ sides_once : (squares : List Square) → map (λ q. 1 * q.s) squares ≡ map (λ
 sides_once [] = refl
 sides_once (q ∷ squares) = λ i. once q.s i ∷ sides_once squares i
 
+-- a word and its sides have one tiling
 pub laid_once : (w : Word) (given : List ℕ) (t u : Tiling) → IsLaidWith w given t → IsLaidWith w given u → t ≡ u
 laid_once w given t u a b = sym (enlarged-once t)
-    ∙ laid_sides_fix_a_tiling t u w a.laid b.laid a.levels b.levels 1 1 a.tiling b.tiling (omega arith) (omega arith) a.word b.word a.along b.along (sides_once a.laid ∙ a.sides ∙ sym b.sides ∙ sym (sides_once b.laid))
+    ∙ laid_sides_fix_a_tiling t u w a.laid b.laid a.levels b.levels 1 1 a.tiling b.tiling (omega arith) (omega arith) a.word b.word a.along
+    b.along (sides_once a.laid ∙ a.sides ∙ sym b.sides ∙ sym (sides_once b.laid))
     ∙ enlarged-once u

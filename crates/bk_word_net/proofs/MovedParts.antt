@@ -13,16 +13,20 @@ use Rattle.bk_word.specs.declared.Sign.TheVariants.{Above, Even, Under}
 use Rattle.bk_word_net.proofs.ValleyCut.{AllPart, AtValley, Beside}
 
 -- what stands before, where no sign is even, stays as it is
-joined_behind : (front : List (List ℕ)) (front_signs : List Sign) (signs : List Sign) (back : List (List ℕ)) → length front ≡ length front_signs → AllPart front_signs → joined (front_signs ++ signs) (front ++ back) ≡ front ++ joined signs back
+joined_behind : (front : List (List ℕ)) (front_signs : List Sign) (signs : List Sign) (back : List (List ℕ))
+    → length front ≡ length front_signs → AllPart front_signs → joined (front_signs ++ signs) (front ++ back) ≡ front ++ joined signs back
 joined_behind [] [] signs back many part = refl
 joined_behind [] (g ∷ front_signs) signs back many part = absurd (omega arith)
 joined_behind (s ∷ front) [] signs back many part = absurd (omega arith)
-joined_behind (s ∷ front) (Above ∷ front_signs) signs back many part = ap (λ (l : List (List ℕ)). s ∷ l) (joined_behind front front_signs signs back (omega arith) part.1)
+joined_behind (s ∷ front) (Above ∷ front_signs) signs back many part =
+    ap (λ (l : List (List ℕ)). s ∷ l) (joined_behind front front_signs signs back (omega arith) part.1)
 joined_behind (s ∷ front) (Even ∷ front_signs) signs back many part = absurd (both_ways false refl part.0)
-joined_behind (s ∷ front) (Under ∷ front_signs) signs back many part = ap (λ (l : List (List ℕ)). s ∷ l) (joined_behind front front_signs signs back (omega arith) part.1)
+joined_behind (s ∷ front) (Under ∷ front_signs) signs back many part =
+    ap (λ (l : List (List ℕ)). s ∷ l) (joined_behind front front_signs signs back (omega arith) part.1)
 
 -- so does what stands behind
-joined_alone : (signs : List Sign) (segments : List (List ℕ)) → length segments ≡ length signs → AllPart signs → (s : List ℕ) → joined signs (s ∷ segments) ≡ s ∷ segments
+joined_alone : (signs : List Sign) (segments : List (List ℕ)) → length segments ≡ length signs → AllPart signs → (s : List ℕ)
+    → joined signs (s ∷ segments) ≡ s ∷ segments
 joined_alone [] [] many part s = refl
 joined_alone [] (t ∷ segments) many part s = absurd (omega arith)
 joined_alone (g ∷ signs) [] many part s = absurd (omega arith)
@@ -45,17 +49,21 @@ joined_some (Even ∷ signs) s segments = some (joined signs segments)
     some [] = omega arith
     some (t ∷ l) = omega arith
 
-joined_before : (signs back_signs : List Sign) (segments back : List (List ℕ)) → length segments ≡ length signs + 1 → length back ≡ length back_signs → AllPart back_signs → joined (signs ++ back_signs) (segments ++ back) ≡ joined signs segments ++ back
+joined_before : (signs back_signs : List Sign) (segments back : List (List ℕ)) → length segments ≡ length signs + 1
+    → length back ≡ length back_signs → AllPart back_signs → joined (signs ++ back_signs) (segments ++ back) ≡ joined signs segments ++ back
 joined_before signs back_signs [] back many backs part = absurd (omega arith)
 joined_before [] back_signs (s ∷ []) back many backs part = joined_alone back_signs back backs part s
 joined_before [] back_signs (s ∷ t ∷ segments) back many backs part = absurd (omega arith)
 joined_before (g ∷ signs) back_signs (s ∷ []) back many backs part = absurd (omega arith)
-joined_before (Above ∷ signs) back_signs (s ∷ t ∷ segments) back many backs part = ap (λ (l : List (List ℕ)). s ∷ l) (joined_before signs back_signs (t ∷ segments) back (omega arith) backs part)
-joined_before (Under ∷ signs) back_signs (s ∷ t ∷ segments) back many backs part = ap (λ (l : List (List ℕ)). s ∷ l) (joined_before signs back_signs (t ∷ segments) back (omega arith) backs part)
+joined_before (Above ∷ signs) back_signs (s ∷ t ∷ segments) back many backs part =
+    ap (λ (l : List (List ℕ)). s ∷ l) (joined_before signs back_signs (t ∷ segments) back (omega arith) backs part)
+joined_before (Under ∷ signs) back_signs (s ∷ t ∷ segments) back many backs part =
+    ap (λ (l : List (List ℕ)). s ∷ l) (joined_before signs back_signs (t ∷ segments) back (omega arith) backs part)
 joined_before (Even ∷ signs) back_signs (s ∷ t ∷ segments) back many backs part =
     ap (before_first_list s) (joined_before signs back_signs (t ∷ segments) back (omega arith) backs part)
     ∙ before_front s (joined signs (t ∷ segments)) back (joined_some signs t segments)
 
+-- signs that all part stay
 pub filter_part : (signs : List Sign) → AllPart signs → filter parts signs ≡ signs
 filter_part [] part = refl
 filter_part (Above ∷ signs) part = ap (λ (l : List Sign). Above ∷ l) (filter_part signs part.1)
@@ -63,14 +71,17 @@ filter_part (Even ∷ signs) part = absurd (both_ways false refl part.0)
 filter_part (Under ∷ signs) part = ap (λ (l : List Sign). Under ∷ l) (filter_part signs part.1)
 
 -- how many segments and signs stand at one side of a valley: none, or one of each
-pub beside_many : (sign : Sign) (segments : List (List ℕ)) (signs : List Sign) → Beside sign segments signs → (length segments ≡ length signs) × (length segments ≤ 1)
+pub beside_many : (sign : Sign) (segments : List (List ℕ)) (signs : List Sign) → Beside sign segments signs
+    → (length segments ≡ length signs) × (length segments ≤ 1)
 beside_many sign segments signs (inl (e, f)) = (ap length e ∙ sym (ap length f), omega (arith, ap length e))
 beside_many sign segments signs (inr (s, e, f)) = (ap length e ∙ sym (ap length f), omega (arith, ap length e))
 
 module _ (o : Outline) (v : AtValley o) where
+  -- at most one segment stands just at the left of the valley, with one sign
   pub left_one : (length v.left ≡ length v.left_signs) × (length v.left ≤ 1)
   left_one = beside_many Under v.left v.left_signs v.left_beside
 
+  -- and at most one at its right
   pub right_one : (length v.right ≡ length v.right_signs) × (length v.right ≤ 1)
   right_one = beside_many Above v.right v.right_signs v.right_beside
 
@@ -78,17 +89,35 @@ module _ (o : Outline) (v : AtValley o) where
   none [] e = refl
   none (s ∷ l) e = absurd (omega arith)
 
+  -- where none is just at the left, none is further there
   pub none_before : length v.left ≡ 0 → length v.before ≡ 0
   none_before e = ap length (v.no_before (none v.left e))
 
+  -- nor at the right
   pub none_after : length v.right ≡ 0 → length v.after ≡ 0
   none_after e = ap length (v.no_after (none v.right e))
 
+  -- the segments, counted by parts
   pub many_segments : length o.segments ≡ length v.before + (length v.left + (1 + (length v.right + length v.after)))
-  many_segments = ap length v.segments ∙ omega (arith, length-append v.before (v.left ++ (v.valley ∷ (v.right ++ v.after))), length-append v.left (v.valley ∷ (v.right ++ v.after)), length-append v.right v.after)
+  many_segments = ap length v.segments ∙ omega (
+    arith,
+    length-append v.before (v.left ++ (v.valley ∷ (v.right ++ v.after))),
+    length-append v.left (v.valley ∷ (v.right ++ v.after)),
+    length-append v.right v.after,
+  )
 
+  -- and the signs
   pub many_signs : length o.signs ≡ length v.before + (length v.left + (length v.right + length v.after))
-  many_signs = ap length v.signs ∙ omega (arith, length-append v.before_signs (v.left_signs ++ (v.right_signs ++ v.after_signs)), length-append v.left_signs (v.right_signs ++ v.after_signs), length-append v.right_signs v.after_signs, left_one.0, right_one.0, v.before_many, v.after_many)
+  many_signs = ap length v.signs ∙ omega (
+    arith,
+    length-append v.before_signs (v.left_signs ++ (v.right_signs ++ v.after_signs)),
+    length-append v.left_signs (v.right_signs ++ v.after_signs),
+    length-append v.right_signs v.after_signs,
+    left_one.0,
+    right_one.0,
+    v.before_many,
+    v.after_many,
+  )
 
   -- the valley is open at a side exactly where a segment stands there
   pub left_open : open_side (has_left_wall o) ≡ length v.left
@@ -102,8 +131,10 @@ module _ (o : Outline) (v : AtValley o) where
           one : (p l : ℕ) → suc l ≤ 1 → open_side (nat_eq (suc p) 0) ≡ suc l
           one p l h = grind (arith, nat_tests)
 
+  -- the right side is open where a segment stands there
   pub right_open : open_side (has_right_wall o) ≡ length v.right
-  right_open = test (valley_place o.signs) (length o.signs) (length v.right) (omega (arith, many_signs, v.place)) right_one.1 (λ e. omega (arith, none_after e, many_signs, v.place, e))
+  right_open = test (valley_place o.signs) (length o.signs) (length v.right) (omega (arith, many_signs, v.place)) right_one.1
+      (λ e. omega (arith, none_after e, many_signs, v.place, e))
     where
       test : (p n r : ℕ) → p + r ≤ n → r ≤ 1 → (r ≡ 0 → n ≡ p) → open_side (nat_eq p n) ≡ r
       test p n zero a b f = let e : n ≡ p = f refl in same p n e
@@ -119,14 +150,19 @@ module _ (o : Outline) (v : AtValley o) where
   pub place_at : valley_place o.signs - length v.left ≡ length v.before
   place_at = omega (arith, v.place)
 
+  -- the segments before the valley, those behind it, and the valley, by the parts
   pub take_fronts : take (valley_place o.signs) o.segments ≡ v.before ++ v.left
-  take_fronts = ap (take (valley_place o.signs)) (v.segments ∙ sym (append_assoc v.before v.left (v.valley ∷ (v.right ++ v.after)))) ∙ take_at (v.before ++ v.left) (v.valley ∷ (v.right ++ v.after)) (valley_place o.signs) (length-append v.before v.left ∙ sym v.place)
+  take_fronts = ap (take (valley_place o.signs)) (v.segments ∙ sym (append_assoc v.before v.left (v.valley ∷ (v.right ++ v.after))))
+      ∙ take_at (v.before ++ v.left) (v.valley ∷ (v.right ++ v.after)) (valley_place o.signs) (length-append v.before v.left ∙ sym v.place)
 
+  -- those behind it
   pub drop_backs : drop (valley_place o.signs + 1) o.segments ≡ v.right ++ v.after
-  drop_backs = ap (drop (valley_place o.signs + 1)) (v.segments ∙ regroup) ∙ drop_at ((v.before ++ v.left) ++ (v.valley ∷ [])) (v.right ++ v.after) (valley_place o.signs + 1) long
+  drop_backs = ap (drop (valley_place o.signs + 1)) (v.segments ∙ regroup)
+      ∙ drop_at ((v.before ++ v.left) ++ (v.valley ∷ [])) (v.right ++ v.after) (valley_place o.signs + 1) long
     where
       regroup : v.before ++ (v.left ++ (v.valley ∷ (v.right ++ v.after))) ≡ ((v.before ++ v.left) ++ (v.valley ∷ [])) ++ (v.right ++ v.after)
-      regroup = sym (append_assoc v.before v.left (v.valley ∷ (v.right ++ v.after))) ∙ sym (append_assoc (v.before ++ v.left) (v.valley ∷ []) (v.right ++ v.after))
+      regroup = sym (append_assoc v.before v.left (v.valley ∷ (v.right ++ v.after)))
+          ∙ sym (append_assoc (v.before ++ v.left) (v.valley ∷ []) (v.right ++ v.after))
 
       long : length ((v.before ++ v.left) ++ (v.valley ∷ [])) ≡ valley_place o.signs + 1
       long = omega (arith, length-append (v.before ++ v.left) (v.valley ∷ []), length-append v.before v.left, v.place)
@@ -137,11 +173,16 @@ module _ (o : Outline) (v : AtValley o) where
   index_at (t ∷ front) s back zero e = absurd (omega arith)
   index_at (t ∷ front) s back (suc n) e = index_at front s back n (omega arith)
 
+  -- the valley
   pub valley_is : valley_of o ≡ v.valley
-  valley_is = ap (λ (l : List (List ℕ)). slice_index_or l (valley_place o.signs) []) (v.segments ∙ sym (append_assoc v.before v.left (v.valley ∷ (v.right ++ v.after)))) ∙ index_at (v.before ++ v.left) v.valley (v.right ++ v.after) (valley_place o.signs) (length-append v.before v.left ∙ sym v.place)
+  valley_is = ap (λ (l : List (List ℕ)). slice_index_or l (valley_place o.signs) [])
+      (v.segments ∙ sym (append_assoc v.before v.left (v.valley ∷ (v.right ++ v.after))))
+      ∙ index_at (v.before ++ v.left) v.valley (v.right ++ v.after) (valley_place o.signs) (length-append v.before v.left ∙ sym v.place)
 
+  -- the signs that a move keeps before it
   pub take_signs : take (valley_place o.signs - 1) o.signs ≡ v.before_signs
-  take_signs = ap (take (valley_place o.signs - 1)) v.signs ∙ take_at v.before_signs (v.left_signs ++ (v.right_signs ++ v.after_signs)) (valley_place o.signs - 1) (cases (two (length v.left) left_one.1))
+  take_signs = ap (take (valley_place o.signs - 1)) v.signs
+      ∙ take_at v.before_signs (v.left_signs ++ (v.right_signs ++ v.after_signs)) (valley_place o.signs - 1) (cases (two (length v.left) left_one.1))
     where
       two : (l : ℕ) → l ≤ 1 → (l ≡ 0) ⊎ (l ≡ 1)
       two l h = grind arith
@@ -150,6 +191,7 @@ module _ (o : Outline) (v : AtValley o) where
       cases (inl e) = omega (arith, v.before_many, v.place, e, none_before e)
       cases (inr e) = omega (arith, v.before_many, v.place, e)
 
+  -- and behind it
   pub drop_signs : drop (valley_place o.signs + 1) o.signs ≡ v.after_signs
   drop_signs = cases v.right_beside
     where
@@ -164,14 +206,19 @@ module _ (o : Outline) (v : AtValley o) where
       no_signs (g ∷ l) e = absurd (omega arith)
 
       cases : Beside Above v.right v.right_signs → drop (valley_place o.signs + 1) o.signs ≡ v.after_signs
-      cases (inl (e, f)) = beyond (valley_place o.signs + 1) o.signs (omega (arith, many_signs, v.place, ap length e, none_after (ap length e))) ∙ sym (no_signs v.after_signs (omega (arith, v.after_many, none_after (ap length e))))
+      cases (inl (e, f)) = beyond (valley_place o.signs + 1) o.signs
+          (omega (arith, many_signs, v.place, ap length e, none_after (ap length e)))
+          ∙ sym (no_signs v.after_signs (omega (arith, v.after_many, none_after (ap length e))))
         where
           beyond : (n : ℕ) (l : List Sign) → length l ≤ n → drop n l ≡ []
           beyond zero [] h = refl
           beyond zero (g ∷ l) h = absurd (omega arith)
           beyond (suc n) [] h = refl
           beyond (suc n) (g ∷ l) h = beyond n l (omega arith)
-      cases (inr (s, e, f)) = ap (drop (valley_place o.signs + 1)) (whole ∙ sym (append_assoc (v.before_signs ++ v.left_signs) v.right_signs v.after_signs)) ∙ drop_at ((v.before_signs ++ v.left_signs) ++ v.right_signs) v.after_signs (valley_place o.signs + 1) (omega (arith, length-append (v.before_signs ++ v.left_signs) v.right_signs, front, ap length f))
+      cases (inr (s, e, f)) = ap (drop (valley_place o.signs + 1))
+          (whole ∙ sym (append_assoc (v.before_signs ++ v.left_signs) v.right_signs v.after_signs))
+          ∙ drop_at ((v.before_signs ++ v.left_signs) ++ v.right_signs) v.after_signs (valley_place o.signs + 1)
+          (omega (arith, length-append (v.before_signs ++ v.left_signs) v.right_signs, front, ap length f))
 
 -- the outline after a legal move: the valley and the segments beside it give way
 module _ (o : Outline) (v : AtValley o) (m : Move) (legal : IsLegalMove o m) where
@@ -179,6 +226,7 @@ module _ (o : Outline) (v : AtValley o) (m : Move) (legal : IsLegalMove o m) whe
   abbrev pub hung_between : List (List ℕ)
   hung_between = v.left ++ (map (λ q. q ∷ []) (new_squares o m) ++ v.right)
 
+  -- a legal move has a sign between each two segments that it touches or makes
   pub many_between : length (v.left ++ (map (λ q. q ∷ []) (new_squares o m) ++ v.right)) ≡ length m.signs + 1
   many_between = omega (
     arith,
@@ -191,6 +239,7 @@ module _ (o : Outline) (v : AtValley o) (m : Move) (legal : IsLegalMove o m) whe
     numbers-length (length o.hung + 1) m.count,
   )
 
+  -- the segments just after a move, before the even ones are joined
   pub apart_segments : segments_apart o m ≡ v.before ++ ((v.left ++ (map (λ q. q ∷ []) (new_squares o m) ++ v.right)) ++ v.after)
   apart_segments = (λ i. take_fronts o v i ++ map (λ q. q ∷ []) (new_squares o m) ++ drop_backs o v i)
       ∙ regroup v.before v.left (map (λ q. q ∷ []) (new_squares o m)) v.right v.after
@@ -198,14 +247,19 @@ module _ (o : Outline) (v : AtValley o) (m : Move) (legal : IsLegalMove o m) whe
       regroup : (a b c d e : List (List ℕ)) → a ++ b ++ c ++ (d ++ e) ≡ a ++ ((b ++ (c ++ d)) ++ e)
       regroup a b c d e = simp append_assoc
 
+  -- and their signs
   pub apart_signs : signs_apart o m ≡ v.before_signs ++ (m.signs ++ v.after_signs)
   apart_signs = (λ i. take_signs o v i ++ m.signs ++ drop_signs o v i) ∙ append_assoc v.before_signs m.signs v.after_signs
 
+  -- the segments after it: only those that it touched are joined
   pub segments_after : (after_move o m).segments ≡ v.before ++ (joined m.signs (v.left ++ (map (λ q. q ∷ []) (new_squares o m) ++ v.right)) ++ v.after)
   segments_after = (λ i. joined (apart_signs i) (apart_segments i))
-      ∙ joined_behind v.before v.before_signs (m.signs ++ v.after_signs) ((v.left ++ (map (λ q. q ∷ []) (new_squares o m) ++ v.right)) ++ v.after) v.before_many v.before_part
-      ∙ ap (λ (l : List (List ℕ)). v.before ++ l) (joined_before m.signs v.after_signs (v.left ++ (map (λ q. q ∷ []) (new_squares o m) ++ v.right)) v.after many_between v.after_many v.after_part)
+      ∙ joined_behind v.before v.before_signs (m.signs ++ v.after_signs)
+      ((v.left ++ (map (λ q. q ∷ []) (new_squares o m) ++ v.right)) ++ v.after) v.before_many v.before_part
+      ∙ ap (λ (l : List (List ℕ)). v.before ++ l)
+      (joined_before m.signs v.after_signs (v.left ++ (map (λ q. q ∷ []) (new_squares o m) ++ v.right)) v.after many_between v.after_many v.after_part)
 
+  -- and the signs: only its own even ones go
   pub signs_after : (after_move o m).signs ≡ v.before_signs ++ (filter parts m.signs ++ v.after_signs)
   signs_after = ap (filter parts) apart_signs
       ∙ filter-append parts v.before_signs (m.signs ++ v.after_signs)

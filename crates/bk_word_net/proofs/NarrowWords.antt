@@ -14,6 +14,7 @@ none_large currents all (k, c, within, at, large) = absurd (omega (arith, subst 
 rest_small : (n : ℤ) (ns : List ℤ) → All (λ n. nat_abs n ≤ 2 ^ 34) (n ∷ ns) → All (λ n. nat_abs n ≤ 2 ^ 34) ns
 rest_small n ns all = λ k d within. all (suc k) d (omega arith)
 
+-- the law: its net is small and has no loose node
 pub no_small_word_is_wide : NoSmallWordIsWide
 no_small_word_is_wide w complete few wide = cases wide
   where
@@ -22,4 +23,7 @@ no_small_word_is_wide w complete few wide = cases wide
 
     cases : IsWideWord w → ⊥
     cases (inl h) = no_small_net_is_wide (net_of_word w) (a_word_net_has_no_loose w complete).0 (a_word_net_has_no_loose w complete).1 wires_few h
-    cases (inr (total, currents, flow, large)) = none_large currents (rest_small total currents (small_nets_have_small_flows (net_of_word w) total currents (a_word_net_has_no_loose w complete).0 (a_word_net_has_no_loose w complete).1 wires_few flow)) large
+    cases (inr (total, currents, flow, large)) =
+        none_large currents (rest_small total currents
+        (small_nets_have_small_flows (net_of_word w) total currents (a_word_net_has_no_loose w complete).0
+        (a_word_net_has_no_loose w complete).1 wires_few flow)) large

@@ -25,13 +25,21 @@ pub record Played (o : Outline) : Type 0 where
   pub descends : (j m : ℕ) → j < length o.closed → 0 < times m (slice_index_or o.closed j []) → slice_index_or o.hung (m - 1) 0 < j
   pub used : (j : ℕ) → j < length o.closed → 0 < times j o.hung
 
+-- the start is played
 pub played_start : Played start
-played_start = record { numbered = numbered_start; below = λ k h. absurd (omega arith); descends = λ j m h k. absurd (omega arith); used = λ j h. absurd (omega arith) }
+played_start = record {
+  numbered = numbered_start;
+  below = λ k h. absurd (omega arith);
+  descends = λ j m h k. absurd (omega arith);
+  used =
+      λ j h. absurd (omega arith);
+}
 
 -- the numbers that stand in the lists are those of squares
 pub hung_number : (o : Outline) → Numbered o → (m : ℕ) → 0 < times_in m (o.closed ++ o.segments) → (1 ≤ m) × (m ≤ length o.hung)
 hung_number o numbered m h = let r = times_some m 1 (length o.hung) (omega (arith, numbered m)) in (r.0, omega (arith, r.1))
 
+-- and stays so by a move of some squares
 pub played_move : (o : Outline) (n : Move) → 0 < n.count → Played o → Played (after_move o n)
 played_move o n some p = record {
   numbered = numbered_move o n p.numbered;
@@ -49,16 +57,28 @@ played_move o n some p = record {
     long : length (o.hung ++ replicate n.count (length o.closed)) ≡ length o.hung + n.count
     long = omega (arith, length-append o.hung (replicate n.count (length o.closed)), length-replicate n.count (length o.closed))
 
-    below : (k : ℕ) → (k < length o.hung) ⊎ (length o.hung ≤ k) → k < length (o.hung ++ replicate n.count (length o.closed)) → slice_index_or (o.hung ++ replicate n.count (length o.closed)) k 0 < length (o.closed ++ valley_of o ∷ [])
+    below : (k : ℕ) → (k < length o.hung) ⊎ (length o.hung ≤ k) → k < length (o.hung ++ replicate n.count (length o.closed))
+        → slice_index_or (o.hung ++ replicate n.count (length o.closed)) k 0 < length (o.closed ++ valley_of o ∷ [])
     below k (inl a) h = omega (arith, get_front o.hung (replicate n.count (length o.closed)) k 0 a, p.below k a, more)
-    below k (inr a) h = omega (arith, get_back o.hung (replicate n.count (length o.closed)) (k - length o.hung) k 0 (omega arith), get_replicate n.count (length o.closed) (k - length o.hung) 0 (omega (arith, long)), more)
+    below k (inr a) h = omega (
+      arith,
+      get_back o.hung (replicate n.count (length o.closed)) (k - length o.hung) k 0 (omega arith),
+      get_replicate n.count (length o.closed) (k - length o.hung) 0 (omega (arith, long)),
+      more,
+    )
 
     -- the number of a square that was hung before keeps its node
     keeps : (m : ℕ) → (1 ≤ m) × (m ≤ length o.hung) → slice_index_or (o.hung ++ replicate n.count (length o.closed)) (m - 1) 0 ≡ slice_index_or o.hung (m - 1) 0
     keeps m h = get_front o.hung (replicate n.count (length o.closed)) (m - 1) 0 (omega (arith, h.0, h.1))
 
-    descends : (j m : ℕ) → (j < length o.closed) ⊎ (length o.closed ≤ j) → j < length (o.closed ++ valley_of o ∷ []) → 0 < times m (slice_index_or (o.closed ++ valley_of o ∷ []) j []) → slice_index_or (o.hung ++ replicate n.count (length o.closed)) (m - 1) 0 < j
-    descends j m (inl a) h k = omega (arith, keeps m (hung_number o p.numbered m (omega (arith, old, times_at m j o.closed, times_in-append m o.closed o.segments))), p.descends j m a old)
+    descends : (j m : ℕ) → (j < length o.closed) ⊎ (length o.closed ≤ j) → j < length (o.closed ++ valley_of o ∷ [])
+        → 0 < times m (slice_index_or (o.closed ++ valley_of o ∷ []) j []) → slice_index_or (o.hung ++ replicate n.count (length o.closed)) (m - 1) 0 < j
+    descends j m (inl a) h k = omega (
+      arith,
+      keeps m
+          (hung_number o p.numbered m (omega (arith, old, times_at m j o.closed, times_in-append m o.closed o.segments))),
+      p.descends j m a old,
+    )
       where
         old : 0 < times m (slice_index_or o.closed j [])
         old = subst (λ (numbers : List ℕ). 0 < times m numbers) (get_front o.closed (valley_of o ∷ []) j [] a) k
@@ -70,7 +90,8 @@ played_move o n some p = record {
         is : (1 ≤ m) × (m ≤ length o.hung)
         is = hung_number o p.numbered m (omega (arith, new, times_at m (valley_place o.signs) o.segments, times_in-append m o.closed o.segments))
 
-    used : (j : ℕ) → (j < length o.closed) ⊎ (length o.closed ≤ j) → j < length (o.closed ++ valley_of o ∷ []) → 0 < times j o.hung + times j (replicate n.count (length o.closed))
+    used : (j : ℕ) → (j < length o.closed) ⊎ (length o.closed ≤ j) → j < length (o.closed ++ valley_of o ∷ [])
+        → 0 < times j o.hung + times j (replicate n.count (length o.closed))
     used j (inl a) h = omega (arith, p.used j a)
     used j (inr a) h = omega (arith, at, times_replicate n.count (length o.closed), some)
       where
@@ -80,6 +101,7 @@ played_move o n some p = record {
         at : times j (replicate n.count (length o.closed)) ≡ times (length o.closed) (replicate n.count (length o.closed))
         at = λ i. times (same i) (replicate n.count (length o.closed))
 
+-- and by moves
 pub played_moves : (o : Outline) (w : Word) → AreLegalFrom o w → Played o → Played (after_moves o w)
 played_moves o [] legal p = p
 played_moves o (m ∷ w) legal p = played_moves (after_move o m) w legal.1 (played_move o m (legal.0).some p)
@@ -91,18 +113,23 @@ module _ (o : Outline) (p : Played o) (one : length o.segments ≡ 1) where
   place : (k : ℕ) → k < length o.hung → HasPlace (1 + k) (o.closed ++ o.segments) (end_of (o.closed ++ o.segments) (1 + k))
   place k h = place_of_number o p.numbered (1 + k) (omega arith) (omega arith)
 
+  -- at the end each square ends at a node
   pub end_is_node : (k : ℕ) → k < length o.hung → end_of (o.closed ++ o.segments) (1 + k) < length o.closed + 1
   end_is_node k h = let b = (place k h).below in omega (arith, length-append o.closed o.segments, one)
 
+  -- later than the one from which it hangs
   pub end_is_later : (k : ℕ) → k < length o.hung → slice_index_or o.hung k 0 < end_of (o.closed ++ o.segments) (1 + k)
   end_is_later k h = cases (cases_lt (end_of (o.closed ++ o.segments) (1 + k)) (length o.closed))
     where
       back : (1 + k) - 1 ≡ k
       back = omega arith
 
-      cases : (end_of (o.closed ++ o.segments) (1 + k) < length o.closed) ⊎ (length o.closed ≤ end_of (o.closed ++ o.segments) (1 + k)) → slice_index_or o.hung k 0 < end_of (o.closed ++ o.segments) (1 + k)
-      cases (inl a) = subst (λ (n : ℕ). slice_index_or o.hung n 0 < end_of (o.closed ++ o.segments) (1 + k)) back (p.descends (end_of (o.closed ++ o.segments) (1 + k)) (1 + k) a
-          (subst (λ (numbers : List ℕ). 0 < times (1 + k) numbers) (get_front o.closed o.segments (end_of (o.closed ++ o.segments) (1 + k)) [] a) (place k h).here))
+      cases : (end_of (o.closed ++ o.segments) (1 + k) < length o.closed) ⊎ (length o.closed ≤ end_of (o.closed ++ o.segments) (1 + k))
+          → slice_index_or o.hung k 0 < end_of (o.closed ++ o.segments) (1 + k)
+      cases (inl a) = subst (λ (n : ℕ). slice_index_or o.hung n 0 < end_of (o.closed ++ o.segments) (1 + k)) back
+          (p.descends (end_of (o.closed ++ o.segments) (1 + k)) (1 + k) a
+          (subst (λ (numbers : List ℕ). 0 < times (1 + k) numbers)
+          (get_front o.closed o.segments (end_of (o.closed ++ o.segments) (1 + k)) [] a) (place k h).here))
       cases (inr a) = omega (arith, p.below k h)
 
   abbrev IsWire : ℕ × ℕ → Type 0
@@ -118,7 +145,12 @@ module _ (o : Outline) (p : Played o) (one : length o.segments ≡ 1) where
     end_of (o.closed ++ o.segments) (1 + k.0),
     omega (arith, end_is_later k.0 k.1, k.2),
     end_is_node k.0 k.1,
-    (k.0, omega (arith, k.1, wires_length (end_of (o.closed ++ o.segments)) 1 o.hung), wires_by-at (end_of (o.closed ++ o.segments)) 1 o.hung k.0 (v, end_of (o.closed ++ o.segments) (1 + k.0)) k.1 ∙ (λ i. (k.2 i, end_of (o.closed ++ o.segments) (1 + k.0)))),
+    (
+      k.0,
+      omega (arith, k.1, wires_length (end_of (o.closed ++ o.segments)) 1 o.hung),
+      wires_by-at (end_of (o.closed ++ o.segments)) 1 o.hung k.0 (v, end_of (o.closed ++ o.segments) (1 + k.0)) k.1
+          ∙ (λ i. (k.2 i, end_of (o.closed ++ o.segments) (1 + k.0))),
+    ),
   )
     where
       k : (k : ℕ) × (k < length o.hung) × (slice_index_or o.hung k 0 ≡ v)
@@ -134,31 +166,40 @@ module _ (o : Outline) (p : Played o) (one : length o.segments ≡ 1) where
       two : (a b : ℕ) → a ≤ b → (a ≡ b) ⊎ (a < b)
       two a b h = grind arith
 
-      cases : (v ≡ length o.closed) ⊎ (v < length o.closed) → ((v : ℕ) → v ≤ length o.closed → length o.closed ≤ v + fuel → IsJoined (net_after o).wires v (length o.closed)) → IsJoined (net_after o).wires v (length o.closed)
+      cases : (v ≡ length o.closed) ⊎ (v < length o.closed)
+          → ((v : ℕ) → v ≤ length o.closed → length o.closed ≤ v + fuel → IsJoined (net_after o).wires v (length o.closed))
+          → IsJoined (net_after o).wires v (length o.closed)
       cases (inl e) rest = subst (λ (u : ℕ). IsJoined (net_after o).wires v u) e here
       cases (inr h) rest = let w = onwards v h in along w.3 (rest w.0 (omega (arith, w.2)) (omega (arith, w.1)))
 
+  -- so no node is loose
   pub no_loose : HasNoLoose (net_after o)
   no_loose v h = subst (λ (u : ℕ). IsJoined (net_after o).wires v u) last (joined_to_last (length o.closed) v (omega arith) (omega arith))
     where
       last : length o.closed ≡ length o.closed + 1 - 1
       last = omega arith
 
+  -- and it is a net
   pub is_net : 0 < length o.closed → IsNet (net_after o)
   is_net some = record { some = omega arith; ends = All-from_recursion _ (net_after o).wires wires }
 
+-- each move closes one node
 pub closed_count : (o : Outline) (w : Word) → length (after_moves o w).closed ≡ length o.closed + length w
 closed_count o [] = omega arith
 closed_count o (m ∷ w) = omega (arith, closed_count (after_move o m) w, length-append o.closed (valley_of o ∷ []))
 
+-- a complete word is played
 pub played_word : (w : Word) → IsComplete w → Played (outline_of w)
 played_word w complete = played_moves start w complete.legal played_start
 
+-- the law: from each node wires lead on to the last one
 pub a_word_net_has_no_loose : AWordNetHasNoLoose
 a_word_net_has_no_loose w complete = (
   is_net (outline_of w) (played_word w complete) complete.one (let some = complete.some in omega (arith, closed_count start w)),
   no_loose (outline_of w) (played_word w complete) complete.one,
 )
 
+-- the law: a net without a loose node has one flow
 pub a_word_has_one_flow : AWordHasOneFlow
-a_word_has_one_flow w f complete flow positive = let net = a_word_net_has_no_loose w complete in one_flow (net_of_word w) (ends_from_net (net_of_word w) net.0) net.1 f flow positive
+a_word_has_one_flow w f complete flow positive = let net = a_word_net_has_no_loose w complete in
+    one_flow (net_of_word w) (ends_from_net (net_of_word w) net.0) net.1 f flow positive

@@ -34,6 +34,7 @@ numbered_square laid n q (k, is, at) = (λ i. slice_index_or laid (place i) (rec
     value (r ∷ laid) zero q e = cc
     value (r ∷ laid) (suc k) q e = value laid k q e
 
+-- the bottom of a numbered square
 pub numbered_bottom : (laid : List Square) (n : ℕ) (q : Square) → IsNumbered laid n q → bottom_at laid n ≡ q.y + q.s
 numbered_bottom laid n q h = ap (λ (r : Square). r.y + r.s) (numbered_square laid n q h)
 
@@ -46,7 +47,8 @@ record SpanLast (laid : List Square) (level : ℕ) (numbers : List ℕ) : Type 0
 
 span_last : (laid : List Square) (level x n : ℕ) (numbers : List ℕ) (end : ℕ) → Span laid level x (n ∷ numbers) end → SpanLast laid level (n ∷ numbers)
 span_last laid level x n [] end s = record { front = []; last = n; is = refl; bottom = numbered_bottom laid n s.0 s.1 ∙ s.3 }
-span_last laid level x n (p ∷ numbers) end s = let r = span_last laid level (x + (s.0).s) p numbers end s.4 in record { front = n ∷ r.front; last = r.last; is = ap (λ (ns : List ℕ). n ∷ ns) r.is; bottom = r.bottom }
+span_last laid level x n (p ∷ numbers) end s = let r = span_last laid level (x + (s.0).s) p numbers end s.4 in
+    record { front = n ∷ r.front; last = r.last; is = ap (λ (ns : List ℕ). n ∷ ns) r.is; bottom = r.bottom }
 
 span_some : (laid : List Square) (level x : ℕ) (numbers : List ℕ) (end : ℕ) → x < end → Span laid level x numbers end → SpanLast laid level numbers
 span_some laid level x [] end h s = absurd (omega (arith, s))
@@ -64,28 +66,35 @@ zip_last R [] x [] z = absurd z
 zip_last R [] x (u ∷ []) z = record { front = []; last = u; is = refl; here = z.0 }
 zip_last R [] x (u ∷ w ∷ us) z = absurd z.1
 zip_last R (y ∷ xs) x [] z = absurd z
-zip_last R (y ∷ xs) x (u ∷ us) z = let r = zip_last R xs x us z.1 in record { front = u ∷ r.front; last = r.last; is = ap (λ (l : List (List ℕ)). u ∷ l) r.is; here = r.here }
+zip_last R (y ∷ xs) x (u ∷ us) z = let r = zip_last R xs x us z.1 in
+    record { front = u ∷ r.front; last = r.last; is = ap (λ (l : List (List ℕ)). u ∷ l) r.is; here = r.here }
 
 -- a segment that lies below the top is a span
-pub segment_span : (width : ℕ) (laid : List Square) → ((c : ℕ) → c < width → 0 < depth laid c) → (r : Segment) (numbers : List ℕ) → IsLevel width laid r → IsSegment laid r numbers → Span laid r.level r.x numbers (r.x + r.width)
+pub segment_span : (width : ℕ) (laid : List Square) → ((c : ℕ) → c < width → 0 < depth laid c) → (r : Segment) (numbers : List ℕ)
+    → IsLevel width laid r → IsSegment laid r numbers → Span laid r.level r.x numbers (r.x + r.width)
 segment_span width laid deep r numbers flat (inl span) = span
-segment_span width laid deep r numbers flat (inr top) = let some = flat.some in let within = flat.within in absurd (omega (arith, deep r.x (omega arith), flat.level r.x (omega arith) (omega arith), top.0))
+segment_span width laid deep r numbers flat (inr top) = let some = flat.some in let within = flat.within in
+    absurd (omega (arith, deep r.x (omega arith), flat.level r.x (omega arith) (omega arith), top.0))
 
 -- what is seen at the left and at the right of the valley
 pub record SeesLeft (laid : List Square) (front depths : List ℕ) : Type 0 where
   pub shape : ((front ≡ []) × (depths ≡ [])) ⊎ ((ns : List ℕ) × ((n : ℕ) × ((front ≡ ns ++ n ∷ []) × (depths ≡ bottom_at laid n ∷ []))))
 
+-- what is seen at the right of the valley: no square at the wall, else a first one, with its bottom
 pub record SeesRight (laid : List Square) (back depths : List ℕ) : Type 0 where
   pub shape : ((back ≡ []) × (depths ≡ [])) ⊎ ((n : ℕ) × ((ns : List ℕ) × ((back ≡ n ∷ ns) × (depths ≡ bottom_at laid n ∷ []))))
 
+-- the open squares, as those before, in and behind the valley
 pub open_parts : (o : Outline) → concat o.segments ≡ front_of o ++ (valley_of o ++ back_of o)
 open_parts o = concat-cut (valley_place o.signs) o.segments
 
+-- after a move the new ones stand in the valley's place
 pub open_after : (o : Outline) (m : Move) → concat (after_move o m).segments ≡ (front_of o ++ new_squares o m) ++ back_of o
 open_after o m = concat-joined (signs_apart o m) (segments_apart o m)
     ∙ concat-append (take (valley_place o.signs) o.segments ++ map (λ q. q ∷ []) (new_squares o m)) (drop (valley_place o.signs + 1) o.segments)
     ∙ (λ i. (concat-append (take (valley_place o.signs) o.segments) (map (λ q. q ∷ []) (new_squares o m)) i) ++ concat (drop (same i) o.segments))
-    ∙ ap (λ (ns : List ℕ). (concat (take (valley_place o.signs) o.segments) ++ ns) ++ concat (drop (suc (valley_place o.signs)) o.segments)) (concat-singles (new_squares o m))
+    ∙ ap (λ (ns : List ℕ). (concat (take (valley_place o.signs) o.segments) ++ ns) ++ concat (drop (suc (valley_place o.signs)) o.segments))
+    (concat-singles (new_squares o m))
   where
     same : valley_place o.signs + 1 ≡ suc (valley_place o.signs)
     same = omega arith
@@ -98,11 +107,14 @@ pub record Sees (width : ℕ) (laid : List Square) (o : Outline) : Type 0 where
   pub left : SeesLeft laid (front_of o) (depth_before laid valley.x)
   pub right : SeesRight laid (back_of o) (depth_from width laid (valley.x + valley.width))
   pub empty : valley_of o ≡ [] → (front_of o ≡ []) × (back_of o ≡ [])
-  pub signs : (m : Move) → IsLegalMove o m → length m.signs + 1 ≡ length (depth_before laid valley.x) + m.count + length (depth_from width laid (valley.x + valley.width))
+  pub signs : (m : Move) → IsLegalMove o m → length m.signs + 1
+      ≡ length (depth_before laid valley.x) + m.count + length (depth_from width laid (valley.x + valley.width))
 
-module _ (width : ℕ) (laid : List Square) (o : Outline) (s : ShowsLaid width laid o) (before : List Segment) (v : Segment) (after : List Segment) (is : s.runs ≡ before ++ v ∷ after)
+module _ (width : ℕ) (laid : List Square) (o : Outline) (s : ShowsLaid width laid o) (before : List Segment) (v : Segment)
+    (after : List Segment) (is : s.runs ≡ before ++ v ∷ after)
     (found : IsLeftmostValley width laid v) (number : valley_place o.signs ≡ length before)
-    (left : ((before ≡ []) × (v.x ≡ 0)) ⊎ HasLast laid v.x before) (right : ((after ≡ []) × (v.x + v.width ≡ width)) ⊎ HasFirst width laid (v.x + v.width) after) where
+    (left : ((before ≡ []) × (v.x ≡ 0)) ⊎ HasLast laid v.x before) (right : ((after ≡ []) × (v.x + v.width ≡ width))
+    ⊎ HasFirst width laid (v.x + v.width) after) where
   zipped : AllZip (IsSegment laid) (before ++ v ∷ after) o.segments
   zipped = subst (λ (runs : List Segment). AllZip (IsSegment laid) runs o.segments) is s.segments
 
@@ -120,8 +132,10 @@ module _ (width : ℕ) (laid : List Square) (o : Outline) (s : ShowsLaid width l
           ∙ left_count (levels before) (depth_before laid v.x) (last_is width laid o s before v after is found number left right)
 
       b : open_side (has_right_wall o) ≡ length (depth_from width laid (v.x + v.width))
-      b = ap (λ (signs : List Sign). open_side (nat_eq (valley_place o.signs) (length signs))) (level_signs width laid o s before v after is found number left right)
-          ∙ right_count (valley_place o.signs) (levels before) v.level (levels after) (depth_from width laid (v.x + v.width)) (first_is width laid o s before v after is found number left right)
+      b = ap (λ (signs : List Sign). open_side (nat_eq (valley_place o.signs) (length signs)))
+          (level_signs width laid o s before v after is found number left right)
+          ∙ right_count (valley_place o.signs) (levels before) v.level (levels after) (depth_from width laid (v.x + v.width))
+          (first_is width laid o s before v after is found number left right)
           (number_levels width laid o s before v after is found number left right)
 
   -- where nothing is laid
@@ -161,13 +175,15 @@ module _ (width : ℕ) (laid : List Square) (o : Outline) (s : ShowsLaid width l
   }
     where
       own : Span laid v.level v.x (valley_of o) (v.x + v.width)
-      own = segment_span width laid deep v (valley_of o) flat (subst (λ (n : ℕ). IsSegment laid v (slice_index_or o.segments n [])) (sym number) (zip_at (IsSegment laid) before v after o.segments [] zipped))
+      own = segment_span width laid deep v (valley_of o) flat
+          (subst (λ (n : ℕ). IsSegment laid v (slice_index_or o.segments n [])) (sym number) (zip_at (IsSegment laid) before v after o.segments [] zipped))
 
       fronts : AllZip (IsSegment laid) before (take (valley_place o.signs) o.segments)
       fronts = subst (λ (n : ℕ). AllZip (IsSegment laid) before (take n o.segments)) (sym number) (zip_before (IsSegment laid) before v after o.segments zipped)
 
       backs : AllZip (IsSegment laid) after (drop (suc (valley_place o.signs)) o.segments)
-      backs = subst (λ (n : ℕ). AllZip (IsSegment laid) after (drop (suc n) o.segments)) (sym number) (zip_after (IsSegment laid) before v after o.segments zipped)
+      backs = subst (λ (n : ℕ). AllZip (IsSegment laid) after (drop (suc n) o.segments)) (sym number)
+          (zip_after (IsSegment laid) before v after o.segments zipped)
 
       none_left : (us : List (List ℕ)) → AllZip (IsSegment laid) before us → before ≡ [] → concat us ≡ []
       none_left [] z e = refl
@@ -177,43 +193,66 @@ module _ (width : ℕ) (laid : List Square) (o : Outline) (s : ShowsLaid width l
       none_right [] z e = refl
       none_right (u ∷ us) z e = absurd (subst (λ (l : List Segment). AllZip (IsSegment laid) l (u ∷ us)) e z)
 
-      at_left : ((before ≡ []) × (v.x ≡ 0)) ⊎ HasLast laid v.x before → ((front_of o ≡ []) × (depth_before laid v.x ≡ [])) ⊎ ((ns : List ℕ) × ((n : ℕ) × ((front_of o ≡ ns ++ n ∷ []) × (depth_before laid v.x ≡ bottom_at laid n ∷ []))))
+      at_left : ((before ≡ []) × (v.x ≡ 0)) ⊎ HasLast laid v.x before → ((front_of o ≡ []) × (depth_before laid v.x ≡ []))
+          ⊎ ((ns : List ℕ) × ((n : ℕ) × ((front_of o ≡ ns ++ n ∷ []) × (depth_before laid v.x ≡ bottom_at laid n ∷ []))))
       at_left (inl (none, at)) = inl (none_left (take (valley_place o.signs) o.segments) fronts none, ap (depth_before laid) at)
-      at_left (inr h) = from (zip_last (IsSegment laid) h.front h.last (take (valley_place o.signs) o.segments) (subst (λ (l : List Segment). AllZip (IsSegment laid) l (take (valley_place o.signs) o.segments)) h.is fronts))
+      at_left (inr h) = from (zip_last (IsSegment laid) h.front h.last (take (valley_place o.signs) o.segments)
+          (subst (λ (l : List Segment). AllZip (IsSegment laid) l (take (valley_place o.signs) o.segments)) h.is fronts))
         where
           there : IsLevel width laid h.last
-          there = runs_at width laid 0 h.front h.last (v ∷ after) (subst (AreRuns width laid 0) (ap (λ (l : List Segment). l ++ v ∷ after) h.is ∙ append_assoc h.front (h.last ∷ []) (v ∷ after)) cut)
+          there = runs_at width laid 0 h.front h.last (v ∷ after)
+              (subst (AreRuns width laid 0) (ap (λ (l : List Segment). l ++ v ∷ after) h.is ∙ append_assoc h.front (h.last ∷ []) (v ∷ after)) cut)
 
-          from : ZipLast (IsSegment laid) h.last (take (valley_place o.signs) o.segments) → ((front_of o ≡ []) × (depth_before laid v.x ≡ [])) ⊎ ((ns : List ℕ) × ((n : ℕ) × ((front_of o ≡ ns ++ n ∷ []) × (depth_before laid v.x ≡ bottom_at laid n ∷ []))))
-          from z = ends (span_some laid (h.last).level (h.last).x z.last ((h.last).x + (h.last).width) (let some = there.some in omega arith) (segment_span width laid deep h.last z.last there z.here))
+          from : ZipLast (IsSegment laid) h.last (take (valley_place o.signs) o.segments)
+              → ((front_of o ≡ []) × (depth_before laid v.x ≡ []))
+              ⊎ ((ns : List ℕ) × ((n : ℕ) × ((front_of o ≡ ns ++ n ∷ []) × (depth_before laid v.x ≡ bottom_at laid n ∷ []))))
+          from z = ends (span_some laid (h.last).level (h.last).x z.last ((h.last).x + (h.last).width)
+              (let some = there.some in omega arith) (segment_span width laid deep h.last z.last there z.here))
             where
-              ends : SpanLast laid (h.last).level z.last → ((front_of o ≡ []) × (depth_before laid v.x ≡ [])) ⊎ ((ns : List ℕ) × ((n : ℕ) × ((front_of o ≡ ns ++ n ∷ []) × (depth_before laid v.x ≡ bottom_at laid n ∷ []))))
+              ends : SpanLast laid (h.last).level z.last → ((front_of o ≡ []) × (depth_before laid v.x ≡ []))
+                  ⊎ ((ns : List ℕ) × ((n : ℕ) × ((front_of o ≡ ns ++ n ∷ []) × (depth_before laid v.x ≡ bottom_at laid n ∷ []))))
               ends e = inr (
                 concat z.front ++ e.front,
                 (
                   e.last,
                   (
-                    ap concat z.is ∙ concat-append z.front (z.last ∷ []) ∙ ap (λ (ns : List ℕ). concat z.front ++ ns) (append-nil z.last ∙ e.is) ∙ sym (append_assoc (concat z.front) e.front (e.last ∷ [])),
+                    ap concat z.is ∙ concat-append z.front (z.last ∷ [])
+                        ∙ ap (λ (ns : List ℕ). concat z.front ++ ns) (append-nil z.last ∙ e.is) ∙ sym (append_assoc (concat z.front) e.front (e.last ∷ [])),
                     h.level ∙ ap (λ (l : ℕ). l ∷ []) (sym e.bottom),
                   ),
                 ),
               )
 
-      at_right : ((after ≡ []) × (v.x + v.width ≡ width)) ⊎ HasFirst width laid (v.x + v.width) after → ((back_of o ≡ []) × (depth_from width laid (v.x + v.width) ≡ [])) ⊎ ((n : ℕ) × ((ns : List ℕ) × ((back_of o ≡ n ∷ ns) × (depth_from width laid (v.x + v.width) ≡ bottom_at laid n ∷ []))))
+      at_right : ((after ≡ []) × (v.x + v.width ≡ width)) ⊎ HasFirst width laid (v.x + v.width) after
+          → ((back_of o ≡ []) × (depth_from width laid (v.x + v.width) ≡ []))
+          ⊎ ((n : ℕ) × ((ns : List ℕ) × ((back_of o ≡ n ∷ ns) × (depth_from width laid (v.x + v.width) ≡ bottom_at laid n ∷ []))))
       at_right (inl (none, at)) = inl (none_right (drop (suc (valley_place o.signs)) o.segments) backs none, depth_from_end width laid (v.x + v.width) at)
-      at_right (inr h) = from (drop (suc (valley_place o.signs)) o.segments) (subst (λ (l : List Segment). AllZip (IsSegment laid) l (drop (suc (valley_place o.signs)) o.segments)) h.is backs)
+      at_right (inr h) = from (drop (suc (valley_place o.signs)) o.segments)
+          (subst (λ (l : List Segment). AllZip (IsSegment laid) l (drop (suc (valley_place o.signs)) o.segments)) h.is backs)
         where
           there : IsLevel width laid h.first
-          there = runs_at width laid 0 (before ++ v ∷ []) h.first h.back (subst (AreRuns width laid 0) (ap (λ (l : List Segment). before ++ v ∷ l) h.is ∙ sym (append_assoc before (v ∷ []) (h.first ∷ h.back))) cut)
+          there = runs_at width laid 0 (before ++ v ∷ []) h.first h.back
+              (subst (AreRuns width laid 0) (ap (λ (l : List Segment). before ++ v ∷ l) h.is ∙ sym (append_assoc before (v ∷ []) (h.first ∷ h.back))) cut)
 
-          from : (us : List (List ℕ)) → AllZip (IsSegment laid) (h.first ∷ h.back) us → ((concat us ≡ []) × (depth_from width laid (v.x + v.width) ≡ [])) ⊎ ((n : ℕ) × ((ns : List ℕ) × ((concat us ≡ n ∷ ns) × (depth_from width laid (v.x + v.width) ≡ bottom_at laid n ∷ []))))
+          from : (us : List (List ℕ)) → AllZip (IsSegment laid) (h.first ∷ h.back) us
+              → ((concat us ≡ []) × (depth_from width laid (v.x + v.width) ≡ []))
+              ⊎ ((n : ℕ) × ((ns : List ℕ) × ((concat us ≡ n ∷ ns) × (depth_from width laid (v.x + v.width) ≡ bottom_at laid n ∷ []))))
           from [] z = absurd z
           from (u ∷ us) z = first u (segment_span width laid deep h.first u there z.0)
             where
-              first : (u : List ℕ) → Span laid (h.first).level (h.first).x u ((h.first).x + (h.first).width) → ((u ++ concat us ≡ []) × (depth_from width laid (v.x + v.width) ≡ [])) ⊎ ((n : ℕ) × ((ns : List ℕ) × ((u ++ concat us ≡ n ∷ ns) × (depth_from width laid (v.x + v.width) ≡ bottom_at laid n ∷ []))))
+              first : (u : List ℕ) → Span laid (h.first).level (h.first).x u ((h.first).x + (h.first).width)
+                  → ((u ++ concat us ≡ []) × (depth_from width laid (v.x + v.width) ≡ []))
+                  ⊎ ((n : ℕ) × ((ns : List ℕ) × ((u ++ concat us ≡ n ∷ ns) × (depth_from width laid (v.x + v.width) ≡ bottom_at laid n ∷ []))))
               first [] span = absurd (omega (arith, there.some, span))
-              first (n ∷ ns) span = inr (n, (ns ++ concat us, (refl, h.level ∙ ap (λ (l : ℕ). l ∷ []) (sym span.3 ∙ sym (numbered_bottom laid n span.0 span.1)))))
+              first (n ∷ ns) span = inr (
+                n,
+                (
+                  ns ++ concat us,
+                  (refl, h.level ∙ ap (λ (l : ℕ). l ∷ []) (sym span.3 ∙ sym (numbered_bottom laid n span.0 span.1))),
+                ),
+              )
 
+-- an outline that shows what is laid shows its leftmost valley so
 pub sees : (width : ℕ) (laid : List Square) (o : Outline) → ShowsLaid width laid o → 0 < width → Sees width laid o
 sees width laid o s wide = cases s.begun
   where
@@ -228,8 +267,11 @@ sees width laid o s wide = cases s.begun
     cases (inr deep) = begun width laid o s p.before p.valley p.after p.is p.leftmost number p.left p.right deep
 
 -- the outline after the turn shows what is laid then
-pub shows_turn : (width : ℕ) (laid : List Square) (o : Outline) → ShowsLaid width laid o → 0 < width → (m : Move) (new : List ℕ) (v : Segment) → IsTurn width laid m new v → ShowsLaid width (laid ++ laid_group v.x v.level new) (after_move o m)
-shows_turn width laid o s wide m new v turn = shows_move width laid o s p.before v p.after is turn.found number left right m new turn.count turn.some turn.positive (fills_total width laid m new v turn) turn.signs
+pub shows_turn : (width : ℕ) (laid : List Square) (o : Outline) → ShowsLaid width laid o → 0 < width
+    → (m : Move) (new : List ℕ) (v : Segment) → IsTurn width laid m new v → ShowsLaid width (laid ++ laid_group v.x v.level new) (after_move o m)
+shows_turn width laid o s wide m new v turn =
+    shows_move width laid o s p.before v p.after is turn.found number left right m new turn.count turn.some turn.positive
+    (fills_total width laid m new v turn) turn.signs
   where
     p : Placed width laid 0 s.runs
     p = place_in width laid o s wide

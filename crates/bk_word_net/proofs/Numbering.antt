@@ -23,7 +23,8 @@ times_in-joined m (Even ∷ signs) (numbers ∷ lists) = omega (arith, times_in-
 times_in-joined m (Above ∷ signs) (numbers ∷ lists) = omega (arith, times_in-joined m signs lists)
 times_in-joined m (Under ∷ signs) (numbers ∷ lists) = omega (arith, times_in-joined m signs lists)
 
-times_in-cut : (m p : ℕ) (lists : List (List ℕ)) → times_in m (take p lists) + times m (slice_index_or lists p []) + times_in m (drop (suc p) lists) ≡ times_in m lists
+times_in-cut : (m p : ℕ) (lists : List (List ℕ))
+    → times_in m (take p lists) + times m (slice_index_or lists p []) + times_in m (drop (suc p) lists) ≡ times_in m lists
 times_in-cut m zero [] = refl
 times_in-cut m (suc p) [] = refl
 times_in-cut m zero (numbers ∷ lists) = omega arith
@@ -53,9 +54,11 @@ numbers-append n (suc j) k = (λ i. numbers_from n (a i)) ∙ (λ i. n ∷ numbe
 abbrev pub Numbered : Outline → Type 0
 Numbered o = (m : ℕ) → times_in m (o.closed ++ o.segments) ≡ times m (numbers_from 1 (length o.hung))
 
+-- at the start no square is numbered
 pub numbered_start : Numbered start
 numbered_start m = refl
 
+-- a move numbers its squares on
 pub numbered_move : (o : Outline) (n : Move) → Numbered o → Numbered (after_move o n)
 numbered_move o n before m = omega (
   arith,
@@ -84,11 +87,13 @@ numbered_move o n before m = omega (
     one : 1 + length o.hung ≡ length o.hung + 1
     one = omega arith
 
-    longer : times m (numbers_from 1 (length (o.hung ++ replicate n.count (length o.closed)))) ≡ times m (numbers_from 1 (length o.hung)) + times m (numbers_from (length o.hung + 1) n.count)
+    longer : times m (numbers_from 1 (length (o.hung ++ replicate n.count (length o.closed))))
+        ≡ times m (numbers_from 1 (length o.hung)) + times m (numbers_from (length o.hung + 1) n.count)
     longer = (λ i. times m (numbers_from 1 (long i))) ∙ ap (times m) (numbers-append 1 (length o.hung) n.count)
         ∙ times-append m (numbers_from 1 (length o.hung)) (numbers_from (1 + length o.hung) n.count)
         ∙ (λ i. times m (numbers_from 1 (length o.hung)) + times m (numbers_from (one i) n.count))
 
+-- and so do moves
 pub numbered_moves : (o : Outline) (w : Word) → Numbered o → Numbered (after_moves o w)
 numbered_moves o [] before = before
 numbered_moves o (m ∷ w) before = numbered_moves (after_move o m) w (numbered_move o m before)
@@ -100,6 +105,7 @@ times_none m n (suc k) h = omega (arith, differ, times_none m (n + 1) k (omega a
     differ : ◌≡◌ {A = ℕ} (cond (nat_eq m n) 1 0) 0
     differ = grind (arith, nat_tests)
 
+-- each of the numbers from one on stands among them once
 pub times_one : (m n k : ℕ) → n ≤ m → m < n + k → times m (numbers_from n k) ≡ 1
 times_one m n zero h l = absurd (omega arith)
 times_one m n (suc k) h l = cases (two m n h) (times_one m (n + 1) k)
@@ -113,10 +119,12 @@ times_one m n (suc k) h l = cases (two m n h) (times_one m (n + 1) k)
     none : n + 1 ≤ m → ◌≡◌ {A = ℕ} (cond (nat_eq m n) 1 0) 0
     none e = grind (arith, nat_tests)
 
-    cases : (m ≡ n) ⊎ (n + 1 ≤ m) → (n + 1 ≤ m → m < n + 1 + k → times m (numbers_from (n + 1) k) ≡ 1) → cond (nat_eq m n) 1 0 + times m (numbers_from (n + 1) k) ≡ 1
+    cases : (m ≡ n) ⊎ (n + 1 ≤ m) → (n + 1 ≤ m → m < n + 1 + k → times m (numbers_from (n + 1) k) ≡ 1)
+        → cond (nat_eq m n) 1 0 + times m (numbers_from (n + 1) k) ≡ 1
     cases (inl e) rest = omega (arith, one e, times_none m (n + 1) k (omega arith))
     cases (inr e) rest = omega (arith, none e, rest e (omega arith))
 
+-- and what stands among them is one of these
 pub times_some : (m n k : ℕ) → 0 < times m (numbers_from n k) → (n ≤ m) × (m < n + k)
 times_some m n zero h = absurd (omega arith)
 times_some m n (suc k) h = cases (two m n) (times_some m (n + 1) k)
@@ -131,12 +139,15 @@ times_some m n (suc k) h = cases (two m n) (times_some m (n + 1) k)
     cases (inl e) rest = (omega arith, omega arith)
     cases (inr e) rest = let r = rest (omega (arith, none e)) in (omega (arith, r.0), omega (arith, r.1))
 
-pub any_times : (m : ℕ) (numbers : List ℕ) → ((list_any (nat_eq m) numbers ≡ true) × (0 < times m numbers)) ⊎ ((list_any (nat_eq m) numbers ≡ false) × (times m numbers ≡ 0))
+-- a number stands in a list or not
+pub any_times : (m : ℕ) (numbers : List ℕ) → ((list_any (nat_eq m) numbers ≡ true) × (0 < times m numbers))
+    ⊎ ((list_any (nat_eq m) numbers ≡ false) × (times m numbers ≡ 0))
 any_times m [] = inr (refl, refl)
 any_times m (n ∷ numbers) = cases (nat_eq m n) (any_times m numbers)
   where
     cases : (b : Bool) → ((list_any (nat_eq m) numbers ≡ true) × (0 < times m numbers)) ⊎ ((list_any (nat_eq m) numbers ≡ false) × (times m numbers ≡ 0))
-        → ((b || list_any (nat_eq m) numbers ≡ true) × (0 < cond b 1 0 + times m numbers)) ⊎ ((b || list_any (nat_eq m) numbers ≡ false) × (cond b 1 0 + times m numbers ≡ 0))
+        → ((b || list_any (nat_eq m) numbers ≡ true) × (0 < cond b 1 0 + times m numbers))
+        ⊎ ((b || list_any (nat_eq m) numbers ≡ false) × (cond b 1 0 + times m numbers ≡ 0))
     cases true rest = inl (refl, omega arith)
     cases false (inl h) = inl (h.0, omega (arith, h.1))
     cases false (inr h) = inr (h.0, omega (arith, h.1))
@@ -147,6 +158,7 @@ pub record HasPlace (m : ℕ) (lists : List (List ℕ)) (place : ℕ) : Type 0 w
   pub here : 0 < times m (slice_index_or lists place [])
   pub counts : (v : ℕ) → times m (slice_index_or lists v []) ≡ cond (nat_eq place v) 1 0
 
+-- a number that stands once in some lists has its list
 pub has_place : (m : ℕ) (lists : List (List ℕ)) → times_in m lists ≡ 1 → HasPlace m lists (end_of lists m)
 has_place m [] e = absurd (omega arith)
 has_place m (numbers ∷ lists) e = cases (any_times m numbers) (has_place m lists)
@@ -179,7 +191,13 @@ has_place m (numbers ∷ lists) e = cases (any_times m numbers) (has_place m lis
         counts : (v : ℕ) → times m (slice_index_or (numbers ∷ lists) v []) ≡ cond (nat_eq 0 v) 1 0
         counts zero = omega (arith, h.1)
         counts (suc v) = omega (arith, h.1, times_at m v lists, far v)
-    cases (inr h) rest = subst (HasPlace m (numbers ∷ lists)) (place_of false h.0) (record { below = omega (arith, r.below); here = subst (λ (numbers : List ℕ). 0 < times m numbers) (sym (at (end_of lists m) 0)) r.here; counts = counts })
+    cases (inr h) rest = subst (HasPlace m (numbers ∷ lists)) (place_of false h.0)
+        (record {
+          below = omega (arith, r.below);
+          here =
+              subst (λ (numbers : List ℕ). 0 < times m numbers) (sym (at (end_of lists m) 0)) r.here;
+          counts = counts;
+        })
       where
         r : HasPlace m lists (end_of lists m)
         r = rest (omega (arith, h.1))

@@ -49,15 +49,23 @@ once_upto f (suc n) apart = ((λ h. twice (in_upto f n (sq (f n)) h)), once_upto
     twice : (k : ℕ) × (k < n) × (sq (f n) ≡ sq (f k)) → ⊥
     twice (k, h, e) = omega (arith, h, apart n k (omega arith) (omega arith) (ap (λ (s : Square). s.x) e))
 
+-- numbers that go one to one into others are no more
 pub not_more : (f g : ℕ → ℕ) (n m : ℕ) → ((j k : ℕ) → j < n → k < n → f j ≡ f k → j ≡ k) → ((j : ℕ) → j < n → (k : ℕ) × (k < m) × (f j ≡ g k)) → n ≤ m
-not_more f g n m apart found = omega (arith, length_upto f n, length_upto g m, fewer (upto f n) (upto g m) (once_upto f n apart) (λ q h. to q (in_upto f n q h)))
+not_more f g n m apart found = omega (
+  arith,
+  length_upto f n,
+  length_upto g m,
+  fewer (upto f n) (upto g m) (once_upto f n apart) (λ q h. to q (in_upto f n q h)),
+)
   where
     to : (q : Square) → (k : ℕ) × (k < n) × (q ≡ sq (f k)) → IsOneOf q (upto g m)
     to q (k, h, e) = let r = found k h in subst (λ (s : Square). IsOneOf s (upto g m)) (sym (e ∙ ap sq r.2)) (to_upto g m r.0 r.1)
 
 -- ---- places in lists
 
-pub pos_found : (f : Square → Bool) (squares : List Square) (q : Square) → IsOneOf q squares → f q ≡ true → ((r : Square) → IsOneOf r squares → f r ≡ true → r ≡ q) → slice_get squares (position_or_len f squares) ≡ Some q
+-- the one square that passes a test, at its place
+pub pos_found : (f : Square → Bool) (squares : List Square) (q : Square) → IsOneOf q squares → f q ≡ true
+    → ((r : Square) → IsOneOf r squares → f r ≡ true → r ≡ q) → slice_get squares (position_or_len f squares) ≡ Some q
 pos_found f [] q h e only = absurd h
 pos_found f (r ∷ squares) q h e only = cases (f r) refl h (pos_found f squares q)
   where
@@ -67,19 +75,24 @@ pos_found f (r ∷ squares) q h e only = cases (f r) refl h (pos_found f squares
         same : (n : ℕ) → 1 + n ≡ suc n
         same n = omega arith
 
-    at : (b : Bool) → f r ≡ b → slice_get (r ∷ squares) (cond (not (f r)) (1 + position_or_len f squares) 0) ≡ slice_get (r ∷ squares) (cond (not b) (1 + position_or_len f squares) 0)
+    at : (b : Bool) → f r ≡ b → slice_get (r ∷ squares) (cond (not (f r)) (1 + position_or_len f squares) 0)
+        ≡ slice_get (r ∷ squares) (cond (not b) (1 + position_or_len f squares) 0)
     at b g = ap (λ (c : Bool). slice_get (r ∷ squares) (cond (not c) (1 + position_or_len f squares) 0)) g
 
-    cases : (b : Bool) → f r ≡ b → (q ≡ r) ⊎ IsOneOf q squares → (IsOneOf q squares → f q ≡ true → ((r : Square) → IsOneOf r squares → f r ≡ true → r ≡ q) → slice_get squares (position_or_len f squares) ≡ Some q) → slice_get (r ∷ squares) (position_or_len f (r ∷ squares)) ≡ Some q
+    cases : (b : Bool) → f r ≡ b → (q ≡ r) ⊎ IsOneOf q squares
+        → (IsOneOf q squares → f q ≡ true → ((r : Square) → IsOneOf r squares → f r ≡ true → r ≡ q)
+        → slice_get squares (position_or_len f squares) ≡ Some q) → slice_get (r ∷ squares) (position_or_len f (r ∷ squares)) ≡ Some q
     cases true g k rest = at true g ∙ ap (λ (s : Square). Some s) (only r (inl refl) g)
     cases false g (inl same) rest = absurd (both_ways (f r) g (ap f (sym same) ∙ e))
     cases false g (inr k) rest = at false g ∙ step (position_or_len f squares) ∙ rest k e (λ s m. only s (inr m))
 
+-- a square of a list has a place
 pub index_of : (squares : List Square) (q : Square) → IsOneOf q squares → (k : ℕ) × (slice_get squares k ≡ Some q)
 index_of [] q h = absurd h
 index_of (r ∷ squares) q (inl e) = (0, ap (λ (s : Square). Some s) (sym e))
 index_of (r ∷ squares) q (inr h) = let k = index_of squares q h in (suc k.0, k.1)
 
+-- and just one where none stands twice
 pub one_index : (squares : List Square) → NoneTwice squares → (j k : ℕ) (q : Square) → slice_get squares j ≡ Some q → slice_get squares k ≡ Some q → j ≡ k
 one_index [] n j k q e f = absurd (cc)
 one_index (r ∷ squares) n zero zero q e f = refl
@@ -93,6 +106,7 @@ one_index (r ∷ squares) n (suc j) zero q e f = absurd (n.0 (subst (λ (s : Squ
     same = cc
 one_index (r ∷ squares) n (suc j) (suc k) q e f = ap suc (one_index squares n.1 j k q e f)
 
+-- a wire of a word's net, by its place
 pub wires_got : (f : ℕ → ℕ) (b : ℕ) (hung : List ℕ) (k : ℕ) → k < length hung → slice_get (wires_by f b hung) k ≡ Some (slice_index_or hung k 0, f (b + k))
 wires_got f b [] k h = absurd (omega arith)
 wires_got f b (v ∷ hung) zero h = λ i. Some (v, f (same i))
@@ -104,6 +118,7 @@ wires_got f b (v ∷ hung) (suc k) h = wires_got f (b + 1) hung k (omega arith) 
     same : b + 1 + k ≡ b + suc k
     same = omega arith
 
+-- the wire of the square at a place of the rows of groups
 pub record WireAt (below : Square → ℕ) (n : ℕ) (groups : List (List Square)) (j : ℕ) (q : Square) : Type 0 where
   pub place : ℕ
   pub group : List Square
@@ -111,6 +126,7 @@ pub record WireAt (below : Square → ℕ) (n : ℕ) (groups : List (List Square
   pub inside : IsOneOf q group
   pub wire : slice_get (group_wires below n groups) j ≡ Some (n + place, below q)
 
+-- each such square has one
 pub wire_at : (below : Square → ℕ) (n : ℕ) (groups : List (List Square)) (j : ℕ) (q : Square) → slice_get (row_of groups) j ≡ Some q → WireAt below n groups j q
 wire_at below n [] j q e = absurd (cc)
 wire_at below n (g ∷ groups) j q e = cases (get_either g (row_of groups) j q e) (wire_at below (n + 1) groups)
@@ -118,9 +134,27 @@ wire_at below n (g ∷ groups) j q e = cases (get_either g (row_of groups) j q e
     zeroth : n ≡ n + 0
     zeroth = omega arith
 
-    cases : ((j < length g) × (slice_get g j ≡ Some q)) ⊎ ((i : ℕ) × (j ≡ length g + i) × (slice_get (row_of groups) i ≡ Some q)) → ((j : ℕ) (q : Square) → slice_get (row_of groups) j ≡ Some q → WireAt below (n + 1) groups j q) → WireAt below n (g ∷ groups) j q
-    cases (inl (h, f)) rest = record { place = 0; group = g; is = refl; inside = one_of g j q f; wire = get_append (map (λ q. (n, below q)) g) (group_wires below (n + 1) groups) j (n, below q) (get_map (λ q. (n, below q)) g j q f) ∙ (λ i. Some (zeroth i, below q)) }
-    cases (inr (i, h, f)) rest = let r = rest i q f in record { place = suc r.place; group = r.group; is = r.is; inside = r.inside; wire = get_after (map (λ q. (n, below q)) g) (group_wires below (n + 1) groups) i j (h ∙ ap (λ (k : ℕ). k + i) (sym (length-map g (λ q. (n, below q))))) ∙ r.wire ∙ later r.place }
+    cases : ((j < length g) × (slice_get g j ≡ Some q)) ⊎ ((i : ℕ) × (j ≡ length g + i) × (slice_get (row_of groups) i ≡ Some q))
+        → ((j : ℕ) (q : Square) → slice_get (row_of groups) j ≡ Some q → WireAt below (n + 1) groups j q) → WireAt below n (g ∷ groups) j q
+    cases (inl (h, f)) rest = record {
+      place = 0;
+      group = g;
+      is = refl;
+      inside = one_of g j q f;
+      wire =
+          get_append (map (λ q. (n, below q)) g) (group_wires below (n + 1) groups) j (n, below q) (get_map (λ q. (n, below q)) g j q f)
+          ∙ (λ i. Some (zeroth i, below q));
+    }
+    cases (inr (i, h, f)) rest = let r = rest i q f in
+        record {
+          place = suc r.place;
+          group = r.group;
+          is = r.is;
+          inside = r.inside;
+          wire =
+              get_after (map (λ q. (n, below q)) g) (group_wires below (n + 1) groups) i j
+              (h ∙ ap (λ (k : ℕ). k + i) (sym (length-map g (λ q. (n, below q))))) ∙ r.wire ∙ later r.place;
+        }
       where
         later : (p : ℕ) → ◌≡◌ {A = Option (ℕ × ℕ)} (Some (n + 1 + p, below q)) (Some (n + suc p, below q))
         later p = λ k. Some (same k, below q)
@@ -129,7 +163,8 @@ wire_at below n (g ∷ groups) j q e = cases (get_either g (row_of groups) j q e
             same = omega arith
 
 -- a number that stands in a span is that of a square within it
-pub span_within : (laid : List Square) (level x : ℕ) (numbers : List ℕ) (end m : ℕ) → Span laid level x numbers end → 0 < times m numbers → (q : Square) × IsNumbered laid m q × (q.y + q.s ≡ level) × (x ≤ q.x) × (q.x + q.s ≤ end)
+pub span_within : (laid : List Square) (level x : ℕ) (numbers : List ℕ) (end m : ℕ) → Span laid level x numbers end → 0 < times m numbers
+    → (q : Square) × IsNumbered laid m q × (q.y + q.s ≡ level) × (x ≤ q.x) × (q.x + q.s ≤ end)
 span_within laid level x [] end m span h = absurd (omega arith)
 span_within laid level x (n ∷ numbers) end m (q, at, place, bottom, rest) h = cases (same_or_none m n) (span_within laid level (x + q.s) numbers end m rest)
   where
@@ -137,6 +172,8 @@ span_within laid level x (n ∷ numbers) end m (q, at, place, bottom, rest) h = 
     order [] x s = omega (arith, s)
     order (k ∷ numbers) x s = omega (arith, order numbers (x + (s.0).s) s.4)
 
-    cases : (n ≡ m) ⊎ ◌≡◌ {A = ℕ} (cond (nat_eq m n) 1 0) 0 → (0 < times m numbers → (r : Square) × IsNumbered laid m r × (r.y + r.s ≡ level) × (x + q.s ≤ r.x) × (r.x + r.s ≤ end)) → (q : Square) × IsNumbered laid m q × (q.y + q.s ≡ level) × (x ≤ q.x) × (q.x + q.s ≤ end)
+    cases : (n ≡ m) ⊎ ◌≡◌ {A = ℕ} (cond (nat_eq m n) 1 0) 0
+        → (0 < times m numbers → (r : Square) × IsNumbered laid m r × (r.y + r.s ≡ level) × (x + q.s ≤ r.x) × (r.x + r.s ≤ end))
+        → (q : Square) × IsNumbered laid m q × (q.y + q.s ≡ level) × (x ≤ q.x) × (q.x + q.s ≤ end)
     cases (inl e) more = (q, subst (λ (k : ℕ). IsNumbered laid k q) e at, bottom, omega (arith, place), omega (arith, place, order numbers (x + q.s) rest))
     cases (inr e) more = let r = more (omega (arith, e)) in (r.0, r.1, r.2, omega (arith, r.3), r.4)

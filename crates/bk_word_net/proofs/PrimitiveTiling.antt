@@ -21,13 +21,15 @@ alike_primitive t u pt pu (m, n, a, b, e) = λ i. record { width = widths i; hei
     images = ap (λ (s : Tiling). s.squares) e
 
     left : p.left ≡ 1
-    left = pt p.left (all_from (λ q. (k : ℕ) × (q.s ≡ p.left * k)) t.squares (λ q h. of q (from_enlarged n u.squares (enlarged_square m q) (subst (IsOneOf (enlarged_square m q)) images (in_enlarged m t.squares q h)))))
+    left = pt p.left (all_from (λ q. (k : ℕ) × (q.s ≡ p.left * k)) t.squares
+        (λ q h. of q (from_enlarged n u.squares (enlarged_square m q) (subst (IsOneOf (enlarged_square m q)) images (in_enlarged m t.squares q h)))))
       where
         of : (q : Square) → (r : Square) × IsOneOf r u.squares × (enlarged_square m q ≡ enlarged_square n r) → (k : ℕ) × (q.s ≡ p.left * k)
         of q (r, h, same) = let k = p.each q.s r.s (ap (λ (s : Square). s.s) same) in (k.0, k.1)
 
     right : p.right ≡ 1
-    right = pu p.right (all_from (λ q. (k : ℕ) × (q.s ≡ p.right * k)) u.squares (λ q h. of q (from_enlarged m t.squares (enlarged_square n q) (subst (IsOneOf (enlarged_square n q)) (sym images) (in_enlarged n u.squares q h)))))
+    right = pu p.right (all_from (λ q. (k : ℕ) × (q.s ≡ p.right * k)) u.squares
+        (λ q h. of q (from_enlarged m t.squares (enlarged_square n q) (subst (IsOneOf (enlarged_square n q)) (sym images) (in_enlarged n u.squares q h)))))
       where
         of : (q : Square) → (r : Square) × IsOneOf r t.squares × (enlarged_square n q ≡ enlarged_square m r) → (k : ℕ) × (q.s ≡ p.right * k)
         of q (r, h, same) = let k = p.each r.s q.s (sym (ap (λ (s : Square). s.s) same)) in (k.0, k.2)
@@ -47,5 +49,6 @@ alike_primitive t u pt pu (m, n, a, b, e) = λ i. record { width = widths i; hei
     squares : t.squares ≡ u.squares
     squares = list_back m t.squares u.squares a (ap (λ (s : Tiling). s.squares) same)
 
+-- the law: tilings alike and primitive are equal
 pub a_word_has_one_primitive_tiling : AWordHasOnePrimitiveTiling
 a_word_has_one_primitive_tiling t u w tiling other pt pu p q = alike_primitive t u pt pu (a_word_has_one_tiling t u w tiling other p q)

@@ -46,10 +46,20 @@ module _ (t : Tiling) (w : Word) (tiling : IsTiling t) (p : IsWordOf t w) where
 
   row_count : (below : Square → ℕ) (n : ℕ) (groups : List (List Square)) → length (group_wires below n groups) ≡ length (row_of groups)
   row_count below n [] = refl
-  row_count below n (g ∷ groups) = omega (arith, length-append {A = ℕ × ℕ} (map (λ q. (n, below q)) g) (group_wires below (n + 1) groups), length-map {B = ℕ × ℕ} g (λ q. (n, below q)), length-append g (row_of groups), row_count below (n + 1) groups)
+  row_count below n (g ∷ groups) = omega (
+    arith,
+    length-append {A = ℕ × ℕ} (map (λ q. (n, below q)) g) (group_wires below (n + 1) groups),
+    length-map {B = ℕ × ℕ} g (λ q. (n, below q)),
+    length-append g (row_of groups),
+    row_count below (n + 1) groups,
+  )
 
   squares_count : length e.laid ≡ length t.squares
-  squares_count = omega (arith, fewer e.laid t.squares (laid_once t w tiling p) (laid_in t w tiling p), fewer t.squares e.laid (squares_once t tiling) (all_in_laid t w tiling p))
+  squares_count = omega (
+    arith,
+    fewer e.laid t.squares (laid_once t w tiling p) (laid_in t w tiling p),
+    fewer t.squares e.laid (squares_once t tiling) (all_in_laid t w tiling p),
+  )
 
   word_wires : length (net_of_word w).wires ≡ length e.laid
   word_wires = wires_length (end_of ((outline_of w).closed ++ (outline_of w).segments)) 1 (outline_of w).hung ∙ hung_is t w tiling p
@@ -58,7 +68,9 @@ module _ (t : Tiling) (w : Word) (tiling : IsTiling t) (p : IsWordOf t w) where
   smith_wires = row_count (node_below (square_groups t.squares)) 0 (square_groups t.squares) ∙ ap length (row_is t tiling)
 
   square_at_wire : (k : ℕ) (q : Square) → slice_get e.laid k ≡ Some q → slice_get t.squares (wire k) ≡ Some q
-  square_at_wire k q f = ap (slice_get t.squares) (get_value (map (λ q. position_or_len (covers q.x q.y) t.squares) e.laid) k (position_or_len (covers q.x q.y) t.squares) (get_map (λ q. position_or_len (covers q.x q.y) t.squares) e.laid k q f))
+  square_at_wire k q f = ap (slice_get t.squares)
+      (get_value (map (λ q. position_or_len (covers q.x q.y) t.squares) e.laid) k (position_or_len (covers q.x q.y) t.squares)
+      (get_map (λ q. position_or_len (covers q.x q.y) t.squares) e.laid k q f))
       ∙ pos_found (covers q.x q.y) t.squares q q_in (own_cell t tiling q q_in) (λ r h c. one_there t tiling r q q.x q.y h c q_in (own_cell t tiling q q_in))
     where
       q_in : IsOneOf q t.squares
@@ -74,23 +86,32 @@ module _ (t : Tiling) (w : Word) (tiling : IsTiling t) (p : IsWordOf t w) where
           same = get_one t.squares (wire k) q r (ap (slice_get t.squares) (sym f) ∙ square_at_wire j q g) (square_at_wire k r h)
 
   wire_below : (k : ℕ) → k < length (net_of_word w).wires → wire k < length (net_of_word w).wires
-  wire_below k h = let q = get_some e.laid k (omega (arith, word_wires)) in omega (arith, slice_get_within t.squares (wire k) q.0 (square_at_wire k q.0 q.1), word_wires, squares_count)
+  wire_below k h = let q = get_some e.laid k (omega (arith, word_wires)) in
+      omega (arith, slice_get_within t.squares (wire k) q.0 (square_at_wire k q.0 q.1), word_wires, squares_count)
 
-  each : (k : ℕ) → k < length (net_of_word w).wires → slice_get (smith_diagram t).wires (wire k) ≡ option_map (λ (x : ℕ × ℕ). (node x.0, node x.1)) (slice_get (net_of_word w).wires k)
+  each : (k : ℕ) → k < length (net_of_word w).wires
+      → slice_get (smith_diagram t).wires (wire k) ≡ option_map (λ (x : ℕ × ℕ). (node x.0, node x.1)) (slice_get (net_of_word w).wires k)
   each k h = at (get_some e.laid k (omega (arith, word_wires)))
     where
-      at : (q : Square) × (slice_get e.laid k ≡ Some q) → slice_get (smith_diagram t).wires (wire k) ≡ option_map (λ (x : ℕ × ℕ). (node x.0, node x.1)) (slice_get (net_of_word w).wires k)
+      at : (q : Square) × (slice_get e.laid k ≡ Some q)
+          → slice_get (smith_diagram t).wires (wire k) ≡ option_map (λ (x : ℕ × ℕ). (node x.0, node x.1)) (slice_get (net_of_word w).wires k)
       at (q, f) = r.wire ∙ (λ i. Some (from i, ends i))
-          ∙ sym (ap (option_map (λ (x : ℕ × ℕ). (node x.0, node x.1))) (wires_got (end_of ((outline_of w).closed ++ (outline_of w).segments)) 1 (outline_of w).hung k (omega (arith, word_wires, hung_is t w tiling p))))
+          ∙ sym (ap (option_map (λ (x : ℕ × ℕ). (node x.0, node x.1)))
+          (wires_got (end_of ((outline_of w).closed ++ (outline_of w).segments)) 1 (outline_of w).hung k (omega (arith, word_wires, hung_is t w tiling p))))
         where
           r : WireAt (node_below (square_groups t.squares)) 0 (square_groups t.squares) (wire k) q
-          r = wire_at (node_below (square_groups t.squares)) 0 (square_groups t.squares) (wire k) q (ap (λ (l : List Square). slice_get l (wire k)) (row_is t tiling) ∙ square_at_wire k q f)
+          r = wire_at (node_below (square_groups t.squares)) 0 (square_groups t.squares) (wire k) q
+              (ap (λ (l : List Square). slice_get l (wire k)) (row_is t tiling) ∙ square_at_wire k q f)
 
           ends : node_below (square_groups t.squares) q ≡ node (end_of ((outline_of w).closed ++ (outline_of w).segments) (1 + k))
           ends = sym (ends_there t w tiling p k q f)
 
           from : 0 + r.place ≡ node (slice_index_or (outline_of w).hung k 0)
-          from = omega (arith, (hung_group t w tiling p k q f).1, in_place t w tiling p r.place r.group q q.x q.y r.is r.inside (own_cell t tiling q (laid_in t w tiling p q (one_of e.laid k q f))))
+          from = omega (
+            arith,
+            (hung_group t w tiling p k q f).1,
+            in_place t w tiling p r.place r.group q q.x q.y r.is r.inside (own_cell t tiling q (laid_in t w tiling p q (one_of e.laid k q f))),
+          )
 
   -- ---- the nodes
 
@@ -112,7 +133,14 @@ module _ (t : Tiling) (w : Word) (tiling : IsTiling t) (p : IsWordOf t w) where
 
               zeroth : (k : ℕ) → r.place ≡ k → r.place ≡ 0
               zeroth zero f = f
-              zeroth (suc k) f = absurd (omega (arith, deep t tiling k r.group at_place, ap (λ (z : Square). z.y) (heads (group_of t tiling (suc k) r.group at_place).0.row.is r.squares), r.y, ap (λ (s : Segment). s.level) top, b.level))
+              zeroth (suc k) f = absurd (omega (
+                arith,
+                deep t tiling k r.group at_place,
+                ap (λ (z : Square). z.y) (heads (group_of t tiling (suc k) r.group at_place).0.row.is r.squares),
+                r.y,
+                ap (λ (s : Segment). s.level) top,
+                b.level,
+              ))
                 where
                   at_place : slice_get (square_groups t.squares) (suc k) ≡ Some r.group
                   at_place = subst (λ (i : ℕ). slice_get (square_groups t.squares) i ≡ Some r.group) f r.is
@@ -133,6 +161,7 @@ module _ (t : Tiling) (w : Word) (tiling : IsTiling t) (p : IsWordOf t w) where
       cases (inr l) (inl m) = absurd (omega (arith, f, node_below_groups t w tiling p k m, node_last t w tiling p j (omega (arith, closed_is t w tiling p))))
       cases (inr l) (inr m) = omega (arith, closed_is t w tiling p)
 
+  -- nodes go to their groups, squares to their places in the code
   pub renumbering : (node : ℕ → ℕ) × (wire : ℕ → ℕ) × IsRenumbering (net_of_word w) (smith_diagram t) node wire
   renumbering = (
     node,
@@ -148,5 +177,6 @@ module _ (t : Tiling) (w : Word) (tiling : IsTiling t) (p : IsWordOf t w) where
     },
   )
 
+-- the law
 pub word_net_is_smith_diagram : WordNetIsSmithDiagram
 word_net_is_smith_diagram t w tiling p = renumbering t w tiling p

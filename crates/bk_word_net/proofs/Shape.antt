@@ -19,12 +19,14 @@ use Rattle.bk_word_net.proofs.ValleyCut.{AllPart, AtValley, at_valley}
 abbrev pub AllFilled : List (List ℕ) → Type 0
 AllFilled segments = AllByRecursion (λ s. 0 < length s) segments
 
+-- a sign between each two segments, each of which parts, and no segment empty but the top
 pub record Shaped (o : Outline) : Type 0 where
   pub parted : AllPart o.signs
   pub many : length o.segments ≡ length o.signs + 1
   pub filled : (length o.segments ≡ 1) ⊎ AllFilled o.segments
   pub counted : length (concat o.closed) + length (concat o.segments) ≡ length o.hung
 
+-- the start is so
 pub shaped_start : Shaped start
 shaped_start = record { parted = tt; many = refl; filled = inl refl; counted = refl }
 
@@ -38,13 +40,16 @@ before_many : (s : List ℕ) (l : List (List ℕ)) → 0 < length l → length (
 before_many s [] some = absurd (omega arith)
 before_many s (t ∷ l) some = refl
 
-pub joined_many : (signs : List Sign) (segments : List (List ℕ)) → length segments ≡ length signs + 1 → length (joined signs segments) ≡ length (filter parts signs) + 1
+-- joined segments are one more than the signs that part
+pub joined_many : (signs : List Sign) (segments : List (List ℕ)) → length segments ≡ length signs + 1
+    → length (joined signs segments) ≡ length (filter parts signs) + 1
 joined_many signs [] many = absurd (omega arith)
 joined_many [] (s ∷ []) many = refl
 joined_many [] (s ∷ t ∷ segments) many = absurd (omega arith)
 joined_many (Above ∷ signs) (s ∷ segments) many = ap suc (joined_many signs segments (omega arith)) ∙ omega arith
 joined_many (Under ∷ signs) (s ∷ segments) many = ap suc (joined_many signs segments (omega arith)) ∙ omega arith
-joined_many (Even ∷ signs) (s ∷ segments) many = let e = joined_many signs segments (omega arith) in before_many s (joined signs segments) (omega (arith, e)) ∙ e
+joined_many (Even ∷ signs) (s ∷ segments) many = let e = joined_many signs segments (omega arith) in
+    before_many s (joined signs segments) (omega (arith, e)) ∙ e
 
 before_filled : (s : List ℕ) (l : List (List ℕ)) → 0 < length s → AllFilled l → AllFilled (before_first_list s l)
 before_filled s [] some all = (some, tt)
@@ -77,6 +82,7 @@ pub record Filled (o : Outline) (v : AtValley o) : Type 0 where
   pub right : AllFilled v.right
   pub after : AllFilled v.after
 
+-- where no segment is empty, none is at the valley
 pub filled_parts : (o : Outline) (v : AtValley o) → Shaped o → Filled o v
 filled_parts o v shaped = cases shaped.filled
   where
@@ -100,15 +106,18 @@ filled_parts o v shaped = cases shaped.filled
         back : AllFilled (v.left ++ (v.valley ∷ (v.right ++ v.after)))
         back = all_right (λ s. 0 < length s) v.before (v.left ++ (v.valley ∷ (v.right ++ v.after))) whole
 
+-- such an outline is cut at its leftmost valley
 pub valley_in : (o : Outline) → Shaped o → AtValley o
 valley_in o shaped = at_valley o shaped.parted shaped.many
 
 -- after a move each segment has a square
 pub filled_move : (o : Outline) (m : Move) → IsLegalMove o m → Shaped o → AllFilled (after_move o m).segments
-filled_move o m legal shaped = subst (λ (l : List (List ℕ)). AllFilled (joined (signs_apart o m) l)) (sym (apart_segments o v m legal)) (joined_filled (signs_apart o m) (v.before ++ ((v.left ++ (map (λ q. q ∷ []) (new_squares o m) ++ v.right)) ++ v.after))
+filled_move o m legal shaped = subst (λ (l : List (List ℕ)). AllFilled (joined (signs_apart o m) l)) (sym (apart_segments o v m legal))
+    (joined_filled (signs_apart o m) (v.before ++ ((v.left ++ (map (λ q. q ∷ []) (new_squares o m) ++ v.right)) ++ v.after))
     (all_append (λ s. 0 < length s) v.before ((v.left ++ (map (λ q. q ∷ []) (new_squares o m) ++ v.right)) ++ v.after) f.before
     (all_append (λ s. 0 < length s) (v.left ++ (map (λ q. q ∷ []) (new_squares o m) ++ v.right)) v.after
-    (all_append (λ s. 0 < length s) v.left (map (λ q. q ∷ []) (new_squares o m) ++ v.right) f.left (all_append (λ s. 0 < length s) (map (λ q. q ∷ []) (new_squares o m)) v.right (filled_singles (new_squares o m)) f.right)) f.after)))
+    (all_append (λ s. 0 < length s) v.left (map (λ q. q ∷ []) (new_squares o m) ++ v.right) f.left
+    (all_append (λ s. 0 < length s) (map (λ q. q ∷ []) (new_squares o m)) v.right (filled_singles (new_squares o m)) f.right)) f.after)))
   where
     v : AtValley o
     v = valley_in o shaped
@@ -116,6 +125,7 @@ filled_move o m legal shaped = subst (λ (l : List (List ℕ)). AllFilled (joine
     f : Filled o v
     f = filled_parts o v shaped
 
+-- a legal move keeps this
 pub shaped_move : (o : Outline) (m : Move) → IsLegalMove o m → Shaped o → Shaped (after_move o m)
 shaped_move o m legal shaped = record {
   parted = filter_parts (signs_apart o m);
@@ -147,19 +157,27 @@ shaped_move o m legal shaped = record {
     )
 
     closes : length (concat (o.closed ++ valley_of o ∷ [])) ≡ length (concat o.closed) + length v.valley
-    closes = ap length (concat-append o.closed (valley_of o ∷ [])) ∙ omega (arith, length-append (concat o.closed) (concat (valley_of o ∷ [])), length-append (valley_of o) [], ap length (valley_is o v))
+    closes = ap length (concat-append o.closed (valley_of o ∷ []))
+        ∙ omega (arith, length-append (concat o.closed) (concat (valley_of o ∷ [])), length-append (valley_of o) [], ap length (valley_is o v))
 
-    all : length (concat o.segments) ≡ length (concat v.before) + (length (concat v.left) + (length v.valley + (length (concat v.right) + length (concat v.after))))
+    all : length (concat o.segments) ≡ length (concat v.before)
+        + (length (concat v.left) + (length v.valley + (length (concat v.right) + length (concat v.after))))
     all = ap (λ (l : List (List ℕ)). length (concat l)) v.segments
-        ∙ ap length (concat-append v.before (v.left ++ (v.valley ∷ (v.right ++ v.after)))) ∙ length-append (concat v.before) (concat (v.left ++ (v.valley ∷ (v.right ++ v.after))))
-        ∙ ap (λ n. length (concat v.before) + n) (ap length (concat-append v.left (v.valley ∷ (v.right ++ v.after))) ∙ length-append (concat v.left) (concat (v.valley ∷ (v.right ++ v.after)))
+        ∙ ap length (concat-append v.before (v.left ++ (v.valley ∷ (v.right ++ v.after))))
+        ∙ length-append (concat v.before) (concat (v.left ++ (v.valley ∷ (v.right ++ v.after))))
+        ∙ ap (λ n. length (concat v.before) + n) (ap length (concat-append v.left (v.valley ∷ (v.right ++ v.after)))
+        ∙ length-append (concat v.left) (concat (v.valley ∷ (v.right ++ v.after)))
         ∙ ap (λ n. length (concat v.left) + n) (length-append v.valley (concat (v.right ++ v.after))
         ∙ ap (λ n. length v.valley + n) (ap length (concat-append v.right v.after) ∙ length-append (concat v.right) (concat v.after))))
 
-    opens : length (concat (joined (signs_apart o m) (segments_apart o m))) ≡ length (concat v.before) + (length (concat v.left) + (m.count + (length (concat v.right) + length (concat v.after))))
+    opens : length (concat (joined (signs_apart o m) (segments_apart o m)))
+        ≡ length (concat v.before) + (length (concat v.left) + (m.count + (length (concat v.right) + length (concat v.after))))
     opens = ap length (concat-joined (signs_apart o m) (segments_apart o m)) ∙ ap (λ (l : List (List ℕ)). length (concat l)) (apart_segments o v m legal)
-        ∙ ap length (concat-append v.before ((v.left ++ (map (λ q. q ∷ []) (new_squares o m) ++ v.right)) ++ v.after)) ∙ length-append (concat v.before) (concat ((v.left ++ (map (λ q. q ∷ []) (new_squares o m) ++ v.right)) ++ v.after))
-        ∙ ap (λ n. length (concat v.before) + n) (ap length (concat-append (v.left ++ (map (λ q. q ∷ []) (new_squares o m) ++ v.right)) v.after) ∙ length-append (concat (v.left ++ (map (λ q. q ∷ []) (new_squares o m) ++ v.right))) (concat v.after))
+        ∙ ap length (concat-append v.before ((v.left ++ (map (λ q. q ∷ []) (new_squares o m) ++ v.right)) ++ v.after))
+        ∙ length-append (concat v.before) (concat ((v.left ++ (map (λ q. q ∷ []) (new_squares o m) ++ v.right)) ++ v.after))
+        ∙ ap (λ n. length (concat v.before) + n)
+        (ap length (concat-append (v.left ++ (map (λ q. q ∷ []) (new_squares o m) ++ v.right)) v.after)
+        ∙ length-append (concat (v.left ++ (map (λ q. q ∷ []) (new_squares o m) ++ v.right))) (concat v.after))
         ∙ omega (
           arith,
           ap length (concat-append v.left (map (λ q. q ∷ []) (new_squares o m) ++ v.right)),
@@ -170,13 +188,30 @@ shaped_move o m legal shaped = record {
           numbers-length (length o.hung + 1) m.count,
         )
 
-    counted : length (concat (o.closed ++ valley_of o ∷ [])) + length (concat (joined (signs_apart o m) (segments_apart o m))) ≡ length (o.hung ++ replicate m.count (length o.closed))
-    counted = omega (arith, closes, opens, all, shaped.counted, length-append o.hung (replicate m.count (length o.closed)), length-replicate m.count (length o.closed))
+    counted : length (concat (o.closed ++ valley_of o ∷ [])) + length (concat (joined (signs_apart o m) (segments_apart o m)))
+        ≡ length (o.hung ++ replicate m.count (length o.closed))
+    counted = omega (
+      arith,
+      closes,
+      opens,
+      all,
+      shaped.counted,
+      length-append o.hung (replicate m.count (length o.closed)),
+      length-replicate m.count (length o.closed),
+    )
 
+-- and so do moves
 pub shaped_moves : (o : Outline) (w : Word) → AreLegalFrom o w → Shaped o → Shaped (after_moves o w)
 shaped_moves o [] legal shaped = shaped
 shaped_moves o (m ∷ w) legal shaped = shaped_moves (after_move o m) w legal.1 (shaped_move o m legal.0 shaped)
 
+-- a word hangs as many squares as its order
 pub hung_many : (o : Outline) (w : Word) → length (after_moves o w).hung ≡ length o.hung + order_of w
 hung_many o [] = omega arith
-hung_many o (m ∷ w) = omega (arith, order_more m w, hung_many (after_move o m) w, length-append o.hung (replicate m.count (length o.closed)), length-replicate m.count (length o.closed))
+hung_many o (m ∷ w) = omega (
+  arith,
+  order_more m w,
+  hung_many (after_move o m) w,
+  length-append o.hung (replicate m.count (length o.closed)),
+  length-replicate m.count (length o.closed),
+)

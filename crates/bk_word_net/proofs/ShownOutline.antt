@@ -26,9 +26,11 @@ use Rattle.bk_lay.specs.Depiction.{IsNumbered, IsSegment}
 use Rattle.bk_lay.specs.TilingWord.{IsLeftmostValley, depth_before, depth_from, signs_between}
 use Rattle.bk_word_net.specs.LaidOutline.{IsTurn, ShowsLaid}
 
+-- the new sides sum to the valley's width
 pub fills_total : (width : ℕ) (laid : List Square) (m : Move) (new : List ℕ) (v : Segment) → IsTurn width laid m new v → total new ≡ v.width
 fills_total width laid m new v turn = sym (sum_is_total new) ∙ turn.fills
 
+-- at the start the top is shown
 pub shows_start : (width : ℕ) → 0 < width → ShowsLaid width [] start
 shows_start width wide = record {
   runs = record { x = 0; width = width; level = 0 } ∷ [];
@@ -42,11 +44,15 @@ shows_start width wide = record {
   begun = inl (refl, refl);
 }
 
-pub runs_at : (width : ℕ) (laid : List Square) (x : ℕ) (front : List Segment) (r : Segment) (back : List Segment) → AreRuns width laid x (front ++ r ∷ back) → IsLevel width laid r
+-- a run of the level runs is level
+pub runs_at : (width : ℕ) (laid : List Square) (x : ℕ) (front : List Segment) (r : Segment) (back : List Segment)
+    → AreRuns width laid x (front ++ r ∷ back) → IsLevel width laid r
 runs_at width laid x [] r back cut = cut.1
 runs_at width laid x (u ∷ front) r back cut = runs_at width laid (x + u.width) front r back cut.2
 
-pub one_run : (width : ℕ) (laid : List Square) (before : List Segment) (v : Segment) (after : List Segment) → AreRuns width laid 0 (before ++ v ∷ after) → length (before ++ v ∷ after) ≡ 1 → (v.x ≡ 0) × (v.width ≡ width)
+-- one run alone is the whole width
+pub one_run : (width : ℕ) (laid : List Square) (before : List Segment) (v : Segment) (after : List Segment)
+    → AreRuns width laid 0 (before ++ v ∷ after) → length (before ++ v ∷ after) ≡ 1 → (v.x ≡ 0) × (v.width ≡ width)
 one_run width laid [] v [] cut one = (cut.0, omega (arith, cut.2))
 one_run width laid [] v (r ∷ after) cut one = absurd (omega arith)
 one_run width laid (r ∷ before) v after cut one = absurd (omega (arith, one, length-append before (v ∷ after)))
@@ -60,36 +66,49 @@ depth_from_end width laid c e = ap (λ (b : Bool). cond b (depth laid c ∷ []) 
 
 -- the leftmost valley among the runs
 abbrev pub place_in : (width : ℕ) (laid : List Square) (o : Outline) (s : ShowsLaid width laid o) → 0 < width → Placed width laid 0 s.runs
-place_in width laid o s wide = placed width laid s.runs wide s.cut (subst (λ (signs : List Sign). AllByRecursion (λ sign. parts sign ≡ true) signs) s.signs s.parted)
+place_in width laid o s wide = placed width laid s.runs wide s.cut
+    (subst (λ (signs : List Sign). AllByRecursion (λ sign. parts sign ≡ true) signs) s.signs s.parted)
 
-module _ (width : ℕ) (laid : List Square) (o : Outline) (s : ShowsLaid width laid o) (before : List Segment) (v : Segment) (after : List Segment) (is : s.runs ≡ before ++ v ∷ after)
+module _ (width : ℕ) (laid : List Square) (o : Outline) (s : ShowsLaid width laid o) (before : List Segment) (v : Segment)
+    (after : List Segment) (is : s.runs ≡ before ++ v ∷ after)
     (found : IsLeftmostValley width laid v) (number : valley_place o.signs ≡ length before)
-    (left : ((before ≡ []) × (v.x ≡ 0)) ⊎ HasLast laid v.x before) (right : ((after ≡ []) × (v.x + v.width ≡ width)) ⊎ HasFirst width laid (v.x + v.width) after) where
+    (left : ((before ≡ []) × (v.x ≡ 0)) ⊎ HasLast laid v.x before) (right : ((after ≡ []) × (v.x + v.width ≡ width))
+    ⊎ HasFirst width laid (v.x + v.width) after) where
+  -- runs and segments go together, before, at and behind the valley
   pub zip : AllZip (IsSegment laid) (before ++ v ∷ after) o.segments
   zip = subst (λ (runs : List Segment). AllZip (IsSegment laid) runs o.segments) is s.segments
 
+  -- the signs compare the runs' levels
   pub level_signs : o.signs ≡ signs_between (levels before ++ v.level ∷ levels after)
   level_signs = s.signs ∙ ap (λ runs. signs_between (levels runs)) is ∙ ap signs_between (map-append (λ r. r.level) before (v ∷ after))
 
+  -- the valley's place is the number of runs before it
   pub number_levels : valley_place o.signs ≡ length (levels before)
   number_levels = number ∙ sym (length-map before (λ r. r.level))
 
+  -- the level just before the valley
   pub last_is : LastIs (levels before) (depth_before laid v.x)
   last_is = record { shape = cases left }
     where
-      cases : ((before ≡ []) × (v.x ≡ 0)) ⊎ HasLast laid v.x before → ((levels before ≡ []) × (depth_before laid v.x ≡ [])) ⊎ ((front : List ℕ) × (l : ℕ) × (levels before ≡ front ++ l ∷ []) × (depth_before laid v.x ≡ l ∷ []))
+      cases : ((before ≡ []) × (v.x ≡ 0)) ⊎ HasLast laid v.x before → ((levels before ≡ []) × (depth_before laid v.x ≡ []))
+          ⊎ ((front : List ℕ) × (l : ℕ) × (levels before ≡ front ++ l ∷ []) × (depth_before laid v.x ≡ l ∷ []))
       cases (inl (none, at)) = inl (ap levels none, ap (depth_before laid) at)
       cases (inr h) = inr (levels h.front, (h.last).level, ap levels h.is ∙ map-append (λ r. r.level) h.front (h.last ∷ []), h.level)
 
+  -- and that just behind it
   pub first_is : FirstIs (levels after) (depth_from width laid (v.x + v.width))
   first_is = record { shape = cases right }
     where
-      cases : ((after ≡ []) × (v.x + v.width ≡ width)) ⊎ HasFirst width laid (v.x + v.width) after → ((levels after ≡ []) × (depth_from width laid (v.x + v.width) ≡ [])) ⊎ ((r : ℕ) × (back : List ℕ) × (levels after ≡ r ∷ back) × (depth_from width laid (v.x + v.width) ≡ r ∷ []))
+      cases : ((after ≡ []) × (v.x + v.width ≡ width)) ⊎ HasFirst width laid (v.x + v.width) after
+          → ((levels after ≡ []) × (depth_from width laid (v.x + v.width) ≡ []))
+          ⊎ ((r : ℕ) × (back : List ℕ) × (levels after ≡ r ∷ back) × (depth_from width laid (v.x + v.width) ≡ r ∷ []))
       cases (inl (none, at)) = inl (ap levels none, depth_from_end width laid (v.x + v.width) at)
       cases (inr h) = inr ((h.first).level, levels h.back, ap levels h.is, h.level)
 
-  module _ (m : Move) (new : List ℕ) (count : length new ≡ m.count) (some : 0 < m.count) (positive : AllByRecursion (λ s. 0 < s) new) (fills : total new ≡ v.width)
-      (signs : m.signs ≡ signs_between (depth_before laid v.x ++ map (λ q. q.y + q.s) (laid_group v.x v.level new) ++ depth_from width laid (v.x + v.width))) where
+  module _ (m : Move) (new : List ℕ) (count : length new ≡ m.count) (some : 0 < m.count) (positive : AllByRecursion (λ s. 0 < s) new)
+      (fills : total new ≡ v.width)
+      (signs : m.signs ≡ signs_between (depth_before laid v.x ++ map (λ q. q.y + q.s) (laid_group v.x v.level new)
+      ++ depth_from width laid (v.x + v.width))) where
     flat : IsLevel width laid v
     flat = (found.valley).flat
 
@@ -97,7 +116,12 @@ module _ (width : ℕ) (laid : List Square) (o : Outline) (s : ShowsLaid width l
     there c lo hi = flat.level c lo (omega (arith, fills))
 
     stays : (r : Segment) → IsLevel width laid r → (r.x + r.width ≤ v.x) ⊎ (v.x + v.width ≤ r.x) → IsLevel width (laid ++ laid_group v.x v.level new) r
-    stays r own away = record { some = own.some; within = own.within; level = λ c lo hi. depth_beside laid v.x v.level new there c (beside c lo hi away) ∙ own.level c lo hi }
+    stays r own away = record {
+      some = own.some;
+      within = own.within;
+      level =
+          λ c lo hi. depth_beside laid v.x v.level new there c (beside c lo hi away) ∙ own.level c lo hi;
+    }
       where
         beside : (c : ℕ) → r.x ≤ c → c < r.x + r.width → (r.x + r.width ≤ v.x) ⊎ (v.x + v.width ≤ r.x) → (c < v.x) ⊎ (v.x + total new ≤ c)
         beside c lo hi (inl a) = inl (omega arith)
@@ -107,8 +131,10 @@ module _ (width : ℕ) (laid : List Square) (o : Outline) (s : ShowsLaid width l
     runs_after x [] h cut = cut
     runs_after x (r ∷ runs) h cut = (cut.0, stays r cut.1 (inr (omega (arith, cut.0))), runs_after (x + r.width) runs (omega arith) cut.2)
 
-    runs_new : (x : ℕ) (sides : List ℕ) → ((q : Square) → IsOneOf q (laid_group x v.level sides) → IsOneOf q (laid_group v.x v.level new)) → (end : ℕ) → x + total sides ≡ end → (rest : List Segment)
-        → AreRuns width (laid ++ laid_group v.x v.level new) end rest → AreRuns width (laid ++ laid_group v.x v.level new) x (map run_of (laid_group x v.level sides) ++ rest)
+    runs_new : (x : ℕ) (sides : List ℕ) → ((q : Square) → IsOneOf q (laid_group x v.level sides) → IsOneOf q (laid_group v.x v.level new))
+        → (end : ℕ) → x + total sides ≡ end → (rest : List Segment)
+        → AreRuns width (laid ++ laid_group v.x v.level new) end rest
+        → AreRuns width (laid ++ laid_group v.x v.level new) x (map run_of (laid_group x v.level sides) ++ rest)
     runs_new x [] f end c rest cut = subst (λ (y : ℕ). AreRuns width (laid ++ laid_group v.x v.level new) y rest) (omega (arith, c)) cut
     runs_new x (a ∷ sides) f end c rest cut = (refl, own, runs_new (x + a) sides (λ r h. f r (inr h)) end (omega (arith, c)) rest cut)
       where
@@ -129,19 +155,29 @@ module _ (width : ℕ) (laid : List Square) (o : Outline) (s : ShowsLaid width l
     runs_end x [] after cut = omega (arith, cut.0)
     runs_end x (r ∷ before) after cut = omega (arith, runs_end (x + r.width) before after cut.2)
 
-    runs_all : (x : ℕ) (before after : List Segment) → AreRuns width laid x (before ++ v ∷ after) → AreRuns width (laid ++ laid_group v.x v.level new) x (before ++ map run_of (laid_group v.x v.level new) ++ after)
+    runs_all : (x : ℕ) (before after : List Segment) → AreRuns width laid x (before ++ v ∷ after)
+        → AreRuns width (laid ++ laid_group v.x v.level new) x (before ++ map run_of (laid_group v.x v.level new) ++ after)
     runs_all x [] after cut = subst (λ (y : ℕ). AreRuns width (laid ++ laid_group v.x v.level new) y (map run_of (laid_group v.x v.level new) ++ after)) cut.0
         (runs_new v.x new (λ q h. h) (v.x + v.width) (omega (arith, fills)) after
-        (subst (λ (y : ℕ). AreRuns width (laid ++ laid_group v.x v.level new) y after) (omega (arith, cut.0)) (runs_after (x + v.width) after (omega (arith, cut.0)) cut.2)))
-    runs_all x (r ∷ before) after cut = (cut.0, stays r cut.1 (inl (omega (arith, cut.0, runs_end (x + r.width) before after cut.2))), runs_all (x + r.width) before after cut.2)
+        (subst (λ (y : ℕ). AreRuns width (laid ++ laid_group v.x v.level new) y after) (omega (arith, cut.0))
+        (runs_after (x + v.width) after (omega (arith, cut.0)) cut.2)))
+    runs_all x (r ∷ before) after cut = (
+      cut.0,
+      stays r cut.1 (inl (omega (arith, cut.0, runs_end (x + r.width) before after cut.2))),
+      runs_all (x + r.width) before after cut.2,
+    )
 
     new_signs : signs_apart o m ≡ signs_between (levels (before ++ map run_of (laid_group v.x v.level new) ++ after))
     new_signs = (λ i. take (number_levels i - 1) (level_signs i) ++ signs i ++ drop (number_levels i + 1) (level_signs i))
-        ∙ signs_new (levels before) (depth_before laid v.x) v.level (levels after) (depth_from width laid (v.x + v.width)) (map (λ q. q.y + q.s) (laid_group v.x v.level new)) last_is first_is
+        ∙ signs_new (levels before) (depth_before laid v.x) v.level (levels after) (depth_from width laid (v.x + v.width))
+        (map (λ q. q.y + q.s) (laid_group v.x v.level new)) last_is first_is
         ∙ ap signs_between (sym cut)
       where
-        cut : levels (before ++ map run_of (laid_group v.x v.level new) ++ after) ≡ levels before ++ map (λ q. q.y + q.s) (laid_group v.x v.level new) ++ levels after
-        cut = map-append (λ r. r.level) (before ++ map run_of (laid_group v.x v.level new)) after ∙ ap (λ ls. ls ++ levels after) (map-append (λ r. r.level) before (map run_of (laid_group v.x v.level new)) ∙ ap (λ ls. levels before ++ ls) (new_levels (laid_group v.x v.level new)))
+        cut : levels (before ++ map run_of (laid_group v.x v.level new) ++ after) ≡ levels before
+            ++ map (λ q. q.y + q.s) (laid_group v.x v.level new) ++ levels after
+        cut = map-append (λ r. r.level) (before ++ map run_of (laid_group v.x v.level new)) after
+            ∙ ap (λ ls. ls ++ levels after) (map-append (λ r. r.level) before (map run_of (laid_group v.x v.level new))
+            ∙ ap (λ ls. levels before ++ ls) (new_levels (laid_group v.x v.level new)))
 
     S : Segment → List ℕ → Type 0
     S = IsSegment (laid ++ laid_group v.x v.level new)
@@ -150,22 +186,28 @@ module _ (width : ℕ) (laid : List Square) (o : Outline) (s : ShowsLaid width l
     new_count = length_group v.x v.level new ∙ count
 
     new_zip : AllZip (IsSegment (laid ++ laid_group v.x v.level new)) (before ++ map run_of (laid_group v.x v.level new) ++ after) (segments_apart o m)
-    new_zip = zip_append (IsSegment (laid ++ laid_group v.x v.level new)) (before ++ map run_of (laid_group v.x v.level new)) after (take (valley_place o.signs) o.segments ++ map (λ q. q ∷ []) (new_squares o m)) (drop (valley_place o.signs + 1) o.segments)
-        (zip_append (IsSegment (laid ++ laid_group v.x v.level new)) before (map run_of (laid_group v.x v.level new)) (take (valley_place o.signs) o.segments) (map (λ q. q ∷ []) (new_squares o m)) fronts news) backs
+    new_zip = zip_append (IsSegment (laid ++ laid_group v.x v.level new)) (before ++ map run_of (laid_group v.x v.level new)) after
+        (take (valley_place o.signs) o.segments ++ map (λ q. q ∷ []) (new_squares o m)) (drop (valley_place o.signs + 1) o.segments)
+        (zip_append (IsSegment (laid ++ laid_group v.x v.level new)) before (map run_of (laid_group v.x v.level new))
+        (take (valley_place o.signs) o.segments) (map (λ q. q ∷ []) (new_squares o m)) fronts news) backs
       where
         fronts : AllZip (IsSegment (laid ++ laid_group v.x v.level new)) before (take (valley_place o.signs) o.segments)
-        fronts = zip_map (IsSegment laid) (IsSegment (laid ++ laid_group v.x v.level new)) (segment_more laid (laid_group v.x v.level new)) before (take (valley_place o.signs) o.segments)
+        fronts = zip_map (IsSegment laid) (IsSegment (laid ++ laid_group v.x v.level new)) (segment_more laid (laid_group v.x v.level new))
+            before (take (valley_place o.signs) o.segments)
             (subst (λ (n : ℕ). AllZip (IsSegment laid) before (take n o.segments)) (sym number) (zip_before (IsSegment laid) before v after o.segments zip))
 
-        news : AllZip (IsSegment (laid ++ laid_group v.x v.level new)) (map run_of (laid_group v.x v.level new)) (map (λ q. q ∷ []) (numbers_from (length o.hung + 1) m.count))
-        news = subst (λ (k : ℕ). AllZip (IsSegment (laid ++ laid_group v.x v.level new)) (map run_of (laid_group v.x v.level new)) (map (λ q. q ∷ []) (numbers_from (length o.hung + 1) k))) new_count
+        news : AllZip (IsSegment (laid ++ laid_group v.x v.level new)) (map run_of (laid_group v.x v.level new))
+            (map (λ q. q ∷ []) (numbers_from (length o.hung + 1) m.count))
+        news = subst (λ (k : ℕ). AllZip (IsSegment (laid ++ laid_group v.x v.level new)) (map run_of (laid_group v.x v.level new))
+            (map (λ q. q ∷ []) (numbers_from (length o.hung + 1) k))) new_count
             (new_segments (laid ++ laid_group v.x v.level new) laid (laid_group v.x v.level new) refl (length o.hung) (sym s.count))
 
         next : suc (length before) ≡ valley_place o.signs + 1
         next = omega (arith, number)
 
         backs : AllZip (IsSegment (laid ++ laid_group v.x v.level new)) after (drop (valley_place o.signs + 1) o.segments)
-        backs = zip_map (IsSegment laid) (IsSegment (laid ++ laid_group v.x v.level new)) (segment_more laid (laid_group v.x v.level new)) after (drop (valley_place o.signs + 1) o.segments)
+        backs = zip_map (IsSegment laid) (IsSegment (laid ++ laid_group v.x v.level new)) (segment_more laid (laid_group v.x v.level new))
+            after (drop (valley_place o.signs + 1) o.segments)
             (subst (λ (n : ℕ). AllZip (IsSegment laid) after (drop n o.segments)) next (zip_after (IsSegment laid) before v after o.segments zip))
 
     inside : (q : Square) → IsOneOf q laid ⊎ IsOneOf q (laid_group v.x v.level new) → (0 < q.s) × (q.x + q.s ≤ width)
@@ -178,8 +220,10 @@ module _ (width : ℕ) (laid : List Square) (o : Outline) (s : ShowsLaid width l
     sides : (n : ℕ) (q : Square) → IsNumbered (laid ++ laid_group v.x v.level new) n q → 0 < q.s
     sides n q h = (all_inside q (one_of (laid ++ laid_group v.x v.level new) h.0 q h.2)).0
 
-    join_all : (runs : List Segment) (segments : List (List ℕ)) → 0 < length runs → AreRuns width (laid ++ laid_group v.x v.level new) 0 runs → AllZip (IsSegment (laid ++ laid_group v.x v.level new)) runs segments
-        → (level : ℕ) × Joined width (laid ++ laid_group v.x v.level new) sides 0 level (joined (signs_between (levels runs)) segments) (filter parts (signs_between (levels runs)))
+    join_all : (runs : List Segment) (segments : List (List ℕ)) → 0 < length runs
+        → AreRuns width (laid ++ laid_group v.x v.level new) 0 runs → AllZip (IsSegment (laid ++ laid_group v.x v.level new)) runs segments
+        → (level : ℕ) × Joined width (laid ++ laid_group v.x v.level new) sides 0 level (joined (signs_between (levels runs)) segments)
+        (filter parts (signs_between (levels runs)))
     join_all [] segments h cut z = absurd (omega arith)
     join_all (r ∷ runs) [] h cut z = absurd z
     join_all (r ∷ runs) (n ∷ segments) h cut z = (r.level, join width (laid ++ laid_group v.x v.level new) sides r runs 0 n segments cut z)
@@ -187,7 +231,8 @@ module _ (width : ℕ) (laid : List Square) (o : Outline) (s : ShowsLaid width l
     -- the columns lie below the top then
     deep : ((laid ≡ []) × (o ≡ start)) ⊎ ((c : ℕ) → c < width → 0 < depth laid c) → (c : ℕ) → c < width → 0 < depth (laid ++ laid_group v.x v.level new) c
     deep (inr h) c k = omega (arith, h c k, depth-append laid (laid_group v.x v.level new) c)
-    deep (inl (none, first)) c k = from (one_run width laid before v after (subst (λ (runs : List Segment). AreRuns width laid 0 runs) is s.cut) (sym (ap length is) ∙ one))
+    deep (inl (none, first)) c k = from (one_run width laid before v after
+        (subst (λ (runs : List Segment). AreRuns width laid 0 runs) is s.cut) (sym (ap length is) ∙ one))
       where
         one : length s.runs ≡ 1
         one = zip_length (IsSegment laid) s.runs o.segments s.segments ∙ ap (λ (p : Outline). length p.segments) first
@@ -198,23 +243,43 @@ module _ (width : ℕ) (laid : List Square) (o : Outline) (s : ShowsLaid width l
             over : HasOver v.level c (laid_group v.x v.level new) → 0 < depth (laid ++ laid_group v.x v.level new) c
             over r = omega (arith, depth_under laid v.x v.level new there c r.square r.is r.left r.right, group_sides v.x v.level new positive r.square r.is)
 
+    -- after a turn the outline after the move shows what is laid
     pub shows_move : ShowsLaid width (laid ++ laid_group v.x v.level new) (after_move o m)
     shows_move = record {
       runs = j.first ∷ j.more;
       cut = j.cut;
-      segments = subst (λ (signs : List Sign). AllZip (IsSegment (laid ++ laid_group v.x v.level new)) (j.first ∷ j.more) (joined signs (segments_apart o m))) (sym new_signs) j.depicts;
+      segments = subst (λ (signs : List Sign). AllZip (IsSegment (laid ++ laid_group v.x v.level new)) (j.first ∷ j.more)
+          (joined signs (segments_apart o m))) (sym new_signs) j.depicts;
       signs = ap (filter parts) new_signs ∙ j.between;
       parted = parts_filter (signs_apart o m);
-      count = omega (arith, length-append laid (laid_group v.x v.level new), length-append o.hung (replicate m.count (length o.closed)), length-replicate m.count (length o.closed), s.count, new_count);
+      count = omega (
+        arith,
+        length-append laid (laid_group v.x v.level new),
+        length-append o.hung (replicate m.count (length o.closed)),
+        length-replicate m.count (length o.closed),
+        s.count,
+        new_count,
+      );
       filled = filled_group laid v.x v.level new there width s.filled;
       inside = all_inside;
       begun = inr (deep s.begun);
     }
       where
-        joins : (level : ℕ) × Joined width (laid ++ laid_group v.x v.level new) sides 0 level (joined (signs_between (levels (before ++ map run_of (laid_group v.x v.level new) ++ after))) (segments_apart o m)) (filter parts (signs_between (levels (before ++ map run_of (laid_group v.x v.level new) ++ after))))
+        joins : (level : ℕ) × Joined width (laid ++ laid_group v.x v.level new) sides 0 level
+            (joined (signs_between (levels (before ++ map run_of (laid_group v.x v.level new) ++ after))) (segments_apart o m))
+            (filter parts (signs_between (levels (before ++ map run_of (laid_group v.x v.level new) ++ after))))
         joins = join_all (before ++ map run_of (laid_group v.x v.level new) ++ after) (segments_apart o m)
-            (omega (arith, length-append (before ++ map run_of (laid_group v.x v.level new)) after, length-append before (map run_of (laid_group v.x v.level new)), length-map (laid_group v.x v.level new) run_of, new_count, some))
+            (omega (
+              arith,
+              length-append (before ++ map run_of (laid_group v.x v.level new)) after,
+              length-append before (map run_of (laid_group v.x v.level new)),
+              length-map (laid_group v.x v.level new) run_of,
+              new_count,
+              some,
+            ))
             (runs_all 0 before after (subst (λ (runs : List Segment). AreRuns width laid 0 runs) is s.cut)) new_zip
 
-        j : Joined width (laid ++ laid_group v.x v.level new) sides 0 joins.0 (joined (signs_between (levels (before ++ map run_of (laid_group v.x v.level new) ++ after))) (segments_apart o m)) (filter parts (signs_between (levels (before ++ map run_of (laid_group v.x v.level new) ++ after))))
+        j : Joined width (laid ++ laid_group v.x v.level new) sides 0 joins.0
+            (joined (signs_between (levels (before ++ map run_of (laid_group v.x v.level new) ++ after))) (segments_apart o m))
+            (filter parts (signs_between (levels (before ++ map run_of (laid_group v.x v.level new) ++ after))))
         j = joins.1

@@ -25,32 +25,42 @@ abbrev pub in_sum : (ℕ → ℕ) → ℕ → List ℕ → ℕ → ℕ
 in_sum f b [] v = 0
 in_sum f b (s ∷ sides) v = cond (nat_eq (f b) v) s 0 + in_sum f (b + 1) sides v
 
+-- some sides of at least 1 have a positive sum
 pub positive_total : (sides : List ℕ) → AllByRecursion (λ s. 0 < s) sides → 0 < length sides → 0 < total sides
 positive_total [] a h = absurd (omega arith)
 positive_total (s ∷ sides) a h = omega (arith, a.0)
 
+-- so are the sides of squares
 pub positive_sides : (squares : List Square) → ((q : Square) → IsOneOf q squares → 0 < q.s) → AllByRecursion (λ s. 0 < s) (laid_sides squares)
 positive_sides [] each = tt
 positive_sides (q ∷ squares) each = (each q (inl refl), positive_sides squares (λ r h. each r (inr h)))
 
-one_wire : (a b : Bool) (s m n : ℕ) (r : ℤ) → r ≡ pos m -ℤ pos n → (cond a (pos s) (pos 0) -ℤ cond b (pos s) (pos 0)) +ℤ r ≡ pos (cond a s 0 + m) -ℤ pos (cond b s 0 + n)
+one_wire : (a b : Bool) (s m n : ℕ) (r : ℤ) → r ≡ pos m -ℤ pos n
+    → (cond a (pos s) (pos 0) -ℤ cond b (pos s) (pos 0)) +ℤ r ≡ pos (cond a s 0 + m) -ℤ pos (cond b s 0 + n)
 one_wire true true s m n r e = omega (arith, ints)
 one_wire true false s m n r e = omega (arith, ints)
 one_wire false true s m n r e = omega (arith, ints)
 one_wire false false s m n r e = omega (arith, ints)
 
-pub outflow_is : (f : ℕ → ℕ) (b : ℕ) (hung sides : List ℕ) (v : ℕ) → length hung ≡ length sides → outflow (wires_by f b hung) (map pos sides) v ≡ pos (out_sum hung sides v) -ℤ pos (in_sum f b sides v)
+-- what flows out of a node: the sides that hang from it, less those that end on it
+pub outflow_is : (f : ℕ → ℕ) (b : ℕ) (hung sides : List ℕ) (v : ℕ) → length hung ≡ length sides
+    → outflow (wires_by f b hung) (map pos sides) v ≡ pos (out_sum hung sides v) -ℤ pos (in_sum f b sides v)
 outflow_is f b [] [] v e = omega (arith, ints)
 outflow_is f b [] (s ∷ sides) v e = absurd (omega arith)
 outflow_is f b (h ∷ hung) [] v e = absurd (omega arith)
-outflow_is f b (h ∷ hung) (s ∷ sides) v e = one_wire (nat_eq h v) (nat_eq (f b) v) s (out_sum hung sides v) (in_sum f (b + 1) sides v) (outflow (wires_by f (b + 1) hung) (map pos sides) v) (outflow_is f (b + 1) hung sides v (omega arith))
+outflow_is f b (h ∷ hung) (s ∷ sides) v e =
+    one_wire (nat_eq h v) (nat_eq (f b) v) s (out_sum hung sides v) (in_sum f (b + 1) sides v)
+    (outflow (wires_by f (b + 1) hung) (map pos sides) v) (outflow_is f (b + 1) hung sides v (omega arith))
 
-pub out_sum-append : (hung more sides further : List ℕ) (v : ℕ) → length hung ≡ length sides → out_sum (hung ++ more) (sides ++ further) v ≡ out_sum hung sides v + out_sum more further v
+-- the sides that hang from a node, summed over two parts
+pub out_sum-append : (hung more sides further : List ℕ) (v : ℕ) → length hung ≡ length sides
+    → out_sum (hung ++ more) (sides ++ further) v ≡ out_sum hung sides v + out_sum more further v
 out_sum-append [] more [] further v e = omega arith
 out_sum-append [] more (s ∷ sides) further v e = absurd (omega arith)
 out_sum-append (h ∷ hung) more [] further v e = absurd (omega arith)
 out_sum-append (h ∷ hung) more (s ∷ sides) further v e = omega (arith, out_sum-append hung more sides further v (omega arith))
 
+-- all that hang from it
 pub out_sum-here : (sides : List ℕ) (v : ℕ) → out_sum (replicate (length sides) v) sides v ≡ total sides
 out_sum-here [] v = refl
 out_sum-here (s ∷ sides) v = omega (arith, same, out_sum-here sides v)
@@ -58,6 +68,7 @@ out_sum-here (s ∷ sides) v = omega (arith, same, out_sum-here sides v)
     same : cond (nat_eq v v) s 0 ≡ s
     same = grind (arith, nat_tests)
 
+-- none
 pub out_sum-none : (hung sides : List ℕ) (v : ℕ) → times v hung ≡ 0 → out_sum hung sides v ≡ 0
 out_sum-none [] sides v e = refl
 out_sum-none (h ∷ hung) [] v e = refl
@@ -78,9 +89,16 @@ one_times : (b : Bool) (n s : ℕ) → n ≡ cond b 1 0 → cond b s 0 ≡ n * s
 one_times true n s e = omega (arith, ap (λ (m : ℕ). m * s) e)
 one_times false n s e = omega (arith, ap (λ (m : ℕ). m * s) e)
 
-pub in_is_weighted : (f : ℕ → ℕ) (b : ℕ) (sides : List ℕ) (v : ℕ) (numbers : List ℕ) → ((k : ℕ) → k < length sides → times (b + k) numbers ≡ cond (nat_eq (f (b + k)) v) 1 0) → in_sum f b sides v ≡ weighted sides b numbers
+-- the sides that end on a node, summed over the numbers of its list
+pub in_is_weighted : (f : ℕ → ℕ) (b : ℕ) (sides : List ℕ) (v : ℕ) (numbers : List ℕ)
+    → ((k : ℕ) → k < length sides → times (b + k) numbers ≡ cond (nat_eq (f (b + k)) v) 1 0) → in_sum f b sides v ≡ weighted sides b numbers
 in_is_weighted f b [] v numbers each = refl
-in_is_weighted f b (s ∷ sides) v numbers each = omega (arith, one_times (nat_eq (f b) v) (times b numbers) s here, in_is_weighted f (b + 1) sides v numbers (λ k h. at (b + suc k) (b + 1 + k) (omega arith) (each (suc k) (omega arith))))
+in_is_weighted f b (s ∷ sides) v numbers each =
+    omega (
+      arith,
+      one_times (nat_eq (f b) v) (times b numbers) s here,
+      in_is_weighted f (b + 1) sides v numbers (λ k h. at (b + suc k) (b + 1 + k) (omega arith) (each (suc k) (omega arith))),
+    )
   where
     at : (m n : ℕ) → m ≡ n → times m numbers ≡ cond (nat_eq (f m) v) 1 0 → times n numbers ≡ cond (nat_eq (f n) v) 1 0
     at m n e h = subst (λ (k : ℕ). times k numbers ≡ cond (nat_eq (f k) v) 1 0) e h
@@ -88,6 +106,7 @@ in_is_weighted f b (s ∷ sides) v numbers each = omega (arith, one_times (nat_e
     here : times b numbers ≡ cond (nat_eq (f b) v) 1 0
     here = at (b + 0) b (omega arith) (each 0 (omega arith))
 
+-- no numbers have the sum 0
 pub weighted_nil : (sides : List ℕ) (b : ℕ) → weighted sides b [] ≡ 0
 weighted_nil [] b = refl
 weighted_nil (s ∷ sides) b = omega (arith, weighted_nil sides (b + 1))
@@ -128,10 +147,13 @@ span_sum_of laid sides of level x (n ∷ numbers) end (q, at, place, bottom, res
   span_sum_of laid sides of level (x + q.s) numbers end rest,
 )
 
+-- the side of the square at a place
 pub get_side : (laid : List Square) (k : ℕ) (q : Square) → slice_get laid k ≡ Some q → slice_get (map (λ q. q.s) laid) k ≡ Some q.s
 get_side [] k q e = absurd (cc)
 get_side (r ∷ laid) zero q e = let same : r ≡ q = cc in ap (λ (p : Square). Some p.s) same
 get_side (r ∷ laid) (suc k) q e = get_side laid k q e
 
-pub span_sum : (laid : List Square) (level x : ℕ) (numbers : List ℕ) (end : ℕ) → Span laid level x numbers end → x + weighted (map (λ q. q.s) laid) 1 numbers ≡ end
+-- squares side by side end where their sides sum to
+pub span_sum : (laid : List Square) (level x : ℕ) (numbers : List ℕ) (end : ℕ) → Span laid level x numbers end
+    → x + weighted (map (λ q. q.s) laid) 1 numbers ≡ end
 span_sum laid level x numbers end span = span_sum_of laid (map (λ q. q.s) laid) (get_side laid) level x numbers end span

@@ -44,9 +44,13 @@ record OwnTurn (t : Tiling) (laid : List Square) (o : Outline) (m : Move) (w : W
   pub turn : IsTurn t.width laid m new v
   pub next : AgreesAt t.width t (laid ++ laid_group v.x v.level new) (after_move o m) w further
 
-module _ (t : Tiling) (tiling : IsTiling t) (laid : List Square) (nodes : List Segment) (o : Outline) (m : Move) (w : Word) (new further : List ℕ) (some : 0 < m.count) (count : length new ≡ m.count)
-    (a : Along t laid nodes o) (v : Segment) (found : IsLeftmostValley t.width laid v) (low : v.level < t.height) (same : m ≡ move_under t laid v) (follow : MovesFollow t (laid ++ squares_under t v) w)
-    (levels : List ℕ) (all : List Square) (all_levels : List ℕ) (later : LaidAlong t (laid ++ squares_under t v) (levels ++ v.level ∷ []) w all all_levels) (sides : laid_sides all ≡ laid_sides laid ++ (new ++ further)) where
+module _ (t : Tiling) (tiling : IsTiling t) (laid : List Square) (nodes : List Segment) (o : Outline) (m : Move) (w : Word)
+    (new further : List ℕ) (some : 0 < m.count) (count : length new ≡ m.count)
+    (a : Along t laid nodes o) (v : Segment) (found : IsLeftmostValley t.width laid v) (low : v.level < t.height)
+    (same : m ≡ move_under t laid v) (follow : MovesFollow t (laid ++ squares_under t v) w)
+    (levels : List ℕ) (all : List Square) (all_levels : List ℕ)
+    (later : LaidAlong t (laid ++ squares_under t v) (levels ++ v.level ∷ []) w all all_levels)
+    (sides : laid_sides all ≡ laid_sides laid ++ (new ++ further)) where
   pre : (more : List Square) × (all ≡ (laid ++ squares_under t v) ++ more)
   pre = along_prefix t (laid ++ squares_under t v) (levels ++ v.level ∷ []) w all all_levels later
 
@@ -61,11 +65,13 @@ module _ (t : Tiling) (tiling : IsTiling t) (laid : List Square) (nodes : List S
     where
       rest : laid_sides (squares_under t v) ++ laid_sides pre.0 ≡ new ++ further
       rest = (append_parts (laid_sides laid) (laid_sides (squares_under t v) ++ laid_sides pre.0) (laid_sides laid) (new ++ further) refl
-          (sym (ap (λ (xs : List ℕ). laid_sides laid ++ xs) (map-append (λ q. q.s) (squares_under t v) pre.0)) ∙ sym (map-append (λ q. q.s) laid (squares_under t v ++ pre.0))
+          (sym (ap (λ (xs : List ℕ). laid_sides laid ++ xs) (map-append (λ q. q.s) (squares_under t v) pre.0))
+          ∙ sym (map-append (λ q. q.s) laid (squares_under t v ++ pre.0))
           ∙ ap laid_sides (sym (append_assoc laid (squares_under t v) pre.0)) ∙ sym (ap laid_sides pre.1) ∙ sides)).1
 
   group : squares_under t v ≡ laid_group v.x v.level new
-  group = chain_is_group (squares_under t v) v.x v.level (v.x + v.width) chain (all_from (λ r. r.y ≡ v.level) (squares_under t v) (λ r h. (is_under t laid v tiling a.fills found low r h).level))
+  group = chain_is_group (squares_under t v) v.x v.level (v.x + v.width) chain
+      (all_from (λ r. r.y ≡ v.level) (squares_under t v) (λ r h. (is_under t laid v tiling a.fills found low r h).level))
       ∙ ap (laid_group v.x v.level) parts.0
 
   its_turn : OwnTurn t laid o m w new further v
@@ -74,21 +80,26 @@ module _ (t : Tiling) (tiling : IsTiling t) (laid : List Square) (nodes : List S
       found = found;
       count = count;
       some = some;
-      positive = subst (AllByRecursion (λ s. 0 < s)) parts.0 (positive_sides (squares_under t v) (λ r h. in_all (λ q. 0 < q.s) t.squares (tiling.tiles).sides r (in_tiling t laid v tiling a.fills found low r h)));
+      positive = subst (AllByRecursion (λ s. 0 < s)) parts.0
+          (positive_sides (squares_under t v) (λ r h. in_all (λ q. 0 < q.s) t.squares (tiling.tiles).sides r
+          (in_tiling t laid v tiling a.fills found low r h)));
       fills = omega (arith, chain_total (squares_under t v) v.x (v.x + v.width) chain, ap total parts.0, sum_is_total new);
-      signs = ap (λ (n : Move). n.signs) same ∙ ap (λ (squares : List Square). signs_between (depth_before laid v.x ++ map (λ q. q.y + q.s) squares ++ depth_from t.width laid (v.x + v.width))) group;
+      signs = ap (λ (n : Move). n.signs) same ∙ ap
+          (λ (squares : List Square). signs_between (depth_before laid v.x ++ map (λ q. q.y + q.s) squares ++ depth_from t.width laid (v.x + v.width))) group;
     };
     next = subst (λ (squares : List Square). AgreesAt t.width t (laid ++ squares) (after_move o m) w further) group (record {
       tiling = tiling;
       same_width = refl;
       nodes = nodes ++ v ∷ [];
-      along = subst (λ (n : Move). Along t (laid ++ squares_under t v) (nodes ++ v ∷ []) (after_move o n)) (sym same) (along_move t laid nodes o v tiling a found low);
+      along = subst (λ (n : Move). Along t (laid ++ squares_under t v) (nodes ++ v ∷ []) (after_move o n)) (sym same)
+          (along_move t laid nodes o v tiling a found low);
       follow = follow;
       levels = levels ++ v.level ∷ [];
       all = all;
       all_levels = all_levels;
       later = later;
-      sides = ap laid_sides pre.1 ∙ map-append (λ q. q.s) (laid ++ squares_under t v) pre.0 ∙ ap (λ (xs : List ℕ). laid_sides (laid ++ squares_under t v) ++ xs) parts.1;
+      sides = ap laid_sides pre.1 ∙ map-append (λ q. q.s) (laid ++ squares_under t v) pre.0
+          ∙ ap (λ (xs : List ℕ). laid_sides (laid ++ squares_under t v) ++ xs) parts.1;
     });
   }
 
@@ -98,35 +109,57 @@ pub record AgreesOn (width : ℕ) (t : Tiling) (laid : List Square) (o : Outline
   pub turn : IsTurn width laid m new valley
   pub next : AgreesAt width t (laid ++ laid_group valley.x valley.level new) (after_move o m) w further
 
-own_turn : (t : Tiling) (laid : List Square) (o : Outline) (m : Move) (w : Word) (new further : List ℕ) → 0 < m.count → length new ≡ m.count → AgreesAt t.width t laid o (m ∷ w) (new ++ further) → (v : Segment) × OwnTurn t laid o m w new further v
-own_turn t laid o m w new further some count g = (g.follow.0, its_turn t g.tiling laid g.nodes o m w new further some count g.along g.follow.0 g.follow.1 g.follow.2 g.follow.3 g.follow.4 g.levels g.all g.all_levels rest g.sides)
+own_turn : (t : Tiling) (laid : List Square) (o : Outline) (m : Move) (w : Word) (new further : List ℕ) → 0 < m.count → length new ≡ m.count
+    → AgreesAt t.width t laid o (m ∷ w) (new ++ further) → (v : Segment) × OwnTurn t laid o m w new further v
+own_turn t laid o m w new further some count g = (
+  g.follow.0,
+  its_turn t g.tiling laid g.nodes o m w new further some count g.along g.follow.0 g.follow.1 g.follow.2 g.follow.3
+      g.follow.4 g.levels g.all g.all_levels rest g.sides,
+)
   where
     rest : LaidAlong t (laid ++ squares_under t g.follow.0) (g.levels ++ (g.follow.0).level ∷ []) w g.all g.all_levels
-    rest = subst (λ (u : Segment). LaidAlong t (laid ++ squares_under t u) (g.levels ++ u.level ∷ []) w g.all g.all_levels) (one_leftmost_valley t.width laid g.later.0 g.follow.0 g.later.1 g.follow.1) g.later.2
+    rest = subst (λ (u : Segment). LaidAlong t (laid ++ squares_under t u) (g.levels ++ u.level ∷ []) w g.all g.all_levels)
+        (one_leftmost_valley t.width laid g.later.0 g.follow.0 g.later.1 g.follow.1) g.later.2
 
-pub agrees_on : (width : ℕ) (t : Tiling) (laid : List Square) (o : Outline) (m : Move) (w : Word) (new further : List ℕ) → 0 < m.count → length new ≡ m.count → AgreesAt width t laid o (m ∷ w) (new ++ further) → AgreesOn width t laid o m w new further
-agrees_on width t laid o m w new further some count g = subst (λ (n : ℕ). AgreesOn n t laid o m w new further) g.same_width (from (own_turn t laid o m w new further some count (record {
-  tiling = g.tiling;
-  same_width = refl;
-  nodes = g.nodes;
-  along = g.along;
-  follow = g.follow;
-  levels = g.levels;
-  all = g.all;
-  all_levels = g.all_levels;
-  later = g.later;
-  sides = g.sides;
-})))
+-- a tiling that agrees with what is laid agrees with the next turn
+pub agrees_on : (width : ℕ) (t : Tiling) (laid : List Square) (o : Outline) (m : Move) (w : Word) (new further : List ℕ) → 0 < m.count
+    → length new ≡ m.count → AgreesAt width t laid o (m ∷ w) (new ++ further) → AgreesOn width t laid o m w new further
+agrees_on width t laid o m w new further some count g =
+    subst (λ (n : ℕ). AgreesOn n t laid o m w new further) g.same_width (from (own_turn t laid o m w new further some count (record {
+      tiling = g.tiling;
+      same_width = refl;
+      nodes = g.nodes;
+      along = g.along;
+      follow = g.follow;
+      levels = g.levels;
+      all = g.all;
+      all_levels = g.all_levels;
+      later = g.later;
+      sides = g.sides;
+    })))
   where
     from : (v : Segment) × OwnTurn t laid o m w new further v → AgreesOn t.width t laid o m w new further
     from (v, r) = record { valley = v; turn = r.turn; next = r.next }
 
 -- at the start: the width is the sum of the first move's sides
-pub agrees_start : (t : Tiling) (m : Move) (w : Word) (new further : List ℕ) → 0 < m.count → length new ≡ m.count → IsLaidWith (m ∷ w) (new ++ further) t → AgreesAt (total new) t [] start (m ∷ w) (new ++ further)
+pub agrees_start : (t : Tiling) (m : Move) (w : Word) (new further : List ℕ) → 0 < m.count → length new ≡ m.count
+    → IsLaidWith (m ∷ w) (new ++ further) t → AgreesAt (total new) t [] start (m ∷ w) (new ++ further)
 agrees_start t m w new further some count l = subst (λ (n : ℕ). AgreesAt n t [] start (m ∷ w) (new ++ further)) width here
   where
     here : AgreesAt t.width t [] start (m ∷ w) (new ++ further)
-    here = record { tiling = l.tiling; same_width = refl; nodes = []; along = along_start t l.tiling; follow = l.word; levels = []; all = l.laid; all_levels = l.levels; later = l.along; sides = l.sides }
+    here = record {
+      tiling = l.tiling;
+      same_width = refl;
+      nodes = [];
+      along = along_start t l.tiling;
+      follow = l.word;
+      levels = [];
+      all =
+          l.laid;
+      all_levels = l.levels;
+      later = l.along;
+      sides = l.sides;
+    }
 
     first : (v : Segment) × OwnTurn t [] start m w new further v
     first = own_turn t [] start m w new further some count here

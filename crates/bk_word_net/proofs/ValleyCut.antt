@@ -29,6 +29,7 @@ pub record Split (segments : List (List ℕ)) (signs : List Sign) : Type 0 where
   pub rises : (back_signs ≡ []) ⊎ ((rest : List Sign) × (back_signs ≡ Above ∷ rest))
   pub part : AllPart back_signs
 
+-- segments and signs, cut at the leftmost valley
 pub split : (segments : List (List ℕ)) (signs : List Sign) → AllPart signs → length segments ≡ length signs + 1 → Split segments signs
 split [] signs part many = absurd (omega arith)
 split (s ∷ []) [] part many = record {
@@ -179,7 +180,8 @@ pub record First (segments : List (List ℕ)) (signs : List Sign) : Type 0 where
   pub none : (right ≡ []) → after ≡ []
   pub part : AllPart after_signs
 
-first_of : (segments : List (List ℕ)) (signs : List Sign) → length segments ≡ length signs → (signs ≡ []) ⊎ ((rest : List Sign) × (signs ≡ Above ∷ rest)) → AllPart signs → First segments signs
+first_of : (segments : List (List ℕ)) (signs : List Sign) → length segments ≡ length signs → (signs ≡ [])
+    ⊎ ((rest : List Sign) × (signs ≡ Above ∷ rest)) → AllPart signs → First segments signs
 first_of [] [] many rises part = record {
   right = [];
   after = [];
@@ -214,6 +216,7 @@ first_of (s ∷ segments) (g ∷ signs) many rises part = record {
     some : s ∷ [] ≡ [] → ⊥
     some e = cc
 
+-- an outline whose signs all part, cut so
 pub at_valley : (o : Outline) → AllPart o.signs → length o.segments ≡ length o.signs + 1 → AtValley o
 at_valley o part many = whole (split o.segments o.signs part many)
   where

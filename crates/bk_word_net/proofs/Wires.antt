@@ -5,11 +5,13 @@ use Rattle.std.proofs.lemmas.Bool.Decides.{nat_tests}
 use Rattle.bk_laws.proofs.Occurrences.{times}
 use Rattle.bk_word.specs.Play.{numbers_from}
 
+-- a repeated item, at a place
 pub get_replicate : (n x k d : ℕ) → k < n → slice_index_or (replicate n x) k d ≡ x
 get_replicate zero x k d h = absurd (omega arith)
 get_replicate (suc n) x zero d h = refl
 get_replicate (suc n) x (suc k) d h = get_replicate n x k d (omega arith)
 
+-- it stands there as often as it is repeated
 pub times_replicate : (n x : ℕ) → times x (replicate n x) ≡ n
 times_replicate zero x = refl
 times_replicate (suc n) x = omega (arith, same, times_replicate n x)
@@ -17,6 +19,7 @@ times_replicate (suc n) x = omega (arith, same, times_replicate n x)
     same : ◌≡◌ {A = ℕ} (cond (nat_eq x x) 1 0) 1
     same = grind (arith, nat_tests)
 
+-- and no other does
 pub times_other : (n x k : ℕ) → (x ≡ k → ⊥) → times k (replicate n x) ≡ 0
 times_other zero x k h = refl
 times_other (suc n) x k h = omega (arith, differ x k h, times_other n x k h)
@@ -28,17 +31,21 @@ times_other (suc n) x k h = omega (arith, differ x k h, times_other n x k h)
 pub same_or_none : (j x : ℕ) → (x ≡ j) ⊎ ◌≡◌ {A = ℕ} (cond (nat_eq j x) 1 0) 0
 same_or_none j x = grind (arith, nat_tests)
 
+-- numbers that are counted as equal are equal
 pub same_if_counted : (a b : ℕ) → 0 < cond (nat_eq a b) 1 0 → a ≡ b
 same_if_counted a b h = grind (arith, nat_tests)
 
+-- the first of a list stands in it
 pub first_counted : (n : ℕ) (numbers : List ℕ) → 0 < times n (n ∷ numbers)
 first_counted n numbers = grind (arith, nat_tests)
 
+-- what stands in a list has a place
 pub found_time : (j : ℕ) (xs : List ℕ) → 0 < times j xs → (k : ℕ) × (k < length xs) × (slice_index_or xs k 0 ≡ j)
 found_time j [] h = absurd (omega arith)
 found_time j (x ∷ xs) h = cases (same_or_none j x) (found_time j xs)
   where
-    cases : (x ≡ j) ⊎ ◌≡◌ {A = ℕ} (cond (nat_eq j x) 1 0) 0 → (0 < times j xs → (k : ℕ) × (k < length xs) × (slice_index_or xs k 0 ≡ j)) → (k : ℕ) × (k < suc (length xs)) × (slice_index_or (x ∷ xs) k 0 ≡ j)
+    cases : (x ≡ j) ⊎ ◌≡◌ {A = ℕ} (cond (nat_eq j x) 1 0) 0 → (0 < times j xs → (k : ℕ) × (k < length xs) × (slice_index_or xs k 0 ≡ j))
+        → (k : ℕ) × (k < suc (length xs)) × (slice_index_or (x ∷ xs) k 0 ≡ j)
     cases (inl e) rest = (0, omega arith, e)
     cases (inr e) rest = let r = rest (omega (arith, e)) in (suc r.0, omega (arith, r.1), r.2)
 
@@ -49,11 +56,18 @@ wires_by f b hung = zip hung (map f (numbers_from b (length hung)))
 shifted : (P : ℕ × ℕ → Type 0) (f : ℕ → ℕ) (x b c : ℕ) → b ≡ c → P (x, f b) → P (x, f c)
 shifted P f x b c e p = subst (λ (n : ℕ). P (x, f n)) e p
 
-pub wires_all : (P : ℕ × ℕ → Type 0) (f : ℕ → ℕ) (b : ℕ) (hung : List ℕ) → ((k : ℕ) → k < length hung → P (slice_index_or hung k 0, f (b + k))) → AllByRecursion P (wires_by f b hung)
+-- what holds of each square's two nodes holds of all wires
+pub wires_all : (P : ℕ × ℕ → Type 0) (f : ℕ → ℕ) (b : ℕ) (hung : List ℕ)
+    → ((k : ℕ) → k < length hung → P (slice_index_or hung k 0, f (b + k))) → AllByRecursion P (wires_by f b hung)
 wires_all P f b [] each = tt
-wires_all P f b (v ∷ hung) each = (shifted P f v (b + 0) b (omega arith) (each 0 (omega arith)), wires_all P f (b + 1) hung (λ k h. shifted P f (slice_index_or hung k 0) (b + suc k) (b + 1 + k) (omega arith) (each (suc k) (omega arith))))
+wires_all P f b (v ∷ hung) each = (
+  shifted P f v (b + 0) b (omega arith) (each 0 (omega arith)),
+  wires_all P f (b + 1) hung (λ k h. shifted P f (slice_index_or hung k 0) (b + suc k) (b + 1 + k) (omega arith) (each (suc k) (omega arith))),
+)
 
-pub wires_by-at : (f : ℕ → ℕ) (b : ℕ) (hung : List ℕ) (k : ℕ) (d : ℕ × ℕ) → k < length hung → slice_index_or (wires_by f b hung) k d ≡ (slice_index_or hung k 0, f (b + k))
+-- the wire at a place
+pub wires_by-at : (f : ℕ → ℕ) (b : ℕ) (hung : List ℕ) (k : ℕ) (d : ℕ × ℕ) → k < length hung
+    → slice_index_or (wires_by f b hung) k d ≡ (slice_index_or hung k 0, f (b + k))
 wires_by-at f b [] k d h = absurd (omega arith)
 wires_by-at f b (v ∷ hung) zero d h = λ i. (v, f (same i))
   where
@@ -64,6 +78,7 @@ wires_by-at f b (v ∷ hung) (suc k) d h = wires_by-at f (b + 1) hung k d (omega
     same : b + 1 + k ≡ b + suc k
     same = omega arith
 
+-- there is a wire for each square
 pub wires_length : (f : ℕ → ℕ) (b : ℕ) (hung : List ℕ) → length (wires_by f b hung) ≡ length hung
 wires_length f b [] = refl
 wires_length f b (v ∷ hung) = ap suc (wires_length f (b + 1) hung)

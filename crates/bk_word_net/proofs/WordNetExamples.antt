@@ -5,7 +5,11 @@ use Rattle.bk_net.specs.Diagram.{smith_diagram}
 use Rattle.bk_word.proofs.WordExamples.{word_33x32, word_65x47, word_of_four}
 use Rattle.bk_word_net.specs.WordNet.{net_of_word}
 
-pub net_65x47 : net_of_word word_65x47 ≡ record { nodes = 6; wires = (0, 2) ∷ (0, 1) ∷ (0, 3) ∷ (1, 4) ∷ (1, 3) ∷ (2, 5) ∷ (2, 4) ∷ (3, 4) ∷ (3, 5) ∷ (4, 5) ∷ [] }
+pub net_65x47 : net_of_word word_65x47 ≡ record {
+  nodes = 6;
+  wires =
+      (0, 2) ∷ (0, 1) ∷ (0, 3) ∷ (1, 4) ∷ (1, 3) ∷ (2, 5) ∷ (2, 4) ∷ (3, 4) ∷ (3, 5) ∷ (4, 5) ∷ [];
+}
 net_65x47 = refl
 
 pub net_of_four : net_of_word word_of_four ≡ record { nodes = 3; wires = (0, 1) ∷ (0, 1) ∷ (1, 2) ∷ (1, 2) ∷ [] }

@@ -3,7 +3,13 @@ use Rattle.bk_skel.proofs.Wirings.{wire_at}
 use Rattle.bk_skel.proofs.netting.add_wires.Goals as goal
 
 pub add-requires-clause-to_node : goal.add-requires-clause-to_node
-add-requires-clause-to_node c = omega (arith, c.from.ensures, (c.loop-end.invariant).nodes, (wire_at (c.args.net.now).nodes c.args.node c.args.ends.now c.loop-end.end-index (omega arith) c.requires.wires).0)
+add-requires-clause-to_node c = omega (
+  arith,
+  c.from.ensures,
+  (c.loop-end.invariant).nodes,
+  (wire_at (c.args.net.now).nodes c.args.node c.args.ends.now c.loop-end.end-index (omega arith) c.requires.wires).0,
+)
 
 pub add-requires-clause-differ : goal.add-requires-clause-differ
-add-requires-clause-differ c = λ e. (wire_at (c.args.net.now).nodes c.args.node c.args.ends.now c.loop-end.end-index (omega arith) c.requires.wires).1 (e ∙ c.from.ensures)
+add-requires-clause-differ c = λ e. (wire_at (c.args.net.now).nodes c.args.node c.args.ends.now c.loop-end.end-index (omega arith)
+    c.requires.wires).1 (e ∙ c.from.ensures)

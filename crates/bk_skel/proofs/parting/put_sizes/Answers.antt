@@ -12,5 +12,6 @@ returns c =
     let all : take c.loop-i.i c.args.moved.now ≡ c.args.moved.now = take_all c.loop-i.i c.args.moved.now (omega arith) in
     let many : length c.loop-i.room ≡ c.loop-i.place + 1 = omega (arith, i.long, i.place, ap (count_by parts) all) in
     last_put c.loop-i.room c.loop-i.place c.loop-i.size many
-    ∙ ap (λ (l : List Sign). take c.loop-i.place c.loop-i.room ++ joined_sizes c.loop-i.size c.args.last l) (sym (drop_all c.loop-i.i c.args.moved.now (omega arith)))
+    ∙ ap (λ (l : List Sign). take c.loop-i.place c.loop-i.room ++ joined_sizes c.loop-i.size c.args.last l)
+    (sym (drop_all c.loop-i.i c.args.moved.now (omega arith)))
     ∙ sym i.put

@@ -6,10 +6,12 @@ pub bounds-numbers-0 : goal.bounds-numbers-0
 bounds-numbers-0 c = omega (arith, (first_open c.args.width c.args.laid.items c.args.numbers.now c.requires.0 c.requires.1).0)
 
 pub bottom_of-height-requires-clause-known : goal.bottom_of-height-requires-clause-known
-bottom_of-height-requires-clause-known c = (known_as c.args.width c.args.laid.items c.args.numbers.now c.requires.0 c.requires.1 c.deref.result.now c.deref.ensures.0).0
+bottom_of-height-requires-clause-known c =
+    (known_as c.args.width c.args.laid.items c.args.numbers.now c.requires.0 c.requires.1 c.deref.result.now c.deref.ensures.0).0
 
 pub bottom_of-height-requires-clause-low : goal.bottom_of-height-requires-clause-low
-bottom_of-height-requires-clause-low c = (known_as c.args.width c.args.laid.items c.args.numbers.now c.requires.0 c.requires.1 c.deref.result.now c.deref.ensures.0).1
+bottom_of-height-requires-clause-low c = (known_as c.args.width c.args.laid.items c.args.numbers.now c.requires.0 c.requires.1
+    c.deref.result.now c.deref.ensures.0).1
 
 pub put_in_order-requires-clause-sides : goal.put_in_order-requires-clause-sides
 put_in_order-requires-clause-sides c = sides c.args.width c.args.laid.items c.args.numbers.now c.requires.0 c.requires.1
@@ -18,7 +20,15 @@ pub put_in_order-requires-clause-apart : goal.put_in_order-requires-clause-apart
 put_in_order-requires-clause-apart c = apart c.args.width c.args.laid.items c.args.numbers.now c.requires.0 c.requires.1
 
 pub from_known-requires : goal.from_known-requires
-from_known-requires c = kept_as c.args.width c.args.laid.items c.args.numbers.now c.requires.0 c.requires.1 c.bottom_of-height.result c.put_in_order.new.squares.items (height_as c.args.width c.args.laid.items c.args.numbers.now c.requires.0 c.requires.1 c.deref.result.now c.bottom_of-height.result c.deref.ensures.0 c.bottom_of-height.ensures) c.put_in_order.ensures
+from_known-requires c = kept_as c.args.width c.args.laid.items c.args.numbers.now c.requires.0 c.requires.1 c.bottom_of-height.result
+    c.put_in_order.new.squares.items (height_as c.args.width c.args.laid.items c.args.numbers.now c.requires.0 c.requires.1
+    c.deref.result.now c.bottom_of-height.result c.deref.ensures.0 c.bottom_of-height.ensures) c.put_in_order.ensures
 
 pub returns : goal.returns
-returns c = c.from_known.ensures ∙ (λ i. record { width = c.args.width; height = (height_as c.args.width c.args.laid.items c.args.numbers.now c.requires.0 c.requires.1 c.deref.result.now c.bottom_of-height.result c.deref.ensures.0 c.bottom_of-height.ensures) i; squares = c.put_in_order.ensures i })
+returns c = c.from_known.ensures ∙ (λ i. record {
+  width = c.args.width;
+  height =
+      (height_as c.args.width c.args.laid.items c.args.numbers.now c.requires.0 c.requires.1 c.deref.result.now c.bottom_of-height.result
+      c.deref.ensures.0 c.bottom_of-height.ensures) i;
+  squares = c.put_in_order.ensures i;
+})

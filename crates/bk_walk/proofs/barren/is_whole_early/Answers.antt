@@ -6,4 +6,5 @@ use Rattle.bk_walk.proofs.barren.is_whole_early.Goals as goal
 
 pub returns-then-is_closed : goal.returns-then-is_closed
 returns-then-is_closed c less class = let done : IsComplete c.args.skel.now = c.is_closed.ensures.0 c.if-is_closed.true in
-    one_segment_is_barren c.args.order class c.args.skel.now done.some (let v = c.order.ensures.value in let f = c.from.ensures in grind (arith, nat_tests)) done.one
+    one_segment_is_barren c.args.order class c.args.skel.now done.some
+    (let v = c.order.ensures.value in let f = c.from.ensures in grind (arith, nat_tests)) done.one

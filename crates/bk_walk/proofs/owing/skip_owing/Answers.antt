@@ -12,11 +12,13 @@ use Rattle.bk_walk.proofs.owing.skip_owing.Goals as goal
 
 same : (c : goal.After-pass) → c.pass.new.m ≡ move_after (front_signs c.in-Some.kept c.args.m.now)
 same c =
-    c.pass.ensures ∙ ap (λ l. move_after (record { count = c.m.inside.count; signs = l })) c.truncate.ensures.items ∙ ap (λ m. move_after (front_signs c.in-Some.kept m)) c.m.view_is
+    c.pass.ensures ∙ ap (λ l. move_after (record { count = c.m.inside.count; signs = l })) c.truncate.ensures.items
+    ∙ ap (λ m. move_after (front_signs c.in-Some.kept m)) c.m.view_is
 
 pub returns-in-Some-clause-cut : goal.returns-in-Some-clause-cut
 returns-in-Some-clause-cut c _ class = subst (λ (next : Move). IsCut c.args.order class c.args.skel.now c.args.m.now next) (sym (same c))
-    (owing_cut c.args.order class c.args.skel.now c.args.m.now c.in-Some.kept c.saturating_sub-room.result (c.args.order - order_of c.args.skel.now - c.args.m.now.count) c.unders_behind.result c.first_above-place.result
+    (owing_cut c.args.order class c.args.skel.now c.args.m.now c.in-Some.kept c.saturating_sub-room.result
+    (c.args.order - order_of c.args.skel.now - c.args.m.now.count) c.unders_behind.result c.first_above-place.result
     (c.first_above-place.ensures.value ∙ ap valley_place c.signs-signs.ensures)
     (c.unders_behind.ensures ∙ ap (λ l. count_by is_under (drop (c.first_above-place.result + 1) l)) c.signs-signs.ensures)
     refl

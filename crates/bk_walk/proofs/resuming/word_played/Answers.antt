@@ -14,7 +14,9 @@ no : false ≡ true → ⊥
 no e = cc
 
 pub unreachable-requires : goal.unreachable-requires
-unreachable-requires c = no (c.in-Err.ensures.inline (omega (arith, order_at c.args.skel.now c.moves.i c.get.result 16 c.get.ensures c.requires, ap order_of c.moves.invariant)))
+unreachable-requires c = no (c.in-Err.ensures.inline
+    (omega (arith, order_at c.args.skel.now c.moves.i c.get.result 16 c.get.ensures c.requires, ap order_of c.moves.invariant)))
 
 pub moves-preserved : goal.moves-preserved
-moves-preserved c = c.in-Ok.ensures.ok ∙ ap (λ l. l ++ c.get.result ∷ []) c.moves.invariant ∙ sym (take_next c.args.skel.now c.moves.i c.get.result c.get.ensures)
+moves-preserved c = c.in-Ok.ensures.ok ∙ ap (λ l. l ++ c.get.result ∷ []) c.moves.invariant
+    ∙ sym (take_next c.args.skel.now c.moves.i c.get.result c.get.ensures)

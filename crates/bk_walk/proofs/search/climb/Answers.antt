@@ -5,14 +5,16 @@ use Rattle.bk_walk.proofs.search.climb.Goals as goal
 
 pub pass-requires-clause-count : goal.pass-requires-clause-count
 pass-requires-clause-count c =
-    let was = taken_last c.args.lined.now c.pop.new.self c.get.result c.moves-moves.result (c.moves-moves.ensures.value ∙ ap length c.skel.ensures.value) (omega (arith, c.if-moves-eq0.false))
+    let was = taken_last c.args.lined.now c.pop.new.self c.get.result c.moves-moves.result
+    (c.moves-moves.ensures.value ∙ ap length c.skel.ensures.value) (omega (arith, c.if-moves-eq0.false))
     (ap (λ (w : Word). slice_get w (c.moves-moves.result - 1)) (sym c.skel-2.ensures.value) ∙ c.get.ensures) c.pop.ensures in
     let last : IsLastMove c.pop.new.self c.get.result = last_move c.args.lined.now c.pop.new.self c.get.result c.skel.ensures.legal c.requires.small was in
     omega (arith, last.count)
 
 pub pass-requires-clause-signs : goal.pass-requires-clause-signs
 pass-requires-clause-signs c =
-    let was = taken_last c.args.lined.now c.pop.new.self c.get.result c.moves-moves.result (c.moves-moves.ensures.value ∙ ap length c.skel.ensures.value) (omega (arith, c.if-moves-eq0.false))
+    let was = taken_last c.args.lined.now c.pop.new.self c.get.result c.moves-moves.result
+    (c.moves-moves.ensures.value ∙ ap length c.skel.ensures.value) (omega (arith, c.if-moves-eq0.false))
     (ap (λ (w : Word). slice_get w (c.moves-moves.result - 1)) (sym c.skel-2.ensures.value) ∙ c.get.ensures) c.pop.ensures in
     let last : IsLastMove c.pop.new.self c.get.result = last_move c.args.lined.now c.pop.new.self c.get.result c.skel.ensures.legal c.requires.small was in
     omega (arith, last.signs)
@@ -20,7 +22,8 @@ pass-requires-clause-signs c =
 pub returns-clause-on : goal.returns-clause-on
 returns-clause-on c _ = record {
   last = c.get.result;
-  was = taken_last c.args.lined.now c.pop.new.self c.get.result c.moves-moves.result (c.moves-moves.ensures.value ∙ ap length c.skel.ensures.value) (omega (arith, c.if-moves-eq0.false))
+  was = taken_last c.args.lined.now c.pop.new.self c.get.result c.moves-moves.result
+      (c.moves-moves.ensures.value ∙ ap length c.skel.ensures.value) (omega (arith, c.if-moves-eq0.false))
       (ap (λ (w : Word). slice_get w (c.moves-moves.result - 1)) (sym c.skel-2.ensures.value) ∙ c.get.ensures) c.pop.ensures;
   next = c.pass.ensures;
 }

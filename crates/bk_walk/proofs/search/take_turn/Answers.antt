@@ -11,28 +11,34 @@ use Rattle.bk_walk.proofs.search.take_turn.Goals as goal
 use Rattle.bk_walk.proofs.search.take_turn.Goals.{else-is_whole, then-is_whole}
 
 pub returns-then-climb-clause-leads : goal.returns-then-climb-clause-leads
-returns-then-climb-clause-leads g c = turn_climbs c.args.order c.args.class c.args.lined.now c.args.next.now c.fit.new.m c.requires.order c.requires.stand (c.fit.ensures ∙ ap (λ k. fitted k c.args.next.now) c.open_sides.ensures.value)
+returns-then-climb-clause-leads g c = turn_climbs c.args.order c.args.class c.args.lined.now c.args.next.now c.fit.new.m c.requires.order
+    c.requires.stand (c.fit.ensures ∙ ap (λ k. fitted k c.args.next.now) c.open_sides.ensures.value)
     c.climb.new.lined c.climb.new.next (c.args.steps.now - c.args.steps.now) (c.climb.ensures.on c.if-climb.true)
-    (let v = c.order.ensures.value ∙ ap order_of c.skel.ensures.value in let count = ap (λ (m : Move). m.count) c.next.view_is in omega (arith, c.if-order-from.true, c.from.ensures, c.from-2.ensures)) (omega arith)
+    (let v = c.order.ensures.value ∙ ap order_of c.skel.ensures.value in let count = ap (λ (m : Move). m.count) c.next.view_is in
+    omega (arith, c.if-order-from.true, c.from.ensures, c.from-2.ensures)) (omega arith)
 
 pub returns-else-climb-clause-leads : goal.returns-else-climb-clause-leads
 returns-else-climb-clause-leads g c = (
-  turn_ends c.args.order c.args.class c.args.lined.now c.args.next.now c.fit.new.m c.requires.order c.requires.stand (c.fit.ensures ∙ ap (λ k. fitted k c.args.next.now) c.open_sides.ensures.value)
+  turn_ends c.args.order c.args.class c.args.lined.now c.args.next.now c.fit.new.m c.requires.order c.requires.stand
+      (c.fit.ensures ∙ ap (λ k. fitted k c.args.next.now) c.open_sides.ensures.value)
       (c.args.steps.now - c.args.steps.now) (c.climb.ensures.end c.if-climb.false)
-      (let v = c.order.ensures.value ∙ ap order_of c.skel.ensures.value in let count = ap (λ (m : Move). m.count) c.next.view_is in omega (arith, c.if-order-from.true, c.from.ensures, c.from-2.ensures)) (omega arith),
+      (let v = c.order.ensures.value ∙ ap order_of c.skel.ensures.value in let count = ap (λ (m : Move). m.count) c.next.view_is in
+      omega (arith, c.if-order-from.true, c.from.ensures, c.from-2.ensures)) (omega arith),
   c.climb.ensures.kept c.if-climb.false,
 )
 
 pub skip-requires-clause-legal : goal.skip-requires-clause-legal
 skip-requires-clause-legal g c = subst (λ (w : Word). IsLegalMove (outline_of w) c.fit.new.m) (sym c.skel-2.ensures.value)
-    (turn_least c.args.order c.args.class c.args.lined.now c.args.next.now c.fit.new.m c.requires.order c.requires.stand (c.fit.ensures ∙ ap (λ k. fitted k c.args.next.now) c.open_sides.ensures.value)).legal
+    (turn_least c.args.order c.args.class c.args.lined.now c.args.next.now c.fit.new.m c.requires.order c.requires.stand
+    (c.fit.ensures ∙ ap (λ k. fitted k c.args.next.now) c.open_sides.ensures.value)).legal
 
 pub skip-requires-clause-signs : goal.skip-requires-clause-signs
 skip-requires-clause-signs g c =
     let count = ap (λ (m : Move). m.count) c.next.view_is in
     omega (
       arith,
-      turn_signs c.args.order c.args.class c.args.lined.now c.args.next.now c.fit.new.m c.requires.order c.requires.stand (c.fit.ensures ∙ ap (λ k. fitted k c.args.next.now) c.open_sides.ensures.value),
+      turn_signs c.args.order c.args.class c.args.lined.now c.args.next.now c.fit.new.m c.requires.order c.requires.stand
+          (c.fit.ensures ∙ ap (λ k. fitted k c.args.next.now) c.open_sides.ensures.value),
       c.if-order-from.false,
       c.from.ensures,
       c.from-2.ensures,
@@ -40,13 +46,18 @@ skip-requires-clause-signs g c =
     )
 
 pub returns-then-skip-clause-leads : goal.returns-then-skip-clause-leads
-returns-then-skip-clause-leads g c = turn_cuts c.args.order c.args.class c.args.lined.now c.args.next.now c.fit.new.m c.requires.order c.requires.stand (c.fit.ensures ∙ ap (λ k. fitted k c.args.next.now) c.open_sides.ensures.value)
-    c.skip.new.m (c.args.steps.now - c.args.steps.now) (subst (λ (w : Word). IsCut c.args.order c.args.class w c.fit.new.m c.skip.new.m) c.skel-2.ensures.value (c.skip.ensures.cut c.if-skip.true)) c.skip.ensures.near
-    (let v = c.order.ensures.value ∙ ap order_of c.skel.ensures.value in let count = ap (λ (m : Move). m.count) c.next.view_is in omega (arith, c.if-order-from.false, c.from.ensures, c.from-2.ensures)) (omega arith)
+returns-then-skip-clause-leads g c = turn_cuts c.args.order c.args.class c.args.lined.now c.args.next.now c.fit.new.m c.requires.order
+    c.requires.stand (c.fit.ensures ∙ ap (λ k. fitted k c.args.next.now) c.open_sides.ensures.value)
+    c.skip.new.m (c.args.steps.now - c.args.steps.now)
+    (subst (λ (w : Word). IsCut c.args.order c.args.class w c.fit.new.m c.skip.new.m) c.skel-2.ensures.value
+    (c.skip.ensures.cut c.if-skip.true)) c.skip.ensures.near
+    (let v = c.order.ensures.value ∙ ap order_of c.skel.ensures.value in let count = ap (λ (m : Move). m.count) c.next.view_is in
+    omega (arith, c.if-order-from.false, c.from.ensures, c.from-2.ensures)) (omega arith)
 
 pub play-requires-clause-legal : goal.play-requires-clause-legal
 play-requires-clause-legal g c = subst (IsLegalMove (outline_of c.args.lined.now)) (sym (c.skip.ensures.kept c.if-skip.false))
-    (turn_least c.args.order c.args.class c.args.lined.now c.args.next.now c.fit.new.m c.requires.order c.requires.stand (c.fit.ensures ∙ ap (λ k. fitted k c.args.next.now) c.open_sides.ensures.value)).legal
+    (turn_least c.args.order c.args.class c.args.lined.now c.args.next.now c.fit.new.m c.requires.order c.requires.stand
+    (c.fit.ensures ∙ ap (λ k. fitted k c.args.next.now) c.open_sides.ensures.value)).legal
 
 -- the move that is pushed is the one that fits
 fits : (m n x : Move) (k j : ℕ) → m ≡ n → n ≡ fitted k x → k ≡ j → m ≡ fitted j x
@@ -59,7 +70,8 @@ pass-requires-clause-signs g c =
     omega (
       arith,
       ap (λ (m : Move). length m.signs) same,
-      turn_signs c.args.order c.args.class c.args.lined.now c.args.next.now c.fit.new.m c.requires.order c.requires.stand (c.fit.ensures ∙ ap (λ k. fitted k c.args.next.now) c.open_sides.ensures.value),
+      turn_signs c.args.order c.args.class c.args.lined.now c.args.next.now c.fit.new.m c.requires.order c.requires.stand
+          (c.fit.ensures ∙ ap (λ k. fitted k c.args.next.now) c.open_sides.ensures.value),
       c.if-order-from.false,
       c.from.ensures,
       c.from-2.ensures,
@@ -69,27 +81,42 @@ pass-requires-clause-signs g c =
 pub returns-then-is_barren-clause-leads : goal.returns-then-is_barren-clause-leads
 returns-then-is_barren-clause-leads g c =
     let same : c.skip.new.m ≡ c.fit.new.m = c.skip.ensures.kept c.if-skip.false in
-    let small : order_of c.args.lined.now + c.skip.new.m.count ≤ c.args.order = (let v = c.order.ensures.value ∙ ap order_of c.skel.ensures.value in let count = ap (λ (m : Move). m.count) c.next.view_is in omega (arith, ap (λ (m : Move). m.count) same, c.if-order-from.false, c.from.ensures, c.from-2.ensures)) in
+    let small : order_of c.args.lined.now + c.skip.new.m.count ≤ c.args.order =
+    (let v = c.order.ensures.value ∙ ap order_of c.skel.ensures.value in let count = ap (λ (m : Move). m.count) c.next.view_is in
+    omega (arith, ap (λ (m : Move). m.count) same, c.if-order-from.false, c.from.ensures, c.from-2.ensures)) in
     turn_turns_back c.args.order c.args.class c.args.lined.now c.args.next.now c.skip.new.m c.requires.order c.requires.stand
-    (fits c.skip.new.m c.fit.new.m c.args.next.now c.open_sides.result (open_sides (outline_of c.args.lined.now)) (c.skip.ensures.kept c.if-skip.false) c.fit.ensures c.open_sides.ensures.value)
-    small c.play.new.lined c.play.ensures.moves (c.play.new.steps - c.args.steps.now) (omega (arith, c.play.ensures.step)) c.pop.new.self c.pass.new.m c.pop.ensures c.pass.ensures (c.is_barren.ensures c.if-is_barren.true c.args.class)
+    (fits c.skip.new.m c.fit.new.m c.args.next.now c.open_sides.result (open_sides (outline_of c.args.lined.now))
+    (c.skip.ensures.kept c.if-skip.false) c.fit.ensures c.open_sides.ensures.value)
+    small c.play.new.lined c.play.ensures.moves (c.play.new.steps - c.args.steps.now) (omega (arith, c.play.ensures.step)) c.pop.new.self
+    c.pass.new.m c.pop.ensures c.pass.ensures (c.is_barren.ensures c.if-is_barren.true c.args.class)
 
 pub returns-clause-leads : goal.returns-clause-leads
 returns-clause-leads g c =
-    let fit = fits c.skip.new.m c.fit.new.m c.args.next.now c.open_sides.result (open_sides (outline_of c.args.lined.now)) (c.skip.ensures.kept c.if-skip.false) c.fit.ensures c.open_sides.ensures.value in
+    let fit = fits c.skip.new.m c.fit.new.m c.args.next.now c.open_sides.result (open_sides (outline_of c.args.lined.now))
+    (c.skip.ensures.kept c.if-skip.false) c.fit.ensures c.open_sides.ensures.value in
     let same : c.skip.new.m ≡ c.fit.new.m = c.skip.ensures.kept c.if-skip.false in
-    let small : order_of c.args.lined.now + c.skip.new.m.count ≤ c.args.order = (let v = c.order.ensures.value ∙ ap order_of c.skel.ensures.value in let count = ap (λ (m : Move). m.count) c.next.view_is in omega (arith, ap (λ (m : Move). m.count) same, c.if-order-from.false, c.from.ensures, c.from-2.ensures)) in
+    let small : order_of c.args.lined.now + c.skip.new.m.count ≤ c.args.order =
+    (let v = c.order.ensures.value ∙ ap order_of c.skel.ensures.value in let count = ap (λ (m : Move). m.count) c.next.view_is in
+    omega (arith, ap (λ (m : Move). m.count) same, c.if-order-from.false, c.from.ensures, c.from-2.ensures)) in
     let first = c.next-3.view_is ∙ c.first_move.ensures in
     let one : c.play.new.steps - c.args.steps.now ≤ 1 = omega (arith, c.play.ensures.step) in
     elim c.if-is_whole.branch [
       | then-is_whole w ↦ subst
-          (λ (r : Turn). Leads c.args.order c.args.class (c.args.lined.now ++ c.args.next.now ∷ []) c.play.new.lined (record { count = c.next-3.inside.count; signs = c.next-3.inside.signs.items }) (c.play.new.steps - c.args.steps.now) r)
+          (λ (r : Turn). Leads c.args.order c.args.class (c.args.lined.now ++ c.args.next.now ∷ []) c.play.new.lined
+          (record { count = c.next-3.inside.count; signs = c.next-3.inside.signs.items }) (c.play.new.steps - c.args.steps.now) r)
           (sym w.result-is)
-          (let whole = c.is_whole.ensures.whole w.if-is_whole.true in
-          (turn_reaches c.args.order c.args.class c.args.lined.now c.args.next.now c.skip.new.m c.requires.order c.requires.stand fit small c.play.new.lined c.play.ensures.moves (c.play.new.steps - c.args.steps.now) one, whole.0, whole.1, first))
+          (let whole = c.is_whole.ensures.whole w.if-is_whole.true in (
+            turn_reaches c.args.order c.args.class c.args.lined.now c.args.next.now c.skip.new.m c.requires.order c.requires.stand fit small
+                c.play.new.lined c.play.ensures.moves (c.play.new.steps - c.args.steps.now) one,
+            whole.0,
+            whole.1,
+            first,
+          ))
       | else-is_whole w ↦ subst
-          (λ (r : Turn). Leads c.args.order c.args.class (c.args.lined.now ++ c.args.next.now ∷ []) c.play.new.lined (record { count = c.next-3.inside.count; signs = c.next-3.inside.signs.items }) (c.play.new.steps - c.args.steps.now) r)
+          (λ (r : Turn). Leads c.args.order c.args.class (c.args.lined.now ++ c.args.next.now ∷ []) c.play.new.lined
+          (record { count = c.next-3.inside.count; signs = c.next-3.inside.signs.items }) (c.play.new.steps - c.args.steps.now) r)
           (sym w.result-is)
-          (turn_goes_down c.args.order c.args.class c.args.lined.now c.args.next.now c.skip.new.m c.requires.order c.requires.stand fit small c.play.new.lined c.play.ensures.moves (c.play.new.steps - c.args.steps.now) one
+          (turn_goes_down c.args.order c.args.class c.args.lined.now c.args.next.now c.skip.new.m c.requires.order c.requires.stand fit
+          small c.play.new.lined c.play.ensures.moves (c.play.new.steps - c.args.steps.now) one
           (record { count = c.next-3.inside.count; signs = c.next-3.inside.signs.items }) first (c.is_whole.ensures.unready w.if-is_whole.false))
     ]

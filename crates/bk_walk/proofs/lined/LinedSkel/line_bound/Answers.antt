@@ -14,4 +14,5 @@ line_bound-requires-clause-enough c = omega (arith, sum_lengths (outline_of c.se
 pub returns : goal.returns
 returns c =
     let lines_are : c.deref.result.now ≡ lines_of c.self.inside.skel = c.deref.ensures.0 ∙ c.self.invariant.lines_are in
-    c.line_bound.ensures ∙ (λ i. line_bound (c.signs.ensures i) (touched (lines_are i) (segments_of (c.sizes.ensures i) (c.ends.ensures i)))) ∙ line_bound_by_lists c.self.inside.skel ∙ ap line_bound_of c.self.view_is
+    c.line_bound.ensures ∙ (λ i. line_bound (c.signs.ensures i)
+    (touched (lines_are i) (segments_of (c.sizes.ensures i) (c.ends.ensures i)))) ∙ line_bound_by_lists c.self.inside.skel ∙ ap line_bound_of c.self.view_is

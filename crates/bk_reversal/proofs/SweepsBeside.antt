@@ -1,0 +1,259 @@
+-- The sweep of the reversed layout beside that of the layout: a word that breaks rule R gives a lesser word.
+use Rattle.std.proofs.Common.{List, Some, [], ap, arith, inl, inr, length, refl, slice_get, subst, suc, sym, ℕ, ◌++◌, ◌+◌, ◌<◌, ◌∙◌, ◌∷◌, ◌≡◌, ◌⊎◌}
+use Rattle.bk_laws.proofs.ListPlaces.{get_some}
+use Rattle.bk_laws.proofs.Occurrences.{times, times-append, times_in}
+use Rattle.bk_word.specs.Outline.{Outline, start}
+use Rattle.bk_word.specs.Play.{after_move}
+use Rattle.bk_word.specs.Word.{Move, Word}
+use Rattle.bk_reversal.proofs.Trace.{IsStep, Trace, Whole, traced, whole_from}
+use Rattle.bk_layout.proofs.SweepStart.{first_move}
+use Rattle.bk_layout.proofs.Chains.{Chain, last_from, signs_of, singles, singles_wall}
+use Rattle.bk_layout.proofs.SquareLists.{times_singles}
+use Rattle.bk_layout.proofs.Sweep.{State}
+use Rattle.bk_layout.proofs.SweepStep.{move, state_then}
+use Rattle.bk_layout.proofs.WholeRuns.{Hung, hung_from, is_last}
+use Rattle.bk_reversal.proofs.Drops.{Drops, IsLess}
+use Rattle.bk_layout.proofs.Counting.{one_for}
+use Rattle.bk_layout.specs.Layout.{Fits, IsLast, Layout}
+use Rattle.bk_reversal.specs.Reversal.{CanReverse, reversed}
+use Rattle.bk_reversal.proofs.ReversedPlaces.{Places, places}
+use Rattle.bk_reversal.proofs.ReversedLines.{top_is}
+use Rattle.bk_reversal.proofs.ReversedFits.{fits_then}
+use Rattle.bk_reversal.proofs.SameSigns.{dropped_signs, same_signs}
+use Rattle.bk_reversal.proofs.ReversedStates.{MovesBoth, moves_both, state_moved}
+
+module _ (l : Layout) (fits : Fits l) (q p r : ℕ) (can : CanReverse l q p r) where
+  abbrev m : Layout
+  m = reversed l q p r
+
+  abbrev u : ℕ
+  u = l.above q
+
+  abbrev v : ℕ
+  v = l.below q
+
+  abbrev by_place : Places l fits q p r can
+  by_place = places l fits q p r can
+
+  -- along the trace p is laid while q isn't laid and v isn't closed
+  abbrev pub Late : (o : Outline) → (st : State l o) → (w : Word) → Trace l fits o st w → Type 0
+  Late o st [] tr = (times q st.laid ≡ 0) × (times v st.done ≡ 0) × ((0 < times p st.laid) ⊎ ⊥)
+  Late o st (mv ∷ w) tr = (times q st.laid ≡ 0) × (times v st.done ≡ 0) × ((0 < times p st.laid) ⊎ Late (after_move o mv) tr.0 w tr.2)
+
+  -- so q isn't laid, and v isn't closed, where it begins
+  pub late_out : (o : Outline) (st : State l o) (w : Word) (tr : Trace l fits o st w) → Late o st w tr → (times q st.laid ≡ 0) × (times v st.done ≡ 0)
+  late_out o st [] tr late = (late.0, late.1)
+  late_out o st (mv ∷ w) tr late = (late.0, late.1)
+
+  -- it was so before
+  pub later_out : (o : Outline) (st : State l o) (mv : Move) (next : State l (after_move o mv)) → IsStep l fits o st mv next
+      → times q next.laid ≡ 0 → times v next.done ≡ 0 → (times q st.laid ≡ 0) × (times v st.done ≡ 0)
+  later_out o st mv next step a b = (omega (arith, a, grown q), under (get_some (l.hanging v) 0 by_place.hv_some))
+    where
+      grown : (x : ℕ) → times x next.laid ≡ times x st.laid + times x (step.h.first ∷ step.h.more)
+      grown x = ap (times x) step.grows ∙ times-append x st.laid (step.h.first ∷ step.h.more)
+
+      under : (x : ℕ) × (slice_get (l.hanging v) 0 ≡ Some x) → times v st.done ≡ 0
+      under (x, e) = omega (
+        arith,
+        grown x,
+        b,
+        ap (λ (w : ℕ). times w st.done) is.1,
+        ap (λ (w : ℕ). times w next.done) is.1,
+        st.laid_times x is.0,
+        next.laid_times x is.0,
+      )
+        where
+          is : (x < l.squares) × (l.above x ≡ v)
+          is = fits.lists.hanging_is v 0 x e
+
+  pub record Beside (o : Outline) (both : State m o) (w : Word) : Type 0 where
+    pub word : Word
+    pub trace : Trace m (fits_then l fits q p r can) o both word
+    pub less : IsLess word w
+
+  pub beside_it : (o : Outline) (st : State l o) (both : State m o) → both.laid ≡ st.laid → times p st.laid ≡ 0
+      → (w : Word) (tr : Trace l fits o st w) → Late o st w tr → Beside o both w
+  beside_it o st both laid no_p [] tr late = ends late.2
+    where
+      ends : (0 < times p st.laid) ⊎ ⊥ → Beside o both []
+      ends (inl h) = absurd (omega (arith, h, no_p))
+      ends (inr h) = absurd h
+  beside_it o st both laid no_p (mv ∷ w) tr late = on late.2 (λ then same none h. beside_it (after_move o mv) tr.0 then same none w tr.2 h)
+    where
+      s : IsStep l fits o st mv tr.0
+      s = tr.1
+
+      new : List ℕ
+      new = s.h.first ∷ s.h.more
+
+      grown : (x : ℕ) → times x tr.0.laid ≡ times x st.laid + times x (s.h.first ∷ s.h.more)
+      grown x = ap (times x) s.grows ∙ times-append x st.laid (s.h.first ∷ s.h.more)
+
+      on : (0 < times p st.laid) ⊎ Late (after_move o mv) tr.0 w tr.2
+          → ((then : State m (after_move o mv)) → then.laid ≡ tr.0.laid → times p tr.0.laid ≡ 0 → Late (after_move o mv) tr.0 w tr.2
+          → Beside (after_move o mv) then w) → Beside o both (mv ∷ w)
+      on (inl h) further = absurd (omega (arith, h, no_p))
+      on (inr h) further = go ((moves_both l fits q p r can) o st both laid s.c s.at s.low s.h late.0 no_p late.1 no_new no_close)
+          (one_or_more (times p (s.h.first ∷ s.h.more)))
+        where
+          out : (times q tr.0.laid ≡ 0) × (times v tr.0.done ≡ 0)
+          out = late_out (after_move o mv) tr.0 w tr.2 h
+
+          no_new : times q (s.h.first ∷ s.h.more) ≡ 0
+          no_new = omega (arith, out.0, grown q)
+
+          first_is : (s.h.first < l.squares) × (l.above s.h.first ≡ l.below s.at.q)
+          first_is = fits.lists.hanging_is (l.below s.at.q) 0 s.h.first (ap (λ (xs : List ℕ). slice_get xs 0) s.h.is)
+
+          no_close : l.below s.at.q ≡ v → ⊥
+          no_close e = omega (
+            arith,
+            out.1,
+            grown s.h.first,
+            one_for s.h.first s.h.first refl,
+            tr.0.laid_times s.h.first first_is.0,
+            ap (λ (z : ℕ). times z tr.0.done) (first_is.1 ∙ e),
+          )
+
+          one_or_more : (n : ℕ) → (n ≡ 0) ⊎ (0 < n)
+          one_or_more n = grind arith
+
+          go : (MovesBoth l fits q p r can) o st both s.c s.at s.low s.h → (times p (s.h.first ∷ s.h.more) ≡ 0)
+              ⊎ (0 < times p (s.h.first ∷ s.h.more)) → Beside o both (mv ∷ w)
+          go b (inl none) = with ((state_moved l fits q p r can) (after_move o mv) tr.0 out.0 (omega (arith, none, no_p, grown p)) out.1)
+            where
+              with : (s : State m (after_move o mv)) × (s.laid ≡ tr.0.laid) × (s.done ≡ tr.0.done) → Beside o both (mv ∷ w)
+              with (then, same, _) = rest (further then same (omega (arith, none, no_p, grown p)) h)
+                where
+                  rest : Beside (after_move o mv) then w → Beside o both (mv ∷ w)
+                  rest r = record {
+                    word = mv ∷ r.word;
+                    trace = (
+                      then,
+                      record {
+                        c = s.c;
+                        at = b.at_both;
+                        low = b.low_both;
+                        h = b.hung_both;
+                        is = s.is
+                            ∙ sym (b.same none);
+                        grows = same ∙ s.grows ∙ (λ i. sym laid i ++ (sym b.first_same i ∷ sym b.more_same i));
+                      },
+                      r.trace,
+                    );
+                    less = inr (refl, r.less);
+                  }
+          go b (inr some) = with (state_then m (fits_then l fits q p r can) o both s.c b.at_both b.low_both b.hung_both)
+            where
+              mine : Move
+              mine = move m (fits_then l fits q p r can) o both s.c b.at_both b.low_both b.hung_both
+
+              with : (then : State m (after_move o (move m (fits_then l fits q p r can) o both s.c b.at_both b.low_both b.hung_both)))
+                  × (length then.done ≡ suc (length both.done)) × (then.laid ≡ both.laid ++ (b.hung_both.first ∷ b.hung_both.more)) → Beside o both (mv ∷ w)
+              with (then, _, grows) = rest (traced m (fits_then l fits q p r can) m.bottom
+                  (after_move o (move m (fits_then l fits q p r can) o both s.c b.at_both b.low_both b.hung_both)) then (omega arith))
+                where
+                  rest : (w : Word) × Trace m (fits_then l fits q p r can)
+                      (after_move o (move m (fits_then l fits q p r can) o both s.c b.at_both b.low_both b.hung_both)) then w
+                      → Beside o both (mv ∷ w)
+                  rest (more, t) = record {
+                    word = move m (fits_then l fits q p r can) o both s.c b.at_both b.low_both b.hung_both ∷ more;
+                    trace = (then, record { c = s.c; at = b.at_both; low = b.low_both; h = b.hung_both; is = refl; grows = grows }, t);
+                    less = inl (
+                      b.counts ∙ ap (λ (z : Move). z.count) (sym s.is),
+                      subst (λ (z : Move). Drops (move m (fits_then l fits q p r can) o both s.c b.at_both b.low_both b.hung_both).signs
+                          z.signs) (sym s.is) (b.drops some),
+                    );
+                  }
+
+  -- ---- from the first move on
+
+  -- a lesser word of the reversed layout
+  pub record WholeBeside (mv : Move) (w : Word) : Type 0 where
+    pub first : Move
+    pub word : Word
+    pub whole : Whole m (fits_then l fits q p r can) first word
+    pub less : IsLess (first ∷ word) (mv ∷ w)
+
+  -- a word that breaks the rule gives one
+  pub whole_beside : (mv : Move) (w : Word) (whole : Whole l fits mv w) → Late (after_move start mv) whole.first w whole.trace → WholeBeside mv w
+  whole_beside mv w whole late = on (one_or_more (times p (whole.h.first ∷ whole.h.more)))
+    where
+      one_or_more : (n : ℕ) → (n ≡ 0) ⊎ (0 < n)
+      one_or_more n = grind arith
+
+      out : (times q whole.first.laid ≡ 0) × (times v whole.first.done ≡ 0)
+      out = late_out (after_move start mv) whole.first w whole.trace late
+
+      no_new : times q (whole.h.first ∷ whole.h.more) ≡ 0
+      no_new = ap (times q) (sym whole.grows) ∙ out.0
+
+      both : Hung m 0
+      both = hung_from m (fits_then l fits q p r can) 0 fits.some
+
+      hung_same : ◌≡◌ {A = List ℕ} (both.first ∷ both.more) (whole.h.first ∷ whole.h.more)
+      hung_same = sym both.is ∙ (top_is l fits q p r can) ∙ whole.h.is
+
+      wall_at : (k : Layout) → Fits k → (h : Hung k 0) → k.right (last_from h.first h.more) ≡ 1
+      wall_at k fit h = fit.lines.top_right (last_from h.first h.more)
+          (subst (λ (xs : List ℕ). IsLast xs (last_from h.first h.more)) (sym h.is) (is_last h.first h.more))
+
+      marks : Chain l (signs_of l (whole.h.first ∷ whole.h.more)) (singles (whole.h.first ∷ whole.h.more))
+      marks = singles_wall l whole.h.first whole.h.more whole.h.known whole.h.linked (wall_at l fits whole.h)
+
+      marks_both : Chain m (signs_of m (both.first ∷ both.more)) (singles (whole.h.first ∷ whole.h.more))
+      marks_both = subst (λ (xs : List ℕ). Chain m (signs_of m (both.first ∷ both.more)) (singles xs)) hung_same
+          (singles_wall m both.first both.more both.known both.linked (wall_at m (fits_then l fits q p r can) both))
+
+      counts : ◌≡◌ {A = ℕ} (length (both.first ∷ both.more)) (length (whole.h.first ∷ whole.h.more))
+      counts = ap (λ (xs : List ℕ). length xs) hung_same
+
+      q_in : times_in q (singles (whole.h.first ∷ whole.h.more)) ≡ 0
+      q_in = times_singles q (whole.h.first ∷ whole.h.more) ∙ no_new
+
+      on : (times p (whole.h.first ∷ whole.h.more) ≡ 0) ⊎ (0 < times p (whole.h.first ∷ whole.h.more)) → WholeBeside mv w
+      on (inl none) = with ((state_moved l fits q p r can) (after_move start mv) whole.first out.0 (ap (times p) whole.grows ∙ none) out.1)
+        where
+          same_move : first_move m (fits_then l fits q p r can) both ≡ first_move l fits whole.h
+          same_move = λ i. record {
+            count = counts i;
+            signs =
+                (same_signs l fits q p r can) (signs_of l (whole.h.first ∷ whole.h.more)) (signs_of m (both.first ∷ both.more))
+                (singles (whole.h.first ∷ whole.h.more)) marks marks_both q_in (times_singles p (whole.h.first ∷ whole.h.more) ∙ none) i;
+          }
+
+          with : (s : State m (after_move start mv)) × (s.laid ≡ whole.first.laid) × (s.done ≡ whole.first.done) → WholeBeside mv w
+          with (then, same, _) = rest (beside_it (after_move start mv) whole.first then same (ap (times p) whole.grows ∙ none) w whole.trace late)
+            where
+              rest : Beside (after_move start mv) then w → WholeBeside mv w
+              rest b = record {
+                first = mv;
+                word = b.word;
+                whole =
+                    record {
+                      h = both;
+                      is = whole.is ∙ sym same_move;
+                      first = then;
+                      grows = same ∙ whole.grows
+                          ∙ sym hung_same;
+                      trace = b.trace;
+                    };
+                less = inr (refl, b.less);
+              }
+      on (inr some) = rest (whole_from m (fits_then l fits q p r can) both)
+        where
+          drops : Drops (first_move m (fits_then l fits q p r can) both).signs (first_move l fits whole.h).signs
+          drops = (dropped_signs l fits q p r can) (signs_of l (whole.h.first ∷ whole.h.more)) (signs_of m (both.first ∷ both.more))
+              (singles (whole.h.first ∷ whole.h.more)) marks marks_both q_in (omega (arith, some, times_singles p (whole.h.first ∷ whole.h.more)))
+
+          rest : (w : Word) × Whole m (fits_then l fits q p r can) (first_move m (fits_then l fits q p r can) both) w → WholeBeside mv w
+          rest (word, t) = record {
+            first = first_move m (fits_then l fits q p r can) both;
+            word = word;
+            whole = t;
+            less = inl (
+              counts ∙ ap (λ (z : Move). z.count) (sym whole.is),
+              subst (λ (z : Move). Drops (first_move m (fits_then l fits q p r can) both).signs z.signs) (sym whole.is) drops,
+            );
+          }

@@ -1,0 +1,170 @@
+-- The squares of a tiling and their numbers in its layout, and what stands first and last at each node.
+use Rattle.std.proofs.Common.{Bool, ap, arith, inl, inr, length, subst, sym, true, ℕ, ◌+◌, ◌-◌, ◌<◌, ◌==◌, ◌∙◌, ◌≡◌, ◌≤◌, ◌⊎◌}
+use Rattle.std.proofs.lemmas.Bool.{cases_lt}
+use Rattle.bk_laws.proofs.ListPlaces.{get_some}
+use Rattle.bk_tiling.proofs.Members.{one_at}
+use Rattle.bk_tiling.proofs.Places.{at_place, later_place}
+use Rattle.bk_tiling.proofs.Scaling.{before_cases}
+use Rattle.bk_tiling.specs.SquareGroups.{square_groups}
+use Rattle.bk_tiling.specs.Tiling.{IsOneOf, IsTiling, Tiling}
+use Rattle.bk_tiling.specs.declared.Square.{Square}
+use Rattle.bk_net.specs.Diagram.{node_below}
+use Rattle.bk_tiling_layout.proofs.Ascending.{IsFirstOf, IsLastOf, first_from, last_from, stands_in}
+use Rattle.bk_tiling_layout.proofs.Edges.{side}
+use Rattle.bk_tiling_layout.proofs.LineEnds.{eq_from, eq_to}
+use Rattle.bk_tiling_layout.proofs.NodeLaws.{first_ended, first_hung, last_ended, last_hung, one_ended, one_hung}
+use Rattle.bk_tiling_layout.proofs.Nodes.{IsNode, above_bottom, bottom_node, inner_node, most_nodes}
+use Rattle.bk_tiling_layout.specs.TilingLayout.{from_left, node_above, square_of}
+
+module _ (t : Tiling) (tiling : IsTiling t) where
+  -- ---- squares and their numbers
+
+  -- the square of a number is the tiling's
+  pub in_square : (k : ℕ) → k < length t.squares → IsOneOf (square_of t k) t.squares
+  in_square k h = one_at t.squares k (record { x = 0; y = 0; s = 0 }) h
+
+  -- the number of a square of the tiling
+  pub record HasNumber (q : Square) : Type 0 where
+    pub number : ℕ
+    pub below : number < length t.squares
+    pub is : square_of t number ≡ q
+
+  -- each square has one
+  pub has_number : (q : Square) → IsOneOf q t.squares → HasNumber q
+  has_number q h = let p = at_place t.squares q h in record { number = p.0; below = p.1; is = p.2 (record { x = 0; y = 0; s = 0 }) }
+
+  -- and just one
+  pub one_number : (j k : ℕ) → j < length t.squares → k < length t.squares → square_of t j ≡ square_of t k → j ≡ k
+  one_number j k h m same = cases (cases_lt j k) (cases_lt k j)
+    where
+      not_before : (j k : ℕ) → j < k → k < length t.squares → square_of t j ≡ square_of t k → ⊥
+      not_before j k a b e = by (before_cases (square_of t j) (square_of t k) (later_place t.squares tiling.ordered j k (record { x = 0; y = 0; s = 0 }) a b))
+        where
+          by : ((square_of t j).y < (square_of t k).y) ⊎ (((square_of t j).y ≡ (square_of t k).y) × ((square_of t j).x < (square_of t k).x)) → ⊥
+          by (inl c) = omega (arith, c, ap (λ (s : Square). s.y) e)
+          by (inr c) = omega (arith, c.1, ap (λ (s : Square). s.x) e)
+
+      cases : (j < k) ⊎ (k ≤ j) → (k < j) ⊎ (j ≤ k) → j ≡ k
+      cases (inl a) b = absurd (not_before j k a m same)
+      cases (inr a) (inl b) = absurd (not_before k j b h (sym same))
+      cases (inr a) (inr b) = omega arith
+
+  -- each number up to that of the bottom is a node
+  pub node_at : (v : ℕ) → v ≤ length (square_groups t.squares) → IsNode t v
+  node_at v h = cases (cases_lt v (length (square_groups t.squares)))
+    where
+      cases : (v < length (square_groups t.squares)) ⊎ (length (square_groups t.squares) ≤ v) → IsNode t v
+      cases (inl m) = let g = get_some (square_groups t.squares) v m in inner_node t tiling v g.0 g.1
+      cases (inr m) = let same : length (square_groups t.squares) ≡ v = omega arith in subst (IsNode t) same (bottom_node t tiling)
+
+  -- the key, and the tests
+  abbrev pub key : ℕ → ℕ
+  key q = (square_of t q).x
+
+  -- the square hangs from the node
+  abbrev pub hung : ℕ → ℕ → Bool
+  hung v q = node_above (square_groups t.squares) (square_of t q) == v
+
+  -- it ends on the node
+  abbrev pub ended : ℕ → ℕ → Bool
+  ended v q = node_below (square_groups t.squares) (square_of t q) == v
+
+  -- where the test says so, the node is that above it
+  pub hung_from : (v q : ℕ) → hung v q ≡ true → node_above (square_groups t.squares) (square_of t q) ≡ v
+  hung_from v q e = eq_from (node_above (square_groups t.squares) (square_of t q)) v e
+
+  pub hung_to : (v q : ℕ) → node_above (square_groups t.squares) (square_of t q) ≡ v → hung v q ≡ true
+  hung_to v q e = eq_to (node_above (square_groups t.squares) (square_of t q)) v e
+
+  -- where the test says so, the node is that below it
+  pub ended_from : (v q : ℕ) → ended v q ≡ true → node_below (square_groups t.squares) (square_of t q) ≡ v
+  ended_from v q e = eq_from (node_below (square_groups t.squares) (square_of t q)) v e
+
+  pub ended_to : (v q : ℕ) → node_below (square_groups t.squares) (square_of t q) ≡ v → ended v q ≡ true
+  ended_to v q e = eq_to (node_below (square_groups t.squares) (square_of t q)) v e
+
+  -- what squares hang from is a node
+  pub hung_node : (v q : ℕ) → q < length t.squares → hung v q ≡ true → IsNode t v
+  hung_node v q h e = node_at v (omega (arith, hung_from v q e, above_bottom t tiling (square_of t q) (in_square q h)))
+
+  -- and what they end on
+  pub ended_node : (v q : ℕ) → q < length t.squares → ended v q ≡ true → IsNode t v
+  ended_node v q h e = node_at v (omega (arith, ended_from v q e, most_nodes t tiling (square_of t q) (in_square q h)))
+
+  pub wide_at : (q : ℕ) → q < length t.squares → (square_of t q).x < (square_of t q).x + (square_of t q).s
+  wide_at q h = omega (arith, side t tiling (square_of t q) (in_square q h))
+
+  -- no two squares that hang from one node begin at one column
+  pub hung_one : (v q r : ℕ) → q < length t.squares → r < length t.squares → hung v q ≡ true → hung v r ≡ true → key q ≡ key r → q ≡ r
+  hung_one v q r h k e f same = one_number q r h k
+      (one_hung t tiling v (hung_node v q h e) (key q) (square_of t q) (square_of t r) (in_square q h) (in_square r k) (hung_from v q e)
+      (hung_from v r f) (omega arith) (wide_at q h) (omega (arith, same)) (omega (arith, same, wide_at r k)))
+
+  -- and no two that end on one
+  pub ended_one : (v q r : ℕ) → q < length t.squares → r < length t.squares → ended v q ≡ true → ended v r ≡ true → key q ≡ key r → q ≡ r
+  ended_one v q r h k e f same = one_number q r h k
+      (one_ended t tiling v (ended_node v q h e) (key q) (square_of t q) (square_of t r) (in_square q h) (in_square r k) (ended_from v q e)
+      (ended_from v r f) (omega arith) (wide_at q h) (omega (arith, same)) (omega (arith, same, wide_at r k)))
+
+  -- what holds of all numbers holds of all squares
+  pub over_hung : (v : ℕ) (P : Square → Type 0) → ((r : ℕ) → r < length t.squares → hung v r ≡ true → P (square_of t r)) → (w : Square)
+      → IsOneOf w t.squares → node_above (square_groups t.squares) w ≡ v → P w
+  over_hung v P each w h e = let k = has_number w h in
+      subst P k.is (each k.number k.below (hung_to v k.number (ap (node_above (square_groups t.squares)) k.is ∙ e)))
+
+  over_ended : (v : ℕ) (P : Square → Type 0) → ((r : ℕ) → r < length t.squares → ended v r ≡ true → P (square_of t r)) → (w : Square)
+      → IsOneOf w t.squares → node_below (square_groups t.squares) w ≡ v → P w
+  over_ended v P each w h e = let k = has_number w h in
+      subst P k.is (each k.number k.below (ended_to v k.number (ap (node_below (square_groups t.squares)) k.is ∙ e)))
+
+  -- the squares at both ends of a node's lists
+  pub first_of_hung : (v p : ℕ) → IsFirstOf (from_left t (λ q. node_above (square_groups t.squares) (square_of t q) == v)) p
+      → (p < length t.squares) × (hung v p ≡ true) × ((node : IsNode t v) → (square_of t p).x ≡ node.left)
+  first_of_hung v p first = (
+    s.0,
+    s.1,
+    λ node. first_hung t tiling v node (square_of t p) (in_square p s.0) (hung_from v p s.1)
+        (over_hung v (λ w. key p ≤ w.x) (λ r h e. first_from key (hung v) (length t.squares) (hung_one v) p first r h e)),
+  )
+    where
+      s : (p < length t.squares) × (hung v p ≡ true)
+      s = stands_in key (hung v) (length t.squares) (hung_one v) 0 p first
+
+  -- and the first that ends there
+  pub first_of_ended : (v p : ℕ) → IsFirstOf (from_left t (λ q. node_below (square_groups t.squares) (square_of t q) == v)) p
+      → (p < length t.squares) × (ended v p ≡ true) × ((node : IsNode t v) → (square_of t p).x ≡ node.left)
+  first_of_ended v p first = (
+    s.0,
+    s.1,
+    λ node. first_ended t tiling v node (square_of t p) (in_square p s.0) (ended_from v p s.1)
+        (over_ended v (λ w. key p ≤ w.x) (λ r h e. first_from key (ended v) (length t.squares) (ended_one v) p first r h e)),
+  )
+    where
+      s : (p < length t.squares) × (ended v p ≡ true)
+      s = stands_in key (ended v) (length t.squares) (ended_one v) 0 p first
+
+  -- the last in the list of what hangs from a node ends at its right end
+  pub last_of_hung : (v p : ℕ) → IsLastOf (from_left t (λ q. node_above (square_groups t.squares) (square_of t q) == v)) p
+      → (p < length t.squares) × (hung v p ≡ true) × ((node : IsNode t v) → (square_of t p).x + (square_of t p).s ≡ node.right)
+  last_of_hung v p last = (
+    s.0,
+    s.1,
+    λ node. last_hung t tiling v node (square_of t p) (in_square p s.0) (hung_from v p s.1)
+        (over_hung v (λ w. w.x ≤ key p) (λ r h e. last_from key (hung v) (length t.squares) (hung_one v) p last r h e)),
+  )
+    where
+      s : (p < length t.squares) × (hung v p ≡ true)
+      s = stands_in key (hung v) (length t.squares) (hung_one v) last.0 p last.2
+
+  -- and the last that ends there
+  pub last_of_ended : (v p : ℕ) → IsLastOf (from_left t (λ q. node_below (square_groups t.squares) (square_of t q) == v)) p
+      → (p < length t.squares) × (ended v p ≡ true) × ((node : IsNode t v) → (square_of t p).x + (square_of t p).s ≡ node.right)
+  last_of_ended v p last = (
+    s.0,
+    s.1,
+    λ node. last_ended t tiling v node (square_of t p) (in_square p s.0) (ended_from v p s.1)
+        (over_ended v (λ w. w.x ≤ key p) (λ r h e. last_from key (ended v) (length t.squares) (ended_one v) p last r h e)),
+  )
+    where
+      s : (p < length t.squares) × (ended v p ≡ true)
+      s = stands_in key (ended v) (length t.squares) (ended_one v) last.0 p last.2
