@@ -7,9 +7,7 @@ use Rattle.bk_word.proofs.WordOrder.{follows_trans}
 use Rattle.bk_word.specs.Word.{Follows, Word}
 use Rattle.bk_word.specs.declared.Class.{Class}
 use Rattle.bk_catalogue.specs.Catalogue.{AreAscending, Entry, IsEntry}
-use Rattle.bk_report.specs.declared.listing.Last.{Last}
-use Rattle.bk_report.specs.declared.listing.Last.TheVariants.{End, Limit, Wide}
-use Rattle.bk_list.specs.Listing.{AreFirst, EndsBy}
+use Rattle.bk_list.specs.Listing.{AreFirst, AtEnd, AtLimit, Ending, EndsBy, WideAt}
 use Rattle.bk_list.specs.ListingLaws.{AListingGoesOn, cursor_after}
 
 all_map : {A : Type 0} (P Q : A → Type 0) → ((x : A) → P x → Q x) → (xs : List A) → AllByRecursion P xs → AllByRecursion Q xs
@@ -73,10 +71,11 @@ module _ (n : ℕ) (class : Class) (cursor : Word) (entries more : List Entry) (
       cases (inl c) = Contains-append_left entries more e c
       cases (inr later) = Contains-append_right entries more e (rest later.1)
 
-  ends_both : (last : Last) (w : Word) → EndsBy n class (cursor_after cursor entries) None more last w → EndsBy n class cursor None (entries ++ more) last w
-  ends_both Limit w e = absurd (no_limit (length more) e)
-  ends_both End w e = (tt, λ f entry h. among_both f entry h (λ k. e.1 f entry k))
-  ends_both Wide w (low, stop) = (
+  -- the further entries end as both do
+  ends_both : (ending : Ending) → EndsBy n class (cursor_after cursor entries) None more ending → EndsBy n class cursor None (entries ++ more) ending
+  ends_both AtLimit e = absurd (no_limit (length more) e)
+  ends_both AtEnd e = (tt, λ f entry h. among_both f entry h (λ k. e.1 f entry k))
+  ends_both (WideAt w) (low, stop) = (
     tt,
     record {
       complete = stop.complete;
@@ -89,4 +88,4 @@ module _ (n : ℕ) (class : Class) (cursor : Word) (entries more : List Entry) (
   )
 
 pub a_listing_goes_on : AListingGoesOn
-a_listing_goes_on n class cursor entries more last w a b e = (both n class cursor entries more a b, ends_both n class cursor entries more a b last w e)
+a_listing_goes_on n class cursor entries more ending a b e = (both n class cursor entries more a b, ends_both n class cursor entries more a b ending e)

@@ -3,10 +3,9 @@ use Rattle.std.specs.Fmt.{digits}
 use Rattle.std.specs.Prelude.{None, Some, codes}
 use Rattle.std.proofs.Common.{[], inl, inr, refl, ◌++◌, ◌∷◌}
 use Rattle.bk_word.specs.declared.Class.TheVariants.{Imperfect, Perfect}
-use Rattle.bk_report.specs.declared.listing.Last.TheVariants.{End, Limit}
 use Rattle.bk_catalogue.proofs.CatalogueExamples.{entry_is, no_perfect, only, row_entry}
 use Rattle.bk_list.proofs.WholeListing.{a_whole_listing_is_the_catalogue}
-use Rattle.bk_list.specs.Listing.{AreFirst, IsListing}
+use Rattle.bk_list.specs.Listing.{AreFirst, AtEnd, AtLimit, IsListing}
 use Rattle.bk_list.specs.ListingLaws.{WritesCatalogue}
 
 none_yet : AreFirst 2 Imperfect [] []
@@ -16,30 +15,30 @@ one_listed : AreFirst 2 Imperfect [] (row_entry ∷ [])
 one_listed = record { each = (entry_is, tt); after = (refl, tt); ascending = (tt, tt); none_between = λ e is h. inl (only e is) }
 
 -- list --order 2 --class imperfect
-pub whole_listing : IsListing 2 Imperfect [] None End (codes "2 2x1 [1,1] ; 2e" ++ 10 ∷ codes "; end order 2 class imperfect listed 1" ++ 10 ∷ [])
+pub whole_listing : IsListing 2 Imperfect [] None AtEnd (codes "2 2x1 [1,1] ; 2e" ++ 10 ∷ codes "; end order 2 class imperfect listed 1" ++ 10 ∷ [])
 unfolding digits
-whole_listing = record { entries = row_entry ∷ []; word = []; first = one_listed; ends = (tt, λ e is h. only e is); text = refl }
+whole_listing = record { entries = row_entry ∷ []; first = one_listed; ends = (tt, λ e is h. only e is); text = refl }
 
 -- so these are the lines of the whole catalogue
 pub whole_catalogue : WritesCatalogue 2 Imperfect (codes "2 2x1 [1,1] ; 2e" ++ 10 ∷ codes "; end order 2 class imperfect listed 1" ++ 10 ∷ [])
 whole_catalogue = a_whole_listing_is_the_catalogue 2 Imperfect _ whole_listing
 
 -- list --order 2 --class imperfect --limit 1: the limit is reached, whether or not there are more
-pub at_the_limit : IsListing 2 Imperfect [] (Some 1) Limit (codes "2 2x1 [1,1] ; 2e" ++ 10 ∷ codes "; limit order 2 class imperfect listed 1" ++ 10 ∷ [])
+pub at_the_limit : IsListing 2 Imperfect [] (Some 1) AtLimit (codes "2 2x1 [1,1] ; 2e" ++ 10 ∷ codes "; limit order 2 class imperfect listed 1" ++ 10 ∷ [])
 unfolding digits
-at_the_limit = record { entries = row_entry ∷ []; word = []; first = one_listed; ends = refl; text = refl }
+at_the_limit = record { entries = row_entry ∷ []; first = one_listed; ends = refl; text = refl }
 
 -- list --order 2 --class imperfect --limit 0
-pub limit_0 : IsListing 2 Imperfect [] (Some 0) Limit (codes "; limit order 2 class imperfect listed 0" ++ 10 ∷ [])
+pub limit_0 : IsListing 2 Imperfect [] (Some 0) AtLimit (codes "; limit order 2 class imperfect listed 0" ++ 10 ∷ [])
 unfolding digits
-limit_0 = record { entries = []; word = []; first = none_yet; ends = refl; text = refl }
+limit_0 = record { entries = []; first = none_yet; ends = refl; text = refl }
 
 -- list --order 2
-pub no_entries : IsListing 2 Perfect [] None End (codes "; end order 2 listed 0" ++ 10 ∷ [])
+pub no_entries : IsListing 2 Perfect [] None AtEnd (codes "; end order 2 listed 0" ++ 10 ∷ [])
 unfolding digits
 no_entries = record {
   entries = [];
-  word = [];
+ 
   first = record { each = tt; after = tt; ascending = tt; none_between = λ e is h. inr tt };
   ends = (tt, λ e is h. absurd (no_perfect e is));
   text = refl;

@@ -15,14 +15,14 @@ use Rattle.bk_catalogue.specs.Catalogue.{Entry}
 use Rattle.bk_report.specs.Listings.{last_line}
 use Rattle.bk_report.specs.declared.listing.Last.{Last}
 use Rattle.bk_report.specs.declared.listing.Last.TheVariants.{End, Limit, Wide}
-use Rattle.bk_list.proofs.Taking.{all_there, first_more, first_none, last_word, stops_there}
+use Rattle.bk_list.proofs.Taking.{all_there, first_more, first_none, last_word}
 use Rattle.bk_list.proofs.WordCounts.{few_entries}
-use Rattle.bk_list.specs.Listing.{AreFirst, EndsBy, IsBelowLimit, IsWithinLimit, line_of}
+use Rattle.bk_list.specs.Listing.{AreFirst, AtEnd, AtLimit, Ending, EndsBy, IsBelowLimit, IsListing, IsWithinLimit, ending_line, line_of, name_of}
 use Rattle.bk_list.specs.ListingLaws.{cursor_after}
-use Rattle.bk_walk.specs.Walking.{HasNoneAfter, IsNextMember, IsWideAfter}
-use Rattle.bk_list.specs.Writing.{BeginsListing, HasEntries, IsNext, IsNextBegun, TakesNext, WritesListing}
+use Rattle.bk_walk.specs.Walking.{HasNoneAfter, IsNextMember}
+use Rattle.bk_list.specs.Writing.{AreEndedBy, BeginsListing, HasEntries, IsNext, IsNextBegun, TakesNext, WritesListing}
 use Rattle.bk_list.specs.declared.entries.Next.{Next}
-use Rattle.bk_list.specs.declared.entries.Next.TheVariants.{Member, Nothing, WideWord}
+use Rattle.bk_list.specs.declared.entries.Next.TheVariants.{Member, Nothing}
 
 -- what comes next is taken
 pub taken : (n : ℕ) (class : Class) (cursor : Word) (t : Tiling) (w : Word) → IsNextMember n class cursor t w → TakesNext n class cursor (record { tiling = t; word = w })
@@ -45,10 +45,10 @@ pub begun_as : (k n : ℕ) (one class : Class) (cursor : Word) (b c : Option (Li
 begun_as k n one class cursor b c e f h = subst (λ (k : ℕ). IsNextBegun k class cursor b c) e (subst (λ (one : Class). IsNextBegun k one cursor b c) f h)
 
 -- all entries, by other names of the order and of the class
-pub entries_as : (k n : ℕ) (one class : Class) (cursor : Word) (limit : Option ℕ) (last : Last) (listed : ℕ) (word : Word) (a b : Option (List ℕ)) → k ≡ n → one ≡ class
-    → HasEntries k one cursor limit last listed word a b → HasEntries n class cursor limit last listed word a b
-entries_as k n one class cursor limit last listed word a b e f h =
-    subst (λ (k : ℕ). HasEntries k class cursor limit last listed word a b) e (subst (λ (one : Class). HasEntries k one cursor limit last listed word a b) f h)
+pub entries_as : (k n : ℕ) (one class : Class) (cursor : Word) (limit : Option ℕ) (last : Last) (listed : ℕ) (a b : Option (List ℕ)) → k ≡ n → one ≡ class
+    → HasEntries k one cursor limit last listed a b → HasEntries n class cursor limit last listed a b
+entries_as k n one class cursor limit last listed a b e f h =
+    subst (λ (k : ℕ). HasEntries k class cursor limit last listed a b) e (subst (λ (one : Class). HasEntries k one cursor limit last listed a b) f h)
 
 -- where the listing stands: so many of the first members are written, no more than the limit, and the cursor is the word
 -- of the last one
@@ -138,7 +138,7 @@ module _ (n : ℕ) (class : Class) (start cursor : Word) (limit : Option ℕ) (l
       }
 
   -- no member is left
-  pub listed_all : (then : Word) (c : Option (List ℕ)) → IsNext n class cursor then b c Nothing → HasEntries n class start limit End listed then a c
+  pub listed_all : (then : Word) (c : Option (List ℕ)) → IsNext n class cursor then b c Nothing → HasEntries n class start limit End listed a c
   listed_all then c next = record {
     entries = s.entries;
     first = s.first;
@@ -147,19 +147,9 @@ module _ (n : ℕ) (class : Class) (start cursor : Word) (limit : Option ℕ) (l
     appends = subst (λ (w : Option (List ℕ)). Appends a w (flat_map line_of s.entries)) (sym next.1) s.appends;
   }
 
-  -- a wide word comes
-  pub listed_wide : (then : Word) (c : Option (List ℕ)) → IsNext n class cursor then b c WideWord → HasEntries n class start limit Wide listed then a c
-  listed_wide then c next = record {
-    entries = s.entries;
-    first = s.first;
-    ends = (below limit s.entries listed s.count not s.within, stops_there n class start s.entries then s.first (subst (λ (w : Word). IsWideAfter n class w then) s.at next.0));
-    count = s.count;
-    appends = subst (λ (w : Option (List ℕ)). Appends a w (flat_map line_of s.entries)) (sym next.1) s.appends;
-  }
-
 -- the limit is reached
 pub listed_limit : (n : ℕ) (class : Class) (start cursor : Word) (limit : Option ℕ) (listed : ℕ) (a b : Option (List ℕ)) → IsListed n class start cursor limit listed a b → limit ≡ Some listed
-    → HasEntries n class start limit Limit listed cursor a b
+    → HasEntries n class start limit Limit listed a b
 listed_limit n class start cursor limit listed a b s is = record {
   entries = s.entries;
   first = s.first;
@@ -168,24 +158,43 @@ listed_limit n class start cursor limit listed a b s is = record {
   appends = s.appends;
 }
 
+-- the ending of that name, and its line; no entries end at a wide word
+record Ended (n : ℕ) (class : Class) (cursor : Word) (limit : Option ℕ) (last : Last) (entries : List Entry) (piece : List ℕ) : Type 0 where
+  pub ending : Ending
+  pub named : last ≡ name_of ending
+  pub ends : EndsBy n class cursor limit entries ending
+  pub line : piece ≡ ending_line ending n class (length entries)
+
 -- the last line is written
-module _ (n : ℕ) (class : Class) (cursor : Word) (limit : Option ℕ) (last : Last) (listed : ℕ) (word : Word) (a b c : Option (List ℕ)) (h : HasEntries n class cursor limit last listed word a b) (piece : List ℕ) (is : piece ≡ last_line last n class listed word) where
-  line_is : piece ≡ last_line last n class (length h.entries) word
-  line_is = is ∙ ap (λ k. last_line last n class k word) h.count
+module _ (n : ℕ) (class : Class) (cursor : Word) (limit : Option ℕ) (last : Last) (listed : ℕ) (word : Word) (a b c : Option (List ℕ)) (h : HasEntries n class cursor limit last listed a b) (piece : List ℕ) (is : piece ≡ last_line last n class listed word) where
+  ended : Ended n class cursor limit last h.entries piece
+  ended = cases last h.ends (is ∙ ap (λ k. last_line last n class k word) h.count)
+    where
+      cases : (last : Last) → AreEndedBy n class cursor limit h.entries last → piece ≡ last_line last n class (length h.entries) word → Ended n class cursor limit last h.entries piece
+      cases End ends line = record { ending = AtEnd; named = refl; ends = ends; line = line }
+      cases Limit ends line = record { ending = AtLimit; named = refl; ends = ends; line = line }
+      cases Wide ends line = absurd ends
+
+  listing : IsListing n class cursor limit ended.ending (flat_map line_of h.entries ++ piece)
+  listing = record { entries = h.entries; first = h.first; ends = ended.ends; text = ap (λ l. flat_map line_of h.entries ++ l) ended.line }
 
   pub written_whole : Appends b c piece → WritesListing n class cursor limit last a c
   written_whole p = record {
+    ending = ended.ending;
+    named = ended.named;
     bytes = flat_map line_of h.entries ++ piece;
-    listing = record { entries = h.entries; word = word; first = h.first; ends = h.ends; text = ap (λ l. flat_map line_of h.entries ++ l) line_is };
+    listing = listing;
     appends = Appends-trans a b c (flat_map line_of h.entries) piece h.appends p;
   }
 
+  -- or a beginning of it
   pub begun_whole : AppendsPrefix b c piece → BeginsListing n class cursor limit a c
   begun_whole p = record {
     bytes = flat_map line_of h.entries ++ piece;
-    front = inr (last, record { entries = h.entries; word = word; first = h.first; ends = h.ends; text = ap (λ l. flat_map line_of h.entries ++ l) line_is });
+    front = inr (ended.ending, listing);
     begins = prefix_after a b c (flat_map line_of h.entries) piece h.appends p;
   }
 
-pub wide_some : (n : ℕ) (class : Class) (cursor : Word) (limit : Option ℕ) (last : Last) (listed : ℕ) (word : Word) (a b : Option (List ℕ)) → HasEntries n class cursor limit last listed word a b → last ≡ Wide → 0 < length word
-wide_some n class cursor limit last listed word a b h e = (((subst (λ (l : Last). EndsBy n class cursor limit h.entries l word) e h.ends).1).complete).some
+-- the entries don't end at a wide word
+pub ended_narrow : (n : ℕ) (class : Class) (cursor : Word) (limit : Option ℕ) (last : Last) (listed : ℕ) (a b : Option (List ℕ)) → HasEntries n class cursor limit last listed a b → last ≡ Wide → ⊥
+ended_narrow n class cursor limit last listed a b h e = subst (AreEndedBy n class cursor limit h.entries) e h.ends

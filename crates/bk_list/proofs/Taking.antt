@@ -9,11 +9,11 @@ use Rattle.bk_word.specs.Word.{Follows, Word, word_cmp}
 use Rattle.bk_word.specs.declared.Class.{Class}
 use Rattle.bk_walk.proofs.Starting.{word_same}
 use Rattle.bk_catalogue.specs.Catalogue.{Entry, IsEntry}
-use Rattle.bk_list.proofs.Continuing.{after_each, after_last, both, first_or_later}
+use Rattle.bk_list.proofs.Continuing.{both, first_or_later}
 use Rattle.bk_list.proofs.OneEntry.{one_entry}
-use Rattle.bk_list.specs.Listing.{AreFirst, HasAll, StopsAt}
+use Rattle.bk_list.specs.Listing.{AreFirst, HasAll}
 use Rattle.bk_list.specs.ListingLaws.{cursor_after}
-use Rattle.bk_walk.specs.Walking.{HasNoneAfter, HasNoneBetween, IsWideAfter}
+use Rattle.bk_walk.specs.Walking.{HasNoneAfter, HasNoneBetween}
 
 pub first_none : (n : ℕ) (class : Class) (cursor : Word) → AreFirst n class cursor []
 first_none n class cursor = record { each = tt; after = tt; ascending = tt; none_between = λ e entry h. inr tt }
@@ -55,18 +55,3 @@ all_there n class cursor entries first none e entry h = cases (first_or_later n 
     cases : Contains entries e ⊎ (AllByRecursion (λ listed. Follows e.word listed.word) entries × Follows e.word (cursor_after cursor entries)) → Contains entries e
     cases (inl c) = c
     cases (inr later) = absurd (none e entry later.1)
-
--- and where a wide word comes next, the listing may stop there
-pub stops_there : (n : ℕ) (class : Class) (cursor : Word) (entries : List Entry) (w : Word) → AreFirst n class cursor entries → IsWideAfter n class (cursor_after cursor entries) w → StopsAt n class cursor entries w
-stops_there n class cursor entries w first wide = record {
-  complete = wide.complete;
-  order = wide.order;
-  after = after_last cursor entries first.after first.ascending w wide.after;
-  wide = wide.wide;
-  below = after_each cursor entries first.ascending w wide.after;
-  all_below = λ e entry h under. cases e entry under (first_or_later n class cursor entries [] first (first_none n class (cursor_after cursor entries)) e entry h);
-}
-  where
-    cases : (e : Entry) → IsEntry n class e → Follows w e.word → Contains entries e ⊎ (AllByRecursion (λ listed. Follows e.word listed.word) entries × Follows e.word (cursor_after cursor entries)) → Contains entries e
-    cases e entry under (inl c) = c
-    cases e entry under (inr later) = absurd (wide.least e entry later.1 under)

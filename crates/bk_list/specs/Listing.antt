@@ -1,6 +1,6 @@
 -- Listings: what a listing of a catalogue writes, from a cursor and under a limit.
 use Rattle.std.specs.List.{AllByRecursion}
-use Rattle.std.specs.Prelude.{Contains, List, None, Option, Some, flat_map, length, ℕ, ⊤, ◌++◌, ◌<◌, ◌≡◌, ◌⊎◌}
+use Rattle.std.specs.Prelude.{Contains, List, None, Option, Some, [], flat_map, length, ℕ, ⊤, ◌++◌, ◌<◌, ◌≡◌, ◌⊎◌}
 use Rattle.bk_word.specs.Play.{IsComplete}
 use Rattle.bk_word.specs.Word.{Follows, Word, order_of}
 use Rattle.bk_word.specs.declared.Class.{Class}
@@ -47,12 +47,30 @@ pub record StopsAt (n : ℕ) (class : Class) (cursor : Word) (entries : List Ent
   pub below : AllByRecursion (λ e. Follows w e.word) entries
   pub all_below : HasAllBelow n class cursor w entries
 
--- how the listing of these entries may end: at its limit; or below it, because there are no more members,
--- or at a wide word
-abbrev pub EndsBy : ℕ → Class → Word → Option ℕ → List Entry → Last → Word → Type 0
-EndsBy n class cursor limit entries Limit w = limit ≡ Some (length entries)
-EndsBy n class cursor limit entries End w = IsBelowLimit limit entries × HasAll n class cursor entries
-EndsBy n class cursor limit entries Wide w = IsBelowLimit limit entries × StopsAt n class cursor entries w
+-- how a listing ends: because there are no more members, at its limit, or at a wide word. By
+-- `no_listing_ends_at_a_wide_word` none ends so
+pub data Ending : Type 0 where
+  AtEnd : Ending
+  AtLimit : Ending
+  WideAt : Word → Ending
+
+-- the name of an ending, as the code gives it
+abbrev pub name_of : Ending → Last
+name_of AtEnd = End
+name_of AtLimit = Limit
+name_of (WideAt w) = Wide
+
+-- the last line of a listing: only a wide word is named in it
+abbrev pub ending_line : Ending → ℕ → Class → ℕ → List ℕ
+ending_line AtEnd n class listed = last_line End n class listed []
+ending_line AtLimit n class listed = last_line Limit n class listed []
+ending_line (WideAt w) n class listed = last_line Wide n class listed w
+
+-- when the listing of these entries ends so: at its limit; or below it, because there are no more members, or at a wide word
+abbrev pub EndsBy : ℕ → Class → Word → Option ℕ → List Entry → Ending → Type 0
+EndsBy n class cursor limit entries AtEnd = IsBelowLimit limit entries × HasAll n class cursor entries
+EndsBy n class cursor limit entries AtLimit = limit ≡ Some (length entries)
+EndsBy n class cursor limit entries (WideAt w) = IsBelowLimit limit entries × StopsAt n class cursor entries w
 
 -- the line of an entry
 abbrev pub line_of : Entry → List ℕ
@@ -60,9 +78,8 @@ line_of e = entry_line e.tiling e.word
 
 -- the bytes are a listing that ends so: an entry line for each of the first members, and one last line. The whole
 -- listing of order 2 and the class imperfect is `2 2x1 [1,1] ; 2e` and `; end order 2 class imperfect listed 1`
-pub record IsListing (n : ℕ) (class : Class) (cursor : Word) (limit : Option ℕ) (last : Last) (bytes : List ℕ) : Type 0 where
+pub record IsListing (n : ℕ) (class : Class) (cursor : Word) (limit : Option ℕ) (ending : Ending) (bytes : List ℕ) : Type 0 where
   pub entries : List Entry
-  pub word : Word
   pub first : AreFirst n class cursor entries
-  pub ends : EndsBy n class cursor limit entries last word
-  pub text : bytes ≡ flat_map line_of entries ++ last_line last n class (length entries) word
+  pub ends : EndsBy n class cursor limit entries ending
+  pub text : bytes ≡ flat_map line_of entries ++ ending_line ending n class (length entries)

@@ -17,8 +17,6 @@ pub(crate) enum Next {
     Member,
     // no member
     Nothing,
-    // a wide word
-    WideWord,
 }
 
 // Writes the entries of a listing, up to its end, and gives how it ends and how many entries it has.
@@ -30,7 +28,7 @@ pub(crate) fn write_entries<L: Ledger, O: Sink>(
     out: &mut O,
 ) -> Result<(Last, u64), Failed>
     requires { walk.old.order ≤ 16 }
-    ensures ended { IfOk result (λ r. HasEntries walk.old.order walk.old.class walk.old.cursor limit r.0 r.1 walk.new.cursor (O.written out.old) (O.written out.new)) }
+    ensures ended { IfOk result (λ r. HasEntries walk.old.order walk.old.class walk.old.cursor limit r.0 r.1 (O.written out.old) (O.written out.new)) }
     ensures begun { OnErr result (BeginsListing walk.old.order walk.old.class walk.old.cursor limit (O.written out.old) (O.written out.new)) }
     ensures cause { HasCause (O.faults out.old) (O.faults out.new) result }
 {
@@ -42,7 +40,6 @@ pub(crate) fn write_entries<L: Ledger, O: Sink>(
         match write_next(walk, steps, buffer, out)? {
             Next::Member => listed += 1,
             Next::Nothing => return Ok((Last::End, listed)),
-            Next::WideWord => return Ok((Last::Wide, listed)),
         }
     }
 }
@@ -73,7 +70,7 @@ fn write_next<L: Ledger, O: Sink>(
 {
     match walk.advance(steps) {
         None => Ok(Next::Nothing),
-        Some(Err(_)) => Ok(Next::WideWord),
+        Some(Err(_)) => unreachable!(),
         Some(Ok(entry)) => {
             write_entry(&entry.tiling, &entry.word, buffer);
             out.write_all(buffer.as_slice())?;

@@ -1,6 +1,6 @@
 //! A whole listing.
 
-ghost use Rattle.std.specs.Prelude.{IfOk, OnErr, ◌<◌, ◌≡◌, ◌≤◌};
+ghost use Rattle.std.specs.Prelude.{IfOk, OnErr, ◌<◌, ◌≡◌, ◌≢◌, ◌≤◌};
 ghost use Rattle.bk_ports.specs.Causes.{HasCause};
 ghost use Rattle.bk_word.specs.Word.{order_of};
 ghost use Rattle.bk_walk.specs.Walking.{start_cursor};
@@ -12,15 +12,15 @@ use bk_ports::{Failed, Sink};
 use bk_report::{Last, write_last};
 use bk_skel::Steps;
 use bk_walk::Walk;
-use bk_word::{Class, INLINE_ORDER, Word};
+use bk_word::{Class, Word};
 use std::alloc::Global;
 use std::marker::Brand;
 use std::sync::ledger::{Blank, Ledger};
 
 /// Writes the listing of the catalogue of an order and a class: the entry line of each member whose word is after the given
 /// one, or after the word of no moves, ascending, up to the limit if there is one; and then its last line. Each line is one
-/// call, made as soon as the line is known. It gives how the listing ended: at its limit, beyond which it doesn't look; at
-/// the end, because there are no more members; or at a wide word, which the last line names.
+/// call, made as soon as the line is known. It gives how the listing ended: at its limit, beyond which it doesn't look, or
+/// at the end, because there are no more members; never at a wide word, since there is none (`no_listing_ends_at_a_wide_word`).
 ///
 /// The order is 2 to 16, and that of the word at most 16; the word need not be legal, complete or of the listing's order.
 /// Where a write fails, `Failed` comes, and a beginning of a listing stands written. It takes no memory. The catalogue's
@@ -34,9 +34,10 @@ pub fn write_listing<O: Sink>(
     out: &mut O,
 ) -> Result<Last, Failed>
     requires least { 2 ≤ order }
-    requires most { order ≤ INLINE_ORDER }
-    requires few { order_of (start_cursor from) ≤ INLINE_ORDER }
+    requires most { order ≤ 16 }
+    requires few { order_of (start_cursor from) ≤ 16 }
     ensures listed { IfOk result (λ last. WritesListing order class (start_cursor from) limit last (O.written out.old) (O.written out.new)) }
+    ensures narrow { IfOk result (λ last. last ≢ Last.Wide) }
     ensures begun { OnErr result (BeginsListing order class (start_cursor from) limit (O.written out.old) (O.written out.new)) }
     ensures cause { HasCause (O.faults out.old) (O.faults out.new) result }
 {
@@ -60,6 +61,7 @@ fn list_members<L: Ledger, O: Sink>(
     requires class { walk.old.class ≡ class }
     requires few { order ≤ 16 }
     ensures listed { IfOk result (λ last. WritesListing order class walk.old.cursor limit last (O.written out.old) (O.written out.new)) }
+    ensures narrow { IfOk result (λ last. last ≢ Last.Wide) }
     ensures begun { OnErr result (BeginsListing order class walk.old.cursor limit (O.written out.old) (O.written out.new)) }
     ensures cause { HasCause (O.faults out.old) (O.faults out.new) result }
 {

@@ -1,6 +1,6 @@
 use Rattle.std.proofs.Common.{refl, ◌∙◌}
-use Rattle.bk_list.proofs.ListingSteps.{begun_as, listed_all, listed_begun, listed_more, listed_none, listed_wide, next_as, on_err}
-use Rattle.bk_list.specs.declared.entries.Next.TheVariants.{Member, Nothing, WideWord}
+use Rattle.bk_list.proofs.ListingSteps.{begun_as, listed_all, listed_begun, listed_more, listed_none, next_as, on_err}
+use Rattle.bk_list.specs.declared.entries.Next.TheVariants.{Member, Nothing}
 use Rattle.bk_list.proofs.entries.write_entries.Goals as goal
 
 pub members-init : goal.members-init
@@ -36,10 +36,3 @@ returns-in-Nothing-clause-ended g c =
     c.members.invariant.listed (c.is_reached.ensures.no c.if-is_reached.false) c.write_next.new.walk.cursor (g.O.Sink.written c.write_next.new.out)
     (next_as c.members.walk.order c.args.walk.now.order c.members.walk.class c.args.walk.now.class c.members.walk.cursor c.write_next.new.walk.cursor (g.O.Sink.written c.members.out) (g.O.Sink.written c.write_next.new.out)
     c.in_ok-write_next.field-0 Nothing c.members.invariant.order c.members.invariant.class c.in-Nothing.is c.in_ok-write_next.ensures.next)
-
-pub returns-in-WideWord-clause-ended : goal.returns-in-WideWord-clause-ended
-returns-in-WideWord-clause-ended g c =
-    listed_wide c.args.walk.now.order c.args.walk.now.class c.args.walk.now.cursor c.members.walk.cursor c.args.limit c.members.listed (g.O.Sink.written c.args.out.now) (g.O.Sink.written c.members.out)
-    c.members.invariant.listed (c.is_reached.ensures.no c.if-is_reached.false) c.write_next.new.walk.cursor (g.O.Sink.written c.write_next.new.out)
-    (next_as c.members.walk.order c.args.walk.now.order c.members.walk.class c.args.walk.now.class c.members.walk.cursor c.write_next.new.walk.cursor (g.O.Sink.written c.members.out) (g.O.Sink.written c.write_next.new.out)
-    c.in_ok-write_next.field-0 WideWord c.members.invariant.order c.members.invariant.class c.in-WideWord.is c.in_ok-write_next.ensures.next)

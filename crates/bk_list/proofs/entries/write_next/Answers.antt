@@ -22,8 +22,8 @@ returns-in_err-write_all-in-Some-Ok-clause-begun g c =
       ),
     )
 
-pub returns-clause-next : goal.returns-clause-next
-returns-clause-next g c =
+pub returns-in_ok-write_all-in-Some-Ok-clause-next : goal.returns-in_ok-write_all-in-Some-Ok-clause-next
+returns-in_ok-write_all-in-Some-Ok-clause-next g c =
     let next = IfOk-at_ok _ c.in-Some-Ok.field-0-is c.in-Some-Ok.ensures.entry in (
       record { tiling = c.in-Some-Ok.entry.tiling; word = c.in-Some-Ok.entry.word },
       taken c.args.walk.now.order c.args.walk.now.class c.args.walk.now.cursor c.in-Some-Ok.entry.tiling c.in-Some-Ok.entry.word next.0,
