@@ -1,5 +1,5 @@
 -- What the item of a line states, and the tilings that it speaks of.
-use Rattle.std.specs.Prelude.{IfSome, List, Option, Some, length, ℕ, ◌≡◌, ◌≤◌}
+use Rattle.std.specs.Prelude.{IfSome, List, None, Option, Some, length, ℕ, ◌≡◌, ◌≤◌}
 use Rattle.bk_tiling.specs.Tiling.{Tiling, order}
 use Rattle.bk_tiling.specs.declared.TheConstants.{MOST_SQUARES}
 use Rattle.bk_profile.specs.Refused.{HasCode, HasFlat}
@@ -50,3 +50,13 @@ pub record HasTiling (bytes : List ℕ) (t : Tiling) : Type 0 where
   pub item : Line
   pub is_item : HasItem bytes item
   pub stated : IsStatedBy item t
+
+-- what comes of laying an item that is not refused: nothing where there is none, else the tiling that it speaks of
+abbrev pub IsLaidItem : Line → Option Tiling → Type 0
+IsLaidItem item None = item ≡ Skip
+IsLaidItem item (Some t) = IsStatedBy item t
+
+-- and of a line
+abbrev pub IsLaidLine : List ℕ → Option Tiling → Type 0
+IsLaidLine bytes None = HasItem bytes Skip
+IsLaidLine bytes (Some t) = HasTiling bytes t

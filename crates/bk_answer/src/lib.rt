@@ -6,11 +6,13 @@ ghost use Rattle.bk_answer.specs.AnswerLaws.{AFrontHasTheAnswer, ALineHasOneAnsw
 mod answer;
 mod command;
 mod flow;
+mod items;
 mod several;
 mod solve;
 
 pub use answer::{LONGEST_LINE, LineAnswerer};
 pub use command::{CodeCommand, Command};
+pub use items::lay_line;
 
 /// A line has at most one answer.
 pub fn a_line_has_one_answer()

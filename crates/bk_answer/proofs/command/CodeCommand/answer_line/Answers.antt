@@ -1,28 +1,31 @@
-use Rattle.std.proofs.lemmas.Result.{IfOk-at_ok}
-use Rattle.bk_text.specs.ReadLine.{IsFaultOf, stands_for}
-use Rattle.bk_text.specs.CodeLine.{IsLine}
-use Rattle.bk_answer.specs.CodeAnswer.{AnswersCodeLine, AnswersItem, ItemWants, MayWantForCode, any_command, refuses}
-use Rattle.bk_answer.specs.Item.{HasItem}
-use Rattle.bk_answer.proofs.ItemSteps.{not_read}
+use Rattle.std.proofs.Common.{false}
+use Rattle.bk_answer.specs.CodeAnswer.{AnswersCodeLine, AnswersTiling, MayWantForCode, any_command, no_item, refuses}
+use Rattle.bk_answer.specs.Item.{HasTiling}
+use Rattle.bk_answer.specs.Telling.{WantsMemory}
+use Rattle.bk_answer.proofs.ItemSteps.{has_none, has_tiling, is_line_refused, is_tiling}
+use Rattle.bk_answer.proofs.ReplySteps.{line_answer, refusal_replies, replies_more}
 use Rattle.bk_answer.proofs.command.CodeCommand.answer_line.Goals as goal
-use Rattle.bk_answer.proofs.ReplySteps.{from_err, line_answer, line_wants, refusal_replies, replies_more}
+use Rattle.bk_lines.proofs.Pieces.{writes_none}
 
-pub returns-in-Ok-clause-reply : goal.returns-in-Ok-clause-reply
-returns-in-Ok-clause-reply g c =
-    let has : HasItem c.args.line.now (stands_for c.in-Ok.item) = record {
-      short = c.requires;
-      meaning = IfOk-at_ok (λ l. IsLine (stands_for l) c.args.line.now) c.in-Ok.is c.read_line-read.ensures.read;
-      few = c.answer_item.ensures.few;
-    } in
-    replies_more (AnswersItem c.args.self (stands_for c.in-Ok.item)) (AnswersCodeLine c.args.self c.args.line.now)
-    (ItemWants c.args.self (stands_for c.in-Ok.item)) (MayWantForCode c.args.self c.args.line.now)
-    (λ pieces refused. line_answer c.args.self c.args.line.now (stands_for c.in-Ok.item) pieces refused has)
-    (line_wants c.args.self c.args.line.now (stands_for c.in-Ok.item) has)
-    (g.O.Sink.written c.args.out.now) (g.O.Sink.written c.answer_item.new.out) c.answer_item.result c.answer_item.ensures.reply
+pub answer_tiling-requires : goal.answer_tiling-requires
+answer_tiling-requires g c =
+    let has : HasTiling c.args.line.now c.in-Ok-Some.tiling = has_tiling c.args.line.now c.lay_line-laid.result c.in-Ok-Some.field-0 c.in-Ok-Some.tiling c.in-Ok-Some.is c.in-Ok-Some.field-0-is c.lay_line-laid.ensures.laid in
+    is_tiling has.item c.in-Ok-Some.tiling has.stated
+
+pub returns-in-Ok-Some-clause-reply : goal.returns-in-Ok-Some-clause-reply
+returns-in-Ok-Some-clause-reply g c =
+    let has : HasTiling c.args.line.now c.in-Ok-Some.tiling = has_tiling c.args.line.now c.lay_line-laid.result c.in-Ok-Some.field-0 c.in-Ok-Some.tiling c.in-Ok-Some.is c.in-Ok-Some.field-0-is c.lay_line-laid.ensures.laid in
+    replies_more (AnswersTiling c.args.self c.in-Ok-Some.tiling) (AnswersCodeLine c.args.self c.args.line.now) (WantsMemory c.args.self c.in-Ok-Some.tiling) (MayWantForCode c.args.self c.args.line.now)
+    (λ pieces refused. line_answer c.args.self c.args.line.now c.in-Ok-Some.tiling pieces refused has) (λ w. (c.in-Ok-Some.tiling, has, w))
+    (g.O.Sink.written c.args.out.now) (g.O.Sink.written c.answer_tiling.new.out) c.answer_tiling.result c.answer_tiling.ensures.reply
+
+pub returns-in-Ok-None-clause-reply : goal.returns-in-Ok-None-clause-reply
+returns-in-Ok-None-clause-reply g c =
+    writes_none (AnswersCodeLine c.args.self c.args.line.now) false (g.O.Sink.written c.args.out.now)
+    (no_item (has_none c.args.line.now c.lay_line-laid.result c.in-Ok-None.field-0 c.in-Ok-None.is c.in-Ok-None.field-0-is c.lay_line-laid.ensures.laid))
 
 pub returns-in-Err-clause-reply : goal.returns-in-Err-clause-reply
 returns-in-Err-clause-reply g c =
-    refusal_replies (AnswersCodeLine c.args.self c.args.line.now) (MayWantForCode c.args.self c.args.line.now) c.refused_text.result (g.O.Sink.written c.args.out.now) (g.O.Sink.written c.refuse.new.out) c.refuse.result
-    (refuses c.refused_text.result (any_command c.refused_text.result (not_read c.args.line.now c.in-Err.fault c.refused_text.result c.requires
-    (from_err (λ f. IsFaultOf f c.args.line.now) c.read_line-read.result c.in-Err.fault c.in-Err.is c.read_line-read.ensures.fault) c.refused_text.ensures)))
+    refusal_replies (AnswersCodeLine c.args.self c.args.line.now) (MayWantForCode c.args.self c.args.line.now) c.in-Err.refused (g.O.Sink.written c.args.out.now) (g.O.Sink.written c.refuse.new.out) c.refuse.result
+    (refuses c.in-Err.refused (any_command c.in-Err.refused (is_line_refused c.args.line.now c.lay_line-laid.result c.in-Err.refused c.in-Err.is c.lay_line-laid.ensures.refused)))
     c.refuse.ensures.outcome c.refuse.ensures.failed
