@@ -17,7 +17,7 @@ pub const LARGEST_DRAWN: u64 = 400;
 /// at level `y`, from left to right, and a line feed. A point is `+` at a corner of a square, else `-` on an upper or lower
 /// side, else `|` on a left or right side, else a space. This drawing is our own.
 pub fn draw_row(tiling: &Tiling, y: u64, row: &mut ArrayVec<u8, 402>)
-    requires width { tiling.now.width ≤ LARGEST_DRAWN }
+    requires width { tiling.now.width ≤ 400 }
     ensures { row.new.items ≡ drawing_row tiling.now y ++ 10 ∷ [] }
 {
     leave_blank(row, tiling.width() as usize + 1);

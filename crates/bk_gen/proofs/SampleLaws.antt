@@ -8,7 +8,6 @@ use Rattle.bk_tiling.proofs.TilingTest.{tiles_from_test}
 use Rattle.bk_tiling.specs.Kept.{IsKept, IsSide}
 use Rattle.bk_tiling.specs.Refusal.{sized}
 use Rattle.bk_tiling.specs.declared.Square.{Square}
-use Rattle.bk_tiling.specs.declared.TheConstants.{LONGEST_SIDE}
 use Rattle.bk_gen.specs.Attaching.{attached}
 use Rattle.bk_gen.specs.Growing.{IsGrowing}
 use Rattle.bk_gen.specs.TrialCodes.{first_rectangle, mixed, rectangle_33x32, rectangle_65x47, rectangle_69x61, trial_tiling}
@@ -16,13 +15,13 @@ use Rattle.bk_gen.proofs.GrowingLaws.{grows_on, kept_in_order}
 
 -- whether each side is one that a square may have
 abbrev sides_test : List Square → Bool
-sides_test squares = list_all (λ q. nat_lt 0 q.s && nat_le q.s LONGEST_SIDE) squares
+sides_test squares = list_all (λ q. nat_lt 0 q.s && nat_le q.s 999_999_999_999_999) squares
 
 sides_from_test : (squares : List Square) → IsTrue (sides_test squares) → AllByRecursion (λ q. IsSide q.s) squares
-sides_from_test squares h = all_from_test (λ q. IsSide q.s) (λ q. nat_lt 0 q.s && nat_le q.s LONGEST_SIDE) is_side squares h
+sides_from_test squares h = all_from_test (λ q. IsSide q.s) (λ q. nat_lt 0 q.s && nat_le q.s 999_999_999_999_999) is_side squares h
   where
-    is_side : (q : Square) → IsTrue (nat_lt 0 q.s && nat_le q.s LONGEST_SIDE) → IsSide q.s
-    is_side q e = let parts = and_parts (nat_lt 0 q.s) (nat_le q.s LONGEST_SIDE) e in (ltb-true 0 q.s parts.0, leb-true q.s LONGEST_SIDE parts.1)
+    is_side : (q : Square) → IsTrue (nat_lt 0 q.s && nat_le q.s 999_999_999_999_999) → IsSide q.s
+    is_side q e = let parts = and_parts (nat_lt 0 q.s) (nat_le q.s 999_999_999_999_999) e in (ltb-true 0 q.s parts.0, leb-true q.s 999_999_999_999_999 parts.1)
 
 pub growing_33x32 : IsGrowing rectangle_33x32
 growing_33x32 = record {

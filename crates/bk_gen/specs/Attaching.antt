@@ -2,7 +2,6 @@
 use Rattle.std.specs.Prelude.{Bool, [], cond, map, nat_eq, nat_le, suc, zero, ℕ, ◌%◌, ◌&&◌, ◌++◌, ◌+◌, ◌/◌, ◌^◌, ◌∷◌}
 use Rattle.bk_tiling.specs.Scale.{moved_square}
 use Rattle.bk_tiling.specs.Tiling.{Tiling}
-use Rattle.bk_tiling.specs.declared.TheConstants.{LONGEST_SIDE}
 
 -- whether bit i of v is 1, the lowest being bit 0
 abbrev pub is_set : ℕ → ℕ → Bool
@@ -62,4 +61,4 @@ with_next v i t =
 abbrev pub attached : ℕ → ℕ → ℕ → Tiling → Tiling
 attached zero v i t = t
 attached (suc n) v i t =
-    cond (nat_le (next_side v i t) LONGEST_SIDE) (attached n v (i + 1) (with_next v i t)) t
+    cond (nat_le (next_side v i t) 999_999_999_999_999) (attached n v (i + 1) (with_next v i t)) t

@@ -30,7 +30,6 @@ impl Model for Growing {
 
 impl Growing {
     ghost use Rattle.bk_tiling.specs.CodeOrder.{in_code_order};
-    ghost use Rattle.bk_tiling.specs.declared.TheConstants.{LONGEST_SIDE};
     ghost use Rattle.bk_gen.specs.Attaching.{next_side, with_above, with_below, with_left, with_next, with_right};
     ghost use Rattle.bk_gen.specs.Growing.{IsGrowing};
 
@@ -71,8 +70,8 @@ impl Growing {
 
     // Attaches the square of this turn.
     pub(crate) fn attach(&mut self, v: u64, turn: usize)
-        requires few { length self.old.squares < MOST_SQUARES }
-        requires side { next_side v turn self.old ≤ LONGEST_SIDE }
+        requires few { length self.old.squares < 200 }
+        requires side { next_side v turn self.old ≤ 999_999_999_999_999 }
         ensures { self.new ≡ with_next v turn self.old }
     {
         match (goes_up_or_down(v, turn), is_set(v, turn % 64)) {
@@ -84,8 +83,8 @@ impl Growing {
     }
 
     fn attach_right(&mut self)
-        requires few { length self.old.squares < MOST_SQUARES }
-        requires side { self.old.height ≤ LONGEST_SIDE }
+        requires few { length self.old.squares < 200 }
+        requires side { self.old.height ≤ 999_999_999_999_999 }
         ensures { self.new ≡ with_right self.old }
     {
         self.squares.push(Square {
@@ -97,8 +96,8 @@ impl Growing {
     }
 
     fn attach_left(&mut self)
-        requires few { length self.old.squares < MOST_SQUARES }
-        requires side { self.old.height ≤ LONGEST_SIDE }
+        requires few { length self.old.squares < 200 }
+        requires side { self.old.height ≤ 999_999_999_999_999 }
         ensures { self.new ≡ with_left self.old }
     {
         move_all(self.squares.as_mut_slice(), self.height, 0);
@@ -111,8 +110,8 @@ impl Growing {
     }
 
     fn attach_below(&mut self)
-        requires few { length self.old.squares < MOST_SQUARES }
-        requires side { self.old.width ≤ LONGEST_SIDE }
+        requires few { length self.old.squares < 200 }
+        requires side { self.old.width ≤ 999_999_999_999_999 }
         ensures { self.new ≡ with_below self.old }
     {
         self.squares.push(Square {
@@ -124,8 +123,8 @@ impl Growing {
     }
 
     fn attach_above(&mut self)
-        requires few { length self.old.squares < MOST_SQUARES }
-        requires side { self.old.width ≤ LONGEST_SIDE }
+        requires few { length self.old.squares < 200 }
+        requires side { self.old.width ≤ 999_999_999_999_999 }
         ensures { self.new ≡ with_above self.old }
     {
         move_all(self.squares.as_mut_slice(), 0, self.width);

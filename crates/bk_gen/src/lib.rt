@@ -47,7 +47,7 @@ fn trial_tiling(v: u64) -> Tiling
 
 // The rectangle of a number, to which all squares are attached.
 fn grown(v: u64) -> Growing
-    ensures { result ≡ attached (MOST_SQUARES - length (first_rectangle v).squares) v 0 (first_rectangle v) }
+    ensures { result ≡ attached (200 - length (first_rectangle v).squares) v 0 (first_rectangle v) }
 {
     let mut growing = first_rectangle(v);
     for turn in 0..MOST_SQUARES - growing.order() {
