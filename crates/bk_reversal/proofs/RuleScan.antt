@@ -106,59 +106,70 @@ none_of o (mv ∷ w) single keeps = (here, none_of (after_move o mv) w single.1 
         on (inl wall) = single.0 0 two (ap (slice_get mv.signs) (at wall) ∙ even)
         on (inr wall) = keeps.0 wall two even over
 
-ruled : (bound : ℕ) (of : Layout) (l : Layout) (fits : Fits l) → IsUpToReversals of l → (HasNoTwins of → HasNoTwins l)
-    → (mv : Move) (w : Word) (whole : Whole l fits mv w)
-    → code (of.squares + 4) (of.squares + (of.squares + of.squares)) (digits (mv ∷ w)) < bound → HasWordByRuleR of
-ruled zero of l fits same single mv w whole low = absurd (omega (arith, low))
-ruled (suc bound) of l fits same single mv w whole low =
-    on (scan l fits (after_move start mv) whole.first w whole.trace)
-    (λ m fits_m same_m single_m first word whole_m less. ruled bound of m fits_m same_m single_m first word whole_m less)
-  where
-    word_is : IsWordOfLayout l (mv ∷ w)
-    word_is = let s = sweep_of l fits mv w whole in subst (λ (z : Word). IsWordOfLayout l z) s.1 (word_of_sweep l fits s.0)
+-- such a word of a layout with a property that each reversal keeps
+pub record HasWordThatKeeps (P : Layout → Type 0) (l : Layout) : Type 0 where
+  pub by_rule : HasWordByRuleR l
+  pub kept : P by_rule.turned
 
-    on : KeepRuleRFrom (after_move start mv) w ⊎ Broken l fits (after_move start mv) whole.first w whole.trace
-        → ((m : Layout) (fits_m : Fits m) → IsUpToReversals of m → (HasNoTwins of → HasNoTwins m)
-        → (first : Move) (word : Word) (whole_m : Whole m fits_m first word)
-        → code (of.squares + 4) (of.squares + (of.squares + of.squares)) (digits (first ∷ word)) < bound → HasWordByRuleR of) → HasWordByRuleR of
-    on (inl keeps) more = record {
-      turned = l;
-      fits = fits;
-      same = same;
-      word = mv ∷ w;
-      is_word = word_is;
-      keeps =
-          (no_rule_at_start mv, keeps);
-      no_twins = single;
-      none = λ n. none_of start (mv ∷ w) (word_is.no_twins (single n)) (no_rule_at_start mv, keeps);
-    }
-    on (inr b) more = with (whole_beside l fits b.q b.p b.r b.can mv w whole b.late)
-      where
-        m : Layout
-        m = reversed l b.q b.p b.r
+module _ (P : Layout → Type 0) (keep : (l : Layout) → Fits l → P l → (q p r : ℕ) → CanReverse l q p r → P (reversed l q p r)) where
+  ruled : (bound : ℕ) (of : Layout) (l : Layout) (fits : Fits l) → IsUpToReversals of l → (HasNoTwins of → HasNoTwins l) → P l
+      → (mv : Move) (w : Word) (whole : Whole l fits mv w)
+      → code (of.squares + 4) (of.squares + (of.squares + of.squares)) (digits (mv ∷ w)) < bound → HasWordThatKeeps P of
+  ruled zero of l fits same single has mv w whole low = absurd (omega (arith, low))
+  ruled (suc bound) of l fits same single has mv w whole low =
+      on (scan l fits (after_move start mv) whole.first w whole.trace)
+      (λ m fits_m same_m single_m has_m first word whole_m less. ruled bound of m fits_m same_m single_m has_m first word whole_m less)
+    where
+      word_is : IsWordOfLayout l (mv ∷ w)
+      word_is = let s = sweep_of l fits mv w whole in subst (λ (z : Word). IsWordOfLayout l z) s.1 (word_of_sweep l fits s.0)
 
-        with : WholeBeside l fits b.q b.p b.r b.can mv w → HasWordByRuleR of
-        with x = more (reversed l b.q b.p b.r) (fits_then l fits b.q b.p b.r b.can)
-            (up_to_both of l (reversed l b.q b.p b.r) same (same_then l fits b.q b.p b.r b.can))
-            (λ n. no_twins_then l fits b.q b.p b.r b.can (single n)) x.first x.word x.whole (omega (arith, low, less))
-          where
-            word_m : IsWordOfLayout (reversed l b.q b.p b.r) (x.first ∷ x.word)
-            word_m = let s = sweep_of (reversed l b.q b.p b.r) (fits_then l fits b.q b.p b.r b.can) x.first x.word x.whole in
-                subst (λ (z : Word). IsWordOfLayout (reversed l b.q b.p b.r) z) s.1
-                (word_of_sweep (reversed l b.q b.p b.r) (fits_then l fits b.q b.p b.r b.can) s.0)
+      on : KeepRuleRFrom (after_move start mv) w ⊎ Broken l fits (after_move start mv) whole.first w whole.trace
+          → ((m : Layout) (fits_m : Fits m) → IsUpToReversals of m → (HasNoTwins of → HasNoTwins m) → P m
+          → (first : Move) (word : Word) (whole_m : Whole m fits_m first word)
+          → code (of.squares + 4) (of.squares + (of.squares + of.squares)) (digits (first ∷ word)) < bound → HasWordThatKeeps P of) → HasWordThatKeeps P of
+      on (inl keeps) more = record {
+        by_rule = record {
+          turned = l;
+          fits = fits;
+          same = same;
+          word = mv ∷ w;
+          is_word = word_is;
+          keeps = (no_rule_at_start mv, keeps);
+          no_twins = single;
+          none = λ n. none_of start (mv ∷ w) (word_is.no_twins (single n)) (no_rule_at_start mv, keeps);
+        };
+        kept = has;
+      }
+      on (inr b) more = with (whole_beside l fits b.q b.p b.r b.can mv w whole b.late)
+        where
+          m : Layout
+          m = reversed l b.q b.p b.r
 
-            many : order_of (x.first ∷ x.word) ≡ of.squares
-            many = word_m.order ∙ same.squares
+          with : WholeBeside l fits b.q b.p b.r b.can mv w → HasWordThatKeeps P of
+          with x = more (reversed l b.q b.p b.r) (fits_then l fits b.q b.p b.r b.can)
+              (up_to_both of l (reversed l b.q b.p b.r) same (same_then l fits b.q b.p b.r b.can))
+              (λ n. no_twins_then l fits b.q b.p b.r b.can (single n)) (keep l fits has b.q b.p b.r b.can) x.first x.word x.whole (omega (arith, low, less))
+            where
+              word_m : IsWordOfLayout (reversed l b.q b.p b.r) (x.first ∷ x.word)
+              word_m = let s = sweep_of (reversed l b.q b.p b.r) (fits_then l fits b.q b.p b.r b.can) x.first x.word x.whole in
+                  subst (λ (z : Word). IsWordOfLayout (reversed l b.q b.p b.r) z) s.1
+                  (word_of_sweep (reversed l b.q b.p b.r) (fits_then l fits b.q b.p b.r b.can) s.0)
 
-            less : code (of.squares + 4) (of.squares + (of.squares + of.squares)) (digits (x.first ∷ x.word))
-                < code (of.squares + 4) (of.squares + (of.squares + of.squares)) (digits (mv ∷ w))
-            less = code_less (of.squares + 4) (of.squares + (of.squares + of.squares)) (digits (x.first ∷ x.word)) (digits (mv ∷ w))
-                (omega arith) (are_digits (of.squares + 4) (x.first ∷ x.word) (omega arith) (omega (arith, many)))
-                (omega (arith, few_digits start (mv ∷ w) word_is.complete.legal, word_is.order, same.squares)) (less_digits (x.first ∷ x.word) (mv ∷ w) x.less)
+              many : order_of (x.first ∷ x.word) ≡ of.squares
+              many = word_m.order ∙ same.squares
 
--- the law: each broken word has a lesser one, so the descent ends at a word that keeps the rule
+              less : code (of.squares + 4) (of.squares + (of.squares + of.squares)) (digits (x.first ∷ x.word))
+                  < code (of.squares + 4) (of.squares + (of.squares + of.squares)) (digits (mv ∷ w))
+              less = code_less (of.squares + 4) (of.squares + (of.squares + of.squares)) (digits (x.first ∷ x.word)) (digits (mv ∷ w))
+                  (omega arith) (are_digits (of.squares + 4) (x.first ∷ x.word) (omega arith) (omega (arith, many)))
+                  (omega (arith, few_digits start (mv ∷ w) word_is.complete.legal, word_is.order, same.squares)) (less_digits (x.first ∷ x.word) (mv ∷ w) x.less)
+
+  -- each broken word has a lesser one, so the descent ends at a word that keeps the rule
+  pub a_word_that_keeps : (l : Layout) → Fits l → P l → HasWordThatKeeps P l
+  a_word_that_keeps l fits has = let t = whole_from l fits (hung_from l fits 0 fits.some) in
+      ruled (suc (code (l.squares + 4) (l.squares + (l.squares + l.squares))
+      (digits (first_move l fits (hung_from l fits 0 fits.some) ∷ t.0)))) l l fits (up_to_itself l) (λ n. n) has
+      (first_move l fits (hung_from l fits 0 fits.some)) t.0 t.1 (omega arith)
+
 pub a_layout_has_a_word_by_rule_r : ALayoutHasAWordByRuleR
-a_layout_has_a_word_by_rule_r l fits = let t = whole_from l fits (hung_from l fits 0 fits.some) in
-    ruled (suc (code (l.squares + 4) (l.squares + (l.squares + l.squares))
-    (digits (first_move l fits (hung_from l fits 0 fits.some) ∷ t.0)))) l l fits (up_to_itself l) (λ n. n)
-    (first_move l fits (hung_from l fits 0 fits.some)) t.0 t.1 (omega arith)
+a_layout_has_a_word_by_rule_r l fits = (a_word_that_keeps (λ m. Unit {0}) (λ m fits has q p r can. tt) l fits tt).by_rule

@@ -24,6 +24,11 @@ up_to_itself l = record {
   later = λ q h e. differ false e refl;
 }
 
+-- no square is turned in it
+pub none_turned : (l : Layout) (q : ℕ) → (up_to_itself l).turned q ≡ false
+unfolding up_to_itself
+none_turned l q = refl
+
 pub record Kept (l m : Layout) (q : ℕ) : Type 0 where
   pub above : m.above q ≡ l.above q
   pub below : m.below q ≡ l.below q

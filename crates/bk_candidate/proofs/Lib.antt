@@ -1,0 +1,5 @@
+pub mod OtherOrder
+pub mod PrimitiveFlow
+pub mod PlacedEdges
+pub mod Candidates
+pub mod CandidateExamples

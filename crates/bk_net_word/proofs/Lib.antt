@@ -1,0 +1,2 @@
+pub mod NetWords
+pub mod NetWordExamples

@@ -1,0 +1,68 @@
+-- A simple tiling of at least 3 squares has a net word, and what no net word begins with.
+use Rattle.std.specs.List.{AllByRecursion}
+use Rattle.std.proofs.Common.{Bool, [], ap, subst, ℕ, ◌++◌, ◌∙◌, ◌∷◌, ◌≡◌}
+use Rattle.std.proofs.lemmas.List.{append_assoc}
+use Rattle.bk_tiling.specs.Tiling.{order}
+use Rattle.bk_word.specs.Word.{Move, Word}
+use Rattle.bk_layout.specs.LayoutLaws.{IsWordOfLayout}
+use Rattle.bk_tiling_layout.specs.TilingLayout.{layout_of}
+use Rattle.bk_free_cuts.proofs.CutsOfTilings.{a_simple_tiling_has_a_sound_layout}
+use Rattle.bk_free_cuts.specs.FreeCuts.{IsSound}
+use Rattle.bk_reversal.proofs.UpTo.{none_turned, up_to_itself}
+use Rattle.bk_reversal.specs.RuleR.{BeginsNoEvenAbove}
+use Rattle.bk_reversed_cuts.proofs.SoundWords.{a_simple_tiling_is_sound_around, a_sound_layout_has_a_sound_word_by_rule_r}
+use Rattle.bk_reversed_cuts.specs.Corners.{HasSoundWordByRuleR, IsSoundAround}
+use Rattle.bk_signed_word.proofs.SignedWords.{a_word_up_to_reversals_is_signed}
+use Rattle.bk_signed_word.specs.SignedWord.{IsSignedWordOf}
+use Rattle.bk_net_word.specs.NetWord.{AFreeBarrenWordIsNetBarren, ASimpleTilingHasANetWord, ASimpleTilingHasAPositiveWord, EvenThenAboveIsNetBarren, IsNetWordOf, WhatGoesOnIsNetBarren}
+
+pub a_free_barren_word_is_net_barren : AFreeBarrenWordIsNetBarren
+a_free_barren_word_is_net_barren n front barren l w rest sound word keeps is = barren l w rest sound word is
+
+-- the move after some moves
+move_of : (P : Move → Type 0) (front : Word) (m : Move) (rest : Word) → AllByRecursion P (front ++ m ∷ rest) → P m
+move_of P [] m rest all = all.0
+move_of P (a ∷ front) m rest all = move_of P front m rest all.1
+
+pub even_then_above_is_net_barren : EvenThenAboveIsNetBarren
+even_then_above_is_net_barren n front m begins l w rest sound word keeps is =
+    begins (move_of BeginsNoEvenAbove front m rest (subst (λ (v : Word). AllByRecursion BeginsNoEvenAbove v) (is ∙ append_assoc front (m ∷ []) rest) keeps))
+
+pub what_goes_on_is_net_barren : WhatGoesOnIsNetBarren
+what_goes_on_is_net_barren n front more barren l w rest sound word keeps is = barren l w (more ++ rest) sound word keeps (is ∙ append_assoc front more rest)
+
+pub a_simple_tiling_has_a_net_word : ASimpleTilingHasANetWord
+a_simple_tiling_has_a_net_word t tiling simple many = from (a_sound_layout_has_a_sound_word_by_rule_r (order t) (layout_of t) around)
+  where
+    around : IsSoundAround (order t) (layout_of t)
+    around = a_simple_tiling_is_sound_around t tiling simple many
+
+    from : HasSoundWordByRuleR (order t) (layout_of t) → (w : Word) × IsNetWordOf t w
+    from h = (
+      h.by_rule.word,
+      record {
+        signed = (a_word_up_to_reversals_is_signed t h.by_rule.turned h.by_rule.word tiling h.by_rule.fits h.by_rule.same h.by_rule.is_word).0;
+        keeps = keeps;
+        no_barren = λ front rest is barren. barren h.by_rule.turned h.by_rule.word rest h.around.sound h.by_rule.is_word keeps is;
+      },
+    )
+      where
+        keeps : AllByRecursion BeginsNoEvenAbove h.by_rule.word
+        keeps = h.by_rule.none around.sound.simple.twins
+
+pub a_simple_tiling_has_a_positive_word : ASimpleTilingHasAPositiveWord
+a_simple_tiling_has_a_positive_word t tiling simple many = (
+  sound.1.0,
+  record {
+    signed = signed.0;
+    kept = λ q. ap (λ (f : ℕ → Bool). f q) signed.1
+        ∙ none_turned (layout_of t) q;
+    no_barren = λ front rest is barren. barren (layout_of t) sound.1.0 rest sound.0 sound.1.1 is;
+  },
+)
+  where
+    sound : IsSound (order t) (layout_of t) × ((w : Word) × IsWordOfLayout (layout_of t) w)
+    sound = a_simple_tiling_has_a_sound_layout t tiling simple many
+
+    signed : (s : IsSignedWordOf t sound.1.0) × (s.turned ≡ (up_to_itself (layout_of t)).turned)
+    signed = a_word_up_to_reversals_is_signed t (layout_of t) sound.1.0 tiling sound.0.fits (up_to_itself (layout_of t)) sound.1.1

@@ -1,0 +1,20 @@
+-- A sound layout has a sound word by rule R, and a simple tiling's layout is such a one.
+use Rattle.bk_free_cuts.proofs.CutsOfTilings.{a_simple_tiling_has_a_sound_layout}
+use Rattle.bk_reversal.proofs.RuleScan.{HasWordThatKeeps, a_word_that_keeps}
+use Rattle.bk_reversed_cuts.proofs.SoundReversal.{a_reversed_layout_is_sound}
+use Rattle.bk_reversed_cuts.proofs.TilingCorners.{corners, ends_meet}
+use Rattle.bk_reversed_cuts.specs.Corners.{ASimpleTilingIsSoundAround, ASoundLayoutHasASoundWordByRuleR, HasSoundWordByRuleR, IsSoundAround}
+
+pub a_sound_layout_has_a_sound_word_by_rule_r : ASoundLayoutHasASoundWordByRuleR
+a_sound_layout_has_a_sound_word_by_rule_r n l around =
+    from (a_word_that_keeps (IsSoundAround n) (λ l fits has q p r can. a_reversed_layout_is_sound n l q p r has can) l around.sound.fits around)
+  where
+    from : HasWordThatKeeps (IsSoundAround n) l → HasSoundWordByRuleR n l
+    from h = record { by_rule = h.by_rule; around = h.kept }
+
+pub a_simple_tiling_is_sound_around : ASimpleTilingIsSoundAround
+a_simple_tiling_is_sound_around t tiling simple many = record {
+  sound = (a_simple_tiling_has_a_sound_layout t tiling simple many).0;
+  corners = corners t tiling;
+  ends_meet = ends_meet t tiling;
+}

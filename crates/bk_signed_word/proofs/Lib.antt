@@ -1,0 +1,7 @@
+pub mod NumberedLists
+pub mod Totals
+pub mod SignedTotals
+pub mod FirstMoves
+pub mod KnownLines
+pub mod SignedWords
+pub mod SignedFlows

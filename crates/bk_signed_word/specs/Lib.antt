@@ -1,0 +1,2 @@
+pub mod SignedWord
+pub mod SignedFlow
