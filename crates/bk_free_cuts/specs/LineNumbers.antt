@@ -1,5 +1,6 @@
 -- Lines as a word tells them, by numbers: 0 and 1 are the walls, and each gap between two squares of a move has a number of
 -- its own. They stand for the lines of the layout. A statement alone; it is proved apart.
+-- Example (NodeCutExamples): in 3aa.2ue.1ea the squares stand between the lines 0, 2; 2, 3; 3, 1; 0, 5; 5, 2; 5, 3.
 use Rattle.std.specs.Prelude.{List, Some, [], length, slice_get, slice_index_or, suc, zero, ℕ, ◌++◌, ◌-◌, ◌∷◌, ◌≡◌}
 use Rattle.bk_word.specs.Outline.{Outline, start, valley_of}
 use Rattle.bk_word.specs.Play.{after_move}

@@ -3,7 +3,6 @@
 -- 2a.2ua.3euue.1e.1e, which keeps the rule, and the flow of that word's net has the current -7 there.
 use Rattle.std.proofs.Common.{List, [], arith, map, negsuc, pos, refl, slice_index_or, ℕ, ◌∷◌, ◌≡◌}
 use Rattle.bk_tiling.proofs.ExampleTilings.{rectangle_33x32}
-use Rattle.bk_net.specs.Net.{Net}
 use Rattle.bk_flow.specs.Table.{eliminated_flow}
 use Rattle.bk_word.specs.Word.{Move, Word}
 use Rattle.bk_word.specs.declared.Sign.{Sign}
