@@ -17,7 +17,7 @@ use Rattle.bk_top.proofs.Statuses.{Ends, answers_lines, not_two}
 use Rattle.bk_word.specs.Word.{Word}
 use Rattle.bk_word.specs.declared.Class.{Class}
 use Rattle.bk_walk.specs.Walking.{start_cursor}
-use Rattle.bk_top.proofs.Endings.{never_two}
+use Rattle.bk_top.proofs.Endings.{listed_not_two}
 use Rattle.bk_top.specs.Running.{AnswersLines, IsRun, IsToldText, Lists, Tries, NoErrors, Outside, WritesErrors, status_of}
 use Rattle.bk_top.specs.Words.{AsksErrorsOnly, AsksNoLines, AsksNothing, WordsAsk, ask_of, usage}
 
@@ -125,7 +125,7 @@ run_of_help words before after helped told = record {
 pub run_of_listing : (words : List (String Global)) (n : ℕ) (class : Class) (from : Option Word) (limit : Option ℕ) (before after : Outside) (status : ℕ)
     → WordsAsk words (asks.List n class from limit) → Lists n class (start_cursor from) limit before after status → NoErrors before after → IsRun words before after status
 run_of_listing words n class from limit before after status wanted lists silent = record {
-  status_2_asks_nothing = λ e. absurd (never_two (lists.no_other).0 (sym (lists.no_other).1 ∙ e));
+  status_2_asks_nothing = λ e. absurd (listed_not_two status lists.no_other e);
   nothing_asked = λ nothing. absurd (nothing (asks.List n class from limit) wanted);
   lines = λ command asked. absurd (lines_apart words (asks.List n class from limit) command wanted asked (differ 1 0 refl));
   listing = λ m one start most asked. (subst (Does before after status) (same words (asks.List n class from limit) (asks.List m one start most) wanted asked) lists, silent);
