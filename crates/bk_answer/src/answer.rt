@@ -74,8 +74,10 @@ impl CodeCommand {
     {
         let laid = lay_line(line);
         match &laid {
-            Ok(Some(tiling)) => self.answer_tiling(alloc, tiling, buffer, out),
-            Ok(None) => Ok(Outcome::Accepted),
+            Ok(item) => match item {
+                Some(tiling) => self.answer_tiling(alloc, tiling, buffer, out),
+                None => Ok(Outcome::Accepted),
+            },
             Err(refused) => refuse(*refused, buffer, out),
         }
     }

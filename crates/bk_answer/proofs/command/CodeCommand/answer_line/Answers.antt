@@ -9,20 +9,20 @@ use Rattle.bk_lines.proofs.Pieces.{writes_none}
 
 pub answer_tiling-requires : goal.answer_tiling-requires
 answer_tiling-requires g c =
-    let has : HasTiling c.args.line.now c.in-Ok-Some.tiling = has_tiling c.args.line.now c.lay_line-laid.result c.in-Ok-Some.field-0 c.in-Ok-Some.tiling c.in-Ok-Some.is c.in-Ok-Some.field-0-is c.lay_line-laid.ensures.laid in
-    is_tiling has.item c.in-Ok-Some.tiling has.stated
+    let has : HasTiling c.args.line.now c.in-Some.tiling = has_tiling c.args.line.now c.lay_line-laid.result c.in-Ok.item c.in-Some.tiling c.in-Ok.is c.in-Some.is c.lay_line-laid.ensures.laid in
+    is_tiling has.item c.in-Some.tiling has.stated
 
-pub returns-in-Ok-Some-clause-reply : goal.returns-in-Ok-Some-clause-reply
-returns-in-Ok-Some-clause-reply g c =
-    let has : HasTiling c.args.line.now c.in-Ok-Some.tiling = has_tiling c.args.line.now c.lay_line-laid.result c.in-Ok-Some.field-0 c.in-Ok-Some.tiling c.in-Ok-Some.is c.in-Ok-Some.field-0-is c.lay_line-laid.ensures.laid in
-    replies_more (AnswersTiling c.args.self c.in-Ok-Some.tiling) (AnswersCodeLine c.args.self c.args.line.now) (WantsMemory c.args.self c.in-Ok-Some.tiling) (MayWantForCode c.args.self c.args.line.now)
-    (λ pieces refused. line_answer c.args.self c.args.line.now c.in-Ok-Some.tiling pieces refused has) (λ w. (c.in-Ok-Some.tiling, has, w))
+pub returns-in-Some-clause-reply : goal.returns-in-Some-clause-reply
+returns-in-Some-clause-reply g c =
+    let has : HasTiling c.args.line.now c.in-Some.tiling = has_tiling c.args.line.now c.lay_line-laid.result c.in-Ok.item c.in-Some.tiling c.in-Ok.is c.in-Some.is c.lay_line-laid.ensures.laid in
+    replies_more (AnswersTiling c.args.self c.in-Some.tiling) (AnswersCodeLine c.args.self c.args.line.now) (WantsMemory c.args.self c.in-Some.tiling) (MayWantForCode c.args.self c.args.line.now)
+    (λ pieces refused. line_answer c.args.self c.args.line.now c.in-Some.tiling pieces refused has) (λ w. (c.in-Some.tiling, has, w))
     (g.O.Sink.written c.args.out.now) (g.O.Sink.written c.answer_tiling.new.out) c.answer_tiling.result c.answer_tiling.ensures.reply
 
-pub returns-in-Ok-None-clause-reply : goal.returns-in-Ok-None-clause-reply
-returns-in-Ok-None-clause-reply g c =
+pub returns-in-None-clause-reply : goal.returns-in-None-clause-reply
+returns-in-None-clause-reply g c =
     writes_none (AnswersCodeLine c.args.self c.args.line.now) false (g.O.Sink.written c.args.out.now)
-    (no_item (has_none c.args.line.now c.lay_line-laid.result c.in-Ok-None.field-0 c.in-Ok-None.is c.in-Ok-None.field-0-is c.lay_line-laid.ensures.laid))
+    (no_item (has_none c.args.line.now c.lay_line-laid.result c.in-Ok.item c.in-Ok.is c.in-None.is c.lay_line-laid.ensures.laid))
 
 pub returns-in-Err-clause-reply : goal.returns-in-Err-clause-reply
 returns-in-Err-clause-reply g c =
