@@ -108,8 +108,8 @@ impl Skel {
         steps.tick();
     }
 
-    // Plays a move.
-    pub(crate) fn play(&mut self, m: &Move)
+    /// Plays a move, which must be legal, with at most 200 squares then. It counts no step.
+    pub fn play(&mut self, m: &Move)
         requires legal { IsLegalMove (outline_of self.old) m.now }
         requires few { order_of self.old + m.now.count ≤ LARGEST_ORDER }
         ensures { self.new ≡ self.old ++ m.now ∷ [] }
