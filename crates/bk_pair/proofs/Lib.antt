@@ -1,0 +1,4 @@
+pub mod PairExamples
+pub mod Quarters
+pub mod LaidSquares
+pub mod SharedSides

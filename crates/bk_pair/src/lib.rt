@@ -1,0 +1,185 @@
+//! Two rectangles of one size joined to a square.
+#![tactic(auto)]
+
+ghost use Rattle.std.specs.List.Sorted.{IsNonDecreasing, IsPermutation};
+ghost use Rattle.std.specs.Prelude.{IfErr, IfNone, IfOk, IfSome, length, map, ℕ, ◌++◌, ◌+◌, ◌<◌, ◌^◌, ◌≡◌, ◌≤◌};
+ghost use Rattle.std.specs.List.{AllByRecursion};
+ghost use Rattle.bk_tiling.specs.CodeOrder.{in_code_order};
+ghost use Rattle.bk_tiling.specs.Refusal.{HaveSides, ShareNoCell};
+ghost use Rattle.bk_tiling.specs.Scale.{moved_square};
+ghost use Rattle.bk_tiling.specs.Tiling.{order, sides_of};
+ghost use Rattle.bk_simple.specs.Neighbours.{IsFirstTwice, NoneTwice};
+ghost use Rattle.bk_simple.specs.Simple.{IsPerfect};
+ghost use Rattle.bk_pair.specs.Pair.{ArePair, CanBeLaid, IsLayingFault, IsLeastShared, IsPairFault, IsSharedSide, joined_square, pair_sides};
+
+#[cfg(test)]
+mod tests;
+
+use arrayvec::ArrayVec;
+use bk_sym::{Turn, image};
+use bk_tiling::{Square, Tiling};
+
+/// Why two tilings make no square, or no perfect one. The names and their order are this project's own.
+#[derive(Clone, Copy, Debug, PartialEq, Eq)]
+pub enum PairFault {
+    /// Their sizes differ.
+    Size,
+    /// Their width and height are equal.
+    Square,
+    /// They and two squares are so many, more than 200.
+    Many { n: usize },
+    /// The greater of their width and height, this side, is above 999,999,999,999,999.
+    Long { side: u64 },
+    /// This side occurs twice, and no lesser one does.
+    Twice { side: u64 },
+}
+
+/// Two tilings of one size laid together to a square of side width + height: the first at the top left, a square of side
+/// height at its right, one of side width below it, and the second, with columns and levels exchanged, at the bottom right
+/// (Brooks, Smith, Stone and Tutte 1940). `PairFault` comes exactly where they can't be laid so; `Twice` never comes.
+pub fn lay_pair(a: &Tiling, b: &Tiling) -> Result<Tiling, PairFault>
+    ensures can { IfOk result (λ _. CanBeLaid a.now b.now) }
+    ensures laid { IfOk result (λ t. t ≡ joined_square a.now b.now) }
+    ensures refused { IfErr result (IsLayingFault a.now b.now) }
+{
+    match laying_fault(a, b) {
+        Some(fault) => Err(fault),
+        None => Ok(laid(a, b)),
+    }
+}
+
+/// The same where the square is perfect. `Twice` comes exactly where they can be laid so and a side occurs twice among their
+/// sides, their width and their height, with the least such side.
+pub fn join(a: &Tiling, b: &Tiling) -> Result<Tiling, PairFault>
+    ensures pair { IfOk result (λ _. ArePair a.now b.now) }
+    ensures joined { IfOk result (λ t. t ≡ joined_square a.now b.now) }
+    ensures perfect { IfOk result IsPerfect }
+    ensures refused { IfErr result (IsPairFault a.now b.now) }
+{
+    match laying_fault(a, b) {
+        Some(fault) => Err(fault),
+        None => match shared_side(a, b) {
+            Some(side) => Err(PairFault::Twice { side }),
+            None => Ok(laid(a, b)),
+        },
+    }
+}
+
+// Why the two are not laid together.
+fn laying_fault(a: &Tiling, b: &Tiling) -> Option<PairFault>
+    ensures none { IfNone result (CanBeLaid a.now b.now) }
+    ensures some { IfSome result (IsLayingFault a.now b.now) }
+{
+    let (width, height) = (a.width(), a.height());
+    if b.width() != width || b.height() != height {
+        return Some(PairFault::Size);
+    }
+    if width == height {
+        return Some(PairFault::Square);
+    }
+    let n = a.order() + b.order() + 2;
+    if n > 200 {
+        return Some(PairFault::Many { n });
+    }
+    let side = width.max(height);
+    if side > 999_999_999_999_999 {
+        return Some(PairFault::Long { side });
+    }
+    None
+}
+
+// The least side that occurs twice among all sides of what the two make.
+fn shared_side(a: &Tiling, b: &Tiling) -> Option<u64>
+    requires { order a.now + order b.now + 2 ≤ 200 }
+    ensures none { IfNone result ((side : ℕ) → ¬ (IsSharedSide a.now b.now side)) }
+    ensures some { IfSome result (IsLeastShared a.now b.now) }
+{
+    let sides = sorted_sides(a, b);
+    first_twice(sides.as_slice())
+}
+
+// All sides of what the two make, in ascending order.
+fn sorted_sides(a: &Tiling, b: &Tiling) -> ArrayVec<u64, 200>
+    requires { order a.now + order b.now + 2 ≤ 200 }
+    ensures same { IsPermutation (pair_sides a.now b.now) result.items }
+    ensures sorted { IsNonDecreasing result.items }
+{
+    let mut sides = ArrayVec::new();
+    push_sides(a, &mut sides);
+    push_sides(b, &mut sides);
+    sides.push(a.width());
+    sides.push(a.height());
+    sides.sort_unstable();
+    sides
+}
+
+// Appends the sides of a tiling.
+fn push_sides(tiling: &Tiling, sides: &mut ArrayVec<u64, 200>)
+    requires { length sides.old.items + order tiling.now ≤ 200 }
+    ensures { sides.new.items ≡ sides.old.items ++ sides_of tiling.now }
+{
+    for q in tiling.squares() {
+        sides.push(q.s);
+    }
+}
+
+// The first number that is followed by an equal one.
+fn first_twice(sides: &[u64]) -> Option<u64>
+    ensures none { IfNone result (NoneTwice sides.now (length sides.now)) }
+    ensures first { IfSome result (IsFirstTwice sides.now) }
+{
+    for i in 1..sides.len() {
+        if sides[i - 1] == sides[i] {
+            return Some(sides[i]);
+        }
+    }
+    None
+}
+
+// The square that the two make, which can be laid so.
+fn laid(a: &Tiling, b: &Tiling) -> Tiling
+    requires { CanBeLaid a.now b.now }
+    ensures { result ≡ joined_square a.now b.now }
+{
+    let (width, height) = (a.width(), a.height());
+    let mut squares = ArrayVec::new();
+    push_moved(a, 0, 0, &mut squares);
+    squares.push(Square {
+        x: width,
+        y: 0,
+        s: height,
+    });
+    squares.push(Square {
+        x: 0,
+        y: height,
+        s: width,
+    });
+    push_moved(&image(b, Turn::Swap), width, height, &mut squares);
+    put_in_order(&mut squares);
+    Tiling::from_known(width + height, width + height, squares)
+}
+
+// Appends the squares of a tiling, moved to the right and down.
+fn push_moved(tiling: &Tiling, right: u64, down: u64, squares: &mut ArrayVec<Square, 200>)
+    requires room { length squares.old.items + order tiling.now ≤ 200 }
+    requires right { right ≤ 999_999_999_999_999 }
+    requires down { down ≤ 999_999_999_999_999 }
+    ensures { squares.new.items ≡ squares.old.items ++ map (moved_square right down) tiling.now.squares }
+{
+    for q in tiling.squares() {
+        squares.push(Square {
+            x: q.x + right,
+            y: q.y + down,
+            s: q.s,
+        });
+    }
+}
+
+// Puts squares into code order, of which no two share a cell.
+fn put_in_order(squares: &mut ArrayVec<Square, 200>)
+    requires sides { HaveSides squares.old.items }
+    requires apart { ShareNoCell squares.old.items }
+    ensures { squares.new.items ≡ in_code_order squares.old.items }
+{
+    squares.sort_unstable_by_key(|q| (q.y, q.x));
+}
