@@ -1,0 +1,4 @@
+pub mod Storing
+pub mod Standing
+pub mod Passing
+pub mod Firsts

@@ -1,0 +1,4 @@
+pub mod Kept
+pub mod Stored
+pub mod Verify
+pub mod VerifyLaws

@@ -1,0 +1,14 @@
+//! Lists that others made, held against the catalogue.
+#![tactic(auto)]
+
+mod kept;
+mod rest;
+#[cfg(test)]
+mod tests;
+mod verifier;
+
+pub use rest::Rest;
+pub use verifier::{
+    Fed, NoMemory, Verifier, a_verifier_tells_the_truth, an_entry_is_told_one_thing,
+    missing_ones_are_not_kept, truths_stay,
+};

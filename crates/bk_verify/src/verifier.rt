@@ -1,0 +1,121 @@
+//! A verifier: it is fed the entries of a list, and tells what each of them is.
+
+ghost use Rattle.std.specs.Prelude.{IfOk, IsTrue, OnErr, [], ◌↔◌, ◌≡◌, ◌≤◌};
+ghost use Rattle.bk_simple.specs.Simple.{IsPerfect, IsSimple};
+ghost use Rattle.bk_verify.specs.Kept.{IsFed, IsFirstSight, IsKeptVerifier, rest_of};
+ghost use Rattle.bk_verify.specs.VerifyLaws.{AVerifierTellsTheTruth, AnEntryIsToldOneThing, MissingOnesAreNotKept, TruthsStay};
+
+use crate::kept::KeptMembers;
+use crate::rest::Rest;
+use bk_simple::{part, repeated};
+use bk_sym::canonical;
+use bk_tiling::Tiling;
+use std::alloc::Global;
+use std::marker::Model;
+
+/// What an entry of a list is.
+#[derive(Clone, Copy, Debug, PartialEq, Eq)]
+pub enum Fed {
+    /// The first one of its member.
+    New,
+    /// A further one of a member: the line of the first one.
+    Repeats { line: u64 },
+    /// One of no member.
+    Foreign,
+}
+
+/// There was no memory to keep a member.
+#[derive(Clone, Copy, Debug, PartialEq, Eq)]
+pub struct NoMemory;
+
+/// A verifier of a list against the perfect catalogue of an order. It is seen as the order and the list of the pairs, each a
+/// line and the canonical tiling that was new there, in the order of first sight.
+#[derive(Drop)]
+pub struct Verifier {
+    alloc: Global,
+    order: u8,
+    kept: KeptMembers,
+}
+
+impl Model for Verifier {
+    ghost use Rattle.bk_verify.specs.Kept.{IsKeptVerifier, VerifierState};
+
+    ghost Value = { VerifierState };
+
+    ghost view = { λ v. record { order = v.order; pairs = v.kept } };
+
+    ghost invariant = { λ v. IsKeptVerifier (record { order = v.order; pairs = v.kept }) };
+}
+
+impl Verifier {
+    /// A verifier against the catalogue of an order, which is 2 to 16. It keeps nothing yet, and takes no memory.
+    pub fn new(alloc: Global, order: u8) -> Verifier
+        requires least { 2 ≤ order }
+        requires most { order ≤ 16 }
+        ensures { result ≡ record { order = order; pairs = [] } }
+    {
+        Verifier {
+            alloc,
+            order,
+            kept: KeptMembers::new(alloc),
+        }
+    }
+
+    /// Feeds the entry of a line, and tells what it is: by its canonical tiling alone, which is a member where it has as many
+    /// squares as the order and is perfect and simple. A member that isn't kept is kept from this line, unless there is no
+    /// memory for it: then, as after each other answer, the verifier is as before.
+    pub fn feed(&mut self, line: u64, tiling: &Tiling) -> Result<Fed, NoMemory>
+        ensures fed { IfOk result (λ fed. IsFed self.old line tiling.now fed self.new) }
+        ensures unchanged { OnErr result (self.new ≡ self.old) }
+        ensures wanting { OnErr result (IsFirstSight self.old tiling.now) }
+        ensures kept { IsKeptVerifier self.new }
+    {
+        if tiling.order() != usize::from(self.order) {
+            return Ok(Fed::Foreign);
+        }
+        let member = canonical(tiling);
+        if let Some(first) = self.kept.line_of(&member) {
+            return Ok(Fed::Repeats { line: first });
+        }
+        if !is_simple_perfect(&member) {
+            return Ok(Fed::Foreign);
+        }
+        self.kept.keep(line, &member)?;
+        Ok(Fed::New)
+    }
+
+    /// Hands on what is kept, to name the members that no entry had. It takes no memory.
+    pub fn finish(self) -> Rest
+        ensures { result ≡ rest_of self }
+    {
+        Rest::new(self.alloc, self.order, self.kept)
+    }
+}
+
+// Whether a tiling is simple and perfect.
+fn is_simple_perfect(tiling: &Tiling) -> bool
+    ensures { IsTrue result ↔ IsPerfect tiling.now × IsSimple tiling.now }
+{
+    repeated(tiling).is_none() && part(tiling).is_none()
+}
+
+/// An entry is told one thing.
+pub fn an_entry_is_told_one_thing()
+    ensures { AnEntryIsToldOneThing }
+{}
+
+/// What a verifier tells of an entry is the truth, where what it keeps are the first entries of the members that were fed;
+/// and then it keeps them again.
+pub fn a_verifier_tells_the_truth()
+    ensures { AVerifierTellsTheTruth }
+{}
+
+/// What is true of an entry stays so where more entries follow.
+pub fn truths_stay()
+    ensures { TruthsStay }
+{}
+
+/// The missing members are those that aren't kept.
+pub fn missing_ones_are_not_kept()
+    ensures { MissingOnesAreNotKept }
+{}
