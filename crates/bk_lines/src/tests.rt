@@ -140,9 +140,13 @@ impl Register for Numbers {
         buffer: &mut ArrayVec<u8, 9000>,
         out: &mut O,
     ) -> Result<Outcome, Failed> {
-        let outcome = Lengths.answer(line, buffer, out)?;
-        self.last = number;
-        Ok(outcome)
+        match Lengths.answer(line, buffer, out) {
+            Ok(outcome) => {
+                self.last = number;
+                Ok(outcome)
+            }
+            Err(failed) => Err(failed),
+        }
     }
 
     ghost empty_line = { λ _ _. tt };

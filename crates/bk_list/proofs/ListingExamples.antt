@@ -38,7 +38,6 @@ pub no_entries : IsListing 2 Perfect [] None AtEnd (codes "; end order 2 listed 
 unfolding digits
 no_entries = record {
   entries = [];
- 
   first = record { each = tt; after = tt; ascending = tt; none_between = λ e is h. inr tt };
   ends = (tt, λ e is h. absurd (no_perfect e is));
   text = refl;

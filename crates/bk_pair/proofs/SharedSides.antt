@@ -108,5 +108,8 @@ pub perfect_square : (a b : Tiling) → ((side : ℕ) → ¬ (IsSharedSide a b s
 perfect_square a b none i j d before below e =
     let squares = (joined_square a b).squares in
     let side : ℕ = (get_or squares i d).s in
-    none side (omega (arith, count_joined a b side,
-    count_two (λ q. q.s == side) squares i j d before below (eq-eqb side side refl) (eq-eqb (get_or squares j d).s side (sym e))))
+    none side (omega (
+      arith,
+      count_joined a b side,
+      count_two (λ q. q.s == side) squares i j d before below (eq-eqb side side refl) (eq-eqb (get_or squares j d).s side (sym e)),
+    ))

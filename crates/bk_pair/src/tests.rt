@@ -22,7 +22,10 @@ fn tiling(width: u64, height: u64, placed: &[(u64, u64, u64)]) -> Result<Tiling,
 fn a_rectangle_is_laid_with_itself(rt: HostRuntime) -> Result<(), Fail> {
     let small = tiling(3, 2, &[(0, 0, 2), (2, 0, 1), (2, 1, 1)])?;
     let square = lay_pair(&small, &small).ok().ok_or("not laid")?;
-    assert_eq!(rt; (square.width(), square.height(), square.order()), (5, 5, 8));
+    assert_eq!(rt;
+        (square.width(), square.height(), square.order()),
+        (5, 5, 8)
+    );
     let mut sides = ArrayVec::<u64, 200>::new();
     for q in square.squares() {
         sides.push(q.s);
@@ -36,7 +39,10 @@ fn pairs_are_refused(rt: HostRuntime) -> Result<(), Fail> {
     let small = tiling(3, 2, &[(0, 0, 2), (2, 0, 1), (2, 1, 1)])?;
     let one = tiling(1, 1, &[(0, 0, 1)])?;
     let long = tiling(2, 1, &[(0, 0, 1), (1, 0, 1)])?;
-    assert_eq!(rt; join(&small, &small).err(), Some(PairFault::Twice { side: 1 }));
+    assert_eq!(rt;
+        join(&small, &small).err(),
+        Some(PairFault::Twice { side: 1 })
+    );
     assert_eq!(rt; join(&small, &long).err(), Some(PairFault::Size));
     assert_eq!(rt; join(&one, &one).err(), Some(PairFault::Square));
     assert_eq!(rt; lay_pair(&one, &one).err(), Some(PairFault::Square));
@@ -45,7 +51,13 @@ fn pairs_are_refused(rt: HostRuntime) -> Result<(), Fail> {
         ones.push((x, 0, 1));
     }
     let hundred = tiling(100, 1, ones.as_slice())?;
-    assert_eq!(rt; lay_pair(&hundred, &hundred).err(), Some(PairFault::Many { n: 202 }));
-    assert_eq!(rt; join(&hundred, &hundred).err(), Some(PairFault::Many { n: 202 }));
+    assert_eq!(rt;
+        lay_pair(&hundred, &hundred).err(),
+        Some(PairFault::Many { n: 202 })
+    );
+    assert_eq!(rt;
+        join(&hundred, &hundred).err(),
+        Some(PairFault::Many { n: 202 })
+    );
     Ok(())
 }
