@@ -1,6 +1,5 @@
 -- What a verifier tells of an entry is true, and what it keeps are the first entries.
 use Rattle.std.specs.List.{AllByRecursion}
-use Rattle.std.specs.Prelude.{◌↔◌}
 use Rattle.std.proofs.Common.{Contains, List, [], ap, append_assoc, arith, inl, inr, refl, subst, suc, sym, zero, ℕ, ◌++◌, ◌∙◌, ◌∷◌, ◌≡◌, ◌≢◌, ◌⊎◌}
 use Rattle.std.proofs.lemmas.List.Elements.{Contains-push_cases}
 use Rattle.bk_laws.proofs.AllOfLists.{all_append, all_left, all_right}
@@ -9,7 +8,7 @@ use Rattle.bk_sym.proofs.CanonicalLaws.{a_canonical_tiling_is_one}
 use Rattle.bk_word.specs.declared.Class.TheVariants.{Perfect}
 use Rattle.bk_catalogue.specs.Catalogue.{IsMember}
 use Rattle.bk_verify.proofs.Storing.{all_at}
-use Rattle.bk_verify.specs.Kept.{IsFed, IsKeptFrom, IsNotKept, Kept, VerifierState, with_kept}
+use Rattle.bk_verify.specs.Kept.{IsFed, IsKeptFrom, IsNotKept, Kept, VerifierState}
 use Rattle.bk_verify.specs.Verify.{Accepted, AreNotOf, IsFirstOf, IsOf}
 use Rattle.bk_verify.specs.VerifyLaws.{AVerifierTellsTheTruth, IsFirstLine, IsTrueOf, KeepsFirsts, MissingOnesAreNotKept, TruthsStay}
 use Rattle.bk_verify.specs.declared.verifier.Fed.{Fed}

@@ -17,11 +17,11 @@ use Rattle.bk_lay.proofs.WordPlay.{tiling_word_is_complete}
 use Rattle.bk_walk.proofs.Starting.{word_same}
 use Rattle.bk_word.proofs.FollowLaws.{not_itself}
 use Rattle.bk_catalogue.specs.Catalogue.{AreAscending, Entry, IsEntry}
-use Rattle.bk_walk.specs.Walking.{HasNoneAfter, HasNoneBetween, IsNextMember, WalkState}
+use Rattle.bk_walk.specs.Walking.{HasNoneAfter, IsNextMember, WalkState}
 use Rattle.bk_list.proofs.OneEntry.{one_entry}
 use Rattle.bk_list.proofs.WordCounts.{few_entries}
 use Rattle.bk_verify.proofs.Storing.{all_at}
-use Rattle.bk_verify.specs.Kept.{AreKeptAfter, AreKeptBetween, AreUpTo, CountsMembers, IsKeptFrom, IsKeptRest, IsNextMissing, IsNotKept, IsUpTo, Kept}
+use Rattle.bk_verify.specs.Kept.{AreKeptAfter, AreUpTo, CountsMembers, IsKeptFrom, IsKeptRest, IsNextMissing, IsNotKept, IsUpTo, Kept}
 
 -- a member's word is after that of no moves
 after_none : (w : Word) → 0 < length w → Follows w []

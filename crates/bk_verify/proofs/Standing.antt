@@ -1,7 +1,6 @@
 -- What an entry stands for: its canonical tiling, where it is a member.
-use Rattle.std.specs.List.{AllByRecursion}
 use Rattle.std.specs.Prelude.{IsTrue, ◌↔◌}
-use Rattle.std.proofs.Common.{Bool, Contains, List, [], ap, arith, length, map, refl, subst, suc, sym, true, zero, ℕ, ◌++◌, ◌∙◌, ◌∷◌, ◌≡◌, ◌≢◌, ◌≤◌}
+use Rattle.std.proofs.Common.{Bool, List, [], ap, arith, length, map, refl, subst, suc, sym, true, zero, ℕ, ◌++◌, ◌∙◌, ◌∷◌, ◌≡◌, ◌≢◌}
 use Rattle.bk_laws.proofs.AllOfLists.{all_append}
 use Rattle.bk_tiling.proofs.OrderLaws.{in_code_order-length}
 use Rattle.bk_tiling.specs.Tiling.{IsTiling, Tiling}
@@ -9,16 +8,15 @@ use Rattle.bk_simple.specs.Simple.{IsPerfect, IsSimple}
 use Rattle.bk_sym.proofs.AlikeLaws.{a_canonical_tiling_is_its_own}
 use Rattle.bk_sym.proofs.CanonicalLaws.{a_canonical_tiling_is_one}
 use Rattle.bk_sym.specs.Canonical.{IsCanonicalOf, scaled_down_tiling}
-use Rattle.bk_sym.specs.Image.{image, image_square}
+use Rattle.bk_sym.specs.Image.{image_square}
 use Rattle.bk_word.specs.declared.Class.TheVariants.{Perfect}
 use Rattle.std.specs.Prelude.{◌/◌}
 use Rattle.std.proofs.lemmas.List.{length-map}
 use Rattle.bk_sym.proofs.ScaledDown.{side_divisor}
 use Rattle.bk_catalogue.specs.Catalogue.{IsMember}
 use Rattle.bk_verify.proofs.Storing.{all_at}
-use Rattle.bk_verify.specs.Kept.{AreApart, IsFed, IsFirstSight, IsKeptFrom, IsKeptVerifier, IsNotKept, IsTakenIn, Kept, RepeatsFrom, StandsFor, StandsForNone, VerifierState, with_kept}
+use Rattle.bk_verify.specs.Kept.{AreApart, IsFirstSight, IsKeptFrom, IsKeptVerifier, IsNotKept, IsTakenIn, Kept, RepeatsFrom, StandsFor, StandsForNone, VerifierState, with_kept}
 use Rattle.bk_verify.specs.VerifyLaws.{AnEntryIsToldOneThing}
-use Rattle.bk_verify.specs.declared.verifier.Fed.{Fed}
 use Rattle.bk_verify.specs.declared.verifier.Fed.TheVariants.{Foreign, New, Repeats}
 
 -- the canonical tiling has as many squares

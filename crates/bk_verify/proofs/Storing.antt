@@ -1,7 +1,7 @@
 -- Kept members are found under their width and flat list, which fix them.
 use Rattle.std.specs.List.{AllByRecursion}
 use Rattle.std.specs.Map.{lookup}
-use Rattle.std.proofs.Common.{Bool, Contains, Err, List, None, Ok, Some, [], ap, arith, false, map, refl, subst, suc, inl, inr, sym, true, true≢false, zero, ℕ, ◌&&◌, ◌++◌, ◌∙◌, ◌∷◌, ◌≡◌, ◌≢◌, ◌⊎◌}
+use Rattle.std.proofs.Common.{Bool, Contains, Err, List, None, Ok, Some, [], ap, arith, false, map, refl, subst, suc, inl, inr, sym, true, true≢false, zero, ℕ, ◌&&◌, ◌++◌, ◌∙◌, ◌∷◌, ◌≡◌, ◌⊎◌}
 use Rattle.std.specs.Prelude.{OnErr, OnOk, Result, nat_eq}
 use Rattle.std.specs.Cmp.Lexicographic.{pointwise}
 use Rattle.std.proofs.lemmas.Bool.{and_parts, eq-eqb, eqb-true}

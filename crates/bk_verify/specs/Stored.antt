@@ -1,6 +1,6 @@
 -- How kept members are stored: each under its width and its flat list, which fix it.
-use Rattle.std.specs.Prelude.{List, map, ℕ, ◌≡◌, ◌≤◌, ◌<◌, ◌^◌, length}
-use Rattle.bk_tiling.specs.Tiling.{IsTiling, Tiling, sides_of}
+use Rattle.std.specs.Prelude.{◌≡◌}
+use Rattle.bk_tiling.specs.Tiling.{IsTiling, sides_of}
 use Rattle.bk_verify.specs.Kept.{Kept}
 use Rattle.bk_verify.specs.declared.kept.Flat.{Flat}
 use Rattle.bk_verify.specs.declared.kept.Seen.{Seen}

@@ -5,7 +5,7 @@ use Rattle.bk_tiling.specs.Tiling.{IsTiling, Tiling}
 use Rattle.bk_word.specs.declared.Class.TheVariants.{Perfect}
 use Rattle.bk_catalogue.specs.Catalogue.{IsMember}
 use Rattle.bk_verify.specs.Kept.{IsFed, IsKeptFrom, IsKeptVerifier, IsNotKept, Kept, VerifierState}
-use Rattle.bk_verify.specs.Verify.{Accepted, AreNotOf, IsFirstOf, IsForeign, IsNew, IsOf, IsRepeat}
+use Rattle.bk_verify.specs.Verify.{Accepted, AreNotOf, IsFirstOf, IsForeign, IsNew, IsRepeat}
 use Rattle.bk_verify.specs.declared.verifier.Fed.{Fed}
 use Rattle.bk_verify.specs.declared.verifier.Fed.TheVariants.{Foreign, New, Repeats}
 

@@ -1,4 +1,4 @@
-use Rattle.std.proofs.Common.{arith, length, refl, subst, sym, true≢false, ◌∙◌, ◌≡◌, ◌≤◌}
+use Rattle.std.proofs.Common.{arith, refl, subst, sym, true≢false, ◌∙◌}
 use Rattle.bk_verify.proofs.Standing.{canonical_order, kept_then, none_of_other_kind, none_of_other_order, stands_told, taken_in}
 use Rattle.bk_verify.proofs.Storing.{on_err}
 use Rattle.bk_verify.specs.Kept.{IsFirstSight, IsTakenIn, StandsFor, StandsForNone, VerifierState}
