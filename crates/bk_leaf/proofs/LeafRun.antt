@@ -1,0 +1,124 @@
+-- What one run of a leaf has found, from what its steps ensure.
+use Rattle.std.specs.Prelude.{nat_abs, pos, ℤ}
+use Rattle.std.proofs.Common.{List, [], ap, arith, length, slice_index_or, subst, sym, ℕ, ◌-◌, ◌<◌, ◌^◌, ◌∙◌, ◌≡◌, ◌≤◌}
+use Rattle.bk_tiling.specs.CodeOrder.{in_code_order}
+use Rattle.bk_tiling.specs.Refusal.{IsAccepted}
+use Rattle.bk_tiling.specs.Scale.{IsPrimitiveTiling}
+use Rattle.bk_tiling.specs.Tiling.{IsTiling, Tiling}
+use Rattle.bk_tiling.specs.declared.Square.{Square}
+use Rattle.bk_net.specs.Flow.{IsPrimitiveFlow}
+use Rattle.bk_net.specs.Net.{HasNoLoose, Net}
+use Rattle.bk_word.specs.Play.{IsComplete}
+use Rattle.bk_word.specs.Word.{Word, order_of}
+use Rattle.bk_word_net.specs.WordNet.{net_of_word}
+use Rattle.bk_free_cuts.specs.LineNumbers.{sides_of}
+use Rattle.bk_signed_word.proofs.KnownLines.{as_many_sides}
+use Rattle.bk_signed_word.specs.SignedWord.{IsSignedWordOf}
+use Rattle.bk_candidate.specs.Candidate.{right_edges_from}
+use Rattle.bk_leaf.proofs.Leaves.{accepted_found, currents_many, currents_small, ends_within, height_found, in_order_found, joined, lines_known, no_zero_found, nodes_few, total_small, width_found, wires_are}
+use Rattle.bk_leaf.specs.Placing.{AreKnownLines, AreLevels, AreSmall, EndWithin, HasLevels, IsPlacedAt, IsSmall}
+
+-- for each tiling in lowest terms of which the word is a signed one: this is its size, and these are its squares
+pub record IsLeafRun (w : Word) (width height : ℕ) (squares : List Square) : Type 0 where
+  pub width_is : (t : Tiling) → IsTiling t → IsPrimitiveTiling t → IsSignedWordOf t w → width ≡ t.width
+  pub height_is : (t : Tiling) → IsTiling t → IsPrimitiveTiling t → IsSignedWordOf t w → height ≡ t.height
+  pub accepted : (t : Tiling) → IsTiling t → IsPrimitiveTiling t → IsSignedWordOf t w → IsAccepted width height squares
+  pub in_order : (t : Tiling) → IsTiling t → IsPrimitiveTiling t → IsSignedWordOf t w → in_code_order squares ≡ t.squares
+
+-- a net that is the word's, and what its flow shows
+module _ (w : Word) (complete : IsComplete w) (few : order_of w ≤ 16) (net : Net) (net_is : net ≡ net_of_word w) where
+  pub net_few : length net.wires ≤ 16
+  net_few = omega (arith, ap (λ (n : Net). length n.wires) net_is, wires_are w complete few, few)
+
+  pub wires_many : length net.wires ≡ order_of w
+  wires_many = ap (λ (n : Net). length n.wires) net_is ∙ wires_are w complete few
+
+  pub net_joined : HasNoLoose net
+  net_joined = subst HasNoLoose (sym net_is) (joined w complete few)
+
+  pub net_nodes : net.nodes ≤ 17
+  net_nodes = omega (arith, ap (λ (n : Net). n.nodes) net_is, nodes_few w complete few)
+
+  module _ (wires : List (ℕ × ℕ)) (wires_is : wires ≡ net.wires) where
+    all_wires : wires ≡ (net_of_word w).wires
+    all_wires = wires_is ∙ ap (λ (n : Net). n.wires) net_is
+
+    pub shown_ends : EndWithin 17 wires
+    shown_ends = subst (EndWithin 17) (sym all_wires) (ends_within w complete few)
+
+    pub shown_few : length wires ≤ 16
+    shown_few = omega (arith, ap length wires_is, net_few)
+
+  module _ (sides : List (ℕ × ℕ)) (sides_is : sides ≡ sides_of w) where
+    pub sides_known : AreKnownLines sides
+    sides_known = subst AreKnownLines (sym sides_is) (lines_known w complete few)
+
+    pub sides_many : length sides ≡ order_of w
+    sides_many = ap length sides_is ∙ as_many_sides w
+
+  module _ (total : ℤ) (currents : List ℤ) (flow : IsPrimitiveFlow net total currents) where
+    word_flow : IsPrimitiveFlow (net_of_word w) total currents
+    word_flow = subst (λ (n : Net). IsPrimitiveFlow n total currents) net_is flow
+
+    pub small_total : IsSmall (2 ^ 34) total
+    small_total = total_small w complete few total currents word_flow
+
+    module _ (shown : List ℤ) (shown_is : shown ≡ currents) where
+      pub shown_small : AreSmall (2 ^ 34) shown
+      shown_small = subst (AreSmall (2 ^ 34)) (sym shown_is) (currents_small w complete few total currents word_flow)
+
+      pub shown_many : length shown ≡ order_of w
+      shown_many = omega (arith, ap length shown_is, currents_many w complete few total currents word_flow, wires_are w complete few)
+
+      pub never_zero : ((k : ℕ) × (k < length shown) × (slice_index_or shown k (pos 1) ≡ pos 0)) → (t : Tiling) → IsTiling t
+          → IsPrimitiveTiling t → IsSignedWordOf t w → ⊥
+      never_zero (k, h, e) t tiling lowest s = no_zero_found w complete few total currents word_flow t tiling lowest s k
+          (omega (arith, h, ap length shown_is)) (ap (λ (cs : List ℤ). slice_index_or cs k (pos 1)) (sym shown_is) ∙ e)
+
+      module _ (wires : List (ℕ × ℕ)) (wires_is : wires ≡ net.wires) (levels : List ℤ) (right : (at : ℕ → ℤ) → AreLevels wires shown at
+          → HasLevels wires at levels) where
+        word_right : (at : ℕ → ℤ) → AreLevels (net_of_word w).wires currents at → HasLevels (net_of_word w).wires at levels
+        word_right = subst (λ (ws : List (ℕ × ℕ)). (at : ℕ → ℤ) → AreLevels ws currents at → HasLevels ws at levels) (all_wires wires wires_is)
+            (subst (λ (cs : List ℤ). (at : ℕ → ℤ) → AreLevels wires cs at → HasLevels wires at levels) shown_is right)
+
+        module _ (width height : ℕ) (width_eq : width ≡ nat_abs total) (height_eq : height ≡ nat_abs (slice_index_or levels (net.nodes - 1) (pos 0))) where
+          pub is_width : (t : Tiling) → IsTiling t → IsPrimitiveTiling t → IsSignedWordOf t w → width ≡ t.width
+          is_width t tiling lowest s = width_eq ∙ width_found w complete few total currents word_flow t tiling lowest s
+
+          pub is_height : (t : Tiling) → IsTiling t → IsPrimitiveTiling t → IsSignedWordOf t w → height ≡ t.height
+          is_height t tiling lowest s = height_eq ∙ ap (λ (n : Net). nat_abs (slice_index_or levels (n.nodes - 1) (pos 0))) net_is
+              ∙ height_found w complete few total currents word_flow levels word_right t tiling lowest s
+
+          module _ (sides : List (ℕ × ℕ)) (sides_is : sides ≡ sides_of w) (held : ℤ) (held_is : held ≡ total) (rights : List ℤ)
+              (edges : rights ≡ right_edges_from held [] sides shown)
+              (again : List (ℕ × ℕ)) (again_is : again ≡ sides_of w) (others : List (ℕ × ℕ)) (others_is : others ≡ net.wires) (known : ℤ)
+              (known_is : known ≡ total)
+              (squares : List Square) (many : length squares ≡ length again)
+              (each : (k : ℕ) → k < length again → IsPlacedAt again others shown levels rights known k
+              (slice_index_or squares k (record { x = 0; y = 0; s = 0 }))) where
+            word_edges : rights ≡ right_edges_from total [] (sides_of w) currents
+            word_edges = edges ∙ (λ i. right_edges_from (held_is i) [] (sides_is i) (shown_is i))
+
+            word_each : (k : ℕ) → k < length (sides_of w)
+                → IsPlacedAt (sides_of w) (net_of_word w).wires currents levels rights total k (slice_index_or squares k (record { x = 0; y = 0; s = 0 }))
+            word_each = subst (λ (ss : List (ℕ × ℕ)). (k : ℕ) → k < length ss
+                → IsPlacedAt ss (net_of_word w).wires currents levels rights total k (slice_index_or squares k (record { x = 0; y = 0; s = 0 }))) again_is
+                (subst (λ (ws : List (ℕ × ℕ)). (k : ℕ) → k < length again
+                → IsPlacedAt again ws currents levels rights total k (slice_index_or squares k (record { x = 0; y = 0; s = 0 })))
+                (all_wires others others_is)
+                (subst (λ (cs : List ℤ). (k : ℕ) → k < length again
+                → IsPlacedAt again others cs levels rights total k (slice_index_or squares k (record { x = 0; y = 0; s = 0 }))) shown_is
+                (subst (λ (z : ℤ). (k : ℕ) → k < length again
+                → IsPlacedAt again others shown levels rights z k (slice_index_or squares k (record { x = 0; y = 0; s = 0 }))) known_is each)))
+
+            pub leaf_run : IsLeafRun w width height squares
+            leaf_run = record {
+              width_is = is_width;
+              height_is = is_height;
+              accepted = λ t tiling lowest s. subst (λ (n : ℕ). IsAccepted n height squares) (sym (is_width t tiling lowest s))
+                  (subst (λ (n : ℕ). IsAccepted t.width n squares) (sym (is_height t tiling lowest s))
+                  (accepted_found w complete few total currents word_flow levels word_right rights squares word_edges
+                  (many ∙ ap length again_is) word_each t tiling lowest s));
+              in_order = λ t tiling lowest s. in_order_found w complete few total currents word_flow levels word_right rights squares
+                  word_edges (many ∙ ap length again_is) word_each t tiling lowest s;
+            }

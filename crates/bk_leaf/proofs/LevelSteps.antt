@@ -1,0 +1,205 @@
+-- Levels found wire by wire, and edges found square by square; all of them small.
+use Rattle.std.specs.Int.{w128}
+use Rattle.std.specs.Prelude.{FitsSigned, nat_abs, negsuc, pos, ℤ, ◌+ℤ◌}
+use Rattle.std.proofs.Common.{List, [], ap, arith, drop, drop_of_length-le, inl, inr, length, length-set, refl, set, slice_index_or, subst, suc, sym, zero, ℕ, ◌*◌, ◌++◌, ◌+◌, ◌<◌, ◌^◌, ◌∙◌, ◌∷◌, ◌≡◌, ◌≤◌, ◌⊎◌}
+use Rattle.std.proofs.Math.Seq.{drop-cons}
+use Rattle.std.proofs.lemmas.Bool.{cases_lt}
+use Rattle.std.proofs.lemmas.Int.{ints}
+use Rattle.std.proofs.lemmas.List.{get_or-set_other, get_or-set_same, length-append}
+use Rattle.bk_laws.proofs.ListPlaces.{get_back, get_front}
+use Rattle.bk_tiling.specs.declared.Square.{Square}
+use Rattle.bk_candidate.specs.Candidate.{line_place, right_edges_from}
+use Rattle.bk_leaf.specs.Placing.{AreKnownLines, AreLevels, AreSmall, EndWithin, HasLevels, IsPlacedAt, IsSmall}
+
+same_or_not : (x y : ℕ) → (x ≡ y) ⊎ (x ≡ y → ⊥)
+same_or_not x y = cases (cases_lt x y) (cases_lt y x)
+  where
+    cases : (x < y) ⊎ (y ≤ x) → (y < x) ⊎ (x ≤ y) → (x ≡ y) ⊎ (x ≡ y → ⊥)
+    cases (inl h) k = inr (λ e. omega arith)
+    cases (inr h) (inl k) = inr (λ e. omega arith)
+    cases (inr h) (inr k) = inl (omega arith)
+
+pub small_sum : (a b : ℕ) (x y z : ℤ) → IsSmall a x → IsSmall b y → z ≡ x +ℤ y → IsSmall (a + b) z
+small_sum a b x y z s t e = (omega (arith, ints, s.0, t.0, e), omega (arith, ints, s.1, t.1, e))
+
+pub small_more : (a b : ℕ) (x : ℤ) → IsSmall a x → a ≤ b → IsSmall b x
+small_more a b x s h = (omega (arith, ints, s.0, h), omega (arith, ints, s.1, h))
+
+pub small_zero : (a : ℕ) → IsSmall a (pos 0)
+small_zero a = (omega (arith, ints), omega (arith, ints))
+
+pub small_abs : (most : ℕ) (z : ℤ) → IsSmall most z → nat_abs z ≤ most
+small_abs most (pos n) s = omega (arith, ints, s.1)
+small_abs most (negsuc n) s = omega (arith, ints, s.0)
+
+pub small_from : (most : ℕ) (z : ℤ) → nat_abs z ≤ most → IsSmall most z
+small_from most (pos n) h = (omega (arith, ints, h), omega (arith, ints, h))
+small_from most (negsuc n) h = (omega (arith, ints, h), omega (arith, ints, h))
+
+-- what is small fits 128 bits
+pub fits_small : (most : ℕ) (z : ℤ) → IsSmall most z → most ≤ 2 ^ 40 → FitsSigned w128 z
+fits_small most (pos n) s h = record { sfits = omega (arith, ints, s.1, h) }
+fits_small most (negsuc n) s h = record { sfits = omega (arith, ints, s.0, h) }
+
+-- ---- levels
+
+pub record AreLevelled (wires : List (ℕ × ℕ)) (currents levels : List ℤ) (i : ℕ) : Type 0 where
+  pub room : length levels ≡ 17
+  pub small : (v : ℕ) → v < 17 → IsSmall (i * 2 ^ 34) (slice_index_or levels v (pos 0))
+  pub right : (at : ℕ → ℤ) → AreLevels wires currents at
+      → (slice_index_or levels 0 (pos 0) ≡ at 0)
+      × ((j : ℕ) → j < i → slice_index_or levels (slice_index_or wires j (0, 0)).1 (pos 0) ≡ at (slice_index_or wires j (0, 0)).1)
+
+-- the level at which a wire begins is right
+starts_right : (wires : List (ℕ × ℕ)) (currents levels : List ℤ) (i : ℕ) → AreLevelled wires currents levels i → i < length wires
+    → (at : ℕ → ℤ) → AreLevels wires currents at
+    → (k : ℕ) → k ≤ i → k < length wires → slice_index_or levels (slice_index_or wires k (0, 0)).0 (pos 0) ≡ at (slice_index_or wires k (0, 0)).0
+starts_right wires currents levels i levelled within at are k h low = from (are.begun k low)
+  where
+    from : ((slice_index_or wires k (0, 0)).0 ≡ 0) ⊎ ((j : ℕ) × (j < k) × ((slice_index_or wires j (0, 0)).1 ≡ (slice_index_or wires k (0, 0)).0))
+        → slice_index_or levels (slice_index_or wires k (0, 0)).0 (pos 0) ≡ at (slice_index_or wires k (0, 0)).0
+    from (inl e) = subst (λ (v : ℕ). slice_index_or levels v (pos 0) ≡ at v) (sym e) (levelled.right at are).0
+    from (inr (j, less, e)) = subst (λ (v : ℕ). slice_index_or levels v (pos 0) ≡ at v) e ((levelled.right at are).1 j (omega (arith, less, h)))
+
+pub levelled_none : (wires : List (ℕ × ℕ)) (currents levels : List ℤ) → length levels ≡ 17
+    → ((v : ℕ) → slice_index_or levels v (pos 0) ≡ pos 0) → AreLevelled wires currents levels 0
+levelled_none wires currents levels room zeros = record {
+  room = room;
+  small = λ v h. subst (λ (z : ℤ). IsSmall (0 * 2 ^ 34) z) (sym (zeros v)) (small_zero (0 * 2 ^ 34));
+  right = λ at are. (zeros 0 ∙ sym are.top, λ j h. absurd (omega arith));
+}
+
+pub levelled_more : (wires : List (ℕ × ℕ)) (currents levels : List ℤ) (i from to : ℕ) (level : ℤ) → AreLevelled wires currents levels i
+    → i < length wires → length currents ≡ length wires → EndWithin 17 wires → AreSmall (2 ^ 34) currents
+    → from ≡ (slice_index_or wires i (0, 0)).0 → to ≡ (slice_index_or wires i (0, 0)).1
+    → level ≡ slice_index_or levels from (pos 0) +ℤ slice_index_or currents i (pos 0)
+    → AreLevelled wires currents (set levels to level) (i + 1)
+levelled_more wires currents levels i from to level levelled within many ends small f t e = record {
+  room = length-set levels to level ∙ levelled.room;
+  small = λ v h. small_at v h (same_or_not v to);
+  right = λ at are. (
+    right_at at are 0 (inl refl) (same_or_not 0 to),
+    λ j h. right_at at are (slice_index_or wires j (0, 0)).1 (inr (j, h, refl)) (same_or_not (slice_index_or wires j (0, 0)).1 to),
+  );
+}
+  where
+    room : to < length levels
+    room = omega (arith, levelled.room, t, (ends i within).1)
+
+    start : from < 17
+    start = omega (arith, f, (ends i within).0)
+
+    new : (v : ℕ) → v ≡ to → slice_index_or (set levels to level) v (pos 0) ≡ level
+    new v s = ap (λ (n : ℕ). slice_index_or (set levels to level) n (pos 0)) s ∙ get_or-set_same levels to level (pos 0) room
+
+    level_small : IsSmall ((i + 1) * 2 ^ 34) level
+    level_small = small_more (i * 2 ^ 34 + 2 ^ 34) ((i + 1) * 2 ^ 34) level
+        (small_sum (i * 2 ^ 34) (2 ^ 34) (slice_index_or levels from (pos 0)) (slice_index_or currents i (pos 0)) level
+        (levelled.small from start) (small i (omega (arith, within, many))) e) (omega arith)
+
+    small_at : (v : ℕ) → v < 17 → (v ≡ to) ⊎ (v ≡ to → ⊥) → IsSmall ((i + 1) * 2 ^ 34) (slice_index_or (set levels to level) v (pos 0))
+    small_at v h (inl s) = subst (λ (z : ℤ). IsSmall ((i + 1) * 2 ^ 34) z) (sym (new v s)) level_small
+    small_at v h (inr n) = subst (λ (z : ℤ). IsSmall ((i + 1) * 2 ^ 34) z) (sym (get_or-set_other levels to v level (pos 0) n))
+        (small_more (i * 2 ^ 34) ((i + 1) * 2 ^ 34) (slice_index_or levels v (pos 0)) (levelled.small v h) (omega arith))
+
+    level_right : (at : ℕ → ℤ) → AreLevels wires currents at → level ≡ at to
+    level_right at are = e ∙ (λ j. (ap (λ (v : ℕ). slice_index_or levels v (pos 0)) f
+        ∙ starts_right wires currents levels i levelled within at are i (omega arith) within) j +ℤ slice_index_or currents i (pos 0))
+        ∙ sym (are.drops i within) ∙ ap at (sym t)
+
+    right_at : (at : ℕ → ℤ) → AreLevels wires currents at → (v : ℕ) → (v ≡ 0)
+        ⊎ ((j : ℕ) × (j < i + 1) × (v ≡ (slice_index_or wires j (0, 0)).1)) → (v ≡ to) ⊎ (v ≡ to → ⊥)
+        → slice_index_or (set levels to level) v (pos 0) ≡ at v
+    right_at at are v known (inl s) = new v s ∙ level_right at are ∙ ap at (sym s)
+    right_at at are v (inl z) (inr n) = get_or-set_other levels to v level (pos 0) n
+        ∙ subst (λ (u : ℕ). slice_index_or levels u (pos 0) ≡ at u) (sym z) (levelled.right at are).0
+    right_at at are v (inr (j, h, z)) (inr n) = get_or-set_other levels to v level (pos 0) n
+        ∙ subst (λ (u : ℕ). slice_index_or levels u (pos 0) ≡ at u) (sym z) ((levelled.right at are).1 j (earlier (cases_lt j i)))
+      where
+        earlier : (j < i) ⊎ (i ≤ j) → j < i
+        earlier (inl l) = l
+        earlier (inr l) = let same : j ≡ i = omega (arith, h) in absurd (n (z ∙ ap (λ (k : ℕ). (slice_index_or wires k (0, 0)).1) same ∙ sym t))
+
+pub levelled_all : (wires : List (ℕ × ℕ)) (currents levels : List ℤ) (i : ℕ) → AreLevelled wires currents levels i → length wires ≤ i
+    → (at : ℕ → ℤ) → AreLevels wires currents at → HasLevels wires at levels
+levelled_all wires currents levels i levelled all at are k h = (from (are.begun k h), (levelled.right at are).1 k (omega (arith, h, all)))
+  where
+    from : ((slice_index_or wires k (0, 0)).0 ≡ 0) ⊎ ((j : ℕ) × (j < k) × ((slice_index_or wires j (0, 0)).1 ≡ (slice_index_or wires k (0, 0)).0))
+        → slice_index_or levels (slice_index_or wires k (0, 0)).0 (pos 0) ≡ at (slice_index_or wires k (0, 0)).0
+    from (inl e) = subst (λ (v : ℕ). slice_index_or levels v (pos 0) ≡ at v) (sym e) (levelled.right at are).0
+    from (inr (j, less, e)) = subst (λ (v : ℕ). slice_index_or levels v (pos 0) ≡ at v) e ((levelled.right at are).1 j (omega (arith, less, h, all)))
+
+-- ---- edges
+
+pub record AreEdges (sides : List (ℕ × ℕ)) (currents rights : List ℤ) (total : ℤ) (i : ℕ) : Type 0 where
+  pub many : length rights ≡ i
+  pub small : (k : ℕ) → k < i → IsSmall ((i + 1) * 2 ^ 34) (slice_index_or rights k (pos 0))
+  pub rest : right_edges_from total rights (drop i sides) (drop i currents) ≡ right_edges_from total [] sides currents
+
+pub edges_none : (sides : List (ℕ × ℕ)) (currents : List ℤ) (total : ℤ) → AreEdges sides currents [] total 0
+edges_none sides currents total = record { many = refl; small = λ k h. absurd (omega arith); rest = refl }
+
+pub place_small : (rights : List ℤ) (total : ℤ) (i line : ℕ) → IsSmall (2 ^ 34) total → length rights ≡ i
+    → ((k : ℕ) → k < i → IsSmall ((i + 1) * 2 ^ 34) (slice_index_or rights k (pos 0))) → line < i + 2
+    → IsSmall ((i + 1) * 2 ^ 34) (line_place total rights line)
+place_small rights total i zero small many each h = small_zero ((i + 1) * 2 ^ 34)
+place_small rights total i (suc zero) small many each h = small_more (2 ^ 34) ((i + 1) * 2 ^ 34) total small (omega arith)
+place_small rights total i (suc (suc k)) small many each h = each k (omega (arith, h))
+
+pub edges_more : (sides : List (ℕ × ℕ)) (currents rights : List ℤ) (total : ℤ) (i : ℕ) (right : ℤ) → AreEdges sides currents rights total i
+    → i < length sides → length currents ≡ length sides
+    → AreKnownLines sides → AreSmall (2 ^ 34) currents → IsSmall (2 ^ 34) total
+    → right ≡ line_place total rights (slice_index_or sides i (0, 0)).0 +ℤ slice_index_or currents i (pos 0)
+    → AreEdges sides currents (rights ++ right ∷ []) total (i + 1)
+edges_more sides currents rights total i right edges within long known small total_small e = record {
+  many = omega (arith, edges.many, length-append rights (right ∷ []));
+  small = λ k h. small_at k h (cases_lt k i);
+  rest = (λ j. right_edges_from total (rights ++ e j ∷ []) (drop (up j) sides) (drop (up j) currents))
+      ∙ (λ j. right_edges_from total rights (sym (drop-cons sides i (0, 0) within) j)
+      (sym (drop-cons currents i (pos 0) (omega (arith, within, long))) j)) ∙ edges.rest;
+}
+  where
+    up : i + 1 ≡ suc i
+    up = omega arith
+
+    right_small : IsSmall ((i + 1 + 1) * 2 ^ 34) right
+    right_small = small_more ((i + 1) * 2 ^ 34 + 2 ^ 34) ((i + 1 + 1) * 2 ^ 34) right
+        (small_sum ((i + 1) * 2 ^ 34) (2 ^ 34) (line_place total rights (slice_index_or sides i (0, 0)).0) (slice_index_or currents i (pos 0)) right
+        (place_small rights total i (slice_index_or sides i (0, 0)).0 total_small edges.many edges.small (known i within))
+        (small i (omega (arith, within, long))) e) (omega arith)
+
+    small_at : (k : ℕ) → k < i + 1 → (k < i) ⊎ (i ≤ k) → IsSmall ((i + 1 + 1) * 2 ^ 34) (slice_index_or (rights ++ right ∷ []) k (pos 0))
+    small_at k h (inl l) = subst (λ (z : ℤ). IsSmall ((i + 1 + 1) * 2 ^ 34) z) (sym (get_front rights (right ∷ []) k (pos 0) (omega (arith, l, edges.many))))
+        (small_more ((i + 1) * 2 ^ 34) ((i + 1 + 1) * 2 ^ 34) (slice_index_or rights k (pos 0)) (edges.small k l) (omega arith))
+    small_at k h (inr l) = subst (λ (z : ℤ). IsSmall ((i + 1 + 1) * 2 ^ 34) z)
+        (sym (get_back rights (right ∷ []) 0 k (pos 0) (omega (arith, l, h, edges.many)))) right_small
+
+pub edges_all : (sides : List (ℕ × ℕ)) (currents rights : List ℤ) (total : ℤ) (i : ℕ) → AreEdges sides currents rights total i
+    → length sides ≤ i → rights ≡ right_edges_from total [] sides currents
+edges_all sides currents rights total i edges all =
+    ap (λ (rest : List (ℕ × ℕ)). right_edges_from total rights rest (drop i currents)) (sym (drop_of_length-le sides all)) ∙ edges.rest
+
+-- ---- squares
+
+-- so many squares stand as they should
+pub record ArePlaced (sides wires : List (ℕ × ℕ)) (currents levels rights : List ℤ) (total : ℤ) (squares : List Square) (n : ℕ) : Type 0 where
+  pub many : length squares ≡ n
+  pub each : (k : ℕ) → k < n → IsPlacedAt sides wires currents levels rights total k (slice_index_or squares k (record { x = 0; y = 0; s = 0 }))
+
+pub placed_none : (sides wires : List (ℕ × ℕ)) (currents levels rights : List ℤ) (total : ℤ) → ArePlaced sides wires currents levels rights total [] 0
+placed_none sides wires currents levels rights total = record { many = refl; each = λ k h. absurd (omega arith) }
+
+pub placed_more : (sides wires : List (ℕ × ℕ)) (currents levels rights : List ℤ) (total : ℤ) (squares : List Square) (n : ℕ) (q : Square)
+    → ArePlaced sides wires currents levels rights total squares n
+    → IsPlacedAt sides wires currents levels rights total n q → ArePlaced sides wires currents levels rights total (squares ++ q ∷ []) (n + 1)
+placed_more sides wires currents levels rights total squares n q placed new =
+    record { many = omega (arith, placed.many, length-append squares (q ∷ [])); each = λ k h. each k h (cases_lt k n) }
+  where
+    each : (k : ℕ) → k < n + 1 → (k < n) ⊎ (n ≤ k)
+        → IsPlacedAt sides wires currents levels rights total k (slice_index_or (squares ++ q ∷ []) k (record { x = 0; y = 0; s = 0 }))
+    each k h (inl l) = get_front squares (q ∷ []) k (record { x = 0; y = 0; s = 0 }) (omega (arith, l, placed.many)) ∙ placed.each k l
+    each k h (inr l) = get_back squares (q ∷ []) 0 k (record { x = 0; y = 0; s = 0 }) (omega (arith, l, h, placed.many))
+        ∙ subst (λ (i : ℕ). IsPlacedAt sides wires currents levels rights total i q) same new
+      where
+        same : n ≡ k
+        same = omega (arith, l, h)

@@ -1,0 +1,5 @@
+pub mod SidedMoves
+pub mod WordWires
+pub mod LevelSteps
+pub mod Leaves
+pub mod LeafRun

@@ -1,0 +1,12 @@
+//! What a complete word of the search by nets makes: the one tiling that it can be a signed word of.
+#![tactic(auto)]
+
+mod board;
+mod levels;
+mod lines;
+mod placing;
+#[cfg(test)]
+mod tests;
+
+pub use board::Board;
+pub use placing::leaf;
