@@ -36,7 +36,7 @@ fn counted(alloc: Global, order: u8) -> (u64, u64)
     walked::<Brand>(alloc, order, Blank::new(1))
 }
 
-// How many members a walk of the order gives before it ends or names a wide word, and how many moves it pushes.
+// How many members a walk of the order gives, and how many moves it pushes.
 fn walked<L: Ledger>(alloc: Global, order: u8, blank: Blank) -> (u64, u64)
     requires least { 2 ≤ order }
     requires most { order ≤ 16 }
@@ -49,7 +49,8 @@ fn walked<L: Ledger>(alloc: Global, order: u8, blank: Blank) -> (u64, u64)
     for members in 0..MOST_MEMBERS {
         match walk.advance(&mut steps) {
             Some(Ok(_)) => {}
-            Some(Err(_)) | None => return (members, walk.pushes()),
+            Some(Err(_)) => unreachable!(),
+            None => return (members, walk.pushes()),
         }
     }
     (MOST_MEMBERS, walk.pushes())
