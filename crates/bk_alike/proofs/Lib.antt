@@ -1,0 +1,3 @@
+pub mod AlikeExamples
+pub mod GroupingLaws
+pub mod Storing

@@ -1,0 +1,12 @@
+//! An item that is kept.
+
+use bk_tiling::Tiling;
+
+/// An item: the number of its line, and its canonical tiling.
+#[derive(Drop)]
+pub struct KeptItem {
+    /// The number of its line, from 1.
+    pub line: u64,
+    /// Its canonical tiling.
+    pub tiling: Tiling,
+}

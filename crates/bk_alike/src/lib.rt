@@ -1,0 +1,184 @@
+//! Canonical tilings of one size, put together.
+#![tactic(auto)]
+
+ghost use Rattle.std.specs.List.{position_or_len};
+ghost use Rattle.std.specs.Prelude.{OnErr, OnOk, [], length, map, slice_get, ◌++◌, ◌<◌, ◌∷◌, ◌≡◌, ◌≤◌, ◌↔◌};
+ghost use Rattle.bk_tiling.specs.Tiling.{Tiling as Tiled};
+ghost use Rattle.bk_sym.specs.Canonical.{IsCanonicalOf};
+ghost use Rattle.bk_alike.specs.Alike.{alike_groups, size_eq, sizes, with_size};
+ghost use Rattle.bk_alike.specs.Grouped.{with_place};
+
+mod item;
+#[cfg(test)]
+mod tests;
+
+use bk_sym::canonical;
+use bk_tiling::Tiling;
+use indexmap::IndexSet;
+pub use item::KeptItem;
+use std::alloc::Global;
+use std::marker::Model;
+
+// At most so many items are kept.
+const MOST_ITEMS: usize = 16_384;
+
+/// Why an item is not kept.
+#[derive(Clone, Copy, Debug, PartialEq, Eq)]
+pub enum AddFault {
+    /// 16,384 items are kept.
+    Full,
+    /// Memory is wanting.
+    NoMemory,
+}
+
+/// Items with their canonical tilings, grouped by the sizes of these. It is seen as the list of the items.
+#[derive(Drop)]
+pub struct Alike {
+    items: Vec<KeptItem>,
+    sizes: IndexSet<(u64, u64)>,
+    groups: Vec<Vec<u32>>,
+    alloc: Global,
+}
+
+impl Model for Alike {
+    ghost use Rattle.std.specs.Prelude.{List, map};
+    ghost use Rattle.bk_alike.specs.declared.item.KeptItem.{KeptItem};
+
+    ghost Value = { List KeptItem };
+
+    ghost use Rattle.bk_alike.specs.Grouped.{IsGrouped};
+
+    ghost view = { λ a. a.items.items };
+
+    ghost invariant = { λ a. IsGrouped a.items.items a.sizes.keys (map (λ group. group.items) a.groups.items) };
+}
+
+impl Alike {
+    /// No items. It takes no memory.
+    pub fn new(alloc: Global) -> Alike
+        ensures { result ≡ [] }
+    {
+        Alike {
+            items: Vec::new(alloc),
+            sizes: IndexSet::new(alloc),
+            groups: Vec::new(alloc),
+            alloc,
+        }
+    }
+
+    /// Keeps the canonical tiling of a tiling with its line. `Full` comes exactly where 16,384 items are kept; a refusal
+    /// changes nothing.
+    pub fn add(&mut self, line: u64, tiling: &Tiling) -> Result<(), AddFault>
+        ensures full { result ≡ Err AddFault.Full ↔ (16_384 ≤ length self.old) }
+        ensures kept { OnOk result ((c : Tiled) × IsCanonicalOf tiling.now c × (self.new ≡ self.old ++ record { line = line; tiling = c } ∷ [])) }
+        ensures unchanged { OnErr result (self.new ≡ self.old) }
+    {
+        if self.items.len() >= MOST_ITEMS {
+            return Err(AddFault::Full);
+        }
+        let tiling = canonical(tiling);
+        let size = (tiling.width(), tiling.height());
+        let place = self.items.len() as u32;
+        if self.items.reserve(1).is_err() {
+            return Err(AddFault::NoMemory);
+        }
+        match put_in_group(self.alloc, &mut self.sizes, &mut self.groups, size, place) {
+            Ok(()) => {
+                let _fits = self.items.push(KeptItem { line, tiling });
+                Ok(())
+            }
+            Err(NoRoom) => Err(AddFault::NoMemory),
+        }
+    }
+
+    /// How many items are kept.
+    pub fn len(&self) -> usize
+        ensures value { result ≡ length self.now }
+        ensures few { length self.now ≤ 16_384 }
+    {
+        self.items.len()
+    }
+
+    /// The item at a place, from 0.
+    pub fn item(&self, i: usize) -> (u64, &Tiling)
+        requires { i < length self.now }
+        ensures { (item : _) × (slice_get self.now i ≡ Some item) × (result.0 ≡ item.line) × (result.1.now ≡ item.tiling) }
+    {
+        let item = &self.items[i];
+        (item.line, &item.tiling)
+    }
+
+    /// How many groups there are: one for each size.
+    pub fn groups(&self) -> usize
+        ensures { result ≡ length (alike_groups self.now) }
+    {
+        self.groups.len()
+    }
+
+    /// The size of a group. Groups are numbered from 0 in the order of their first items.
+    pub fn size(&self, g: usize) -> (u64, u64)
+        requires { g < length (alike_groups self.now) }
+        ensures { slice_get (sizes self.now) g ≡ Some result }
+    {
+        match self.sizes.get_index(g) {
+            Some(size) => *size,
+            None => unreachable!(),
+        }
+    }
+
+    /// The items of a group, as places from 0, in the order of their lines.
+    pub fn members(&self, g: usize) -> &[u32]
+        requires { g < length (alike_groups self.now) }
+        ensures { slice_get (alike_groups self.now) g ≡ Some result.now }
+    {
+        let group = &self.groups[g];
+        group.as_slice()
+    }
+}
+
+// Memory is wanting.
+#[derive(Clone, Copy, Drop)]
+struct NoRoom;
+
+// Puts a place into the group of a size, or into a new one at the end.
+fn put_in_group(
+    alloc: Global,
+    sizes: &mut IndexSet<(u64, u64)>,
+    groups: &mut Vec<Vec<u32>>,
+    size: (u64, u64),
+    place: u32,
+) -> Result<(), NoRoom>
+    requires { length groups.old.items ≡ length sizes.old.keys }
+    ensures sizes { OnOk result (sizes.new.keys ≡ with_size sizes.old.keys size) }
+    ensures groups { OnOk result (map (λ group. group.items) groups.new.items
+        ≡ with_place (map (λ group. group.items) groups.old.items) (position_or_len (size_eq size) sizes.old.keys) place) }
+    ensures same_sizes { OnErr result (sizes.new.keys ≡ sizes.old.keys) }
+    ensures same_groups { OnErr result (map (λ group. group.items) groups.new.items ≡ map (λ group. group.items) groups.old.items) }
+{
+    match sizes.get_index_of(&size) {
+        Some(g) => put_in(groups, g, place),
+        None => {
+            let mut group = Vec::new(alloc);
+            if group.push(place).is_err() || groups.reserve(1).is_err() {
+                return Err(NoRoom);
+            }
+            if sizes.insert(size).is_err() {
+                return Err(NoRoom);
+            }
+            let _fits = groups.push(group);
+            Ok(())
+        }
+    }
+}
+
+// Puts a place into a group.
+fn put_in(groups: &mut Vec<Vec<u32>>, g: usize, place: u32) -> Result<(), NoRoom>
+    requires { g < length groups.old.items }
+    ensures put { OnOk result (map (λ group. group.items) groups.new.items ≡ with_place (map (λ group. group.items) groups.old.items) g place) }
+    ensures same { OnErr result (map (λ group. group.items) groups.new.items ≡ map (λ group. group.items) groups.old.items) }
+{
+    match groups[g].push(place) {
+        Ok(()) => Ok(()),
+        Err(_) => Err(NoRoom),
+    }
+}
