@@ -10,6 +10,7 @@ ghost use Rattle.bk_tiling.specs.Scale.{moved_square};
 ghost use Rattle.bk_tiling.specs.Tiling.{order, sides_of};
 ghost use Rattle.bk_simple.specs.Neighbours.{IsFirstTwice, NoneTwice};
 ghost use Rattle.bk_simple.specs.Simple.{IsPerfect};
+ghost use Rattle.bk_pair.specs.PairTest.{TheTestsDecide};
 ghost use Rattle.bk_pair.specs.Pair.{ArePair, CanBeLaid, IsLayingFault, IsLeastShared, IsPairFault, IsSharedSide, joined_square, pair_sides};
 
 #[cfg(test)]
@@ -64,6 +65,12 @@ pub fn join(a: &Tiling, b: &Tiling) -> Result<Tiling, PairFault>
         },
     }
 }
+
+/// The tests that the definitions of pairs of a list compute with decide whether two tilings are laid together, and whether
+/// they join.
+pub fn the_tests_decide()
+    ensures { TheTestsDecide }
+{}
 
 // Why the two are not laid together.
 fn laying_fault(a: &Tiling, b: &Tiling) -> Option<PairFault>

@@ -1,0 +1,25 @@
+-- Whether two tilings are laid together, and whether they join to a perfect square, as tests.
+use Rattle.std.specs.List.{list_any}
+use Rattle.std.specs.Prelude.{Bool, List, [], nat_eq, nat_le, not, true, ℕ, ◌&&◌, ◌+◌, ◌==◌, ◌∷◌, ◌↔◌, ◌≡◌}
+use Rattle.bk_tiling.specs.Tiling.{Tiling, order}
+use Rattle.bk_pair.specs.Pair.{ArePair, CanBeLaid, pair_sides}
+
+-- no number stands twice
+abbrev pub no_twice : List ℕ → Bool
+no_twice [] = true
+no_twice (x ∷ xs) = not (list_any (λ y. y == x) xs) && no_twice xs
+
+-- the two can be laid together
+abbrev pub can_be_laid : Tiling → Tiling → Bool
+can_be_laid a b = (nat_eq a.width b.width && nat_eq a.height b.height)
+    && (not (nat_eq a.width a.height)
+    && (nat_le (order a + order b + 2) 200
+    && (nat_le a.width 999_999_999_999_999 && nat_le a.height 999_999_999_999_999)))
+
+-- the two join to a perfect square
+abbrev pub are_pair : Tiling → Tiling → Bool
+are_pair a b = can_be_laid a b && no_twice (pair_sides a b)
+
+-- the tests decide: statements alone, which are proved apart
+abbrev pub TheTestsDecide : Type 0
+TheTestsDecide = (a b : Tiling) → ((can_be_laid a b ≡ true) ↔ CanBeLaid a b) × ((are_pair a b ≡ true) ↔ ArePair a b)
