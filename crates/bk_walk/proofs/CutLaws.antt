@@ -104,17 +104,24 @@ pub single_cut : (n : ℕ) (class : Class) (front : Word) (m : Move) → m.count
     → IsCut n class front m (move_after (front_signs 0 m))
 single_cut n class front m one valley = cut_by_front n class front m 0 (λ other legal count b. one_under_one_is_barren n class front other (count ∙ one) valley)
 
-pub first_cut : (n : ℕ) (class : Class) (m : Move) → m.count ≡ 2 → m.signs ≡ Above ∷ [] → IsLegalMove (outline_of []) m → IsCut n class [] m (move_after m)
-first_cut n class m two signs legal = subst (λ (f : Move). IsCut n class [] m (move_after f)) (whole_front m)
-    (cut_by_front n class [] m (length m.signs) barren)
+-- a move by itself
+pub one_cut : (n : ℕ) (class : Class) (front : Word) (m : Move) → IsLegalMove (outline_of front) m → IsBarren n class (front ++ m ∷ [])
+    → IsCut n class front m (move_after m)
+one_cut n class front m legal barren = subst (λ (f : Move). IsCut n class front m (move_after f)) (whole_front m)
+    (cut_by_front n class front m (length m.signs) itself)
   where
-    barren : (other : Move) → IsLegalMove (outline_of []) other → other.count ≡ m.count → Begins (take (length m.signs) m.signs) other.signs
-        → IsBarren n class ([] ++ other ∷ [])
-    barren other lawful count b = subst (λ (k : Move). IsBarren n class (k ∷ [])) (sym same) (shorter_first_is_barren n class)
+    itself : (other : Move) → IsLegalMove (outline_of front) other → other.count ≡ m.count → Begins (take (length m.signs) m.signs) other.signs
+        → IsBarren n class (front ++ other ∷ [])
+    itself other lawful count b = subst (λ (k : Move). IsBarren n class (front ++ k ∷ [])) (sym same) barren
       where
-        same : other ≡ record { count = 2; signs = Above ∷ [] }
-        same = one_legal (outline_of []) m other legal lawful count
-            (subst (λ (l : List Sign). Begins l other.signs) (take-length m.signs) b) ∙ move_from_parts m (record { count = 2; signs = Above ∷ [] }) two signs
+        same : other ≡ m
+        same = one_legal (outline_of front) m other legal lawful count
+            (subst (λ (l : List Sign). Begins l other.signs) (take-length m.signs) b)
+
+pub first_cut : (n : ℕ) (class : Class) (m : Move) → m.count ≡ 2 → m.signs ≡ Above ∷ [] → IsLegalMove (outline_of []) m → IsCut n class [] m (move_after m)
+first_cut n class m two signs legal = one_cut n class [] m legal
+    (subst (λ (k : Move). IsBarren n class (k ∷ [])) (sym (move_from_parts m (record { count = 2; signs = Above ∷ [] }) two signs))
+    (shorter_first_is_barren n class))
 
 one_sign : (signs : List Sign) → length signs ≡ 1 → slice_index_or signs 0 Above ≡ Above → signs ≡ Above ∷ []
 one_sign [] h e = absurd (omega arith)

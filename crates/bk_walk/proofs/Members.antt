@@ -1,6 +1,5 @@
 -- A member is in lowest terms, so a word has at most one.
 use Rattle.std.proofs.Common.{subst, sym, ℕ, ◌≡◌}
-use Prim.Native.Nat.{◌∣◌}
 use Rattle.bk_tiling.specs.Scale.{IsPrimitiveTiling}
 use Rattle.bk_tiling.specs.Tiling.{IsTiling, Tiling}
 use Rattle.bk_word.specs.Word.{Word, order_of}

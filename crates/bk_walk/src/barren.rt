@@ -20,7 +20,39 @@ use bk_word::{Class, Move, Sign};
 
 // Passes over a legal move by which no member's word of the order and the class goes on, and over others of which this is as
 // plain. False where it isn't plain; the move is then as it was.
-pub(crate) fn skip(skel: &Skel, class: Class, order: u8, m: &mut Move) -> bool
+pub(crate) fn skip(lined: &LinedSkel, class: Class, order: u8, m: &mut Move) -> bool
+    requires legal { IsLegalMove (outline_of lined.now) m.old }
+    requires count { m.old.count < MOST_COUNT }
+    requires signs { length m.old.signs ≤ MOST_SIGNS }
+    requires small { order_of lined.now + m.old.count ≤ order }
+    ensures cut { IsTrue result → IsCut order class lined.now m.old m.new }
+    ensures near { IsNear m.old m.new }
+    ensures kept { result ≡ false → m.new ≡ m.old }
+{
+    if skip_by_signs(lined.skel(), class, order, m) {
+        return true;
+    }
+    skip_by_sides(lined, class, m)
+}
+
+// Passes over a move that the sides of the first squares rule out.
+fn skip_by_sides(lined: &LinedSkel, class: Class, m: &mut Move) -> bool
+    requires legal { IsLegalMove (outline_of lined.now) m.old }
+    requires count { m.old.count < MOST_COUNT }
+    requires signs { length m.old.signs ≤ MOST_SIGNS }
+    ensures cut { IsTrue result → (n : ℕ) → IsCut n class lined.now m.old m.new }
+    ensures near { IsNear m.old m.new }
+    ensures kept { result ≡ false → m.new ≡ m.old }
+{
+    if !lined.rules_out(m, class) {
+        return false;
+    }
+    pass(m);
+    true
+}
+
+// The same, by counts and signs alone.
+fn skip_by_signs(skel: &Skel, class: Class, order: u8, m: &mut Move) -> bool
     requires legal { IsLegalMove (outline_of skel.now) m.old }
     requires count { m.old.count < MOST_COUNT }
     requires signs { length m.old.signs ≤ MOST_SIGNS }

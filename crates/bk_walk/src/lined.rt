@@ -1,36 +1,39 @@
-//! Words that are played and taken back, with the vertical lines that run from the top.
+//! Words that are played and taken back, with the vertical lines that run from the top and the equations between first sides.
 #![tactic(auto)]
 
-ghost use Rattle.std.specs.Prelude.{[], length, take, ◌++◌, ◌+◌, ◌-◌, ◌<◌, ◌∷◌, ◌≡◌, ◌≤◌};
+ghost use Rattle.std.specs.Prelude.{IsTrue, [], length, take, ℕ, ◌++◌, ◌+◌, ◌-◌, ◌<◌, ◌∷◌, ◌≡◌, ◌≤◌};
 ghost use Rattle.bk_word.specs.Outline.{IsLegalMove};
 ghost use Rattle.bk_word.specs.Play.{IsLegal, outline_of};
 ghost use Rattle.bk_word.specs.Word.{order_of};
+ghost use Rattle.bk_barren.specs.Cuts.{IsBarren};
 ghost use Rattle.bk_bounds.specs.VerticalCut.{line_bound_of};
 
 use crate::lines::{line_bound, push_lines, valley_on_line};
 use arrayvec::ArrayVec;
+use bk_form_cuts::Tracing;
 use bk_skel::{Skel, Steps};
-use bk_word::{LARGEST_ORDER, Move};
+use bk_word::{Class, LARGEST_ORDER, Move};
 use std::marker::Model;
 use std::sync::ledger::Ledger;
 
-/// A skeleton, and of each of its squares whether its left edge lies on a vertical line that runs from the top between squares
-/// of the first move. It is seen as the list of its moves. (Own.)
+/// A skeleton, of each of its squares whether its left edge lies on a vertical line that runs from the top between squares of
+/// the first move, and what is known of the sides of its first squares. It is seen as the list of its moves. (Own.)
 #[derive(Drop)]
 pub(crate) struct LinedSkel {
     skel: Skel,
     lines: ArrayVec<bool, LARGEST_ORDER>,
+    sides: Tracing,
 }
 
 impl Model for LinedSkel {
     ghost use Rattle.bk_word.specs.Word.{Word as Moves};
-    ghost use Rattle.bk_bounds.specs.VerticalCut.{IsLinedWord};
+    ghost use Rattle.bk_walk.specs.LinedWords.{IsKeptLined};
 
     ghost Value = { Moves };
 
     ghost view = { λ s. s.skel };
 
-    ghost invariant = { λ s. IsLinedWord s.skel s.lines.items };
+    ghost invariant = { λ s. IsKeptLined s.skel s.lines.items s.sides };
 }
 
 impl LinedSkel {
@@ -41,6 +44,7 @@ impl LinedSkel {
         LinedSkel {
             skel: Skel::new(),
             lines: ArrayVec::new(),
+            sides: Tracing::new(),
         }
     }
 
@@ -63,6 +67,7 @@ impl LinedSkel {
         let is_first = skel.moves() == 0;
         let is_on = valley_on_line(skel.signs(), skel.sizes(), skel.ends(), &self.lines);
         push_lines(&mut self.lines, is_on, is_first, usize::from(m.count));
+        self.sides.push(&self.skel, m);
         self.skel.push(m, steps);
     }
 
@@ -71,8 +76,17 @@ impl LinedSkel {
         requires { 0 < length self.old }
         ensures { self.new ≡ take (length self.old - 1) self.old }
     {
+        self.sides.pop(&self.skel);
         self.skel.pop();
         self.lines.truncate(self.skel.order());
+    }
+
+    /// Whether a legal move after these moves is known to be ruled out by the sides of the first squares.
+    pub(crate) fn rules_out(&self, m: &Move, class: Class) -> bool
+        requires { IsLegalMove (outline_of self.now) m.now }
+        ensures { IsTrue result → (n : ℕ) → IsBarren n class (self.now ++ m.now ∷ []) }
+    {
+        self.sides.rules_out(&self.skel, m, class)
     }
 
     /// The closing bound after the moves, where a segment that a line bounds or ended on has one closing more.

@@ -88,7 +88,7 @@ fn take_turn<L: Ledger>(
             Turn::End
         };
     }
-    if skip(lined.skel(), class, order, next) {
+    if skip(lined, class, order, next) {
         return Turn::On;
     }
     play(lined, next, pushes, steps);

@@ -1,9 +1,8 @@
 use Rattle.std.proofs.Common.{[], ap, arith, length, subst, sym, ℕ, ◌++◌, ◌+◌, ◌-◌, ◌∙◌, ◌∷◌, ◌≡◌, ◌≤◌}
 use Rattle.bk_word.specs.Outline.{IsLegalMove}
 use Rattle.bk_word.specs.Play.{outline_of}
-use Rattle.bk_word.specs.Word.{Move, Word, order_of}
+use Rattle.bk_word.specs.Word.{Move, order_of}
 use Rattle.bk_walk.proofs.Standing.{turn_climbs, turn_cuts, turn_ends, turn_goes_down, turn_least, turn_reaches, turn_signs, turn_turns_back}
-use Rattle.bk_walk.specs.MoveCuts.{IsCut}
 use Rattle.bk_tree.specs.NextMove.{fitted, open_sides}
 use Rattle.bk_walk.specs.Search.{Leads}
 use Rattle.bk_walk.specs.declared.search.Turn.{Turn}
@@ -28,9 +27,8 @@ returns-else-climb-clause-leads g c = (
 )
 
 pub skip-requires-clause-legal : goal.skip-requires-clause-legal
-skip-requires-clause-legal g c = subst (λ (w : Word). IsLegalMove (outline_of w) c.fit.new.m) (sym c.skel-2.ensures.value)
-    (turn_least c.args.order c.args.class c.args.lined.now c.args.next.now c.fit.new.m c.requires.order c.requires.stand
-    (c.fit.ensures ∙ ap (λ k. fitted k c.args.next.now) c.open_sides.ensures.value)).legal
+skip-requires-clause-legal g c = (turn_least c.args.order c.args.class c.args.lined.now c.args.next.now c.fit.new.m c.requires.order
+    c.requires.stand (c.fit.ensures ∙ ap (λ k. fitted k c.args.next.now) c.open_sides.ensures.value)).legal
 
 pub skip-requires-clause-signs : goal.skip-requires-clause-signs
 skip-requires-clause-signs g c =
@@ -49,8 +47,7 @@ pub returns-then-skip-clause-leads : goal.returns-then-skip-clause-leads
 returns-then-skip-clause-leads g c = turn_cuts c.args.order c.args.class c.args.lined.now c.args.next.now c.fit.new.m c.requires.order
     c.requires.stand (c.fit.ensures ∙ ap (λ k. fitted k c.args.next.now) c.open_sides.ensures.value)
     c.skip.new.m (c.args.steps.now - c.args.steps.now)
-    (subst (λ (w : Word). IsCut c.args.order c.args.class w c.fit.new.m c.skip.new.m) c.skel-2.ensures.value
-    (c.skip.ensures.cut c.if-skip.true)) c.skip.ensures.near
+    (c.skip.ensures.cut c.if-skip.true) c.skip.ensures.near
     (let v = c.order.ensures.value ∙ ap order_of c.skel.ensures.value in let count = ap (λ (m : Move). m.count) c.next.view_is in
     omega (arith, c.if-order-from.false, c.from.ensures, c.from-2.ensures)) (omega arith)
 

@@ -1,0 +1,19 @@
+use Rattle.std.proofs.Common.{inl, inr, refl, subst, sym}
+use Rattle.bk_forms.specs.FormLaws.{MeetsEquations}
+use Rattle.bk_forms.specs.Form.{Form as SeenForm}
+use Rattle.std.proofs.Common.{List}
+use Rattle.bk_forms.specs.Reduction.{addition}
+use Rattle.bk_form_cuts.proofs.Asked.{keeps_after}
+use Rattle.bk_form_cuts.proofs.asking.is_contradiction.Goals as goal
+
+pub returns-in-Added : goal.returns-in-Added
+returns-in-Added c = record {
+  meets = λ sides meets same. record {
+    meets = elim c.in-Added.is [
+      | inl h ↦ (c.add_equation.ensures.added h sides).1 (meets, same)
+      | inr h ↦ subst (λ (k : List SeenForm). MeetsEquations 16 k sides) (sym (c.add_equation.ensures.unchanged (λ e. cc (h, e)))) meets
+    ];
+    none = refl;
+  };
+  first = keeps_after c.args.ledger.now c.add_equation.new.self (addition c.args.ledger.now c.args.left.now c.args.right.now) c.add_equation.ensures.kept;
+}

@@ -1,0 +1,10 @@
+-- The cut by forms: moves that are ruled out in a class are barren in it.
+use Rattle.std.specs.Prelude.{ℕ}
+use Rattle.bk_word.specs.Word.{Word}
+use Rattle.bk_word.specs.declared.Class.{Class}
+use Rattle.bk_barren.specs.Cuts.{IsBarren}
+use Rattle.bk_form_cuts.specs.Trace.{IsRuledOut}
+
+-- no member's word begins with moves that are ruled out in its class
+abbrev pub RuledOutIsBarren : Type 0
+RuledOutIsBarren = (n : ℕ) (class : Class) (front : Word) → IsRuledOut class front → IsBarren n class front

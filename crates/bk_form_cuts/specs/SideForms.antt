@@ -1,0 +1,39 @@
+-- Forms over the sides of a word's squares: the levels of bottoms and of open segments, and sums of sides. The side of
+-- square n, from 1, stands in column n - 1.
+use Rattle.std.specs.Prelude.{List, [], cond, fold, map, pos, replicate, slice_index_or, ℕ, ◌++◌, ◌+◌, ◌-◌, ◌∷◌}
+use Rattle.bk_word.specs.Outline.{Outline, has_left_wall, has_right_wall, valley_of, valley_place}
+use Rattle.bk_word.specs.Play.{new_squares}
+use Rattle.bk_word.specs.Word.{Move}
+use Rattle.bk_forms.specs.Form.{Form, with_side}
+
+-- the form of zeros
+abbrev pub zero_form : Form
+zero_form = replicate 16 (pos 0)
+
+-- the sum of the sides of the squares with these numbers
+abbrev pub sum_of_sides : List ℕ → Form
+sum_of_sides numbers = fold (λ form n. with_side form (n - 1)) zero_form numbers
+
+-- the level of a segment, where the levels of all bottoms are given: the top's is 0, any other has that of its first
+-- square's bottom
+abbrev pub level_of : List Form → List ℕ → Form
+level_of bottoms [] = zero_form
+level_of bottoms (n ∷ numbers) = slice_index_or bottoms (n - 1) zero_form
+
+-- the levels of the bottoms of the squares that a move hangs: each its side below the valley
+abbrev pub new_bottoms : Outline → Move → List Form → List Form
+new_bottoms o m bottoms = map (λ n. with_side (level_of bottoms (valley_of o)) (n - 1)) (new_squares o m)
+
+-- the level of the segment left of the valley, where there is one
+abbrev pub left_level : Outline → List Form → List Form
+left_level o bottoms = cond (has_left_wall o) []
+    (level_of bottoms (slice_index_or o.segments (valley_place o.signs - 1) []) ∷ [])
+
+-- the level of the segment right of it
+abbrev pub right_level : Outline → List Form → List Form
+right_level o bottoms = cond (has_right_wall o) []
+    (level_of bottoms (slice_index_or o.segments (valley_place o.signs + 1) []) ∷ [])
+
+-- the levels that a move's signs compare: of the new bottoms, between those of the segments beside the valley
+abbrev pub levels_along : Outline → Move → List Form → List Form
+levels_along o m bottoms = left_level o bottoms ++ new_bottoms o m bottoms ++ right_level o bottoms

@@ -1,0 +1,158 @@
+//! What a ledger answers to a move: equations that contradict those before, and comparisons that are known to be others.
+#![tactic(auto)]
+
+ghost use Rattle.std.specs.Prelude.{List, [], false, length, true, ℕ, ◌+◌, ◌<◌, ◌≡◌, ◌≢◌, ◌≤◌};
+ghost use Rattle.bk_word.specs.declared.Sign.{Sign};
+ghost use Rattle.bk_forms.specs.Form.{form_value};
+ghost use Rattle.bk_forms.specs.FormLaws.{Compares, MeetsEquations};
+ghost use Rattle.bk_form_cuts.specs.Asking.{Answers, AreApart, KeepsFirst};
+ghost use Rattle.bk_form_cuts.specs.SideForms.{sum_of_sides as sum_seen};
+ghost use Rattle.bk_form_cuts.specs.SidesOfTilings.{AgreeWith};
+
+use crate::levels::{level_at, sum_of_sides};
+use bk_forms::{Compared, Form, Kept, Ledger};
+use bk_word::Sign;
+
+// Adds the equation of the squares that end on a valley and those that hang under it, and those of the levels beside each sign
+// even. Whether one contradicts the equations before it.
+pub(crate) fn contradicts(
+    ledger: &mut Ledger,
+    valley: &[u8],
+    numbers: &[u8],
+    levels: &[Form],
+    signs: &[Sign],
+) -> bool
+    requires few { length valley.now ≤ 200 }
+    requires most { length numbers.now ≤ 200 }
+    ensures meets { (sides : List ℕ) → MeetsEquations 16 ledger.old sides
+        → (valley.now ≢ [] → form_value (sum_seen valley.now) sides ≡ form_value (sum_seen numbers.now) sides)
+        → AgreeWith signs.now levels.now sides → Answers ledger.new sides result }
+    ensures first { KeepsFirst ledger.old ledger.new }
+{
+    if contradicts_widths(ledger, valley, numbers) {
+        return true;
+    }
+    contradicts_signs(ledger, levels, signs)
+}
+
+// Adds the equation of the squares that end on a valley and those that hang under it, where the valley has squares. Whether it
+// contradicts the equations before.
+fn contradicts_widths(ledger: &mut Ledger, valley: &[u8], numbers: &[u8]) -> bool
+    requires few { length valley.now ≤ 200 }
+    requires most { length numbers.now ≤ 200 }
+    ensures meets { (sides : List ℕ) → MeetsEquations 16 ledger.old sides
+        → (valley.now ≢ [] → form_value (sum_seen valley.now) sides ≡ form_value (sum_seen numbers.now) sides)
+        → Answers ledger.new sides result }
+    ensures first { KeepsFirst ledger.old ledger.new }
+{
+    if valley.is_empty() {
+        return false;
+    }
+    is_contradiction(ledger, &sum_of_sides(valley), &sum_of_sides(numbers))
+}
+
+// Adds an equation. Whether it contradicts those before.
+fn is_contradiction(ledger: &mut Ledger, left: &Form, right: &Form) -> bool
+    ensures meets { (sides : List ℕ) → MeetsEquations 16 ledger.old sides
+        → form_value left.now sides ≡ form_value right.now sides → Answers ledger.new sides result }
+    ensures first { KeepsFirst ledger.old ledger.new }
+{
+    match ledger.add_equation(left, right) {
+        Kept::Contradiction => true,
+        Kept::Added | Kept::GaveUp => false,
+    }
+}
+
+// Adds the equations of the levels beside each sign even. Whether one contradicts those before.
+fn contradicts_signs(ledger: &mut Ledger, levels: &[Form], signs: &[Sign]) -> bool
+    ensures meets { (sides : List ℕ) → MeetsEquations 16 ledger.old sides → AgreeWith signs.now levels.now sides
+        → Answers ledger.new sides result }
+    ensures first { KeepsFirst ledger.old ledger.new }
+{
+    for (i, sign) in signs.iter().enumerate() {
+        if contradicts_sign(
+            ledger,
+            *sign,
+            &level_at(levels, i),
+            &level_at(levels, i + 1),
+        ) {
+            return true;
+        }
+    }
+    false
+}
+
+// Adds the equation of the levels beside a sign even. Whether it contradicts those before.
+fn contradicts_sign(ledger: &mut Ledger, sign: Sign, left: &Form, right: &Form) -> bool
+    ensures meets { (sides : List ℕ) → MeetsEquations 16 ledger.old sides
+        → Compares sign (form_value left.now sides) (form_value right.now sides) → Answers ledger.new sides result }
+    ensures first { KeepsFirst ledger.old ledger.new }
+{
+    match sign {
+        Sign::Even => is_contradiction(ledger, left, right),
+        Sign::Above | Sign::Under => false,
+    }
+}
+
+// Whether the levels beside a sign are known to compare otherwise.
+pub(crate) fn compares_otherwise(ledger: &Ledger, levels: &[Form], signs: &[Sign]) -> bool
+    ensures { (sides : List ℕ) → MeetsEquations 16 ledger.now sides → AgreeWith signs.now levels.now sides
+        → result ≡ false }
+{
+    for (i, sign) in signs.iter().enumerate() {
+        if is_other(
+            ledger.compare(&level_at(levels, i), &level_at(levels, i + 1)),
+            *sign,
+        ) {
+            return true;
+        }
+    }
+    false
+}
+
+// Whether a known comparison is another sign.
+fn is_other(compared: Compared, sign: Sign) -> bool
+    ensures { result ≡ true → (known : Sign) × (compared ≡ Compared.Known known) × (known ≢ sign) }
+{
+    match compared {
+        Compared::Known(known) => known != sign,
+        Compared::Unknown => false,
+    }
+}
+
+// Whether two of the first sides are known to be equal.
+pub(crate) fn has_equal_sides(ledger: &Ledger, count: usize) -> bool
+    requires { count ≤ 16 }
+    ensures { (sides : List ℕ) → MeetsEquations 16 ledger.now sides → AreApart count sides → result ≡ false }
+{
+    for i in 0..count {
+        if equals_one_before(ledger, i) {
+            return true;
+        }
+    }
+    false
+}
+
+// Whether a side is known to be equal to one before it.
+fn equals_one_before(ledger: &Ledger, i: usize) -> bool
+    requires { i < 16 }
+    ensures { (sides : List ℕ) → MeetsEquations 16 ledger.now sides → AreApart (i + 1) sides → result ≡ false }
+{
+    let side = Form::zero().plus_side(i);
+    for j in 0..i {
+        if is_even(ledger.compare(&side, &Form::zero().plus_side(j))) {
+            return true;
+        }
+    }
+    false
+}
+
+// Whether a comparison is known to be even.
+fn is_even(compared: Compared) -> bool
+    ensures { result ≡ true → compared ≡ Compared.Known Sign.Even }
+{
+    match compared {
+        Compared::Known(Sign::Even) => true,
+        Compared::Known(Sign::Above | Sign::Under) | Compared::Unknown => false,
+    }
+}

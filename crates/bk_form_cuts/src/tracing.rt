@@ -1,0 +1,134 @@
+//! What is kept along the first moves of a word, and taken back with them.
+#![tactic(auto)]
+
+ghost use Rattle.std.specs.Prelude.{IsTrue, List, [], length, take, ℕ, ◌++◌, ◌+◌, ◌-◌, ◌<◌, ◌∷◌, ◌≡◌, ◌≤◌};
+ghost use Rattle.bk_word.specs.Outline.{IsLegalMove};
+ghost use Rattle.bk_word.specs.Play.{outline_of};
+ghost use Rattle.bk_word.specs.Word.{order_of};
+ghost use Rattle.bk_form_cuts.specs.Trace.{IsRuledOut, IsTraceOf};
+
+use crate::asking::{compares_otherwise, contradicts, has_equal_sides};
+use crate::levels::{FOLLOWED, level_of, levels_along, new_numbers, push_bottoms};
+use arrayvec::ArrayVec;
+use bk_forms::{Form, Ledger};
+use bk_skel::Skel;
+use bk_word::{Class, Move};
+use std::marker::Model;
+
+// How many equations and squares there were before a move.
+#[derive(Clone, Copy, Default, Drop)]
+pub(crate) struct Mark {
+    pub(crate) equations: usize,
+    pub(crate) squares: usize,
+}
+
+/// Equations between the sides of a word's squares, and the levels of their bottoms, along its first moves while at most 6
+/// squares hang. (Own.)
+#[derive(Drop)]
+pub struct Tracing {
+    ledger: Ledger,
+    bottoms: ArrayVec<Form, FOLLOWED>,
+    marks: ArrayVec<Mark, FOLLOWED>,
+}
+
+impl Model for Tracing {
+    ghost use Rattle.bk_form_cuts.specs.Trace.{Trace};
+
+    ghost Value = { Trace };
+
+    ghost view = { λ t. record { kept = t.ledger; bottoms = t.bottoms.items; marks = t.marks.items } };
+}
+
+impl Tracing {
+    /// Nothing, along no move.
+    pub fn new() -> Tracing
+        ensures { IsTraceOf [] result }
+    {
+        Tracing {
+            ledger: Ledger::new(),
+            bottoms: ArrayVec::new(),
+            marks: ArrayVec::new(),
+        }
+    }
+
+    /// Whether a legal move after these moves is known to be ruled out: no tiling of the class has a word that begins so. It is
+    /// said only while at most 6 squares hang with it: where the widths or the levels beside a sign even contradict the
+    /// equations before, where levels are known to compare otherwise than a sign says, and in the class perfect where two sides
+    /// are known to be equal.
+    pub fn rules_out(&self, skel: &Skel, m: &Move, class: Class) -> bool
+        requires trace { IsTraceOf skel.now self.now }
+        requires legal { IsLegalMove (outline_of skel.now) m.now }
+        ensures { IsTrue result → IsRuledOut class (skel.now ++ m.now ∷ []) }
+    {
+        if !self.follows(skel, m) {
+            return false;
+        }
+        let mut ledger = self.ledger.copy();
+        let valley = skel.valley();
+        let numbers = new_numbers(skel.order(), m.count);
+        let levels = levels_along(self.bottoms.as_slice(), skel, m);
+        if contradicts(
+            &mut ledger,
+            valley.squares.as_slice(),
+            numbers.as_slice(),
+            levels.as_slice(),
+            m.signs.as_slice(),
+        ) {
+            return true;
+        }
+        if compares_otherwise(&ledger, levels.as_slice(), m.signs.as_slice()) {
+            return true;
+        }
+        class == Class::Perfect && has_equal_sides(&ledger, skel.order() + usize::from(m.count))
+    }
+
+    /// Goes on by a legal move after these moves. It must be called before the move is played.
+    pub fn push(&mut self, skel: &Skel, m: &Move)
+        requires trace { IsTraceOf skel.now self.old }
+        requires legal { IsLegalMove (outline_of skel.now) m.now }
+        ensures { IsTraceOf (skel.now ++ m.now ∷ []) self.new }
+    {
+        if !self.follows(skel, m) {
+            return;
+        }
+        self.marks.push(Mark {
+            equations: self.ledger.len(),
+            squares: self.bottoms.len(),
+        });
+        let valley = skel.valley();
+        let numbers = new_numbers(skel.order(), m.count);
+        let levels = levels_along(self.bottoms.as_slice(), skel, m);
+        let level = level_of(self.bottoms.as_slice(), valley.squares.as_slice());
+        let _ = contradicts(
+            &mut self.ledger,
+            valley.squares.as_slice(),
+            numbers.as_slice(),
+            levels.as_slice(),
+            m.signs.as_slice(),
+        );
+        push_bottoms(&mut self.bottoms, &level, numbers.as_slice());
+    }
+
+    /// Takes the last of these moves back. It must be called before the move is taken back, and there must be one.
+    pub fn pop(&mut self, skel: &Skel)
+        requires trace { IsTraceOf skel.now self.old }
+        requires some { 0 < length skel.now }
+        ensures { IsTraceOf (take (length skel.now - 1) skel.now) self.new }
+    {
+        if self.marks.len() < skel.moves() {
+            return;
+        }
+        if let Some(mark) = self.marks.pop() {
+            self.ledger.cut(mark.equations);
+            self.bottoms.truncate(mark.squares);
+        }
+    }
+
+    // Whether all moves so far are followed, and this one too.
+    fn follows(&self, skel: &Skel, m: &Move) -> bool
+        ensures all { IsTrue result → length self.now.marks ≡ length skel.now }
+        ensures few { IsTrue result → order_of skel.now + m.now.count ≤ 6 }
+    {
+        self.marks.len() == skel.moves() && skel.order() + usize::from(m.count) <= FOLLOWED
+    }
+}
