@@ -1,0 +1,5 @@
+pub mod WrittenLines
+pub mod ListedLines
+pub mod PairLines
+pub mod ClosedLists
+pub mod ListLoops

@@ -1,0 +1,5 @@
+pub mod Listed
+pub mod EmptyLine
+pub mod Pairs
+pub mod Closing
+pub mod Writing
