@@ -1,0 +1,4 @@
+pub mod Entered
+pub mod Following
+pub mod BehindLines
+pub mod Ending

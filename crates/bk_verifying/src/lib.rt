@@ -1,0 +1,10 @@
+//! A run that holds a list against the catalogue of an order.
+#![tactic(auto)]
+
+mod closing;
+mod entering;
+mod run;
+#[cfg(test)]
+mod tests;
+
+pub use run::{Verdict, verify};
