@@ -1,11 +1,15 @@
 -- The status of a run says how it ended.
 use Rattle.std.proofs.Common.{ap, arith, cond, inl, inr, refl, subst, sym, ℕ, ◌==◌, ◌∙◌, ◌≡◌, ◌⊎◌}
-use Rattle.std.specs.Prelude.{Bool, false, true}
+use Rattle.std.specs.Prelude.{Bool, List, Option, false, true}
 use Rattle.bk_ports.specs.Causes.{Rose}
-use Rattle.bk_lines.specs.Ending.{EndsBy, HasVerdict, IsUndisturbed, verdict_of}
+use Rattle.bk_lines.specs.Ending.{EndsBy, HasVerdict, IsUndisturbed, Told, verdict_of}
 use Rattle.bk_lines.specs.declared.Ended.{Ended}
 use Rattle.bk_lines.specs.declared.Ended.TheVariants.{NoMemory, NoneRefused, ReadFailed, SomeRefused, TooMany, WriteFailed}
-use Rattle.bk_top.specs.Running.{AnswersLines, Outside, rules_of, status_of, told}
+use Rattle.bk_lines.specs.Entries.{IsCalm, IsDoneOrWanting}
+use Rattle.bk_verifying.specs.Running.{IsReportedOrWanting, VerifiesBy}
+use Rattle.bk_verifying.specs.declared.run.Verdict.{Verdict}
+use Rattle.bk_verifying.specs.declared.run.Verdict.TheVariants as verdicts
+use Rattle.bk_top.specs.Running.{AnswersLines, Outside, ReadsToEnd, rules_of, status_of, told, verdict_at}
 use Rattle.bk_answer.specs.declared.command.Command.{Command}
 
 -- each status belongs to one ending
@@ -63,3 +67,77 @@ answers_lines command before after ended status ends s =
       write_rose = λ e. ends.write_rose (one_ending status ended WriteFailed s e);
       write_kept = λ other. ends.write_kept (λ e. other (s ∙ ap status_of e));
     }
+
+-- ---- runs that read lines to their end
+
+done_status : (ended : Ended) (status : ℕ) → status ≡ status_of ended → IsDoneOrWanting ended → (status ≡ 0) ⊎ ((status ≡ 1) ⊎ (status ≡ 6))
+done_status ended status s (inl v) = elim (verdict_status v.0 status (s ∙ ap status_of v.1)) [ inl e ↦ inl e | inr e ↦ inr (inl e) ]
+done_status ended status s (inr e) = inr (inr (s ∙ ap status_of e))
+
+-- such a run with this ending
+pub record EndsWith (says : Ended → Type 0) (left : Option (List ℕ)) (read read_after write write_after : ℕ) (ended : Ended) : Type 0 where
+  pub bytes : says ended
+  pub complete : IsCalm left read read_after write write_after → IsDoneOrWanting ended
+  pub read_rose : ended ≡ ReadFailed → Rose read read_after
+  pub read_kept : (ended ≡ ReadFailed → ⊥) → read_after ≡ read
+  pub write_rose : ended ≡ WriteFailed → Rose write write_after
+  pub write_kept : (ended ≡ WriteFailed → ⊥) → write_after ≡ write
+
+pub reads_to_end : (says : Ended → Type 0) (left : Option (List ℕ)) (read read_after write write_after : ℕ) (ended : Ended) (status : ℕ) → EndsWith says left read read_after write write_after ended
+    → status ≡ status_of ended → ReadsToEnd says left read read_after write write_after status
+reads_to_end says left read read_after write write_after ended status ends s =
+    let at : (other : Ended) → status ≡ status_of other → says other =
+    λ (other : Ended) (e : status ≡ status_of other). subst says (one_ending status ended other s e) ends.bytes in
+    record {
+      none_refused = at NoneRefused;
+      some_refused = at SomeRefused;
+      read_failed = at ReadFailed;
+      write_failed = at WriteFailed;
+      memory_wanting = at NoMemory;
+      too_many = at TooMany;
+      no_other = (ended, s);
+      complete = λ calm. done_status ended status s (ends.complete calm);
+      read_rose = λ e. ends.read_rose (one_ending status ended ReadFailed s e);
+      read_kept = λ other. ends.read_kept (λ e. other (s ∙ ap status_of e));
+      write_rose = λ e. ends.write_rose (one_ending status ended WriteFailed s e);
+      write_kept = λ other. ends.write_kept (λ e. other (s ∙ ap status_of e));
+    }
+
+-- a verdict is one of an ending
+abbrev pub ending_at : Verdict → Ended
+ending_at verdicts.Agrees = NoneRefused
+ending_at verdicts.Differs = SomeRefused
+ending_at verdicts.ReadFailed = ReadFailed
+ending_at verdicts.WriteFailed = WriteFailed
+ending_at verdicts.NoMemory = NoMemory
+ending_at verdicts.TooMany = TooMany
+
+verdict_done : (v : Verdict) → IsReportedOrWanting v → IsDoneOrWanting (ending_at v)
+verdict_done v (inl e) = inl (false, ap ending_at e)
+verdict_done v (inr (inl e)) = inl (true, ap ending_at e)
+verdict_done v (inr (inr e)) = inr (ap ending_at e)
+
+pub verified : (n : ℕ) (told : Told) (read read_after write write_after : ℕ) (v : Verdict) (ended : Ended) (status : ℕ) → VerifiesBy n told v → (IsCalm told.left read read_after write write_after → IsReportedOrWanting v)
+    → (v ≡ verdicts.ReadFailed → Rose read read_after) → ((v ≡ verdicts.ReadFailed → ⊥) → read_after ≡ read) → (v ≡ verdicts.WriteFailed → Rose write write_after) → ((v ≡ verdicts.WriteFailed → ⊥) → write_after ≡ write)
+    → v ≡ verdict_at ended → status ≡ status_of ended
+    → ReadsToEnd (λ other. VerifiesBy n told (verdict_at other)) told.left read read_after write write_after status
+verified n told read read_after write write_after v ended status by complete read_rose read_kept write_rose write_kept is s =
+    let back : ending_at v ≡ ended = ap ending_at is ∙ ending_back ended in
+    reads_to_end (λ other. VerifiesBy n told (verdict_at other)) told.left read read_after write write_after ended status
+    (record {
+      bytes = subst (VerifiesBy n told) is by;
+      complete = λ calm. subst IsDoneOrWanting back (verdict_done v (complete calm));
+      read_rose = λ e. read_rose (is ∙ ap verdict_at e);
+      read_kept = λ other. read_kept (λ e. other (sym back ∙ ap ending_at e));
+      write_rose = λ e. write_rose (is ∙ ap verdict_at e);
+      write_kept = λ other. write_kept (λ e. other (sym back ∙ ap ending_at e));
+    })
+    s
+  where
+    ending_back : (ended : Ended) → ending_at (verdict_at ended) ≡ ended
+    ending_back NoneRefused = refl
+    ending_back SomeRefused = refl
+    ending_back ReadFailed = refl
+    ending_back WriteFailed = refl
+    ending_back NoMemory = refl
+    ending_back TooMany = refl

@@ -1,16 +1,15 @@
 //! What is done for what is asked.
 
-ghost use Rattle.std.specs.Prelude.{IfNone, IfSome, ◌≡◌};
-ghost use Rattle.bk_answer.specs.declared.command.Command.{Command as Commands};
-ghost use Rattle.bk_top.specs.Words.{ask_of};
+ghost use Rattle.std.specs.Prelude.{IfNone, IfSome, None, Some, ◌≡◌};
+ghost use Rattle.bk_top.specs.Words.{command_asked};
 
 use bk_answer::{CodeCommand, Command};
 use bk_ask::Ask;
 
 // The command that answers lines, if that is asked.
 pub(crate) fn command_of(ask: &Ask) -> Option<Command>
-    ensures some { IfSome result (λ command. ask.now ≡ ask_of command) }
-    ensures none { IfNone result ((command : Commands) → ask.now ≡ ask_of command → ⊥) }
+    ensures some { IfSome result (λ command. command_asked ask.now ≡ Some command) }
+    ensures none { IfNone result (command_asked ask.now ≡ None) }
 {
     match ask {
         Ask::Check => Some(Command::OfCodes(CodeCommand::Check)),
@@ -22,6 +21,11 @@ pub(crate) fn command_of(ask: &Ask) -> Option<Command>
         Ask::Word => Some(Command::OfCodes(CodeCommand::Word)),
         Ask::Flow => Some(Command::Flow),
         Ask::Solve => Some(Command::Solve),
-        Ask::List { .. } | Ask::Trial { .. } | Ask::Help => None,
+        Ask::List { .. }
+        | Ask::Trial { .. }
+        | Ask::Verify { .. }
+        | Ask::Alike
+        | Ask::Pair { .. }
+        | Ask::Help => None,
     }
 }

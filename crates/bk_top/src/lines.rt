@@ -1,9 +1,10 @@
-//! How listings and trials end.
+//! How runs over lines, listings and trials end.
 
 ghost use Rattle.std.specs.Prelude.{◌≡◌};
-ghost use Rattle.bk_top.specs.Running.{IsTried, status_of_listing};
+ghost use Rattle.bk_top.specs.Running.{IsTried, status_of, status_of_listing};
 
 use arrayvec::ArrayVec;
+use bk_lines::Ended;
 use bk_ports::{Failed, Sink};
 use bk_report::Last;
 use bk_trial::trial;
@@ -28,5 +29,19 @@ pub(crate) fn try_codes<O: Sink>(seed: u64, count: u32, out: &mut O) -> u8
     match out.write_all(line.as_slice()) {
         Ok(()) => 0,
         Err(Failed) => 4,
+    }
+}
+
+// The status that a run over lines ends with.
+pub(crate) fn status(ended: Ended) -> u8
+    ensures { result ≡ status_of ended }
+{
+    match ended {
+        Ended::NoneRefused => 0,
+        Ended::SomeRefused => 1,
+        Ended::ReadFailed => 3,
+        Ended::WriteFailed => 4,
+        Ended::NoMemory => 6,
+        Ended::TooMany => 7,
     }
 }
