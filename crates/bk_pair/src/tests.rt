@@ -28,7 +28,7 @@ fn a_rectangle_is_laid_with_itself(rt: HostRuntime) -> Result<(), Fail> {
     );
     let mut sides = ArrayVec::<u64, 200>::new();
     for q in square.squares() {
-        sides.push(q.s);
+        sides.try_push(q.s)?;
     }
     assert_eq!(rt; sides.as_slice(), [2, 1, 2, 1, 3, 2, 1, 1].as_slice());
     Ok(())
@@ -48,7 +48,7 @@ fn pairs_are_refused(rt: HostRuntime) -> Result<(), Fail> {
     assert_eq!(rt; lay_pair(&one, &one).err(), Some(PairFault::Square));
     let mut ones = ArrayVec::<(u64, u64, u64), 200>::new();
     for x in 0..100 {
-        ones.push((x, 0, 1));
+        ones.try_push((x, 0, 1))?;
     }
     let hundred = tiling(100, 1, ones.as_slice())?;
     assert_eq!(rt;
