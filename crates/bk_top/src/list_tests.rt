@@ -60,7 +60,10 @@ fn items_are_grouped(rt: HostRuntime) -> Result<(), Fail> {
             "line 2 no gap 2 15 16\n33x32 1\n1 [18,15][7,8][14,4][10,1][9]\n2x1 1\n3 [1,1]\n; groups 2 items 2 refused 1\n",
         ),
     ] {
-        assert!(rt; gives(&rt, "alike", input, &[], &[], status, output)?, "{input}");
+        assert!(rt;
+            gives(&rt, "alike", input, &[], &[], status, output)?,
+            "{input}"
+        );
     }
     Ok(())
 }
@@ -101,7 +104,10 @@ fn items_are_paired(rt: HostRuntime) -> Result<(), Fail> {
             "; pairs 0 items 2 refused 0\n",
         ),
     ] {
-        assert!(rt; gives(&rt, line, input, &[], &[], status, output)?, "{input}");
+        assert!(rt;
+            gives(&rt, line, input, &[], &[], status, output)?,
+            "{input}"
+        );
     }
     Ok(())
 }
@@ -113,7 +119,14 @@ fn failed_reads_and_writes(rt: HostRuntime) -> Result<(), Fail> {
     let second: &[u64] = &[1];
     for (line, input, reads, writes, status, output) in [
         ("alike", "[1]\n[1]\n[1]", second, no_pairs, 3, ""),
-        ("pair", "[1\n[1]\n[1]", second, no_pairs, 3, "line 1 no text 2\n"),
+        (
+            "pair",
+            "[1\n[1]\n[1]",
+            second,
+            no_pairs,
+            3,
+            "line 1 no text 2\n",
+        ),
         ("alike", "[1\n[1]", no_calls, &[(0, 3)], 4, "lin"),
         ("alike", "[1]", no_calls, &[(0, 2)], 4, "1x"),
         ("alike", "[1]", no_calls, &[(1, 2)], 4, "1x1 1\n1 "),
@@ -135,7 +148,10 @@ fn failed_reads_and_writes(rt: HostRuntime) -> Result<(), Fail> {
             "1 2 3x3 [1,1,1][2,1][1]\n; ",
         ),
     ] {
-        assert!(rt; gives(&rt, line, input, reads, writes, status, output)?, "{output}");
+        assert!(rt;
+            gives(&rt, line, input, reads, writes, status, output)?,
+            "{output}"
+        );
     }
     Ok(())
 }
@@ -187,7 +203,13 @@ fn no_more_than_16384_items_are_listed(rt: HostRuntime) -> Result<(), Fail> {
     let mut err = MemSink::new(&mut no_room, &[]);
     let got = run(rt.alloc(), &words, &mut source, &mut out, &mut err);
     assert_eq!(rt; got, 1);
-    assert!(rt; out.written().starts_with(b"line 16385 no more\n1x1 16384\n1 [1]\n2 [1]\n"));
-    assert!(rt; out.written().ends_with(b"\n16384 [1]\n; groups 1 items 16384 refused 1\n"));
+    assert!(rt;
+        out.written()
+            .starts_with(b"line 16385 no more\n1x1 16384\n1 [1]\n2 [1]\n")
+    );
+    assert!(rt;
+        out.written()
+            .ends_with(b"\n16384 [1]\n; groups 1 items 16384 refused 1\n")
+    );
     Ok(())
 }

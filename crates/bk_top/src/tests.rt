@@ -376,6 +376,9 @@ const HELP: &str = "usage: bouwkamp COMMAND [--NAME VALUE]...\n\
     list --order N [--class CLASS] [--from WORD] [--limit K]: catalogue of an order\n\
     trial --seed S --count C: trial codes\n\
     dual: dual diagram of each code\n\
+    verify --order N: hold a list against the catalogue\n\
+    alike: group codes by size\n\
+    pair [--kind KIND]: join rectangles to squares\n\
     help: this text\n";
 
 // Words that ask nothing, and `help`: a text on errors, of which a failed write keeps a part, and no read.
@@ -409,7 +412,7 @@ fn texts_on_errors(rt: HostRuntime) -> Result<(), Fail> {
         let mut source = MemSource::new(b"[1]\n", 1, &[0]);
         let mut no_room = [];
         let mut out = MemSink::new(&mut no_room, &[]);
-        let mut room = [0; 500];
+        let mut room = [0; 700];
         let mut err = MemSink::new(&mut room, writes);
         let got = run(rt.alloc(), &words, &mut source, &mut out, &mut err);
         assert_eq!(rt; got, status, "{line}");
