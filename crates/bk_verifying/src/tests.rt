@@ -67,29 +67,35 @@ fn lists_of_order_9(rt: HostRuntime) {
     }
 }
 
-// One member is missing, one turned, one scaled, one there twice and one broken.
+// Of order 10 one member is missing, one turned, one scaled, one there twice and one broken; of order 8 there is none.
 #[test]
-fn order_10(rt: HostRuntime) {
-    let list = "[30,27][3,11,13][25,8][17,2][15]\n\
-        [55,39][16,23][60,11][4,19][15][34]\n\
-        [135,132,123][9,114][36,105][102,33][69]\n\
-        [60,45][19,26][44,16][12,7][33][28]\n\
-        [57,54][3,7,44][41,15,4][11][26]\n\
-        [60,54][6,22,26][50,16][34,4][30]\n\
-        [57,54][3,7,44][41,15,4][11][27]\n";
-    let report = "line 6 repeats 1\nline 7 no gap 5 26 27\n\
-        missing 10 65x47 [25,17,23][11,6][5,24][22,3][19] ; 3ua.2aue.2ue.2ea.1ee\n\
-        ; end order 10 members 6 missing 1 foreign 0 repeated 1 refused 1\n";
-    assert!(rt; gives(rt.alloc(), 10, list, &[], &[], Verdict::Differs, report));
-}
-
-// An order without members.
-#[test]
-fn order_8(rt: HostRuntime) {
-    let list = "[18,15][7,8][14,4][10,1][9]\n[1]\n[1,1][1,1][1,1][1,1]\n";
-    let report = "line 1 foreign\nline 2 foreign\nline 3 foreign\n\
-        ; end order 8 members 0 missing 0 foreign 3 repeated 0 refused 0\n";
-    assert!(rt; gives(rt.alloc(), 8, list, &[], &[], Verdict::Differs, report));
+fn other_orders(rt: HostRuntime) {
+    for (order, list, report) in [
+        (
+            10,
+            "[30,27][3,11,13][25,8][17,2][15]\n\
+             [55,39][16,23][60,11][4,19][15][34]\n\
+             [135,132,123][9,114][36,105][102,33][69]\n\
+             [60,45][19,26][44,16][12,7][33][28]\n\
+             [57,54][3,7,44][41,15,4][11][26]\n\
+             [60,54][6,22,26][50,16][34,4][30]\n\
+             [57,54][3,7,44][41,15,4][11][27]\n",
+            "line 6 repeats 1\nline 7 no gap 5 26 27\n\
+             missing 10 65x47 [25,17,23][11,6][5,24][22,3][19] ; 3ua.2aue.2ue.2ea.1ee\n\
+             ; end order 10 members 6 missing 1 foreign 0 repeated 1 refused 1\n",
+        ),
+        (
+            8,
+            "[18,15][7,8][14,4][10,1][9]\n[1]\n[1,1][1,1][1,1][1,1]\n",
+            "line 1 foreign\nline 2 foreign\nline 3 foreign\n\
+             ; end order 8 members 0 missing 0 foreign 3 repeated 0 refused 0\n",
+        ),
+    ] {
+        assert!(rt;
+            gives(rt.alloc(), order, list, &[], &[], Verdict::Differs, report),
+            "{report}"
+        );
+    }
 }
 
 // The first, the second and the last write of a report fail, and a read after the first line.
