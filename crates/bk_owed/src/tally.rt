@@ -1,0 +1,118 @@
+//! The closing bound of signs, counted sign by sign.
+#![tactic(auto)]
+
+ghost use Rattle.std.specs.Prelude.{IsTrue, List, [], count_by, drop, length, true, ℕ, ◌++◌, ◌+◌, ◌<◌, ◌^◌, ◌∷◌, ◌≡◌, ◌≤◌};
+ghost use Rattle.bk_word.specs.Outline.{valley_place};
+ghost use Rattle.bk_word.specs.declared.Sign.{Sign as SeenSign};
+ghost use Rattle.bk_bounds.specs.ClosingBound.{closing_bound as bound_of, is_under};
+ghost use Rattle.bk_owed.specs.Tally.{IsTally};
+
+use bk_word::Sign;
+
+// The closing bound of signs, and how many of them are above.
+#[derive(Clone, Copy, Drop)]
+struct Tally {
+    bound: usize,
+    aboves: usize,
+}
+
+// The tally of signs with one more behind them.
+fn tally_with(tally: Tally, sign: Sign) -> Tally
+    requires few { tally.bound < 2 ^ 63 }
+    requires low { tally.aboves ≤ tally.bound }
+    ensures tally { (signs : List SeenSign) → IsTally signs tally.bound tally.aboves
+        → IsTally (signs ++ sign ∷ []) result.bound result.aboves }
+    ensures low { result.aboves ≤ result.bound }
+    ensures one { result.bound ≤ tally.bound + 1 }
+{
+    match sign {
+        Sign::Above => Tally {
+            bound: tally.bound.max(tally.aboves + 1),
+            aboves: tally.aboves + 1,
+        },
+        Sign::Even => tally,
+        Sign::Under => Tally {
+            bound: tally.bound + 1,
+            aboves: tally.aboves,
+        },
+    }
+}
+
+// The tally of signs with these behind them.
+fn tally_behind(tally: Tally, signs: &[Sign]) -> Tally
+    requires few { tally.bound + length signs.now < 2 ^ 63 }
+    requires low { tally.aboves ≤ tally.bound }
+    ensures tally { (before : List SeenSign) → IsTally before tally.bound tally.aboves
+        → IsTally (before ++ signs.now) result.bound result.aboves }
+    ensures low { result.aboves ≤ result.bound }
+    ensures few { result.bound ≤ tally.bound + length signs.now }
+{
+    let mut now = tally;
+    'signs: for sign in signs {
+        now = tally_with(now, *sign);
+    }
+    now
+}
+
+/// The closing bound of signs: how many of the segments between which they stand must be closed at least. (Own.)
+pub fn closing_bound(signs: &[Sign]) -> usize
+    requires { length signs.now < 1000 }
+    ensures { result ≡ bound_of signs.now }
+{
+    let none = Tally {
+        bound: 0,
+        aboves: 0,
+    };
+    tally_behind(none, signs).bound
+}
+
+/// Whether the closing bound of signs and of those behind them passes a number.
+pub fn is_over(before: &[Sign], signs: &[Sign], room: usize) -> bool
+    requires before { length before.now < 1000 }
+    requires signs { length signs.now < 1000 }
+    ensures { result ≡ true → room < bound_of (before.now ++ signs.now) }
+{
+    let none = Tally {
+        bound: 0,
+        aboves: 0,
+    };
+    tally_behind(tally_behind(none, before), signs).bound > room
+}
+
+/// The place of the first sign above, or how many signs there are: where the leftmost valley stands.
+pub fn first_above(signs: &[Sign]) -> usize
+    ensures value { result ≡ valley_place signs.now }
+    ensures within { result ≤ length signs.now }
+{
+    for (i, sign) in signs.iter().enumerate() {
+        match *sign {
+            Sign::Above => return i,
+            Sign::Even | Sign::Under => {}
+        }
+    }
+    signs.len()
+}
+
+/// How many signs are under behind the one at the place.
+pub fn unders_behind(signs: &[Sign], place: usize) -> usize
+    requires { place ≤ length signs.now }
+    ensures { result ≡ count_by is_under (drop (place + 1) signs.now) }
+{
+    if place == signs.len() {
+        return 0;
+    }
+    signs[place + 1..]
+        .iter()
+        .filter(|sign| is_under(**sign))
+        .count()
+}
+
+// Whether the left one of two bottoms is lower.
+fn is_under(sign: Sign) -> bool
+    ensures { result ≡ is_under sign }
+{
+    match sign {
+        Sign::Under => true,
+        Sign::Above | Sign::Even => false,
+    }
+}

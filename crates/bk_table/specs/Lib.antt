@@ -1,0 +1,5 @@
+pub mod Kept
+pub mod Lefts
+pub mod Packed
+pub mod PackedLaws
+pub mod Sought

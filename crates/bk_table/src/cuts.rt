@@ -1,0 +1,130 @@
+//! Cuts: moves by which no word of a sound layout goes on.
+#![tactic(auto)]
+
+ghost use Rattle.std.specs.Prelude.{IsTrue, List, [], false, length, ℕ, ◌++◌, ◌+◌, ◌<◌, ◌∷◌, ◌≡◌, ◌≤◌};
+ghost use Rattle.bk_word.specs.Outline.{has_left_wall, has_right_wall, open_side, valley_of};
+ghost use Rattle.bk_word.specs.Play.{IsLegal, outline_of};
+ghost use Rattle.bk_word.specs.Word.{Move as SeenMove, order_of};
+ghost use Rattle.bk_word.specs.declared.Sign.{Sign as SeenSign};
+ghost use Rattle.bk_word.specs.declared.Sign.TheVariants.{Above, Even};
+ghost use Rattle.bk_table.specs.Sought.{BeginsTurned};
+ghost use Rattle.bk_net_word.specs.NetWord.{IsNetBarren};
+
+use bk_owed::{closing_bound, first_above, is_over, single_valleys, unders_behind};
+use bk_skel::Skel;
+use bk_word::{Move, Sign};
+
+// The least count of a next move that isn't barren: one square hangs under no segment of just one, and the first move is none of one.
+pub(crate) fn least_count(skel: &Skel) -> u8
+    ensures some { 0 < result }
+    ensures few { result ≤ 2 }
+    ensures barren { (n : ℕ) (m : SeenMove) → m.count < result → 0 < m.count → IsNetBarren n (skel.now ++ m ∷ []) }
+{
+    if skel.valley_len() == 1 { 2 } else { 1 }
+}
+
+// Whether no word goes on by a move of this count whose signs begin with these and this one.
+pub(crate) fn bars(skel: &Skel, m: &Move, sign: Sign) -> bool
+    requires few { m.now.count ≤ 16 }
+    requires signs { length m.now.signs + 2 ≤ m.now.count + open_side (has_left_wall (outline_of skel.now)) + open_side (has_right_wall (outline_of skel.now)) }
+    ensures barren { IsTrue result → (n : ℕ) (other : SeenMove) (more : List SeenSign) → other.count ≡ m.now.count
+        → other.signs ≡ m.now.signs ++ sign ∷ more → IsNetBarren n (skel.now ++ other ∷ []) }
+{
+    let place = m.signs.len();
+    let (left_wall, _) = skel.walls();
+    if !left_wall && place == 0 {
+        return is_above(sign);
+    }
+    if begins_turned(m, sign) {
+        return true;
+    }
+    if is_own(place, left_wall, m.count) {
+        return is_even(sign);
+    }
+    false
+}
+
+// Whether a move of two squares or more, with this sign behind its own, begins with even and above and has no more signs.
+fn begins_turned(m: &Move, sign: Sign) -> bool
+    ensures { IsTrue result → BeginsTurned m.now sign }
+{
+    if m.count < 2 || m.signs.len() != 1 {
+        return false;
+    }
+    if is_even(m.signs.as_slice()[0]) {
+        return is_above(sign);
+    }
+    false
+}
+
+// Whether the left one of two bottoms is higher.
+fn is_above(sign: Sign) -> bool
+    ensures { IsTrue result → sign ≡ Above }
+{
+    match sign {
+        Sign::Above => true,
+        Sign::Even | Sign::Under => false,
+    }
+}
+
+// Whether two bottoms are level.
+fn is_even(sign: Sign) -> bool
+    ensures { IsTrue result → sign ≡ Even }
+{
+    match sign {
+        Sign::Even => true,
+        Sign::Above | Sign::Under => false,
+    }
+}
+
+// Whether the sign at a place stands between two of a move's own squares.
+fn is_own(place: usize, left_wall: bool, count: u8) -> bool
+    requires place { place ≤ 201 }
+    requires count { count ≤ 200 }
+    ensures { IsTrue result → (open_side left_wall ≤ place) × (place + 1 < open_side left_wall + count) }
+{
+    let from = if left_wall { 0 } else { 1 };
+    from <= place && place + 1 < from + usize::from(count)
+}
+
+// Whether the signs of a move ask for more squares than are left after it, so that no word of the order goes on by a move of
+// its count whose signs begin with them.
+pub(crate) fn owes(skel: &Skel, order: u8, m: &Move) -> bool
+    requires legal { IsLegal skel.now }
+    requires few { order_of skel.now + m.now.count ≤ order }
+    requires small { order ≤ 16 }
+    requires signs { length m.now.signs ≤ 18 }
+    ensures barren { IsTrue result → (other : SeenMove) (more : List SeenSign) → other.count ≡ m.now.count
+        → other.signs ≡ m.now.signs ++ more → IsNetBarren order (skel.now ++ other ∷ []) }
+{
+    let left = usize::from(order) - skel.order() - usize::from(m.count);
+    let signs = skel.signs();
+    let place = first_above(signs);
+    let room = left.saturating_sub(unders_behind(signs, place));
+    is_over(&signs[..place.saturating_sub(1)], m.signs.as_slice(), room)
+}
+
+// Whether no word of the order begins with these moves, which hang fewer squares than the order: one segment is left, or the
+// open ones ask for more squares than are left.
+pub(crate) fn is_barren(skel: &Skel, order: u8) -> bool
+    requires legal { IsLegal skel.now }
+    requires few { order_of skel.now < order }
+    requires some { 0 < length skel.now }
+    requires least { 2 ≤ order }
+    ensures { IsTrue result → IsNetBarren order skel.now }
+{
+    skel.is_closed() || owes_too_many(skel, order)
+}
+
+// Whether fewer squares are left than must be hung: one for each segment that ends above its neighbour on one segment's side,
+// and one more for each valley of one square.
+fn owes_too_many(skel: &Skel, order: u8) -> bool
+    requires legal { IsLegal skel.now }
+    requires least { 2 ≤ order }
+    ensures { IsTrue result → IsNetBarren order skel.now }
+{
+    let left = usize::from(order).saturating_sub(skel.order());
+    let signs = skel.signs();
+    let closings = closing_bound(signs);
+    closings > left || single_valleys(signs, skel.sizes()) > left - closings
+}

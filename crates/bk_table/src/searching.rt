@@ -1,0 +1,142 @@
+//! The search through all words of an order of which no beginning is barren.
+#![tactic(auto)]
+
+ghost use Rattle.std.specs.Prelude.{IsTrue, Some, [], false, length, slice_get, ℕ, ◌++◌, ◌+◌, ◌-◌, ◌<◌, ◌∷◌, ◌≡◌, ◌≤◌};
+ghost use Rattle.bk_word.specs.Outline.{IsLegalMove, has_left_wall, has_right_wall, open_side};
+ghost use Rattle.bk_word.specs.Play.{IsComplete, outline_of};
+ghost use Rattle.bk_word.specs.Word.{Move as SeenMove, Word as Moves, order_of};
+ghost use Rattle.bk_table.specs.Sought.{GoesOn, GoesOnBy, IsSought};
+
+use crate::board::Board;
+use crate::cuts::{bars, is_barren, least_count, owes};
+use arrayvec::ArrayVec;
+use bk_word::{Move, Sign};
+
+/// What is done with the complete words that a search meets.
+pub trait Leaves {
+    ghost use Rattle.bk_word.specs.Word.{Word as Moves};
+
+    /// What holds once a word was met.
+    ghost has_met: { Self → Moves → Type 0 };
+
+    /// Meets the complete word of a board, of at most 16 squares.
+    fn meet(&mut self, board: &Board)
+        requires complete { IsComplete board.now }
+        requires few { order_of board.now ≤ 16 }
+        ensures met { has_met self.new board.now }
+        ensures kept { (w : Moves) → has_met self.old w → has_met self.new w };
+}
+
+/// Meets each word of the order, of which no beginning is barren, whose first move hangs so many squares.
+pub fn search<S: Leaves>(leaves: &mut S, order: u8, count: u8)
+    requires least { 2 ≤ order }
+    requires most { order ≤ 16 }
+    ensures all { (w : Moves) → IsSought order w → ((m : SeenMove) → slice_get w 0 ≡ Some m → m.count ≡ count) → S.has_met leaves.new w }
+    ensures kept { (w : Moves) → S.has_met leaves.old w → S.has_met leaves.new w }
+{
+    if count == 0 || count > order {
+        return;
+    }
+    let mut board = Board::new();
+    let mut m = Move {
+        count,
+        signs: ArrayVec::new(),
+    };
+    with_signs(&mut board, &mut m, leaves, order);
+}
+
+// Meets all that go on from the board's moves.
+#[cycle(search)]
+fn with_counts<S: Leaves>(board: &mut Board, leaves: &mut S, order: u8)
+    requires least { 2 ≤ order }
+    requires most { order ≤ 16 }
+    requires few { order_of board.old < order }
+    ensures all { (w : Moves) → IsSought order w → GoesOn board.old w → S.has_met leaves.new w }
+    ensures kept { (w : Moves) → S.has_met leaves.old w → S.has_met leaves.new w }
+    ensures board { board.new ≡ board.old }
+{
+    let left = order - board.skel().order() as u8;
+    'counts: for count in least_count(board.skel())..left + 1 {
+        let mut m = Move {
+            count,
+            signs: ArrayVec::new(),
+        };
+        with_signs(board, &mut m, leaves, order);
+    }
+}
+
+// Meets those that go on by a move of the count whose signs begin with these.
+#[cycle(search)]
+fn with_signs<S: Leaves>(board: &mut Board, m: &mut Move, leaves: &mut S, order: u8)
+    requires least { 2 ≤ order }
+    requires most { order ≤ 16 }
+    requires some { 0 < m.old.count }
+    requires few { order_of board.old + m.old.count ≤ order }
+    requires signs { length m.old.signs + 1 ≤ m.old.count + open_side (has_left_wall (outline_of board.old)) + open_side (has_right_wall (outline_of board.old)) }
+    ensures all { (w : Moves) → IsSought order w → GoesOnBy board.old m.old.count m.old.signs w → S.has_met leaves.new w }
+    ensures kept { (w : Moves) → S.has_met leaves.old w → S.has_met leaves.new w }
+    ensures board { board.new ≡ board.old }
+    ensures same { m.new ≡ m.old }
+{
+    if board.skel().legal(m) {
+        with_move(board, m, leaves, order);
+        return;
+    }
+    with_sign(board, m, Sign::Above, leaves, order);
+    with_sign(board, m, Sign::Even, leaves, order);
+    with_sign(board, m, Sign::Under, leaves, order);
+}
+
+// And those whose next sign is this.
+#[cycle(search)]
+fn with_sign<S: Leaves>(board: &mut Board, m: &mut Move, sign: Sign, leaves: &mut S, order: u8)
+    requires least { 2 ≤ order }
+    requires most { order ≤ 16 }
+    requires some { 0 < m.old.count }
+    requires few { order_of board.old + m.old.count ≤ order }
+    requires signs { length m.old.signs + 2 ≤ m.old.count + open_side (has_left_wall (outline_of board.old)) + open_side (has_right_wall (outline_of board.old)) }
+    ensures all { (w : Moves) → IsSought order w → GoesOnBy board.old m.old.count (m.old.signs ++ sign ∷ []) w → S.has_met leaves.new w }
+    ensures kept { (w : Moves) → S.has_met leaves.old w → S.has_met leaves.new w }
+    ensures board { board.new ≡ board.old }
+    ensures same { m.new ≡ m.old }
+{
+    if bars(board.skel(), m, sign) {
+        return;
+    }
+    m.signs.push(sign);
+    if !owes(board.skel(), order, m) {
+        with_signs(board, m, leaves, order);
+    }
+    let _ = m.signs.pop();
+}
+
+// Meets those that go on by the move.
+#[cycle(search)]
+fn with_move<S: Leaves>(board: &mut Board, m: &Move, leaves: &mut S, order: u8)
+    requires least { 2 ≤ order }
+    requires most { order ≤ 16 }
+    requires legal { IsLegalMove (outline_of board.old) m.now }
+    requires few { order_of board.old + m.now.count ≤ order }
+    ensures all { (w : Moves) → IsSought order w → GoesOn (board.old ++ m.now ∷ []) w → S.has_met leaves.new w }
+    ensures kept { (w : Moves) → S.has_met leaves.old w → S.has_met leaves.new w }
+    ensures board { board.new ≡ board.old }
+{
+    board.push(m);
+    if board.skel().order() == usize::from(order) {
+        meet_closed(board, leaves);
+    } else if !is_barren(board.skel(), order) {
+        with_counts(board, leaves, order);
+    }
+    board.pop();
+}
+
+// Meets the word of the board, if it is complete.
+fn meet_closed<S: Leaves>(board: &Board, leaves: &mut S)
+    requires few { order_of board.now ≤ 16 }
+    ensures met { IsComplete board.now → S.has_met leaves.new board.now }
+    ensures kept { (w : Moves) → S.has_met leaves.old w → S.has_met leaves.new w }
+{
+    if board.skel().is_closed() {
+        leaves.meet(board);
+    }
+}
