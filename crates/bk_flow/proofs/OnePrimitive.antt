@@ -28,24 +28,31 @@ magnitudes d (c ∷ cs) all = (all.0, magnitudes d cs all.1)
 gcd_from_primitive : (f : Flow) → IsPrimitive f → pos 1 ≤ℤ f.total → gcd_of (map nat_abs (f.total ∷ f.currents)) ≡ 1
 gcd_from_primitive f primitive some =
     let all = gcd_of-divides (map nat_abs (f.total ∷ f.currents)) in
-    let most : gcd_of (map nat_abs (f.total ∷ f.currents)) ≤ 1 = primitive (gcd_of (map nat_abs (f.total ∷ f.currents))) all.0 (All-from_recursion (λ c. gcd_of (map nat_abs (f.total ∷ f.currents)) ∣ nat_abs c) f.currents (magnitudes (gcd_of (map nat_abs (f.total ∷ f.currents))) f.currents all.1)) in
+    let most : gcd_of (map nat_abs (f.total ∷ f.currents)) ≤ 1 = primitive (gcd_of (map nat_abs (f.total ∷ f.currents))) all.0
+    (All-from_recursion (λ c. gcd_of (map nat_abs (f.total ∷ f.currents)) ∣ nat_abs c) f.currents
+    (magnitudes (gcd_of (map nat_abs (f.total ∷ f.currents))) f.currents all.1)) in
     let least : 0 < gcd_of (map nat_abs (f.total ∷ f.currents)) = pos_of_dvd_of_pos all.0 (some-magnitude f.total some) in
     omega arith
 
-shares : (t u : ℤ) (cs ds : List ℤ) → map (λ c. c *ℤ t) ds ≡ map (λ c. c *ℤ u) cs → AllByRecursion (λ n. nat_abs t ∣ n) (map (λ n. nat_abs u * n) (map nat_abs cs))
+shares : (t u : ℤ) (cs ds : List ℤ) → map (λ c. c *ℤ t) ds ≡ map (λ c. c *ℤ u) cs
+    → AllByRecursion (λ n. nat_abs t ∣ n) (map (λ n. nat_abs u * n) (map nat_abs cs))
 shares t u [] [] e = tt
 shares t u [] (d ∷ ds) e = absurd cc
 shares t u (c ∷ cs) [] e = absurd cc
 shares t u (c ∷ cs) (d ∷ ds) e = (
-  subst (λ (n : ℕ). nat_abs t ∣ n) (sym (unsigned_abs-mul d t) ∙ ap nat_abs (head_same _ _ _ _ e) ∙ unsigned_abs-mul c u ∙ mul_comm (nat_abs c) (nat_abs u)) (dvd-mul_left (nat_abs t) (nat_abs d)),
+  subst (λ (n : ℕ). nat_abs t ∣ n) (sym (unsigned_abs-mul d t) ∙ ap nat_abs (head_same _ _ _ _ e) ∙ unsigned_abs-mul c u
+      ∙ mul_comm (nat_abs c) (nat_abs u)) (dvd-mul_left (nat_abs t) (nat_abs d)),
   shares t u cs ds (tail_same _ _ _ _ e),
 )
 
-divides : (f : Flow) (u : ℤ) (ds : List ℤ) → IsPrimitive f → pos 1 ≤ℤ f.total → pos 1 ≤ℤ u → map (λ c. c *ℤ f.total) ds ≡ map (λ c. c *ℤ u) f.currents → nat_abs f.total ∣ nat_abs u
+divides : (f : Flow) (u : ℤ) (ds : List ℤ) → IsPrimitive f → pos 1 ≤ℤ f.total → pos 1 ≤ℤ u → map (λ c. c *ℤ f.total) ds ≡ map (λ c. c *ℤ u) f.currents
+    → nat_abs f.total ∣ nat_abs u
 divides f u ds primitive some positive e =
     subst (λ (n : ℕ). nat_abs f.total ∣ n)
-    (gcd_of-times (nat_abs u) (map nat_abs (f.total ∷ f.currents)) (some-magnitude u positive) ∙ ap (λ (n : ℕ). nat_abs u * n) (gcd_from_primitive f primitive some) ∙ mul-one (nat_abs u))
-    (gcd_of-greatest (nat_abs f.total) (map (λ n. nat_abs u * n) (map nat_abs (f.total ∷ f.currents))) (dvd-mul_left (nat_abs f.total) (nat_abs u), shares f.total u f.currents ds e))
+    (gcd_of-times (nat_abs u) (map nat_abs (f.total ∷ f.currents)) (some-magnitude u positive)
+    ∙ ap (λ (n : ℕ). nat_abs u * n) (gcd_from_primitive f primitive some) ∙ mul-one (nat_abs u))
+    (gcd_of-greatest (nat_abs f.total) (map (λ n. nat_abs u * n) (map nat_abs (f.total ∷ f.currents)))
+    (dvd-mul_left (nat_abs f.total) (nat_abs u), shares f.total u f.currents ds e))
 
 same_magnitude : (t u : ℤ) → pos 1 ≤ℤ t → pos 1 ≤ℤ u → nat_abs t ≡ nat_abs u → t ≡ u
 same_magnitude (pos m) (pos n) some positive e = ap pos e
