@@ -18,7 +18,8 @@ code_some t tiling = omega (arith, length-map (square_groups t.squares) (map (λ
 abbrev groups_of : List (List Square) → Code
 groups_of groups = map (map (λ q. q.s)) groups
 
-onto_kept : (q : Square) (groups : List (List Square)) → IsSide q.s → AllByRecursion IsSideGroup (groups_of groups) → AllByRecursion IsSideGroup (groups_of (onto_first q groups))
+onto_kept : (q : Square) (groups : List (List Square)) → IsSide q.s → AllByRecursion IsSideGroup (groups_of groups)
+    → AllByRecursion IsSideGroup (groups_of (onto_first q groups))
 onto_kept q [] side all = ((omega arith, (side, tt)), tt)
 onto_kept q (group ∷ groups) side all = ((omega arith, (side, all.0.1)), all.1)
 

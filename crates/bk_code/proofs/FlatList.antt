@@ -19,7 +19,8 @@ flat_groups (q ∷ []) = refl
 flat_groups (q ∷ r ∷ squares) = cases (stands_beside q r) (flat_groups (r ∷ squares))
   where
     cases : (b : Bool) → flat (map (map (λ q. q.s)) (square_groups (r ∷ squares))) ≡ r.s ∷ map (λ q. q.s) squares
-        → flat (map (map (λ q. q.s)) (cond b (onto_first q (square_groups (r ∷ squares))) ((q ∷ []) ∷ square_groups (r ∷ squares)))) ≡ q.s ∷ r.s ∷ map (λ q. q.s) squares
+        → flat (map (map (λ q. q.s)) (cond b (onto_first q (square_groups (r ∷ squares))) ((q ∷ []) ∷ square_groups (r ∷ squares)))) ≡ q.s ∷ r.s
+        ∷ map (λ q. q.s) squares
     cases true e = flat_onto_first q (square_groups (r ∷ squares)) ∙ ap (λ (sides : List ℕ). q.s ∷ sides) e
     cases false e = ap (λ (sides : List ℕ). q.s ∷ sides) e
 

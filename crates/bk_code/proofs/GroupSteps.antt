@@ -31,7 +31,8 @@ onto_sides q (group ∷ groups) = refl
 pub groups_cons : (q r : Square) (squares : List Square) → side_groups (q ∷ r ∷ squares) ≡ before (stands_beside q r) q.s (side_groups (r ∷ squares))
 groups_cons q r squares = cases (stands_beside q r)
   where
-    cases : (b : Bool) → map (map (λ q. q.s)) (cond b (onto_first q (square_groups (r ∷ squares))) ((q ∷ []) ∷ square_groups (r ∷ squares))) ≡ before b q.s (side_groups (r ∷ squares))
+    cases : (b : Bool) → map (map (λ q. q.s)) (cond b (onto_first q (square_groups (r ∷ squares))) ((q ∷ []) ∷ square_groups (r ∷ squares)))
+        ≡ before b q.s (side_groups (r ∷ squares))
     cases true = onto_sides q (square_groups (r ∷ squares))
     cases false = refl
 
@@ -51,10 +52,12 @@ before_some false s code = omega arith
 
 pub groups_some : (q : Square) (squares : List Square) → 0 < length (side_groups (q ∷ squares))
 groups_some q [] = omega arith
-groups_some q (r ∷ squares) = subst (λ (code : Code). 0 < length code) (sym (groups_cons q r squares)) (before_some (stands_beside q r) q.s (side_groups (r ∷ squares)))
+groups_some q (r ∷ squares) =
+    subst (λ (code : Code). 0 < length code) (sym (groups_cons q r squares)) (before_some (stands_beside q r) q.s (side_groups (r ∷ squares)))
 
 -- the square after some others
-pub groups_next : (squares : List Square) (q : Square) (rest : List Square) → side_groups (squares ++ q ∷ []) ≡ with_next (begins_group (squares ++ q ∷ rest) (length squares)) (side_groups squares) q.s
+pub groups_next : (squares : List Square) (q : Square) (rest : List Square)
+    → side_groups (squares ++ q ∷ []) ≡ with_next (begins_group (squares ++ q ∷ rest) (length squares)) (side_groups squares) q.s
 groups_next [] q rest = refl
 groups_next (p ∷ []) q rest = cases (stands_beside p q) ∙ ap (λ (b : Bool). with_next b (side_groups (p ∷ [])) q.s) refl
   where
@@ -62,14 +65,17 @@ groups_next (p ∷ []) q rest = cases (stands_beside p q) ∙ ap (λ (b : Bool).
     cases true = refl
     cases false = refl
 groups_next (p ∷ r ∷ squares) q rest =
-    let more : side_groups (r ∷ squares ++ q ∷ []) ≡ with_next (begins_group (r ∷ squares ++ q ∷ rest) (length (r ∷ squares))) (side_groups (r ∷ squares)) q.s = groups_next (r ∷ squares) q rest in
+    let more : side_groups (r ∷ squares ++ q ∷ [])
+    ≡ with_next (begins_group (r ∷ squares ++ q ∷ rest) (length (r ∷ squares))) (side_groups (r ∷ squares)) q.s = groups_next (r ∷ squares) q rest in
     groups_cons p r (squares ++ q ∷ [])
     ∙ ap (before (stands_beside p r) p.s) more
-    ∙ sym (before_next (stands_beside p r) (begins_group (r ∷ squares ++ q ∷ rest) (length (r ∷ squares))) p.s q.s (side_groups (r ∷ squares)) (groups_some r squares))
+    ∙ sym (before_next (stands_beside p r) (begins_group (r ∷ squares ++ q ∷ rest) (length (r ∷ squares))) p.s q.s (side_groups (r ∷ squares))
+    (groups_some r squares))
     ∙ ap (λ (code : Code). with_next (begins_group (r ∷ squares ++ q ∷ rest) (length (r ∷ squares))) code q.s) (sym (groups_cons p r squares))
 
 -- the square at a place, after those before it
-pub groups_step : (squares : List Square) (i : ℕ) (d : Square) → i < length squares → side_groups (take (i + 1) squares) ≡ with_next (begins_group squares i) (side_groups (take i squares)) (get_or squares i d).s
+pub groups_step : (squares : List Square) (i : ℕ) (d : Square) → i < length squares
+    → side_groups (take (i + 1) squares) ≡ with_next (begins_group squares i) (side_groups (take i squares)) (get_or squares i d).s
 groups_step squares i d within =
     ap side_groups (take_more squares i d within)
     ∙ groups_next (take i squares) (get_or squares i d) (drop (i + 1) squares)
@@ -82,7 +88,8 @@ groups_step squares i d within =
     count = omega (arith, length-take-le i squares (omega arith))
 
 -- there is room for the side of a further square, which is one that a square may have
-pub step_room : (t : Tiling) (squares : List Square) (i : ℕ) (code : Code) → IsKept t → squares ≡ t.squares → i < length squares → code ≡ side_groups (take i squares) → length (flat code) < 200
+pub step_room : (t : Tiling) (squares : List Square) (i : ℕ) (code : Code) → IsKept t → squares ≡ t.squares → i < length squares
+    → code ≡ side_groups (take i squares) → length (flat code) < 200
 step_room t squares i code kept same within is =
     omega (
       arith,
@@ -95,7 +102,8 @@ step_room t squares i code kept same within is =
     )
 
 -- a side that is added as the square at its place begins a group or not
-pub step_is : (t : Tiling) (squares : List Square) (i : ℕ) (code next : Code) (b : Bool) (d : Square) → squares ≡ t.squares → i < length squares → code ≡ side_groups (take i squares)
+pub step_is : (t : Tiling) (squares : List Square) (i : ℕ) (code next : Code) (b : Bool) (d : Square) → squares ≡ t.squares → i < length squares
+    → code ≡ side_groups (take i squares)
     → b ≡ begins_group t.squares i → next ≡ with_next b code (get_or squares i d).s → next ≡ side_groups (take (i + 1) squares)
 step_is t squares i code next b d same within is begins e =
     e

@@ -2,7 +2,8 @@
 use Rattle.std.specs.List.{AllByRecursion}
 use Rattle.std.proofs.Common.{List, [], ap, arith, drop, get_or, length, refl, subst, suc, sym, take, zero, ℕ, ◌++◌, ◌+◌, ◌-◌, ◌<◌, ◌∙◌, ◌∷◌, ◌≡◌, ◌≤◌}
 use Rattle.std.specs.Prelude.{slice_range}
-use Rattle.std.proofs.lemmas.List.{append-nil, append_assoc, drop-append-le, drop-drop, drop_at, length-append, length-drop, take-append-drop, take-append-le, take_all}
+use Rattle.std.proofs.lemmas.List.{append-nil, append_assoc, drop-append-le, drop-drop, drop_at, length-append, length-drop, take-append-drop}
+use Rattle.std.proofs.lemmas.List.{take-append-le, take_all}
 use Rattle.bk_laws.proofs.AllOfLists.{all_append}
 use Rattle.bk_tiling.specs.Kept.{IsSide}
 use Rattle.bk_code.specs.Code.{Code, flat, with_side}
@@ -23,13 +24,16 @@ range_left xs ys a b l m =
     ap (take (b - a)) (drop-append-le a xs ys (omega arith)) ∙ take-append-le (b - a) (drop a xs) ys (omega (arith, length-drop a xs))
 
 -- a further group
-from_more : (from : ℕ) (starts xs ys : List ℕ) → Rise from starts (length xs) → groups_from from (starts ++ length xs ∷ []) (xs ++ ys) ≡ groups_from from starts xs ++ ys ∷ []
+from_more : (from : ℕ) (starts xs ys : List ℕ) → Rise from starts (length xs)
+    → groups_from from (starts ++ length xs ∷ []) (xs ++ ys) ≡ groups_from from starts xs ++ ys ∷ []
 from_more from [] xs ys h =
-    let first : slice_range (xs ++ ys) from (length xs) ≡ drop from xs = range_left xs ys from (length xs) (omega arith) (omega arith) ∙ take_all (length xs - from) (drop from xs) (omega (arith, length-drop from xs)) in
+    let first : slice_range (xs ++ ys) from (length xs) ≡ drop from xs = range_left xs ys from (length xs) (omega arith) (omega arith)
+    ∙ take_all (length xs - from) (drop from xs) (omega (arith, length-drop from xs)) in
     let last : drop (length xs) (xs ++ ys) ≡ ys = drop_at xs ys (length xs) refl in
     λ i. first i ∷ last i ∷ []
 from_more from (start ∷ starts) xs ys h =
-    let first : slice_range (xs ++ ys) from start ≡ slice_range xs from start = range_left xs ys from start (omega (arith, h.0)) (omega (arith, rise_below start starts (length xs) h.1)) in
+    let first : slice_range (xs ++ ys) from start ≡ slice_range xs from start =
+    range_left xs ys from start (omega (arith, h.0)) (omega (arith, rise_below start starts (length xs) h.1)) in
     let rest : groups_from start (starts ++ length xs ∷ []) (xs ++ ys) ≡ groups_from start starts xs ++ ys ∷ [] = from_more start starts xs ys h.1 in
     λ i. first i ∷ rest i
 
@@ -38,7 +42,8 @@ groups_more [] xs ys h = ap (λ (l : List ℕ). l ∷ []) (drop_at xs ys (length
 groups_more (start ∷ starts) xs ys h = from_more start starts xs ys h.1
 
 -- a further side of the last group
-from_side : (from : ℕ) (starts xs : List ℕ) (s : ℕ) → Rise from starts (length xs) → groups_from from starts (xs ++ s ∷ []) ≡ with_side (groups_from from starts xs) s
+from_side : (from : ℕ) (starts xs : List ℕ) (s : ℕ) → Rise from starts (length xs)
+    → groups_from from starts (xs ++ s ∷ []) ≡ with_side (groups_from from starts xs) s
 from_side from [] xs s h = ap (λ (l : List ℕ). l ∷ []) (drop-append-le from xs (s ∷ []) (omega (arith, h)))
 from_side from (start ∷ starts) xs s h = shape starts h.1 (from_side start starts xs s h.1)
   where
@@ -50,7 +55,8 @@ from_side from (start ∷ starts) xs s h = shape starts h.1 (from_side start sta
     shape [] r rest = λ i. first i ∷ rest i
     shape (next ∷ starts) r rest = λ i. first i ∷ rest i
 
-pub groups_side : (starts xs : List ℕ) (s : ℕ) → 0 < length starts → AreStarts starts (length xs) → groups_at starts (xs ++ s ∷ []) ≡ with_side (groups_at starts xs) s
+pub groups_side : (starts xs : List ℕ) (s : ℕ) → 0 < length starts → AreStarts starts (length xs)
+    → groups_at starts (xs ++ s ∷ []) ≡ with_side (groups_at starts xs) s
 groups_side [] xs s some h = absurd (omega arith)
 groups_side (start ∷ starts) xs s some h = from_side start starts xs s h.1
 
@@ -98,7 +104,8 @@ flat_more (first ∷ code) group = ap (λ (l : List ℕ). first ++ l) (flat_more
 pub flat_side : (code : Code) (s : ℕ) → 0 < length code → flat (with_side code s) ≡ flat code ++ s ∷ []
 flat_side [] s some = absurd (omega arith)
 flat_side (group ∷ []) s some = append-nil (group ++ s ∷ []) ∙ ap (λ (l : List ℕ). l ++ s ∷ []) (sym (append-nil group))
-flat_side (group ∷ next ∷ code) s some = ap (λ (l : List ℕ). group ++ l) (flat_side (next ∷ code) s (omega arith)) ∙ sym (append_assoc group (flat (next ∷ code)) (s ∷ []))
+flat_side (group ∷ next ∷ code) s some = ap (λ (l : List ℕ). group ++ l) (flat_side (next ∷ code) s (omega arith))
+    ∙ sym (append_assoc group (flat (next ∷ code)) (s ∷ []))
 
 all_more : (P : List ℕ → Type 0) (code : Code) (group : List ℕ) → AllByRecursion P code → P group → AllByRecursion P (code ++ group ∷ [])
 all_more P [] group all one = (one, tt)
@@ -114,12 +121,18 @@ all_side (group ∷ []) s all one = ((omega (arith, length-append group (s ∷ [
 all_side (group ∷ next ∷ code) s all one = (all.0, all_side (next ∷ code) s all.1 one)
 
 -- what is stored after a further group
-pub stored_more : (starts xs : List ℕ) (ys : List ℕ) → IsStored starts xs → 0 < length ys → AllByRecursion IsSide ys → length xs + length ys ≤ 200 → IsStored (starts ++ length xs ∷ []) (xs ++ ys)
+pub stored_more : (starts xs : List ℕ) (ys : List ℕ) → IsStored starts xs → 0 < length ys → AllByRecursion IsSide ys → length xs + length ys ≤ 200
+    → IsStored (starts ++ length xs ∷ []) (xs ++ ys)
 stored_more starts xs ys stored some sides room = record {
   starts_rise = starts_more starts (length xs) (length (xs ++ ys)) stored.starts_rise (omega (arith, length-append xs ys));
   code = subst IsKeptCode (sym cut) (record {
     groups = all_more IsSideGroup (groups_at starts xs) ys (stored.code).groups (some, sides);
-    few = omega (arith, ap length (flat_more (groups_at starts xs) ys), length-append (flat (groups_at starts xs)) ys, ap length (groups_flat starts xs stored.starts_rise));
+    few = omega (
+      arith,
+      ap length (flat_more (groups_at starts xs) ys),
+      length-append (flat (groups_at starts xs)) ys,
+      ap length (groups_flat starts xs stored.starts_rise),
+    );
   });
 }
   where
@@ -132,7 +145,12 @@ stored_side starts xs s stored some side room = record {
   starts_rise = starts_on starts (length xs) (length (xs ++ s ∷ [])) some stored.starts_rise (omega (arith, length-append xs (s ∷ [])));
   code = subst IsKeptCode (sym cut) (record {
     groups = all_side (groups_at starts xs) s (stored.code).groups side;
-    few = omega (arith, ap length (flat_side (groups_at starts xs) s (omega (arith, groups_length starts xs))), length-append (flat (groups_at starts xs)) (s ∷ []), ap length (groups_flat starts xs stored.starts_rise));
+    few = omega (
+      arith,
+      ap length (flat_side (groups_at starts xs) s (omega (arith, groups_length starts xs))),
+      length-append (flat (groups_at starts xs)) (s ∷ []),
+      ap length (groups_flat starts xs stored.starts_rise),
+    );
   });
 }
   where
@@ -140,12 +158,14 @@ stored_side starts xs s stored some side room = record {
     cut = groups_side starts xs s some stored.starts_rise
 
 -- a group: the sides from its start to the next start, or to the end
-from_at : (from : ℕ) (starts xs : List ℕ) (g : ℕ) → Rise from starts (length xs) → g < length starts → slice_range xs (get_or (from ∷ starts) g 0) (get_or starts g 0) ≡ get_or (groups_from from starts xs) g []
+from_at : (from : ℕ) (starts xs : List ℕ) (g : ℕ) → Rise from starts (length xs) → g < length starts
+    → slice_range xs (get_or (from ∷ starts) g 0) (get_or starts g 0) ≡ get_or (groups_from from starts xs) g []
 from_at from [] xs g h l = absurd (omega arith)
 from_at from (start ∷ starts) xs zero h l = refl
 from_at from (start ∷ starts) xs (suc g) h l = from_at start starts xs g h.1 (omega arith)
 
-from_last : (from : ℕ) (starts xs : List ℕ) → Rise from starts (length xs) → slice_range xs (get_or (from ∷ starts) (length starts) 0) (length xs) ≡ get_or (groups_from from starts xs) (length starts) []
+from_last : (from : ℕ) (starts xs : List ℕ) → Rise from starts (length xs)
+    → slice_range xs (get_or (from ∷ starts) (length starts) 0) (length xs) ≡ get_or (groups_from from starts xs) (length starts) []
 from_last from [] xs h = take_all (length xs - from) (drop from xs) (omega (arith, length-drop from xs))
 from_last from (start ∷ starts) xs h = from_last start starts xs h.1
 
@@ -155,18 +175,21 @@ after start starts g = ap (λ n. get_or (start ∷ starts) n 0) next
     next : g + 1 ≡ suc g
     next = omega arith
 
-pub group_at : (starts xs : List ℕ) (g : ℕ) → AreStarts starts (length xs) → g + 1 < length starts → slice_range xs (get_or starts g 0) (get_or starts (g + 1) 0) ≡ get_or (groups_at starts xs) g []
+pub group_at : (starts xs : List ℕ) (g : ℕ) → AreStarts starts (length xs) → g + 1 < length starts
+    → slice_range xs (get_or starts g 0) (get_or starts (g + 1) 0) ≡ get_or (groups_at starts xs) g []
 group_at [] xs g h l = absurd (omega arith)
 group_at (start ∷ starts) xs g h l = ap (slice_range xs (get_or (start ∷ starts) g 0)) (after start starts g) ∙ from_at start starts xs g h.1 (omega arith)
 
-pub group_last : (starts xs : List ℕ) (g : ℕ) → AreStarts starts (length xs) → g + 1 ≡ length starts → slice_range xs (get_or starts g 0) (length xs) ≡ get_or (groups_at starts xs) g []
+pub group_last : (starts xs : List ℕ) (g : ℕ) → AreStarts starts (length xs) → g + 1 ≡ length starts
+    → slice_range xs (get_or starts g 0) (length xs) ≡ get_or (groups_at starts xs) g []
 group_last [] xs g h e = absurd (omega arith)
 group_last (start ∷ starts) xs g h e =
     let last : length starts ≡ g = omega arith in
     subst (λ (n : ℕ). slice_range xs (get_or (start ∷ starts) n 0) (length xs) ≡ get_or (groups_from start starts xs) n []) last (from_last start starts xs h.1)
 
 -- the starts rise, up to the end
-rise_at : (from : ℕ) (starts : List ℕ) (end g : ℕ) → Rise from starts end → g < length starts → (get_or (from ∷ starts) g 0 < get_or starts g 0) × (get_or starts g 0 < end)
+rise_at : (from : ℕ) (starts : List ℕ) (end g : ℕ) → Rise from starts end → g < length starts
+    → (get_or (from ∷ starts) g 0 < get_or starts g 0) × (get_or starts g 0 < end)
 rise_at from [] end g h l = absurd (omega arith)
 rise_at from (start ∷ starts) end zero h l = (h.0, omega (arith, rise_below start starts end h.1))
 rise_at from (start ∷ starts) end (suc g) h l = rise_at start starts end g h.1 (omega arith)
@@ -176,7 +199,8 @@ rise_to from starts end zero h l = omega (arith, rise_below from starts end h)
 rise_to from [] end (suc g) h l = absurd (omega arith)
 rise_to from (start ∷ starts) end (suc g) h l = rise_to start starts end g h.1 (omega arith)
 
-pub starts_at : (starts : List ℕ) (end g : ℕ) → AreStarts starts end → g + 1 < length starts → (get_or starts g 0 < get_or starts (g + 1) 0) × (get_or starts (g + 1) 0 < end)
+pub starts_at : (starts : List ℕ) (end g : ℕ) → AreStarts starts end → g + 1 < length starts
+    → (get_or starts g 0 < get_or starts (g + 1) 0) × (get_or starts (g + 1) 0 < end)
 starts_at [] end g h l = absurd (omega arith)
 starts_at (start ∷ starts) end g h l =
     let both : (get_or (start ∷ starts) g 0 < get_or starts g 0) × (get_or starts g 0 < end) = rise_at start starts end g h.1 (omega arith) in

@@ -32,7 +32,8 @@ no_row_ends_with_a_space t y tiling low = end over.0 over.1 (over_from (t.width 
         (omega (arith, cell_once t tiling (t.width - 1) (min y (t.height - 1)) (omega (arith, wide_enough t tiling)) (omega (arith, high_enough t tiling))))
 
     end : (q : Square) → IsOneOf q t.squares → IsOver (t.width - 1) (min y (t.height - 1)) q
-        → glyph (list_any (is_corner t.width y) t.squares) (list_any (λ q. is_across q t.width && is_at_edge q y) t.squares) (list_any (λ q. is_at_side q t.width && is_along q y) t.squares) ≢ 32
+        → glyph (list_any (is_corner t.width y) t.squares) (list_any (λ q. is_across q t.width && is_at_edge q y) t.squares)
+        (list_any (λ q. is_at_side q t.width && is_along q y) t.squares) ≢ 32
     end q h o e = glyph-side (list_any (is_corner t.width y) t.squares) (list_any (λ q. is_across q t.width && is_at_edge q y) t.squares)
         (ap (glyph (list_any (is_corner t.width y) t.squares) (list_any (λ q. is_across q t.width && is_at_edge q y) t.squares)) (sym side) ∙ e)
       where

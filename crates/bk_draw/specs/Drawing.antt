@@ -1,4 +1,5 @@
 -- The drawing of a tiling in characters: one for each point of its grid.
+-- Example (DrawingExamples): the rectangle 3x2 of the squares 2, 1, 1 has the rows "+-++", "| ++" and "+-++".
 use Rattle.std.specs.List.{list_any, range_with_len}
 use Rattle.std.specs.Prelude.{Bool, List, if◌then◌else◌, map, nat_le, ℕ, ◌&&◌, ◌+◌}
 use Rattle.bk_tiling.specs.Point.{is_at_edge, is_at_side, is_corner}

@@ -1,3 +1,5 @@
+-- What the crate says.
 pub mod Drawing
-pub mod Mark
 pub mod DrawingLaws
+-- How its code keeps it.
+pub mod Mark

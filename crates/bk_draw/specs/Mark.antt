@@ -1,4 +1,5 @@
 -- A drawing made square by square: what one square draws at a point, and which of two characters is seen.
+-- Example (DrawingExamples): an upper side is seen over a bar, and not over a corner; within a square nothing is drawn.
 use Rattle.std.specs.Prelude.{List, if◌then◌else◌, length, nat_le, nat_lt, slice_index, ℕ, ◌&&◌, ◌<◌, ◌==◌, ◌||◌, ◌≡◌}
 use Rattle.bk_tiling.specs.Point.{is_at_edge, is_at_side, is_corner}
 use Rattle.bk_tiling.specs.declared.Square.{Square}

@@ -1,6 +1,7 @@
 -- A rectangle that grows stays tiled.
 use Rattle.std.specs.List.{AllByRecursion}
-use Rattle.std.proofs.Common.{Bool, List, [], arith, cond, false, inl, inr, length, map, refl, subst, suc, sym, true, zero, zero-add, ℕ, ◌%◌, ◌+◌, ◌<◌, ◌^◌, ◌∷◌, ◌≡◌, ◌≤◌, ◌⊎◌}
+use Rattle.std.proofs.Common.{Bool, List, [], arith, cond, false, inl, inr, length, map, refl, subst, suc, sym, true, zero, zero-add, ℕ, ◌%◌, ◌+◌}
+use Rattle.std.proofs.Common.{◌<◌, ◌^◌, ◌∷◌, ◌≡◌, ◌≤◌, ◌⊎◌}
 use Rattle.std.specs.Prelude.{IsPermutation}
 use Rattle.std.proofs.lemmas.Bool.{le-leb, cases_lt, lt-leb}
 use Rattle.std.proofs.lemmas.List.Elements.{All-from_recursion}
@@ -26,9 +27,11 @@ pub kept_in_order : (t : Tiling) → IsGrowing t → IsKept (record t { squares 
 kept_in_order t g = kept_from t.width t.height t.squares (in_code_order t.squares) g.width_fits g.height_fits g.accepted refl
 
 -- its squares sorted by place stand in the order of a code
-pub growing_sorted : (t : Tiling) → IsGrowing t → (sorted : List Square) → IsPermutation t.squares sorted → IsSortedByPlace sorted → sorted ≡ in_code_order t.squares
+pub growing_sorted : (t : Tiling) → IsGrowing t → (sorted : List Square) → IsPermutation t.squares sorted → IsSortedByPlace sorted
+    → sorted ≡ in_code_order t.squares
 growing_sorted t g sorted permuted by_place =
-    sorted_in_order t.squares sorted (All-from_recursion (λ (q : Square). IsSide q.s) t.squares (g.accepted).sides) (tiles_apart t.width t.height t.squares (g.accepted).tiles) permuted by_place
+    sorted_in_order t.squares sorted (All-from_recursion (λ (q : Square). IsSide q.s) t.squares (g.accepted).sides)
+    (tiles_apart t.width t.height t.squares (g.accepted).tiles) permuted by_place
 
 pub growing_width : (t : Tiling) → IsGrowing t → t.width ≤ 199999999999999800
 growing_width t g = most_width (record t { squares = in_code_order t.squares }) (kept_in_order t g)
@@ -57,9 +60,16 @@ module _ (n a b h : ℕ) (sum : n ≡ a + b) where
   split_beside : Splits (sized n h) (beside 0 a h) (beside a b h)
   split_beside i j has = cases (cases_lt i a)
     where
-      cases : (i < a) ⊎ (a ≤ i) → (HasCell (beside 0 a h) i j × (HasCell (beside a b h) i j → ⊥)) ⊎ ((HasCell (beside 0 a h) i j → ⊥) × HasCell (beside a b h) i j)
-      cases (inl l) = inl (record { left = omega arith; right = omega arith; top = omega arith; bottom = omega (arith, has.bottom) }, λ no. omega (arith, no.left))
-      cases (inr m) = inr (λ no. omega (arith, no.right), record { left = m; right = omega (arith, has.right); top = omega arith; bottom = omega (arith, has.bottom) })
+      cases : (i < a) ⊎ (a ≤ i) → (HasCell (beside 0 a h) i j × (HasCell (beside a b h) i j → ⊥))
+          ⊎ ((HasCell (beside 0 a h) i j → ⊥) × HasCell (beside a b h) i j)
+      cases (inl l) = inl (
+        record { left = omega arith; right = omega arith; top = omega arith; bottom = omega (arith, has.bottom) },
+        λ no. omega (arith, no.left),
+      )
+      cases (inr m) = inr (
+        λ no. omega (arith, no.right),
+        record { left = m; right = omega (arith, has.right); top = omega arith; bottom = omega (arith, has.bottom) },
+      )
 
   upper_part : IsPart (sized h n) (stacked 0 h a)
   upper_part = record { left = omega arith; right = omega arith; top = omega arith; bottom = omega arith }
@@ -70,14 +80,22 @@ module _ (n a b h : ℕ) (sum : n ≡ a + b) where
   split_stacked : Splits (sized h n) (stacked 0 h a) (stacked a h b)
   split_stacked i j has = cases (cases_lt j a)
     where
-      cases : (j < a) ⊎ (a ≤ j) → (HasCell (stacked 0 h a) i j × (HasCell (stacked a h b) i j → ⊥)) ⊎ ((HasCell (stacked 0 h a) i j → ⊥) × HasCell (stacked a h b) i j)
-      cases (inl l) = inl (record { left = omega arith; right = omega (arith, has.right); top = omega arith; bottom = omega arith }, λ no. omega (arith, no.top))
-      cases (inr m) = inr (λ no. omega (arith, no.bottom), record { left = omega arith; right = omega (arith, has.right); top = m; bottom = omega (arith, has.bottom) })
+      cases : (j < a) ⊎ (a ≤ j) → (HasCell (stacked 0 h a) i j × (HasCell (stacked a h b) i j → ⊥))
+          ⊎ ((HasCell (stacked 0 h a) i j → ⊥) × HasCell (stacked a h b) i j)
+      cases (inl l) = inl (
+        record { left = omega arith; right = omega (arith, has.right); top = omega arith; bottom = omega arith },
+        λ no. omega (arith, no.top),
+      )
+      cases (inr m) = inr (
+        λ no. omega (arith, no.bottom),
+        record { left = omega arith; right = omega (arith, has.right); top = m; bottom = omega (arith, has.bottom) },
+      )
 
 swapped : (r a b : Rectangle) → Splits r a b → Splits r b a
 swapped r a b splits i j has = cases (splits i j has)
   where
-    cases : (HasCell a i j × (HasCell b i j → ⊥)) ⊎ ((HasCell a i j → ⊥) × HasCell b i j) → (HasCell b i j × (HasCell a i j → ⊥)) ⊎ ((HasCell b i j → ⊥) × HasCell a i j)
+    cases : (HasCell a i j × (HasCell b i j → ⊥)) ⊎ ((HasCell a i j → ⊥) × HasCell b i j)
+        → (HasCell b i j × (HasCell a i j → ⊥)) ⊎ ((HasCell b i j → ⊥) × HasCell a i j)
     cases (inl (in_a, not_b)) = inr (not_b, in_a)
     cases (inr (not_a, in_b)) = inl (in_b, not_a)
 
@@ -93,8 +111,10 @@ module _ (t : Tiling) (g : IsGrowing t) (few : length t.squares < 200) where
     accepted = record {
       few = omega (arith, length-append t.squares (square_at t.width 0 t.height ∷ []));
       sides = all_append (λ q. IsSide q.s) t.squares (square_at t.width 0 t.height ∷ []) (g.accepted).sides ((some_height, side), tt);
-      tiles = tiles_joined (sized (t.width + t.height) t.height) (beside 0 t.width t.height) (beside t.width t.height t.height) t.squares (square_at t.width 0 t.height ∷ [])
-          (left_part (t.width + t.height) t.width t.height t.height refl) (right_part (t.width + t.height) t.width t.height t.height refl) (split_beside (t.width + t.height) t.width t.height t.height refl) (g.accepted).tiles (tiles_alone (square_at t.width 0 t.height) some_height);
+      tiles = tiles_joined (sized (t.width + t.height) t.height) (beside 0 t.width t.height) (beside t.width t.height t.height) t.squares
+          (square_at t.width 0 t.height ∷ [])
+          (left_part (t.width + t.height) t.width t.height t.height refl) (right_part (t.width + t.height) t.width t.height t.height refl)
+          (split_beside (t.width + t.height) t.width t.height t.height refl) (g.accepted).tiles (tiles_alone (square_at t.width 0 t.height) some_height);
     };
     width_fits = omega (arith, growing_width t g);
     height_fits = g.height_fits;
@@ -105,8 +125,10 @@ module _ (t : Tiling) (g : IsGrowing t) (few : length t.squares < 200) where
     accepted = record {
       few = omega (arith, length-append t.squares (square_at 0 t.height t.width ∷ []));
       sides = all_append (λ q. IsSide q.s) t.squares (square_at 0 t.height t.width ∷ []) (g.accepted).sides ((some_width, side), tt);
-      tiles = tiles_joined (sized t.width (t.height + t.width)) (stacked 0 t.width t.height) (stacked t.height t.width t.width) t.squares (square_at 0 t.height t.width ∷ [])
-          (upper_part (t.height + t.width) t.height t.width t.width refl) (lower_part (t.height + t.width) t.height t.width t.width refl) (split_stacked (t.height + t.width) t.height t.width t.width refl) (g.accepted).tiles (tiles_alone (square_at 0 t.height t.width) some_width);
+      tiles = tiles_joined (sized t.width (t.height + t.width)) (stacked 0 t.width t.height) (stacked t.height t.width t.width) t.squares
+          (square_at 0 t.height t.width ∷ [])
+          (upper_part (t.height + t.width) t.height t.width t.width refl) (lower_part (t.height + t.width) t.height t.width t.width refl)
+          (split_stacked (t.height + t.width) t.height t.width t.width refl) (g.accepted).tiles (tiles_alone (square_at 0 t.height t.width) some_width);
     };
     width_fits = g.width_fits;
     height_fits = omega (arith, growing_height t g);
@@ -124,12 +146,21 @@ module _ (t : Tiling) (g : IsGrowing t) (few : length t.squares < 200) where
   pub grows_left : t.height ≤ 999_999_999_999_999 → IsGrowing (with_left t)
   grows_left side = record {
     accepted = record {
-      few = omega (arith, length-append (map (moved_square t.height 0) t.squares) (square_at 0 0 t.height ∷ []), length-map t.squares (moved_square t.height 0));
-      sides = all_append (λ q. IsSide q.s) (map (moved_square t.height 0) t.squares) (square_at 0 0 t.height ∷ []) (sides_moved t.height 0) ((some_height, side), tt);
-      tiles = tiles_joined (sized (t.width + t.height) t.height) (beside t.height t.width t.height) (beside 0 t.height t.height) (map (moved_square t.height 0) t.squares) (square_at 0 0 t.height ∷ [])
+      few = omega (
+        arith,
+        length-append (map (moved_square t.height 0) t.squares) (square_at 0 0 t.height ∷ []),
+        length-map t.squares
+            (moved_square t.height 0),
+      );
+      sides = all_append (λ q. IsSide q.s) (map (moved_square t.height 0) t.squares) (square_at 0 0 t.height ∷ []) (sides_moved t.height 0)
+          ((some_height, side), tt);
+      tiles = tiles_joined (sized (t.width + t.height) t.height) (beside t.height t.width t.height) (beside 0 t.height t.height)
+          (map (moved_square t.height 0) t.squares) (square_at 0 0 t.height ∷ [])
           (right_part (t.width + t.height) t.height t.width t.height (omega arith)) (left_part (t.width + t.height) t.height t.width t.height (omega arith))
-          (swapped (sized (t.width + t.height) t.height) (beside 0 t.height t.height) (beside t.height t.width t.height) (split_beside (t.width + t.height) t.height t.width t.height (omega arith)))
-          (subst (λ (r : Rectangle). Tiles r (map (moved_square t.height 0) t.squares)) moved_right (tiles_moved t.height 0 (sized t.width t.height) t.squares (g.accepted).tiles))
+          (swapped (sized (t.width + t.height) t.height) (beside 0 t.height t.height) (beside t.height t.width t.height)
+          (split_beside (t.width + t.height) t.height t.width t.height (omega arith)))
+          (subst (λ (r : Rectangle). Tiles r (map (moved_square t.height 0) t.squares)) moved_right
+          (tiles_moved t.height 0 (sized t.width t.height) t.squares (g.accepted).tiles))
           (tiles_alone (square_at 0 0 t.height) some_height);
     };
     width_fits = omega (arith, growing_width t g);
@@ -140,11 +171,15 @@ module _ (t : Tiling) (g : IsGrowing t) (few : length t.squares < 200) where
   grows_above side = record {
     accepted = record {
       few = omega (arith, length-append (map (moved_square 0 t.width) t.squares) (square_at 0 0 t.width ∷ []), length-map t.squares (moved_square 0 t.width));
-      sides = all_append (λ q. IsSide q.s) (map (moved_square 0 t.width) t.squares) (square_at 0 0 t.width ∷ []) (sides_moved 0 t.width) ((some_width, side), tt);
-      tiles = tiles_joined (sized t.width (t.height + t.width)) (stacked t.width t.width t.height) (stacked 0 t.width t.width) (map (moved_square 0 t.width) t.squares) (square_at 0 0 t.width ∷ [])
+      sides = all_append (λ q. IsSide q.s) (map (moved_square 0 t.width) t.squares) (square_at 0 0 t.width ∷ []) (sides_moved 0 t.width)
+          ((some_width, side), tt);
+      tiles = tiles_joined (sized t.width (t.height + t.width)) (stacked t.width t.width t.height) (stacked 0 t.width t.width)
+          (map (moved_square 0 t.width) t.squares) (square_at 0 0 t.width ∷ [])
           (lower_part (t.height + t.width) t.width t.height t.width (omega arith)) (upper_part (t.height + t.width) t.width t.height t.width (omega arith))
-          (swapped (sized t.width (t.height + t.width)) (stacked 0 t.width t.width) (stacked t.width t.width t.height) (split_stacked (t.height + t.width) t.width t.height t.width (omega arith)))
-          (subst (λ (r : Rectangle). Tiles r (map (moved_square 0 t.width) t.squares)) moved_down (tiles_moved 0 t.width (sized t.width t.height) t.squares (g.accepted).tiles))
+          (swapped (sized t.width (t.height + t.width)) (stacked 0 t.width t.width) (stacked t.width t.width t.height)
+          (split_stacked (t.height + t.width) t.width t.height t.width (omega arith)))
+          (subst (λ (r : Rectangle). Tiles r (map (moved_square 0 t.width) t.squares)) moved_down
+          (tiles_moved 0 t.width (sized t.width t.height) t.squares (g.accepted).tiles))
           (tiles_alone (square_at 0 0 t.width) some_width);
     };
     width_fits = g.width_fits;
@@ -165,7 +200,8 @@ fit_moved right down t g few_right few_down = all_from (λ q. (q.x + right < 2 ^
 pub grows_next : (v i : ℕ) (t : Tiling) → IsGrowing t → length t.squares < 200 → next_side v i t ≤ 999_999_999_999_999 → IsGrowing (with_next v i t)
 grows_next v i t g few side = cases (goes_up_or_down v i) (is_set v (i % 64)) side
   where
-    cases : (b c : Bool) → cond b t.width t.height ≤ 999_999_999_999_999 → IsGrowing (cond b (cond c (with_above t) (with_below t)) (cond c (with_left t) (with_right t)))
+    cases : (b c : Bool) → cond b t.width t.height ≤ 999_999_999_999_999
+        → IsGrowing (cond b (cond c (with_above t) (with_below t)) (cond c (with_left t) (with_right t)))
     cases true true side = grows_above t g few side
     cases true false side = grows_below t g few side
     cases false true side = grows_left t g few side
@@ -176,9 +212,19 @@ pub next_length : (v i : ℕ) (t : Tiling) → length (with_next v i t).squares 
 next_length v i t = cases (goes_up_or_down v i) (is_set v (i % 64))
   where
     cases : (b c : Bool) → length (cond b (cond c (with_above t) (with_below t)) (cond c (with_left t) (with_right t))).squares ≡ length t.squares + 1
-    cases true true = omega (arith, length-append (map (moved_square 0 t.width) t.squares) (square_at 0 0 t.width ∷ []), length-map t.squares (moved_square 0 t.width))
+    cases true true = omega (
+      arith,
+      length-append (map (moved_square 0 t.width) t.squares) (square_at 0 0 t.width ∷ []),
+      length-map t.squares
+          (moved_square 0 t.width),
+    )
     cases true false = omega (arith, length-append t.squares (square_at 0 t.height t.width ∷ []))
-    cases false true = omega (arith, length-append (map (moved_square t.height 0) t.squares) (square_at 0 0 t.height ∷ []), length-map t.squares (moved_square t.height 0))
+    cases false true = omega (
+      arith,
+      length-append (map (moved_square t.height 0) t.squares) (square_at 0 0 t.height ∷ []),
+      length-map t.squares
+          (moved_square t.height 0),
+    )
     cases false false = omega (arith, length-append t.squares (square_at t.width 0 t.height ∷ []))
 
 pub grows_on : (n v i : ℕ) (t : Tiling) → IsGrowing t → length t.squares + n ≤ 200 → IsGrowing (attached n v i t)
@@ -186,7 +232,10 @@ grows_on zero v i t g few = g
 grows_on (suc n) v i t g few = cases (cases_lt 999_999_999_999_999 (next_side v i t))
     (λ side. grows_on n v (i + 1) (with_next v i t) (grows_next v i t g (omega arith) side) (omega (arith, next_length v i t)))
   where
-    cases : (999_999_999_999_999 < next_side v i t) ⊎ (next_side v i t ≤ 999_999_999_999_999) → (next_side v i t ≤ 999_999_999_999_999 → IsGrowing (attached n v (i + 1) (with_next v i t)))
+    cases : (999_999_999_999_999 < next_side v i t) ⊎ (next_side v i t ≤ 999_999_999_999_999)
+        → (next_side v i t ≤ 999_999_999_999_999 → IsGrowing (attached n v (i + 1) (with_next v i t)))
         → IsGrowing (attached (suc n) v i t)
-    cases (inl more) rest = subst (λ (b : Bool). IsGrowing (cond b (attached n v (i + 1) (with_next v i t)) t)) (sym (lt-leb (next_side v i t) 999_999_999_999_999 more)) g
-    cases (inr side) rest = subst (λ (b : Bool). IsGrowing (cond b (attached n v (i + 1) (with_next v i t)) t)) (sym (le-leb (next_side v i t) 999_999_999_999_999 side)) (rest side)
+    cases (inl more) rest = subst (λ (b : Bool). IsGrowing (cond b (attached n v (i + 1) (with_next v i t)) t))
+        (sym (lt-leb (next_side v i t) 999_999_999_999_999 more)) g
+    cases (inr side) rest = subst (λ (b : Bool). IsGrowing (cond b (attached n v (i + 1) (with_next v i t)) t))
+        (sym (le-leb (next_side v i t) 999_999_999_999_999 side)) (rest side)

@@ -12,7 +12,8 @@ front_moved right down zero squares = squares
 front_moved right down (suc n) [] = []
 front_moved right down (suc n) (q ∷ squares) = moved_square right down q ∷ front_moved right down n squares
 
-pub next_unmoved : (right down i : ℕ) (squares : List Square) (d : Square) → i < length squares → get_or (front_moved right down i squares) i d ≡ get_or squares i d
+pub next_unmoved : (right down i : ℕ) (squares : List Square) (d : Square) → i < length squares
+    → get_or (front_moved right down i squares) i d ≡ get_or squares i d
 next_unmoved right down i [] d lt = absurd (omega arith)
 next_unmoved right down zero (q ∷ squares) d lt = refl
 next_unmoved right down (suc i) (q ∷ squares) d lt = next_unmoved right down i squares d (omega arith)
@@ -21,13 +22,15 @@ pub next_moved : (right down i : ℕ) (squares : List Square) (d : Square) → i
     → set (front_moved right down i squares) i (moved_square right down (get_or squares i d)) ≡ front_moved right down (suc i) squares
 next_moved right down i [] d lt = absurd (omega arith)
 next_moved right down zero (q ∷ squares) d lt = refl
-next_moved right down (suc i) (q ∷ squares) d lt = ap (λ (rest : List Square). moved_square right down q ∷ rest) (next_moved right down i squares d (omega arith))
+next_moved right down (suc i) (q ∷ squares) d lt = ap (λ (rest : List Square). moved_square right down q ∷ rest)
+    (next_moved right down i squares d (omega arith))
 
 pub all_moved_front : (right down i : ℕ) (squares : List Square) → length squares ≤ i → front_moved right down i squares ≡ map (moved_square right down) squares
 all_moved_front right down zero [] all = refl
 all_moved_front right down (suc i) [] all = refl
 all_moved_front right down zero (q ∷ squares) all = absurd (omega arith)
-all_moved_front right down (suc i) (q ∷ squares) all = ap (λ (rest : List Square). moved_square right down q ∷ rest) (all_moved_front right down i squares (omega arith))
+all_moved_front right down (suc i) (q ∷ squares) all = ap (λ (rest : List Square). moved_square right down q ∷ rest)
+    (all_moved_front right down i squares (omega arith))
 
 -- the next square keeps within the types of the code
 pub next_fits : (right down i : ℕ) (first now : List Square) (d : Square) → now ≡ front_moved right down i first → i < length first

@@ -25,21 +25,36 @@ sides_from_test squares h = all_from_test (λ q. IsSide q.s) (λ q. nat_lt 0 q.s
 
 pub growing_33x32 : IsGrowing rectangle_33x32
 growing_33x32 = record {
-  accepted = record { few = omega arith; sides = sides_from_test rectangle_33x32.squares refl; tiles = tiles_from_test (sized 33 32) rectangle_33x32.squares refl };
+  accepted = record {
+    few = omega arith;
+    sides = sides_from_test rectangle_33x32.squares refl;
+    tiles = tiles_from_test (sized 33 32) rectangle_33x32.squares
+        refl;
+  };
   width_fits = omega arith;
   height_fits = omega arith;
 }
 
 pub growing_69x61 : IsGrowing rectangle_69x61
 growing_69x61 = record {
-  accepted = record { few = omega arith; sides = sides_from_test rectangle_69x61.squares refl; tiles = tiles_from_test (sized 69 61) rectangle_69x61.squares refl };
+  accepted = record {
+    few = omega arith;
+    sides = sides_from_test rectangle_69x61.squares refl;
+    tiles = tiles_from_test (sized 69 61) rectangle_69x61.squares
+        refl;
+  };
   width_fits = omega arith;
   height_fits = omega arith;
 }
 
 pub growing_65x47 : IsGrowing rectangle_65x47
 growing_65x47 = record {
-  accepted = record { few = omega arith; sides = sides_from_test rectangle_65x47.squares refl; tiles = tiles_from_test (sized 65 47) rectangle_65x47.squares refl };
+  accepted = record {
+    few = omega arith;
+    sides = sides_from_test rectangle_65x47.squares refl;
+    tiles = tiles_from_test (sized 65 47) rectangle_65x47.squares
+        refl;
+  };
   width_fits = omega arith;
   height_fits = omega arith;
 }

@@ -32,11 +32,13 @@ pub under_way_more : (v end turn : ℕ) (first now : Tiling) → turn < end → 
 under_way_more v end turn first now some side way =
     let less : (end - turn) - 1 ≡ end - (turn + 1) = omega arith in
     record {
-      same = ap (λ (n : ℕ). attached n v (turn + 1) (with_next v turn now)) (sym less) ∙ sym (attach_more (end - turn) v turn now (omega arith) side) ∙ way.same;
+      same = ap (λ (n : ℕ). attached n v (turn + 1) (with_next v turn now)) (sym less) ∙ sym (attach_more (end - turn) v turn now (omega arith) side)
+          ∙ way.same;
       count = omega (arith, next_length v turn now, way.count);
     }
 
-pub under_way_stops : (v end turn : ℕ) (first now : Tiling) → 999_999_999_999_999 < next_side v turn now → IsUnderWay v end turn first now → now ≡ attached end v 0 first
+pub under_way_stops : (v end turn : ℕ) (first now : Tiling) → 999_999_999_999_999 < next_side v turn now → IsUnderWay v end turn first now
+    → now ≡ attached end v 0 first
 under_way_stops v end turn first now more way = sym (attach_stop (end - turn) v turn now more) ∙ way.same
 
 pub under_way_end : (v end turn : ℕ) (first now : Tiling) → end ≤ turn → IsUnderWay v end turn first now → now ≡ attached end v 0 first

@@ -1,4 +1,5 @@
 -- Squares attached to a rectangle at its four sides, turn by turn as the bits of a number say.
+-- Example (TrialExamples): attaching to the first rectangle by the bits of 0 gives one 6,145 wide.
 use Rattle.std.specs.Prelude.{Bool, [], cond, map, nat_eq, nat_le, suc, zero, ℕ, ◌%◌, ◌&&◌, ◌++◌, ◌+◌, ◌/◌, ◌^◌, ◌∷◌}
 use Rattle.bk_tiling.specs.Scale.{moved_square}
 use Rattle.bk_tiling.specs.Tiling.{Tiling}

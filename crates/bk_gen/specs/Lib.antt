@@ -1,4 +1,6 @@
-pub mod Attaching
-pub mod Growing
+-- What the crate says.
 pub mod TrialCodes
+pub mod Attaching
 pub mod TrialLaws
+-- How its code keeps it.
+pub mod Growing

@@ -1,4 +1,5 @@
 -- Trial codes: large valid codes that are made from two numbers.
+-- Example (TrialExamples): that of seed 0 at place 1 has 72 squares.
 use Rattle.std.specs.Prelude.{[], length, slice_index_or, ℕ, ◌%◌, ◌*◌, ◌++◌, ◌+◌, ◌-◌, ◌^◌, ◌∷◌}
 use Rattle.bk_tiling.specs.CodeOrder.{in_code_order}
 use Rattle.bk_tiling.specs.Tiling.{Tiling}

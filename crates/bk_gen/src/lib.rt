@@ -8,8 +8,6 @@ ghost use Rattle.bk_gen.specs.TrialLaws.{EachSampleHasATiling};
 
 mod first;
 mod growing;
-#[cfg(test)]
-mod tests;
 
 use bk_code::{Code, code_of};
 use bk_tiling::{LONGEST_SIDE, MOST_SQUARES, Tiling};

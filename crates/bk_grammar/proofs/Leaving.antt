@@ -11,13 +11,16 @@ pub begins_shorter : (Grammar : List ℕ → Type 0) (bs more : List ℕ) → Be
 begins_shorter Grammar bs more (rest, h) = (more ++ rest, subst Grammar (append_assoc bs more rest) h)
 
 -- bytes that begin a text up to a place, and begin none with the byte there, leave the grammar there
-pub leaves_before : (Grammar : List ℕ → Type 0) (bs : List ℕ) (at : ℕ) → at < length bs → Begins Grammar (take at bs) → ((x : List ℕ) → ¬ (Grammar (take at bs ++ get_or bs at 0 ∷ x)))
+pub leaves_before : (Grammar : List ℕ → Type 0) (bs : List ℕ) (at : ℕ) → at < length bs → Begins Grammar (take at bs)
+    → ((x : List ℕ) → ¬ (Grammar (take at bs ++ get_or bs at 0 ∷ x)))
     → LeavesAt Grammar bs at
 leaves_before Grammar bs at within begins none =
     let front : take (suc at) bs ≡ take at bs ++ get_or bs at 0 ∷ [] = take-suc bs at 0 within in
     let whole : bs ≡ take at bs ++ get_or bs at 0 ∷ drop (suc at) bs =
-    sym (take-append-drop (suc at) bs) ∙ ap (λ z. z ++ drop (suc at) bs) front ∙ append_assoc (take at bs) (get_or bs at 0 ∷ []) (drop (suc at) bs) in
-    (λ h. none (drop (suc at) bs) (subst Grammar whole h), record { inside = omega arith; begins = begins; longest = λ longer few h. longest front longer few h })
+    sym (take-append-drop (suc at) bs) ∙ ap (λ z. z ++ drop (suc at) bs) front ∙ append_assoc (take at bs) (get_or bs at 0 ∷ []) (drop (suc at) bs) in (
+      λ h. none (drop (suc at) bs) (subst Grammar whole h),
+      record { inside = omega arith; begins = begins; longest = λ longer few h. longest front longer few h },
+    )
   where
     longest : take (suc at) bs ≡ take at bs ++ get_or bs at 0 ∷ [] → (longer : ℕ) → longer ≤ length bs → Begins Grammar (take longer bs) → longer ≤ at
     longest front longer few h = elim (cases_lt at longer) [

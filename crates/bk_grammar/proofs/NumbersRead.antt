@@ -39,7 +39,8 @@ pub powers : (i j : ℕ) → i ≤ j → 10 ^ i ≤ 10 ^ j
 powers i j h = pow-le-pow_right {n = 10} (omega arith) {i = i} {j = j} h
 
 -- a first digit but 0, and digits that end a number which isn't too great
-pub number_read : (most greatest b d n : ℕ) (ds : List ℕ) → greatest < 10 ^ most → d ≤ greatest → 0 < d → d < 10 → b ≡ 48 + d → Longer greatest d n ds → Number most n (b ∷ ds)
+pub number_read : (most greatest b d n : ℕ) (ds : List ℕ) → greatest < 10 ^ most → d ≤ greatest → 0 < d → d < 10 → b ≡ 48 + d → Longer greatest d n ds
+    → Number most n (b ∷ ds)
 number_read most greatest b d n ds bound fits some small is longer =
     let value : digit_value b ≡ d = value_of_digit d b small is in
     let few : length ds < most = elim (cases_lt (length ds) most) [

@@ -27,17 +27,3 @@ pub fn push_number<const N: usize>(number: u64, line: &mut ArrayVec<u8, N>)
     let mut buffer = Buffer::new();
     push_bytes(buffer.format(number).as_bytes(), line);
 }
-
-#[cfg(test)]
-mod tests {
-    use super::*;
-
-    // Bytes and the greatest number, behind one another.
-    #[test]
-    fn appended(rt: HostRuntime) {
-        let mut line = ArrayVec::<u8, 30>::new();
-        push_bytes(b"a ", &mut line);
-        push_number(u64::MAX, &mut line);
-        assert_eq!(rt; line.as_slice(), b"a 18446744073709551615".as_slice());
-    }
-}

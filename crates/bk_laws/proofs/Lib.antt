@@ -3,8 +3,10 @@ pub mod ListPlaces
 pub mod ZippedLists
 pub mod Counts
 pub mod Occurrences
+pub mod NoneRepeated
 pub mod Tests
 pub mod Totals
 pub mod Products
+pub mod Pigeonhole
 pub mod Powers
 pub mod WholeNumbers

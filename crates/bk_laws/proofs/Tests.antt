@@ -1,6 +1,7 @@
 -- Tests over all numbers below a number, and a test that is asked only where another passes.
-use Rattle.std.proofs.Common.{Bool, ap, arith, false, inl, inr, not, suc, true, zero, ℕ, ◌&&◌, ◌<◌, ◌||◌, ◌∙◌, ◌≡◌, ◌≤◌, ◌⊎◌}
+use Rattle.std.proofs.Common.{Bool, ap, arith, cond, false, inl, inr, nat_eq, not, suc, true, zero, ℕ, ◌&&◌, ◌+◌, ◌<◌, ◌||◌, ◌∙◌, ◌≡◌, ◌≤◌, ◌⊎◌}
 use Rattle.std.proofs.lemmas.Bool.{and_parts}
+use Rattle.std.proofs.lemmas.Bool.Decides.{nat_tests}
 
 -- the test passes at each number below n
 abbrev pub all_below : (ℕ → Bool) → ℕ → Bool
@@ -29,3 +30,13 @@ after_of false b e f = absurd (impossible f)
   where
     impossible : false ≡ true → ⊥
     impossible g = cc
+
+-- one for a place among places, where both are counted one further; and none for the first place and another
+pub shift : (a v : ℕ) → ◌≡◌ {A = ℕ} (cond (nat_eq (1 + a) (suc v)) 1 0) (cond (nat_eq a v) 1 0)
+shift a v = grind (arith, nat_tests)
+
+pub far : (v : ℕ) → ◌≡◌ {A = ℕ} (cond (nat_eq 0 (suc v)) 1 0) 0
+far v = grind (arith, nat_tests)
+
+pub near : (a : ℕ) → ◌≡◌ {A = ℕ} (cond (nat_eq (1 + a) 0) 1 0) 0
+near a = grind (arith, nat_tests)

@@ -24,7 +24,9 @@ width_is [] t has some = absurd (omega arith)
 width_is (group ∷ code) t has some = from (subst (λ (c : Code). LaysTo t.width [] c t.squares) has.code_is (a_code_is_laid t has.tiling))
   where
     from : LaysTo t.width [] (group ∷ code) t.squares → sum group ≡ t.width
-    from (gap, is, fits, lays) = fits ∙ ap (λ (g : Segment). g.width) (gap_unique t.width [] gap (record { x = 0; width = t.width; level = 0 }) is (gap_of_none t.width (wide_enough t has.tiling)))
+    from (gap, is, fits, lays) = fits
+        ∙ ap (λ (g : Segment). g.width)
+        (gap_unique t.width [] gap (record { x = 0; width = t.width; level = 0 }) is (gap_of_none t.width (wide_enough t has.tiling)))
 
 -- a tiling's code is laid under the sum of its first group
 pub lays_code : (code : Code) (t : Tiling) → HasCode code t → 0 < length code → LaysTo (first_sum code) [] code t.squares
@@ -47,13 +49,16 @@ no_misfit w code end number gap_width total lays m = from halves.second
         m.misfit (fits ∙ ap (λ (g : Segment). g.width) (gap_unique w m.laid gap m.gap (subst (λ (l : List Square). IsGap w l gap) same is) m.is_gap))
 
 -- nor is the outline uneven where the squares are laid to a tiling
-pub not_open : (w : ℕ) (code : Code) (t : Tiling) (least greatest : ℕ) → IsTiling t → t.width ≡ w → LaysTo w [] code t.squares → EndsOpen w code least greatest → ⊥
+pub not_open : (w : ℕ) (code : Code) (t : Tiling) (least greatest : ℕ) → IsTiling t → t.width ≡ w → LaysTo w [] code t.squares
+    → EndsOpen w code least greatest → ⊥
 not_open w code t least greatest tiling width lays o =
     let same : o.laid ≡ t.squares = lays_unique w [] code o.laid t.squares o.lays lays in
     let low = (o.uneven).least_is in
     let high = (o.uneven).greatest_is in
-    let at_low : depth o.laid low.column ≡ t.height = ap (λ (l : List Square). depth l low.column) same ∙ even_below t tiling low.column (omega (arith, low.within, width)) in
-    let at_high : depth o.laid high.column ≡ t.height = ap (λ (l : List Square). depth l high.column) same ∙ even_below t tiling high.column (omega (arith, high.within, width)) in
+    let at_low : depth o.laid low.column ≡ t.height = ap (λ (l : List Square). depth l low.column) same
+    ∙ even_below t tiling low.column (omega (arith, low.within, width)) in
+    let at_high : depth o.laid high.column ≡ t.height = ap (λ (l : List Square). depth l high.column) same
+    ∙ even_below t tiling high.column (omega (arith, high.within, width)) in
     omega (arith, low.there, high.there, at_low, at_high, (o.uneven).uneven)
 
 positive : (sides : List ℕ) → AllByRecursion IsSide sides → AllByRecursion (λ s. 0 < s) sides
@@ -73,9 +78,11 @@ flat_some [] good some = omega arith
 flat_some (group ∷ code) good some = omega (arith, good.0.0, length-append group (flat code))
 
 -- where the outline is even, what is laid out is a tiling
-pub kept_even : (p : Laid) (least greatest : ℕ) → IsLaidOut p → IsLeastDepth p least → IsGreatestDepth p greatest → greatest ≤ least → p.width ≤ 200000000000000000 → greatest < 2 ^ 64 → IsKept (record { width = p.width; height = greatest; squares = p.squares })
+pub kept_even : (p : Laid) (least greatest : ℕ) → IsLaidOut p → IsLeastDepth p least → IsGreatestDepth p greatest → greatest ≤ least
+    → p.width ≤ 200000000000000000 → greatest < 2 ^ 64 → IsKept (record { width = p.width; height = greatest; squares = p.squares })
 kept_even p least greatest out low high even narrow small = record {
-  tiling = tiling_from_laid p.width greatest p.squares out.code (laid_out p out) (omega (arith, count, flat_some out.code (out.kept).groups out.some)) (λ c h. omega (arith, low.below c h, high.above c h, even));
+  tiling = tiling_from_laid p.width greatest p.squares out.code (laid_out p out) (omega (arith, count, flat_some out.code (out.kept).groups out.some))
+      (λ c h. omega (arith, low.below c h, high.above c h, even));
   few = omega (arith, count, (out.kept).few);
   sides = lays_sides p.width [] out.code p.squares (out.kept).groups out.lays tt;
   width_fits = omega (arith, narrow);

@@ -5,7 +5,8 @@ use Rattle.std.proofs.lemmas.Bool.{cases_lt}
 use Rattle.std.proofs.lemmas.List.Sums.{sum_by-append}
 use Rattle.std.proofs.lemmas.List.{append-nil, append_assoc}
 use Rattle.bk_laws.proofs.Totals.{sum_is_total}
-use Rattle.bk_tiling.proofs.Cells.{column_from, column_left, column_right, counted_one, covers_from, depth_comes_from, depth_reaches, from_append, in_all, no_two, one_counted, over_from}
+use Rattle.bk_tiling.proofs.Cells.{column_from, column_left, column_right, counted_one, covers_from, depth_comes_from, depth_reaches, from_append}
+use Rattle.bk_tiling.proofs.Cells.{in_all, no_two, one_counted, over_from}
 use Rattle.bk_tiling.proofs.Members.{in_back, in_front}
 use Rattle.bk_tiling.proofs.Rows.{chain_over, chain_total, chain_within, laid_sides}
 use Rattle.bk_tiling.proofs.TilingLaws.{cell_once, side_of, within_of}
@@ -23,7 +24,8 @@ use Rattle.bk_profile.specs.LayingLaws.{ACodeIsLaid}
 
 before_all : (front back : List Square) → InCodeOrder (front ++ back) → (q r : Square) → IsOneOf q front → IsOneOf r back → comes_before q r ≡ true
 before_all [] back o q r h k = absurd h
-before_all (p ∷ front) back o q r (inl e) k = ap (λ (s : Square). comes_before s r) e ∙ in_all (λ s. comes_before p s ≡ true) (front ++ back) o.0 r (in_back front back r k)
+before_all (p ∷ front) back o q r (inl e) k = ap (λ (s : Square). comes_before s r) e
+    ∙ in_all (λ s. comes_before p s ≡ true) (front ++ back) o.0 r (in_back front back r k)
 before_all (p ∷ front) back o q r (inr h) k = before_all front back o.1 q r h k
 
 module _ (t : Tiling) (tiling : IsTiling t) (laid group back : List Square) (is : t.squares ≡ laid ++ (group ++ back)) (g : IsGroup t.squares group) where
@@ -43,7 +45,8 @@ module _ (t : Tiling) (tiling : IsTiling t) (laid group back : List Square) (is 
   next_is = is ∙ ap (λ (l : List Square). laid ++ (l ++ back)) g.row.is
 
   below_height : g.row.first.y < t.height
-  below_height = let w = (within_of t tiling g.row.first (in_group g.row.first first_in)).bottom in omega (arith, side_of t tiling g.row.first (in_group g.row.first first_in))
+  below_height = let w =
+      (within_of t tiling g.row.first (in_group g.row.first first_in)).bottom in omega (arith, side_of t tiling g.row.first (in_group g.row.first first_in))
 
   -- a cell is covered by what is laid, or the next square stands no later
   laid_or_later : (i j : ℕ) → i < t.width → j < t.height → (IsNoLater g.row.first i j → ⊥) → (q : Square) × IsOneOf q laid × (covers i j q ≡ true)
@@ -51,7 +54,9 @@ module _ (t : Tiling) (tiling : IsTiling t) (laid group back : List Square) (is 
     where
       from : (0 < count_by (covers i j) laid) ⊎ (count_by (covers i j) laid ≤ 0) → (q : Square) × IsOneOf q laid × (covers i j q ≡ true)
       from (inl h) = counted_one (covers i j) laid h
-      from (inr h) = absurd (not (next_corner t laid g.row.first (g.row.rest ++ back) tiling next_is i j a b (λ r k e. omega (arith, h, one_counted (covers i j) laid r k e))))
+      from (inr h) =
+          absurd (not
+          (next_corner t laid g.row.first (g.row.rest ++ back) tiling next_is i j a b (λ r k e. omega (arith, h, one_counted (covers i j) laid r k e))))
 
   least : (c : ℕ) → c < t.width → g.row.first.y ≤ depth laid c
   least c wide = cases (cases_lt 0 g.row.first.y)
@@ -74,23 +79,32 @@ module _ (t : Tiling) (tiling : IsTiling t) (laid group back : List Square) (is 
   at_level c lo hi = from (chain_over group g.row.first.x g.row.end g.row.chain c lo hi)
     where
       from : (r : Square) × IsOneOf r group × (r.x ≤ c) × (c < r.x + r.s) → (r : Square) × IsOneOf r group × (covers c g.row.first.y r ≡ true)
-      from (r, h, a, b) = let top = in_all (λ q. q.y ≡ g.row.first.y) group g.row.tops r h in (r, h, covers_from c g.row.first.y r a b (omega (arith, top)) (omega (arith, top, side_of t tiling r (in_group r h))))
+      from (r, h, a, b) = let top = in_all (λ q. q.y ≡ g.row.first.y) group g.row.tops r h in
+          (r, h, covers_from c g.row.first.y r a b (omega (arith, top)) (omega (arith, top, side_of t tiling r (in_group r h))))
 
   one_over : (q r : Square) (i j : ℕ) → IsOneOf q t.squares → covers i j q ≡ true → IsOneOf r t.squares → covers i j r ≡ true → q ≡ r
-  one_over q r i j a e b f = let o = over_from i j q e in let w = within_of t tiling q a in no_two (covers i j) t.squares (omega (arith, cell_once t tiling i j (omega (arith, o.right, w.right)) (omega (arith, o.bottom, w.bottom)))) q r a e b f
+  one_over q r i j a e b f = let o = over_from i j q e in let w =
+      within_of t tiling q a in
+      no_two (covers i j) t.squares (omega (arith, cell_once t tiling i j (omega (arith, o.right, w.right)) (omega (arith, o.bottom, w.bottom)))) q r a e b f
 
   end_within : g.row.end ≤ t.width
   end_within = cases (cases_lt g.row.first.x g.row.end)
     where
       cases : (g.row.first.x < g.row.end) ⊎ (g.row.end ≤ g.row.first.x) → g.row.end ≤ t.width
-      cases (inr h) = let w = (within_of t tiling g.row.first (in_group g.row.first first_in)).right in omega (arith, side_of t tiling g.row.first (in_group g.row.first first_in))
+      cases (inr h) = let w =
+          (within_of t tiling g.row.first (in_group g.row.first first_in)).right in omega (arith, side_of t tiling g.row.first (in_group g.row.first first_in))
       cases (inl h) = from (at_level (g.row.end - 1) (omega arith) (omega arith))
         where
           from : (r : Square) × IsOneOf r group × (covers (g.row.end - 1) g.row.first.y r ≡ true) → g.row.end ≤ t.width
           from (r, k, f) = omega (arith, (over_from (g.row.end - 1) g.row.first.y r f).right, (within_of t tiling r (in_group r k)).right)
 
   some_width : g.row.first.x < g.row.end
-  some_width = omega (arith, (chain_within group g.row.first.x g.row.end g.row.chain g.row.first first_in).1, side_of t tiling g.row.first (in_group g.row.first first_in))
+  some_width =
+      omega (
+        arith,
+        (chain_within group g.row.first.x g.row.end g.row.chain g.row.first first_in).1,
+        side_of t tiling g.row.first (in_group g.row.first first_in),
+      )
 
   level : (c : ℕ) → g.row.first.x ≤ c → c < g.row.end → depth laid c ≡ g.row.first.y
   level c lo hi = cases (cases_lt g.row.first.y (depth laid c))
@@ -100,14 +114,16 @@ module _ (t : Tiling) (tiling : IsTiling t) (laid group back : List Square) (is 
       cases (inl h) = from (depth_comes_from laid c g.row.first.y h) (at_level c lo hi)
         where
           -- a laid square over the cell and one of the group
-          from : (q : Square) × IsOneOf q laid × (covers_column c q ≡ true) × (g.row.first.y < q.y + q.s) → (r : Square) × IsOneOf r group × (covers c g.row.first.y r ≡ true) → depth laid c ≡ g.row.first.y
+          from : (q : Square) × IsOneOf q laid × (covers_column c q ≡ true) × (g.row.first.y < q.y + q.s)
+              → (r : Square) × IsOneOf r group × (covers c g.row.first.y r ≡ true) → depth laid c ≡ g.row.first.y
           from (q, k, e, d) (r, m, f) = absurd (omega (
             arith,
             ap (count_by (covers c g.row.first.y)) is,
             cell_once t tiling c g.row.first.y (omega (arith, end_within)) below_height,
             sum_by-append (λ s. cond (covers c g.row.first.y s) 1 0) laid (group ++ back),
             one_counted (covers c g.row.first.y) laid q k (covers_from c g.row.first.y q (column_left c q e) (column_right c q e)
-                (before_level q g.row.first (before_all laid (group ++ back) (subst InCodeOrder is tiling.ordered) q g.row.first k (in_front group back g.row.first first_in))) d),
+                (before_level q g.row.first
+                (before_all laid (group ++ back) (subst InCodeOrder is tiling.ordered) q g.row.first k (in_front group back g.row.first first_in))) d),
             one_counted (covers c g.row.first.y) (group ++ back) r (in_front group back r m) f,
           ))
 
@@ -125,13 +141,21 @@ module _ (t : Tiling) (tiling : IsTiling t) (laid group back : List Square) (is 
               by (inl k) = last (at_level (g.row.end - 1) (omega (arith, some_width)) (omega (arith, some_width)))
                 where
                   last : (r : Square) × IsOneOf r group × (covers (g.row.end - 1) g.row.first.y r ≡ true) → g.row.first.y < depth laid g.row.end
-                  last (r, m, f) = let same : z ≡ r = one_over z r (g.row.end - 1) g.row.first.y h (covers_from (g.row.end - 1) g.row.first.y z (omega arith) (omega (arith, (over_from g.row.end g.row.first.y z e).right)) (omega (arith, ey)) (omega (arith, ey, side_of t tiling z h))) (in_group r m) f in
-                      absurd (omega (arith, (over_from g.row.end g.row.first.y z e).right, ap (λ (s : Square). s.x + s.s) same, (chain_within group g.row.first.x g.row.end g.row.chain r m).1))
+                  last (r, m, f) = let same : z ≡ r = one_over z r (g.row.end - 1) g.row.first.y h
+                      (covers_from (g.row.end - 1) g.row.first.y z (omega arith) (omega (arith, (over_from g.row.end g.row.first.y z e).right))
+                      (omega (arith, ey)) (omega (arith, ey, side_of t tiling z h))) (in_group r m) f in
+                      absurd (omega (
+                        arith,
+                        (over_from g.row.end g.row.first.y z e).right,
+                        ap (λ (s : Square). s.x + s.s) same,
+                        (chain_within group g.row.first.x g.row.end g.row.chain r m).1,
+                      ))
 
           order : InCodeOrder (g.row.first ∷ (g.row.rest ++ back))
           order = tail_order laid (subst InCodeOrder next_is tiling.ordered)
             where
-              tail_order : (front : List Square) → InCodeOrder (front ++ (g.row.first ∷ (g.row.rest ++ back))) → InCodeOrder (g.row.first ∷ (g.row.rest ++ back))
+              tail_order : (front : List Square) → InCodeOrder (front ++ (g.row.first ∷ (g.row.rest ++ back)))
+                  → InCodeOrder (g.row.first ∷ (g.row.rest ++ back))
               tail_order [] o = o
               tail_order (q ∷ front) o = tail_order front o.1
 
@@ -140,12 +164,19 @@ module _ (t : Tiling) (tiling : IsTiling t) (laid group back : List Square) (is 
           later (inr k) = before_level g.row.first z (in_all (λ s. comes_before g.row.first s ≡ true) (g.row.rest ++ back) order.0 z k)
 
           cases : IsOneOf z laid ⊎ IsOneOf z (group ++ back) → g.row.first.y < depth laid g.row.end
-          cases (inl k) = let o = over_from g.row.end g.row.first.y z e in omega (arith, depth_reaches laid g.row.end z k (column_from g.row.end z o.left o.right), o.bottom)
-          cases (inr k) = reaches (omega (arith, (over_from g.row.end g.row.first.y z e).top, later (subst (λ (l : List Square). IsOneOf z (l ++ back)) g.row.is k)))
+          cases (inl k) = let o =
+              over_from g.row.end g.row.first.y z e in omega (arith, depth_reaches laid g.row.end z k (column_from g.row.end z o.left o.right), o.bottom)
+          cases (inr k) =
+              reaches (omega (arith, (over_from g.row.end g.row.first.y z e).top, later (subst (λ (l : List Square). IsOneOf z (l ++ back)) g.row.is k)))
 
   pub gap : IsGap t.width laid (record { x = g.row.first.x; width = g.row.end - g.row.first.x; level = g.row.first.y })
   gap = record {
-    flat = record { some = omega (arith, some_width); within = omega (arith, some_width, end_within); level = λ c lo hi. level c lo (omega (arith, some_width)) };
+    flat = record {
+      some = omega (arith, some_width);
+      within = omega (arith, some_width, end_within);
+      level =
+          λ c lo hi. level c lo (omega (arith, some_width));
+    };
     least = least;
     leftmost = λ c h. leftmost c (omega (arith, some_width, end_within)) h;
     ends = λ h. subst (λ (c : ℕ). g.row.first.y < depth laid c) (omega (arith, some_width)) (ends (omega (arith, some_width, h)));
@@ -157,7 +188,8 @@ module _ (t : Tiling) (tiling : IsTiling t) (laid group back : List Square) (is 
   pub group_is : laid ++ laid_group g.row.first.x g.row.first.y (laid_sides group) ≡ laid ++ group
   group_is = ap (λ (l : List Square). laid ++ l) (sym (chain_is_group group g.row.first.x g.row.first.y g.row.end g.row.chain g.row.tops))
 
-lays : (t : Tiling) → IsTiling t → (groups : List (List Square)) (laid : List Square) → t.squares ≡ laid ++ row_of groups → AllByRecursion (λ g. IsGroup t.squares g × AllIn t.squares g) groups → LaysTo t.width laid (map (map (λ q. q.s)) groups) t.squares
+lays : (t : Tiling) → IsTiling t → (groups : List (List Square)) (laid : List Square) → t.squares ≡ laid ++ row_of groups
+    → AllByRecursion (λ g. IsGroup t.squares g × AllIn t.squares g) groups → LaysTo t.width laid (map (map (λ q. q.s)) groups) t.squares
 lays t tiling [] laid is all = sym (append-nil laid) ∙ sym is
 lays t tiling (g ∷ groups) laid is all = (
   record { x = all.0.0.row.first.x; width = all.0.0.row.end - all.0.0.row.first.x; level = all.0.0.row.first.y },

@@ -1,6 +1,7 @@
 -- How a flat list is divided: in one way, and for the flat list of a tiling's code into the groups of that code.
 use Rattle.std.specs.List.{AllByRecursion}
-use Rattle.std.proofs.Common.{Bool, List, [], ap, arith, cond, drop, length, map, nat_le, refl, subst, suc, sum, sym, take, true, zero, ℕ, ◌++◌, ◌+◌, ◌-◌, ◌<◌, ◌∙◌, ◌∷◌, ◌≡◌, ◌≤◌}
+use Rattle.std.proofs.Common.{Bool, List, [], ap, arith, cond, drop, length, map, nat_le, refl, subst, suc, sum, sym, take, true, zero, ℕ, ◌++◌, ◌+◌}
+use Rattle.std.proofs.Common.{◌-◌, ◌<◌, ◌∙◌, ◌∷◌, ◌≡◌, ◌≤◌}
 use Rattle.std.proofs.lemmas.Bool.{lt-leb}
 use Rattle.std.proofs.lemmas.Bool.Decides.{nat_tests}
 use Rattle.std.proofs.lemmas.List.{drop_at}
@@ -32,13 +33,15 @@ next_goes_on : (n s : ℕ) (sides : List ℕ) → s < n → next_group n (s ∷ 
 next_goes_on n s sides h = ap (λ (b : Bool). s ∷ cond b [] (next_group (n - s) sides)) (lt-leb n s h)
 
 -- the prefix with which the sum reaches a number
-pub reaches : (n : ℕ) (sides : List ℕ) (i : ℕ) → i < length sides → sum (take i sides) < n → n ≤ sum (take (i + 1) sides) → take (i + 1) sides ≡ next_group n sides
+pub reaches : (n : ℕ) (sides : List ℕ) (i : ℕ) → i < length sides → sum (take i sides) < n → n ≤ sum (take (i + 1) sides)
+    → take (i + 1) sides ≡ next_group n sides
 reaches n [] i l short enough = absurd (omega arith)
 reaches n (s ∷ sides) zero l short enough = sym (next_ends n s sides (omega (arith, enough, sum_by-cons (λ (k : ℕ). k) s [])))
 reaches n (s ∷ sides) (suc i) l short enough =
     let less : s + sum (take i sides) < n = omega (arith, short, sum_by-cons (λ (k : ℕ). k) s (take i sides)) in
     let place : suc i + 1 ≡ suc (i + 1) = omega arith in
-    let more : n ≤ s + sum (take (i + 1) sides) = omega (arith, enough, sum_by-cons (λ (k : ℕ). k) s (take (i + 1) sides), ap (λ k. sum (take k (s ∷ sides))) place) in
+    let more : n ≤ s + sum (take (i + 1) sides) =
+    omega (arith, enough, sum_by-cons (λ (k : ℕ). k) s (take (i + 1) sides), ap (λ k. sum (take k (s ∷ sides))) place) in
     ap (λ k. take k (s ∷ sides)) place
     ∙ ap (λ (l : List ℕ). s ∷ l) (reaches (n - s) sides i (omega arith) (omega (arith, less)) (omega (arith, more)))
     ∙ sym (next_goes_on n s sides (omega (arith, less)))
@@ -67,14 +70,19 @@ divides_lays : (w : ℕ) (laid : List Square) (code : Code) (end : List Square) 
 divides_lays w laid [] end good lays = done
 divides_lays w laid ([] ∷ code) end good lays = absurd (omega (arith, good.0.0))
 divides_lays w laid ((s ∷ group) ∷ code) end good (gap, is, fit, lays) =
-    fits (flat code) gap is (next_exact gap.width (s ∷ group) (flat code) good.0.0 good.0.1 fit) fit refl (divides_lays w (with_group laid gap (s ∷ group)) code end good.1 lays)
+    fits (flat code) gap is (next_exact gap.width (s ∷ group) (flat code) good.0.0 good.0.1 fit) fit refl
+    (divides_lays w (with_group laid gap (s ∷ group)) code end good.1 lays)
 
 -- the next group is one
-same_group : (w : ℕ) (laid : List Square) (sides group other : List ℕ) (gap gap2 : Segment) → IsGap w laid gap → IsGap w laid gap2 → group ≡ next_group gap.width sides → other ≡ next_group gap2.width sides → group ≡ other
-same_group w laid sides group other gap gap2 is is2 next next2 = next ∙ ap (λ (g : Segment). next_group g.width sides) (gap_unique w laid gap gap2 is is2) ∙ sym next2
+same_group : (w : ℕ) (laid : List Square) (sides group other : List ℕ) (gap gap2 : Segment) → IsGap w laid gap → IsGap w laid gap2
+    → group ≡ next_group gap.width sides → other ≡ next_group gap2.width sides → group ≡ other
+same_group w laid sides group other gap gap2 is is2 next next2 = next
+    ∙ ap (λ (g : Segment). next_group g.width sides) (gap_unique w laid gap gap2 is is2) ∙ sym next2
 
-same_fit : (w : ℕ) (laid : List Square) (group other : List ℕ) (gap gap2 : Segment) → IsGap w laid gap → IsGap w laid gap2 → group ≡ other → Fits gap group → Fits gap2 other
-same_fit w laid group other gap gap2 is is2 same fit = ap (λ (g : List ℕ). sum g) (sym same) ∙ fit ∙ ap (λ (g : Segment). g.width) (gap_unique w laid gap gap2 is is2)
+same_fit : (w : ℕ) (laid : List Square) (group other : List ℕ) (gap gap2 : Segment) → IsGap w laid gap → IsGap w laid gap2 → group ≡ other
+    → Fits gap group → Fits gap2 other
+same_fit w laid group other gap gap2 is is2 same fit = ap (λ (g : List ℕ). sum g) (sym same) ∙ fit
+    ∙ ap (λ (g : Segment). g.width) (gap_unique w laid gap gap2 is is2)
 
 same_rest : (sides group other rest rest2 : List ℕ) → group ≡ other → sides ≡ group ++ rest → sides ≡ other ++ rest2 → rest ≡ rest2
 same_rest sides group other rest rest2 same split split2 =
@@ -85,12 +93,14 @@ same_rest sides group other rest rest2 same split split2 =
 -- a list is divided in one way
 pub divides_once : (w : ℕ) (laid : List Square) (sides : List ℕ) (code other : Code) → Divides w laid sides code → Divides w laid sides other → code ≡ other
 divides_once w laid sides code other done done = refl
-divides_once w laid sides code other (misfit {s = s} {sides = tail} {group = g} gap is next not) (misfit {group = h} gap2 is2 next2 not2) = ap (λ (l : List ℕ). l ∷ []) (same_group w laid (s ∷ tail) g h gap gap2 is is2 next next2)
+divides_once w laid sides code other (misfit {s = s} {sides = tail} {group = g} gap is next not) (misfit {group = h} gap2 is2 next2 not2) =
+    ap (λ (l : List ℕ). l ∷ []) (same_group w laid (s ∷ tail) g h gap gap2 is is2 next next2)
 divides_once w laid sides code other (misfit {s = s} {sides = tail} {group = g} gap is next not) (fits {group = h} rest2 gap2 is2 next2 fit2 split2 more2) =
     absurd (not (same_fit w laid h g gap2 gap is2 is (same_group w laid (s ∷ tail) h g gap2 gap is2 is next2 next) fit2))
 divides_once w laid sides code other (fits {s = s} {sides = tail} {group = g} rest gap is next fit split more) (misfit {group = h} gap2 is2 next2 not2) =
     absurd (not2 (same_fit w laid g h gap gap2 is is2 (same_group w laid (s ∷ tail) g h gap gap2 is is2 next next2) fit))
-divides_once w laid sides code other (fits {s = s} {sides = tail} {group = g} {code = c} rest gap is next fit split more) (fits {group = h} {code = d} rest2 gap2 is2 next2 fit2 split2 more2) =
+divides_once w laid sides code other (fits {s = s} {sides = tail} {group = g} {code = c} rest gap is next fit split more)
+    (fits {group = h} {code = d} rest2 gap2 is2 next2 fit2 split2 more2) =
     λ i. same i ∷ divides_once w (with_group laid gap2 h) rest2 c d moved more2 i
   where
     same : g ≡ h
@@ -101,7 +111,8 @@ divides_once w laid sides code other (fits {s = s} {sides = tail} {group = g} {c
         (subst (λ (l : List Square). Divides w l rest c) (λ i. with_group laid (gap_unique w laid gap gap2 is is2 i) (same i)) more)
 
 -- the groups of a tiling's code have sides, all of them positive
-side_groups_good : (t : Tiling) → IsTiling t → (groups : List (List Square)) → AllByRecursion (λ g. IsGroup t.squares g × AllIn t.squares g) groups → AreGroups (map (map (λ q. q.s)) groups)
+side_groups_good : (t : Tiling) → IsTiling t → (groups : List (List Square)) → AllByRecursion (λ g. IsGroup t.squares g × AllIn t.squares g) groups
+    → AreGroups (map (map (λ q. q.s)) groups)
 side_groups_good t tiling [] all = tt
 side_groups_good t tiling (g ∷ groups) all = ((long g all.0.0, good g all.0.1), side_groups_good t tiling groups all.1)
   where
@@ -118,7 +129,8 @@ divides_tiling : (width : ℕ) (sides : List ℕ) (t : Tiling) → HasFlat width
 divides_tiling width sides t has =
     subst (λ n. Divides n [] sides (code_of t)) has.width_is
     (subst (λ (l : List ℕ). Divides t.width [] l (code_of t)) has.flat_is
-    (divides_lays t.width [] (code_of t) t.squares (side_groups_good t has.tiling (square_groups t.squares) (all_groups t has.tiling)) (a_code_is_laid t has.tiling)))
+    (divides_lays t.width [] (code_of t) t.squares (side_groups_good t has.tiling (square_groups t.squares) (all_groups t has.tiling))
+    (a_code_is_laid t has.tiling)))
 
 -- no tiling has a width and a flat list that are refused
 pub flat_refused_has_none : (width : ℕ) (sides : List ℕ) (refusal : Refusal) → IsFlatRefused width sides refusal → (t : Tiling) → HasFlat width sides t → ⊥

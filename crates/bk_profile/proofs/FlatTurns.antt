@@ -41,7 +41,8 @@ pub first_turn : (width : ℕ) (sides : List ℕ) (p : Laid) → p ≡ record { 
 first_turn width sides p new = subst (λ (q : Laid). Dividing width sides 1 q sides) (sym new)
     (record { code = []; width_is = refl; lays = refl; number_is = refl; flat_is = refl; good = tt; goes_on = λ more d. d })
 
-module _ (width : ℕ) (sides : List ℕ) (number : ℕ) (p : Laid) (rest : List ℕ) (turn : Dividing width sides number p rest) (few : length sides ≤ 200) (good : AllByRecursion IsSide sides) where
+module _ (width : ℕ) (sides : List ℕ) (number : ℕ) (p : Laid) (rest : List ℕ) (turn : Dividing width sides number p rest) (few : length sides ≤ 200)
+    (good : AllByRecursion IsSide sides) where
   count : length p.squares + length rest ≡ length sides
   count = omega (arith, lays_length width [] turn.code p.squares turn.lays, ap length turn.flat_is, length-append (flat turn.code) rest)
 
@@ -59,7 +60,8 @@ module _ (width : ℕ) (sides : List ℕ) (number : ℕ) (p : Laid) (rest : List
       groups (group ∷ code) all = omega (arith, all.0.0, groups code all.1, length-append group (flat code))
 
   -- the next group
-  module _ (group left : List ℕ) (gap : Segment) (is : IsGap p.width p.squares gap) (next : group ≡ next_group gap.width rest) (some : 0 < length rest) (split : group ++ left ≡ rest) (long : 0 < length group) where
+  module _ (group left : List ℕ) (gap : Segment) (is : IsGap p.width p.squares gap) (next : group ≡ next_group gap.width rest)
+      (some : 0 < length rest) (split : group ++ left ≡ rest) (long : 0 < length group) where
     pub group_good : AllByRecursion IsSide group
     group_good = all_left IsSide group left (subst (AllByRecursion IsSide) (sym split) rest_good)
 
@@ -69,11 +71,13 @@ module _ (width : ℕ) (sides : List ℕ) (number : ℕ) (p : Laid) (rest : List
     here : IsGap width p.squares gap
     here = subst (λ n. IsGap n p.squares gap) turn.width_is is
 
-    divides_fit : (group rest left : List ℕ) (code : Code) → 0 < length rest → group ≡ next_group gap.width rest → group ++ left ≡ rest → Fits gap group → Divides width (with_group p.squares gap group) left code → Divides width p.squares rest (group ∷ code)
+    divides_fit : (group rest left : List ℕ) (code : Code) → 0 < length rest → group ≡ next_group gap.width rest → group ++ left ≡ rest
+        → Fits gap group → Divides width (with_group p.squares gap group) left code → Divides width p.squares rest (group ∷ code)
     divides_fit group [] left code some next split fit more = absurd (omega arith)
     divides_fit group (s ∷ rest) left code some next split fit more = fits left gap here next fit (sym split) more
 
-    divides_misfit : (group rest : List ℕ) → 0 < length rest → group ≡ next_group gap.width rest → (Fits gap group → ⊥) → Divides width p.squares rest (group ∷ [])
+    divides_misfit : (group rest : List ℕ) → 0 < length rest → group ≡ next_group gap.width rest → (Fits gap group → ⊥)
+        → Divides width p.squares rest (group ∷ [])
     divides_misfit group [] some next not = absurd (omega arith)
     divides_misfit group (s ∷ rest) some next not = misfit gap here next not
 
@@ -83,9 +87,11 @@ module _ (width : ℕ) (sides : List ℕ) (number : ℕ) (p : Laid) (rest : List
       width_is = turn.width_is;
       lays = lays_push width [] turn.code p.squares group gap turn.lays here fit;
       number_is = omega (arith, turn.number_is, length-append turn.code (group ∷ []));
-      flat_is = ap (λ (l : List ℕ). l ++ left) (flat_more turn.code group) ∙ append_assoc (flat turn.code) group left ∙ ap (λ (l : List ℕ). flat turn.code ++ l) split ∙ turn.flat_is;
+      flat_is = ap (λ (l : List ℕ). l ++ left) (flat_more turn.code group) ∙ append_assoc (flat turn.code) group left
+          ∙ ap (λ (l : List ℕ). flat turn.code ++ l) split ∙ turn.flat_is;
       good = all_more turn.code group turn.good (long, group_good);
-      goes_on = λ more d. subst (λ (c : Code). Divides width [] sides c) (sym (append_assoc turn.code (group ∷ []) more)) (turn.goes_on (group ∷ more) (divides_fit group rest left more some next split fit d));
+      goes_on = λ more d. subst (λ (c : Code). Divides width [] sides c) (sym (append_assoc turn.code (group ∷ []) more))
+          (turn.goes_on (group ∷ more) (divides_fit group rest left more some next split fit d));
     })
       where
         same : lay.gap ≡ gap
@@ -121,7 +127,8 @@ module _ (width : ℕ) (sides : List ℕ) (number : ℕ) (p : Laid) (rest : List
         same = gap_unique p.width p.squares m.gap gap m.is_gap is
 
 -- after the last turn
-module _ (width : ℕ) (sides : List ℕ) (number : ℕ) (p : Laid) (rest : List ℕ) (turn : Dividing width sides number p rest) (few : length sides ≤ 200) (some : 0 < length sides) (over : rest ≡ []) where
+module _ (width : ℕ) (sides : List ℕ) (number : ℕ) (p : Laid) (rest : List ℕ) (turn : Dividing width sides number p rest) (few : length sides ≤ 200)
+    (some : 0 < length sides) (over : rest ≡ []) where
   pub flat_all : flat turn.code ≡ sides
   flat_all = sym (append-nil (flat turn.code)) ∙ ap (λ (l : List ℕ). flat turn.code ++ l) (sym over) ∙ turn.flat_is
 
@@ -138,7 +145,9 @@ module _ (width : ℕ) (sides : List ℕ) (number : ℕ) (p : Laid) (rest : List
   }
 
   divided : Divides width [] sides turn.code
-  divided = subst (λ (c : Code). Divides width [] sides c) (append-nil turn.code) (turn.goes_on [] (subst (λ (l : List ℕ). Divides width p.squares l []) (sym over) done))
+  divided =
+      subst (λ (c : Code). Divides width [] sides c) (append-nil turn.code)
+      (turn.goes_on [] (subst (λ (l : List ℕ). Divides width p.squares l []) (sym over) done))
 
   has_flat : (t : Tiling) → IsLaidTiling p t → HasFlat width sides t
   has_flat t is = record {
@@ -152,7 +161,13 @@ module _ (width : ℕ) (sides : List ℕ) (number : ℕ) (p : Laid) (rest : List
   open_refused (Open least greatest) h = record {
     code = turn.code;
     divided = divided;
-    refused = record { laid = p.squares; lays = turn.lays; uneven = subst (λ n. IsUneven (record { width = n; squares = p.squares }) least greatest) turn.width_is h };
+    refused =
+        record {
+          laid = p.squares;
+          lays = turn.lays;
+          uneven =
+              subst (λ n. IsUneven (record { width = n; squares = p.squares }) least greatest) turn.width_is h;
+        };
   }
 
   pub ends_ok : (r : Result Tiling Refusal) → IfOk r (IsLaidTiling p) → IfOk r (HasFlat width sides)
@@ -164,14 +179,16 @@ module _ (width : ℕ) (sides : List ℕ) (number : ℕ) (p : Laid) (rest : List
   ends_refused (Err e) h = open_refused e h
 
   pub ends_only : (r : Result Tiling Refusal) → IfOk r (IsLaidTiling p) → IfErr r (IsOpen p) → (t : Tiling) → HasFlat width sides t → IsOkAnd r (λ u. u ≡ t)
-  ends_only (Ok u) is h t has = a_flat_list_fixes_a_tiling u t is.tiling has.tiling ((has_flat u is).width_is ∙ sym has.width_is) ((has_flat u is).flat_is ∙ sym has.flat_is)
+  ends_only (Ok u) is h t has =
+      a_flat_list_fixes_a_tiling u t is.tiling has.tiling ((has_flat u is).width_is ∙ sym has.width_is) ((has_flat u is).flat_is ∙ sym has.flat_is)
   ends_only (Err e) is h t has = absurd (flat_refused_has_none width sides e (open_refused e h) t has)
 
 abbrev whole_gap : ℕ → Segment
 whole_gap width = record { x = 0; width = width; level = 0 }
 
 -- a width that no sum of sides reaches
-pub too_wide : (width total : ℕ) (sides : List ℕ) → 0 < length sides → length sides ≤ 200 → AllByRecursion IsSide sides → 199999999999999800 < width → total ≡ sum sides → IsFlatRefused width sides (Gap 1 width total)
+pub too_wide : (width total : ℕ) (sides : List ℕ) → 0 < length sides → length sides ≤ 200 → AllByRecursion IsSide sides → 199999999999999800 < width
+    → total ≡ sum sides → IsFlatRefused width sides (Gap 1 width total)
 too_wide width total [] some few good wide is = absurd (omega arith)
 too_wide width total (s ∷ sides) some few good wide is = record {
   code = (s ∷ sides) ∷ [];

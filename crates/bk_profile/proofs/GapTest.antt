@@ -22,7 +22,8 @@ passes_as_gap width laid v p = record {
   flat = flat;
   least = λ c h. leb-true v.level (depth laid c) (each_below (λ c. nat_le v.level (depth laid c)) width p.least c h);
   leftmost = λ c h. ltb-true v.level (depth laid c) (each_below (λ c. nat_lt v.level (depth laid c)) v.x p.before c h);
-  ends = λ h. ltb-true v.level (depth laid (v.x + v.width)) (after_of (nat_lt (v.x + v.width) width) (nat_lt v.level (depth laid (v.x + v.width))) p.after (end h));
+  ends = λ h. ltb-true v.level (depth laid (v.x + v.width))
+      (after_of (nat_lt (v.x + v.width) width) (nat_lt v.level (depth laid (v.x + v.width))) p.after (end h));
 }
   where
     end : v.x + v.width < width → nat_lt (v.x + v.width) width ≡ true
@@ -33,9 +34,13 @@ passes_as_gap width laid v p = record {
       some = ltb-true 0 v.width p.some;
       within = leb-true (v.x + v.width) width p.within;
       level = λ c low high. let e : v.x + (c - v.x) ≡ c = omega arith in
-          sym (ap (depth laid) e) ∙ eqb-true (depth laid (v.x + (c - v.x))) v.level (each_below (λ k. nat_eq (depth laid (v.x + k)) v.level) v.width p.level (c - v.x) (omega arith));
+          sym (ap (depth laid) e)
+          ∙ eqb-true (depth laid (v.x + (c - v.x))) v.level
+          (each_below (λ k. nat_eq (depth laid (v.x + k)) v.level) v.width p.level (c - v.x) (omega arith));
     }
 
-abbrev pub by_tests : (width : ℕ) (laid : List Square) (v : Segment) → nat_lt 0 v.width ≡ true → nat_le (v.x + v.width) width ≡ true → all_below (λ k. nat_eq (depth laid (v.x + k)) v.level) v.width ≡ true
-    → all_below (λ c. nat_le v.level (depth laid c)) width ≡ true → all_below (λ c. nat_lt v.level (depth laid c)) v.x ≡ true → not (nat_lt (v.x + v.width) width) || nat_lt v.level (depth laid (v.x + v.width)) ≡ true → IsGap width laid v
+abbrev pub by_tests : (width : ℕ) (laid : List Square) (v : Segment) → nat_lt 0 v.width ≡ true → nat_le (v.x + v.width) width ≡ true
+    → all_below (λ k. nat_eq (depth laid (v.x + k)) v.level) v.width ≡ true
+    → all_below (λ c. nat_le v.level (depth laid c)) width ≡ true → all_below (λ c. nat_lt v.level (depth laid c)) v.x ≡ true
+    → not (nat_lt (v.x + v.width) width) || nat_lt v.level (depth laid (v.x + v.width)) ≡ true → IsGap width laid v
 by_tests width laid v a b c d e f = passes_as_gap width laid v (record { some = a; within = b; level = c; least = d; before = e; after = f })

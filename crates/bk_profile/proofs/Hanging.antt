@@ -1,6 +1,7 @@
 -- The outline after a group is laid into the gap.
 use Rattle.std.specs.List.{All, AllByRecursion}
-use Rattle.std.proofs.Common.{List, [], ap, arith, drop, get_or, inl, inr, length, refl, subst, suc, sum, sym, take, zero, ℕ, ◌*◌, ◌++◌, ◌+◌, ◌<◌, ◌∙◌, ◌∷◌, ◌≡◌, ◌≤◌}
+use Rattle.std.proofs.Common.{List, [], ap, arith, drop, get_or, inl, inr, length, refl, subst, suc, sum, sym, take, zero, ℕ, ◌*◌, ◌++◌, ◌+◌, ◌<◌}
+use Rattle.std.proofs.Common.{◌∙◌, ◌∷◌, ◌≡◌, ◌≤◌}
 use Rattle.std.proofs.lemmas.List.{get_or-drop, get_or-take, length-append, length-drop, length-map, length-take-le, take-append-drop}
 use Rattle.std.proofs.lemmas.List.Elements.{All-append}
 use Rattle.std.proofs.lemmas.List.Sums.{sum_by-append, sum_by-cons}
@@ -17,32 +18,38 @@ use Rattle.bk_profile.specs.Gap.{IsGap}
 use Rattle.bk_profile.specs.Outline.{AreLevel, IsLowest, IsOutline, run_under, runs_under, start, width_of}
 use Rattle.bk_profile.specs.declared.runs.Run.{Run}
 
-level_join : (laid : List Square) (x : ℕ) (runs more : List Run) → AreLevel laid x runs → AreLevel laid (x + width_of runs) more → AreLevel laid x (runs ++ more)
+level_join : (laid : List Square) (x : ℕ) (runs more : List Run) → AreLevel laid x runs → AreLevel laid (x + width_of runs) more
+    → AreLevel laid x (runs ++ more)
 level_join laid x [] more a b = subst (λ n. AreLevel laid n more) (omega arith) b
 level_join laid x (r ∷ runs) more a b =
     (a.0, level_join laid (x + r.width) runs more a.1 (subst (λ n. AreLevel laid n more) (omega (arith, sum_by-cons (λ (s : Run). s.width) r runs)) b))
 
-level_split : (laid : List Square) (x : ℕ) (runs more : List Run) → AreLevel laid x (runs ++ more) → AreLevel laid x runs × AreLevel laid (x + width_of runs) more
+level_split : (laid : List Square) (x : ℕ) (runs more : List Run) → AreLevel laid x (runs ++ more)
+    → AreLevel laid x runs × AreLevel laid (x + width_of runs) more
 level_split laid x [] more all = (tt, subst (λ n. AreLevel laid n more) (omega arith) all)
 level_split laid x (r ∷ runs) more all =
     let rest : AreLevel laid (x + r.width) runs × AreLevel laid (x + r.width + width_of runs) more = level_split laid (x + r.width) runs more all.1 in
     ((all.0, rest.0), subst (λ n. AreLevel laid n more) (omega (arith, sum_by-cons (λ (s : Run). s.width) r runs)) rest.1)
 
 -- runs whose columns keep their depth
-level_kept : (laid new : List Square) (x : ℕ) (runs : List Run) → AreLevel laid x runs → ((c : ℕ) → x ≤ c → c < x + width_of runs → depth new c ≡ depth laid c) → AreLevel new x runs
+level_kept : (laid new : List Square) (x : ℕ) (runs : List Run) → AreLevel laid x runs
+    → ((c : ℕ) → x ≤ c → c < x + width_of runs → depth new c ≡ depth laid c) → AreLevel new x runs
 level_kept laid new x [] all same = tt
 level_kept laid new x (r ∷ runs) all same =
     let whole : width_of (r ∷ runs) ≡ r.width + width_of runs = sum_by-cons (λ (s : Run). s.width) r runs in
     (λ c l h. same c l (omega arith) ∙ all.0 c l h, level_kept laid new (x + r.width) runs all.1 (λ c l h. same c (omega arith) (omega arith)))
 
 -- the runs under a group
-under_level : (new : List Square) (x y : ℕ) (sides : List ℕ) → ((q : Square) → IsOneOf q (laid_group x y sides) → (c : ℕ) → q.x ≤ c → c < q.x + q.s → depth new c ≡ q.y + q.s) → AreLevel new x (runs_under y sides)
+under_level : (new : List Square) (x y : ℕ) (sides : List ℕ)
+    → ((q : Square) → IsOneOf q (laid_group x y sides) → (c : ℕ) → q.x ≤ c → c < q.x + q.s → depth new c ≡ q.y + q.s) → AreLevel new x (runs_under y sides)
 under_level new x y [] at = tt
-under_level new x y (s ∷ sides) at = (λ c l h. at (record { x = x; y = y; s = s }) (inl refl) c l h, under_level new (x + s) y sides (λ q k c l h. at q (inr k) c l h))
+under_level new x y (s ∷ sides) at =
+    (λ c l h. at (record { x = x; y = y; s = s }) (inl refl) c l h, under_level new (x + s) y sides (λ q k c l h. at q (inr k) c l h))
 
 pub width_under : (level : ℕ) (sides : List ℕ) → width_of (runs_under level sides) ≡ sum sides
 width_under level [] = refl
-width_under level (s ∷ sides) = omega (arith, sum_by-cons (λ (r : Run). r.width) (run_under level s) (runs_under level sides), sum_by-cons (λ (n : ℕ). n) s sides, width_under level sides)
+width_under level (s ∷ sides) =
+    omega (arith, sum_by-cons (λ (r : Run). r.width) (run_under level s) (runs_under level sides), sum_by-cons (λ (n : ℕ). n) s sides, width_under level sides)
 
 pub length_under : (level : ℕ) (sides : List ℕ) → length (runs_under level sides) ≡ length sides
 length_under level sides = length-map sides (run_under level)
@@ -52,7 +59,8 @@ under_some level [] good k d l = absurd (omega arith)
 under_some level (s ∷ sides) good zero d l = good.0.0
 under_some level (s ∷ sides) good (suc k) d l = under_some level sides good.1 k d (omega arith)
 
-under_low : (level : ℕ) (sides : List ℕ) (most : ℕ) → AllByRecursion IsSide sides → level + 999_999_999_999_999 ≤ most → All (λ (r : Run). r.level ≤ most) (runs_under level sides)
+under_low : (level : ℕ) (sides : List ℕ) (most : ℕ) → AllByRecursion IsSide sides → level + 999_999_999_999_999 ≤ most
+    → All (λ (r : Run). r.level ≤ most) (runs_under level sides)
 under_low level [] most good low k d l = absurd (omega arith)
 under_low level (s ∷ sides) most good low zero d l = omega (arith, good.0.1)
 under_low level (s ∷ sides) most good low (suc k) d l = under_low level sides most good.1 low k d (omega arith)
@@ -68,8 +76,10 @@ all_drop P runs b all k d l = subst P (sym (get_or-drop b runs k d)) (all (b + k
 all_lower : (n m : ℕ) (runs : List Run) → n ≤ m → All (λ (r : Run). r.level ≤ n) runs → All (λ (r : Run). r.level ≤ m) runs
 all_lower n m runs le all k d l = omega (arith, le, all k d l)
 
-module _ (w : ℕ) (laid : List Square) (runs : List Run) (a b : ℕ) (gap : Segment) (sides : List ℕ) (outline : IsOutline w laid runs) (lowest : IsLowest runs (length runs) a b)
-    (at : gap.x ≡ start runs a) (end : gap.x + gap.width ≡ start runs b) (level : (d : Run) → gap.level ≡ (get_or runs a d).level) (is : IsGap w laid gap) (fits : sum sides ≡ gap.width)
+module _ (w : ℕ) (laid : List Square) (runs : List Run) (a b : ℕ) (gap : Segment) (sides : List ℕ) (outline : IsOutline w laid runs)
+    (lowest : IsLowest runs (length runs) a b)
+    (at : gap.x ≡ start runs a) (end : gap.x + gap.width ≡ start runs b) (level : (d : Run) → gap.level ≡ (get_or runs a d).level)
+    (is : IsGap w laid gap) (fits : sum sides ≡ gap.width)
     (good : AllByRecursion IsSide sides) where
   abbrev new : List Square
   new = laid ++ laid_group gap.x gap.level sides
@@ -93,15 +103,19 @@ module _ (w : ℕ) (laid : List Square) (runs : List Run) (a b : ℕ) (gap : Seg
   back = sym (sum_by-append (λ (r : Run). r.width) (take b runs) (drop b runs)) ∙ ap width_of (take-append-drop b runs)
 
   left_level : AreLevel new 0 (take a runs)
-  left_level = level_kept laid new 0 (take a runs) (level_split laid 0 (take a runs) (drop a runs) (subst (AreLevel laid 0) (sym (take-append-drop a runs)) outline.level)).0
+  left_level =
+      level_kept laid new 0 (take a runs)
+      (level_split laid 0 (take a runs) (drop a runs) (subst (AreLevel laid 0) (sym (take-append-drop a runs)) outline.level)).0
       (λ c l h. depth_beside laid gap.x gap.level sides there c (inl (omega (arith, h, at))))
 
   under : AreLevel new (0 + width_of (take a runs)) (runs_under gap.level sides)
-  under = subst (λ n. AreLevel new n (runs_under gap.level sides)) (at ∙ omega arith) (under_level new gap.x gap.level sides (λ q k c l h. depth_under laid gap.x gap.level sides there c q k l h))
+  under = subst (λ n. AreLevel new n (runs_under gap.level sides)) (at ∙ omega arith)
+      (under_level new gap.x gap.level sides (λ q k c l h. depth_under laid gap.x gap.level sides there c q k l h))
 
   right_level : AreLevel new (0 + width_of (take a runs ++ runs_under gap.level sides)) (drop b runs)
   right_level = level_kept laid new (0 + width_of (take a runs ++ runs_under gap.level sides)) (drop b runs)
-      (subst (λ n. AreLevel laid n (drop b runs)) (ap (λ n. 0 + n) (sym front)) (level_split laid 0 (take b runs) (drop b runs) (subst (AreLevel laid 0) (sym (take-append-drop b runs)) outline.level)).1)
+      (subst (λ n. AreLevel laid n (drop b runs)) (ap (λ n. 0 + n) (sym front))
+      (level_split laid 0 (take b runs) (drop b runs) (subst (AreLevel laid 0) (sym (take-append-drop b runs)) outline.level)).1)
       (λ c l h. depth_beside laid gap.x gap.level sides there c (inr (omega (arith, l, front, end, wide))))
 
   longer : length new ≡ length laid + length sides
@@ -113,10 +127,12 @@ module _ (w : ℕ) (laid : List Square) (runs : List Run) (a b : ℕ) (gap : Seg
   pub outline_laid : 0 < length sides → IsOutline w new hung
   outline_laid some = record {
     some = All-append (λ (r : Run). 0 < r.width) (take a runs ++ runs_under gap.level sides) (drop b runs)
-        (All-append (λ (r : Run). 0 < r.width) (take a runs) (runs_under gap.level sides) (all_take (λ (r : Run). 0 < r.width) runs a (omega (arith, first)) outline.some) (under_some gap.level sides good))
+        (All-append (λ (r : Run). 0 < r.width) (take a runs) (runs_under gap.level sides)
+        (all_take (λ (r : Run). 0 < r.width) runs a (omega (arith, first)) outline.some) (under_some gap.level sides good))
         (all_drop (λ (r : Run). 0 < r.width) runs b outline.some);
     whole = sum_by-append (λ (r : Run). r.width) (take a runs ++ runs_under gap.level sides) (drop b runs) ∙ omega (arith, front, back, outline.whole);
-    level = level_join new 0 (take a runs ++ runs_under gap.level sides) (drop b runs) (level_join new 0 (take a runs) (runs_under gap.level sides) left_level under) right_level;
+    level = level_join new 0 (take a runs ++ runs_under gap.level sides) (drop b runs)
+        (level_join new 0 (take a runs) (runs_under gap.level sides) left_level under) right_level;
     few = omega (
       arith,
       length-append (take a runs ++ runs_under gap.level sides) (drop b runs),
@@ -131,7 +147,10 @@ module _ (w : ℕ) (laid : List Square) (runs : List Run) (a b : ℕ) (gap : Seg
     );
     low = All-append (λ (r : Run). r.level ≤ length new * 999_999_999_999_999) (take a runs ++ runs_under gap.level sides) (drop b runs)
         (All-append (λ (r : Run). r.level ≤ length new * 999_999_999_999_999) (take a runs) (runs_under gap.level sides)
-        (all_take (λ (r : Run). r.level ≤ length new * 999_999_999_999_999) runs a (omega (arith, first)) (all_lower (length laid * 999_999_999_999_999) (length new * 999_999_999_999_999) runs most outline.low))
-        (under_low gap.level sides (length new * 999_999_999_999_999) good (omega (arith, level no_run, outline.low a no_run first, ap (λ n. n * 999_999_999_999_999) longer, some))))
-        (all_drop (λ (r : Run). r.level ≤ length new * 999_999_999_999_999) runs b (all_lower (length laid * 999_999_999_999_999) (length new * 999_999_999_999_999) runs most outline.low));
+        (all_take (λ (r : Run). r.level ≤ length new * 999_999_999_999_999) runs a (omega (arith, first))
+        (all_lower (length laid * 999_999_999_999_999) (length new * 999_999_999_999_999) runs most outline.low))
+        (under_low gap.level sides (length new * 999_999_999_999_999) good
+        (omega (arith, level no_run, outline.low a no_run first, ap (λ n. n * 999_999_999_999_999) longer, some))))
+        (all_drop (λ (r : Run). r.level ≤ length new * 999_999_999_999_999) runs b
+        (all_lower (length laid * 999_999_999_999_999) (length new * 999_999_999_999_999) runs most outline.low));
   }

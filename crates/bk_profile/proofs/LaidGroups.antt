@@ -29,7 +29,8 @@ IsLast (p ∷ r ∷ squares) q = IsLast (r ∷ squares) q
 last_of_group : (x y : ℕ) (sides : List ℕ) (q : Square) → IsLast (laid_group x y sides) q → (q.x + q.s ≡ x + total sides) × (q.y ≡ y)
 last_of_group x y [] q h = absurd h
 last_of_group x y (s ∷ []) q h = (omega (arith, ap (λ (r : Square). r.x + r.s) h), ap (λ (r : Square). r.y) h)
-last_of_group x y (s ∷ t ∷ sides) q h = let rest : (q.x + q.s ≡ x + s + total (t ∷ sides)) × (q.y ≡ y) = last_of_group (x + s) y (t ∷ sides) q h in (omega (arith, rest.0), rest.1)
+last_of_group x y (s ∷ t ∷ sides) q h = let rest : (q.x + q.s ≡ x + s + total (t ∷ sides)) × (q.y ≡ y) =
+    last_of_group (x + s) y (t ∷ sides) q h in (omega (arith, rest.0), rest.1)
 
 last_behind : (front back : List Square) (q : Square) → 0 < length back → IsLast (front ++ back) q → IsLast back q
 last_behind [] back q some h = h
@@ -43,7 +44,8 @@ group_alone x y [] some = absurd (omega arith)
 group_alone x y (s ∷ []) some = refl
 group_alone x y (s ∷ t ∷ sides) some =
     groups_cons (record { x = x; y = y; s = s }) (record { x = x + s; y = y; s = t }) (laid_group (x + s + t) y sides)
-    ∙ ap (λ (b : Bool). before b s (side_groups (laid_group (x + s) y (t ∷ sides)))) (beside_from (record { x = x; y = y; s = s }) (record { x = x + s; y = y; s = t }) refl refl)
+    ∙ ap (λ (b : Bool). before b s (side_groups (laid_group (x + s) y (t ∷ sides))))
+    (beside_from (record { x = x; y = y; s = s }) (record { x = x + s; y = y; s = t }) refl refl)
     ∙ ap (before true s) (group_alone (x + s) y (t ∷ sides) (omega arith))
 
 before_more : (b : Bool) (s : ℕ) (code : Code) (group : List ℕ) → 0 < length code → before b s (code ++ group ∷ []) ≡ before b s code ++ group ∷ []
@@ -52,7 +54,8 @@ before_more true s (first ∷ code) group some = refl
 before_more false s (first ∷ code) group some = refl
 
 -- behind a cut the groups are those of the squares before it and the new one
-groups_append : (laid : List Square) (x y : ℕ) (sides : List ℕ) → 0 < length sides → ((q : Square) → IsLast laid q → q.y ≡ y → q.x + q.s ≡ x → ⊥) → side_groups (laid ++ laid_group x y sides) ≡ side_groups laid ++ sides ∷ []
+groups_append : (laid : List Square) (x y : ℕ) (sides : List ℕ) → 0 < length sides → ((q : Square) → IsLast laid q → q.y ≡ y → q.x + q.s ≡ x → ⊥)
+    → side_groups (laid ++ laid_group x y sides) ≡ side_groups laid ++ sides ∷ []
 groups_append [] x y sides some cut = group_alone x y sides some
 groups_append (q ∷ []) x y [] some cut = absurd (omega arith)
 groups_append (q ∷ []) x y (s ∷ sides) some cut =
@@ -60,7 +63,8 @@ groups_append (q ∷ []) x y (s ∷ sides) some cut =
     ∙ ap (λ (b : Bool). before b q.s (side_groups (laid_group x y (s ∷ sides)))) (apart (cases_Bool (stands_beside q (record { x = x; y = y; s = s }))))
     ∙ ap (before false q.s) (group_alone x y (s ∷ sides) (omega arith))
   where
-    apart : (stands_beside q (record { x = x; y = y; s = s }) ≡ true) ⊎ (stands_beside q (record { x = x; y = y; s = s }) ≡ false) → stands_beside q (record { x = x; y = y; s = s }) ≡ false
+    apart : (stands_beside q (record { x = x; y = y; s = s }) ≡ true) ⊎ (stands_beside q (record { x = x; y = y; s = s }) ≡ false)
+        → stands_beside q (record { x = x; y = y; s = s }) ≡ false
     apart (inl e) = let both = beside_to q (record { x = x; y = y; s = s }) e in absurd (cut q refl both.0 both.1)
     apart (inr e) = e
 groups_append (p ∷ r ∷ laid) x y sides some cut =
@@ -69,10 +73,13 @@ groups_append (p ∷ r ∷ laid) x y sides some cut =
     ∙ before_more (stands_beside p r) p.s (side_groups (r ∷ laid)) sides (groups_some r laid)
     ∙ ap (λ (code : Code). code ++ sides ∷ []) (sym (groups_cons p r laid))
 
-order_append : (front back : List Square) → InCodeOrder front → InCodeOrder back → ((p q : Square) → IsOneOf p front → IsOneOf q back → comes_before p q ≡ true) → InCodeOrder (front ++ back)
+order_append : (front back : List Square) → InCodeOrder front → InCodeOrder back
+    → ((p q : Square) → IsOneOf p front → IsOneOf q back → comes_before p q ≡ true) → InCodeOrder (front ++ back)
 order_append [] back a b cross = b
-order_append (p ∷ front) back a b cross =
-    (all_from (λ q. comes_before p q ≡ true) (front ++ back) (λ q h. first q (from_append front back q h)), order_append front back a.1 b (λ r q h k. cross r q (inr h) k))
+order_append (p ∷ front) back a b cross = (
+  all_from (λ q. comes_before p q ≡ true) (front ++ back) (λ q h. first q (from_append front back q h)),
+  order_append front back a.1 b (λ r q h k. cross r q (inr h) k),
+)
   where
     first : (q : Square) → IsOneOf q front ⊎ IsOneOf q back → comes_before p q ≡ true
     first q (inl h) = in_all (λ q. comes_before p q ≡ true) front a.0 q h
@@ -97,7 +104,8 @@ pub laid_none : (w : ℕ) → IsLaid w [] []
 laid_none w = record { filled = λ c j a b. absurd (omega arith); stands = λ q h. absurd h; ordered = tt; groups = refl; closed = λ q h. absurd h }
 
 -- a group is laid into the gap that it fits
-module _ (w : ℕ) (laid : List Square) (code : Code) (gap : Segment) (group : List ℕ) (is_laid : IsLaid w laid code) (is : IsGap w laid gap) (fits : Fits gap group)
+module _ (w : ℕ) (laid : List Square) (code : Code) (gap : Segment) (group : List ℕ) (is_laid : IsLaid w laid code) (is : IsGap w laid gap)
+    (fits : Fits gap group)
     (good : AllByRecursion (λ s. 0 < s) group) (some : 0 < length group) where
   abbrev more : List Square
   more = laid_group gap.x gap.level group
@@ -124,7 +132,12 @@ module _ (w : ℕ) (laid : List Square) (code : Code) (gap : Segment) (group : L
 
   under : (c : ℕ) → gap.x ≤ c → c < gap.x + total group → gap.level < depth (laid ++ more) c
   under c a b = let o : HasOver gap.level c more = over_group gap.x gap.level group c a b in
-      omega (arith, depth_under laid gap.x gap.level group (there w laid gap group is fits) c o.square o.is o.left o.right, o.top, group_sides gap.x gap.level group good o.square o.is)
+      omega (
+        arith,
+        depth_under laid gap.x gap.level group (there w laid gap group is fits) c o.square o.is o.left o.right,
+        o.top,
+        group_sides gap.x gap.level group good o.square o.is,
+      )
 
   new_stands : (q : Square) → IsOneOf q more → Stands w (laid ++ more) q
   new_stands q h = record {
@@ -150,7 +163,10 @@ module _ (w : ℕ) (laid : List Square) (code : Code) (gap : Segment) (group : L
       cases : (p.y < gap.level) ⊎ (gap.level ≤ p.y) → (gap.x < p.x + p.s) ⊎ (p.x + p.s ≤ gap.x) → (p.y < q.y) ⊎ ((p.y ≡ q.y) × (p.x < q.x))
       cases (inl a) b = inl (omega (arith, a, top))
       cases (inr a) (inl b) = absurd (omega (arith, a, (is_laid.stands p h).before_it gap.x b, at_gap))
-      cases (inr a) (inr b) = inr (omega (arith, a, top, (is_laid.stands p h).least gap.x first_in, at_gap), omega (arith, b, (is_laid.stands p h).side, (group_within gap.x gap.level group q k).0))
+      cases (inr a) (inr b) = inr (
+        omega (arith, a, top, (is_laid.stands p h).least gap.x first_in, at_gap),
+        omega (arith, b, (is_laid.stands p h).side, (group_within gap.x gap.level group q k).0),
+      )
 
   cut : (q : Square) → IsLast laid q → q.y ≡ gap.level → q.x + q.s ≡ gap.x → ⊥
   cut q h level at = omega (arith, is_laid.closed q h (omega (arith, at, first_in)), ap (depth laid) at, at_gap, level)
@@ -185,14 +201,17 @@ module _ (w : ℕ) (laid : List Square) (code : Code) (gap : Segment) (group : L
 abbrev pub AreGroups : Code → Type 0
 AreGroups code = AllByRecursion (λ group. (0 < length group) × AllByRecursion (λ s. 0 < s) group) code
 
-pub laid_groups : (w : ℕ) (laid : List Square) (done code : Code) (end : List Square) → IsLaid w laid done → AreGroups code → LaysTo w laid code end → IsLaid w end (done ++ code)
-laid_groups w laid done [] end is_laid good lays = subst (λ (l : List Square). IsLaid w l (done ++ [])) lays (subst (IsLaid w laid) (sym (append-nil done)) is_laid)
+pub laid_groups : (w : ℕ) (laid : List Square) (done code : Code) (end : List Square) → IsLaid w laid done → AreGroups code → LaysTo w laid code end
+    → IsLaid w end (done ++ code)
+laid_groups w laid done [] end is_laid good lays =
+    subst (λ (l : List Square). IsLaid w l (done ++ [])) lays (subst (IsLaid w laid) (sym (append-nil done)) is_laid)
 laid_groups w laid done (group ∷ code) end is_laid good (gap, is, fits, lays) =
     subst (IsLaid w end) (append_assoc done (group ∷ []) code)
     (laid_groups w (with_group laid gap group) (done ++ group ∷ []) code end (laid_step w laid done gap group is_laid is fits good.0.1 good.0.0) good.1 lays)
 
 -- what is laid tiles where its outline is even
-pub tiling_from_laid : (w h : ℕ) (laid : List Square) (code : Code) → IsLaid w laid code → 0 < length laid → ((c : ℕ) → c < w → depth laid c ≡ h) → IsTiling (record { width = w; height = h; squares = laid })
+pub tiling_from_laid : (w h : ℕ) (laid : List Square) (code : Code) → IsLaid w laid code → 0 < length laid → ((c : ℕ) → c < w → depth laid c ≡ h)
+    → IsTiling (record { width = w; height = h; squares = laid })
 tiling_from_laid w h laid code is_laid some even = record {
   tiles = record {
     some = some;

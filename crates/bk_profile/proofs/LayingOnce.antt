@@ -31,7 +31,8 @@ not_shorter : (w : ℕ) (laid : List Square) (g h : Segment) → IsGap w laid g 
 not_shorter w laid g h a b e f = cases (cases_lt g.width h.width)
   where
     cases : (g.width < h.width) ⊎ (h.width ≤ g.width) → h.width ≤ g.width
-    cases (inl c) = absurd (omega (arith, a.ends (omega (arith, (b.flat).within, c, f)), (b.flat).level (g.x + g.width) (omega (arith, f)) (omega (arith, f, c)), e))
+    cases (inl c) =
+        absurd (omega (arith, a.ends (omega (arith, (b.flat).within, c, f)), (b.flat).level (g.x + g.width) (omega (arith, f)) (omega (arith, f, c)), e))
     cases (inr c) = c
 
 pub gap_unique : (w : ℕ) (laid : List Square) (g h : Segment) → IsGap w laid g → IsGap w laid h → g ≡ h
@@ -59,11 +60,14 @@ gap_of_none w h = record {
 pub lays_unique : (w : ℕ) (laid : List Square) (code : Code) (end other : List Square) → LaysTo w laid code end → LaysTo w laid code other → end ≡ other
 lays_unique w laid [] end other a b = sym a ∙ b
 lays_unique w laid (group ∷ code) end other (gap, is, fits, a) (gap2, is2, fits2, b) =
-    lays_unique w (with_group laid gap2 group) code end other (subst (λ (g : Segment). LaysTo w (with_group laid g group) code end) (gap_unique w laid gap gap2 is is2) a) b
+    lays_unique w (with_group laid gap2 group) code end other
+    (subst (λ (g : Segment). LaysTo w (with_group laid g group) code end) (gap_unique w laid gap gap2 is is2) a) b
 
 -- one more group
-pub lays_push : (w : ℕ) (laid : List Square) (code : Code) (mid : List Square) (group : List ℕ) (gap : Segment) → LaysTo w laid code mid → IsGap w mid gap → Fits gap group → LaysTo w laid (code ++ group ∷ []) (with_group mid gap group)
-lays_push w laid [] mid group gap lays is fits = (gap, subst (λ (l : List Square). IsGap w l gap) (sym lays) is, fits, ap (λ (l : List Square). with_group l gap group) lays)
+pub lays_push : (w : ℕ) (laid : List Square) (code : Code) (mid : List Square) (group : List ℕ) (gap : Segment) → LaysTo w laid code mid
+    → IsGap w mid gap → Fits gap group → LaysTo w laid (code ++ group ∷ []) (with_group mid gap group)
+lays_push w laid [] mid group gap lays is fits =
+    (gap, subst (λ (l : List Square). IsGap w l gap) (sym lays) is, fits, ap (λ (l : List Square). with_group l gap group) lays)
 lays_push w laid (first ∷ code) mid group gap (g, a, b, lays) is fits = (g, a, b, lays_push w (with_group laid g first) code mid group gap lays is fits)
 
 -- some groups and then others
@@ -81,13 +85,21 @@ lays_split w laid (group ∷ code) more end (gap, is, fits, lays) =
 pub lays_length : (w : ℕ) (laid : List Square) (code : Code) (end : List Square) → LaysTo w laid code end → length end ≡ length laid + length (flat code)
 lays_length w laid [] end lays = omega (arith, ap length lays)
 lays_length w laid (group ∷ code) end (gap, is, fits, lays) =
-    omega (arith, lays_length w (with_group laid gap group) code end lays, length-append laid (laid_group gap.x gap.level group), length_group gap.x gap.level group, length-append group (flat code))
+    omega (
+      arith,
+      lays_length w (with_group laid gap group) code end lays,
+      length-append laid (laid_group gap.x gap.level group),
+      length_group gap.x gap.level group,
+      length-append group (flat code),
+    )
 
 group_good : (x y : ℕ) (sides : List ℕ) → AllByRecursion IsSide sides → AllByRecursion (λ q. IsSide q.s) (laid_group x y sides)
 group_good x y [] good = tt
 group_good x y (s ∷ sides) good = (good.0, group_good (x + s) y sides good.1)
 
-pub lays_sides : (w : ℕ) (laid : List Square) (code : Code) (end : List Square) → AllByRecursion IsSideGroup code → LaysTo w laid code end → AllByRecursion (λ q. IsSide q.s) laid → AllByRecursion (λ q. IsSide q.s) end
+pub lays_sides : (w : ℕ) (laid : List Square) (code : Code) (end : List Square) → AllByRecursion IsSideGroup code → LaysTo w laid code end
+    → AllByRecursion (λ q. IsSide q.s) laid → AllByRecursion (λ q. IsSide q.s) end
 lays_sides w laid [] end good lays sides = subst (AllByRecursion (λ q. IsSide q.s)) lays sides
 lays_sides w laid (group ∷ code) end good (gap, is, fits, lays) sides =
-    lays_sides w (with_group laid gap group) code end good.1 lays (all_append (λ q. IsSide q.s) laid (laid_group gap.x gap.level group) sides (group_good gap.x gap.level group good.0.1))
+    lays_sides w (with_group laid gap group) code end good.1 lays
+    (all_append (λ q. IsSide q.s) laid (laid_group gap.x gap.level group) sides (group_good gap.x gap.level group good.0.1))

@@ -3,7 +3,6 @@ pub mod GapExamples
 pub mod CodeLaying
 pub mod RunStarts
 pub mod Hanging
-pub mod Moving
 pub mod Storing
 pub mod LaidGroups
 pub mod LayingOnce

@@ -95,8 +95,20 @@ four_end_open = record {
   laid = four_groups;
   lays = lays_four;
   uneven = record {
-    least_is = record { column = 24; within = omega arith; there = refl; below = λ c h. leb-true 23 (depth four_groups c) (each_below (λ c. nat_le 23 (depth four_groups c)) 33 refl c h) };
-    greatest_is = record { column = 0; within = omega arith; there = refl; above = λ c h. leb-true (depth four_groups c) 32 (each_below (λ c. nat_le (depth four_groups c) 32) 33 refl c h) };
+    least_is = record {
+      column = 24;
+      within = omega arith;
+      there = refl;
+      below =
+          λ c h. leb-true 23 (depth four_groups c) (each_below (λ c. nat_le 23 (depth four_groups c)) 33 refl c h);
+    };
+    greatest_is = record {
+      column = 0;
+      within = omega arith;
+      there = refl;
+      above =
+          λ c h. leb-true (depth four_groups c) 32 (each_below (λ c. nat_le (depth four_groups c) 32) 33 refl c h);
+    };
     uneven = omega arith;
   };
 }

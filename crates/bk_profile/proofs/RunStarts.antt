@@ -23,7 +23,8 @@ start_le runs zero k h = omega arith
 start_le [] (suc j) zero h = absurd (omega arith)
 start_le [] (suc j) (suc k) h = omega arith
 start_le (r ∷ runs) (suc j) zero h = absurd (omega arith)
-start_le (r ∷ runs) (suc j) (suc k) h = omega (arith, start_le runs j k (omega arith), sum_by-cons (λ (s : Run). s.width) r (take j runs), sum_by-cons (λ (s : Run). s.width) r (take k runs))
+start_le (r ∷ runs) (suc j) (suc k) h =
+    omega (arith, start_le runs j k (omega arith), sum_by-cons (λ (s : Run). s.width) r (take j runs), sum_by-cons (λ (s : Run). s.width) r (take k runs))
 
 pub start_all : (runs : List Run) (n : ℕ) → length runs ≤ n → start runs n ≡ width_of runs
 start_all runs n h = ap width_of (take_all n runs h)
@@ -31,7 +32,8 @@ start_all runs n h = ap width_of (take_all n runs h)
 pub start_below : (runs : List Run) (b : ℕ) → start runs b ≤ width_of runs
 start_below runs b = sum_by-take-le (λ (r : Run). r.width) runs b
 
-level_from : (laid : List Square) (x : ℕ) (runs : List Run) (k : ℕ) (d : Run) (c : ℕ) → AreLevel laid x runs → k < length runs → x + start runs k ≤ c → c < x + start runs (k + 1) → depth laid c ≡ (get_or runs k d).level
+level_from : (laid : List Square) (x : ℕ) (runs : List Run) (k : ℕ) (d : Run) (c : ℕ) → AreLevel laid x runs → k < length runs → x + start runs k ≤ c
+    → c < x + start runs (k + 1) → depth laid c ≡ (get_or runs k d).level
 level_from laid x [] k d c all l from to = absurd (omega arith)
 level_from laid x (r ∷ runs) zero d c all l from to = all.0 c (omega arith) (omega (arith, start_more (r ∷ runs) 0 no_run (omega arith)))
 level_from laid x (r ∷ runs) (suc k) d c all l from to =
@@ -42,7 +44,8 @@ level_from laid x (r ∷ runs) (suc k) d c all l from to =
     same n = omega arith
 
 -- the depth of a column is the level of its run
-pub level_at : (w : ℕ) (laid : List Square) (runs : List Run) (k : ℕ) (d : Run) (c : ℕ) → IsOutline w laid runs → k < length runs → start runs k ≤ c → c < start runs (k + 1) → depth laid c ≡ (get_or runs k d).level
+pub level_at : (w : ℕ) (laid : List Square) (runs : List Run) (k : ℕ) (d : Run) (c : ℕ) → IsOutline w laid runs → k < length runs → start runs k ≤ c
+    → c < start runs (k + 1) → depth laid c ≡ (get_or runs k d).level
 level_at w laid runs k d c outline l from to = level_from laid 0 runs k d c outline.level l (omega arith) (omega arith)
 
 -- the run over a column, where the first run begins at x
@@ -72,7 +75,8 @@ lies x (r ∷ runs) c l h =
     same n = omega arith
 
 -- the leftmost runs of least level that touch are the gap
-pub gap_from_runs : (w : ℕ) (laid : List Square) (runs : List Run) (a b : ℕ) (gap : Segment) → IsOutline w laid runs → IsLowest runs (length runs) a b → gap.x ≡ start runs a → gap.x + gap.width ≡ start runs b → ((d : Run) → gap.level ≡ (get_or runs a d).level) → IsGap w laid gap
+pub gap_from_runs : (w : ℕ) (laid : List Square) (runs : List Run) (a b : ℕ) (gap : Segment) → IsOutline w laid runs → IsLowest runs (length runs) a b
+    → gap.x ≡ start runs a → gap.x + gap.width ≡ start runs b → ((d : Run) → gap.level ≡ (get_or runs a d).level) → IsGap w laid gap
 gap_from_runs w laid runs a b gap outline lowest x end level = record {
   flat = record {
     some = omega (arith, x, end, start_le runs (a + 1) b (omega (arith, lowest.some)), start_more runs a no_run first, outline.some a no_run first);
@@ -84,13 +88,31 @@ gap_from_runs w laid runs a b gap outline lowest x end level = record {
   };
   least = λ c l.
       let at : Lies 0 runs c = over c (omega (arith, outline.whole)) in
-      omega (arith, level_at w laid runs at.place no_run c outline at.below (omega (arith, at.from)) (omega (arith, at.to)), lowest.least at.place no_run at.below, level no_run);
+      omega (
+        arith,
+        level_at w laid runs at.place no_run c outline at.below (omega (arith, at.from)) (omega (arith, at.to)),
+        lowest.least at.place no_run at.below,
+        level no_run,
+      );
   leftmost = λ c l.
       let at : Lies 0 runs c = over c (omega (arith, x, start_below runs a)) in
-      omega (arith, level_at w laid runs at.place no_run c outline at.below (omega (arith, at.from)) (omega (arith, at.to)), lowest.left at.place no_run (before_first c at l), level no_run);
+      omega (
+        arith,
+        level_at w laid runs at.place no_run c outline at.below (omega (arith, at.from)) (omega (arith, at.to)),
+        lowest.left at.place no_run (before_first c at l),
+        level no_run,
+      );
   ends = λ l.
-      let more : b < length runs = ⊎_elim (λ (k : b < length runs). k) (λ (k : length runs ≤ b). absurd (omega (arith, l, end, outline.whole, start_all runs b k))) (cases_lt b (length runs)) in
-      omega (arith, level_at w laid runs b no_run (gap.x + gap.width) outline more (omega (arith, end)) (omega (arith, end, start_more runs b no_run more, outline.some b no_run more)), lowest.right no_run more, level no_run);
+      let more : b < length runs =
+      ⊎_elim (λ (k : b < length runs). k) (λ (k : length runs ≤ b). absurd (omega (arith, l, end, outline.whole, start_all runs b k)))
+      (cases_lt b (length runs)) in
+      omega (
+        arith,
+        level_at w laid runs b no_run (gap.x + gap.width) outline more (omega (arith, end))
+            (omega (arith, end, start_more runs b no_run more, outline.some b no_run more)),
+        lowest.right no_run more,
+        level no_run,
+      );
 }
   where
     first : a < length runs
@@ -100,39 +122,56 @@ gap_from_runs w laid runs a b gap outline lowest x end level = record {
     over c h = lies 0 runs c (omega arith) (omega (arith, h))
 
     not_left : (c : ℕ) (at : Lies 0 runs c) → gap.x ≤ c → a ≤ at.place
-    not_left c at l = ⊎_elim (λ (k : at.place < a). absurd (omega (arith, at.to, x, l, start_le runs (at.place + 1) a (omega arith)))) (λ (k : a ≤ at.place). k) (cases_lt at.place a)
+    not_left c at l = ⊎_elim (λ (k : at.place < a). absurd (omega (arith, at.to, x, l, start_le runs (at.place + 1) a (omega arith))))
+        (λ (k : a ≤ at.place). k) (cases_lt at.place a)
 
     not_right : (c : ℕ) (at : Lies 0 runs c) → c < gap.x + gap.width → at.place < b
-    not_right c at r = ⊎_elim (λ (k : at.place < b). k) (λ (k : b ≤ at.place). absurd (omega (arith, at.from, end, r, start_le runs b at.place k))) (cases_lt at.place b)
+    not_right c at r =
+        ⊎_elim (λ (k : at.place < b). k) (λ (k : b ≤ at.place). absurd (omega (arith, at.from, end, r, start_le runs b at.place k))) (cases_lt at.place b)
 
     before_first : (c : ℕ) (at : Lies 0 runs c) → c < gap.x → at.place < a
-    before_first c at l = ⊎_elim (λ (k : at.place < a). k) (λ (k : a ≤ at.place). absurd (omega (arith, at.from, x, l, start_le runs a at.place k))) (cases_lt at.place a)
+    before_first c at l =
+        ⊎_elim (λ (k : at.place < a). k) (λ (k : a ≤ at.place). absurd (omega (arith, at.from, x, l, start_le runs a at.place k))) (cases_lt at.place a)
 
 -- the columns of a run lie in the width and have its level
-in_width : (w : ℕ) (laid : List Square) (runs : List Run) (k : ℕ) → IsOutline w laid runs → k < length runs → (start runs k < w) × (depth laid (start runs k) ≡ (get_or runs k no_run).level)
+in_width : (w : ℕ) (laid : List Square) (runs : List Run) (k : ℕ) → IsOutline w laid runs → k < length runs
+    → (start runs k < w) × (depth laid (start runs k) ≡ (get_or runs k no_run).level)
 in_width w laid runs k outline l =
-    let some : 0 < (get_or runs k no_run).width = outline.some k no_run l in
-    (omega (arith, start_more runs k no_run l, start_below runs (k + 1), outline.whole), level_at w laid runs k no_run (start runs k) outline l (omega arith) (omega (arith, start_more runs k no_run l)))
+    let some : 0 < (get_or runs k no_run).width = outline.some k no_run l in (
+      omega (arith, start_more runs k no_run l, start_below runs (k + 1), outline.whole),
+      level_at w laid runs k no_run (start runs k) outline l (omega arith) (omega (arith, start_more runs k no_run l)),
+    )
 
-pub least_depth : (w : ℕ) (laid : List Square) (runs : List Run) (a b : ℕ) → IsOutline w laid runs → IsLowest runs (length runs) a b → IsLeastDepth (record { width = w; squares = laid }) (get_or runs a no_run).level
+pub least_depth : (w : ℕ) (laid : List Square) (runs : List Run) (a b : ℕ) → IsOutline w laid runs → IsLowest runs (length runs) a b
+    → IsLeastDepth (record { width = w; squares = laid }) (get_or runs a no_run).level
 least_depth w laid runs a b outline lowest = record {
   column = start runs a;
   within = (in_width w laid runs a outline first).0;
   there = (in_width w laid runs a outline first).1;
   below = λ c h.
       let at : Lies 0 runs c = lies 0 runs c (omega arith) (omega (arith, h, outline.whole)) in
-      omega (arith, level_at w laid runs at.place no_run c outline at.below (omega (arith, at.from)) (omega (arith, at.to)), lowest.least at.place no_run at.below);
+      omega (
+        arith,
+        level_at w laid runs at.place no_run c outline at.below (omega (arith, at.from)) (omega (arith, at.to)),
+        lowest.least at.place no_run at.below,
+      );
 }
   where
     first : a < length runs
     first = omega (arith, lowest.some, lowest.within)
 
-pub greatest_depth : (w : ℕ) (laid : List Square) (runs : List Run) (k greatest : ℕ) → IsOutline w laid runs → All (λ (r : Run). r.level ≤ greatest) runs → k < length runs → HoldsAt (λ (r : Run). r.level ≡ greatest) runs k → IsGreatestDepth (record { width = w; squares = laid }) greatest
+pub greatest_depth : (w : ℕ) (laid : List Square) (runs : List Run) (k greatest : ℕ) → IsOutline w laid runs
+    → All (λ (r : Run). r.level ≤ greatest) runs → k < length runs → HoldsAt (λ (r : Run). r.level ≡ greatest) runs k
+    → IsGreatestDepth (record { width = w; squares = laid }) greatest
 greatest_depth w laid runs k greatest outline most below at = record {
   column = start runs k;
   within = (in_width w laid runs k outline below).0;
   there = (in_width w laid runs k outline below).1 ∙ at no_run;
   above = λ c h.
       let over : Lies 0 runs c = lies 0 runs c (omega arith) (omega (arith, h, outline.whole)) in
-      omega (arith, level_at w laid runs over.place no_run c outline over.below (omega (arith, over.from)) (omega (arith, over.to)), most over.place no_run over.below);
+      omega (
+        arith,
+        level_at w laid runs over.place no_run c outline over.below (omega (arith, over.from)) (omega (arith, over.to)),
+        most over.place no_run over.below,
+      );
 }

@@ -18,7 +18,8 @@ use Rattle.bk_profile.specs.Stored.{IsStored}
 use Rattle.bk_profile.specs.declared.runs.Run.{Run}
 
 -- the columns of a gap, by the sum of the sides that fill it
-pub there : (w : ℕ) (laid : List Square) (gap : Segment) (sides : List ℕ) → IsGap w laid gap → Fits gap sides → (c : ℕ) → gap.x ≤ c → c < gap.x + total sides → depth laid c ≡ gap.level
+pub there : (w : ℕ) (laid : List Square) (gap : Segment) (sides : List ℕ) → IsGap w laid gap → Fits gap sides → (c : ℕ) → gap.x ≤ c
+    → c < gap.x + total sides → depth laid c ≡ gap.level
 there w laid gap sides is fits c l h = (is.flat).level c l (omega (arith, h, fits, sum_is_total sides))
 
 -- what is computed of an outline that is read some times: the places of the gap's runs, and the gap
@@ -59,7 +60,8 @@ module _ (p : Laid) (runs once twice : List Run) (places : ℕ × ℕ) (gap : Se
   end_small = let a = (gap_read.flat).within in let b = (stored.profile).narrow in omega arith
 
   pub stored_laid : (sides : List ℕ) → Fits gap sides → AllByRecursion IsSide sides → 0 < length sides → length p.squares + length sides ≤ 200
-      → IsStored (record { width = p.width; squares = with_group p.squares gap sides }) ((take places.0 runs ++ runs_under gap.level sides) ++ drop places.1 runs)
+      → IsStored (record { width = p.width; squares = with_group p.squares gap sides })
+      ((take places.0 runs ++ runs_under gap.level sides) ++ drop places.1 runs)
   stored_laid sides fits good some room = record {
     profile = record {
       some = (stored.profile).some;
@@ -71,12 +73,15 @@ module _ (p : Laid) (runs once twice : List Run) (places : ℕ × ℕ) (gap : Se
   }
 
 -- the depths that are read off
-pub least_read : (p : Laid) (runs once twice : List Run) (places : ℕ × ℕ) → IsStored p runs → once ≡ runs → twice ≡ runs → IsLowest once (length once) places.0 places.1 → IsLeastDepth p (get_or twice places.0 no_run).level
+pub least_read : (p : Laid) (runs once twice : List Run) (places : ℕ × ℕ) → IsStored p runs → once ≡ runs → twice ≡ runs
+    → IsLowest once (length once) places.0 places.1 → IsLeastDepth p (get_or twice places.0 no_run).level
 least_read p runs once twice places stored e f lowest =
     subst (λ (l : List Run). IsLeastDepth p (get_or l places.0 no_run).level) (sym f)
     (least_depth p.width p.squares runs places.0 places.1 stored.outline (subst (λ (l : List Run). IsLowest l (length l) places.0 places.1) e lowest))
 
-pub greatest_read : (p : Laid) (runs once : List Run) (greatest : ℕ) → IsStored p runs → once ≡ runs → All (λ (r : Run). r.level ≤ greatest) once → (k : ℕ) × (k < length once) × HoldsAt (λ (r : Run). r.level ≡ greatest) once k → IsGreatestDepth p greatest
+pub greatest_read : (p : Laid) (runs once : List Run) (greatest : ℕ) → IsStored p runs → once ≡ runs → All (λ (r : Run). r.level ≤ greatest) once
+    → (k : ℕ) × (k < length once) × HoldsAt (λ (r : Run). r.level ≡ greatest) once k → IsGreatestDepth p greatest
 greatest_read p runs once greatest stored e most some =
-    let at : (k : ℕ) × (k < length runs) × HoldsAt (λ (r : Run). r.level ≡ greatest) runs k = subst (λ (l : List Run). (k : ℕ) × (k < length l) × HoldsAt (λ (r : Run). r.level ≡ greatest) l k) e some in
+    let at : (k : ℕ) × (k < length runs) × HoldsAt (λ (r : Run). r.level ≡ greatest) runs k =
+    subst (λ (l : List Run). (k : ℕ) × (k < length l) × HoldsAt (λ (r : Run). r.level ≡ greatest) l k) e some in
     greatest_depth p.width p.squares runs at.0 greatest stored.outline (subst (λ (l : List Run). All (λ (r : Run). r.level ≤ greatest) l) e most) at.1 at.2

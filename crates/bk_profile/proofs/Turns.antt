@@ -24,7 +24,8 @@ flat_append (group ∷ code) more = ap (λ (l : List ℕ). group ++ l) (flat_app
 split_at : (code : Code) (k : ℕ) → k < length code → code ≡ take k code ++ get_or code k [] ∷ drop (k + 1) code
 split_at code k l = sym (take-append-drop k code) ∙ ap (λ (c : Code). take k code ++ c) (drop_more code k [] l)
 
-pub read_room : (code : Code) (k : ℕ) (group : List ℕ) (n : ℕ) → IsKeptCode code → k < length code → group ≡ get_or code k [] → n ≡ length (flat (take k code)) → n + length group ≤ 200
+pub read_room : (code : Code) (k : ℕ) (group : List ℕ) (n : ℕ) → IsKeptCode code → k < length code → group ≡ get_or code k []
+    → n ≡ length (flat (take k code)) → n + length group ≤ 200
 read_room code k group n kept l is count =
     omega (
       arith,
@@ -47,22 +48,32 @@ pub record Turn (code : Code) (k : ℕ) (p : Laid) : Type 0 where
   pub lays : LaysTo (first_sum code) [] (take k code) p.squares
   pub count : length p.squares ≡ length (flat (take k code))
 
-pub first_turn : (code : Code) (group : List ℕ) (n : ℕ) (p : Laid) → 0 < length code → group ≡ get_or code 0 [] → n ≡ sum group → p ≡ record { width = n; squares = [] } → Turn code 0 p
-first_turn code group n p some is e new = subst (λ (q : Laid). Turn code 0 q) (sym new) (record { width = first_read code group n some is e; lays = refl; count = refl })
+pub first_turn : (code : Code) (group : List ℕ) (n : ℕ) (p : Laid) → 0 < length code → group ≡ get_or code 0 [] → n ≡ sum group
+    → p ≡ record { width = n; squares = [] } → Turn code 0 p
+first_turn code group n p some is e new =
+    subst (λ (q : Laid). Turn code 0 q) (sym new) (record { width = first_read code group n some is e; lays = refl; count = refl })
 
-pub next_turn : (code : Code) (k : ℕ) (group : List ℕ) (old new : Laid) → Turn code k old → k < length code → group ≡ get_or code k [] → LaysGroup old group new → Turn code (k + 1) new
+pub next_turn : (code : Code) (k : ℕ) (group : List ℕ) (old new : Laid) → Turn code k old → k < length code → group ≡ get_or code k []
+    → LaysGroup old group new → Turn code (k + 1) new
 next_turn code k group old new turn l is lay =
     let more : take (k + 1) code ≡ take k code ++ group ∷ [] = take_more code k [] l ∙ ap (λ (g : List ℕ). take k code ++ g ∷ []) (sym is) in
     let gap : IsGap (first_sum code) old.squares lay.gap = subst (λ n. IsGap n old.squares lay.gap) turn.width lay.is_gap in
-    let lays : LaysTo (first_sum code) [] (take k code ++ group ∷ []) (with_group old.squares lay.gap group) = lays_push (first_sum code) [] (take k code) old.squares group lay.gap turn.lays gap lay.fits in
+    let lays : LaysTo (first_sum code) [] (take k code ++ group ∷ []) (with_group old.squares lay.gap group) =
+    lays_push (first_sum code) [] (take k code) old.squares group lay.gap turn.lays gap lay.fits in
     subst (λ (q : Laid). Turn code (k + 1) q) (sym lay.laid)
     (record {
       width = turn.width;
       lays = subst (λ (c : Code). LaysTo (first_sum code) [] c (with_group old.squares lay.gap group)) (sym more) lays;
-      count = omega (arith, lays_length (first_sum code) [] (take k code ++ group ∷ []) (with_group old.squares lay.gap group) lays, ap (λ (c : Code). length (flat c)) more);
+      count = omega (
+        arith,
+        lays_length (first_sum code) [] (take k code ++ group ∷ []) (with_group old.squares lay.gap group) lays,
+        ap
+            (λ (c : Code). length (flat c)) more,
+      );
     })
 
-pub misfit_turn : (code : Code) (k : ℕ) (group : List ℕ) (old : Laid) (gap_width total : ℕ) → Turn code k old → k < length code → group ≡ get_or code k [] → MisfitsGap old group gap_width total → Misfits (first_sum code) code (k + 1) gap_width total
+pub misfit_turn : (code : Code) (k : ℕ) (group : List ℕ) (old : Laid) (gap_width total : ℕ) → Turn code k old → k < length code
+    → group ≡ get_or code k [] → MisfitsGap old group gap_width total → Misfits (first_sum code) code (k + 1) gap_width total
 misfit_turn code k group old gap_width total turn l is m = record {
   before = take k code;
   group = group;
@@ -80,8 +91,10 @@ misfit_turn code k group old gap_width total turn l is m = record {
 
 -- no tiling has a code that is refused
 pub refused_has_none : (code : Code) (refusal : Refusal) → 0 < length code → IsRefused (first_sum code) code refusal → (t : Tiling) → HasCode code t → ⊥
-refused_has_none code (Gap number gap_width total) some refused t has = no_misfit (first_sum code) code t.squares number gap_width total (lays_code code t has some) refused
-refused_has_none code (Open least greatest) some refused t has = not_open (first_sum code) code t least greatest has.tiling (sym (width_is code t has some)) (lays_code code t has some) refused
+refused_has_none code (Gap number gap_width total) some refused t has =
+    no_misfit (first_sum code) code t.squares number gap_width total (lays_code code t has some) refused
+refused_has_none code (Open least greatest) some refused t has =
+    not_open (first_sum code) code t least greatest has.tiling (sym (width_is code t has some)) (lays_code code t has some) refused
 
 -- after the last turn
 module _ (code : Code) (k : ℕ) (p : Laid) (kept : IsKeptCode code) (some : 0 < length code) (turn : Turn code k p) (all : length code ≤ k) where
@@ -99,7 +112,8 @@ module _ (code : Code) (k : ℕ) (p : Laid) (kept : IsKeptCode code) (some : 0 <
 
   open_refused : (refusal : Refusal) → IsOpen p refusal → IsRefused (first_sum code) code refusal
   open_refused (Gap number gap_width total) h = absurd h
-  open_refused (Open least greatest) h = record { laid = p.squares; lays = lays; uneven = subst (λ (n : ℕ). IsUneven (record { width = n; squares = p.squares }) least greatest) turn.width h }
+  open_refused (Open least greatest) h =
+      record { laid = p.squares; lays = lays; uneven = subst (λ (n : ℕ). IsUneven (record { width = n; squares = p.squares }) least greatest) turn.width h }
 
   the_one : (t u : Tiling) → IsLaidTiling p t → HasCode code u → t ≡ u
   the_one t u is has = same_tiling t u is.tiling has.tiling (is.width_is ∙ turn.width ∙ width_is code u has some)

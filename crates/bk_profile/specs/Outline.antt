@@ -1,6 +1,6 @@
 -- How the outline of laid squares is kept: level runs of columns side by side, from column 0 on.
 use Rattle.std.specs.List.{All}
-use Rattle.std.specs.Prelude.{List, [], length, map, slice_index_or, sum_by, take, ℕ, ⊤, ◌*◌, ◌++◌, ◌+◌, ◌<◌, ◌∷◌, ◌≡◌, ◌≤◌}
+use Rattle.std.specs.Prelude.{List, [], length, map, slice_index_or, sum_by, take, ℕ, ⊤, ◌*◌, ◌+◌, ◌<◌, ◌∷◌, ◌≡◌, ◌≤◌}
 use Rattle.bk_tiling.specs.Column.{depth}
 use Rattle.bk_tiling.specs.declared.Square.{Square}
 use Rattle.bk_profile.specs.declared.runs.Run.{Run}
@@ -42,8 +42,3 @@ run_under level s = record { width = s; level = level + s }
 -- the runs that a group leaves under it
 abbrev pub runs_under : ℕ → List ℕ → List Run
 runs_under level sides = map (run_under level) sides
-
--- the last runs, so many, stand before those that stood from the place `first` on
-abbrev pub IsMoved : List Run → List Run → ℕ → ℕ → Type 0
-IsMoved old new first count = (front middle last : List Run) → length front ≡ first → length last ≡ count → old ≡ (front ++ middle) ++ last
-    → new ≡ (front ++ last) ++ middle

@@ -1,15 +1,15 @@
 //! Laying flat lists of sides, whose groups are found by laying.
 
 ghost use Rattle.std.specs.List.{AllByRecursion};
-ghost use Rattle.std.specs.Prelude.{IfErr, IfOk, IsOkAnd, length, take, ◌<◌, ◌≡◌, ◌≤◌};
+ghost use Rattle.std.specs.Prelude.{IfErr, IfOk, IsOk, IsOkAnd, OnOk, length, take, ◌<◌, ◌≡◌, ◌≤◌};
 ghost use Rattle.bk_tiling.specs.Kept.{IsSide};
 ghost use Rattle.bk_tiling.specs.Tiling.{Tiling as Tiled};
 ghost use Rattle.bk_profile.specs.Gap.{next_group};
 ghost use Rattle.bk_profile.specs.Refused.{HasFlat, IsFlatRefused};
 
 use crate::laying::{Refusal, even_height};
-use crate::profile::{Profile, sum_of};
-use bk_tiling::{LONGEST_SIDE, MOST_SQUARES, Tiling};
+use crate::profile::Profile;
+use bk_tiling::{Tiling, sum_of};
 
 /// No 200 sides have a greater sum.
 const WIDEST: u64 = 199_999_999_999_999_800;
@@ -29,6 +29,31 @@ pub fn lay_flat(width: u64, sides: &[u64]) -> Result<Tiling, Refusal>
     ensures only { (t : Tiled) → HasFlat width sides.now t → IsOkAnd result (λ u. u ≡ t) }
     ensures refused { IfErr result (IsFlatRefused width sides.now) }
 {
+    let mut profile = Profile::new(1);
+    let mut tiling = Tiling::unit();
+    match lay_flat_in(width, sides, &mut profile, &mut tiling) {
+        Ok(()) => Ok(tiling),
+        Err(refusal) => Err(refusal),
+    }
+}
+
+/// Does what `lay_flat` does in a profile and a tiling that are there, and hold anything before: the one tiling that has this width
+/// and a code with this flat list is left. So nothing large is made for a list.
+pub fn lay_flat_in(
+    width: u64,
+    sides: &[u64],
+    profile: &mut Profile,
+    tiling: &mut Tiling,
+) -> Result<(), Refusal>
+    requires wide { 0 < width }
+    requires narrow { width ≤ 999_999_999_999_999_999 }
+    requires some { 0 < length sides.now }
+    requires few { length sides.now ≤ 200 }
+    requires sides { AllByRecursion IsSide sides.now }
+    ensures ok { OnOk result (HasFlat width sides.now tiling.new) }
+    ensures only { (t : Tiled) → HasFlat width sides.now t → IsOk result × (tiling.new ≡ t) }
+    ensures refused { IfErr result (IsFlatRefused width sides.now) }
+{
     if width > WIDEST {
         return Err(Refusal::Gap {
             group: 1,
@@ -36,7 +61,7 @@ pub fn lay_flat(width: u64, sides: &[u64]) -> Result<Tiling, Refusal>
             sum: sum_of(sides),
         });
     }
-    let mut profile = Profile::new(width);
+    profile.restart(width);
     let mut rest = sides;
     let mut group = 1;
     while !rest.is_empty() {
@@ -51,8 +76,11 @@ pub fn lay_flat(width: u64, sides: &[u64]) -> Result<Tiling, Refusal>
         rest = left;
         group += 1;
     }
-    match even_height(&profile) {
-        Ok(height) => Ok(profile.into_tiling(height)),
+    match even_height(profile) {
+        Ok(height) => {
+            profile.leave_tiling(height, tiling);
+            Ok(())
+        }
         Err(refusal) => Err(refusal),
     }
 }

@@ -1,14 +1,14 @@
 //! Laying codes: the one tiling that has a code, or why there is none.
 
-ghost use Rattle.std.specs.Prelude.{IfErr, IfOk, IsOkAnd, length, ◌<◌, ◌≡◌};
+ghost use Rattle.std.specs.Prelude.{IfErr, IfOk, IsOk, IsOkAnd, OnOk, length, ◌<◌, ◌≡◌};
 ghost use Rattle.bk_tiling.specs.Tiling.{Tiling as Tiled};
 ghost use Rattle.bk_tiling.specs.Kept.{IsKept};
 ghost use Rattle.bk_profile.specs.Laid.{IsLaidOut};
 ghost use Rattle.bk_profile.specs.Refused.{HasCode, IsOpen, IsRefused, first_sum};
 
-use crate::profile::{Profile, sum_of};
+use crate::profile::Profile;
 use bk_code::Code;
-use bk_tiling::Tiling;
+use bk_tiling::{Tiling, sum_of};
 use thiserror::Error;
 
 /// Why laying gives no tiling.
@@ -31,8 +31,24 @@ pub fn lay_code(code: &Code) -> Result<Tiling, Refusal>
     ensures only { (t : Tiled) → HasCode code.now t → IsOkAnd result (λ u. u ≡ t) }
     ensures refused { IfErr result (IsRefused (first_sum code.now) code.now) }
 {
+    let mut profile = Profile::new(1);
+    let mut tiling = Tiling::unit();
+    match lay_code_in(code, &mut profile, &mut tiling) {
+        Ok(()) => Ok(tiling),
+        Err(refusal) => Err(refusal),
+    }
+}
+
+/// Does what `lay_code` does in a profile and a tiling that are there, and hold anything before: the one tiling that has the code
+/// is left. So nothing large is made for a code.
+pub fn lay_code_in(code: &Code, profile: &mut Profile, tiling: &mut Tiling) -> Result<(), Refusal>
+    requires { 0 < length code.now }
+    ensures ok { OnOk result (HasCode code.now tiling.new) }
+    ensures only { (t : Tiled) → HasCode code.now t → IsOk result × (tiling.new ≡ t) }
+    ensures refused { IfErr result (IsRefused (first_sum code.now) code.now) }
+{
     let count = code.groups();
-    let mut profile = Profile::new(sum_of(code.group(0)));
+    profile.restart(sum_of(code.group(0)));
     for g in 0..count {
         if let Err(fault) = profile.lay(code.group(g)) {
             return Err(Refusal::Gap {
@@ -42,8 +58,11 @@ pub fn lay_code(code: &Code) -> Result<Tiling, Refusal>
             });
         }
     }
-    match even_height(&profile) {
-        Ok(height) => Ok(profile.into_tiling(height)),
+    match even_height(profile) {
+        Ok(height) => {
+            profile.leave_tiling(height, tiling);
+            Ok(())
+        }
         Err(refusal) => Err(refusal),
     }
 }

@@ -1,15 +1,14 @@
 //! Squares laid gap by gap, from the top of a rectangle downwards.
 
 ghost use Rattle.std.specs.List.{AllByRecursion};
-ghost use Rattle.std.specs.Prelude.{[], IfErr, OnErr, OnOk, length, sum, ◌*◌, ◌+◌, ◌++◌, ◌<◌, ◌^◌, ◌≡◌, ◌≤◌};
+ghost use Rattle.std.specs.Prelude.{[], IfErr, OnErr, OnOk, length, ◌+◌, ◌<◌, ◌≡◌, ◌≤◌};
 ghost use Rattle.bk_tiling.specs.Kept.{IsKept, IsSide};
-ghost use Rattle.bk_tiling.specs.SquareGroups.{laid_group};
 ghost use Rattle.bk_profile.specs.Gap.{IsGap};
 ghost use Rattle.bk_profile.specs.Laid.{IsGreatestDepth, IsLaidTiling, IsLeastDepth, IsProfile, LaysGroup, MisfitsGap};
 
 use crate::runs::{MOST_RUNS, Run, hang, highest, lowest, segment};
 use arrayvec::ArrayVec;
-use bk_tiling::{LONGEST_SIDE, MOST_SQUARES, Segment, Square, Tiling};
+use bk_tiling::{MOST_SQUARES, Segment, Square, Tiling, push_group, sum_of};
 use std::marker::Model;
 
 /// The sum of a group isn't the width of the gap that it was to go into.
@@ -57,6 +56,18 @@ impl Profile {
         }
     }
 
+    // Takes away all squares, and begins again with this width.
+    pub(crate) fn restart(&mut self, width: u64)
+        requires some { 0 < width }
+        requires narrow { width ≤ 200_000_000_000_000_000 }
+        ensures { self.new ≡ record { width = width; squares = [] } }
+    {
+        self.width = width;
+        self.laid.clear();
+        self.outline.clear();
+        self.outline.push(Run { width, level: 0 });
+    }
+
     /// The gap: the leftmost maximal run of columns of least depth (Bouwkamp 1946-47).
     pub fn gap(&self) -> Segment
         ensures gap { IsGap self.now.width self.now.squares result }
@@ -98,12 +109,12 @@ impl Profile {
         self.laid.as_slice()
     }
 
-    // The tiling of this height, where what is laid is one.
-    pub(crate) fn into_tiling(self, height: u64) -> Tiling
-        requires { IsKept (record { width = self.width; height = height; squares = self.squares }) }
-        ensures { IsLaidTiling self result }
+    // Leaves the tiling of this height, where what is laid is one.
+    pub(crate) fn leave_tiling(&self, height: u64, tiling: &mut Tiling)
+        requires { IsKept (record { width = self.now.width; height = height; squares = self.now.squares }) }
+        ensures { IsLaidTiling self.now tiling.new }
     {
-        Tiling::from_known(self.width, height, self.laid)
+        tiling.become_known(self.width, height, &self.laid);
     }
 
     // The width.
@@ -127,35 +138,5 @@ impl Profile {
         ensures { IsGreatestDepth self.now result }
     {
         highest(&self.outline)
-    }
-}
-
-// The sum of sides.
-pub(crate) fn sum_of(sides: &[u64]) -> u64
-    requires few { length sides.now ≤ 200 }
-    requires sides { AllByRecursion IsSide sides.now }
-    ensures { result ≡ sum sides.now }
-{
-    let mut total = 0;
-    for side in sides {
-        total += *side;
-    }
-    total
-}
-
-// Appends the squares of a group under a gap.
-fn push_group(laid: &mut ArrayVec<Square, MOST_SQUARES>, gap: Segment, sides: &[u64])
-    requires room { length laid.old.items + length sides.now ≤ 200 }
-    requires fits { gap.x + sum sides.now < 2 ^ 63 }
-    ensures { laid.new.items ≡ laid.old.items ++ laid_group gap.x gap.level sides.now }
-{
-    let mut x = gap.x;
-    for side in sides {
-        laid.push(Square {
-            x,
-            y: gap.level,
-            s: *side,
-        });
-        x += *side;
     }
 }

@@ -3,7 +3,7 @@
 ghost use Rattle.std.specs.List.{All, AllByRecursion, HoldsAt};
 ghost use Rattle.std.specs.Prelude.{drop, length, slice_index_or, sum, take, ℕ, ◌+◌, ◌++◌, ◌<◌, ◌^◌, ◌≡◌, ◌≤◌};
 ghost use Rattle.bk_tiling.specs.Kept.{IsSide};
-ghost use Rattle.bk_profile.specs.Outline.{IsLowest, IsMoved, runs_under, start, width_of};
+ghost use Rattle.bk_profile.specs.Outline.{IsLowest, runs_under, start, width_of};
 
 use arrayvec::ArrayVec;
 use bk_tiling::{MOST_SQUARES, Segment};
@@ -98,8 +98,7 @@ pub(crate) fn hang(
     ensures { outline.new.items ≡ (take first outline.old.items ++ runs_under level sides.now) ++ drop end outline.old.items }
 {
     take_out(outline, first, end);
-    push_under(outline, level, sides);
-    move_last(outline, first, sides.len());
+    put_in(outline, first, level, sides);
 }
 
 // Takes out the runs from one place up to another.
@@ -108,31 +107,28 @@ fn take_out(outline: &mut ArrayVec<Run, MOST_RUNS>, first: usize, end: usize)
     requires within { end ≤ length outline.old.items }
     ensures { outline.new.items ≡ take first outline.old.items ++ drop end outline.old.items }
 {
-    let count = end - first;
-    let left = outline.len() - count;
-    outline[first..].rotate_left(count);
-    outline.truncate(left);
+    let mut last = end;
+    'runs: while last > first {
+        last -= 1;
+        outline.remove(last);
+    }
 }
 
-// Moves the last runs, so many, to a place before others.
-fn move_last(outline: &mut ArrayVec<Run, MOST_RUNS>, first: usize, count: usize)
-    requires { first + count ≤ length outline.old.items }
-    ensures { IsMoved outline.old.items outline.new.items first count }
-{
-    outline[first..].rotate_right(count);
-}
-
-// Appends the runs under a group.
-fn push_under(outline: &mut ArrayVec<Run, MOST_RUNS>, level: u64, sides: &[u64])
+// Puts in the runs under a group, from a place on.
+fn put_in(outline: &mut ArrayVec<Run, MOST_RUNS>, first: usize, level: u64, sides: &[u64])
+    requires place { first ≤ length outline.old.items }
     requires room { length outline.old.items + length sides.now ≤ MOST_RUNS }
     requires high { level < 2 ^ 63 }
     requires sides { AllByRecursion IsSide sides.now }
-    ensures { outline.new.items ≡ outline.old.items ++ runs_under level sides.now }
+    ensures { outline.new.items ≡ (take first outline.old.items ++ runs_under level sides.now) ++ drop first outline.old.items }
 {
-    for side in sides {
-        outline.push(Run {
-            width: *side,
-            level: level + *side,
-        });
+    for (i, side) in sides.iter().enumerate() {
+        outline.insert(
+            first + i,
+            Run {
+                width: *side,
+                level: level + *side,
+            },
+        );
     }
 }

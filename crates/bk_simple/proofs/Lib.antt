@@ -4,5 +4,6 @@ pub mod SimpleExamples
 pub mod LargeExamples
 pub mod Counting
 pub mod Parts
+pub mod Reaching
 pub mod Repeats
 pub mod OneFirst

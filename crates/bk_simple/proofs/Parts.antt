@@ -1,11 +1,14 @@
 -- A rectangle is a part of a tiling exactly where no square lies across its border, and at least two squares and not
 -- all lie in it.
 use Rattle.std.specs.List.{AllByRecursion, position_or_len}
-use Rattle.std.specs.Prelude.{Bool, IsTrue, List, [], cond, count_by, false, filter, get_or, length, max, refl, true, ℕ, ◌&&◌, ◌+◌, ◌-◌, ◌<◌, ◌==◌, ◌||◌, ◌∷◌, ◌≡◌, ◌≢◌, ◌≤◌, ◌⊎◌}
+use Rattle.std.specs.Prelude.{Bool, IsTrue, List, [], cond, count_by, false, filter, get_or, length, max, refl, true, ℕ, ◌&&◌, ◌+◌, ◌-◌, ◌<◌, ◌==◌}
+use Rattle.std.specs.Prelude.{◌||◌, ◌∷◌, ◌≡◌, ◌≢◌, ◌≤◌, ◌⊎◌}
 use Rattle.std.proofs.Common.{ap, arith, inl, inr, subst, sym, ◌∙◌}
-use Rattle.std.proofs.lemmas.Bool.{and_from, and_parts, both_ways, cases_Bool, cases_eq, cases_lt, eq-eqb, eqb-true, false_from_ne_true, le-leb, leb-false, leb-true, or_cases, or_left, or_parts, or_right, true_from_ne_false}
+use Rattle.std.proofs.lemmas.Bool.{and_from, and_parts, both_ways, cases_Bool, cases_eq, cases_lt, eq-eqb, eqb-true, false_from_ne_true, le-leb}
+use Rattle.std.proofs.lemmas.Bool.{leb-false, leb-true, or_cases, or_left, or_parts, or_right, true_from_ne_false}
 use Rattle.std.proofs.lemmas.List.Elements.{All-from_recursion, recursion_from_All}
-use Rattle.std.proofs.lemmas.List.Sums.{AllPass-from_list_all, fails_before_first, length-filter, list_all-from_AllPass, passes_at_first, position_or_len_is, sum_by-cons}
+use Rattle.std.proofs.lemmas.List.Sums.{AllPass-from_list_all, fails_before_first, length-filter, list_all-from_AllPass, passes_at_first}
+use Rattle.std.proofs.lemmas.List.Sums.{position_or_len_is, sum_by-cons}
 use Rattle.bk_laws.proofs.Counts.{count_two}
 use Rattle.std.proofs.lemmas.Bool.Decides.{nat_tests}
 use Rattle.bk_tiling.proofs.Cells.{IsOver, covers_from, over_from}
@@ -14,6 +17,7 @@ use Rattle.bk_tiling.specs.CodeOrder.{comes_before}
 use Rattle.bk_tiling.proofs.TilingLaws.{cell_once}
 use Rattle.bk_tiling.specs.Tiling.{IsTiling, IsWithin, Rectangle, Tiling, covers, order, whole}
 use Rattle.bk_tiling.specs.declared.Square.{Square}
+use Rattle.bk_simple.proofs.Repeats.{IsTwice, twice_from_count}
 use Rattle.bk_simple.proofs.SimpleLaws.{count_filter-lt}
 use Rattle.bk_simple.proofs.SimpleTest.{all_selected, first_corner, has_cell, last_corner, same_selection, selected_within}
 use Rattle.bk_simple.specs.Border.{IsUncut, is_inside, is_outside}
@@ -27,13 +31,6 @@ outside_means r q e = elim (or_cases _ _ e) [
   | inl across ↦ elim (or_cases _ _ across) [ inl h ↦ inl (inl (leb-true _ _ h)) | inr h ↦ inl (inr (leb-true _ _ h)) ]
   | inr along ↦ elim (or_cases _ _ along) [ inl h ↦ inr (inl (leb-true _ _ h)) | inr h ↦ inr (inr (leb-true _ _ h)) ]
 ]
-
-outside_from : (r : Rectangle) (q : Square)
-    → ((q.x + q.s ≤ r.x) ⊎ (r.x + r.width ≤ q.x)) ⊎ ((q.y + q.s ≤ r.y) ⊎ (r.y + r.height ≤ q.y)) → is_outside r q ≡ true
-outside_from r q (inl (inl h)) = or_left _ _ (or_left _ _ (le-leb _ _ h))
-outside_from r q (inl (inr h)) = or_left _ _ (or_right _ _ (le-leb _ _ h))
-outside_from r q (inr (inl h)) = or_right _ _ (or_left _ _ (le-leb _ _ h))
-outside_from r q (inr (inr h)) = or_right _ _ (or_right _ _ (le-leb _ _ h))
 
 inside_means : (r : Rectangle) (q : Square) → is_inside r q ≡ true → IsWithin r q
 inside_means r q h =
@@ -61,7 +58,8 @@ count_filter-same : {X : Type 0} (p c : X → Bool) (xs : List X) → AllByRecur
 count_filter-same p c [] all = refl
 count_filter-same p c (x ∷ xs) all = step (cases_Bool (p x)) (cases_Bool (c x)) (count_filter-same p c xs all.1)
   where
-    step : (p x ≡ true) ⊎ (p x ≡ false) → (c x ≡ true) ⊎ (c x ≡ false) → count_by c (filter p xs) ≡ count_by c xs → count_by c (filter p (x ∷ xs)) ≡ count_by c (x ∷ xs)
+    step : (p x ≡ true) ⊎ (p x ≡ false) → (c x ≡ true) ⊎ (c x ≡ false) → count_by c (filter p xs) ≡ count_by c xs
+        → count_by c (filter p (x ∷ xs)) ≡ count_by c (x ∷ xs)
     step (inl yes_p) counted ih =
         let e : count_by c (filter p (x ∷ xs)) ≡ count_by c (x ∷ filter p xs) = ap (λ b. count_by c (cond b (x ∷ filter p xs) (filter p xs))) yes_p in
         omega (arith, e, ih, sum_by-cons (λ y. cond (c y) 1 0) x xs, sum_by-cons (λ y. cond (c y) 1 0) x (filter p xs))
@@ -131,7 +129,7 @@ between-one p q r s a b = λ i. record { x = x i; y = y i; width = width i; heig
     height = omega (arith, a.top, b.top, a.bottom, b.bottom)
 
 module _ (t : Tiling) (tiling : IsTiling t) where
-  within_at : (k : ℕ) (d : Square) → k < length t.squares → IsWithin (whole t) (get_or t.squares k d)
+  pub within_at : (k : ℕ) (d : Square) → k < length t.squares → IsWithin (whole t) (get_or t.squares k d)
   within_at k d few = All-from_recursion (IsWithin (whole t)) t.squares tiling.tiles.within k d few
 
   side_at : (k : ℕ) (d : Square) → k < length t.squares → 0 < (get_or t.squares k d).s
@@ -154,7 +152,8 @@ module _ (t : Tiling) (tiling : IsTiling t) where
       some = omega (arith, several, length-filter (is_inside r) t.squares);
       sides = all_filter (λ q. 0 < q.s) (is_inside r) t.squares (recursion_from_All _ t.squares (λ k d few picked. side_at k d few));
       within = all_filter (IsWithin r) (is_inside r) t.squares (recursion_from_All _ t.squares (λ k d few picked. inside_means r _ picked));
-      once = λ i j left wide top high. count_filter-same (is_inside r) (covers i j) t.squares (recursion_from_All _ t.squares (λ k d few over. picked i j left wide top high k d few over))
+      once = λ i j left wide top high. count_filter-same (is_inside r) (covers i j) t.squares
+          (recursion_from_All _ t.squares (λ k d few over. picked i j left wide top high k d few over))
           ∙ cell_once t tiling i j (omega arith) (omega arith);
     };
   }
@@ -188,8 +187,10 @@ module _ (t : Tiling) (tiling : IsTiling t) where
 
   pub bottom_right_at : (j : ℕ) (d p : Square) (r : Rectangle) → j < length t.squares → IsBetween p (get_or t.squares j d) r → bottom_right t r ≡ j
   bottom_right_at j d p r few h =
-      position_or_len_is (λ q. (q.x + q.s == r.x + r.width) && (q.y + q.s == r.y + r.height)) t.squares j d (omega arith) (λ k below. false_from_ne_true _ (λ e. earlier k below e))
-      (λ _. equal_both ((get_or t.squares j d).x + (get_or t.squares j d).s) (r.x + r.width) ((get_or t.squares j d).y + (get_or t.squares j d).s) (r.y + r.height) (sym h.right) (sym h.bottom))
+      position_or_len_is (λ q. (q.x + q.s == r.x + r.width) && (q.y + q.s == r.y + r.height)) t.squares j d (omega arith)
+      (λ k below. false_from_ne_true _ (λ e. earlier k below e))
+      (λ _. equal_both ((get_or t.squares j d).x + (get_or t.squares j d).s) (r.x + r.width) ((get_or t.squares j d).y + (get_or t.squares j d).s)
+      (r.y + r.height) (sym h.right) (sym h.bottom))
     where
       here : IsWithin (whole t) (get_or t.squares j d)
       here = within_at j d few
@@ -197,10 +198,15 @@ module _ (t : Tiling) (tiling : IsTiling t) where
       also : 0 < (get_or t.squares j d).s
       also = side_at j d few
 
-      earlier : (k : ℕ) → k < j → ((get_or t.squares k d).x + (get_or t.squares k d).s == r.x + r.width) && ((get_or t.squares k d).y + (get_or t.squares k d).s == r.y + r.height) ≡ true → ⊥
+      earlier : (k : ℕ) → k < j
+          → ((get_or t.squares k d).x + (get_or t.squares k d).s == r.x + r.width) && ((get_or t.squares k d).y + (get_or t.squares k
+          d).s == r.y + r.height) ≡ true → ⊥
       earlier k below e =
-          let same = both_equal ((get_or t.squares k d).x + (get_or t.squares k d).s) (r.x + r.width) ((get_or t.squares k d).y + (get_or t.squares k d).s) (r.y + r.height) e in
-          one_over (r.x + r.width - 1) (r.y + r.height - 1) k j d (omega (arith, here.right, h.right, also)) (omega (arith, here.bottom, h.bottom, also)) below few
+          let same =
+          both_equal ((get_or t.squares k d).x + (get_or t.squares k d).s) (r.x + r.width) ((get_or t.squares k d).y + (get_or t.squares k d).s)
+          (r.y + r.height) e in
+          one_over (r.x + r.width - 1) (r.y + r.height - 1) k j d (omega (arith, here.right, h.right, also))
+          (omega (arith, here.bottom, h.bottom, also)) below few
           (covers_last (get_or t.squares k d) (r.x + r.width) (r.y + r.height) (side_at k d (omega arith)) (sym same.0) (sym same.1))
           (covers_last (get_or t.squares j d) (r.x + r.width) (r.y + r.height) also h.right h.bottom)
 
@@ -233,7 +239,8 @@ module _ (t : Tiling) (r : Rectangle) (tiling : IsTiling t) (part : IsPart t r) 
       let c : IsOver (r.x + r.width - 1) (r.y + r.height - 1) q = over_from (r.x + r.width - 1) (r.y + r.height - 1) q last_place.3 in
       let cell = has_cell t r tiling part in
       first_below (λ q. (q.x + q.s == r.x + r.width) && (q.y + q.s == r.y + r.height)) t.squares last_place.0 none last_place.1
-      (equal_both (q.x + q.s) (r.x + r.width) (q.y + q.s) (r.y + r.height) (omega (arith, p.right, c.right, cell.0)) (omega (arith, p.bottom, c.bottom, cell.1)))
+      (equal_both (q.x + q.s) (r.x + r.width) (q.y + q.s) (r.y + r.height) (omega (arith, p.right, c.right, cell.0))
+      (omega (arith, p.bottom, c.bottom, cell.1)))
 
   pub between_corners : (d : Square) → IsBetween (get_or t.squares (top_left t r) d) (get_or t.squares (bottom_right t r) d) r
   between_corners d =
@@ -260,7 +267,8 @@ module _ (t : Tiling) (r : Rectangle) (tiling : IsTiling t) (part : IsPart t r) 
       let w : IsWithin (whole t) q = within_at t tiling k d few in
       let some : 0 < q.s = side_at t tiling k d few in
       let cell = has_cell t r tiling part in
-      let over : covers (max q.x r.x) (max q.y r.y) q ≡ true = covers_from (max q.x r.x) (max q.y r.y) q (omega arith) (omega (arith, m.left)) (omega arith) (omega (arith, m.top)) in
+      let over : covers (max q.x r.x) (max q.y r.y) q ≡ true =
+      covers_from (max q.x r.x) (max q.y r.y) q (omega arith) (omega (arith, m.left)) (omega arith) (omega (arith, m.top)) in
       let unpicked : part.pick q ≡ false = false_from_ne_true (part.pick q) (λ e. both_ways (is_inside r q) cut (picked_inside k d few e)) in
       let fewer = count_filter-lt part.pick (covers (max q.x r.x) (max q.y r.y)) t.squares k d few unpicked over in
       let one = part.tiled.once (max q.x r.x) (max q.y r.y) (omega arith) (omega (arith, m.right, cell.0)) (omega arith) (omega (arith, m.bottom, cell.1)) in
@@ -273,7 +281,8 @@ module _ (t : Tiling) (r : Rectangle) (tiling : IsTiling t) (part : IsPart t r) 
 
   -- no square lies across the border of a part
   pub uncut_part : IsUncut r t.squares
-  uncut_part = list_all-from_AllPass (λ q. is_inside r q || is_outside r q) t.squares (λ k d few. each k d few (cases_Bool (is_inside r (get_or t.squares k d))) (cases_Bool (is_outside r (get_or t.squares k d))))
+  uncut_part = list_all-from_AllPass (λ q. is_inside r q || is_outside r q) t.squares
+      (λ k d few. each k d few (cases_Bool (is_inside r (get_or t.squares k d))) (cases_Bool (is_outside r (get_or t.squares k d))))
     where
       each : (k : ℕ) (d : Square) → k < length t.squares
           → (is_inside r (get_or t.squares k d) ≡ true) ⊎ (is_inside r (get_or t.squares k d) ≡ false)
@@ -315,6 +324,58 @@ module _ (t : Tiling) (r : Rectangle) (tiling : IsTiling t) (part : IsPart t r) 
           equal_or (inl same) = omega (arith, same)
           equal_or (inr other) =
               absurd (not_before (later_place t.squares tiling.ordered (bottom_right t r) (top_left t r) none (omega (arith, down, other)) top_left_below))
+
+  -- nor is it that square: it would be the part, and hold two squares
+  pub corners_apart : top_left t r < bottom_right t r
+  corners_apart = cases (cases_eq (top_left t r) (bottom_right t r))
+    where
+      q : Square
+      q = at (top_left t r)
+
+      twice : IsTwice (is_inside r) t.squares none
+      twice = twice_from_count (is_inside r) t.squares none (omega (arith, count_of_part, part.several))
+
+      alone : (k : ℕ) → k < length t.squares → is_inside r (at k) ≡ true → top_left t r ≡ bottom_right t r → (k ≡ top_left t r → ⊥) → ⊥
+      alone k below inside same other = two (cases_lt k (top_left t r))
+        where
+          corners : IsBetween q (at (bottom_right t r)) r
+          corners = between_corners none
+
+          width_is : r.x + r.width ≡ q.x + q.s
+          width_is = corners.right ∙ ap (λ n. (at n).x + (at n).s) (sym same)
+
+          height_is : r.y + r.height ≡ q.y + q.s
+          height_is = corners.bottom ∙ ap (λ n. (at n).y + (at n).s) (sym same)
+
+          within : IsWithin r (at k)
+          within = inside_means r (at k) inside
+
+          side : 0 < (at k).s
+          side = side_at t tiling k none below
+
+          own : covers (at k).x (at k).y (at k) ≡ true
+          own = covers_first (at k) (at k).x (at k).y side refl refl
+
+          over : covers (at k).x (at k).y q ≡ true
+          over = covers_from (at k).x (at k).y q (omega (arith, corners.left, within.left)) (omega (arith, width_is, within.right, side))
+              (omega (arith, corners.top, within.top)) (omega (arith, height_is, within.bottom, side))
+
+          bounds : IsWithin (whole t) (at k)
+          bounds = within_at t tiling k none below
+
+          two : (k < top_left t r) ⊎ (top_left t r ≤ k) → ⊥
+          two (inl before) = one_over t tiling (at k).x (at k).y k (top_left t r) none (omega (arith, bounds.right, side))
+              (omega (arith, bounds.bottom, side)) before top_left_below own over
+          two (inr behind) = one_over t tiling (at k).x (at k).y (top_left t r) k none (omega (arith, bounds.right, side))
+              (omega (arith, bounds.bottom, side)) (omega (arith, behind, other)) below over own
+
+      cases : (top_left t r ≡ bottom_right t r) ⊎ (top_left t r ≡ bottom_right t r → ⊥) → top_left t r < bottom_right t r
+      cases (inl same) = absurd (one_of (cases_eq twice.first (top_left t r)))
+        where
+          one_of : (twice.first ≡ top_left t r) ⊎ (twice.first ≡ top_left t r → ⊥) → ⊥
+          one_of (inl first) = alone twice.second twice.below twice.other same (λ e. omega (arith, twice.apart, first, e))
+          one_of (inr other) = alone twice.first (omega (arith, twice.apart, twice.below)) twice.one same other
+      cases (inr other) = let low : top_left t r ≤ bottom_right t r = corners_in_order in omega (arith, low, other)
 
 -- what the trial of one pair of squares shows
 module _ (t : Tiling) (tiling : IsTiling t) (i j : ℕ) (d : Square) where
@@ -376,9 +437,9 @@ module _ (t : Tiling) (i : ℕ) where
   abbrev pub NoneBelow : ℕ → Type 0
   NoneBelow j = (r : Rectangle) → IsPart t r → top_left t r ≡ i → j ≤ bottom_right t r
 
-  -- no bottom right square stands before the top left one
-  pub none_below_start : IsTiling t → NoneBelow i
-  none_below_start tiling r part first = subst (λ k. k ≤ bottom_right t r) first (corners_in_order t r tiling part)
+  -- each bottom right square stands behind the top left one
+  pub none_below_start : IsTiling t → NoneBelow (i + 1)
+  none_below_start tiling r part first = omega (arith, first, corners_apart t r tiling part)
 
   pub none_below_more : (j : ℕ) → NoneBelow j → ((r : Rectangle) → ¬ (IsPartAt t i j r)) → NoneBelow (j + 1)
   none_below_more j below here r part first =

@@ -1,6 +1,7 @@
 -- A number that stands twice in a list, and the ascending list of the same numbers.
 use Rattle.std.specs.List.Sorted.{IsNonDecreasing, IsPermutation}
-use Rattle.std.specs.Prelude.{Bool, IfNone, IfSome, IsNone, None, Option, Some, ◌↔◌, List, [], cond, count_by, get_or, length, map, slice_index, suc, ℕ, ◌+◌, ◌<◌, ◌==◌, ◌∷◌, ◌≡◌, ◌≤◌, ◌⊎◌, refl, true, false}
+use Rattle.std.specs.Prelude.{Bool, IfNone, IfSome, IsNone, None, Option, Some, ◌↔◌, List, [], cond, count_by, get_or, length, map, slice_index, suc}
+use Rattle.std.specs.Prelude.{ℕ, ◌+◌, ◌<◌, ◌==◌, ◌∷◌, ◌≡◌, ◌≤◌, ◌⊎◌, refl, true, false}
 use Rattle.std.proofs.Common.{ap, arith, inl, inr, sym, ◌∙◌}
 use Rattle.std.proofs.lemmas.Bool.{cases_Bool, cases_lt, eq-eqb, eqb-true}
 use Rattle.std.proofs.lemmas.List.Sorted.{sum_by-IsPermutation}
@@ -62,7 +63,8 @@ module _ (t : Tiling) (sides : List ℕ) (same : IsPermutation (sides_of t) side
   count_side side = sum_by-IsPermutation (λ s. cond (s == side) 1 0) (sides_of t) sides same ∙ count_by-map (λ s. s == side) (λ q. q.s) t.squares
 
   -- a repeated side stands twice in a row in the ascending list
-  repeated_in_row : (side n : ℕ) → IsRepeated t side → NoneTwice sides n → n ≤ length sides → (k : ℕ) × (n ≤ k + 1) × (k + 1 < length sides) × (slice_index sides k ≡ side)
+  repeated_in_row : (side n : ℕ) → IsRepeated t side → NoneTwice sides n → n ≤ length sides
+      → (k : ℕ) × (n ≤ k + 1) × (k + 1 < length sides) × (slice_index sides k ≡ side)
   repeated_in_row side n twice none fit =
       let w : IsTwice (λ s. s == side) sides 0 = twice_from_count (λ s. s == side) sides 0 (omega (arith, twice, count_side side)) in
       let one : slice_index sides w.first ≡ side = eqb-true (slice_index sides w.first) side w.one in
@@ -75,13 +77,19 @@ module _ (t : Tiling) (sides : List ℕ) (same : IsPermutation (sides_of t) side
   pub perfect_from_none : NoneTwice sides (length sides) → IsPerfect t
   perfect_from_none none i j d before below e =
       let side : ℕ = (get_or t.squares i d).s in
-      let twice : IsRepeated t side = count_two (λ q. q.s == side) t.squares i j d before below (eq-eqb side side refl) (eq-eqb (get_or t.squares j d).s side (sym e)) in
+      let twice : IsRepeated t side =
+      count_two (λ q. q.s == side) t.squares i j d before below (eq-eqb side side refl) (eq-eqb (get_or t.squares j d).s side (sym e)) in
       let row = repeated_in_row side (length sides) twice none (omega arith) in
       omega (arith, row.1, row.2)
 
   pub least_from_first : (side : ℕ) → IsFirstTwice sides side → IsLeastRepeated t side
   least_from_first side first = (
-    omega (arith, count_side side, count_two (λ s. s == side) sides first.place (first.place + 1) 0 (omega arith) first.within (eq-eqb (slice_index sides first.place) side first.one) (eq-eqb (slice_index sides (first.place + 1)) side first.next)),
+    omega (
+      arith,
+      count_side side,
+      count_two (λ s. s == side) sides first.place (first.place + 1) 0 (omega arith) first.within
+          (eq-eqb (slice_index sides first.place) side first.one) (eq-eqb (slice_index sides (first.place + 1)) side first.next),
+    ),
     λ other twice. least other (repeated_in_row other (first.place + 1) twice first.none_before (omega (arith, first.within))),
   )
     where

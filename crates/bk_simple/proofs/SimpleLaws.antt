@@ -22,11 +22,18 @@ pub count_filter-lt : {X : Type 0} (p c : X → Bool) (xs : List X) (k : ℕ) (d
 count_filter-lt p c [] k d within out pass = absurd (omega arith)
 count_filter-lt p c (x ∷ xs) zero d within out pass =
     let value : ◌≡◌ {A = ℕ} (cond (c x) 1 0) 1 = ap (λ b. cond b 1 0) pass in
-    let e : count_by c (cond (p x) (x ∷ filter p xs) (filter p xs)) ≡ count_by c (filter p xs) = ap (λ b. count_by c (cond b (x ∷ filter p xs) (filter p xs))) out in
+    let e : count_by c (cond (p x) (x ∷ filter p xs) (filter p xs)) ≡ count_by c (filter p xs) =
+    ap (λ b. count_by c (cond b (x ∷ filter p xs) (filter p xs))) out in
     omega (arith, sum_by-cons (λ y. cond (c y) 1 0) x xs, count_filter-le p c xs, value, e)
 count_filter-lt p c (x ∷ xs) (suc k) d within out pass =
     elim (p x) as (λ b. count_by c (cond b (x ∷ filter p xs) (filter p xs)) < count_by c (x ∷ xs)) [
-      | true ↦ omega (arith, sum_by-cons (λ y. cond (c y) 1 0) x (filter p xs), sum_by-cons (λ y. cond (c y) 1 0) x xs, count_filter-lt p c xs k d (omega arith) out pass)
+      | true ↦
+          omega (
+            arith,
+            sum_by-cons (λ y. cond (c y) 1 0) x (filter p xs),
+            sum_by-cons (λ y. cond (c y) 1 0) x xs,
+            count_filter-lt p c xs k d (omega arith) out pass,
+          )
       | false ↦ omega (arith, sum_by-cons (λ y. cond (c y) 1 0) x xs, count_filter-lt p c xs k d (omega arith) out pass)
     ]
 

@@ -1,7 +1,8 @@
 -- A test that computes whether a tiling is simple: it tries the rectangles from the top left corner of one square
 -- to the bottom right corner of another.
 use Rattle.std.specs.List.{AllByRecursion, list_all}
-use Rattle.std.specs.Prelude.{All, Bool, IsTrue, List, [], cond, count_by, false, filter, get_or, length, nat_le, nat_lt, not, refl, suc, true, zero, ℕ, ◌&&◌, ◌+◌, ◌-◌, ◌<◌, ◌∷◌, ◌≡◌, ◌≤◌, ◌⊎◌}
+use Rattle.std.specs.Prelude.{All, Bool, IsTrue, List, [], cond, count_by, false, filter, get_or, length, nat_le, nat_lt, not, refl, suc, true, zero}
+use Rattle.std.specs.Prelude.{ℕ, ◌&&◌, ◌+◌, ◌-◌, ◌<◌, ◌∷◌, ◌≡◌, ◌≤◌, ◌⊎◌}
 use Rattle.std.proofs.Common.{ap, arith, inl, inr, subst, sym, ◌∙◌}
 use Rattle.std.proofs.lemmas.Bool.{and_from, and_parts, both_ways, cases_Bool, eq-eqb, le-leb, leb-true, lt-ltb, ltb-true, not-true}
 use Rattle.std.proofs.lemmas.List.Elements.{All-from_recursion, recursion_from_All}
@@ -39,7 +40,8 @@ pub all_selected : {X : Type 0} (P : X → Type 0) (p : X → Bool) (xs : List X
 all_selected P p [] all = tt
 all_selected P p (x ∷ xs) all = step (cases_Bool (p x)) (λ rest. all_selected P p xs rest)
   where
-    step : (p x ≡ true) ⊎ (p x ≡ false) → (AllByRecursion P (filter p xs) → AllByRecursion (λ x. IsTrue (p x) → P x) xs) → AllByRecursion (λ x. IsTrue (p x) → P x) (x ∷ xs)
+    step : (p x ≡ true) ⊎ (p x ≡ false) → (AllByRecursion P (filter p xs) → AllByRecursion (λ x. IsTrue (p x) → P x) xs)
+        → AllByRecursion (λ x. IsTrue (p x) → P x) (x ∷ xs)
     step (inl picked) ih =
         let both : AllByRecursion P (x ∷ filter p xs) = subst (λ b. AllByRecursion P (cond b (x ∷ filter p xs) (filter p xs))) picked all in
         ((λ h. both.0), ih both.1)
@@ -145,7 +147,8 @@ module _ (t : Tiling) (r : Rectangle) (tiling : IsTiling t) (part : IsPart t r) 
 
   pub last_corner : Found part.pick (covers (r.x + r.width - 1) (r.y + r.height - 1)) t.squares none
   last_corner = found_selected part.pick (covers (r.x + r.width - 1) (r.y + r.height - 1)) t.squares none
-      (let one = part.tiled.once (r.x + r.width - 1) (r.y + r.height - 1) (omega (arith, has_cell.0)) (omega (arith, has_cell.0)) (omega (arith, has_cell.1)) (omega (arith, has_cell.1)) in omega (arith, one))
+      (let one = part.tiled.once (r.x + r.width - 1) (r.y + r.height - 1) (omega (arith, has_cell.0)) (omega (arith, has_cell.0))
+      (omega (arith, has_cell.1)) (omega (arith, has_cell.1)) in omega (arith, one))
 
   corners : between (at first_corner.0) (at last_corner.0) ≡ r
   corners =

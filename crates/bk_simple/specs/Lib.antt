@@ -1,5 +1,8 @@
+-- What the crate says.
 pub mod Simple
+pub mod FirstLaws
+-- How its code keeps it.
 pub mod Border
 pub mod Corners
 pub mod Neighbours
-pub mod FirstLaws
+pub mod Reach

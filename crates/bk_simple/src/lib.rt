@@ -2,12 +2,13 @@
 #![tactic(auto)]
 
 ghost use Rattle.std.specs.List.Sorted.{IsNonDecreasing, IsPermutation};
-ghost use Rattle.std.specs.Prelude.{IfNone, IfSome, IsNone, IsSome, count_by, length, nat_le, ◌&&◌, ◌+◌, ◌<◌, ◌^◌, ◌||◌, ◌↔◌, ◌≡◌, ◌≢◌};
+ghost use Rattle.std.specs.Prelude.{IfNone, IfSome, IsNone, IsSome, IsTrue, count_by, length, nat_le, ◌&&◌, ◌+◌, ◌<◌, ◌^◌, ◌||◌, ◌↔◌, ◌≡◌, ◌≢◌, ◌≤◌, ◌⊎◌};
 ghost use Rattle.bk_simple.specs.Border.{IsUncut, is_inside, is_outside, rectangle_of};
 ghost use Rattle.bk_simple.specs.FirstLaws.{AFirstPartIsOne, ALeastRepeatedSideIsOne};
 ghost use Rattle.bk_simple.specs.Neighbours.{IsFirstTwice, NoneTwice};
 ghost use Rattle.bk_simple.specs.Simple.{IsFirstPart, IsLeastRepeated, IsPart, IsPerfect, IsSimple, top_left};
 ghost use Rattle.bk_simple.specs.Corners.{IsBetween, IsFirstPartFrom, IsPartAt};
+ghost use Rattle.bk_simple.specs.Reach.{NoneHigher, NoneWider, square_of};
 ghost use Rattle.bk_tiling.specs.Tiling.{Rectangle, sides_of};
 
 use arrayvec::ArrayVec;
@@ -49,8 +50,8 @@ fn sorted_sides(tiling: &Tiling) -> ArrayVec<u64, MOST_SQUARES>
     sides
 }
 
-// The first number that is followed by an equal one.
-fn first_twice(sides: &[u64]) -> Option<u64>
+/// The first number that is followed by an equal one.
+pub fn first_twice(sides: &[u64]) -> Option<u64>
     ensures none { IfNone result (NoneTwice sides.now (length sides.now)) }
     ensures first { IfSome result (IsFirstTwice sides.now) }
 {
@@ -83,23 +84,72 @@ fn part_from(tiling: &Tiling, i: usize) -> Option<SubRect>
     ensures none { IfNone result ((r : Rectangle) → IsPart tiling.now r → top_left tiling.now r ≢ i) }
     ensures first { IfSome result (λ r. IsFirstPartFrom tiling.now i (rectangle_of r)) }
 {
-    for j in i..tiling.order() {
-        if let Some(found) = part_at(tiling, i, j) {
+    let squares = tiling.squares();
+    let right = right_end(squares, i, squares[i], tiling.width());
+    let bottom = bottom_end(squares, i + 1, squares[i], tiling.height());
+    for j in i + 1..tiling.order() {
+        if let Some(found) = part_at(tiling, i, j, (right, bottom)) {
             return Some(found);
         }
     }
     None
 }
 
-// The part from the top left corner of the square at place i to the bottom right corner of the square at place j.
-fn part_at(tiling: &Tiling, i: usize, j: usize) -> Option<SubRect>
+// A column at which each rectangle ends, or before it, that begins at the top left corner of p, ends at `most` or before, and
+// whose border cuts no square: the first left edge of the squares that hang across the level of its top. The first squares, so
+// many, are looked at.
+fn right_end(squares: &[Square], count: usize, p: Square, most: u64) -> u64
+    requires { count ≤ length squares.now }
+    ensures { NoneWider squares.now p most result }
+{
+    let mut end = most;
+    for k in 0..count {
+        let q = squares[k];
+        if p.x <= q.x && q.x < end {
+            end = if crosses(q.y, q.s, p.y) { q.x } else { end };
+        }
+    }
+    end
+}
+
+// A level at which each rectangle ends, or above it, that begins at the top left corner of p, ends at `most` or above, and
+// whose border cuts no square: the first top of the squares that reach across the column of its left edge. The squares from a
+// place on are looked at.
+fn bottom_end(squares: &[Square], from: usize, p: Square, most: u64) -> u64
+    ensures { NoneHigher squares.now p most result }
+{
+    let mut end = most;
+    for k in from..squares.len() {
+        let q = squares[k];
+        if p.y <= q.y && q.y < end {
+            end = if crosses(q.x, q.s, p.x) { q.y } else { end };
+        }
+    }
+    end
+}
+
+// Whether the n numbers from a on begin before a number and go on past it.
+fn crosses(a: u64, n: u64, over: u64) -> bool
+    ensures { IsTrue result ↔ ((a < over) × (over < a + n)) }
+{
+    a < over && over - a < n
+}
+
+// The part from the top left corner of the square at place i to the bottom right corner of the square at place j. None from there
+// goes past these ends.
+fn part_at(tiling: &Tiling, i: usize, j: usize, ends: (u64, u64)) -> Option<SubRect>
     requires first { i < length tiling.now.squares }
     requires last { j < length tiling.now.squares }
+    requires right { NoneWider tiling.now.squares (square_of tiling.now i) tiling.now.width ends.0 }
+    requires bottom { NoneHigher tiling.now.squares (square_of tiling.now i) tiling.now.height ends.1 }
     ensures none { IfNone result ((r : Rectangle) → ¬ (IsPartAt tiling.now i j r)) }
     ensures part { IfSome result (λ r. IsPartAt tiling.now i j (rectangle_of r)) }
 {
     let squares = tiling.squares();
     let tried = between(squares[i], squares[j])?;
+    if goes_past(&tried, ends) {
+        return None;
+    }
     if !lies_inside(&tried, squares[i]) || !lies_inside(&tried, squares[j]) {
         return None;
     }
@@ -128,6 +178,14 @@ fn between(p: Square, q: Square) -> Option<SubRect>
         width: right - p.x,
         height: bottom - p.y,
     })
+}
+
+// Whether the rectangle ends behind a column, or below a level.
+fn goes_past(r: &SubRect, ends: (u64, u64)) -> bool
+    requires fits { (r.now.x + r.now.width < 2 ^ 64) × (r.now.y + r.now.height < 2 ^ 64) }
+    ensures { IsTrue result ↔ ((ends.0 < r.now.x + r.now.width) ⊎ (ends.1 < r.now.y + r.now.height)) }
+{
+    r.x + r.width > ends.0 || r.y + r.height > ends.1
 }
 
 // How many squares lie in the rectangle, where none lies across its border.
@@ -190,113 +248,3 @@ pub fn a_first_part_is_one()
 pub fn a_least_repeated_side_is_one()
     ensures { ALeastRepeatedSideIsOne }
 {}
-
-#[cfg(test)]
-mod tests {
-    use super::*;
-    use std::test::Fail;
-
-    // The tiling of a rectangle of this size by squares of these columns, levels and sides.
-    fn tiling(width: u64, height: u64, placed: &[(u64, u64, u64)]) -> Result<Tiling, Fail> {
-        let mut squares = ArrayVec::<Square, MOST_SQUARES>::new();
-        for (x, y, s) in placed {
-            squares.try_push(Square {
-                x: *x,
-                y: *y,
-                s: *s,
-            })?;
-        }
-        Ok(Tiling::try_new(width, height, squares.as_slice())?)
-    }
-
-    #[test]
-    fn perfect_and_simple(rt: HostRuntime) -> Result<(), Fail> {
-        let nine = [
-            (0, 0, 18),
-            (18, 0, 15),
-            (18, 15, 7),
-            (25, 15, 8),
-            (0, 18, 14),
-            (14, 18, 4),
-            (14, 22, 10),
-            (24, 22, 1),
-            (24, 23, 9),
-        ];
-        let other = [
-            (0, 0, 36),
-            (36, 0, 33),
-            (36, 33, 5),
-            (41, 33, 28),
-            (0, 36, 25),
-            (25, 36, 9),
-            (34, 36, 2),
-            (34, 38, 7),
-            (25, 45, 16),
-        ];
-        let square = [
-            (0, 0, 50),
-            (50, 0, 35),
-            (85, 0, 27),
-            (85, 27, 8),
-            (93, 27, 19),
-            (50, 35, 15),
-            (65, 35, 17),
-            (82, 35, 11),
-            (82, 46, 6),
-            (88, 46, 24),
-            (0, 50, 29),
-            (29, 50, 25),
-            (54, 50, 9),
-            (63, 50, 2),
-            (63, 52, 7),
-            (70, 52, 18),
-            (54, 59, 16),
-            (70, 70, 42),
-            (29, 75, 4),
-            (33, 75, 37),
-            (0, 79, 33),
-        ];
-        for tiling in [
-            tiling(33, 32, &nine)?,
-            tiling(69, 61, &other)?,
-            tiling(112, 112, &square)?,
-            tiling(1, 1, &[(0, 0, 1)])?,
-        ] {
-            assert_eq!(rt; repeated(&tiling), None);
-            assert_eq!(rt; part(&tiling), None);
-        }
-        Ok(())
-    }
-
-    #[test]
-    fn repeated_sides_and_parts(rt: HostRuntime) -> Result<(), Fail> {
-        let column = tiling(1, 2, &[(0, 0, 1), (0, 1, 1)])?;
-        assert_eq!(rt; repeated(&column), Some(1));
-        assert_eq!(rt; part(&column), None);
-
-        let four = tiling(2, 2, &[(0, 0, 1), (1, 0, 1), (0, 1, 1), (1, 1, 1)])?;
-        assert_eq!(rt; repeated(&four), Some(1));
-        assert_eq!(rt;
-            part(&four),
-            Some(SubRect {
-                x: 0,
-                y: 0,
-                width: 2,
-                height: 1
-            })
-        );
-
-        let three = tiling(3, 2, &[(0, 0, 2), (2, 0, 1), (2, 1, 1)])?;
-        assert_eq!(rt; repeated(&three), Some(1));
-        assert_eq!(rt;
-            part(&three),
-            Some(SubRect {
-                x: 2,
-                y: 0,
-                width: 1,
-                height: 2
-            })
-        );
-        Ok(())
-    }
-}

@@ -41,7 +41,8 @@ all_divided d [] each = tt
 all_divided d (q ∷ squares) each = (each q (inl refl), all_divided d squares (λ r h. each r (inr h)))
 
 divisor_divides : (turn : Turn) (t : Tiling) → IsTiling t → side_divisor t ∣ side_divisor (image turn t)
-divisor_divides turn t tiling = gcd_of-greatest (side_divisor t) (map (λ q. q.s) (image turn t).squares) (all_divided (side_divisor t) (image turn t).squares each)
+divisor_divides turn t tiling =
+    gcd_of-greatest (side_divisor t) (map (λ q. q.s) (image turn t).squares) (all_divided (side_divisor t) (image turn t).squares each)
   where
     each : (p : Square) → IsOneOf p (image turn t).squares → side_divisor t ∣ p.s
     each p h = let found = side_from_image turn t p h in subst (λ (n : ℕ). side_divisor t ∣ n) (sym found.2) (side_divides t tiling found.0 found.1)
@@ -63,12 +64,14 @@ scaled-image turn t tiling =
     ∙ image-enlarged turn (side_divisor t) (scaled_down_tiling t) (some_divisor t tiling) (scaled_is_tiling t tiling))
 
 -- what is canonical for a tiling is so for each tiling of which it is an image, in lowest terms
-turned_canonical : (t u d : Tiling) (turn : Turn) → IsTiling t → scaled_down_tiling u ≡ image turn (scaled_down_tiling t) → IsCanonicalOf u d → IsCanonicalOf t d
+turned_canonical : (t u d : Tiling) (turn : Turn) → IsTiling t → scaled_down_tiling u ≡ image turn (scaled_down_tiling t) → IsCanonicalOf u d
+    → IsCanonicalOf t d
 turned_canonical t u d turn tiling same canonical = record {
   turn = after canonical.turn turn;
   image_of = canonical.image_of ∙ ap (image canonical.turn) same ∙ images_of_images s canonical.turn turn s_is;
   lying = canonical.lying;
-  greatest = λ other lies. subst (λ (v : Tiling). IsAtMost v d) (found other) (canonical.greatest (after other (undoing turn)) (subst Lies (sym (found other)) lies));
+  greatest = λ other lies. subst (λ (v : Tiling). IsAtMost v d) (found other)
+      (canonical.greatest (after other (undoing turn)) (subst Lies (sym (found other)) lies));
 }
   where
     s : Tiling
@@ -104,7 +107,8 @@ a_canonical_tiling_is_its_own t c tiling of_t = turned_canonical c t c (undoing 
     c_is = subst IsTiling (sym of_t.image_of) (images_are_tilings (scaled_down_tiling t) of_t.turn s_is)
 
     lowest : scaled_down_tiling c ≡ c
-    lowest = ap scaled_down_tiling of_t.image_of ∙ scaled-image of_t.turn (scaled_down_tiling t) s_is ∙ ap (image of_t.turn) (scaled_twice t tiling) ∙ sym of_t.image_of
+    lowest = ap scaled_down_tiling of_t.image_of ∙ scaled-image of_t.turn (scaled_down_tiling t) s_is ∙ ap (image of_t.turn) (scaled_twice t tiling)
+        ∙ sym of_t.image_of
 
     same : scaled_down_tiling t ≡ image (undoing of_t.turn) (scaled_down_tiling c)
     same = sym (images_are_undone (scaled_down_tiling t) of_t.turn s_is) ∙ ap (image (undoing of_t.turn)) (sym of_t.image_of ∙ sym lowest)

@@ -83,7 +83,8 @@ pub a_canonical_tiling_is_one : ACanonicalTilingIsOne
 a_canonical_tiling_is_one t u v tiling a b = (
   u_is,
   a_flat_list_fixes_a_tiling u v u_is v_is
-      (same_width (scaled_down_tiling t) u v (subst (SameSize (scaled_down_tiling t)) (sym a.image_of) (size (scaled_down_tiling t) a.turn)) (subst (SameSize (scaled_down_tiling t)) (sym b.image_of) (size (scaled_down_tiling t) b.turn)) a.lying b.lying)
+      (same_width (scaled_down_tiling t) u v (subst (SameSize (scaled_down_tiling t)) (sym a.image_of) (size (scaled_down_tiling t) a.turn))
+      (subst (SameSize (scaled_down_tiling t)) (sym b.image_of) (size (scaled_down_tiling t) b.turn)) a.lying b.lying)
       (not_both_less (flat (code_of u)) (flat (code_of v)) u_least v_least),
 )
   where
@@ -107,7 +108,8 @@ sum_with : (q : Square) (squares : List Square) → side_sum (with_square q squa
 sum_with q [] = refl
 sum_with q (r ∷ squares) = cases (comes_before q r) (sum_with q squares)
   where
-    cases : (b : Bool) → side_sum (with_square q squares) ≡ q.s + side_sum squares → side_sum (cond b (q ∷ r ∷ squares) (r ∷ with_square q squares)) ≡ q.s + (r.s + side_sum squares)
+    cases : (b : Bool) → side_sum (with_square q squares) ≡ q.s + side_sum squares → side_sum (cond b (q ∷ r ∷ squares) (r ∷ with_square q squares))
+        ≡ q.s + (r.s + side_sum squares)
     cases true e = refl
     cases false e = omega (arith, e)
 
@@ -124,7 +126,8 @@ sum_enlarged k [] = omega arith
 sum_enlarged k (q ∷ squares) = omega (arith, sum_enlarged k squares)
 
 sum_image : (turn : Turn) (t : Tiling) → side_sum (image turn t).squares ≡ side_sum t.squares
-sum_image turn t = sum_order (map (image_square turn t.width t.height) t.squares) ∙ sum_map (image_square turn t.width t.height) (side-image_square turn t.width t.height) t.squares
+sum_image turn t = sum_order (map (image_square turn t.width t.height) t.squares)
+    ∙ sum_map (image_square turn t.width t.height) (side-image_square turn t.width t.height) t.squares
 
 -- a tiling that is its own canonical one is not scaled down
 pub own_canonical : (t : Tiling) → IsTiling t → IsCanonical t → scaled_down_tiling t ≡ t

@@ -15,4 +15,5 @@ divides_each d [] all = tt
 divides_each d (q ∷ squares) all = (subst (λ (n : ℕ). d ∣ n) (sym (all.0).1) (dvd-mul_right d (all.0).0), divides_each d squares all.1)
 
 pub canonical_primitive : (t : Tiling) → IsTiling t → IsCanonical t → IsPrimitiveTiling t
-canonical_primitive t tiling own d all = eq-one_of_dvd-one (subst (λ (n : ℕ). d ∣ n) (own_one t tiling own) (gcd_of-greatest d (map (λ q. q.s) t.squares) (divides_each d t.squares all)))
+canonical_primitive t tiling own d all =
+    eq-one_of_dvd-one (subst (λ (n : ℕ). d ∣ n) (own_one t tiling own) (gcd_of-greatest d (map (λ q. q.s) t.squares) (divides_each d t.squares all)))

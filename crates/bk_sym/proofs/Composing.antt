@@ -30,24 +30,29 @@ composed a b c same t tiling = λ i. record { width = (same.size t.width t.heigh
     f : Square → Square
     f = image_square a (image_size b t.width t.height).0 (image_size b t.width t.height).1
 
-    at : (q : Square) → IsOneOf q t.squares → image_square a (image b t).width (image b t).height (image_square b t.width t.height q) ≡ image_square c t.width t.height q
+    at : (q : Square) → IsOneOf q t.squares → image_square a (image b t).width (image b t).height (image_square b t.width t.height q)
+        ≡ image_square c t.width t.height q
     at q h = let w = within_of t tiling q h in same.square t.width t.height q (omega (arith, w.right)) (omega (arith, w.bottom))
 
     forth : (p : Square) → IsOneOf p (image a (image b t)).squares → IsOneOf p (image c t).squares
     forth p h =
-        let two = from_map (image_square a (image b t).width (image b t).height) (image b t).squares p (from_order (map (image_square a (image b t).width (image b t).height) (image b t).squares) p h) in
+        let two = from_map (image_square a (image b t).width (image b t).height) (image b t).squares p
+        (from_order (map (image_square a (image b t).width (image b t).height) (image b t).squares) p h) in
         let one = from_map (image_square b t.width t.height) t.squares two.0 (from_order (map (image_square b t.width t.height) t.squares) two.0 two.1) in
         let e : p ≡ image_square c t.width t.height one.0 = two.2 ∙ ap (image_square a (image b t).width (image b t).height) one.2 ∙ at one.0 one.1 in
         subst (λ (q : Square). IsOneOf q (image c t).squares) (sym e)
-        (in_order (map (image_square c t.width t.height) t.squares) (image_square c t.width t.height one.0) (in_map (image_square c t.width t.height) t.squares one.0 one.1))
+        (in_order (map (image_square c t.width t.height) t.squares) (image_square c t.width t.height one.0)
+        (in_map (image_square c t.width t.height) t.squares one.0 one.1))
 
     back : (p : Square) → IsOneOf p (image c t).squares → IsOneOf p (image a (image b t)).squares
     back p h =
         let one = from_map (image_square c t.width t.height) t.squares p (from_order (map (image_square c t.width t.height) t.squares) p h) in
         let e : p ≡ image_square a (image b t).width (image b t).height (image_square b t.width t.height one.0) = one.2 ∙ sym (at one.0 one.1) in
-        let mid = in_order (map (image_square b t.width t.height) t.squares) (image_square b t.width t.height one.0) (in_map (image_square b t.width t.height) t.squares one.0 one.1) in
+        let mid = in_order (map (image_square b t.width t.height) t.squares) (image_square b t.width t.height one.0)
+        (in_map (image_square b t.width t.height) t.squares one.0 one.1) in
         subst (λ (q : Square). IsOneOf q (image a (image b t)).squares) (sym e)
-        (in_order (map (image_square a (image b t).width (image b t).height) (image b t).squares) _ (in_map (image_square a (image b t).width (image b t).height) (image b t).squares (image_square b t.width t.height one.0) mid))
+        (in_order (map (image_square a (image b t).width (image b t).height) (image b t).squares) _
+        (in_map (image_square a (image b t).width (image b t).height) (image b t).squares (image_square b t.width t.height one.0) mid))
 
     squares : (image a (image b t)).squares ≡ (image c t).squares
     squares = same_members (image a (image b t)).squares (image c t).squares
@@ -127,7 +132,8 @@ module _ (t : Tiling) (tiling : IsTiling t) (b : Turn) where
   image_after Swap = by_swap b
   image_after SwapFlipX = swap_flip_x ∙ ap (image FlipX) (by_swap b) ∙ by_flip_x (then_swap b)
   image_after SwapFlipY = swap_flip_y ∙ ap (image FlipY) (by_swap b) ∙ by_flip_y (then_swap b)
-  image_after SwapHalf = swap_half ∙ ap (image FlipY) (swap_flip_x ∙ ap (image FlipX) (by_swap b) ∙ by_flip_x (then_swap b)) ∙ by_flip_y (then_flip_x (then_swap b))
+  image_after SwapHalf = swap_half ∙ ap (image FlipY) (swap_flip_x ∙ ap (image FlipX) (by_swap b) ∙ by_flip_x (then_swap b))
+      ∙ by_flip_y (then_flip_x (then_swap b))
 
 pub images_of_images : ImagesOfImages
 images_of_images t a b tiling = image_after t tiling b a

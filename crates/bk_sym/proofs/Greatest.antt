@@ -77,7 +77,8 @@ pub record IsGreatestSoFar (t : Tiling) (first : Turn) (turns : List Turn) (k : 
   pub none_greater : NoneGreater t turns k c
 
 pub so_far-more : (t : Tiling) (first : Turn) (turns : List Turn) (k : ℕ) (c b new : Tiling) → IsGreatestSoFar t first turns k c
-    → b ≡ image (get_or turns k Same) t → Lies (image (get_or turns k Same) t) → (new ≡ c) ⊎ (new ≡ b) → IsAtMost c new → IsAtMost b new → IsGreatestSoFar t first turns (k + 1) new
+    → b ≡ image (get_or turns k Same) t → Lies (image (get_or turns k Same) t) → (new ≡ c) ⊎ (new ≡ b) → IsAtMost c new → IsAtMost b new
+    → IsGreatestSoFar t first turns (k + 1) new
 so_far-more t first turns k c b new far is lies one over_c over_b = from one
   where
     most : NoneGreater t turns (k + 1) new
@@ -89,7 +90,13 @@ so_far-more t first turns k c b new far is lies one over_c over_b = from one
 
     from : (new ≡ c) ⊎ (new ≡ b) → IsGreatestSoFar t first turns (k + 1) new
     from (inl e) = record { turn = far.turn; image_of = e ∙ far.image_of; lying = subst Lies (sym e) far.lying; from_first = over_first; none_greater = most }
-    from (inr e) = record { turn = get_or turns k Same; image_of = e ∙ is; lying = subst Lies (sym (e ∙ is)) lies; from_first = over_first; none_greater = most }
+    from (inr e) = record {
+      turn = get_or turns k Same;
+      image_of = e ∙ is;
+      lying = subst Lies (sym (e ∙ is)) lies;
+      from_first = over_first;
+      none_greater = most;
+    }
 
 pub so_far-same : (t : Tiling) (first : Turn) (turns : List Turn) (k : ℕ) (c new : Tiling) → IsGreatestSoFar t first turns k c
     → (Lies (image (get_or turns k Same) t) → IsAtMost (image (get_or turns k Same) t) c) → new ≡ c → IsGreatestSoFar t first turns (k + 1) new
@@ -115,7 +122,8 @@ pub so_far-all : (t : Tiling) (first : Turn) (c : Tiling) → IsTiling t → (Li
 so_far-all t first c tiling unturned far = greatest_from t c far.none_greater
     (λ h. subst (λ (turn : Turn). IsAtMost (image turn t) c) (unturned (subst Lies (image-Same t tiling) h)) far.from_first)
 
-pub canonical_from : (t s c : Tiling) (first : Turn) → IsTiling s → s ≡ scaled_down_tiling t → (Lies s → first ≡ Same) → IsGreatestSoFar s first others 7 c → IsCanonicalOf t c
+pub canonical_from : (t s c : Tiling) (first : Turn) → IsTiling s → s ≡ scaled_down_tiling t → (Lies s → first ≡ Same)
+    → IsGreatestSoFar s first others 7 c → IsCanonicalOf t c
 canonical_from t s c first tiling small unturned far = record {
   turn = far.turn;
   image_of = far.image_of ∙ ap (image far.turn) small;

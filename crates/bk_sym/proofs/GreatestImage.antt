@@ -15,16 +15,19 @@ use Rattle.bk_sym.specs.declared.Turn.TheVariants.{Same, Swap}
 at_most_or : (t u : Tiling) → IsAtMost t u ⊎ (IsAtMost t u → ⊥)
 at_most_or t u = cases (cases_Bool (is_le (slice_cmp nat_cmp (flat (code_of t)) (flat (code_of u)))))
   where
-    cases : (is_le (slice_cmp nat_cmp (flat (code_of t)) (flat (code_of u))) ≡ true) ⊎ (is_le (slice_cmp nat_cmp (flat (code_of t)) (flat (code_of u))) ≡ false) → IsAtMost t u ⊎ (IsAtMost t u → ⊥)
+    cases : (is_le (slice_cmp nat_cmp (flat (code_of t)) (flat (code_of u))) ≡ true)
+        ⊎ (is_le (slice_cmp nat_cmp (flat (code_of t)) (flat (code_of u))) ≡ false) → IsAtMost t u ⊎ (IsAtMost t u → ⊥)
     cases (inl e) = inl e
     cases (inr e) = inr (λ most. both_ways (is_le (slice_cmp nat_cmp (flat (code_of t)) (flat (code_of u)))) e most)
 
 module _ (s : Tiling) (first : Turn) (lies : Lies (image first s)) where
   -- the greatest of the first image and of those by k other turns
   one_more : (k : ℕ) → (c : Tiling) × IsGreatestSoFar s first others k c → (c : Tiling) × IsGreatestSoFar s first others (k + 1) c
-  one_more k (c, far) = cases (cases_lt (image (get_or others k Same) s).width (image (get_or others k Same) s).height) (at_most_or (image (get_or others k Same) s) c)
+  one_more k (c, far) =
+      cases (cases_lt (image (get_or others k Same) s).width (image (get_or others k Same) s).height) (at_most_or (image (get_or others k Same) s) c)
     where
-      cases : ((image (get_or others k Same) s).width < (image (get_or others k Same) s).height) ⊎ Lies (image (get_or others k Same) s) → IsAtMost (image (get_or others k Same) s) c ⊎ (IsAtMost (image (get_or others k Same) s) c → ⊥)
+      cases : ((image (get_or others k Same) s).width < (image (get_or others k Same) s).height) ⊎ Lies (image (get_or others k Same) s)
+          → IsAtMost (image (get_or others k Same) s) c ⊎ (IsAtMost (image (get_or others k Same) s) c → ⊥)
           → (c : Tiling) × IsGreatestSoFar s first others (k + 1) c
       cases a (inl most) = (c, so_far-same s first others k c c far (λ _. most) refl)
       cases (inl stands) (inr later) = (c, so_far-same s first others k c c far (λ h. absurd (omega (arith, h, stands))) refl)

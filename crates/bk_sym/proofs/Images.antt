@@ -25,9 +25,11 @@ in_map f (r ∷ squares) q (inr h) = inr (in_map f squares q h)
 -- a square over one cell where another is over another cell
 pub same_cover : (i j k l : ℕ) (p q : Square) → (IsOver i j p → IsOver k l q) → (IsOver k l q → IsOver i j p) → covers i j p ≡ covers k l q
 same_cover i j k l p q f g = both_ways (covers i j p) (covers k l q)
-    (λ e. let o = f (over_from i j p e) in covers_from k l q o.left o.right o.top o.bottom) (λ e. let o = g (over_from k l q e) in covers_from i j p o.left o.right o.top o.bottom)
+    (λ e. let o = f (over_from i j p e) in covers_from k l q o.left o.right o.top o.bottom) (λ e. let o = g (over_from k l q e) in
+    covers_from i j p o.left o.right o.top o.bottom)
 
-pub count_same : (f : Square → Square) (i j k l : ℕ) (squares : List Square) → ((q : Square) → IsOneOf q squares → covers i j (f q) ≡ covers k l q) → count_by (covers i j) (map f squares) ≡ count_by (covers k l) squares
+pub count_same : (f : Square → Square) (i j k l : ℕ) (squares : List Square) → ((q : Square) → IsOneOf q squares → covers i j (f q) ≡ covers k l q)
+    → count_by (covers i j) (map f squares) ≡ count_by (covers k l) squares
 count_same f i j k l [] each = refl
 count_same f i j k l (q ∷ squares) each = omega (
   arith,
@@ -46,22 +48,26 @@ pub record Moves (t : Tiling) (f : Square → Square) (width height : ℕ) : Typ
   pub cell : (i j : ℕ) → i < width → j < height → (column i j < t.width) × (level i j < t.height)
   pub same : (i j : ℕ) → i < width → j < height → (q : Square) → IsOneOf q t.squares → covers i j (f q) ≡ covers (column i j) (level i j) q
 
-pub moved : (t : Tiling) (f : Square → Square) (width height : ℕ) → IsTiling t → Moves t f width height → IsTiling (record { width = width; height = height; squares = in_code_order (map f t.squares) })
+pub moved : (t : Tiling) (f : Square → Square) (width height : ℕ) → IsTiling t → Moves t f width height
+    → IsTiling (record { width = width; height = height; squares = in_code_order (map f t.squares) })
 moved t f width height tiling m = record {
   tiles = record {
     some = some t.squares (tiling.tiles).some (λ q h. in_order (map f t.squares) (f q) (in_map f t.squares q h));
     sides = all_from (λ q. 0 < q.s) (in_code_order (map f t.squares)) (λ q h. side q (from_order (map f t.squares) q h));
-    within = all_from (IsWithin (record { x = 0; y = 0; width = width; height = height })) (in_code_order (map f t.squares)) (λ q h. within q (from_order (map f t.squares) q h));
+    within = all_from (IsWithin (record { x = 0; y = 0; width = width; height = height })) (in_code_order (map f t.squares))
+        (λ q h. within q (from_order (map f t.squares) q h));
     once = λ i j a b c d. in_code_order-count (covers i j) (map f t.squares) ∙ once i j (omega arith) (omega arith);
   };
-  ordered = ordered (map f t.squares) side (λ q h. let w = within q h in let a = w.right in let b = w.bottom in omega (arith, once q.x q.y (omega (arith, side q h)) (omega (arith, side q h))));
+  ordered = ordered (map f t.squares) side (λ q h. let w = within q h in let a = w.right in let b = w.bottom in
+      omega (arith, once q.x q.y (omega (arith, side q h)) (omega (arith, side q h))));
 }
   where
     long : (q : Square) (squares : List Square) → IsOneOf q squares → 0 < length squares
     long q [] h = absurd h
     long q (r ∷ squares) h = omega arith
 
-    some : (squares : List Square) → 0 < length squares → ((q : Square) → IsOneOf q t.squares → IsOneOf (f q) (in_code_order (map f t.squares))) → 0 < length (in_code_order (map f t.squares))
+    some : (squares : List Square) → 0 < length squares → ((q : Square) → IsOneOf q t.squares → IsOneOf (f q) (in_code_order (map f t.squares)))
+        → 0 < length (in_code_order (map f t.squares))
     some squares h g = from t.squares refl
       where
         from : (squares : List Square) → t.squares ≡ squares → 0 < length (in_code_order (map f t.squares))
@@ -75,94 +81,119 @@ moved t f width height tiling m = record {
     within q h = let k = from_map f t.squares q h in subst (IsWithin (record { x = 0; y = 0; width = width; height = height })) (sym k.2) (m.within k.0 k.1)
 
     once : (i j : ℕ) → i < width → j < height → count_by (covers i j) (map f t.squares) ≡ 1
-    once i j a b = count_same f i j (m.column i j) (m.level i j) t.squares (m.same i j a b) ∙ cell_once t tiling (m.column i j) (m.level i j) (m.cell i j a b).0 (m.cell i j a b).1
+    once i j a b = count_same f i j (m.column i j) (m.level i j) t.squares (m.same i j a b)
+        ∙ cell_once t tiling (m.column i j) (m.level i j) (m.cell i j a b).0 (m.cell i j a b).1
 
 pub images_are_tilings : ImagesAreTilings
 images_are_tilings t Same tiling = moved t (image_square Same t.width t.height) t.width t.height tiling (record {
   side = λ q. refl;
-  within = λ q h. let w = within_of t tiling q h in let a = w.right in let b = w.bottom in record { left = omega arith; right = omega arith; top = omega arith; bottom = omega arith };
+  within = λ q h. let w = within_of t tiling q h in let a = w.right in let b = w.bottom in
+      record { left = omega arith; right = omega arith; top = omega arith; bottom = omega arith };
   column = λ i j. i;
   level = λ i j. j;
   cell = λ i j a b. (omega arith, omega arith);
   same = λ i j a b q h. let w = within_of t tiling q h in let c = w.right in let e = w.bottom in let d = side_of t tiling q h in
       same_cover i j i j (image_square Same t.width t.height q) q
-      (λ o. let l = o.left in let r = o.right in let u = o.top in let v = o.bottom in record { left = omega arith; right = omega arith; top = omega arith; bottom = omega arith })
-      (λ o. let l = o.left in let r = o.right in let u = o.top in let v = o.bottom in record { left = omega arith; right = omega arith; top = omega arith; bottom = omega arith });
+      (λ o. let l = o.left in let r = o.right in let u = o.top in let v = o.bottom in
+      record { left = omega arith; right = omega arith; top = omega arith; bottom = omega arith })
+      (λ o. let l = o.left in let r = o.right in let u = o.top in let v = o.bottom in
+      record { left = omega arith; right = omega arith; top = omega arith; bottom = omega arith });
 })
 images_are_tilings t FlipX tiling = moved t (image_square FlipX t.width t.height) t.width t.height tiling (record {
   side = λ q. refl;
-  within = λ q h. let w = within_of t tiling q h in let a = w.right in let b = w.bottom in record { left = omega arith; right = omega arith; top = omega arith; bottom = omega arith };
+  within = λ q h. let w = within_of t tiling q h in let a = w.right in let b = w.bottom in
+      record { left = omega arith; right = omega arith; top = omega arith; bottom = omega arith };
   column = λ i j. t.width - 1 - i;
   level = λ i j. j;
   cell = λ i j a b. (omega arith, omega arith);
   same = λ i j a b q h. let w = within_of t tiling q h in let c = w.right in let e = w.bottom in let d = side_of t tiling q h in
       same_cover i j (t.width - 1 - i) j (image_square FlipX t.width t.height q) q
-      (λ o. let l = o.left in let r = o.right in let u = o.top in let v = o.bottom in record { left = omega arith; right = omega arith; top = omega arith; bottom = omega arith })
-      (λ o. let l = o.left in let r = o.right in let u = o.top in let v = o.bottom in record { left = omega arith; right = omega arith; top = omega arith; bottom = omega arith });
+      (λ o. let l = o.left in let r = o.right in let u = o.top in let v = o.bottom in
+      record { left = omega arith; right = omega arith; top = omega arith; bottom = omega arith })
+      (λ o. let l = o.left in let r = o.right in let u = o.top in let v = o.bottom in
+      record { left = omega arith; right = omega arith; top = omega arith; bottom = omega arith });
 })
 images_are_tilings t FlipY tiling = moved t (image_square FlipY t.width t.height) t.width t.height tiling (record {
   side = λ q. refl;
-  within = λ q h. let w = within_of t tiling q h in let a = w.right in let b = w.bottom in record { left = omega arith; right = omega arith; top = omega arith; bottom = omega arith };
+  within = λ q h. let w = within_of t tiling q h in let a = w.right in let b = w.bottom in
+      record { left = omega arith; right = omega arith; top = omega arith; bottom = omega arith };
   column = λ i j. i;
   level = λ i j. t.height - 1 - j;
   cell = λ i j a b. (omega arith, omega arith);
   same = λ i j a b q h. let w = within_of t tiling q h in let c = w.right in let e = w.bottom in let d = side_of t tiling q h in
       same_cover i j i (t.height - 1 - j) (image_square FlipY t.width t.height q) q
-      (λ o. let l = o.left in let r = o.right in let u = o.top in let v = o.bottom in record { left = omega arith; right = omega arith; top = omega arith; bottom = omega arith })
-      (λ o. let l = o.left in let r = o.right in let u = o.top in let v = o.bottom in record { left = omega arith; right = omega arith; top = omega arith; bottom = omega arith });
+      (λ o. let l = o.left in let r = o.right in let u = o.top in let v = o.bottom in
+      record { left = omega arith; right = omega arith; top = omega arith; bottom = omega arith })
+      (λ o. let l = o.left in let r = o.right in let u = o.top in let v = o.bottom in
+      record { left = omega arith; right = omega arith; top = omega arith; bottom = omega arith });
 })
 images_are_tilings t Half tiling = moved t (image_square Half t.width t.height) t.width t.height tiling (record {
   side = λ q. refl;
-  within = λ q h. let w = within_of t tiling q h in let a = w.right in let b = w.bottom in record { left = omega arith; right = omega arith; top = omega arith; bottom = omega arith };
+  within = λ q h. let w = within_of t tiling q h in let a = w.right in let b = w.bottom in
+      record { left = omega arith; right = omega arith; top = omega arith; bottom = omega arith };
   column = λ i j. t.width - 1 - i;
   level = λ i j. t.height - 1 - j;
   cell = λ i j a b. (omega arith, omega arith);
   same = λ i j a b q h. let w = within_of t tiling q h in let c = w.right in let e = w.bottom in let d = side_of t tiling q h in
       same_cover i j (t.width - 1 - i) (t.height - 1 - j) (image_square Half t.width t.height q) q
-      (λ o. let l = o.left in let r = o.right in let u = o.top in let v = o.bottom in record { left = omega arith; right = omega arith; top = omega arith; bottom = omega arith })
-      (λ o. let l = o.left in let r = o.right in let u = o.top in let v = o.bottom in record { left = omega arith; right = omega arith; top = omega arith; bottom = omega arith });
+      (λ o. let l = o.left in let r = o.right in let u = o.top in let v = o.bottom in
+      record { left = omega arith; right = omega arith; top = omega arith; bottom = omega arith })
+      (λ o. let l = o.left in let r = o.right in let u = o.top in let v = o.bottom in
+      record { left = omega arith; right = omega arith; top = omega arith; bottom = omega arith });
 })
 images_are_tilings t Swap tiling = moved t (image_square Swap t.width t.height) t.height t.width tiling (record {
   side = λ q. refl;
-  within = λ q h. let w = within_of t tiling q h in let a = w.right in let b = w.bottom in record { left = omega arith; right = omega arith; top = omega arith; bottom = omega arith };
+  within = λ q h. let w = within_of t tiling q h in let a = w.right in let b = w.bottom in
+      record { left = omega arith; right = omega arith; top = omega arith; bottom = omega arith };
   column = λ i j. j;
   level = λ i j. i;
   cell = λ i j a b. (omega arith, omega arith);
   same = λ i j a b q h. let w = within_of t tiling q h in let c = w.right in let e = w.bottom in let d = side_of t tiling q h in
       same_cover i j j i (image_square Swap t.width t.height q) q
-      (λ o. let l = o.left in let r = o.right in let u = o.top in let v = o.bottom in record { left = omega arith; right = omega arith; top = omega arith; bottom = omega arith })
-      (λ o. let l = o.left in let r = o.right in let u = o.top in let v = o.bottom in record { left = omega arith; right = omega arith; top = omega arith; bottom = omega arith });
+      (λ o. let l = o.left in let r = o.right in let u = o.top in let v = o.bottom in
+      record { left = omega arith; right = omega arith; top = omega arith; bottom = omega arith })
+      (λ o. let l = o.left in let r = o.right in let u = o.top in let v = o.bottom in
+      record { left = omega arith; right = omega arith; top = omega arith; bottom = omega arith });
 })
 images_are_tilings t SwapFlipX tiling = moved t (image_square SwapFlipX t.width t.height) t.height t.width tiling (record {
   side = λ q. refl;
-  within = λ q h. let w = within_of t tiling q h in let a = w.right in let b = w.bottom in record { left = omega arith; right = omega arith; top = omega arith; bottom = omega arith };
+  within = λ q h. let w = within_of t tiling q h in let a = w.right in let b = w.bottom in
+      record { left = omega arith; right = omega arith; top = omega arith; bottom = omega arith };
   column = λ i j. j;
   level = λ i j. t.height - 1 - i;
   cell = λ i j a b. (omega arith, omega arith);
   same = λ i j a b q h. let w = within_of t tiling q h in let c = w.right in let e = w.bottom in let d = side_of t tiling q h in
       same_cover i j j (t.height - 1 - i) (image_square SwapFlipX t.width t.height q) q
-      (λ o. let l = o.left in let r = o.right in let u = o.top in let v = o.bottom in record { left = omega arith; right = omega arith; top = omega arith; bottom = omega arith })
-      (λ o. let l = o.left in let r = o.right in let u = o.top in let v = o.bottom in record { left = omega arith; right = omega arith; top = omega arith; bottom = omega arith });
+      (λ o. let l = o.left in let r = o.right in let u = o.top in let v = o.bottom in
+      record { left = omega arith; right = omega arith; top = omega arith; bottom = omega arith })
+      (λ o. let l = o.left in let r = o.right in let u = o.top in let v = o.bottom in
+      record { left = omega arith; right = omega arith; top = omega arith; bottom = omega arith });
 })
 images_are_tilings t SwapFlipY tiling = moved t (image_square SwapFlipY t.width t.height) t.height t.width tiling (record {
   side = λ q. refl;
-  within = λ q h. let w = within_of t tiling q h in let a = w.right in let b = w.bottom in record { left = omega arith; right = omega arith; top = omega arith; bottom = omega arith };
+  within = λ q h. let w = within_of t tiling q h in let a = w.right in let b = w.bottom in
+      record { left = omega arith; right = omega arith; top = omega arith; bottom = omega arith };
   column = λ i j. t.width - 1 - j;
   level = λ i j. i;
   cell = λ i j a b. (omega arith, omega arith);
   same = λ i j a b q h. let w = within_of t tiling q h in let c = w.right in let e = w.bottom in let d = side_of t tiling q h in
       same_cover i j (t.width - 1 - j) i (image_square SwapFlipY t.width t.height q) q
-      (λ o. let l = o.left in let r = o.right in let u = o.top in let v = o.bottom in record { left = omega arith; right = omega arith; top = omega arith; bottom = omega arith })
-      (λ o. let l = o.left in let r = o.right in let u = o.top in let v = o.bottom in record { left = omega arith; right = omega arith; top = omega arith; bottom = omega arith });
+      (λ o. let l = o.left in let r = o.right in let u = o.top in let v = o.bottom in
+      record { left = omega arith; right = omega arith; top = omega arith; bottom = omega arith })
+      (λ o. let l = o.left in let r = o.right in let u = o.top in let v = o.bottom in
+      record { left = omega arith; right = omega arith; top = omega arith; bottom = omega arith });
 })
 images_are_tilings t SwapHalf tiling = moved t (image_square SwapHalf t.width t.height) t.height t.width tiling (record {
   side = λ q. refl;
-  within = λ q h. let w = within_of t tiling q h in let a = w.right in let b = w.bottom in record { left = omega arith; right = omega arith; top = omega arith; bottom = omega arith };
+  within = λ q h. let w = within_of t tiling q h in let a = w.right in let b = w.bottom in
+      record { left = omega arith; right = omega arith; top = omega arith; bottom = omega arith };
   column = λ i j. t.width - 1 - j;
   level = λ i j. t.height - 1 - i;
   cell = λ i j a b. (omega arith, omega arith);
   same = λ i j a b q h. let w = within_of t tiling q h in let c = w.right in let e = w.bottom in let d = side_of t tiling q h in
       same_cover i j (t.width - 1 - j) (t.height - 1 - i) (image_square SwapHalf t.width t.height q) q
-      (λ o. let l = o.left in let r = o.right in let u = o.top in let v = o.bottom in record { left = omega arith; right = omega arith; top = omega arith; bottom = omega arith })
-      (λ o. let l = o.left in let r = o.right in let u = o.top in let v = o.bottom in record { left = omega arith; right = omega arith; top = omega arith; bottom = omega arith });
+      (λ o. let l = o.left in let r = o.right in let u = o.top in let v = o.bottom in
+      record { left = omega arith; right = omega arith; top = omega arith; bottom = omega arith })
+      (λ o. let l = o.left in let r = o.right in let u = o.top in let v = o.bottom in
+      record { left = omega arith; right = omega arith; top = omega arith; bottom = omega arith });
 })

@@ -48,7 +48,12 @@ size_fits SwapHalf w h most a b = (b, a)
 pub kept_image : (turn : Turn) (t : Tiling) → IsKept t → IsKept (image turn t)
 kept_image turn t kept = record {
   tiling = images_are_tilings t turn kept.tiling;
-  few = omega (arith, kept.few, in_code_order-length (map (image_square turn t.width t.height) t.squares), length-map t.squares (image_square turn t.width t.height));
+  few = omega (
+    arith,
+    kept.few,
+    in_code_order-length (map (image_square turn t.width t.height) t.squares),
+    length-map t.squares (image_square turn t.width t.height),
+  );
   sides = all_from (λ q. IsSide q.s) (image turn t).squares (λ p h. let found = side_from_image turn t p h in
       subst IsSide (sym found.2) (in_all (λ q. IsSide q.s) t.squares kept.sides found.0 found.1));
   width_fits = (size_fits turn t.width t.height (2 ^ 64) kept.width_fits kept.height_fits).0;
@@ -64,7 +69,8 @@ sides_divided g (q ∷ squares) sides some = ((some.0, omega (arith, sides.0.1, 
 pub kept_scaled : (t : Tiling) → IsKept t → IsKept (scaled_down_tiling t)
 kept_scaled t kept = record {
   tiling = scaled_is_tiling t kept.tiling;
-  few = subst (λ n. n ≤ MOST_SQUARES) (sym (length-map t.squares (λ q. record { x = q.x / side_divisor t; y = q.y / side_divisor t; s = q.s / side_divisor t }))) kept.few;
+  few = subst (λ n. n ≤ MOST_SQUARES)
+      (sym (length-map t.squares (λ q. record { x = q.x / side_divisor t; y = q.y / side_divisor t; s = q.s / side_divisor t }))) kept.few;
   sides = sides_divided (side_divisor t) t.squares kept.sides (scaled_is_tiling t kept.tiling).tiles.sides;
   width_fits = omega (arith, kept.width_fits, div-le_self t.width (side_divisor t));
   height_fits = omega (arith, kept.height_fits, div-le_self t.height (side_divisor t));
@@ -81,5 +87,6 @@ all_turned turn t w h k xs made ew eh same all e =
     ∙ ap (λ (n : ℕ). map (image_square turn n h) t.squares) ew ∙ ap (λ (n : ℕ). map (image_square turn t.width n) t.squares) eh
 
 -- the tiling that these numbers and squares make
-pub made : (w h : ℕ) (squares : List Square) (t : Tiling) → w ≡ t.width → h ≡ t.height → squares ≡ t.squares → record { width = w; height = h; squares = squares } ≡ t
+pub made : (w h : ℕ) (squares : List Square) (t : Tiling) → w ≡ t.width → h ≡ t.height → squares ≡ t.squares
+    → record { width = w; height = h; squares = squares } ≡ t
 made w h squares t ew eh es = λ i. record { width = ew i; height = eh i; squares = es i }

@@ -17,7 +17,8 @@ use Rattle.bk_sym.specs.Image.{image, image_size, image_square}
 use Rattle.bk_sym.specs.declared.Turn.{Turn}
 use Rattle.bk_sym.specs.declared.Turn.TheVariants.{FlipX, FlipY, Half, Same, Swap, SwapFlipX, SwapFlipY, SwapHalf}
 
-side_divisor-enlarged : (k : ℕ) (squares : List Square) → 0 < k → gcd_of (map (λ q. q.s) (map (enlarged_square k) squares)) ≡ k * gcd_of (map (λ q. q.s) squares)
+side_divisor-enlarged : (k : ℕ) (squares : List Square) → 0 < k
+    → gcd_of (map (λ q. q.s) (map (enlarged_square k) squares)) ≡ k * gcd_of (map (λ q. q.s) squares)
 side_divisor-enlarged k [] some = omega arith
 side_divisor-enlarged k (q ∷ squares) some =
     ap (gcd (k * q.s)) (side_divisor-enlarged k squares some) ∙ gcd-mul k q.s (gcd_of (map (λ q. q.s) squares)) some
@@ -44,20 +45,24 @@ before_enlarged k q r some = cases (cases_Bool (comes_before q r)) (cases_Bool (
     down (inl h) = inl (below q.y r.y h)
     down (inr h) = inr (mul_one k q.y r.y some h.0, below q.x r.x h.1)
 
-    cases : (comes_before q r ≡ true) ⊎ (comes_before q r ≡ false) → (comes_before (enlarged_square k q) (enlarged_square k r) ≡ true) ⊎ (comes_before (enlarged_square k q) (enlarged_square k r) ≡ false)
+    cases : (comes_before q r ≡ true) ⊎ (comes_before q r ≡ false) → (comes_before (enlarged_square k q) (enlarged_square k r) ≡ true)
+        ⊎ (comes_before (enlarged_square k q) (enlarged_square k r) ≡ false)
         → comes_before (enlarged_square k q) (enlarged_square k r) ≡ comes_before q r
     cases (inl a) b = before_from (enlarged_square k q) (enlarged_square k r) (up (before_cases q r a)) ∙ sym a
     cases (inr a) (inl b) = absurd (both_ways (comes_before q r) a (before_from q r (down (before_cases (enlarged_square k q) (enlarged_square k r) b))))
     cases (inr a) (inr b) = b ∙ sym a
 
-with_enlarged : (k : ℕ) (q : Square) (squares : List Square) → 0 < k → with_square (enlarged_square k q) (map (enlarged_square k) squares) ≡ map (enlarged_square k) (with_square q squares)
+with_enlarged : (k : ℕ) (q : Square) (squares : List Square) → 0 < k → with_square (enlarged_square k q) (map (enlarged_square k) squares)
+    ≡ map (enlarged_square k) (with_square q squares)
 with_enlarged k q [] some = refl
 with_enlarged k q (r ∷ squares) some =
-    ap (λ b. cond b (enlarged_square k q ∷ enlarged_square k r ∷ map (enlarged_square k) squares) (enlarged_square k r ∷ with_square (enlarged_square k q) (map (enlarged_square k) squares))) (before_enlarged k q r some)
+    ap (λ b. cond b (enlarged_square k q ∷ enlarged_square k r ∷ map (enlarged_square k) squares)
+    (enlarged_square k r ∷ with_square (enlarged_square k q) (map (enlarged_square k) squares))) (before_enlarged k q r some)
     ∙ cases (comes_before q r) (with_enlarged k q squares some)
   where
     cases : (b : Bool) → with_square (enlarged_square k q) (map (enlarged_square k) squares) ≡ map (enlarged_square k) (with_square q squares)
-        → cond b (enlarged_square k q ∷ enlarged_square k r ∷ map (enlarged_square k) squares) (enlarged_square k r ∷ with_square (enlarged_square k q) (map (enlarged_square k) squares))
+        → cond b (enlarged_square k q ∷ enlarged_square k r ∷ map (enlarged_square k) squares)
+        (enlarged_square k r ∷ with_square (enlarged_square k q) (map (enlarged_square k) squares))
         ≡ map (enlarged_square k) (cond b (q ∷ r ∷ squares) (r ∷ with_square q squares))
     cases true e = refl
     cases false e = ap (λ (rest : List Square). enlarged_square k r ∷ rest) e
@@ -107,6 +112,8 @@ image-enlarged turn k t some tiling = λ i. record {
   squares = squares i;
 }
   where
-    squares : in_code_order (map (image_square turn (k * t.width) (k * t.height)) (map (enlarged_square k) t.squares)) ≡ map (enlarged_square k) (in_code_order (map (image_square turn t.width t.height) t.squares))
-    squares = ap in_code_order (list-image turn k t.width t.height t.squares (λ q m. let w = within_of t tiling q m in (omega (arith, w.right), omega (arith, w.bottom))))
+    squares : in_code_order (map (image_square turn (k * t.width) (k * t.height)) (map (enlarged_square k) t.squares))
+        ≡ map (enlarged_square k) (in_code_order (map (image_square turn t.width t.height) t.squares))
+    squares = ap in_code_order (list-image turn k t.width t.height t.squares (λ q m. let w = within_of t tiling q m in
+        (omega (arith, w.right), omega (arith, w.bottom))))
         ∙ order_enlarged k (map (image_square turn t.width t.height) t.squares) some

@@ -23,7 +23,8 @@ one-scaled t tiling same = mul_one (side_divisor t) (side_divisor t) 1 (some_div
     once = omega arith
 
     twice : side_divisor t ≡ side_divisor t * side_divisor t
-    twice = ap side_divisor (whole_again t tiling) ∙ divisor_of_multiple (side_divisor t) (scaled_down_tiling t) (some_divisor t tiling) ∙ ap (λ (u : Tiling). side_divisor t * side_divisor u) same
+    twice = ap side_divisor (whole_again t tiling) ∙ divisor_of_multiple (side_divisor t) (scaled_down_tiling t) (some_divisor t tiling)
+        ∙ ap (λ (u : Tiling). side_divisor t * side_divisor u) same
 
 pub own_from : (t : Tiling) → IsTiling t → Lies t → side_divisor t ≡ 1 → IsGreatestImage t t → IsCanonical t
 own_from t tiling lies one greatest = record {

@@ -32,18 +32,35 @@ pub scaled_down_is : (k : ℕ) (t : Tiling) → 0 < k → IsTiling (enlarged k t
 scaled_down_is k t h tiling = record {
   tiles = record {
     some = omega (arith, (tiling.tiles).some, length-map t.squares (enlarged_square k));
-    sides = all_from (λ q. 0 < q.s) t.squares (λ q m. mul_below_back k 0 q.s (omega (arith, side_of (enlarged k t) tiling (enlarged_square k q) (in_enlarged k t.squares q m))));
+    sides = all_from (λ q. 0 < q.s) t.squares
+        (λ q m. mul_below_back k 0 q.s (omega (arith, side_of (enlarged k t) tiling (enlarged_square k q) (in_enlarged k t.squares q m))));
     within = all_from (IsWithin (whole t)) t.squares (λ q m. let w = within_of (enlarged k t) tiling (enlarged_square k q) (in_enlarged k t.squares q m) in
-        record { left = omega arith; right = mul_not_below k (q.x + q.s) (0 + t.width) (omega (arith, w.right)) h; top = omega arith; bottom = mul_not_below k (q.y + q.s) (0 + t.height) (omega (arith, w.bottom)) h });
-    once = λ i j a b c d. sym (count_same (enlarged_square k) (k * i) (k * j) i j t.squares (λ q m. cell i j q)) ∙ cell_once (enlarged k t) tiling (k * i) (k * j) (mul_below k i t.width h (omega arith)) (mul_below k j t.height h (omega arith));
+        record {
+          left = omega arith;
+          right = mul_not_below k (q.x + q.s) (0 + t.width) (omega (arith, w.right)) h;
+          top = omega arith;
+          bottom = mul_not_below k (q.y + q.s) (0 + t.height) (omega (arith, w.bottom)) h;
+        });
+    once = λ i j a b c d. sym (count_same (enlarged_square k) (k * i) (k * j) i j t.squares (λ q m. cell i j q))
+        ∙ cell_once (enlarged k t) tiling (k * i) (k * j) (mul_below k i t.width h (omega arith)) (mul_below k j t.height h (omega arith));
   };
   ordered = order t.squares tiling.ordered;
 }
   where
     cell : (i j : ℕ) (q : Square) → covers (k * i) (k * j) (enlarged_square k q) ≡ covers i j q
     cell i j q = same_cover (k * i) (k * j) i j (enlarged_square k q) q
-        (λ o. record { left = mul_not_below k q.x i o.left h; right = mul_below_back k i (q.x + q.s) (omega (arith, o.right)); top = mul_not_below k q.y j o.top h; bottom = mul_below_back k j (q.y + q.s) (omega (arith, o.bottom)) })
-        (λ o. record { left = mul-le-mul_left k o.left; right = omega (arith, mul_below k i (q.x + q.s) h o.right); top = mul-le-mul_left k o.top; bottom = omega (arith, mul_below k j (q.y + q.s) h o.bottom) })
+        (λ o. record {
+          left = mul_not_below k q.x i o.left h;
+          right = mul_below_back k i (q.x + q.s) (omega (arith, o.right));
+          top = mul_not_below k q.y j o.top h;
+          bottom = mul_below_back k j (q.y + q.s) (omega (arith, o.bottom));
+        })
+        (λ o. record {
+          left = mul-le-mul_left k o.left;
+          right = omega (arith, mul_below k i (q.x + q.s) h o.right);
+          top = mul-le-mul_left k o.top;
+          bottom = omega (arith, mul_below k j (q.y + q.s) h o.bottom);
+        })
 
     before : (q r : Square) → comes_before (enlarged_square k q) (enlarged_square k r) ≡ true → comes_before q r ≡ true
     before q r e = before_from q r (cases (before_cases (enlarged_square k q) (enlarged_square k r) e))
@@ -52,7 +69,9 @@ scaled_down_is k t h tiling = record {
         cases (inl l) = inl (mul_below_back k q.y r.y l)
         cases (inr l) = inr (mul_one k q.y r.y h l.0, mul_below_back k q.x r.x l.1)
 
-    before_each : (q : Square) (squares : List Square) → AllByRecursion (λ r. comes_before (enlarged_square k q) r ≡ true) (map (enlarged_square k) squares) → AllByRecursion (λ r. comes_before q r ≡ true) squares
+    before_each : (q : Square) (squares : List Square)
+        → AllByRecursion (λ r. comes_before (enlarged_square k q) r ≡ true) (map (enlarged_square k) squares)
+        → AllByRecursion (λ r. comes_before q r ≡ true) squares
     before_each q [] all = tt
     before_each q (r ∷ squares) all = (before q r all.0, before_each q squares all.1)
 
@@ -76,7 +95,8 @@ module _ (t : Tiling) (tiling : IsTiling t) (g : ℕ) (sides : (q : Square) → 
       cases (inl h) = absurd (not h)
       cases (inr h) = omega (arith, (over_from i j r f).bottom)
 
-  one_over : (i j : ℕ) → i < t.width → j < t.height → (q r : Square) → IsOneOf q t.squares → covers i j q ≡ true → IsOneOf r t.squares → covers i j r ≡ true → q ≡ r
+  one_over : (i j : ℕ) → i < t.width → j < t.height → (q r : Square) → IsOneOf q t.squares → covers i j q ≡ true → IsOneOf r t.squares
+      → covers i j r ≡ true → q ≡ r
   one_over i j a b = no_two (covers i j) t.squares (omega (arith, cell_once t tiling i j a b))
 
   over : (i j : ℕ) → i < t.width → j < t.height → (r : Square) × IsOneOf r t.squares × (covers i j r ≡ true)
@@ -99,7 +119,13 @@ module _ (t : Tiling) (tiling : IsTiling t) (g : ℕ) (sides : (q : Square) → 
         r,
         k,
         ends_at (q.x - 1) q.y q.x (omega arith) r e (λ l. let o = over_from (q.x - 1) q.y r e in
-            omega (arith, some, o.left, ap (λ (s : Square). s.x) (one_over q.x q.y wide high q r h (own q h) k (covers_from q.x q.y r (omega (arith, o.left)) l o.top o.bottom)))),
+            omega (
+              arith,
+              some,
+              o.left,
+              ap (λ (s : Square). s.x)
+                  (one_over q.x q.y wide high q r h (own q h) k (covers_from q.x q.y r (omega (arith, o.left)) l o.top o.bottom)),
+            )),
       )
 
   square_above : (q : Square) → IsOneOf q t.squares → 0 < q.y → (r : Square) × IsOneOf r t.squares × (r.y + r.s ≡ q.y)
@@ -116,7 +142,13 @@ module _ (t : Tiling) (tiling : IsTiling t) (g : ℕ) (sides : (q : Square) → 
         r,
         k,
         sinks_at q.x (q.y - 1) q.y (omega arith) r e (λ l. let o = over_from q.x (q.y - 1) r e in
-            omega (arith, some, o.top, ap (λ (s : Square). s.y) (one_over q.x q.y wide high q r h (own q h) k (covers_from q.x q.y r o.left o.right (omega (arith, o.top)) l)))),
+            omega (
+              arith,
+              some,
+              o.top,
+              ap (λ (s : Square). s.y)
+                  (one_over q.x q.y wide high q r h (own q h) k (covers_from q.x q.y r o.left o.right (omega (arith, o.top)) l)),
+            )),
       )
 
   none : (n : ℕ) → n ≤ 0 → g ∣ n
@@ -128,7 +160,8 @@ module _ (t : Tiling) (tiling : IsTiling t) (g : ℕ) (sides : (q : Square) → 
     where
       cases : (0 < q.x) ⊎ (q.x ≤ 0) → ((r : Square) → IsOneOf r t.squares → r.x < n → g ∣ r.x) → g ∣ q.x
       cases (inr h) rest = none q.x h
-      cases (inl some) rest = let l = square_left q h some in subst (λ (m : ℕ). g ∣ m) l.2 (dvd-add g (rest l.0 l.1 (omega (arith, l.2, side_of t tiling l.0 l.1))) (sides l.0 l.1))
+      cases (inl some) rest = let l = square_left q h some in
+          subst (λ (m : ℕ). g ∣ m) l.2 (dvd-add g (rest l.0 l.1 (omega (arith, l.2, side_of t tiling l.0 l.1))) (sides l.0 l.1))
 
   level : (n : ℕ) (q : Square) → IsOneOf q t.squares → q.y < n → g ∣ q.y
   level zero q h few = absurd (omega arith)
@@ -136,7 +169,8 @@ module _ (t : Tiling) (tiling : IsTiling t) (g : ℕ) (sides : (q : Square) → 
     where
       cases : (0 < q.y) ⊎ (q.y ≤ 0) → ((r : Square) → IsOneOf r t.squares → r.y < n → g ∣ r.y) → g ∣ q.y
       cases (inr h) rest = none q.y h
-      cases (inl some) rest = let l = square_above q h some in subst (λ (m : ℕ). g ∣ m) l.2 (dvd-add g (rest l.0 l.1 (omega (arith, l.2, side_of t tiling l.0 l.1))) (sides l.0 l.1))
+      cases (inl some) rest = let l = square_above q h some in
+          subst (λ (m : ℕ). g ∣ m) l.2 (dvd-add g (rest l.0 l.1 (omega (arith, l.2, side_of t tiling l.0 l.1))) (sides l.0 l.1))
 
   first : (q : Square) × IsOneOf q t.squares
   first = from t.squares (tiling.tiles).some (λ q h. h)
@@ -152,13 +186,15 @@ module _ (t : Tiling) (tiling : IsTiling t) (g : ℕ) (sides : (q : Square) → 
   width_divides = from (over (t.width - 1) 0 (omega (arith, wide_enough t tiling)) high_enough)
     where
       from : (r : Square) × IsOneOf r t.squares × (covers (t.width - 1) 0 r ≡ true) → g ∣ t.width
-      from (r, k, e) = subst (λ (m : ℕ). g ∣ m) (omega (arith, (within_of t tiling r k).right, (over_from (t.width - 1) 0 r e).right)) (dvd-add g (column (suc r.x) r k (omega arith)) (sides r k))
+      from (r, k, e) = subst (λ (m : ℕ). g ∣ m) (omega (arith, (within_of t tiling r k).right, (over_from (t.width - 1) 0 r e).right))
+          (dvd-add g (column (suc r.x) r k (omega arith)) (sides r k))
 
   pub height_divides : g ∣ t.height
   height_divides = from (over 0 (t.height - 1) (wide_enough t tiling) (omega (arith, high_enough)))
     where
       from : (r : Square) × IsOneOf r t.squares × (covers 0 (t.height - 1) r ≡ true) → g ∣ t.height
-      from (r, k, e) = subst (λ (m : ℕ). g ∣ m) (omega (arith, (within_of t tiling r k).bottom, (over_from 0 (t.height - 1) r e).bottom)) (dvd-add g (level (suc r.y) r k (omega arith)) (sides r k))
+      from (r, k, e) = subst (λ (m : ℕ). g ∣ m) (omega (arith, (within_of t tiling r k).bottom, (over_from 0 (t.height - 1) r e).bottom))
+          (dvd-add g (level (suc r.y) r k (omega arith)) (sides r k))
 
   pub x_divides : (q : Square) → IsOneOf q t.squares → g ∣ q.x
   x_divides q h = column (suc q.x) q h (omega arith)
@@ -171,7 +207,11 @@ module _ (t : Tiling) (tiling : IsTiling t) (g : ℕ) (sides : (q : Square) → 
     where
       cases : (0 < g) ⊎ (g ≤ 0) → 0 < g
       cases (inl h) = h
-      cases (inr h) = absurd (omega (arith, mul-div_cancel' 0 (subst (λ (n : ℕ). n ∣ (first.0).s) zero_is (sides first.0 first.1)), side_of t tiling first.0 first.1))
+      cases (inr h) = absurd (omega (
+        arith,
+        mul-div_cancel' 0 (subst (λ (n : ℕ). n ∣ (first.0).s) zero_is (sides first.0 first.1)),
+        side_of t tiling first.0 first.1,
+      ))
         where
           zero_is : g ≡ 0
           zero_is = omega arith
@@ -193,7 +233,8 @@ module _ (t : Tiling) (tiling : IsTiling t) where
   some_divisor = positive t tiling (side_divisor t) side_divides
 
   list : (squares : List Square) → ((q : Square) → IsOneOf q squares → IsOneOf q t.squares)
-      → squares ≡ map (enlarged_square (side_divisor t)) (map (λ q. record { x = q.x / side_divisor t; y = q.y / side_divisor t; s = q.s / side_divisor t }) squares)
+      → squares ≡ map (enlarged_square (side_divisor t))
+      (map (λ q. record { x = q.x / side_divisor t; y = q.y / side_divisor t; s = q.s / side_divisor t }) squares)
   list [] f = refl
   list (q ∷ squares) f = λ i. record { x = xs i; y = ys i; s = sides i } ∷ list squares (λ r h. f r (inr h)) i
     where

@@ -3,7 +3,8 @@ use Rattle.std.specs.Cmp.{IsTotalOrder}
 use Rattle.std.specs.List.{AllByRecursion}
 use Rattle.std.specs.List.Sorted.{IsPermutation, IsSortedByKey}
 use Rattle.std.specs.Ordering.{is_lt, nat_cmp, ordering_then}
-use Rattle.std.proofs.Common.{Bool, List, [], ap, arith, cond, count_by, false, get_or, inl, inr, length, refl, subst, suc, sym, true, ℕ, ◌&&◌, ◌<◌, ◌==◌, ◌∙◌, ◌∷◌, ◌≡◌, ◌⊎◌}
+use Rattle.std.proofs.Common.{Bool, List, [], ap, arith, cond, count_by, false, get_or, inl, inr, length, refl, subst, suc, sym, true, ℕ, ◌&&◌, ◌<◌}
+use Rattle.std.proofs.Common.{◌==◌, ◌∙◌, ◌∷◌, ◌≡◌, ◌⊎◌}
 use Rattle.std.proofs.lemmas.Bool.{and_from, and_parts, both_ways, eq-eqb, eqb-true, false_from_ne_true}
 use Rattle.std.proofs.lemmas.Cmp.{nat_cmp_total, on_total, then_total}
 use Rattle.std.proofs.lemmas.List.Elements.{recursion_from_All}
@@ -20,7 +21,8 @@ abbrev NoneEarlier : List Square → Type 0
 NoneEarlier [] = Unit {0}
 NoneEarlier (q ∷ squares) = AllByRecursion (λ r. comes_before r q ≡ false) squares × NoneEarlier squares
 
-none_earlier : (squares : List Square) → ((i j : ℕ) (d : Square) → i < j → j < length squares → comes_before (get_or squares j d) (get_or squares i d) ≡ false) → NoneEarlier squares
+none_earlier : (squares : List Square)
+    → ((i j : ℕ) (d : Square) → i < j → j < length squares → comes_before (get_or squares j d) (get_or squares i d) ≡ false) → NoneEarlier squares
 none_earlier [] far = tt
 none_earlier (q ∷ squares) far = (
   recursion_from_All (λ r. comes_before r q ≡ false) squares (λ k d below. far 0 (suc k) d (omega arith) (omega arith)),
@@ -40,7 +42,8 @@ same_square p q e =
 
 is_itself : (q : Square) → is_square q q ≡ true
 unfolding is_square
-is_itself q = and_from (q.x == q.x) ((q.y == q.y) && (q.s == q.s)) (eq-eqb q.x q.x refl) (and_from (q.y == q.y) (q.s == q.s) (eq-eqb q.y q.y refl) (eq-eqb q.s q.s refl))
+is_itself q = and_from (q.x == q.x) ((q.y == q.y) && (q.s == q.s)) (eq-eqb q.x q.x refl)
+    (and_from (q.y == q.y) (q.s == q.s) (eq-eqb q.y q.y refl) (eq-eqb q.s q.s refl))
 
 -- a square of one list is one of another with the same squares
 member : (qs rs : List Square) (q : Square) → ((p : Square → Bool) → count_by p qs ≡ count_by p rs) → IsOneOf q qs → IsOneOf q rs
@@ -58,7 +61,8 @@ same_squares (y ∷ ys) (z ∷ zs) a b counts = λ i. first i ∷ same_squares y
     meet : (y ≡ z) ⊎ IsOneOf y zs → (z ≡ y) ⊎ IsOneOf z ys → y ≡ z
     meet (inl e) h = e
     meet (inr k) (inl e) = sym e
-    meet (inr k) (inr l) = absurd (both_ways (comes_before z y) (in_all (λ r. comes_before r y ≡ false) ys a.0 z l) (in_all (λ r. comes_before z r ≡ true) zs b.0 y k))
+    meet (inr k) (inr l) =
+        absurd (both_ways (comes_before z y) (in_all (λ r. comes_before r y ≡ false) ys a.0 z l) (in_all (λ r. comes_before z r ≡ true) zs b.0 y k))
 
     first : y ≡ z
     first = meet (member (y ∷ ys) (z ∷ zs) y counts (inl refl)) (member (z ∷ zs) (y ∷ ys) z (λ p. sym (counts p)) (inl refl))
@@ -67,7 +71,8 @@ same_squares (y ∷ ys) (z ∷ zs) a b counts = λ i. first i ∷ same_squares y
     rest p = let here : ◌≡◌ {A = ℕ} (cond (p y) 1 0) (cond (p z) 1 0) = ap (λ (q : Square). cond {A = ℕ} (p q) 1 0) first in
         omega (arith, here, counts p, count-cons p y ys, count-cons p z zs)
 
-pub order_from_sort : (xs ys : List Square) → IsPermutation xs ys → IsSortedByKey (λ (q : Square). (q.y, q.x)) (λ (a b : ℕ × ℕ). ordering_then (nat_cmp a.0 b.0) (nat_cmp a.1 b.1)) ys
+pub order_from_sort : (xs ys : List Square) → IsPermutation xs ys
+    → IsSortedByKey (λ (q : Square). (q.y, q.x)) (λ (a b : ℕ × ℕ). ordering_then (nat_cmp a.0 b.0) (nat_cmp a.1 b.1)) ys
     → InCodeOrder (in_code_order xs) → ys ≡ in_code_order xs
 order_from_sort xs ys moved sorted ordered = same_squares ys (in_code_order xs) (none_earlier ys late) ordered
     (λ p. sum_by-IsPermutation (λ q. cond {A = ℕ} (p q) 1 0) xs ys moved ∙ sym (in_code_order-count p xs))
@@ -77,5 +82,6 @@ order_from_sort xs ys moved sorted ordered = same_squares ys (in_code_order xs) 
 
     late : (i j : ℕ) (d : Square) → i < j → j < length ys → comes_before (get_or ys j d) (get_or ys i d) ≡ false
     late i j d up below = false_from_ne_true (comes_before (get_or ys j d) (get_or ys i d)) (λ before. both_ways _
-        (sorted_far (λ (p q : Square). is_lt (ordering_then (nat_cmp p.y q.y) (nat_cmp p.x q.x))) (ranks_by total (λ (q : Square). (q.y, q.x))) ys sorted i j d (omega arith) below)
+        (sorted_far (λ (p q : Square). is_lt (ordering_then (nat_cmp p.y q.y) (nat_cmp p.x q.x))) (ranks_by total (λ (q : Square). (q.y, q.x))) ys
+        sorted i j d (omega arith) below)
         (before_by_rank (get_or ys j d) (get_or ys i d) before))

@@ -1,4 +1,5 @@
 -- The tiling in lowest terms, and the canonical tiling.
+-- Example (ImageExamples): the rectangle 69x61 is canonical; of 33x32 enlarged twofold, with columns and levels exchanged, it is 33x32.
 use Rattle.std.specs.Cmp.Lexicographic.{slice_cmp}
 use Rattle.std.specs.Ordering.{is_le, nat_cmp}
 use Rattle.std.specs.Prelude.{IsTrue, map, ◌/◌, ◌≡◌, ◌≤◌}

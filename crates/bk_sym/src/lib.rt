@@ -6,7 +6,8 @@ ghost use Rattle.bk_code.specs.Code.{code_cmp, code_of};
 ghost use Rattle.bk_frac.specs.Divisor.{gcd as common_divisor, gcd_of};
 ghost use Rattle.bk_sym.specs.Canonical.{IsAtMost, IsCanonical, IsCanonicalOf, IsGreatestImage, Lies, scaled_down_tiling};
 ghost use Rattle.bk_sym.specs.Image.{image, image_size, image_square};
-ghost use Rattle.bk_sym.specs.ImageLaws.{ACanonicalTilingIsItsOwn, ACanonicalTilingIsOne, AlikeTilingsHaveOneCanonical, ImagesAreTilings, ImagesAreUndone, ImagesOfImages, OneCanonicalMeansAlike};
+ghost use Rattle.bk_sym.specs.ImageLaws.{ACanonicalTilingIsItsOwn, ACanonicalTilingIsOne, AlikeTilingsHaveOneCanonical, ImagesAreTilings};
+ghost use Rattle.bk_sym.specs.ImageLaws.{ImagesAreUndone, ImagesOfImages, OneCanonicalMeansAlike};
 ghost use Rattle.bk_sym.specs.declared.Turn.TheVariants.{Same};
 ghost use Rattle.bk_tiling.specs.CodeOrder.{InCodeOrder, in_code_order};
 ghost use Rattle.bk_tiling.specs.Kept.{IsKept};
@@ -267,90 +268,3 @@ pub fn one_canonical_means_alike()
 pub fn a_canonical_tiling_is_its_own()
     ensures { ACanonicalTilingIsItsOwn }
 {}
-
-#[cfg(test)]
-mod tests {
-    use super::*;
-    use std::process::Abort;
-    use std::test::Fail;
-
-    // The tiling of a rectangle of this size by squares of these columns, levels and sides.
-    fn tiling(width: u64, height: u64, placed: &[(u64, u64, u64)]) -> Result<Tiling, Fail> {
-        let mut squares = ArrayVec::<Square, MOST_SQUARES>::new();
-        for (x, y, s) in placed {
-            squares.try_push(Square {
-                x: *x,
-                y: *y,
-                s: *s,
-            })?;
-        }
-        Ok(Tiling::try_new(width, height, squares.as_slice())?)
-    }
-
-    // Asserts the size of a tiling and its sides in code order.
-    fn assert_sides(rt: &impl Abort, tiling: &Tiling, width: u64, height: u64, sides: &[u64]) {
-        assert_eq!(rt; tiling.width(), width);
-        assert_eq!(rt; tiling.height(), height);
-        assert_eq!(rt; tiling.order(), sides.len());
-        for (q, side) in tiling.squares().iter().zip(sides) {
-            assert_eq!(rt; q.s, *side);
-        }
-    }
-
-    #[test]
-    fn eight_images(rt: HostRuntime) -> Result<(), Fail> {
-        let three = tiling(3, 2, &[(0, 0, 2), (2, 0, 1), (2, 1, 1)])?;
-        for which in [Turn::Same, Turn::FlipY] {
-            assert_sides(&rt, &image(&three, which), 3, 2, &[2, 1, 1]);
-        }
-        for which in [Turn::FlipX, Turn::Half] {
-            assert_sides(&rt, &image(&three, which), 3, 2, &[1, 2, 1]);
-        }
-        for which in [Turn::Swap, Turn::SwapFlipX] {
-            assert_sides(&rt, &image(&three, which), 2, 3, &[2, 1, 1]);
-        }
-        for which in [Turn::SwapFlipY, Turn::SwapHalf] {
-            assert_sides(&rt, &image(&three, which), 2, 3, &[1, 1, 2]);
-        }
-        Ok(())
-    }
-
-    #[test]
-    fn one_canonical(rt: HostRuntime) -> Result<(), Fail> {
-        let turned = tiling(
-            64,
-            66,
-            &[
-                (0, 0, 36),
-                (36, 0, 28),
-                (36, 28, 8),
-                (44, 28, 20),
-                (0, 36, 30),
-                (30, 36, 14),
-                (44, 48, 2),
-                (46, 48, 18),
-                (30, 50, 16),
-            ],
-        )?;
-        assert!(rt; !is_canonical(&turned));
-        assert_sides(
-            &rt,
-            &scale_down(&turned),
-            32,
-            33,
-            &[18, 14, 4, 10, 15, 7, 1, 9, 8],
-        );
-
-        let nine = canonical(&turned);
-        assert!(rt; is_canonical(&nine));
-        assert_sides(&rt, &nine, 33, 32, &[18, 15, 7, 8, 14, 4, 10, 1, 9]);
-        assert_sides(
-            &rt,
-            &canonical(&nine),
-            33,
-            32,
-            &[18, 15, 7, 8, 14, 4, 10, 1, 9],
-        );
-        Ok(())
-    }
-}

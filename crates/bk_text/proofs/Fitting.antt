@@ -13,7 +13,8 @@ use Rattle.bk_text.specs.declared.reader.Field.TheVariants.{Column, First, Heigh
 use Rattle.bk_text.specs.declared.reader.Kind.{Kind}
 use Rattle.bk_text.specs.declared.reader.Kind.TheVariants.{Blank, Close, Comma, Cross, Digit, Semicolon, Zero}
 use Rattle.bk_text.specs.declared.reader.Place.{Place}
-use Rattle.bk_text.specs.declared.reader.Place.TheVariants.{BeforeGroup, BeforeHeight, BeforeSide, BehindColumn, BehindFirst, BehindGroup, BehindSecond, BehindSide, BehindThird, Comment as InComment, Number as InNumber, Start}
+use Rattle.bk_text.specs.declared.reader.Place.TheVariants.{BeforeGroup, BeforeHeight, BeforeSide, BehindColumn, BehindFirst, BehindGroup}
+use Rattle.bk_text.specs.declared.reader.Place.TheVariants.{BehindSecond, BehindSide, BehindThird, Comment as InComment, Number as InNumber, Start}
 use Rattle.bk_text.proofs.ByteKinds.{Means}
 use Rattle.bk_text.proofs.KeepingAll.{Lists, and_side, line_of, lists_after, no_lists}
 use Rattle.bk_text.proofs.WhatWasRead.{nines}
@@ -63,7 +64,8 @@ grown f v d t small h = when (nat_le v (most f / 10)) (λ e. leb-true v (most f 
 last_some : (xs : List ℕ) (n : ℕ) → 0 < length (xs ++ n ∷ [])
 last_some xs n = omega (arith, length-append xs (n ∷ []))
 
-number_fits : (f : Field) (v : ℕ) (k : Kind) (t : Lists) (b : ℕ) → Means k b → (0 < v) × (v ≤ most f) × FitsField f t → FitsNext (next_place (InNumber f v) k) (lists_after (InNumber f v) k t)
+number_fits : (f : Field) (v : ℕ) (k : Kind) (t : Lists) (b : ℕ) → Means k b → (0 < v) × (v ≤ most f) × FitsField f t
+    → FitsNext (next_place (InNumber f v) k) (lists_after (InNumber f v) k t)
 number_fits First v Zero t b m h = grown First v 0 t (omega arith) h
 number_fits (Second o) v Zero t b m h = grown (Second o) v 0 t (omega arith) h
 number_fits (Height o w) v Zero t b m h = grown (Height o w) v 0 t (omega arith) h

@@ -5,8 +5,9 @@ use Rattle.std.proofs.Common.{arith, subst, sym}
 use Rattle.bk_grammar.specs.Grammar.{Number}
 use Rattle.bk_tiling.specs.Kept.{IsSide}
 use Rattle.bk_text.specs.CodeLine.{Flat, IsLine, Item, Line, Skip, TableSides}
-use Rattle.bk_text.specs.ReadLine.{IsFaultOf, IsInRange, sides_of_line, stands_for}
-use Rattle.bk_text.specs.declared.Line.{Line as LineRead}
+use Rattle.bk_text.specs.ReadLine.{IsFaultOf, IsInRange, sides_of_line}
+use Rattle.bk_text.specs.Gathered.{Gathered, line_gathered}
+use Rattle.bk_text.specs.declared.reader.Ending.{Ending}
 use Rattle.bk_text.specs.declared.TextFault.{TextFault}
 use Rattle.bk_text.specs.declared.TextFault.TheVariants.{Many}
 use Rattle.bk_grammar.proofs.NumbersRead.{number_range}
@@ -17,26 +18,32 @@ side_range n bs h = let range = number_range 15 n bs h in (range.0, omega (arith
 column_range : (ns bs : List ℕ) → TableSides ns bs → (0 < length ns) × AllByRecursion IsSide ns
 column_range [] bs h = absurd h
 column_range (n ∷ []) bs (a, x, e, gap, side) = (omega arith, (side_range n x side, tt))
-column_range (n ∷ m ∷ ns) bs (a, x, e, gap, (f, y, e', side, rest)) = let others = column_range (m ∷ ns) y rest in (omega arith, (side_range n f side, others.1))
+column_range (n ∷ m ∷ ns) bs (a, x, e, gap, (f, y, e', side, rest)) = let others =
+    column_range (m ∷ ns) y rest in (omega arith, (side_range n f side, others.1))
 
 pub line_range : (l : Line) (bs : List ℕ) → IsLine l bs → length (sides_of_line l) ≤ 200 → IsInRange l
 line_range Skip bs h few = tt
 line_range (Item order size []) bs (a, x, e, blanks, (f, y, e', header, (k, z, e'', groups, end))) few = absurd groups
 line_range (Item order size (g ∷ gs)) bs h few = omega arith
-line_range (Flat n w h ns) bs (a, x, e, blanks, (f, x1, e1, num, (g, x2, e2, gap, (f', x3, e3, num', (g', x4, e4, gap', (f'', x5, e5, num'', (s, x6, e6, sides, end))))))) few =
+line_range (Flat n w h ns) bs
+    (a, x, e, blanks, (f, x1, e1, num, (g, x2, e2, gap, (f', x3, e3, num', (g', x4, e4, gap', (f'', x5, e5, num'', (s, x6, e6, sides, end))))))) few =
     let column = column_range ns s sides in
     (number_range 18 n f num, number_range 18 w f' num', number_range 18 h f'' num'', column.0, few, column.1)
 
 -- from what was gathered to what is answered
-pub read_is : (r : Result LineRead TextFault) (l : Line) (many : Bool) (bs : List ℕ) → IfOk r (λ x. many ≡ false) → IfOk r (λ x. stands_for x ≡ l) → (many ≡ false → IsLine l bs)
-    → IfOk r (λ x. IsLine (stands_for x) bs)
-read_is (Ok x) l many bs few is line = subst (λ (z : Line). IsLine z bs) (sym is) (line few)
-read_is (Err fault) l many bs few is line = tt
+pub read_is : (r : Result Ending TextFault) (ending : Ending) (g : Gathered) (bs : List ℕ) → IfOk r (λ e. (e ≡ ending) × (g.many ≡ false))
+    → (g.many ≡ false → IsLine (line_gathered ending g) bs)
+    → IfOk r (λ e. IsLine (line_gathered e g) bs)
+read_is (Ok e) ending g bs is line = subst (λ (x : Ending). IsLine (line_gathered x g) bs) (sym is.0) (line is.1)
+read_is (Err fault) ending g bs is line = tt
 
-pub range_is : (r : Result LineRead TextFault) (bs : List ℕ) → IfOk r (λ x. IsLine (stands_for x) bs) → IfOk r (λ x. length (sides_of_line (stands_for x)) ≤ 200) → IfOk r (λ x. IsInRange (stands_for x))
-range_is (Ok x) bs line few = line_range (stands_for x) bs line few
-range_is (Err fault) bs line few = tt
+pub range_is : (r : Result Ending TextFault) (g : Gathered) (bs : List ℕ) → IfOk r (λ e. IsLine (line_gathered e g) bs)
+    → IfOk r (λ e. length (sides_of_line (line_gathered e g)) ≤ 200)
+    → IfOk r (λ e. IsInRange (line_gathered e g))
+range_is (Ok e) g bs line few = line_range (line_gathered e g) bs line few
+range_is (Err fault) g bs line few = tt
 
-pub fault_is : (r : Result LineRead TextFault) (many : Bool) (bs : List ℕ) → IfErr r (λ fault. fault ≡ Many) → OnErr r (many ≡ true) → (many ≡ true → IsFaultOf Many bs) → IfErr r (λ fault. IsFaultOf fault bs)
-fault_is (Ok x) many bs is full line = tt
+pub fault_is : (r : Result Ending TextFault) (many : Bool) (bs : List ℕ) → IfErr r (λ fault. fault ≡ Many) → OnErr r (many ≡ true)
+    → (many ≡ true → IsFaultOf Many bs) → IfErr r (λ fault. IsFaultOf fault bs)
+fault_is (Ok e) many bs is full line = tt
 fault_is (Err fault) many bs is full line = subst (λ (z : TextFault). IsFaultOf z bs) (sym is) (line full)

@@ -1,6 +1,7 @@
 -- Each line is read as what it stands for.
 use Rattle.std.specs.Char.{digit_value}
-use Rattle.std.specs.Prelude.{Bool, List, None, Option, Some, [], codes, if◌then◌else◌, length, nat_le, option_and_then, refl, true, ℕ, ◌&&◌, ◌*◌, ◌++◌, ◌+◌, ◌-◌, ◌/◌, ◌<◌, ◌==◌, ◌^◌, ◌∷◌, ◌≡◌, ◌≢◌, ◌≤◌, ◌⊎◌}
+use Rattle.std.specs.Prelude.{Bool, List, None, Option, Some, [], codes, if◌then◌else◌, length, nat_le, option_and_then, refl, true, ℕ, ◌&&◌, ◌*◌}
+use Rattle.std.specs.Prelude.{◌++◌, ◌+◌, ◌-◌, ◌/◌, ◌<◌, ◌==◌, ◌^◌, ◌∷◌, ◌≡◌, ◌≢◌, ◌≤◌, ◌⊎◌}
 use Rattle.std.specs.Str.Parse.{AllDigits, digits_value_after}
 use Rattle.std.proofs.Common.{ap, append_assoc, arith, false, inl, inr, subst, sym, ◌∙◌}
 use Rattle.std.proofs.lemmas.Bool.{and_from, cond-false, cond-true, le-leb}
@@ -22,7 +23,8 @@ use Rattle.bk_text.specs.declared.reader.Header.{Header}
 use Rattle.bk_text.specs.declared.reader.Kind.{Kind}
 use Rattle.bk_text.specs.declared.reader.Kind.TheVariants.{Blank, Cross, Digit, Open, Semicolon, Zero}
 use Rattle.bk_text.specs.declared.reader.Place.{Place}
-use Rattle.bk_text.specs.declared.reader.Place.TheVariants.{BeforeGroup, BeforeHeight, BeforeSide, BehindColumn, BehindFirst, BehindGroup, BehindSecond, BehindSide, BehindThird, Comment as InComment, Number as InNumber, Start}
+use Rattle.bk_text.specs.declared.reader.Place.TheVariants.{BeforeGroup, BeforeHeight, BeforeSide, BehindColumn, BehindFirst, BehindGroup}
+use Rattle.bk_text.specs.declared.reader.Place.TheVariants.{BehindSecond, BehindSide, BehindThird, Comment as InComment, Number as InNumber, Start}
 use Rattle.bk_text.specs.declared.reader.Table.{Table}
 use Rattle.bk_text.proofs.ByteKinds.{close_byte, open_byte}
 use Rattle.bk_text.proofs.KeepingAll.{Lists, and_side, line_of, lists_after, no_lists, read}
@@ -30,7 +32,8 @@ use Rattle.bk_grammar.proofs.NumbersRead.{powers, value_grows}
 use Rattle.bk_text.proofs.Rests.{item, row}
 
 -- a further byte of a known kind
-pub read_next : (p q : Place) (k : Kind) (t u : Lists) (b : ℕ) (bs : List ℕ) → kind_of b ≡ k → next_place p k ≡ Some q → lists_after p k t ≡ u → read (b ∷ bs) p t ≡ read bs q u
+pub read_next : (p q : Place) (k : Kind) (t u : Lists) (b : ℕ) (bs : List ℕ) → kind_of b ≡ k → next_place p k ≡ Some q → lists_after p k t ≡ u
+    → read (b ∷ bs) p t ≡ read bs q u
 read_next p q k t u b bs kind next lists =
     ap (λ k. option_and_then (λ q. read bs q (lists_after p k t)) (next_place p k)) kind
     ∙ ap (option_and_then (λ q. read bs q (lists_after p k t))) next
@@ -74,7 +77,8 @@ longer_fits f v d few = cond-true _ _ _ (le-leb v (most f / 10) (tenth (most f) 
     tenth : (m : ℕ) → v * 10 + d ≤ m → v ≤ m / 10
     tenth m few' = omega arith
 
-more_digit : (f : Field) (v b : ℕ) (t : Lists) (bs : List ℕ) → digit_value b < 10 → v * 10 + digit_value b ≤ most f → read (b ∷ bs) (InNumber f v) t ≡ read bs (InNumber f (v * 10 + digit_value b)) t
+more_digit : (f : Field) (v b : ℕ) (t : Lists) (bs : List ℕ) → digit_value b < 10 → v * 10 + digit_value b ≤ most f
+    → read (b ∷ bs) (InNumber f v) t ≡ read bs (InNumber f (v * 10 + digit_value b)) t
 more_digit f v b t bs small few = which (cases (b == 48) refl)
   where
     cases : (test : Bool) → (b == 48) ≡ test → (b ≡ 48) ⊎ (b ≢ 48)
@@ -86,9 +90,11 @@ more_digit f v b t bs small few = which (cases (b == 48) refl)
         let value : digit_value b ≡ 0 = ap digit_value e in
         read_next (InNumber f v) (InNumber f (v * 10 + 0)) Zero t t b bs (ap kind_of e) (longer_fits f v 0 (omega (arith, few))) (zero_keeps f v t)
         ∙ ap (λ z. read bs (InNumber f (v * 10 + z)) t) (sym value)
-    which (inr e) = read_next (InNumber f v) (InNumber f (v * 10 + digit_value b)) (Digit (digit_value b)) t t b bs (kind_digit b small e) (longer_fits f v (digit_value b) few) (digit_keeps f v (digit_value b) t)
+    which (inr e) = read_next (InNumber f v) (InNumber f (v * 10 + digit_value b)) (Digit (digit_value b)) t t b bs (kind_digit b small e)
+        (longer_fits f v (digit_value b) few) (digit_keeps f v (digit_value b) t)
 
-more_digits : (f : Field) (v : ℕ) (ds : List ℕ) (t : Lists) (x : List ℕ) → AllDigits 10 ds → digits_value_after 10 v ds ≤ most f → read (ds ++ x) (InNumber f v) t ≡ read x (InNumber f (digits_value_after 10 v ds)) t
+more_digits : (f : Field) (v : ℕ) (ds : List ℕ) (t : Lists) (x : List ℕ) → AllDigits 10 ds → digits_value_after 10 v ds ≤ most f
+    → read (ds ++ x) (InNumber f v) t ≡ read x (InNumber f (digits_value_after 10 v ds)) t
 more_digits f v [] t x digits few = refl
 more_digits f v (d ∷ ds) t x digits few =
     more_digit f v d t (ds ++ x) digits.0 (omega (arith, few, value_grows (v * 10 + digit_value d) ds))
@@ -101,20 +107,24 @@ Begins_number p f t = (d : ℕ) → (next_place p (Digit d) ≡ Some (InNumber f
 fits : (greatest most' k n : ℕ) → 10 ^ most' ≤ greatest + 1 → k ≤ most' → n < 10 ^ k → n ≤ greatest
 fits greatest most' k n bound few below = omega (arith, bound, below, powers k most' few)
 
-number_reads : (most' n : ℕ) (p : Place) (f : Field) (t : Lists) (text x : List ℕ) → 10 ^ most' ≤ most f + 1 → Begins_number p f t → Reads (Number most' n) text x → read text p t ≡ read x (InNumber f n) t
+number_reads : (most' n : ℕ) (p : Place) (f : Field) (t : Lists) (text x : List ℕ) → 10 ^ most' ≤ most f + 1 → Begins_number p f t
+    → Reads (Number most' n) text x → read text p t ≡ read x (InNumber f n) t
 number_reads most' n p f t text x bound begins ([], h, e) = absurd (omega (arith, h.0.0))
 number_reads most' n p f t text x bound begins (b ∷ ds, (digits, few, first, value), e) =
     let other : b ≢ 48 = first in
     let k = begins (digit_value b) in
-    let start : digits_value_after 10 (digit_value b) ds ≡ n = ap (λ z. digits_value_after 10 z ds) (let z : digit_value b ≡ 0 * 10 + digit_value b = omega arith in z) ∙ value in
-    let below : n ≤ most f = fits (most f) most' (length (b ∷ ds)) n bound few (subst (λ (z : ℕ). z < 10 ^ length (b ∷ ds)) value (digits_value-lt 10 (b ∷ ds) digits.1)) in
+    let start : digits_value_after 10 (digit_value b) ds ≡ n =
+    ap (λ z. digits_value_after 10 z ds) (let z : digit_value b ≡ 0 * 10 + digit_value b = omega arith in z) ∙ value in
+    let below : n ≤ most f =
+    fits (most f) most' (length (b ∷ ds)) n bound few (subst (λ (z : ℕ). z < 10 ^ length (b ∷ ds)) value (digits_value-lt 10 (b ∷ ds) digits.1)) in
     ap (λ z. read z p t) e
     ∙ read_next p (InNumber f (digit_value b)) (Digit (digit_value b)) t t b (ds ++ x) (kind_digit b digits.1.0 other) k.0 k.1
     ∙ more_digits f (digit_value b) ds t x digits.1.1 (omega (arith, start, below))
     ∙ ap (λ z. read x (InNumber f z) t) start
 
 -- blanks
-blank_read : (p q : Place) (t u : Lists) (b : ℕ) (bs : List ℕ) → IsBlank b → next_place p Blank ≡ Some q → lists_after p Blank t ≡ u → read (b ∷ bs) p t ≡ read bs q u
+blank_read : (p q : Place) (t u : Lists) (b : ℕ) (bs : List ℕ) → IsBlank b → next_place p Blank ≡ Some q → lists_after p Blank t ≡ u
+    → read (b ∷ bs) p t ≡ read bs q u
 blank_read p q t u b bs blank next lists = read_next p q Blank t u b bs (kind_blank b blank) next lists
 
 -- a place at which blanks change nothing
@@ -136,7 +146,8 @@ gap_reads : (p q : Place) (t u : Lists) (text x : List ℕ) → Ends_at p q t u 
 gap_reads p q t u text x ends skips ([], h, e) = absurd (omega (arith, h.0))
 gap_reads p q t u text x ends skips (b ∷ a, h, e) = ap (λ z. read z p t) e ∙ blank_read p q t u b (a ++ x) h.1.0 ends.0 ends.1 ∙ skipped q u a x skips h.1.1
 
-behind_reads : (p q : Place) (t u : Lists) (text x : List ℕ) → Ends_at p q t u → Skips_blanks q u → read x p t ≡ read x q u → Reads Blanks text x → read text p t ≡ read x q u
+behind_reads : (p q : Place) (t u : Lists) (text x : List ℕ) → Ends_at p q t u → Skips_blanks q u → read x p t ≡ read x q u → Reads Blanks text x
+    → read text p t ≡ read x q u
 behind_reads p q t u text x ends skips same ([], h, e) = ap (λ z. read z p t) e ∙ same
 behind_reads p q t u text x ends skips same (b ∷ a, h, e) = gap_reads p q t u text x ends skips (b ∷ a, (omega arith, h), e)
 
@@ -153,9 +164,11 @@ record Ends_line (p : Place) (ending : Ending) (t u : Lists) : Type 0 where
 
 ends_here : (p : Place) (ending : Ending) (t u : Lists) (x : List ℕ) → Ends_line p ending t u → (Nothing or Comment) x → read x p t ≡ Some (line_of ending u)
 ends_here p ending t u x ends (inl none) = ap (λ z. read z p t) none ∙ ends.here
-ends_here p ending t u x ends (inr (text, e)) = ap (λ z. read z p t) e ∙ read_next p (InComment ending) Semicolon t u 59 text refl ends.next ends.lists ∙ comment_read text ending u
+ends_here p ending t u x ends (inr (text, e)) = ap (λ z. read z p t) e
+    ∙ read_next p (InComment ending) Semicolon t u 59 text refl ends.next ends.lists ∙ comment_read text ending u
 
-end_read : (p : Place) (ending : Ending) (t : Lists) (text : List ℕ) → Skips_blanks p t → Ends_line p ending t t → LineEnd text → read text p t ≡ Some (line_of ending t)
+end_read : (p : Place) (ending : Ending) (t : Lists) (text : List ℕ) → Skips_blanks p t → Ends_line p ending t t → LineEnd text
+    → read text p t ≡ Some (line_of ending t)
 end_read p ending t text skips ends (a, x, e, blanks, rest) = blanks_reads p t text x skips (a, blanks, e) ∙ ends_here p ending t t x ends rest
 
 -- the sides of a group
@@ -164,7 +177,8 @@ closed : (g : Header) (c : Bracket) (n : ℕ) (t : Lists) (y : List ℕ)
 closed g Square n t y = refl
 closed g Round n t y = refl
 
-same_close : (g : Header) (c : Bracket) (n : ℕ) (t : Lists) (y : List ℕ) → read (close_byte c ∷ y) (InNumber (SideOf g c) n) t ≡ read (close_byte c ∷ y) (BehindSide g c) (and_side (Some n) t)
+same_close : (g : Header) (c : Bracket) (n : ℕ) (t : Lists) (y : List ℕ)
+    → read (close_byte c ∷ y) (InNumber (SideOf g c) n) t ≡ read (close_byte c ∷ y) (BehindSide g c) (and_side (Some n) t)
 same_close g Square n t y = refl
 same_close g Round n t y = refl
 
@@ -176,7 +190,8 @@ sides_read g c (n ∷ []) t text y r =
     let b = split (Side n) Blanks a.0 (close_byte c ∷ y) a.2 in
     blanks_reads (BeforeSide g c) t text a.0 (refl, refl) a.1
     ∙ number_reads 15 n (BeforeSide g c) (SideOf g c) t a.0 b.0 (omega arith) (λ d. (refl, refl)) b.1
-    ∙ behind_reads (InNumber (SideOf g c) n) (BehindSide g c) t (and_side (Some n) t) b.0 (close_byte c ∷ y) (refl, refl) (refl, refl) (same_close g c n t y) b.2
+    ∙ behind_reads (InNumber (SideOf g c) n) (BehindSide g c) t (and_side (Some n) t) b.0 (close_byte c ∷ y) (refl, refl) (refl, refl)
+    (same_close g c n t y) b.2
     ∙ closed g c n (and_side (Some n) t) y
 sides_read g c (n ∷ m ∷ ns) t text y r =
     let a = split Blanks (Side n then Blanks then Is (codes ",") then Sides (m ∷ ns)) text (close_byte c ∷ y) r in
@@ -239,7 +254,8 @@ groups_reads p g (ns ∷ ms ∷ code) gs text y opens r =
     separated : (one two : List ℕ) → Reads (Nothing or Is (codes ",") then Blanks) one two
         → ((q : Place) → Opens q g (whole (gs ++ ns ∷ [])) → read two q (whole (gs ++ ns ∷ [])) ≡ read y (BehindGroup g) (whole ((gs ++ ns ∷ []) ++ ms ∷ code)))
         → read one (BehindGroup g) (whole (gs ++ ns ∷ [])) ≡ read y (BehindGroup g) (whole ((gs ++ ns ∷ []) ++ ms ∷ code))
-    separated one two (a, inl none, e) rest = ap (λ z. read z (BehindGroup g) (whole (gs ++ ns ∷ []))) (e ∙ ap (λ z. z ++ two) none) ∙ rest (BehindGroup g) (λ c. (refl, refl))
+    separated one two (a, inl none, e) rest = ap (λ z. read z (BehindGroup g) (whole (gs ++ ns ∷ []))) (e ∙ ap (λ z. z ++ two) none)
+        ∙ rest (BehindGroup g) (λ c. (refl, refl))
     separated one two (a, inr h, e) rest =
         let d = split (Is (codes ",")) Blanks one two (a, h, e) in
         ap (λ z. read z (BehindGroup g) (whole (gs ++ ns ∷ []))) (byte_is 44 one d.0 d.1)
@@ -247,7 +263,8 @@ groups_reads p g (ns ∷ ms ∷ code) gs text y opens r =
         ∙ rest (BeforeGroup g) (λ c. (refl, refl))
 
 -- groups and the end of the line
-code_read : (p : Place) (g : Header) (code : List (List ℕ)) (text : List ℕ) → Opens p g no_lists → (Groups code then LineEnd) text → read text p no_lists ≡ Some (item g code)
+code_read : (p : Place) (g : Header) (code : List (List ℕ)) (text : List ℕ) → Opens p g no_lists → (Groups code then LineEnd) text
+    → read text p no_lists ≡ Some (item g code)
 code_read p g code text opens (f, x, e, groups, end) =
     groups_reads p g code [] text x opens (f, groups, e)
     ∙ end_read (BehindGroup g) (Coded g) (whole code) x (refl, refl) (record { here = refl; next = refl; lists = refl }) end
@@ -264,7 +281,8 @@ groups_head (ns ∷ ms ∷ code) text (f, x, e, (a, y, e', group, rest), end) =
     subst (Heads (λ b. (b ≡ 91) ⊎ (b ≡ 40))) (sym (e ∙ ap (λ z. z ++ x) e' ∙ append_assoc a y x)) (group_head ns a (y ++ x) group)
 
 -- a code behind a number and blanks
-same_open : (p q : Place) (text : List ℕ) → ((c : Bracket) → next_place p (Open c) ≡ next_place q (Open c)) → ((c : Bracket) → lists_after p (Open c) no_lists ≡ lists_after q (Open c) no_lists)
+same_open : (p q : Place) (text : List ℕ) → ((c : Bracket) → next_place p (Open c) ≡ next_place q (Open c))
+    → ((c : Bracket) → lists_after p (Open c) no_lists ≡ lists_after q (Open c) no_lists)
     → Heads (λ b. (b ≡ 91) ⊎ (b ≡ 40)) text → read text p no_lists ≡ read text q no_lists
 same_open p q [] next lists h = absurd h
 same_open p q (b ∷ text) next lists h = elim h [
@@ -273,8 +291,10 @@ same_open p q (b ∷ text) next lists h = elim h [
 ]
   where
     both : (c : Bracket) → read (open_byte c ∷ text) p no_lists ≡ read (open_byte c ∷ text) q no_lists
-    both Square = ap (λ u. option_and_then (λ r. read text r u) (next_place p (Open Square))) (lists Square) ∙ ap (option_and_then (λ r. read text r (lists_after q (Open Square) no_lists))) (next Square)
-    both Round = ap (λ u. option_and_then (λ r. read text r u) (next_place p (Open Round))) (lists Round) ∙ ap (option_and_then (λ r. read text r (lists_after q (Open Round) no_lists))) (next Round)
+    both Square = ap (λ u. option_and_then (λ r. read text r u) (next_place p (Open Square))) (lists Square)
+        ∙ ap (option_and_then (λ r. read text r (lists_after q (Open Square) no_lists))) (next Square)
+    both Round = ap (λ u. option_and_then (λ r. read text r u) (next_place p (Open Round))) (lists Round)
+        ∙ ap (option_and_then (λ r. read text r (lists_after q (Open Round) no_lists))) (next Round)
 
 code_behind : (p q : Place) (g : Header) (code : List (List ℕ)) (text : List ℕ) → Ends_at p q no_lists no_lists → Skips_blanks q no_lists → Opens q g no_lists
     → ((c : Bracket) → next_place p (Open c) ≡ next_place q (Open c)) → ((c : Bracket) → lists_after p (Open c) no_lists ≡ lists_after q (Open c) no_lists)
@@ -299,7 +319,8 @@ column_end : (r : Table) (n : ℕ) (t : Lists) (text : List ℕ) → LineEnd tex
 column_end r n t text (a, x, e, blanks, rest) =
     let behind = ends_here (BehindColumn r) (Row r) (and_side (Some n) t) (and_side (Some n) t) x (record { here = refl; next = refl; lists = refl }) rest in
     let right_behind = ends_here (InNumber (Column r) n) (Row r) t (and_side (Some n) t) x (record { here = refl; next = refl; lists = refl }) rest in
-    behind_reads (InNumber (Column r) n) (BehindColumn r) t (and_side (Some n) t) text x (refl, refl) (refl, refl) (right_behind ∙ sym behind) (a, blanks, e) ∙ behind
+    behind_reads (InNumber (Column r) n) (BehindColumn r) t (and_side (Some n) t) text x (refl, refl) (refl, refl) (right_behind ∙ sym behind)
+    (a, blanks, e) ∙ behind
 
 columns_read : (p q : Place) (r : Table) (ns : List ℕ) (t u : Lists) (text y : List ℕ) → Ends_at p q t u → Skips_blanks q u → Begins_number q (Column r) u
     → Reads (TableSides ns) text y → LineEnd y → read text p t ≡ Some (row r (u.sides ++ ns))
@@ -327,14 +348,16 @@ line_is_read (Item (Some n) None code) bs (a, x, e, blanks, (f, y, e', header, r
     let k = b.2 in
     blanks_reads Start no_lists bs x (refl, refl) (a, blanks, e)
     ∙ number_reads 18 n Start First no_lists x b.0 (omega arith) (λ d. (refl, refl)) b.1
-    ∙ code_behind (InNumber First n) (BehindFirst n) (record { order = Some n; size = None }) code b.0 (refl, refl) (refl, refl) (λ c. (refl, refl)) (λ c. refl) (λ c. refl)
+    ∙ code_behind (InNumber First n) (BehindFirst n) (record { order = Some n; size = None }) code b.0 (refl, refl) (refl, refl) (λ c. (refl, refl))
+    (λ c. refl) (λ c. refl)
     (k.0, y, k.2, k.1, rest)
 line_is_read (Item None (Some (w, h)) code) bs (a, x, e, blanks, (f, y, e', header, rest)) =
     let b = split (Size (w, h)) Blanks x y (f, header, e') in
     let k = b.2 in
     blanks_reads Start no_lists bs x (refl, refl) (a, blanks, e)
     ∙ size_reads Start First None w h x b.0 (omega arith) (λ d. (refl, refl)) refl refl b.1
-    ∙ code_behind (InNumber (Height None w) h) (BeforeGroup (record { order = None; size = Some (w, h) })) (record { order = None; size = Some (w, h) }) code b.0
+    ∙ code_behind (InNumber (Height None w) h) (BeforeGroup (record { order = None; size = Some (w, h) }))
+    (record { order = None; size = Some (w, h) }) code b.0
     (refl, refl) (refl, refl) (λ c. (refl, refl)) (λ c. refl) (λ c. refl) (k.0, y, k.2, k.1, rest)
 line_is_read (Item (Some n) (Some (w, h)) code) bs (a, x, e, blanks, (f, y, e', header, rest)) =
     let b = split (Number 18 n) (SomeBlanks then Size (w, h) then Blanks) x y (f, header, e') in
@@ -345,16 +368,19 @@ line_is_read (Item (Some n) (Some (w, h)) code) bs (a, x, e, blanks, (f, y, e', 
     ∙ number_reads 18 n Start First no_lists x b.0 (omega arith) (λ d. (refl, refl)) b.1
     ∙ gap_reads (InNumber First n) (BehindFirst n) no_lists no_lists b.0 d.0 (refl, refl) (refl, refl) d.1
     ∙ size_reads (BehindFirst n) (Second n) (Some n) w h d.0 s.0 (omega arith) (λ d. (refl, refl)) refl refl s.1
-    ∙ code_behind (InNumber (Height (Some n) w) h) (BeforeGroup (record { order = Some n; size = Some (w, h) })) (record { order = Some n; size = Some (w, h) }) code s.0
+    ∙ code_behind (InNumber (Height (Some n) w) h) (BeforeGroup (record { order = Some n; size = Some (w, h) }))
+    (record { order = Some n; size = Some (w, h) }) code s.0
     (refl, refl) (refl, refl) (λ c. (refl, refl)) (λ c. refl) (λ c. refl) (k.0, y, k.2, k.1, rest)
-line_is_read (Flat n w h ns) bs (a, x, e, blanks, (f, x1, e1, num, (g, x2, e2, gap, (f', x3, e3, num', (g', x4, e4, gap', (f'', x5, e5, num'', (s, x6, e6, sides, end))))))) =
+line_is_read (Flat n w h ns) bs
+    (a, x, e, blanks, (f, x1, e1, num, (g, x2, e2, gap, (f', x3, e3, num', (g', x4, e4, gap', (f'', x5, e5, num'', (s, x6, e6, sides, end))))))) =
     blanks_reads Start no_lists bs x (refl, refl) (a, blanks, e)
     ∙ number_reads 18 n Start First no_lists x x1 (omega arith) (λ d. (refl, refl)) (f, num, e1)
     ∙ gap_reads (InNumber First n) (BehindFirst n) no_lists no_lists x1 x2 (refl, refl) (refl, refl) (g, gap, e2)
     ∙ number_reads 18 w (BehindFirst n) (Second n) no_lists x2 x3 (omega arith) (λ d. (refl, refl)) (f', num', e3)
     ∙ gap_reads (InNumber (Second n) w) (BehindSecond n w) no_lists no_lists x3 x4 (refl, refl) (refl, refl) (g', gap', e4)
     ∙ number_reads 18 h (BehindSecond n w) (Third n w) no_lists x4 x5 (omega arith) (λ d. (refl, refl)) (f'', num'', e5)
-    ∙ columns_read (InNumber (Third n w) h) (BehindThird (record { order = n; width = w; height = h })) (record { order = n; width = w; height = h }) ns no_lists no_lists x5 x6
+    ∙ columns_read (InNumber (Third n w) h) (BehindThird (record { order = n; width = w; height = h })) (record { order = n; width = w; height = h })
+    ns no_lists no_lists x5 x6
     (refl, refl) (refl, refl) (λ d. (refl, refl)) (s, sides, e6) end
 
 -- a line stands for one thing only

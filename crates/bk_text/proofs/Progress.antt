@@ -6,7 +6,8 @@ use Rattle.std.proofs.lemmas.List.{append-nil, take_more}
 use Rattle.bk_code.specs.Code.{flat}
 use Rattle.bk_tiling.specs.Kept.{IsSide}
 use Rattle.bk_text.specs.CodeLine.{Flat, IsLine, IsNoLine, Item, Line}
-use Rattle.bk_text.specs.Gathered.{Gathered, IsGathered, gathered_after, kept_count, line_gathered, nothing_gathered, with_closed, with_ended, with_group, with_side}
+use Rattle.bk_text.specs.Gathered.{Gathered, IsGathered, gathered_after, kept_count, line_gathered, nothing_gathered, with_closed, with_ended}
+use Rattle.bk_text.specs.Gathered.{with_group, with_side}
 use Rattle.bk_text.specs.ReadLine.{sides_of_line}
 use Rattle.bk_text.specs.Reader.{closes_group, ended_side, ending_at, kind_of, last_side, next_place}
 use Rattle.bk_text.specs.declared.reader.Ending.{Ending}
@@ -52,7 +53,11 @@ keeps_side n g t is keeps = cases (nat_lt (kept_count g) 200) (λ e. ltb-true (k
     which false e full = omega (arith, all e, longer, full)
 
     cases : (room : Bool) → (room ≡ true → kept_count g < 200) → (room ≡ false → 200 ≤ kept_count g)
-        → Keeps (if room then record { groups = g.groups; sides = g.sides ++ n ∷ []; many = g.many } else record { groups = g.groups; sides = g.sides; many = true }) (record { groups = t.groups; sides = t.sides ++ n ∷ [] })
+        → Keeps (if room then record { groups = g.groups; sides = g.sides ++ n ∷ []; many = g.many } else record {
+          groups = g.groups;
+          sides = g.sides;
+          many = true;
+        }) (record { groups = t.groups; sides = t.sides ++ n ∷ [] })
     cases true fits full = record {
       groups = keeps.groups;
       sides = λ e. ap (λ z. z ++ n ∷ []) (keeps.sides e);
@@ -72,13 +77,16 @@ keeps_ended (Some n) g t is keeps = keeps_side n g t is keeps
 moved : (t : Lists) → length (flat (t.groups ++ t.sides ∷ [])) + 0 ≡ read_count t
 moved t =
     let joined : flat (t.groups ++ t.sides ∷ []) ≡ flat t.groups ++ (t.sides ++ []) = flat_map-append (λ (x : List ℕ). x) t.groups (t.sides ∷ []) in
-    let size : length (flat t.groups ++ (t.sides ++ [])) ≡ length (flat t.groups) + length t.sides = ap (λ (z : List ℕ). length (flat t.groups ++ z)) (append-nil t.sides) ∙ length-append (flat t.groups) t.sides in
+    let size : length (flat t.groups ++ (t.sides ++ [])) ≡ length (flat t.groups) + length t.sides =
+    ap (λ (z : List ℕ). length (flat t.groups ++ z)) (append-nil t.sides) ∙ length-append (flat t.groups) t.sides in
     omega (arith, size, ap (λ (z : List ℕ). length z) joined)
 
 keeps_group : (g : Gathered) (t : Lists) → Keeps g t → Keeps (with_group g) (record { groups = t.groups ++ t.sides ∷ []; sides = [] })
 keeps_group g t keeps = cases g.many refl
   where
-    cases : (many : Bool) → g.many ≡ many → Keeps (if many then g else record { groups = g.groups ++ g.sides ∷ []; sides = []; many = false }) (record { groups = t.groups ++ t.sides ∷ []; sides = [] })
+    cases : (many : Bool) → g.many ≡ many
+        → Keeps (if many then g else record { groups = g.groups ++ g.sides ∷ []; sides = []; many = false })
+        (record { groups = t.groups ++ t.sides ∷ []; sides = [] })
     cases true e = record { groups = λ few. absurd (cc); sides = λ few. absurd (cc); more = λ many. omega (arith, keeps.more e, moved t) }
     cases false e = record { groups = λ few i. keeps.groups e i ++ keeps.sides e i ∷ []; sides = λ few. refl; more = λ many. absurd (cc) }
 
@@ -94,7 +102,8 @@ pub last_fits : (front : List ℕ) (p : Place) (g : Gathered) → Progress front
 last_fits front p g progress n e = last_is_side p progress.lists progress.fits n e
 
 abbrev with_room : Bool → ℕ → Gathered → Gathered
-with_room room n g = if room then record { groups = g.groups; sides = g.sides ++ n ∷ []; many = g.many } else record { groups = g.groups; sides = g.sides; many = true }
+with_room room n g =
+    if room then record { groups = g.groups; sides = g.sides ++ n ∷ []; many = g.many } else record { groups = g.groups; sides = g.sides; many = true }
 
 side_added : (n : ℕ) (g : Gathered) → (with_side n g).many ≡ false → 0 < length (with_side n g).sides
 side_added n g few = cases (nat_lt (kept_count g) 200) few
@@ -116,26 +125,31 @@ pub one_more : (front : List ℕ) (p q : Place) (g : Gathered) (b : ℕ) → Pro
 one_more front p q g b progress is next = record {
   lists = lists_after p (kind_of b) progress.lists;
   leads = leads_on front p q progress.lists b progress.leads next;
-  fits = subst (λ (o : Option Place). FitsNext o (lists_after p (kind_of b) progress.lists)) next (fits_after p (kind_of b) progress.lists b (means b) progress.fits);
+  fits = subst (λ (o : Option Place). FitsNext o (lists_after p (kind_of b) progress.lists)) next
+      (fits_after p (kind_of b) progress.lists b (means b) progress.fits);
   keeps = keeps_closed (closes_group p (kind_of b)) (with_ended (ended_side p (kind_of b)) g) (and_side (ended_side p (kind_of b)) progress.lists)
       (keeps_ended (ended_side p (kind_of b)) g progress.lists is progress.keeps);
 }
 
 -- the same behind a place of the bytes
-pub one_further : (bs : List ℕ) (i : ℕ) (p q : Place) (g : Gathered) → i < length bs → Progress (take i bs) p g → IsGathered g → next_place p (kind_of (get_or bs i 0)) ≡ Some q
+pub one_further : (bs : List ℕ) (i : ℕ) (p q : Place) (g : Gathered) → i < length bs → Progress (take i bs) p g → IsGathered g
+    → next_place p (kind_of (get_or bs i 0)) ≡ Some q
     → Progress (take (i + 1) bs) q (gathered_after p (kind_of (get_or bs i 0)) g)
 one_further bs i p q g within progress is next =
-    subst (λ (z : List ℕ). Progress z q (gathered_after p (kind_of (get_or bs i 0)) g)) (sym (take_more bs i 0 within)) (one_more (take i bs) p q g (get_or bs i 0) progress is next)
+    subst (λ (z : List ℕ). Progress z q (gathered_after p (kind_of (get_or bs i 0)) g)) (sym (take_more bs i 0 within))
+    (one_more (take i bs) p q g (get_or bs i 0) progress is next)
 
 -- where the reader stops, the bytes leave the grammar
-pub no_next : (bs : List ℕ) (i : ℕ) (p : Place) (g : Gathered) → i < length bs → Progress (take i bs) p g → next_place p (kind_of (get_or bs i 0)) ≡ None → IsNoLine bs i
+pub no_next : (bs : List ℕ) (i : ℕ) (p : Place) (g : Gathered) → i < length bs → Progress (take i bs) p g
+    → next_place p (kind_of (get_or bs i 0)) ≡ None → IsNoLine bs i
 no_next bs i p g within progress none = stops_at bs i p progress.lists within progress.leads none
 
 pub no_ending : (bs : List ℕ) (p : Place) (g : Gathered) → Progress bs p g → ending_at p ≡ None → IsNoLine bs (length bs)
 no_ending bs p g progress none = stops_at_end bs p progress.lists progress.leads none
 
 -- at an end the bytes are a line
-whole_line : (bs : List ℕ) (p : Place) (g : Gathered) (ending : Ending) (progress : Progress bs p g) → ending_at p ≡ Some ending → IsLine (line_of ending (and_side (last_side p) progress.lists)) bs
+whole_line : (bs : List ℕ) (p : Place) (g : Gathered) (ending : Ending) (progress : Progress bs p g) → ending_at p ≡ Some ending
+    → IsLine (line_of ending (and_side (last_side p) progress.lists)) bs
 whole_line bs p g ending progress ends =
     read_is_line bs (line_of ending (and_side (last_side p) progress.lists))
     (read_whole bs p progress.lists progress.leads ∙ ap (λ e. line_at e (and_side (last_side p) progress.lists)) ends)
@@ -148,7 +162,9 @@ same_line (Row r) g t keeps few = ap (Flat r.order r.width r.height) (sym (keeps
 pub line_found : (bs : List ℕ) (p : Place) (g : Gathered) (ending : Ending) → Progress bs p g → IsGathered g → ending_at p ≡ Some ending
     → (with_ended (last_side p) g).many ≡ false → IsLine (line_gathered ending (with_ended (last_side p) g)) bs
 line_found bs p g ending progress is ends few =
-    subst (λ (l : Line). IsLine l bs) (same_line ending (with_ended (last_side p) g) (and_side (last_side p) progress.lists) (keeps_ended (last_side p) g progress.lists is progress.keeps) few)
+    subst (λ (l : Line). IsLine l bs)
+    (same_line ending (with_ended (last_side p) g) (and_side (last_side p) progress.lists)
+    (keeps_ended (last_side p) g progress.lists is progress.keeps) few)
     (whole_line bs p g ending progress ends)
 
 pub many_found : (bs : List ℕ) (p : Place) (g : Gathered) (ending : Ending) → Progress bs p g → IsGathered g → ending_at p ≡ Some ending

@@ -9,7 +9,8 @@ use Rattle.bk_text.specs.declared.reader.Field.{Field}
 use Rattle.bk_text.specs.declared.reader.Field.TheVariants.{Column, First, Height, Second, Side as SideOf, Third}
 use Rattle.bk_text.specs.declared.reader.Header.{Header}
 use Rattle.bk_text.specs.declared.reader.Place.{Place}
-use Rattle.bk_text.specs.declared.reader.Place.TheVariants.{BeforeGroup, BeforeHeight, BeforeSide, BehindColumn, BehindFirst, BehindGroup, BehindSecond, BehindSide, BehindThird, Comment, Number as InNumber, Start}
+use Rattle.bk_text.specs.declared.reader.Place.TheVariants.{BeforeGroup, BeforeHeight, BeforeSide, BehindColumn, BehindFirst, BehindGroup}
+use Rattle.bk_text.specs.declared.reader.Place.TheVariants.{BehindSecond, BehindSide, BehindThird, Comment, Number as InNumber, Start}
 use Rattle.bk_text.specs.declared.reader.Table.{Table}
 use Rattle.bk_text.proofs.ByteKinds.{close_byte}
 use Rattle.bk_text.proofs.KeepingAll.{Lists, line_of}
@@ -87,7 +88,8 @@ NumberRest (Second order) n t l bs = SecondRest SomeBlanks order n t l bs ⊎ ((
 NumberRest (Height order width) n t l bs = (code : List (List ℕ)) × CodeRest code bs × (l ≡ Item order (Some (width, n)) (onto t code))
 NumberRest (Third order width) n t l bs = (side : ℕ) × (ns : List ℕ) × Columns (side ∷ ns) bs × (l ≡ Flat order width n (t.sides ++ side ∷ ns))
 NumberRest (Column r) n t l bs = (ns : List ℕ) × Columns ns bs × (l ≡ row r (t.sides ++ n ∷ ns))
-NumberRest (SideOf h bracket) n t l bs = (ns : List ℕ) × (gs : List (List ℕ)) × MoreSidesRest bracket ns gs bs × (l ≡ item h (t.groups ++ (t.sides ++ n ∷ ns) ∷ gs))
+NumberRest (SideOf h bracket) n t l bs =
+    (ns : List ℕ) × (gs : List (List ℕ)) × MoreSidesRest bracket ns gs bs × (l ≡ item h (t.groups ++ (t.sides ++ n ∷ ns) ∷ gs))
 
 -- what completes the line l
 abbrev pub Rest : Place → Lists → Line → List ℕ → Type 0

@@ -35,8 +35,10 @@ pub short_group : (ns : List ℕ) → IsSideGroup ns → length (group_text ns) 
 short_group [] group = absurd (omega (arith, group.0))
 short_group (n ∷ ns) group =
     let text = joined n ns in
-    let all : length (join_with_byte 44 (map decimal (n ∷ ns)) ++ 93 ∷ []) ≡ length (join_with_byte 44 (map decimal (n ∷ ns))) + 1 = length-append (join_with_byte 44 (map decimal (n ∷ ns))) (93 ∷ []) in
-    let parts : length (join_with_byte 44 (map decimal (n ∷ ns))) ≡ length (decimal n) + length (flat_map side_text ns) = ap length text ∙ length-append (decimal n) (flat_map side_text ns) in
+    let all : length (join_with_byte 44 (map decimal (n ∷ ns)) ++ 93 ∷ []) ≡ length (join_with_byte 44 (map decimal (n ∷ ns))) + 1 =
+    length-append (join_with_byte 44 (map decimal (n ∷ ns))) (93 ∷ []) in
+    let parts : length (join_with_byte 44 (map decimal (n ∷ ns))) ≡ length (decimal n) + length (flat_map side_text ns) = ap length text
+    ∙ length-append (decimal n) (flat_map side_text ns) in
     omega (arith, all, parts, short_side n group.1.0, short_sides ns group.1.1)
 
 pub short_code : (code : Code) → AllByRecursion IsSideGroup code → length (code_text code) ≤ 17 * length (flat code)
@@ -52,14 +54,16 @@ at_place P (n ∷ ns) (suc i) all within = at_place P ns i all.1 (omega (arith, 
 
 -- the text of a group is written whole
 pub whole_group : (ns old mid new : List ℕ) (i : ℕ) → 0 < length ns → length ns ≤ i + 1
-    → mid ≡ old ++ 91 ∷ decimal (get_or ns 0 0) ++ flat_map side_text (take i (take (length ns - 1) (drop 1 ns))) → new ≡ mid ++ 93 ∷ [] → new ≡ old ++ group_text ns
+    → mid ≡ old ++ 91 ∷ decimal (get_or ns 0 0) ++ flat_map side_text (take i (take (length ns - 1) (drop 1 ns))) → new ≡ mid ++ 93 ∷ []
+    → new ≡ old ++ group_text ns
 whole_group ns old mid new i some all text end =
     let tail : List ℕ = drop 1 ns in
     let first : List ℕ = 91 ∷ decimal (get_or ns 0 0) in
     let size : length tail ≡ length ns - 1 = length-drop 1 ns in
     let whole : take (length ns - 1) tail ≡ tail = take_all (length ns - 1) tail (omega arith) in
     let rest : take i (take (length ns - 1) tail) ≡ tail = ap (take i) whole ∙ take_all i tail (omega arith) in
-    let front : mid ≡ old ++ (first ++ flat_map side_text tail) = text ∙ ap (λ x. old ++ first ++ flat_map side_text x) rest ∙ append_assoc old first (flat_map side_text tail) in
+    let front : mid ≡ old ++ (first ++ flat_map side_text tail) = text ∙ ap (λ x. old ++ first ++ flat_map side_text x) rest
+    ∙ append_assoc old first (flat_map side_text tail) in
     end ∙ ap (λ x. x ++ 93 ∷ []) front ∙ append_assoc old (first ++ flat_map side_text tail) (93 ∷ [])
     ∙ ap (λ x. old ++ x) (sym (group_by_sides ns some))
 
@@ -69,7 +73,8 @@ groups_front [] (suc g) all = tt
 groups_front (k ∷ code) (suc g) all = (all.0, groups_front code g all.1)
 
 -- behind some groups of a code there is room for the next
-pub room_for_group : (code : Code) (old mid : List ℕ) (g : ℕ) → IsKeptCode code → length old + 3400 ≤ 9000 → mid ≡ old ++ code_text (take g code) → g < length code
+pub room_for_group : (code : Code) (old mid : List ℕ) (g : ℕ) → IsKeptCode code → length old + 3400 ≤ 9000 → mid ≡ old ++ code_text (take g code)
+    → g < length code
     → length mid + 17 * length (get_or code g []) ≤ 9000
 room_for_group code old mid g kept room text within =
     let size : length mid ≡ length old + length (code_text (take g code)) = ap length text ∙ length-append old (code_text (take g code)) in

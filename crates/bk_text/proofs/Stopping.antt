@@ -9,7 +9,8 @@ use Rattle.bk_text.specs.Reader.{ending_at, kind_of, last_side, next_place}
 use Rattle.bk_text.specs.declared.reader.Bracket.TheVariants.{Round, Square}
 use Rattle.bk_text.specs.declared.reader.Field.TheVariants.{Column, First, Height, Second, Side as SideOf, Third}
 use Rattle.bk_text.specs.declared.reader.Place.{Place}
-use Rattle.bk_text.specs.declared.reader.Place.TheVariants.{BeforeGroup, BeforeHeight, BeforeSide, BehindColumn, BehindFirst, BehindGroup, BehindSecond, BehindSide, BehindThird, Comment as InComment, Number as InNumber, Start}
+use Rattle.bk_text.specs.declared.reader.Place.TheVariants.{BeforeGroup, BeforeHeight, BeforeSide, BehindColumn, BehindFirst, BehindGroup}
+use Rattle.bk_text.specs.declared.reader.Place.TheVariants.{BehindSecond, BehindSide, BehindThird, Comment as InComment, Number as InNumber, Start}
 use Rattle.bk_text.proofs.KeepingAll.{Lists, and_side, line_at, lists_after, no_lists, read}
 use Rattle.bk_text.proofs.LinesRead.{line_is_read, read_next}
 use Rattle.bk_text.proofs.WhatWasRead.{read_is_line}
@@ -49,9 +50,11 @@ completion (InComment ending) t = ([], tt)
 abbrev pub Leads : List ℕ → Place → Lists → Type 0
 Leads front p t = (x : List ℕ) → read (front ++ x) Start no_lists ≡ read x p t
 
-pub leads_on : (front : List ℕ) (p q : Place) (t : Lists) (b : ℕ) → Leads front p t → next_place p (kind_of b) ≡ Some q → Leads (front ++ b ∷ []) q (lists_after p (kind_of b) t)
+pub leads_on : (front : List ℕ) (p q : Place) (t : Lists) (b : ℕ) → Leads front p t → next_place p (kind_of b) ≡ Some q
+    → Leads (front ++ b ∷ []) q (lists_after p (kind_of b) t)
 leads_on front p q t b leads next x =
-    ap (λ z. read z Start no_lists) (append_assoc front (b ∷ []) x) ∙ leads (b ∷ x) ∙ read_next p q (kind_of b) t (lists_after p (kind_of b) t) b x refl next refl
+    ap (λ z. read z Start no_lists) (append_assoc front (b ∷ []) x) ∙ leads (b ∷ x)
+    ∙ read_next p q (kind_of b) t (lists_after p (kind_of b) t) b x refl next refl
 
 -- a front that leads to a place begins a line
 begins : (front : List ℕ) (p : Place) (t : Lists) → Leads front p t → Begins SomeLine front
@@ -68,7 +71,8 @@ no_more front p t b x leads none (l, line) =
     absurd (cc)
 
 -- the bytes leave the grammar where the reader has no place for the next one
-pub stops_at : (bs : List ℕ) (at : ℕ) (p : Place) (t : Lists) → at < length bs → Leads (take at bs) p t → next_place p (kind_of (get_or bs at 0)) ≡ None → IsNoLine bs at
+pub stops_at : (bs : List ℕ) (at : ℕ) (p : Place) (t : Lists) → at < length bs → Leads (take at bs) p t
+    → next_place p (kind_of (get_or bs at 0)) ≡ None → IsNoLine bs at
 stops_at bs at p t within leads none =
     leaves_before SomeLine bs at within (begins (take at bs) p t leads) (λ x. no_more (take at bs) p t (get_or bs at 0) x leads none)
 

@@ -1,6 +1,7 @@
 -- What is read is a line, and stands for what was read.
 use Rattle.std.specs.Char.{digit_value}
-use Rattle.std.specs.Prelude.{Bool, List, None, Option, Some, [], codes, if◌then◌else◌, nat_le, option_and_then, refl, true, ℕ, ◌*◌, ◌++◌, ◌+◌, ◌/◌, ◌<◌, ◌^◌, ◌∷◌, ◌≡◌, ◌≤◌}
+use Rattle.std.specs.Prelude.{Bool, List, None, Option, Some, [], codes, if◌then◌else◌, nat_le, option_and_then, refl, true, ℕ, ◌*◌, ◌++◌, ◌+◌, ◌/◌}
+use Rattle.std.specs.Prelude.{◌<◌, ◌^◌, ◌∷◌, ◌≡◌, ◌≤◌}
 use Rattle.std.specs.Str.Parse.{digits_value_after}
 use Rattle.std.proofs.Common.{ap, append_assoc, arith, false, inl, inr, leb-true, subst, sym, ◌∙◌}
 use Rattle.std.proofs.lemmas.List.{append-nil}
@@ -12,7 +13,8 @@ use Rattle.bk_text.specs.declared.reader.Bracket.TheVariants.{Round, Square}
 use Rattle.bk_text.specs.declared.reader.Field.{Field}
 use Rattle.bk_text.specs.declared.reader.Field.TheVariants.{Column, First, Height, Second, Side as SideOf, Third}
 use Rattle.bk_text.specs.declared.reader.Kind.TheVariants.{Blank, Close, Comma, Cross, Digit, Open, Semicolon, Zero}
-use Rattle.bk_text.specs.declared.reader.Place.TheVariants.{BeforeGroup, BeforeHeight, BeforeSide, BehindColumn, BehindFirst, BehindGroup, BehindSecond, BehindSide, BehindThird, Comment as InComment, Number as InNumber, Start}
+use Rattle.bk_text.specs.declared.reader.Place.TheVariants.{BeforeGroup, BeforeHeight, BeforeSide, BehindColumn, BehindFirst, BehindGroup}
+use Rattle.bk_text.specs.declared.reader.Place.TheVariants.{BehindSecond, BehindSide, BehindThird, Comment as InComment, Number as InNumber, Start}
 use Rattle.bk_text.specs.declared.reader.Table.{Table}
 use Rattle.bk_grammar.proofs.FirstByte.{blank_first, byte_first, comment_first, gap_first, no_blank, regroup, under}
 use Rattle.bk_grammar.proofs.NumbersRead.{Longer, number_read, value_of_digit}
@@ -20,7 +22,8 @@ use Rattle.bk_text.specs.declared.reader.Kind.{Kind}
 use Rattle.bk_text.specs.declared.reader.Place.{Place}
 use Rattle.bk_text.proofs.ByteKinds.{Means, close_byte, means, open_byte}
 use Rattle.bk_text.proofs.KeepingAll.{Lists, and_side, line_at, line_of, lists_after, no_lists, read}
-use Rattle.bk_text.proofs.Rests.{CodeRest, Columns, ColumnsAfterBlanks, FirstRest, GroupsRest, MoreSides, MoreSidesRest, NumberRest, Rest, RestAfter, SidesRest, item, line_onto, onto, row}
+use Rattle.bk_text.proofs.Rests.{CodeRest, Columns, ColumnsAfterBlanks, FirstRest, GroupsRest, MoreSides, MoreSidesRest, NumberRest, Rest, RestAfter}
+use Rattle.bk_text.proofs.Rests.{SidesRest, item, line_onto, onto, row}
 
 groups_blank : (gs : List (List ℕ)) (b : ℕ) (bs : List ℕ) → IsBlank b → GroupsRest gs bs → GroupsRest gs (b ∷ bs)
 groups_blank [] b bs blank h = blank_first (Nothing or Comment) b bs blank h
@@ -39,18 +42,23 @@ sides_blank [] b bs blank h = h
 sides_blank (n ∷ []) b bs blank h = blank_first (Side n then Blanks) b bs blank h
 sides_blank (n ∷ m ∷ ns) b bs blank h = blank_first (Side n then Blanks then Is (codes ",") then Sides (m ∷ ns)) b bs blank h
 
-sides_rest_blank : (bracket : Bracket) (ns : List ℕ) (gs : List (List ℕ)) (b : ℕ) (bs : List ℕ) → IsBlank b → SidesRest bracket ns gs bs → SidesRest bracket ns gs (b ∷ bs)
+sides_rest_blank : (bracket : Bracket) (ns : List ℕ) (gs : List (List ℕ)) (b : ℕ) (bs : List ℕ) → IsBlank b → SidesRest bracket ns gs bs
+    → SidesRest bracket ns gs (b ∷ bs)
 sides_rest_blank bracket ns gs b bs blank (s, x, e, sides, rest) = (b ∷ s, x, ap (λ z. b ∷ z) e, sides_blank ns b s blank sides, rest)
 
 first_blank : (n : ℕ) (t : Lists) (l : Line) (b : ℕ) (bs : List ℕ) → IsBlank b → FirstRest Blanks n t l bs → FirstRest Blanks n t l (b ∷ bs)
 first_blank n t l b bs blank (inl (code, h, e)) = inl (code, blank_first (Groups code then LineEnd) b bs blank h, e)
-first_blank n t l b bs blank (inr (inl (w, k, code, h, e))) = inr (inl (w, k, code, blank_first (Number 18 w then Is (codes "x") then Number 18 k then CodeRest code) b bs blank h, e))
-first_blank n t l b bs blank (inr (inr (w, k, m, ns, h, e))) = inr (inr (w, k, m, ns, blank_first (Number 18 w then SomeBlanks then Number 18 k then Columns (m ∷ ns)) b bs blank h, e))
+first_blank n t l b bs blank (inr (inl (w, k, code, h, e))) =
+    inr (inl (w, k, code, blank_first (Number 18 w then Is (codes "x") then Number 18 k then CodeRest code) b bs blank h, e))
+first_blank n t l b bs blank (inr (inr (w, k, m, ns, h, e))) =
+    inr (inr (w, k, m, ns, blank_first (Number 18 w then SomeBlanks then Number 18 k then Columns (m ∷ ns)) b bs blank h, e))
 
 first_gap : (n : ℕ) (t : Lists) (l : Line) (b : ℕ) (bs : List ℕ) → IsBlank b → FirstRest Blanks n t l bs → FirstRest SomeBlanks n t l (b ∷ bs)
 first_gap n t l b bs blank (inl (code, h, e)) = inl (code, blank_first (Groups code then LineEnd) b bs blank h, e)
-first_gap n t l b bs blank (inr (inl (w, k, code, h, e))) = inr (inl (w, k, code, gap_first (Number 18 w then Is (codes "x") then Number 18 k then CodeRest code) b bs blank h, e))
-first_gap n t l b bs blank (inr (inr (w, k, m, ns, h, e))) = inr (inr (w, k, m, ns, gap_first (Number 18 w then SomeBlanks then Number 18 k then Columns (m ∷ ns)) b bs blank h, e))
+first_gap n t l b bs blank (inr (inl (w, k, code, h, e))) =
+    inr (inl (w, k, code, gap_first (Number 18 w then Is (codes "x") then Number 18 k then CodeRest code) b bs blank h, e))
+first_gap n t l b bs blank (inr (inr (w, k, m, ns, h, e))) =
+    inr (inr (w, k, m, ns, gap_first (Number 18 w then SomeBlanks then Number 18 k then Columns (m ∷ ns)) b bs blank h, e))
 
 line_blank : (l : Line) (b : ℕ) (bs : List ℕ) → IsBlank b → IsLine l bs → IsLine l (b ∷ bs)
 line_blank Skip b bs blank (a, x, e, ha, hx) = (b ∷ a, x, ap (λ z. b ∷ z) e, (blank, ha), hx)
@@ -62,30 +70,40 @@ group_and_rest : (g : List ℕ) (gs : List (List ℕ)) (f x : List ℕ) → Grou
 group_and_rest g [] f x group rest = (f, x, refl, group, rest)
 group_and_rest g (h ∷ gs) f x group (a, y, e, blanks, (c, z, e', comma, (k, end, e'', groups, ending))) =
     let all : x ≡ a ++ (c ++ (k ++ end)) = e ∙ ap (λ v. a ++ v) (e' ∙ ap (λ v. c ++ v) e'') in
-    let regrouped : f ++ (a ++ (c ++ (k ++ end))) ≡ (f ++ (a ++ (c ++ k))) ++ end = simp append_assoc in
-    (f ++ (a ++ (c ++ k)), end, ap (λ v. f ++ v) all ∙ regrouped, (f, a ++ (c ++ k), refl, group, (a, c ++ k, refl, blanks, (c, k, refl, comma, groups))), ending)
+    let regrouped : f ++ (a ++ (c ++ (k ++ end))) ≡ (f ++ (a ++ (c ++ k))) ++ end = simp append_assoc in (
+      f ++ (a ++ (c ++ k)),
+      end,
+      ap (λ v. f ++ v) all ∙ regrouped,
+      (f, a ++ (c ++ k), refl, group, (a, c ++ k, refl, blanks, (c, k, refl, comma, groups))),
+      ending,
+    )
 
 group_made : (bracket : Bracket) (ns f c : List ℕ) → Sides ns f → c ≡ close_byte bracket ∷ [] → Group ns (open_byte bracket ∷ (f ++ c))
 group_made Square ns f c sides close = inl (91 ∷ [], f ++ c, refl, refl, (f, c, refl, sides, close))
 group_made Round ns f c sides close = inr (40 ∷ [], f ++ c, refl, refl, (f, c, refl, sides, close))
 
-opened : (bracket : Bracket) (ns : List ℕ) (gs : List (List ℕ)) (b : ℕ) (bs : List ℕ) → b ≡ open_byte bracket → SidesRest bracket ns gs bs → (Groups (ns ∷ gs) then LineEnd) (b ∷ bs)
+opened : (bracket : Bracket) (ns : List ℕ) (gs : List (List ℕ)) (b : ℕ) (bs : List ℕ) → b ≡ open_byte bracket → SidesRest bracket ns gs bs
+    → (Groups (ns ∷ gs) then LineEnd) (b ∷ bs)
 opened bracket ns gs b bs is (f, x, e, sides, (c, y, e', close, rest)) =
-    let whole : (open_byte bracket ∷ (f ++ c)) ++ y ≡ b ∷ bs = ap (λ z. open_byte bracket ∷ z) (append_assoc f c y ∙ ap (λ z. f ++ z) (sym e') ∙ sym e) ∙ ap (λ z. z ∷ bs) (sym is) in
+    let whole : (open_byte bracket ∷ (f ++ c)) ++ y ≡ b ∷ bs =
+    ap (λ z. open_byte bracket ∷ z) (append_assoc f c y ∙ ap (λ z. f ++ z) (sym e') ∙ sym e) ∙ ap (λ z. z ∷ bs) (sym is) in
     subst (Groups (ns ∷ gs) then LineEnd) whole (group_and_rest ns gs (open_byte bracket ∷ (f ++ c)) y (group_made bracket ns f c sides close) rest)
 
 -- a side and what follows
 side_and_more : (n : ℕ) (ns f a m : List ℕ) → Side n f → Blanks a → MoreSides ns m → Sides (n ∷ ns) (f ++ (a ++ m))
-side_and_more n [] f a m side blanks more = ([], f ++ (a ++ m), refl, tt, (f, a ++ m, refl, side, subst Blanks (sym (append-nil a) ∙ ap (λ z. a ++ z) (sym more)) blanks))
+side_and_more n [] f a m side blanks more =
+    ([], f ++ (a ++ m), refl, tt, (f, a ++ m, refl, side, subst Blanks (sym (append-nil a) ∙ ap (λ z. a ++ z) (sym more)) blanks))
 side_and_more n (k ∷ ns) f a m side blanks more = ([], f ++ (a ++ m), refl, tt, (f, a ++ m, refl, side, (a, m, refl, blanks, more)))
 
-side_first : (bracket : Bracket) (n : ℕ) (ns : List ℕ) (gs : List (List ℕ)) (f x : List ℕ) → Side n f → MoreSidesRest bracket ns gs x → SidesRest bracket (n ∷ ns) gs (f ++ x)
+side_first : (bracket : Bracket) (n : ℕ) (ns : List ℕ) (gs : List (List ℕ)) (f x : List ℕ) → Side n f → MoreSidesRest bracket ns gs x
+    → SidesRest bracket (n ∷ ns) gs (f ++ x)
 side_first bracket n ns gs f x side (a, y, e, blanks, (m, z, e', more, rest)) =
     let all : x ≡ a ++ (m ++ z) = e ∙ ap (λ v. a ++ v) e' in
     let regrouped : f ++ (a ++ (m ++ z)) ≡ (f ++ (a ++ m)) ++ z = simp append_assoc in
     (f ++ (a ++ m), z, ap (λ v. f ++ v) all ∙ regrouped, side_and_more n ns f a m side blanks more, rest)
 
-comma_first : (bracket : Bracket) (ns : List ℕ) (gs : List (List ℕ)) (b : ℕ) (bs : List ℕ) → b ≡ 44 → SidesRest bracket ns gs bs → MoreSidesRest bracket ns gs (b ∷ bs)
+comma_first : (bracket : Bracket) (ns : List ℕ) (gs : List (List ℕ)) (b : ℕ) (bs : List ℕ) → b ≡ 44 → SidesRest bracket ns gs bs
+    → MoreSidesRest bracket ns gs (b ∷ bs)
 comma_first bracket [] gs b bs is (f, x, e, sides, rest) = absurd sides
 comma_first bracket (n ∷ ns) gs b bs is (f, x, e, sides, rest) =
     ([], b ∷ bs, refl, tt, (44 ∷ f, x, ap (λ z. z ∷ bs) is ∙ ap (λ z. 44 ∷ z) e, (44 ∷ [], f, refl, refl, sides), rest))
@@ -98,9 +116,11 @@ group_comma [] b bs is (a, x, e, blanks, (f, y, e', groups, end)) = absurd group
 group_comma (g ∷ gs) b bs is (a, x, e, blanks, rest) =
     ([], b ∷ bs, refl, tt, (44 ∷ a, x, ap (λ z. z ∷ bs) is ∙ ap (λ z. 44 ∷ z) e, inr (44 ∷ [], a, refl, refl, blanks), rest))
 
-groups_open : (bracket : Bracket) (ns : List ℕ) (gs : List (List ℕ)) (b : ℕ) (bs : List ℕ) → b ≡ open_byte bracket → SidesRest bracket ns gs bs → GroupsRest (ns ∷ gs) (b ∷ bs)
+groups_open : (bracket : Bracket) (ns : List ℕ) (gs : List (List ℕ)) (b : ℕ) (bs : List ℕ) → b ≡ open_byte bracket → SidesRest bracket ns gs bs
+    → GroupsRest (ns ∷ gs) (b ∷ bs)
 groups_open bracket ns gs b bs is rest =
-    no_blank ((Nothing or Is (codes ",") then Blanks) then Groups (ns ∷ gs) then LineEnd) (b ∷ bs) ([], b ∷ bs, refl, inl refl, opened bracket ns gs b bs is rest)
+    no_blank ((Nothing or Is (codes ",") then Blanks) then Groups (ns ∷ gs) then LineEnd) (b ∷ bs)
+    ([], b ∷ bs, refl, inl refl, opened bracket ns gs b bs is rest)
 
 -- the sides of a table row
 columns_table : (n : ℕ) (ns bs : List ℕ) → Columns (n ∷ ns) bs → (TableSides (n ∷ ns) then LineEnd) bs
@@ -108,17 +128,20 @@ columns_table n [] bs h = regroup SomeBlanks (Side n) LineEnd bs h
 columns_table n (m ∷ ns) bs h =
     regroup SomeBlanks (Side n then TableSides (m ∷ ns)) LineEnd bs
     (under SomeBlanks (Side n then Columns (m ∷ ns)) ((Side n then TableSides (m ∷ ns)) then LineEnd) bs
-    (λ x k. regroup (Side n) (TableSides (m ∷ ns)) LineEnd x (under (Side n) (Columns (m ∷ ns)) (TableSides (m ∷ ns) then LineEnd) x (λ y. columns_table m ns y) k)) h)
+    (λ x k. regroup (Side n) (TableSides (m ∷ ns)) LineEnd x
+    (under (Side n) (Columns (m ∷ ns)) (TableSides (m ∷ ns) then LineEnd) x (λ y. columns_table m ns y) k)) h)
 
 -- a size and what follows
-sized : (w h : ℕ) (code : List (List ℕ)) (bs : List ℕ) → (Number 18 w then Is (codes "x") then Number 18 h then CodeRest code) bs → ((Size (w, h) then Blanks) then Groups code then LineEnd) bs
+sized : (w h : ℕ) (code : List (List ℕ)) (bs : List ℕ) → (Number 18 w then Is (codes "x") then Number 18 h then CodeRest code) bs
+    → ((Size (w, h) then Blanks) then Groups code then LineEnd) bs
 sized w h code bs rest =
     regroup (Size (w, h)) Blanks (Groups code then LineEnd) bs (regroup (Number 18 w) (Is (codes "x") then Number 18 h) (CodeRest code) bs
     (under (Number 18 w) (Is (codes "x") then Number 18 h then CodeRest code) ((Is (codes "x") then Number 18 h) then CodeRest code) bs
     (λ y. regroup (Is (codes "x")) (Number 18 h) (CodeRest code) y) rest))
 
 -- a first number and what follows are a whole line
-numbered : (n : ℕ) (f x : List ℕ) (t : Lists) (l : Line) → Number 18 n f → NumberRest First n t l x → (whole : Line) × IsLine whole (f ++ x) × (l ≡ line_onto t whole)
+numbered : (n : ℕ) (f x : List ℕ) (t : Lists) (l : Line) → Number 18 n f → NumberRest First n t l x
+    → (whole : Line) × IsLine whole (f ++ x) × (l ≡ line_onto t whole)
 numbered n f x t l num (inl (inl (code, (a, y, e, blanks, rest), is))) = (
   Item (Some n) None code,
   no_blank ((Number 18 n then Blanks) then Groups code then LineEnd) (f ++ x)
@@ -134,7 +157,8 @@ numbered n f x t l num (inl (inr (inl (w, h, code, rest, is)))) = (
         refl,
         num,
         regroup SomeBlanks (Size (w, h) then Blanks) (Groups code then LineEnd) x
-            (under SomeBlanks (Number 18 w then Is (codes "x") then Number 18 h then CodeRest code) ((Size (w, h) then Blanks) then Groups code then LineEnd) x (λ y. sized w h code y) rest),
+            (under SomeBlanks (Number 18 w then Is (codes "x") then Number 18 h then CodeRest code)
+            ((Size (w, h) then Blanks) then Groups code then LineEnd) x (λ y. sized w h code y) rest),
       )),
   is,
 )
@@ -145,7 +169,8 @@ numbered n f x t l num (inl (inr (inr (w, h, m, ns, rest, is)))) = (
     x,
     refl,
     num,
-    under SomeBlanks (Number 18 w then SomeBlanks then Number 18 h then Columns (m ∷ ns)) (Number 18 w then SomeBlanks then Number 18 h then TableSides (m ∷ ns) then LineEnd) x
+    under SomeBlanks (Number 18 w then SomeBlanks then Number 18 h then Columns (m ∷ ns))
+        (Number 18 w then SomeBlanks then Number 18 h then TableSides (m ∷ ns) then LineEnd) x
         (λ y. under (Number 18 w) (SomeBlanks then Number 18 h then Columns (m ∷ ns)) (SomeBlanks then Number 18 h then TableSides (m ∷ ns) then LineEnd) y
         (λ z. under SomeBlanks (Number 18 h then Columns (m ∷ ns)) (Number 18 h then TableSides (m ∷ ns) then LineEnd) z
         (λ v. under (Number 18 h) (Columns (m ∷ ns)) (TableSides (m ∷ ns) then LineEnd) v (λ u. columns_table m ns u)))) rest,
@@ -169,15 +194,27 @@ nines (Column r) = omega arith
 nines (SideOf h bracket) = omega arith
 
 -- a further digit of a number
-grown : (field : Field) (v d b : ℕ) (t : Lists) (l : Line) (bs : List ℕ) → d < 10 → b ≡ 48 + d → RestAfter (longer field v d) t l bs → Rest (InNumber field v) t l (b ∷ bs)
+grown : (field : Field) (v d b : ℕ) (t : Lists) (l : Line) (bs : List ℕ) → d < 10 → b ≡ 48 + d → RestAfter (longer field v d) t l bs
+    → Rest (InNumber field v) t l (b ∷ bs)
 grown field v d b t l bs small is h = when (nat_le v (most field / 10)) (λ e. leb-true v (most field / 10) e) h
   where
-    when : (fits : Bool) → (fits ≡ true → v ≤ most field / 10) → RestAfter (if fits then Some (InNumber field (v * 10 + d)) else None) t l bs → Rest (InNumber field v) t l (b ∷ bs)
+    when : (fits : Bool) → (fits ≡ true → v ≤ most field / 10) → RestAfter (if fits then Some (InNumber field (v * 10 + d)) else None) t l bs
+        → Rest (InNumber field v) t l (b ∷ bs)
     when false below k = absurd k
     when true below (n, ds, x, e, (digits, value, kept), rest) =
         let own : digit_value b ≡ d = value_of_digit d b small is in
-        let within : v ≤ most field / 10 = below refl in
-        (n, b ∷ ds, x, ap (λ z. b ∷ z) e, ((omega (arith, own), digits), ap (λ z. digits_value_after 10 (v * 10 + z) ds) own ∙ value, λ few. kept (tenth (most field) (nines field) within)), rest)
+        let within : v ≤ most field / 10 = below refl in (
+          n,
+          b ∷ ds,
+          x,
+          ap (λ z. b ∷ z) e,
+          (
+            (omega (arith, own), digits),
+            ap (λ z. digits_value_after 10 (v * 10 + z) ds) own ∙ value,
+            λ few. kept (tenth (most field) (nines field) within),
+          ),
+          rest,
+        )
       where
         tenth : (m : ℕ) → m / 10 * 10 + 9 ≤ m → v ≤ m / 10 → v * 10 + d ≤ m
         tenth m nines' below' = omega arith
@@ -188,16 +225,23 @@ onto_group t [] = refl
 onto_group t (g ∷ gs) = append_assoc t.groups (t.sides ∷ []) (g ∷ gs)
 
 -- a number that has just begun: its first digit, and what completes the line
-first_side : (most' greatest b d n : ℕ) (ds : List ℕ) → greatest < 10 ^ most' → 9 ≤ greatest → Means (Digit d) b → Longer greatest d n ds → Number most' n (b ∷ ds)
+first_side : (most' greatest b d n : ℕ) (ds : List ℕ) → greatest < 10 ^ most' → 9 ≤ greatest → Means (Digit d) b → Longer greatest d n ds
+    → Number most' n (b ∷ ds)
 first_side most' greatest b d n ds bound large m longer' = number_read most' greatest b d n ds bound (omega (arith, m.1)) m.0 m.1 m.2 longer'
 
 columns_first : (r : Table) (d b : ℕ) (t : Lists) (l : Line) (bs : List ℕ) → Means (Digit d) b → Rest (InNumber (Column r) d) t l bs
     → (m : ℕ) × (ns : List ℕ) × ColumnsAfterBlanks (m ∷ ns) (b ∷ bs) × (l ≡ row r (t.sides ++ m ∷ ns))
-columns_first r d b t l bs m (n, ds, x, e, longer', (ns, rest, is)) =
-    (n, ns, no_blank (Side n then Columns ns) (b ∷ bs) (b ∷ ds, x, ap (λ z. b ∷ z) e, first_side 15 (most (Column r)) b d n ds (omega arith) (omega arith) m longer', rest), is)
+columns_first r d b t l bs m (n, ds, x, e, longer', (ns, rest, is)) = (
+  n,
+  ns,
+  no_blank (Side n then Columns ns) (b ∷ bs)
+      (b ∷ ds, x, ap (λ z. b ∷ z) e, first_side 15 (most (Column r)) b d n ds (omega arith) (omega arith) m longer', rest),
+  is,
+)
 
 -- a byte, and what completes a line from the place behind it, complete a line
-behind_number : (field : Field) (v : ℕ) (k : Kind) (t : Lists) (l : Line) (b : ℕ) (bs : List ℕ) → Means k b → RestAfter (next_place (InNumber field v) k) (lists_after (InNumber field v) k t) l bs → Rest (InNumber field v) t l (b ∷ bs)
+behind_number : (field : Field) (v : ℕ) (k : Kind) (t : Lists) (l : Line) (b : ℕ) (bs : List ℕ) → Means k b
+    → RestAfter (next_place (InNumber field v) k) (lists_after (InNumber field v) k t) l bs → Rest (InNumber field v) t l (b ∷ bs)
 behind_number First v Zero t l b bs m h = grown First v 0 b t l bs (omega arith) m h
 behind_number (Second o) v Zero t l b bs m h = grown (Second o) v 0 b t l bs (omega arith) m h
 behind_number (Height o w) v Zero t l b bs m h = grown (Height o w) v 0 b t l bs (omega arith) m h
@@ -212,15 +256,23 @@ behind_number (Column r) v (Digit d) t l b bs m h = grown (Column r) v d b t l b
 behind_number (SideOf g c) v (Digit d) t l b bs m h = grown (SideOf g c) v d b t l bs m.1 m.2 h
 behind_number First v Blank t l b bs m h = (v, [], b ∷ bs, refl, (tt, refl, (λ few. few)), inl (first_gap v t l b bs m h))
 behind_number First v Cross t l b bs m h = (v, [], b ∷ bs, refl, (tt, refl, (λ few. few)), inr (bs, ap (λ z. z ∷ bs) m, h))
-behind_number First v (Open bracket) t l b bs m (ns, gs, rest, is) =
-    (v, [], b ∷ bs, refl, (tt, refl, (λ few. few)), inl (inl (ns ∷ gs, no_blank (Groups (ns ∷ gs) then LineEnd) (b ∷ bs) (opened bracket ns gs b bs m rest), is)))
+behind_number First v (Open bracket) t l b bs m (ns, gs, rest, is) = (
+  v,
+  [],
+  b ∷ bs,
+  refl,
+  (tt, refl, (λ few. few)),
+  inl (inl (ns ∷ gs, no_blank (Groups (ns ∷ gs) then LineEnd) (b ∷ bs) (opened bracket ns gs b bs m rest), is)),
+)
 behind_number (Second o) v Blank t l b bs m (height, side, ns, rest, is) =
     (v, [], b ∷ bs, refl, (tt, refl, (λ few. few)), inl (height, side, ns, gap_first (Number 18 height then Columns (side ∷ ns)) b bs m rest, is))
 behind_number (Second o) v Cross t l b bs m h = (v, [], b ∷ bs, refl, (tt, refl, (λ few. few)), inr (bs, ap (λ z. z ∷ bs) m, h))
-behind_number (Height o w) v Blank t l b bs m (code, rest, is) = (v, [], b ∷ bs, refl, (tt, refl, (λ few. few)), (code, blank_first (Groups code then LineEnd) b bs m rest, is))
+behind_number (Height o w) v Blank t l b bs m (code, rest, is) =
+    (v, [], b ∷ bs, refl, (tt, refl, (λ few. few)), (code, blank_first (Groups code then LineEnd) b bs m rest, is))
 behind_number (Height o w) v (Open bracket) t l b bs m (ns, gs, rest, is) =
     (v, [], b ∷ bs, refl, (tt, refl, (λ few. few)), (ns ∷ gs, no_blank (Groups (ns ∷ gs) then LineEnd) (b ∷ bs) (opened bracket ns gs b bs m rest), is))
-behind_number (Third o w) v Blank t l b bs m (side, ns, rest, is) = (v, [], b ∷ bs, refl, (tt, refl, (λ few. few)), (side, ns, columns_blank (side ∷ ns) b bs m rest, is))
+behind_number (Third o w) v Blank t l b bs m (side, ns, rest, is) =
+    (v, [], b ∷ bs, refl, (tt, refl, (λ few. few)), (side, ns, columns_blank (side ∷ ns) b bs m rest, is))
 behind_number (Column r) v Blank t l b bs m (ns, rest, is) =
     (v, [], b ∷ bs, refl, (tt, refl, (λ few. few)), (ns, columns_blank ns b bs m rest, is ∙ ap (row r) (append_assoc t.sides (v ∷ []) ns)))
 behind_number (Column r) v Semicolon t l b bs m h = (v, [], b ∷ bs, refl, (tt, refl, (λ few. few)), ([], comment_first b bs m, h))
@@ -237,8 +289,14 @@ behind_number (SideOf g c) v Blank t l b bs m (ns, gs, rest, is) = (
     is ∙ ap (λ z. item g (t.groups ++ z ∷ gs)) (append_assoc t.sides (v ∷ []) ns),
   ),
 )
-behind_number (SideOf g c) v Comma t l b bs m (ns, gs, rest, is) =
-    (v, [], b ∷ bs, refl, (tt, refl, (λ few. few)), (ns, gs, comma_first c ns gs b bs m rest, is ∙ ap (λ z. item g (t.groups ++ z ∷ gs)) (append_assoc t.sides (v ∷ []) ns)))
+behind_number (SideOf g c) v Comma t l b bs m (ns, gs, rest, is) = (
+  v,
+  [],
+  b ∷ bs,
+  refl,
+  (tt, refl, (λ few. few)),
+  (ns, gs, comma_first c ns gs b bs m rest, is ∙ ap (λ z. item g (t.groups ++ z ∷ gs)) (append_assoc t.sides (v ∷ []) ns)),
+)
 behind_number (SideOf g Square) v (Close Square) t l b bs m (gs, rest, is) =
     (v, [], b ∷ bs, refl, (tt, refl, (λ few. few)), ([], gs, close_first Square gs b bs m rest, is ∙ ap (item g) (onto_group (and_side (Some v) t) gs)))
 behind_number (SideOf g Round) v (Close Round) t l b bs m (gs, rest, is) =
@@ -247,7 +305,8 @@ behind_number (SideOf g Square) v (Close Round) t l b bs m h = absurd h
 behind_number (SideOf g Round) v (Close Square) t l b bs m h = absurd h
 behind_number field v k t l b bs m h = absurd h
 
-behind_byte : (p : Place) (k : Kind) (t : Lists) (l : Line) (b : ℕ) (bs : List ℕ) → Means k b → RestAfter (next_place p k) (lists_after p k t) l bs → Rest p t l (b ∷ bs)
+behind_byte : (p : Place) (k : Kind) (t : Lists) (l : Line) (b : ℕ) (bs : List ℕ) → Means k b → RestAfter (next_place p k) (lists_after p k t) l bs
+    → Rest p t l (b ∷ bs)
 behind_byte (InNumber field v) k t l b bs m h = behind_number field v k t l b bs m h
 behind_byte Start Blank t l b bs m (whole, h, is) = (whole, line_blank whole b bs m h, is)
 behind_byte Start (Digit d) t l b bs m (n, ds, x, e, longer', rest) =
@@ -278,9 +337,16 @@ behind_byte (BehindFirst n) (Digit d) t l b bs m (w, ds, x, e, longer', inr (y, 
     ))
 behind_byte (BehindFirst n) (Open bracket) t l b bs m (ns, gs, rest, is) =
     inl (ns ∷ gs, no_blank (Groups (ns ∷ gs) then LineEnd) (b ∷ bs) (opened bracket ns gs b bs m rest), is)
-behind_byte (BehindSecond o w) Blank t l b bs m (height, side, ns, rest, is) = (height, side, ns, blank_first (Number 18 height then Columns (side ∷ ns)) b bs m rest, is)
-behind_byte (BehindSecond o w) (Digit d) t l b bs m (n, ds, x, e, longer', (side, ns, rest, is)) =
-    (n, side, ns, no_blank (Number 18 n then Columns (side ∷ ns)) (b ∷ bs) (b ∷ ds, x, ap (λ z. b ∷ z) e, first_side 18 (most First) b d n ds (omega arith) (omega arith) m longer', rest), is)
+behind_byte (BehindSecond o w) Blank t l b bs m (height, side, ns, rest, is) =
+    (height, side, ns, blank_first (Number 18 height then Columns (side ∷ ns)) b bs m rest, is)
+behind_byte (BehindSecond o w) (Digit d) t l b bs m (n, ds, x, e, longer', (side, ns, rest, is)) = (
+  n,
+  side,
+  ns,
+  no_blank (Number 18 n then Columns (side ∷ ns)) (b ∷ bs)
+      (b ∷ ds, x, ap (λ z. b ∷ z) e, first_side 18 (most First) b d n ds (omega arith) (omega arith) m longer', rest),
+  is,
+)
 behind_byte (BeforeHeight o w) (Digit d) t l b bs m (n, ds, x, e, longer', (code, rest, is)) =
     (n, code, (b ∷ ds, x, ap (λ z. b ∷ z) e, first_side 18 (most First) b d n ds (omega arith) (omega arith) m longer', rest), is)
 behind_byte (BehindThird r) Blank t l b bs m (side, ns, rest, is) = (side, ns, more_blank (side ∷ ns) b bs m rest, is)
@@ -299,7 +365,8 @@ behind_byte (BeforeSide g c) (Digit d) t l b bs m (n, ds, x, e, longer', (ns, gs
       (side_first c n ns gs (b ∷ ds) x (first_side 15 (most (SideOf g c)) b d n ds (omega arith) (omega arith) m longer') rest),
   is,
 )
-behind_byte (BehindSide g c) Blank t l b bs m (ns, gs, rest, is) = (ns, gs, blank_first (MoreSides ns then Is (close_byte c ∷ []) then GroupsRest gs) b bs m rest, is)
+behind_byte (BehindSide g c) Blank t l b bs m (ns, gs, rest, is) =
+    (ns, gs, blank_first (MoreSides ns then Is (close_byte c ∷ []) then GroupsRest gs) b bs m rest, is)
 behind_byte (BehindSide g c) Comma t l b bs m (ns, gs, rest, is) = (ns, gs, comma_first c ns gs b bs m rest, is)
 behind_byte (BehindSide g Square) (Close Square) t l b bs m (gs, rest, is) =
     ([], gs, close_first Square gs b bs m rest, is ∙ ap (item g) (onto_group t gs) ∙ ap (λ z. item g (t.groups ++ z ∷ gs)) (sym (append-nil t.sides)))
@@ -318,7 +385,8 @@ behind_byte p k t l b bs m h = absurd h
 -- where a line may end, nothing more completes it
 at_end : (p : Place) (t : Lists) (l : Line) → line_at (ending_at p) (and_side (last_side p) t) ≡ Some l → Rest p t l []
 at_end Start t l e = let is : Skip ≡ l = cc in (Skip, ([], [], refl, tt, inl refl), sym is)
-at_end (InNumber (Column r) v) t l e = let is : row r (t.sides ++ v ∷ []) ≡ l = cc in (v, [], [], refl, (tt, refl, (λ few. few)), ([], ([], [], refl, tt, inl refl), sym is))
+at_end (InNumber (Column r) v) t l e = let is : row r (t.sides ++ v ∷ []) ≡ l =
+    cc in (v, [], [], refl, (tt, refl, (λ few. few)), ([], ([], [], refl, tt, inl refl), sym is))
 at_end (BehindColumn r) t l e = let is : row r t.sides ≡ l = cc in ([], ([], [], refl, tt, inl refl), sym is ∙ ap (row r) (sym (append-nil t.sides)))
 at_end (BehindGroup g) t l e = let is : item g t.groups ≡ l = cc in ([], ([], [], refl, tt, inl refl), sym is)
 at_end (InComment ending) t l e = let is : line_of ending t ≡ l = cc in sym is

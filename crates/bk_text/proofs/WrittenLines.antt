@@ -48,7 +48,8 @@ code_spelled [] all some = absurd (omega (arith, some))
 code_spelled (g ∷ gs) all some = groups_spelled g gs all
 
 pub written_code : AWrittenCodeIsRead
-written_code code end kept some ends = ([], code_text code ++ end, refl, tt, ([], code_text code ++ end, refl, refl, (code_text code, end, refl, code_spelled code kept.groups some, ends)))
+written_code code end kept some ends =
+    ([], code_text code ++ end, refl, tt, ([], code_text code ++ end, refl, refl, (code_text code, end, refl, code_spelled code kept.groups some, ends)))
 
 number_spelled : (n : ℕ) → IsHeaderNumber n → HeaderNumber n (decimal n)
 number_spelled n h = number_from_decimal 18 n (omega arith) (omega arith) h.0 (omega (arith, h.1)) (omega (arith, h.1))
@@ -98,7 +99,13 @@ written_item order w h code end ordered wide high kept some ends =
         front,
         rest,
         whole,
-        (decimal order, 32 ∷ sized, refl, number_spelled order ordered, (32 ∷ [], sized, refl, (omega arith, (inl refl, tt)), (size_text w h, 32 ∷ [], refl, written_size w h wide high, (inl refl, tt)))),
+        (
+          decimal order,
+          32 ∷ sized,
+          refl,
+          number_spelled order ordered,
+          (32 ∷ [], sized, refl, (omega arith, (inl refl, tt)), (size_text w h, 32 ∷ [], refl, written_size w h wide high, (inl refl, tt))),
+        ),
         (code_text code, end, refl, code_spelled code kept.groups some, ends),
       ),
     )

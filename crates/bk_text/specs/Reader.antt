@@ -10,7 +10,8 @@ use Rattle.bk_text.specs.declared.reader.Header.{Header}
 use Rattle.bk_text.specs.declared.reader.Kind.{Kind}
 use Rattle.bk_text.specs.declared.reader.Kind.TheVariants.{Blank, Close, Comma, Cross, Digit, Open, Other, Semicolon, Zero}
 use Rattle.bk_text.specs.declared.reader.Place.{Place}
-use Rattle.bk_text.specs.declared.reader.Place.TheVariants.{BeforeGroup, BeforeHeight, BeforeSide, BehindColumn, BehindFirst, BehindGroup, BehindSecond, BehindSide, BehindThird, Comment, Number, Start}
+use Rattle.bk_text.specs.declared.reader.Place.TheVariants.{BeforeGroup, BeforeHeight, BeforeSide, BehindColumn, BehindFirst, BehindGroup}
+use Rattle.bk_text.specs.declared.reader.Place.TheVariants.{BehindSecond, BehindSide, BehindThird, Comment, Number, Start}
 
 -- what a byte is to the grammar
 abbrev pub kind_of : ℕ → Kind

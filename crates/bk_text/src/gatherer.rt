@@ -11,8 +11,8 @@ use bk_code::{Code, flat};
 use bk_tiling::MOST_SQUARES;
 use std::marker::Model;
 
-/// The groups that were closed and the sides of the open group or of the table row: the first 200 sides, and whether
-/// there were more.
+/// What is gathered of a line that is read: the groups that were closed and the sides of the open group or of the table row, the
+/// first 200 sides in all, and whether there were more.
 #[derive(Drop)]
 pub struct Gatherer {
     code: Code,
@@ -35,6 +35,7 @@ impl Gatherer {
     ghost use Rattle.bk_text.specs.Reader.{closes_group, ended_side, last_side};
     ghost use Rattle.bk_text.specs.ReadLine.{sides_of_line, stands_for};
 
+    /// Nothing is gathered.
     pub fn new() -> Gatherer
         ensures { result ≡ nothing_gathered }
     {
@@ -45,8 +46,31 @@ impl Gatherer {
         }
     }
 
+    /// The groups that were closed.
+    pub fn code(&self) -> &Code
+        ensures { result.now ≡ self.now.groups }
+    {
+        &self.code
+    }
+
+    /// The sides of the open group, or of the table row.
+    pub fn sides(&self) -> &[u64]
+        ensures { result.now ≡ self.now.sides }
+    {
+        self.sides.as_slice()
+    }
+
+    // Takes away all that was gathered.
+    pub(crate) fn clear(&mut self)
+        ensures { self.new ≡ nothing_gathered }
+    {
+        self.code.clear();
+        self.sides.clear();
+        self.many = false;
+    }
+
     // Takes the side that ends before a byte, and closes the group that the byte closes.
-    pub fn take(&mut self, place: Place, kind: Kind)
+    pub(crate) fn take(&mut self, place: Place, kind: Kind)
         requires side { ForSome (ended_side place kind) IsSide }
         requires group { closes_group place kind ≡ true → (with_ended (ended_side place kind) self.old).many ≡ false
             → 0 < length (with_ended (ended_side place kind) self.old).sides }
@@ -63,7 +87,7 @@ impl Gatherer {
     }
 
     // Takes the side that ends with the line.
-    pub fn take_last(&mut self, place: Place)
+    pub(crate) fn take_last(&mut self, place: Place)
         requires { ForSome (last_side place) IsSide }
         ensures after { self.new ≡ with_ended (last_side place) self.old }
         ensures was { IsGathered self.old }
@@ -74,30 +98,36 @@ impl Gatherer {
         }
     }
 
-    // What a line stands for that ends so.
-    pub fn finish(self, ending: Ending) -> Result<Line, TextFault>
-        ensures few { IfOk result (λ _. self.many ≡ false) }
-        ensures line { IfOk result (λ line. stands_for line ≡ line_gathered ending self) }
-        ensures fits { IfOk result (λ line. length (sides_of_line (stands_for line)) ≤ 200) }
+    // That a line ends so, if no side was left out.
+    pub(crate) fn ended(&self, ending: Ending) -> Result<Ending, TextFault>
+        ensures few { IfOk result (λ e. (e ≡ ending) × (self.now.many ≡ false)) }
+        ensures fits { IfOk result (λ e. length (sides_of_line (line_gathered e self.now)) ≤ 200) }
         ensures many { IfErr result (λ fault. fault ≡ TextFault.Many) }
-        ensures full { OnErr result (self.many ≡ true) }
+        ensures full { OnErr result (self.now.many ≡ true) }
     {
         if self.many {
             return Err(TextFault::Many);
         }
+        Ok(ending)
+    }
+
+    // What a line stands for that ends so.
+    pub(crate) fn finish(self, ending: Ending) -> Line
+        ensures { stands_for result ≡ line_gathered ending self }
+    {
         match ending {
-            Ending::Empty => Ok(Line::Skip),
-            Ending::Coded(header) => Ok(Line::Item {
+            Ending::Empty => Line::Skip,
+            Ending::Coded(header) => Line::Item {
                 order: header.order,
                 size: header.size,
                 code: self.code,
-            }),
-            Ending::Row(table) => Ok(Line::Flat {
+            },
+            Ending::Row(table) => Line::Flat {
                 order: table.order,
                 width: table.width,
                 height: table.height,
                 sides: self.sides,
-            }),
+            },
         }
     }
 

@@ -2,19 +2,19 @@
 #![tactic(auto)]
 
 ghost use Rattle.bk_text.specs.CodeLine.{Line as LineMeant, IsLine, IsNoLine};
+ghost use Rattle.bk_text.specs.Gathered.{line_gathered};
 ghost use Rattle.bk_text.specs.ReadLine.{IsFaultOf, IsInRange, stands_for};
 ghost use Rattle.bk_text.specs.TextLaws.{AWrittenCodeIsRead, AWrittenItemIsRead, AWrittenSizeAndCodeAreRead, AWrittenSizeIsASize};
 ghost use Rattle.std.specs.Prelude.{IfErr, IfOk, ◌≡◌, ℕ, List};
 
 mod gatherer;
 mod reader;
-#[cfg(test)]
-mod tests;
 mod writer;
 
 use arrayvec::ArrayVec;
 use bk_code::Code;
-use gatherer::Gatherer;
+pub use gatherer::Gatherer;
+pub use reader::{Ending, Header, Table};
 use reader::{Place, kind_of};
 use thiserror::Error;
 pub use writer::{write_code, write_size};
@@ -57,8 +57,22 @@ pub fn read_line(line: &[u8]) -> Result<Line, TextFault>
     ensures range { IfOk result (λ l. IsInRange (stands_for l)) }
     ensures fault { IfErr result (λ fault. IsFaultOf fault line.now) }
 {
-    let mut place = Place::Start;
     let mut gatherer = Gatherer::new();
+    match read_into(line, &mut gatherer) {
+        Ok(ending) => Ok(gatherer.finish(ending)),
+        Err(fault) => Err(fault),
+    }
+}
+
+/// Does what `read_line` does in a gatherer that is there, and holds anything before: the groups and the sides of the line are left in
+/// it, and what kind of line it is is returned. So nothing large is made for a line.
+pub fn read_into(line: &[u8], gatherer: &mut Gatherer) -> Result<Ending, TextFault>
+    ensures read { IfOk result (λ ending. IsLine (line_gathered ending gatherer.new) line.now) }
+    ensures range { IfOk result (λ ending. IsInRange (line_gathered ending gatherer.new)) }
+    ensures fault { IfErr result (λ fault. IsFaultOf fault line.now) }
+{
+    let mut place = Place::Start;
+    gatherer.clear();
     for (at, byte) in line.iter().enumerate() {
         let kind = kind_of(*byte);
         let Some(next) = place.next(kind) else {
@@ -70,7 +84,7 @@ pub fn read_line(line: &[u8]) -> Result<Line, TextFault>
     match place.ending() {
         Some(ending) => {
             gatherer.take_last(place);
-            gatherer.finish(ending)
+            gatherer.ended(ending)
         }
         None => Err(TextFault::Text { at: line.len() }),
     }

@@ -1,7 +1,9 @@
 //! Reading a line of codes byte by byte.
 
 ghost use Rattle.std.specs.Prelude.{◌≡◌, ◌<◌, ◌≤◌};
-ghost use Rattle.bk_text.specs.Reader.{closes_group as closes, ended_side as ended_before, ending_at, last_side as last, kind_of as kind_of_byte, next_place, longer as longer_number, behind_number, close_group as closed_group, order_alone as only_order, most as most_of};
+ghost use Rattle.bk_text.specs.Reader.{closes_group as closes, ended_side as ended_before, ending_at, last_side as last, kind_of as kind_of_byte};
+ghost use Rattle.bk_text.specs.Reader.{next_place, longer as longer_number, behind_number, close_group as closed_group, order_alone as only_order};
+ghost use Rattle.bk_text.specs.Reader.{most as most_of};
 
 use bk_tiling::LONGEST_SIDE;
 
@@ -79,7 +81,7 @@ pub enum Field {
     Side(Header, Bracket),
 }
 
-/// What a line is, once it could end.
+/// What a line of codes is: one without an item, a code with its header, or a table row with its numbers.
 #[derive(Clone, Copy)]
 pub enum Ending {
     Empty,

@@ -49,7 +49,8 @@ list_back k (q ∷ qs) (r ∷ rs) some e = λ i. record { x = x i; y = y i; s = 
     s = mul_one k q.s r.s some (ap (λ (p : Square). p.s) first)
 
 pub enlarged-back : (k : ℕ) (t u : Tiling) → 0 < k → enlarged k t ≡ enlarged k u → t ≡ u
-enlarged-back k t u some e = λ i. record { width = width i; height = height i; squares = list_back k t.squares u.squares some (ap (λ (v : Tiling). v.squares) e) i }
+enlarged-back k t u some e =
+    λ i. record { width = width i; height = height i; squares = list_back k t.squares u.squares some (ap (λ (v : Tiling). v.squares) e) i }
   where
     width : t.width ≡ u.width
     width = mul_one k t.width u.width some (ap (λ (v : Tiling). v.width) e)

@@ -1,7 +1,8 @@
 -- A group of squares laid side by side on level columns: which cells it covers, how deep the columns are then, and
 -- that what is laid still fills these columns once.
 use Rattle.std.specs.List.{AllByRecursion}
-use Rattle.std.proofs.Common.{Bool, List, [], ap, arith, cond, count_by, false, inl, inr, length, map, max, refl, subst, sum, sym, true, ℕ, ◌++◌, ◌+◌, ◌<◌, ◌∙◌, ◌∷◌, ◌≡◌, ◌≤◌, ◌⊎◌}
+use Rattle.std.proofs.Common.{Bool, List, [], ap, arith, cond, count_by, false, inl, inr, length, map, max, refl, subst, sum, sym, true, ℕ, ◌++◌}
+use Rattle.std.proofs.Common.{◌+◌, ◌<◌, ◌∙◌, ◌∷◌, ◌≡◌, ◌≤◌, ◌⊎◌}
 use Rattle.std.proofs.lemmas.Bool.{cases_lt}
 use Rattle.std.proofs.lemmas.List.Sums.{sum_by-append}
 use Rattle.bk_laws.proofs.Totals.{sum_is_total, total}
@@ -13,13 +14,15 @@ use Rattle.bk_tiling.specs.SquareGroups.{laid_group}
 
 pub depth-append-max : (laid more : List Square) (c : ℕ) → depth (laid ++ more) c ≡ max (depth laid c) (depth more c)
 depth-append-max [] more c = grind arith
-depth-append-max (q ∷ laid) more c = step (cond (covers_column c q) (q.y + q.s) 0) (depth laid c) (depth more c) (depth (laid ++ more) c) (depth-append-max laid more c)
+depth-append-max (q ∷ laid) more c =
+    step (cond (covers_column c q) (q.y + q.s) 0) (depth laid c) (depth more c) (depth (laid ++ more) c) (depth-append-max laid more c)
   where
     step : (a b d e : ℕ) → e ≡ max b d → max a e ≡ max (max a b) d
     step a b d e h = grind arith
 
 -- beside the group
-pub beside_group : (x level : ℕ) (sides : List ℕ) (c : ℕ) → (c < x) ⊎ (x + total sides ≤ c) → (q : Square) → IsOneOf q (laid_group x level sides) → covers_column c q ≡ true → ⊥
+pub beside_group : (x level : ℕ) (sides : List ℕ) (c : ℕ) → (c < x) ⊎ (x + total sides ≤ c) → (q : Square) → IsOneOf q (laid_group x level sides)
+    → covers_column c q ≡ true → ⊥
 beside_group x level [] c away q h e = h
 beside_group x level (s ∷ sides) c away q (inl same) e = by away
   where
@@ -73,7 +76,8 @@ pub over_group : (x level : ℕ) (sides : List ℕ) (c : ℕ) → x ≤ c → c 
 over_group x level [] c lo hi = absurd (omega arith)
 over_group x level (s ∷ sides) c lo hi = cases (cases_lt c (x + s)) (over_group (x + s) level sides c)
   where
-    cases : (c < x + s) ⊎ (x + s ≤ c) → (x + s ≤ c → c < x + s + total sides → HasOver level c (laid_group (x + s) level sides)) → HasOver level c (laid_group x level (s ∷ sides))
+    cases : (c < x + s) ⊎ (x + s ≤ c) → (x + s ≤ c → c < x + s + total sides → HasOver level c (laid_group (x + s) level sides))
+        → HasOver level c (laid_group x level (s ∷ sides))
     cases (inl h) rest = record { square = record { x = x; y = level; s = s }; is = inl refl; left = lo; right = h; top = refl; deep = deep; counted = counted }
       where
         no_other : (q : Square) → IsOneOf q (laid_group (x + s) level sides) → covers_column c q ≡ true → ⊥
@@ -90,7 +94,8 @@ over_group x level (s ∷ sides) c lo hi = cases (cases_lt c (x + s)) (over_grou
           arith,
           count-cons (covers c j) (record { x = x; y = level; s = s }) (laid_group (x + s) level sides),
           covers_one c j (record { x = x; y = level; s = s }) (covers_from c j (record { x = x; y = level; s = s }) lo h a b),
-          none_counted (covers c j) (laid_group (x + s) level sides) (λ q k e. no_other q k (column_from c q (over_from c j q e).left (over_from c j q e).right)),
+          none_counted (covers c j) (laid_group (x + s) level sides)
+              (λ q k e. no_other q k (column_from c q (over_from c j q e).left (over_from c j q e).right)),
         )
     cases (inr h) rest = record { square = r.square; is = inr r.is; left = r.left; right = r.right; top = r.top; deep = deep; counted = counted }
       where
@@ -122,7 +127,8 @@ group_top x level (s ∷ sides) q (inr h) = group_top (x + s) level sides q h
 
 pub group_within : (x level : ℕ) (sides : List ℕ) (q : Square) → IsOneOf q (laid_group x level sides) → (x ≤ q.x) × (q.x + q.s ≤ x + total sides)
 group_within x level [] q h = absurd h
-group_within x level (s ∷ sides) q (inl same) = let a : q.x ≡ x = ap (λ (r : Square). r.x) same in let b : q.s ≡ s = ap (λ (r : Square). r.s) same in (omega arith, omega arith)
+group_within x level (s ∷ sides) q (inl same) = let a : q.x ≡ x = ap (λ (r : Square). r.x) same in let b : q.s ≡ s =
+    ap (λ (r : Square). r.s) same in (omega arith, omega arith)
 group_within x level (s ∷ sides) q (inr h) = let r = group_within (x + s) level sides q h in (omega (arith, r.0), omega (arith, r.1))
 
 pub group_sides : (x level : ℕ) (sides : List ℕ) → AllByRecursion (λ s. 0 < s) sides → (q : Square) → IsOneOf q (laid_group x level sides) → 0 < q.s
@@ -136,13 +142,17 @@ group_list x level (s ∷ sides) = ap (λ rest. s ∷ rest) (group_list (x + s) 
 
 module _ (laid : List Square) (x level : ℕ) (sides : List ℕ) (level_there : (c : ℕ) → x ≤ c → c < x + total sides → depth laid c ≡ level) where
   pub depth_beside : (c : ℕ) → (c < x) ⊎ (x + total sides ≤ c) → depth (laid ++ laid_group x level sides) c ≡ depth laid c
-  depth_beside c away = depth-append-max laid (laid_group x level sides) c ∙ step (depth laid c) (depth (laid_group x level sides) c) (no_depth (laid_group x level sides) c (beside_group x level sides c away))
+  depth_beside c away = depth-append-max laid (laid_group x level sides) c
+      ∙ step (depth laid c) (depth (laid_group x level sides) c) (no_depth (laid_group x level sides) c (beside_group x level sides c away))
     where
       step : (a b : ℕ) → b ≡ 0 → max a b ≡ a
       step a b e = grind arith
 
-  pub depth_under : (c : ℕ) (q : Square) → IsOneOf q (laid_group x level sides) → q.x ≤ c → c < q.x + q.s → depth (laid ++ laid_group x level sides) c ≡ q.y + q.s
-  depth_under c q h lo hi = depth-append-max laid (laid_group x level sides) c ∙ step (depth laid c) (depth (laid_group x level sides) c) (q.y + q.s) (omega (arith, level_there c inside.0 inside.1, group_top x level sides q h)) (own x sides h)
+  pub depth_under : (c : ℕ) (q : Square) → IsOneOf q (laid_group x level sides) → q.x ≤ c → c < q.x + q.s
+      → depth (laid ++ laid_group x level sides) c ≡ q.y + q.s
+  depth_under c q h lo hi = depth-append-max laid (laid_group x level sides) c
+      ∙ step (depth laid c) (depth (laid_group x level sides) c) (q.y + q.s)
+      (omega (arith, level_there c inside.0 inside.1, group_top x level sides q h)) (own x sides h)
     where
       inside : (x ≤ c) × (c < x + total sides)
       inside = let w = group_within x level sides q h in (omega (arith, w.0), omega (arith, w.1))
@@ -152,7 +162,9 @@ module _ (laid : List Square) (x level : ℕ) (sides : List ℕ) (level_there : 
 
       own : (x : ℕ) (sides : List ℕ) → IsOneOf q (laid_group x level sides) → depth (laid_group x level sides) c ≡ q.y + q.s
       own x [] k = absurd k
-      own x (s ∷ sides) (inl same) = (λ i. max (cond (on i) (level + s) 0) (no_depth (laid_group (x + s) level sides) c (beside_group (x + s) level sides c (inl (omega (arith, at, side)))) i)) ∙ step (level + s) 0 (q.y + q.s) (omega (arith, top, side))
+      own x (s ∷ sides) (inl same) =
+          (λ i. max (cond (on i) (level + s) 0) (no_depth (laid_group (x + s) level sides) c
+          (beside_group (x + s) level sides c (inl (omega (arith, at, side)))) i)) ∙ step (level + s) 0 (q.y + q.s) (omega (arith, top, side))
         where
           at : q.x ≡ x
           at = ap (λ (r : Square). r.x) same
@@ -193,7 +205,8 @@ module _ (laid : List Square) (x level : ℕ) (sides : List ℕ) (level_there : 
         arith,
         split,
         filled c j wide (omega (arith, depth_beside c a)),
-        none_counted (covers c j) (laid_group x level sides) (λ q k e. beside_group x level sides c a q k (column_from c q (over_from c j q e).left (over_from c j q e).right)),
+        none_counted (covers c j) (laid_group x level sides)
+            (λ q k e. beside_group x level sides c a q k (column_from c q (over_from c j q e).left (over_from c j q e).right)),
       )
 
       under : x ≤ c → c < x + total sides → count_by (covers c j) (laid ++ laid_group x level sides) ≡ 1
@@ -219,7 +232,9 @@ module _ (laid : List Square) (x level : ℕ) (sides : List ℕ) (level_there : 
             arith,
             split,
             over.counted j a (omega (arith, bottom, over.top)),
-            none_counted (covers c j) laid (λ q k e. omega (arith, (over_from c j q e).bottom, depth_reaches laid c q k (column_from c q (over_from c j q e).left (over_from c j q e).right), here)),
+            none_counted (covers c j) laid
+                (λ q k e.
+                omega (arith, (over_from c j q e).bottom, depth_reaches laid c q k (column_from c q (over_from c j q e).left (over_from c j q e).right), here)),
           )
 
       place : (c < x) ⊎ (x ≤ c) → (c < x + total sides) ⊎ (x + total sides ≤ c) → count_by (covers c j) (laid ++ laid_group x level sides) ≡ 1
@@ -232,9 +247,11 @@ length_group x y [] = refl
 length_group x y (s ∷ sides) = omega (arith, length_group (x + s) y sides)
 
 -- one more square of a group
-pub group_push : (x y : ℕ) (sides : List ℕ) (s : ℕ) → laid_group x y (sides ++ s ∷ []) ≡ laid_group x y sides ++ (record { x = x + sum sides; y = y; s = s }) ∷ []
+pub group_push : (x y : ℕ) (sides : List ℕ) (s : ℕ)
+    → laid_group x y (sides ++ s ∷ []) ≡ laid_group x y sides ++ (record { x = x + sum sides; y = y; s = s }) ∷ []
 group_push x y sides s = go x sides ∙ ap (λ n. laid_group x y sides ++ (record { x = x + n; y = y; s = s }) ∷ []) (sym (sum_is_total sides))
   where
     go : (x : ℕ) (sides : List ℕ) → laid_group x y (sides ++ s ∷ []) ≡ laid_group x y sides ++ (record { x = x + total sides; y = y; s = s }) ∷ []
     go x [] = ap (λ n. (record { x = n; y = y; s = s }) ∷ []) (omega arith)
-    go x (t ∷ sides) = ap (λ (l : List Square). (record { x = x; y = y; s = t }) ∷ l) (go (x + t) sides ∙ ap (λ n. laid_group (x + t) y sides ++ (record { x = n; y = y; s = s }) ∷ []) (omega arith))
+    go x (t ∷ sides) = ap (λ (l : List Square). (record { x = x; y = y; s = t }) ∷ l)
+        (go (x + t) sides ∙ ap (λ n. laid_group (x + t) y sides ++ (record { x = n; y = y; s = s }) ∷ []) (omega arith))

@@ -50,7 +50,8 @@ past_next : (q r p : Square) → comes_before q r ≡ true → comes_before r p 
 past_next q r p a b e = (grind (arith, nat_tests), grind (arith, nat_tests), grind (arith, nat_tests))
 
 none_past : (q r : Square) (squares : List Square) → AreLaid (q ∷ r ∷ squares) → count_by (stands_beside q) squares ≡ 0
-none_past q r squares laid = none_counted (stands_beside q) squares (λ p h e. clash (past_next q r p laid.ordered.0.0 (in_all (λ p. comes_before r p ≡ true) squares laid.ordered.1.0 p h) e))
+none_past q r squares laid = none_counted (stands_beside q) squares
+    (λ p h e. clash (past_next q r p laid.ordered.0.0 (in_all (λ p. comes_before r p ≡ true) squares laid.ordered.1.0 p h) e))
   where
     some : 0 < q.s
     some = laid.sides q (inl refl)
@@ -68,17 +69,21 @@ none_past q r squares laid = none_counted (stands_beside q) squares (λ p h e. c
     )
 
 -- the groups, and the pairs of squares of which one stands beside the other
-groups_more : (b : Bool) (q : Square) (groups : List (List Square)) → 0 < length groups → length (cond b (onto_first q groups) ((q ∷ []) ∷ groups)) + cond {A = ℕ} b 1 0 ≡ length groups + 1
+groups_more : (b : Bool) (q : Square) (groups : List (List Square)) → 0 < length groups
+    → length (cond b (onto_first q groups) ((q ∷ []) ∷ groups)) + cond {A = ℕ} b 1 0 ≡ length groups + 1
 groups_more true q [] some = absurd (omega arith)
 groups_more true q (g ∷ groups) some = omega arith
 groups_more false q groups some = omega arith
 
-pairs_first : (q : Square) (squares : List Square) → AreLaid (q ∷ squares) → sum_by (λ p. count_by (stands_beside p) (q ∷ squares)) (q ∷ squares) ≡ count_by (stands_beside q) squares + sum_by (λ p. count_by (stands_beside p) squares) squares
+pairs_first : (q : Square) (squares : List Square) → AreLaid (q ∷ squares)
+    → sum_by (λ p. count_by (stands_beside p) (q ∷ squares)) (q ∷ squares)
+    ≡ count_by (stands_beside q) squares + sum_by (λ p. count_by (stands_beside p) squares) squares
 pairs_first q squares laid = omega (
   arith,
   sum_by-cons (λ p. count_by (stands_beside p) (q ∷ squares)) q squares,
   pairs_cons stands_beside q squares squares,
-  none_counted (λ p. stands_beside p q) squares (λ p h e. not_earlier q p (in_all (λ p. comes_before q p ≡ true) squares laid.ordered.0 p h) (laid.sides p (inr h)) e),
+  none_counted (λ p. stands_beside p q) squares
+      (λ p h e. not_earlier q p (in_all (λ p. comes_before q p ≡ true) squares laid.ordered.0 p h) (laid.sides p (inr h)) e),
   count-cons (stands_beside q) q squares,
   none_counted (stands_beside q) (q ∷ []) own,
   count-cons (stands_beside q) q [],
@@ -88,7 +93,8 @@ pairs_first q squares laid = omega (
     own p (inl same) e = not_itself q (laid.sides q (inl refl)) (ap (stands_beside q) (sym same) ∙ e)
     own p (inr h) e = absurd h
 
-groups_by_first : (squares : List Square) → AreLaid squares → length (square_groups squares) + sum_by (λ p. count_by (stands_beside p) squares) squares ≡ length squares
+groups_by_first : (squares : List Square) → AreLaid squares
+    → length (square_groups squares) + sum_by (λ p. count_by (stands_beside p) squares) squares ≡ length squares
 groups_by_first [] laid = refl
 groups_by_first (q ∷ []) laid = omega (arith, pairs_first q [] laid)
 groups_by_first (q ∷ r ∷ squares) laid = omega (
@@ -100,5 +106,6 @@ groups_by_first (q ∷ r ∷ squares) laid = omega (
   groups_by_first (r ∷ squares) (laid_rest q (r ∷ squares) laid),
 )
 
-pub groups_counted : (squares : List Square) → AreLaid squares → length (square_groups squares) + sum_by (λ r. count_by (λ p. stands_beside p r) squares) squares ≡ length squares
+pub groups_counted : (squares : List Square) → AreLaid squares
+    → length (square_groups squares) + sum_by (λ r. count_by (λ p. stands_beside p r) squares) squares ≡ length squares
 groups_counted squares laid = omega (arith, groups_by_first squares laid, pairs_turned stands_beside squares squares)

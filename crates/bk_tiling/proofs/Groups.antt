@@ -84,13 +84,16 @@ module _ (p r : Square) (squares : List Square) (a : Apart (p ∷ r ∷ squares)
       by (inl k) (inl l) = omega arith
       by (inl k) (inr l) = omega (arith, l.0)
       by (inr k) (inl l) = omega (arith, k.0)
-      by (inr k) (inr l) = not_r (a.apart p r (inl refl) (inr (inl refl)) r.x r.y (covers_from r.x r.y p (omega (arith, k.1)) (omega (arith, l.1)) (omega (arith, k.0)) (omega (arith, k.0, p_side)))
+      by (inr k) (inr l) =
+          not_r (a.apart p r (inl refl) (inr (inl refl)) r.x r.y
+          (covers_from r.x r.y p (omega (arith, k.1)) (omega (arith, l.1)) (omega (arith, k.0)) (omega (arith, k.0, p_side)))
           (covers_from r.x r.y r (omega arith) (omega (arith, r_side)) (omega arith) (omega (arith, r_side))))
 
   in_first : (g : List Square) (row : IsRow (r ∷ squares) g) → AllIn squares g → IsOneOf row.first squares
   in_first g row all = (subst (AllIn squares) row.is all).0
 
-  right_of : (g : List Square) (row : IsRow (r ∷ squares) g) → IsOneOf row.first (r ∷ squares) → (z : Square) → IsOneOf z (p ∷ r ∷ squares) → z.y ≡ row.first.y → z.x ≡ row.end → ⊥
+  right_of : (g : List Square) (row : IsRow (r ∷ squares) g) → IsOneOf row.first (r ∷ squares) → (z : Square) → IsOneOf z (p ∷ r ∷ squares)
+      → z.y ≡ row.first.y → z.x ≡ row.end → ⊥
   right_of g row h z (inl e) ey ex = by (before_cases p row.first (first_before row.first h))
     where
       by : (p.y < row.first.y) ⊎ ((p.y ≡ row.first.y) × (p.x < row.first.x)) → ⊥
@@ -105,10 +108,12 @@ module _ (p r : Square) (squares : List Square) (a : Apart (p ∷ r ∷ squares)
   more_group g (k, all) = (record { row = more_row g k.row (inr (in_first g k.row all)); left = left }, all_more r squares g all)
     where
       left : (z : Square) → IsOneOf z (p ∷ r ∷ squares) → z.y ≡ k.row.first.y → z.x + z.s ≡ k.row.first.x → ⊥
-      left z (inl e) ey ex = no_later k.row.first (in_first g k.row all) (omega (arith, ey, ap (λ (s : Square). s.y) e)) (omega (arith, ex, ap (λ (s : Square). s.x + s.s) e))
+      left z (inl e) ey ex =
+          no_later k.row.first (in_first g k.row all) (omega (arith, ey, ap (λ (s : Square). s.y) e)) (omega (arith, ex, ap (λ (s : Square). s.x + s.s) e))
       left z (inr h) ey ex = k.left z h ey ex
 
-  more_groups : (gs : List (List Square)) → AllByRecursion (λ g. IsGroup (r ∷ squares) g × AllIn squares g) gs → AllByRecursion (λ g. IsGroup (p ∷ r ∷ squares) g × AllIn (r ∷ squares) g) gs
+  more_groups : (gs : List (List Square)) → AllByRecursion (λ g. IsGroup (r ∷ squares) g × AllIn squares g) gs
+      → AllByRecursion (λ g. IsGroup (p ∷ r ∷ squares) g × AllIn (r ∷ squares) g) gs
   more_groups [] all = tt
   more_groups (g ∷ gs) all = (more_group g all.0, more_groups gs all.1)
 
@@ -122,7 +127,16 @@ module _ (p r : Square) (squares : List Square) (a : Apart (p ∷ r ∷ squares)
       group = p ∷ s.group;
       groups = s.groups;
       is = ap (λ (b : Bool). cond b (onto_first p (square_groups (r ∷ squares))) ((p ∷ []) ∷ square_groups (r ∷ squares))) e ∙ ap (onto_first p) s.is;
-      row = record { first = p; rest = s.group; is = refl; end = s.row.end; chain = (refl, subst (λ (x : ℕ). Chain x s.group s.row.end) at s.row.chain); tops = (refl, same_tops s.group s.row.tops); right = right };
+      row = record {
+        first = p;
+        rest = s.group;
+        is = refl;
+        end = s.row.end;
+        chain =
+            (refl, subst (λ (x : ℕ). Chain x s.group s.row.end) at s.row.chain);
+        tops = (refl, same_tops s.group s.row.tops);
+        right = right;
+      };
       first = refl;
       own = (inl refl, all_more p (r ∷ squares) s.group s.own);
       others = more_groups s.groups s.others;
@@ -147,7 +161,8 @@ module _ (p r : Square) (squares : List Square) (a : Apart (p ∷ r ∷ squares)
     apart_from e = record {
       group = p ∷ [];
       groups = s.group ∷ s.groups;
-      is = ap (λ (b : Bool). cond b (onto_first p (square_groups (r ∷ squares))) ((p ∷ []) ∷ square_groups (r ∷ squares))) e ∙ ap (λ (gs : List (List Square)). (p ∷ []) ∷ gs) s.is;
+      is = ap (λ (b : Bool). cond b (onto_first p (square_groups (r ∷ squares))) ((p ∷ []) ∷ square_groups (r ∷ squares))) e
+          ∙ ap (λ (gs : List (List Square)). (p ∷ []) ∷ gs) s.is;
       row = record { first = p; rest = []; is = refl; end = p.x + p.s; chain = (refl, refl); tops = (refl, tt); right = right };
       first = refl;
       own = (inl refl, tt);
@@ -156,11 +171,14 @@ module _ (p r : Square) (squares : List Square) (a : Apart (p ∷ r ∷ squares)
       where
         right : (z : Square) → IsOneOf z (p ∷ r ∷ squares) → z.y ≡ p.y → z.x ≡ p.x + p.s → ⊥
         right z (inl same) ey ex = omega (arith, p_side, ex, ap (λ (q : Square). q.x) same)
-        right z (inr (inl same)) ey ex = both_ways (stands_beside p r) e (beside_from p r (sym ey ∙ ap (λ (q : Square). q.y) same) (sym ex ∙ ap (λ (q : Square). q.x) same))
+        right z (inr (inl same)) ey ex =
+            both_ways (stands_beside p r) e (beside_from p r (sym ey ∙ ap (λ (q : Square). q.y) same) (sym ex ∙ ap (λ (q : Square). q.x) same))
         right z (inr (inr h)) ey ex = no_later z h (sym ey) (sym ex)
 
         left : (z : Square) → IsOneOf z (p ∷ r ∷ squares) → z.y ≡ s.row.first.y → z.x + z.s ≡ s.row.first.x → ⊥
-        left z (inl same) ey ex = both_ways (stands_beside p r) e (beside_from p r (sym (ap (λ (q : Square). q.y) same) ∙ ey ∙ ap (λ (q : Square). q.y) s.first) (sym (ap (λ (q : Square). q.x + q.s) same) ∙ ex ∙ ap (λ (q : Square). q.x) s.first))
+        left z (inl same) ey ex = both_ways (stands_beside p r) e
+            (beside_from p r (sym (ap (λ (q : Square). q.y) same) ∙ ey ∙ ap (λ (q : Square). q.y) s.first)
+            (sym (ap (λ (q : Square). q.x + q.s) same) ∙ ex ∙ ap (λ (q : Square). q.x) s.first))
         left z (inr (inl same)) ey ex = omega (arith, r_side, ex, ap (λ (q : Square). q.x) s.first, ap (λ (q : Square). q.x + q.s) same)
         left z (inr (inr h)) ey ex = by (before_cases r z (second_before z h))
           where
@@ -205,11 +223,13 @@ groups_row [] = refl
 groups_row (q ∷ []) = refl
 groups_row (q ∷ r ∷ squares) = cases (stands_beside q r) (groups_row (r ∷ squares))
   where
-    cases : (b : Bool) → flat_map (λ g. g) (square_groups (r ∷ squares)) ≡ r ∷ squares → flat_map (λ g. g) (cond b (onto_first q (square_groups (r ∷ squares))) ((q ∷ []) ∷ square_groups (r ∷ squares))) ≡ q ∷ r ∷ squares
+    cases : (b : Bool) → flat_map (λ g. g) (square_groups (r ∷ squares)) ≡ r ∷ squares
+        → flat_map (λ g. g) (cond b (onto_first q (square_groups (r ∷ squares))) ((q ∷ []) ∷ square_groups (r ∷ squares))) ≡ q ∷ r ∷ squares
     cases true e = onto_row q (square_groups (r ∷ squares)) ∙ ap (λ (rest : List Square). q ∷ rest) e
     cases false e = ap (λ (rest : List Square). q ∷ rest) e
 
 -- squares side by side on one level are the group of their sides
-pub chain_is_group : (squares : List Square) (x level end : ℕ) → Chain x squares end → AllByRecursion (λ q. q.y ≡ level) squares → squares ≡ laid_group x level (laid_sides squares)
+pub chain_is_group : (squares : List Square) (x level end : ℕ) → Chain x squares end → AllByRecursion (λ q. q.y ≡ level) squares
+    → squares ≡ laid_group x level (laid_sides squares)
 chain_is_group [] x level end c tops = refl
 chain_is_group (q ∷ squares) x level end c tops = λ i. record { x = c.0 i; y = tops.0 i; s = q.s } ∷ chain_is_group squares (x + q.s) level end c.1 tops.1 i

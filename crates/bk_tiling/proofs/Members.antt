@@ -1,5 +1,6 @@
 -- Squares of lists in front of others and behind them, at a place, and found by a test.
-use Rattle.std.proofs.Common.{Bool, List, None, Option, Some, [], ap, arith, cond, count_by, false, inl, inr, length, refl, slice_index_or, suc, true, zero, ℕ, ◌++◌, ◌∙◌, ◌<◌, ◌∷◌, ◌≡◌}
+use Rattle.std.proofs.Common.{Bool, List, None, Option, Some, [], ap, arith, cond, count_by, false, inl, inr, length, refl, slice_index_or, suc}
+use Rattle.std.proofs.Common.{true, zero, ℕ, ◌++◌, ◌∙◌, ◌<◌, ◌∷◌, ◌≡◌}
 use Rattle.std.specs.List.{find}
 use Rattle.bk_tiling.proofs.Cells.{count-cons}
 use Rattle.bk_tiling.specs.Tiling.{IsOneOf}
@@ -25,7 +26,8 @@ pub found_one : (p : Square → Bool) (squares : List Square) (q : Square) → S
 found_one p [] q e = absurd (cc)
 found_one p (r ∷ squares) q e = cases (p r) refl e (found_one p squares q)
   where
-    cases : (b : Bool) → p r ≡ b → ◌≡◌ {A = Option Square} (Some q) (cond b (Some r) (find p squares)) → (Some q ≡ find p squares → IsOneOf q squares × (p q ≡ true)) → IsOneOf q (r ∷ squares) × (p q ≡ true)
+    cases : (b : Bool) → p r ≡ b → ◌≡◌ {A = Option Square} (Some q) (cond b (Some r) (find p squares))
+        → (Some q ≡ find p squares → IsOneOf q squares × (p q ≡ true)) → IsOneOf q (r ∷ squares) × (p q ≡ true)
     cases true f e rest = let same : q ≡ r = cc in (inl same, ap p same ∙ f)
     cases false f e rest = (inr (rest e).0, (rest e).1)
 
@@ -33,6 +35,7 @@ pub found_none : (p : Square → Bool) (squares : List Square) → None ≡ find
 found_none p [] e = refl
 found_none p (r ∷ squares) e = cases (p r) refl e (found_none p squares)
   where
-    cases : (b : Bool) → p r ≡ b → ◌≡◌ {A = Option Square} None (cond b (Some r) (find p squares)) → (None ≡ find p squares → count_by p squares ≡ 0) → count_by p (r ∷ squares) ≡ 0
+    cases : (b : Bool) → p r ≡ b → ◌≡◌ {A = Option Square} None (cond b (Some r) (find p squares)) → (None ≡ find p squares → count_by p squares ≡ 0)
+        → count_by p (r ∷ squares) ≡ 0
     cases true f e rest = absurd (cc)
     cases false f e rest = let none : ◌≡◌ {A = ℕ} (cond (p r) 1 0) 0 = ap (λ (b : Bool). cond {A = ℕ} b 1 0) f in omega (arith, count-cons p r squares, rest e)

@@ -21,7 +21,8 @@ covers_moved : (right down i j : ℕ) (q : Square) → covers (i + right) (j + d
 covers_moved right down i j q =
     λ z. (le_moved q.x i right z && lt_moved i q.x q.s right z) && (le_moved q.y j down z && lt_moved j q.y q.s down z)
 
-count_moved : (right down i j : ℕ) (squares : List Square) → count_by (covers (i + right) (j + down)) (map (moved_square right down) squares) ≡ count_by (covers i j) squares
+count_moved : (right down i j : ℕ) (squares : List Square)
+    → count_by (covers (i + right) (j + down)) (map (moved_square right down) squares) ≡ count_by (covers i j) squares
 count_moved right down i j [] = refl
 count_moved right down i j (q ∷ squares) = omega (
   arith,
@@ -31,12 +32,14 @@ count_moved right down i j (q ∷ squares) = omega (
   count_moved right down i j squares,
 )
 
-pub all_moved : (P Q : Square → Type 0) (right down : ℕ) → ((q : Square) → P q → Q (moved_square right down q)) → (squares : List Square) → AllByRecursion P squares
+pub all_moved : (P Q : Square → Type 0) (right down : ℕ) → ((q : Square) → P q → Q (moved_square right down q)) → (squares : List Square)
+    → AllByRecursion P squares
     → AllByRecursion Q (map (moved_square right down) squares)
 all_moved P Q right down f [] all = tt
 all_moved P Q right down f (q ∷ squares) all = (f q all.0, all_moved P Q right down f squares all.1)
 
-pub tiles_moved : (right down : ℕ) (r : Rectangle) (squares : List Square) → Tiles r squares → Tiles (moved_rectangle right down r) (map (moved_square right down) squares)
+pub tiles_moved : (right down : ℕ) (r : Rectangle) (squares : List Square) → Tiles r squares
+    → Tiles (moved_rectangle right down r) (map (moved_square right down) squares)
 tiles_moved right down r squares tiles = record {
   some = omega (arith, length-map squares (moved_square right down), tiles.some);
   sides = all_moved (λ q. 0 < q.s) (λ q. 0 < q.s) right down (λ q some. some) squares tiles.sides;
@@ -52,7 +55,8 @@ tiles_moved right down r squares tiles = record {
       bottom = omega (arith, is.bottom);
     }
 
-    once : (i j : ℕ) → r.x + right ≤ i → i < (r.x + right) + r.width → r.y + down ≤ j → j < (r.y + down) + r.height → count_by (covers i j) (map (moved_square right down) squares) ≡ 1
+    once : (i j : ℕ) → r.x + right ≤ i → i < (r.x + right) + r.width → r.y + down ≤ j → j < (r.y + down) + r.height
+        → count_by (covers i j) (map (moved_square right down) squares) ≡ 1
     once i j a b c d =
         let column : (i - right) + right ≡ i = omega arith in
         let level : (j - down) + down ≡ j = omega arith in

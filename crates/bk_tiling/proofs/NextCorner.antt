@@ -68,7 +68,8 @@ module _ (t u : Tiling) (tiling : IsTiling t) (other : IsTiling u) (widths : t.w
       own = covers_from r.x r.y r (omega arith) (omega (arith, r_side)) (omega arith) (omega (arith, r_side))
 
       one : count_by (covers r.x r.y) u.squares ≡ 1
-      one = let a = r_within.right in let b = r_within.bottom in (other.tiles).once r.x r.y (omega arith) (omega (arith, r_side)) (omega arith) (omega (arith, r_side))
+      one = let a = r_within.right in let b =
+          r_within.bottom in (other.tiles).once r.x r.y (omega arith) (omega (arith, r_side)) (omega arith) (omega (arith, r_side))
 
       free : (p : Square) → IsOneOf p front → covers r.x r.y p ≡ true → ⊥
       free p h e = omega (
@@ -121,10 +122,13 @@ not_higher t u tiling other widths same = cases (two t.height u.height)
 
     cases : (t.height ≤ u.height) ⊎ (u.height < t.height) → t.height ≤ u.height
     cases (inl h) = h
-    cases (inr h) = absurd (deep (counted_one (covers 0 u.height) t.squares (let e = (tiling.tiles).once 0 u.height (omega arith) (omega (arith, wide_enough t tiling)) (omega arith) (omega arith) in omega (arith, e))))
+    cases (inr h) =
+        absurd (deep (counted_one (covers 0 u.height) t.squares
+        (let e = (tiling.tiles).once 0 u.height (omega arith) (omega (arith, wide_enough t tiling)) (omega arith) (omega arith) in omega (arith, e))))
       where
         deep : (q : Square) × IsOneOf q t.squares × (covers 0 u.height q ≡ true) → ⊥
-        deep (q, k, e) = let w = in_all (IsWithin (whole u)) u.squares (other.tiles).within q (subst (IsOneOf q) same k) in let b = w.bottom in let d = (over_from 0 u.height q e).bottom in omega arith
+        deep (q, k, e) = let w = in_all (IsWithin (whole u)) u.squares (other.tiles).within q (subst (IsOneOf q) same k) in let b =
+            w.bottom in let d = (over_from 0 u.height q e).bottom in omega arith
 
 pub same_tiling : (t u : Tiling) → IsTiling t → IsTiling u → t.width ≡ u.width → t.squares ≡ u.squares → t ≡ u
 same_tiling t u tiling other widths same = λ i. record { width = widths i; height = heights i; squares = same i }

@@ -10,7 +10,8 @@ use Rattle.bk_tiling.proofs.PuttingInOrder.{ordered}
 use Rattle.bk_tiling.proofs.Refusing.{at_most_one, counted_twice}
 use Rattle.bk_tiling.specs.CodeOrder.{in_code_order}
 use Rattle.bk_tiling.specs.Kept.{IsKept, IsSide}
-use Rattle.bk_tiling.specs.Refusal.{AreWithin, HasCells, HaveSides, IsAccepted, IsFew, IsFirstOverlap, IsFirstPlace, IsFirstUncovered, IsRefusal, ShareNoCell, sized}
+use Rattle.bk_tiling.specs.Refusal.{AreWithin, HasCells, HaveSides, IsAccepted, IsFew, IsFirstOverlap, IsFirstPlace, IsFirstUncovered, IsRefusal}
+use Rattle.bk_tiling.specs.Refusal.{ShareNoCell, sized}
 use Rattle.bk_tiling.specs.Tiling.{IsOneOf, IsWithin, Tiles, covers}
 use Rattle.bk_tiling.specs.declared.NotTiling.TheVariants.{Empty, Many, Outside, Overlap, Side, Uncovered}
 use Rattle.bk_tiling.specs.declared.NotTiling.{NotTiling}
@@ -120,7 +121,8 @@ one_first_overlap squares i j k l a b = cases (three i k) (three j l)
     cases (inr (inr e)) (inr (inl h)) = absurd (a.before k l any_square b.ascending b.below (inr (sym e, h)) (b.here any_square))
     cases (inr (inr e)) (inr (inr f)) = (e, f)
 
-one_first_uncovered : (width height : ℕ) (squares : List Square) (x y u v : ℕ) → IsFirstUncovered width height squares x y → IsFirstUncovered width height squares u v → (x ≡ u) × (y ≡ v)
+one_first_uncovered : (width height : ℕ) (squares : List Square) (x y u v : ℕ) → IsFirstUncovered width height squares x y
+    → IsFirstUncovered width height squares u v → (x ≡ u) × (y ≡ v)
 one_first_uncovered width height squares x y u v a b = cases (three x u) (three y v)
   where
     same_level : (i j k : ℕ) → j ≡ k → count_by (covers i j) squares ≡ count_by (covers i k) squares
@@ -174,23 +176,25 @@ module _ (width height : ℕ) (squares : List Square) where
   refused_once (Uncovered x y) (Uncovered u v) r s = let same = one_first_uncovered width height squares x y u v r.5 s.5 in λ z. Uncovered (same.0 z) (same.1 z)
 
 -- what is accepted and put in order is what a `Tiling` keeps
-pub kept_from : (width height : ℕ) (squares kept : List Square) → width < 2 ^ 64 → height < 2 ^ 64 → IsAccepted width height squares → kept ≡ in_code_order squares
+pub kept_from : (width height : ℕ) (squares kept : List Square) → width < 2 ^ 64 → height < 2 ^ 64 → IsAccepted width height squares
+    → kept ≡ in_code_order squares
     → IsKept (record { width = width; height = height; squares = kept })
-kept_from width height squares kept wide high accepted same = subst (λ (l : List Square). IsKept (record { width = width; height = height; squares = l })) (sym same) (record {
-  tiling = record {
-    tiles = record {
-      some = omega (arith, in_code_order-length squares, (accepted.tiles).some);
-      sides = in_code_order-all (λ q. 0 < q.s) squares (accepted.tiles).sides;
-      within = in_code_order-all (IsWithin (sized width height)) squares (accepted.tiles).within;
-      once = λ i j left right top bottom. in_code_order-count (covers i j) squares ∙ (accepted.tiles).once i j left right top bottom;
-    };
-    ordered = ordered squares some (λ q h. at_most_one squares (tiles_apart width height squares accepted.tiles) q.x q.y);
-  };
-  few = omega (arith, in_code_order-length squares, accepted.few);
-  sides = in_code_order-all (λ q. IsSide q.s) squares accepted.sides;
-  width_fits = wide;
-  height_fits = high;
-})
+kept_from width height squares kept wide high accepted same =
+    subst (λ (l : List Square). IsKept (record { width = width; height = height; squares = l })) (sym same) (record {
+      tiling = record {
+        tiles = record {
+          some = omega (arith, in_code_order-length squares, (accepted.tiles).some);
+          sides = in_code_order-all (λ q. 0 < q.s) squares (accepted.tiles).sides;
+          within = in_code_order-all (IsWithin (sized width height)) squares (accepted.tiles).within;
+          once = λ i j left right top bottom. in_code_order-count (covers i j) squares ∙ (accepted.tiles).once i j left right top bottom;
+        };
+        ordered = ordered squares some (λ q h. at_most_one squares (tiles_apart width height squares accepted.tiles) q.x q.y);
+      };
+      few = omega (arith, in_code_order-length squares, accepted.few);
+      sides = in_code_order-all (λ q. IsSide q.s) squares accepted.sides;
+      width_fits = wide;
+      height_fits = high;
+    })
   where
     some : (q : Square) → IsOneOf q squares → 0 < q.s
     some q h = in_all (λ q. 0 < q.s) squares (accepted.tiles).sides q h

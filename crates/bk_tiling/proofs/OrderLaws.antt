@@ -50,7 +50,8 @@ comes_before-trans p q r h k = elim (comes_before-cases p q h) [
   ]
 ]
 
-all_later : (p q : Square) (qs : List Square) → IsTrue (comes_before p q) → AllByRecursion (λ r. IsTrue (comes_before q r)) qs → AllByRecursion (λ r. IsTrue (comes_before p r)) qs
+all_later : (p q : Square) (qs : List Square) → IsTrue (comes_before p q) → AllByRecursion (λ r. IsTrue (comes_before q r)) qs
+    → AllByRecursion (λ r. IsTrue (comes_before p r)) qs
 all_later p q [] h all = tt
 all_later p q (r ∷ qs) h all = (comes_before-trans p q r h all.0, all_later p q qs h all.1)
 
@@ -72,7 +73,8 @@ with_square-order q (p ∷ qs) apart order = step (cases_Bool (comes_before q p)
         subst (λ b. InCodeOrder (cond b (q ∷ p ∷ qs) (p ∷ with_square q qs))) (sym first) ((first, all_later q p qs first order.0), order)
     step (inr later) rest =
         let earlier : IsTrue (comes_before p q) = elim apart.0 [ inl h ↦ h | inr h ↦ absurd (both_ways (comes_before q p) later h) ] in
-        subst (λ b. InCodeOrder (cond b (q ∷ p ∷ qs) (p ∷ with_square q qs))) (sym later) (with_square-all (λ r. IsTrue (comes_before p r)) q qs earlier order.0, rest)
+        subst (λ b. InCodeOrder (cond b (q ∷ p ∷ qs) (p ∷ with_square q qs))) (sym later)
+        (with_square-all (λ r. IsTrue (comes_before p r)) q qs earlier order.0, rest)
 
 -- squares at different places are put in code order
 pub in_code_order-order : (qs : List Square) → AllApart qs → InCodeOrder (in_code_order qs)
@@ -129,7 +131,8 @@ sum_with : (f : Square → ℕ) (q : Square) (squares : List Square) → sum_by 
 sum_with f q [] = sum_by-cons f q []
 sum_with f q (r ∷ squares) = cases (comes_before q r) (sum_with f q squares)
   where
-    cases : (b : Bool) → sum_by f (with_square q squares) ≡ f q + sum_by f squares → sum_by f (cond b (q ∷ r ∷ squares) (r ∷ with_square q squares)) ≡ f q + sum_by f (r ∷ squares)
+    cases : (b : Bool) → sum_by f (with_square q squares) ≡ f q + sum_by f squares
+        → sum_by f (cond b (q ∷ r ∷ squares) (r ∷ with_square q squares)) ≡ f q + sum_by f (r ∷ squares)
     cases true e = sum_by-cons f q (r ∷ squares)
     cases false e = omega (arith, sum_by-cons f r (with_square q squares), sum_by-cons f r squares, e)
 

@@ -12,15 +12,18 @@ at_place [] q h = absurd h
 at_place (r ∷ squares) q (inl e) = (0, omega arith, λ d. sym e)
 at_place (r ∷ squares) q (inr h) = let found = at_place squares q h in (suc found.0, omega (arith, found.1), found.2)
 
-pub later_place : (squares : List Square) → InCodeOrder squares → (i j : ℕ) (d : Square) → i < j → j < length squares → comes_before (slice_index_or squares i d) (slice_index_or squares j d) ≡ true
+pub later_place : (squares : List Square) → InCodeOrder squares → (i j : ℕ) (d : Square) → i < j → j < length squares
+    → comes_before (slice_index_or squares i d) (slice_index_or squares j d) ≡ true
 later_place [] o i j d a b = absurd (omega arith)
 later_place (q ∷ squares) o zero zero d a b = absurd (omega arith)
-later_place (q ∷ squares) o zero (suc j) d a b = in_all (λ r. comes_before q r ≡ true) squares o.0 (slice_index_or squares j d) (one_at squares j d (omega arith))
+later_place (q ∷ squares) o zero (suc j) d a b =
+    in_all (λ r. comes_before q r ≡ true) squares o.0 (slice_index_or squares j d) (one_at squares j d (omega arith))
 later_place (q ∷ squares) o (suc i) zero d a b = absurd (omega arith)
 later_place (q ∷ squares) o (suc i) (suc j) d a b = later_place squares o.1 i j d (omega arith) (omega arith)
 
 -- what `partition_point` asks
-pub parted_at : (squares : List Square) (c : Square) → InCodeOrder squares → (i j : ℕ) (d : Square) → i ≤ j → j < length squares → comes_before (get_or squares j d) c ≡ true → comes_before (get_or squares i d) c ≡ true
+pub parted_at : (squares : List Square) (c : Square) → InCodeOrder squares → (i j : ℕ) (d : Square) → i ≤ j → j < length squares
+    → comes_before (get_or squares j d) c ≡ true → comes_before (get_or squares i d) c ≡ true
 parted_at squares c o i j d h k e = cases (two i j h)
   where
     two : (i j : ℕ) → i ≤ j → (i ≡ j) ⊎ (i < j)

@@ -3,7 +3,8 @@ use Rattle.std.specs.Cmp.{IsTotalOrder}
 use Rattle.std.specs.List.Sorted.{IsPermutation, IsSortedByKey}
 use Rattle.std.specs.Ordering.{is_lt, nat_cmp, ordering_then}
 use Rattle.std.specs.Prelude.{AllPairs, slice_index_or}
-use Rattle.std.proofs.Common.{Bool, List, [], ap, arith, cond, count_by, false, inl, inr, length, max, refl, subst, suc, sym, true, zero, ℕ, ◌+◌, ◌<◌, ◌∷◌, ◌≡◌, ◌≤◌, ◌⊎◌}
+use Rattle.std.proofs.Common.{Bool, List, [], ap, arith, cond, count_by, false, inl, inr, length, max, refl, subst, suc, sym, true, zero, ℕ, ◌+◌}
+use Rattle.std.proofs.Common.{◌<◌, ◌∷◌, ◌≡◌, ◌≤◌, ◌⊎◌}
 use Rattle.std.proofs.lemmas.Cmp.{nat_cmp_total, on_total, then_total}
 use Rattle.std.proofs.lemmas.List.Elements.{recursion_from_All}
 use Rattle.std.proofs.lemmas.List.Sorted.{All-permutation, IsPermutation-sym, ranks_by, sorted_far, sum_by-IsPermutation}
@@ -40,11 +41,18 @@ pub cross_from : (p q : Square) → SharesCell p q → Cross p q
 cross_from p q h =
     let a = over_from h.column h.level p h.in_first in
     let b = over_from h.column h.level q h.in_second in
-    record { right = omega (arith, a.left, b.right); left = omega (arith, b.left, a.right); bottom = omega (arith, a.top, b.bottom); top = omega (arith, b.top, a.bottom) }
+    record {
+      right = omega (arith, a.left, b.right);
+      left = omega (arith, b.left, a.right);
+      bottom = omega (arith, a.top, b.bottom);
+      top =
+          omega (arith, b.top, a.bottom);
+    }
 
 -- of squares no two of which share a cell, the first shares none with a later one
 first_apart : (q : Square) (squares : List Square) → ShareNoCell (q ∷ squares) → (r : Square) → IsOneOf r squares → ¬ (SharesCell q r)
-first_apart q squares apart r h = in_all (λ r. ¬ (SharesCell q r)) squares (recursion_from_All (λ r. ¬ (SharesCell q r)) squares (λ k d below. apart 0 (suc k) d (omega arith) (omega arith))) r h
+first_apart q squares apart r h = in_all (λ r. ¬ (SharesCell q r)) squares
+    (recursion_from_All (λ r. ¬ (SharesCell q r)) squares (λ k d below. apart 0 (suc k) d (omega arith) (omega arith))) r h
 
 rest_apart : (q : Square) (squares : List Square) → ShareNoCell (q ∷ squares) → ShareNoCell squares
 rest_apart q squares apart a b d up below = apart (suc a) (suc b) d (omega arith) (omega arith)
@@ -61,7 +69,8 @@ at_most_one (q ∷ squares) apart i j = cases (covers i j q) refl (at_most_one s
       covers_one i j q e,
       none_counted (covers i j) squares (λ r h f. first_apart q squares apart r h (record { column = i; level = j; in_first = e; in_second = f })),
     )
-    cases false e rest = let none : ◌≡◌ {A = ℕ} (cond (covers i j q) 1 0) 0 = ap (λ (b : Bool). cond {A = ℕ} b 1 0) e in omega (arith, count-cons (covers i j) q squares, rest)
+    cases false e rest = let none : ◌≡◌ {A = ℕ} (cond (covers i j q) 1 0) 0 =
+        ap (λ (b : Bool). cond {A = ℕ} b 1 0) e in omega (arith, count-cons (covers i j) q squares, rest)
 
 -- squares that share a cell are counted there twice
 pub counted_twice : (squares : List Square) (i j a b : ℕ) (d : Square) → a < b → b < length squares
@@ -75,7 +84,8 @@ counted_twice (q ∷ squares) i j zero (suc b) d up below e f = omega (
   one_counted (covers i j) squares (slice_index_or squares b d) (one_at squares b d (omega arith)) f,
 )
 counted_twice (q ∷ squares) i j (suc a) zero d up below e f = absurd (omega arith)
-counted_twice (q ∷ squares) i j (suc a) (suc b) d up below e f = omega (arith, count-cons (covers i j) q squares, counted_twice squares i j a b d (omega arith) (omega arith) e f)
+counted_twice (q ∷ squares) i j (suc a) (suc b) d up below e f =
+    omega (arith, count-cons (covers i j) q squares, counted_twice squares i j a b d (omega arith) (omega arith) e f)
 
 -- squares in no later than the order of a code, no two over one cell, are in that order
 strictly : (squares : List Square) → ((q : Square) → IsOneOf q squares → 0 < q.s) → ((i j : ℕ) → count_by (covers i j) squares ≤ 1)
@@ -83,11 +93,13 @@ strictly : (squares : List Square) → ((q : Square) → IsOneOf q squares → 0
 strictly [] some once sorted = tt
 strictly (q ∷ squares) some once sorted = (
   all_from (λ r. comes_before q r ≡ true) squares first,
-  strictly squares (λ r h. some r (inr h)) (λ i j. omega (arith, once i j, count-cons (covers i j) q squares)) (λ a b d up below. sorted (suc a) (suc b) d (omega arith) (omega arith)),
+  strictly squares (λ r h. some r (inr h)) (λ i j. omega (arith, once i j, count-cons (covers i j) q squares))
+      (λ a b d up below. sorted (suc a) (suc b) d (omega arith) (omega arith)),
 )
   where
     not_after : (r : Square) → IsOneOf r squares → comes_before r q ≡ false
-    not_after r h = in_all (λ r. comes_before r q ≡ false) squares (recursion_from_All (λ r. comes_before r q ≡ false) squares (λ k d below. sorted 0 (suc k) d (omega arith) (omega arith))) r h
+    not_after r h = in_all (λ r. comes_before r q ≡ false) squares
+        (recursion_from_All (λ r. comes_before r q ≡ false) squares (λ k d below. sorted 0 (suc k) d (omega arith) (omega arith))) r h
 
     three : (q r : Square) → ((q.y < r.y) ⊎ ((q.y ≡ r.y) × (q.x < r.x))) ⊎ ((r.y < q.y) ⊎ ((r.y ≡ q.y) × (r.x < q.x))) ⊎ ((q.y ≡ r.y) × (q.x ≡ r.x))
     three q r = grind arith
@@ -95,7 +107,8 @@ strictly (q ∷ squares) some once sorted = (
     first : (r : Square) → IsOneOf r squares → comes_before q r ≡ true
     first r h = cases (three q r)
       where
-        cases : ((q.y < r.y) ⊎ ((q.y ≡ r.y) × (q.x < r.x))) ⊎ ((r.y < q.y) ⊎ ((r.y ≡ q.y) × (r.x < q.x))) ⊎ ((q.y ≡ r.y) × (q.x ≡ r.x)) → comes_before q r ≡ true
+        cases : ((q.y < r.y) ⊎ ((q.y ≡ r.y) × (q.x < r.x))) ⊎ ((r.y < q.y) ⊎ ((r.y ≡ q.y) × (r.x < q.x))) ⊎ ((q.y ≡ r.y) × (q.x ≡ r.x))
+            → comes_before q r ≡ true
         cases (inl a) = before_from q r a
         cases (inr (inl a)) = absurd (both_ways (comes_before r q) (not_after r h) (before_from r q a))
         cases (inr (inr (y, x))) = absurd (omega (
@@ -103,7 +116,8 @@ strictly (q ∷ squares) some once sorted = (
           once q.x q.y,
           count-cons (covers q.x q.y) q squares,
           covers_one q.x q.y q (covers_from q.x q.y q (omega arith) (omega (arith, some q (inl refl))) (omega arith) (omega (arith, some q (inl refl)))),
-          one_counted (covers q.x q.y) squares r h (covers_from q.x q.y r (omega (arith, x)) (omega (arith, x, some r (inr h))) (omega (arith, y)) (omega (arith, y, some r (inr h)))),
+          one_counted (covers q.x q.y) squares r h
+              (covers_from q.x q.y r (omega (arith, x)) (omega (arith, x, some r (inr h))) (omega (arith, y)) (omega (arith, y, some r (inr h)))),
         ))
 
 -- a sort by level and then by column
@@ -116,19 +130,25 @@ none_after squares sorted i j d up below = cases (cases_Bool (comes_before (slic
     total : IsTotalOrder (λ (a b : ℕ × ℕ). ordering_then (nat_cmp a.0 b.0) (nat_cmp a.1 b.1))
     total = then_total (on_total (λ (a : ℕ × ℕ). a.0) nat_cmp_total) (on_total (λ (a : ℕ × ℕ). a.1) nat_cmp_total)
 
-    cases : (comes_before (slice_index_or squares j d) (slice_index_or squares i d) ≡ true) ⊎ (comes_before (slice_index_or squares j d) (slice_index_or squares i d) ≡ false)
+    cases : (comes_before (slice_index_or squares j d) (slice_index_or squares i d) ≡ true)
+        ⊎ (comes_before (slice_index_or squares j d) (slice_index_or squares i d) ≡ false)
         → comes_before (slice_index_or squares j d) (slice_index_or squares i d) ≡ false
-    cases (inl e) = absurd (both_ways _ (sorted_far (λ (p q : Square). is_lt (ordering_then (nat_cmp p.y q.y) (nat_cmp p.x q.x))) (ranks_by total (λ (q : Square). (q.y, q.x))) squares sorted i j d (omega arith) below)
+    cases (inl e) =
+        absurd (both_ways _ (sorted_far (λ (p q : Square). is_lt (ordering_then (nat_cmp p.y q.y) (nat_cmp p.x q.x)))
+        (ranks_by total (λ (q : Square). (q.y, q.x))) squares sorted i j d (omega arith) below)
         (before_by_rank (slice_index_or squares j d) (slice_index_or squares i d) e))
     cases (inr e) = e
 
 members : (qs rs : List Square) → IsPermutation qs rs → (q : Square) → IsOneOf q rs → IsOneOf q qs
-members qs rs p q h = in_all (λ q. IsOneOf q qs) rs (recursion_from_All (λ q. IsOneOf q qs) rs (All-permutation (λ q. IsOneOf q qs) qs rs p (λ k d below. one_at qs k d below))) q h
+members qs rs p q h =
+    in_all (λ q. IsOneOf q qs) rs
+    (recursion_from_All (λ q. IsOneOf q qs) rs (All-permutation (λ q. IsOneOf q qs) qs rs p (λ k d below. one_at qs k d below))) q h
 
 -- squares with sides, no two over one cell, sorted by level and then by column, are in the order of a code
 pub sorted_in_order : (qs rs : List Square) → HaveSides qs → ShareNoCell qs → IsPermutation qs rs → IsSortedByPlace rs → rs ≡ in_code_order qs
 sorted_in_order qs rs sides apart p sorted = same_members rs (in_code_order qs)
-    (strictly rs (λ q h. some q (members qs rs p q h)) (λ i j. omega (arith, at_most_one qs apart i j, sum_by-IsPermutation (λ q. cond {A = ℕ} (covers i j q) 1 0) qs rs p)) (none_after rs sorted))
+    (strictly rs (λ q h. some q (members qs rs p q h))
+    (λ i j. omega (arith, at_most_one qs apart i j, sum_by-IsPermutation (λ q. cond {A = ℕ} (covers i j q) 1 0) qs rs p)) (none_after rs sorted))
     (ordered qs some (λ q h. at_most_one qs apart q.x q.y))
     (λ q h. in_order qs q (members qs rs p q h))
     (λ q h. members rs qs (IsPermutation-sym qs rs p) q (from_order qs q h))
@@ -142,6 +162,8 @@ pub first_overlap_from : (squares : List Square) (i j : ℕ)
     → IsFirstSharing squares i j → IsFirstOverlap squares i j
 first_overlap_from squares i j earlier first = record { ascending = first.after; below = first.below; here = first.here; before = before }
   where
-    before : (a b : ℕ) (d : Square) → a < b → b < length squares → IsLesserPair a b i j → ¬ (SharesCell (slice_index_or squares a d) (slice_index_or squares b d))
+    before : (a b : ℕ) (d : Square) → a < b → b < length squares → IsLesserPair a b i j
+        → ¬ (SharesCell (slice_index_or squares a d) (slice_index_or squares b d))
     before a b d over last (inl l) = earlier a b d l over last
-    before a b d over last (inr (e, l)) = subst (λ (a : ℕ). ¬ (SharesCell (slice_index_or squares a d) (slice_index_or squares b d))) (sym e) (first.before b d (omega (arith, e)) l)
+    before a b d over last (inr (e, l)) =
+        subst (λ (a : ℕ). ¬ (SharesCell (slice_index_or squares a d) (slice_index_or squares b d))) (sym e) (first.before b d (omega (arith, e)) l)

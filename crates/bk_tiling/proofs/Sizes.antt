@@ -1,6 +1,7 @@
 -- How wide and how high a tiling can be: no wider and no higher than its sides laid end to end.
 use Rattle.std.specs.List.{AllByRecursion}
-use Rattle.std.proofs.Common.{Bool, List, [], arith, cond, count_by, inl, length, min, nat_le, nat_lt, refl, suc, sum_by, zero, ℕ, ◌&&◌, ◌*◌, ◌+◌, ◌<◌, ◌≡◌, ◌≤◌, ◌∷◌}
+use Rattle.std.proofs.Common.{Bool, List, [], arith, cond, count_by, inl, length, min, nat_le, nat_lt, refl, suc, sum_by, zero, ℕ, ◌&&◌, ◌*◌, ◌+◌}
+use Rattle.std.proofs.Common.{◌<◌, ◌≡◌, ◌≤◌, ◌∷◌}
 use Rattle.std.proofs.lemmas.Bool.{and_from, le-leb, lt-ltb}
 use Rattle.std.proofs.lemmas.Grind.{common_steps}
 use Rattle.std.proofs.lemmas.List.Sums.{sum_by-cons}
@@ -45,7 +46,8 @@ module _ (from : Square → ℕ) where
   spans_below n [] = omega (arith, none_below n)
   spans_below n (q ∷ squares) = omega (
     arith,
-    same_terms n (λ i. count_by (λ q. in_span (from q) q.s i) (q ∷ squares)) (λ i. cond {A = ℕ} (in_span (from q) q.s i) 1 0 + count_by (λ q. in_span (from q) q.s i) squares)
+    same_terms n (λ i. count_by (λ q. in_span (from q) q.s i) (q ∷ squares))
+        (λ i. cond {A = ℕ} (in_span (from q) q.s i) 1 0 + count_by (λ q. in_span (from q) q.s i) squares)
         (λ i. sum_by-cons (λ p. cond {A = ℕ} (in_span (from p) p.s i) 1 0) q squares),
     sum_of_two n (λ i. cond {A = ℕ} (in_span (from q) q.s i) 1 0) (λ i. count_by (λ q. in_span (from q) q.s i) squares),
     span_below (from q) q.s n,
@@ -82,7 +84,8 @@ height_of_sides t tiling = reach (λ q. q.y) t.height t.squares over
         let o = over_from 0 j found.0 found.2 in
         one_counted (λ q. in_span q.y q.s j) t.squares found.0 found.1 (and_from _ _ (le-leb _ _ o.top) (lt-ltb _ _ o.bottom))
 
-pub sides_end_to_end : (squares : List Square) → AllByRecursion (λ q. IsSide q.s) squares → sum_by (λ (q : Square). q.s) squares ≤ length squares * 999_999_999_999_999
+pub sides_end_to_end : (squares : List Square) → AllByRecursion (λ q. IsSide q.s) squares
+    → sum_by (λ (q : Square). q.s) squares ≤ length squares * 999_999_999_999_999
 sides_end_to_end [] sides = omega arith
 sides_end_to_end (q ∷ squares) sides = omega (arith, sum_by-cons (λ (p : Square). p.s) q squares, sides.0.1, sides_end_to_end squares sides.1)
 

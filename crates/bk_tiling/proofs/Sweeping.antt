@@ -23,7 +23,8 @@ pub record IsOver (width height : ℕ) (squares : List Square) (x y : ℕ) (q : 
   pub lower : y < q.y + q.s
   pub bottom : q.y + q.s ≤ height
 
-pub is_over : (width height : ℕ) (squares : List Square) (x y : ℕ) (q : Square) → AreWithin width height squares → Some q ≡ find (covers x y) squares → IsOver width height squares x y q
+pub is_over : (width height : ℕ) (squares : List Square) (x y : ℕ) (q : Square) → AreWithin width height squares → Some q ≡ find (covers x y) squares
+    → IsOver width height squares x y q
 is_over width height squares x y q within e =
     let found = found_one (covers x y) squares q e in
     let over = over_from x y q found.1 in
@@ -33,7 +34,8 @@ is_over width height squares x y q within e =
     record { is = found.0; left = over.left; further = over.right; right = omega arith; top = over.top; lower = over.bottom; bottom = omega arith }
 
 -- covers further columns
-pub covered_more : (width height : ℕ) (squares : List Square) (x y until : ℕ) (q : Square) → IsOver width height squares x y q → IsCoveredTo squares x y until → IsCoveredTo squares (q.x + q.s) y (min until (q.y + q.s))
+pub covered_more : (width height : ℕ) (squares : List Square) (x y until : ℕ) (q : Square) → IsOver width height squares x y q
+    → IsCoveredTo squares x y until → IsCoveredTo squares (q.x + q.s) y (min until (q.y + q.s))
 covered_more width height squares x y until q over covered i j left high low = cases (cases_lt i x)
   where
     cases : (i < x) ⊎ (x ≤ i) → 0 < count_by (covers i j) squares
@@ -41,7 +43,8 @@ covered_more width height squares x y until q over covered i j left high low = c
     cases (inr here) = one_counted (covers i j) squares q over.is (covers_from i j q (omega (arith, over.left)) left (omega (arith, over.top)) (omega arith))
 
 -- further levels are covered
-pub levels_more : (width : ℕ) (squares : List Square) (y until : ℕ) → ((i j : ℕ) → i < width → j < y → 0 < count_by (covers i j) squares) → IsCoveredTo squares width y until
+pub levels_more : (width : ℕ) (squares : List Square) (y until : ℕ) → ((i j : ℕ) → i < width → j < y → 0 < count_by (covers i j) squares)
+    → IsCoveredTo squares width y until
     → (i j : ℕ) → i < width → j < until → 0 < count_by (covers i j) squares
 levels_more width squares y until above row i j wide low = cases (cases_lt j y)
   where

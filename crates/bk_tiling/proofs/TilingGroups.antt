@@ -11,7 +11,9 @@ use Rattle.bk_tiling.specs.SquareGroups.{square_groups}
 
 module _ (t : Tiling) (tiling : IsTiling t) where
   pub one_there : (q r : Square) (i j : ℕ) → IsOneOf q t.squares → covers i j q ≡ true → IsOneOf r t.squares → covers i j r ≡ true → q ≡ r
-  one_there q r i j a e b f = let o = over_from i j q e in let w = within_of t tiling q a in no_two (covers i j) t.squares (omega (arith, cell_once t tiling i j (omega (arith, o.right, w.right)) (omega (arith, o.bottom, w.bottom)))) q r a e b f
+  one_there q r i j a e b f = let o = over_from i j q e in let w =
+      within_of t tiling q a in
+      no_two (covers i j) t.squares (omega (arith, cell_once t tiling i j (omega (arith, o.right, w.right)) (omega (arith, o.bottom, w.bottom)))) q r a e b f
 
   apart : Apart t.squares
   apart = record { ordered = tiling.ordered; sides = side_of t tiling; apart = λ q r a b i j e f. one_there q r i j a e b f }
@@ -31,7 +33,8 @@ module _ (t : Tiling) (tiling : IsTiling t) where
   pub known : Known
   known = from t.squares refl
     where
-      more : (p : Square) (squares : List Square) (gs : List (List Square)) → AllByRecursion (λ g. IsGroup (p ∷ squares) g × AllIn squares g) gs → AllByRecursion (λ g. IsGroup (p ∷ squares) g × AllIn (p ∷ squares) g) gs
+      more : (p : Square) (squares : List Square) (gs : List (List Square)) → AllByRecursion (λ g. IsGroup (p ∷ squares) g × AllIn squares g) gs
+          → AllByRecursion (λ g. IsGroup (p ∷ squares) g × AllIn (p ∷ squares) g) gs
       more p squares [] all = tt
       more p squares (g ∷ gs) all = ((all.0.0, wider g all.0.1), more p squares gs all.1)
         where
@@ -61,11 +64,17 @@ module _ (t : Tiling) (tiling : IsTiling t) where
           p_in = subst (IsOneOf p) (sym e) (inl refl)
 
           corner : (p.y ≡ 0) × (p.x ≡ 0)
-          corner = let k = next_corner t [] p squares tiling e 0 0 (wide_enough t tiling) (let w = (within_of t tiling p p_in).bottom in omega (arith, side_of t tiling p p_in)) (λ r h f. h) in
+          corner = let k = next_corner t [] p squares tiling e 0 0 (wide_enough t tiling)
+              (let w = (within_of t tiling p p_in).bottom in omega (arith, side_of t tiling p p_in)) (λ r h f. h) in
               let level : p.y ≡ 0 = omega (arith, k.level) in (level, omega (arith, k.column level))
 
           group_is : IsGroup (p ∷ squares) s.group
-          group_is = record { row = s.row; left = λ z h ey ex. omega (arith, side_of t tiling z (subst (IsOneOf z) (sym e) h), ex, ap (λ (q : Square). q.x) s.first, corner.1) }
+          group_is =
+              record {
+                row = s.row;
+                left =
+                    λ z h ey ex. omega (arith, side_of t tiling z (subst (IsOneOf z) (sym e) h), ex, ap (λ (q : Square). q.x) s.first, corner.1);
+              }
 
           at_first : (subst (λ (l : List Square). IsGroup l s.group) (sym e) group_is).row.first ≡ p
           at_first = first_of (p ∷ squares) t.squares (sym e) group_is ∙ s.first

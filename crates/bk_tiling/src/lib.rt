@@ -1,7 +1,7 @@
 //! Squares placed in rectangles, and what it is that they tile one.
 #![tactic(auto)]
 
-ghost use Rattle.std.specs.Prelude.{IfErr, IfOk, IsOk, length, ◌+◌, ◌<◌, ◌^◌, ◌↔◌, ◌≡◌, ◌≤◌};
+ghost use Rattle.std.specs.Prelude.{[], IfErr, IfOk, IsOk, length, ◌+◌, ◌<◌, ◌^◌, ◌↔◌, ◌∷◌, ◌≡◌, ◌≤◌};
 ghost use Rattle.bk_tiling.specs.CodeOrder.{begins_group, in_code_order, stands_beside};
 ghost use Rattle.bk_tiling.specs.Kept.{IsKept};
 ghost use Rattle.bk_tiling.specs.Refusal.{HaveSides, IsAccepted, IsRefusal, ShareNoCell};
@@ -9,9 +9,11 @@ ghost use Rattle.bk_tiling.specs.RefusalLaws.{RefusedInOneWay, RefusedOrAccepted
 ghost use Rattle.bk_tiling.specs.Tiling.{order};
 
 mod checks;
+mod hanging;
 
 use arrayvec::ArrayVec;
 use checks::{first_outside, first_overlap, first_side, first_uncovered};
+pub use hanging::{push_group, sum_of};
 use std::marker::Model;
 
 /// A tiling has at most so many squares.
@@ -127,6 +129,25 @@ impl Tiling {
         }
     }
 
+    /// The tiling of a rectangle of one cell by one square.
+    pub fn unit() -> Tiling
+        ensures { result ≡ record { width = 1; height = 1; squares = (record { x = 0; y = 0; s = 1 }) ∷ [] } }
+    {
+        let mut squares = ArrayVec::new();
+        squares.push(Square { x: 0, y: 0, s: 1 });
+        Tiling::from_known(1, 1, squares)
+    }
+
+    /// Becomes the tiling of a rectangle by squares that are known to tile it and stand in code order. Nothing is tested.
+    pub fn become_known(&mut self, width: u64, height: u64, squares: &[Square])
+        requires { IsKept (record { width = width; height = height; squares = squares.now }) }
+        ensures { self.new ≡ record { width = width; height = height; squares = squares.now } }
+    {
+        replace(&mut self.squares, squares);
+        self.width = width;
+        self.height = height;
+    }
+
     /// The width: how many columns the rectangle has.
     pub fn width(&self) -> u64
         ensures value { result ≡ self.now.width }
@@ -177,6 +198,17 @@ fn stands_beside(before: Square, here: Square) -> bool
     before.y == here.y && before.x + before.s == here.x
 }
 
+// Puts these squares in the place of those that are kept.
+fn replace(kept: &mut ArrayVec<Square, MOST_SQUARES>, squares: &[Square])
+    requires { length squares.now ≤ 200 }
+    ensures { kept.new.items ≡ squares.now }
+{
+    kept.clear();
+    if kept.try_extend_from_slice(squares).is_err() {
+        unreachable!();
+    }
+}
+
 // The squares, put in code order.
 fn put_in_order(squares: &[Square]) -> ArrayVec<Square, MOST_SQUARES>
     requires few { length squares.now ≤ 200 }
@@ -201,91 +233,3 @@ pub fn a_list_is_refused_in_one_way()
 pub fn a_refused_list_is_not_accepted()
     ensures { RefusedOrAccepted }
 {}
-
-#[cfg(test)]
-mod tests {
-    use super::*;
-
-    fn at(x: u64, y: u64, s: u64) -> Square {
-        Square { x, y, s }
-    }
-
-    // The nine squares of the 33 by 32 rectangle, in no order.
-    fn nine_squares() -> [Square; 9] {
-        [
-            at(24, 22, 1),
-            at(18, 15, 7),
-            at(14, 18, 4),
-            at(0, 0, 18),
-            at(24, 23, 9),
-            at(18, 0, 15),
-            at(25, 15, 8),
-            at(14, 22, 10),
-            at(0, 18, 14),
-        ]
-    }
-
-    #[test]
-    fn refuses_at_the_place(rt: HostRuntime) {
-        let crowd = [at(0, 0, 1); 201];
-        let nine = nine_squares();
-        let rows: [(u64, u64, &[Square], NotTiling); 11] = [
-            (0, 1, &crowd, NotTiling::Many { n: 201 }),
-            (2, 0, &[at(0, 0, 1)], NotTiling::Empty),
-            (0, 2, &[at(0, 0, 1)], NotTiling::Empty),
-            (2, 1, &[at(0, 0, 1), at(1, 0, 0)], NotTiling::Side { i: 1 }),
-            (
-                2,
-                1,
-                &[at(0, 0, 1_000_000_000_000_000)],
-                NotTiling::Side { i: 0 },
-            ),
-            (
-                2,
-                1,
-                &[at(0, 0, 1), at(u64::MAX, 0, 1)],
-                NotTiling::Outside { i: 1 },
-            ),
-            (
-                2,
-                1,
-                &[at(0, 0, 1), at(1, 0, 1), at(1, 0, 1)],
-                NotTiling::Overlap { i: 1, j: 2 },
-            ),
-            (
-                2,
-                2,
-                &[at(1, 1, 1), at(0, 0, 2), at(0, 0, 1)],
-                NotTiling::Overlap { i: 0, j: 1 },
-            ),
-            (2, 1, &[at(0, 0, 1)], NotTiling::Uncovered { x: 1, y: 0 }),
-            (
-                2,
-                2,
-                &[at(1, 0, 1), at(0, 1, 1)],
-                NotTiling::Uncovered { x: 0, y: 0 },
-            ),
-            (33, 33, &nine, NotTiling::Uncovered { x: 0, y: 32 }),
-        ];
-        for (width, height, squares, want) in rows {
-            let why = Tiling::try_new(width, height, squares).err();
-            assert_eq!(rt; why, Some(want));
-        }
-    }
-
-    #[test]
-    fn puts_nine_squares_in_order(rt: HostRuntime) {
-        let tiling = Tiling::try_new(33, 32, &nine_squares()).expect(&rt, "they tile it");
-        assert_eq!(rt;
-            (tiling.width(), tiling.height(), tiling.order()),
-            (33, 32, 9)
-        );
-        let sides = [18, 15, 7, 8, 14, 4, 10, 1, 9];
-        for (q, s) in tiling.squares().iter().zip(sides) {
-            assert_eq!(rt; q.s, s);
-        }
-        for i in 0..tiling.order() {
-            assert_eq!(rt; tiling.begins_group(i), i % 2 == 0);
-        }
-    }
-}

@@ -6,7 +6,9 @@ use Rattle.bk_draw.proofs.draw_row.Goals as goal
 
 pub returns : goal.returns
 returns c =
-    let long : length c.draw_squares.new.points ≡ c.args.tiling.now.width + 1 = omega (arith, c.draw_squares.auto.points, ap length c.as_mut_slice.ensures.value, c.leave_blank.ensures.length, c.width.ensures.value) in
+    let long : length c.draw_squares.new.points ≡ c.args.tiling.now.width + 1 =
+    omega (arith, c.draw_squares.auto.points, ap length c.as_mut_slice.ensures.value, c.leave_blank.ensures.length, c.width.ensures.value) in
     let all : c.draw_squares.new.points ≡ drawing_row c.args.tiling.now c.args.y =
-    fill_by_all (λ x. character c.args.tiling.now x c.args.y) c.draw_squares.new.points (c.args.tiling.now.width + 1) 0 long (λ x below. c.draw_squares.ensures x (omega (arith, long, c.draw_squares.auto.points))) in
+    fill_by_all (λ x. character c.args.tiling.now x c.args.y) c.draw_squares.new.points (c.args.tiling.now.width + 1) 0 long
+    (λ x below. c.draw_squares.ensures x (omega (arith, long, c.draw_squares.auto.points))) in
     c.push.ensures.items ∙ ap (λ (points : List ℕ). points ++ 10 ∷ []) (items-with_items c.leave_blank.new.row c.draw_squares.new.points (search rules) ∙ all)

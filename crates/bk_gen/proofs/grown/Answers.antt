@@ -17,5 +17,6 @@ returns-then-next_side-gt-LONGEST_SIDE c =
 
 pub returns : goal.returns
 returns c =
-    under_way_end c.args.v (200 - c.order-turn-end.result) c.loop-turn.turn c.first_rectangle-growing.result c.loop-turn.growing c.loop-turn-test.false c.loop-turn.invariant
+    under_way_end c.args.v (200 - c.order-turn-end.result) c.loop-turn.turn c.first_rectangle-growing.result c.loop-turn.growing c.loop-turn-test.false
+    c.loop-turn.invariant
     ∙ all_turns c.args.v c.order-turn-end.result c.first_rectangle-growing.result c.order-turn-end.ensures.value c.first_rectangle-growing.ensures

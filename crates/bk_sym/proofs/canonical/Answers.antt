@@ -13,20 +13,24 @@ use Rattle.bk_sym.proofs.canonical.Goals as goal
 use Rattle.bk_sym.proofs.canonical.Goals.{then-ne+then-lies, else-ne, else-ne-via-then-ne+else-lies, else-ne-via-else-ne}
 
 pub loop-which-init : goal.loop-which-init
-loop-which-init c = so_far-none c.scale_down-small.result c.first_lying-first.result others c.image-greatest.result c.image-greatest.ensures.value c.first_lying-first.ensures.lying
+loop-which-init c = so_far-none c.scale_down-small.result c.first_lying-first.result others c.image-greatest.result c.image-greatest.ensures.value
+    c.first_lying-first.ensures.lying
 
 pub loop-which-preserved : goal.loop-which-preserved
 loop-which-preserved c =
     elim c.if-ne.branch [
       | then-ne+then-lies w ↦
           let now : c.if-ne.greatest ≡ w.later_of-greatest.result = w.greatest-is in
-          rw now (so_far-more c.scale_down-small.result c.first_lying-first.result others c.loop-which.which-index c.loop-which.greatest w.image.result w.later_of-greatest.result c.loop-which.invariant
+          rw now (so_far-more c.scale_down-small.result c.first_lying-first.result others c.loop-which.which-index c.loop-which.greatest
+          w.image.result w.later_of-greatest.result c.loop-which.invariant
           w.image.ensures.value (w.if-lies.ensures.0 refl) w.later_of-greatest.ensures.one w.later_of-greatest.ensures.first w.later_of-greatest.ensures.second)
-      | else-ne w ↦ so_far-same c.scale_down-small.result c.first_lying-first.result others c.loop-which.which-index c.loop-which.greatest c.if-ne.greatest c.loop-which.invariant
+      | else-ne w ↦ so_far-same c.scale_down-small.result c.first_lying-first.result others c.loop-which.which-index c.loop-which.greatest
+          c.if-ne.greatest c.loop-which.invariant
           (elim w.else-ne.branch [
             | else-ne-via-then-ne+else-lies v ↦ λ h. let e : false ≡ true = v.if-lies.ensures.1 h in cc
             | else-ne-via-else-ne v ↦ λ h.
-                let e : get_or others c.loop-which.which-index Same ≡ c.first_lying-first.result = same_true the_type (search rules) _ _ (not-false _ (sym c.ne.ensures ∙ v.if-ne.false)) in
+                let e : get_or others c.loop-which.which-index Same ≡ c.first_lying-first.result =
+                same_true the_type (search rules) _ _ (not-false _ (sym c.ne.ensures ∙ v.if-ne.false)) in
                 subst (λ (turn : Turn). IsAtMost (image turn c.scale_down-small.result) c.loop-which.greatest) (sym e) c.loop-which.invariant.from_first
           ])
           w.greatest-is
@@ -35,8 +39,11 @@ loop-which-preserved c =
 pub returns-clause-canonical : goal.returns-clause-canonical
 returns-clause-canonical c =
     let e : c.loop-which.which-index ≡ 7 = omega arith in
-    canonical_from c.args.tiling.now c.scale_down-small.result c.loop-which.greatest c.first_lying-first.result c.scale_down-small.ensures.kept.tiling c.scale_down-small.ensures.value c.first_lying-first.ensures.same
+    canonical_from c.args.tiling.now c.scale_down-small.result c.loop-which.greatest c.first_lying-first.result c.scale_down-small.ensures.kept.tiling
+    c.scale_down-small.ensures.value c.first_lying-first.ensures.same
     (subst (λ k. IsGreatestSoFar c.scale_down-small.result c.first_lying-first.result others k c.loop-which.greatest) e c.loop-which.invariant)
 
 pub returns-clause-kept : goal.returns-clause-kept
-returns-clause-kept c = subst IsKept (sym c.loop-which.invariant.image_of) (kept_image c.loop-which.invariant.turn c.scale_down-small.result c.scale_down-small.ensures.kept)
+returns-clause-kept c =
+    subst IsKept (sym c.loop-which.invariant.image_of)
+    (kept_image c.loop-which.invariant.turn c.scale_down-small.result c.scale_down-small.ensures.kept)

@@ -8,5 +8,8 @@ use Rattle.bk_sym.proofs.is_greatest.Goals as goal
 pub returns : goal.returns
 returns c =
     let t : Tiling = c.args.tiling.now in
-    let e : c.loop-which.which-index ≡ 7 = omega arith in
-    ((λ _. greatest_from t t (subst (λ k. NoneGreater t others k t) e c.loop-which.invariant) (λ _. subst (λ (u : Tiling). IsAtMost u t) (sym (image-Same t c.requires.tiling)) (at_most-refl t))), (λ _. refl))
+    let e : c.loop-which.which-index ≡ 7 = omega arith in (
+      (λ _. greatest_from t t (subst (λ k. NoneGreater t others k t) e c.loop-which.invariant)
+          (λ _. subst (λ (u : Tiling). IsAtMost u t) (sym (image-Same t c.requires.tiling)) (at_most-refl t))),
+      (λ _. refl),
+    )

@@ -15,8 +15,10 @@ from_known-requires c =
     let t : Tiling = c.args.tiling.now in
     let e : c.side_divisor-divisor.result ≡ side_divisor t = c.side_divisor-divisor.ensures.value in
     let items : c.loop-q.squares.items ≡ map (divided c.side_divisor-divisor.result) t.squares =
-    all_taken (divided c.side_divisor-divisor.result) c.loop-q.q-index c.squares-q-items.result.now t.squares c.loop-q.squares.items c.squares-q-items.ensures.value c.loop-q-test.false c.loop-q.invariant in
-    subst IsKept (sym (made (c.width.result / c.side_divisor-divisor.result) (c.height.result / c.side_divisor-divisor.result) c.loop-q.squares.items (scaled_down_tiling t)
+    all_taken (divided c.side_divisor-divisor.result) c.loop-q.q-index c.squares-q-items.result.now t.squares c.loop-q.squares.items
+    c.squares-q-items.ensures.value c.loop-q-test.false c.loop-q.invariant in
+    subst IsKept (sym (made (c.width.result / c.side_divisor-divisor.result) (c.height.result / c.side_divisor-divisor.result) c.loop-q.squares.items
+    (scaled_down_tiling t)
     (ap (λ n. n / c.side_divisor-divisor.result) c.width.ensures.value ∙ ap (λ n. t.width / n) e)
     (ap (λ n. n / c.side_divisor-divisor.result) c.height.ensures.value ∙ ap (λ n. t.height / n) e)
     (items ∙ ap (λ n. map (divided n) t.squares) e))) (kept_scaled t c.squares-q-items.ensures.kept)

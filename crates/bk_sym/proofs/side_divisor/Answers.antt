@@ -7,7 +7,8 @@ use Rattle.bk_sym.proofs.side_divisor.Goals as goal
 pub returns-then-divisor-eq1-clause-value : goal.returns-then-divisor-eq1-clause-value
 returns-then-divisor-eq1-clause-value c =
     let d : Square = record { x = 0; y = 0; s = 0 } in
-    sym (rw c.squares-squares.ensures.value at (one_from c.loop-i.i c.loop-i.divisor c.squares-squares.result.now d c.loop-i-test.true c.loop-i.auto.i c.loop-i.invariant (sym c.common-divisor.ensures ∙ c.if-divisor-eq1.true)))
+    sym (rw c.squares-squares.ensures.value at (one_from c.loop-i.i c.loop-i.divisor c.squares-squares.result.now d c.loop-i-test.true c.loop-i.auto.i
+    c.loop-i.invariant (sym c.common-divisor.ensures ∙ c.if-divisor-eq1.true)))
 
 pub returns-clause-some : goal.returns-clause-some
 returns-clause-some c =

@@ -15,15 +15,18 @@ starts c = c.push.ensures.items ∙ ap (λ n. c.self.inside.starts.items ++ n �
 pub invariant_of-self : goal.invariant_of-self
 invariant_of-self c =
     rw (starts c, c.append.ensures)
-    (stored_more _ _ c.args.sides.now c.self.invariant c.requires.some c.requires.sides (omega (arith, sides_count _ _ _ c.self.invariant c.self.view_is, c.requires.room)))
+    (stored_more _ _ c.args.sides.now c.self.invariant c.requires.some c.requires.sides
+    (omega (arith, sides_count _ _ _ c.self.invariant c.self.view_is, c.requires.room)))
 
 pub returns-clause-group : goal.returns-clause-group
 returns-clause-group c =
     rw (starts c, c.append.ensures)
-    (groups_more c.self.inside.starts.items c.self.inside.sides.items c.args.sides.now c.self.invariant.starts_rise ∙ ap (λ (code : List (List ℕ)). code ++ c.args.sides.now ∷ []) c.self.view_is)
+    (groups_more c.self.inside.starts.items c.self.inside.sides.items c.args.sides.now c.self.invariant.starts_rise
+    ∙ ap (λ (code : List (List ℕ)). code ++ c.args.sides.now ∷ []) c.self.view_is)
 
 pub returns-clause-flat : goal.returns-clause-flat
 returns-clause-flat c =
     rw (starts c, c.append.ensures)
-    (ap flat (groups_more c.self.inside.starts.items c.self.inside.sides.items c.args.sides.now c.self.invariant.starts_rise ∙ ap (λ (code : List (List ℕ)). code ++ c.args.sides.now ∷ []) c.self.view_is)
+    (ap flat (groups_more c.self.inside.starts.items c.self.inside.sides.items c.args.sides.now c.self.invariant.starts_rise
+    ∙ ap (λ (code : List (List ℕ)). code ++ c.args.sides.now ∷ []) c.self.view_is)
     ∙ flat_more c.args.self.now c.args.sides.now)

@@ -17,10 +17,12 @@ invariant_of-self c =
 pub returns-clause-group : goal.returns-clause-group
 returns-clause-group c =
     rw c.push.ensures.items
-    (groups_side c.self.inside.starts.items c.self.inside.sides.items c.args.side (some c) c.self.invariant.starts_rise ∙ ap (λ (code : List (List ℕ)). with_side code c.args.side) c.self.view_is)
+    (groups_side c.self.inside.starts.items c.self.inside.sides.items c.args.side (some c) c.self.invariant.starts_rise
+    ∙ ap (λ (code : List (List ℕ)). with_side code c.args.side) c.self.view_is)
 
 pub returns-clause-flat : goal.returns-clause-flat
 returns-clause-flat c =
     rw c.push.ensures.items
-    (ap flat (groups_side c.self.inside.starts.items c.self.inside.sides.items c.args.side (some c) c.self.invariant.starts_rise ∙ ap (λ (code : List (List ℕ)). with_side code c.args.side) c.self.view_is)
+    (ap flat (groups_side c.self.inside.starts.items c.self.inside.sides.items c.args.side (some c) c.self.invariant.starts_rise
+    ∙ ap (λ (code : List (List ℕ)). with_side code c.args.side) c.self.view_is)
     ∙ flat_side c.args.self.now c.args.side c.requires.some)

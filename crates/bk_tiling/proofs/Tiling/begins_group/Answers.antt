@@ -9,7 +9,8 @@ pub stands_beside-requires : goal.stands_beside-requires
 stands_beside-requires c =
     let d : Square = record { x = 0; y = 0; s = 0 } in
     let same : length c.self.inside.squares.items ≡ length c.args.self.now.squares = ap (λ (t : Tiled). length t.squares) c.self.view_is in
-    let fits : (slice_index_or c.self.inside.squares.items (c.args.i - 1) d).x + (slice_index_or c.self.inside.squares.items (c.args.i - 1) d).s < 2 ^ 64 = right_fits _ c.self.invariant (c.args.i - 1) d (omega (arith, c.requires)) in
+    let fits : (slice_index_or c.self.inside.squares.items (c.args.i - 1) d).x + (slice_index_or c.self.inside.squares.items (c.args.i - 1) d).s < 2 ^
+    64 = right_fits _ c.self.invariant (c.args.i - 1) d (omega (arith, c.requires)) in
     let here = rw (← c.deref.ensures.0) at fits in
     here
 

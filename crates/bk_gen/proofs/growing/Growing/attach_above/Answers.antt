@@ -14,13 +14,16 @@ side c = omega (arith, c.requires.side, ap (λ (t : Tiling). t.width) c.self.vie
 pub move_all-requires : goal.move_all-requires
 move_all-requires c =
     let t : Tiling = record { width = c.self.inside.width; height = c.self.inside.height; squares = c.self.inside.squares.items } in
-    subst (λ (l : List Square). AllByRecursion (λ q. (q.x + 0 < 2 ^ 64) × (q.y + c.self.inside.width < 2 ^ 64)) l) (sym c.as_mut_slice.ensures.value) (fit_moved 0 c.self.inside.width t c.self.invariant (omega arith) (side c))
+    subst (λ (l : List Square). AllByRecursion (λ q. (q.x + 0 < 2 ^ 64) × (q.y + c.self.inside.width < 2 ^ 64)) l) (sym c.as_mut_slice.ensures.value)
+    (fit_moved 0 c.self.inside.width t c.self.invariant (omega arith) (side c))
 
 -- the squares behind the call
-attached : (c : goal.After-self-2-1) → c.push.new.self.items ≡ map (moved_square 0 c.self.inside.width) c.self.inside.squares.items ++ record { x = 0; y = 0; s = c.self.inside.width } ∷ []
+attached : (c : goal.After-self-2-1) → c.push.new.self.items ≡ map (moved_square 0 c.self.inside.width) c.self.inside.squares.items
+    ++ record { x = 0; y = 0; s = c.self.inside.width } ∷ []
 attached c = c.push.ensures.items
     ∙ ap (λ (l : List Square). l ++ record { x = 0; y = 0; s = c.self.inside.width } ∷ [])
-    (items-with_items c.self.inside.squares c.move_all.new.squares (search rules) ∙ c.move_all.ensures ∙ ap (map (moved_square 0 c.self.inside.width)) c.as_mut_slice.ensures.value)
+    (items-with_items c.self.inside.squares c.move_all.new.squares (search rules) ∙ c.move_all.ensures
+    ∙ ap (map (moved_square 0 c.self.inside.width)) c.as_mut_slice.ensures.value)
 
 pub overflow_add-self : goal.overflow_add-self
 overflow_add-self c =
@@ -31,7 +34,8 @@ pub invariant_of-self : goal.invariant_of-self
 invariant_of-self c =
     let t : Tiling = record { width = c.self.inside.width; height = c.self.inside.height; squares = c.self.inside.squares.items } in
     rw (attached c)
-    (grows_above t c.self.invariant (omega (arith, c.requires.few, ap (λ (t : Tiling). length t.squares) c.self.view_is)) (omega (arith, c.requires.side, ap (λ (t : Tiling). t.width) c.self.view_is)))
+    (grows_above t c.self.invariant (omega (arith, c.requires.few, ap (λ (t : Tiling). length t.squares) c.self.view_is))
+    (omega (arith, c.requires.side, ap (λ (t : Tiling). t.width) c.self.view_is)))
 
 pub returns : goal.returns
 returns c = rw (attached c) (ap with_above c.self.view_is)

@@ -12,4 +12,5 @@ pub invariant_of-self : goal.invariant_of-self
 invariant_of-self c =
     let t : Tiling = record { width = c.self.inside.width; height = c.self.inside.height; squares = c.self.inside.squares.items } in
     rw c.push.ensures.items
-    (grows_below t c.self.invariant (omega (arith, c.requires.few, ap (λ (t : Tiling). length t.squares) c.self.view_is)) (omega (arith, c.requires.side, ap (λ (t : Tiling). t.width) c.self.view_is)))
+    (grows_below t c.self.invariant (omega (arith, c.requires.few, ap (λ (t : Tiling). length t.squares) c.self.view_is))
+    (omega (arith, c.requires.side, ap (λ (t : Tiling). t.width) c.self.view_is)))

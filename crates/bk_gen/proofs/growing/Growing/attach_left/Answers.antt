@@ -14,13 +14,16 @@ side c = omega (arith, c.requires.side, ap (λ (t : Tiling). t.height) c.self.vi
 pub move_all-requires : goal.move_all-requires
 move_all-requires c =
     let t : Tiling = record { width = c.self.inside.width; height = c.self.inside.height; squares = c.self.inside.squares.items } in
-    subst (λ (l : List Square). AllByRecursion (λ q. (q.x + c.self.inside.height < 2 ^ 64) × (q.y + 0 < 2 ^ 64)) l) (sym c.as_mut_slice.ensures.value) (fit_moved c.self.inside.height 0 t c.self.invariant (side c) (omega arith))
+    subst (λ (l : List Square). AllByRecursion (λ q. (q.x + c.self.inside.height < 2 ^ 64) × (q.y + 0 < 2 ^ 64)) l) (sym c.as_mut_slice.ensures.value)
+    (fit_moved c.self.inside.height 0 t c.self.invariant (side c) (omega arith))
 
 -- the squares behind the call
-attached : (c : goal.After-self-2-1) → c.push.new.self.items ≡ map (moved_square c.self.inside.height 0) c.self.inside.squares.items ++ record { x = 0; y = 0; s = c.self.inside.height } ∷ []
+attached : (c : goal.After-self-2-1) → c.push.new.self.items ≡ map (moved_square c.self.inside.height 0) c.self.inside.squares.items
+    ++ record { x = 0; y = 0; s = c.self.inside.height } ∷ []
 attached c = c.push.ensures.items
     ∙ ap (λ (l : List Square). l ++ record { x = 0; y = 0; s = c.self.inside.height } ∷ [])
-    (items-with_items c.self.inside.squares c.move_all.new.squares (search rules) ∙ c.move_all.ensures ∙ ap (map (moved_square c.self.inside.height 0)) c.as_mut_slice.ensures.value)
+    (items-with_items c.self.inside.squares c.move_all.new.squares (search rules) ∙ c.move_all.ensures
+    ∙ ap (map (moved_square c.self.inside.height 0)) c.as_mut_slice.ensures.value)
 
 pub overflow_add-self : goal.overflow_add-self
 overflow_add-self c =
@@ -31,7 +34,8 @@ pub invariant_of-self : goal.invariant_of-self
 invariant_of-self c =
     let t : Tiling = record { width = c.self.inside.width; height = c.self.inside.height; squares = c.self.inside.squares.items } in
     rw (attached c)
-    (grows_left t c.self.invariant (omega (arith, c.requires.few, ap (λ (t : Tiling). length t.squares) c.self.view_is)) (omega (arith, c.requires.side, ap (λ (t : Tiling). t.height) c.self.view_is)))
+    (grows_left t c.self.invariant (omega (arith, c.requires.few, ap (λ (t : Tiling). length t.squares) c.self.view_is))
+    (omega (arith, c.requires.side, ap (λ (t : Tiling). t.height) c.self.view_is)))
 
 pub returns : goal.returns
 returns c = rw (attached c) (ap with_left c.self.view_is)

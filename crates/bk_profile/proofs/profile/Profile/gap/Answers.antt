@@ -8,4 +8,12 @@ pub returns-clause-gap : goal.returns-clause-gap
 returns-clause-gap c =
     subst (λ (p : Laid). IsGap p.width p.squares c.segment.result) c.self.view_is
     (gap_read _ _ _ _ c.lowest-first.result c.segment.result c.self.invariant
-    (record { once_is = c.deref.ensures.0; twice_is = c.deref-2.ensures.0; lowest = c.lowest-first.ensures; x = c.segment.ensures.x; end = c.segment.ensures.end; level = c.segment.ensures.level }))
+    (record {
+      once_is = c.deref.ensures.0;
+      twice_is = c.deref-2.ensures.0;
+      lowest = c.lowest-first.ensures;
+      x = c.segment.ensures.x;
+      end =
+          c.segment.ensures.end;
+      level = c.segment.ensures.level;
+    }))

@@ -1,0 +1,54 @@
+use Rattle.std.proofs.Common.{Err, Ok, arith, refl, ◌+◌, ◌≡◌}
+use Rattle.bk_profile.proofs.CodeLaid.{width_bounds}
+use Rattle.bk_profile.proofs.Turns.{ends_ok, ends_only, first_read, misfit_turn, next_turn, read_room, refused_has_none}
+use Rattle.bk_profile.specs.Refused.{Misfits, first_sum}
+use Rattle.bk_profile.specs.declared.laying.Refusal.TheVariants.{Gap}
+use Rattle.bk_profile.proofs.laying.lay_code_in.Goals as goal
+
+pub restart-requires-clause-some : goal.restart-requires-clause-some
+restart-requires-clause-some c =
+    let width : c.sum_of.result ≡ first_sum c.args.code.now =
+    first_read c.args.code.now c.group.result.now c.sum_of.result c.requires c.group.ensures c.sum_of.ensures.sum in
+    omega (arith, (width_bounds c.args.code.now c.groups-count.ensures.kept c.requires).0)
+
+pub restart-requires-clause-narrow : goal.restart-requires-clause-narrow
+restart-requires-clause-narrow c =
+    let width : c.sum_of.result ≡ first_sum c.args.code.now =
+    first_read c.args.code.now c.group.result.now c.sum_of.result c.requires c.group.ensures c.sum_of.ensures.sum in
+    omega (arith, (width_bounds c.args.code.now c.groups-count.ensures.kept c.requires).1)
+
+pub lay-requires-clause-room : goal.lay-requires-clause-room
+lay-requires-clause-room c = read_room c.args.code.now c.loop-g.g c.group-in-loop-g.result.now _ c.groups-count.ensures.kept
+    (omega (arith, c.loop-g-test.true, c.groups-count.ensures.value)) c.group-in-loop-g.ensures c.loop-g.invariant.count
+
+pub returns-in-Err-clause-refused : goal.returns-in-Err-clause-refused
+returns-in-Err-clause-refused c =
+    misfit_turn c.args.code.now c.loop-g.g c.group-in-loop-g.result.now c.loop-g.profile _ _ c.loop-g.invariant
+    (omega (arith, c.loop-g-test.true, c.groups-count.ensures.value)) c.group-in-loop-g.ensures c.in-Err.ensures.err
+
+pub returns-in-Err-clause-only : goal.returns-in-Err-clause-only
+returns-in-Err-clause-only c t has =
+    let misfit : Misfits (first_sum c.args.code.now) c.args.code.now (c.loop-g.g + 1) c.in-Err.fault.gap c.in-Err.fault.sum =
+    misfit_turn c.args.code.now c.loop-g.g c.group-in-loop-g.result.now c.loop-g.profile _ _ c.loop-g.invariant
+    (omega (arith, c.loop-g-test.true, c.groups-count.ensures.value)) c.group-in-loop-g.ensures c.in-Err.ensures.err in
+    absurd (refused_has_none c.args.code.now (Gap (c.loop-g.g + 1) c.in-Err.fault.gap c.in-Err.fault.sum) c.requires misfit t has)
+
+pub loop-g-preserved : goal.loop-g-preserved
+loop-g-preserved c = next_turn c.args.code.now c.loop-g.g c.group-in-loop-g.result.now c.loop-g.profile c.lay.new.self c.loop-g.invariant
+    (omega (arith, c.loop-g-test.true, c.groups-count.ensures.value)) c.group-in-loop-g.ensures c.in_default.ensures.ok
+
+pub returns-in-Ok-clause-ok : goal.returns-in-Ok-clause-ok
+returns-in-Ok-clause-ok c = ends_ok c.args.code.now c.loop-g.g c.loop-g.profile c.groups-count.ensures.kept c.requires c.loop-g.invariant
+    (omega (arith, c.loop-g-test.false, c.groups-count.ensures.value)) (Ok c.leave_tiling.new.tiling) c.leave_tiling.ensures
+
+pub returns-in-Ok-clause-only : goal.returns-in-Ok-clause-only
+returns-in-Ok-clause-only c t has = (
+  refl,
+  ends_only c.args.code.now c.loop-g.g c.loop-g.profile c.groups-count.ensures.kept c.requires c.loop-g.invariant
+      (omega (arith, c.loop-g-test.false, c.groups-count.ensures.value)) (Ok c.leave_tiling.new.tiling) c.leave_tiling.ensures tt t has,
+)
+
+pub returns-in-Err-even_height-clause-only : goal.returns-in-Err-even_height-clause-only
+returns-in-Err-even_height-clause-only c t has =
+    absurd (ends_only c.args.code.now c.loop-g.g c.loop-g.profile c.groups-count.ensures.kept c.requires c.loop-g.invariant
+    (omega (arith, c.loop-g-test.false, c.groups-count.ensures.value)) (Err c.in-Err-even_height.refusal) tt c.in-Err-even_height.ensures.uneven t has)
