@@ -1,6 +1,7 @@
 -- No laid square lies across a line that the word's squares stand on. So a line that is left at the end cuts the tiling.
 use Rattle.std.specs.List.{AllByRecursion, AllZip, list_any}
-use Rattle.std.proofs.Common.{Bool, List, Some, [], ap, arith, drop, false, inl, inr, length, map, nat_eq, refl, replicate, slice_get, slice_index_or, subst, suc, sym, take, true, zero, ℕ, ◌||◌, ◌++◌, ◌+◌, ◌-◌, ◌<◌, ◌∙◌, ◌∷◌, ◌≡◌, ◌≤◌, ◌⊎◌}
+use Rattle.std.proofs.Common.{Bool, List, Some, [], ap, arith, drop, false, inl, inr, length, map, nat_eq, refl, replicate, slice_get}
+use Rattle.std.proofs.Common.{slice_index_or, subst, suc, sym, take, true, zero, ℕ, ◌||◌, ◌++◌, ◌+◌, ◌-◌, ◌<◌, ◌∙◌, ◌∷◌, ◌≡◌, ◌≤◌, ◌⊎◌}
 use Rattle.std.proofs.lemmas.Bool.Decides.{nat_tests}
 use Rattle.std.proofs.lemmas.Option.{slice_get_within}
 use Rattle.std.proofs.lemmas.List.{length-append, length-replicate}

@@ -1,6 +1,7 @@
 -- A rectangle within a tiling makes it compound where the squares that reach into it lie within it, at least two and
 -- not all. And where the play of a word stands after its first moves.
-use Rattle.std.proofs.Common.{Bool, List, [], ap, arith, cond, count_by, false, filter, inl, inr, length, nat_le, refl, subst, sym, true, ℕ, ◌&&◌, ◌++◌, ◌+◌, ◌<◌, ◌∙◌, ◌∷◌, ◌≡◌, ◌≤◌}
+use Rattle.std.proofs.Common.{Bool, List, [], ap, arith, cond, count_by, false, filter, inl, inr, length, nat_le, refl, subst, sym, true, ℕ, ◌&&◌}
+use Rattle.std.proofs.Common.{◌++◌, ◌+◌, ◌<◌, ◌∙◌, ◌∷◌, ◌≡◌, ◌≤◌}
 use Rattle.std.proofs.lemmas.Bool.Decides.{nat_tests}
 use Rattle.std.proofs.lemmas.Bool.{both_ways}
 use Rattle.std.proofs.lemmas.List.{length-append}

@@ -1,6 +1,7 @@
 -- The bound with lines: a move lowers it by at most 1.
 use Rattle.std.specs.List.{list_any}
-use Rattle.std.proofs.Common.{Bool, List, [], ap, arith, cond, drop, false, filter, inl, inr, length, refl, slice_index_or, suc, take, true, zero, ℕ, ◌||◌, ◌++◌, ◌+◌, ◌<◌, ◌∷◌, ◌≡◌, ◌≤◌, ◌⊎◌}
+use Rattle.std.proofs.Common.{Bool, List, [], ap, arith, cond, drop, false, filter, inl, inr, length, refl, slice_index_or, suc, take, true, zero, ℕ}
+use Rattle.std.proofs.Common.{◌||◌, ◌++◌, ◌+◌, ◌<◌, ◌∷◌, ◌≡◌, ◌≤◌, ◌⊎◌}
 use Rattle.std.proofs.lemmas.List.Sums.{sum_by-take-drop}
 use Rattle.std.proofs.lemmas.Bool.{cases_lt, or_left, or_right}
 use Rattle.bk_word.specs.Play.{before_first_list, joined, parts}
@@ -91,6 +92,15 @@ grown_first lines (g ∷ signs) s [] = omega arith
 grown_first lines [] s (t ∷ segments) = omega (arith, grown_mark lines s t segments)
 grown_first lines (g ∷ signs) s (t ∷ segments) = omega (arith, grown_mark lines s t segments)
 
+-- where segments behind a segment are joined, it keeps its mark
+mark_joined : (lines : List Bool) (signs : List Sign) (s : List ℕ) (segments : List (List ℕ))
+    → cond {A = ℕ} (list_any (on_line lines) s || next_on_line lines segments) 1 0
+    ≤ cond (list_any (on_line lines) s || next_on_line lines (joined signs segments)) 1 0
+mark_joined lines signs s segments = more (list_any (on_line lines) s || next_on_line lines segments)
+    (list_any (on_line lines) s || next_on_line lines (joined signs segments))
+    (or_more (list_any (on_line lines) s) (next_on_line lines segments) (list_any (on_line lines) s)
+    (next_on_line lines (joined signs segments)) (λ e. e) (next_joined lines signs segments))
+
 -- joining segments at even signs doesn't lower it
 pub joined_bound : (lines : List Bool) (signs : List Sign) (segments : List (List ℕ))
     → bound lines signs segments ≤ bound lines (filter parts signs) (joined signs segments)
@@ -102,9 +112,7 @@ joined_bound lines (Above ∷ signs) (s ∷ segments) = omega (
   unders-parts signs,
   unders-cons Above signs,
   unders-cons Above (filter parts signs),
-  more (list_any (on_line lines) s || next_on_line lines segments) (list_any (on_line lines) s || next_on_line lines (joined signs segments))
-      (or_more (list_any (on_line lines) s) (next_on_line lines segments) (list_any (on_line lines) s)
-      (next_on_line lines (joined signs segments)) (λ e. e) (next_joined lines signs segments)),
+  mark_joined lines signs s segments,
 )
 joined_bound lines (Under ∷ signs) (s ∷ segments) = omega (
   arith,
@@ -112,9 +120,7 @@ joined_bound lines (Under ∷ signs) (s ∷ segments) = omega (
   unders-parts signs,
   unders-cons Under signs,
   unders-cons Under (filter parts signs),
-  more (list_any (on_line lines) s || next_on_line lines segments) (list_any (on_line lines) s || next_on_line lines (joined signs segments))
-      (or_more (list_any (on_line lines) s) (next_on_line lines segments) (list_any (on_line lines) s)
-      (next_on_line lines (joined signs segments)) (λ e. e) (next_joined lines signs segments)),
+  mark_joined lines signs s segments,
 )
 joined_bound lines (Even ∷ signs) (s ∷ segments) = omega (
   arith,
@@ -123,9 +129,7 @@ joined_bound lines (Even ∷ signs) (s ∷ segments) = omega (
   unders-cons Even signs,
   grown_first lines (filter parts signs) s (joined signs segments),
   grown_rest lines (filter parts signs) s (joined signs segments),
-  more (list_any (on_line lines) s || next_on_line lines segments) (list_any (on_line lines) s || next_on_line lines (joined signs segments))
-      (or_more (list_any (on_line lines) s) (next_on_line lines segments) (list_any (on_line lines) s)
-      (next_on_line lines (joined signs segments)) (λ e. e) (next_joined lines signs segments)),
+  mark_joined lines signs s segments,
 )
 
 -- what stands in front makes the bound no smaller
@@ -239,9 +243,6 @@ module _ (lines later : List Bool) (keeps : (q : ℕ) → on_line lines q ≡ tr
 first_marked : (signs : List Sign) (mark : Bool) (marks : List Bool) → closings signs 0 + cond {A = ℕ} mark 1 0 ≤ line_bound signs (mark ∷ marks)
 first_marked [] mark marks = omega (arith, closings-first [])
 first_marked (g ∷ signs) mark marks = omega (arith, closings-first (g ∷ signs))
-
-next_marked : (g : Sign) (signs : List Sign) (i : ℕ) (n m : ℕ) → closings signs i + m ≤ n → closings (g ∷ signs) (suc i) + m ≤ cond (is_above g) 1 0 + n
-next_marked g signs i n m h = omega (arith, closings-next g signs i)
 
 most_marked : (signs : List Sign) (marks : List Bool) → length marks ≡ length signs + 1 → (i : ℕ) → i < length marks
     → closings signs i + cond {A = ℕ} (slice_index_or marks i false) 1 0 ≤ line_bound signs marks

@@ -1,5 +1,6 @@
 -- How many squares are still to hang at least, by the signs between the open segments: a segment that ends above a
 -- neighbour is closed by a later move.
+-- Example (BoundExamples): of four segments with the signs under, above, under between them two must be closed.
 use Rattle.std.specs.Prelude.{Bool, List, [], count_by, drop, false, length, max, suc, take, true, ℕ, ◌+◌, ◌∷◌, ◌≡◌, ◌≤◌}
 use Rattle.bk_word.specs.declared.Sign.{Sign}
 use Rattle.bk_word.specs.declared.Sign.TheVariants.{Above, Even, Under}

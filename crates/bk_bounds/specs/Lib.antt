@@ -1,4 +1,6 @@
+-- What the crate says.
+pub mod WordBounds
+-- By which numbers the code above tells it.
 pub mod ClosingBound
 pub mod SingleValleys
 pub mod VerticalCut
-pub mod WordBounds

@@ -1,5 +1,6 @@
 -- How many squares are still to hang at least, where some valleys have just one square: a move that closes such a
 -- valley hangs at least two.
+-- Example (BoundExamples): of segments of 1, 1 and 2 squares with the signs above and under one valley has one square.
 use Rattle.std.specs.Prelude.{Bool, List, [], cond, false, length, map, nat_eq, true, ℕ, ◌&&◌, ◌+◌, ◌∷◌}
 use Rattle.bk_word.specs.Outline.{Outline}
 use Rattle.bk_word.specs.declared.Sign.{Sign}

@@ -1,7 +1,16 @@
 -- How many squares are still to hang at least, where vertical lines run between squares of the first move: a line that
 -- runs from the top down to the last segment cuts the tiling in two. So it ends on a segment that a later move closes.
+-- Example (BoundExamples): 2u.1e, drawn below, where the line behind square 1 runs down from the top. It bounds the last segment,
+-- of the squares 1 and 3, so one more must be closed: the bound after these moves is 1.
+--
+--     +-----+--+
+--     |     |2 |
+--     |  1  +--+
+--     |     |3 |
+--     +-----+--+
 use Rattle.std.specs.List.{list_any}
-use Rattle.std.specs.Prelude.{Bool, List, [], cond, count_by, drop, false, length, max, nat_eq, replicate, slice_index_or, take, ℕ, ◌||◌, ◌++◌, ◌+◌, ◌-◌, ◌<◌, ◌∷◌, ◌≡◌, ◌≤◌}
+use Rattle.std.specs.Prelude.{Bool, List, [], cond, count_by, drop, false, length, max, nat_eq, replicate, slice_index_or, take, ℕ, ◌||◌, ◌++◌, ◌+◌}
+use Rattle.std.specs.Prelude.{◌-◌, ◌<◌, ◌∷◌, ◌≡◌, ◌≤◌}
 use Rattle.bk_word.specs.Outline.{Outline, start, valley_of}
 use Rattle.bk_word.specs.Play.{IsLegal, after_move, outline_of}
 use Rattle.bk_word.specs.Word.{Move, Word}

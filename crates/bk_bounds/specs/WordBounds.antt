@@ -1,5 +1,7 @@
 -- How many squares a complete word has at least, by what stands open after its first moves. Statements alone; each is
 -- proved apart.
+-- Example (BoundExamples): after 2u.2aa two segments must be closed, and one valley has one square: a word that goes on so has at
+-- least seven squares.
 use Rattle.std.specs.List.{list_any}
 use Rattle.std.specs.Prelude.{List, [], length, true, ℕ, ⊤, ◌++◌, ◌+◌, ◌∷◌, ◌≡◌, ◌≤◌}
 use Rattle.bk_word.specs.Outline.{Outline, start, valley_of}

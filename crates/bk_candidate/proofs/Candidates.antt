@@ -1,7 +1,8 @@
 -- The candidate of a signed word of a tiling in lowest terms is this tiling.
 use Rattle.std.specs.List.{AllByRecursion}
 use Rattle.std.specs.Prelude.{nat_abs, neg_ℤ, pos, ℤ, ◌-ℤ◌, ◌≢◌, ◌≤ℤ◌}
-use Rattle.std.proofs.Common.{Bool, List, Some, [], ap, arith, cond, false, inl, inr, length, map, refl, slice_get, slice_index_or, subst, suc, sym, true, zero, ℕ, ◌+◌, ◌<◌, ◌∙◌, ◌≡◌, ◌⊎◌}
+use Rattle.std.proofs.Common.{Bool, List, Some, [], ap, arith, cond, false, inl, inr, length, map, refl, slice_get, slice_index_or, subst, suc, sym}
+use Rattle.std.proofs.Common.{true, zero, ℕ, ◌+◌, ◌<◌, ◌∙◌, ◌≡◌, ◌⊎◌}
 use Rattle.std.proofs.lemmas.Int.{ints}
 use Rattle.std.proofs.lemmas.Option.{slice_get-get_or}
 use Rattle.bk_tiling.proofs.TilingLaws.{side_of}
@@ -25,7 +26,8 @@ use Rattle.bk_free_cuts.specs.LineNumbers.{sides_of}
 use Rattle.bk_candidate.proofs.OtherOrder.{other, other_in_order, other_tiles}
 use Rattle.bk_candidate.proofs.PlacedEdges.{StandRight, edges_are, place_is}
 use Rattle.bk_candidate.proofs.PrimitiveFlow.{same_levels, signed_flow_is_primitive}
-use Rattle.bk_candidate.specs.Candidate.{IsCandidateOf, TheCandidateIsTheTiling, candidate_square, candidate_squares, level_in, line_place, placed_square, right_edges, right_edges_from}
+use Rattle.bk_candidate.specs.Candidate.{IsCandidateOf, TheCandidateIsTheTiling, candidate_square, candidate_squares, level_in, line_place}
+use Rattle.bk_candidate.specs.Candidate.{placed_square, right_edges, right_edges_from}
 use Rattle.bk_signed_word.proofs.KnownLines.{as_many_sides, known_lines}
 use Rattle.bk_signed_word.proofs.SignedFlows.{ends_below, hangs_by_flow, potential_is, signed_sides_are_the_one_flow, square_apart, square_below, top_potential}
 use Rattle.bk_signed_word.proofs.NumberedLists.{numbers_all, numbers_each, numbers_index, numbers_length}

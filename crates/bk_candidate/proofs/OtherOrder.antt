@@ -1,5 +1,6 @@
 -- The squares of a tiling in another order: they tile it, and put in the order of a code they are the tiling's.
-use Rattle.std.proofs.Common.{Bool, List, Some, [], ap, arith, cond, count_by, inl, inr, length, map, refl, slice_get, subst, suc, sym, true, zero, ℕ, ◌+◌, ◌<◌, ◌∙◌, ◌∷◌, ◌≡◌, ◌≤◌}
+use Rattle.std.proofs.Common.{Bool, List, Some, [], ap, arith, cond, count_by, inl, inr, length, map, refl, slice_get, subst, suc, sym, true, zero}
+use Rattle.std.proofs.Common.{ℕ, ◌+◌, ◌<◌, ◌∙◌, ◌∷◌, ◌≡◌, ◌≤◌}
 use Rattle.std.proofs.lemmas.Option.{get_or_from_slice_get}
 use Rattle.bk_tiling.proofs.Cells.{all_from, count-cons, counted_one, covers_from, one_counted, over_from}
 use Rattle.bk_tiling.proofs.PuttingInOrder.{from_order, in_order, ordered}

@@ -1,6 +1,7 @@
 -- The signed flow of a tiling in lowest terms is primitive; flows with the same currents have the same levels.
 use Rattle.std.specs.Prelude.{nat_abs, neg_ℤ, pos, ℤ, ◌-ℤ◌}
-use Rattle.std.proofs.Common.{Bool, List, [], arith, cond, false, length, map, refl, slice_index_or, subst, suc, sym, true, zero, ℕ, ◌*◌, ◌+◌, ◌/◌, ◌<◌, ◌∙◌, ◌∷◌, ◌≡◌}
+use Rattle.std.proofs.Common.{Bool, List, [], arith, cond, false, length, map, refl, slice_index_or, subst, suc, sym, true, zero, ℕ, ◌*◌, ◌+◌, ◌/◌}
+use Rattle.std.proofs.Common.{◌<◌, ◌∙◌, ◌∷◌, ◌≡◌}
 use Rattle.std.proofs.Math.Nat.{mul-div_cancel'}
 use Rattle.std.proofs.lemmas.Int.{ints}
 use Rattle.std.proofs.lemmas.List.Elements.{recursion_from_All}

@@ -1,5 +1,6 @@
 -- A part of a tiling is carried to another tiling by a map of the squares.
-use Rattle.std.proofs.Common.{Bool, List, [], ap, arith, cond, count_by, false, filter, length, map, refl, subst, sym, true, ℕ, ◌&&◌, ◌+◌, ◌<◌, ◌∙◌, ◌∷◌, ◌≡◌, ◌≤◌, inl, inr}
+use Rattle.std.proofs.Common.{Bool, List, [], ap, arith, cond, count_by, false, filter, length, map, refl, subst, sym, true, ℕ, ◌&&◌, ◌+◌, ◌<◌, ◌∙◌}
+use Rattle.std.proofs.Common.{◌∷◌, ◌≡◌, ◌≤◌, inl, inr}
 use Rattle.std.proofs.lemmas.List.Sums.{length-filter}
 use Rattle.bk_tiling.proofs.Cells.{all_from, count-cons, from_filter, in_all, in_filter}
 use Rattle.bk_tiling.proofs.TilingLaws.{side_of}

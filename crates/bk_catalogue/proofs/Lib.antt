@@ -4,3 +4,6 @@ pub mod ClassesKept
 pub mod ListedOnce
 pub mod TwoSquares
 pub mod CatalogueExamples
+pub mod SmallMembers
+pub mod OneEntry
+pub mod WordCounts

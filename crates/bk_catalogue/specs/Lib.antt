@@ -1,2 +1,4 @@
+-- What the crate says.
 pub mod Catalogue
 pub mod Once
+pub mod Small

@@ -1,4 +1,5 @@
 -- Each simple tiling of the order and the class stands in the catalogue once. A statement alone; it is proved apart.
+-- Example (CatalogueExamples): of order 2 and the class imperfect there is one entry, that of the row of two squares.
 use Rattle.std.specs.Prelude.{Contains, List, length, ℕ, ◌++◌, ◌∷◌, ◌≡◌}
 use Rattle.bk_tiling.specs.Scale.{AreAlike}
 use Rattle.bk_tiling.specs.Tiling.{IsTiling, Tiling}

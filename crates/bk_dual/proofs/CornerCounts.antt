@@ -1,5 +1,6 @@
 -- How the squares of a tiling meet at a point: by their corners, by their sides, or by their inside.
-use Rattle.std.proofs.Common.{Bool, List, [], arith, cond, count_by, false, inl, inr, refl, suc, true, zero, ℕ, ◌&&◌, ◌*◌, ◌+◌, ◌-◌, ◌<◌, ◌==◌, ◌∷◌, ◌≡◌, ◌≢◌, ◌≤◌, ◌⊎◌, nat_le, nat_lt}
+use Rattle.std.proofs.Common.{Bool, List, [], arith, cond, count_by, false, inl, inr, refl, suc, true, zero, ℕ, ◌&&◌, ◌*◌, ◌+◌, ◌-◌, ◌<◌, ◌==◌, ◌∷◌}
+use Rattle.std.proofs.Common.{◌≡◌, ◌≢◌, ◌≤◌, nat_le, nat_lt}
 use Rattle.std.proofs.lemmas.Bool.Decides.{nat_tests}
 use Rattle.bk_tiling.proofs.Cells.{count-cons, none_counted, one_counted}
 use Rattle.bk_tiling.proofs.TilingLaws.{cell_most, cell_once, side_of, within_of}
@@ -37,7 +38,8 @@ top_or_bottom y q some = grind (arith, nat_tests)
 here : (a n x : ℕ) → 0 < n → ◌≡◌ {A = ℕ} (cond (nat_le a x && nat_lt x (a + n)) 1 0) (cond (x == a) 1 0 + cond (nat_lt a x && nat_lt x (a + n)) 1 0)
 here a n x some = grind (arith, nat_tests)
 
-before : (a n x : ℕ) → 0 < n → 0 < x → ◌≡◌ {A = ℕ} (cond (nat_le a (x - 1) && nat_lt (x - 1) (a + n)) 1 0) (cond (x == a + n) 1 0 + cond (nat_lt a x && nat_lt x (a + n)) 1 0)
+before : (a n x : ℕ) → 0 < n → 0 < x → ◌≡◌ {A = ℕ} (cond (nat_le a (x - 1) && nat_lt (x - 1) (a + n)) 1 0)
+    (cond (x == a + n) 1 0 + cond (nat_lt a x && nat_lt x (a + n)) 1 0)
 before a n x some more = grind (arith, nat_tests)
 
 -- a test of two parts, each in two cases
@@ -87,28 +89,40 @@ module _ (t : Tiling) (tiling : IsTiling t) (x y : ℕ) where
   pub corners : count_by (is_corner x y) t.squares
       ≡ count_by (top_left x y) t.squares + count_by (bottom_left x y) t.squares + count_by (top_right x y) t.squares + count_by (bottom_right x y) t.squares
   corners = count_four (is_corner x y) (top_left x y) (bottom_left x y) (top_right x y) (bottom_right x y) t.squares
-      (λ q h. both (is_at_side q x) (on_left x q) (on_right x q) (is_at_edge q y) (on_top y q) (on_bottom y q) (left_or_right x q (side_of t tiling q h)) (top_or_bottom y q (side_of t tiling q h)))
+      (λ q h. both (is_at_side q x) (on_left x q) (on_right x q) (is_at_edge q y) (on_top y q) (on_bottom y q) (left_or_right x q (side_of t tiling q h))
+      (top_or_bottom y q (side_of t tiling q h)))
 
   -- the squares over the four cells at the point
   pub over_here : count_by (covers x y) t.squares
-      ≡ count_by (top_left x y) t.squares + count_by (λ q. on_left x q && among y q) t.squares + count_by (λ q. between x q && on_top y q) t.squares + count_by (λ q. between x q && among y q) t.squares
+      ≡ count_by (top_left x y) t.squares + count_by (λ q. on_left x q && among y q) t.squares + count_by (λ q. between x q && on_top y q) t.squares +
+      count_by (λ q. between x q && among y q) t.squares
   over_here = count_four (covers x y) (top_left x y) (λ q. on_left x q && among y q) (λ q. between x q && on_top y q) (λ q. between x q && among y q) t.squares
-      (λ q h. both (nat_le q.x x && nat_lt x (q.x + q.s)) (on_left x q) (between x q) (nat_le q.y y && nat_lt y (q.y + q.s)) (on_top y q) (among y q) (here q.x q.s x (side_of t tiling q h)) (here q.y q.s y (side_of t tiling q h)))
+      (λ q h. both (nat_le q.x x && nat_lt x (q.x + q.s)) (on_left x q) (between x q) (nat_le q.y y && nat_lt y (q.y + q.s)) (on_top y q) (among y q)
+      (here q.x q.s x (side_of t tiling q h)) (here q.y q.s y (side_of t tiling q h)))
 
   pub over_left : 0 < x → count_by (covers (x - 1) y) t.squares
-      ≡ count_by (top_right x y) t.squares + count_by (λ q. on_right x q && among y q) t.squares + count_by (λ q. between x q && on_top y q) t.squares + count_by (λ q. between x q && among y q) t.squares
-  over_left some = count_four (covers (x - 1) y) (top_right x y) (λ q. on_right x q && among y q) (λ q. between x q && on_top y q) (λ q. between x q && among y q) t.squares
-      (λ q h. both (nat_le q.x (x - 1) && nat_lt (x - 1) (q.x + q.s)) (on_right x q) (between x q) (nat_le q.y y && nat_lt y (q.y + q.s)) (on_top y q) (among y q) (before q.x q.s x (side_of t tiling q h) some) (here q.y q.s y (side_of t tiling q h)))
+      ≡ count_by (top_right x y) t.squares + count_by (λ q. on_right x q && among y q) t.squares + count_by (λ q. between x q && on_top y q) t.squares +
+      count_by (λ q. between x q && among y q) t.squares
+  over_left some = count_four (covers (x - 1) y) (top_right x y) (λ q. on_right x q && among y q) (λ q. between x q && on_top y q)
+      (λ q. between x q && among y q) t.squares
+      (λ q h. both (nat_le q.x (x - 1) && nat_lt (x - 1) (q.x + q.s)) (on_right x q) (between x q) (nat_le q.y y && nat_lt y (q.y + q.s)) (on_top y q)
+      (among y q) (before q.x q.s x (side_of t tiling q h) some) (here q.y q.s y (side_of t tiling q h)))
 
   pub over_above : 0 < y → count_by (covers x (y - 1)) t.squares
-      ≡ count_by (bottom_left x y) t.squares + count_by (λ q. on_left x q && among y q) t.squares + count_by (λ q. between x q && on_bottom y q) t.squares + count_by (λ q. between x q && among y q) t.squares
-  over_above some = count_four (covers x (y - 1)) (bottom_left x y) (λ q. on_left x q && among y q) (λ q. between x q && on_bottom y q) (λ q. between x q && among y q) t.squares
-      (λ q h. both (nat_le q.x x && nat_lt x (q.x + q.s)) (on_left x q) (between x q) (nat_le q.y (y - 1) && nat_lt (y - 1) (q.y + q.s)) (on_bottom y q) (among y q) (here q.x q.s x (side_of t tiling q h)) (before q.y q.s y (side_of t tiling q h) some))
+      ≡ count_by (bottom_left x y) t.squares + count_by (λ q. on_left x q && among y q) t.squares + count_by (λ q. between x q && on_bottom y q) t.squares +
+      count_by (λ q. between x q && among y q) t.squares
+  over_above some = count_four (covers x (y - 1)) (bottom_left x y) (λ q. on_left x q && among y q) (λ q. between x q && on_bottom y q)
+      (λ q. between x q && among y q) t.squares
+      (λ q h. both (nat_le q.x x && nat_lt x (q.x + q.s)) (on_left x q) (between x q) (nat_le q.y (y - 1) && nat_lt (y - 1) (q.y + q.s)) (on_bottom y q)
+      (among y q) (here q.x q.s x (side_of t tiling q h)) (before q.y q.s y (side_of t tiling q h) some))
 
   pub over_both : 0 < x → 0 < y → count_by (covers (x - 1) (y - 1)) t.squares
-      ≡ count_by (bottom_right x y) t.squares + count_by (λ q. on_right x q && among y q) t.squares + count_by (λ q. between x q && on_bottom y q) t.squares + count_by (λ q. between x q && among y q) t.squares
-  over_both some more = count_four (covers (x - 1) (y - 1)) (bottom_right x y) (λ q. on_right x q && among y q) (λ q. between x q && on_bottom y q) (λ q. between x q && among y q) t.squares
-      (λ q h. both (nat_le q.x (x - 1) && nat_lt (x - 1) (q.x + q.s)) (on_right x q) (between x q) (nat_le q.y (y - 1) && nat_lt (y - 1) (q.y + q.s)) (on_bottom y q) (among y q) (before q.x q.s x (side_of t tiling q h) some) (before q.y q.s y (side_of t tiling q h) more))
+      ≡ count_by (bottom_right x y) t.squares + count_by (λ q. on_right x q && among y q) t.squares + count_by (λ q. between x q && on_bottom y q) t.squares +
+      count_by (λ q. between x q && among y q) t.squares
+  over_both some more = count_four (covers (x - 1) (y - 1)) (bottom_right x y) (λ q. on_right x q && among y q) (λ q. between x q && on_bottom y q)
+      (λ q. between x q && among y q) t.squares
+      (λ q h. both (nat_le q.x (x - 1) && nat_lt (x - 1) (q.x + q.s)) (on_right x q) (between x q) (nat_le q.y (y - 1) && nat_lt (y - 1) (q.y + q.s))
+      (on_bottom y q) (among y q) (before q.x q.s x (side_of t tiling q h) some) (before q.y q.s y (side_of t tiling q h) more))
 
 -- at the left side of the tiling no square ends, and none lies over it
 and_left_true : (a b : Bool) → (a && b) ≡ true → a ≡ true
@@ -139,14 +153,24 @@ module _ (t : Tiling) (tiling : IsTiling t) (other : Square → Bool) where
   none_between = none_counted (λ q. between 0 q && other q) t.squares (λ q h e. no_between q (and_left_true (between 0 q) (other q) e))
 
   pub none_bottom : count_by (λ q. other q && on_bottom 0 q) t.squares ≡ 0
-  none_bottom = none_counted (λ q. other q && on_bottom 0 q) t.squares (λ q h e. no_bottom q (side_of t tiling q h) (and_right_true (other q) (on_bottom 0 q) e))
+  none_bottom = none_counted (λ q. other q && on_bottom 0 q) t.squares
+      (λ q h e. no_bottom q (side_of t tiling q h) (and_right_true (other q) (on_bottom 0 q) e))
 
   pub none_among : count_by (λ q. other q && among 0 q) t.squares ≡ 0
   none_among = none_counted (λ q. other q && among 0 q) t.squares (λ q h e. no_among q (and_right_true (other q) (among 0 q) e))
 
 -- where four squares have a corner, one has its top left corner
 pub crossing_begins : (t : Tiling) → IsTiling t → (x y : ℕ) → count_by (is_corner x y) t.squares ≡ 4 → count_by (top_left x y) t.squares ≡ 1
-crossing_begins t tiling zero zero four = omega (arith, four, corners t tiling 0 0, over_here t tiling 0 0, cell_most t tiling 0 0, none_right t tiling (on_top 0), none_right t tiling (on_bottom 0), none_bottom t tiling (on_left 0))
+crossing_begins t tiling zero zero four = omega (
+  arith,
+  four,
+  corners t tiling 0 0,
+  over_here t tiling 0 0,
+  cell_most t tiling 0 0,
+  none_right t tiling (on_top 0),
+  none_right t tiling (on_bottom 0),
+  none_bottom t tiling (on_left 0),
+)
 crossing_begins t tiling zero (suc y) four = omega (
   arith,
   four,
@@ -184,9 +208,6 @@ crossing_begins t tiling (suc x) (suc y) four = omega (
 )
 
 -- a crossing, as a number
-four_or_not : (n : ℕ) → ((n ≡ 4) × ◌≡◌ {A = ℕ} (cond (n == 4) 1 0) 1) ⊎ ((n ≢ 4) × ◌≡◌ {A = ℕ} (cond (n == 4) 1 0) 0)
-four_or_not n = grind (arith, nat_tests)
-
 no_four : (n : ℕ) → n ≢ 4 → ◌≡◌ {A = ℕ} (cond (n == 4) 1 0) 0
 no_four n h = grind (arith, nat_tests)
 
@@ -201,11 +222,23 @@ not_origin x y h = grind (arith, nat_tests)
 -- at the top left corner of a square another has its top right corner or another its bottom left corner, and both
 -- exactly at a crossing; at the corner of the tiling none has
 at_corner : (t : Tiling) → IsTiling t → (x y : ℕ) → x < t.width → y < t.height → 0 < count_by (top_left x y) t.squares
-    → count_by (top_right x y) t.squares + count_by (bottom_left x y) t.squares + cond {A = ℕ} ((x == 0) && (y == 0)) 1 0 ≡ 1 + cond {A = ℕ} (is_crossing t x y) 1 0
+    → count_by (top_right x y) t.squares + count_by (bottom_left x y) t.squares + cond {A = ℕ} ((x == 0) && (y == 0)) 1 0 ≡ 1 + cond {A = ℕ}
+    (is_crossing t x y) 1 0
 at_corner t tiling zero zero wide low some = omega (
   arith,
   some,
-  no_four (count_by (is_corner 0 0) t.squares) (λ e. omega (arith, e, corners t tiling 0 0, over_here t tiling 0 0, cell_most t tiling 0 0, none_right t tiling (on_top 0), none_right t tiling (on_bottom 0), none_bottom t tiling (on_left 0))),
+  no_four (count_by (is_corner 0 0) t.squares)
+      (λ e. omega (
+        arith,
+        e,
+        corners t tiling 0 0,
+        over_here t tiling 0 0,
+        cell_most t tiling 0 0,
+        none_right t tiling (on_top 0),
+        none_right t tiling
+            (on_bottom 0),
+        none_bottom t tiling (on_left 0),
+      )),
   none_right t tiling (on_top 0),
   none_bottom t tiling (on_left 0),
 )
@@ -215,7 +248,17 @@ at_corner t tiling zero (suc y) wide low some = omega (
   left,
   none_right t tiling (on_top (suc y)),
   no_four (count_by (is_corner 0 (suc y)) t.squares)
-      (λ e. omega (arith, e, corners t tiling 0 (suc y), over_here t tiling 0 (suc y), cell_most t tiling 0 (suc y), left, none_right t tiling (on_top (suc y)), none_right t tiling (on_bottom (suc y)))),
+      (λ e. omega (
+        arith,
+        e,
+        corners t tiling 0 (suc y),
+        over_here t tiling 0 (suc y),
+        cell_most t tiling 0 (suc y),
+        left,
+        none_right t tiling
+            (on_top (suc y)),
+        none_right t tiling (on_bottom (suc y)),
+      )),
 )
   where
     left : count_by (bottom_left 0 (suc y)) t.squares ≡ 1
@@ -235,7 +278,17 @@ at_corner t tiling (suc x) zero wide low some = omega (
   above,
   none_bottom t tiling (on_left (suc x)),
   no_four (count_by (is_corner (suc x) 0) t.squares)
-      (λ e. omega (arith, e, corners t tiling (suc x) 0, over_here t tiling (suc x) 0, cell_most t tiling (suc x) 0, above, none_bottom t tiling (on_left (suc x)), none_bottom t tiling (on_right (suc x)))),
+      (λ e. omega (
+        arith,
+        e,
+        corners t tiling (suc x) 0,
+        over_here t tiling (suc x) 0,
+        cell_most t tiling (suc x) 0,
+        above,
+        none_bottom t tiling
+            (on_left (suc x)),
+        none_bottom t tiling (on_right (suc x)),
+      )),
 )
   where
     above : count_by (top_right (suc x) 0) t.squares ≡ 1
@@ -249,7 +302,13 @@ at_corner t tiling (suc x) zero wide low some = omega (
       none_among t tiling (on_right (suc x)),
       none_among t tiling (between (suc x)),
     )
-at_corner t tiling (suc x) (suc y) wide low some = omega (arith, not_origin (suc x) (suc y) (omega arith), meet, is_four (count_by (is_corner (suc x) (suc y)) t.squares) (count_by (bottom_right (suc x) (suc y)) t.squares) many few)
+at_corner t tiling (suc x) (suc y) wide low some = omega (
+  arith,
+  not_origin (suc x) (suc y) (omega arith),
+  meet,
+  is_four (count_by (is_corner (suc x) (suc y)) t.squares)
+      (count_by (bottom_right (suc x) (suc y)) t.squares) many few,
+)
   where
     here_one : count_by (covers (suc x) (suc y)) t.squares ≡ 1
     here_one = cell_once t tiling (suc x) (suc y) wide low
@@ -266,7 +325,8 @@ at_corner t tiling (suc x) (suc y) wide low some = omega (arith, not_origin (suc
     few : count_by (bottom_right (suc x) (suc y)) t.squares ≤ 1
     few = omega (arith, both_one, over_both t tiling (suc x) (suc y) (omega arith) (omega arith))
 
-    meet : count_by (top_right (suc x) (suc y)) t.squares + count_by (bottom_left (suc x) (suc y)) t.squares ≡ 1 + count_by (bottom_right (suc x) (suc y)) t.squares
+    meet : count_by (top_right (suc x) (suc y)) t.squares + count_by (bottom_left (suc x) (suc y)) t.squares ≡ 1 + count_by (bottom_right (suc x) (suc y))
+        t.squares
     meet = omega (
       arith,
       some,
@@ -280,14 +340,16 @@ at_corner t tiling (suc x) (suc y) wide low some = omega (arith, not_origin (suc
       over_both t tiling (suc x) (suc y) (omega arith) (omega arith),
     )
 
-    many : count_by (is_corner (suc x) (suc y)) t.squares ≡ 2 + count_by (bottom_right (suc x) (suc y)) t.squares + count_by (bottom_right (suc x) (suc y)) t.squares
+    many : count_by (is_corner (suc x) (suc y)) t.squares ≡ 2 + count_by (bottom_right (suc x) (suc y)) t.squares + count_by (bottom_right (suc x) (suc y))
+        t.squares
     many = omega (arith, some, here_one, over_here t tiling (suc x) (suc y), meet, corners t tiling (suc x) (suc y))
 
 pub own_corner : (q : Square) → top_left q.x q.y q ≡ true
 own_corner q = grind (arith, nat_tests)
 
 pub at_square : (t : Tiling) → IsTiling t → (q : Square) → IsOneOf q t.squares
-    → count_by (top_right q.x q.y) t.squares + count_by (bottom_left q.x q.y) t.squares + cond {A = ℕ} ((q.x == 0) && (q.y == 0)) 1 0 ≡ 1 + cond {A = ℕ} (is_crossing t q.x q.y) 1 0
+    → count_by (top_right q.x q.y) t.squares + count_by (bottom_left q.x q.y) t.squares + cond {A = ℕ} ((q.x == 0) && (q.y == 0)) 1 0 ≡ 1 + cond {A = ℕ}
+    (is_crossing t q.x q.y) 1 0
 at_square t tiling q h =
     let w = within_of t tiling q h in let a = w.right in let b = w.bottom in let s = side_of t tiling q h in
     at_corner t tiling q.x q.y (omega arith) (omega arith) (one_counted (top_left q.x q.y) t.squares q h (own_corner q))

@@ -43,11 +43,13 @@ module _ (width height : ℕ) (test : ℕ → ℕ → Bool) where
   grid f = sum_by (λ y. row f y) (range_with_len 0 (height + 1))
 
   grid_same : (f g : ℕ → ℕ → ℕ) → ((x y : ℕ) → f x y ≡ g x y) → grid f ≡ grid g
-  grid_same f g each = sum_same (λ y. row f y) (λ y. row g y) (range_with_len 0 (height + 1)) (λ y. sum_same (λ x. f x y) (λ x. g x y) (range_with_len 0 (width + 1)) (λ x. each x y))
+  grid_same f g each = sum_same (λ y. row f y) (λ y. row g y) (range_with_len 0 (height + 1))
+      (λ y. sum_same (λ x. f x y) (λ x. g x y) (range_with_len 0 (width + 1)) (λ x. each x y))
 
   grid_plus : (f g : ℕ → ℕ → ℕ) → grid (λ x y. f x y + g x y) ≡ grid f + grid g
   grid_plus f g =
-      sum_same (λ y. row (λ x y. f x y + g x y) y) (λ y. row f y + row g y) (range_with_len 0 (height + 1)) (λ y. sum_plus (λ x. f x y) (λ x. g x y) (range_with_len 0 (width + 1)))
+      sum_same (λ y. row (λ x y. f x y + g x y) y) (λ y. row f y + row g y) (range_with_len 0 (height + 1))
+      (λ y. sum_plus (λ x. f x y) (λ x. g x y) (range_with_len 0 (width + 1)))
       ∙ sum_plus (λ y. row f y) (λ y. row g y) (range_with_len 0 (height + 1))
 
   grid_none : (f : ℕ → ℕ → ℕ) → ((x y : ℕ) → f x y ≡ 0) → grid f ≡ 0
@@ -56,7 +58,8 @@ module _ (width height : ℕ) (test : ℕ → ℕ → Bool) where
   grid_one : (q : Square) → q.x ≤ width → q.y ≤ height → grid (λ x y. if_passing (test x y) (cond (top_left x y q) 1 0)) ≡ cond {A = ℕ} (test q.x q.y) 1 0
   grid_one q wide low =
       one_counts (λ y. row (λ x y. if_passing (test x y) (cond (top_left x y q) 1 0)) y) q.y 0 (height + 1) (omega arith) (omega arith)
-      (λ y h. sum_none (λ x. if_passing (test x y) (cond (top_left x y q) 1 0)) (range_with_len 0 (width + 1)) (λ x. passing_none (test x y) (top_left x y q) (elsewhere_y x y q h)))
+      (λ y h. sum_none (λ x. if_passing (test x y) (cond (top_left x y q) 1 0)) (range_with_len 0 (width + 1))
+      (λ x. passing_none (test x y) (top_left x y q) (elsewhere_y x y q h)))
       ∙ one_counts (λ x. if_passing (test x q.y) (cond (top_left x q.y q) 1 0)) q.x 0 (width + 1) (omega arith) (omega arith)
       (λ x h. passing_none (test x q.y) (top_left x q.y q) (elsewhere_x x q.y q h))
       ∙ passing_one (test q.x q.y) (top_left q.x q.y q) (own_corner q)
@@ -70,8 +73,10 @@ module _ (width height : ℕ) (test : ℕ → ℕ → Bool) where
       nothing false = refl
   grid_squares (q ∷ squares) inside = omega (
     arith,
-    grid_same (λ x y. if_passing (test x y) (count_by (top_left x y) (q ∷ squares))) (λ x y. if_passing (test x y) (cond (top_left x y q) 1 0) + if_passing (test x y) (count_by (top_left x y) squares))
-        (λ x y. passing_plus (test x y) (count_by (top_left x y) (q ∷ squares)) (cond (top_left x y q) 1 0) (count_by (top_left x y) squares) (count-cons (top_left x y) q squares)),
+    grid_same (λ x y. if_passing (test x y) (count_by (top_left x y) (q ∷ squares)))
+        (λ x y. if_passing (test x y) (cond (top_left x y q) 1 0) + if_passing (test x y) (count_by (top_left x y) squares))
+        (λ x y. passing_plus (test x y) (count_by (top_left x y) (q ∷ squares)) (cond (top_left x y q) 1 0) (count_by (top_left x y) squares)
+        (count-cons (top_left x y) q squares)),
     grid_plus (λ x y. if_passing (test x y) (cond (top_left x y q) 1 0)) (λ x y. if_passing (test x y) (count_by (top_left x y) squares)),
     grid_one q (inside q (inl refl)).0 (inside q (inl refl)).1,
     grid_squares squares (λ r h. inside r (inr h)),
@@ -83,8 +88,10 @@ four_true n e = grind (arith, nat_tests)
 
 pub crossings_at_squares : (t : Tiling) → IsTiling t → crossings t ≡ sum_by (λ q. cond {A = ℕ} (is_crossing t q.x q.y) 1 0) t.squares
 crossings_at_squares t tiling =
-    grid_same t.width t.height (is_crossing t) (λ x y. cond {A = ℕ} (is_crossing t x y) 1 0) (λ x y. if_passing (is_crossing t x y) (count_by (top_left x y) t.squares))
-    (λ x y. begins (is_crossing t x y) (count_by (top_left x y) t.squares) (λ e. crossing_begins t tiling x y (four_true (count_by (is_corner x y) t.squares) e)))
+    grid_same t.width t.height (is_crossing t) (λ x y. cond {A = ℕ} (is_crossing t x y) 1 0)
+    (λ x y. if_passing (is_crossing t x y) (count_by (top_left x y) t.squares))
+    (λ x y. begins (is_crossing t x y) (count_by (top_left x y) t.squares)
+    (λ e. crossing_begins t tiling x y (four_true (count_by (is_corner x y) t.squares) e)))
     ∙ grid_squares t.width t.height (is_crossing t) t.squares (λ q h. inside q h)
   where
     begins : (b : Bool) (n : ℕ) → (b ≡ true → n ≡ 1) → ◌≡◌ {A = ℕ} (cond b 1 0) (if_passing b n)

@@ -4,3 +4,5 @@ pub mod PointSums
 pub mod CornerCounts
 pub mod CrossingCount
 pub mod NodesCounted
+pub mod AllNumbers
+pub mod WiresAcross

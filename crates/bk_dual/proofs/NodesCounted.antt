@@ -27,7 +27,8 @@ beside_is : (p r : Square) → stands_beside p r ≡ top_right r.x r.y p
 beside_is p r = both_ways (stands_beside p r) (top_right r.x r.y p) (λ e. grind (arith, nat_tests)) (λ e. grind (arith, nat_tests))
 
 turned_beside_is : (w h : ℕ) (p r : Square) → stands_beside (image_square Swap w h p) (image_square Swap w h r) ≡ bottom_left r.x r.y p
-turned_beside_is w h p r = both_ways (stands_beside (image_square Swap w h p) (image_square Swap w h r)) (bottom_left r.x r.y p) (λ e. grind (arith, nat_tests)) (λ e. grind (arith, nat_tests))
+turned_beside_is w h p r = both_ways (stands_beside (image_square Swap w h p) (image_square Swap w h r)) (bottom_left r.x r.y p)
+    (λ e. grind (arith, nat_tests)) (λ e. grind (arith, nat_tests))
 
 count_same : (f g : Square → Bool) (squares : List Square) → ((q : Square) → f q ≡ g q) → count_by f squares ≡ count_by g squares
 count_same f g squares each = sum_same (λ q. cond {A = ℕ} (f q) 1 0) (λ q. cond {A = ℕ} (g q) 1 0) squares (λ q. ap (λ (b : Bool). cond {A = ℕ} b 1 0) (each q))
@@ -51,7 +52,8 @@ module _ (t : Tiling) (tiling : IsTiling t) where
   )
 
   turned_count : (c : Square → Bool) → count_by c (image Swap t).squares ≡ count_by (λ p. c (image_square Swap t.width t.height p)) t.squares
-  turned_count c = in_code_order-count c (map (image_square Swap t.width t.height) t.squares) ∙ sum_map (λ p. cond {A = ℕ} (c p) 1 0) (image_square Swap t.width t.height) t.squares
+  turned_count c = in_code_order-count c (map (image_square Swap t.width t.height) t.squares)
+      ∙ sum_map (λ p. cond {A = ℕ} (c p) 1 0) (image_square Swap t.width t.height) t.squares
 
   -- and of its image
   turned_groups : length (square_groups (image Swap t).squares) + sum_by (λ r. count_by (bottom_left r.x r.y) t.squares) t.squares ≡ length t.squares
@@ -62,9 +64,11 @@ module _ (t : Tiling) (tiling : IsTiling t) where
     length-map t.squares (image_square Swap t.width t.height),
     sum_ordered (λ r. count_by (λ p. stands_beside p r) (image Swap t).squares) (map (image_square Swap t.width t.height) t.squares),
     sum_map (λ r. count_by (λ p. stands_beside p r) (image Swap t).squares) (image_square Swap t.width t.height) t.squares,
-    sum_same (λ r. count_by (λ p. stands_beside p (image_square Swap t.width t.height r)) (image Swap t).squares) (λ r. count_by (bottom_left r.x r.y) t.squares) t.squares
+    sum_same (λ r. count_by (λ p. stands_beside p (image_square Swap t.width t.height r)) (image Swap t).squares)
+        (λ r. count_by (bottom_left r.x r.y) t.squares) t.squares
         (λ r. turned_count (λ p. stands_beside p (image_square Swap t.width t.height r))
-        ∙ count_same (λ p. stands_beside (image_square Swap t.width t.height p) (image_square Swap t.width t.height r)) (bottom_left r.x r.y) t.squares (λ p. turned_beside_is t.width t.height p r)),
+        ∙ count_same (λ p. stands_beside (image_square Swap t.width t.height p) (image_square Swap t.width t.height r)) (bottom_left r.x r.y) t.squares
+        (λ p. turned_beside_is t.width t.height p r)),
   )
 
   -- one square stands at the corner of the tiling
@@ -89,8 +93,10 @@ module _ (t : Tiling) (tiling : IsTiling t) where
       ≡ length t.squares + sum_by (λ q. cond {A = ℕ} (is_crossing t q.x q.y) 1 0) t.squares
   corners_sum = omega (
     arith,
-    sum_same_in (λ q. count_by (top_right q.x q.y) t.squares + count_by (bottom_left q.x q.y) t.squares + cond {A = ℕ} ((q.x == 0) && (q.y == 0)) 1 0) (λ q. 1 + cond {A = ℕ} (is_crossing t q.x q.y) 1 0) t.squares (at_square t tiling),
-    sum_plus (λ q. count_by (top_right q.x q.y) t.squares + count_by (bottom_left q.x q.y) t.squares) (λ q. cond {A = ℕ} ((q.x == 0) && (q.y == 0)) 1 0) t.squares,
+    sum_same_in (λ q. count_by (top_right q.x q.y) t.squares + count_by (bottom_left q.x q.y) t.squares + cond {A = ℕ} ((q.x == 0) && (q.y == 0)) 1 0)
+        (λ q. 1 + cond {A = ℕ} (is_crossing t q.x q.y) 1 0) t.squares (at_square t tiling),
+    sum_plus (λ q. count_by (top_right q.x q.y) t.squares + count_by (bottom_left q.x q.y) t.squares) (λ q. cond {A = ℕ} ((q.x == 0) && (q.y == 0)) 1 0)
+        t.squares,
     sum_plus (λ q. count_by (top_right q.x q.y) t.squares) (λ q. count_by (bottom_left q.x q.y) t.squares) t.squares,
     sum_plus (λ q. 1) (λ q. cond {A = ℕ} (is_crossing t q.x q.y) 1 0) t.squares,
     sum_ones t.squares,

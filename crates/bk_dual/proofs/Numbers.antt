@@ -1,7 +1,8 @@
 -- The number of a square, by its place among squares in the order of a code.
 use Rattle.std.specs.List.{position_or_len}
 use Rattle.std.specs.List.Sorted.{IsPartitionPoint}
-use Rattle.std.proofs.Common.{Bool, List, [], ap, arith, false, inl, inr, length, map, refl, slice_index_or, subst, suc, sym, true, zero, ℕ, ◌&&◌, ◌+◌, ◌-◌, ◌<◌, ◌==◌, ◌∙◌, ◌∷◌, ◌≡◌, ◌≤◌, ◌⊎◌}
+use Rattle.std.proofs.Common.{Bool, List, [], ap, arith, false, inl, inr, length, map, refl, slice_index_or, subst, suc, sym, true, zero, ℕ, ◌&&◌}
+use Rattle.std.proofs.Common.{◌+◌, ◌-◌, ◌<◌, ◌==◌, ◌∙◌, ◌∷◌, ◌≡◌, ◌≤◌, ◌⊎◌}
 use Rattle.std.proofs.lemmas.Bool.{both_ways, cases_lt}
 use Rattle.std.proofs.lemmas.Bool.Decides.{nat_tests}
 use Rattle.std.proofs.lemmas.List.Sums.{fails_before_first, passes_at_first, position_or_len_is}
@@ -24,13 +25,13 @@ use Rattle.bk_net.specs.SmithFlow.{smith_flow}
 use Rattle.bk_dual.specs.Dual.{dual_flow, dual_order, number_at, side_numbered}
 
 -- whether a square stands at a place
-abbrev stands_at : ℕ → ℕ → Square → Bool
+abbrev pub stands_at : ℕ → ℕ → Square → Bool
 stands_at x y q = (q.x == x) && (q.y == y)
 
-stands_itself : (q : Square) → stands_at q.x q.y q ≡ true
+pub stands_itself : (q : Square) → stands_at q.x q.y q ≡ true
 stands_itself q = grind (arith, nat_tests)
 
-earlier_stands_apart : (q r : Square) → comes_before r q ≡ true → stands_at q.x q.y r ≡ false
+pub earlier_stands_apart : (q r : Square) → comes_before r q ≡ true → stands_at q.x q.y r ≡ false
 earlier_stands_apart q r e = grind (arith, nat_tests)
 
 no_later_itself : (q : Square) → is_no_later q.x q.y q ≡ true
@@ -94,10 +95,12 @@ side_at (q ∷ squares) zero d h = refl
 side_at (q ∷ squares) (suc m) d h = side_at squares m d (omega arith)
 
 -- where a square passes a test, the first place is one of the squares
-first_within : (test : Square → Bool) (squares : List Square) (q : Square) → IsOneOf q squares → test q ≡ true → position_or_len test squares < length squares
+pub first_within : (test : Square → Bool) (squares : List Square) (q : Square) → IsOneOf q squares → test q ≡ true
+    → position_or_len test squares < length squares
 first_within test squares q one e = by (cases_lt (position_or_len test squares) (length squares)) (at_place squares q one)
   where
-    by : (position_or_len test squares < length squares) ⊎ (length squares ≤ position_or_len test squares) → (m : ℕ) × (m < length squares) × ((d : Square) → slice_index_or squares m d ≡ q) → position_or_len test squares < length squares
+    by : (position_or_len test squares < length squares) ⊎ (length squares ≤ position_or_len test squares)
+        → (m : ℕ) × (m < length squares) × ((d : Square) → slice_index_or squares m d ≡ q) → position_or_len test squares < length squares
     by (inl h) at = h
     by (inr h) (m, there, at) = absurd (both_ways (test (slice_index_or squares m q)) (fails_before_first test squares m q (omega arith)) (ap test (at q) ∙ e))
 
@@ -131,7 +134,8 @@ module _ (t : Tiling) (tiling : IsTiling (image Swap t)) where
       same : p ≡ record { x = r.y; y = r.x; s = r.s }
       same = one_there (image Swap t) tiling p (record { x = r.y; y = r.x; s = r.s }) p.x p.y
           one (covers_from p.x p.y p (omega arith) (omega (arith, some)) (omega arith) (omega (arith, some)))
-          turned (covers_from p.x p.y (record { x = r.y; y = r.x; s = r.s }) (omega (arith, y)) (omega (arith, y, long)) (omega (arith, x)) (omega (arith, x, long)))
+          turned (covers_from p.x p.y (record { x = r.y; y = r.x; s = r.s }) (omega (arith, y)) (omega (arith, y, long)) (omega (arith, x))
+          (omega (arith, x, long)))
 
   -- the side of the square with the number of an image's square
   side_is : (p : Square) → IsOneOf p (image Swap t).squares → side_numbered t (number_at t p.y p.x) ≡ p.s
@@ -146,7 +150,8 @@ module _ (t : Tiling) (tiling : IsTiling (image Swap t)) where
       less m = omega arith
 
       within : position_or_len (stands_at p.y p.x) t.squares < length t.squares
-      within = first_within (stands_at p.y p.x) t.squares (record { x = p.y; y = p.x; s = p.s }) (from_image t p one) (stands_itself (record { x = p.y; y = p.x; s = p.s }))
+      within = first_within (stands_at p.y p.x) t.squares (record { x = p.y; y = p.x; s = p.s }) (from_image t p one)
+          (stands_itself (record { x = p.y; y = p.x; s = p.s }))
 
   sides_same : (squares : List Square) → ((p : Square) → IsOneOf p squares → IsOneOf p (image Swap t).squares)
       → map (λ n. pos (side_numbered t n)) (map (λ q. number_at t q.y q.x) squares) ≡ map (λ q. pos q.s) squares
@@ -155,7 +160,8 @@ module _ (t : Tiling) (tiling : IsTiling (image Swap t)) where
       λ i. pos (side_is q (each q (inl refl)) i) ∷ sides_same squares (λ p h. each p (inr h)) i
 
 flow_same : (t : Tiling) (currents : List ℤ) → currents ≡ map (λ q. pos q.s) (image Swap t).squares
-    → record { total = pos t.height; potentials = map (λ c. pos t.width -ℤ pos c) (node_levels (image Swap t)); currents = currents } ≡ smith_flow (image Swap t)
+    → record { total = pos t.height; potentials = map (λ c. pos t.width -ℤ pos c) (node_levels (image Swap t)); currents = currents } ≡ smith_flow
+    (image Swap t)
 flow_same t currents e = λ i. record { total = pos t.height; potentials = map (λ c. pos t.width -ℤ pos c) (node_levels (image Swap t)); currents = e i }
 
 -- the sides in the order of the numbers are the sides of the image

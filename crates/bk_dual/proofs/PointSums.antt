@@ -20,12 +20,25 @@ sum_none f (x ∷ xs) each = omega (arith, sum_by-cons f x xs, each x, sum_none 
 -- of squares
 pub sum_same_in : (f g : Square → ℕ) (squares : List Square) → ((q : Square) → IsOneOf q squares → f q ≡ g q) → sum_by f squares ≡ sum_by g squares
 sum_same_in f g [] each = refl
-sum_same_in f g (q ∷ squares) each = omega (arith, sum_by-cons f q squares, sum_by-cons g q squares, each q (inl refl), sum_same_in f g squares (λ r h. each r (inr h)))
+sum_same_in f g (q ∷ squares) each = omega (
+  arith,
+  sum_by-cons f q squares,
+  sum_by-cons g q squares,
+  each q (inl refl),
+  sum_same_in f g squares
+      (λ r h. each r (inr h)),
+)
 
 -- over numbers of which at most one counts
 none_after : (f : ℕ → ℕ) (k a n : ℕ) → k < a → ((j : ℕ) → j ≢ k → f j ≡ 0) → sum_by f (range_with_len a n) ≡ 0
 none_after f k a zero after none = refl
-none_after f k a (suc n) after none = omega (arith, sum_by-cons f a (range_with_len (a + 1) n), none a (λ e. omega arith), none_after f k (a + 1) n (omega arith) none)
+none_after f k a (suc n) after none = omega (
+  arith,
+  sum_by-cons f a (range_with_len (a + 1) n),
+  none a (λ e. omega arith),
+  none_after f k (a + 1) n
+      (omega arith) none,
+)
 
 pub one_counts : (f : ℕ → ℕ) (k a n : ℕ) → a ≤ k → k < a + n → ((j : ℕ) → j ≢ k → f j ≡ 0) → sum_by f (range_with_len a n) ≡ f k
 one_counts f k a zero from to none = absurd (omega arith)

@@ -1,4 +1,5 @@
 -- The dual diagram of a tiling, whose nodes are the vertical segments, and its crossings.
+-- Example (DualExamples): the dual diagram of the rectangle 33x32, and the crossing of four squares of side 1.
 use Rattle.std.specs.List.{position_or_len, range_with_len}
 use Rattle.std.specs.Prelude.{Bool, List, count_by, map, pos, slice_index_or, sum_by, ℕ, ◌&&◌, ◌+◌, ◌-ℤ◌, ◌-◌, ◌==◌}
 use Rattle.bk_tiling.specs.Point.{is_corner}

@@ -1,2 +1,4 @@
+-- What the crate says.
 pub mod Dual
+pub mod DualWires
 pub mod NodeSum

@@ -1,13 +1,15 @@
 //! Dual diagrams and crossings.
 #![tactic(auto)]
 
-ghost use Rattle.std.specs.Prelude.{◌≡◌};
+ghost use Rattle.std.specs.Prelude.{All, count_by, ℕ, ◌<◌, ◌==◌, ◌≡◌, ◌≤◌};
 ghost use Rattle.bk_dual.specs.Dual.{crossings, dual_diagram, dual_flow, dual_order, number_at};
+ghost use Rattle.bk_dual.specs.DualWires.{WiresLeadAcross};
 ghost use Rattle.bk_dual.specs.NodeSum.{NodesAndCrossings};
 ghost use Rattle.bk_net.specs.Flow.{IsOneFlow};
 ghost use Rattle.bk_net.specs.GroupNumbers.{is_no_later};
 ghost use Rattle.bk_net.specs.Net.{HasNoLoose};
-ghost use Rattle.bk_tiling.specs.Tiling.{IsOneOf};
+ghost use Rattle.bk_tiling.specs.Kept.{IsKept};
+ghost use Rattle.bk_tiling.specs.Tiling.{IsOneOf, order};
 
 use arrayvec::ArrayVec;
 use bk_net::{Net, net_of};
@@ -27,10 +29,17 @@ pub fn dual_of(tiling: &Tiling) -> Net
     net
 }
 
-/// For each wire of the dual diagram the number, from 1, of its square in the tiling (own).
+/// For each wire of the dual diagram the number, from 1, of its square in the tiling (own). Each number up to the order stands
+/// there once, and no other. The wire leads from the vertical segment at the left of that square to the one at its right, which
+/// is the right side of the rectangle where the square ends there.
 pub fn dual_order(tiling: &Tiling) -> ArrayVec<u16, MOST_SQUARES>
-    ensures { result.items ≡ dual_order tiling.now }
+    ensures value { result.items ≡ dual_order tiling.now }
+    ensures once { (n : ℕ) → 0 < n → n ≤ order tiling.now → count_by (λ m. m == n) result.items ≡ 1 }
+    ensures range { All (λ n. (0 < n) × (n ≤ order tiling.now)) result.items }
+    ensures wires { WiresLeadAcross tiling.now result.items }
+    ensures kept { IsKept tiling.now }
 {
+    let _order = tiling.order();
     let turned = image(tiling, Turn::Swap);
     let mut numbers = ArrayVec::new();
     for q in turned.squares() {
@@ -80,57 +89,3 @@ fn is_no_later(r: &Square, q: Square) -> bool
 pub fn nodes_and_crossings()
     ensures { NodesAndCrossings }
 {}
-
-#[cfg(test)]
-mod tests {
-    use super::*;
-    use std::test::Fail;
-
-    fn at(x: u64, y: u64, s: u64) -> Square {
-        Square { x, y, s }
-    }
-
-    #[test]
-    fn diagrams_and_crossings(rt: HostRuntime) -> Result<(), Fail> {
-        let nine = [
-            at(0, 0, 18),
-            at(18, 0, 15),
-            at(18, 15, 7),
-            at(25, 15, 8),
-            at(0, 18, 14),
-            at(14, 18, 4),
-            at(14, 22, 10),
-            at(24, 22, 1),
-            at(24, 23, 9),
-        ];
-        let tiling = Tiling::try_new(33, 32, &nine)?;
-        let dual = dual_of(&tiling);
-        let wires = [
-            (0, 2),
-            (0, 1),
-            (1, 2),
-            (1, 3),
-            (2, 5),
-            (2, 4),
-            (3, 4),
-            (3, 5),
-            (4, 5),
-        ];
-        assert_eq!(rt; dual.nodes(), 6);
-        assert_eq!(rt; dual.wires(), wires.as_slice());
-        assert_eq!(rt;
-            dual_order(&tiling).as_slice(),
-            [1, 5, 6, 7, 2, 3, 8, 9, 4].as_slice()
-        );
-        assert_eq!(rt; crossings(&tiling), 0);
-
-        let four = [at(0, 0, 1), at(1, 0, 1), at(0, 1, 1), at(1, 1, 1)];
-        let tiling = Tiling::try_new(2, 2, &four)?;
-        assert_eq!(rt; dual_order(&tiling).as_slice(), [1, 3, 2, 4].as_slice());
-        assert_eq!(rt; crossings(&tiling), 1);
-
-        let three = [at(0, 0, 2), at(2, 0, 1), at(2, 1, 1)];
-        assert_eq!(rt; crossings(&Tiling::try_new(3, 2, &three)?), 0);
-        Ok(())
-    }
-}

@@ -1,5 +1,6 @@
 -- What no word of a simple layout begins with.
-use Rattle.std.proofs.Common.{Contains, List, Some, [], ap, arith, drop, inl, inr, length, map, slice_get, slice_index_or, subst, suc, sym, take, true, zero, ℕ, ◌++◌, ◌+◌, ◌-◌, ◌<◌, ◌∙◌, ◌∷◌, ◌≡◌, ◌≤◌, ◌⊎◌}
+use Rattle.std.proofs.Common.{Contains, List, Some, [], ap, arith, drop, inl, inr, length, map, slice_get, slice_index_or, subst, suc, sym, take}
+use Rattle.std.proofs.Common.{true, zero, ℕ, ◌++◌, ◌+◌, ◌-◌, ◌<◌, ◌∙◌, ◌∷◌, ◌≡◌, ◌≤◌, ◌⊎◌}
 use Rattle.std.proofs.lemmas.List.{length-map, nil_from_length}
 use Rattle.bk_laws.proofs.ListPlaces.{get_map, get_some}
 use Rattle.bk_word.specs.Outline.{Outline, has_left_wall, open_side, start, valley_of, valley_place}

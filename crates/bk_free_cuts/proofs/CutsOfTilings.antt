@@ -13,7 +13,9 @@ use Rattle.bk_tiling_layout.proofs.TilingSquares.{in_square}
 use Rattle.bk_tiling_layout.specs.TilingLayout.{layout_of, square_of}
 use Rattle.bk_free_cuts.proofs.ApartLines.{lines_of_a_tiling_are_apart}
 use Rattle.bk_free_cuts.proofs.CutsOfLayouts.{closings_fit, evens_fit, free_fits, lines_fit, one_segment_fits, pairs_fit, singles_fit}
-use Rattle.bk_free_cuts.specs.FreeCuts.{ASimpleTilingHasASoundLayout, AreOuterWalls, EvenSquaresAreFreeBarren, OneSegmentIsFreeBarren, OneUnderOneIsFreeBarren, StayingAboveIsFreeBarren, TooManyLinesIsFreeBarren, TooManySinglesIsFreeBarren, TooManyToCloseIsFreeBarren}
+use Rattle.bk_free_cuts.specs.FreeCuts.{ASimpleTilingHasASoundLayout, AreOuterWalls, EvenSquaresAreFreeBarren, OneSegmentIsFreeBarren}
+use Rattle.bk_free_cuts.specs.FreeCuts.{OneUnderOneIsFreeBarren, StayingAboveIsFreeBarren, TooManyLinesIsFreeBarren, TooManySinglesIsFreeBarren}
+use Rattle.bk_free_cuts.specs.FreeCuts.{TooManyToCloseIsFreeBarren}
 
 fits : (t : Tiling) → IsTiling t → Fits (layout_of t)
 fits t tiling = (a_tiling_has_a_layout t tiling).0

@@ -1,6 +1,7 @@
 -- The squares of a word that are said to stand on a line from the top stand on a line between two squares that hang there.
 use Rattle.std.specs.List.{list_any}
-use Rattle.std.proofs.Common.{Bool, List, Some, [], ap, arith, false, inl, inr, length, nat_eq, refl, replicate, slice_get, slice_index_or, subst, suc, sym, true, zero, ℕ, ◌||◌, ◌++◌, ◌+◌, ◌-◌, ◌<◌, ◌∙◌, ◌∷◌, ◌≡◌, ◌⊎◌}
+use Rattle.std.proofs.Common.{Bool, List, Some, [], ap, arith, false, inl, inr, length, nat_eq, refl, replicate, slice_get, slice_index_or, subst}
+use Rattle.std.proofs.Common.{suc, sym, true, zero, ℕ, ◌||◌, ◌++◌, ◌+◌, ◌-◌, ◌<◌, ◌∙◌, ◌∷◌, ◌≡◌, ◌⊎◌}
 use Rattle.std.proofs.lemmas.Bool.Decides.{nat_tests}
 use Rattle.std.proofs.lemmas.List.{length-append}
 use Rattle.bk_laws.proofs.ListPlaces.{get_map}

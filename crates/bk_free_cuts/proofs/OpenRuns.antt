@@ -1,5 +1,6 @@
 -- The squares of one open segment stay side by side until their node is closed.
-use Rattle.std.proofs.Common.{List, Option, Some, [], ap, arith, drop, inl, inr, length, map, refl, slice_get, slice_index_or, subst, suc, sym, take, zero, ℕ, ◌++◌, ◌+◌, ◌-◌, ◌∙◌, ◌∷◌, ◌≡◌, ◌⊎◌}
+use Rattle.std.proofs.Common.{List, Option, Some, [], ap, arith, drop, inl, inr, length, map, refl, slice_get, slice_index_or, subst, suc, sym, take}
+use Rattle.std.proofs.Common.{zero, ℕ, ◌++◌, ◌+◌, ◌-◌, ◌∙◌, ◌∷◌, ◌≡◌, ◌⊎◌}
 use Rattle.bk_laws.proofs.ListPlaces.{get_after, get_append, get_map}
 use Rattle.bk_word.specs.Outline.{Outline, start, valley_place}
 use Rattle.bk_word.specs.Play.{after_move, after_moves, before_first_list, joined, new_squares, outline_of, segments_apart, signs_apart}

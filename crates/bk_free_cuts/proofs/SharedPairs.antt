@@ -1,5 +1,6 @@
 -- Lines and nodes that words share: two lines at one open segment, and a closed node.
-use Rattle.std.proofs.Common.{List, Some, [], ap, arith, inl, inr, length, refl, slice_get, slice_index_or, subst, suc, sym, ℕ, ◌++◌, ◌+◌, ◌-◌, ◌<◌, ◌∙◌, ◌≡◌, ◌≤◌, ◌⊎◌}
+use Rattle.std.proofs.Common.{List, Some, [], ap, arith, inl, inr, length, refl, slice_get, slice_index_or, subst, suc, sym, ℕ, ◌++◌, ◌+◌, ◌-◌, ◌<◌}
+use Rattle.std.proofs.Common.{◌∙◌, ◌≡◌, ◌≤◌, ◌⊎◌}
 use Rattle.std.proofs.lemmas.Bool.{cases_lt}
 use Rattle.std.proofs.lemmas.List.{length-append}
 use Rattle.bk_laws.proofs.Occurrences.{times, times_at, times_in-append}
@@ -16,7 +17,8 @@ use Rattle.bk_layout.specs.LayoutLaws.{IsWordOfLayout}
 use Rattle.bk_tiling_layout.specs.SimpleLayout.{AreOutermost, HasOneBetween, IsSimpleLayout, Touches}
 use Rattle.bk_word.proofs.PlayLaws.{legal_front}
 use Rattle.bk_free_cuts.proofs.OpenRuns.{index_at, open_segments_end_together}
-use Rattle.bk_free_cuts.proofs.SharedLines.{above_is, below_is, closed_got, closed_less, fresh, got_index, hung_less, node_apart, numbered_square, open_low, place_of, square_low, wire}
+use Rattle.bk_free_cuts.proofs.SharedLines.{above_is, below_is, closed_got, closed_less, fresh, got_index, hung_less, node_apart, numbered_square}
+use Rattle.bk_free_cuts.proofs.SharedLines.{open_low, place_of, square_low, wire}
 use Rattle.bk_free_cuts.specs.OpenSegments.{EndsTogether}
 use Rattle.bk_free_cuts.specs.SharedNodes.{AreLinesApart, IsAtClosed, LinesShareTheNodeAbove}
 

@@ -1,7 +1,9 @@
 //! Cuts on the free words of simple tilings of at least 3 squares: no word of a sound layout begins with certain moves.
 #![tactic(auto)]
 
-ghost use Rattle.bk_free_cuts.specs.FreeCuts.{ASimpleTilingHasASoundLayout, EvenSquaresAreFreeBarren, OneSegmentIsFreeBarren, OneUnderOneIsFreeBarren, StayingAboveIsFreeBarren, TooManyLinesIsFreeBarren, TooManySinglesIsFreeBarren, TooManyToCloseIsFreeBarren};
+ghost use Rattle.bk_free_cuts.specs.FreeCuts.{ASimpleTilingHasASoundLayout, EvenSquaresAreFreeBarren, OneSegmentIsFreeBarren};
+ghost use Rattle.bk_free_cuts.specs.FreeCuts.{OneUnderOneIsFreeBarren, StayingAboveIsFreeBarren, TooManyLinesIsFreeBarren};
+ghost use Rattle.bk_free_cuts.specs.FreeCuts.{TooManySinglesIsFreeBarren, TooManyToCloseIsFreeBarren};
 ghost use Rattle.bk_free_cuts.specs.LineNumbers.{LineNumbersAreLines};
 ghost use Rattle.bk_free_cuts.specs.NodeCut.{SharedNodeIsFreeBarren};
 ghost use Rattle.bk_free_cuts.specs.OpenSegments.{OpenSegmentsEndTogether};

@@ -4,7 +4,9 @@ use Rattle.std.proofs.Common.{List, [], arith, count_by, inl, inr, length, subst
 use Rattle.std.proofs.lemmas.Bool.{cases_lt}
 use Rattle.std.proofs.lemmas.Bool.Decides.{nat_tests}
 use Rattle.std.proofs.lemmas.List.Sums.{sum_by-append}
-use Rattle.bk_tiling.proofs.Cells.{IsOver, all_from, column_from, column_left, column_right, count-filter, counted_one, covers_from, depth_comes_from, depth_reaches, from_append, from_filter, in_all, in_filter, no_two, none_counted, one_counted, over_from}
+use Rattle.bk_tiling.proofs.Cells.{IsOver, all_from, column_from, column_left, column_right, count-filter, counted_one, covers_from}
+use Rattle.bk_tiling.proofs.Cells.{depth_comes_from, depth_reaches, from_append, from_filter, in_all, in_filter, no_two, none_counted, one_counted}
+use Rattle.bk_tiling.proofs.Cells.{over_from}
 use Rattle.bk_tiling.proofs.TilingLaws.{within_of}
 use Rattle.bk_tiling.specs.Column.{IsLevel, covers_column, depth}
 use Rattle.bk_tiling.specs.declared.Segment.{Segment}
@@ -25,7 +27,8 @@ under_from v q e = record { level = grind (arith, nat_tests); left = grind (arit
 pub hangs_from : (v : Segment) (q : Square) → q.y ≡ v.level → v.x ≤ q.x → q.x + q.s ≤ v.x + v.width → hangs_under v q ≡ true
 hangs_from v q a b c = grind (arith, nat_tests)
 
-module _ (t : Tiling) (laid : List Square) (v : Segment) (tiling : IsTiling t) (fills : FillsFromTop t laid) (found : IsLeftmostValley t.width laid v) (low : v.level < t.height) where
+module _ (t : Tiling) (laid : List Square) (v : Segment) (tiling : IsTiling t) (fills : FillsFromTop t laid) (found : IsLeftmostValley t.width laid v)
+    (low : v.level < t.height) where
   pub cell : (c j : ℕ) → c < t.width → j < t.height → count_by (covers c j) t.squares ≡ 1
   cell c j a b = (tiling.tiles).once c j (omega arith) (omega arith) (omega arith) (omega arith)
 
@@ -100,14 +103,18 @@ module _ (t : Tiling) (laid : List Square) (v : Segment) (tiling : IsTiling t) (
           cases : (q.x + q.s ≤ v.x + v.width) ⊎ (v.x + v.width < q.x + q.s) → q.x + q.s ≤ v.x + v.width
           cases (inl k) = k
           cases (inr k) = let a = over.left in let d = over.bottom in let top = over.top in let w = (within_of t tiling q h).right in
-              absurd (free (is_laid (v.x + v.width) v.level q (omega arith) ((found.valley).right (omega arith)) h (covers_from (v.x + v.width) v.level q (omega arith) (omega arith) top d)))
+              absurd (free (is_laid (v.x + v.width) v.level q (omega arith) ((found.valley).right (omega arith)) h
+              (covers_from (v.x + v.width) v.level q (omega arith) (omega arith) top d)))
 
   under : List Square
   under = squares_under t v
 
   -- one of them hangs at the valley's first column
   pub first_under : (q : Square) × IsOneOf q (squares_under t v)
-  first_under = (there.0, in_filter (hangs_under v) t.squares there.0 there.1 (hangs v.x there.0 (omega arith) (let a = flat.some in omega arith) there.1 there.2))
+  first_under = (
+    there.0,
+    in_filter (hangs_under v) t.squares there.0 there.1 (hangs v.x there.0 (omega arith) (let a = flat.some in omega arith) there.1 there.2),
+  )
     where
       there : (q : Square) × IsOneOf q t.squares × (covers v.x v.level q ≡ true)
       there = counted_one (covers v.x v.level) t.squares (omega (arith, cell v.x v.level (let a = flat.some in let b = flat.within in omega arith) low))
@@ -131,7 +138,8 @@ module _ (t : Tiling) (laid : List Square) (v : Segment) (tiling : IsTiling t) (
 
       -- an old cell: none of the new squares lies over it
       none_new : j < depth laid c → (q : Square) → IsOneOf q (squares_under t v) → covers c j q ≡ true → ⊥
-      none_new k q h e = let u = is_under q h in let over = over_from c j q e in let a = u.level in let b = u.left in let d = u.right in let l = over.left in let r = over.right in let top = over.top in
+      none_new k q h e = let u = is_under q h in let over = over_from c j q e in let a = u.level in let b = u.left in let d = u.right in
+          let l = over.left in let r = over.right in let top = over.top in
           omega (arith, flat.level c (omega arith) (omega arith))
 
       -- a new cell: none of the old ones does
@@ -145,7 +153,8 @@ module _ (t : Tiling) (laid : List Square) (v : Segment) (tiling : IsTiling t) (
           least : (n : ℕ) → 0 < n → n ≤ 1 → n ≡ 1
           least n a b = omega arith
 
-          from : ((q : Square) × IsOneOf q (laid ++ squares_under t v) × (covers_column c q ≡ true) × (j < q.y + q.s)) → count_by (covers c j) (squares_under t v) ≡ 1
+          from : ((q : Square) × IsOneOf q (laid ++ squares_under t v) × (covers_column c q ≡ true) × (j < q.y + q.s))
+              → count_by (covers c j) (squares_under t v) ≡ 1
           from there = sides (from_append laid (squares_under t v) there.0 there.1)
             where
               q : Square
@@ -153,7 +162,8 @@ module _ (t : Tiling) (laid : List Square) (v : Segment) (tiling : IsTiling t) (
 
               sides : IsOneOf there.0 laid ⊎ IsOneOf there.0 (squares_under t v) → count_by (covers c j) (squares_under t v) ≡ 1
               sides (inl h) = absurd (omega (arith, depth_reaches laid c there.0 h there.2, there.3))
-              sides (inr h) = let u = is_under there.0 h in let a = u.level in let b = u.left in let d = u.right in let l = column_left c there.0 there.2 in let r = column_right c there.0 there.2 in
+              sides (inr h) = let u = is_under there.0 h in let a = u.level in let b = u.left in let d = u.right in
+                  let l = column_left c there.0 there.2 in let r = column_right c there.0 there.2 in
                   let here : v.level ≤ j = omega (arith, flat.level c (omega arith) (omega arith)) in
                   let e : covers c j there.0 ≡ true = covers_from c j there.0 l r (omega arith) there.3 in
                   let w = (within_of t tiling there.0 (in_tiling there.0 h)).bottom in
@@ -165,14 +175,19 @@ module _ (t : Tiling) (laid : List Square) (v : Segment) (tiling : IsTiling t) (
       cases (inr k) = omega (arith, split, one_new k, none_counted (covers c j) laid (none_old k))
 
   goes_on : FillsFromTop t (laid ++ squares_under t v)
-  goes_on = record { squares = all_from (λ q. IsOneOf q t.squares) (laid ++ squares_under t v) (λ q h. both q (from_append laid (squares_under t v) q h)); filled = filled }
+  goes_on = record {
+    squares = all_from (λ q. IsOneOf q t.squares) (laid ++ squares_under t v)
+        (λ q h. both q (from_append laid (squares_under t v) q h));
+    filled = filled;
+  }
     where
       both : (q : Square) → IsOneOf q laid ⊎ IsOneOf q (squares_under t v) → IsOneOf q t.squares
       both q (inl h) = laid_in q h
       both q (inr h) = in_tiling q h
 
 pub valley_is_filled : ValleyIsFilled
-valley_is_filled t laid v tiling fills found low = (some_under t laid v tiling fills found low (squares_under t v) there.0 there.1, goes_on t laid v tiling fills found low)
+valley_is_filled t laid v tiling fills found low =
+    (some_under t laid v tiling fills found low (squares_under t v) there.0 there.1, goes_on t laid v tiling fills found low)
   where
     there : (q : Square) × IsOneOf q (squares_under t v)
     there = first_under t laid v tiling fills found low

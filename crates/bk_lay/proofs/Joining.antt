@@ -33,7 +33,8 @@ pub length-signs : (a : ℕ) (ys : List ℕ) → length (signs_between (a ∷ ys
 length-signs a [] = refl
 length-signs a (y ∷ ys) = ap suc (length-signs y ys)
 
-pub span-append : (laid : List Square) (level x : ℕ) (front : List ℕ) (mid : ℕ) (back : List ℕ) (end : ℕ) → Span laid level x front mid → Span laid level mid back end → Span laid level x (front ++ back) end
+pub span-append : (laid : List Square) (level x : ℕ) (front : List ℕ) (mid : ℕ) (back : List ℕ) (end : ℕ) → Span laid level x front mid
+    → Span laid level mid back end → Span laid level x (front ++ back) end
 span-append laid level x [] mid back end a b = subst (λ (y : ℕ). Span laid level y back end) (sym a) b
 span-append laid level x (n ∷ front) mid back end a b = (a.0, a.1, a.2, a.3, span-append laid level (x + (a.0).s) front mid back end a.4 b)
 
@@ -53,7 +54,8 @@ sign_case m n = cases (three m n)
     under : n < m → sign_between m n ≡ Under
     under h = grind (arith, nat_tests)
 
-    cases : (m < n) ⊎ (m ≡ n) ⊎ (n < m) → ((m < n) × (sign_between m n ≡ Above)) ⊎ ((m ≡ n) × (sign_between m n ≡ Even)) ⊎ ((n < m) × (sign_between m n ≡ Under))
+    cases : (m < n) ⊎ (m ≡ n) ⊎ (n < m) → ((m < n) × (sign_between m n ≡ Above)) ⊎ ((m ≡ n) × (sign_between m n ≡ Even))
+        ⊎ ((n < m) × (sign_between m n ≡ Under))
     cases (inl h) = inl (h, above h)
     cases (inr (inl h)) = inr (inl (h, even h))
     cases (inr (inr h)) = inr (inr (h, under h))
@@ -83,7 +85,8 @@ module _ (width : ℕ) (laid : List Square) (sides : (n : ℕ) (q : Square) → 
     pub depicts : AllZip (IsSegment laid) (first ∷ more) segments
     pub between : signs ≡ signs_between (levels (first ∷ more))
 
-  pub join : (v : Segment) (runs : List Segment) (x : ℕ) (s : List ℕ) (segments : List (List ℕ)) → AreRuns width laid x (v ∷ runs) → AllZip (IsSegment laid) (v ∷ runs) (s ∷ segments)
+  pub join : (v : Segment) (runs : List Segment) (x : ℕ) (s : List ℕ) (segments : List (List ℕ)) → AreRuns width laid x (v ∷ runs)
+      → AllZip (IsSegment laid) (v ∷ runs) (s ∷ segments)
       → Joined x v.level (joined (signs_between (levels (v ∷ runs))) (s ∷ segments)) (filter parts (signs_between (levels (v ∷ runs))))
   join v [] x s [] cut zip = record { first = v; more = []; same_level = refl; cut = cut; depicts = zip; between = refl }
   join v [] x s (r ∷ segments) cut zip = absurd zip.1
@@ -93,10 +96,12 @@ module _ (width : ℕ) (laid : List Square) (sides : (n : ℕ) (q : Square) → 
       rest : List Sign
       rest = signs_between (levels (u ∷ runs))
 
-      cases : ((v.level < u.level) × (sign_between v.level u.level ≡ Above)) ⊎ ((v.level ≡ u.level) × (sign_between v.level u.level ≡ Even)) ⊎ ((u.level < v.level) × (sign_between v.level u.level ≡ Under))
+      cases : ((v.level < u.level) × (sign_between v.level u.level ≡ Above)) ⊎ ((v.level ≡ u.level) × (sign_between v.level u.level ≡ Even))
+          ⊎ ((u.level < v.level) × (sign_between v.level u.level ≡ Under))
           → Joined (x + v.width) u.level (joined (signs_between (levels (u ∷ runs))) (r ∷ segments)) (filter parts (signs_between (levels (u ∷ runs))))
           → Joined x v.level (joined (signs_between (levels (v ∷ u ∷ runs))) (s ∷ r ∷ segments)) (filter parts (signs_between (levels (v ∷ u ∷ runs))))
-      cases (inl h) j = subst (λ (sign : Sign). Joined x v.level (joined (sign ∷ signs_between (levels (u ∷ runs))) (s ∷ r ∷ segments)) (filter parts (sign ∷ signs_between (levels (u ∷ runs))))) (sym h.1)
+      cases (inl h) j = subst (λ (sign : Sign). Joined x v.level (joined (sign ∷ signs_between (levels (u ∷ runs))) (s ∷ r ∷ segments))
+          (filter parts (sign ∷ signs_between (levels (u ∷ runs))))) (sym h.1)
           (record {
             first = v;
             more = j.first ∷ j.more;
@@ -105,7 +110,9 @@ module _ (width : ℕ) (laid : List Square) (sides : (n : ℕ) (q : Square) → 
             depicts = (zip.0, j.depicts);
             between = λ i. (sym h.1 ∙ ap (sign_between v.level) (sym j.same_level)) i ∷ j.between i;
           })
-      cases (inr (inr h)) j = subst (λ (sign : Sign). Joined x v.level (joined (sign ∷ signs_between (levels (u ∷ runs))) (s ∷ r ∷ segments)) (filter parts (sign ∷ signs_between (levels (u ∷ runs))))) (sym h.1)
+      cases (inr (inr h)) j =
+          subst (λ (sign : Sign). Joined x v.level (joined (sign ∷ signs_between (levels (u ∷ runs))) (s ∷ r ∷ segments))
+          (filter parts (sign ∷ signs_between (levels (u ∷ runs))))) (sym h.1)
           (record {
             first = v;
             more = j.first ∷ j.more;
@@ -114,7 +121,9 @@ module _ (width : ℕ) (laid : List Square) (sides : (n : ℕ) (q : Square) → 
             depicts = (zip.0, j.depicts);
             between = λ i. (sym h.1 ∙ ap (sign_between v.level) (sym j.same_level)) i ∷ j.between i;
           })
-      cases (inr (inl h)) j = subst (λ (sign : Sign). Joined x v.level (joined (sign ∷ signs_between (levels (u ∷ runs))) (s ∷ r ∷ segments)) (filter parts (sign ∷ signs_between (levels (u ∷ runs))))) (sym h.1)
+      cases (inr (inl h)) j =
+          subst (λ (sign : Sign). Joined x v.level (joined (sign ∷ signs_between (levels (u ∷ runs))) (s ∷ r ∷ segments))
+          (filter parts (sign ∷ signs_between (levels (u ∷ runs))))) (sym h.1)
           (onto (joined (signs_between (levels (u ∷ runs))) (r ∷ segments)) j.depicts)
         where
           wide : Segment
@@ -134,7 +143,8 @@ module _ (width : ℕ) (laid : List Square) (sides : (n : ℕ) (q : Square) → 
               sides_of c lo hi (inl k) = (cut.1).level c lo k ∙ h.0 ∙ sym j.same_level
               sides_of c lo hi (inr k) = ((j.cut).1).level c (omega (arith, cut.0, (j.cut).0)) (omega (arith, cut.0, (j.cut).0))
 
-          onto : (found : List (List ℕ)) → AllZip (IsSegment laid) (j.first ∷ j.more) found → Joined x v.level (before_first_list s found) (filter parts (signs_between (levels (u ∷ runs))))
+          onto : (found : List (List ℕ)) → AllZip (IsSegment laid) (j.first ∷ j.more) found
+              → Joined x v.level (before_first_list s found) (filter parts (signs_between (levels (u ∷ runs))))
           onto [] z = absurd z
           onto (f ∷ found) z = record {
             first = wide;

@@ -4,7 +4,8 @@ use Rattle.std.specs.List.{AllByRecursion}
 use Rattle.std.proofs.Common.{Bool, List, [], ap, arith, cond, false, filter, inl, inr, refl, sym, true, ℕ, ◌++◌, ◌+◌, ◌<◌, ◌∙◌, ◌∷◌, ◌≡◌, ◌≤◌, ◌⊎◌}
 use Rattle.std.proofs.lemmas.Bool.{cases_lt}
 use Rattle.std.proofs.lemmas.Bool.Decides.{nat_tests}
-use Rattle.bk_tiling.proofs.Cells.{column_from, column_left, column_right, counted_one, covers_from, depth-append, depth_comes_from, depth_reaches, from_append, in_all, in_filter, no_two, over_from}
+use Rattle.bk_tiling.proofs.Cells.{column_from, column_left, column_right, counted_one, covers_from, depth-append, depth_comes_from, depth_reaches}
+use Rattle.bk_tiling.proofs.Cells.{from_append, in_all, in_filter, no_two, over_from}
 use Rattle.bk_tiling.proofs.Rows.{Chain}
 use Rattle.bk_tiling.specs.CodeOrder.{InCodeOrder, comes_before}
 use Rattle.bk_tiling.specs.Column.{covers_column, depth}
@@ -64,7 +65,13 @@ module _ (level end : ℕ) where
 
           cases : IsOneOf there.0 (q ∷ squares) → q.x ≡ x
           cases (inl same) = let e : (there.0).x ≡ q.x = ap (λ (s : Square). s.x) same in let a = row.begins q (inl refl) in omega (arith, there.2)
-          cases (inr k) = let a = row.begins q (inl refl) in absurd (omega (arith, there.2, further_right q there.0 (in_all (λ r. comes_before q r ≡ true) squares (row.ordered).0 there.0 k) (row.tops q (inl refl) ∙ sym (row.tops there.0 (inr k)))))
+          cases (inr k) = let a = row.begins q (inl refl) in
+              absurd (omega (
+                arith,
+                there.2,
+                further_right q there.0 (in_all (λ r. comes_before q r ≡ true) squares (row.ordered).0 there.0 k) (row.tops q (inl refl)
+                    ∙ sym (row.tops there.0 (inr k))),
+              ))
 
       first : q.x ≡ x
       first = start
@@ -92,11 +99,13 @@ module _ (level end : ℕ) where
               let same : q ≡ r = row.apart q r (inl refl) (inr k) r.x (omega arith) (omega (arith, start)) (omega arith) (omega arith) in
               let e : q.x ≡ r.x = ap (λ (s : Square). s.x) same in absurd (omega arith)
 
-          others : (c : ℕ) → x + q.s ≤ c → ((p : Square) × IsOneOf p (q ∷ squares) × (p.x ≤ c) × (c < p.x + p.s)) → (p : Square) × IsOneOf p squares × (p.x ≤ c) × (c < p.x + p.s)
+          others : (c : ℕ) → x + q.s ≤ c → ((p : Square) × IsOneOf p (q ∷ squares) × (p.x ≤ c) × (c < p.x + p.s))
+              → (p : Square) × IsOneOf p squares × (p.x ≤ c) × (c < p.x + p.s)
           others c lo (p, inl same, a, b) = let e : p.x + p.s ≡ q.x + q.s = ap (λ (s : Square). s.x + s.s) same in absurd (omega (arith, start))
           others c lo (p, inr k, a, b) = (p, k, a, b)
 
-module _ (t : Tiling) (laid : List Square) (v : Segment) (tiling : IsTiling t) (fills : FillsFromTop t laid) (found : IsLeftmostValley t.width laid v) (low : v.level < t.height) where
+module _ (t : Tiling) (laid : List Square) (v : Segment) (tiling : IsTiling t) (fills : FillsFromTop t laid) (found : IsLeftmostValley t.width laid v)
+    (low : v.level < t.height) where
   side_of : (q : Square) → IsOneOf q (squares_under t v) → 0 < q.s
   side_of q h = in_all (λ q. 0 < q.s) t.squares (tiling.tiles).sides q (in_tiling t laid v tiling fills found low q h)
 
@@ -104,7 +113,8 @@ module _ (t : Tiling) (laid : List Square) (v : Segment) (tiling : IsTiling t) (
   top_of q h = (is_under t laid v tiling fills found low q h).level
 
   -- two of them do not stand over one column
-  pub one_over : (q r : Square) → IsOneOf q (squares_under t v) → IsOneOf r (squares_under t v) → (c : ℕ) → q.x ≤ c → c < q.x + q.s → r.x ≤ c → c < r.x + r.s → q ≡ r
+  pub one_over : (q r : Square) → IsOneOf q (squares_under t v) → IsOneOf r (squares_under t v) → (c : ℕ) → q.x ≤ c → c < q.x + q.s → r.x ≤ c
+      → c < r.x + r.s → q ≡ r
   one_over q r a b c p1 p2 p3 p4 = no_two (covers c v.level) t.squares (omega (arith, cell t laid v tiling fills found low c v.level wide low)) q r
       (in_tiling t laid v tiling fills found low q a) (covers_from c v.level q p1 p2 (omega (arith, top_of q a)) (omega (arith, top_of q a, side_of q a)))
       (in_tiling t laid v tiling fills found low r b) (covers_from c v.level r p3 p4 (omega (arith, top_of r b)) (omega (arith, top_of r b, side_of r b)))
@@ -124,7 +134,12 @@ module _ (t : Tiling) (laid : List Square) (v : Segment) (tiling : IsTiling t) (
   })
     where
       over : (c : ℕ) → v.x ≤ c → c < v.x + v.width → (q : Square) × IsOneOf q (squares_under t v) × (q.x ≤ c) × (c < q.x + q.s)
-      over c lo hi = (there.0, in_filter (hangs_under v) t.squares there.0 there.1 (hangs t laid v tiling fills found low c there.0 lo hi there.1 there.2), (over_from c v.level there.0 there.2).left, (over_from c v.level there.0 there.2).right)
+      over c lo hi = (
+        there.0,
+        in_filter (hangs_under v) t.squares there.0 there.1 (hangs t laid v tiling fills found low c there.0 lo hi there.1 there.2),
+        (over_from c v.level there.0 there.2).left,
+        (over_from c v.level there.0 there.2).right,
+      )
         where
           wide : c < t.width
           wide = let e = ((found.valley).flat).within in omega arith
@@ -139,7 +154,8 @@ module _ (t : Tiling) (laid : List Square) (v : Segment) (tiling : IsTiling t) (
       two : (a b : ℕ) → (a ≤ b) ⊎ (b < a)
       two a b = grind arith
 
-      cases : (depth (laid ++ squares_under t v) c ≤ depth laid c) ⊎ (depth laid c < depth (laid ++ squares_under t v) c) → depth (laid ++ squares_under t v) c ≡ depth laid c
+      cases : (depth (laid ++ squares_under t v) c ≤ depth laid c) ⊎ (depth laid c < depth (laid ++ squares_under t v) c)
+          → depth (laid ++ squares_under t v) c ≡ depth laid c
       cases (inl h) = omega (arith, depth-append laid (squares_under t v) c)
       cases (inr h) = absurd (none (depth_comes_from (laid ++ squares_under t v) c (depth laid c) h))
         where
@@ -165,7 +181,8 @@ module _ (t : Tiling) (laid : List Square) (v : Segment) (tiling : IsTiling t) (
       two : (a b : ℕ) → (a ≤ b) ⊎ (b < a)
       two a b = grind arith
 
-      cases : (depth (laid ++ squares_under t v) c ≤ q.y + q.s) ⊎ (q.y + q.s < depth (laid ++ squares_under t v) c) → depth (laid ++ squares_under t v) c ≡ q.y + q.s
+      cases : (depth (laid ++ squares_under t v) c ≤ q.y + q.s) ⊎ (q.y + q.s < depth (laid ++ squares_under t v) c)
+          → depth (laid ++ squares_under t v) c ≡ q.y + q.s
       cases (inl k) = omega (arith, depth_reaches (laid ++ squares_under t v) c q (in_new laid (squares_under t v) q h) (column_from c q lo hi))
       cases (inr k) = absurd (none (depth_comes_from (laid ++ squares_under t v) c (q.y + q.s) k))
         where

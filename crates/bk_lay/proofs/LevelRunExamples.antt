@@ -22,7 +22,13 @@ abbrev pub the_outline : Outline
 the_outline = record { left = record { items = run 0 25 25 ∷ [] }; valley = run 25 42 17; right = record { items = run 42 65 23 ∷ [] } }
 
 run_by_test : (laid : List Square) (r : Run) → r.x < r.end → all_below (λ k. nat_eq (depth laid (r.x + k)) r.level) (r.end - r.x) ≡ true → IsRun laid r
-run_by_test laid r some e = record { some = some; level = λ c lo hi. let at : r.x + (c - r.x) ≡ c = omega arith in sym (ap (depth laid) at) ∙ eqb-true (depth laid (r.x + (c - r.x))) r.level (each_below (λ k. nat_eq (depth laid (r.x + k)) r.level) (r.end - r.x) e (c - r.x) (omega arith)) }
+run_by_test laid r some e = record {
+  some = some;
+  level = λ c lo hi. let at : r.x + (c - r.x) ≡ c = omega arith in
+      sym (ap (depth laid) at)
+      ∙ eqb-true (depth laid (r.x + (c - r.x))) r.level (each_below (λ k. nat_eq (depth laid (r.x + k)) r.level) (r.end - r.x) e (c - r.x)
+      (omega arith));
+}
 
 pub outline_of_three : IsOutline 65 three_squares the_outline
 outline_of_three = record {

@@ -17,3 +17,4 @@ pub mod SignLists
 pub mod NextTurn
 pub mod TurnLaws
 pub mod LevelRunExamples
+pub mod DepictionExamples

@@ -11,19 +11,23 @@ use Rattle.bk_lay.specs.declared.outline.Outline.{Outline}
 use Rattle.bk_lay.specs.declared.outline.Run.{Run}
 
 -- the last of some runs, and those before it
-pub falls_at_end : (laid : List Square) (x : ℕ) (front : List Run) (r : Run) (end : ℕ) → FallingRuns laid x (front ++ r ∷ []) end → FallingRuns laid x front r.x × IsFallingRun laid r × (r.end ≡ end)
+pub falls_at_end : (laid : List Square) (x : ℕ) (front : List Run) (r : Run) (end : ℕ) → FallingRuns laid x (front ++ r ∷ []) end
+    → FallingRuns laid x front r.x × IsFallingRun laid r × (r.end ≡ end)
 falls_at_end laid x [] r end f = (sym f.0, f.1, f.2)
 falls_at_end laid x (s ∷ front) r end f = let rest = falls_at_end laid s.end front r end f.2 in ((f.0, f.1, rest.0), rest.1, rest.2)
 
-pub falls_more : (laid : List Square) (x : ℕ) (front : List Run) (r : Run) → FallingRuns laid x front r.x → IsFallingRun laid r → FallingRuns laid x (front ++ r ∷ []) r.end
+pub falls_more : (laid : List Square) (x : ℕ) (front : List Run) (r : Run) → FallingRuns laid x front r.x → IsFallingRun laid r
+    → FallingRuns laid x (front ++ r ∷ []) r.end
 falls_more laid x [] r f is = (sym f, is, refl)
 falls_more laid x (s ∷ front) r f is = (f.0, f.1, falls_more laid s.end front r f.2 is)
 
-pub right_at_end : (laid : List Square) (x : ℕ) (front : List Run) (r : Run) (end : ℕ) → RunsFromRight laid x (front ++ r ∷ []) end → (r.x ≡ x) × IsRun laid r × RunsFromRight laid r.end front end
+pub right_at_end : (laid : List Square) (x : ℕ) (front : List Run) (r : Run) (end : ℕ) → RunsFromRight laid x (front ++ r ∷ []) end
+    → (r.x ≡ x) × IsRun laid r × RunsFromRight laid r.end front end
 right_at_end laid x [] r end f = (sym f.2, f.1, f.0)
 right_at_end laid x (s ∷ front) r end f = let rest = right_at_end laid x front r s.x f.2 in (rest.0, rest.1, (f.0, f.1, rest.2))
 
-pub right_more : (laid : List Square) (front : List Run) (r : Run) (end : ℕ) → RunsFromRight laid r.end front end → IsRun laid r → RunsFromRight laid r.x (front ++ r ∷ []) end
+pub right_more : (laid : List Square) (front : List Run) (r : Run) (end : ℕ) → RunsFromRight laid r.end front end → IsRun laid r
+    → RunsFromRight laid r.x (front ++ r ∷ []) end
 right_more laid [] r end f is = (f, is, refl)
 right_more laid (s ∷ front) r end f is = (f.0, f.1, right_more laid front r s.x f.2 is)
 
@@ -32,7 +36,8 @@ pub last_of : (runs : List Run) → (runs ≡ []) ⊎ ((front : List Run) × (r 
 last_of [] = inl refl
 last_of (s ∷ runs) = cases (last_of runs)
   where
-    cases : (runs ≡ []) ⊎ ((front : List Run) × (r : Run) × (runs ≡ front ++ r ∷ [])) → (s ∷ runs ≡ []) ⊎ ((front : List Run) × (r : Run) × (s ∷ runs ≡ front ++ r ∷ []))
+    cases : (runs ≡ []) ⊎ ((front : List Run) × (r : Run) × (runs ≡ front ++ r ∷ []))
+        → (s ∷ runs ≡ []) ⊎ ((front : List Run) × (r : Run) × (s ∷ runs ≡ front ++ r ∷ []))
     cases (inl e) = inr ([], s, ap (λ (l : List Run). s ∷ l) e)
     cases (inr (front, r, e)) = inr (s ∷ front, r, ap (λ (l : List Run). s ∷ l) e)
 
@@ -45,14 +50,16 @@ last_level_at (r ∷ s ∷ runs) d h = ap (λ (k : ℕ). (get_or (r ∷ s ∷ ru
     place = omega arith
 
 -- the runs at the left never get deeper
-pub falls_by_columns : (laid : List Square) (x : ℕ) (runs : List Run) (end : ℕ) → FallingRuns laid x runs end → (c : ℕ) → x ≤ suc c → suc c < end → depth laid (suc c) ≤ depth laid c
+pub falls_by_columns : (laid : List Square) (x : ℕ) (runs : List Run) (end : ℕ) → FallingRuns laid x runs end → (c : ℕ) → x ≤ suc c → suc c < end
+    → depth laid (suc c) ≤ depth laid c
 falls_by_columns laid x [] end f c lo hi = absurd (omega (arith, f))
 falls_by_columns laid x (r ∷ runs) end f c lo hi = cases (three c) (falls_by_columns laid r.end runs end f.2 c)
   where
     three : (c : ℕ) → (suc c ≡ r.x) ⊎ ((r.x ≤ c) × (suc c < r.end)) ⊎ ((r.end ≤ suc c) ⊎ (suc c < r.x))
     three c = grind arith
 
-    cases : (suc c ≡ r.x) ⊎ ((r.x ≤ c) × (suc c < r.end)) ⊎ ((r.end ≤ suc c) ⊎ (suc c < r.x)) → (r.end ≤ suc c → suc c < end → depth laid (suc c) ≤ depth laid c) → depth laid (suc c) ≤ depth laid c
+    cases : (suc c ≡ r.x) ⊎ ((r.x ≤ c) × (suc c < r.end)) ⊎ ((r.end ≤ suc c) ⊎ (suc c < r.x))
+        → (r.end ≤ suc c → suc c < end → depth laid (suc c) ≤ depth laid c) → depth laid (suc c) ≤ depth laid c
     cases (inl e) later = let some = ((f.1).run).some in omega (arith, ((f.1).run).level (suc c) (omega arith) (omega arith), (f.1).wall c e)
     cases (inr (inl k)) later = omega (arith, ((f.1).run).level (suc c) (omega (arith, k.0)) k.1, ((f.1).run).level c k.0 (omega (arith, k.1)))
     cases (inr (inr (inl k))) later = later k hi
@@ -60,7 +67,8 @@ falls_by_columns laid x (r ∷ runs) end f c lo hi = cases (three c) (falls_by_c
 
 module _ (width : ℕ) (laid : List Square) where
   -- where the left is empty, the first run at the right begins at the wall
-  pub first_from_right : (left kept front right : List Run) (r : Run) → kept ≡ left → (0 < length left → ⊥) → right ≡ front ++ r ∷ [] → Meet width laid left right → AreBeside width laid kept r front
+  pub first_from_right : (left kept front right : List Run) (r : Run) → kept ≡ left → (0 < length left → ⊥) → right ≡ front ++ r ∷ []
+      → Meet width laid left right → AreBeside width laid kept r front
   first_from_right (s ∷ left) kept front right r same none is m = absurd (none (omega arith))
   first_from_right [] kept front right r same none is m = record {
     falls = subst (λ (l : List Run). FallingRuns laid 0 l r.x) (sym same) (m.falls ∙ sym ends.0);
@@ -82,10 +90,15 @@ module _ (width : ℕ) (laid : List Square) where
       ends = falls_at_end laid 0 front r m.column (subst (λ (l : List Run). FallingRuns laid 0 l m.column) is m.falls)
 
   -- a less deep run follows
-  pub falls_on : (left : List Run) (v : Run) (right : List Run) (n : Run) → AreBeside width laid left v (right ++ n ∷ []) → n.level < v.level → AreBeside width laid (left ++ v ∷ []) n right
+  pub falls_on : (left : List Run) (v : Run) (right : List Run) (n : Run) → AreBeside width laid left v (right ++ n ∷ []) → n.level < v.level
+      → AreBeside width laid (left ++ v ∷ []) n right
   falls_on left v right n b less = record {
     falls = subst (λ (x : ℕ). FallingRuns laid 0 (left ++ v ∷ []) x) (sym ends.0) (falls_more laid 0 left v b.falls b.run);
-    run = record { run = ends.1; wall = λ c e. let some = ((b.run).run).some in omega (arith, ((b.run).run).level c (omega (arith, ends.0)) (omega (arith, ends.0))) };
+    run = record {
+      run = ends.1;
+      wall = λ c e. let some = ((b.run).run).some in
+          omega (arith, ((b.run).run).level c (omega (arith, ends.0)) (omega (arith, ends.0)));
+    };
     rest = ends.2;
   }
     where
@@ -93,10 +106,18 @@ module _ (width : ℕ) (laid : List Square) where
       ends = right_at_end laid v.end right n width b.rest
 
   -- a run of one level with the valley follows, and joins it
-  pub joins : (left : List Run) (v : Run) (right : List Run) (n : Run) → AreBeside width laid left v (right ++ n ∷ []) → n.level ≡ v.level → AreBeside width laid left (record { x = v.x; end = n.end; level = v.level }) right
+  pub joins : (left : List Run) (v : Run) (right : List Run) (n : Run) → AreBeside width laid left v (right ++ n ∷ []) → n.level ≡ v.level
+      → AreBeside width laid left (record { x = v.x; end = n.end; level = v.level }) right
   joins left v right n b same = record {
     falls = b.falls;
-    run = record { run = record { some = let one = ((b.run).run).some in let other = (ends.1).some in omega (arith, ends.0); level = λ c lo hi. level c lo hi (two c) }; wall = (b.run).wall };
+    run = record {
+      run = record {
+        some = let one = ((b.run).run).some in let other = (ends.1).some in omega (arith, ends.0);
+        level =
+            λ c lo hi. level c lo hi (two c);
+      };
+      wall = (b.run).wall;
+    };
     rest = ends.2;
   }
     where
@@ -111,12 +132,14 @@ module _ (width : ℕ) (laid : List Square) where
       level c lo hi (inr k) = (ends.1).level c (omega (arith, ends.0)) hi ∙ same
 
   -- where the runs at the right end deeper, so does the column after the valley
-  pub rises_after : (left : List Run) (v : Run) (right : List Run) → AreBeside width laid left v right → IsDeeperAtEnd v.level right → v.end < width → v.level < depth laid v.end
+  pub rises_after : (left : List Run) (v : Run) (right : List Run) → AreBeside width laid left v right → IsDeeperAtEnd v.level right → v.end < width
+      → v.level < depth laid v.end
   rises_after left v right b deeper inside = cases (last_of right)
     where
       cases : (right ≡ []) ⊎ ((front : List Run) × (r : Run) × (right ≡ front ++ r ∷ [])) → v.level < depth laid v.end
       cases (inl e) = absurd (omega (arith, subst (λ (l : List Run). RunsFromRight laid v.end l width) e b.rest))
-      cases (inr (front, r, e)) = let some = (ends.1).some in omega (arith, deeper front r e, (ends.1).level v.end (omega (arith, ends.0)) (omega (arith, ends.0)))
+      cases (inr (front, r, e)) = let some = (ends.1).some in
+          omega (arith, deeper front r e, (ends.1).level v.end (omega (arith, ends.0)) (omega (arith, ends.0)))
         where
           ends : (r.x ≡ v.end) × IsRun laid r × RunsFromRight laid r.end front width
           ends = right_at_end laid v.end front r width (subst (λ (l : List Run). RunsFromRight laid v.end l width) e b.rest)
@@ -131,7 +154,8 @@ segment_of r = record { x = r.x; width = r.end - r.x; level = r.level }
 
 -- the outline is about the leftmost valley
 pub leftmost_in_outline : (width : ℕ) (laid : List Square) (o : Outline) → IsOutline width laid o → IsLeftmostValley width laid (segment_of o.valley)
-leftmost_in_outline width laid o is = leftmost_by_falling width laid (segment_of o.valley) (record { flat = flat; left = ((is.runs).run).wall; right = right }) falls
+leftmost_in_outline width laid o is =
+    leftmost_by_falling width laid (segment_of o.valley) (record { flat = flat; left = ((is.runs).run).wall; right = right }) falls
   where
     v : Run
     v = o.valley

@@ -1,6 +1,7 @@
 -- Where the leftmost valley stands among the level runs of the columns.
 use Rattle.std.specs.List.{AllByRecursion}
-use Rattle.std.proofs.Common.{Bool, List, [], ap, arith, cond, false, inl, inr, length, nat_lt, refl, subst, suc, sym, true, zero, ℕ, ◌++◌, ◌+◌, ◌-◌, ◌<◌, ◌∙◌, ◌∷◌, ◌≡◌, ◌≤◌, ◌⊎◌}
+use Rattle.std.proofs.Common.{Bool, List, [], ap, arith, cond, false, inl, inr, length, nat_lt, refl, subst, suc, sym, true, zero, ℕ, ◌++◌, ◌+◌, ◌-◌}
+use Rattle.std.proofs.Common.{◌<◌, ◌∙◌, ◌∷◌, ◌≡◌, ◌≤◌, ◌⊎◌}
 use Rattle.std.proofs.lemmas.Bool.Decides.{nat_tests}
 use Rattle.bk_tiling.specs.Column.{AreRuns, depth}
 use Rattle.bk_tiling.specs.declared.Segment.{Segment}
@@ -57,15 +58,27 @@ depth_from_at width laid x h = ap (λ (b : Bool). cond b (depth laid x ∷ []) [
     test : nat_lt x width ≡ true
     test = grind (arith, nat_tests)
 
+-- past the last column there is no depth
+pub depth_from_end : (width : ℕ) (laid : List Square) (c : ℕ) → c ≡ width → depth_from width laid c ≡ []
+depth_from_end width laid c e = ap (λ (b : Bool). cond b (depth laid c ∷ []) []) test
+  where
+    test : nat_lt c width ≡ false
+    test = grind (arith, nat_tests)
+
 module _ (width : ℕ) (laid : List Square) where
-  place : (v : Segment) (runs : List Segment) (x : ℕ) → AreRuns width laid x (v ∷ runs) → AllByRecursion (λ sign. parts sign ≡ true) (signs_between (levels (v ∷ runs)))
+  place : (v : Segment) (runs : List Segment) (x : ℕ) → AreRuns width laid x (v ∷ runs)
+      → AllByRecursion (λ sign. parts sign ≡ true) (signs_between (levels (v ∷ runs)))
       → ((c : ℕ) → suc c ≡ x → v.level < depth laid c) → ((c : ℕ) → suc c ≤ x → depth laid (suc c) ≤ depth laid c) → Placed width laid x (v ∷ runs)
   place v [] x cut parted wall falls = record {
     before = [];
     valley = v;
     after = [];
     is = refl;
-    leftmost = leftmost_by_falling width laid v (record { flat = cut.1; left = λ c e. wall c (e ∙ cut.0); right = λ h. absurd (omega (arith, cut.0, cut.2)) }) (λ c h. falls c (omega (arith, cut.0)));
+    leftmost = leftmost_by_falling width laid v (record {
+      flat = cut.1;
+      left = λ c e. wall c (e ∙ cut.0);
+      right = λ h. absurd (omega (arith, cut.0, cut.2));
+    }) (λ c h. falls c (omega (arith, cut.0)));
     number = refl;
     left = inl (refl, cut.0);
     right = inl (refl, omega (arith, cut.0, cut.2));
@@ -75,17 +88,29 @@ module _ (width : ℕ) (laid : List Square) where
       u_level : depth laid (v.x + v.width) ≡ u.level
       u_level = let some = ((cut.2).1).some in ((cut.2).1).level (v.x + v.width) (omega (arith, cut.0, (cut.2).0)) (omega (arith, cut.0, (cut.2).0))
 
-      cases : ((v.level < u.level) × (sign_between v.level u.level ≡ Above)) ⊎ ((v.level ≡ u.level) × (sign_between v.level u.level ≡ Even)) ⊎ ((u.level < v.level) × (sign_between v.level u.level ≡ Under))
-          → (((c : ℕ) → suc c ≡ x + v.width → u.level < depth laid c) → ((c : ℕ) → suc c ≤ x + v.width → depth laid (suc c) ≤ depth laid c) → Placed width laid (x + v.width) (u ∷ runs)) → Placed width laid x (v ∷ u ∷ runs)
+      cases : ((v.level < u.level) × (sign_between v.level u.level ≡ Above)) ⊎ ((v.level ≡ u.level) × (sign_between v.level u.level ≡ Even))
+          ⊎ ((u.level < v.level) × (sign_between v.level u.level ≡ Under))
+          → (((c : ℕ) → suc c ≡ x + v.width → u.level < depth laid c) → ((c : ℕ) → suc c ≤ x + v.width → depth laid (suc c) ≤ depth laid c)
+          → Placed width laid (x + v.width) (u ∷ runs)) → Placed width laid x (v ∷ u ∷ runs)
       cases (inl h) rest = record {
         before = [];
         valley = v;
         after = u ∷ runs;
         is = refl;
-        leftmost = leftmost_by_falling width laid v (record { flat = cut.1; left = λ c e. wall c (e ∙ cut.0); right = λ k. omega (arith, u_level, h.0) }) (λ c k. falls c (omega (arith, cut.0)));
+        leftmost = leftmost_by_falling width laid v (record {
+          flat = cut.1;
+          left = λ c e. wall c (e ∙ cut.0);
+          right = λ k. omega (arith, u_level, h.0);
+        }) (λ c k. falls c (omega (arith, cut.0)));
         number = ap (λ (sign : Sign). valley_place (sign ∷ signs_between (levels (u ∷ runs)))) h.1;
         left = inl (refl, cut.0);
-        right = inr (record { first = u; back = runs; is = refl; level = depth_from_at width laid (v.x + v.width) (let a = ((cut.2).1).some in let b = ((cut.2).1).within in omega (arith, cut.0, (cut.2).0)) ∙ ap (λ (k : ℕ). k ∷ []) u_level });
+        right = inr (record {
+          first = u;
+          back = runs;
+          is = refl;
+          level = depth_from_at width laid (v.x + v.width) (let a = ((cut.2).1).some in
+              let b = ((cut.2).1).within in omega (arith, cut.0, (cut.2).0)) ∙ ap (λ (k : ℕ). k ∷ []) u_level;
+        });
       }
       cases (inr (inl h)) rest = absurd (no_even v.level u.level h.1 parted.0)
       cases (inr (inr h)) rest = further (rest u_wall u_falls)
@@ -105,7 +130,8 @@ module _ (width : ℕ) (laid : List Square) where
               falling : (suc c ≤ x) ⊎ ((x ≤ c) × (suc c < x + v.width)) ⊎ ((x ≤ c) × (suc c ≡ v.x + v.width)) → depth laid (suc c) ≤ depth laid c
               falling (inl a) = falls c a
               falling (inr (inl b)) = omega (arith, run_level c b.0 (omega (arith, b.1)), run_level (suc c) (omega (arith, b.0)) b.1)
-              falling (inr (inr b)) = let here : depth laid (suc c) ≡ u.level = ap (depth laid) b.1 ∙ u_level in omega (arith, run_level c b.0 (omega (arith, b.1, cut.0)), h.0)
+              falling (inr (inr b)) = let here : depth laid (suc c) ≡ u.level = ap (depth laid) b.1 ∙ u_level in
+                  omega (arith, run_level c b.0 (omega (arith, b.1, cut.0)), h.0)
 
           further : Placed width laid (x + v.width) (u ∷ runs) → Placed width laid x (v ∷ u ∷ runs)
           further p = record {
@@ -124,11 +150,13 @@ module _ (width : ℕ) (laid : List Square) where
                 front = [];
                 last = v;
                 is = ap (λ runs. v ∷ runs) none;
-                level = let some = (cut.1).some in depth_before_at laid (p.valley).x (x + v.width - 1) (omega arith) ∙ ap (λ (k : ℕ). k ∷ []) (run_level (x + v.width - 1) (omega arith) (omega arith));
+                level = let some = (cut.1).some in depth_before_at laid (p.valley).x (x + v.width - 1) (omega arith)
+                    ∙ ap (λ (k : ℕ). k ∷ []) (run_level (x + v.width - 1) (omega arith) (omega arith));
               }
               lasts (inr l) = record { front = v ∷ l.front; last = l.last; is = ap (λ runs. v ∷ runs) l.is; level = l.level }
 
-  pub placed : (runs : List Segment) → 0 < width → AreRuns width laid 0 runs → AllByRecursion (λ sign. parts sign ≡ true) (signs_between (levels runs)) → Placed width laid 0 runs
+  pub placed : (runs : List Segment) → 0 < width → AreRuns width laid 0 runs
+      → AllByRecursion (λ sign. parts sign ≡ true) (signs_between (levels runs)) → Placed width laid 0 runs
   placed [] wide cut parted = absurd (omega (arith, cut))
   placed (v ∷ runs) wide cut parted = place v runs 0 cut parted (λ c e. absurd (omega arith)) (λ c e. absurd (omega arith))
 

@@ -15,7 +15,8 @@ last_after (a ∷ []) b = refl
 last_after (a ∷ c ∷ levels) b = last_after (c ∷ levels) b
 
 -- one level more gives one sign more, where there was a level
-pub signs_after : (levels : List ℕ) (b : ℕ) → signs_between levels ++ signs_between (option_to_list (last_of_levels levels) ++ b ∷ []) ≡ signs_between (levels ++ b ∷ [])
+pub signs_after : (levels : List ℕ) (b : ℕ) → signs_between levels ++ signs_between (option_to_list (last_of_levels levels) ++ b ∷ [])
+    ≡ signs_between (levels ++ b ∷ [])
 signs_after [] b = refl
 signs_after (a ∷ []) b = refl
 signs_after (a ∷ c ∷ levels) b = ap (λ signs. sign_between a c ∷ signs) (signs_after (c ∷ levels) b)

@@ -33,29 +33,41 @@ module _ (t : Tiling) (kept : IsKept t) where
 
   pub last_turn : (w : Word) (o : Outline) → Turned t w o → t.height ≤ o.valley.level → IsWordOf t w
   last_turn w o turned high = subst (MovesFollow t []) (append-nil w)
-      (turned.follows [] (all_full t kept.tiling turned.laid turned.fills (segment_of o.valley) (leftmost_in_outline t.width turned.laid o turned.outline) high))
+      (turned.follows [] (all_full t kept.tiling turned.laid turned.fills (segment_of o.valley)
+      (leftmost_in_outline t.width turned.laid o turned.outline) high))
 
   -- the squares that were found, and their move
-  module _ (w : Word) (o : Outline) (turned : Turned t w o) (low : o.valley.level < t.height) (squares : List Square) (is : squares ≡ filter (begins_under o.valley) t.squares) where
+  module _ (w : Word) (o : Outline) (turned : Turned t w o) (low : o.valley.level < t.height) (squares : List Square)
+      (is : squares ≡ filter (begins_under o.valley) t.squares) where
     under : squares ≡ squares_under t (segment_of o.valley)
     under = is ∙ same_squares t turned.laid o kept.tiling turned.fills turned.outline low
 
     of_tiling : (q : Square) → IsOneOf q squares → IsOneOf q t.squares
-    of_tiling q h = in_tiling t turned.laid (segment_of o.valley) kept.tiling turned.fills (found t turned.laid o kept.tiling turned.fills turned.outline low) low q (subst (IsOneOf q) under h)
+    of_tiling q h = in_tiling t turned.laid (segment_of o.valley) kept.tiling turned.fills
+        (found t turned.laid o kept.tiling turned.fills turned.outline low) low q (subst (IsOneOf q) under h)
 
     pub few_squares : length squares ≤ 200
-    few_squares = let few = kept.few in omega (arith, ap length is, length-filter (begins_under o.valley) t.squares, count_by-le-length (begins_under o.valley) t.squares)
+    few_squares = let few = kept.few in
+        omega (arith, ap length is, length-filter (begins_under o.valley) t.squares, count_by-le-length (begins_under o.valley) t.squares)
 
     pub right_fits : AllByRecursion (λ q. q.x + q.s < 2 ^ 64) squares
-    right_fits = all_from (λ q. q.x + q.s < 2 ^ 64) squares (λ q h. let w = (within_of t kept.tiling q (of_tiling q h)).right in let fits = kept.width_fits in omega arith)
+    right_fits = all_from (λ q. q.x + q.s < 2 ^ 64) squares (λ q h. let w = (within_of t kept.tiling q (of_tiling q h)).right in let fits =
+        kept.width_fits in omega arith)
 
     pub bottom_fits : AllByRecursion (λ q. q.y + q.s < 2 ^ 64) squares
-    bottom_fits = all_from (λ q. q.y + q.s < 2 ^ 64) squares (λ q h. let w = (within_of t kept.tiling q (of_tiling q h)).bottom in let fits = kept.height_fits in omega arith)
+    bottom_fits = all_from (λ q. q.y + q.s < 2 ^ 64) squares (λ q h. let w = (within_of t kept.tiling q (of_tiling q h)).bottom in let fits =
+        kept.height_fits in omega arith)
 
     pub some_squares : 0 < length squares
-    some_squares = omega (arith, ap length under, (valley_is_filled t turned.laid (segment_of o.valley) kept.tiling turned.fills (found t turned.laid o kept.tiling turned.fills turned.outline low) low).0)
+    some_squares = omega (
+      arith,
+      ap length under,
+      (valley_is_filled t turned.laid (segment_of o.valley) kept.tiling turned.fills
+          (found t turned.laid o kept.tiling turned.fills turned.outline low) low).0,
+    )
 
-    module _ (m : Move) (count : m.count ≡ length squares) (signs : m.signs ≡ signs_between (last_level o.left.items ++ bottoms_of squares ++ last_level o.right.items)) where
+    module _ (m : Move) (count : m.count ≡ length squares) (signs : m.signs
+        ≡ signs_between (last_level o.left.items ++ bottoms_of squares ++ last_level o.right.items)) where
       pub same_move : m ≡ move_under t turned.laid (segment_of o.valley)
       same_move = λ i. record { count = counts i; signs = all_signs i }
         where
@@ -71,19 +83,41 @@ module _ (t : Tiling) (kept : IsKept t) where
 
       -- the order of the word so far and of the move is at most that of the tiling
       pub order_fits : order_of w + m.count ≤ length t.squares
-      order_fits = omega (arith, (tiling_word_is_complete t (w ++ m ∷ more.0) kept.tiling (goes_on more.0 more.1)).1, sum_by-append (λ (m : Move). m.count) w (m ∷ more.0), sum_by-cons (λ (m : Move). m.count) m more.0)
+      order_fits = omega (
+        arith,
+        (tiling_word_is_complete t (w ++ m ∷ more.0) kept.tiling (goes_on more.0 more.1)).1,
+        sum_by-append (λ (m : Move). m.count) w (m ∷ more.0),
+        sum_by-cons (λ (m : Move). m.count) m more.0,
+      )
         where
           more : (rest : Word) × MovesFollow t (turned.laid ++ squares_under t (segment_of o.valley)) rest
-          more = some_moves_follow t kept.tiling (turned.laid ++ squares_under t (segment_of o.valley)) (valley_is_filled t turned.laid (segment_of o.valley) kept.tiling turned.fills (found t turned.laid o kept.tiling turned.fills turned.outline low) low).1
+          more = some_moves_follow t kept.tiling (turned.laid ++ squares_under t (segment_of o.valley))
+              (valley_is_filled t turned.laid (segment_of o.valley) kept.tiling turned.fills
+              (found t turned.laid o kept.tiling turned.fills turned.outline low) low).1
 
       pub can_stand : CanStand m
-      can_stand = record { some = omega (arith, count, some_squares); least = omega (arith, long, count); most = omega (arith, long, few_levels o.left.items, few_levels o.right.items, count) }
+      can_stand = record {
+        some = omega (arith, count, some_squares);
+        least = omega (arith, long, count);
+        most = omega (arith, long, few_levels o.left.items, few_levels o.right.items, count);
+      }
         where
-          levels : length (last_level o.left.items ++ bottoms_of squares ++ last_level o.right.items) ≡ length (last_level o.left.items) + length squares + length (last_level o.right.items)
-          levels = omega (arith, length-append (last_level o.left.items ++ bottoms_of squares) (last_level o.right.items), length-append (last_level o.left.items) (bottoms_of squares), length-map squares (λ (q : Square). q.y + q.s))
+          levels : length (last_level o.left.items ++ bottoms_of squares ++ last_level o.right.items)
+              ≡ length (last_level o.left.items) + length squares + length (last_level o.right.items)
+          levels = omega (
+            arith,
+            length-append (last_level o.left.items ++ bottoms_of squares) (last_level o.right.items),
+            length-append (last_level o.left.items) (bottoms_of squares),
+            length-map squares (λ (q : Square). q.y + q.s),
+          )
 
           long : length m.signs + 1 ≡ length (last_level o.left.items) + length squares + length (last_level o.right.items)
-          long = omega (arith, ap length signs, some_signs (last_level o.left.items ++ bottoms_of squares ++ last_level o.right.items) (omega (arith, levels, some_squares)), levels)
+          long = omega (
+            arith,
+            ap length signs,
+            some_signs (last_level o.left.items ++ bottoms_of squares ++ last_level o.right.items) (omega (arith, levels, some_squares)),
+            levels,
+          )
 
       pub order_more : order_of (w ++ m ∷ []) ≡ order_of w + m.count
       order_more = omega (arith, sum_by-append (λ (m : Move). m.count) w (m ∷ []), sum_by-cons (λ (m : Move). m.count) m [])
@@ -92,13 +126,16 @@ module _ (t : Tiling) (kept : IsKept t) where
       pub smaller : (v : Word) → v ≡ w ++ m ∷ [] → length t.squares - order_of v < length t.squares - order_of w
       smaller v is = omega (arith, ap order_of is, order_more, order_fits, count, some_squares)
 
-      pub next_turn : (p : Outline) → ((width : ℕ) (laid : List Square) → Meet width laid o.left.items (o.right.items ++ runs_under squares) → IsOutline width laid p)
+      pub next_turn : (p : Outline) → ((width : ℕ) (laid : List Square) → Meet width laid o.left.items (o.right.items ++ runs_under squares)
+          → IsOutline width laid p)
           → length p.left.items + length p.right.items < length o.left.items + (length o.right.items + length squares) → Turned t (w ++ m ∷ []) p
       next_turn p known fewer = record {
         laid = turned.laid ++ squares_under t (segment_of o.valley);
-        fills = (valley_is_filled t turned.laid (segment_of o.valley) kept.tiling turned.fills (found t turned.laid o kept.tiling turned.fills turned.outline low) low).1;
+        fills = (valley_is_filled t turned.laid (segment_of o.valley) kept.tiling turned.fills
+            (found t turned.laid o kept.tiling turned.fills turned.outline low) low).1;
         outline = known t.width (turned.laid ++ squares_under t (segment_of o.valley))
-            (subst (λ (l : List Square). Meet t.width (turned.laid ++ squares_under t (segment_of o.valley)) o.left.items (o.right.items ++ runs_under l)) (sym under) (meets t turned.laid o kept.tiling turned.fills turned.outline low));
+            (subst (λ (l : List Square). Meet t.width (turned.laid ++ squares_under t (segment_of o.valley)) o.left.items
+            (o.right.items ++ runs_under l)) (sym under) (meets t turned.laid o kept.tiling turned.fills turned.outline low));
         follows = λ rest f. subst (MovesFollow t []) (sym (append_assoc w (m ∷ []) rest)) (goes_on rest f);
         room = let before = turned.room in omega (arith, order_more, count);
       }

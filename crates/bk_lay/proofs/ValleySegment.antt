@@ -37,7 +37,8 @@ valley_segment t laid nodes o v tiling d found = subst (λ (n : ℕ). IsSegment 
     number = ap valley_place d.signs ∙ s.number
 
 module _ (t : Tiling) (tiling : IsTiling t) where
-  pub all_laid : (laid : List Square) → FillsFromTop t laid → ((c : ℕ) → c < t.width → depth laid c ≡ t.height) → (q : Square) → IsOneOf q t.squares → IsOneOf q laid
+  pub all_laid : (laid : List Square) → FillsFromTop t laid → ((c : ℕ) → c < t.width → depth laid c ≡ t.height) → (q : Square) → IsOneOf q t.squares
+      → IsOneOf q laid
   all_laid laid fills full q h = subst (λ (p : Square). IsOneOf p laid) (sym same) there.1
     where
       wide : q.x < t.width

@@ -16,7 +16,8 @@ level_of : (width : ℕ) (laid : List Square) (v : Segment) → IsLevel width la
 level_of width laid v flat = let some = flat.some in flat.level v.x (omega arith) (omega arith)
 
 -- a second valley further left cannot be, where the columns never get deeper before the first
-no_valley_before : (width : ℕ) (laid : List Square) (v : Segment) → IsValley width laid v → NeverDeeperBefore laid v → (u : Segment) → IsValley width laid u → (k : ℕ) → u.x + u.width ≡ suc k → u.x < v.x → ⊥
+no_valley_before : (width : ℕ) (laid : List Square) (v : Segment) → IsValley width laid v → NeverDeeperBefore laid v → (u : Segment)
+    → IsValley width laid u → (k : ℕ) → u.x + u.width ≡ suc k → u.x < v.x → ⊥
 no_valley_before width laid v valley falls u other k last before = either (dec (suc k) v.x)
   where
     vf : IsLevel width laid v
@@ -64,7 +65,8 @@ leftmost_by_falling width laid v valley falls = record { valley = valley; leftmo
 pub segment_path : (v u : Segment) → v.x ≡ u.x → v.width ≡ u.width → v.level ≡ u.level → v ≡ u
 segment_path v u a b c = λ i. record { x = a i; width = b i; level = c i }
 
-not_wider : (width : ℕ) (laid : List Square) (v u : Segment) → IsValley width laid v → IsValley width laid u → v.x ≡ u.x → v.level ≡ u.level → v.width < u.width → ⊥
+not_wider : (width : ℕ) (laid : List Square) (v u : Segment) → IsValley width laid v → IsValley width laid u → v.x ≡ u.x → v.level ≡ u.level
+    → v.width < u.width → ⊥
 not_wider width laid v u one two x level h = let within = (two.flat).within in let some = (one.flat).some in
     let rises : v.level < depth laid (v.x + v.width) = one.right (omega arith) in
     let flat : depth laid (v.x + v.width) ≡ u.level = (two.flat).level (v.x + v.width) (omega arith) (omega arith) in

@@ -35,12 +35,34 @@ abbrev valleys_33x32 : List Segment
 valleys_33x32 = segment 0 33 0 ∷ segment 18 15 15 ∷ segment 0 18 18 ∷ segment 14 11 22 ∷ segment 24 9 23 ∷ []
 
 pub the_word_33x32 : IsWordOf rectangle_33x32 word_33x32
-the_word_33x32 = word_by_valleys rectangle_33x32 [] valleys_33x32
-    (by_tests _ _ _ refl refl refl refl refl refl, refl, (by_tests _ _ _ refl refl refl refl refl refl, refl, (by_tests _ _ _ refl refl refl refl refl refl, refl, (by_tests _ _ _ refl refl refl refl refl refl, refl, (by_tests _ _ _ refl refl refl refl refl refl, refl, refl)))))
+the_word_33x32 = word_by_valleys rectangle_33x32 [] valleys_33x32 (
+  by_tests _ _ _ refl refl refl refl refl refl,
+  refl,
+  (
+    by_tests _ _ _ refl refl refl refl refl refl,
+    refl,
+    (
+      by_tests _ _ _ refl refl refl refl refl refl,
+      refl,
+      (by_tests _ _ _ refl refl refl refl refl refl, refl, (by_tests _ _ _ refl refl refl refl refl refl, refl, refl)),
+    ),
+  ),
+)
 
 abbrev valleys_69x61 : List Segment
 valleys_69x61 = segment 0 69 0 ∷ segment 36 33 33 ∷ segment 0 36 36 ∷ segment 34 7 38 ∷ segment 25 16 45 ∷ []
 
 pub the_word_69x61 : IsWordOf rectangle_69x61 word_69x61
-the_word_69x61 = word_by_valleys rectangle_69x61 [] valleys_69x61
-    (by_tests _ _ _ refl refl refl refl refl refl, refl, (by_tests _ _ _ refl refl refl refl refl refl, refl, (by_tests _ _ _ refl refl refl refl refl refl, refl, (by_tests _ _ _ refl refl refl refl refl refl, refl, (by_tests _ _ _ refl refl refl refl refl refl, refl, refl)))))
+the_word_69x61 = word_by_valleys rectangle_69x61 [] valleys_69x61 (
+  by_tests _ _ _ refl refl refl refl refl refl,
+  refl,
+  (
+    by_tests _ _ _ refl refl refl refl refl refl,
+    refl,
+    (
+      by_tests _ _ _ refl refl refl refl refl refl,
+      refl,
+      (by_tests _ _ _ refl refl refl refl refl refl, refl, (by_tests _ _ _ refl refl refl refl refl refl, refl, refl)),
+    ),
+  ),
+)

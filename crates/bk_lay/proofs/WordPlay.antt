@@ -1,9 +1,11 @@
 -- The word of a tiling is legal and complete, and hangs as many squares as the tiling has.
 use Rattle.std.specs.List.{AllByRecursion}
-use Rattle.std.proofs.Common.{Bool, List, [], ap, arith, cond, count_by, false, inl, inr, length, map, refl, subst, suc, sym, true, ℕ, ◌++◌, ◌+◌, ◌<◌, ◌∙◌, ◌∷◌, ◌≡◌, ◌≤◌, ◌⊎◌}
+use Rattle.std.proofs.Common.{Bool, List, [], ap, arith, cond, count_by, false, inl, inr, length, map, refl, subst, sym, true, ℕ, ◌++◌, ◌+◌, ◌<◌}
+use Rattle.std.proofs.Common.{◌∙◌, ◌∷◌, ◌≡◌, ◌≤◌}
 use Rattle.std.proofs.lemmas.Bool.Decides.{nat_tests}
 use Rattle.std.proofs.lemmas.List.{length-append}
 use Rattle.bk_laws.proofs.ZippedLists.{zip_length}
+use Rattle.bk_laws.proofs.NoneRepeated.{IsIn, NoneRepeated, no_longer}
 use Rattle.bk_tiling.proofs.Cells.{column_from, count-cons, counted_one, covers_from, depth_reaches, in_all, no_two, one_counted}
 use Rattle.bk_tiling.proofs.TilingLaws.{wide_enough, within_of}
 use Rattle.bk_tiling.specs.Column.{AreRuns, IsLevel, depth}
@@ -23,52 +25,45 @@ use Rattle.bk_lay.specs.Depiction.{Depicts, FillsFromTop, IsSegment}
 use Rattle.bk_lay.specs.TilingWord.{IsWordOf, MovesFollow, sign_between, signs_between, squares_under}
 use Rattle.bk_lay.specs.WordLaws.{TilingWordIsComplete}
 
+-- no square stands in the list behind itself
 abbrev pub NoneTwice : List Square → Type 0
 NoneTwice [] = Unit {0}
 NoneTwice (q ∷ squares) = (IsOneOf q squares → ⊥) × NoneTwice squares
 
-record Without (q : Square) (squares : List Square) : Type 0 where
-  rest : List Square
-  long : length squares ≡ suc (length rest)
-  others : (r : Square) → IsOneOf r squares → (r ≡ q) ⊎ IsOneOf r rest
+to_in : (q : Square) (squares : List Square) → IsOneOf q squares → IsIn q squares
+to_in q [] h = h
+to_in q (r ∷ squares) (inl same) = inl same
+to_in q (r ∷ squares) (inr h) = inr (to_in q squares h)
 
-without : (q : Square) (squares : List Square) → IsOneOf q squares → Without q squares
-without q [] h = absurd h
-without q (r ∷ squares) (inl same) = record { rest = squares; long = refl; others = others }
-  where
-    others : (p : Square) → IsOneOf p (r ∷ squares) → (p ≡ q) ⊎ IsOneOf p squares
-    others p (inl e) = inl (e ∙ sym same)
-    others p (inr h) = inr h
-without q (r ∷ squares) (inr h) = onto (without q squares h)
-  where
-    onto : Without q squares → Without q (r ∷ squares)
-    onto w = record { rest = r ∷ w.rest; long = ap suc w.long; others = others }
-      where
-        next : (p : Square) → (p ≡ q) ⊎ IsOneOf p w.rest → (p ≡ q) ⊎ IsOneOf p (r ∷ w.rest)
-        next p (inl e) = inl e
-        next p (inr k) = inr (inr k)
+from_in : (q : Square) (squares : List Square) → IsIn q squares → IsOneOf q squares
+from_in q [] h = h
+from_in q (r ∷ squares) (inl same) = inl same
+from_in q (r ∷ squares) (inr h) = inr (from_in q squares h)
 
-        others : (p : Square) → IsOneOf p (r ∷ squares) → (p ≡ q) ⊎ IsOneOf p (r ∷ w.rest)
-        others p (inl e) = inr (inl e)
-        others p (inr k) = next p (w.others p k)
+none_repeated : (squares : List Square) → NoneTwice squares → NoneRepeated squares
+none_repeated [] none = tt
+none_repeated (q ∷ squares) none = ((λ h. none.0 (from_in q squares h)), none_repeated squares none.1)
 
 pub fewer : (squares more : List Square) → NoneTwice squares → ((q : Square) → IsOneOf q squares → IsOneOf q more) → length squares ≤ length more
-fewer [] more none f = omega arith
-fewer (q ∷ squares) more none f = let w = without q more (f q (inl refl)) in omega (arith, w.long, fewer squares w.rest none.1 (λ r h. cases r h (w.others r (f r (inr h)))))
-  where
-    cases : (r : Square) → IsOneOf r squares → (r ≡ q) ⊎ IsOneOf r (without q more (f q (inl refl))).rest → IsOneOf r (without q more (f q (inl refl))).rest
-    cases r h (inl e) = absurd (none.0 (subst (λ (p : Square). IsOneOf p squares) e h))
-    cases r h (inr k) = k
+fewer squares more none f = no_longer squares more (none_repeated squares none) (λ q h. to_in q more (f q (from_in q squares h)))
 
-pub none_twice : (squares : List Square) → ((q : Square) → IsOneOf q squares → count_by (covers q.x q.y) squares ≤ 1) → ((q : Square) → IsOneOf q squares → covers q.x q.y q ≡ true) → NoneTwice squares
+pub none_twice : (squares : List Square) → ((q : Square) → IsOneOf q squares → count_by (covers q.x q.y) squares ≤ 1)
+    → ((q : Square) → IsOneOf q squares → covers q.x q.y q ≡ true) → NoneTwice squares
 none_twice [] f g = tt
-none_twice (q ∷ squares) f g = (apart, none_twice squares (λ r h. omega (arith, count-cons (covers r.x r.y) r squares, less r, f r (inr h))) (λ r h. g r (inr h)))
+none_twice (q ∷ squares) f g =
+    (apart, none_twice squares (λ r h. omega (arith, count-cons (covers r.x r.y) r squares, less r, f r (inr h))) (λ r h. g r (inr h)))
   where
     less : (r : Square) → count_by (covers r.x r.y) squares ≤ count_by (covers r.x r.y) (q ∷ squares)
     less r = omega (arith, count-cons (covers r.x r.y) q squares)
 
     apart : IsOneOf q squares → ⊥
-    apart h = omega (arith, f q (inl refl), count-cons (covers q.x q.y) q squares, ap (λ (b : Bool). cond {A = ℕ} b 1 0) (g q (inl refl)), one_counted (covers q.x q.y) squares q h (g q (inl refl)))
+    apart h = omega (
+      arith,
+      f q (inl refl),
+      count-cons (covers q.x q.y) q squares,
+      ap (λ (b : Bool). cond {A = ℕ} b 1 0) (g q (inl refl)),
+      one_counted (covers q.x q.y) squares q h (g q (inl refl)),
+    )
 
 record Ends (t : Tiling) (before : ℕ) (o : Outline) (w : Word) : Type 0 where
   legal : AreLegalFrom o w
@@ -79,12 +74,24 @@ record Ends (t : Tiling) (before : ℕ) (o : Outline) (w : Word) : Type 0 where
   depicts : Depicts t laid nodes (after_moves o w)
   long : length laid ≡ before + order_of w
 
-ends : (t : Tiling) → IsTiling t → (laid : List Square) (nodes : List Segment) (o : Outline) (w : Word) → FillsFromTop t laid → Depicts t laid nodes o → MovesFollow t laid w → Ends t (length laid) o w
-ends t tiling laid nodes o [] fills depicts p = record { legal = tt; laid = laid; fills = fills; full = p; nodes = nodes; depicts = depicts; long = omega arith }
-ends t tiling laid nodes o (m ∷ w) fills depicts p = onto (ends t tiling (laid ++ squares_under t p.0) (nodes ++ p.0 ∷ []) (after_move o m) w (valley_is_filled t laid p.0 tiling fills p.1 p.2).1 there.1 p.4)
+ends : (t : Tiling) → IsTiling t → (laid : List Square) (nodes : List Segment) (o : Outline) (w : Word) → FillsFromTop t laid → Depicts t laid nodes o
+    → MovesFollow t laid w → Ends t (length laid) o w
+ends t tiling laid nodes o [] fills depicts p = record {
+  legal = tt;
+  laid = laid;
+  fills = fills;
+  full = p;
+  nodes = nodes;
+  depicts = depicts;
+  long = omega arith;
+}
+ends t tiling laid nodes o (m ∷ w) fills depicts p =
+    onto (ends t tiling (laid ++ squares_under t p.0) (nodes ++ p.0 ∷ []) (after_move o m) w (valley_is_filled t laid p.0 tiling fills p.1 p.2).1
+    there.1 p.4)
   where
     there : IsLegalMove o m × Depicts t (laid ++ squares_under t p.0) (nodes ++ p.0 ∷ []) (after_move o m)
-    there = subst (λ (n : Move). IsLegalMove o n × Depicts t (laid ++ squares_under t p.0) (nodes ++ p.0 ∷ []) (after_move o n)) (sym p.3) (move_depicts t laid nodes o p.0 tiling fills depicts p.1 p.2)
+    there = subst (λ (n : Move). IsLegalMove o n × Depicts t (laid ++ squares_under t p.0) (nodes ++ p.0 ∷ []) (after_move o n)) (sym p.3)
+        (move_depicts t laid nodes o p.0 tiling fills depicts p.1 p.2)
 
     count : m.count ≡ length (squares_under t p.0)
     count = ap (λ (n : Move). n.count) p.3
@@ -103,7 +110,8 @@ ends t tiling laid nodes o (m ∷ w) fills depicts p = onto (ends t tiling (laid
 even_of : (m n : ℕ) → m ≡ n → sign_between m n ≡ Even
 even_of m n e = grind (arith, nat_tests)
 
-pub one_run : (t : Tiling) (laid : List Square) → ((c : ℕ) → c < t.width → depth laid c ≡ t.height) → (x : ℕ) → x < t.width → (runs : List Segment) → AreRuns t.width laid x runs
+pub one_run : (t : Tiling) (laid : List Square) → ((c : ℕ) → c < t.width → depth laid c ≡ t.height) → (x : ℕ) → x < t.width → (runs : List Segment)
+    → AreRuns t.width laid x runs
     → AllByRecursion (λ sign. parts sign ≡ true) (signs_between (map (λ v. v.level) runs)) → length runs ≡ 1
 one_run t laid full x h [] cut parted = absurd (omega (arith, cut))
 one_run t laid full x h (v ∷ []) cut parted = refl
@@ -137,7 +145,11 @@ module _ (t : Tiling) (w : Word) (tiling : IsTiling t) (p : IsWordOf t w) where
 
   laid_count : (q : Square) → IsOneOf q e.laid → count_by (covers q.x q.y) e.laid ≡ 1
   laid_count q h = let w = within_of t tiling q (in_tiling q h) in let a = w.right in
-      (e.fills).filled q.x q.y (omega (arith, side q (in_tiling q h))) (omega (arith, side q (in_tiling q h), depth_reaches e.laid q.x q h (column_from q.x q (omega arith) (omega (arith, side q (in_tiling q h))))))
+      (e.fills).filled q.x q.y (omega (arith, side q (in_tiling q h))) (omega (
+        arith,
+        side q (in_tiling q h),
+        depth_reaches e.laid q.x q h (column_from q.x q (omega arith) (omega (arith, side q (in_tiling q h)))),
+      ))
 
   -- a square of the tiling is the one laid square over its first cell
   all_laid : (q : Square) → IsOneOf q t.squares → IsOneOf q e.laid
@@ -168,7 +180,8 @@ module _ (t : Tiling) (w : Word) (tiling : IsTiling t) (p : IsWordOf t w) where
 
   one_left : length (after_moves start w).segments ≡ 1
   one_left = sym (zip_length (IsSegment e.laid) (e.depicts).runs (after_moves start w).segments (e.depicts).segments)
-      ∙ one_run t e.laid e.full 0 (wide_enough t tiling) (e.depicts).runs (e.depicts).cut (subst (λ (signs : List Sign). AllByRecursion (λ sign. parts sign ≡ true) signs) (e.depicts).signs (e.depicts).parted)
+      ∙ one_run t e.laid e.full 0 (wide_enough t tiling) (e.depicts).runs (e.depicts).cut
+      (subst (λ (signs : List Sign). AllByRecursion (λ sign. parts sign ≡ true) signs) (e.depicts).signs (e.depicts).parted)
 
   order : order_of w ≡ length t.squares
   order = omega (arith, e.long, as_many)

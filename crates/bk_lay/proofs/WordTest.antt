@@ -1,5 +1,6 @@
 -- A test of a word against a tiling: the valleys are given, and each is tested.
-use Rattle.std.proofs.Common.{Bool, List, [], ap, arith, nat_eq, nat_le, nat_lt, not, refl, subst, suc, sym, true, zero, ℕ, ◌++◌, ◌+◌, ◌-◌, ◌<◌, ◌||◌, ◌∙◌, ◌∷◌, ◌≡◌}
+use Rattle.std.proofs.Common.{Bool, List, [], ap, arith, nat_eq, nat_le, nat_lt, not, refl, subst, suc, sym, true, zero, ℕ, ◌++◌, ◌+◌, ◌-◌, ◌<◌}
+use Rattle.std.proofs.Common.{◌||◌, ◌∙◌, ◌∷◌, ◌≡◌}
 use Rattle.std.proofs.lemmas.Bool.Decides.{nat_tests}
 use Rattle.std.proofs.lemmas.Bool.{eqb-true, leb-true, ltb-true}
 use Rattle.bk_laws.proofs.Tests.{after_of, all_below, each_below}
@@ -40,7 +41,9 @@ passes_as_valley width laid v p = leftmost_by_falling width laid v valley falls
       some = ltb-true 0 v.width p.some;
       within = leb-true (v.x + v.width) width p.within;
       level = λ c low high. let e : v.x + (c - v.x) ≡ c = omega arith in
-          sym (ap (depth laid) e) ∙ eqb-true (depth laid (v.x + (c - v.x))) v.level (each_below (λ k. nat_eq (depth laid (v.x + k)) v.level) v.width p.level (c - v.x) (omega arith));
+          sym (ap (depth laid) e)
+          ∙ eqb-true (depth laid (v.x + (c - v.x))) v.level (each_below (λ k. nat_eq (depth laid (v.x + k)) v.level) v.width p.level (c - v.x)
+          (omega arith));
     }
 
     ends : v.x + v.width < width → nat_lt (v.x + v.width) width ≡ true
@@ -50,7 +53,8 @@ passes_as_valley width laid v p = leftmost_by_falling width laid v valley falls
     valley = record {
       flat = flat;
       left = before_of laid v.level v.x p.before;
-      right = λ h. ltb-true v.level (depth laid (v.x + v.width)) (after_of (nat_lt (v.x + v.width) width) (nat_lt v.level (depth laid (v.x + v.width))) p.after (ends h));
+      right = λ h. ltb-true v.level (depth laid (v.x + v.width))
+          (after_of (nat_lt (v.x + v.width) width) (nat_lt v.level (depth laid (v.x + v.width))) p.after (ends h));
     }
 
     falls : NeverDeeperBefore laid v
@@ -68,8 +72,11 @@ ArePassing t laid (v ∷ valleys) = PassesAsValley t.width laid v × (nat_lt v.l
 
 pub word_by_valleys : (t : Tiling) (laid : List Square) (valleys : List Segment) → ArePassing t laid valleys → MovesFollow t laid (moves_under t laid valleys)
 word_by_valleys t laid [] p = λ c h. eqb-true (depth laid c) t.height (each_below (λ c. nat_eq (depth laid c) t.height) t.width p c h)
-word_by_valleys t laid (v ∷ valleys) p = (v, passes_as_valley t.width laid v p.0, ltb-true v.level t.height p.1, refl, word_by_valleys t (laid ++ squares_under t v) valleys p.2)
+word_by_valleys t laid (v ∷ valleys) p =
+    (v, passes_as_valley t.width laid v p.0, ltb-true v.level t.height p.1, refl, word_by_valleys t (laid ++ squares_under t v) valleys p.2)
 
-abbrev pub by_tests : (width : ℕ) (laid : List Square) (v : Segment) → nat_lt 0 v.width ≡ true → nat_le (v.x + v.width) width ≡ true → all_below (λ k. nat_eq (depth laid (v.x + k)) v.level) v.width ≡ true
-    → all_below (λ c. nat_le (depth laid (suc c)) (depth laid c)) v.x ≡ true → deeper_before laid v.level v.x ≡ true → not (nat_lt (v.x + v.width) width) || nat_lt v.level (depth laid (v.x + v.width)) ≡ true → PassesAsValley width laid v
+abbrev pub by_tests : (width : ℕ) (laid : List Square) (v : Segment) → nat_lt 0 v.width ≡ true → nat_le (v.x + v.width) width ≡ true
+    → all_below (λ k. nat_eq (depth laid (v.x + k)) v.level) v.width ≡ true
+    → all_below (λ c. nat_le (depth laid (suc c)) (depth laid c)) v.x ≡ true → deeper_before laid v.level v.x ≡ true
+    → not (nat_lt (v.x + v.width) width) || nat_lt v.level (depth laid (v.x + v.width)) ≡ true → PassesAsValley width laid v
 by_tests width laid v a b c d e f = record { some = a; within = b; level = c; falls = d; before = e; after = f }

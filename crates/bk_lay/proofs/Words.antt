@@ -22,7 +22,8 @@ module _ (width : ℕ) (laid : List Square) where
     wall : (c : ℕ) → suc c ≡ x → depth laid x < depth laid c
     falls : (c : ℕ) → suc c ≤ x → depth laid (suc c) ≤ depth laid c
 
-  found_at : (x n : ℕ) → Scanned x n → x + n ≤ width → (x + n < width → depth laid x < depth laid (x + n)) → (v : Segment) × IsLeftmostValley width laid v × NeverDeeperBefore laid v
+  found_at : (x n : ℕ) → Scanned x n → x + n ≤ width → (x + n < width → depth laid x < depth laid (x + n))
+      → (v : Segment) × IsLeftmostValley width laid v × NeverDeeperBefore laid v
   found_at x n s room end = (
     record { x = x; width = n; level = depth laid x },
     leftmost_by_falling width laid (record { x = x; width = n; level = depth laid x })
@@ -65,13 +66,21 @@ module _ (width : ℕ) (laid : List Square) where
       three a b = grind arith
 
       cases : (depth laid (x + n) ≡ depth laid x) ⊎ (depth laid x < depth laid (x + n)) ⊎ (depth laid (x + n) < depth laid x)
-          → (Scanned x (suc n) → x + suc n + fuel ≡ width → (v : Segment) × IsLeftmostValley width laid v × NeverDeeperBefore laid v) → (Scanned (x + n) 1 → x + n + 1 + fuel ≡ width → (v : Segment) × IsLeftmostValley width laid v × NeverDeeperBefore laid v) → (v : Segment) × IsLeftmostValley width laid v × NeverDeeperBefore laid v
+          → (Scanned x (suc n) → x + suc n + fuel ≡ width → (v : Segment) × IsLeftmostValley width laid v × NeverDeeperBefore laid v)
+          → (Scanned (x + n) 1 → x + n + 1 + fuel ≡ width → (v : Segment) × IsLeftmostValley width laid v × NeverDeeperBefore laid v)
+          → (v : Segment) × IsLeftmostValley width laid v × NeverDeeperBefore laid v
       cases (inl same) goes turns = goes (longer x n s same) (omega arith)
       cases (inr (inl more)) goes turns = found_at x n s (omega arith) (λ h. more)
       cases (inr (inr less)) goes turns = turns (next_run x n s less) (omega arith)
 
   pub there_is_a_valley : 0 < width → (v : Segment) × IsLeftmostValley width laid v × NeverDeeperBefore laid v
-  there_is_a_valley h = scan (width - 1) 0 1 (record { some = omega arith; level = λ c a b. ap (depth laid) (zeroth c b); wall = λ c e. absurd (omega arith); falls = λ c e. absurd (omega arith) }) (omega arith)
+  there_is_a_valley h =
+      scan (width - 1) 0 1 (record {
+        some = omega arith;
+        level = λ c a b. ap (depth laid) (zeroth c b);
+        wall = λ c e. absurd (omega arith);
+        falls = λ c e. absurd (omega arith);
+      }) (omega arith)
     where
       zeroth : (c : ℕ) → c < 0 + 1 → c ≡ 0
       zeroth c b = omega arith
@@ -103,7 +112,8 @@ total_grows : (laid more : List Square) → ((c : ℕ) → depth laid c ≤ dept
 total_grows laid more grows zero = omega arith
 total_grows laid more grows (suc c) = omega (arith, grows c, total_grows laid more grows c)
 
-total_rises : (laid more : List Square) → ((c : ℕ) → depth laid c ≤ depth more c) → (d : ℕ) → depth laid d < depth more d → (c : ℕ) → d < c → total laid c < total more c
+total_rises : (laid more : List Square) → ((c : ℕ) → depth laid c ≤ depth more c) → (d : ℕ) → depth laid d < depth more d → (c : ℕ) → d < c
+    → total laid c < total more c
 total_rises laid more grows d rise zero h = absurd (omega arith)
 total_rises laid more grows d rise (suc c) h = cases (two c) (total_rises laid more grows d rise c)
   where
@@ -112,7 +122,8 @@ total_rises laid more grows d rise (suc c) h = cases (two c) (total_rises laid m
 
     cases : (d < c) ⊎ (c ≤ d) → (d < c → total laid c < total more c) → depth laid c + total laid c < depth more c + total more c
     cases (inl k) rest = omega (arith, grows c, rest k)
-    cases (inr k) rest = let e : c ≡ d = omega arith in let a : depth laid c ≡ depth laid d = ap (depth laid) e in let b : depth more c ≡ depth more d = ap (depth more) e in omega (arith, total_grows laid more grows c)
+    cases (inr k) rest = let e : c ≡ d = omega arith in let a : depth laid c ≡ depth laid d = ap (depth laid) e in
+        let b : depth more c ≡ depth more d = ap (depth more) e in omega (arith, total_grows laid more grows c)
 
 module _ (t : Tiling) (tiling : IsTiling t) where
   most : (laid : List Square) → FillsFromTop t laid → (c : ℕ) → depth laid c ≤ t.height
@@ -123,10 +134,12 @@ module _ (t : Tiling) (tiling : IsTiling t) where
 
       cases : (depth laid c ≤ t.height) ⊎ (t.height < depth laid c) → depth laid c ≤ t.height
       cases (inl h) = h
-      cases (inr h) = let p = depth_comes_from laid c t.height h in let w = (within_of t tiling p.0 (in_all (λ q. IsOneOf q t.squares) laid fills.squares p.0 p.1)).bottom in absurd (omega (arith, p.3))
+      cases (inr h) = let p = depth_comes_from laid c t.height h in
+          let w = (within_of t tiling p.0 (in_all (λ q. IsOneOf q t.squares) laid fills.squares p.0 p.1)).bottom in absurd (omega (arith, p.3))
 
   -- the leftmost valley lies at the height only where all columns do
-  pub all_full : (laid : List Square) → FillsFromTop t laid → (v : Segment) → IsLeftmostValley t.width laid v → t.height ≤ v.level → (c : ℕ) → c < t.width → depth laid c ≡ t.height
+  pub all_full : (laid : List Square) → FillsFromTop t laid → (v : Segment) → IsLeftmostValley t.width laid v → t.height ≤ v.level → (c : ℕ)
+      → c < t.width → depth laid c ≡ t.height
   all_full laid fills v found high c wide = same (v.level) (flat.level c (begins v.x refl) (ends (two (v.x + v.width) t.width)))
     where
       flat : IsLevel t.width laid v
@@ -147,7 +160,8 @@ module _ (t : Tiling) (tiling : IsTiling t) where
       same level e = omega (arith, most laid fills c)
 
   -- laying the squares under the leftmost valley makes its first column deeper
-  rises : (laid : List Square) (fills : FillsFromTop t laid) (v : Segment) (found : IsLeftmostValley t.width laid v) (low : v.level < t.height) → total laid t.width < total (laid ++ squares_under t v) t.width
+  rises : (laid : List Square) (fills : FillsFromTop t laid) (v : Segment) (found : IsLeftmostValley t.width laid v) (low : v.level < t.height)
+      → total laid t.width < total (laid ++ squares_under t v) t.width
   rises laid fills v found low = total_rises laid (laid ++ squares_under t v) (depth-append laid (squares_under t v)) q.x deeper t.width inside
     where
       there : (q : Square) × IsOneOf q (squares_under t v)
@@ -171,7 +185,8 @@ module _ (t : Tiling) (tiling : IsTiling t) where
 
       deeper : depth laid (there.0).x < depth (laid ++ squares_under t v) (there.0).x
       deeper = let a = under.level in let b = under.left in let d = under.right in
-          let now = depth_reaches (laid ++ squares_under t v) (there.0).x there.0 (in_new laid (squares_under t v) there.1) (column_from (there.0).x there.0 (omega arith) (omega (arith, side))) in
+          let now = depth_reaches (laid ++ squares_under t v) (there.0).x there.0 (in_new laid (squares_under t v) there.1)
+          (column_from (there.0).x there.0 (omega arith) (omega (arith, side))) in
           omega (arith, side, ((found.valley).flat).level (there.0).x b (omega (arith, side)))
 
   moves_from : (fuel : ℕ) (laid : List Square) → FillsFromTop t laid → full t.height t.width ≤ total laid t.width + fuel → (w : Word) × MovesFollow t laid w
@@ -181,16 +196,25 @@ module _ (t : Tiling) (tiling : IsTiling t) where
       last found = cases (cases_lt (found.0).level t.height)
         where
           cases : ((found.0).level < t.height) ⊎ (t.height ≤ (found.0).level) → (w : Word) × MovesFollow t laid w
-          cases (inl low) = absurd (omega (arith, rises laid fills found.0 found.1 low, total_most t.height (laid ++ squares_under t found.0) (most (laid ++ squares_under t found.0) (valley_is_filled t laid found.0 tiling fills found.1 low).1) t.width))
+          cases (inl low) = absurd (omega (
+            arith,
+            rises laid fills found.0 found.1 low,
+            total_most t.height (laid ++ squares_under t found.0)
+                (most (laid ++ squares_under t found.0) (valley_is_filled t laid found.0 tiling fills found.1 low).1) t.width,
+          ))
           cases (inr high) = ([], all_full laid fills found.0 found.1 high)
   moves_from (suc fuel) laid fills enough = last (there_is_a_valley t.width laid (wide_enough t tiling)) (moves_from fuel)
     where
-      last : ((v : Segment) × IsLeftmostValley t.width laid v × NeverDeeperBefore laid v) → ((laid : List Square) → FillsFromTop t laid → full t.height t.width ≤ total laid t.width + fuel → (w : Word) × MovesFollow t laid w) → (w : Word) × MovesFollow t laid w
+      last : ((v : Segment) × IsLeftmostValley t.width laid v × NeverDeeperBefore laid v)
+          → ((laid : List Square) → FillsFromTop t laid → full t.height t.width ≤ total laid t.width + fuel → (w : Word) × MovesFollow t laid w)
+          → (w : Word) × MovesFollow t laid w
       last found rest = cases (cases_lt (found.0).level t.height)
         where
           cases : ((found.0).level < t.height) ⊎ (t.height ≤ (found.0).level) → (w : Word) × MovesFollow t laid w
           cases (inr high) = ([], all_full laid fills found.0 found.1 high)
-          cases (inl low) = let more = rest (laid ++ squares_under t found.0) (valley_is_filled t laid found.0 tiling fills found.1 low).1 (omega (arith, rises laid fills found.0 found.1 low)) in
+          cases (inl low) = let more =
+              rest (laid ++ squares_under t found.0) (valley_is_filled t laid found.0 tiling fills found.1 low).1
+              (omega (arith, rises laid fills found.0 found.1 low)) in
               (move_under t laid found.0 ∷ more.0, (found.0, found.1, low, refl, more.1))
 
   -- what is laid can be gone on with to the end

@@ -1,4 +1,5 @@
 -- The lower outline of laid squares about its leftmost valley, cut into level runs of columns.
+-- Example (LevelRunExamples): under the first three squares of 65x47, of sides 25, 17, 23, the valley is the run under 17.
 use Rattle.std.specs.Prelude.{Bool, List, [], map, nat_eq, nat_le, nat_lt, suc, ℕ, ◌&&◌, ◌++◌, ◌+◌, ◌<◌, ◌∷◌, ◌≡◌, ◌≤◌}
 use Rattle.bk_tiling.specs.Column.{depth}
 use Rattle.bk_tiling.specs.declared.Square.{Square}

@@ -1,4 +1,5 @@
 -- The word of a tiling: its squares laid valley by valley, always under the leftmost valley.
+-- Example (WordExamples): the words of the rectangles 65x47, 33x32 and 69x61, valley by valley.
 use Rattle.std.specs.Prelude.{Bool, List, [], cond, filter, length, map, nat_eq, nat_le, nat_lt, suc, zero, ℕ, ◌&&◌, ◌++◌, ◌+◌, ◌<◌, ◌∷◌, ◌≡◌, ◌≤◌}
 use Rattle.bk_tiling.specs.Column.{IsLevel, depth}
 use Rattle.bk_tiling.specs.declared.Segment.{Segment}

@@ -5,8 +5,6 @@ ghost use Rattle.bk_lay.specs.WordLaws.{EveryTilingHasAWord, ATilingHasOneWord, 
 
 mod outline;
 mod signs;
-#[cfg(test)]
-mod tests;
 mod turns;
 
 pub use signs::sign_between;

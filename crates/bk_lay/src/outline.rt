@@ -70,7 +70,8 @@ impl Outline {
         ensures outline { (width : ℕ) (laid : List Placed)
             → Meet width laid self.old.left.items (self.old.right.items ++ runs_under squares.now)
             → IsOutline width laid self.new }
-        ensures fewer { length self.new.left.items + length self.new.right.items < length self.old.left.items + (length self.old.right.items + length squares.now) }
+        ensures fewer { length self.new.left.items + length self.new.right.items
+            < length self.old.left.items + (length self.old.right.items + length squares.now) }
     {
         push_runs(&mut self.right, squares);
         self.valley = take_valley(&mut self.left, &mut self.right);

@@ -37,7 +37,7 @@ pub(crate) fn signs_of(
 
 // Appends the sign between two levels, where there is one at the left.
 fn push_sign(signs: &mut ArrayVec<Sign, MOST_SIGNS>, left: Option<u64>, right: u64)
-    requires { length signs.old.items < MOST_SIGNS }
+    requires { length signs.old.items < 201 }
     ensures { signs.new.items ≡ signs.old.items ++ signs_between (option_to_list left ++ right ∷ []) }
 {
     if let Some(level) = left {

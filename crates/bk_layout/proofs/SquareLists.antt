@@ -1,5 +1,6 @@
 -- Lists of numbers as lists of the squares that have these numbers, in the order in which squares were hung.
-use Rattle.std.proofs.Common.{List, Some, [], ap, arith, length, map, refl, slice_get, slice_index_or, subst, suc, sym, zero, ℕ, ◌++◌, ◌+◌, ◌-◌, ◌<◌, ◌∙◌, ◌∷◌, ◌≡◌, ◌≤◌}
+use Rattle.std.proofs.Common.{List, Some, [], ap, arith, length, map, refl, slice_get, slice_index_or, subst, suc, sym, zero, ℕ, ◌++◌, ◌+◌, ◌-◌, ◌<◌}
+use Rattle.std.proofs.Common.{◌∙◌, ◌∷◌, ◌≡◌, ◌≤◌}
 use Rattle.std.proofs.lemmas.List.{append_assoc, length-append}
 use Rattle.bk_laws.proofs.Occurrences.{times, times-concat, times_in, times_in-append}
 use Rattle.bk_word.specs.Outline.{Outline}

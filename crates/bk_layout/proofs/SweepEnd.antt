@@ -1,6 +1,7 @@
 -- The end of the sweep: one segment is left, all that ends on the bottom; then all nodes but the bottom are closed, and all
 -- squares are laid.
-use Rattle.std.proofs.Common.{List, Option, Some, [], ap, arith, cond, inl, inr, length, map, nat_eq, refl, slice_get, subst, suc, sym, zero, ℕ, ◌++◌, ◌+◌, ◌<◌, ◌∙◌, ◌∷◌, ◌≡◌, ◌≤◌, ◌⊎◌}
+use Rattle.std.proofs.Common.{List, Option, Some, [], ap, arith, cond, inl, inr, length, map, nat_eq, refl, slice_get, subst, suc, sym, zero, ℕ}
+use Rattle.std.proofs.Common.{◌++◌, ◌+◌, ◌<◌, ◌∙◌, ◌∷◌, ◌≡◌, ◌≤◌, ◌⊎◌}
 use Rattle.std.proofs.lemmas.List.{append-nil, append_assoc, length-map}
 use Rattle.bk_laws.proofs.Occurrences.{times, times_in}
 use Rattle.bk_laws.proofs.ListPlaces.{get_some}

@@ -1,6 +1,7 @@
 -- The first move of the sweep: all that hangs from the top.
 use Rattle.std.specs.List.{AllZip}
-use Rattle.std.proofs.Common.{List, Some, [], ap, arith, cond, filter, inl, inr, length, map, nat_eq, refl, replicate, slice_get, subst, suc, sym, ℕ, ◌++◌, ◌+◌, ◌-◌, ◌<◌, ◌∙◌, ◌∷◌, ◌≡◌, ◌≤◌, ◌⊎◌}
+use Rattle.std.proofs.Common.{List, Some, [], ap, arith, cond, filter, inl, inr, length, map, nat_eq, refl, replicate, slice_get, subst, suc, sym, ℕ}
+use Rattle.std.proofs.Common.{◌++◌, ◌+◌, ◌-◌, ◌<◌, ◌∙◌, ◌∷◌, ◌≡◌, ◌≤◌, ◌⊎◌}
 use Rattle.std.proofs.lemmas.List.{append-nil, length-replicate}
 use Rattle.bk_laws.proofs.Occurrences.{times, times_in}
 use Rattle.bk_laws.proofs.ListPlaces.{get_append, get_some}

@@ -1,6 +1,7 @@
 -- One step of the sweep: what hangs from the valley's node is hung by a legal, free move.
 use Rattle.std.specs.List.{AllZip}
-use Rattle.std.proofs.Common.{List, Some, [], ap, arith, cond, filter, inl, inr, length, map, nat_eq, refl, replicate, slice_get, subst, suc, sym, ℕ, ◌++◌, ◌+◌, ◌-◌, ◌<◌, ◌∙◌, ◌∷◌, ◌≡◌, ◌≤◌, ◌⊎◌}
+use Rattle.std.proofs.Common.{List, Some, [], ap, arith, cond, filter, inl, inr, length, map, nat_eq, refl, replicate, slice_get, subst, suc, sym, ℕ}
+use Rattle.std.proofs.Common.{◌++◌, ◌+◌, ◌-◌, ◌<◌, ◌∙◌, ◌∷◌, ◌≡◌, ◌≤◌, ◌⊎◌}
 use Rattle.std.proofs.lemmas.List.{append_assoc, length-append, length-map, length-replicate, map-append}
 use Rattle.bk_laws.proofs.Occurrences.{times, times-append, times_in, times_in-append}
 use Rattle.bk_laws.proofs.ZippedLists.{zip_append, zip_map}
@@ -16,7 +17,8 @@ use Rattle.bk_word_net.proofs.Shape.{shaped_move}
 use Rattle.bk_word_net.proofs.ValleyCut.{AtValley}
 use Rattle.bk_layout.proofs.Chains.{Chain, even_neighbours, last_from, sign, sign_at, signs_of, singles}
 use Rattle.bk_layout.proofs.Counting.{got_same, got_times, none_for, one_for, same_or_other, times_got}
-use Rattle.bk_layout.proofs.SquareLists.{AreLaid, all_laid, index_got, index_more, list_more, lists_at, lists_more, map_joined, map_singles, new_numbers, new_numbers_more, sq_of, times_joined, times_singles}
+use Rattle.bk_layout.proofs.SquareLists.{AreLaid, all_laid, index_got, index_more, list_more, lists_at, lists_more, map_joined, map_singles}
+use Rattle.bk_layout.proofs.SquareLists.{new_numbers, new_numbers_more, sq_of, times_joined, times_singles}
 use Rattle.bk_layout.proofs.Sweep.{State, ValleyAt, ending_times, hanging_times}
 use Rattle.bk_layout.proofs.Turning.{AtLeft, chain_joined, many_signs, walls_of}
 use Rattle.bk_layout.proofs.WholeRuns.{Hung, is_last}

@@ -1,11 +1,13 @@
 -- The leftmost valley of a chain is all that ends on one node; what hangs from that node makes a chain in its place.
-use Rattle.std.proofs.Common.{List, Option, Some, [], ap, arith, false, filter, inl, inr, length, refl, slice_get, subst, sym, true, ℕ, ◌++◌, ◌+◌, ◌<◌, ◌∙◌, ◌∷◌, ◌≡◌}
+use Rattle.std.proofs.Common.{List, Option, Some, [], ap, arith, false, filter, inl, inr, length, refl, slice_get, subst, sym, true, ℕ, ◌++◌, ◌+◌}
+use Rattle.std.proofs.Common.{◌<◌, ◌∙◌, ◌∷◌, ◌≡◌}
 use Rattle.std.proofs.lemmas.List.{append-nil}
 use Rattle.bk_word.specs.declared.Sign.{Sign}
 use Rattle.bk_word.specs.declared.Sign.TheVariants.{Above, Under}
 use Rattle.bk_word_net.proofs.ValleyCut.{Beside}
 use Rattle.bk_word.specs.Play.{joined, parts}
-use Rattle.bk_layout.proofs.Chains.{Chain, Known, Linked, Run, chain_behind, chain_known, chain_other, join_chain, known_first, known_last, last_from, sign, signs_of, singles, singles_before, singles_wall}
+use Rattle.bk_layout.proofs.Chains.{Chain, Known, Linked, Run, chain_behind, chain_known, chain_other, join_chain, known_first, known_last}
+use Rattle.bk_layout.proofs.Chains.{last_from, sign, signs_of, singles, singles_before, singles_wall}
 use Rattle.bk_layout.proofs.Counting.{got_same}
 use Rattle.bk_layout.proofs.WholeRuns.{above_right, last_is, run_below, under_left}
 use Rattle.bk_layout.specs.Layout.{Fits, IsFirst, IsLast, Layout}

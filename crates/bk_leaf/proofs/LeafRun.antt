@@ -15,7 +15,8 @@ use Rattle.bk_free_cuts.specs.LineNumbers.{sides_of}
 use Rattle.bk_signed_word.proofs.KnownLines.{as_many_sides}
 use Rattle.bk_signed_word.specs.SignedWord.{IsSignedWordOf}
 use Rattle.bk_candidate.specs.Candidate.{right_edges_from}
-use Rattle.bk_leaf.proofs.Leaves.{accepted_found, currents_many, currents_small, ends_within, height_found, in_order_found, joined, lines_known, no_zero_found, nodes_few, total_small, width_found, wires_are}
+use Rattle.bk_leaf.proofs.Leaves.{accepted_found, currents_many, currents_small, ends_within, height_found, in_order_found, joined, lines_known}
+use Rattle.bk_leaf.proofs.Leaves.{no_zero_found, nodes_few, total_small, width_found, wires_are}
 use Rattle.bk_leaf.specs.Placing.{AreKnownLines, AreLevels, AreSmall, EndWithin, HasLevels, IsPlacedAt, IsSmall}
 
 -- for each tiling in lowest terms of which the word is a signed one: this is its size, and these are its squares

@@ -1,7 +1,8 @@
 -- Levels found wire by wire, and edges found square by square; all of them small.
 use Rattle.std.specs.Int.{w128}
 use Rattle.std.specs.Prelude.{FitsSigned, nat_abs, negsuc, pos, ℤ, ◌+ℤ◌}
-use Rattle.std.proofs.Common.{List, [], ap, arith, drop, drop_of_length-le, inl, inr, length, length-set, refl, set, slice_index_or, subst, suc, sym, zero, ℕ, ◌*◌, ◌++◌, ◌+◌, ◌<◌, ◌^◌, ◌∙◌, ◌∷◌, ◌≡◌, ◌≤◌, ◌⊎◌}
+use Rattle.std.proofs.Common.{List, [], ap, arith, drop, drop_of_length-le, inl, inr, length, length-set, refl, set, slice_index_or, subst, suc, sym}
+use Rattle.std.proofs.Common.{zero, ℕ, ◌*◌, ◌++◌, ◌+◌, ◌<◌, ◌^◌, ◌∙◌, ◌∷◌, ◌≡◌, ◌≤◌, ◌⊎◌}
 use Rattle.std.proofs.Math.Seq.{drop-cons}
 use Rattle.std.proofs.lemmas.Bool.{cases_lt}
 use Rattle.std.proofs.lemmas.Int.{ints}

@@ -5,8 +5,6 @@ mod board;
 mod levels;
 mod lines;
 mod placing;
-#[cfg(test)]
-mod tests;
 
 pub use board::Board;
 pub use placing::leaf;

@@ -81,7 +81,8 @@ fn squares_at(
     requires small_levels { (v : ℕ) → v < 17 → IsSmall (16 * 2 ^ 34) (slice_index_or levels.now v (pos 0)) }
     requires small_total { IsSmall (2 ^ 34) total }
     ensures many { length result.items ≡ length sides.now }
-    ensures each { (k : ℕ) → k < length sides.now → IsPlacedAt sides.now wires.now currents.now levels.now rights.now total k (slice_index_or result.items k (record { x = 0; y = 0; s = 0 })) }
+    ensures each { (k : ℕ) → k < length sides.now → IsPlacedAt sides.now wires.now currents.now levels.now rights.now total k
+        (slice_index_or result.items k (record { x = 0; y = 0; s = 0 })) }
 {
     let mut squares = ArrayVec::new();
     for k in 0..sides.len() {

@@ -1,7 +1,8 @@
 -- The groups of squares, square by square, with their levels and their numbers.
 use Rattle.std.specs.List.{AllByRecursion, enumerate_from, flat_map, onto_first}
 use Rattle.std.specs.Prelude.{not}
-use Rattle.std.proofs.Common.{Bool, List, [], ap, arith, cond, drop, false, get_or, length, map, refl, suc, sym, take, true, zero, ℕ, ◌++◌, ◌+◌, ◌-◌, ◌<◌, ◌∙◌, ◌∷◌, ◌≡◌, ◌≤◌}
+use Rattle.std.proofs.Common.{Bool, List, [], ap, arith, cond, drop, false, get_or, length, map, refl, suc, sym, take, true, zero, ℕ, ◌++◌, ◌+◌, ◌-◌}
+use Rattle.std.proofs.Common.{◌<◌, ◌∙◌, ◌∷◌, ◌≡◌, ◌≤◌}
 use mathlib.Core.Bool.{true≢false}
 use Rattle.std.proofs.lemmas.List.{append-nil, append_assoc, drop_more, length-append, length-take-le, map-append, take-append-drop, take_more}
 use Rattle.bk_tiling.proofs.GroupCount.{groups_some}
@@ -26,7 +27,8 @@ with_next false groups q = onto_last q groups
 abbrev before : Bool → Square → List (List Square) → List (List Square)
 before b p groups = cond b (onto_first p groups) ((p ∷ []) ∷ groups)
 
-before_next : (b c : Bool) (p q : Square) (groups : List (List Square)) → 0 < length groups → with_next c (before b p groups) q ≡ before b p (with_next c groups q)
+before_next : (b c : Bool) (p q : Square) (groups : List (List Square)) → 0 < length groups
+    → with_next c (before b p groups) q ≡ before b p (with_next c groups q)
 before_next b c p q [] some = absurd (omega arith)
 before_next true true p q (g ∷ groups) some = refl
 before_next false true p q (g ∷ groups) some = refl
@@ -36,7 +38,8 @@ before_next true false p q (g ∷ h ∷ groups) some = refl
 before_next false false p q (g ∷ h ∷ groups) some = refl
 
 -- the square after some others
-groups_next : (squares : List Square) (q : Square) (rest : List Square) → square_groups (squares ++ q ∷ []) ≡ with_next (begins_group (squares ++ q ∷ rest) (length squares)) (square_groups squares) q
+groups_next : (squares : List Square) (q : Square) (rest : List Square)
+    → square_groups (squares ++ q ∷ []) ≡ with_next (begins_group (squares ++ q ∷ rest) (length squares)) (square_groups squares) q
 groups_next [] q rest = refl
 groups_next (p ∷ []) q rest = cases (stands_beside p q)
   where
@@ -45,10 +48,12 @@ groups_next (p ∷ []) q rest = cases (stands_beside p q)
     cases false = refl
 groups_next (p ∷ r ∷ squares) q rest =
     ap (before (stands_beside p r) p) (groups_next (r ∷ squares) q rest)
-    ∙ sym (before_next (stands_beside p r) (begins_group (r ∷ squares ++ q ∷ rest) (length (r ∷ squares))) p q (square_groups (r ∷ squares)) (groups_some r squares))
+    ∙ sym (before_next (stands_beside p r) (begins_group (r ∷ squares ++ q ∷ rest) (length (r ∷ squares))) p q (square_groups (r ∷ squares))
+    (groups_some r squares))
 
 -- the square at a place, after those before it
-pub groups_step : (squares : List Square) (i : ℕ) (d : Square) → i < length squares → square_groups (take (i + 1) squares) ≡ with_next (begins_group squares i) (square_groups (take i squares)) (get_or squares i d)
+pub groups_step : (squares : List Square) (i : ℕ) (d : Square) → i < length squares
+    → square_groups (take (i + 1) squares) ≡ with_next (begins_group squares i) (square_groups (take i squares)) (get_or squares i d)
 groups_step squares i d within =
     ap square_groups (take_more squares i d within)
     ∙ groups_next (take i squares) (get_or squares i d) (drop (i + 1) squares)
@@ -99,7 +104,8 @@ levels_onto q [] all = refl
 levels_onto q (g ∷ []) all = ap (λ (l : ℕ). l ∷ []) (level_onto q g all.0)
 levels_onto q (g ∷ h ∷ groups) all = ap (λ (l : List ℕ). group_level g ∷ l) (levels_onto q (h ∷ groups) all.1)
 
-pub levels_next : (b : Bool) (groups : List (List Square)) (q : Square) → NoneEmpty groups → map group_level (with_next b groups q) ≡ more_levels b (map group_level groups) q.y
+pub levels_next : (b : Bool) (groups : List (List Square)) (q : Square) → NoneEmpty groups
+    → map group_level (with_next b groups q) ≡ more_levels b (map group_level groups) q.y
 levels_next true groups q all = map-append group_level groups ((q ∷ []) ∷ [])
 levels_next false groups q all = levels_onto q groups all
 
@@ -113,7 +119,8 @@ numbers_new n (g ∷ groups) q =
     ap (λ (l : List ℕ). map (λ p. n) g ++ l) (numbers_new (n + 1) groups q ∙ ap (λ (k : ℕ). numbers_from (n + 1) groups ++ k ∷ []) (omega arith))
     ∙ sym (append_assoc (map (λ p. n) g) (numbers_from (n + 1) groups) ((n + length (g ∷ groups)) ∷ []))
 
-numbers_onto : (n : ℕ) (groups : List (List Square)) (q : Square) → 0 < length groups → numbers_from n (onto_last q groups) ≡ numbers_from n groups ++ (n + length groups - 1) ∷ []
+numbers_onto : (n : ℕ) (groups : List (List Square)) (q : Square) → 0 < length groups
+    → numbers_from n (onto_last q groups) ≡ numbers_from n groups ++ (n + length groups - 1) ∷ []
 numbers_onto n [] q some = absurd (omega arith)
 numbers_onto n (g ∷ []) q some =
     append-nil (map (λ p. n) (g ++ q ∷ []))
@@ -123,12 +130,15 @@ numbers_onto n (g ∷ []) q some =
     at : n ≡ n + 1 - 1
     at = omega arith
 numbers_onto n (g ∷ h ∷ groups) q some =
-    ap (λ (l : List ℕ). map (λ p. n) g ++ l) (numbers_onto (n + 1) (h ∷ groups) q (omega arith) ∙ ap (λ (k : ℕ). numbers_from (n + 1) (h ∷ groups) ++ k ∷ []) (omega arith))
+    ap (λ (l : List ℕ). map (λ p. n) g ++ l) (numbers_onto (n + 1) (h ∷ groups) q (omega arith)
+    ∙ ap (λ (k : ℕ). numbers_from (n + 1) (h ∷ groups) ++ k ∷ []) (omega arith))
     ∙ sym (append_assoc (map (λ p. n) g) (numbers_from (n + 1) (h ∷ groups)) ((n + length (g ∷ h ∷ groups) - 1) ∷ []))
 
-pub numbers_next : (b : Bool) (groups : List (List Square)) (q : Square) → (b ≡ false → 0 < length groups) → numbers_from 0 (with_next b groups q) ≡ numbers_from 0 groups ++ (length (with_next b groups q) - 1) ∷ []
+pub numbers_next : (b : Bool) (groups : List (List Square)) (q : Square) → (b ≡ false → 0 < length groups)
+    → numbers_from 0 (with_next b groups q) ≡ numbers_from 0 groups ++ (length (with_next b groups q) - 1) ∷ []
 numbers_next true groups q some = numbers_new 0 groups q ∙ ap (λ (k : ℕ). numbers_from 0 groups ++ k ∷ []) (omega (arith, length_next true groups q))
-numbers_next false groups q some = numbers_onto 0 groups q (some refl) ∙ ap (λ (k : ℕ). numbers_from 0 groups ++ k ∷ []) (omega (arith, length_next false groups q))
+numbers_next false groups q some = numbers_onto 0 groups q (some refl)
+    ∙ ap (λ (k : ℕ). numbers_from 0 groups ++ k ∷ []) (omega (arith, length_next false groups q))
 
 -- what is known after the squares before a place
 pub record AreGroups (squares : List Square) (levels nodes : List ℕ) (groups : ℕ) : Type 0 where
@@ -142,7 +152,8 @@ groups_before squares zero within e = absurd (true≢false e)
 groups_before [] (suc i) within e = absurd (omega arith)
 groups_before (q ∷ squares) (suc i) within e = groups_some q (take i squares)
 
-pub more_squares : (squares : List Square) (i : ℕ) (d : Square) (levels nodes : List ℕ) (groups : ℕ) (b : Bool) → i < length squares → b ≡ begins_group squares i → AreGroups (take i squares) levels nodes groups
+pub more_squares : (squares : List Square) (i : ℕ) (d : Square) (levels nodes : List ℕ) (groups : ℕ) (b : Bool) → i < length squares
+    → b ≡ begins_group squares i → AreGroups (take i squares) levels nodes groups
     → AreGroups (take (i + 1) squares) (more_levels b levels (get_or squares i d).y) (nodes ++ (more_groups b groups - 1) ∷ []) (more_groups b groups)
 more_squares squares i d levels nodes groups b within begins are = record {
   levels_are =
@@ -168,7 +179,8 @@ groups_few [] = omega arith
 groups_few (q ∷ []) = omega arith
 groups_few (q ∷ r ∷ squares) = put (stands_beside q r) (square_groups (r ∷ squares)) (groups_few (r ∷ squares)) (groups_some r squares)
   where
-    put : (b : Bool) (groups : List (List Square)) → length groups ≤ length (r ∷ squares) → 0 < length groups → length (before b q groups) ≤ length (q ∷ r ∷ squares)
+    put : (b : Bool) (groups : List (List Square)) → length groups ≤ length (r ∷ squares) → 0 < length groups
+        → length (before b q groups) ≤ length (q ∷ r ∷ squares)
     put true [] few some = omega arith
     put true (g ∷ groups) few some = omega arith
     put false groups few some = omega arith
@@ -180,7 +192,8 @@ pub record AreKnown (squares : List Square) (i : ℕ) (levels nodes : List ℕ) 
   pub levels_many : length levels ≡ groups
   pub nodes_many : length nodes ≡ i
 
-pub known_more : (squares : List Square) (i : ℕ) (d : Square) (levels nodes : List ℕ) (groups : ℕ) (b : Bool) → i < length squares → b ≡ begins_group squares i → AreKnown squares i levels nodes groups
+pub known_more : (squares : List Square) (i : ℕ) (d : Square) (levels nodes : List ℕ) (groups : ℕ) (b : Bool) → i < length squares
+    → b ≡ begins_group squares i → AreKnown squares i levels nodes groups
     → AreKnown squares (i + 1) (more_levels b levels (get_or squares i d).y) (nodes ++ (more_groups b groups - 1) ∷ []) (more_groups b groups)
 known_more squares i d levels nodes groups b within begins k = record {
   are = more_squares squares i d levels nodes groups b within begins k.are;

@@ -1,6 +1,7 @@
 -- Nodes that are joined by wires, and their labels.
 use Rattle.std.specs.Prelude.{List, slice_index, slice_index_or}
-use Rattle.std.proofs.Common.{Bool, [], ap, arith, cond, false, inl, inr, length, nat_eq, refl, subst, suc, sym, true, zero, ℕ, ◌+◌, ◌-◌, ◌<◌, ◌∙◌, ◌∷◌, ◌≡◌, ◌≢◌, ◌≤◌, ◌⊎◌}
+use Rattle.std.proofs.Common.{Bool, [], ap, arith, cond, false, inl, inr, length, nat_eq, refl, subst, suc, sym, true, zero, ℕ, ◌+◌, ◌-◌, ◌<◌, ◌∙◌}
+use Rattle.std.proofs.Common.{◌∷◌, ◌≡◌, ◌≢◌, ◌≤◌, ◌⊎◌}
 use Rattle.std.proofs.lemmas.Bool.{cases_lt}
 use Rattle.std.proofs.lemmas.Bool.Decides.{nat_tests}
 use Rattle.bk_net.specs.Labels.{AreLabels, EndsBelow, IsRelabelled, relabelled}
@@ -23,8 +24,10 @@ relabelled_new : (old new : ℕ) → relabelled old new new ≡ new
 relabelled_new old new = grind (arith, nat_tests)
 
 -- the labels of one more wire's ends made one
-module _ (nodes : ℕ) (wires : List (ℕ × ℕ)) (before after : List ℕ) (done : ℕ) (w : ℕ × ℕ) (ends : EndsBelow nodes wires) (below : done < length wires) (at : (d : ℕ × ℕ) → slice_index_or wires done d ≡ w)
-    (are : AreLabels nodes wires before done) (many : length after ≡ length before) (each : IsRelabelled (slice_index before w.0) (slice_index before w.1) before after) where
+module _ (nodes : ℕ) (wires : List (ℕ × ℕ)) (before after : List ℕ) (done : ℕ) (w : ℕ × ℕ) (ends : EndsBelow nodes wires)
+    (below : done < length wires) (at : (d : ℕ × ℕ) → slice_index_or wires done d ≡ w)
+    (are : AreLabels nodes wires before done) (many : length after ≡ length before)
+    (each : IsRelabelled (slice_index before w.0) (slice_index before w.1) before after) where
   here_ends : (w.0 < nodes) × (w.1 < nodes)
   here_ends = subst (λ (v : ℕ × ℕ). (v.0 < nodes) × (v.1 < nodes)) (at w) (ends done w below)
 
@@ -34,7 +37,8 @@ module _ (nodes : ℕ) (wires : List (ℕ × ℕ)) (before after : List ℕ) (do
   new_joined : (v : ℕ) → v < nodes → IsJoined wires v (slice_index after v)
   new_joined v h = subst (IsJoined wires v) (sym (each_node v h)) (cases (nat_eq (slice_index before v) (slice_index before w.0)) refl)
     where
-      cases : (b : Bool) → nat_eq (slice_index before v) (slice_index before w.0) ≡ b → IsJoined wires v (cond b (slice_index before w.1) (slice_index before v))
+      cases : (b : Bool) → nat_eq (slice_index before v) (slice_index before w.0) ≡ b
+          → IsJoined wires v (cond b (slice_index before w.1) (slice_index before v))
       cases false e = are.joined v h
       cases true e = joined_on wires (subst (IsJoined wires v) (equal (slice_index before v) (slice_index before w.0) e) (are.joined v h))
           (joined_on wires (joined_back wires (are.joined w.0 here_ends.0)) (along (done, below, at w) (are.joined w.1 here_ends.1)))
@@ -47,8 +51,10 @@ module _ (nodes : ℕ) (wires : List (ℕ × ℕ)) (before after : List ℕ) (do
     where
       cases : (k < done) ⊎ (done ≤ k) → slice_index after (slice_index_or wires k d).0 ≡ slice_index after (slice_index_or wires k d).1
       cases (inl old) = let e = ends k d (omega (arith, below)) in
-          each_node (slice_index_or wires k d).0 e.0 ∙ ap (relabelled (slice_index before w.0) (slice_index before w.1)) (are.closed k d old) ∙ sym (each_node (slice_index_or wires k d).1 e.1)
-      cases (inr new) = subst (λ (v : ℕ × ℕ). slice_index after v.0 ≡ slice_index after v.1) (sym (ap (λ (n : ℕ). slice_index_or wires n d) (omega arith) ∙ at d))
+          each_node (slice_index_or wires k d).0 e.0 ∙ ap (relabelled (slice_index before w.0) (slice_index before w.1)) (are.closed k d old)
+          ∙ sym (each_node (slice_index_or wires k d).1 e.1)
+      cases (inr new) = subst (λ (v : ℕ × ℕ). slice_index after v.0 ≡ slice_index after v.1)
+          (sym (ap (λ (n : ℕ). slice_index_or wires n d) (omega arith) ∙ at d))
           (each_node w.0 here_ends.0 ∙ relabelled_old (slice_index before w.0) (slice_index before w.1) (slice_index before w.0) refl
           ∙ sym (relabelled_new (slice_index before w.0) (slice_index before w.1)) ∙ sym (each_node w.1 here_ends.1))
 
@@ -61,27 +67,35 @@ index_any [] k d e h = absurd (omega arith)
 index_any (w ∷ wires) zero d e h = refl
 index_any (w ∷ wires) (suc k) d e h = index_any wires k d e (omega arith)
 
-pub labels_step : (nodes : ℕ) (wires : List (ℕ × ℕ)) (before first second third after : List ℕ) (done from to : ℕ) → EndsBelow nodes wires → done < length wires → AreLabels nodes wires before done
+pub labels_step : (nodes : ℕ) (wires : List (ℕ × ℕ)) (before first second third after : List ℕ) (done from to : ℕ) → EndsBelow nodes wires
+    → done < length wires → AreLabels nodes wires before done
     → first ≡ before → second ≡ before → third ≡ before → from ≡ (slice_index_or wires done (0, 0)).0 → to ≡ (slice_index_or wires done (0, 0)).1
     → length after ≡ length third → IsRelabelled (slice_index first from) (slice_index second to) third after → AreLabels nodes wires after (done + 1)
 labels_step nodes wires before first second third after done from to ends below are f s t fromis tois many each =
     labels_more nodes wires before after done (slice_index_or wires done (0, 0)) ends below (λ d. index_any wires done d (0, 0) below) are (many ∙ ap length t)
     (λ v h. each v (omega (arith, ap length t)) ∙ (λ k. relabelled (slice_index (f k) (fromis k)) (slice_index (s k) (tois k)) (slice_index (t k) v)))
 
-pub own_are : (nodes : ℕ) (wires : List (ℕ × ℕ)) (labels : List ℕ) → length labels ≡ nodes → ((v : ℕ) → v < nodes → slice_index labels v ≡ v) → AreLabels nodes wires labels 0
-own_are nodes wires labels many own = record { many = many; joined = λ v h. subst (IsJoined wires v) (sym (own v h)) here; closed = λ k d h. absurd (omega arith) }
+pub own_are : (nodes : ℕ) (wires : List (ℕ × ℕ)) (labels : List ℕ) → length labels ≡ nodes → ((v : ℕ) → v < nodes → slice_index labels v ≡ v)
+    → AreLabels nodes wires labels 0
+own_are nodes wires labels many own = record {
+  many = many;
+  joined = λ v h. subst (IsJoined wires v) (sym (own v h)) here;
+  closed = λ k d h. absurd (omega arith);
+}
 
 -- in the end, joined nodes have one label
 module _ (net : Net) (labels : List ℕ) (are : AreLabels net.nodes net.wires labels (length net.wires)) where
   pub one_label : {u v : ℕ} → IsJoined net.wires u v → slice_index labels u ≡ slice_index labels v
   one_label here = refl
   one_label (along {u} {v} {w} c j) = subst (λ (e : ℕ × ℕ). slice_index labels e.0 ≡ slice_index labels e.1) c.2 (are.closed c.0 (u, v) c.1) ∙ one_label j
-  one_label (against {u} {v} {w} c j) = sym (subst (λ (e : ℕ × ℕ). slice_index labels e.0 ≡ slice_index labels e.1) c.2 (are.closed c.0 (v, u) c.1)) ∙ one_label j
+  one_label (against {u} {v} {w} c j) = sym (subst (λ (e : ℕ × ℕ). slice_index labels e.0 ≡ slice_index labels e.1) c.2 (are.closed c.0 (v, u) c.1))
+      ∙ one_label j
 
   pub one_joined : (u v : ℕ) → u < net.nodes → v < net.nodes → slice_index labels u ≡ slice_index labels v → IsJoined net.wires u v
   one_joined u v a b e = joined_on net.wires (subst (IsJoined net.wires u) e (are.joined u a)) (joined_back net.wires (are.joined v b))
 
-  pub least : (v : ℕ) → v < net.nodes → 0 < net.nodes → ((u : ℕ) → u < v → slice_index labels u ≡ slice_index labels (net.nodes - 1)) → slice_index labels v ≢ slice_index labels (net.nodes - 1) → IsLeastLoose net v
+  pub least : (v : ℕ) → v < net.nodes → 0 < net.nodes → ((u : ℕ) → u < v → slice_index labels u ≡ slice_index labels (net.nodes - 1))
+      → slice_index labels v ≢ slice_index labels (net.nodes - 1) → IsLeastLoose net v
   least v h some before differ = ((h, λ j. differ (one_label j)), λ u loose. cases u loose (cases_lt u v))
     where
       cases : (u : ℕ) → IsLoose net u → (u < v) ⊎ (v ≤ u) → v ≤ u
@@ -92,6 +106,7 @@ module _ (net : Net) (labels : List ℕ) (are : AreLabels net.nodes net.wires la
   none_loose some all v h = one_joined v (net.nodes - 1) h (omega arith) (all v h)
 
 -- what the code knows of the labels is what holds of them
-pub labels_of_net : (net : Net) (nodes : ℕ) (wires : List (ℕ × ℕ)) (labels : List ℕ) → nodes ≡ net.nodes → wires ≡ net.wires → AreLabels nodes wires labels (length wires) → AreLabels net.nodes net.wires labels (length net.wires)
+pub labels_of_net : (net : Net) (nodes : ℕ) (wires : List (ℕ × ℕ)) (labels : List ℕ) → nodes ≡ net.nodes → wires ≡ net.wires
+    → AreLabels nodes wires labels (length wires) → AreLabels net.nodes net.wires labels (length net.wires)
 labels_of_net net nodes wires labels n w are =
     subst (λ (k : ℕ). AreLabels k net.wires labels (length net.wires)) n (subst (λ (l : List (ℕ × ℕ)). AreLabels nodes l labels (length l)) w are)

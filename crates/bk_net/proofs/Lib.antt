@@ -3,6 +3,9 @@ pub mod DiagramExamples
 pub mod FlowExamples
 pub mod NetLineExamples
 pub mod SmithLists
+pub mod GroupSquares
+pub mod NodeBelow
+pub mod GroupColumns
 pub mod SidesFlow
 pub mod Hanging
 pub mod Joining

@@ -62,7 +62,8 @@ blank_ends n ws l b bs blank (w ∷ more, (a, x, e, blanks, (t, y, f, wire, (s, 
   (
     (b ∷ a) ++ (t ++ s),
     z,
-    ap (λ (k : List ℕ). b ∷ k) (e ∙ ap (λ (k : List ℕ). a ++ k) (f ∙ ap (λ (k : List ℕ). t ++ k) g ∙ sym (append_assoc t s z)) ∙ sym (append_assoc a (t ++ s) z)),
+    ap (λ (k : List ℕ). b ∷ k) (e ∙ ap (λ (k : List ℕ). a ++ k) (f ∙ ap (λ (k : List ℕ). t ++ k) g ∙ sym (append_assoc t s z))
+        ∙ sym (append_assoc a (t ++ s) z)),
     (b ∷ a, t ++ s, refl, (omega arith, (blank, blanks)), (t, s, refl, wire, wires)),
     end,
   ),
@@ -79,7 +80,8 @@ line_ends : (n : ℕ) (ws : List (ℕ × ℕ)) (l : NetLine) → l ≡ Item n ws
 line_ends n ws l is = ([], ([], [], refl, refl, ([], [], refl, tt, inl refl)), is ∙ ap (Item n) (sym (append-nil ws)))
 
 -- a digit of a number
-digit_before : (v d : ℕ) (Rest : ℕ → List ℕ → Type 0) (b : ℕ) (bs : List ℕ) → digit_value b ≡ d → digit_value b < 10 → 0 < v → v < 100 → NumberRest (v * 10 + d) Rest bs → NumberRest v Rest (b ∷ bs)
+digit_before : (v d : ℕ) (Rest : ℕ → List ℕ → Type 0) (b : ℕ) (bs : List ℕ) → digit_value b ≡ d → digit_value b < 10 → 0 < v → v < 100
+    → NumberRest (v * 10 + d) Rest bs → NumberRest v Rest (b ∷ bs)
 digit_before v d Rest b bs e small some few (n, ds, rest, is, goes, h) =
     (n, b ∷ ds, rest, ap (λ (z : List ℕ). b ∷ z) is, (small, some, few, subst (λ (k : ℕ). Goes_on (v * 10 + k) n ds) (sym e) goes), h)
 
@@ -90,14 +92,17 @@ number_here : (v : ℕ) (Rest : ℕ → List ℕ → Type 0) (bs : List ℕ) →
 number_here v Rest bs h = (v, [], bs, refl, refl, h)
 
 -- where a number goes on, it is not 0 and has fewer than three digits
-longer_from : (v d : ℕ) (at : ℕ → Place) (ws : List (ℕ × ℕ)) (l : NetLine) (bs : List ℕ) → NextRest (option_map at (longer v d)) ws l bs → (0 < v) × (v < 100) × RestOf (at (v * 10 + d)) ws l bs
+longer_from : (v d : ℕ) (at : ℕ → Place) (ws : List (ℕ × ℕ)) (l : NetLine) (bs : List ℕ) → NextRest (option_map at (longer v d)) ws l bs
+    → (0 < v) × (v < 100) × RestOf (at (v * 10 + d)) ws l bs
 longer_from v d at ws l bs h = cases (nat_lt 0 v && nat_lt v 100) refl h
   where
-    cases : (b : Bool) → nat_lt 0 v && nat_lt v 100 ≡ b → NextRest (option_map at (if b then Some (v * 10 + d) else None)) ws l bs → (0 < v) × (v < 100) × RestOf (at (v * 10 + d)) ws l bs
+    cases : (b : Bool) → nat_lt 0 v && nat_lt v 100 ≡ b → NextRest (option_map at (if b then Some (v * 10 + d) else None)) ws l bs
+        → (0 < v) × (v < 100) × RestOf (at (v * 10 + d)) ws l bs
     cases true e h = let parts = and_parts (nat_lt 0 v) (nat_lt v 100) e in (ltb-true 0 v parts.0, ltb-true v 100 parts.1, h)
     cases false e h = absurd h
 
-start_digit : (d : ℕ) (ws : List (ℕ × ℕ)) (l : NetLine) (b : ℕ) (bs : List ℕ) → digit_value b ≡ d → digit_value b < 10 → RestOf (Count d) ws l bs → RestOf Start ws l (b ∷ bs)
+start_digit : (d : ℕ) (ws : List (ℕ × ℕ)) (l : NetLine) (b : ℕ) (bs : List ℕ) → digit_value b ≡ d → digit_value b < 10 → RestOf (Count d) ws l bs
+    → RestOf Start ws l (b ∷ bs)
 start_digit d ws l b bs e small (n, ds, rest, is, goes, (more, wires, meant)) none =
     subst (λ (k : NetLine). IsNetLine k (b ∷ bs)) (sym (meant ∙ ap (λ (k : List (ℕ × ℕ)). Item n (k ++ more)) none))
     ([], b ∷ bs, refl, tt, (b ∷ ds, rest, ap (λ (z : List ℕ). b ∷ z) is, first_digit d b n ds e small goes, wires))
@@ -106,7 +111,8 @@ start_blank : (ws : List (ℕ × ℕ)) (l : NetLine) (b : ℕ) (bs : List ℕ) �
 start_blank ws Skip b bs blank h none = blank_first _ b bs blank (h none)
 start_blank ws (Item n more) b bs blank h none = blank_first _ b bs blank (h none)
 
-between_digit : (n d : ℕ) (ws : List (ℕ × ℕ)) (l : NetLine) (b : ℕ) (bs : List ℕ) → digit_value b ≡ d → digit_value b < 10 → RestOf (First n d) ws l bs → BetweenRest n ws l (b ∷ bs)
+between_digit : (n d : ℕ) (ws : List (ℕ × ℕ)) (l : NetLine) (b : ℕ) (bs : List ℕ) → digit_value b ≡ d → digit_value b < 10
+    → RestOf (First n d) ws l bs → BetweenRest n ws l (b ∷ bs)
 between_digit n d ws l b bs e small (a, ds, rest, is, goes, (others, dash, (c, text, more_bytes, f, number, (more, (s, z, g, wires, end), meant)))) = (
   (a, c) ∷ more,
   (
@@ -136,7 +142,8 @@ start_comment : (ws : List (ℕ × ℕ)) (l : NetLine) (b : ℕ) (bs : List ℕ)
 start_comment ws l b bs e is none = subst (λ (k : NetLine). IsNetLine k (b ∷ bs)) (sym is) ([], b ∷ bs, refl, tt, inr (bs, ap (λ (c : ℕ). c ∷ bs) e))
 
 -- what completes a line from the next place completes it from this one, with the byte between them
-step : (p : Place) (k : Kind) (ws : List (ℕ × ℕ)) (l : NetLine) (b : ℕ) (bs : List ℕ) → Means k b → NextRest (next_place p k) (and_wire (ended_wire p k) ws) l bs → RestOf p ws l (b ∷ bs)
+step : (p : Place) (k : Kind) (ws : List (ℕ × ℕ)) (l : NetLine) (b : ℕ) (bs : List ℕ) → Means k b
+    → NextRest (next_place p k) (and_wire (ended_wire p k) ws) l bs → RestOf p ws l (b ∷ bs)
 step Start Blank ws l b bs m h = start_blank ws l b bs m h
 step Start (Digit d) ws l b bs m h = start_digit d ws l b bs m.0 m.1 h
 step Start Semicolon ws l b bs m h = start_comment ws l b bs m h
@@ -153,7 +160,8 @@ step (Between n) Semicolon ws l b bs m h = between_comment n ws l b bs m h
 step (Between n) Dash ws l b bs m h = absurd h
 step (Between n) Other ws l b bs m h = absurd h
 step (First n v) (Digit d) ws l b bs m h =
-    let k = longer_from v d (First n) ws l bs h in digit_before v d (λ a rest. (others : List ℕ) × (rest ≡ 45 ∷ others) × DashRest n a ws l others) b bs m.0 m.1 k.0 k.1 k.2
+    let k = longer_from v d (First n) ws l bs h in
+    digit_before v d (λ a rest. (others : List ℕ) × (rest ≡ 45 ∷ others) × DashRest n a ws l others) b bs m.0 m.1 k.0 k.1 k.2
 step (First n v) Dash ws l b bs m h = (v, [], b ∷ bs, refl, refl, (bs, ap (λ (c : ℕ). c ∷ bs) m, h))
 step (First n v) Blank ws l b bs m h = absurd h
 step (First n v) Semicolon ws l b bs m h = absurd h
@@ -163,10 +171,12 @@ step (BehindDash n a) Blank ws l b bs m h = absurd h
 step (BehindDash n a) Dash ws l b bs m h = absurd h
 step (BehindDash n a) Semicolon ws l b bs m h = absurd h
 step (BehindDash n a) Other ws l b bs m h = absurd h
-step (Second n a v) Blank ws l b bs m h = number_here v (λ c rest. WiresRest n (ws ++ (a, c) ∷ []) l rest) (b ∷ bs) (blank_ends n (ws ++ (a, v) ∷ []) l b bs m h)
+step (Second n a v) Blank ws l b bs m h =
+    number_here v (λ c rest. WiresRest n (ws ++ (a, c) ∷ []) l rest) (b ∷ bs) (blank_ends n (ws ++ (a, v) ∷ []) l b bs m h)
 step (Second n a v) (Digit d) ws l b bs m h =
     let k = longer_from v d (Second n a) ws l bs h in digit_before v d (λ c rest. WiresRest n (ws ++ (a, c) ∷ []) l rest) b bs m.0 m.1 k.0 k.1 k.2
-step (Second n a v) Semicolon ws l b bs m h = number_here v (λ c rest. WiresRest n (ws ++ (a, c) ∷ []) l rest) (b ∷ bs) (comment_ends n (ws ++ (a, v) ∷ []) l b bs m h)
+step (Second n a v) Semicolon ws l b bs m h =
+    number_here v (λ c rest. WiresRest n (ws ++ (a, c) ∷ []) l rest) (b ∷ bs) (comment_ends n (ws ++ (a, v) ∷ []) l b bs m h)
 step (Second n a v) Dash ws l b bs m h = absurd h
 step (Second n a v) Other ws l b bs m h = absurd h
 step (InComment Empty) k ws l b bs m h = h
@@ -180,16 +190,19 @@ ends (Count v) ws l e = let same : Item v ws ≡ l = cc in number_here v (λ n r
 ends (Between n) ws l e = let same : Item n ws ≡ l = cc in ([], ([], [], refl, tt, inl refl), sym same ∙ ap (Item n) (sym (append-nil ws)))
 ends (First n v) ws l e = absurd (cc)
 ends (BehindDash n a) ws l e = absurd (cc)
-ends (Second n a v) ws l e = let same : Item n (ws ++ (a, v) ∷ []) ≡ l = cc in number_here v (λ c rest. WiresRest n (ws ++ (a, c) ∷ []) l rest) [] (line_ends n (ws ++ (a, v) ∷ []) l (sym same))
+ends (Second n a v) ws l e = let same : Item n (ws ++ (a, v) ∷ []) ≡ l = cc in
+    number_here v (λ c rest. WiresRest n (ws ++ (a, c) ∷ []) l rest) [] (line_ends n (ws ++ (a, v) ∷ []) l (sym same))
 ends (InComment Empty) ws l e = let same : Skip ≡ l = cc in sym same
 ends (InComment (Nodes n)) ws l e = let same : Item n ws ≡ l = cc in sym same
 
 pub read_is_rest : (bs : List ℕ) (p : Place) (ws : List (ℕ × ℕ)) (l : NetLine) → read bs p ws ≡ Some l → RestOf p ws l bs
 read_is_rest [] p ws l e = ends p ws l e
-read_is_rest (b ∷ bs) p ws l e = step p (kind_of b) ws l b bs (means b) (next (next_place p (kind_of b)) e (λ q. read_is_rest bs q (and_wire (ended_wire p (kind_of b)) ws) l))
+read_is_rest (b ∷ bs) p ws l e =
+    step p (kind_of b) ws l b bs (means b) (next (next_place p (kind_of b)) e (λ q. read_is_rest bs q (and_wire (ended_wire p (kind_of b)) ws) l))
   where
     next : (o : Option Place) → option_and_then (λ q. read bs q (and_wire (ended_wire p (kind_of b)) ws)) o ≡ Some l
-        → ((q : Place) → read bs q (and_wire (ended_wire p (kind_of b)) ws) ≡ Some l → RestOf q (and_wire (ended_wire p (kind_of b)) ws) l bs) → NextRest o (and_wire (ended_wire p (kind_of b)) ws) l bs
+        → ((q : Place) → read bs q (and_wire (ended_wire p (kind_of b)) ws) ≡ Some l → RestOf q (and_wire (ended_wire p (kind_of b)) ws) l bs)
+        → NextRest o (and_wire (ended_wire p (kind_of b)) ws) l bs
     next None f rest = absurd (cc)
     next (Some q) f rest = rest q f
 

@@ -49,11 +49,13 @@ pub record BeginsNumber (p : Place) (at : ℕ → Place) : Type 0 where
   pub none : (d : ℕ) → ended_wire p (Digit d) ≡ None
   pub within : HasNumber at
 
-number_read : (p : Place) (at : ℕ → Place) → BeginsNumber p at → (ws : List (ℕ × ℕ)) (n : ℕ) (text x : List ℕ) → Reads (NodeNumber n) text x → read text p ws ≡ read x (at n) ws
+number_read : (p : Place) (at : ℕ → Place) → BeginsNumber p at → (ws : List (ℕ × ℕ)) (n : ℕ) (text x : List ℕ) → Reads (NodeNumber n) text x
+    → read text p ws ≡ read x (at n) ws
 number_read p at b ws n text x (a, h, e) =
     let k = number_from n a h in
     ap (λ (z : List ℕ). read z p ws) (e ∙ ap (λ (z : List ℕ). z ++ x) k.is)
-    ∙ read_next p (at (digit_value k.first)) (Digit (digit_value k.first)) ws ws k.first (k.others ++ x) (kind_digit k.first k.digit) (b.begins (digit_value k.first)) (ap (λ o. and_wire o ws) (b.none (digit_value k.first)))
+    ∙ read_next p (at (digit_value k.first)) (Digit (digit_value k.first)) ws ws k.first (k.others ++ x) (kind_digit k.first k.digit)
+    (b.begins (digit_value k.first)) (ap (λ o. and_wire o ws) (b.none (digit_value k.first)))
     ∙ digits_read at b.within ws (digit_value k.first) n k.others x k.goes_on
 
 -- ---- blanks
@@ -63,7 +65,8 @@ skipped p ws [] x next none blanks = refl
 skipped p ws (b ∷ a) x next none blanks =
     read_next p p Blank ws ws b (a ++ x) (kind_blank b blanks.0) next (ap (λ o. and_wire o ws) none) ∙ skipped p ws a x next none blanks.1
 
-blanks_read : (p : Place) (ws : List (ℕ × ℕ)) (text x : List ℕ) → next_place p Blank ≡ Some p → ended_wire p Blank ≡ None → Reads Blanks text x → read text p ws ≡ read x p ws
+blanks_read : (p : Place) (ws : List (ℕ × ℕ)) (text x : List ℕ) → next_place p Blank ≡ Some p → ended_wire p Blank ≡ None → Reads Blanks text x
+    → read text p ws ≡ read x p ws
 blanks_read p ws text x next none (a, h, e) = ap (λ (z : List ℕ). read z p ws) e ∙ skipped p ws a x next none h
 
 -- ---- the end of a line
@@ -122,11 +125,14 @@ wire_read n a b ws text x r =
     ∙ number_read (BehindDash n a) (Second n a) (record { begins = λ d. refl; none = λ d. refl; within = in_second n a }) ws b dash.0 x dash.2
   where
     dash_read : (text x : List ℕ) → Reads (Is (codes "-")) text x → read text (First n a) ws ≡ read x (BehindDash n a) ws
-    dash_read text x (c, h, e) = ap (λ (z : List ℕ). read z (First n a) ws) (e ∙ ap (λ (z : List ℕ). z ++ x) h) ∙ read_next (First n a) (BehindDash n a) Dash ws ws 45 x refl refl refl
+    dash_read text x (c, h, e) = ap (λ (z : List ℕ). read z (First n a) ws) (e ∙ ap (λ (z : List ℕ). z ++ x) h)
+        ∙ read_next (First n a) (BehindDash n a) Dash ws ws 45 x refl refl refl
 
-wires_read : (more : List (ℕ × ℕ)) (p : Place) (n : ℕ) (ws vs : List (ℕ × ℕ)) (bs rest : List ℕ) → Closes p n ws vs → Reads (Wires more) bs rest → LineEnd rest → read bs p ws ≡ Some (Item n (vs ++ more))
+wires_read : (more : List (ℕ × ℕ)) (p : Place) (n : ℕ) (ws vs : List (ℕ × ℕ)) (bs rest : List ℕ) → Closes p n ws vs → Reads (Wires more) bs rest
+    → LineEnd rest → read bs p ws ≡ Some (Item n (vs ++ more))
 wires_read [] p n ws vs bs rest c (a, h, e) end =
-    ap (λ (z : List ℕ). read z p ws) (e ∙ ap (λ (z : List ℕ). z ++ rest) h) ∙ end_read p n ws vs rest c end ∙ ap (λ (l : List (ℕ × ℕ)). Some (Item n l)) (sym (append-nil vs))
+    ap (λ (z : List ℕ). read z p ws) (e ∙ ap (λ (z : List ℕ). z ++ rest) h) ∙ end_read p n ws vs rest c end
+    ∙ ap (λ (l : List (ℕ × ℕ)). Some (Item n l)) (sym (append-nil vs))
 wires_read ((a, b) ∷ more) p n ws vs bs rest c r end =
     let gap = split SomeBlanks (Wire (a, b) then Wires more) bs rest r in
     let wire = split (Wire (a, b)) (Wires more) gap.0 rest gap.2 in
@@ -142,7 +148,8 @@ skip_read bs (a, x, e, blanks, h) = ap (λ (z : List ℕ). read z Start []) e �
   where
     rest : (Nothing or Comment) x → read x Start [] ≡ Some Skip
     rest (inl f) = ap (λ (z : List ℕ). read z Start []) f
-    rest (inr (text, f)) = ap (λ (z : List ℕ). read z Start []) f ∙ read_next Start (InComment Empty) Semicolon [] [] 59 text refl refl refl ∙ comment_read text Empty []
+    rest (inr (text, f)) = ap (λ (z : List ℕ). read z Start []) f ∙ read_next Start (InComment Empty) Semicolon [] [] 59 text refl refl refl
+        ∙ comment_read text Empty []
 
 pub line_is_read : (l : NetLine) (bs : List ℕ) → IsNetLine l bs → read bs Start [] ≡ Some l
 line_is_read Skip bs h = skip_read bs h

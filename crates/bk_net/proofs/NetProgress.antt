@@ -38,7 +38,8 @@ one_further bs i p q kept next_kept many next_many within progress next keeps =
     })
 
 -- where the reader stops, the bytes leave the grammar
-pub no_next : (bs : List ℕ) (i : ℕ) (p : Place) (kept : List (ℕ × ℕ)) (many : Bool) → i < length bs → Progress (take i bs) p kept many → next_place p (kind_of (get_or bs i 0)) ≡ None → IsNoNetLine bs i
+pub no_next : (bs : List ℕ) (i : ℕ) (p : Place) (kept : List (ℕ × ℕ)) (many : Bool) → i < length bs → Progress (take i bs) p kept many
+    → next_place p (kind_of (get_or bs i 0)) ≡ None → IsNoNetLine bs i
 no_next bs i p kept many within progress none = stops_at bs i p progress.all within progress.leads none
 
 pub no_ending : (bs : List ℕ) (p : Place) (kept : List (ℕ × ℕ)) (many : Bool) → Progress bs p kept many → ending_at p ≡ None → IsNoNetLine bs (length bs)
@@ -49,8 +50,10 @@ pub whole : (bs : List ℕ) (i : ℕ) (p : Place) (kept : List (ℕ × ℕ)) (ma
 whole bs i p kept many all progress = subst (λ (z : List ℕ). Progress z p kept many) (take_all i bs all) progress
 
 -- at an end the bytes are a line
-whole_line : (bs : List ℕ) (p : Place) (ws : List (ℕ × ℕ)) (ending : Ending) → Leads bs p ws → ending_at p ≡ Some ending → IsNetLine (line_of ending (and_wire (last_wire p) ws)) bs
-whole_line bs p ws ending leads e = read_is_line bs (line_of ending (and_wire (last_wire p) ws)) (read_whole bs p ws leads ∙ ap (λ o. line_at o (and_wire (last_wire p) ws)) e)
+whole_line : (bs : List ℕ) (p : Place) (ws : List (ℕ × ℕ)) (ending : Ending) → Leads bs p ws → ending_at p ≡ Some ending
+    → IsNetLine (line_of ending (and_wire (last_wire p) ws)) bs
+whole_line bs p ws ending leads e =
+    read_is_line bs (line_of ending (and_wire (last_wire p) ws)) (read_whole bs p ws leads ∙ ap (λ o. line_at o (and_wire (last_wire p) ws)) e)
 
 pub skip_found : (bs : List ℕ) (p : Place) (kept : List (ℕ × ℕ)) (many : Bool) → Progress bs p kept many → ending_at p ≡ Some Empty → IsNetLine Skip bs
 skip_found bs p kept many progress e = whole_line bs p progress.all Empty progress.leads e
@@ -61,26 +64,39 @@ pub record HasWires (bs : List ℕ) (nodes : ℕ) (kept : List (ℕ × ℕ)) (ma
   pub line : IsNetLine (Item nodes wires) bs
   pub keeps : Keeps wires kept many
 
-pub wires_found : (bs : List ℕ) (p : Place) (kept last_kept : List (ℕ × ℕ)) (many last_many : Bool) (nodes : ℕ) → Progress bs p kept many → ending_at p ≡ Some (Nodes nodes)
+pub wires_found : (bs : List ℕ) (p : Place) (kept last_kept : List (ℕ × ℕ)) (many last_many : Bool) (nodes : ℕ) → Progress bs p kept many
+    → ending_at p ≡ Some (Nodes nodes)
     → ((all : List (ℕ × ℕ)) → Keeps all kept many → Keeps (and_wire (last_wire p) all) last_kept last_many) → HasWires bs nodes last_kept last_many
 wires_found bs p kept last_kept many last_many nodes progress e keeps =
-    record { wires = and_wire (last_wire p) progress.all; line = whole_line bs p progress.all (Nodes nodes) progress.leads e; keeps = keeps progress.all progress.keeps }
+    record {
+      wires = and_wire (last_wire p) progress.all;
+      line = whole_line bs p progress.all (Nodes nodes) progress.leads e;
+      keeps = keeps progress.all progress.keeps;
+    }
 
 -- the kept wires are all of them
 all_kept : (bs : List ℕ) (nodes : ℕ) (kept : List (ℕ × ℕ)) (many : Bool) → HasWires bs nodes kept many → many ≡ false → IsNetLine (Item nodes kept) bs
 all_kept bs nodes kept many h few = subst (λ (ws : List (ℕ × ℕ)). IsNetLine (Item nodes ws) bs) (sym (h.keeps.same few)) h.line
 
-pub item_is : (r : Result NetLineRead NetFault) (bs : List ℕ) (nodes : ℕ) (kept : List (ℕ × ℕ)) (many : Bool) → HasWires bs nodes kept many → IfOk r (λ l. many ≡ false) → IfOk r (λ l. stands_for l ≡ Item nodes kept)
+pub item_is : (r : Result NetLineRead NetFault) (bs : List ℕ) (nodes : ℕ) (kept : List (ℕ × ℕ)) (many : Bool) → HasWires bs nodes kept many
+    → IfOk r (λ l. many ≡ false) → IfOk r (λ l. stands_for l ≡ Item nodes kept)
     → IfOk r (λ l. IsNetLine (stands_for l) bs)
 item_is (Ok l) bs nodes kept many h few is = subst (λ (z : NetLine). IsNetLine z bs) (sym is) (all_kept bs nodes kept many h few)
 item_is (Err fault) bs nodes kept many h few is = tt
 
-one_fault : (fault : NetFault) (bs : List ℕ) (nodes : ℕ) (kept : List (ℕ × ℕ)) (many : Bool) → HasWires bs nodes kept many → length kept ≤ 200 → IsNoNet nodes many kept fault → IsFaultOf fault bs
+one_fault : (fault : NetFault) (bs : List ℕ) (nodes : ℕ) (kept : List (ℕ × ℕ)) (many : Bool) → HasWires bs nodes kept many → length kept ≤ 200
+    → IsNoNet nodes many kept fault → IsFaultOf fault bs
 one_fault (Text at) bs nodes kept many h few none = absurd none
 one_fault Many bs nodes kept many h few none = (nodes, h.wires, h.line, h.keeps.more none)
-one_fault (NodesFault count) bs nodes kept many h few none = (kept, subst (λ (n : ℕ). IsNetLine (Item n kept) bs) (sym none.1) (all_kept bs nodes kept many h none.0), few, λ is. none.2 (omega (arith, is.0, none.1), omega (arith, is.1, none.1)))
+one_fault (NodesFault count) bs nodes kept many h few none = (
+  kept,
+  subst (λ (n : ℕ). IsNetLine (Item n kept) bs) (sym none.1) (all_kept bs nodes kept many h none.0),
+  few,
+  λ is. none.2 (omega (arith, is.0, none.1), omega (arith, is.1, none.1)),
+)
 one_fault (Wire place) bs nodes kept many h few none = (nodes, kept, all_kept bs nodes kept many h none.0, few, none.1, none.2)
 
-pub fault_is : (r : Result NetLineRead NetFault) (bs : List ℕ) (nodes : ℕ) (kept : List (ℕ × ℕ)) (many : Bool) → HasWires bs nodes kept many → length kept ≤ 200 → IfErr r (IsNoNet nodes many kept) → IfErr r (λ fault. IsFaultOf fault bs)
+pub fault_is : (r : Result NetLineRead NetFault) (bs : List ℕ) (nodes : ℕ) (kept : List (ℕ × ℕ)) (many : Bool) → HasWires bs nodes kept many
+    → length kept ≤ 200 → IfErr r (IsNoNet nodes many kept) → IfErr r (λ fault. IsFaultOf fault bs)
 fault_is (Ok l) bs nodes kept many h few none = tt
 fault_is (Err fault) bs nodes kept many h few none = one_fault fault bs nodes kept many h few none

@@ -35,9 +35,11 @@ completion (InComment ending) ws = ([], tt)
 abbrev pub Leads : List ℕ → Place → List (ℕ × ℕ) → Type 0
 Leads front p ws = (x : List ℕ) → read (front ++ x) Start [] ≡ read x p ws
 
-pub leads_on : (front : List ℕ) (p q : Place) (ws : List (ℕ × ℕ)) (b : ℕ) → Leads front p ws → next_place p (kind_of b) ≡ Some q → Leads (front ++ b ∷ []) q (and_wire (ended_wire p (kind_of b)) ws)
+pub leads_on : (front : List ℕ) (p q : Place) (ws : List (ℕ × ℕ)) (b : ℕ) → Leads front p ws → next_place p (kind_of b) ≡ Some q
+    → Leads (front ++ b ∷ []) q (and_wire (ended_wire p (kind_of b)) ws)
 leads_on front p q ws b leads next x =
-    ap (λ (z : List ℕ). read z Start []) (append_assoc front (b ∷ []) x) ∙ leads (b ∷ x) ∙ read_next p q (kind_of b) ws (and_wire (ended_wire p (kind_of b)) ws) b x refl next refl
+    ap (λ (z : List ℕ). read z Start []) (append_assoc front (b ∷ []) x) ∙ leads (b ∷ x)
+    ∙ read_next p q (kind_of b) ws (and_wire (ended_wire p (kind_of b)) ws) b x refl next refl
 
 -- a front that leads to a place begins a line
 begins : (front : List ℕ) (p : Place) (ws : List (ℕ × ℕ)) → Leads front p ws → Begins SomeNetLine front
@@ -47,14 +49,16 @@ begins front p ws leads =
     (c.0, (l.0, read_is_line (front ++ c.0) l.0 (leads c.0 ∙ l.1)))
 
 -- a byte behind which there is no place begins no rest of a line
-no_more : (front : List ℕ) (p : Place) (ws : List (ℕ × ℕ)) (b : ℕ) (x : List ℕ) → Leads front p ws → next_place p (kind_of b) ≡ None → ¬ (SomeNetLine (front ++ b ∷ x))
+no_more : (front : List ℕ) (p : Place) (ws : List (ℕ × ℕ)) (b : ℕ) (x : List ℕ) → Leads front p ws → next_place p (kind_of b) ≡ None
+    → ¬ (SomeNetLine (front ++ b ∷ x))
 no_more front p ws b x leads none (l, line) =
     let read' : read (b ∷ x) p ws ≡ Some l = sym (leads (b ∷ x)) ∙ line_is_read l (front ++ b ∷ x) line in
     let stopped : read (b ∷ x) p ws ≡ None = ap (λ next. option_and_then (λ q. read x q (and_wire (ended_wire p (kind_of b)) ws)) next) none in
     absurd (cc)
 
 -- the bytes leave the grammar where the reader has no place for the next one
-pub stops_at : (bs : List ℕ) (at : ℕ) (p : Place) (ws : List (ℕ × ℕ)) → at < length bs → Leads (take at bs) p ws → next_place p (kind_of (get_or bs at 0)) ≡ None → IsNoNetLine bs at
+pub stops_at : (bs : List ℕ) (at : ℕ) (p : Place) (ws : List (ℕ × ℕ)) → at < length bs → Leads (take at bs) p ws
+    → next_place p (kind_of (get_or bs at 0)) ≡ None → IsNoNetLine bs at
 stops_at bs at p ws within leads none =
     leaves_before SomeNetLine bs at within (begins (take at bs) p ws leads) (λ x. no_more (take at bs) p ws (get_or bs at 0) x leads none)
 

@@ -25,7 +25,12 @@ number_of b n [] small h = cases (two (digit_value b))
     cases (inl e) = let zero' : b ≡ 48 = omega (arith, own_value b small) in inl (ap (λ (c : ℕ). c ∷ []) zero', h ∙ e)
     cases (inr some) = inr ((omega arith, (small, tt)), omega arith, (λ e. omega (arith, own_value b small)), omega (arith, h))
 number_of b n (c ∷ []) small h = inr ((omega arith, (small, (h.0, tt))), omega arith, (λ e. omega (arith, own_value b small, h.1)), omega (arith, h.3))
-number_of b n (c ∷ e ∷ []) small h = inr ((omega arith, (small, (h.0, (h.3.0, tt)))), omega arith, (λ f. omega (arith, own_value b small, h.1)), omega (arith, h.3.3))
+number_of b n (c ∷ e ∷ []) small h = inr (
+  (omega arith, (small, (h.0, (h.3.0, tt)))),
+  omega arith,
+  (λ f. omega (arith, own_value b small, h.1)),
+  omega (arith, h.3.3),
+)
 number_of b n (c ∷ e ∷ f ∷ ds) small h = absurd (omega (arith, h.1, h.3.3.2))
 
 -- the first digit of a node number, and the others
@@ -48,7 +53,13 @@ number_from n (b ∷ c ∷ []) (inr h) =
     positive b small other = omega (arith, own_value b small)
 number_from n (b ∷ c ∷ e ∷ []) (inr h) =
     let some : 0 < digit_value b = positive b h.0.1.0 h.2 in
-    record { first = b; others = c ∷ e ∷ []; is = refl; digit = h.0.1.0; goes_on = (h.0.1.1.0, some, omega (arith, h.0.1.0), (h.0.1.1.1.0, omega (arith, some), omega (arith, h.0.1.0, h.0.1.1.0), omega (arith, h.3))) }
+    record {
+      first = b;
+      others = c ∷ e ∷ [];
+      is = refl;
+      digit = h.0.1.0;
+      goes_on = (h.0.1.1.0, some, omega (arith, h.0.1.0), (h.0.1.1.1.0, omega (arith, some), omega (arith, h.0.1.0, h.0.1.1.0), omega (arith, h.3)));
+    }
   where
     positive : (b : ℕ) → digit_value b < 10 → b ≢ 48 → 0 < digit_value b
     positive b small other = omega (arith, own_value b small)

@@ -2,7 +2,8 @@
 -- its left column, which a search in the order of the code finds.
 use Rattle.std.specs.List.Sorted.{IsPartitionPoint, IsPartitionedBy}
 use Rattle.std.specs.Prelude.{slice_index}
-use Rattle.std.proofs.Common.{Bool, List, [], ap, arith, cond, count_by, false, inl, inr, length, map, nat_eq, refl, slice_index_or, subst, suc, sym, take, true, zero, ℕ, ◌&&◌, ◌++◌, ◌+◌, ◌-◌, ◌<◌, ◌∙◌, ◌∷◌, ◌≡◌, ◌≢◌, ◌≤◌, ◌⊎◌}
+use Rattle.std.proofs.Common.{Bool, List, [], ap, arith, cond, count_by, false, inl, inr, length, map, nat_eq, refl, slice_index_or, subst, suc, sym}
+use Rattle.std.proofs.Common.{take, true, zero, ℕ, ◌&&◌, ◌++◌, ◌+◌, ◌-◌, ◌<◌, ◌∙◌, ◌∷◌, ◌≡◌, ◌≢◌, ◌≤◌, ◌⊎◌}
 use Rattle.std.proofs.lemmas.Bool.{both_ways, cases_Bool, cases_lt}
 use Rattle.std.proofs.lemmas.Bool.Decides.{nat_tests}
 use Rattle.std.proofs.lemmas.List.{length-append, length-map, take_more}
@@ -19,7 +20,9 @@ use Rattle.bk_tiling.specs.SquareGroups.{square_groups}
 use Rattle.bk_tiling.specs.Tiling.{IsOneOf, IsTiling, Tiling, covers}
 use Rattle.bk_tiling.specs.declared.Square.{Square}
 use Rattle.bk_net.proofs.Hanging.{numbers_from}
-use Rattle.bk_net.proofs.SidesFlow.{begins_below, below_from, place, row_is, square_at, the_one_flow}
+use Rattle.bk_net.proofs.GroupSquares.{begins_below, row_is, square_at}
+use Rattle.bk_net.proofs.NodeBelow.{below_from, place}
+use Rattle.bk_net.proofs.SidesFlow.{the_one_flow}
 use Rattle.bk_net.proofs.SmithLists.{HasGroup, count_at, group_wires}
 use Rattle.bk_net.specs.Diagram.{node_below, smith_diagram}
 use Rattle.bk_net.specs.GroupNumbers.{group_numbers, is_no_later}
@@ -37,7 +40,8 @@ wires_by-group : (below : Square → ℕ) (n : ℕ) (g : List Square) (numbers :
 wires_by-group below n [] numbers squares = refl
 wires_by-group below n (q ∷ g) numbers squares = ap (λ (ws : List (ℕ × ℕ)). (n, below q) ∷ ws) (wires_by-group below n g numbers squares)
 
-wires_by-groups : (below : Square → ℕ) (n : ℕ) (groups : List (List Square)) → group_wires below n groups ≡ wires_by below (numbers_from n groups) (row_of groups)
+wires_by-groups : (below : Square → ℕ) (n : ℕ) (groups : List (List Square))
+    → group_wires below n groups ≡ wires_by below (numbers_from n groups) (row_of groups)
 wires_by-groups below n [] = refl
 wires_by-groups below n (g ∷ groups) =
     ap (λ (ws : List (ℕ × ℕ)). map (λ q. (n, below q)) g ++ ws) (wires_by-groups below (n + 1) groups)
@@ -50,7 +54,8 @@ wires_by-at below (n ∷ numbers) [] i d q a b = absurd (omega arith)
 wires_by-at below (n ∷ numbers) (r ∷ squares) zero d q a b = refl
 wires_by-at below (n ∷ numbers) (r ∷ squares) (suc i) d q a b = wires_by-at below numbers squares i d q (omega arith) (omega arith)
 
-wires_by-length : (below : Square → ℕ) (numbers : List ℕ) (squares : List Square) → length numbers ≡ length squares → length (wires_by below numbers squares) ≡ length squares
+wires_by-length : (below : Square → ℕ) (numbers : List ℕ) (squares : List Square) → length numbers ≡ length squares
+    → length (wires_by below numbers squares) ≡ length squares
 wires_by-length below [] [] e = refl
 wires_by-length below [] (q ∷ squares) e = absurd (omega arith)
 wires_by-length below (n ∷ numbers) [] e = absurd (omega arith)
@@ -79,7 +84,8 @@ number_near n [] numbers m h = absurd (omega arith)
 number_near n (q ∷ g) numbers zero h = refl
 number_near n (q ∷ g) numbers (suc m) h = number_near n g numbers m (omega arith)
 
-number_far : (n : ℕ) (g : List Square) (numbers : List ℕ) (m : ℕ) → length g ≤ m → slice_index (map (λ q. n) g ++ numbers) m ≡ slice_index numbers (m - length g)
+number_far : (n : ℕ) (g : List Square) (numbers : List ℕ) (m : ℕ) → length g ≤ m
+    → slice_index (map (λ q. n) g ++ numbers) m ≡ slice_index numbers (m - length g)
 number_far n [] numbers m h = ap (slice_index numbers) (omega arith)
 number_far n (q ∷ g) numbers zero h = absurd (omega arith)
 number_far n (q ∷ g) numbers (suc m) h = number_far n g numbers m (omega arith) ∙ ap (slice_index numbers) (omega arith)
@@ -152,10 +158,13 @@ module _ (t : Tiling) (tiling : IsTiling t) (q : Square) (one : IsOneOf q t.squa
   at_bottom low = cases (place t tiling q one).found
     where
       none : count_by (under q) (row_of (square_groups t.squares)) ≡ 0
-      none = ap (count_by (under q)) (row_is t tiling) ∙ none_counted (under q) t.squares (λ r h e. omega (arith, under_level q r e, (within_of t tiling r h).bottom, side_of t tiling r h, low))
+      none = ap (count_by (under q)) (row_is t tiling)
+          ∙ none_counted (under q) t.squares (λ r h e. omega (arith, under_level q r e, (within_of t tiling r h).bottom, side_of t tiling r h, low))
 
-      cases : ((node_below (square_groups t.squares) q < length (square_groups t.squares)) × (0 < count_by (under q) (slice_index_or (square_groups t.squares) (node_below (square_groups t.squares) q) [])))
-          ⊎ ((node_below (square_groups t.squares) q ≡ length (square_groups t.squares)) × (count_by (under q) (row_of (square_groups t.squares)) ≡ 0)) → length (square_groups t.squares) ≡ node_below (square_groups t.squares) q
+      cases : ((node_below (square_groups t.squares) q < length (square_groups t.squares))
+          × (0 < count_by (under q) (slice_index_or (square_groups t.squares) (node_below (square_groups t.squares) q) [])))
+          ⊎ ((node_below (square_groups t.squares) q ≡ length (square_groups t.squares))
+          × (count_by (under q) (row_of (square_groups t.squares)) ≡ 0)) → length (square_groups t.squares) ≡ node_below (square_groups t.squares) q
       cases (inl h) = absurd (omega (arith, h.1, count_at (under q) (square_groups t.squares) (node_below (square_groups t.squares) q), none))
       cases (inr h) = sym h.0
 
@@ -191,13 +200,15 @@ module _ (t : Tiling) (tiling : IsTiling t) (q : Square) (one : IsOneOf q t.squa
         where
           -- a later one that comes no later than the cell would lie over it too
           no_later_one : (j : ℕ) → m < j → j < length t.squares → is_no_later q.x (q.y + q.s) (slice_index_or t.squares j q) ≡ true → ⊥
-          no_later_one j up end e = by (no_later_to q.x (q.y + q.s) (slice_index_or t.squares j q) e) (before_cases below.0 (slice_index_or t.squares j q) before)
+          no_later_one j up end e =
+              by (no_later_to q.x (q.y + q.s) (slice_index_or t.squares j q) e) (before_cases below.0 (slice_index_or t.squares j q) before)
             where
               before : comes_before below.0 (slice_index_or t.squares j q) ≡ true
               before = subst (λ (r : Square). comes_before r (slice_index_or t.squares j q) ≡ true) (at q) (later_place t.squares tiling.ordered m j q up end)
 
               by : ((slice_index_or t.squares j q).y < q.y + q.s) ⊎ (((slice_index_or t.squares j q).y ≡ q.y + q.s) × ((slice_index_or t.squares j q).x ≤ q.x))
-                  → ((below.0).y < (slice_index_or t.squares j q).y) ⊎ (((below.0).y ≡ (slice_index_or t.squares j q).y) × ((below.0).x < (slice_index_or t.squares j q).x)) → ⊥
+                  → ((below.0).y < (slice_index_or t.squares j q).y)
+                  ⊎ (((below.0).y ≡ (slice_index_or t.squares j q).y) × ((below.0).x < (slice_index_or t.squares j q).x)) → ⊥
               by (inl a) (inl b) = omega (arith, level)
               by (inl a) (inr b) = omega (arith, level, b.0)
               by (inr a) (inl b) = omega (arith, level, a.0)
@@ -205,9 +216,12 @@ module _ (t : Tiling) (tiling : IsTiling t) (q : Square) (one : IsOneOf q t.squa
                 where
                   same : below.0 ≡ slice_index_or t.squares j q
                   same = one_there t tiling below.0 (slice_index_or t.squares j q) (slice_index_or t.squares j q).x (q.y + q.s) below.1
-                      (covers_from (slice_index_or t.squares j q).x (q.y + q.s) below.0 (omega (arith, b.1)) (omega (arith, a.1, right)) (omega (arith, level)) (omega (arith, level, side_of t tiling below.0 below.1)))
+                      (covers_from (slice_index_or t.squares j q).x (q.y + q.s) below.0 (omega (arith, b.1)) (omega (arith, a.1, right))
+                      (omega (arith, level)) (omega (arith, level, side_of t tiling below.0 below.1)))
                       (one_at t.squares j q end)
-                      (covers_from (slice_index_or t.squares j q).x (q.y + q.s) (slice_index_or t.squares j q) (omega arith) (omega (arith, side_of t tiling (slice_index_or t.squares j q) (one_at t.squares j q end))) (omega (arith, a.0)) (omega (arith, a.0, side_of t tiling (slice_index_or t.squares j q) (one_at t.squares j q end))))
+                      (covers_from (slice_index_or t.squares j q).x (q.y + q.s) (slice_index_or t.squares j q) (omega arith)
+                      (omega (arith, side_of t tiling (slice_index_or t.squares j q) (one_at t.squares j q end))) (omega (arith, a.0))
+                      (omega (arith, a.0, side_of t tiling (slice_index_or t.squares j q) (one_at t.squares j q end))))
 
           last : m + 1 ≡ k
           last = by (cases_lt m k)
@@ -228,12 +242,14 @@ module _ (t : Tiling) (tiling : IsTiling t) (q : Square) (one : IsOneOf q t.squa
           g = place t tiling q one
 
           its_group : IsOneOf below.0 (slice_index_or (square_groups t.squares) h.place [])
-          its_group = subst (λ (r : Square). IsOneOf r (slice_index_or (square_groups t.squares) h.place [])) (ap (λ (l : List Square). slice_index_or l m q) (row_is t tiling) ∙ at q) h.is
+          its_group = subst (λ (r : Square). IsOneOf r (slice_index_or (square_groups t.squares) h.place []))
+              (ap (λ (l : List Square). slice_index_or l m q) (row_is t tiling) ∙ at q) h.is
 
           same_node : nat_eq (node_below (square_groups t.squares) q) h.place ≡ true
           same_node = by (cases_Bool (nat_eq (node_below (square_groups t.squares) q) h.place))
             where
-              by : (nat_eq (node_below (square_groups t.squares) q) h.place ≡ true) ⊎ (nat_eq (node_below (square_groups t.squares) q) h.place ≡ false) → nat_eq (node_below (square_groups t.squares) q) h.place ≡ true
+              by : (nat_eq (node_below (square_groups t.squares) q) h.place ≡ true)
+                  ⊎ (nat_eq (node_below (square_groups t.squares) q) h.place ≡ false) → nat_eq (node_below (square_groups t.squares) q) h.place ≡ true
               by (inl e) = e
               by (inr e) = absurd (omega (
                 arith,
@@ -261,7 +277,11 @@ module _ (t : Tiling) (tiling : IsTiling t) where
   pub wires_many : length (smith_diagram t).wires ≡ length t.squares
   wires_many = ap length wires_are ∙ wires_by-length (node_below (square_groups t.squares)) (group_numbers t.squares) t.squares numbers_many
 
-  pub wire_at : (i : ℕ) (q : Square) (d : ℕ × ℕ) → i < length t.squares → slice_index_or (smith_diagram t).wires i d ≡ (slice_index (group_numbers t.squares) i, node_below (square_groups t.squares) (slice_index_or t.squares i q))
+  pub wire_at : (i : ℕ) (q : Square) (d : ℕ × ℕ) → i < length t.squares
+      → slice_index_or (smith_diagram t).wires i d ≡ (
+        slice_index (group_numbers t.squares) i,
+        node_below (square_groups t.squares) (slice_index_or t.squares i q),
+      )
   wire_at i q d h = ap (λ (ws : List (ℕ × ℕ)). slice_index_or ws i d) wires_are
       ∙ wires_by-at (node_below (square_groups t.squares)) (group_numbers t.squares) t.squares i d q (omega (arith, numbers_many)) h
 
@@ -271,15 +291,19 @@ module _ (t : Tiling) (tiling : IsTiling t) where
     pub to_node : to < length (square_groups t.squares) + 1
     pub differ : from ≢ to
 
-  pub ends_at : (i : ℕ) (q : Square) → i < length t.squares → HasEnds (slice_index (group_numbers t.squares) i) (node_below (square_groups t.squares) (slice_index_or t.squares i q))
+  pub ends_at : (i : ℕ) (q : Square) → i < length t.squares
+      → HasEnds (slice_index (group_numbers t.squares) i) (node_below (square_groups t.squares) (slice_index_or t.squares i q))
   ends_at i q h = record { from_node = here.0; to_node = here.1; differ = here.2 }
     where
-      here : (slice_index (group_numbers t.squares) i < length (square_groups t.squares) + 1) × (node_below (square_groups t.squares) (slice_index_or t.squares i q) < length (square_groups t.squares) + 1)
+      here : (slice_index (group_numbers t.squares) i < length (square_groups t.squares) + 1)
+          × (node_below (square_groups t.squares) (slice_index_or t.squares i q) < length (square_groups t.squares) + 1)
           × (slice_index (group_numbers t.squares) i ≢ node_below (square_groups t.squares) (slice_index_or t.squares i q))
-      here = subst (λ (w : ℕ × ℕ). (w.0 < length (square_groups t.squares) + 1) × (w.1 < length (square_groups t.squares) + 1) × (w.0 ≢ w.1)) (wire_at i q (0, 0) h)
+      here = subst (λ (w : ℕ × ℕ). (w.0 < length (square_groups t.squares) + 1) × (w.1 < length (square_groups t.squares) + 1) × (w.0 ≢ w.1))
+          (wire_at i q (0, 0) h)
           ((the_one_flow t tiling).0.ends i (0, 0) (omega (arith, wires_many)))
 
   -- a further wire
   pub wires_more : (i : ℕ) (q : Square) (wires : List (ℕ × ℕ)) → i < length t.squares → wires ≡ take i (smith_diagram t).wires
-      → wires ++ (slice_index (group_numbers t.squares) i, node_below (square_groups t.squares) (slice_index_or t.squares i q)) ∷ [] ≡ take (i + 1) (smith_diagram t).wires
+      → wires ++ (slice_index (group_numbers t.squares) i, node_below (square_groups t.squares) (slice_index_or t.squares i q)) ∷ []
+      ≡ take (i + 1) (smith_diagram t).wires
   wires_more i q wires h e = (λ k. e k ++ sym (wire_at i q (0, 0) h) k ∷ []) ∙ sym (take_more (smith_diagram t).wires i (0, 0) (omega (arith, wires_many)))

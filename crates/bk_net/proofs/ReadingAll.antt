@@ -32,7 +32,8 @@ read [] p wires = line_at (ending_at p) (and_wire (last_wire p) wires)
 read (b ∷ bs) p wires = option_and_then (λ q. read bs q (and_wire (ended_wire p (kind_of b)) wires)) (next_place p (kind_of b))
 
 -- a further byte of a known kind
-pub read_next : (p q : Place) (k : Kind) (ws vs : List (ℕ × ℕ)) (b : ℕ) (bs : List ℕ) → kind_of b ≡ k → next_place p k ≡ Some q → and_wire (ended_wire p k) ws ≡ vs → read (b ∷ bs) p ws ≡ read bs q vs
+pub read_next : (p q : Place) (k : Kind) (ws vs : List (ℕ × ℕ)) (b : ℕ) (bs : List ℕ) → kind_of b ≡ k → next_place p k ≡ Some q
+    → and_wire (ended_wire p k) ws ≡ vs → read (b ∷ bs) p ws ≡ read bs q vs
 read_next p q k ws vs b bs kind next wires =
     ap (λ k. option_and_then (λ q. read bs q (and_wire (ended_wire p k) ws)) (next_place p k)) kind
     ∙ ap (option_and_then (λ q. read bs q (and_wire (ended_wire p k) ws))) next

@@ -2,7 +2,8 @@
 -- two ways.
 use Rattle.std.specs.List.{AllByRecursion, enumerate_from, flat_map, list_any, position_or_len}
 use Rattle.std.specs.Prelude.{pos, ℤ, ◌+ℤ◌, ◌-ℤ◌}
-use Rattle.std.proofs.Common.{Bool, Contains, List, Some, [], ap, arith, cond, count_by, false, inl, inr, length, map, nat_eq, not, refl, slice_get, slice_index_or, subst, suc, sym, true, zero, ℕ, ◌++◌, ◌+◌, ◌<◌, ◌||◌, ◌∙◌, ◌∷◌, ◌≡◌, ◌≤◌, ◌⊎◌}
+use Rattle.std.proofs.Common.{Bool, Contains, List, Some, [], ap, arith, cond, count_by, false, inl, inr, length, map, nat_eq, not, refl, slice_get}
+use Rattle.std.proofs.Common.{slice_index_or, subst, suc, sym, true, zero, ℕ, ◌++◌, ◌+◌, ◌<◌, ◌||◌, ◌∙◌, ◌∷◌, ◌≡◌, ◌≤◌, ◌⊎◌}
 use Rattle.std.proofs.lemmas.Bool.{cases_lt}
 use Rattle.std.proofs.lemmas.Bool.Decides.{nat_tests}
 use Rattle.std.proofs.lemmas.Int.{ints}
@@ -11,6 +12,7 @@ use Rattle.std.proofs.lemmas.List.Sums.{sum_by-append}
 use Rattle.std.proofs.lemmas.List.{length-map, map-append}
 use Rattle.bk_laws.proofs.Totals.{total}
 use Rattle.bk_laws.proofs.AllOfLists.{all_append}
+use Rattle.bk_laws.proofs.Tests.{far, near, shift}
 use Rattle.bk_tiling.proofs.Cells.{count-cons, covers_from, over_from}
 use Rattle.bk_tiling.proofs.Group.{covers_one}
 use Rattle.bk_tiling.proofs.Rows.{laid_sides}
@@ -37,7 +39,8 @@ outflow-append [] vs (c ∷ cs) ds v e = absurd (omega arith)
 outflow-append (w ∷ ws) vs [] ds v e = absurd (omega arith)
 outflow-append (w ∷ ws) vs (c ∷ cs) ds v e = omega (arith, ints, outflow-append ws vs cs ds v (omega arith))
 
-one_wire : (a b : Bool) (s m n : ℕ) (r : ℤ) → r ≡ pos (cond a m 0) -ℤ pos n → (cond a (pos s) (pos 0) -ℤ cond b (pos s) (pos 0)) +ℤ r ≡ pos (cond a (s + m) 0) -ℤ pos (cond b s 0 + n)
+one_wire : (a b : Bool) (s m n : ℕ) (r : ℤ) → r ≡ pos (cond a m 0) -ℤ pos n
+    → (cond a (pos s) (pos 0) -ℤ cond b (pos s) (pos 0)) +ℤ r ≡ pos (cond a (s + m) 0) -ℤ pos (cond b s 0 + n)
 one_wire true true s m n r e = omega (arith, ints)
 one_wire true false s m n r e = omega (arith, ints)
 one_wire false true s m n r e = omega (arith, ints)
@@ -47,18 +50,25 @@ no_wire : (a : Bool) → pos 0 ≡ pos (cond {A = ℕ} a 0 0) -ℤ pos 0
 no_wire true = omega (arith, ints)
 no_wire false = omega (arith, ints)
 
-group_outflow : (below : Square → ℕ) (n v : ℕ) (g : List Square) → outflow (map (λ q. (n, below q)) g) (map (λ q. pos q.s) g) v ≡ pos (cond (nat_eq n v) (total (laid_sides g)) 0) -ℤ pos (in_total below v g)
+group_outflow : (below : Square → ℕ) (n v : ℕ) (g : List Square) → outflow (map (λ q. (n, below q)) g) (map (λ q. pos q.s) g) v
+    ≡ pos (cond (nat_eq n v) (total (laid_sides g)) 0) -ℤ pos (in_total below v g)
 group_outflow below n v [] = no_wire (nat_eq n v)
-group_outflow below n v (q ∷ g) = one_wire (nat_eq n v) (nat_eq (below q) v) q.s (total (laid_sides g)) (in_total below v g) (outflow (map (λ q. (n, below q)) g) (map (λ q. pos q.s) g) v) (group_outflow below n v g)
+group_outflow below n v (q ∷ g) =
+    one_wire (nat_eq n v) (nat_eq (below q) v) q.s (total (laid_sides g)) (in_total below v g)
+    (outflow (map (λ q. (n, below q)) g) (map (λ q. pos q.s) g) v) (group_outflow below n v g)
 
 in_total-append : (below : Square → ℕ) (v : ℕ) (front back : List Square) → in_total below v (front ++ back) ≡ in_total below v front + in_total below v back
 in_total-append below v [] back = omega arith
 in_total-append below v (q ∷ front) back = omega (arith, in_total-append below v front back)
 
-pub all_outflow : (below : Square → ℕ) (n v : ℕ) (groups : List (List Square)) → outflow (group_wires below n groups) (map (λ q. pos q.s) (row_of groups)) v ≡ pos (out_total n v groups) -ℤ pos (in_total below v (row_of groups))
+pub all_outflow : (below : Square → ℕ) (n v : ℕ) (groups : List (List Square))
+    → outflow (group_wires below n groups) (map (λ q. pos q.s) (row_of groups)) v
+    ≡ pos (out_total n v groups) -ℤ pos (in_total below v (row_of groups))
 all_outflow below n v [] = omega (arith, ints)
-all_outflow below n v (g ∷ groups) = ap (λ (cs : List ℤ). outflow (map (λ q. (n, below q)) g ++ group_wires below (n + 1) groups) cs v) (map-append (λ q. pos q.s) g (row_of groups))
-    ∙ outflow-append (map (λ q. (n, below q)) g) (group_wires below (n + 1) groups) (map (λ q. pos q.s) g) (map (λ q. pos q.s) (row_of groups)) v (length-map g (λ q. (n, below q)) ∙ sym (length-map g (λ q. pos q.s)))
+all_outflow below n v (g ∷ groups) =
+    ap (λ (cs : List ℤ). outflow (map (λ q. (n, below q)) g ++ group_wires below (n + 1) groups) cs v) (map-append (λ q. pos q.s) g (row_of groups))
+    ∙ outflow-append (map (λ q. (n, below q)) g) (group_wires below (n + 1) groups) (map (λ q. pos q.s) g) (map (λ q. pos q.s) (row_of groups)) v
+    (length-map g (λ q. (n, below q)) ∙ sym (length-map g (λ q. pos q.s)))
     ∙ omega (arith, ints, group_outflow below n v g, all_outflow below (n + 1) v groups, in_total-append below v g (row_of groups))
 
 out_none : (n v : ℕ) (groups : List (List Square)) → v < n → out_total n v groups ≡ 0
@@ -83,11 +93,13 @@ out_at n v (suc k) (h ∷ groups) g e f = omega (arith, differ, out_at (n + 1) v
     differ = grind (arith, nat_tests)
 
 -- each current is what f gives for its wire
-pub group_currents : (below : Square → ℕ) (f : ℕ × ℕ → ℤ) (n : ℕ) (groups : List (List Square)) → ((k : ℕ) (g : List Square) → slice_get groups k ≡ Some g → (q : Square) → IsOneOf q g → pos q.s ≡ f (n + k, below q))
+pub group_currents : (below : Square → ℕ) (f : ℕ × ℕ → ℤ) (n : ℕ) (groups : List (List Square))
+    → ((k : ℕ) (g : List Square) → slice_get groups k ≡ Some g → (q : Square) → IsOneOf q g → pos q.s ≡ f (n + k, below q))
     → map (λ q. pos q.s) (row_of groups) ≡ map f (group_wires below n groups)
 group_currents below f n [] each = refl
 group_currents below f n (g ∷ groups) each = map-append (λ q. pos q.s) g (row_of groups)
-    ∙ (λ i. own g (λ q h. each 0 g refl q h ∙ ap (λ (v : ℕ). f (v, below q)) (omega arith)) i ++ group_currents below f (n + 1) groups (λ k h e q m. each (suc k) h e q m ∙ ap (λ (v : ℕ). f (v, below q)) (omega arith)) i)
+    ∙ (λ i. own g (λ q h. each 0 g refl q h ∙ ap (λ (v : ℕ). f (v, below q)) (omega arith)) i ++ group_currents below f (n + 1) groups
+    (λ k h e q m. each (suc k) h e q m ∙ ap (λ (v : ℕ). f (v, below q)) (omega arith)) i)
     ∙ sym (map-append f (map (λ q. (n, below q)) g) (group_wires below (n + 1) groups))
   where
     own : (g : List Square) → ((q : Square) → IsOneOf q g → pos q.s ≡ f (n, below q)) → map (λ q. pos q.s) g ≡ map f (map (λ q. (n, below q)) g)
@@ -95,9 +107,13 @@ group_currents below f n (g ∷ groups) each = map-append (λ q. pos q.s) g (row
     own (q ∷ g) each = λ i. each q (inl refl) i ∷ own g (λ r h. each r (inr h)) i
 
 -- each wire, and all of them
-pub wire_in : (below : Square → ℕ) (n : ℕ) (groups : List (List Square)) (k : ℕ) (g : List Square) (q : Square) → slice_get groups k ≡ Some g → IsOneOf q g → Contains (group_wires below n groups) (n + k, below q)
+pub wire_in : (below : Square → ℕ) (n : ℕ) (groups : List (List Square)) (k : ℕ) (g : List Square) (q : Square) → slice_get groups k ≡ Some g
+    → IsOneOf q g → Contains (group_wires below n groups) (n + k, below q)
 wire_in below n [] k g q e h = absurd (cc)
-wire_in below n (x ∷ groups) zero g q e h = Contains-append_left (map (λ q. (n, below q)) x) (group_wires below (n + 1) groups) (n + 0, below q) (own x (subst (IsOneOf q) (sym same) h))
+wire_in below n (x ∷ groups) zero g q e h = Contains-append_left (map (λ q. (n, below q)) x) (group_wires below (n + 1) groups) (
+  n + 0,
+  below q,
+) (own x (subst (IsOneOf q) (sym same) h))
   where
     same : x ≡ g
     same = cc
@@ -109,9 +125,15 @@ wire_in below n (x ∷ groups) zero g q e h = Contains-append_left (map (λ q. (
     own [] h = absurd h
     own (r ∷ g) (inl e) = (0, omega arith, λ i. (at i, below (sym e i)))
     own (r ∷ g) (inr h) = let c = own g h in (suc c.0, omega (arith, c.1), c.2)
-wire_in below n (x ∷ groups) (suc k) g q e h = Contains-append_right (map (λ q. (n, below q)) x) (group_wires below (n + 1) groups) (n + suc k, below q) (subst (λ (v : ℕ). Contains {X = ℕ × ℕ} (group_wires below (n + 1) groups) (v, below q)) (omega arith) (wire_in below (n + 1) groups k g q e h))
+wire_in below n (x ∷ groups) (suc k) g q e h = Contains-append_right (map (λ q. (n, below q)) x) (group_wires below (n + 1) groups) (
+  n + suc k,
+  below q,
+) (subst (λ (v : ℕ). Contains {X = ℕ × ℕ} (group_wires below (n + 1) groups) (v, below q)) (omega arith)
+    (wire_in below (n + 1) groups k g q e h))
 
-pub wires_each : (P : ℕ × ℕ → Type 0) (below : Square → ℕ) (n : ℕ) (groups : List (List Square)) → ((k : ℕ) (g : List Square) → slice_get groups k ≡ Some g → (q : Square) → IsOneOf q g → P (n + k, below q)) → AllByRecursion P (group_wires below n groups)
+pub wires_each : (P : ℕ × ℕ → Type 0) (below : Square → ℕ) (n : ℕ) (groups : List (List Square))
+    → ((k : ℕ) (g : List Square) → slice_get groups k ≡ Some g → (q : Square) → IsOneOf q g → P (n + k, below q))
+    → AllByRecursion P (group_wires below n groups)
 wires_each P below n [] each = tt
 wires_each P below n (g ∷ groups) each = all_append P (map (λ q. (n, below q)) g) (group_wires below (n + 1) groups)
     (own g (λ q h. subst (λ (v : ℕ). P (v, below q)) (omega arith) (each 0 g refl q h)))
@@ -123,7 +145,8 @@ wires_each P below n (g ∷ groups) each = all_append P (map (λ q. (n, below q)
 
 -- ---- the group in which a test passes
 
-pub count_row : (f : Square → Bool) (g : List Square) (groups : List (List Square)) → count_by f (row_of (g ∷ groups)) ≡ count_by f g + count_by f (row_of groups)
+pub count_row : (f : Square → Bool) (g : List Square) (groups : List (List Square))
+    → count_by f (row_of (g ∷ groups)) ≡ count_by f g + count_by f (row_of groups)
 count_row f g groups = sum_by-append (λ q. cond (f q) 1 0) g (row_of groups)
 
 pub count_at : (f : Square → Bool) (groups : List (List Square)) (v : ℕ) → count_by f (slice_index_or groups v []) ≤ count_by f (row_of groups)
@@ -135,7 +158,8 @@ any_count : (f : Square → Bool) (g : List Square) → ((list_any f g ≡ true)
 any_count f [] = inr (refl, refl)
 any_count f (q ∷ g) = cases (f q) refl (any_count f g)
   where
-    cases : (b : Bool) → f q ≡ b → ((list_any f g ≡ true) × (0 < count_by f g)) ⊎ ((list_any f g ≡ false) × (count_by f g ≡ 0)) → ((f q || list_any f g ≡ true) × (0 < count_by f (q ∷ g))) ⊎ ((f q || list_any f g ≡ false) × (count_by f (q ∷ g) ≡ 0))
+    cases : (b : Bool) → f q ≡ b → ((list_any f g ≡ true) × (0 < count_by f g)) ⊎ ((list_any f g ≡ false) × (count_by f g ≡ 0))
+        → ((f q || list_any f g ≡ true) × (0 < count_by f (q ∷ g))) ⊎ ((f q || list_any f g ≡ false) × (count_by f (q ∷ g) ≡ 0))
     cases true e rest = inl (ap (λ (c : Bool). c || list_any f g) e, omega (arith, count-cons f q g, ap (λ (c : Bool). cond {A = ℕ} c 1 0) e))
     cases false e (inl h) = inl (ap (λ (c : Bool). c || list_any f g) e ∙ h.0, omega (arith, count-cons f q g, h.1))
     cases false e (inr h) = inr (ap (λ (c : Bool). c || list_any f g) e ∙ h.0, omega (arith, count-cons f q g, h.1, ap (λ (c : Bool). cond {A = ℕ} c 1 0) e))
@@ -152,22 +176,15 @@ has_group f (g ∷ groups) once = cases (any_count f g) (has_group f groups)
     place_of : (b : Bool) → list_any f g ≡ b → cond (not b) (1 + position_or_len (list_any f) groups) 0 ≡ position_or_len (list_any f) (g ∷ groups)
     place_of b same = ap (λ (c : Bool). cond (not c) (1 + position_or_len (list_any f) groups) 0) (sym same)
 
-    shift : (a v : ℕ) → ◌≡◌ {A = ℕ} (cond (nat_eq (1 + a) (suc v)) 1 0) (cond (nat_eq a v) 1 0)
-    shift a v = grind (arith, nat_tests)
-
-    far : (v : ℕ) → ◌≡◌ {A = ℕ} (cond (nat_eq 0 (suc v)) 1 0) 0
-    far v = grind (arith, nat_tests)
-
-    near : (a : ℕ) → ◌≡◌ {A = ℕ} (cond (nat_eq (1 + a) 0) 1 0) 0
-    near a = grind (arith, nat_tests)
-
     at : (a : ℕ) → slice_index_or (g ∷ groups) (1 + a) [] ≡ slice_index_or groups a []
     at a = λ i. slice_index_or (g ∷ groups) (step i) []
       where
         step : 1 + a ≡ suc a
         step = omega arith
 
-    cases : ((list_any f g ≡ true) × (0 < count_by f g)) ⊎ ((list_any f g ≡ false) × (count_by f g ≡ 0)) → (count_by f (row_of groups) ≤ 1 → HasGroup f groups (position_or_len (list_any f) groups)) → HasGroup f (g ∷ groups) (position_or_len (list_any f) (g ∷ groups))
+    cases : ((list_any f g ≡ true) × (0 < count_by f g)) ⊎ ((list_any f g ≡ false) × (count_by f g ≡ 0))
+        → (count_by f (row_of groups) ≤ 1 → HasGroup f groups (position_or_len (list_any f) groups))
+        → HasGroup f (g ∷ groups) (position_or_len (list_any f) (g ∷ groups))
     cases (inl h) rest = subst (HasGroup f (g ∷ groups)) (place_of true h.0) (record { most = omega arith; found = inl (omega arith, h.1); counts = counts })
       where
         counts : (v : ℕ) → v < length (g ∷ groups) → count_by f (slice_index_or (g ∷ groups) v []) ≡ cond (nat_eq 0 v) 1 0
@@ -178,12 +195,17 @@ has_group f (g ∷ groups) once = cases (any_count f g) (has_group f groups)
         r : HasGroup f groups (position_or_len (list_any f) groups)
         r = rest (omega (arith, count_row f g groups))
 
-        found : ((position_or_len (list_any f) groups < length groups) × (0 < count_by f (slice_index_or groups (position_or_len (list_any f) groups) []))) ⊎ ((position_or_len (list_any f) groups ≡ length groups) × (count_by f (row_of groups) ≡ 0))
-            → ((1 + position_or_len (list_any f) groups < length (g ∷ groups)) × (0 < count_by f (slice_index_or (g ∷ groups) (1 + position_or_len (list_any f) groups) []))) ⊎ ((1 + position_or_len (list_any f) groups ≡ length (g ∷ groups)) × (count_by f (row_of (g ∷ groups)) ≡ 0))
+        found : ((position_or_len (list_any f) groups < length groups)
+            × (0 < count_by f (slice_index_or groups (position_or_len (list_any f) groups) [])))
+            ⊎ ((position_or_len (list_any f) groups ≡ length groups) × (count_by f (row_of groups) ≡ 0))
+            → ((1 + position_or_len (list_any f) groups < length (g ∷ groups))
+            × (0 < count_by f (slice_index_or (g ∷ groups) (1 + position_or_len (list_any f) groups) [])))
+            ⊎ ((1 + position_or_len (list_any f) groups ≡ length (g ∷ groups)) × (count_by f (row_of (g ∷ groups)) ≡ 0))
         found (inl k) = inl (omega (arith, k.0), subst (λ (l : List Square). 0 < count_by f l) (sym (at (position_or_len (list_any f) groups))) k.1)
         found (inr k) = inr (omega (arith, k.0), omega (arith, count_row f g groups, h.1, k.1))
 
-        counts : (v : ℕ) → v < length (g ∷ groups) → count_by f (slice_index_or (g ∷ groups) v []) ≡ cond (nat_eq (1 + position_or_len (list_any f) groups) v) 1 0
+        counts : (v : ℕ) → v < length (g ∷ groups)
+            → count_by f (slice_index_or (g ∷ groups) v []) ≡ cond (nat_eq (1 + position_or_len (list_any f) groups) v) 1 0
         counts zero l = omega (arith, h.1, near (position_or_len (list_any f) groups))
         counts (suc v) l = omega (arith, r.counts v (omega arith), shift (position_or_len (list_any f) groups) v)
 
@@ -208,7 +230,13 @@ all_cols-one n a j (q ∷ squares) = omega (arith, count-cons (covers a j) q squ
 
 pub all_cols-are : (n a j : ℕ) (squares : List Square) → ((c : ℕ) → a ≤ c → c < a + n → count_by (covers c j) squares ≡ 1) → all_cols n a j squares ≡ n
 all_cols-are zero a j squares once = all_cols-none a j squares
-all_cols-are (suc n) a j squares once = omega (arith, all_cols-one n a j squares, once a (omega arith) (omega arith), all_cols-are n (a + 1) j squares (λ c lo hi. once c (omega arith) (omega arith)))
+all_cols-are (suc n) a j squares once =
+    omega (
+      arith,
+      all_cols-one n a j squares,
+      once a (omega arith) (omega arith),
+      all_cols-are n (a + 1) j squares (λ c lo hi. once c (omega arith) (omega arith)),
+    )
 
 no_cell : (c j : ℕ) (q : Square) → (covers c j q ≡ true → ⊥) → ◌≡◌ {A = ℕ} (cond (covers c j q) 1 0) 0
 no_cell c j q h = by (covers c j q) refl
@@ -219,13 +247,15 @@ no_cell c j q h = by (covers c j q) refl
 
 pub cols_none : (n a j : ℕ) (q : Square) → ((c : ℕ) → a ≤ c → c < a + n → covers c j q ≡ true → ⊥) → cols n a j q ≡ 0
 cols_none zero a j q none = refl
-cols_none (suc n) a j q none = omega (arith, no_cell a j q (none a (omega arith) (omega arith)), cols_none n (a + 1) j q (λ c lo hi. none c (omega arith) (omega arith)))
+cols_none (suc n) a j q none =
+    omega (arith, no_cell a j q (none a (omega arith) (omega arith)), cols_none n (a + 1) j q (λ c lo hi. none c (omega arith) (omega arith)))
 
 cols_from : (n a j : ℕ) (q : Square) → q.y ≤ j → j < q.y + q.s → q.x ≤ a → a ≤ q.x + q.s → q.x + q.s ≤ a + n → a + cols n a j q ≡ q.x + q.s
 cols_from zero a j q top low lo mid hi = omega arith
 cols_from (suc n) a j q top low lo mid hi = cases (cases_lt a (q.x + q.s)) (cols_from n (a + 1) j q top low)
   where
-    cases : (a < q.x + q.s) ⊎ (q.x + q.s ≤ a) → (q.x ≤ a + 1 → a + 1 ≤ q.x + q.s → q.x + q.s ≤ a + 1 + n → a + 1 + cols n (a + 1) j q ≡ q.x + q.s) → a + (cond (covers a j q) 1 0 + cols n (a + 1) j q) ≡ q.x + q.s
+    cases : (a < q.x + q.s) ⊎ (q.x + q.s ≤ a) → (q.x ≤ a + 1 → a + 1 ≤ q.x + q.s → q.x + q.s ≤ a + 1 + n → a + 1 + cols n (a + 1) j q ≡ q.x + q.s)
+        → a + (cond (covers a j q) 1 0 + cols n (a + 1) j q) ≡ q.x + q.s
     cases (inl h) rest = omega (arith, covers_one a j q (covers_from a j q lo h top low), rest (omega arith) (omega arith) (omega arith))
     cases (inr h) rest = omega (
       arith,
@@ -241,10 +271,12 @@ cols_all (suc n) a j q top low lo hi = cases (cases_lt a q.x) (cols_all n (a + 1
     cases (inl h) rest = omega (arith, no_cell a j q (λ e. omega (arith, (over_from a j q e).left)), rest (omega arith) (omega arith))
     cases (inr h) rest = omega (arith, cols_from (suc n) a j q top low (omega arith) (omega arith) hi)
 
-pub in_is_cols : (below : Square → ℕ) (v n a j : ℕ) (squares : List Square) → ((q : Square) → IsOneOf q squares → cond (nat_eq (below q) v) q.s 0 ≡ cols n a j q) → in_total below v squares ≡ all_cols n a j squares
+pub in_is_cols : (below : Square → ℕ) (v n a j : ℕ) (squares : List Square)
+    → ((q : Square) → IsOneOf q squares → cond (nat_eq (below q) v) q.s 0 ≡ cols n a j q) → in_total below v squares ≡ all_cols n a j squares
 in_is_cols below v n a j [] each = refl
 in_is_cols below v n a j (q ∷ squares) each = omega (arith, each q (inl refl), in_is_cols below v n a j squares (λ r h. each r (inr h)))
 
-pub in_is_none : (below : Square → ℕ) (v : ℕ) (squares : List Square) → ((q : Square) → IsOneOf q squares → cond (nat_eq (below q) v) q.s 0 ≡ 0) → in_total below v squares ≡ 0
+pub in_is_none : (below : Square → ℕ) (v : ℕ) (squares : List Square) → ((q : Square) → IsOneOf q squares → cond (nat_eq (below q) v) q.s 0 ≡ 0)
+    → in_total below v squares ≡ 0
 in_is_none below v [] each = refl
 in_is_none below v (q ∷ squares) each = omega (arith, each q (inl refl), in_is_none below v squares (λ r h. each r (inr h)))

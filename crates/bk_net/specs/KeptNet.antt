@@ -1,4 +1,5 @@
 -- Which nets a `Net` of the code can be: those of at most 201 nodes and 200 wires.
+-- Example (FlowExamples): two nodes and one wire.
 use Rattle.std.specs.Prelude.{length, ◌≤◌}
 use Rattle.bk_net.specs.Net.{IsNet, Net}
 

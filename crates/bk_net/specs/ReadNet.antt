@@ -1,4 +1,5 @@
 -- What is read of a network line, and when it is refused.
+-- Example (FlowExamples): of the wires 0-1 and 1-1 between two nodes the second is the first at fault.
 use Rattle.std.specs.Prelude.{HoldsAt, List, length, ℕ, ◌+◌, ◌<◌, ◌≡◌, ◌≤◌}
 use Rattle.bk_net.specs.KeptNet.{IsKeptNet}
 use Rattle.bk_net.specs.NetLine.{IsNetLine, IsNoNetLine, Item, NetLine, Skip}

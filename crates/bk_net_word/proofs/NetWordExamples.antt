@@ -14,7 +14,8 @@ abbrev own_word : Word
 own_word = record { count = 2; signs = Above ∷ [] } ∷ record { count = 1; signs = Under ∷ [] } ∷ even_above ∷ record { count = 1; signs = Even ∷ [] } ∷ []
 
 abbrev net_word : Word
-net_word = record { count = 2; signs = Above ∷ [] } ∷ record { count = 1; signs = Above ∷ [] } ∷ record { count = 2; signs = Under ∷ Even ∷ [] } ∷ record { count = 1; signs = Even ∷ [] } ∷ []
+net_word = record { count = 2; signs = Above ∷ [] } ∷ record { count = 1; signs = Above ∷ [] } ∷ record { count = 2; signs = Under ∷ Even ∷ [] } ∷
+    record { count = 1; signs = Even ∷ [] } ∷ []
 
 breaks_the_rule : BeginsNoEvenAbove even_above → ⊥
 breaks_the_rule keeps = keeps (omega arith) refl refl

@@ -14,7 +14,8 @@ use Rattle.bk_reversed_cuts.proofs.SoundWords.{a_simple_tiling_is_sound_around, 
 use Rattle.bk_reversed_cuts.specs.Corners.{HasSoundWordByRuleR, IsSoundAround}
 use Rattle.bk_signed_word.proofs.SignedWords.{a_word_up_to_reversals_is_signed}
 use Rattle.bk_signed_word.specs.SignedWord.{IsSignedWordOf}
-use Rattle.bk_net_word.specs.NetWord.{AFreeBarrenWordIsNetBarren, ASimpleTilingHasANetWord, ASimpleTilingHasAPositiveWord, EvenThenAboveIsNetBarren, IsNetWordOf, WhatGoesOnIsNetBarren}
+use Rattle.bk_net_word.specs.NetWord.{AFreeBarrenWordIsNetBarren, ASimpleTilingHasANetWord, ASimpleTilingHasAPositiveWord, EvenThenAboveIsNetBarren}
+use Rattle.bk_net_word.specs.NetWord.{IsNetWordOf, WhatGoesOnIsNetBarren}
 
 pub a_free_barren_word_is_net_barren : AFreeBarrenWordIsNetBarren
 a_free_barren_word_is_net_barren n front barren l w rest sound word keeps is = barren l w rest sound word is

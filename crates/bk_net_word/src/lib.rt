@@ -1,7 +1,8 @@
 //! The words that a search by nets has to meet, and what it may pass over.
 #![tactic(auto)]
 
-ghost use Rattle.bk_net_word.specs.NetWord.{AFreeBarrenWordIsNetBarren, ASimpleTilingHasANetWord, ASimpleTilingHasAPositiveWord, EvenThenAboveIsNetBarren, WhatGoesOnIsNetBarren};
+ghost use Rattle.bk_net_word.specs.NetWord.{AFreeBarrenWordIsNetBarren, ASimpleTilingHasANetWord, ASimpleTilingHasAPositiveWord};
+ghost use Rattle.bk_net_word.specs.NetWord.{EvenThenAboveIsNetBarren, WhatGoesOnIsNetBarren};
 
 /// No net word of a sound layout begins with what no word of a sound layout begins with.
 pub fn a_free_barren_word_is_net_barren()

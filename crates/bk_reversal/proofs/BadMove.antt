@@ -1,5 +1,6 @@
 -- A later move that begins with even and above: its first square may be reversed.
-use Rattle.std.proofs.Common.{Bool, List, Some, [], ap, arith, cond, false, inl, inr, length, map, nat_eq, refl, slice_get, subst, suc, sym, true, ℕ, ◌++◌, ◌+◌, ◌<◌, ◌∙◌, ◌∷◌, ◌≡◌, ◌≤◌, ◌⊎◌}
+use Rattle.std.proofs.Common.{Bool, List, Some, [], ap, arith, cond, false, inl, inr, length, map, nat_eq, refl, slice_get, subst, suc, sym, true, ℕ}
+use Rattle.std.proofs.Common.{◌++◌, ◌+◌, ◌<◌, ◌∙◌, ◌∷◌, ◌≡◌, ◌≤◌, ◌⊎◌}
 use Rattle.std.proofs.lemmas.Bool.{both_ways}
 use Rattle.std.proofs.lemmas.List.{length-map}
 use Rattle.bk_laws.proofs.Occurrences.{times, times-append, times_in, times_in-append}
@@ -7,7 +8,8 @@ use Rattle.bk_word.specs.Outline.{Outline, valley_place}
 use Rattle.bk_word.specs.declared.Sign.{Sign}
 use Rattle.bk_word.specs.declared.Sign.TheVariants.{Above, Even, Under}
 use Rattle.bk_word_net.proofs.ValleyCut.{AllPart, AtValley}
-use Rattle.bk_layout.proofs.Chains.{Chain, Known, Meet, Run, chain_behind, chain_known, even_neighbours, known_first, known_last, last_append, last_from, singles}
+use Rattle.bk_layout.proofs.Chains.{Chain, Known, Meet, Run, chain_behind, chain_known, even_neighbours, known_first, known_last, last_append}
+use Rattle.bk_layout.proofs.Chains.{last_from, singles}
 use Rattle.bk_layout.proofs.Counting.{none_for, one_for, same_or_other}
 use Rattle.bk_layout.proofs.SquareLists.{lists_at, sq_of}
 use Rattle.bk_layout.proofs.Sweep.{State, ValleyAt, ending_times}

@@ -1,7 +1,8 @@
 -- The layout of five squares fits.
 use Rattle.std.proofs.Common.{None, Option, Some, arith, false, length, refl, slice_get, subst, suc, true, zero, ℕ, ◌<◌, ◌≡◌, ◌≤◌}
 use Rattle.bk_layout.specs.Layout.{AreLines, AreLists, AreNeighbours, AreNodes, DoLinesGoOn, Fits, IsFirst, IsLast}
-use Rattle.bk_reversal.proofs.ReversalExamples.{above_five, below_five, can_reverse_five, ending_five, goes_left_five, goes_right_five, hanging_five, layout_five, left_five, right_five}
+use Rattle.bk_reversal.proofs.ReversalExamples.{above_five, below_five, can_reverse_five, ending_five, goes_left_five, goes_right_five, hanging_five}
+use Rattle.bk_reversal.proofs.ReversalExamples.{layout_five, left_five, right_five}
 use Rattle.bk_reversal.proofs.ReversedFits.{fits_then}
 use Rattle.bk_reversal.specs.Reversal.{reversed}
 

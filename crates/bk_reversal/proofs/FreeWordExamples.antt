@@ -22,7 +22,13 @@ free_33x32 = move 2 (Above ∷ []) ∷ move 2 (Under ∷ Under ∷ []) ∷ move 
 
 complete : IsComplete free_33x32
 complete = record {
-  legal = (record { some = omega arith; signs = refl }, (record { some = omega arith; signs = refl }, (record { some = omega arith; signs = refl }, (record { some = omega arith; signs = refl }, (record { some = omega arith; signs = refl }, tt)))));
+  legal = (
+    record { some = omega arith; signs = refl },
+    (
+      record { some = omega arith; signs = refl },
+      (record { some = omega arith; signs = refl }, (record { some = omega arith; signs = refl }, (record { some = omega arith; signs = refl }, tt))),
+    ),
+  );
   some = omega arith;
   one = refl;
 }

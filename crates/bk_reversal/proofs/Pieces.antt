@@ -1,5 +1,6 @@
 -- Lists without their first or last, or with one more at an end, and functions changed at one number.
-use Rattle.std.proofs.Common.{Bool, List, Some, [], ap, arith, cond, false, inl, inr, length, nat_eq, refl, slice_get, suc, sym, true, zero, ℕ, ◌++◌, ◌+◌, ◌<◌, ◌∙◌, ◌∷◌, ◌≡◌, ◌≤◌, ◌⊎◌}
+use Rattle.std.proofs.Common.{Bool, List, Some, [], ap, arith, cond, false, inl, inr, length, nat_eq, refl, slice_get, suc, sym, true, zero, ℕ, ◌++◌}
+use Rattle.std.proofs.Common.{◌+◌, ◌<◌, ◌∙◌, ◌∷◌, ◌≡◌, ◌≤◌, ◌⊎◌}
 use Rattle.std.proofs.lemmas.Bool.Decides.{nat_tests}
 use Rattle.bk_laws.proofs.Occurrences.{times, times-append}
 use Rattle.bk_layout.proofs.Counting.{got_same, got_times, none_for, one_for, same_or_other, times_got, times_once}

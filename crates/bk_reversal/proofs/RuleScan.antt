@@ -1,6 +1,7 @@
 -- A trace keeps rule R, or has a move that doesn't; then a layout with one more square reversed has a lesser word.
 use Rattle.std.specs.List.{AllByRecursion}
-use Rattle.std.proofs.Common.{Bool, List, Some, [], ap, arith, false, inl, inr, length, refl, slice_get, subst, suc, sym, true, zero, ℕ, ◌+◌, ◌<◌, ◌∙◌, ◌∷◌, ◌≡◌, ◌⊎◌}
+use Rattle.std.proofs.Common.{Bool, List, Some, [], ap, arith, false, inl, inr, length, refl, slice_get, subst, suc, sym, true, zero, ℕ, ◌+◌, ◌<◌}
+use Rattle.std.proofs.Common.{◌∙◌, ◌∷◌, ◌≡◌, ◌⊎◌}
 use Rattle.bk_word.specs.Outline.{Outline, has_left_wall, open_side, start}
 use Rattle.bk_word.specs.Play.{after_move}
 use Rattle.bk_word.specs.Word.{Move, Word, order_of}
@@ -162,7 +163,8 @@ module _ (P : Layout → Type 0) (keep : (l : Layout) → Fits l → P l → (q 
                   < code (of.squares + 4) (of.squares + (of.squares + of.squares)) (digits (mv ∷ w))
               less = code_less (of.squares + 4) (of.squares + (of.squares + of.squares)) (digits (x.first ∷ x.word)) (digits (mv ∷ w))
                   (omega arith) (are_digits (of.squares + 4) (x.first ∷ x.word) (omega arith) (omega (arith, many)))
-                  (omega (arith, few_digits start (mv ∷ w) word_is.complete.legal, word_is.order, same.squares)) (less_digits (x.first ∷ x.word) (mv ∷ w) x.less)
+                  (omega (arith, few_digits start (mv ∷ w) word_is.complete.legal, word_is.order, same.squares))
+                  (less_digits (x.first ∷ x.word) (mv ∷ w) x.less)
 
   -- each broken word has a lesser one, so the descent ends at a word that keeps the rule
   pub a_word_that_keeps : (l : Layout) → Fits l → P l → HasWordThatKeeps P l

@@ -1,6 +1,7 @@
 -- Lists of the values of a function at numbers in a row.
 use Rattle.std.specs.List.{AllByRecursion}
-use Rattle.std.proofs.Common.{Bool, List, Some, [], ap, arith, cond, inl, inr, length, map, refl, slice_get, slice_index_or, subst, suc, zero, ℕ, ◌+◌, ◌<◌, ◌∙◌, ◌∷◌, ◌≡◌, ◌≤◌, ◌⊎◌}
+use Rattle.std.proofs.Common.{Bool, List, Some, [], ap, arith, cond, inl, inr, length, map, refl, slice_get, slice_index_or, subst, suc, zero, ℕ}
+use Rattle.std.proofs.Common.{◌+◌, ◌<◌, ◌∙◌, ◌∷◌, ◌≡◌, ◌≤◌, ◌⊎◌}
 use Rattle.std.proofs.lemmas.Bool.{cases_lt}
 use Rattle.bk_word.specs.Play.{numbers_from}
 use Rattle.bk_signed_word.specs.SignedWord.{with_reversed}

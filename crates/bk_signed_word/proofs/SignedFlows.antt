@@ -1,6 +1,7 @@
 -- The flow of a tiling's Smith diagram, renumbered and with the signs of reversed squares, is that of its signed word's net.
 use Rattle.std.specs.Prelude.{option_map, pos, ℤ, ◌-ℤ◌}
-use Rattle.std.proofs.Common.{Bool, List, Option, Some, ap, arith, cond, false, inl, inr, length, map, refl, slice_get, slice_index_or, subst, sym, true, ℕ, ◌+◌, ◌-◌, ◌<◌, ◌==◌, ◌∙◌, ◌≡◌, ◌≤◌, ◌⊎◌}
+use Rattle.std.proofs.Common.{Bool, List, Option, Some, ap, arith, cond, false, inl, inr, length, map, refl, slice_get, slice_index_or, subst, sym}
+use Rattle.std.proofs.Common.{true, ℕ, ◌+◌, ◌-◌, ◌<◌, ◌==◌, ◌∙◌, ◌≡◌, ◌≤◌, ◌⊎◌}
 use Rattle.std.proofs.lemmas.Bool.{cases_lt}
 use Rattle.std.proofs.lemmas.Bool.Decides.{nat_tests}
 use Rattle.std.proofs.lemmas.Int.{ints}

@@ -1,5 +1,6 @@
 -- A word of a layout that is a tiling's up to reversed squares is a signed word of the tiling.
-use Rattle.std.proofs.Common.{Bool, Some, ap, arith, cond, false, inl, inr, length, map, refl, slice_get, subst, suc, sym, true, zero, ℕ, ◌+◌, ◌<◌, ◌∙◌, ◌≡◌, ◌≤◌, ◌⊎◌}
+use Rattle.std.proofs.Common.{Bool, Some, ap, arith, cond, false, inl, inr, length, map, refl, slice_get, subst, suc, sym, true, zero, ℕ, ◌+◌, ◌<◌}
+use Rattle.std.proofs.Common.{◌∙◌, ◌≡◌, ◌≤◌, ◌⊎◌}
 use Rattle.std.proofs.lemmas.Option.{slice_get_within}
 use Rattle.bk_tiling.specs.Tiling.{IsTiling, Tiling}
 use Rattle.bk_net.specs.Diagram.{smith_diagram}
@@ -24,7 +25,8 @@ use Rattle.bk_reversal.specs.Reversal.{IsUpToReversals}
 use Rattle.bk_signed_word.proofs.FirstMoves.{first_count}
 use Rattle.bk_signed_word.proofs.NumberedLists.{numbers_length, reversed_numbers}
 use Rattle.bk_signed_word.proofs.KnownLines.{as_many_sides, known_lines}
-use Rattle.bk_signed_word.specs.SignedWord.{ATilingHasAPositiveWord, AWordUpToReversalsIsSigned, IsSignedWordOf, left_edge, line_column, reversed_net, right_edge, with_reversed}
+use Rattle.bk_signed_word.specs.SignedWord.{ATilingHasAPositiveWord, AWordUpToReversalsIsSigned, IsSignedWordOf, left_edge, line_column}
+use Rattle.bk_signed_word.specs.SignedWord.{reversed_net, right_edge, with_reversed}
 
 module _ (t : Tiling) (tiling : IsTiling t) (m : Layout) (same : IsUpToReversals (layout_of t) m) where
   turned_or_not : (q : ℕ) → (same.turned q ≡ true) ⊎ (same.turned q ≡ false)

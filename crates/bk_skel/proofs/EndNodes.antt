@@ -1,6 +1,7 @@
 -- The nodes at which squares end, found from the last node to the first.
 use Rattle.std.specs.List.{concat, list_any}
-use Rattle.std.proofs.Common.{Bool, List, [], ap, arith, cond, drop, false, length, map, nat_eq, not, refl, slice_index, slice_range, suc, sum, sym, take, true, zero, ℕ, ◌++◌, ◌+◌, ◌-◌, ◌<◌, ◌∙◌, ◌∷◌, ◌≡◌}
+use Rattle.std.proofs.Common.{Bool, List, [], ap, arith, cond, drop, false, length, map, nat_eq, not, refl, slice_index, slice_range, suc, sum, sym}
+use Rattle.std.proofs.Common.{take, true, zero, ℕ, ◌++◌, ◌+◌, ◌-◌, ◌<◌, ◌∙◌, ◌∷◌, ◌≡◌}
 use Rattle.std.proofs.lemmas.List.{append_assoc, drop_at, length-append, length-map, map-append, take_at}
 use Rattle.std.proofs.lemmas.List.Sums.{sum_by-append, sum_by-cons}
 use Rattle.bk_word_net.proofs.BottomChain.{concat-append}

@@ -1,7 +1,8 @@
 -- The placing of a whole word, move by move: what it has come to after some moves, and what this says of the tilings that
 -- have the word with these sides.
 use Rattle.std.specs.List.{AllByRecursion, concat}
-use Rattle.std.proofs.Common.{List, Some, [], ap, append_assoc, arith, drop, length, refl, slice_get, subst, suc, sum, sym, take, zero, ℕ, ◌*◌, ◌++◌, ◌+◌, ◌<◌, ◌∙◌, ◌∷◌, ◌≡◌, ◌≤◌}
+use Rattle.std.proofs.Common.{List, Some, [], ap, append_assoc, arith, drop, length, refl, slice_get, subst, suc, sum, sym, take, zero, ℕ, ◌*◌, ◌++◌}
+use Rattle.std.proofs.Common.{◌+◌, ◌<◌, ◌∙◌, ◌∷◌, ◌≡◌, ◌≤◌}
 use Rattle.std.proofs.lemmas.List.Sums.{sum_by-cons}
 use Rattle.std.proofs.lemmas.List.{append-nil, drop-drop, length-append, length-map, length-take-le, map-append, take-append-drop}
 use Rattle.bk_laws.proofs.Totals.{sum_is_total, total}

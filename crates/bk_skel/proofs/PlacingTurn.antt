@@ -1,7 +1,8 @@
 -- One move of the placing, seen in the lists that the code keeps: the numbers of the valley's squares, the gap over which
 -- they stand, and the window of numbers whose bottoms the signs compare.
 use Rattle.std.specs.List.{AllByRecursion, concat, splice}
-use Rattle.std.proofs.Common.{List, Some, [], ap, arith, drop, false, inl, inr, length, map, refl, slice_get, slice_index_or, subst, suc, sum, sym, take, zero, ℕ, ◌*◌, ◌++◌, ◌+◌, ◌-◌, ◌<◌, ◌==◌, ◌^◌, ◌∙◌, ◌∷◌, ◌≡◌, ◌≤◌, ◌⊎◌}
+use Rattle.std.proofs.Common.{List, Some, [], ap, arith, drop, false, inl, inr, length, map, refl, slice_get, slice_index_or, subst, suc, sum, sym}
+use Rattle.std.proofs.Common.{take, zero, ℕ, ◌*◌, ◌++◌, ◌+◌, ◌-◌, ◌<◌, ◌==◌, ◌^◌, ◌∙◌, ◌∷◌, ◌≡◌, ◌≤◌, ◌⊎◌}
 use Rattle.std.proofs.lemmas.Bool.Decides.{nat_tests}
 use Rattle.std.proofs.lemmas.List.Sums.{sum_by-cons}
 use Rattle.std.proofs.lemmas.List.{append_assoc, drop_at, length-append, length-map, map-append, take_at}

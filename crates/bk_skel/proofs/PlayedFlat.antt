@@ -1,6 +1,7 @@
 -- The flat lists of an outline, where a move is played and where it is taken back.
 use Rattle.std.specs.List.{concat, splice}
-use Rattle.std.proofs.Common.{List, [], ap, arith, cond, count_by, drop, filter, length, map, max, refl, slice_range, sym, take, ℕ, ◌++◌, ◌+◌, ◌-◌, ◌∙◌, ◌∷◌, ◌≡◌}
+use Rattle.std.proofs.Common.{List, [], ap, arith, cond, count_by, drop, filter, length, map, max, refl, slice_range, sym, take, ℕ, ◌++◌, ◌+◌, ◌-◌}
+use Rattle.std.proofs.Common.{◌∙◌, ◌∷◌, ◌≡◌}
 use Rattle.std.proofs.lemmas.List.{append-nil, append_assoc, drop_at, length-append, length-map, map-append, take_at}
 use Rattle.std.proofs.lemmas.List.Sums.{length-filter, sum_by-cons}
 use Rattle.bk_word.proofs.PlayLists.{numbers-length}

@@ -1,5 +1,6 @@
 -- Lists in which some items give way to others.
-use Rattle.std.proofs.Common.{List, [], ap, append-nil, drop_of_length-le, take_all, arith, drop, length, length-set, refl, set, suc, sym, take, zero, ℕ, ◌++◌, ◌+◌, ◌-◌, ◌<◌, ◌∙◌, ◌∷◌, ◌≡◌, ◌≤◌}
+use Rattle.std.proofs.Common.{List, [], ap, append-nil, drop_of_length-le, take_all, arith, drop, length, length-set, refl, set, suc, sym, take}
+use Rattle.std.proofs.Common.{zero, ℕ, ◌++◌, ◌+◌, ◌-◌, ◌<◌, ◌∙◌, ◌∷◌, ◌≡◌, ◌≤◌}
 use Rattle.std.specs.List.{copy_within, refill}
 use Rattle.bk_word.specs.Play.{numbers_from}
 use Rattle.std.proofs.lemmas.List.{drop-take, drop_at, length-drop, length-take-le}

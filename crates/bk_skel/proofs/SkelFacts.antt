@@ -1,6 +1,7 @@
 -- What is known of what a skeleton stores.
 use Rattle.std.specs.List.{concat, splice}
-use Rattle.std.proofs.Common.{List, [], ap, arith, count_by, filter, inl, inr, length, map, refl, replicate, slice_range, subst, sum, sym, ℕ, ◌++◌, ◌+◌, ◌-◌, ◌∙◌, ◌∷◌, ◌≡◌, ◌≤◌, ◌⊎◌}
+use Rattle.std.proofs.Common.{List, [], ap, arith, count_by, filter, inl, inr, length, map, refl, replicate, slice_range, subst, sum, sym, ℕ, ◌++◌}
+use Rattle.std.proofs.Common.{◌+◌, ◌-◌, ◌∙◌, ◌∷◌, ◌≡◌, ◌≤◌, ◌⊎◌}
 use Rattle.std.proofs.lemmas.List.Sums.{length-filter}
 use Rattle.std.proofs.lemmas.List.{length-append, length-map, length-replicate}
 use Rattle.bk_word.proofs.StoredBytes.{order_one}
@@ -11,7 +12,8 @@ use Rattle.bk_word.specs.declared.Sign.{Sign}
 use Rattle.bk_word.specs.declared.TheConstants.{LARGEST_ORDER}
 use Rattle.bk_word_net.proofs.MovedParts.{many_between, many_segments, many_signs, segments_after}
 use Rattle.bk_skel.proofs.PlayedFlat.{ends_were, shows_move}
-use Rattle.bk_word_net.proofs.Shape.{AllFilled, Filled, Shaped, filled_many, filled_move, filled_parts, hung_many, joined_many, shaped_move, shaped_moves, shaped_start, valley_in}
+use Rattle.bk_word_net.proofs.Shape.{AllFilled, Filled, Shaped, filled_many, filled_move, filled_parts, hung_many, joined_many, shaped_move}
+use Rattle.bk_word_net.proofs.Shape.{shaped_moves, shaped_start, valley_in}
 use Rattle.bk_word.proofs.PlayLaws.{after-snoc, few_signs, legal-snoc}
 use Rattle.bk_skel.proofs.StoredMoves.{signs-snoc, turns-snoc}
 use Rattle.bk_skel.proofs.TurnParts.{closed_is, first_is, left_is, right_is, sides_are, start_is, sum_lengths}

@@ -1,5 +1,6 @@
 -- What is read of a skeleton: its leftmost valley and its moves.
-use Rattle.std.proofs.Common.{List, Some, [], ap, arith, get_or, length, map, nat_eq, refl, slice_get, slice_index, slice_index_or, slice_range, subst, suc, sum, sym, take, zero, ℕ, ◌++◌, ◌+◌, ◌<◌, ◌∙◌, ◌∷◌, ◌≡◌, ◌≤◌}
+use Rattle.std.proofs.Common.{List, Some, [], ap, arith, get_or, length, map, nat_eq, refl, slice_get, slice_index, slice_index_or, slice_range}
+use Rattle.std.proofs.Common.{subst, suc, sum, sym, take, zero, ℕ, ◌++◌, ◌+◌, ◌<◌, ◌∙◌, ◌∷◌, ◌≡◌, ◌≤◌}
 use Rattle.std.proofs.lemmas.List.Sums.{sum_by-take-drop}
 use Rattle.std.proofs.lemmas.List.{length-append, length-map}
 use Rattle.bk_word.proofs.StoredBytes.{order_more}

@@ -18,7 +18,8 @@ use Rattle.bk_skel.proofs.StoredMoves.{Ends, last_move, signs-snoc, turns-snoc}
 use Rattle.bk_word.proofs.PlayLaws.{after-snoc, legal-last, legal_front}
 use Rattle.bk_skel.proofs.TurnParts.{closed_is, first_is, sides_are, start_is}
 use Rattle.bk_word_net.proofs.ValleyCut.{AtValley}
-use Rattle.bk_skel.specs.Skeleton.{IsStored, Shows, first_touched, moves_stored, open_sides, signs_before, signs_of, sizes_after, sizes_before, turn_at, turns_from}
+use Rattle.bk_skel.specs.Skeleton.{IsStored, Shows, first_touched, moves_stored, open_sides, signs_before, signs_of, sizes_after, sizes_before}
+use Rattle.bk_skel.specs.Skeleton.{turn_at, turns_from}
 use Rattle.bk_skel.specs.Valley.{IsKeptSkeleton, segment_sizes}
 use Rattle.bk_skel.specs.declared.turns.Turn.{Turn}
 

@@ -1,6 +1,7 @@
 -- The record of a move by the parts of the outline that is cut at its leftmost valley.
 use Rattle.std.specs.List.{concat}
-use Rattle.std.proofs.Common.{List, [], ap, arith, cond, inl, inr, length, map, min, nat_eq, refl, slice_index, slice_range, suc, sum, sym, take, zero, ℕ, ◌++◌, ◌+◌, ◌-◌, ◌<◌, ◌∙◌, ◌∷◌, ◌≡◌, ◌≤◌}
+use Rattle.std.proofs.Common.{List, [], ap, arith, cond, inl, inr, length, map, min, nat_eq, refl, slice_index, slice_range, suc, sum, sym, take}
+use Rattle.std.proofs.Common.{zero, ℕ, ◌++◌, ◌+◌, ◌-◌, ◌<◌, ◌∙◌, ◌∷◌, ◌≡◌, ◌≤◌}
 use Rattle.std.proofs.lemmas.Bool.Decides.{nat_tests}
 use Rattle.std.proofs.lemmas.List.{append-nil, append_assoc, length-append, take_at}
 use Rattle.std.proofs.lemmas.List.Sums.{sum_by-cons}

@@ -1,6 +1,7 @@
 -- The record of a move, found by its place among all.
 use Rattle.std.specs.List.{concat}
-use Rattle.std.proofs.Common.{List, Some, [], ap, arith, drop, length, map, refl, slice_get, slice_index_or, slice_index, slice_range, subst, suc, sum, sym, take, zero, ℕ, ◌+◌, ◌-◌, ◌<◌, ◌∙◌, ◌∷◌, ◌≡◌, ◌≤◌}
+use Rattle.std.proofs.Common.{List, Some, [], ap, arith, drop, length, map, refl, slice_get, slice_index_or, slice_index, slice_range, subst, suc}
+use Rattle.std.proofs.Common.{sum, sym, take, zero, ℕ, ◌+◌, ◌-◌, ◌<◌, ◌∙◌, ◌∷◌, ◌≡◌, ◌≤◌}
 use Rattle.std.proofs.lemmas.List.Sums.{sum_by-cons}
 use Rattle.std.proofs.lemmas.List.{length-append}
 use Rattle.bk_word.specs.Outline.{Outline, start, valley_of, valley_place}

@@ -1,6 +1,7 @@
 -- Wires that are appended node by node.
 use Rattle.std.specs.List.{concat, list_any}
-use Rattle.std.proofs.Common.{List, [], ap, arith, cond, drop, get_or, length, map, nat_eq, refl, replicate, slice_index, subst, suc, sum, sym, take, zero, ℕ, ◌++◌, ◌+◌, ◌-◌, ◌<◌, ◌∙◌, ◌∷◌, ◌≡◌, ◌≤◌}
+use Rattle.std.proofs.Common.{List, [], ap, arith, cond, drop, get_or, length, map, nat_eq, refl, replicate, slice_index, subst, suc, sum, sym, take}
+use Rattle.std.proofs.Common.{zero, ℕ, ◌++◌, ◌+◌, ◌-◌, ◌<◌, ◌∙◌, ◌∷◌, ◌≡◌, ◌≤◌}
 use Rattle.std.proofs.lemmas.List.{append_assoc, drop_all, length-map}
 use Rattle.std.proofs.lemmas.List.Sums.{sum_by-cons}
 use Rattle.bk_skel.proofs.EndNodes.{marked_node, sum_next}

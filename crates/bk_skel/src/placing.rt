@@ -67,8 +67,10 @@ pub(crate) fn lay_move(
     new: &[u64],
 ) -> bool
     requires { (o : Outline) × CanLay width laid.old.items numbers.old.items first end signs.now new.now o }
-    ensures turn { result ≡ true → (v : Gap) × (IsTurn width laid.old.items (record { count = length new.now; signs = signs.now }) new.now v × (laid.new.items ≡ laid.old.items ++ laid_group v.x v.level new.now)) }
-    ensures numbers { result ≡ true → numbers.new.items ≡ (take first numbers.old.items ++ numbers_from (length laid.old.items + 1) (length new.now)) ++ drop end numbers.old.items }
+    ensures turn { result ≡ true → (v : Gap) × (IsTurn width laid.old.items (record { count = length new.now; signs = signs.now }) new.now v
+        × (laid.new.items ≡ laid.old.items ++ laid_group v.x v.level new.now)) }
+    ensures numbers { result ≡ true → numbers.new.items ≡ (take first numbers.old.items ++ numbers_from (length laid.old.items + 1) (length new.now))
+        ++ drop end numbers.old.items }
     ensures none { result ≡ false → (v : Gap) → ¬ (IsTurn width laid.old.items (record { count = length new.now; signs = signs.now }) new.now v) }
 {
     let gap = gap_under(laid, &numbers[first..end], width);

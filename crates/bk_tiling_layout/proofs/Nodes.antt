@@ -1,5 +1,6 @@
 -- The nodes of a tiling: each has a level and an interval of columns; what hangs from it and what ends on it.
-use Rattle.std.proofs.Common.{List, Some, [], ap, arith, cond, count_by, inl, inr, length, map, nat_eq, refl, slice_get, slice_index_or, subst, suc, sym, true, zero, ℕ, ◌&&◌, ◌++◌, ◌+◌, ◌-◌, ◌<◌, ◌∙◌, ◌∷◌, ◌≡◌, ◌≤◌, ◌⊎◌}
+use Rattle.std.proofs.Common.{List, Some, [], ap, arith, cond, count_by, inl, inr, length, map, nat_eq, refl, slice_get, slice_index_or, subst, suc}
+use Rattle.std.proofs.Common.{sym, true, zero, ℕ, ◌&&◌, ◌++◌, ◌+◌, ◌-◌, ◌<◌, ◌∙◌, ◌∷◌, ◌≡◌, ◌≤◌, ◌⊎◌}
 use Rattle.std.proofs.lemmas.Bool.{cases_lt}
 use Rattle.std.proofs.lemmas.Bool.Decides.{nat_tests}
 use Rattle.std.proofs.lemmas.Option.{slice_get_within}
@@ -13,7 +14,8 @@ use Rattle.bk_tiling.specs.SquareGroups.{square_groups}
 use Rattle.bk_tiling.specs.Tiling.{IsOneOf, IsTiling, Tiling, covers}
 use Rattle.bk_tiling.specs.declared.Square.{Square}
 use Rattle.bk_net.proofs.NodeNumbers.{at_bottom}
-use Rattle.bk_net.proofs.SidesFlow.{below_from, get_index, group_of, in_group, place, row_is, stands_on}
+use Rattle.bk_net.proofs.GroupSquares.{get_index, group_of, in_group, row_is}
+use Rattle.bk_net.proofs.NodeBelow.{below_from, place, stands_on}
 use Rattle.bk_net.proofs.SmithLists.{HasGroup, has_group}
 use Rattle.bk_net.specs.Diagram.{group_level, node_below, node_levels}
 use Rattle.bk_tiling_layout.proofs.Edges.{Hangs, IsCell, IsOn, bottom_within, cell, hangs_below, meet, right_within, side}

@@ -14,7 +14,8 @@ use Rattle.bk_tiling_layout.proofs.LineEnds.{number_column, number_left, number_
 use Rattle.bk_tiling_layout.proofs.Marks.{IsMark, clear, number_there, passes, same_node}
 use Rattle.bk_tiling_layout.proofs.NodeLaws.{beside, level_within}
 use Rattle.bk_tiling_layout.proofs.Nodes.{IsNode, above_bottom, most_nodes}
-use Rattle.bk_tiling_layout.proofs.TilingSquares.{HasNumber, ended, ended_from, ended_one, first_of_ended, first_of_hung, has_number, hung, hung_from, hung_node, hung_one, in_square, key, last_of_ended, last_of_hung, node_at, over_hung}
+use Rattle.bk_tiling_layout.proofs.TilingSquares.{HasNumber, ended, ended_from, ended_one, first_of_ended, first_of_hung, has_number, hung}
+use Rattle.bk_tiling_layout.proofs.TilingSquares.{hung_from, hung_node, hung_one, in_square, key, last_of_ended, last_of_hung, node_at, over_hung}
 use Rattle.bk_tiling_layout.proofs.Twins.{common, none_below, none_beside}
 use Rattle.bk_layout.specs.Layout.{HasNoTwins}
 use Rattle.bk_tiling_layout.specs.SimpleLayout.{ASimpleTilingHasASimpleLayout, AreOutermost, HasNoPairs, HasNoParts, HasOneBetween, Touches}

@@ -8,22 +8,28 @@ use Rattle.bk_tiling.specs.declared.Square.{Square}
 use Rattle.bk_net.specs.Diagram.{node_below, node_levels}
 use Rattle.bk_tiling_layout.proofs.Ascending.{AreNext, AreNextOf, IsFirstOf, IsLastOf, first_to, has_place, last_to, next_from, next_to, once, some, stands_in}
 use Rattle.bk_tiling_layout.proofs.Edges.{MeetsLeft, MeetsRight, bottom_within, left_of, right_of, right_within, side}
-use Rattle.bk_tiling_layout.proofs.LineEnds.{end_is, goes_left_from, goes_left_to, goes_right_from, goes_right_to, number_both, number_left, number_one, number_right, number_zero}
-use Rattle.bk_tiling_layout.proofs.NodeLaws.{EndsAt, HangsAt, along_left, along_right, beside, ends_at, ends_at_left, ends_at_right, ends_beside, hangs_at, is_last_ended, one_ended, one_left_line, one_right_line}
+use Rattle.bk_tiling_layout.proofs.LineEnds.{end_is, goes_left_from, goes_left_to, goes_right_from, goes_right_to, number_both, number_left}
+use Rattle.bk_tiling_layout.proofs.LineEnds.{number_one, number_right, number_zero}
+use Rattle.bk_tiling_layout.proofs.NodeLaws.{EndsAt, HangsAt, along_left, along_right, beside, ends_at, ends_at_left, ends_at_right, ends_beside}
+use Rattle.bk_tiling_layout.proofs.NodeLaws.{hangs_at, is_last_ended, one_ended, one_left_line, one_right_line}
 use Rattle.bk_tiling_layout.proofs.Nodes.{IsNode, above_bottom, most_nodes}
 use Rattle.bk_layout.specs.Layout.{AreLines, AreLists, AreNodes, DoLinesGoOn, Fits}
 use Rattle.bk_tiling_layout.specs.TilingLayout.{from_left, goes_on_left, goes_on_right, layout_of, line_end, line_number, node_above, square_of}
 use Rattle.bk_tiling_layout.specs.TilingLayoutLaws.{ATilingHasALayout}
 use Rattle.bk_tiling_layout.proofs.TilingNet.{net_is}
-use Rattle.bk_tiling_layout.proofs.TilingSquares.{ended, ended_from, ended_one, ended_to, first_of_ended, first_of_hung, has_number, hung, hung_from, hung_node, hung_one, hung_to, in_square, key, last_of_ended, last_of_hung, node_at, over_hung, wide_at}
+use Rattle.bk_tiling_layout.proofs.TilingSquares.{ended, ended_from, ended_one, ended_to, first_of_ended, first_of_hung, has_number, hung, hung_from}
+use Rattle.bk_tiling_layout.proofs.TilingSquares.{hung_node, hung_one, hung_to, in_square, key, last_of_ended, last_of_hung, node_at, over_hung}
+use Rattle.bk_tiling_layout.proofs.TilingSquares.{wide_at}
 
 module _ (t : Tiling) (tiling : IsTiling t) where
   -- ---- lists and nodes
 
   lists : AreLists (layout_of t)
   lists = record {
-    hanging_is = λ v k q e. let s = stands_in (key t tiling) (hung t tiling v) (length t.squares) (hung_one t tiling v) k q e in (s.0, hung_from t tiling v q s.1);
-    ending_is = λ v k q e. let s = stands_in (key t tiling) (ended t tiling v) (length t.squares) (ended_one t tiling v) k q e in (s.0, ended_from t tiling v q s.1);
+    hanging_is = λ v k q e. let s = stands_in (key t tiling) (hung t tiling v) (length t.squares) (hung_one t tiling v) k q e in
+        (s.0, hung_from t tiling v q s.1);
+    ending_is = λ v k q e. let s = stands_in (key t tiling) (ended t tiling v) (length t.squares) (ended_one t tiling v) k q e in
+        (s.0, ended_from t tiling v q s.1);
     hangs = λ q h. let v = node_above (square_groups t.squares) (square_of t q) in
         has_place (key t tiling) (hung t tiling v) (length t.squares) (hung_one t tiling v) q h (hung_to t tiling v q refl);
     ends = λ q h. let v = node_below (square_groups t.squares) (square_of t q) in
@@ -72,7 +78,8 @@ module _ (t : Tiling) (tiling : IsTiling t) where
 
       from : HangsAt t tiling v node node.left → 0 < length (from_left t (λ q. node_above (square_groups t.squares) (square_of t q) == v))
       from w = let k = has_number t tiling w.square w.is in
-          some (key t tiling) (hung t tiling v) (length t.squares) (hung_one t tiling v) k.number k.below (hung_to t tiling v k.number (ap (node_above (square_groups t.squares)) k.is ∙ w.node_is))
+          some (key t tiling) (hung t tiling v) (length t.squares) (hung_one t tiling v) k.number k.below
+          (hung_to t tiling v k.number (ap (node_above (square_groups t.squares)) k.is ∙ w.node_is))
 
   some_end : (v : ℕ) → 0 < v → v ≤ length (square_groups t.squares) → 0 < length (from_left t (λ q. node_below (square_groups t.squares) (square_of t q) == v))
   some_end v a h = from (ends_at t tiling v node node.left (deep_level v node a) (omega arith) node.some)
@@ -183,17 +190,20 @@ module _ (t : Tiling) (tiling : IsTiling t) where
     last_there : (square_of t q).x + (square_of t q).s ≡ node.right
         → IsLastOf (from_left t (λ r. node_below (square_groups t.squares) (square_of t r) == node_below (square_groups t.squares) (square_of t q))) q
     last_there e = last_to (key t tiling) (ended t tiling v) (length t.squares) (ended_one t tiling v) q h (ended_to t tiling v q refl)
-        (λ r k f. is_last_ended t tiling v node (square_of t q) (in_square t tiling q h) refl e (square_of t r) (in_square t tiling r k) (ended_from t tiling v r f))
+        (λ r k f. is_last_ended t tiling v node (square_of t q) (in_square t tiling q h) refl e (square_of t r) (in_square t tiling r k)
+        (ended_from t tiling v r f))
 
     left_goes : goes_on_left t (square_of t q) ≡ true
         → IsFirstOf (from_left t (λ r. node_below (square_groups t.squares) (square_of t r) == node_below (square_groups t.squares)
         (square_of t q))) q × (node_below (square_groups t.squares) (square_of t q) < length (square_groups t.squares))
-    left_goes e = let k = ends_at_left t tiling v node (square_of t q) (in_square t tiling q h) refl (goes_left_from t (square_of t q) e) in (first_there k.0, k.1)
+    left_goes e = let k = ends_at_left t tiling v node (square_of t q) (in_square t tiling q h) refl (goes_left_from t (square_of t q) e) in
+        (first_there k.0, k.1)
 
     right_goes : goes_on_right t (square_of t q) ≡ true
         → IsLastOf (from_left t (λ r. node_below (square_groups t.squares) (square_of t r) == node_below (square_groups t.squares)
         (square_of t q))) q × (node_below (square_groups t.squares) (square_of t q) < length (square_groups t.squares))
-    right_goes e = let k = ends_at_right t tiling v node (square_of t q) (in_square t tiling q h) refl (goes_right_from t (square_of t q) e) in (last_there k.0, k.1)
+    right_goes e = let k = ends_at_right t tiling v node (square_of t q) (in_square t tiling q h) refl (goes_right_from t (square_of t q) e) in
+        (last_there k.0, k.1)
 
     at_left : line_number t (square_of t q).x (square_of t q).y ≡ 0
         → IsFirstOf (from_left t (λ r. node_below (square_groups t.squares) (square_of t r) == node_below (square_groups t.squares) (square_of t q))) q
@@ -218,7 +228,8 @@ module _ (t : Tiling) (tiling : IsTiling t) where
             → line_end t.squares ((square_of t q).x + (square_of t q).s) (t.height - (square_of t q).y) (square_of t q).y
             ≡ (square_of t q).y + (square_of t q).s
         from z = end_is t.squares ((square_of t q).x + (square_of t q).s) (t.height - (square_of t q).y) (square_of t q).y
-            ((square_of t q).y + (square_of t q).s) (omega (arith, wide_at t tiling q h)) (omega (arith, bottom_within t tiling (square_of t q) (in_square t tiling q h)))
+            ((square_of t q).y + (square_of t q).s) (omega (arith, wide_at t tiling q h))
+            (omega (arith, bottom_within t tiling (square_of t q) (in_square t tiling q h)))
             (record {
               left = square_of t q;
               right = z.square;
@@ -274,7 +285,12 @@ module _ (t : Tiling) (tiling : IsTiling t) where
       → goes_on_right t (square_of t q) ≡ false → goes_on_left t (square_of t r) ≡ false
       → AreNextOf (from_left t (λ w. node_below (square_groups t.squares) (square_of t w) == node_below (square_groups t.squares) (square_of t q))) q r
   lines_meet q r h k same a b = next_to (key t tiling) (ended t tiling v0) (length t.squares) (ended_one t tiling v0) q r
-      (record { first_in = (h, ended_to t tiling v0 q refl); second_in = (k, ended_to t tiling v0 r ended_r); less = omega (arith, edge, wide_at t tiling q h); between = between })
+      (record {
+        first_in = (h, ended_to t tiling v0 q refl);
+        second_in = (k, ended_to t tiling v0 r ended_r);
+        less = omega (arith, edge, wide_at t tiling q h);
+        between = between;
+      })
     where
       v0 : ℕ
       v0 = node_below (square_groups t.squares) (square_of t q)
@@ -288,8 +304,10 @@ module _ (t : Tiling) (tiling : IsTiling t) where
       both : ((square_of t q).x + (square_of t q).s ≡ (square_of t r).x)
           × (line_end t.squares ((square_of t q).x + (square_of t q).s) (t.height - (square_of t q).y) (square_of t q).y
           ≡ line_end t.squares (square_of t r).x (t.height - (square_of t r).y) (square_of t r).y)
-      both = number_both t ((square_of t q).x + (square_of t q).s) (square_of t q).y (square_of t r).x (square_of t r).y (omega (arith, wide_at t tiling q h)) wide
-          (omega (arith, bottom_within t tiling (square_of t q) (in_square t tiling q h))) (omega (arith, bottom_within t tiling (square_of t r) (in_square t tiling r k))) same
+      both = number_both t ((square_of t q).x + (square_of t q).s) (square_of t q).y (square_of t r).x (square_of t r).y
+          (omega (arith, wide_at t tiling q h)) wide
+          (omega (arith, bottom_within t tiling (square_of t q) (in_square t tiling q h)))
+          (omega (arith, bottom_within t tiling (square_of t r) (in_square t tiling r k))) same
 
       edge : (square_of t q).x + (square_of t q).s ≡ (square_of t r).x
       edge = both.0
@@ -304,7 +322,8 @@ module _ (t : Tiling) (tiling : IsTiling t) where
       between : (w : ℕ) → w < length t.squares → ended t tiling v0 w ≡ true → (key t tiling w ≤ (key t tiling) q) ⊎ (key t tiling r ≤ (key t tiling) w)
       between w m e = cases (cases_lt (key t tiling q) (key t tiling w)) (cases_lt (key t tiling w) (key t tiling r))
         where
-          cases : (key t tiling q < (key t tiling) w) ⊎ (key t tiling w ≤ (key t tiling) q) → (key t tiling w < (key t tiling) r) ⊎ (key t tiling r ≤ (key t tiling) w) → (key t tiling w ≤ (key t tiling) q) ⊎ (key t tiling r ≤ (key t tiling) w)
+          cases : (key t tiling q < (key t tiling) w) ⊎ (key t tiling w ≤ (key t tiling) q) → (key t tiling w < (key t tiling) r)
+              ⊎ (key t tiling r ≤ (key t tiling) w) → (key t tiling w ≤ (key t tiling) q) ⊎ (key t tiling r ≤ (key t tiling) w)
           cases (inr l) o = inl l
           cases (inl l) (inr o) = inr o
           cases (inl l) (inl o) = let is : square_of t q ≡ square_of t w =

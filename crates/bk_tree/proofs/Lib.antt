@@ -4,3 +4,5 @@ pub mod LastSigns
 pub mod Places
 pub mod Ranks
 pub mod TreeCounts
+pub mod AllWords
+pub mod TreeExamples

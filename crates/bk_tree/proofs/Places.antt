@@ -49,6 +49,24 @@ move_same m n e = cases (three m.count n.count)
     cases (inr (inl h)) = move_from_parts m n h (signs_same m.signs n.signs (by Equal (nat_cmp_is m.count n.count Equal h)))
     cases (inr (inr h)) = absurd (more (by Greater (nat_cmp_is m.count n.count Greater h)))
 
+-- and words that compare as equal
+pub word_same : (v w : Word) → word_cmp v w ≡ Equal → v ≡ w
+word_same [] [] e = refl
+word_same [] (n ∷ w) e = absurd (cc)
+word_same (m ∷ v) [] e = absurd (cc)
+word_same (m ∷ v) (n ∷ w) e = cases (move_cmp m n) refl (λ k. word_same v w k)
+  where
+    less : Less ≡ Equal → ⊥
+    less k = cc
+
+    more : Greater ≡ Equal → ⊥
+    more k = cc
+
+    cases : (r : Ordering) → move_cmp m n ≡ r → (word_cmp v w ≡ Equal → v ≡ w) → m ∷ v ≡ n ∷ w
+    cases Less f g = absurd (less (sym (ap (λ z. ordering_then z (word_cmp v w)) f) ∙ e))
+    cases Greater f g = absurd (more (sym (ap (λ z. ordering_then z (word_cmp v w)) f) ∙ e))
+    cases Equal f g = ap (λ z. z ∷ v) (move_same m n f) ∙ ap (λ z. n ∷ z) (g (sym (ap (λ z. ordering_then z (word_cmp v w)) f) ∙ e))
+
 -- a move compares as equal with itself
 pub move_itself : (m : Move) → move_cmp m m ≡ Equal
 move_itself m = ap (λ z. ordering_then z (signs_cmp m.signs m.signs)) (sym (nat_cmp_is m.count m.count Equal refl)) ∙ signs_itself m.signs

@@ -3,58 +3,30 @@ use Rattle.std.specs.List.{AllByRecursion}
 use Rattle.std.specs.Ordering.{ordering_reverse}
 use Rattle.std.specs.declared.cmp.Ordering.{Ordering}
 use Rattle.std.specs.declared.cmp.Ordering.TheVariants.{Equal, Greater, Less}
-use Rattle.std.proofs.Common.{Contains, List, None, Option, Some, [], ap, arith, inl, inr, length, refl, subst, suc, sym, zero, ℕ, ◌++◌, ◌+◌, ◌∙◌, ◌∷◌, ◌≡◌, ◌≤◌, ◌⊎◌}
+use Rattle.std.proofs.Common.{Contains, List, None, Option, Some, [], ap, arith, inl, inr, length, refl, subst, suc, sym, zero, ℕ, ◌++◌, ◌+◌, ◌∙◌}
+use Rattle.std.proofs.Common.{◌∷◌, ◌≡◌, ◌≤◌}
 use Rattle.std.proofs.lemmas.List.Elements.{Contains-append_left, Contains-append_right}
 use Rattle.std.proofs.lemmas.List.{length-append}
 use Rattle.bk_laws.proofs.AllOfLists.{all_append}
+use Rattle.bk_laws.proofs.NoneRepeated.{IsIn, NoneRepeated, no_longer}
 use Rattle.bk_word.proofs.WordOrder.{word_total}
 use Rattle.bk_word.specs.Word.{Follows, Word, word_cmp}
 use Rattle.bk_tree.specs.Tree.{AreAscendingWords, HasAtLeast, IsInTree, IsNotAfter, IsTreeCount}
 use Rattle.bk_tree.specs.TreeLaws.{ALegalWordIsOne, AtLeastAdds, TheTreeCountIsMost, TheTreeCountIsOne, TreeCountsAdd}
 use Rattle.bk_word.proofs.FollowLaws.{not_itself}
 
-abbrev IsIn : Word → List Word → Type 0
-IsIn w [] = ⊥
-IsIn w (v ∷ words) = (w ≡ v) ⊎ IsIn w words
-
-record Without (w : Word) (words : List Word) : Type 0 where
-  rest : List Word
-  long : length words ≡ suc (length rest)
-  others : (v : Word) → IsIn v words → (v ≡ w) ⊎ IsIn v rest
-
-without : (w : Word) (words : List Word) → IsIn w words → Without w words
-without w [] h = absurd h
-without w (v ∷ words) (inl same) = record { rest = words; long = refl; others = others }
-  where
-    others : (u : Word) → IsIn u (v ∷ words) → (u ≡ w) ⊎ IsIn u words
-    others u (inl e) = inl (e ∙ sym same)
-    others u (inr h) = inr h
-without w (v ∷ words) (inr h) = onto (without w words h)
-  where
-    onto : Without w words → Without w (v ∷ words)
-    onto r = record { rest = v ∷ r.rest; long = ap suc r.long; others = others }
-      where
-        next : (u : Word) → (u ≡ w) ⊎ IsIn u r.rest → (u ≡ w) ⊎ IsIn u (v ∷ r.rest)
-        next u (inl e) = inl e
-        next u (inr k) = inr (inr k)
-
-        others : (u : Word) → IsIn u (v ∷ words) → (u ≡ w) ⊎ IsIn u (v ∷ r.rest)
-        others u (inl e) = inr (inl e)
-        others u (inr k) = next u (r.others u k)
-
 in_all_words : (P : Word → Type 0) (words : List Word) → AllByRecursion P words → (w : Word) → IsIn w words → P w
 in_all_words P [] all w h = absurd h
 in_all_words P (v ∷ words) all w (inl same) = subst P (sym same) all.0
 in_all_words P (v ∷ words) all w (inr h) = in_all_words P words all.1 w h
 
+none_repeated : (words : List Word) → AreAscendingWords words → NoneRepeated words
+none_repeated [] up = tt
+none_repeated (w ∷ words) up =
+    ((λ h. not_itself w (in_all_words (λ u. Follows u w) words up.0 w h)), none_repeated words up.1)
+
 fewer : (words more : List Word) → AreAscendingWords words → ((w : Word) → IsIn w words → IsIn w more) → length words ≤ length more
-fewer [] more up f = omega arith
-fewer (w ∷ words) more up f = let r = without w more (f w (inl refl)) in
-    omega (arith, r.long, fewer words r.rest up.1 (λ v h. cases v h (r.others v (f v (inr h)))))
-  where
-    cases : (v : Word) → IsIn v words → (v ≡ w) ⊎ IsIn v (without w more (f w (inl refl))).rest → IsIn v (without w more (f w (inl refl))).rest
-    cases v h (inl e) = absurd (not_itself w (subst (λ (u : Word). Follows u w) e (in_all_words (λ u. Follows u w) words up.0 v h)))
-    cases v h (inr k) = k
+fewer words more up f = no_longer words more (none_repeated words up) f
 
 in_from : (words : List Word) (w : Word) → Contains words w → IsIn w words
 in_from [] w c = absurd (omega (arith, c.1))

@@ -1,8 +1,12 @@
--- The tree count is one number, and it is additive. Statements alone; each is proved apart.
+-- Each part of the tree has a tree count, which is one number, and it is additive. Statements alone; each is proved apart.
 use Rattle.std.specs.Prelude.{Option, Some, length, ℕ, ◌+◌, ◌<◌, ◌≡◌, ◌≤◌}
 use Rattle.bk_word.specs.Play.{IsLegal}
 use Rattle.bk_word.specs.Word.{Follows, Word, order_of}
 use Rattle.bk_tree.specs.Tree.{HasAtLeast, IsNotAfter, IsTreeCount}
+
+-- a part of the tree, after a cursor and not after a bound, has a tree count
+abbrev pub EachPartOfTheTreeHasACount : Type 0
+EachPartOfTheTreeHasACount = (n : ℕ) (cursor : Word) (bound : Option Word) → (number : ℕ) × IsTreeCount n cursor bound number
 
 -- a list of words of the tree has at most as many as the tree
 abbrev pub TheTreeCountIsMost : Type 0

@@ -1,7 +1,12 @@
 //! The tree of legal words: which move comes next, and how many words there are.
 #![tactic(auto)]
 
-ghost use Rattle.bk_tree.specs.TreeLaws.{ALegalWordIsOne, AtLeastAdds, TheTreeCountIsMost, TheTreeCountIsOne, TreeCountsAdd};
+ghost use Rattle.bk_tree.specs.TreeLaws.{ALegalWordIsOne, AtLeastAdds, EachPartOfTheTreeHasACount, TheTreeCountIsMost, TheTreeCountIsOne, TreeCountsAdd};
+
+/// Each part of the tree, after a cursor and not after a bound, has a tree count.
+pub fn each_part_of_the_tree_has_a_count()
+    ensures { EachPartOfTheTreeHasACount }
+{}
 
 /// A list of words of the tree, each once, has at most as many as the tree count.
 pub fn the_tree_count_is_most()

@@ -1,6 +1,7 @@
 -- Where the counts stand among the bytes of a word.
 use Rattle.std.specs.List.{AllByRecursion}
-use Rattle.std.specs.Prelude.{List, Some, [], cond, count_by, drop, false, length, map, refl, slice_get, suc, take, true, zero, ℕ, ◌++◌, ◌+◌, ◌-◌, ◌<◌, ◌∷◌, ◌≡◌, ◌≤◌}
+use Rattle.std.specs.Prelude.{List, Some, [], cond, count_by, drop, false, length, map, refl, slice_get, suc, take, true, zero, ℕ, ◌++◌, ◌+◌, ◌-◌}
+use Rattle.std.specs.Prelude.{◌<◌, ◌∷◌, ◌≡◌, ◌≤◌}
 use Rattle.std.proofs.Common.{Bool, ap, arith, get_or, length-append, subst, sym, ◌∙◌}
 use Rattle.std.proofs.Math.Seq.{drop-cons, take-append_seam}
 use Rattle.std.proofs.lemmas.Bool.{cond-false, cond-true}
@@ -27,7 +28,8 @@ at_sign b bytes h = cond-false _ _ _ h
 pub from_place : (bytes : List ℕ) (i : ℕ) → i < length bytes → drop i bytes ≡ get_or bytes i 0 ∷ drop (i + 1) bytes
 from_place bytes i within = let next : suc i ≡ i + 1 = omega arith in drop-cons bytes i 0 within ∙ ap (λ (k : ℕ). get_or bytes i 0 ∷ drop k bytes) next
 
-pub count_here : (bytes : List ℕ) (i : ℕ) → i < length bytes → is_count (get_or bytes i 0) ≡ true → moves_in (drop i bytes) ≡ move_of (get_or bytes i 0) (drop (i + 1) bytes) ∷ moves_in (drop (i + 1) bytes)
+pub count_here : (bytes : List ℕ) (i : ℕ) → i < length bytes → is_count (get_or bytes i 0) ≡ true
+    → moves_in (drop i bytes) ≡ move_of (get_or bytes i 0) (drop (i + 1) bytes) ∷ moves_in (drop (i + 1) bytes)
 count_here bytes i within h = ap moves_in (from_place bytes i within) ∙ at_count (get_or bytes i 0) (drop (i + 1) bytes) h
 
 pub sign_here : (bytes : List ℕ) (i : ℕ) → i < length bytes → is_count (get_or bytes i 0) ≡ false → moves_in (drop i bytes) ≡ moves_in (drop (i + 1) bytes)
@@ -39,8 +41,20 @@ counts_moves [] = refl
 counts_moves (b ∷ bytes) = cases (is_count b) refl (counts_moves bytes)
   where
     cases : (t : Bool) → is_count b ≡ t → count_by is_count bytes ≡ length (moves_in bytes) → count_by is_count (b ∷ bytes) ≡ length (moves_in (b ∷ bytes))
-    cases true h others = omega (arith, sum_by-cons (λ (k : ℕ). cond {A = ℕ} (is_count k) 1 0) b bytes, cond-true {A = ℕ} (is_count b) 1 0 h, others, ap (λ (w : Word). length w) (at_count b bytes h))
-    cases false h others = omega (arith, sum_by-cons (λ (k : ℕ). cond {A = ℕ} (is_count k) 1 0) b bytes, cond-false {A = ℕ} (is_count b) 1 0 h, others, ap (λ (w : Word). length w) (at_sign b bytes h))
+    cases true h others = omega (
+      arith,
+      sum_by-cons (λ (k : ℕ). cond {A = ℕ} (is_count k) 1 0) b bytes,
+      cond-true {A = ℕ} (is_count b) 1 0 h,
+      others,
+      ap (λ (w : Word). length w) (at_count b bytes h),
+    )
+    cases false h others = omega (
+      arith,
+      sum_by-cons (λ (k : ℕ). cond {A = ℕ} (is_count k) 1 0) b bytes,
+      cond-false {A = ℕ} (is_count b) 1 0 h,
+      others,
+      ap (λ (w : Word). length w) (at_sign b bytes h),
+    )
 
 -- the move at a place
 pub first_dropped : (w : Word) (i : ℕ) (m : Move) (rest : Word) → drop i w ≡ m ∷ rest → slice_get w i ≡ Some m
@@ -79,7 +93,8 @@ moves_before : (a : List ℕ) (c : ℕ) (rest : List ℕ) → is_count c ≡ tru
 moves_before [] c rest h = refl
 moves_before (b ∷ a) c rest h = cases (is_count b) refl (moves_before a c rest h)
   where
-    cases : (t : Bool) → is_count b ≡ t → moves_in (a ++ c ∷ rest) ≡ moves_in a ++ moves_in (c ∷ rest) → moves_in (b ∷ a ++ c ∷ rest) ≡ moves_in (b ∷ a) ++ moves_in (c ∷ rest)
+    cases : (t : Bool) → is_count b ≡ t → moves_in (a ++ c ∷ rest) ≡ moves_in a ++ moves_in (c ∷ rest)
+        → moves_in (b ∷ a ++ c ∷ rest) ≡ moves_in (b ∷ a) ++ moves_in (c ∷ rest)
     cases true low others =
         at_count b (a ++ c ∷ rest) low
         ∙ (λ i. record { count = b; signs = front_before a c rest h i } ∷ others i)
@@ -90,14 +105,16 @@ all_signs : (bytes : List ℕ) → moves_in bytes ≡ [] → length (map sign_by
 all_signs [] e = refl
 all_signs (b ∷ bytes) e = cases (is_count b) refl (all_signs bytes)
   where
-    cases : (t : Bool) → is_count b ≡ t → (moves_in bytes ≡ [] → length (map sign_byte (front_signs bytes)) ≡ length bytes) → length (map sign_byte (front_signs (b ∷ bytes))) ≡ length (b ∷ bytes)
+    cases : (t : Bool) → is_count b ≡ t → (moves_in bytes ≡ [] → length (map sign_byte (front_signs bytes)) ≡ length bytes)
+        → length (map sign_byte (front_signs (b ∷ bytes))) ≡ length (b ∷ bytes)
     cases true h others = let is : move_of b bytes ∷ moves_in bytes ≡ [] = sym (at_count b bytes h) ∙ e in absurd (cc)
     cases false h others =
         let fewer : moves_in bytes ≡ [] = sym (at_sign b bytes h) ∙ e in
         ap (λ (l : List Sign). length (map sign_byte l)) (cond-false _ _ _ h) ∙ ap (λ (n : ℕ). suc n) (others fewer)
 
 -- what stands before the last count
-pub last_off : (a : List ℕ) (c : ℕ) (rest : List ℕ) → is_count c ≡ true → moves_in rest ≡ [] → IsStored (a ++ c ∷ rest) → (moves_in (a ++ c ∷ rest) ≡ moves_in a ++ move_of c rest ∷ []) × IsStored a
+pub last_off : (a : List ℕ) (c : ℕ) (rest : List ℕ) → is_count c ≡ true → moves_in rest ≡ [] → IsStored (a ++ c ∷ rest)
+    → (moves_in (a ++ c ∷ rest) ≡ moves_in a ++ move_of c rest ∷ []) × IsStored a
 last_off a c rest h none s =
     let moves : moves_in (a ++ c ∷ rest) ≡ moves_in a ++ move_of c rest ∷ [] =
     moves_before a c rest h ∙ ap (λ (w : Word). moves_in a ++ w) (at_count c rest h ∙ ap (λ (w : Word). move_of c rest ∷ w) none) in
@@ -107,15 +124,20 @@ last_off a c rest h none s =
       moves,
       record {
         same = append_same a (stored (moves_in a)) (c ∷ rest) (stored_move (move_of c rest)) long whole;
-        kept = record { moves = all_left CanStand (moves_in a) (move_of c rest ∷ []) kept.moves; few = omega (arith, kept.few, order_one (moves_in a) (move_of c rest)) };
+        kept = record {
+          moves = all_left CanStand (moves_in a) (move_of c rest ∷ []) kept.moves;
+          few = omega (arith, kept.few, order_one (moves_in a) (move_of c rest));
+        };
       },
     )
 
 -- one iteration of the search of a count
-pub count_passed : (bytes : List ℕ) (k i left : ℕ) → k < length bytes → left ≤ i → 0 < left → is_count (get_or bytes k 0) ≡ true → moves_in (drop k bytes) ≡ drop (i - left) (moves_in bytes)
+pub count_passed : (bytes : List ℕ) (k i left : ℕ) → k < length bytes → left ≤ i → 0 < left → is_count (get_or bytes k 0) ≡ true
+    → moves_in (drop k bytes) ≡ drop (i - left) (moves_in bytes)
     → moves_in (drop (k + 1) bytes) ≡ drop (i - (left - 1)) (moves_in bytes)
 count_passed bytes k i left within few some h e =
-    let next : drop (i - left) (moves_in bytes) ≡ move_of (get_or bytes k 0) (drop (k + 1) bytes) ∷ moves_in (drop (k + 1) bytes) = sym e ∙ count_here bytes k within h in
+    let next : drop (i - left) (moves_in bytes) ≡ move_of (get_or bytes k 0) (drop (k + 1) bytes) ∷ moves_in (drop (k + 1) bytes) =
+    sym e ∙ count_here bytes k within h in
     let more : suc (i - left) ≡ i - (left - 1) = omega arith in
     sym (tail_dropped (moves_in bytes) (i - left) _ _ next) ∙ ap (λ (n : ℕ). drop n (moves_in bytes)) more
   where
@@ -126,15 +148,18 @@ count_passed bytes k i left within few some h e =
     tail_dropped (k ∷ w) (suc n) m rest e = tail_dropped w n m rest e
 
 -- no further count where all bytes were passed
-pub none_left : (bytes : List ℕ) (k i left : ℕ) → length bytes ≤ k → i < length (moves_in bytes) → moves_in (drop k bytes) ≡ drop (i - left) (moves_in bytes) → ⊥
+pub none_left : (bytes : List ℕ) (k i left : ℕ) → length bytes ≤ k → i < length (moves_in bytes)
+    → moves_in (drop k bytes) ≡ drop (i - left) (moves_in bytes) → ⊥
 none_left bytes k i left all some e =
     let none : drop (i - left) (moves_in bytes) ≡ [] = sym e ∙ ap moves_in (drop_all k bytes all) in
     omega (arith, length-drop (i - left) (moves_in bytes), ap (λ (w : Word). length w) none)
 
 -- at the last count no move is left behind
-pub none_behind : (bytes : List ℕ) (k : ℕ) → k < length bytes → 0 < length (moves_in bytes) → is_count (get_or bytes k 0) ≡ true → moves_in (drop k bytes) ≡ drop (length (moves_in bytes) - 1) (moves_in bytes) → moves_in (drop (k + 1) bytes) ≡ []
+pub none_behind : (bytes : List ℕ) (k : ℕ) → k < length bytes → 0 < length (moves_in bytes) → is_count (get_or bytes k 0) ≡ true
+    → moves_in (drop k bytes) ≡ drop (length (moves_in bytes) - 1) (moves_in bytes) → moves_in (drop (k + 1) bytes) ≡ []
 none_behind bytes k within some h e =
-    let last : move_of (get_or bytes k 0) (drop (k + 1) bytes) ∷ moves_in (drop (k + 1) bytes) ≡ drop (length (moves_in bytes) - 1) (moves_in bytes) = sym (count_here bytes k within h) ∙ e in
+    let last : move_of (get_or bytes k 0) (drop (k + 1) bytes) ∷ moves_in (drop (k + 1) bytes) ≡ drop (length (moves_in bytes) - 1) (moves_in bytes) =
+    sym (count_here bytes k within h) ∙ e in
     empty (moves_in (drop (k + 1) bytes)) (omega (arith, length-drop (length (moves_in bytes) - 1) (moves_in bytes), ap (λ (w : Word). length w) last))
   where
     empty : (w : Word) → length w ≡ 0 → w ≡ []
@@ -142,12 +167,14 @@ none_behind bytes k within some h e =
     empty (m ∷ w) e = absurd (omega arith)
 
 -- the word without its last move
-pub popped : (bytes : List ℕ) (w : Word) (k : ℕ) → IsStored bytes → moves_in bytes ≡ w → k < length bytes → 0 < length w → is_count (get_or bytes k 0) ≡ true → moves_in (drop k bytes) ≡ drop (length (moves_in bytes) - 1) (moves_in bytes)
+pub popped : (bytes : List ℕ) (w : Word) (k : ℕ) → IsStored bytes → moves_in bytes ≡ w → k < length bytes → 0 < length w
+    → is_count (get_or bytes k 0) ≡ true → moves_in (drop k bytes) ≡ drop (length (moves_in bytes) - 1) (moves_in bytes)
     → (moves_in (take k bytes) ≡ take (length w - 1) w) × IsStored (take k bytes)
 popped bytes w k s is within some h behind =
     let c : ℕ = get_or bytes k 0 in
     let none = none_behind bytes k within (subst (λ (v : Word). 0 < length v) (sym is) some) h behind in
-    let whole : take k bytes ++ c ∷ drop (k + 1) bytes ≡ bytes = ap (λ (z : List ℕ). take k bytes ++ z) (sym (from_place bytes k within)) ∙ take-append-drop k bytes in
+    let whole : take k bytes ++ c ∷ drop (k + 1) bytes ≡ bytes = ap (λ (z : List ℕ). take k bytes ++ z) (sym (from_place bytes k within))
+    ∙ take-append-drop k bytes in
     let off = last_off (take k bytes) c (drop (k + 1) bytes) h none (subst IsStored (sym whole) s) in
     let word : w ≡ moves_in (take k bytes) ++ move_of c (drop (k + 1) bytes) ∷ [] = sym is ∙ ap moves_in (sym whole) ∙ off.0 in
     (sym (ap (λ (v : Word). take (length v - 1) v) word ∙ front_taken (moves_in (take k bytes)) (move_of c (drop (k + 1) bytes))), off.1)
@@ -158,11 +185,13 @@ popped bytes w k s is within some h behind =
         ap (λ (k : ℕ). take k (v ++ m ∷ [])) n ∙ take-append_seam v (m ∷ [])
 
 -- the move whose count stands at a place
-pub got : (bytes : List ℕ) (w : Word) (i k : ℕ) → IsStored bytes → moves_in bytes ≡ w → k < length bytes → is_count (get_or bytes k 0) ≡ true → moves_in (drop k bytes) ≡ drop i (moves_in bytes)
+pub got : (bytes : List ℕ) (w : Word) (i k : ℕ) → IsStored bytes → moves_in bytes ≡ w → k < length bytes → is_count (get_or bytes k 0) ≡ true
+    → moves_in (drop k bytes) ≡ drop i (moves_in bytes)
     → drop i w ≡ move_of (get_or bytes k 0) (drop (k + 1) bytes) ∷ moves_in (drop (k + 1) bytes)
 got bytes w i k s is within h behind = ap (λ (v : Word). drop i v) (sym is) ∙ sym behind ∙ count_here bytes k within h
 
-pub got_stands : (bytes : List ℕ) (w : Word) (i : ℕ) (m : Move) (rest : Word) → IsStored bytes → moves_in bytes ≡ w → drop i w ≡ m ∷ rest → CanStand m × (m.count ≤ 200)
+pub got_stands : (bytes : List ℕ) (w : Word) (i : ℕ) (m : Move) (rest : Word) → IsStored bytes → moves_in bytes ≡ w → drop i w ≡ m ∷ rest
+    → CanStand m × (m.count ≤ 200)
 got_stands bytes w i m rest s is e =
     let kept : IsKeptWord w = subst IsKeptWord is s.kept in
     (stands_dropped w i m rest e kept.moves, omega (arith, kept.few, few_dropped w i m rest e))
@@ -175,7 +204,8 @@ to_end bytes k = take_all (length bytes - k) (drop k bytes) (omega (arith, lengt
 pub few_signs : (bytes : List ℕ) (w : Word) (i : ℕ) (m : Move) (rest : Word) → IsStored bytes → moves_in bytes ≡ w → drop i w ≡ m ∷ rest → length m.signs ≤ 201
 few_signs bytes w i m rest s is e = let h = got_stands bytes w i m rest s is e in omega (arith, h.0.most, h.1)
 
-pub got_move : (S B : List ℕ) (w : Word) (i k : ℕ) (signs : List Sign) → S ≡ B → IsStored B → moves_in B ≡ w → k < length S → is_count (get_or S k 0) ≡ true → moves_in (drop k S) ≡ drop i (moves_in S)
+pub got_move : (S B : List ℕ) (w : Word) (i k : ℕ) (signs : List Sign) → S ≡ B → IsStored B → moves_in B ≡ w → k < length S
+    → is_count (get_or S k 0) ≡ true → moves_in (drop k S) ≡ drop i (moves_in S)
     → signs ≡ front_signs (take (length S - (k + 1)) (drop (k + 1) S)) → slice_get w i ≡ Some (record { count = get_or S k 0; signs = signs })
 got_move S B w i k signs same s is within h behind e =
     let word : moves_in S ≡ w = ap moves_in same ∙ is in
@@ -187,11 +217,13 @@ pub record Popped (bytes : List ℕ) (w : Word) : Type 0 where
   pub moves : moves_in bytes ≡ take (length w - 1) w
   pub is_stored : IsStored bytes
 
-pub popped_at : (S B left : List ℕ) (w : Word) (n k : ℕ) → S ≡ B → IsStored B → moves_in B ≡ w → n ≡ length w → 0 < length w → k < length S → is_count (get_or S k 0) ≡ true → moves_in (drop k S) ≡ drop (n - 1) (moves_in S) → left ≡ take k B
+pub popped_at : (S B left : List ℕ) (w : Word) (n k : ℕ) → S ≡ B → IsStored B → moves_in B ≡ w → n ≡ length w → 0 < length w → k < length S
+    → is_count (get_or S k 0) ≡ true → moves_in (drop k S) ≡ drop (n - 1) (moves_in S) → left ≡ take k B
     → Popped left w
 popped_at S B left w n k same s is count some within h behind e =
     let word : moves_in S ≡ w = ap moves_in same ∙ is in
-    let last : moves_in (drop k S) ≡ drop (length (moves_in S) - 1) (moves_in S) = behind ∙ ap (λ (m : ℕ). drop (m - 1) (moves_in S)) (count ∙ ap (λ (v : Word). length v) (sym word)) in
+    let last : moves_in (drop k S) ≡ drop (length (moves_in S) - 1) (moves_in S) =
+    behind ∙ ap (λ (m : ℕ). drop (m - 1) (moves_in S)) (count ∙ ap (λ (v : Word). length v) (sym word)) in
     let off = popped S w k (subst IsStored (sym same) s) word within some h last in
     let left_is : left ≡ take k S = e ∙ ap (λ (z : List ℕ). take k z) (sym same) in
     record { moves = ap moves_in left_is ∙ off.0; is_stored = subst IsStored (sym left_is) off.1 }

@@ -10,9 +10,11 @@ use Rattle.bk_word.specs.WordItem.{IsItemAt, IsItemOf}
 -- a list in three parts
 three_parts : (text : List ℕ) (start end : ℕ) → start ≤ end → text ≡ (take start text ++ slice_range text start end) ++ drop end text
 three_parts text start end order =
-    let rest : drop (end - start) (drop start text) ≡ drop end text = drop-drop (end - start) start text ∙ ap (λ (n : ℕ). drop n text) (let e : start + (end - start) ≡ end = omega arith in e) in
+    let rest : drop (end - start) (drop start text) ≡ drop end text = drop-drop (end - start) start text
+    ∙ ap (λ (n : ℕ). drop n text) (let e : start + (end - start) ≡ end = omega arith in e) in
     sym (take-append-drop start text)
-    ∙ ap (λ (z : List ℕ). take start text ++ z) (sym (take-append-drop (end - start) (drop start text)) ∙ ap (λ (z : List ℕ). slice_range text start end ++ z) rest)
+    ∙ ap (λ (z : List ℕ). take start text ++ z) (sym (take-append-drop (end - start) (drop start text))
+    ∙ ap (λ (z : List ℕ). slice_range text start end ++ z) rest)
     ∙ sym (append_assoc (take start text) (slice_range text start end) (drop end text))
 
 -- the byte at a place of a part
@@ -39,7 +41,8 @@ pub record IsItemText (text before item after : List ℕ) : Type 0 where
   pub blanks_after : Blanks after
   pub bare : AllByRecursion (λ b. b ≢ 59) text
 
-item_of : (text before item after comment : List ℕ) → IsItemText text before item after → (Nothing or Comment) comment → IsItemOf (text ++ comment) before item after comment
+item_of : (text before item after comment : List ℕ) → IsItemText text before item after → (Nothing or Comment) comment
+    → IsItemOf (text ++ comment) before item after comment
 item_of text before item after comment h rest = record {
   some = h.some;
   whole = ap (λ (z : List ℕ). z ++ comment) h.whole;
@@ -72,8 +75,10 @@ item_of text before item after comment h rest = record {
         ∙ ap (λ (z : List ℕ). get_or z 0 0) e
 
 -- the item that was found in the text before the comment
-pub item_found : (line text : List ℕ) (cut start end : ℕ) → text ≡ take cut line → cut ≤ length line → AllByRecursion (λ b. b ≢ 59) (take cut line) → (Nothing or Comment) (drop cut line) → start < end → end ≤ length text
-    → Blanks (take start text) → (IsBlank (get_or text start 0) → ⊥) → Blanks (drop end text) → (IsBlank (get_or text (end - 1) 0) → ⊥) → IsItemAt line start end
+pub item_found : (line text : List ℕ) (cut start end : ℕ) → text ≡ take cut line → cut ≤ length line → AllByRecursion (λ b. b ≢ 59) (take cut line)
+    → (Nothing or Comment) (drop cut line) → start < end → end ≤ length text
+    → Blanks (take start text) → (IsBlank (get_or text start 0) → ⊥) → Blanks (drop end text) → (IsBlank (get_or text (end - 1) 0) → ⊥)
+    → IsItemAt line start end
 item_found line text cut start end is within bare comment order ends before first after last =
     let n : length text ≡ cut = ap (λ (z : List ℕ). length z) is ∙ length_taken cut line within in
     let front : take start text ≡ take start line = ap (λ (z : List ℕ). take start z) is ∙ take-take start cut line (omega (arith, n)) in
@@ -84,7 +89,8 @@ item_found line text cut start end is within bare comment order ends before firs
       whole = three_parts text start end (omega arith);
       some = omega (arith, long);
       first = λ blank. first (subst (λ (k : ℕ). IsBlank (get_or text k 0)) short blank);
-      last = λ blank. last (subst (λ (k : ℕ). IsBlank (get_or text k 0)) (let e : length (take start text) + length (slice_range text start end) - 1 ≡ end - 1 = omega (arith, long, short) in e) blank);
+      last = λ blank. last (subst (λ (k : ℕ). IsBlank (get_or text k 0)) (let e : length (take start text) + length (slice_range text start end) - 1
+          ≡ end - 1 = omega (arith, long, short) in e) blank);
       blanks_before = before;
       blanks_after = after;
       bare = subst (AllByRecursion (λ b. b ≢ 59)) (sym is) bare;

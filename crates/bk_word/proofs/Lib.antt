@@ -1,5 +1,6 @@
 pub mod WordOrder
 pub mod WordExamples
+pub mod WordItemExamples
 pub mod StoredBytes
 pub mod StoredOrder
 pub mod CountPlaces

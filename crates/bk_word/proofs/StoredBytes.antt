@@ -86,7 +86,8 @@ standing [] all = tt
 standing (m ∷ w) all = ((all.0.some, all.0.most), standing w all.1)
 
 pub kept_short : (bytes : List ℕ) → IsStored bytes → length bytes ≤ 3 * order_of (moves_in bytes)
-kept_short bytes s = subst (λ (z : List ℕ). length z ≤ 3 * order_of (moves_in bytes)) (sym s.same) (short (moves_in bytes) (standing (moves_in bytes) s.kept.moves))
+kept_short bytes s = subst (λ (z : List ℕ). length z ≤ 3 * order_of (moves_in bytes)) (sym s.same)
+    (short (moves_in bytes) (standing (moves_in bytes) s.kept.moves))
 
 pub all_one : (w : Word) (m : Move) → AllByRecursion CanStand w → CanStand m → AllByRecursion CanStand (w ++ m ∷ [])
 all_one [] m all one = (one, tt)
@@ -100,7 +101,8 @@ pub pushed : (bytes : List ℕ) (w : Word) (m : Move) → IsStored bytes → mov
     → (moves_in (bytes ++ stored_move m) ≡ w ++ m ∷ []) × IsStored (bytes ++ stored_move m)
 pushed bytes w m s is one few =
     let kept : IsKeptWord w = subst IsKeptWord is s.kept in
-    stored_kept (bytes ++ stored_move m) (w ++ m ∷ []) (ap (λ (z : List ℕ). z ++ stored_move m) (s.same ∙ ap stored is) ∙ sym (stored_one w m)) (kept_one w m kept one few)
+    stored_kept (bytes ++ stored_move m) (w ++ m ∷ []) (ap (λ (z : List ℕ). z ++ stored_move m) (s.same ∙ ap stored is)
+    ∙ sym (stored_one w m)) (kept_one w m kept one few)
 
 -- a move has room where the word then has at most 64 bytes
 pub has_bytes : (bytes : List ℕ) (w : Word) (m : Move) (capacity : ℕ) → IsKeptBuffer bytes capacity → moves_in bytes ≡ w

@@ -32,7 +32,8 @@ text_behind_dots m [] = sym (append-nil (move_text m))
 text_behind_dots m (n ∷ w) = ap (λ (z : List ℕ). move_text m ++ 46 ∷ z) (text_behind_dots n w)
 
 move_pieces : (m : Move) → m.count < 201 → flat_map piece (stored_move m) ≡ 46 ∷ move_text m
-move_pieces m low = λ i. cond-true {A = List ℕ} (is_count m.count) (46 ∷ decimal m.count) (letter (sign_of m.count) ∷ []) (count_first m low) i ++ sign_pieces m.signs i
+move_pieces m low = λ i. cond-true {A = List ℕ} (is_count m.count) (46 ∷ decimal m.count) (letter (sign_of m.count) ∷ []) (count_first m low) i
+    ++ sign_pieces m.signs i
 
 word_pieces : (w : Word) → AreLow w → flat_map piece (stored w) ≡ behind_dots w
 word_pieces [] low = refl
@@ -44,7 +45,8 @@ pub text_pieces : (m : Move) (w : Word) → AreLow (m ∷ w) → word_text (m �
 text_pieces m w low =
     text_behind_dots m w
     ∙ append_assoc (decimal m.count) (map letter m.signs) (behind_dots w)
-    ∙ ap (λ (z : List ℕ). decimal m.count ++ z) (sym (flat_map-append piece (map sign_byte m.signs) (stored w) ∙ (λ i. sign_pieces m.signs i ++ word_pieces w low.1 i)))
+    ∙ ap (λ (z : List ℕ). decimal m.count ++ z) (sym (flat_map-append piece (map sign_byte m.signs) (stored w)
+    ∙ (λ i. sign_pieces m.signs i ++ word_pieces w low.1 i)))
 
 -- ---- lengths
 
@@ -60,13 +62,26 @@ short_move m can few =
 short_dots : (w : Word) → AllByRecursion CanStand w → order_of w ≤ 200 → length (behind_dots w) ≤ 4 * order_of w
 short_dots [] all few = omega arith
 short_dots (m ∷ w) all few =
-    omega (arith, length-append (46 ∷ move_text m) (behind_dots w), short_move m all.0 (omega (arith, few, order_more m w)), short_dots w all.1 (omega (arith, few, order_more m w)), order_more m w)
+    omega (
+      arith,
+      length-append (46 ∷ move_text m) (behind_dots w),
+      short_move m all.0 (omega (arith, few, order_more m w)),
+      short_dots w all.1 (omega (arith, few, order_more m w)),
+      order_more m w,
+    )
 
 pub short_text : (w : Word) → IsKeptWord w → 0 < length w → length (word_text w) ≤ 800
 short_text [] kept some = omega arith
 short_text (m ∷ w) kept some =
     let all : length (behind_dots (m ∷ w)) ≤ 4 * order_of (m ∷ w) = short_dots (m ∷ w) kept.moves kept.few in
-    omega (arith, ap (λ (z : List ℕ). length z) (text_behind_dots m w), length-append (move_text m) (behind_dots w), length-append (46 ∷ move_text m) (behind_dots w), all, kept.few)
+    omega (
+      arith,
+      ap (λ (z : List ℕ). length z) (text_behind_dots m w),
+      length-append (move_text m) (behind_dots w),
+      length-append (46 ∷ move_text m) (behind_dots w),
+      all,
+      kept.few,
+    )
 
 -- the pieces of the first bytes are part of all
 pub first_pieces : (rest : List ℕ) (i : ℕ) → length (flat_map piece (take i rest)) ≤ length (flat_map piece rest)
@@ -75,21 +90,29 @@ first_pieces rest i =
     ap (λ (z : List ℕ). flat_map piece z) (sym (take-append-drop i rest)) ∙ flat_map-append piece (take i rest) (drop i rest) in
     omega (arith, length-append (flat_map piece (take i rest)) (flat_map piece (drop i rest)), ap (λ (z : List ℕ). length z) cut)
 
-pub whole_text : (bytes : List ℕ) (w : Word) → bytes ≡ stored w → IsKeptWord w → 0 < length w → word_text w ≡ decimal (slice_index_or bytes 0 0) ++ flat_map piece (drop 1 bytes)
+pub whole_text : (bytes : List ℕ) (w : Word) → bytes ≡ stored w → IsKeptWord w → 0 < length w
+    → word_text w ≡ decimal (slice_index_or bytes 0 0) ++ flat_map piece (drop 1 bytes)
 whole_text bytes [] is kept some = absurd (omega arith)
 whole_text bytes (m ∷ w) is kept some =
     text_pieces m w (few_low (m ∷ w) kept.few) ∙ ap (λ (z : List ℕ). decimal (slice_index_or z 0 0) ++ flat_map piece (drop 1 z)) (sym is)
 
 -- one byte further
-pub further_piece : (bytes : List ℕ) (i : ℕ) → i < length bytes → flat_map piece (take (i + 1) bytes) ≡ flat_map piece (take i bytes) ++ piece (get_or bytes i 0)
+pub further_piece : (bytes : List ℕ) (i : ℕ) → i < length bytes
+    → flat_map piece (take (i + 1) bytes) ≡ flat_map piece (take i bytes) ++ piece (get_or bytes i 0)
 further_piece bytes i within =
     ap (λ (z : List ℕ). flat_map piece z) (take_more bytes i 0 within)
     ∙ flat_map-append piece (take i bytes) (get_or bytes i 0 ∷ [])
     ∙ ap (λ (z : List ℕ). flat_map piece (take i bytes) ++ z) (append-nil (piece (get_or bytes i 0)))
 
-pub length_further : (bytes : List ℕ) (i : ℕ) → i < length bytes → length (flat_map piece (take i bytes)) + length (piece (get_or bytes i 0)) ≤ length (flat_map piece bytes)
+pub length_further : (bytes : List ℕ) (i : ℕ) → i < length bytes → length (flat_map piece (take i bytes)) + length (piece (get_or bytes i 0))
+    ≤ length (flat_map piece bytes)
 length_further bytes i within =
-    omega (arith, first_pieces bytes (i + 1), ap (λ (z : List ℕ). length z) (further_piece bytes i within), length-append (flat_map piece (take i bytes)) (piece (get_or bytes i 0)))
+    omega (
+      arith,
+      first_pieces bytes (i + 1),
+      ap (λ (z : List ℕ). length z) (further_piece bytes i within),
+      length-append (flat_map piece (take i bytes)) (piece (get_or bytes i 0)),
+    )
 
 -- a word that has a move has a byte
 pub some_byte : (bytes : List ℕ) (w : Word) → bytes ≡ stored w → 0 < length w → 0 < length bytes
@@ -113,6 +136,13 @@ piece_some b = some (is_count b)
     some false = omega arith
 
 -- there is room for what is written of a byte
-pub room_for_piece : (out start bytes : List ℕ) (i : ℕ) → i < length bytes → length start + length (flat_map piece bytes) + 20 ≤ 9000 → out ≡ start ++ flat_map piece (take i bytes) → length out + 21 ≤ 9000
+pub room_for_piece : (out start bytes : List ℕ) (i : ℕ) → i < length bytes → length start + length (flat_map piece bytes) + 20 ≤ 9000
+    → out ≡ start ++ flat_map piece (take i bytes) → length out + 21 ≤ 9000
 room_for_piece out start bytes i within room is =
-    omega (arith, ap (λ (z : List ℕ). length z) is, length-append start (flat_map piece (take i bytes)), length_further bytes i within, piece_some (get_or bytes i 0))
+    omega (
+      arith,
+      ap (λ (z : List ℕ). length z) is,
+      length-append start (flat_map piece (take i bytes)),
+      length_further bytes i within,
+      piece_some (get_or bytes i 0),
+    )

@@ -1,6 +1,7 @@
 -- How far the text of a word was read, with what was taken of it.
 use Rattle.std.specs.List.{AllByRecursion}
-use Rattle.std.specs.Prelude.{List, None, Option, Some, [], decimal, false, if◌then◌else◌, length, map, nat_le, nat_lt, option_and_then, option_map, refl, replicate, take, true, ℕ, ◌*◌, ◌++◌, ◌+◌, ◌-◌, ◌<◌, ◌==◌, ◌∷◌, ◌≡◌, ◌≤◌}
+use Rattle.std.specs.Prelude.{List, None, Option, Some, [], decimal, false, if◌then◌else◌, length, map, nat_le, nat_lt, option_and_then, option_map}
+use Rattle.std.specs.Prelude.{refl, replicate, take, true, ℕ, ◌*◌, ◌++◌, ◌+◌, ◌-◌, ◌<◌, ◌==◌, ◌∷◌, ◌≡◌, ◌≤◌}
 use Rattle.std.proofs.Common.{Bool, ap, append_assoc, arith, get_or, length-append, subst, sym, ◌∙◌}
 use Rattle.std.proofs.lemmas.List.{append-nil, length-replicate, map-append, take_all, take_more}
 use Rattle.bk_grammar.specs.Longest.{Begins}
@@ -57,31 +58,46 @@ many_signs n = length-replicate n Even
 
 begins : (r : Reading) → CanBeRead r → Begins IsWordText (spelled r)
 begins (Before w) can =
-    let text : IsTextOf (dotted w ++ move_text (bare 1)) (w ++ bare 1 ∷ []) = is_text w (bare 1) can (record { stands = record { some = omega arith; least = omega arith; most = omega arith }; digits = omega arith }) in
+    let text : IsTextOf (dotted w ++ move_text (bare 1)) (w ++ bare 1 ∷ []) =
+    is_text w (bare 1) can (record { stands = record { some = omega arith; least = omega arith; most = omega arith }; digits = omega arith }) in
     (move_text (bare 1), (w ++ bare 1 ∷ [], text))
 begins (Count w c) can =
     let ss : List Sign = more_signs (c - 1) in
     let n : length (more_signs (c - 1)) ≡ c - 1 = many_signs (c - 1) in
     let m : Move = record { count = c; signs = more_signs (c - 1) } in
     let text : IsTextOf (dotted w ++ (decimal c ++ map letter (more_signs (c - 1)))) (w ++ record { count = c; signs = more_signs (c - 1) } ∷ []) =
-    is_text w (record { count = c; signs = more_signs (c - 1) }) can.0 (record { stands = record { some = can.1.0; least = omega (arith, n); most = omega (arith, n) }; digits = can.1.1 }) in
-    (map letter (more_signs (c - 1)), (w ++ record { count = c; signs = more_signs (c - 1) } ∷ [], subst (λ (z : List ℕ). IsTextOf z (w ++ record { count = c; signs = more_signs (c - 1) } ∷ [])) (sym (append_assoc (dotted w) (decimal c) (map letter (more_signs (c - 1))))) text))
+    is_text w (record { count = c; signs = more_signs (c - 1) }) can.0
+    (record { stands = record { some = can.1.0; least = omega (arith, n); most = omega (arith, n) }; digits = can.1.1 }) in (
+      map letter (more_signs (c - 1)),
+      (
+        w ++ record { count = c; signs = more_signs (c - 1) } ∷ [],
+        subst (λ (z : List ℕ). IsTextOf z (w ++ record { count = c; signs = more_signs (c - 1) } ∷ []))
+            (sym (append_assoc (dotted w) (decimal c) (map letter (more_signs (c - 1))))) text,
+      ),
+    )
 begins (Signs w m) can = filled w m (more_signs (m.count - 1 - length m.signs)) can (many_signs (m.count - 1 - length m.signs))
   where
     filled : (w : Word) (m : Move) (ss : List Sign) → CanBeRead (Signs w m) → length ss ≡ m.count - 1 - length m.signs → Begins IsWordText (spelled (Signs w m))
     filled w m ss can n =
         let all : length (m.signs ++ ss) ≡ length m.signs + length ss = length-append m.signs ss in
         let text : IsTextOf (dotted w ++ (decimal m.count ++ map letter (m.signs ++ ss))) (w ++ record { count = m.count; signs = m.signs ++ ss } ∷ []) =
-        is_text w (record { count = m.count; signs = m.signs ++ ss }) can.0 (record { stands = record { some = can.1.0; least = omega (arith, n, all); most = omega (arith, n, all, can.3) }; digits = can.1.1 }) in
+        is_text w (record { count = m.count; signs = m.signs ++ ss }) can.0
+        (record { stands = record { some = can.1.0; least = omega (arith, n, all); most = omega (arith, n, all, can.3) }; digits = can.1.1 }) in
         let same : dotted w ++ (decimal m.count ++ map letter (m.signs ++ ss)) ≡ (dotted w ++ move_text m) ++ map letter ss =
         ap (λ (z : List ℕ). dotted w ++ (decimal m.count ++ z)) (map-append letter m.signs ss)
         ∙ ap (λ (z : List ℕ). dotted w ++ z) (sym (append_assoc (decimal m.count) (map letter m.signs) (map letter ss)))
-        ∙ sym (append_assoc (dotted w) (move_text m) (map letter ss)) in
-        (map letter ss, (w ++ record { count = m.count; signs = m.signs ++ ss } ∷ [], subst (λ (z : List ℕ). IsTextOf z (w ++ record { count = m.count; signs = m.signs ++ ss } ∷ [])) same text))
+        ∙ sym (append_assoc (dotted w) (move_text m) (map letter ss)) in (
+          map letter ss,
+          (
+            w ++ record { count = m.count; signs = m.signs ++ ss } ∷ [],
+            subst (λ (z : List ℕ). IsTextOf z (w ++ record { count = m.count; signs = m.signs ++ ss } ∷ [])) same text,
+          ),
+        )
 
 -- ---- the place goes along with what was read
 
-place_when : (test : Bool) (next : Reading) (p : Place) → (test ≡ true → place_of next ≡ p) → option_map place_of (if test then Some next else None) ≡ (if test then Some p else None)
+place_when : (test : Bool) (next : Reading) (p : Place) → (test ≡ true → place_of next ≡ p)
+    → option_map place_of (if test then Some next else None) ≡ (if test then Some p else None)
 place_when true next p f = ap (λ (q : Place). Some q) (f refl)
 place_when false next p f = refl
 
@@ -101,7 +117,8 @@ steps_place (Signs w m) (Digit d) can = refl
 steps_place (Signs w m) (Letter s) can =
     let least : m.count - 1 - length (m.signs ++ s ∷ []) ≡ m.count - 1 - length m.signs - 1 = omega (arith, length-append m.signs (s ∷ [])) in
     let most : m.count + 1 - length (m.signs ++ s ∷ []) ≡ m.count + 1 - length m.signs - 1 = omega (arith, length-append m.signs (s ∷ [])) in
-    place_when (nat_lt 0 (m.count + 1 - length m.signs)) (Signs w (with_sign m s)) (InSigns (m.count - 1 - length m.signs - 1) (m.count + 1 - length m.signs - 1)) (λ h i. InSigns (least i) (most i))
+    place_when (nat_lt 0 (m.count + 1 - length m.signs)) (Signs w (with_sign m s))
+    (InSigns (m.count - 1 - length m.signs - 1) (m.count + 1 - length m.signs - 1)) (λ h i. InSigns (least i) (most i))
 steps_place (Signs w m) Dot can = place_when ((m.count - 1 - length m.signs) == 0) (Before (w ++ m ∷ [])) BeforeCount (λ h. refl)
 steps_place (Signs w m) Other can = refl
 
@@ -144,12 +161,15 @@ from_none : (o : Option Reading) → option_map place_of o ≡ None → o ≡ No
 from_none None e = refl
 from_none (Some next) e = absurd (cc)
 
-step_at : (p next : Place) (r : Reading) (k : Kind) → CanBeRead r → p ≡ place_of r → next_place p k ≡ Some next → (to : Reading) × (step r k ≡ Some to) × (next ≡ place_of to)
+step_at : (p next : Place) (r : Reading) (k : Kind) → CanBeRead r → p ≡ place_of r → next_place p k ≡ Some next
+    → (to : Reading) × (step r k ≡ Some to) × (next ≡ place_of to)
 step_at p next r k can place e = from_some (step r k) next (steps_place r k can ∙ ap (λ (q : Place). next_place q k) (sym place) ∙ e)
 
 -- one byte further
-pub one_further : (bs : List ℕ) (i : ℕ) (p next : Place) (t more : Taken) → i < length bs → Progress (take i bs) p t → next_place p (kind_of (get_or bs i 0)) ≡ Some next
-    → ((r to : Reading) → p ≡ place_of r → step r (kind_of (get_or bs i 0)) ≡ Some to → Keeps (taken r) t → Keeps (taken to) more) → Progress (take (i + 1) bs) next more
+pub one_further : (bs : List ℕ) (i : ℕ) (p next : Place) (t more : Taken) → i < length bs → Progress (take i bs) p t
+    → next_place p (kind_of (get_or bs i 0)) ≡ Some next
+    → ((r to : Reading) → p ≡ place_of r → step r (kind_of (get_or bs i 0)) ≡ Some to → Keeps (taken r) t → Keeps (taken to) more)
+    → Progress (take (i + 1) bs) next more
 one_further bs i p next t more within g e keeps =
     let to = step_at p next g.r (kind_of (get_or bs i 0)) g.can g.place e in
     let f = further g.r to.0 (get_or bs i 0) g.can to.1 in
@@ -162,15 +182,19 @@ one_further bs i p next t more within g e keeps =
     }
 
 -- a byte behind which there is no place begins no rest of a text
-pub stops : (bs : List ℕ) (i : ℕ) (p : Place) (t : Taken) → i < length bs → Progress (take i bs) p t → next_place p (kind_of (get_or bs i 0)) ≡ None → IsNoWordText bs i
+pub stops : (bs : List ℕ) (i : ℕ) (p : Place) (t : Taken) → i < length bs → Progress (take i bs) p t → next_place p (kind_of (get_or bs i 0)) ≡ None
+    → IsNoWordText bs i
 stops bs i p t within g e =
-    let none : step g.r (kind_of (get_or bs i 0)) ≡ None = from_none (step g.r (kind_of (get_or bs i 0))) (steps_place g.r (kind_of (get_or bs i 0)) g.can ∙ ap (λ (q : Place). next_place q (kind_of (get_or bs i 0))) (sym g.place) ∙ e) in
+    let none : step g.r (kind_of (get_or bs i 0)) ≡ None =
+    from_none (step g.r (kind_of (get_or bs i 0))) (steps_place g.r (kind_of (get_or bs i 0)) g.can
+    ∙ ap (λ (q : Place). next_place q (kind_of (get_or bs i 0))) (sym g.place) ∙ e) in
     leaves_before IsWordText bs i within (subst (Begins IsWordText) g.spells (begins g.r g.can)) (λ x h. no_more x none h)
   where
     no_more : (x : List ℕ) → step g.r (kind_of (get_or bs i 0)) ≡ None → ¬ (IsWordText (take i bs ++ get_or bs i 0 ∷ x))
     no_more x none (w, text) =
         let found : read (take i bs ++ get_or bs i 0 ∷ x) (Before []) ≡ Some w = text_is_read (take i bs ++ get_or bs i 0 ∷ x) w text in
-        let led : read (take i bs ++ get_or bs i 0 ∷ x) (Before []) ≡ read (get_or bs i 0 ∷ x) g.r = ap (λ (z : List ℕ). read (z ++ get_or bs i 0 ∷ x) (Before [])) (sym g.spells) ∙ leads g.r (get_or bs i 0 ∷ x) g.can in
+        let led : read (take i bs ++ get_or bs i 0 ∷ x) (Before []) ≡ read (get_or bs i 0 ∷ x) g.r =
+        ap (λ (z : List ℕ). read (z ++ get_or bs i 0 ∷ x) (Before [])) (sym g.spells) ∙ leads g.r (get_or bs i 0 ∷ x) g.can in
         let stuck : read (get_or bs i 0 ∷ x) g.r ≡ None = ap (λ (o : Option Reading). option_and_then (read x) o) none in
         absurd (cc)
 
@@ -185,14 +209,20 @@ stops_at_end bs p t g e =
     no_text : ¬ (IsWordText bs)
     no_text (w, text) =
         let found : read bs (Before []) ≡ Some w = text_is_read bs w text in
-        let led : read bs (Before []) ≡ ended g.r = ap (λ (z : List ℕ). read z (Before [])) (sym g.spells ∙ sym (append-nil (spelled g.r))) ∙ leads g.r [] g.can in
+        let led : read bs (Before []) ≡ ended g.r = ap (λ (z : List ℕ). read z (Before [])) (sym g.spells ∙ sym (append-nil (spelled g.r)))
+        ∙ leads g.r [] g.can in
         let stuck : ended g.r ≡ None = no_end g.r (ap may_end (sym g.place) ∙ e) in
         absurd (cc)
 
 -- at an end the bytes are a text
-pub text_kept : (bs : List ℕ) (p : Place) (t last : Taken) → Progress bs p t → may_end p ≡ true → ((r : Reading) → p ≡ place_of r → Keeps (taken r) t → Keeps (counted r) last) → KeepsTextOf bs last
-text_kept bs p t last g e keeps =
-    (counted g.r, subst (λ (z : List ℕ). IsTextOf z (counted g.r)) g.spells (text_found g.r (counted g.r) g.can (an_end g.r (ap may_end (sym g.place) ∙ e))), keeps g.r g.place g.keeps)
+pub text_kept : (bs : List ℕ) (p : Place) (t last : Taken) → Progress bs p t → may_end p ≡ true
+    → ((r : Reading) → p ≡ place_of r → Keeps (taken r) t → Keeps (counted r) last) → KeepsTextOf bs last
+text_kept bs p t last g e keeps = (
+  counted g.r,
+  subst (λ (z : List ℕ). IsTextOf z (counted g.r)) g.spells
+      (text_found g.r (counted g.r) g.can (an_end g.r (ap may_end (sym g.place) ∙ e))),
+  keeps g.r g.place g.keeps,
+)
 
 -- ---- room
 

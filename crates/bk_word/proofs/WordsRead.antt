@@ -1,6 +1,7 @@
 -- The reader of words with all it has read; the reader in the code keeps less. And each text of a word is read as that word.
 use Rattle.std.specs.List.{AllByRecursion}
-use Rattle.std.specs.Prelude.{List, None, Option, Some, [], decimal, if◌then◌else◌, length, map, nat_le, option_and_then, refl, true, ℕ, ◌%◌, ◌&&◌, ◌*◌, ◌++◌, ◌+◌, ◌-◌, ◌/◌, ◌<◌, ◌==◌, ◌∷◌, ◌≡◌, ◌≤◌}
+use Rattle.std.specs.Prelude.{List, None, Option, Some, [], decimal, if◌then◌else◌, length, map, nat_le, option_and_then, refl, true, ℕ, ◌%◌, ◌&&◌}
+use Rattle.std.specs.Prelude.{◌*◌, ◌++◌, ◌+◌, ◌-◌, ◌/◌, ◌<◌, ◌==◌, ◌∷◌, ◌≡◌, ◌≤◌}
 use Rattle.std.proofs.Common.{ap, append_assoc, arith, eq-eqb, inl, inr, length-append, sym, ◌∙◌}
 use Rattle.std.proofs.lemmas.Bool.{and_from, cond-true, le-leb, lt-ltb, cases_lt}
 use Rattle.std.proofs.lemmas.Fmt.{decimal_digit, decimal_step}
@@ -86,7 +87,8 @@ letters_read : (w : Word) (c : ℕ) (before ss : List Sign) (x : List ℕ) → l
     → read (map letter ss ++ x) (Signs w (record { count = c; signs = before })) ≡ read x (Signs w (record { count = c; signs = before ++ ss }))
 letters_read w c before [] x few = ap (λ (l : List Sign). read x (Signs w (record { count = c; signs = l }))) (sym (append-nil before))
 letters_read w c before (s ∷ ss) x few =
-    read_next (Signs w (record { count = c; signs = before })) (Signs w (record { count = c; signs = before ++ s ∷ [] })) (Letter s) (letter s) (map letter ss ++ x) (kind_letter s)
+    read_next (Signs w (record { count = c; signs = before })) (Signs w (record { count = c; signs = before ++ s ∷ [] })) (Letter s) (letter s)
+    (map letter ss ++ x) (kind_letter s)
     (cond-true _ _ _ (lt-ltb 0 (c + 1 - length before) (omega arith)))
     ∙ letters_read w c (before ++ s ∷ []) ss x (omega (arith, length-append before (s ∷ [])))
     ∙ ap (λ (l : List Sign). read x (Signs w (record { count = c; signs = l }))) (append_assoc before (s ∷ []) ss)
@@ -100,17 +102,20 @@ signs_read w c (s ∷ ss) x few =
 
 -- ---- moves
 
-pub move_read : (w : Word) (m : Move) (x : List ℕ) → 0 < m.count → m.count ≤ 999 → length m.signs ≤ m.count + 1 → read (move_text m ++ x) (Before w) ≡ read x (behind w m m.signs)
+pub move_read : (w : Word) (m : Move) (x : List ℕ) → 0 < m.count → m.count ≤ 999 → length m.signs ≤ m.count + 1
+    → read (move_text m ++ x) (Before w) ≡ read x (behind w m m.signs)
 move_read w m x some few most =
     ap (λ (z : List ℕ). read z (Before w)) (append_assoc (decimal m.count) (map letter m.signs) x)
     ∙ count_read w m.count (map letter m.signs ++ x) some few
     ∙ signs_read w m.count m.signs x most
 
-dot_behind : (w : Word) (c : ℕ) (ss : List Sign) → c ≤ length ss + 1 → step (behind w (record { count = c; signs = ss }) ss) Dot ≡ Some (Before (w ++ record { count = c; signs = ss } ∷ []))
+dot_behind : (w : Word) (c : ℕ) (ss : List Sign) → c ≤ length ss + 1
+    → step (behind w (record { count = c; signs = ss }) ss) Dot ≡ Some (Before (w ++ record { count = c; signs = ss } ∷ []))
 dot_behind w c [] least = cond-true _ _ _ (le-leb c 1 (omega arith))
 dot_behind w c (s ∷ ss) least = cond-true _ _ _ (eq-eqb (c - 1 - length (s ∷ ss)) 0 (omega arith))
 
-end_behind : (w : Word) (c : ℕ) (ss : List Sign) → c ≤ length ss + 1 → ended (behind w (record { count = c; signs = ss }) ss) ≡ Some (w ++ record { count = c; signs = ss } ∷ [])
+end_behind : (w : Word) (c : ℕ) (ss : List Sign) → c ≤ length ss + 1
+    → ended (behind w (record { count = c; signs = ss }) ss) ≡ Some (w ++ record { count = c; signs = ss } ∷ [])
 end_behind w c [] least = cond-true _ _ _ (le-leb c 1 (omega arith))
 end_behind w c (s ∷ ss) least = cond-true _ _ _ (eq-eqb (c - 1 - length (s ∷ ss)) 0 (omega arith))
 

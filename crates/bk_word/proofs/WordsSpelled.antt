@@ -1,6 +1,7 @@
 -- What was read is the start of a text, and where a word may end it is a text.
 use Rattle.std.specs.List.{AllByRecursion}
-use Rattle.std.specs.Prelude.{List, None, Option, Some, [], decimal, flat_map, if◌then◌else◌, length, map, nat_le, nat_lt, refl, true, ℕ, ◌%◌, ◌&&◌, ◌*◌, ◌++◌, ◌+◌, ◌-◌, ◌/◌, ◌<◌, ◌==◌, ◌∷◌, ◌≡◌, ◌≤◌}
+use Rattle.std.specs.Prelude.{List, None, Option, Some, [], decimal, flat_map, if◌then◌else◌, length, map, nat_le, nat_lt, refl, true, ℕ, ◌%◌, ◌&&◌}
+use Rattle.std.specs.Prelude.{◌*◌, ◌++◌, ◌+◌, ◌-◌, ◌/◌, ◌<◌, ◌==◌, ◌∷◌, ◌≡◌, ◌≤◌}
 use Rattle.std.proofs.Common.{Bool, ap, append_assoc, arith, eqb-true, false, leb-true, length-append, ltb-true, subst, sym, ◌∙◌}
 use Rattle.std.proofs.lemmas.Bool.{and_parts}
 use Rattle.std.proofs.lemmas.Fmt.{decimal_digit, decimal_step}
@@ -49,7 +50,8 @@ dotted_one w m =
 -- the last move has no dot
 pub text_of_last : (w : Word) (m : Move) → word_text (w ++ m ∷ []) ≡ dotted w ++ move_text m
 text_of_last [] m = refl
-text_of_last (n ∷ []) m = sym (append_assoc (move_text n) (46 ∷ []) (move_text m)) ∙ ap (λ (z : List ℕ). z ++ move_text m) (sym (append-nil (move_text n ++ 46 ∷ [])))
+text_of_last (n ∷ []) m = sym (append_assoc (move_text n) (46 ∷ []) (move_text m))
+    ∙ ap (λ (z : List ℕ). z ++ move_text m) (sym (append-nil (move_text n ++ 46 ∷ [])))
 text_of_last (n ∷ k ∷ w) m =
     ap (λ (z : List ℕ). move_text n ++ 46 ∷ z) (text_of_last (k ∷ w) m)
     ∙ sym (append_assoc (move_text n) (46 ∷ []) (dotted (k ∷ w) ++ move_text m))
@@ -92,7 +94,8 @@ longer_decimal n d some few small =
     decimal_step (n * 10 + d) (omega arith) (omega arith) ∙ (λ i. decimal (tens i) ++ (48 + ones i) ∷ [])
 
 longer_move : (m : Move) (s : Sign) → move_text (with_sign m s) ≡ move_text m ++ letter s ∷ []
-longer_move m s = ap (λ (z : List ℕ). decimal m.count ++ z) (map-append letter m.signs (s ∷ [])) ∙ sym (append_assoc (decimal m.count) (map letter m.signs) (letter s ∷ []))
+longer_move m s = ap (λ (z : List ℕ). decimal m.count ++ z) (map-append letter m.signs (s ∷ []))
+    ∙ sym (append_assoc (decimal m.count) (map letter m.signs) (letter s ∷ []))
 
 -- what was read with the byte is what was read, and the byte
 pub record Further (r next : Reading) (b : ℕ) : Type 0 where
@@ -127,7 +130,8 @@ one_further (Before w) Dot b can is = tt
 one_further (Before w) Other b can is = tt
 one_further (Count w c) (Digit d) b can is = when (nat_lt c 100) (Count w (c * 10 + d)) (Count w c) b (λ h. record {
   can = (can.0, (omega (arith, can.1.0), omega (arith, ltb-true c 100 h, is.1)));
-  spells = ap (λ (z : List ℕ). dotted w ++ z) (longer_decimal c d can.1.0 (ltb-true c 100 h) is.1 ∙ ap (λ (n : ℕ). decimal c ++ n ∷ []) (sym is.0)) ∙ sym (append_assoc (dotted w) (decimal c) (b ∷ []));
+  spells = ap (λ (z : List ℕ). dotted w ++ z) (longer_decimal c d can.1.0 (ltb-true c 100 h) is.1 ∙ ap (λ (n : ℕ). decimal c ++ n ∷ []) (sym is.0))
+      ∙ sym (append_assoc (dotted w) (decimal c) (b ∷ []));
 })
 one_further (Count w c) (Letter s) b can is = record {
   can = (can.0, can.1, omega arith, omega (arith, can.1.0));
@@ -140,8 +144,14 @@ one_further (Count w c) Dot b can is = when (nat_le c 1) (Before (w ++ bare c �
 one_further (Count w c) Other b can is = tt
 one_further (Signs w m) (Digit d) b can is = tt
 one_further (Signs w m) (Letter s) b can is = when (nat_lt 0 (m.count + 1 - length m.signs)) (Signs w (with_sign m s)) (Signs w m) b (λ h. record {
-  can = (can.0, can.1, omega (arith, length-append m.signs (s ∷ [])), omega (arith, length-append m.signs (s ∷ []), ltb-true 0 (m.count + 1 - length m.signs) h));
-  spells = ap (λ (z : List ℕ). dotted w ++ z) (longer_move m s ∙ ap (λ (n : ℕ). move_text m ++ n ∷ []) (sym is)) ∙ sym (append_assoc (dotted w) (move_text m) (b ∷ []));
+  can = (
+    can.0,
+    can.1,
+    omega (arith, length-append m.signs (s ∷ [])),
+    omega (arith, length-append m.signs (s ∷ []), ltb-true 0 (m.count + 1 - length m.signs) h),
+  );
+  spells = ap (λ (z : List ℕ). dotted w ++ z) (longer_move m s ∙ ap (λ (n : ℕ). move_text m ++ n ∷ []) (sym is))
+      ∙ sym (append_assoc (dotted w) (move_text m) (b ∷ []));
 })
 one_further (Signs w m) Dot b can is = when ((m.count - 1 - length m.signs) == 0) (Before (w ++ m ∷ [])) (Signs w m) b (λ h. record {
   can = written_one w m can.0 (move_written m can.1 can.3 (omega (arith, eqb-true (m.count - 1 - length m.signs) 0 h)));
@@ -165,7 +175,8 @@ text_when false w bytes f = tt
 text_ended : (r : Reading) → CanBeRead r → TextBy (ended r) (spelled r)
 text_ended (Before w) can = tt
 text_ended (Count w c) can = text_when (nat_le c 1) (w ++ bare c ∷ []) (dotted w ++ decimal c)
-    (λ h. subst (λ (z : List ℕ). IsTextOf (dotted w ++ z) (w ++ bare c ∷ [])) (append-nil (decimal c)) (is_text w (bare c) can.0 (bare_written c can.1 (leb-true c 1 h))))
+    (λ h. subst (λ (z : List ℕ). IsTextOf (dotted w ++ z) (w ++ bare c ∷ [])) (append-nil (decimal c))
+    (is_text w (bare c) can.0 (bare_written c can.1 (leb-true c 1 h))))
 text_ended (Signs w m) can = text_when ((m.count - 1 - length m.signs) == 0) (w ++ m ∷ []) (dotted w ++ move_text m)
     (λ h. is_text w m can.0 (move_written m can.1 can.3 (omega (arith, eqb-true (m.count - 1 - length m.signs) 0 h))))
 

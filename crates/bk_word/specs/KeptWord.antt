@@ -1,4 +1,5 @@
 -- Which words a `Word` can be: those of at most 200 squares, whose moves have about as many signs as squares.
+-- Example (WordExamples): 2aue can stand in a word, and 2 cannot.
 use Rattle.std.specs.List.{AllByRecursion}
 use Rattle.std.specs.Prelude.{length, ◌+◌, ◌<◌, ◌≤◌}
 use Rattle.bk_word.specs.Word.{Move, Word, order_of}

@@ -1,4 +1,5 @@
 -- The signs of a move between its own squares.
+-- Example (WordExamples): after 3ua the move 2aue has one sign between its own two squares, the u in the middle.
 use Rattle.std.specs.Prelude.{List, drop, take, ◌-◌}
 use Rattle.bk_word.specs.Outline.{Outline, has_left_wall, open_side}
 use Rattle.bk_word.specs.Word.{Move}

@@ -1,4 +1,5 @@
 -- When the text of a word is refused.
+-- Example (WordItemExamples): two moves of 101 squares each are refused as Many, since the order is 202.
 use Rattle.std.specs.Prelude.{List, length, ℕ, ◌<◌, ◌≤◌}
 use Rattle.bk_word.specs.Stored.{stored}
 use Rattle.bk_word.specs.Word.{Word, order_of}

@@ -1,4 +1,5 @@
 -- The item of a line that holds a word.
+-- Example (WordItemExamples): the item of the line " 1 ;x" is 1, from byte 1 to byte 2.
 use Rattle.std.specs.List.{AllByRecursion}
 use Rattle.std.specs.Prelude.{List, [], length, slice_range, take, ℕ, ◌++◌, ◌<◌, ◌∷◌, ◌≡◌, ◌≢◌, ◌≤◌}
 use Rattle.bk_grammar.specs.Grammar.{Blanks, Comment, IsBlank, Nothing, ◌or◌}

@@ -12,8 +12,6 @@ mod item;
 mod reader;
 mod reading;
 mod storage;
-#[cfg(test)]
-mod tests;
 mod writer;
 
 use arrayvec::ArrayVec;

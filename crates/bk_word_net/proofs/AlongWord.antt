@@ -1,7 +1,8 @@
 -- What holds along a word of a tiling, from the first turn to the last: the sides of the squares that hang from a
 -- node sum to the width of its valley, and each valley but the first lies below the top.
 use Rattle.std.specs.List.{AllByRecursion}
-use Rattle.std.proofs.Common.{List, Some, [], ap, arith, inl, inr, length, refl, replicate, slice_get, subst, suc, sym, true, zero, ℕ, ◌++◌, ◌+◌, ◌<◌, ◌∙◌, ◌∷◌, ◌≡◌, ◌≤◌, ◌⊎◌}
+use Rattle.std.proofs.Common.{List, Some, [], ap, arith, inl, inr, length, refl, replicate, slice_get, subst, suc, sym, true, zero, ℕ, ◌++◌, ◌+◌}
+use Rattle.std.proofs.Common.{◌<◌, ◌∙◌, ◌∷◌, ◌≡◌, ◌≤◌, ◌⊎◌}
 use Rattle.std.proofs.lemmas.List.{length-append, length-map, map-append}
 use Rattle.bk_laws.proofs.ZippedLists.{zip_length}
 use Rattle.bk_laws.proofs.Totals.{total}

@@ -1,7 +1,8 @@
 -- The squares that stand at the bottom of what is laid, from left to right, each as deep as its columns; and the
 -- numbers of the open segments in a row.
 use Rattle.std.specs.List.{concat}
-use Rattle.std.proofs.Common.{List, [], ap, arith, cond, drop, inl, inr, length, map, nat_eq, refl, slice_get, slice_index_or, subst, suc, sym, take, zero, ℕ, ◌++◌, ◌+◌, ◌<◌, ◌∙◌, ◌∷◌, ◌≡◌, ◌≤◌, ◌⊎◌}
+use Rattle.std.proofs.Common.{List, [], ap, arith, cond, drop, inl, inr, length, map, nat_eq, refl, slice_get, slice_index_or, subst, suc, sym, take}
+use Rattle.std.proofs.Common.{zero, ℕ, ◌++◌, ◌+◌, ◌<◌, ◌∙◌, ◌∷◌, ◌≡◌, ◌≤◌, ◌⊎◌}
 use Rattle.std.proofs.lemmas.Bool.{cases_lt}
 use Rattle.std.proofs.lemmas.Bool.Decides.{nat_tests}
 use Rattle.std.proofs.lemmas.List.{append_assoc, length-append}

@@ -2,7 +2,8 @@
 -- laid fills its columns once. The word's signs play no part here.
 use Rattle.std.specs.List.{AllByRecursion, concat}
 use Rattle.std.specs.Prelude.{nat_abs, pos, ◌-ℤ◌}
-use Rattle.std.proofs.Common.{List, Some, [], ap, arith, count_by, drop, inl, inr, length, map, refl, replicate, slice_get, slice_index_or, subst, suc, sym, take, zero, ℕ, ◌++◌, ◌+◌, ◌<◌, ◌∙◌, ◌∷◌, ◌≡◌, ◌≤◌, ◌⊎◌}
+use Rattle.std.proofs.Common.{List, Some, [], ap, arith, count_by, drop, inl, inr, length, map, refl, replicate, slice_get, slice_index_or, subst}
+use Rattle.std.proofs.Common.{suc, sym, take, zero, ℕ, ◌++◌, ◌+◌, ◌<◌, ◌∙◌, ◌∷◌, ◌≡◌, ◌≤◌, ◌⊎◌}
 use Rattle.std.proofs.lemmas.Int.{ints}
 use Rattle.std.proofs.lemmas.List.{append_assoc, length-append, length-map, length-replicate, length-take-le, map-append, take-append-drop}
 use Rattle.std.proofs.lemmas.Option.{slice_get_within}
@@ -23,7 +24,8 @@ use Rattle.bk_word.specs.Play.{after_move, new_squares, numbers_from, segments_a
 use Rattle.bk_word.specs.Word.{Move}
 use Rattle.bk_lay.proofs.Steps.{one_of}
 use Rattle.bk_lay.specs.Depiction.{IsNumbered, Span}
-use Rattle.bk_word_net.proofs.BottomChain.{BottomChain, chain_group, chain_join, chain_least, chain_level, chain_more, chain_split, concat-append, concat-cut, concat-joined, concat-singles}
+use Rattle.bk_word_net.proofs.BottomChain.{BottomChain, chain_group, chain_join, chain_least, chain_level, chain_more, chain_split, concat-append}
+use Rattle.bk_word_net.proofs.BottomChain.{concat-cut, concat-joined, concat-singles}
 use Rattle.bk_word_net.proofs.FlowFacts.{HasSides, IsLater, balance, drop_of, sides_count, times_below}
 use Rattle.bk_word_net.proofs.NoLoose.{Played}
 use Rattle.bk_word_net.proofs.Numbering.{HasPlace, place_of_number}

@@ -1,6 +1,7 @@
 -- Each move of a tiling's word hangs one whole group: each valley that is filled is the run of columns of a group of the
 -- tiling's code, and no valley is filled twice.
-use Rattle.std.proofs.Common.{List, Some, [], ap, arith, inl, inr, length, refl, slice_get, subst, suc, sym, true, ℕ, ◌++◌, ◌+◌, ◌-◌, ◌<◌, ◌∙◌, ◌∷◌, ◌≡◌, ◌≤◌, ◌⊎◌}
+use Rattle.std.proofs.Common.{List, Some, [], ap, arith, inl, inr, length, refl, slice_get, subst, suc, sym, true, ℕ, ◌++◌, ◌+◌, ◌-◌, ◌<◌, ◌∙◌, ◌∷◌}
+use Rattle.std.proofs.Common.{◌≡◌, ◌≤◌, ◌⊎◌}
 use Rattle.std.proofs.lemmas.Bool.{cases_lt}
 use Rattle.bk_laws.proofs.Totals.{total}
 use Rattle.bk_tiling.proofs.Cells.{column_from, counted_one, covers_from, depth-append, depth_reaches, from_append, in_filter, over_from}
@@ -14,7 +15,8 @@ use Rattle.bk_tiling.specs.declared.Square.{Square}
 use Rattle.bk_tiling.proofs.Groups.{IsRow, row_of}
 use Rattle.bk_tiling.proofs.TilingGroups.{one_there}
 use Rattle.bk_tiling.specs.SquareGroups.{square_groups}
-use Rattle.bk_net.proofs.SidesFlow.{at_level, end_within, group_of, in_group, not_right, row_is, top_of, width_is}
+use Rattle.bk_net.proofs.GroupColumns.{at_level, end_within, not_right, width_is}
+use Rattle.bk_net.proofs.GroupSquares.{group_of, in_group, row_is, top_of}
 use Rattle.bk_word.specs.Outline.{Outline, start}
 use Rattle.bk_word.specs.Play.{after_move, after_moves}
 use Rattle.bk_word.specs.Word.{Move, Word}

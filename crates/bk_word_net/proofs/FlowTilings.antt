@@ -2,7 +2,8 @@
 use Rattle.std.specs.List.{AllByRecursion, concat}
 use Rattle.std.specs.Prelude.{nat_abs, pos, ℤ, ◌-ℤ◌}
 use Prim.Native.Nat.{◌∣◌}
-use Rattle.std.proofs.Common.{Bool, List, [], ap, arith, cond, false, inl, inr, length, map, nat_eq, refl, slice_get, slice_index_or, subst, suc, sym, true, zero, ℕ, ◌*◌, ◌++◌, ◌+◌, ◌<◌, ◌∙◌, ◌∷◌, ◌≡◌, ◌≤◌, ◌⊎◌}
+use Rattle.std.proofs.Common.{Bool, List, [], ap, arith, cond, false, inl, inr, length, map, nat_eq, refl, slice_get, slice_index_or, subst, suc}
+use Rattle.std.proofs.Common.{sym, true, zero, ℕ, ◌*◌, ◌++◌, ◌+◌, ◌<◌, ◌∙◌, ◌∷◌, ◌≡◌, ◌≤◌, ◌⊎◌}
 use Rattle.std.proofs.Math.Nat.{dvd-mul_left, mul_comm}
 use Rattle.std.proofs.lemmas.Int.{ints}
 use Rattle.std.proofs.lemmas.List.Elements.{All-from_recursion}

@@ -1,7 +1,8 @@
 -- The tiling whose squares were placed move by move has the word of these moves, where the bottoms compare as its
 -- signs say.
 use Rattle.std.specs.List.{AllByRecursion, AllZip}
-use Rattle.std.proofs.Common.{Bool, List, Some, [], ap, arith, cond, false, inl, inr, length, map, nat_eq, refl, slice_get, slice_index_or, subst, suc, sym, true, ℕ, ◌++◌, ◌+◌, ◌-◌, ◌<◌, ◌∙◌, ◌∷◌, ◌≡◌, ◌≤◌, ◌⊎◌}
+use Rattle.std.proofs.Common.{Bool, List, Some, [], ap, arith, cond, false, inl, inr, length, map, nat_eq, refl, slice_get, slice_index_or, subst}
+use Rattle.std.proofs.Common.{suc, sym, true, ℕ, ◌++◌, ◌+◌, ◌-◌, ◌<◌, ◌∙◌, ◌∷◌, ◌≡◌, ◌≤◌, ◌⊎◌}
 use Rattle.std.proofs.lemmas.Bool.Decides.{nat_tests}
 use Rattle.std.proofs.lemmas.List.{append-nil, append_assoc, length-append, length-map}
 use Rattle.bk_laws.proofs.ZippedLists.{zip_at, zip_length}
@@ -26,7 +27,7 @@ use Rattle.bk_lay.proofs.Depicting.{some_signs}
 use Rattle.bk_lay.proofs.Filling.{IsUnder, hangs_from, under_from, valley_is_filled}
 use Rattle.bk_lay.proofs.Joining.{levels}
 use Rattle.bk_lay.proofs.Laying.{ordered_filter}
-use Rattle.bk_lay.proofs.Places.{HasFirst, HasLast, Placed, placed}
+use Rattle.bk_lay.proofs.Places.{HasFirst, HasLast, Placed, depth_from_end, placed}
 use Rattle.bk_lay.proofs.Steps.{move_depicts}
 use Rattle.bk_lay.proofs.ValleySegment.{valley_segment}
 use Rattle.bk_lay.proofs.Valleys.{one_leftmost_valley, segment_path}
@@ -36,7 +37,7 @@ use Rattle.bk_lay.specs.TilingWord.{IsLeftmostValley, MovesFollow, bottoms, dept
 use Rattle.bk_lay.specs.WordLaws.{NeverDeeperBefore}
 use Rattle.bk_word_net.proofs.AlongWord.{top_valley}
 use Rattle.bk_word_net.proofs.LaidFlow.{get_one}
-use Rattle.bk_word_net.proofs.ShownOutline.{depth_from_end, runs_at}
+use Rattle.bk_word_net.proofs.ShownOutline.{runs_at}
 use Rattle.bk_word_net.proofs.Sums.{positive_total, span_sum}
 use Rattle.bk_word_net.specs.FlowTiling.{SignsCompare, bottoms_of_move, segment_bottom}
 use Rattle.bk_word_net.specs.WordFlow.{LaidAlong}

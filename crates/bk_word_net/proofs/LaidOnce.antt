@@ -1,5 +1,6 @@
 -- The word and the sides in the order of laying fix the tiling.
 use Rattle.std.proofs.Common.{List, [], arith, map, refl, sym, ℕ, ◌*◌, ◌∙◌, ◌∷◌, ◌≡◌}
+use Rattle.std.proofs.Math.Nat.{one-mul}
 use Rattle.bk_tiling.proofs.EnlargedTilings.{enlarged-once}
 use Rattle.bk_tiling.specs.Tiling.{Tiling}
 use Rattle.bk_tiling.specs.declared.Square.{Square}
@@ -7,12 +8,9 @@ use Rattle.bk_word.specs.Word.{Word}
 use Rattle.bk_word_net.proofs.OneTiling.{laid_sides_fix_a_tiling}
 use Rattle.bk_word_net.specs.LaidTiling.{IsLaidWith}
 
-once : (n : ℕ) → 1 * n ≡ n
-once n = omega arith
-
 sides_once : (squares : List Square) → map (λ q. 1 * q.s) squares ≡ map (λ q. q.s) squares
 sides_once [] = refl
-sides_once (q ∷ squares) = λ i. once q.s i ∷ sides_once squares i
+sides_once (q ∷ squares) = λ i. one-mul q.s i ∷ sides_once squares i
 
 -- a word and its sides have one tiling
 pub laid_once : (w : Word) (given : List ℕ) (t u : Tiling) → IsLaidWith w given t → IsLaidWith w given u → t ≡ u

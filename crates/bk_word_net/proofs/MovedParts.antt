@@ -1,5 +1,6 @@
 -- The outline after a move, by the parts of the outline that is cut at its leftmost valley.
-use Rattle.std.proofs.Common.{List, [], ap, arith, drop, false, filter, inl, inr, length, map, nat_eq, refl, slice_index_or, suc, sym, take, zero, ℕ, ◌++◌, ◌+◌, ◌-◌, ◌<◌, ◌∙◌, ◌∷◌, ◌≡◌, ◌≤◌, ◌⊎◌}
+use Rattle.std.proofs.Common.{List, [], ap, arith, drop, false, filter, inl, inr, length, map, nat_eq, refl, slice_index_or, suc, sym, take, zero, ℕ}
+use Rattle.std.proofs.Common.{◌++◌, ◌+◌, ◌-◌, ◌<◌, ◌∙◌, ◌∷◌, ◌≡◌, ◌≤◌, ◌⊎◌}
 use Rattle.std.proofs.lemmas.Bool.Decides.{nat_tests}
 use Rattle.std.proofs.lemmas.List.{append_assoc, drop_at, length-append, length-map, take_at}
 use Rattle.std.proofs.lemmas.List.Elements.{filter-append}

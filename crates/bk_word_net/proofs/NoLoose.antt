@@ -1,7 +1,8 @@
 -- The net of a complete word: each wire leads to a later node, and one leads from each node but the last. So no
 -- node is loose, and each flow of a positive total is the one flow.
 use Rattle.std.specs.List.{AllByRecursion}
-use Rattle.std.proofs.Common.{Contains, List, [], arith, inl, inr, length, replicate, slice_index_or, subst, suc, zero, ℕ, ◌++◌, ◌+◌, ◌-◌, ◌<◌, ◌∙◌, ◌∷◌, ◌≡◌, ◌≤◌, ◌⊎◌}
+use Rattle.std.proofs.Common.{Contains, List, [], arith, inl, inr, length, replicate, slice_index_or, subst, suc, zero, ℕ, ◌++◌, ◌+◌, ◌-◌, ◌<◌, ◌∙◌}
+use Rattle.std.proofs.Common.{◌∷◌, ◌≡◌, ◌≤◌, ◌⊎◌}
 use Rattle.std.proofs.lemmas.Bool.{cases_lt}
 use Rattle.std.proofs.lemmas.List.Elements.{All-from_recursion}
 use Rattle.std.proofs.lemmas.List.{length-append, length-replicate}

@@ -1,7 +1,8 @@
 -- What is seen of an outline that shows what is laid by the numbers of its open squares alone, from left to right: the
 -- squares of the leftmost valley stand side by side among them, and the bottoms beside them are the depths there.
 use Rattle.std.specs.List.{AllZip, concat}
-use Rattle.std.proofs.Common.{List, Some, [], ap, arith, drop, inl, inr, length, map, nat_eq, refl, slice_get, slice_index_or, subst, suc, sym, take, zero, ℕ, ◌++◌, ◌+◌, ◌-◌, ◌<◌, ◌∙◌, ◌∷◌, ◌≡◌, ◌⊎◌}
+use Rattle.std.proofs.Common.{List, Some, [], ap, arith, drop, inl, inr, length, map, nat_eq, refl, slice_get, slice_index_or, subst, suc, sym, take}
+use Rattle.std.proofs.Common.{zero, ℕ, ◌++◌, ◌+◌, ◌-◌, ◌<◌, ◌∙◌, ◌∷◌, ◌≡◌, ◌⊎◌}
 use Rattle.std.proofs.lemmas.List.{append-nil, append_assoc}
 use Rattle.bk_laws.proofs.ZippedLists.{zip_after, zip_at, zip_before, zip_length}
 use Rattle.bk_tiling.specs.Column.{AreRuns, IsLevel, depth}
@@ -13,13 +14,13 @@ use Rattle.bk_word.specs.Play.{after_move, new_squares, segments_apart, signs_ap
 use Rattle.bk_word.specs.Word.{Move}
 use Rattle.bk_lay.proofs.Depicting.{left_count, right_count}
 use Rattle.bk_lay.proofs.Joining.{levels}
-use Rattle.bk_lay.proofs.Places.{HasFirst, HasLast, Placed}
+use Rattle.bk_lay.proofs.Places.{HasFirst, HasLast, Placed, depth_from_end}
 use Rattle.bk_lay.proofs.Valleys.{one_leftmost_valley}
 use Rattle.bk_word.specs.declared.Sign.{Sign}
 use Rattle.bk_lay.specs.Depiction.{IsNumbered, IsSegment, Span}
 use Rattle.bk_lay.specs.TilingWord.{IsLeftmostValley, depth_before, depth_from}
 use Rattle.bk_word_net.proofs.BottomChain.{concat-append, concat-cut, concat-joined, concat-singles}
-use Rattle.bk_word_net.proofs.ShownOutline.{depth_from_end, fills_total, first_is, last_is, level_signs, number_levels, one_run, place_in, runs_at, shows_move}
+use Rattle.bk_word_net.proofs.ShownOutline.{fills_total, first_is, last_is, level_signs, number_levels, one_run, place_in, runs_at, shows_move}
 use Rattle.bk_word_net.specs.LaidOutline.{IsGap, IsTurn, ShowsLaid, back_of, bottom_at, front_of, square_at}
 
 -- the square of a number

@@ -1,10 +1,12 @@
 -- In the play of any word, legal or not, each square that was hung stands in just one of the closed and open
 -- segments, and once.
 use Rattle.std.specs.List.{list_any}
-use Rattle.std.proofs.Common.{Bool, List, [], ap, arith, cond, drop, false, inl, inr, length, map, nat_eq, not, refl, replicate, slice_index_or, subst, suc, sym, take, true, zero, ℕ, ◌++◌, ◌+◌, ◌<◌, ◌||◌, ◌∙◌, ◌∷◌, ◌≡◌, ◌≤◌, ◌⊎◌}
+use Rattle.std.proofs.Common.{Bool, List, [], ap, arith, cond, drop, false, inl, inr, length, map, nat_eq, not, refl, replicate, slice_index_or}
+use Rattle.std.proofs.Common.{subst, suc, sym, take, true, zero, ℕ, ◌++◌, ◌+◌, ◌<◌, ◌||◌, ◌∙◌, ◌∷◌, ◌≡◌, ◌≤◌, ◌⊎◌}
 use Rattle.std.proofs.lemmas.Bool.Decides.{nat_tests}
 use Rattle.std.proofs.lemmas.List.{length-append, length-replicate}
 use Rattle.bk_laws.proofs.Occurrences.{times, times-append, times_at, times_in, times_in-append}
+use Rattle.bk_laws.proofs.Tests.{far, near, shift}
 use Rattle.bk_word.specs.Outline.{Outline, start, valley_of, valley_place}
 use Rattle.bk_word.specs.Play.{after_move, after_moves, before_first_list, joined, new_squares, numbers_from, segments_apart, signs_apart}
 use Rattle.bk_word.specs.Word.{Move, Word}
@@ -168,15 +170,6 @@ has_place m (numbers ∷ lists) e = cases (any_times m numbers) (has_place m lis
 
     here : ◌≡◌ {A = ℕ} (cond (nat_eq 0 0) 1 0) 1
     here = refl
-
-    shift : (a v : ℕ) → ◌≡◌ {A = ℕ} (cond (nat_eq (1 + a) (suc v)) 1 0) (cond (nat_eq a v) 1 0)
-    shift a v = grind (arith, nat_tests)
-
-    far : (v : ℕ) → ◌≡◌ {A = ℕ} (cond (nat_eq 0 (suc v)) 1 0) 0
-    far v = grind (arith, nat_tests)
-
-    near : (a : ℕ) → ◌≡◌ {A = ℕ} (cond (nat_eq (1 + a) 0) 1 0) 0
-    near a = grind (arith, nat_tests)
 
     at : (a v : ℕ) → slice_index_or (numbers ∷ lists) (1 + a) [] ≡ slice_index_or lists a []
     at a v = λ i. slice_index_or (numbers ∷ lists) (step i) []

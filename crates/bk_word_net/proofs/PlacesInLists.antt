@@ -1,6 +1,7 @@
 -- Where things stand in lists: squares in lists without repeats, wires, and numbers that a map takes one to one.
 use Rattle.std.specs.List.{position_or_len}
-use Rattle.std.proofs.Common.{Bool, List, Option, Some, [], ap, arith, cond, false, inl, inr, length, map, nat_eq, not, refl, slice_get, slice_index_or, subst, suc, sym, true, zero, ℕ, ◌+◌, ◌<◌, ◌∙◌, ◌∷◌, ◌≡◌, ◌≤◌, ◌⊎◌}
+use Rattle.std.proofs.Common.{Bool, List, Option, Some, [], ap, arith, cond, false, inl, inr, length, map, nat_eq, not, refl, slice_get}
+use Rattle.std.proofs.Common.{slice_index_or, subst, suc, sym, true, zero, ℕ, ◌+◌, ◌<◌, ◌∙◌, ◌∷◌, ◌≡◌, ◌≤◌, ◌⊎◌}
 use Rattle.std.proofs.lemmas.Bool.{both_ways, cases_lt}
 use Rattle.std.proofs.lemmas.List.{length-map}
 use Rattle.bk_laws.proofs.Occurrences.{times}
@@ -8,7 +9,7 @@ use Rattle.bk_laws.proofs.ListPlaces.{get_after, get_append, get_map}
 use Rattle.bk_tiling.specs.Tiling.{IsOneOf}
 use Rattle.bk_tiling.specs.declared.Square.{Square}
 use Rattle.bk_tiling.proofs.Groups.{row_of}
-use Rattle.bk_net.proofs.SidesFlow.{place}
+use Rattle.bk_net.proofs.NodeBelow.{place}
 use Rattle.bk_net.proofs.SmithLists.{group_wires}
 use Rattle.bk_lay.proofs.Steps.{one_of}
 use Rattle.bk_lay.proofs.WordPlay.{NoneTwice, fewer}

@@ -1,6 +1,7 @@
 -- The net of a tiling's word is its Smith diagram, with nodes and wires renumbered.
 use Rattle.std.specs.List.{position_or_len}
-use Rattle.std.proofs.Common.{List, Some, [], ap, arith, inl, inr, length, map, option_map, refl, slice_get, slice_index_or, subst, suc, sym, zero, ℕ, ◌++◌, ◌+◌, ◌<◌, ◌∙◌, ◌∷◌, ◌≡◌, ◌≤◌, ◌⊎◌}
+use Rattle.std.proofs.Common.{List, Some, [], ap, arith, inl, inr, length, map, option_map, refl, slice_get, slice_index_or, subst, suc, sym, zero}
+use Rattle.std.proofs.Common.{ℕ, ◌++◌, ◌+◌, ◌<◌, ◌∙◌, ◌∷◌, ◌≡◌, ◌≤◌, ◌⊎◌}
 use Rattle.std.proofs.lemmas.Bool.{cases_lt}
 use Rattle.std.proofs.lemmas.Option.{slice_get_within}
 use Rattle.std.proofs.lemmas.List.{length-append, length-map}
@@ -11,7 +12,8 @@ use Rattle.bk_tiling.specs.declared.Square.{Square}
 use Rattle.bk_tiling.proofs.Groups.{row_of}
 use Rattle.bk_tiling.proofs.TilingGroups.{one_there}
 use Rattle.bk_tiling.specs.SquareGroups.{square_groups}
-use Rattle.bk_net.proofs.SidesFlow.{deep, group_of, row_is}
+use Rattle.bk_net.proofs.GroupSquares.{group_of, row_is}
+use Rattle.bk_net.proofs.SidesFlow.{deep}
 use Rattle.bk_net.proofs.SmithLists.{group_wires}
 use Rattle.bk_net.specs.Diagram.{node_below, smith_diagram}
 use Rattle.bk_word.specs.Outline.{start}
@@ -30,7 +32,8 @@ use Rattle.bk_word_net.proofs.Wires.{wires_length}
 use Rattle.bk_word_net.specs.Renumbering.{IsRenumbering, WordNetIsSmithDiagram}
 use Rattle.bk_word_net.specs.WordNet.{end_of, net_of_word}
 use Rattle.bk_word_net.proofs.PlacesInLists.{WireAt, one_index, pos_found, wire_at, wires_got}
-use Rattle.bk_word_net.proofs.WordNodes.{all_in_laid, as_many, closed_is, complete, ends_there, heads, hung_group, hung_is, in_place, laid_in, laid_once, node_apart, node_below_groups, node_last, node_of_word, node_run}
+use Rattle.bk_word_net.proofs.WordNodes.{all_in_laid, as_many, closed_is, complete, ends_there, heads, hung_group, hung_is, in_place, laid_in}
+use Rattle.bk_word_net.proofs.WordNodes.{laid_once, node_apart, node_below_groups, node_last, node_of_word, node_run}
 
 module _ (t : Tiling) (w : Word) (tiling : IsTiling t) (p : IsWordOf t w) where
   abbrev e : ExactEnd t (outline_of w)

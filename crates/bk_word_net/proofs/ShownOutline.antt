@@ -1,8 +1,8 @@
 -- Squares laid in the leftmost valley of an outline that shows what is laid: the outline after the move shows what is
 -- laid then. No tiling is known yet.
 use Rattle.std.specs.List.{AllByRecursion, AllZip}
-use Rattle.std.proofs.Common.{Bool, List, [], ap, arith, cond, drop, false, filter, inl, inr, length, map, nat_lt, refl, replicate, subst, suc, sym, take, true, ℕ, ◌++◌, ◌+◌, ◌-◌, ◌<◌, ◌∙◌, ◌∷◌, ◌≡◌, ◌≤◌, ◌⊎◌}
-use Rattle.std.proofs.lemmas.Bool.Decides.{nat_tests}
+use Rattle.std.proofs.Common.{List, [], ap, arith, drop, filter, inl, inr, length, map, refl, replicate, subst, suc, sym, take, true, ℕ, ◌++◌, ◌+◌}
+use Rattle.std.proofs.Common.{◌-◌, ◌<◌, ◌∙◌, ◌∷◌, ◌≡◌, ◌≤◌, ◌⊎◌}
 use Rattle.std.proofs.lemmas.List.{length-append, length-map, length-replicate, map-append}
 use Rattle.bk_laws.proofs.ZippedLists.{zip_after, zip_append, zip_before, zip_length, zip_map}
 use Rattle.bk_laws.proofs.Totals.{sum_is_total, total}
@@ -20,7 +20,7 @@ use Rattle.bk_word.specs.Word.{Move}
 use Rattle.bk_word.specs.declared.Sign.{Sign}
 use Rattle.bk_lay.proofs.Depicting.{FirstIs, LastIs, signs_new}
 use Rattle.bk_lay.proofs.Joining.{Joined, join, levels}
-use Rattle.bk_lay.proofs.Places.{HasFirst, HasLast, Placed, placed}
+use Rattle.bk_lay.proofs.Places.{HasFirst, HasLast, Placed, depth_from_end, placed}
 use Rattle.bk_lay.proofs.Steps.{new_levels, new_segments, one_of, run_of, segment_more}
 use Rattle.bk_lay.specs.Depiction.{IsNumbered, IsSegment}
 use Rattle.bk_lay.specs.TilingWord.{IsLeftmostValley, depth_before, depth_from, signs_between}
@@ -56,13 +56,6 @@ pub one_run : (width : ℕ) (laid : List Square) (before : List Segment) (v : Se
 one_run width laid [] v [] cut one = (cut.0, omega (arith, cut.2))
 one_run width laid [] v (r ∷ after) cut one = absurd (omega arith)
 one_run width laid (r ∷ before) v after cut one = absurd (omega (arith, one, length-append before (v ∷ after)))
-
--- past the last column there is no depth
-pub depth_from_end : (width : ℕ) (laid : List Square) (c : ℕ) → c ≡ width → depth_from width laid c ≡ []
-depth_from_end width laid c e = ap (λ (b : Bool). cond b (depth laid c ∷ []) []) (past c width e)
-  where
-    past : (a b : ℕ) → a ≡ b → nat_lt a b ≡ false
-    past a b e = grind (arith, nat_tests)
 
 -- the leftmost valley among the runs
 abbrev pub place_in : (width : ℕ) (laid : List Square) (o : Outline) (s : ShowsLaid width laid o) → 0 < width → Placed width laid 0 s.runs

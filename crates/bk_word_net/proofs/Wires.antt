@@ -1,6 +1,7 @@
 -- The wires of a word's net, one for each square that was hung: lists side by side, by their places.
 use Rattle.std.specs.List.{AllByRecursion}
-use Rattle.std.proofs.Common.{List, [], ap, arith, cond, inl, inr, length, map, nat_eq, refl, replicate, slice_index_or, subst, suc, zero, zip, ℕ, ◌+◌, ◌<◌, ◌∙◌, ◌∷◌, ◌≡◌, ◌⊎◌}
+use Rattle.std.proofs.Common.{List, [], ap, arith, cond, inl, inr, length, map, nat_eq, refl, replicate, slice_index_or, subst, suc, zero, zip, ℕ}
+use Rattle.std.proofs.Common.{◌+◌, ◌<◌, ◌∙◌, ◌∷◌, ◌≡◌, ◌⊎◌}
 use Rattle.std.proofs.lemmas.Bool.Decides.{nat_tests}
 use Rattle.bk_laws.proofs.Occurrences.{times}
 use Rattle.bk_word.specs.Play.{numbers_from}

@@ -1,7 +1,8 @@
 -- Each node of the net of a tiling's word but the last is a group of the tiling's squares, that is a node of its Smith
 -- diagram; the squares hang from the nodes and end at them as they do there.
 use Rattle.std.specs.List.{AllByRecursion, AllZip, list_any, position_or_len}
-use Rattle.std.proofs.Common.{List, Some, [], ap, arith, count_by, inl, inr, length, map, nat_eq, refl, slice_get, slice_index_or, subst, sym, true, ℕ, ◌&&◌, ◌++◌, ◌+◌, ◌<◌, ◌∙◌, ◌∷◌, ◌≡◌, ◌≤◌, ◌⊎◌}
+use Rattle.std.proofs.Common.{List, Some, [], ap, arith, count_by, inl, inr, length, map, nat_eq, refl, slice_get, slice_index_or, subst, sym, true}
+use Rattle.std.proofs.Common.{ℕ, ◌&&◌, ◌++◌, ◌+◌, ◌<◌, ◌∙◌, ◌∷◌, ◌≡◌, ◌≤◌, ◌⊎◌}
 use Rattle.std.proofs.lemmas.Bool.{cases_lt}
 use Rattle.std.proofs.lemmas.Option.{slice_get_within}
 use Rattle.std.proofs.lemmas.List.{length-append, length-map}
@@ -18,7 +19,9 @@ use Rattle.bk_tiling.specs.Tiling.{IsOneOf, IsTiling, Tiling, covers}
 use Rattle.bk_tiling.specs.declared.Square.{Square}
 use Rattle.bk_tiling.proofs.TilingGroups.{one_there}
 use Rattle.bk_tiling.specs.SquareGroups.{square_groups}
-use Rattle.bk_net.proofs.SidesFlow.{at_level, below_from, get_index, group_of, in_group, place, row_is, stands_on, top_of}
+use Rattle.bk_net.proofs.GroupColumns.{at_level}
+use Rattle.bk_net.proofs.GroupSquares.{get_index, group_of, in_group, row_is, top_of}
+use Rattle.bk_net.proofs.NodeBelow.{below_from, place, stands_on}
 use Rattle.bk_net.proofs.SmithLists.{has_group}
 use Rattle.bk_net.specs.Diagram.{group_level, node_below}
 use Rattle.bk_word.specs.Play.{IsComplete, outline_of, parts}

@@ -1,4 +1,5 @@
 -- The tiling of a word by its sides.
+-- Example (RealisedExamples of bk_skel): the rectangle 65x47 by the word 3ua.2aue.2ue.2ea.1ee and its ten sides.
 use Rattle.std.specs.Prelude.{List, [], map, ℕ, ◌≡◌}
 use Rattle.bk_tiling.specs.Tiling.{IsTiling, Tiling}
 use Rattle.bk_tiling.specs.declared.Square.{Square}

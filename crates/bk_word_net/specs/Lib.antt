@@ -1,3 +1,4 @@
+-- What the crate says.
 pub mod WordNet
 pub mod WideWord
 pub mod NarrowWord
@@ -5,5 +6,6 @@ pub mod Renumbering
 pub mod WordFlow
 pub mod FlowTiling
 pub mod LaidTiling
-pub mod LaidOutline
 pub mod Realised
+-- How the code above keeps it.
+pub mod LaidOutline

@@ -1,5 +1,6 @@
 -- The net of a word held against a Smith diagram: they differ in the numbers of nodes and wires alone.
 -- A statement alone; it is proved apart.
+-- Example (WordNetExamples): for the rectangle 33x32 all numbers are the same already.
 use Rattle.std.specs.Prelude.{length, option_map, slice_get, suc, ℕ, ◌<◌, ◌≡◌}
 use Rattle.bk_tiling.specs.Tiling.{IsTiling, Tiling}
 use Rattle.bk_net.specs.Diagram.{smith_diagram}

@@ -1,4 +1,5 @@
 -- Which words are wide.
+-- Example (SidesExamples): the word of the rectangle 33x32 is not wide: its elimination gives the sides.
 use Rattle.std.specs.Prelude.{Any, List, nat_abs, ℤ, ◌^◌, ◌≤◌, ◌⊎◌}
 use Rattle.bk_net.specs.Flow.{IsPrimitiveFlow}
 use Rattle.bk_net.specs.Net.{Net}

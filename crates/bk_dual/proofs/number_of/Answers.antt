@@ -12,6 +12,9 @@ returns c =
     let kept = c.squares-squares.ensures.kept in
     let same = c.squares-squares.ensures.value in
     let order = parted c.args.tiling.now.squares kept.tiling.ordered c.args.q.x c.args.q.y in
-    let parts : IsPartitionPoint (λ r. is_no_later c.args.q.x c.args.q.y r ≡ true) (λ r. is_no_later c.args.q.x c.args.q.y r ≡ false) c.squares-squares.result.now c.partition_point.result =
-    IsPartitionPoint-from_clause (is_no_later c.args.q.x c.args.q.y) c.squares-squares.result.now c.partition_point.result c.partition_point.ensures.partitioned (rw (← same) at order) (λ a r f h. search rules) in
-    counted c.args.tiling.now.squares kept.tiling.ordered c.args.q c.requires.one c.partition_point.result (omega (arith, ap length same, c.partition_point.ensures.bound)) (rw same at parts)
+    let parts : IsPartitionPoint (λ r. is_no_later c.args.q.x c.args.q.y r ≡ true) (λ r. is_no_later c.args.q.x c.args.q.y r ≡ false)
+    c.squares-squares.result.now c.partition_point.result =
+    IsPartitionPoint-from_clause (is_no_later c.args.q.x c.args.q.y) c.squares-squares.result.now c.partition_point.result
+    c.partition_point.ensures.partitioned (rw (← same) at order) (λ a r f h. search rules) in
+    counted c.args.tiling.now.squares kept.tiling.ordered c.args.q c.requires.one c.partition_point.result
+    (omega (arith, ap length same, c.partition_point.ensures.bound)) (rw same at parts)

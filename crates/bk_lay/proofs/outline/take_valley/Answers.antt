@@ -10,16 +10,26 @@ pub falling-preserved-then-next-valley : goal.falling-preserved-then-next-valley
 falling-preserved-then-next-valley c = record {
   beside = λ width laid m. subst (λ (l : List Run). AreBeside width laid l c.in-Some.next c.pop_no_deeper.new.runs.items) (sym c.push.ensures.items)
       (falls_on width laid c.falling.left.items c.falling.valley c.pop_no_deeper.new.runs.items c.in-Some.next
-      (subst (λ (l : List Run). AreBeside width laid c.falling.left.items c.falling.valley l) c.in-Some.ensures.taken.0 (c.falling.invariant.beside width laid m)) c.if-next-valley.true);
-  fewer = omega (arith, c.push.ensures.len, ap length c.in-Some.ensures.taken.0, length-append c.pop_no_deeper.new.runs.items (c.in-Some.next ∷ []), c.falling.invariant.fewer);
+      (subst (λ (l : List Run). AreBeside width laid c.falling.left.items c.falling.valley l) c.in-Some.ensures.taken.0
+      (c.falling.invariant.beside width laid m)) c.if-next-valley.true);
+  fewer = omega (
+    arith,
+    c.push.ensures.len,
+    ap length c.in-Some.ensures.taken.0,
+    length-append c.pop_no_deeper.new.runs.items (c.in-Some.next ∷ []),
+    c.falling.invariant.fewer,
+  );
 }
 
 pub falling-preserved : goal.falling-preserved
 falling-preserved c = record {
   beside = λ width laid m. joins width laid c.falling.left.items c.falling.valley c.pop_no_deeper.new.runs.items c.in-Some.next
-      (subst (λ (l : List Run). AreBeside width laid c.falling.left.items c.falling.valley l) c.in-Some.ensures.taken.0 (c.falling.invariant.beside width laid m)) (omega (arith, c.in-Some.ensures.taken.1, c.if-next-valley.false));
+      (subst (λ (l : List Run). AreBeside width laid c.falling.left.items c.falling.valley l) c.in-Some.ensures.taken.0
+      (c.falling.invariant.beside width laid m)) (omega (arith, c.in-Some.ensures.taken.1, c.if-next-valley.false));
   fewer = omega (arith, ap length c.in-Some.ensures.taken.0, length-append c.pop_no_deeper.new.runs.items (c.in-Some.next ∷ []), c.falling.invariant.fewer);
 }
 
 pub returns-clause-beside : goal.returns-clause-beside
-returns-clause-beside c width laid m = subst (λ (v : ArrayVec Run). AreBeside width laid c.falling.left.items c.falling.valley v.items) (sym c.in_default.ensures.kept.0) (c.falling.invariant.beside width laid m)
+returns-clause-beside c width laid m =
+    subst (λ (v : ArrayVec Run). AreBeside width laid c.falling.left.items c.falling.valley v.items) (sym c.in_default.ensures.kept.0)
+    (c.falling.invariant.beside width laid m)

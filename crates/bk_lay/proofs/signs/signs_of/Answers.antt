@@ -9,34 +9,56 @@ use Rattle.bk_lay.specs.TilingWord.{signs_between}
 use Rattle.bk_lay.proofs.signs.signs_of.Goals as goal
 
 -- no more signs than squares, while levels are told from the left
-few : (before : Option ℕ) (squares : List Square) (i : ℕ) → i ≤ length squares → length (signs_between (option_to_list before ++ bottoms_of (take i squares))) ≤ i
-few before squares i h = omega (arith, few_signs (option_to_list before ++ bottoms_of (take i squares)), length-append (option_to_list before) (bottoms_of (take i squares)), length-map (take i squares) (λ (q : Square). q.y + q.s), length-take-le i squares h, few_of_option before)
+few : (before : Option ℕ) (squares : List Square) (i : ℕ) → i ≤ length squares
+    → length (signs_between (option_to_list before ++ bottoms_of (take i squares))) ≤ i
+few before squares i h =
+    omega (
+      arith,
+      few_signs (option_to_list before ++ bottoms_of (take i squares)),
+      length-append (option_to_list before) (bottoms_of (take i squares)),
+      length-map (take i squares) (λ (q : Square). q.y + q.s),
+      length-take-le i squares h,
+      few_of_option before,
+    )
 
 one_more : (before : Option ℕ) (squares : List Square) (i : ℕ) (d : Square) → i + 1 ≤ length squares
-    → option_to_list before ++ bottoms_of (take (i + 1) squares) ≡ (option_to_list before ++ bottoms_of (take i squares)) ++ ((get_or squares i d).y + (get_or squares i d).s) ∷ []
+    → option_to_list before ++ bottoms_of (take (i + 1) squares) ≡ (option_to_list before ++ bottoms_of (take i squares))
+    ++ ((get_or squares i d).y + (get_or squares i d).s) ∷ []
 one_more before squares i d h = ap (λ (l : List Square). option_to_list before ++ bottoms_of l) (take_more squares i d (omega arith))
     ∙ ap (λ (l : List ℕ). option_to_list before ++ l) (map-append (λ (q : Square). q.y + q.s) (take i squares) (get_or squares i d ∷ []))
     ∙ sym (append_assoc (option_to_list before) (bottoms_of (take i squares)) (((get_or squares i d).y + (get_or squares i d).s) ∷ []))
 
-signs_step : (signs more : List Sign) (levels : List ℕ) (last : Option ℕ) (b : ℕ) → more ≡ signs ++ signs_between (option_to_list last ++ b ∷ []) → signs ≡ signs_between levels → last ≡ last_of_levels levels → more ≡ signs_between (levels ++ b ∷ [])
+signs_step : (signs more : List Sign) (levels : List ℕ) (last : Option ℕ) (b : ℕ) → more ≡ signs ++ signs_between (option_to_list last ++ b ∷ [])
+    → signs ≡ signs_between levels → last ≡ last_of_levels levels → more ≡ signs_between (levels ++ b ∷ [])
 signs_step signs more levels last b e f g = e ∙ (λ i. f i ++ signs_between (option_to_list (g i) ++ b ∷ [])) ∙ signs_after levels b
 
 pub push_sign-requires : goal.push_sign-requires
-push_sign-requires c = omega (arith, ap length c.loop-q.invariant.signs, few c.args.before c.args.squares.now c.loop-q.q-index (omega arith), c.loop-q-test.true, c.requires.few)
+push_sign-requires c = omega (
+  arith,
+  ap length c.loop-q.invariant.signs,
+  few c.args.before c.args.squares.now c.loop-q.q-index (omega arith),
+  c.loop-q-test.true,
+  c.requires.few,
+)
 
 pub loop-q-preserved : goal.loop-q-preserved
 loop-q-preserved c =
     let more = one_more c.args.before c.args.squares.now c.loop-q.q-index (record { x = 0; y = 0; s = 0 }) (omega arith) in
     record {
-      signs = signs_step c.loop-q.signs.items c.push_sign.new.signs.items (option_to_list c.args.before ++ bottoms_of (take c.loop-q.q-index c.args.squares.now)) c.loop-q.last _ c.push_sign.ensures c.loop-q.invariant.signs c.loop-q.invariant.last ∙ ap signs_between (sym more);
+      signs = signs_step c.loop-q.signs.items c.push_sign.new.signs.items
+          (option_to_list c.args.before ++ bottoms_of (take c.loop-q.q-index c.args.squares.now)) c.loop-q.last _ c.push_sign.ensures
+          c.loop-q.invariant.signs c.loop-q.invariant.last ∙ ap signs_between (sym more);
       last = sym (last_after (option_to_list c.args.before ++ bottoms_of (take c.loop-q.q-index c.args.squares.now)) _) ∙ ap last_of_levels (sym more);
     }
 
 pub push_sign-requires-in-Some : goal.push_sign-requires-in-Some
-push_sign-requires-in-Some c = let most = c.loop-q.auto.q-index-end in omega (arith, ap length c.loop-q.invariant.signs, few c.args.before c.args.squares.now c.loop-q.q-index most, c.requires.few)
+push_sign-requires-in-Some c = let most = c.loop-q.auto.q-index-end in
+    omega (arith, ap length c.loop-q.invariant.signs, few c.args.before c.args.squares.now c.loop-q.q-index most, c.requires.few)
 
 pub returns-in-Some : goal.returns-in-Some
 returns-in-Some c =
     let whole : take c.loop-q.q-index c.args.squares.now ≡ c.args.squares.now = take_all c.loop-q.q-index c.args.squares.now c.loop-q-test.false in
-    signs_step c.loop-q.signs.items c.push_sign-in-Some.new.signs.items (option_to_list c.args.before ++ bottoms_of (take c.loop-q.q-index c.args.squares.now)) c.loop-q.last c.in-Some.level c.push_sign-in-Some.ensures c.loop-q.invariant.signs c.loop-q.invariant.last
+    signs_step c.loop-q.signs.items c.push_sign-in-Some.new.signs.items
+    (option_to_list c.args.before ++ bottoms_of (take c.loop-q.q-index c.args.squares.now)) c.loop-q.last c.in-Some.level
+    c.push_sign-in-Some.ensures c.loop-q.invariant.signs c.loop-q.invariant.last
     ∙ (λ i. signs_between (option_to_list c.args.before ++ bottoms_of (whole i) ++ option_to_list (sym c.in-Some.is i)))

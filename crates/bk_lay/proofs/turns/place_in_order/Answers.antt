@@ -8,6 +8,7 @@ use Rattle.bk_lay.specs.LevelRuns.{corner}
 
 pub returns-clause-count : goal.returns-clause-count
 returns-clause-count c =
-    let cut = IsPartitionPoint-from_clause (λ q. comes_before q (corner c.args.x c.args.level)) c.args.squares.now c.partition_point.result c.partition_point.ensures.partitioned
+    let cut = IsPartitionPoint-from_clause (λ q. comes_before q (corner c.args.x c.args.level)) c.args.squares.now c.partition_point.result
+    c.partition_point.ensures.partitioned
     (parted_at c.args.squares.now (corner c.args.x c.args.level) c.requires) (λ a r f' k. search rules) in
     count_of_front (λ q. comes_before q (corner c.args.x c.args.level)) c.args.squares.now c.partition_point.result c.partition_point.ensures.bound cut.0 cut.1

@@ -5,7 +5,8 @@ use Rattle.std.proofs.lemmas.Int.{to_z-of_z}
 use Rattle.bk_tiling.specs.Tiling.{Tiling as Tiled}
 use Rattle.bk_tiling.specs.declared.Square.{Square}
 use Rattle.bk_word_net.specs.WordNet.{net_of_word}
-use Rattle.bk_leaf.proofs.LeafRun.{IsLeafRun, is_height, is_width, leaf_run, net_few, net_joined, net_nodes, never_zero, shown_ends, shown_few, shown_many, shown_small, sides_known, sides_many, small_total, wires_many}
+use Rattle.bk_leaf.proofs.LeafRun.{IsLeafRun, is_height, is_width, leaf_run, net_few, net_joined, net_nodes, never_zero, shown_ends, shown_few}
+use Rattle.bk_leaf.proofs.LeafRun.{shown_many, shown_small, sides_known, sides_many, small_total, wires_many}
 use Rattle.bk_leaf.proofs.LevelSteps.{fits_small, small_abs}
 use Rattle.bk_leaf.specs.Placing.{IsSmall}
 use Rattle.bk_leaf.proofs.placing.leaf.Goals as goal

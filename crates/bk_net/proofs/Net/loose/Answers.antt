@@ -15,10 +15,13 @@ pub returns-then-deref-from-clause-some : goal.returns-then-deref-from-clause-so
 returns-then-deref-from-clause-some c =
     let kept = c.nodes-nodes.ensures.kept in
     let some = kept.is.some in
-    let last = last_is c.labels_of-labels.result.items c.deref.result.now c.nodes-nodes.result c.args.self.now.nodes c.from.result c.deref.ensures.0 c.from.ensures c.nodes-nodes.ensures.value in
-    let here = here_is c.labels_of-labels.result.items c.deref-in-loop-v.result.now c.loop-v.v c.from-in-loop-v.result c.deref-in-loop-v.ensures.0 c.from-in-loop-v.ensures in
+    let last = last_is c.labels_of-labels.result.items c.deref.result.now c.nodes-nodes.result c.args.self.now.nodes c.from.result c.deref.ensures.0
+    c.from.ensures c.nodes-nodes.ensures.value in
+    let here = here_is c.labels_of-labels.result.items c.deref-in-loop-v.result.now c.loop-v.v c.from-in-loop-v.result c.deref-in-loop-v.ensures.0
+    c.from-in-loop-v.ensures in
     least c.args.self.now c.labels_of-labels.result.items
-    (labels_of_net c.args.self.now c.nodes-nodes.result c.wires.result.now c.labels_of-labels.result.items c.nodes-nodes.ensures.value c.wires.ensures.value c.labels_of-labels.ensures)
+    (labels_of_net c.args.self.now c.nodes-nodes.result c.wires.result.now c.labels_of-labels.result.items c.nodes-nodes.ensures.value
+    c.wires.ensures.value c.labels_of-labels.ensures)
     c.loop-v.v (omega (arith, c.nodes-nodes.ensures.value)) (omega arith)
     (λ u h. c.loop-v.invariant u h ∙ last) (λ e. c.if-deref-from.true (here ∙ e ∙ sym last))
 
@@ -26,7 +29,9 @@ pub returns-clause-none : goal.returns-clause-none
 returns-clause-none c =
     let kept = c.nodes-nodes.ensures.kept in
     let some = kept.is.some in
-    let last = last_is c.labels_of-labels.result.items c.deref.result.now c.nodes-nodes.result c.args.self.now.nodes c.from.result c.deref.ensures.0 c.from.ensures c.nodes-nodes.ensures.value in
+    let last = last_is c.labels_of-labels.result.items c.deref.result.now c.nodes-nodes.result c.args.self.now.nodes c.from.result c.deref.ensures.0
+    c.from.ensures c.nodes-nodes.ensures.value in
     none_loose c.args.self.now c.labels_of-labels.result.items
-    (labels_of_net c.args.self.now c.nodes-nodes.result c.wires.result.now c.labels_of-labels.result.items c.nodes-nodes.ensures.value c.wires.ensures.value c.labels_of-labels.ensures)
+    (labels_of_net c.args.self.now c.nodes-nodes.result c.wires.result.now c.labels_of-labels.result.items c.nodes-nodes.ensures.value
+    c.wires.ensures.value c.labels_of-labels.ensures)
     (omega arith) (λ u h. c.loop-v.invariant u (omega (arith, c.nodes-nodes.ensures.value)) ∙ last)

@@ -9,4 +9,6 @@ pub returns-clause-joined : goal.returns-clause-joined
 returns-clause-joined c = subst HasNoLoose (sym c.wired-net.ensures) (the_one_flow c.args.tiling.now (c.height.ensures.kept).tiling).1
 
 pub returns-clause-flow : goal.returns-clause-flow
-returns-clause-flow c = subst (λ (net : Net). IsOneFlow net (smith_flow c.args.tiling.now)) (sym c.wired-net.ensures) (the_one_flow c.args.tiling.now (c.height.ensures.kept).tiling).2
+returns-clause-flow c =
+    subst (λ (net : Net). IsOneFlow net (smith_flow c.args.tiling.now)) (sym c.wired-net.ensures)
+    (the_one_flow c.args.tiling.now (c.height.ensures.kept).tiling).2

@@ -12,7 +12,8 @@ overflow_add-q c =
 
 pub returns-then-q-height : goal.returns-then-q-height
 returns-then-q-height c =
-    c.requires.bottom ∙ at_bottom c.args.tiling.now (c.height-height.ensures.kept).tiling c.args.q c.requires.one (c.if-q-height.true ∙ c.height-height.ensures.value)
+    c.requires.bottom ∙ at_bottom c.args.tiling.now (c.height-height.ensures.kept).tiling c.args.q c.requires.one (c.if-q-height.true
+    ∙ c.height-height.ensures.value)
 
 pub bounds-nodes-place_below : goal.bounds-nodes-place_below
 bounds-nodes-place_below c =

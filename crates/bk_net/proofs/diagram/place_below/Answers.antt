@@ -14,14 +14,18 @@ overflow_add-level c =
     let fits = kept.height_fits in
     omega arith
 
-place : (c : goal.After-partition_point-after) → IsFound c.args.tiling.now (c.squares-squares.ensures.kept).tiling c.args.q c.requires.one c.partition_point-after.result
+place : (c : goal.After-partition_point-after)
+    → IsFound c.args.tiling.now (c.squares-squares.ensures.kept).tiling c.args.q c.requires.one c.partition_point-after.result
 place c =
     let kept = c.squares-squares.ensures.kept in
     let same = c.squares-squares.ensures.value in
     let order = parted c.args.tiling.now.squares kept.tiling.ordered c.args.q.x (c.args.q.y + c.args.q.s) in
-    let parts : IsPartitionPoint (λ r. is_no_later c.args.q.x (c.args.q.y + c.args.q.s) r ≡ true) (λ r. is_no_later c.args.q.x (c.args.q.y + c.args.q.s) r ≡ false) c.squares-squares.result.now c.partition_point-after.result =
-    IsPartitionPoint-from_clause (is_no_later c.args.q.x (c.args.q.y + c.args.q.s)) c.squares-squares.result.now c.partition_point-after.result c.partition_point-after.ensures.partitioned (rw (← same) at order) (λ a r f h. search rules) in
-    found c.args.tiling.now kept.tiling c.args.q c.requires.one c.partition_point-after.result c.requires.above (omega (arith, ap length same, c.partition_point-after.ensures.bound)) (rw same at parts)
+    let parts : IsPartitionPoint (λ r. is_no_later c.args.q.x (c.args.q.y + c.args.q.s) r ≡ true)
+    (λ r. is_no_later c.args.q.x (c.args.q.y + c.args.q.s) r ≡ false) c.squares-squares.result.now c.partition_point-after.result =
+    IsPartitionPoint-from_clause (is_no_later c.args.q.x (c.args.q.y + c.args.q.s)) c.squares-squares.result.now c.partition_point-after.result
+    c.partition_point-after.ensures.partitioned (rw (← same) at order) (λ a r f h. search rules) in
+    found c.args.tiling.now kept.tiling c.args.q c.requires.one c.partition_point-after.result c.requires.above
+    (omega (arith, ap length same, c.partition_point-after.ensures.bound)) (rw same at parts)
 
 pub overflow_sub-result : goal.overflow_sub-result
 overflow_sub-result c = (place c).some

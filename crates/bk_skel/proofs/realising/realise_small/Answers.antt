@@ -18,4 +18,5 @@ found (Ok a) never = refl
 found (Err e) never = absurd (never refl)
 
 pub returns-clause-narrow : goal.returns-clause-narrow
-returns-clause-narrow c = found c.realised.result (λ err. no_small_word_is_wide c.args.skel.now c.requires.closed c.requires.few (inr (c.realised.ensures.wide.0 err)))
+returns-clause-narrow c = found c.realised.result (λ err. no_small_word_is_wide c.args.skel.now c.requires.closed c.requires.few
+    (inr (c.realised.ensures.wide.0 err)))

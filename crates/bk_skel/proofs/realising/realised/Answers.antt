@@ -4,19 +4,39 @@ use Rattle.bk_word_net.proofs.WordTilings.{large_by, large_from, none_by, realis
 use Rattle.bk_skel.proofs.realising.realised.Goals as goal
 
 pub returns-then-has_large-clause-wide : goal.returns-then-has_large-clause-wide
-returns-then-has_large-clause-wide c = (λ e. large_by c.args.skel.now c.requires.closed c.args.flow.now.total c.args.flow.now.currents c.requires.flow c.currents-currents.result.now c.currents-currents.ensures.value (c.has_large.ensures.0 c.if-has_large.true), λ h. refl)
+returns-then-has_large-clause-wide c = (
+  λ e. large_by c.args.skel.now c.requires.closed c.args.flow.now.total c.args.flow.now.currents c.requires.flow
+      c.currents-currents.result.now c.currents-currents.ensures.value (c.has_large.ensures.0 c.if-has_large.true),
+  λ h. refl,
+)
 
 pub placed-requires-clause-count : goal.placed-requires-clause-count
-placed-requires-clause-count c = sides_many c.args.skel.now c.requires.closed c.args.flow.now.total c.args.flow.now.currents c.requires.flow c.currents-currents.result.now c.in-Some.sides.items c.deref.result.now c.currents-currents.ensures.value c.in-Some.ensures.currents c.deref.ensures.0
+placed-requires-clause-count c = sides_many c.args.skel.now c.requires.closed c.args.flow.now.total c.args.flow.now.currents c.requires.flow
+    c.currents-currents.result.now c.in-Some.sides.items c.deref.result.now c.currents-currents.ensures.value c.in-Some.ensures.currents c.deref.ensures.0
 
 pub returns-in-Some-clause-realised : goal.returns-in-Some-clause-realised
-returns-in-Some-clause-realised c = realised_by c.args.skel.now c.requires.closed c.args.flow.now.total c.args.flow.now.currents c.requires.flow c.currents-currents.result.now c.in-Some.sides.items c.deref.result.now c.currents-currents.ensures.value c.in-Some.ensures.currents c.deref.ensures.0 c.placed.result c.placed.ensures.placed c.placed.ensures.only
+returns-in-Some-clause-realised c = realised_by c.args.skel.now c.requires.closed c.args.flow.now.total c.args.flow.now.currents c.requires.flow
+    c.currents-currents.result.now c.in-Some.sides.items c.deref.result.now c.currents-currents.ensures.value c.in-Some.ensures.currents
+    c.deref.ensures.0 c.placed.result c.placed.ensures.placed c.placed.ensures.only
 
 pub returns-in-Some-clause-wide : goal.returns-in-Some-clause-wide
-returns-in-Some-clause-wide c = (λ e. absurd (both_ways _ refl e), λ h. absurd (both_ways c.has_large.result c.if-has_large.false (c.has_large.ensures.1 (large_from c.args.skel.now c.requires.closed c.args.flow.now.total c.args.flow.now.currents c.requires.flow c.currents-currents.result.now c.currents-currents.ensures.value h))))
+returns-in-Some-clause-wide c = (
+  λ e. absurd (both_ways _ refl e),
+  λ h. absurd
+      (both_ways c.has_large.result c.if-has_large.false (c.has_large.ensures.1
+      (large_from c.args.skel.now c.requires.closed c.args.flow.now.total c.args.flow.now.currents c.requires.flow c.currents-currents.result.now
+      c.currents-currents.ensures.value h))),
+)
 
 pub returns-in-None-clause-realised : goal.returns-in-None-clause-realised
-returns-in-None-clause-realised c = none_by c.args.skel.now c.requires.closed c.args.flow.now.total c.args.flow.now.currents c.requires.flow c.currents-currents.result.now c.currents-currents.ensures.value c.in-None.ensures.none
+returns-in-None-clause-realised c = none_by c.args.skel.now c.requires.closed c.args.flow.now.total c.args.flow.now.currents c.requires.flow
+    c.currents-currents.result.now c.currents-currents.ensures.value c.in-None.ensures.none
 
 pub returns-in-None-clause-wide : goal.returns-in-None-clause-wide
-returns-in-None-clause-wide c = (λ e. absurd (both_ways _ refl e), λ h. absurd (both_ways c.has_large.result c.if-has_large.false (c.has_large.ensures.1 (large_from c.args.skel.now c.requires.closed c.args.flow.now.total c.args.flow.now.currents c.requires.flow c.currents-currents.result.now c.currents-currents.ensures.value h))))
+returns-in-None-clause-wide c = (
+  λ e. absurd (both_ways _ refl e),
+  λ h. absurd
+      (both_ways c.has_large.result c.if-has_large.false (c.has_large.ensures.1
+      (large_from c.args.skel.now c.requires.closed c.args.flow.now.total c.args.flow.now.currents c.requires.flow c.currents-currents.result.now
+      c.currents-currents.ensures.value h))),
+)

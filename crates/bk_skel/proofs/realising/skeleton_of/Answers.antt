@@ -10,16 +10,22 @@ pub play-requires-clause-legal : goal.play-requires-clause-legal
 play-requires-clause-legal c = c.legal.ensures.0 c.if-not-legal.false
 
 pub play-requires-clause-few : goal.play-requires-clause-few
-play-requires-clause-few c = let kept = c.moves-i-end.ensures.kept in omega (arith, played_few c.args.word.now c.loop-i.i c.loop-i.skel c.loop-i.invariant c.get-m.result c.get-m.ensures.value, kept.few)
+play-requires-clause-few c = let kept = c.moves-i-end.ensures.kept in omega
+    (arith, played_few c.args.word.now c.loop-i.i c.loop-i.skel c.loop-i.invariant c.get-m.result c.get-m.ensures.value, kept.few)
 
 pub loop-i-preserved : goal.loop-i-preserved
-loop-i-preserved c = played_more c.args.word.now c.loop-i.i c.loop-i.skel c.loop-i.invariant c.get-m.result c.get-m.ensures.value (c.legal.ensures.0 c.if-not-legal.false) c.play.new.self c.play.ensures
+loop-i-preserved c = played_more c.args.word.now c.loop-i.i c.loop-i.skel c.loop-i.invariant c.get-m.result c.get-m.ensures.value
+    (c.legal.ensures.0 c.if-not-legal.false) c.play.new.self c.play.ensures
 
 pub returns-then-not-legal-clause-illegal : goal.returns-then-not-legal-clause-illegal
-returns-then-not-legal-clause-illegal c = first_illegal c.args.word.now c.loop-i.i c.loop-i.skel c.loop-i.invariant c.get-m.result c.get-m.ensures.value (omega (arith, c.loop-i-test.true, c.moves-i-end.ensures.value)) (λ l. both_ways c.legal.result c.if-not-legal.true (c.legal.ensures.1 l))
+returns-then-not-legal-clause-illegal c = first_illegal c.args.word.now c.loop-i.i c.loop-i.skel c.loop-i.invariant c.get-m.result
+    c.get-m.ensures.value (omega (arith, c.loop-i-test.true, c.moves-i-end.ensures.value))
+    (λ l. both_ways c.legal.result c.if-not-legal.true (c.legal.ensures.1 l))
 
 pub returns-clause-skeleton : goal.returns-clause-skeleton
-returns-clause-skeleton c = (played_last c.args.word.now c.loop-i.i c.loop-i.skel c.loop-i.invariant (omega (arith, c.loop-i-test.false, c.moves-i-end.ensures.value))).0
+returns-clause-skeleton c = (played_last c.args.word.now c.loop-i.i c.loop-i.skel c.loop-i.invariant
+    (omega (arith, c.loop-i-test.false, c.moves-i-end.ensures.value))).0
 
 pub returns-clause-legal : goal.returns-clause-legal
-returns-clause-legal c = (played_last c.args.word.now c.loop-i.i c.loop-i.skel c.loop-i.invariant (omega (arith, c.loop-i-test.false, c.moves-i-end.ensures.value))).1
+returns-clause-legal c = (played_last c.args.word.now c.loop-i.i c.loop-i.skel c.loop-i.invariant
+    (omega (arith, c.loop-i-test.false, c.moves-i-end.ensures.value))).1

@@ -3,5 +3,6 @@ use Rattle.bk_word.proofs.Word.get.Goals as goal
 
 pub returns-clause-value : goal.returns-clause-value
 returns-clause-value c =
-    got_move c.as_slice-bytes.result.now c.self.inside.bytes.items c.args.self.now c.args.i c.count_place-place.result c.signs_at.result.items c.as_slice-bytes.ensures c.self.invariant.stored c.self.view_is
+    got_move c.as_slice-bytes.result.now c.self.inside.bytes.items c.args.self.now c.args.i c.count_place-place.result c.signs_at.result.items
+    c.as_slice-bytes.ensures c.self.invariant.stored c.self.view_is
     c.count_place-place.ensures.within c.count_place-place.ensures.count c.count_place-place.ensures.behind c.signs_at.ensures

@@ -24,7 +24,8 @@ loop-at-preserved c =
 
 pub returns-then-not-may_end-clause-err : goal.returns-then-not-may_end-clause-err
 returns-then-not-may_end-clause-err c =
-    stops_at_end c.args.text.now c.loop-at.place c.loop-at.taken (whole c.args.text.now c.loop-at.at c.loop-at.place c.loop-at.taken (omega arith) c.loop-at.invariant)
+    stops_at_end c.args.text.now c.loop-at.place c.loop-at.taken (whole c.args.text.now c.loop-at.at c.loop-at.place c.loop-at.taken
+    (omega arith) c.loop-at.invariant)
     (sym c.may_end.ensures ∙ c.if-not-may_end.true)
 
 pub end_count-requires : goal.end_count-requires
@@ -32,5 +33,6 @@ end_count-requires c = record { room = λ few. has_room (take c.loop-at.at c.arg
 
 pub returns-clause-ok : goal.returns-clause-ok
 returns-clause-ok c =
-    text_kept c.args.text.now c.loop-at.place c.loop-at.taken c.end_count.new.self (whole c.args.text.now c.loop-at.at c.loop-at.place c.loop-at.taken (omega arith) c.loop-at.invariant)
+    text_kept c.args.text.now c.loop-at.place c.loop-at.taken c.end_count.new.self (whole c.args.text.now c.loop-at.at c.loop-at.place c.loop-at.taken
+    (omega arith) c.loop-at.invariant)
     (sym c.may_end.ensures ∙ c.if-not-may_end.false) c.end_count.ensures.keeps

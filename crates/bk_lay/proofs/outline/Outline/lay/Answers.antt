@@ -7,18 +7,40 @@ use Rattle.bk_lay.specs.declared.outline.Run.{Run}
 use Rattle.bk_lay.proofs.outline.Outline.lay.Goals as goal
 
 pub take_valley-self-requires-clause-some : goal.take_valley-self-requires-clause-some
-take_valley-self-requires-clause-some c = omega (arith, ap length c.push_runs.ensures, length-append c.args.self.now.right.items (runs_under c.args.squares.now), length_under c.args.squares.now, c.requires.some)
+take_valley-self-requires-clause-some c =
+    omega (
+      arith,
+      ap length c.push_runs.ensures,
+      length-append c.args.self.now.right.items (runs_under c.args.squares.now),
+      length_under c.args.squares.now,
+      c.requires.some,
+    )
 
 pub take_valley-self-requires-clause-room : goal.take_valley-self-requires-clause-room
-take_valley-self-requires-clause-room c = omega (arith, ap length c.push_runs.ensures, length-append c.args.self.now.right.items (runs_under c.args.squares.now), length_under c.args.squares.now, c.requires.room)
+take_valley-self-requires-clause-room c =
+    omega (
+      arith,
+      ap length c.push_runs.ensures,
+      length-append c.args.self.now.right.items (runs_under c.args.squares.now),
+      length_under c.args.squares.now,
+      c.requires.room,
+    )
 
 pub returns-clause-outline : goal.returns-clause-outline
 returns-clause-outline c width laid m =
-    let beside = c.take_valley-self.ensures.beside width laid (subst (λ (l : List Run). Meet width laid c.args.self.now.left.items l) (sym c.push_runs.ensures) m) in
+    let beside = c.take_valley-self.ensures.beside width laid (subst (λ (l : List Run). Meet width laid c.args.self.now.left.items l)
+    (sym c.push_runs.ensures) m) in
     record {
       runs = beside;
-      rises = rises_after width laid c.take_valley-self.new.left.items c.take_valley-self.result c.take_valley-self.new.right.items beside c.take_valley-self.ensures.deeper;
+      rises = rises_after width laid c.take_valley-self.new.left.items c.take_valley-self.result c.take_valley-self.new.right.items beside
+          c.take_valley-self.ensures.deeper;
     }
 
 pub returns-clause-fewer : goal.returns-clause-fewer
-returns-clause-fewer c = omega (arith, ap length c.push_runs.ensures, length-append c.args.self.now.right.items (runs_under c.args.squares.now), length_under c.args.squares.now, c.take_valley-self.ensures.fewer)
+returns-clause-fewer c = omega (
+  arith,
+  ap length c.push_runs.ensures,
+  length-append c.args.self.now.right.items (runs_under c.args.squares.now),
+  length_under c.args.squares.now,
+  c.take_valley-self.ensures.fewer,
+)

@@ -1,0 +1,128 @@
+-- The numbers of the squares in the order of the dual diagram: each from 1 to the order stands there once.
+use Rattle.std.specs.List.{AllByRecursion, position_or_len}
+use Rattle.std.specs.Prelude.{All, count_by}
+use Rattle.std.proofs.Common.{Bool, List, [], ap, arith, cond, false, get_or, inl, inr, length, map, refl, slice_index_or, suc, sym, take, true}
+use Rattle.std.proofs.Common.{zero, ℕ, ◌+◌, ◌<◌, ◌==◌, ◌∙◌, ◌∷◌, ◌≡◌, ◌≤◌, ◌⊎◌}
+use Rattle.std.proofs.lemmas.Bool.Decides.{nat_tests}
+use Rattle.std.proofs.lemmas.List.Elements.{All-from_recursion}
+use Rattle.std.proofs.lemmas.List.Sums.{position_or_len_is, sum_by-cons}
+use Rattle.std.proofs.lemmas.List.{length-map, take_all}
+use Rattle.bk_tiling.proofs.OrderLaws.{in_code_order-count}
+use Rattle.bk_tiling.proofs.Places.{later_place}
+use Rattle.bk_tiling.specs.CodeOrder.{InCodeOrder}
+use Rattle.bk_tiling.specs.Tiling.{IsOneOf, Tiling, order}
+use Rattle.bk_tiling.specs.declared.Square.{Square}
+use Rattle.bk_sym.specs.Image.{image, image_square}
+use Rattle.bk_sym.specs.declared.Turn.TheVariants.{Swap}
+use Rattle.bk_dual.proofs.Numbers.{earlier_stands_apart, first_within, from_image, stands_at, stands_itself}
+use Rattle.bk_dual.specs.Dual.{dual_order, number_at}
+use Rattle.bk_dual.specs.DualWires.{exchanged}
+
+-- a count over what is made of a list
+count-map : {A B : Type 0} (p : B → Bool) (f : A → B) (xs : List A) → count_by p (map f xs) ≡ count_by (λ x. p (f x)) xs
+count-map p f [] = refl
+count-map {A} {B} p f (x ∷ xs) = sum_by-cons (λ (y : B). cond {A = ℕ} (p y) 1 0) (f x) (map f xs)
+    ∙ ap (λ (n : ℕ). cond {A = ℕ} (p (f x)) 1 0 + n) (count-map p f xs)
+    ∙ sym (sum_by-cons (λ (y : A). cond {A = ℕ} (p (f y)) 1 0) x xs)
+
+count_first : (n x : ℕ) (xs : List ℕ) → count_by (λ m. m == n) (x ∷ xs) ≡ cond {A = ℕ} (x == n) 1 0 + count_by (λ m. m == n) xs
+count_first n x xs = sum_by-cons (λ (m : ℕ). cond {A = ℕ} (m == n) 1 0) x xs
+
+-- in a list that counts on from a number
+count_below : (n from : ℕ) (xs : List ℕ) → ((k : ℕ) → k < length xs → get_or xs k 0 ≡ from + k) → n < from → count_by (λ m. m == n) xs ≡ 0
+count_below n from [] all less = refl
+count_below n from (x ∷ xs) all less = omega (
+  arith,
+  count_first n x xs,
+  ap (λ (b : Bool). cond {A = ℕ} b 1 0) (apart x n (omega (arith, all 0 (omega arith), less))),
+  count_below n (from + 1) xs (λ k h. omega (arith, all (suc k) (omega (arith, h)))) (omega (arith, less)),
+)
+  where
+    apart : (a b : ℕ) → b < a → (a == b) ≡ false
+    apart a b h = grind (arith, nat_tests)
+
+count_once : (n from : ℕ) (xs : List ℕ) → ((k : ℕ) → k < length xs → get_or xs k 0 ≡ from + k) → from ≤ n → n < from + length xs → count_by (λ m. m == n) xs ≡ 1
+count_once n from [] all low high = absurd (omega (arith, low, high))
+count_once n from (x ∷ xs) all low high = by (least from n low) (λ h. count_once n (from + 1) xs next h (omega (arith, high)))
+  where
+    least : (a b : ℕ) → a ≤ b → (a ≡ b) ⊎ (a + 1 ≤ b)
+    least a b h = grind arith
+
+    same : (a b : ℕ) → a ≡ b → (a == b) ≡ true
+    same a b e = grind (arith, nat_tests)
+
+    apart : (a b : ℕ) → a < b → (a == b) ≡ false
+    apart a b h = grind (arith, nat_tests)
+
+    next : (k : ℕ) → k < length xs → get_or xs k 0 ≡ from + 1 + k
+    next k h = omega (arith, all (suc k) (omega (arith, h)))
+
+    by : (from ≡ n) ⊎ (from + 1 ≤ n) → (from + 1 ≤ n → count_by (λ m. m == n) xs ≡ 1) → count_by (λ m. m == n) (x ∷ xs) ≡ 1
+    by (inl e) rest = omega (
+      arith,
+      count_first n x xs,
+      ap (λ (b : Bool). cond {A = ℕ} b 1 0) (same x n (omega (arith, all 0 (omega arith), e))),
+      count_below n (from + 1) xs next (omega (arith, e)),
+    )
+    by (inr h) rest = omega (
+      arith,
+      count_first n x xs,
+      ap (λ (b : Bool). cond {A = ℕ} b 1 0) (apart x n (omega (arith, all 0 (omega arith), h))),
+      rest h,
+    )
+
+-- the number of a square in code order is one more than its place
+place_is : (squares : List Square) → InCodeOrder squares → (k : ℕ) (d : Square) → k < length squares
+    → position_or_len (stands_at (slice_index_or squares k d).x (slice_index_or squares k d).y) squares ≡ k
+place_is squares ordered k d within =
+    position_or_len_is (stands_at (slice_index_or squares k d).x (slice_index_or squares k d).y) squares k d (omega (arith, within))
+    (λ i below. earlier_stands_apart (slice_index_or squares k d) (slice_index_or squares i d) (later_place squares ordered i k d below within))
+    (λ h. stands_itself (slice_index_or squares k d))
+
+get-map : (f : Square → ℕ) (squares : List Square) (k : ℕ) (d : Square) → k < length squares → get_or (map f squares) k 0 ≡ f (slice_index_or squares k d)
+get-map f [] k d h = absurd (omega (arith, h))
+get-map f (q ∷ squares) zero d h = refl
+get-map f (q ∷ squares) (suc k) d h = get-map f squares k d (omega (arith, h))
+
+module _ (t : Tiling) (ordered : InCodeOrder t.squares) where
+  counts_on : (k : ℕ) → k < length (map (λ q. number_at t q.x q.y) t.squares) → get_or (map (λ q. number_at t q.x q.y) t.squares) k 0 ≡ 1 + k
+  counts_on k h =
+      let within : k < length t.squares = omega (arith, h, length-map t.squares (λ (q : Square). number_at t q.x q.y)) in
+      omega (
+        arith,
+        get-map (λ q. number_at t q.x q.y) t.squares k (record { x = 0; y = 0; s = 0 }) within,
+        place_is t.squares ordered k
+            (record { x = 0; y = 0; s = 0 }) within,
+      )
+
+  -- each number once
+  pub each_number_once : (n : ℕ) → 0 < n → n ≤ order t → count_by (λ m. m == n) (dual_order t) ≡ 1
+  each_number_once n some most =
+      count-map (λ m. m == n) (λ (q : Square). number_at t q.y q.x) (image Swap t).squares
+      ∙ in_code_order-count (λ q. number_at t q.y q.x == n) (map (image_square Swap t.width t.height) t.squares)
+      ∙ count-map (λ (q : Square). number_at t q.y q.x == n) (image_square Swap t.width t.height) t.squares
+      ∙ sym (count-map (λ m. m == n) (λ (q : Square). number_at t q.x q.y) t.squares)
+      ∙ count_once n 1 (map (λ q. number_at t q.x q.y) t.squares) counts_on (omega (arith, some))
+      (omega (arith, most, length-map t.squares (λ (q : Square). number_at t q.x q.y)))
+
+  -- and none besides
+  in_range : (q : Square) → IsOneOf q (image Swap t).squares → (0 < number_at t q.y q.x) × (number_at t q.y q.x ≤ order t)
+  in_range q one = (
+    omega arith,
+    omega (arith, first_within (stands_at q.y q.x) t.squares (exchanged q) (from_image t q one) (stands_itself (exchanged q))),
+  )
+
+  all_in_range : (squares : List Square) → ((q : Square) → IsOneOf q squares → IsOneOf q (image Swap t).squares)
+      → AllByRecursion (λ n. (0 < n) × (n ≤ order t)) (map (λ q. number_at t q.y q.x) squares)
+  all_in_range [] each = tt
+  all_in_range (q ∷ squares) each = (in_range q (each q (inl refl)), all_in_range squares (λ p h. each p (inr h)))
+
+  pub each_in_range : All (λ n. (0 < n) × (n ≤ order t)) (dual_order t)
+  each_in_range = All-from_recursion (λ (n : ℕ). (0 < n) × (n ≤ order t)) (dual_order t) (all_in_range (image Swap t).squares (λ q h. h))
+
+-- the numbers that were pushed for all squares of the image
+pub dual_order_from : (t : Tiling) (numbers : List ℕ) (k : ℕ) (squares : List Square) (turned : Tiling)
+    → numbers ≡ map (λ q. number_at t q.y q.x) (take k squares)
+    → length squares ≤ k → squares ≡ turned.squares → turned ≡ image Swap t → numbers ≡ dual_order t
+dual_order_from t numbers k squares turned pushed all same is =
+    pushed ∙ ap (λ (l : List Square). map (λ q. number_at t q.y q.x) l) (take_all k squares all ∙ same ∙ ap (λ (u : Tiling). u.squares) is)

@@ -1,0 +1,24 @@
+-- What is laid of the rectangle 3x2 after its first move, and the outline that depicts it.
+use Rattle.std.proofs.Common.{List, [], arith, lit<, refl, ◌∷◌}
+use Rattle.bk_tiling.proofs.ExampleTilings.{rectangle_3x2, square_at}
+use Rattle.bk_tiling.proofs.TilingTest.{tiling_from_test}
+use Rattle.bk_tiling.specs.Tiling.{IsTiling}
+use Rattle.bk_tiling.specs.declared.Segment.{Segment}
+use Rattle.bk_word.specs.Outline.{start}
+use Rattle.bk_word.specs.declared.Sign.TheVariants.{Under}
+use Rattle.bk_lay.proofs.Steps.{move_depicts, start_depicts_nothing}
+use Rattle.bk_lay.proofs.WordTest.{by_tests, passes_as_valley}
+use Rattle.bk_lay.proofs.Words.{nothing_laid}
+use Rattle.bk_lay.specs.Depiction.{Depicts}
+
+abbrev top : Segment
+top = record { x = 0; width = 3; level = 0 }
+
+tiling-3x2 : IsTiling rectangle_3x2
+tiling-3x2 = tiling_from_test rectangle_3x2 refl
+
+-- two squares hang from the top, the first of which ends deeper
+after_one : Depicts rectangle_3x2 (square_at 0 0 2 ∷ square_at 2 0 1 ∷ []) (top ∷ [])
+    (record { segments = (1 ∷ []) ∷ (2 ∷ []) ∷ []; signs = Under ∷ []; closed = [] ∷ []; hung = 0 ∷ 0 ∷ [] })
+after_one = (move_depicts rectangle_3x2 [] [] start top tiling-3x2 (nothing_laid rectangle_3x2 tiling-3x2)
+    (start_depicts_nothing rectangle_3x2 tiling-3x2) (passes_as_valley 3 [] top (by_tests _ _ _ refl refl refl refl refl refl)) (lit< tt)).1

@@ -1,0 +1,59 @@
+-- The cells of a tiling, each under one square, and the squares of its groups.
+use Rattle.std.specs.List.{AllByRecursion}
+use Rattle.std.proofs.Common.{List, Some, [], ap, arith, inl, inr, refl, slice_get, slice_index_or, subst, suc, sym, true, zero, ℕ, ◌+◌, ◌-◌, ◌<◌}
+use Rattle.std.proofs.Common.{◌∷◌, ◌≡◌, ◌≤◌, ◌⊎◌}
+use Rattle.std.proofs.lemmas.Bool.{cases_lt}
+use Rattle.bk_tiling.proofs.Cells.{counted_one, covers_from, in_all, over_from}
+use Rattle.bk_tiling.proofs.TilingLaws.{cell_once, side_of}
+use Rattle.bk_tiling.specs.Tiling.{IsOneOf, IsTiling, Tiling, covers}
+use Rattle.bk_tiling.specs.declared.Square.{Square}
+use Rattle.bk_tiling.proofs.Groups.{AllIn, IsGroup, IsRow, groups_row, row_of}
+use Rattle.bk_tiling.proofs.TilingGroups.{known, one_there}
+use Rattle.bk_tiling.specs.SquareGroups.{square_groups}
+use Rattle.bk_net.specs.Diagram.{group_level}
+
+pub get_all : {A : Type 0} (P : A → Type 0) (xs : List A) (k : ℕ) (x : A) → AllByRecursion P xs → slice_get xs k ≡ Some x → P x
+get_all P [] k x all e = absurd (cc)
+get_all P (y ∷ xs) zero x all e = let same : y ≡ x = cc in subst P same all.0
+get_all P (y ∷ xs) (suc k) x all e = get_all P xs k x all.1 e
+
+pub get_index : (xs : List (List Square)) (k : ℕ) (x : List Square) → slice_get xs k ≡ Some x → slice_index_or xs k [] ≡ x
+get_index [] k x e = absurd (cc)
+get_index (y ∷ xs) zero x e = cc
+get_index (y ∷ xs) (suc k) x e = get_index xs k x e
+
+module _ (t : Tiling) (tiling : IsTiling t) where
+  pub square_at : (i j : ℕ) → i < t.width → j < t.height → (q : Square) × IsOneOf q t.squares × (covers i j q ≡ true)
+  square_at i j a b = counted_one (covers i j) t.squares (omega (arith, cell_once t tiling i j a b))
+
+  -- a square over a cell just below a square's bottom begins there
+  pub begins_below : (q r : Square) (i : ℕ) → IsOneOf q t.squares → q.x ≤ i → i < q.x + q.s → IsOneOf r t.squares → covers i (q.y + q.s) r ≡ true
+      → r.y ≡ q.y + q.s
+  begins_below q r i a lo hi b e = cases (cases_lt r.y (q.y + q.s))
+    where
+      cases : (r.y < q.y + q.s) ⊎ (q.y + q.s ≤ r.y) → r.y ≡ q.y + q.s
+      cases (inl h) = let same : q ≡ r =
+          one_there t tiling q r i (q.y + q.s - 1) a (covers_from i (q.y + q.s - 1) q lo hi (omega (arith, side_of t tiling q a))
+          (omega (arith, side_of t tiling q a))) b
+          (covers_from i (q.y + q.s - 1) r (over_from i (q.y + q.s) r e).left (over_from i (q.y + q.s) r e).right (omega arith)
+          (omega (arith, (over_from i (q.y + q.s) r e).bottom))) in
+          absurd (omega (arith, (over_from i (q.y + q.s) r e).bottom, ap (λ (s : Square). s.y + s.s) same))
+      cases (inr h) = omega (arith, (over_from i (q.y + q.s) r e).top)
+
+  pub row_is : row_of (square_groups t.squares) ≡ t.squares
+  row_is = groups_row t.squares
+
+  pub group_of : (v : ℕ) (g : List Square) → slice_get (square_groups t.squares) v ≡ Some g → IsGroup t.squares g × AllIn t.squares g
+  group_of v g e = get_all (λ g. IsGroup t.squares g × AllIn t.squares g) (square_groups t.squares) v g (known t tiling).all e
+
+  pub in_group : (v : ℕ) (g : List Square) → slice_get (square_groups t.squares) v ≡ Some g → (q : Square) → IsOneOf q g → IsOneOf q t.squares
+  in_group v g e q h = in_all (λ q. IsOneOf q t.squares) g (group_of v g e).1 q h
+
+  pub first_in : (g : List Square) (k : IsRow t.squares g) → IsOneOf k.first g
+  first_in g k = subst (IsOneOf k.first) (sym k.is) (inl refl)
+
+  pub level_is : (g : List Square) (k : IsRow t.squares g) → group_level g ≡ k.first.y
+  level_is g k = ap group_level k.is
+
+  pub top_of : (g : List Square) (k : IsRow t.squares g) (q : Square) → IsOneOf q g → q.y ≡ k.first.y
+  top_of g k q h = in_all (λ q. q.y ≡ k.first.y) g k.tops q h

@@ -1,0 +1,36 @@
+-- The tree of order 1 has one word: one move of one square.
+use Rattle.std.proofs.Common.{None, [], arith, length, refl, sym, zero, ◌∷◌, ◌≡◌, ◌≤◌, List, ap, ◌∙◌}
+use Rattle.bk_word.proofs.StoredBytes.{order_more}
+use Rattle.bk_word.specs.Outline.{Outline, start}
+use Rattle.bk_word.specs.Play.{AreLegalFrom, after_move}
+use Rattle.bk_word.specs.Word.{Move, Word, order_of}
+use Rattle.bk_word.specs.declared.Sign.{Sign}
+use Rattle.bk_tree.proofs.Places.{move_from_parts}
+use Rattle.bk_tree.specs.NextMove.{first_move}
+use Rattle.bk_tree.specs.Tree.{IsInTree, IsTreeCount}
+
+no_sign : (signs : List Sign) → length signs ≡ 0 → signs ≡ []
+no_sign [] e = refl
+no_sign (s ∷ signs) e = absurd (omega (arith, e))
+
+no_move : (o : Outline) (w : Word) → AreLegalFrom o w → order_of w ≤ 0 → w ≡ []
+no_move o [] legal few = refl
+no_move o (m ∷ w) legal few = absurd (omega (arith, order_more m w, few, (legal.0).some))
+
+one_word : (w : Word) → IsInTree 1 [] None w → w ≡ first_move ∷ []
+one_word [] t = absurd (omega (arith, t.some))
+one_word (m ∷ w) t =
+    let one : m.count ≡ 1 = omega (arith, order_more m w, t.small, ((t.legal).0).some) in
+    let none : length m.signs ≡ 0 = omega (arith, ((t.legal).0).signs, one) in
+    let rest : w ≡ [] = no_move (after_move start m) w (t.legal).1 (omega (arith, order_more m w, t.small, one)) in
+    ap (λ (v : Word). m ∷ v) rest ∙ ap (λ (x : Move). x ∷ []) (move_from_parts m first_move one (no_sign m.signs none))
+
+-- and so its count is 1
+pub one_count : IsTreeCount 1 [] None 1
+one_count = record {
+  words = (first_move ∷ []) ∷ [];
+  each = (record { legal = (record { some = omega arith; signs = refl }, tt); some = omega arith; small = omega arith; after = refl; within = tt }, tt);
+  ascending = (tt, tt);
+  all = λ w t. (zero, omega arith, sym (one_word w t));
+  count = refl;
+}
