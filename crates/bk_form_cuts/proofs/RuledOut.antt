@@ -1,7 +1,8 @@
 -- Where no sides can meet what a move asks, no tiling has a word that begins with these moves and it.
 use Rattle.std.specs.List.{AllByRecursion}
 use Rattle.std.specs.Prelude.{AllPairs}
-use Rattle.std.proofs.Common.{Bool, List, Some, [], ap, arith, false, get_or, inl, inr, length, map, refl, replicate, slice_get, subst, suc, sym, true, zero, ℕ, ◌++◌, ◌+◌, ◌-◌, ◌<◌, ◌∙◌, ◌∷◌, ◌≡◌, ◌≤◌, ◌≢◌}
+use Rattle.std.proofs.Common.{Bool, List, Some, [], ap, arith, false, get_or, inl, inr, length, map, refl, replicate, slice_get, subst, suc, sym}
+use Rattle.std.proofs.Common.{true, zero, ℕ, ◌++◌, ◌+◌, ◌-◌, ◌<◌, ◌∙◌, ◌∷◌, ◌≡◌, ◌≤◌, ◌≢◌}
 use Rattle.std.proofs.lemmas.List.{length-append, length-replicate}
 use Rattle.bk_tiling.proofs.Cells.{column_from, depth_reaches, in_all}
 use Rattle.bk_tiling.proofs.TilingLaws.{side_of, within_of}
@@ -32,7 +33,8 @@ use Rattle.bk_catalogue.specs.Catalogue.{IsOfClass}
 -- the moves lay as many squares as they hang
 laid_many : (t : Tiling) (laid laid_then : List Square) (front : Word) → LaidBy t laid front laid_then → length laid_then ≡ length laid + order_of front
 laid_many t laid laid_then [] e = sym (ap length e) ∙ omega arith
-laid_many t laid laid_then (m ∷ front) (v, found, low, is, p) = laid_many t (laid ++ squares_under t v) laid_then front p ∙ omega (arith, length-append laid (squares_under t v), order_more m front, ap (λ (n : Move). n.count) is)
+laid_many t laid laid_then (m ∷ front) (v, found, low, is, p) = laid_many t (laid ++ squares_under t v) laid_then front p
+    ∙ omega (arith, length-append laid (squares_under t v), order_more m front, ap (λ (n : Move). n.count) is)
 
 -- ---- sides of laid squares
 
@@ -54,7 +56,8 @@ sides_some [] (suc n) some = (omega arith, sides_some [] n some)
 sides_some (q ∷ laid) n some = (some q (inl refl), sides_some laid n (λ r h. some r (inr h)))
 
 -- they are filled up with ones
-filled_up : (laid : List Square) → length laid ≤ 16 → ((q : Square) → IsOneOf q laid → 0 < q.s) → AreSidesOf laid (map (λ q. q.s) laid ++ replicate (16 - length laid) 1)
+filled_up : (laid : List Square) → length laid ≤ 16 → ((q : Square) → IsOneOf q laid → 0 < q.s)
+    → AreSidesOf laid (map (λ q. q.s) laid ++ replicate (16 - length laid) 1)
 filled_up laid few some = record {
   few = few;
   long = sides_long laid (replicate (16 - length laid) 1) ∙ omega (arith, length-replicate {A = ℕ} (16 - length laid) 1);
@@ -105,7 +108,8 @@ square_at (r ∷ squares) (suc k) h = square_at squares k (omega arith)
 
 pub ruled_out : (w : Word) (m : Move) (class : Class) (kept bottoms : List Form) → HoldAfter w kept bottoms → order_of w + m.count ≤ 6
     → ((sides : List ℕ) → Asked w m kept bottoms sides → (class ≡ Perfect → AreApart (order_of w + m.count) sides) → ⊥) → IsRuledOut class (w ++ m ∷ [])
-ruled_out w m class kept bottoms hold few none t laid tiling perfect p = none sides (asks w m kept bottoms hold t laid sides tiling p are).asked (λ is. apart (perfect is))
+ruled_out w m class kept bottoms hold few none t laid tiling perfect p = none sides (asks w m kept bottoms hold t laid sides tiling p are).asked
+    (λ is. apart (perfect is))
   where
     a : (nodes : List Segment) × Along t laid nodes (outline_of (w ++ m ∷ []))
     a = laid_along t tiling [] laid [] start (w ++ m ∷ []) (along_start t tiling) p
@@ -129,7 +133,11 @@ ruled_out w m class kept bottoms hold few none t laid tiling perfect p = none si
         wide q h = let r = (within_of t tiling q (laid_in q h)).right in omega (arith, side_of t tiling q (laid_in q h))
 
         deep : (q : Square) → IsOneOf q laid → q.y < depth laid q.x
-        deep q h = omega (arith, depth_reaches laid q.x q h (column_from q.x q (omega arith) (omega (arith, side_of t tiling q (laid_in q h)))), side_of t tiling q (laid_in q h))
+        deep q h = omega (
+          arith,
+          depth_reaches laid q.x q h (column_from q.x q (omega arith) (omega (arith, side_of t tiling q (laid_in q h)))),
+          side_of t tiling q (laid_in q h),
+        )
 
     apart : IsPerfect t → AreApart (order_of w + m.count) (map (λ q. q.s) laid ++ replicate (16 - length laid) 1)
     apart is i j low high e = two_places laid once i j (one.0) low one.1 (other.1 ∙ ap (λ (q : Square). Some q) (sym same))
@@ -148,12 +156,14 @@ pub not_both : (b : Bool) → b ≡ true → b ≡ false → ⊥
 not_both b e f = cc
 
 -- the moves that a word begins with lay squares
-laid_by_word : (t : Tiling) (front rest : Word) (laid : List Square) → MovesFollow t laid (front ++ rest) → (laid_then : List Square) × LaidBy t laid front laid_then
+laid_by_word : (t : Tiling) (front rest : Word) (laid : List Square) → MovesFollow t laid (front ++ rest) → (laid_then : List Square)
+    × LaidBy t laid front laid_then
 laid_by_word t [] rest laid p = (laid, refl)
 laid_by_word t (m ∷ front) rest laid (v, found, low, is, p) = let r = laid_by_word t front rest (laid ++ squares_under t v) p in (r.0, (v, found, low, is, r.1))
 
 pub ruled_out_is_barren : RuledOutIsBarren
-ruled_out_is_barren n class front ruled e rest entry word = ruled e.tiling laid.0 (entry.member).tiling (λ is. subst (λ (c : Class). IsOfClass c e.tiling) is (entry.member).class) laid.1
+ruled_out_is_barren n class front ruled e rest entry word = ruled e.tiling laid.0 (entry.member).tiling
+    (λ is. subst (λ (c : Class). IsOfClass c e.tiling) is (entry.member).class) laid.1
   where
     laid : (laid_then : List Square) × LaidBy e.tiling [] front laid_then
     laid = laid_by_word e.tiling front rest [] (subst (IsWordOf e.tiling) word entry.word)

@@ -1,6 +1,7 @@
 -- Forms whose coefficients are small stay small by one more side.
 use Rattle.std.specs.Prelude.{nat_abs, negsuc, pos, ℤ, ◌+ℤ◌}
-use Rattle.std.proofs.Common.{List, Some, [], arith, get_or, inl, inr, length, map, replicate, set, slice_get, subst, suc, sym, zero, ℕ, ◌++◌, ◌+◌, ◌-◌, ◌<◌, ◌∷◌, ◌≡◌, ◌≤◌, ◌⊎◌}
+use Rattle.std.proofs.Common.{List, Some, [], arith, get_or, inl, inr, length, map, replicate, set, slice_get, subst, suc, sym, zero, ℕ, ◌++◌, ◌+◌}
+use Rattle.std.proofs.Common.{◌-◌, ◌<◌, ◌∷◌, ◌≡◌, ◌≤◌, ◌⊎◌}
 use Rattle.std.proofs.lemmas.Bool.{cases_lt}
 use Rattle.std.proofs.lemmas.Int.{ints}
 use Rattle.bk_forms.specs.Form.{Form, coefficient, with_side}
@@ -34,7 +35,8 @@ small_set k (b ∷ form) zero a h all = (h, all.1)
 small_set k (b ∷ form) (suc c) a h all = (all.0, small_set k form c a h all.1)
 
 pub small_with_side : (k : ℕ) (form : Form) (c : ℕ) → IsSmall k form → IsSmall (suc k) (with_side form c)
-small_with_side k form c all = small_set (suc k) form c (coefficient form c +ℤ pos 1) (one_more (coefficient form c) k (small_at k form c all)) (small_more k (suc k) form (omega arith) all)
+small_with_side k form c all = small_set (suc k) form c (coefficient form c +ℤ pos 1) (one_more (coefficient form c) k (small_at k form c all))
+    (small_more k (suc k) form (omega arith) all)
 
 -- ---- levels
 
@@ -53,11 +55,13 @@ small_level bottoms [] small = small_zero (length bottoms)
 small_level bottoms (n ∷ numbers) small = cases (cases_lt (n - 1) (length bottoms))
   where
     cases : ((n - 1) < length bottoms) ⊎ (length bottoms ≤ (n - 1)) → IsSmall (length bottoms) (get_or bottoms (n - 1) zero_form)
-    cases (inl h) = small_more (suc (n - 1)) (length bottoms) (get_or bottoms (n - 1) zero_form) (omega arith) (small (n - 1) (get_or bottoms (n - 1) zero_form) (read bottoms (n - 1) h))
+    cases (inl h) = small_more (suc (n - 1)) (length bottoms) (get_or bottoms (n - 1) zero_form) (omega arith)
+        (small (n - 1) (get_or bottoms (n - 1) zero_form) (read bottoms (n - 1) h))
     cases (inr h) = subst (IsSmall (length bottoms)) (sym (past bottoms (n - 1) h)) (small_zero (length bottoms))
 
 -- the bottoms of new squares
-new_small : (numbers : List ℕ) (level : Form) (k i : ℕ) (form : Form) → IsSmall k level → slice_get (map (λ n. with_side level (n - 1)) numbers) i ≡ Some form → IsSmall (suc k) form
+new_small : (numbers : List ℕ) (level : Form) (k i : ℕ) (form : Form) → IsSmall k level
+    → slice_get (map (λ n. with_side level (n - 1)) numbers) i ≡ Some form → IsSmall (suc k) form
 new_small [] level k i form small e = absurd (cc)
 new_small (n ∷ numbers) level k zero form small e = subst (IsSmall (suc k)) same (small_with_side k level (n - 1) small)
   where
@@ -65,18 +69,22 @@ new_small (n ∷ numbers) level k zero form small e = subst (IsSmall (suc k)) sa
     same = cc
 new_small (n ∷ numbers) level k (suc i) form small e = new_small numbers level k i form small e
 
-split_get : (xs ys : List Form) (i : ℕ) (form : Form) → slice_get (xs ++ ys) i ≡ Some form → (slice_get xs i ≡ Some form) ⊎ ((j : ℕ) × (i ≡ length xs + j) × (slice_get ys j ≡ Some form))
+split_get : (xs ys : List Form) (i : ℕ) (form : Form) → slice_get (xs ++ ys) i ≡ Some form → (slice_get xs i ≡ Some form)
+    ⊎ ((j : ℕ) × (i ≡ length xs + j) × (slice_get ys j ≡ Some form))
 split_get [] ys i form e = inr (i, omega arith, e)
 split_get (x ∷ xs) ys zero form e = inl e
 split_get (x ∷ xs) ys (suc i) form e = cases (split_get xs ys i form e)
   where
-    cases : (slice_get xs i ≡ Some form) ⊎ ((j : ℕ) × (i ≡ length xs + j) × (slice_get ys j ≡ Some form)) → (slice_get xs i ≡ Some form) ⊎ ((j : ℕ) × (suc i ≡ length (x ∷ xs) + j) × (slice_get ys j ≡ Some form))
+    cases : (slice_get xs i ≡ Some form) ⊎ ((j : ℕ) × (i ≡ length xs + j) × (slice_get ys j ≡ Some form)) → (slice_get xs i ≡ Some form)
+        ⊎ ((j : ℕ) × (suc i ≡ length (x ∷ xs) + j) × (slice_get ys j ≡ Some form))
     cases (inl f) = inl f
     cases (inr (j, is, f)) = inr (j, omega (arith, is), f)
 
-pub small_new : (bottoms : List Form) (level : Form) (numbers : List ℕ) → AreSmall bottoms → IsSmall (length bottoms) level → AreSmall (bottoms ++ map (λ n. with_side level (n - 1)) numbers)
+pub small_new : (bottoms : List Form) (level : Form) (numbers : List ℕ) → AreSmall bottoms → IsSmall (length bottoms) level
+    → AreSmall (bottoms ++ map (λ n. with_side level (n - 1)) numbers)
 small_new bottoms level numbers small low i form e = cases (split_get bottoms (map (λ n. with_side level (n - 1)) numbers) i form e)
   where
-    cases : (slice_get bottoms i ≡ Some form) ⊎ ((j : ℕ) × (i ≡ length bottoms + j) × (slice_get (map (λ n. with_side level (n - 1)) numbers) j ≡ Some form)) → IsSmall (suc i) form
+    cases : (slice_get bottoms i ≡ Some form) ⊎ ((j : ℕ) × (i ≡ length bottoms + j)
+        × (slice_get (map (λ n. with_side level (n - 1)) numbers) j ≡ Some form)) → IsSmall (suc i) form
     cases (inl f) = small i form f
     cases (inr (j, is, f)) = small_more (suc (length bottoms)) (suc i) form (omega (arith, is)) (new_small numbers level (length bottoms) j form low f)

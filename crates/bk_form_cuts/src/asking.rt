@@ -1,16 +1,17 @@
 //! What a ledger answers to a move: equations that contradict those before, and comparisons that are known to be others.
 #![tactic(auto)]
 
-ghost use Rattle.std.specs.Prelude.{List, [], false, length, true, ℕ, ◌+◌, ◌<◌, ◌≡◌, ◌≢◌, ◌≤◌};
+ghost use Rattle.std.specs.Prelude.{IsTrue, List, [], false, length, slice_index_or, true, ℕ, ◌+◌, ◌<◌, ◌≡◌, ◌≢◌, ◌≤◌};
 ghost use Rattle.bk_word.specs.declared.Sign.{Sign};
-ghost use Rattle.bk_forms.specs.Form.{form_value};
+ghost use Rattle.bk_forms.specs.Form.{form_value, with_side};
 ghost use Rattle.bk_forms.specs.FormLaws.{Compares, MeetsEquations};
 ghost use Rattle.bk_form_cuts.specs.Asking.{Answers, AreApart, KeepsFirst};
-ghost use Rattle.bk_form_cuts.specs.SideForms.{sum_of_sides as sum_seen};
+ghost use Rattle.bk_form_cuts.specs.SideForms.{sum_of_sides as sum_seen, zero_form};
 ghost use Rattle.bk_form_cuts.specs.SidesOfTilings.{AgreeWith};
 
 use crate::levels::{level_at, sum_of_sides};
-use bk_forms::{Compared, Form, Kept, Ledger};
+use crate::numbers::numbers_for;
+use bk_forms::{Compared, Form, Kept, Ledger, SIDES};
 use bk_word::Sign;
 
 // Adds the equation of the squares that end on a valley and those that hang under it, and those of the levels beside each sign
@@ -100,14 +101,27 @@ pub(crate) fn compares_otherwise(ledger: &Ledger, levels: &[Form], signs: &[Sign
         → result ≡ false }
 {
     for (i, sign) in signs.iter().enumerate() {
-        if is_other(
-            ledger.compare(&level_at(levels, i), &level_at(levels, i + 1)),
+        if is_known_otherwise(
+            ledger,
             *sign,
+            &level_at(levels, i),
+            &level_at(levels, i + 1),
         ) {
             return true;
         }
     }
     false
+}
+
+// Whether the levels beside a sign are known to compare otherwise. Beside a sign even their equation is kept already.
+fn is_known_otherwise(ledger: &Ledger, sign: Sign, left: &Form, right: &Form) -> bool
+    ensures { (sides : List ℕ) → MeetsEquations 16 ledger.now sides
+        → Compares sign (form_value left.now sides) (form_value right.now sides) → result ≡ false }
+{
+    if sign == Sign::Even {
+        return false;
+    }
+    is_other(ledger.compare(left, right), sign)
 }
 
 // Whether a known comparison is another sign.
@@ -120,13 +134,14 @@ fn is_other(compared: Compared, sign: Sign) -> bool
     }
 }
 
-// Whether two of the first sides are known to be equal.
+// Whether two of the first sides are known to be equal. Those of which numbers that meet the equations differ aren't compared.
 pub(crate) fn has_equal_sides(ledger: &Ledger, count: usize) -> bool
     requires { count ≤ 16 }
     ensures { (sides : List ℕ) → MeetsEquations 16 ledger.now sides → AreApart count sides → result ≡ false }
 {
+    let numbers = numbers_for(ledger.equations());
     for i in 0..count {
-        if equals_one_before(ledger, i) {
+        if equals_one_before(ledger, &numbers, i) {
             return true;
         }
     }
@@ -134,17 +149,39 @@ pub(crate) fn has_equal_sides(ledger: &Ledger, count: usize) -> bool
 }
 
 // Whether a side is known to be equal to one before it.
-fn equals_one_before(ledger: &Ledger, i: usize) -> bool
+fn equals_one_before(ledger: &Ledger, numbers: &[u64; SIDES], i: usize) -> bool
     requires { i < 16 }
     ensures { (sides : List ℕ) → MeetsEquations 16 ledger.now sides → AreApart (i + 1) sides → result ≡ false }
 {
-    let side = Form::zero().plus_side(i);
     for j in 0..i {
-        if is_even(ledger.compare(&side, &Form::zero().plus_side(j))) {
+        if are_equal(ledger, numbers, i, j) {
             return true;
         }
     }
     false
+}
+
+// Whether two sides are known to be equal. It isn't asked where their numbers differ.
+fn are_equal(ledger: &Ledger, numbers: &[u64; SIDES], i: usize, j: usize) -> bool
+    requires first { i < 16 }
+    requires second { j < 16 }
+    ensures { IsTrue result → (sides : List ℕ) → MeetsEquations 16 ledger.now sides
+        → slice_index_or sides i 0 ≡ slice_index_or sides j 0 }
+{
+    if numbers[i] != numbers[j] {
+        return false;
+    }
+    let side = side_alone(i);
+    let other = side_alone(j);
+    is_even(ledger.compare(&side, &other))
+}
+
+// The form of a side.
+fn side_alone(i: usize) -> Form
+    requires { i < 16 }
+    ensures { result ≡ with_side zero_form i }
+{
+    Form::zero().plus_side(i)
 }
 
 // Whether a comparison is known to be even.

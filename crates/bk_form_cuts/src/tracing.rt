@@ -5,6 +5,7 @@ ghost use Rattle.std.specs.Prelude.{IsTrue, List, [], length, take, ℕ, ◌++�
 ghost use Rattle.bk_word.specs.Outline.{IsLegalMove};
 ghost use Rattle.bk_word.specs.Play.{outline_of};
 ghost use Rattle.bk_word.specs.Word.{order_of};
+ghost use Rattle.bk_form_cuts.specs.SideForms.{brings_more, is_level};
 ghost use Rattle.bk_form_cuts.specs.Trace.{IsRuledOut, IsTraceOf};
 
 use crate::asking::{compares_otherwise, contradicts, has_equal_sides};
@@ -12,7 +13,7 @@ use crate::levels::{FOLLOWED, level_of, levels_along, new_numbers, push_bottoms}
 use arrayvec::ArrayVec;
 use bk_forms::{Form, Ledger};
 use bk_skel::Skel;
-use bk_word::{Class, Move};
+use bk_word::{Class, Move, Sign};
 use std::marker::Model;
 
 // How many equations and squares there were before a move.
@@ -52,9 +53,9 @@ impl Tracing {
     }
 
     /// Whether a legal move after these moves is known to be ruled out: no tiling of the class has a word that begins so. It is
-    /// said only while at most 6 squares hang with it: where the widths or the levels beside a sign even contradict the
-    /// equations before, where levels are known to compare otherwise than a sign says, and in the class perfect where two sides
-    /// are known to be equal.
+    /// said only while at most 6 squares hang with it, and of a move that brings more equations than squares: where the widths
+    /// or the levels beside a sign even contradict the equations before, where levels are known to compare otherwise than a sign
+    /// says, and in the class perfect where two sides are known to be equal.
     pub fn rules_out(&self, skel: &Skel, m: &Move, class: Class) -> bool
         requires trace { IsTraceOf skel.now self.now }
         requires legal { IsLegalMove (outline_of skel.now) m.now }
@@ -63,6 +64,19 @@ impl Tracing {
         if !self.follows(skel, m) {
             return false;
         }
+        if !binds_earlier(m) {
+            return false;
+        }
+        self.refuses(skel, m, class)
+    }
+
+    // The same of a move that is followed, by all that the ledger answers.
+    fn refuses(&self, skel: &Skel, m: &Move, class: Class) -> bool
+        requires trace { IsTraceOf skel.now self.now }
+        requires all { length self.now.marks ≡ length skel.now }
+        requires few { order_of skel.now + m.now.count ≤ 6 }
+        ensures { IsTrue result → IsRuledOut class (skel.now ++ m.now ∷ []) }
+    {
         let mut ledger = self.ledger.copy();
         let valley = skel.valley();
         let numbers = new_numbers(skel.order(), m.count);
@@ -82,15 +96,30 @@ impl Tracing {
         class == Class::Perfect && has_equal_sides(&ledger, skel.order() + usize::from(m.count))
     }
 
-    /// Goes on by a legal move after these moves. It must be called before the move is played.
+    /// Goes on by a legal move after these moves. It must be called before the move is played. A move with which 6 squares hang
+    /// isn't followed, since none after it is.
     pub fn push(&mut self, skel: &Skel, m: &Move)
         requires trace { IsTraceOf skel.now self.old }
         requires legal { IsLegalMove (outline_of skel.now) m.now }
         ensures { IsTraceOf (skel.now ++ m.now ∷ []) self.new }
     {
+        if skel.order() + usize::from(m.count) >= FOLLOWED {
+            return;
+        }
         if !self.follows(skel, m) {
             return;
         }
+        self.go_on(skel, m);
+    }
+
+    // The same by a move that is followed.
+    fn go_on(&mut self, skel: &Skel, m: &Move)
+        requires trace { IsTraceOf skel.now self.old }
+        requires legal { IsLegalMove (outline_of skel.now) m.now }
+        requires all { length self.old.marks ≡ length skel.now }
+        requires few { order_of skel.now + m.now.count ≤ 6 }
+        ensures { IsTraceOf (skel.now ++ m.now ∷ []) self.new }
+    {
         self.marks.push(Mark {
             equations: self.ledger.len(),
             squares: self.bottoms.len(),
@@ -130,5 +159,23 @@ impl Tracing {
         ensures few { IsTrue result → order_of skel.now + m.now.count ≤ 6 }
     {
         self.marks.len() == skel.moves() && skel.order() + usize::from(m.count) <= FOLLOWED
+    }
+}
+
+// Whether a move brings more equations than squares: that of the widths, and one for each sign even. Any other says what its own
+// squares are, and nothing of those before.
+fn binds_earlier(m: &Move) -> bool
+    ensures { result ≡ brings_more m.now }
+{
+    m.signs.iter().filter(|sign| is_level(**sign)).count() >= usize::from(m.count)
+}
+
+// Whether both bottoms beside a sign are level.
+fn is_level(sign: Sign) -> bool
+    ensures { result ≡ is_level sign }
+{
+    match sign {
+        Sign::Even => true,
+        Sign::Above | Sign::Under => false,
     }
 }

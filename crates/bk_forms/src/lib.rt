@@ -6,8 +6,6 @@ ghost use Rattle.bk_forms.specs.FormLaws.{ContradictionIsSound, ComparisonIsSoun
 mod form;
 mod ledger;
 mod reduction;
-#[cfg(test)]
-mod tests;
 
 pub use form::{Form, SIDES};
 pub use ledger::{Compared, Kept, Ledger};

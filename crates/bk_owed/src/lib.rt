@@ -5,4 +5,4 @@ mod singles;
 mod tally;
 
 pub use singles::single_valleys;
-pub use tally::{closing_bound, first_above, is_over, unders_behind};
+pub use tally::{closing_bound, first_above, first_over, is_over, unders_behind};

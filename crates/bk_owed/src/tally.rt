@@ -1,7 +1,7 @@
 //! The closing bound of signs, counted sign by sign.
 #![tactic(auto)]
 
-ghost use Rattle.std.specs.Prelude.{IsTrue, List, [], count_by, drop, length, true, ℕ, ◌++◌, ◌+◌, ◌<◌, ◌^◌, ◌∷◌, ◌≡◌, ◌≤◌};
+ghost use Rattle.std.specs.Prelude.{IfNone, IfSome, IsTrue, List, [], count_by, drop, length, take, true, ℕ, ◌++◌, ◌+◌, ◌<◌, ◌^◌, ◌∷◌, ◌≡◌, ◌≤◌};
 ghost use Rattle.bk_word.specs.Outline.{valley_place};
 ghost use Rattle.bk_word.specs.declared.Sign.{Sign as SeenSign};
 ghost use Rattle.bk_bounds.specs.ClosingBound.{closing_bound as bound_of, is_under};
@@ -64,6 +64,46 @@ pub fn closing_bound(signs: &[Sign]) -> usize
         aboves: 0,
     };
     tally_behind(none, signs).bound
+}
+
+// The tally of signs, where the bound doesn't pass the room; else it goes no further than to one that does.
+fn tally_of(signs: &[Sign], room: usize) -> Option<Tally>
+    requires { room < 1000 }
+    ensures within { IfSome result (λ tally. IsTally signs.now tally.bound tally.aboves) }
+    ensures low { IfSome result (λ tally. tally.aboves ≤ tally.bound) }
+    ensures room { IfSome result (λ tally. tally.bound ≤ room) }
+    ensures over { IfNone result (room < bound_of signs.now) }
+{
+    let mut tally = Tally {
+        bound: 0,
+        aboves: 0,
+    };
+    'signs: for sign in signs {
+        tally = tally_with(tally, *sign);
+        if tally.bound > room {
+            return None;
+        }
+    }
+    Some(tally)
+}
+
+/// How many of the signs bring the closing bound of those before and these above the room that there is; `None` where none do.
+/// It looks no further than to the first that does. (Own.)
+pub fn first_over(before: &[Sign], signs: &[Sign], room: usize) -> Option<usize>
+    requires { room < 1000 }
+    ensures { IfSome result (λ kept. room < bound_of (before.now ++ take kept signs.now)) }
+{
+    let mut tally = match tally_of(before, room) {
+        Some(tally) => tally,
+        None => return Some(0),
+    };
+    'signs: for (i, sign) in signs.iter().enumerate() {
+        tally = tally_with(tally, *sign);
+        if tally.bound > room {
+            return Some(i + 1);
+        }
+    }
+    None
 }
 
 /// Whether the closing bound of signs and of those behind them passes a number.

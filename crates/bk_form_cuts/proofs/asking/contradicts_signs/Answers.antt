@@ -5,16 +5,20 @@ use Rattle.bk_form_cuts.specs.Asking.{Answers}
 use Rattle.bk_form_cuts.proofs.asking.contradicts_signs.Goals as goal
 
 pub returns-then-contradicts_sign-clause-meets : goal.returns-then-contradicts_sign-clause-meets
-returns-then-contradicts_sign-clause-meets c = λ sides meets agree. subst (λ (b : Bool). Answers c.contradicts_sign.new.ledger sides b) c.if-contradicts_sign.true
+returns-then-contradicts_sign-clause-meets c = λ sides meets agree. subst (λ (b : Bool). Answers c.contradicts_sign.new.ledger sides b)
+    c.if-contradicts_sign.true
     (c.contradicts_sign.ensures.meets sides (c.loop-i.invariant.meets sides meets agree)
-    (agreed c.args.signs.now c.args.levels.now sides c.loop-i.i Above c.level_at.result c.level_at-in-loop-i.result agree c.loop-i-test.true c.level_at.ensures c.level_at-in-loop-i.ensures))
+    (agreed c.args.signs.now c.args.levels.now sides c.loop-i.i Above c.level_at.result c.level_at-in-loop-i.result agree c.loop-i-test.true
+    c.level_at.ensures c.level_at-in-loop-i.ensures))
 
 pub returns-then-contradicts_sign-clause-first : goal.returns-then-contradicts_sign-clause-first
-returns-then-contradicts_sign-clause-first c = keeps_trans c.args.ledger.now c.loop-i.ledger c.contradicts_sign.new.ledger c.loop-i.invariant.first c.contradicts_sign.ensures.first
+returns-then-contradicts_sign-clause-first c = keeps_trans c.args.ledger.now c.loop-i.ledger c.contradicts_sign.new.ledger c.loop-i.invariant.first
+    c.contradicts_sign.ensures.first
 
 pub loop-i-preserved : goal.loop-i-preserved
 loop-i-preserved c = record {
   meets = λ sides meets agree. (c.contradicts_sign.ensures.meets sides (c.loop-i.invariant.meets sides meets agree)
-      (agreed c.args.signs.now c.args.levels.now sides c.loop-i.i Above c.level_at.result c.level_at-in-loop-i.result agree c.loop-i-test.true c.level_at.ensures c.level_at-in-loop-i.ensures)).meets;
+      (agreed c.args.signs.now c.args.levels.now sides c.loop-i.i Above c.level_at.result c.level_at-in-loop-i.result agree c.loop-i-test.true
+      c.level_at.ensures c.level_at-in-loop-i.ensures)).meets;
   first = keeps_trans c.args.ledger.now c.loop-i.ledger c.contradicts_sign.new.ledger c.loop-i.invariant.first c.contradicts_sign.ensures.first;
 }

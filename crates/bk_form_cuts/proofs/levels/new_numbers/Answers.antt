@@ -12,4 +12,5 @@ push-requires c =
 pub loop-i-preserved : goal.loop-i-preserved
 loop-i-preserved c =
     let one : suc c.loop-i.i ≡ c.loop-i.i + 1 = omega arith in
-    c.push.ensures.items ∙ ap (λ (l : List ℕ). l ++ (c.args.hung + 1 + c.loop-i.i) ∷ []) c.loop-i.invariant ∙ sym (numbers_more (c.args.hung + 1) c.loop-i.i) ∙ ap (numbers_from (c.args.hung + 1)) one
+    c.push.ensures.items ∙ ap (λ (l : List ℕ). l ++ (c.args.hung + 1 + c.loop-i.i) ∷ []) c.loop-i.invariant
+    ∙ sym (numbers_more (c.args.hung + 1) c.loop-i.i) ∙ ap (numbers_from (c.args.hung + 1)) one

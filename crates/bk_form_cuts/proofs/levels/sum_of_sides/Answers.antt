@@ -14,7 +14,11 @@ loop-number-preserved c =
     let is = c.plus_side-sum.ensures ∙ ap (with_side c.loop-number.sum) (c.saturating_sub.ensures ∙ ap (λ (n : ℕ). n - 1) c.from.ensures) in
     record {
       added = ap (λ (f : SeenForm). fold (λ form n. with_side form (n - 1)) f (drop (c.loop-number.number-index + 1) c.args.numbers.now)) is
-          ∙ sym (ap (fold (λ form n. with_side form (n - 1)) c.loop-number.sum) (rest c.args.numbers.now c.loop-number.number-index x c.loop-number-test.true (get_or_default c.args.numbers.now c.loop-number.number-index 0 x c.loop-number-test.true)))
+          ∙ sym (ap (fold (λ form n. with_side form (n - 1)) c.loop-number.sum)
+          (rest c.args.numbers.now c.loop-number.number-index x c.loop-number-test.true
+          (get_or_default c.args.numbers.now c.loop-number.number-index 0 x c.loop-number-test.true)))
           ∙ c.loop-number.invariant.added;
-      small = subst (IsSmall (c.loop-number.number-index + 1)) (sym is) (subst (λ (k : ℕ). IsSmall k (with_side c.loop-number.sum (x - 1))) one (small_with_side c.loop-number.number-index c.loop-number.sum (x - 1) c.loop-number.invariant.small));
+      small = subst (IsSmall (c.loop-number.number-index + 1)) (sym is)
+          (subst (λ (k : ℕ). IsSmall k (with_side c.loop-number.sum (x - 1))) one
+          (small_with_side c.loop-number.number-index c.loop-number.sum (x - 1) c.loop-number.invariant.small));
     }

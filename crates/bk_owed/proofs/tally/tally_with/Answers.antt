@@ -9,7 +9,8 @@ returns-in-Above-clause-tally c signs t = subst (λ (s : Sign). IsTally (signs +
     (tally_above signs c.args.tally.bound c.max.result c.args.tally.aboves (c.args.tally.aboves + 1) t c.max.ensures refl)
 
 pub returns-in-Even-clause-tally : goal.returns-in-Even-clause-tally
-returns-in-Even-clause-tally c signs t = subst (λ (s : Sign). IsTally (signs ++ s ∷ []) c.args.tally.bound c.args.tally.aboves) (sym c.in-Even.is) (tally_even signs c.args.tally.bound c.args.tally.aboves c.requires.low t)
+returns-in-Even-clause-tally c signs t = subst (λ (s : Sign). IsTally (signs ++ s ∷ []) c.args.tally.bound c.args.tally.aboves) (sym c.in-Even.is)
+    (tally_even signs c.args.tally.bound c.args.tally.aboves c.requires.low t)
 
 pub returns-in-Under-clause-tally : goal.returns-in-Under-clause-tally
 returns-in-Under-clause-tally c signs t = subst (λ (s : Sign). IsTally (signs ++ s ∷ []) (c.args.tally.bound + 1) c.args.tally.aboves) (sym c.in-Under.is)

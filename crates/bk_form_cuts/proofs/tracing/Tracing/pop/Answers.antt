@@ -12,7 +12,9 @@ pub returns-in-Some : goal.returns-in-Some
 returns-in-Some c =
     let all : length c.args.skel.now ≤ length c.self.inside.marks.items = omega (arith, c.if-len-moves.false, c.len.ensures.value, c.moves.ensures.value) in
     let w = take (length c.args.skel.now - 1) c.args.skel.now in
-    subst (λ (ks : List SeenForm). IsTraceOf (take (length c.args.skel.now - 1) c.args.skel.now) (record { kept = ks; bottoms = c.truncate.new.self.items; marks = c.pop.new.self.items })) (sym c.cut.ensures)
-    (subst (λ (bs : List SeenForm). IsTraceOf (take (length c.args.skel.now - 1) c.args.skel.now) (record { kept = take c.in-Some.mark.equations c.self.inside.ledger; bottoms = bs; marks = c.pop.new.self.items })) (sym c.truncate.ensures.items)
+    subst (λ (ks : List SeenForm). IsTraceOf (take (length c.args.skel.now - 1) c.args.skel.now)
+    (record { kept = ks; bottoms = c.truncate.new.self.items; marks = c.pop.new.self.items })) (sym c.cut.ensures)
+    (subst (λ (bs : List SeenForm). IsTraceOf (take (length c.args.skel.now - 1) c.args.skel.now)
+    (record { kept = take c.in-Some.mark.equations c.self.inside.ledger; bottoms = bs; marks = c.pop.new.self.items })) (sym c.truncate.ensures.items)
     (trace_back c.args.skel.now c.self.inside.ledger c.self.inside.bottoms.items c.self.inside.marks.items c.pop.new.self.items c.in-Some.mark
     (subst (IsTraceOf c.args.skel.now) (sym c.self.view_is) c.requires.trace) all c.in-Some.ensures.items))

@@ -12,22 +12,25 @@ use Rattle.bk_form_cuts.specs.SidesOfTilings.{AgreeWith}
 use Rattle.bk_word.specs.declared.Sign.{Sign}
 use Rattle.bk_word.specs.declared.Class.TheVariants.{Perfect}
 use Rattle.bk_form_cuts.specs.Asking.{AreApart}
-use Rattle.bk_form_cuts.proofs.tracing.Tracing.rules_out.Goals as goal
+use Rattle.bk_form_cuts.proofs.tracing.Tracing.refuses.Goals as goal
 
 pub returns-then-contradicts : goal.returns-then-contradicts
 returns-then-contradicts c =
     let w = c.args.skel.now in
     let v = ap (λ (v : Valley). v.squares) (c.valley.view_is ∙ c.valley-valley.ensures) in
-    let numbers = numbers_are c.args.skel.now c.args.m.now c.as_slice-3.result.now c.order.result c.m.inside.count (c.as_slice-3.ensures.value ∙ c.new_numbers-numbers.ensures) c.order.ensures.value (ap (λ (m : Move). m.count) c.m.view_is) in
-    let levels = c.as_slice-4.ensures.value ∙ c.levels_along-levels.ensures ∙ ap (levels_along (outline_of c.args.skel.now) c.args.m.now) c.as_slice.ensures.value in
+    let numbers = numbers_are c.args.skel.now c.args.m.now c.as_slice-3.result.now c.order.result c.m.inside.count
+    (c.as_slice-3.ensures.value ∙ c.new_numbers-numbers.ensures) c.order.ensures.value (ap (λ (m : Move). m.count) c.m.view_is) in
+    let levels = c.as_slice-4.ensures.value ∙ c.levels_along-levels.ensures
+    ∙ ap (levels_along (outline_of c.args.skel.now) c.args.m.now) c.as_slice.ensures.value in
     let signs = c.as_slice-5.ensures.value ∙ ap (λ (m : Move). m.signs) c.m.view_is in
     let trace = subst (IsTraceOf c.args.skel.now) (sym c.self.view_is) c.requires.trace in
-    let all : length c.self.inside.marks.items ≡ length c.args.skel.now = ap (λ (t : Trace). length t.marks) c.self.view_is ∙ c.follows.ensures.all c.if-not-follows.false in
+    let all : length c.self.inside.marks.items ≡ length c.args.skel.now = ap (λ (t : Trace). length t.marks) c.self.view_is ∙ c.requires.all in
     λ _. ruled_out c.args.skel.now c.args.m.now c.args.class c.self.inside.ledger c.self.inside.bottoms.items
     (hold_all c.args.skel.now (record { kept = c.self.inside.ledger; bottoms = c.self.inside.bottoms.items; marks = c.self.inside.marks.items }) trace all)
-    (c.follows.ensures.few c.if-not-follows.false)
+    c.requires.few
     (λ sides asked apart.
-    let h = here c.args.skel.now c.args.m.now c.self.inside.ledger c.self.inside.bottoms.items sides c.copy-ledger.result c.as_slice-2.result.now c.as_slice-3.result.now c.as_slice-4.result.now c.as_slice-5.result.now
+    let h = here c.args.skel.now c.args.m.now c.self.inside.ledger c.self.inside.bottoms.items sides c.copy-ledger.result c.as_slice-2.result.now
+    c.as_slice-3.result.now c.as_slice-4.result.now c.as_slice-5.result.now
     c.copy-ledger.ensures (c.as_slice-2.ensures.value ∙ v) numbers levels signs asked in
     let first = c.contradicts.ensures.meets sides h.meets h.widths h.signs_agree in
     not_both c.contradicts.result c.if-contradicts.true first.none)
@@ -36,37 +39,46 @@ pub returns-then-compares_otherwise : goal.returns-then-compares_otherwise
 returns-then-compares_otherwise c =
     let w = c.args.skel.now in
     let v = ap (λ (v : Valley). v.squares) (c.valley.view_is ∙ c.valley-valley.ensures) in
-    let numbers = numbers_are c.args.skel.now c.args.m.now c.as_slice-3.result.now c.order.result c.m.inside.count (c.as_slice-3.ensures.value ∙ c.new_numbers-numbers.ensures) c.order.ensures.value (ap (λ (m : Move). m.count) c.m.view_is) in
-    let levels = c.as_slice-4.ensures.value ∙ c.levels_along-levels.ensures ∙ ap (levels_along (outline_of c.args.skel.now) c.args.m.now) c.as_slice.ensures.value in
+    let numbers = numbers_are c.args.skel.now c.args.m.now c.as_slice-3.result.now c.order.result c.m.inside.count
+    (c.as_slice-3.ensures.value ∙ c.new_numbers-numbers.ensures) c.order.ensures.value (ap (λ (m : Move). m.count) c.m.view_is) in
+    let levels = c.as_slice-4.ensures.value ∙ c.levels_along-levels.ensures
+    ∙ ap (levels_along (outline_of c.args.skel.now) c.args.m.now) c.as_slice.ensures.value in
     let signs = c.as_slice-5.ensures.value ∙ ap (λ (m : Move). m.signs) c.m.view_is in
     let trace = subst (IsTraceOf c.args.skel.now) (sym c.self.view_is) c.requires.trace in
-    let all : length c.self.inside.marks.items ≡ length c.args.skel.now = ap (λ (t : Trace). length t.marks) c.self.view_is ∙ c.follows.ensures.all c.if-not-follows.false in
+    let all : length c.self.inside.marks.items ≡ length c.args.skel.now = ap (λ (t : Trace). length t.marks) c.self.view_is ∙ c.requires.all in
     λ _. ruled_out c.args.skel.now c.args.m.now c.args.class c.self.inside.ledger c.self.inside.bottoms.items
     (hold_all c.args.skel.now (record { kept = c.self.inside.ledger; bottoms = c.self.inside.bottoms.items; marks = c.self.inside.marks.items }) trace all)
-    (c.follows.ensures.few c.if-not-follows.false)
+    c.requires.few
     (λ sides asked apart.
-    let h = here c.args.skel.now c.args.m.now c.self.inside.ledger c.self.inside.bottoms.items sides c.copy-ledger.result c.as_slice-2.result.now c.as_slice-3.result.now c.as_slice-4.result.now c.as_slice-5.result.now
+    let h = here c.args.skel.now c.args.m.now c.self.inside.ledger c.self.inside.bottoms.items sides c.copy-ledger.result c.as_slice-2.result.now
+    c.as_slice-3.result.now c.as_slice-4.result.now c.as_slice-5.result.now
     c.copy-ledger.ensures (c.as_slice-2.ensures.value ∙ v) numbers levels signs asked in
     let first = c.contradicts.ensures.meets sides h.meets h.widths h.signs_agree in
-    let agree = subst (λ (ss : List Sign). AgreeWith ss c.as_slice-6.result.now sides) (c.as_slice-5.ensures.value ∙ sym c.as_slice-7.ensures.value) (subst (λ (ls : List SeenForm). AgreeWith c.as_slice-5.result.now ls sides) (c.as_slice-4.ensures.value ∙ sym c.as_slice-6.ensures.value) h.signs_agree) in
+    let agree = subst (λ (ss : List Sign). AgreeWith ss c.as_slice-6.result.now sides) (c.as_slice-5.ensures.value ∙ sym c.as_slice-7.ensures.value)
+    (subst (λ (ls : List SeenForm). AgreeWith c.as_slice-5.result.now ls sides) (c.as_slice-4.ensures.value ∙ sym c.as_slice-6.ensures.value)
+    h.signs_agree) in
     not_both c.compares_otherwise.result c.if-compares_otherwise.true (c.compares_otherwise.ensures sides first.meets agree))
 
 pub returns-then-eq : goal.returns-then-eq
 returns-then-eq c =
     let w = c.args.skel.now in
     let v = ap (λ (v : Valley). v.squares) (c.valley.view_is ∙ c.valley-valley.ensures) in
-    let numbers = numbers_are c.args.skel.now c.args.m.now c.as_slice-3.result.now c.order.result c.m.inside.count (c.as_slice-3.ensures.value ∙ c.new_numbers-numbers.ensures) c.order.ensures.value (ap (λ (m : Move). m.count) c.m.view_is) in
-    let levels = c.as_slice-4.ensures.value ∙ c.levels_along-levels.ensures ∙ ap (levels_along (outline_of c.args.skel.now) c.args.m.now) c.as_slice.ensures.value in
+    let numbers = numbers_are c.args.skel.now c.args.m.now c.as_slice-3.result.now c.order.result c.m.inside.count
+    (c.as_slice-3.ensures.value ∙ c.new_numbers-numbers.ensures) c.order.ensures.value (ap (λ (m : Move). m.count) c.m.view_is) in
+    let levels = c.as_slice-4.ensures.value ∙ c.levels_along-levels.ensures
+    ∙ ap (levels_along (outline_of c.args.skel.now) c.args.m.now) c.as_slice.ensures.value in
     let signs = c.as_slice-5.ensures.value ∙ ap (λ (m : Move). m.signs) c.m.view_is in
     let trace = subst (IsTraceOf c.args.skel.now) (sym c.self.view_is) c.requires.trace in
-    let all : length c.self.inside.marks.items ≡ length c.args.skel.now = ap (λ (t : Trace). length t.marks) c.self.view_is ∙ c.follows.ensures.all c.if-not-follows.false in
+    let all : length c.self.inside.marks.items ≡ length c.args.skel.now = ap (λ (t : Trace). length t.marks) c.self.view_is ∙ c.requires.all in
     let is : c.args.class ≡ Perfect = search rules in
-    let count : c.order-then-eq.result + c.from.result ≡ order_of c.args.skel.now + c.args.m.now.count = (λ i. c.order-then-eq.ensures.value i + (c.from.ensures ∙ ap (λ (m : Move). m.count) c.m.view_is) i) in
+    let count : c.order-then-eq.result + c.from.result ≡ order_of c.args.skel.now +
+    c.args.m.now.count = (λ i. c.order-then-eq.ensures.value i + (c.from.ensures ∙ ap (λ (m : Move). m.count) c.m.view_is) i) in
     λ yes. ruled_out c.args.skel.now c.args.m.now c.args.class c.self.inside.ledger c.self.inside.bottoms.items
     (hold_all c.args.skel.now (record { kept = c.self.inside.ledger; bottoms = c.self.inside.bottoms.items; marks = c.self.inside.marks.items }) trace all)
-    (c.follows.ensures.few c.if-not-follows.false)
+    c.requires.few
     (λ sides asked apart.
-    let h = here c.args.skel.now c.args.m.now c.self.inside.ledger c.self.inside.bottoms.items sides c.copy-ledger.result c.as_slice-2.result.now c.as_slice-3.result.now c.as_slice-4.result.now c.as_slice-5.result.now
+    let h = here c.args.skel.now c.args.m.now c.self.inside.ledger c.self.inside.bottoms.items sides c.copy-ledger.result c.as_slice-2.result.now
+    c.as_slice-3.result.now c.as_slice-4.result.now c.as_slice-5.result.now
     c.copy-ledger.ensures (c.as_slice-2.ensures.value ∙ v) numbers levels signs asked in
     let first = c.contradicts.ensures.meets sides h.meets h.widths h.signs_agree in
     not_both c.has_equal_sides.result yes (c.has_equal_sides.ensures sides first.meets (subst (λ (n : ℕ). AreApart n sides) (sym count) (apart is))))

@@ -1,0 +1,12 @@
+use Rattle.std.proofs.Common.{ap, sym, ◌∙◌}
+use Rattle.bk_word.specs.declared.Sign.TheVariants.{Even}
+use Rattle.bk_forms.specs.Form.{Form as SeenForm, form_value}
+use Rattle.bk_form_cuts.proofs.Asked.{equal_sides}
+use Rattle.bk_form_cuts.proofs.asking.are_equal.Goals as goal
+
+pub returns : goal.returns
+returns c = λ yes sides meets.
+    let left = ap (λ (f : SeenForm). form_value f sides) c.side_alone-side.ensures in
+    let right = ap (λ (f : SeenForm). form_value f sides) c.side_alone-other.ensures in
+    equal_sides sides c.args.i c.args.j meets.long c.requires.first c.requires.second
+    (sym left ∙ c.compare.ensures.known Even (c.is_even.ensures yes) sides meets ∙ right)
