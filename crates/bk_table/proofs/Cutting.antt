@@ -1,20 +1,25 @@
 -- Cuts of the search: of a next move by its count and its first signs, and of all moves.
-use Rattle.std.proofs.Common.{Bool, Contains, IsTrue, List, Some, [], ap, arith, count_by, drop, false, length, length-append, length-drop, length-take, refl, slice_get, slice_index_or, subst, suc, sym, take, true, zero, ℕ, ◌*◌, ◌++◌, ◌+◌, ◌-◌, ◌<◌, ◌∙◌, ◌∷◌, ◌≡◌, ◌≤◌}
+use Rattle.std.proofs.Common.{Contains, List, Some, [], ap, arith, count_by, drop, false, length, length-append, length-drop}
+use Rattle.std.proofs.Common.{length-take, refl, slice_get, subst, suc, sym, take, zero, ℕ, ◌*◌, ◌++◌, ◌+◌, ◌-◌, ◌<◌, ◌∙◌, ◌∷◌}
+use Rattle.std.proofs.Common.{◌≡◌, ◌≤◌}
 use Rattle.std.proofs.lemmas.List.Sums.{count_by-le-length, length-filter}
 use Rattle.bk_word.specs.Outline.{IsLegalMove, Outline, has_left_wall, open_side, start, valley_of, valley_place}
-use Rattle.bk_word.specs.OwnSigns.{own_signs}
 use Rattle.bk_word.specs.Play.{AreLegalFrom, IsLegal, after_move, after_moves, outline_of, parts, signs_apart}
 use Rattle.bk_word.specs.Word.{Move, Word, order_of}
 use Rattle.bk_word.specs.declared.Sign.{Sign}
 use Rattle.bk_word.specs.declared.Sign.TheVariants.{Above, Even}
-use Rattle.bk_free_cuts.proofs.CutsOfTilings.{even_squares_are_free_barren, one_segment_is_free_barren, one_under_one_is_free_barren, staying_above_is_free_barren, too_many_singles_is_free_barren, too_many_to_close_is_free_barren}
+use Rattle.bk_free_cuts.proofs.CutsOfTilings.{even_squares_are_free_barren, one_segment_is_free_barren, one_under_one_is_free_barren}
+use Rattle.bk_free_cuts.proofs.CutsOfTilings.{staying_above_is_free_barren, too_many_lines_is_free_barren, too_many_to_close_is_free_barren}
 use Rattle.bk_bounds.proofs.ClosingLaws.{bound-parts, unders}
 use Rattle.bk_bounds.specs.ClosingBound.{closing_bound, is_under}
 use Rattle.bk_bounds.specs.SingleValleys.{single_valleys, sizes_of}
+use Rattle.bk_bounds.specs.VerticalCut.{line_bound_of}
 use Rattle.bk_owed.proofs.TallyLaws.{front_owes}
 use Rattle.bk_word.proofs.PlayLaws.{after-snoc, few_signs}
 use Rattle.bk_word.proofs.StoredBytes.{order_append, order_more}
+use Rattle.bk_free_cuts.proofs.CutByNodes.{shared_node_is_free_barren}
 use Rattle.bk_free_cuts.specs.FreeCuts.{IsFreeBarren}
+use Rattle.bk_free_cuts.specs.NodeCut.{ShareANode}
 use Rattle.bk_net_word.proofs.NetWords.{a_free_barren_word_is_net_barren, even_then_above_is_net_barren}
 use Rattle.bk_net_word.specs.NetWord.{IsNetBarren}
 use Rattle.bk_table.specs.Sought.{BeginsTurned}
@@ -24,7 +29,8 @@ cut : (n : ℕ) (front : Word) → IsFreeBarren n front → IsNetBarren n front
 cut n front barren = a_free_barren_word_is_net_barren n front barren
 
 -- one square under a valley of one
-pub lone_is_barren : (front : Word) (valley count : ℕ) → valley ≡ length (valley_of (outline_of front)) → valley ≡ 1 → (n : ℕ) (m : Move) → m.count < 2 → 0 < m.count → IsNetBarren n (front ++ m ∷ [])
+pub lone_is_barren : (front : Word) (valley count : ℕ) → valley ≡ length (valley_of (outline_of front)) → valley ≡ 1 → (n : ℕ) (m : Move)
+    → m.count < 2 → 0 < m.count → IsNetBarren n (front ++ m ∷ [])
 lone_is_barren front valley count is one n m few some = cut n (front ++ m ∷ []) (one_under_one_is_free_barren n front m (omega arith) (sym is ∙ one))
 
 sign_behind : (signs : List Sign) (s : Sign) (more : List Sign) → slice_get (signs ++ s ∷ more) (length signs) ≡ Some s
@@ -32,14 +38,18 @@ sign_behind [] s more = refl
 sign_behind (t ∷ signs) s more = sign_behind signs s more
 
 -- the first sign is above, at a left neighbour
-pub above_is_barred : (n : ℕ) (front : Word) (signs : List Sign) (sign : Sign) (other : Move) (more : List Sign) → has_left_wall (outline_of front) ≡ false → length signs ≡ 0 → sign ≡ Above
+pub above_is_barred : (n : ℕ) (front : Word) (signs : List Sign) (sign : Sign) (other : Move) (more : List Sign)
+    → has_left_wall (outline_of front) ≡ false → length signs ≡ 0 → sign ≡ Above
     → other.signs ≡ signs ++ sign ∷ more → IsNetBarren n (front ++ other ∷ [])
-above_is_barred n front [] sign other more apart none above are = cut n (front ++ other ∷ []) (staying_above_is_free_barren n front other (λ free. free apart (ap (λ l. slice_get l 0) are ∙ ap (λ s. Some s) above)))
+above_is_barred n front [] sign other more apart none above are = cut n (front ++ other ∷ [])
+    (staying_above_is_free_barren n front other (λ free. free apart (ap (λ l. slice_get l 0) are ∙ ap (λ s. Some s) above)))
 above_is_barred n front (t ∷ signs) sign other more apart none above are = absurd (omega arith)
 
 -- even and above at the beginning of a move of two squares or more
-pub turned_is_barred : (n : ℕ) (front : Word) (m : Move) (sign : Sign) (other : Move) (more : List Sign) → BeginsTurned m sign → other.count ≡ m.count → other.signs ≡ m.signs ++ sign ∷ more → IsNetBarren n (front ++ other ∷ [])
-turned_is_barred n front m sign other more turned count are = even_then_above_is_net_barren n front other (λ keeps. keeps (omega (arith, turned.two, count)) even above)
+pub turned_is_barred : (n : ℕ) (front : Word) (m : Move) (sign : Sign) (other : Move) (more : List Sign) → BeginsTurned m sign → other.count ≡ m.count
+    → other.signs ≡ m.signs ++ sign ∷ more → IsNetBarren n (front ++ other ∷ [])
+turned_is_barred n front m sign other more turned count are = even_then_above_is_net_barren n front other
+    (λ keeps. keeps (omega (arith, turned.two, count)) even above)
   where
     even : slice_get other.signs 0 ≡ Some Even
     even = ap (λ l. slice_get l 0) are ∙ first m.signs turned.one ∙ turned.even
@@ -49,29 +59,37 @@ turned_is_barred n front m sign other more turned count are = even_then_above_is
         first (s ∷ signs) h = refl
 
     above : slice_get other.signs 1 ≡ Some Above
-    above = ap (λ l. slice_get l 1) are ∙ ap (λ k. slice_get (m.signs ++ sign ∷ more) k) (sym turned.one) ∙ sign_behind m.signs sign more ∙ ap (λ s. Some s) turned.above
+    above = ap (λ l. slice_get l 1) are ∙ ap (λ k. slice_get (m.signs ++ sign ∷ more) k) (sym turned.one) ∙ sign_behind m.signs sign more
+        ∙ ap (λ s. Some s) turned.above
 
-contained : (from k place : ℕ) (signs : List Sign) (s : Sign) → from ≤ place → place < from + k → slice_get signs place ≡ Some s → Contains (take k (drop from signs)) s
+contained : (from k place : ℕ) (signs : List Sign) (s : Sign) → from ≤ place → place < from + k → slice_get signs place ≡ Some s
+    → Contains (take k (drop from signs)) s
 contained zero zero place signs s least most is = absurd (omega arith)
 contained zero (suc k) place [] s least most is = absurd (cc)
 contained zero (suc k) zero (t ∷ signs) s least most is = (zero, omega arith, cc)
-contained zero (suc k) (suc place) (t ∷ signs) s least most is = let c = contained zero k place signs s (omega arith) (omega arith) is in (suc c.0, omega (arith, c.1), c.2)
+contained zero (suc k) (suc place) (t ∷ signs) s least most is = let c = contained zero k place signs s (omega arith) (omega arith) is
+    in (suc c.0, omega (arith, c.1), c.2)
 contained (suc from) k zero signs s least most is = absurd (omega arith)
 contained (suc from) k (suc place) [] s least most is = absurd (cc)
 contained (suc from) k (suc place) (t ∷ signs) s least most is = contained from k place signs s (omega arith) (omega arith) is
 
 -- an even sign between two of the move's own squares
-pub even_is_barred : (n : ℕ) (front : Word) (signs : List Sign) (sign : Sign) (count : ℕ) (other : Move) (more : List Sign) → open_side (has_left_wall (outline_of front)) ≤ length signs
-    → length signs + 1 < open_side (has_left_wall (outline_of front)) + count → sign ≡ Even → other.count ≡ count → other.signs ≡ signs ++ sign ∷ more → IsNetBarren n (front ++ other ∷ [])
+pub even_is_barred : (n : ℕ) (front : Word) (signs : List Sign) (sign : Sign) (count : ℕ) (other : Move) (more : List Sign)
+    → open_side (has_left_wall (outline_of front)) ≤ length signs
+    → length signs + 1 < open_side (has_left_wall (outline_of front)) + count → sign ≡ Even → other.count ≡ count → other.signs ≡ signs ++ sign ∷ more
+    → IsNetBarren n (front ++ other ∷ [])
 even_is_barred n front signs sign count other more least most even same are =
-    cut n (front ++ other ∷ []) (even_squares_are_free_barren n front other (contained (open_side (has_left_wall (outline_of front))) (other.count - 1) (length signs) other.signs Even least (omega arith)
+    cut n (front ++ other ∷ []) (even_squares_are_free_barren n front other
+    (contained (open_side (has_left_wall (outline_of front))) (other.count - 1) (length signs) other.signs Even least (omega arith)
     (ap (λ l. slice_get l (length signs)) are ∙ sign_behind signs sign more ∙ ap (λ s. Some s) even)))
 
 -- a move whose signs ask, with those beside the valley, for more squares than are left after it
 pub owing_is_barred : (n : ℕ) (front : Word) (m other : Move) (more : List Sign) (room left under place : ℕ) → place ≡ valley_place (outline_of front).signs
     → under ≡ count_by is_under (drop (place + 1) (outline_of front).signs) → left ≡ n - order_of front - m.count → room ≡ left - under
-    → room < closing_bound (take (place - 1) (outline_of front).signs ++ m.signs) → other.count ≡ m.count → other.signs ≡ m.signs ++ more → IsNetBarren n (front ++ other ∷ [])
-owing_is_barred n front m other more room left under place p u l r over count are = cut n (front ++ other ∷ []) (too_many_to_close_is_free_barren n (front ++ other ∷ []) (omega (arith, order_append front (other ∷ []), order_more other [], owes, count)))
+    → room < closing_bound (take (place - 1) (outline_of front).signs ++ m.signs) → other.count ≡ m.count → other.signs ≡ m.signs ++ more
+    → IsNetBarren n (front ++ other ∷ [])
+owing_is_barred n front m other more room left under place p u l r over count are = cut n (front ++ other ∷ [])
+    (too_many_to_close_is_free_barren n (front ++ other ∷ []) (omega (arith, order_append front (other ∷ []), order_more other [], owes, count)))
   where
     before : List Sign
     before = take (valley_place (outline_of front).signs - 1) (outline_of front).signs
@@ -81,28 +99,35 @@ owing_is_barred n front m other more room left under place p u l r over count ar
 
     room_is : n - order_of front - m.count - unders (drop (valley_place (outline_of front).signs + 1) (outline_of front).signs)
         < closing_bound (take (valley_place (outline_of front).signs - 1) (outline_of front).signs ++ m.signs)
-    room_is = subst (λ (k : ℕ). n - order_of front - m.count - unders (drop (k + 1) (outline_of front).signs) < closing_bound (take (k - 1) (outline_of front).signs ++ m.signs)) p (omega (arith, over, r, l, u))
+    room_is = subst (λ (k : ℕ). n - order_of front - m.count - unders (drop (k + 1) (outline_of front).signs) < closing_bound
+        (take (k - 1) (outline_of front).signs ++ m.signs)) p (omega (arith, over, r, l, u))
 
     all : closing_bound (outline_of (front ++ other ∷ [])).signs
-        ≡ closing_bound (take (valley_place (outline_of front).signs - 1) (outline_of front).signs ++ (m.signs ++ more) ++ drop (valley_place (outline_of front).signs + 1) (outline_of front).signs)
+        ≡ closing_bound (take (valley_place (outline_of front).signs - 1) (outline_of front).signs ++ (m.signs ++ more)
+        ++ drop (valley_place (outline_of front).signs + 1) (outline_of front).signs)
     all = ap (λ (o : Outline). closing_bound o.signs) (after-snoc start front other) ∙ bound-parts (signs_apart (outline_of front) other)
-        ∙ ap (λ l. closing_bound (take (valley_place (outline_of front).signs - 1) (outline_of front).signs ++ l ++ drop (valley_place (outline_of front).signs + 1) (outline_of front).signs)) are
+        ∙ ap (λ l. closing_bound (take (valley_place (outline_of front).signs - 1) (outline_of front).signs ++ l
+        ++ drop (valley_place (outline_of front).signs + 1) (outline_of front).signs)) are
 
     owes : n - order_of front - m.count < closing_bound (outline_of (front ++ other ∷ [])).signs
     owes = omega (
       arith,
       room_is,
       all,
-      front_owes (take (valley_place (outline_of front).signs - 1) (outline_of front).signs) m.signs more (drop (valley_place (outline_of front).signs + 1) (outline_of front).signs),
+      front_owes (take (valley_place (outline_of front).signs - 1) (outline_of front).signs) m.signs more
+          (drop (valley_place (outline_of front).signs + 1) (outline_of front).signs),
     )
 
--- by the lists of a word: too many are owed
-pub too_many_owed : (n : ℕ) (front : Word) (left closings singles : ℕ) → 2 ≤ n → left ≡ n - order_of front → closings ≡ closing_bound (outline_of front).signs
+-- too many are owed: where lines from the top end, and to valleys of one square
+pub too_many_lines : (n : ℕ) (front : Word) (left closings singles : ℕ) → 3 ≤ n → left ≡ n - order_of front → closings ≡ line_bound_of front
     → singles ≡ single_valleys (outline_of front).signs (sizes_of (outline_of front)) → left < closings + singles → IsNetBarren n front
-too_many_owed n front left closings singles least l c s over = cut n front (too_many_singles_is_free_barren n front least (omega (arith, over, l, c, s)))
+too_many_lines n front left closings singles least l c s over = cut n front (too_many_lines_is_free_barren n front least (omega (arith, over, l, c, s)))
 
-pub too_many_closings : (n : ℕ) (front : Word) → n < order_of front + closing_bound (outline_of front).signs → IsNetBarren n front
-too_many_closings n front over = cut n front (too_many_to_close_is_free_barren n front over)
+-- too many are owed where lines from the top end
+pub too_many_ends : (n : ℕ) (front : Word) (left closings : ℕ) → 3 ≤ n → left ≡ n - order_of front → closings ≡ line_bound_of front → left < closings
+    → IsNetBarren n front
+too_many_ends n front left closings least l c over = too_many_lines n front left closings
+    (single_valleys (outline_of front).signs (sizes_of (outline_of front))) least l c refl (omega (arith, over))
 
 -- one segment is left too early
 pub one_segment : (n : ℕ) (front : Word) → 0 < length front → order_of front < n → length (outline_of front).segments ≡ 1 → IsNetBarren n front
@@ -128,3 +153,8 @@ few_open o (m ∷ w) legal = omega (arith, few_after o m legal.0, few_open (afte
 
 pub few_signs_open : (w : Word) → IsLegal w → length (outline_of w).signs ≤ 2 * order_of w
 few_signs_open w legal = omega (arith, few_open start w legal)
+
+-- ---- lines that share a node
+
+pub shared_is_barren : (w : Word) → ShareANode w → (n : ℕ) → IsNetBarren n w
+shared_is_barren w share n = cut n w (shared_node_is_free_barren n w share)

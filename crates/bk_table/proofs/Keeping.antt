@@ -1,16 +1,17 @@
 -- Numbers that are kept in ascending order: one put at its place, and the last dropped.
 use Rattle.std.specs.List.{AllByRecursion}
-use Rattle.std.proofs.Common.{Bool, Contains, IsTrue, List, [], ap, append-nil, arith, drop, false, inl, inr, length, length-append, refl, slice_index, slice_index_or, subst, suc, sym, take, true, zero, ℕ, ◌++◌, ◌+◌, ◌<◌, ◌∙◌, ◌∷◌, ◌≡◌, ◌≤◌, ◌⊎◌, ◌↔◌}
+use Rattle.std.proofs.Common.{Bool, Contains, IsTrue, List, [], ap, arith, drop, false, inl, inr, length, length-append, refl, slice_index, subst}
+use Rattle.std.proofs.Common.{suc, sym, take, true, zero, ℕ, ◌++◌, ◌+◌, ◌<◌, ◌∙◌, ◌∷◌, ◌≡◌, ◌≤◌, ◌⊎◌, ◌↔◌}
 use Rattle.std.proofs.lemmas.List.{take-append-drop, take_all}
 use Rattle.std.proofs.lemmas.List.Elements.{Contains-append_cases, Contains-append_left, Contains-append_right}
-use Rattle.bk_table.specs.Kept.{AreAscendingNumbers, Holds, IsBeyond, IsKeptTable, IsPlaceOf, Numbers}
+use Rattle.bk_table.specs.Kept.{AreAscendingNumbers, Holds, IsKeptTable, IsPlaceOf, Numbers}
 
 -- ---- lists of numbers all of which pass a test
 
 abbrev pub All : (ℕ → Type 0) → List ℕ → Type 0
 All P xs = AllByRecursion P xs
 
-all_map : (P Q : ℕ → Type 0) (xs : List ℕ) → ((y : ℕ) → P y → Q y) → All P xs → All Q xs
+pub all_map : (P Q : ℕ → Type 0) (xs : List ℕ) → ((y : ℕ) → P y → Q y) → All P xs → All Q xs
 all_map P Q [] f all = tt
 all_map P Q (x ∷ xs) f all = (f x all.0, all_map P Q xs f all.1)
 
@@ -32,7 +33,7 @@ all_take P k xs all = all_front P (take k xs) (drop k xs) (subst (All P) (sym (t
 all_drop : (P : ℕ → Type 0) (k : ℕ) (xs : List ℕ) → All P xs → All P (drop k xs)
 all_drop P k xs all = all_back P (take k xs) (drop k xs) (subst (All P) (sym (take-append-drop k xs)) all)
 
-all_again : (P : ℕ → Type 0) (k : ℕ) (xs : List ℕ) → All P (take k xs) → All P (drop k xs) → All P xs
+pub all_again : (P : ℕ → Type 0) (k : ℕ) (xs : List ℕ) → All P (take k xs) → All P (drop k xs) → All P xs
 all_again P k xs a b = subst (All P) (take-append-drop k xs) (all_join P (take k xs) (drop k xs) a b)
 
 -- ---- one more at its place
@@ -41,7 +42,8 @@ abbrev pub with_one : ℕ → ℕ → List ℕ → List ℕ
 with_one place x xs = take place xs ++ x ∷ drop place xs
 
 -- where the number isn't at its place, those from there on are greater
-pub greater_from : (x place : ℕ) (xs : List ℕ) → AreAscendingNumbers xs → All (λ y. x ≤ y) (drop place xs) → ((place < length xs) × (slice_index xs place ≡ x) → ⊥) → All (λ y. x < y) (drop place xs)
+pub greater_from : (x place : ℕ) (xs : List ℕ) → AreAscendingNumbers xs → All (λ y. x ≤ y) (drop place xs)
+    → ((place < length xs) × (slice_index xs place ≡ x) → ⊥) → All (λ y. x < y) (drop place xs)
 greater_from x zero [] asc from not = tt
 greater_from x (suc place) [] asc from not = tt
 greater_from x zero (y ∷ xs) asc from not = (more, all_map (λ z. y < z) (λ z. x < z) xs (λ z h. omega arith) asc.0)
@@ -58,7 +60,8 @@ greater_from x zero (y ∷ xs) asc from not = (more, all_map (λ z. y < z) (λ z
         cases (inr (inr h)) = absurd (omega (arith, from.0))
 greater_from x (suc place) (y ∷ xs) asc from not = greater_from x place xs asc.1 from (λ (h, e). not (omega arith, e))
 
-pub one_ascends : (x place : ℕ) (xs : List ℕ) → AreAscendingNumbers xs → All (λ y. y < x) (take place xs) → All (λ y. x < y) (drop place xs) → AreAscendingNumbers (with_one place x xs)
+pub one_ascends : (x place : ℕ) (xs : List ℕ) → AreAscendingNumbers xs → All (λ y. y < x) (take place xs) → All (λ y. x < y) (drop place xs)
+    → AreAscendingNumbers (with_one place x xs)
 one_ascends x zero xs asc before from = (from, asc)
 one_ascends x (suc place) [] asc before from = (tt, tt)
 one_ascends x (suc place) (y ∷ xs) asc before from = (
@@ -80,7 +83,12 @@ pub all_one : (P : ℕ → Type 0) (x place : ℕ) (xs : List ℕ) → P x → A
 all_one P x place xs one all = all_join P (take place xs) (x ∷ drop place xs) (all_take P place xs all) (one, all_drop P place xs all)
 
 pub long_one : (x place : ℕ) (xs : List ℕ) → length (with_one place x xs) ≡ length xs + 1
-long_one x place xs = omega (arith, length-append (take place xs) (x ∷ drop place xs), length-append (take place xs) (drop place xs), ap length (take-append-drop place xs))
+long_one x place xs = omega (
+  arith,
+  length-append (take place xs) (x ∷ drop place xs),
+  length-append (take place xs) (drop place xs),
+  ap length (take-append-drop place xs),
+)
 
 -- ---- without the last
 
@@ -96,8 +104,13 @@ pub record IsPlaceBefore (front : List ℕ) (last x place : ℕ) : Type 0 where
   pub from : All (λ y. x < y) (drop place front)
   pub less : x < last
 
-pub place_before : (front : List ℕ) (last x place : ℕ) → place ≤ length front → All (λ y. y < x) (take place (front ++ last ∷ [])) → All (λ y. x < y) (drop place (front ++ last ∷ [])) → IsPlaceBefore front last x place
-place_before front last x zero few before from = record { before = tt; from = all_front (λ y. x < y) front (last ∷ []) from; less = (all_back (λ y. x < y) front (last ∷ []) from).0 }
+pub place_before : (front : List ℕ) (last x place : ℕ) → place ≤ length front → All (λ y. y < x) (take place (front ++ last ∷ []))
+    → All (λ y. x < y) (drop place (front ++ last ∷ [])) → IsPlaceBefore front last x place
+place_before front last x zero few before from = record {
+  before = tt;
+  from = all_front (λ y. x < y) front (last ∷ []) from;
+  less = (all_back (λ y. x < y) front (last ∷ []) from).0;
+}
 place_before [] last x (suc place) few before from = absurd (omega arith)
 place_before (y ∷ front) last x (suc place) few before from =
     let behind = place_before front last x place (omega arith) before.1 from in
@@ -119,10 +132,15 @@ had room t x place few is = inl (contains t.kept place few is)
     contains (y ∷ xs) (suc place) few is = let c = contains xs place (omega arith) is in (suc c.0, omega (arith, c.1), c.2)
 
 -- where there is room
-pub put_in : (room : ℕ) (t u : Numbers) (x place : ℕ) → IsKeptTable room t → IsPlaceOf t.kept x place → ((place < length t.kept) × (slice_index t.kept place ≡ x) → ⊥) → length t.kept < room
+pub put_in : (room : ℕ) (t u : Numbers) (x place : ℕ) → IsKeptTable room t → IsPlaceOf t.kept x place
+    → ((place < length t.kept) × (slice_index t.kept place ≡ x) → ⊥) → length t.kept < room
     → u.kept ≡ with_one place x t.kept → u.cut ≡ t.cut → IsKeptTable room u × HoldsOneMore t u x
 put_in room t u x place table is not few kept cut = (
-  record { ascending = subst AreAscendingNumbers (sym kept) (one_ascends x place t.kept table.ascending is.before (greater_from x place t.kept table.ascending is.from not)); full = λ e. absurd (none (sym cut ∙ e)) },
+  record {
+    ascending = subst AreAscendingNumbers (sym kept) (one_ascends x place t.kept table.ascending is.before
+        (greater_from x place t.kept table.ascending is.from not));
+    full = λ e. absurd (none (sym cut ∙ e));
+  },
   record { put = inl (subst (λ l. Contains l x) (sym kept) (has_one x place t.kept)); kept = others },
 )
   where
@@ -134,10 +152,18 @@ put_in room t u x place table is not few kept cut = (
     others y (inr h) = absurd (none h.cut)
 
 -- where there is none, and the number is greater than all
-pub passed_over : (room : ℕ) (t u : Numbers) (x place : ℕ) → IsKeptTable room t → IsPlaceOf t.kept x place → place ≡ room → room ≤ length t.kept → length t.kept ≤ room → u.kept ≡ t.kept → u.cut ≡ true → IsKeptTable room u × HoldsOneMore t u x
+pub passed_over : (room : ℕ) (t u : Numbers) (x place : ℕ) → IsKeptTable room t → IsPlaceOf t.kept x place → place ≡ room → room ≤ length t.kept
+    → length t.kept ≤ room → u.kept ≡ t.kept → u.cut ≡ true → IsKeptTable room u × HoldsOneMore t u x
 passed_over room t u x place table is end many few kept cut = (
   record { ascending = subst AreAscendingNumbers (sym kept) table.ascending; full = λ e. omega (arith, ap length kept) },
-  record { put = inr (record { cut = cut; beyond = subst (All (λ y. y < x)) (sym kept) (subst (All (λ y. y < x)) (take_all place t.kept (omega arith)) is.before) }); kept = others },
+  record {
+    put = inr (record {
+      cut = cut;
+      beyond = subst (All (λ y. y < x)) (sym kept)
+          (subst (All (λ y. y < x)) (take_all place t.kept (omega arith)) is.before);
+    });
+    kept = others;
+  },
 )
   where
     others : (y : ℕ) → Holds t y → Holds u y
@@ -145,10 +171,14 @@ passed_over room t u x place table is end many few kept cut = (
     others y (inr h) = inr (record { cut = cut; beyond = subst (All (λ z. z < y)) (sym kept) h.beyond })
 
 -- where there is none, and the last is dropped for it
-pub put_for_last : (room : ℕ) (t u : Numbers) (x place last : ℕ) (front : List ℕ) → IsKeptTable room t → IsPlaceOf t.kept x place → ((place < length t.kept) × (slice_index t.kept place ≡ x) → ⊥) → place < length t.kept → length t.kept ≡ room
+pub put_for_last : (room : ℕ) (t u : Numbers) (x place last : ℕ) (front : List ℕ) → IsKeptTable room t → IsPlaceOf t.kept x place
+    → ((place < length t.kept) × (slice_index t.kept place ≡ x) → ⊥) → place < length t.kept → length t.kept ≡ room
     → t.kept ≡ front ++ last ∷ [] → u.kept ≡ with_one place x front → u.cut ≡ true → IsKeptTable room u × HoldsOneMore t u x
 put_for_last room t u x place last front table is not few full was kept cut = (
-  record { ascending = subst AreAscendingNumbers (sym kept) (one_ascends x place front asc.0 there.before there.from); full = λ e. omega (arith, ap length kept, long_one x place front, long) },
+  record {
+    ascending = subst AreAscendingNumbers (sym kept) (one_ascends x place front asc.0 there.before there.from);
+    full = λ e. omega (arith, ap length kept, long_one x place front, long);
+  },
   record { put = inl (subst (λ l. Contains l x) (sym kept) (has_one x place front)); kept = others },
 )
   where
@@ -163,7 +193,8 @@ put_for_last room t u x place last front table is not few full was kept cut = (
         (subst (λ l. All (λ y. x < y) (drop place l)) was (greater_from x place t.kept table.ascending is.from not))
 
     below : (y : ℕ) → last ≤ y → All (λ z. z < y) u.kept
-    below y h = subst (All (λ z. z < y)) (sym kept) (all_one (λ z. z < y) x place front (omega (arith, (there).less)) (all_map (λ z. z < last) (λ z. z < y) front (λ z k. omega arith) (asc).1))
+    below y h = subst (All (λ z. z < y)) (sym kept) (all_one (λ z. z < y) x place front (omega (arith, (there).less))
+        (all_map (λ z. z < last) (λ z. z < y) front (λ z k. omega arith) (asc).1))
 
     had_it : (y : ℕ) → Contains front y ⊎ Contains (last ∷ []) y → Holds u y
     had_it y (inl h) = inl (subst (λ l. Contains l y) (sym kept) (has_others x place front y h))
@@ -172,11 +203,15 @@ put_for_last room t u x place last front table is not few full was kept cut = (
 
     others : (y : ℕ) → Holds t y → Holds u y
     others y (inl h) = had_it y (Contains-append_cases front (last ∷ []) y (subst (λ l. Contains l y) was h))
-    others y (inr h) = inr (record { cut = cut; beyond = below y (let b = (all_back (λ z. z < y) front (last ∷ []) (subst (All (λ z. z < y)) was h.beyond)).0 in omega arith) })
+    others y (inr h) = inr (record {
+      cut = cut;
+      beyond = below y (let b =
+          (all_back (λ z. z < y) front (last ∷ []) (subst (All (λ z. z < y)) was h.beyond)).0 in omega arith);
+    })
 
 -- ---- finding the place
 
-get_at : (xs : List ℕ) (i : ℕ) → i < length xs → drop i xs ≡ slice_index xs i ∷ drop (i + 1) xs
+pub get_at : (xs : List ℕ) (i : ℕ) → i < length xs → drop i xs ≡ slice_index xs i ∷ drop (i + 1) xs
 get_at [] i h = absurd (omega arith)
 get_at (x ∷ xs) zero h = refl
 get_at (x ∷ xs) (suc i) h = let e : suc i + 1 ≡ suc (i + 1) = omega arith in get_at xs i (omega arith) ∙ ap (λ k. slice_index xs i ∷ drop k (x ∷ xs)) (sym e)
@@ -206,5 +241,7 @@ no_less_from x (suc place) (y ∷ xs) asc few more = no_less_from x place xs asc
 
 -- ---- what the test of the place says
 
-pub not_there : (kept again : List ℕ) (x place : ℕ) (has : Bool) → again ≡ kept → (IsTrue has ↔ (place < length again) × (slice_index again place ≡ x)) → has ≡ false → (place < length kept) × (slice_index kept place ≡ x) → ⊥
-not_there kept again x place has same test none there = let found : has ≡ true = test.1 (subst (λ l. (place < length l) × (slice_index l place ≡ x)) (sym same) there) in cc
+pub not_there : (kept again : List ℕ) (x place : ℕ) (has : Bool) → again ≡ kept
+    → (IsTrue has ↔ (place < length again) × (slice_index again place ≡ x)) → has ≡ false → (place < length kept) × (slice_index kept place ≡ x) → ⊥
+not_there kept again x place has same test none there = let found : has
+    ≡ true = test.1 (subst (λ l. (place < length l) × (slice_index l place ≡ x)) (sym same) there) in cc

@@ -1,6 +1,17 @@
+pub mod BoardMoves
 pub mod Cutting
 pub mod Keeping
 pub mod LeftLines
+pub mod LineSets
+pub mod LinesBeside
 pub mod PackedOrder
 pub mod PackedExamples
 pub mod NextMoves
+pub mod Spans
+pub mod SpanExamples
+pub mod FirstNumbers
+pub mod RightLines
+pub mod SharedSegments
+pub mod TopLineExamples
+pub mod TopLineMarks
+pub mod TouchedLines

@@ -1,7 +1,8 @@
 -- How the words that a search looks for go on from moves: by a next move, sign by sign.
-use Rattle.std.proofs.Common.{List, Some, [], ap, append-nil, append_assoc, arith, inl, inr, length, length-append, refl, slice_get, subst, suc, sym, take, zero, ℕ, ◌++◌, ◌+◌, ◌-◌, ◌<◌, ◌∙◌, ◌∷◌, ◌≡◌, ◌≤◌, ◌⊎◌}
+use Rattle.std.proofs.Common.{List, [], ap, append-nil, append_assoc, arith, inl, inr, length, length-append, refl, subst, suc, sym}
+use Rattle.std.proofs.Common.{take, ℕ, ◌++◌, ◌+◌, ◌-◌, ◌<◌, ◌∙◌, ◌∷◌, ◌≡◌, ◌≤◌, ◌⊎◌}
 use Rattle.bk_word.specs.Outline.{IsLegalMove, Outline, has_left_wall, has_right_wall, open_side, start}
-use Rattle.bk_word.specs.Play.{IsComplete, IsLegal, after_moves, outline_of}
+use Rattle.bk_word.specs.Play.{IsLegal, outline_of}
 use Rattle.bk_word.specs.Word.{Move, Word, order_of}
 use Rattle.bk_word.specs.declared.Sign.{Sign}
 use Rattle.bk_word.proofs.PlayLaws.{legal_rest}
@@ -63,7 +64,8 @@ wanted : (o : Outline) → ℕ
 wanted o = open_side (has_left_wall o) + open_side (has_right_wall o)
 
 -- where all signs are there, the word goes on by the move itself
-pub by_whole : (n : ℕ) (front w : Word) (m : Move) → IsSought n w → IsLegalMove (outline_of front) m → GoesOnBy front m.count m.signs w → GoesOn (front ++ m ∷ []) w
+pub by_whole : (n : ℕ) (front w : Word) (m : Move) → IsSought n w → IsLegalMove (outline_of front) m → GoesOnBy front m.count m.signs w
+    → GoesOn (front ++ m ∷ []) w
 by_whole n front w m sought legal on = record { rest = on.rest; is = snoc front w m on.rest (on.is ∙ ap (λ k. front ++ k ∷ on.rest) same) }
   where
     other : IsLegalMove (outline_of front) on.move
@@ -81,7 +83,8 @@ pub record HasNextSign (front : Word) (count : ℕ) (signs : List Sign) (w : Wor
   pub sign : Sign
   pub on : GoesOnBy front count (signs ++ sign ∷ []) w
 
-pub next_sign : (n : ℕ) (front w : Word) (m : Move) → IsSought n w → 0 < m.count → (IsLegalMove (outline_of front) m → ⊥) → GoesOnBy front m.count m.signs w → HasNextSign front m.count m.signs w
+pub next_sign : (n : ℕ) (front w : Word) (m : Move) → IsSought n w → 0 < m.count → (IsLegalMove (outline_of front) m → ⊥)
+    → GoesOnBy front m.count m.signs w → HasNextSign front m.count m.signs w
 next_sign n front w m sought some not on = cases on.more on.signs_are
   where
     other : IsLegalMove (outline_of front) on.move
@@ -95,14 +98,17 @@ next_sign n front w m sought some not on = cases on.more on.signs_are
     }
 
 -- there is room for one
-pub room_for_sign : (o : Outline) (m : Move) → 0 < m.count → (IsLegalMove o m → ⊥) → length m.signs + 1 ≤ m.count + open_side (has_left_wall o) + open_side (has_right_wall o)
+pub room_for_sign : (o : Outline) (m : Move) → 0 < m.count → (IsLegalMove o m → ⊥)
+    → length m.signs + 1 ≤ m.count + open_side (has_left_wall o) + open_side (has_right_wall o)
     → length m.signs + 2 ≤ m.count + open_side (has_left_wall o) + open_side (has_right_wall o)
 room_for_sign o m some not room = cases (two (length m.signs + 1) (m.count + open_side (has_left_wall o) + open_side (has_right_wall o)))
   where
     two : (a b : ℕ) → (a ≡ b) ⊎ ((a < b) ⊎ (b < a))
     two a b = grind arith
 
-    cases : (length m.signs + 1 ≡ m.count + open_side (has_left_wall o) + open_side (has_right_wall o)) ⊎ ((length m.signs + 1 < m.count + open_side (has_left_wall o) + open_side (has_right_wall o)) ⊎ (m.count + open_side (has_left_wall o) + open_side (has_right_wall o) < length m.signs + 1))
+    cases : (length m.signs + 1 ≡ m.count + open_side (has_left_wall o) + open_side (has_right_wall o))
+        ⊎ ((length m.signs + 1 < m.count + open_side (has_left_wall o) + open_side (has_right_wall o))
+        ⊎ (m.count + open_side (has_left_wall o) + open_side (has_right_wall o) < length m.signs + 1))
         → length m.signs + 2 ≤ m.count + open_side (has_left_wall o) + open_side (has_right_wall o)
     cases (inl e) = absurd (not (record { some = some; signs = e }))
     cases (inr (inl h)) = omega arith
@@ -116,7 +122,15 @@ is_whole n front w sought full on = cases on.rest on.is
   where
     cases : (rest : Word) → w ≡ front ++ rest → w ≡ front
     cases [] is = is ∙ append-nil front
-    cases (m ∷ rest) is = absurd (omega (arith, full, sought.order, ap order_of is, order_append front (m ∷ rest), order_more m rest, (legal_next front w m rest sought.complete.legal is).some))
+    cases (m ∷ rest) is = absurd (omega (
+      arith,
+      full,
+      sought.order,
+      ap order_of is,
+      order_append front (m ∷ rest),
+      order_more m rest,
+      (legal_next front w m rest sought.complete.legal is).some,
+    ))
 
 -- the first move hangs the first count
 pub from_nothing : (w : Word) → GoesOn [] w
@@ -126,7 +140,8 @@ pub first_move : (n : ℕ) (w : Word) → IsSought n w → 0 < n → HasNextMove
 first_move n w sought some = next_move n [] w sought some (from_nothing w)
 
 -- the words that go on so from equal moves
-pub by_count : (front board w : Word) (h : HasNextMove front w) (count : ℕ) (signs : List Sign) → board ≡ front → h.move.count ≡ count → signs ≡ [] → GoesOnBy board count signs w
+pub by_count : (front board w : Word) (h : HasNextMove front w) (count : ℕ) (signs : List Sign) → board ≡ front → h.move.count ≡ count → signs ≡ []
+    → GoesOnBy board count signs w
 by_count front board w h count signs same count_is none = record {
   move = h.move;
   rest = h.rest;
@@ -136,7 +151,8 @@ by_count front board w h count signs same count_is none = record {
   signs_are = ap (λ l. l ++ h.move.signs) (sym none);
 }
 
-pub by_sign : (front board : Word) (m k : Move) (s t : Sign) (w : Word) → board ≡ front → k ≡ m → s ≡ t → GoesOnBy front m.count (m.signs ++ s ∷ []) w → GoesOnBy board k.count (k.signs ++ t ∷ []) w
+pub by_sign : (front board : Word) (m k : Move) (s t : Sign) (w : Word) → board ≡ front → k ≡ m → s ≡ t → GoesOnBy front m.count (m.signs ++ s ∷ []) w
+    → GoesOnBy board k.count (k.signs ++ t ∷ []) w
 by_sign front board m k s t w same same_move e on = record {
   move = on.move;
   rest = on.rest;
@@ -150,7 +166,8 @@ by_sign front board m k s t w same same_move e on = record {
 pub below_or_same : (count next : ℕ) → count < next + 1 → (count < next) ⊎ (count ≡ next)
 below_or_same count next h = grind arith
 
-abbrev pub by_pushed : (front w : Word) (m : Move) (s : Sign) (count : ℕ) (before pushed : List Sign) → count ≡ m.count → before ≡ m.signs → pushed ≡ before ++ s ∷ [] → GoesOnBy front m.count (m.signs ++ s ∷ []) w → GoesOnBy front count pushed w
+abbrev pub by_pushed : (front w : Word) (m : Move) (s : Sign) (count : ℕ) (before pushed : List Sign) → count ≡ m.count → before ≡ m.signs
+    → pushed ≡ before ++ s ∷ [] → GoesOnBy front m.count (m.signs ++ s ∷ []) w → GoesOnBy front count pushed w
 by_pushed front w m s count before pushed c b p on = record {
   move = on.move;
   rest = on.rest;

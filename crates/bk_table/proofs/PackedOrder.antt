@@ -7,7 +7,9 @@ use Rattle.std.specs.List.{AllByRecursion}
 use Rattle.std.specs.Ordering.{nat_cmp, ordering_then}
 use Rattle.std.specs.declared.cmp.Ordering.{Ordering}
 use Rattle.std.specs.declared.cmp.Ordering.TheVariants.{Equal, Greater, Less}
-use Rattle.std.proofs.Common.{Bool, List, Some, [], ap, append-nil, append_assoc, arith, drop, false, get_or, inl, inr, length, length-append, map, refl, slice_get, subst, suc, sym, take, true, zero, ℕ, ◌%◌, ◌*◌, ◌++◌, ◌+◌, ◌-◌, ◌/◌, ◌<◌, ◌^◌, ◌∙◌, ◌∷◌, ◌≡◌, ◌≤◌, ◌⊎◌}
+use Rattle.std.proofs.Common.{Bool, List, Some, [], ap, append-nil, append_assoc, arith, drop, false, get_or, inl, inr, length, length-append, map}
+use Rattle.std.proofs.Common.{refl, slice_get, subst, suc, sym, take, true, zero, ℕ, ◌%◌, ◌*◌, ◌++◌, ◌+◌, ◌-◌, ◌/◌, ◌<◌, ◌^◌, ◌∙◌, ◌∷◌, ◌≡◌, ◌≤◌}
+use Rattle.std.proofs.Common.{◌⊎◌}
 use Rattle.std.proofs.lemmas.List.{length-map, length-take-le, take-append-drop}
 use Rattle.std.proofs.Math.Seq.{take-suc}
 use Rattle.std.proofs.Math.Nat.{mul-le-mul_right, one-le-pow, pow-succ'}
@@ -18,7 +20,7 @@ use Rattle.bk_word.specs.Word.{Move, Word, move_cmp, order_of, sign_cmp, sign_pl
 use Rattle.bk_word.specs.declared.Sign.{Sign}
 use Rattle.bk_word.specs.declared.Sign.TheVariants.{Above, Even, Under}
 use Rattle.bk_word.proofs.StoredBytes.{order_more}
-use Rattle.bk_table.specs.Packed.{AreDigits, begun_by, move_digits, packed, word_digits}
+use Rattle.bk_table.specs.Packed.{AreDigits, begun_by, move_digits, word_digits}
 use Rattle.bk_table.specs.PackedLaws.{PackedWordsCompare}
 
 three : (x y : ℕ) → (x < y) ⊎ ((x ≡ y) ⊎ (y < x))
@@ -56,10 +58,10 @@ move_same m n e = cases (three m.count n.count)
 
 -- ---- digits
 
-four_times : (room : ℕ) → 4 ^ (suc room) ≡ 4 * 4 ^ room
+pub four_times : (room : ℕ) → 4 ^ (suc room) ≡ 4 * 4 ^ room
 four_times room = pow-succ' 4 room
 
-three_at_most : (d p : ℕ) → d < 4 → d * p + p ≤ 4 * p
+pub three_at_most : (d p : ℕ) → d < 4 → d * p + p ≤ 4 * p
 three_at_most d p h = let k : d + 1 ≤ 4 = omega arith in let l = mul-le-mul_right p k in omega (arith, l)
 
 -- the first digit, and those behind it
@@ -111,10 +113,16 @@ signs_digits [] = tt
 signs_digits (s ∷ signs) = (sign_small s, signs_digits signs)
 
 -- the two digits of a count are one of base 16
-count_digits : (room count : ℕ) (rest : List ℕ) → begun_by (suc (suc room)) ((count - 1) / 4 ∷ (count - 1) % 4 ∷ rest) ≡ (count - 1) * 4 ^ room + begun_by room rest
+count_digits : (room count : ℕ) (rest : List ℕ) → begun_by (suc (suc room)) ((count - 1) / 4 ∷ (count - 1) % 4 ∷ rest)
+    ≡ (count - 1) * 4 ^ room + begun_by room rest
 count_digits room count rest =
     begun-cons (suc room) ((count - 1) / 4) ((count - 1) % 4 ∷ rest)
-    ∙ omega (arith, begun-cons room ((count - 1) % 4) rest, ap (λ z. (count - 1) / 4 * z) (four_times room), parts ((count - 1) / 4) ((count - 1) % 4) (count - 1) (4 ^ room) (omega arith))
+    ∙ omega (
+      arith,
+      begun-cons room ((count - 1) % 4) rest,
+      ap (λ z. (count - 1) / 4 * z) (four_times room),
+      parts ((count - 1) / 4) ((count - 1) % 4) (count - 1) (4 ^ room) (omega arith),
+    )
   where
     parts : (a b c p : ℕ) → 4 * a + b ≡ c → a * (4 * p) + b * p ≡ c * p
     parts a b c p e = let f = ap (λ z. z * p) e in omega (arith, f)
@@ -168,7 +176,14 @@ few_digits o (m ∷ w) legal = omega (
 
 pub are_digits : (w : Word) → AllByRecursion (λ m. m.count ≤ 16) w → AreDigits (word_digits w)
 are_digits [] low = tt
-are_digits (m ∷ w) low = (omega (arith, low.0), (omega arith, all_append (λ d. d < 4) (map sign_place m.signs) (word_digits w) (signs_digits m.signs) (are_digits w low.1)))
+are_digits (m ∷ w) low = (
+  omega (arith, low.0),
+  (
+    omega arith,
+    all_append (λ d. d < 4) (map sign_place m.signs) (word_digits w) (signs_digits m.signs)
+        (are_digits w low.1),
+  ),
+)
 
 pub low_counts : (n : ℕ) (w : Word) → order_of w ≤ n → AllByRecursion (λ m. m.count ≤ n) w
 low_counts n [] few = tt
@@ -189,10 +204,21 @@ as_many_signs o m n legal legal_n e = omega (arith, legal.signs, legal_n.signs)
 abbrev tails_cmp : ℕ → Move → Move → Word → Word → Ordering
 tails_cmp room m n v w = nat_cmp (begun_by room (map sign_place m.signs ++ word_digits v)) (begun_by room (map sign_place n.signs ++ word_digits w))
 
-digits_low : (o : Outline) (m : Move) (w : Word) (room : ℕ) → AreLegalFrom o (m ∷ w) → 4 * order_of (m ∷ w) ≤ suc (suc room) → AllByRecursion (λ k. k.count ≤ 16) (m ∷ w)
+digits_low : (o : Outline) (m : Move) (w : Word) (room : ℕ) → AreLegalFrom o (m ∷ w) → 4 * order_of (m ∷ w) ≤ suc (suc room)
+    → AllByRecursion (λ k. k.count ≤ 16) (m ∷ w)
     → begun_by room (map sign_place m.signs ++ word_digits w) < 4 ^ room
-digits_low o m w room legal few low = digits_small room (map sign_place m.signs ++ word_digits w) (all_append (λ d. d < 4) (map sign_place m.signs) (word_digits w) (signs_digits m.signs) (are_digits w low.1))
-    (omega (arith, few, order_more m w, legal.0.some, few_signs o m legal.0, length-append (map sign_place m.signs) (word_digits w), length-map m.signs sign_place, few_digits (after_move o m) w legal.1))
+digits_low o m w room legal few low = digits_small room (map sign_place m.signs ++ word_digits w)
+    (all_append (λ d. d < 4) (map sign_place m.signs) (word_digits w) (signs_digits m.signs) (are_digits w low.1))
+    (omega (
+      arith,
+      few,
+      order_more m w,
+      legal.0.some,
+      few_signs o m legal.0,
+      length-append (map sign_place m.signs) (word_digits w),
+      length-map m.signs sign_place,
+      few_digits (after_move o m) w legal.1,
+    ))
 
 -- the counts decide, else the rest
 by_counts : (room : ℕ) (m n : Move) (v w : Word) (r : Ordering) → 0 < m.count → 0 < n.count
@@ -201,8 +227,10 @@ by_counts : (room : ℕ) (m n : Move) (v w : Word) (r : Ordering) → 0 < m.coun
     → nat_cmp (begun_by (suc (suc room)) (word_digits (m ∷ v))) (begun_by (suc (suc room)) (word_digits (n ∷ w))) ≡ r
 by_counts room m n v w r some some_n small small_n e =
     ap (λ z. nat_cmp z (begun_by (suc (suc room)) (word_digits (n ∷ w)))) (count_digits room m.count (map sign_place m.signs ++ word_digits v))
-    ∙ ap (nat_cmp ((m.count - 1) * 4 ^ room + begun_by room (map sign_place m.signs ++ word_digits v))) (count_digits room n.count (map sign_place n.signs ++ word_digits w))
-    ∙ first_decides (m.count - 1) (n.count - 1) (4 ^ room) (begun_by room (map sign_place m.signs ++ word_digits v)) (begun_by room (map sign_place n.signs ++ word_digits w)) small small_n
+    ∙ ap (nat_cmp ((m.count - 1) * 4 ^ room + begun_by room (map sign_place m.signs ++ word_digits v)))
+    (count_digits room n.count (map sign_place n.signs ++ word_digits w))
+    ∙ first_decides (m.count - 1) (n.count - 1) (4 ^ room) (begun_by room (map sign_place m.signs ++ word_digits v))
+    (begun_by room (map sign_place n.signs ++ word_digits w)) small small_n
     ∙ ap (λ z. ordering_then z (tails_cmp room m n v w)) (count_cmp m.count n.count some some_n)
     ∙ e
 
@@ -211,7 +239,8 @@ unlike : (room : ℕ) (m n : Move) (v w : Word) (r : Ordering) → r ≡ nat_cmp
     → ordering_then (nat_cmp m.count n.count) (tails_cmp room m n v w) ≡ word_cmp (m ∷ v) (n ∷ w)
 unlike room m n v w r e first =
     ap (λ z. ordering_then z (tails_cmp room m n v w)) (sym e) ∙ first (tails_cmp room m n v w)
-    ∙ sym (ap (λ z. ordering_then (ordering_then z (slice_cmp sign_cmp m.signs n.signs)) (word_cmp v w)) (sym e) ∙ ap (λ z. ordering_then z (word_cmp v w)) (first (slice_cmp sign_cmp m.signs n.signs)) ∙ first (word_cmp v w))
+    ∙ sym (ap (λ z. ordering_then (ordering_then z (slice_cmp sign_cmp m.signs n.signs)) (word_cmp v w)) (sym e)
+    ∙ ap (λ z. ordering_then z (word_cmp v w)) (first (slice_cmp sign_cmp m.signs n.signs)) ∙ first (word_cmp v w))
 
 -- the outline after equal moves is one, so the two words' next moves have as many signs where their counts are equal
 words_compare : (o : Outline) (v w : Word) (room : ℕ) → AreLegalFrom o v → AreLegalFrom o w → order_of v ≡ order_of w → 4 * order_of w ≤ room
@@ -223,12 +252,15 @@ words_compare o (m ∷ v) [] room legal legal_w e few low low_w = absurd (omega 
 words_compare o (m ∷ v) (n ∷ w) zero legal legal_w e few low low_w = absurd (omega (arith, e, few, order_more m v, legal.0.some))
 words_compare o (m ∷ v) (n ∷ w) (suc zero) legal legal_w e few low low_w = absurd (omega (arith, e, few, order_more m v, legal.0.some))
 words_compare o (m ∷ v) (n ∷ w) (suc (suc room)) legal legal_w e few low low_w =
-    by_counts room m n v w (word_cmp (m ∷ v) (n ∷ w)) legal.0.some legal_w.0.some (digits_low o m v room legal (omega (arith, e, few)) low) (digits_low o n w room legal_w few low_w)
-    (cases (three m.count n.count) (λ h same. words_compare (after_move o m) v w (room - length m.signs) legal.1 (subst (λ (k : Move). AreLegalFrom (after_move o k) w) (sym same) legal_w.1)
+    by_counts room m n v w (word_cmp (m ∷ v) (n ∷ w)) legal.0.some legal_w.0.some (digits_low o m v room legal (omega (arith, e, few)) low)
+    (digits_low o n w room legal_w few low_w)
+    (cases (three m.count n.count) (λ h same. words_compare (after_move o m) v w (room - length m.signs) legal.1
+    (subst (λ (k : Move). AreLegalFrom (after_move o k) w) (sym same) legal_w.1)
     (omega (arith, e, h, order_more m v, order_more n w)) (omega (arith, few, order_more n w, few_signs o m legal.0, legal.0.some, h)) low.1 low_w.1))
   where
     cases : (m.count < n.count) ⊎ ((m.count ≡ n.count) ⊎ (n.count < m.count))
-        → (m.count ≡ n.count → m ≡ n → nat_cmp (begun_by (room - length m.signs) (word_digits v)) (begun_by (room - length m.signs) (word_digits w)) ≡ word_cmp v w)
+        → (m.count ≡ n.count → m ≡ n → nat_cmp (begun_by (room - length m.signs) (word_digits v)) (begun_by (room - length m.signs) (word_digits w))
+        ≡ word_cmp v w)
         → ordering_then (nat_cmp m.count n.count) (tails_cmp room m n v w) ≡ word_cmp (m ∷ v) (n ∷ w)
     cases (inl h) again = unlike room m n v w Less (nat_cmp_is m.count n.count Less h) (λ z. refl)
     cases (inr (inr h)) again = unlike room m n v w Greater (nat_cmp_is m.count n.count Greater h) (λ z. refl)
@@ -250,12 +282,13 @@ words_compare o (m ∷ v) (n ∷ w) (suc (suc room)) legal legal_w e few low low
         rest Equal f = ap (ordering_then (move_cmp m n)) (again h (move_same m n f))
 
 pub packed_words_compare : PackedWordsCompare
-packed_words_compare v w legal legal_w e few = words_compare start v w 64 legal legal_w e (omega arith) (low_counts 16 v (omega (arith, e))) (low_counts 16 w few)
+packed_words_compare v w legal legal_w e few = words_compare start v w 64 legal legal_w e (omega arith) (low_counts 16 v (omega (arith, e)))
+    (low_counts 16 w few)
 
 -- ---- written digit by digit
 
 -- one digit more, at the next place
-begun-snoc : (room d : ℕ) (ds : List ℕ) → length ds < room → begun_by room (ds ++ d ∷ []) ≡ begun_by room ds + d * 4 ^ (room - 1 - length ds)
+pub begun-snoc : (room d : ℕ) (ds : List ℕ) → length ds < room → begun_by room (ds ++ d ∷ []) ≡ begun_by room ds + d * 4 ^ (room - 1 - length ds)
 begun-snoc zero d ds few = absurd (omega arith)
 begun-snoc (suc room) d [] few = let e : suc room - 1 - 0 ≡ suc room - 1 = omega arith in let f = ap (λ r. d * 4 ^ r) e in omega (arith, f)
 begun-snoc (suc room) d (x ∷ ds) few =
@@ -274,14 +307,21 @@ pub record IsNextSum (ds : List ℕ) (i number unit d : ℕ) : Type 0 where
 
 pub next_sum : (ds : List ℕ) (i number unit d : ℕ) → i < length ds → length ds ≤ 64 → AreDigits ds → number ≡ begun_by 64 (take i ds)
     → (i < 64 → unit ≡ 4 ^ (63 - i)) → d ≡ get_or ds i 0 → IsNextSum ds i number unit d
-next_sum ds i number unit d within few digits e u is = record { sum = sum; small = subst (λ n. n < 4 ^ 64) (sym sum) (digits_small 64 (take (i + 1) ds) (digits_before ds (i + 1) digits) (omega (arith, length-take-le (i + 1) ds (omega arith)))); next = quarter }
+next_sum ds i number unit d within few digits e u is = record {
+  sum = sum;
+  small = subst (λ n. n < 4 ^ 64) (sym sum) (digits_small 64 (take (i + 1) ds) (digits_before ds (i + 1) digits)
+      (omega (arith, length-take-le (i + 1) ds (omega arith))));
+  next = quarter;
+}
   where
     long : length (take i ds) ≡ i
     long = length-take-le i ds (omega arith)
 
     sum : number + d * unit ≡ begun_by 64 (take (i + 1) ds)
-    sum = ap (λ n. n + d * unit) e ∙ ap (λ z. begun_by 64 (take i ds) + d * z) (u (omega arith)) ∙ ap (λ k. begun_by 64 (take i ds) + d * 4 ^ (63 - k)) (sym long)
-        ∙ sym (begun-snoc 64 d (take i ds) (omega (arith, long))) ∙ ap (λ z. begun_by 64 (take i ds ++ z ∷ [])) is ∙ sym (ap (begun_by 64) (take-suc ds i 0 within))
+    sum = ap (λ n. n + d * unit) e ∙ ap (λ z. begun_by 64 (take i ds) + d * z) (u (omega arith))
+        ∙ ap (λ k. begun_by 64 (take i ds) + d * 4 ^ (63 - k)) (sym long)
+        ∙ sym (begun-snoc 64 d (take i ds) (omega (arith, long))) ∙ ap (λ z. begun_by 64 (take i ds ++ z ∷ [])) is
+        ∙ sym (ap (begun_by 64) (take-suc ds i 0 within))
         ∙ ap (λ k. begun_by 64 (take k ds)) one_more
       where
         one_more : suc i ≡ i + 1
@@ -299,9 +339,20 @@ digits_next [] i m is = absurd (cc)
 digits_next (k ∷ w) zero m is = let e : k ≡ m = cc in append-nil (move_digits k) ∙ ap move_digits e
 digits_next (k ∷ w) (suc i) m is =
     let e : suc i + 1 ≡ suc (i + 1) = omega arith in
-    ap (λ j. word_digits (take j (k ∷ w))) e ∙ ap (λ z. move_digits k ++ z) (digits_next w i m is) ∙ sym (append_assoc (move_digits k) (word_digits (take i w)) (move_digits m))
+    ap (λ j. word_digits (take j (k ∷ w))) e ∙ ap (λ z. move_digits k ++ z) (digits_next w i m is)
+    ∙ sym (append_assoc (move_digits k) (word_digits (take i w)) (move_digits m))
 
 pub digits_room : (w : Word) (i : ℕ) (m : Move) → slice_get w i ≡ Some m → length (word_digits (take i w)) + length m.signs + 2 ≤ length (word_digits w)
 digits_room [] i m is = absurd (cc)
-digits_room (k ∷ w) zero m is = let e : k ≡ m = cc in omega (arith, ap (λ (z : Move). length z.signs) e, length-append (move_digits k) (word_digits w), length-map k.signs sign_place)
-digits_room (k ∷ w) (suc i) m is = omega (arith, digits_room w i m is, length-append (move_digits k) (word_digits w), length-append (move_digits k) (word_digits (take i w)))
+digits_room (k ∷ w) zero m is = let e : k ≡ m = cc in omega (
+  arith,
+  ap (λ (z : Move). length z.signs) e,
+  length-append (move_digits k) (word_digits w),
+  length-map k.signs sign_place,
+)
+digits_room (k ∷ w) (suc i) m is = omega (
+  arith,
+  digits_room w i m is,
+  length-append (move_digits k) (word_digits w),
+  length-append (move_digits k) (word_digits (take i w)),
+)

@@ -30,3 +30,9 @@ pub record IsPlaceOf (xs : List ℕ) (x place : ℕ) : Type 0 where
   pub within : place ≤ length xs
   pub before : AllByRecursion (λ y. y < x) (take place xs)
   pub from : AllByRecursion (λ y. x ≤ y) (drop place xs)
+
+-- the least of the numbers that isn't below a bound
+pub record IsFirstFrom (xs : List ℕ) (bound x : ℕ) : Type 0 where
+  pub has : Contains xs x
+  pub from : bound ≤ x
+  pub least : AllByRecursion (λ y. bound ≤ y → x ≤ y) xs

@@ -1,5 +1,10 @@
+pub mod Boards
 pub mod Kept
 pub mod Lefts
+pub mod NodeLines
 pub mod Packed
 pub mod PackedLaws
+pub mod Span
+pub mod Rights
 pub mod Sought
+pub mod TopLines

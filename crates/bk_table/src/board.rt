@@ -1,35 +1,44 @@
 //! Words that are played and taken back by the search, with the lines at the left of their squares.
 #![tactic(auto)]
 
-ghost use Rattle.std.specs.Prelude.{[], length, slice_index_or, take, ◌++◌, ◌+◌, ◌-◌, ◌<◌, ◌∷◌, ◌≡◌, ◌≤◌};
+ghost use Rattle.std.specs.Prelude.{IsTrue, [], cond, length, nat_eq, take, ◌++◌, ◌+◌, ◌-◌, ◌<◌, ◌∷◌, ◌≡◌, ◌≤◌};
+ghost use Rattle.bk_bounds.specs.VerticalCut.{line_bound_of};
 ghost use Rattle.bk_word.specs.Outline.{IsLegalMove};
-ghost use Rattle.bk_word.specs.Play.{IsLegal, numbers_from, outline_of};
+ghost use Rattle.bk_word.specs.Play.{IsLegal, outline_of};
 ghost use Rattle.bk_word.specs.Word.{order_of};
-ghost use Rattle.bk_table.specs.Lefts.{first_left, lefts_of};
+ghost use Rattle.bk_table.specs.Lefts.{lefts_of};
+ghost use Rattle.bk_table.specs.NodeLines.{ShareLines};
 
+use crate::line_set::LineSet;
+use crate::node_lines::{has_both, node_lines};
+use crate::sides::{left_of, left_of_first, push_lefts, push_rights, right_of, right_of_last};
+use crate::top_lines::line_bound;
 use arrayvec::ArrayVec;
 use bk_skel::Skel;
 use bk_word::{LARGEST_ORDER, Move};
 use std::marker::Model;
 
-/// A skeleton, and of each of its squares the number of the line at its left edge: 0 is the left wall, 1 the right one, and k + 2
-/// the line between the square at place k, in the order of hanging from 0, and the next of its move. It is seen as the list of
-/// its moves. (Own.)
+/// A skeleton, of each of its squares the numbers of the lines at its left and its right edge, of each closed node the lines that
+/// it touches, and how many squares the first move hangs. Line 0 is the left wall, 1 the right one, and k + 2 that between the
+/// square at place k, in the order of hanging from 0, and the next of its move. It is seen as the list of its moves. (Own.)
 #[derive(Drop)]
 pub struct Board {
     skel: Skel,
     lefts: ArrayVec<u8, LARGEST_ORDER>,
+    rights: ArrayVec<u8, LARGEST_ORDER>,
+    nodes: ArrayVec<LineSet, LARGEST_ORDER>,
+    first: u8,
 }
 
 impl Model for Board {
     ghost use Rattle.bk_word.specs.Word.{Word as Moves};
-    ghost use Rattle.bk_table.specs.Lefts.{IsLeftWord};
+    ghost use Rattle.bk_table.specs.Boards.{IsBoardOf};
 
     ghost Value = { Moves };
 
     ghost view = { λ s. s.skel };
 
-    ghost invariant = { λ s. IsLeftWord s.skel s.lefts.items };
+    ghost invariant = { λ s. IsBoardOf s.skel s.lefts.items s.rights.items s.nodes.items s.first };
 }
 
 impl Board {
@@ -40,6 +49,9 @@ impl Board {
         Board {
             skel: Skel::new(),
             lefts: ArrayVec::new(),
+            rights: ArrayVec::new(),
+            nodes: ArrayVec::new(),
+            first: 0,
         }
     }
 
@@ -58,6 +70,32 @@ impl Board {
         self.lefts.as_slice()
     }
 
+    /// Whether the line at the left of one square and that at the right of another, by their numbers from 1, touch one closed node.
+    /// The two walls don't count.
+    pub(crate) fn share(&self, a: u8, b: u8) -> bool
+        ensures { IsTrue result → ShareLines self.now a b }
+    {
+        let left = left_of(&self.lefts, a);
+        let right = right_of(&self.rights, b);
+        if left == 0 && right == 1 {
+            return false;
+        }
+        has_both(&self.nodes, left, right)
+    }
+
+    /// The closing bound after the moves, where a segment that a line from the top bounds or ended on has one closing more.
+    pub(crate) fn line_bound(&self) -> usize
+        ensures { result ≡ line_bound_of self.now }
+    {
+        line_bound(
+            self.skel.signs(),
+            self.skel.sizes(),
+            self.skel.ends(),
+            &self.lefts,
+            self.first,
+        )
+    }
+
     /// Plays a move, which must be legal, with at most 200 squares then.
     pub fn push(&mut self, m: &Move)
         requires legal { IsLegalMove (outline_of self.old) m.now }
@@ -68,6 +106,11 @@ impl Board {
         let first = left_of_first(&self.lefts, &valley.squares);
         let behind = self.skel.order() as u8;
         push_lefts(&mut self.lefts, first, behind, m.count);
+        let last = right_of_last(&self.rights, &valley.squares);
+        push_rights(&mut self.rights, last, behind, m.count);
+        let lines = node_lines(&self.lefts, &self.rights, &valley.squares, behind, m.count);
+        self.nodes.push(lines);
+        self.first = first_after(self.first, behind, m.count);
         self.skel.play(m);
     }
 
@@ -78,38 +121,14 @@ impl Board {
     {
         self.skel.pop();
         self.lefts.truncate(self.skel.order());
+        self.rights.truncate(self.skel.order());
+        self.nodes.truncate(self.skel.moves());
     }
 }
 
-// The line at the left of the first of the squares, by their numbers from 1.
-fn left_of_first(lefts: &[u8], squares: &[u8]) -> u8
-    ensures { result ≡ first_left lefts.now squares.now }
+// How many squares the first move hangs, after a move of so many, where so many squares were hung before.
+fn first_after(first: u8, hung: u8, count: u8) -> u8
+    ensures { result ≡ cond (nat_eq hung 0) count first }
 {
-    match squares.first() {
-        Some(square) => left_of(lefts, *square),
-        None => 0,
-    }
-}
-
-// The line at the left of the square of this number, from 1.
-fn left_of(lefts: &[u8], square: u8) -> u8
-    ensures { result ≡ slice_index_or lefts.now (square - 1) 0 }
-{
-    match lefts.get(usize::from(square).saturating_sub(1)) {
-        Some(left) => *left,
-        None => 0,
-    }
-}
-
-// Appends the lines of a move's squares, of which the first stands at a line, where so many squares were hung before.
-fn push_lefts(lefts: &mut ArrayVec<u8, LARGEST_ORDER>, first: u8, hung: u8, count: u8)
-    requires some { 0 < count }
-    requires few { hung + count ≤ 200 }
-    requires fits { length lefts.old.items + count ≤ 200 }
-    ensures { lefts.new.items ≡ lefts.old.items ++ first ∷ numbers_from (hung + 2) (count - 1) }
-{
-    lefts.push(first);
-    'others: for k in 1..count {
-        lefts.push(hung + k + 1);
-    }
+    if hung == 0 { count } else { first }
 }

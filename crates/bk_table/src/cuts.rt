@@ -10,7 +10,9 @@ ghost use Rattle.bk_word.specs.declared.Sign.TheVariants.{Above, Even};
 ghost use Rattle.bk_table.specs.Sought.{BeginsTurned};
 ghost use Rattle.bk_net_word.specs.NetWord.{IsNetBarren};
 
-use bk_owed::{closing_bound, first_above, is_over, single_valleys, unders_behind};
+use crate::board::Board;
+use crate::sharing::shares_a_node;
+use bk_owed::{first_above, is_over, single_valleys, unders_behind};
 use bk_skel::Skel;
 use bk_word::{Move, Sign};
 
@@ -104,27 +106,47 @@ pub(crate) fn owes(skel: &Skel, order: u8, m: &Move) -> bool
     is_over(&signs[..place.saturating_sub(1)], m.signs.as_slice(), room)
 }
 
-// Whether no word of the order begins with these moves, which hang fewer squares than the order: one segment is left, or the
-// open ones ask for more squares than are left.
-pub(crate) fn is_barren(skel: &Skel, order: u8) -> bool
-    requires legal { IsLegal skel.now }
-    requires few { order_of skel.now < order }
-    requires some { 0 < length skel.now }
-    requires least { 2 ≤ order }
+// Whether no word of the order begins with the board's moves, of which the last one hangs so many squares: one segment is left
+// too early, the open ones ask for more squares than are left, or two lines at one segment share a closed node. The lines are
+// looked at after a move of one square alone: others bring no two old lines to one segment.
+pub(crate) fn is_barren(board: &Board, last: u8, order: u8) -> bool
+    ensures { IsTrue result → IsNetBarren order board.now }
+{
+    cannot_end(board, order) || is_parted(board, last)
+}
+
+// Whether the open segments can't be closed by the squares that are left: one is left too early, or they ask for more squares.
+fn cannot_end(board: &Board, order: u8) -> bool
+    ensures { IsTrue result → IsNetBarren order board.now }
+{
+    is_whole_early(board.skel(), order) || owes_too_many(board, order)
+}
+
+// Whether one segment is left while fewer squares hang than the order.
+fn is_whole_early(skel: &Skel, order: u8) -> bool
     ensures { IsTrue result → IsNetBarren order skel.now }
 {
-    skel.is_closed() || owes_too_many(skel, order)
+    skel.is_closed() && skel.order() < usize::from(order)
 }
 
 // Whether fewer squares are left than must be hung: one for each segment that ends above its neighbour on one segment's side,
-// and one more for each valley of one square.
-fn owes_too_many(skel: &Skel, order: u8) -> bool
-    requires legal { IsLegal skel.now }
-    requires least { 2 ≤ order }
-    ensures { IsTrue result → IsNetBarren order skel.now }
+// one for that segment itself where a line from the top bounds it or ended on it, and one more for each valley of one square.
+// At orders under 3 nothing is said.
+fn owes_too_many(board: &Board, order: u8) -> bool
+    ensures { IsTrue result → IsNetBarren order board.now }
 {
+    if order < 3 {
+        return false;
+    }
+    let skel = board.skel();
     let left = usize::from(order).saturating_sub(skel.order());
-    let signs = skel.signs();
-    let closings = closing_bound(signs);
-    closings > left || single_valleys(signs, skel.sizes()) > left - closings
+    let closings = board.line_bound();
+    closings > left || single_valleys(skel.signs(), skel.sizes()) > left - closings
+}
+
+// Whether the last move hangs one square, and then two lines at one open segment bound a part of the tiling.
+fn is_parted(board: &Board, last: u8) -> bool
+    ensures { IsTrue result → (n : ℕ) → IsNetBarren n board.now }
+{
+    last == 1 && shares_a_node(board)
 }

@@ -2,7 +2,7 @@
 #![tactic(auto)]
 
 ghost use Rattle.std.specs.Ordering.{nat_cmp};
-ghost use Rattle.std.specs.Prelude.{List, length, ◌++◌, ◌+◌, ◌-◌, ◌<◌, ◌^◌, ◌≡◌, ◌≤◌};
+ghost use Rattle.std.specs.Prelude.{List, [], length, ◌%◌, ◌++◌, ◌+◌, ◌-◌, ◌/◌, ◌<◌, ◌^◌, ◌∷◌, ◌≡◌, ◌≤◌};
 ghost use Rattle.bk_word.specs.Play.{IsLegal};
 ghost use Rattle.bk_word.specs.Word.{order_of, sign_place};
 ghost use Rattle.bk_table.specs.Packed.{AreDigits, begun_by, move_digits, packed, word_digits};
@@ -13,7 +13,7 @@ use std::cmp::Ordering;
 use std::marker::Model;
 
 // A packed word has at most so many digits of base 4.
-const MOST_DIGITS: usize = 64;
+pub(crate) const MOST_DIGITS: usize = 64;
 
 // The unit of the first of them, the power 63 of 4.
 const FIRST_UNIT: u128 = 0x4000_0000_0000_0000_0000_0000_0000_0000;
@@ -50,6 +50,13 @@ impl Packed {
         }
     }
 
+    /// The number.
+    pub fn number(&self) -> u128
+        ensures { result ≡ self.now }
+    {
+        self.number
+    }
+
     /// How the two compare: as their words do, where these are of one order.
     pub fn cmp(&self, other: &Packed) -> Ordering
         ensures { result ≡ nat_cmp self.now other.now }
@@ -72,21 +79,29 @@ fn digits_of(word: &Word) -> ArrayVec<u8, MOST_DIGITS>
 }
 
 // Appends the digits of a move.
-fn push_digits(digits: &mut ArrayVec<u8, MOST_DIGITS>, m: &Move)
+pub(crate) fn push_digits(digits: &mut ArrayVec<u8, MOST_DIGITS>, m: &Move)
     requires some { 0 < m.now.count }
     requires room { length digits.old.items + length m.now.signs + 2 ≤ 64 }
     ensures { digits.new.items ≡ digits.old.items ++ move_digits m.now }
 {
-    let count = m.count - 1;
-    digits.push(count / 4);
-    digits.push(count % 4);
+    push_count(digits, m.count);
     'signs: for sign in m.signs.as_slice() {
         digits.push(place_of(*sign));
     }
 }
 
+// Appends those of its count.
+pub(crate) fn push_count(digits: &mut ArrayVec<u8, MOST_DIGITS>, count: u8)
+    requires some { 0 < count }
+    requires room { length digits.old.items + 2 ≤ 64 }
+    ensures { digits.new.items ≡ digits.old.items ++ (count - 1) / 4 ∷ (count - 1) % 4 ∷ [] }
+{
+    digits.push((count - 1) / 4);
+    digits.push((count - 1) % 4);
+}
+
 // The place of a sign among above, even and under.
-fn place_of(sign: Sign) -> u8
+pub(crate) fn place_of(sign: Sign) -> u8
     ensures { result ≡ sign_place sign }
 {
     match sign {
@@ -97,7 +112,7 @@ fn place_of(sign: Sign) -> u8
 }
 
 // The number of 64 digits of base 4 that begins with these.
-fn number_of(digits: &[u8]) -> u128
+pub(crate) fn number_of(digits: &[u8]) -> u128
     requires few { length digits.now ≤ 64 }
     requires digits { AreDigits digits.now }
     ensures { result ≡ begun_by 64 digits.now }

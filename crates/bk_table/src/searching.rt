@@ -72,7 +72,8 @@ fn with_signs<S: Leaves>(board: &mut Board, m: &mut Move, leaves: &mut S, order:
     requires most { order ≤ 16 }
     requires some { 0 < m.old.count }
     requires few { order_of board.old + m.old.count ≤ order }
-    requires signs { length m.old.signs + 1 ≤ m.old.count + open_side (has_left_wall (outline_of board.old)) + open_side (has_right_wall (outline_of board.old)) }
+    requires signs { length m.old.signs + 1 ≤ m.old.count + open_side (has_left_wall (outline_of board.old)) + open_side
+        (has_right_wall (outline_of board.old)) }
     ensures all { (w : Moves) → IsSought order w → GoesOnBy board.old m.old.count m.old.signs w → S.has_met leaves.new w }
     ensures kept { (w : Moves) → S.has_met leaves.old w → S.has_met leaves.new w }
     ensures board { board.new ≡ board.old }
@@ -94,7 +95,8 @@ fn with_sign<S: Leaves>(board: &mut Board, m: &mut Move, sign: Sign, leaves: &mu
     requires most { order ≤ 16 }
     requires some { 0 < m.old.count }
     requires few { order_of board.old + m.old.count ≤ order }
-    requires signs { length m.old.signs + 2 ≤ m.old.count + open_side (has_left_wall (outline_of board.old)) + open_side (has_right_wall (outline_of board.old)) }
+    requires signs { length m.old.signs + 2 ≤ m.old.count + open_side (has_left_wall (outline_of board.old)) + open_side
+        (has_right_wall (outline_of board.old)) }
     ensures all { (w : Moves) → IsSought order w → GoesOnBy board.old m.old.count (m.old.signs ++ sign ∷ []) w → S.has_met leaves.new w }
     ensures kept { (w : Moves) → S.has_met leaves.old w → S.has_met leaves.new w }
     ensures board { board.new ≡ board.old }
@@ -122,12 +124,27 @@ fn with_move<S: Leaves>(board: &mut Board, m: &Move, leaves: &mut S, order: u8)
     ensures board { board.new ≡ board.old }
 {
     board.push(m);
-    if board.skel().order() == usize::from(order) {
-        meet_closed(board, leaves);
-    } else if !is_barren(board.skel(), order) {
-        with_counts(board, leaves, order);
+    if !is_barren(board, m.count, order) {
+        go_on(board, leaves, order);
     }
     board.pop();
+}
+
+// Meets the word of the board where so many squares hang, else those that go on from it.
+#[cycle(search)]
+fn go_on<S: Leaves>(board: &mut Board, leaves: &mut S, order: u8)
+    requires least { 2 ≤ order }
+    requires most { order ≤ 16 }
+    requires few { order_of board.old ≤ order }
+    ensures all { (w : Moves) → IsSought order w → GoesOn board.old w → S.has_met leaves.new w }
+    ensures kept { (w : Moves) → S.has_met leaves.old w → S.has_met leaves.new w }
+    ensures board { board.new ≡ board.old }
+{
+    if board.skel().order() == usize::from(order) {
+        meet_closed(board, leaves);
+        return;
+    }
+    with_counts(board, leaves, order);
 }
 
 // Meets the word of the board, if it is complete.

@@ -1,9 +1,12 @@
 //! A sorted table of numbers with room for so many.
 #![tactic(auto)]
 
-ghost use Rattle.std.specs.Prelude.{IsTrue, [], drop, false, length, slice_index, take, ℕ, ◌++◌, ◌<◌, ◌∷◌, ◌≡◌, ◌≤◌, ◌↔◌};
-ghost use Rattle.bk_table.specs.Kept.{AreAscendingNumbers, Holds, IsPlaceOf};
+ghost use Rattle.std.specs.List.{AllByRecursion};
+ghost use Rattle.std.specs.Prelude.{IfNone, IfSome, IsTrue, [], drop, false, length, slice_index, take, ℕ, ◌++◌, ◌<◌, ◌∷◌, ◌≡◌, ◌≤◌, ◌↔◌};
+ghost use Rattle.bk_table.specs.Kept.{AreAscendingNumbers, Holds, IsFirstFrom, IsPlaceOf};
+ghost use Rattle.bk_table.specs.Span.{IsWithin};
 
+use crate::span::Span;
 use arrayvec::ArrayVec;
 use std::marker::Model;
 
@@ -47,6 +50,30 @@ impl<const N: usize> Table<N> {
         ensures { result ≡ self.now.cut }
     {
         self.cut
+    }
+
+    /// The least number in the table that isn't below a bound.
+    pub fn first_from(&self, bound: u128) -> Option<u128>
+        ensures none { IfNone result (AllByRecursion (λ y. y < bound) self.now.kept) }
+        ensures first { IfSome result (IsFirstFrom self.now.kept bound) }
+    {
+        let numbers = self.numbers.as_slice();
+        let place = place_of(numbers, bound);
+        if place < numbers.len() {
+            Some(numbers[place])
+        } else {
+            None
+        }
+    }
+
+    /// Whether the table tells that no number of the span was put into it.
+    pub fn rules_out(&self, span: Span) -> bool
+        ensures { IsTrue result → (x : ℕ) → IsWithin span x → Holds self.now x → ⊥ }
+    {
+        match self.first_from(span.low) {
+            Some(first) => span.last < first,
+            None => !self.cut,
+        }
     }
 
     /// Puts a number into the table, if it isn't there, and drops the greatest where there is no room.

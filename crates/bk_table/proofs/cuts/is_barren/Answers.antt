@@ -1,5 +1,7 @@
-use Rattle.bk_table.proofs.Cutting.{one_segment}
 use Rattle.bk_table.proofs.cuts.is_barren.Goals as goal
 
-pub returns-then-is_closed : goal.returns-then-is_closed
-returns-then-is_closed c closed = one_segment c.args.order c.args.skel.now c.requires.some c.requires.few (c.is_closed.ensures.0 c.if-is_closed.true).one
+pub returns-then-cannot_end : goal.returns-then-cannot_end
+returns-then-cannot_end c barren = c.cannot_end.ensures barren
+
+pub returns-else-cannot_end : goal.returns-else-cannot_end
+returns-else-cannot_end c parted = c.is_parted.ensures parted c.args.order

@@ -14,7 +14,8 @@ returns c = record {
       let read : take c.saturating_sub.result c.signs-signs.result.now ++ c.as_slice.result.now
       ≡ take (c.first_above-place.result - 1) (outline_of c.args.skel.now).signs ++ c.args.m.now.signs =
       (λ i. take (c.saturating_sub.ensures i) (c.signs-signs.ensures i) ++ shown i) in
-      owing_is_barred c.args.order c.args.skel.now c.args.m.now other more c.saturating_sub-room.result (c.args.order - order_of c.args.skel.now - c.args.m.now.count) c.unders_behind.result c.first_above-place.result
+      owing_is_barred c.args.order c.args.skel.now c.args.m.now other more c.saturating_sub-room.result
+      (c.args.order - order_of c.args.skel.now - c.args.m.now.count) c.unders_behind.result c.first_above-place.result
       (c.first_above-place.ensures.value ∙ ap valley_place c.signs-signs.ensures)
       (c.unders_behind.ensures ∙ ap (λ l. count_by is_under (drop (c.first_above-place.result + 1) l)) c.signs-signs.ensures)
       refl

@@ -15,4 +15,5 @@ push_digits-requires-clause-room c = omega (
 )
 
 pub moves-preserved : goal.moves-preserved
-moves-preserved c = c.push_digits.ensures ∙ ap (λ (z : List ℕ). z ++ move_digits c.get.result) c.moves.invariant ∙ sym (digits_next c.args.word.now c.moves.i c.get.result c.get.ensures.value)
+moves-preserved c = c.push_digits.ensures ∙ ap (λ (z : List ℕ). z ++ move_digits c.get.result) c.moves.invariant
+    ∙ sym (digits_next c.args.word.now c.moves.i c.get.result c.get.ensures.value)

@@ -3,7 +3,8 @@ use Rattle.bk_table.proofs.PackedOrder.{IsNextSum, next_sum}
 use Rattle.bk_table.proofs.packed.number_of.Goals as goal
 
 next : (c : goal.After-from) → IsNextSum c.args.digits.now c.digits.digit-index c.digits.number c.digits.unit c.from.result
-next c = next_sum c.args.digits.now c.digits.digit-index c.digits.number c.digits.unit c.from.result c.digits-test.true c.requires.few c.requires.digits c.digits.invariant.sum c.digits.invariant.unit c.from.ensures
+next c = next_sum c.args.digits.now c.digits.digit-index c.digits.number c.digits.unit c.from.result c.digits-test.true c.requires.few
+    c.requires.digits c.digits.invariant.sum c.digits.invariant.unit c.from.ensures
 
 pub overflow_mul-number : goal.overflow_mul-number
 overflow_mul-number c = omega (arith, (next c).small)

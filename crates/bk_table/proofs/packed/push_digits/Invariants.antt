@@ -1,4 +1,4 @@
-use Rattle.std.proofs.Common.{[], map, take, ◌%◌, ◌++◌, ◌-◌, ◌/◌, ◌∷◌, ◌≡◌}
+use Rattle.std.proofs.Common.{map, take, ◌%◌, ◌++◌, ◌-◌, ◌/◌, ◌∷◌, ◌≡◌}
 use Rattle.bk_word.specs.Word.{sign_place}
 use Rattle.bk_table.proofs.packed.push_digits.Given as goal
 

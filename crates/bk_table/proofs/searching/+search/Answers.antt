@@ -1,20 +1,27 @@
-use Rattle.std.proofs.Common.{[], ap, append_assoc, arith, inl, inr, refl, subst, sym, true, ℕ, ◌++◌, ◌<◌, ◌∙◌, ◌∷◌, ◌≡◌, ◌⊎◌}
+use Rattle.std.proofs.Common.{[], ap, append_assoc, arith, inl, inr, refl, subst, sym, true, ◌++◌, ◌∙◌, ◌∷◌, ◌≡◌}
 use Rattle.bk_word.specs.Outline.{IsLegalMove}
 use Rattle.bk_word.specs.Play.{IsComplete, outline_of}
 use Rattle.bk_word.specs.Word.{Move, Word, order_of}
 use Rattle.bk_word.specs.declared.Sign.{Sign}
 use Rattle.bk_word.specs.declared.Sign.TheVariants.{Above, Even, Under}
 use Rattle.bk_net_word.specs.NetWord.{IsNetBarren}
-use Rattle.bk_table.proofs.NextMoves.{HasNextSign, below_or_same, by_count, by_pushed, by_sign, by_whole, is_whole, next_fertile, next_fits, next_move, next_sign}
+use Rattle.bk_table.proofs.NextMoves.{HasNextSign, below_or_same, by_count, by_pushed, by_sign, by_whole, is_whole, next_fertile, next_fits}
+use Rattle.bk_table.proofs.NextMoves.{next_move, next_sign}
 use Rattle.bk_table.specs.Sought.{GoesOn}
 use Rattle.bk_table.proofs.searching.+search.Goals as goal
-use Rattle.bk_table.proofs.searching.+search.Goals.{with_move-else-order-from+else-not-is_barren, with_move-else-order-from+then-not-is_barren, with_move-then-order-from, with_sign-else-not-owes, with_sign-then-not-owes}
+use Rattle.bk_table.proofs.searching.+search.Goals.{
+  with_move-else-not-is_barren,
+  with_move-then-not-is_barren,
+  with_sign-else-not-owes,
+  with_sign-then-not-owes,
+}
 
 pub with_counts-counts-init : goal.with_counts-counts-init
 with_counts-counts-init g t c = record {
   board = refl;
   all = λ w sought h few. absurd (next_fertile c.args.order c.args.board.now w h.move h.rest sought h.is
-      (subst (λ (v : Word). IsNetBarren c.args.order (v ++ h.move ∷ [])) c.skel-2.ensures.value (c.least_count-count.ensures.barren c.args.order h.move few h.legal.some)));
+      (subst (λ (v : Word). IsNetBarren c.args.order (v ++ h.move ∷ [])) c.skel-2.ensures.value
+      (c.least_count-count.ensures.barren c.args.order h.move few h.legal.some)));
   kept = λ w met. met;
 }
 
@@ -23,7 +30,8 @@ with_counts-counts-preserved g t c = record {
   board = c.with_signs.ensures.board ∙ c.counts.invariant.board;
   all = λ w sought h few. elim (below_or_same h.move.count c.counts.count few) [
     | inl less ↦ c.with_signs.ensures.kept w (c.counts.invariant.all w sought h less)
-    | inr same ↦ c.with_signs.ensures.all w sought (by_count c.args.board.now c.counts.board w h c.counts.count c.new.result.items c.counts.invariant.board same c.new.ensures)
+    | inr same ↦ c.with_signs.ensures.all w sought (by_count c.args.board.now c.counts.board w h c.counts.count c.new.result.items
+        c.counts.invariant.board same c.new.ensures)
   ];
   kept = λ w met. c.with_signs.ensures.kept w (c.counts.invariant.kept w met);
 }
@@ -31,35 +39,52 @@ with_counts-counts-preserved g t c = record {
 pub with_counts-returns-clause-all : goal.with_counts-returns-clause-all
 with_counts-returns-clause-all g t c w sought on =
     let h = next_move c.args.order c.args.board.now w sought c.requires.few on in
-    c.counts.invariant.all w sought h (omega (arith, next_fits c.args.order c.args.board.now w sought h, c.counts-test.false, c.order.ensures.value, ap order_of c.skel.ensures.value))
+    c.counts.invariant.all w sought h (omega (
+      arith,
+      next_fits c.args.order c.args.board.now w sought h,
+      c.counts-test.false,
+      c.order.ensures.value,
+      ap order_of c.skel.ensures.value,
+    ))
 
 pub with_move-returns-clause-all : goal.with_move-returns-clause-all
 with_move-returns-clause-all g t c w sought on =
-    elim c.if-order-from.branch [
-      | with_move-then-order-from b ↦
-          let full : order_of (c.args.board.now ++ c.args.m.now ∷ []) ≡ c.args.order = omega (arith, b.if-order-from.true, c.order.ensures.value, c.from.ensures, ap order_of (c.skel.ensures.value ∙ c.push.ensures)) in
-          let whole = is_whole c.args.order (c.args.board.now ++ c.args.m.now ∷ []) w sought full on in
-          let same = whole ∙ sym c.push.ensures in
-          subst (λ s. g.S.Leaves.has_met s w) (sym b.leaves-is) (subst (λ v. g.S.Leaves.has_met b.meet_closed.new.leaves v) (sym same) (b.meet_closed.ensures.met (subst IsComplete same sought.complete)))
-      | with_move-else-order-from+then-not-is_barren b ↦
-          subst (λ s. g.S.Leaves.has_met s w) (sym b.leaves-is) (b.with_counts.ensures.all w sought (subst (λ v. GoesOn v w) (sym c.push.ensures) on))
-      | with_move-else-order-from+else-not-is_barren b ↦
-          absurd (sought.fertile (c.args.board.now ++ c.args.m.now ∷ []) on.rest on.is (subst (IsNetBarren c.args.order) (b.skel-else-order-from.ensures.value ∙ c.push.ensures) (b.is_barren.ensures b.if-not-is_barren.false)))
+    elim c.if-not-is_barren.branch [
+      | with_move-then-not-is_barren b ↦
+          subst (λ s. g.S.Leaves.has_met s w) (sym b.leaves-is) (b.go_on.ensures.all w sought (subst (λ v. GoesOn v w) (sym c.push.ensures) on))
+      | with_move-else-not-is_barren b ↦
+          absurd (sought.fertile (c.args.board.now ++ c.args.m.now ∷ []) on.rest on.is
+          (subst (IsNetBarren c.args.order) c.push.ensures (c.is_barren.ensures b.if-not-is_barren.false)))
     ]
+
+pub go_on-returns-then-order-from-clause-all : goal.go_on-returns-then-order-from-clause-all
+go_on-returns-then-order-from-clause-all g t c w sought on =
+    let full : order_of c.args.board.now ≡ c.args.order = omega (
+      arith,
+      c.if-order-from.true,
+      c.order.ensures.value,
+      c.from.ensures,
+      ap order_of c.skel.ensures.value,
+    ) in
+    let whole = is_whole c.args.order c.args.board.now w sought full on in
+    subst (λ v. g.S.Leaves.has_met c.meet_closed.new.leaves v) (sym whole) (c.meet_closed.ensures.met (subst IsComplete whole sought.complete))
 
 pub with_sign-returns-then-bars-clause-all : goal.with_sign-returns-then-bars-clause-all
 with_sign-returns-then-bars-clause-all g t c w sought on =
     absurd (next_fertile c.args.order c.args.board.now w on.move on.rest sought on.is
     (subst (λ (v : Word). IsNetBarren c.args.order (v ++ on.move ∷ [])) c.skel.ensures.value
-    (c.bars.ensures.barren c.if-bars.true c.args.order on.move on.more on.count_is (on.signs_are ∙ append_assoc c.args.m.now.signs (c.args.sign ∷ []) on.more))))
+    (c.bars.ensures.barren c.if-bars.true c.args.order on.move on.more on.count_is
+    (on.signs_are ∙ append_assoc c.args.m.now.signs (c.args.sign ∷ []) on.more))))
 
 pub with_sign-returns-clause-all : goal.with_sign-returns-clause-all
 with_sign-returns-clause-all g t c w sought on =
-    let next = by_pushed c.args.board.now w c.args.m.now c.args.sign c.m.inside.count c.m.inside.signs.items c.push.new.self.items (ap (λ (m : Move). m.count) c.m.view_is) (ap (λ (m : Move). m.signs) c.m.view_is) c.push.ensures.items on in
+    let next = by_pushed c.args.board.now w c.args.m.now c.args.sign c.m.inside.count c.m.inside.signs.items c.push.new.self.items
+    (ap (λ (m : Move). m.count) c.m.view_is) (ap (λ (m : Move). m.signs) c.m.view_is) c.push.ensures.items on in
     elim c.if-not-owes.branch [
       | with_sign-then-not-owes b ↦ subst (λ s. g.S.Leaves.has_met s w) (sym b.leaves-is) (b.with_signs.ensures.all w sought next)
       | with_sign-else-not-owes b ↦ absurd (next_fertile c.args.order c.args.board.now w on.move on.rest sought on.is
-          (subst (λ (v : Word). IsNetBarren c.args.order (v ++ on.move ∷ [])) c.skel-2.ensures.value (c.owes.ensures.barren b.if-not-owes.false on.move on.more next.count_is next.signs_are)))
+          (subst (λ (v : Word). IsNetBarren c.args.order (v ++ on.move ∷ [])) c.skel-2.ensures.value
+          (c.owes.ensures.barren b.if-not-owes.false on.move on.more next.count_is next.signs_are)))
     ]
 
 pub with_signs-returns-then-legal-clause-all : goal.with_signs-returns-then-legal-clause-all
@@ -71,12 +96,17 @@ pub with_signs-returns-clause-all : goal.with_signs-returns-clause-all
 with_signs-returns-clause-all g t c w sought on = cases (next).sign refl
   where
     not : IsLegalMove (outline_of c.args.board.now) c.args.m.now → ⊥
-    not legal = let yes : c.legal.result ≡ true = c.legal.ensures.1 (subst (λ (v : Word). IsLegalMove (outline_of v) c.args.m.now) (sym c.skel.ensures.value) legal) in let no = c.if-legal.false in cc
+    not legal = let yes : c.legal.result ≡ true = c.legal.ensures.1 (subst (λ (v : Word). IsLegalMove (outline_of v) c.args.m.now)
+        (sym c.skel.ensures.value) legal) in let no = c.if-legal.false in cc
 
     next : HasNextSign c.args.board.now c.args.m.now.count c.args.m.now.signs w
     next = next_sign c.args.order c.args.board.now w c.args.m.now sought c.requires.some not on
 
     cases : (s : Sign) → (next).sign ≡ s → g.S.Leaves.has_met c.with_sign-3.new.leaves w
-    cases Above e = c.with_sign-3.ensures.kept w (c.with_sign-2.ensures.kept w (c.with_sign.ensures.all w sought (by_sign c.args.board.now c.args.board.now c.args.m.now c.args.m.now (next).sign Above w refl refl e (next).on)))
-    cases Even e = c.with_sign-3.ensures.kept w (c.with_sign-2.ensures.all w sought (by_sign c.args.board.now c.with_sign.new.board c.args.m.now c.with_sign.new.m (next).sign Even w c.with_sign.ensures.board c.with_sign.ensures.same e (next).on))
-    cases Under e = c.with_sign-3.ensures.all w sought (by_sign c.args.board.now c.with_sign-2.new.board c.args.m.now c.with_sign-2.new.m (next).sign Under w (c.with_sign-2.ensures.board ∙ c.with_sign.ensures.board) (c.with_sign-2.ensures.same ∙ c.with_sign.ensures.same) e (next).on)
+    cases Above e = c.with_sign-3.ensures.kept w (c.with_sign-2.ensures.kept w
+        (c.with_sign.ensures.all w sought (by_sign c.args.board.now c.args.board.now c.args.m.now c.args.m.now (next).sign Above w refl refl e (next).on)))
+    cases Even e = c.with_sign-3.ensures.kept w (c.with_sign-2.ensures.all w sought
+        (by_sign c.args.board.now c.with_sign.new.board c.args.m.now c.with_sign.new.m (next).sign Even w c.with_sign.ensures.board
+        c.with_sign.ensures.same e (next).on))
+    cases Under e = c.with_sign-3.ensures.all w sought (by_sign c.args.board.now c.with_sign-2.new.board c.args.m.now c.with_sign-2.new.m (next).sign
+        Under w (c.with_sign-2.ensures.board ∙ c.with_sign.ensures.board) (c.with_sign-2.ensures.same ∙ c.with_sign.ensures.same) e (next).on)

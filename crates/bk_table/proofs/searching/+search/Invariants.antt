@@ -16,6 +16,9 @@ decreases-with_sign g l = 1000 * (l.order - order_of l.board.now) + 2 * (l.m.now
 abbrev pub decreases-with_move : goal.decreases-with_move
 decreases-with_move g l = 1000 * (l.order - order_of l.board.now)
 
+abbrev pub decreases-go_on : goal.decreases-go_on
+decreases-go_on g l = 1000 * (l.order - order_of l.board.now) + 950
+
 abbrev pub invariant-with_counts-counts : goal.invariant-with_counts-counts
 invariant-with_counts-counts g l = record {
   board : l.board ≡ l.initial.board;

@@ -1,4 +1,4 @@
-use Rattle.std.proofs.Common.{[], ap, arith, refl, slice_get, ℕ, ◌∙◌, ◌≡◌}
+use Rattle.std.proofs.Common.{[], ap, arith, slice_get, ◌≡◌}
 use Rattle.bk_word.specs.Word.{Word}
 use Rattle.bk_table.proofs.NextMoves.{by_count, first_move, next_fits}
 use Rattle.bk_table.proofs.searching.search.Goals as goal

@@ -6,7 +6,8 @@ pub halves-preserved-then-numbers-middle : goal.halves-preserved-then-numbers-mi
 halves-preserved-then-numbers-middle c = record {
   order = omega (arith, c.halves-test.true, c.halves.invariant.order);
   within = c.halves.invariant.within;
-  before = less_up_to c.args.number (c.halves.low + (c.halves.high - c.halves.low) / 2) c.args.numbers.now c.requires (omega (arith, c.halves-test.true, c.halves.invariant.within)) c.if-numbers-middle.true;
+  before = less_up_to c.args.number (c.halves.low + (c.halves.high - c.halves.low) / 2) c.args.numbers.now c.requires
+      (omega (arith, c.halves-test.true, c.halves.invariant.within)) c.if-numbers-middle.true;
   from = c.halves.invariant.from;
 }
 
@@ -15,5 +16,6 @@ halves-preserved c = record {
   order = omega (arith, c.halves.invariant.order);
   within = omega (arith, c.halves-test.true, c.halves.invariant.within);
   before = c.halves.invariant.before;
-  from = no_less_from c.args.number (c.halves.low + (c.halves.high - c.halves.low) / 2) c.args.numbers.now c.requires (omega (arith, c.halves-test.true, c.halves.invariant.within)) c.if-numbers-middle.false;
+  from = no_less_from c.args.number (c.halves.low + (c.halves.high - c.halves.low) / 2) c.args.numbers.now c.requires
+      (omega (arith, c.halves-test.true, c.halves.invariant.within)) c.if-numbers-middle.false;
 }

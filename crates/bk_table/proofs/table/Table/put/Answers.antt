@@ -1,6 +1,6 @@
-use Rattle.std.proofs.Common.{Bool, List, ap, arith, length, refl, slice_index, subst, sym, true, ℕ, ◌<◌, ◌≡◌}
+use Rattle.std.proofs.Common.{Bool, List, ap, arith, length, refl, subst, sym, true, ℕ}
 use Rattle.bk_table.specs.Kept.{Holds, IsKeptTable, IsPlaceOf, Numbers}
-use Rattle.bk_table.proofs.Keeping.{HoldsOneMore, had, not_there, passed_over, put_for_last, put_in}
+use Rattle.bk_table.proofs.Keeping.{HoldsOneMore, not_there, put_for_last, put_in}
 use Rattle.bk_table.proofs.table.Table.put.Given as given
 use Rattle.bk_table.proofs.table.Table.put.Goals as goal
 
@@ -9,10 +9,13 @@ abbrev seen : List ℕ → Bool → Numbers
 seen kept cut = record { kept = kept; cut = cut }
 
 -- with room for one more
-roomy : (g : given.Over) (c : goal.After-insert g) → IsKeptTable g.row.N (seen c.insert.new.numbers.items c.self.inside.cut) × HoldsOneMore (seen c.self.inside.numbers.items c.self.inside.cut) (seen c.insert.new.numbers.items c.self.inside.cut) c.args.number
-roomy g c = put_in g.row.N (seen c.self.inside.numbers.items c.self.inside.cut) (seen c.insert.new.numbers.items c.self.inside.cut) c.args.number c.place_of-place.result c.self.invariant
+roomy : (g : given.Over) (c : goal.After-insert g) → IsKeptTable g.row.N (seen c.insert.new.numbers.items c.self.inside.cut)
+    × HoldsOneMore (seen c.self.inside.numbers.items c.self.inside.cut) (seen c.insert.new.numbers.items c.self.inside.cut) c.args.number
+roomy g c = put_in g.row.N (seen c.self.inside.numbers.items c.self.inside.cut) (seen c.insert.new.numbers.items c.self.inside.cut) c.args.number
+    c.place_of-place.result c.self.invariant
     (subst (λ (l : List ℕ). IsPlaceOf l c.args.number c.place_of-place.result) c.as_slice.ensures.value c.place_of-place.ensures)
-    (not_there c.self.inside.numbers.items c.as_slice-2.result.now c.args.number c.place_of-place.result c.has_at.result c.as_slice-2.ensures.value c.has_at.ensures c.if-has_at.false)
+    (not_there c.self.inside.numbers.items c.as_slice-2.result.now c.args.number c.place_of-place.result c.has_at.result c.as_slice-2.ensures.value
+    c.has_at.ensures c.if-has_at.false)
     (omega (arith, c.if-len.true, c.len.ensures.value)) c.insert.ensures refl
 
 pub invariant_of-self : goal.invariant_of-self
@@ -25,11 +28,22 @@ pub returns-then-len-clause-kept : goal.returns-then-len-clause-kept
 returns-then-len-clause-kept g c x held = (roomy g c).1.kept x (subst (λ (t : Numbers). Holds t x) (sym c.self.view_is) held)
 
 -- in the place of the last
-for_last : (g : given.Over) (c : goal.After-insert-2 g) → IsKeptTable g.row.N (seen c.insert-2.new.numbers.items true) × HoldsOneMore (seen c.self.inside.numbers.items c.self.inside.cut) (seen c.insert-2.new.numbers.items true) c.args.number
-for_last g c = put_for_last g.row.N (seen c.self.inside.numbers.items c.self.inside.cut) (seen c.insert-2.new.numbers.items true) c.args.number c.place_of-place.result c.drop_last.ensures.0 c.drop_last.new.numbers.items c.self.invariant
+for_last : (g : given.Over) (c : goal.After-insert-2 g) → IsKeptTable g.row.N (seen c.insert-2.new.numbers.items true)
+    × HoldsOneMore (seen c.self.inside.numbers.items c.self.inside.cut) (seen c.insert-2.new.numbers.items true) c.args.number
+for_last g c = put_for_last g.row.N (seen c.self.inside.numbers.items c.self.inside.cut) (seen c.insert-2.new.numbers.items true) c.args.number
+    c.place_of-place.result c.drop_last.ensures.0 c.drop_last.new.numbers.items c.self.invariant
     (subst (λ (l : List ℕ). IsPlaceOf l c.args.number c.place_of-place.result) c.as_slice.ensures.value c.place_of-place.ensures)
-    (not_there c.self.inside.numbers.items c.as_slice-2.result.now c.args.number c.place_of-place.result c.has_at.result c.as_slice-2.ensures.value c.has_at.ensures c.if-has_at.false)
-    (omega (arith, c.if-len.false, c.len.ensures.value, c.len.ensures.fits, c.if-place.false, ap length c.as_slice.ensures.value, c.place_of-place.ensures.within)) (omega (arith, c.if-len.false, c.len.ensures.value, c.len.ensures.fits)) c.drop_last.ensures.1 c.insert-2.ensures refl
+    (not_there c.self.inside.numbers.items c.as_slice-2.result.now c.args.number c.place_of-place.result c.has_at.result c.as_slice-2.ensures.value
+    c.has_at.ensures c.if-has_at.false)
+    (omega (
+      arith,
+      c.if-len.false,
+      c.len.ensures.value,
+      c.len.ensures.fits,
+      c.if-place.false,
+      ap length c.as_slice.ensures.value,
+      c.place_of-place.ensures.within,
+    )) (omega (arith, c.if-len.false, c.len.ensures.value, c.len.ensures.fits)) c.drop_last.ensures.1 c.insert-2.ensures refl
 
 pub invariant_of-self-2 : goal.invariant_of-self-2
 invariant_of-self-2 g c = (for_last g c).0

@@ -1,6 +1,6 @@
 use Rattle.std.proofs.Common.{length, ◌++◌, ◌+◌, ◌-◌, ◌∷◌, ◌≡◌}
 use Rattle.bk_word.specs.Play.{numbers_from}
-use Rattle.bk_table.proofs.board.push_lefts.Given as goal
+use Rattle.bk_table.proofs.sides.push_lefts.Given as goal
 
 abbrev pub invariant-others : goal.invariant-others
 invariant-others l = record {

@@ -1,7 +1,7 @@
-use Rattle.std.proofs.Common.{List, [], ap, append_assoc, arith, length, length-append, lit<, refl, ℕ, ◌++◌, ◌+◌, ◌-◌, ◌∙◌, ◌∷◌, ◌≡◌}
+use Rattle.std.proofs.Common.{List, [], ap, append_assoc, arith, length, length-append, lit<, ℕ, ◌++◌, ◌+◌, ◌-◌, ◌∙◌, ◌∷◌, ◌≡◌}
 use Rattle.bk_word.specs.Play.{numbers_from}
 use Rattle.bk_table.proofs.LeftLines.{last_left, next_left}
-use Rattle.bk_table.proofs.board.push_lefts.Goals as goal
+use Rattle.bk_table.proofs.sides.push_lefts.Goals as goal
 
 pub others-init : goal.others-init
 others-init c = record {
@@ -19,9 +19,16 @@ push-requires-in-others c = (lit< tt, omega (arith, c.others.invariant.long, c.r
 pub others-preserved : goal.others-preserved
 others-preserved c = record {
   items = ap (λ l. l ++ numbers_from (c.args.hung + (c.others.k + 1) + 1) (c.args.count - (c.others.k + 1))) c.push-in-others.ensures.items
-      ∙ next_left c.others.lefts.items c.args.hung c.others.k c.args.count (c.args.lefts.now.items ++ c.args.first ∷ numbers_from (c.args.hung + 2) (c.args.count - 1)) c.others-test.true c.others.invariant.items;
-  long = omega (arith, c.others.invariant.long, ap (λ (l : List ℕ). length l) c.push-in-others.ensures.items, length-append c.others.lefts.items ((c.args.hung + c.others.k + 1) ∷ []));
+      ∙ next_left c.others.lefts.items c.args.hung c.others.k c.args.count
+      (c.args.lefts.now.items ++ c.args.first ∷ numbers_from (c.args.hung + 2) (c.args.count - 1)) c.others-test.true c.others.invariant.items;
+  long = omega (
+    arith,
+    c.others.invariant.long,
+    ap (λ (l : List ℕ). length l) c.push-in-others.ensures.items,
+    length-append c.others.lefts.items ((c.args.hung + c.others.k + 1) ∷ []),
+  );
 }
 
 pub returns : goal.returns
-returns c = last_left c.others.lefts.items c.args.hung c.others.k c.args.count (c.args.lefts.now.items ++ c.args.first ∷ numbers_from (c.args.hung + 2) (c.args.count - 1)) (omega (arith, c.others-test.false)) c.others.invariant.items
+returns c = last_left c.others.lefts.items c.args.hung c.others.k c.args.count
+    (c.args.lefts.now.items ++ c.args.first ∷ numbers_from (c.args.hung + 2) (c.args.count - 1)) (omega (arith, c.others-test.false)) c.others.invariant.items

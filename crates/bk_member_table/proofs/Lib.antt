@@ -1,0 +1,2 @@
+pub mod FoundMembers
+pub mod WholeTables

@@ -1,0 +1,160 @@
+-- A table that a search has filled is whole, since each member has a net word, which the search has met.
+use Rattle.std.proofs.Common.{List, Some, [], ap, append_assoc, arith, length, length-append, map, refl, slice_get, slice_index_or, subst, suc, sym}
+use Rattle.std.proofs.Common.{take, zero, ℕ, ◌%◌, ◌++◌, ◌+◌, ◌-◌, ◌/◌, ◌<◌, ◌∙◌, ◌∷◌, ◌≡◌, ◌≤◌}
+use Rattle.std.proofs.lemmas.List.{length-map, length-take-le, map-append}
+use Rattle.bk_tiling.specs.Tiling.{order}
+use Rattle.bk_word.specs.Outline.{start}
+use Rattle.bk_word.specs.Play.{AreLegalFrom, IsComplete, IsLegal}
+use Rattle.bk_word.specs.Word.{Move, Word, order_of, sign_place}
+use Rattle.bk_word.specs.declared.Class.{Class}
+use Rattle.bk_word.specs.declared.Sign.{Sign}
+use Rattle.bk_lay.proofs.WordPlay.{tiling_word_is_complete}
+use Rattle.bk_catalogue.specs.Catalogue.{Entry, IsEntry}
+use Rattle.bk_barren.specs.Cuts.{IsBarren}
+use Rattle.bk_net_word.proofs.NetWords.{a_simple_tiling_has_a_net_word}
+use Rattle.bk_net_word.specs.NetWord.{IsNetBarren, IsNetWordOf}
+use Rattle.bk_table.specs.Kept.{Holds}
+use Rattle.bk_table.specs.Packed.{packed, word_digits}
+use Rattle.bk_table.specs.Sought.{IsSought}
+use Rattle.bk_table.specs.Span.{IsWithin, begun_digits, span_from, span_of}
+use Rattle.bk_table.specs.declared.span.Span.{Span}
+use Rattle.bk_table.proofs.Spans.{begun_fit, begun_move, moves_that_go_on, words_that_go_on}
+use Rattle.bk_member_table.specs.Finding.{Finding, HasMet, HasNone}
+use Rattle.bk_member_table.specs.Members.{BeginsBy, IsBarrenBy, IsWhole, Members, Tells}
+
+-- a word with a move has a first one
+abbrev pub HasFirst : Word → Type 0
+HasFirst w = (m : Move) × (slice_get w 0 ≡ Some m)
+
+first_of : (w : Word) → 0 < length w → HasFirst w
+first_of [] some = absurd (omega arith)
+first_of (m ∷ w) some = (m, refl)
+
+entry_complete : (n : ℕ) (class : Class) (e : Entry) → IsEntry n class e → IsComplete e.word × (order_of e.word ≡ n)
+entry_complete n class e is = let c = tiling_word_is_complete e.tiling e.word (is.member).tiling is.word in (c.0, c.1 ∙ (is.member).order)
+
+-- a net word of a member is one that the search looks for
+sought : (n : ℕ) (class : Class) (e : Entry) (w : Word) → IsEntry n class e → IsNetWordOf e.tiling w → IsSought n w
+sought n class e w is net = record {
+  complete = (net.signed).complete;
+  order = (net.signed).order_is ∙ (is.member).order;
+  fertile = λ front rest split barren. net.no_barren front rest split (subst (λ k. IsNetBarren k front) (sym (is.member).order) barren);
+}
+
+-- and it begins as the member's own word does
+begins : (n count : ℕ) (class : Class) (e : Entry) (w : Word) → IsEntry n class e → IsNetWordOf e.tiling w → BeginsBy count e.word → BeginsBy count w
+begins n count class e w is net by m first =
+    let own = first_of e.word ((entry_complete n class e is).0).some in
+    (net.signed).first_count e.word m own.0 is.word own.1 first ∙ by own.0 own.1
+
+-- the table is whole
+pub whole_table : (n count : ℕ) (s : Finding) → 3 ≤ n → ((w : Word) → IsSought n w → BeginsBy count w → HasMet s w)
+    → IsWhole (record { order = n; count = count; found = s })
+whole_table n count s least all e is by =
+    let net = a_simple_tiling_has_a_net_word e.tiling (is.member).tiling (is.member).simple (subst (λ k. 3 ≤ k) (sym (is.member).order) least) in
+    all net.0 (sought n s.class e net.0 is net.1) (begins n count s.class e net.0 is net.1 by) n e is (net.1).signed
+
+-- no word begins by no square
+first_some : (w : Word) → IsLegal w → 0 < length w → BeginsBy 0 w → ⊥
+first_some [] legal some by = omega (arith, some)
+first_some (m ∷ w) legal some by = omega (arith, by m refl, (legal.0).some)
+
+pub empty_table : (n : ℕ) (s : Finding) → IsWhole (record { order = n; count = 0; found = s })
+empty_table n s e is by = let c = (entry_complete n s.class e is).0 in absurd (first_some e.word c.legal c.some by)
+
+-- ---- what a whole table rules out
+
+begins_by_front : (count : ℕ) (front rest : Word) → 0 < length front → BeginsBy count front → BeginsBy count (front ++ rest)
+begins_by_front count [] rest some by = absurd (omega (arith, some))
+begins_by_front count (m ∷ front) rest some by = by
+
+-- a member's word that the table tells of isn't in a span that the table has none of
+none_within : (t : Members) (n : ℕ) (class : Class) (front rest : Word) (span : Span) → IsWhole t → Tells t n class front → HasNone t.found span
+    → (e : Entry) → IsEntry n class e → e.word ≡ front ++ rest → IsWithin span (packed e.word) → ⊥
+none_within t n class front rest span whole tells none e is split within = none e within (whole e own begins)
+  where
+    own : IsEntry t.order t.found.class e
+    own = subst (λ k. IsEntry t.order k e) (sym tells.class_is) (subst (λ k. IsEntry k class e) (sym tells.order) is)
+
+    begins : BeginsBy t.count e.word
+    begins = subst (BeginsBy t.count) (sym split) (begins_by_front t.count front rest tells.some tells.begins)
+
+-- so no word begins with moves whose span the table has none of
+pub ruled_out : (t : Members) (n : ℕ) (class : Class) (front : Word) → IsWhole t → t.order ≤ 16 → Tells t n class front
+    → HasNone t.found (span_of front) → IsBarren n class front
+ruled_out t n class front whole few tells none e rest is split = none_within t n class front rest (span_of front) whole tells none e is split within
+  where
+    complete : IsComplete e.word × (order_of e.word ≡ n)
+    complete = entry_complete n class e is
+
+    within : IsWithin (span_of front) (packed e.word)
+    within = subst (λ v. IsWithin (span_of front) (packed v)) (sym split)
+        (words_that_go_on front rest (subst IsLegal split ((complete).0).legal) (omega (arith, few, tells.order, (complete).1, ap order_of split)))
+
+-- nor goes on by a move that begins so
+pub ruled_out_by : (t : Members) (n : ℕ) (class : Class) (front : Word) (m : Move) (kept : ℕ) → IsWhole t → t.order ≤ 16 → Tells t n class front
+    → kept ≤ length m.signs
+    → HasNone t.found (span_from (begun_digits front m.count (take kept m.signs))) → IsBarrenBy n class front m kept
+ruled_out_by t n class front m kept whole few tells within none = record { within = within; barren = barren }
+  where
+    barren : (other : Move) (more : List Sign) → other.count ≡ m.count → other.signs ≡ take kept m.signs ++ more → IsBarren n class (front ++ other ∷ [])
+    barren other more count signs e rest is split =
+        none_within t n class front (other ∷ rest) (span_from (begun_digits front m.count (take kept m.signs))) whole tells none e is longer
+        (subst (λ k. IsWithin (span_from (begun_digits front k (take kept m.signs))) (packed e.word)) count
+        (subst (λ v. IsWithin (span_from (begun_digits front other.count (take kept m.signs))) (packed v)) (sym longer)
+        (moves_that_go_on front rest other (take kept m.signs) more (subst IsLegal longer (complete.0).legal)
+        (omega (arith, few, tells.order, complete.1, ap order_of longer)) signs)))
+      where
+        longer : e.word ≡ front ++ other ∷ rest
+        longer = split ∙ append_assoc front (other ∷ []) rest
+
+        complete : IsComplete e.word × (order_of e.word ≡ n)
+        complete = entry_complete n class e is
+
+-- where nothing held is in a span from the first number on, no entry there is held
+pub has_none : (s : Finding) (span : Span) → s.from ≤ span.low → ((x : ℕ) → IsWithin span x → Holds s.numbers x → ⊥) → HasNone s span
+has_none s span first none e within held = none (packed e.word) within (held (omega (arith, first, within.from)))
+
+-- one sign more
+pub narrowed_signs : (front : Word) (count : ℕ) (signs : List Sign) (k : ℕ) (sign : Sign) → k < length signs → slice_get signs k ≡ Some sign
+    → begun_digits front count (take (k + 1) signs) ≡ begun_digits front count (take k signs) ++ sign_place sign ∷ []
+narrowed_signs front count signs k sign few is =
+    ap (λ l. word_digits front ++ l) (ap (λ l. (count - 1) / 4 ∷ (count - 1) % 4 ∷ l) more)
+    ∙ sym (append_assoc (word_digits front) (begun_move count (take k signs)) (sign_place sign ∷ []))
+  where
+    one : (xs : List Sign) (i : ℕ) → slice_get xs i ≡ Some sign → take (i + 1) xs ≡ take i xs ++ sign ∷ []
+    one [] i g = absurd (cc)
+    one (x ∷ xs) zero g = let same : x ≡ sign = cc in ap (λ y. y ∷ []) same
+    one (x ∷ xs) (suc i) g = let e : suc i + 1 ≡ suc (i + 1) = omega arith in ap (λ j. take j (x ∷ xs)) e ∙ ap (λ l. x ∷ l) (one xs i g)
+
+    more : map sign_place (take (k + 1) signs) ≡ map sign_place (take k signs) ++ sign_place sign ∷ []
+    more = ap (map sign_place) (one signs k is) ∙ map-append sign_place (take k signs) (sign ∷ [])
+
+-- a move with more signs to come leaves room for one more digit
+pub room_left : (front : Word) (m : Move) (kept : ℕ) → IsLegal front → 0 < m.count → length m.signs ≤ m.count + 1 → order_of front + m.count ≤ 16
+    → kept < length m.signs
+    → length (begun_digits front m.count (take kept m.signs)) < 64
+room_left front m kept legal some signs few less = omega (
+  arith,
+  less,
+  begun_fit front m.count m.signs legal some signs few,
+  length-append (word_digits front) (begun_move m.count m.signs),
+  length-append (word_digits front) (begun_move m.count (take kept m.signs)),
+  length-map m.signs sign_place,
+  length-map (take kept m.signs) sign_place,
+  length-take-le kept m.signs (omega (arith, less)),
+)
+
+-- the sign at a place, where there is one
+pub sign_at : (xs : List Sign) (k : ℕ) (d : Sign) → k < length xs → slice_get xs k ≡ Some (slice_index_or xs k d)
+sign_at [] k d few = absurd (omega arith)
+sign_at (x ∷ xs) zero d few = refl
+sign_at (x ∷ xs) (suc k) d few = sign_at xs k d (omega arith)
+
+-- so a span narrowed by it is that of one sign more
+pub narrowed_span : (front : Word) (count : ℕ) (xs signs : List Sign) (k : ℕ) (d : Sign) (span : Span) → xs ≡ signs → k < length xs
+    → span ≡ span_from (begun_digits front count (take k signs) ++ sign_place (slice_index_or xs k d) ∷ [])
+    → span ≡ span_from (begun_digits front count (take (k + 1) signs))
+narrowed_span front count xs signs k d span same few is =
+    is ∙ ap span_from (sym (narrowed_signs front count signs k (slice_index_or xs k d) (subst (λ l. k < length l) same few)
+    (subst (λ l. slice_get l k ≡ Some (slice_index_or xs k d)) same (sign_at xs k d few))))

@@ -1,0 +1,37 @@
+-- What a search for members keeps of the words that it met.
+use Rattle.std.specs.Prelude.{ℕ, ◌<◌, ◌≤◌}
+use Rattle.bk_tiling.specs.Tiling.{Tiling}
+use Rattle.bk_simple.specs.Simple.{IsSimple}
+use Rattle.bk_sym.specs.Canonical.{IsCanonical}
+use Rattle.bk_word.specs.Word.{Word}
+use Rattle.bk_word.specs.declared.Class.{Class}
+use Rattle.bk_catalogue.specs.Catalogue.{Entry, IsEntry, IsOfClass}
+use Rattle.bk_signed_word.specs.SignedWord.{IsSignedWordOf}
+use Rattle.bk_table.specs.Kept.{Holds, Numbers}
+use Rattle.bk_table.specs.Packed.{packed}
+use Rattle.bk_table.specs.Span.{IsWithin}
+use Rattle.bk_table.specs.declared.span.Span.{Span}
+
+-- what is asked of a tiling besides its order
+pub record Qualifies (class : Class) (t : Tiling) : Type 0 where
+  pub simple : IsSimple t
+  pub of_class : IsOfClass class t
+  pub canonical : IsCanonical t
+
+-- the class that is looked for, the number from which words are kept, and what is kept
+pub record Finding : Type 0 where
+  pub class : Class
+  pub from : ℕ
+  pub numbers : Numbers
+
+-- the number of the entry's word is held, or the word comes before those that are kept
+abbrev pub HoldsEntry : Finding → Entry → Type 0
+HoldsEntry s e = s.from ≤ packed e.word → Holds s.numbers (packed e.word)
+
+-- no entry with a number in the span is held
+abbrev pub HasNone : Finding → Span → Type 0
+HasNone s span = (e : Entry) → IsWithin span (packed e.word) → HoldsEntry s e → ⊥
+
+-- the members of which this is a signed word are held
+abbrev pub HasMet : Finding → Word → Type 0
+HasMet s w = (n : ℕ) (e : Entry) → IsEntry n s.class e → IsSignedWordOf e.tiling w → HoldsEntry s e

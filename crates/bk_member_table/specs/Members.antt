@@ -1,0 +1,41 @@
+-- When a table of members is whole.
+use Rattle.std.specs.Prelude.{List, Some, [], length, slice_get, take, ℕ, ◌++◌, ◌<◌, ◌∷◌, ◌≡◌, ◌≤◌}
+use Rattle.bk_word.specs.Word.{Move, Word}
+use Rattle.bk_word.specs.declared.Class.{Class}
+use Rattle.bk_word.specs.declared.Sign.{Sign}
+use Rattle.bk_barren.specs.Cuts.{IsBarren}
+use Rattle.bk_catalogue.specs.Catalogue.{Entry, IsEntry}
+use Rattle.bk_member_table.specs.Finding.{Finding, HoldsEntry}
+
+-- the order, the count of the first move, and what was found
+pub record Members : Type 0 where
+  pub order : ℕ
+  pub count : ℕ
+  pub found : Finding
+
+-- the first move, if there is one, hangs so many squares
+abbrev pub BeginsBy : ℕ → Word → Type 0
+BeginsBy count w = (m : Move) → slice_get w 0 ≡ Some m → m.count ≡ count
+
+-- each member of the order and the class whose word begins by the count is held: its number is in the table, or above the
+-- bound of one that is cut, or below the number from which words are kept
+abbrev pub IsWhole : Members → Type 0
+IsWhole t = (e : Entry) → IsEntry t.order t.found.class e → BeginsBy t.count e.word → HoldsEntry t.found e
+
+-- what holds of each table with room for so many
+pub record IsMemberTable (room : ℕ) (t : Members) : Type 0 where
+  pub some : 0 < room
+  pub few : t.order ≤ 16
+  pub whole : IsWhole t
+
+-- the table is one of this order and class, and of a count by which these moves begin
+pub record Tells (t : Members) (n : ℕ) (class : Class) (front : Word) : Type 0 where
+  pub order : t.order ≡ n
+  pub class_is : t.found.class ≡ class
+  pub some : 0 < length front
+  pub begins : BeginsBy t.count front
+
+-- no member's word goes on from these moves by a move of the same count that begins with so many of the move's signs
+pub record IsBarrenBy (n : ℕ) (class : Class) (front : Word) (m : Move) (kept : ℕ) : Type 0 where
+  pub within : kept ≤ length m.signs
+  pub barren : (other : Move) (more : List Sign) → other.count ≡ m.count → other.signs ≡ take kept m.signs ++ more → IsBarren n class (front ++ other ∷ [])

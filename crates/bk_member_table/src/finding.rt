@@ -1,0 +1,115 @@
+//! The members whose signed words a search meets.
+
+ghost use Rattle.std.specs.Prelude.{IsTrue, [], false, ℕ, ◌<◌, ◌≡◌, ◌≤◌};
+ghost use Rattle.bk_tiling.specs.Tiling.{IsTiling, order};
+ghost use Rattle.bk_word.specs.Play.{IsLegal};
+ghost use Rattle.bk_word.specs.Word.{Word as Moves, order_of};
+ghost use Rattle.bk_lay.specs.TilingWord.{IsWordOf};
+ghost use Rattle.bk_table.specs.Kept.{Holds};
+ghost use Rattle.bk_table.specs.Packed.{packed};
+ghost use Rattle.bk_member_table.specs.Finding.{HasNone};
+
+use crate::judging::qualifies;
+use bk_lay::word_of;
+use bk_leaf::{Board as LeafBoard, leaf};
+use bk_skel::Skel;
+use bk_table::{Board, Leaves, Packed, Span, Table};
+use bk_tiling::Tiling;
+use bk_word::{Class, INLINE_ORDER};
+use std::alloc::Global;
+use std::marker::Model;
+
+/// Puts the packed words of the members of a class into a table, from a number on, as a search meets their signed words. (Own.)
+#[derive(Drop)]
+pub struct Finder<const N: usize> {
+    alloc: Global,
+    class: Class,
+    from: u128,
+    table: Table<N>,
+}
+
+impl<const N: usize> Model for Finder<N> {
+    ghost use Rattle.std.specs.Prelude.{◌<◌};
+    ghost use Rattle.bk_member_table.specs.Finding.{Finding};
+
+    ghost Value = { Finding };
+
+    ghost view = { λ s. record { class = s.class; from = s.from; numbers = s.table } };
+
+    ghost invariant = { λ s. 0 < N };
+}
+
+impl<const N: usize> Finder<N> {
+    /// One that has met no word.
+    pub fn new(alloc: Global, class: Class, from: u128) -> Finder<N>
+        requires { 0 < N }
+        ensures { result ≡ record { class = class; from = from; numbers = record { kept = []; cut = false } } }
+    {
+        Finder {
+            alloc,
+            class,
+            from,
+            table: Table::new(),
+        }
+    }
+
+    /// The class that is looked for.
+    pub fn class(&self) -> Class
+        ensures { result ≡ self.now.class }
+    {
+        self.class
+    }
+
+    /// Whether no member that was met has its number in the span, where the number isn't below those that are kept.
+    pub fn rules_out(&self, span: Span) -> bool
+        ensures { IsTrue result → HasNone self.now span }
+    {
+        self.from <= span.low && self.table.rules_out(span)
+    }
+
+    // Puts the word of a tiling into the table, where it isn't before those that are kept.
+    fn put(&mut self, tiling: &Tiling)
+        requires tiling { IsTiling tiling.now }
+        requires few { order tiling.now ≤ 16 }
+        ensures class { self.new.class ≡ self.old.class }
+        ensures from { self.new.from ≡ self.old.from }
+        ensures put { (w : Moves) → IsWordOf tiling.now w → self.old.from ≤ packed w → Holds self.new.numbers (packed w) }
+        ensures kept { (x : ℕ) → Holds self.old.numbers x → Holds self.new.numbers x }
+    {
+        let Ok(word) = word_of(self.alloc, tiling) else {
+            unreachable!();
+        };
+        let number = Packed::of(&word).number();
+        if self.from <= number {
+            self.table.put(number);
+        }
+    }
+}
+
+impl<const N: usize> Leaves for Finder<N> {
+    ghost use Rattle.bk_member_table.specs.Finding.{HasMet};
+
+    ghost has_met = { HasMet };
+
+    fn meet(&mut self, board: &Board) {
+        let Some(tiling) = leaf(&played(board.skel())) else {
+            return;
+        };
+        if tiling.order() <= INLINE_ORDER && qualifies(&tiling, self.class) {
+            self.put(&tiling);
+        }
+    }
+}
+
+// The board on which the skeleton's moves are played.
+fn played(skel: &Skel) -> LeafBoard
+    requires legal { IsLegal skel.now }
+    requires few { order_of skel.now ≤ 16 }
+    ensures { result ≡ skel.now }
+{
+    let mut board = LeafBoard::new();
+    'moves: for i in 0..skel.moves() {
+        board.push(&skel.get(i));
+    }
+    board
+}

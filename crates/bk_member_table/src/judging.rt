@@ -1,0 +1,36 @@
+//! Whether a tiling is a member of a catalogue.
+
+ghost use Rattle.std.specs.Prelude.{IsTrue, false, ◌≡◌, ◌↔◌};
+ghost use Rattle.bk_catalogue.specs.Catalogue.{IsOfClass};
+ghost use Rattle.bk_member_table.specs.Finding.{Qualifies};
+
+use crate::corners::begins_greatest;
+use bk_simple::{part, repeated};
+use bk_sym::is_canonical;
+use bk_tiling::Tiling;
+use bk_word::Class;
+
+/// Whether a tiling is simple, of the class, and its own canonical tiling.
+pub fn qualifies(tiling: &Tiling, class: Class) -> bool
+    ensures yes { IsTrue result → Qualifies class tiling.now }
+    ensures no { result ≡ false → Qualifies class tiling.now → ⊥ }
+{
+    if !begins_greatest(tiling) {
+        return false;
+    }
+    if tiling.height() > tiling.width() || !is_of_class(tiling, class) {
+        return false;
+    }
+    part(tiling).is_none() && is_canonical(tiling)
+}
+
+// Whether a simple tiling is of the class.
+fn is_of_class(tiling: &Tiling, class: Class) -> bool
+    ensures { IsTrue result ↔ IsOfClass class tiling.now }
+{
+    match class {
+        Class::Perfect => repeated(tiling).is_none(),
+        Class::Imperfect => repeated(tiling).is_some(),
+        Class::Simple => true,
+    }
+}

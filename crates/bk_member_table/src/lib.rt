@@ -1,0 +1,12 @@
+//! Tables of the words of a catalogue's members, found by their nets.
+#![tactic(auto)]
+
+mod corners;
+mod finding;
+mod judging;
+mod members;
+
+pub use corners::begins_greatest;
+pub use finding::Finder;
+pub use judging::qualifies;
+pub use members::MemberTable;

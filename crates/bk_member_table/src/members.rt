@@ -1,0 +1,117 @@
+//! A table of the members of one order and class whose words begin with one count.
+
+ghost use Rattle.std.specs.Prelude.{IfSome, IsTrue, length, ◌+◌, ◌<◌, ◌≡◌, ◌≤◌};
+ghost use Rattle.bk_word.specs.Play.{IsLegal};
+ghost use Rattle.bk_word.specs.Word.{order_of};
+ghost use Rattle.bk_barren.specs.Cuts.{IsBarren};
+ghost use Rattle.bk_member_table.specs.Members.{BeginsBy, IsBarrenBy, Tells};
+
+use crate::finding::Finder;
+use bk_skel::Skel;
+use bk_table::{search, span_of, span_with};
+use bk_word::{Class, Move};
+use std::alloc::Global;
+use std::marker::Model;
+
+/// The packed words of all members of one order and class that begin with a move of one count and aren't below a number; where
+/// there is no room for all, of the least ones. (Own.)
+#[derive(Drop)]
+pub struct MemberTable<const N: usize> {
+    order: u8,
+    count: u8,
+    finder: Finder<N>,
+}
+
+impl<const N: usize> Model for MemberTable<N> {
+    ghost use Rattle.bk_member_table.specs.Members.{IsMemberTable, Members};
+
+    ghost Value = { Members };
+
+    ghost view = { λ t. record { order = t.order; count = t.count; found = t.finder } };
+
+    ghost invariant = { λ t. IsMemberTable N (record { order = t.order; count = t.count; found = t.finder }) };
+}
+
+impl<const N: usize> MemberTable<N> {
+    /// A table of no count, which says nothing.
+    pub fn new(alloc: Global) -> MemberTable<N>
+        requires { 0 < N }
+    {
+        MemberTable {
+            order: 0,
+            count: 0,
+            finder: Finder::new(alloc, Class::Simple, 0),
+        }
+    }
+
+    /// The table of the members of this order and class whose words begin with a move of this count, from a number on.
+    pub fn of(alloc: Global, order: u8, class: Class, count: u8, from: u128) -> MemberTable<N>
+        requires room { 0 < N }
+        requires least { 3 ≤ order }
+        requires most { order ≤ 16 }
+        ensures order { result.order ≡ order }
+        ensures count { result.count ≡ count }
+    {
+        let mut finder = Finder::new(alloc, class, from);
+        search(&mut finder, order, count);
+        MemberTable {
+            order,
+            count,
+            finder,
+        }
+    }
+
+    /// Whether the table tells that no member of the order and the class has a word that begins with the skeleton's moves.
+    pub fn rules_out(&self, order: u8, class: Class, skel: &Skel) -> bool
+        requires legal { IsLegal skel.now }
+        requires few { order_of skel.now ≤ 16 }
+        ensures { IsTrue result → IsBarren order class skel.now }
+    {
+        self.tells(order, class, skel) && self.finder.rules_out(span_of(skel))
+    }
+
+    /// How many signs of the move it takes, where the table tells it, until no member of the order and the class has a word that
+    /// goes on from the skeleton's moves by a move of the same count whose signs begin with them.
+    pub fn barren_signs(&self, order: u8, class: Class, skel: &Skel, m: &Move) -> Option<usize>
+        requires legal { IsLegal skel.now }
+        requires some { 0 < m.now.count }
+        requires few { order_of skel.now + m.now.count ≤ 16 }
+        requires signs { length m.now.signs ≤ m.now.count + 1 }
+        ensures { IfSome result (IsBarrenBy order class skel.now m.now) }
+    {
+        if !self.tells(order, class, skel) {
+            return None;
+        }
+        let signs = m.signs.as_slice();
+        let mut span = span_with(skel, m.count);
+        'signs: for kept in 0..signs.len() {
+            if self.finder.rules_out(span) {
+                return Some(kept);
+            }
+            span = span.narrowed(signs[kept]);
+        }
+        if self.finder.rules_out(span) {
+            Some(signs.len())
+        } else {
+            None
+        }
+    }
+
+    // Whether the table is one of this order and class, and of the count by which the skeleton's moves begin.
+    fn tells(&self, order: u8, class: Class, skel: &Skel) -> bool
+        ensures { IsTrue result → Tells self.now order class skel.now }
+    {
+        if self.order != order || self.finder.class() != class {
+            return false;
+        }
+        begins_by(skel, self.count)
+    }
+}
+
+// Whether there is a first move, and hangs so many squares.
+fn begins_by(skel: &Skel, count: u8) -> bool
+    ensures some { IsTrue result → 0 < length skel.now }
+    ensures begins { IsTrue result → BeginsBy count skel.now }
+{
+    skel.moves() > 0 && skel.get(0).count == count
+}

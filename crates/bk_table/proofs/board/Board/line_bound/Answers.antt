@@ -1,0 +1,27 @@
+use Rattle.std.proofs.Common.{ap, arith, length, sum, ◌∙◌, ◌≡◌}
+use Rattle.bk_word.specs.Play.{outline_of}
+use Rattle.bk_skel.proofs.TurnParts.{sum_lengths}
+use Rattle.bk_bounds.proofs.BoundsOfWords.{line_bound_by_lists, sizes_long}
+use Rattle.bk_bounds.specs.VerticalCut.{line_bound, line_bound_of, lines_of, segments_of, touched}
+use Rattle.bk_table.proofs.TopLineMarks.{marks_of_board}
+use Rattle.bk_table.specs.TopLines.{on_top_lines}
+use Rattle.bk_table.proofs.board.Board.line_bound.Goals as goal
+
+pub line_bound-requires-clause-long : goal.line_bound-requires-clause-long
+line_bound-requires-clause-long c = omega (
+  arith,
+  sizes_long c.self.inside.skel c.self.invariant.left_word.legal,
+  ap length c.sizes.ensures,
+  ap length c.signs.ensures,
+)
+
+pub line_bound-requires-clause-enough : goal.line_bound-requires-clause-enough
+line_bound-requires-clause-enough c = omega (arith, sum_lengths (outline_of c.self.inside.skel).segments, ap sum c.sizes.ensures, ap length c.ends.ensures)
+
+pub returns : goal.returns
+returns c =
+    let marks : on_top_lines c.self.inside.first c.deref.result.now ≡ lines_of c.self.inside.skel =
+    ap (on_top_lines c.self.inside.first) c.deref.ensures.0 ∙ marks_of_board c.self.inside.skel c.self.inside.lefts.items c.self.inside.rights.items
+    c.self.inside.nodes.items c.self.inside.first c.self.invariant in
+    c.line_bound.ensures ∙ (λ i. line_bound (c.signs.ensures i)
+    (touched (marks i) (segments_of (c.sizes.ensures i) (c.ends.ensures i)))) ∙ line_bound_by_lists c.self.inside.skel ∙ ap line_bound_of c.self.view_is
