@@ -1,5 +1,6 @@
 -- Cuts that hold for all moves of one count whose signs begin alike.
-use Rattle.std.proofs.Common.{Contains, IsTrue, List, None, Option, Some, [], ap, arith, drop, inl, inr, length, nat_lt, refl, slice_get, slice_index_or, subst, suc, sym, take, zero, ℕ, ◌++◌, ◌+◌, ◌-◌, ◌<◌, ◌∙◌, ◌∷◌, ◌≡◌, ◌≤◌, ◌⊎◌}
+use Rattle.std.proofs.Common.{Contains, IsTrue, List, None, Option, Some, [], ap, arith, drop, inl, inr, length, nat_lt, refl, slice_get}
+use Rattle.std.proofs.Common.{slice_index_or, subst, suc, sym, take, zero, ℕ, ◌++◌, ◌+◌, ◌-◌, ◌<◌, ◌∙◌, ◌∷◌, ◌≡◌, ◌≤◌, ◌⊎◌}
 use Rattle.std.proofs.lemmas.List.{take-append-drop}
 use Rattle.std.proofs.Math.Seq.{take-length}
 use Rattle.std.proofs.lemmas.Bool.{ltb-true}
@@ -19,6 +20,7 @@ use Rattle.bk_tree.proofs.MoveOrder.{Begins, IsLess, IsShort, begun_before, less
 use Rattle.bk_tree.proofs.Places.{move_from_parts, one_legal}
 use Rattle.bk_bounds.specs.SingleValleys.{single_valleys, sizes_of}
 use Rattle.bk_barren.specs.Cuts.{IsBarren}
+use Rattle.bk_member_table.specs.Members.{IsBarrenBy}
 use Rattle.bk_word.specs.OwnSigns.{own_signs}
 use Rattle.bk_walk.specs.MoveCuts.{EndsEven, IsCut, IsNear}
 use Rattle.bk_tree.specs.NextMove.{IsMoveFrom, move_after, move_of, signs_after}
@@ -99,6 +101,11 @@ even_cut n class front m kept which ends =
       where
         place : kept - 1 ≡ open_side (has_left_wall (outline_of front)) + (kept - 1 - open_side (has_left_wall (outline_of front)))
         place = let low = ends.low in omega arith
+
+-- what a table of members tells
+pub members_cut : (n : ℕ) (class : Class) (front : Word) (m : Move) (kept : ℕ) → IsBarrenBy n class front m kept
+    → IsCut n class front m (move_after (front_signs kept m))
+members_cut n class front m kept none = cut_by_front n class front m kept (λ other legal count b. none.barren other b.rest count b.is)
 
 pub single_cut : (n : ℕ) (class : Class) (front : Word) (m : Move) → m.count ≡ 1 → length (valley_of (outline_of front)) ≡ 1
     → IsCut n class front m (move_after (front_signs 0 m))

@@ -1,5 +1,5 @@
 -- Cuts: the legal moves at a state that are passed over, because no member's word goes on by them.
-use Rattle.std.specs.Prelude.{List, Some, [], count_by, length, slice_get, ℕ, ◌++◌, ◌+◌, ◌-◌, ◌<◌, ◌∷◌, ◌≡◌, ◌≤◌}
+use Rattle.std.specs.Prelude.{List, Some, [], length, slice_get, ℕ, ◌++◌, ◌+◌, ◌-◌, ◌<◌, ◌∷◌, ◌≡◌, ◌≤◌}
 use Rattle.std.specs.declared.cmp.Ordering.TheVariants.{Less}
 use Rattle.bk_word.specs.Outline.{IsLegalMove}
 use Rattle.bk_word.specs.Play.{outline_of}
@@ -7,7 +7,6 @@ use Rattle.bk_word.specs.Word.{Move, Word, move_cmp}
 use Rattle.bk_word.specs.declared.Class.{Class}
 use Rattle.bk_word.specs.declared.Sign.{Sign}
 use Rattle.bk_word.specs.declared.Sign.TheVariants.{Even}
-use Rattle.bk_bounds.specs.ClosingBound.{closing_bound, is_above}
 use Rattle.bk_barren.specs.Cuts.{IsBarren}
 use Rattle.bk_tree.specs.NextMove.{IsMoveFrom}
 
@@ -30,8 +29,3 @@ pub record EndsEven (from count : ℕ) (signs : List Sign) (kept : ℕ) : Type 0
   pub low : from < kept
   pub high : kept < from + count
   pub even : slice_get signs (kept - 1) ≡ Some Even
-
--- the closing bound of the signs, and how many of them are above
-pub record IsTally (signs : List Sign) (bound aboves : ℕ) : Type 0 where
-  pub bound_is : bound ≡ closing_bound signs
-  pub aboves_is : aboves ≡ count_by is_above signs

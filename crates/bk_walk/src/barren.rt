@@ -11,10 +11,10 @@ ghost use Rattle.bk_word.specs.declared.Sign.TheVariants.{Above};
 ghost use Rattle.bk_barren.specs.Cuts.{IsBarren};
 ghost use Rattle.bk_walk.specs.MoveCuts.{EndsEven, IsCut, IsNear};
 
-use crate::cuts::single_valleys;
 use crate::lined::LinedSkel;
 use crate::moves::{MOST_COUNT, MOST_SIGNS, pass};
 use crate::owing::skip_owing;
+use bk_owed::single_valleys;
 use bk_skel::{Skel, open_side};
 use bk_word::{Class, Move, Sign};
 
@@ -25,14 +25,40 @@ pub(crate) fn skip(lined: &LinedSkel, class: Class, order: u8, m: &mut Move) -> 
     requires count { m.old.count < MOST_COUNT }
     requires signs { length m.old.signs ≤ MOST_SIGNS }
     requires small { order_of lined.now + m.old.count ≤ order }
+    requires most { order ≤ 16 }
     ensures cut { IsTrue result → IsCut order class lined.now m.old m.new }
     ensures near { IsNear m.old m.new }
     ensures kept { result ≡ false → m.new ≡ m.old }
 {
+    if skip_by_members(lined, class, order, m) {
+        return true;
+    }
     if skip_by_signs(lined.skel(), class, order, m) {
         return true;
     }
     skip_by_sides(lined, class, m)
+}
+
+// Passes over a move, and over all of its count whose signs are the same up to a place, where the table of members has none
+// that goes on by them.
+fn skip_by_members(lined: &LinedSkel, class: Class, order: u8, m: &mut Move) -> bool
+    requires legal { IsLegalMove (outline_of lined.now) m.old }
+    requires count { m.old.count < MOST_COUNT }
+    requires signs { length m.old.signs ≤ MOST_SIGNS }
+    requires small { order_of lined.now + m.old.count ≤ order }
+    requires most { order ≤ 16 }
+    ensures cut { IsTrue result → IsCut order class lined.now m.old m.new }
+    ensures near { IsNear m.old m.new }
+    ensures kept { result ≡ false → m.new ≡ m.old }
+{
+    match lined.barren_signs(class, order, m) {
+        None => false,
+        Some(kept) => {
+            m.signs.truncate(kept);
+            pass(m);
+            true
+        }
+    }
 }
 
 // Passes over a move that the sides of the first squares rule out.

@@ -3,9 +3,6 @@
 
 mod barren;
 mod corners;
-#[cfg(test)]
-mod cut_tests;
-mod cuts;
 mod judging;
 mod lined;
 mod lines;
@@ -13,8 +10,7 @@ mod moves;
 mod owing;
 mod resuming;
 mod search;
-#[cfg(test)]
-mod tests;
+mod tabled;
 mod walk;
 
 pub use walk::{Entry, Walk, WideAt};

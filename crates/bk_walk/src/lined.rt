@@ -1,28 +1,33 @@
 //! Words that are played and taken back, with the vertical lines that run from the top and the equations between first sides.
 #![tactic(auto)]
 
-ghost use Rattle.std.specs.Prelude.{IsTrue, [], length, take, ℕ, ◌++◌, ◌+◌, ◌-◌, ◌<◌, ◌∷◌, ◌≡◌, ◌≤◌};
+ghost use Rattle.std.specs.Prelude.{IfSome, IsTrue, [], length, take, ℕ, ◌++◌, ◌+◌, ◌-◌, ◌<◌, ◌∷◌, ◌≡◌, ◌≤◌};
 ghost use Rattle.bk_word.specs.Outline.{IsLegalMove};
 ghost use Rattle.bk_word.specs.Play.{IsLegal, outline_of};
 ghost use Rattle.bk_word.specs.Word.{order_of};
 ghost use Rattle.bk_barren.specs.Cuts.{IsBarren};
 ghost use Rattle.bk_bounds.specs.VerticalCut.{line_bound_of};
+ghost use Rattle.bk_member_table.specs.Members.{IsBarrenBy};
 
 use crate::lines::{line_bound, push_lines, valley_on_line};
+use crate::tabled::TabledMembers;
 use arrayvec::ArrayVec;
 use bk_form_cuts::Tracing;
 use bk_skel::{Skel, Steps};
 use bk_word::{Class, LARGEST_ORDER, Move};
+use std::alloc::Global;
 use std::marker::Model;
 use std::sync::ledger::Ledger;
 
 /// A skeleton, of each of its squares whether its left edge lies on a vertical line that runs from the top between squares of
-/// the first move, and what is known of the sides of its first squares. It is seen as the list of its moves. (Own.)
+/// the first move, what is known of the sides of its first squares, and a table of members. It is seen as the list of its
+/// moves. (Own.)
 #[derive(Drop)]
 pub(crate) struct LinedSkel {
     skel: Skel,
     lines: ArrayVec<bool, LARGEST_ORDER>,
     sides: Tracing,
+    tabled: TabledMembers,
 }
 
 impl Model for LinedSkel {
@@ -38,13 +43,14 @@ impl Model for LinedSkel {
 
 impl LinedSkel {
     /// The skeleton of no move.
-    pub(crate) fn new() -> LinedSkel
+    pub(crate) fn new(alloc: Global) -> LinedSkel
         ensures { result ≡ [] }
     {
         LinedSkel {
             skel: Skel::new(),
             lines: ArrayVec::new(),
             sides: Tracing::new(),
+            tabled: TabledMembers::new(alloc),
         }
     }
 
@@ -87,6 +93,25 @@ impl LinedSkel {
         ensures { IsTrue result → (n : ℕ) → IsBarren n class (self.now ++ m.now ∷ []) }
     {
         self.sides.rules_out(&self.skel, m, class)
+    }
+
+    /// Makes the table of members for the count of the first move, where a walk that has pushed so many moves wants it.
+    pub(crate) fn renew(&mut self, class: Class, order: u8, pushes: u64)
+        requires most { order ≤ 16 }
+        requires few { order_of self.old ≤ 16 }
+        ensures { self.new ≡ self.old }
+    {
+        self.tabled.renew(&self.skel, class, order, pushes);
+    }
+
+    /// How many signs of a legal move it takes, where the table of members tells it, until no member's word goes on from these
+    /// moves by a move of the same count whose signs begin with them.
+    pub(crate) fn barren_signs(&self, class: Class, order: u8, m: &Move) -> Option<usize>
+        requires legal { IsLegalMove (outline_of self.now) m.now }
+        requires few { order_of self.now + m.now.count ≤ 16 }
+        ensures { IfSome result (IsBarrenBy order class self.now m.now) }
+    {
+        self.tabled.barren_signs(order, class, &self.skel, m)
     }
 
     /// The closing bound after the moves, where a segment that a line bounds or ended on has one closing more.

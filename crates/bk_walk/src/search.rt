@@ -91,7 +91,7 @@ fn take_turn<L: Ledger>(
     if skip(lined, class, order, next) {
         return Turn::On;
     }
-    play(lined, next, pushes, steps);
+    go_down(lined, next, class, order, pushes, steps);
     if is_barren(lined, order) {
         lined.pop();
         pass(next);
@@ -129,6 +129,26 @@ fn climb(lined: &mut LinedSkel, next: &mut Move) -> bool
     lined.pop();
     pass(next);
     true
+}
+
+// Pushes a move, counts it, and makes a table of members where the walk wants it.
+fn go_down<L: Ledger>(
+    lined: &mut LinedSkel,
+    m: &Move,
+    class: Class,
+    order: u8,
+    pushes: &mut u64,
+    steps: &mut Steps<L>,
+)
+    requires order { order ≤ 16 }
+    requires legal { IsLegalMove (outline_of lined.old) m.now }
+    requires few { order_of lined.old + m.now.count ≤ order }
+    ensures moves { lined.new ≡ lined.old ++ m.now ∷ [] }
+    ensures step { steps.new ≡ steps.old + 1 }
+    ensures count { pushes.new ≡ min (pushes.old + 1) (2 ^ 64 - 1) }
+{
+    play(lined, m, pushes, steps);
+    lined.renew(class, order, *pushes);
 }
 
 // Pushes a move, and counts it.

@@ -10,4 +10,5 @@ returns-then-qualifies c =
 pub returns-else-qualifies : goal.returns-else-qualifies
 returns-else-qualifies c =
     let found = rw c.in-Ok-Some.field-0-is at c.in-Ok-Some.ensures.realised in
-    none_other (order_of c.args.skel.now) c.args.class c.in-Ok-Some.tiling c.args.skel.now found.tiling found.primitive found.word (c.qualifies.ensures.no c.if-qualifies.false)
+    none_other (order_of c.args.skel.now) c.args.class c.in-Ok-Some.tiling c.args.skel.now found.tiling found.primitive found.word
+    (c.qualifies.ensures.no c.if-qualifies.false)

@@ -1,7 +1,8 @@
 use Rattle.std.proofs.Common.{[], ap, arith, subst, sym, ℕ, ◌++◌, ◌-◌, ◌∙◌, ◌∷◌}
 use Rattle.bk_word.specs.Word.{Follows, Move, order_of}
 use Rattle.bk_lay.specs.TilingWord.{IsWordOf}
-use Rattle.bk_walk.proofs.SearchLoop.{Continues, continues_none, continues_on, continues_past, counts_none, counts_then, ends_then, meets_then, nearer, whole_stand}
+use Rattle.bk_walk.proofs.SearchLoop.{Continues, continues_none, continues_on, continues_past, counts_none, counts_then, ends_then, meets_then}
+use Rattle.bk_walk.proofs.SearchLoop.{nearer, whole_stand}
 use Rattle.bk_catalogue.specs.Catalogue.{IsEntry, IsMember}
 use Rattle.bk_walk.proofs.search.search.Goals as goal
 

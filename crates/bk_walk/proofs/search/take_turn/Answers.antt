@@ -51,8 +51,8 @@ returns-then-skip-clause-leads g c = turn_cuts c.args.order c.args.class c.args.
     (let v = c.order.ensures.value ∙ ap order_of c.skel.ensures.value in let count = ap (λ (m : Move). m.count) c.next.view_is in
     omega (arith, c.if-order-from.false, c.from.ensures, c.from-2.ensures)) (omega arith)
 
-pub play-requires-clause-legal : goal.play-requires-clause-legal
-play-requires-clause-legal g c = subst (IsLegalMove (outline_of c.args.lined.now)) (sym (c.skip.ensures.kept c.if-skip.false))
+pub go_down-requires-clause-legal : goal.go_down-requires-clause-legal
+go_down-requires-clause-legal g c = subst (IsLegalMove (outline_of c.args.lined.now)) (sym (c.skip.ensures.kept c.if-skip.false))
     (turn_least c.args.order c.args.class c.args.lined.now c.args.next.now c.fit.new.m c.requires.order c.requires.stand
     (c.fit.ensures ∙ ap (λ k. fitted k c.args.next.now) c.open_sides.ensures.value)).legal
 
@@ -84,7 +84,7 @@ returns-then-is_barren-clause-leads g c =
     turn_turns_back c.args.order c.args.class c.args.lined.now c.args.next.now c.skip.new.m c.requires.order c.requires.stand
     (fits c.skip.new.m c.fit.new.m c.args.next.now c.open_sides.result (open_sides (outline_of c.args.lined.now))
     (c.skip.ensures.kept c.if-skip.false) c.fit.ensures c.open_sides.ensures.value)
-    small c.play.new.lined c.play.ensures.moves (c.play.new.steps - c.args.steps.now) (omega (arith, c.play.ensures.step)) c.pop.new.self
+    small c.go_down.new.lined c.go_down.ensures.moves (c.go_down.new.steps - c.args.steps.now) (omega (arith, c.go_down.ensures.step)) c.pop.new.self
     c.pass.new.m c.pop.ensures c.pass.ensures (c.is_barren.ensures c.if-is_barren.true c.args.class)
 
 pub returns-clause-leads : goal.returns-clause-leads
@@ -96,24 +96,24 @@ returns-clause-leads g c =
     (let v = c.order.ensures.value ∙ ap order_of c.skel.ensures.value in let count = ap (λ (m : Move). m.count) c.next.view_is in
     omega (arith, ap (λ (m : Move). m.count) same, c.if-order-from.false, c.from.ensures, c.from-2.ensures)) in
     let first = c.next-3.view_is ∙ c.first_move.ensures in
-    let one : c.play.new.steps - c.args.steps.now ≤ 1 = omega (arith, c.play.ensures.step) in
+    let one : c.go_down.new.steps - c.args.steps.now ≤ 1 = omega (arith, c.go_down.ensures.step) in
     elim c.if-is_whole.branch [
       | then-is_whole w ↦ subst
-          (λ (r : Turn). Leads c.args.order c.args.class (c.args.lined.now ++ c.args.next.now ∷ []) c.play.new.lined
-          (record { count = c.next-3.inside.count; signs = c.next-3.inside.signs.items }) (c.play.new.steps - c.args.steps.now) r)
+          (λ (r : Turn). Leads c.args.order c.args.class (c.args.lined.now ++ c.args.next.now ∷ []) c.go_down.new.lined
+          (record { count = c.next-3.inside.count; signs = c.next-3.inside.signs.items }) (c.go_down.new.steps - c.args.steps.now) r)
           (sym w.result-is)
           (let whole = c.is_whole.ensures.whole w.if-is_whole.true in (
             turn_reaches c.args.order c.args.class c.args.lined.now c.args.next.now c.skip.new.m c.requires.order c.requires.stand fit small
-                c.play.new.lined c.play.ensures.moves (c.play.new.steps - c.args.steps.now) one,
+                c.go_down.new.lined c.go_down.ensures.moves (c.go_down.new.steps - c.args.steps.now) one,
             whole.0,
             whole.1,
             first,
           ))
       | else-is_whole w ↦ subst
-          (λ (r : Turn). Leads c.args.order c.args.class (c.args.lined.now ++ c.args.next.now ∷ []) c.play.new.lined
-          (record { count = c.next-3.inside.count; signs = c.next-3.inside.signs.items }) (c.play.new.steps - c.args.steps.now) r)
+          (λ (r : Turn). Leads c.args.order c.args.class (c.args.lined.now ++ c.args.next.now ∷ []) c.go_down.new.lined
+          (record { count = c.next-3.inside.count; signs = c.next-3.inside.signs.items }) (c.go_down.new.steps - c.args.steps.now) r)
           (sym w.result-is)
           (turn_goes_down c.args.order c.args.class c.args.lined.now c.args.next.now c.skip.new.m c.requires.order c.requires.stand fit
-          small c.play.new.lined c.play.ensures.moves (c.play.new.steps - c.args.steps.now) one
+          small c.go_down.new.lined c.go_down.ensures.moves (c.go_down.new.steps - c.args.steps.now) one
           (record { count = c.next-3.inside.count; signs = c.next-3.inside.signs.items }) first (c.is_whole.ensures.unready w.if-is_whole.false))
     ]

@@ -6,7 +6,12 @@ use Rattle.bk_bounds.specs.VerticalCut.{line_bound, line_bound_of, lines_of, seg
 use Rattle.bk_walk.proofs.lined.LinedSkel.line_bound.Goals as goal
 
 pub line_bound-requires-clause-long : goal.line_bound-requires-clause-long
-line_bound-requires-clause-long c = omega (arith, sizes_long c.self.inside.skel c.self.invariant.lined.legal, ap length c.sizes.ensures, ap length c.signs.ensures)
+line_bound-requires-clause-long c = omega (
+  arith,
+  sizes_long c.self.inside.skel c.self.invariant.lined.legal,
+  ap length c.sizes.ensures,
+  ap length c.signs.ensures,
+)
 
 pub line_bound-requires-clause-enough : goal.line_bound-requires-clause-enough
 line_bound-requires-clause-enough c = omega (arith, sum_lengths (outline_of c.self.inside.skel).segments, ap sum c.sizes.ensures, ap length c.ends.ensures)
