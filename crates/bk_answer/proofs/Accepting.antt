@@ -8,8 +8,10 @@ use Rattle.bk_text.proofs.LinesRead.{one_meaning}
 use Rattle.bk_report.specs.Answers.{IsCheckLine, verdict_line}
 use Rattle.bk_report.specs.Refusals.{refusal_line}
 use Rattle.bk_report.specs.declared.refusal.Refused.{Refused}
-use Rattle.bk_report.specs.declared.refusal.Refused.TheVariants.{Gap, Illegal, Large, Long, Loose, Many, More, Nodes, Nothing, Open, Order, Size, Text, Unfinished, Wide, Wire}
-use Rattle.bk_answer.specs.AnswerLaws.{BeginsWith, CheckAcceptsTilings}
+use Rattle.bk_report.specs.declared.refusal.Refused.TheVariants.{Gap, Illegal, Large, Long, Loose, Many, More, Nodes, Nothing, Open, Order, Size}
+use Rattle.bk_report.specs.declared.refusal.Refused.TheVariants.{Text, Unfinished, Wide, Wire}
+use Rattle.bk_answer.specs.AnswerLaws.{CheckAcceptsTilings}
+use Rattle.bk_answer.specs.Checked.{BeginsWith}
 use Rattle.bk_answer.specs.Item.{HasItem, IsStatedBy}
 use Rattle.bk_answer.specs.Refusing.{IsLineRefused}
 use Rattle.bk_answer.specs.declared.command.CodeCommand.TheVariants.{Check}
@@ -17,10 +19,10 @@ use Rattle.bk_answer.proofs.OneAnswer.{CommandCause, by_line, by_tiling, cause_o
 use Rattle.bk_answer.specs.CodeAnswer.{AnswersCodeLine, answers, no_item, refuses}
 
 -- no refusal begins so: its first byte is another
-first_byte : (text : List ℕ) → BeginsWith (codes "ok") text → get_or text 0 0 ≡ 111
+pub first_byte : (text : List ℕ) → BeginsWith (codes "ok") text → get_or text 0 0 ≡ 111
 first_byte text (rest, e) = ap (λ (l : List ℕ). get_or l 0 0) e
 
-refusal_byte : (r : Refused) → get_or (refusal_line r ++ []) 0 0 ≡ 111 → ⊥
+pub refusal_byte : (r : Refused) → get_or (refusal_line r ++ []) 0 0 ≡ 111 → ⊥
 refusal_byte Long e = omega (arith, e)
 refusal_byte (Text at) e = omega (arith, e)
 refusal_byte Many e = omega (arith, e)
@@ -56,17 +58,20 @@ accepted : (bytes : List ℕ) (item : Line) (pieces : List (List ℕ)) (refused 
     → BeginsWith (codes "ok") (concat pieces) → (t : Tiling) × IsStatedBy item t
 accepted bytes item pieces refused has (no_item a) b = absurd (omega (arith, first_byte [] b))
 accepted bytes item pieces refused has (refuses r h) b = absurd (refusal_byte r (first_byte (refusal_line r ++ []) b))
-accepted bytes item pieces refused has (answers t _ has' _ an) b = (t, subst (λ (i : Line). IsStatedBy i t) (one_meaning bytes has'.item item has'.is_item.meaning has.meaning) has'.stated)
+accepted bytes item pieces refused has (answers t _ has' _ an) b =
+    (t, subst (λ (i : Line). IsStatedBy i t) (one_meaning bytes has'.item item has'.is_item.meaning has.meaning) has'.stated)
 
 -- check refuses for no cause of its own
 check_refuses : (bytes : List ℕ) (r : Refused) → CommandCause Check bytes r → IsLineRefused bytes r
 check_refuses bytes r (by_line h) = h
 check_refuses bytes r (by_tiling t has n e) = absurd (n tt)
 
-accepts : (bytes : List ℕ) (item : Line) (pieces : List (List ℕ)) (refused : Bool) (t : Tiling) → HasItem bytes item → AnswersCodeLine Check bytes pieces refused
+accepts : (bytes : List ℕ) (item : Line) (pieces : List (List ℕ)) (refused : Bool) (t : Tiling) → HasItem bytes item
+    → AnswersCodeLine Check bytes pieces refused
     → IsStatedBy item t → BeginsWith (codes "ok") (concat pieces)
 accepts bytes item pieces refused t has (no_item a) st = absurd (skip_not_stated bytes item t a has st)
-accepts bytes item pieces refused t has (refuses r h) st = absurd (not_refused bytes item t r has st (cause_of bytes r (check_refuses bytes r (command_cause Check bytes r h))))
+accepts bytes item pieces refused t has (refuses r h) st =
+    absurd (not_refused bytes item t r has st (cause_of bytes r (check_refuses bytes r (command_cause Check bytes r h))))
 accepts bytes item pieces refused t has (answers u _ has' _ (text, c, e)) st = check_begins u text pieces c e
 
 pub accepted_exactly : CheckAcceptsTilings

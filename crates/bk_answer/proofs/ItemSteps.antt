@@ -1,6 +1,6 @@
 -- Steps to the answer to an item.
-use Rattle.std.proofs.Common.{Err, List, None, Ok, Option, Result, Some, length, subst, sym, ℕ, ◌≡◌, ◌≤◌}
-use Rattle.std.specs.Prelude.{IfErr, IfOk, IsSomeAnd}
+use Rattle.std.proofs.Common.{Bool, Err, List, None, Ok, Option, Result, Some, false, length, subst, sym, true, ℕ, ◌≡◌, ◌≤◌}
+use Rattle.std.specs.Prelude.{IfErr, IfOk}
 use Rattle.bk_tiling.specs.Tiling.{IsTiling, Tiling}
 use Rattle.bk_profile.specs.declared.laying.Refusal.{Refusal}
 use Rattle.bk_report.specs.declared.refusal.Refused.{Refused}
@@ -9,9 +9,9 @@ use Rattle.bk_text.specs.CodeLine.{Flat, Item, Line, Skip}
 use Rattle.bk_text.specs.ReadLine.{IsFaultOf}
 use Rattle.bk_text.specs.declared.TextFault.{TextFault}
 use Rattle.bk_text.specs.declared.TextFault.TheVariants as faults
-use Rattle.bk_answer.specs.declared.answer.TheConstants.{LONGEST_LINE}
-use Rattle.bk_answer.specs.Item.{AllowsOrder, AllowsSize, HasItem, HasTiling, IsLaidBy, IsLaidItem, IsLaidLine, IsSize, IsStatedBy, order_of}
-use Rattle.bk_answer.specs.Refusing.{IsItemRefused, IsLineRefused, IsNotLaid, no_line, not_laid, other_order, other_size, refused_for, refused_item, refused_text, too_many}
+use Rattle.bk_answer.specs.Item.{AllowsOrder, AllowsSize, HasItem, HasTiling, IsLaidBy, IsLaidItem, IsLaidLine, IsSize, IsStatedBy, laid_if, order_of}
+use Rattle.bk_answer.specs.Refusing.{IsItemRefused, IsLineRefused, IsNotLaid, no_line, not_laid, other_order, other_size, refused_for, refused_item}
+use Rattle.bk_answer.specs.Refusing.{refused_text, too_many}
 use Rattle.bk_answer.proofs.OneAnswer.{order_is_sides}
 
 -- another order is stated than this number of sides
@@ -19,11 +19,13 @@ pub wrong_order : (item : Line) (n : ℕ) → n ≡ order_of item → (AllowsOrd
 wrong_order item n e = subst (λ (m : ℕ). (AllowsOrder item m → ⊥) → IsItemRefused item (Order m)) (sym e) (λ other. other_order other)
 
 -- laying failed
-pub failed_laying : (item : Line) (cause : Refusal) (r : Refused) → AllowsOrder item (order_of item) → IsNotLaid item cause → r ≡ refused_for cause → IsItemRefused item r
+pub failed_laying : (item : Line) (cause : Refusal) (r : Refused) → AllowsOrder item (order_of item) → IsNotLaid item cause → r ≡ refused_for cause
+    → IsItemRefused item r
 failed_laying item cause r allowed failed e = subst (IsItemRefused item) (sym e) (not_laid cause allowed failed)
 
 -- bytes that are not read
-pub not_read : (bytes : List ℕ) (fault : TextFault) (r : Refused) → length bytes ≤ LONGEST_LINE → IsFaultOf fault bytes → r ≡ refused_text fault → IsLineRefused bytes r
+pub not_read : (bytes : List ℕ) (fault : TextFault) (r : Refused) → length bytes ≤ 8192 → IsFaultOf fault bytes → r ≡ refused_text fault
+    → IsLineRefused bytes r
 not_read bytes (faults.Text at) r short h e = subst (IsLineRefused bytes) (sym e) (no_line at short h)
 not_read bytes faults.Many r short (line, is, many) e = subst (IsLineRefused bytes) (sym e) (too_many line short is many)
 
@@ -37,23 +39,29 @@ module _ (item : Line) (size : Option (ℕ × ℕ)) (t : Tiling) (laid : IsLaidB
     size_is = size_is s;
   }
 
-  pub laid_of_size : (r : Result (Option Tiling) Refused) → IfOk r (λ o. IsSomeAnd o (λ u. (u ≡ t) × IsSize size u.width u.height)) → IfOk r (IsLaidItem item)
-  laid_of_size (Ok None) h = absurd h
-  laid_of_size (Ok (Some u)) h = subst (IsStatedBy item) (sym h.0) (stated (subst (λ (v : Tiling). IsSize size v.width v.height) h.0 h.1))
+  pub laid_of_size : (r : Result Bool Refused) → IfOk r (λ some. (some ≡ true) × IsSize size t.width t.height)
+      → IfOk r (λ some. IsLaidItem item (laid_if some t))
+  laid_of_size (Ok true) h = stated h.1
+  laid_of_size (Ok false) h = absurd (cc)
   laid_of_size (Err f) h = tt
 
-  pub refused_of_size : (r : Result (Option Tiling) Refused) → IfErr r (λ f. (f ≡ Size t.width t.height) × (IsSize size t.width t.height → ⊥)) → IfErr r (IsItemRefused item)
+  pub refused_of_size : (r : Result Bool Refused) → IfErr r (λ f. (f ≡ Size t.width t.height) × (IsSize size t.width t.height → ⊥))
+      → IfErr r (IsItemRefused item)
   refused_of_size (Ok o) h = tt
   refused_of_size (Err f) h = subst (IsItemRefused item) (sym h.0) (other_size t allowed laid (λ s. h.1 (sized s)))
 
 -- what comes of laying the item of a line comes of laying the line
 module _ (bytes : List ℕ) (item : Line) (has : HasItem bytes item) where
-  pub laid_of_item : (r : Result (Option Tiling) Refused) → IfOk r (IsLaidItem item) → IfOk r (IsLaidLine bytes)
-  laid_of_item (Ok None) h = subst (HasItem bytes) h has
-  laid_of_item (Ok (Some t)) h = record { item = item; is_item = has; stated = h }
-  laid_of_item (Err f) h = tt
+  line_laid : (o : Option Tiling) → IsLaidItem item o → IsLaidLine bytes o
+  line_laid None h = subst (HasItem bytes) h has
+  line_laid (Some t) h = record { item = item; is_item = has; stated = h }
 
-  pub refused_of_item : (r : Result (Option Tiling) Refused) → IfErr r (IsItemRefused item) → IfErr r (IsLineRefused bytes)
+  pub laid_of_item : (t : Tiling) (r : Result Bool Refused) → IfOk r (λ some. IsLaidItem item (laid_if some t))
+      → IfOk r (λ some. IsLaidLine bytes (laid_if some t))
+  laid_of_item t (Ok some) h = line_laid (laid_if some t) h
+  laid_of_item t (Err f) h = tt
+
+  pub refused_of_item : (r : Result Bool Refused) → IfErr r (IsItemRefused item) → IfErr r (IsLineRefused bytes)
   refused_of_item (Ok o) h = tt
   refused_of_item (Err f) h = refused_item item f has h
 
@@ -62,15 +70,3 @@ pub is_tiling : (item : Line) (t : Tiling) → IsStatedBy item t → IsTiling t
 is_tiling Skip t s = absurd s.laid
 is_tiling (Item order size code) t s = s.laid.tiling
 is_tiling (Flat order width height sides) t s = s.laid.tiling
-
--- what laying a line tells, where it gives a tiling, nothing, or a refusal
-pub has_tiling : (bytes : List ℕ) (r : Result (Option Tiling) Refused) (o : Option Tiling) (t : Tiling) → r ≡ Ok o → o ≡ Some t → IfOk r (IsLaidLine bytes) → HasTiling bytes t
-has_tiling bytes r o t is some laid =
-    subst (IsLaidLine bytes) some (subst (λ (s : Result (Option Tiling) Refused). IfOk s (IsLaidLine bytes)) is laid)
-
-pub has_none : (bytes : List ℕ) (r : Result (Option Tiling) Refused) (o : Option Tiling) → r ≡ Ok o → o ≡ None → IfOk r (IsLaidLine bytes) → HasItem bytes Skip
-has_none bytes r o is none laid =
-    subst (IsLaidLine bytes) none (subst (λ (s : Result (Option Tiling) Refused). IfOk s (IsLaidLine bytes)) is laid)
-
-pub is_line_refused : (bytes : List ℕ) (r : Result (Option Tiling) Refused) (f : Refused) → r ≡ Err f → IfErr r (IsLineRefused bytes) → IsLineRefused bytes f
-is_line_refused bytes r f is refused = subst (λ (s : Result (Option Tiling) Refused). IfErr s (IsLineRefused bytes)) is refused

@@ -8,7 +8,6 @@ use Rattle.bk_report.specs.declared.refusal.Refused.{Refused}
 use Rattle.bk_report.specs.declared.refusal.Refused.TheVariants.{Long}
 use Rattle.bk_answer.specs.AnswerLaws.{AFrontHasTheAnswer}
 use Rattle.bk_answer.specs.Refusing.{too_long}
-use Rattle.bk_answer.specs.declared.answer.TheConstants.{LONGEST_LINE}
 use Rattle.bk_answer.specs.declared.command.CodeCommand.{CodeCommand}
 use Rattle.bk_answer.specs.declared.command.Command.{Command}
 use Rattle.bk_answer.specs.declared.command.Command.TheVariants.{Flow, OfCodes, Solve}
@@ -19,25 +18,27 @@ use Rattle.bk_answer.specs.Answer.{AnswersLine}
 use Rattle.bk_answer.specs.CodeAnswer.{AnswersCodeLine, answers, any_command, no_item, refuses}
 
 -- a line of more than 8,192 bytes is refused as too long, whatever it holds
-long_cause : (bytes : List ℕ) (r : Refused) → LONGEST_LINE < length bytes → Cause bytes r → r ≡ Long
+long_cause : (bytes : List ℕ) (r : Refused) → 8192 < length bytes → Cause bytes r → r ≡ Long
 long_cause bytes r long (at_long h e) = e
 long_cause bytes r long (at_text at h n e) = absurd (omega arith)
 long_cause bytes r long (at_many item h l m e) = absurd (omega arith)
 long_cause bytes r long (at_item item has c) = absurd (omega (arith, has.short))
 
-long_refusal : (command : CodeCommand) (bytes : List ℕ) (r : Refused) → LONGEST_LINE < length bytes → CommandCause command bytes r → r ≡ Long
+long_refusal : (command : CodeCommand) (bytes : List ℕ) (r : Refused) → 8192 < length bytes → CommandCause command bytes r → r ≡ Long
 long_refusal command bytes r long (by_line h) = long_cause bytes r long (cause_of bytes r h)
 long_refusal command bytes r long (by_tiling t has n e) = absurd (omega (arith, has.is_item.short))
 
-long_code_answer : (command : CodeCommand) (bytes others : List ℕ) (pieces : List (List ℕ)) (refused : Bool) → LONGEST_LINE < length bytes → LONGEST_LINE < length others
+long_code_answer : (command : CodeCommand) (bytes others : List ℕ) (pieces : List (List ℕ)) (refused : Bool) → 8192 < length bytes
+    → 8192 < length others
     → AnswersCodeLine command bytes pieces refused → AnswersCodeLine command others pieces refused
 long_code_answer command bytes others pieces refused long longer (no_item a) = absurd (omega (arith, a.short))
 long_code_answer command bytes others pieces refused long longer (refuses r h) =
-    subst (λ (z : Refused). AnswersCodeLine command others (refusal_line z ∷ []) true) (sym (long_refusal command bytes r long (command_cause command bytes r h)))
+    subst (λ (z : Refused). AnswersCodeLine command others (refusal_line z ∷ []) true)
+    (sym (long_refusal command bytes r long (command_cause command bytes r h)))
     (refuses Long (any_command Long (too_long longer)))
 long_code_answer command bytes others pieces refused long longer (answers t _ has _ an) = absurd (omega (arith, has.is_item.short))
 
-long_answer : (command : Command) (bytes others : List ℕ) (pieces : List (List ℕ)) (refused : Bool) → LONGEST_LINE < length bytes → LONGEST_LINE < length others
+long_answer : (command : Command) (bytes others : List ℕ) (pieces : List (List ℕ)) (refused : Bool) → 8192 < length bytes → 8192 < length others
     → AnswersLine command bytes pieces refused → AnswersLine command others pieces refused
 long_answer (OfCodes command) = long_code_answer command
 long_answer Flow = long_net_answer
@@ -51,9 +52,13 @@ front_answer command bytes pieces refused = either (two (length bytes))
   where
     either : (length bytes ≤ 8193) ⊎ (8193 < length bytes) → AnswersLine command (kept_front bytes) pieces refused ↔ AnswersLine command bytes pieces refused
     either (inl h) =
-        let whole : kept_front bytes ≡ bytes = take_all 8193 bytes h in
-        ((λ an. subst (λ (l : List ℕ). AnswersLine command l pieces refused) whole an), (λ an. subst (λ (l : List ℕ). AnswersLine command l pieces refused) (sym whole) an))
+        let whole : kept_front bytes ≡ bytes = take_all 8193 bytes h in (
+          (λ an. subst (λ (l : List ℕ). AnswersLine command l pieces refused) whole an),
+          (λ an. subst (λ (l : List ℕ). AnswersLine command l pieces refused) (sym whole) an),
+        )
     either (inr h) =
-        let long : LONGEST_LINE < length bytes = omega arith in
-        let front : LONGEST_LINE < length (kept_front bytes) = omega (arith, length-take-le 8193 bytes (omega arith)) in
-        ((λ an. long_answer command (kept_front bytes) bytes pieces refused front long an), (λ an. long_answer command bytes (kept_front bytes) pieces refused long front an))
+        let long : 8192 < length bytes = omega arith in
+        let front : 8192 < length (kept_front bytes) = omega (arith, length-take-le 8193 bytes (omega arith)) in (
+          (λ an. long_answer command (kept_front bytes) bytes pieces refused front long an),
+          (λ an. long_answer command bytes (kept_front bytes) pieces refused long front an),
+        )

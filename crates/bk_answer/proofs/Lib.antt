@@ -5,6 +5,7 @@ pub mod OneWordAnswer
 pub mod OneAnswer
 pub mod KeptFronts
 pub mod Accepting
+pub mod CheckedLines
 pub mod PieceByPiece
 pub mod Writing
 pub mod ItemSteps

@@ -3,7 +3,6 @@ use Rattle.std.proofs.Common.{Bool, List, [], ap, arith, length, refl, subst, sy
 use Rattle.std.proofs.lemmas.List.{length-map}
 use Rattle.bk_tiling.specs.Tiling.{IsTiling, Tiling}
 use Rattle.bk_tiling.specs.declared.Square.{Square}
-use Rattle.bk_tiling.specs.declared.TheConstants.{MOST_SQUARES}
 use Rattle.bk_code.specs.Code.{Code, code_of, flat}
 use Rattle.bk_code.proofs.FlatList.{a_flat_list_fixes_a_tiling, flat_is_sides}
 use Rattle.bk_profile.proofs.OneRefusal.{a_code_is_refused_in_one_way, a_flat_list_is_refused_in_one_way}
@@ -20,8 +19,8 @@ use Rattle.bk_report.specs.declared.refusal.Refused.{Refused}
 use Rattle.bk_report.specs.declared.refusal.Refused.TheVariants.{Large, Long, Many, Order, Size, Text}
 use Rattle.bk_answer.specs.AnswerLaws.{ALineHasOneAnswer}
 use Rattle.bk_answer.specs.Item.{AllowsOrder, AllowsSize, HasItem, HasTiling, IsLaidBy, IsStatedBy, order_of}
-use Rattle.bk_answer.specs.Refusing.{IsItemRefused, IsLineRefused, IsNotLaid, no_line, not_laid, other_order, other_size, refused_for, refused_item, too_long, too_many}
-use Rattle.bk_answer.specs.declared.answer.TheConstants.{LONGEST_LINE}
+use Rattle.bk_answer.specs.Refusing.{IsItemRefused, IsLineRefused, IsNotLaid, no_line, not_laid, other_order, other_size, refused_for, refused_item}
+use Rattle.bk_answer.specs.Refusing.{too_long, too_many}
 use Rattle.bk_answer.specs.declared.command.CodeCommand.{CodeCommand}
 use Rattle.bk_answer.specs.declared.command.CodeCommand.TheVariants.{Canon, Check, Draw, Dual, Images, Net, Word}
 use Rattle.bk_answer.specs.declared.command.Command.TheVariants.{Flow, OfCodes, Solve}
@@ -77,9 +76,9 @@ item_cause item r (not_laid refusal o n) = by_laying refusal o n refl
 item_cause item r (other_size t o l n) = by_size t o l n refl
 
 pub data Cause (bytes : List ℕ) (r : Refused) : Type 0 where
-  at_long : LONGEST_LINE < length bytes → r ≡ Long → Cause bytes r
-  at_text : (at : ℕ) → length bytes ≤ LONGEST_LINE → IsNoLine bytes at → r ≡ Text at → Cause bytes r
-  at_many : (item : Line) → length bytes ≤ LONGEST_LINE → IsLine item bytes → MOST_SQUARES < order_of item → r ≡ Many → Cause bytes r
+  at_long : 8192 < length bytes → r ≡ Long → Cause bytes r
+  at_text : (at : ℕ) → length bytes ≤ 8192 → IsNoLine bytes at → r ≡ Text at → Cause bytes r
+  at_many : (item : Line) → length bytes ≤ 8192 → IsLine item bytes → 200 < order_of item → r ≡ Many → Cause bytes r
   at_item : (item : Line) → HasItem bytes item → ItemCause item r → Cause bytes r
 
 pub cause_of : (bytes : List ℕ) (r : Refused) → IsLineRefused bytes r → Cause bytes r
@@ -153,9 +152,11 @@ pub skip_not_stated : (bytes : List ℕ) (item : Line) (t : Tiling) → HasItem 
 skip_not_stated bytes item t skip has st = subst (λ (i : Line). IsLaidBy i t) (one_meaning bytes item Skip has.meaning skip.meaning) st.laid
 
 -- a tiling has one answer
-same_answer : (command : CodeCommand) (t : Tiling) (pieces others : List (List ℕ)) → IsTiling t → IsAnswerTo command t pieces → IsAnswerTo command t others → pieces ≡ others
+same_answer : (command : CodeCommand) (t : Tiling) (pieces others : List (List ℕ)) → IsTiling t → IsAnswerTo command t pieces
+    → IsAnswerTo command t others → pieces ≡ others
 same_answer Check t pieces others tiling (line, c, e) (other, d, f) = e ∙ ap (λ (l : List ℕ). l ∷ []) (one_check_line t line other tiling c d) ∙ sym f
-same_answer Canon t pieces others tiling (u, c, e) (v, d, f) = e ∙ ap (λ (z : Tiling). tiling_line z ∷ []) (a_canonical_tiling_is_one t u v tiling c d).1 ∙ sym f
+same_answer Canon t pieces others tiling (u, c, e) (v, d, f) = e
+    ∙ ap (λ (z : Tiling). tiling_line z ∷ []) (a_canonical_tiling_is_one t u v tiling c d).1 ∙ sym f
 same_answer Images t pieces others tiling e f = e ∙ sym f
 same_answer Net t pieces others tiling e f = e ∙ sym f
 same_answer Dual t pieces others tiling e f = e ∙ sym f
@@ -200,13 +201,17 @@ one_code_answer : (command : CodeCommand) (bytes : List ℕ) (pieces others : Li
     → AnswersCodeLine command bytes others other → (pieces ≡ others) × (refused ≡ other)
 one_code_answer command bytes pieces others refused other (no_item a) (no_item b) = (refl, refl)
 one_code_answer command bytes pieces others refused other (no_item a) (refuses r h) = absurd (skip_kept command bytes r a (command_cause command bytes r h))
-one_code_answer command bytes pieces others refused other (no_item a) (answers t _ has _ an) = absurd (skip_not_stated bytes has.item t a has.is_item has.stated)
+one_code_answer command bytes pieces others refused other (no_item a) (answers t _ has _ an) =
+    absurd (skip_not_stated bytes has.item t a has.is_item has.stated)
 one_code_answer command bytes pieces others refused other (refuses r h) (no_item b) = absurd (skip_kept command bytes r b (command_cause command bytes r h))
 one_code_answer command bytes pieces others refused other (refuses r h) (refuses s k) =
     (ap (λ (z : Refused). refusal_line z ∷ []) (one_refusal command bytes r s (command_cause command bytes r h) (command_cause command bytes s k)), refl)
-one_code_answer command bytes pieces others refused other (refuses r h) (answers t _ has allowed an) = absurd (tiling_kept command bytes t r has allowed (command_cause command bytes r h))
-one_code_answer command bytes pieces others refused other (answers t _ has _ an) (no_item b) = absurd (skip_not_stated bytes has.item t b has.is_item has.stated)
-one_code_answer command bytes pieces others refused other (answers t _ has allowed an) (refuses s k) = absurd (tiling_kept command bytes t s has allowed (command_cause command bytes s k))
+one_code_answer command bytes pieces others refused other (refuses r h) (answers t _ has allowed an) =
+    absurd (tiling_kept command bytes t r has allowed (command_cause command bytes r h))
+one_code_answer command bytes pieces others refused other (answers t _ has _ an) (no_item b) =
+    absurd (skip_not_stated bytes has.item t b has.is_item has.stated)
+one_code_answer command bytes pieces others refused other (answers t _ has allowed an) (refuses s k) =
+    absurd (tiling_kept command bytes t s has allowed (command_cause command bytes s k))
 one_code_answer command bytes pieces others refused other (answers t _ has _ an) (answers u _ has' _ an') = (
   same_answer command t pieces others (is_tiling has.item t has.stated.laid) an
       (subst (λ (z : Tiling). IsAnswerTo command z others) (same_tiling bytes t u has has') an'),

@@ -30,7 +30,8 @@ blank_front [] r after comment bare e blanks rest = tt
 blank_front (y ∷ j) r [] comment bare e blanks (inl none) = let no : y ∷ (j ++ r) ≡ [] = e ∙ none in absurd (cc)
 blank_front (y ∷ j) r [] comment bare e blanks (inr (text, is)) = let first : y ≡ 59 = ap (λ (l : List ℕ). get_or l 0 0) (e ∙ is) in absurd (bare.0 first)
 blank_front (y ∷ j) r (x ∷ after) comment bare e blanks rest =
-    let head : x ≡ y = cc in let tails : j ++ r ≡ after ++ comment = cc in (subst IsBlank head blanks.0, blank_front j r after comment bare.1 tails blanks.1 rest)
+    let head : x ≡ y = cc in let tails : j ++ r ≡ after ++ comment =
+    cc in (subst IsBlank head blanks.0, blank_front j r after comment bare.1 tails blanks.1 rest)
 
 -- no blanks end bare
 not_blank : (y : ℕ) (j : List ℕ) → Blanks (y ∷ j) → EndsBare (y ∷ j) → ⊥
@@ -41,10 +42,12 @@ ends_on : (x : ℕ) (i : List ℕ) → EndsBare (x ∷ i) → EndsBare i
 ends_on x i ends front b e = ends (x ∷ front) b (ap (λ (l : List ℕ). x ∷ l) e)
 
 -- the items before blanks and comments are the same
-same_item : (i j after after' comment comment' : List ℕ) → Bare i → Bare j → EndsBare i → EndsBare j → Blanks after → Blanks after' → (Nothing or Comment) comment → (Nothing or Comment) comment'
+same_item : (i j after after' comment comment' : List ℕ) → Bare i → Bare j → EndsBare i → EndsBare j → Blanks after → Blanks after'
+    → (Nothing or Comment) comment → (Nothing or Comment) comment'
     → i ++ (after ++ comment) ≡ j ++ (after' ++ comment') → i ≡ j
 same_item [] [] after after' comment comment' p q u v m n k l e = refl
-same_item [] (y ∷ j) after after' comment comment' p q u v m n k l e = absurd (not_blank y j (blank_front (y ∷ j) (after' ++ comment') after comment q (sym e) m k) v)
+same_item [] (y ∷ j) after after' comment comment' p q u v m n k l e =
+    absurd (not_blank y j (blank_front (y ∷ j) (after' ++ comment') after comment q (sym e) m k) v)
 same_item (x ∷ i) [] after after' comment comment' p q u v m n k l e = absurd (not_blank x i (blank_front (x ∷ i) (after ++ comment) after' comment' p e n l) u)
 same_item (x ∷ i) (y ∷ j) after after' comment comment' p q u v m n k l e =
     let head : x ≡ y = cc in let tails : i ++ (after ++ comment) ≡ j ++ (after' ++ comment') = cc in
@@ -64,10 +67,13 @@ parts_of bytes before item after comment h = h.whole ∙ regroup
     regroup : ((before ++ item) ++ after) ++ comment ≡ before ++ (item ++ (after ++ comment))
     regroup = simp append_assoc
 
-pub one_item : (bytes : List ℕ) (start stop start' stop' : ℕ) → IsItemAt bytes start stop → IsItemAt bytes start' stop' → (start ≡ start') × (slice_range bytes start stop ≡ slice_range bytes start' stop')
+pub one_item : (bytes : List ℕ) (start stop start' stop' : ℕ) → IsItemAt bytes start stop → IsItemAt bytes start' stop'
+    → (start ≡ start') × (slice_range bytes start stop ≡ slice_range bytes start' stop')
 one_item bytes start stop start' stop' p q =
-    let fronts = same_front (take start bytes) (take start' bytes) (slice_range bytes start stop ++ (p.after ++ p.comment)) (slice_range bytes start' stop' ++ (q.after ++ q.comment))
-    p.item.blanks_before q.item.blanks_before (sym (parts_of bytes (take start bytes) (slice_range bytes start stop) p.after p.comment p.item) ∙ parts_of bytes (take start' bytes) (slice_range bytes start' stop') q.after q.comment q.item)
+    let fronts = same_front (take start bytes) (take start' bytes) (slice_range bytes start stop ++ (p.after ++ p.comment))
+    (slice_range bytes start' stop' ++ (q.after ++ q.comment))
+    p.item.blanks_before q.item.blanks_before (sym (parts_of bytes (take start bytes) (slice_range bytes start stop) p.after p.comment p.item)
+    ∙ parts_of bytes (take start' bytes) (slice_range bytes start' stop') q.after q.comment q.item)
     (begins_on (slice_range bytes start stop) (p.after ++ p.comment) p.item.some p.item.begins_bare)
     (begins_on (slice_range bytes start' stop') (q.after ++ q.comment) q.item.some q.item.begins_bare) in (
       sym (long_front bytes start stop p.order p.within) ∙ fronts.0 ∙ long_front bytes start' stop' q.order q.within,
@@ -76,7 +82,8 @@ one_item bytes start stop start' stop' p q =
     )
 
 -- a line that has an item doesn't end before it
-no_end : (before front item r rest : List ℕ) → Blanks before → Blanks front → 0 < length item → BeginsBare item → Bare item → (Nothing or Comment) rest → before ++ (item ++ r) ≡ front ++ rest → ⊥
+no_end : (before front item r rest : List ℕ) → Blanks before → Blanks front → 0 < length item → BeginsBare item → Bare item
+    → (Nothing or Comment) rest → before ++ (item ++ r) ≡ front ++ rest → ⊥
 no_end [] front [] r rest p q some u bare k e = omega arith
 no_end [] [] (x ∷ item) r rest p q some u bare (inl none) e = let no : x ∷ (item ++ r) ≡ [] = e ∙ none in cc
 no_end [] [] (x ∷ item) r rest p q some u bare (inr (text, is)) e = bare.0 (ap (λ (l : List ℕ). get_or l 0 0) (e ∙ is))
@@ -93,4 +100,5 @@ no_end (x ∷ before) (y ∷ front) item r rest p q some u bare k e =
 
 pub item_no_end : (bytes : List ℕ) (start stop : ℕ) → IsItemAt bytes start stop → LineEnd bytes → ⊥
 item_no_end bytes start stop p (front, rest, e, blanks, k) =
-    no_end (take start bytes) front (slice_range bytes start stop) (p.after ++ p.comment) rest p.item.blanks_before blanks p.item.some p.item.begins_bare p.item.no_comment k (sym (parts_of bytes (take start bytes) (slice_range bytes start stop) p.after p.comment p.item) ∙ e)
+    no_end (take start bytes) front (slice_range bytes start stop) (p.after ++ p.comment) rest p.item.blanks_before blanks p.item.some
+    p.item.begins_bare p.item.no_comment k (sym (parts_of bytes (take start bytes) (slice_range bytes start stop) p.after p.comment p.item) ∙ e)

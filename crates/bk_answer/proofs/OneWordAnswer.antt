@@ -9,7 +9,6 @@ use Rattle.bk_word.specs.Outline.{Outline, start as start_outline}
 use Rattle.bk_word.specs.Play.{AreLegalFrom, IsComplete, IsLegal, after_move, outline_of}
 use Rattle.bk_word.specs.Word.{Move, Word, order_of}
 use Rattle.bk_word.specs.WordText.{IsNoWordText, IsTextOf}
-use Rattle.bk_word.specs.declared.TheConstants.{LARGEST_ORDER}
 use Rattle.bk_word.proofs.WordsRead.{one_word}
 use Rattle.bk_lay.specs.TilingWord.{IsWordOf}
 use Rattle.bk_skel.specs.SolveRefusal.{IsFirstIllegal}
@@ -17,8 +16,8 @@ use Rattle.bk_word_net.specs.Realised.{IsTilingOf}
 use Rattle.bk_report.specs.Answers.{tiling_line}
 use Rattle.bk_report.specs.Refusals.{refusal_line}
 use Rattle.bk_report.specs.declared.refusal.Refused.TheVariants.{Illegal, Text}
-use Rattle.bk_answer.specs.WordAnswer.{AnswersWord, AnswersWordLine, HasText, HasWord, illegal, large_word, no_tiling, no_word, no_word_item, of_word, realised, unfinished, wide_word, word_too_long}
-use Rattle.bk_answer.specs.declared.answer.TheConstants.{LONGEST_LINE}
+use Rattle.bk_answer.specs.WordAnswer.{AnswersWord, AnswersWordLine, HasText, HasWord, illegal, large_word, no_tiling, no_word, no_word_item}
+use Rattle.bk_answer.specs.WordAnswer.{of_word, realised, unfinished, wide_word, word_too_long}
 use Rattle.bk_answer.proofs.OneItem.{item_no_end, one_item}
 
 -- the first moves of a legal word are legal
@@ -46,7 +45,8 @@ one_place w p q a b = cases (cases_lt p q) (cases_lt q p)
     cases (inr h) (inr k) = omega arith
 
 -- a word has one answer
-one_of_word : (w : Word) (pieces others : List (List ℕ)) (refused other : Bool) → AnswersWord w pieces refused → AnswersWord w others other → (pieces ≡ others) × (refused ≡ other)
+one_of_word : (w : Word) (pieces others : List (List ℕ)) (refused other : Bool) → AnswersWord w pieces refused → AnswersWord w others other
+    → (pieces ≡ others) × (refused ≡ other)
 one_of_word w pieces others refused other (illegal a p) (illegal b q) = (ap (λ (n : ℕ). refusal_line (Illegal n) ∷ []) (one_place w a b p q), refl)
 one_of_word w pieces others refused other (illegal a p) (unfinished l m) = absurd (not_illegal w a l p)
 one_of_word w pieces others refused other (illegal a p) (wide_word c v) = absurd (not_illegal w a c.legal p)
@@ -71,7 +71,8 @@ one_of_word w pieces others refused other (realised t c v i) (illegal b q) = abs
 one_of_word w pieces others refused other (realised t c v i) (unfinished l m) = absurd (omega (arith, c.one))
 one_of_word w pieces others refused other (realised t c v i) (wide_word d u) = absurd (v u)
 one_of_word w pieces others refused other (realised t c v i) (no_tiling d u n) = absurd (n t i.tiling i.word)
-one_of_word w pieces others refused other (realised t c v i) (realised s d u j) = (ap (λ (z : Tiling). tiling_line z ∷ []) (j.only t i.tiling i.primitive i.word), refl)
+one_of_word w pieces others refused other (realised t c v i) (realised s d u j) =
+    (ap (λ (z : Tiling). tiling_line z ∷ []) (j.only t i.tiling i.primitive i.word), refl)
 
 -- a line has one item
 one_text : (bytes : List ℕ) (m n : ℕ) (s t : List ℕ) → HasText bytes m s → HasText bytes n t → (m ≡ n) × (s ≡ t)
@@ -94,14 +95,16 @@ places_same bytes m n a b s t p q l k =
 no_such_word : (bytes : List ℕ) (m n a : ℕ) (s t : List ℕ) (w : Word) → HasText bytes m s → HasText bytes n t → IsNoWordText s a → IsTextOf t w → ⊥
 no_such_word bytes m n a s t w p q l is = l.0 (w, same_text bytes n m t s w q p is)
 
-pub one_word_answer : (bytes : List ℕ) (pieces others : List (List ℕ)) (refused other : Bool) → AnswersWordLine bytes pieces refused → AnswersWordLine bytes others other → (pieces ≡ others) × (refused ≡ other)
+pub one_word_answer : (bytes : List ℕ) (pieces others : List (List ℕ)) (refused other : Bool) → AnswersWordLine bytes pieces refused
+    → AnswersWordLine bytes others other → (pieces ≡ others) × (refused ≡ other)
 one_word_answer bytes pieces others refused other (word_too_long l) (word_too_long m) = (refl, refl)
 one_word_answer bytes pieces others refused other (word_too_long l) (no_word n b t q k) = absurd (omega (arith, q.short))
 one_word_answer bytes pieces others refused other (word_too_long l) (large_word n t w q i m) = absurd (omega (arith, q.short))
 one_word_answer bytes pieces others refused other (word_too_long l) (no_word_item s q) = absurd (omega arith)
 one_word_answer bytes pieces others refused other (word_too_long l) (of_word w _ _ q a) = absurd (omega (arith, q.item.short))
 one_word_answer bytes pieces others refused other (no_word m a s p l) (word_too_long k) = absurd (omega (arith, p.short))
-one_word_answer bytes pieces others refused other (no_word m a s p l) (no_word n b t q k) = (ap (λ (z : ℕ). refusal_line (Text z) ∷ []) (places_same bytes m n a b s t p q l k), refl)
+one_word_answer bytes pieces others refused other (no_word m a s p l) (no_word n b t q k) =
+    (ap (λ (z : ℕ). refusal_line (Text z) ∷ []) (places_same bytes m n a b s t p q l k), refl)
 one_word_answer bytes pieces others refused other (no_word m a s p l) (large_word n t w q i k) = absurd (no_such_word bytes m n a s t w p q l i)
 one_word_answer bytes pieces others refused other (no_word m a s p l) (no_word_item k q) = absurd (item_no_end bytes m p.stop p.item q)
 one_word_answer bytes pieces others refused other (no_word m a s p l) (of_word w _ _ q b) = absurd (no_such_word bytes m q.start a s q.text w p q.item l q.word)
@@ -122,10 +125,11 @@ one_word_answer bytes pieces others refused other (of_word v _ _ p a) (large_wor
     absurd (omega (arith, ap order_of (words_same bytes n p.start t p.text w v q p.item j p.word), p.few))
 one_word_answer bytes pieces others refused other (of_word v _ _ p a) (no_word_item k q) = absurd (item_no_end bytes p.start p.item.stop p.item.item q)
 one_word_answer bytes pieces others refused other (of_word v _ _ p a) (of_word w _ _ q b) =
-    one_of_word w pieces others refused other (subst (λ (z : Word). AnswersWord z pieces refused) (words_same bytes p.start q.start p.text q.text v w p.item q.item p.word q.word) a) b
+    one_of_word w pieces others refused other
+    (subst (λ (z : Word). AnswersWord z pieces refused) (words_same bytes p.start q.start p.text q.text v w p.item q.item p.word q.word) a) b
 
 -- a line that is too long is answered so, whatever it holds
-pub long_word_answer : (bytes others : List ℕ) (pieces : List (List ℕ)) (refused : Bool) → LONGEST_LINE < length bytes → LONGEST_LINE < length others
+pub long_word_answer : (bytes others : List ℕ) (pieces : List (List ℕ)) (refused : Bool) → 8192 < length bytes → 8192 < length others
     → AnswersWordLine bytes pieces refused → AnswersWordLine others pieces refused
 long_word_answer bytes others pieces refused long longer (word_too_long l) = word_too_long longer
 long_word_answer bytes others pieces refused long longer (no_word m a s p l) = absurd (omega (arith, p.short))

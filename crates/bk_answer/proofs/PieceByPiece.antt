@@ -45,7 +45,8 @@ pub written_all : (pieces : List (List ℕ)) (k : ℕ) (a b : Option (List ℕ))
 written_all pieces k a b all done = subst (λ (l : List (List ℕ)). Appends a b (concat l)) (take_all k pieces all) done
 
 -- a write that fails after writes that did not is the cause of the fault
-pub failed_later : {T E : Type 0} (before between now : ℕ) (x y : E) → between ≡ before → HasCause {T = T} {E = E} between now (Err x) → HasCause {T = T} {E = E} before now (Err y)
+pub failed_later : {T E : Type 0} (before between now : ℕ) (x y : E) → between ≡ before → HasCause {T = T} {E = E} between now (Err x)
+    → HasCause {T = T} {E = E} before now (Err y)
 failed_later before between now x y e cause = record {
   later = subst (λ (n : ℕ). n ≤ now) e cause.later;
   ok = tt;

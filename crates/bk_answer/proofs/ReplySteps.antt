@@ -12,7 +12,6 @@ use Rattle.bk_tiling.specs.Tiling.{Tiling}
 use Rattle.bk_report.specs.Refusals.{refusal_line}
 use Rattle.bk_report.specs.declared.refusal.Refused.{Refused}
 use Rattle.bk_report.specs.declared.refusal.Refused.TheVariants.{Large, Long, Text}
-use Rattle.bk_answer.specs.declared.answer.TheConstants.{LONGEST_LINE}
 use Rattle.bk_answer.specs.declared.command.Command.{Command}
 use Rattle.bk_answer.specs.declared.command.Command.TheVariants.{Flow, OfCodes, Solve}
 use Rattle.bk_answer.specs.WordAnswer.{word_too_long}
@@ -26,7 +25,8 @@ use Rattle.bk_answer.specs.Refusing.{too_long}
 use Rattle.bk_answer.specs.declared.command.CodeCommand.{CodeCommand}
 
 -- an answer of one kind is one of another
-module _ (A B : List (List ℕ) → Bool → Type 0) (V W : Type 0) (more : (pieces : List (List ℕ)) (refused : Bool) → A pieces refused → B pieces refused) (wants : V → W) (a b : Option (List ℕ)) where
+module _ (A B : List (List ℕ) → Bool → Type 0) (V W : Type 0) (more : (pieces : List (List ℕ)) (refused : Bool) → A pieces refused → B pieces refused)
+    (wants : V → W) (a b : Option (List ℕ)) where
   written_more : (refused : Bool) → IsWritten A a b refused → IsWritten B a b refused
   written_more refused w = record { pieces = w.pieces; answer = more w.pieces refused w.answer; written = w.written }
 
@@ -40,14 +40,17 @@ module _ (A B : List (List ℕ) → Bool → Type 0) (V W : Type 0) (more : (pie
   replies_more (Err f) h = record { pieces = h.pieces; refused = h.refused; answer = more h.pieces h.refused h.answer; written = h.written }
 
 -- the line of a refusal was written
-pub refusal_replies : (A : List (List ℕ) → Bool → Type 0) (V : Type 0) (r : Refused) (a b : Option (List ℕ)) (result : Result Outcome Failed) → A (refusal_line r ∷ []) true
+pub refusal_replies : (A : List (List ℕ) → Bool → Type 0) (V : Type 0) (r : Refused) (a b : Option (List ℕ)) (result : Result Outcome Failed)
+    → A (refusal_line r ∷ []) true
     → IfOk result (λ o. (o ≡ outcomes.Refused) × Appends a b (refusal_line r)) → OnErr result (AppendsPrefix a b (refusal_line r)) → Replies A V a b result
 refusal_replies A V r a b (Ok o) h ok err = subst (HasOutcome A V a b) (sym ok.0) (writes_one A true (refusal_line r) a b h ok.1)
 refusal_replies A V r a b (Err f) h ok err = begins_one A true (refusal_line r) a b h err
 
 -- the same of a text that leaves its grammar, where the place is reckoned in two ways
-pub text_replies : (A : List (List ℕ) → Bool → Type 0) (V : Type 0) (n k reckoned : ℕ) (a b : Option (List ℕ)) (result : Result Outcome Failed) → k ≡ reckoned → A (refusal_line (Text (n + k)) ∷ []) true
-    → IfOk result (λ o. (o ≡ outcomes.Refused) × Appends a b (refusal_line (Text (n + reckoned)))) → OnErr result (AppendsPrefix a b (refusal_line (Text (n + reckoned)))) → Replies A V a b result
+pub text_replies : (A : List (List ℕ) → Bool → Type 0) (V : Type 0) (n k reckoned : ℕ) (a b : Option (List ℕ)) (result : Result Outcome Failed)
+    → k ≡ reckoned → A (refusal_line (Text (n + k)) ∷ []) true
+    → IfOk result (λ o. (o ≡ outcomes.Refused) × Appends a b (refusal_line (Text (n + reckoned))))
+    → OnErr result (AppendsPrefix a b (refusal_line (Text (n + reckoned)))) → Replies A V a b result
 text_replies A V n k reckoned a b result e h =
     refusal_replies A V (Text (n + reckoned)) a b result (subst (λ (m : ℕ). A (refusal_line (Text (n + m)) ∷ []) true) e h)
 
@@ -57,13 +60,14 @@ pub tells_tiling : (command : CodeCommand) (t : Tiling) (pieces : List (List ℕ
 tells_tiling command t pieces refused allowed (tells _ h) = (allowed, h)
 
 -- from the tiling of a line to the line
-pub line_answer : (command : CodeCommand) (bytes : List ℕ) (t : Tiling) (pieces : List (List ℕ)) (refused : Bool) → HasTiling bytes t → AnswersTiling command t pieces refused
+pub line_answer : (command : CodeCommand) (bytes : List ℕ) (t : Tiling) (pieces : List (List ℕ)) (refused : Bool) → HasTiling bytes t
+    → AnswersTiling command t pieces refused
     → AnswersCodeLine command bytes pieces refused
 line_answer command bytes t pieces true has (not, is) = subst (λ l. AnswersCodeLine command bytes l true) (sym is) (refuses Large (too_large t has not))
 line_answer command bytes t pieces false has (allowed, told) = answers t pieces has allowed told
 
 -- a line that is too long is refused for that, whatever is asked of it
-pub long_line : (command : Command) (bytes : List ℕ) → LONGEST_LINE < length bytes → AnswersLine command bytes (refusal_line Long ∷ []) true
+pub long_line : (command : Command) (bytes : List ℕ) → 8192 < length bytes → AnswersLine command bytes (refusal_line Long ∷ []) true
 long_line (OfCodes command) bytes long = refuses Long (any_command Long (too_long long))
 long_line Flow bytes long = net_too_long long
 long_line Solve bytes long = word_too_long long
@@ -72,10 +76,12 @@ pub from_err : {T E : Type 0} (P : E → Type 0) (r : Result T E) (x : E) → r 
 from_err P r x e = subst (λ s. IfErr s P) e
 
 -- what a reply says in the two cases of its result
-pub reply_outcome : (A : List (List ℕ) → Bool → Type 0) (V : Type 0) (a b : Option (List ℕ)) (r : Result Outcome Failed) → Replies A V a b r → IfOk r (HasOutcome A V a b)
+pub reply_outcome : (A : List (List ℕ) → Bool → Type 0) (V : Type 0) (a b : Option (List ℕ)) (r : Result Outcome Failed) → Replies A V a b r
+    → IfOk r (HasOutcome A V a b)
 reply_outcome A V a b (Ok o) h = h
 reply_outcome A V a b (Err f) h = tt
 
-pub reply_begun : (A : List (List ℕ) → Bool → Type 0) (V : Type 0) (a b : Option (List ℕ)) (r : Result Outcome Failed) → Replies A V a b r → OnErr r (IsBegun A a b)
+pub reply_begun : (A : List (List ℕ) → Bool → Type 0) (V : Type 0) (a b : Option (List ℕ)) (r : Result Outcome Failed) → Replies A V a b r
+    → OnErr r (IsBegun A a b)
 reply_begun A V a b (Ok o) h = tt
 reply_begun A V a b (Err f) h = h

@@ -9,7 +9,6 @@ use Rattle.bk_lines.proofs.Pieces.{begins_one, writes_one}
 use Rattle.bk_lines.specs.declared.Outcome.{Outcome}
 use Rattle.bk_lines.specs.declared.Outcome.TheVariants.{NoMemory}
 use Rattle.bk_tiling.specs.Tiling.{Tiling, order}
-use Rattle.bk_word.specs.declared.TheConstants.{INLINE_ORDER}
 use Rattle.bk_answer.specs.Replies.{Replies, accepted_if}
 use Rattle.bk_answer.specs.Telling.{IsAnswerTo, Tells, tells}
 use Rattle.bk_answer.specs.declared.command.CodeCommand.{CodeCommand}
@@ -20,7 +19,8 @@ by_command command this t pieces e = subst (λ (c : CodeCommand). IsAnswerTo c t
 
 -- one piece is written
 module _ {T : Type 0} (A : List (List ℕ) → Bool → Type 0) (V : Type 0) (a b : Option (List ℕ)) where
-  one_written : (line piece : List ℕ) (w : Result T Failed) → A (line ∷ []) false → piece ≡ line → OnOk w (Appends a b piece) → OnErr w (AppendsPrefix a b piece)
+  one_written : (line piece : List ℕ) (w : Result T Failed) → A (line ∷ []) false → piece ≡ line → OnOk w (Appends a b piece)
+      → OnErr w (AppendsPrefix a b piece)
       → Replies A V a b (accepted_if w)
   one_written line piece (Ok x) an e ok err = writes_one A false line a b an (subst (λ (l : List ℕ). Appends a b l) e ok)
   one_written line piece (Err x) an e ok err = begins_one A false line a b an (subst (λ (l : List ℕ). AppendsPrefix a b l) e err)
@@ -31,17 +31,20 @@ module _ {T : Type 0} (A : List (List ℕ) → Bool → Type 0) (V : Type 0) (a 
 
 module _ {T : Type 0} (command : CodeCommand) (t : Tiling) (V : Type 0) (a b : Option (List ℕ)) where
   -- one piece is told
-  pub piece_told : (line piece : List ℕ) (w : Result T Failed) (r : Result Outcome Failed) → IsAnswerTo command t (line ∷ []) → piece ≡ line → OnOk w (Appends a b piece)
+  pub piece_told : (line piece : List ℕ) (w : Result T Failed) (r : Result Outcome Failed) → IsAnswerTo command t (line ∷ []) → piece ≡ line
+      → OnOk w (Appends a b piece)
       → OnErr w (AppendsPrefix a b piece) → r ≡ accepted_if w → Replies (Tells command t) V a b r
   piece_told line piece w r an = piece_replies (Tells command t) V a b line piece w r (tells (line ∷ []) an)
 
   -- these pieces are told
-  all_told : (pieces : List (List ℕ)) (w : Result T Failed) → IsAnswerTo command t pieces → OnOk w (Appends a b (concat pieces)) → OnErr w (AppendsPrefix a b (concat pieces))
+  all_told : (pieces : List (List ℕ)) (w : Result T Failed) → IsAnswerTo command t pieces → OnOk w (Appends a b (concat pieces))
+      → OnErr w (AppendsPrefix a b (concat pieces))
       → Replies (Tells command t) V a b (accepted_if w)
   all_told pieces (Ok x) an ok err = record { pieces = pieces; answer = tells pieces an; written = ok }
   all_told pieces (Err x) an ok err = record { pieces = pieces; refused = false; answer = tells pieces an; written = err }
 
-  pub pieces_told : (pieces : List (List ℕ)) (w : Result T Failed) (r : Result Outcome Failed) → IsAnswerTo command t pieces → OnOk w (Appends a b (concat pieces))
+  pub pieces_told : (pieces : List (List ℕ)) (w : Result T Failed) (r : Result Outcome Failed) → IsAnswerTo command t pieces
+      → OnOk w (Appends a b (concat pieces))
       → OnErr w (AppendsPrefix a b (concat pieces)) → r ≡ accepted_if w → Replies (Tells command t) V a b r
   pieces_told pieces w r an ok err is = subst (Replies (Tells command t) V a b) (sym is) (all_told pieces w an ok err)
 
@@ -67,10 +70,11 @@ not_err (Ok y) x e ok = cc
 not_err (Err y) x e ok = let no : false ≡ true = ok in cc
 
 -- memory was wanting, which it may past 16 squares
-pub wants : {T E : Type 0} (A : List (List ℕ) → Bool → Type 0) (t : Tiling) (r : Result T E) (x : E) (a : Option (List ℕ)) → r ≡ Err x → (order t ≤ INLINE_ORDER → IsOk r)
-    → Replies A (INLINE_ORDER < order t) a a (Ok NoMemory)
-wants A t r x a e inline = record { cause = by (two (order t) INLINE_ORDER); kept = kept a }
+pub wants : {T E : Type 0} (A : List (List ℕ) → Bool → Type 0) (t : Tiling) (r : Result T E) (x : E) (a : Option (List ℕ)) → r ≡ Err x
+    → (order t ≤ 16 → IsOk r)
+    → Replies A (16 < order t) a a (Ok NoMemory)
+wants A t r x a e inline = record { cause = by (two (order t) 16); kept = kept a }
   where
-    by : (order t ≤ INLINE_ORDER) ⊎ (INLINE_ORDER < order t) → INLINE_ORDER < order t
+    by : (order t ≤ 16) ⊎ (16 < order t) → 16 < order t
     by (inl h) = absurd (not_err r x e (inline h))
     by (inr h) = h

@@ -1,10 +1,11 @@
 -- What the definition of an answer comes to. Statements alone; they are proved apart.
-use Rattle.std.specs.Prelude.{Bool, List, codes, ℕ, ◌++◌, ◌↔◌, ◌≡◌}
+use Rattle.std.specs.Prelude.{Bool, List, codes, ℕ, ◌↔◌, ◌≡◌}
 use Rattle.std.specs.List.{concat}
 use Rattle.bk_tiling.specs.Tiling.{Tiling}
 use Rattle.bk_lines.specs.Lines.{kept_front}
 use Rattle.bk_text.specs.CodeLine.{Line}
 use Rattle.bk_answer.specs.Answer.{AnswersLine}
+use Rattle.bk_answer.specs.Checked.{BeginsWith}
 use Rattle.bk_answer.specs.Item.{HasItem, IsStatedBy}
 use Rattle.bk_answer.specs.declared.command.Command.{Command}
 use Rattle.bk_answer.specs.declared.command.CodeCommand.TheVariants.{Check}
@@ -19,10 +20,6 @@ ALineHasOneAnswer = (command : Command) (bytes : List ℕ) (pieces others : List
 abbrev pub AFrontHasTheAnswer : Type 0
 AFrontHasTheAnswer = (command : Command) (bytes : List ℕ) (pieces : List (List ℕ)) (refused : Bool)
     → AnswersLine command (kept_front bytes) pieces refused ↔ AnswersLine command bytes pieces refused
-
--- the text begins so
-abbrev pub BeginsWith : List ℕ → List ℕ → Type 0
-BeginsWith front text = (rest : List ℕ) × (text ≡ front ++ rest)
 
 -- check accepts a code exactly when its squares tile the stated rectangle in code order: its answer begins with 'ok'
 -- where some tiling has the code, the order and the size that the line states, and only there

@@ -1,11 +1,9 @@
 -- What the item of a line states, and the tilings that it speaks of.
-use Rattle.std.specs.Prelude.{IfSome, List, None, Option, Some, length, ℕ, ◌≡◌, ◌≤◌}
+use Rattle.std.specs.Prelude.{Bool, IfSome, List, None, Option, Some, false, length, true, ℕ, ◌≡◌, ◌≤◌}
 use Rattle.bk_tiling.specs.Tiling.{Tiling, order}
-use Rattle.bk_tiling.specs.declared.TheConstants.{MOST_SQUARES}
 use Rattle.bk_profile.specs.Refused.{HasCode, HasFlat}
 use Rattle.bk_text.specs.CodeLine.{Flat, IsLine, Item, Line, Skip}
 use Rattle.bk_text.specs.ReadLine.{sides_of_line}
-use Rattle.bk_answer.specs.declared.answer.TheConstants.{LONGEST_LINE}
 
 -- the number of sides
 abbrev pub order_of : Line → ℕ
@@ -13,9 +11,9 @@ order_of item = length (sides_of_line item)
 
 -- the bytes are a line that is not too long, and stand for an item of not too many sides
 pub record HasItem (bytes : List ℕ) (item : Line) : Type 0 where
-  pub short : length bytes ≤ LONGEST_LINE
+  pub short : length bytes ≤ 8192
   pub meaning : IsLine item bytes
-  pub few : order_of item ≤ MOST_SQUARES
+  pub few : order_of item ≤ 200
 
 -- the item allows this order: it states no other
 abbrev pub AllowsOrder : Line → ℕ → Type 0
@@ -60,3 +58,8 @@ IsLaidItem item (Some t) = IsStatedBy item t
 abbrev pub IsLaidLine : List ℕ → Option Tiling → Type 0
 IsLaidLine bytes None = HasItem bytes Skip
 IsLaidLine bytes (Some t) = HasTiling bytes t
+
+-- the tiling, where there is one
+abbrev pub laid_if : Bool → Tiling → Option Tiling
+laid_if false t = None
+laid_if true t = Some t

@@ -6,5 +6,6 @@ pub mod NetAnswer
 pub mod WordAnswer
 pub mod Replies
 pub mod Answer
+pub mod Checked
 pub mod AnswerLaws
 pub mod EmptyLine

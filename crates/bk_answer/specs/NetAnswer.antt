@@ -9,12 +9,10 @@ use Rattle.bk_net.specs.declared.NetFault.{NetFault}
 use Rattle.bk_net.specs.declared.NetFault.TheVariants as fault
 use Rattle.bk_flow.specs.FlowNumbers.{FlowNumbers}
 use Rattle.bk_flow.specs.Wide.{IsWide}
-use Rattle.bk_flow.specs.declared.TheConstants.{SMALL}
 use Rattle.bk_report.specs.Answers.{flow_line}
 use Rattle.bk_report.specs.Refusals.{refusal_line}
 use Rattle.bk_report.specs.declared.refusal.Refused.{Refused}
 use Rattle.bk_report.specs.declared.refusal.Refused.TheVariants.{Long, Loose, Many, Nodes, Text, Wide, Wire}
-use Rattle.bk_answer.specs.declared.answer.TheConstants.{LONGEST_LINE}
 
 -- the answer to a net. The first cause counts
 pub data AnswersNet (net : Net) : List (List ℕ) → Bool → Type 0 where
@@ -28,7 +26,7 @@ pub data AnswersNet (net : Net) : List (List ℕ) → Bool → Type 0 where
 
 -- the bytes are a network line that is not too long, and stand for this
 pub record HasNetItem (bytes : List ℕ) (item : NetLine) : Type 0 where
-  pub short : length bytes ≤ LONGEST_LINE
+  pub short : length bytes ≤ 8192
   pub meaning : IsNetLine item bytes
 
 -- they stand for this net, which is not too large
@@ -46,9 +44,9 @@ refused_net (fault.Wire place) = Wire place
 -- the answer to a network line
 pub data AnswersNetLine (bytes : List ℕ) : List (List ℕ) → Bool → Type 0 where
   -- more than 8,192 bytes
-  net_too_long : LONGEST_LINE < length bytes → AnswersNetLine bytes (refusal_line Long ∷ []) true
+  net_too_long : 8192 < length bytes → AnswersNetLine bytes (refusal_line Long ∷ []) true
   -- no network line, or none of a net that is not too large
-  no_net : (cause : NetFault) → length bytes ≤ LONGEST_LINE → IsFaultOf cause bytes
+  no_net : (cause : NetFault) → length bytes ≤ 8192 → IsFaultOf cause bytes
       → AnswersNetLine bytes (refusal_line (refused_net cause) ∷ []) true
   -- a line without a net has no answer
   no_net_item : HasNetItem bytes Skip → AnswersNetLine bytes [] false
@@ -58,7 +56,7 @@ pub data AnswersNetLine (bytes : List ℕ) : List (List ℕ) → Bool → Type 0
 
 -- the nets at which memory may be wanting: those of more than 16 wires without a loose node
 abbrev pub NetWants : Net → Type 0
-NetWants net = HasNoLoose net × (SMALL < length net.wires)
+NetWants net = HasNoLoose net × (16 < length net.wires)
 
 -- the lines at which memory may be wanting
 abbrev pub MayWantForNet : List ℕ → Type 0

@@ -1,7 +1,6 @@
 -- Why a line of codes is refused.
 use Rattle.std.specs.Prelude.{List, length, ℕ, ◌<◌, ◌≤◌}
 use Rattle.bk_tiling.specs.Tiling.{Tiling}
-use Rattle.bk_tiling.specs.declared.TheConstants.{MOST_SQUARES}
 use Rattle.bk_profile.specs.Refused.{IsFlatRefused, IsRefused, first_sum}
 use Rattle.bk_profile.specs.declared.laying.Refusal.{Refusal}
 use Rattle.bk_profile.specs.declared.laying.Refusal.TheVariants.{Gap, Open}
@@ -11,7 +10,6 @@ use Rattle.bk_text.specs.declared.TextFault.{TextFault}
 use Rattle.bk_text.specs.declared.TextFault.TheVariants as fault
 use Rattle.bk_text.specs.CodeLine.{Flat, IsLine, IsNoLine, Item, Line, Skip}
 use Rattle.bk_answer.specs.Item.{AllowsOrder, AllowsSize, HasItem, IsLaidBy, order_of}
-use Rattle.bk_answer.specs.declared.answer.TheConstants.{LONGEST_LINE}
 
 -- laying the item gives no tiling: its groups are laid under the sum of the first one, and a flat list under the
 -- stated width
@@ -44,11 +42,11 @@ pub data IsItemRefused (item : Line) : Refused → Type 0 where
 -- why a line is refused. The first cause counts
 pub data IsLineRefused (bytes : List ℕ) : Refused → Type 0 where
   -- more than 8,192 bytes
-  too_long : LONGEST_LINE < length bytes → IsLineRefused bytes Long
+  too_long : 8192 < length bytes → IsLineRefused bytes Long
   -- outside the grammar
-  no_line : (at : ℕ) → length bytes ≤ LONGEST_LINE → IsNoLine bytes at → IsLineRefused bytes (Text at)
+  no_line : (at : ℕ) → length bytes ≤ 8192 → IsNoLine bytes at → IsLineRefused bytes (Text at)
   -- more than 200 sides
-  too_many : (item : Line) → length bytes ≤ LONGEST_LINE → IsLine item bytes → MOST_SQUARES < order_of item
+  too_many : (item : Line) → length bytes ≤ 8192 → IsLine item bytes → 200 < order_of item
       → IsLineRefused bytes Many
   -- its item is refused
   refused_item : (item : Line) (refused : Refused) → HasItem bytes item → IsItemRefused item refused

@@ -7,9 +7,7 @@ use Rattle.bk_sym.specs.Image.{image}
 use Rattle.bk_sym.specs.declared.Turn.{Turn}
 use Rattle.bk_sym.specs.declared.Turn.TheVariants.{FlipX, FlipY, Half, Same, Swap, SwapFlipX, SwapFlipY, SwapHalf}
 use Rattle.bk_draw.specs.Drawing.{drawing_row}
-use Rattle.bk_draw.specs.declared.TheConstants.{LARGEST_DRAWN}
 use Rattle.bk_word.specs.Word.{Word as Moves}
-use Rattle.bk_word.specs.declared.TheConstants.{INLINE_ORDER}
 use Rattle.bk_lay.specs.TilingWord.{IsWordOf}
 use Rattle.bk_report.specs.Answers.{IsCheckLine, dual_line, net_line, tiling_line}
 use Rattle.bk_report.specs.Listings.{word_line}
@@ -50,7 +48,7 @@ Allows Images t = Unit {0}
 Allows Net t = Unit {0}
 Allows Dual t = Unit {0}
 Allows Word t = Unit {0}
-Allows Draw t = (t.width ≤ LARGEST_DRAWN) × (t.height ≤ LARGEST_DRAWN)
+Allows Draw t = (t.width ≤ 400) × (t.height ≤ 400)
 
 -- the tilings at which memory may be wanting: none, but a word of more than 16 squares takes memory
 abbrev pub WantsMemory : CodeCommand → Tiling → Type 0
@@ -59,5 +57,5 @@ WantsMemory Canon t = ⊥
 WantsMemory Images t = ⊥
 WantsMemory Net t = ⊥
 WantsMemory Dual t = ⊥
-WantsMemory Word t = INLINE_ORDER < order t
+WantsMemory Word t = 16 < order t
 WantsMemory Draw t = ⊥

@@ -6,7 +6,6 @@ use Rattle.bk_word.specs.Play.{IsComplete, IsLegal, outline_of}
 use Rattle.bk_word.specs.Word.{Word, order_of}
 use Rattle.bk_word.specs.WordItem.{IsItemAt}
 use Rattle.bk_word.specs.WordText.{IsNoWordText, IsTextOf}
-use Rattle.bk_word.specs.declared.TheConstants.{INLINE_ORDER, LARGEST_ORDER}
 use Rattle.bk_lay.specs.TilingWord.{IsWordOf}
 use Rattle.bk_skel.specs.SolveRefusal.{IsFirstIllegal}
 use Rattle.bk_word_net.specs.Realised.{IsTilingOf}
@@ -14,7 +13,6 @@ use Rattle.bk_word_net.specs.WideWord.{IsWideWord}
 use Rattle.bk_report.specs.Answers.{tiling_line}
 use Rattle.bk_report.specs.Refusals.{refusal_line}
 use Rattle.bk_report.specs.declared.refusal.Refused.TheVariants.{Illegal, Long, Many, Nothing, Text, Unfinished, Wide}
-use Rattle.bk_answer.specs.declared.answer.TheConstants.{LONGEST_LINE}
 
 -- the answer to a word. The first cause counts
 pub data AnswersWord (w : Word) : List (List ℕ) → Bool → Type 0 where
@@ -32,7 +30,7 @@ pub data AnswersWord (w : Word) : List (List ℕ) → Bool → Type 0 where
 
 -- the bytes are a line that is not too long, and this text is its item, behind so many bytes
 pub record HasText (bytes : List ℕ) (start : ℕ) (text : List ℕ) : Type 0 where
-  pub short : length bytes ≤ LONGEST_LINE
+  pub short : length bytes ≤ 8192
   pub stop : ℕ
   pub item : IsItemAt bytes start stop
   pub text_is : text ≡ slice_range bytes start stop
@@ -43,24 +41,24 @@ pub record HasWord (bytes : List ℕ) (w : Word) : Type 0 where
   pub text : List ℕ
   pub item : HasText bytes start text
   pub word : IsTextOf text w
-  pub few : order_of w ≤ LARGEST_ORDER
+  pub few : order_of w ≤ 200
 
 -- the answer to a word line
 pub data AnswersWordLine (bytes : List ℕ) : List (List ℕ) → Bool → Type 0 where
   -- more than 8,192 bytes
-  word_too_long : LONGEST_LINE < length bytes → AnswersWordLine bytes (refusal_line Long ∷ []) true
+  word_too_long : 8192 < length bytes → AnswersWordLine bytes (refusal_line Long ∷ []) true
   -- the item is no text of a word, and leaves the grammar behind so many bytes of the line
   no_word : (start at : ℕ) (text : List ℕ) → HasText bytes start text → IsNoWordText text at
       → AnswersWordLine bytes (refusal_line (Text (start + at)) ∷ []) true
   -- a word of more than 200 squares
   large_word : (start : ℕ) (text : List ℕ) (w : Word) → HasText bytes start text → IsTextOf text w
-      → LARGEST_ORDER < order_of w → AnswersWordLine bytes (refusal_line Many ∷ []) true
+      → 200 < order_of w → AnswersWordLine bytes (refusal_line Many ∷ []) true
   -- a line without an item has no answer
-  no_word_item : length bytes ≤ LONGEST_LINE → LineEnd bytes → AnswersWordLine bytes [] false
+  no_word_item : length bytes ≤ 8192 → LineEnd bytes → AnswersWordLine bytes [] false
   -- a word
   of_word : (w : Word) (pieces : List (List ℕ)) (refused : Bool) → HasWord bytes w → AnswersWord w pieces refused
       → AnswersWordLine bytes pieces refused
 
 -- the lines at which memory may be wanting: those of words of more than 16 squares
 abbrev pub MayWantForWord : List ℕ → Type 0
-MayWantForWord bytes = (w : Word) × HasWord bytes w × (INLINE_ORDER < order_of w)
+MayWantForWord bytes = (w : Word) × HasWord bytes w × (16 < order_of w)

@@ -11,7 +11,7 @@ ghost use Rattle.bk_answer.specs.Telling.{WantsMemory};
 
 use crate::command::{CodeCommand, Command};
 use crate::flow::answer_net_line;
-use crate::items::lay_line;
+use crate::items::{Desk, lay_at};
 use crate::solve::answer_word_line;
 use arrayvec::ArrayVec;
 use bk_lines::{Answerer, Outcome};
@@ -39,9 +39,16 @@ impl Answerer for LineAnswerer {
 
     ghost may_want = { λ a. MayWant a.command };
 
+    type Desk = Desk;
+
+    fn desk(&self) -> Desk {
+        Desk::new()
+    }
+
     fn answer<O: Sink>(
         &self,
         line: &[u8],
+        desk: &mut Desk,
         buffer: &mut ArrayVec<u8, 9000>,
         out: &mut O,
     ) -> Result<Outcome, Failed> {
@@ -49,7 +56,7 @@ impl Answerer for LineAnswerer {
             return refuse(Refused::Long, buffer, out);
         }
         match self.command {
-            Command::OfCodes(command) => command.answer_line(self.alloc, line, buffer, out),
+            Command::OfCodes(command) => command.answer_line(self.alloc, line, desk, buffer, out),
             Command::Flow => answer_net_line(self.alloc, line, buffer, out),
             Command::Solve => answer_word_line(self.alloc, line, buffer, out),
         }
@@ -66,19 +73,22 @@ impl CodeCommand {
         self,
         alloc: Global,
         line: &[u8],
+        desk: &mut Desk,
         buffer: &mut ArrayVec<u8, 9000>,
         out: &mut O,
     ) -> Result<Outcome, Failed>
         ensures reply { Replies (AnswersCodeLine self line.now) (MayWantForCode self line.now) (O.written out.old) (O.written out.new) result }
         ensures cause { HasCause (O.faults out.old) (O.faults out.new) result }
     {
-        let laid = lay_line(line);
-        match &laid {
-            Ok(item) => match item {
-                Some(tiling) => self.answer_tiling(alloc, tiling, buffer, out),
-                None => Ok(Outcome::Accepted),
-            },
-            Err(refused) => refuse(*refused, buffer, out),
+        match lay_at(line, desk) {
+            Ok(some) => {
+                if some {
+                    self.answer_tiling(alloc, &desk.tiling, buffer, out)
+                } else {
+                    Ok(Outcome::Accepted)
+                }
+            }
+            Err(refused) => refuse(refused, buffer, out),
         }
     }
 

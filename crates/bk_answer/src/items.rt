@@ -1,18 +1,38 @@
 //! The tiling that a line of codes speaks of.
 
-ghost use Rattle.std.specs.Prelude.{IfErr, IfOk, IfSome, IsSomeAnd, IsTrue, length, ◌<◌, ◌↔◌, ◌≡◌, ◌≤◌};
+ghost use Rattle.std.specs.Prelude.{IfErr, IfOk, IfSome, IsTrue, length, true, ◌<◌, ◌↔◌, ◌≡◌, ◌≤◌};
 ghost use Rattle.bk_text.specs.CodeLine.{Flat, Item};
 ghost use Rattle.bk_code.specs.Code.{flat};
-ghost use Rattle.bk_text.specs.ReadLine.{IsInRange, stands_for};
-ghost use Rattle.bk_answer.specs.Item.{IsLaidItem, IsLaidLine, IsSize, order_of};
+ghost use Rattle.bk_text.specs.Gathered.{line_gathered};
+ghost use Rattle.bk_text.specs.ReadLine.{IsInRange};
+ghost use Rattle.bk_answer.specs.Item.{IsLaidItem, IsLaidLine, IsSize, laid_if, order_of};
 ghost use Rattle.bk_answer.specs.Refusing.{IsItemRefused, IsLineRefused, refused_for, refused_text};
 
 use crate::answer::LONGEST_LINE;
 use bk_code::{Code, flat};
-use bk_profile::{Refusal, lay_code, lay_flat};
+use bk_profile::{Profile, Refusal, lay_code_in, lay_flat_in};
 use bk_report::Refused;
-use bk_text::{Line, TextFault, read_line};
+use bk_text::{Ending, Gatherer, TextFault, read_into};
 use bk_tiling::{MOST_SQUARES, Tiling};
+
+/// Room to read a line and to lay its squares, for one line after another: it holds anything before and after.
+#[derive(Drop)]
+pub struct Desk {
+    gatherer: Gatherer,
+    profile: Profile,
+    pub(crate) tiling: Tiling,
+}
+
+impl Desk {
+    /// A desk, which holds the square of one cell.
+    pub fn new() -> Desk {
+        Desk {
+            gatherer: Gatherer::new(),
+            profile: Profile::new(1),
+            tiling: Tiling::unit(),
+        }
+    }
+}
 
 /// The tiling that a line of codes speaks of, by Bouwkamp's notation (1946-47) or as a row of a table, or `None` where it has
 /// no item. It is refused exactly where no tiling has the code, the order and the size that it states, or it is no line of at
@@ -21,43 +41,66 @@ pub fn lay_line(line: &[u8]) -> Result<Option<Tiling>, Refused>
     ensures laid { IfOk result (IsLaidLine line.now) }
     ensures refused { IfErr result (IsLineRefused line.now) }
 {
+    let mut desk = Desk::new();
+    let some = lay_at(line, &mut desk)?;
+    let Desk {
+        gatherer: _,
+        profile: _,
+        tiling,
+    } = desk;
+    Ok(if some { Some(tiling) } else { None })
+}
+
+// Does what `lay_line` does at a desk: it says whether the line has an item, and leaves its tiling there.
+pub(crate) fn lay_at(line: &[u8], desk: &mut Desk) -> Result<bool, Refused>
+    ensures laid { IfOk result (λ some. IsLaidLine line.now (laid_if some desk.new.tiling)) }
+    ensures refused { IfErr result (IsLineRefused line.now) }
+{
     if line.len() > LONGEST_LINE {
         return Err(Refused::Long);
     }
-    let read = read_line(line);
-    match &read {
-        Ok(item) => lay_item(item),
+    match read_into(line, &mut desk.gatherer) {
+        Ok(ending) => lay_item(ending, desk),
         Err(fault) => Err(refused_text(fault)),
     }
 }
 
-// The tiling of an item.
-fn lay_item(item: &Line) -> Result<Option<Tiling>, Refused>
-    requires { IsInRange (stands_for item.now) }
-    ensures laid { IfOk result (IsLaidItem (stands_for item.now)) }
-    ensures refused { IfErr result (IsItemRefused (stands_for item.now)) }
-    ensures few { order_of (stands_for item.now) ≤ MOST_SQUARES }
+// Lays the item that was gathered at a desk.
+fn lay_item(ending: Ending, desk: &mut Desk) -> Result<bool, Refused>
+    requires { IsInRange (line_gathered ending desk.old.gatherer) }
+    ensures laid { IfOk result (λ some. IsLaidItem (line_gathered ending desk.old.gatherer) (laid_if some desk.new.tiling)) }
+    ensures refused { IfErr result (IsItemRefused (line_gathered ending desk.old.gatherer)) }
+    ensures few { order_of (line_gathered ending desk.old.gatherer) ≤ MOST_SQUARES }
 {
-    match item {
-        Line::Skip => Ok(None),
-        Line::Item { order, size, code } => lay_groups(*order, *size, code),
-        Line::Flat {
-            order,
-            width,
-            height,
-            sides,
-        } => lay_row(*order, (*width, *height), sides),
+    match ending {
+        Ending::Empty => Ok(false),
+        Ending::Coded(header) => lay_groups(
+            header.order,
+            header.size,
+            desk.gatherer.code(),
+            &mut desk.profile,
+            &mut desk.tiling,
+        ),
+        Ending::Row(table) => lay_row(
+            table.order,
+            (table.width, table.height),
+            desk.gatherer.sides(),
+            &mut desk.profile,
+            &mut desk.tiling,
+        ),
     }
 }
 
-// The tiling of a code, with the order and the size that are stated.
+// Lays a code, with the order and the size that are stated.
 fn lay_groups(
     order: Option<u64>,
     size: Option<(u64, u64)>,
     code: &Code,
-) -> Result<Option<Tiling>, Refused>
+    profile: &mut Profile,
+    tiling: &mut Tiling,
+) -> Result<bool, Refused>
     requires { 0 < length code.now }
-    ensures laid { IfOk result (IsLaidItem (Item order size code.now)) }
+    ensures laid { IfOk result (λ some. IsLaidItem (Item order size code.now) (laid_if some tiling.new)) }
     ensures refused { IfErr result (IsItemRefused (Item order size code.now)) }
     ensures few { length (flat code.now) ≤ MOST_SQUARES }
 {
@@ -65,45 +108,52 @@ fn lay_groups(
     if !allows_order(order, sides) {
         return Err(Refused::Order { sides });
     }
-    match lay_code(code) {
-        Ok(tiling) => of_size(size, tiling),
+    match lay_code_in(code, profile, tiling) {
+        Ok(()) => of_size(size, tiling),
         Err(refusal) => Err(refused_for(refusal)),
     }
 }
 
-// The tiling of a table row.
-fn lay_row(order: u64, size: (u64, u64), sides: &[u64]) -> Result<Option<Tiling>, Refused>
+// Lays a table row.
+fn lay_row(
+    order: u64,
+    size: (u64, u64),
+    sides: &[u64],
+    profile: &mut Profile,
+    tiling: &mut Tiling,
+) -> Result<bool, Refused>
     requires { IsInRange (Flat order size.0 size.1 sides.now) }
-    ensures laid { IfOk result (IsLaidItem (Flat order size.0 size.1 sides.now)) }
+    ensures laid { IfOk result (λ some. IsLaidItem (Flat order size.0 size.1 sides.now) (laid_if some tiling.new)) }
     ensures refused { IfErr result (IsItemRefused (Flat order size.0 size.1 sides.now)) }
 {
     if !allows_order(Some(order), sides.len()) {
         return Err(Refused::Order { sides: sides.len() });
     }
-    match lay_flat(size.0, sides) {
-        Ok(tiling) => of_size(Some(size), tiling),
+    match lay_flat_in(size.0, sides, profile, tiling) {
+        Ok(()) => of_size(Some(size), tiling),
         Err(refusal) => Err(refused_for(refusal)),
     }
 }
 
-// The tiling, where no other size is stated.
-fn of_size(size: Option<(u64, u64)>, tiling: Tiling) -> Result<Option<Tiling>, Refused>
-    ensures laid { IfOk result (λ laid. IsSomeAnd laid (λ t. (t ≡ tiling) × IsSize size t.width t.height)) }
-    ensures refused { IfErr result (λ r. (r ≡ Refused.Size tiling.width tiling.height) × (IsSize size tiling.width tiling.height → ⊥)) }
+// That there is a tiling, where no other size is stated.
+fn of_size(size: Option<(u64, u64)>, tiling: &Tiling) -> Result<bool, Refused>
+    ensures laid { IfOk result (λ some. (some ≡ true) × IsSize size tiling.now.width tiling.now.height) }
+    ensures refused { IfErr result (λ r. (r ≡ Refused.Size tiling.now.width tiling.now.height)
+        × (IsSize size tiling.now.width tiling.now.height → ⊥)) }
 {
     let (width, height) = (tiling.width(), tiling.height());
     if allows_size(size, width, height) {
-        Ok(Some(tiling))
+        Ok(true)
     } else {
         Err(Refused::Size { width, height })
     }
 }
 
 // What is answered to bytes that aren't read.
-fn refused_text(fault: &TextFault) -> Refused
-    ensures { result ≡ refused_text fault.now }
+fn refused_text(fault: TextFault) -> Refused
+    ensures { result ≡ refused_text fault }
 {
-    match *fault {
+    match fault {
         TextFault::Text { at } => Refused::Text { at },
         TextFault::Many => Refused::Many,
     }

@@ -12,7 +12,7 @@ mod solve;
 
 pub use answer::{LONGEST_LINE, LineAnswerer};
 pub use command::{CodeCommand, Command};
-pub use items::lay_line;
+pub use items::{Desk, lay_line};
 
 /// A line has at most one answer.
 pub fn a_line_has_one_answer()

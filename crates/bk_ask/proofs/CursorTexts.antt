@@ -26,7 +26,8 @@ pub record IsRead (text : List ℕ) (o : Option Word) : Type 0 where
   pub some : IfSome o (IsCursor text)
   pub none : IfNone o ((w : Word) → IsCursor text w → ⊥)
 
-pub cursor_read : (text : List ℕ) (order : ℕ) (r : Result Word WordFault) → HasOrder text order → order ≤ 16 → IfOk r (IsTextOf text) → IfErr r (λ fault. IsFaultOf fault text)
+pub cursor_read : (text : List ℕ) (order : ℕ) (r : Result Word WordFault) → HasOrder text order → order ≤ 16 → IfOk r (IsTextOf text)
+    → IfErr r (λ fault. IsFaultOf fault text)
     → IsRead text (result_ok r)
 cursor_read text order (Ok w) has few read fault = record { some = record { text = read; few = few_squares text order has few w read }; none = tt }
 cursor_read text order (Err f) has few read fault = absurd (no_fault text order has few f fault)

@@ -13,7 +13,8 @@ cut_one (x ∷ xs) a one is = rw (take_rest (x ∷ xs) 1) (ap (λ z. z ∷ xs) (
 abbrev pub later_words : List (String Global) → List (List ℕ)
 later_words words = map string_bytes (take (length words - 1) (drop 1 words))
 
-pub split_words : (words : List (String Global)) (command : String Global) (name : List ℕ) → 1 ≤ length words → command ≡ get_or words 0 command → name ≡ string_bytes command
+pub split_words : (words : List (String Global)) (command : String Global) (name : List ℕ) → 1 ≤ length words → command ≡ get_or words 0 command
+    → name ≡ string_bytes command
     → map string_bytes words ≡ name ∷ later_words words
 split_words words command name one is same = ap (map string_bytes) (cut_one words command one is) ∙ ap (λ (n : List ℕ). n ∷ later_words words) (sym same)
 

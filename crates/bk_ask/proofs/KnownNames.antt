@@ -13,7 +13,8 @@ no_text = record { ref_ptr = (0, 0); now = [] }
 abbrev pub texts_of : List (Bor (List ℕ)) → List (List ℕ)
 texts_of names = map (λ name. name.now) names
 
-pub found : (names : List (Bor (List ℕ))) (name : List ℕ) (k : ℕ) → k < length names → true ≡ bytes_eq (get_or names k no_text).now name → Contains (texts_of names) name
+pub found : (names : List (Bor (List ℕ))) (name : List ℕ) (k : ℕ) → k < length names → true ≡ bytes_eq (get_or names k no_text).now name
+    → Contains (texts_of names) name
 found names name k lt test =
     let same : (get_or names k no_text).now ≡ name = (bytes_eq-Decides (get_or names k no_text).now name).0 (sym test) in
     let lt' : k < length (texts_of names) = omega (arith, length-map names (λ name. name.now)) in

@@ -34,7 +34,8 @@ same_number bytes m n fits text r is parses =
     let read : r ≡ Ok n = parse-decimal 64 n bytes r fits fits text parses in
     cc
 
-pub no_number : {E : Type 0} (bytes : List ℕ) (n : ℕ) → n < 2 ^ 64 → bytes ≡ decimal n → (r : Result ℕ E) (fault : E) → r ≡ Err fault → ParsesUnsigned 64 10 bytes r → ⊥
+pub no_number : {E : Type 0} (bytes : List ℕ) (n : ℕ) → n < 2 ^ 64 → bytes ≡ decimal n → (r : Result ℕ E) (fault : E) → r ≡ Err fault
+    → ParsesUnsigned 64 10 bytes r → ⊥
 no_number bytes n fits text r fault is parses =
     let read : r ≡ Ok n = parse-decimal 64 n bytes r fits fits text parses in
     cc

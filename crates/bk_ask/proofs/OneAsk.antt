@@ -68,7 +68,8 @@ alone _ few = refl
 -- ---- what the options say
 
 listing_once : (words : List (List ℕ)) (order order' : ℕ) (class class' : Class) (from from' : Option Word) (limit limit' : Option ℕ)
-    → AsksListing words order class from limit → AsksListing words order' class' from' limit' → asks.List order class from limit ≡ asks.List order' class' from' limit'
+    → AsksListing words order class from limit → AsksListing words order' class' from' limit'
+    → asks.List order class from limit ≡ asks.List order' class' from' limit'
 listing_once words order order' class class' from from' limit limit' a b =
     let once : NamesDiffer (options_in words) = a.options.once in
     let orders : order ≡ order' =
@@ -78,14 +79,17 @@ listing_once words order order' class class' from from' limit limit' a b =
     let classes : class ≡ class' = a.has_class.is ∙ ap (λ (named : Option Class). or_else named Perfect) names ∙ sym b.has_class.is in
     let cursors : from ≡ from' = may_have_once (options_in words) (codes "--from") IsCursor one_cursor from from' once a.has_from b.has_from in
     let limits : limit ≡ limit' =
-    may_have_once (options_in words) (codes "--limit") (IsNumberWithin 0 1_000_000_000) (one_number 0 1_000_000_000 (lit< tt)) limit limit' once a.has_limit b.has_limit in
+    may_have_once (options_in words) (codes "--limit") (IsNumberWithin 0 1_000_000_000) (one_number 0 1_000_000_000 (lit< tt)) limit limit' once
+    a.has_limit b.has_limit in
     cc
 
-trial_once : (words : List (List ℕ)) (seed seed' count count' : ℕ) → AsksTrial words seed count → AsksTrial words seed' count' → asks.Trial seed count ≡ asks.Trial seed' count'
+trial_once : (words : List (List ℕ)) (seed seed' count count' : ℕ) → AsksTrial words seed count → AsksTrial words seed' count'
+    → asks.Trial seed count ≡ asks.Trial seed' count'
 trial_once words seed seed' count count' a b =
     let once : NamesDiffer (options_in words) = a.options.once in
     let seeds : seed ≡ seed' =
-    given_once (options_in words) (codes "--seed") (IsNumberWithin 0 18_446_744_073_709_551_615) (one_number 0 18_446_744_073_709_551_615 (lit< tt)) seed seed' once a.has_seed b.has_seed in
+    given_once (options_in words) (codes "--seed") (IsNumberWithin 0 18_446_744_073_709_551_615) (one_number 0 18_446_744_073_709_551_615 (lit< tt))
+    seed seed' once a.has_seed b.has_seed in
     let counts : count ≡ count' =
     given_once (options_in words) (codes "--count") (IsNumberWithin 0 100_000) (one_number 0 100_000 (lit< tt)) count count' once a.has_count b.has_count in
     cc
@@ -104,7 +108,8 @@ pair_once words kind kind' a b =
 -- what another ask says at the place of a command with options
 same_listing : (words : List (List ℕ)) (order : ℕ) (class : Class) (from : Option Word) (limit : Option ℕ) → AsksListing words order class from limit
     → (b : Ask) → 11 ≡ place b → OptionsSay words b → asks.List order class from limit ≡ b
-same_listing words order class from limit a (asks.List order' class' from' limit') at say = listing_once words order order' class class' from from' limit limit' a say
+same_listing words order class from limit a (asks.List order' class' from' limit') at say = listing_once words order order' class class' from from'
+    limit limit' a say
 same_listing words order class from limit a _ at say = absurd (omega arith)
 
 same_trial : (words : List (List ℕ)) (seed count : ℕ) → AsksTrial words seed count → (b : Ask) → 12 ≡ place b → OptionsSay words b → asks.Trial seed count ≡ b

@@ -31,7 +31,8 @@ not_both (p ∷ options) name value out has = elim (first_or_later p options (op
   | inr later ↦ not_both options name value out.1 later
 ]
 
-pub one_value : (options : List NamedValue) (name v w : List ℕ) → NamesDiffer options → Contains options (option_of name v) → Contains options (option_of name w) → v ≡ w
+pub one_value : (options : List NamedValue) (name v w : List ℕ) → NamesDiffer options → Contains options (option_of name v)
+    → Contains options (option_of name w) → v ≡ w
 one_value [] name v w once a b = absurd (none_stands (option_of name v) a)
 one_value (p ∷ options) name v w once a b = elim (first_or_later p options (option_of name v) a) [
   | inl one ↦ elim (first_or_later p options (option_of name w) b) [
@@ -49,7 +50,8 @@ abbrev pub MeansOneThing : {A : Type 0} → (List ℕ → A → Type 0) → Type
 MeansOneThing {A} Means = (bytes : List ℕ) (a b : A) → Means bytes a → Means bytes b → a ≡ b
 
 -- what an option says where its value is known
-pub means_of : {A : Type 0} (options : List NamedValue) (name value : List ℕ) (Means : List ℕ → A → Type 0) (a : A) → NamesDiffer options → Contains options (option_of name value)
+pub means_of : {A : Type 0} (options : List NamedValue) (name value : List ℕ) (Means : List ℕ → A → Type 0) (a : A) → NamesDiffer options
+    → Contains options (option_of name value)
     → Given options name Means a → Means value a
 means_of options name value Means a once has given =
     subst (λ (v : List ℕ). Means v a) (one_value options name given.value value once given.stands has) given.means
@@ -59,7 +61,8 @@ pub given_once : {A : Type 0} (options : List NamedValue) (name : List ℕ) (Mea
 given_once options name Means one a b once first second =
     one first.value a b first.means (means_of options name first.value Means b once first.stands second)
 
-pub may_have_once : {A : Type 0} (options : List NamedValue) (name : List ℕ) (Means : List ℕ → A → Type 0) → MeansOneThing Means → (a b : Option A) → NamesDiffer options
+pub may_have_once : {A : Type 0} (options : List NamedValue) (name : List ℕ) (Means : List ℕ → A → Type 0) → MeansOneThing Means → (a b : Option A)
+    → NamesDiffer options
     → MayHave options name Means a → MayHave options name Means b → a ≡ b
 may_have_once options name Means one None None once first second = refl
 may_have_once options name Means one None (Some b) once first second = absurd (not_both options name second.value first second.stands)
@@ -67,12 +70,14 @@ may_have_once options name Means one (Some a) None once first second = absurd (n
 may_have_once options name Means one (Some a) (Some b) once first second = ap Some (given_once options name Means one a b once first second)
 
 -- where the value is known and has no meaning, the option says nothing
-pub no_meaning : {A : Type 0} (options : List NamedValue) (name value : List ℕ) (Means : List ℕ → A → Type 0) → NamesDiffer options → Contains options (option_of name value)
+pub no_meaning : {A : Type 0} (options : List NamedValue) (name value : List ℕ) (Means : List ℕ → A → Type 0) → NamesDiffer options
+    → Contains options (option_of name value)
     → ((a : A) → Means value a → ⊥) → (a : Option A) → MayHave options name Means a → ⊥
 no_meaning options name value Means once has none None may = not_both options name value may has
 no_meaning options name value Means once has none (Some a) may = none a (means_of options name value Means a once has may)
 
-pub not_given : {A : Type 0} (options : List NamedValue) (name value : List ℕ) (Means : List ℕ → A → Type 0) → NamesDiffer options → Contains options (option_of name value)
+pub not_given : {A : Type 0} (options : List NamedValue) (name value : List ℕ) (Means : List ℕ → A → Type 0) → NamesDiffer options
+    → Contains options (option_of name value)
     → ((a : A) → Means value a → ⊥) → (a : A) → Given options name Means a → ⊥
 not_given options name value Means once has none a given = none a (means_of options name value Means a once has given)
 

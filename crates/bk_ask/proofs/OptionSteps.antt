@@ -18,7 +18,8 @@ pub record SayTheSame (name : List ℕ) (all left : List (List ℕ)) : Type 0 wh
   pub out : IsLeftOut (options_in left) name → IsLeftOut (options_in all) name
   pub has : (value : List ℕ) → Contains (options_in left) (option_of name value) → Contains (options_in all) (option_of name value)
 
-pub one_more : (names : List (List ℕ)) (name value : List ℕ) (words : List (List ℕ)) → Contains names name → IsLeftOut (options_in words) name → AreOptions names words
+pub one_more : (names : List (List ℕ)) (name value : List ℕ) (words : List (List ℕ)) → Contains names name → IsLeftOut (options_in words) name
+    → AreOptions names words
     → AreOptions names (name ∷ value ∷ words)
 one_more names name value words known out are = record {
   whole = ap (λ (rest : List (List ℕ)). name ∷ value ∷ rest) are.whole;
@@ -29,7 +30,8 @@ one_more names name value words known out are = record {
 pub first_known : (names : List (List ℕ)) (name value : List ℕ) (words : List (List ℕ)) → AreOptions names (name ∷ value ∷ words) → Contains names name
 first_known names name value words are = are.known.0
 
-pub first_once : (names : List (List ℕ)) (name value : List ℕ) (words : List (List ℕ)) → AreOptions names (name ∷ value ∷ words) → IsLeftOut (options_in words) name
+pub first_once : (names : List (List ℕ)) (name value : List ℕ) (words : List (List ℕ)) → AreOptions names (name ∷ value ∷ words)
+    → IsLeftOut (options_in words) name
 first_once names name value words are = are.once.0
 
 pub one_less : (names : List (List ℕ)) (name value : List ℕ) (words : List (List ℕ)) → AreOptions names (name ∷ value ∷ words) → AreOptions names words
@@ -52,7 +54,8 @@ stand_more names all name value words known out so = record {
 pub say_start : (name : List ℕ) (words : List (List ℕ)) → SayTheSame name words words
 say_start name words = record { out = λ out. out; has = λ value has. has }
 
-pub say_more : (name : List ℕ) (all : List (List ℕ)) (first value : List ℕ) (words : List (List ℕ)) → first ≢ name → SayTheSame name all (first ∷ value ∷ words) → SayTheSame name all words
+pub say_more : (name : List ℕ) (all : List (List ℕ)) (first value : List ℕ) (words : List (List ℕ)) → first ≢ name
+    → SayTheSame name all (first ∷ value ∷ words) → SayTheSame name all words
 say_more name all first value words other so = record {
   out = λ out. so.out (other, out);
   has = λ v has. so.has v (later_stands (option_of first value) (options_in words) (option_of name v) has);
@@ -85,18 +88,23 @@ other_name text name test same =
     let true' : bytes_eq text name ≡ true = (bytes_eq-Decides text name).1 same in
     cc
 
-pub say_rest : (name : List ℕ) (all : List (List ℕ)) (words : List (String Global)) (first : String Global) (text : List ℕ) → 2 ≤ length words → first ≡ get_or words 0 first
-    → text ≡ string_bytes first → false ≡ bytes_eq text name → SayTheSame name all (map string_bytes words) → SayTheSame name all (map string_bytes (take (length words - 2) (drop 2 words)))
+pub say_rest : (name : List ℕ) (all : List (List ℕ)) (words : List (String Global)) (first : String Global) (text : List ℕ) → 2 ≤ length words
+    → first ≡ get_or words 0 first
+    → text ≡ string_bytes first → false ≡ bytes_eq text name → SayTheSame name all (map string_bytes words)
+    → SayTheSame name all (map string_bytes (take (length words - 2) (drop 2 words)))
 say_rest name all words first text two is same test so =
     let cut : words ≡ first ∷ get_or words 1 first ∷ take (length words - 2) (drop 2 words) = cut_two words first two is in
     say_more name all (string_bytes first) (string_bytes (get_or words 1 first)) (map string_bytes (take (length words - 2) (drop 2 words)))
     (λ e. other_name text name test (same ∙ e)) (subst (λ (w : List (String Global)). SayTheSame name all (map string_bytes w)) cut so)
 
-pub say_none : (name : List ℕ) (all : List (List ℕ)) (words : List (String Global)) → length words < 2 → SayTheSame name all (map string_bytes words) → IsLeftOut (options_in all) name
+pub say_none : (name : List ℕ) (all : List (List ℕ)) (words : List (String Global)) → length words < 2 → SayTheSame name all (map string_bytes words)
+    → IsLeftOut (options_in all) name
 say_none name all words few so =
-    so.out (subst (λ (options : List NamedValue). IsLeftOut options name) (sym (none_left (map string_bytes words) (omega (arith, length-map words string_bytes)))) tt)
+    so.out (subst (λ (options : List NamedValue). IsLeftOut options name)
+    (sym (none_left (map string_bytes words) (omega (arith, length-map words string_bytes)))) tt)
 
-pub stand_end : (names all : List (List ℕ)) (words : List (String Global)) (empty : Bool) → length words < 2 → empty ≡ nat_eq (length words) 0 → StandOrFall names all (map string_bytes words)
+pub stand_end : (names all : List (List ℕ)) (words : List (String Global)) (empty : Bool) → length words < 2 → empty ≡ nat_eq (length words) 0
+    → StandOrFall names all (map string_bytes words)
     → (empty ≡ true → AreOptions names all) × (AreOptions names all → empty ≡ true)
 stand_end names all words empty few is so =
     let same : length (map string_bytes words) ≡ length words = length-map words string_bytes in (

@@ -164,7 +164,8 @@ fn cursor_given(alloc: Global, options: &[String]) -> Result<Option<Word>, Unask
 fn limit_in(options: &[String]) -> Result<Option<u64>, Unasked>
     requires { NamesDiffer (options_in (map string_bytes options.now)) }
     ensures ok { IfOk result (MayHave (options_in (map string_bytes options.now)) (codes "--limit") (IsNumberWithin 0 1_000_000_000)) }
-    ensures err { IfErr result (λ _. (limit : Option ℕ) → MayHave (options_in (map string_bytes options.now)) (codes "--limit") (IsNumberWithin 0 1_000_000_000) limit → ⊥) }
+    ensures err { IfErr result (λ _. (limit : Option ℕ) → MayHave (options_in (map string_bytes options.now)) (codes "--limit")
+        (IsNumberWithin 0 1_000_000_000) limit → ⊥) }
 {
     match value_of(options, "--limit") {
         Some(text) => match number_within(0, 1_000_000_000, text) {

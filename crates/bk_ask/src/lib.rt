@@ -8,8 +8,6 @@ ghost use Rattle.bk_ask.specs.Help.{help_text};
 
 mod commands;
 mod options;
-#[cfg(test)]
-mod tests;
 mod values;
 
 use arrayvec::ArrayVec;

@@ -1,5 +1,6 @@
 -- A block of bytes, of which some lines are entered.
-use Rattle.std.proofs.Common.{◌≡◌, ℕ, ◌+◌, Bool, true, false, ◌||◌, List, [], ◌∷◌, ◌++◌, length, take, drop, Option, Some, None, refl, sym, ap, ◌∙◌, subst, arith}
+use Rattle.std.proofs.Common.{◌≡◌, ℕ, ◌+◌, Bool, true, false, ◌||◌, List, [], ◌∷◌, ◌++◌, length, take, drop, Option, Some, None, refl, sym, ap, ◌∙◌}
+use Rattle.std.proofs.Common.{subst, arith}
 use Rattle.std.proofs.lemmas.List.{append_assoc, append-nil, length-append}
 use Rattle.memchr.specs.Find.{IsFirstByte, is_byte}
 use Rattle.bk_lines.specs.Lines.{closed_lines, open_line}
@@ -25,7 +26,8 @@ no_feed bytes found = λ k below. not_true _ (found k (omega arith) below)
 
 -- of the lines of a block some are entered: `kept` is the front of the open line, `number` its number, and `rest` is still to
 -- be read
-pub record IsReadTo {State : Type 0} (rules : Entering State) (start : State) (from : ℕ) (begun block kept rest : List ℕ) (number : ℕ) (before now : Option (List ℕ)) (refused : Bool) (state : State) : Type 0 where
+pub record IsReadTo {State : Type 0} (rules : Entering State) (start : State) (from : ℕ) (begun block kept rest : List ℕ) (number : ℕ)
+    (before now : Option (List ℕ)) (refused : Bool) (state : State) : Type 0 where
   pub done : List (List ℕ)
   pub lines : closed_lines begun block ≡ done ++ closed_lines kept rest
   pub open_is : open_line begun block ≡ open_line kept rest
@@ -37,12 +39,15 @@ module _ {State : Type 0} (rules : Entering State) (start : State) (from : ℕ) 
   read_none w = record { done = []; lines = refl; open_is = refl; count = omega arith; entered = entered_none rules start from w }
 
   -- the lines at the next line feed
-  next_lines : (kept rest : List ℕ) (k : ℕ) (done : List (List ℕ)) → closed_lines begun block ≡ done ++ closed_lines kept rest → IsFirstFeed rest k → closed_lines begun block ≡ (done ++ (kept ++ take k rest) ∷ []) ++ closed_lines [] (drop (k + 1) rest)
+  next_lines : (kept rest : List ℕ) (k : ℕ) (done : List (List ℕ)) → closed_lines begun block ≡ done ++ closed_lines kept rest → IsFirstFeed rest k
+      → closed_lines begun block ≡ (done ++ (kept ++ take k rest) ∷ []) ++ closed_lines [] (drop (k + 1) rest)
   next_lines kept rest k done e first =
       e ∙ ap (λ (l : List (List ℕ)). done ++ l) (closed-first kept rest k first)
       ∙ sym (append_assoc done ((kept ++ take k rest) ∷ []) (closed_lines [] (drop (k + 1) rest)))
 
-  pub read_more : (s l : State) (kept rest now_kept now_rest : List ℕ) (k m n : ℕ) (a b c : Option (List ℕ)) (p q : Bool) → IsReadTo rules start from begun block kept rest m a b p s → IsFirstFeed rest k → now_kept ≡ [] → now_rest ≡ drop (k + 1) rest → n ≡ m + 1 → AreAllEntered rules s m ((kept ++ take k rest) ∷ []) b c q l → IsReadTo rules start from begun block now_kept now_rest n a c (p || q) l
+  pub read_more : (s l : State) (kept rest now_kept now_rest : List ℕ) (k m n : ℕ) (a b c : Option (List ℕ)) (p q : Bool)
+      → IsReadTo rules start from begun block kept rest m a b p s → IsFirstFeed rest k → now_kept ≡ [] → now_rest ≡ drop (k + 1) rest → n ≡ m + 1
+      → AreAllEntered rules s m ((kept ++ take k rest) ∷ []) b c q l → IsReadTo rules start from begun block now_kept now_rest n a c (p || q) l
   read_more s l kept rest now_kept now_rest k m n a b c p q state first none later next here =
       subst (λ (x : List ℕ). IsReadTo rules start from begun block x now_rest n a c (p || q) l) (sym none)
       (subst (λ (x : List ℕ). IsReadTo rules start from begun block [] x n a c (p || q) l) (sym later)
@@ -57,22 +62,28 @@ module _ {State : Type 0} (rules : Entering State) (start : State) (from : ℕ) 
       }))
 
   -- all lines are done where no line feed is left
-  all_done : (kept rest : List ℕ) (done : List (List ℕ)) → closed_lines begun block ≡ done ++ closed_lines kept rest → HasNoFeed rest → closed_lines begun block ≡ done
+  all_done : (kept rest : List ℕ) (done : List (List ℕ)) → closed_lines begun block ≡ done ++ closed_lines kept rest → HasNoFeed rest
+      → closed_lines begun block ≡ done
   all_done kept rest done e none =
       e ∙ ap (λ (l : List (List ℕ)). done ++ l) (closed-none kept rest none) ∙ append-nil done
 
-  pub read_all : (s : State) (kept rest : List ℕ) (n : ℕ) (a b : Option (List ℕ)) (p : Bool) → IsReadTo rules start from begun block kept rest n a b p s → HasNoFeed rest → AreAllEntered rules start from (closed_lines begun block) a b p s
+  pub read_all : (s : State) (kept rest : List ℕ) (n : ℕ) (a b : Option (List ℕ)) (p : Bool) → IsReadTo rules start from begun block kept rest n a b p s
+      → HasNoFeed rest → AreAllEntered rules start from (closed_lines begun block) a b p s
   read_all s kept rest n a b p state none =
       subst (λ (l : List (List ℕ)). AreAllEntered rules start from l a b p s) (sym (all_done kept rest state.done state.lines none)) state.entered
 
-  pub count_all : (s : State) (kept rest : List ℕ) (n : ℕ) (a b : Option (List ℕ)) (p : Bool) → IsReadTo rules start from begun block kept rest n a b p s → HasNoFeed rest → n ≡ from + length (closed_lines begun block)
+  pub count_all : (s : State) (kept rest : List ℕ) (n : ℕ) (a b : Option (List ℕ)) (p : Bool) → IsReadTo rules start from begun block kept rest n a b p s
+      → HasNoFeed rest → n ≡ from + length (closed_lines begun block)
   count_all s kept rest n a b p state none =
       state.count ∙ ap (λ (l : List (List ℕ)). from + length l) (sym (all_done kept rest state.done state.lines none))
 
-  pub open_all : (s : State) (kept rest : List ℕ) (n : ℕ) (a b : Option (List ℕ)) (p : Bool) → IsReadTo rules start from begun block kept rest n a b p s → HasNoFeed rest → open_line begun block ≡ kept ++ rest
+  pub open_all : (s : State) (kept rest : List ℕ) (n : ℕ) (a b : Option (List ℕ)) (p : Bool) → IsReadTo rules start from begun block kept rest n a b p s
+      → HasNoFeed rest → open_line begun block ≡ kept ++ rest
   open_all s kept rest n a b p state none = state.open_is ∙ open-none kept rest none
 
-  pub read_stopped : (s : State) (kept rest : List ℕ) (k n : ℕ) (a b c : Option (List ℕ)) (p : Bool) (stop : Stop) → IsReadTo rules start from begun block kept rest n a b p s → IsFirstFeed rest k → IsEntryStopped rules s n ((kept ++ take k rest) ∷ []) b c stop → IsEntryStopped rules start from (closed_lines begun block) a c stop
+  pub read_stopped : (s : State) (kept rest : List ℕ) (k n : ℕ) (a b c : Option (List ℕ)) (p : Bool) (stop : Stop)
+      → IsReadTo rules start from begun block kept rest n a b p s → IsFirstFeed rest k → IsEntryStopped rules s n ((kept ++ take k rest) ∷ []) b c stop
+      → IsEntryStopped rules start from (closed_lines begun block) a c stop
   read_stopped s kept rest k n a b c p stop state first here =
       subst (λ (l : List (List ℕ)). IsEntryStopped rules start from l a c stop) (sym (next_lines kept rest k state.done state.lines first))
       (stopped_front rules stop start from (state.done ++ (kept ++ take k rest) ∷ []) (closed_lines [] (drop (k + 1) rest)) a c

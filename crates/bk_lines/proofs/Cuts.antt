@@ -1,5 +1,6 @@
 -- How the lines of bytes follow from the lines of parts.
-use Rattle.std.proofs.Common.{◌≡◌, ℕ, zero, suc, ◌+◌, ◌<◌, ◌==◌, true, false, List, [], ◌∷◌, ◌++◌, length, take, drop, get_or, refl, sym, ap, ◌∙◌, arith, ⊎_elim}
+use Rattle.std.proofs.Common.{◌≡◌, ℕ, zero, suc, ◌+◌, ◌<◌, ◌==◌, true, false, List, [], ◌∷◌, ◌++◌, length, take, drop, get_or, refl, sym, ap, ◌∙◌}
+use Rattle.std.proofs.Common.{arith, ⊎_elim}
 use Rattle.std.proofs.lemmas.Bool.{cases_Bool}
 use Rattle.std.proofs.lemmas.List.{append_assoc, append-nil}
 use Rattle.bk_lines.specs.Lines.{closed_lines, open_line}
@@ -23,7 +24,8 @@ open-append begun [] ys = refl
 open-append begun (x ∷ xs) ys =
     ⊎_elim
     (λ (e : (x == 10) ≡ true). open-feed begun (xs ++ ys) x e ∙ open-append [] xs ys ∙ ap (λ (l : List ℕ). open_line l ys) (sym (open-feed begun xs x e)))
-    (λ (e : (x == 10) ≡ false). open-other begun (xs ++ ys) x e ∙ open-append (begun ++ x ∷ []) xs ys ∙ ap (λ (l : List ℕ). open_line l ys) (sym (open-other begun xs x e)))
+    (λ (e : (x == 10) ≡ false). open-other begun (xs ++ ys) x e ∙ open-append (begun ++ x ∷ []) xs ys
+    ∙ ap (λ (l : List ℕ). open_line l ys) (sym (open-other begun xs x e)))
     (cases_Bool (x == 10))
 
 pub closed-append : (begun xs ys : List ℕ) → closed_lines begun (xs ++ ys) ≡ closed_lines begun xs ++ closed_lines (open_line begun xs) ys
@@ -54,7 +56,8 @@ closed-none begun (b ∷ bs) free = closed-other begun bs b (free 0 (omega arith
 
 pub open-none : (begun bytes : List ℕ) → HasNoFeed bytes → open_line begun bytes ≡ begun ++ bytes
 open-none begun [] free = sym (append-nil begun)
-open-none begun (b ∷ bs) free = open-other begun bs b (free 0 (omega arith)) ∙ open-none (begun ++ b ∷ []) bs (λ k h. free (suc k) (omega arith)) ∙ append_assoc begun (b ∷ []) bs
+open-none begun (b ∷ bs) free =
+    open-other begun bs b (free 0 (omega arith)) ∙ open-none (begun ++ b ∷ []) bs (λ k h. free (suc k) (omega arith)) ∙ append_assoc begun (b ∷ []) bs
 
 -- place k holds the first line feed
 pub record IsFirstFeed (bytes : List ℕ) (k : ℕ) : Type 0 where
@@ -75,7 +78,8 @@ drop_next b bs k =
     let e : suc (k + 1) ≡ suc k + 1 = omega arith in
     ap (λ (n : ℕ). drop n (b ∷ bs)) e
 
-pub closed-first : (begun bytes : List ℕ) (k : ℕ) → IsFirstFeed bytes k → closed_lines begun bytes ≡ (begun ++ take k bytes) ∷ closed_lines [] (drop (k + 1) bytes)
+pub closed-first : (begun bytes : List ℕ) (k : ℕ) → IsFirstFeed bytes k
+    → closed_lines begun bytes ≡ (begun ++ take k bytes) ∷ closed_lines [] (drop (k + 1) bytes)
 closed-first begun [] k first = let h = first.within in absurd (omega arith)
 closed-first begun (b ∷ bs) zero first = closed-feed begun bs b first.feed ∙ ap (λ (l : List ℕ). l ∷ closed_lines [] bs) (sym (append-nil begun))
 closed-first begun (b ∷ bs) (suc k) first =

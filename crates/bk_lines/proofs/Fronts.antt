@@ -1,5 +1,6 @@
 -- Lines of which the same front is kept.
-use Rattle.std.proofs.Common.{◌≡◌, ℕ, zero, suc, ◌==◌, Bool, true, false, List, [], ◌∷◌, ◌++◌, length, ◌+◌, min, take, map, Result, Ok, Err, IsOk, OnOk, ◌≤◌, refl, sym, ap, ◌∙◌, arith, ⊎_elim, subst}
+use Rattle.std.proofs.Common.{◌≡◌, ℕ, zero, suc, ◌==◌, Bool, true, false, List, [], ◌∷◌, ◌++◌, length, ◌+◌, min, take, map, Result, Ok, Err, IsOk}
+use Rattle.std.proofs.Common.{OnOk, ◌≤◌, refl, sym, ap, ◌∙◌, arith, ⊎_elim, subst}
 use Rattle.std.proofs.lemmas.Bool.{cases_Bool, false≢true}
 use Rattle.std.proofs.lemmas.List.{append-nil, take_min, length-take, take_all}
 use Rattle.std.proofs.Math.Seq.{take-append-add}
@@ -60,7 +61,8 @@ pub record IsSplitAs (lines front back : List (List ℕ)) : Type 0 where
   pub same_later : map kept_front back ≡ map kept_front later
 
 -- with one more line of the same front before them
-split_next : (l f : List ℕ) (lines front back : List (List ℕ)) → kept_front f ≡ kept_front l → IsSplitAs lines front back → IsSplitAs (l ∷ lines) (f ∷ front) back
+split_next : (l f : List ℕ) (lines front back : List (List ℕ)) → kept_front f ≡ kept_front l → IsSplitAs lines front back
+    → IsSplitAs (l ∷ lines) (f ∷ front) back
 split_next l f lines front back here s = record {
   first = l ∷ s.first;
   later = s.later;
@@ -93,7 +95,8 @@ front-alone [] ys fit none e =
 front-alone (x ∷ xs) ys fit none e = absurd (omega arith)
 
 -- what was added to a front, where as much of a piece is added as there is room for
-pub kept-added : (T E : Type 0) (r : Result T E) (xs ys new : List ℕ) (room fit : ℕ) → room + length xs ≡ 8193 → fit ≡ min room (length ys) → (length xs + length (take fit ys) ≤ 8193 → IsOk r) → OnOk r (new ≡ xs ++ take fit ys) → new ≡ kept_front (xs ++ ys)
+pub kept-added : (T E : Type 0) (r : Result T E) (xs ys new : List ℕ) (room fit : ℕ) → room + length xs ≡ 8193 → fit ≡ min room (length ys)
+    → (length xs + length (take fit ys) ≤ 8193 → IsOk r) → OnOk r (new ≡ xs ++ take fit ys) → new ≡ kept_front (xs ++ ys)
 kept-added T E (Ok x) xs ys new room fit all e fits added = added ∙ ap (λ (n : ℕ). xs ++ take n ys) e ∙ kept-room xs ys room all
 kept-added T E (Err x) xs ys new room fit all e fits added = absurd (false≢true (fits (omega (arith, length-take fit ys))))
 

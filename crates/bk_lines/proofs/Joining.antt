@@ -1,5 +1,6 @@
 -- Lines that are entered one after another.
-use Rattle.std.proofs.Common.{◌≡◌, ℕ, ◌+◌, ◌<◌, Bool, true, false, ◌||◌, ◌==◌, List, [], ◌∷◌, ◌++◌, length, map, Option, Some, None, Result, Ok, Err, IfOk, IfErr, refl, sym, ap, ◌∙◌, subst, arith}
+use Rattle.std.proofs.Common.{◌≡◌, ℕ, ◌+◌, ◌<◌, Bool, true, false, ◌||◌, ◌==◌, List, [], ◌∷◌, ◌++◌, length, map, Option, Some, None, Result, Ok, Err}
+use Rattle.std.proofs.Common.{IfOk, IfErr, refl, sym, ap, ◌∙◌, subst, arith}
 use Rattle.std.specs.List.{concat}
 use Rattle.std.specs.Io.KnownBytes.{Appends, Keeps}
 use Rattle.std.proofs.lemmas.Bool.{true≢false}
@@ -40,7 +41,8 @@ module _ {State : Type 0} (rules : Entering State) where
   from_number : (s l : State) (m n : ℕ) (xs : List (List ℕ)) (rs : List Reply) → m ≡ n → AreEntered rules s m xs rs l → AreEntered rules s n xs rs l
   from_number s l m n xs rs e are = subst (λ (k : ℕ). AreEntered rules s k xs rs l) e are
 
-  entered-append : (s m l : State) (n : ℕ) (xs ys : List (List ℕ)) (rs ss : List Reply) → AreEntered rules s n xs rs m → AreEntered rules m (n + length xs) ys ss l → AreEntered rules s n (xs ++ ys) (rs ++ ss) l
+  entered-append : (s m l : State) (n : ℕ) (xs ys : List (List ℕ)) (rs ss : List Reply) → AreEntered rules s n xs rs m
+      → AreEntered rules m (n + length xs) ys ss l → AreEntered rules s n (xs ++ ys) (rs ++ ss) l
   entered-append s m l n [] ys [] ss p q =
       from_number s l (n + 0) n ys ss (omega arith) (subst (λ (t : State). AreEntered rules t (n + 0) ys ss l) p q)
   entered-append s m l n [] ys (r ∷ rs) ss p q = absurd p
@@ -49,7 +51,8 @@ module _ {State : Type 0} (rules : Entering State) where
       (p.0, p.1, entered-append p.0 m l (n + 1) xs ys rs ss p.2 (from_number m l (n + length (x ∷ xs)) ((n + 1) + length xs) ys ss (omega arith) q))
 
   -- lines of which the same fronts are kept are entered alike
-  entered-fronts : (s l : State) (n : ℕ) (lines others : List (List ℕ)) (rs : List Reply) → map kept_front lines ≡ map kept_front others → AreEntered rules s n lines rs l → AreEntered rules s n others rs l
+  entered-fronts : (s l : State) (n : ℕ) (lines others : List (List ℕ)) (rs : List Reply) → map kept_front lines ≡ map kept_front others
+      → AreEntered rules s n lines rs l → AreEntered rules s n others rs l
   entered-fronts s l n [] [] rs e are = are
   entered-fronts s l n [] (o ∷ os) rs e are = absurd (cc)
   entered-fronts s l n (x ∷ xs) [] rs e are = absurd (cc)
@@ -62,7 +65,8 @@ module _ {State : Type 0} (rules : Entering State) where
   pub entered_none : (s : State) (n : ℕ) (w : Option (List ℕ)) → AreAllEntered rules s n [] w w false s
   entered_none s n w = record { replies = []; each = refl; written = appends_nothing w; any = refl }
 
-  pub entered_more : (s m l : State) (n : ℕ) (xs ys : List (List ℕ)) (a b c : Option (List ℕ)) (p q : Bool) → AreAllEntered rules s n xs a b p m → AreAllEntered rules m (n + length xs) ys b c q l → AreAllEntered rules s n (xs ++ ys) a c (p || q) l
+  pub entered_more : (s m l : State) (n : ℕ) (xs ys : List (List ℕ)) (a b c : Option (List ℕ)) (p q : Bool) → AreAllEntered rules s n xs a b p m
+      → AreAllEntered rules m (n + length xs) ys b c q l → AreAllEntered rules s n (xs ++ ys) a c (p || q) l
   entered_more s m l n xs ys a b c p q first next = record {
     replies = first.replies ++ next.replies;
     each = entered-append s m l n xs ys first.replies next.replies first.each next.each;
@@ -75,7 +79,8 @@ module _ {State : Type 0} (rules : Entering State) where
         ∙ ap (λ (v : Bool). p || v) next.any;
   }
 
-  pub entered_fronts : (s l : State) (n : ℕ) (xs ys : List (List ℕ)) (a b : Option (List ℕ)) (p : Bool) → map kept_front xs ≡ map kept_front ys → AreAllEntered rules s n xs a b p l → AreAllEntered rules s n ys a b p l
+  pub entered_fronts : (s l : State) (n : ℕ) (xs ys : List (List ℕ)) (a b : Option (List ℕ)) (p : Bool) → map kept_front xs ≡ map kept_front ys
+      → AreAllEntered rules s n xs a b p l → AreAllEntered rules s n ys a b p l
   entered_fronts s l n xs ys a b p e are = record {
     replies = are.replies;
     each = entered-fronts s l n xs ys are.replies e are.each;
@@ -83,7 +88,8 @@ module _ {State : Type 0} (rules : Entering State) where
     any = are.any;
   }
 
-  begun_after : (s m : State) (n : ℕ) (xs ys : List (List ℕ)) (a b c : Option (List ℕ)) (p : Bool) → AreAllEntered rules s n xs a b p m → IsEntryBegun rules m (n + length xs) ys b c → IsEntryBegun rules s n (xs ++ ys) a c
+  begun_after : (s m : State) (n : ℕ) (xs ys : List (List ℕ)) (a b c : Option (List ℕ)) (p : Bool) → AreAllEntered rules s n xs a b p m
+      → IsEntryBegun rules m (n + length xs) ys b c → IsEntryBegun rules s n (xs ++ ys) a c
   begun_after s m n xs ys a b c p first next = record {
     begun = xs ++ next.begun;
     unseen = next.unseen;
@@ -107,7 +113,8 @@ module _ {State : Type 0} (rules : Entering State) where
     written = h.written;
   }
 
-  begun_fronts : (s : State) (n : ℕ) (xs ys : List (List ℕ)) (a b : Option (List ℕ)) → map kept_front xs ≡ map kept_front ys → IsEntryBegun rules s n xs a b → IsEntryBegun rules s n ys a b
+  begun_fronts : (s : State) (n : ℕ) (xs ys : List (List ℕ)) (a b : Option (List ℕ)) → map kept_front xs ≡ map kept_front ys → IsEntryBegun rules s n xs a b
+      → IsEntryBegun rules s n ys a b
   begun_fronts s n xs ys a b e h =
       let t = split_as ys h.begun h.unseen (sym (ap (λ (l : List (List ℕ)). map kept_front l) h.split) ∙ e) in
       record {
@@ -120,7 +127,8 @@ module _ {State : Type 0} (rules : Entering State) where
         written = h.written;
       }
 
-  wanting_after : (s m : State) (n : ℕ) (xs ys : List (List ℕ)) (a b c : Option (List ℕ)) (p : Bool) → AreAllEntered rules s n xs a b p m → IsEntryWanting rules m (n + length xs) ys b c → IsEntryWanting rules s n (xs ++ ys) a c
+  wanting_after : (s m : State) (n : ℕ) (xs ys : List (List ℕ)) (a b c : Option (List ℕ)) (p : Bool) → AreAllEntered rules s n xs a b p m
+      → IsEntryWanting rules m (n + length xs) ys b c → IsEntryWanting rules s n (xs ++ ys) a c
   wanting_after s m n xs ys a b c p first next =
       let same : (n + length xs) + length next.done ≡ n + length (xs ++ next.done) = omega (arith, length-append xs next.done) in
       record {
@@ -137,7 +145,8 @@ module _ {State : Type 0} (rules : Entering State) where
             first.written next.written (flat_map-append reply_text first.replies next.replies);
       }
 
-  wanting_front : (s : State) (n : ℕ) (xs ys : List (List ℕ)) (a b : Option (List ℕ)) → IsEntryWanting rules s n xs a b → IsEntryWanting rules s n (xs ++ ys) a b
+  wanting_front : (s : State) (n : ℕ) (xs ys : List (List ℕ)) (a b : Option (List ℕ)) → IsEntryWanting rules s n xs a b
+      → IsEntryWanting rules s n (xs ++ ys) a b
   wanting_front s n xs ys a b h = record {
     done = h.done;
     line = h.line;
@@ -151,7 +160,9 @@ module _ {State : Type 0} (rules : Entering State) where
   }
 
   -- a split line in a list of lines of which the same fronts are kept
-  wanting_split : (s l : State) (n : ℕ) (ys done first later : List (List ℕ)) (line : List ℕ) (unseen : List (List ℕ)) (rs : List Reply) (a b : Option (List ℕ)) → ys ≡ first ++ later → map kept_front done ≡ map kept_front first → map kept_front (line ∷ unseen) ≡ map kept_front later → rules.may_want l (n + length done) (kept_front line) → AreEntered rules s n done rs l → Appends a b (text_of rs) → IsEntryWanting rules s n ys a b
+  wanting_split : (s l : State) (n : ℕ) (ys done first later : List (List ℕ)) (line : List ℕ) (unseen : List (List ℕ)) (rs : List Reply) (a b : Option (List ℕ))
+      → ys ≡ first ++ later → map kept_front done ≡ map kept_front first → map kept_front (line ∷ unseen) ≡ map kept_front later
+      → rules.may_want l (n + length done) (kept_front line) → AreEntered rules s n done rs l → Appends a b (text_of rs) → IsEntryWanting rules s n ys a b
   wanting_split s l n ys done first [] line unseen rs a b split e f cause each written = absurd (cc)
   wanting_split s l n ys done first (o ∷ os) line unseen rs a b split e f cause each written =
       let here : kept_front line ≡ kept_front o = cc in
@@ -169,21 +180,25 @@ module _ {State : Type 0} (rules : Entering State) where
         written = written;
       }
 
-  wanting_fronts : (s : State) (n : ℕ) (xs ys : List (List ℕ)) (a b : Option (List ℕ)) → map kept_front xs ≡ map kept_front ys → IsEntryWanting rules s n xs a b → IsEntryWanting rules s n ys a b
+  wanting_fronts : (s : State) (n : ℕ) (xs ys : List (List ℕ)) (a b : Option (List ℕ)) → map kept_front xs ≡ map kept_front ys → IsEntryWanting rules s n xs a b
+      → IsEntryWanting rules s n ys a b
   wanting_fronts s n xs ys a b e h =
       let t = split_as ys h.done (h.line ∷ h.unseen) (sym (ap (λ (l : List (List ℕ)). map kept_front l) h.split) ∙ e) in
       wanting_split s h.last n ys h.done t.first t.later h.line h.unseen h.replies a b t.split t.same_first t.same_later h.cause h.each h.written
 
   -- whatever stopped the lines
-  pub stopped_after : (stop : Stop) (s m : State) (n : ℕ) (xs ys : List (List ℕ)) (a b c : Option (List ℕ)) (p : Bool) → AreAllEntered rules s n xs a b p m → IsEntryStopped rules m (n + length xs) ys b c stop → IsEntryStopped rules s n (xs ++ ys) a c stop
+  pub stopped_after : (stop : Stop) (s m : State) (n : ℕ) (xs ys : List (List ℕ)) (a b c : Option (List ℕ)) (p : Bool) → AreAllEntered rules s n xs a b p m
+      → IsEntryStopped rules m (n + length xs) ys b c stop → IsEntryStopped rules s n (xs ++ ys) a c stop
   stopped_after WriteFailed s m n xs ys a b c p first next = begun_after s m n xs ys a b c p first next
   stopped_after NoMemory s m n xs ys a b c p first next = wanting_after s m n xs ys a b c p first next
 
-  pub stopped_front : (stop : Stop) (s : State) (n : ℕ) (xs ys : List (List ℕ)) (a b : Option (List ℕ)) → IsEntryStopped rules s n xs a b stop → IsEntryStopped rules s n (xs ++ ys) a b stop
+  pub stopped_front : (stop : Stop) (s : State) (n : ℕ) (xs ys : List (List ℕ)) (a b : Option (List ℕ)) → IsEntryStopped rules s n xs a b stop
+      → IsEntryStopped rules s n (xs ++ ys) a b stop
   stopped_front WriteFailed s n xs ys a b h = begun_front s n xs ys a b h
   stopped_front NoMemory s n xs ys a b h = wanting_front s n xs ys a b h
 
-  pub stopped_fronts : (stop : Stop) (s : State) (n : ℕ) (xs ys : List (List ℕ)) (a b : Option (List ℕ)) → map kept_front xs ≡ map kept_front ys → IsEntryStopped rules s n xs a b stop → IsEntryStopped rules s n ys a b stop
+  pub stopped_fronts : (stop : Stop) (s : State) (n : ℕ) (xs ys : List (List ℕ)) (a b : Option (List ℕ)) → map kept_front xs ≡ map kept_front ys
+      → IsEntryStopped rules s n xs a b stop → IsEntryStopped rules s n ys a b stop
   stopped_fronts WriteFailed s n xs ys a b e h = begun_fronts s n xs ys a b e h
   stopped_fronts NoMemory s n xs ys a b e h = wanting_fronts s n xs ys a b e h
 
@@ -236,11 +251,13 @@ module _ {State : Type 0} (rules : Entering State) (s : State) (n : ℕ) (line f
   stopped_line NoMemory h = wanting_line h
 
   -- by the result of the call that entered it
-  pub line_entered : (l : State) (r : Result Bool Stop) → IfOk r (λ p. IsLineEntered rules s l n front a b p) → IfOk r (λ p. AreAllEntered rules s n (line ∷ []) a b p l)
+  pub line_entered : (l : State) (r : Result Bool Stop) → IfOk r (λ p. IsLineEntered rules s l n front a b p)
+      → IfOk r (λ p. AreAllEntered rules s n (line ∷ []) a b p l)
   line_entered l (Ok p) h = entered_line l p h
   line_entered l (Err stop) h = tt
 
-  pub line_stopped : (r : Result Bool Stop) → IfErr r (λ stop. IsLineStopped rules s n front a b stop) → IfErr r (λ stop. IsEntryStopped rules s n (line ∷ []) a b stop)
+  pub line_stopped : (r : Result Bool Stop) → IfErr r (λ stop. IsLineStopped rules s n front a b stop)
+      → IfErr r (λ stop. IsEntryStopped rules s n (line ∷ []) a b stop)
   line_stopped (Ok p) h = tt
   line_stopped (Err stop) h = stopped_line stop h
 
@@ -253,13 +270,16 @@ last_whole [] some = absurd (omega arith)
 last_whole (b ∷ bs) some = refl
 
 -- the same of the line at the end of the input, if it has bytes
-module _ {State : Type 0} (rules : Entering State) (s : State) (n : ℕ) (line front : List ℕ) (a b : Option (List ℕ)) (some : 0 < length line) (e : front ≡ kept_front line) where
-  pub last_entered : (l : State) (r : Result Bool Stop) → IfOk r (λ p. IsLineEntered rules s l n front a b p) → IfOk r (λ p. AreAllEntered rules s n (last_line line) a b p l)
+module _ {State : Type 0} (rules : Entering State) (s : State) (n : ℕ) (line front : List ℕ) (a b : Option (List ℕ)) (some : 0 < length line)
+    (e : front ≡ kept_front line) where
+  pub last_entered : (l : State) (r : Result Bool Stop) → IfOk r (λ p. IsLineEntered rules s l n front a b p)
+      → IfOk r (λ p. AreAllEntered rules s n (last_line line) a b p l)
   last_entered l r h =
       subst (λ (lines : List (List ℕ)). IfOk r (λ p. AreAllEntered rules s n lines a b p l)) (sym (last_whole line some))
       (line_entered rules s n line front a b e l r h)
 
-  pub last_stopped : (r : Result Bool Stop) → IfErr r (λ stop. IsLineStopped rules s n front a b stop) → IfErr r (λ stop. IsEntryStopped rules s n (last_line line) a b stop)
+  pub last_stopped : (r : Result Bool Stop) → IfErr r (λ stop. IsLineStopped rules s n front a b stop)
+      → IfErr r (λ stop. IsEntryStopped rules s n (last_line line) a b stop)
   last_stopped r h =
       subst (λ (lines : List (List ℕ)). IfErr r (λ stop. IsEntryStopped rules s n lines a b stop)) (sym (last_whole line some))
       (line_stopped rules s n line front a b e r h)

@@ -6,4 +6,7 @@ pub mod Taking
 pub mod Stateless
 pub mod Pieces
 pub mod LineExamples
+pub mod EndingExamples
 pub mod OneReply
+pub mod OtherRules
+pub mod Deciding

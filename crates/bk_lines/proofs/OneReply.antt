@@ -4,7 +4,6 @@ use Rattle.std.specs.Io.KnownBytes.{Appends}
 use Rattle.std.proofs.lemmas.Grind.{flat_map-append}
 use Rattle.std.proofs.lemmas.List.{take_min, take-append-le}
 use Rattle.bk_ports.specs.Causes.{AppendsPrefix}
-use Rattle.bk_lines.specs.Lines.{kept_front}
 use Rattle.bk_lines.specs.Reply.{Reply, AreReplies, reply_text, text_of}
 use Rattle.bk_lines.specs.Answered.{AreBegun}
 
@@ -33,7 +32,7 @@ module _ (answers : List ℕ → List (List ℕ) → Bool → Type 0) where
   one_reply_each one (l ∷ ls) [] ss p q = absurd p
   one_reply_each one (l ∷ ls) (r ∷ rs) [] p q = absurd q
   one_reply_each one (l ∷ ls) (r ∷ rs) (s ∷ ss) p q =
-      let here = one (kept_front l) r.pieces s.pieces r.refused s.refused p.0 q.0 in
+      let here = one l r.pieces s.pieces r.refused s.refused p.0 q.0 in
       ap (λ (x : Reply). x ∷ rs) (same_reply r s here.0 here.1) ∙ ap (λ (x : List Reply). s ∷ x) (one_reply_each one ls rs ss p.1 q.1)
 
   split_replies : (xs ys : List (List ℕ)) (replies : List Reply) → AreReplies answers (xs ++ ys) replies → AreSplit answers xs ys replies
@@ -50,7 +49,8 @@ module _ (answers : List ℕ → List (List ℕ) → Bool → Type 0) where
       }
 
   -- a beginning of the answers to the first lines is one of the answers to all lines
-  pub begun_is_front : HasOneReply answers → (lines : List (List ℕ)) (a b : Option (List ℕ)) (replies : List Reply) → AreBegun answers lines a b → AreReplies answers lines replies → AppendsPrefix a b (text_of replies)
+  pub begun_is_front : HasOneReply answers → (lines : List (List ℕ)) (a b : Option (List ℕ)) (replies : List Reply) → AreBegun answers lines a b
+      → AreReplies answers lines replies → AppendsPrefix a b (text_of replies)
   begun_is_front one lines a b replies begun are =
       let s = split_replies begun.begun begun.unseen replies (subst (λ (l : List (List ℕ)). AreReplies answers l replies) begun.split are) in
       let same = one_reply_each one begun.begun begun.replies s.front begun.each s.first in

@@ -1,5 +1,6 @@
 -- Where the reply to a line rests on the line alone, a run that enters lines is one that answers them.
-use Rattle.std.proofs.Common.{◌≡◌, ◌≢◌, ℕ, ◌+◌, ◌<◌, ◌≤◌, ◌^◌, Bool, true, false, List, [], ◌∷◌, ◌++◌, length, Option, Some, None, inl, inr, refl, sym, ap, ◌∙◌, subst, arith, length-append}
+use Rattle.std.proofs.Common.{◌≡◌, ◌≢◌, ℕ, ◌+◌, ◌<◌, ◌≤◌, ◌^◌, Bool, true, false, List, [], ◌∷◌, ◌++◌, length, Option, Some, None, inl, inr, refl}
+use Rattle.std.proofs.Common.{sym, ap, ◌∙◌, subst, arith, length-append}
 use Rattle.std.specs.Prelude.{Err, IsSomeAnd, Ok, OnErr, Result}
 use Rattle.std.specs.Io.KnownBytes.{Consumes}
 use Rattle.bk_ports.specs.Causes.{Rose}
@@ -7,7 +8,7 @@ use Rattle.bk_lines.specs.Reply.{Reply, AreReplies}
 use Rattle.bk_lines.specs.Lines.{kept_front}
 use Rattle.bk_lines.specs.Answer.{IsBegun}
 use Rattle.bk_lines.specs.Answered.{AreAnswered, AreBegun, AreCutShort}
-use Rattle.bk_lines.specs.Ending.{EndsBy, HasVerdict, IsCutShort, IsUndisturbed, Rules, Told}
+use Rattle.bk_lines.specs.Ending.{EndsBy, Rules, Told}
 use Rattle.bk_lines.specs.Entering.{AreAllEntered, AreEntered, Entering, IsEntryBegun, IsEntryWanting}
 use Rattle.bk_lines.specs.Entries.{EntersBy, IsCalm, IsDoneOrWanting}
 use Rattle.bk_lines.specs.declared.Ended.{Ended}
@@ -15,9 +16,11 @@ use Rattle.bk_lines.specs.declared.Ended.TheVariants.{NoneRefused, SomeRefused, 
 
 -- as long as the state serves, a line is entered as it is answered
 pub record AnswersAlike {State : Type 0} (rules : Entering State) (serves : State → Type 0) (answers : Rules) : Type 0 where
-  pub reply : (s l : State) (n : ℕ) (line : List ℕ) (pieces : List (List ℕ)) (refused : Bool) → serves s → rules.enters s n line pieces refused l → answers.answers line pieces refused
-  pub goes_on : (s l : State) (n : ℕ) (line : List ℕ) (pieces : List (List ℕ)) (refused : Bool) → serves s → rules.enters s n line pieces refused l → serves l
-  pub wants : (s : State) (n : ℕ) (line : List ℕ) → serves s → rules.may_want s n line → answers.may_want line
+  pub reply : (s l : State) (n : ℕ) (line : List ℕ) (pieces : List (List ℕ)) (refused : Bool) → serves s
+      → rules.enters s n (kept_front line) pieces refused l → answers.answers line pieces refused
+  pub goes_on : (s l : State) (n : ℕ) (line : List ℕ) (pieces : List (List ℕ)) (refused : Bool) → serves s
+      → rules.enters s n (kept_front line) pieces refused l → serves l
+  pub wants : (s : State) (n : ℕ) (line : List ℕ) → serves s → rules.may_want s n (kept_front line) → answers.may_want line
 
 module _ {State : Type 0} (rules : Entering State) (serves : State → Type 0) (answers : Rules) (alike : AnswersAlike rules serves answers) where
   replies : (s l : State) (n : ℕ) (lines : List (List ℕ)) (rs : List Reply) → serves s → AreEntered rules s n lines rs l → AreReplies answers.answers lines rs
@@ -25,8 +28,8 @@ module _ {State : Type 0} (rules : Entering State) (serves : State → Type 0) (
   replies s l n [] (r ∷ rs) served are = absurd are
   replies s l n (x ∷ xs) [] served are = absurd are
   replies s l n (x ∷ xs) (r ∷ rs) served are = (
-    alike.reply s are.0 n (kept_front x) r.pieces r.refused served are.1,
-    replies are.0 l (n + 1) xs rs (alike.goes_on s are.0 n (kept_front x) r.pieces r.refused served are.1) are.2,
+    alike.reply s are.0 n x r.pieces r.refused served are.1,
+    replies are.0 l (n + 1) xs rs (alike.goes_on s are.0 n x r.pieces r.refused served are.1) are.2,
   )
 
   served_last : (s l : State) (n : ℕ) (lines : List (List ℕ)) (rs : List Reply) → serves s → AreEntered rules s n lines rs l → serves l
@@ -34,9 +37,10 @@ module _ {State : Type 0} (rules : Entering State) (serves : State → Type 0) (
   served_last s l n [] (r ∷ rs) served are = absurd are
   served_last s l n (x ∷ xs) [] served are = absurd are
   served_last s l n (x ∷ xs) (r ∷ rs) served are =
-      served_last are.0 l (n + 1) xs rs (alike.goes_on s are.0 n (kept_front x) r.pieces r.refused served are.1) are.2
+      served_last are.0 l (n + 1) xs rs (alike.goes_on s are.0 n x r.pieces r.refused served are.1) are.2
 
-  all_answered : (s l : State) (n : ℕ) (lines : List (List ℕ)) (a b : Option (List ℕ)) (p : Bool) → serves s → AreAllEntered rules s n lines a b p l → AreAnswered answers.answers lines a b p
+  all_answered : (s l : State) (n : ℕ) (lines : List (List ℕ)) (a b : Option (List ℕ)) (p : Bool) → serves s → AreAllEntered rules s n lines a b p l
+      → AreAnswered answers.answers lines a b p
   all_answered s l n lines a b p served h = record { replies = h.replies; each = replies s l n lines h.replies served h.each; written = h.written; any = h.any }
 
   begun : (s : State) (n : ℕ) (lines : List (List ℕ)) (a b : Option (List ℕ)) → serves s → IsEntryBegun rules s n lines a b → AreBegun answers.answers lines a b
@@ -49,13 +53,14 @@ module _ {State : Type 0} (rules : Entering State) (serves : State → Type 0) (
     written = h.written;
   }
 
-  short : (s : State) (n : ℕ) (lines : List (List ℕ)) (a b : Option (List ℕ)) → serves s → IsEntryWanting rules s n lines a b → AreCutShort answers.answers answers.may_want lines a b
+  short : (s : State) (n : ℕ) (lines : List (List ℕ)) (a b : Option (List ℕ)) → serves s → IsEntryWanting rules s n lines a b
+      → AreCutShort answers.answers answers.may_want lines a b
   short s n lines a b served h = record {
     done = h.done;
     line = h.line;
     unseen = h.unseen;
     split = h.split;
-    cause = alike.wants h.last (n + length h.done) (kept_front h.line) (served_last s h.last n h.done h.replies served h.each) h.cause;
+    cause = alike.wants h.last (n + length h.done) h.line (served_last s h.last n h.done h.replies served h.each) h.cause;
     replies = h.replies;
     each = replies s h.last n h.done h.replies served h.each;
     written = h.written;
@@ -63,31 +68,65 @@ module _ {State : Type 0} (rules : Entering State) (serves : State → Type 0) (
 
   -- each ending of the one is the same ending of the other
   pub ends_alike : (s l : State) (told : Told) (ended : Ended) → serves s → EntersBy rules s l told ended → EndsBy answers told ended
-  ends_alike s l told NoneRefused served h = record { input = h.input; taken = h.taken; at_end = h.at_end; within = h.within; answered = all_answered s l 1 _ told.written told.written_after false served h.entered }
-  ends_alike s l told SomeRefused served h = record { input = h.input; taken = h.taken; at_end = h.at_end; within = h.within; answered = all_answered s l 1 _ told.written told.written_after true served h.entered }
-  ends_alike s l told ReadFailed served h = record { input = h.input; taken = h.taken; within = h.within; refused = h.refused; answered = all_answered s l 1 _ told.written told.written_after h.refused served h.entered }
-  ends_alike s l told WriteFailed served h = record { input = h.input; later = h.later; taken = h.taken; left = h.left; within = h.within; begun = begun s 1 _ told.written told.written_after served h.begun }
-  ends_alike s l told NoMemory served h = record { input = h.input; later = h.later; taken = h.taken; left = h.left; within = h.within; short = short s 1 _ told.written told.written_after served h.short }
-  ends_alike s l told TooMany served h = record { first = h.first; more = h.more; taken = h.taken; full = h.full; some = h.some; refused = h.refused; answered = all_answered s l 1 _ told.written told.written_after h.refused served h.entered }
-
--- where memory is wanting at no line, and else nothing goes wrong, all lines are answered
-pub all_done : (answers : Rules) (told : Told) (read read_after write write_after : ℕ) (ended : Ended) → (IsCalm told.left read read_after write write_after → IsDoneOrWanting ended) → EndsBy answers told ended → IsUndisturbed answers told.left read read_after write write_after → HasVerdict ended
-all_done answers told read read_after write write_after ended done ends calm = elim (done (record { reads = calm.reads; writes = calm.writes; within = calm.within })) [
-  | inl verdict ↦ verdict
-  | inr wanting ↦
-      let h : IsCutShort answers told = subst (λ (e : Ended). EndsBy answers told e) wanting ends in
-      absurd (calm.memory (kept_front h.short.line) h.short.cause)
-]
+  ends_alike s l told NoneRefused served h = record {
+    input = h.input;
+    taken = h.taken;
+    at_end = h.at_end;
+    within = h.within;
+    answered = all_answered s l 1 _ told.written told.written_after false served h.entered;
+  }
+  ends_alike s l told SomeRefused served h = record {
+    input = h.input;
+    taken = h.taken;
+    at_end = h.at_end;
+    within = h.within;
+    answered = all_answered s l 1 _ told.written told.written_after true served h.entered;
+  }
+  ends_alike s l told ReadFailed served h = record {
+    input = h.input;
+    taken = h.taken;
+    within = h.within;
+    refused = h.refused;
+    answered = all_answered s l 1 _ told.written told.written_after h.refused served h.entered;
+  }
+  ends_alike s l told WriteFailed served h = record {
+    input = h.input;
+    taken = h.taken;
+    within = h.within;
+    lines = h.lines;
+    read = h.read;
+    begun = begun s 1 h.lines told.written told.written_after served h.begun;
+  }
+  ends_alike s l told NoMemory served h = record {
+    input = h.input;
+    taken = h.taken;
+    within = h.within;
+    lines = h.lines;
+    read = h.read;
+    short = short s 1 h.lines told.written told.written_after served h.short;
+  }
+  ends_alike s l told TooMany served h = record {
+    first = h.first;
+    more = h.more;
+    taken = h.taken;
+    full = h.full;
+    some = h.some;
+    refused = h.refused;
+    answered = all_answered s l 1 _ told.written told.written_after h.refused served h.entered;
+  }
 
 -- more bytes than those that a source told are not taken
-too_long : (left left_after : Option (List ℕ)) (first more : List ℕ) → IsSomeAnd left (λ input. length input ≤ 2 ^ 30) → Consumes left left_after (first ++ more) → length first ≡ 2 ^ 30 → 0 < length more → ⊥
+too_long : (left left_after : Option (List ℕ)) (first more : List ℕ) → IsSomeAnd left (λ input. length input ≤ 2 ^ 30)
+    → Consumes left left_after (first ++ more) → length first ≡ 2 ^ 30 → 0 < length more → ⊥
 too_long None after first more within taken full some = within
 too_long (Some input) None first more within taken full some = taken
 too_long (Some input) (Some rest) first more within taken full some =
     omega (arith, within, ap (λ (l : List ℕ). length l) taken, length-append (first ++ more) rest, length-append first more)
 
 -- where no call fails and at most 2^30 bytes come, all lines are entered, or memory is wanting
-pub done_or_wanting : {State : Type 0} (rules : Entering State) (s l : State) (told : Told) (read read_after write write_after : ℕ) (ended : Ended) → EntersBy rules s l told ended → (ended ≡ ReadFailed → Rose read read_after) → (ended ≡ WriteFailed → Rose write write_after) → IsCalm told.left read read_after write write_after → IsDoneOrWanting ended
+pub done_or_wanting : {State : Type 0} (rules : Entering State) (s l : State) (told : Told) (read read_after write write_after : ℕ) (ended : Ended)
+    → EntersBy rules s l told ended → (ended ≡ ReadFailed → Rose read read_after) → (ended ≡ WriteFailed → Rose write write_after)
+    → IsCalm told.left read read_after write write_after → IsDoneOrWanting ended
 done_or_wanting rules s l told read read_after write write_after NoneRefused ends reads writes calm = inl (false, refl)
 done_or_wanting rules s l told read read_after write write_after SomeRefused ends reads writes calm = inl (true, refl)
 done_or_wanting rules s l told read read_after write write_after ReadFailed ends reads writes calm = absurd (calm.reads (reads refl))
@@ -97,6 +136,8 @@ done_or_wanting rules s l told read read_after write write_after TooMany ends re
     absurd (too_long told.left told.left_after ends.first ends.more calm.within ends.taken ends.full ends.some)
 
 -- a reply that was begun, and the state that would follow
-pub begun_in_state : {T E State : Type 0} (r : Result T E) (answers : List (List ℕ) → Bool → Type 0) (follows : State → Type 0) (l : State) (a b : Option (List ℕ)) → follows l → OnErr r (IsBegun answers a b) → OnErr r (IsBegun (λ pieces refused. (x : State) × (answers pieces refused × follows x)) a b)
+pub begun_in_state : {T E State : Type 0} (r : Result T E) (answers : List (List ℕ) → Bool → Type 0) (follows : State → Type 0) (l : State)
+    (a b : Option (List ℕ))
+    → follows l → OnErr r (IsBegun answers a b) → OnErr r (IsBegun (λ pieces refused. (x : State) × (answers pieces refused × follows x)) a b)
 begun_in_state (Ok v) answers follows l a b f h = tt
 begun_in_state (Err e) answers follows l a b f h = record { pieces = h.pieces; refused = h.refused; answer = (l, (h.answer, f)); written = h.written }

@@ -1,33 +1,19 @@
 -- An input of which some bytes are taken, and their lines entered.
-use Rattle.std.proofs.Common.{◌≡◌, ℕ, ◌+◌, ◌^◌, ◌<◌, ◌≤◌, Bool, true, false, ◌||◌, List, [], ◌++◌, length, take, map, Option, Some, None, refl, sym, ap, ◌∙◌, subst, arith}
+use Rattle.std.proofs.Common.{◌≡◌, ℕ, ◌+◌, ◌^◌, ◌<◌, ◌≤◌, Bool, true, false, ◌||◌, List, [], ◌++◌, length, take, map, Option, Some, None, inl, inr}
+use Rattle.std.proofs.Common.{refl, sym, ap, ◌∙◌, subst, arith}
 use Rattle.std.specs.Io.KnownBytes.{Consumes, Keeps, IsAtEnd}
 use Rattle.std.proofs.lemmas.List.{append_assoc, append-nil, length-append}
 use Rattle.bk_ports.proofs.KnownSteps.{consumes_more}
 use Rattle.bk_lines.specs.Lines.{closed_lines, open_line, last_line, lines_of, kept_front}
 use Rattle.bk_lines.specs.Entering.{AreAllEntered, Entering, IsEntryStopped}
 use Rattle.bk_lines.specs.Entries.{AreEntriesTooMany, EntersBy, IsEntered, IsEntryCutOff}
-use Rattle.bk_lines.specs.Ending.{Told, Tells, ended_of, verdict_of}
+use Rattle.bk_lines.specs.Ending.{AreRead, Told, ended_of, verdict_of}
 use Rattle.bk_lines.specs.declared.Ended.{Ended}
 use Rattle.bk_lines.specs.declared.line.Stop.{Stop}
 use Rattle.bk_lines.specs.declared.line.Stop.TheVariants.{WriteFailed, NoMemory}
 use Rattle.bk_lines.proofs.Cuts.{closed-append, open-append}
 use Rattle.bk_lines.proofs.Fronts.{closed-fronts, open-fronts, front-front, last-fronts}
-use Rattle.bk_lines.proofs.Joining.{entered_none, entered_more, entered_fronts, fronts_many, stopped_after, stopped_front, stopped_fronts}
-
--- the bytes of a source, where it tells them
-left_bytes : Option (List ℕ) → List ℕ
-left_bytes None = []
-left_bytes (Some bytes) = bytes
-
-tells_left : (left : Option (List ℕ)) → Tells left (left_bytes left)
-unfolding left_bytes
-tells_left None = tt
-tells_left (Some bytes) = refl
-
-none_left : (left : Option (List ℕ)) → IsAtEnd left → left_bytes left ≡ []
-unfolding left_bytes
-none_left None h = refl
-none_left (Some bytes) h = h
+use Rattle.bk_lines.proofs.Joining.{entered_none, entered_more, entered_fronts, fronts_many, stopped_after, stopped_fronts}
 
 consumes_nothing : (left : Option (List ℕ)) → Consumes left left []
 consumes_nothing None = tt
@@ -40,7 +26,8 @@ consumes_kept (Some old) (Some bs) None xs p k = absurd k
 consumes_kept (Some old) (Some bs) (Some cs) xs p k = p ∙ ap (λ (l : List ℕ). xs ++ l) (sym k)
 
 -- some bytes are taken, of which the lines with a line feed are entered, and the front of the open line is kept, with its number
-pub record IsTaken {State : Type 0} (rules : Entering State) (start : State) (left now_left before now : Option (List ℕ)) (count : ℕ) (kept : List ℕ) (number : ℕ) (refused : Bool) (state : State) : Type 0 where
+pub record IsTaken {State : Type 0} (rules : Entering State) (start : State) (left now_left before now : Option (List ℕ)) (count : ℕ) (kept : List ℕ)
+    (number : ℕ) (refused : Bool) (state : State) : Type 0 where
   pub input : List ℕ
   pub taken : Consumes left now_left input
   pub size : length input ≡ count
@@ -52,14 +39,9 @@ pub record IsTaken {State : Type 0} (rules : Entering State) (start : State) (le
 same_front : (kept whole : List ℕ) → kept ≡ kept_front whole → kept_front kept ≡ kept_front whole
 same_front kept whole e = ap (λ (l : List ℕ). kept_front l) e ∙ front-front whole
 
--- the lines of what is taken are the first lines of the input
-lines-append : (input later : List ℕ) → lines_of (input ++ later) ≡ closed_lines [] input ++ (closed_lines (open_line [] input) later ++ last_line (open_line [] (input ++ later)))
-lines-append input later =
-    ap (λ (l : List (List ℕ)). l ++ last_line (open_line [] (input ++ later))) (closed-append [] input later)
-    ∙ append_assoc (closed_lines [] input) (closed_lines (open_line [] input) later) (last_line (open_line [] (input ++ later)))
-
 module _ {State : Type 0} (rules : Entering State) (start : State) where
-  pub taken_none : (left w : Option (List ℕ)) (kept : List ℕ) (number : ℕ) → kept ≡ [] → number ≡ 1 → IsTaken rules start left left w w 0 kept number false start
+  pub taken_none : (left w : Option (List ℕ)) (kept : List ℕ) (number : ℕ) → kept ≡ [] → number ≡ 1
+      → IsTaken rules start left left w w 0 kept number false start
   taken_none left w kept number none first = record {
     input = [];
     taken = consumes_nothing left;
@@ -69,7 +51,10 @@ module _ {State : Type 0} (rules : Entering State) (start : State) where
     entered = entered_none rules start 1 w;
   }
 
-  pub taken_more : (s t : State) (l m n a b c : Option (List ℕ)) (count more : ℕ) (kept now_kept bytes : List ℕ) (number now_number : ℕ) (p q : Bool) → IsTaken rules start l m a b count kept number p s → Consumes m n bytes → length bytes ≡ more → now_kept ≡ kept_front (open_line kept bytes) → now_number ≡ number + length (closed_lines kept bytes) → AreAllEntered rules s number (closed_lines kept bytes) b c q t → IsTaken rules start l n a c (count + more) now_kept now_number (p || q) t
+  pub taken_more : (s t : State) (l m n a b c : Option (List ℕ)) (count more : ℕ) (kept now_kept bytes : List ℕ) (number now_number : ℕ) (p q : Bool)
+      → IsTaken rules start l m a b count kept number p s → Consumes m n bytes → length bytes ≡ more → now_kept ≡ kept_front (open_line kept bytes)
+      → now_number ≡ number + length (closed_lines kept bytes) → AreAllEntered rules s number (closed_lines kept bytes) b c q t
+      → IsTaken rules start l n a c (count + more) now_kept now_number (p || q) t
   taken_more s t l m n a b c count more kept now_kept bytes number now_number p q state read size front next here =
       let same = same_front kept (open_line [] state.input) state.front in
       let known = closed_lines [] state.input in
@@ -84,7 +69,14 @@ module _ {State : Type 0} (rules : Entering State) (start : State) where
             front ∙ open-fronts kept (open_line [] state.input) bytes same
             ∙ ap (λ (o : List ℕ). kept_front o) (sym (open-append [] state.input bytes));
         numbered =
-            omega (arith, next, state.numbered, fronts_many (closed_lines kept bytes) added fronts, length-append known added, ap (λ (x : List (List ℕ)). length x) joined);
+            omega (
+              arith,
+              next,
+              state.numbered,
+              fronts_many (closed_lines kept bytes) added fronts,
+              length-append known added,
+              ap (λ (x : List (List ℕ)). length x) joined,
+            );
         entered =
             subst (λ (lines : List (List ℕ)). AreAllEntered rules start 1 lines a c (p || q) t) (sym joined)
             (entered_more rules start s t 1 known added a b c p q state.entered
@@ -92,7 +84,8 @@ module _ {State : Type 0} (rules : Entering State) (start : State) where
             (entered_fronts rules s t number (closed_lines kept bytes) added b c q fronts here)));
       }
 
-module _ {State : Type 0} (rules : Entering State) (start s : State) (l m n a b c : Option (List ℕ)) (count : ℕ) (kept : List ℕ) (number : ℕ) (p : Bool) (state : IsTaken rules start l m a b count kept number p s) where
+module _ {State : Type 0} (rules : Entering State) (start s : State) (l m n a b c : Option (List ℕ)) (count : ℕ) (kept : List ℕ) (number : ℕ) (p : Bool)
+    (state : IsTaken rules start l m a b count kept number p s) where
   -- the lines of the end of the input
   last_same : map kept_front (last_line kept) ≡ map kept_front (last_line (open_line [] state.input))
   last_same =
@@ -107,7 +100,8 @@ module _ {State : Type 0} (rules : Entering State) (start s : State) (l m n a b 
     entered = state.entered;
   }
 
-  pub ends_more : (more : List ℕ) → Consumes m n more → 0 < length more → count ≡ 2 ^ 30 → AreEntriesTooMany rules start (record { left = l; left_after = n; written = a; written_after = b }) s
+  pub ends_more : (more : List ℕ) → Consumes m n more → 0 < length more → count ≡ 2 ^ 30
+      → AreEntriesTooMany rules start (record { left = l; left_after = n; written = a; written_after = b }) s
   ends_more more read some full = record {
     first = state.input;
     more = more;
@@ -118,7 +112,8 @@ module _ {State : Type 0} (rules : Entering State) (start s : State) (l m n a b 
     entered = state.entered;
   }
 
-  pub ends_all : (q : Bool) (t : State) → Consumes m n [] → IsAtEnd n → count ≤ 2 ^ 30 → AreAllEntered rules s number (last_line kept) b c q t → IsEntered rules start (record { left = l; left_after = n; written = a; written_after = c }) (p || q) t
+  pub ends_all : (q : Bool) (t : State) → Consumes m n [] → IsAtEnd n → count ≤ 2 ^ 30 → AreAllEntered rules s number (last_line kept) b c q t
+      → IsEntered rules start (record { left = l; left_after = n; written = a; written_after = c }) (p || q) t
   ends_all q t read at_end within here = record {
     input = state.input;
     taken = consumes_more l m n state.input [] state.input state.taken read (sym (append-nil state.input));
@@ -130,58 +125,66 @@ module _ {State : Type 0} (rules : Entering State) (start s : State) (l m n a b 
         (entered_fronts rules s t number (last_line kept) (last_line (open_line [] state.input)) b c q last_same here));
   }
 
--- where a line of the input was not entered
-module _ {State : Type 0} (rules : Entering State) (start last : State) (l n a c : Option (List ℕ)) (input : List ℕ) where
-  stop_ends : (stop : Stop) → Consumes l n input → length input ≤ 2 ^ 30 → IsEntryStopped rules start 1 (lines_of (input ++ left_bytes n)) a c stop → EntersBy rules start last (record { left = l; left_after = n; written = a; written_after = c }) (ended_of stop)
-  stop_ends WriteFailed taken within h = record { input = input; later = left_bytes n; taken = taken; left = tells_left n; within = within; begun = h }
-  stop_ends NoMemory taken within h = record { input = input; later = left_bytes n; taken = taken; left = tells_left n; within = within; short = h }
+-- where a line that was read was not entered
+module _ {State : Type 0} (rules : Entering State) (start last : State) (told : Told) (input : List ℕ) (lines : List (List ℕ)) where
+  stop_ends : (stop : Stop) → Consumes told.left told.left_after input → length input ≤ 2 ^ 30
+      → AreRead told.left_after input lines → IsEntryStopped rules start 1 lines told.written told.written_after stop
+      → EntersBy rules start last told (ended_of stop)
+  stop_ends WriteFailed taken within read h =
+      record { input = input; taken = taken; within = within; lines = lines; read = read; begun = h }
+  stop_ends NoMemory taken within read h =
+      record { input = input; taken = taken; within = within; lines = lines; read = read; short = h }
 
-  stops : (stop : Stop) (ended : Ended) → ended ≡ ended_of stop → Consumes l n input → length input ≤ 2 ^ 30 → IsEntryStopped rules start 1 (lines_of (input ++ left_bytes n)) a c stop → EntersBy rules start last (record { left = l; left_after = n; written = a; written_after = c }) ended
-  stops stop ended is taken within here =
-      subst (λ (e : Ended). EntersBy rules start last (record { left = l; left_after = n; written = a; written_after = c }) e) (sym is) (stop_ends stop taken within here)
+  stops : (stop : Stop) (ended : Ended) → ended ≡ ended_of stop → Consumes told.left told.left_after input
+      → length input ≤ 2 ^ 30 → AreRead told.left_after input lines
+      → IsEntryStopped rules start 1 lines told.written told.written_after stop → EntersBy rules start last told ended
+  stops stop ended is taken within read here =
+      subst (λ (e : Ended). EntersBy rules start last told e) (sym is) (stop_ends stop taken within read here)
 
-module _ {State : Type 0} (rules : Entering State) (start s last : State) (l m n a b c : Option (List ℕ)) (count : ℕ) (kept : List ℕ) (number : ℕ) (p : Bool) (state : IsTaken rules start l m a b count kept number p s) (stop : Stop) where
-  pub ends_block : (ended : Ended) (more : ℕ) (bytes : List ℕ) → ended ≡ ended_of stop → Consumes m n bytes → length bytes ≡ more → count + more ≤ 2 ^ 30 → IsEntryStopped rules s number (closed_lines kept bytes) b c stop → EntersBy rules start last (record { left = l; left_after = n; written = a; written_after = c }) ended
+module _ {State : Type 0} (rules : Entering State) (start s last : State) (l m n a b c : Option (List ℕ)) (count : ℕ)
+    (kept : List ℕ) (number : ℕ) (p : Bool) (state : IsTaken rules start l m a b count kept number p s) (stop : Stop) where
+  pub ends_block : (ended : Ended) (more : ℕ) (bytes : List ℕ) → ended ≡ ended_of stop → Consumes m n bytes
+      → length bytes ≡ more → count + more ≤ 2 ^ 30 → IsEntryStopped rules s number (closed_lines kept bytes) b c stop
+      → EntersBy rules start last (record { left = l; left_after = n; written = a; written_after = c }) ended
   ends_block ended more bytes is read size within here =
       let known = closed_lines [] state.input in
       let next = closed_lines (open_line [] state.input) bytes in
-      let later = closed_lines (open_line [] (state.input ++ bytes)) (left_bytes n) ++ last_line (open_line [] ((state.input ++ bytes) ++ left_bytes n)) in
       let fronts = closed-fronts kept (open_line [] state.input) bytes (same_front kept (open_line [] state.input) state.front) in
       let all : IsEntryStopped rules start 1 (known ++ next) a c stop =
       stopped_after rules stop start s 1 known next a b c p state.entered
       (subst (λ (i : ℕ). IsEntryStopped rules s i next b c stop) state.numbered
       (stopped_fronts rules stop s number (closed_lines kept bytes) next b c fronts here)) in
-      let joined : IsEntryStopped rules start 1 (closed_lines [] (state.input ++ bytes)) a c stop =
-      subst (λ (lines : List (List ℕ)). IsEntryStopped rules start 1 lines a c stop) (sym (closed-append [] state.input bytes)) all in
-      stops rules start last l n a c (state.input ++ bytes) stop ended is
+      stops rules start last (record { left = l; left_after = n; written = a; written_after = c }) (state.input ++ bytes)
+      (closed_lines [] (state.input ++ bytes)) stop ended is
       (consumes_more l m n state.input bytes (state.input ++ bytes) state.taken read refl)
-      (omega (arith, length-append state.input bytes, state.size, size, within))
-      (subst (λ (lines : List (List ℕ)). IsEntryStopped rules start 1 lines a c stop) (sym (lines-append (state.input ++ bytes) (left_bytes n)))
-      (stopped_front rules stop start 1 (closed_lines [] (state.input ++ bytes)) later a c joined))
+      (omega (arith, length-append state.input bytes, state.size, size, within)) (inl refl)
+      (subst (λ (lines : List (List ℕ)). IsEntryStopped rules start 1 lines a c stop) (sym (closed-append [] state.input bytes)) all)
 
-  pub ends_last : (ended : Ended) → ended ≡ ended_of stop → Consumes m n [] → IsAtEnd n → count ≤ 2 ^ 30 → IsEntryStopped rules s number (last_line kept) b c stop → EntersBy rules start last (record { left = l; left_after = n; written = a; written_after = c }) ended
+  pub ends_last : (ended : Ended) → ended ≡ ended_of stop → Consumes m n [] → IsAtEnd n → count ≤ 2 ^ 30
+      → IsEntryStopped rules s number (last_line kept) b c stop
+      → EntersBy rules start last (record { left = l; left_after = n; written = a; written_after = c }) ended
   ends_last ended is read at_end within here =
       let known = closed_lines [] state.input in
       let final = last_line (open_line [] state.input) in
       let fronts : map kept_front (last_line kept) ≡ map kept_front final =
       ap (λ (o : List ℕ). map kept_front (last_line o)) state.front ∙ last-fronts (open_line [] state.input) in
-      let same : lines_of state.input ≡ lines_of (state.input ++ left_bytes n) =
-      ap (λ (bytes : List ℕ). lines_of bytes) (sym (append-nil state.input))
-      ∙ ap (λ (bytes : List ℕ). lines_of (state.input ++ bytes)) (sym (none_left n at_end)) in
-      stops rules start last l n a c state.input stop ended is
+      stops rules start last (record { left = l; left_after = n; written = a; written_after = c }) state.input
+      (lines_of state.input) stop ended is
       (consumes_more l m n state.input [] state.input state.taken read (sym (append-nil state.input)))
-      (omega (arith, state.size, within))
-      (subst (λ (lines : List (List ℕ)). IsEntryStopped rules start 1 lines a c stop) same
+      (omega (arith, state.size, within)) (inr (at_end, refl))
       (stopped_after rules stop start s 1 known final a b c p state.entered
       (subst (λ (i : ℕ). IsEntryStopped rules s i final b c stop) state.numbered
-      (stopped_fronts rules stop s number (last_line kept) final b c fronts here))))
+      (stopped_fronts rules stop s number (last_line kept) final b c fronts here)))
 
-verdict_ends : {State : Type 0} (rules : Entering State) (start last : State) (told : Told) (refused : Bool) → IsEntered rules start told refused last → EntersBy rules start last told (verdict_of refused)
+verdict_ends : {State : Type 0} (rules : Entering State) (start last : State) (told : Told) (refused : Bool) → IsEntered rules start told refused last
+    → EntersBy rules start last told (verdict_of refused)
 verdict_ends rules start last told true h = h
 verdict_ends rules start last told false h = h
 
-pub ends_verdict : {State : Type 0} (rules : Entering State) (start last : State) (told : Told) (refused : Bool) (ended : Ended) → ended ≡ verdict_of refused → IsEntered rules start told refused last → EntersBy rules start last told ended
-ends_verdict rules start last told refused ended is h = subst (λ (e : Ended). EntersBy rules start last told e) (sym is) (verdict_ends rules start last told refused h)
+pub ends_verdict : {State : Type 0} (rules : Entering State) (start last : State) (told : Told) (refused : Bool) (ended : Ended) → ended ≡ verdict_of refused
+    → IsEntered rules start told refused last → EntersBy rules start last told ended
+ends_verdict rules start last told refused ended is h =
+    subst (λ (e : Ended). EntersBy rules start last told e) (sym is) (verdict_ends rules start last told refused h)
 
 -- a read that gave no byte
 pub read_nothing : (m n : Option (List ℕ)) (bytes : List ℕ) (count : ℕ) → count ≡ 0 → Consumes m n (take count bytes) → Consumes m n []

@@ -1,22 +1,24 @@
 -- What stands written when lines are answered one after another. `answers` says which replies a line may have, and
 -- `before` and `after` are the bytes that a sink has taken, where it tells them.
+-- Example (EndingExamples): where a line is answered by itself and refused where it begins with `!`, of `a` and `!` some are refused.
 use Rattle.std.specs.Prelude.{◌≡◌, ℕ, Bool, List, ◌∷◌, ◌++◌, Option, Result, Ok, Err}
 use Rattle.std.specs.Io.KnownBytes.{Appends}
 use Rattle.bk_ports.specs.Causes.{AppendsPrefix, Rose}
-use Rattle.bk_lines.specs.Lines.{kept_front}
 use Rattle.bk_lines.specs.Reply.{Reply, AreReplies, text_of, some_refused}
 use Rattle.bk_lines.specs.declared.line.Stop.{Stop}
 use Rattle.bk_lines.specs.declared.line.Stop.TheVariants.{WriteFailed, NoMemory}
 
 -- all these lines are answered, and some of them are refused or none
-pub record AreAnswered (answers : List ℕ → List (List ℕ) → Bool → Type 0) (lines : List (List ℕ)) (before after : Option (List ℕ)) (refused : Bool) : Type 0 where
+pub record AreAnswered (answers : List ℕ → List (List ℕ) → Bool → Type 0) (lines : List (List ℕ))
+    (before after : Option (List ℕ)) (refused : Bool) : Type 0 where
   pub replies : List Reply
   pub each : AreReplies answers lines replies
   pub written : Appends before after (text_of replies)
   pub any : some_refused replies ≡ refused
 
 -- a write failed: what was written is the beginning of the answers to the first of these lines
-pub record AreBegun (answers : List ℕ → List (List ℕ) → Bool → Type 0) (lines : List (List ℕ)) (before after : Option (List ℕ)) : Type 0 where
+pub record AreBegun (answers : List ℕ → List (List ℕ) → Bool → Type 0) (lines : List (List ℕ))
+    (before after : Option (List ℕ)) : Type 0 where
   pub begun : List (List ℕ)
   pub unseen : List (List ℕ)
   pub split : lines ≡ begun ++ unseen
@@ -25,20 +27,16 @@ pub record AreBegun (answers : List ℕ → List (List ℕ) → Bool → Type 0)
   pub written : AppendsPrefix before after (text_of replies)
 
 -- memory was wanting at a line where it may: the lines before it are answered, and nothing else was written
-pub record AreCutShort (answers : List ℕ → List (List ℕ) → Bool → Type 0) (may_want : List ℕ → Type 0) (lines : List (List ℕ)) (before after : Option (List ℕ)) : Type 0 where
+pub record AreCutShort (answers : List ℕ → List (List ℕ) → Bool → Type 0) (may_want : List ℕ → Type 0) (lines : List (List ℕ))
+    (before after : Option (List ℕ)) : Type 0 where
   pub done : List (List ℕ)
   pub line : List ℕ
   pub unseen : List (List ℕ)
   pub split : lines ≡ done ++ line ∷ unseen
-  pub cause : may_want (kept_front line)
+  pub cause : may_want line
   pub replies : List Reply
   pub each : AreReplies answers done replies
   pub written : Appends before after (text_of replies)
-
--- why these lines are not all answered
-abbrev pub AreStopped : (List ℕ → List (List ℕ) → Bool → Type 0) → (List ℕ → Type 0) → List (List ℕ) → Option (List ℕ) → Option (List ℕ) → Stop → Type 0
-AreStopped answers may_want lines before after WriteFailed = AreBegun answers lines before after
-AreStopped answers may_want lines before after NoMemory = AreCutShort answers may_want lines before after
 
 -- a sink's count of faults rose exactly where a write failed
 abbrev pub CountFits : {T : Type 0} → ℕ → ℕ → Result T Stop → Type 0

@@ -1,18 +1,25 @@
 -- How a run over lines ends, what was taken then and what stands written.
-use Rattle.std.specs.Prelude.{◌≡◌, ℕ, ◌^◌, ◌<◌, ◌≤◌, Bool, true, false, List, [], ◌++◌, length, Option, None, Some, IsSomeAnd}
+-- Example (EndingExamples): of `a`, a line feed, `!` and a failed read the first line is answered; at the end of the input both are.
+use Rattle.std.specs.Prelude.{◌≡◌, ℕ, ◌^◌, ◌<◌, ◌≤◌, ◌⊎◌, Bool, true, false, List, [], ◌++◌, length, Option}
 use Rattle.std.specs.Io.KnownBytes.{Consumes, IsAtEnd}
-use Rattle.bk_ports.specs.Causes.{Rose}
-use Rattle.bk_lines.specs.Lines.{closed_lines, lines_of}
+use Rattle.bk_lines.specs.Lines.{closed_lines, kept_front, lines_of}
 use Rattle.bk_lines.specs.Answered.{AreAnswered, AreBegun, AreCutShort}
 use Rattle.bk_lines.specs.declared.Ended.{Ended}
 use Rattle.bk_lines.specs.declared.line.Stop.{Stop}
 use Rattle.bk_lines.specs.declared.line.Stop.TheVariants as stops
 use Rattle.bk_lines.specs.declared.Ended.TheVariants.{NoneRefused, SomeRefused, ReadFailed, WriteFailed, NoMemory, TooMany}
 
--- which replies lines may have, and at which lines memory may be wanting
+-- which replies a line may have, and at which lines memory may be wanting
 pub record Rules : Type 1 where
   pub answers : List ℕ → List (List ℕ) → Bool → Type 0
   pub may_want : List ℕ → Type 0
+
+-- lines that are answered as what is kept of them
+abbrev pub of_fronts : Rules → Rules
+of_fronts rules = record {
+  answers = λ line. rules.answers (kept_front line);
+  may_want = λ line. rules.may_want (kept_front line);
+}
 
 -- the bytes that a source has left and that a sink has taken, before and after a run, where they tell them
 pub record Told : Type 0 where
@@ -21,10 +28,10 @@ pub record Told : Type 0 where
   pub written : Option (List ℕ)
   pub written_after : Option (List ℕ)
 
--- bytes that a source has left, where it tells them
-abbrev pub Tells : Option (List ℕ) → List ℕ → Type 0
-Tells None bytes = Unit {0}
-Tells (Some told) bytes = told ≡ bytes
+-- the lines that were read where these bytes were taken: those that a line feed ends, and at the end of the input the line
+-- that it ends, too
+abbrev pub AreRead : Option (List ℕ) → List ℕ → List (List ℕ) → Type 0
+AreRead left input lines = (lines ≡ closed_lines [] input) ⊎ (IsAtEnd left × (lines ≡ lines_of input))
 
 -- the input was read to its end, and all its lines are answered
 pub record IsAnswered (rules : Rules) (told : Told) (refused : Bool) : Type 0 where
@@ -52,23 +59,23 @@ pub record IsTooMany (rules : Rules) (told : Told) : Type 0 where
   pub refused : Bool
   pub answered : AreAnswered rules.answers (closed_lines [] first) told.written told.written_after refused
 
--- a write failed at a line of the input, of which `later` was not taken yet
+-- a write failed at a line that was read: what stands written is the beginning of the answers to the first of the lines read
 pub record IsBroken (rules : Rules) (told : Told) : Type 0 where
   pub input : List ℕ
-  pub later : List ℕ
   pub taken : Consumes told.left told.left_after input
-  pub left : Tells told.left_after later
   pub within : length input ≤ 2 ^ 30
-  pub begun : AreBegun rules.answers (lines_of (input ++ later)) told.written told.written_after
+  pub lines : List (List ℕ)
+  pub read : AreRead told.left_after input lines
+  pub begun : AreBegun rules.answers lines told.written told.written_after
 
--- memory was wanting at a line of the input, of which `later` was not taken yet
+-- memory was wanting at a line that was read: all lines before it are answered, and nothing else was written
 pub record IsCutShort (rules : Rules) (told : Told) : Type 0 where
   pub input : List ℕ
-  pub later : List ℕ
   pub taken : Consumes told.left told.left_after input
-  pub left : Tells told.left_after later
   pub within : length input ≤ 2 ^ 30
-  pub short : AreCutShort rules.answers rules.may_want (lines_of (input ++ later)) told.written told.written_after
+  pub lines : List (List ℕ)
+  pub read : AreRead told.left_after input lines
+  pub short : AreCutShort rules.answers rules.may_want lines told.written told.written_after
 
 -- what each ending says
 abbrev pub EndsBy : Rules → Told → Ended → Type 0
@@ -88,14 +95,6 @@ verdict_of false = NoneRefused
 abbrev pub ended_of : Stop → Ended
 ended_of stops.WriteFailed = WriteFailed
 ended_of stops.NoMemory = NoMemory
-
--- no read and no write failed, memory is wanting at no line, and the source told at most 2^30 bytes. The numbers are the
--- counts of faults of the source and of the sink, before and after.
-pub record IsUndisturbed (rules : Rules) (left : Option (List ℕ)) (read read_after write write_after : ℕ) : Type 0 where
-  pub reads : ¬ Rose read read_after
-  pub writes : ¬ Rose write write_after
-  pub memory : (line : List ℕ) → ¬ rules.may_want line
-  pub within : IsSomeAnd left (λ input. length input ≤ 2 ^ 30)
 
 -- all lines were answered
 abbrev pub HasVerdict : Ended → Type 0

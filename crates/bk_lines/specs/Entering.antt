@@ -1,5 +1,6 @@
 -- Lines entered one after another in a register, whose state goes on from line to line. Lines are numbered from 1, and all
 -- of them count. `before` and `after` are the bytes that a sink has taken, where it tells them.
+-- Example (EndingExamples): the sum of the numbers of the lines is kept: from 10 two lines lead by 11 to 13.
 use Rattle.std.specs.Prelude.{◌≡◌, ◌+◌, ℕ, Bool, List, [], ◌∷◌, ◌++◌, length, Option}
 use Rattle.std.specs.Io.KnownBytes.{Appends}
 use Rattle.bk_ports.specs.Causes.{AppendsPrefix}
@@ -24,14 +25,16 @@ AreEntered {State} rules state number (line ∷ lines) (reply ∷ replies) last 
     × AreEntered rules next (number + 1) lines replies last
 
 -- all these lines are entered, and some of them are refused or none
-pub record AreAllEntered {State : Type 0} (rules : Entering State) (state : State) (number : ℕ) (lines : List (List ℕ)) (before after : Option (List ℕ)) (refused : Bool) (last : State) : Type 0 where
+pub record AreAllEntered {State : Type 0} (rules : Entering State) (state : State) (number : ℕ) (lines : List (List ℕ)) (before after : Option (List ℕ))
+    (refused : Bool) (last : State) : Type 0 where
   pub replies : List Reply
   pub each : AreEntered rules state number lines replies last
   pub written : Appends before after (text_of replies)
   pub any : some_refused replies ≡ refused
 
 -- a write failed: what was written is the beginning of the replies to the first of these lines
-pub record IsEntryBegun {State : Type 0} (rules : Entering State) (state : State) (number : ℕ) (lines : List (List ℕ)) (before after : Option (List ℕ)) : Type 0 where
+pub record IsEntryBegun {State : Type 0} (rules : Entering State) (state : State) (number : ℕ) (lines : List (List ℕ)) (before after : Option (List ℕ))
+    : Type 0 where
   pub begun : List (List ℕ)
   pub unseen : List (List ℕ)
   pub split : lines ≡ begun ++ unseen
@@ -41,7 +44,8 @@ pub record IsEntryBegun {State : Type 0} (rules : Entering State) (state : State
   pub written : AppendsPrefix before after (text_of replies)
 
 -- memory was wanting at a line where it may: the lines before it are entered, and nothing else was written
-pub record IsEntryWanting {State : Type 0} (rules : Entering State) (state : State) (number : ℕ) (lines : List (List ℕ)) (before after : Option (List ℕ)) : Type 0 where
+pub record IsEntryWanting {State : Type 0} (rules : Entering State) (state : State) (number : ℕ) (lines : List (List ℕ)) (before after : Option (List ℕ))
+    : Type 0 where
   pub done : List (List ℕ)
   pub line : List ℕ
   pub unseen : List (List ℕ)

@@ -1,15 +1,17 @@
 -- How a run ends that enters the lines of an input in a register, what was taken then and what stands written.
+-- Example (EndingExamples): which lines were read, of `a`, a line feed and `!`, before and at the end of the input.
 use Rattle.std.specs.Prelude.{◌≡◌, ℕ, ◌^◌, ◌<◌, ◌≤◌, ◌⊎◌, Bool, true, false, List, [], ◌++◌, length, Option, IsSomeAnd}
 use Rattle.std.specs.Io.KnownBytes.{Consumes, IsAtEnd}
 use Rattle.bk_ports.specs.Causes.{Rose}
 use Rattle.bk_lines.specs.Lines.{closed_lines, lines_of}
-use Rattle.bk_lines.specs.Ending.{HasVerdict, Tells, Told}
+use Rattle.bk_lines.specs.Ending.{AreRead, HasVerdict, Told}
 use Rattle.bk_lines.specs.Entering.{AreAllEntered, Entering, IsEntryBegun, IsEntryWanting}
 use Rattle.bk_lines.specs.declared.Ended.{Ended}
 use Rattle.bk_lines.specs.declared.Ended.TheVariants.{NoneRefused, SomeRefused, ReadFailed, WriteFailed, NoMemory, TooMany}
 
 -- the input was read to its end, and all its lines are entered
-pub record IsEntered {State : Type 0} (rules : Entering State) (state : State) (told : Told) (refused : Bool) (last : State) : Type 0 where
+pub record IsEntered {State : Type 0} (rules : Entering State) (state : State) (told : Told) (refused : Bool) (last : State)
+    : Type 0 where
   pub input : List ℕ
   pub taken : Consumes told.left told.left_after input
   pub at_end : IsAtEnd told.left_after
@@ -34,23 +36,23 @@ pub record AreEntriesTooMany {State : Type 0} (rules : Entering State) (state : 
   pub refused : Bool
   pub entered : AreAllEntered rules state 1 (closed_lines [] first) told.written told.written_after refused last
 
--- a write failed at a line of the input, of which `later` was not taken yet
+-- a write failed at a line that was read: what stands written is the beginning of what is written for the first of the lines
 pub record IsEntryBroken {State : Type 0} (rules : Entering State) (state : State) (told : Told) : Type 0 where
   pub input : List ℕ
-  pub later : List ℕ
   pub taken : Consumes told.left told.left_after input
-  pub left : Tells told.left_after later
   pub within : length input ≤ 2 ^ 30
-  pub begun : IsEntryBegun rules state 1 (lines_of (input ++ later)) told.written told.written_after
+  pub lines : List (List ℕ)
+  pub read : AreRead told.left_after input lines
+  pub begun : IsEntryBegun rules state 1 lines told.written told.written_after
 
--- memory was wanting at a line of the input, of which `later` was not taken yet
+-- memory was wanting at a line that was read
 pub record IsEntryCutShort {State : Type 0} (rules : Entering State) (state : State) (told : Told) : Type 0 where
   pub input : List ℕ
-  pub later : List ℕ
   pub taken : Consumes told.left told.left_after input
-  pub left : Tells told.left_after later
   pub within : length input ≤ 2 ^ 30
-  pub short : IsEntryWanting rules state 1 (lines_of (input ++ later)) told.written told.written_after
+  pub lines : List (List ℕ)
+  pub read : AreRead told.left_after input lines
+  pub short : IsEntryWanting rules state 1 lines told.written told.written_after
 
 -- what each ending says, of the state at the start and of the last one
 abbrev pub EntersBy : {State : Type 0} → Entering State → State → State → Told → Ended → Type 0

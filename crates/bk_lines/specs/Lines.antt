@@ -1,4 +1,5 @@
 -- Bytes cut into lines. A line ends at a line feed, which isn't part of it, or at the end of the bytes.
+-- Example (LineExamples): the bytes `ab`, two line feeds, `cde` have the lines `ab`, one without bytes, and `cde`.
 use Rattle.std.specs.Prelude.{ℕ, true, false, ◌==◌, List, [], ◌∷◌, ◌++◌, take}
 
 -- where a line has begun with some bytes and more bytes follow: the lines that a line feed ends

@@ -1,7 +1,7 @@
 -- What is answered to lines.
+-- Example (LineExamples): two replies, of which one is a refusal, have the text of both and are some of them refused.
 use Rattle.std.specs.Prelude.{ℕ, Bool, List, [], ◌∷◌}
 use Rattle.std.specs.List.{concat, flat_map, list_any}
-use Rattle.bk_lines.specs.Lines.{kept_front}
 
 -- the answer to one line: the pieces that are written, each by one call, and whether they are the text of a refusal
 pub record Reply : Type 0 where
@@ -27,4 +27,5 @@ abbrev pub AreReplies : (List ℕ → List (List ℕ) → Bool → Type 0) → L
 AreReplies answers [] [] = Unit {0}
 AreReplies answers [] (reply ∷ replies) = ⊥
 AreReplies answers (line ∷ lines) [] = ⊥
-AreReplies answers (line ∷ lines) (reply ∷ replies) = answers (kept_front line) reply.pieces reply.refused × AreReplies answers lines replies
+AreReplies answers (line ∷ lines) (reply ∷ replies) =
+    answers line reply.pieces reply.refused × AreReplies answers lines replies

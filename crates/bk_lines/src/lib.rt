@@ -12,8 +12,6 @@ mod block;
 mod input;
 mod line;
 mod steady;
-#[cfg(test)]
-mod tests;
 
 use arrayvec::ArrayVec;
 use bk_ports::{Failed, Sink};
@@ -33,6 +31,12 @@ pub enum Outcome {
 
 /// Answers lines, each for itself.
 pub trait Answerer {
+    /// Room to work in, for one line after another: it holds anything before and after.
+    type Desk: Drop;
+
+    /// A desk for a run.
+    fn desk(&self) -> Self::Desk;
+
     /// The pieces that may be written for a line, each by one call, and whether they are the text of a refusal.
     ghost answers: { Self → List ℕ → List (List ℕ) → Bool → Type 0 };
 
@@ -44,6 +48,7 @@ pub trait Answerer {
     fn answer<O: Sink>(
         &self,
         line: &[u8],
+        desk: &mut Self::Desk,
         buffer: &mut ArrayVec<u8, 9000>,
         out: &mut O,
     ) -> Result<Outcome, Failed>

@@ -2,16 +2,18 @@
 
 ghost use Rattle.std.specs.Prelude.{◌≡◌, ◌≢◌};
 ghost use Rattle.bk_ports.specs.Causes.{Rose};
-ghost use Rattle.bk_lines.specs.Ending.{EndsBy, HasVerdict, IsUndisturbed};
+ghost use Rattle.bk_lines.specs.Ending.{EndsBy, of_fronts};
+ghost use Rattle.bk_lines.specs.Entries.{IsCalm, IsDoneOrWanting};
 
 use crate::input::enter_lines;
 use crate::{Answerer, Ended, Outcome, Register};
 use arrayvec::ArrayVec;
 use bk_ports::{Failed, Sink, Source};
 
-// A register that keeps nothing: each line is answered for itself.
-struct Steady<'a, A> {
+// A register that keeps nothing of a line: each is answered for itself, at one desk.
+struct Steady<'a, A: Answerer> {
     answerer: &'a A,
+    desk: A::Desk,
 }
 
 impl<A: Answerer> Register for Steady<'_, A> {
@@ -30,7 +32,7 @@ impl<A: Answerer> Register for Steady<'_, A> {
         buffer: &mut ArrayVec<u8, 9000>,
         out: &mut O,
     ) -> Result<Outcome, Failed> {
-        self.answerer.answer(line, buffer, out)
+        self.answerer.answer(line, &mut self.desk, buffer, out)
     }
 
     ghost use Rattle.std.specs.Prelude.{refl};
@@ -49,7 +51,7 @@ pub fn answer_lines<S: Source, O: Sink, A: Answerer>(
     out: &mut O,
 ) -> Ended
     // What each ending says of the bytes.
-    ensures ending { EndsBy (record { answers = A.answers answerer.now; may_want = A.may_want answerer.now })
+    ensures ending { EndsBy (of_fronts (record { answers = A.answers answerer.now; may_want = A.may_want answerer.now }))
         (record {
           left = S.left source.old;
           left_after = S.left source.new;
@@ -58,10 +60,9 @@ pub fn answer_lines<S: Source, O: Sink, A: Answerer>(
         })
         result }
 
-    // Where nothing goes wrong, all lines are answered.
-    ensures complete { IsUndisturbed (record { answers = A.answers answerer.now; may_want = A.may_want answerer.now })
-        (S.left source.old) (S.faults source.old) (S.faults source.new) (O.faults out.old) (O.faults out.new)
-        → HasVerdict result }
+    // Where nothing goes wrong, all lines are answered, or memory is wanting at one that was read.
+    ensures complete { IsCalm (S.left source.old) (S.faults source.old) (S.faults source.new) (O.faults out.old) (O.faults out.new)
+        → IsDoneOrWanting result }
 
     // And of the counts of faults, whatever is told of the bytes.
     ensures read_failed { result ≡ Ended.ReadFailed → Rose (S.faults source.old) (S.faults source.new) }
@@ -69,8 +70,14 @@ pub fn answer_lines<S: Source, O: Sink, A: Answerer>(
     ensures write_failed { result ≡ Ended.WriteFailed → Rose (O.faults out.old) (O.faults out.new) }
     ensures all_written { result ≢ Ended.WriteFailed → O.faults out.new ≡ O.faults out.old }
 {
-    let mut steady = Steady { answerer };
+    let mut steady = Steady {
+        answerer,
+        desk: answerer.desk(),
+    };
     let ended = enter_lines(&mut steady, source, out);
-    let Steady { answerer: _ } = steady;
+    let Steady {
+        answerer: _,
+        desk: _,
+    } = steady;
     ended
 }

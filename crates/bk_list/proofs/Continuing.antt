@@ -10,64 +10,79 @@ use Rattle.bk_catalogue.specs.Catalogue.{AreAscending, Entry, IsEntry}
 use Rattle.bk_list.specs.Listing.{AreFirst, AtEnd, AtLimit, Ending, EndsBy, WideAt}
 use Rattle.bk_list.specs.ListingLaws.{AListingGoesOn, cursor_after}
 
-all_map : {A : Type 0} (P Q : A → Type 0) → ((x : A) → P x → Q x) → (xs : List A) → AllByRecursion P xs → AllByRecursion Q xs
+pub all_map : {A : Type 0} (P Q : A → Type 0) → ((x : A) → P x → Q x) → (xs : List A) → AllByRecursion P xs → AllByRecursion Q xs
 all_map P Q f [] a = tt
 all_map P Q f (x ∷ xs) a = (f x a.0, all_map P Q f xs a.1)
 
 -- what follows the last of ascending words follows the cursor before them, and each of them
-pub after_last : (cursor : Word) (entries : List Entry) → AllByRecursion (λ e. Follows e.word cursor) entries → AreAscending entries → (w : Word) → Follows w (cursor_after cursor entries) → Follows w cursor
+pub after_last : (cursor : Word) (entries : List Entry) → AllByRecursion (λ e. Follows e.word cursor) entries → AreAscending entries → (w : Word)
+    → Follows w (cursor_after cursor entries) → Follows w cursor
 after_last cursor [] after up w h = h
 after_last cursor (e ∷ entries) after up w h = follows_trans cursor e.word w after.0 (after_last e.word entries up.0 up.1 w h)
 
-pub after_each : (cursor : Word) (entries : List Entry) → AreAscending entries → (w : Word) → Follows w (cursor_after cursor entries) → AllByRecursion (λ e. Follows w e.word) entries
+pub after_each : (cursor : Word) (entries : List Entry) → AreAscending entries → (w : Word) → Follows w (cursor_after cursor entries)
+    → AllByRecursion (λ e. Follows w e.word) entries
 after_each cursor [] up w h = tt
 after_each cursor (e ∷ entries) up w h = (after_last e.word entries up.0 up.1 w h, after_each e.word entries up.1 w h)
 
 -- what follows the cursor and each of the entries follows the last one
-pub follows_last : (cursor : Word) (entries : List Entry) (w : Word) → Follows w cursor → AllByRecursion (λ e. Follows w e.word) entries → Follows w (cursor_after cursor entries)
+pub follows_last : (cursor : Word) (entries : List Entry) (w : Word) → Follows w cursor → AllByRecursion (λ e. Follows w e.word) entries
+    → Follows w (cursor_after cursor entries)
 follows_last cursor [] w h each = h
 follows_last cursor (e ∷ entries) w h each = follows_last e.word entries w each.0 each.1
 
-ascending_append : (cursor : Word) (entries more : List Entry) → AreAscending entries → AreAscending more → AllByRecursion (λ e. Follows e.word (cursor_after cursor entries)) more → AreAscending (entries ++ more)
+ascending_append : (cursor : Word) (entries more : List Entry) → AreAscending entries → AreAscending more
+    → AllByRecursion (λ e. Follows e.word (cursor_after cursor entries)) more → AreAscending (entries ++ more)
 ascending_append cursor [] more up rest h = rest
 ascending_append cursor (e ∷ entries) more up rest h = (
-  all_append (λ f. Follows f.word e.word) entries more up.0 (all_map (λ f. Follows f.word (cursor_after e.word entries)) (λ f. Follows f.word e.word) (λ f k. after_last e.word entries up.0 up.1 f.word k) more h),
+  all_append (λ f. Follows f.word e.word) entries more up.0
+      (all_map (λ f. Follows f.word (cursor_after e.word entries)) (λ f. Follows f.word e.word) (λ f k. after_last e.word entries up.0 up.1 f.word k) more h),
   ascending_append e.word entries more up.1 rest h,
 )
 
-module _ (n : ℕ) (class : Class) (cursor : Word) (entries more : List Entry) (a : AreFirst n class cursor entries) (b : AreFirst n class (cursor_after cursor entries) more) where
+module _ (n : ℕ) (class : Class) (cursor : Word) (entries more : List Entry) (a : AreFirst n class cursor entries)
+    (b : AreFirst n class (cursor_after cursor entries) more) where
   no_limit : (k : ℕ) → None ≡ Some k → ⊥
   no_limit k e = cc
 
   -- a member after the cursor is among the first entries, or comes after all of them and after the cursor there
-  pub first_or_later : (e : Entry) → IsEntry n class e → Follows e.word cursor → Contains entries e ⊎ (AllByRecursion (λ listed. Follows e.word listed.word) entries × Follows e.word (cursor_after cursor entries))
+  pub first_or_later : (e : Entry) → IsEntry n class e → Follows e.word cursor
+      → Contains entries e ⊎ (AllByRecursion (λ listed. Follows e.word listed.word) entries × Follows e.word (cursor_after cursor entries))
   first_or_later e entry h = cases (a.none_between e entry h)
     where
-      cases : Contains entries e ⊎ AllByRecursion (λ listed. Follows e.word listed.word) entries → Contains entries e ⊎ (AllByRecursion (λ listed. Follows e.word listed.word) entries × Follows e.word (cursor_after cursor entries))
+      cases : Contains entries e ⊎ AllByRecursion (λ listed. Follows e.word listed.word) entries
+          → Contains entries e ⊎ (AllByRecursion (λ listed. Follows e.word listed.word) entries × Follows e.word (cursor_after cursor entries))
       cases (inl c) = inl c
       cases (inr each) = inr (each, follows_last cursor entries e.word h each)
 
   pub both : AreFirst n class cursor (entries ++ more)
   both = record {
     each = all_append (IsEntry n class) entries more a.each b.each;
-    after = all_append (λ e. Follows e.word cursor) entries more a.after (all_map (λ e. Follows e.word (cursor_after cursor entries)) (λ e. Follows e.word cursor) (λ e k. after_last cursor entries a.after a.ascending e.word k) more b.after);
+    after = all_append (λ e. Follows e.word cursor) entries more a.after
+        (all_map (λ e. Follows e.word (cursor_after cursor entries)) (λ e. Follows e.word cursor)
+        (λ e k. after_last cursor entries a.after a.ascending e.word k) more b.after);
     ascending = ascending_append cursor entries more a.ascending b.ascending b.after;
     none_between = λ e entry h. between e entry (first_or_later e entry h);
   }
     where
-      between : (e : Entry) → IsEntry n class e → Contains entries e ⊎ (AllByRecursion (λ listed. Follows e.word listed.word) entries × Follows e.word (cursor_after cursor entries)) → Contains (entries ++ more) e ⊎ AllByRecursion (λ listed. Follows e.word listed.word) (entries ++ more)
+      between : (e : Entry) → IsEntry n class e
+          → Contains entries e ⊎ (AllByRecursion (λ listed. Follows e.word listed.word) entries × Follows e.word (cursor_after cursor entries))
+          → Contains (entries ++ more) e ⊎ AllByRecursion (λ listed. Follows e.word listed.word) (entries ++ more)
       between e entry (inl c) = inl (Contains-append_left entries more e c)
       between e entry (inr later) = second (b.none_between e entry later.1)
         where
-          second : Contains more e ⊎ AllByRecursion (λ listed. Follows e.word listed.word) more → Contains (entries ++ more) e ⊎ AllByRecursion (λ listed. Follows e.word listed.word) (entries ++ more)
+          second : Contains more e ⊎ AllByRecursion (λ listed. Follows e.word listed.word) more
+              → Contains (entries ++ more) e ⊎ AllByRecursion (λ listed. Follows e.word listed.word) (entries ++ more)
           second (inl c) = inl (Contains-append_right entries more e c)
           second (inr each) = inr (all_append (λ listed. Follows e.word listed.word) entries more later.0 each)
 
   -- where each later member is among the further entries, each is among both
-  among_both : (e : Entry) → IsEntry n class e → Follows e.word cursor → (Follows e.word (cursor_after cursor entries) → Contains more e) → Contains (entries ++ more) e
+  among_both : (e : Entry) → IsEntry n class e → Follows e.word cursor → (Follows e.word (cursor_after cursor entries) → Contains more e)
+      → Contains (entries ++ more) e
   among_both e entry h rest = cases (first_or_later e entry h)
     where
-      cases : Contains entries e ⊎ (AllByRecursion (λ listed. Follows e.word listed.word) entries × Follows e.word (cursor_after cursor entries)) → Contains (entries ++ more) e
+      cases : Contains entries e ⊎ (AllByRecursion (λ listed. Follows e.word listed.word) entries × Follows e.word (cursor_after cursor entries))
+          → Contains (entries ++ more) e
       cases (inl c) = Contains-append_left entries more e c
       cases (inr later) = Contains-append_right entries more e (rest later.1)
 

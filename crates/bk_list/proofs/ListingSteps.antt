@@ -2,7 +2,8 @@
 use Rattle.std.specs.Prelude.{OnErr, Option, Result, flat_map}
 use Rattle.std.specs.Io.KnownBytes.{Appends}
 use Rattle.std.proofs.KnownBytes.{Appends-nil, Appends-trans}
-use Rattle.std.proofs.Common.{Err, List, None, Ok, Some, [], ap, append-nil, arith, inl, inr, length, refl, subst, sym, ℕ, ◌++◌, ◌+◌, ◌<◌, ◌^◌, ◌∙◌, ◌∷◌, ◌≡◌, ◌≤◌, ◌⊎◌}
+use Rattle.std.proofs.Common.{Err, List, None, Ok, Some, [], ap, append-nil, arith, inl, inr, length, refl, subst, sym, ℕ, ◌++◌, ◌+◌, ◌<◌, ◌^◌, ◌∙◌}
+use Rattle.std.proofs.Common.{◌∷◌, ◌≡◌, ◌≤◌, ◌⊎◌}
 use Rattle.std.proofs.lemmas.Grind.{flat_map-append}
 use Rattle.std.proofs.lemmas.List.{length-append}
 use Rattle.bk_ports.proofs.KnownSteps.{prefix_after}
@@ -16,7 +17,7 @@ use Rattle.bk_report.specs.Listings.{last_line}
 use Rattle.bk_report.specs.declared.listing.Last.{Last}
 use Rattle.bk_report.specs.declared.listing.Last.TheVariants.{End, Limit, Wide}
 use Rattle.bk_list.proofs.Taking.{all_there, first_more, first_none, last_word}
-use Rattle.bk_list.proofs.WordCounts.{few_entries}
+use Rattle.bk_catalogue.proofs.WordCounts.{few_entries}
 use Rattle.bk_list.specs.Listing.{AreFirst, AtEnd, AtLimit, Ending, EndsBy, IsBelowLimit, IsListing, IsWithinLimit, ending_line, line_of, name_of}
 use Rattle.bk_list.specs.ListingLaws.{cursor_after}
 use Rattle.bk_walk.specs.Walking.{HasNoneAfter, IsNextMember}
@@ -25,7 +26,8 @@ use Rattle.bk_list.specs.declared.entries.Next.{Next}
 use Rattle.bk_list.specs.declared.entries.Next.TheVariants.{Member, Nothing}
 
 -- what comes next is taken
-pub taken : (n : ℕ) (class : Class) (cursor : Word) (t : Tiling) (w : Word) → IsNextMember n class cursor t w → TakesNext n class cursor (record { tiling = t; word = w })
+pub taken : (n : ℕ) (class : Class) (cursor : Word) (t : Tiling) (w : Word) → IsNextMember n class cursor t w
+    → TakesNext n class cursor (record { tiling = t; word = w })
 taken n class cursor t w next = record { entry = record { member = next.member; word = next.word_is }; after = next.after; least = next.least }
 
 pub word_some : (n : ℕ) (class : Class) (cursor : Word) (t : Tiling) (w : Word) → IsNextMember n class cursor t w → 0 < length w
@@ -37,18 +39,15 @@ on_err (Ok a) p = tt
 on_err (Err e) p = p
 
 -- the next entry, by other names of the order, of the class and of what came
-pub next_as : (k n : ℕ) (one class : Class) (cursor then : Word) (b c : Option (List ℕ)) (x next : Next) → k ≡ n → one ≡ class → x ≡ next → IsNext k one cursor then b c x → IsNext n class cursor then b c next
+pub next_as : (k n : ℕ) (one class : Class) (cursor then : Word) (b c : Option (List ℕ)) (x next : Next) → k ≡ n → one ≡ class → x ≡ next
+    → IsNext k one cursor then b c x → IsNext n class cursor then b c next
 next_as k n one class cursor then b c x next e f g h =
-    subst (λ (k : ℕ). IsNext k class cursor then b c next) e (subst (λ (one : Class). IsNext k one cursor then b c next) f (subst (IsNext k one cursor then b c) g h))
+    subst (λ (k : ℕ). IsNext k class cursor then b c next) e
+    (subst (λ (one : Class). IsNext k one cursor then b c next) f (subst (IsNext k one cursor then b c) g h))
 
-pub begun_as : (k n : ℕ) (one class : Class) (cursor : Word) (b c : Option (List ℕ)) → k ≡ n → one ≡ class → IsNextBegun k one cursor b c → IsNextBegun n class cursor b c
+pub begun_as : (k n : ℕ) (one class : Class) (cursor : Word) (b c : Option (List ℕ)) → k ≡ n → one ≡ class → IsNextBegun k one cursor b c
+    → IsNextBegun n class cursor b c
 begun_as k n one class cursor b c e f h = subst (λ (k : ℕ). IsNextBegun k class cursor b c) e (subst (λ (one : Class). IsNextBegun k one cursor b c) f h)
-
--- all entries, by other names of the order and of the class
-pub entries_as : (k n : ℕ) (one class : Class) (cursor : Word) (limit : Option ℕ) (last : Last) (listed : ℕ) (a b : Option (List ℕ)) → k ≡ n → one ≡ class
-    → HasEntries k one cursor limit last listed a b → HasEntries n class cursor limit last listed a b
-entries_as k n one class cursor limit last listed a b e f h =
-    subst (λ (k : ℕ). HasEntries k class cursor limit last listed a b) e (subst (λ (one : Class). HasEntries k one cursor limit last listed a b) f h)
 
 -- where the listing stands: so many of the first members are written, no more than the limit, and the cursor is the word
 -- of the last one
@@ -95,18 +94,21 @@ limit_more (Some l) entries e below = cases (two (length entries) l below)
     cases (inl h) = inl (omega (arith, length-append entries (e ∷ [])))
     cases (inr h) = let same : l ≡ length (entries ++ e ∷ []) = omega (arith, length-append entries (e ∷ [])) in inr (ap (λ z. Some z) same)
 
-pub below : (limit : Option ℕ) (entries : List Entry) (listed : ℕ) → listed ≡ length entries → (limit ≡ Some listed → ⊥) → IsWithinLimit limit entries → IsBelowLimit limit entries
+pub below : (limit : Option ℕ) (entries : List Entry) (listed : ℕ) → listed ≡ length entries → (limit ≡ Some listed → ⊥) → IsWithinLimit limit entries
+    → IsBelowLimit limit entries
 below limit entries listed count not (inl h) = h
 below limit entries listed count not (inr h) = absurd (not (h ∙ ap (λ z. Some z) (sym count)))
 
 lines_more : (entries : List Entry) (e : Entry) → flat_map line_of (entries ++ e ∷ []) ≡ flat_map line_of entries ++ line_of e
 lines_more entries e = flat_map-append line_of entries (e ∷ []) ∙ ap (λ l. flat_map line_of entries ++ l) (append-nil (line_of e))
 
-module _ (n : ℕ) (class : Class) (start cursor : Word) (limit : Option ℕ) (listed : ℕ) (a b : Option (List ℕ)) (s : IsListed n class start cursor limit listed a b) (not : limit ≡ Some listed → ⊥) where
-  first_then : (e : Entry) → TakesNext n class cursor e → AreFirst n class start (s.entries ++ e ∷ [])
-  first_then e t = first_more n class start s.entries e s.first t.entry (subst (Follows e.word) s.at t.after) (λ f is h. t.least f is (subst (Follows f.word) (sym s.at) h))
+module _ (n : ℕ) (class : Class) (start cursor : Word) (limit : Option ℕ) (listed : ℕ) (a b : Option (List ℕ))
+    (s : IsListed n class start cursor limit listed a b) (not : limit ≡ Some listed → ⊥) where
+  pub first_then : (e : Entry) → TakesNext n class cursor e → AreFirst n class start (s.entries ++ e ∷ [])
+  first_then e t = first_more n class start s.entries e s.first t.entry (subst (Follows e.word) s.at t.after)
+      (λ f is h. t.least f is (subst (Follows f.word) (sym s.at) h))
 
-  within_then : (e : Entry) → IsWithinLimit limit (s.entries ++ e ∷ [])
+  pub within_then : (e : Entry) → IsWithinLimit limit (s.entries ++ e ∷ [])
   within_then e = limit_more limit s.entries e (below limit s.entries listed s.count not s.within)
 
   -- one more entry
@@ -148,7 +150,8 @@ module _ (n : ℕ) (class : Class) (start cursor : Word) (limit : Option ℕ) (l
   }
 
 -- the limit is reached
-pub listed_limit : (n : ℕ) (class : Class) (start cursor : Word) (limit : Option ℕ) (listed : ℕ) (a b : Option (List ℕ)) → IsListed n class start cursor limit listed a b → limit ≡ Some listed
+pub listed_limit : (n : ℕ) (class : Class) (start cursor : Word) (limit : Option ℕ) (listed : ℕ) (a b : Option (List ℕ))
+    → IsListed n class start cursor limit listed a b → limit ≡ Some listed
     → HasEntries n class start limit Limit listed a b
 listed_limit n class start cursor limit listed a b s is = record {
   entries = s.entries;
@@ -166,11 +169,13 @@ record Ended (n : ℕ) (class : Class) (cursor : Word) (limit : Option ℕ) (las
   pub line : piece ≡ ending_line ending n class (length entries)
 
 -- the last line is written
-module _ (n : ℕ) (class : Class) (cursor : Word) (limit : Option ℕ) (last : Last) (listed : ℕ) (word : Word) (a b c : Option (List ℕ)) (h : HasEntries n class cursor limit last listed a b) (piece : List ℕ) (is : piece ≡ last_line last n class listed word) where
+module _ (n : ℕ) (class : Class) (cursor : Word) (limit : Option ℕ) (last : Last) (listed : ℕ) (word : Word) (a b c : Option (List ℕ))
+    (h : HasEntries n class cursor limit last listed a b) (piece : List ℕ) (is : piece ≡ last_line last n class listed word) where
   ended : Ended n class cursor limit last h.entries piece
   ended = cases last h.ends (is ∙ ap (λ k. last_line last n class k word) h.count)
     where
-      cases : (last : Last) → AreEndedBy n class cursor limit h.entries last → piece ≡ last_line last n class (length h.entries) word → Ended n class cursor limit last h.entries piece
+      cases : (last : Last) → AreEndedBy n class cursor limit h.entries last → piece ≡ last_line last n class (length h.entries) word
+          → Ended n class cursor limit last h.entries piece
       cases End ends line = record { ending = AtEnd; named = refl; ends = ends; line = line }
       cases Limit ends line = record { ending = AtLimit; named = refl; ends = ends; line = line }
       cases Wide ends line = absurd ends
@@ -196,5 +201,6 @@ module _ (n : ℕ) (class : Class) (cursor : Word) (limit : Option ℕ) (last : 
   }
 
 -- the entries don't end at a wide word
-pub ended_narrow : (n : ℕ) (class : Class) (cursor : Word) (limit : Option ℕ) (last : Last) (listed : ℕ) (a b : Option (List ℕ)) → HasEntries n class cursor limit last listed a b → last ≡ Wide → ⊥
+pub ended_narrow : (n : ℕ) (class : Class) (cursor : Word) (limit : Option ℕ) (last : Last) (listed : ℕ) (a b : Option (List ℕ))
+    → HasEntries n class cursor limit last listed a b → last ≡ Wide → ⊥
 ended_narrow n class cursor limit last listed a b h e = subst (AreEndedBy n class cursor limit h.entries) e h.ends

@@ -10,7 +10,7 @@ use Rattle.bk_word.specs.declared.Class.{Class}
 use Rattle.bk_walk.proofs.Starting.{word_same}
 use Rattle.bk_catalogue.specs.Catalogue.{Entry, IsEntry}
 use Rattle.bk_list.proofs.Continuing.{both, first_or_later}
-use Rattle.bk_list.proofs.OneEntry.{one_entry}
+use Rattle.bk_catalogue.proofs.OneEntry.{one_entry}
 use Rattle.bk_list.specs.Listing.{AreFirst, HasAll}
 use Rattle.bk_list.specs.ListingLaws.{cursor_after}
 use Rattle.bk_walk.specs.Walking.{HasNoneAfter, HasNoneBetween}
@@ -30,8 +30,10 @@ turned : (v w : Word) → word_cmp v w ≡ Greater → Follows v w
 turned v w e = word_total.antisymm w v ∙ ordering_turned (word_cmp v w) e
 
 -- the least member after a cursor is the first one
-module _ (n : ℕ) (class : Class) (cursor : Word) (e : Entry) (is : IsEntry n class e) (after : Follows e.word cursor) (least : HasNoneBetween n class cursor e.word) where
-  it_or_later : (f : Entry) → IsEntry n class f → Follows f.word cursor → (r : Ordering) → word_cmp e.word f.word ≡ r → Contains (e ∷ []) f ⊎ (Follows f.word e.word × Unit {0})
+module _ (n : ℕ) (class : Class) (cursor : Word) (e : Entry) (is : IsEntry n class e) (after : Follows e.word cursor)
+    (least : HasNoneBetween n class cursor e.word) where
+  it_or_later : (f : Entry) → IsEntry n class f → Follows f.word cursor → (r : Ordering) → word_cmp e.word f.word ≡ r
+      → Contains (e ∷ []) f ⊎ (Follows f.word e.word × Unit {0})
   it_or_later f entry h Less c = inr (c, tt)
   it_or_later f entry h Equal c = inl (zero, omega arith, one_entry n class e f is entry (word_same e.word f.word c))
   it_or_later f entry h Greater c = absurd (least f entry h (turned e.word f.word c))
@@ -46,12 +48,16 @@ module _ (n : ℕ) (class : Class) (cursor : Word) (e : Entry) (is : IsEntry n c
 
 pub first_more : (n : ℕ) (class : Class) (cursor : Word) (entries : List Entry) (e : Entry) → AreFirst n class cursor entries → IsEntry n class e
     → Follows e.word (cursor_after cursor entries) → HasNoneBetween n class (cursor_after cursor entries) e.word → AreFirst n class cursor (entries ++ e ∷ [])
-first_more n class cursor entries e first is after least = both n class cursor entries (e ∷ []) first (first_one n class (cursor_after cursor entries) e is after least)
+first_more n class cursor entries e first is after least = both n class cursor entries (e ∷ []) first
+    (first_one n class (cursor_after cursor entries) e is after least)
 
 -- where no member comes after the last one, all are there
-pub all_there : (n : ℕ) (class : Class) (cursor : Word) (entries : List Entry) → AreFirst n class cursor entries → HasNoneAfter n class (cursor_after cursor entries) → HasAll n class cursor entries
-all_there n class cursor entries first none e entry h = cases (first_or_later n class cursor entries [] first (first_none n class (cursor_after cursor entries)) e entry h)
+pub all_there : (n : ℕ) (class : Class) (cursor : Word) (entries : List Entry) → AreFirst n class cursor entries
+    → HasNoneAfter n class (cursor_after cursor entries) → HasAll n class cursor entries
+all_there n class cursor entries first none e entry h = cases
+    (first_or_later n class cursor entries [] first (first_none n class (cursor_after cursor entries)) e entry h)
   where
-    cases : Contains entries e ⊎ (AllByRecursion (λ listed. Follows e.word listed.word) entries × Follows e.word (cursor_after cursor entries)) → Contains entries e
+    cases : Contains entries e ⊎ (AllByRecursion (λ listed. Follows e.word listed.word) entries × Follows e.word (cursor_after cursor entries))
+        → Contains entries e
     cases (inl c) = c
     cases (inr later) = absurd (none e entry later.1)

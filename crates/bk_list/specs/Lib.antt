@@ -1,3 +1,6 @@
+-- What the crate says.
 pub mod Listing
 pub mod ListingLaws
+pub mod Resuming
+pub mod Stepping
 pub mod Writing

@@ -1,4 +1,5 @@
 -- Listings: what a listing of a catalogue writes, from a cursor and under a limit.
+-- Example (ListingExamples): `list --order 2 --class imperfect`.
 use Rattle.std.specs.List.{AllByRecursion}
 use Rattle.std.specs.Prelude.{Contains, List, None, Option, Some, [], flat_map, length, ℕ, ⊤, ◌++◌, ◌<◌, ◌≡◌, ◌⊎◌}
 use Rattle.bk_word.specs.Play.{IsComplete}

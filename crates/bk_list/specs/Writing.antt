@@ -62,9 +62,10 @@ AreEndedBy n class cursor limit entries Limit = EndsBy n class cursor limit entr
 AreEndedBy n class cursor limit entries Wide = ⊥
 
 -- all entries of a listing that ends so were written, so many
-pub record HasEntries (n : ℕ) (class : Class) (cursor : Word) (limit : Option ℕ) (last : Last) (listed : ℕ) (written written_after : Option (List ℕ)) : Type 0 where
-  pub entries : List Entry
-  pub first : AreFirst n class cursor entries
-  pub ends : AreEndedBy n class cursor limit entries last
-  pub count : listed ≡ length entries
-  pub appends : Appends written written_after (flat_map line_of entries)
+pub record HasEntries (n : ℕ) (class : Class) (cursor : Word) (limit : Option ℕ) (last : Last) (listed : ℕ) (written written_after : Option (List ℕ)) : Type 0
+  where
+    pub entries : List Entry
+    pub first : AreFirst n class cursor entries
+    pub ends : AreEndedBy n class cursor limit entries last
+    pub count : listed ≡ length entries
+    pub appends : Appends written written_after (flat_map line_of entries)

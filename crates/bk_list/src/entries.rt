@@ -1,7 +1,9 @@
 //! The entries of a listing, written as soon as each is known.
 
-ghost use Rattle.std.specs.Prelude.{IfOk, IsTrue, OnErr, Some, false, ◌≡◌, ◌≤◌};
+ghost use Rattle.std.specs.Prelude.{IfOk, IsTrue, None, OnErr, Some, false, ◌-◌, ◌≡◌, ◌≤◌};
 ghost use Rattle.bk_ports.specs.Causes.{HasCause};
+ghost use Rattle.bk_tree.specs.Tree.{IsAtMostTree};
+ghost use Rattle.bk_list.specs.Stepping.{AreNextSteps, TakesSteps, TookSteps};
 ghost use Rattle.bk_list.specs.Writing.{BeginsListing, HasEntries, IsNext, IsNextBegun};
 
 use arrayvec::ArrayVec;
@@ -31,6 +33,8 @@ pub(crate) fn write_entries<L: Ledger, O: Sink>(
     ensures ended { IfOk result (λ r. HasEntries walk.old.order walk.old.class walk.old.cursor limit r.0 r.1 (O.written out.old) (O.written out.new)) }
     ensures begun { OnErr result (BeginsListing walk.old.order walk.old.class walk.old.cursor limit (O.written out.old) (O.written out.new)) }
     ensures cause { HasCause (O.faults out.old) (O.faults out.new) result }
+    ensures steps { IfOk result (λ r. TakesSteps walk.old.order walk.old.class walk.old.cursor limit r.0 (steps.new - steps.old)) }
+    ensures stopped { OnErr result (TookSteps walk.old.order walk.old.class walk.old.cursor limit (steps.new - steps.old)) }
 {
     let mut listed: u64 = 0;
     'members: loop {
@@ -67,6 +71,8 @@ fn write_next<L: Ledger, O: Sink>(
     ensures cause { HasCause (O.faults out.old) (O.faults out.new) result }
     ensures order { walk.new.order ≡ walk.old.order }
     ensures class { walk.new.class ≡ walk.old.class }
+    ensures steps { IfOk result (λ next. AreNextSteps next walk.old.order walk.old.cursor walk.new.cursor (steps.new - steps.old)) }
+    ensures stopped { OnErr result (IsAtMostTree walk.old.order walk.old.cursor None (steps.new - steps.old)) }
 {
     match walk.advance(steps) {
         None => Ok(Next::Nothing),

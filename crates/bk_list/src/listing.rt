@@ -1,9 +1,10 @@
 //! A whole listing.
 
-ghost use Rattle.std.specs.Prelude.{IfOk, OnErr, ◌<◌, ◌≡◌, ◌≢◌, ◌≤◌};
+ghost use Rattle.std.specs.Prelude.{IfOk, OnErr, ◌-◌, ◌≡◌, ◌≢◌, ◌≤◌};
 ghost use Rattle.bk_ports.specs.Causes.{HasCause};
 ghost use Rattle.bk_word.specs.Word.{order_of};
 ghost use Rattle.bk_walk.specs.Walking.{start_cursor};
+ghost use Rattle.bk_list.specs.Stepping.{TakesSteps, TookSteps};
 ghost use Rattle.bk_list.specs.Writing.{BeginsListing, WritesListing};
 
 use crate::entries::write_entries;
@@ -14,8 +15,7 @@ use bk_skel::Steps;
 use bk_walk::Walk;
 use bk_word::{Class, Word};
 use std::alloc::Global;
-use std::marker::Brand;
-use std::sync::ledger::{Blank, Ledger};
+use std::sync::ledger::Ledger;
 
 /// Writes the listing of the catalogue of an order and a class: the entry line of each member whose word is after the given
 /// one, or after the word of no moves, ascending, up to the limit if there is one; and then its last line. Each line is one
@@ -25,12 +25,17 @@ use std::sync::ledger::{Blank, Ledger};
 /// The order is 2 to 16, and that of the word at most 16; the word need not be legal, complete or of the listing's order.
 /// Where a write fails, `Failed` comes, and a beginning of a listing stands written. It takes no memory. The catalogue's
 /// subject is that of Bouwkamp and Duijvestijn; words and their order are our own.
-pub fn write_listing<O: Sink>(
+///
+/// A step is a push of a move. A listing that ends because there are no more members takes at most as many steps as there are
+/// legal words of at least one move and at most the order after the given word, and 16 for each entry and 16 more; one that
+/// ends at its limit at most as many as there are of these up to the word of its last entry, and 16 for each entry.
+pub fn write_listing<L: Ledger, O: Sink>(
     alloc: Global,
     order: u8,
     class: Class,
     from: Option<Word>,
     limit: Option<u64>,
+    steps: &mut Steps<L>,
     out: &mut O,
 ) -> Result<Last, Failed>
     requires least { 2 ≤ order }
@@ -40,34 +45,12 @@ pub fn write_listing<O: Sink>(
     ensures narrow { IfOk result (λ last. last ≢ Last.Wide) }
     ensures begun { OnErr result (BeginsListing order class (start_cursor from) limit (O.written out.old) (O.written out.new)) }
     ensures cause { HasCause (O.faults out.old) (O.faults out.new) result }
+    ensures steps { IfOk result (λ last. TakesSteps order class (start_cursor from) limit last (steps.new - steps.old)) }
+    ensures stopped { OnErr result (TookSteps order class (start_cursor from) limit (steps.new - steps.old)) }
 {
     let mut walk = Walk::new(alloc, order, class, from);
-    list_members::<Brand, O>(Blank::new(1), &mut walk, order, class, limit, out)
-}
-
-// Writes the listing of what comes after the cursor of a walk.
-fn list_members<L: Ledger, O: Sink>(
-    blank: Blank,
-    walk: &mut Walk,
-    order: u8,
-    class: Class,
-    limit: Option<u64>,
-    out: &mut O,
-) -> Result<Last, Failed>
-    requires name { blank.name ≡ L.name }
-    requires parts { blank.parts ≡ L.parts }
-    requires some { 0 < L.parts }
-    requires order { walk.old.order ≡ order }
-    requires class { walk.old.class ≡ class }
-    requires few { order ≤ 16 }
-    ensures listed { IfOk result (λ last. WritesListing order class walk.old.cursor limit last (O.written out.old) (O.written out.new)) }
-    ensures narrow { IfOk result (λ last. last ≢ Last.Wide) }
-    ensures begun { OnErr result (BeginsListing order class walk.old.cursor limit (O.written out.old) (O.written out.new)) }
-    ensures cause { HasCause (O.faults out.old) (O.faults out.new) result }
-{
-    let mut steps = Steps::<L>::new(blank);
     let mut buffer = ArrayVec::<u8, 9000>::new();
-    let (last, listed) = write_entries(walk, limit, &mut steps, &mut buffer, out)?;
+    let (last, listed) = write_entries(&mut walk, limit, steps, &mut buffer, out)?;
     write_last(last, order, class, listed, walk.cursor(), &mut buffer);
     out.write_all(buffer.as_slice())?;
     Ok(last)

@@ -45,6 +45,3 @@ pub trait Sink {
         ensures err { OnErr result (AppendsPrefix (written self.old) (written self.new) bytes.now) }
         ensures cause { HasCause (faults self.old) (faults self.new) result };
 }
-
-#[cfg(test)]
-mod tests;

@@ -1,6 +1,7 @@
 //! Sources and sinks in memory. They take no memory of their own.
 
-ghost use Rattle.std.specs.Prelude.{◌≡◌, ℕ, ◌+◌, ◌-◌, ◌<◌, ◌≤◌, ◌++◌, ◌↔◌, [], List, length, IfOk, OnOk, OnErr, IsOk, IsErr, Some, None, Contains, min, take, replicate};
+ghost use Rattle.std.specs.Prelude.{◌≡◌, ℕ, ◌+◌, ◌-◌, ◌<◌, ◌≤◌, ◌++◌, ◌↔◌, [], List, length, IfOk, OnOk, OnErr, IsOk, IsErr, Some, None, Contains};
+ghost use Rattle.std.specs.Prelude.{min, take, replicate};
 ghost use Rattle.std.specs.Io.KnownBytes.{Appends, ReadConsumes};
 ghost use Rattle.bk_ports.specs.Causes.{counted, HasCause, AppendsPrefix};
 ghost use Rattle.bk_ports.specs.Stores.{Copies, given_count, after_read, limit_of, fitting_count, kept_count, after_write};

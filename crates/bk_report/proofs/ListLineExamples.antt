@@ -3,7 +3,8 @@ use Rattle.std.specs.Fmt.{digits}
 use Rattle.std.specs.Prelude.{codes, refl, ◌++◌, ◌∷◌, ◌≡◌, []}
 use Rattle.bk_tiling.proofs.ExampleTilings.{rectangle_33x32}
 use Rattle.bk_word.proofs.WordExamples.{word_33x32}
-use Rattle.bk_report.specs.ListLines.{alike_line, foreign_line, group_line, member_line, missing_line, pair_line, pairs_line, refused_line, repeats_line, verified_line}
+use Rattle.bk_report.specs.ListLines.{alike_line, foreign_line, group_line, member_line, missing_line, pair_line, pairs_line, refused_line}
+use Rattle.bk_report.specs.ListLines.{repeats_line, verified_line}
 use Rattle.bk_report.specs.declared.listing.Last.TheVariants.{End, Wide}
 use Rattle.bk_report.specs.declared.refusal.Refused.TheVariants.{Gap, More}
 

@@ -7,7 +7,8 @@ use Rattle.bk_report.specs.Answers.{line, spaced}
 pub refused_pieces : (number text : List ℕ) → (((codes "line " ++ number) ++ 32 ∷ []) ++ text) ++ 10 ∷ [] ≡ line (codes "line" ∷ number ∷ text ∷ [])
 refused_pieces number text = simp append_assoc
 
-pub repeats_pieces : (number first : List ℕ) → (((codes "line " ++ number) ++ codes " repeats ") ++ first) ++ 10 ∷ [] ≡ line (codes "line" ∷ number ∷ codes "repeats" ∷ first ∷ [])
+pub repeats_pieces : (number first : List ℕ)
+    → (((codes "line " ++ number) ++ codes " repeats ") ++ first) ++ 10 ∷ [] ≡ line (codes "line" ∷ number ∷ codes "repeats" ∷ first ∷ [])
 repeats_pieces number first = simp append_assoc
 
 pub foreign_pieces : (number : List ℕ) → (codes "line " ++ number) ++ codes " foreign\n" ≡ line (codes "line" ∷ number ∷ codes "foreign" ∷ [])
@@ -16,7 +17,8 @@ foreign_pieces number = simp append_assoc
 pub two_pieces : (one two : List ℕ) → ((one ++ 32 ∷ []) ++ two) ++ 10 ∷ [] ≡ line (one ∷ two ∷ [])
 two_pieces one two = simp append_assoc
 
-pub pair_pieces : (first second size code : List ℕ) → ((((first ++ 32 ∷ []) ++ second) ++ 32 ∷ []) ++ spaced (size ∷ code ∷ [])) ++ 10 ∷ [] ≡ line (first ∷ second ∷ size ∷ code ∷ [])
+pub pair_pieces : (first second size code : List ℕ)
+    → ((((first ++ 32 ∷ []) ++ second) ++ 32 ∷ []) ++ spaced (size ∷ code ∷ [])) ++ 10 ∷ [] ≡ line (first ∷ second ∷ size ∷ code ∷ [])
 pair_pieces first second size code = simp append_assoc
 
 pub alike_pieces : (groups items refused : List ℕ)
@@ -30,18 +32,23 @@ pub pairs_pieces : (pairs items refused : List ℕ)
 pairs_pieces pairs items refused = simp append_assoc
 
 to_the_right : (name order members missing foreign repeated refused wide : List ℕ)
-    → ((((((((((((((codes "; " ++ name) ++ codes " order ") ++ order) ++ codes " members ") ++ members) ++ codes " missing ") ++ missing) ++ codes " foreign ") ++ foreign)
+    → ((((((((((((((codes "; " ++ name) ++ codes " order ") ++ order) ++ codes " members ") ++ members) ++ codes " missing ") ++ missing)
+    ++ codes " foreign ") ++ foreign)
     ++ codes " repeated ") ++ repeated) ++ codes " refused ") ++ refused) ++ wide) ++ 10 ∷ []
-    ≡ (codes ";" ++ ((32 ∷ name) ++ ((32 ∷ codes "order") ++ ((32 ∷ order) ++ ((32 ∷ codes "members") ++ ((32 ∷ members) ++ ((32 ∷ codes "missing") ++ ((32 ∷ missing)
-    ++ ((32 ∷ codes "foreign") ++ ((32 ∷ foreign) ++ ((32 ∷ codes "repeated") ++ ((32 ∷ repeated) ++ ((32 ∷ codes "refused") ++ ((32 ∷ refused) ++ wide)))))))))))))) ++ 10 ∷ []
+    ≡ (codes ";" ++ ((32 ∷ name) ++ ((32 ∷ codes "order")
+    ++ ((32 ∷ order) ++ ((32 ∷ codes "members") ++ ((32 ∷ members) ++ ((32 ∷ codes "missing") ++ ((32 ∷ missing)
+    ++ ((32 ∷ codes "foreign") ++ ((32 ∷ foreign)
+    ++ ((32 ∷ codes "repeated") ++ ((32 ∷ repeated) ++ ((32 ∷ codes "refused") ++ ((32 ∷ refused) ++ wide)))))))))))))) ++ 10 ∷ []
 to_the_right name order members missing foreign repeated refused wide = simp append_assoc
 
 pub verified_pieces : (name order members missing foreign repeated refused : List ℕ) (wide : List (List ℕ))
-    → ((((((((((((((codes "; " ++ name) ++ codes " order ") ++ order) ++ codes " members ") ++ members) ++ codes " missing ") ++ missing) ++ codes " foreign ") ++ foreign)
+    → ((((((((((((((codes "; " ++ name) ++ codes " order ") ++ order) ++ codes " members ") ++ members) ++ codes " missing ") ++ missing)
+    ++ codes " foreign ") ++ foreign)
     ++ codes " repeated ") ++ repeated) ++ codes " refused ") ++ refused) ++ flat_map (λ l. 32 ∷ l) wide) ++ 10 ∷ []
     ≡ line (codes ";" ∷ name ∷ codes "order" ∷ order ∷ codes "members" ∷ members ∷ codes "missing" ∷ missing ∷ codes "foreign" ∷ foreign
     ∷ codes "repeated" ∷ repeated ∷ codes "refused" ∷ refused ∷ wide)
 verified_pieces name order members missing foreign repeated refused wide =
     to_the_right name order members missing foreign repeated refused (flat_map (λ l. 32 ∷ l) wide)
-    ∙ ap (λ (l : List ℕ). l ++ 10 ∷ []) (blanks_before (codes ";") (name ∷ codes "order" ∷ order ∷ codes "members" ∷ members ∷ codes "missing" ∷ missing ∷ codes "foreign" ∷ foreign
+    ∙ ap (λ (l : List ℕ). l ++ 10 ∷ []) (blanks_before (codes ";")
+    (name ∷ codes "order" ∷ order ∷ codes "members" ∷ members ∷ codes "missing" ∷ missing ∷ codes "foreign" ∷ foreign
     ∷ codes "repeated" ∷ repeated ∷ codes "refused" ∷ refused ∷ wide))

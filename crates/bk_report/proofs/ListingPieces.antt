@@ -16,9 +16,11 @@ to_the_right : (name order class listed wide : List ℕ)
 to_the_right name order class listed wide = simp append_assoc
 
 pub last_pieces : (name order listed : List ℕ) (class wide : List (List ℕ))
-    → (((((((codes "; " ++ name) ++ codes " order ") ++ order) ++ flat_map (λ l. 32 ∷ l) class) ++ codes " listed ") ++ listed) ++ flat_map (λ l. 32 ∷ l) wide) ++ 10 ∷ []
+    → (((((((codes "; " ++ name) ++ codes " order ") ++ order) ++ flat_map (λ l. 32 ∷ l) class) ++ codes " listed ") ++ listed)
+    ++ flat_map (λ l. 32 ∷ l) wide) ++ 10 ∷ []
     ≡ line ((codes ";" ∷ name ∷ codes "order" ∷ order ∷ []) ++ (class ++ (codes "listed" ∷ listed ∷ wide)))
 last_pieces name order listed class wide =
     to_the_right name order (flat_map (λ l. 32 ∷ l) class) listed (flat_map (λ l. 32 ∷ l) wide)
-    ∙ ap (λ (l : List ℕ). (codes ";" ++ ((32 ∷ name) ++ ((32 ∷ codes "order") ++ ((32 ∷ order) ++ l)))) ++ 10 ∷ []) (sym (flat_map-append (λ (l : List ℕ). 32 ∷ l) class (codes "listed" ∷ listed ∷ wide)))
+    ∙ ap (λ (l : List ℕ). (codes ";" ++ ((32 ∷ name) ++ ((32 ∷ codes "order") ++ ((32 ∷ order) ++ l)))) ++ 10 ∷ [])
+    (sym (flat_map-append (λ (l : List ℕ). 32 ∷ l) class (codes "listed" ∷ listed ∷ wide)))
     ∙ ap (λ (l : List ℕ). l ++ 10 ∷ []) (blanks_before (codes ";") (name ∷ codes "order" ∷ order ∷ class ++ (codes "listed" ∷ listed ∷ wide)))

@@ -1,6 +1,6 @@
 -- Texts whose pieces have a blank before each.
-use Rattle.std.proofs.Common.{List, [], ap, append_assoc, arith, length, refl, sym, ℕ, ◌++◌, ◌<◌, ◌∙◌, ◌∷◌, ◌≡◌, ◌≤◌}
-use Rattle.std.specs.Prelude.{codes, decimal, flat_map, map, ◌^◌}
+use Rattle.std.proofs.Common.{List, [], ap, append_assoc, arith, length, refl, sym, ℕ, ◌++◌, ◌∙◌, ◌∷◌, ◌≡◌, ◌≤◌}
+use Rattle.std.specs.Prelude.{codes, decimal, flat_map, map}
 use Rattle.std.proofs.lemmas.Fmt.{length-decimal-le}
 use Rattle.std.proofs.lemmas.Grind.{flat_map-append}
 use Rattle.std.proofs.lemmas.List.{append-nil}
@@ -13,7 +13,8 @@ numbers_spaced word [] = append-nil word
 numbers_spaced word (n ∷ numbers) = ap (λ (l : List ℕ). word ++ 32 ∷ l) (numbers_spaced (decimal n) numbers)
 
 -- 'no', a word and numbers
-pub no_pieces : (front word : List ℕ) (numbers : List ℕ) → ((front ++ codes "no ") ++ word) ++ flat_map (λ n. 32 ∷ decimal n) numbers ≡ front ++ no_text word numbers
+pub no_pieces : (front word : List ℕ) (numbers : List ℕ)
+    → ((front ++ codes "no ") ++ word) ++ flat_map (λ n. 32 ∷ decimal n) numbers ≡ front ++ no_text word numbers
 no_pieces front word numbers =
     let rest : List ℕ = flat_map (λ n. 32 ∷ decimal n) numbers in
     append_assoc (front ++ codes "no ") word rest ∙ append_assoc front (codes "no ") (word ++ rest)
@@ -31,8 +32,10 @@ tiling_words front size code = simp append_assoc
 
 -- and of a line about trial codes
 pub trial_pieces : (seed count ok perfect simple squares : List ℕ)
-    → ((((((((((((([] ++ codes "trial seed ") ++ seed) ++ codes " count ") ++ count) ++ codes " ok ") ++ ok) ++ codes " perfect ") ++ perfect) ++ codes " simple ") ++ simple) ++ codes " squares ") ++ squares) ++ 10 ∷ [])
-    ≡ line (codes "trial" ∷ codes "seed" ∷ seed ∷ codes "count" ∷ count ∷ codes "ok" ∷ ok ∷ codes "perfect" ∷ perfect ∷ codes "simple" ∷ simple ∷ codes "squares" ∷ squares ∷ [])
+    → ((((((((((((([] ++ codes "trial seed ") ++ seed) ++ codes " count ") ++ count) ++ codes " ok ") ++ ok) ++ codes " perfect ") ++ perfect)
+    ++ codes " simple ") ++ simple) ++ codes " squares ") ++ squares) ++ 10 ∷ [])
+    ≡ line (codes "trial" ∷ codes "seed" ∷ seed ∷ codes "count" ∷ count ∷ codes "ok" ∷ ok ∷ codes "perfect" ∷ perfect ∷ codes "simple" ∷ simple
+    ∷ codes "squares" ∷ squares ∷ [])
 trial_pieces seed count ok perfect simple squares = simp append_assoc
 
 -- pieces with a blank before each
@@ -88,12 +91,13 @@ dual_pieces f g h nodes height count xs ys zs =
     let third : List (List ℕ) = codes ";" ∷ map h zs ++ last in
     let second : List (List ℕ) = codes ";" ∷ height ∷ map g ys ++ third in
     to_the_right nodes wires height sides numbers count
-    ∙ ap (λ (l : List ℕ). (nodes ++ (wires ++ (codes " ; " ++ (height ++ (sides ++ (codes " ;" ++ (numbers ++ (codes " ; " ++ l)))))))) ++ 10 ∷ []) (sym (append-nil count))
+    ∙ ap (λ (l : List ℕ). (nodes ++ (wires ++ (codes " ; " ++ (height ++ (sides ++ (codes " ;" ++ (numbers ++ (codes " ; " ++ l)))))))) ++ 10 ∷ [])
+    (sym (append-nil count))
     ∙ ap (λ (l : List ℕ). (nodes ++ (wires ++ (codes " ; " ++ (height ++ (sides ++ (codes " ;" ++ l)))))) ++ 10 ∷ []) (then_pieces h zs last)
     ∙ ap (λ (l : List ℕ). (nodes ++ (wires ++ (codes " ; " ++ (height ++ l)))) ++ 10 ∷ []) (then_pieces g ys third)
     ∙ ap (λ (l : List ℕ). (nodes ++ l) ++ 10 ∷ []) (then_pieces f xs second)
     ∙ ap (λ (l : List ℕ). l ++ 10 ∷ []) (blanks_before nodes (map f xs ++ second))
 
--- a node's number has at most five digits
-pub short_node : (n : ℕ) → n < 2 ^ 16 → length (decimal n) ≤ 5
-short_node n small = length-decimal-le 5 n (omega arith) (omega arith) (omega arith)
+-- the number of a node, or of a square, has at most three digits
+pub short_node : (n : ℕ) → n ≤ 999 → length (decimal n) ≤ 3
+short_node n small = length-decimal-le 3 n (omega arith) (omega arith) (omega arith)

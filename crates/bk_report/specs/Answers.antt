@@ -1,4 +1,5 @@
 -- The texts of answers to accepted items. Each is a line, and ends with a line feed.
+-- Example (AnswerExamples): `ok 9 33x32 perfect simple`.
 use Rattle.std.specs.Fmt.{signed_decimal}
 use Rattle.std.specs.List.{join_with_byte}
 use Rattle.std.specs.Prelude.{List, MatchOption, None, Option, Some, [], codes, decimal, map, ℕ, ◌++◌, ◌∷◌, ◌≡◌}

@@ -1,5 +1,6 @@
 -- The texts about the lines of a list that is read: what is said of one line, and what stands after all of them.
-use Rattle.std.specs.Prelude.{List, [], codes, decimal, ℕ, ◌++◌, ◌∷◌}
+-- Example (ListLineExamples): `line 2 repeats 1`.
+use Rattle.std.specs.Prelude.{List, [], codes, decimal, ℕ, ◌∷◌}
 use Rattle.bk_tiling.specs.Tiling.{Tiling}
 use Rattle.bk_code.specs.Code.{code_of}
 use Rattle.bk_text.specs.CodeText.{code_text, size_text}

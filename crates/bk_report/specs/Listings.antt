@@ -1,4 +1,5 @@
 -- The texts about words: the answer of `word`, an entry of a catalogue, and the last line of a listing.
+-- Example (ListingExamples): `9 33x32 [18,15][7,8][14,4][10,1][9] ; 2u.2aa.2ue.2eue.1e`.
 use Rattle.std.specs.Prelude.{List, [], codes, decimal, ℕ, ◌++◌, ◌∷◌}
 use Rattle.bk_tiling.specs.Tiling.{Tiling, order}
 use Rattle.bk_code.specs.Code.{code_of}
@@ -7,7 +8,7 @@ use Rattle.bk_word.specs.Word.{Word}
 use Rattle.bk_word.specs.WordText.{word_text}
 use Rattle.bk_word.specs.declared.Class.{Class}
 use Rattle.bk_word.specs.declared.Class.TheVariants.{Imperfect, Perfect, Simple}
-use Rattle.bk_report.specs.Answers.{line}
+use Rattle.bk_report.specs.Answers.{line, spaced}
 use Rattle.bk_report.specs.declared.listing.Last.{Last}
 use Rattle.bk_report.specs.declared.listing.Last.TheVariants.{End, Limit, Wide}
 
@@ -20,9 +21,13 @@ abbrev pub entry_words : Tiling → Word → List (List ℕ)
 entry_words t w =
     decimal (order t) ∷ size_text t.width t.height ∷ code_text (code_of t) ∷ codes ";" ∷ word_text w ∷ []
 
+-- its text, with a blank between each two of these
+abbrev pub entry_text : Tiling → Word → List ℕ
+entry_text t w = spaced (entry_words t w)
+
 -- and as a line
 abbrev pub entry_line : Tiling → Word → List ℕ
-entry_line t w = line (entry_words t w)
+entry_line t w = entry_text t w ++ 10 ∷ []
 
 -- how a listing ended, in one word
 abbrev pub last_name : Last → List ℕ

@@ -1,9 +1,11 @@
 -- The texts of answers to refused items.
+-- Example (AnswerExamples): `no gap 2 15 16`.
 use Rattle.std.specs.Prelude.{List, [], codes, decimal, map, ℕ, ◌∷◌}
 use Rattle.bk_text.specs.CodeText.{size_text}
 use Rattle.bk_report.specs.Answers.{line, spaced}
 use Rattle.bk_report.specs.declared.refusal.Refused.{Refused}
-use Rattle.bk_report.specs.declared.refusal.Refused.TheVariants.{Gap, Illegal, Large, Long, Loose, Many, More, Nodes, Nothing, Open, Order, Size, Text, Unfinished, Wide, Wire}
+use Rattle.bk_report.specs.declared.refusal.Refused.TheVariants.{Gap, Illegal, Large, Long, Loose, Many, More, Nodes, Nothing, Open, Order, Size}
+use Rattle.bk_report.specs.declared.refusal.Refused.TheVariants.{Text, Unfinished, Wide, Wire}
 
 -- 'no', what is refused, and its numbers
 abbrev pub no_text : List ℕ → List ℕ → List ℕ

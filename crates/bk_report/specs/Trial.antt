@@ -1,4 +1,5 @@
 -- The text of a line about trial codes.
+-- Example (AnswerExamples): `trial seed 0 count 2 ok 2 perfect 1 simple 0 squares 272`.
 use Rattle.std.specs.Prelude.{List, [], codes, decimal, ℕ, ◌∷◌}
 use Rattle.bk_report.specs.Answers.{line}
 

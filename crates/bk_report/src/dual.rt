@@ -1,6 +1,6 @@
 //! The text of a dual diagram.
 
-ghost use Rattle.std.specs.Prelude.{decimal, flat_map, length, ◌+◌, ◌++◌, ◌*◌, ◌≡◌, ◌≤◌, ◌∷◌};
+ghost use Rattle.std.specs.Prelude.{All, decimal, flat_map, length, ◌+◌, ◌++◌, ◌*◌, ◌≡◌, ◌≤◌, ◌∷◌};
 ghost use Rattle.arrayvec.specs.ArrayVec.{array_vec_len};
 ghost use Rattle.bk_report.specs.Answers.{dual_line};
 
@@ -13,9 +13,10 @@ use bk_tiling::Tiling;
 
 /// Clears the buffer and leaves the dual diagram of a tiling (Brooks, Smith, Stone and Tutte 1940), with its line feed:
 /// the line that `net` has for the image with columns and levels exchanged, then ` ; ` and for each wire the number of
-/// its square, then ` ; ` and how many crossings there are. The text is this project's own.
+/// its square, then ` ; ` and how many crossings there are. It has at most 5,700 bytes. The text is this project's own.
 pub fn write_dual(tiling: &Tiling, out: &mut ArrayVec<u8, 9000>)
-    ensures { out.new.items ≡ dual_line tiling.now }
+    ensures line { out.new.items ≡ dual_line tiling.now }
+    ensures short { array_vec_len out.new ≤ 5700 }
 {
     out.clear();
     push_net(&dual_of(tiling), out);
@@ -31,9 +32,10 @@ pub fn write_dual(tiling: &Tiling, out: &mut ArrayVec<u8, 9000>)
 // Appends the numbers with a blank before each.
 fn push_places(numbers: &[u16], out: &mut ArrayVec<u8, 9000>)
     requires few { length numbers.now ≤ 200 }
+    requires small { All (λ n. n ≤ 999) numbers.now }
     requires room { array_vec_len out.old ≤ 7000 }
     ensures text { out.new.items ≡ out.old.items ++ flat_map (λ n. 32 ∷ decimal n) numbers.now }
-    ensures short { array_vec_len out.new ≤ array_vec_len out.old + 1200 }
+    ensures short { array_vec_len out.new ≤ array_vec_len out.old + 800 }
 {
     for number in numbers {
         out.push(b' ');

@@ -8,15 +8,13 @@ mod listing;
 mod lists;
 mod net;
 mod refusal;
-#[cfg(test)]
-mod tests;
 mod trial;
 mod word;
 
 pub use answer::{a_tiling_has_one_check_line, write_check, write_tiling};
 pub use dual::write_dual;
 pub use flow::write_flow;
-pub use listing::{Last, write_entry, write_last};
+pub use listing::{Last, a_written_entry_is_read, write_entry, write_last};
 pub use lists::{
     write_alike, write_foreign, write_group, write_line_refused, write_member, write_missing,
     write_pair, write_pairs, write_repeats, write_verified,

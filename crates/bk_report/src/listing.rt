@@ -3,6 +3,7 @@
 ghost use Rattle.std.specs.Prelude.{flat_map, length, ◌+◌, ◌++◌, ◌<◌, ◌∷◌, ◌≡◌, ◌≤◌};
 ghost use Rattle.arrayvec.specs.ArrayVec.{array_vec_len};
 ghost use Rattle.bk_report.specs.Answers.{spaced};
+ghost use Rattle.bk_report.specs.EntryLaws.{AWrittenEntryIsRead};
 ghost use Rattle.bk_report.specs.Listings.{class_words, entry_line, entry_words, last_line, last_name, wide_words};
 
 use crate::answer::push_tiling;
@@ -46,6 +47,12 @@ pub(crate) fn push_entry(tiling: &Tiling, word: &Word, out: &mut ArrayVec<u8, 90
     push_bytes(b" ; ", out);
     write_word(word, out);
 }
+
+/// The entry of a tiling is in the grammar of lines of codes (`bk_text`), and stands for the order, the size and the code of the
+/// tiling. So what is written of an entry is read again.
+pub fn a_written_entry_is_read()
+    ensures { AWrittenEntryIsRead }
+{}
 
 /// Clears the buffer and leaves the last line of a listing, with its line feed: `; end`, `; limit` or `; wide`, the
 /// order, the class unless that is the perfect one, how many entries were listed, and for `wide` the word at which it

@@ -1,7 +1,8 @@
 //! The lines about a list that is read.
 
 ghost use Rattle.std.specs.Prelude.{length, slice_index, ◌<◌, ◌≡◌};
-ghost use Rattle.bk_report.specs.ListLines.{alike_line, foreign_line, group_line, member_line, missing_line, pair_line, pairs_line, refused_line, repeats_line, verified_line};
+ghost use Rattle.bk_report.specs.ListLines.{alike_line, foreign_line, group_line, member_line, missing_line, pair_line, pairs_line, refused_line};
+ghost use Rattle.bk_report.specs.ListLines.{repeats_line, verified_line};
 
 use crate::answer::{push_code, push_tiling};
 use crate::listing::{Last, push_entry, push_name, push_wide};

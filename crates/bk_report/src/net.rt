@@ -2,6 +2,7 @@
 
 ghost use Rattle.std.specs.Prelude.{decimal, flat_map, length, ◌+◌, ◌++◌, ◌*◌, ◌≡◌, ◌≤◌, ◌∷◌};
 ghost use Rattle.arrayvec.specs.ArrayVec.{array_vec_len};
+ghost use Rattle.bk_tiling.specs.Kept.{IsSide};
 ghost use Rattle.bk_report.specs.Answers.{net_line, wire_text};
 
 use arrayvec::ArrayVec;
@@ -27,7 +28,7 @@ pub fn write_net(tiling: &Tiling, out: &mut ArrayVec<u8, 9000>)
 pub(crate) fn push_net(net: &Net, out: &mut ArrayVec<u8, 9000>)
     requires { array_vec_len out.old ≤ 6000 }
     ensures text { out.new.items ≡ out.old.items ++ decimal net.now.nodes ++ flat_map (λ w. 32 ∷ wire_text w) net.now.wires }
-    ensures short { array_vec_len out.new ≤ array_vec_len out.old + 2405 }
+    ensures short { array_vec_len out.new ≤ array_vec_len out.old + 1603 }
 {
     push_node(net.nodes(), out);
     for (from, to) in net.wires() {
@@ -42,21 +43,33 @@ pub(crate) fn push_net(net: &Net, out: &mut ArrayVec<u8, 9000>)
 pub(crate) fn push_sides(tiling: &Tiling, out: &mut ArrayVec<u8, 9000>)
     requires { array_vec_len out.old ≤ 4000 }
     ensures text { out.new.items ≡ out.old.items ++ decimal tiling.now.width ++ flat_map (λ q. 32 ∷ decimal q.s) tiling.now.squares }
-    ensures short { array_vec_len out.new ≤ array_vec_len out.old + 4220 }
+    ensures short { array_vec_len out.new ≤ array_vec_len out.old + 3220 }
 {
     push_number(tiling.width(), out);
     for q in tiling.squares() {
         out.push(b' ');
-        push_number(q.s, out);
+        push_side(q.s, out);
     }
 }
 
-// Appends the number of a node.
+// Appends a side.
+#[tactic(auto, using(bk_text::proofs::Spelling::short_side))]
+fn push_side(side: u64, out: &mut ArrayVec<u8, 9000>)
+    requires side { IsSide side }
+    requires room { array_vec_len out.old ≤ 8900 }
+    ensures text { out.new.items ≡ out.old.items ++ decimal side }
+    ensures short { length (decimal side) ≤ 15 }
+{
+    push_number(side, out);
+}
+
+// Appends the number of a node, or of a square.
 #[tactic(auto, using(crate::proofs::Spaces::short_node))]
 pub(crate) fn push_node(node: u16, out: &mut ArrayVec<u8, 9000>)
-    requires { array_vec_len out.old ≤ 8900 }
+    requires small { node ≤ 999 }
+    requires room { array_vec_len out.old ≤ 8900 }
     ensures text { out.new.items ≡ out.old.items ++ decimal node }
-    ensures short { length (decimal node) ≤ 5 }
+    ensures short { length (decimal node) ≤ 3 }
 {
     push_number(u64::from(node), out);
 }

@@ -18,7 +18,8 @@ use Rattle.bk_word.specs.Word.{Word}
 use Rattle.bk_word.specs.declared.Class.{Class}
 use Rattle.bk_walk.specs.Walking.{start_cursor}
 use Rattle.bk_top.proofs.Endings.{listed_not_two}
-use Rattle.bk_top.specs.Running.{AnswersLines, Does, DoesOther, IsRun, IsToldText, Lists, ListsLines, NoErrors, Outside, ReadsToEnd, Tries, Verifies, WritesErrors, status_of}
+use Rattle.bk_top.specs.Running.{AnswersLines, Does, DoesOther, IsRun, IsToldText, Lists, ListsLines, NoErrors, Outside, ReadsToEnd, Tries, Verifies}
+use Rattle.bk_top.specs.Running.{WritesErrors, status_of}
 use Rattle.bk_top.specs.Words.{AsksErrorsOnly, AsksNoLines, AsksNothing, ReadsNoLines, WordsAsk, command_asked, usage}
 
 same : (words : List (String Global)) (a b : Ask) → WordsAsk words a → WordsAsk words b → a ≡ b
@@ -32,7 +33,8 @@ told_text text written written_after faults faults_after (Ok x) ok err cause = i
 told_text text written written_after faults faults_after (Err x) ok err cause = inr (err, cause.failed)
 
 -- a run that does what is asked
-run_of : (words : List (String Global)) (ask : Ask) (before after : Outside) (status : ℕ) → WordsAsk words ask → (status ≡ 2 → ⊥) → Does ask before after status → IsRun words before after status
+run_of : (words : List (String Global)) (ask : Ask) (before after : Outside) (status : ℕ) → WordsAsk words ask → (status ≡ 2 → ⊥) → Does ask before after status
+    → IsRun words before after status
 run_of words ask before after status wanted not does = record {
   status_2_asks_nothing = λ e. absurd (not e);
   nothing_asked = λ nothing. absurd (nothing ask wanted);
@@ -45,7 +47,8 @@ pub run_of_lines : (words : List (String Global)) (ask : Ask) (command : Command
     → IsRun words before after status
 run_of_lines words ask command before after ended status wanted is ends s silent =
     run_of words ask before after status wanted (λ e. not_two ended (sym s ∙ e))
-    (subst (λ (o : Option Command). MatchOption o (DoesOther ask before after status) (λ c. AnswersLines c before after status × NoErrors before after)) (sym is)
+    (subst
+    (λ (o : Option Command). MatchOption o (DoesOther ask before after status) (λ c. AnswersLines c before after status × NoErrors before after)) (sym is)
     (answers_lines command before after ended status ends s, silent))
 
 some_none : (command : Command) → ◌≡◌ {A = Option Command} (Some command) None → ⊥
@@ -77,7 +80,8 @@ pub writes_out : (words : List (String Global)) (ask : Ask) → WordsAsk words a
 writes_out words ask wanted not (inl nothing) = nothing ask wanted
 writes_out words ask wanted not (inr helped) = not (same words ask asks.Help wanted helped)
 
-pub lines_write : (words : List (String Global)) (ask : Ask) (command : Command) → WordsAsk words ask → command_asked ask ≡ Some command → AsksErrorsOnly words → ⊥
+pub lines_write : (words : List (String Global)) (ask : Ask) (command : Command) → WordsAsk words ask → command_asked ask ≡ Some command → AsksErrorsOnly words
+    → ⊥
 lines_write words ask command wanted is = writes_out words ask wanted (λ e. some_none command (sym is ∙ ap command_asked e))
 
 -- where `help` is asked
@@ -87,13 +91,15 @@ run_of_help words before after helped told = run_of words asks.Help before after
 
 -- where a listing is asked
 pub run_of_listing : (words : List (String Global)) (n : ℕ) (class : Class) (from : Option Word) (limit : Option ℕ) (before after : Outside) (status : ℕ)
-    → WordsAsk words (asks.List n class from limit) → Lists n class (start_cursor from) limit before after status → NoErrors before after → IsRun words before after status
+    → WordsAsk words (asks.List n class from limit) → Lists n class (start_cursor from) limit before after status → NoErrors before after → IsRun words before
+    after status
 run_of_listing words n class from limit before after status wanted lists silent =
     run_of words (asks.List n class from limit) before after status wanted (listed_not_two status lists.no_other) (lists, silent)
 
 -- where a trial is asked
 tried_not_two : (seed count : ℕ) (before after : Outside) (status : ℕ) → Tries seed count before after status → status ≡ 2 → ⊥
-tried_not_two seed count before after status tries e = elim tries.ends [ inl h ↦ let z = h.0 in absurd (omega (arith, z)) | inr h ↦ let z = h.0 in absurd (omega (arith, z)) ]
+tried_not_two seed count before after status tries e =
+    elim tries.ends [ inl h ↦ let z = h.0 in absurd (omega (arith, z)) | inr h ↦ let z = h.0 in absurd (omega (arith, z)) ]
 
 pub run_of_trial : (words : List (String Global)) (seed count : ℕ) (before after : Outside) (status : ℕ)
     → WordsAsk words (asks.Trial seed count) → Tries seed count before after status → NoErrors before after → IsRun words before after status
@@ -101,19 +107,23 @@ run_of_trial words seed count before after status wanted tries silent =
     run_of words (asks.Trial seed count) before after status wanted (tried_not_two seed count before after status tries) (tries, silent)
 
 -- where lines are read to their end
-read_not_two : (says : Ended → Type 0) (left : Option (List ℕ)) (read read_after write write_after status : ℕ) → ReadsToEnd says left read read_after write write_after status → status ≡ 2 → ⊥
+read_not_two : (says : Ended → Type 0) (left : Option (List ℕ)) (read read_after write write_after status : ℕ)
+    → ReadsToEnd says left read read_after write write_after status → status ≡ 2 → ⊥
 read_not_two says left read read_after write write_after status reads e = let other = reads.no_other in not_two other.0 (sym other.1 ∙ e)
 
-pub run_of_alike : (words : List (String Global)) (before after : Outside) (status : ℕ) → WordsAsk words asks.Alike → ListsLines Groups before after status → NoErrors before after → IsRun words before after status
+pub run_of_alike : (words : List (String Global)) (before after : Outside) (status : ℕ) → WordsAsk words asks.Alike → ListsLines Groups before after status
+    → NoErrors before after → IsRun words before after status
 run_of_alike words before after status wanted lists silent =
     run_of words asks.Alike before after status wanted (read_not_two _ _ _ _ _ _ status lists) (lists, silent)
 
-pub run_of_pair : (words : List (String Global)) (kind : Kind) (before after : Outside) (status : ℕ) → WordsAsk words (asks.Pair kind) → ListsLines (Pairs kind) before after status → NoErrors before after
+pub run_of_pair : (words : List (String Global)) (kind : Kind) (before after : Outside) (status : ℕ) → WordsAsk words (asks.Pair kind)
+    → ListsLines (Pairs kind) before after status → NoErrors before after
     → IsRun words before after status
 run_of_pair words kind before after status wanted lists silent =
     run_of words (asks.Pair kind) before after status wanted (read_not_two _ _ _ _ _ _ status lists) (lists, silent)
 
-pub run_of_verify : (words : List (String Global)) (n : ℕ) (before after : Outside) (status : ℕ) → WordsAsk words (asks.Verify n) → Verifies n before after status → NoErrors before after
+pub run_of_verify : (words : List (String Global)) (n : ℕ) (before after : Outside) (status : ℕ) → WordsAsk words (asks.Verify n)
+    → Verifies n before after status → NoErrors before after
     → IsRun words before after status
 run_of_verify words n before after status wanted verifies silent =
     run_of words (asks.Verify n) before after status wanted (read_not_two _ _ _ _ _ _ status verifies) (verifies, silent)
@@ -125,7 +135,8 @@ list_help n class from limit e = cc
 trial_help : (seed count : ℕ) → asks.Trial seed count ≡ asks.Help → ⊥
 trial_help seed count e = cc
 
-pub listing_writes : (words : List (String Global)) (n : ℕ) (class : Class) (from : Option Word) (limit : Option ℕ) → WordsAsk words (asks.List n class from limit) → AsksErrorsOnly words → ⊥
+pub listing_writes : (words : List (String Global)) (n : ℕ) (class : Class) (from : Option Word) (limit : Option ℕ)
+    → WordsAsk words (asks.List n class from limit) → AsksErrorsOnly words → ⊥
 listing_writes words n class from limit wanted = writes_out words (asks.List n class from limit) wanted (list_help n class from limit)
 
 pub trial_writes : (words : List (String Global)) (seed count : ℕ) → WordsAsk words (asks.Trial seed count) → AsksErrorsOnly words → ⊥
@@ -168,8 +179,10 @@ run_of_nothing words before after nothing told = record {
 }
 
 -- nothing else is asked than lines, a listing, a trial, a list that is read to its end, or help
-pub no_other_ask : (ask : Ask) → command_asked ask ≡ None → ((n : ℕ) (class : Class) (from : Option Word) (limit : Option ℕ) → ask ≡ asks.List n class from limit → ⊥)
-    → ((seed count : ℕ) → ask ≡ asks.Trial seed count → ⊥) → ((n : ℕ) → ask ≡ asks.Verify n → ⊥) → (ask ≡ asks.Alike → ⊥) → ((kind : Kind) → ask ≡ asks.Pair kind → ⊥) → (ask ≡ asks.Help → ⊥) → ⊥
+pub no_other_ask : (ask : Ask) → command_asked ask ≡ None
+    → ((n : ℕ) (class : Class) (from : Option Word) (limit : Option ℕ) → ask ≡ asks.List n class from limit → ⊥)
+    → ((seed count : ℕ) → ask ≡ asks.Trial seed count → ⊥) → ((n : ℕ) → ask ≡ asks.Verify n → ⊥) → (ask ≡ asks.Alike → ⊥) →
+    ((kind : Kind) → ask ≡ asks.Pair kind → ⊥) → (ask ≡ asks.Help → ⊥) → ⊥
 no_other_ask asks.Check none listed tried verified grouped paired helped = some_none _ none
 no_other_ask asks.Canon none listed tried verified grouped paired helped = some_none _ none
 no_other_ask asks.Images none listed tried verified grouped paired helped = some_none _ none

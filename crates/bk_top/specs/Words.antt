@@ -1,4 +1,5 @@
 -- What the words of a command line ask.
+-- Example (RunExamples): `check` asks a command that answers lines, `trial` asks none; the line of usage has 42 bytes.
 use Rattle.std.specs.Prelude.{List, None, Option, Some, String, codes, map, string_bytes, ℕ, ⊤, ◌⊎◌}
 use Rattle.std.specs.declared.alloc.Global.{Global}
 use Rattle.bk_answer.specs.declared.command.Command.{Command}

@@ -1,3 +1,5 @@
 pub mod SampleRead
+pub mod SamplesLaid
 pub mod Counted
 pub mod Tallies
+pub mod TrialLineExamples

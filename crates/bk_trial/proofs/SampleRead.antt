@@ -28,7 +28,8 @@ no_fault t kept Many (line, is, many) =
     omega (arith, ap (λ (l : Line). length (sides_of_line l)) same, (code_kept t kept).few)
 
 -- what a line stands for that is read of the text
-pub reads_code : (t : Tiling) → IsKept t → (line : Line) (bytes : List ℕ) → bytes ≡ code_text (code_of t) → IsLine line bytes → line ≡ Item None None (code_of t)
+pub reads_code : (t : Tiling) → IsKept t → (line : Line) (bytes : List ℕ) → bytes ≡ code_text (code_of t) → IsLine line bytes
+    → line ≡ Item None None (code_of t)
 reads_code t kept line bytes same is =
     one_meaning (code_text (code_of t)) line (Item None None (code_of t)) (subst (IsLine line) same is) (written_is_line t kept)
 

@@ -31,7 +31,8 @@ tally_few seed n a p s q tally = record {
 pub tally_start : (seed : ℕ) → IsTally seed 0 0 0 0 0
 tally_start seed = record { all_accepted = refl; perfects = refl; simples = refl; together = refl }
 
-pub tally_more : (seed n a p s q a' p' s' q' : ℕ) (t : Tiling) → t ≡ tiling_at seed n → IsTally seed n a p s q → a' ≡ a + 1 → CountsOn (IsPerfect t) p p' → CountsOn (IsSimple t) s s'
+pub tally_more : (seed n a p s q a' p' s' q' : ℕ) (t : Tiling) → t ≡ tiling_at seed n → IsTally seed n a p s q → a' ≡ a + 1 → CountsOn (IsPerfect t) p p'
+    → CountsOn (IsSimple t) s s'
     → q' ≡ q + order t → IsTally seed (n + 1) a' p' s' q'
 tally_more seed n a p s q a' p' s' q' t same tally accepted perfect simple squares = subst (λ (m : ℕ). IsTally seed m a' p' s' q') (omega arith) more
   where

@@ -1,4 +1,5 @@
 -- Counting the places at which something holds.
+-- Example (TrialLineExamples): below 2 there is one place that is 1 or more.
 use Rattle.std.specs.Prelude.{suc, zero, ℕ, ◌+◌, ◌≡◌, ◌⊎◌}
 
 -- the count rises by one where this holds, and else stays

@@ -1,3 +1,4 @@
+-- What the crate says.
 pub mod Counting
 pub mod TrialLine
 pub mod TrialLineLaws

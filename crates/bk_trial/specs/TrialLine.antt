@@ -1,4 +1,5 @@
 -- The line about the trial codes of a seed.
+-- Example (TrialLineExamples): of no codes it is `trial seed 0 count 0 ok 0 perfect 0 simple 0 squares 0`.
 use Rattle.std.specs.Prelude.{List, suc, zero, ℕ, ◌+◌, ◌≡◌}
 use Rattle.bk_tiling.specs.Tiling.{Tiling, order}
 use Rattle.bk_simple.specs.Simple.{IsPerfect, IsSimple}

@@ -2,12 +2,10 @@
 #![tactic(auto)]
 
 ghost use Rattle.bk_trial.specs.TrialLine.{IsTrialLine};
-ghost use Rattle.bk_trial.specs.TrialLineLaws.{ASeedHasOneLine};
+ghost use Rattle.bk_trial.specs.TrialLineLaws.{ASampleIsLaid, ASeedHasOneLine};
 
 mod laying;
 mod tally;
-#[cfg(test)]
-mod tests;
 
 use arrayvec::ArrayVec;
 use bk_report::write_trial;
@@ -35,4 +33,10 @@ pub fn trial(seed: u64, count: u32, out: &mut ArrayVec<u8, 9000>)
 /// A seed and a count have one line.
 pub fn a_seed_has_one_line()
     ensures { ASeedHasOneLine }
+{}
+
+/// Laying accepts each trial code (`bk_gen::sample`): its tiling has the code, and no group of it misfits, nor is its end open
+/// (`bk_profile::lay_code`).
+pub fn a_sample_is_laid()
+    ensures { ASampleIsLaid }
 {}

@@ -1,5 +1,4 @@
 use Rattle.std.proofs.Common.{[], refl, ◌∙◌, ◌∷◌}
-use Rattle.bk_word.specs.declared.TheConstants.{INLINE_ORDER}
 use Rattle.bk_lay.proofs.WordPlay.{tiling_word_is_complete}
 use Rattle.bk_report.specs.Listings.{word_line}
 use Rattle.bk_answer.specs.Telling.{Tells, WantsMemory}
@@ -18,7 +17,9 @@ returns-in-Ok-clause-reply g c =
     (c.as_slice.ensures.value ∙ c.write_word_line.ensures) c.write_all.ensures.ok c.write_all.ensures.err c.accepted.ensures
 
 pub returns-in-Ok-clause-cause : goal.returns-in-Ok-clause-cause
-returns-in-Ok-clause-cause g c = cause_told (g.O.Sink.faults c.args.out.now) (g.O.Sink.faults c.write_all.new.self) c.write_all.result c.accepted.result c.write_all.ensures.cause c.accepted.ensures
+returns-in-Ok-clause-cause g c = cause_told (g.O.Sink.faults c.args.out.now) (g.O.Sink.faults c.write_all.new.self) c.write_all.result
+    c.accepted.result c.write_all.ensures.cause c.accepted.ensures
 
 pub returns-in-Err-clause-reply : goal.returns-in-Err-clause-reply
-returns-in-Err-clause-reply g c = wants (Tells Word c.args.tiling.now) c.args.tiling.now c.word_of.result _ (g.O.Sink.written c.args.out.now) c.in-Err.is c.word_of.ensures.inline
+returns-in-Err-clause-reply g c =
+    wants (Tells Word c.args.tiling.now) c.args.tiling.now c.word_of.result _ (g.O.Sink.written c.args.out.now) c.in-Err.is c.word_of.ensures.inline

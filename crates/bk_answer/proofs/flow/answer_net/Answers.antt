@@ -19,12 +19,15 @@ returns-in-Ok-clause-reply g c =
 
 pub returns-in-Err-Loose-clause-reply : goal.returns-in-Err-Loose-clause-reply
 returns-in-Err-Loose-clause-reply g c =
-    refusal_replies (AnswersNet c.args.net.now) (NetWants c.args.net.now) (Loose c.in-Err-Loose.node) (g.O.Sink.written c.args.out.now) (g.O.Sink.written c.refuse.new.out) c.refuse.result
+    refusal_replies (AnswersNet c.args.net.now) (NetWants c.args.net.now) (Loose c.in-Err-Loose.node) (g.O.Sink.written c.args.out.now)
+    (g.O.Sink.written c.refuse.new.out) c.refuse.result
     (loose c.in-Err-Loose.node (subst (λ (f : FlowFault). IsRefusedFor f c.args.net.now) c.in-Err-Loose.field-0-is c.in-Err-Loose.ensures.refused))
     c.refuse.ensures.outcome c.refuse.ensures.failed
 
 pub returns-in-Err-Wide-clause-reply : goal.returns-in-Err-Wide-clause-reply
 returns-in-Err-Wide-clause-reply g c =
-    let cause : HasNoLoose c.args.net.now × IsWide c.args.net.now = subst (λ (f : FlowFault). IsRefusedFor f c.args.net.now) c.in-Err-Wide.field-0-is c.in-Err-Wide.ensures.refused in
-    refusal_replies (AnswersNet c.args.net.now) (NetWants c.args.net.now) Wide (g.O.Sink.written c.args.out.now) (g.O.Sink.written c.refuse-in-Err-Wide.new.out) c.refuse-in-Err-Wide.result
+    let cause : HasNoLoose c.args.net.now × IsWide c.args.net.now =
+    subst (λ (f : FlowFault). IsRefusedFor f c.args.net.now) c.in-Err-Wide.field-0-is c.in-Err-Wide.ensures.refused in
+    refusal_replies (AnswersNet c.args.net.now) (NetWants c.args.net.now) Wide (g.O.Sink.written c.args.out.now)
+    (g.O.Sink.written c.refuse-in-Err-Wide.new.out) c.refuse-in-Err-Wide.result
     (wide cause.0 cause.1) c.refuse-in-Err-Wide.ensures.outcome c.refuse-in-Err-Wide.ensures.failed

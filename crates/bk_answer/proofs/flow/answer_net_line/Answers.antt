@@ -31,7 +31,8 @@ returns-in-Ok-Item-clause-reply g c =
 
 pub returns-in-Err-clause-reply : goal.returns-in-Err-clause-reply
 returns-in-Err-clause-reply g c =
-    refusal_replies (AnswersNetLine c.args.line.now) (MayWantForNet c.args.line.now) c.refused_net.result (g.O.Sink.written c.args.out.now) (g.O.Sink.written c.refuse.new.out) c.refuse.result
+    refusal_replies (AnswersNetLine c.args.line.now) (MayWantForNet c.args.line.now) c.refused_net.result (g.O.Sink.written c.args.out.now)
+    (g.O.Sink.written c.refuse.new.out) c.refuse.result
     (subst (λ (r : Refused). AnswersNetLine c.args.line.now (refusal_line r ∷ []) true) (sym c.refused_net.ensures)
     (no_net c.in-Err.fault c.requires c.in-Err.ensures.fault))
     c.refuse.ensures.outcome c.refuse.ensures.failed

@@ -13,18 +13,21 @@ returns-then-not-allows_order-clause-refused c =
 
 pub returns-in-Ok-clause-laid : goal.returns-in-Ok-clause-laid
 returns-in-Ok-clause-laid c =
-    laid_of_size (Item c.args.order c.args.size c.args.code.now) c.args.size c.in-Ok.tiling c.in-Ok.ensures.ok
-    (subst (λ (l : List ℕ). IfSome c.args.order (λ stated. stated ≡ length l)) c.flat-sides.ensures.value (c.allows_order.ensures.0 c.if-not-allows_order.false)) (λ s. s) (λ s. s)
+    laid_of_size (Item c.args.order c.args.size c.args.code.now) c.args.size c.lay_code_in.new.tiling c.in-Ok.ensures.ok
+    (subst (λ (l : List ℕ). IfSome c.args.order (λ stated. stated ≡ length l)) c.flat-sides.ensures.value
+    (c.allows_order.ensures.0 c.if-not-allows_order.false)) (λ s. s) (λ s. s)
     c.of_size.result c.of_size.ensures.laid
 
 pub returns-in-Ok-clause-refused : goal.returns-in-Ok-clause-refused
 returns-in-Ok-clause-refused c =
-    refused_of_size (Item c.args.order c.args.size c.args.code.now) c.args.size c.in-Ok.tiling c.in-Ok.ensures.ok
-    (subst (λ (l : List ℕ). IfSome c.args.order (λ stated. stated ≡ length l)) c.flat-sides.ensures.value (c.allows_order.ensures.0 c.if-not-allows_order.false)) (λ s. s) (λ s. s)
+    refused_of_size (Item c.args.order c.args.size c.args.code.now) c.args.size c.lay_code_in.new.tiling c.in-Ok.ensures.ok
+    (subst (λ (l : List ℕ). IfSome c.args.order (λ stated. stated ≡ length l)) c.flat-sides.ensures.value
+    (c.allows_order.ensures.0 c.if-not-allows_order.false)) (λ s. s) (λ s. s)
     c.of_size.result c.of_size.ensures.refused
 
 pub returns-in-Err-clause-refused : goal.returns-in-Err-clause-refused
 returns-in-Err-clause-refused c =
     failed_laying (Item c.args.order c.args.size c.args.code.now) c.in-Err.refusal c.refused_for.result
-    (subst (λ (l : List ℕ). IfSome c.args.order (λ stated. stated ≡ length l)) c.flat-sides.ensures.value (c.allows_order.ensures.0 c.if-not-allows_order.false))
+    (subst (λ (l : List ℕ). IfSome c.args.order (λ stated. stated ≡ length l)) c.flat-sides.ensures.value
+    (c.allows_order.ensures.0 c.if-not-allows_order.false))
     c.in-Err.ensures.refused c.refused_for.ensures

@@ -11,12 +11,12 @@ returns-then-not-allows_order-clause-refused c =
 
 pub returns-in-Ok-clause-laid : goal.returns-in-Ok-clause-laid
 returns-in-Ok-clause-laid c =
-    laid_of_size (Flat c.args.order c.args.size.0 c.args.size.1 c.args.sides.now) (Some c.args.size) c.in-Ok.tiling c.in-Ok.ensures.ok
+    laid_of_size (Flat c.args.order c.args.size.0 c.args.size.1 c.args.sides.now) (Some c.args.size) c.lay_flat_in.new.tiling c.in-Ok.ensures.ok
     (c.allows_order.ensures.0 c.if-not-allows_order.false) (λ s. s) (λ s. s) c.of_size.result c.of_size.ensures.laid
 
 pub returns-in-Ok-clause-refused : goal.returns-in-Ok-clause-refused
 returns-in-Ok-clause-refused c =
-    refused_of_size (Flat c.args.order c.args.size.0 c.args.size.1 c.args.sides.now) (Some c.args.size) c.in-Ok.tiling c.in-Ok.ensures.ok
+    refused_of_size (Flat c.args.order c.args.size.0 c.args.size.1 c.args.sides.now) (Some c.args.size) c.lay_flat_in.new.tiling c.in-Ok.ensures.ok
     (c.allows_order.ensures.0 c.if-not-allows_order.false) (λ s. s) (λ s. s) c.of_size.result c.of_size.ensures.refused
 
 pub returns-in-Err-clause-refused : goal.returns-in-Err-clause-refused

@@ -16,9 +16,11 @@ returns-in_err-write_all-clause-failed g c =
     rw p.1
     (written_part (drawing_lines c.args.tiling.now) c.loop-y.y c.as_slice.result.now
     (g.O.Sink.written c.args.out.now) (g.O.Sink.written c.loop-y.out) (g.O.Sink.written c.write_all.new.self)
-    (subst (λ (n : ℕ). c.loop-y.y < n) (sym (length-map-range_with_len (row_line c.args.tiling.now) 0 (c.args.tiling.now.height + 1))) (subst (λ (n : ℕ). c.loop-y.y < n + 1) c.height-y-end.ensures.value c.loop-y-test.true))
+    (subst (λ (n : ℕ). c.loop-y.y < n) (sym (length-map-range_with_len (row_line c.args.tiling.now) 0 (c.args.tiling.now.height + 1)))
+    (subst (λ (n : ℕ). c.loop-y.y < n + 1) c.height-y-end.ensures.value c.loop-y-test.true))
     (c.as_slice.ensures.value ∙ c.draw_row.ensures
-    ∙ sym (get_or-map-range_with_len (row_line c.args.tiling.now) 0 (c.args.tiling.now.height + 1) c.loop-y.y c.loop-y.y [] (subst (λ (n : ℕ). c.loop-y.y < n + 1) c.height-y-end.ensures.value c.loop-y-test.true) (omega arith)))
+    ∙ sym (get_or-map-range_with_len (row_line c.args.tiling.now) 0 (c.args.tiling.now.height + 1) c.loop-y.y c.loop-y.y []
+    (subst (λ (n : ℕ). c.loop-y.y < n + 1) c.height-y-end.ensures.value c.loop-y-test.true) (omega arith)))
     c.loop-y.invariant.0 c.in_err-write_all.ensures.err)
 
 pub returns-in_err-write_all-clause-cause : goal.returns-in_err-write_all-clause-cause
@@ -32,9 +34,11 @@ pub loop-y-preserved : goal.loop-y-preserved
 loop-y-preserved g c = (
   written_more (drawing_lines c.args.tiling.now) c.loop-y.y c.as_slice.result.now
       (g.O.Sink.written c.args.out.now) (g.O.Sink.written c.loop-y.out) (g.O.Sink.written c.write_all.new.self)
-      (subst (λ (n : ℕ). c.loop-y.y < n) (sym (length-map-range_with_len (row_line c.args.tiling.now) 0 (c.args.tiling.now.height + 1))) (subst (λ (n : ℕ). c.loop-y.y < n + 1) c.height-y-end.ensures.value c.loop-y-test.true))
+      (subst (λ (n : ℕ). c.loop-y.y < n) (sym (length-map-range_with_len (row_line c.args.tiling.now) 0 (c.args.tiling.now.height + 1)))
+      (subst (λ (n : ℕ). c.loop-y.y < n + 1) c.height-y-end.ensures.value c.loop-y-test.true))
       (c.as_slice.ensures.value ∙ c.draw_row.ensures
-      ∙ sym (get_or-map-range_with_len (row_line c.args.tiling.now) 0 (c.args.tiling.now.height + 1) c.loop-y.y c.loop-y.y [] (subst (λ (n : ℕ). c.loop-y.y < n + 1) c.height-y-end.ensures.value c.loop-y-test.true) (omega arith)))
+      ∙ sym (get_or-map-range_with_len (row_line c.args.tiling.now) 0 (c.args.tiling.now.height + 1) c.loop-y.y c.loop-y.y []
+      (subst (λ (n : ℕ). c.loop-y.y < n + 1) c.height-y-end.ensures.value c.loop-y-test.true) (omega arith)))
       c.loop-y.invariant.0 c.in_ok-write_all.ensures.ok,
   c.in_ok-write_all.ensures.cause.ok ∙ c.loop-y.invariant.1,
 )
@@ -42,5 +46,6 @@ loop-y-preserved g c = (
 pub returns-clause-written : goal.returns-clause-written
 returns-clause-written g c =
     written_all (drawing_lines c.args.tiling.now) c.loop-y.y (g.O.Sink.written c.args.out.now) (g.O.Sink.written c.loop-y.out)
-    (subst (λ (n : ℕ). n ≤ c.loop-y.y) (sym (length-map-range_with_len (row_line c.args.tiling.now) 0 (c.args.tiling.now.height + 1))) (subst (λ (n : ℕ). n + 1 ≤ c.loop-y.y) c.height-y-end.ensures.value c.loop-y-test.false))
+    (subst (λ (n : ℕ). n ≤ c.loop-y.y) (sym (length-map-range_with_len (row_line c.args.tiling.now) 0 (c.args.tiling.now.height + 1)))
+    (subst (λ (n : ℕ). n + 1 ≤ c.loop-y.y) c.height-y-end.ensures.value c.loop-y-test.false))
     c.loop-y.invariant.0

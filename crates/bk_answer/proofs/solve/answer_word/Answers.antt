@@ -1,7 +1,6 @@
 use Rattle.std.proofs.Common.{length, subst, ◌<◌, ◌∙◌}
 use Rattle.bk_word.specs.Play.{IsComplete, IsLegal, outline_of}
 use Rattle.bk_word.specs.Word.{order_of}
-use Rattle.bk_word.specs.declared.TheConstants.{INLINE_ORDER}
 use Rattle.bk_word_net.specs.Realised.{IsRealised}
 use Rattle.bk_skel.specs.SolveRefusal.{IsSolveFault}
 use Rattle.bk_word_net.specs.WideWord.{IsWideWord}
@@ -14,7 +13,8 @@ use Rattle.bk_answer.proofs.solve.answer_word.Goals as goal
 
 pub returns-in-Ok-Some-clause-reply : goal.returns-in-Ok-Some-clause-reply
 returns-in-Ok-Some-clause-reply g c =
-    piece_replies (AnswersWord c.args.word.now) (INLINE_ORDER < order_of c.args.word.now) (g.O.Sink.written c.args.out.now) (g.O.Sink.written c.write_all.new.self)
+    piece_replies (AnswersWord c.args.word.now) (16 < order_of c.args.word.now) (g.O.Sink.written c.args.out.now)
+    (g.O.Sink.written c.write_all.new.self)
     (tiling_line c.in-Ok-Some.tiling) c.as_slice.result.now c.write_all.result c.accepted.result
     (realised c.in-Ok-Some.tiling c.in-Ok-Some.ensures.complete c.in-Ok-Some.ensures.narrow
     (subst (IsRealised c.args.word.now) c.in-Ok-Some.field-0-is c.in-Ok-Some.ensures.realised))
@@ -22,27 +22,33 @@ returns-in-Ok-Some-clause-reply g c =
 
 pub returns-in-Ok-None-clause-reply : goal.returns-in-Ok-None-clause-reply
 returns-in-Ok-None-clause-reply g c =
-    refusal_replies (AnswersWord c.args.word.now) (INLINE_ORDER < order_of c.args.word.now) Nothing (g.O.Sink.written c.args.out.now) (g.O.Sink.written c.refuse.new.out) c.refuse.result
+    refusal_replies (AnswersWord c.args.word.now) (16 < order_of c.args.word.now) Nothing (g.O.Sink.written c.args.out.now)
+    (g.O.Sink.written c.refuse.new.out) c.refuse.result
     (no_tiling c.in-Ok-None.ensures.complete c.in-Ok-None.ensures.narrow
     (subst (IsRealised c.args.word.now) c.in-Ok-None.field-0-is c.in-Ok-None.ensures.realised))
     c.refuse.ensures.outcome c.refuse.ensures.failed
 
 pub returns-in-Err-Illegal-clause-reply : goal.returns-in-Err-Illegal-clause-reply
 returns-in-Err-Illegal-clause-reply g c =
-    refusal_replies (AnswersWord c.args.word.now) (INLINE_ORDER < order_of c.args.word.now) (Illegal c.in-Err-Illegal.place) (g.O.Sink.written c.args.out.now) (g.O.Sink.written c.refuse-in-Err-Illegal.new.out) c.refuse-in-Err-Illegal.result
+    refusal_replies (AnswersWord c.args.word.now) (16 < order_of c.args.word.now) (Illegal c.in-Err-Illegal.place)
+    (g.O.Sink.written c.args.out.now) (g.O.Sink.written c.refuse-in-Err-Illegal.new.out) c.refuse-in-Err-Illegal.result
     (illegal c.in-Err-Illegal.place (subst (IsSolveFault c.args.word.now) c.in-Err-Illegal.field-0-is c.in-Err-Illegal.ensures.refused))
     c.refuse-in-Err-Illegal.ensures.outcome c.refuse-in-Err-Illegal.ensures.failed
 
 pub returns-in-Err-OpenEnd-clause-reply : goal.returns-in-Err-OpenEnd-clause-reply
 returns-in-Err-OpenEnd-clause-reply g c =
-    let cause : IsLegal c.args.word.now × (1 < length (outline_of c.args.word.now).segments) = subst (IsSolveFault c.args.word.now) c.in-Err-OpenEnd.field-0-is c.in-Err-OpenEnd.ensures.refused in
-    refusal_replies (AnswersWord c.args.word.now) (INLINE_ORDER < order_of c.args.word.now) Unfinished (g.O.Sink.written c.args.out.now) (g.O.Sink.written c.refuse-in-Err-OpenEnd.new.out) c.refuse-in-Err-OpenEnd.result
+    let cause : IsLegal c.args.word.now × (1 < length (outline_of c.args.word.now).segments) =
+    subst (IsSolveFault c.args.word.now) c.in-Err-OpenEnd.field-0-is c.in-Err-OpenEnd.ensures.refused in
+    refusal_replies (AnswersWord c.args.word.now) (16 < order_of c.args.word.now) Unfinished (g.O.Sink.written c.args.out.now)
+    (g.O.Sink.written c.refuse-in-Err-OpenEnd.new.out) c.refuse-in-Err-OpenEnd.result
     (unfinished cause.0 cause.1)
     c.refuse-in-Err-OpenEnd.ensures.outcome c.refuse-in-Err-OpenEnd.ensures.failed
 
 pub returns-in-Err-Wide-clause-reply : goal.returns-in-Err-Wide-clause-reply
 returns-in-Err-Wide-clause-reply g c =
-    let cause : IsComplete c.args.word.now × IsWideWord c.args.word.now = subst (IsSolveFault c.args.word.now) c.in-Err-Wide.field-0-is c.in-Err-Wide.ensures.refused in
-    refusal_replies (AnswersWord c.args.word.now) (INLINE_ORDER < order_of c.args.word.now) Wide (g.O.Sink.written c.args.out.now) (g.O.Sink.written c.refuse-in-Err-Wide.new.out) c.refuse-in-Err-Wide.result
+    let cause : IsComplete c.args.word.now × IsWideWord c.args.word.now =
+    subst (IsSolveFault c.args.word.now) c.in-Err-Wide.field-0-is c.in-Err-Wide.ensures.refused in
+    refusal_replies (AnswersWord c.args.word.now) (16 < order_of c.args.word.now) Wide (g.O.Sink.written c.args.out.now)
+    (g.O.Sink.written c.refuse-in-Err-Wide.new.out) c.refuse-in-Err-Wide.result
     (wide_word cause.0 cause.1)
     c.refuse-in-Err-Wide.ensures.outcome c.refuse-in-Err-Wide.ensures.failed

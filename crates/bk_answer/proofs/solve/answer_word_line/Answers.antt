@@ -5,7 +5,6 @@ use Rattle.bk_lines.proofs.Pieces.{writes_none}
 use Rattle.bk_word.specs.ReadWord.{IsFaultOf}
 use Rattle.bk_word.specs.Word.{Word, order_of}
 use Rattle.bk_word.specs.WordText.{IsTextOf}
-use Rattle.bk_word.specs.declared.TheConstants.{INLINE_ORDER, LARGEST_ORDER}
 use Rattle.bk_word.specs.declared.reading.WordFault.{WordFault}
 use Rattle.bk_report.specs.declared.refusal.Refused.TheVariants.{Many}
 use Rattle.bk_answer.specs.WordAnswer.{AnswersWord, AnswersWordLine, HasText, HasWord, MayWantForWord, large_word, no_word, no_word_item, of_word}
@@ -17,7 +16,8 @@ none_is P o e = subst (λ z. IfNone z P) e
 
 pub returns-in_default-clause-reply : goal.returns-in_default-clause-reply
 returns-in_default-clause-reply g c =
-    writes_none (AnswersWordLine c.args.line.now) false (g.O.Sink.written c.args.out.now) (no_word_item c.requires (none_is (LineEnd c.args.line.now) c.word_item.result c.in_default.is c.word_item.ensures.none))
+    writes_none (AnswersWordLine c.args.line.now) false (g.O.Sink.written c.args.out.now)
+    (no_word_item c.requires (none_is (LineEnd c.args.line.now) c.word_item.result c.in_default.is c.word_item.ensures.none))
 
 pub returns-in-Ok-clause-reply : goal.returns-in-Ok-clause-reply
 returns-in-Ok-clause-reply g c =
@@ -26,15 +26,16 @@ returns-in-Ok-clause-reply g c =
       text = slice_range c.args.line.now c.in-Some.start c.in-Some.end;
       item = record { short = c.requires; stop = c.in-Some.end; item = c.in-Some.ensures.some; text_is = refl };
       word = c.in-Ok.ensures.read;
-      few = subst (λ (n : ℕ). n ≤ LARGEST_ORDER) c.order-few.ensures.value c.order-few.ensures.few;
+      few = subst (λ (n : ℕ). n ≤ 200) c.order-few.ensures.value c.order-few.ensures.few;
     } in
-    replies_more (AnswersWord c.in-Ok.word) (AnswersWordLine c.args.line.now) (INLINE_ORDER < order_of c.in-Ok.word) (MayWantForWord c.args.line.now)
+    replies_more (AnswersWord c.in-Ok.word) (AnswersWordLine c.args.line.now) (16 < order_of c.in-Ok.word) (MayWantForWord c.args.line.now)
     (λ pieces refused. of_word c.in-Ok.word pieces refused has) (λ w. (c.in-Ok.word, has, w))
     (g.O.Sink.written c.args.out.now) (g.O.Sink.written c.answer_word.new.out) c.answer_word.result c.answer_word.ensures.reply
 
 pub returns-in-Err-Text-clause-reply : goal.returns-in-Err-Text-clause-reply
 returns-in-Err-Text-clause-reply g c =
-    text_replies (AnswersWordLine c.args.line.now) (MayWantForWord c.args.line.now) c.in-Some.start c.in-Err-Text.at _ (g.O.Sink.written c.args.out.now) (g.O.Sink.written c.refuse.new.out) c.refuse.result (sym c.in-Err-Text.at-is)
+    text_replies (AnswersWordLine c.args.line.now) (MayWantForWord c.args.line.now) c.in-Some.start c.in-Err-Text.at _
+    (g.O.Sink.written c.args.out.now) (g.O.Sink.written c.refuse.new.out) c.refuse.result (sym c.in-Err-Text.at-is)
     (no_word c.in-Some.start c.in-Err-Text.at (slice_range c.args.line.now c.in-Some.start c.in-Some.end)
     (record { short = c.requires; stop = c.in-Some.end; item = c.in-Some.ensures.some; text_is = refl })
     (subst (λ (f : WordFault). IsFaultOf f (slice_range c.args.line.now c.in-Some.start c.in-Some.end)) c.in-Err-Text.field-0-is c.in-Err-Text.ensures.fault))
@@ -42,9 +43,10 @@ returns-in-Err-Text-clause-reply g c =
 
 pub returns-in-Err-Many-clause-reply : goal.returns-in-Err-Many-clause-reply
 returns-in-Err-Many-clause-reply g c =
-    let cause : (w : Word) × IsTextOf (slice_range c.args.line.now c.in-Some.start c.in-Some.end) w × (LARGEST_ORDER < order_of w) =
+    let cause : (w : Word) × IsTextOf (slice_range c.args.line.now c.in-Some.start c.in-Some.end) w × (200 < order_of w) =
     subst (λ (f : WordFault). IsFaultOf f (slice_range c.args.line.now c.in-Some.start c.in-Some.end)) c.in-Err-Many.field-0-is c.in-Err-Many.ensures.fault in
-    refusal_replies (AnswersWordLine c.args.line.now) (MayWantForWord c.args.line.now) Many (g.O.Sink.written c.args.out.now) (g.O.Sink.written c.refuse-in-Err-Many.new.out) c.refuse-in-Err-Many.result
+    refusal_replies (AnswersWordLine c.args.line.now) (MayWantForWord c.args.line.now) Many (g.O.Sink.written c.args.out.now)
+    (g.O.Sink.written c.refuse-in-Err-Many.new.out) c.refuse-in-Err-Many.result
     (large_word c.in-Some.start (slice_range c.args.line.now c.in-Some.start c.in-Some.end) cause.0
     (record { short = c.requires; stop = c.in-Some.end; item = c.in-Some.ensures.some; text_is = refl }) cause.1 cause.2)
     c.refuse-in-Err-Many.ensures.outcome c.refuse-in-Err-Many.ensures.failed

@@ -11,4 +11,5 @@ returns-in_err-order-clause-none c =
 pub returns-in_err-class-clause-none : goal.returns-in_err-class-clause-none
 returns-in_err-class-clause-none c =
     none_of c.from_residual-in_err-class.result _
-    (nothing_listed (map string_bytes c.args.options.now) (λ order class from limit l. fault_of c.class_in.result _ (sym c.ok.ensures.value ∙ c.in_err-class.was) c.class_in.ensures.err class l.has_class))
+    (nothing_listed (map string_bytes c.args.options.now) (λ order class from limit l. fault_of c.class_in.result _
+    (sym c.ok.ensures.value ∙ c.in_err-class.was) c.class_in.ensures.err class l.has_class))

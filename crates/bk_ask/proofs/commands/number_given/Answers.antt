@@ -7,5 +7,6 @@ use Rattle.bk_ask.proofs.commands.number_given.Goals as goal
 pub returns-in-Some-clause-none : goal.returns-in-Some-clause-none
 returns-in-Some-clause-none c =
     none_then c.number_within.result _ _
-    (not_given (options_in (map string_bytes c.args.options.now)) c.args.name.now c.in-Some.value.now (IsNumberWithin c.args.least c.args.most) c.requires c.in-Some.ensures.some)
+    (not_given (options_in (map string_bytes c.args.options.now)) c.args.name.now c.in-Some.value.now (IsNumberWithin c.args.least c.args.most)
+    c.requires c.in-Some.ensures.some)
     c.number_within.ensures.none

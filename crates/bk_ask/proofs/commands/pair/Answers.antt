@@ -6,4 +6,5 @@ use Rattle.bk_ask.proofs.commands.pair.Goals as goal
 pub returns-in_err-kind-clause-none : goal.returns-in_err-kind-clause-none
 returns-in_err-kind-clause-none c =
     none_of c.from_residual.result _
-    (nothing_paired (map string_bytes c.args.options.now) (λ kind p. fault_of c.kind_in.result _ (sym c.ok.ensures.value ∙ c.in_err-kind.was) c.kind_in.ensures.err kind p.has_kind))
+    (nothing_paired (map string_bytes c.args.options.now) (λ kind p. fault_of c.kind_in.result _ (sym c.ok.ensures.value ∙ c.in_err-kind.was)
+    c.kind_in.ensures.err kind p.has_kind))

@@ -16,11 +16,19 @@ returns-in-Ok-clause-some c = record {
 
 pub returns-in_default-clause-none : goal.returns-in_default-clause-none
 returns-in_default-clause-none c n is =
-    omega (arith, same_number c.args.text.now c.in-Ok.number n (omega (arith, is.at_most)) is.text c.parse.result c.in-Ok.is c.parse.ensures.value.0, is.at_most)
+    omega (
+      arith,
+      same_number c.args.text.now c.in-Ok.number n (omega (arith, is.at_most)) is.text c.parse.result c.in-Ok.is c.parse.ensures.value.0,
+      is.at_most,
+    )
 
 pub returns-in_default-2-clause-none : goal.returns-in_default-2-clause-none
 returns-in_default-2-clause-none c n is =
-    omega (arith, same_number c.args.text.now c.in-Ok.number n (omega (arith, is.at_most)) is.text c.parse.result c.in-Ok.is c.parse.ensures.value.0, is.at_least)
+    omega (
+      arith,
+      same_number c.args.text.now c.in-Ok.number n (omega (arith, is.at_most)) is.text c.parse.result c.in-Ok.is c.parse.ensures.value.0,
+      is.at_least,
+    )
 
 pub returns-in_default-3-clause-none : goal.returns-in_default-3-clause-none
 returns-in_default-3-clause-none c n is =

@@ -4,7 +4,8 @@ use Rattle.bk_lines.proofs.input.enter_lines.Given as goal
 
 abbrev pub invariant-reads : goal.invariant-reads
 invariant-reads g l = record {
-  state : IsTaken (record { enters = g.R.Register.enters; may_want = g.R.Register.may_want }) l.fn.register (g.S.Source.left l.fn.source) (g.S.Source.left l.source) (g.O.Sink.written l.fn.out) (g.O.Sink.written l.out) l.taken l.kept.front.items l.kept.number l.refused l.register;
+  state : IsTaken (record { enters = g.R.Register.enters; may_want = g.R.Register.may_want }) l.fn.register (g.S.Source.left l.fn.source)
+      (g.S.Source.left l.source) (g.O.Sink.written l.fn.out) (g.O.Sink.written l.out) l.taken l.kept.front.items l.kept.number l.refused l.register;
   within : l.taken ≤ 2 ^ 30;
   early : l.kept.number ≤ l.taken + 1;
   is_ready : g.R.Register.is_ready l.register l.kept.number;

@@ -8,7 +8,8 @@ returns-then-is_empty-clause-entered g c =
     let none : length c.args.kept.now.front.items ≡ 0 = eqb-true _ _ (sym c.is_empty.ensures ∙ c.if-is_empty.true) in
     line_entered (record { enters = g.R.Register.enters; may_want = g.R.Register.may_want }) c.args.register.now c.args.kept.now.number
     (c.args.kept.now.front.items ++ c.args.end.now) _ _ _
-    (front-alone c.args.kept.now.front.items c.args.end.now c.min.result none c.min.ensures) c.enter_line.new.register c.enter_line.result c.enter_line.ensures.entered
+    (front-alone c.args.kept.now.front.items c.args.end.now c.min.result none c.min.ensures) c.enter_line.new.register c.enter_line.result
+    c.enter_line.ensures.entered
 
 pub returns-then-is_empty-clause-stopped : goal.returns-then-is_empty-clause-stopped
 returns-then-is_empty-clause-stopped g c =

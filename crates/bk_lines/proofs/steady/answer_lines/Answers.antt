@@ -1,5 +1,7 @@
 use Rattle.std.proofs.Common.{refl, subst, ◌∙◌, ◌≡◌}
-use Rattle.bk_lines.proofs.Stateless.{all_done, ends_alike}
+use Rattle.bk_lines.proofs.Stateless.{ends_alike}
+use Rattle.bk_lines.specs.Ending.{of_fronts}
+use Rattle.bk_lines.specs.Lines.{kept_front}
 use Rattle.bk_lines.proofs.steady.answer_lines.Goals as goal
 
 pub returns-clause-ending : goal.returns-clause-ending
@@ -10,19 +12,17 @@ returns-clause-ending g c =
       may_want = λ s n line. g.A.Answerer.may_want s.answerer.now line;
     })
     (λ s. s.answerer.now ≡ c.args.answerer.now)
-    (record { answers = g.A.Answerer.answers c.args.answerer.now; may_want = g.A.Answerer.may_want c.args.answerer.now })
+    (of_fronts (record { answers = g.A.Answerer.answers c.args.answerer.now; may_want = g.A.Answerer.may_want c.args.answerer.now }))
     (record {
-      reply = λ s l n line pieces refused served h. subst (λ a. g.A.Answerer.answers a line pieces refused) served h.0;
+      reply = λ s l n line pieces refused served h. subst (λ a. g.A.Answerer.answers a (kept_front line) pieces refused) served h.0;
       goes_on = λ s l n line pieces refused served h. h.1 ∙ served;
-      wants = λ s n line served h. subst (λ a. g.A.Answerer.may_want a line) served h;
+      wants = λ s n line served h. subst (λ a. g.A.Answerer.may_want a (kept_front line)) served h;
     })
-    (record { answerer = c.args.answerer }) c.enter_lines-ended.new.register
-    (record { left = g.S.Source.left c.args.source.now; left_after = g.S.Source.left c.enter_lines-ended.new.source; written = g.O.Sink.written c.args.out.now; written_after = g.O.Sink.written c.enter_lines-ended.new.out })
+    (record { answerer = c.args.answerer; desk = c.desk.result }) c.enter_lines-ended.new.register
+    (record {
+      left = g.S.Source.left c.args.source.now;
+      left_after = g.S.Source.left c.enter_lines-ended.new.source;
+      written = g.O.Sink.written c.args.out.now;
+      written_after = g.O.Sink.written c.enter_lines-ended.new.out;
+    })
     c.enter_lines-ended.result refl c.enter_lines-ended.ensures.ending
-
-pub returns-clause-complete : goal.returns-clause-complete
-returns-clause-complete g c =
-    all_done (record { answers = g.A.Answerer.answers c.args.answerer.now; may_want = g.A.Answerer.may_want c.args.answerer.now })
-    (record { left = g.S.Source.left c.args.source.now; left_after = g.S.Source.left c.enter_lines-ended.new.source; written = g.O.Sink.written c.args.out.now; written_after = g.O.Sink.written c.enter_lines-ended.new.out })
-    (g.S.Source.faults c.args.source.now) (g.S.Source.faults c.enter_lines-ended.new.source) (g.O.Sink.faults c.args.out.now) (g.O.Sink.faults c.enter_lines-ended.new.out)
-    c.enter_lines-ended.result c.enter_lines-ended.ensures.complete (returns-clause-ending g c)

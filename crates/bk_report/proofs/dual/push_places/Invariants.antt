@@ -6,4 +6,4 @@ use Rattle.bk_report.proofs.dual.push_places.Given as goal
 abbrev pub invariant-loop-number : goal.invariant-loop-number
 invariant-loop-number l =
     (l.out.items ≡ l.fn.out.items ++ flat_map (λ n. 32 ∷ decimal n) (take l.number-index l.numbers))
-    × (array_vec_len l.out ≤ array_vec_len l.fn.out + 6 * l.number-index)
+    × (array_vec_len l.out ≤ array_vec_len l.fn.out + 4 * l.number-index)

@@ -1,14 +1,21 @@
 use Rattle.bk_tiling.specs.declared.Square.{Square}
-use Rattle.std.specs.Prelude.{decimal}
+use Rattle.std.specs.Prelude.{All, decimal}
+use Rattle.std.proofs.Common.{List, subst, sym, ℕ, ◌≤◌}
+use Rattle.bk_tiling.specs.Tiling.{order}
 use Rattle.bk_sym.specs.Image.{image}
 use Rattle.bk_sym.specs.declared.Turn.TheVariants.{Swap}
 use Rattle.bk_dual.specs.Dual.{crossings, dual_diagram, dual_order}
 use Rattle.bk_report.specs.Answers.{wire_text}
+use Rattle.bk_report.proofs.NodeSizes.{small_numbers}
 use Rattle.bk_report.proofs.Spaces.{dual_pieces}
 use Rattle.bk_report.proofs.dual.write_dual.Goals as goal
 
-pub returns : goal.returns
-returns c =
+pub push_places-requires-clause-small : goal.push_places-requires-clause-small
+push_places-requires-clause-small c = subst (λ (l : List ℕ). All (λ n. n ≤ 999) l) (sym c.as_slice.ensures.value)
+    (small_numbers c.dual_order.result.items (order c.args.tiling.now) (c.dual_order.ensures.kept).few c.dual_order.ensures.range)
+
+pub returns-clause-line : goal.returns-clause-line
+returns-clause-line c =
     rw (
       c.push.ensures.items,
       c.push_number.ensures.text,
@@ -22,7 +29,7 @@ returns c =
       c.clear.ensures,
       c.dual_of.ensures.diagram,
       c.image.ensures.value,
-      c.dual_order.ensures,
+      c.dual_order.ensures.value,
       c.from.ensures,
       c.crossings.ensures,
     )

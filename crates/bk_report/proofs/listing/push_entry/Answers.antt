@@ -16,4 +16,5 @@ returns-clause-text c =
       c.push_number.ensures.text,
       c.order.ensures.value,
     )
-    (entry_pieces c.args.out.now.items (decimal (order c.args.tiling.now)) (size_text c.args.tiling.now.width c.args.tiling.now.height) (code_text (code_of c.args.tiling.now)) (word_text c.args.word.now))
+    (entry_pieces c.args.out.now.items (decimal (order c.args.tiling.now)) (size_text c.args.tiling.now.width c.args.tiling.now.height)
+    (code_text (code_of c.args.tiling.now)) (word_text c.args.word.now))

@@ -7,4 +7,5 @@ use Rattle.bk_report.proofs.lists.write_pair.Goals as goal
 pub returns : goal.returns
 returns c =
     rw (c.push-2.ensures.items, c.push_tiling.ensures.text, c.push.ensures.items, c.push_named.ensures.text, c.push_number.ensures.text, c.clear.ensures)
-    (pair_pieces (decimal c.args.first) (decimal c.args.second) (size_text c.args.tiling.now.width c.args.tiling.now.height) (code_text (code_of c.args.tiling.now)))
+    (pair_pieces (decimal c.args.first) (decimal c.args.second) (size_text c.args.tiling.now.width c.args.tiling.now.height)
+    (code_text (code_of c.args.tiling.now)))

@@ -19,5 +19,6 @@ returns c =
       c.push_bytes.ensures,
       c.clear.ensures,
     )
-    (verified_pieces (last_name c.args.last) (decimal c.args.order) (decimal (slice_index c.args.counts 0)) (decimal (slice_index c.args.counts 1)) (decimal (slice_index c.args.counts 2))
+    (verified_pieces (last_name c.args.last) (decimal c.args.order) (decimal (slice_index c.args.counts 0)) (decimal (slice_index c.args.counts 1))
+    (decimal (slice_index c.args.counts 2))
     (decimal (slice_index c.args.counts 3)) (decimal (slice_index c.args.counts 4)) (wide_words c.args.last c.args.word.now))

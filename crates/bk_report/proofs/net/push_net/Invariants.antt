@@ -7,4 +7,4 @@ use Rattle.bk_report.proofs.net.push_net.Given as goal
 abbrev pub invariant-loop-from : goal.invariant-loop-from
 invariant-loop-from l =
     (l.out.items ≡ l.fn.out.items ++ decimal l.net.nodes ++ flat_map (λ w. 32 ∷ wire_text w) (take l.from-index l.from-items))
-    × (array_vec_len l.out ≤ array_vec_len l.fn.out + 5 + 12 * l.from-index)
+    × (array_vec_len l.out ≤ array_vec_len l.fn.out + 3 + 8 * l.from-index)

@@ -6,4 +6,4 @@ use Rattle.bk_report.proofs.net.push_sides.Given as goal
 abbrev pub invariant-loop-q : goal.invariant-loop-q
 invariant-loop-q l =
     (l.out.items ≡ l.fn.out.items ++ decimal l.tiling.width ++ flat_map (λ q. 32 ∷ decimal q.s) (take l.q-index l.q-items))
-    × (array_vec_len l.out ≤ array_vec_len l.fn.out + 20 + 21 * l.q-index)
+    × (array_vec_len l.out ≤ array_vec_len l.fn.out + 20 + 16 * l.q-index)

@@ -12,7 +12,8 @@ returns g c =
       written = g.O.Sink.written c.args.out.now;
       written_after = g.O.Sink.written c.list_lines.new.out;
     }))
-    (g.S.Source.left c.args.source.now) (g.S.Source.faults c.args.source.now) (g.S.Source.faults c.list_lines.new.source) (g.O.Sink.faults c.args.out.now) (g.O.Sink.faults c.list_lines.new.out)
+    (g.S.Source.left c.args.source.now) (g.S.Source.faults c.args.source.now) (g.S.Source.faults c.list_lines.new.source) (g.O.Sink.faults c.args.out.now)
+    (g.O.Sink.faults c.list_lines.new.out)
     c.list_lines.result c.status.result
     (record {
       bytes = c.list_lines.ensures.ending;

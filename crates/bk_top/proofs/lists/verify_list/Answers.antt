@@ -11,5 +11,6 @@ returns g c =
       written_after = g.O.Sink.written c.verify.new.out;
     })
     (g.S.Source.faults c.args.source.now) (g.S.Source.faults c.verify.new.source) (g.O.Sink.faults c.args.out.now) (g.O.Sink.faults c.verify.new.out)
-    c.verify.result c.ended_at.result c.status.result c.verify.ensures.verified c.verify.ensures.complete c.verify.ensures.read_failed c.verify.ensures.none_failed c.verify.ensures.write_failed c.verify.ensures.all_written
+    c.verify.result c.ended_at.result c.status.result c.verify.ensures.verified c.verify.ensures.complete c.verify.ensures.read_failed
+    c.verify.ensures.none_failed c.verify.ensures.write_failed c.verify.ensures.all_written
     c.ended_at.ensures c.status.ensures

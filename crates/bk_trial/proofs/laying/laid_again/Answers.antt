@@ -15,7 +15,8 @@ pub returns-in-Ok : goal.returns-in-Ok
 returns-in-Ok c =
     let t = tiling_at c.args.seed c.args.k in
     let kept = sample_kept c.args.seed c.args.k in
-    c.laid.ensures (code_of t) t (reads_code t kept (stands_for c.in-Ok.line) c.as_slice.result.now (c.as_slice.ensures.value ∙ c.write_code.ensures.text ∙ (λ z. c.clear.ensures z ++ code_text (c.sample.ensures z))) c.in-Ok.ensures.read)
+    c.laid.ensures (code_of t) t (reads_code t kept (stands_for c.in-Ok.line) c.as_slice.result.now (c.as_slice.ensures.value ∙ c.write_code.ensures.text
+    ∙ (λ z. c.clear.ensures z ++ code_text (c.sample.ensures z))) c.in-Ok.ensures.read)
     (record { tiling = kept.tiling; code_is = refl })
 
 pub returns-in-Err : goal.returns-in-Err

@@ -8,12 +8,14 @@ use Rattle.bk_report.specs.declared.refusal.Refused.TheVariants.{Large}
 
 pub returns-then-not-allows-clause-reply : goal.returns-then-not-allows-clause-reply
 returns-then-not-allows-clause-reply g c =
-    refusal_replies (AnswersTiling c.args.self c.args.tiling.now) (WantsMemory c.args.self c.args.tiling.now) Large (g.O.Sink.written c.args.out.now) (g.O.Sink.written c.refuse.new.out) c.refuse.result
+    refusal_replies (AnswersTiling c.args.self c.args.tiling.now) (WantsMemory c.args.self c.args.tiling.now) Large (g.O.Sink.written c.args.out.now)
+    (g.O.Sink.written c.refuse.new.out) c.refuse.result
     ((λ h. both_ways c.allows.result c.if-not-allows.true (c.allows.ensures.1 h)), refl)
     c.refuse.ensures.outcome c.refuse.ensures.failed
 
 pub returns-clause-reply : goal.returns-clause-reply
 returns-clause-reply g c =
-    replies_more (Tells c.args.self c.args.tiling.now) (AnswersTiling c.args.self c.args.tiling.now) (WantsMemory c.args.self c.args.tiling.now) (WantsMemory c.args.self c.args.tiling.now)
+    replies_more (Tells c.args.self c.args.tiling.now) (AnswersTiling c.args.self c.args.tiling.now) (WantsMemory c.args.self c.args.tiling.now)
+    (WantsMemory c.args.self c.args.tiling.now)
     (λ pieces refused. tells_tiling c.args.self c.args.tiling.now pieces refused (c.allows.ensures.0 c.if-not-allows.false)) (λ w. w)
     (g.O.Sink.written c.args.out.now) (g.O.Sink.written c.tell.new.out) c.tell.result c.tell.ensures.reply

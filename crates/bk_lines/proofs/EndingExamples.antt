@@ -1,0 +1,74 @@
+-- Worked examples of how runs over lines end, of what is read, and of lines that are entered.
+use Rattle.std.proofs.Common.{◌≡◌, ℕ, ◌+◌, ◌==◌, List, [], ◌∷◌, ◌++◌, Some, false, get_or, inl, inr, lit<, lit≤, refl, true}
+use Rattle.std.specs.Prelude.{codes}
+use Rattle.bk_lines.specs.Deciding.{HasRefused}
+use Rattle.bk_lines.specs.Ending.{AreRead, IsAnswered, IsCutOff, Rules, Told}
+use Rattle.bk_lines.specs.Entering.{AreEntered, Entering}
+use Rattle.bk_lines.specs.Reply.{Reply}
+
+-- each line is answered by itself and a line feed, and one that begins with `!` is refused
+abbrev echo : Rules
+echo = record {
+  answers = λ line pieces refused. (pieces ≡ (line ++ 10 ∷ []) ∷ []) × (refused ≡ (get_or line 0 0 == 33));
+  may_want = λ line. ⊥;
+}
+
+abbrev first : Reply
+first = record { pieces = codes "a\n" ∷ []; refused = false }
+
+abbrev second : Reply
+second = record { pieces = codes "!\n" ∷ []; refused = true }
+
+-- two lines are read to the end of the input, and the second is refused
+abbrev whole : Told
+whole = record {
+  left = Some (codes "a\n!\n");
+  left_after = Some [];
+  written = Some (codes "0\n");
+  written_after = Some (codes "0\na\n!\n");
+}
+
+whole_answered : IsAnswered echo whole true
+whole_answered = record {
+  input = codes "a\n!\n";
+  taken = refl;
+  at_end = refl;
+  within = lit≤ tt;
+  answered = record { replies = first ∷ second ∷ []; each = ((refl, refl), ((refl, refl), tt)); written = refl; any = refl };
+}
+
+one_refused : HasRefused echo (codes "a" ∷ codes "!" ∷ [])
+one_refused = (codes "!", (1, lit< tt, refl), codes "!\n" ∷ [], (refl, refl))
+
+-- a read fails in the second line: the first is answered
+abbrev part : Told
+part = record { left = Some (codes "a\n!\n"); left_after = Some (codes "\n"); written = Some []; written_after = Some (codes "a\n") }
+
+part_answered : IsCutOff echo part
+part_answered = record {
+  input = codes "a\n!";
+  taken = refl;
+  within = lit≤ tt;
+  refused = false;
+  answered = record { replies = first ∷ []; each = ((refl, refl), tt); written = refl; any = refl };
+}
+
+-- of these bytes one line was read, and at the end of the input two
+read_first : AreRead (Some (codes "\n")) (codes "a\n!") (codes "a" ∷ [])
+read_first = inl refl
+
+read_last : AreRead (Some []) (codes "a\n!") (codes "a" ∷ codes "!" ∷ [])
+read_last = inr (refl, refl)
+
+-- the sum of the numbers of the lines is kept, and nothing is written
+abbrev summed : Entering ℕ
+summed = record {
+  enters = λ sum number line pieces refused next. (pieces ≡ []) × (refused ≡ false) × (next ≡ sum + number);
+  may_want = λ sum number line. ⊥;
+}
+
+abbrev nothing : Reply
+nothing = record { pieces = []; refused = false }
+
+summed_twice : AreEntered summed 10 1 (codes "a" ∷ [] ∷ []) (nothing ∷ nothing ∷ []) 13
+summed_twice = (11, (refl, refl, refl), (13, (refl, refl, refl), refl))

@@ -1,0 +1,46 @@
+-- How many steps a listing takes. A step is a push of a move; a listing calls its walk once for each entry, and once more
+-- where that finds no further member.
+use Rattle.std.specs.Prelude.{List, None, Option, Some, length, ℕ, ◌*◌, ◌+◌, ◌-◌}
+use Rattle.bk_word.specs.Word.{Word}
+use Rattle.bk_word.specs.declared.Class.{Class}
+use Rattle.bk_catalogue.specs.Catalogue.{Entry}
+use Rattle.bk_report.specs.declared.listing.Last.{Last}
+use Rattle.bk_report.specs.declared.listing.Last.TheVariants.{End, Limit, Wide}
+use Rattle.bk_tree.specs.Tree.{HasAtLeast, IsAtMostTree}
+use Rattle.bk_list.specs.Listing.{AreFirst, IsWithinLimit}
+use Rattle.bk_list.specs.ListingLaws.{cursor_after}
+use Rattle.bk_list.specs.Writing.{AreEndedBy}
+use Rattle.bk_list.specs.declared.entries.Next.{Next}
+use Rattle.bk_list.specs.declared.entries.Next.TheVariants.{Member, Nothing}
+
+-- so many steps in so many calls: at most the tree count, of the legal words after the cursor and not after the bound, and 16
+-- for each call
+abbrev pub IsAtMostTreeAnd : ℕ → Word → Option Word → ℕ → ℕ → Type 0
+IsAtMostTreeAnd n cursor bound calls steps = HasAtLeast n cursor bound (steps - 16 * calls)
+
+-- the steps of a listing of these entries that ends so. At its limit it hasn't looked beyond the word of its last entry; at
+-- the end it has made one call more, and has looked at all that is after the cursor
+abbrev pub AreStepsTo : Last → ℕ → Word → List Entry → ℕ → Type 0
+AreStepsTo Limit n cursor entries steps =
+    IsAtMostTreeAnd n cursor (Some (cursor_after cursor entries)) (length entries) steps
+AreStepsTo End n cursor entries steps = IsAtMostTreeAnd n cursor None (length entries + 1) steps
+AreStepsTo Wide n cursor entries steps = ⊥
+
+-- a listing that ends so takes so many steps for its entries. Example (SteppingExamples): a listing with the limit 0 takes none
+pub record TakesSteps (n : ℕ) (class : Class) (cursor : Word) (limit : Option ℕ) (last : Last) (steps : ℕ) : Type 0 where
+  pub entries : List Entry
+  pub first : AreFirst n class cursor entries
+  pub ends : AreEndedBy n class cursor limit entries last
+  pub few : AreStepsTo last n cursor entries steps
+
+-- a listing whose writing failed has taken no more steps for the entries that it found than one that goes on to its end
+pub record TookSteps (n : ℕ) (class : Class) (cursor : Word) (limit : Option ℕ) (steps : ℕ) : Type 0 where
+  pub entries : List Entry
+  pub first : AreFirst n class cursor entries
+  pub within : IsWithinLimit limit entries
+  pub few : AreStepsTo End n cursor entries steps
+
+-- the steps of one call: up to the member that it found, or after the cursor where it found none
+abbrev pub AreNextSteps : Next → ℕ → Word → Word → ℕ → Type 0
+AreNextSteps Member n cursor then steps = IsAtMostTree n cursor (Some then) steps
+AreNextSteps Nothing n cursor then steps = IsAtMostTree n cursor None steps

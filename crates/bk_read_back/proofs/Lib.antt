@@ -1,0 +1,4 @@
+pub mod PrintedBytes
+pub mod EntryLines
+pub mod ListLines
+pub mod Accepted

@@ -1,0 +1,16 @@
+//! What is listed is read again.
+#![tactic(auto)]
+
+ghost use Rattle.bk_read_back.specs.ReadBack.{AListIsAccepted, AListedEntryIsRead};
+
+/// The line that `list` writes of a member (`bk_list::write_listing`) is in the grammar of lines of codes, without its line feed,
+/// and stands for the member's order, size and code; so it is read as that member and no other tiling.
+pub fn a_listed_entry_is_read()
+    ensures { AListedEntryIsRead }
+{}
+
+/// Where each line of what `list` wrote has its answer of `check` (`bk_answer`), none is refused: each member is answered by the
+/// line of its tiling, in order, and the last line is a comment.
+pub fn a_list_is_accepted()
+    ensures { AListIsAccepted }
+{}
