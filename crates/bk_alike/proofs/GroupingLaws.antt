@@ -1,6 +1,6 @@
 -- One more item goes to the group of its size.
 use Rattle.std.specs.List.{AllByRecursion, enumerate_from, list_any, position_or_len}
-use Rattle.std.specs.Prelude.{Bool, cond, false, filter, fold, map, not, true, zero}
+use Rattle.std.specs.Prelude.{Bool, Some, cond, false, filter, fold, map, not, slice_get, true, zero}
 use Rattle.std.proofs.Common.{List, [], ap, arith, inl, inr, length, refl, subst, suc, sym, ℕ, ◌&&◌, ◌++◌, ◌+◌, ◌<◌, ◌==◌, ◌||◌, ◌∙◌, ◌∷◌, ◌≡◌, ◌≤◌, ◌⊎◌}
 use Rattle.std.proofs.lemmas.Bool.{cases_Bool, true≢false}
 use Rattle.std.proofs.lemmas.Bool.Decides.{nat_tests}
@@ -39,7 +39,8 @@ fst_cond : (b : Bool) (n : ℕ) (x : KeptItem) → map (λ (i, item). i) (cond {
 fst_cond true n x = refl
 fst_cond false n x = refl
 
-pub group-push : (items : List KeptItem) (x : KeptItem) (a : ℕ × ℕ) → group_of (items ++ x ∷ []) a ≡ group_of items a ++ cond (size_eq a (item_size x)) (length items ∷ []) []
+pub group-push : (items : List KeptItem) (x : KeptItem) (a : ℕ × ℕ) → group_of (items ++ x ∷ []) a
+    ≡ group_of items a ++ cond (size_eq a (item_size x)) (length items ∷ []) []
 group-push items x a =
     let e : 0 + length items ≡ length items = omega arith in
     let test : ℕ × KeptItem → Bool = λ (i, item). size_eq a (item_size item) in
@@ -49,7 +50,8 @@ group-push items x a =
     ∙ map-append first (filter test (enumerate_from 0 items)) (filter test ((length items, x) ∷ []))
     ∙ ap (λ (l : List ℕ). map first (filter test (enumerate_from 0 items)) ++ l) (fst_cond (size_eq a (item_size x)) (length items) x)
 
-group-more : (items : List KeptItem) (x : KeptItem) (a : ℕ × ℕ) → size_eq a (item_size x) ≡ true → group_of (items ++ x ∷ []) a ≡ group_of items a ++ length items ∷ []
+group-more : (items : List KeptItem) (x : KeptItem) (a : ℕ × ℕ) → size_eq a (item_size x) ≡ true
+    → group_of (items ++ x ∷ []) a ≡ group_of items a ++ length items ∷ []
 group-more items x a e = group-push items x a ∙ ap (λ (b : Bool). group_of items a ++ cond b (length items ∷ []) []) e
 
 group-same : (items : List KeptItem) (x : KeptItem) (a : ℕ × ℕ) → size_eq a (item_size x) ≡ false → group_of (items ++ x ∷ []) a ≡ group_of items a
@@ -97,19 +99,41 @@ later b S a f =
     let n : 1 + position_or_len (size_eq a) S ≡ suc (position_or_len (size_eq a) S) = omega arith in
     ap (λ (v : Bool). cond {A = ℕ} (not v) (1 + position_or_len (size_eq a) S) 0) f ∙ n
 
-module _ (f g : ℕ × ℕ → List ℕ) (a : ℕ × ℕ) (n : ℕ) (same : (b : ℕ × ℕ) → size_eq b a ≡ false → g b ≡ f b) (more : (b : ℕ × ℕ) → size_eq b a ≡ true → g b ≡ f b ++ n ∷ []) where
+-- what is found at the place of a size
+pub found_at : (f : ℕ × ℕ → List ℕ) (a : ℕ × ℕ) (S : List (ℕ × ℕ)) → position_or_len (size_eq a) S < length S
+    → slice_get (map f S) (position_or_len (size_eq a) S) ≡ Some (f a)
+found_at f a [] h = absurd (omega arith)
+found_at f a (b ∷ S) h = elim (cases_Bool (size_eq a b)) [
+  | inl t ↦ subst (λ (k : ℕ). slice_get (map f (b ∷ S)) k ≡ Some (f a)) (sym (here b S a t)) (ap (λ (c : ℕ × ℕ). Some (f c)) (sym (same_size a b t)))
+  | inr n ↦
+      let next = later b S a n in
+      subst (λ (k : ℕ). slice_get (map f (b ∷ S)) k ≡ Some (f a)) (sym next) (found_at f a S (omega (arith, h, next)))
+]
+
+-- what stands nowhere among sizes is none of them
+pub absent_at : (a : ℕ × ℕ) (S : List (ℕ × ℕ)) → length S ≤ position_or_len (size_eq a) S → list_any (size_eq a) S ≡ false
+absent_at a [] h = refl
+absent_at a (b ∷ S) h = elim (cases_Bool (size_eq a b)) [
+  | inl t ↦ absurd (omega (arith, h, here b S a t))
+  | inr n ↦ ap (λ (v : Bool). v || list_any (size_eq a) S) n ∙ absent_at a S (omega (arith, h, later b S a n))
+]
+
+module _ (f g : ℕ × ℕ → List ℕ) (a : ℕ × ℕ) (n : ℕ) (same : (b : ℕ × ℕ) → size_eq b a ≡ false → g b ≡ f b)
+    (more : (b : ℕ × ℕ) → size_eq b a ≡ true → g b ≡ f b ++ n ∷ []) where
   none_here : (S : List (ℕ × ℕ)) → AllByRecursion (λ b. size_eq a b ≡ false) S → map g S ≡ map f S
   none_here [] none = refl
   none_here (b ∷ S) none =
       let e = same b (size_eq-sym b a ∙ none.0) in
       λ i. e i ∷ none_here S none.1 i
 
-  placed : (S : List (ℕ × ℕ)) → AreApart S → (list_any (size_eq a) S ≡ false → f a ≡ []) → map g (with_size S a) ≡ with_place (map f S) (position_or_len (size_eq a) S) n
+  placed : (S : List (ℕ × ℕ)) → AreApart S → (list_any (size_eq a) S ≡ false → f a ≡ [])
+      → map g (with_size S a) ≡ with_place (map f S) (position_or_len (size_eq a) S) n
   placed [] apart absent =
       ap (λ (l : List ℕ). l ∷ []) (more a (size_eq-refl a) ∙ ap (λ (l : List ℕ). l ++ n ∷ []) (absent refl))
   placed (b ∷ S) apart absent = elim (cases_Bool (size_eq a b)) [
     | inl t ↦
-        let others : AllByRecursion (λ c. size_eq a c ≡ false) S = subst (λ (d : ℕ × ℕ). AllByRecursion (λ c. size_eq d c ≡ false) S) (sym (same_size a b t)) apart.0 in
+        let others : AllByRecursion (λ c. size_eq a c ≡ false) S = subst (λ (d : ℕ × ℕ). AllByRecursion (λ c. size_eq d c ≡ false) S)
+        (sym (same_size a b t)) apart.0 in
         ap (map g) (present b S a t)
         ∙ (let e = more b (size_eq-sym b a ∙ t) in λ i. e i ∷ none_here S others i)
         ∙ sym (ap (λ (k : ℕ). with_place (f b ∷ map f S) k n) (here b S a t))
@@ -127,14 +151,16 @@ no_others-push : (items : List KeptItem) (x : KeptItem) → ((a : ℕ × ℕ) �
     → (a : ℕ × ℕ) → list_any (size_eq a) (with_size (sizes items) (item_size x)) ≡ false → group_of (items ++ x ∷ []) a ≡ []
 no_others-push items x before a e = elim (cases_Bool (list_any (size_eq (item_size x)) (sizes items))) [
   | inl t ↦
-      let none : list_any (size_eq a) (sizes items) ≡ false = sym (ap (λ (v : Bool). list_any (size_eq a) (cond v (sizes items) (sizes items ++ item_size x ∷ []))) t) ∙ e in
+      let none : list_any (size_eq a) (sizes items)
+      ≡ false = sym (ap (λ (v : Bool). list_any (size_eq a) (cond v (sizes items) (sizes items ++ item_size x ∷ []))) t) ∙ e in
       elim (cases_Bool (size_eq a (item_size x))) [
         | inl is ↦ absurd (true≢false (sym t ∙ ap (λ (b : ℕ × ℕ). list_any (size_eq b) (sizes items)) (sym (same_size a (item_size x) is)) ∙ none))
         | inr not ↦ group-same items x a not ∙ before a none
       ]
   | inr f ↦
       let both : (list_any (size_eq a) (sizes items) || (size_eq a (item_size x) || false)) ≡ false =
-      sym (list_any-append (size_eq a) (sizes items) (item_size x ∷ [])) ∙ sym (ap (λ (v : Bool). list_any (size_eq a) (cond v (sizes items) (sizes items ++ item_size x ∷ []))) f) ∙ e in
+      sym (list_any-append (size_eq a) (sizes items) (item_size x ∷ []))
+      ∙ sym (ap (λ (v : Bool). list_any (size_eq a) (cond v (sizes items) (sizes items ++ item_size x ∷ []))) f) ∙ e in
       let parts = neither (list_any (size_eq a) (sizes items)) (size_eq a (item_size x)) both in
       group-same items x a parts.1 ∙ before a parts.0
 ]
@@ -144,8 +170,10 @@ no_others-push items x before a e = elim (cases_Bool (list_any (size_eq (item_si
     neither false true e = absurd (true≢false e)
     neither false false e = (refl, refl)
 
-pub grouped-push : (items : List KeptItem) (x : KeptItem) (stored stored' : List (ℕ × ℕ)) (groups groups' : List (List ℕ)) → IsGrouped items stored groups → length items < 16384
-    → stored' ≡ with_size stored (item_size x) → groups' ≡ with_place groups (position_or_len (size_eq (item_size x)) stored) (length items) → IsGrouped (items ++ x ∷ []) stored' groups'
+pub grouped-push : (items : List KeptItem) (x : KeptItem) (stored stored' : List (ℕ × ℕ)) (groups groups' : List (List ℕ))
+    → IsGrouped items stored groups → length items < 16384
+    → stored' ≡ with_size stored (item_size x) → groups' ≡ with_place groups (position_or_len (size_eq (item_size x)) stored) (length items)
+    → IsGrouped (items ++ x ∷ []) stored' groups'
 grouped-push items x stored stored' groups groups' g fits s p =
     let a = item_size x in
     let all : sizes (items ++ x ∷ []) ≡ with_size (sizes items) a = sizes-push items x in
@@ -155,7 +183,8 @@ grouped-push items x stored stored' groups groups' g fits s p =
       groups_are =
           p ∙ ap (λ (l : List (List ℕ)). with_place l (position_or_len (size_eq a) stored) (length items)) g.groups_are
           ∙ ap (λ (l : List (ℕ × ℕ)). with_place (alike_groups items) (position_or_len (size_eq a) l) (length items)) g.sizes_are
-          ∙ sym (placed (group_of items) (group_of (items ++ x ∷ [])) a (length items) (λ b e. group-same items x b e) (λ b e. group-more items x b e) (sizes items) g.apart (g.no_others a))
+          ∙ sym (placed (group_of items) (group_of (items ++ x ∷ [])) a (length items) (λ b e. group-same items x b e) (λ b e. group-more items x b e)
+          (sizes items) g.apart (g.no_others a))
           ∙ ap (map (group_of (items ++ x ∷ []))) (sym all);
       apart = subst AreApart (sym all) (apart-push (sizes items) a g.apart);
       no_others = λ b e. no_others-push items x g.no_others b (ap (list_any (size_eq b)) (sym all) ∙ e);

@@ -5,10 +5,12 @@ use Rattle.std.specs.Result.{is_err, is_ok}
 use Rattle.std.proofs.Common.{List, [], ap, arith, length, refl, subst, suc, sym, ℕ, ◌++◌, ◌<◌, ◌∙◌, ◌∷◌, ◌≡◌, ◌≤◌, nat_lt, inl, inr}
 use Rattle.std.proofs.lemmas.Bool.{cases_Bool, true≢false}
 use Rattle.std.proofs.lemmas.Bool.Decides.{nat_tests}
+use Rattle.std.proofs.lemmas.Option.{same_Some}
 use Rattle.bk_alike.specs.Grouped.{with_place}
 
 -- one more place in a group that is written back
-pub set_placed : {V : Type 0} (f : V → List ℕ) (groups : List V) (g : ℕ) (v d : V) (place : ℕ) → g < length groups → f v ≡ f (slice_index_or groups g d) ++ place ∷ []
+pub set_placed : {V : Type 0} (f : V → List ℕ) (groups : List V) (g : ℕ) (v d : V) (place : ℕ) → g < length groups
+    → f v ≡ f (slice_index_or groups g d) ++ place ∷ []
     → map f (slice_set groups g v) ≡ with_place (map f groups) g place
 set_placed f [] g v d place below e = absurd (omega arith)
 set_placed f (x ∷ groups) zero v d place below e = ap (λ (l : List ℕ). l ∷ map f groups) e
@@ -34,6 +36,14 @@ none_late n m e = by (nat_lt n m) refl e
     by : (b : Bool) → nat_lt n m ≡ b → ◌≡◌ {A = Option ℕ} None (cond b (Some n) None) → m ≤ n
     by true t e = absurd (cc)
     by false t e = grind (arith, nat_tests)
+
+-- and what is found stands at its place
+pub some_found : (n m g : ℕ) → Some g ≡ cond (nat_lt n m) (Some n) None → (g ≡ n) × (n < m)
+some_found n m g e = by (nat_lt n m) refl e
+  where
+    by : (b : Bool) → nat_lt n m ≡ b → Some g ≡ cond (nat_lt n m) (Some n) None → (g ≡ n) × (n < m)
+    by true t e = (same_Some g n (e ∙ ap (λ (v : Bool). cond v (Some n) None) t), (grind (arith, nat_tests)))
+    by false t e = absurd (cc)
 
 -- what holds where a call went well
 pub went_well : {T E : Type 0} (r : Result T E) (P : Type 0) → is_err r ≡ false → OnOk r P → P

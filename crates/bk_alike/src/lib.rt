@@ -5,12 +5,10 @@ ghost use Rattle.std.specs.List.{position_or_len};
 ghost use Rattle.std.specs.Prelude.{OnErr, OnOk, [], length, map, slice_get, ◌++◌, ◌<◌, ◌∷◌, ◌≡◌, ◌≤◌, ◌↔◌};
 ghost use Rattle.bk_tiling.specs.Tiling.{Tiling as Tiled};
 ghost use Rattle.bk_sym.specs.Canonical.{IsCanonicalOf};
-ghost use Rattle.bk_alike.specs.Alike.{alike_groups, size_eq, sizes, with_size};
+ghost use Rattle.bk_alike.specs.Alike.{alike_groups, group_of, size_eq, sizes, with_size};
 ghost use Rattle.bk_alike.specs.Grouped.{with_place};
 
 mod item;
-#[cfg(test)]
-mod tests;
 
 use bk_sym::canonical;
 use bk_tiling::Tiling;
@@ -133,6 +131,17 @@ impl Alike {
     {
         let group = &self.groups[g];
         group.as_slice()
+    }
+
+    /// The items of a size, as places from 0, in the order of their lines. The size is looked up by its hash.
+    pub fn of_size(&self, size: (u64, u64)) -> &[u32]
+        ensures value { result.now ≡ group_of self.now size }
+        ensures few { length self.now ≤ 16_384 }
+    {
+        match self.sizes.get_index_of(&size) {
+            Some(g) => self.members(g),
+            None => &[],
+        }
     }
 }
 

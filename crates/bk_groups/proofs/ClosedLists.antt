@@ -28,7 +28,8 @@ verdict_told ended (inl e) = subst IsVerdict (sym e) tt
 verdict_told ended (inr e) = subst IsVerdict (sym e) tt
 
 module _ (wanted : Wanted) (last : Listed) (left left_after a b c : Option (List ℕ)) where
-  listed : (refused : Bool) → IsEntered listing_rules none_listed (told_of left left_after a b) refused last → (r : Result (Unit {0}) Failed) → WritesLines (closing_lines wanted last) b c r → r ≡ Ok tt
+  listed : (refused : Bool) → IsEntered listing_rules none_listed (told_of left left_after a b) refused last → (r : Result (Unit {0}) Failed)
+      → WritesLines (closing_lines wanted last) b c r → r ≡ Ok tt
       → IsListed wanted (told_of left left_after a c) refused
   listed refused h (Ok x) w e = record {
     input = h.input;
@@ -39,11 +40,13 @@ module _ (wanted : Wanted) (last : Listed) (left left_after a b c : Option (List
     last = last;
     each = h.entered.each;
     any = h.entered.any;
-    written = appends_more a b c (text_of h.entered.replies) (concat (closing_lines wanted last)) (text_of h.entered.replies ++ concat (closing_lines wanted last)) h.entered.written w refl;
+    written = appends_more a b c (text_of h.entered.replies) (concat (closing_lines wanted last))
+        (text_of h.entered.replies ++ concat (closing_lines wanted last)) h.entered.written w refl;
   }
   listed refused h (Err f) w e = absurd (cc)
 
-  broken : (refused : Bool) → IsEntered listing_rules none_listed (told_of left left_after a b) refused last → (r : Result (Unit {0}) Failed) → WritesLines (closing_lines wanted last) b c r → (f : Failed) → r ≡ Err f
+  broken : (refused : Bool) → IsEntered listing_rules none_listed (told_of left left_after a b) refused last → (r : Result (Unit {0}) Failed)
+      → WritesLines (closing_lines wanted last) b c r → (f : Failed) → r ≡ Err f
       → IsClosingBroken wanted (told_of left left_after a c)
   broken refused h (Ok x) w f e = absurd (cc)
   broken refused h (Err g) w f e = record {
@@ -58,7 +61,8 @@ module _ (wanted : Wanted) (last : Listed) (left left_after a b c : Option (List
   }
 
   -- where all lines are entered, and what is wanted was written or not
-  pub closes_well : (ended : Ended) → EntersBy listing_rules none_listed last (told_of left left_after a b) ended → IsVerdict ended → (r : Result (Unit {0}) Failed) → WritesLines (closing_lines wanted last) b c r → r ≡ Ok tt
+  pub closes_well : (ended : Ended) → EntersBy listing_rules none_listed last (told_of left left_after a b) ended → IsVerdict ended
+      → (r : Result (Unit {0}) Failed) → WritesLines (closing_lines wanted last) b c r → r ≡ Ok tt
       → ListsBy wanted (told_of left left_after a c) ended
   closes_well NoneRefused h v r w e = listed false h r w e
   closes_well SomeRefused h v r w e = listed true h r w e
@@ -67,7 +71,8 @@ module _ (wanted : Wanted) (last : Listed) (left left_after a b c : Option (List
   closes_well NoMemory h v r w e = absurd v
   closes_well TooMany h v r w e = absurd v
 
-  pub closes_broken : (ended : Ended) → EntersBy listing_rules none_listed last (told_of left left_after a b) ended → IsVerdict ended → (r : Result (Unit {0}) Failed) → WritesLines (closing_lines wanted last) b c r → (f : Failed) → r ≡ Err f
+  pub closes_broken : (ended : Ended) → EntersBy listing_rules none_listed last (told_of left left_after a b) ended → IsVerdict ended
+      → (r : Result (Unit {0}) Failed) → WritesLines (closing_lines wanted last) b c r → (f : Failed) → r ≡ Err f
       → ListsBy wanted (told_of left left_after a c) WriteFailed
   closes_broken NoneRefused h v r w f e = inr (broken false h r w f e)
   closes_broken SomeRefused h v r w f e = inr (broken true h r w f e)
@@ -77,7 +82,8 @@ module _ (wanted : Wanted) (last : Listed) (left left_after a b c : Option (List
   closes_broken TooMany h v r w f e = absurd v
 
 -- and where they are not
-pub ends_early : (wanted : Wanted) (last : Listed) (told : Told) (ended : Ended) → EntersBy listing_rules none_listed last told ended → (IsVerdict ended → ⊥) → ListsBy wanted told ended
+pub ends_early : (wanted : Wanted) (last : Listed) (told : Told) (ended : Ended) → EntersBy listing_rules none_listed last told ended
+    → (IsVerdict ended → ⊥) → ListsBy wanted told ended
 ends_early wanted last told NoneRefused h v = absurd (v tt)
 ends_early wanted last told SomeRefused h v = absurd (v tt)
 ends_early wanted last told ReadFailed h v = (last, h)

@@ -17,7 +17,8 @@ use Rattle.bk_report.specs.declared.refusal.Refused.TheVariants.{More}
 use Rattle.bk_groups.specs.Listed.{Listed, ListsLine, ListsTiling, keeps, no_more, refuses, with_item, with_refused}
 
 -- the line of a refusal was written
-pub refused_outcome : (answers : List (List ℕ) → Bool → Type 0) (wants : Type 0) (line : List ℕ) (a b : Option (List ℕ)) (r : Result Outcome Failed) → answers (line ∷ []) true
+pub refused_outcome : (answers : List (List ℕ) → Bool → Type 0) (wants : Type 0) (line : List ℕ) (a b : Option (List ℕ)) (r : Result Outcome Failed)
+    → answers (line ∷ []) true
     → IfOk r (λ o. (o ≡ outcomes.Refused) × Appends a b line) → IfOk r (HasOutcome answers wants a b)
 refused_outcome answers wants line a b (Ok o) h ok = subst (HasOutcome answers wants a b) (sym ok.0) (writes_one answers true line a b h ok.1)
 refused_outcome answers wants line a b (Err f) h ok = tt
@@ -28,7 +29,8 @@ refused_begun answers line a b (Ok o) h err = tt
 refused_begun answers line a b (Err f) h err = begins_one answers true line a b h err
 
 -- an answer of one kind is one of another
-module _ (A B : List (List ℕ) → Bool → Type 0) (V W : Type 0) (more : (pieces : List (List ℕ)) (refused : Bool) → A pieces refused → B pieces refused) (wants : V → W) (a b : Option (List ℕ)) where
+module _ (A B : List (List ℕ) → Bool → Type 0) (V W : Type 0) (more : (pieces : List (List ℕ)) (refused : Bool) → A pieces refused → B pieces refused)
+    (wants : V → W) (a b : Option (List ℕ)) where
   written_more : (refused : Bool) → IsWritten A a b refused → IsWritten B a b refused
   written_more refused w = record { pieces = w.pieces; answer = more w.pieces refused w.answer; written = w.written }
 
@@ -41,7 +43,8 @@ module _ (A B : List (List ℕ) → Bool → Type 0) (V W : Type 0) (more : (pie
   more_outcome (Ok o) h = outcome_more o h
   more_outcome (Err f) h = tt
 
-pub more_begun : (A B : List (List ℕ) → Bool → Type 0) (more : (pieces : List (List ℕ)) (refused : Bool) → A pieces refused → B pieces refused) (a b : Option (List ℕ)) (r : Result Outcome Failed)
+pub more_begun : (A B : List (List ℕ) → Bool → Type 0) (more : (pieces : List (List ℕ)) (refused : Bool) → A pieces refused → B pieces refused)
+    (a b : Option (List ℕ)) (r : Result Outcome Failed)
     → OnErr r (IsBegun A a b) → OnErr r (IsBegun B a b)
 more_begun A B more a b (Ok o) h = tt
 more_begun A B more a b (Err f) h = record { pieces = h.pieces; refused = h.refused; answer = more h.pieces h.refused h.answer; written = h.written }
@@ -54,10 +57,12 @@ kept_item s next number t c a few canon is =
     (writes_none (λ pieces refused. ListsTiling s number t pieces refused (with_item s number c)) false a (keeps c few canon))
 
 -- or refused, where 16,384 are kept
-pub refused_item : (s next : Listed) (number : ℕ) (t : Tiling) → 16384 ≤ length s.items → next ≡ with_refused s → ListsTiling s number t (refused_line number More ∷ []) true next
+pub refused_item : (s next : Listed) (number : ℕ) (t : Tiling) → 16384 ≤ length s.items → next ≡ with_refused s
+    → ListsTiling s number t (refused_line number More ∷ []) true next
 refused_item s next number t full is = subst (λ (n : Listed). ListsTiling s number t (refused_line number More ∷ []) true n) (sym is) (no_more full)
 
 -- a refused line
 pub refused_entry : (s next : Listed) (number : ℕ) (bytes : List ℕ) (refused : Refused) → IsLineRefused bytes refused → next ≡ with_refused s
     → ListsLine s number bytes (refused_line number refused ∷ []) true next
-refused_entry s next number bytes refused h is = subst (λ (n : Listed). ListsLine s number bytes (refused_line number refused ∷ []) true n) (sym is) (refuses refused h)
+refused_entry s next number bytes refused h is = subst (λ (n : Listed). ListsLine s number bytes (refused_line number refused ∷ []) true n) (sym is)
+    (refuses refused h)

@@ -26,7 +26,8 @@ pub record IsWrittenTo (all rest : List (List ℕ)) (before now : Option (List �
 pub written_none : (all : List (List ℕ)) (w : Option (List ℕ)) → IsWrittenTo all all w w
 written_none all w = record { done = []; split = refl; written = appends_nothing w }
 
-pub written_more : (all rest piece later : List (List ℕ)) (a b c : Option (List ℕ)) → IsWrittenTo all rest a b → rest ≡ piece ++ later → Appends b c (concat piece) → IsWrittenTo all later a c
+pub written_more : (all rest piece later : List (List ℕ)) (a b c : Option (List ℕ)) → IsWrittenTo all rest a b → rest ≡ piece ++ later
+    → Appends b c (concat piece) → IsWrittenTo all later a c
 written_more all rest piece later a b c state is here = record {
   done = state.done ++ piece;
   split = state.split ∙ ap (λ (l : List (List ℕ)). state.done ++ l) is ∙ sym (append_assoc state.done piece later);
@@ -35,12 +36,15 @@ written_more all rest piece later a b c state is here = record {
 
 pub written_all : (all rest : List (List ℕ)) (a b : Option (List ℕ)) → IsWrittenTo all rest a b → rest ≡ [] → Appends a b (concat all)
 written_all all rest a b state none =
-    subst (λ (l : List (List ℕ)). Appends a b (concat l)) (sym (state.split ∙ ap (λ (l : List (List ℕ)). state.done ++ l) none ∙ append-nil state.done)) state.written
+    subst (λ (l : List (List ℕ)). Appends a b (concat l)) (sym (state.split ∙ ap (λ (l : List (List ℕ)). state.done ++ l) none
+    ∙ append-nil state.done)) state.written
 
-pub written_broken : (all rest piece later : List (List ℕ)) (a b c : Option (List ℕ)) → IsWrittenTo all rest a b → rest ≡ piece ++ later → AppendsPrefix b c (concat piece) → AppendsPrefix a c (concat all)
+pub written_broken : (all rest piece later : List (List ℕ)) (a b c : Option (List ℕ)) → IsWrittenTo all rest a b → rest ≡ piece ++ later
+    → AppendsPrefix b c (concat piece) → AppendsPrefix a c (concat all)
 written_broken all rest piece later a b c state is here =
     let whole : concat all ≡ concat state.done ++ (concat piece ++ concat later) =
-    ap concat (state.split ∙ ap (λ (l : List (List ℕ)). state.done ++ l) is) ∙ concat-append state.done (piece ++ later) ∙ ap (λ (l : List ℕ). concat state.done ++ l) (concat-append piece later) in
+    ap concat (state.split ∙ ap (λ (l : List (List ℕ)). state.done ++ l) is) ∙ concat-append state.done (piece ++ later)
+    ∙ ap (λ (l : List ℕ). concat state.done ++ l) (concat-append piece later) in
     subst (λ (l : List ℕ). AppendsPrefix a c l) (sym whole)
     (prefix_after a b c (concat state.done) (concat piece ++ concat later) state.written (prefix_more b c (concat piece) (concat later) here))
 
@@ -61,7 +65,8 @@ pub last_written : {T E : Type 0} (xs : List (List ℕ)) (line piece : List ℕ)
 last_written xs line piece a b c (Ok x) first is ok err =
     appends_more a b c (concat xs) (concat (line ∷ [])) (concat (xs ++ line ∷ [])) first (one_line line piece b c is ok) (concat-append xs (line ∷ []))
 last_written xs line piece a b c (Err f) first is ok err =
-    subst (λ (l : List ℕ). AppendsPrefix a c l) (sym (concat-append xs (line ∷ []))) (prefix_after a b c (concat xs) (concat (line ∷ [])) first (one_broken line piece b c is err))
+    subst (λ (l : List ℕ). AppendsPrefix a c l) (sym (concat-append xs (line ∷ [])))
+    (prefix_after a b c (concat xs) (concat (line ∷ [])) first (one_broken line piece b c is err))
 
 -- the element at a place, and what is left from there on
 pub record IsAt {A : Type 0} (xs : List A) (k : ℕ) : Type 0 where

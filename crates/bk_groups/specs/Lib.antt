@@ -3,3 +3,4 @@ pub mod EmptyLine
 pub mod Pairs
 pub mod Closing
 pub mod Writing
+pub mod LaterLines

@@ -34,7 +34,8 @@ upper_tiles w h squares some tiles =
     tiles (tiles_alone (square_at w 0 h) some)
 
 -- the square below and a tiling with columns and levels exchanged tile the lower part
-lower_tiles : (w h : ℕ) (squares : List Square) → 0 < w → Tiles (sized h w) squares → Tiles (rectangle 0 h (w + h) w) (square_at 0 h w ∷ map (moved_square w h) squares)
+lower_tiles : (w h : ℕ) (squares : List Square) → 0 < w → Tiles (sized h w) squares
+    → Tiles (rectangle 0 h (w + h) w) (square_at 0 h w ∷ map (moved_square w h) squares)
 lower_tiles w h squares some tiles =
     let at : moved_rectangle w h (sized h w) ≡ rectangle w h h w = λ z. rectangle (zero-add w z) (zero-add h z) h w in
     tiles_joined (rectangle 0 h (w + h) w) (rectangle 0 h w w) (rectangle w h h w) (square_at 0 h w ∷ []) (map (moved_square w h) squares)
@@ -47,8 +48,10 @@ square_tiles : (w h : ℕ) (first second : List Square) → 0 < w → 0 < h → 
     → Tiles (sized (w + h) (w + h)) (first ++ (square_at w 0 h ∷ square_at 0 h w ∷ [] ++ map (moved_square w h) second))
 square_tiles w h first second wide high one two =
     subst (λ (l : List Square). Tiles (sized (w + h) (w + h)) l) (append_assoc first (square_at w 0 h ∷ []) (square_at 0 h w ∷ map (moved_square w h) second))
-    (tiles_joined (sized (w + h) (w + h)) (rectangle 0 0 (w + h) h) (rectangle 0 h (w + h) w) (first ++ square_at w 0 h ∷ []) (square_at 0 h w ∷ map (moved_square w h) second)
-    (upper_part 0 0 h (w + h) (w + h) h w (omega arith) (omega arith)) (lower_part 0 0 h (w + h) (w + h) h w (omega arith) (omega arith)) (split_stacked 0 0 h (w + h) (w + h) h w (omega arith) (omega arith))
+    (tiles_joined (sized (w + h) (w + h)) (rectangle 0 0 (w + h) h) (rectangle 0 h (w + h) w) (first ++ square_at w 0 h ∷ [])
+    (square_at 0 h w ∷ map (moved_square w h) second)
+    (upper_part 0 0 h (w + h) (w + h) h w (omega arith) (omega arith)) (lower_part 0 0 h (w + h) (w + h) h w (omega arith) (omega arith))
+    (split_stacked 0 0 h (w + h) (w + h) h w (omega arith) (omega arith))
     (upper_tiles w h first high one) (lower_tiles w h second wide two))
 
 module _ (a b : Tiling) (kept : IsKept a) (turned : IsKept (image Swap b)) (can : CanBeLaid a b) where
@@ -75,8 +78,14 @@ module _ (a b : Tiling) (kept : IsKept a) (turned : IsKept (image Swap b)) (can 
 
   pub sides_kept : AllByRecursion (λ q. IsSide q.s) (laid_squares a b)
   sides_kept =
-      all_append (λ q. IsSide q.s) a.squares (corner_squares a ++ map (moved_square a.width a.height) (image Swap b).squares) kept.sides
-      ((some_cells.1, can.high), ((some_cells.0, can.wide), all_moved (λ q. IsSide q.s) (λ q. IsSide q.s) a.width a.height (λ q side. side) (image Swap b).squares turned.sides))
+      all_append (λ q. IsSide q.s) a.squares (corner_squares a ++ map (moved_square a.width a.height) (image Swap b).squares) kept.sides (
+        (some_cells.1, can.high),
+        (
+          (some_cells.0, can.wide),
+          all_moved (λ q. IsSide q.s) (λ q. IsSide q.s) a.width a.height (λ q side. side)
+              (image Swap b).squares turned.sides,
+        ),
+      )
 
   pub tiles : Tiles (sized (a.width + a.height) (a.width + a.height)) (laid_squares a b)
   tiles = square_tiles a.width a.height a.squares (image Swap b).squares some_cells.0 some_cells.1 kept.tiling.tiles turned_tiles
@@ -106,7 +115,8 @@ pub laid_items : (a b t : Tiling) (w h : ℕ) (none first second third last : Li
 laid_items a b t w h none first second third last wide high turned empty one two three all =
     all
     ∙ ap (λ (l : List Square). l ++ map (moved_square w h) t.squares)
-    (three ∙ ap (λ (l : List Square). l ++ square_at 0 h w ∷ []) (two ∙ ap (λ (l : List Square). l ++ square_at w 0 h ∷ []) (one ∙ ap (λ (l : List Square). l ++ map (moved_square 0 0) a.squares) empty ∙ moved_none a.squares)))
+    (three ∙ ap (λ (l : List Square). l ++ square_at 0 h w ∷ []) (two ∙ ap (λ (l : List Square). l ++ square_at w 0 h ∷ [])
+    (one ∙ ap (λ (l : List Square). l ++ map (moved_square 0 0) a.squares) empty ∙ moved_none a.squares)))
     ∙ append_assoc (a.squares ++ square_at w 0 h ∷ []) (square_at 0 h w ∷ []) (map (moved_square w h) t.squares)
     ∙ append_assoc a.squares (square_at w 0 h ∷ []) (square_at 0 h w ∷ map (moved_square w h) t.squares)
     ∙ (λ i. a.squares ++ (square_at (wide i) 0 (high i) ∷ square_at 0 (high i) (wide i) ∷ map (moved_square (wide i) (high i)) (turned i).squares))
@@ -132,7 +142,8 @@ room_left a b t w h none first second third turned empty can one two three = ome
 )
 
 -- a square of a kept tiling stands at small numbers
-pub small_place : (t : Tiling) (k : ℕ) (d : Square) → IsKept t → k < length t.squares → ((slice_index_or t.squares k d).x ≤ 199999999999999800) × ((slice_index_or t.squares k d).y ≤ 199999999999999800)
+pub small_place : (t : Tiling) (k : ℕ) (d : Square) → IsKept t → k < length t.squares → ((slice_index_or t.squares k d).x ≤ 199999999999999800)
+    × ((slice_index_or t.squares k d).y ≤ 199999999999999800)
 small_place t k d kept below =
     let within = in_all (IsWithin (whole t)) t.squares kept.tiling.tiles.within (slice_index_or t.squares k d) (one_at t.squares k d below) in
     (omega (arith, within.right, most_width t kept), omega (arith, within.bottom, most_height t kept))

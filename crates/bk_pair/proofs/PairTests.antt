@@ -91,10 +91,12 @@ laid_to a b e =
 
 laid_from : (a b : Tiling) → CanBeLaid a b → can_be_laid a b ≡ true
 laid_from a b can =
-    and_true (nat_eq a.width b.width && nat_eq a.height b.height) _ (and_true (nat_eq a.width b.width) (nat_eq a.height b.height) (eq-eqb a.width b.width can.size.width) (eq-eqb a.height b.height can.size.height))
+    and_true (nat_eq a.width b.width && nat_eq a.height b.height) _ (and_true (nat_eq a.width b.width) (nat_eq a.height b.height)
+    (eq-eqb a.width b.width can.size.width) (eq-eqb a.height b.height can.size.height))
     (and_true (not (nat_eq a.width a.height)) _ (unequal a.width a.height can.oblong)
     (and_true (nat_le (order a + order b + 2) 200) _ (le_test (order a + order b + 2) 200 can.few)
-    (and_true (nat_le a.width 999999999999999) (nat_le a.height 999999999999999) (le_test a.width 999999999999999 can.wide) (le_test a.height 999999999999999 can.high))))
+    (and_true (nat_le a.width 999999999999999) (nat_le a.height 999999999999999) (le_test a.width 999999999999999 can.wide)
+    (le_test a.height 999999999999999 can.high))))
   where
     unequal : (m n : ℕ) → (m ≡ n → ⊥) → not (nat_eq m n) ≡ true
     unequal m n apart = elim (cases_Bool (nat_eq m n)) [ inl t ↦ absurd (apart (eqb-true m n t)) | inr f ↦ ap not f ]

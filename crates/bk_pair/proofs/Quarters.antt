@@ -18,7 +18,8 @@ module _ (x m y n a b h : ℕ) (at : m ≡ x + a) (sum : n ≡ a + b) where
   pub split_beside : Splits (rectangle x y n h) (rectangle x y a h) (rectangle m y b h)
   split_beside i j has = cases (cases_lt i m)
     where
-      cases : (i < m) ⊎ (m ≤ i) → (HasCell (rectangle x y a h) i j × (HasCell (rectangle m y b h) i j → ⊥)) ⊎ ((HasCell (rectangle x y a h) i j → ⊥) × HasCell (rectangle m y b h) i j)
+      cases : (i < m) ⊎ (m ≤ i) → (HasCell (rectangle x y a h) i j × (HasCell (rectangle m y b h) i j → ⊥))
+          ⊎ ((HasCell (rectangle x y a h) i j → ⊥) × HasCell (rectangle m y b h) i j)
       cases (inl l) = inl (record { left = has.left; right = omega arith; top = has.top; bottom = has.bottom }, λ no. omega (arith, no.left))
       cases (inr r) = inr (λ no. omega (arith, no.right), record { left = r; right = omega (arith, has.right); top = has.top; bottom = has.bottom })
 
@@ -33,6 +34,7 @@ module _ (x y m w n a b : ℕ) (at : m ≡ y + a) (sum : n ≡ a + b) where
   pub split_stacked : Splits (rectangle x y w n) (rectangle x y w a) (rectangle x m w b)
   split_stacked i j has = cases (cases_lt j m)
     where
-      cases : (j < m) ⊎ (m ≤ j) → (HasCell (rectangle x y w a) i j × (HasCell (rectangle x m w b) i j → ⊥)) ⊎ ((HasCell (rectangle x y w a) i j → ⊥) × HasCell (rectangle x m w b) i j)
+      cases : (j < m) ⊎ (m ≤ j) → (HasCell (rectangle x y w a) i j × (HasCell (rectangle x m w b) i j → ⊥))
+          ⊎ ((HasCell (rectangle x y w a) i j → ⊥) × HasCell (rectangle x m w b) i j)
       cases (inl l) = inl (record { left = has.left; right = has.right; top = has.top; bottom = omega arith }, λ no. omega (arith, no.top))
       cases (inr r) = inr (λ no. omega (arith, no.bottom), record { left = has.left; right = has.right; top = r; bottom = omega (arith, has.bottom) })

@@ -30,7 +30,12 @@ sides_of_sides (s ∷ sides) = ap (λ (l : List ℕ). s ∷ l) (sides_of_sides s
 count_of_sides : (side : ℕ) (sides : List ℕ) → count_by (λ q. q.s == side) (map with_side sides) ≡ count_by (λ s. s == side) sides
 count_of_sides side [] = refl
 count_of_sides side (s ∷ sides) =
-    omega (arith, count_of_sides side sides, sum_by-cons (λ (q : Square). cond {A = ℕ} (q.s == side) 1 0) (with_side s) (map with_side sides), sum_by-cons (λ (n : ℕ). cond {A = ℕ} (n == side) 1 0) s sides)
+    omega (
+      arith,
+      count_of_sides side sides,
+      sum_by-cons (λ (q : Square). cond {A = ℕ} (q.s == side) 1 0) (with_side s) (map with_side sides),
+      sum_by-cons (λ (n : ℕ). cond {A = ℕ} (n == side) 1 0) s sides,
+    )
 
 module _ (a b : Tiling) (sorted : List ℕ) (same : IsPermutation (pair_sides a b) sorted) (ascending : IsNonDecreasing sorted) where
   same_sides : IsPermutation (sides_of (of_sides (pair_sides a b))) sorted
@@ -60,7 +65,8 @@ module _ (a b : Tiling) (sorted : List ℕ) (same : IsPermutation (pair_sides a 
   some_if (Some side) first = least_shared side first
 
 -- what moves or turns squares keeps the count of each side
-count_kept : (f : Square → Square) → ((q : Square) → (f q).s ≡ q.s) → (side : ℕ) (squares : List Square) → count_by (λ q. q.s == side) (map f squares) ≡ count_by (λ q. q.s == side) squares
+count_kept : (f : Square → Square) → ((q : Square) → (f q).s ≡ q.s) → (side : ℕ) (squares : List Square)
+    → count_by (λ q. q.s == side) (map f squares) ≡ count_by (λ q. q.s == side) squares
 count_kept f keeps side [] = refl
 count_kept f keeps side (q ∷ squares) = omega (
   arith,
@@ -73,7 +79,12 @@ count_kept f keeps side (q ∷ squares) = omega (
 count_sides : (side : ℕ) (squares : List Square) → count_by (λ s. s == side) (map (λ q. q.s) squares) ≡ count_by (λ q. q.s == side) squares
 count_sides side [] = refl
 count_sides side (q ∷ squares) =
-    omega (arith, count_sides side squares, sum_by-cons (λ (n : ℕ). cond {A = ℕ} (n == side) 1 0) q.s (map (λ (q : Square). q.s) squares), sum_by-cons (λ (q : Square). cond {A = ℕ} (q.s == side) 1 0) q squares)
+    omega (
+      arith,
+      count_sides side squares,
+      sum_by-cons (λ (n : ℕ). cond {A = ℕ} (n == side) 1 0) q.s (map (λ (q : Square). q.s) squares),
+      sum_by-cons (λ (q : Square). cond {A = ℕ} (q.s == side) 1 0) q squares,
+    )
 
 -- the square that two tilings make has the sides of both, and their width and height
 module _ (a b : Tiling) (side : ℕ) where

@@ -8,15 +8,12 @@ ghost use Rattle.bk_tiling.specs.CodeOrder.{in_code_order};
 ghost use Rattle.bk_tiling.specs.Refusal.{HaveSides, ShareNoCell};
 ghost use Rattle.bk_tiling.specs.Scale.{moved_square};
 ghost use Rattle.bk_tiling.specs.Tiling.{order, sides_of};
-ghost use Rattle.bk_simple.specs.Neighbours.{IsFirstTwice, NoneTwice};
 ghost use Rattle.bk_simple.specs.Simple.{IsPerfect};
 ghost use Rattle.bk_pair.specs.PairTest.{TheTestsDecide};
 ghost use Rattle.bk_pair.specs.Pair.{ArePair, CanBeLaid, IsLayingFault, IsLeastShared, IsPairFault, IsSharedSide, joined_square, pair_sides};
 
-#[cfg(test)]
-mod tests;
-
 use arrayvec::ArrayVec;
+use bk_simple::first_twice;
 use bk_sym::{Turn, image};
 use bk_tiling::{Square, Tiling};
 
@@ -128,19 +125,6 @@ fn push_sides(tiling: &Tiling, sides: &mut ArrayVec<u64, 200>)
     for q in tiling.squares() {
         sides.push(q.s);
     }
-}
-
-// The first number that is followed by an equal one.
-fn first_twice(sides: &[u64]) -> Option<u64>
-    ensures none { IfNone result (NoneTwice sides.now (length sides.now)) }
-    ensures first { IfSome result (IsFirstTwice sides.now) }
-{
-    for i in 1..sides.len() {
-        if sides[i - 1] == sides[i] {
-            return Some(sides[i]);
-        }
-    }
-    None
 }
 
 // The square that the two make, which can be laid so.

@@ -51,11 +51,13 @@ module _ (n : ℕ) (pairs : List Kept) (entries : List Accepted) (keeps : KeepsF
   other_line e u line apart is same =
       let there = is.is_first in
       let later : AllByRecursion (λ (f : Accepted). f.line ≢ e.line) (is.first ∷ there.after) =
-      all_right (λ (f : Accepted). f.line ≢ e.line) there.before (is.first ∷ there.after) (subst (AllByRecursion (λ (f : Accepted). f.line ≢ e.line)) there.place apart)
+      all_right (λ (f : Accepted). f.line ≢ e.line) there.before (is.first ∷ there.after)
+      (subst (AllByRecursion (λ (f : Accepted). f.line ≢ e.line)) there.place apart)
       in later.0 (sym is.line_is ∙ same)
 
 -- what is kept where a member is fed that isn't kept
-module _ (n : ℕ) (pairs : List Kept) (entries : List Accepted) (keeps : KeepsFirsts n entries pairs) (e : Accepted) (tiling : IsTiling e.tiling) (u : Tiling) (member : IsMember n Perfect u) (same : IsOf u e) where
+module _ (n : ℕ) (pairs : List Kept) (entries : List Accepted) (keeps : KeepsFirsts n entries pairs) (e : Accepted) (tiling : IsTiling e.tiling)
+    (u : Tiling) (member : IsMember n Perfect u) (same : IsOf u e) where
   one : (v : Tiling) → IsOf v e → v ≡ u
   one v is = (a_canonical_tiling_is_one e.tiling v u tiling is same).1
 
@@ -67,11 +69,13 @@ module _ (n : ℕ) (pairs : List Kept) (entries : List Accepted) (keeps : KeepsF
         ((λ of. (all_right (λ (p : Kept). p.tiling ≢ v) pairs (record { line = e.line; tiling = u } ∷ []) not).0 (sym (one v of))), tt);
   }
     where
-      cases : (v : Tiling) (line : ℕ) → Contains pairs (record { line = line; tiling = v }) ⊎ (◌≡◌ {A = Kept} (record { line = e.line; tiling = u }) (record { line = line; tiling = v })) → IsFirstLine (entries ++ e ∷ []) v line
+      cases : (v : Tiling) (line : ℕ) → Contains pairs (record { line = line; tiling = v })
+          ⊎ (◌≡◌ {A = Kept} (record { line = e.line; tiling = u }) (record { line = line; tiling = v })) → IsFirstLine (entries ++ e ∷ []) v line
       cases v line (inl from) = line_stays entries (e ∷ []) v line (keeps.firsts v line from)
       cases v line (inr it) = record {
         first = e;
-        is_first = subst (λ (w : Tiling). IsFirstOf (entries ++ e ∷ []) w e) (ap (λ (p : Kept). p.tiling) it) (first_sight n pairs entries keeps e u member same new);
+        is_first = subst (λ (w : Tiling). IsFirstOf (entries ++ e ∷ []) w e) (ap (λ (p : Kept). p.tiling) it)
+            (first_sight n pairs entries keeps e u member same new);
         line_is = ap (λ (p : Kept). p.line) (sym it);
       }
 
@@ -82,18 +86,25 @@ module _ (n : ℕ) (pairs : List Kept) (entries : List Accepted) (keeps : KeepsF
         ((λ of. all_at (λ (p : Kept). p.tiling ≢ v) pairs (record { line = line; tiling = u }) not kept (sym (one v of))), tt);
   }
 
-keeps_foreign : (n : ℕ) (pairs : List Kept) (entries : List Accepted) (e : Accepted) → KeepsFirsts n entries pairs → ((u : Tiling) → IsOf u e → IsMember n Perfect u → ⊥) → KeepsFirsts n (entries ++ e ∷ []) pairs
+keeps_foreign : (n : ℕ) (pairs : List Kept) (entries : List Accepted) (e : Accepted) → KeepsFirsts n entries pairs
+    → ((u : Tiling) → IsOf u e → IsMember n Perfect u → ⊥) → KeepsFirsts n (entries ++ e ∷ []) pairs
 keeps_foreign n pairs entries e keeps not = record {
   firsts = λ v line from. line_stays entries (e ∷ []) v line (keeps.firsts v line from);
   all = λ v is new. all_append (λ f. IsOf v f → ⊥) entries (e ∷ []) (keeps.all v is new) ((λ of. not v of is), tt);
 }
 
-told : (old : VerifierState) (entries : List Accepted) (e : Accepted) (fed : Fed) (new : VerifierState) → IsTiling e.tiling → AllByRecursion (λ f. f.line ≢ e.line) entries
+told : (old : VerifierState) (entries : List Accepted) (e : Accepted) (fed : Fed) (new : VerifierState) → IsTiling e.tiling
+    → AllByRecursion (λ f. f.line ≢ e.line) entries
     → KeepsFirsts old.order entries old.pairs → IsFed old e.line e.tiling fed new → IsTrueOf old.order (entries ++ e ∷ []) e fed
 told old entries e New new tiling apart keeps is =
     let sight = is.sight in
     let u = sight.tiling in
-    record { tiling = u; member = (sight.stands).member; first = first_sight old.order old.pairs entries keeps e u (sight.stands).member (sight.stands).canonical sight.new }
+    record {
+      tiling = u;
+      member = (sight.stands).member;
+      first = first_sight old.order old.pairs entries keeps e u (sight.stands).member
+          (sight.stands).canonical sight.new;
+    }
 told old entries e (Repeats line) new tiling apart keeps is =
     let again = is.0 in
     let first = keeps.firsts again.tiling line again.kept in
@@ -108,7 +119,8 @@ told old entries e (Repeats line) new tiling apart keeps is =
     }
 told old entries e Foreign new tiling apart keeps is = λ u of member. is.0 u (record { canonical = of; member = member })
 
-kept : (old : VerifierState) (entries : List Accepted) (e : Accepted) (fed : Fed) (new : VerifierState) → IsTiling e.tiling → KeepsFirsts old.order entries old.pairs
+kept : (old : VerifierState) (entries : List Accepted) (e : Accepted) (fed : Fed) (new : VerifierState) → IsTiling e.tiling
+    → KeepsFirsts old.order entries old.pairs
     → IsFed old e.line e.tiling fed new → KeepsFirsts new.order (entries ++ e ∷ []) new.pairs
 kept old entries e New new tiling keeps is =
     let sight = is.sight in

@@ -4,7 +4,8 @@ use Rattle.std.specs.Prelude.{IsTrue, MatchOption, false, ⊤}
 use Rattle.std.specs.Ordering.{ordering_reverse}
 use Rattle.std.specs.declared.cmp.Ordering.{Ordering}
 use Rattle.std.specs.declared.cmp.Ordering.TheVariants.{Equal, Greater, Less}
-use Rattle.std.proofs.Common.{Contains, List, None, Option, Some, [], ap, arith, inl, inr, is_some, length, refl, subst, sym, true, true≢false, ℕ, ◌++◌, ◌+◌, ◌<◌, ◌^◌, ◌∙◌, ◌∷◌, ◌≡◌, ◌≢◌, ◌≤◌, ◌⊎◌}
+use Rattle.std.proofs.Common.{Contains, List, None, Option, Some, [], ap, arith, inl, inr, is_some, length, refl, subst, sym, true, true≢false, ℕ}
+use Rattle.std.proofs.Common.{◌++◌, ◌+◌, ◌<◌, ◌^◌, ◌∙◌, ◌∷◌, ◌≡◌, ◌≢◌, ◌≤◌, ◌⊎◌}
 use Rattle.std.proofs.lemmas.List.Elements.{Contains-append_left, Contains-push}
 use Rattle.std.proofs.lemmas.List.{length-append}
 use Rattle.bk_laws.proofs.AllOfLists.{all_append}
@@ -18,8 +19,8 @@ use Rattle.bk_walk.proofs.Starting.{word_same}
 use Rattle.bk_word.proofs.FollowLaws.{not_itself}
 use Rattle.bk_catalogue.specs.Catalogue.{AreAscending, Entry, IsEntry}
 use Rattle.bk_walk.specs.Walking.{HasNoneAfter, IsNextMember, WalkState}
-use Rattle.bk_list.proofs.OneEntry.{one_entry}
-use Rattle.bk_list.proofs.WordCounts.{few_entries}
+use Rattle.bk_catalogue.proofs.OneEntry.{one_entry}
+use Rattle.bk_catalogue.proofs.WordCounts.{few_entries}
 use Rattle.bk_verify.proofs.Storing.{all_at}
 use Rattle.bk_verify.specs.Kept.{AreKeptAfter, AreUpTo, CountsMembers, IsKeptFrom, IsKeptRest, IsNextMissing, IsNotKept, IsUpTo, Kept}
 
@@ -79,7 +80,8 @@ module _ (n : ℕ) (Is : Tiling → Type 0) (cursor : Word) (e : Entry) (next : 
   pub up_to_next : (f : Entry) → IsEntry n Perfect f → Is f.tiling → IsUpTo e.word f.word → IsUpTo cursor f.word ⊎ (e ≡ f)
   up_to_next f is such up = cases (after_or_up cursor f.word) (compared f.word e.word)
     where
-      cases : Follows f.word cursor ⊎ IsUpTo cursor f.word → Follows e.word f.word ⊎ ((f.word ≡ e.word) ⊎ Follows f.word e.word) → IsUpTo cursor f.word ⊎ (e ≡ f)
+      cases : Follows f.word cursor ⊎ IsUpTo cursor f.word → Follows e.word f.word ⊎ ((f.word ≡ e.word) ⊎ Follows f.word e.word)
+          → IsUpTo cursor f.word ⊎ (e ≡ f)
       cases (inr low) place = inl low
       cases (inl after) (inl below) = absurd (next.least f is such after below)
       cases (inl after) (inr (inl same)) = inr (one_entry n Perfect e f next.entry is (sym same))
@@ -87,7 +89,11 @@ module _ (n : ℕ) (Is : Tiling → Type 0) (cursor : Word) (e : Entry) (next : 
 
   ascending_more : (entries : List Entry) → AreAscending entries → AllByRecursion (λ f. IsUpTo cursor f.word) entries → AreAscending (entries ++ e ∷ [])
   ascending_more [] up all = (tt, tt)
-  ascending_more (f ∷ entries) up all = (all_append (λ g. Follows g.word f.word) entries (e ∷ []) up.0 (before cursor f.word e.word all.0 next.after, tt), ascending_more entries up.1 all.1)
+  ascending_more (f ∷ entries) up all = (
+    all_append (λ g. Follows g.word f.word) entries (e ∷ []) up.0
+        (before cursor f.word e.word all.0 next.after, tt),
+    ascending_more entries up.1 all.1,
+  )
 
   still_up : (entries : List Entry) → AllByRecursion (λ f. IsUpTo cursor f.word) entries → AllByRecursion (λ f. IsUpTo e.word f.word) entries
   still_up [] all = tt
@@ -115,7 +121,8 @@ all_any : (entries : List Entry) → AllByRecursion (λ e. any e.tiling) entries
 all_any [] = tt
 all_any (e ∷ entries) = (tt, all_any entries)
 
-pub next_any : (n : ℕ) (cursor : Word) (t : Tiling) (word : Word) → IsNextMember n Perfect cursor t word → IsNextSuch n any cursor (record { tiling = t; word = word })
+pub next_any : (n : ℕ) (cursor : Word) (t : Tiling) (word : Word) → IsNextMember n Perfect cursor t word
+    → IsNextSuch n any cursor (record { tiling = t; word = word })
 next_any n cursor t word next = record {
   entry = record { member = next.member; word = next.word_is };
   such = tt;
@@ -129,7 +136,8 @@ count_none n =
     record { entries = []; each = tt; counted = tt; ascending = tt; all = λ e is up. are.all e is tt up; number = refl }
 
 -- the next member is counted
-pub count_more : (n : ℕ) (cursor : Word) (t : Tiling) (word : Word) (members : ℕ) → IsNextMember n Perfect cursor t word → CountsMembers n (IsUpTo cursor) members → CountsMembers n (IsUpTo word) (members + 1)
+pub count_more : (n : ℕ) (cursor : Word) (t : Tiling) (word : Word) (members : ℕ) → IsNextMember n Perfect cursor t word
+    → CountsMembers n (IsUpTo cursor) members → CountsMembers n (IsUpTo word) (members + 1)
 count_more n cursor t word members next c =
     let e : Entry = record { tiling = t; word = word } in
     let number = c.number in
@@ -145,7 +153,8 @@ count_more n cursor t word members next c =
     }
 
 -- where no member follows the cursor, all are counted
-pub count_all : (n : ℕ) (cursor : Word) (members : ℕ) → HasNoneAfter n Perfect cursor → CountsMembers n (IsUpTo cursor) members → CountsMembers n (λ word. ⊤) members
+pub count_all : (n : ℕ) (cursor : Word) (members : ℕ) → HasNoneAfter n Perfect cursor → CountsMembers n (IsUpTo cursor) members
+    → CountsMembers n (λ word. ⊤) members
 count_all n cursor members none c = record {
   entries = c.entries;
   each = c.each;
@@ -179,9 +188,14 @@ module _ (n : ℕ) (pairs : List Kept) (start cursor : Word) (passed : IsPassed 
   module _ (t : Tiling) (word : Word) (next : IsNextMember n Perfect cursor t word) where
     -- the next member is kept, and passed
     pub passed_more : (line : ℕ) → IsKeptFrom pairs t line → IsPassed n pairs start word
-    passed_more line from = record { at = inr (later start cursor word passed.at next.after); kept = λ e is after up new. cases e is after new (up_to_next n any cursor (record { tiling = t; word = word }) (next_any n cursor t word next) e is tt up) }
+    passed_more line from = record {
+      at = inr (later start cursor word passed.at next.after);
+      kept = λ e is after up new. cases e is after new (up_to_next n any cursor (record { tiling = t; word = word }) (next_any n cursor t word next)
+          e is tt up);
+    }
       where
-        cases : (e : Entry) → IsEntry n Perfect e → Follows e.word start → IsNotKept pairs e.tiling → IsUpTo cursor e.word ⊎ (record { tiling = t; word = word } ≡ e) → ⊥
+        cases : (e : Entry) → IsEntry n Perfect e → Follows e.word start → IsNotKept pairs e.tiling → IsUpTo cursor e.word
+            ⊎ (record { tiling = t; word = word } ≡ e) → ⊥
         cases e is after new (inl up) = passed.kept e is after up new
         cases e is after new (inr it) =
             all_at (λ (p : Kept). p.tiling ≢ e.tiling) pairs (record { line = line; tiling = t }) new from (ap (λ (f : Entry). f.tiling) it)
@@ -197,8 +211,10 @@ module _ (n : ℕ) (pairs : List Kept) (start cursor : Word) (passed : IsPassed 
     }
 
 -- the next member, by other names of the order and of the class
-pub next_as : (k n : ℕ) (one : Class) (cursor : Word) (t : Tiling) (word : Word) → k ≡ n → one ≡ Perfect → IsNextMember k one cursor t word → IsNextMember n Perfect cursor t word
-next_as k n one cursor t word e f next = subst (λ (k : ℕ). IsNextMember k Perfect cursor t word) e (subst (λ (one : Class). IsNextMember k one cursor t word) f next)
+pub next_as : (k n : ℕ) (one : Class) (cursor : Word) (t : Tiling) (word : Word) → k ≡ n → one ≡ Perfect → IsNextMember k one cursor t word
+    → IsNextMember n Perfect cursor t word
+next_as k n one cursor t word e f next = subst (λ (k : ℕ). IsNextMember k Perfect cursor t word) e
+    (subst (λ (one : Class). IsNextMember k one cursor t word) f next)
 
 pub none_as : (k n : ℕ) (one : Class) (cursor : Word) → k ≡ n → one ≡ Perfect → HasNoneAfter k one cursor → HasNoneAfter n Perfect cursor
 none_as k n one cursor e f none = subst (λ (k : ℕ). HasNoneAfter k Perfect cursor) e (subst (λ (one : Class). HasNoneAfter k one cursor) f none)
@@ -214,7 +230,8 @@ pub record IsPassing (first : WalkState) (pairs : List Kept) (walk : WalkState) 
   pub class : walk.class ≡ Perfect
   pub still : IsTrue first.ended → IsTrue walk.ended
 
-pub passing_none : (first : WalkState) (pairs : List Kept) (members : ℕ) → first.class ≡ Perfect → CountsMembers first.order (IsUpTo first.cursor) members → IsPassing first pairs first members
+pub passing_none : (first : WalkState) (pairs : List Kept) (members : ℕ) → first.class ≡ Perfect
+    → CountsMembers first.order (IsUpTo first.cursor) members → IsPassing first pairs first members
 passing_none first pairs members class counted = record {
   passed = passed_none first.order pairs first.cursor;
   counted = counted;
@@ -224,7 +241,8 @@ passing_none first pairs members class counted = record {
 }
 
 -- the walk goes on to its next member
-module _ (first : WalkState) (pairs : List Kept) (walk : WalkState) (members : ℕ) (p : IsPassing first pairs walk members) (t : Tiling) (word : Word) (next : IsNextMember walk.order walk.class walk.cursor t word) where
+module _ (first : WalkState) (pairs : List Kept) (walk : WalkState) (members : ℕ) (p : IsPassing first pairs walk members) (t : Tiling) (word : Word)
+    (next : IsNextMember walk.order walk.class walk.cursor t word) where
   the_next : IsNextMember first.order Perfect walk.cursor t word
   the_next = next_as walk.order first.order walk.class walk.cursor t word p.order p.class next
 
@@ -234,13 +252,17 @@ module _ (first : WalkState) (pairs : List Kept) (walk : WalkState) (members : �
   pub passing_counted : (after : WalkState) → after.order ≡ walk.order → after.cursor ≡ word → CountsMembers after.order (IsUpTo after.cursor) (members + 1)
   passing_counted after order cursor =
       subst (λ (n : ℕ). CountsMembers n (IsUpTo after.cursor) (members + 1)) (sym (order ∙ p.order))
-      (subst (λ (w : Word). CountsMembers first.order (IsUpTo w) (members + 1)) (sym cursor) (count_more first.order walk.cursor t word members the_next p.counted))
+      (subst (λ (w : Word). CountsMembers first.order (IsUpTo w) (members + 1)) (sym cursor)
+      (count_more first.order walk.cursor t word members the_next p.counted))
 
-  pub passing_more : (after : WalkState) → after.order ≡ walk.order → after.class ≡ walk.class → after.cursor ≡ word → (IsTrue walk.ended → ⊥) → (line : ℕ) → IsKeptFrom pairs t line
+  pub passing_more : (after : WalkState) → after.order ≡ walk.order → after.class ≡ walk.class → after.cursor ≡ word → (IsTrue walk.ended → ⊥)
+      → (line : ℕ) → IsKeptFrom pairs t line
       → IsPassing first pairs after (members + 1)
   passing_more after order class cursor on line from = record {
-    passed = subst (IsPassed first.order pairs first.cursor) (sym cursor) (passed_more first.order pairs first.cursor walk.cursor p.passed t word the_next line from);
-    counted = subst (λ (w : Word). CountsMembers first.order (IsUpTo w) (members + 1)) (sym cursor) (count_more first.order walk.cursor t word members the_next p.counted);
+    passed = subst (IsPassed first.order pairs first.cursor) (sym cursor)
+        (passed_more first.order pairs first.cursor walk.cursor p.passed t word the_next line from);
+    counted = subst (λ (w : Word). CountsMembers first.order (IsUpTo w) (members + 1)) (sym cursor)
+        (count_more first.order walk.cursor t word members the_next p.counted);
     order = order ∙ p.order;
     class = class ∙ p.class;
     still = λ e. absurd (on (p.still e));

@@ -15,7 +15,8 @@ use Rattle.std.proofs.lemmas.List.{length-map}
 use Rattle.bk_sym.proofs.ScaledDown.{side_divisor}
 use Rattle.bk_catalogue.specs.Catalogue.{IsMember}
 use Rattle.bk_verify.proofs.Storing.{all_at}
-use Rattle.bk_verify.specs.Kept.{AreApart, IsFirstSight, IsKeptFrom, IsKeptVerifier, IsNotKept, IsTakenIn, Kept, RepeatsFrom, StandsFor, StandsForNone, VerifierState, with_kept}
+use Rattle.bk_verify.specs.Kept.{AreApart, IsFirstSight, IsKeptFrom, IsKeptVerifier, IsNotKept, IsTakenIn, Kept, RepeatsFrom, StandsFor}
+use Rattle.bk_verify.specs.Kept.{StandsForNone, VerifierState, with_kept}
 use Rattle.bk_verify.specs.VerifyLaws.{AnEntryIsToldOneThing}
 use Rattle.bk_verify.specs.declared.verifier.Fed.TheVariants.{Foreign, New, Repeats}
 
@@ -54,7 +55,8 @@ module _ (n : ℕ) (t u : Tiling) (tiling : IsTiling t) (is : IsCanonicalOf t u)
   }
 
 -- what was told of a tiling shows that it stands for a member: its order, and that its canonical tiling is perfect and simple
-pub stands_told : (n : ℕ) (t u : Tiling) (order wanted : ℕ) (told : Bool) → IsTiling t → IsCanonicalOf t u → order ≡ length t.squares → wanted ≡ n → order ≡ wanted
+pub stands_told : (n : ℕ) (t u : Tiling) (order wanted : ℕ) (told : Bool) → IsTiling t → IsCanonicalOf t u → order ≡ length t.squares → wanted ≡ n
+    → order ≡ wanted
     → (IsTrue told ↔ IsPerfect u × IsSimple u) → told ≡ true → StandsFor n t u
 stands_told n t u order wanted told tiling is length_is wanted_is same says it =
     let kind = says.0 it in stands_for n t u tiling is (sym length_is ∙ same ∙ wanted_is) kind.0 kind.1
@@ -63,7 +65,11 @@ stands_told n t u order wanted told tiling is length_is wanted_is same says it =
 pub kept_stands : (s : VerifierState) (t u : Tiling) (line : ℕ) → IsKeptVerifier s → IsCanonicalOf t u → IsKeptFrom s.pairs u line → RepeatsFrom s t line
 kept_stands s t u line kept is from = record {
   tiling = u;
-  stands = record { canonical = is; member = all_at (λ (p : Kept). IsMember s.order Perfect p.tiling) s.pairs (record { line = line; tiling = u }) kept.members from };
+  stands = record {
+    canonical = is;
+    member = all_at (λ (p : Kept). IsMember s.order Perfect p.tiling) s.pairs (record { line = line; tiling = u })
+        kept.members from;
+  };
   kept = from;
 }
 
@@ -73,14 +79,18 @@ not_itself pairs u line new from = all_at (λ (p : Kept). p.tiling ≢ u) pairs 
 
 apart_more : (pairs : List Kept) (p : Kept) → AreApart pairs → IsNotKept pairs p.tiling → AreApart (pairs ++ p ∷ [])
 apart_more [] p apart new = (tt, tt)
-apart_more (q ∷ pairs) p apart new = (all_append (λ (r : Kept). r.tiling ≢ q.tiling) pairs (p ∷ []) apart.0 (λ e. new.0 (sym e), tt), apart_more pairs p apart.1 new.1)
+apart_more (q ∷ pairs) p apart new = (
+  all_append (λ (r : Kept). r.tiling ≢ q.tiling) pairs (p ∷ []) apart.0 (λ e. new.0 (sym e), tt),
+  apart_more pairs p apart.1 new.1,
+)
 
 -- the verifier with one more member
 pub kept_with : (s : VerifierState) (t : Tiling) (line : ℕ) (sight : IsFirstSight s t) → IsKeptVerifier s → IsKeptVerifier (with_kept s line sight.tiling)
 kept_with s t line sight kept = record {
   least = kept.least;
   most = kept.most;
-  members = all_append (λ (p : Kept). IsMember s.order Perfect p.tiling) s.pairs (record { line = line; tiling = sight.tiling } ∷ []) kept.members ((sight.stands).member, tt);
+  members = all_append (λ (p : Kept). IsMember s.order Perfect p.tiling) s.pairs (record { line = line; tiling = sight.tiling } ∷ []) kept.members
+      ((sight.stands).member, tt);
   apart = apart_more s.pairs (record { line = line; tiling = sight.tiling }) kept.apart sight.new;
 }
 
@@ -88,8 +98,10 @@ kept_with s t line sight kept = record {
 one_line : (pairs : List Kept) (u : Tiling) (a b : ℕ) → AreApart pairs → IsKeptFrom pairs u a → IsKeptFrom pairs u b → a ≡ b
 one_line [] u a b apart from that = absurd (omega (arith, from.1))
 one_line (p ∷ pairs) u a b apart (zero, few, e) (zero, little, f) = ap (λ (k : Kept). k.line) (sym e ∙ f)
-one_line (p ∷ pairs) u a b apart (zero, few, e) (suc k, little, f) = absurd (not_itself pairs p.tiling b apart.0 (subst (λ (v : Tiling). IsKeptFrom pairs v b) (ap (λ (q : Kept). q.tiling) (sym e)) (k, omega (arith, little), f)))
-one_line (p ∷ pairs) u a b apart (suc k, few, e) (zero, little, f) = absurd (not_itself pairs p.tiling a apart.0 (subst (λ (v : Tiling). IsKeptFrom pairs v a) (ap (λ (q : Kept). q.tiling) (sym f)) (k, omega (arith, few), e)))
+one_line (p ∷ pairs) u a b apart (zero, few, e) (suc k, little, f) = absurd
+    (not_itself pairs p.tiling b apart.0 (subst (λ (v : Tiling). IsKeptFrom pairs v b) (ap (λ (q : Kept). q.tiling) (sym e)) (k, omega (arith, little), f)))
+one_line (p ∷ pairs) u a b apart (suc k, few, e) (zero, little, f) = absurd
+    (not_itself pairs p.tiling a apart.0 (subst (λ (v : Tiling). IsKeptFrom pairs v a) (ap (λ (q : Kept). q.tiling) (sym f)) (k, omega (arith, few), e)))
 one_line (p ∷ pairs) u a b apart (suc k, few, e) (suc l, little, f) = one_line pairs u a b apart.1 (k, omega (arith, few), e) (l, omega (arith, little), f)
 
 module _ (s : VerifierState) (t : Tiling) (kept : IsKeptVerifier s) (tiling : IsTiling t) where
@@ -130,4 +142,5 @@ module _ (s : VerifierState) (t u : Tiling) (line : ℕ) (pairs : List Kept) (st
   kept_then kept e = subst IsKeptVerifier (sym (now_is e)) (kept_with s t line first_sight kept)
 
 pub kept_same : (s : VerifierState) (pairs : List Kept) → IsKeptVerifier s → pairs ≡ s.pairs → IsKeptVerifier (record { order = s.order; pairs = pairs })
-kept_same s pairs kept e = let same : s ≡ record { order = s.order; pairs = pairs } = (λ i. record { order = s.order; pairs = sym e i }) in subst IsKeptVerifier same kept
+kept_same s pairs kept e = let same : s ≡ record { order = s.order; pairs = pairs } = (λ i. record { order = s.order; pairs = sym e i })
+    in subst IsKeptVerifier same kept

@@ -1,7 +1,8 @@
 -- Kept members are found under their width and flat list, which fix them.
 use Rattle.std.specs.List.{AllByRecursion}
 use Rattle.std.specs.Map.{lookup}
-use Rattle.std.proofs.Common.{Bool, Contains, Err, List, None, Ok, Some, [], ap, arith, false, map, refl, subst, suc, inl, inr, sym, true, true≢false, zero, ℕ, ◌&&◌, ◌++◌, ◌∙◌, ◌∷◌, ◌≡◌, ◌⊎◌}
+use Rattle.std.proofs.Common.{Bool, Contains, Err, List, None, Ok, Some, [], ap, arith, false, map, refl, subst, suc, inl, inr, sym, true}
+use Rattle.std.proofs.Common.{true≢false, zero, ℕ, ◌&&◌, ◌++◌, ◌∙◌, ◌∷◌, ◌≡◌, ◌⊎◌}
 use Rattle.std.specs.Prelude.{OnErr, OnOk, Result, nat_eq}
 use Rattle.std.specs.Cmp.Lexicographic.{pointwise}
 use Rattle.std.proofs.lemmas.Bool.{and_parts, eq-eqb, eqb-true}
@@ -68,10 +69,12 @@ module _ (same : Flat → Flat → Bool) (laws : TellsApart same) (key : Flat) (
   stored_is : (seen : Seen) → IsStoredMember (key, seen) → (kept_of (key, seen)).tiling ≡ t
   stored_is seen stored = same_tiling (kept_of (key, seen)).tiling t stored.tiling is.tiling is.width (sym stored.sides ∙ is.sides)
 
-  pub found : (es : List (Flat × Seen)) (seen : Seen) → AllByRecursion IsStoredMember es → lookup (same key) es ≡ Some seen → IsKeptFrom (map kept_of es) t seen.line
+  pub found : (es : List (Flat × Seen)) (seen : Seen) → AllByRecursion IsStoredMember es → lookup (same key) es ≡ Some seen
+      → IsKeptFrom (map kept_of es) t seen.line
   found es seen all e =
       let there : Contains es (key, seen) = Contains-from_lookup {eq = same} laws.one key seen es e in
-      subst (λ (u : Tiling). IsKeptFrom (map kept_of es) u seen.line) (stored_is seen (all_at IsStoredMember es (key, seen) all there)) (contains_map kept_of es (key, seen) there)
+      subst (λ (u : Tiling). IsKeptFrom (map kept_of es) u seen.line) (stored_is seen (all_at IsStoredMember es (key, seen) all there))
+      (contains_map kept_of es (key, seen) there)
 
   -- the tiling stands under its key alone
   key_is : (e : Flat × Seen) → IsStoredMember e → (kept_of e).tiling ≡ t → e.0 ≡ key
@@ -82,7 +85,10 @@ module _ (same : Flat → Flat → Bool) (laws : TellsApart same) (key : Flat) (
 
   not_kept : (es : List (Flat × Seen)) → AllByRecursion IsStoredMember es → NonePasses (same key) es → IsNotKept (map kept_of es) t
   not_kept [] all none = tt
-  not_kept (e ∷ es) all none = (λ is_it. true≢false (sym (laws.itself key) ∙ subst (λ (k : Flat). same key k ≡ false) (key_is e all.0 is_it) none.0), not_kept es all.1 none.1)
+  not_kept (e ∷ es) all none = (
+    λ is_it. true≢false (sym (laws.itself key) ∙ subst (λ (k : Flat). same key k ≡ false) (key_is e all.0 is_it) none.0),
+    not_kept es all.1 none.1,
+  )
 
   pub missed : (es : List (Flat × Seen)) → AllByRecursion IsStoredMember es → lookup (same key) es ≡ None → IsNotKept (map kept_of es) t
   missed es all e = not_kept es all (none_passes_from_lookup (same key) es e)
@@ -92,7 +98,8 @@ module _ (same : Flat → Flat → Bool) (laws : TellsApart same) (key : Flat) (
   none_passes ((other, seen) ∷ es) all new = (cases (cases_Bool (same key other)), none_passes es all.1 new.1)
     where
       cases : (same key other ≡ true) ⊎ (same key other ≡ false) → same key other ≡ false
-      cases (inl e) = absurd (new.0 (subst (λ (k : Flat). IsStoredMember (k, seen) → (kept_of (k, seen)).tiling ≡ t) (laws.one key other e) (stored_is seen) all.0))
+      cases (inl e) = absurd (new.0 (subst (λ (k : Flat). IsStoredMember (k, seen) → (kept_of (k, seen)).tiling ≡ t) (laws.one key other e)
+          (stored_is seen) all.0))
       cases (inr e) = e
 
   pub absent : (es : List (Flat × Seen)) → AllByRecursion IsStoredMember es → IsNotKept (map kept_of es) t → lookup (same key) es ≡ None
@@ -122,8 +129,10 @@ module _ (key : Flat) (line : ℕ) (seen : Seen) (t : Tiling) (is : IsKeyOf key 
   kept_more (e ∷ es) = ap (λ (ks : List Kept). kept_of e ∷ ks) (kept_more es)
 
 -- what is stored after a tiling was inserted, or not
-module _ {S : Type 0} (same : Flat → Flat → Bool) (laws : TellsApart same) (old new : IndexMap Flat Seen S) (key : Flat) (line : ℕ) (seen : Seen) (t : Tiling) (is : IsKeyOf key t) (of : IsSeenOf line seen t) where
-  inserted : AllByRecursion IsStoredMember old.entries → IsNotKept (map kept_of old.entries) t → new.entries ≡ insert_entry same old.entries key seen → new.entries ≡ old.entries ++ (key, seen) ∷ []
+module _ {S : Type 0} (same : Flat → Flat → Bool) (laws : TellsApart same) (old new : IndexMap Flat Seen S) (key : Flat) (line : ℕ) (seen : Seen)
+    (t : Tiling) (is : IsKeyOf key t) (of : IsSeenOf line seen t) where
+  inserted : AllByRecursion IsStoredMember old.entries → IsNotKept (map kept_of old.entries) t → new.entries ≡ insert_entry same old.entries key seen
+      → new.entries ≡ old.entries ++ (key, seen) ∷ []
   inserted all not e = e ∙ insert_entry-new same old key seen (absent same laws key t is old.entries all not)
 
   pub still_stored : {A E : Type 0} (r : Result A E) → AllByRecursion IsStoredMember old.entries → IsNotKept (map kept_of old.entries) t
@@ -135,7 +144,8 @@ module _ {S : Type 0} (same : Flat → Flat → Bool) (laws : TellsApart same) (
       → new.entries ≡ insert_entry same old.entries key seen → map kept_of new.entries ≡ pairs ++ record { line = line; tiling = t } ∷ []
   kept_now pairs seen_is all not e =
       let absent_there = subst (λ (ps : List Kept). IsNotKept ps t) (sym seen_is) not in
-      ap (λ (es : List (Flat × Seen)). map kept_of es) (inserted all absent_there e) ∙ kept_more key line seen t is of old.entries ∙ ap (λ (ps : List Kept). ps ++ record { line = line; tiling = t } ∷ []) seen_is
+      ap (λ (es : List (Flat × Seen)). map kept_of es) (inserted all absent_there e) ∙ kept_more key line seen t is of old.entries
+      ∙ ap (λ (ps : List Kept). ps ++ record { line = line; tiling = t } ∷ []) seen_is
 
 -- what holds where a result is Ok
 pub on_ok : {A E : Type 0} (P : Type 0) (r : Result A E) → P → OnOk r P

@@ -1,4 +1,6 @@
 -- What is seen of a verifier and of what it leaves, and what each answer says.
+-- Example (VerifyExamples): a verifier of order 9 that keeps the rectangle 33x32 from line 1 tells of a square alone that it is
+-- foreign, and stays as it is.
 use Rattle.std.specs.List.{AllByRecursion}
 use Rattle.std.specs.Prelude.{Bool, Contains, List, [], false, length, ℕ, ⊤, ◌++◌, ◌∷◌, ◌≡◌, ◌≢◌, ◌≤◌}
 use Rattle.bk_tiling.specs.Tiling.{Tiling}

@@ -1,4 +1,5 @@
 -- How kept members are stored: each under its width and its flat list, which fix it.
+-- Example (VerifyExamples): the rectangle 33x32 stands under 33 and 18, 15, 7, 8, 14, 4, 10, 1, 9.
 use Rattle.std.specs.Prelude.{◌≡◌}
 use Rattle.bk_tiling.specs.Tiling.{IsTiling, sides_of}
 use Rattle.bk_verify.specs.Kept.{Kept}

@@ -1,4 +1,6 @@
 -- A list that others made, held against the perfect catalogue of an order: what each of its entries is, and what is missing.
+-- Example (VerifyExamples): where line 1 has the rectangle 33x32 turned and twice as large, its first entry is there; an entry of
+-- one square is foreign to the order 9.
 use Rattle.std.specs.List.{AllByRecursion}
 use Rattle.std.specs.Prelude.{List, ℕ, ◌++◌, ◌∷◌, ◌≡◌, ◌≢◌}
 use Rattle.bk_tiling.specs.Tiling.{Tiling}

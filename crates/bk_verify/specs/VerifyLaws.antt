@@ -1,4 +1,5 @@
 -- What a verifier tells of an entry is one thing, and the truth. Statements alone; each is proved apart.
+-- Example (VerifyExamples): what is told there is the one thing that is told.
 use Rattle.std.specs.List.{AllByRecursion}
 use Rattle.std.specs.Prelude.{List, [], ℕ, ◌++◌, ◌∷◌, ◌↔◌, ◌≡◌, ◌≢◌}
 use Rattle.bk_tiling.specs.Tiling.{IsTiling, Tiling}

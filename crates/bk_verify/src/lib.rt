@@ -3,8 +3,6 @@
 
 mod kept;
 mod rest;
-#[cfg(test)]
-mod tests;
 mod verifier;
 
 pub use rest::Rest;

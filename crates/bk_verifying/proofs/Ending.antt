@@ -3,7 +3,8 @@ use Rattle.std.specs.List.{AllByRecursion}
 use Rattle.std.specs.Prelude.{IsTrue, Option, flat_map, take, ◌↔◌}
 use Rattle.std.specs.Io.KnownBytes.{Appends, Consumes, IsAtEnd}
 use Rattle.std.proofs.KnownBytes.{Appends-trans}
-use Rattle.std.proofs.Common.{Bool, List, None, Some, [], arith, false, inl, inr, length, refl, subst, sym, true, true≢false, ℕ, ◌+◌, ◌++◌, ◌<◌, ◌^◌, ◌∙◌, ◌∷◌, ◌≡◌, ◌≢◌, ◌≤◌, ◌⊎◌}
+use Rattle.std.proofs.Common.{Bool, List, None, Some, [], arith, false, inl, inr, length, refl, subst, sym, true, true≢false, ℕ, ◌+◌, ◌++◌, ◌<◌, ◌^◌}
+use Rattle.std.proofs.Common.{◌∙◌, ◌∷◌, ◌≡◌, ◌≢◌, ◌≤◌, ◌⊎◌}
 use Rattle.bk_ports.proofs.KnownSteps.{prefix_after}
 use Rattle.bk_ports.specs.Causes.{AppendsPrefix, Rose}
 use Rattle.bk_tiling.specs.Tiling.{Tiling}
@@ -26,7 +27,8 @@ use Rattle.bk_verifying.proofs.Following.{AreFollowed, IsAfter, followed}
 use Rattle.bk_verifying.specs.Entering.{EntersLine, MayWantAt}
 use Rattle.bk_verifying.specs.Listing.{ClosesReport, IsClosing, IsClosingBegun, IsListingBegun, IsWholeBegun}
 use Rattle.bk_verifying.specs.Report.{BeginsReport, Counts, IsReport, counts_line, faults, line_of}
-use Rattle.bk_verifying.specs.Running.{IsBrokenAtLine, IsBrokenBehind, IsCutOff, IsCutShort, IsOther, IsReportedOrWanting, IsSame, IsTooMany, IsVerified, VerifiesBy, verdict_at_lines}
+use Rattle.bk_verifying.specs.Running.{IsBrokenAtLine, IsBrokenBehind, IsCutOff, IsCutShort, IsOther, IsReportedOrWanting, IsSame, IsTooMany}
+use Rattle.bk_verifying.specs.Running.{IsVerified, VerifiesBy, verdict_at_lines}
 use Rattle.bk_verifying.specs.Told.{HasEntry, IsToldOf, texts_from}
 use Rattle.bk_verifying.specs.declared.entering.Verifying.{Verifying}
 use Rattle.bk_verifying.specs.declared.run.Verdict.{Verdict}
@@ -42,7 +44,8 @@ fresh n = record { verifier = record { order = n; pairs = [] }; foreign = 0; rep
 -- a verifier that was made for the order is the one at the start
 pub from_fresh : (n : ℕ) (v : VerifierState) (last : Verifying) (told : Told_bytes) (e : Ended) → v ≡ record { order = n; pairs = [] }
     → EntersBy rules (record { verifier = v; foreign = 0; repeated = 0; refused = 0 }) last told e → EntersBy rules (fresh n) last told e
-from_fresh n v last told e is enters = subst (λ (w : VerifierState). EntersBy rules (record { verifier = w; foreign = 0; repeated = 0; refused = 0 }) last told e) is enters
+from_fresh n v last told e is enters = subst (λ (w : VerifierState). EntersBy rules (record { verifier = w; foreign = 0; repeated = 0; refused = 0 })
+    last told e) is enters
 
 at_first : (n : ℕ) → IsAfter n [] 1 (fresh n)
 at_first n = record { keeps = a_verifier_tells_the_truth.at_first n; order = refl; before = tt }
@@ -86,10 +89,10 @@ module _ (n : ℕ) (told : Told_bytes) (last : Verifying) where
       let f = followed n [] 1 b.begun b.replies (fresh n) b.last (at_first n) b.each in
       record {
         input = e.input;
-        later = e.later;
         taken = e.taken;
-        left = e.left;
         within = e.within;
+        lines = e.lines;
+        read = e.read;
         begun = b.begun;
         unseen = b.unseen;
         split = b.split;
@@ -99,7 +102,8 @@ module _ (n : ℕ) (told : Told_bytes) (last : Verifying) where
       }
 
   -- the entry at which memory was wanting would be new
-  new_entry : (entries : List Accepted) (s : Verifying) (number : ℕ) (line : List ℕ) → KeepsFirsts n entries (s.verifier).pairs → (s.verifier).order ≡ n → MayWantAt s number line
+  new_entry : (entries : List Accepted) (s : Verifying) (number : ℕ) (line : List ℕ) → KeepsFirsts n entries (s.verifier).pairs
+      → (s.verifier).order ≡ n → MayWantAt s number line
       → HasEntry number line (λ e. IsNew n (entries ++ e ∷ []) e)
   new_entry entries s number line keeps order wants =
       let sight = wants.sight in
@@ -127,10 +131,10 @@ module _ (n : ℕ) (told : Told_bytes) (last : Verifying) where
       let f = followed n [] 1 w.done w.replies (fresh n) w.last (at_first n) w.each in
       record {
         input = e.input;
-        later = e.later;
         taken = e.taken;
-        left = e.left;
         within = e.within;
+        lines = e.lines;
+        read = e.read;
         done = w.done;
         line = w.line;
         unseen = w.unseen;
@@ -174,7 +178,8 @@ lines_entered n told last refused e =
       written = all.written;
     }
 
-pub lines_done : (n : ℕ) (told : Told_bytes) (last : Verifying) (e : Ended) → verdict_at_lines e ≡ None → EntersBy rules (fresh n) last told e → AreLinesDone n told last
+pub lines_done : (n : ℕ) (told : Told_bytes) (last : Verifying) (e : Ended) → verdict_at_lines e ≡ None → EntersBy rules (fresh n) last told e
+    → AreLinesDone n told last
 lines_done n told last ended.NoneRefused is enters = lines_entered n told last false enters
 lines_done n told last ended.SomeRefused is enters = lines_entered n told last true enters
 lines_done n told last ended.ReadFailed is enters = absurd (cc)
@@ -215,7 +220,8 @@ module _ (n : ℕ) (told : Told_bytes) (last : Verifying) (d : AreLinesDone n to
   abbrev pub then : Option (List ℕ) → Told_bytes
   then after = record { left = told.left; left_after = told.left_after; written = told.written; written_after = after }
 
-  verified : (counts : Counts) (bytes : List ℕ) (after : Option (List ℕ)) → IsClosing n last counts bytes → Appends told.written_after after bytes → IsVerified n (then after) counts
+  verified : (counts : Counts) (bytes : List ℕ) (after : Option (List ℕ)) → IsClosing n last counts bytes → Appends told.written_after after bytes
+      → IsVerified n (then after) counts
   verified counts bytes after c p = record {
     input = d.input;
     taken = d.taken;
@@ -240,7 +246,11 @@ module _ (n : ℕ) (told : Told_bytes) (last : Verifying) (d : AreLinesDone n to
       cases (inr some) = some
 
   pub ends_other : (after : Option (List ℕ)) (same : Bool) → same ≡ false → ClosesReport n last same told.written_after after → IsOther n (then after)
-  ends_other after same is c = record { counts = c.counts; verified = verified c.counts c.bytes after c.closing c.appends; other = some_fault (faults c.counts) same is c.same_is }
+  ends_other after same is c = record {
+    counts = c.counts;
+    verified = verified c.counts c.bytes after c.closing c.appends;
+    other = some_fault (faults c.counts) same is c.same_is;
+  }
 
   -- a write failed behind the lines
   pub ends_broken : (after : Option (List ℕ)) → IsClosingBegun n last told.written_after after → IsBrokenBehind n (then after)
@@ -298,8 +308,10 @@ write_failed_here e v is h = let it : verdict_at_lines ended.WriteFailed ≡ Som
 -- where not all lines were entered in a run that nothing disturbs, memory was wanting
 pub wanting_there : (e : Ended) (v : Verdict) → verdict_at_lines e ≡ Some v → IsDoneOrWanting e → v ≡ NoMemory
 wanting_there e v is (inr wanting) = let it : verdict_at_lines ended.NoMemory ≡ Some v = subst (λ (x : Ended). verdict_at_lines x ≡ Some v) wanting is in cc
-wanting_there e v is (inl (true, h)) = let it : verdict_at_lines ended.SomeRefused ≡ Some v = subst (λ (x : Ended). verdict_at_lines x ≡ Some v) h is in absurd (cc)
-wanting_there e v is (inl (false, h)) = let it : verdict_at_lines ended.NoneRefused ≡ Some v = subst (λ (x : Ended). verdict_at_lines x ≡ Some v) h is in absurd (cc)
+wanting_there e v is (inl (true, h)) = let it : verdict_at_lines ended.SomeRefused ≡ Some v = subst (λ (x : Ended). verdict_at_lines x ≡ Some v) h is
+    in absurd (cc)
+wanting_there e v is (inl (false, h)) = let it : verdict_at_lines ended.NoneRefused ≡ Some v = subst (λ (x : Ended). verdict_at_lines x ≡ Some v) h is
+    in absurd (cc)
 
 -- where all lines were entered, no read and no write failed yet
 pub none_failed_yet : (e : Ended) → verdict_at_lines e ≡ None → (e ≢ ended.ReadFailed) × (e ≢ ended.WriteFailed)

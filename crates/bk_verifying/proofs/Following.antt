@@ -1,6 +1,7 @@
 -- The lines of a list, one after another: what was entered is what is told of them among all entries.
 use Rattle.std.specs.List.{AllByRecursion, concat}
-use Rattle.std.proofs.Common.{Bool, List, [], ap, append-nil, append_assoc, arith, cond, count_by, inl, inr, refl, subst, sym, true, ℕ, ◌+◌, ◌++◌, ◌<◌, ◌∙◌, ◌∷◌, ◌≡◌, ◌≢◌}
+use Rattle.std.proofs.Common.{Bool, List, [], ap, append-nil, append_assoc, arith, cond, count_by, inl, inr, refl, subst, sym, true, ℕ, ◌+◌, ◌++◌}
+use Rattle.std.proofs.Common.{◌<◌, ◌∙◌, ◌∷◌, ◌≡◌, ◌≢◌}
 use Rattle.std.proofs.lemmas.List.Sums.{sum_by-cons}
 use Rattle.bk_laws.proofs.AllOfLists.{all_append}
 use Rattle.bk_tiling.specs.Tiling.{IsTiling, Tiling}
@@ -19,7 +20,8 @@ use Rattle.bk_verify.specs.VerifyLaws.{IsTrueOf, KeepsFirsts}
 use Rattle.bk_verify.specs.declared.verifier.Fed.{Fed}
 use Rattle.bk_verify.specs.declared.verifier.Fed.TheVariants.{Foreign, New, Repeats}
 use Rattle.bk_verifying.specs.Entering.{EntersLine, MayWantAt, after_fed, fed_pieces, feeds, no_item, refuses}
-use Rattle.bk_verifying.specs.Told.{AreEntries, AreTold, HasEntry, IsTold, Told, accepted, foreign, is_foreign, is_refused, is_repeat, no_line, nothing, passed, refused, repeats, texts_from, told_text}
+use Rattle.bk_verifying.specs.Told.{AreEntries, AreTold, HasEntry, IsTold, Told, accepted, foreign, is_foreign, is_refused, is_repeat, no_line}
+use Rattle.bk_verifying.specs.Told.{nothing, passed, refused, repeats, texts_from, told_text}
 use Rattle.bk_verifying.specs.declared.entering.Verifying.{Verifying}
 
 -- what is accepted is a tiling
@@ -69,11 +71,19 @@ count_yes p told tolds k e =
 counts_fed : (s : Verifying) (v : VerifierState) (fed : Fed) → CountsOne s (after_fed s v fed) (told_of fed)
 unfolding told_of
 counts_fed s v New = counts_nothing s v
-counts_fed s v (Repeats first) = record { foreign = λ tolds. refl; repeated = λ tolds. count_yes is_repeat (repeats first) tolds s.repeated refl; refused = λ tolds. refl }
+counts_fed s v (Repeats first) = record {
+  foreign = λ tolds. refl;
+  repeated = λ tolds. count_yes is_repeat (repeats first) tolds s.repeated refl;
+  refused = λ tolds. refl;
+}
 counts_fed s v Foreign = record { foreign = λ tolds. count_yes is_foreign foreign tolds s.foreign refl; repeated = λ tolds. refl; refused = λ tolds. refl }
 
 counts_refused : (s : Verifying) (cause : Refused) → CountsOne s (record s { refused = s.refused + 1 }) (refused cause)
-counts_refused s cause = record { foreign = λ tolds. refl; repeated = λ tolds. refl; refused = λ tolds. count_yes is_refused (refused cause) tolds s.refused refl }
+counts_refused s cause = record {
+  foreign = λ tolds. refl;
+  repeated = λ tolds. refl;
+  refused = λ tolds. count_yes is_refused (refused cause) tolds s.refused refl;
+}
 
 -- the state keeps the first of the entries seen before, whose lines are before this number
 pub record IsAfter (n : ℕ) (seen : List Accepted) (number : ℕ) (s : Verifying) : Type 0 where
@@ -105,7 +115,8 @@ pub record AreFollowed (n : ℕ) (seen : List Accepted) (number : ℕ) (lines : 
   pub repeated_is : last.repeated ≡ s.repeated + count_by is_repeat tolds
   pub refused_is : last.refused ≡ s.refused + count_by is_refused tolds
 
-module _ (n : ℕ) (seen : List Accepted) (number : ℕ) (line : List ℕ) (lines : List (List ℕ)) (s next : Verifying) (told : Told) (counts : CountsOne s next told) (text : List ℕ) (last : Verifying) where
+module _ (n : ℕ) (seen : List Accepted) (number : ℕ) (line : List ℕ) (lines : List (List ℕ)) (s next : Verifying) (told : Told)
+    (counts : CountsOne s next told) (text : List ℕ) (last : Verifying) where
   -- a line without an entry, and the lines behind it
   line_passed : ((t : Tiling) → HasTiling (kept_front line) t → ⊥) → ((entries : List Accepted) → IsTold n entries number (kept_front line) told)
       → AreFollowed n seen (number + 1) lines next text last → AreFollowed n seen number (line ∷ lines) s (told_text number told ++ text) last
@@ -125,7 +136,8 @@ module _ (n : ℕ) (seen : List Accepted) (number : ℕ) (line : List ℕ) (line
   -- a line with an entry, and the lines behind it
   line_accepted : (t : Tiling) → HasTiling (kept_front line) t
       → ((more : List Accepted) → IsTold n ((seen ++ record { line = number; tiling = t } ∷ []) ++ more) number (kept_front line) told)
-      → AreFollowed n (seen ++ record { line = number; tiling = t } ∷ []) (number + 1) lines next text last → AreFollowed n seen number (line ∷ lines) s (told_text number told ++ text) last
+      → AreFollowed n (seen ++ record { line = number; tiling = t } ∷ []) (number + 1) lines next text last
+      → AreFollowed n seen number (line ∷ lines) s (told_text number told ++ text) last
   line_accepted t has is f =
       let e : Accepted = record { line = number; tiling = t } in
       let all : (seen ++ e ∷ []) ++ f.entries ≡ seen ++ (e ∷ f.entries) = append_assoc seen (e ∷ []) f.entries in
@@ -146,7 +158,8 @@ module _ (n : ℕ) (seen : List Accepted) (number : ℕ) (line : List ℕ) (line
       }
 
 -- a tiling that is fed: what is told of it is true, and what is kept then is right
-module _ (n : ℕ) (seen : List Accepted) (number : ℕ) (line : List ℕ) (s : Verifying) (after : IsAfter n seen number s) (t : Tiling) (fed : Fed) (v : VerifierState) (has : HasTiling line t) (is : IsFed s.verifier number t fed v) where
+module _ (n : ℕ) (seen : List Accepted) (number : ℕ) (line : List ℕ) (s : Verifying) (after : IsAfter n seen number s) (t : Tiling) (fed : Fed)
+    (v : VerifierState) (has : HasTiling line t) (is : IsFed s.verifier number t fed v) where
   fed_order : v.order ≡ s.verifier.order
   fed_order = by fed is
     where
@@ -188,7 +201,8 @@ fed_text number (Repeats first) = append-nil (told_text number (repeats first))
 fed_text number Foreign = append-nil (told_text number foreign)
 
 -- one line that is entered, and the lines behind it
-one_line : (n : ℕ) (seen : List Accepted) (number : ℕ) (line : List ℕ) (lines : List (List ℕ)) (s : Verifying) (pieces : List (List ℕ)) (is_refused : Bool) (next : Verifying) (text : List ℕ) (last : Verifying)
+one_line : (n : ℕ) (seen : List Accepted) (number : ℕ) (line : List ℕ) (lines : List (List ℕ)) (s : Verifying) (pieces : List (List ℕ))
+    (is_refused : Bool) (next : Verifying) (text : List ℕ) (last : Verifying)
     → IsAfter n seen number s → EntersLine s number (kept_front line) pieces is_refused next
     → ((now : List Accepted) → IsAfter n now (number + 1) next → AreFollowed n now (number + 1) lines next text last)
     → AreFollowed n seen number (line ∷ lines) s (concat pieces ++ text) last
@@ -197,11 +211,13 @@ one_line n seen number line lines s _ _ _ text last after (no_item skip) rest =
     (rest seen (record { keeps = after.keeps; order = after.order; before = still_before seen number after.before }))
 one_line n seen number line lines s _ _ _ text last after (refuses cause is) rest =
     subst (λ (l : List ℕ). AreFollowed n seen number (line ∷ lines) s (l ++ text) last) (sym (append-nil (told_text number (refused cause))))
-    (line_passed n seen number line lines s (record s { refused = s.refused + 1 }) (refused cause) (counts_refused s cause) text last (refused_has_none (kept_front line) cause is) (λ entries. is)
+    (line_passed n seen number line lines s (record s { refused = s.refused + 1 }) (refused cause) (counts_refused s cause) text last
+    (refused_has_none (kept_front line) cause is) (λ entries. is)
     (rest seen (record { keeps = after.keeps; order = after.order; before = still_before seen number after.before })))
 one_line n seen number line lines s _ _ _ text last after (feeds t fed v has is) rest =
     subst (λ (l : List ℕ). AreFollowed n seen number (line ∷ lines) s (l ++ text) last) (sym (fed_text number fed))
-    (line_accepted n seen number line lines s (after_fed s v fed) (told_of fed) (counts_fed s v fed) text last t has (fed_true n seen number (kept_front line) s after t fed v has is)
+    (line_accepted n seen number line lines s (after_fed s v fed) (told_of fed) (counts_fed s v fed) text last t has
+    (fed_true n seen number (kept_front line) s after t fed v has is)
     (rest (seen ++ record { line = number; tiling = t } ∷ []) (fed_after n seen number (kept_front line) s after t fed v has is)))
 
 -- lines that were entered one after another
@@ -222,4 +238,5 @@ followed n seen number [] [] s last after e = subst (AreFollowed n seen number [
 followed n seen number [] (reply ∷ replies) s last after e = absurd e
 followed n seen number (line ∷ lines) [] s last after e = absurd e
 followed n seen number (line ∷ lines) (reply ∷ replies) s last after e =
-    one_line n seen number line lines s reply.pieces reply.refused e.0 (text_of replies) last after e.1 (λ now later. followed n now (number + 1) lines replies e.0 last later e.2)
+    one_line n seen number line lines s reply.pieces reply.refused e.0 (text_of replies) last after e.1
+    (λ now later. followed n now (number + 1) lines replies e.0 last later e.2)

@@ -2,3 +2,4 @@ pub mod Entered
 pub mod Following
 pub mod BehindLines
 pub mod Ending
+pub mod VerifyingExamples

@@ -1,4 +1,5 @@
 -- How a line of a list is entered: what is written for it, and what is kept of it.
+-- Example (VerifyingExamples): an entry on line 2 whose member was first on line 1 is answered by `line 2 repeats 1`.
 use Rattle.std.specs.Prelude.{Bool, List, [], false, true, ℕ, ◌+◌, ◌<◌, ◌∷◌}
 use Rattle.bk_tiling.specs.Tiling.{Tiling}
 use Rattle.bk_text.specs.CodeLine.{Skip}

@@ -1,6 +1,8 @@
-pub mod Entering
+-- What the crate says.
 pub mod Told
 pub mod Report
-pub mod Listing
 pub mod Running
+-- How its code keeps it.
+pub mod Entering
+pub mod Listing
 pub mod Laws

@@ -1,4 +1,6 @@
 -- The report on a list that is held against a catalogue.
+-- Example (VerifyingExamples): of a list of order 9 that lacks nothing, with a foreign and a repeated entry, the last line is
+-- `; end order 9 members 2 missing 0 foreign 1 repeated 1 refused 0`, and there are two faults.
 use Rattle.std.specs.List.{AllByRecursion}
 use Rattle.std.specs.Prelude.{Contains, List, [], count_by, flat_map, length, ℕ, ⊤, ◌++◌, ◌+◌, ◌≡◌, ◌⊎◌}
 use Rattle.bk_word.specs.Word.{Follows, Word}

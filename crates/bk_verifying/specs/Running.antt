@@ -1,8 +1,9 @@
 -- How a run of the verifier ends, what was taken then and what stands written.
+-- Example (VerifyingExamples): a read that fails at the lines ends the run, and the end of the list doesn't.
 use Rattle.std.specs.Prelude.{List, None, Option, Some, [], length, ℕ, ◌+◌, ◌++◌, ◌<◌, ◌^◌, ◌∷◌, ◌≡◌, ◌≤◌, ◌⊎◌}
 use Rattle.std.specs.Io.KnownBytes.{Appends, Consumes, IsAtEnd}
 use Rattle.bk_ports.specs.Causes.{AppendsPrefix}
-use Rattle.bk_lines.specs.Ending.{Tells, Told as Told_bytes}
+use Rattle.bk_lines.specs.Ending.{AreRead, Told as Told_bytes}
 use Rattle.bk_lines.specs.Lines.{closed_lines, kept_front, lines_of}
 use Rattle.bk_lines.specs.declared.Ended.{Ended}
 use Rattle.bk_lines.specs.declared.Ended.TheVariants as ended
@@ -54,17 +55,16 @@ pub record IsTooMany (n : ℕ) (bytes : Told_bytes) : Type 0 where
   pub told : IsToldOf n (closed_lines [] first) tolds
   pub written : Appends bytes.written bytes.written_after (texts_from 1 tolds)
 
--- a write failed at a line of the input, of which `later` was not taken yet: what was written is the beginning of what is told
--- of the first lines
+-- a write failed at a line that was read: what was written is the beginning of what is told of the first of the lines read
 pub record IsBrokenAtLine (n : ℕ) (bytes : Told_bytes) : Type 0 where
   pub input : List ℕ
-  pub later : List ℕ
   pub taken : Consumes bytes.left bytes.left_after input
-  pub left : Tells bytes.left_after later
   pub within : length input ≤ 2 ^ 30
+  pub lines : List (List ℕ)
+  pub read : AreRead bytes.left_after input lines
   pub begun : List (List ℕ)
   pub unseen : List (List ℕ)
-  pub split : lines_of (input ++ later) ≡ begun ++ unseen
+  pub split : lines ≡ begun ++ unseen
   pub tolds : List Told
   pub told : IsToldOf n begun tolds
   pub written : AppendsPrefix bytes.written bytes.written_after (texts_from 1 tolds)
@@ -79,18 +79,17 @@ pub record IsBrokenBehind (n : ℕ) (bytes : Told_bytes) : Type 0 where
   pub is_front : BeginsReport n (lines_of input) front ⊎ ((counts : Counts) × IsReport n (lines_of input) counts front)
   pub written : AppendsPrefix bytes.written bytes.written_after front
 
--- memory was wanting at a line of the input, of which `later` was not taken yet. Its entry would be new. The lines before it
--- are told, and nothing else was written
+-- memory was wanting at a line that was read. Its entry would be new. The lines before it are told, and nothing else was written
 pub record IsCutShort (n : ℕ) (bytes : Told_bytes) : Type 0 where
   pub input : List ℕ
-  pub later : List ℕ
   pub taken : Consumes bytes.left bytes.left_after input
-  pub left : Tells bytes.left_after later
   pub within : length input ≤ 2 ^ 30
+  pub lines : List (List ℕ)
+  pub read : AreRead bytes.left_after input lines
   pub done : List (List ℕ)
   pub line : List ℕ
   pub unseen : List (List ℕ)
-  pub split : lines_of (input ++ later) ≡ done ++ line ∷ unseen
+  pub split : lines ≡ done ++ line ∷ unseen
   pub entries : List Accepted
   pub are_entries : AreEntries 1 done entries
   pub tolds : List Told

@@ -1,4 +1,5 @@
 -- What is told of the lines of a list, among all its entries.
+-- Example (VerifyingExamples): three lines of which nothing, a repeat and a foreign entry is told have two texts.
 use Rattle.std.specs.Prelude.{Bool, List, [], false, true, ℕ, ⊤, ◌+◌, ◌++◌, ◌∷◌, ◌⊎◌}
 use Rattle.bk_tiling.specs.Tiling.{Tiling}
 use Rattle.bk_text.specs.CodeLine.{Skip}

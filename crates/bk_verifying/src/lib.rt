@@ -4,7 +4,5 @@
 mod closing;
 mod entering;
 mod run;
-#[cfg(test)]
-mod tests;
 
 pub use run::{Verdict, verify};

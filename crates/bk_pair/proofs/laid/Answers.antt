@@ -11,35 +11,48 @@ use Rattle.bk_pair.proofs.laid.Goals as goal
 
 pub push_moved-requires-2-clause-room : goal.push_moved-requires-2-clause-room
 push_moved-requires-2-clause-room c =
-    room_left c.args.a.now c.args.b.now c.image.result c.width-width.result c.height-height.result c.new-squares.result.items c.push_moved.new.squares.items c.push.new.self.items c.push-2.new.self.items
+    room_left c.args.a.now c.args.b.now c.image.result c.width-width.result c.height-height.result c.new-squares.result.items
+    c.push_moved.new.squares.items c.push.new.self.items c.push-2.new.self.items
     c.image.ensures.value c.new-squares.ensures c.requires c.push_moved.ensures c.push.ensures.items c.push-2.ensures.items
 
 pub put_in_order-requires-clause-sides : goal.put_in_order-requires-clause-sides
 put_in_order-requires-clause-sides c =
     let items : c.push_moved-2.new.squares.items ≡ laid_squares c.args.a.now c.args.b.now =
-    laid_items c.args.a.now c.args.b.now c.image.result c.width-width.result c.height-height.result c.new-squares.result.items c.push_moved.new.squares.items c.push.new.self.items c.push-2.new.self.items c.push_moved-2.new.squares.items
-    c.width-width.ensures.value c.height-height.ensures.value c.image.ensures.value c.new-squares.ensures c.push_moved.ensures c.push.ensures.items c.push-2.ensures.items c.push_moved-2.ensures in
-    subst HaveSides (sym items) (have_sides c.args.a.now c.args.b.now c.width-width.ensures.kept (subst IsKept c.image.ensures.value c.image.ensures.kept) c.requires)
+    laid_items c.args.a.now c.args.b.now c.image.result c.width-width.result c.height-height.result c.new-squares.result.items
+    c.push_moved.new.squares.items c.push.new.self.items c.push-2.new.self.items c.push_moved-2.new.squares.items
+    c.width-width.ensures.value c.height-height.ensures.value c.image.ensures.value c.new-squares.ensures c.push_moved.ensures c.push.ensures.items
+    c.push-2.ensures.items c.push_moved-2.ensures in
+    subst HaveSides (sym items) (have_sides c.args.a.now c.args.b.now c.width-width.ensures.kept
+    (subst IsKept c.image.ensures.value c.image.ensures.kept) c.requires)
 
 pub put_in_order-requires-clause-apart : goal.put_in_order-requires-clause-apart
 put_in_order-requires-clause-apart c =
     let items : c.push_moved-2.new.squares.items ≡ laid_squares c.args.a.now c.args.b.now =
-    laid_items c.args.a.now c.args.b.now c.image.result c.width-width.result c.height-height.result c.new-squares.result.items c.push_moved.new.squares.items c.push.new.self.items c.push-2.new.self.items c.push_moved-2.new.squares.items
-    c.width-width.ensures.value c.height-height.ensures.value c.image.ensures.value c.new-squares.ensures c.push_moved.ensures c.push.ensures.items c.push-2.ensures.items c.push_moved-2.ensures in
-    subst ShareNoCell (sym items) (apart c.args.a.now c.args.b.now c.width-width.ensures.kept (subst IsKept c.image.ensures.value c.image.ensures.kept) c.requires)
+    laid_items c.args.a.now c.args.b.now c.image.result c.width-width.result c.height-height.result c.new-squares.result.items
+    c.push_moved.new.squares.items c.push.new.self.items c.push-2.new.self.items c.push_moved-2.new.squares.items
+    c.width-width.ensures.value c.height-height.ensures.value c.image.ensures.value c.new-squares.ensures c.push_moved.ensures c.push.ensures.items
+    c.push-2.ensures.items c.push_moved-2.ensures in
+    subst ShareNoCell (sym items) (apart c.args.a.now c.args.b.now c.width-width.ensures.kept
+    (subst IsKept c.image.ensures.value c.image.ensures.kept) c.requires)
 
 pub from_known-requires : goal.from_known-requires
 from_known-requires c =
     let items : c.push_moved-2.new.squares.items ≡ laid_squares c.args.a.now c.args.b.now =
-    laid_items c.args.a.now c.args.b.now c.image.result c.width-width.result c.height-height.result c.new-squares.result.items c.push_moved.new.squares.items c.push.new.self.items c.push-2.new.self.items c.push_moved-2.new.squares.items
-    c.width-width.ensures.value c.height-height.ensures.value c.image.ensures.value c.new-squares.ensures c.push_moved.ensures c.push.ensures.items c.push-2.ensures.items c.push_moved-2.ensures in
-    subst IsKept (sym (made c.args.a.now c.args.b.now c.width-width.result c.height-height.result c.put_in_order.new.squares.items c.width-width.ensures.value c.height-height.ensures.value (c.put_in_order.ensures ∙ ap in_code_order items)))
+    laid_items c.args.a.now c.args.b.now c.image.result c.width-width.result c.height-height.result c.new-squares.result.items
+    c.push_moved.new.squares.items c.push.new.self.items c.push-2.new.self.items c.push_moved-2.new.squares.items
+    c.width-width.ensures.value c.height-height.ensures.value c.image.ensures.value c.new-squares.ensures c.push_moved.ensures c.push.ensures.items
+    c.push-2.ensures.items c.push_moved-2.ensures in
+    subst IsKept (sym (made c.args.a.now c.args.b.now c.width-width.result c.height-height.result c.put_in_order.new.squares.items
+    c.width-width.ensures.value c.height-height.ensures.value (c.put_in_order.ensures ∙ ap in_code_order items)))
     (kept_square c.args.a.now c.args.b.now c.width-width.ensures.kept (subst IsKept c.image.ensures.value c.image.ensures.kept) c.requires)
 
 pub returns : goal.returns
 returns c =
     let items : c.push_moved-2.new.squares.items ≡ laid_squares c.args.a.now c.args.b.now =
-    laid_items c.args.a.now c.args.b.now c.image.result c.width-width.result c.height-height.result c.new-squares.result.items c.push_moved.new.squares.items c.push.new.self.items c.push-2.new.self.items c.push_moved-2.new.squares.items
-    c.width-width.ensures.value c.height-height.ensures.value c.image.ensures.value c.new-squares.ensures c.push_moved.ensures c.push.ensures.items c.push-2.ensures.items c.push_moved-2.ensures in
+    laid_items c.args.a.now c.args.b.now c.image.result c.width-width.result c.height-height.result c.new-squares.result.items
+    c.push_moved.new.squares.items c.push.new.self.items c.push-2.new.self.items c.push_moved-2.new.squares.items
+    c.width-width.ensures.value c.height-height.ensures.value c.image.ensures.value c.new-squares.ensures c.push_moved.ensures c.push.ensures.items
+    c.push-2.ensures.items c.push_moved-2.ensures in
     c.from_known.ensures
-    ∙ made c.args.a.now c.args.b.now c.width-width.result c.height-height.result c.put_in_order.new.squares.items c.width-width.ensures.value c.height-height.ensures.value (c.put_in_order.ensures ∙ ap in_code_order items)
+    ∙ made c.args.a.now c.args.b.now c.width-width.result c.height-height.result c.put_in_order.new.squares.items c.width-width.ensures.value
+    c.height-height.ensures.value (c.put_in_order.ensures ∙ ap in_code_order items)

@@ -12,15 +12,18 @@ use Rattle.bk_alike.proofs.Alike.add.Goals as goal
 pub invariant_of-self-in-Ok : goal.invariant_of-self-in-Ok
 invariant_of-self-in-Ok c =
     let x : KeptItem = record { line = c.args.line; tiling = c.canonical-tiling.result } in
-    let room : vec_len c.reserve.new.self + 1 ≤ vec_capacity c.reserve.new.self = went_well c.reserve.result _ (sym c.is_err.ensures.value ∙ c.if-is_err.false) c.reserve.ensures.ok in
+    let room : vec_len c.reserve.new.self + 1 ≤ vec_capacity c.reserve.new.self = went_well c.reserve.result _
+    (sym c.is_err.ensures.value ∙ c.if-is_err.false) c.reserve.ensures.ok in
     let fits = c.push-fits.ensures.succeeds (omega (arith, room)) in
-    let items = pushed_on (is_ok c.push-fits.result) c.reserve.new.self.items (c.reserve.new.self.items ++ x ∷ []) c.push-fits.new.self.items fits c.push-fits.ensures.items in
+    let items = pushed_on (is_ok c.push-fits.result) c.reserve.new.self.items (c.reserve.new.self.items ++ x ∷ []) c.push-fits.new.self.items fits
+    c.push-fits.ensures.items in
     let size : ◌≡◌ {A = ℕ × ℕ} (c.width.result, c.height.result) (item_size x) = λ i. (c.width.ensures.value i, c.height.ensures.value i) in
     let place : c.len-place.result ≡ length c.self.inside.items.items = omega arith in
     let old = map (λ group. group.items) c.self.inside.groups.items in
     subst (λ (l : List KeptItem). IsGrouped l c.put_in_group.new.sizes.keys (map (λ group. group.items) c.put_in_group.new.groups.items))
     (sym (items ∙ ap (λ (l : List KeptItem). l ++ x ∷ []) c.reserve.ensures.items))
-    (grouped-push c.self.inside.items.items x c.self.inside.sizes.keys c.put_in_group.new.sizes.keys old (map (λ group. group.items) c.put_in_group.new.groups.items)
+    (grouped-push c.self.inside.items.items x c.self.inside.sizes.keys c.put_in_group.new.sizes.keys old
+    (map (λ group. group.items) c.put_in_group.new.groups.items)
     c.self.invariant (omega arith)
     (c.in-Ok.ensures.sizes ∙ ap (with_size c.self.inside.sizes.keys) size)
     (c.in-Ok.ensures.groups ∙ ap (λ (k : ℕ). with_place old (position_or_len (size_eq (c.width.result, c.height.result)) c.self.inside.sizes.keys) k) place

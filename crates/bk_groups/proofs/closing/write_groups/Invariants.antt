@@ -8,6 +8,7 @@ use Rattle.bk_groups.proofs.closing.write_groups.Given as goal
 
 abbrev pub invariant-loop-g : goal.invariant-loop-g
 invariant-loop-g g l = record {
-  written : IsWrittenTo (flat_map (group_lines l.items) (sizes l.items)) (flat_map (group_lines l.items) (drop l.g (sizes l.items))) (g.O.Sink.written l.fn.out) (g.O.Sink.written l.out);
+  written : IsWrittenTo (flat_map (group_lines l.items) (sizes l.items)) (flat_map (group_lines l.items) (drop l.g (sizes l.items)))
+      (g.O.Sink.written l.fn.out) (g.O.Sink.written l.out);
   same : g.O.Sink.faults l.out ≡ g.O.Sink.faults l.fn.out;
 }

@@ -7,6 +7,7 @@ use Rattle.bk_groups.proofs.closing.write_members.Given as goal
 
 abbrev pub invariant-loop-place : goal.invariant-loop-place
 invariant-loop-place g l = record {
-  written : IsWrittenTo (flat_map (member_at l.items) l.places) (flat_map (member_at l.items) (drop l.place-index l.places)) (g.O.Sink.written l.fn.out) (g.O.Sink.written l.out);
+  written : IsWrittenTo (flat_map (member_at l.items) l.places) (flat_map (member_at l.items) (drop l.place-index l.places))
+      (g.O.Sink.written l.fn.out) (g.O.Sink.written l.out);
   same : g.O.Sink.faults l.out ≡ g.O.Sink.faults l.fn.out;
 }

@@ -16,11 +16,13 @@ returns-in_err-write_all-clause-lines g c a e =
     ends_broken (group_lines c.args.items.now a) (g.O.Sink.written c.args.out.now) (g.O.Sink.written c.write_all.new.self) c.from_residual.result p.0 p.1
     (subst (λ (l : List (List ℕ)). AppendsPrefix (g.O.Sink.written c.args.out.now) (g.O.Sink.written c.write_all.new.self) (concat l))
     (sym (lines_of_group c.args.items.now c.args.g a b members c.size-width.ensures c.members-members.ensures e))
-    (first_broken (group_line b.0 b.1 (length members)) c.as_slice.result.now (flat_map (member_at c.args.items.now) members) (g.O.Sink.written c.args.out.now) (g.O.Sink.written c.write_all.new.self)
+    (first_broken (group_line b.0 b.1 (length members)) c.as_slice.result.now (flat_map (member_at c.args.items.now) members)
+    (g.O.Sink.written c.args.out.now) (g.O.Sink.written c.write_all.new.self)
     (c.as_slice.ensures.value ∙ c.write_group.ensures) c.in_err-write_all.ensures.err))
 
 pub write_members-requires : goal.write_members-requires
-write_members-requires g c = places_below c.args.items.now c.args.g c.size-width.result c.members-members.result.now c.size-width.ensures c.members-members.ensures
+write_members-requires g c = places_below c.args.items.now c.args.g c.size-width.result c.members-members.result.now c.size-width.ensures
+    c.members-members.ensures
 
 pub returns-clause-lines : goal.returns-clause-lines
 returns-clause-lines g c a e =
@@ -28,5 +30,6 @@ returns-clause-lines g c a e =
     let members = c.members-members.result.now in
     subst (λ (l : List (List ℕ)). WritesLines l (g.O.Sink.written c.args.out.now) (g.O.Sink.written c.write_members.new.out) c.write_members.result)
     (sym (lines_of_group c.args.items.now c.args.g a b members c.size-width.ensures c.members-members.ensures e))
-    (first_then (group_line b.0 b.1 (length members)) c.as_slice.result.now (flat_map (member_at c.args.items.now) members) (g.O.Sink.written c.args.out.now) (g.O.Sink.written c.write_all.new.self) (g.O.Sink.written c.write_members.new.out) c.write_members.result
+    (first_then (group_line b.0 b.1 (length members)) c.as_slice.result.now (flat_map (member_at c.args.items.now) members)
+    (g.O.Sink.written c.args.out.now) (g.O.Sink.written c.write_all.new.self) (g.O.Sink.written c.write_members.new.out) c.write_members.result
     (c.as_slice.ensures.value ∙ c.write_group.ensures) c.in_ok-write_all.ensures.ok c.write_members.ensures.lines)

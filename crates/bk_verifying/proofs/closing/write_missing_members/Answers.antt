@@ -20,7 +20,8 @@ returns-in-None-clause-listed g c =
     let on : IsListingOn c.args.rest.now c.members.rest c.members.missing (g.O.Sink.written c.args.out.now) (g.O.Sink.written c.members.out) =
     record { listed = c.members.invariant.listed; order = c.members.invariant.order; pairs = c.members.invariant.pairs; stopped = c.members.invariant.stopped }
     in
-    listing_end c.args.rest.now c.members.rest c.members.missing (g.O.Sink.written c.args.out.now) (g.O.Sink.written c.members.out) on c.in-None.ensures.none c.advance.new.self.walk.cursor c.in-None.ensures.cursor
+    listing_end c.args.rest.now c.members.rest c.members.missing (g.O.Sink.written c.args.out.now) (g.O.Sink.written c.members.out) on
+    c.in-None.ensures.none c.advance.new.self.walk.cursor c.in-None.ensures.cursor
 
 pub returns-in_err-write_all-in-Some-Ok-clause-begun : goal.returns-in_err-write_all-in-Some-Ok-clause-begun
 returns-in_err-write_all-in-Some-Ok-clause-begun g c =
@@ -28,9 +29,12 @@ returns-in_err-write_all-in-Some-Ok-clause-begun g c =
     let on : IsListingOn c.args.rest.now c.members.rest c.members.missing (g.O.Sink.written c.args.out.now) (g.O.Sink.written c.members.out) =
     record { listed = c.members.invariant.listed; order = c.members.invariant.order; pairs = c.members.invariant.pairs; stopped = c.members.invariant.stopped }
     in
-    on_err (IsListingBegun c.args.rest.now.walk.order c.args.rest.now.pairs (g.O.Sink.written c.args.out.now) (g.O.Sink.written c.write_all.new.self)) c.from_residual.result
-    (listing_begun c.args.rest.now c.members.rest c.members.missing (g.O.Sink.written c.args.out.now) (g.O.Sink.written c.members.out) on c.in-Some-Ok.entry.tiling c.in-Some-Ok.entry.word next.0
-    c.as_slice.result.now (c.as_slice.ensures.value ∙ c.write_missing.ensures) (g.O.Sink.written c.write_all.new.self) c.in_err-write_all-in-Some-Ok.ensures.err)
+    on_err (IsListingBegun c.args.rest.now.walk.order c.args.rest.now.pairs (g.O.Sink.written c.args.out.now) (g.O.Sink.written c.write_all.new.self))
+    c.from_residual.result
+    (listing_begun c.args.rest.now c.members.rest c.members.missing (g.O.Sink.written c.args.out.now) (g.O.Sink.written c.members.out) on
+    c.in-Some-Ok.entry.tiling c.in-Some-Ok.entry.word next.0
+    c.as_slice.result.now (c.as_slice.ensures.value ∙ c.write_missing.ensures) (g.O.Sink.written c.write_all.new.self)
+    c.in_err-write_all-in-Some-Ok.ensures.err)
 
 pub members-preserved-in_ok-write_all-in-Some-Ok : goal.members-preserved-in_ok-write_all-in-Some-Ok
 members-preserved-in_ok-write_all-in-Some-Ok g c =
@@ -38,12 +42,20 @@ members-preserved-in_ok-write_all-in-Some-Ok g c =
     let on : IsListingOn c.args.rest.now c.members.rest c.members.missing (g.O.Sink.written c.args.out.now) (g.O.Sink.written c.members.out) =
     record { listed = c.members.invariant.listed; order = c.members.invariant.order; pairs = c.members.invariant.pairs; stopped = c.members.invariant.stopped }
     in
-    let more = listing_more c.args.rest.now c.members.rest c.members.missing (g.O.Sink.written c.args.out.now) (g.O.Sink.written c.members.out) on c.in-Some-Ok.entry.tiling c.in-Some-Ok.entry.word next.0
+    let more = listing_more c.args.rest.now c.members.rest c.members.missing (g.O.Sink.written c.args.out.now) (g.O.Sink.written c.members.out) on
+    c.in-Some-Ok.entry.tiling c.in-Some-Ok.entry.word next.0
     c.as_slice.result.now (c.as_slice.ensures.value ∙ c.write_missing.ensures) (g.O.Sink.written c.write_all.new.self) c.advance.new.self c.requires.most
-    (MatchResult-at_ok _ _ c.in-Some-Ok.entry c.in-Some-Ok.field-0-is c.in-Some-Ok.ensures.cursor) c.advance.ensures.order c.advance.ensures.pairs c.advance.ensures.stopped
+    (MatchResult-at_ok _ _ c.in-Some-Ok.entry c.in-Some-Ok.field-0-is c.in-Some-Ok.ensures.cursor) c.advance.ensures.order c.advance.ensures.pairs
+    c.advance.ensures.stopped
     c.in_ok-write_all-in-Some-Ok.ensures.ok
     in
-    record { listed = more.listed; order = more.order; pairs = more.pairs; stopped = more.stopped; faults = (c.in_ok-write_all-in-Some-Ok.ensures.cause).ok ∙ c.members.invariant.faults }
+    record {
+      listed = more.listed;
+      order = more.order;
+      pairs = more.pairs;
+      stopped = more.stopped;
+      faults = (c.in_ok-write_all-in-Some-Ok.ensures.cause).ok ∙ c.members.invariant.faults;
+    }
 
 pub members-preserved : goal.members-preserved
 members-preserved g c =
@@ -51,9 +63,17 @@ members-preserved g c =
     let on : IsListingOn c.args.rest.now c.members.rest c.members.missing (g.O.Sink.written c.args.out.now) (g.O.Sink.written c.members.out) =
     record { listed = c.members.invariant.listed; order = c.members.invariant.order; pairs = c.members.invariant.pairs; stopped = c.members.invariant.stopped }
     in
-    let more = listing_more c.args.rest.now c.members.rest c.members.missing (g.O.Sink.written c.args.out.now) (g.O.Sink.written c.members.out) on c.in-Some-Ok.entry.tiling c.in-Some-Ok.entry.word next.0
+    let more = listing_more c.args.rest.now c.members.rest c.members.missing (g.O.Sink.written c.args.out.now) (g.O.Sink.written c.members.out) on
+    c.in-Some-Ok.entry.tiling c.in-Some-Ok.entry.word next.0
     c.as_slice.result.now (c.as_slice.ensures.value ∙ c.write_missing.ensures) (g.O.Sink.written c.write_all.new.self) c.advance.new.self c.requires.most
-    (MatchResult-at_ok _ _ c.in-Some-Ok.entry c.in-Some-Ok.field-0-is c.in-Some-Ok.ensures.cursor) c.advance.ensures.order c.advance.ensures.pairs c.advance.ensures.stopped
+    (MatchResult-at_ok _ _ c.in-Some-Ok.entry c.in-Some-Ok.field-0-is c.in-Some-Ok.ensures.cursor) c.advance.ensures.order c.advance.ensures.pairs
+    c.advance.ensures.stopped
     c.in_ok-write_all-in-Some-Ok.ensures.ok
     in
-    record { listed = more.listed; order = more.order; pairs = more.pairs; stopped = more.stopped; faults = (c.in_ok-write_all-in-Some-Ok.ensures.cause).ok ∙ c.members.invariant.faults }
+    record {
+      listed = more.listed;
+      order = more.order;
+      pairs = more.pairs;
+      stopped = more.stopped;
+      faults = (c.in_ok-write_all-in-Some-Ok.ensures.cause).ok ∙ c.members.invariant.faults;
+    }

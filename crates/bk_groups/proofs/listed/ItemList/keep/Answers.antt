@@ -15,14 +15,18 @@ returns-clause-outcome g c =
 
 pub returns-then-len-ge16384-clause-outcome : goal.returns-then-len-ge16384-clause-outcome
 returns-then-len-ge16384-clause-outcome g c =
-    refused_outcome (λ pieces refused. ListsTiling c.args.self.now c.args.number c.args.tiling.now pieces refused c.refuse.new.self) (length c.args.self.now.items < 16384) (refused_line c.args.number More)
+    refused_outcome (λ pieces refused. ListsTiling c.args.self.now c.args.number c.args.tiling.now pieces refused c.refuse.new.self)
+    (length c.args.self.now.items < 16384) (refused_line c.args.number More)
     (g.O.Sink.written c.args.out.now) (g.O.Sink.written c.refuse.new.out) c.refuse.result
-    (refused_item c.args.self.now c.refuse.new.self c.args.number c.args.tiling.now (omega (arith, c.len.ensures.value, ap (λ (s : Listed). length s.items) c.self.view_is)) c.refuse.ensures.state)
+    (refused_item c.args.self.now c.refuse.new.self c.args.number c.args.tiling.now
+    (omega (arith, c.len.ensures.value, ap (λ (s : Listed). length s.items) c.self.view_is)) c.refuse.ensures.state)
     c.refuse.ensures.outcome
 
 pub returns-then-len-ge16384-clause-failed : goal.returns-then-len-ge16384-clause-failed
 returns-then-len-ge16384-clause-failed g c =
-    refused_begun (λ pieces refused. ListsTiling c.args.self.now c.args.number c.args.tiling.now pieces refused (with_refused c.args.self.now)) (refused_line c.args.number More)
+    refused_begun (λ pieces refused. ListsTiling c.args.self.now c.args.number c.args.tiling.now pieces refused (with_refused c.args.self.now))
+    (refused_line c.args.number More)
     (g.O.Sink.written c.args.out.now) (g.O.Sink.written c.refuse.new.out) c.refuse.result
-    (refused_item c.args.self.now (with_refused c.args.self.now) c.args.number c.args.tiling.now (omega (arith, c.len.ensures.value, ap (λ (s : Listed). length s.items) c.self.view_is)) refl)
+    (refused_item c.args.self.now (with_refused c.args.self.now) c.args.number c.args.tiling.now
+    (omega (arith, c.len.ensures.value, ap (λ (s : Listed). length s.items) c.self.view_is)) refl)
     c.refuse.ensures.failed

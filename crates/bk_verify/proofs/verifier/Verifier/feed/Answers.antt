@@ -13,7 +13,14 @@ returns-then-order-from-clause-fed c = (
 
 pub line_of-requires : goal.line_of-requires
 line_of-requires c =
-    omega (arith, canonical_order c.args.tiling.now c.canonical-member.result c.canonical-member.ensures.canonical, c.order.ensures.value, c.from.ensures, c.if-order-from.false, c.self.invariant.most)
+    omega (
+      arith,
+      canonical_order c.args.tiling.now c.canonical-member.result c.canonical-member.ensures.canonical,
+      c.order.ensures.value,
+      c.from.ensures,
+      c.if-order-from.false,
+      c.self.invariant.most,
+    )
 
 pub returns-then-not-is_simple_perfect-clause-fed : goal.returns-then-not-is_simple_perfect-clause-fed
 returns-then-not-is_simple_perfect-clause-fed c = (
@@ -25,12 +32,20 @@ returns-then-not-is_simple_perfect-clause-fed c = (
 
 pub keep-requires-clause-few : goal.keep-requires-clause-few
 keep-requires-clause-few c =
-    omega (arith, canonical_order c.args.tiling.now c.canonical-member.result c.canonical-member.ensures.canonical, c.order.ensures.value, c.from.ensures, c.if-order-from.false, c.self.invariant.most)
+    omega (
+      arith,
+      canonical_order c.args.tiling.now c.canonical-member.result c.canonical-member.ensures.canonical,
+      c.order.ensures.value,
+      c.from.ensures,
+      c.if-order-from.false,
+      c.self.invariant.most,
+    )
 
 pub returns-in_err-keep-clause-wanting : goal.returns-in_err-keep-clause-wanting
 returns-in_err-keep-clause-wanting c =
     let stands : StandsFor c.self.inside.order c.args.tiling.now c.canonical-member.result =
-    stands_told c.self.inside.order c.args.tiling.now c.canonical-member.result c.order.result c.from.result c.is_simple_perfect.result c.order.ensures.kept.tiling
+    stands_told c.self.inside.order c.args.tiling.now c.canonical-member.result c.order.result c.from.result c.is_simple_perfect.result
+    c.order.ensures.kept.tiling
     c.canonical-member.ensures.canonical c.order.ensures.value c.from.ensures c.if-order-from.false c.is_simple_perfect.ensures c.if-not-is_simple_perfect.false
     in
     on_err (IsFirstSight c.args.self.now c.args.tiling.now) c.from_residual.result
@@ -40,27 +55,33 @@ returns-in_err-keep-clause-wanting c =
 pub invariant_of-self-2 : goal.invariant_of-self-2
 invariant_of-self-2 c =
     let stands : StandsFor c.self.inside.order c.args.tiling.now c.canonical-member.result =
-    stands_told c.self.inside.order c.args.tiling.now c.canonical-member.result c.order.result c.from.result c.is_simple_perfect.result c.order.ensures.kept.tiling
+    stands_told c.self.inside.order c.args.tiling.now c.canonical-member.result c.order.result c.from.result c.is_simple_perfect.result
+    c.order.ensures.kept.tiling
     c.canonical-member.ensures.canonical c.order.ensures.value c.from.ensures c.if-order-from.false c.is_simple_perfect.ensures c.if-not-is_simple_perfect.false
     in
-    kept_then (record { order = c.self.inside.order; pairs = c.self.inside.kept }) c.args.tiling.now c.canonical-member.result c.args.line c.keep.new.self stands c.in_default.ensures
+    kept_then (record { order = c.self.inside.order; pairs = c.self.inside.kept }) c.args.tiling.now c.canonical-member.result c.args.line
+    c.keep.new.self stands c.in_default.ensures
     c.self.invariant c.in_ok-keep.ensures.kept
 
 pub returns-clause-kept : goal.returns-clause-kept
 returns-clause-kept c =
     let stands : StandsFor c.self.inside.order c.args.tiling.now c.canonical-member.result =
-    stands_told c.self.inside.order c.args.tiling.now c.canonical-member.result c.order.result c.from.result c.is_simple_perfect.result c.order.ensures.kept.tiling
+    stands_told c.self.inside.order c.args.tiling.now c.canonical-member.result c.order.result c.from.result c.is_simple_perfect.result
+    c.order.ensures.kept.tiling
     c.canonical-member.ensures.canonical c.order.ensures.value c.from.ensures c.if-order-from.false c.is_simple_perfect.ensures c.if-not-is_simple_perfect.false
     in
-    kept_then (record { order = c.self.inside.order; pairs = c.self.inside.kept }) c.args.tiling.now c.canonical-member.result c.args.line c.keep.new.self stands c.in_default.ensures
+    kept_then (record { order = c.self.inside.order; pairs = c.self.inside.kept }) c.args.tiling.now c.canonical-member.result c.args.line
+    c.keep.new.self stands c.in_default.ensures
     c.self.invariant c.in_ok-keep.ensures.kept
 
 pub returns-clause-fed : goal.returns-clause-fed
 returns-clause-fed c =
     let stands : StandsFor c.self.inside.order c.args.tiling.now c.canonical-member.result =
-    stands_told c.self.inside.order c.args.tiling.now c.canonical-member.result c.order.result c.from.result c.is_simple_perfect.result c.order.ensures.kept.tiling
+    stands_told c.self.inside.order c.args.tiling.now c.canonical-member.result c.order.result c.from.result c.is_simple_perfect.result
+    c.order.ensures.kept.tiling
     c.canonical-member.ensures.canonical c.order.ensures.value c.from.ensures c.if-order-from.false c.is_simple_perfect.ensures c.if-not-is_simple_perfect.false
     in
     subst (λ (s : VerifierState). IsTakenIn s c.args.line c.args.tiling.now (record { order = c.self.inside.order; pairs = c.keep.new.self })) c.self.view_is
-    (taken_in (record { order = c.self.inside.order; pairs = c.self.inside.kept }) c.args.tiling.now c.canonical-member.result c.args.line c.keep.new.self stands c.in_default.ensures
+    (taken_in (record { order = c.self.inside.order; pairs = c.self.inside.kept }) c.args.tiling.now c.canonical-member.result c.args.line
+    c.keep.new.self stands c.in_default.ensures
     c.in_ok-keep.ensures.kept)

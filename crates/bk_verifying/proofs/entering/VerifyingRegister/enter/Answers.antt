@@ -13,7 +13,8 @@ use Rattle.bk_verifying.proofs.entering.VerifyingRegister.enter.Goals as goal
 pub returns-in-Ok-None-clause-outcome : goal.returns-in-Ok-None-clause-outcome
 returns-in-Ok-None-clause-outcome g c =
     let skip = subst (IsLaidLine c.args.line.now) c.in-Ok-None.field-0-is c.in-Ok-None.ensures.laid in
-    written_none c.args.self.now c.args.number c.args.line.now false c.args.self.now (g.O.Sink.written c.args.out.now) (g.O.Sink.written c.args.out.now) (no_item skip) refl
+    written_none c.args.self.now c.args.number c.args.line.now false c.args.self.now (g.O.Sink.written c.args.out.now)
+    (g.O.Sink.written c.args.out.now) (no_item skip) refl
 
 pub returns-in_ok-write_all-in-Err-clause-outcome : goal.returns-in_ok-write_all-in-Err-clause-outcome
 returns-in_ok-write_all-in-Err-clause-outcome g c =
@@ -23,7 +24,8 @@ returns-in_ok-write_all-in-Err-clause-outcome g c =
 
 pub returns-in_err-write_all-in-Err-clause-failed : goal.returns-in_err-write_all-in-Err-clause-failed
 returns-in_err-write_all-in-Err-clause-failed g c =
-    on_err (IsBegun (λ pieces refused. (last : Verifying) × EntersLine c.args.self.now c.args.number c.args.line.now pieces refused last) (g.O.Sink.written c.args.out.now) (g.O.Sink.written c.write_all.new.self))
+    on_err (IsBegun (λ pieces refused. (last : Verifying) × EntersLine c.args.self.now c.args.number c.args.line.now pieces refused last)
+    (g.O.Sink.written c.args.out.now) (g.O.Sink.written c.write_all.new.self))
     c.from_residual.result
     (begun_one c.args.self.now c.args.number c.args.line.now true (record c.args.self.now { refused = c.args.self.now.refused + 1 })
     (g.O.Sink.written c.args.out.now) (g.O.Sink.written c.write_all.new.self) (refused_line c.args.number c.in-Err.refused) c.as_slice.result.now

@@ -1,0 +1,56 @@
+-- A list of order 9 without a missing member, of which line 2 repeats line 1 and line 3 is foreign.
+use Rattle.std.specs.Fmt.{digits}
+use Rattle.std.specs.Prelude.{List, None, Some, [], codes, count_by, flat_map, refl, ◌++◌, ◌∷◌, ◌≡◌}
+use Rattle.bk_tiling.proofs.ExampleTilings.{rectangle_33x32}
+use Rattle.bk_word.proofs.WordExamples.{word_33x32}
+use Rattle.bk_lines.specs.declared.Ended.TheVariants as ended
+use Rattle.bk_verify.specs.declared.verifier.Fed.TheVariants.{Foreign, New, Repeats}
+use Rattle.bk_verifying.specs.Entering.{fed_pieces}
+use Rattle.bk_verifying.specs.Report.{Counts, counts_line, faults, line_of}
+use Rattle.bk_verifying.specs.Running.{verdict_at_lines}
+use Rattle.bk_verifying.specs.Told.{Told, foreign, is_foreign, is_refused, is_repeat, nothing, repeats, texts_from}
+use Rattle.bk_verifying.specs.declared.run.Verdict.TheVariants.{ReadFailed}
+
+-- what is written for the entries of the three lines
+new-entry : fed_pieces 1 New ≡ []
+new-entry = refl
+
+repeated-entry : fed_pieces 2 (Repeats 1) ≡ (codes "line 2 repeats 1" ++ 10 ∷ []) ∷ []
+unfolding digits
+repeated-entry = refl
+
+foreign-entry : fed_pieces 3 Foreign ≡ (codes "line 3 foreign" ++ 10 ∷ []) ∷ []
+unfolding digits
+foreign-entry = refl
+
+-- what is told of them
+abbrev tolds : List Told
+tolds = nothing ∷ repeats 1 ∷ foreign ∷ []
+
+texts : texts_from 1 tolds ≡ codes "line 2 repeats 1" ++ 10 ∷ (codes "line 3 foreign" ++ 10 ∷ [])
+unfolding digits
+texts = refl
+
+-- and the last line
+abbrev counts : Counts
+counts = record { members = 2; missing = 0; foreign = count_by is_foreign tolds; repeated = count_by is_repeat tolds; refused = count_by is_refused tolds }
+
+last-line : counts_line 9 counts ≡ codes "; end order 9 members 2 missing 0 foreign 1 repeated 1 refused 0" ++ 10 ∷ []
+unfolding digits
+last-line = refl
+
+two-faults : faults counts ≡ 2
+two-faults = refl
+
+-- of a list that lacks the rectangle 33x32, its line stands before that
+missing-lines : flat_map line_of (record { tiling = rectangle_33x32; word = word_33x32 } ∷ [])
+    ≡ codes "missing 9 33x32 [18,15][7,8][14,4][10,1][9] ; 2u.2aa.2ue.2eue.1e" ++ 10 ∷ []
+unfolding digits
+missing-lines = refl
+
+-- a read that fails ends the run, and the end of the list doesn't
+failed-read : verdict_at_lines ended.ReadFailed ≡ Some ReadFailed
+failed-read = refl
+
+list-read : verdict_at_lines ended.SomeRefused ≡ None
+list-read = refl
