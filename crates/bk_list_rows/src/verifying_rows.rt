@@ -1,0 +1,137 @@
+//! Rows of `bk_verifying`.
+
+ghost use Rattle.std.specs.Prelude.{◌<◌, ◌≤◌};
+
+use bk_ports::{MemSink, MemSource};
+use bk_verifying::{Verdict, verify};
+use std::alloc::Global;
+use std::process::Abort;
+
+// Whether a list that is held against the catalogue of an order ends so and writes this. These reads and writes fail.
+fn gives(
+    alloc: Global,
+    order: u8,
+    list: &str,
+    reads: &[u64],
+    writes: &[(u64, usize)],
+    verdict: Verdict,
+    report: &str,
+) -> bool
+    requires least { 2 ≤ order }
+    requires most { order ≤ 16 }
+{
+    let mut source = MemSource::new(list.as_bytes(), 50, reads);
+    let mut room = [0; 1000];
+    let mut out = MemSink::new(&mut room, writes);
+    let got = verify(alloc, order, &mut source, &mut out);
+    got == verdict && out.written() == report.as_bytes()
+}
+
+#[test]
+fn lists_of_order_9(rt: HostRuntime) {
+    for (list, verdict, report) in [
+        (
+            "9 33x32 [18,15][7,8][14,4][10,1][9] ; 2u.2aa.2ue.2eue.1e\n\
+             9 69x61 [36,33][5,28][25,9,2][7][16] ; 2u.2aa.3uue.1ea.1ee\n\
+             ; end order 9 listed 2\n",
+            Verdict::Agrees,
+            "; end order 9 members 2 missing 0 foreign 0 repeated 0 refused 0\n",
+        ),
+        (
+            "[18,15][7,8][14,4][10,1][9]\n[36,28][8,20][30,14][2,18][16]\n[1]\n[18,15][7,9]\n",
+            Verdict::Differs,
+            "line 2 repeats 1\nline 3 foreign\nline 4 no gap 2 15 16\n\
+             missing 9 69x61 [36,33][5,28][25,9,2][7][16] ; 2u.2aa.3uue.1ea.1ee\n\
+             ; end order 9 members 2 missing 1 foreign 1 repeated 1 refused 1\n",
+        ),
+        (
+            "",
+            Verdict::Differs,
+            "missing 9 33x32 [18,15][7,8][14,4][10,1][9] ; 2u.2aa.2ue.2eue.1e\n\
+             missing 9 69x61 [36,33][5,28][25,9,2][7][16] ; 2u.2aa.3uue.1ea.1ee\n\
+             ; end order 9 members 2 missing 2 foreign 0 repeated 0 refused 0\n",
+        ),
+        (
+            "\n; a comment\n[36,33][5,28][25,9,2][7][16]\n\n[15,18][8,7][4,14][1,10][9]\n[36,33][5,28][25,9,2][7][16]",
+            Verdict::Differs,
+            "line 6 repeats 3\n; end order 9 members 2 missing 0 foreign 0 repeated 1 refused 0\n",
+        ),
+        (
+            "[6,4,5][3,1][6][5,1][4]\n[18,15][7,8][14,4][10,1][9]\n[36,33][5,28][25,9,2][7][16]\n",
+            Verdict::Differs,
+            "line 1 foreign\n; end order 9 members 2 missing 0 foreign 1 repeated 0 refused 0\n",
+        ),
+    ] {
+        assert!(rt;
+            gives(rt.alloc(), 9, list, &[], &[], verdict, report),
+            "{report}"
+        );
+    }
+}
+
+// Of order 10 one member is missing, one turned, one scaled, one there twice and one broken; of order 8 there is none.
+#[test]
+fn other_orders(rt: HostRuntime) {
+    for (order, list, report) in [
+        (
+            10,
+            "[30,27][3,11,13][25,8][17,2][15]\n\
+             [55,39][16,23][60,11][4,19][15][34]\n\
+             [135,132,123][9,114][36,105][102,33][69]\n\
+             [60,45][19,26][44,16][12,7][33][28]\n\
+             [57,54][3,7,44][41,15,4][11][26]\n\
+             [60,54][6,22,26][50,16][34,4][30]\n\
+             [57,54][3,7,44][41,15,4][11][27]\n",
+            "line 6 repeats 1\nline 7 no gap 5 26 27\n\
+             missing 10 65x47 [25,17,23][11,6][5,24][22,3][19] ; 3ua.2aue.2ue.2ea.1ee\n\
+             ; end order 10 members 6 missing 1 foreign 0 repeated 1 refused 1\n",
+        ),
+        (
+            8,
+            "[18,15][7,8][14,4][10,1][9]\n[1]\n[1,1][1,1][1,1][1,1]\n",
+            "line 1 foreign\nline 2 foreign\nline 3 foreign\n\
+             ; end order 8 members 0 missing 0 foreign 3 repeated 0 refused 0\n",
+        ),
+    ] {
+        assert!(rt;
+            gives(rt.alloc(), order, list, &[], &[], Verdict::Differs, report),
+            "{report}"
+        );
+    }
+}
+
+// The first, the second and the last write of a report fail, and a read after the first line.
+#[test]
+fn faults(rt: HostRuntime) {
+    let list = "[1]\n[18,15][7,8][14,4][10,1][9]\n[1,1]\n";
+    let failed = Verdict::WriteFailed;
+    for (reads, writes, verdict, report) in [
+        ([].as_slice(), (0, 3), failed, "lin"),
+        (&[], (1, 0), failed, "line 1 foreign\n"),
+        (
+            &[],
+            (2, 9),
+            failed,
+            "line 1 foreign\nline 3 foreign\nmissing 9",
+        ),
+        (
+            &[],
+            (3, 5),
+            failed,
+            "line 1 foreign\nline 3 foreign\n\
+             missing 9 69x61 [36,33][5,28][25,9,2][7][16] ; 2u.2aa.3uue.1ea.1ee\n; end",
+        ),
+        (&[0], (9, 0), Verdict::ReadFailed, ""),
+        (
+            &[1],
+            (9, 0),
+            Verdict::ReadFailed,
+            "line 1 foreign\nline 3 foreign\n",
+        ),
+    ] {
+        assert!(rt;
+            gives(rt.alloc(), 9, list, reads, &[writes], verdict, report),
+            "{report}"
+        );
+    }
+}

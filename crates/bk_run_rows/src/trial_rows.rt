@@ -1,0 +1,48 @@
+//! Lines about trial codes.
+
+use arrayvec::ArrayVec;
+use bk_trial::*;
+
+#[test]
+fn lines(rt: HostRuntime) {
+    let mut line = ArrayVec::new();
+    for (seed, count, text) in [
+        (
+            0,
+            0,
+            "trial seed 0 count 0 ok 0 perfect 0 simple 0 squares 0\n",
+        ),
+        (
+            0,
+            2,
+            "trial seed 0 count 2 ok 2 perfect 1 simple 0 squares 272\n",
+        ),
+        (
+            1,
+            1,
+            "trial seed 1 count 1 ok 1 perfect 1 simple 0 squares 72\n",
+        ),
+        (
+            u64::MAX,
+            2,
+            "trial seed 18446744073709551615 count 2 ok 2 perfect 1 simple 0 squares 274\n",
+        ),
+    ] {
+        trial(seed, count, &mut line);
+        assert_eq!(rt; line.as_slice(), text.as_bytes());
+    }
+}
+
+// The same line twice.
+#[test]
+fn forty(rt: HostRuntime) {
+    let mut line = ArrayVec::new();
+    trial(7, 40, &mut line);
+    let mut again = ArrayVec::new();
+    trial(7, 40, &mut again);
+    assert_eq!(rt; line.as_slice(), again.as_slice());
+    assert!(rt;
+        line.as_slice()
+            .starts_with(b"trial seed 7 count 40 ok 40 perfect ")
+    );
+}
