@@ -9,41 +9,31 @@ is the least of K runs, which are else 3, or of one that took more than 10 s; th
 (call it once before, so that it is built), the last column says whether both wrote the same codes in the same order.
 """
 import argparse
-import os
-import subprocess
 import sys
 import tempfile
 
-HERE = os.path.dirname(os.path.abspath(__file__))
+from taken import compiled, taken
+
 # The numbers of simple perfect squared rectangles by order (Bouwkamp and Duijvestijn).
 PERFECT = {9: 2, 10: 6, 11: 22, 12: 67, 13: 213}
 # A run of more seconds is not taken again.
 LONG = 10
 
 
-def compiled(name, folder):
-    """Compiles a program of this folder, and returns the path of what was built."""
-    built = f"{folder}/{name}"
-    subprocess.run(["gcc", "-O2", "-o", built, f"{HERE}/{name}.c"], check=True)
-    return built
-
-
-class Taken:
+class Least:
     """What runs of a command took: the least seconds of wall and processor time, the greatest number of kilobytes, and the lines written."""
 
     def __init__(self, peak, command, runs):
         self.wall = self.processor = float("inf")
         self.kilobytes = 0
         for _ in range(runs):
-            with tempfile.NamedTemporaryFile("r") as told:
-                run = subprocess.run([peak, told.name, *command], stdout=subprocess.PIPE, stderr=subprocess.DEVNULL, text=True)
-                wall, processor, kilobytes = map(float, told.read().split())
-            if run.returncode != 0:
-                sys.exit(f"{' '.join(command)}: status {run.returncode}")
-            self.lines = [line.partition(" ;")[0] for line in run.stdout.splitlines() if not line.startswith(";")]
-            self.wall, self.processor = min(self.wall, wall), min(self.processor, processor)
-            self.kilobytes = max(self.kilobytes, kilobytes)
-            if wall > LONG:
+            run = taken(peak, command)
+            if run.status != 0:
+                sys.exit(f"{' '.join(command)}: status {run.status}")
+            self.lines = [line.partition(" ;")[0] for line in run.text.splitlines() if not line.startswith(";")]
+            self.wall, self.processor = min(self.wall, run.wall), min(self.processor, run.processor)
+            self.kilobytes = max(self.kilobytes, run.kilobytes)
+            if run.wall > LONG:
                 break
 
     def cells(self):
@@ -53,16 +43,16 @@ class Taken:
 def try_numbers(peak, instead):
     """Ends the script where the numbers of known orders come out otherwise."""
     for order, members in PERFECT.items():
-        found = len(Taken(peak, [instead, str(order)], 1).lines)
+        found = len(Least(peak, [instead, str(order)], 1).lines)
         if found != members:
             sys.exit(f"order {order}: {found} codes instead of {members}")
 
 
 def row(peak, instead, order, asked):
-    maps = Taken(peak, [instead, str(order), asked.kind], asked.runs)
+    maps = Least(peak, [instead, str(order), asked.kind], asked.runs)
     cells = [order, len(maps.lines), *maps.cells()]
     if asked.program:
-        listed = Taken(peak, [asked.program, "list", "--order", str(order), "--class", asked.kind], asked.runs)
+        listed = Least(peak, [asked.program, "list", "--order", str(order), "--class", asked.kind], asked.runs)
         cells += [*listed.cells(), likeness(listed.lines, maps.lines)]
     return cells
 

@@ -7,13 +7,11 @@ The list is made here from the codes that `list` writes. `check` over the same l
 its largest resident set; an entry's is what a list with all entries takes more than one with none.
 """
 
-import os
 import random
-import resource
-import subprocess
 import sys
 import tempfile
-import time
+
+from taken import compiled, taken
 
 
 def laid(code):
@@ -62,22 +60,28 @@ def code_of(squares, factor):
     return text + "]"
 
 
-def run(program, words, path):
-    """The seconds that a run takes, its status and its output, and its largest resident set in kilobytes."""
-    with open(path, "rb") as source:
-        start = time.perf_counter()
-        child = subprocess.Popen([program, *words], stdin=source, stdout=subprocess.PIPE)
-        output = child.stdout.read()
-        _, status, used = os.wait4(child.pid, 0)
-        child.returncode = os.waitstatus_to_exitcode(status)
-        return time.perf_counter() - start, child.returncode, output.decode(), used.ru_maxrss
-
-
 def main():
     program = sys.argv[1]
     order = sys.argv[2] if len(sys.argv) > 2 else "16"
-    listing, _, output, _ = run(program, ["list", "--order", order], os.devnull)
-    codes = [line.split(" ")[2] for line in output.splitlines() if not line.startswith(";")]
+    with tempfile.TemporaryDirectory() as folder:
+        peak = compiled("peak", folder)
+        listing = taken(peak, [program, "list", "--order", order])
+        codes = [line.split(" ")[2] for line in listing.text.splitlines() if not line.startswith(";")]
+        with open(f"{folder}/lines", "w", encoding="utf-8") as file:
+            file.writelines(f"{line}\n" for line in shuffled_images(codes))
+        verifying = taken(peak, [program, "verify", "--order", order], file.name)
+        checking = taken(peak, [program, "check"], file.name)
+        empty = taken(peak, [program, "verify", "--order", order])
+    memory = 1024 * (verifying.kilobytes - empty.kilobytes) / max(1, len(codes))
+    print(f"list --order {order}: {listing.processor:.2f} s, {len(codes)} members")
+    print(f"check of {8 * len(codes)} lines: {checking.processor:.2f} s")
+    print(f"verify --order {order} of them: {verifying.processor:.2f} s, status {verifying.status}, {verifying.text.splitlines()[-1]}")
+    print(f"verify against check and list together: {verifying.processor / (listing.processor + checking.processor):.2f}")
+    print(f"memory at the peak: {verifying.kilobytes} KB with {len(codes)} entries kept, {empty.kilobytes} KB with none, {memory:.0f} bytes an entry")
+
+
+def shuffled_images(codes):
+    """The codes of all images, each by a factor by chance, in an order by chance."""
     random.seed(1)
     lines = []
     for code in codes:
@@ -85,18 +89,7 @@ def main():
         for image in images(*laid(groups)):
             lines.append(code_of(image, random.choice((1, 1, 2, 3, 10, 1000))))
     random.shuffle(lines)
-    with tempfile.NamedTemporaryFile("w", suffix=".txt") as f:
-        f.write("\n".join(lines) + "\n")
-        f.flush()
-        verifying, status, report, full = run(program, ["verify", "--order", order], f.name)
-        checking, _, _, _ = run(program, ["check"], f.name)
-    _, _, _, empty = run(program, ["verify", "--order", order], os.devnull)
-    print(f"list --order {order}: {listing:.2f} s, {len(codes)} members")
-    print(f"check of {len(lines)} lines: {checking:.2f} s")
-    print(f"verify --order {order} of them: {verifying:.2f} s, status {status}, {report.splitlines()[-1]}")
-    print(f"verify against check and list together: {verifying / (listing + checking):.2f}")
-    print(f"largest resident set: {full} KB with {len(codes)} entries kept, {empty} KB with none,"
-          f" {1024 * (full - empty) / max(1, len(codes)):.0f} bytes an entry")
+    return lines
 
 
 if __name__ == "__main__":

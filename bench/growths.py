@@ -1,0 +1,88 @@
+#!/usr/bin/env python3
+"""Refuses each growth of memory of `flow`, `solve`, `word`, `alike` and `verify` in turn, and says what the program then does.
+
+    bench/growths.py PROGRAM
+
+PROGRAM is the built program, crates/bk_main/out/bk_main. Each command gets a line that it can answer without memory, or with what it has taken
+before, and then one that wants memory. bench/refuse.c, compiled with gcc, refuses the growth of one number, from 1 on, until no run asks for so many.
+Before the run itself the program takes memory for the words of its command line. Prints a line for each command and ending: the numbers of the refused
+growths, the status, and how many of the two answers stand written. The status is 1 where an ending is another than the one that is stated: status 6 and
+no answer, or those to the earlier lines alone.
+"""
+import os
+import subprocess
+import sys
+import tempfile
+
+HERE = os.path.dirname(os.path.abspath(__file__))
+NINE = "[18,15][7,8][14,4][10,1][9]"
+TOWER = "[1]" * 200
+LADDER = "101 " + " ".join(f"{node}-{node + 1} {node}-{node + 1}" for node in range(100))
+WANTS_MEMORY = 6
+
+# Each command with its words, and two lines.
+COMMANDS = [
+    (["flow"], ["4 0-1 0-2 1-2 1-3 2-3", LADDER]),
+    (["solve"], ["2u.2aa.2ue.2eue.1e", "1" + ".1" * 199]),
+    (["word"], [NINE, TOWER]),
+    (["alike"], ["[1", NINE]),
+    (["verify", "--order", "9"], ["[1", NINE]),
+]
+
+
+class Run:
+    """One run over two lines, with the growth of a number refused, or none at 0."""
+
+    def __init__(self, program, shim, folder, words, lines, refused):
+        counted = f"{folder}/counted"
+        ran = subprocess.run(
+            [program, *words],
+            input="".join(f"{line}\n" for line in lines),
+            stdout=subprocess.PIPE,
+            stderr=subprocess.DEVNULL,
+            text=True,
+            check=False,
+            env={"LD_PRELOAD": shim, "REFUSED": str(refused), "COUNTED": counted},
+        )
+        self.status, self.text = ran.returncode, ran.stdout
+        with open(counted, encoding="utf-8") as file:
+            self.growths = int(file.read())
+
+
+def stands(text, answers):
+    """How many of the answers the text is, one after the other, or None where it is something else."""
+    return next((count for count in range(len(answers) + 1) if text == "".join(answers[:count])), None)
+
+
+def endings(program, shim, folder, words, lines):
+    """The endings by the number of the refused growth: the status, and how many answers stand written."""
+    whole = Run(program, shim, folder, words, lines, 0)
+    first = Run(program, shim, folder, words, lines[:1], 0).text.splitlines(keepends=True)[:1]
+    answers = [*first, whole.text[len("".join(first)) :]]
+    for refused in range(1, whole.growths + 1):
+        run = Run(program, shim, folder, words, lines, refused)
+        yield refused, run.status, stands(run.text, answers)
+
+
+def main(words):
+    if len(words) != 1:
+        sys.exit(__doc__)
+    program = os.path.abspath(words[0])
+    fine = True
+    with tempfile.TemporaryDirectory() as folder:
+        shim = f"{folder}/refuse.so"
+        subprocess.run(["gcc", "-O2", "-shared", "-fPIC", "-o", shim, f"{HERE}/refuse.c"], check=True)
+        print("| command | refused growths | status | answers written |\n|---|---|---|---|")
+        for words, lines in COMMANDS:
+            seen = {}
+            for refused, status, count in endings(program, shim, folder, words, lines):
+                seen.setdefault((status, count), []).append(refused)
+                fine = fine and status == WANTS_MEMORY and count in (0, 1)
+            for (status, count), numbers in seen.items():
+                span = f"{numbers[0]} to {numbers[-1]}" if len(numbers) > 1 else f"{numbers[0]}"
+                print(f"| `{' '.join(words)}` | {span} | {status} | {'other text' if count is None else count} |")
+    return 0 if fine else 1
+
+
+if __name__ == "__main__":
+    sys.exit(main(sys.argv[1:]))
