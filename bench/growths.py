@@ -1,5 +1,6 @@
 #!/usr/bin/env python3
-"""Refuses each growth of memory of `flow`, `solve`, `word`, `alike` and `verify` in turn, and says what the program then does.
+"""Refuses each growth of memory of `flow`, `solve`, `word`, `alike` and `verify` in turn, and says what the program then does; and counts those of the
+other commands, which take none.
 
     bench/growths.py PROGRAM
 
@@ -8,6 +9,9 @@ before, and then one that wants memory. bench/refuse.c, compiled with gcc, refus
 Before the run itself the program takes memory for the words of its command line. Prints a line for each command and ending: the numbers of the refused
 growths, the status, and how many of the two answers stand written. The status is 1 where an ending is another than the one that is stated: status 6 and
 no answer, or those to the earlier lines alone.
+
+Each other command is run to its end, and then its words with another first word, as long, which asks nothing (status 2): that run takes memory for the words
+alone. Prints a line for each command: the status, and the growths of both runs. The status is 1 where the first isn't 0, or the two numbers differ.
 """
 import os
 import subprocess
@@ -28,6 +32,15 @@ COMMANDS = [
     (["alike"], ["[1", NINE]),
     (["verify", "--order", "9"], ["[1", NINE]),
 ]
+
+# Each command that takes no memory, with its words, and its lines where it reads any.
+TAKE_NONE = [
+    *(([command], [NINE, TOWER]) for command in ("check", "canon", "images", "net", "dual", "draw")),
+    (["list", "--order", "10", "--class", "simple", "--from", "2u.2aa", "--limit", "5"], []),
+    (["trial", "--seed", "1", "--count", "20"], []),
+    (["help"], []),
+]
+ASKS_NOTHING = 2
 
 
 class Run:
@@ -64,24 +77,42 @@ def endings(program, shim, folder, words, lines):
         yield refused, run.status, stands(run.text, answers)
 
 
+def print_endings(program, shim, folder):
+    """The table of the commands that take memory, and whether each ending is the one that is stated."""
+    fine = True
+    print("| command | refused growths | status | answers written |\n|---|---|---|---|")
+    for words, lines in COMMANDS:
+        seen = {}
+        for refused, status, count in endings(program, shim, folder, words, lines):
+            seen.setdefault((status, count), []).append(refused)
+            fine = fine and status == WANTS_MEMORY and count in (0, 1)
+        for (status, count), numbers in seen.items():
+            span = f"{numbers[0]} to {numbers[-1]}" if len(numbers) > 1 else f"{numbers[0]}"
+            print(f"| `{' '.join(words)}` | {span} | {status} | {'other text' if count is None else count} |")
+    return fine
+
+
+def print_counts(program, shim, folder):
+    """The table of the commands that take no memory, and whether none has another growth than those for its words."""
+    fine = True
+    print("\n| command | status | growths | growths for the words alone |\n|---|---|---|---|")
+    for words, lines in TAKE_NONE:
+        run = Run(program, shim, folder, words, lines, 0)
+        alone = Run(program, shim, folder, [words[0][:-1] + "x", *words[1:]], lines, 0)
+        fine = fine and run.status == 0 and alone.status == ASKS_NOTHING and run.growths == alone.growths
+        print(f"| `{' '.join(words)}` | {run.status} | {run.growths} | {alone.growths} |")
+    return fine
+
+
 def main(words):
     if len(words) != 1:
         sys.exit(__doc__)
     program = os.path.abspath(words[0])
-    fine = True
     with tempfile.TemporaryDirectory() as folder:
         shim = f"{folder}/refuse.so"
         subprocess.run(["gcc", "-O2", "-shared", "-fPIC", "-o", shim, f"{HERE}/refuse.c"], check=True)
-        print("| command | refused growths | status | answers written |\n|---|---|---|---|")
-        for words, lines in COMMANDS:
-            seen = {}
-            for refused, status, count in endings(program, shim, folder, words, lines):
-                seen.setdefault((status, count), []).append(refused)
-                fine = fine and status == WANTS_MEMORY and count in (0, 1)
-            for (status, count), numbers in seen.items():
-                span = f"{numbers[0]} to {numbers[-1]}" if len(numbers) > 1 else f"{numbers[0]}"
-                print(f"| `{' '.join(words)}` | {span} | {status} | {'other text' if count is None else count} |")
-    return 0 if fine else 1
+        tables = [print_endings(program, shim, folder), print_counts(program, shim, folder)]
+    return 0 if all(tables) else 1
 
 
 if __name__ == "__main__":

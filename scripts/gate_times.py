@@ -1,9 +1,9 @@
 #!/usr/bin/env python3
 """Runs the gate in one piece, and writes its times and the sizes of the crates into docs/GATE.md, between the two marks that stand there.
 
-What an earlier run passed on this machine is kept and not proved again; for the times from nothing give --anew. The status is the gate's.
+Each run proves all from nothing. The status is the gate's.
 
-    scripts/gate_times.py [--anew]
+    scripts/gate_times.py
 """
 import os
 import re
@@ -49,45 +49,44 @@ def sizes(name):
     return [*parts, len(files_of(name, "must-fail", ".edit")), tests_of(name)]
 
 
-def run_gate(words):
-    """Runs the gate. Returns its status, its last lines, and for each crate when its proof was done, in seconds from the start."""
+def run_gate():
+    """Runs the gate. Returns its status, its last lines, for each crate when its proof was done, in seconds from the start, and the whole time."""
     began, done, last = time.monotonic(), {}, []
-    ran = subprocess.Popen(["rt", "ci", *words], cwd=TOP, stdin=subprocess.DEVNULL, stdout=subprocess.PIPE, stderr=subprocess.STDOUT, text=True)
+    ran = subprocess.Popen(["rt", "ci"], cwd=TOP, stdin=subprocess.DEVNULL, stdout=subprocess.PIPE, stderr=subprocess.STDOUT, text=True)
     for line in ran.stdout:
         print(line, end="", flush=True)
-        found = re.fullmatch(r"(?:rt: )?(\w+) (proved|is kept: .*)\n", line)
+        found = re.fullmatch(r"(?:rt: )?(\w+) proved\n", line)
         if found:
-            done.setdefault(found[1], time.monotonic() - began if found[2] == "proved" else None)
+            done.setdefault(found[1], time.monotonic() - began)
         last = [*last[-1:], line.rstrip("\n")]
     return ran.wait(), last, done, time.monotonic() - began
 
 
-def table(words, last, done, wall):
+def table(last, done, wall):
     used = resource.getrusage(resource.RUSAGE_CHILDREN)
     spent = used.ru_utime + used.ru_stime
-    told = "from nothing" if "--anew" in words else "over what earlier runs on the machine had passed"
-    yield f"One run of `rt ci`, {told}, on {len(os.sched_getaffinity(0))} processors, on {time.strftime('%d %B %Y')}: {wall / 60:.0f} minutes, "
-    yield f"{spent / 60:.0f} minutes of processor time. It ended with:\n\n"
+    yield f"One run of `rt ci`, from nothing, on {time.strftime('%d %B %Y')}, on {len(os.sched_getaffinity(0))} processors: {wall / 60:.0f} minutes, "
+    yield f"{spent / 60:.0f} processor minutes. It ended with:\n\n"
     yield from (f"    {it}\n" for it in last)
     yield "\n| crate | proved at | src | specs | proofs | edits | tests |\n|---|---|---|---|---|---|---|\n"
     total = [0] * 5
     for name in crate_names():
         of, at = sizes(name), done.get(name)
         total = [a + b for a, b in zip(total, of)]
-        yield f"| `{name}` | {'kept' if at is None else f'{at:.0f} s'} | {' | '.join(map(str, of))} |\n"
+        yield f"| `{name}` | {'' if at is None else f'{at:.0f} s'} | {' | '.join(map(str, of))} |\n"
     yield f"| all {len(crate_names())} | | {' | '.join(map(str, total))} |\n"
 
 
-def main(words):
-    status, last, done, wall = run_gate(words)
+def main():
+    status, last, done, wall = run_gate()
     with open(PAGE, encoding="utf-8") as file:
         page = file.read()
     front, _, rest = page.partition(BEGIN)
     _, _, back = rest.partition(END)
     with open(PAGE, "w", encoding="utf-8") as file:
-        file.write(front + BEGIN + "".join(table(words, last, done, wall)) + END + back)
+        file.write(front + BEGIN + "".join(table(last, done, wall)) + END + back)
     return status
 
 
 if __name__ == "__main__":
-    sys.exit(main(sys.argv[1:]))
+    sys.exit(main())

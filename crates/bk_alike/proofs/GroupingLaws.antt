@@ -189,6 +189,3 @@ grouped-push items x stored stored' groups groups' g fits s p =
       apart = subst AreApart (sym all) (apart-push (sizes items) a g.apart);
       no_others = λ b e. no_others-push items x g.no_others b (ap (list_any (size_eq b)) (sym all) ∙ e);
     }
-
-pub grouped-none : IsGrouped [] [] []
-grouped-none = record { few = omega arith; sizes_are = refl; groups_are = refl; apart = tt; no_others = λ a e. refl }

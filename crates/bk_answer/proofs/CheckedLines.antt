@@ -1,5 +1,5 @@
 -- Each answer of `check` accepts exactly the codes of tilings, and a line is answered as what is kept of it.
-use Rattle.std.proofs.Common.{Bool, List, Option, [], arith, inl, inr, length, subst, sym, ℕ, ◌++◌, ◌<◌, ◌∷◌, ◌≡◌, ◌≤◌, ◌⊎◌}
+use Rattle.std.proofs.Common.{Bool, List, Option, [], arith, inl, inr, length, subst, sym, ℕ, ◌++◌, ◌<◌, ◌≡◌, ◌≤◌, ◌⊎◌}
 use Rattle.std.specs.Prelude.{IfSome, ◌↔◌}
 use Rattle.std.proofs.lemmas.List.{length-take-le, take_all}
 use Rattle.bk_lines.specs.Lines.{kept_front}
@@ -11,8 +11,7 @@ use Rattle.bk_report.specs.Refusals.{refusal_line}
 use Rattle.bk_answer.specs.Answer.{AnswersLine, MayWant}
 use Rattle.bk_answer.specs.Checked.{Accepts, IsChecked, IsReplyTo}
 use Rattle.bk_answer.specs.CodeAnswer.{AnswersCodeLine, answers, no_item, refuses}
-use Rattle.bk_answer.specs.Item.{HasItem, HasTiling, IsSize, IsStatedBy}
-use Rattle.bk_answer.specs.declared.command.CodeCommand.{CodeCommand}
+use Rattle.bk_answer.specs.Item.{HasItem, HasTiling, IsSize}
 use Rattle.bk_answer.specs.declared.command.CodeCommand.TheVariants.{Check}
 use Rattle.bk_answer.specs.declared.command.Command.{Command}
 use Rattle.bk_answer.specs.declared.command.Command.TheVariants.{Flow, OfCodes, Solve}

@@ -9,17 +9,17 @@ use Rattle.bk_text.specs.CodeLine.{Flat, Item, Line, Skip}
 use Rattle.bk_text.specs.ReadLine.{IsFaultOf}
 use Rattle.bk_text.specs.declared.TextFault.{TextFault}
 use Rattle.bk_text.specs.declared.TextFault.TheVariants as faults
-use Rattle.bk_answer.specs.Item.{AllowsOrder, AllowsSize, HasItem, HasTiling, IsLaidBy, IsLaidItem, IsLaidLine, IsSize, IsStatedBy, laid_if, order_of}
+use Rattle.bk_answer.specs.Item.{AllowsOrder, AllowsSize, HasItem, IsLaidBy, IsLaidItem, IsLaidLine, IsSize, IsStatedBy, laid_if, side_count}
 use Rattle.bk_answer.specs.Refusing.{IsItemRefused, IsLineRefused, IsNotLaid, no_line, not_laid, other_order, other_size, refused_for, refused_item}
 use Rattle.bk_answer.specs.Refusing.{refused_text, too_many}
 use Rattle.bk_answer.proofs.OneAnswer.{order_is_sides}
 
 -- another order is stated than this number of sides
-pub wrong_order : (item : Line) (n : ℕ) → n ≡ order_of item → (AllowsOrder item n → ⊥) → IsItemRefused item (Order n)
+pub wrong_order : (item : Line) (n : ℕ) → n ≡ side_count item → (AllowsOrder item n → ⊥) → IsItemRefused item (Order n)
 wrong_order item n e = subst (λ (m : ℕ). (AllowsOrder item m → ⊥) → IsItemRefused item (Order m)) (sym e) (λ other. other_order other)
 
 -- laying failed
-pub failed_laying : (item : Line) (cause : Refusal) (r : Refused) → AllowsOrder item (order_of item) → IsNotLaid item cause → r ≡ refused_for cause
+pub failed_laying : (item : Line) (cause : Refusal) (r : Refused) → AllowsOrder item (side_count item) → IsNotLaid item cause → r ≡ refused_for cause
     → IsItemRefused item r
 failed_laying item cause r allowed failed e = subst (IsItemRefused item) (sym e) (not_laid cause allowed failed)
 
@@ -30,7 +30,7 @@ not_read bytes (faults.Text at) r short h e = subst (IsLineRefused bytes) (sym e
 not_read bytes faults.Many r short (line, is, many) e = subst (IsLineRefused bytes) (sym e) (too_many line short is many)
 
 -- a tiling that is laid for an item, where another size is stated or none
-module _ (item : Line) (size : Option (ℕ × ℕ)) (t : Tiling) (laid : IsLaidBy item t) (allowed : AllowsOrder item (order_of item))
+module _ (item : Line) (size : Option (ℕ × ℕ)) (t : Tiling) (laid : IsLaidBy item t) (allowed : AllowsOrder item (side_count item))
     (sized : AllowsSize item t.width t.height → IsSize size t.width t.height) (size_is : IsSize size t.width t.height → AllowsSize item t.width t.height) where
   stated : IsSize size t.width t.height → IsStatedBy item t
   stated s = record {

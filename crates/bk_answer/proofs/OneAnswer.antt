@@ -18,7 +18,7 @@ use Rattle.bk_report.proofs.Verdicts.{one_check_line}
 use Rattle.bk_report.specs.declared.refusal.Refused.{Refused}
 use Rattle.bk_report.specs.declared.refusal.Refused.TheVariants.{Large, Long, Many, Order, Size, Text}
 use Rattle.bk_answer.specs.AnswerLaws.{ALineHasOneAnswer}
-use Rattle.bk_answer.specs.Item.{AllowsOrder, AllowsSize, HasItem, HasTiling, IsLaidBy, IsStatedBy, order_of}
+use Rattle.bk_answer.specs.Item.{AllowsOrder, AllowsSize, HasItem, HasTiling, IsLaidBy, IsStatedBy, side_count}
 use Rattle.bk_answer.specs.Refusing.{IsItemRefused, IsLineRefused, IsNotLaid, no_line, not_laid, other_order, other_size, refused_for, refused_item}
 use Rattle.bk_answer.specs.Refusing.{too_long, too_many}
 use Rattle.bk_answer.specs.declared.command.CodeCommand.{CodeCommand}
@@ -57,7 +57,7 @@ laid_or_not (Flat order width height sides) t r p q = flat_refused_has_none widt
 squares_count : (t : Tiling) → length (flat (code_of t)) ≡ length t.squares
 squares_count t = ap length (flat_is_sides t) ∙ length-map t.squares (λ (q : Square). q.s)
 
-pub order_is_sides : (item : Line) (t : Tiling) → IsLaidBy item t → length t.squares ≡ order_of item
+pub order_is_sides : (item : Line) (t : Tiling) → IsLaidBy item t → length t.squares ≡ side_count item
 order_is_sides Skip t p = absurd p
 order_is_sides (Item order size code) t p =
     sym (squares_count t) ∙ ap (λ (c : Code). length (flat c)) p.code_is
@@ -65,9 +65,9 @@ order_is_sides (Flat order width height sides) t p = sym (squares_count t) ∙ a
 
 -- the causes at an item, where the two kinds of laying that fails are one
 pub data ItemCause (item : Line) (r : Refused) : Type 0 where
-  by_order : (AllowsOrder item (order_of item) → ⊥) → r ≡ Order (order_of item) → ItemCause item r
-  by_laying : (cause : Refusal) → AllowsOrder item (order_of item) → IsNotLaid item cause → r ≡ refused_for cause → ItemCause item r
-  by_size : (t : Tiling) → AllowsOrder item (order_of item) → IsLaidBy item t → (AllowsSize item t.width t.height → ⊥)
+  by_order : (AllowsOrder item (side_count item) → ⊥) → r ≡ Order (side_count item) → ItemCause item r
+  by_laying : (cause : Refusal) → AllowsOrder item (side_count item) → IsNotLaid item cause → r ≡ refused_for cause → ItemCause item r
+  by_size : (t : Tiling) → AllowsOrder item (side_count item) → IsLaidBy item t → (AllowsSize item t.width t.height → ⊥)
       → r ≡ Size t.width t.height → ItemCause item r
 
 item_cause : (item : Line) (r : Refused) → IsItemRefused item r → ItemCause item r
@@ -78,7 +78,7 @@ item_cause item r (other_size t o l n) = by_size t o l n refl
 pub data Cause (bytes : List ℕ) (r : Refused) : Type 0 where
   at_long : 8192 < length bytes → r ≡ Long → Cause bytes r
   at_text : (at : ℕ) → length bytes ≤ 8192 → IsNoLine bytes at → r ≡ Text at → Cause bytes r
-  at_many : (item : Line) → length bytes ≤ 8192 → IsLine item bytes → 200 < order_of item → r ≡ Many → Cause bytes r
+  at_many : (item : Line) → length bytes ≤ 8192 → IsLine item bytes → 200 < side_count item → r ≡ Many → Cause bytes r
   at_item : (item : Line) → HasItem bytes item → ItemCause item r → Cause bytes r
 
 pub cause_of : (bytes : List ℕ) (r : Refused) → IsLineRefused bytes r → Cause bytes r
@@ -114,11 +114,11 @@ one_line_cause bytes r s (at_many item h l m e) (at_long k d) = absurd (omega ar
 one_line_cause bytes r s (at_many item h l m e) (at_text at k n d) = absurd (n.0 (item, l))
 one_line_cause bytes r s (at_many item h l m e) (at_many other k j n d) = e ∙ sym d
 one_line_cause bytes r s (at_many item h l m e) (at_item other has c) =
-    absurd (omega (arith, ap order_of (one_meaning bytes item other l has.meaning), has.few))
+    absurd (omega (arith, ap side_count (one_meaning bytes item other l has.meaning), has.few))
 one_line_cause bytes r s (at_item item has c) (at_long k d) = absurd (omega (arith, has.short))
 one_line_cause bytes r s (at_item item has c) (at_text at k n d) = absurd (n.0 (item, has.meaning))
 one_line_cause bytes r s (at_item item has c) (at_many other k l m d) =
-    absurd (omega (arith, ap order_of (one_meaning bytes other item l has.meaning), has.few))
+    absurd (omega (arith, ap side_count (one_meaning bytes other item l has.meaning), has.few))
 one_line_cause bytes r s (at_item item has c) (at_item other has' d) =
     one_item_cause item r s c (subst (λ (i : Line). ItemCause i s) (one_meaning bytes other item has'.meaning has.meaning) d)
 
@@ -132,7 +132,7 @@ not_refused_item item t r st (by_size u o l n e) =
 pub not_refused : (bytes : List ℕ) (item : Line) (t : Tiling) (r : Refused) → HasItem bytes item → IsStatedBy item t → Cause bytes r → ⊥
 not_refused bytes item t r has st (at_long h e) = omega (arith, has.short)
 not_refused bytes item t r has st (at_text at h n e) = n.0 (item, has.meaning)
-not_refused bytes item t r has st (at_many other h l m e) = omega (arith, ap order_of (one_meaning bytes other item l has.meaning), has.few)
+not_refused bytes item t r has st (at_many other h l m e) = omega (arith, ap side_count (one_meaning bytes other item l has.meaning), has.few)
 not_refused bytes item t r has st (at_item other has' c) =
     not_refused_item item t r st (subst (λ (i : Line). ItemCause i r) (one_meaning bytes other item has'.meaning has.meaning) c)
 
@@ -144,7 +144,7 @@ skip_cause r (by_size t o l n e) = l
 skip_not_refused : (bytes : List ℕ) (r : Refused) → HasItem bytes Skip → Cause bytes r → ⊥
 skip_not_refused bytes r has (at_long h e) = omega (arith, has.short)
 skip_not_refused bytes r has (at_text at h n e) = n.0 (Skip, has.meaning)
-skip_not_refused bytes r has (at_many other h l m e) = omega (arith, ap order_of (one_meaning bytes other Skip l has.meaning), has.few)
+skip_not_refused bytes r has (at_many other h l m e) = omega (arith, ap side_count (one_meaning bytes other Skip l has.meaning), has.few)
 skip_not_refused bytes r has (at_item other has' c) =
     skip_cause r (subst (λ (i : Line). ItemCause i r) (one_meaning bytes other Skip has'.meaning has.meaning) c)
 

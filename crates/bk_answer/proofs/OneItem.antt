@@ -1,7 +1,7 @@
 -- A line has one item.
 use Rattle.std.specs.List.{AllByRecursion}
-use Rattle.std.specs.Prelude.{List, [], codes, length, refl, slice_range, take, ℕ, ◌++◌, ◌∷◌, ◌≡◌, ◌≢◌, ◌≤◌, ◌<◌}
-use Rattle.std.proofs.Common.{ap, append_assoc, arith, get_or, inl, inr, length-take, subst, sym, ◌∙◌, ◌⊎◌}
+use Rattle.std.specs.Prelude.{List, [], length, refl, slice_range, take, ℕ, ◌++◌, ◌∷◌, ◌≡◌, ◌≢◌, ◌≤◌, ◌<◌}
+use Rattle.std.proofs.Common.{ap, append_assoc, arith, get_or, inl, inr, length-take, subst, sym, ◌∙◌}
 use Rattle.bk_grammar.specs.Grammar.{Blanks, Comment, IsBlank, LineEnd, Nothing, ◌or◌}
 use Rattle.bk_word.specs.WordItem.{IsItemAt, IsItemOf}
 

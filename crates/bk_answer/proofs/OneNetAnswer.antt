@@ -1,19 +1,16 @@
 -- A network line has one answer.
-use Rattle.std.proofs.Common.{Bool, List, [], ap, arith, false, get_or, length, refl, subst, sym, true, ℕ, ℤ, ◌<◌, ◌∙◌, ◌∷◌, ◌≡◌, ◌≤◌}
+use Rattle.std.proofs.Common.{Bool, List, [], ap, arith, length, refl, subst, ℕ, ◌<◌, ◌∷◌, ◌≡◌, ◌≤◌}
 use Rattle.bk_net.specs.Net.{HasNoLoose, IsLeastLoose, Net}
 use Rattle.bk_net.specs.NetLine.{IsNetLine, IsNoNetLine, Item, NetLine, Skip}
-use Rattle.bk_net.specs.ReadNet.{IsFaultOf, IsFirstFault, JoinsNodes}
+use Rattle.bk_net.specs.ReadNet.{IsFaultOf, IsFirstFault}
 use Rattle.bk_net.specs.declared.NetFault.{NetFault}
 use Rattle.bk_net.specs.declared.NetFault.TheVariants as fault
-use Rattle.bk_net.specs.declared.TheConstants.{MOST_WIRES}
 use Rattle.bk_net.proofs.NetStopping.{one_meaning}
-use Rattle.bk_flow.specs.Wide.{IsWide}
 use Rattle.bk_flow.proofs.OnePrimitive.{one_primitive}
 use Rattle.bk_report.specs.Answers.{flow_line}
 use Rattle.bk_report.specs.Refusals.{refusal_line}
-use Rattle.bk_report.specs.declared.refusal.Refused.{Refused}
 use Rattle.bk_report.specs.declared.refusal.Refused.TheVariants.{Loose}
-use Rattle.bk_answer.specs.NetAnswer.{AnswersNet, AnswersNetLine, HasNet, HasNetItem, loose, net_too_long, no_net, no_net_item, of_net, refused_net}
+use Rattle.bk_answer.specs.NetAnswer.{AnswersNet, AnswersNetLine, HasNet, loose, net_too_long, no_net, no_net_item, of_net, refused_net}
 use Rattle.bk_answer.specs.NetAnswer.{solved, wide}
 
 -- the nodes and the wires of a line

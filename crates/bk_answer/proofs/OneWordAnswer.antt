@@ -1,22 +1,19 @@
 -- A word line has one answer.
-use Rattle.std.proofs.Common.{Bool, List, [], ap, arith, false, inl, inr, length, refl, subst, sym, take, true, ℕ, ◌+◌, ◌-◌, ◌<◌, ◌∙◌, ◌∷◌, ◌≡◌, ◌≤◌, ◌⊎◌}
+use Rattle.std.proofs.Common.{Bool, List, [], ap, arith, inl, inr, length, refl, subst, sym, take, ℕ, ◌+◌, ◌-◌, ◌<◌, ◌∙◌, ◌∷◌, ◌≡◌, ◌≤◌, ◌⊎◌}
 use Rattle.std.proofs.lemmas.Bool.{cases_lt}
 use Rattle.std.specs.Prelude.{suc, zero}
-use Rattle.std.proofs.lemmas.List.{take-take, take_all}
-use Rattle.bk_grammar.specs.Grammar.{LineEnd}
-use Rattle.bk_tiling.specs.Tiling.{IsTiling, Tiling}
+use Rattle.std.proofs.lemmas.List.{take-take}
+use Rattle.bk_tiling.specs.Tiling.{Tiling}
 use Rattle.bk_word.specs.Outline.{Outline, start as start_outline}
-use Rattle.bk_word.specs.Play.{AreLegalFrom, IsComplete, IsLegal, after_move, outline_of}
-use Rattle.bk_word.specs.Word.{Move, Word, order_of}
+use Rattle.bk_word.specs.Play.{AreLegalFrom, IsLegal, after_move}
+use Rattle.bk_word.specs.Word.{Word, order_of}
 use Rattle.bk_word.specs.WordText.{IsNoWordText, IsTextOf}
 use Rattle.bk_word.proofs.WordsRead.{one_word}
-use Rattle.bk_lay.specs.TilingWord.{IsWordOf}
 use Rattle.bk_skel.specs.SolveRefusal.{IsFirstIllegal}
-use Rattle.bk_word_net.specs.Realised.{IsTilingOf}
 use Rattle.bk_report.specs.Answers.{tiling_line}
 use Rattle.bk_report.specs.Refusals.{refusal_line}
 use Rattle.bk_report.specs.declared.refusal.Refused.TheVariants.{Illegal, Text}
-use Rattle.bk_answer.specs.WordAnswer.{AnswersWord, AnswersWordLine, HasText, HasWord, illegal, large_word, no_tiling, no_word, no_word_item}
+use Rattle.bk_answer.specs.WordAnswer.{AnswersWord, AnswersWordLine, HasText, illegal, large_word, no_tiling, no_word, no_word_item}
 use Rattle.bk_answer.specs.WordAnswer.{of_word, realised, unfinished, wide_word, word_too_long}
 use Rattle.bk_answer.proofs.OneItem.{item_no_end, one_item}
 

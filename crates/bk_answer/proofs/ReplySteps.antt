@@ -1,5 +1,5 @@
 -- Steps of answering: from what is told of a tiling to the answer to its line.
-use Rattle.std.proofs.Common.{Bool, Err, List, Ok, Option, Result, [], false, length, refl, subst, sym, true, ℕ, ◌+◌, ◌<◌, ◌∷◌, ◌≡◌}
+use Rattle.std.proofs.Common.{Bool, Err, List, Ok, Option, Result, [], false, length, subst, sym, true, ℕ, ◌+◌, ◌<◌, ◌∷◌, ◌≡◌}
 use Rattle.std.specs.Prelude.{IfErr, IfOk, OnErr}
 use Rattle.std.specs.Io.KnownBytes.{Appends}
 use Rattle.bk_ports.specs.Causes.{AppendsPrefix}
@@ -19,7 +19,7 @@ use Rattle.bk_answer.specs.NetAnswer.{net_too_long}
 use Rattle.bk_answer.specs.Answer.{AnswersLine}
 use Rattle.bk_answer.specs.CodeAnswer.{AnswersCodeLine, AnswersTiling, answers, any_command, refuses, too_large}
 use Rattle.bk_answer.specs.Replies.{Replies}
-use Rattle.bk_answer.specs.Telling.{Allows, Tells, WantsMemory, tells}
+use Rattle.bk_answer.specs.Telling.{Allows, Tells, tells}
 use Rattle.bk_answer.specs.Item.{HasTiling}
 use Rattle.bk_answer.specs.Refusing.{too_long}
 use Rattle.bk_answer.specs.declared.command.CodeCommand.{CodeCommand}

@@ -6,14 +6,14 @@ use Rattle.bk_text.specs.CodeLine.{Flat, IsLine, Item, Line, Skip}
 use Rattle.bk_text.specs.ReadLine.{sides_of_line}
 
 -- the number of sides
-abbrev pub order_of : Line → ℕ
-order_of item = length (sides_of_line item)
+abbrev pub side_count : Line → ℕ
+side_count item = length (sides_of_line item)
 
 -- the bytes are a line that is not too long, and stand for an item of not too many sides
 pub record HasItem (bytes : List ℕ) (item : Line) : Type 0 where
   pub short : length bytes ≤ 8192
   pub meaning : IsLine item bytes
-  pub few : order_of item ≤ 200
+  pub few : side_count item ≤ 200
 
 -- the item allows this order: it states no other
 abbrev pub AllowsOrder : Line → ℕ → Type 0

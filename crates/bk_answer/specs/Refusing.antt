@@ -9,7 +9,7 @@ use Rattle.bk_report.specs.declared.refusal.Refused.TheVariants.{Gap as NoGap, L
 use Rattle.bk_text.specs.declared.TextFault.{TextFault}
 use Rattle.bk_text.specs.declared.TextFault.TheVariants as fault
 use Rattle.bk_text.specs.CodeLine.{Flat, IsLine, IsNoLine, Item, Line, Skip}
-use Rattle.bk_answer.specs.Item.{AllowsOrder, AllowsSize, HasItem, IsLaidBy, order_of}
+use Rattle.bk_answer.specs.Item.{AllowsOrder, AllowsSize, HasItem, IsLaidBy, side_count}
 
 -- laying the item gives no tiling: its groups are laid under the sum of the first one, and a flat list under the
 -- stated width
@@ -31,12 +31,12 @@ refused_text fault.Many = Many
 -- why an item is refused. The first cause counts
 pub data IsItemRefused (item : Line) : Refused → Type 0 where
   -- another order is stated than the number of sides
-  other_order : (AllowsOrder item (order_of item) → ⊥) → IsItemRefused item (Order (order_of item))
+  other_order : (AllowsOrder item (side_count item) → ⊥) → IsItemRefused item (Order (side_count item))
   -- a group doesn't fit into its gap, or the outline ends uneven
-  not_laid : (refusal : Refusal) → AllowsOrder item (order_of item) → IsNotLaid item refusal
+  not_laid : (refusal : Refusal) → AllowsOrder item (side_count item) → IsNotLaid item refusal
       → IsItemRefused item (refused_for refusal)
   -- a tiling is laid, and another size is stated
-  other_size : (t : Tiling) → AllowsOrder item (order_of item) → IsLaidBy item t
+  other_size : (t : Tiling) → AllowsOrder item (side_count item) → IsLaidBy item t
       → (AllowsSize item t.width t.height → ⊥) → IsItemRefused item (Size t.width t.height)
 
 -- why a line is refused. The first cause counts
@@ -46,7 +46,7 @@ pub data IsLineRefused (bytes : List ℕ) : Refused → Type 0 where
   -- outside the grammar
   no_line : (at : ℕ) → length bytes ≤ 8192 → IsNoLine bytes at → IsLineRefused bytes (Text at)
   -- more than 200 sides
-  too_many : (item : Line) → length bytes ≤ 8192 → IsLine item bytes → 200 < order_of item
+  too_many : (item : Line) → length bytes ≤ 8192 → IsLine item bytes → 200 < side_count item
       → IsLineRefused bytes Many
   -- its item is refused
   refused_item : (item : Line) (refused : Refused) → HasItem bytes item → IsItemRefused item refused

@@ -13,7 +13,7 @@ use crate::command::{CodeCommand, Command};
 use crate::flow::answer_net_line;
 use crate::items::{Desk, lay_at};
 use crate::solve::answer_word_line;
-use arrayvec::ArrayVec;
+use bk_grammar::AnswerBuffer;
 use bk_lines::{Answerer, Outcome};
 use bk_ports::{Failed, Sink};
 use bk_report::{Refused, write_refused};
@@ -49,7 +49,7 @@ impl Answerer for LineAnswerer {
         &self,
         line: &[u8],
         desk: &mut Desk,
-        buffer: &mut ArrayVec<u8, 9000>,
+        buffer: &mut AnswerBuffer,
         out: &mut O,
     ) -> Result<Outcome, Failed> {
         if line.len() > LONGEST_LINE {
@@ -74,7 +74,7 @@ impl CodeCommand {
         alloc: Global,
         line: &[u8],
         desk: &mut Desk,
-        buffer: &mut ArrayVec<u8, 9000>,
+        buffer: &mut AnswerBuffer,
         out: &mut O,
     ) -> Result<Outcome, Failed>
         ensures reply { Replies (AnswersCodeLine self line.now) (MayWantForCode self line.now) (O.written out.old) (O.written out.new) result }
@@ -97,7 +97,7 @@ impl CodeCommand {
         self,
         alloc: Global,
         tiling: &Tiling,
-        buffer: &mut ArrayVec<u8, 9000>,
+        buffer: &mut AnswerBuffer,
         out: &mut O,
     ) -> Result<Outcome, Failed>
         requires { IsTiling tiling.now }
@@ -114,7 +114,7 @@ impl CodeCommand {
 // Answers by the line of a refusal.
 pub(crate) fn refuse<O: Sink>(
     refused: Refused,
-    buffer: &mut ArrayVec<u8, 9000>,
+    buffer: &mut AnswerBuffer,
     out: &mut O,
 ) -> Result<Outcome, Failed>
     ensures outcome { IfOk result (λ outcome. (outcome ≡ Outcome.Refused)

@@ -8,9 +8,9 @@ ghost use Rattle.bk_report.specs.Answers.{tiling_line};
 ghost use Rattle.bk_answer.specs.Replies.{Replies, accepted_if};
 ghost use Rattle.bk_answer.specs.Telling.{Tells};
 
-use crate::several::{write_drawing, write_images};
-use arrayvec::ArrayVec;
+use crate::images_and_drawing::{write_drawing, write_images};
 use bk_draw::LARGEST_DRAWN;
+use bk_grammar::AnswerBuffer;
 use bk_lay::word_of;
 use bk_lines::Outcome;
 use bk_ports::{Failed, Sink};
@@ -74,7 +74,7 @@ impl CodeCommand {
         self,
         alloc: Global,
         tiling: &Tiling,
-        buffer: &mut ArrayVec<u8, 9000>,
+        buffer: &mut AnswerBuffer,
         out: &mut O,
     ) -> Result<Outcome, Failed>
         requires tiling { IsTiling tiling.now }
@@ -107,7 +107,7 @@ impl CodeCommand {
 }
 
 // Clears the buffer and leaves the line of the canonical tiling.
-fn write_canonical(tiling: &Tiling, buffer: &mut ArrayVec<u8, 9000>)
+fn write_canonical(tiling: &Tiling, buffer: &mut AnswerBuffer)
     ensures { (c : Seen) × IsCanonicalOf tiling.now c × (buffer.new.items ≡ tiling_line c) }
 {
     write_tiling(&canonical(tiling), buffer);
@@ -117,11 +117,11 @@ fn write_canonical(tiling: &Tiling, buffer: &mut ArrayVec<u8, 9000>)
 fn tell_word<O: Sink>(
     alloc: Global,
     tiling: &Tiling,
-    buffer: &mut ArrayVec<u8, 9000>,
+    buffer: &mut AnswerBuffer,
     out: &mut O,
 ) -> Result<Outcome, Failed>
     requires { IsTiling tiling.now }
-    ensures reply { Replies (Tells CodeCommand.Word tiling.now) (INLINE_ORDER < order tiling.now) (O.written out.old) (O.written out.new) result }
+    ensures reply { Replies (Tells CodeCommand.Word tiling.now) (16 < order tiling.now) (O.written out.old) (O.written out.new) result }
     ensures cause { HasCause (O.faults out.old) (O.faults out.new) result }
 {
     match word_of(alloc, tiling) {

@@ -7,8 +7,8 @@ ghost use Rattle.bk_answer.specs.Replies.{Replies};
 
 use crate::answer::{LONGEST_LINE, refuse};
 use crate::command::accepted;
-use arrayvec::ArrayVec;
 use bk_flow::{FlowFault, solve};
+use bk_grammar::AnswerBuffer;
 use bk_lines::Outcome;
 use bk_net::{Net, NetFault, NetLine, read_net};
 use bk_ports::{Failed, Sink};
@@ -19,10 +19,10 @@ use std::alloc::Global;
 pub(crate) fn answer_net_line<O: Sink>(
     alloc: Global,
     line: &[u8],
-    buffer: &mut ArrayVec<u8, 9000>,
+    buffer: &mut AnswerBuffer,
     out: &mut O,
 ) -> Result<Outcome, Failed>
-    requires { length line.now ≤ LONGEST_LINE }
+    requires { length line.now ≤ 8192 }
     ensures reply { Replies (AnswersNetLine line.now) (MayWantForNet line.now) (O.written out.old) (O.written out.new) result }
     ensures cause { HasCause (O.faults out.old) (O.faults out.new) result }
 {
@@ -37,7 +37,7 @@ pub(crate) fn answer_net_line<O: Sink>(
 fn answer_net<O: Sink>(
     alloc: Global,
     net: &Net,
-    buffer: &mut ArrayVec<u8, 9000>,
+    buffer: &mut AnswerBuffer,
     out: &mut O,
 ) -> Result<Outcome, Failed>
     ensures reply { Replies (AnswersNet net.now) (NetWants net.now) (O.written out.old) (O.written out.new) result }

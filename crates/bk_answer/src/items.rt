@@ -5,7 +5,7 @@ ghost use Rattle.bk_text.specs.CodeLine.{Flat, Item};
 ghost use Rattle.bk_code.specs.Code.{flat};
 ghost use Rattle.bk_text.specs.Gathered.{line_gathered};
 ghost use Rattle.bk_text.specs.ReadLine.{IsInRange};
-ghost use Rattle.bk_answer.specs.Item.{IsLaidItem, IsLaidLine, IsSize, laid_if, order_of};
+ghost use Rattle.bk_answer.specs.Item.{IsLaidItem, IsLaidLine, IsSize, laid_if, side_count};
 ghost use Rattle.bk_answer.specs.Refusing.{IsItemRefused, IsLineRefused, refused_for, refused_text};
 
 use crate::answer::LONGEST_LINE;
@@ -70,7 +70,7 @@ fn lay_item(ending: Ending, desk: &mut Desk) -> Result<bool, Refused>
     requires { IsInRange (line_gathered ending desk.old.gatherer) }
     ensures laid { IfOk result (λ some. IsLaidItem (line_gathered ending desk.old.gatherer) (laid_if some desk.new.tiling)) }
     ensures refused { IfErr result (IsItemRefused (line_gathered ending desk.old.gatherer)) }
-    ensures few { order_of (line_gathered ending desk.old.gatherer) ≤ MOST_SQUARES }
+    ensures few { side_count (line_gathered ending desk.old.gatherer) ≤ 200 }
 {
     match ending {
         Ending::Empty => Ok(false),
@@ -102,7 +102,7 @@ fn lay_groups(
     requires { 0 < length code.now }
     ensures laid { IfOk result (λ some. IsLaidItem (Item order size code.now) (laid_if some tiling.new)) }
     ensures refused { IfErr result (IsItemRefused (Item order size code.now)) }
-    ensures few { length (flat code.now) ≤ MOST_SQUARES }
+    ensures few { length (flat code.now) ≤ 200 }
 {
     let sides = flat(code).len();
     if !allows_order(order, sides) {

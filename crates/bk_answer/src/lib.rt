@@ -6,8 +6,8 @@ ghost use Rattle.bk_answer.specs.AnswerLaws.{AFrontHasTheAnswer, ALineHasOneAnsw
 mod answer;
 mod command;
 mod flow;
+mod images_and_drawing;
 mod items;
-mod several;
 mod solve;
 
 pub use answer::{LONGEST_LINE, LineAnswerer};

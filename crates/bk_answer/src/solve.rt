@@ -8,7 +8,7 @@ ghost use Rattle.bk_answer.specs.WordAnswer.{AnswersWord, AnswersWordLine, MayWa
 
 use crate::answer::{LONGEST_LINE, refuse};
 use crate::command::accepted;
-use arrayvec::ArrayVec;
+use bk_grammar::AnswerBuffer;
 use bk_lines::Outcome;
 use bk_ports::{Failed, Sink};
 use bk_report::{Refused, write_tiling};
@@ -20,10 +20,10 @@ use std::alloc::Global;
 pub(crate) fn answer_word_line<O: Sink>(
     alloc: Global,
     line: &[u8],
-    buffer: &mut ArrayVec<u8, 9000>,
+    buffer: &mut AnswerBuffer,
     out: &mut O,
 ) -> Result<Outcome, Failed>
-    requires { length line.now ≤ LONGEST_LINE }
+    requires { length line.now ≤ 8192 }
     ensures reply { Replies (AnswersWordLine line.now) (MayWantForWord line.now) (O.written out.old) (O.written out.new) result }
     ensures cause { HasCause (O.faults out.old) (O.faults out.new) result }
 {
@@ -45,11 +45,11 @@ pub(crate) fn answer_word_line<O: Sink>(
 fn answer_word<O: Sink>(
     alloc: Global,
     word: &Word,
-    buffer: &mut ArrayVec<u8, 9000>,
+    buffer: &mut AnswerBuffer,
     out: &mut O,
 ) -> Result<Outcome, Failed>
     requires { 0 < length word.now }
-    ensures reply { Replies (AnswersWord word.now) (INLINE_ORDER < order_of word.now) (O.written out.old) (O.written out.new) result }
+    ensures reply { Replies (AnswersWord word.now) (16 < order_of word.now) (O.written out.old) (O.written out.new) result }
     ensures cause { HasCause (O.faults out.old) (O.faults out.new) result }
 {
     match realise(alloc, word) {

@@ -8,9 +8,6 @@ use Rattle.bk_ask.specs.Options.{Given, IsLeftOut, MayHave, NamedValue, NamesDif
 abbrev pub option_of : List ℕ → List ℕ → NamedValue
 option_of name value = record { name = name; value = value }
 
-pub first_stands : {X : Type 0} (x : X) (xs : List X) → Contains (x ∷ xs) x
-first_stands x xs = (0, omega arith, refl)
-
 pub later_stands : {X : Type 0} (y : X) (xs : List X) (x : X) → Contains xs x → Contains (y ∷ xs) x
 later_stands y xs x (k, lt, is) = (suc k, omega arith, is)
 

@@ -30,29 +30,12 @@ one_more names name value words known out are = record {
 pub first_known : (names : List (List ℕ)) (name value : List ℕ) (words : List (List ℕ)) → AreOptions names (name ∷ value ∷ words) → Contains names name
 first_known names name value words are = are.known.0
 
-pub first_once : (names : List (List ℕ)) (name value : List ℕ) (words : List (List ℕ)) → AreOptions names (name ∷ value ∷ words)
-    → IsLeftOut (options_in words) name
-first_once names name value words are = are.once.0
-
 pub one_less : (names : List (List ℕ)) (name value : List ℕ) (words : List (List ℕ)) → AreOptions names (name ∷ value ∷ words) → AreOptions names words
 one_less names name value words are = record {
   whole = ap (λ (line : List (List ℕ)). drop 2 line) are.whole;
   known = are.known.1;
   once = are.once.1;
 }
-
-pub stand_start : (names words : List (List ℕ)) → StandOrFall names words words
-stand_start names words = record { stand = λ are. are; fall = λ are. are }
-
-pub stand_more : (names all : List (List ℕ)) (name value : List ℕ) (words : List (List ℕ)) → Contains names name → IsLeftOut (options_in words) name
-    → StandOrFall names all (name ∷ value ∷ words) → StandOrFall names all words
-stand_more names all name value words known out so = record {
-  stand = λ are. so.stand (one_more names name value words known out are);
-  fall = λ are. one_less names name value words (so.fall are);
-}
-
-pub say_start : (name : List ℕ) (words : List (List ℕ)) → SayTheSame name words words
-say_start name words = record { out = λ out. out; has = λ value has. has }
 
 pub say_more : (name : List ℕ) (all : List (List ℕ)) (first value : List ℕ) (words : List (List ℕ)) → first ≢ name
     → SayTheSame name all (first ∷ value ∷ words) → SayTheSame name all words

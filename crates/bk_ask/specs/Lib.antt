@@ -1,3 +1,4 @@
+-- What the crate says.
 pub mod Options
 pub mod OptionValues
 pub mod Asked

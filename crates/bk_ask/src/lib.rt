@@ -10,8 +10,7 @@ mod commands;
 mod options;
 mod values;
 
-use arrayvec::ArrayVec;
-use bk_grammar::push_bytes;
+use bk_grammar::{AnswerBuffer, push_bytes};
 use bk_word::{Class, Word};
 use commands::{command_alone, listing, pair, trial, verify};
 use std::alloc::Global;
@@ -121,7 +120,7 @@ help: this text\n";
 
 /// Clears the buffer and leaves the text of `help`: how a command line is built, and a line for each command. The text is
 /// our own.
-pub fn write_help(out: &mut ArrayVec<u8, 9000>)
+pub fn write_help(out: &mut AnswerBuffer)
     ensures { out.new.items ≡ help_text }
 {
     out.clear();

@@ -6,7 +6,8 @@ use Rattle.bk_tiling.specs.Tiling.{IsOneOf, IsTiling, IsWithin, Tiling, covers, 
 use Rattle.bk_tiling.specs.declared.Square.{Square}
 use Rattle.bk_sym.specs.Canonical.{IsCanonical}
 use Rattle.bk_sym.specs.declared.Turn.TheVariants.{FlipX, FlipY, Half, Same}
-use Rattle.bk_barren.proofs.CornerLaws.{HasHead, corners_are_no_longer, top_left_first}
+use Rattle.bk_sym.proofs.FirstSide.{HasHead, top_left_first}
+use Rattle.bk_barren.proofs.CornerLaws.{corners_are_no_longer}
 use Rattle.bk_barren.specs.Corners.{IsTopLeft}
 
 head_at : (squares : List Square) (q d : Square) → HasHead squares q → slice_index_or squares 0 d ≡ q

@@ -2,7 +2,8 @@
 use Rattle.std.proofs.Common.{arith, subst, ◌+◌}
 use Rattle.bk_word.specs.Play.{outline_of}
 use Rattle.bk_word.specs.Word.{order_of}
-use Rattle.bk_barren.proofs.ClearLines.{clear_word, line_left}
+use Rattle.bk_barren.proofs.ClearLines.{clear_word}
+use Rattle.bk_barren.proofs.LinesLeft.{line_left}
 use Rattle.bk_barren.proofs.VerticalParts.{line_is_compound}
 use Rattle.bk_barren.proofs.CuttingBounds.{without_pairs}
 use Rattle.bk_bounds.proofs.WordBoundLaws.{lines_are_hung}

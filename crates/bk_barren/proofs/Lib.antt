@@ -2,10 +2,13 @@ pub mod CornerLaws
 pub mod CornerTest
 pub mod Parts
 pub mod VerticalParts
+pub mod ClearSegments
 pub mod ClearLines
+pub mod LinesLeft
 pub mod Cutting
 pub mod CuttingPairs
 pub mod CuttingFirst
 pub mod CuttingBounds
 pub mod CuttingLines
 pub mod BegunWords
+pub mod BarrenExamples

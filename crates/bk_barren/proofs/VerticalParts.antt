@@ -12,7 +12,7 @@ use Rattle.bk_simple.specs.Simple.{IsCompound}
 use Rattle.bk_lay.proofs.SquaresOnce.{squares_once}
 use Rattle.bk_lay.proofs.WordPlay.{fewer}
 use Rattle.bk_barren.proofs.Parts.{compound, lies_within, within_from, within_to}
-use Rattle.bk_barren.proofs.ClearLines.{LineLeft}
+use Rattle.bk_barren.proofs.LinesLeft.{LineLeft}
 
 fewer_pass : (p : Square → Bool) (squares : List Square) → length (filter p squares) ≤ length squares
 fewer_pass p [] = omega arith

@@ -1,6 +1,7 @@
 -- What a walk through the legal words may pass over: the words that begin with certain moves, because no member of
 -- the catalogue has such a word. Statements alone; they are proved apart.
-use Rattle.std.specs.Prelude.{Contains, [], length, ℕ, ◌++◌, ◌-◌, ◌<◌, ◌∷◌, ◌≡◌, ◌≤◌, ◌⊎◌}
+-- Example (BarrenExamples): no member's word begins with 2u.1e or with 2a, and of an order of at least 3 none with 2e.
+use Rattle.std.specs.Prelude.{Contains, [], length, ℕ, ◌++◌, ◌<◌, ◌∷◌, ◌≡◌, ◌≤◌, ◌⊎◌}
 use Rattle.bk_word.specs.Outline.{valley_of}
 use Rattle.bk_word.specs.Play.{outline_of}
 use Rattle.bk_word.specs.Word.{Move, Word, order_of}

@@ -1,3 +1,4 @@
+-- What the crate says.
 pub mod Cuts
-pub mod Corners
 pub mod BoundCuts
+pub mod Corners

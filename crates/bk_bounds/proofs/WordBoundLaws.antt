@@ -88,6 +88,7 @@ singles_left o (m ∷ rest) legal shaped one pairs last = omega (
   order_more m rest,
 )
 
+-- a complete word without pairs hangs one more square for each valley of one square
 pub singles_are_hung : SinglesAreHung
 singles_are_hung front rest complete pairs = omega (
   arith,
@@ -133,6 +134,7 @@ lines_left o lines (m ∷ rest) legal shaped long one pairs last none = omega (
   order_more m rest,
 )
 
+-- and one more where lines from the top end on a segment
 pub lines_are_hung : LinesAreHung
 lines_are_hung front rest complete pairs none = omega (
   arith,

@@ -143,6 +143,7 @@ module _ (t : Tiling) (w : Word) (f : Flow) (tiling : IsTiling t) (primitive : I
   side_some : (k : ℕ) → k < length t.squares → 0 < (square_of t (s.square k)).s
   side_some k h = side_of t tiling (square_of t (s.square k)) (in_square t tiling (s.square k) (square_below t tiling w s k h))
 
+  -- the candidate has the size of the tiling and, in another order, its squares
   pub candidate : IsCandidateOf t w s f
   candidate = record {
     width = same.0;
@@ -161,5 +162,6 @@ module _ (t : Tiling) (w : Word) (f : Flow) (tiling : IsTiling t) (primitive : I
         ∙ other_in_order t tiling s.square (square_below t tiling w s) (square_apart t tiling w s);
   }
 
+-- so it is for each primitive flow of the net, which is the signed one
 pub the_candidate_is_the_tiling : TheCandidateIsTheTiling
 the_candidate_is_the_tiling t w f tiling primitive s flow positive lowest = candidate t w f tiling primitive s flow positive lowest

@@ -37,6 +37,7 @@ count_squares p f b (q ∷ squares) each = omega (
     next : (k : ℕ) → b + 1 + k ≡ b + suc k
     next k = omega arith
 
+-- a square of the list is that of one of the numbers
 pub number_in : (f : ℕ → Square) (b n : ℕ) (q : Square) → IsOneOf q (map f (numbers_from b n)) → (k : ℕ) × (k < b + n) × (f k ≡ q)
 number_in f b zero q h = absurd h
 number_in f b (suc n) q (inl e) = (b, omega arith, sym e)
@@ -44,6 +45,7 @@ number_in f b (suc n) q (inr h) = let k = number_in f (b + 1) n q h in (k.0, ome
 
 module _ (t : Tiling) (tiling : IsTiling t) (square : ℕ → ℕ) (below : (k : ℕ) → k < length t.squares → square k < length t.squares)
     (apart : (j k : ℕ) → j < length t.squares → k < length t.squares → square j ≡ square k → j ≡ k) where
+  -- the squares of the tiling in the other order
   abbrev pub other : List Square
   other = map (λ k. square_of t (square k)) (numbers_from 0 (length t.squares))
 
@@ -57,6 +59,7 @@ module _ (t : Tiling) (tiling : IsTiling t) (square : ℕ → ℕ) (below : (k :
       from_zero : (k : ℕ) → 0 + k ≡ k
       from_zero k = omega arith
 
+  -- each of them is one of the tiling
   pub of_other : (q : Square) → IsOneOf q other → IsOneOf q t.squares
   of_other q h = from (number_in (λ k. square_of t (square k)) 0 (length t.squares) q h)
     where
@@ -69,6 +72,7 @@ module _ (t : Tiling) (tiling : IsTiling t) (square : ℕ → ℕ) (below : (k :
   first_cell : (q : Square) → IsOneOf q t.squares → covers q.x q.y q ≡ true
   first_cell q h = covers_from q.x q.y q (omega arith) (omega (arith, side_of t tiling q h)) (omega arith) (omega (arith, side_of t tiling q h))
 
+  -- and each of the tiling is among them
   pub in_other : (q : Square) → IsOneOf q t.squares → IsOneOf q other
   in_other q h = from (counted_one (covers q.x q.y) other (omega (arith, counts (covers q.x q.y), one_counted (covers q.x q.y) t.squares q h (first_cell q h))))
     where
@@ -84,10 +88,12 @@ module _ (t : Tiling) (tiling : IsTiling t) (square : ℕ → ℕ) (below : (k :
         (omega arith) (omega (arith, (within_of t tiling q (of_other q h)).bottom, side_of t tiling q (of_other q h))),
   )
 
+  -- put in the order of a code they are the tiling's squares
   pub other_in_order : in_code_order other ≡ t.squares
   other_in_order = same_members (in_code_order other) t.squares (ordered other (λ q h. side_of t tiling q (of_other q h)) once)
       tiling.ordered (λ q h. of_other q (from_order other q h)) (λ q h. in_order other q (in_other q h))
 
+  -- and they tile the whole rectangle
   pub other_tiles : Tiles (whole t) other
   other_tiles = record {
     some = omega (arith, tiling.tiles.some, numbers_length {A = Square} (λ k. square_of t (square k)) 0 (length t.squares));

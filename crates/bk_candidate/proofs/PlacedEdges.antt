@@ -24,6 +24,7 @@ index_new (r ∷ rs) x zero d e = absurd (omega (arith, e))
 index_new (r ∷ rs) x (suc k) d e = index_new rs x k d (omega (arith, e))
 
 module _ (t : Tiling) (turned : ℕ → Bool) (square : ℕ → ℕ) where
+  -- the column of the right edge, as the word takes it, of the square at place k
   abbrev pub ends_at : ℕ → ℕ
   ends_at k = right_edge t turned (square k)
 
@@ -32,6 +33,7 @@ module _ (t : Tiling) (turned : ℕ → Bool) (square : ℕ → ℕ) where
     pub many : length rs ≡ b
     pub each : (k : ℕ) → k < b → slice_index_or rs k (pos 0) ≡ pos (ends_at k)
 
+  -- the column that is computed for a line is that of the line
   pub place_is : (total : ℤ) → total ≡ pos t.width → (b : ℕ) (rs : List ℤ) → StandRight b rs → (f : ℕ) → f < b + 2
       → line_place total rs f ≡ pos (line_column t turned square f)
   place_is total wide b rs right zero h = refl
@@ -59,6 +61,7 @@ module _ (t : Tiling) (turned : ℕ → Bool) (square : ℕ → ℕ) where
           cases (inr l) = let same : b ≡ k = omega arith in index_new rs x k (pos 0) (omega (arith, same, right.many)) ∙ edge
               ∙ ap (λ (i : ℕ). pos (ends_at i)) same
 
+  -- from square to square the right edges are those of the tiling's squares
   pub edges_are : (total : ℤ) → total ≡ pos t.width → (b : ℕ) (sides : List (ℕ × ℕ)) (rs : List ℤ) → StandRight b rs
       → ((j : ℕ) (p : ℕ × ℕ) → slice_get sides j ≡ Some p → (left_edge t turned (square (b + j)) ≡ line_column t turned square p.0) × (p.0 < b + j + 2))
       → StandRight (b + length sides) (right_edges_from total rs sides (map (λ k. signed_side t turned (square k)) (numbers_from b (length sides))))

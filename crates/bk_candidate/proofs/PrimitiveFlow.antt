@@ -11,7 +11,7 @@ use Rattle.bk_tiling.specs.Scale.{IsPrimitiveTiling}
 use Rattle.bk_tiling.specs.Tiling.{IsOneOf, IsTiling, Tiling}
 use Rattle.bk_tiling.specs.declared.Square.{Square}
 use Rattle.bk_net.specs.Flow.{Flow, IsFlow, IsPrimitive, potential}
-use Rattle.bk_net.specs.Net.{HasNoLoose, IsJoined, Net, against, along, here, last_node}
+use Rattle.bk_net.specs.Net.{HasNoLoose, IsJoined, Net, against, along, here}
 use Rattle.bk_word.specs.Word.{Word}
 use Rattle.bk_tiling_layout.specs.TilingLayout.{square_of}
 use Rattle.bk_candidate.proofs.OtherOrder.{in_other, number_in}
@@ -34,6 +34,7 @@ module _ (t : Tiling) (tiling : IsTiling t) (primitive : IsPrimitiveTiling t) (w
       from : (k : ℕ) × (k < 0 + length t.squares) × (square_of t (s.square k) ≡ q) → (m : ℕ) × (q.s ≡ d * m)
       from (k, low, e) = (q.s / d, sym (mul-div_cancel' d (subst (λ (r : Square). d ∣ r.s) e (each k (omega (arith, low))))))
 
+  -- no number above 1 divides the width and all signed sides
   pub signed_flow_is_primitive : IsPrimitive (signed_flow t w s)
   signed_flow_is_primitive d total currents = omega (arith, primitive d (all_from (λ q. (m : ℕ) × (q.s ≡ d * m)) t.squares (side_of_other d each)))
     where
@@ -72,5 +73,6 @@ module _ (net : Net) (f g : Flow) (flow : IsFlow net f) (other : IsFlow net g) (
     joined_same j,
   )
 
+  -- flows of one net with the same currents have the same levels
   pub same_levels : HasNoLoose net → 0 < net.nodes → (v : ℕ) → v < net.nodes → level_in f v ≡ level_in g v
   same_levels joined some v h = omega (arith, ints, joined_same (joined 0 some), joined_same (joined v h))

@@ -1,1 +1,2 @@
+-- What the crate says.
 pub mod Candidate

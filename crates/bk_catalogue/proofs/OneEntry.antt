@@ -14,5 +14,6 @@ same_tiling n class e f is that same = a_word_has_one_primitive_tiling e.tiling 
 both_parts : (e f : Entry) → e.tiling ≡ f.tiling → e.word ≡ f.word → e ≡ f
 both_parts e f t w = λ i. record { tiling = t i; word = w i }
 
+-- entries of the catalogue with one word are one
 pub one_entry : (n : ℕ) (class : Class) (e f : Entry) → IsEntry n class e → IsEntry n class f → e.word ≡ f.word → e ≡ f
 one_entry n class e f is that same = both_parts e f (same_tiling n class e f is that same) same

@@ -56,6 +56,7 @@ module _ (t : Tiling) (tiling : IsTiling t) (own : IsCanonical t) (few : length 
       (small_nets_have_small_flows (smith_diagram t) (pos t.width) (map (λ q. pos q.s) t.squares) (sides_are_the_one_flow t tiling).0
       (sides_are_the_one_flow t tiling).1 (omega (arith, wires, few)) flow)
 
+  -- the sides and the size of such a tiling are small numbers
   pub small_tiling : IsSmallTiling t
   small_tiling =
       let sides : AllByRecursion (λ q. q.s ≤ 2 ^ 34) t.squares = small_sides t.squares bounds.1 in
@@ -74,5 +75,6 @@ module _ (t : Tiling) (tiling : IsTiling t) (own : IsCanonical t) (few : length 
         };
       }
 
+-- so it is for each member
 pub members_are_small : MembersAreSmall
 members_are_small n class t small member = small_tiling t member.tiling member.canonical (omega (arith, small, member.order))

@@ -1,5 +1,6 @@
 -- Bouwkamp codes: the sides of a tiling from top to bottom and from left to right, in groups of squares that
 -- hang side by side from one level.
+-- Example (CodeExamples): the code of the rectangle 33x32 is [18,15][7,8][14,4][10,1][9]; [2,1] comes before [2,1][1].
 use Rattle.std.specs.Cmp.Lexicographic.{slice_cmp}
 use Rattle.std.specs.Ordering.{nat_cmp}
 use Rattle.std.specs.declared.cmp.Ordering.{Ordering}

@@ -1,4 +1,5 @@
 -- How a `Code` is stored: all sides in order, and the places among them at which groups begin.
+-- Example (CodeExamples): in the code of the rectangle 33x32 groups begin at the places 0, 2, 4, 6 and 8.
 use Rattle.std.specs.Prelude.{List, [], drop, length, slice_range, ℕ, ◌<◌, ◌∷◌, ◌≡◌}
 use Rattle.bk_code.specs.Code.{Code}
 use Rattle.bk_code.specs.Kept.{IsKeptCode}

@@ -119,3 +119,45 @@ fn one_canonical(rt: HostRuntime) -> Result<(), Fail> {
     );
     Ok(())
 }
+
+// A simple tiling of a square, of thirteen squares: each of its eight images lies.
+#[test]
+fn one_canonical_square(rt: HostRuntime) -> Result<(), Fail> {
+    let square = tiling(
+        23,
+        23,
+        &[
+            (0, 0, 12),
+            (12, 0, 11),
+            (12, 11, 2),
+            (14, 11, 5),
+            (19, 11, 4),
+            (0, 12, 11),
+            (11, 12, 1),
+            (11, 13, 3),
+            (19, 15, 1),
+            (20, 15, 3),
+            (11, 16, 7),
+            (18, 16, 2),
+            (18, 18, 5),
+        ],
+    )?;
+    let rows: [(Turn, [u64; 13]); 8] = [
+        (Turn::Same, [12, 11, 2, 5, 4, 11, 1, 3, 1, 3, 7, 2, 5]),
+        (Turn::FlipX, [11, 12, 4, 5, 2, 1, 11, 3, 3, 1, 2, 7, 5]),
+        (Turn::FlipY, [11, 7, 5, 2, 3, 3, 5, 1, 4, 1, 2, 12, 11]),
+        (Turn::Half, [5, 7, 11, 3, 2, 1, 5, 3, 4, 2, 1, 12, 11]),
+        (Turn::Swap, [12, 11, 1, 3, 7, 11, 2, 5, 2, 5, 4, 1, 3]),
+        (Turn::SwapFlipX, [11, 12, 7, 3, 1, 2, 11, 5, 5, 2, 1, 4, 3]),
+        (Turn::SwapFlipY, [11, 4, 3, 5, 1, 2, 5, 7, 2, 3, 12, 1, 11]),
+        (Turn::SwapHalf, [5, 3, 4, 11, 2, 1, 5, 7, 3, 2, 1, 12, 11]),
+    ];
+    let (_, greatest) = rows[0];
+    for (which, sides) in rows {
+        let turned = image(&square, which);
+        assert_sides(&rt, &turned, 23, 23, &sides);
+        assert_eq!(rt; is_canonical(&turned), which == Turn::Same);
+        assert_sides(&rt, &canonical(&turned), 23, 23, &greatest);
+    }
+    Ok(())
+}

@@ -198,3 +198,33 @@ fn diagrams_of_two_hundred_squares(rt: HostRuntime) -> Result<(), Fail> {
     assert!(rt; gives(&rt, "flow", &net, &currents)?);
     Ok(())
 }
+
+// Two hundred squares of side 1 or of the longest side are one canonical item, which is no member.
+#[test]
+fn lists_of_two_hundred_squares(rt: HostRuntime) -> Result<(), Fail> {
+    let mut group = ArrayVec::new();
+    add(
+        &mut group,
+        "200x1 1\n1 [1",
+        ",1",
+        199,
+        "]\n; groups 1 items 1 refused 0\n",
+    );
+    for part in ["[1]", "[999999999999999]"] {
+        let mut tower = ArrayVec::new();
+        add(&mut tower, "", part, 200, "");
+        assert!(rt; gives(&rt, "alike", &tower, &group)?, "{part}");
+        assert!(rt; is_foreign(&rt, &tower)?, "{part}");
+    }
+    assert!(rt; is_foreign(&rt, b"[999999999999999]")?);
+    Ok(())
+}
+
+// Whether an item is foreign to the catalogue of order 8, which has no member.
+fn is_foreign(rt: &HostRuntime, item: &[u8]) -> Result<bool, AllocError> {
+    let mut text = ArrayVec::new();
+    let status = ran(rt, "verify --order 8", item, 999, &mut text)?;
+    let want =
+        b"line 1 foreign\n; end order 8 members 0 missing 0 foreign 1 repeated 0 refused 0\n";
+    Ok(status == 1 && text.as_slice() == want.as_slice())
+}

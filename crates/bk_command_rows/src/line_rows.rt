@@ -29,6 +29,10 @@ fn codes_are_checked(rt: HostRuntime) -> Result<(), Fail> {
              ; end order 9 listed 2\n",
             "ok 9 33x32 perfect simple\nok 9 69x61 perfect simple\n",
         ),
+        (
+            "[12,11][2,5,4][11,1][3][1,3][7,2][5]",
+            "ok 13 23x23 imperfect 1 simple\n",
+        ),
         ("[1]", "ok 1 1x1 perfect simple\n"),
         ("[1][1]", "ok 2 1x2 imperfect 1 simple\n"),
         ("[1,1][1,1]", "ok 4 2x2 imperfect 1 compound 0,0 2x1\n"),
@@ -123,6 +127,13 @@ fn tilings_are_turned_hung_and_drawn(rt: HostRuntime) -> Result<(), Fail> {
             no_pairs,
             0,
             "33x32 [18,15][7,8][14,4][10,1][9]\n",
+        ),
+        (
+            "canon",
+            "[5,3,4,11][2,1][5][7][3,2][1,12][11]",
+            no_pairs,
+            0,
+            "23x23 [12,11][2,5,4][11,1][3][1,3][7,2][5]\n",
         ),
         (
             "images",

@@ -1,7 +1,7 @@
 //! Listings and trials, as tables.
 
 use crate::command_words::words;
-use bk_ports::{MemSink, MemSource};
+use bk_ports::{MemSink, MemSource, Sink};
 use bk_top::run;
 use std::alloc::AllocError;
 use std::test::Fail;
@@ -66,6 +66,11 @@ fn order_nine(rt: HostRuntime) -> Result<(), Fail> {
         (
             "list --order 9 --class imperfect",
             "9 15x11 [6,4,5][3,1][6][5,1][4] ; 3ua.2aue.2ue.1a.1ee\n; end order 9 class imperfect listed 1\n",
+        ),
+        (
+            "list --order 13 --class imperfect --from 2u.3aau.2ue.1ue.2ea.2eue --limit 1",
+            "13 23x23 [12,11][2,5,4][11,1][3][1,3][7,2][5] ; 2u.3aau.2ue.1ue.2ea.2eue.1e\n\
+             ; limit order 13 class imperfect listed 1\n",
         ),
         (
             "list --order 9 --class simple",
@@ -164,6 +169,41 @@ fn order_ten(rt: HostRuntime) -> Result<(), Fail> {
         command = format!(in rt.alloc(); "list --order 10 --limit 1 --from {word}")?;
     }
     assert!(rt; gives(&rt, command.as_str(), &[], 0, "; end order 10 listed 0\n")?);
+    Ok(())
+}
+
+// The entries of order 11, whole, and then in three parts, each after the last word of the part before: the eighth and the
+// sixteenth of 22.
+#[test]
+fn order_eleven(rt: HostRuntime) -> Result<(), Fail> {
+    let mut room = [0; 4000];
+    let mut out = MemSink::new(&mut room, &[]);
+    assert_eq!(rt; listed(&rt, "list --order 11", &mut out)?, 0);
+    let mut parts = [0; 4000];
+    let mut together = MemSink::new(&mut parts, &[]);
+    for (line, last) in [
+        ("list --order 11 --limit 8", "; limit order 11 listed 8\n"),
+        (
+            "list --order 11 --limit 8 --from 2u.2aa.3uuu.2eaa.1ee.1ee",
+            "; limit order 11 listed 8\n",
+        ),
+        (
+            "list --order 11 --from 2u.3eaa.3uue.2eae.1ee",
+            "; end order 11 listed 6\n",
+        ),
+    ] {
+        let mut room = [0; 2000];
+        let mut part = MemSink::new(&mut room, &[]);
+        assert_eq!(rt; listed(&rt, line, &mut part)?, 0);
+        let Some(entries) = part.written().strip_suffix(last.as_bytes()) else {
+            return Err(Fail::new("another end"));
+        };
+        assert!(rt; together.write_all(entries).is_ok(), "{line}");
+    }
+    let Some(entries) = out.written().strip_suffix(b"; end order 11 listed 22\n") else {
+        return Err(Fail::new("another end"));
+    };
+    assert_eq!(rt; entries, together.written());
     Ok(())
 }
 

@@ -24,6 +24,7 @@ glyph-side true edge e = omega (arith, e)
 glyph-side false true e = omega (arith, e)
 glyph-side false false e = omega (arith, e)
 
+-- no row that is drawn ends with a space
 pub no_row_ends_with_a_space : NoRowEndsWithASpace
 no_row_ends_with_a_space t y tiling low = end over.0 over.1 (over_from (t.width - 1) (min y (t.height - 1)) over.0 over.2)
   where

@@ -117,6 +117,7 @@ module _ (t : Tiling) (ordered : InCodeOrder t.squares) where
   all_in_range [] each = tt
   all_in_range (q ∷ squares) each = (in_range q (each q (inl refl)), all_in_range squares (λ p h. each p (inr h)))
 
+  -- each number in the order of the dual diagram is one from 1 to the order
   pub each_in_range : All (λ n. (0 < n) × (n ≤ order t)) (dual_order t)
   each_in_range = All-from_recursion (λ (n : ℕ). (0 < n) × (n ≤ order t)) (dual_order t) (all_in_range (image Swap t).squares (λ q h. h))
 

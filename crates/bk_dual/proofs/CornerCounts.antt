@@ -86,6 +86,7 @@ abbrev pub bottom_right : ℕ → ℕ → Square → Bool
 bottom_right x y q = on_right x q && on_bottom y q
 
 module _ (t : Tiling) (tiling : IsTiling t) (x y : ℕ) where
+  -- a square that has a corner at the point has one of its four corners there
   pub corners : count_by (is_corner x y) t.squares
       ≡ count_by (top_left x y) t.squares + count_by (bottom_left x y) t.squares + count_by (top_right x y) t.squares + count_by (bottom_right x y) t.squares
   corners = count_four (is_corner x y) (top_left x y) (bottom_left x y) (top_right x y) (bottom_right x y) t.squares
@@ -100,6 +101,8 @@ module _ (t : Tiling) (tiling : IsTiling t) (x y : ℕ) where
       (λ q h. both (nat_le q.x x && nat_lt x (q.x + q.s)) (on_left x q) (between x q) (nat_le q.y y && nat_lt y (q.y + q.s)) (on_top y q) (among y q)
       (here q.x q.s x (side_of t tiling q h)) (here q.y q.s y (side_of t tiling q h)))
 
+  -- over the cell at the left of the point lies a square with its top right corner there, its right side, its upper side or its
+  -- inside
   pub over_left : 0 < x → count_by (covers (x - 1) y) t.squares
       ≡ count_by (top_right x y) t.squares + count_by (λ q. on_right x q && among y q) t.squares + count_by (λ q. between x q && on_top y q) t.squares +
       count_by (λ q. between x q && among y q) t.squares
@@ -108,6 +111,7 @@ module _ (t : Tiling) (tiling : IsTiling t) (x y : ℕ) where
       (λ q h. both (nat_le q.x (x - 1) && nat_lt (x - 1) (q.x + q.s)) (on_right x q) (between x q) (nat_le q.y y && nat_lt y (q.y + q.s)) (on_top y q)
       (among y q) (before q.x q.s x (side_of t tiling q h) some) (here q.y q.s y (side_of t tiling q h)))
 
+  -- over the cell above it one with its bottom left corner there, its left side, its lower side or its inside
   pub over_above : 0 < y → count_by (covers x (y - 1)) t.squares
       ≡ count_by (bottom_left x y) t.squares + count_by (λ q. on_left x q && among y q) t.squares + count_by (λ q. between x q && on_bottom y q) t.squares +
       count_by (λ q. between x q && among y q) t.squares
@@ -116,6 +120,7 @@ module _ (t : Tiling) (tiling : IsTiling t) (x y : ℕ) where
       (λ q h. both (nat_le q.x x && nat_lt x (q.x + q.s)) (on_left x q) (between x q) (nat_le q.y (y - 1) && nat_lt (y - 1) (q.y + q.s)) (on_bottom y q)
       (among y q) (here q.x q.s x (side_of t tiling q h)) (before q.y q.s y (side_of t tiling q h) some))
 
+  -- and over the cell at its left and above one with its bottom right corner there, its right side, its lower side or its inside
   pub over_both : 0 < x → 0 < y → count_by (covers (x - 1) (y - 1)) t.squares
       ≡ count_by (bottom_right x y) t.squares + count_by (λ q. on_right x q && among y q) t.squares + count_by (λ q. between x q && on_bottom y q) t.squares +
       count_by (λ q. between x q && among y q) t.squares
@@ -146,16 +151,20 @@ no_among : (q : Square) → among 0 q ≡ true → ⊥
 no_among q e = grind (arith, nat_tests)
 
 module _ (t : Tiling) (tiling : IsTiling t) (other : Square → Bool) where
+  -- no right side is at column 0
   pub none_right : count_by (λ q. on_right 0 q && other q) t.squares ≡ 0
   none_right = none_counted (λ q. on_right 0 q && other q) t.squares (λ q h e. no_right q (side_of t tiling q h) (and_left_true (on_right 0 q) (other q) e))
 
+  -- and no inside
   pub none_between : count_by (λ q. between 0 q && other q) t.squares ≡ 0
   none_between = none_counted (λ q. between 0 q && other q) t.squares (λ q h e. no_between q (and_left_true (between 0 q) (other q) e))
 
+  -- no lower side is at level 0
   pub none_bottom : count_by (λ q. other q && on_bottom 0 q) t.squares ≡ 0
   none_bottom = none_counted (λ q. other q && on_bottom 0 q) t.squares
       (λ q h e. no_bottom q (side_of t tiling q h) (and_right_true (other q) (on_bottom 0 q) e))
 
+  -- and no inside
   pub none_among : count_by (λ q. other q && among 0 q) t.squares ≡ 0
   none_among = none_counted (λ q. other q && among 0 q) t.squares (λ q h e. no_among q (and_right_true (other q) (among 0 q) e))
 
@@ -344,9 +353,12 @@ at_corner t tiling (suc x) (suc y) wide low some = omega (
         t.squares
     many = omega (arith, some, here_one, over_here t tiling (suc x) (suc y), meet, corners t tiling (suc x) (suc y))
 
+-- a square has its top left corner at its own place
 pub own_corner : (q : Square) → top_left q.x q.y q ≡ true
 own_corner q = grind (arith, nat_tests)
 
+-- at the top left corner of a square one other corner lies at its left or above, or the tiling's own corner, and one more at a
+-- crossing
 pub at_square : (t : Tiling) → IsTiling t → (q : Square) → IsOneOf q t.squares
     → count_by (top_right q.x q.y) t.squares + count_by (bottom_left q.x q.y) t.squares + cond {A = ℕ} ((q.x == 0) && (q.y == 0)) 1 0 ≡ 1 + cond {A = ℕ}
     (is_crossing t q.x q.y) 1 0

@@ -64,6 +64,7 @@ module _ (width height : ℕ) (test : ℕ → ℕ → Bool) where
       (λ x h. passing_none (test x q.y) (top_left x q.y q) (elsewhere_x x q.y q h))
       ∙ passing_one (test q.x q.y) (top_left q.x q.y q) (own_corner q)
 
+  -- counted point by point, the top left corners that pass a test are those counted square by square
   pub grid_squares : (squares : List Square) → ((q : Square) → IsOneOf q squares → (q.x ≤ width) × (q.y ≤ height))
       → grid (λ x y. if_passing (test x y) (count_by (top_left x y) squares)) ≡ sum_by (λ q. cond {A = ℕ} (test q.x q.y) 1 0) squares
   grid_squares [] inside = grid_none (λ x y. if_passing (test x y) (count_by (top_left x y) [])) (λ x y. nothing (test x y))
@@ -86,6 +87,7 @@ module _ (width height : ℕ) (test : ℕ → ℕ → Bool) where
 four_true : (n : ℕ) → (n == 4) ≡ true → n ≡ 4
 four_true n e = grind (arith, nat_tests)
 
+-- there are as many crossings as squares with a crossing at their top left corner
 pub crossings_at_squares : (t : Tiling) → IsTiling t → crossings t ≡ sum_by (λ q. cond {A = ℕ} (is_crossing t q.x q.y) 1 0) t.squares
 crossings_at_squares t tiling =
     grid_same t.width t.height (is_crossing t) (λ x y. cond {A = ℕ} (is_crossing t x y) 1 0)

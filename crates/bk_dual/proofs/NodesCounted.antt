@@ -103,5 +103,6 @@ module _ (t : Tiling) (tiling : IsTiling t) where
     one_first,
   )
 
+-- the nodes of both diagrams and the crossings are three more than the squares
 pub nodes_and_crossings : NodesAndCrossings
 nodes_and_crossings t tiling = omega (arith, own_groups t tiling, turned_groups t tiling, corners_sum t tiling, crossings_at_squares t tiling)

@@ -28,9 +28,11 @@ use Rattle.bk_dual.specs.Dual.{dual_flow, dual_order, number_at, side_numbered}
 abbrev pub stands_at : ℕ → ℕ → Square → Bool
 stands_at x y q = (q.x == x) && (q.y == y)
 
+-- a square stands at its own place
 pub stands_itself : (q : Square) → stands_at q.x q.y q ≡ true
 stands_itself q = grind (arith, nat_tests)
 
+-- and one that comes before it stands elsewhere
 pub earlier_stands_apart : (q r : Square) → comes_before r q ≡ true → stands_at q.x q.y r ≡ false
 earlier_stands_apart q r e = grind (arith, nat_tests)
 
@@ -48,6 +50,7 @@ module _ (squares : List Square) (ordered : InCodeOrder squares) (q : Square) (o
     pub at : (d : Square) → slice_index_or squares place d ≡ q
     pub is : position_or_len (stands_at q.x q.y) squares ≡ place
 
+  -- so a square's place in the list is the first at which one stands where it does
   pub has_place : HasPlace
   has_place = from (at_place squares q one)
     where
@@ -168,5 +171,6 @@ flow_same t currents e = λ i. record { total = pos t.height; potentials = map (
 pub dual_flow_is : (t : Tiling) → IsTiling (image Swap t) → dual_flow t ≡ smith_flow (image Swap t)
 dual_flow_is t tiling = flow_same t (map (λ n. pos (side_numbered t n)) (dual_order t)) (sides_same t tiling (image Swap t).squares (λ p h. h))
 
+-- a square for the places past the list
 abbrev pub nowhere : Square
 nowhere = record { x = 0; y = 0; s = 0 }

@@ -149,6 +149,7 @@ module _ (t : Tiling) (ordered : InCodeOrder t.squares) (tiling : IsTiling (imag
         right = at_right t tiling q one;
       }
 
+  -- each wire leads from the segment at the left of its square to that at its right
   pub wires_lead_across : WiresLeadAcross t (dual_order t)
   wires_lead_across k wire number at_wire at_number =
       subst (λ (w : ℕ × ℕ). LeadsAcross t w number) here

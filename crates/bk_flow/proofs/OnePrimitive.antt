@@ -69,6 +69,7 @@ same_list t (c ∷ cs) (d ∷ ds) some e = λ i. first t some (sym (head_same _ 
     first (pos n) some e = cancel_right n c d (omega (arith, ints, some)) e
     first (negsuc n) some e = absurd (omega (arith, ints, some))
 
+-- two primitive one flows of a net are one
 pub one_primitive : ThePrimitiveFlowIsOne
 one_primitive net total other_total currents other_currents (ps, flow, primitive) (rs, other, other_primitive) =
     let there = flow.proportional (record { total = other_total; potentials = rs; currents = other_currents }) other.flow in

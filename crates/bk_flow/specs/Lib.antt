@@ -1,3 +1,4 @@
+-- What the crate says.
 pub mod Table
 pub mod Wide
 pub mod FlowNumbers

@@ -1,4 +1,5 @@
 -- Why a net is refused.
+-- Example (FlowLawExamples): two nodes without wires are refused for node 0, the least loose one.
 use Rattle.std.specs.Prelude.{length, ◌<◌}
 use Rattle.bk_net.specs.Net.{HasNoLoose, IsLeastLoose, Net}
 use Rattle.bk_flow.specs.Wide.{IsWide}

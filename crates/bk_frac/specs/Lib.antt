@@ -1,4 +1,6 @@
+-- What the crate says.
 pub mod Divisor
 pub mod Fraction
-pub mod Inside
 pub mod Proportion
+-- How its code keeps it.
+pub mod Magnitude

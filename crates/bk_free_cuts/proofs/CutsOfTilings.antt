@@ -72,24 +72,30 @@ snoc front m rest w is = is ∙ append_assoc front (m ∷ []) rest
 pub staying_above_is_free_barren : StayingAboveIsFreeBarren
 staying_above_is_free_barren n front m not_free l w rest sound word is = not_free (free_fits l sound.fits w word front m rest (snoc front m rest w is))
 
+-- moves that leave one segment, while squares are left, begin no word of a sound layout
 pub one_segment_is_free_barren : OneSegmentIsFreeBarren
 one_segment_is_free_barren n front some few one l w rest sound word is =
     one_segment_fits l sound.fits w word sound.simple sound.walls front rest is some (omega (arith, few, sound.squares)) one
 
+-- nor do moves of which one has the sign even between two of its own squares
 pub even_squares_are_free_barren : EvenSquaresAreFreeBarren
 even_squares_are_free_barren n front m even l w rest sound word is = evens_fit l sound.fits w word sound.simple front m rest (snoc front m rest w is) even
 
+-- nor those of which one hangs one square under a segment of one square
 pub one_under_one_is_free_barren : OneUnderOneIsFreeBarren
 one_under_one_is_free_barren n front m count valley l w rest sound word is =
     pairs_fit l sound.fits w word sound.simple front m rest (snoc front m rest w is) valley count
 
+-- nor those after which too few squares are left for the segments that must be closed
 pub too_many_to_close_is_free_barren : TooManyToCloseIsFreeBarren
 too_many_to_close_is_free_barren n front few l w rest sound word is = omega (arith, few, sound.squares, closings_fit l sound.fits w word front rest is)
 
+-- nor for these and the valleys of one square
 pub too_many_singles_is_free_barren : TooManySinglesIsFreeBarren
 too_many_singles_is_free_barren n front least few l w rest sound word is =
     omega (arith, few, sound.squares, singles_fit l sound.fits w word sound.simple sound.walls front rest is (omega (arith, sound.squares, least)))
 
+-- nor for both and the lines that run down from the top
 pub too_many_lines_is_free_barren : TooManyLinesIsFreeBarren
 too_many_lines_is_free_barren n front least few l w rest sound word is =
     omega (arith, few, sound.squares, lines_fit l sound.fits w word sound.simple sound.walls front rest is (omega (arith, sound.squares, least)))

@@ -54,6 +54,7 @@ module _ (l : Layout) (fits : Fits l) (f : ℕ → ℕ) where
   abbrev square : ℕ → ℕ
   square = λ number. f (number - 1)
 
+  -- each square that is marked has a line from the top at its left
   abbrev pub AreOnTopLines : List Bool → Type 0
   AreOnTopLines lines = (k : ℕ) → slice_index_or lines k false ≡ true → IsTopLine l (l.left (f k))
 
@@ -81,6 +82,7 @@ module _ (l : Layout) (fits : Fits l) (f : ℕ → ℕ) where
         cases (inr (inl (g, h))) = same_line (length lines) k (sym g) (first_goes_on (valley_of o) refl h)
         cases (inr (inr (j, g, h, z))) = absurd (never (length o.closed) closed z)
 
+  -- marks that are right after some moves are right after all
   pub tops_along : (o : Outline) (lines : List Bool) (w : Word) → AreLegalFrom o w → length lines ≡ length o.hung → 0 < length o.closed
       → HangByLinesFrom l square o w → AreOnTopLines lines → AreOnTopLines (lines_along o lines w)
   tops_along o lines [] legal long closed by_lines tops = tops

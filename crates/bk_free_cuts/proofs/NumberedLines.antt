@@ -35,6 +35,7 @@ sides_long hung (suc zero) left right = refl
 sides_long hung (suc (suc more)) left right = ap suc (sides_long (suc hung) (suc more) (suc (suc hung)) right)
 
 module _ (l : Layout) (square : ℕ → ℕ) where
+  -- the two numbers of the square at place k stand for the lines at its left and right
   abbrev pub Stand : ℕ → ℕ → ℕ → Type 0
   Stand k f g = (l.left (square k) ≡ line_of l square f) × (l.right (square k) ≡ line_of l square g)
 

@@ -2,6 +2,7 @@
 -- tiling has such a word. It is said of sound layouts and not of tilings, since the words that a search meets also belong to
 -- layouts in which squares of the tiling are reversed. Each cut is one law that ends in `IsFreeBarren`.
 -- Statements alone; each is proved apart.
+-- Example (NodeCutExamples): no word of a sound layout begins with 3aa.2ue.1ea.
 use Rattle.std.specs.Prelude.{Contains, [], length, ℕ, ◌++◌, ◌+◌, ◌<◌, ◌∷◌, ◌≡◌, ◌≢◌, ◌≤◌}
 use Rattle.bk_simple.specs.Simple.{IsSimple}
 use Rattle.bk_tiling.specs.Tiling.{IsTiling, Tiling, order}

@@ -1,5 +1,6 @@
+-- What the crate says.
 pub mod FreeCuts
-pub mod OpenSegments
 pub mod SharedNodes
+pub mod OpenSegments
 pub mod LineNumbers
 pub mod NodeCut

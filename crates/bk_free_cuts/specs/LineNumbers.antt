@@ -1,7 +1,7 @@
 -- Lines as a word tells them, by numbers: 0 and 1 are the walls, and each gap between two squares of a move has a number of
 -- its own. They stand for the lines of the layout. A statement alone; it is proved apart.
 -- Example (NodeCutExamples): in 3aa.2ue.1ea the squares stand between the lines 0, 2; 2, 3; 3, 1; 0, 5; 5, 2; 5, 3.
-use Rattle.std.specs.Prelude.{List, Some, [], length, slice_get, slice_index_or, suc, zero, ℕ, ◌++◌, ◌-◌, ◌∷◌, ◌≡◌}
+use Rattle.std.specs.Prelude.{List, Some, [], length, map, slice_get, slice_index_or, suc, zero, ℕ, ◌++◌, ◌-◌, ◌∷◌, ◌≡◌}
 use Rattle.bk_word.specs.Outline.{Outline, start, valley_of}
 use Rattle.bk_word.specs.Play.{after_move}
 use Rattle.bk_word.specs.Word.{Move, Word}
@@ -39,6 +39,10 @@ sides_along o sides (m ∷ moves) = sides_along (after_move o m) (sides_after o 
 -- the lines of each square of the word
 abbrev pub sides_of : Word → List (ℕ × ℕ)
 sides_of w = sides_along start [] w
+
+-- the lines at the left of its squares
+abbrev pub lefts_of : Word → List ℕ
+lefts_of w = map (λ s. s.0) (sides_of w)
 
 -- the line of the layout for which a number stands
 abbrev pub line_of : Layout → (ℕ → ℕ) → ℕ → ℕ

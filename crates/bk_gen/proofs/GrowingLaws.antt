@@ -33,9 +33,11 @@ growing_sorted t g sorted permuted by_place =
     sorted_in_order t.squares sorted (All-from_recursion (λ (q : Square). IsSide q.s) t.squares (g.accepted).sides)
     (tiles_apart t.width t.height t.squares (g.accepted).tiles) permuted by_place
 
+-- a growing rectangle has at most the width that a tiling of 200 squares can have
 pub growing_width : (t : Tiling) → IsGrowing t → t.width ≤ 199999999999999800
 growing_width t g = most_width (record t { squares = in_code_order t.squares }) (kept_in_order t g)
 
+-- and at most this height
 pub growing_height : (t : Tiling) → IsGrowing t → t.height ≤ 199999999999999800
 growing_height t g = most_height (record t { squares = in_code_order t.squares }) (kept_in_order t g)
 
@@ -106,6 +108,7 @@ module _ (t : Tiling) (g : IsGrowing t) (few : length t.squares < 200) where
   some_height : 0 < t.height
   some_height = (tiles_cells t.width t.height t.squares (g.accepted).tiles).1
 
+  -- with a square attached at its right it grows on, where its height is a side that a square may have
   pub grows_right : t.height ≤ 999_999_999_999_999 → IsGrowing (with_right t)
   grows_right side = record {
     accepted = record {
@@ -120,6 +123,7 @@ module _ (t : Tiling) (g : IsGrowing t) (few : length t.squares < 200) where
     height_fits = g.height_fits;
   }
 
+  -- so it does with one below, where its width is
   pub grows_below : t.width ≤ 999_999_999_999_999 → IsGrowing (with_below t)
   grows_below side = record {
     accepted = record {
@@ -143,6 +147,7 @@ module _ (t : Tiling) (g : IsGrowing t) (few : length t.squares < 200) where
   moved_down : moved_rectangle 0 t.width (sized t.width t.height) ≡ stacked t.width t.width t.height
   moved_down = λ z. record { x = 0; y = zero-add t.width z; width = t.width; height = t.height }
 
+  -- with one at its left
   pub grows_left : t.height ≤ 999_999_999_999_999 → IsGrowing (with_left t)
   grows_left side = record {
     accepted = record {
@@ -167,6 +172,7 @@ module _ (t : Tiling) (g : IsGrowing t) (few : length t.squares < 200) where
     height_fits = g.height_fits;
   }
 
+  -- and with one above
   pub grows_above : t.width ≤ 999_999_999_999_999 → IsGrowing (with_above t)
   grows_above side = record {
     accepted = record {
@@ -227,6 +233,7 @@ next_length v i t = cases (goes_up_or_down v i) (is_set v (i % 64))
     )
     cases false false = omega (arith, length-append t.squares (square_at t.width 0 t.height ∷ []))
 
+-- and with as many as are attached turn by turn, while there are at most 200 squares
 pub grows_on : (n v i : ℕ) (t : Tiling) → IsGrowing t → length t.squares + n ≤ 200 → IsGrowing (attached n v i t)
 grows_on zero v i t g few = g
 grows_on (suc n) v i t g few = cases (cases_lt 999_999_999_999_999 (next_side v i t))

@@ -12,12 +12,14 @@ front_moved right down zero squares = squares
 front_moved right down (suc n) [] = []
 front_moved right down (suc n) (q ∷ squares) = moved_square right down q ∷ front_moved right down n squares
 
+-- the next square stands as it did
 pub next_unmoved : (right down i : ℕ) (squares : List Square) (d : Square) → i < length squares
     → get_or (front_moved right down i squares) i d ≡ get_or squares i d
 next_unmoved right down i [] d lt = absurd (omega arith)
 next_unmoved right down zero (q ∷ squares) d lt = refl
 next_unmoved right down (suc i) (q ∷ squares) d lt = next_unmoved right down i squares d (omega arith)
 
+-- once it is moved, one more of the squares is moved
 pub next_moved : (right down i : ℕ) (squares : List Square) (d : Square) → i < length squares
     → set (front_moved right down i squares) i (moved_square right down (get_or squares i d)) ≡ front_moved right down (suc i) squares
 next_moved right down i [] d lt = absurd (omega arith)
@@ -25,6 +27,7 @@ next_moved right down zero (q ∷ squares) d lt = refl
 next_moved right down (suc i) (q ∷ squares) d lt = ap (λ (rest : List Square). moved_square right down q ∷ rest)
     (next_moved right down i squares d (omega arith))
 
+-- in the end all squares are moved
 pub all_moved_front : (right down i : ℕ) (squares : List Square) → length squares ≤ i → front_moved right down i squares ≡ map (moved_square right down) squares
 all_moved_front right down zero [] all = refl
 all_moved_front right down (suc i) [] all = refl
@@ -40,6 +43,7 @@ next_fits right down i first now d same lt fits =
     subst (λ (q : Square). (q.x + right < 2 ^ 64) × (q.y + down < 2 ^ 64)) (sym at)
     (in_all (λ q. (q.x + right < 2 ^ 64) × (q.y + down < 2 ^ 64)) first fits (get_or first i d) (one_at first i d lt))
 
+-- one step of the loop moves one more of the squares
 pub one_more_moved : (right down i : ℕ) (first now : List Square) (d : Square) → now ≡ front_moved right down i first → i < length first
     → set now i (moved_square right down (get_or now i d)) ≡ front_moved right down (i + 1) first
 one_more_moved right down i first now d same lt =

@@ -23,6 +23,7 @@ sides_from_test squares h = all_from_test (λ q. IsSide q.s) (λ q. nat_lt 0 q.s
     is_side : (q : Square) → IsTrue (nat_lt 0 q.s && nat_le q.s 999_999_999_999_999) → IsSide q.s
     is_side q e = let parts = and_parts (nat_lt 0 q.s) (nat_le q.s 999_999_999_999_999) e in (ltb-true 0 q.s parts.0, leb-true q.s 999_999_999_999_999 parts.1)
 
+-- the first of the three rectangles can grow
 pub growing_33x32 : IsGrowing rectangle_33x32
 growing_33x32 = record {
   accepted = record {
@@ -35,6 +36,7 @@ growing_33x32 = record {
   height_fits = omega arith;
 }
 
+-- so can the second
 pub growing_69x61 : IsGrowing rectangle_69x61
 growing_69x61 = record {
   accepted = record {
@@ -47,6 +49,7 @@ growing_69x61 = record {
   height_fits = omega arith;
 }
 
+-- and the third
 pub growing_65x47 : IsGrowing rectangle_65x47
 growing_65x47 = record {
   accepted = record {
@@ -65,16 +68,20 @@ one_of_three (suc zero) = growing_69x61
 one_of_three (suc (suc zero)) = growing_65x47
 one_of_three (suc (suc (suc m))) = growing_33x32
 
+-- so the rectangle that a trial code begins with can grow
 pub first_growing : (v : ℕ) → IsGrowing (first_rectangle v)
 first_growing v = one_of_three (v % 3)
 
+-- and it has grown once all squares are attached
 pub all_attached : (v : ℕ) → IsGrowing (attached (200 - length (first_rectangle v).squares) v 0 (first_rectangle v))
 all_attached v =
     let few : length (first_rectangle v).squares ≤ 200 = ((first_growing v).accepted).few in
     grows_on (200 - length (first_rectangle v).squares) v 0 (first_rectangle v) (first_growing v) (omega arith)
 
+-- so the tiling of a trial code can be a `Tiling`
 pub trial_kept : (v : ℕ) → IsKept (trial_tiling v)
 trial_kept v = kept_in_order (attached (200 - length (first_rectangle v).squares) v 0 (first_rectangle v)) (all_attached v)
 
+-- and that of each place of a seed
 pub sample_kept : (seed k : ℕ) → IsKept (trial_tiling (mixed seed k))
 sample_kept seed k = trial_kept (mixed seed k)

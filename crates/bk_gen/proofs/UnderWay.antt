@@ -11,11 +11,6 @@ pub record IsUnderWay (v end turn : ℕ) (first now : Tiling) : Type 0 where
   pub same : attached (end - turn) v turn now ≡ attached end v 0 first
   pub count : length now.squares + (end - turn) ≡ length first.squares + end
 
-pub under_way_start : (v end : ℕ) (first : Tiling) → IsUnderWay v end 0 first first
-under_way_start v end first =
-    let all : end - 0 ≡ end = omega arith in
-    record { same = ap (λ (n : ℕ). attached n v 0 first) all; count = omega arith }
-
 attach_more : (n v i : ℕ) (t : Tiling) → 0 < n → next_side v i t ≤ 999_999_999_999_999 → attached n v i t ≡ attached (n - 1) v (i + 1) (with_next v i t)
 attach_more zero v i t some side = absurd (omega arith)
 attach_more (suc n) v i t some side =
@@ -27,6 +22,7 @@ attach_stop : (n v i : ℕ) (t : Tiling) → 999_999_999_999_999 < next_side v i
 attach_stop zero v i t more = refl
 attach_stop (suc n) v i t more = ap (λ (b : Bool). cond b (attached n v (i + 1) (with_next v i t)) t) (lt-leb (next_side v i t) 999_999_999_999_999 more)
 
+-- one more square is attached, and what is left leads to the same
 pub under_way_more : (v end turn : ℕ) (first now : Tiling) → turn < end → next_side v turn now ≤ 999_999_999_999_999 → IsUnderWay v end turn first now
     → IsUnderWay v end (turn + 1) first (with_next v turn now)
 under_way_more v end turn first now some side way =
@@ -37,10 +33,12 @@ under_way_more v end turn first now some side way =
       count = omega (arith, next_length v turn now, way.count);
     }
 
+-- where the next square would be too large, the rectangle stays as it is
 pub under_way_stops : (v end turn : ℕ) (first now : Tiling) → 999_999_999_999_999 < next_side v turn now → IsUnderWay v end turn first now
     → now ≡ attached end v 0 first
 under_way_stops v end turn first now more way = sym (attach_stop (end - turn) v turn now more) ∙ way.same
 
+-- and so it does where no turn is left
 pub under_way_end : (v end turn : ℕ) (first now : Tiling) → end ≤ turn → IsUnderWay v end turn first now → now ≡ attached end v 0 first
 under_way_end v end turn first now all way =
     let none : end - turn ≡ 0 = omega arith in

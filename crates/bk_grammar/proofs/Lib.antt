@@ -4,3 +4,4 @@ pub mod NumbersRead
 pub mod FirstByte
 pub mod Leaving
 pub mod BlankBytes
+pub mod GrammarExamples

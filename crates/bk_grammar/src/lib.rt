@@ -9,6 +9,9 @@ ghost use Rattle.arrayvec.specs.ArrayVec.{array_vec_len};
 use arrayvec::ArrayVec;
 use itoa::Buffer;
 
+/// Room for one answer, which is made once and used for line after line: the longest answer is that of `flow`, 8,241 bytes.
+pub type AnswerBuffer = ArrayVec<u8, 9000>;
+
 /// Appends bytes to a line. The line must have room for them.
 pub fn push_bytes<const N: usize>(bytes: &[u8], line: &mut ArrayVec<u8, N>)
     requires { array_vec_len line.old + length bytes.now ≤ N }

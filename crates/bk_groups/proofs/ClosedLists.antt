@@ -80,13 +80,3 @@ module _ (wanted : Wanted) (last : Listed) (left left_after a b c : Option (List
   closes_broken WriteFailed h v r w f e = absurd v
   closes_broken NoMemory h v r w f e = absurd v
   closes_broken TooMany h v r w f e = absurd v
-
--- and where they are not
-pub ends_early : (wanted : Wanted) (last : Listed) (told : Told) (ended : Ended) → EntersBy listing_rules none_listed last told ended
-    → (IsVerdict ended → ⊥) → ListsBy wanted told ended
-ends_early wanted last told NoneRefused h v = absurd (v tt)
-ends_early wanted last told SomeRefused h v = absurd (v tt)
-ends_early wanted last told ReadFailed h v = (last, h)
-ends_early wanted last told WriteFailed h v = inl h
-ends_early wanted last told NoMemory h v = h
-ends_early wanted last told TooMany h v = (last, h)

@@ -20,7 +20,7 @@ use Rattle.bk_groups.specs.Writing.{WritesLines}
 use Rattle.bk_groups.specs.declared.Wanted.TheVariants.{Groups, Pairs}
 use Rattle.bk_groups.proofs.PairLines.{IsItemAt, few_with}
 use Rattle.bk_groups.proofs.WrittenLines.{IsWrittenTo, broken_before, item_at, last_written, nothing_left, one_broken, one_line, prefix_more}
-use Rattle.bk_groups.proofs.WrittenLines.{same_item, written_all, written_broken, written_more, written_none}
+use Rattle.bk_groups.proofs.WrittenLines.{same_item, written_broken, written_more}
 
 pub drop_none : {A : Type 0} (xs : List A) → drop 0 xs ≡ xs
 drop_none [] = refl
@@ -39,9 +39,6 @@ next_of {A} f xs k x below e =
     let at = item_at xs k below in
     ap (λ (l : List A). flat_map f l) at.left ∙ ap (λ (y : A). f y ++ flat_map f (drop (k + 1) xs)) (same_item (slice_get xs k) at.item x at.here e)
 
-pub loop_none : {A : Type 0} (f : A → List (List ℕ)) (xs : List A) (w : Option (List ℕ)) → IsWrittenTo (flat_map f xs) (flat_map f (drop 0 xs)) w w
-loop_none {A} f xs w = subst (λ (l : List A). IsWrittenTo (flat_map f xs) (flat_map f l) w w) (sym (drop_none xs)) (written_none (flat_map f xs) w)
-
 pub loop_more : {A : Type 0} (f : A → List (List ℕ)) (all : List (List ℕ)) (xs : List A) (k : ℕ) (x : A) (a b c : Option (List ℕ)) → k < length xs
     → slice_get xs k ≡ Some x
     → IsWrittenTo all (flat_map f (drop k xs)) a b → Appends b c (concat (f x)) → IsWrittenTo all (flat_map f (drop (k + 1) xs)) a c
@@ -54,22 +51,12 @@ pub loop_broken : {A : Type 0} (f : A → List (List ℕ)) (all : List (List ℕ
 loop_broken f all xs k x a b c below e state here = written_broken all (flat_map f (drop k xs)) (f x) (flat_map f (drop (k + 1) xs)) a b c state
     (next_of f xs k x below e) here
 
-pub loop_all : {A : Type 0} (f : A → List (List ℕ)) (all : List (List ℕ)) (xs : List A) (k : ℕ) (a b : Option (List ℕ)) → length xs ≤ k
-    → IsWrittenTo all (flat_map f (drop k xs)) a b → Appends a b (concat all)
-loop_all {A} f all xs k a b late state = written_all all (flat_map f (drop k xs)) a b state (ap (λ (l : List A). flat_map f l) (nothing_left xs k late))
-
 -- how many there are
 pub count_next : {A : Type 0} (f : A → List (List ℕ)) (xs : List A) (total k n m : ℕ) (x : A) → k < length xs → slice_get xs k ≡ Some x
     → n + length (flat_map f (drop k xs)) ≡ total → m ≡ length (f x) → (n + m) + length (flat_map f (drop (k + 1) xs)) ≡ total
 count_next f xs total k n m x below e so_far is =
     let next = ap (λ (l : List (List ℕ)). length l) (next_of f xs k x below e) in
     omega (arith, so_far, next, is, length-append (f x) (flat_map f (drop (k + 1) xs)))
-
-pub count_start : {A : Type 0} (f : A → List (List ℕ)) (xs : List A) → 0 + length (flat_map f (drop 0 xs)) ≡ length (flat_map f xs)
-count_start {A} f xs = let e = ap (λ (l : List A). length (flat_map f l)) (drop_none xs) in omega (arith, e)
-
-pub count_end : {A : Type 0} (f : A → List (List ℕ)) (xs : List A) (total k n : ℕ) → length xs ≤ k → n + length (flat_map f (drop k xs)) ≡ total → n ≡ total
-count_end {A} f xs total k n late so_far = let none = ap (λ (l : List A). length (flat_map f l)) (nothing_left xs k late) in omega (arith, none, so_far)
 
 -- ---- the item at a place, and its line
 
@@ -105,9 +92,6 @@ group_within items g below = omega (arith, length-groups items (sizes items))
 
 pub size_within : (items : List KeptItem) (g : ℕ) → g < length (alike_groups items) → g < length (sizes items)
 size_within items g below = omega (arith, length-groups items (sizes items))
-
-pub sizes_late : (items : List KeptItem) (g : ℕ) → length (alike_groups items) ≤ g → length (sizes items) ≤ g
-sizes_late items g late = omega (arith, length-groups items (sizes items))
 
 -- the members are those of the group
 pub members_are : (items : List KeptItem) (g : ℕ) (a : ℕ × ℕ) (members : List ℕ) → slice_get (sizes items) g ≡ Some a
@@ -169,10 +153,6 @@ next_pairs kind items k x below e =
     ap (λ (l : List KeptItem). all_pairs kind l) at.left
     ∙ ap (λ (y : KeptItem). pairs_with kind y (drop (k + 1) items) ++ all_pairs kind (drop (k + 1) items)) (same_item (slice_get items k) at.item x at.here e)
 
-pub pairs_none : (kind : Kind) (items : List KeptItem) (w : Option (List ℕ)) → IsWrittenTo (all_pairs kind items) (all_pairs kind (drop 0 items)) w w
-pairs_none kind items w = subst (λ (l : List KeptItem). IsWrittenTo (all_pairs kind items) (all_pairs kind l) w w) (sym (drop_none items))
-    (written_none (all_pairs kind items) w)
-
 pub count_none : (kind : Kind) (items : List KeptItem) → 0 + length (all_pairs kind (drop 0 items)) ≡ length (all_pairs kind items)
 count_none kind items = let e = ap (λ (l : List KeptItem). length (all_pairs kind l)) (drop_none items) in omega (arith, e)
 
@@ -195,11 +175,6 @@ pairs_broken kind items k a b c below state here =
     written_broken (all_pairs kind items) (all_pairs kind (drop k items)) (pairs_with kind at.item (drop (k + 1) items))
     (all_pairs kind (drop (k + 1) items)) a b c state
     (next_pairs kind items k at.item below at.here) (here at.item at.here)
-
-pub pairs_all : (kind : Kind) (items : List KeptItem) (k : ℕ) (a b : Option (List ℕ)) → length items ≤ k
-    → IsWrittenTo (all_pairs kind items) (all_pairs kind (drop k items)) a b → Appends a b (concat (all_pairs kind items))
-pairs_all kind items k a b late state = written_all (all_pairs kind items) (all_pairs kind (drop k items)) a b state
-    (ap (λ (l : List KeptItem). all_pairs kind l) (nothing_left items k late))
 
 pub count_all : (kind : Kind) (items : List KeptItem) (k n : ℕ) → length items ≤ k
     → n + length (all_pairs kind (drop k items)) ≡ length (all_pairs kind items) → n ≡ length (all_pairs kind items)

@@ -1,6 +1,8 @@
+-- What the crate says.
 pub mod Listed
-pub mod EmptyLine
 pub mod Pairs
 pub mod Closing
+-- How its code keeps it.
+pub mod EmptyLine
 pub mod Writing
 pub mod LaterLines

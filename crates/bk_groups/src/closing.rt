@@ -13,9 +13,9 @@ ghost use Rattle.bk_groups.specs.Writing.{WritesLines};
 
 use crate::Wanted;
 use crate::listed::ItemList;
-use arrayvec::ArrayVec;
 use bk_alike::Alike;
 use bk_ask::Kind;
+use bk_grammar::AnswerBuffer;
 use bk_pair::{join, lay_pair};
 use bk_ports::{Failed, Sink};
 use bk_report::{write_alike, write_group, write_member, write_pair, write_pairs};
@@ -30,7 +30,7 @@ pub(crate) fn write_closing<O: Sink>(
     ensures lines { WritesLines (closing_lines wanted list.now) (O.written out.old) (O.written out.new) result }
     ensures cause { HasCause (O.faults out.old) (O.faults out.new) result }
 {
-    let mut buffer = ArrayVec::<u8, 9000>::new();
+    let mut buffer = AnswerBuffer::new();
     match wanted {
         Wanted::Groups => close_groups(list, &mut buffer, out),
         Wanted::Pairs(kind) => close_pairs(kind, list, &mut buffer, out),
@@ -40,7 +40,7 @@ pub(crate) fn write_closing<O: Sink>(
 // Writes the groups, and the last line behind them.
 fn close_groups<O: Sink>(
     list: &ItemList,
-    buffer: &mut ArrayVec<u8, 9000>,
+    buffer: &mut AnswerBuffer,
     out: &mut O,
 ) -> Result<(), Failed>
     ensures lines { WritesLines (closing_lines Wanted.Groups list.now) (O.written out.old) (O.written out.new) result }
@@ -61,7 +61,7 @@ fn close_groups<O: Sink>(
 fn close_pairs<O: Sink>(
     kind: Kind,
     list: &ItemList,
-    buffer: &mut ArrayVec<u8, 9000>,
+    buffer: &mut AnswerBuffer,
     out: &mut O,
 ) -> Result<(), Failed>
     ensures lines { WritesLines (closing_lines (Wanted.Pairs kind) list.now) (O.written out.old) (O.written out.new) result }
@@ -76,7 +76,7 @@ fn close_pairs<O: Sink>(
 // Writes all groups.
 fn write_groups<O: Sink>(
     items: &Alike,
-    buffer: &mut ArrayVec<u8, 9000>,
+    buffer: &mut AnswerBuffer,
     out: &mut O,
 ) -> Result<(), Failed>
     ensures lines { WritesLines (flat_map (group_lines items.now) (sizes items.now)) (O.written out.old) (O.written out.new) result }
@@ -92,7 +92,7 @@ fn write_groups<O: Sink>(
 fn write_one_group<O: Sink>(
     items: &Alike,
     g: usize,
-    buffer: &mut ArrayVec<u8, 9000>,
+    buffer: &mut AnswerBuffer,
     out: &mut O,
 ) -> Result<(), Failed>
     requires { g < length (sizes items.now) }
@@ -111,7 +111,7 @@ fn write_one_group<O: Sink>(
 fn write_members<O: Sink>(
     items: &Alike,
     places: &[u32],
-    buffer: &mut ArrayVec<u8, 9000>,
+    buffer: &mut AnswerBuffer,
     out: &mut O,
 ) -> Result<(), Failed>
     requires { AllByRecursion (λ place. place < length items.now) places.now }
@@ -130,7 +130,7 @@ fn write_members<O: Sink>(
 fn write_all_pairs<O: Sink>(
     kind: Kind,
     items: &Alike,
-    buffer: &mut ArrayVec<u8, 9000>,
+    buffer: &mut AnswerBuffer,
     out: &mut O,
 ) -> Result<u64, Failed>
     ensures lines { WritesLines (all_pairs kind items.now) (O.written out.old) (O.written out.new) result }
@@ -150,7 +150,7 @@ fn write_pairs_with<O: Sink>(
     kind: Kind,
     items: &Alike,
     i: usize,
-    buffer: &mut ArrayVec<u8, 9000>,
+    buffer: &mut AnswerBuffer,
     out: &mut O,
 ) -> Result<u64, Failed>
     requires { i < length items.now }
@@ -170,7 +170,7 @@ fn write_pairs_among<O: Sink>(
     items: &Alike,
     i: usize,
     places: &[u32],
-    buffer: &mut ArrayVec<u8, 9000>,
+    buffer: &mut AnswerBuffer,
     out: &mut O,
 ) -> Result<u64, Failed>
     requires first { i < length items.now }
@@ -194,7 +194,7 @@ fn write_if_later<O: Sink>(
     items: &Alike,
     i: usize,
     j: usize,
-    buffer: &mut ArrayVec<u8, 9000>,
+    buffer: &mut AnswerBuffer,
     out: &mut O,
 ) -> Result<u64, Failed>
     requires first { i < length items.now }
@@ -217,7 +217,7 @@ fn write_if_pair<O: Sink>(
     items: &Alike,
     i: usize,
     j: usize,
-    buffer: &mut ArrayVec<u8, 9000>,
+    buffer: &mut AnswerBuffer,
     out: &mut O,
 ) -> Result<u64, Failed>
     requires first { i < length items.now }

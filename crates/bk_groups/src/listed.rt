@@ -4,9 +4,9 @@ ghost use Rattle.std.specs.Prelude.{IfOk, OnErr, OnOk, length, ◌+◌, ◌<◌,
 ghost use Rattle.bk_lines.specs.Answer.{HasOutcome, IsBegun};
 ghost use Rattle.bk_ports.specs.Causes.{HasCause};
 
-use arrayvec::ArrayVec;
 use bk_alike::Alike;
 use bk_answer::lay_line;
+use bk_grammar::AnswerBuffer;
 use bk_lines::{Outcome, Register};
 use bk_ports::{Failed, Sink};
 use bk_report::{Refused, write_line_refused};
@@ -65,7 +65,7 @@ impl ItemList {
         &mut self,
         number: u64,
         tiling: &Tiling,
-        buffer: &mut ArrayVec<u8, 9000>,
+        buffer: &mut AnswerBuffer,
         out: &mut O,
     ) -> Result<Outcome, Failed>
         requires { self.old.refused < 2 ^ 63 }
@@ -90,7 +90,7 @@ impl ItemList {
         &mut self,
         number: u64,
         refused: Refused,
-        buffer: &mut ArrayVec<u8, 9000>,
+        buffer: &mut AnswerBuffer,
         out: &mut O,
     ) -> Result<Outcome, Failed>
         requires { self.old.refused < 2 ^ 63 }
@@ -120,7 +120,7 @@ impl Register for ItemList {
         &mut self,
         number: u64,
         line: &[u8],
-        buffer: &mut ArrayVec<u8, 9000>,
+        buffer: &mut AnswerBuffer,
         out: &mut O,
     ) -> Result<Outcome, Failed> {
         let laid = lay_line(line);

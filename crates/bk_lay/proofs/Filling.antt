@@ -21,17 +21,21 @@ pub record IsUnder (v : Segment) (q : Square) : Type 0 where
   pub left : v.x ≤ q.x
   pub right : q.x + q.s ≤ v.x + v.width
 
+-- a square that the test finds hangs from the valley's level and within its columns
 pub under_from : (v : Segment) (q : Square) → hangs_under v q ≡ true → IsUnder v q
 under_from v q e = record { level = grind (arith, nat_tests); left = grind (arith, nat_tests); right = grind (arith, nat_tests) }
 
+-- and such a square the test finds
 pub hangs_from : (v : Segment) (q : Square) → q.y ≡ v.level → v.x ≤ q.x → q.x + q.s ≤ v.x + v.width → hangs_under v q ≡ true
 hangs_from v q a b c = grind (arith, nat_tests)
 
 module _ (t : Tiling) (laid : List Square) (v : Segment) (tiling : IsTiling t) (fills : FillsFromTop t laid) (found : IsLeftmostValley t.width laid v)
     (low : v.level < t.height) where
+  -- each cell of the tiling lies in one square
   pub cell : (c j : ℕ) → c < t.width → j < t.height → count_by (covers c j) t.squares ≡ 1
   cell c j a b = (tiling.tiles).once c j (omega arith) (omega arith) (omega arith) (omega arith)
 
+  -- what is laid is of the tiling
   pub laid_in : (q : Square) → IsOneOf q laid → IsOneOf q t.squares
   laid_in q h = in_all (λ p. IsOneOf p t.squares) laid fills.squares q h
 
@@ -52,6 +56,7 @@ module _ (t : Tiling) (laid : List Square) (v : Segment) (tiling : IsTiling t) (
   not_laid : (c : ℕ) (q : Square) → IsOneOf q laid → q.x ≤ c → c < q.x + q.s → q.y + q.s ≤ depth laid c
   not_laid c q h a b = depth_reaches laid c q h (column_from c q a b)
 
+  -- the leftmost valley is level
   pub flat : IsLevel t.width laid v
   flat = (found.valley).flat
 
@@ -123,9 +128,11 @@ module _ (t : Tiling) (laid : List Square) (v : Segment) (tiling : IsTiling t) (
   some_under [] q h = absurd h
   some_under (r ∷ squares) q h = omega arith
 
+  -- the squares under the valley are squares of the tiling
   pub in_tiling : (q : Square) → IsOneOf q (squares_under t v) → IsOneOf q t.squares
   in_tiling q h = (from_filter (hangs_under v) t.squares q h).0
 
+  -- and hang from its level, within its columns
   pub is_under : (q : Square) → IsOneOf q (squares_under t v) → IsUnder v q
   is_under q h = under_from v q (from_filter (hangs_under v) t.squares q h).1
 
@@ -185,6 +192,7 @@ module _ (t : Tiling) (laid : List Square) (v : Segment) (tiling : IsTiling t) (
       both q (inl h) = laid_in q h
       both q (inr h) = in_tiling q h
 
+-- so they fill the valley's columns, and what is laid with them fills the tiling from the top
 pub valley_is_filled : ValleyIsFilled
 valley_is_filled t laid v tiling fills found low =
     (some_under t laid v tiling fills found low (squares_under t v) there.0 there.1, goes_on t laid v tiling fills found low)

@@ -11,28 +11,34 @@ use Rattle.bk_word.specs.declared.Sign.TheVariants.{Above, Even, Under}
 use Rattle.bk_lay.specs.Depiction.{IsNumbered, IsSegment, Span}
 use Rattle.bk_lay.specs.TilingWord.{sign_between, signs_between}
 
+-- the levels of runs of columns
 abbrev pub levels : List Segment → List ℕ
 levels runs = map (λ v. v.level) runs
 
+-- the signs between levels, cut at one of these: those up to it and those from it on
 pub signs-cut : (xs : List ℕ) (a : ℕ) (ys : List ℕ) → signs_between (xs ++ a ∷ ys) ≡ signs_between (xs ++ a ∷ []) ++ signs_between (a ∷ ys)
 signs-cut [] a ys = refl
 signs-cut (x ∷ []) a ys = refl
 signs-cut (x ∷ y ∷ xs) a ys = ap (λ signs. sign_between x y ∷ signs) (signs-cut (y ∷ xs) a ys)
 
+-- the first of them are those up to the level
 pub take-signs : (xs : List ℕ) (a : ℕ) (ys : List ℕ) → take (length xs) (signs_between (xs ++ a ∷ ys)) ≡ signs_between (xs ++ a ∷ [])
 take-signs [] a ys = refl
 take-signs (x ∷ []) a ys = refl
 take-signs (x ∷ y ∷ xs) a ys = ap (λ signs. sign_between x y ∷ signs) (take-signs (y ∷ xs) a ys)
 
+-- and the others are those from the level on
 pub drop-signs : (xs : List ℕ) (a : ℕ) (ys : List ℕ) → drop (length xs) (signs_between (xs ++ a ∷ ys)) ≡ signs_between (a ∷ ys)
 drop-signs [] a ys = refl
 drop-signs (x ∷ []) a ys = refl
 drop-signs (x ∷ y ∷ xs) a ys = drop-signs (y ∷ xs) a ys
 
+-- a first level and others have as many signs as there are others
 pub length-signs : (a : ℕ) (ys : List ℕ) → length (signs_between (a ∷ ys)) ≡ length ys
 length-signs a [] = refl
 length-signs a (y ∷ ys) = ap suc (length-signs y ys)
 
+-- squares that stand side by side up to a column, and others from there on, stand side by side together
 pub span-append : (laid : List Square) (level x : ℕ) (front : List ℕ) (mid : ℕ) (back : List ℕ) (end : ℕ) → Span laid level x front mid
     → Span laid level mid back end → Span laid level x (front ++ back) end
 span-append laid level x [] mid back end a b = subst (λ (y : ℕ). Span laid level y back end) (sym a) b
@@ -85,6 +91,7 @@ module _ (width : ℕ) (laid : List Square) (sides : (n : ℕ) (q : Square) → 
     pub depicts : AllZip (IsSegment laid) (first ∷ more) segments
     pub between : signs ≡ signs_between (levels (first ∷ more))
 
+  -- runs that show segments, joined where the sign is even, show the joined segments
   pub join : (v : Segment) (runs : List Segment) (x : ℕ) (s : List ℕ) (segments : List (List ℕ)) → AreRuns width laid x (v ∷ runs)
       → AllZip (IsSegment laid) (v ∷ runs) (s ∷ segments)
       → Joined x v.level (joined (signs_between (levels (v ∷ runs))) (s ∷ segments)) (filter parts (signs_between (levels (v ∷ runs))))

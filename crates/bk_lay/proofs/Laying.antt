@@ -24,6 +24,7 @@ all_filter P test (q ∷ squares) a = cases (test q) (all_filter P test squares 
     cases true rest = (a.0, rest)
     cases false rest = rest
 
+-- selected squares stand in the order of a code where all do
 pub ordered_filter : (test : Square → Bool) (squares : List Square) → InCodeOrder squares → InCodeOrder (filter test squares)
 ordered_filter test [] o = tt
 ordered_filter test (q ∷ squares) o = cases (test q) (ordered_filter test squares o.1)
@@ -122,6 +123,7 @@ module _ (t : Tiling) (laid : List Square) (v : Segment) (tiling : IsTiling t) (
       wide : c < t.width
       wide = let d = (is_under t laid v tiling fills found low q a).right in let e = ((found.valley).flat).within in omega arith
 
+  -- the squares under the valley stand side by side, from its first column to its end
   pub under_chain : Chain v.x (squares_under t v) (v.x + v.width)
   under_chain = chain v.level (v.x + v.width) (squares_under t v) v.x (omega arith) (record {
     ordered = ordered_filter (hangs_under v) t.squares tiling.ordered;

@@ -1,20 +1,23 @@
+-- leftmost valleys, and that each tiling has one word
 pub mod Valleys
 pub mod Filling
 pub mod Words
+pub mod WordTest
+pub mod WordExamples
+pub mod SquaresOnce
+-- the outline of what is laid, step by step, and that the word is legal and complete
 pub mod Joining
 pub mod Places
 pub mod Laying
 pub mod Depicting
 pub mod Steps
-pub mod WordPlay
-pub mod WordTest
-pub mod WordExamples
 pub mod ValleySegment
-pub mod SquaresOnce
+pub mod WordPlay
+pub mod DepictionExamples
+-- the level runs that the code keeps at both sides of a valley, turn by turn
 pub mod CodePlaces
 pub mod MeetingRuns
 pub mod SignLists
 pub mod NextTurn
 pub mod TurnLaws
 pub mod LevelRunExamples
-pub mod DepictionExamples

@@ -16,16 +16,19 @@ pub falls_at_end : (laid : List Square) (x : ℕ) (front : List Run) (r : Run) (
 falls_at_end laid x [] r end f = (sym f.0, f.1, f.2)
 falls_at_end laid x (s ∷ front) r end f = let rest = falls_at_end laid s.end front r end f.2 in ((f.0, f.1, rest.0), rest.1, rest.2)
 
+-- falling runs up to a column and a falling run that begins there are falling runs up to its end
 pub falls_more : (laid : List Square) (x : ℕ) (front : List Run) (r : Run) → FallingRuns laid x front r.x → IsFallingRun laid r
     → FallingRuns laid x (front ++ r ∷ []) r.end
 falls_more laid x [] r f is = (sym f, is, refl)
 falls_more laid x (s ∷ front) r f is = (f.0, f.1, falls_more laid s.end front r f.2 is)
 
+-- the last of some runs that are listed from the right, and those before it
 pub right_at_end : (laid : List Square) (x : ℕ) (front : List Run) (r : Run) (end : ℕ) → RunsFromRight laid x (front ++ r ∷ []) end
     → (r.x ≡ x) × IsRun laid r × RunsFromRight laid r.end front end
 right_at_end laid x [] r end f = (sym f.2, f.1, f.0)
 right_at_end laid x (s ∷ front) r end f = let rest = right_at_end laid x front r s.x f.2 in (rest.0, rest.1, (f.0, f.1, rest.2))
 
+-- and one run more at their left end
 pub right_more : (laid : List Square) (front : List Run) (r : Run) (end : ℕ) → RunsFromRight laid r.end front end → IsRun laid r
     → RunsFromRight laid r.x (front ++ r ∷ []) end
 right_more laid [] r end f is = (f, is, refl)
@@ -41,6 +44,7 @@ last_of (s ∷ runs) = cases (last_of runs)
     cases (inl e) = inr ([], s, ap (λ (l : List Run). s ∷ l) e)
     cases (inr (front, r, e)) = inr (s ∷ front, r, ap (λ (l : List Run). s ∷ l) e)
 
+-- the level of the last run, read at its place
 pub last_level_at : (runs : List Run) (d : Run) → 0 < length runs → (get_or runs (length runs - 1) d).level ∷ [] ≡ last_level runs
 last_level_at [] d h = absurd (omega arith)
 last_level_at (r ∷ []) d h = refl
@@ -79,6 +83,7 @@ module _ (width : ℕ) (laid : List Square) where
       ends : (r.x ≡ m.column) × IsRun laid r × RunsFromRight laid r.end front width
       ends = right_at_end laid m.column front r width (subst (λ (l : List Run). RunsFromRight laid m.column l width) is m.rest)
 
+  -- where the last run at the left is taken out, it stands beside the others and the runs at the right
   pub last_from_left : (front left right : List Run) (r : Run) → left ≡ front ++ r ∷ [] → Meet width laid left right → AreBeside width laid front r right
   last_from_left front left right r is m = record {
     falls = ends.0;

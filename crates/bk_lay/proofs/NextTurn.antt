@@ -28,6 +28,7 @@ last_level_is [] r = refl
 last_level_is (s ∷ []) r = refl
 last_level_is (s ∷ u ∷ front) r = last_level_is (u ∷ front) r
 
+-- there is at most one last level
 pub few_levels : (runs : List Run) → length (last_level runs) ≤ 1
 few_levels [] = omega arith
 few_levels (r ∷ []) = omega arith
@@ -78,12 +79,14 @@ under_meets laid (q ∷ squares) x end right width c is f = subst (λ (y : ℕ).
     (under_meets laid squares (x + q.s) end right width c.1 (λ p k. is p (inr k)) f))
     (is q (inl refl))))
 
+-- there is a run under each square
 pub length_under : (squares : List Square) → length (runs_under squares) ≡ length squares
 length_under [] = refl
 length_under (q ∷ squares) = omega (arith, length-append (runs_under squares) (run_under q ∷ []), length_under squares)
 
 module _ (t : Tiling) (laid : List Square) (o : Outline) (tiling : IsTiling t) (fills : FillsFromTop t laid) (is : IsOutline t.width laid o)
     (low : o.valley.level < t.height) where
+  -- the valley of the outline is the leftmost valley of what is laid
   pub found : IsLeftmostValley t.width laid (segment_of o.valley)
   found = leftmost_in_outline t.width laid o is
 
@@ -186,6 +189,7 @@ module _ (t : Tiling) (laid : List Square) (o : Outline) (tiling : IsTiling t) (
           order [] end f = omega (arith, f)
           order (s ∷ runs) end f = let some = (f.1).some in omega (arith, f.0, order runs s.x f.2)
 
+  -- the bottoms of the move under it are those of the neighbours in the outline and of the new squares
   pub same_bottoms : bottoms t laid (segment_of o.valley) ≡ last_level o.left.items ++ bottoms_of (squares_under t (segment_of o.valley))
       ++ last_level o.right.items
   same_bottoms = λ i. left_level i ++ bottoms_of (squares_under t (segment_of o.valley)) ++ right_level i

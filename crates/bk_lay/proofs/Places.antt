@@ -45,6 +45,7 @@ no_even m n e p = impossible (sym (ap parts e) ∙ p)
     impossible : false ≡ true → ⊥
     impossible q = cc
 
+-- the depth before a column that isn't the first is that of the column at its left
 pub depth_before_at : (laid : List Square) (x c : ℕ) → suc c ≡ x → depth_before laid x ≡ depth laid c ∷ []
 depth_before_at laid zero c e = absurd (omega arith)
 depth_before_at laid (suc d) c e = ap (λ (k : ℕ). depth laid k ∷ []) same
@@ -52,6 +53,7 @@ depth_before_at laid (suc d) c e = ap (λ (k : ℕ). depth laid k ∷ []) same
     same : d ≡ c
     same = omega arith
 
+-- and the depth from a column within the width on is its own
 pub depth_from_at : (width : ℕ) (laid : List Square) (x : ℕ) → x < width → depth_from width laid x ≡ depth laid x ∷ []
 depth_from_at width laid x h = ap (λ (b : Bool). cond b (depth laid x ∷ []) []) test
   where
@@ -155,6 +157,7 @@ module _ (width : ℕ) (laid : List Square) where
               }
               lasts (inr l) = record { front = v ∷ l.front; last = l.last; is = ap (λ runs. v ∷ runs) l.is; level = l.level }
 
+  -- the runs of all columns, of which neighbours differ in level, have the leftmost valley at the place that their signs tell
   pub placed : (runs : List Segment) → 0 < width → AreRuns width laid 0 runs
       → AllByRecursion (λ sign. parts sign ≡ true) (signs_between (levels runs)) → Placed width laid 0 runs
   placed [] wide cut parted = absurd (omega (arith, cut))
@@ -169,6 +172,7 @@ pub record Stands (width : ℕ) (laid : List Square) (runs : List Segment) (v : 
   pub left : ((before ≡ []) × (v.x ≡ 0)) ⊎ HasLast laid v.x before
   pub right : ((after ≡ []) × (v.x + v.width ≡ width)) ⊎ HasFirst width laid (v.x + v.width) after
 
+-- so it is where the leftmost valley is given
 pub stands : (width : ℕ) (laid : List Square) (runs : List Segment) (v : Segment) → Placed width laid 0 runs → IsLeftmostValley width laid v
     → Stands width laid runs v
 stands width laid runs v p found = record {

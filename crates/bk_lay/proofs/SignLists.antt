@@ -9,6 +9,7 @@ last_of_levels [] = None
 last_of_levels (a ∷ []) = Some a
 last_of_levels (a ∷ b ∷ levels) = last_of_levels (b ∷ levels)
 
+-- a level that is put behind others is the last
 pub last_after : (levels : List ℕ) (b : ℕ) → last_of_levels (levels ++ b ∷ []) ≡ Some b
 last_after [] b = refl
 last_after (a ∷ []) b = refl
@@ -27,6 +28,7 @@ few_signs [] = omega arith
 few_signs (a ∷ []) = omega arith
 few_signs (a ∷ b ∷ levels) = omega (arith, few_signs (b ∷ levels))
 
+-- an optional level is a list of at most one
 pub few_of_option : (o : Option ℕ) → length (option_to_list o) ≤ 1
 few_of_option None = omega arith
 few_of_option (Some a) = omega arith

@@ -28,6 +28,7 @@ use Rattle.bk_lay.specs.Depiction.{Depicts, FillsFromTop, Hangs, IsNumbered, IsS
 use Rattle.bk_lay.specs.TilingWord.{IsLeftmostValley, bottoms, depth_before, depth_from, move_under, signs_between, squares_under}
 use Rattle.bk_lay.specs.WordLaws.{MoveDepicts, StartDepictsNothing}
 
+-- a square that is got at a place of a list is one of the list
 pub one_of : (squares : List Square) (k : ℕ) (q : Square) → slice_get squares k ≡ Some q → IsOneOf q squares
 one_of [] k q e = absurd (impossible e)
   where
@@ -39,11 +40,13 @@ one_of (r ∷ squares) zero q e = inl (inside r q e)
     inside r q f = cc
 one_of (r ∷ squares) (suc k) q e = inr (one_of squares k q e)
 
+-- squares that stand side by side among those laid do so when more are laid
 pub span_more : (laid more : List Square) (level x : ℕ) (numbers : List ℕ) (end : ℕ) → Span laid level x numbers end → Span (laid ++ more) level x numbers end
 span_more laid more level x [] end s = s
 span_more laid more level x (n ∷ numbers) end s =
     (s.0, ((s.1).0, (s.1).1, get_append laid more (s.1).0 s.0 (s.1).2), s.2, s.3, span_more laid more level (x + (s.0).s) numbers end s.4)
 
+-- and a segment is shown as before
 pub segment_more : (laid more : List Square) (v : Segment) (numbers : List ℕ) → IsSegment laid v numbers → IsSegment (laid ++ more) v numbers
 segment_more laid more v numbers (inl s) = inl (span_more laid more v.level v.x numbers (v.x + v.width) s)
 segment_more laid more v numbers (inr s) = inr s
@@ -68,6 +71,7 @@ new_segments laid front (q ∷ squares) is n e = (
     at : slice_get laid n ≡ Some q
     at = (λ i. slice_get (is i) (e i)) ∙ get_last front q squares
 
+-- the levels of the runs under squares are the squares' bottoms
 pub new_levels : (squares : List Square) → levels (map run_of squares) ≡ map (λ q. q.y + q.s) squares
 new_levels [] = refl
 new_levels (q ∷ squares) = ap (λ ls. (q.y + q.s) ∷ ls) (new_levels squares)
@@ -308,6 +312,7 @@ module _ (t : Tiling) (laid : List Square) (v : Segment) (tiling : IsTiling t) (
               (filter parts (signs_between (levels (before ++ map run_of (squares_under t v) ++ after))))
           j = joins.1
 
+-- after the move under the leftmost valley, which is legal, the outline depicts what is laid then
 pub move_depicts : MoveDepicts
 move_depicts t laid nodes o v tiling fills d found low = (
   legal t laid v tiling fills found low nodes o d s.before s.after s.is number s.left s.right,
@@ -320,6 +325,7 @@ move_depicts t laid nodes o v tiling fills d found low = (
     number : valley_place o.signs ≡ length s.before
     number = ap valley_place d.signs ∙ s.number
 
+-- the outline at the start depicts that nothing is laid
 pub start_depicts_nothing : StartDepictsNothing
 start_depicts_nothing t tiling =
     record {

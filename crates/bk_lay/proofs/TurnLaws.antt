@@ -22,6 +22,7 @@ use Rattle.bk_lay.specs.TilingWord.{IsWordOf, MovesFollow, bottoms, move_under, 
 use Rattle.bk_lay.specs.declared.outline.Outline.{Outline}
 
 module _ (t : Tiling) (kept : IsKept t) where
+  -- before the first turn no move is known and nothing is laid
   pub first_turn : (w : Word) (o : Outline) → w ≡ [] → IsOutline t.width [] o → length o.left.items + length o.right.items ≡ 0 → Turned t w o
   first_turn w o empty is alone = record {
     laid = [];
@@ -31,6 +32,7 @@ module _ (t : Tiling) (kept : IsKept t) where
     room = omega arith;
   }
 
+  -- where the valley lies at the height, the moves so far are the word
   pub last_turn : (w : Word) (o : Outline) → Turned t w o → t.height ≤ o.valley.level → IsWordOf t w
   last_turn w o turned high = subst (MovesFollow t []) (append-nil w)
       (turned.follows [] (all_full t kept.tiling turned.laid turned.fills (segment_of o.valley)
@@ -46,18 +48,22 @@ module _ (t : Tiling) (kept : IsKept t) where
     of_tiling q h = in_tiling t turned.laid (segment_of o.valley) kept.tiling turned.fills
         (found t turned.laid o kept.tiling turned.fills turned.outline low) low q (subst (IsOneOf q) under h)
 
+    -- at most 200 squares are found under a valley
     pub few_squares : length squares ≤ 200
     few_squares = let few = kept.few in
         omega (arith, ap length is, length-filter (begins_under o.valley) t.squares, count_by-le-length (begins_under o.valley) t.squares)
 
+    -- the right end of each is a number of the machine
     pub right_fits : AllByRecursion (λ q. q.x + q.s < 2 ^ 64) squares
     right_fits = all_from (λ q. q.x + q.s < 2 ^ 64) squares (λ q h. let w = (within_of t kept.tiling q (of_tiling q h)).right in let fits =
         kept.width_fits in omega arith)
 
+    -- and so is its bottom
     pub bottom_fits : AllByRecursion (λ q. q.y + q.s < 2 ^ 64) squares
     bottom_fits = all_from (λ q. q.y + q.s < 2 ^ 64) squares (λ q h. let w = (within_of t kept.tiling q (of_tiling q h)).bottom in let fits =
         kept.height_fits in omega arith)
 
+    -- and one is found
     pub some_squares : 0 < length squares
     some_squares = omega (
       arith,

@@ -25,6 +25,7 @@ valley_stands t laid nodes o v tiling d found = stands t.width laid d.runs v (pl
     parted : AllByRecursion (λ sign. parts sign ≡ true) (signs_between (levels d.runs))
     parted = subst (λ (signs : List Sign). AllByRecursion (λ sign. parts sign ≡ true) signs) d.signs d.parted
 
+-- the leftmost valley of what is laid is shown by the valley of the outline that depicts it
 pub valley_segment : (t : Tiling) (laid : List Square) (nodes : List Segment) (o : Outline) (v : Segment) → IsTiling t → Depicts t laid nodes o
     → IsLeftmostValley t.width laid v → IsSegment laid v (valley_of o)
 valley_segment t laid nodes o v tiling d found = subst (λ (n : ℕ). IsSegment laid v (slice_index_or o.segments n [])) (sym number)
@@ -37,6 +38,7 @@ valley_segment t laid nodes o v tiling d found = subst (λ (n : ℕ). IsSegment 
     number = ap valley_place d.signs ∙ s.number
 
 module _ (t : Tiling) (tiling : IsTiling t) where
+  -- where all columns are as deep as the tiling is high, each square is laid
   pub all_laid : (laid : List Square) → FillsFromTop t laid → ((c : ℕ) → c < t.width → depth laid c ≡ t.height) → (q : Square) → IsOneOf q t.squares
       → IsOneOf q laid
   all_laid laid fills full q h = subst (λ (p : Square). IsOneOf p laid) (sym same) there.1

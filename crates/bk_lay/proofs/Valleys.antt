@@ -52,6 +52,7 @@ no_valley_before width laid v valley falls u other k last before = either (dec (
     either (inl h) = ends h
     either (inr h) = reaches h
 
+-- a valley before which the columns never get deeper is the leftmost
 pub leftmost_by_falling : (width : ℕ) (laid : List Square) (v : Segment) → IsValley width laid v → NeverDeeperBefore laid v → IsLeftmostValley width laid v
 leftmost_by_falling width laid v valley falls = record { valley = valley; leftmost = λ u other. at u other (dec v.x u.x) }
   where
@@ -62,6 +63,7 @@ leftmost_by_falling width laid v valley falls = record { valley = valley; leftmo
     at u other (inl h) = h
     at u other (inr h) = let some = (other.flat).some in absurd (no_valley_before width laid v valley falls u other (u.x + u.width - 1) (omega arith) h)
 
+-- two runs of columns with the same first column, width and level are one
 pub segment_path : (v u : Segment) → v.x ≡ u.x → v.width ≡ u.width → v.level ≡ u.level → v ≡ u
 segment_path v u a b c = λ i. record { x = a i; width = b i; level = c i }
 
@@ -72,6 +74,7 @@ not_wider width laid v u one two x level h = let within = (two.flat).within in l
     let flat : depth laid (v.x + v.width) ≡ u.level = (two.flat).level (v.x + v.width) (omega arith) (omega arith) in
     omega arith
 
+-- there is one leftmost valley at most
 pub one_leftmost_valley : (width : ℕ) (laid : List Square) (v u : Segment) → IsLeftmostValley width laid v → IsLeftmostValley width laid u → v ≡ u
 one_leftmost_valley width laid v u one two = segment_path v u x widths levels
   where
@@ -113,5 +116,6 @@ one_word t laid (m ∷ v) (n ∷ w) p q = λ i. heads i ∷ one_word t (laid ++ 
     rest : MovesFollow t (laid ++ squares_under t q.0) v
     rest = subst (λ (u : Segment). MovesFollow t (laid ++ squares_under t u) v) same p.4
 
+-- and so a tiling has one word at most
 pub a_tiling_has_one_word : ATilingHasOneWord
 a_tiling_has_one_word t v w p q = one_word t [] v w p q

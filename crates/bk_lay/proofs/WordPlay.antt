@@ -44,9 +44,11 @@ none_repeated : (squares : List Square) → NoneTwice squares → NoneRepeated s
 none_repeated [] none = tt
 none_repeated (q ∷ squares) none = ((λ h. none.0 (from_in q squares h)), none_repeated squares none.1)
 
+-- squares of which none stands twice are no more than those among which they all are
 pub fewer : (squares more : List Square) → NoneTwice squares → ((q : Square) → IsOneOf q squares → IsOneOf q more) → length squares ≤ length more
 fewer squares more none f = no_longer squares more (none_repeated squares none) (λ q h. to_in q more (f q (from_in q squares h)))
 
+-- no square stands twice in a list where each covers its own first cell, and no two of the list do
 pub none_twice : (squares : List Square) → ((q : Square) → IsOneOf q squares → count_by (covers q.x q.y) squares ≤ 1)
     → ((q : Square) → IsOneOf q squares → covers q.x q.y q ≡ true) → NoneTwice squares
 none_twice [] f g = tt
@@ -110,6 +112,7 @@ ends t tiling laid nodes o (m ∷ w) fills depicts p =
 even_of : (m n : ℕ) → m ≡ n → sign_between m n ≡ Even
 even_of m n e = grind (arith, nat_tests)
 
+-- where all columns are full and neighbouring runs differ in level, there is one run
 pub one_run : (t : Tiling) (laid : List Square) → ((c : ℕ) → c < t.width → depth laid c ≡ t.height) → (x : ℕ) → x < t.width → (runs : List Segment)
     → AreRuns t.width laid x runs
     → AllByRecursion (λ sign. parts sign ≡ true) (signs_between (map (λ v. v.level) runs)) → length runs ≡ 1
@@ -189,5 +192,6 @@ module _ (t : Tiling) (w : Word) (tiling : IsTiling t) (p : IsWordOf t w) where
   complete : IsComplete w
   complete = record { legal = e.legal; some = some_move w (omega (arith, order, (tiling.tiles).some)); one = one_left }
 
+-- a word of a tiling is complete and hangs as many squares as the tiling has
 pub tiling_word_is_complete : TilingWordIsComplete
 tiling_word_is_complete t w tiling p = (complete t w tiling p, order t w tiling p)

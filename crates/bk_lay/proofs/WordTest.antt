@@ -13,6 +13,7 @@ use Rattle.bk_lay.proofs.Valleys.{leftmost_by_falling}
 use Rattle.bk_lay.specs.TilingWord.{IsLeftmostValley, IsValley, MovesFollow, move_under, squares_under}
 use Rattle.bk_lay.specs.WordLaws.{NeverDeeperBefore}
 
+-- whether the column before a valley, where there is one, is deeper
 abbrev pub deeper_before : List Square → ℕ → ℕ → Bool
 deeper_before laid level zero = true
 deeper_before laid level (suc c) = nat_lt level (depth laid c)
@@ -33,6 +34,7 @@ before_of laid level (suc d) e c s = subst (λ (k : ℕ). level < depth laid k) 
     same : d ≡ c
     same = omega arith
 
+-- a segment that passes the tests is the leftmost valley
 pub passes_as_valley : (width : ℕ) (laid : List Square) (v : Segment) → PassesAsValley width laid v → IsLeftmostValley width laid v
 passes_as_valley width laid v p = leftmost_by_falling width laid v valley falls
   where
@@ -70,11 +72,13 @@ abbrev pub ArePassing : Tiling → List Square → List Segment → Type 0
 ArePassing t laid [] = all_below (λ c. nat_eq (depth laid c) t.height) t.width ≡ true
 ArePassing t laid (v ∷ valleys) = PassesAsValley t.width laid v × (nat_lt v.level t.height ≡ true) × ArePassing t (laid ++ squares_under t v) valleys
 
+-- the moves under valleys that pass, turn by turn, are the word
 pub word_by_valleys : (t : Tiling) (laid : List Square) (valleys : List Segment) → ArePassing t laid valleys → MovesFollow t laid (moves_under t laid valleys)
 word_by_valleys t laid [] p = λ c h. eqb-true (depth laid c) t.height (each_below (λ c. nat_eq (depth laid c) t.height) t.width p c h)
 word_by_valleys t laid (v ∷ valleys) p =
     (v, passes_as_valley t.width laid v p.0, ltb-true v.level t.height p.1, refl, word_by_valleys t (laid ++ squares_under t v) valleys p.2)
 
+-- the tests of a valley, one by one
 abbrev pub by_tests : (width : ℕ) (laid : List Square) (v : Segment) → nat_lt 0 v.width ≡ true → nat_le (v.x + v.width) width ≡ true
     → all_below (λ k. nat_eq (depth laid (v.x + k)) v.level) v.width ≡ true
     → all_below (λ c. nat_le (depth laid (suc c)) (depth laid c)) v.x ≡ true → deeper_before laid v.level v.x ≡ true

@@ -73,6 +73,7 @@ module _ (width : ℕ) (laid : List Square) where
       cases (inr (inl more)) goes turns = found_at x n s (omega arith) (λ h. more)
       cases (inr (inr less)) goes turns = turns (next_run x n s less) (omega arith)
 
+  -- columns of any depths have a leftmost valley
   pub there_is_a_valley : 0 < width → (v : Segment) × IsLeftmostValley width laid v × NeverDeeperBefore laid v
   there_is_a_valley h =
       scan (width - 1) 0 1 (record {
@@ -92,6 +93,7 @@ falls_before width laid v found = subst (NeverDeeperBefore laid) (one_leftmost_v
     there : (v : Segment) × IsLeftmostValley width laid v × NeverDeeperBefore laid v
     there = there_is_a_valley width laid (let some = ((found.valley).flat).some in let within = ((found.valley).flat).within in omega arith)
 
+-- a valley is the leftmost just where the columns before it never get deeper
 pub leftmost_is_first_rise : LeftmostIsFirstRise
 leftmost_is_first_rise width laid v valley = (leftmost_by_falling width laid v valley, falls_before width laid v)
 
@@ -221,8 +223,10 @@ module _ (t : Tiling) (tiling : IsTiling t) where
   pub some_moves_follow : (laid : List Square) → FillsFromTop t laid → (w : Word) × MovesFollow t laid w
   some_moves_follow laid fills = moves_from (full t.height t.width) laid fills (omega arith)
 
+  -- where nothing is laid, the tiling is filled from the top so far
   pub nothing_laid : FillsFromTop t []
   nothing_laid = record { squares = tt; filled = λ c j a b. absurd (omega arith) }
 
+-- from there turn by turn each tiling has a word
 pub every_tiling_has_a_word : EveryTilingHasAWord
 every_tiling_has_a_word t tiling = moves_from t tiling (full t.height t.width) [] (nothing_laid t tiling) (omega arith)

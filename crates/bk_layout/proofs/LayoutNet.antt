@@ -62,9 +62,11 @@ module _ (l : Layout) (fits : Fits l) (o : Outline) (st : State l o) (end : Ende
   abbrev all_nodes : List ℕ
   all_nodes = st.done ++ (l.bottom ∷ [])
 
+  -- the node of the layout by its place in the order of closing, the bottom last
   abbrev pub node : ℕ → ℕ
   node k = slice_index_or (st.done ++ (l.bottom ∷ [])) k 0
 
+  -- the square of the layout by its place in the order of hanging
   abbrev pub square : ℕ → ℕ
   square k = slice_index_or st.laid k 0
 
@@ -183,6 +185,7 @@ module _ (l : Layout) (fits : Fits l) (o : Outline) (st : State l o) (end : Ende
       there : slice_get (net_of_layout l).wires (square k) ≡ Some (l.above (square k), l.below (square k))
       there = get_map (λ (q : ℕ). (l.above q, l.below q)) (numbers_from 0 l.squares) (square k) (square k) number
 
+  -- by these numbers the net of the outline is the layout's net
   pub renumbering : IsRenumbering (net_after o) (net_of_layout l) node square
   renumbering = record {
     nodes = omega (arith, closed_many);
@@ -202,6 +205,7 @@ module _ (l : Layout) (fits : Fits l) (o : Outline) (st : State l o) (end : Ende
     each = λ k h. each k (omega (arith, h, word_wires));
   }
 
+  -- all squares of the layout are hung
   pub hung_many_is : length o.hung ≡ l.squares
   hung_many_is = hung_is
 

@@ -1,7 +1,7 @@
 -- Lists of numbers as lists of the squares that have these numbers, in the order in which squares were hung.
 use Rattle.std.proofs.Common.{List, Some, [], ap, arith, length, map, refl, slice_get, slice_index_or, subst, suc, sym, zero, ℕ, ◌++◌, ◌+◌, ◌-◌, ◌<◌}
 use Rattle.std.proofs.Common.{◌∙◌, ◌∷◌, ◌≡◌, ◌≤◌}
-use Rattle.std.proofs.lemmas.List.{append_assoc, length-append}
+use Rattle.std.proofs.lemmas.List.{append_assoc, length-append, map-append}
 use Rattle.bk_laws.proofs.Occurrences.{times, times-concat, times_in, times_in-append}
 use Rattle.bk_word.specs.Outline.{Outline}
 use Rattle.bk_word.specs.Play.{before_first_list, joined, numbers_from}
@@ -85,13 +85,9 @@ pub map_singles : (f : ℕ → ℕ) (numbers : List ℕ) → map (map f) (single
 map_singles f [] = refl
 map_singles f (n ∷ numbers) = ap (λ (x : List (List ℕ)). (f n ∷ []) ∷ x) (map_singles f numbers)
 
-map_both : (f : ℕ → ℕ) (xs ys : List ℕ) → map f (xs ++ ys) ≡ map f xs ++ map f ys
-map_both f [] ys = refl
-map_both f (x ∷ xs) ys = ap (λ (z : List ℕ). f x ∷ z) (map_both f xs ys)
-
 map_before : (f : ℕ → ℕ) (s : List ℕ) (lists : List (List ℕ)) → map (map f) (before_first_list s lists) ≡ before_first_list (map f s) (map (map f) lists)
 map_before f s [] = refl
-map_before f s (t ∷ lists) = ap (λ (x : List ℕ). x ∷ map (map f) lists) (map_both f s t)
+map_before f s (t ∷ lists) = ap (λ (x : List ℕ). x ∷ map (map f) lists) (map-append f s t)
 
 -- and through the joining of segments
 pub map_joined : (f : ℕ → ℕ) (signs : List Sign) (lists : List (List ℕ)) → map (map f) (joined signs lists) ≡ joined signs (map (map f) lists)

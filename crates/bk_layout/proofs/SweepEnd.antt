@@ -14,7 +14,8 @@ use Rattle.bk_layout.proofs.Counting.{at_most, just_as_many, none_for, same_or_o
 use Rattle.bk_layout.proofs.SquareLists.{lists_at, sq_of}
 use Rattle.bk_layout.proofs.Sweep.{State, ValleyAt, ending_times, valley_at}
 use Rattle.bk_layout.proofs.SweepStart.{first_by_lines, first_by_node, first_free, first_legal, first_move, first_no_twins, first_state, left_wall}
-use Rattle.bk_layout.proofs.SweepStep.{by_lines, by_node, free, legal, move, no_twins, state_then}
+use Rattle.bk_layout.proofs.SweepStates.{state_then}
+use Rattle.bk_layout.proofs.SweepStep.{by_lines, by_node, free, legal, move, no_twins}
 use Rattle.bk_layout.proofs.WholeRuns.{Hung, hung_from}
 use Rattle.bk_layout.specs.FreeWord.{AreFreeFrom, HangNoTwinsFrom, IsFree, IsWithoutTwins}
 use Rattle.bk_layout.specs.Layout.{Fits, HasNoTwins, Layout}
@@ -146,18 +147,23 @@ module _ (l : Layout) (fits : Fits l) (o : Outline) (st : State l o) (end : Ende
       cases (inl e) rest = ap (λ (u : ℕ). times u st.done) e ∙ st.begun
       cases (inr e) rest = from e (get_some (l.ending v) 0 (fits.nodes.ending_some v (positive v e) (omega (arith, low)))) rest
 
+  -- at the end each node but the bottom is closed once
   pub is_closed : (v : ℕ) → v < l.bottom → times v st.done ≡ 1
   is_closed v low = all_closed (suc (fits.nodes.rank v)) v (omega arith) low
 
+  -- and each square is laid once
   pub is_laid : (q : ℕ) → q < l.squares → times q st.laid ≡ 1
   is_laid q h = omega (arith, st.laid_times q h, is_closed (l.above q) (fits.nodes.hangs_above q h))
 
+  -- so as many nodes are closed as there are but the bottom
   pub done_many : length st.done ≡ l.bottom
   done_many = just_as_many l.bottom st.done st.done_low is_closed
 
+  -- and as many squares are laid as there are
   pub laid_many : length st.laid ≡ l.squares
   laid_many = just_as_many l.squares st.laid st.laid_low is_laid
 
+  -- and one segment is left
   pub one_segment : length o.segments ≡ 1
   one_segment = sym (length-map o.segments (map (sq_of st.laid))) ∙ ap length end.one
 

@@ -1,26 +1,20 @@
 -- One step of the sweep: what hangs from the valley's node is hung by a legal, free move.
-use Rattle.std.specs.List.{AllZip}
-use Rattle.std.proofs.Common.{List, Some, [], ap, arith, cond, filter, inl, inr, length, map, nat_eq, refl, replicate, slice_get, subst, suc, sym, ℕ}
-use Rattle.std.proofs.Common.{◌++◌, ◌+◌, ◌-◌, ◌<◌, ◌∙◌, ◌∷◌, ◌≡◌, ◌≤◌, ◌⊎◌}
-use Rattle.std.proofs.lemmas.List.{append_assoc, length-append, length-map, length-replicate, map-append}
-use Rattle.bk_laws.proofs.Occurrences.{times, times-append, times_in, times_in-append}
-use Rattle.bk_laws.proofs.ZippedLists.{zip_append, zip_map}
-use Rattle.bk_laws.proofs.ListPlaces.{get_after, get_append, get_last, get_map, get_some}
+use Rattle.std.proofs.Common.{List, Some, [], ap, arith, length, map, refl, slice_get, subst, suc, sym, ℕ}
+use Rattle.std.proofs.Common.{◌++◌, ◌+◌, ◌-◌, ◌<◌, ◌∙◌, ◌∷◌, ◌≡◌, ◌≤◌}
+use Rattle.std.proofs.lemmas.List.{append_assoc, length-append, length-map}
+use Rattle.bk_laws.proofs.Occurrences.{times, times_in, times_in-append}
+use Rattle.bk_laws.proofs.ListPlaces.{get_after, get_append, get_map, get_some}
 use Rattle.bk_word.specs.Outline.{IsLegalMove, Outline, has_left_wall, open_side, valley_of}
-use Rattle.bk_word.specs.Play.{after_move, joined, new_squares, parts, segments_apart, signs_apart}
 use Rattle.bk_word.specs.Word.{Move}
-use Rattle.bk_word.specs.declared.Sign.{Sign}
 use Rattle.bk_word.specs.declared.Sign.TheVariants.{Even}
-use Rattle.bk_word_net.proofs.MovedParts.{apart_segments, apart_signs, left_open, right_open, valley_is}
-use Rattle.bk_word_net.proofs.Numbering.{numbered_move}
-use Rattle.bk_word_net.proofs.Shape.{shaped_move}
+use Rattle.bk_word_net.proofs.MovedParts.{left_open, right_open, valley_is}
 use Rattle.bk_word_net.proofs.ValleyCut.{AtValley}
-use Rattle.bk_layout.proofs.Chains.{Chain, even_neighbours, last_from, sign, sign_at, signs_of, singles}
-use Rattle.bk_layout.proofs.Counting.{got_same, got_times, none_for, one_for, same_or_other, times_got}
-use Rattle.bk_layout.proofs.SquareLists.{AreLaid, all_laid, index_got, index_more, list_more, lists_at, lists_more, map_joined, map_singles}
-use Rattle.bk_layout.proofs.SquareLists.{new_numbers, new_numbers_more, sq_of, times_joined, times_singles}
-use Rattle.bk_layout.proofs.Sweep.{State, ValleyAt, ending_times, hanging_times}
-use Rattle.bk_layout.proofs.Turning.{AtLeft, chain_joined, many_signs, walls_of}
+use Rattle.bk_layout.proofs.Chains.{Chain, even_neighbours, last_from, sign, sign_at, signs_of}
+use Rattle.bk_layout.proofs.Counting.{got_same, got_times}
+use Rattle.bk_layout.proofs.SquareLists.{AreLaid, all_laid, index_got, index_more, list_more, lists_at}
+use Rattle.bk_layout.proofs.SquareLists.{new_numbers_more, sq_of}
+use Rattle.bk_layout.proofs.Sweep.{State, ValleyAt}
+use Rattle.bk_layout.proofs.Turning.{AtLeft, many_signs, walls_of}
 use Rattle.bk_layout.proofs.WholeRuns.{Hung, is_last}
 use Rattle.bk_layout.specs.FreeWord.{HangsNoTwins, IsFreeMove}
 use Rattle.bk_layout.specs.Layout.{Fits, HasNoTwins, IsFirst, IsLast, Layout}
@@ -114,24 +108,21 @@ module _ (l : Layout) (fits : Fits l) (o : Outline) (st : State l o) (v : AtVall
   last_there : IsLast (l.ending node) (last_from at.q at.qs)
   last_there = subst (λ (xs : List ℕ). IsLast xs (last_from at.q at.qs)) (sym at.whole) (is_last at.q at.qs)
 
-  left_line : l.left h.first ≡ l.left at.q
+  -- the line at the left of the new squares is that at the left of the valley
+  pub left_line : l.left h.first ≡ l.left at.q
   left_line = fits.lines.same_left node at.q h.first first_there (ap (λ (xs : List ℕ). slice_get xs 0) h.is)
 
-  right_line : l.right (last_from h.first h.more) ≡ l.right (last_from at.q at.qs)
+  -- and the line at their right is that at its right
+  pub right_line : l.right (last_from h.first h.more) ≡ l.right (last_from at.q at.qs)
   right_line = fits.lines.same_right node (last_from at.q at.qs) (last_from h.first h.more) last_there
       (subst (λ (xs : List ℕ). IsLast xs (last_from h.first h.more)) (sym h.is) (is_last h.first h.more))
 
-  abbrev apart : List (List ℕ)
-  apart = lists_at st.laid v.before ++ (lists_at st.laid v.left
-      ++ ((h.first ∷ []) ∷ (singles h.more ++ (lists_at st.laid v.right ++ lists_at st.laid v.after))))
-
-  abbrev apart_marks : List Sign
-  apart_marks = v.before_signs ++ (signs_of l (at.left.beyond ++ (h.first ∷ (h.more ++ at.right.beyond))) ++ v.after_signs)
-
-  laid_before : AreLaid laid o.segments
+  -- what stands open is laid
+  pub laid_before : AreLaid laid o.segments
   laid_before m k = all_laid o st.numbered st.laid st.long m (omega (arith, k))
 
-  parts_times : (m : ℕ) → times_in m o.segments ≡ times_in m v.before + (times_in m v.left + (times m v.valley + (times_in m v.right + times_in m v.after)))
+  -- a square stands in the open segments as often as in their parts
+  pub parts_times : (m : ℕ) → times_in m o.segments ≡ times_in m v.before + (times_in m v.left + (times m v.valley + (times_in m v.right + times_in m v.after)))
   parts_times m = ap (times_in m) v.segments
       ∙ omega (
         arith,
@@ -199,178 +190,3 @@ module _ (l : Layout) (fits : Fits l) (o : Outline) (st : State l o) (v : AtVall
           cut : lists_at laid o.segments ≡ l.ending node ∷ []
           cut = at.cut ∙ alone (lists_at laid v.before) (lists_at laid v.left) (lists_at laid v.right ++ lists_at laid v.after) (at.q ∷ at.qs)
               (ap length (sym at.cut) ∙ length-map o.segments (map (sq_of laid)) ∙ one) ∙ ap (λ (x : List ℕ). x ∷ []) (sym at.whole)
-
-  chain_apart : Chain l apart_marks apart × AtLeft l apart
-  chain_apart = at.left.hang h.first [] (h.more ++ at.right.beyond)
-      (singles h.more ++ (lists_at st.laid v.right ++ lists_at st.laid v.after)) v.after_signs left_line
-      (at.right.hang h.first h.more h.known h.linked right_line)
-
-  -- ---- the outline after the move, in squares
-
-  same_before : lists_at laid_then v.before ≡ lists_at laid v.before
-  same_before = lists_more laid new v.before (λ m k. laid_before m (omega (arith, k, parts_times m)))
-
-  same_left : lists_at laid_then v.left ≡ lists_at laid v.left
-  same_left = lists_more laid new v.left (λ m k. laid_before m (omega (arith, k, parts_times m)))
-
-  same_right : lists_at laid_then v.right ≡ lists_at laid v.right
-  same_right = lists_more laid new v.right (λ m k. laid_before m (omega (arith, k, parts_times m)))
-
-  same_after : lists_at laid_then v.after ≡ lists_at laid v.after
-  same_after = lists_more laid new v.after (λ m k. laid_before m (omega (arith, k, parts_times m)))
-
-  new_are : map (sq_of laid_then) (new_squares o move) ≡ new
-  new_are = new_numbers laid new (length o.hung + 1) (omega (arith, st.long))
-
-  news_are : lists_at laid_then (singles (new_squares o move)) ≡ singles new
-  news_are = map_singles (sq_of laid_then) (new_squares o move) ∙ ap singles new_are
-
-  apart_is : lists_at laid_then (segments_apart o move) ≡ apart
-  apart_is = ap (lists_at laid_then) (apart_segments o v move legal)
-      ∙ map-append (map (sq_of laid_then)) v.before ((v.left ++ (singles (new_squares o move) ++ v.right)) ++ v.after)
-      ∙ ap (λ (x : List (List ℕ)). lists_at laid_then v.before ++ x)
-      (map-append (map (sq_of laid_then)) (v.left ++ (singles (new_squares o move) ++ v.right)) v.after
-      ∙ ap (λ (x : List (List ℕ)). x ++ lists_at laid_then v.after) (map-append (map (sq_of laid_then)) v.left (singles (new_squares o move) ++ v.right)
-      ∙ ap (λ (x : List (List ℕ)). lists_at laid_then v.left ++ x) (map-append (map (sq_of laid_then)) (singles (new_squares o move)) v.right)))
-      ∙ (λ i. same_before i ++ ((same_left i ++ (news_are i ++ same_right i)) ++ same_after i))
-      ∙ regroup (lists_at laid v.before) (lists_at laid v.left) (singles new) (lists_at laid v.right) (lists_at laid v.after)
-    where
-      regroup : (a b c d e : List (List ℕ)) → a ++ ((b ++ (c ++ d)) ++ e) ≡ a ++ (b ++ (c ++ (d ++ e)))
-      regroup a b c d e = simp append_assoc
-
-  marks_are : signs_apart o move ≡ apart_marks
-  marks_are = apart_signs o v move legal
-
-  after_is : lists_at laid_then (after_move o move).segments ≡ joined apart_marks apart
-  after_is = map_joined (sq_of laid_then) (signs_apart o move) (segments_apart o move) ∙ (λ i. joined (marks_are i) (apart_is i))
-
-  chain_then : Chain l (after_move o move).signs (lists_at laid_then (after_move o move).segments) × AtLeft l (lists_at laid_then (after_move o move).segments)
-  chain_then = subst (λ (x : List (List ℕ)). Chain l (after_move o move).signs x × AtLeft l x) (sym after_is)
-      (subst (λ (g : List Sign). Chain l (filter parts g) (joined apart_marks apart) × AtLeft l (joined apart_marks apart)) (sym marks_are)
-      (chain_joined l fits apart_marks apart chain_apart.1 chain_apart.0))
-
-  -- ---- the counts
-
-  open_before : (x : ℕ) → times_in x (lists_at laid o.segments)
-      ≡ times_in x (lists_at laid v.before) + (times_in x (lists_at laid v.left)
-      + (times x (at.q ∷ at.qs) + (times_in x (lists_at laid v.right) + times_in x (lists_at laid v.after))))
-  open_before x = ap (times_in x) at.cut ∙ omega (
-    arith,
-    times_in-append x (lists_at laid v.before) (lists_at laid v.left ++ ((at.q ∷ at.qs) ∷ (lists_at laid v.right ++ lists_at laid v.after))),
-    times_in-append x (lists_at laid v.left) ((at.q ∷ at.qs) ∷ (lists_at laid v.right ++ lists_at laid v.after)),
-    times_in-append x (lists_at laid v.right) (lists_at laid v.after),
-  )
-
-  open_then : (x : ℕ) → times_in x (lists_at laid_then (after_move o move).segments)
-      ≡ times_in x (lists_at laid v.before) + (times_in x (lists_at laid v.left)
-      + (times x new + (times_in x (lists_at laid v.right) + times_in x (lists_at laid v.after))))
-  open_then x = ap (times_in x) after_is ∙ times_joined x apart_marks apart ∙ omega (
-    arith,
-    times_in-append x (lists_at laid v.before) (lists_at laid v.left ++ (singles new ++ (lists_at laid v.right ++ lists_at laid v.after))),
-    times_in-append x (lists_at laid v.left) (singles new ++ (lists_at laid v.right ++ lists_at laid v.after)),
-    times_in-append x (singles new) (lists_at laid v.right ++ lists_at laid v.after),
-    times_in-append x (lists_at laid v.right) (lists_at laid v.after),
-    times_singles x new,
-  )
-
-  new_times : (x : ℕ) → x < l.squares → times x new ≡ cond (nat_eq (l.above x) node) 1 0
-  new_times x k = ap (times x) (sym h.is) ∙ hanging_times l fits x node k
-
-  old_times : (x : ℕ) → x < l.squares → times x (at.q ∷ at.qs) ≡ cond (nat_eq (l.below x) node) 1 0
-  old_times x k = ap (times x) (sym at.whole) ∙ ending_times l fits x node k
-
-  abbrev done_then : List ℕ
-  done_then = st.done ++ (l.below at.q ∷ [])
-
-  done_more : (u : ℕ) → times u done_then ≡ times u st.done + cond (nat_eq u node) 1 0
-  done_more u = omega (arith, times-append u st.done (node ∷ []))
-
-  -- the node wasn't closed before
-  fresh : times node st.done ≡ 0
-  fresh = omega (arith, st.open_times at.q at.known, open_before at.q, one_for at.q at.q refl, st.done_once (l.above at.q))
-
-  hung_then : (xs : List ℕ) → ((x : ℕ) → 0 < times x xs → l.above x ≡ node)
-      → AllZip (λ q k. slice_get done_then k ≡ Some (l.above q)) xs (replicate (length xs) (length o.closed))
-  hung_then [] f = tt
-  hung_then (x ∷ xs) f = (there, hung_then xs (λ y k. f y (omega (arith, k))))
-    where
-      many : length o.closed ≡ length st.done
-      many = sym (length-map o.closed (map (sq_of st.laid))) ∙ ap length st.closed ∙ length-map st.done l.ending
-
-      there : slice_get done_then (length o.closed) ≡ Some (l.above x)
-      there = (λ i. slice_get done_then (many i)) ∙ get_last st.done node [] ∙ ap (λ (u : ℕ). Some u) (sym (f x (omega (arith, one_for x x refl))))
-
-  new_above : (x : ℕ) → 0 < times x new → (x < l.squares) × (l.above x ≡ node)
-  new_above x k = let g = times_got new x k in fits.lists.hanging_is node g.0 x (ap (λ (xs : List ℕ). slice_get xs g.0) h.is ∙ g.1)
-
-  closed_then : lists_at laid_then (after_move o move).closed ≡ map l.ending done_then
-  closed_then = map-append (map (sq_of laid_then)) o.closed (valley_of o ∷ [])
-      ∙ (λ i. (lists_more laid new o.closed (λ m k. all_laid o st.numbered st.laid st.long m (omega (arith, k))) ∙ st.closed) i ++ (valley i ∷ []))
-      ∙ sym (map-append l.ending st.done (node ∷ []))
-    where
-      one : lists_at laid_then (v.valley ∷ []) ≡ lists_at laid (v.valley ∷ [])
-      one = lists_more laid new (v.valley ∷ []) (λ m k. laid_before m (omega (arith, k, parts_times m)))
-
-      head : (x y : List ℕ) → ◌≡◌ {A = List (List ℕ)} (x ∷ []) (y ∷ []) → x ≡ y
-      head x y e = cc
-
-      valley : map (sq_of laid_then) (valley_of o) ≡ l.ending node
-      valley = ap (map (sq_of laid_then)) (valley_is o v) ∙ head (map (sq_of laid_then) v.valley) (map (sq_of laid) v.valley) one ∙ at.is ∙ sym at.whole
-
-  -- after it the state holds again, with one node more closed
-  pub state_then : (s : State l (after_move o move)) × (length s.done ≡ suc (length st.done)) × (s.laid ≡ laid_then)
-  state_then = (
-    record {
-      laid = laid_then;
-      done = done_then;
-      shaped = shaped_move o move legal st.shaped;
-      numbered = numbered_move o move st.numbered;
-      long = omega (
-        arith,
-        st.long,
-        length-append st.laid new,
-        length-append o.hung (replicate move.count (length o.closed)),
-        length-replicate move.count (length o.closed),
-      );
-      chain = chain_then.0;
-      wall = chain_then.1;
-      closed = closed_then;
-      hung = zip_append (λ q k. slice_get done_then k ≡ Some (l.above q)) st.laid new o.hung (replicate move.count (length o.closed))
-          (zip_map (λ q k. slice_get st.done k ≡ Some (l.above q)) (λ q k. slice_get done_then k ≡ Some (l.above q))
-          (λ q k e. get_append st.done (node ∷ []) k (l.above q) e) st.laid o.hung st.hung)
-          (hung_then new (λ x k. (new_above x k).1));
-      laid_times = λ q k. omega (arith, times-append q st.laid new, new_times q k, st.laid_times q k, done_more (l.above q));
-      open_times = λ q k. omega (
-        arith,
-        open_then q,
-        new_times q k,
-        open_before q,
-        old_times q k,
-        st.open_times q k,
-        done_more (l.above q),
-        done_more (l.below q),
-      );
-      done_once = λ u. once u (same_or_other u node);
-      top = get_append st.done (node ∷ []) 0 0 st.top;
-      begun = omega (arith, st.begun, done_more 0, none_for 0 node (λ e. omega (arith, e, (fits.nodes.ends_below at.q at.known).0)));
-      laid_low = λ q k. low_laid q (two (times q st.laid) (times q new) (omega (arith, k, times-append q st.laid new)));
-      done_low = λ u k. low_done u k (same_or_other u node);
-    },
-    omega (arith, length-append st.done (node ∷ [])),
-    refl,
-  )
-    where
-      once : (u : ℕ) → (u ≡ node) ⊎ (u ≡ node → ⊥) → times u done_then ≤ 1
-      once u (inl e) = omega (arith, done_more u, one_for u node e, ap (λ (w : ℕ). times w st.done) e, fresh)
-      once u (inr e) = omega (arith, done_more u, none_for u node e, st.done_once u)
-
-      two : (a b : ℕ) → 0 < a + b → (0 < a) ⊎ (0 < b)
-      two a b h = grind arith
-
-      low_laid : (q : ℕ) → (0 < times q st.laid) ⊎ (0 < times q new) → q < l.squares
-      low_laid q (inl k) = st.laid_low q k
-      low_laid q (inr k) = (new_above q k).0
-
-      low_done : (u : ℕ) → 0 < times u done_then → (u ≡ node) ⊎ (u ≡ node → ⊥) → u < l.bottom
-      low_done u k (inl e) = omega (arith, e, low)
-      low_done u k (inr e) = st.done_low u (omega (arith, k, done_more u, none_for u node e))

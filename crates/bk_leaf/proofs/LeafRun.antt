@@ -1,23 +1,24 @@
 -- What one run of a leaf has found, from what its steps ensure.
+use Rattle.std.specs.Int.{w64}
 use Rattle.std.specs.Prelude.{nat_abs, pos, ℤ}
-use Rattle.std.proofs.Common.{List, [], ap, arith, length, slice_index_or, subst, sym, ℕ, ◌-◌, ◌<◌, ◌^◌, ◌∙◌, ◌≡◌, ◌≤◌}
+use Rattle.std.proofs.Common.{List, ap, arith, length, of_z, slice_index_or, subst, sym, to_z, ℕ, ◌*◌, ◌-◌, ◌<◌, ◌^◌, ◌∙◌, ◌≡◌, ◌≤◌}
+use Rattle.std.proofs.lemmas.Int.{to_z-of_z}
 use Rattle.bk_tiling.specs.CodeOrder.{in_code_order}
 use Rattle.bk_tiling.specs.Refusal.{IsAccepted}
 use Rattle.bk_tiling.specs.Scale.{IsPrimitiveTiling}
 use Rattle.bk_tiling.specs.Tiling.{IsTiling, Tiling}
 use Rattle.bk_tiling.specs.declared.Square.{Square}
 use Rattle.bk_net.specs.Flow.{IsPrimitiveFlow}
-use Rattle.bk_net.specs.Net.{HasNoLoose, Net}
+use Rattle.bk_net.specs.Net.{HasNoLoose, IsNet, Net}
 use Rattle.bk_word.specs.Play.{IsComplete}
 use Rattle.bk_word.specs.Word.{Word, order_of}
 use Rattle.bk_word_net.specs.WordNet.{net_of_word}
-use Rattle.bk_free_cuts.specs.LineNumbers.{sides_of}
-use Rattle.bk_signed_word.proofs.KnownLines.{as_many_sides}
 use Rattle.bk_signed_word.specs.SignedWord.{IsSignedWordOf}
-use Rattle.bk_candidate.specs.Candidate.{right_edges_from}
-use Rattle.bk_leaf.proofs.Leaves.{accepted_found, currents_many, currents_small, ends_within, height_found, in_order_found, joined, lines_known}
-use Rattle.bk_leaf.proofs.Leaves.{no_zero_found, nodes_few, total_small, width_found, wires_are}
-use Rattle.bk_leaf.specs.Placing.{AreKnownLines, AreLevels, AreSmall, EndWithin, HasLevels, IsPlacedAt, IsSmall}
+use Rattle.bk_leaf.proofs.Leaves.{accepted_found, as_many_lefts, currents_many, currents_small, ends_within, height_found, in_order_found, joined, lines_known}
+use Rattle.bk_leaf.proofs.Leaves.{no_zero_found, nodes_few, total_small, width_found, wires_are, word_net}
+use Rattle.bk_leaf.proofs.LevelSteps.{fits_small}
+use Rattle.bk_free_cuts.specs.LineNumbers.{lefts_of}
+use Rattle.bk_leaf.specs.Placing.{AreKnownLines, AreLevels, AreSmall, EndWithin, HasLevels, IsPlacedAt, IsSmall, edges_by_lefts}
 
 -- for each tiling in lowest terms of which the word is a signed one: this is its size, and these are its squares
 pub record IsLeafRun (w : Word) (width height : ℕ) (squares : List Square) : Type 0 where
@@ -25,6 +26,15 @@ pub record IsLeafRun (w : Word) (width height : ℕ) (squares : List Square) : T
   pub height_is : (t : Tiling) → IsTiling t → IsPrimitiveTiling t → IsSignedWordOf t w → height ≡ t.height
   pub accepted : (t : Tiling) → IsTiling t → IsPrimitiveTiling t → IsSignedWordOf t w → IsAccepted width height squares
   pub in_order : (t : Tiling) → IsTiling t → IsPrimitiveTiling t → IsSignedWordOf t w → in_code_order squares ≡ t.squares
+
+-- the level of the last node as the code holds it
+pub held_height : (levels : List ℤ) (from nodes height : ℕ) → ((v : ℕ) → v < 17 → IsSmall (16 * 2 ^ 34) (slice_index_or levels v (pos 0)))
+    → from ≡ nodes → nodes ≤ 17
+    → height ≡ nat_abs (to_z w64 (of_z w64 (slice_index_or levels (from - 1) (pos 0)))) → height ≡ nat_abs (slice_index_or levels (nodes - 1) (pos 0))
+held_height levels from nodes height small same few e = e
+    ∙ ap nat_abs (to_z-of_z w64 (slice_index_or levels (from - 1) (pos 0))
+    (fits_small (16 * 2 ^ 34) (slice_index_or levels (from - 1) (pos 0)) (small (from - 1) (omega (arith, same, few))) (omega arith)))
+    ∙ ap (λ (v : ℕ). nat_abs (slice_index_or levels (v - 1) (pos 0))) same
 
 -- a net that is the word's, and what its flow shows
 module _ (w : Word) (complete : IsComplete w) (few : order_of w ≤ 16) (net : Net) (net_is : net ≡ net_of_word w) where
@@ -36,6 +46,9 @@ module _ (w : Word) (complete : IsComplete w) (few : order_of w ≤ 16) (net : N
 
   pub net_joined : HasNoLoose net
   net_joined = subst HasNoLoose (sym net_is) (joined w complete few)
+
+  pub net_is_one : IsNet net
+  net_is_one = subst IsNet (sym net_is) (word_net w complete few)
 
   pub net_nodes : net.nodes ≤ 17
   net_nodes = omega (arith, ap (λ (n : Net). n.nodes) net_is, nodes_few w complete few)
@@ -50,12 +63,12 @@ module _ (w : Word) (complete : IsComplete w) (few : order_of w ≤ 16) (net : N
     pub shown_few : length wires ≤ 16
     shown_few = omega (arith, ap length wires_is, net_few)
 
-  module _ (sides : List (ℕ × ℕ)) (sides_is : sides ≡ sides_of w) where
-    pub sides_known : AreKnownLines sides
-    sides_known = subst AreKnownLines (sym sides_is) (lines_known w complete few)
+  module _ (lefts : List ℕ) (lefts_is : lefts ≡ lefts_of w) where
+    pub lefts_known : AreKnownLines lefts
+    lefts_known = subst AreKnownLines (sym lefts_is) (lines_known w complete few)
 
-    pub sides_many : length sides ≡ order_of w
-    sides_many = ap length sides_is ∙ as_many_sides w
+    pub lefts_many : length lefts ≡ order_of w
+    lefts_many = ap length lefts_is ∙ as_many_lefts w
 
   module _ (total : ℤ) (currents : List ℤ) (flow : IsPrimitiveFlow net total currents) where
     word_flow : IsPrimitiveFlow (net_of_word w) total currents
@@ -63,6 +76,13 @@ module _ (w : Word) (complete : IsComplete w) (few : order_of w ≤ 16) (net : N
 
     pub small_total : IsSmall (2 ^ 34) total
     small_total = total_small w complete few total currents word_flow
+
+    -- the total as the code holds it
+    pub held_total : to_z w64 (of_z w64 total) ≡ total
+    held_total = to_z-of_z w64 total (fits_small (2 ^ 34) total small_total (omega arith))
+
+    pub held_small : IsSmall (2 ^ 34) (to_z w64 (of_z w64 total))
+    held_small = subst (λ (z : ℤ). IsSmall (2 ^ 34) z) (sym held_total) small_total
 
     module _ (shown : List ℤ) (shown_is : shown ≡ currents) where
       pub shown_small : AreSmall (2 ^ 34) shown
@@ -90,27 +110,24 @@ module _ (w : Word) (complete : IsComplete w) (few : order_of w ≤ 16) (net : N
           is_height t tiling lowest s = height_eq ∙ ap (λ (n : Net). nat_abs (slice_index_or levels (n.nodes - 1) (pos 0))) net_is
               ∙ height_found w complete few total currents word_flow levels word_right t tiling lowest s
 
-          module _ (sides : List (ℕ × ℕ)) (sides_is : sides ≡ sides_of w) (held : ℤ) (held_is : held ≡ total) (rights : List ℤ)
-              (edges : rights ≡ right_edges_from held [] sides shown)
-              (again : List (ℕ × ℕ)) (again_is : again ≡ sides_of w) (others : List (ℕ × ℕ)) (others_is : others ≡ net.wires) (known : ℤ)
-              (known_is : known ≡ total)
-              (squares : List Square) (many : length squares ≡ length again)
-              (each : (k : ℕ) → k < length again → IsPlacedAt again others shown levels rights known k
+          module _ (lefts : List ℕ) (lefts_is : lefts ≡ lefts_of w) (held : ℤ) (held_is : held ≡ total) (rights : List ℤ)
+              (edges : rights ≡ edges_by_lefts held lefts shown) (squares : List Square) (many : length squares ≡ length lefts)
+              (each : (k : ℕ) → k < length lefts → IsPlacedAt lefts wires shown levels rights held k
               (slice_index_or squares k (record { x = 0; y = 0; s = 0 }))) where
-            word_edges : rights ≡ right_edges_from total [] (sides_of w) currents
-            word_edges = edges ∙ (λ i. right_edges_from (held_is i) [] (sides_is i) (shown_is i))
+            word_edges : rights ≡ edges_by_lefts total (lefts_of w) currents
+            word_edges = edges ∙ (λ i. edges_by_lefts (held_is i) (lefts_is i) (shown_is i))
 
-            word_each : (k : ℕ) → k < length (sides_of w)
-                → IsPlacedAt (sides_of w) (net_of_word w).wires currents levels rights total k (slice_index_or squares k (record { x = 0; y = 0; s = 0 }))
-            word_each = subst (λ (ss : List (ℕ × ℕ)). (k : ℕ) → k < length ss
-                → IsPlacedAt ss (net_of_word w).wires currents levels rights total k (slice_index_or squares k (record { x = 0; y = 0; s = 0 }))) again_is
-                (subst (λ (ws : List (ℕ × ℕ)). (k : ℕ) → k < length again
-                → IsPlacedAt again ws currents levels rights total k (slice_index_or squares k (record { x = 0; y = 0; s = 0 })))
-                (all_wires others others_is)
-                (subst (λ (cs : List ℤ). (k : ℕ) → k < length again
-                → IsPlacedAt again others cs levels rights total k (slice_index_or squares k (record { x = 0; y = 0; s = 0 }))) shown_is
-                (subst (λ (z : ℤ). (k : ℕ) → k < length again
-                → IsPlacedAt again others shown levels rights z k (slice_index_or squares k (record { x = 0; y = 0; s = 0 }))) known_is each)))
+            word_each : (k : ℕ) → k < length (lefts_of w)
+                → IsPlacedAt (lefts_of w) (net_of_word w).wires currents levels rights total k (slice_index_or squares k (record { x = 0; y = 0; s = 0 }))
+            word_each = subst (λ (ls : List ℕ). (k : ℕ) → k < length ls
+                → IsPlacedAt ls (net_of_word w).wires currents levels rights total k (slice_index_or squares k (record { x = 0; y = 0; s = 0 }))) lefts_is
+                (subst (λ (ws : List (ℕ × ℕ)). (k : ℕ) → k < length lefts
+                → IsPlacedAt lefts ws currents levels rights total k (slice_index_or squares k (record { x = 0; y = 0; s = 0 })))
+                (all_wires wires wires_is)
+                (subst (λ (cs : List ℤ). (k : ℕ) → k < length lefts
+                → IsPlacedAt lefts wires cs levels rights total k (slice_index_or squares k (record { x = 0; y = 0; s = 0 }))) shown_is
+                (subst (λ (z : ℤ). (k : ℕ) → k < length lefts
+                → IsPlacedAt lefts wires shown levels rights z k (slice_index_or squares k (record { x = 0; y = 0; s = 0 }))) held_is each)))
 
             pub leaf_run : IsLeafRun w width height squares
             leaf_run = record {
@@ -119,7 +136,7 @@ module _ (w : Word) (complete : IsComplete w) (few : order_of w ≤ 16) (net : N
               accepted = λ t tiling lowest s. subst (λ (n : ℕ). IsAccepted n height squares) (sym (is_width t tiling lowest s))
                   (subst (λ (n : ℕ). IsAccepted t.width n squares) (sym (is_height t tiling lowest s))
                   (accepted_found w complete few total currents word_flow levels word_right rights squares word_edges
-                  (many ∙ ap length again_is) word_each t tiling lowest s));
+                  (many ∙ ap length lefts_is) word_each t tiling lowest s));
               in_order = λ t tiling lowest s. in_order_found w complete few total currents word_flow levels word_right rights squares
-                  word_edges (many ∙ ap length again_is) word_each t tiling lowest s;
+                  word_edges (many ∙ ap length lefts_is) word_each t tiling lowest s;
             }

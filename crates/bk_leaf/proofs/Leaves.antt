@@ -1,11 +1,10 @@
 -- What the code of a leaf finds: the squares of the candidate, and the tiling of which the word is a signed one.
 use Rattle.std.specs.List.{AllByRecursion}
-use Rattle.std.specs.Prelude.{All, nat_abs, negsuc, pos, ℤ, ◌-ℤ◌, ◌≢◌}
+use Rattle.std.specs.Prelude.{nat_abs, negsuc, pos, ℤ, ◌++◌, ◌+ℤ◌, ◌-ℤ◌, ◌≢◌}
 use Rattle.std.proofs.Common.{List, Some, [], ap, arith, length, map, refl, slice_get, slice_index_or, subst, suc, sym, zero, ℕ, ◌+◌, ◌-◌, ◌<◌, ◌^◌}
 use Rattle.std.proofs.Common.{◌∙◌, ◌∷◌, ◌≡◌, ◌≤◌}
 use Rattle.std.proofs.lemmas.Int.{ints}
 use Rattle.std.proofs.lemmas.List.{length-map}
-use Rattle.std.proofs.lemmas.List.Elements.{recursion_from_All}
 use Rattle.std.proofs.lemmas.Option.{get_or_from_slice_get, slice_get-get_or, slice_get_within}
 use Rattle.bk_tiling.proofs.Cells.{all_from, in_all}
 use Rattle.bk_tiling.specs.CodeOrder.{in_code_order}
@@ -15,8 +14,7 @@ use Rattle.bk_tiling.specs.Scale.{IsPrimitiveTiling}
 use Rattle.bk_tiling.specs.Tiling.{IsOneOf, IsTiling, Tiles, Tiling, whole}
 use Rattle.bk_tiling.specs.declared.Square.{Square}
 use Rattle.bk_net.specs.Flow.{Flow, IsPrimitiveFlow, potential}
-use Rattle.bk_net.specs.Net.{HasNoLoose, last_node}
-use Rattle.bk_flow.proofs.NarrowNets.{small_nets_have_small_flows}
+use Rattle.bk_net.specs.Net.{HasNoLoose, IsNet, last_node}
 use Rattle.bk_word.proofs.PlayLaws.{moves_many}
 use Rattle.bk_word.specs.Outline.{start}
 use Rattle.bk_word.specs.Play.{IsComplete, numbers_from, outline_of}
@@ -26,24 +24,14 @@ use Rattle.bk_word_net.proofs.PlacesInLists.{index_of}
 use Rattle.bk_word_net.proofs.Shape.{hung_many}
 use Rattle.bk_word_net.proofs.WordTilings.{wires_many}
 use Rattle.bk_word_net.specs.WordNet.{net_of_word}
-use Rattle.bk_free_cuts.specs.LineNumbers.{sides_of}
+use Rattle.bk_free_cuts.specs.LineNumbers.{lefts_of, sides_of}
 use Rattle.bk_signed_word.proofs.KnownLines.{as_many_sides, known_lines}
 use Rattle.bk_signed_word.specs.SignedWord.{IsSignedWordOf}
 use Rattle.bk_candidate.proofs.Candidates.{the_candidate_is_the_tiling}
 use Rattle.bk_candidate.specs.Candidate.{IsCandidateOf, candidate_square, candidate_squares, level_in, line_place, placed_square, right_edges_from}
-use Rattle.bk_leaf.proofs.LevelSteps.{small_from}
+use Rattle.bk_leaf.proofs.SmallFlows.{flow_currents_small, flow_total_small, index_all}
 use Rattle.bk_leaf.proofs.WordWires.{last_end, word_levels}
-use Rattle.bk_leaf.specs.Placing.{AreKnownLines, AreLevels, AreSmall, EndWithin, HasLevels, IsPlacedAt, IsSmall}
-
-index_all : {A : Type 0} (P : A → Type 0) (xs : List A) (k : ℕ) (d : A) → AllByRecursion P xs → k < length xs → P (slice_index_or xs k d)
-index_all P [] k d all h = absurd (omega arith)
-index_all P (x ∷ xs) zero d all h = all.0
-index_all P (x ∷ xs) (suc k) d all h = index_all P xs k d all.1 (omega arith)
-
-index_any : {A : Type 0} (xs : List A) (k : ℕ) (d e : A) → k < length xs → slice_index_or xs k d ≡ slice_index_or xs k e
-index_any [] k d e h = absurd (omega arith)
-index_any (x ∷ xs) zero d e h = refl
-index_any (x ∷ xs) (suc k) d e h = index_any xs k d e (omega arith)
+use Rattle.bk_leaf.specs.Placing.{AreKnownLines, AreLevels, AreSmall, EndWithin, HasLevels, IsPlacedAt, IsSmall, by_lefts, edges_by_lefts}
 
 by_index : (xs : List Square) (g : ℕ → Square) (b : ℕ) (d : Square) → ((k : ℕ) → k < length xs → slice_index_or xs k d ≡ g (b + k))
     → xs ≡ map g (numbers_from b (length xs))
@@ -56,6 +44,21 @@ by_index (x ∷ xs) g b d each = λ i. (each 0 (omega arith) ∙ ap g at) i ∷ 
     next : (k : ℕ) → b + suc k ≡ b + 1 + k
     next k = omega arith
 
+left_at : (sides : List (ℕ × ℕ)) (k : ℕ) (d : ℕ × ℕ) → k < length sides → slice_index_or (map (λ s. s.0) sides) k 0 ≡ (slice_index_or sides k d).0
+left_at [] k d h = absurd (omega arith)
+left_at (s ∷ sides) zero d h = refl
+left_at (s ∷ sides) (suc k) d h = left_at sides k d (omega arith)
+
+pub as_many_lefts : (w : Word) → length (lefts_of w) ≡ order_of w
+as_many_lefts w = length-map (sides_of w) (λ s. s.0) ∙ as_many_sides w
+
+-- where squares end is told by the lines at their left
+edges_told : (total : ℤ) (rights : List ℤ) (sides : List (ℕ × ℕ)) (currents : List ℤ)
+    → right_edges_from total rights (by_lefts (map (λ s. s.0) sides)) currents ≡ right_edges_from total rights sides currents
+edges_told total rights [] currents = refl
+edges_told total rights (s ∷ sides) [] = refl
+edges_told total rights (s ∷ sides) (c ∷ currents) = edges_told total (rights ++ (line_place total rights s.0 +ℤ c) ∷ []) sides currents
+
 -- the numbers of a complete word of at most 16 squares
 module _ (w : Word) (complete : IsComplete w) (few : order_of w ≤ 16) where
   pub wires_are : length (net_of_word w).wires ≡ order_of w
@@ -63,6 +66,9 @@ module _ (w : Word) (complete : IsComplete w) (few : order_of w ≤ 16) where
 
   pub joined : HasNoLoose (net_of_word w)
   joined = (a_word_net_has_no_loose w complete).1
+
+  pub word_net : IsNet (net_of_word w)
+  word_net = (a_word_net_has_no_loose w complete).0
 
   pub nodes_few : (net_of_word w).nodes ≤ 17
   nodes_few = omega (arith, few, closed_count start w, moves_many start w complete.legal)
@@ -73,19 +79,19 @@ module _ (w : Word) (complete : IsComplete w) (few : order_of w ≤ 16) where
   pub ends_within : EndWithin 17 (net_of_word w).wires
   ends_within k h = let e = ((a_word_net_has_no_loose w complete).0).ends k (0, 0) h in (omega (arith, e.0, nodes_few), omega (arith, e.1, nodes_few))
 
-  pub lines_known : AreKnownLines (sides_of w)
-  lines_known k h = (known_lines w k (slice_index_or (sides_of w) k (0, 0)) (slice_get-get_or (sides_of w) k (0, 0) h)).0
+  pub lines_known : AreKnownLines (lefts_of w)
+  lines_known k h = subst (λ (n : ℕ). n < k + 2) (sym (left_at (sides_of w) k (0, 0) low))
+      (known_lines w k (slice_index_or (sides_of w) k (0, 0)) (slice_get-get_or (sides_of w) k (0, 0) low)).0
+    where
+      low : k < length (sides_of w)
+      low = omega (arith, h, length-map (sides_of w) (λ s. s.0))
 
   module _ (total : ℤ) (currents : List ℤ) (flow : IsPrimitiveFlow (net_of_word w) total currents) where
-    small : All (λ n. nat_abs n ≤ 2 ^ 34) (total ∷ currents)
-    small = small_nets_have_small_flows (net_of_word w) total currents (a_word_net_has_no_loose w complete).0 joined (omega (arith, wires_are, few)) flow
-
     pub total_small : IsSmall (2 ^ 34) total
-    total_small = small_from (2 ^ 34) total (recursion_from_All (λ n. nat_abs n ≤ 2 ^ 34) (total ∷ currents) small).0
+    total_small = flow_total_small (net_of_word w) total currents (a_word_net_has_no_loose w complete).0 joined (omega (arith, wires_are, few)) flow
 
     pub currents_small : AreSmall (2 ^ 34) currents
-    currents_small k h = small_from (2 ^ 34) (slice_index_or currents k (pos 0))
-        (index_all (λ n. nat_abs n ≤ 2 ^ 34) currents k (pos 0) (recursion_from_All (λ n. nat_abs n ≤ 2 ^ 34) (total ∷ currents) small).1 h)
+    currents_small = flow_currents_small (net_of_word w) total currents (a_word_net_has_no_loose w complete).0 joined (omega (arith, wires_are, few)) flow
 
     abbrev the_flow : Flow
     the_flow = record { total = total; potentials = flow.0; currents = currents }
@@ -129,24 +135,28 @@ module _ (w : Word) (complete : IsComplete w) (few : order_of w ≤ 16) where
       height_found t tiling lowest s = ap nat_abs (height_is ∙ (found t tiling lowest s).height)
 
       -- what was placed is the candidate
-      module _ (rights : List ℤ) (squares : List Square) (edges : rights ≡ right_edges_from total [] (sides_of w) currents)
-          (many : length squares ≡ length (sides_of w))
-          (each : (k : ℕ) → k < length (sides_of w)
-          → IsPlacedAt (sides_of w) (net_of_word w).wires currents levels rights total k (slice_index_or squares k (record { x = 0; y = 0; s = 0 }))) where
-        one : (k : ℕ) → k < length (sides_of w) → slice_index_or squares k (record { x = 0; y = 0; s = 0 })
+      module _ (rights : List ℤ) (squares : List Square) (edges : rights ≡ edges_by_lefts total (lefts_of w) currents)
+          (many : length squares ≡ length (lefts_of w))
+          (each : (k : ℕ) → k < length (lefts_of w)
+          → IsPlacedAt (lefts_of w) (net_of_word w).wires currents levels rights total k (slice_index_or squares k (record { x = 0; y = 0; s = 0 }))) where
+        edges_are : rights ≡ right_edges_from total [] (sides_of w) currents
+        edges_are = edges ∙ edges_told total [] (sides_of w) currents
+
+        one : (k : ℕ) → k < length (lefts_of w) → slice_index_or squares k (record { x = 0; y = 0; s = 0 })
             ≡ candidate_square w (record { total = total; potentials = flow.0; currents = currents }) k
-        one k h = each k h ∙ (λ i. placed_square (line_place total (edges i) (index_any {A = ℕ × ℕ} (sides_of w) k (0, 0) (0, 1) h i).0)
-            (slice_index_or (edges i) k (pos 0)) ((has k low).0 i) ((has k low).1 i) (slice_index_or currents k (pos 0)))
+        one k h = each k h ∙ (λ i. placed_square (line_place total (edges_are i)
+            (left_at (sides_of w) k (0, 1) (omega (arith, h, length-map (sides_of w) (λ s. s.0))) i))
+            (slice_index_or (edges_are i) k (pos 0)) ((has k low).0 i) ((has k low).1 i) (slice_index_or currents k (pos 0)))
           where
             low : k < length (net_of_word w).wires
-            low = omega (arith, h, as_many_sides w, wires_are)
+            low = omega (arith, h, as_many_lefts w, wires_are)
 
         squares_are : squares ≡ candidate_squares w (record { total = total; potentials = flow.0; currents = currents })
         squares_are = by_index squares (candidate_square w (record { total = total; potentials = flow.0; currents = currents })) 0
             (record { x = 0; y = 0; s = 0 })
             (λ k h. one k (omega (arith, h, many)) ∙ ap (candidate_square w (record { total = total; potentials = flow.0; currents = currents })) (from_zero k))
             ∙ ap (λ (n : ℕ). map (candidate_square w (record { total = total; potentials = flow.0; currents = currents }))
-            (numbers_from 0 n)) (omega (arith, many, as_many_sides w, wires_are, currents_many))
+            (numbers_from 0 n)) (omega (arith, many, as_many_lefts w, wires_are, currents_many))
           where
             from_zero : (k : ℕ) → k ≡ 0 + k
             from_zero k = omega arith
@@ -158,7 +168,7 @@ module _ (w : Word) (complete : IsComplete w) (few : order_of w ≤ 16) where
 
           pub accepted_found : IsAccepted t.width t.height squares
           accepted_found = record {
-            few = omega (arith, many, as_many_sides w, few);
+            few = omega (arith, many, as_many_lefts w, few);
             sides = all_from (λ q. IsSide q.s) squares side_of;
             tiles = subst (λ (qs : List Square). Tiles (whole t) qs) (sym squares_are) (found t tiling lowest s).tiles;
           }
@@ -175,13 +185,13 @@ module _ (w : Word) (complete : IsComplete w) (few : order_of w ≤ 16) where
                   from (k, e) = omega (
                     arith,
                     ap (λ (z : Square). z.s) (sym (get_or_from_slice_get squares k q (record { x = 0; y = 0; s = 0 }) e) ∙ each k low),
-                    side_small (slice_index_or currents k (pos 0)) (line_place total rights (slice_index_or (sides_of w) k (0, 0)).0)
+                    side_small (slice_index_or currents k (pos 0)) (line_place total rights (slice_index_or (lefts_of w) k 0))
                         (slice_index_or rights k (pos 0)) (slice_index_or levels (slice_index_or (net_of_word w).wires k (0, 0)).0 (pos 0))
                         (slice_index_or levels (slice_index_or (net_of_word w).wires k (0, 0)).1 (pos 0))
-                        (currents_small k (omega (arith, low, as_many_sides w, wires_are, currents_many))),
+                        (currents_small k (omega (arith, low, as_many_lefts w, wires_are, currents_many))),
                   )
                     where
-                      low : k < length (sides_of w)
+                      low : k < length (lefts_of w)
                       low = omega (arith, slice_get_within squares k q e, many)
 
           pub in_order_found : in_code_order squares ≡ t.squares

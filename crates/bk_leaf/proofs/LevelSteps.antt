@@ -1,16 +1,16 @@
 -- Levels found wire by wire, and edges found square by square; all of them small.
-use Rattle.std.specs.Int.{w128}
+use Rattle.std.specs.Int.{w64}
 use Rattle.std.specs.Prelude.{FitsSigned, nat_abs, negsuc, pos, ℤ, ◌+ℤ◌}
 use Rattle.std.proofs.Common.{List, [], ap, arith, drop, drop_of_length-le, inl, inr, length, length-set, refl, set, slice_index_or, subst, suc, sym}
 use Rattle.std.proofs.Common.{zero, ℕ, ◌*◌, ◌++◌, ◌+◌, ◌<◌, ◌^◌, ◌∙◌, ◌∷◌, ◌≡◌, ◌≤◌, ◌⊎◌}
 use Rattle.std.proofs.Math.Seq.{drop-cons}
 use Rattle.std.proofs.lemmas.Bool.{cases_lt}
 use Rattle.std.proofs.lemmas.Int.{ints}
-use Rattle.std.proofs.lemmas.List.{get_or-set_other, get_or-set_same, length-append}
+use Rattle.std.proofs.lemmas.List.{get_or-map, get_or-set_other, get_or-set_same, length-append, length-map}
 use Rattle.bk_laws.proofs.ListPlaces.{get_back, get_front}
 use Rattle.bk_tiling.specs.declared.Square.{Square}
 use Rattle.bk_candidate.specs.Candidate.{line_place, right_edges_from}
-use Rattle.bk_leaf.specs.Placing.{AreKnownLines, AreLevels, AreSmall, EndWithin, HasLevels, IsPlacedAt, IsSmall}
+use Rattle.bk_leaf.specs.Placing.{AreKnownLines, AreLevels, AreSmall, EndWithin, HasLevels, IsPlacedAt, IsSmall, by_lefts, edges_by_lefts}
 
 same_or_not : (x y : ℕ) → (x ≡ y) ⊎ (x ≡ y → ⊥)
 same_or_not x y = cases (cases_lt x y) (cases_lt y x)
@@ -37,8 +37,8 @@ pub small_from : (most : ℕ) (z : ℤ) → nat_abs z ≤ most → IsSmall most 
 small_from most (pos n) h = (omega (arith, ints, h), omega (arith, ints, h))
 small_from most (negsuc n) h = (omega (arith, ints, h), omega (arith, ints, h))
 
--- what is small fits 128 bits
-pub fits_small : (most : ℕ) (z : ℤ) → IsSmall most z → most ≤ 2 ^ 40 → FitsSigned w128 z
+-- what is small fits 64 bits
+pub fits_small : (most : ℕ) (z : ℤ) → IsSmall most z → most ≤ 2 ^ 40 → FitsSigned w64 z
 fits_small most (pos n) s h = record { sfits = omega (arith, ints, s.1, h) }
 fits_small most (negsuc n) s h = record { sfits = omega (arith, ints, s.0, h) }
 
@@ -132,13 +132,13 @@ levelled_all wires currents levels i levelled all at are k h = (from (are.begun 
 
 -- ---- edges
 
-pub record AreEdges (sides : List (ℕ × ℕ)) (currents rights : List ℤ) (total : ℤ) (i : ℕ) : Type 0 where
+pub record AreEdges (lefts : List ℕ) (currents rights : List ℤ) (total : ℤ) (i : ℕ) : Type 0 where
   pub many : length rights ≡ i
   pub small : (k : ℕ) → k < i → IsSmall ((i + 1) * 2 ^ 34) (slice_index_or rights k (pos 0))
-  pub rest : right_edges_from total rights (drop i sides) (drop i currents) ≡ right_edges_from total [] sides currents
+  pub rest : right_edges_from total rights (drop i (by_lefts lefts)) (drop i currents) ≡ edges_by_lefts total lefts currents
 
-pub edges_none : (sides : List (ℕ × ℕ)) (currents : List ℤ) (total : ℤ) → AreEdges sides currents [] total 0
-edges_none sides currents total = record { many = refl; small = λ k h. absurd (omega arith); rest = refl }
+pub edges_none : (lefts : List ℕ) (currents : List ℤ) (total : ℤ) → AreEdges lefts currents [] total 0
+edges_none lefts currents total = record { many = refl; small = λ k h. absurd (omega arith); rest = refl }
 
 pub place_small : (rights : List ℤ) (total : ℤ) (i line : ℕ) → IsSmall (2 ^ 34) total → length rights ≡ i
     → ((k : ℕ) → k < i → IsSmall ((i + 1) * 2 ^ 34) (slice_index_or rights k (pos 0))) → line < i + 2
@@ -147,26 +147,34 @@ place_small rights total i zero small many each h = small_zero ((i + 1) * 2 ^ 34
 place_small rights total i (suc zero) small many each h = small_more (2 ^ 34) ((i + 1) * 2 ^ 34) total small (omega arith)
 place_small rights total i (suc (suc k)) small many each h = each k (omega (arith, h))
 
-pub edges_more : (sides : List (ℕ × ℕ)) (currents rights : List ℤ) (total : ℤ) (i : ℕ) (right : ℤ) → AreEdges sides currents rights total i
-    → i < length sides → length currents ≡ length sides
-    → AreKnownLines sides → AreSmall (2 ^ 34) currents → IsSmall (2 ^ 34) total
-    → right ≡ line_place total rights (slice_index_or sides i (0, 0)).0 +ℤ slice_index_or currents i (pos 0)
-    → AreEdges sides currents (rights ++ right ∷ []) total (i + 1)
-edges_more sides currents rights total i right edges within long known small total_small e = record {
+pub edges_more : (lefts : List ℕ) (currents rights : List ℤ) (total : ℤ) (i : ℕ) (right : ℤ) → AreEdges lefts currents rights total i
+    → i < length lefts → length currents ≡ length lefts
+    → AreKnownLines lefts → AreSmall (2 ^ 34) currents → IsSmall (2 ^ 34) total
+    → right ≡ line_place total rights (slice_index_or lefts i 0) +ℤ slice_index_or currents i (pos 0)
+    → AreEdges lefts currents (rights ++ right ∷ []) total (i + 1)
+edges_more lefts currents rights total i right edges within long known small total_small e = record {
   many = omega (arith, edges.many, length-append rights (right ∷ []));
   small = λ k h. small_at k h (cases_lt k i);
-  rest = (λ j. right_edges_from total (rights ++ e j ∷ []) (drop (up j) sides) (drop (up j) currents))
-      ∙ (λ j. right_edges_from total rights (sym (drop-cons sides i (0, 0) within) j)
+  rest = (λ j. right_edges_from total (rights ++ e j ∷ []) (drop (up j) (by_lefts lefts)) (drop (up j) currents))
+      ∙ (λ j. right_edges_from total (rights ++ (line_place total rights (sym line j) +ℤ slice_index_or currents i (pos 0)) ∷ [])
+      (drop (suc i) (by_lefts lefts)) (drop (suc i) currents))
+      ∙ (λ j. right_edges_from total rights (sym (drop-cons (by_lefts lefts) i (0, 0) told) j)
       (sym (drop-cons currents i (pos 0) (omega (arith, within, long))) j)) ∙ edges.rest;
 }
   where
     up : i + 1 ≡ suc i
     up = omega arith
 
+    told : i < length (by_lefts lefts)
+    told = omega (arith, within, length-map {A = ℕ} {B = ℕ × ℕ} lefts (λ line. (line, 0)))
+
+    line : (slice_index_or (by_lefts lefts) i (0, 0)).0 ≡ slice_index_or lefts i 0
+    line = ap (λ (s : ℕ × ℕ). s.0) (get_or-map {X = ℕ} {Y = ℕ × ℕ} (λ f. (f, 0)) lefts i 0 (0, 0) within)
+
     right_small : IsSmall ((i + 1 + 1) * 2 ^ 34) right
     right_small = small_more ((i + 1) * 2 ^ 34 + 2 ^ 34) ((i + 1 + 1) * 2 ^ 34) right
-        (small_sum ((i + 1) * 2 ^ 34) (2 ^ 34) (line_place total rights (slice_index_or sides i (0, 0)).0) (slice_index_or currents i (pos 0)) right
-        (place_small rights total i (slice_index_or sides i (0, 0)).0 total_small edges.many edges.small (known i within))
+        (small_sum ((i + 1) * 2 ^ 34) (2 ^ 34) (line_place total rights (slice_index_or lefts i 0)) (slice_index_or currents i (pos 0)) right
+        (place_small rights total i (slice_index_or lefts i 0) total_small edges.many edges.small (known i within))
         (small i (omega (arith, within, long))) e) (omega arith)
 
     small_at : (k : ℕ) → k < i + 1 → (k < i) ⊎ (i ≤ k) → IsSmall ((i + 1 + 1) * 2 ^ 34) (slice_index_or (rights ++ right ∷ []) k (pos 0))
@@ -175,32 +183,34 @@ edges_more sides currents rights total i right edges within long known small tot
     small_at k h (inr l) = subst (λ (z : ℤ). IsSmall ((i + 1 + 1) * 2 ^ 34) z)
         (sym (get_back rights (right ∷ []) 0 k (pos 0) (omega (arith, l, h, edges.many)))) right_small
 
-pub edges_all : (sides : List (ℕ × ℕ)) (currents rights : List ℤ) (total : ℤ) (i : ℕ) → AreEdges sides currents rights total i
-    → length sides ≤ i → rights ≡ right_edges_from total [] sides currents
-edges_all sides currents rights total i edges all =
-    ap (λ (rest : List (ℕ × ℕ)). right_edges_from total rights rest (drop i currents)) (sym (drop_of_length-le sides all)) ∙ edges.rest
+pub edges_all : (lefts : List ℕ) (currents rights : List ℤ) (total : ℤ) (i : ℕ) → AreEdges lefts currents rights total i
+    → length lefts ≤ i → rights ≡ edges_by_lefts total lefts currents
+edges_all lefts currents rights total i edges all =
+    ap (λ (rest : List (ℕ × ℕ)). right_edges_from total rights rest (drop i currents))
+    (sym (drop_of_length-le (by_lefts lefts) (omega (arith, all, length-map {A = ℕ} {B = ℕ × ℕ} lefts (λ line. (line, 0)))))) ∙ edges.rest
 
 -- ---- squares
 
 -- so many squares stand as they should
-pub record ArePlaced (sides wires : List (ℕ × ℕ)) (currents levels rights : List ℤ) (total : ℤ) (squares : List Square) (n : ℕ) : Type 0 where
+pub record ArePlaced (lefts : List ℕ) (wires : List (ℕ × ℕ)) (currents levels rights : List ℤ) (total : ℤ) (squares : List Square) (n : ℕ) : Type 0 where
   pub many : length squares ≡ n
-  pub each : (k : ℕ) → k < n → IsPlacedAt sides wires currents levels rights total k (slice_index_or squares k (record { x = 0; y = 0; s = 0 }))
+  pub each : (k : ℕ) → k < n → IsPlacedAt lefts wires currents levels rights total k (slice_index_or squares k (record { x = 0; y = 0; s = 0 }))
 
-pub placed_none : (sides wires : List (ℕ × ℕ)) (currents levels rights : List ℤ) (total : ℤ) → ArePlaced sides wires currents levels rights total [] 0
-placed_none sides wires currents levels rights total = record { many = refl; each = λ k h. absurd (omega arith) }
+pub placed_none : (lefts : List ℕ) (wires : List (ℕ × ℕ)) (currents levels rights : List ℤ) (total : ℤ) → ArePlaced lefts wires currents levels
+    rights total [] 0
+placed_none lefts wires currents levels rights total = record { many = refl; each = λ k h. absurd (omega arith) }
 
-pub placed_more : (sides wires : List (ℕ × ℕ)) (currents levels rights : List ℤ) (total : ℤ) (squares : List Square) (n : ℕ) (q : Square)
-    → ArePlaced sides wires currents levels rights total squares n
-    → IsPlacedAt sides wires currents levels rights total n q → ArePlaced sides wires currents levels rights total (squares ++ q ∷ []) (n + 1)
-placed_more sides wires currents levels rights total squares n q placed new =
+pub placed_more : (lefts : List ℕ) (wires : List (ℕ × ℕ)) (currents levels rights : List ℤ) (total : ℤ) (squares : List Square) (n : ℕ) (q : Square)
+    → ArePlaced lefts wires currents levels rights total squares n
+    → IsPlacedAt lefts wires currents levels rights total n q → ArePlaced lefts wires currents levels rights total (squares ++ q ∷ []) (n + 1)
+placed_more lefts wires currents levels rights total squares n q placed new =
     record { many = omega (arith, placed.many, length-append squares (q ∷ [])); each = λ k h. each k h (cases_lt k n) }
   where
     each : (k : ℕ) → k < n + 1 → (k < n) ⊎ (n ≤ k)
-        → IsPlacedAt sides wires currents levels rights total k (slice_index_or (squares ++ q ∷ []) k (record { x = 0; y = 0; s = 0 }))
+        → IsPlacedAt lefts wires currents levels rights total k (slice_index_or (squares ++ q ∷ []) k (record { x = 0; y = 0; s = 0 }))
     each k h (inl l) = get_front squares (q ∷ []) k (record { x = 0; y = 0; s = 0 }) (omega (arith, l, placed.many)) ∙ placed.each k l
     each k h (inr l) = get_back squares (q ∷ []) 0 k (record { x = 0; y = 0; s = 0 }) (omega (arith, l, h, placed.many))
-        ∙ subst (λ (i : ℕ). IsPlacedAt sides wires currents levels rights total i q) same new
+        ∙ subst (λ (i : ℕ). IsPlacedAt lefts wires currents levels rights total i q) same new
       where
         same : n ≡ k
         same = omega (arith, l, h)

@@ -1,5 +1,5 @@
-pub mod SidedMoves
 pub mod WordWires
 pub mod LevelSteps
+pub mod SmallFlows
 pub mod Leaves
 pub mod LeafRun

@@ -1,16 +1,7 @@
--- What the code of a leaf works with: the lines of a word's squares, and levels and places as whole numbers.
-use Rattle.std.specs.Prelude.{List, length, neg_ℤ, pos, slice_index_or, ℕ, ℤ, ◌+ℤ◌, ◌+◌, ◌<◌, ◌≡◌, ◌≤ℤ◌, ◌≤◌, ◌⊎◌}
+-- What the code of a leaf works with: levels and places as whole numbers.
+use Rattle.std.specs.Prelude.{List, [], length, map, neg_ℤ, pos, slice_index_or, ℕ, ℤ, ◌+ℤ◌, ◌+◌, ◌<◌, ◌≡◌, ◌≤ℤ◌, ◌⊎◌}
 use Rattle.bk_tiling.specs.declared.Square.{Square}
-use Rattle.bk_word.specs.Play.{IsLegal}
-use Rattle.bk_word.specs.Word.{Word, order_of}
-use Rattle.bk_candidate.specs.Candidate.{line_place, placed_square}
-use Rattle.bk_free_cuts.specs.LineNumbers.{sides_of}
-
--- a legal word of at most 16 squares, and the lines at its squares
-pub record IsSidedWord (w : Word) (sides : List (ℕ × ℕ)) : Type 0 where
-  pub legal : IsLegal w
-  pub few : order_of w ≤ 16
-  pub sides_are : sides ≡ sides_of w
+use Rattle.bk_candidate.specs.Candidate.{line_place, placed_square, right_edges_from}
 
 -- the magnitude is at most so much; that of each number is
 abbrev pub IsSmall : ℕ → ℤ → Type 0
@@ -24,8 +15,16 @@ abbrev pub EndWithin : ℕ → List (ℕ × ℕ) → Type 0
 EndWithin nodes wires = (k : ℕ) → k < length wires → ((slice_index_or wires k (0, 0)).0 < nodes) × ((slice_index_or wires k (0, 0)).1 < nodes)
 
 -- a square's left line was there before it
-abbrev pub AreKnownLines : List (ℕ × ℕ) → Type 0
-AreKnownLines sides = (k : ℕ) → k < length sides → (slice_index_or sides k (0, 0)).0 < k + 2
+abbrev pub AreKnownLines : List ℕ → Type 0
+AreKnownLines lefts = (k : ℕ) → k < length lefts → slice_index_or lefts k 0 < k + 2
+
+-- lines at the left alone, as sides of which the lines at the right aren't told
+abbrev pub by_lefts : List ℕ → List (ℕ × ℕ)
+by_lefts lefts = map (λ line. (line, 0)) lefts
+
+-- where squares end, by the lines at their left alone
+abbrev pub edges_by_lefts : ℤ → List ℕ → List ℤ → List ℤ
+edges_by_lefts total lefts currents = right_edges_from total [] (by_lefts lefts) currents
 
 -- the levels by which each current leads down, where each wire begins at node 0 or where one before it ends
 pub record AreLevels (wires : List (ℕ × ℕ)) (currents : List ℤ) (at : ℕ → ℤ) : Type 0 where
@@ -41,9 +40,9 @@ HasLevels wires at levels = (k : ℕ) → k < length wires
     × (slice_index_or levels (slice_index_or wires k (0, 0)).1 (pos 0) ≡ at (slice_index_or wires k (0, 0)).1)
 
 -- the square at a place stands between its lines and the levels of its nodes
-abbrev pub IsPlacedAt : List (ℕ × ℕ) → List (ℕ × ℕ) → List ℤ → List ℤ → List ℤ → ℤ → ℕ → Square → Type 0
-IsPlacedAt sides wires currents levels rights total k q = q ≡ placed_square
-    (line_place total rights (slice_index_or sides k (0, 0)).0)
+abbrev pub IsPlacedAt : List ℕ → List (ℕ × ℕ) → List ℤ → List ℤ → List ℤ → ℤ → ℕ → Square → Type 0
+IsPlacedAt lefts wires currents levels rights total k q = q ≡ placed_square
+    (line_place total rights (slice_index_or lefts k 0))
     (slice_index_or rights k (pos 0))
     (slice_index_or levels (slice_index_or wires k (0, 0)).0 (pos 0))
     (slice_index_or levels (slice_index_or wires k (0, 0)).1 (pos 0))

@@ -1,10 +1,10 @@
 //! The levels of nodes and the right edges of squares, from the currents of a flow.
 
-ghost use Rattle.std.specs.Prelude.{[], length, pos, slice_index_or, ℕ, ℤ, ◌*◌, ◌+◌, ◌<◌, ◌^◌, ◌≡◌, ◌≤◌};
-ghost use Rattle.bk_candidate.specs.Candidate.{line_place, right_edges_from};
-ghost use Rattle.bk_leaf.specs.Placing.{AreKnownLines, AreLevels, AreSmall, EndWithin, HasLevels, IsSmall};
+ghost use Rattle.std.specs.Prelude.{length, pos, slice_index_or, ℕ, ℤ, ◌*◌, ◌+◌, ◌<◌, ◌^◌, ◌≡◌, ◌≤◌};
+ghost use Rattle.bk_candidate.specs.Candidate.{line_place};
+ghost use Rattle.bk_leaf.specs.Placing.{AreKnownLines, AreLevels, AreSmall, EndWithin, HasLevels, IsSmall, edges_by_lefts};
 
-use crate::board::MOST;
+use crate::placing::MOST;
 use arrayvec::ArrayVec;
 
 // A net of so many wires and one node more, without a loose node.
@@ -12,7 +12,7 @@ pub(crate) const NODES: usize = MOST + 1;
 
 // How far the nodes lie under the first, by the currents of the wires, each of which leads down from a node whose level is
 // known from those before.
-pub(crate) fn levels_of(wires: &[(u16, u16)], currents: &[i128]) -> [i128; NODES]
+pub(crate) fn levels_of(wires: &[(u16, u16)], currents: &[i64]) -> [i64; NODES]
     requires ends { EndWithin 17 wires.now }
     requires many { length currents.now ≡ length wires.now }
     requires few { length wires.now ≤ 16 }
@@ -20,7 +20,7 @@ pub(crate) fn levels_of(wires: &[(u16, u16)], currents: &[i128]) -> [i128; NODES
     ensures small { (v : ℕ) → v < 17 → IsSmall (16 * 2 ^ 34) (slice_index_or result v (pos 0)) }
     ensures right { (at : ℕ → ℤ) → AreLevels wires.now currents.now at → HasLevels wires.now at result }
 {
-    let mut levels = [0i128; NODES];
+    let mut levels = [0i64; NODES];
     for (i, (from, to)) in wires.iter().enumerate() {
         let level = levels[usize::from(*from)] + currents[i];
         levels[usize::from(*to)] = level;
@@ -29,18 +29,18 @@ pub(crate) fn levels_of(wires: &[(u16, u16)], currents: &[i128]) -> [i128; NODES
 }
 
 // Where the squares end: each as far behind its left line as its current says.
-pub(crate) fn rights_of(sides: &[(u8, u8)], currents: &[i128], total: i128) -> ArrayVec<i128, MOST>
-    requires many { length currents.now ≡ length sides.now }
-    requires few { length sides.now ≤ 16 }
-    requires known { AreKnownLines sides.now }
+pub(crate) fn rights_of(lefts: &[u8], currents: &[i64], total: i64) -> ArrayVec<i64, MOST>
+    requires many { length currents.now ≡ length lefts.now }
+    requires few { length lefts.now ≤ 16 }
+    requires known { AreKnownLines lefts.now }
     requires small { AreSmall (2 ^ 34) currents.now }
     requires total { IsSmall (2 ^ 34) total }
-    ensures value { result.items ≡ right_edges_from total [] sides.now currents.now }
-    ensures many { length result.items ≡ length sides.now }
+    ensures value { result.items ≡ edges_by_lefts total lefts.now currents.now }
+    ensures many { length result.items ≡ length lefts.now }
     ensures small { AreSmall (17 * 2 ^ 34) result.items }
 {
     let mut rights = ArrayVec::new();
-    for (i, (line, _)) in sides.iter().enumerate() {
+    for (i, line) in lefts.iter().enumerate() {
         let right = place_of(*line, &rights, total) + currents[i];
         rights.push(right);
     }
@@ -48,7 +48,7 @@ pub(crate) fn rights_of(sides: &[(u8, u8)], currents: &[i128], total: i128) -> A
 }
 
 // The place of a line: the walls stand at 0 and at the total, a gap where the square before it ends.
-pub(crate) fn place_of(line: u8, rights: &[i128], total: i128) -> i128
+pub(crate) fn place_of(line: u8, rights: &[i64], total: i64) -> i64
     requires { line < length rights.now + 2 }
     ensures { result ≡ line_place total rights.now line }
 {

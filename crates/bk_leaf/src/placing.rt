@@ -1,56 +1,68 @@
-//! The candidate of a complete word, and whether it is a tiling.
+//! The candidate of a complete word.
 
-ghost use Rattle.std.specs.Prelude.{IsTrue, Some, length, pos, slice_index_or, ℕ, ℤ, ◌*◌, ◌<◌, ◌^◌, ◌≡◌, ◌≤◌};
+ghost use Rattle.std.specs.Prelude.{IsTrue, length, pos, slice_index_or, ℕ, ℤ, ◌*◌, ◌<◌, ◌^◌, ◌≡◌, ◌≤◌};
 ghost use Rattle.bk_tiling.specs.Scale.{IsPrimitiveTiling};
 ghost use Rattle.bk_tiling.specs.Tiling.{IsTiling, Tiling as Tiled};
 ghost use Rattle.bk_word.specs.Play.{IsComplete};
-ghost use Rattle.bk_candidate.specs.Candidate.{line_place, placed_square};
+ghost use Rattle.bk_word.specs.Word.{order_of};
+ghost use Rattle.bk_candidate.specs.Candidate.{placed_square};
+ghost use Rattle.bk_free_cuts.specs.LineNumbers.{lefts_of};
 ghost use Rattle.bk_leaf.specs.Placing.{AreKnownLines, AreSmall, EndWithin, IsPlacedAt, IsSmall};
+ghost use Rattle.bk_leaf.specs.Found.{IsFound};
 ghost use Rattle.bk_signed_word.specs.SignedWord.{IsSignedWordOf};
 
-use crate::board::{Board, MOST};
+use crate::flow::flow_of;
 use crate::levels::{NODES, levels_of, place_of, rights_of};
 use arrayvec::ArrayVec;
-use bk_flow::solve_small;
-use bk_tiling::{Square, Tiling};
+use bk_skel::Skel;
+use bk_tiling::Square;
 
-/// The tiling of which the board's complete word is a signed word: its squares are placed by the one flow of the word's net and
-/// by the lines, and tried. Each tiling in lowest terms that lies, of which the word is a signed one, is found. (Own.)
-pub fn leaf(board: &Board) -> Option<Tiling>
-    requires { IsComplete board.now }
-    ensures { (t : Tiled) → IsTiling t → IsPrimitiveTiling t → t.height ≤ t.width → IsSignedWordOf t board.now → result ≡ Some t }
+/// The squares of a word of the search are at most so many.
+pub(crate) const MOST: usize = 16;
+
+/// Squares that were placed in a rectangle, in the order in which a word hangs them. Whether they tile it isn't known. (Own.)
+#[derive(Drop)]
+pub struct Placed {
+    /// How many columns the rectangle has.
+    pub width: u64,
+    /// How many levels it has.
+    pub height: u64,
+    /// The squares.
+    pub squares: ArrayVec<Square, MOST>,
+}
+
+/// The squares of the one tiling that lies of which the complete word can be a signed word: they are placed by the one flow of the
+/// word's net and by the lines at their left. Each tiling in lowest terms that lies, of which it is one, is found. (Own.)
+pub fn leaf(skel: &Skel, lefts: &[u8]) -> Option<Placed>
+    requires complete { IsComplete skel.now }
+    requires few { order_of skel.now ≤ 16 }
+    requires lefts { lefts.now ≡ lefts_of skel.now }
+    ensures { (t : Tiled) → IsTiling t → IsPrimitiveTiling t → t.height ≤ t.width → IsSignedWordOf t skel.now → IsFound t result }
 {
-    let net = board.skel().net();
-    let Ok(flow) = solve_small(&net) else {
-        return None;
-    };
-    let currents = flow.currents();
+    let net = skel.net();
+    let wires = net.wires();
+    let (total, flow) = flow_of(&net);
+    let currents = flow.as_slice();
     if has_zero(currents) {
         return None;
     }
-    let levels = levels_of(net.wires(), currents);
-    let width = flow.total().unsigned_abs() as u64;
-    let height = levels[usize::from(net.nodes()) - 1].unsigned_abs() as u64;
+    let levels = levels_of(wires, currents);
+    let width = total.unsigned_abs();
+    let height = levels[usize::from(net.nodes()) - 1].unsigned_abs();
     if width < height {
         return None;
     }
-    let rights = rights_of(board.sides(), currents, flow.total());
-    let squares = squares_at(
-        board.sides(),
-        net.wires(),
-        currents,
-        &levels,
-        &rights,
-        flow.total(),
-    );
-    match Tiling::try_new(width, height, &squares) {
-        Ok(tiling) => Some(tiling),
-        Err(_) => None,
-    }
+    let rights = rights_of(lefts, currents, total);
+    let squares = squares_at(lefts, wires, currents, &levels, &rights, total);
+    Some(Placed {
+        width,
+        height,
+        squares,
+    })
 }
 
 // Whether some current is 0: then no tiling has the flow.
-fn has_zero(currents: &[i128]) -> bool
+fn has_zero(currents: &[i64]) -> bool
     ensures { IsTrue result → (k : ℕ) × (k < length currents.now) × (slice_index_or currents.now k (pos 1) ≡ pos 0) }
 {
     for current in currents {
@@ -63,32 +75,32 @@ fn has_zero(currents: &[i128]) -> bool
 
 // The squares between their lines and between the levels of their nodes.
 fn squares_at(
-    sides: &[(u8, u8)],
+    lefts: &[u8],
     wires: &[(u16, u16)],
-    currents: &[i128],
-    levels: &[i128; NODES],
-    rights: &[i128],
-    total: i128,
+    currents: &[i64],
+    levels: &[i64; NODES],
+    rights: &[i64],
+    total: i64,
 ) -> ArrayVec<Square, MOST>
-    requires few { length sides.now ≤ 16 }
-    requires wires { length wires.now ≡ length sides.now }
-    requires currents { length currents.now ≡ length sides.now }
-    requires rights { length rights.now ≡ length sides.now }
-    requires known { AreKnownLines sides.now }
+    requires few { length lefts.now ≤ 16 }
+    requires wires { length wires.now ≡ length lefts.now }
+    requires currents { length currents.now ≡ length lefts.now }
+    requires rights { length rights.now ≡ length lefts.now }
+    requires known { AreKnownLines lefts.now }
     requires ends { EndWithin 17 wires.now }
     requires small_currents { AreSmall (2 ^ 34) currents.now }
     requires small_rights { AreSmall (17 * 2 ^ 34) rights.now }
     requires small_levels { (v : ℕ) → v < 17 → IsSmall (16 * 2 ^ 34) (slice_index_or levels.now v (pos 0)) }
     requires small_total { IsSmall (2 ^ 34) total }
-    ensures many { length result.items ≡ length sides.now }
-    ensures each { (k : ℕ) → k < length sides.now → IsPlacedAt sides.now wires.now currents.now levels.now rights.now total k
+    ensures many { length result.items ≡ length lefts.now }
+    ensures each { (k : ℕ) → k < length lefts.now → IsPlacedAt lefts.now wires.now currents.now levels.now rights.now total k
         (slice_index_or result.items k (record { x = 0; y = 0; s = 0 })) }
 {
     let mut squares = ArrayVec::new();
-    for k in 0..sides.len() {
+    for k in 0..lefts.len() {
         let (from, to) = wires[k];
-        let left = place_of(sides[k].0, rights, total);
-        squares.push(placed(
+        let left = place_of(lefts[k], rights, total);
+        squares.push(square_between(
             left,
             rights[k],
             levels[usize::from(from)],
@@ -100,7 +112,7 @@ fn squares_at(
 }
 
 // The square between these lines and these levels, reversed where its current is negative.
-fn placed(left: i128, right: i128, above: i128, below: i128, current: i128) -> Square
+fn square_between(left: i64, right: i64, above: i64, below: i64, current: i64) -> Square
     requires left { IsSmall (2 ^ 40) left }
     requires right { IsSmall (2 ^ 40) right }
     requires above { IsSmall (2 ^ 40) above }
@@ -114,8 +126,8 @@ fn placed(left: i128, right: i128, above: i128, below: i128, current: i128) -> S
         (left, above)
     };
     Square {
-        x: x.unsigned_abs() as u64,
-        y: y.unsigned_abs() as u64,
-        s: current.unsigned_abs() as u64,
+        x: x.unsigned_abs(),
+        y: y.unsigned_abs(),
+        s: current.unsigned_abs(),
     }
 }

@@ -1,5 +1,5 @@
 -- Worked examples of how runs over lines end, of what is read, and of lines that are entered.
-use Rattle.std.proofs.Common.{◌≡◌, ℕ, ◌+◌, ◌==◌, List, [], ◌∷◌, ◌++◌, Some, false, get_or, inl, inr, lit<, lit≤, refl, true}
+use Rattle.std.proofs.Common.{◌≡◌, ℕ, ◌+◌, ◌==◌, [], ◌∷◌, ◌++◌, Some, false, get_or, inl, inr, lit<, lit≤, refl, true}
 use Rattle.std.specs.Prelude.{codes}
 use Rattle.bk_lines.specs.Deciding.{HasRefused}
 use Rattle.bk_lines.specs.Ending.{AreRead, IsAnswered, IsCutOff, Rules, Told}

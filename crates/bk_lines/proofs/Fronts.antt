@@ -1,6 +1,6 @@
 -- Lines of which the same front is kept.
-use Rattle.std.proofs.Common.{◌≡◌, ℕ, zero, suc, ◌==◌, Bool, true, false, List, [], ◌∷◌, ◌++◌, length, ◌+◌, min, take, map, Result, Ok, Err, IsOk}
-use Rattle.std.proofs.Common.{OnOk, ◌≤◌, refl, sym, ap, ◌∙◌, arith, ⊎_elim, subst}
+use Rattle.std.proofs.Common.{◌≡◌, ℕ, zero, suc, ◌==◌, true, false, List, [], ◌∷◌, ◌++◌, length, ◌+◌, min, take, map, Result, Ok, Err, IsOk}
+use Rattle.std.proofs.Common.{OnOk, ◌≤◌, refl, sym, ap, ◌∙◌, arith, ⊎_elim}
 use Rattle.std.proofs.lemmas.Bool.{cases_Bool, false≢true}
 use Rattle.std.proofs.lemmas.List.{append-nil, take_min, length-take, take_all}
 use Rattle.std.proofs.Math.Seq.{take-append-add}

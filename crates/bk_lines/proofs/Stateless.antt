@@ -1,16 +1,14 @@
 -- Where the reply to a line rests on the line alone, a run that enters lines is one that answers them.
-use Rattle.std.proofs.Common.{◌≡◌, ◌≢◌, ℕ, ◌+◌, ◌<◌, ◌≤◌, ◌^◌, Bool, true, false, List, [], ◌∷◌, ◌++◌, length, Option, Some, None, inl, inr, refl}
-use Rattle.std.proofs.Common.{sym, ap, ◌∙◌, subst, arith, length-append}
-use Rattle.std.specs.Prelude.{Err, IsSomeAnd, Ok, OnErr, Result}
-use Rattle.std.specs.Io.KnownBytes.{Consumes}
-use Rattle.bk_ports.specs.Causes.{Rose}
+use Rattle.std.proofs.Common.{ℕ, ◌+◌, Bool, true, false, List, [], ◌∷◌, length, Option}
+use Rattle.std.proofs.Common.{sym, subst}
+use Rattle.std.specs.Prelude.{Err, Ok, OnErr, Result}
 use Rattle.bk_lines.specs.Reply.{Reply, AreReplies}
 use Rattle.bk_lines.specs.Lines.{kept_front}
 use Rattle.bk_lines.specs.Answer.{IsBegun}
 use Rattle.bk_lines.specs.Answered.{AreAnswered, AreBegun, AreCutShort}
 use Rattle.bk_lines.specs.Ending.{EndsBy, Rules, Told}
 use Rattle.bk_lines.specs.Entering.{AreAllEntered, AreEntered, Entering, IsEntryBegun, IsEntryWanting}
-use Rattle.bk_lines.specs.Entries.{EntersBy, IsCalm, IsDoneOrWanting}
+use Rattle.bk_lines.specs.Entries.{EntersBy}
 use Rattle.bk_lines.specs.declared.Ended.{Ended}
 use Rattle.bk_lines.specs.declared.Ended.TheVariants.{NoneRefused, SomeRefused, ReadFailed, WriteFailed, NoMemory, TooMany}
 
@@ -114,26 +112,6 @@ module _ {State : Type 0} (rules : Entering State) (serves : State → Type 0) (
     refused = h.refused;
     answered = all_answered s l 1 _ told.written told.written_after h.refused served h.entered;
   }
-
--- more bytes than those that a source told are not taken
-too_long : (left left_after : Option (List ℕ)) (first more : List ℕ) → IsSomeAnd left (λ input. length input ≤ 2 ^ 30)
-    → Consumes left left_after (first ++ more) → length first ≡ 2 ^ 30 → 0 < length more → ⊥
-too_long None after first more within taken full some = within
-too_long (Some input) None first more within taken full some = taken
-too_long (Some input) (Some rest) first more within taken full some =
-    omega (arith, within, ap (λ (l : List ℕ). length l) taken, length-append (first ++ more) rest, length-append first more)
-
--- where no call fails and at most 2^30 bytes come, all lines are entered, or memory is wanting
-pub done_or_wanting : {State : Type 0} (rules : Entering State) (s l : State) (told : Told) (read read_after write write_after : ℕ) (ended : Ended)
-    → EntersBy rules s l told ended → (ended ≡ ReadFailed → Rose read read_after) → (ended ≡ WriteFailed → Rose write write_after)
-    → IsCalm told.left read read_after write write_after → IsDoneOrWanting ended
-done_or_wanting rules s l told read read_after write write_after NoneRefused ends reads writes calm = inl (false, refl)
-done_or_wanting rules s l told read read_after write write_after SomeRefused ends reads writes calm = inl (true, refl)
-done_or_wanting rules s l told read read_after write write_after ReadFailed ends reads writes calm = absurd (calm.reads (reads refl))
-done_or_wanting rules s l told read read_after write write_after WriteFailed ends reads writes calm = absurd (calm.writes (writes refl))
-done_or_wanting rules s l told read read_after write write_after NoMemory ends reads writes calm = inr refl
-done_or_wanting rules s l told read read_after write write_after TooMany ends reads writes calm =
-    absurd (too_long told.left told.left_after ends.first ends.more calm.within ends.taken ends.full ends.some)
 
 -- a reply that was begun, and the state that would follow
 pub begun_in_state : {T E State : Type 0} (r : Result T E) (answers : List (List ℕ) → Bool → Type 0) (follows : State → Type 0) (l : State)

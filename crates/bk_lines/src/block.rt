@@ -7,7 +7,7 @@ ghost use Rattle.bk_lines.specs.Entering.{AreAllEntered, IsEntryStopped};
 
 use crate::Register;
 use crate::line::{OpenLine, Stop, close_line, keep};
-use arrayvec::ArrayVec;
+use bk_grammar::AnswerBuffer;
 use bk_ports::Sink;
 use memchr::memchr;
 
@@ -17,7 +17,7 @@ pub fn enter_block<R: Register, O: Sink>(
     register: &mut R,
     block: &[u8],
     kept: &mut OpenLine,
-    buffer: &mut ArrayVec<u8, 9000>,
+    buffer: &mut AnswerBuffer,
     out: &mut O,
 ) -> Result<bool, Stop>
     requires early { kept.old.number + length block.now ≤ 2 ^ 31 }

@@ -12,7 +12,7 @@ ghost use Rattle.bk_lines.specs.Entries.{EntersBy, IsCalm, IsDoneOrWanting};
 use crate::block::enter_block;
 use crate::line::{Front, OpenLine, Stop, enter_line};
 use crate::{Ended, Register};
-use arrayvec::ArrayVec;
+use bk_grammar::AnswerBuffer;
 use bk_ports::{Failed, Sink, Source};
 
 // At most so many bytes of an input are taken.
@@ -56,7 +56,7 @@ pub fn enter_lines<R: Register, S: Source, O: Sink>(
         number: 1,
         front: Front::new(),
     };
-    let mut buffer = ArrayVec::<u8, 9000>::new();
+    let mut buffer = AnswerBuffer::new();
     let mut refused = false;
     let mut taken: usize = 0;
     'reads: loop {
@@ -111,7 +111,7 @@ fn read_block<S: Source>(
 fn enter_last<R: Register, O: Sink>(
     register: &mut R,
     kept: &OpenLine,
-    buffer: &mut ArrayVec<u8, 9000>,
+    buffer: &mut AnswerBuffer,
     out: &mut O,
 ) -> Result<bool, Stop>
     requires early { kept.now.number ≤ 2 ^ 31 }

@@ -13,7 +13,7 @@ mod input;
 mod line;
 mod steady;
 
-use arrayvec::ArrayVec;
+use bk_grammar::AnswerBuffer;
 use bk_ports::{Failed, Sink};
 pub use input::enter_lines;
 pub use steady::answer_lines;
@@ -49,7 +49,7 @@ pub trait Answerer {
         &self,
         line: &[u8],
         desk: &mut Self::Desk,
-        buffer: &mut ArrayVec<u8, 9000>,
+        buffer: &mut AnswerBuffer,
         out: &mut O,
     ) -> Result<Outcome, Failed>
         requires { length line.now ≤ 8193 }
@@ -80,7 +80,7 @@ pub trait Register {
         &mut self,
         number: u64,
         line: &[u8],
-        buffer: &mut ArrayVec<u8, 9000>,
+        buffer: &mut AnswerBuffer,
         out: &mut O,
     ) -> Result<Outcome, Failed>
         requires short { length line.now ≤ 8193 }

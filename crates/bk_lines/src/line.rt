@@ -8,6 +8,7 @@ ghost use Rattle.bk_lines.specs.Entering.{AreAllEntered, IsEntryStopped};
 
 use crate::{Outcome, Register};
 use arrayvec::ArrayVec;
+use bk_grammar::AnswerBuffer;
 use bk_ports::{Failed, Sink};
 
 // What is kept of a line: its first 8,193 bytes.
@@ -42,7 +43,7 @@ pub fn enter_line<R: Register, O: Sink>(
     register: &mut R,
     number: u64,
     line: &[u8],
-    buffer: &mut ArrayVec<u8, 9000>,
+    buffer: &mut AnswerBuffer,
     out: &mut O,
 ) -> Result<bool, Stop>
     requires short { length line.now ≤ 8193 }
@@ -71,7 +72,7 @@ pub fn close_line<R: Register, O: Sink>(
     register: &mut R,
     kept: &mut OpenLine,
     end: &[u8],
-    buffer: &mut ArrayVec<u8, 9000>,
+    buffer: &mut AnswerBuffer,
     out: &mut O,
 ) -> Result<bool, Stop>
     requires early { kept.old.number ≤ 2 ^ 31 }

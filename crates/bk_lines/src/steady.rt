@@ -7,7 +7,7 @@ ghost use Rattle.bk_lines.specs.Entries.{IsCalm, IsDoneOrWanting};
 
 use crate::input::enter_lines;
 use crate::{Answerer, Ended, Outcome, Register};
-use arrayvec::ArrayVec;
+use bk_grammar::AnswerBuffer;
 use bk_ports::{Failed, Sink, Source};
 
 // A register that keeps nothing of a line: each is answered for itself, at one desk.
@@ -29,7 +29,7 @@ impl<A: Answerer> Register for Steady<'_, A> {
         &mut self,
         _number: u64,
         line: &[u8],
-        buffer: &mut ArrayVec<u8, 9000>,
+        buffer: &mut AnswerBuffer,
         out: &mut O,
     ) -> Result<Outcome, Failed> {
         self.answerer.answer(line, &mut self.desk, buffer, out)

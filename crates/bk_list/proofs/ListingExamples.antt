@@ -11,7 +11,7 @@ use Rattle.bk_list.specs.ListingLaws.{WritesCatalogue}
 none_yet : AreFirst 2 Imperfect [] []
 none_yet = record { each = tt; after = tt; ascending = tt; none_between = λ e is h. inr tt }
 
-one_listed : AreFirst 2 Imperfect [] (row_entry ∷ [])
+pub one_listed : AreFirst 2 Imperfect [] (row_entry ∷ [])
 one_listed = record { each = (entry_is, tt); after = (refl, tt); ascending = (tt, tt); none_between = λ e is h. inl (only e is) }
 
 -- list --order 2 --class imperfect

@@ -45,9 +45,10 @@ next_as k n one class cursor then b c x next e f g h =
     subst (λ (k : ℕ). IsNext k class cursor then b c next) e
     (subst (λ (one : Class). IsNext k one cursor then b c next) f (subst (IsNext k one cursor then b c) g h))
 
-pub begun_as : (k n : ℕ) (one class : Class) (cursor : Word) (b c : Option (List ℕ)) → k ≡ n → one ≡ class → IsNextBegun k one cursor b c
-    → IsNextBegun n class cursor b c
-begun_as k n one class cursor b c e f h = subst (λ (k : ℕ). IsNextBegun k class cursor b c) e (subst (λ (one : Class). IsNextBegun k one cursor b c) f h)
+pub begun_as : (k n : ℕ) (one class : Class) (cursor then : Word) (b c : Option (List ℕ)) → k ≡ n → one ≡ class → IsNextBegun k one cursor then b c
+    → IsNextBegun n class cursor then b c
+begun_as k n one class cursor then b c e f h =
+    subst (λ (k : ℕ). IsNextBegun k class cursor then b c) e (subst (λ (one : Class). IsNextBegun k one cursor then b c) f h)
 
 -- where the listing stands: so many of the first members are written, no more than the limit, and the cursor is the word
 -- of the last one
@@ -131,16 +132,16 @@ module _ (n : ℕ) (class : Class) (start cursor : Word) (limit : Option ℕ) (l
       }
 
   -- the write of one more failed
-  pub listed_begun : (c : Option (List ℕ)) → IsNextBegun n class cursor b c → BeginsListing n class start limit a c
-  listed_begun c next =
+  pub listed_begun : (then : Word) (c : Option (List ℕ)) → IsNextBegun n class cursor then b c → BeginsListing n class start limit a c
+  listed_begun then c next =
       let e = next.0 in record {
         bytes = flat_map line_of s.entries ++ line_of e;
         front = inl (record { entries = s.entries ++ e ∷ []; first = first_then e next.1; within = within_then e; text = sym (lines_more s.entries e) });
-        begins = prefix_after a b c (flat_map line_of s.entries) (line_of e) s.appends next.2;
+        begins = prefix_after a b c (flat_map line_of s.entries) (line_of e) s.appends next.3;
       }
 
   -- no member is left
-  pub listed_all : (then : Word) (c : Option (List ℕ)) → IsNext n class cursor then b c Nothing → HasEntries n class start limit End listed a c
+  unfoldable pub listed_all : (then : Word) (c : Option (List ℕ)) → IsNext n class cursor then b c Nothing → HasEntries n class start limit End listed a c
   listed_all then c next = record {
     entries = s.entries;
     first = s.first;
@@ -150,7 +151,7 @@ module _ (n : ℕ) (class : Class) (start cursor : Word) (limit : Option ℕ) (l
   }
 
 -- the limit is reached
-pub listed_limit : (n : ℕ) (class : Class) (start cursor : Word) (limit : Option ℕ) (listed : ℕ) (a b : Option (List ℕ))
+unfoldable pub listed_limit : (n : ℕ) (class : Class) (start cursor : Word) (limit : Option ℕ) (listed : ℕ) (a b : Option (List ℕ))
     → IsListed n class start cursor limit listed a b → limit ≡ Some listed
     → HasEntries n class start limit Limit listed a b
 listed_limit n class start cursor limit listed a b s is = record {
@@ -162,7 +163,7 @@ listed_limit n class start cursor limit listed a b s is = record {
 }
 
 -- the ending of that name, and its line; no entries end at a wide word
-record Ended (n : ℕ) (class : Class) (cursor : Word) (limit : Option ℕ) (last : Last) (entries : List Entry) (piece : List ℕ) : Type 0 where
+pub record Ended (n : ℕ) (class : Class) (cursor : Word) (limit : Option ℕ) (last : Last) (entries : List Entry) (piece : List ℕ) : Type 0 where
   pub ending : Ending
   pub named : last ≡ name_of ending
   pub ends : EndsBy n class cursor limit entries ending
@@ -171,7 +172,7 @@ record Ended (n : ℕ) (class : Class) (cursor : Word) (limit : Option ℕ) (las
 -- the last line is written
 module _ (n : ℕ) (class : Class) (cursor : Word) (limit : Option ℕ) (last : Last) (listed : ℕ) (word : Word) (a b c : Option (List ℕ))
     (h : HasEntries n class cursor limit last listed a b) (piece : List ℕ) (is : piece ≡ last_line last n class listed word) where
-  ended : Ended n class cursor limit last h.entries piece
+  pub ended : Ended n class cursor limit last h.entries piece
   ended = cases last h.ends (is ∙ ap (λ k. last_line last n class k word) h.count)
     where
       cases : (last : Last) → AreEndedBy n class cursor limit h.entries last → piece ≡ last_line last n class (length h.entries) word

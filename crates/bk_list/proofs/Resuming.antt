@@ -118,7 +118,7 @@ runs_go_on n class cursor last (run ∷ runs) are = more (runs_go_on n class (st
         at e entry (inr (inr f)) = then e (rest.lacking e entry f)
 
 -- what follows all of them is none of them
-not_among : (entries : List Entry) (e : Entry) → AllByRecursion (λ listed. Follows e.word listed.word) entries → Contains entries e → ⊥
+pub not_among : (entries : List Entry) (e : Entry) → AllByRecursion (λ listed. Follows e.word listed.word) entries → Contains entries e → ⊥
 not_among [] e all c = absurd (omega (arith, c.1))
 not_among (f ∷ entries) e all (zero, few, same) = not_itself e.word (subst (λ (g : Entry). Follows e.word g.word) same all.0)
 not_among (f ∷ entries) e all (suc k, few, same) = not_among entries e all.1 (k, omega (arith, few), same)

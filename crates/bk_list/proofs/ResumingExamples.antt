@@ -1,11 +1,17 @@
--- After a run that ended at a wide word, a run from that word lacks at most the member with the word.
-use Rattle.std.proofs.Common.{Contains, List, None, [], append-nil, inl, inr, refl, subst, ℕ, ◌++◌, ◌∷◌, ◌≡◌, ◌⊎◌}
+-- After a run that ended at a wide word, a run from that word lacks at most the member with the word; and a run that was cut at its
+-- limit and one from the word of its last entry lack nothing.
+use Rattle.std.proofs.Common.{Contains, List, None, Some, [], append-nil, arith, inl, inr, refl, subst, ℕ, ◌++◌, ◌∷◌, ◌≡◌, ◌⊎◌}
 use Rattle.bk_word.specs.Word.{Follows, Word}
 use Rattle.bk_word.specs.declared.Class.{Class}
+use Rattle.bk_word.specs.declared.Class.TheVariants.{Imperfect}
+use Rattle.bk_catalogue.proofs.CatalogueExamples.{only, row_entry}
 use Rattle.bk_catalogue.specs.Catalogue.{Entry, IsEntry}
-use Rattle.bk_list.proofs.Resuming.{only_named_ones_are_missing}
-use Rattle.bk_list.specs.Listing.{AreFirst, AtEnd, EndsBy, WideAt}
-use Rattle.bk_list.specs.Resuming.{IsNamed, Run, entries_of, stopped_at}
+use Rattle.bk_list.proofs.ListingExamples.{one_listed}
+use Rattle.bk_list.proofs.NarrowListings.{nothing_is_missing}
+use Rattle.bk_list.proofs.Resuming.{not_among, only_named_ones_are_missing}
+use Rattle.bk_list.proofs.Taking.{first_none}
+use Rattle.bk_list.specs.Listing.{AreFirst, AtEnd, AtLimit, EndsBy, HasAll, WideAt}
+use Rattle.bk_list.specs.Resuming.{AreRuns, IsNamed, Run, entries_of, stopped_at}
 
 module _ (n : ℕ) (class : Class) (cursor w : Word) (entries more : List Entry) where
   abbrev runs : List Run
@@ -27,3 +33,23 @@ module _ (n : ℕ) (class : Class) (cursor w : Word) (entries more : List Entry)
           impossible : AtEnd ≡ WideAt e.word → ⊥
           impossible i = cc
       by (inr (inr (inr none))) = absurd none
+
+-- list --order 2 --class imperfect --limit 1, and then list --order 2 --class imperfect --from 2e
+abbrev cut : Run
+cut = record { limit = Some 1; entries = row_entry ∷ []; ending = AtLimit }
+
+abbrev rest : Run
+rest = record { limit = None; entries = []; ending = AtEnd }
+
+none_left : HasAll 2 Imperfect row_entry.word []
+none_left e is h = absurd (not_among (row_entry ∷ []) e (h, tt) (only e is))
+
+one_after_another : AreRuns 2 Imperfect [] (cut ∷ rest ∷ []) row_entry.word
+one_after_another = (
+  record { first = one_listed; ends = refl },
+  (record { first = first_none 2 Imperfect row_entry.word; ends = (tt, none_left) }, refl),
+)
+
+-- they have together what list --order 2 --class imperfect has
+pub cut_and_continued : AreFirst 2 Imperfect [] (row_entry ∷ []) × EndsBy 2 Imperfect [] None (row_entry ∷ []) AtEnd
+cut_and_continued = nothing_is_missing 2 Imperfect [] row_entry.word (cut ∷ rest ∷ []) (omega arith) one_after_another refl

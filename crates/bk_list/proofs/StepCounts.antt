@@ -1,23 +1,26 @@
 -- The steps of a listing: those of its calls add up, and so do the parts of the tree that they go through.
-use Rattle.std.specs.List.{AllByRecursion}
-use Rattle.std.proofs.Common.{List, None, Option, Some, [], ap, arith, inl, inr, length, subst, sym, ℕ, ◌*◌, ◌++◌, ◌+◌, ◌-◌, ◌∙◌, ◌∷◌, ◌≡◌, ◌≤◌}
+use Rattle.std.specs.Prelude.{Option, flat_map}
+use Rattle.std.specs.Io.KnownBytes.{Appends}
+use Rattle.std.proofs.KnownBytes.{Appends-trans}
+use Rattle.std.proofs.Common.{List, None, Some, [], arith, length, subst, sym, take, ℕ, ◌*◌, ◌++◌, ◌+◌, ◌-◌, ◌∙◌, ◌∷◌, ◌≡◌, ◌≤◌}
 use Rattle.std.proofs.lemmas.List.{length-append}
+use Rattle.bk_ports.specs.Causes.{AppendsPrefix}
 use Rattle.bk_word.proofs.FollowLaws.{not_itself}
 use Rattle.bk_word.proofs.WordOrder.{follows_trans}
 use Rattle.bk_word.specs.Word.{Follows, Word}
 use Rattle.bk_word.specs.declared.Class.{Class}
 use Rattle.bk_tree.proofs.TreeCounts.{at_least_adds}
-use Rattle.bk_tree.specs.Tree.{HasAtLeast, IsAtMostTree, IsInTree, IsNotAfter}
-use Rattle.bk_walk.specs.Walking.{HasNoneAfter}
+use Rattle.bk_tree.specs.Tree.{HasAtLeast, IsAtMostTree, IsNotAfter}
+use Rattle.bk_report.specs.Listings.{last_line}
 use Rattle.bk_report.specs.declared.listing.Last.{Last}
-use Rattle.bk_report.specs.declared.listing.Last.TheVariants.{End, Limit, Wide}
+use Rattle.bk_report.specs.declared.listing.Last.TheVariants.{End, Limit}
 use Rattle.bk_list.proofs.Continuing.{after_last}
-use Rattle.bk_list.proofs.ListingSteps.{IsListed, below, first_then, within_then}
-use Rattle.bk_list.proofs.Taking.{all_there}
-use Rattle.bk_list.specs.Listing.{IsWithinLimit}
+use Rattle.bk_list.proofs.ListingSteps.{Ended, IsListed, ended, first_then, listed_all, listed_limit, within_then}
+use Rattle.bk_list.proofs.Taking.{last_word}
+use Rattle.bk_list.specs.Listing.{line_of}
 use Rattle.bk_list.specs.ListingLaws.{cursor_after}
-use Rattle.bk_list.specs.Stepping.{AreNextSteps, AreStepsTo, IsAtMostTreeAnd, TakesSteps, TookSteps}
-use Rattle.bk_list.specs.Writing.{AreEndedBy, IsNext, IsNextBegun}
+use Rattle.bk_list.specs.Stepping.{AreNextSteps, AreStepsTo, HasEntriesBySteps, IsAtMostTreeAnd, StoppedAtEntry, StoppedAtLast, TakesSteps}
+use Rattle.bk_list.specs.Writing.{IsNext, IsNextBegun}
 use Rattle.bk_list.specs.declared.entries.Next.{Next}
 use Rattle.bk_list.specs.declared.entries.Next.TheVariants.{Member, Nothing}
 
@@ -25,17 +28,6 @@ use Rattle.bk_list.specs.declared.entries.Next.TheVariants.{Member, Nothing}
 fewer : (n : ℕ) (cursor : Word) (bound : Option Word) (a b : ℕ) → b ≤ a → HasAtLeast n cursor bound a → HasAtLeast n cursor bound b
 fewer n cursor bound a b less h =
     record { words = h.words; each = h.each; ascending = h.ascending; count = omega (arith, h.count, less) }
-
--- and so are those without a bound
-in_tree : (n : ℕ) (cursor w : Word) (words : List Word) → AllByRecursion (IsInTree n cursor (Some w)) words → AllByRecursion (IsInTree n cursor None) words
-in_tree n cursor w [] all = tt
-in_tree n cursor w (v ∷ words) all =
-    let t = all.0 in (record { legal = t.legal; some = t.some; small = t.small; after = t.after; within = tt }, in_tree n cursor w words all.1)
-
--- words up to a bound are words without one
-pub unbounded : (n : ℕ) (cursor w : Word) (a b : ℕ) → b ≤ a → HasAtLeast n cursor (Some w) a → HasAtLeast n cursor None b
-unbounded n cursor w a b less h =
-    record { words = h.words; each = in_tree n cursor w h.words h.each; ascending = h.ascending; count = omega (arith, h.count, less) }
 
 -- before the first call
 pub no_steps : (n : ℕ) (start : Word) (steps : ℕ) → IsAtMostTreeAnd n start (Some start) 0 (steps - steps)
@@ -55,8 +47,8 @@ pub next_steps_as : (k n : ℕ) (x next : Next) (cursor then : Word) (steps : �
 next_steps_as k n x next cursor then steps e f h = subst (λ (k : ℕ). AreNextSteps next k cursor then steps) e
     (subst (λ (x : Next). AreNextSteps x k cursor then steps) f h)
 
-pub tree_as : (k n : ℕ) (cursor : Word) (steps : ℕ) → k ≡ n → IsAtMostTree k cursor None steps → IsAtMostTree n cursor None steps
-tree_as k n cursor steps e h = subst (λ (k : ℕ). IsAtMostTree k cursor None steps) e h
+pub tree_as : (k n : ℕ) (cursor then : Word) (steps : ℕ) → k ≡ n → IsAtMostTree k cursor (Some then) steps → IsAtMostTree n cursor (Some then) steps
+tree_as k n cursor then steps e h = subst (λ (k : ℕ). IsAtMostTree k cursor (Some then) steps) e h
 
 -- where a listing stands: so many entries, in so many calls, with so many steps
 module _ (n : ℕ) (class : Class) (start cursor : Word) (limit : Option ℕ) (listed : ℕ) (a b : Option (List ℕ))
@@ -66,64 +58,83 @@ module _ (n : ℕ) (class : Class) (start cursor : Word) (limit : Option ℕ) (l
   from_start : Follows start cursor → ⊥
   from_start h = not_itself start (after_last start s.entries (s.first).after (s.first).ascending start (subst (Follows start) s.at h))
 
+  -- a call up to a later word
+  to_later : (then : Word) → Follows then cursor → IsAtMostTree n cursor (Some then) (last - mid)
+      → IsAtMostTreeAnd n start (Some then) (listed + 1) (last - first)
+  to_later then later more = one_call_more n start cursor (Some then) listed first mid last from_start back k more
+    where
+      back : Follows cursor then → ⊥
+      back h = not_itself cursor (follows_trans cursor then cursor later h)
+
   -- a call that found one more
   pub steps_more : (then : Word) (c : Option (List ℕ)) → IsNext n class cursor then b c Member → AreNextSteps Member n cursor then (last - mid)
       → IsAtMostTreeAnd n start (Some then) (listed + 1) (last - first)
-  steps_more then c next more = one_call_more n start cursor (Some then) listed first mid last from_start back k more
-    where
-      later : Follows then cursor
-      later = subst (λ (w : Word). Follows w cursor) (sym next.2) (next.1).after
-
-      back : Follows cursor then → ⊥
-      back h = not_itself cursor (follows_trans cursor then cursor later h)
+  steps_more then c next more = to_later then (subst (λ (w : Word). Follows w cursor) (sym next.2) (next.1).after) more
 
   -- a call up to the end of the tree
   to_end : IsAtMostTree n cursor None (last - mid) → IsAtMostTreeAnd n start None (listed + 1) (last - first)
   to_end more = one_call_more n start cursor None listed first mid last from_start tt k more
 
   -- a call that found none
-  pub steps_all : (limit ≡ Some listed → ⊥) → (then : Word) (c : Option (List ℕ)) → IsNext n class cursor then b c Nothing
-      → AreNextSteps Nothing n cursor then (last - mid) → TakesSteps n class start limit End (last - first)
+  pub steps_all : (not : limit ≡ Some listed → ⊥) → (then : Word) (c : Option (List ℕ)) → IsNext n class cursor then b c Nothing
+      → AreNextSteps Nothing n cursor then (last - mid) → HasEntriesBySteps n class start limit End listed a c (last - first)
+  unfolding listed_all
   steps_all not then c next more = record {
-    entries = s.entries;
-    first = s.first;
-    ends = (below limit s.entries listed s.count not s.within, all_there n class start s.entries s.first (subst (HasNoneAfter n class) s.at next.0));
+    lines = listed_all n class start cursor limit listed a b s not then c next;
     few = subst (λ (calls : ℕ). IsAtMostTreeAnd n start None (calls + 1) (last - first)) s.count (to_end more);
   }
 
   -- no call more at the limit
-  pub steps_limit : limit ≡ Some listed → TakesSteps n class start limit Limit (mid - first)
+  pub steps_limit : limit ≡ Some listed → HasEntriesBySteps n class start limit Limit listed a b (mid - first)
+  unfolding listed_limit
   steps_limit is = record {
-    entries = s.entries;
-    first = s.first;
-    ends = is ∙ ap (λ z. Some z) s.count;
+    lines = listed_limit n class start cursor limit listed a b s is;
     few = subst (λ (w : Word). IsAtMostTreeAnd n start (Some w) (length s.entries) (mid - first)) s.at
         (subst (λ (calls : ℕ). IsAtMostTreeAnd n start (Some cursor) calls (mid - first)) s.count k);
   }
 
   -- a call whose member was not written
-  pub steps_begun : (limit ≡ Some listed → ⊥) → (c : Option (List ℕ)) → IsNextBegun n class cursor b c → IsAtMostTree n cursor None (last - mid)
-      → TookSteps n class start limit (last - first)
-  steps_begun not c next more =
+  pub steps_begun : (limit ≡ Some listed → ⊥) → (then : Word) (c : Option (List ℕ)) → IsNextBegun n class cursor then b c
+      → IsAtMostTree n cursor (Some then) (last - mid) → StoppedAtEntry n class start limit a c (last - first)
+  steps_begun not then c next more =
       let e = next.0 in record {
-        entries = s.entries ++ e ∷ [];
+        entries = s.entries;
+        failed = e;
         first = first_then n class start cursor limit listed a b s not e next.1;
         within = within_then n class start cursor limit listed a b s not e;
-        few = fewer n start None ((last - first) - 16 * (listed + 1)) ((last - first) - 16 * (length (s.entries ++ e ∷ []) + 1))
-            (omega (arith, s.count, length-append s.entries (e ∷ []))) (to_end more);
+        some = (next.3).0;
+        begins = Appends-trans a b c (flat_map line_of s.entries) (take (next.3).0 (line_of e)) s.appends (next.3).1;
+        few = subst (λ (w : Word). IsAtMostTreeAnd n start (Some w) (length (s.entries ++ e ∷ [])) (last - first)) at
+            (subst (λ (calls : ℕ). IsAtMostTreeAnd n start (Some then) calls (last - first)) calls
+            (to_later then (subst (λ (w : Word). Follows w cursor) (sym next.2) (next.1).after) more));
       }
+    where
+      at : then ≡ cursor_after start (s.entries ++ next.0 ∷ [])
+      at = next.2 ∙ sym (last_word start s.entries next.0)
 
--- the steps of a listing whose last line was not written
-pub took_all : (n : ℕ) (class : Class) (start : Word) (limit : Option ℕ) (last : Last) (steps : ℕ) → TakesSteps n class start limit last steps
-    → TookSteps n class start limit steps
-took_all n class start limit last steps t = record { entries = t.entries; first = t.first; within = within last t.ends; few = up last t.few }
+      calls : listed + 1 ≡ length (s.entries ++ next.0 ∷ [])
+      calls = omega (arith, s.count, length-append s.entries (next.0 ∷ []))
+
+-- the steps of a listing whose entries are all written
+pub takes_all : (n : ℕ) (class : Class) (start : Word) (limit : Option ℕ) (last : Last) (listed : ℕ) (a b : Option (List ℕ)) (steps : ℕ)
+    → HasEntriesBySteps n class start limit last listed a b steps → TakesSteps n class start limit last steps
+takes_all n class start limit last listed a b steps h =
+    record { entries = (h.lines).entries; first = (h.lines).first; ends = (h.lines).ends; few = h.few }
+
+-- and of one whose last line was not written
+pub took_all : (n : ℕ) (class : Class) (start : Word) (limit : Option ℕ) (last : Last) (listed : ℕ) (word : Word) (a b c : Option (List ℕ)) (steps : ℕ)
+    → HasEntriesBySteps n class start limit last listed a b steps → (piece : List ℕ) → piece ≡ last_line last n class listed word
+    → AppendsPrefix b c piece → StoppedAtLast n class start limit a c steps
+took_all n class start limit last listed word a b c steps h piece is p = record {
+  entries = (h.lines).entries;
+  ending = end.ending;
+  first = (h.lines).first;
+  ends = end.ends;
+  some = p.0;
+  begins = subst (λ (line : List ℕ). Appends a c (flat_map line_of (h.lines).entries ++ take p.0 line)) end.line
+      (Appends-trans a b c (flat_map line_of (h.lines).entries) (take p.0 piece) (h.lines).appends p.1);
+  few = subst (λ (last : Last). AreStepsTo last n start (h.lines).entries steps) end.named h.few;
+}
   where
-    within : (last : Last) → AreEndedBy n class start limit t.entries last → IsWithinLimit limit t.entries
-    within End ends = inl ends.0
-    within Limit ends = inr ends
-    within Wide ends = absurd ends
-
-    up : (last : Last) → AreStepsTo last n start t.entries steps → AreStepsTo End n start t.entries steps
-    up End few = few
-    up Limit few = unbounded n start (cursor_after start t.entries) (steps - 16 * length t.entries) (steps - 16 * (length t.entries + 1)) (omega arith) few
-    up Wide few = absurd few
+    end : Ended n class start limit last (h.lines).entries piece
+    end = ended n class start limit last listed word a b c h.lines piece is

@@ -1,12 +1,15 @@
--- A listing with the limit 0 takes no step.
+-- A listing with the limit 0 takes no step, also where its line could not be written.
 use Rattle.std.specs.List.{AllByRecursion}
-use Rattle.std.proofs.Common.{List, Some, [], arith, length, ℕ, ◌∷◌, ◌≡◌}
+use Rattle.std.specs.Prelude.{Option}
+use Rattle.std.proofs.Common.{List, Some, [], arith, inl, inr, length, ℕ, ◌++◌, ◌<◌, ◌∷◌, ◌≡◌}
+use Rattle.std.proofs.lemmas.List.{length-append}
 use Rattle.bk_word.specs.Word.{Word}
 use Rattle.bk_word.specs.declared.Class.{Class}
 use Rattle.bk_catalogue.specs.Catalogue.{Entry}
 use Rattle.bk_report.specs.declared.listing.Last.TheVariants.{Limit}
 use Rattle.bk_tree.specs.Tree.{IsInTree}
-use Rattle.bk_list.specs.Stepping.{AreStepsTo, TakesSteps}
+use Rattle.bk_list.specs.Listing.{AtEnd, AtLimit, Ending, EndsBy, IsWithinLimit, WideAt, name_of}
+use Rattle.bk_list.specs.Stepping.{AreStepsTo, TakesSteps, TookSteps}
 
 -- no word is after the cursor and not after it
 none_up_to : (n : ℕ) (cursor : Word) (words : List Word) → AllByRecursion (IsInTree n cursor (Some cursor)) words → length words ≡ 0
@@ -22,3 +25,23 @@ no_entries n cursor steps (f ∷ entries) e few = absurd (omega (arith, count e)
 
 pub no_step : (n : ℕ) (class : Class) (cursor : Word) (steps : ℕ) → TakesSteps n class cursor (Some 0) Limit steps → steps ≡ 0
 no_step n class cursor steps t = no_entries n cursor steps t.entries t.ends t.few
+
+-- and neither does one whose last line could not be written: with the limit 0 no entry is found
+pub stopped_at_once : (n : ℕ) (class : Class) (cursor : Word) (a b : Option (List ℕ)) (steps : ℕ) → TookSteps n class cursor (Some 0) a b steps → steps ≡ 0
+stopped_at_once n class cursor a b steps (inl t) = by t.within
+  where
+    some : 0 < length (t.entries ++ t.failed ∷ [])
+    some = omega (arith, length-append t.entries (t.failed ∷ []))
+
+    count : Some 0 ≡ Some (length (t.entries ++ t.failed ∷ [])) → 0 ≡ length (t.entries ++ t.failed ∷ [])
+    count e = cc
+
+    by : IsWithinLimit (Some 0) (t.entries ++ t.failed ∷ []) → steps ≡ 0
+    by (inl h) = absurd (omega (arith, h))
+    by (inr e) = absurd (omega (arith, some, count e))
+stopped_at_once n class cursor a b steps (inr t) = by t.ending t.ends t.few
+  where
+    by : (ending : Ending) → EndsBy n class cursor (Some 0) t.entries ending → AreStepsTo (name_of ending) n cursor t.entries steps → steps ≡ 0
+    by AtEnd ends few = absurd (omega (arith, ends.0))
+    by AtLimit ends few = no_entries n cursor steps t.entries ends few
+    by (WideAt w) ends few = absurd few

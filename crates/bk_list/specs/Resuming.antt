@@ -1,7 +1,7 @@
 -- Runs of a listing one after another, each from where the one before it stopped, and what they have together. Statements
 -- alone; they are proved apart.
 use Rattle.std.specs.List.{AllByRecursion}
-use Rattle.std.specs.Prelude.{Contains, List, Option, [], flat_map, ℕ, ◌∷◌, ◌≡◌, ◌⊎◌}
+use Rattle.std.specs.Prelude.{Contains, List, None, Option, [], flat_map, ℕ, ◌∷◌, ◌≡◌, ◌≤◌, ◌⊎◌}
 use Rattle.bk_word.specs.Word.{Follows, Word}
 use Rattle.bk_word.specs.declared.Class.{Class}
 use Rattle.bk_catalogue.specs.Catalogue.{AreAscending, Entry, IsEntry}
@@ -64,3 +64,9 @@ RunsGoOn = (n : ℕ) (class : Class) (cursor last : Word) (runs : List Run) → 
 abbrev pub OnlyNamedOnesAreMissing : Type 0
 OnlyNamedOnesAreMissing = (n : ℕ) (class : Class) (cursor last : Word) (runs : List Run) → AreRuns n class cursor runs last → EndsAtEnd runs
     → (e : Entry) → IsEntry n class e → Follows e.word cursor → Contains (entries_of runs) e ⊎ IsNamed e.word runs
+
+-- and of an order of at most 16 nothing is missing: the runs have together the entries of one listing without a limit, which
+-- ends because there are no more members. Example (ResumingExamples): a run that was cut at its limit, and the rest
+abbrev pub NothingIsMissing : Type 0
+NothingIsMissing = (n : ℕ) (class : Class) (cursor last : Word) (runs : List Run) → n ≤ 16 → AreRuns n class cursor runs last → EndsAtEnd runs
+    → AreFirst n class cursor (entries_of runs) × EndsBy n class cursor None (entries_of runs) AtEnd

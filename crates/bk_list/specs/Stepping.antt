@@ -1,15 +1,16 @@
 -- How many steps a listing takes. A step is a push of a move; a listing calls its walk once for each entry, and once more
 -- where that finds no further member.
-use Rattle.std.specs.Prelude.{List, None, Option, Some, length, ℕ, ◌*◌, ◌+◌, ◌-◌}
+use Rattle.std.specs.Io.KnownBytes.{Appends}
+use Rattle.std.specs.Prelude.{List, None, Option, Some, [], flat_map, length, take, ℕ, ◌*◌, ◌++◌, ◌+◌, ◌-◌, ◌∷◌, ◌⊎◌}
 use Rattle.bk_word.specs.Word.{Word}
 use Rattle.bk_word.specs.declared.Class.{Class}
 use Rattle.bk_catalogue.specs.Catalogue.{Entry}
 use Rattle.bk_report.specs.declared.listing.Last.{Last}
 use Rattle.bk_report.specs.declared.listing.Last.TheVariants.{End, Limit, Wide}
 use Rattle.bk_tree.specs.Tree.{HasAtLeast, IsAtMostTree}
-use Rattle.bk_list.specs.Listing.{AreFirst, IsWithinLimit}
+use Rattle.bk_list.specs.Listing.{AreFirst, Ending, EndsBy, IsWithinLimit, ending_line, line_of, name_of}
 use Rattle.bk_list.specs.ListingLaws.{cursor_after}
-use Rattle.bk_list.specs.Writing.{AreEndedBy}
+use Rattle.bk_list.specs.Writing.{AreEndedBy, HasEntries}
 use Rattle.bk_list.specs.declared.entries.Next.{Next}
 use Rattle.bk_list.specs.declared.entries.Next.TheVariants.{Member, Nothing}
 
@@ -33,12 +34,40 @@ pub record TakesSteps (n : ℕ) (class : Class) (cursor : Word) (limit : Option 
   pub ends : AreEndedBy n class cursor limit entries last
   pub few : AreStepsTo last n cursor entries steps
 
--- a listing whose writing failed has taken no more steps for the entries that it found than one that goes on to its end
-pub record TookSteps (n : ℕ) (class : Class) (cursor : Word) (limit : Option ℕ) (steps : ℕ) : Type 0 where
+-- where the write of an entry's line failed: the lines of the entries before it stand written, and a beginning of its own. It
+-- has not been looked beyond its word, by one call for each entry, its own too
+pub record StoppedAtEntry (n : ℕ) (class : Class) (cursor : Word) (limit : Option ℕ) (written written_after : Option (List ℕ)) (steps : ℕ) : Type 0 where
   pub entries : List Entry
+  pub failed : Entry
+  pub first : AreFirst n class cursor (entries ++ failed ∷ [])
+  pub within : IsWithinLimit limit (entries ++ failed ∷ [])
+  pub some : ℕ
+  pub begins : Appends written written_after (flat_map line_of entries ++ take some (line_of failed))
+  pub few : AreStepsTo Limit n cursor (entries ++ failed ∷ []) steps
+
+-- where the write of the last line failed: the lines of all entries stand written, and a beginning of the last one. The steps
+-- are those of the whole listing
+pub record StoppedAtLast (n : ℕ) (class : Class) (cursor : Word) (limit : Option ℕ) (written written_after : Option (List ℕ)) (steps : ℕ) : Type 0 where
+  pub entries : List Entry
+  pub ending : Ending
   pub first : AreFirst n class cursor entries
-  pub within : IsWithinLimit limit entries
-  pub few : AreStepsTo End n cursor entries steps
+  pub ends : EndsBy n class cursor limit entries ending
+  pub some : ℕ
+  pub begins : Appends written written_after (flat_map line_of entries ++ take some (ending_line ending n class (length entries)))
+  pub few : AreStepsTo (name_of ending) n cursor entries steps
+
+-- a listing whose writing failed has taken so many steps for the entries that it found, and has looked no further. Example
+-- (SteppingExamples): with the limit 0, where the last line could not be written, it has taken none
+abbrev pub TookSteps : ℕ → Class → Word → Option ℕ → Option (List ℕ) → Option (List ℕ) → ℕ → Type 0
+TookSteps n class cursor limit written written_after steps =
+    StoppedAtEntry n class cursor limit written written_after steps ⊎ StoppedAtLast n class cursor limit written written_after steps
+
+-- all entries of a listing that ends so were written, so many, and it took so many steps for them
+pub record HasEntriesBySteps (n : ℕ) (class : Class) (cursor : Word) (limit : Option ℕ) (last : Last) (listed : ℕ)
+    (written written_after : Option (List ℕ)) (steps : ℕ) : Type 0
+  where
+    pub lines : HasEntries n class cursor limit last listed written written_after
+    pub few : AreStepsTo last n cursor lines.entries steps
 
 -- the steps of one call: up to the member that it found, or after the cursor where it found none
 abbrev pub AreNextSteps : Next → ℕ → Word → Word → ℕ → Type 0

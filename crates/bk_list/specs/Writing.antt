@@ -51,9 +51,9 @@ IsNext n class cursor then written written_after Member =
 IsNext n class cursor then written written_after Nothing = HasNoneAfter n class cursor × (written_after ≡ written)
 
 -- the write of the next entry failed
-abbrev pub IsNextBegun : ℕ → Class → Word → Option (List ℕ) → Option (List ℕ) → Type 0
-IsNextBegun n class cursor written written_after =
-    (e : Entry) × TakesNext n class cursor e × AppendsPrefix written written_after (line_of e)
+abbrev pub IsNextBegun : ℕ → Class → Word → Word → Option (List ℕ) → Option (List ℕ) → Type 0
+IsNextBegun n class cursor then written written_after =
+    (e : Entry) × TakesNext n class cursor e × (then ≡ e.word) × AppendsPrefix written written_after (line_of e)
 
 -- how the entries of a listing end by name: at the limit or because there are no more members, since no wide word comes
 abbrev pub AreEndedBy : ℕ → Class → Word → Option ℕ → List Entry → Last → Type 0

@@ -3,8 +3,8 @@
 ghost use Rattle.std.specs.Prelude.{IfOk, IsTrue, None, OnErr, Some, false, ◌-◌, ◌≡◌, ◌≤◌};
 ghost use Rattle.bk_ports.specs.Causes.{HasCause};
 ghost use Rattle.bk_tree.specs.Tree.{IsAtMostTree};
-ghost use Rattle.bk_list.specs.Stepping.{AreNextSteps, TakesSteps, TookSteps};
-ghost use Rattle.bk_list.specs.Writing.{BeginsListing, HasEntries, IsNext, IsNextBegun};
+ghost use Rattle.bk_list.specs.Stepping.{AreNextSteps, HasEntriesBySteps, StoppedAtEntry};
+ghost use Rattle.bk_list.specs.Writing.{BeginsListing, IsNext, IsNextBegun};
 
 use arrayvec::ArrayVec;
 use bk_ports::{Failed, Sink};
@@ -30,11 +30,12 @@ pub(crate) fn write_entries<L: Ledger, O: Sink>(
     out: &mut O,
 ) -> Result<(Last, u64), Failed>
     requires { walk.old.order ≤ 16 }
-    ensures ended { IfOk result (λ r. HasEntries walk.old.order walk.old.class walk.old.cursor limit r.0 r.1 (O.written out.old) (O.written out.new)) }
+    ensures ended { IfOk result (λ r. HasEntriesBySteps walk.old.order walk.old.class walk.old.cursor limit r.0 r.1 (O.written out.old) (O.written out.new)
+        (steps.new - steps.old)) }
     ensures begun { OnErr result (BeginsListing walk.old.order walk.old.class walk.old.cursor limit (O.written out.old) (O.written out.new)) }
     ensures cause { HasCause (O.faults out.old) (O.faults out.new) result }
-    ensures steps { IfOk result (λ r. TakesSteps walk.old.order walk.old.class walk.old.cursor limit r.0 (steps.new - steps.old)) }
-    ensures stopped { OnErr result (TookSteps walk.old.order walk.old.class walk.old.cursor limit (steps.new - steps.old)) }
+    ensures stopped { OnErr result (StoppedAtEntry walk.old.order walk.old.class walk.old.cursor limit (O.written out.old) (O.written out.new)
+        (steps.new - steps.old)) }
 {
     let mut listed: u64 = 0;
     'members: loop {
@@ -67,12 +68,12 @@ fn write_next<L: Ledger, O: Sink>(
     out: &mut O,
 ) -> Result<Next, Failed>
     ensures next { IfOk result (IsNext walk.old.order walk.old.class walk.old.cursor walk.new.cursor (O.written out.old) (O.written out.new)) }
-    ensures begun { OnErr result (IsNextBegun walk.old.order walk.old.class walk.old.cursor (O.written out.old) (O.written out.new)) }
+    ensures begun { OnErr result (IsNextBegun walk.old.order walk.old.class walk.old.cursor walk.new.cursor (O.written out.old) (O.written out.new)) }
     ensures cause { HasCause (O.faults out.old) (O.faults out.new) result }
     ensures order { walk.new.order ≡ walk.old.order }
     ensures class { walk.new.class ≡ walk.old.class }
     ensures steps { IfOk result (λ next. AreNextSteps next walk.old.order walk.old.cursor walk.new.cursor (steps.new - steps.old)) }
-    ensures stopped { OnErr result (IsAtMostTree walk.old.order walk.old.cursor None (steps.new - steps.old)) }
+    ensures stopped { OnErr result (IsAtMostTree walk.old.order walk.old.cursor (Some walk.new.cursor) (steps.new - steps.old)) }
 {
     match walk.advance(steps) {
         None => Ok(Next::Nothing),

@@ -28,7 +28,9 @@ use std::sync::ledger::Ledger;
 ///
 /// A step is a push of a move. A listing that ends because there are no more members takes at most as many steps as there are
 /// legal words of at least one move and at most the order after the given word, and 16 for each entry and 16 more; one that
-/// ends at its limit at most as many as there are of these up to the word of its last entry, and 16 for each entry.
+/// ends at its limit at most as many as there are of these up to the word of its last entry, and 16 for each entry. Where the
+/// write of an entry fails it takes no more than one that ends at its limit with that entry, and where that of the last line
+/// fails no more than the whole listing.
 pub fn write_listing<L: Ledger, O: Sink>(
     alloc: Global,
     order: u8,
@@ -46,7 +48,7 @@ pub fn write_listing<L: Ledger, O: Sink>(
     ensures begun { OnErr result (BeginsListing order class (start_cursor from) limit (O.written out.old) (O.written out.new)) }
     ensures cause { HasCause (O.faults out.old) (O.faults out.new) result }
     ensures steps { IfOk result (λ last. TakesSteps order class (start_cursor from) limit last (steps.new - steps.old)) }
-    ensures stopped { OnErr result (TookSteps order class (start_cursor from) limit (steps.new - steps.old)) }
+    ensures stopped { OnErr result (TookSteps order class (start_cursor from) limit (O.written out.old) (O.written out.new) (steps.new - steps.old)) }
 {
     let mut walk = Walk::new(alloc, order, class, from);
     let mut buffer = ArrayVec::<u8, 9000>::new();

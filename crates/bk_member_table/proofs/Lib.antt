@@ -1,2 +1,3 @@
 pub mod FoundMembers
 pub mod WholeTables
+pub mod QuickTests

@@ -2,9 +2,7 @@
 use Rattle.std.proofs.Common.{List, Some, [], ap, append_assoc, arith, length, length-append, map, refl, slice_get, slice_index_or, subst, suc, sym}
 use Rattle.std.proofs.Common.{take, zero, ℕ, ◌%◌, ◌++◌, ◌+◌, ◌-◌, ◌/◌, ◌<◌, ◌∙◌, ◌∷◌, ◌≡◌, ◌≤◌}
 use Rattle.std.proofs.lemmas.List.{length-map, length-take-le, map-append}
-use Rattle.bk_tiling.specs.Tiling.{order}
-use Rattle.bk_word.specs.Outline.{start}
-use Rattle.bk_word.specs.Play.{AreLegalFrom, IsComplete, IsLegal}
+use Rattle.bk_word.specs.Play.{IsComplete, IsLegal}
 use Rattle.bk_word.specs.Word.{Move, Word, order_of, sign_place}
 use Rattle.bk_word.specs.declared.Class.{Class}
 use Rattle.bk_word.specs.declared.Sign.{Sign}

@@ -1,5 +1,5 @@
 -- What a search for members keeps of the words that it met.
-use Rattle.std.specs.Prelude.{ℕ, ◌<◌, ◌≤◌}
+use Rattle.std.specs.Prelude.{ℕ, ◌≤◌}
 use Rattle.bk_tiling.specs.Tiling.{Tiling}
 use Rattle.bk_simple.specs.Simple.{IsSimple}
 use Rattle.bk_sym.specs.Canonical.{IsCanonical}

@@ -1,18 +1,20 @@
 //! The members whose signed words a search meets.
 
-ghost use Rattle.std.specs.Prelude.{IsTrue, [], false, ℕ, ◌<◌, ◌≡◌, ◌≤◌};
-ghost use Rattle.bk_tiling.specs.Tiling.{IsTiling, order};
-ghost use Rattle.bk_word.specs.Play.{IsLegal};
+ghost use Rattle.std.specs.Prelude.{IsTrue, Some, [], false, ℕ, ◌<◌, ◌≡◌, ◌≤◌};
+ghost use Rattle.bk_tiling.specs.Tiling.{IsTiling, Tiling as Tiled, order};
+ghost use Rattle.bk_sym.specs.Canonical.{IsCanonical};
+ghost use Rattle.bk_catalogue.specs.Catalogue.{IsOfClass};
+ghost use Rattle.bk_signed_word.specs.SignedWord.{IsSignedWordOf};
+ghost use Rattle.bk_word.specs.Play.{IsComplete};
 ghost use Rattle.bk_word.specs.Word.{Word as Moves, order_of};
 ghost use Rattle.bk_lay.specs.TilingWord.{IsWordOf};
 ghost use Rattle.bk_table.specs.Kept.{Holds};
 ghost use Rattle.bk_table.specs.Packed.{packed};
 ghost use Rattle.bk_member_table.specs.Finding.{HasNone};
 
-use crate::judging::qualifies;
+use crate::judging::{qualifies, tried};
 use bk_lay::word_of;
-use bk_leaf::{Board as LeafBoard, leaf};
-use bk_skel::Skel;
+use bk_leaf::leaf;
 use bk_table::{Board, Leaves, Packed, Span, Table};
 use bk_tiling::Tiling;
 use bk_word::{Class, INLINE_ORDER};
@@ -92,7 +94,7 @@ impl<const N: usize> Leaves for Finder<N> {
     ghost has_met = { HasMet };
 
     fn meet(&mut self, board: &Board) {
-        let Some(tiling) = leaf(&played(board.skel())) else {
+        let Some(tiling) = member_at(board, self.class) else {
             return;
         };
         if tiling.order() <= INLINE_ORDER && qualifies(&tiling, self.class) {
@@ -101,15 +103,15 @@ impl<const N: usize> Leaves for Finder<N> {
     }
 }
 
-// The board on which the skeleton's moves are played.
-fn played(skel: &Skel) -> LeafBoard
-    requires legal { IsLegal skel.now }
-    requires few { order_of skel.now ≤ 16 }
-    ensures { result ≡ skel.now }
+// The tiling of which the board's complete word can be a signed word, where the corners and the class allow it: each canonical
+// tiling of the class of which it is one is found.
+fn member_at(board: &Board, class: Class) -> Option<Tiling>
+    requires complete { IsComplete board.now }
+    requires few { order_of board.now ≤ 16 }
+    ensures { (t : Tiled) → IsTiling t → IsOfClass class t → IsCanonical t → IsSignedWordOf t board.now → result ≡ Some t }
 {
-    let mut board = LeafBoard::new();
-    'moves: for i in 0..skel.moves() {
-        board.push(&skel.get(i));
+    match leaf(board.skel(), board.lefts()) {
+        Some(placed) => tried(&placed, class),
+        None => None,
     }
-    board
 }

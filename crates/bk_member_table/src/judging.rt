@@ -1,13 +1,19 @@
-//! Whether a tiling is a member of a catalogue.
+//! Whether a tiling is a member of a catalogue, and whether placed squares can be one.
 
-ghost use Rattle.std.specs.Prelude.{IsTrue, false, ◌≡◌, ◌↔◌};
+ghost use Rattle.std.specs.Prelude.{IsTrue, Some, false, ◌≡◌, ◌↔◌};
+ghost use Rattle.bk_tiling.specs.CodeOrder.{in_code_order};
+ghost use Rattle.bk_tiling.specs.Tiling.{IsTiling, Tiling as Tiled};
+ghost use Rattle.bk_sym.specs.Canonical.{IsCanonical};
 ghost use Rattle.bk_catalogue.specs.Catalogue.{IsOfClass};
+ghost use Rattle.bk_leaf.specs.Found.{IsPlacementOf};
 ghost use Rattle.bk_member_table.specs.Finding.{Qualifies};
 
-use crate::corners::begins_greatest;
+use crate::corners::{begins_greatest, corners_allow};
+use crate::repeats::has_repeated;
+use bk_leaf::Placed;
 use bk_simple::{part, repeated};
 use bk_sym::is_canonical;
-use bk_tiling::Tiling;
+use bk_tiling::{Square, Tiling};
 use bk_word::Class;
 
 /// Whether a tiling is simple, of the class, and its own canonical tiling.
@@ -31,6 +37,34 @@ fn is_of_class(tiling: &Tiling, class: Class) -> bool
     match class {
         Class::Perfect => repeated(tiling).is_none(),
         Class::Imperfect => repeated(tiling).is_some(),
+        Class::Simple => true,
+    }
+}
+
+// The tiling of placed squares, where the corners and the class allow it: each canonical tiling of the class is found.
+pub(crate) fn tried(placed: &Placed, class: Class) -> Option<Tiling>
+    ensures { (t : Tiled) → IsTiling t → IsOfClass class t → IsCanonical t → IsPlacementOf t placed.now → result ≡ Some t }
+{
+    let squares = placed.squares.as_slice();
+    if !corners_allow(squares, placed.width, placed.height) {
+        return None;
+    }
+    if !class_allows(squares, class) {
+        return None;
+    }
+    match Tiling::try_new(placed.width, placed.height, squares) {
+        Ok(tiling) => Some(tiling),
+        Err(_) => None,
+    }
+}
+
+// Whether the class allows a tiling by these squares.
+fn class_allows(squares: &[Square], class: Class) -> bool
+    ensures { result ≡ false → (t : Tiled) → in_code_order squares.now ≡ t.squares → IsOfClass class t → ⊥ }
+{
+    match class {
+        Class::Perfect => !has_repeated(squares),
+        Class::Imperfect => has_repeated(squares),
         Class::Simple => true,
     }
 }

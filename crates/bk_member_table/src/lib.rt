@@ -5,7 +5,9 @@ mod corners;
 mod finding;
 mod judging;
 mod members;
+mod repeats;
 
+pub use bk_table::span_of;
 pub use corners::begins_greatest;
 pub use finding::Finder;
 pub use judging::qualifies;

@@ -22,6 +22,7 @@ module _ (t : Tiling) (tiling : IsTiling t) (v : ℕ) (g : List Square) (e : sli
   abbrev row : IsRow t.squares g
   row = (group_of t tiling v g e).0.row
 
+  -- the first square of a group is a square of the tiling
   pub first_one : IsOneOf (group_of t tiling v g e).0.row.first t.squares
   first_one = in_group t tiling v g e (group_of t tiling v g e).0.row.first (first_in t tiling g (group_of t tiling v g e).0.row)
 
@@ -38,9 +39,11 @@ module _ (t : Tiling) (tiling : IsTiling t) (v : ℕ) (g : List Square) (e : sli
             (omega (arith, top_of t tiling g row r h, side_of t tiling r (in_group t tiling v g e r h))),
       )
 
+  -- the level of a group is above the bottom of the tiling
   pub below_height : (group_of t tiling v g e).0.row.first.y < t.height
   below_height = let w = (within_of t tiling row.first first_one).bottom in omega (arith, side_of t tiling row.first first_one)
 
+  -- a group ends within the tiling
   pub end_within : (group_of t tiling v g e).0.row.end ≤ t.width
   end_within = cases (cases_lt row.first.x row.end)
     where
@@ -51,10 +54,12 @@ module _ (t : Tiling) (tiling : IsTiling t) (v : ℕ) (g : List Square) (e : sli
           from : (r : Square) × IsOneOf r g × (covers (row.end - 1) row.first.y r ≡ true) → row.end ≤ t.width
           from (r, k, f) = omega (arith, (over_from (row.end - 1) row.first.y r f).right, (within_of t tiling r (in_group t tiling v g e r k)).right)
 
+  -- and has a width
   pub some_width : (group_of t tiling v g e).0.row.first.x < (group_of t tiling v g e).0.row.end
   some_width = let w = chain_within g row.first.x row.end row.chain row.first (first_in t tiling g row) in
       omega (arith, w.1, side_of t tiling row.first first_one)
 
+  -- its sides are together as long as its columns are many
   pub width_is : total (laid_sides g) ≡ (group_of t tiling v g e).0.row.end - (group_of t tiling v g e).0.row.first.x
   width_is = omega (arith, chain_total g row.first.x row.end row.chain)
 
@@ -71,6 +76,7 @@ module _ (t : Tiling) (tiling : IsTiling t) (v : ℕ) (g : List Square) (e : sli
           (omega (arith, side_of t tiling row.first first_one))) in omega (arith, ap (λ (s : Square). s.x) same)
       cases (inr k) = (group_of t tiling v g e).0.left z h ey (omega arith)
 
+  -- no square with its top at the group's level begins at the group's right end or before and reaches past it
   pub not_right : (z : Square) → IsOneOf z t.squares → z.y ≡ (group_of t tiling v g e).0.row.first.y → z.x ≤ (group_of t tiling v g e).0.row.end
       → (group_of t tiling v g e).0.row.end < z.x + z.s → ⊥
   not_right z h ey lo hi = cases (cases_lt z.x row.end)
@@ -112,6 +118,7 @@ module _ (t : Tiling) (tiling : IsTiling t) (v : ℕ) (g : List Square) (e : sli
       right (inr k) = k
       right (inl k) = let z = under row.end (omega arith) k in absurd (not_right z.0 z.1 z.2 z.3 z.4)
 
+  -- under the top, squares that end at a group have sides that are together as long as the group
   pub into_is_width : 0 < (group_of t tiling v g e).0.row.first.y
       → in_total (node_below (square_groups t.squares)) v t.squares ≡ (group_of t tiling v g e).0.row.end - (group_of t tiling v g e).0.row.first.x
   into_is_width deep = in_is_cols (node_below (square_groups t.squares)) v (row.end - row.first.x) row.first.x (row.first.y - 1) t.squares each
@@ -176,6 +183,7 @@ module _ (t : Tiling) (tiling : IsTiling t) (v : ℕ) (g : List Square) (e : sli
                             (over_from q.x row.first.y r i).right),
                       )
 
+  -- at the top no square ends
   pub into_is_none : (group_of t tiling v g e).0.row.first.y ≡ 0 → in_total (node_below (square_groups t.squares)) v t.squares ≡ 0
   into_is_none top = in_is_none (node_below (square_groups t.squares)) v t.squares each
     where
@@ -194,5 +202,6 @@ module _ (t : Tiling) (tiling : IsTiling t) (v : ℕ) (g : List Square) (e : sli
               from : (r : Square) × IsOneOf r g × ((nat_eq r.y (q.y + q.s) && covers_column q.x r) ≡ true) → q.s ≡ 0
               from (r, k, m) = absurd (omega (arith, (below_to q r m).level, top_of t tiling g row r k, top, side_of t tiling q h))
 
+  -- squares that hang from a group have sides that are together as long as the group
   pub out_is_width : out_total 0 v (square_groups t.squares) ≡ (group_of t tiling v g e).0.row.end - (group_of t tiling v g e).0.row.first.x
   out_is_width = out_at 0 v v (square_groups t.squares) g e (omega arith) ∙ width_is

@@ -12,17 +12,20 @@ use Rattle.bk_tiling.proofs.TilingGroups.{known, one_there}
 use Rattle.bk_tiling.specs.SquareGroups.{square_groups}
 use Rattle.bk_net.specs.Diagram.{group_level}
 
+-- what holds of all items of a list holds of the one that is got at a place
 pub get_all : {A : Type 0} (P : A → Type 0) (xs : List A) (k : ℕ) (x : A) → AllByRecursion P xs → slice_get xs k ≡ Some x → P x
 get_all P [] k x all e = absurd (cc)
 get_all P (y ∷ xs) zero x all e = let same : y ≡ x = cc in subst P same all.0
 get_all P (y ∷ xs) (suc k) x all e = get_all P xs k x all.1 e
 
+-- a list that is got at a place is the one read there
 pub get_index : (xs : List (List Square)) (k : ℕ) (x : List Square) → slice_get xs k ≡ Some x → slice_index_or xs k [] ≡ x
 get_index [] k x e = absurd (cc)
 get_index (y ∷ xs) zero x e = cc
 get_index (y ∷ xs) (suc k) x e = get_index xs k x e
 
 module _ (t : Tiling) (tiling : IsTiling t) where
+  -- over each cell of the tiling lies a square
   pub square_at : (i j : ℕ) → i < t.width → j < t.height → (q : Square) × IsOneOf q t.squares × (covers i j q ≡ true)
   square_at i j a b = counted_one (covers i j) t.squares (omega (arith, cell_once t tiling i j a b))
 
@@ -40,20 +43,26 @@ module _ (t : Tiling) (tiling : IsTiling t) where
           absurd (omega (arith, (over_from i (q.y + q.s) r e).bottom, ap (λ (s : Square). s.y + s.s) same))
       cases (inr h) = omega (arith, (over_from i (q.y + q.s) r e).top)
 
+  -- the squares of the groups, one after the other, are the squares of the tiling
   pub row_is : row_of (square_groups t.squares) ≡ t.squares
   row_is = groups_row t.squares
 
+  -- a group of the tiling's squares is a group among them
   pub group_of : (v : ℕ) (g : List Square) → slice_get (square_groups t.squares) v ≡ Some g → IsGroup t.squares g × AllIn t.squares g
   group_of v g e = get_all (λ g. IsGroup t.squares g × AllIn t.squares g) (square_groups t.squares) v g (known t tiling).all e
 
+  -- so its squares are squares of the tiling
   pub in_group : (v : ℕ) (g : List Square) → slice_get (square_groups t.squares) v ≡ Some g → (q : Square) → IsOneOf q g → IsOneOf q t.squares
   in_group v g e q h = in_all (λ q. IsOneOf q t.squares) g (group_of v g e).1 q h
 
+  -- its first square is in it
   pub first_in : (g : List Square) (k : IsRow t.squares g) → IsOneOf k.first g
   first_in g k = subst (IsOneOf k.first) (sym k.is) (inl refl)
 
+  -- its level is that of its first square's top
   pub level_is : (g : List Square) (k : IsRow t.squares g) → group_level g ≡ k.first.y
   level_is g k = ap group_level k.is
 
+  -- and that of the top of each of its squares
   pub top_of : (g : List Square) (k : IsRow t.squares g) (q : Square) → IsOneOf q g → q.y ≡ k.first.y
   top_of g k q h = in_all (λ q. q.y ≡ k.first.y) g k.tops q h

@@ -69,6 +69,7 @@ groups_step squares i d within =
 abbrev pub NoneEmpty : List (List Square) → Type 0
 NoneEmpty groups = AllByRecursion (λ g. 0 < length g) groups
 
+-- each group of squares has a square
 pub none_empty : (squares : List Square) → NoneEmpty (square_groups squares)
 none_empty [] = tt
 none_empty (q ∷ []) = (omega arith, tt)
@@ -88,10 +89,12 @@ length_onto q [] = refl
 length_onto q (g ∷ []) = refl
 length_onto q (g ∷ h ∷ groups) = ap suc (length_onto q (h ∷ groups))
 
+-- a further square adds a group where it begins one
 pub length_next : (b : Bool) (groups : List (List Square)) (q : Square) → length (with_next b groups q) ≡ more_groups b (length groups)
 length_next true groups q = omega (arith, length-append groups ((q ∷ []) ∷ []))
 length_next false groups q = length_onto q groups
 
+-- the levels of the groups with those of a further one, where a square begins it
 abbrev pub more_levels : Bool → List ℕ → ℕ → List ℕ
 more_levels b levels y = cond b (levels ++ y ∷ []) levels
 
@@ -104,6 +107,7 @@ levels_onto q [] all = refl
 levels_onto q (g ∷ []) all = ap (λ (l : ℕ). l ∷ []) (level_onto q g all.0)
 levels_onto q (g ∷ h ∷ groups) all = ap (λ (l : List ℕ). group_level g ∷ l) (levels_onto q (h ∷ groups) all.1)
 
+-- a further square adds the level of its top where it begins a group
 pub levels_next : (b : Bool) (groups : List (List Square)) (q : Square) → NoneEmpty groups
     → map group_level (with_next b groups q) ≡ more_levels b (map group_level groups) q.y
 levels_next true groups q all = map-append group_level groups ((q ∷ []) ∷ [])
@@ -134,6 +138,7 @@ numbers_onto n (g ∷ h ∷ groups) q some =
     ∙ ap (λ (k : ℕ). numbers_from (n + 1) (h ∷ groups) ++ k ∷ []) (omega arith))
     ∙ sym (append_assoc (map (λ p. n) g) (numbers_from (n + 1) (h ∷ groups)) ((n + length (g ∷ h ∷ groups) - 1) ∷ []))
 
+-- and its number is that of the last group
 pub numbers_next : (b : Bool) (groups : List (List Square)) (q : Square) → (b ≡ false → 0 < length groups)
     → numbers_from 0 (with_next b groups q) ≡ numbers_from 0 groups ++ (length (with_next b groups q) - 1) ∷ []
 numbers_next true groups q some = numbers_new 0 groups q ∙ ap (λ (k : ℕ). numbers_from 0 groups ++ k ∷ []) (omega (arith, length_next true groups q))
@@ -152,6 +157,7 @@ groups_before squares zero within e = absurd (true≢false e)
 groups_before [] (suc i) within e = absurd (omega arith)
 groups_before (q ∷ squares) (suc i) within e = groups_some q (take i squares)
 
+-- from the groups of some squares to those of one square more
 pub more_squares : (squares : List Square) (i : ℕ) (d : Square) (levels nodes : List ℕ) (groups : ℕ) (b : Bool) → i < length squares
     → b ≡ begins_group squares i → AreGroups (take i squares) levels nodes groups
     → AreGroups (take (i + 1) squares) (more_levels b levels (get_or squares i d).y) (nodes ++ (more_groups b groups - 1) ∷ []) (more_groups b groups)
@@ -192,6 +198,7 @@ pub record AreKnown (squares : List Square) (i : ℕ) (levels nodes : List ℕ) 
   pub levels_many : length levels ≡ groups
   pub nodes_many : length nodes ≡ i
 
+-- the same with how many there are
 pub known_more : (squares : List Square) (i : ℕ) (d : Square) (levels nodes : List ℕ) (groups : ℕ) (b : Bool) → i < length squares
     → b ≡ begins_group squares i → AreKnown squares i levels nodes groups
     → AreKnown squares (i + 1) (more_levels b levels (get_or squares i d).y) (nodes ++ (more_groups b groups - 1) ∷ []) (more_groups b groups)

@@ -7,11 +7,13 @@ use Rattle.std.proofs.lemmas.Bool.Decides.{nat_tests}
 use Rattle.bk_net.specs.Labels.{AreLabels, EndsBelow, IsRelabelled, relabelled}
 use Rattle.bk_net.specs.Net.{HasNoLoose, IsJoined, IsLeastLoose, IsLoose, Net, against, along, here}
 
+-- a node that is joined to a second one, and this to a third, is joined to the third
 pub joined_on : (wires : List (ℕ × ℕ)) {u v w : ℕ} → IsJoined wires u v → IsJoined wires v w → IsJoined wires u w
 joined_on wires here b = b
 joined_on wires (along c a) b = along c (joined_on wires a b)
 joined_on wires (against c a) b = against c (joined_on wires a b)
 
+-- and being joined goes both ways
 pub joined_back : (wires : List (ℕ × ℕ)) {u v : ℕ} → IsJoined wires u v → IsJoined wires v u
 joined_back wires here = here
 joined_back wires (along c a) = joined_on wires (joined_back wires a) (against c here)
@@ -58,6 +60,7 @@ module _ (nodes : ℕ) (wires : List (ℕ × ℕ)) (before after : List ℕ) (do
           (each_node w.0 here_ends.0 ∙ relabelled_old (slice_index before w.0) (slice_index before w.1) (slice_index before w.0) refl
           ∙ sym (relabelled_new (slice_index before w.0) (slice_index before w.1)) ∙ sym (each_node w.1 here_ends.1))
 
+  -- labels of the nodes by the first wires become those by one wire more
   pub labels_more : AreLabels nodes wires after (done + 1)
   labels_more = record { many = many ∙ are.many; joined = new_joined; closed = new_closed }
 
@@ -67,6 +70,7 @@ index_any [] k d e h = absurd (omega arith)
 index_any (w ∷ wires) zero d e h = refl
 index_any (w ∷ wires) (suc k) d e h = index_any wires k d e (omega arith)
 
+-- the same, from what is read while they are changed
 pub labels_step : (nodes : ℕ) (wires : List (ℕ × ℕ)) (before first second third after : List ℕ) (done from to : ℕ) → EndsBelow nodes wires
     → done < length wires → AreLabels nodes wires before done
     → first ≡ before → second ≡ before → third ≡ before → from ≡ (slice_index_or wires done (0, 0)).0 → to ≡ (slice_index_or wires done (0, 0)).1
@@ -75,6 +79,7 @@ labels_step nodes wires before first second third after done from to ends below 
     labels_more nodes wires before after done (slice_index_or wires done (0, 0)) ends below (λ d. index_any wires done d (0, 0) below) are (many ∙ ap length t)
     (λ v h. each v (omega (arith, ap length t)) ∙ (λ k. relabelled (slice_index (f k) (fromis k)) (slice_index (s k) (tois k)) (slice_index (t k) v)))
 
+-- before the first wire each node has its own number as its label
 pub own_are : (nodes : ℕ) (wires : List (ℕ × ℕ)) (labels : List ℕ) → length labels ≡ nodes → ((v : ℕ) → v < nodes → slice_index labels v ≡ v)
     → AreLabels nodes wires labels 0
 own_are nodes wires labels many own = record {
@@ -85,15 +90,18 @@ own_are nodes wires labels many own = record {
 
 -- in the end, joined nodes have one label
 module _ (net : Net) (labels : List ℕ) (are : AreLabels net.nodes net.wires labels (length net.wires)) where
+  -- joined nodes have one label
   pub one_label : {u v : ℕ} → IsJoined net.wires u v → slice_index labels u ≡ slice_index labels v
   one_label here = refl
   one_label (along {u} {v} {w} c j) = subst (λ (e : ℕ × ℕ). slice_index labels e.0 ≡ slice_index labels e.1) c.2 (are.closed c.0 (u, v) c.1) ∙ one_label j
   one_label (against {u} {v} {w} c j) = sym (subst (λ (e : ℕ × ℕ). slice_index labels e.0 ≡ slice_index labels e.1) c.2 (are.closed c.0 (v, u) c.1))
       ∙ one_label j
 
+  -- and nodes with one label are joined
   pub one_joined : (u v : ℕ) → u < net.nodes → v < net.nodes → slice_index labels u ≡ slice_index labels v → IsJoined net.wires u v
   one_joined u v a b e = joined_on net.wires (subst (IsJoined net.wires u) e (are.joined u a)) (joined_back net.wires (are.joined v b))
 
+  -- the first node with another label than the last node is the least loose one
   pub least : (v : ℕ) → v < net.nodes → 0 < net.nodes → ((u : ℕ) → u < v → slice_index labels u ≡ slice_index labels (net.nodes - 1))
       → slice_index labels v ≢ slice_index labels (net.nodes - 1) → IsLeastLoose net v
   least v h some before differ = ((h, λ j. differ (one_label j)), λ u loose. cases u loose (cases_lt u v))
@@ -102,6 +110,7 @@ module _ (net : Net) (labels : List ℕ) (are : AreLabels net.nodes net.wires la
       cases u loose (inl l) = absurd (loose.1 (one_joined u (net.nodes - 1) loose.0 (omega arith) (before u l)))
       cases u loose (inr l) = l
 
+  -- where all nodes have the label of the last node, none is loose
   pub none_loose : 0 < net.nodes → ((u : ℕ) → u < net.nodes → slice_index labels u ≡ slice_index labels (net.nodes - 1)) → HasNoLoose net
   none_loose some all v h = one_joined v (net.nodes - 1) h (omega arith) (all v h)
 

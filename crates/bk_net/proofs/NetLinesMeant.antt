@@ -26,6 +26,7 @@ abbrev pub AfterBlank : List (ℕ × ℕ) → List ℕ → Type 0
 AfterBlank [] = LineEnd
 AfterBlank (w ∷ more) = Blanks then Wire w then Wires more then LineEnd
 
+-- what completes a line from between its numbers: further wires, the first behind blanks, and the end of the line
 abbrev pub BetweenRest : ℕ → List (ℕ × ℕ) → NetLine → List ℕ → Type 0
 BetweenRest n ws l bs = (more : List (ℕ × ℕ)) × AfterBlank more bs × (l ≡ Item n (ws ++ more))
 
@@ -195,6 +196,7 @@ ends (Second n a v) ws l e = let same : Item n (ws ++ (a, v) ∷ []) ≡ l = cc 
 ends (InComment Empty) ws l e = let same : Skip ≡ l = cc in sym same
 ends (InComment (Nodes n)) ws l e = let same : Item n ws ≡ l = cc in sym same
 
+-- what is read from a place of the reader on completes a line there
 pub read_is_rest : (bs : List ℕ) (p : Place) (ws : List (ℕ × ℕ)) (l : NetLine) → read bs p ws ≡ Some l → RestOf p ws l bs
 read_is_rest [] p ws l e = ends p ws l e
 read_is_rest (b ∷ bs) p ws l e =
@@ -206,5 +208,6 @@ read_is_rest (b ∷ bs) p ws l e =
     next None f rest = absurd (cc)
     next (Some q) f rest = rest q f
 
+-- so what is read from the start is a network line
 pub read_is_line : (bs : List ℕ) (l : NetLine) → read bs Start [] ≡ Some l → IsNetLine l bs
 read_is_line bs l e = read_is_rest bs Start [] l e refl

@@ -151,6 +151,7 @@ skip_read bs (a, x, e, blanks, h) = ap (λ (z : List ℕ). read z Start []) e �
     rest (inr (text, f)) = ap (λ (z : List ℕ). read z Start []) f ∙ read_next Start (InComment Empty) Semicolon [] [] 59 text refl refl refl
         ∙ comment_read text Empty []
 
+-- each network line is read as what it stands for
 pub line_is_read : (l : NetLine) (bs : List ℕ) → IsNetLine l bs → read bs Start [] ≡ Some l
 line_is_read Skip bs h = skip_read bs h
 line_is_read (Item n ws) bs (a, x, e, blanks, (text, y, f, number, (wires, z, g, h, end))) =

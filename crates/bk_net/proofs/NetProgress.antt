@@ -22,6 +22,7 @@ pub record Progress (front : List ℕ) (p : Place) (kept : List (ℕ × ℕ)) (m
   pub leads : Leads front p all
   pub keeps : Keeps all kept many
 
+-- before the first byte nothing was read
 pub at_start : Progress [] Start [] false
 at_start = record { all = []; leads = λ x. refl; keeps = record { same = λ e. refl; more = λ e. absurd (cc) } }
 
@@ -42,6 +43,7 @@ pub no_next : (bs : List ℕ) (i : ℕ) (p : Place) (kept : List (ℕ × ℕ)) (
     → next_place p (kind_of (get_or bs i 0)) ≡ None → IsNoNetLine bs i
 no_next bs i p kept many within progress none = stops_at bs i p progress.all within progress.leads none
 
+-- where a line can't end, its bytes leave the grammar at their end
 pub no_ending : (bs : List ℕ) (p : Place) (kept : List (ℕ × ℕ)) (many : Bool) → Progress bs p kept many → ending_at p ≡ None → IsNoNetLine bs (length bs)
 no_ending bs p kept many progress none = stops_at_end bs p progress.all progress.leads none
 
@@ -55,6 +57,7 @@ whole_line : (bs : List ℕ) (p : Place) (ws : List (ℕ × ℕ)) (ending : Endi
 whole_line bs p ws ending leads e =
     read_is_line bs (line_of ending (and_wire (last_wire p) ws)) (read_whole bs p ws leads ∙ ap (λ o. line_at o (and_wire (last_wire p) ws)) e)
 
+-- a line that ends without a number of nodes stands for nothing
 pub skip_found : (bs : List ℕ) (p : Place) (kept : List (ℕ × ℕ)) (many : Bool) → Progress bs p kept many → ending_at p ≡ Some Empty → IsNetLine Skip bs
 skip_found bs p kept many progress e = whole_line bs p progress.all Empty progress.leads e
 
@@ -64,6 +67,7 @@ pub record HasWires (bs : List ℕ) (nodes : ℕ) (kept : List (ℕ × ℕ)) (ma
   pub line : IsNetLine (Item nodes wires) bs
   pub keeps : Keeps wires kept many
 
+-- a line that ends behind its numbers has all its wires, of which the reader kept some
 pub wires_found : (bs : List ℕ) (p : Place) (kept last_kept : List (ℕ × ℕ)) (many last_many : Bool) (nodes : ℕ) → Progress bs p kept many
     → ending_at p ≡ Some (Nodes nodes)
     → ((all : List (ℕ × ℕ)) → Keeps all kept many → Keeps (and_wire (last_wire p) all) last_kept last_many) → HasWires bs nodes last_kept last_many
@@ -78,6 +82,7 @@ wires_found bs p kept last_kept many last_many nodes progress e keeps =
 all_kept : (bs : List ℕ) (nodes : ℕ) (kept : List (ℕ × ℕ)) (many : Bool) → HasWires bs nodes kept many → many ≡ false → IsNetLine (Item nodes kept) bs
 all_kept bs nodes kept many h few = subst (λ (ws : List (ℕ × ℕ)). IsNetLine (Item nodes ws) bs) (sym (h.keeps.same few)) h.line
 
+-- where the wires that are kept are all, what is told of the line is what it stands for
 pub item_is : (r : Result NetLineRead NetFault) (bs : List ℕ) (nodes : ℕ) (kept : List (ℕ × ℕ)) (many : Bool) → HasWires bs nodes kept many
     → IfOk r (λ l. many ≡ false) → IfOk r (λ l. stands_for l ≡ Item nodes kept)
     → IfOk r (λ l. IsNetLine (stands_for l) bs)
@@ -96,6 +101,7 @@ one_fault (NodesFault count) bs nodes kept many h few none = (
 )
 one_fault (Wire place) bs nodes kept many h few none = (nodes, kept, all_kept bs nodes kept many h none.0, few, none.1, none.2)
 
+-- and a line that is refused has the fault that is told
 pub fault_is : (r : Result NetLineRead NetFault) (bs : List ℕ) (nodes : ℕ) (kept : List (ℕ × ℕ)) (many : Bool) → HasWires bs nodes kept many
     → length kept ≤ 200 → IfErr r (IsNoNet nodes many kept) → IfErr r (λ fault. IsFaultOf fault bs)
 fault_is (Ok l) bs nodes kept many h few none = tt

@@ -35,6 +35,7 @@ completion (InComment ending) ws = ([], tt)
 abbrev pub Leads : List ℕ → Place → List (ℕ × ℕ) → Type 0
 Leads front p ws = (x : List ℕ) → read (front ++ x) Start [] ≡ read x p ws
 
+-- a further byte leads the reader from one place to the next
 pub leads_on : (front : List ℕ) (p q : Place) (ws : List (ℕ × ℕ)) (b : ℕ) → Leads front p ws → next_place p (kind_of b) ≡ Some q
     → Leads (front ++ b ∷ []) q (and_wire (ended_wire p (kind_of b)) ws)
 leads_on front p q ws b leads next x =

@@ -24,10 +24,12 @@ pub record IsBelow (q r : Square) : Type 0 where
   pub left : r.x ≤ q.x
   pub right : q.x < r.x + r.s
 
+-- a square that the test finds has its top where the first one ends, and lies over its left column
 pub below_to : (q r : Square) → (nat_eq r.y (q.y + q.s) && covers_column q.x r) ≡ true → IsBelow q r
 below_to q r e = record { level = grind (arith, nat_tests); left = grind (arith, nat_tests); right = grind (arith, nat_tests) }
 
 module _ (t : Tiling) (tiling : IsTiling t) where
+  -- the test finds at most one square of a tiling
   pub tests_once : (q : Square) → IsOneOf q t.squares → count_by (λ r. nat_eq r.y (q.y + q.s) && covers_column q.x r) t.squares ≤ 1
   tests_once q h = cases (cases_lt (q.y + q.s) t.height)
     where
@@ -67,6 +69,7 @@ module _ (t : Tiling) (tiling : IsTiling t) where
         )),
       )
 
+  -- so it finds at most one group, and the place of this group is the node below
   pub place : (q : Square) → IsOneOf q t.squares
       → HasGroup (λ r. nat_eq r.y (q.y + q.s) && covers_column q.x r) (square_groups t.squares) (node_below (square_groups t.squares) q)
   place q h = has_group (λ r. nat_eq r.y (q.y + q.s) && covers_column q.x r) (square_groups t.squares)
@@ -77,6 +80,7 @@ module _ (t : Tiling) (tiling : IsTiling t) where
     pub is : ((node_below (square_groups t.squares) q ≡ length (square_groups t.squares)) × (q.y + q.s ≡ t.height))
         ⊎ ((g : List Square) × (slice_get (square_groups t.squares) (node_below (square_groups t.squares) q) ≡ Some g) × (group_level g ≡ q.y + q.s))
 
+  -- the node below a square is the bottom where the square ends there, and else a group at the level where it ends
   pub stands_on : (q : Square) → IsOneOf q t.squares → StandsOn q
   stands_on q h = record { is = cases (place q h).found }
     where

@@ -41,6 +41,7 @@ pub record HasDigits (n : ℕ) (text : List ℕ) : Type 0 where
   pub digit : digit_value first < 10
   pub goes_on : Goes_on (digit_value first) n others
 
+-- a node number is a first digit and further ones
 pub number_from : (n : ℕ) (text : List ℕ) → NodeNumber n text → HasDigits n text
 number_from n text (inl (e, z)) = record { first = 48; others = []; is = e; digit = omega arith; goes_on = z }
 number_from n [] (inr h) = absurd (omega (arith, h.0.0))

@@ -173,6 +173,7 @@ module _ (t : Tiling) (tiling : IsTiling t) (q : Square) (one : IsOneOf q t.squa
     pub some : 0 < k
     pub is : slice_index (group_numbers t.squares) (k - 1) ≡ node_below (square_groups t.squares) q
 
+  -- above the bottom, the square before the place that the search finds has the number of the node below
   pub found : (k : ℕ) → q.y + q.s ≢ t.height → k ≤ length t.squares
       → IsPartitionPoint (λ r. is_no_later q.x (q.y + q.s) r ≡ true) (λ r. is_no_later q.x (q.y + q.s) r ≡ false) t.squares k → IsFound k
   found k high within parts = from (at_place t.squares below.0 below.1)
@@ -267,16 +268,20 @@ module _ (t : Tiling) (tiling : IsTiling t) (q : Square) (one : IsOneOf q t.squa
 -- ---- the wires
 
 module _ (t : Tiling) (tiling : IsTiling t) where
+  -- the wires of the Smith diagram, square by square, lead from the number of its group to that of the node below
   pub wires_are : (smith_diagram t).wires ≡ wires_by (node_below (square_groups t.squares)) (group_numbers t.squares) t.squares
   wires_are = wires_by-groups (node_below (square_groups t.squares)) 0 (square_groups t.squares)
       ∙ ap (wires_by (node_below (square_groups t.squares)) (group_numbers t.squares)) (row_is t tiling)
 
+  -- there is a number for each square
   pub numbers_many : length (group_numbers t.squares) ≡ length t.squares
   numbers_many = numbers-length 0 (square_groups t.squares) ∙ ap length (row_is t tiling)
 
+  -- and a wire
   pub wires_many : length (smith_diagram t).wires ≡ length t.squares
   wires_many = ap length wires_are ∙ wires_by-length (node_below (square_groups t.squares)) (group_numbers t.squares) t.squares numbers_many
 
+  -- the wire of the square at a place leads from its group to the node below it
   pub wire_at : (i : ℕ) (q : Square) (d : ℕ × ℕ) → i < length t.squares
       → slice_index_or (smith_diagram t).wires i d ≡ (
         slice_index (group_numbers t.squares) i,
@@ -291,6 +296,7 @@ module _ (t : Tiling) (tiling : IsTiling t) where
     pub to_node : to < length (square_groups t.squares) + 1
     pub differ : from ≢ to
 
+  -- and its two ends are two nodes
   pub ends_at : (i : ℕ) (q : Square) → i < length t.squares
       → HasEnds (slice_index (group_numbers t.squares) i) (node_below (square_groups t.squares) (slice_index_or t.squares i q))
   ends_at i q h = record { from_node = here.0; to_node = here.1; differ = here.2 }

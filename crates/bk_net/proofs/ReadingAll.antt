@@ -22,6 +22,7 @@ abbrev pub line_of : Ending → List (ℕ × ℕ) → NetLine
 line_of Empty wires = Skip
 line_of (Nodes n) wires = Item n wires
 
+-- the same where a line may not end
 abbrev pub line_at : Option Ending → List (ℕ × ℕ) → Option NetLine
 line_at None wires = None
 line_at (Some e) wires = Some (line_of e wires)
@@ -60,6 +61,7 @@ digit_means b h =
     let value = value_below b (leb-true 48 b parts.0) (leb-true b 57 parts.1) in
     (omega (arith, value), omega (arith, value, leb-true b 57 parts.1))
 
+-- a byte is what its kind says
 pub means : (b : ℕ) → Means (kind_of b) b
 means b =
     either (nat_le 48 b && nat_le b 57) (Digit (b - 48)) _ b (λ h. digit_means b h) (
@@ -67,11 +69,13 @@ means b =
     either (b == 45) Dash _ b (λ h. eqb-true b 45 h) (
     either (b == 59) Semicolon Other b (λ h. eqb-true b 59 h) tt)))
 
+-- a blank byte has the kind of blanks
 pub kind_blank : (b : ℕ) → IsBlank b → kind_of b ≡ Blank
 kind_blank b (inl e) = ap kind_of e
 kind_blank b (inr (inl e)) = ap kind_of e
 kind_blank b (inr (inr e)) = ap kind_of e
 
+-- and a digit has the kind of digits, with its value
 pub kind_digit : (b : ℕ) → digit_value b < 10 → kind_of b ≡ Digit (digit_value b)
 kind_digit b small =
     let range = digit_from_value b small in

@@ -267,6 +267,7 @@ module _ (t : Tiling) (tiling : IsTiling t) where
       last : length (square_groups t.squares) ≡ length (square_groups t.squares) + 1 - 1
       last = omega arith
 
+  -- the Smith diagram is a net without a loose node, whose one flow are the sides
   pub the_one_flow : IsNet (smith_diagram t) × HasNoLoose (smith_diagram t) × IsOneFlow (smith_diagram t) (smith_flow t)
   the_one_flow = (
     net,
@@ -274,5 +275,6 @@ module _ (t : Tiling) (tiling : IsTiling t) where
     one_flow (smith_diagram t) (ends_from_net (smith_diagram t) net) no_loose (smith_flow t) flow (omega (arith, ints, wide_enough t tiling)),
   )
 
+-- the same as the statement says it
 pub sides_are_the_one_flow : SidesAreTheOneFlow
 sides_are_the_one_flow t tiling = the_one_flow t tiling

@@ -25,10 +25,12 @@ use Rattle.bk_net.specs.Flow.{outflow}
 abbrev pub group_wires : (Square → ℕ) → ℕ → List (List Square) → List (ℕ × ℕ)
 group_wires below n groups = flat_map (λ p. map (λ q. (p.0, below q)) p.1) (enumerate_from n groups)
 
+-- the sides of all squares that end at node v, by the node that below gives
 abbrev pub in_total : (Square → ℕ) → ℕ → List Square → ℕ
 in_total below v [] = 0
 in_total below v (q ∷ squares) = cond (nat_eq (below q) v) q.s 0 + in_total below v squares
 
+-- the sides of all squares of the groups with the number v, where the first group has the number n
 abbrev pub out_total : ℕ → ℕ → List (List Square) → ℕ
 out_total n v [] = 0
 out_total n v (g ∷ groups) = cond (nat_eq n v) (total (laid_sides g)) 0 + out_total (n + 1) v groups
@@ -61,6 +63,7 @@ in_total-append : (below : Square → ℕ) (v : ℕ) (front back : List Square) 
 in_total-append below v [] back = omega arith
 in_total-append below v (q ∷ front) back = omega (arith, in_total-append below v front back)
 
+-- what flows out of a node, where the sides are the currents, is what hangs from it less what ends at it
 pub all_outflow : (below : Square → ℕ) (n v : ℕ) (groups : List (List Square))
     → outflow (group_wires below n groups) (map (λ q. pos q.s) (row_of groups)) v
     ≡ pos (out_total n v groups) -ℤ pos (in_total below v (row_of groups))
@@ -78,6 +81,7 @@ out_none n v (g ∷ groups) h = omega (arith, differ, out_none (n + 1) v groups 
     differ : cond (nat_eq n v) (total (laid_sides g)) 0 ≡ 0
     differ = grind (arith, nat_tests)
 
+-- from the group at a place hang its own squares
 pub out_at : (n v k : ℕ) (groups : List (List Square)) (g : List Square) → slice_get groups k ≡ Some g → v ≡ n + k → out_total n v groups ≡ total (laid_sides g)
 out_at n v k [] g e f = absurd (cc)
 out_at n v zero (h ∷ groups) g e f = omega (arith, here, out_none (n + 1) v groups (omega arith), ap (λ (x : List Square). total (laid_sides x)) same)
@@ -131,6 +135,7 @@ wire_in below n (x ∷ groups) (suc k) g q e h = Contains-append_right (map (λ 
 ) (subst (λ (v : ℕ). Contains {X = ℕ × ℕ} (group_wires below (n + 1) groups) (v, below q)) (omega arith)
     (wire_in below (n + 1) groups k g q e h))
 
+-- what holds of the wire of each square of each group holds of all wires
 pub wires_each : (P : ℕ × ℕ → Type 0) (below : Square → ℕ) (n : ℕ) (groups : List (List Square))
     → ((k : ℕ) (g : List Square) → slice_get groups k ≡ Some g → (q : Square) → IsOneOf q g → P (n + k, below q))
     → AllByRecursion P (group_wires below n groups)
@@ -145,10 +150,12 @@ wires_each P below n (g ∷ groups) each = all_append P (map (λ q. (n, below q)
 
 -- ---- the group in which a test passes
 
+-- as many squares pass a test in a first group and in the others as in all together
 pub count_row : (f : Square → Bool) (g : List Square) (groups : List (List Square))
     → count_by f (row_of (g ∷ groups)) ≡ count_by f g + count_by f (row_of groups)
 count_row f g groups = sum_by-append (λ q. cond (f q) 1 0) g (row_of groups)
 
+-- in one group no more pass than in all
 pub count_at : (f : Square → Bool) (groups : List (List Square)) (v : ℕ) → count_by f (slice_index_or groups v []) ≤ count_by f (row_of groups)
 count_at f [] v = omega arith
 count_at f (g ∷ groups) zero = omega (arith, count_row f g groups)
@@ -169,6 +176,7 @@ pub record HasGroup (f : Square → Bool) (groups : List (List Square)) (place :
   pub found : ((place < length groups) × (0 < count_by f (slice_index_or groups place []))) ⊎ ((place ≡ length groups) × (count_by f (row_of groups) ≡ 0))
   pub counts : (v : ℕ) → v < length groups → count_by f (slice_index_or groups v []) ≡ cond (nat_eq place v) 1 0
 
+-- where a test passes at most once, one group has that square, and it is the first in which the test passes, or none has
 pub has_group : (f : Square → Bool) (groups : List (List Square)) → count_by f (row_of groups) ≤ 1 → HasGroup f groups (position_or_len (list_any f) groups)
 has_group f [] once = record { most = omega arith; found = inr (refl, refl); counts = λ v h. absurd (omega arith) }
 has_group f (g ∷ groups) once = cases (any_count f g) (has_group f groups)
@@ -216,6 +224,7 @@ abbrev pub cols : ℕ → ℕ → ℕ → Square → ℕ
 cols zero a j q = 0
 cols (suc n) a j q = cond (covers a j q) 1 0 + cols n (a + 1) j q
 
+-- over how many of n columns from a on squares lie at level j, all together
 abbrev pub all_cols : ℕ → ℕ → ℕ → List Square → ℕ
 all_cols n a j [] = 0
 all_cols n a j (q ∷ squares) = cols n a j q + all_cols n a j squares
@@ -228,6 +237,7 @@ all_cols-one : (n a j : ℕ) (squares : List Square) → all_cols (suc n) a j sq
 all_cols-one n a j [] = refl
 all_cols-one n a j (q ∷ squares) = omega (arith, count-cons (covers a j) q squares, all_cols-one n a j squares)
 
+-- where one square lies over each of these columns, they are n
 pub all_cols-are : (n a j : ℕ) (squares : List Square) → ((c : ℕ) → a ≤ c → c < a + n → count_by (covers c j) squares ≡ 1) → all_cols n a j squares ≡ n
 all_cols-are zero a j squares once = all_cols-none a j squares
 all_cols-are (suc n) a j squares once =
@@ -245,6 +255,7 @@ no_cell c j q h = by (covers c j q) refl
     by true e = absurd (h e)
     by false e = refl
 
+-- a square that covers none of the columns counts for none
 pub cols_none : (n a j : ℕ) (q : Square) → ((c : ℕ) → a ≤ c → c < a + n → covers c j q ≡ true → ⊥) → cols n a j q ≡ 0
 cols_none zero a j q none = refl
 cols_none (suc n) a j q none =
@@ -263,6 +274,7 @@ cols_from (suc n) a j q top low lo mid hi = cases (cases_lt a (q.x + q.s)) (cols
       cols_none n (a + 1) j q (λ c l k e. omega (arith, (over_from c j q e).right)),
     )
 
+-- and one that lies within them at the level counts for its side
 pub cols_all : (n a j : ℕ) (q : Square) → q.y ≤ j → j < q.y + q.s → a ≤ q.x → q.x + q.s ≤ a + n → cols n a j q ≡ q.s
 cols_all zero a j q top low lo hi = omega arith
 cols_all (suc n) a j q top low lo hi = cases (cases_lt a q.x) (cols_all n (a + 1) j q top low)
@@ -271,11 +283,13 @@ cols_all (suc n) a j q top low lo hi = cases (cases_lt a q.x) (cols_all n (a + 1
     cases (inl h) rest = omega (arith, no_cell a j q (λ e. omega (arith, (over_from a j q e).left)), rest (omega arith) (omega arith))
     cases (inr h) rest = omega (arith, cols_from (suc n) a j q top low (omega arith) (omega arith) hi)
 
+-- where each square's side counts at a node as its columns do, the sides there are the columns
 pub in_is_cols : (below : Square → ℕ) (v n a j : ℕ) (squares : List Square)
     → ((q : Square) → IsOneOf q squares → cond (nat_eq (below q) v) q.s 0 ≡ cols n a j q) → in_total below v squares ≡ all_cols n a j squares
 in_is_cols below v n a j [] each = refl
 in_is_cols below v n a j (q ∷ squares) each = omega (arith, each q (inl refl), in_is_cols below v n a j squares (λ r h. each r (inr h)))
 
+-- and where none counts there, they are 0
 pub in_is_none : (below : Square → ℕ) (v : ℕ) (squares : List Square) → ((q : Square) → IsOneOf q squares → cond (nat_eq (below q) v) q.s 0 ≡ 0)
     → in_total below v squares ≡ 0
 in_is_none below v [] each = refl

@@ -51,3 +51,48 @@ fn diagrams_and_crossings(rt: HostRuntime) -> Result<(), Fail> {
     assert_eq!(rt; crossings(&Tiling::try_new(3, 2, &three)?), 0);
     Ok(())
 }
+
+// The vertical segments of a square of thirteen squares.
+#[test]
+fn diagram_of_a_square(rt: HostRuntime) -> Result<(), Fail> {
+    let thirteen = [
+        at(0, 0, 12),
+        at(12, 0, 11),
+        at(12, 11, 2),
+        at(14, 11, 5),
+        at(19, 11, 4),
+        at(0, 12, 11),
+        at(11, 12, 1),
+        at(11, 13, 3),
+        at(19, 15, 1),
+        at(20, 15, 3),
+        at(11, 16, 7),
+        at(18, 16, 2),
+        at(18, 18, 5),
+    ];
+    let tiling = Tiling::try_new(23, 23, &thirteen)?;
+    let dual = dual_of(&tiling);
+    let wires = [
+        (0, 2),
+        (0, 1),
+        (1, 2),
+        (1, 3),
+        (1, 4),
+        (2, 7),
+        (2, 3),
+        (3, 5),
+        (4, 6),
+        (4, 7),
+        (5, 7),
+        (5, 6),
+        (6, 7),
+    ];
+    assert_eq!(rt; dual.nodes(), 8);
+    assert_eq!(rt; dual.wires(), wires.as_slice());
+    assert_eq!(rt;
+        dual_order(&tiling).as_slice(),
+        [1, 6, 7, 8, 11, 2, 3, 4, 12, 13, 5, 9, 10].as_slice()
+    );
+    assert_eq!(rt; crossings(&tiling), 0);
+    Ok(())
+}

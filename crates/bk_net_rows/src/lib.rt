@@ -14,8 +14,6 @@ mod frac_rows;
 #[cfg(test)]
 mod lay_rows;
 #[cfg(test)]
-mod leaf_rows;
-#[cfg(test)]
 mod net_rows;
 #[cfg(test)]
 mod skel_realising_rows;

@@ -115,5 +115,6 @@ fn refuses_many_wires(rt: HostRuntime) -> Result<(), Fail> {
     line.extend_from_slice(b" 1-0")?;
     let fault = meaning(&line).err().ok_or("it is refused")?;
     assert!(rt; matches!(fault, NetFault::Many));
+    assert_eq!(rt; format!(in rt.alloc(); "{fault}")?.as_str(), "Many");
     Ok(())
 }

@@ -5,6 +5,7 @@ use bk_word::*;
 use std::alloc::Global;
 use std::cmp::Ordering;
 use std::process::Abort;
+use std::test::Fail;
 
 // The word of a text.
 fn word(rt: &impl Abort, alloc: Global, text: &[u8]) -> Word {
@@ -146,4 +147,20 @@ fn items(rt: HostRuntime) {
     for (line, item) in rows {
         assert_eq!(rt; word_item(line.as_bytes()), item);
     }
+}
+
+// Each fault is printed as its name.
+#[test]
+fn messages(rt: HostRuntime) -> Result<(), Fail> {
+    let rows = [
+        (WordFault::Text { at: 3 }, "Text"),
+        (WordFault::Many, "Many"),
+        (WordFault::NoMemory, "NoMemory"),
+    ];
+    for (fault, name) in rows {
+        assert_eq!(rt; format!(in rt.alloc(); "{fault}")?.as_str(), name);
+    }
+    let fault = NoMemory;
+    assert_eq!(rt; format!(in rt.alloc(); "{fault}")?.as_str(), "NoMemory");
+    Ok(())
 }

@@ -17,6 +17,7 @@ use Rattle.bk_signed_word.specs.SignedWord.{IsSignedWordOf}
 use Rattle.bk_net_word.specs.NetWord.{AFreeBarrenWordIsNetBarren, ASimpleTilingHasANetWord, ASimpleTilingHasAPositiveWord, EvenThenAboveIsNetBarren}
 use Rattle.bk_net_word.specs.NetWord.{IsNetWordOf, WhatGoesOnIsNetBarren}
 
+-- what no word of a sound layout begins with, no net word begins with
 pub a_free_barren_word_is_net_barren : AFreeBarrenWordIsNetBarren
 a_free_barren_word_is_net_barren n front barren l w rest sound word keeps is = barren l w rest sound word is
 
@@ -25,13 +26,16 @@ move_of : (P : Move → Type 0) (front : Word) (m : Move) (rest : Word) → AllB
 move_of P [] m rest all = all.0
 move_of P (a ∷ front) m rest all = move_of P front m rest all.1
 
+-- no net word has a move beside a left neighbour that begins with the signs even and above
 pub even_then_above_is_net_barren : EvenThenAboveIsNetBarren
 even_then_above_is_net_barren n front m begins l w rest sound word keeps is =
     begins (move_of BeginsNoEvenAbove front m rest (subst (λ (v : Word). AllByRecursion BeginsNoEvenAbove v) (is ∙ append_assoc front (m ∷ []) rest) keeps))
 
+-- what goes on from moves that begin no net word begins none
 pub what_goes_on_is_net_barren : WhatGoesOnIsNetBarren
 what_goes_on_is_net_barren n front more barren l w rest sound word keeps is = barren l w (more ++ rest) sound word keeps (is ∙ append_assoc front more rest)
 
+-- a simple tiling of at least 3 squares has a net word
 pub a_simple_tiling_has_a_net_word : ASimpleTilingHasANetWord
 a_simple_tiling_has_a_net_word t tiling simple many = from (a_sound_layout_has_a_sound_word_by_rule_r (order t) (layout_of t) around)
   where
@@ -51,6 +55,7 @@ a_simple_tiling_has_a_net_word t tiling simple many = from (a_sound_layout_has_a
         keeps : AllByRecursion BeginsNoEvenAbove h.by_rule.word
         keeps = h.by_rule.none around.sound.simple.twins
 
+-- and a signed word in which no square is reversed and of which no beginning is barren
 pub a_simple_tiling_has_a_positive_word : ASimpleTilingHasAPositiveWord
 a_simple_tiling_has_a_positive_word t tiling simple many = (
   sound.1.0,

@@ -1,12 +1,12 @@
 -- Tallies of signs, sign by sign, and what the first signs of a list ask for.
-use Rattle.std.proofs.Common.{List, [], ap, append_assoc, arith, count_by, drop, length, max, refl, slice_index_or, subst, suc, sym, take, zero, ℕ}
-use Rattle.std.proofs.Common.{◌++◌, ◌+◌, ◌-◌, ◌<◌, ◌∙◌, ◌∷◌, ◌≡◌, ◌≤◌}
+use Rattle.std.proofs.Common.{List, [], ap, append_assoc, arith, drop, length, max, refl, slice_index_or, subst, suc, sym, take, zero, ℕ}
+use Rattle.std.proofs.Common.{◌++◌, ◌+◌, ◌<◌, ◌∙◌, ◌∷◌, ◌≡◌, ◌≤◌}
 use Rattle.std.proofs.lemmas.List.{drop_all, drop_more, take-append-drop, take_all}
-use Rattle.bk_word.specs.Outline.{Outline, start, valley_place}
+use Rattle.bk_word.specs.Outline.{valley_place}
 use Rattle.bk_word.specs.declared.Sign.{Sign}
 use Rattle.bk_word.specs.declared.Sign.TheVariants.{Above, Even, Under}
 use Rattle.bk_bounds.proofs.ClosingLaws.{aboves-append, aboves-cons, bound-append, unders, unders-cons}
-use Rattle.bk_bounds.specs.ClosingBound.{closing_bound, is_above, is_under}
+use Rattle.bk_bounds.specs.ClosingBound.{closing_bound}
 use Rattle.bk_owed.specs.Tally.{IsTally}
 
 -- the first signs ask for no less than all do

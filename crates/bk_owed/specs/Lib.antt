@@ -1,1 +1,4 @@
+-- What the crate says.
+pub mod Lone
+-- How its code keeps it.
 pub mod Tally

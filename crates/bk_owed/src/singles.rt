@@ -27,8 +27,8 @@ pub fn single_valleys(signs: &[Sign], sizes: &[u8]) -> usize
     found + single_valley(low, sizes[signs.len()])
 }
 
-// One for a segment of one square that is low at the left.
-fn single_valley(low: bool, size: u8) -> usize
+/// One for a segment of one square that is low at the left.
+pub(crate) fn single_valley(low: bool, size: u8) -> usize
     ensures { result ≡ single_valley low size }
 {
     usize::from(low && size == 1)

@@ -9,15 +9,15 @@ ghost use Rattle.bk_owed.specs.Tally.{IsTally};
 
 use bk_word::Sign;
 
-// The closing bound of signs, and how many of them are above.
+/// The closing bound of signs, and how many of them are above. (Own.)
 #[derive(Clone, Copy, Drop)]
-struct Tally {
-    bound: usize,
-    aboves: usize,
+pub struct Tally {
+    pub bound: usize,
+    pub aboves: usize,
 }
 
-// The tally of signs with one more behind them.
-fn tally_with(tally: Tally, sign: Sign) -> Tally
+/// The tally of signs with one more behind them. (Own.)
+pub fn tally_with(tally: Tally, sign: Sign) -> Tally
     requires few { tally.bound < 2 ^ 63 }
     requires low { tally.aboves ≤ tally.bound }
     ensures tally { (signs : List SeenSign) → IsTally signs tally.bound tally.aboves
@@ -38,8 +38,8 @@ fn tally_with(tally: Tally, sign: Sign) -> Tally
     }
 }
 
-// The tally of signs with these behind them.
-fn tally_behind(tally: Tally, signs: &[Sign]) -> Tally
+/// The tally of signs with these behind them. (Own.)
+pub fn tally_behind(tally: Tally, signs: &[Sign]) -> Tally
     requires few { tally.bound + length signs.now < 2 ^ 63 }
     requires low { tally.aboves ≤ tally.bound }
     ensures tally { (before : List SeenSign) → IsTally before tally.bound tally.aboves
@@ -104,19 +104,6 @@ pub fn first_over(before: &[Sign], signs: &[Sign], room: usize) -> Option<usize>
         }
     }
     None
-}
-
-/// Whether the closing bound of signs and of those behind them passes a number.
-pub fn is_over(before: &[Sign], signs: &[Sign], room: usize) -> bool
-    requires before { length before.now < 1000 }
-    requires signs { length signs.now < 1000 }
-    ensures { result ≡ true → room < bound_of (before.now ++ signs.now) }
-{
-    let none = Tally {
-        bound: 0,
-        aboves: 0,
-    };
-    tally_behind(tally_behind(none, before), signs).bound > room
 }
 
 /// The place of the first sign above, or how many signs there are: where the leftmost valley stands.

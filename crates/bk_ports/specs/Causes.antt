@@ -1,4 +1,5 @@
 -- What the calls of a source and a sink do to their bytes and to their counts of faults.
+-- Example (StoreExamples): a count of 0 rises to 1, and one of 2^64 - 1 stays.
 use Rattle.std.specs.Prelude.{◌≡◌, ℕ, ◌+◌, ◌-◌, ◌^◌, ◌≤◌, min, List, take, OnOk, OnErr, Result}
 use Rattle.std.specs.declared.option.Option.{Option}
 use Rattle.std.specs.Io.KnownBytes.{Appends}

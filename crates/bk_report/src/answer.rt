@@ -8,9 +8,8 @@ ghost use Rattle.bk_text.specs.CodeText.{code_text, size_text};
 ghost use Rattle.bk_report.specs.AnswerLaws.{ATilingHasOneCheckLine};
 ghost use Rattle.bk_report.specs.Answers.{IsCheckLine, perfect_text, simple_text, spaced, tiling_line, verdict_line};
 
-use arrayvec::ArrayVec;
 use bk_code::code_of;
-use bk_grammar::{push_bytes, push_number};
+use bk_grammar::{AnswerBuffer, push_bytes, push_number};
 use bk_simple::{SubRect, part, repeated};
 use bk_text::{write_code, write_size};
 use bk_tiling::Tiling;
@@ -18,7 +17,7 @@ use bk_tiling::Tiling;
 /// Clears the buffer and leaves the answer of `check` to an item that has this tiling, with its line feed: `ok`, the
 /// order, the size, and whether it is perfect and simple (Brooks, Smith, Stone and Tutte 1940). The text is this
 /// project's own.
-pub fn write_check(tiling: &Tiling, out: &mut ArrayVec<u8, 9000>)
+pub fn write_check(tiling: &Tiling, out: &mut AnswerBuffer)
     ensures { IsCheckLine tiling.now out.new.items }
 {
     out.clear();
@@ -27,7 +26,7 @@ pub fn write_check(tiling: &Tiling, out: &mut ArrayVec<u8, 9000>)
 
 /// Clears the buffer and leaves the size and the code of a tiling in Bouwkamp's notation (1946-47), with its line feed:
 /// the answer of each command that gives a tiling.
-pub fn write_tiling(tiling: &Tiling, out: &mut ArrayVec<u8, 9000>)
+pub fn write_tiling(tiling: &Tiling, out: &mut AnswerBuffer)
     ensures { out.new.items ≡ tiling_line tiling.now }
 {
     out.clear();
@@ -36,7 +35,7 @@ pub fn write_tiling(tiling: &Tiling, out: &mut ArrayVec<u8, 9000>)
 }
 
 // Appends the size and the code of a tiling.
-pub(crate) fn push_tiling(tiling: &Tiling, out: &mut ArrayVec<u8, 9000>)
+pub(crate) fn push_tiling(tiling: &Tiling, out: &mut AnswerBuffer)
     requires { array_vec_len out.old ≤ 5000 }
     ensures text { out.new.items ≡ out.old.items ++ spaced (size_text tiling.now.width tiling.now.height ∷ code_text (code_of tiling.now) ∷ []) }
     ensures short { array_vec_len out.new ≤ array_vec_len out.old + 3442 }
@@ -47,7 +46,7 @@ pub(crate) fn push_tiling(tiling: &Tiling, out: &mut ArrayVec<u8, 9000>)
 }
 
 // Appends the code of a tiling. It has a square, so its code has a group.
-pub(crate) fn push_code(tiling: &Tiling, out: &mut ArrayVec<u8, 9000>)
+pub(crate) fn push_code(tiling: &Tiling, out: &mut AnswerBuffer)
     requires { array_vec_len out.old ≤ 5600 }
     ensures text { out.new.items ≡ out.old.items ++ code_text (code_of tiling.now) }
     ensures short { length (code_text (code_of tiling.now)) ≤ 3400 }
@@ -67,7 +66,7 @@ fn push_verdicts(
     tiling: &Tiling,
     repeated: Option<u64>,
     part: Option<SubRect>,
-    out: &mut ArrayVec<u8, 9000>,
+    out: &mut AnswerBuffer,
 )
     requires { array_vec_len out.old ≤ 8000 }
     ensures { out.new.items ≡ out.old.items ++ verdict_line tiling.now repeated (option_map rectangle_of part) }
@@ -84,7 +83,7 @@ fn push_verdicts(
 }
 
 // Appends 'perfect', or 'imperfect' and the side.
-fn push_perfect(repeated: Option<u64>, out: &mut ArrayVec<u8, 9000>)
+fn push_perfect(repeated: Option<u64>, out: &mut AnswerBuffer)
     requires { array_vec_len out.old ≤ 8500 }
     ensures text { out.new.items ≡ out.old.items ++ perfect_text repeated }
     ensures short { length (perfect_text repeated) ≤ 30 }
@@ -99,7 +98,7 @@ fn push_perfect(repeated: Option<u64>, out: &mut ArrayVec<u8, 9000>)
 }
 
 // Appends 'simple', or 'compound' and the rectangle.
-fn push_simple(part: Option<SubRect>, out: &mut ArrayVec<u8, 9000>)
+fn push_simple(part: Option<SubRect>, out: &mut AnswerBuffer)
     requires { array_vec_len out.old ≤ 8500 }
     ensures text { out.new.items ≡ out.old.items ++ simple_text (option_map rectangle_of part) }
     ensures short { length (simple_text (option_map rectangle_of part)) ≤ 100 }

@@ -5,16 +5,15 @@ ghost use Rattle.arrayvec.specs.ArrayVec.{array_vec_len};
 ghost use Rattle.bk_report.specs.Answers.{dual_line};
 
 use crate::net::{push_net, push_node, push_sides};
-use arrayvec::ArrayVec;
 use bk_dual::{crossings, dual_of, dual_order};
-use bk_grammar::{push_bytes, push_number};
+use bk_grammar::{AnswerBuffer, push_bytes, push_number};
 use bk_sym::{Turn, image};
 use bk_tiling::Tiling;
 
 /// Clears the buffer and leaves the dual diagram of a tiling (Brooks, Smith, Stone and Tutte 1940), with its line feed:
 /// the line that `net` has for the image with columns and levels exchanged, then ` ; ` and for each wire the number of
 /// its square, then ` ; ` and how many crossings there are. It has at most 5,700 bytes. The text is this project's own.
-pub fn write_dual(tiling: &Tiling, out: &mut ArrayVec<u8, 9000>)
+pub fn write_dual(tiling: &Tiling, out: &mut AnswerBuffer)
     ensures line { out.new.items ≡ dual_line tiling.now }
     ensures short { array_vec_len out.new ≤ 5700 }
 {
@@ -30,7 +29,7 @@ pub fn write_dual(tiling: &Tiling, out: &mut ArrayVec<u8, 9000>)
 }
 
 // Appends the numbers with a blank before each.
-fn push_places(numbers: &[u16], out: &mut ArrayVec<u8, 9000>)
+fn push_places(numbers: &[u16], out: &mut AnswerBuffer)
     requires few { length numbers.now ≤ 200 }
     requires small { All (λ n. n ≤ 999) numbers.now }
     requires room { array_vec_len out.old ≤ 7000 }

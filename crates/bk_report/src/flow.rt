@@ -5,14 +5,13 @@ ghost use Rattle.std.specs.Prelude.{flat_map, length, ◌+◌, ◌++◌, ◌≡�
 ghost use Rattle.arrayvec.specs.ArrayVec.{array_vec_len};
 ghost use Rattle.bk_report.specs.Answers.{flow_line};
 
-use arrayvec::ArrayVec;
 use bk_flow::Flow;
-use bk_grammar::push_bytes;
+use bk_grammar::{AnswerBuffer, push_bytes};
 use itoa::Buffer;
 
 /// Clears the buffer and leaves a flow (Kirchhoff), with its line feed: the total and the currents in the order of the
 /// wires, joined by single blanks, each negative one with `-` before it. The text is this project's own.
-pub fn write_flow(flow: &Flow, out: &mut ArrayVec<u8, 9000>)
+pub fn write_flow(flow: &Flow, out: &mut AnswerBuffer)
     ensures { out.new.items ≡ flow_line flow.now }
 {
     out.clear();
@@ -22,7 +21,7 @@ pub fn write_flow(flow: &Flow, out: &mut ArrayVec<u8, 9000>)
 }
 
 // Appends currents with a blank before each.
-fn push_currents(currents: &[i128], out: &mut ArrayVec<u8, 9000>)
+fn push_currents(currents: &[i128], out: &mut AnswerBuffer)
     requires few { length currents.now ≤ 200 }
     requires room { array_vec_len out.old ≤ 40 }
     ensures text { out.new.items ≡ out.old.items ++ flat_map (λ c. 32 ∷ signed_decimal c) currents.now }
@@ -35,7 +34,7 @@ fn push_currents(currents: &[i128], out: &mut ArrayVec<u8, 9000>)
 }
 
 // Appends a whole number, a negative one with `-` before its digits.
-fn push_whole(number: i128, out: &mut ArrayVec<u8, 9000>)
+fn push_whole(number: i128, out: &mut AnswerBuffer)
     requires { array_vec_len out.old ≤ 8900 }
     ensures text { out.new.items ≡ out.old.items ++ signed_decimal number }
     ensures short { length (signed_decimal number) ≤ 40 }

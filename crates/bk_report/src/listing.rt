@@ -7,8 +7,7 @@ ghost use Rattle.bk_report.specs.EntryLaws.{AWrittenEntryIsRead};
 ghost use Rattle.bk_report.specs.Listings.{class_words, entry_line, entry_words, last_line, last_name, wide_words};
 
 use crate::answer::push_tiling;
-use arrayvec::ArrayVec;
-use bk_grammar::{push_bytes, push_number};
+use bk_grammar::{AnswerBuffer, push_bytes, push_number};
 use bk_tiling::Tiling;
 use bk_word::{Class, Word, write_word};
 
@@ -25,7 +24,7 @@ pub enum Last {
 
 /// Clears the buffer and leaves the entry of a tiling and its word in a catalogue, with its line feed: the order, the
 /// size, the code (Bouwkamp 1946-47), and then ` ; ` and the text of the word. The word must have a move.
-pub fn write_entry(tiling: &Tiling, word: &Word, out: &mut ArrayVec<u8, 9000>)
+pub fn write_entry(tiling: &Tiling, word: &Word, out: &mut AnswerBuffer)
     requires { 0 < length word.now }
     ensures { out.new.items ≡ entry_line tiling.now word.now }
 {
@@ -35,7 +34,7 @@ pub fn write_entry(tiling: &Tiling, word: &Word, out: &mut ArrayVec<u8, 9000>)
 }
 
 // Appends the entry of a tiling and its word.
-pub(crate) fn push_entry(tiling: &Tiling, word: &Word, out: &mut ArrayVec<u8, 9000>)
+pub(crate) fn push_entry(tiling: &Tiling, word: &Word, out: &mut AnswerBuffer)
     requires some { 0 < length word.now }
     requires room { array_vec_len out.old ≤ 4000 }
     ensures text { out.new.items ≡ out.old.items ++ spaced (entry_words tiling.now word.now) }
@@ -63,7 +62,7 @@ pub fn write_last(
     class: Class,
     listed: u64,
     word: &Word,
-    out: &mut ArrayVec<u8, 9000>,
+    out: &mut AnswerBuffer,
 )
     requires { last ≡ Last.Wide → 0 < length word.now }
     ensures { out.new.items ≡ last_line last order class listed word.now }
@@ -81,7 +80,7 @@ pub fn write_last(
 }
 
 // Appends how a listing ended.
-pub(crate) fn push_name(last: Last, out: &mut ArrayVec<u8, 9000>)
+pub(crate) fn push_name(last: Last, out: &mut AnswerBuffer)
     requires { array_vec_len out.old ≤ 8000 }
     ensures text { out.new.items ≡ out.old.items ++ last_name last }
     ensures short { length (last_name last) ≤ 5 }
@@ -94,7 +93,7 @@ pub(crate) fn push_name(last: Last, out: &mut ArrayVec<u8, 9000>)
 }
 
 // Appends a class with a blank before each word, and nothing for the perfect one.
-fn push_class(class: Class, out: &mut ArrayVec<u8, 9000>)
+fn push_class(class: Class, out: &mut AnswerBuffer)
     requires { array_vec_len out.old ≤ 8000 }
     ensures text { out.new.items ≡ out.old.items ++ flat_map (λ l. 32 ∷ l) (class_words class) }
     ensures short { length (flat_map (λ l. 32 ∷ l) (class_words class)) ≤ 20 }
@@ -107,7 +106,7 @@ fn push_class(class: Class, out: &mut ArrayVec<u8, 9000>)
 }
 
 // Appends the wide word at which a listing ended, where it did so.
-pub(crate) fn push_wide(last: Last, word: &Word, out: &mut ArrayVec<u8, 9000>)
+pub(crate) fn push_wide(last: Last, word: &Word, out: &mut AnswerBuffer)
     requires some { last ≡ Last.Wide → 0 < length word.now }
     requires room { array_vec_len out.old ≤ 7000 }
     ensures text { out.new.items ≡ out.old.items ++ flat_map (λ l. 32 ∷ l) (wide_words last word.now) }

@@ -8,14 +8,13 @@ use crate::answer::{push_code, push_tiling};
 use crate::listing::{Last, push_entry, push_name, push_wide};
 use crate::refusal::{Refused, push_refusal};
 use crate::trial::push_named;
-use arrayvec::ArrayVec;
-use bk_grammar::{push_bytes, push_number};
+use bk_grammar::{AnswerBuffer, push_bytes, push_number};
 use bk_text::write_size;
 use bk_tiling::Tiling;
 use bk_word::Word;
 
 /// Clears the buffer and leaves the refusal of the line of this number, with its line feed. The text is this project's own.
-pub fn write_line_refused(line: u64, refused: &Refused, out: &mut ArrayVec<u8, 9000>)
+pub fn write_line_refused(line: u64, refused: &Refused, out: &mut AnswerBuffer)
     ensures { out.new.items ≡ refused_line line refused.now }
 {
     out.clear();
@@ -27,7 +26,7 @@ pub fn write_line_refused(line: u64, refused: &Refused, out: &mut ArrayVec<u8, 9
 
 /// Clears the buffer and leaves that the line of this number repeats an earlier one, with its line feed. The text is this
 /// project's own.
-pub fn write_repeats(line: u64, first: u64, out: &mut ArrayVec<u8, 9000>)
+pub fn write_repeats(line: u64, first: u64, out: &mut AnswerBuffer)
     ensures { out.new.items ≡ repeats_line line first }
 {
     out.clear();
@@ -38,7 +37,7 @@ pub fn write_repeats(line: u64, first: u64, out: &mut ArrayVec<u8, 9000>)
 
 /// Clears the buffer and leaves that the line of this number has no member of the catalogue, with its line feed. The text
 /// is this project's own.
-pub fn write_foreign(line: u64, out: &mut ArrayVec<u8, 9000>)
+pub fn write_foreign(line: u64, out: &mut AnswerBuffer)
     ensures { out.new.items ≡ foreign_line line }
 {
     out.clear();
@@ -48,7 +47,7 @@ pub fn write_foreign(line: u64, out: &mut ArrayVec<u8, 9000>)
 
 /// Clears the buffer and leaves that a list lacks a member of the catalogue, with its line feed: `missing`, and the entry of
 /// the tiling and its word, which must have a move. The text is this project's own.
-pub fn write_missing(tiling: &Tiling, word: &Word, out: &mut ArrayVec<u8, 9000>)
+pub fn write_missing(tiling: &Tiling, word: &Word, out: &mut AnswerBuffer)
     requires { 0 < length word.now }
     ensures { out.new.items ≡ missing_line tiling.now word.now }
 {
@@ -62,13 +61,7 @@ pub fn write_missing(tiling: &Tiling, word: &Word, out: &mut ArrayVec<u8, 9000>)
 /// ended, which is never at a limit, the order, five counts, and for `wide` the word at which it ended. The counts are how
 /// many members there are, how many of them are missing, and how many lines are foreign, repeated and refused. That word
 /// must then have a move. The text is this project's own.
-pub fn write_verified(
-    last: Last,
-    order: u8,
-    counts: [u64; 5],
-    word: &Word,
-    out: &mut ArrayVec<u8, 9000>,
-)
+pub fn write_verified(last: Last, order: u8, counts: [u64; 5], word: &Word, out: &mut AnswerBuffer)
     requires ended { last ≡ Last.Limit → ⊥ }
     requires some { last ≡ Last.Wide → 0 < length word.now }
     ensures { let count = slice_index counts in
@@ -89,7 +82,7 @@ pub fn write_verified(
 
 /// Clears the buffer and leaves the size of a group of rectangles and how many items it has, with its line feed. The text
 /// is this project's own.
-pub fn write_group(width: u64, height: u64, items: u64, out: &mut ArrayVec<u8, 9000>)
+pub fn write_group(width: u64, height: u64, items: u64, out: &mut AnswerBuffer)
     ensures { out.new.items ≡ group_line width height items }
 {
     out.clear();
@@ -100,7 +93,7 @@ pub fn write_group(width: u64, height: u64, items: u64, out: &mut ArrayVec<u8, 9
 
 /// Clears the buffer and leaves an item of a group, with its line feed: the number of its line, and its code in Bouwkamp's
 /// notation (1946-47). The text is this project's own.
-pub fn write_member(line: u64, tiling: &Tiling, out: &mut ArrayVec<u8, 9000>)
+pub fn write_member(line: u64, tiling: &Tiling, out: &mut AnswerBuffer)
     ensures { out.new.items ≡ member_line line tiling.now }
 {
     out.clear();
@@ -112,7 +105,7 @@ pub fn write_member(line: u64, tiling: &Tiling, out: &mut ArrayVec<u8, 9000>)
 
 /// Clears the buffer and leaves what two items make together, with its line feed: the numbers of their lines, and the size
 /// and the code of the square, in Bouwkamp's notation (1946-47). The text is this project's own.
-pub fn write_pair(first: u64, second: u64, tiling: &Tiling, out: &mut ArrayVec<u8, 9000>)
+pub fn write_pair(first: u64, second: u64, tiling: &Tiling, out: &mut AnswerBuffer)
     ensures { out.new.items ≡ pair_line first second tiling.now }
 {
     out.clear();
@@ -125,7 +118,7 @@ pub fn write_pair(first: u64, second: u64, tiling: &Tiling, out: &mut ArrayVec<u
 
 /// Clears the buffer and leaves the last line behind groups, with its line feed: how many groups and items there are, and
 /// how many lines were refused. The text is this project's own.
-pub fn write_alike(groups: u64, items: u64, refused: u64, out: &mut ArrayVec<u8, 9000>)
+pub fn write_alike(groups: u64, items: u64, refused: u64, out: &mut AnswerBuffer)
     ensures { out.new.items ≡ alike_line groups items refused }
 {
     out.clear();
@@ -137,7 +130,7 @@ pub fn write_alike(groups: u64, items: u64, refused: u64, out: &mut ArrayVec<u8,
 
 /// Clears the buffer and leaves the last line behind pairs, with its line feed: how many pairs and items there are, and how
 /// many lines were refused. The text is this project's own.
-pub fn write_pairs(pairs: u64, items: u64, refused: u64, out: &mut ArrayVec<u8, 9000>)
+pub fn write_pairs(pairs: u64, items: u64, refused: u64, out: &mut AnswerBuffer)
     ensures { out.new.items ≡ pairs_line pairs items refused }
 {
     out.clear();

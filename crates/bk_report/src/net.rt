@@ -5,15 +5,14 @@ ghost use Rattle.arrayvec.specs.ArrayVec.{array_vec_len};
 ghost use Rattle.bk_tiling.specs.Kept.{IsSide};
 ghost use Rattle.bk_report.specs.Answers.{net_line, wire_text};
 
-use arrayvec::ArrayVec;
-use bk_grammar::{push_bytes, push_number};
+use bk_grammar::{AnswerBuffer, push_bytes, push_number};
 use bk_net::{Net, net_of};
 use bk_tiling::Tiling;
 
 /// Clears the buffer and leaves the Smith diagram of a tiling (Brooks, Smith, Stone and Tutte 1940), with its line feed:
 /// the number of nodes and the wires `A-B`, then ` ; `, the width and the sides in code order. The width is the total
 /// and the sides are the currents of the one flow. The text is this project's own.
-pub fn write_net(tiling: &Tiling, out: &mut ArrayVec<u8, 9000>)
+pub fn write_net(tiling: &Tiling, out: &mut AnswerBuffer)
     ensures { out.new.items ≡ net_line tiling.now }
 {
     let (net, _levels) = net_of(tiling);
@@ -25,7 +24,7 @@ pub fn write_net(tiling: &Tiling, out: &mut ArrayVec<u8, 9000>)
 }
 
 // Appends the number of nodes, and the wires with a blank before each.
-pub(crate) fn push_net(net: &Net, out: &mut ArrayVec<u8, 9000>)
+pub(crate) fn push_net(net: &Net, out: &mut AnswerBuffer)
     requires { array_vec_len out.old ≤ 6000 }
     ensures text { out.new.items ≡ out.old.items ++ decimal net.now.nodes ++ flat_map (λ w. 32 ∷ wire_text w) net.now.wires }
     ensures short { array_vec_len out.new ≤ array_vec_len out.old + 1603 }
@@ -40,7 +39,7 @@ pub(crate) fn push_net(net: &Net, out: &mut ArrayVec<u8, 9000>)
 }
 
 // Appends the width of a tiling, and the sides with a blank before each.
-pub(crate) fn push_sides(tiling: &Tiling, out: &mut ArrayVec<u8, 9000>)
+pub(crate) fn push_sides(tiling: &Tiling, out: &mut AnswerBuffer)
     requires { array_vec_len out.old ≤ 4000 }
     ensures text { out.new.items ≡ out.old.items ++ decimal tiling.now.width ++ flat_map (λ q. 32 ∷ decimal q.s) tiling.now.squares }
     ensures short { array_vec_len out.new ≤ array_vec_len out.old + 3220 }
@@ -54,7 +53,7 @@ pub(crate) fn push_sides(tiling: &Tiling, out: &mut ArrayVec<u8, 9000>)
 
 // Appends a side.
 #[tactic(auto, using(bk_text::proofs::Spelling::short_side))]
-fn push_side(side: u64, out: &mut ArrayVec<u8, 9000>)
+fn push_side(side: u64, out: &mut AnswerBuffer)
     requires side { IsSide side }
     requires room { array_vec_len out.old ≤ 8900 }
     ensures text { out.new.items ≡ out.old.items ++ decimal side }
@@ -65,7 +64,7 @@ fn push_side(side: u64, out: &mut ArrayVec<u8, 9000>)
 
 // Appends the number of a node, or of a square.
 #[tactic(auto, using(crate::proofs::Spaces::short_node))]
-pub(crate) fn push_node(node: u16, out: &mut ArrayVec<u8, 9000>)
+pub(crate) fn push_node(node: u16, out: &mut AnswerBuffer)
     requires small { node ≤ 999 }
     requires room { array_vec_len out.old ≤ 8900 }
     ensures text { out.new.items ≡ out.old.items ++ decimal node }

@@ -4,8 +4,7 @@ ghost use Rattle.std.specs.Prelude.{◌≡◌, ◌≤◌, ◌++◌, ◌+◌, ◌
 ghost use Rattle.arrayvec.specs.ArrayVec.{array_vec_len};
 ghost use Rattle.bk_report.specs.Refusals.{no_text, refusal_line, refusal_text};
 
-use arrayvec::ArrayVec;
-use bk_grammar::{push_bytes, push_number};
+use bk_grammar::{AnswerBuffer, push_bytes, push_number};
 use bk_text::write_size;
 
 /// Why an item is refused. The names and their order are this project's own.
@@ -46,7 +45,7 @@ pub enum Refused {
 }
 
 /// Clears the buffer and leaves the line of a refusal, with its line feed.
-pub fn write_refused(refused: &Refused, out: &mut ArrayVec<u8, 9000>)
+pub fn write_refused(refused: &Refused, out: &mut AnswerBuffer)
     ensures { out.new.items ≡ refusal_line refused.now }
 {
     out.clear();
@@ -55,7 +54,7 @@ pub fn write_refused(refused: &Refused, out: &mut ArrayVec<u8, 9000>)
 }
 
 // Appends the text of a refusal.
-pub(crate) fn push_refusal(refused: &Refused, out: &mut ArrayVec<u8, 9000>)
+pub(crate) fn push_refusal(refused: &Refused, out: &mut AnswerBuffer)
     requires { array_vec_len out.old ≤ 8000 }
     ensures text { out.new.items ≡ out.old.items ++ refusal_text refused.now }
     ensures short { array_vec_len out.new ≤ array_vec_len out.old + 80 }
@@ -87,7 +86,7 @@ pub(crate) fn push_refusal(refused: &Refused, out: &mut ArrayVec<u8, 9000>)
 }
 
 // Appends 'no', what is refused, and its numbers.
-fn push_no(what: &[u8], numbers: &[u64], out: &mut ArrayVec<u8, 9000>)
+fn push_no(what: &[u8], numbers: &[u64], out: &mut AnswerBuffer)
     requires room { array_vec_len out.old ≤ 8000 }
     requires word { length what.now ≤ 5 }
     requires few { length numbers.now ≤ 3 }
@@ -100,7 +99,7 @@ fn push_no(what: &[u8], numbers: &[u64], out: &mut ArrayVec<u8, 9000>)
 }
 
 // Appends numbers, with a blank before each.
-fn push_numbers(numbers: &[u64], out: &mut ArrayVec<u8, 9000>)
+fn push_numbers(numbers: &[u64], out: &mut AnswerBuffer)
     requires room { array_vec_len out.old ≤ 8800 }
     requires few { length numbers.now ≤ 3 }
     ensures text { out.new.items ≡ out.old.items ++ flat_map (λ n. 32 ∷ decimal n) numbers.now }

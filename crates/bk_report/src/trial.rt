@@ -4,8 +4,7 @@ ghost use Rattle.std.specs.Prelude.{decimal, length, ◌+◌, ◌++◌, ◌≡�
 ghost use Rattle.arrayvec.specs.ArrayVec.{array_vec_len};
 ghost use Rattle.bk_report.specs.Trial.{trial_line};
 
-use arrayvec::ArrayVec;
-use bk_grammar::{push_bytes, push_number};
+use bk_grammar::{AnswerBuffer, push_bytes, push_number};
 
 /// Clears the buffer and leaves a line about `count` trial codes of a seed, with its line feed: how many of them were
 /// accepted, how many were perfect and how many simple (Brooks, Smith, Stone and Tutte 1940), and how many squares they had
@@ -17,7 +16,7 @@ pub fn write_trial(
     perfect: u64,
     simple: u64,
     squares: u64,
-    out: &mut ArrayVec<u8, 9000>,
+    out: &mut AnswerBuffer,
 )
     ensures { out.new.items ≡ trial_line seed count ok perfect simple squares }
 {
@@ -32,7 +31,7 @@ pub fn write_trial(
 }
 
 // Appends a name and a number.
-pub(crate) fn push_named(name: &[u8], number: u64, out: &mut ArrayVec<u8, 9000>)
+pub(crate) fn push_named(name: &[u8], number: u64, out: &mut AnswerBuffer)
     requires name { length name.now ≤ 20 }
     requires room { array_vec_len out.old ≤ 8000 }
     ensures text { out.new.items ≡ (out.old.items ++ name.now) ++ decimal number }

@@ -9,7 +9,7 @@ use Rattle.bk_word.specs.declared.Sign.{Sign}
 use Rattle.bk_word.specs.declared.Sign.TheVariants.{Above, Even, Under}
 use Rattle.bk_word_net.proofs.ValleyCut.{AllPart, AtValley}
 use Rattle.bk_layout.proofs.Chains.{Chain, Known, Meet, Run, chain_behind, chain_known, even_neighbours, known_first, known_last, last_append}
-use Rattle.bk_layout.proofs.Chains.{last_from, singles}
+use Rattle.bk_layout.proofs.Chains.{even_test, last_from, singles}
 use Rattle.bk_layout.proofs.Counting.{none_for, one_for, same_or_other}
 use Rattle.bk_layout.proofs.SquareLists.{lists_at, sq_of}
 use Rattle.bk_layout.proofs.Sweep.{State, ValleyAt, ending_times}
@@ -49,11 +49,6 @@ first_there l fits ((y ∷ ys) ∷ (z ∷ zs) ∷ front) (Under ∷ g) x xs rest
     (fits.go_on.on_left z (known_first l z zs (chain_known l g z zs (front ++ (x ∷ xs) ∷ rest) c.3)) (under_left l (last_from y ys) z c.2.1).1).0
 
 -- ---- the two signs
-
-even_test : (a b : Bool) → Even ≡ cond a Above (cond b Under Even) → (a ≡ false) × (b ≡ false)
-even_test true b e = absurd (cc)
-even_test false true e = absurd (cc)
-even_test false false e = (refl, refl)
 
 -- a segment before a square q that stands even beside it, while the line at the right of q goes on
 pub record TwoSigns (l : Layout) (s : List ℕ) (q : ℕ) : Type 0 where

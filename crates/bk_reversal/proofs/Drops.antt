@@ -47,6 +47,7 @@ same_sign Above x y e = e
 same_sign Even x y e = e
 same_sign Under x y e = e
 
+-- signs that drop are the lesser ones
 pub drops_less : (x y : List Sign) → Drops x y → slice_cmp sign_cmp x y ≡ Less
 drops_less [] y d = absurd d
 drops_less (g ∷ x) [] d = absurd d
@@ -86,6 +87,7 @@ same_signs_cmp (Under ∷ g) = same_signs_cmp g
 same_move_cmp : (m : Move) → move_cmp m m ≡ Equal
 same_move_cmp m = λ i. ordering_then (same_nats m.count i) (same_signs_cmp m.signs i)
 
+-- and a word whose signs drop in one move, behind which anything may follow, is the lesser word
 pub less_word : (v w : Word) → IsLess v w → word_cmp v w ≡ Less
 less_word [] w l = absurd l
 less_word (a ∷ v) [] l = absurd l

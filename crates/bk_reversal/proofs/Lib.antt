@@ -1,9 +1,6 @@
+-- the reversed layout fits: its lists, places, nodes and lines
 pub mod ReversalExamples
 pub mod Pieces
-pub mod MoveChain
-pub mod Drops
-pub mod Trace
-pub mod BadMove
 pub mod ReversedSquare
 pub mod ReversedLists
 pub mod ReversedPlaces
@@ -11,12 +8,19 @@ pub mod ReversedNodes
 pub mod ReversedLines
 pub mod ReversedGoOn
 pub mod ReversedFits
+pub mod FitsFiveExamples
+-- layouts that are one up to reversed squares
+pub mod UpTo
+-- a word that breaks rule R: the move that breaks it, both sweeps side by side, and the lesser word
+pub mod MoveChain
+pub mod Trace
+pub mod BadMove
 pub mod SameSigns
 pub mod ReversedStates
 pub mod SweepsBeside
-pub mod UpTo
+-- words can't become less for ever, so some word keeps the rule
+pub mod Drops
 pub mod Measure
 pub mod RuleScan
-pub mod FitsFive
 pub mod FreeWordExamples
 pub mod RuleExamples

@@ -1,7 +1,9 @@
 -- Words as numbers: words of one order that become less can't do so for ever.
 use Rattle.std.specs.List.{AllByRecursion}
-use Rattle.std.proofs.Common.{Bool, List, [], ap, arith, inl, inr, length, map, false, refl, subst, suc, true, zero, ℕ, ◌++◌, ◌+◌, ◌<◌, ◌∷◌, ◌≡◌, ◌≤◌, ◌⊎◌}
+use Rattle.std.proofs.Common.{Bool, List, [], ap, arith, inl, inr, length, map, false, refl, subst, suc, true, zero, ℕ, ◌*◌, ◌++◌, ◌+◌, ◌<◌, ◌∷◌, ◌≡◌, ◌≤◌, ◌⊎◌}
+use Rattle.std.proofs.Math.Nat.{mul-le-mul_right}
 use Rattle.std.proofs.lemmas.List.{length-append, length-map}
+use Rattle.bk_laws.proofs.Powers.{power, some_power}
 use Rattle.bk_word.proofs.StoredBytes.{order_more}
 use Rattle.bk_word.specs.Outline.{Outline, has_left_wall, has_right_wall, open_side}
 use Rattle.bk_word.specs.Play.{AreLegalFrom, after_move}
@@ -10,37 +12,20 @@ use Rattle.bk_word.specs.declared.Sign.{Sign}
 use Rattle.bk_word.specs.declared.Sign.TheVariants.{Above, Even, Under}
 use Rattle.bk_reversal.proofs.Drops.{Drops, IsLess}
 
-abbrev repeated : ℕ → ℕ → ℕ
-repeated zero x = 0
-repeated (suc d) x = x + repeated d x
-
-repeated_more : (d e x : ℕ) → d ≤ e → repeated d x ≤ repeated e x
-repeated_more zero e x h = omega arith
-repeated_more (suc d) zero x h = absurd (omega (arith, h))
-repeated_more (suc d) (suc e) x h = omega (arith, repeated_more d e x (omega (arith, h)))
-
-abbrev power : ℕ → ℕ → ℕ
-power b zero = 1
-power b (suc n) = repeated b (power b n)
-
 -- so many digits to a base as one number
 abbrev pub code : ℕ → ℕ → List ℕ → ℕ
 code b zero xs = 0
 code b (suc n) [] = 0
-code b (suc n) (x ∷ xs) = repeated (suc x) (power b n) + code b n xs
+code b (suc n) (x ∷ xs) = suc x * power b n + code b n xs
 
 -- each is below the base, by two at least
 abbrev pub AreDigits : ℕ → List ℕ → Type 0
 AreDigits b xs = AllByRecursion (λ x. x + 2 ≤ b) xs
 
-power_some : (b n : ℕ) → 0 < b → 0 < power b n
-power_some b zero h = omega arith
-power_some b (suc n) h = omega (arith, repeated_more 1 b (power b n) (omega (arith, h)), power_some b n h)
-
 code_low : (b n : ℕ) (xs : List ℕ) → 0 < b → AreDigits b xs → code b n xs < power b n
 code_low b zero xs h d = omega arith
-code_low b (suc n) [] h d = power_some b (suc n) h
-code_low b (suc n) (x ∷ xs) h d = omega (arith, code_low b n xs h d.1, repeated_more (suc (suc x)) b (power b n) (omega (arith, d.0)))
+code_low b (suc n) [] h d = some_power b (suc n) h
+code_low b (suc n) (x ∷ xs) h d = omega (arith, code_low b n xs h d.1, mul-le-mul_right {m = suc (suc x)} {n = b} (power b n) (omega (arith, d.0)))
 
 -- the first digit in which they differ is less
 abbrev pub AreLess : List ℕ → List ℕ → Type 0
@@ -53,9 +38,10 @@ pub code_less : (b n : ℕ) (xs ys : List ℕ) → 0 < b → AreDigits b xs → 
 code_less b n [] ys h d few l = absurd l
 code_less b n (x ∷ xs) [] h d few l = absurd l
 code_less b zero (x ∷ xs) (y ∷ ys) h d few l = absurd (omega (arith, few))
-code_less b (suc n) (x ∷ xs) (y ∷ ys) h d few (inl l) = omega (arith, code_low b n xs h d.1, repeated_more (suc (suc x)) (suc y) (power b n) (omega (arith, l)))
+code_less b (suc n) (x ∷ xs) (y ∷ ys) h d few (inl l) =
+    omega (arith, code_low b n xs h d.1, mul-le-mul_right {m = suc (suc x)} {n = suc y} (power b n) (omega (arith, l)))
 code_less b (suc n) (x ∷ xs) (y ∷ ys) h d few (inr (e, l)) =
-    omega (arith, code_less b n xs ys h d.1 (omega (arith, few)) l, ap (λ (z : ℕ). repeated (suc z) (power b n)) e)
+    omega (arith, code_less b n xs ys h d.1 (omega (arith, few)) l, ap (λ (z : ℕ). suc z * power b n) e)
 
 -- ---- the digits of a word
 

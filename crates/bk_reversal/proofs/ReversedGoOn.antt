@@ -30,15 +30,18 @@ module _ (l : Layout) (fits : Fits l) (q p r : ℕ) (can : CanReverse l q p r) w
   goes_left_r : m.goes_left r ≡ false
   goes_left_r = put_other q true (put r false l.goes_left) r about.r_not_q ∙ put_at r false l.goes_left r refl
 
+  -- at all squares but q and r the line at the left goes on as before
   pub goes_left_x : (x : ℕ) → (x ≡ q → ⊥) → (x ≡ r → ⊥) → m.goes_left x ≡ l.goes_left x
   goes_left_x x a b = put_other q true (put r false l.goes_left) x a ∙ put_other r false l.goes_left x b
 
   goes_right_q : m.goes_right q ≡ false
   goes_right_q = put_at q false (put p true l.goes_right) q refl
 
+  -- the line at the right of p goes on in the reversed layout
   pub goes_right_p : m.goes_right p ≡ true
   goes_right_p = put_other q false (put p true l.goes_right) p about.p_not_q ∙ put_at p true l.goes_right p refl
 
+  -- and at all squares but q and p it goes on as before
   pub goes_right_x : (x : ℕ) → (x ≡ q → ⊥) → (x ≡ p → ⊥) → m.goes_right x ≡ l.goes_right x
   goes_right_x x a b = put_other q false (put p true l.goes_right) x a ∙ put_other p true l.goes_right x b
 
@@ -49,6 +52,7 @@ module _ (l : Layout) (fits : Fits l) (q p r : ℕ) (can : CanReverse l q p r) w
   first_is_r : (x : ℕ) → IsFirst (l.ending u) x → x ≡ r
   first_is_r x e = got_same x r (sym e ∙ can.over)
 
+  -- the last square that ends on v is q
   pub last_is_q : (x : ℕ) → IsLast (l.ending v) x → x ≡ q
   last_is_q x (k, g, h) = got_same x q (sym h ∙ ap (slice_get (l.ending v)) place ∙ (about.q_last).2)
     where
@@ -150,6 +154,7 @@ module _ (l : Layout) (fits : Fits l) (q p r : ℕ) (can : CanReverse l q p r) w
           place : k ≡ (about.p_beside).0
           place = omega (arith, next)
 
+  -- the square whose left line is the right line of p, and does not go on there, is q
   pub only_q : (y : ℕ) → y < l.squares → l.right p ≡ l.left y → l.goes_left y ≡ false → y ≡ q
   only_q y low line e = on (fits.go_on.meet p y can.before low line can.even_before e)
     where
@@ -203,6 +208,7 @@ module _ (l : Layout) (fits : Fits l) (q p r : ℕ) (can : CanReverse l q p r) w
           (kept a (fits.go_on.meet x y low low_y (sym (about.right_x x c) ∙ line ∙ about.left_x y a) (sym (goes_right_x x c b) ∙ e)
           (sym (goes_left_x y a d) ∙ f)) (about.which (l.below x)))
 
+  -- where lines go on in the reversed layout, further squares stand there
   pub go_on_then : DoLinesGoOn m
   go_on_then = record {
     on_left = λ x h e. on_left x h e;

@@ -23,6 +23,7 @@ module _ (l : Layout) (fits : Fits l) (q p r : ℕ) (can : CanReverse l q p r) w
   abbrev by_place : Places l fits q p r can
   by_place = places l fits q p r can
 
+  -- squares that hang side by side in the reversed layout have one line between them
   pub between : (w x y k : ℕ) → slice_get (m.hanging w) k ≡ Some x → slice_get (m.hanging w) (suc k) ≡ Some y → m.right x ≡ m.left y
   between w x y k e f = on (about.which w)
     where
@@ -85,6 +86,7 @@ module _ (l : Layout) (fits : Fits l) (q p r : ℕ) (can : CanReverse l q p r) w
   last_eu x (zero, g, h) = absurd (omega (arith, g, by_place.length_eu, by_place.eu_some))
   last_eu x (suc k, g, h) = (k, omega (arith, g, by_place.length_eu), sym (by_place.get_eu k) ∙ h)
 
+  -- what ends last on u ends last on it in the reversed layout
   pub eu_last : (x : ℕ) → IsLast (l.ending u) x → IsLast (m.ending u) x
   eu_last x (k, g, h) = (suc k, omega (arith, g, by_place.length_eu), by_place.get_eu k ∙ h)
 
@@ -97,6 +99,7 @@ module _ (l : Layout) (fits : Fits l) (q p r : ℕ) (can : CanReverse l q p r) w
       place : k ≡ (about.p_beside).0
       place = omega (arith, by_place.q_place, (about.q_last).1, g, by_place.length_ev)
 
+  -- what ends last on v there is p
   pub p_last : IsLast (m.ending v) p
   p_last = (
     (about.p_beside).0,
@@ -136,9 +139,11 @@ module _ (l : Layout) (fits : Fits l) (q p r : ℕ) (can : CanReverse l q p r) w
   zero_not_v : 0 ≡ v → ⊥
   zero_not_v e = omega (arith, e, about.v_some)
 
+  -- from the top the same squares hang
   pub top_is : m.hanging 0 ≡ l.hanging 0
   top_is = about.hanging_w 0 zero_not_u zero_not_v
 
+  -- the lines of the reversed layout are those of a layout
   pub lines_then : AreLines m
   lines_then = record {
     between = λ w x y n. between w x y n.0 n.1 n.2;

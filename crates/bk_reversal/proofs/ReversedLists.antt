@@ -150,6 +150,7 @@ module _ (l : Layout) (fits : Fits l) (q p r : ℕ) (can : CanReverse l q p r) w
   endings : Sorted l.squares m.below m.ending
   endings = record { counted = λ x w h. ending_counted x w h; low = λ x w h. ending_low x w h }
 
+  -- each square stands once in its two lists of the reversed layout, and in no other
   pub lists_then : AreLists m
   lists_then = record {
     hanging_is = λ w k x e. sorted_is l.squares m.above m.hanging hangings w k x e;

@@ -63,6 +63,7 @@ module _ (l : Layout) (fits : Fits l) (q p r : ℕ) (can : CanReverse l q p r) w
       )
       on (inr e) = omega (arith, kept e (about.which (l.above x)) (about.which (l.below x)), ap rank (about.above_x x e), ap rank (about.below_x x e))
 
+  -- the nodes of the reversed layout are those of a layout
   pub nodes_then : AreNodes m
   nodes_then = record {
     hangs_above = λ x h. hangs_above x h (same_or_other x q);

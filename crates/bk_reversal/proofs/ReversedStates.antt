@@ -53,6 +53,7 @@ module _ (l : Layout) (fits : Fits l) (q p r : ℕ) (can : CanReverse l q p r) w
   wall_moved ([] ∷ segments) a t = absurd a
   wall_moved ((x ∷ xs) ∷ segments) a t = about.left_x x ((head_not l fits q p r can) q x xs (omega (arith, t))) ∙ a
 
+  -- a state of the sweep before p and q are laid and v is closed is one of the reversed layout's sweep
   pub state_moved : (o : Outline) (st : State l o) → times q st.laid ≡ 0 → times p st.laid ≡ 0 → times v st.done ≡ 0 → (s : State m o)
       × (s.laid ≡ st.laid) × (s.done ≡ st.done)
   state_moved o st no_q no_p no_v = (
@@ -123,6 +124,7 @@ module _ (l : Layout) (fits : Fits l) (q p r : ℕ) (can : CanReverse l q p r) w
         → Drops (move m (fits_then l fits q p r can) o both c at_both low_both hung_both).signs (move l fits o st c at low h).signs
     pub counts : (move m (fits_then l fits q p r can) o both c at_both low_both hung_both).count ≡ (move l fits o st c at low h).count
 
+  -- the next move, where it lays no q and does not close v, is the same in both sweeps, or its signs drop where it lays p
   pub moves_both : (o : Outline) (st : State l o) (both : State m o) → both.laid ≡ st.laid
       → (c : AtValley o) (at : ValleyAt l o st.laid c) (low : l.below at.q < l.bottom) (h : Hung l (l.below at.q))
       → times q st.laid ≡ 0 → times p st.laid ≡ 0 → times v st.done ≡ 0 → times q (h.first ∷ h.more) ≡ 0 → (l.below at.q ≡ v → ⊥)

@@ -173,5 +173,6 @@ module _ (P : Layout → Type 0) (keep : (l : Layout) → Fits l → P l → (q 
       (digits (first_move l fits (hung_from l fits 0 fits.some) ∷ t.0)))) l l fits (up_to_itself l) (λ n. n) has
       (first_move l fits (hung_from l fits 0 fits.some)) t.0 t.1 (omega arith)
 
+-- each layout that fits is, up to reversed squares, one that has a word which keeps rule R
 pub a_layout_has_a_word_by_rule_r : ALayoutHasAWordByRuleR
 a_layout_has_a_word_by_rule_r l fits = (a_word_that_keeps (λ m. Unit {0}) (λ m fits has q p r can. tt) l fits tt).by_rule

@@ -11,7 +11,6 @@ use Rattle.bk_reversal.proofs.Pieces.{got_below}
 use Rattle.bk_reversal.specs.Reversal.{CanReverse, reversed}
 use Rattle.bk_reversal.proofs.ReversedSquare.{Around, around}
 use Rattle.bk_reversal.proofs.ReversedPlaces.{Places, places}
-use Rattle.bk_reversal.proofs.ReversedLines.{between}
 use Rattle.bk_reversal.proofs.ReversedGoOn.{goes_left_x, goes_right_p, goes_right_x, last_is_q, only_p, only_q}
 
 module _ (l : Layout) (fits : Fits l) (q p r : ℕ) (can : CanReverse l q p r) where
@@ -53,6 +52,7 @@ module _ (l : Layout) (fits : Fits l) (q p r : ℕ) (can : CanReverse l q p r) w
       on (inr (inl i)) = subst (λ (z : ℕ). AreNeighbours (m.ending z) x y) (sym i) (at_v (subst (λ (z : ℕ). AreNeighbours (l.ending z) x y) i n))
       on (inr (inr (c, d))) = subst (λ (xs : List ℕ). AreNeighbours xs x y) (sym (about.ending_w (l.below x) c d)) n
 
+  -- the first of a list in which a square does not stand is another square
   pub head_not : (w x : ℕ) (xs : List ℕ) → times w (x ∷ xs) ≡ 0 → x ≡ w → ⊥
   head_not w x xs t e = omega (arith, t, one_for w x (sym e))
 
@@ -68,7 +68,7 @@ module _ (l : Layout) (fits : Fits l) (q p r : ℕ) (can : CanReverse l q p r) w
   known_then x [] k = k
   known_then x (y ∷ xs) k = (k.0, known_then y xs k.1)
 
-  -- signs (between l fits q p r can) the same squares
+  -- signs between the same squares
   sign_moved : (x y : ℕ) → (x ≡ q → ⊥) → (x ≡ p → ⊥) → (y ≡ q → ⊥) → x < l.squares → l.right x ≡ l.left y → sign m x y ≡ sign l x y
   sign_moved x y a b c low line = on (same_or_other y r)
     where
@@ -91,6 +91,7 @@ module _ (l : Layout) (fits : Fits l) (q p r : ℕ) (can : CanReverse l q p r) w
   sign_then : (y : ℕ) → sign m p y ≡ Above
   sign_then y = ap (λ (g : Bool). cond {A = Sign} g Above (cond (m.goes_left y) Under Even)) (goes_right_p l fits q p r can)
 
+  -- open squares without p and q have the same signs in both layouts
   pub chain_then : (g : List Sign) (segments : List (List ℕ)) → Chain l g segments → times_in q segments ≡ 0 → times_in p segments ≡ 0 → Chain m g segments
   chain_then g [] c a b = absurd c
   chain_then g ([] ∷ segments) c a b = absurd c
@@ -150,6 +151,7 @@ module _ (l : Layout) (fits : Fits l) (q p r : ℕ) (can : CanReverse l q p r) w
   chain_head_known : (g : List Sign) (x : ℕ) (xs : List ℕ) (segments : List (List ℕ)) → Chain l g ((x ∷ xs) ∷ segments) → x < l.squares
   chain_head_known g x xs segments c = known_first l x xs (chain_known l g x xs segments c)
 
+  -- with p among them the signs of the reversed layout drop
   pub dropped_signs : (g h : List Sign) (segments : List (List ℕ)) → Chain l g segments → Chain m h segments → times_in q segments ≡ 0
       → 0 < times_in p segments → Drops h g
   dropped_signs g h [] c d a b = absurd c

@@ -10,7 +10,8 @@ use Rattle.bk_layout.proofs.SweepStart.{first_move}
 use Rattle.bk_layout.proofs.Chains.{Chain, last_from, signs_of, singles, singles_wall}
 use Rattle.bk_layout.proofs.SquareLists.{times_singles}
 use Rattle.bk_layout.proofs.Sweep.{State}
-use Rattle.bk_layout.proofs.SweepStep.{move, state_then}
+use Rattle.bk_layout.proofs.SweepStates.{state_then}
+use Rattle.bk_layout.proofs.SweepStep.{move}
 use Rattle.bk_layout.proofs.WholeRuns.{Hung, hung_from, is_last}
 use Rattle.bk_reversal.proofs.Drops.{Drops, IsLess}
 use Rattle.bk_layout.proofs.Counting.{one_for}
@@ -72,6 +73,7 @@ module _ (l : Layout) (fits : Fits l) (q p r : ℕ) (can : CanReverse l q p r) w
     pub trace : Trace m (fits_then l fits q p r can) o both word
     pub less : IsLess word w
 
+  -- from a common state on, the sweep of the reversed layout has a lesser word
   pub beside_it : (o : Outline) (st : State l o) (both : State m o) → both.laid ≡ st.laid → times p st.laid ≡ 0
       → (w : Word) (tr : Trace l fits o st w) → Late o st w tr → Beside o both w
   beside_it o st both laid no_p [] tr late = ends late.2

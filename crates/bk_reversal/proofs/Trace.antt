@@ -11,7 +11,8 @@ use Rattle.bk_layout.proofs.SquareLists.{sq_of}
 use Rattle.bk_layout.proofs.Sweep.{State, ValleyAt, valley_at}
 use Rattle.bk_layout.proofs.SweepEnd.{Ended, WholeSweep, bounded, ended}
 use Rattle.bk_layout.proofs.SweepStart.{first_by_lines, first_by_node, first_free, first_legal, first_move, first_no_twins, first_state, left_wall}
-use Rattle.bk_layout.proofs.SweepStep.{by_lines, by_node, free, legal, move, no_twins, state_then}
+use Rattle.bk_layout.proofs.SweepStates.{state_then}
+use Rattle.bk_layout.proofs.SweepStep.{by_lines, by_node, free, legal, move, no_twins}
 use Rattle.bk_layout.proofs.WholeRuns.{Hung, hung_from}
 use Rattle.bk_layout.specs.FreeWord.{AreFreeFrom, HangNoTwinsFrom, HangsNoTwins, IsFreeMove}
 use Rattle.bk_layout.specs.Layout.{Fits, HasNoTwins, Layout}
@@ -78,6 +79,7 @@ pub record Facts (l : Layout) (o : Outline) (st : State l o) (w : Word) : Type 0
   pub lines : HangByLinesFrom l (sq_of last.laid) o w
   pub nodes : HangByNodesFrom l (sq_of last.laid) o w
 
+-- the word of a trace is legal and free, its squares hang along the layout's lines and nodes, and at its end all are laid
 pub facts : (l : Layout) (fits : Fits l) (o : Outline) (st : State l o) (w : Word) → Trace l fits o st w → Facts l o st w
 facts l fits o st [] end = record {
   legal = tt;

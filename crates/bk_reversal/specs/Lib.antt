@@ -1,3 +1,4 @@
+-- What the crate says.
 pub mod Reversal
 pub mod ReversalLaws
 pub mod RuleR

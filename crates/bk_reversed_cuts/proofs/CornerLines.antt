@@ -67,5 +67,6 @@ module _ (l : Layout) (fits : Fits l) (walls : AreOuterWalls l) (corners : AreCo
           with : (z : ℕ) × (slice_get (l.ending v) (suc b) ≡ Some z) → ⊥
           with (z, g) = omega (arith, up, lefts v a (suc b) x z e g (i ∙ ends v y z (b, f, g)))
 
+  -- where the lines around each node are apart, no line stands twice along a node
   pub lines_from_corners : AreLinesApart l
   lines_from_corners = record { lefts = lefts; rights = rights; order = order }

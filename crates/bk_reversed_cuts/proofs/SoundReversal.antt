@@ -33,6 +33,7 @@ module _ (l : Layout) (fits : Fits l) (q p r : ℕ) (can : CanReverse l q p r) w
   right_q : m.right q ≡ l.left q
   right_q = put_at q (l.left q) l.right q refl
 
+  -- no square of the reversed layout stands beyond a wall
   pub walls_over : AreOuterWalls l → AreOuterWalls m
   walls_over walls = record { not_beyond = not_beyond; not_before = not_before; apart = apart_m }
     where
@@ -98,6 +99,7 @@ module _ (l : Layout) (fits : Fits l) (q p r : ℕ) (can : CanReverse l q p r) w
           list : m.ending w ≡ l.ending w
           list = ending_other w n ∙ put_other (l.below q) (without_last (l.ending (l.below q))) l.ending w o
 
+  -- squares that end side by side meet in it at one line
   pub ends_over : DoEndsMeet l → DoEndsMeet m
   ends_over ends w x y (k, e, f) = on (same_or_other w (l.above q))
     where
@@ -126,6 +128,7 @@ module _ (l : Layout) (fits : Fits l) (q p r : ℕ) (can : CanReverse l q p r) w
           list = ap m.ending i ∙ ending_u ∙ ap (λ (z : ℕ). q ∷ l.ending z) (sym i)
       on (inr n) = other (not_q n k x e) (not_q n (suc k) y f) (back w x y n (k, e, f))
 
+-- so it is sound where the layout is
 pub a_reversed_layout_is_sound : AReversedLayoutIsSound
 a_reversed_layout_is_sound n l q p r around can = record {
   sound = record {

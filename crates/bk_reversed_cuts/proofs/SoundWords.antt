@@ -5,6 +5,7 @@ use Rattle.bk_reversed_cuts.proofs.SoundReversal.{a_reversed_layout_is_sound}
 use Rattle.bk_reversed_cuts.proofs.TilingCorners.{corners, ends_meet}
 use Rattle.bk_reversed_cuts.specs.Corners.{ASimpleTilingIsSoundAround, ASoundLayoutHasASoundWordByRuleR, HasSoundWordByRuleR, IsSoundAround}
 
+-- up to reversed squares a sound layout has a word by rule R whose layout is sound
 pub a_sound_layout_has_a_sound_word_by_rule_r : ASoundLayoutHasASoundWordByRuleR
 a_sound_layout_has_a_sound_word_by_rule_r n l around =
     from (a_word_that_keeps (IsSoundAround n) (λ l fits has q p r can. a_reversed_layout_is_sound n l q p r has can) l around.sound.fits around)
@@ -12,6 +13,7 @@ a_sound_layout_has_a_sound_word_by_rule_r n l around =
     from : HasWordThatKeeps (IsSoundAround n) l → HasSoundWordByRuleR n l
     from h = record { by_rule = h.by_rule; around = h.kept }
 
+-- the layout of a simple tiling of at least 3 squares is sound, also around its nodes
 pub a_simple_tiling_is_sound_around : ASimpleTilingIsSoundAround
 a_simple_tiling_is_sound_around t tiling simple many = record {
   sound = (a_simple_tiling_has_a_sound_layout t tiling simple many).0;

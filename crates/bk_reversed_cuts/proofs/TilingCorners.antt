@@ -6,7 +6,8 @@ use Rattle.bk_tiling.specs.Tiling.{IsOneOf, IsTiling, Tiling}
 use Rattle.bk_tiling.specs.declared.Square.{Square}
 use Rattle.bk_net.specs.Diagram.{node_below, node_levels}
 use Rattle.bk_layout.proofs.Counting.{got_same}
-use Rattle.bk_tiling_layout.proofs.Ascending.{AreNext, AreNextOf, has_place, next_from}
+use Rattle.bk_layout.specs.Layout.{AreNeighbours}
+use Rattle.bk_tiling_layout.proofs.Ascending.{AreNext, has_place, next_from}
 use Rattle.bk_tiling_layout.proofs.Edges.{MeetsLeft, MeetsRight, bottom_within, left_of, meet, right_of, right_within, side}
 use Rattle.bk_tiling_layout.proofs.LineEnds.{Ends, end_is, none_before, not_passed, number_both, number_column, number_same}
 use Rattle.bk_tiling_layout.proofs.NodeLaws.{EndsAt, along_left, along_right, deep_if_ended, ends_at, one_ended, one_hung}
@@ -195,12 +196,13 @@ module _ (t : Tiling) (tiling : IsTiling t) where
   after v x y f h k (inr a) (inl b) = absurd (apart_right v y x k h b.0 a.0 (b.1 ∙ sym a.1))
   after v x y f h k (inr a) (inr b) = hung_left v x y h k a.0 b.0 (a.1 ∙ sym b.1)
 
+  -- the lines around each node of a tiling's layout are apart
   pub corners : AreCornersApart (layout_of t)
   corners = record { before = before; after = after }
 
   -- ---- squares that end side by side
 
-  module _ (v x y : ℕ) (next : AreNextOf ((layout_of t).ending v) x y) where
+  module _ (v x y : ℕ) (next : AreNeighbours ((layout_of t).ending v) x y) where
     is_next : AreNext (key t tiling) (ended t tiling v) (length t.squares) (ended_one t tiling v) x y
     is_next = next_from (key t tiling) (ended t tiling v) (length t.squares) (ended_one t tiling v) x y next
 
@@ -284,5 +286,6 @@ module _ (t : Tiling) (tiling : IsTiling t) where
     met = number_same t ((square_of t x).x + (square_of t x).s) (square_of t x).y (square_of t y).y (end_of_x ∙ sym end_of_y)
         ∙ ap (λ (c : ℕ). line_number t c (square_of t y).y) edge
 
+  -- squares that end side by side on a node have one line between them
   pub ends_meet : DoEndsMeet (layout_of t)
   ends_meet v x y next = met v x y next

@@ -72,6 +72,7 @@ module _ (l m : Layout) (same : IsUpToReversals l m) where
     nodes = either (λ (h : (u ≡ 0) × (v ≡ l.bottom)). (h.0, h.1 ∙ sym same.bottom)) (λ (h : (u ≡ l.bottom) × (v ≡ 0)). (h.0 ∙ sym same.bottom, h.1)) o.nodes;
   }
 
+  -- a layout that is one without parts up to reversed squares has no parts
   pub parts_over : HasNoParts l → HasNoParts m
   parts_over parts f g u v d e a b c k = either (between_over f g u v) (outermost_over f g u v)
       (parts f g u v d e (touches_back f u a) (touches_back f v b) (touches_back g u c) (touches_back g v k))
@@ -102,6 +103,7 @@ module _ (l m : Layout) (same : IsUpToReversals l m) where
             ∙ h.1,
       )) (λ (h : (m.above x ≡ v) × (m.left x ≡ f)). (sym (same.above_kept x low e) ∙ h.0, sym (same.left_kept x low e) ∙ h.1)) b
 
+  -- the lines around its nodes are apart where they are in the other
   pub corners_over : AreCornersApart l → AreCornersApart m
   corners_over c = record {
     before = λ v x y f h k a b. c.before v x y f (low_l x h) (low_l y k) (before_back v x f (low_l x h) a) (before_back v y f (low_l y k) b);
@@ -129,6 +131,7 @@ module _ (l m : Layout) (same : IsUpToReversals l m) where
     third a b x y z (inr e) (inl f) (inl h) n = inr (h ∙ sym f)
     third a b x y z (inr e) (inl f) (inr h) n = inl (h ∙ sym e)
 
+    -- and it has no pairs where the other has none
     pub pairs_over : HasNoPairs l → HasNoPairs m
     pairs_over pairs v one_end one_hang = from (get_some (m.ending v) 0 (omega (arith, one_end))) (get_some (m.hanging v) 0 (omega (arith, one_hang)))
       where

@@ -80,6 +80,7 @@ module _ (t : Tiling) (tiling : IsTiling t) where
       (top.hang_from q q.x h (omega (arith, under_from v q e, (top.top refl).0, level)) (omega (arith, (top.top refl).1))
       (omega (arith, (top.top refl).2, right_within t tiling q h, side t tiling q h)) (omega arith) (omega (arith, side t tiling q h))))
 
+  -- the first move of the tiling's word hangs as many squares as hang from the top in its layout
   pub first_count : (word : Word) (n : Move) → IsWordOf t word → slice_get word 0 ≡ Some n → length ((layout_of t).hanging 0) ≡ n.count
   first_count [] n follows e = absurd (cc)
   first_count (m ∷ word) n (v, found, low, is, rest) e =

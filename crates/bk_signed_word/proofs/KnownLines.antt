@@ -15,6 +15,7 @@ use Rattle.bk_free_cuts.specs.LineNumbers.{left_end, new_sides, right_end, sides
 abbrev pub AreKnown : ℕ → ℕ × ℕ → Type 0
 AreKnown k p = (p.0 < k + 2) × (p.1 < k + 3)
 
+-- each pair of numbers names lines that are known when its square hangs
 abbrev pub AllKnown : List (ℕ × ℕ) → Type 0
 AllKnown sides = (k : ℕ) (p : ℕ × ℕ) → slice_get sides k ≡ Some p → AreKnown k p
 

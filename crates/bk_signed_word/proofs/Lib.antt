@@ -5,3 +5,4 @@ pub mod FirstMoves
 pub mod KnownLines
 pub mod SignedWords
 pub mod SignedFlows
+pub mod SignedWordExamples

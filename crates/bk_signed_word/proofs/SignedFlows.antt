@@ -72,13 +72,16 @@ module _ (t : Tiling) (tiling : IsTiling t) (w : Word) (s : IsSignedWordOf t w) 
   net_of : IsRenumbering (net_of_word w) (reversed_net s.turned (net_of_layout (layout_of t))) s.node s.square
   net_of = subst (λ (n : Net). IsRenumbering (net_of_word w) (reversed_net s.turned n) s.node s.square) (sym (net_is t tiling)) s.net
 
+  -- the word's net has a wire for each square of the tiling
   pub as_many : length (net_of_word w).wires ≡ length t.squares
   as_many = net_of.wires ∙ reversed_length s.turned 0 (map pair_at (numbers_from 0 (length t.squares)))
       ∙ numbers_length {A = ℕ × ℕ} pair_at 0 (length t.squares)
 
+  -- the square that stands for a wire is one of the tiling
   pub square_below : (k : ℕ) → k < length t.squares → s.square k < length t.squares
   square_below k h = omega (arith, as_many, net_of.wire_apart.below k (omega (arith, as_many)))
 
+  -- and no other wire has it
   pub square_apart : (j k : ℕ) → j < length t.squares → k < length t.squares → s.square j ≡ s.square k → j ≡ k
   square_apart j k h l e = net_of.wire_apart.apart j k (omega (arith, as_many)) (omega (arith, as_many)) e
 
@@ -106,9 +109,11 @@ module _ (t : Tiling) (tiling : IsTiling t) (w : Word) (s : IsSignedWordOf t w) 
   word_net : IsNet (net_of_word w)
   word_net = (a_word_net_has_no_loose w s.complete).0
 
+  -- both ends of a wire are nodes of the word's net
   pub ends_below : (k : ℕ) → k < length t.squares → ((wire_at k).0 < (net_of_word w).nodes) × ((wire_at k).1 < (net_of_word w).nodes)
   ends_below k h = let e = word_net.ends k (0, 0) (omega (arith, as_many)) in (e.0, e.1)
 
+  -- and so are the ends between which its square lies
   pub own_ends_below : (k : ℕ) → k < length t.squares → (from_at k < (net_of_word w).nodes) × (to_at k < (net_of_word w).nodes)
   own_ends_below k h = cases (turned_at k) (ends_below k h)
     where
@@ -190,6 +195,7 @@ module _ (t : Tiling) (tiling : IsTiling t) (w : Word) (s : IsSignedWordOf t w) 
       ≡ outflow (map pair_at (numbers_from 0 (length t.squares))) (map (λ q. pos q.s) t.squares) (s.node v)
   outflow_is v h = flows v h ∙ ap (λ (cs : List ℤ). outflow (map pair_at (numbers_from 0 (length t.squares))) cs (s.node v)) (sym sides_are)
 
+  -- the potential of a node is the height that is left under its level
   pub potential_is : (v : ℕ) → v < (net_of_word w).nodes → potential (signed_flow t w s) v ≡ pos t.height -ℤ pos (slice_index_or (node_levels t) (s.node v) 0)
   potential_is v h = numbers_index {A = ℤ} (λ v. pos t.height -ℤ pos (slice_index_or (node_levels t) (s.node v) 0)) 0 (net_of_word w).nodes
       v (pos 0) h ∙ ap (λ (v : ℕ). pos t.height -ℤ pos (slice_index_or (node_levels t) (s.node v) 0)) (omega arith)
@@ -255,17 +261,21 @@ module _ (t : Tiling) (tiling : IsTiling t) (w : Word) (s : IsSignedWordOf t w) 
   top_level : slice_index_or (node_levels t) 0 0 ≡ 0
   top_level = let first = node_at t tiling 0 (omega arith) in first.is_level ∙ (first.top refl).0
 
+  -- at the first node it is the whole height
   pub top_potential : potential (signed_flow t w s) 0 ≡ pos t.height
   top_potential = potential_is 0 (omega (arith, word_net.some))
       ∙ ap (λ (v : ℕ). pos t.height -ℤ pos (slice_index_or (node_levels t) v 0)) net_of.first ∙ omega (arith, ints, top_level)
 
+  -- a square's level is the drop from there to the node from which it hangs
   pub hangs_by_flow : (k : ℕ) → k < length t.squares
       → pos (square_of t (s.square k)).y ≡ potential (signed_flow t w s) 0 -ℤ potential (signed_flow t w s) (upper_end w (turned_at k) k)
   hangs_by_flow k h = omega (arith, ints, top_potential, level_from k h)
 
+-- the same as the statement says it
 pub signed_squares_hang_by_flow : SignedSquaresHangByFlow
 signed_squares_hang_by_flow t w tiling s k h = hangs_by_flow t tiling w s k h
 
+-- the signed sides, with the width as the total, are the one flow of the word's net
 pub signed_sides_are_the_one_flow : SignedSidesAreTheOneFlow
 signed_sides_are_the_one_flow t w tiling s =
     a_word_has_one_flow w (signed_flow t w s) s.complete (flow t tiling w s) (omega (arith, ints, wide_enough t tiling))

@@ -10,9 +10,11 @@ use Rattle.bk_signed_word.proofs.Totals.{total_from}
 abbrev pub with_sign : Bool → ℕ → ℤ
 with_sign turned s = cond turned (neg_ℤ (pos s)) (pos s)
 
+-- the end at which a current begins: of a turned wire it is the second
 abbrev pub start_of : Bool → ℕ × ℕ → ℕ
 start_of turned w = cond turned w.1 w.0
 
+-- and the end at which it arrives
 abbrev pub finish_of : Bool → ℕ × ℕ → ℕ
 finish_of turned w = cond turned w.0 w.1
 
@@ -36,6 +38,7 @@ one_wire : (turned : Bool) (w : ℕ × ℕ) (v s m n : ℕ) (r : ℤ) → r ≡ 
 one_wire true w v s m n r e = one_turned (w.0 == v) (w.1 == v) s m n r e
 one_wire false w v s m n r e = one_kept (w.0 == v) (w.1 == v) s m n r e
 
+-- what flows out of a node is the sum of all that begins there less the sum of all that arrives
 pub signed_total : (ws : List (ℕ × ℕ)) (turned : ℕ → Bool) (s : ℕ → ℕ) (wire : ℕ → ℕ × ℕ) (b v : ℕ)
     → ((k : ℕ) (w : ℕ × ℕ) → slice_get ws k ≡ Some w → wire (b + k) ≡ w)
     → outflow ws (map (λ k. with_sign (turned k) (s k)) (numbers_from b (length ws))) v

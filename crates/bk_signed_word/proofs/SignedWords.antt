@@ -125,9 +125,11 @@ module _ (t : Tiling) (tiling : IsTiling t) (m : Layout) (same : IsUpToReversals
       lines = along;
     }
 
+-- each word of a layout that is the tiling's up to reversed squares is a signed word of it
 pub a_word_up_to_reversals_is_signed : AWordUpToReversalsIsSigned
 a_word_up_to_reversals_is_signed t m w tiling fits same word = (signed t tiling m same w fits word, refl)
 
+-- each tiling has a signed word in which no square is reversed
 pub a_tiling_has_a_positive_word : ATilingHasAPositiveWord
 a_tiling_has_a_positive_word t tiling = from (a_layout_has_a_free_word (layout_of t) fits)
   where

@@ -8,6 +8,7 @@ abbrev pub total_from : (ℕ → ℕ) → ℕ → ℕ → ℕ
 total_from f b zero = 0
 total_from f b (suc n) = f b + total_from f (b + 1) n
 
+-- sums of equal values are equal
 pub total_same : (f g : ℕ → ℕ) (b n : ℕ) → ((k : ℕ) → b ≤ k → k < b + n → f k ≡ g k) → total_from f b n ≡ total_from g b n
 total_same f g b zero each = refl
 total_same f g b (suc n) each = omega (arith, each b (omega arith) (omega arith), total_same f g (b + 1) n (λ k lo hi. each k (omega arith) (omega arith)))
@@ -121,6 +122,7 @@ module _ (n : ℕ) (f : ℕ → ℕ) (below : (k : ℕ) → k < n → f k < n) (
   once j h = all_one (λ j. times_of f j 0 n) 0 n (λ j. once_at_most f j 0 n (λ i k a b. apart i k (omega arith) (omega arith))) all_times j
       (omega arith) (omega arith)
 
+  -- a sum along a renumbering of the first n numbers is the sum itself
   pub renumbered : (h : ℕ → ℕ) → total_from (λ k. h (f k)) 0 n ≡ total_from h 0 n
   renumbered h = sym (total_same (λ k. total_from (λ j. cond (f k == j) (h j) 0) 0 n) (λ k. h (f k)) 0 n
       (λ k lo hi. pick h (f k) 0 n (omega arith) (omega (arith, below k (omega arith)))))

@@ -1,2 +1,3 @@
+-- What the crate says.
 pub mod SignedWord
 pub mod SignedFlow

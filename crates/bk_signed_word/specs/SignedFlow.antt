@@ -1,5 +1,6 @@
 -- The sides of a tiling, in the order of a signed word's squares and negative where a square is reversed, are the one flow of the
 -- word's net, and its potentials give the squares' levels. Statements alone; they are proved apart.
+-- Example (SignedWordExamples): of the squares 2, 1, 1 with the first reversed the signed sides are -2, 1, 1.
 use Rattle.std.specs.Prelude.{Bool, cond, map, neg_ℤ, pos, slice_index_or, ℕ, ℤ, ◌-ℤ◌, ◌<◌, ◌≡◌}
 use Rattle.bk_tiling.specs.Tiling.{IsTiling, Tiling, order}
 use Rattle.bk_net.specs.Diagram.{node_levels}

@@ -1,5 +1,6 @@
 -- Words of a tiling in which squares may be reversed: turned top to bottom and left to right, which changes the sign of a square's
 -- current and nothing else in Kirchhoff's laws. Statements alone; they are proved apart.
+-- Example (SignedWordExamples): in the rectangle 3x2 of the squares 2, 1, 1 with the first reversed, its edges are taken as 2 and 0.
 use Rattle.std.specs.Prelude.{Bool, List, Some, [], cond, false, slice_get, suc, zero, ℕ, ◌+◌, ◌∷◌, ◌≡◌}
 use Rattle.bk_tiling.specs.Tiling.{IsTiling, Tiling, order}
 use Rattle.bk_net.specs.Diagram.{smith_diagram}

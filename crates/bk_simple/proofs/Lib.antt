@@ -3,7 +3,9 @@ pub mod SimpleTest
 pub mod SimpleExamples
 pub mod LargeExamples
 pub mod Counting
+pub mod UncutParts
 pub mod Parts
+pub mod PartTrials
 pub mod Reaching
 pub mod Repeats
 pub mod OneFirst

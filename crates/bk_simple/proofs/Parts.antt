@@ -1,82 +1,28 @@
--- A rectangle is a part of a tiling exactly where no square lies across its border, and at least two squares and not
--- all lie in it.
-use Rattle.std.specs.List.{AllByRecursion, position_or_len}
-use Rattle.std.specs.Prelude.{Bool, IsTrue, List, [], cond, count_by, false, filter, get_or, length, max, refl, true, ℕ, ◌&&◌, ◌+◌, ◌-◌, ◌<◌, ◌==◌}
-use Rattle.std.specs.Prelude.{◌||◌, ◌∷◌, ◌≡◌, ◌≢◌, ◌≤◌, ◌⊎◌}
-use Rattle.std.proofs.Common.{ap, arith, inl, inr, subst, sym, ◌∙◌}
-use Rattle.std.proofs.lemmas.Bool.{and_from, and_parts, both_ways, cases_Bool, cases_eq, cases_lt, eq-eqb, eqb-true, false_from_ne_true, le-leb}
-use Rattle.std.proofs.lemmas.Bool.{leb-false, leb-true, or_cases, or_left, or_parts, or_right, true_from_ne_false}
-use Rattle.std.proofs.lemmas.List.Elements.{All-from_recursion, recursion_from_All}
-use Rattle.std.proofs.lemmas.List.Sums.{AllPass-from_list_all, fails_before_first, length-filter, list_all-from_AllPass, passes_at_first}
-use Rattle.std.proofs.lemmas.List.Sums.{position_or_len_is, sum_by-cons}
-use Rattle.bk_laws.proofs.Counts.{count_two}
+-- The squares at the corners of a part: they determine the rectangle, no square lies across its border, and the one at the
+-- bottom right stands behind the one at the top left.
+use Rattle.std.specs.List.{position_or_len}
+use Rattle.std.specs.Prelude.{Bool, IsTrue, List, count_by, false, filter, get_or, length, max, refl, true, ℕ, ◌&&◌, ◌+◌, ◌-◌, ◌<◌, ◌==◌}
+use Rattle.std.specs.Prelude.{◌||◌, ◌≡◌, ◌≤◌, ◌⊎◌}
+use Rattle.std.proofs.Common.{ap, arith, inl, inr, sym, ◌∙◌}
+use Rattle.std.proofs.lemmas.Bool.{and_from, and_parts, both_ways, cases_Bool, cases_eq, cases_lt, eq-eqb, eqb-true, false_from_ne_true}
+use Rattle.std.proofs.lemmas.Bool.{or_left, or_right, true_from_ne_false}
+use Rattle.std.proofs.lemmas.List.Elements.{All-from_recursion}
+use Rattle.std.proofs.lemmas.List.Sums.{fails_before_first, length-filter, list_all-from_AllPass, passes_at_first}
+use Rattle.std.proofs.lemmas.List.Sums.{position_or_len_is}
 use Rattle.std.proofs.lemmas.Bool.Decides.{nat_tests}
 use Rattle.bk_tiling.proofs.Cells.{IsOver, covers_from, over_from}
 use Rattle.bk_tiling.proofs.Places.{later_place}
 use Rattle.bk_tiling.specs.CodeOrder.{comes_before}
 use Rattle.bk_tiling.proofs.TilingLaws.{cell_once}
-use Rattle.bk_tiling.specs.Tiling.{IsTiling, IsWithin, Rectangle, Tiling, covers, order, whole}
+use Rattle.bk_tiling.specs.Tiling.{IsTiling, IsWithin, Rectangle, Tiling, covers, whole}
 use Rattle.bk_tiling.specs.declared.Square.{Square}
 use Rattle.bk_simple.proofs.Repeats.{IsTwice, twice_from_count}
 use Rattle.bk_simple.proofs.SimpleLaws.{count_filter-lt}
 use Rattle.bk_simple.proofs.SimpleTest.{all_selected, first_corner, has_cell, last_corner, same_selection, selected_within}
 use Rattle.bk_simple.specs.Border.{IsUncut, is_inside, is_outside}
-use Rattle.bk_simple.specs.Simple.{IsFirstPart, IsPart, IsSimple, bottom_right, top_left}
-use Rattle.bk_simple.specs.Corners.{IsBetween, IsFirstPartFrom, IsPartAt}
-
--- what is_outside and is_inside say
-outside_means : (r : Rectangle) (q : Square) → is_outside r q ≡ true
-    → ((q.x + q.s ≤ r.x) ⊎ (r.x + r.width ≤ q.x)) ⊎ ((q.y + q.s ≤ r.y) ⊎ (r.y + r.height ≤ q.y))
-outside_means r q e = elim (or_cases _ _ e) [
-  | inl across ↦ elim (or_cases _ _ across) [ inl h ↦ inl (inl (leb-true _ _ h)) | inr h ↦ inl (inr (leb-true _ _ h)) ]
-  | inr along ↦ elim (or_cases _ _ along) [ inl h ↦ inr (inl (leb-true _ _ h)) | inr h ↦ inr (inr (leb-true _ _ h)) ]
-]
-
-inside_means : (r : Rectangle) (q : Square) → is_inside r q ≡ true → IsWithin r q
-inside_means r q h =
-    let parts = and_parts _ _ h in
-    let across = and_parts _ _ parts.0 in
-    let along = and_parts _ _ parts.1 in
-    record { left = leb-true _ _ across.0; right = leb-true _ _ across.1; top = leb-true _ _ along.0; bottom = leb-true _ _ along.1 }
-
-inside_from : (r : Rectangle) (q : Square) → IsWithin r q → is_inside r q ≡ true
-inside_from r q h = and_from _ _ (and_from _ _ (le-leb _ _ h.left) (le-leb _ _ h.right)) (and_from _ _ (le-leb _ _ h.top) (le-leb _ _ h.bottom))
-
--- a square over a cell of the rectangle is not outside it
-over_cell : (r : Rectangle) (q : Square) (i j : ℕ) → covers i j q ≡ true → r.x ≤ i → i < r.x + r.width → r.y ≤ j → j < r.y + r.height
-    → is_outside r q ≡ true → ⊥
-over_cell r q i j over left right top bottom e = cases (over_from i j q over) (outside_means r q e)
-  where
-    cases : IsOver i j q → ((q.x + q.s ≤ r.x) ⊎ (r.x + r.width ≤ q.x)) ⊎ ((q.y + q.s ≤ r.y) ⊎ (r.y + r.height ≤ q.y)) → ⊥
-    cases o (inl (inl h)) = omega (arith, o.right)
-    cases o (inl (inr h)) = omega (arith, o.left)
-    cases o (inr (inl h)) = omega (arith, o.bottom)
-    cases o (inr (inr h)) = omega (arith, o.top)
-
--- where all that are counted are selected, the selection counts as many
-count_filter-same : {X : Type 0} (p c : X → Bool) (xs : List X) → AllByRecursion (λ x. c x ≡ true → p x ≡ true) xs → count_by c (filter p xs) ≡ count_by c xs
-count_filter-same p c [] all = refl
-count_filter-same p c (x ∷ xs) all = step (cases_Bool (p x)) (cases_Bool (c x)) (count_filter-same p c xs all.1)
-  where
-    step : (p x ≡ true) ⊎ (p x ≡ false) → (c x ≡ true) ⊎ (c x ≡ false) → count_by c (filter p xs) ≡ count_by c xs
-        → count_by c (filter p (x ∷ xs)) ≡ count_by c (x ∷ xs)
-    step (inl yes_p) counted ih =
-        let e : count_by c (filter p (x ∷ xs)) ≡ count_by c (x ∷ filter p xs) = ap (λ b. count_by c (cond b (x ∷ filter p xs) (filter p xs))) yes_p in
-        omega (arith, e, ih, sum_by-cons (λ y. cond (c y) 1 0) x xs, sum_by-cons (λ y. cond (c y) 1 0) x (filter p xs))
-    step (inr no_p) (inl counted) ih = absurd (both_ways (p x) no_p (all.0 counted))
-    step (inr no_p) (inr uncounted) ih =
-        let e : count_by c (filter p (x ∷ xs)) ≡ count_by c (filter p xs) = ap (λ b. count_by c (cond b (x ∷ filter p xs) (filter p xs))) no_p in
-        let zero_here : ◌≡◌ {A = ℕ} (cond (c x) 1 0) 0 = ap (λ b. cond b 1 0) uncounted in
-        omega (arith, e, ih, zero_here, sum_by-cons (λ y. cond (c y) 1 0) x xs)
-
--- a fact of all elements is one of the selected
-all_filter : {X : Type 0} (P : X → Type 0) (p : X → Bool) (xs : List X) → AllByRecursion (λ x. p x ≡ true → P x) xs → AllByRecursion P (filter p xs)
-all_filter P p [] all = tt
-all_filter P p (x ∷ xs) all = step (cases_Bool (p x)) (all_filter P p xs all.1)
-  where
-    step : (p x ≡ true) ⊎ (p x ≡ false) → AllByRecursion P (filter p xs) → AllByRecursion P (cond (p x) (x ∷ filter p xs) (filter p xs))
-    step (inl yes_p) rest = subst (λ b. AllByRecursion P (cond b (x ∷ filter p xs) (filter p xs))) (sym yes_p) (all.0 yes_p, rest)
-    step (inr no_p) rest = subst (λ b. AllByRecursion P (cond b (x ∷ filter p xs) (filter p xs))) (sym no_p) rest
+use Rattle.bk_simple.specs.Simple.{IsPart, bottom_right, top_left}
+use Rattle.bk_simple.specs.Corners.{IsBetween}
+use Rattle.bk_simple.proofs.UncutParts.{Meets, inside_from, inside_means, meets_from, one_over, side_at, within_at}
 
 -- the first place that passes is no later than one that does
 first_below : {X : Type 0} (p : X → Bool) (xs : List X) (k : ℕ) (d : X) → k < length xs → p (get_or xs k d) ≡ true → position_or_len p xs < length xs
@@ -98,20 +44,6 @@ both_equal a b c d e = let parts = and_parts (a == b) (c == d) e in (eqb-true a 
 equal_both : (a b c d : ℕ) → a ≡ b → c ≡ d → (a == b) && (c == d) ≡ true
 equal_both a b c d e f = and_from (a == b) (c == d) (eq-eqb a b e) (eq-eqb c d f)
 
--- a square and a rectangle that are not outside each other share a cell
-pub record Meets (r : Rectangle) (q : Square) : Type 0 where
-  pub left : r.x < q.x + q.s
-  pub right : q.x < r.x + r.width
-  pub top : r.y < q.y + q.s
-  pub bottom : q.y < r.y + r.height
-
-meets_from : (r : Rectangle) (q : Square) → is_outside r q ≡ false → Meets r q
-meets_from r q e =
-    let parts = or_parts _ _ e in
-    let across = or_parts _ _ parts.0 in
-    let along = or_parts _ _ parts.1 in
-    record { left = leb-false _ _ across.0; right = leb-false _ _ across.1; top = leb-false _ _ along.0; bottom = leb-false _ _ along.1 }
-
 -- two corners determine the rectangle
 pub between-one : (p q : Square) (r s : Rectangle) → IsBetween p q r → IsBetween p q s → r ≡ s
 between-one p q r s a b = λ i. record { x = x i; y = y i; width = width i; height = height i }
@@ -129,43 +61,6 @@ between-one p q r s a b = λ i. record { x = x i; y = y i; width = width i; heig
     height = omega (arith, a.top, b.top, a.bottom, b.bottom)
 
 module _ (t : Tiling) (tiling : IsTiling t) where
-  pub within_at : (k : ℕ) (d : Square) → k < length t.squares → IsWithin (whole t) (get_or t.squares k d)
-  within_at k d few = All-from_recursion (IsWithin (whole t)) t.squares tiling.tiles.within k d few
-
-  side_at : (k : ℕ) (d : Square) → k < length t.squares → 0 < (get_or t.squares k d).s
-  side_at k d few = All-from_recursion (λ q. 0 < q.s) t.squares tiling.tiles.sides k d few
-
-  -- a square over a cell stands at one place
-  one_over : (i j k l : ℕ) (d : Square) → i < t.width → j < t.height → k < l → l < length t.squares
-      → covers i j (get_or t.squares k d) ≡ true → covers i j (get_or t.squares l d) ≡ true → ⊥
-  one_over i j k l d wide high before few over also =
-      omega (arith, count_two (covers i j) t.squares k l d before few over also, cell_once t tiling i j wide high)
-
-  -- a rectangle whose border cuts no square is a part where it has enough squares, and not all
-  pub part_from_count : (r : Rectangle) → r.x + r.width ≤ t.width → r.y + r.height ≤ t.height → IsUncut r t.squares
-      → 2 ≤ count_by (is_inside r) t.squares → count_by (is_inside r) t.squares < order t → IsPart t r
-  part_from_count r right bottom uncut several not_all = record {
-    pick = is_inside r;
-    several = omega (arith, several, length-filter (is_inside r) t.squares);
-    not_all = omega (arith, not_all, length-filter (is_inside r) t.squares);
-    tiled = record {
-      some = omega (arith, several, length-filter (is_inside r) t.squares);
-      sides = all_filter (λ q. 0 < q.s) (is_inside r) t.squares (recursion_from_All _ t.squares (λ k d few picked. side_at k d few));
-      within = all_filter (IsWithin r) (is_inside r) t.squares (recursion_from_All _ t.squares (λ k d few picked. inside_means r _ picked));
-      once = λ i j left wide top high. count_filter-same (is_inside r) (covers i j) t.squares
-          (recursion_from_All _ t.squares (λ k d few over. picked i j left wide top high k d few over))
-          ∙ cell_once t tiling i j (omega arith) (omega arith);
-    };
-  }
-    where
-      picked : (i j : ℕ) → r.x ≤ i → i < r.x + r.width → r.y ≤ j → j < r.y + r.height → (k : ℕ) (d : Square) → k < length t.squares
-          → covers i j (get_or t.squares k d) ≡ true → is_inside r (get_or t.squares k d) ≡ true
-      picked i j left wide top high k d few over =
-          elim (or_cases _ _ (AllPass-from_list_all (λ q. is_inside r q || is_outside r q) t.squares uncut k d few)) [
-            | inl h ↦ h
-            | inr h ↦ absurd (over_cell r (get_or t.squares k d) i j over left wide top high h)
-          ]
-
   -- the first square at a corner is the one of the pair
   pub top_left_at : (i : ℕ) (d q : Square) (r : Rectangle) → i < length t.squares → IsBetween (get_or t.squares i d) q r → top_left t r ≡ i
   top_left_at i d q r few h =
@@ -173,16 +68,16 @@ module _ (t : Tiling) (tiling : IsTiling t) where
       (λ _. equal_both (get_or t.squares i d).x r.x (get_or t.squares i d).y r.y (sym h.left) (sym h.top))
     where
       here : IsWithin (whole t) (get_or t.squares i d)
-      here = within_at i d few
+      here = within_at t tiling i d few
 
       also : 0 < (get_or t.squares i d).s
-      also = side_at i d few
+      also = side_at t tiling i d few
 
       earlier : (k : ℕ) → k < i → ((get_or t.squares k d).x == r.x) && ((get_or t.squares k d).y == r.y) ≡ true → ⊥
       earlier k below e =
           let same = both_equal (get_or t.squares k d).x r.x (get_or t.squares k d).y r.y e in
-          one_over r.x r.y k i d (omega (arith, here.right, h.left, also)) (omega (arith, here.bottom, h.top, also)) below few
-          (covers_first (get_or t.squares k d) r.x r.y (side_at k d (omega arith)) (sym same.0) (sym same.1))
+          one_over t tiling r.x r.y k i d (omega (arith, here.right, h.left, also)) (omega (arith, here.bottom, h.top, also)) below few
+          (covers_first (get_or t.squares k d) r.x r.y (side_at t tiling k d (omega arith)) (sym same.0) (sym same.1))
           (covers_first (get_or t.squares i d) r.x r.y also h.left h.top)
 
   pub bottom_right_at : (j : ℕ) (d p : Square) (r : Rectangle) → j < length t.squares → IsBetween p (get_or t.squares j d) r → bottom_right t r ≡ j
@@ -193,10 +88,10 @@ module _ (t : Tiling) (tiling : IsTiling t) where
       (r.y + r.height) (sym h.right) (sym h.bottom))
     where
       here : IsWithin (whole t) (get_or t.squares j d)
-      here = within_at j d few
+      here = within_at t tiling j d few
 
       also : 0 < (get_or t.squares j d).s
-      also = side_at j d few
+      also = side_at t tiling j d few
 
       earlier : (k : ℕ) → k < j
           → ((get_or t.squares k d).x + (get_or t.squares k d).s == r.x + r.width) && ((get_or t.squares k d).y + (get_or t.squares k
@@ -205,9 +100,9 @@ module _ (t : Tiling) (tiling : IsTiling t) where
           let same =
           both_equal ((get_or t.squares k d).x + (get_or t.squares k d).s) (r.x + r.width) ((get_or t.squares k d).y + (get_or t.squares k d).s)
           (r.y + r.height) e in
-          one_over (r.x + r.width - 1) (r.y + r.height - 1) k j d (omega (arith, here.right, h.right, also))
+          one_over t tiling (r.x + r.width - 1) (r.y + r.height - 1) k j d (omega (arith, here.right, h.right, also))
           (omega (arith, here.bottom, h.bottom, also)) below few
-          (covers_last (get_or t.squares k d) (r.x + r.width) (r.y + r.height) (side_at k d (omega arith)) (sym same.0) (sym same.1))
+          (covers_last (get_or t.squares k d) (r.x + r.width) (r.y + r.height) (side_at t tiling k d (omega arith)) (sym same.0) (sym same.1))
           (covers_last (get_or t.squares j d) (r.x + r.width) (r.y + r.height) also h.right h.bottom)
 
 module _ (t : Tiling) (r : Rectangle) (tiling : IsTiling t) (part : IsPart t r) where
@@ -261,7 +156,7 @@ module _ (t : Tiling) (r : Rectangle) (tiling : IsTiling t) (part : IsPart t r) 
   count_of_part = sym (length-filter (is_inside r) t.squares) ∙ sym (ap length (same_selection t r tiling part))
 
   -- a square that shares a cell with a part lies in it
-  across : (k : ℕ) (d : Square) → k < length t.squares → is_inside r (get_or t.squares k d) ≡ false → Meets r (get_or t.squares k d) → ⊥
+  pub across : (k : ℕ) (d : Square) → k < length t.squares → is_inside r (get_or t.squares k d) ≡ false → Meets r (get_or t.squares k d) → ⊥
   across k d few cut m =
       let q : Square = get_or t.squares k d in
       let w : IsWithin (whole t) q = within_at t tiling k d few in
@@ -376,104 +271,3 @@ module _ (t : Tiling) (r : Rectangle) (tiling : IsTiling t) (part : IsPart t r) 
           one_of (inl first) = alone twice.second twice.below twice.other same (λ e. omega (arith, twice.apart, first, e))
           one_of (inr other) = alone twice.first (omega (arith, twice.apart, twice.below)) twice.one same other
       cases (inr other) = let low : top_left t r ≤ bottom_right t r = corners_in_order in omega (arith, low, other)
-
--- what the trial of one pair of squares shows
-module _ (t : Tiling) (tiling : IsTiling t) (i j : ℕ) (d : Square) where
-  corners_at : (r : Rectangle) → IsPartAt t i j r → IsBetween (get_or t.squares i d) (get_or t.squares j d) r
-  corners_at r p =
-      subst (λ k. IsBetween (get_or t.squares k d) (get_or t.squares j d) r) p.first
-      (subst (λ k. IsBetween (get_or t.squares (top_left t r) d) (get_or t.squares k d) r) p.last (between_corners t r tiling p.part d))
-
-  pub none_between : ((r : Rectangle) → ¬ (IsBetween (get_or t.squares i d) (get_or t.squares j d) r)) → (r : Rectangle) → ¬ (IsPartAt t i j r)
-  none_between nowhere r p = nowhere r (corners_at r p)
-
-  module _ (tried : Rectangle) (h : IsBetween (get_or t.squares i d) (get_or t.squares j d) tried) where
-    tried_part : (r : Rectangle) → IsPartAt t i j r → IsPart t tried
-    tried_part r p = subst (IsPart t) (between-one (get_or t.squares i d) (get_or t.squares j d) r tried (corners_at r p) h) p.part
-
-    -- a part holds the squares at its corners
-    pub none_outside_first : i < length t.squares → is_inside tried (get_or t.squares i d) ≡ false → (r : Rectangle) → ¬ (IsPartAt t i j r)
-    none_outside_first few outside r p =
-        let side = side_at t tiling i d few in
-        across t tried tiling (tried_part r p) i d few outside (record {
-          left = omega (arith, h.left, side);
-          right = omega (arith, h.left, h.wide);
-          top = omega (arith, h.top, side);
-          bottom = omega (arith, h.top, h.high);
-        })
-
-    pub none_outside_last : j < length t.squares → is_inside tried (get_or t.squares j d) ≡ false → (r : Rectangle) → ¬ (IsPartAt t i j r)
-    none_outside_last few outside r p =
-        let side = side_at t tiling j d few in
-        across t tried tiling (tried_part r p) j d few outside (record {
-          left = omega (arith, h.right, h.wide);
-          right = omega (arith, h.right, side);
-          top = omega (arith, h.bottom, h.high);
-          bottom = omega (arith, h.bottom, side);
-        })
-
-    pub none_cut : ¬ (IsUncut tried t.squares) → (r : Rectangle) → ¬ (IsPartAt t i j r)
-    none_cut cut r p = cut (uncut_part t tried tiling (tried_part r p))
-
-    pub none_single : count_by (is_inside tried) t.squares < 2 → (r : Rectangle) → ¬ (IsPartAt t i j r)
-    none_single few r p = let part = tried_part r p in omega (arith, part.several, count_of_part t tried tiling part)
-
-    pub none_whole : order t ≤ count_by (is_inside tried) t.squares → (r : Rectangle) → ¬ (IsPartAt t i j r)
-    none_whole all r p = let part = tried_part r p in omega (arith, part.not_all, count_of_part t tried tiling part)
-
-    pub part_at_from : i < length t.squares → j < length t.squares → IsUncut tried t.squares
-        → 2 ≤ count_by (is_inside tried) t.squares → count_by (is_inside tried) t.squares < order t → IsPartAt t i j tried
-    part_at_from first last uncut several not_all =
-        let p = within_at t tiling i d first in
-        let q = within_at t tiling j d last in
-        record {
-          part = part_from_count t tiling tried (omega (arith, h.right, q.right)) (omega (arith, h.bottom, q.bottom)) uncut several not_all;
-          first = top_left_at t tiling i d (get_or t.squares j d) tried first h;
-          last = bottom_right_at t tiling j d (get_or t.squares i d) tried last h;
-        }
-
--- from one bottom right square to the next, and from one top left square to the next
-module _ (t : Tiling) (i : ℕ) where
-  abbrev pub NoneBelow : ℕ → Type 0
-  NoneBelow j = (r : Rectangle) → IsPart t r → top_left t r ≡ i → j ≤ bottom_right t r
-
-  -- each bottom right square stands behind the top left one
-  pub none_below_start : IsTiling t → NoneBelow (i + 1)
-  none_below_start tiling r part first = omega (arith, first, corners_apart t r tiling part)
-
-  pub none_below_more : (j : ℕ) → NoneBelow j → ((r : Rectangle) → ¬ (IsPartAt t i j r)) → NoneBelow (j + 1)
-  none_below_more j below here r part first =
-      let low : j ≤ bottom_right t r = below r part first in
-      let other : bottom_right t r ≢ j = λ e. here r (record { part = part; first = first; last = e }) in
-      omega arith
-
-  pub first_from : (j : ℕ) (r : Rectangle) → NoneBelow j → IsPartAt t i j r → IsFirstPartFrom t i r
-  first_from j r below p = record {
-    part = p.part;
-    first = p.first;
-    earliest = λ other part first. let low : j ≤ bottom_right t other = below other part first in omega (arith, p.last);
-  }
-
-  pub none_from : IsTiling t → NoneBelow (order t) → (r : Rectangle) → IsPart t r → top_left t r ≢ i
-  none_from tiling below r part first = let low : order t ≤ bottom_right t r = below r part first in omega (arith, bottom_right_below t r tiling part)
-
-module _ (t : Tiling) where
-  abbrev pub NoneBefore : ℕ → Type 0
-  NoneBefore i = (r : Rectangle) → IsPart t r → i ≤ top_left t r
-
-  pub none_before_more : (i : ℕ) → NoneBefore i → ((r : Rectangle) → IsPart t r → top_left t r ≢ i) → NoneBefore (i + 1)
-  none_before_more i before here r part =
-      let low : i ≤ top_left t r = before r part in
-      let other : top_left t r ≢ i = here r part in
-      omega arith
-
-  pub first_of_all : (i : ℕ) (r : Rectangle) → NoneBefore i → IsFirstPartFrom t i r → IsFirstPart t r
-  first_of_all i r before p = record { part = p.part; first = λ other part. compare other part (cases_eq (top_left t other) i) }
-    where
-      compare : (other : Rectangle) → IsPart t other → (top_left t other ≡ i) ⊎ (top_left t other ≡ i → ⊥)
-          → (top_left t r < top_left t other) ⊎ ((top_left t r ≡ top_left t other) × (bottom_right t r ≤ bottom_right t other))
-      compare other part (inl e) = inr (omega (arith, p.first, e), p.earliest other part e)
-      compare other part (inr e) = let low : i ≤ top_left t other = before other part in inl (omega (arith, p.first, e))
-
-  pub simple_from_none : IsTiling t → NoneBefore (order t) → IsSimple t
-  simple_from_none tiling before (r, part) = let low : order t ≤ top_left t r = before r part in omega (arith, top_left_below t r tiling part)

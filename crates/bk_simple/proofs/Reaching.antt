@@ -3,7 +3,8 @@ use Rattle.std.specs.Prelude.{get_or, length, ℕ, ◌+◌, ◌<◌, ◌⊎◌}
 use Rattle.std.proofs.Common.{arith, inl, inr}
 use Rattle.bk_tiling.specs.Tiling.{IsTiling, Rectangle, Tiling}
 use Rattle.bk_tiling.specs.declared.Square.{Square}
-use Rattle.bk_simple.proofs.Parts.{none_cut, within_at}
+use Rattle.bk_simple.proofs.PartTrials.{none_cut}
+use Rattle.bk_simple.proofs.UncutParts.{within_at}
 use Rattle.bk_simple.specs.Border.{IsUncut}
 use Rattle.bk_simple.specs.Corners.{IsBetween, IsPartAt}
 use Rattle.bk_simple.specs.Reach.{NoneHigher, NoneWider}

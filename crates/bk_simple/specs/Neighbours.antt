@@ -1,4 +1,5 @@
 -- Numbers that stand twice in a row.
+-- Example (SimpleExamples): in 1, 2, 2, 3, 3 the first number that is followed by an equal one is 2.
 use Rattle.std.specs.Prelude.{List, length, slice_index, ℕ, ◌+◌, ◌<◌, ◌≡◌, ◌≢◌}
 
 -- among the first n numbers none is followed by an equal one

@@ -22,7 +22,7 @@ use Rattle.bk_skel.specs.Skeleton.{IsStored, turns_from}
 use Rattle.bk_skel.specs.Valley.{segment_sizes}
 use Rattle.bk_skel.specs.Wiring.{AreNumbers, AreWires, closed_of, counts_of, wires_from}
 use Rattle.bk_word_net.specs.WordNet.{end_of, net_of_word}
-use Rattle.bk_skel.specs.declared.turns.Turn.{Turn}
+use Rattle.bk_skel.specs.declared.turns.MoveRecord.{MoveRecord}
 
 -- how many squares the records say that each move closes and hangs
 pub closed_turns : (o : Outline) (from : ℕ) (w : Word) → map length (after_moves o w).closed ≡ map length o.closed ++ closed_of (turns_from o from w)
@@ -97,7 +97,7 @@ times_here (x ∷ xs) zero h = omega (arith, same x)
 times_here (x ∷ xs) (suc i) h = omega (arith, times_here xs i (omega arith))
 
 -- the numbers of the closed squares are those of squares
-pub closed_numbers : {w : Word} {ends sizes : List ℕ} {signs : List Sign} {closed : List ℕ} {turns : List Turn} {played : List Sign}
+pub closed_numbers : {w : Word} {ends sizes : List ℕ} {signs : List Sign} {closed : List ℕ} {turns : List MoveRecord} {played : List Sign}
     → IsStored w ends sizes signs closed turns played → AreNumbers 200 closed
 closed_numbers {w = w} {closed = closed} s =
     record { positive = λ i h. (number i h).0; small = λ i h. omega (arith, (number i h).1, (counted_in s).hung, (s.kept).few) }
@@ -111,11 +111,11 @@ closed_numbers {w = w} {closed = closed} s =
       times_in-append (slice_index closed i) (outline_of w).closed (outline_of w).segments,
     ))
 
-pub closed_sizes : {w : Word} {ends sizes : List ℕ} {signs : List Sign} {closed : List ℕ} {turns : List Turn} {played : List Sign}
+pub closed_sizes : {w : Word} {ends sizes : List ℕ} {signs : List Sign} {closed : List ℕ} {turns : List MoveRecord} {played : List Sign}
     → IsStored w ends sizes signs closed turns played → closed_of turns ≡ map length (outline_of w).closed
 closed_sizes {w = w} s = ap closed_of s.turns_are ∙ sym (closed_turns start 0 w)
 
-pub closed_many : {w : Word} {ends sizes : List ℕ} {signs : List Sign} {closed : List ℕ} {turns : List Turn} {played : List Sign}
+pub closed_many : {w : Word} {ends sizes : List ℕ} {signs : List Sign} {closed : List ℕ} {turns : List MoveRecord} {played : List Sign}
     → IsStored w ends sizes signs closed turns played → length closed ≡ sum (closed_of turns)
 closed_many {w = w} s = ap length (s.shows).closed_are ∙ sym (sum_lengths (outline_of w).closed) ∙ ap sum (sym (closed_sizes s))
 
@@ -209,12 +209,12 @@ ends_read o n ended numbered one all few long read =
         )
 
 -- the net of a complete word, as it is read
-pub record ReadsNet (w : Word) (turns : List Turn) (ends : List ℕ) : Type 0 where
+pub record ReadsNet (w : Word) (turns : List MoveRecord) (ends : List ℕ) : Type 0 where
   pub all : length ends ≡ sum (counts_of turns)
   pub wires : AreWires (length turns + 1) (wires_from 0 (counts_of turns) ends)
   pub net : (record { nodes = length turns + 1; wires = wires_from 0 (counts_of turns) ends }) ≡ net_of_word w
 
-pub reads_net : {w : Word} {ends sizes : List ℕ} {signs : List Sign} {closed : List ℕ} {turns : List Turn} {played : List Sign}
+pub reads_net : {w : Word} {ends sizes : List ℕ} {signs : List Sign} {closed : List ℕ} {turns : List MoveRecord} {played : List Sign}
     → IsStored w ends sizes signs closed turns played → IsComplete w → (ended : List ℕ) (n : ℕ) → n ≡ order_of w → length ended ≡ 200
     → ((k : ℕ) → k < 200 → slice_index ended k ≡ end_of (outline_of w).closed (k + 1)) → ReadsNet w turns (take n ended)
 reads_net {w = w} {turns = turns} s complete ended n order long read =

@@ -12,7 +12,6 @@ use Rattle.bk_tiling.specs.Kept.{IsKept, IsSide}
 use Rattle.bk_tiling.specs.Refusal.{HaveSides, ShareNoCell}
 use Rattle.bk_tiling.specs.declared.Segment.{Segment}
 use Rattle.bk_tiling.specs.declared.Square.{Square}
-use Rattle.bk_tiling.specs.declared.TheConstants.{LONGEST_SIDE}
 use Rattle.bk_word.specs.Outline.{Outline, start}
 use Rattle.bk_lay.specs.Depiction.{IsSegment, Span}
 use Rattle.bk_word_net.proofs.TilingOfTurns.{is_tiling, tiles}
@@ -27,12 +26,12 @@ module _ (width : ℕ) (laid : List Square) (numbers : List ℕ) (o : Outline) (
   pub apart : ShareNoCell laid
   apart = tiles_apart width (depth laid 0) laid (tiles width (c.board).some laid o (c.board).shows c.one c.some)
 
-  low : depth laid 0 ≤ LONGEST_SIDE * length laid
-  low = cases (cases_lt (LONGEST_SIDE * length laid) (depth laid 0))
+  low : depth laid 0 ≤ 999_999_999_999_999 * length laid
+  low = cases (cases_lt (999_999_999_999_999 * length laid) (depth laid 0))
     where
-      cases : (LONGEST_SIDE * length laid < depth laid 0) ⊎ (depth laid 0 ≤ LONGEST_SIDE * length laid) → depth laid 0 ≤ LONGEST_SIDE * length laid
+      cases : (999_999_999_999_999 * length laid < depth laid 0) ⊎ (depth laid 0 ≤ 999_999_999_999_999 * length laid) → depth laid 0 ≤ 999_999_999_999_999 * length laid
       cases (inr h) = h
-      cases (inl h) = let q = depth_comes_from laid 0 (LONGEST_SIDE * length laid) h in absurd (omega (arith, (c.board).low q.0 q.1, q.3))
+      cases (inl h) = let q = depth_comes_from laid 0 (999_999_999_999_999 * length laid) h in absurd (omega (arith, (c.board).low q.0 q.1, q.3))
 
   pub kept : IsKept (record { width = width; height = depth laid 0; squares = in_code_order laid })
   kept = record {

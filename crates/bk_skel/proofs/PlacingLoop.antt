@@ -16,7 +16,6 @@ use Rattle.bk_tiling.specs.SquareGroups.{laid_group}
 use Rattle.bk_tiling.specs.Tiling.{IsOneOf, IsTiling, Tiling}
 use Rattle.bk_tiling.specs.declared.Segment.{Segment}
 use Rattle.bk_tiling.specs.declared.Square.{Square}
-use Rattle.bk_tiling.specs.declared.TheConstants.{LONGEST_SIDE, MOST_SQUARES}
 use Rattle.bk_word.proofs.StoredBytes.{order_more}
 use Rattle.bk_word.specs.Outline.{IsLegalMove, Outline, start, valley_of}
 use Rattle.bk_word.specs.Play.{AreLegalFrom, IsComplete, IsLegal, after_move, after_moves, numbers_from, outline_of}
@@ -94,12 +93,12 @@ all_drop P zero xs a = a
 all_drop P (suc k) [] a = tt
 all_drop P (suc k) (x ∷ xs) a = all_drop P k xs a.1
 
-sum_bounds : (sides : List ℕ) → AllByRecursion IsSide sides → (length sides ≤ sum sides) × (sum sides ≤ LONGEST_SIDE * length sides)
+sum_bounds : (sides : List ℕ) → AllByRecursion IsSide sides → (length sides ≤ sum sides) × (sum sides ≤ 999_999_999_999_999 * length sides)
 sum_bounds [] a = (omega arith, omega arith)
 sum_bounds (s ∷ sides) a = let r = sum_bounds sides a.1 in
     (omega (arith, sum_by-cons (λ (n : ℕ). n) s sides, r.0, (a.0).0), omega (arith, sum_by-cons (λ (n : ℕ). n) s sides, r.1, (a.0).1))
 
-module _ (given : List ℕ) (all_sides : AllByRecursion IsSide given) (few : length given ≤ MOST_SQUARES) where
+module _ (given : List ℕ) (all_sides : AllByRecursion IsSide given) (few : length given ≤ 200) where
   placed_first : (m : Move) (v : Word) → IsComplete (m ∷ v) → length given ≡ order_of (m ∷ v) → IsPlacedTo (m ∷ v) given 0 [] []
   placed_first m v complete count = record {
     board = record {
@@ -129,7 +128,7 @@ module _ (given : List ℕ) (all_sides : AllByRecursion IsSide given) (few : len
       long : length (take m.count given) ≡ m.count
       long = length-take-le m.count given fits
 
-      bounds : (length (take m.count given) ≤ sum (take m.count given)) × (sum (take m.count given) ≤ LONGEST_SIDE * length (take m.count given))
+      bounds : (length (take m.count given) ≤ sum (take m.count given)) × (sum (take m.count given) ≤ 999_999_999_999_999 * length (take m.count given))
       bounds = sum_bounds (take m.count given) (all_take IsSide m.count given all_sides)
 
       wide : 0 < sum (take m.count given)
@@ -260,7 +259,7 @@ module _ (given : List ℕ) (all_sides : AllByRecursion IsSide given) (few : len
                 (take m.count (drop (length laid) given)) (after_moves start (take i w)) can_lay,
           );
           low = subst (λ (u : Segment). (q : Square) → IsOneOf q (laid ++ laid_group u.x u.level (take m.count (drop (length laid) given)))
-              → q.y + q.s ≤ LONGEST_SIDE * length (laid ++ laid_group u.x u.level (take m.count (drop (length laid) given)))) (sym same_gap)
+              → q.y + q.s ≤ 999_999_999_999_999 * length (laid ++ laid_group u.x u.level (take m.count (drop (length laid) given)))) (sym same_gap)
               (low_after (first_width w given) laid numbers first end m.signs (take m.count (drop (length laid) given)) (after_moves start (take i w)) can_lay);
         }
           where

@@ -10,7 +10,6 @@ use Rattle.bk_tiling.specs.SquareGroups.{laid_group}
 use Rattle.bk_tiling.specs.Tiling.{Tiling}
 use Rattle.bk_tiling.specs.declared.Segment.{Segment}
 use Rattle.bk_tiling.specs.declared.Square.{Square}
-use Rattle.bk_tiling.specs.declared.TheConstants.{MOST_SQUARES}
 use Rattle.bk_word.specs.Outline.{Outline, start, valley_of}
 use Rattle.bk_word.specs.Play.{IsComplete, IsLegal, after_moves, numbers_from, outline_of}
 use Rattle.bk_word.specs.Word.{Move, Word, order_of}
@@ -20,11 +19,11 @@ use Rattle.bk_word_net.specs.LaidTiling.{IsLaidWith}
 use Rattle.bk_skel.specs.Board.{CanLay, IsClosed}
 use Rattle.bk_word_net.specs.LaidOutline.{IsTurn, front_of}
 use Rattle.bk_skel.specs.TurnRecord.{SaysWhere}
-use Rattle.bk_skel.specs.declared.turns.Turn.{Turn}
+use Rattle.bk_skel.specs.declared.turns.MoveRecord.{MoveRecord}
 
-module _ (w : Word) (legal : IsLegal w) (given : List ℕ) (all_sides : AllByRecursion IsSide given) (few : length given ≤ MOST_SQUARES)
+module _ (w : Word) (legal : IsLegal w) (given : List ℕ) (all_sides : AllByRecursion IsSide given) (few : length given ≤ 200)
     (i : ℕ) (below : i < length w)
-    (laid : List Square) (numbers : List ℕ) (s : IsPlacedTo w given i laid numbers) (turn : Turn) (says : SaysWhere w i turn) where
+    (laid : List Square) (numbers : List ℕ) (s : IsPlacedTo w given i laid numbers) (turn : MoveRecord) (says : SaysWhere w i turn) where
   abbrev m : Move
   m = (get_some w i below).0
 
@@ -106,8 +105,8 @@ module _ (w : Word) (legal : IsLegal w) (given : List ℕ) (all_sides : AllByRec
         (sym (f ∙ ap (λ (ns : List ℕ). (take first numbers ++ numbers_from (length laid + 1) (length ns)) ++ drop (first + closed) numbers) taken))
         (placed_more given all_sides few w legal i laid numbers s (get_some w i below).0 at first (first + closed) place end v (turn_as v t)))
 
-pub first_is_there : (w : Word) (complete : IsComplete w) (given : List ℕ) → AllByRecursion IsSide given → length given ≤ MOST_SQUARES
-    → length given ≡ order_of w → (turn : Turn) → SaysWhere w 0 turn → (from : ℕ) → from ≡ turn.count → from ≡ length (take from given)
+pub first_is_there : (w : Word) (complete : IsComplete w) (given : List ℕ) → AllByRecursion IsSide given → length given ≤ 200
+    → length given ≡ order_of w → (turn : MoveRecord) → SaysWhere w 0 turn → (from : ℕ) → from ≡ turn.count → from ≡ length (take from given)
 first_is_there w complete given all_sides few count turn says from e =
     sym (length-take-le from given (omega (
       arith,
@@ -115,7 +114,7 @@ first_is_there w complete given all_sides few count turn says from e =
       sides_there w complete.legal given all_sides few 0 complete.some [] [] (placed_start given all_sides few w complete count) turn says,
     )))
 
-pub width_as : (w : Word) (given : List ℕ) (turn : Turn) (from sum_is : ℕ) → 0 < length w → SaysWhere w 0 turn → from ≡ turn.count
+pub width_as : (w : Word) (given : List ℕ) (turn : MoveRecord) (from sum_is : ℕ) → 0 < length w → SaysWhere w 0 turn → from ≡ turn.count
     → sum_is ≡ sum (take from given) → sum_is ≡ first_width w given
 width_as [] given turn from sum_is h says e f = absurd (omega arith)
 width_as (m ∷ w) given turn from sum_is h says e f = f ∙ ap (λ (k : ℕ). sum (take k given)) (e ∙ says.count m refl)
@@ -124,7 +123,7 @@ pub start_as : (w : Word) (given : List ℕ) (laid : List Square) (numbers : Lis
     → IsPlacedTo w given 0 laid numbers
 start_as w given laid numbers e f s = subst (λ (l : List Square). IsPlacedTo w given 0 l numbers) (sym e) (subst (IsPlacedTo w given 0 []) (sym f) s)
 
-module _ (w : Word) (complete : IsComplete w) (given : List ℕ) (all_sides : AllByRecursion IsSide given) (few : length given ≤ MOST_SQUARES)
+module _ (w : Word) (complete : IsComplete w) (given : List ℕ) (all_sides : AllByRecursion IsSide given) (few : length given ≤ 200)
     (count : length given ≡ order_of w) (i : ℕ) (done : length w ≤ i)
     (laid : List Square) (numbers seen : List ℕ) (s : IsPlacedTo w given i laid numbers) (width : ℕ)
     (width_is : width ≡ first_width w given) (seen_is : seen ≡ numbers) where

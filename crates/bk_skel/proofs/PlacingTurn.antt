@@ -15,7 +15,6 @@ use Rattle.bk_tiling.specs.SquareGroups.{laid_group}
 use Rattle.bk_tiling.specs.Tiling.{IsOneOf}
 use Rattle.bk_tiling.specs.declared.Segment.{Segment}
 use Rattle.bk_tiling.specs.declared.Square.{Square}
-use Rattle.bk_tiling.specs.declared.TheConstants.{LONGEST_SIDE, MOST_SQUARES}
 use Rattle.bk_word.proofs.PlayLists.{numbers-length}
 use Rattle.bk_word.specs.Outline.{Outline, valley_of}
 use Rattle.bk_word.specs.Play.{after_move, numbers_from}
@@ -177,15 +176,15 @@ module _ (width : ℕ) (laid : List Square) (numbers : List ℕ) (first end : �
   some_width : 0 < gap.width
   some_width = (((seen.found).valley).flat).some
 
-  low_level : (ns : List ℕ) → IsGap width laid ns gap → gap.level ≤ LONGEST_SIDE * length laid
+  low_level : (ns : List ℕ) → IsGap width laid ns gap → gap.level ≤ 999_999_999_999_999 * length laid
   low_level ns (inr top) = omega (arith, ap (λ (v : Segment). v.level) top.1)
   low_level [] (inl s) = absurd (omega (arith, s, some_width))
   low_level (n ∷ ns) (inl s) = omega (arith, s.3, (c.board).low s.0 (one_of laid (s.1).0 s.0 (s.1).2))
 
-  few : length laid ≤ MOST_SQUARES
+  few : length laid ≤ 200
   few = omega (arith, c.room)
 
-  level_small : gap.level ≤ LONGEST_SIDE * MOST_SQUARES
+  level_small : gap.level ≤ 999_999_999_999_999 * 200
   level_small = omega (arith, low_level (valley_of o) seen.gap, few)
 
   pub fitting : IsFittingGap width laid (take (end - first) (drop first numbers)) gap
@@ -205,7 +204,7 @@ module _ (width : ℕ) (laid : List Square) (numbers : List ℕ) (first end : �
   only v turn = one_leftmost_valley width laid v gap turn.found seen.found
 
   -- the numbers after the move
-  pub room : length numbers + length new ≤ MOST_SQUARES
+  pub room : length numbers + length new ≤ 200
   room = omega (arith, (c.board).few, c.room)
 
   pub few_after : length ((take first numbers ++ numbers_from (length laid + 1) (length new)) ++ drop end numbers) ≤ length laid + length new
@@ -351,15 +350,15 @@ module _ (width : ℕ) (laid : List Square) (numbers : List ℕ) (first end : �
       → IsTurn width laid (record { count = length new; signs = signs }) new gap
   turn e f = record { found = seen.found; count = refl; some = (c.legal).some; positive = positive new c.sides; fills = e; signs = f }
 
-  sides_low : (x : ℕ) (sides : List ℕ) → AllByRecursion IsSide sides → (q : Square) → IsOneOf q (laid_group x gap.level sides) → q.s ≤ LONGEST_SIDE
+  sides_low : (x : ℕ) (sides : List ℕ) → AllByRecursion IsSide sides → (q : Square) → IsOneOf q (laid_group x gap.level sides) → q.s ≤ 999_999_999_999_999
   sides_low x [] a q h = absurd h
   sides_low x (s ∷ sides) a q (inl e) = omega (arith, (a.0).1, ap (λ (r : Square). r.s) e)
   sides_low x (s ∷ sides) a q (inr h) = sides_low (x + s) sides a.1 q h
 
-  pub low_after : (q : Square) → IsOneOf q (laid ++ laid_group gap.x gap.level new) → q.y + q.s ≤ LONGEST_SIDE * length (laid ++ laid_group gap.x gap.level new)
+  pub low_after : (q : Square) → IsOneOf q (laid ++ laid_group gap.x gap.level new) → q.y + q.s ≤ 999_999_999_999_999 * length (laid ++ laid_group gap.x gap.level new)
   low_after q h = cases (from_append laid (laid_group gap.x gap.level new) q h)
     where
-      cases : IsOneOf q laid ⊎ IsOneOf q (laid_group gap.x gap.level new) → q.y + q.s ≤ LONGEST_SIDE * length (laid ++ laid_group gap.x gap.level new)
+      cases : IsOneOf q laid ⊎ IsOneOf q (laid_group gap.x gap.level new) → q.y + q.s ≤ 999_999_999_999_999 * length (laid ++ laid_group gap.x gap.level new)
       cases (inl k) = omega (arith, (c.board).low q k, long)
       cases (inr k) = omega (arith, long, (c.legal).some, group_top gap.x gap.level new q k, sides_low gap.x new c.sides q k, low_level (valley_of o) seen.gap)
 
@@ -407,7 +406,7 @@ pub record LaysMove (width : ℕ) (laid : List Square) (numbers : List ℕ) (fir
   pub valley : Segment
   pub order : first ≤ end
   pub within : end ≤ length numbers
-  pub room : length numbers + length new ≤ MOST_SQUARES
+  pub room : length numbers + length new ≤ 200
   pub fits : sum new ≡ valley.width → valley.x + sum new < 2 ^ 63
   pub fitting : (seen_laid : List Square) (seen_numbers : List ℕ) → seen_laid ≡ laid → seen_numbers ≡ numbers
       → IsFittingGap width seen_laid (take (end - first) (drop first seen_numbers)) valley

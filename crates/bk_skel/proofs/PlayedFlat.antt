@@ -18,7 +18,7 @@ use Rattle.bk_skel.proofs.TurnParts.{closed_is, first_is, left_is, right_is, sid
 use Rattle.bk_word_net.proofs.ValleyCut.{AtValley}
 use Rattle.bk_skel.specs.Skeleton.{Shows, first_touched, joined_sizes, next_size, open_sides, signs_before, sizes_after, sizes_before, turn_at}
 use Rattle.bk_skel.specs.Valley.{segment_sizes}
-use Rattle.bk_skel.specs.declared.turns.Turn.{Turn}
+use Rattle.bk_skel.specs.declared.turns.MoveRecord.{MoveRecord}
 
 -- how many segments the signs leave
 pub sizes_after_many : (size last : ℕ) (signs : List Sign) → length (joined_sizes size last signs) ≡ count_by parts signs + 1
@@ -37,7 +37,7 @@ module _ (o : Outline) (shaped : Shaped o) (m : Move) (legal : IsLegalMove o m) 
   abbrev f : Filled o (valley_in o shaped)
   f = filled_parts o (valley_in o shaped) shaped
 
-  abbrev turn : Turn
+  abbrev turn : MoveRecord
   turn = turn_at (segment_sizes o) o.signs m from
 
   -- the segments that come in the place of those touched

@@ -5,18 +5,17 @@ use Rattle.bk_word.specs.Outline.{IsLegalMove, start}
 use Rattle.bk_word.specs.Play.{numbers_from, outline_of, parts}
 use Rattle.bk_word.specs.Word.{Move, Word, order_of}
 use Rattle.bk_word.specs.declared.Sign.{Sign}
-use Rattle.bk_word.specs.declared.TheConstants.{LARGEST_ORDER}
 use Rattle.bk_skel.proofs.SkelFacts.{Counted, Touches, counted, stored_move, touches}
 use Rattle.bk_word.proofs.PlayLaws.{moves_many}
 use Rattle.bk_skel.proofs.StoredMoves.{signs_many, stored_word, turns_many}
 use Rattle.bk_skel.specs.Skeleton.{IsStored, first_touched, moves_stored, open_sides, sizes_after, turn_at}
-use Rattle.bk_skel.specs.declared.turns.Turn.{Turn}
+use Rattle.bk_skel.specs.declared.turns.MoveRecord.{MoveRecord}
 
 -- the move is legal, and what it needs of the lists is there
-pub record Playing (w : Word) (m : Move) (ends sizes : List ℕ) (signs : List Sign) (closed : List ℕ) (turns : List Turn)
-    (played : List Sign) (turn : Turn) : Type 0 where
+pub record Playing (w : Word) (m : Move) (ends sizes : List ℕ) (signs : List Sign) (closed : List ℕ) (turns : List MoveRecord)
+    (played : List Sign) (turn : MoveRecord) : Type 0 where
   pub legal : IsLegalMove (outline_of w) m
-  pub few : order_of w + m.count ≤ LARGEST_ORDER
+  pub few : order_of w + m.count ≤ 200
   pub turn_is : turn ≡ turn_at sizes signs m (length played)
   pub numbers : length ends + length closed + 1 + m.count ≤ 201
   pub first : turn.first + turn.closed ≤ length ends
@@ -24,15 +23,15 @@ pub record Playing (w : Word) (m : Move) (ends sizes : List ℕ) (signs : List S
   pub ends_fit : length ends - turn.closed + m.count ≤ 200
   pub sizes_within : first_touched turn + (open_sides turn + 1) ≤ length sizes
   pub signs_within : first_touched turn + open_sides turn ≤ length signs
-  pub sizes_fit : length sizes - (open_sides turn + 1) + (turn.parted + 1) ≤ LARGEST_ORDER
-  pub signs_fit : length signs - open_sides turn + turn.parted ≤ LARGEST_ORDER
+  pub sizes_fit : length sizes - (open_sides turn + 1) + (turn.parted + 1) ≤ 200
+  pub signs_fit : length signs - open_sides turn + turn.parted ≤ 200
   pub small : turn.left + length m.signs + turn.right ≤ 253
   pub played_fit : length played + length m.signs ≤ 400
   pub turns_fit : length turns < 200
 
-pub playing_at : (w : Word) (m : Move) (ends sizes : List ℕ) (signs : List Sign) (closed : List ℕ) (turns : List Turn) (played : List Sign)
-    (turn : Turn) → IsStored w ends sizes signs closed turns played
-    → IsLegalMove (outline_of w) m → order_of w + m.count ≤ LARGEST_ORDER → turn ≡ turn_at sizes signs m (length played)
+pub playing_at : (w : Word) (m : Move) (ends sizes : List ℕ) (signs : List Sign) (closed : List ℕ) (turns : List MoveRecord) (played : List Sign)
+    (turn : MoveRecord) → IsStored w ends sizes signs closed turns played
+    → IsLegalMove (outline_of w) m → order_of w + m.count ≤ 200 → turn ≡ turn_at sizes signs m (length played)
     → Playing w m ends sizes signs closed turns played turn
 playing_at w m ends sizes signs closed turns played turn s legal few e = record {
   legal = legal;
@@ -60,10 +59,10 @@ playing_at w m ends sizes signs closed turns played turn s legal few e = record 
         (touches w m ends sizes signs closed (length played) s.kept s.shows legal few)
 
 -- the same where the values are read
-pub playing : {w : Word} {ends sizes : List ℕ} {signs : List Sign} {closed : List ℕ} {turns : List Turn} {played : List Sign}
-    → {now : Word} {count : ℕ} {moved : List Sign} {m : Move} {turn : Turn} {read_sizes : List ℕ} {read_signs read_moved : List Sign} {from : ℕ}
+pub playing : {w : Word} {ends sizes : List ℕ} {signs : List Sign} {closed : List ℕ} {turns : List MoveRecord} {played : List Sign}
+    → {now : Word} {count : ℕ} {moved : List Sign} {m : Move} {turn : MoveRecord} {read_sizes : List ℕ} {read_signs read_moved : List Sign} {from : ℕ}
     → IsStored w ends sizes signs closed turns played → w ≡ now → record { count = count; signs = moved } ≡ m
-    → IsLegalMove (outline_of now) m → order_of now + m.count ≤ LARGEST_ORDER
+    → IsLegalMove (outline_of now) m → order_of now + m.count ≤ 200
     → turn ≡ turn_at read_sizes read_signs (record { count = count; signs = read_moved }) from
     → read_sizes ≡ sizes → read_signs ≡ signs → read_moved ≡ moved → from ≡ length played
     → Playing w (record { count = count; signs = moved }) ends sizes signs closed turns played turn
@@ -75,17 +74,17 @@ playing {w} {ends} {sizes} {signs} {closed} {turns} {played} {now} {count} {move
     (g ∙ (λ i. turn_at (a i) (b i) (record { count = count; signs = d i }) (h i)))
 
 -- what is stored is stored of the moves that it shows
-pub moves_shown : {w : Word} {ends sizes : List ℕ} {signs : List Sign} {closed : List ℕ} {turns : List Turn} {played : List Sign}
+pub moves_shown : {w : Word} {ends sizes : List ℕ} {signs : List Sign} {closed : List ℕ} {turns : List MoveRecord} {played : List Sign}
     → IsStored w ends sizes signs closed turns played → moves_stored turns played ≡ w
 moves_shown {w = w} s = (λ i. moves_stored (s.turns_are i) (s.played_are i)) ∙ stored_word w
 
-pub stored_shown : (w : Word) (ends sizes : List ℕ) (signs : List Sign) (closed : List ℕ) (turns : List Turn) (played : List Sign)
+pub stored_shown : (w : Word) (ends sizes : List ℕ) (signs : List Sign) (closed : List ℕ) (turns : List MoveRecord) (played : List Sign)
     → IsStored w ends sizes signs closed turns played → IsStored (moves_stored turns played) ends sizes signs closed turns played
 stored_shown w ends sizes signs closed turns played s = subst (λ (v : Word). IsStored v ends sizes signs closed turns played) (sym (moves_shown s)) s
 
 -- the lists after a move, by those before it
-pub record Played (m : Move) (ends sizes : List ℕ) (signs : List Sign) (closed : List ℕ) (turns : List Turn) (played : List Sign) (turn : Turn)
-    (new_ends new_sizes : List ℕ) (new_signs : List Sign) (new_closed : List ℕ) (new_turns : List Turn) (new_played : List Sign) : Type 0 where
+pub record Played (m : Move) (ends sizes : List ℕ) (signs : List Sign) (closed : List ℕ) (turns : List MoveRecord) (played : List Sign) (turn : MoveRecord)
+    (new_ends new_sizes : List ℕ) (new_signs : List Sign) (new_closed : List ℕ) (new_turns : List MoveRecord) (new_played : List Sign) : Type 0 where
   pub ends_new : new_ends ≡ splice ends turn.first (turn.first + turn.closed) (numbers_from (length ends + length closed + 1) m.count)
   pub sizes_new : new_sizes ≡ splice sizes (first_touched turn) (first_touched turn + (open_sides turn + 1)) (sizes_after turn m.signs)
   pub signs_new : new_signs ≡ splice signs (first_touched turn) (first_touched turn + open_sides turn) (filter parts m.signs)
@@ -93,8 +92,8 @@ pub record Played (m : Move) (ends sizes : List ℕ) (signs : List Sign) (closed
   pub turns_new : new_turns ≡ turns ++ turn ∷ []
   pub played_new : new_played ≡ played ++ m.signs
 
-pub stored_played : {w : Word} {m : Move} {ends sizes : List ℕ} {signs : List Sign} {closed : List ℕ} {turns : List Turn} {played : List Sign} {turn : Turn}
-    {new_ends new_sizes : List ℕ} {new_signs : List Sign} {new_closed : List ℕ} {new_turns : List Turn} {new_played : List Sign}
+pub stored_played : {w : Word} {m : Move} {ends sizes : List ℕ} {signs : List Sign} {closed : List ℕ} {turns : List MoveRecord} {played : List Sign} {turn : MoveRecord}
+    {new_ends new_sizes : List ℕ} {new_signs : List Sign} {new_closed : List ℕ} {new_turns : List MoveRecord} {new_played : List Sign}
     → IsStored w ends sizes signs closed turns played → Playing w m ends sizes signs closed turns played turn
     → Played m ends sizes signs closed turns played turn new_ends new_sizes new_signs new_closed new_turns new_played
     → IsStored (w ++ m ∷ []) new_ends new_sizes new_signs new_closed new_turns new_played
@@ -113,7 +112,7 @@ stored_played {w = w} {m = m} {ends = ends} {sizes = sizes} {signs = signs} {clo
     (splice ends turn.first (turn.first + turn.closed) (numbers_from (length ends + length closed + 1) m.count))
     (splice sizes (first_touched turn) (first_touched turn + (open_sides turn + 1)) (sizes_after turn m.signs))
     (splice signs (first_touched turn) (first_touched turn + open_sides turn) (filter parts m.signs)) l new_turns new_played) (sym n.closed_new)
-    (subst (λ (l : List Turn × List Sign). IsStored (w ++ m ∷ [])
+    (subst (λ (l : List MoveRecord × List Sign). IsStored (w ++ m ∷ [])
     (splice ends turn.first (turn.first + turn.closed) (numbers_from (length ends + length closed + 1) m.count))
     (splice sizes (first_touched turn) (first_touched turn + (open_sides turn + 1)) (sizes_after turn m.signs))
     (splice signs (first_touched turn) (first_touched turn + open_sides turn) (filter parts m.signs))

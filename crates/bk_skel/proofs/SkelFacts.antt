@@ -9,7 +9,6 @@ use Rattle.bk_word.specs.Outline.{IsLegalMove, Outline, start}
 use Rattle.bk_word.specs.Play.{after_move, joined, new_squares, numbers_from, outline_of, parts}
 use Rattle.bk_word.specs.Word.{Move, Word, order_of}
 use Rattle.bk_word.specs.declared.Sign.{Sign}
-use Rattle.bk_word.specs.declared.TheConstants.{LARGEST_ORDER}
 use Rattle.bk_word_net.proofs.MovedParts.{many_between, many_segments, many_signs, segments_after}
 use Rattle.bk_skel.proofs.PlayedFlat.{ends_were, shows_move}
 use Rattle.bk_word_net.proofs.Shape.{AllFilled, Filled, Shaped, filled_many, filled_move, filled_parts, hung_many, joined_many, shaped_move}
@@ -20,7 +19,7 @@ use Rattle.bk_skel.proofs.TurnParts.{closed_is, first_is, left_is, right_is, sid
 use Rattle.bk_word_net.proofs.ValleyCut.{AtValley}
 use Rattle.bk_skel.specs.Skeleton.{IsStored, Shows, first_touched, open_sides, signs_of, sizes_after, turn_at}
 use Rattle.bk_skel.specs.Valley.{IsKeptSkeleton, segment_sizes}
-use Rattle.bk_skel.specs.declared.turns.Turn.{Turn}
+use Rattle.bk_skel.specs.declared.turns.MoveRecord.{MoveRecord}
 
 -- the numbers of what a kept skeleton's outline has
 pub record Counted (w : Word) (ends sizes : List ℕ) (signs : List Sign) (closed : List ℕ) : Type 0 where
@@ -56,12 +55,12 @@ counted w ends sizes signs closed kept s = record {
     few (inr all) = omega (arith, long, filled_many (outline_of w).segments all, shaped.counted, hung, kept.few)
 
 -- the numbers of what a legal move touches
-pub record Touches (w : Word) (m : Move) (ends sizes : List ℕ) (signs : List Sign) (closed : List ℕ) (turn : Turn) : Type 0 where
+pub record Touches (w : Word) (m : Move) (ends sizes : List ℕ) (signs : List Sign) (closed : List ℕ) (turn : MoveRecord) : Type 0 where
   pub first : turn.first + turn.closed ≤ length ends
   pub sizes_within : first_touched turn + (open_sides turn + 1) ≤ length sizes
   pub signs_within : first_touched turn + open_sides turn ≤ length signs
-  pub sizes_fit : length sizes - (open_sides turn + 1) + (turn.parted + 1) ≤ LARGEST_ORDER
-  pub signs_fit : length signs - open_sides turn + turn.parted ≤ LARGEST_ORDER
+  pub sizes_fit : length sizes - (open_sides turn + 1) + (turn.parted + 1) ≤ 200
+  pub signs_fit : length signs - open_sides turn + turn.parted ≤ 200
   pub beside : turn.left + turn.closed + turn.right ≤ length ends
   pub few_signs : length m.signs ≤ m.count + 1
 
@@ -131,8 +130,8 @@ touches w m ends sizes signs closed from kept s legal room = record {
     )
 
 -- what is stored after a legal move
-pub stored_move : (w : Word) (m : Move) (ends sizes : List ℕ) (signs : List Sign) (closed : List ℕ) (turns : List Turn) (played : List Sign) (turn : Turn)
-    → IsStored w ends sizes signs closed turns played → IsLegalMove (outline_of w) m → order_of w + m.count ≤ LARGEST_ORDER
+pub stored_move : (w : Word) (m : Move) (ends sizes : List ℕ) (signs : List Sign) (closed : List ℕ) (turns : List MoveRecord) (played : List Sign) (turn : MoveRecord)
+    → IsStored w ends sizes signs closed turns played → IsLegalMove (outline_of w) m → order_of w + m.count ≤ 200
     → turn ≡ turn_at sizes signs m (length played)
     → IsStored (w ++ m ∷ [])
     (splice ends turn.first (turn.first + turn.closed) (numbers_from (length ends + length closed + 1) m.count))
@@ -167,12 +166,12 @@ stored_move w m ends sizes signs closed turns played turn s legal room e = recor
         (splice sizes (first_touched turn) (first_touched turn + (open_sides turn + 1)) (sizes_after turn m.signs))
         (splice signs (first_touched turn) (first_touched turn + open_sides turn) (filter parts m.signs))
         (closed ++ slice_range ends turn.first (turn.first + turn.closed))
-    shown = subst (λ (t : Turn). Shows (after_move (outline_of w) m)
+    shown = subst (λ (t : MoveRecord). Shows (after_move (outline_of w) m)
         (splice ends t.first (t.first + t.closed) (numbers_from (length ends + length closed + 1) m.count))
         (splice sizes (first_touched t) (first_touched t + (open_sides t + 1)) (sizes_after t m.signs))
         (splice signs (first_touched t) (first_touched t + open_sides t) (filter parts m.signs))
         (closed ++ slice_range ends t.first (t.first + t.closed))) (sym turn_was)
-        (subst (λ (n : ℕ). let t : Turn = turn_at (segment_sizes (outline_of w)) (outline_of w).signs m (length played) in
+        (subst (λ (n : ℕ). let t : MoveRecord = turn_at (segment_sizes (outline_of w)) (outline_of w).signs m (length played) in
         Shows (after_move (outline_of w) m) (splice ends t.first (t.first + t.closed) (numbers_from n m.count))
         (splice sizes (first_touched t) (first_touched t + (open_sides t + 1)) (sizes_after t m.signs))
         (splice signs (first_touched t) (first_touched t + open_sides t) (filter parts m.signs))

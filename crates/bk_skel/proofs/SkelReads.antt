@@ -13,9 +13,9 @@ use Rattle.bk_skel.proofs.SkelFacts.{Counted, counted}
 use Rattle.bk_word.proofs.PlayLaws.{few_signs}
 use Rattle.bk_skel.specs.Skeleton.{IsStored, Shows, move_of, moves_stored, signs_of, turns_from}
 use Rattle.bk_skel.specs.Valley.{leftmost_valley}
-use Rattle.bk_skel.specs.declared.turns.Turn.{Turn}
+use Rattle.bk_skel.specs.declared.turns.MoveRecord.{MoveRecord}
 
-pub counted_in : {w : Word} {ends sizes : List ℕ} {signs : List Sign} {closed : List ℕ} {turns : List Turn} {played : List Sign}
+pub counted_in : {w : Word} {ends sizes : List ℕ} {signs : List Sign} {closed : List ℕ} {turns : List MoveRecord} {played : List Sign}
     → IsStored w ends sizes signs closed turns played → Counted w ends sizes signs closed
 counted_in {w = w} {ends = ends} {sizes = sizes} {signs = signs} {closed = closed} s = counted w ends sizes signs closed s.kept s.shows
 
@@ -48,7 +48,7 @@ segment_read o ends sizes signs closed place s h =
     next = sym (sum_next sizes place h) ∙ ap (λ (l : List ℕ). sum (take (suc place) l)) s.sizes_are
 
 -- the leftmost valley, as it is read
-pub valley_read : {w : Word} {ends sizes : List ℕ} {signs : List Sign} {closed : List ℕ} {turns : List Turn} {played : List Sign}
+pub valley_read : {w : Word} {ends sizes : List ℕ} {signs : List Sign} {closed : List ℕ} {turns : List MoveRecord} {played : List Sign}
     → IsStored w ends sizes signs closed turns played → (place many : ℕ) (squares : List ℕ)
     → place ≡ valley_place signs → place ≤ length signs → many ≡ length signs
     → squares ≡ slice_range ends (sum (take place sizes)) (sum (take place sizes) + slice_index sizes place)
@@ -67,12 +67,12 @@ valley_read {w = w} {ends = ends} {sizes = sizes} {signs = signs} {closed = clos
         ∙ ap (λ n. slice_index_or (outline_of w).segments n []) is
 
 -- the signs of a move, where it is read
-pub record Spans (turn : Turn) (end : ℕ) : Type 0 where
+pub record Spans (turn : MoveRecord) (end : ℕ) : Type 0 where
   pub order : turn.from ≤ turn.to
   pub within : turn.to ≤ end
   pub few : turn.to ≤ turn.from + 201
 
-pub turn_spans : (o : Outline) (from : ℕ) (w : Word) → AreLegalFrom o w → order_of w ≤ 200 → (i : ℕ) (d : Turn) → i < length w
+pub turn_spans : (o : Outline) (from : ℕ) (w : Word) → AreLegalFrom o w → order_of w ≤ 200 → (i : ℕ) (d : MoveRecord) → i < length w
     → Spans (get_or (turns_from o from w) i d) (from + length (signs_of w))
 turn_spans o from [] legal few i d h = absurd (omega arith)
 turn_spans o from (m ∷ w) legal few zero d h = record {
@@ -87,9 +87,9 @@ turn_spans o from (m ∷ w) legal few (suc i) d h = let r =
       few = r.few;
     }
 
-pub span_in : {w : Word} {ends sizes : List ℕ} {signs : List Sign} {closed : List ℕ} {turns : List Turn} {played : List Sign}
-    → IsStored w ends sizes signs closed turns played → (i : ℕ) (d : Turn) → i < length w → Spans (get_or turns i d) (length played)
-span_in {w = w} {turns = turns} {played = played} s i d h = subst (λ (l : List Turn). Spans (get_or l i d) (length played)) (sym s.turns_are)
+pub span_in : {w : Word} {ends sizes : List ℕ} {signs : List Sign} {closed : List ℕ} {turns : List MoveRecord} {played : List Sign}
+    → IsStored w ends sizes signs closed turns played → (i : ℕ) (d : MoveRecord) → i < length w → Spans (get_or turns i d) (length played)
+span_in {w = w} {turns = turns} {played = played} s i d h = subst (λ (l : List MoveRecord). Spans (get_or l i d) (length played)) (sym s.turns_are)
     (subst (λ (n : ℕ). Spans (get_or (turns_from start 0 w) i d) n) (omega (arith, ap length s.played_are))
     (turn_spans start 0 w (s.kept).legal (s.kept).few i d h))
 
@@ -99,7 +99,7 @@ get_map f (x ∷ xs) zero d h = refl
 get_map f (x ∷ xs) (suc i) d h = get_map f xs i d (omega arith)
 
 -- the move at a place, as it is read
-pub move_read : (w : Word) (turns : List Turn) (played read : List Sign) (i : ℕ) (d : Turn) → moves_stored turns played ≡ w → i < length w
+pub move_read : (w : Word) (turns : List MoveRecord) (played read : List Sign) (i : ℕ) (d : MoveRecord) → moves_stored turns played ≡ w → i < length w
     → read ≡ slice_range played (get_or turns i d).from (get_or turns i d).to
     → slice_get w i ≡ Some (record { count = (get_or turns i d).count; signs = read })
 move_read w turns played read i d whole h e = ap (λ (l : Word). slice_get l i) (sym whole)

@@ -15,7 +15,7 @@ use Rattle.bk_skel.specs.Board.{columns_of}
 use Rattle.bk_skel.specs.Skeleton.{Shows, first_touched, joined_sizes, moves_stored, open_sides, signs_before, signs_of, sizes_after, sizes_before, turns_from}
 use Rattle.bk_skel.specs.TurnRecord.{SaysWhere}
 use Rattle.bk_skel.specs.Valley.{leftmost_valley, segment_sizes}
-use Rattle.bk_skel.specs.declared.turns.Turn.{Turn}
+use Rattle.bk_skel.specs.declared.turns.MoveRecord.{MoveRecord}
 
 -- ---- the leftmost valley before each move, and how many squares each open segment has
 
@@ -42,13 +42,13 @@ sizes_after_all = refl
 
 -- ---- the records of the moves
 
-abbrev turn_1 : Turn
+abbrev turn_1 : MoveRecord
 turn_1 = record { place = 0; first = 0; left = 0; closed = 0; right = 0; count = 2; parted = 1; from = 0; to = 1 }
 
-abbrev turn_2 : Turn
+abbrev turn_2 : MoveRecord
 turn_2 = record { place = 1; first = 1; left = 1; closed = 1; right = 0; count = 2; parted = 1; from = 1; to = 3 }
 
-abbrev turn_3 : Turn
+abbrev turn_3 : MoveRecord
 turn_3 = record { place = 1; first = 2; left = 2; closed = 1; right = 0; count = 1; parted = 0; from = 3; to = 4 }
 
 turns : turns_from start 0 staircase ≡ turn_1 ∷ turn_2 ∷ turn_3 ∷ []

@@ -9,7 +9,7 @@ use Rattle.bk_word.specs.Word.{Move, Word, order_of}
 use Rattle.bk_word.specs.declared.Sign.{Sign}
 use Rattle.bk_skel.specs.Skeleton.{moves_stored, signs_of, turn_at, turns_from}
 use Rattle.bk_skel.specs.Valley.{segment_sizes}
-use Rattle.bk_skel.specs.declared.turns.Turn.{Turn}
+use Rattle.bk_skel.specs.declared.turns.MoveRecord.{MoveRecord}
 use Rattle.bk_word.proofs.PlayLaws.{few_signs}
 
 pub signs-cons : (n : Move) (w : Word) → signs_of (n ∷ w) ≡ n.signs ++ signs_of w
@@ -22,7 +22,7 @@ pub turns-snoc : (o : Outline) (from : ℕ) (w : Word) (m : Move)
     → turns_from o from (w ++ m ∷ []) ≡ turns_from o from w
     ++ turn_at (segment_sizes (after_moves o w)) (after_moves o w).signs m (from + length (signs_of w)) ∷ []
 turns-snoc o from [] m = ap (λ n. turn_at (segment_sizes o) o.signs m n ∷ []) (omega arith)
-turns-snoc o from (n ∷ w) m = ap (λ (l : List Turn). turn_at (segment_sizes o) o.signs n from ∷ l) (turns-snoc (after_move o n) (from + length n.signs) w m
+turns-snoc o from (n ∷ w) m = ap (λ (l : List MoveRecord). turn_at (segment_sizes o) o.signs n from ∷ l) (turns-snoc (after_move o n) (from + length n.signs) w m
     ∙ ap (λ k. turns_from (after_move o n) (from + length n.signs) w
     ++ turn_at (segment_sizes (after_moves (after_move o n) w)) (after_moves (after_move o n) w).signs m k ∷ []) same)
   where

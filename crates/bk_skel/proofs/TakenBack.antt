@@ -9,7 +9,6 @@ use Rattle.bk_word.specs.Outline.{IsLegalMove, Outline, start}
 use Rattle.bk_word.specs.Play.{after_move, new_squares, outline_of, parts}
 use Rattle.bk_word.specs.Word.{Move, Word, order_of}
 use Rattle.bk_word.specs.declared.Sign.{Sign}
-use Rattle.bk_word.specs.declared.TheConstants.{LARGEST_ORDER}
 use Rattle.bk_word_net.proofs.MovedParts.{many_segments}
 use Rattle.bk_skel.proofs.PlayedFlat.{closed_are, ends_are, ends_were, shows_back, signs_are, sizes_after_many, sizes_are}
 use Rattle.bk_word_net.proofs.Shape.{Filled, Shaped, filled_parts, shaped_moves, shaped_start, valley_in}
@@ -21,13 +20,13 @@ use Rattle.bk_word_net.proofs.ValleyCut.{AtValley}
 use Rattle.bk_skel.specs.Skeleton.{IsStored, Shows, first_touched, moves_stored, open_sides, signs_before, signs_of, sizes_after, sizes_before}
 use Rattle.bk_skel.specs.Skeleton.{turn_at, turns_from}
 use Rattle.bk_skel.specs.Valley.{IsKeptSkeleton, segment_sizes}
-use Rattle.bk_skel.specs.declared.turns.Turn.{Turn}
+use Rattle.bk_skel.specs.declared.turns.MoveRecord.{MoveRecord}
 
 shows_self : (o : Outline) → Shows o (concat o.segments) (segment_sizes o) o.signs (concat o.closed)
 shows_self o = record { ends_are = refl; sizes_are = refl; signs_are = refl; closed_are = refl }
 
 -- what is stored before the last move, and the numbers that taking it back rests on
-pub record TakesBack (w : Word) (ends sizes : List ℕ) (signs : List Sign) (closed : List ℕ) (rest : List Turn) (turn : Turn) (played : List Sign) : Type 0 where
+pub record TakesBack (w : Word) (ends sizes : List ℕ) (signs : List Sign) (closed : List ℕ) (rest : List MoveRecord) (turn : MoveRecord) (played : List Sign) : Type 0 where
   pub front : Word
   pub last : Move
   pub whole : w ≡ front ++ last ∷ []
@@ -40,11 +39,11 @@ pub record TakesBack (w : Word) (ends sizes : List ℕ) (signs : List Sign) (clo
       (take turn.from played)
   pub closed_within : turn.closed ≤ length closed
   pub ends_within : turn.first + turn.count ≤ length ends
-  pub ends_fit : length ends - turn.count + turn.closed ≤ LARGEST_ORDER
+  pub ends_fit : length ends - turn.count + turn.closed ≤ 200
   pub sizes_within : first_touched turn + (turn.parted + 1) ≤ length sizes
   pub signs_within : first_touched turn + turn.parted ≤ length signs
-  pub sizes_fit : length sizes - (turn.parted + 1) + (open_sides turn + 1) ≤ LARGEST_ORDER
-  pub signs_fit : length signs - turn.parted + open_sides turn ≤ LARGEST_ORDER
+  pub sizes_fit : length sizes - (turn.parted + 1) + (open_sides turn + 1) ≤ 200
+  pub signs_fit : length signs - turn.parted + open_sides turn ≤ 200
 
 module _ (front : Word) (m : Move) (kept : IsKeptSkeleton front) (legal : IsLegalMove (outline_of front) m)
     (few : order_of front + m.count ≤ 200) (from : ℕ) where
@@ -58,7 +57,7 @@ module _ (front : Word) (m : Move) (kept : IsKeptSkeleton front) (legal : IsLega
   abbrev f : Filled (outline_of front) v
   f = filled_parts (outline_of front) v c.shaped
 
-  abbrev turn : Turn
+  abbrev turn : MoveRecord
   turn = turn_at (segment_sizes (outline_of front)) (outline_of front).signs m from
 
   pub closed_in : (closed : List ℕ) → closed ≡ concat (after_move (outline_of front) m).closed → turn.closed ≤ length closed
@@ -146,7 +145,7 @@ module _ (front : Word) (m : Move) (kept : IsKeptSkeleton front) (legal : IsLega
   )
 
 -- the last move taken back
-pub takes_back : (w : Word) (ends sizes : List ℕ) (signs : List Sign) (closed : List ℕ) (turns rest : List Turn) (turn : Turn) (played : List Sign)
+pub takes_back : (w : Word) (ends sizes : List ℕ) (signs : List Sign) (closed : List ℕ) (turns rest : List MoveRecord) (turn : MoveRecord) (played : List Sign)
     → IsStored w ends sizes signs closed turns played → turns ≡ rest ++ turn ∷ [] → 0 < length w → TakesBack w ends sizes signs closed rest turn played
 takes_back w ends sizes signs closed turns rest turn played s cut some = back (last_move w some)
   where
@@ -157,29 +156,29 @@ takes_back w ends sizes signs closed turns rest turn played s cut some = back (l
       whole = r.whole;
       stored = record {
         kept = kept;
-        shows = subst (λ (t : Turn). Shows (outline_of r.front)
+        shows = subst (λ (t : MoveRecord). Shows (outline_of r.front)
             (splice ends t.first (t.first + t.count) (drop (length closed - t.closed) closed))
             (splice sizes (first_touched t) (first_touched t + (t.parted + 1)) (sizes_before t))
             (splice signs (first_touched t) (first_touched t + t.parted) (signs_before t)) (take (length closed - t.closed) closed)) (sym turn_is)
             (shows_back (outline_of r.front) shaped r.last legal (0 + length (signs_of r.front)) ends sizes signs closed shows);
         turns_are = rest_is;
-        played_are = ap (λ (t : Turn). take t.from played) turn_is
+        played_are = ap (λ (t : MoveRecord). take t.from played) turn_is
             ∙ ap (take (0 + length (signs_of r.front))) (s.played_are ∙ ap signs_of r.whole ∙ signs-snoc r.front r.last)
             ∙ take_at (signs_of r.front) (r.last).signs (0 + length (signs_of r.front)) (omega arith);
       };
-      closed_within = subst (λ (t : Turn). t.closed ≤ length closed) (sym turn_is)
+      closed_within = subst (λ (t : MoveRecord). t.closed ≤ length closed) (sym turn_is)
           (closed_in r.front r.last kept legal few (0 + length (signs_of r.front)) closed (shows).closed_are);
-      ends_within = subst (λ (t : Turn). t.first + t.count ≤ length ends) (sym turn_is)
+      ends_within = subst (λ (t : MoveRecord). t.first + t.count ≤ length ends) (sym turn_is)
           (ends_in r.front r.last kept legal few (0 + length (signs_of r.front)) ends shows.ends_are);
-      ends_fit = subst (λ (t : Turn). length ends - t.count + t.closed ≤ 200) (sym turn_is)
+      ends_fit = subst (λ (t : MoveRecord). length ends - t.count + t.closed ≤ 200) (sym turn_is)
           (ends_few r.front r.last kept legal few (0 + length (signs_of r.front)) ends shows.ends_are);
-      sizes_within = subst (λ (t : Turn). first_touched t + (t.parted + 1) ≤ length sizes) (sym turn_is)
+      sizes_within = subst (λ (t : MoveRecord). first_touched t + (t.parted + 1) ≤ length sizes) (sym turn_is)
           (sizes_in r.front r.last kept legal few (0 + length (signs_of r.front)) sizes shows.sizes_are);
-      signs_within = subst (λ (t : Turn). first_touched t + t.parted ≤ length signs) (sym turn_is)
+      signs_within = subst (λ (t : MoveRecord). first_touched t + t.parted ≤ length signs) (sym turn_is)
           (signs_in r.front r.last kept legal few (0 + length (signs_of r.front)) signs shows.signs_are);
-      sizes_fit = subst (λ (t : Turn). length sizes - (t.parted + 1) + (open_sides t + 1) ≤ 200) (sym turn_is)
+      sizes_fit = subst (λ (t : MoveRecord). length sizes - (t.parted + 1) + (open_sides t + 1) ≤ 200) (sym turn_is)
           (sizes_few r.front r.last kept legal few (0 + length (signs_of r.front)) sizes shows.sizes_are);
-      signs_fit = subst (λ (t : Turn). length signs - t.parted + open_sides t ≤ 200) (sym turn_is)
+      signs_fit = subst (λ (t : MoveRecord). length signs - t.parted + open_sides t ≤ 200) (sym turn_is)
           (signs_few r.front r.last kept legal few (0 + length (signs_of r.front)) signs shows.signs_are);
     }
       where
@@ -214,14 +213,14 @@ takes_back w ends sizes signs closed turns rest turn played s cut some = back (l
         turn_is = pair.1
 
 -- the same of what the code has stored, where it has a move
-pub taken_back : {self : Word} {ends sizes : List ℕ} {signs : List Sign} {closed : List ℕ} {turns rest : List Turn} {turn : Turn} {played : List Sign}
+pub taken_back : {self : Word} {ends sizes : List ℕ} {signs : List Sign} {closed : List ℕ} {turns rest : List MoveRecord} {turn : MoveRecord} {played : List Sign}
     → IsStored (moves_stored turns played) ends sizes signs closed turns played → turns ≡ rest ++ turn ∷ [] → 0 < length self
     → moves_stored turns played ≡ self → TakesBack (moves_stored turns played) ends sizes signs closed rest turn played
 taken_back {self} {ends} {sizes} {signs} {closed} {turns} {rest} {turn} {played} s cut some same =
     takes_back (moves_stored turns played) ends sizes signs closed turns rest turn played s cut (omega (arith, some, ap (length {A = Move}) same))
 
 -- the lists after a move was taken back, by those before
-pub record Back (ends sizes : List ℕ) (signs : List Sign) (closed : List ℕ) (played : List Sign) (turn : Turn) (new_ends new_sizes : List ℕ)
+pub record Back (ends sizes : List ℕ) (signs : List Sign) (closed : List ℕ) (played : List Sign) (turn : MoveRecord) (new_ends new_sizes : List ℕ)
     (new_signs : List Sign) (new_closed : List ℕ) (new_played : List Sign) : Type 0 where
   pub ends_new : new_ends ≡ splice ends turn.first (turn.first + turn.count) (drop (length closed - turn.closed) closed)
   pub sizes_new : new_sizes ≡ splice sizes (first_touched turn) (first_touched turn + (turn.parted + 1)) (sizes_before turn)
@@ -229,7 +228,7 @@ pub record Back (ends sizes : List ℕ) (signs : List Sign) (closed : List ℕ) 
   pub closed_new : new_closed ≡ take (length closed - turn.closed) closed
   pub played_new : new_played ≡ take turn.from played
 
-pub stored_back : {w : Word} {ends sizes : List ℕ} {signs : List Sign} {closed : List ℕ} {rest : List Turn} {turn : Turn}
+pub stored_back : {w : Word} {ends sizes : List ℕ} {signs : List Sign} {closed : List ℕ} {rest : List MoveRecord} {turn : MoveRecord}
     {played : List Sign} {new_ends new_sizes : List ℕ} {new_signs : List Sign} {new_closed : List ℕ} {new_played : List Sign}
     → (b : TakesBack w ends sizes signs closed rest turn played) → Back ends sizes signs closed played turn new_ends new_sizes new_signs new_closed new_played
     → IsStored b.front new_ends new_sizes new_signs new_closed rest new_played
@@ -252,7 +251,7 @@ pub behind_read : (xs read : List ℕ) (kept n : ℕ) → read ≡ xs → kept �
 behind_read xs read kept n e f = take_all (length read - kept) (drop kept read) (omega (arith, length-drop kept read)) ∙ (λ i. drop (f i) (e i))
 
 -- the moves that are left
-pub front_left : {w : Word} {ends sizes : List ℕ} {signs : List Sign} {closed : List ℕ} {rest : List Turn} {turn : Turn} {played : List Sign}
+pub front_left : {w : Word} {ends sizes : List ℕ} {signs : List Sign} {closed : List ℕ} {rest : List MoveRecord} {turn : MoveRecord} {played : List Sign}
     → (b : TakesBack w ends sizes signs closed rest turn played) → (now : Word) → w ≡ now → b.front ≡ take (length now - 1) now
 front_left b now e = sym (take_at b.front (b.last ∷ []) (length now - 1) long) ∙ ap (take (length now - 1)) (sym b.whole ∙ e)
   where

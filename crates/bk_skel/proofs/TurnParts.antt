@@ -15,7 +15,7 @@ use Rattle.bk_word_net.proofs.Shape.{AllFilled, Filled, Shaped}
 use Rattle.bk_word_net.proofs.ValleyCut.{AtValley, Beside}
 use Rattle.bk_skel.specs.Skeleton.{first_touched, open_sides, signs_before, sizes_before, turn_at}
 use Rattle.bk_skel.specs.Valley.{segment_sizes}
-use Rattle.bk_skel.specs.declared.turns.Turn.{Turn}
+use Rattle.bk_skel.specs.declared.turns.MoveRecord.{MoveRecord}
 
 -- the sum of some lengths
 pub sum_lengths : (l : List (List ℕ)) → sum (map length l) ≡ length (concat l)
@@ -78,7 +78,7 @@ two_signs left right left_signs right_signs a b filled full =
     cases (inr (l, e, f)) (inr (r, g, h)) = (λ i. slice_range (Under ∷ Above ∷ []) (1 - length (e i)) (1 + length (g i))) ∙ (λ i. sym f i ++ sym h i)
 
 module _ (o : Outline) (shaped : Shaped o) (m : Move) (from : ℕ) (v : AtValley o) (f : Filled o v) where
-  abbrev pub turn : Turn
+  abbrev pub turn : MoveRecord
   turn = turn_at (segment_sizes o) o.signs m from
 
   fronts : o.segments ≡ (v.before ++ v.left) ++ (v.valley ∷ (v.right ++ v.after))

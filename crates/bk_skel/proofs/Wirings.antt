@@ -8,10 +8,10 @@ use Rattle.bk_skel.proofs.EndNodes.{marked_node, sum_next}
 use Rattle.bk_word_net.proofs.Wires.{get_replicate}
 use Rattle.bk_skel.specs.Wiring.{AreWires, closed_of, counts_of, wires_from}
 use Rattle.bk_word_net.specs.WordNet.{end_of}
-use Rattle.bk_skel.specs.declared.turns.Turn.{Turn}
+use Rattle.bk_skel.specs.declared.turns.MoveRecord.{MoveRecord}
 
 -- the record that stands for none
-abbrev pub no_turn : Turn
+abbrev pub no_turn : MoveRecord
 no_turn = record { place = 0; first = 0; left = 0; closed = 0; right = 0; count = 0; parted = 0; from = 0; to = 0 }
 
 pub wire_at : (nodes node : ℕ) (ends : List ℕ) (i : ℕ) → i < length ends → AreWires nodes (map (λ e. (node, e)) ends)
@@ -28,29 +28,29 @@ wires_back : (nodes : ℕ) (front back : List (ℕ × ℕ)) → AreWires nodes (
 wires_back nodes [] back all = all
 wires_back nodes (w ∷ front) back all = wires_back nodes front back all.1
 
-pub drop_turn : (turns : List Turn) (node : ℕ) (d : Turn) → node < length turns → drop node turns ≡ get_or turns node d ∷ drop (suc node) turns
+pub drop_turn : (turns : List MoveRecord) (node : ℕ) (d : MoveRecord) → node < length turns → drop node turns ≡ get_or turns node d ∷ drop (suc node) turns
 drop_turn [] node d h = absurd (omega arith)
 drop_turn (t ∷ turns) zero d h = refl
 drop_turn (t ∷ turns) (suc node) d h = drop_turn turns node d (omega arith)
 
 -- the wires from one node, and those behind
-pub next_wires : (turns : List Turn) (rest : List ℕ) (node : ℕ) (d : Turn) → node < length turns
+pub next_wires : (turns : List MoveRecord) (rest : List ℕ) (node : ℕ) (d : MoveRecord) → node < length turns
     → wires_from node (counts_of (drop node turns)) rest ≡ map (λ e. (node, e)) (take (get_or turns node d).count rest)
     ++ wires_from (node + 1) (counts_of (drop (node + 1) turns)) (drop (get_or turns node d).count rest)
 next_wires turns rest node d h = let more : suc node ≡ node + 1 = omega arith in
-    ap (λ (l : List Turn). wires_from node (counts_of l) rest) (drop_turn turns node d h)
+    ap (λ (l : List MoveRecord). wires_from node (counts_of l) rest) (drop_turn turns node d h)
     ∙ (λ i. map (λ e. (node, e)) (take (get_or turns node d).count rest)
     ++ wires_from (node + 1) (counts_of (drop (more i) turns)) (drop (get_or turns node d).count rest))
 
-pub next_count : (turns : List Turn) (node : ℕ) (d : Turn) → node < length turns
+pub next_count : (turns : List MoveRecord) (node : ℕ) (d : MoveRecord) → node < length turns
     → sum (counts_of (drop node turns)) ≡ (get_or turns node d).count + sum (counts_of (drop (node + 1) turns))
 next_count turns node d h = let more : suc node ≡ node + 1 = omega arith in
-    ap (λ (l : List Turn). sum (counts_of l)) (drop_turn turns node d h)
+    ap (λ (l : List MoveRecord). sum (counts_of l)) (drop_turn turns node d h)
     ∙ sum_by-cons (λ (n : ℕ). n) (get_or turns node d).count (counts_of (drop (suc node) turns))
     ∙ ap (λ n. (get_or turns node d).count + sum (counts_of (drop n turns))) more
 
 -- what the wires from one node are known to be
-pub wires_here : (nodes most : ℕ) (all had : List (ℕ × ℕ)) (turns : List Turn) (rest own : List ℕ) (node count : ℕ) (d : Turn)
+pub wires_here : (nodes most : ℕ) (all had : List (ℕ × ℕ)) (turns : List MoveRecord) (rest own : List ℕ) (node count : ℕ) (d : MoveRecord)
     → node < length turns → AreWires most all → nodes ≡ most
     → all ≡ had ++ wires_from node (counts_of (drop node turns)) rest → count ≡ (get_or turns node d).count → own ≡ take count rest
     → AreWires nodes (map (λ e. (node, e)) own)
@@ -62,7 +62,7 @@ wires_here nodes most all had turns rest own node count d h good same whole e f 
     (subst (AreWires most) (next_wires turns rest node d h)
     (wires_back most had (wires_from node (counts_of (drop node turns)) rest) (subst (AreWires most) whole good)))))
 
-pub wires_more : (all had new : List (ℕ × ℕ)) (turns : List Turn) (rest own behind : List ℕ) (node count : ℕ) (d : Turn) → node < length turns
+pub wires_more : (all had new : List (ℕ × ℕ)) (turns : List MoveRecord) (rest own behind : List ℕ) (node count : ℕ) (d : MoveRecord) → node < length turns
     → all ≡ had ++ wires_from node (counts_of (drop node turns)) rest → count ≡ (get_or turns node d).count → own ≡ take count rest
     → behind ≡ drop count rest → new ≡ had ++ map (λ e. (node, e)) own
     → all ≡ new ++ wires_from (node + 1) (counts_of (drop (node + 1) turns)) behind
@@ -80,23 +80,23 @@ wires_more all had new turns rest own behind node count d h whole e f g put =
     behinds = sym (g ∙ ap (λ n. drop n rest) e)
 
 -- the number that a record has at its place
-pub closed_at : (turns : List Turn) (node : ℕ) (d : Turn) → node < length turns → slice_index (closed_of turns) node ≡ (get_or turns node d).closed
+pub closed_at : (turns : List MoveRecord) (node : ℕ) (d : MoveRecord) → node < length turns → slice_index (closed_of turns) node ≡ (get_or turns node d).closed
 closed_at [] node d h = absurd (omega arith)
 closed_at (t ∷ turns) zero d h = refl
 closed_at (t ∷ turns) (suc node) d h = closed_at turns node d (omega arith)
 
 -- the nodes at which squares end, where none is closed yet
-pub none_marked : (turns : List Turn) (lists : List (List ℕ)) (ended : List ℕ) (k : ℕ) → ended ≡ replicate 200 (length turns)
+pub none_marked : (turns : List MoveRecord) (lists : List (List ℕ)) (ended : List ℕ) (k : ℕ) → ended ≡ replicate 200 (length turns)
     → closed_of turns ≡ map length lists → k < 200
     → slice_index ended k ≡ length turns + end_of (drop (length turns) lists) (k + 1)
 none_marked turns lists ended k e long h = ap (λ (l : List ℕ). slice_index l k) e ∙ get_replicate 200 (length turns) k 0 h
     ∙ omega (arith, ap (λ (l : List (List ℕ)). end_of l (k + 1)) none)
   where
     none : drop (length turns) lists ≡ []
-    none = drop_all (length turns) lists (omega (arith, ap length long, length-map turns (λ (t : Turn). t.closed), length-map lists (length {A = ℕ})))
+    none = drop_all (length turns) lists (omega (arith, ap length long, length-map turns (λ (t : MoveRecord). t.closed), length-map lists (length {A = ℕ})))
 
 -- the squares that one node closes
-pub closed_next : (turns : List Turn) (node count end : ℕ) (d : Turn) → 0 < node → node ≤ length turns
+pub closed_next : (turns : List MoveRecord) (node count end : ℕ) (d : MoveRecord) → 0 < node → node ≤ length turns
     → count ≡ (get_or turns (node - 1) d).closed → end ≡ sum (take node (closed_of turns)) → end ≡ sum (take (node - 1) (closed_of turns)) + count
 closed_next turns zero count end d some within e at = absurd (omega arith)
 closed_next turns (suc node) count end d some within e at =
@@ -104,7 +104,7 @@ closed_next turns (suc node) count end d some within e at =
       arith,
       at,
       e,
-      sum_next (closed_of turns) node (omega (arith, length-map turns (λ (t : Turn). t.closed))),
+      sum_next (closed_of turns) node (omega (arith, length-map turns (λ (t : MoveRecord). t.closed))),
       closed_at turns node d (omega arith),
       same,
       gets,
@@ -119,7 +119,7 @@ closed_next turns (suc node) count end d some within e at =
     gets : (get_or turns (suc node - 1) d).closed ≡ (get_or turns node d).closed
     gets = ap (λ n. (get_or turns n d).closed) back
 
-pub mark_next : (turns : List Turn) (lists : List (List ℕ)) (closed ended new : List ℕ) (node count end k : ℕ) (d : Turn) → 0 < node
+pub mark_next : (turns : List MoveRecord) (lists : List (List ℕ)) (closed ended new : List ℕ) (node count end k : ℕ) (d : MoveRecord) → 0 < node
     → node ≤ length turns → count ≡ (get_or turns (node - 1) d).closed → end ≡ sum (take node (closed_of turns))
     → closed ≡ concat lists → closed_of turns ≡ map length lists
     → slice_index new k ≡ cond (list_any (nat_eq (k + 1)) (take (end - (end - count)) (drop (end - count) closed))) (node - 1) (slice_index ended k)
@@ -128,7 +128,7 @@ mark_next turns lists closed ended new zero count end k d some within e at flat 
 mark_next turns lists closed ended new (suc node) count end k d some within e at flat long marked before =
     subst (λ (n : ℕ). slice_index new k ≡ n + end_of (drop n lists) (k + 1)) (sym back)
     (marked_node lists closed (closed_of turns) node (end - count) end (k + 1) (slice_index ended k) (slice_index new k) flat long
-    (omega (arith, length-map turns (λ (t : Turn). t.closed)))
+    (omega (arith, length-map turns (λ (t : MoveRecord). t.closed)))
     (omega (arith, closed_next turns (suc node) count end d some within e at, ap (λ n. sum (take n (closed_of turns))) back)) at
     (marked ∙ ap (λ n. cond (list_any (nat_eq (k + 1)) (take (end - (end - count)) (drop (end - count) closed))) n (slice_index ended k)) back) before)
   where

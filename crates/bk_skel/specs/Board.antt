@@ -8,7 +8,6 @@ use Rattle.bk_tiling.specs.Kept.{IsSide}
 use Rattle.bk_tiling.specs.Tiling.{IsOneOf}
 use Rattle.bk_tiling.specs.declared.Segment.{Segment}
 use Rattle.bk_tiling.specs.declared.Square.{Square}
-use Rattle.bk_tiling.specs.declared.TheConstants.{LONGEST_SIDE, MOST_SQUARES}
 use Rattle.bk_word.specs.Outline.{IsLegalMove, Outline, valley_of}
 use Rattle.bk_word.specs.declared.Sign.{Sign}
 use Rattle.bk_word_net.specs.LaidOutline.{IsGap, IsNumber, ShowsLaid, front_of, square_at}
@@ -29,11 +28,11 @@ columns_of laid numbers = sum_by (λ n. (square_at laid n).s) numbers
 pub record IsBoard (width : ℕ) (laid : List Square) (numbers : List ℕ) (o : Outline) : Type 0 where
   pub shows : ShowsLaid width laid o
   pub some : 0 < width
-  pub narrow : width ≤ LONGEST_SIDE * MOST_SQUARES
+  pub narrow : width ≤ 999_999_999_999_999 * 200
   pub numbers_are : numbers ≡ concat o.segments
   pub known : AllByRecursion (IsNumber laid) numbers
   pub few : length numbers ≤ length laid
-  pub low : (q : Square) → IsOneOf q laid → q.y + q.s ≤ LONGEST_SIDE * length laid
+  pub low : (q : Square) → IsOneOf q laid → q.y + q.s ≤ 999_999_999_999_999 * length laid
 
 -- the move of these signs, of as many squares as sides, is legal, and its valley's numbers stand from `first` up to `end`
 pub record CanLay (width : ℕ) (laid : List Square) (numbers : List ℕ) (first end : ℕ) (signs : List Sign) (new : List ℕ) (o : Outline) : Type 0 where
@@ -42,12 +41,12 @@ pub record CanLay (width : ℕ) (laid : List Square) (numbers : List ℕ) (first
   pub first_is : first ≡ length (front_of o)
   pub end_is : end ≡ length (front_of o) + length (valley_of o)
   pub sides : AllByRecursion IsSide new
-  pub room : length laid + length new ≤ MOST_SQUARES
+  pub room : length laid + length new ≤ 200
 
 -- all squares are laid, and one segment is left
 pub record IsClosed (width : ℕ) (laid : List Square) (numbers : List ℕ) (o : Outline) : Type 0 where
   pub board : IsBoard width laid numbers o
   pub one : length o.segments ≡ 1
   pub some : 0 < length laid
-  pub few : length laid ≤ MOST_SQUARES
+  pub few : length laid ≤ 200
   pub sides : AllByRecursion (λ q. IsSide q.s) laid

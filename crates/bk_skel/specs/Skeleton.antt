@@ -8,12 +8,12 @@ use Rattle.bk_word.specs.Word.{Move, Word}
 use Rattle.bk_word.specs.declared.Sign.{Sign}
 use Rattle.bk_word.specs.declared.Sign.TheVariants.{Above, Under}
 use Rattle.bk_skel.specs.Valley.{IsKeptSkeleton, segment_sizes}
-use Rattle.bk_skel.specs.declared.turns.Turn.{Turn}
+use Rattle.bk_skel.specs.declared.turns.MoveRecord.{MoveRecord}
 
 -- the record of a move, whose signs begin at this place of all moves' signs, by the sizes of the open segments and the
 -- signs between them: the valley's place, how many open squares stand at its left, how many squares the valley and the
 -- segments beside it have (none beside a wall), and how many signs of the move stay between segments
-abbrev pub turn_at : List ℕ → List Sign → Move → ℕ → Turn
+abbrev pub turn_at : List ℕ → List Sign → Move → ℕ → MoveRecord
 turn_at sizes signs m from = record {
   place = valley_place signs;
   first = sum (take (valley_place signs) sizes);
@@ -27,18 +27,18 @@ turn_at sizes signs m from = record {
 }
 
 -- the place of the first segment that a move touches: the one left of the valley, or the valley at the wall
-abbrev pub first_touched : Turn → ℕ
+abbrev pub first_touched : MoveRecord → ℕ
 first_touched turn = turn.place - min turn.left 1
 
 -- how many of the valley's sides are no walls
-abbrev pub open_sides : Turn → ℕ
+abbrev pub open_sides : MoveRecord → ℕ
 open_sides turn = min turn.left 1 + min turn.right 1
 
 -- the sizes of the segments that a move touched, as they were before it, and the signs between them
-abbrev pub sizes_before : Turn → List ℕ
+abbrev pub sizes_before : MoveRecord → List ℕ
 sizes_before turn = slice_range (turn.left ∷ turn.closed ∷ turn.right ∷ []) (1 - min turn.left 1) (2 + min turn.right 1)
 
-abbrev pub signs_before : Turn → List Sign
+abbrev pub signs_before : MoveRecord → List Sign
 signs_before turn = slice_range (Under ∷ Above ∷ []) (1 - min turn.left 1) (1 + min turn.right 1)
 
 -- the size of the next segment while segments are joined: one new square, or the last segment
@@ -53,11 +53,11 @@ joined_sizes size last (g ∷ signs) = cond (parts g) (size ∷ joined_sizes (ne
     (joined_sizes (size + next_size last signs) last signs)
 
 -- the sizes of the segments that stand in the place of those that a move touches
-abbrev pub sizes_after : Turn → List Sign → List ℕ
+abbrev pub sizes_after : MoveRecord → List Sign → List ℕ
 sizes_after turn signs = joined_sizes (max turn.left 1) (max turn.right 1) signs
 
 -- the records of moves that are played one after another
-abbrev pub turns_from : Outline → ℕ → Word → List Turn
+abbrev pub turns_from : Outline → ℕ → Word → List MoveRecord
 turns_from o from [] = []
 turns_from o from (m ∷ moves) = turn_at (segment_sizes o) o.signs m from ∷ turns_from (after_move o m) (from + length m.signs) moves
 
@@ -66,11 +66,11 @@ abbrev pub signs_of : Word → List Sign
 signs_of moves = flat_map (λ m. m.signs) moves
 
 -- the move of a record, out of the signs of all moves
-abbrev pub move_of : List Sign → Turn → Move
+abbrev pub move_of : List Sign → MoveRecord → Move
 move_of played turn = record { count = turn.count; signs = slice_range played turn.from turn.to }
 
 -- the moves that are stored
-abbrev pub moves_stored : List Turn → List Sign → Word
+abbrev pub moves_stored : List MoveRecord → List Sign → Word
 moves_stored turns played = map (move_of played) turns
 
 -- the flat lists show an outline: the numbers of the open squares from left to right, how many each segment has, the
@@ -82,7 +82,7 @@ pub record Shows (o : Outline) (ends sizes : List ℕ) (signs : List Sign) (clos
   pub closed_are : closed ≡ concat o.closed
 
 -- all that is stored of moves
-pub record IsStored (moves : Word) (ends sizes : List ℕ) (signs : List Sign) (closed : List ℕ) (turns : List Turn) (played : List Sign) : Type 0 where
+pub record IsStored (moves : Word) (ends sizes : List ℕ) (signs : List Sign) (closed : List ℕ) (turns : List MoveRecord) (played : List Sign) : Type 0 where
   pub kept : IsKeptSkeleton moves
   pub shows : Shows (outline_of moves) ends sizes signs closed
   pub turns_are : turns ≡ turns_from start 0 moves

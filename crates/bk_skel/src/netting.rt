@@ -5,19 +5,19 @@ ghost use Rattle.std.specs.Prelude.{List, cond, length, map, nat_eq, replicate, 
 ghost use Rattle.bk_word_net.specs.WordNet.{end_of};
 ghost use Rattle.bk_skel.specs.Wiring.{AreNumbers, AreWires, closed_of, counts_of, wires_from};
 
-use crate::turns::Turn;
+use crate::turns::MoveRecord;
 use bk_net::Net;
 use bk_word::LARGEST_ORDER;
 
 // The node at which each square ends, in the order of the squares' numbers from 1: the one whose move closes it, or the last
 // node where none does.
-pub(crate) fn end_nodes(turns: &[Turn], closed: &[u8]) -> [u8; LARGEST_ORDER]
-    requires few { length turns.now ≤ LARGEST_ORDER }
-    requires numbers { AreNumbers LARGEST_ORDER closed.now }
+pub(crate) fn end_nodes(turns: &[MoveRecord], closed: &[u8]) -> [u8; LARGEST_ORDER]
+    requires few { length turns.now ≤ 200 }
+    requires numbers { AreNumbers 200 closed.now }
     requires many { length closed.now ≡ sum (closed_of turns.now) }
-    ensures long { length result ≡ LARGEST_ORDER }
+    ensures long { length result ≡ 200 }
     ensures nodes { (lists : List (List ℕ)) → closed.now ≡ concat lists → closed_of turns.now ≡ map length lists
-        → (k : ℕ) → k < LARGEST_ORDER → slice_index result k ≡ end_of lists (k + 1) }
+        → (k : ℕ) → k < 200 → slice_index result k ≡ end_of lists (k + 1) }
 {
     let mut ended = all_at(turns.len() as u8);
     let mut node = turns.len();
@@ -33,7 +33,7 @@ pub(crate) fn end_nodes(turns: &[Turn], closed: &[u8]) -> [u8; LARGEST_ORDER]
 
 // Each square at one node.
 fn all_at(node: u8) -> [u8; LARGEST_ORDER]
-    ensures { result ≡ replicate LARGEST_ORDER node }
+    ensures { result ≡ replicate 200 node }
 {
     [node; LARGEST_ORDER]
 }
@@ -50,11 +50,11 @@ fn mark(ended: &mut [u8], squares: &[u8], node: u8)
 }
 
 // The net in which the moves of these records hang squares that end at these nodes.
-pub(crate) fn wired(turns: &[Turn], ends: &[u8]) -> Net
+pub(crate) fn wired(turns: &[MoveRecord], ends: &[u8]) -> Net
     requires some { 0 < length turns.now }
-    requires few { length turns.now ≤ LARGEST_ORDER }
+    requires few { length turns.now ≤ 200 }
     requires all { length ends.now ≡ sum (counts_of turns.now) }
-    requires room { length ends.now ≤ LARGEST_ORDER }
+    requires room { length ends.now ≤ 200 }
     requires wires { AreWires (length turns.now + 1) (wires_from 0 (counts_of turns.now) ends.now) }
     ensures { result ≡ record { nodes = length turns.now + 1; wires = wires_from 0 (counts_of turns.now) ends.now } }
 {

@@ -6,22 +6,22 @@ ghost use Rattle.bk_word.specs.Play.{parts};
 ghost use Rattle.bk_skel.specs.Skeleton.{first_touched, joined_sizes, open_sides, signs_before, sizes_after, sizes_before};
 
 use crate::splicing::{make_room, splice};
-use crate::turns::{Turn, parts};
+use crate::turns::{MoveRecord, parts};
 use arrayvec::ArrayVec;
 use bk_word::{LARGEST_ORDER, Sign};
 
 // Joins and parts the segments that a move touches: the new sizes and signs stand in the place of theirs.
-pub(crate) fn part(
+pub(crate) fn apply_signs(
     sizes: &mut ArrayVec<u8, LARGEST_ORDER>,
     signs: &mut ArrayVec<Sign, LARGEST_ORDER>,
-    turn: &Turn,
+    turn: &MoveRecord,
     moved: &[Sign],
 )
     requires parted { turn.now.parted ≡ count_by parts moved.now }
     requires sizes_within { first_touched turn.now + (open_sides turn.now + 1) ≤ length sizes.old.items }
     requires signs_within { first_touched turn.now + open_sides turn.now ≤ length signs.old.items }
-    requires sizes_fit { length sizes.old.items - (open_sides turn.now + 1) + (turn.now.parted + 1) ≤ LARGEST_ORDER }
-    requires signs_fit { length signs.old.items - open_sides turn.now + turn.now.parted ≤ LARGEST_ORDER }
+    requires sizes_fit { length sizes.old.items - (open_sides turn.now + 1) + (turn.now.parted + 1) ≤ 200 }
+    requires signs_fit { length signs.old.items - open_sides turn.now + turn.now.parted ≤ 200 }
     requires small { turn.now.left + length moved.now + turn.now.right ≤ 253 }
     ensures sizes { sizes.new.items ≡ splice sizes.old.items (first_touched turn.now)
         (first_touched turn.now + (open_sides turn.now + 1)) (sizes_after turn.now moved.now) }
@@ -43,15 +43,15 @@ pub(crate) fn part(
 }
 
 // Takes that back.
-pub(crate) fn part_back(
+pub(crate) fn undo_signs(
     sizes: &mut ArrayVec<u8, LARGEST_ORDER>,
     signs: &mut ArrayVec<Sign, LARGEST_ORDER>,
-    turn: &Turn,
+    turn: &MoveRecord,
 )
     requires sizes_within { first_touched turn.now + (turn.now.parted + 1) ≤ length sizes.old.items }
     requires signs_within { first_touched turn.now + turn.now.parted ≤ length signs.old.items }
-    requires sizes_fit { length sizes.old.items - (turn.now.parted + 1) + (open_sides turn.now + 1) ≤ LARGEST_ORDER }
-    requires signs_fit { length signs.old.items - turn.now.parted + open_sides turn.now ≤ LARGEST_ORDER }
+    requires sizes_fit { length sizes.old.items - (turn.now.parted + 1) + (open_sides turn.now + 1) ≤ 200 }
+    requires signs_fit { length signs.old.items - turn.now.parted + open_sides turn.now ≤ 200 }
     ensures sizes { sizes.new.items ≡ splice sizes.old.items (first_touched turn.now)
         (first_touched turn.now + (turn.now.parted + 1)) (sizes_before turn.now) }
     ensures signs { signs.new.items ≡ splice signs.old.items (first_touched turn.now)

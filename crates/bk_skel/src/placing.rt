@@ -1,7 +1,7 @@
 //! Squares placed along the moves of a complete word, from their sides.
 
 ghost use Rattle.std.specs.List.{AllByRecursion};
-ghost use Rattle.std.specs.Prelude.{IfSome, IsSomeAnd, IsTrue, drop, false, length, map, sum, take, true, ℕ, ◌*◌, ◌+◌, ◌++◌, ◌<◌, ◌^◌, ◌↔◌, ◌≡◌, ◌≤◌};
+ghost use Rattle.std.specs.Prelude.{IfSome, IsSomeAnd, IsTrue, drop, false, length, map, take, true, ℕ, ◌+◌, ◌++◌, ◌<◌, ◌^◌, ◌↔◌, ◌≡◌};
 ghost use Rattle.bk_tiling.specs.CodeOrder.{in_code_order};
 ghost use Rattle.bk_tiling.specs.Column.{depth};
 ghost use Rattle.bk_tiling.specs.Kept.{IsSide};
@@ -21,7 +21,7 @@ use crate::skeleton::Skel;
 use crate::splicing::splice_numbers;
 use arrayvec::ArrayVec;
 use bk_lay::sign_between;
-use bk_tiling::{LONGEST_SIDE, MOST_SQUARES, Segment, Square, Tiling};
+use bk_tiling::{MOST_SQUARES, Segment, Square, Tiling, push_group, sum_of};
 use bk_word::Sign;
 
 // The numbers of the laid squares that are open, from left to right. Squares are numbered from 1 in the order of laying.
@@ -144,37 +144,6 @@ fn columns_over(laid: &[Square], numbers: &[u8]) -> u64
         columns += square_of(laid, *number).s;
     }
     columns
-}
-
-// The sum of sides.
-pub(crate) fn sum_of(sides: &[u64]) -> u64
-    requires few { length sides.now ≤ MOST_SQUARES }
-    requires sides { AllByRecursion IsSide sides.now }
-    ensures sum { result ≡ sum sides.now }
-    ensures small { result ≤ LONGEST_SIDE * length sides.now }
-{
-    let mut total = 0;
-    for side in sides {
-        total += *side;
-    }
-    total
-}
-
-// Appends the squares of a group under a gap.
-fn push_group(laid: &mut ArrayVec<Square, MOST_SQUARES>, gap: Segment, sides: &[u64])
-    requires room { length laid.old.items + length sides.now ≤ MOST_SQUARES }
-    requires fits { gap.x + sum sides.now < 2 ^ 63 }
-    ensures { laid.new.items ≡ laid.old.items ++ laid_group gap.x gap.level sides.now }
-{
-    let mut x = gap.x;
-    for side in sides {
-        laid.push(Square {
-            x,
-            y: gap.level,
-            s: *side,
-        });
-        x += *side;
-    }
 }
 
 // Whether the bottoms of squares compare as the signs between them say.

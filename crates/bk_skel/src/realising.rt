@@ -119,17 +119,12 @@ fn realised(skel: &Skel, flow: &Flow) -> Result<Option<Tiling>, Wide>
 fn has_large(currents: &[i128]) -> bool
     ensures { IsTrue result ↔ Any (λ c. 10 ^ 15 ≤ nat_abs c) currents.now }
 {
-    for current in currents {
-        if current.unsigned_abs() > u128::from(LONGEST_SIDE) {
-            return true;
-        }
-    }
-    false
+    currents.iter().any(|current| current.unsigned_abs() > u128::from(LONGEST_SIDE))
 }
 
 // The currents as sides, where each is at least 1.
 fn sides_of(currents: &[i128]) -> Option<ArrayVec<u64, MOST_SQUARES>>
-    requires few { length currents.now ≤ MOST_SQUARES }
+    requires few { length currents.now ≤ 200 }
     requires small { All (λ c. nat_abs c < 10 ^ 15) currents.now }
     ensures sides { IfSome result (λ s. AllByRecursion IsSide s.items) }
     ensures currents { IfSome result (λ s. currents.now ≡ map pos s.items) }

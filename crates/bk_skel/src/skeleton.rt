@@ -16,9 +16,9 @@ ghost use Rattle.bk_word_net.specs.WordNet.{net_of_word};
 
 use crate::counting::Steps;
 use crate::netting::{end_nodes, wired};
-use crate::parting::{part, part_back};
+use crate::parting::{apply_signs, undo_signs};
 use crate::splicing::{append, splice, splice_numbers};
-use crate::turns::{Turn, leftmost, turn_for};
+use crate::turns::{MoveRecord, leftmost, turn_for};
 use arrayvec::ArrayVec;
 use bk_net::Net;
 use bk_word::{LARGEST_ORDER, Move, Sign};
@@ -54,7 +54,7 @@ pub struct Skel {
     sizes: ArrayVec<u8, LARGEST_ORDER>,
     signs: ArrayVec<Sign, LARGEST_ORDER>,
     closed: ArrayVec<u8, LARGEST_ORDER>,
-    turns: ArrayVec<Turn, LARGEST_ORDER>,
+    turns: ArrayVec<MoveRecord, LARGEST_ORDER>,
     played: ArrayVec<Sign, MOST_SIGNS>,
 }
 
@@ -100,7 +100,7 @@ impl Skel {
     /// Plays a move, which must be legal, with at most 200 squares then. It is one step.
     pub fn push<L: Ledger>(&mut self, m: &Move, steps: &mut Steps<L>)
         requires legal { IsLegalMove (outline_of self.old) m.now }
-        requires few { order_of self.old + m.now.count ≤ LARGEST_ORDER }
+        requires few { order_of self.old + m.now.count ≤ 200 }
         ensures moves { self.new ≡ self.old ++ m.now ∷ [] }
         ensures step { steps.new ≡ steps.old + 1 }
     {
@@ -111,7 +111,7 @@ impl Skel {
     /// Plays a move, which must be legal, with at most 200 squares then. It counts no step.
     pub fn play(&mut self, m: &Move)
         requires legal { IsLegalMove (outline_of self.old) m.now }
-        requires few { order_of self.old + m.now.count ≤ LARGEST_ORDER }
+        requires few { order_of self.old + m.now.count ≤ 200 }
         ensures { self.new ≡ self.old ++ m.now ∷ [] }
     {
         let turn = turn_for(
@@ -126,7 +126,7 @@ impl Skel {
         let end = first + usize::from(turn.closed);
         append(&mut self.closed, &self.ends[first..end]);
         splice_numbers(&mut self.ends, first, end, number, m.count);
-        part(&mut self.sizes, &mut self.signs, &turn, &m.signs);
+        apply_signs(&mut self.sizes, &mut self.signs, &turn, &m.signs);
         append(&mut self.played, &m.signs);
         self.turns.push(turn);
     }
@@ -139,7 +139,7 @@ impl Skel {
         let turn = take_last(&mut self.turns);
         let first = usize::from(turn.first);
         let kept = self.closed.len() - usize::from(turn.closed);
-        part_back(&mut self.sizes, &mut self.signs, &turn);
+        undo_signs(&mut self.sizes, &mut self.signs, &turn);
         splice(
             &mut self.ends,
             first,
@@ -236,7 +236,7 @@ impl Skel {
     /// How many squares the moves hang.
     pub fn order(&self) -> usize
         ensures value { result ≡ order_of self.now }
-        ensures few { result ≤ LARGEST_ORDER }
+        ensures few { result ≤ 200 }
     {
         self.ends.len() + self.closed.len()
     }
@@ -268,7 +268,7 @@ pub fn open_side(wall: bool) -> usize
 }
 
 // Takes the last record off.
-fn take_last(turns: &mut ArrayVec<Turn, LARGEST_ORDER>) -> Turn
+fn take_last(turns: &mut ArrayVec<MoveRecord, LARGEST_ORDER>) -> MoveRecord
     requires { 0 < length turns.old.items }
     ensures { turns.old.items ≡ turns.new.items ++ result ∷ [] }
 {
@@ -280,7 +280,7 @@ fn take_last(turns: &mut ArrayVec<Turn, LARGEST_ORDER>) -> Turn
 
 impl Skel {
     // The record of the move at place i.
-    pub(crate) fn turn(&self, i: usize) -> Turn
+    pub(crate) fn turn(&self, i: usize) -> MoveRecord
         requires { i < length self.now }
         ensures { SaysWhere self.now i result }
     {

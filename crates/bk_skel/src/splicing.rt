@@ -90,7 +90,7 @@ pub(crate) fn append<T: Copy + Drop, const N: usize>(list: &mut ArrayVec<T, N>, 
     requires { length list.old.items + length items.now ≤ N }
     ensures { list.new.items ≡ list.old.items ++ items.now }
 {
-    for item in items {
-        list.push(*item);
+    if list.try_extend_from_slice(items).is_err() {
+        unreachable!();
     }
 }

@@ -10,7 +10,7 @@ use bk_word::Sign;
 /// What is kept of a move: where its valley stood, what stood there and beside it, what was hung, and which of the signs
 /// of all moves are its own.
 #[derive(Clone, Copy, Debug, Default, PartialEq, Eq, Drop)]
-pub(crate) struct Turn {
+pub(crate) struct MoveRecord {
     // how many open segments stood at the valley's left
     pub(crate) place: u8,
     // how many open squares stood there
@@ -30,7 +30,7 @@ pub(crate) struct Turn {
     pub(crate) to: u16,
 }
 
-impl Turn {
+impl MoveRecord {
     // The place of the first segment that the move touches: the one left of the valley, or the valley at the wall.
     pub(crate) fn first_touched(&self) -> usize
         ensures { result ≡ first_touched self.now }
@@ -48,7 +48,13 @@ impl Turn {
 
 // The record of a move, of so many squares and with these signs, where the open segments have these sizes and signs, and so
 // many signs of earlier moves are kept.
-pub(crate) fn turn_for(sizes: &[u8], signs: &[Sign], count: u8, moved: &[Sign], from: usize) -> Turn
+pub(crate) fn turn_for(
+    sizes: &[u8],
+    signs: &[Sign],
+    count: u8,
+    moved: &[Sign],
+    from: usize,
+) -> MoveRecord
     requires many { length sizes.now ≡ length signs.now + 1 }
     requires few { length sizes.now ≤ 200 }
     requires small { sum sizes.now ≤ 200 }
@@ -57,7 +63,7 @@ pub(crate) fn turn_for(sizes: &[u8], signs: &[Sign], count: u8, moved: &[Sign], 
     ensures { result ≡ turn_at sizes.now signs.now (record { count = count; signs = moved.now }) from }
 {
     let (place, first) = leftmost(sizes, signs);
-    Turn {
+    MoveRecord {
         place: place as u8,
         first: first as u8,
         left: left_of(sizes, place),

@@ -93,7 +93,7 @@ alike_tilings_have_one_canonical t u c d turn tiling other alike of_t of_u =
     same = sym (alike_scaled (image turn t) u (images_are_tilings t turn tiling) other alike) ∙ scaled-image turn t tiling
 
 -- a tiling in lowest terms stays as it is
-scaled_twice : (t : Tiling) → IsTiling t → scaled_down_tiling (scaled_down_tiling t) ≡ scaled_down_tiling t
+pub scaled_twice : (t : Tiling) → IsTiling t → scaled_down_tiling (scaled_down_tiling t) ≡ scaled_down_tiling t
 scaled_twice t tiling = alike_scaled (scaled_down_tiling t) t (scaled_is_tiling t tiling) tiling
     (side_divisor t, 1, some_divisor t tiling, omega arith, sym (whole_again t tiling) ∙ sym (enlarged-once t))
 

@@ -9,6 +9,7 @@ use Rattle.bk_sym.proofs.Greatest.{IsGreatestSoFar, at_most-refl, at_most-total,
 use Rattle.bk_sym.proofs.ScaledDown.{scaled_is_tiling}
 use Rattle.bk_sym.specs.Canonical.{IsAtMost, IsCanonicalOf, Lies, scaled_down_tiling}
 use Rattle.bk_sym.specs.Image.{image}
+use Rattle.bk_sym.specs.ImageLaws.{EveryTilingHasACanonical}
 use Rattle.bk_sym.specs.declared.Turn.{Turn}
 use Rattle.bk_sym.specs.declared.Turn.TheVariants.{Same, Swap}
 
@@ -41,7 +42,7 @@ module _ (s : Tiling) (first : Turn) (lies : Lies (image first s)) where
   greatest zero = (image first s, so_far-none s first others (image first s) refl lies)
   greatest (suc k) = let more = one_more k (greatest k) in (more.0, subst (λ (n : ℕ). IsGreatestSoFar s first others n more.0) (omega arith) more.1)
 
-pub every_tiling_has_a_canonical : (t : Tiling) → IsTiling t → (c : Tiling) × IsCanonicalOf t c
+pub every_tiling_has_a_canonical : EveryTilingHasACanonical
 every_tiling_has_a_canonical t tiling = cases (cases_lt (scaled_down_tiling t).width (scaled_down_tiling t).height)
   where
     small : IsTiling (scaled_down_tiling t)

@@ -3,7 +3,8 @@ use Rattle.std.specs.Prelude.{[], refl, ◌∷◌, ◌≡◌}
 use Rattle.std.proofs.Common.{arith, lit≤}
 use Rattle.bk_tiling.proofs.ExampleTilings.{rectangle_33x32, rectangle_3x2, rectangle_69x61, turned_33x32}
 use Rattle.bk_code.specs.Code.{code_of}
-use Rattle.bk_sym.specs.Canonical.{IsCanonical, IsCanonicalOf}
+use Rattle.bk_tiling.specs.Scale.{enlarged}
+use Rattle.bk_sym.specs.Canonical.{IsCanonical, IsCanonicalOf, scaled_down_tiling}
 use Rattle.bk_sym.specs.Image.{image}
 use Rattle.bk_sym.specs.Turns.{after, undoing}
 use Rattle.bk_sym.specs.declared.Turn.TheVariants.{FlipX, FlipY, Half, Same, Swap, SwapFlipX, SwapFlipY, SwapHalf}
@@ -22,6 +23,10 @@ code-SwapHalf = refl
 
 code-turned : code_of turned_33x32 ≡ (36 ∷ 28 ∷ []) ∷ (8 ∷ 20 ∷ []) ∷ (30 ∷ 14 ∷ []) ∷ (2 ∷ 18 ∷ []) ∷ (16 ∷ []) ∷ []
 code-turned = refl
+
+-- in lowest terms it is half as large
+scaled-turned : turned_33x32 ≡ enlarged 2 (scaled_down_tiling turned_33x32)
+scaled-turned = refl
 
 -- its canonical tiling
 canonical-turned : IsCanonicalOf turned_33x32 rectangle_33x32

@@ -90,3 +90,14 @@ all_turned turn t w h k xs made ew eh same all e =
 pub made : (w h : ℕ) (squares : List Square) (t : Tiling) → w ≡ t.width → h ≡ t.height → squares ≡ t.squares
     → record { width = w; height = h; squares = squares } ≡ t
 made w h squares t ew eh es = λ i. record { width = ew i; height = eh i; squares = es i }
+
+-- a square with its place and its side divided
+abbrev pub divided : ℕ → Square → Square
+divided g q = record { x = q.x / g; y = q.y / g; s = q.s / g }
+
+-- the tiling scaled down, of the numbers and squares of a tiling divided by the divisor of its sides
+pub scaled_made : (t : Tiling) (g w h k : ℕ) (xs items : List Square) → g ≡ side_divisor t → w ≡ t.width → h ≡ t.height → xs ≡ t.squares
+    → length xs ≤ k → items ≡ map (divided g) (take k xs) → record { width = w / g; height = h / g; squares = items } ≡ scaled_down_tiling t
+scaled_made t g w h k xs items eg ew eh same all is = made (w / g) (h / g) items (scaled_down_tiling t)
+    (ap (λ n. n / g) ew ∙ ap (λ n. t.width / n) eg) (ap (λ n. n / g) eh ∙ ap (λ n. t.height / n) eg)
+    (all_taken (divided g) k xs t.squares items same all is ∙ ap (λ n. map (divided n) t.squares) eg)

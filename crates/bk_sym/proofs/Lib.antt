@@ -8,6 +8,7 @@ pub mod Multiples
 pub mod Comparing
 pub mod KeptImages
 pub mod Greatest
+pub mod FirstSide
 pub mod OwnCanonical
 pub mod AlikeLaws
 pub mod GreatestImage

@@ -19,6 +19,11 @@ ImagesOfImages = (t : Tiling) (a b : Turn) → IsTiling t → image a (image b t
 abbrev pub ImagesAreUndone : Type 0
 ImagesAreUndone = (t : Tiling) (turn : Turn) → IsTiling t → image (undoing turn) (image turn t) ≡ t
 
+-- each tiling has a canonical tiling. Example (ImageExamples): of 33x32 enlarged twofold
+-- and with columns and levels exchanged it is 33x32
+abbrev pub EveryTilingHasACanonical : Type 0
+EveryTilingHasACanonical = (t : Tiling) → IsTiling t → (c : Tiling) × IsCanonicalOf t c
+
 -- a tiling has at most one canonical tiling, and it is a tiling
 abbrev pub ACanonicalTilingIsOne : Type 0
 ACanonicalTilingIsOne =

@@ -7,10 +7,11 @@ ghost use Rattle.bk_frac.specs.Divisor.{gcd as common_divisor, gcd_of};
 ghost use Rattle.bk_sym.specs.Canonical.{IsAtMost, IsCanonical, IsCanonicalOf, IsGreatestImage, Lies, scaled_down_tiling};
 ghost use Rattle.bk_sym.specs.Image.{image, image_size, image_square};
 ghost use Rattle.bk_sym.specs.ImageLaws.{ACanonicalTilingIsItsOwn, ACanonicalTilingIsOne, AlikeTilingsHaveOneCanonical, ImagesAreTilings};
-ghost use Rattle.bk_sym.specs.ImageLaws.{ImagesAreUndone, ImagesOfImages, OneCanonicalMeansAlike};
+ghost use Rattle.bk_sym.specs.ImageLaws.{EveryTilingHasACanonical, ImagesAreUndone, ImagesOfImages, OneCanonicalMeansAlike};
 ghost use Rattle.bk_sym.specs.declared.Turn.TheVariants.{Same};
 ghost use Rattle.bk_tiling.specs.CodeOrder.{InCodeOrder, in_code_order};
 ghost use Rattle.bk_tiling.specs.Kept.{IsKept};
+ghost use Rattle.bk_tiling.specs.Scale.{IsPrimitiveTiling, enlarged};
 ghost use Rattle.bk_tiling.specs.Tiling.{sides_of};
 
 use arrayvec::ArrayVec;
@@ -104,9 +105,12 @@ fn put_in_order(squares: &mut ArrayVec<Square, MOST_SQUARES>)
     squares.sort_unstable_by_key(|q| (q.y, q.x));
 }
 
-/// The tiling in lowest terms: all places and sides divided by the greatest common divisor of the sides.
+/// The tiling in lowest terms: all places and sides divided by the greatest common divisor of the sides. The division is
+/// exact, and only 1 divides all sides of what it gives.
 pub fn scale_down(tiling: &Tiling) -> Tiling
     ensures value { result ≡ scaled_down_tiling tiling.now }
+    ensures exact { tiling.now ≡ enlarged (gcd_of (sides_of tiling.now)) result }
+    ensures primitive { IsPrimitiveTiling result }
     ensures kept { IsKept result }
 {
     let divisor = side_divisor(tiling);
@@ -155,10 +159,48 @@ pub fn canonical(tiling: &Tiling) -> Tiling
     let mut greatest = image(&small, first);
     for which in OTHERS {
         if which != first && lies(&small, which) {
-            greatest = later_of(greatest, image(&small, which));
+            greatest = later_image(greatest, &small, which);
         }
     }
     greatest
+}
+
+// Of a tiling and an image of another the one with the greater flat list of sides.
+fn later_image(greatest: Tiling, tiling: &Tiling, which: Turn) -> Tiling
+    ensures one { (result ≡ greatest) ⊎ (result ≡ image which tiling.now) }
+    ensures first { IsAtMost greatest result }
+    ensures second { IsAtMost (image which tiling.now) result }
+{
+    if begins_shorter(tiling, which, &greatest) {
+        greatest
+    } else {
+        later_of(greatest, image(tiling, which))
+    }
+}
+
+// Whether the square that comes to the top left corner in that image is shorter than the first square of the other tiling.
+fn begins_shorter(tiling: &Tiling, which: Turn, other: &Tiling) -> bool
+    ensures { IsTrue result → IsAtMost (image which tiling.now) other.now }
+{
+    let first = other.squares()[0].s;
+    let (width, height) = (tiling.width(), tiling.height());
+    for q in tiling.squares() {
+        if q.s < first && comes_first(*q, which, width, height) {
+            return true;
+        }
+    }
+    false
+}
+
+// Whether a square of a rectangle of this size comes to the top left corner in the image.
+fn comes_first(q: Square, which: Turn, width: u64, height: u64) -> bool
+    requires right { q.x + q.s ≤ width }
+    requires bottom { q.y + q.s ≤ height }
+    ensures left { IsTrue result → (image_square which width height q).x ≡ 0 }
+    ensures top { IsTrue result → (image_square which width height q).y ≡ 0 }
+{
+    let turned = turned(q, which, width, height);
+    turned.x == 0 && turned.y == 0
 }
 
 /// Whether a tiling is its own canonical tiling.
@@ -180,11 +222,18 @@ fn is_greatest(tiling: &Tiling) -> bool
     ensures { IsTrue result ↔ IsGreatestImage tiling.now tiling.now }
 {
     for which in OTHERS {
-        if lies(tiling, which) && !is_at_most(&image(tiling, which), tiling) {
+        if lies(tiling, which) && !is_image_at_most(tiling, which) {
             return false;
         }
     }
     true
+}
+
+// Whether the flat list of sides of that image is lexicographically at most the tiling's own.
+fn is_image_at_most(tiling: &Tiling, which: Turn) -> bool
+    ensures { IsTrue result ↔ IsAtMost (image which tiling.now) tiling.now }
+{
+    begins_shorter(tiling, which, tiling) || is_at_most(&image(tiling, which), tiling)
 }
 
 // A turn whose image lies: none, where the tiling does.
@@ -236,6 +285,11 @@ fn compare(a: &Tiling, b: &Tiling) -> Ordering
 /// Each image of a tiling is a tiling.
 pub fn images_are_tilings()
     ensures { ImagesAreTilings }
+{}
+
+/// Each tiling has a canonical tiling.
+pub fn every_tiling_has_a_canonical()
+    ensures { EveryTilingHasACanonical }
 {}
 
 /// A tiling has at most one canonical tiling, and it is a tiling.

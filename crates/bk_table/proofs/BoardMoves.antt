@@ -8,10 +8,10 @@ use Rattle.bk_table.proofs.LeftLines.{index_left, left_less, left_more}
 use Rattle.bk_table.proofs.RightLines.{index_right, right_less, right_more}
 use Rattle.bk_table.proofs.TopLineMarks.{first_kept, first_more}
 use Rattle.bk_table.proofs.TouchedLines.{AreNextLines, nodes_less, nodes_more}
-use Rattle.bk_free_cuts.specs.LineNumbers.{sides_at, sides_of}
+use Rattle.bk_free_cuts.specs.LineNumbers.{lefts_of, sides_at, sides_of}
 use Rattle.bk_free_cuts.specs.NodeCut.{TouchesClosed}
 use Rattle.bk_table.specs.Boards.{IsBoardOf}
-use Rattle.bk_table.specs.Lefts.{IsLeftWord, first_left, lefts_of}
+use Rattle.bk_table.specs.Lefts.{IsLeftWord, first_left}
 use Rattle.bk_table.specs.NodeLines.{AreNodeLines, Has, HasBoth, IsBesideNew, IsBesideOneOf, ShareLines}
 use Rattle.bk_table.specs.Rights.{last_right, rights_of}
 use Rattle.bk_table.specs.declared.line_set.LineSet.{LineSet}

@@ -1,6 +1,6 @@
 -- Cuts of the search: of a next move by its count and its first signs, and of all moves.
-use Rattle.std.proofs.Common.{Contains, List, Some, [], ap, arith, count_by, drop, false, length, length-append, length-drop}
-use Rattle.std.proofs.Common.{length-take, refl, slice_get, subst, suc, sym, take, zero, ℕ, ◌*◌, ◌++◌, ◌+◌, ◌-◌, ◌<◌, ◌∙◌, ◌∷◌}
+use Rattle.std.proofs.Common.{Contains, List, Some, [], ap, arith, drop, false, length, length-append, length-drop}
+use Rattle.std.proofs.Common.{length-take, refl, slice_get, suc, sym, take, zero, ℕ, ◌*◌, ◌++◌, ◌+◌, ◌-◌, ◌<◌, ◌∙◌, ◌∷◌}
 use Rattle.std.proofs.Common.{◌≡◌, ◌≤◌}
 use Rattle.std.proofs.lemmas.List.Sums.{count_by-le-length, length-filter}
 use Rattle.bk_word.specs.Outline.{IsLegalMove, Outline, has_left_wall, open_side, start, valley_of, valley_place}
@@ -9,14 +9,11 @@ use Rattle.bk_word.specs.Word.{Move, Word, order_of}
 use Rattle.bk_word.specs.declared.Sign.{Sign}
 use Rattle.bk_word.specs.declared.Sign.TheVariants.{Above, Even}
 use Rattle.bk_free_cuts.proofs.CutsOfTilings.{even_squares_are_free_barren, one_segment_is_free_barren, one_under_one_is_free_barren}
-use Rattle.bk_free_cuts.proofs.CutsOfTilings.{staying_above_is_free_barren, too_many_lines_is_free_barren, too_many_to_close_is_free_barren}
-use Rattle.bk_bounds.proofs.ClosingLaws.{bound-parts, unders}
-use Rattle.bk_bounds.specs.ClosingBound.{closing_bound, is_under}
+use Rattle.bk_free_cuts.proofs.CutsOfTilings.{staying_above_is_free_barren, too_many_lines_is_free_barren}
 use Rattle.bk_bounds.specs.SingleValleys.{single_valleys, sizes_of}
 use Rattle.bk_bounds.specs.VerticalCut.{line_bound_of}
-use Rattle.bk_owed.proofs.TallyLaws.{front_owes}
-use Rattle.bk_word.proofs.PlayLaws.{after-snoc, few_signs}
-use Rattle.bk_word.proofs.StoredBytes.{order_append, order_more}
+use Rattle.bk_word.proofs.PlayLaws.{few_signs}
+use Rattle.bk_word.proofs.StoredBytes.{order_more}
 use Rattle.bk_free_cuts.proofs.CutByNodes.{shared_node_is_free_barren}
 use Rattle.bk_free_cuts.specs.FreeCuts.{IsFreeBarren}
 use Rattle.bk_free_cuts.specs.NodeCut.{ShareANode}
@@ -25,7 +22,7 @@ use Rattle.bk_net_word.specs.NetWord.{IsNetBarren}
 use Rattle.bk_table.specs.Sought.{BeginsTurned}
 
 -- a cut on free words is one on net words
-cut : (n : ℕ) (front : Word) → IsFreeBarren n front → IsNetBarren n front
+pub cut : (n : ℕ) (front : Word) → IsFreeBarren n front → IsNetBarren n front
 cut n front barren = a_free_barren_word_is_net_barren n front barren
 
 -- one square under a valley of one
@@ -82,41 +79,6 @@ even_is_barred n front signs sign count other more least most even same are =
     cut n (front ++ other ∷ []) (even_squares_are_free_barren n front other
     (contained (open_side (has_left_wall (outline_of front))) (other.count - 1) (length signs) other.signs Even least (omega arith)
     (ap (λ l. slice_get l (length signs)) are ∙ sign_behind signs sign more ∙ ap (λ s. Some s) even)))
-
--- a move whose signs ask, with those beside the valley, for more squares than are left after it
-pub owing_is_barred : (n : ℕ) (front : Word) (m other : Move) (more : List Sign) (room left under place : ℕ) → place ≡ valley_place (outline_of front).signs
-    → under ≡ count_by is_under (drop (place + 1) (outline_of front).signs) → left ≡ n - order_of front - m.count → room ≡ left - under
-    → room < closing_bound (take (place - 1) (outline_of front).signs ++ m.signs) → other.count ≡ m.count → other.signs ≡ m.signs ++ more
-    → IsNetBarren n (front ++ other ∷ [])
-owing_is_barred n front m other more room left under place p u l r over count are = cut n (front ++ other ∷ [])
-    (too_many_to_close_is_free_barren n (front ++ other ∷ []) (omega (arith, order_append front (other ∷ []), order_more other [], owes, count)))
-  where
-    before : List Sign
-    before = take (valley_place (outline_of front).signs - 1) (outline_of front).signs
-
-    behind : List Sign
-    behind = drop (valley_place (outline_of front).signs + 1) (outline_of front).signs
-
-    room_is : n - order_of front - m.count - unders (drop (valley_place (outline_of front).signs + 1) (outline_of front).signs)
-        < closing_bound (take (valley_place (outline_of front).signs - 1) (outline_of front).signs ++ m.signs)
-    room_is = subst (λ (k : ℕ). n - order_of front - m.count - unders (drop (k + 1) (outline_of front).signs) < closing_bound
-        (take (k - 1) (outline_of front).signs ++ m.signs)) p (omega (arith, over, r, l, u))
-
-    all : closing_bound (outline_of (front ++ other ∷ [])).signs
-        ≡ closing_bound (take (valley_place (outline_of front).signs - 1) (outline_of front).signs ++ (m.signs ++ more)
-        ++ drop (valley_place (outline_of front).signs + 1) (outline_of front).signs)
-    all = ap (λ (o : Outline). closing_bound o.signs) (after-snoc start front other) ∙ bound-parts (signs_apart (outline_of front) other)
-        ∙ ap (λ l. closing_bound (take (valley_place (outline_of front).signs - 1) (outline_of front).signs ++ l
-        ++ drop (valley_place (outline_of front).signs + 1) (outline_of front).signs)) are
-
-    owes : n - order_of front - m.count < closing_bound (outline_of (front ++ other ∷ [])).signs
-    owes = omega (
-      arith,
-      room_is,
-      all,
-      front_owes (take (valley_place (outline_of front).signs - 1) (outline_of front).signs) m.signs more
-          (drop (valley_place (outline_of front).signs + 1) (outline_of front).signs),
-    )
 
 -- too many are owed: where lines from the top end, and to valleys of one square
 pub too_many_lines : (n : ℕ) (front : Word) (left closings singles : ℕ) → 3 ≤ n → left ≡ n - order_of front → closings ≡ line_bound_of front

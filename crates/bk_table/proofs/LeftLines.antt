@@ -10,8 +10,8 @@ use Rattle.bk_word.proofs.PlayLaws.{legal_front, legal-snoc}
 use Rattle.bk_word.proofs.StoredBytes.{order_more}
 use Rattle.bk_word_net.proofs.Shape.{hung_many}
 use Rattle.bk_free_cuts.proofs.NumberedLines.{sides_long}
-use Rattle.bk_free_cuts.specs.LineNumbers.{left_end, new_sides, right_end, sides_after, sides_along, sides_of}
-use Rattle.bk_table.specs.Lefts.{IsLeftWord, first_left, lefts_of}
+use Rattle.bk_free_cuts.specs.LineNumbers.{left_end, lefts_of, new_sides, right_end, sides_after, sides_along, sides_of}
+use Rattle.bk_table.specs.Lefts.{IsLeftWord, first_left}
 
 -- ---- one move
 

@@ -1,9 +1,11 @@
+pub mod AskedSigns
 pub mod BoardMoves
 pub mod Cutting
 pub mod Keeping
 pub mod LeftLines
 pub mod LineSets
 pub mod LinesBeside
+pub mod LoneSquares
 pub mod PackedOrder
 pub mod PackedExamples
 pub mod NextMoves

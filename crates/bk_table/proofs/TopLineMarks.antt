@@ -8,11 +8,11 @@ use Rattle.bk_word.specs.Play.{AreLegalFrom, IsLegal, after_move, numbers_from}
 use Rattle.bk_word.specs.Word.{Move, Word, order_of}
 use Rattle.bk_word.proofs.StoredBytes.{order_more}
 use Rattle.bk_bounds.specs.VerticalCut.{begins_on_line, lines_after, lines_along, lines_of}
-use Rattle.bk_free_cuts.specs.LineNumbers.{left_end, new_sides, right_end, sides_after, sides_along}
+use Rattle.bk_free_cuts.specs.LineNumbers.{left_end, lefts_of, new_sides, right_end, sides_after, sides_along}
 use Rattle.bk_table.proofs.LeftLines.{end_left, lefts_in, new_lefts}
 use Rattle.bk_table.specs.Boards.{IsBoardOf}
 use Rattle.bk_table.specs.declared.line_set.LineSet.{LineSet}
-use Rattle.bk_table.specs.Lefts.{first_left, lefts_of}
+use Rattle.bk_table.specs.Lefts.{first_left}
 use Rattle.bk_table.specs.TopLines.{first_count, is_top_line, on_top_lines}
 
 -- ---- one line

@@ -13,12 +13,11 @@ use Rattle.bk_word_net.proofs.NoLoose.{Played, closed_count, hung_number, played
 use Rattle.bk_word_net.proofs.Numbering.{Numbered, numbered_moves, numbered_start}
 use Rattle.bk_word_net.proofs.Shape.{hung_many}
 use Rattle.bk_layout.proofs.Counting.{got_same, got_times}
-use Rattle.bk_free_cuts.specs.LineNumbers.{left_end, new_sides, right_end, sides_after, sides_at, sides_of}
+use Rattle.bk_free_cuts.specs.LineNumbers.{left_end, lefts_of, new_sides, right_end, sides_after, sides_at, sides_of}
 use Rattle.bk_free_cuts.specs.NodeCut.{TouchesClosed}
 use Rattle.bk_free_cuts.specs.SharedNodes.{IsAtClosed}
 use Rattle.bk_table.proofs.LeftLines.{along_append, along_more, index_left, lefts_in}
 use Rattle.bk_table.proofs.RightLines.{index_right, rights_in}
-use Rattle.bk_table.specs.Lefts.{lefts_of}
 use Rattle.bk_table.specs.Rights.{rights_of}
 use Rattle.bk_table.specs.NodeLines.{AreNodeLines, Has, IsBeside, IsBesideNew, IsBesideOneOf}
 use Rattle.bk_table.specs.declared.line_set.LineSet.{LineSet}

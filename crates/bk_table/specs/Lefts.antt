@@ -1,11 +1,8 @@
 -- The line at the left edge of each square of a word, by its number.
-use Rattle.std.specs.Prelude.{List, [], map, slice_index_or, ℕ, ◌-◌, ◌∷◌, ◌≡◌}
+use Rattle.std.specs.Prelude.{List, [], slice_index_or, ℕ, ◌-◌, ◌∷◌, ◌≡◌}
 use Rattle.bk_word.specs.Play.{IsLegal}
 use Rattle.bk_word.specs.Word.{Word}
-use Rattle.bk_free_cuts.specs.LineNumbers.{sides_of}
-
-abbrev pub lefts_of : Word → List ℕ
-lefts_of w = map (λ s. s.0) (sides_of w)
+use Rattle.bk_free_cuts.specs.LineNumbers.{lefts_of}
 
 -- the line at the left of the first of these squares, by their numbers from 1: the left wall where there are none
 abbrev pub first_left : List ℕ → List ℕ → ℕ

@@ -1,3 +1,4 @@
+pub mod Asking
 pub mod Boards
 pub mod Kept
 pub mod Lefts

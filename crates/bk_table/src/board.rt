@@ -6,7 +6,7 @@ ghost use Rattle.bk_bounds.specs.VerticalCut.{line_bound_of};
 ghost use Rattle.bk_word.specs.Outline.{IsLegalMove};
 ghost use Rattle.bk_word.specs.Play.{IsLegal, outline_of};
 ghost use Rattle.bk_word.specs.Word.{order_of};
-ghost use Rattle.bk_table.specs.Lefts.{lefts_of};
+ghost use Rattle.bk_free_cuts.specs.LineNumbers.{lefts_of};
 ghost use Rattle.bk_table.specs.NodeLines.{ShareLines};
 
 use crate::line_set::LineSet;

@@ -2,9 +2,9 @@
 #![tactic(auto)]
 
 ghost use Rattle.std.specs.Prelude.{IsTrue, List, [], false, length, ℕ, ◌++◌, ◌+◌, ◌<◌, ◌∷◌, ◌≡◌, ◌≤◌};
-ghost use Rattle.bk_word.specs.Outline.{has_left_wall, has_right_wall, open_side, valley_of};
-ghost use Rattle.bk_word.specs.Play.{IsLegal, outline_of};
-ghost use Rattle.bk_word.specs.Word.{Move as SeenMove, order_of};
+ghost use Rattle.bk_word.specs.Outline.{has_left_wall, open_side};
+ghost use Rattle.bk_word.specs.Play.{outline_of};
+ghost use Rattle.bk_word.specs.Word.{Move as SeenMove, Word as Moves};
 ghost use Rattle.bk_word.specs.declared.Sign.{Sign as SeenSign};
 ghost use Rattle.bk_word.specs.declared.Sign.TheVariants.{Above, Even};
 ghost use Rattle.bk_table.specs.Sought.{BeginsTurned};
@@ -12,7 +12,7 @@ ghost use Rattle.bk_net_word.specs.NetWord.{IsNetBarren};
 
 use crate::board::Board;
 use crate::sharing::shares_a_node;
-use bk_owed::{first_above, is_over, single_valleys, unders_behind};
+use bk_owed::single_valleys;
 use bk_skel::Skel;
 use bk_word::{Move, Sign};
 
@@ -25,15 +25,17 @@ pub(crate) fn least_count(skel: &Skel) -> u8
     if skel.valley_len() == 1 { 2 } else { 1 }
 }
 
-// Whether no word goes on by a move of this count whose signs begin with these and this one.
-pub(crate) fn bars(skel: &Skel, m: &Move, sign: Sign) -> bool
+// Whether no word goes on by a move of this count whose signs begin with these and this one, from moves whose leftmost valley has
+// a wall at its left or not, as is said.
+#[inline]
+pub(crate) fn bars(left_wall: bool, m: &Move, sign: Sign) -> bool
     requires few { m.now.count ≤ 16 }
-    requires signs { length m.now.signs + 2 ≤ m.now.count + open_side (has_left_wall (outline_of skel.now)) + open_side (has_right_wall (outline_of skel.now)) }
-    ensures barren { IsTrue result → (n : ℕ) (other : SeenMove) (more : List SeenSign) → other.count ≡ m.now.count
-        → other.signs ≡ m.now.signs ++ sign ∷ more → IsNetBarren n (skel.now ++ other ∷ []) }
+    requires signs { length m.now.signs ≤ m.now.count }
+    ensures barren { IsTrue result → (n : ℕ) (front : Moves) (other : SeenMove) (more : List SeenSign)
+        → left_wall ≡ has_left_wall (outline_of front) → other.count ≡ m.now.count → other.signs ≡ m.now.signs ++ sign ∷ more
+        → IsNetBarren n (front ++ other ∷ []) }
 {
     let place = m.signs.len();
-    let (left_wall, _) = skel.walls();
     if !left_wall && place == 0 {
         return is_above(sign);
     }
@@ -47,6 +49,7 @@ pub(crate) fn bars(skel: &Skel, m: &Move, sign: Sign) -> bool
 }
 
 // Whether a move of two squares or more, with this sign behind its own, begins with even and above and has no more signs.
+#[inline]
 fn begins_turned(m: &Move, sign: Sign) -> bool
     ensures { IsTrue result → BeginsTurned m.now sign }
 {
@@ -87,23 +90,6 @@ fn is_own(place: usize, left_wall: bool, count: u8) -> bool
 {
     let from = if left_wall { 0 } else { 1 };
     from <= place && place + 1 < from + usize::from(count)
-}
-
-// Whether the signs of a move ask for more squares than are left after it, so that no word of the order goes on by a move of
-// its count whose signs begin with them.
-pub(crate) fn owes(skel: &Skel, order: u8, m: &Move) -> bool
-    requires legal { IsLegal skel.now }
-    requires few { order_of skel.now + m.now.count ≤ order }
-    requires small { order ≤ 16 }
-    requires signs { length m.now.signs ≤ 18 }
-    ensures barren { IsTrue result → (other : SeenMove) (more : List SeenSign) → other.count ≡ m.now.count
-        → other.signs ≡ m.now.signs ++ more → IsNetBarren order (skel.now ++ other ∷ []) }
-{
-    let left = usize::from(order) - skel.order() - usize::from(m.count);
-    let signs = skel.signs();
-    let place = first_above(signs);
-    let room = left.saturating_sub(unders_behind(signs, place));
-    is_over(&signs[..place.saturating_sub(1)], m.signs.as_slice(), room)
 }
 
 // Whether no word of the order begins with the board's moves, of which the last one hangs so many squares: one segment is left

@@ -4,6 +4,7 @@
 ghost use Rattle.bk_table.specs.PackedLaws.{PackedWordsCompare};
 ghost use Rattle.bk_table.specs.Span.{MovesThatGoOnLieInASpan, WordsThatGoOnLieInASpan};
 
+mod asking;
 mod board;
 mod cuts;
 mod line_set;

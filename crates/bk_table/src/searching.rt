@@ -5,10 +5,12 @@ ghost use Rattle.std.specs.Prelude.{IsTrue, Some, [], false, length, slice_get, 
 ghost use Rattle.bk_word.specs.Outline.{IsLegalMove, has_left_wall, has_right_wall, open_side};
 ghost use Rattle.bk_word.specs.Play.{IsComplete, outline_of};
 ghost use Rattle.bk_word.specs.Word.{Move as SeenMove, Word as Moves, order_of};
+ghost use Rattle.bk_table.specs.Asking.{IsAsked, IsNext};
 ghost use Rattle.bk_table.specs.Sought.{GoesOn, GoesOnBy, IsSought};
 
+use crate::asking::{Asked, Next, asked_with, is_over, next_of, stand_beside};
 use crate::board::Board;
-use crate::cuts::{bars, is_barren, least_count, owes};
+use crate::cuts::{bars, is_barren, least_count};
 use arrayvec::ArrayVec;
 use bk_word::{Move, Sign};
 
@@ -38,11 +40,13 @@ pub fn search<S: Leaves>(leaves: &mut S, order: u8, count: u8)
         return;
     }
     let mut board = Board::new();
+    let around = stand_beside(board.skel());
+    let next = next_of(around, count, usize::from(order - count));
     let mut m = Move {
         count,
         signs: ArrayVec::new(),
     };
-    with_signs(&mut board, &mut m, leaves, order);
+    with_signs(&mut board, &mut m, leaves, order, next, around.asked);
 }
 
 // Meets all that go on from the board's moves.
@@ -56,59 +60,87 @@ fn with_counts<S: Leaves>(board: &mut Board, leaves: &mut S, order: u8)
     ensures board { board.new ≡ board.old }
 {
     let left = order - board.skel().order() as u8;
+    let around = stand_beside(board.skel());
     'counts: for count in least_count(board.skel())..left + 1 {
+        let next = next_of(around, count, usize::from(left - count));
         let mut m = Move {
             count,
             signs: ArrayVec::new(),
         };
-        with_signs(board, &mut m, leaves, order);
+        with_signs(board, &mut m, leaves, order, next, around.asked);
     }
 }
 
 // Meets those that go on by a move of the count whose signs begin with these.
 #[cycle(search)]
-fn with_signs<S: Leaves>(board: &mut Board, m: &mut Move, leaves: &mut S, order: u8)
+fn with_signs<S: Leaves>(
+    board: &mut Board,
+    m: &mut Move,
+    leaves: &mut S,
+    order: u8,
+    next: Next,
+    asked: Asked,
+)
     requires least { 2 ≤ order }
     requires most { order ≤ 16 }
     requires some { 0 < m.old.count }
     requires few { order_of board.old + m.old.count ≤ order }
     requires signs { length m.old.signs + 1 ≤ m.old.count + open_side (has_left_wall (outline_of board.old)) + open_side
         (has_right_wall (outline_of board.old)) }
+    requires next { IsNext board.old m.old.count order next.left_wall next.wanted next.room }
+    requires room { next.room ≤ 16 }
+    requires asked { IsAsked board.old m.old.signs asked.tally.bound asked.tally.aboves asked.lone.found asked.lone.low }
+    requires asking { asked.tally.bound + asked.lone.found ≤ 1000 }
     ensures all { (w : Moves) → IsSought order w → GoesOnBy board.old m.old.count m.old.signs w → S.has_met leaves.new w }
     ensures kept { (w : Moves) → S.has_met leaves.old w → S.has_met leaves.new w }
     ensures board { board.new ≡ board.old }
     ensures same { m.new ≡ m.old }
 {
-    if board.skel().legal(m) {
+    if m.signs.len() == usize::from(next.wanted) {
         with_move(board, m, leaves, order);
         return;
     }
-    with_sign(board, m, Sign::Above, leaves, order);
-    with_sign(board, m, Sign::Even, leaves, order);
-    with_sign(board, m, Sign::Under, leaves, order);
+    with_sign(board, m, Sign::Above, leaves, order, next, asked);
+    with_sign(board, m, Sign::Even, leaves, order, next, asked);
+    with_sign(board, m, Sign::Under, leaves, order, next, asked);
 }
 
-// And those whose next sign is this.
+// And those whose next sign is this. It is written out for each sign, so that what bars one is known there.
 #[cycle(search)]
-fn with_sign<S: Leaves>(board: &mut Board, m: &mut Move, sign: Sign, leaves: &mut S, order: u8)
+#[inline(always)]
+fn with_sign<S: Leaves>(
+    board: &mut Board,
+    m: &mut Move,
+    sign: Sign,
+    leaves: &mut S,
+    order: u8,
+    next: Next,
+    asked: Asked,
+)
     requires least { 2 ≤ order }
     requires most { order ≤ 16 }
     requires some { 0 < m.old.count }
     requires few { order_of board.old + m.old.count ≤ order }
     requires signs { length m.old.signs + 2 ≤ m.old.count + open_side (has_left_wall (outline_of board.old)) + open_side
         (has_right_wall (outline_of board.old)) }
+    requires next { IsNext board.old m.old.count order next.left_wall next.wanted next.room }
+    requires room { next.room ≤ 16 }
+    requires asked { IsAsked board.old m.old.signs asked.tally.bound asked.tally.aboves asked.lone.found asked.lone.low }
+    requires asking { asked.tally.bound + asked.lone.found ≤ 1000 }
     ensures all { (w : Moves) → IsSought order w → GoesOnBy board.old m.old.count (m.old.signs ++ sign ∷ []) w → S.has_met leaves.new w }
     ensures kept { (w : Moves) → S.has_met leaves.old w → S.has_met leaves.new w }
     ensures board { board.new ≡ board.old }
     ensures same { m.new ≡ m.old }
 {
-    if bars(board.skel(), m, sign) {
+    if bars(next.left_wall, m, sign) {
+        return;
+    }
+    let more = asked_with(asked, sign);
+    if is_over(more, next.room) {
         return;
     }
     m.signs.push(sign);
-    if !owes(board.skel(), order, m) {
-        with_signs(board, m, leaves, order);
-    }
+    with_signs(board, m, leaves, order, next, more);
     let _ = m.signs.pop();
 }
 

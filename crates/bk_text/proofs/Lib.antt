@@ -10,3 +10,5 @@ pub mod Stopping
 pub mod Fitting
 pub mod Progress
 pub mod LineRange
+pub mod Strides
+pub mod Fronts

@@ -74,7 +74,7 @@ keeps_ended None g t is keeps = keeps
 keeps_ended (Some n) g t is keeps = keeps_side n g t is keeps
 
 -- closing a group moves its sides
-moved : (t : Lists) → length (flat (t.groups ++ t.sides ∷ [])) + 0 ≡ read_count t
+pub moved : (t : Lists) → length (flat (t.groups ++ t.sides ∷ [])) + 0 ≡ read_count t
 moved t =
     let joined : flat (t.groups ++ t.sides ∷ []) ≡ flat t.groups ++ (t.sides ++ []) = flat_map-append (λ (x : List ℕ). x) t.groups (t.sides ∷ []) in
     let size : length (flat t.groups ++ (t.sides ++ [])) ≡ length (flat t.groups) + length t.sides =

@@ -6,3 +6,4 @@ pub mod TextLaws
 -- How its code keeps it.
 pub mod Reader
 pub mod Gathered
+pub mod Onward

@@ -1,10 +1,11 @@
 //! The sides of a line that is read.
 
-ghost use Rattle.std.specs.Prelude.{IfErr, IfOk, OnErr, false, true, length, ◌<◌, ◌≡◌, ◌≤◌};
+ghost use Rattle.std.specs.Prelude.{IfErr, IfOk, OnErr, Some, false, true, length, take, ◌<◌, ◌≡◌, ◌≤◌};
 ghost use Rattle.std.specs.Option.{ForSome};
 ghost use Rattle.bk_tiling.specs.Kept.{IsSide};
 
-use crate::reader::{Ending, Kind, Place};
+use crate::reader::{Bracket, Ending, Kind, Place};
+use crate::sides::{Front, front_of};
 use crate::{Line, TextFault};
 use arrayvec::ArrayVec;
 use bk_code::{Code, flat};
@@ -32,6 +33,9 @@ impl Model for Gatherer {
 
 impl Gatherer {
     ghost use Rattle.bk_text.specs.Gathered.{IsGathered, gathered_after, line_gathered, nothing_gathered, with_side, with_group, with_ended};
+    ghost use Rattle.bk_text.specs.Onward.{behind_sides, onward};
+    ghost use Rattle.bk_text.specs.declared.reader.Header.{Header};
+    ghost use Rattle.bk_text.specs.declared.reader.Place.TheVariants.{BeforeSide};
     ghost use Rattle.bk_text.specs.Reader.{closes_group, ended_side, last_side};
     ghost use Rattle.bk_text.specs.ReadLine.{sides_of_line, stands_for};
 
@@ -84,6 +88,51 @@ impl Gatherer {
         if place.closes_group(kind) {
             self.close_group();
         }
+    }
+
+    // Takes the sides in front of bytes, where a side of a group comes next, with the commas and the bracket right behind them. The place
+    // moves behind them. Tells how many bytes they are.
+    pub(crate) fn take_sides(&mut self, place: &mut Place, bytes: &[u8]) -> usize
+        ensures within { result ≤ length bytes.now }
+        ensures leads { onward (take result bytes.now) place.old self.old ≡ Some (place.new, self.new) }
+        ensures was { IsGathered self.old }
+    {
+        let _ = &self.many;
+        match *place {
+            Place::BeforeSide(header, bracket) => {
+                let (taken, closed) = self.take_group(bracket, bytes);
+                if closed {
+                    *place = Place::BehindGroup(header);
+                }
+                taken
+            }
+            _ => 0,
+        }
+    }
+
+    // Takes the sides in front of bytes of a group that such a bracket opened. Tells how many bytes they are with the commas and the
+    // bracket right behind them, and whether this bracket was among them.
+    fn take_group(&mut self, bracket: Bracket, bytes: &[u8]) -> (usize, bool)
+        ensures within { result.0 ≤ length bytes.now }
+        ensures leads { (header : Header)
+            → onward (take result.0 bytes.now) (BeforeSide header bracket) self.old ≡ Some (behind_sides header bracket result.1, self.new) }
+    {
+        let mut taken = 0;
+        'sides: while taken < bytes.len() {
+            match front_of(bracket, &bytes[taken..]) {
+                Front::Inner { side, len } => {
+                    self.add_side(side);
+                    taken += len;
+                }
+                Front::Last { side, len } => {
+                    self.add_side(side);
+                    self.close_group();
+                    return (taken + len, true);
+                }
+                Front::Other => return (taken, false),
+            }
+        }
+        (taken, false)
     }
 
     // Takes the side that ends with the line.

@@ -9,6 +9,7 @@ ghost use Rattle.std.specs.Prelude.{IfErr, IfOk, ◌≡◌, ℕ, List};
 
 mod gatherer;
 mod reader;
+mod sides;
 mod writer;
 
 use arrayvec::ArrayVec;
@@ -72,14 +73,21 @@ pub fn read_into(line: &[u8], gatherer: &mut Gatherer) -> Result<Ending, TextFau
     ensures fault { IfErr result (λ fault. IsFaultOf fault line.now) }
 {
     let mut place = Place::Start;
+    let mut at = 0;
     gatherer.clear();
-    for (at, byte) in line.iter().enumerate() {
-        let kind = kind_of(*byte);
+    'bytes: while at < line.len() {
+        let taken = gatherer.take_sides(&mut place, &line[at..]);
+        if taken > 0 {
+            at += taken;
+            continue;
+        }
+        let kind = kind_of(line[at]);
         let Some(next) = place.next(kind) else {
             return Err(TextFault::Text { at });
         };
         gatherer.take(place, kind);
         place = next;
+        at += 1;
     }
     match place.ending() {
         Some(ending) => {

@@ -13,16 +13,19 @@ list_twice : (m n : ℕ) (squares : List Square) → map (enlarged_square m) (ma
 list_twice m n [] = refl
 list_twice m n (q ∷ squares) = λ i. record { x = times m n q.x i; y = times m n q.y i; s = times m n q.s i } ∷ list_twice m n squares i
 
+-- enlarging by n and then by m is enlarging by their product
 pub enlarged-enlarged : (m n : ℕ) (t : Tiling) → enlarged m (enlarged n t) ≡ enlarged (m * n) t
 enlarged-enlarged m n t = λ i. record { width = times m n t.width i; height = times m n t.height i; squares = list_twice m n t.squares i }
 
 single : (n : ℕ) → 1 * n ≡ n
 single n = omega arith
 
+-- squares enlarged by 1 are the same squares
 pub list_once : (squares : List Square) → map (enlarged_square 1) squares ≡ squares
 list_once [] = refl
 list_once (q ∷ squares) = λ i. record { x = single q.x i; y = single q.y i; s = single q.s i } ∷ list_once squares i
 
+-- and so is a tiling
 pub enlarged-once : (t : Tiling) → enlarged 1 t ≡ t
 enlarged-once t = λ i. record { width = single t.width i; height = single t.height i; squares = list_once t.squares i }
 
@@ -48,6 +51,7 @@ list_back k (q ∷ qs) (r ∷ rs) some e = λ i. record { x = x i; y = y i; s = 
     s : q.s ≡ r.s
     s = mul_one k q.s r.s some (ap (λ (p : Square). p.s) first)
 
+-- tilings that are one when enlarged by one factor are one
 pub enlarged-back : (k : ℕ) (t u : Tiling) → 0 < k → enlarged k t ≡ enlarged k u → t ≡ u
 enlarged-back k t u some e =
     λ i. record { width = width i; height = height i; squares = list_back k t.squares u.squares some (ap (λ (v : Tiling). v.squares) e) i }

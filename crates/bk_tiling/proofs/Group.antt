@@ -12,6 +12,7 @@ use Rattle.bk_tiling.specs.Tiling.{IsOneOf, covers}
 use Rattle.bk_tiling.specs.declared.Square.{Square}
 use Rattle.bk_tiling.specs.SquareGroups.{laid_group}
 
+-- a column under the squares of two lists is as deep as under the list that reaches deeper
 pub depth-append-max : (laid more : List Square) (c : ℕ) → depth (laid ++ more) c ≡ max (depth laid c) (depth more c)
 depth-append-max [] more c = grind arith
 depth-append-max (q ∷ laid) more c =
@@ -69,9 +70,11 @@ covers_none c j q e = cases (covers c j q) refl
         both g = cc
     cases false f = refl
 
+-- a square that covers a cell counts as one there
 pub covers_one : (c j : ℕ) (q : Square) → covers c j q ≡ true → ◌≡◌ {A = ℕ} (cond (covers c j q) 1 0) 1
 covers_one c j q e = ap (λ (b : Bool). cond {A = ℕ} b 1 0) e
 
+-- over each column from the group's left end to its right end stands one square of the group
 pub over_group : (x level : ℕ) (sides : List ℕ) (c : ℕ) → x ≤ c → c < x + total sides → HasOver level c (laid_group x level sides)
 over_group x level [] c lo hi = absurd (omega arith)
 over_group x level (s ∷ sides) c lo hi = cases (cases_lt c (x + s)) (over_group (x + s) level sides c)
@@ -120,27 +123,32 @@ over_group x level (s ∷ sides) c lo hi = cases (cases_lt c (x + s)) (over_grou
           r.counted j a b,
         )
 
+-- each square of a group has its top at the group's level
 pub group_top : (x level : ℕ) (sides : List ℕ) (q : Square) → IsOneOf q (laid_group x level sides) → q.y ≡ level
 group_top x level [] q h = absurd h
 group_top x level (s ∷ sides) q (inl same) = ap (λ (r : Square). r.y) same
 group_top x level (s ∷ sides) q (inr h) = group_top (x + s) level sides q h
 
+-- and lies between the group's left end and its right end
 pub group_within : (x level : ℕ) (sides : List ℕ) (q : Square) → IsOneOf q (laid_group x level sides) → (x ≤ q.x) × (q.x + q.s ≤ x + total sides)
 group_within x level [] q h = absurd h
 group_within x level (s ∷ sides) q (inl same) = let a : q.x ≡ x = ap (λ (r : Square). r.x) same in let b : q.s ≡ s =
     ap (λ (r : Square). r.s) same in (omega arith, omega arith)
 group_within x level (s ∷ sides) q (inr h) = let r = group_within (x + s) level sides q h in (omega (arith, r.0), omega (arith, r.1))
 
+-- and has a side, where all sides of the group are positive
 pub group_sides : (x level : ℕ) (sides : List ℕ) → AllByRecursion (λ s. 0 < s) sides → (q : Square) → IsOneOf q (laid_group x level sides) → 0 < q.s
 group_sides x level [] some q h = absurd h
 group_sides x level (s ∷ sides) some q (inl same) = subst (λ (n : ℕ). 0 < n) (sym (ap (λ (r : Square). r.s) same)) some.0
 group_sides x level (s ∷ sides) some q (inr h) = group_sides (x + s) level sides some.1 q h
 
+-- the sides of the squares of a group are those that it was laid from
 pub group_list : (x level : ℕ) (sides : List ℕ) → map (λ q. q.s) (laid_group x level sides) ≡ sides
 group_list x level [] = refl
 group_list x level (s ∷ sides) = ap (λ rest. s ∷ rest) (group_list (x + s) level sides)
 
 module _ (laid : List Square) (x level : ℕ) (sides : List ℕ) (level_there : (c : ℕ) → x ≤ c → c < x + total sides → depth laid c ≡ level) where
+  -- columns beside the group are as deep as before
   pub depth_beside : (c : ℕ) → (c < x) ⊎ (x + total sides ≤ c) → depth (laid ++ laid_group x level sides) c ≡ depth laid c
   depth_beside c away = depth-append-max laid (laid_group x level sides) c
       ∙ step (depth laid c) (depth (laid_group x level sides) c) (no_depth (laid_group x level sides) c (beside_group x level sides c away))
@@ -148,6 +156,7 @@ module _ (laid : List Square) (x level : ℕ) (sides : List ℕ) (level_there : 
       step : (a b : ℕ) → b ≡ 0 → max a b ≡ a
       step a b e = grind arith
 
+  -- a column under a square of the group is as deep as the square's bottom
   pub depth_under : (c : ℕ) (q : Square) → IsOneOf q (laid_group x level sides) → q.x ≤ c → c < q.x + q.s
       → depth (laid ++ laid_group x level sides) c ≡ q.y + q.s
   depth_under c q h lo hi = depth-append-max laid (laid_group x level sides) c
@@ -242,6 +251,7 @@ module _ (laid : List Square) (x level : ℕ) (sides : List ℕ) (level_there : 
       place (inr a) (inr b) = away (inr b)
       place (inr a) (inl b) = under a b
 
+-- a group has a square for each side
 pub length_group : (x y : ℕ) (sides : List ℕ) → length (laid_group x y sides) ≡ length sides
 length_group x y [] = refl
 length_group x y (s ∷ sides) = omega (arith, length_group (x + s) y sides)

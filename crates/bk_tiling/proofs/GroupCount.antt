@@ -15,10 +15,12 @@ put_some true q [] = omega arith
 put_some true q (g ∷ groups) = omega arith
 put_some false q groups = omega arith
 
+-- a first square begins a group
 pub groups_some : (q : Square) (squares : List Square) → 0 < length (square_groups (q ∷ squares))
 groups_some q [] = omega arith
 groups_some q (r ∷ squares) = put_some (stands_beside q r) q (square_groups (r ∷ squares))
 
+-- so where there are squares there is a group
 pub some_group : (squares : List Square) → 0 < length squares → 0 < length (square_groups squares)
 some_group [] h = absurd (omega arith)
 some_group (q ∷ squares) h = groups_some q squares
@@ -106,6 +108,7 @@ groups_by_first (q ∷ r ∷ squares) laid = omega (
   groups_by_first (r ∷ squares) (laid_rest q (r ∷ squares) laid),
 )
 
+-- the groups and the pairs of squares of which one stands beside the other are together as many as the squares
 pub groups_counted : (squares : List Square) → AreLaid squares
     → length (square_groups squares) + sum_by (λ r. count_by (λ p. stands_beside p r) squares) squares ≡ length squares
 groups_counted squares laid = omega (arith, groups_by_first squares laid, pairs_turned stands_beside squares squares)

@@ -15,6 +15,7 @@ begins_after (q ∷ []) i d within = absurd (omega arith)
 begins_after (q ∷ r ∷ squares) zero d within = refl
 begins_after (q ∷ r ∷ squares) (suc i) d within = begins_after (r ∷ squares) i d (omega arith)
 
+-- a group begins at a place past the first just where the square there does not stand beside the one before it
 pub begins_at : (squares : List Square) (i : ℕ) (d : Square) → i ≢ 0 → i < length squares
     → not (stands_beside (slice_index_or squares (i - 1) d) (slice_index_or squares i d)) ≡ begins_group squares i
 begins_at squares zero d some within = absurd (some refl)

@@ -33,6 +33,7 @@ pub record Apart (squares : List Square) : Type 0 where
   pub sides : (q : Square) → IsOneOf q squares → 0 < q.s
   pub apart : (q r : Square) → IsOneOf q squares → IsOneOf r squares → (i j : ℕ) → covers i j q ≡ true → covers i j r ≡ true → q ≡ r
 
+-- each square of a group is among the squares
 abbrev pub AllIn : List Square → List Square → Type 0
 AllIn squares group = AllByRecursion (λ q. IsOneOf q squares) group
 
@@ -45,9 +46,11 @@ pub record Split (p : Square) (squares : List Square) : Type 0 where
   pub own : AllIn (p ∷ squares) group
   pub others : AllByRecursion (λ g. IsGroup (p ∷ squares) g × AllIn squares g) groups
 
+-- a square that is level with another and begins at its right edge stands beside it
 pub beside_from : (p r : Square) → p.y ≡ r.y → p.x + p.s ≡ r.x → stands_beside p r ≡ true
 beside_from p r a b = grind (arith, nat_tests)
 
+-- and one that stands beside another is level with it and begins at its right edge
 pub beside_to : (p r : Square) → stands_beside p r ≡ true → (p.y ≡ r.y) × (p.x + p.s ≡ r.x)
 beside_to p r e = (grind (arith, nat_tests), grind (arith, nat_tests))
 
@@ -189,6 +192,7 @@ module _ (p r : Square) (squares : List Square) (a : Apart (p ∷ r ∷ squares)
 tail_apart : (p : Square) (squares : List Square) → Apart (p ∷ squares) → Apart squares
 tail_apart p squares a = record { ordered = (a.ordered).1; sides = λ q h. a.sides q (inr h); apart = λ q r h k i j e f. a.apart q r (inr h) (inr k) i j e f }
 
+-- the first group is a row that begins with the first square, and the others are groups among the rest
 pub split : (p : Square) (squares : List Square) → Apart (p ∷ squares) → Split p squares
 split p [] a = record {
   group = p ∷ [];

@@ -50,6 +50,7 @@ none_outside part squares i j tiles outside = none_counted (covers i j) squares 
 count-append : (i j : ℕ) (p q : List Square) → count_by (covers i j) (p ++ q) ≡ count_by (covers i j) p + count_by (covers i j) q
 count-append i j p q = sum_by-append (λ (s : Square). cond {A = ℕ} (covers i j s) 1 0) p q
 
+-- squares that tile two rectangles which make up a third tile the third together
 pub tiles_joined : (r a b : Rectangle) (p q : List Square) → IsPart r a → IsPart r b → Splits r a b → Tiles a p → Tiles b q → Tiles r (p ++ q)
 tiles_joined r a b p q in_a in_b splits first second = record {
   some = omega (arith, length-append p q, first.some);
@@ -67,6 +68,7 @@ tiles_joined r a b p q in_a in_b splits first second = record {
 abbrev pub square_rectangle : Square → Rectangle
 square_rectangle q = record { x = q.x; y = q.y; width = q.s; height = q.s }
 
+-- a square alone tiles its own rectangle
 pub tiles_alone : (q : Square) → 0 < q.s → Tiles (square_rectangle q) (q ∷ [])
 tiles_alone q some = record {
   some = omega arith;

@@ -1,3 +1,4 @@
+-- squares and tilings: cells, lists in the order of a code, the test that computes, worked examples
 pub mod Cells
 pub mod TilingLaws
 pub mod TilingTest
@@ -8,20 +9,22 @@ pub mod LargeExamples
 pub mod Members
 pub mod Scaling
 pub mod Rows
+pub mod PuttingInOrder
+pub mod Places
+pub mod MovedSquares
+pub mod PairCounts
+pub mod EnlargedTilings
+pub mod Sizes
+-- the groups of a code, and that a width and the sides fix a tiling
 pub mod NextCorner
 pub mod Group
-pub mod PuttingInOrder
 pub mod Groups
 pub mod TilingGroups
 pub mod GroupStarts
-pub mod Sizes
+pub mod JoinedParts
+pub mod GroupCount
+-- why a list of squares is refused
 pub mod Refusing
 pub mod Sweeping
 pub mod OneRefusal
-pub mod Places
-pub mod JoinedParts
-pub mod MovedSquares
-pub mod PairCounts
-pub mod GroupCount
-pub mod EnlargedTilings
 pub mod RefusalExamples

@@ -6,11 +6,13 @@ use Rattle.bk_tiling.proofs.Cells.{count-cons}
 use Rattle.bk_tiling.specs.Tiling.{IsOneOf}
 use Rattle.bk_tiling.specs.declared.Square.{Square}
 
+-- a square of the front list is in the whole list
 pub in_front : (front more : List Square) (q : Square) → IsOneOf q front → IsOneOf q (front ++ more)
 in_front [] more q h = absurd h
 in_front (r ∷ front) more q (inl same) = inl same
 in_front (r ∷ front) more q (inr h) = inr (in_front front more q h)
 
+-- and so is one of the list behind it
 pub in_back : (front more : List Square) (q : Square) → IsOneOf q more → IsOneOf q (front ++ more)
 in_back [] more q h = h
 in_back (r ∷ front) more q h = inr (in_back front more q h)
@@ -31,6 +33,7 @@ found_one p (r ∷ squares) q e = cases (p r) refl e (found_one p squares q)
     cases true f e rest = let same : q ≡ r = cc in (inl same, ap p same ∙ f)
     cases false f e rest = (inr (rest e).0, (rest e).1)
 
+-- where no square is found by a test, none passes it
 pub found_none : (p : Square → Bool) (squares : List Square) → None ≡ find p squares → count_by p squares ≡ 0
 found_none p [] e = refl
 found_none p (r ∷ squares) e = cases (p r) refl e (found_none p squares)

@@ -8,6 +8,7 @@ use Rattle.bk_tiling.specs.Scale.{moved_square}
 use Rattle.bk_tiling.specs.Tiling.{IsWithin, Rectangle, Tiles, covers}
 use Rattle.bk_tiling.specs.declared.Square.{Square}
 
+-- a rectangle moved to the right and down
 abbrev pub moved_rectangle : ℕ → ℕ → Rectangle → Rectangle
 moved_rectangle right down r = record { x = r.x + right; y = r.y + down; width = r.width; height = r.height }
 
@@ -32,12 +33,14 @@ count_moved right down i j (q ∷ squares) = omega (
   count_moved right down i j squares,
 )
 
+-- a fact of all squares becomes one of all moved squares, where it does for each
 pub all_moved : (P Q : Square → Type 0) (right down : ℕ) → ((q : Square) → P q → Q (moved_square right down q)) → (squares : List Square)
     → AllByRecursion P squares
     → AllByRecursion Q (map (moved_square right down) squares)
 all_moved P Q right down f [] all = tt
 all_moved P Q right down f (q ∷ squares) all = (f q all.0, all_moved P Q right down f squares all.1)
 
+-- what tiles a rectangle, moved, tiles the moved rectangle
 pub tiles_moved : (right down : ℕ) (r : Rectangle) (squares : List Square) → Tiles r squares
     → Tiles (moved_rectangle right down r) (map (moved_square right down) squares)
 tiles_moved right down r squares tiles = record {

@@ -25,6 +25,7 @@ order_at (p ∷ front) q back o = order_at front q back o.1
 before_column : (q r : Square) → comes_before q r ≡ true → q.y ≡ r.y → q.x ≤ r.x
 before_column q r e same = grind (arith, nat_tests)
 
+-- a cell that no square in front of q covers comes no earlier than the top left cell of q
 pub next_corner : (t : Tiling) (front : List Square) (q : Square) (back : List Square) → IsTiling t → t.squares ≡ front ++ q ∷ back
     → (i j : ℕ) → i < t.width → j < t.height → ((r : Square) → IsOneOf r front → covers i j r ≡ true → ⊥) → IsNoLater q i j
 next_corner t front q back tiling is i j wide low free = cases (from_append front (q ∷ back) there.0 (subst (IsOneOf there.0) is there.1))
@@ -95,6 +96,7 @@ same_square q r a b side = λ i. record { x = x i; y = y i; s = side i }
     x = let k = a.column y in let l = b.column (sym y) in omega arith
 
 module _ (t u : Tiling) (tiling : IsTiling t) (other : IsTiling u) (widths : t.width ≡ u.width) where
+  -- with the same front and the same sides behind it two tilings have the same squares behind it
   pub same_rest : (front tb ub : List Square) → t.squares ≡ front ++ tb → u.squares ≡ front ++ ub → map (λ q. q.s) tb ≡ map (λ q. q.s) ub → tb ≡ ub
   same_rest front [] [] ti ui e = refl
   same_rest front [] (r ∷ ub) ti ui e = absurd (cc)
@@ -130,6 +132,7 @@ not_higher t u tiling other widths same = cases (two t.height u.height)
         deep (q, k, e) = let w = in_all (IsWithin (whole u)) u.squares (other.tiles).within q (subst (IsOneOf q) same k) in let b =
             w.bottom in let d = (over_from 0 u.height q e).bottom in omega arith
 
+-- tilings of one width with the same squares are one
 pub same_tiling : (t u : Tiling) → IsTiling t → IsTiling u → t.width ≡ u.width → t.squares ≡ u.squares → t ≡ u
 same_tiling t u tiling other widths same = λ i. record { width = widths i; height = heights i; squares = same i }
   where

@@ -44,9 +44,11 @@ module _ (width height : ℕ) (squares : List Square) where
       let side = in_all (λ q. 0 < q.s) squares tiles.sides (slice_index_or squares 0 any_square) (one_at squares 0 any_square tiles.some) in
       (omega arith, omega arith)
 
+  -- squares that tile the rectangle lie within it
   pub tiles_within : Tiles (sized width height) squares → AreWithin width height squares
   tiles_within tiles = All-from_recursion (IsWithin (sized width height)) squares tiles.within
 
+  -- and no two of them share a cell
   pub tiles_apart : Tiles (sized width height) squares → ShareNoCell squares
   tiles_apart tiles a b d up below shares =
       let over = over_from shares.column shares.level (slice_index_or squares a d) shares.in_first in
@@ -79,6 +81,7 @@ module _ (width height : ℕ) (squares : List Square) where
       positive [] sides = tt
       positive (q ∷ squares) sides = (sides.0.0, positive squares sides.1)
 
+  -- squares that pass each test, and of which some square covers each cell, are accepted
   pub accepted_from : IsFew squares → HasCells width height → HaveSides squares → AreWithin width height squares → ShareNoCell squares
       → ((i j : ℕ) → i < width → j < height → 0 < count_by (covers i j) squares) → IsAccepted width height squares
   accepted_from few cells sides within apart covered =

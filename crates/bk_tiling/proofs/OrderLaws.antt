@@ -34,10 +34,12 @@ with_square-all P q (p ∷ qs) one all =
       | false ↦ (all.0, with_square-all P q qs one all.1)
     ]
 
+-- what holds of all squares holds of them put in order
 pub in_code_order-all : (P : Square → Type 0) (qs : List Square) → AllByRecursion P qs → AllByRecursion P (in_code_order qs)
 in_code_order-all P [] all = tt
 in_code_order-all P (q ∷ qs) all = with_square-all P q (in_code_order qs) all.0 (in_code_order-all P qs all.1)
 
+-- a square before a second one that is before a third is before the third
 pub comes_before-trans : (p q r : Square) → IsTrue (comes_before p q) → IsTrue (comes_before q r) → IsTrue (comes_before p r)
 comes_before-trans p q r h k = elim (comes_before-cases p q h) [
   | inl above ↦ elim (comes_before-cases q r k) [
@@ -97,6 +99,7 @@ with_square-count c q (p ∷ qs) =
       )
     ]
 
+-- putting squares in order keeps how many pass a test
 pub in_code_order-count : (c : Square → Bool) (qs : List Square) → count_by c (in_code_order qs) ≡ count_by c qs
 in_code_order-count c [] = refl
 in_code_order-count c (q ∷ qs) = omega (
@@ -116,13 +119,16 @@ with_square-length q (p ∷ qs) =
       | false ↦ ap suc (with_square-length q qs)
     ]
 
+-- and how many there are
 pub in_code_order-length : (qs : List Square) → length (in_code_order qs) ≡ length qs
 in_code_order-length [] = refl
 in_code_order-length (q ∷ qs) = with_square-length q (in_code_order qs) ∙ ap suc (in_code_order-length qs)
 
+-- to come before is to be less by the level and then by the column
 pub before_by_rank : (p q : Square) → comes_before p q ≡ true → is_lt (ordering_then (nat_cmp p.y q.y) (nat_cmp p.x q.x)) ≡ true
 before_by_rank p q e = grind (arith, nat_tests)
 
+-- a square that comes before another has its top no lower
 pub before_level : (q r : Square) → comes_before q r ≡ true → q.y ≤ r.y
 before_level q r e = grind (arith, nat_tests)
 
@@ -136,6 +142,7 @@ sum_with f q (r ∷ squares) = cases (comes_before q r) (sum_with f q squares)
     cases true e = sum_by-cons f q (r ∷ squares)
     cases false e = omega (arith, sum_by-cons f r (with_square q squares), sum_by-cons f r squares, e)
 
+-- putting squares in order keeps the sum of a number over them
 pub sum_ordered : (f : Square → ℕ) (squares : List Square) → sum_by f (in_code_order squares) ≡ sum_by f squares
 sum_ordered f [] = refl
 sum_ordered f (q ∷ squares) = omega (arith, sum_with f q (in_code_order squares), sum_ordered f squares, sum_by-cons f q squares)

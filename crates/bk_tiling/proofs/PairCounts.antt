@@ -17,6 +17,7 @@ pairs_cons f q (p ∷ ps) rs = omega (
   pairs_cons f q ps rs,
 )
 
+-- as many pairs pass counted by their first square as counted by their second
 pub pairs_turned : (f : Square → Square → Bool) (ps rs : List Square) → sum_by (λ p. count_by (f p) rs) ps ≡ sum_by (λ r. count_by (λ p. f p r) ps) rs
 pairs_turned f ps [] = none ps
   where

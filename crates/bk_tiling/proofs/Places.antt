@@ -7,11 +7,13 @@ use Rattle.bk_tiling.specs.CodeOrder.{InCodeOrder, comes_before}
 use Rattle.bk_tiling.specs.Tiling.{IsOneOf}
 use Rattle.bk_tiling.specs.declared.Square.{Square}
 
+-- a square of a list stands at some place of it
 pub at_place : (squares : List Square) (q : Square) → IsOneOf q squares → (m : ℕ) × (m < length squares) × ((d : Square) → slice_index_or squares m d ≡ q)
 at_place [] q h = absurd h
 at_place (r ∷ squares) q (inl e) = (0, omega arith, λ d. sym e)
 at_place (r ∷ squares) q (inr h) = let found = at_place squares q h in (suc found.0, omega (arith, found.1), found.2)
 
+-- in the order of a code the square at an earlier place comes before the one at a later place
 pub later_place : (squares : List Square) → InCodeOrder squares → (i j : ℕ) (d : Square) → i < j → j < length squares
     → comes_before (slice_index_or squares i d) (slice_index_or squares j d) ≡ true
 later_place [] o i j d a b = absurd (omega arith)

@@ -36,6 +36,7 @@ in_with q (r ∷ squares) p h = cases (comes_before q r) h (in_with q squares p)
     cases false (inr (inl e)) rest = inl e
     cases false (inr (inr k)) rest = inr (rest (inr k))
 
+-- a square of the list put in order is in the list
 pub from_order : (squares : List Square) (p : Square) → IsOneOf p (in_code_order squares) → IsOneOf p squares
 from_order [] p h = h
 from_order (q ∷ squares) p h = cases (from_with q (in_code_order squares) p h) (from_order squares p)
@@ -44,6 +45,7 @@ from_order (q ∷ squares) p h = cases (from_with q (in_code_order squares) p h)
     cases (inl e) rest = inl e
     cases (inr k) rest = inr (rest k)
 
+-- and a square of the list is in it put in order
 pub in_order : (squares : List Square) (p : Square) → IsOneOf p squares → IsOneOf p (in_code_order squares)
 in_order [] p h = h
 in_order (q ∷ squares) p (inl e) = in_with q (in_code_order squares) p (inl e)

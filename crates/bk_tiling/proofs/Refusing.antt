@@ -37,6 +37,7 @@ pub record Cross (p q : Square) : Type 0 where
   pub bottom : p.y < q.y + q.s
   pub top : q.y < p.y + p.s
 
+-- squares that share a cell reach past each other in both directions
 pub cross_from : (p q : Square) → SharesCell p q → Cross p q
 cross_from p q h =
     let a = over_from h.column h.level p h.in_first in

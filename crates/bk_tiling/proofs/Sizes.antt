@@ -58,6 +58,7 @@ module _ (from : Square → ℕ) where
   reach : (n : ℕ) (squares : List Square) → ((i : ℕ) → i < n → 0 < count_by (λ q. in_span (from q) q.s i) squares) → n ≤ sum_by (λ q. q.s) squares
   reach n squares h = omega (arith, at_least_one_each n (λ i. count_by (λ q. in_span (from q) q.s i) squares) h, spans_below n squares)
 
+-- a tiling has a height
 pub high_enough : (t : Tiling) → IsTiling t → 0 < t.height
 high_enough t tiling = go t.squares (tiling.tiles).some (λ q h. h)
   where
@@ -75,6 +76,7 @@ width_of_sides t tiling = reach (λ q. q.x) t.width t.squares over
         let o = over_from i 0 found.0 found.2 in
         one_counted (λ q. in_span q.x q.s i) t.squares found.0 found.1 (and_from _ _ (le-leb _ _ o.left) (lt-ltb _ _ o.right))
 
+-- and is no higher than all its sides laid end to end
 pub height_of_sides : (t : Tiling) → IsTiling t → t.height ≤ sum_by (λ (q : Square). q.s) t.squares
 height_of_sides t tiling = reach (λ q. q.y) t.height t.squares over
   where
@@ -84,6 +86,7 @@ height_of_sides t tiling = reach (λ q. q.y) t.height t.squares over
         let o = over_from 0 j found.0 found.2 in
         one_counted (λ q. in_span q.y q.s j) t.squares found.0 found.1 (and_from _ _ (le-leb _ _ o.top) (lt-ltb _ _ o.bottom))
 
+-- kept sides laid end to end are no longer than so many times the longest side that is allowed
 pub sides_end_to_end : (squares : List Square) → AllByRecursion (λ q. IsSide q.s) squares
     → sum_by (λ (q : Square). q.s) squares ≤ length squares * 999_999_999_999_999
 sides_end_to_end [] sides = omega arith
@@ -93,11 +96,14 @@ sides_end_to_end (q ∷ squares) sides = omega (arith, sum_by-cons (λ (p : Squa
 pub width_of_few : (t : Tiling) → IsTiling t → length t.squares ≤ 200 → AllByRecursion (λ q. IsSide q.s) t.squares → t.width ≤ 199999999999999800
 width_of_few t tiling few sides = omega (arith, width_of_sides t tiling, sides_end_to_end t.squares sides)
 
+-- a tiling of at most 200 kept sides has at most this height
 pub height_of_few : (t : Tiling) → IsTiling t → length t.squares ≤ 200 → AllByRecursion (λ q. IsSide q.s) t.squares → t.height ≤ 199999999999999800
 height_of_few t tiling few sides = omega (arith, height_of_sides t tiling, sides_end_to_end t.squares sides)
 
+-- so a kept tiling has at most this width
 pub most_width : (t : Tiling) → IsKept t → t.width ≤ 199999999999999800
 most_width t kept = width_of_few t kept.tiling kept.few kept.sides
 
+-- and at most this height
 pub most_height : (t : Tiling) → IsKept t → t.height ≤ 199999999999999800
 most_height t kept = height_of_few t kept.tiling kept.few kept.sides

@@ -23,6 +23,7 @@ pub record IsOver (width height : ℕ) (squares : List Square) (x y : ℕ) (q : 
   pub lower : y < q.y + q.s
   pub bottom : q.y + q.s ≤ height
 
+-- the square that is found over a cell covers it and lies within the rectangle
 pub is_over : (width height : ℕ) (squares : List Square) (x y : ℕ) (q : Square) → AreWithin width height squares → Some q ≡ find (covers x y) squares
     → IsOver width height squares x y q
 is_over width height squares x y q within e =

@@ -10,6 +10,7 @@ use Rattle.bk_tiling.proofs.NextCorner.{next_corner}
 use Rattle.bk_tiling.specs.SquareGroups.{square_groups}
 
 module _ (t : Tiling) (tiling : IsTiling t) where
+  -- two squares of the tiling over one cell are one square
   pub one_there : (q r : Square) (i j : ℕ) → IsOneOf q t.squares → covers i j q ≡ true → IsOneOf r t.squares → covers i j r ≡ true → q ≡ r
   one_there q r i j a e b f = let o = over_from i j q e in let w =
       within_of t tiling q a in
@@ -30,6 +31,7 @@ module _ (t : Tiling) (tiling : IsTiling t) where
     pub y : first.y ≡ 0
     pub all : AllByRecursion (λ g. IsGroup t.squares g × AllIn t.squares g) (square_groups t.squares)
 
+  -- the squares of a tiling have what the laws on groups ask of them
   pub known : Known
   known = from t.squares refl
     where
@@ -85,5 +87,6 @@ module _ (t : Tiling) (tiling : IsTiling t) where
                   heads : {a b : Square} {xs ys : List Square} → s.group ≡ a ∷ xs → s.group ≡ b ∷ ys → a ≡ b
                   heads f g = cc
 
+  -- each group of the tiling's squares is a group among them
   pub all_groups : AllByRecursion (λ g. IsGroup t.squares g × AllIn t.squares g) (square_groups t.squares)
   all_groups = known.all

@@ -6,6 +6,7 @@ use Rattle.std.proofs.lemmas.Bool.Decides.{nat_tests}
 use Rattle.std.proofs.lemmas.Option.{slice_get_within}
 use Rattle.bk_laws.proofs.ListPlaces.{get_some}
 use Rattle.bk_word.specs.Play.{numbers_from}
+use Rattle.bk_layout.specs.Layout.{AreNeighbours, IsFirst, IsLast}
 use Rattle.bk_tiling_layout.specs.TilingLayout.{put_by, sorted_by}
 
 -- the number stands in the list
@@ -13,11 +14,13 @@ abbrev pub IsIn : ℕ → List ℕ → Type 0
 IsIn q [] = ⊥
 IsIn q (r ∷ rs) = (q ≡ r) ⊎ IsIn q rs
 
+-- a number that is got at a place of a list stands in it
 pub in_get : (xs : List ℕ) (k q : ℕ) → slice_get xs k ≡ Some q → IsIn q xs
 in_get [] k q e = absurd (cc)
 in_get (x ∷ xs) zero q e = let same : x ≡ q = cc in inl (sym same)
 in_get (x ∷ xs) (suc k) q e = inr (in_get xs k q e)
 
+-- and one that stands in it is got at some place
 pub get_in : (xs : List ℕ) (q : ℕ) → IsIn q xs → (k : ℕ) × (slice_get xs k ≡ Some q)
 get_in [] q h = absurd h
 get_in (x ∷ xs) q (inl e) = (0, ap Some (sym e))
@@ -158,16 +161,6 @@ by_place f (x ∷ xs) a j zero q r h d e = absurd (omega arith)
 by_place f (x ∷ xs) a zero (suc k) q r h d e = let same : x ≡ q = cc in omega (arith, ap f same, a.0 r (in_get xs k r e))
 by_place f (x ∷ xs) a (suc j) (suc k) q r h d e = by_place f xs a.1 j k q r (omega arith) d e
 
--- the number stands first, last, and just before another
-abbrev pub IsFirstOf : List ℕ → ℕ → Type 0
-IsFirstOf qs q = slice_get qs 0 ≡ Some q
-
-abbrev pub IsLastOf : List ℕ → ℕ → Type 0
-IsLastOf qs q = (k : ℕ) × (suc k ≡ length qs) × (slice_get qs k ≡ Some q)
-
-abbrev pub AreNextOf : List ℕ → ℕ → ℕ → Type 0
-AreNextOf qs q r = (k : ℕ) × (slice_get qs k ≡ Some q) × (slice_get qs (suc k) ≡ Some r)
-
 -- what is known of the numbers below n that pass a test, by a key that tells them apart
 module _ (f : ℕ → ℕ) (p : ℕ → Bool) (n : ℕ) (one : (q r : ℕ) → q < n → r < n → p q ≡ true → p r ≡ true → f q ≡ f r → q ≡ r) where
   ascends : Ascends f (sorted_by f (filter p (numbers_from 0 n)))
@@ -204,7 +197,7 @@ module _ (f : ℕ → ℕ) (p : ℕ → Bool) (n : ℕ) (one : (q r : ℕ) → q
   some q h e = let k = has_place q h e in omega (arith, slice_get_within (sorted_by f (filter p (numbers_from 0 n))) k.0 q k.1)
 
   -- the first number has the least key
-  pub first_from : (q : ℕ) → IsFirstOf (sorted_by f (filter p (numbers_from 0 n))) q → (r : ℕ) → r < n → p r ≡ true → f q ≤ f r
+  pub first_from : (q : ℕ) → IsFirst (sorted_by f (filter p (numbers_from 0 n))) q → (r : ℕ) → r < n → p r ≡ true → f q ≤ f r
   first_from q e r h g = from (has_place r h g)
     where
       from : (k : ℕ) × (slice_get (sorted_by f (filter p (numbers_from 0 n))) k ≡ Some r) → f q ≤ f r
@@ -212,17 +205,17 @@ module _ (f : ℕ → ℕ) (p : ℕ → Bool) (n : ℕ) (one : (q r : ℕ) → q
       from (suc k, d) = omega (arith, in_order 0 (suc k) q r e d (omega arith))
 
   -- and the number of the least key is the first
-  pub first_to : (q : ℕ) → q < n → p q ≡ true → ((r : ℕ) → r < n → p r ≡ true → f q ≤ f r) → IsFirstOf (sorted_by f (filter p (numbers_from 0 n))) q
+  pub first_to : (q : ℕ) → q < n → p q ≡ true → ((r : ℕ) → r < n → p r ≡ true → f q ≤ f r) → IsFirst (sorted_by f (filter p (numbers_from 0 n))) q
   first_to q h g least = from (has_place q h g)
     where
-      from : (k : ℕ) × (slice_get (sorted_by f (filter p (numbers_from 0 n))) k ≡ Some q) → IsFirstOf (sorted_by f (filter p (numbers_from 0 n))) q
+      from : (k : ℕ) × (slice_get (sorted_by f (filter p (numbers_from 0 n))) k ≡ Some q) → IsFirst (sorted_by f (filter p (numbers_from 0 n))) q
       from (zero, d) = d
       from (suc k, d) = let r = get_some (sorted_by f (filter p (numbers_from 0 n))) 0
           (omega (arith, slice_get_within (sorted_by f (filter p (numbers_from 0 n))) (suc k) q d)) in
           absurd (omega (arith, in_order 0 (suc k) r.0 q r.1 d (omega arith), least r.0 (stands_in 0 r.0 r.1).0 (stands_in 0 r.0 r.1).1))
 
   -- the last number has the greatest key
-  pub last_from : (q : ℕ) → IsLastOf (sorted_by f (filter p (numbers_from 0 n))) q → (r : ℕ) → r < n → p r ≡ true → f r ≤ f q
+  pub last_from : (q : ℕ) → IsLast (sorted_by f (filter p (numbers_from 0 n))) q → (r : ℕ) → r < n → p r ≡ true → f r ≤ f q
   last_from q (l, end, e) r h g = from (has_place r h g)
     where
       from : (k : ℕ) × (slice_get (sorted_by f (filter p (numbers_from 0 n))) k ≡ Some r) → f r ≤ f q
@@ -235,14 +228,14 @@ module _ (f : ℕ → ℕ) (p : ℕ → Bool) (n : ℕ) (one : (q r : ℕ) → q
               ∙ e in let is : r ≡ q = cc in omega (arith, ap f is)
 
   -- and the number of the greatest key is the last
-  pub last_to : (q : ℕ) → q < n → p q ≡ true → ((r : ℕ) → r < n → p r ≡ true → f r ≤ f q) → IsLastOf (sorted_by f (filter p (numbers_from 0 n))) q
+  pub last_to : (q : ℕ) → q < n → p q ≡ true → ((r : ℕ) → r < n → p r ≡ true → f r ≤ f q) → IsLast (sorted_by f (filter p (numbers_from 0 n))) q
   last_to q h g most = from (has_place q h g)
     where
-      from : (k : ℕ) × (slice_get (sorted_by f (filter p (numbers_from 0 n))) k ≡ Some q) → IsLastOf (sorted_by f (filter p (numbers_from 0 n))) q
+      from : (k : ℕ) × (slice_get (sorted_by f (filter p (numbers_from 0 n))) k ≡ Some q) → IsLast (sorted_by f (filter p (numbers_from 0 n))) q
       from (k, d) = cases (cases_lt (suc k) (length (sorted_by f (filter p (numbers_from 0 n)))))
         where
           cases : (suc k < length (sorted_by f (filter p (numbers_from 0 n))))
-              ⊎ (length (sorted_by f (filter p (numbers_from 0 n))) ≤ suc k) → IsLastOf (sorted_by f (filter p (numbers_from 0 n))) q
+              ⊎ (length (sorted_by f (filter p (numbers_from 0 n))) ≤ suc k) → IsLast (sorted_by f (filter p (numbers_from 0 n))) q
           cases (inr m) = (k, omega (arith, slice_get_within (sorted_by f (filter p (numbers_from 0 n))) k q d), d)
           cases (inl m) = let r = get_some (sorted_by f (filter p (numbers_from 0 n))) (suc k) m in
               absurd (omega (arith, in_order k (suc k) q r.0 d r.1 (omega arith), most r.0 (stands_in (suc k) r.0 r.1).0 (stands_in (suc k) r.0 r.1).1))
@@ -255,7 +248,7 @@ module _ (f : ℕ → ℕ) (p : ℕ → Bool) (n : ℕ) (one : (q r : ℕ) → q
     pub between : (w : ℕ) → w < n → p w ≡ true → (f w ≤ f q) ⊎ (f r ≤ f w)
 
   -- neighbours of the list are next by their keys
-  pub next_from : (q r : ℕ) → AreNextOf (sorted_by f (filter p (numbers_from 0 n))) q r → AreNext q r
+  pub next_from : (q r : ℕ) → AreNeighbours (sorted_by f (filter p (numbers_from 0 n))) q r → AreNext q r
   next_from q r (k, d, e) = record {
     first_in = stands_in k q d;
     second_in = stands_in (suc k) r e;
@@ -276,14 +269,14 @@ module _ (f : ℕ → ℕ) (p : ℕ → Bool) (n : ℕ) (one : (q r : ℕ) → q
               ∙ ap (slice_get (sorted_by f (filter p (numbers_from 0 n)))) at ∙ d in let is : w ≡ q = cc in inl (omega (arith, ap f is))
 
   -- and numbers that are next by their keys are neighbours
-  pub next_to : (q r : ℕ) → AreNext q r → AreNextOf (sorted_by f (filter p (numbers_from 0 n))) q r
+  pub next_to : (q r : ℕ) → AreNext q r → AreNeighbours (sorted_by f (filter p (numbers_from 0 n))) q r
   next_to q r next = from (has_place q next.first_in.0 next.first_in.1) (has_place r next.second_in.0 next.second_in.1)
     where
       from : (k : ℕ) × (slice_get (sorted_by f (filter p (numbers_from 0 n))) k ≡ Some q) → (j : ℕ)
-          × (slice_get (sorted_by f (filter p (numbers_from 0 n))) j ≡ Some r) → AreNextOf (sorted_by f (filter p (numbers_from 0 n))) q r
+          × (slice_get (sorted_by f (filter p (numbers_from 0 n))) j ≡ Some r) → AreNeighbours (sorted_by f (filter p (numbers_from 0 n))) q r
       from (k, d) (j, e) = cases (cases_lt k j) (cases_lt (suc k) j)
         where
-          cases : (k < j) ⊎ (j ≤ k) → (suc k < j) ⊎ (j ≤ suc k) → AreNextOf (sorted_by f (filter p (numbers_from 0 n))) q r
+          cases : (k < j) ⊎ (j ≤ k) → (suc k < j) ⊎ (j ≤ suc k) → AreNeighbours (sorted_by f (filter p (numbers_from 0 n))) q r
           cases (inl h) (inr m) = let at : j ≡ suc k = omega arith in
               (k, d, subst (λ (i : ℕ). slice_get (sorted_by f (filter p (numbers_from 0 n))) i ≡ Some r) at e)
           cases (inl h) (inl m) = absurd (between

@@ -8,7 +8,7 @@ use Rattle.std.proofs.lemmas.Bool.Decides.{nat_tests}
 use Rattle.bk_tiling.proofs.Cells.{count-cons, no_two}
 use Rattle.bk_tiling.specs.Tiling.{IsOneOf, IsTiling, Rectangle, Tiling}
 use Rattle.bk_tiling.specs.declared.Square.{Square}
-use Rattle.bk_simple.proofs.Parts.{part_from_count}
+use Rattle.bk_simple.proofs.UncutParts.{part_from_count}
 use Rattle.bk_simple.specs.Border.{IsUncut, is_inside, is_outside}
 use Rattle.bk_simple.specs.Simple.{IsSimple}
 use Rattle.bk_tiling_layout.proofs.Edges.{IsCell, IsOn, cell}
@@ -100,6 +100,7 @@ module _ (t : Tiling) (tiling : IsTiling t) (simple : IsSimple t) (left right to
   height_is : top + (bottom - top) ≡ bottom
   height_is = omega (arith, frame.high)
 
+  -- a square that shares a cell with the frame lies in it
   pub inside_or_out : (q : Square) → IsOneOf q t.squares → q.x < right → left < q.x + q.s → q.y < bottom → top < q.y + q.s → IsInside left right top bottom q
   inside_or_out q h a b c d = record {
     left_in = one (cases_lt q.x left);

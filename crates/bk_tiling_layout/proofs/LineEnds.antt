@@ -9,6 +9,7 @@ use Rattle.bk_tiling.specs.Tiling.{IsOneOf, Tiling}
 use Rattle.bk_tiling.specs.declared.Square.{Square}
 use Rattle.bk_tiling_layout.specs.TilingLayout.{goes_on_left, goes_on_right, is_end, line_end, line_number}
 
+-- a test that some square passes is passed by one of the list
 pub any_from : (p : Square → Bool) (squares : List Square) → list_any p squares ≡ true → (q : Square) × IsOneOf q squares × (p q ≡ true)
 any_from p [] e = absurd (cc)
 any_from p (r ∷ squares) e = cases (p r) refl e (any_from p squares)
@@ -18,6 +19,7 @@ any_from p (r ∷ squares) e = cases (p r) refl e (any_from p squares)
     cases true f e rest = (r, inl refl, f)
     cases false f e rest = let k = rest e in (k.0, inr k.1, k.2)
 
+-- and where one of the list passes it, some square does
 pub any_to : (p : Square → Bool) (squares : List Square) (q : Square) → IsOneOf q squares → p q ≡ true → list_any p squares ≡ true
 any_to p [] q h e = absurd h
 any_to p (r ∷ squares) q h e = cases (p r) refl h (any_to p squares q)
@@ -60,6 +62,7 @@ both_to true true e f = refl
 both_to true false e f = absurd (cc)
 both_to false b e f = absurd (cc)
 
+-- where the test of an end holds, a square at the left and one at the right of the line end there
 pub ends_from : (squares : List Square) (x y : ℕ) → is_end squares x y ≡ true → Ends squares x y
 ends_from squares x y e = from (any_from (λ q. (q.x + q.s == x) && (q.y + q.s == y)) squares b.0) (any_from (λ r. (r.x == x) && (r.y + r.s == y)) squares b.1)
   where
@@ -71,6 +74,7 @@ ends_from squares x y e = from (any_from (λ q. (q.x + q.s == x) && (q.y + q.s =
     from (q, h, f) (r, k, g) = let m = two_from (q.x + q.s) x (q.y + q.s) y f in let n = two_from r.x x (r.y + r.s) y g in
         record { left = q; right = r; left_in = h; right_in = k; left_edge = m.0; right_edge = n.0; left_bottom = m.1; right_bottom = n.1 }
 
+-- and where two such squares end there, the test holds
 pub ends_to : (squares : List Square) (x y : ℕ) → Ends squares x y → is_end squares x y ≡ true
 ends_to squares x y e = both_to (list_any (λ q. (q.x + q.s == x) && (q.y + q.s == y)) squares) (list_any (λ r. (r.x == x) && (r.y + r.s == y)) squares)
     (any_to (λ q. (q.x + q.s == x) && (q.y + q.s == y)) squares e.left e.left_in
@@ -122,6 +126,7 @@ goes_right_to t q g = any_to (λ z. (z.x == q.x + q.s) && (nat_lt z.y (q.y + q.s
 -- ---- the first end below a level
 
 module _ (squares : List Square) (x : ℕ) where
+  -- the first end is looked for within so many levels
   pub end_within : (more y : ℕ) → line_end squares x more y ≤ y + more
   end_within zero y = omega arith
   end_within (suc more) y = cases (is_end squares x (suc y)) (end_within more (suc y))
@@ -218,6 +223,7 @@ module _ (t : Tiling) where
     wall_right : x ≢ 0 → x ≡ t.width → n ≡ 1 → IsNumber x y n
     inner : x ≢ 0 → x ≢ t.width → n ≡ 2 + (x * (t.height + 1) + line_end t.squares x (t.height - y) y) → IsNumber x y n
 
+  -- each line has the number of a wall, or that of its column and its end
   pub number_is : (x y : ℕ) → IsNumber x y (line_number t x y)
   number_is x y = cases (x == 0) (x == t.width) refl refl
     where

@@ -12,9 +12,11 @@ use Rattle.bk_tiling_layout.specs.TilingLayout.{line_end, line_number, node_abov
 
 -- levels and heights
 module _ (t : Tiling) (tiling : IsTiling t) (v : ℕ) (node : IsNode t v) where
+  -- the square hangs from the node
   abbrev pub Hung : Square → Type 0
   Hung q = node_above (square_groups t.squares) q ≡ v
 
+  -- the square ends on the node
   abbrev pub Ended : Square → Type 0
   Ended q = node_below (square_groups t.squares) q ≡ v
 
@@ -81,9 +83,11 @@ module _ (t : Tiling) (tiling : IsTiling t) (v : ℕ) (node : IsNode t v) where
             node.under w.square c w.is lo hi (record { left = w.on.left; right = w.on.right; top = omega (arith, w.on.top); bottom = h }),
           ))
 
+  -- a node from which a square hangs is above the bottom
   pub low_if_hung : (q : Square) → IsOneOf q t.squares → Hung q → node.level < t.height
   low_if_hung q h e = omega (arith, (node.hang_to q h e).0, side t tiling q h, bottom_within t tiling q h)
 
+  -- and one on which a square ends is below the top
   pub deep_if_ended : (q : Square) → IsOneOf q t.squares → Ended q → 0 < node.level
   deep_if_ended q h e = omega (arith, (node.end_to q h e).0, side t tiling q h)
 

@@ -6,14 +6,14 @@ use Rattle.bk_tiling.specs.SquareGroups.{square_groups}
 use Rattle.bk_tiling.specs.Tiling.{IsOneOf, IsTiling, Tiling}
 use Rattle.bk_tiling.specs.declared.Square.{Square}
 use Rattle.bk_net.specs.Diagram.{node_below, node_levels}
-use Rattle.bk_tiling_layout.proofs.Ascending.{AreNext, AreNextOf, IsFirstOf, IsLastOf, first_to, has_place, last_to, next_from, next_to, once, some, stands_in}
+use Rattle.bk_tiling_layout.proofs.Ascending.{AreNext, first_to, has_place, last_to, next_from, next_to, once, some, stands_in}
 use Rattle.bk_tiling_layout.proofs.Edges.{MeetsLeft, MeetsRight, bottom_within, left_of, right_of, right_within, side}
 use Rattle.bk_tiling_layout.proofs.LineEnds.{end_is, goes_left_from, goes_left_to, goes_right_from, goes_right_to, number_both, number_left}
 use Rattle.bk_tiling_layout.proofs.LineEnds.{number_one, number_right, number_zero}
 use Rattle.bk_tiling_layout.proofs.NodeLaws.{EndsAt, HangsAt, along_left, along_right, beside, ends_at, ends_at_left, ends_at_right, ends_beside}
 use Rattle.bk_tiling_layout.proofs.NodeLaws.{hangs_at, is_last_ended, one_ended, one_left_line, one_right_line}
 use Rattle.bk_tiling_layout.proofs.Nodes.{IsNode, above_bottom, most_nodes}
-use Rattle.bk_layout.specs.Layout.{AreLines, AreLists, AreNodes, DoLinesGoOn, Fits}
+use Rattle.bk_layout.specs.Layout.{AreLines, AreLists, AreNeighbours, AreNodes, DoLinesGoOn, Fits, IsFirst, IsLast}
 use Rattle.bk_tiling_layout.specs.TilingLayout.{from_left, goes_on_left, goes_on_right, layout_of, line_end, line_number, node_above, square_of}
 use Rattle.bk_tiling_layout.specs.TilingLayoutLaws.{ATilingHasALayout}
 use Rattle.bk_tiling_layout.proofs.TilingNet.{net_is}
@@ -38,9 +38,11 @@ module _ (t : Tiling) (tiling : IsTiling t) where
     ending_once = λ v j k q d e. once (key t tiling) (ended t tiling v) (length t.squares) (ended_one t tiling v) j k q d e;
   }
 
+  -- a tiling has a group
   pub some_groups : 0 < length (square_groups t.squares)
   some_groups = omega (arith, ap length (known t tiling).is)
 
+  -- each node but the bottom is above the bottom's level
   pub low_level : (v : ℕ) (node : IsNode t v) → v < length (square_groups t.squares) → node.level < t.height
   low_level v node h = cases node.inner
     where
@@ -129,7 +131,7 @@ module _ (t : Tiling) (tiling : IsTiling t) where
 
   -- ---- lines
 
-  lines_between : (v q r : ℕ) → AreNextOf (from_left t (λ q. node_above (square_groups t.squares) (square_of t q) == v)) q r
+  lines_between : (v q r : ℕ) → AreNeighbours (from_left t (λ q. node_above (square_groups t.squares) (square_of t q) == v)) q r
       → line_number t ((square_of t q).x + (square_of t q).s) (square_of t q).y ≡ line_number t (square_of t r).x (square_of t r).y
   lines_between v q r next = λ i. line_number t (edge i) (level i)
     where
@@ -148,15 +150,15 @@ module _ (t : Tiling) (tiling : IsTiling t) where
       level = (node.hang_to (square_of t q) (in_square t tiling q n.first_in.0) (hung_from t tiling v q n.first_in.1)).0
           ∙ sym (node.hang_to (square_of t r) (in_square t tiling r n.second_in.0) (hung_from t tiling v r n.second_in.1)).0
 
-  left_lines : (v q p : ℕ) → IsFirstOf (from_left t (λ q. node_below (square_groups t.squares) (square_of t q) == v)) q
-      → IsFirstOf (from_left t (λ q. node_above (square_groups t.squares) (square_of t q) == v)) p
+  left_lines : (v q p : ℕ) → IsFirst (from_left t (λ q. node_below (square_groups t.squares) (square_of t q) == v)) q
+      → IsFirst (from_left t (λ q. node_above (square_groups t.squares) (square_of t q) == v)) p
       → line_number t (square_of t p).x (square_of t p).y ≡ line_number t (square_of t q).x (square_of t q).y
   left_lines v q p a b = let e = first_of_ended t tiling v q a in let h = first_of_hung t tiling v p b in let node = hung_node t tiling v p h.0 h.1 in
       one_left_line t tiling v node (square_of t q) (square_of t p) (in_square t tiling q e.0) (in_square t tiling p h.0) (ended_from t tiling v q e.1)
       (hung_from t tiling v p h.1) (e.2 node) (h.2 node)
 
-  right_lines : (v q p : ℕ) → IsLastOf (from_left t (λ q. node_below (square_groups t.squares) (square_of t q) == v)) q
-      → IsLastOf (from_left t (λ q. node_above (square_groups t.squares) (square_of t q) == v)) p
+  right_lines : (v q p : ℕ) → IsLast (from_left t (λ q. node_below (square_groups t.squares) (square_of t q) == v)) q
+      → IsLast (from_left t (λ q. node_above (square_groups t.squares) (square_of t q) == v)) p
       → line_number t ((square_of t p).x + (square_of t p).s) (square_of t p).y ≡ line_number t ((square_of t q).x + (square_of t q).s) (square_of t q).y
   right_lines v q p a b = let e = last_of_ended t tiling v q a in let h = last_of_hung t tiling v p b in let node = hung_node t tiling v p h.0 h.1 in
       one_right_line t tiling v node (square_of t q) (square_of t p) (in_square t tiling q e.0) (in_square t tiling p h.0) (ended_from t tiling v q e.1)
@@ -183,34 +185,34 @@ module _ (t : Tiling) (tiling : IsTiling t) where
     node = node_at t tiling (node_below (square_groups t.squares) (square_of t q)) (most_nodes t tiling (square_of t q) (in_square t tiling q h))
 
     first_there : (square_of t q).x ≡ node.left
-        → IsFirstOf (from_left t (λ r. node_below (square_groups t.squares) (square_of t r) == node_below (square_groups t.squares) (square_of t q))) q
+        → IsFirst (from_left t (λ r. node_below (square_groups t.squares) (square_of t r) == node_below (square_groups t.squares) (square_of t q))) q
     first_there e = first_to (key t tiling) (ended t tiling v) (length t.squares) (ended_one t tiling v) q h (ended_to t tiling v q refl)
         (λ r k f. omega (arith, e, (node.end_to (square_of t r) (in_square t tiling r k) (ended_from t tiling v r f)).1))
 
     last_there : (square_of t q).x + (square_of t q).s ≡ node.right
-        → IsLastOf (from_left t (λ r. node_below (square_groups t.squares) (square_of t r) == node_below (square_groups t.squares) (square_of t q))) q
+        → IsLast (from_left t (λ r. node_below (square_groups t.squares) (square_of t r) == node_below (square_groups t.squares) (square_of t q))) q
     last_there e = last_to (key t tiling) (ended t tiling v) (length t.squares) (ended_one t tiling v) q h (ended_to t tiling v q refl)
         (λ r k f. is_last_ended t tiling v node (square_of t q) (in_square t tiling q h) refl e (square_of t r) (in_square t tiling r k)
         (ended_from t tiling v r f))
 
     left_goes : goes_on_left t (square_of t q) ≡ true
-        → IsFirstOf (from_left t (λ r. node_below (square_groups t.squares) (square_of t r) == node_below (square_groups t.squares)
+        → IsFirst (from_left t (λ r. node_below (square_groups t.squares) (square_of t r) == node_below (square_groups t.squares)
         (square_of t q))) q × (node_below (square_groups t.squares) (square_of t q) < length (square_groups t.squares))
     left_goes e = let k = ends_at_left t tiling v node (square_of t q) (in_square t tiling q h) refl (goes_left_from t (square_of t q) e) in
         (first_there k.0, k.1)
 
     right_goes : goes_on_right t (square_of t q) ≡ true
-        → IsLastOf (from_left t (λ r. node_below (square_groups t.squares) (square_of t r) == node_below (square_groups t.squares)
+        → IsLast (from_left t (λ r. node_below (square_groups t.squares) (square_of t r) == node_below (square_groups t.squares)
         (square_of t q))) q × (node_below (square_groups t.squares) (square_of t q) < length (square_groups t.squares))
     right_goes e = let k = ends_at_right t tiling v node (square_of t q) (in_square t tiling q h) refl (goes_right_from t (square_of t q) e) in
         (last_there k.0, k.1)
 
     at_left : line_number t (square_of t q).x (square_of t q).y ≡ 0
-        → IsFirstOf (from_left t (λ r. node_below (square_groups t.squares) (square_of t r) == node_below (square_groups t.squares) (square_of t q))) q
+        → IsFirst (from_left t (λ r. node_below (square_groups t.squares) (square_of t r) == node_below (square_groups t.squares) (square_of t q))) q
     at_left e = first_there (omega (arith, number_zero t (square_of t q).x (square_of t q).y e, (node.end_to (square_of t q) (in_square t tiling q h) refl).1))
 
     at_right : line_number t ((square_of t q).x + (square_of t q).s) (square_of t q).y ≡ 1
-        → IsLastOf (from_left t (λ r. node_below (square_groups t.squares) (square_of t r) == node_below (square_groups t.squares) (square_of t q))) q
+        → IsLast (from_left t (λ r. node_below (square_groups t.squares) (square_of t r) == node_below (square_groups t.squares) (square_of t q))) q
     at_right e = last_there (omega (
       arith,
       number_one t ((square_of t q).x + (square_of t q).s) (square_of t q).y e,
@@ -283,7 +285,7 @@ module _ (t : Tiling) (tiling : IsTiling t) where
   lines_meet : (q r : ℕ) → q < length t.squares → r < length t.squares
       → line_number t ((square_of t q).x + (square_of t q).s) (square_of t q).y ≡ line_number t (square_of t r).x (square_of t r).y
       → goes_on_right t (square_of t q) ≡ false → goes_on_left t (square_of t r) ≡ false
-      → AreNextOf (from_left t (λ w. node_below (square_groups t.squares) (square_of t w) == node_below (square_groups t.squares) (square_of t q))) q r
+      → AreNeighbours (from_left t (λ w. node_below (square_groups t.squares) (square_of t w) == node_below (square_groups t.squares) (square_of t q))) q r
   lines_meet q r h k same a b = next_to (key t tiling) (ended t tiling v0) (length t.squares) (ended_one t tiling v0) q r
       (record {
         first_in = (h, ended_to t tiling v0 q refl);

@@ -1,5 +1,5 @@
 -- The squares of a tiling and their numbers in its layout, and what stands first and last at each node.
-use Rattle.std.proofs.Common.{Bool, ap, arith, inl, inr, length, subst, sym, true, ℕ, ◌+◌, ◌-◌, ◌<◌, ◌==◌, ◌∙◌, ◌≡◌, ◌≤◌, ◌⊎◌}
+use Rattle.std.proofs.Common.{Bool, ap, arith, inl, inr, length, subst, sym, true, ℕ, ◌+◌, ◌<◌, ◌==◌, ◌∙◌, ◌≡◌, ◌≤◌, ◌⊎◌}
 use Rattle.std.proofs.lemmas.Bool.{cases_lt}
 use Rattle.bk_laws.proofs.ListPlaces.{get_some}
 use Rattle.bk_tiling.proofs.Members.{one_at}
@@ -9,7 +9,8 @@ use Rattle.bk_tiling.specs.SquareGroups.{square_groups}
 use Rattle.bk_tiling.specs.Tiling.{IsOneOf, IsTiling, Tiling}
 use Rattle.bk_tiling.specs.declared.Square.{Square}
 use Rattle.bk_net.specs.Diagram.{node_below}
-use Rattle.bk_tiling_layout.proofs.Ascending.{IsFirstOf, IsLastOf, first_from, last_from, stands_in}
+use Rattle.bk_layout.specs.Layout.{IsFirst, IsLast}
+use Rattle.bk_tiling_layout.proofs.Ascending.{first_from, last_from, stands_in}
 use Rattle.bk_tiling_layout.proofs.Edges.{side}
 use Rattle.bk_tiling_layout.proofs.LineEnds.{eq_from, eq_to}
 use Rattle.bk_tiling_layout.proofs.NodeLaws.{first_ended, first_hung, last_ended, last_hung, one_ended, one_hung}
@@ -73,6 +74,7 @@ module _ (t : Tiling) (tiling : IsTiling t) where
   pub hung_from : (v q : ℕ) → hung v q ≡ true → node_above (square_groups t.squares) (square_of t q) ≡ v
   hung_from v q e = eq_from (node_above (square_groups t.squares) (square_of t q)) v e
 
+  -- a square whose node above is v is among those that hang from v
   pub hung_to : (v q : ℕ) → node_above (square_groups t.squares) (square_of t q) ≡ v → hung v q ≡ true
   hung_to v q e = eq_to (node_above (square_groups t.squares) (square_of t q)) v e
 
@@ -80,6 +82,7 @@ module _ (t : Tiling) (tiling : IsTiling t) where
   pub ended_from : (v q : ℕ) → ended v q ≡ true → node_below (square_groups t.squares) (square_of t q) ≡ v
   ended_from v q e = eq_from (node_below (square_groups t.squares) (square_of t q)) v e
 
+  -- and one whose node below is v is among those that end on it
   pub ended_to : (v q : ℕ) → node_below (square_groups t.squares) (square_of t q) ≡ v → ended v q ≡ true
   ended_to v q e = eq_to (node_below (square_groups t.squares) (square_of t q)) v e
 
@@ -91,6 +94,7 @@ module _ (t : Tiling) (tiling : IsTiling t) where
   pub ended_node : (v q : ℕ) → q < length t.squares → ended v q ≡ true → IsNode t v
   ended_node v q h e = node_at v (omega (arith, ended_from v q e, most_nodes t tiling (square_of t q) (in_square q h)))
 
+  -- the square with a number of the tiling has a width
   pub wide_at : (q : ℕ) → q < length t.squares → (square_of t q).x < (square_of t q).x + (square_of t q).s
   wide_at q h = omega (arith, side t tiling (square_of t q) (in_square q h))
 
@@ -118,7 +122,7 @@ module _ (t : Tiling) (tiling : IsTiling t) where
       subst P k.is (each k.number k.below (ended_to v k.number (ap (node_below (square_groups t.squares)) k.is ∙ e)))
 
   -- the squares at both ends of a node's lists
-  pub first_of_hung : (v p : ℕ) → IsFirstOf (from_left t (λ q. node_above (square_groups t.squares) (square_of t q) == v)) p
+  pub first_of_hung : (v p : ℕ) → IsFirst (from_left t (λ q. node_above (square_groups t.squares) (square_of t q) == v)) p
       → (p < length t.squares) × (hung v p ≡ true) × ((node : IsNode t v) → (square_of t p).x ≡ node.left)
   first_of_hung v p first = (
     s.0,
@@ -131,7 +135,7 @@ module _ (t : Tiling) (tiling : IsTiling t) where
       s = stands_in key (hung v) (length t.squares) (hung_one v) 0 p first
 
   -- and the first that ends there
-  pub first_of_ended : (v p : ℕ) → IsFirstOf (from_left t (λ q. node_below (square_groups t.squares) (square_of t q) == v)) p
+  pub first_of_ended : (v p : ℕ) → IsFirst (from_left t (λ q. node_below (square_groups t.squares) (square_of t q) == v)) p
       → (p < length t.squares) × (ended v p ≡ true) × ((node : IsNode t v) → (square_of t p).x ≡ node.left)
   first_of_ended v p first = (
     s.0,
@@ -144,7 +148,7 @@ module _ (t : Tiling) (tiling : IsTiling t) where
       s = stands_in key (ended v) (length t.squares) (ended_one v) 0 p first
 
   -- the last in the list of what hangs from a node ends at its right end
-  pub last_of_hung : (v p : ℕ) → IsLastOf (from_left t (λ q. node_above (square_groups t.squares) (square_of t q) == v)) p
+  pub last_of_hung : (v p : ℕ) → IsLast (from_left t (λ q. node_above (square_groups t.squares) (square_of t q) == v)) p
       → (p < length t.squares) × (hung v p ≡ true) × ((node : IsNode t v) → (square_of t p).x + (square_of t p).s ≡ node.right)
   last_of_hung v p last = (
     s.0,
@@ -157,7 +161,7 @@ module _ (t : Tiling) (tiling : IsTiling t) where
       s = stands_in key (hung v) (length t.squares) (hung_one v) last.0 p last.2
 
   -- and the last that ends there
-  pub last_of_ended : (v p : ℕ) → IsLastOf (from_left t (λ q. node_below (square_groups t.squares) (square_of t q) == v)) p
+  pub last_of_ended : (v p : ℕ) → IsLast (from_left t (λ q. node_below (square_groups t.squares) (square_of t q) == v)) p
       → (p < length t.squares) × (ended v p ≡ true) × ((node : IsNode t v) → (square_of t p).x + (square_of t p).s ≡ node.right)
   last_of_ended v p last = (
     s.0,

@@ -103,6 +103,7 @@ lies_between (m ∷ front) u v (n ∷ w) from to = cases (move_cmp n m) refl (λ
 pub not_before_first : (m x : Move) (rest more : Word) → (word_cmp (m ∷ rest) (x ∷ more) ≡ Less → ⊥) → IsMoveFrom x m
 not_before_first m x rest more f e = f (ap (λ z. ordering_then z (word_cmp rest more)) e)
 
+-- no word comes before the empty one
 pub not_before_none : (rest : Word) → word_cmp rest [] ≡ Less → ⊥
 not_before_none [] e = cc
 not_before_none (m ∷ rest) e = cc

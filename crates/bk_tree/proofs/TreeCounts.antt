@@ -44,6 +44,7 @@ the_tree_count_is_most n cursor bound count number t h =
           (λ w k. in_from t.words w (t.all w (in_all_words (IsInTree n cursor bound) h.words h.each w k))),
     )
 
+-- two tree counts of one part are one number
 pub the_tree_count_is_one : TheTreeCountIsOne
 the_tree_count_is_one n cursor bound count other a b = omega (
   arith,
@@ -132,12 +133,15 @@ module _ (n : ℕ) (cursor between : Word) (bound : Option Word) (from : Follows
     count = omega (arith, s.count, t.count, length-append s.words t.words);
   }
 
+-- the counts of two parts that follow each other add up to that of both
 pub tree_counts_add : TreeCountsAdd
 tree_counts_add n cursor between bound a b from to s t = counts_add n cursor between bound from to a b s t
 
+-- and so do numbers of words that a part has at least
 pub at_least_adds : AtLeastAdds
 at_least_adds n cursor between bound a b from to s t = at_least_adds_to n cursor between bound from to a b s t
 
+-- a legal word within the order, behind the cursor, is a part of one word at least
 pub a_legal_word_is_one : ALegalWordIsOne
 a_legal_word_is_one n cursor w legal some small after = record {
   words = w ∷ [];

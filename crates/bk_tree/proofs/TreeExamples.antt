@@ -1,12 +1,13 @@
--- The tree of order 1 has one word: one move of one square.
+-- Which moves come next, and the tree of order 1: it has one word, one move of one square.
 use Rattle.std.proofs.Common.{None, [], arith, length, refl, sym, zero, ◌∷◌, ◌≡◌, ◌≤◌, List, ap, ◌∙◌}
 use Rattle.bk_word.proofs.StoredBytes.{order_more}
 use Rattle.bk_word.specs.Outline.{Outline, start}
 use Rattle.bk_word.specs.Play.{AreLegalFrom, after_move}
 use Rattle.bk_word.specs.Word.{Move, Word, order_of}
 use Rattle.bk_word.specs.declared.Sign.{Sign}
+use Rattle.bk_word.specs.declared.Sign.TheVariants.{Above, Even, Under}
 use Rattle.bk_tree.proofs.Places.{move_from_parts}
-use Rattle.bk_tree.specs.NextMove.{first_move}
+use Rattle.bk_tree.specs.NextMove.{first_move, fitted, move_after}
 use Rattle.bk_tree.specs.Tree.{IsInTree, IsTreeCount}
 
 no_sign : (signs : List Sign) → length signs ≡ 0 → signs ≡ []
@@ -34,3 +35,19 @@ one_count = record {
   all = λ w t. (zero, omega arith, sym (one_word w t));
   count = refl;
 }
+
+-- behind all that begin with 2au comes 2e
+after_2au : move_after (record { count = 2; signs = Above ∷ Under ∷ [] }) ≡ record { count = 2; signs = Even ∷ [] }
+after_2au = refl
+
+-- and behind 2u comes 3
+after_2u : move_after (record { count = 2; signs = Under ∷ [] }) ≡ record { count = 3; signs = [] }
+after_2u = refl
+
+-- with one open side two squares have two signs: 2 is filled up to 2aa
+least_from_2 : fitted 1 (record { count = 2; signs = [] }) ≡ record { count = 2; signs = Above ∷ Above ∷ [] }
+least_from_2 = refl
+
+-- with none they have one: behind 2ae comes 2e
+least_from_2ae : fitted 0 (record { count = 2; signs = Above ∷ Even ∷ [] }) ≡ record { count = 2; signs = Even ∷ [] }
+least_from_2ae = refl

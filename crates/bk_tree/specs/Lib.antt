@@ -1,5 +1,5 @@
 -- What the crate says.
 pub mod Tree
 pub mod TreeLaws
--- How the search goes on from move to move.
+-- How its code keeps it.
 pub mod NextMove

@@ -1,5 +1,7 @@
 -- Which move comes next. The legal moves at one state go by their counts, and those of one count have the same number of
 -- signs and go by these.
+-- Example (TreeExamples): behind all that begin with 2au comes 2e, and behind 2u comes 3; at a valley with one open side the
+-- least legal move that is not before 2 is 2aa.
 use Rattle.std.specs.Prelude.{List, None, Option, Some, [], cond, length, nat_lt, replicate, take, ℕ, ◌++◌, ◌+◌, ◌-◌, ◌∷◌, ◌≡◌}
 use Rattle.std.specs.declared.cmp.Ordering.TheVariants.{Less}
 use Rattle.bk_word.specs.Outline.{IsLegalMove, Outline, has_left_wall, has_right_wall, open_side}

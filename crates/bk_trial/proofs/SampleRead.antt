@@ -1,6 +1,5 @@
 -- A trial code that is written stands for itself.
-use Rattle.std.specs.Prelude.{Err, IsOkAnd, None, Ok, Result, Some}
-use Rattle.std.specs.Result.{result_ok}
+use Rattle.std.specs.Prelude.{None}
 use Rattle.std.proofs.Common.{List, [], ap, arith, inl, length, refl, subst, ℕ, ◌≡◌}
 use Rattle.std.proofs.lemmas.List.{append-nil}
 use Rattle.bk_tiling.specs.Kept.{IsKept}
@@ -14,7 +13,6 @@ use Rattle.bk_text.specs.declared.TextFault.{TextFault}
 use Rattle.bk_text.specs.declared.TextFault.TheVariants.{Many, Text}
 use Rattle.bk_text.proofs.LinesRead.{one_meaning}
 use Rattle.bk_text.proofs.WrittenLines.{written_code}
-use Rattle.bk_profile.specs.declared.laying.Refusal.{Refusal}
 
 -- and so its text is a line that stands for it
 pub written_is_line : (t : Tiling) → IsKept t → IsLine (Item None None (code_of t)) (code_text (code_of t))
@@ -35,7 +33,3 @@ reads_code t kept line bytes same is =
 
 pub no_fault_of : (t : Tiling) → IsKept t → (fault : TextFault) (bytes : List ℕ) → bytes ≡ code_text (code_of t) → IsFaultOf fault bytes → ⊥
 no_fault_of t kept fault bytes same is = no_fault t kept fault (subst (IsFaultOf fault) same is)
-
-pub laid_ok : (r : Result Tiling Refusal) (t : Tiling) → IsOkAnd r (λ u. u ≡ t) → result_ok r ≡ Some t
-laid_ok (Ok u) t is = ap Some is
-laid_ok (Err e) t is = absurd is

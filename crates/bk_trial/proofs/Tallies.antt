@@ -1,6 +1,6 @@
 -- Tallies go on place by place, and a seed and a count have one line.
 use Rattle.std.specs.Prelude.{List}
-use Rattle.std.proofs.Common.{arith, refl, subst, suc, sym, zero, ℕ, ◌*◌, ◌+◌, ◌∙◌, ◌≡◌, ◌≤◌}
+use Rattle.std.proofs.Common.{arith, subst, suc, sym, zero, ℕ, ◌*◌, ◌+◌, ◌∙◌, ◌≡◌, ◌≤◌}
 use Rattle.bk_tiling.specs.Tiling.{Tiling, order}
 use Rattle.bk_simple.specs.Simple.{IsPerfect, IsSimple}
 use Rattle.bk_gen.proofs.SampleLaws.{sample_kept}
@@ -27,9 +27,6 @@ tally_few seed n a p s q tally = record {
   simple = no_more_than (λ k. IsSimple (tiling_at seed k)) n s tally.simples;
   squares = omega (arith, tally.together, squares_few seed n);
 }
-
-pub tally_start : (seed : ℕ) → IsTally seed 0 0 0 0 0
-tally_start seed = record { all_accepted = refl; perfects = refl; simples = refl; together = refl }
 
 pub tally_more : (seed n a p s q a' p' s' q' : ℕ) (t : Tiling) → t ≡ tiling_at seed n → IsTally seed n a p s q → a' ≡ a + 1 → CountsOn (IsPerfect t) p p'
     → CountsOn (IsSimple t) s s'

@@ -8,14 +8,14 @@ ghost use Rattle.bk_text.specs.ReadLine.{IsInRange, stands_for};
 ghost use Rattle.bk_profile.specs.Refused.{HasCode};
 ghost use Rattle.bk_trial.specs.TrialLine.{tiling_at};
 
-use arrayvec::ArrayVec;
 use bk_gen::sample;
+use bk_grammar::AnswerBuffer;
 use bk_profile::lay_code;
 use bk_text::{Line, read_line, write_code};
 use bk_tiling::Tiling;
 
 // The tiling of a trial code, which is written as text, read again and laid.
-pub(crate) fn laid_again(seed: u64, k: u32, text: &mut ArrayVec<u8, 9000>) -> Option<Tiling>
+pub(crate) fn laid_again(seed: u64, k: u32, text: &mut AnswerBuffer) -> Option<Tiling>
     ensures { result ≡ Some (tiling_at seed k) }
 {
     text.clear();

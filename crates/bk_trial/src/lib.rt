@@ -7,7 +7,7 @@ ghost use Rattle.bk_trial.specs.TrialLineLaws.{ASampleIsLaid, ASeedHasOneLine};
 mod laying;
 mod tally;
 
-use arrayvec::ArrayVec;
+use bk_grammar::AnswerBuffer;
 use bk_report::write_trial;
 use tally::tally_of;
 
@@ -15,7 +15,7 @@ use tally::tally_of;
 /// laid. Clears the buffer and leaves a line about them, with its line feed: the seed, the count, how many were accepted
 /// (all of them), how many are perfect and how many simple (Brooks, Smith, Stone and Tutte 1940), and how many squares
 /// they have together. Trial codes and the text are this project's own.
-pub fn trial(seed: u64, count: u32, out: &mut ArrayVec<u8, 9000>)
+pub fn trial(seed: u64, count: u32, out: &mut AnswerBuffer)
     ensures { IsTrialLine seed count out.new.items }
 {
     let tally = tally_of(seed, count, out);

@@ -6,7 +6,7 @@ ghost use Rattle.bk_simple.specs.Simple.{IsPerfect, IsSimple};
 ghost use Rattle.bk_trial.specs.TrialLine.{IsTally};
 
 use crate::laying::laid_again;
-use arrayvec::ArrayVec;
+use bk_grammar::AnswerBuffer;
 use bk_simple::{part, repeated};
 use bk_tiling::Tiling;
 
@@ -53,7 +53,7 @@ impl Tally {
 }
 
 // What is counted of the trial codes of a seed at the places below the count. The buffer gets their texts.
-pub(crate) fn tally_of(seed: u64, count: u32, text: &mut ArrayVec<u8, 9000>) -> Tally
+pub(crate) fn tally_of(seed: u64, count: u32, text: &mut AnswerBuffer) -> Tally
     ensures { IsTally seed count result.accepted result.perfect result.simple result.squares }
 {
     let mut tally = Tally::new();

@@ -219,8 +219,8 @@ next_as k n one cursor t word e f next = subst (λ (k : ℕ). IsNextMember k Per
 pub none_as : (k n : ℕ) (one : Class) (cursor : Word) → k ≡ n → one ≡ Perfect → HasNoneAfter k one cursor → HasNoneAfter n Perfect cursor
 none_as k n one cursor e f none = subst (λ (k : ℕ). HasNoneAfter k Perfect cursor) e (subst (λ (one : Class). HasNoneAfter k one cursor) f none)
 
-pub rest_none : (n : ℕ) → n ≤ 16 → IsKeptRest (record { order = n; class = Perfect; cursor = []; ended = false; pushes = 0 }) 0 false
-rest_none n most = record { most = most; class = refl; narrow = refl; reached = count_none n }
+pub rest_none : (n : ℕ) → n ≤ 16 → IsKeptRest (record { order = n; class = Perfect; cursor = []; ended = false; pushes = 0 }) 0
+rest_none n most = record { most = most; class = refl; reached = count_none n }
 
 -- a walk goes over members that are kept, from where it was first
 pub record IsPassing (first : WalkState) (pairs : List Kept) (walk : WalkState) (members : ℕ) : Type 0 where

@@ -2,14 +2,12 @@
 -- Example (VerifyExamples): a verifier of order 9 that keeps the rectangle 33x32 from line 1 tells of a square alone that it is
 -- foreign, and stays as it is.
 use Rattle.std.specs.List.{AllByRecursion}
-use Rattle.std.specs.Prelude.{Bool, Contains, List, [], false, length, ℕ, ⊤, ◌++◌, ◌∷◌, ◌≡◌, ◌≢◌, ◌≤◌}
+use Rattle.std.specs.Prelude.{Contains, List, [], false, length, ℕ, ⊤, ◌++◌, ◌∷◌, ◌≡◌, ◌≢◌, ◌≤◌}
 use Rattle.bk_tiling.specs.Tiling.{Tiling}
 use Rattle.bk_sym.specs.Canonical.{IsCanonicalOf}
-use Rattle.bk_word.specs.Play.{IsComplete}
-use Rattle.bk_word.specs.Word.{Follows, Word, order_of}
+use Rattle.bk_word.specs.Word.{Follows, Word}
 use Rattle.bk_word.specs.declared.Class.TheVariants.{Perfect}
 use Rattle.bk_lay.specs.TilingWord.{IsWordOf}
-use Rattle.bk_word_net.specs.WideWord.{IsWideWord}
 use Rattle.bk_catalogue.specs.Catalogue.{AreAscending, Entry, IsEntry, IsMember}
 use Rattle.bk_walk.specs.Walking.{WalkState}
 use Rattle.bk_verify.specs.declared.verifier.Fed.{Fed}
@@ -81,20 +79,16 @@ pub record IsKeptVerifier (s : VerifierState) : Type 0 where
   pub members : AllByRecursion (λ p. IsMember s.order Perfect p.tiling) s.pairs
   pub apart : AreApart s.pairs
 
--- what is seen of what a verifier leaves: the kept pairs, a walk, whether a wide word came, and whether a call followed it
+-- what is seen of what a verifier leaves: the kept pairs, and a walk
 pub record RestState : Type 0 where
   pub pairs : List Kept
   pub walk : WalkState
-  pub stopped : Bool
-  pub passed : Bool
 
 -- what a verifier leaves: its pairs, with a walk through the perfect catalogue of the order from the word of no moves
 abbrev pub rest_of : VerifierState → RestState
 rest_of s = record {
   pairs = s.pairs;
   walk = record { order = s.order; class = Perfect; cursor = []; ended = false; pushes = 0 };
-  stopped = false;
-  passed = false;
 }
 
 -- each member after the cursor, and below the bound, is kept
@@ -113,14 +107,6 @@ pub record IsNextMissing (n : ℕ) (pairs : List Kept) (cursor : Word) (t : Tili
   pub word_is : IsWordOf t word
   pub after : Follows word cursor
   pub new : IsNotKept pairs t
-  pub least : AreKeptBetween n pairs cursor word
-
--- a complete word of the order that is after the cursor and wide; each member between is kept
-pub record IsWideAmongKept (n : ℕ) (pairs : List Kept) (cursor word : Word) : Type 0 where
-  pub complete : IsComplete word
-  pub order : order_of word ≡ n
-  pub after : Follows word cursor
-  pub wide : IsWideWord word
   pub least : AreKeptBetween n pairs cursor word
 
 -- the word is none of those after the cursor
@@ -144,9 +130,8 @@ pub record CountsMembers (n : ℕ) (IsCounted : Word → Type 0) (count : ℕ) :
   pub all : (e : Entry) → IsEntry n Perfect e → IsCounted e.word → Contains entries e
   pub number : count ≡ length entries
 
--- what holds of what a verifier leaves: no wide word came, for there is none
-pub record IsKeptRest (walk : WalkState) (members : ℕ) (stopped : Bool) : Type 0 where
+-- what holds of what a verifier leaves
+pub record IsKeptRest (walk : WalkState) (members : ℕ) : Type 0 where
   pub most : walk.order ≤ 16
   pub class : walk.class ≡ Perfect
-  pub narrow : stopped ≡ false
   pub reached : CountsMembers walk.order (IsUpTo walk.cursor) members

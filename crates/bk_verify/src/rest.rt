@@ -1,11 +1,10 @@
 //! What a verifier leaves: a walk over the members that no entry had.
 
-ghost use Rattle.std.specs.Prelude.{IfErr, IfNone, IfOk, IfSome, IsNone, IsOk, IsTrue, MatchOption, MatchResult, false, true, ◌≡◌, ◌≤◌, ◌↔◌};
+ghost use Rattle.std.specs.Prelude.{IfNone, IfOk, IfSome, IsNone, IsOk, IsTrue, MatchOption, ◌≡◌, ◌≤◌, ◌↔◌};
 ghost use Rattle.bk_code.specs.Code.{code_of as code_seen};
-ghost use Rattle.bk_word.specs.Word.{Follows};
 ghost use Rattle.bk_word.specs.declared.Class.TheVariants.{Perfect};
 ghost use Rattle.bk_walk.specs.Walking.{HasNoneAfter};
-ghost use Rattle.bk_verify.specs.Kept.{AreKeptAfter, CountsMembers, IsNextMissing, IsUpTo, IsWideAmongKept, rest_of};
+ghost use Rattle.bk_verify.specs.Kept.{AreKeptAfter, CountsMembers, IsNextMissing, IsUpTo, rest_of};
 
 use crate::kept::KeptMembers;
 use bk_skel::Steps;
@@ -16,14 +15,13 @@ use std::marker::Model;
 use std::sync::ledger::Ledger;
 
 /// What a verifier leaves once all entries are fed: it goes through the catalogue and names each member that isn't kept. It
-/// is seen as the kept pairs, a walk, whether an `Err` came, and whether a call followed it. No call takes memory.
+/// is seen as the kept pairs and a walk. No wide word comes on the way, for no word of its orders is wide
+/// (`bk_word_net::no_small_word_is_wide`). No call takes memory.
 #[derive(Drop)]
 pub struct Rest {
     kept: KeptMembers,
     walk: Walk,
     members: u64,
-    stopped: bool,
-    passed: bool,
 }
 
 impl Model for Rest {
@@ -31,9 +29,9 @@ impl Model for Rest {
 
     ghost Value = { RestState };
 
-    ghost view = { λ r. record { pairs = r.kept; walk = r.walk; stopped = r.stopped; passed = r.passed } };
+    ghost view = { λ r. record { pairs = r.kept; walk = r.walk } };
 
-    ghost invariant = { λ r. IsKeptRest r.walk r.members r.stopped };
+    ghost invariant = { λ r. IsKeptRest r.walk r.members };
 }
 
 impl Rest {
@@ -47,46 +45,32 @@ impl Rest {
             kept,
             walk: Walk::new(alloc, order, Class::Perfect, None),
             members: 0,
-            stopped: false,
-            passed: false,
         }
     }
 
-    /// Goes on to the least member after the cursor that isn't kept. Where a complete word of the order that is wide comes
-    /// first, it may name that word instead; each member between is then kept. But by `bk_word_net::no_small_word_is_wide` there is
-    /// no such word, so it never does. Either word is the cursor then. `None` comes only where each member after the cursor is
-    /// kept; no member follows the cursor then, and each later call gives `None`.
+    /// Goes on to the least member after the cursor that isn't kept, and gives it with its code and its word, which is the
+    /// cursor then. `None` comes only where each member after the cursor is kept; no member follows the cursor then, and each
+    /// later call gives `None`. `Err` would name a wide word of the order, but there is none, so it never comes.
     pub fn advance<L: Ledger>(&mut self, steps: &mut Steps<L>) -> Option<Result<Entry, WideAt>>
         ensures entry { IfSome result (λ r. IfOk r (λ e.
             IsNextMissing self.old.walk.order self.old.pairs self.old.walk.cursor e.tiling e.word × (e.code ≡ code_seen e.tiling))) }
-        ensures wide { IfSome result (λ r. IfErr r (λ w.
-            IsWideAmongKept self.old.walk.order self.old.pairs self.old.walk.cursor w.word)) }
         ensures narrow { IfSome result (λ r. IsOk r) }
         ensures none { IfNone result (AreKeptAfter self.old.walk.order self.old.pairs self.old.walk.cursor) }
-        ensures cursor { MatchOption result (HasNoneAfter self.old.walk.order Perfect self.new.walk.cursor) (λ r.
-            MatchResult r (λ e. self.new.walk.cursor ≡ e.word) (λ w. self.new.walk.cursor ≡ w.word)) }
+        ensures cursor { MatchOption result (HasNoneAfter self.old.walk.order Perfect self.new.walk.cursor)
+            (λ r. IfOk r (λ e. self.new.walk.cursor ≡ e.word)) }
         ensures ended { IsTrue self.new.walk.ended ↔ IsNone result }
         ensures later { IsTrue self.old.walk.ended → IsNone result }
         ensures pairs { self.new.pairs ≡ self.old.pairs }
         ensures order { self.new.walk.order ≡ self.old.walk.order }
         ensures class { self.new.walk.class ≡ self.old.walk.class }
-        ensures stopped { self.new.stopped ≡ self.old.stopped }
-        ensures passed { self.new.passed ≡ self.old.stopped }
     {
-        self.passed = self.stopped;
-        let next = next_missing(&self.kept, &mut self.walk, &mut self.members, steps);
-        if let Some(Err(_)) = &next {
-            self.stopped = true;
-        }
-        next
+        let entry = next_missing(&self.kept, &mut self.walk, &mut self.members, steps)?;
+        Some(Ok(entry))
     }
 
-    /// How many members there are up to the cursor, kept or not; after a `None` that is all of them. After an `Err`, and
-    /// before a further call of `advance`, it is how many there are below the word that was named.
+    /// How many members there are up to the cursor, kept or not; after a `None` that is all of them.
     pub fn members(&self) -> u64
-        ensures reached { self.now.stopped ≡ false → CountsMembers self.now.walk.order (IsUpTo self.now.walk.cursor) result }
-        ensures below { self.now.stopped ≡ true → self.now.passed ≡ false →
-            CountsMembers self.now.walk.order (Follows self.now.walk.cursor) result }
+        ensures reached { CountsMembers self.now.walk.order (IsUpTo self.now.walk.cursor) result }
     {
         self.members
     }
@@ -98,15 +82,14 @@ fn next_missing<L: Ledger>(
     walk: &mut Walk,
     members: &mut u64,
     steps: &mut Steps<L>,
-) -> Option<Result<Entry, WideAt>>
+) -> Option<Entry>
     requires class { walk.old.class ≡ Perfect }
     requires most { walk.old.order ≤ 16 }
     requires counted { CountsMembers walk.old.order (IsUpTo walk.old.cursor) members.old }
-    ensures entry { IfSome result (λ r. IfOk r (λ e.
-        IsNextMissing walk.old.order kept.now walk.old.cursor e.tiling e.word × (e.code ≡ code_seen e.tiling))) }
-    ensures narrow { IfSome result (λ r. IsOk r) }
+    ensures entry { IfSome result (λ e.
+        IsNextMissing walk.old.order kept.now walk.old.cursor e.tiling e.word × (e.code ≡ code_seen e.tiling)) }
     ensures none { IfNone result (AreKeptAfter walk.old.order kept.now walk.old.cursor) }
-    ensures cursor { MatchOption result (HasNoneAfter walk.old.order Perfect walk.new.cursor) (λ r. IfOk r (λ e. walk.new.cursor ≡ e.word)) }
+    ensures cursor { MatchOption result (HasNoneAfter walk.old.order Perfect walk.new.cursor) (λ e. walk.new.cursor ≡ e.word) }
     ensures ended { IsTrue walk.new.ended ↔ IsNone result }
     ensures later { IsTrue walk.old.ended → IsNone result }
     ensures order { walk.new.order ≡ walk.old.order }
@@ -116,11 +99,11 @@ fn next_missing<L: Ledger>(
     'members: loop {
         match walk.advance(steps) {
             None => return None,
-            Some(Err(wide)) => return Some(Err(wide)),
+            Some(Err(_)) => unreachable!(),
             Some(Ok(entry)) => {
                 *members += 1;
                 if kept.line_of(&entry.tiling).is_none() {
-                    return Some(Ok(entry));
+                    return Some(entry);
                 }
             }
         }

@@ -3,7 +3,7 @@ use Rattle.std.specs.List.{AllByRecursion}
 use Rattle.std.specs.Prelude.{IsTrue, Option, flat_map, take, ⊤, ◌↔◌}
 use Rattle.std.specs.Io.KnownBytes.{Appends}
 use Rattle.std.proofs.KnownBytes.{Appends-nil, Appends-trans}
-use Rattle.std.proofs.Common.{Bool, Contains, List, [], ap, append-nil, arith, false, inl, inr, length, refl, subst, sym, ℕ, ◌++◌, ◌+◌, ◌<◌, ◌^◌}
+use Rattle.std.proofs.Common.{Bool, Contains, List, [], ap, append-nil, arith, inl, inr, length, refl, subst, sym, ℕ, ◌++◌, ◌+◌, ◌<◌, ◌^◌}
 use Rattle.std.proofs.Common.{◌∙◌, ◌∷◌, ◌≡◌, ◌≤◌, ◌⊎◌}
 use Rattle.std.proofs.lemmas.Grind.{flat_map-append}
 use Rattle.std.proofs.lemmas.List.{length-append}
@@ -48,7 +48,6 @@ pub record IsListingOn (first now : RestState) (missing : ℕ) (written written_
   pub listed : IsListed (first.walk).order first.pairs (now.walk).cursor missing written written_after
   pub order : (now.walk).order ≡ (first.walk).order
   pub pairs : now.pairs ≡ first.pairs
-  pub stopped : now.stopped ≡ first.stopped
 
 pub listing_none : (first : RestState) (written : Option (List ℕ)) → (first.walk).cursor ≡ [] → IsListingOn first first 0 written written
 listing_none first written start = record {
@@ -61,7 +60,6 @@ listing_none first written start = record {
   });
   order = refl;
   pairs = refl;
-  stopped = refl;
 }
 
 module _ (first now : RestState) (missing : ℕ) (a b : Option (List ℕ)) (s : IsListingOn first now missing a b) where
@@ -98,13 +96,12 @@ module _ (first now : RestState) (missing : ℕ) (a b : Option (List ℕ)) (s : 
         }
 
     pub listing_more : (then : RestState) → (first.walk).order ≤ 16 → (then.walk).cursor ≡ word → (then.walk).order ≡ (now.walk).order
-        → then.pairs ≡ now.pairs → then.stopped ≡ now.stopped → Appends b c line
+        → then.pairs ≡ now.pairs → Appends b c line
         → IsListingOn first then (missing + 1) a c
-    listing_more then few cursor order pairs stopped p = record {
+    listing_more then few cursor order pairs p = record {
       listed = subst (λ (w : Word). IsListed (first.walk).order first.pairs w (missing + 1) a c) (sym cursor) (listed_more few p);
       order = order ∙ s.order;
       pairs = pairs ∙ s.pairs;
-      stopped = stopped ∙ s.stopped;
     }
 
     pub listing_begun : AppendsPrefix b c line → IsListingBegun (first.walk).order first.pairs a c
@@ -194,8 +191,7 @@ module _ (n : ℕ) (s : Verifying) (first now : RestState) (missing members : �
     (left : first ≡ rest_of s.verifier)
     (listed : IsListed (first.walk).order first.pairs (now.walk).cursor missing a b) (kept : AreKeptAfter (first.walk).order first.pairs (now.walk).cursor)
     (none : HasNoneAfter (first.walk).order Perfect (now.walk).cursor) (same_order : (now.walk).order ≡ (first.walk).order)
-    (same_stopped : now.stopped ≡ first.stopped)
-    (reached : now.stopped ≡ false → CountsMembers (now.walk).order (IsUpTo (now.walk).cursor) members) where
+    (reached : CountsMembers (now.walk).order (IsUpTo (now.walk).cursor) members) where
   first_order : (first.walk).order ≡ n
   first_order = ap (λ (r : RestState). (r.walk).order) left ∙ order
 
@@ -204,9 +200,8 @@ module _ (n : ℕ) (s : Verifying) (first now : RestState) (missing members : �
 
   all_members : CountsMembers n (λ word. ⊤) members
   all_members =
-      let stopped : now.stopped ≡ false = same_stopped ∙ ap (λ (r : RestState). r.stopped) left in
       count_all n (now.walk).cursor members (subst (λ (k : ℕ). HasNoneAfter k Perfect (now.walk).cursor) first_order none)
-      (subst (λ (k : ℕ). CountsMembers k (IsUpTo (now.walk).cursor) members) (same_order ∙ first_order) (reached stopped))
+      (subst (λ (k : ℕ). CountsMembers k (IsUpTo (now.walk).cursor) members) (same_order ∙ first_order) reached)
 
   abbrev pub the_counts : Counts
   the_counts = record { members = members; missing = missing; foreign = s.foreign; repeated = s.repeated; refused = s.refused }

@@ -76,7 +76,6 @@ fn write_missing_members<L: Ledger, O: Sink>(
     ensures begun { OnErr result (IsListingBegun rest.old.walk.order rest.old.pairs (O.written out.old) (O.written out.new)) }
     ensures cause { HasCause (O.faults out.old) (O.faults out.new) result }
     ensures order { rest.new.walk.order ≡ rest.old.walk.order }
-    ensures stopped { rest.new.stopped ≡ rest.old.stopped }
 {
     let mut missing: u64 = 0;
     'members: loop {

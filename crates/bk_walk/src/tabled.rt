@@ -6,17 +6,17 @@ ghost use Rattle.bk_word.specs.Play.{IsLegal};
 ghost use Rattle.bk_word.specs.Word.{order_of};
 ghost use Rattle.bk_member_table.specs.Members.{IsBarrenBy};
 
-use bk_member_table::MemberTable;
+use bk_member_table::{MemberTable, span_of};
 use bk_skel::Skel;
-use bk_table::span_of;
 use bk_word::{Class, Move};
 use std::alloc::Global;
 
 // There is room for all members of order 16 whose words begin with one count.
 const MOST_MEMBERS: usize = 5_500;
 
-// A walk pushes so many moves before it makes a table: a walk of fewer is done sooner without one.
-const PATIENCE: u64 = 16_384;
+// A walk pushes so many moves before it makes a table: a walk of fewer is done sooner without one. As measured, one of order 9
+// pushes fewer, and a whole one of order 12 takes 4 ms so, and 22 where it waits for eight times as many.
+const PATIENCE: u64 = 2_048;
 
 /// The table of the members whose words begin with one count, and this count; none is made at first, and the count is 0. (Own.)
 #[derive(Drop)]

@@ -1,9 +1,15 @@
+-- words: their order, worked examples, how the code stores them
 pub mod WordOrder
 pub mod WordExamples
-pub mod WordItemExamples
 pub mod StoredBytes
 pub mod StoredOrder
 pub mod CountPlaces
+-- the play: its lists, and words that are played in two parts
+pub mod PlayLists
+pub mod PlayLaws
+pub mod FollowLaws
+-- words and items as texts: what is written is read, and what was read is written
+pub mod WordItemExamples
 pub mod WordsRead
 pub mod WordsSpelled
 pub mod Failing
@@ -11,6 +17,3 @@ pub mod WordPieces
 pub mod WordProgress
 pub mod ItemParts
 pub mod KeptTexts
-pub mod PlayLists
-pub mod PlayLaws
-pub mod FollowLaws

@@ -1,14 +1,19 @@
+-- the play of a word and its net, which is small and has no loose node
 pub mod NarrowWords
 pub mod WordNetExamples
-pub mod SidesExamples
 pub mod Numbering
 pub mod Wires
+pub mod PlacesInLists
+pub mod Shape
 pub mod NoLoose
+-- from a tiling of a word to a flow of its net, and that a word has one primitive tiling
+pub mod SidesExamples
 pub mod Sums
 pub mod AlongWord
 pub mod LaidFlow
 pub mod OneTiling
 pub mod PrimitiveTiling
+-- from a flow that places squares back to a tiling that has the word
 pub mod BottomChain
 pub mod FlowFacts
 pub mod FilledColumns
@@ -17,16 +22,16 @@ pub mod Built
 pub mod FlowWord
 pub mod FlowTilings
 pub mod PlacedWord
+-- the net of a tiling's word is its Smith diagram, renumbered
 pub mod ExactNodes
-pub mod PlacesInLists
 pub mod WordNodes
 pub mod Renumbering
-pub mod ShownOutline
-pub mod TilingOfTurns
-pub mod TurnsOfTiling
-pub mod NumberedValley
-pub mod ValleyCut
+-- squares laid move by move, with the outline that shows them
 pub mod MovedParts
-pub mod Shape
+pub mod ValleyCut
+pub mod ShownOutline
+pub mod NumberedValley
+pub mod TurnsOfTiling
+pub mod TilingOfTurns
 pub mod WordTilings
 pub mod LaidOnce

@@ -7,7 +7,7 @@ use Rattle.std.proofs.Common.{sym, true, zero, ℕ, ◌*◌, ◌++◌, ◌+◌, 
 use Rattle.std.proofs.Math.IntN.{negsuc-*ℤ-pos, pos-*ℤ-pos}
 use Rattle.std.proofs.lemmas.Bool.Decides.{nat_tests}
 use Rattle.std.proofs.lemmas.Int.{ints}
-use Rattle.std.proofs.lemmas.List.{length-append, length-map, length-replicate}
+use Rattle.std.proofs.lemmas.List.{length-append, length-map, length-replicate, map-append}
 use Rattle.bk_laws.proofs.Occurrences.{times, times_at, times_in, times_in-append}
 use Rattle.bk_laws.proofs.Products.{mul_below}
 use Rattle.bk_laws.proofs.Totals.{total}
@@ -74,10 +74,6 @@ signs_scaled k [] h = refl
 signs_scaled k (a ∷ []) h = refl
 signs_scaled k (a ∷ b ∷ ls) h = λ i. sign_scaled k a b h i ∷ signs_scaled k (b ∷ ls) h i
 
-map_append_ℕ : (f : ℕ → ℕ) (xs ys : List ℕ) → map f (xs ++ ys) ≡ map f xs ++ map f ys
-map_append_ℕ f [] ys = refl
-map_append_ℕ f (x ∷ xs) ys = ap (λ (zs : List ℕ). f x ∷ zs) (map_append_ℕ f xs ys)
-
 module _ (k l most : ℕ) (b c : ℕ → ℕ) (alike : (n : ℕ) → 1 ≤ n → n ≤ most → k * b n ≡ l * c n) where
   segment_alike : (numbers : List ℕ) → ((n : ℕ) → 0 < times n numbers → (1 ≤ n) × (n ≤ most)) → k * segment_bottom b numbers ≡ l * segment_bottom c numbers
   segment_alike [] each = omega arith
@@ -95,8 +91,8 @@ module _ (k l most : ℕ) (b c : ℕ → ℕ) (alike : (n : ℕ) → 1 ≤ n →
   pub bottoms_alike : (o : Outline) (m : Move) → ((n : ℕ) → 0 < times_in n o.segments → (1 ≤ n) × (n ≤ most))
       → length o.hung + m.count ≤ most → map (λ n. k * n) (bottoms_of_move b o m) ≡ map (λ n. l * n) (bottoms_of_move c o m)
   bottoms_alike o m each few =
-      map_append_ℕ (λ n. k * n) (left b ++ map b (new_squares o m)) (right b)
-      ∙ ap (λ (xs : List ℕ). xs ++ map (λ n. k * n) (right b)) (map_append_ℕ (λ n. k * n) (left b) (map b (new_squares o m)))
+      map-append (λ n. k * n) (left b ++ map b (new_squares o m)) (right b)
+      ∙ ap (λ (xs : List ℕ). xs ++ map (λ n. k * n) (right b)) (map-append (λ n. k * n) (left b) (map b (new_squares o m)))
       ∙ (λ i. (side_alike (has_left_wall o) (segment_bottom b (slice_index_or o.segments (valley_place o.signs - 1) []))
       (segment_bottom c (slice_index_or o.segments (valley_place o.signs - 1) []))
       (segment_alike (slice_index_or o.segments (valley_place o.signs - 1) []) (at (valley_place o.signs - 1))) i
@@ -104,8 +100,8 @@ module _ (k l most : ℕ) (b c : ℕ → ℕ) (alike : (n : ℕ) → 1 ≤ n →
       ++ side_alike (has_right_wall o) (segment_bottom b (slice_index_or o.segments (valley_place o.signs + 1) []))
       (segment_bottom c (slice_index_or o.segments (valley_place o.signs + 1) []))
       (segment_alike (slice_index_or o.segments (valley_place o.signs + 1) []) (at (valley_place o.signs + 1))) i)
-      ∙ sym (map_append_ℕ (λ n. l * n) (left c ++ map c (new_squares o m)) (right c)
-      ∙ ap (λ (xs : List ℕ). xs ++ map (λ n. l * n) (right c)) (map_append_ℕ (λ n. l * n) (left c) (map c (new_squares o m))))
+      ∙ sym (map-append (λ n. l * n) (left c ++ map c (new_squares o m)) (right c)
+      ∙ ap (λ (xs : List ℕ). xs ++ map (λ n. l * n) (right c)) (map-append (λ n. l * n) (left c) (map c (new_squares o m))))
     where
       left : (ℕ → ℕ) → List ℕ
       left f = cond (has_left_wall o) [] (segment_bottom f (slice_index_or o.segments (valley_place o.signs - 1) []) ∷ [])

@@ -7,5 +7,5 @@ pub mod WordFlow
 pub mod FlowTiling
 pub mod LaidTiling
 pub mod Realised
--- How the code above keeps it.
+-- How its code keeps it.
 pub mod LaidOutline

@@ -1,6 +1,6 @@
 use Rattle.std.proofs.Common.{arith, refl, subst, ◌≡◌}
 use Rattle.bk_tiling.specs.Tiling.{order}
-use Rattle.bk_simple.proofs.Parts.{NoneBefore, simple_from_none}
+use Rattle.bk_simple.proofs.PartTrials.{NoneBefore, simple_from_none}
 use Rattle.bk_simple.proofs.part.Goals as goal
 
 pub returns-clause-simple : goal.returns-clause-simple

@@ -1,4 +1,4 @@
-use Rattle.bk_simple.proofs.Parts.{NoneBefore}
+use Rattle.bk_simple.proofs.PartTrials.{NoneBefore}
 use Rattle.bk_simple.proofs.part.Given as goal
 
 abbrev pub invariant-loop-i : goal.invariant-loop-i

@@ -1,6 +1,6 @@
 use Rattle.std.proofs.Common.{false, true, arith, ◌≡◌}
 use Rattle.bk_tiling.specs.declared.Square.{Square}
-use Rattle.bk_simple.proofs.Parts.{none_between, none_cut, none_outside_first, none_outside_last, none_single, none_whole, part_at_from}
+use Rattle.bk_simple.proofs.PartTrials.{none_between, none_cut, none_outside_first, none_outside_last, none_single, none_whole, part_at_from}
 use Rattle.bk_simple.specs.Border.{rectangle_of}
 use Rattle.bk_simple.proofs.Reaching.{none_past}
 use Rattle.bk_simple.proofs.part_at.Goals as goal

@@ -1,6 +1,6 @@
 use Rattle.std.proofs.Common.{arith, subst, ◌≡◌}
 use Rattle.bk_tiling.specs.Tiling.{order}
-use Rattle.bk_simple.proofs.Parts.{NoneBelow, none_below_start, none_from}
+use Rattle.bk_simple.proofs.PartTrials.{NoneBelow, none_below_start, none_from}
 use Rattle.bk_simple.proofs.part_from.Goals as goal
 
 pub loop-j-init : goal.loop-j-init

@@ -1,4 +1,4 @@
-use Rattle.bk_simple.proofs.Parts.{NoneBelow}
+use Rattle.bk_simple.proofs.PartTrials.{NoneBelow}
 use Rattle.bk_simple.proofs.part_from.Given as goal
 
 abbrev pub invariant-loop-j : goal.invariant-loop-j

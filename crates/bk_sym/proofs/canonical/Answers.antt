@@ -20,10 +20,12 @@ pub loop-which-preserved : goal.loop-which-preserved
 loop-which-preserved c =
     elim c.if-ne.branch [
       | then-ne+then-lies w ↦
-          let now : c.if-ne.greatest ≡ w.later_of-greatest.result = w.greatest-is in
+          let now : c.if-ne.greatest ≡ w.later_image-greatest.result = w.greatest-is in
+          let turn : Turn = get_or others c.loop-which.which-index Same in
+          let later = w.later_image-greatest.ensures in
           rw now (so_far-more c.scale_down-small.result c.first_lying-first.result others c.loop-which.which-index c.loop-which.greatest
-          w.image.result w.later_of-greatest.result c.loop-which.invariant
-          w.image.ensures.value (w.if-lies.ensures.0 refl) w.later_of-greatest.ensures.one w.later_of-greatest.ensures.first w.later_of-greatest.ensures.second)
+          (image turn c.scale_down-small.result) w.later_image-greatest.result c.loop-which.invariant
+          refl (w.if-lies.ensures.0 refl) later.one later.first later.second)
       | else-ne w ↦ so_far-same c.scale_down-small.result c.first_lying-first.result others c.loop-which.which-index c.loop-which.greatest
           c.if-ne.greatest c.loop-which.invariant
           (elim w.else-ne.branch [

@@ -1,24 +1,34 @@
-use Rattle.std.proofs.Common.{ap, map, subst, sym, ◌/◌, ◌∙◌, ◌≡◌, ℕ}
+use Rattle.std.proofs.Common.{ap, subst, sym, ◌∙◌, ◌≡◌}
 use Rattle.bk_tiling.specs.Kept.{IsKept}
+use Rattle.bk_tiling.specs.Scale.{IsPrimitiveTiling, enlarged}
 use Rattle.bk_tiling.specs.Tiling.{Tiling}
-use Rattle.bk_tiling.specs.declared.Square.{Square}
-use Rattle.bk_sym.proofs.KeptImages.{all_taken, kept_scaled, made}
-use Rattle.bk_sym.proofs.ScaledDown.{side_divisor}
+use Rattle.bk_sym.proofs.CanonicalPrimitive.{scaled_primitive}
+use Rattle.bk_sym.proofs.KeptImages.{kept_scaled, scaled_made}
+use Rattle.bk_sym.proofs.ScaledDown.{side_divisor, whole_again}
 use Rattle.bk_sym.specs.Canonical.{scaled_down_tiling}
 use Rattle.bk_sym.proofs.scale_down.Goals as goal
-
-abbrev divided : ℕ → Square → Square
-divided g q = record { x = q.x / g; y = q.y / g; s = q.s / g }
 
 pub from_known-requires : goal.from_known-requires
 from_known-requires c =
     let t : Tiling = c.args.tiling.now in
-    let e : c.side_divisor-divisor.result ≡ side_divisor t = c.side_divisor-divisor.ensures.value in
-    let items : c.loop-q.squares.items ≡ map (divided c.side_divisor-divisor.result) t.squares =
-    all_taken (divided c.side_divisor-divisor.result) c.loop-q.q-index c.squares-q-items.result.now t.squares c.loop-q.squares.items
-    c.squares-q-items.ensures.value c.loop-q-test.false c.loop-q.invariant in
-    subst IsKept (sym (made (c.width.result / c.side_divisor-divisor.result) (c.height.result / c.side_divisor-divisor.result) c.loop-q.squares.items
-    (scaled_down_tiling t)
-    (ap (λ n. n / c.side_divisor-divisor.result) c.width.ensures.value ∙ ap (λ n. t.width / n) e)
-    (ap (λ n. n / c.side_divisor-divisor.result) c.height.ensures.value ∙ ap (λ n. t.height / n) e)
-    (items ∙ ap (λ n. map (divided n) t.squares) e))) (kept_scaled t c.squares-q-items.ensures.kept)
+    subst IsKept (sym (scaled_made t c.side_divisor-divisor.result c.width.result c.height.result c.loop-q.q-index c.squares-q-items.result.now
+    c.loop-q.squares.items c.side_divisor-divisor.ensures.value c.width.ensures.value c.height.ensures.value c.squares-q-items.ensures.value
+    c.loop-q-test.false c.loop-q.invariant)) (kept_scaled t c.squares-q-items.ensures.kept)
+
+pub returns-clause-exact : goal.returns-clause-exact
+returns-clause-exact c =
+    let t : Tiling = c.args.tiling.now in
+    let same : c.from_known.result ≡ scaled_down_tiling t =
+    c.from_known.ensures ∙ scaled_made t c.side_divisor-divisor.result c.width.result c.height.result c.loop-q.q-index c.squares-q-items.result.now
+    c.loop-q.squares.items c.side_divisor-divisor.ensures.value c.width.ensures.value c.height.ensures.value c.squares-q-items.ensures.value
+    c.loop-q-test.false c.loop-q.invariant in
+    whole_again t c.squares-q-items.ensures.kept.tiling ∙ ap (enlarged (side_divisor t)) (sym same)
+
+pub returns-clause-primitive : goal.returns-clause-primitive
+returns-clause-primitive c =
+    let t : Tiling = c.args.tiling.now in
+    let same : c.from_known.result ≡ scaled_down_tiling t =
+    c.from_known.ensures ∙ scaled_made t c.side_divisor-divisor.result c.width.result c.height.result c.loop-q.q-index c.squares-q-items.result.now
+    c.loop-q.squares.items c.side_divisor-divisor.ensures.value c.width.ensures.value c.height.ensures.value c.squares-q-items.ensures.value
+    c.loop-q-test.false c.loop-q.invariant in
+    subst IsPrimitiveTiling (sym same) (scaled_primitive t c.squares-q-items.ensures.kept.tiling)

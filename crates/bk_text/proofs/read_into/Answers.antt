@@ -1,4 +1,5 @@
 use Rattle.std.specs.Prelude.{List, false, length, take, true, ℕ, ◌+◌, ◌≡◌, ◌≤◌}
+use Rattle.std.proofs.lemmas.List.{length-drop}
 use Rattle.std.proofs.Common.{ap, arith, subst, sym, ◌∙◌}
 use Rattle.std.proofs.lemmas.List.{take_all}
 use Rattle.bk_text.specs.Gathered.{Gathered, gathered_after, line_gathered}
@@ -7,25 +8,53 @@ use Rattle.bk_text.specs.CodeLine.{IsLine}
 use Rattle.bk_text.specs.declared.reader.Place.{Place}
 use Rattle.bk_text.proofs.LineRange.{fault_is, range_is, read_is}
 use Rattle.bk_text.proofs.Progress.{Progress, group_fits, last_fits, line_found, many_found, no_ending, no_next, one_further, side_fits}
+use Rattle.bk_text.proofs.Strides.{from_is_drop, none_further, several_further}
 use Rattle.bk_text.proofs.read_into.Goals as goal
+
+pub bytes-preserved-then-taken-gt0 : goal.bytes-preserved-then-taken-gt0
+bytes-preserved-then-taken-gt0 c = record {
+  within = omega (
+    arith,
+    c.bytes.invariant.within,
+    c.take_sides-taken.ensures.within,
+    ap (λ z. length z) (from_is_drop c.bytes.at c.args.line.now),
+    length-drop c.bytes.at c.args.line.now,
+  );
+  read = several_further c.args.line.now c.bytes.at c.take_sides-taken.result c.bytes.place c.take_sides-taken.new.place c.bytes.gatherer
+      c.take_sides-taken.new.self c.bytes.invariant.read c.take_sides-taken.ensures.was c.take_sides-taken.ensures.leads;
+}
 
 pub returns-in_default-clause-fault : goal.returns-in_default-clause-fault
 returns-in_default-clause-fault c =
-    no_next c.args.line.now c.loop-at.at c.loop-at.place c.loop-at.gatherer (omega arith) c.loop-at.invariant
-    (ap (next_place c.loop-at.place) (sym c.kind_of-kind.ensures) ∙ sym c.next.ensures ∙ c.in_default.is)
+    no_next c.args.line.now c.bytes.at c.take_sides-taken.new.place c.take_sides-taken.new.self (omega arith)
+    (none_further c.args.line.now c.bytes.at c.take_sides-taken.result c.bytes.place c.take_sides-taken.new.place c.bytes.gatherer c.take_sides-taken.new.self
+    (omega arith) c.bytes.invariant.read
+    c.take_sides-taken.ensures.was c.take_sides-taken.ensures.leads)
+    (ap (next_place c.take_sides-taken.new.place) (sym c.kind_of-kind.ensures) ∙ sym c.next.ensures ∙ c.in_default.is)
 
 pub take-requires-clause-side : goal.take-requires-clause-side
-take-requires-clause-side c = side_fits (take c.loop-at.at c.args.line.now) c.loop-at.place c.loop-at.gatherer c.kind_of-kind.result c.loop-at.invariant
+take-requires-clause-side c = side_fits (take c.bytes.at c.args.line.now) c.take_sides-taken.new.place c.take_sides-taken.new.self c.kind_of-kind.result
+    (none_further c.args.line.now c.bytes.at c.take_sides-taken.result c.bytes.place c.take_sides-taken.new.place c.bytes.gatherer c.take_sides-taken.new.self
+    (omega arith) c.bytes.invariant.read
+    c.take_sides-taken.ensures.was c.take_sides-taken.ensures.leads)
 
 pub take-requires-clause-group : goal.take-requires-clause-group
-take-requires-clause-group c = group_fits (take c.loop-at.at c.args.line.now) c.loop-at.place c.loop-at.gatherer c.kind_of-kind.result c.loop-at.invariant
+take-requires-clause-group c = group_fits (take c.bytes.at c.args.line.now) c.take_sides-taken.new.place c.take_sides-taken.new.self c.kind_of-kind.result
+    (none_further c.args.line.now c.bytes.at c.take_sides-taken.result c.bytes.place c.take_sides-taken.new.place c.bytes.gatherer c.take_sides-taken.new.self
+    (omega arith) c.bytes.invariant.read
+    c.take_sides-taken.ensures.was c.take_sides-taken.ensures.leads)
 
-pub loop-at-preserved : goal.loop-at-preserved
-loop-at-preserved c =
-    subst (Progress (take (c.loop-at.at + 1) c.args.line.now) c.in-Some.next)
-    (ap (λ k. gathered_after c.loop-at.place k c.loop-at.gatherer) (sym c.kind_of-kind.ensures) ∙ sym c.take.ensures.after)
-    (one_further c.args.line.now c.loop-at.at c.loop-at.place c.in-Some.next c.loop-at.gatherer (omega arith) c.loop-at.invariant c.take.ensures.was
-    (ap (next_place c.loop-at.place) (sym c.kind_of-kind.ensures) ∙ sym c.next.ensures ∙ c.in-Some.is))
+pub bytes-preserved : goal.bytes-preserved
+bytes-preserved c = record {
+  within = omega arith;
+  read = subst (Progress (take (c.bytes.at + 1) c.args.line.now) c.in-Some.next)
+      (ap (λ k. gathered_after c.take_sides-taken.new.place k c.take_sides-taken.new.self) (sym c.kind_of-kind.ensures) ∙ sym c.take.ensures.after)
+      (one_further c.args.line.now c.bytes.at c.take_sides-taken.new.place c.in-Some.next c.take_sides-taken.new.self (omega arith)
+      (none_further c.args.line.now c.bytes.at c.take_sides-taken.result c.bytes.place c.take_sides-taken.new.place c.bytes.gatherer c.take_sides-taken.new.self
+      (omega arith) c.bytes.invariant.read
+      c.take_sides-taken.ensures.was c.take_sides-taken.ensures.leads)
+      c.take.ensures.was (ap (next_place c.take_sides-taken.new.place) (sym c.kind_of-kind.ensures) ∙ sym c.next.ensures ∙ c.in-Some.is));
+}
 
 -- the whole line was read
 whole : (bs : List ℕ) (i : ℕ) (p : Place) (g : Gathered) → length bs ≤ i → Progress (take i bs) p g → Progress bs p g
@@ -33,21 +62,21 @@ whole bs i p g all progress = subst (λ (z : List ℕ). Progress z p g) (take_al
 
 pub returns-in-None-clause-fault : goal.returns-in-None-clause-fault
 returns-in-None-clause-fault c =
-    no_ending c.args.line.now c.loop-at.place c.loop-at.gatherer
-    (whole c.args.line.now c.loop-at.at c.loop-at.place c.loop-at.gatherer (omega arith) c.loop-at.invariant)
+    no_ending c.args.line.now c.bytes.place c.bytes.gatherer
+    (whole c.args.line.now c.bytes.at c.bytes.place c.bytes.gatherer (omega arith) c.bytes.invariant.read)
     (sym c.ending.ensures ∙ c.in-None.is)
 
 pub take_last-requires : goal.take_last-requires
-take_last-requires c = last_fits c.args.line.now c.loop-at.place c.loop-at.gatherer
-    (whole c.args.line.now c.loop-at.at c.loop-at.place c.loop-at.gatherer (omega arith) c.loop-at.invariant)
+take_last-requires c = last_fits c.args.line.now c.bytes.place c.bytes.gatherer
+    (whole c.args.line.now c.bytes.at c.bytes.place c.bytes.gatherer (omega arith) c.bytes.invariant.read)
 
-whole_line : (c : goal.After-ended) → Progress c.args.line.now c.loop-at.place c.loop-at.gatherer
-whole_line c = whole c.args.line.now c.loop-at.at c.loop-at.place c.loop-at.gatherer (omega arith) c.loop-at.invariant
+whole_line : (c : goal.After-ended) → Progress c.args.line.now c.bytes.place c.bytes.gatherer
+whole_line c = whole c.args.line.now c.bytes.at c.bytes.place c.bytes.gatherer (omega arith) c.bytes.invariant.read
 
 pub returns-in-Some-ending-clause-fault : goal.returns-in-Some-ending-clause-fault
 returns-in-Some-ending-clause-fault c =
     fault_is c.ended.result c.take_last.new.self.many c.args.line.now c.ended.ensures.many c.ended.ensures.full
-    (λ many. many_found c.args.line.now c.loop-at.place c.loop-at.gatherer c.in-Some-ending.ending (whole_line c) c.take_last.ensures.was
+    (λ many. many_found c.args.line.now c.bytes.place c.bytes.gatherer c.in-Some-ending.ending (whole_line c) c.take_last.ensures.was
     (sym c.ending.ensures ∙ c.in-Some-ending.is)
     (subst (λ (g : Gathered). g.many ≡ true) c.take_last.ensures.after many))
 
@@ -55,7 +84,7 @@ pub returns-in-Some-ending-clause-read : goal.returns-in-Some-ending-clause-read
 returns-in-Some-ending-clause-read c =
     read_is c.ended.result c.in-Some-ending.ending c.take_last.new.self c.args.line.now c.ended.ensures.few
     (λ few. subst (λ (g : Gathered). IsLine (line_gathered c.in-Some-ending.ending g) c.args.line.now) (sym c.take_last.ensures.after)
-    (line_found c.args.line.now c.loop-at.place c.loop-at.gatherer c.in-Some-ending.ending (whole_line c) c.take_last.ensures.was
+    (line_found c.args.line.now c.bytes.place c.bytes.gatherer c.in-Some-ending.ending (whole_line c) c.take_last.ensures.was
     (sym c.ending.ensures ∙ c.in-Some-ending.is)
     (subst (λ (g : Gathered). g.many ≡ false) c.take_last.ensures.after few)))
 

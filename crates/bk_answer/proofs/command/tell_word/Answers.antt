@@ -1,4 +1,4 @@
-use Rattle.std.proofs.Common.{[], refl, ◌∙◌, ◌∷◌}
+use Rattle.std.proofs.Common.{refl, ◌∙◌}
 use Rattle.bk_lay.proofs.WordPlay.{tiling_word_is_complete}
 use Rattle.bk_report.specs.Listings.{word_line}
 use Rattle.bk_answer.specs.Telling.{Tells, WantsMemory}

@@ -1,12 +1,8 @@
-use Rattle.std.proofs.lemmas.Result.{IfOk-at_ok}
 use Rattle.std.proofs.Common.{arith}
-use Rattle.bk_text.specs.CodeLine.{IsLine}
 use Rattle.bk_text.specs.Gathered.{line_gathered}
-use Rattle.bk_text.specs.ReadLine.{IsFaultOf}
 use Rattle.bk_answer.specs.Item.{HasItem}
 use Rattle.bk_answer.specs.Refusing.{too_long}
 use Rattle.bk_answer.proofs.ItemSteps.{laid_of_item, not_read, refused_of_item}
-use Rattle.bk_answer.proofs.ReplySteps.{from_err}
 use Rattle.bk_answer.proofs.items.lay_at.Goals as goal
 
 pub returns-then-line-gt-LONGEST_LINE-clause-refused : goal.returns-then-line-gt-LONGEST_LINE-clause-refused

@@ -2,7 +2,6 @@ use Rattle.std.proofs.Common.{List, ap, length, subst, ℕ, ◌≡◌}
 use Rattle.std.specs.Prelude.{IfSome}
 use Rattle.std.proofs.lemmas.Bool.{both_ways}
 use Rattle.bk_text.specs.CodeLine.{Item}
-use Rattle.bk_answer.specs.Item.{AllowsOrder, order_of}
 use Rattle.bk_answer.proofs.ItemSteps.{failed_laying, laid_of_size, refused_of_size, wrong_order}
 use Rattle.bk_answer.proofs.items.lay_groups.Goals as goal
 

@@ -1,4 +1,4 @@
-use Rattle.std.proofs.Common.{None, Option, false, length, refl, subst, sym, ℕ, ◌<◌, ◌≡◌, ◌≤◌}
+use Rattle.std.proofs.Common.{None, Option, false, refl, subst, sym, ℕ, ◌<◌, ◌≡◌, ◌≤◌}
 use Rattle.std.specs.Prelude.{IfNone, slice_range}
 use Rattle.bk_grammar.specs.Grammar.{LineEnd}
 use Rattle.bk_lines.proofs.Pieces.{writes_none}
@@ -7,7 +7,7 @@ use Rattle.bk_word.specs.Word.{Word, order_of}
 use Rattle.bk_word.specs.WordText.{IsTextOf}
 use Rattle.bk_word.specs.declared.reading.WordFault.{WordFault}
 use Rattle.bk_report.specs.declared.refusal.Refused.TheVariants.{Many}
-use Rattle.bk_answer.specs.WordAnswer.{AnswersWord, AnswersWordLine, HasText, HasWord, MayWantForWord, large_word, no_word, no_word_item, of_word}
+use Rattle.bk_answer.specs.WordAnswer.{AnswersWord, AnswersWordLine, HasWord, MayWantForWord, large_word, no_word, no_word_item, of_word}
 use Rattle.bk_answer.proofs.ReplySteps.{refusal_replies, replies_more, text_replies}
 use Rattle.bk_answer.proofs.solve.answer_word_line.Goals as goal
 

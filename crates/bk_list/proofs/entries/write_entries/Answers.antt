@@ -1,6 +1,6 @@
 use Rattle.std.proofs.Common.{refl, ◌-◌, ◌∙◌}
-use Rattle.bk_list.proofs.ListingSteps.{begun_as, listed_all, listed_begun, listed_more, listed_none, next_as, on_err}
-use Rattle.bk_list.proofs.StepCounts.{next_steps_as, no_steps, steps_all, steps_begun, steps_more, tree_as}
+use Rattle.bk_list.proofs.ListingSteps.{begun_as, listed_begun, listed_more, listed_none, next_as, on_err}
+use Rattle.bk_list.proofs.StepCounts.{next_steps_as, no_steps, steps_all, steps_begun, steps_limit, steps_more, tree_as}
 use Rattle.bk_list.specs.declared.entries.Next.TheVariants.{Member, Nothing}
 use Rattle.bk_list.proofs.entries.write_entries.Goals as goal
 
@@ -18,9 +18,9 @@ returns-in_err-write_next-clause-begun g c =
     on_err c.from_residual.result
     (listed_begun c.args.walk.now.order c.args.walk.now.class c.args.walk.now.cursor c.members.walk.cursor c.args.limit c.members.listed
     (g.O.Sink.written c.args.out.now) (g.O.Sink.written c.members.out)
-    c.members.invariant.listed (c.is_reached.ensures.no c.if-is_reached.false) (g.O.Sink.written c.write_next.new.out)
-    (begun_as c.members.walk.order c.args.walk.now.order c.members.walk.class c.args.walk.now.class c.members.walk.cursor (g.O.Sink.written c.members.out)
-    (g.O.Sink.written c.write_next.new.out)
+    c.members.invariant.listed (c.is_reached.ensures.no c.if-is_reached.false) c.write_next.new.walk.cursor (g.O.Sink.written c.write_next.new.out)
+    (begun_as c.members.walk.order c.args.walk.now.order c.members.walk.class c.args.walk.now.class c.members.walk.cursor c.write_next.new.walk.cursor
+    (g.O.Sink.written c.members.out) (g.O.Sink.written c.write_next.new.out)
     c.members.invariant.order c.members.invariant.class c.in_err-write_next.ensures.begun))
 
 pub members-preserved : goal.members-preserved
@@ -48,15 +48,6 @@ members-preserved g c = record {
 
 pub returns-in-Nothing-clause-ended : goal.returns-in-Nothing-clause-ended
 returns-in-Nothing-clause-ended g c =
-    listed_all c.args.walk.now.order c.args.walk.now.class c.args.walk.now.cursor c.members.walk.cursor c.args.limit c.members.listed
-    (g.O.Sink.written c.args.out.now) (g.O.Sink.written c.members.out)
-    c.members.invariant.listed (c.is_reached.ensures.no c.if-is_reached.false) c.write_next.new.walk.cursor (g.O.Sink.written c.write_next.new.out)
-    (next_as c.members.walk.order c.args.walk.now.order c.members.walk.class c.args.walk.now.class c.members.walk.cursor c.write_next.new.walk.cursor
-    (g.O.Sink.written c.members.out) (g.O.Sink.written c.write_next.new.out)
-    c.in_ok-write_next.field-0 Nothing c.members.invariant.order c.members.invariant.class c.in-Nothing.is c.in_ok-write_next.ensures.next)
-
-pub returns-in-Nothing-clause-steps : goal.returns-in-Nothing-clause-steps
-returns-in-Nothing-clause-steps g c =
     steps_all c.args.walk.now.order c.args.walk.now.class c.args.walk.now.cursor c.members.walk.cursor c.args.limit c.members.listed
     (g.O.Sink.written c.args.out.now) (g.O.Sink.written c.members.out)
     c.members.invariant.listed c.args.steps.now c.members.steps c.write_next.new.steps c.members.invariant.steps
@@ -74,9 +65,15 @@ returns-in_err-write_next-clause-stopped g c =
     (steps_begun c.args.walk.now.order c.args.walk.now.class c.args.walk.now.cursor c.members.walk.cursor c.args.limit c.members.listed
     (g.O.Sink.written c.args.out.now) (g.O.Sink.written c.members.out)
     c.members.invariant.listed c.args.steps.now c.members.steps c.write_next.new.steps c.members.invariant.steps
-    (c.is_reached.ensures.no c.if-is_reached.false) (g.O.Sink.written c.write_next.new.out)
-    (begun_as c.members.walk.order c.args.walk.now.order c.members.walk.class c.args.walk.now.class c.members.walk.cursor (g.O.Sink.written c.members.out)
-    (g.O.Sink.written c.write_next.new.out)
+    (c.is_reached.ensures.no c.if-is_reached.false) c.write_next.new.walk.cursor (g.O.Sink.written c.write_next.new.out)
+    (begun_as c.members.walk.order c.args.walk.now.order c.members.walk.class c.args.walk.now.class c.members.walk.cursor c.write_next.new.walk.cursor
+    (g.O.Sink.written c.members.out) (g.O.Sink.written c.write_next.new.out)
     c.members.invariant.order c.members.invariant.class c.in_err-write_next.ensures.begun)
-    (tree_as c.members.walk.order c.args.walk.now.order c.members.walk.cursor (c.write_next.new.steps - c.members.steps) c.members.invariant.order
-    c.in_err-write_next.ensures.stopped))
+    (tree_as c.members.walk.order c.args.walk.now.order c.members.walk.cursor c.write_next.new.walk.cursor (c.write_next.new.steps - c.members.steps)
+    c.members.invariant.order c.in_err-write_next.ensures.stopped))
+
+pub returns-then-is_reached-clause-ended : goal.returns-then-is_reached-clause-ended
+returns-then-is_reached-clause-ended g c =
+    steps_limit c.args.walk.now.order c.args.walk.now.class c.args.walk.now.cursor c.members.walk.cursor c.args.limit c.members.listed
+    (g.O.Sink.written c.args.out.now) (g.O.Sink.written c.members.out) c.members.invariant.listed c.args.steps.now c.members.steps c.members.steps
+    c.members.invariant.steps (c.is_reached.ensures.yes c.if-is_reached.true)

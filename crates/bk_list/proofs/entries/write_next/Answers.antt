@@ -1,8 +1,7 @@
-use Rattle.std.proofs.Common.{List, arith, take, subst, ℕ, ◌-◌, ◌∙◌}
+use Rattle.std.proofs.Common.{List, take, subst, ℕ, ◌∙◌}
 use Rattle.std.specs.Io.KnownBytes.{Appends}
 use Rattle.std.proofs.lemmas.Result.{IfOk-at_ok, MatchResult-at_ok}
 use Rattle.bk_list.proofs.ListingSteps.{on_err, taken, word_some}
-use Rattle.bk_list.proofs.StepCounts.{unbounded}
 use Rattle.bk_list.proofs.entries.write_next.Goals as goal
 
 pub write_entry-requires : goal.write_entry-requires
@@ -17,6 +16,7 @@ returns-in_err-write_all-in-Some-Ok-clause-begun g c =
     on_err c.from_residual.result (
       record { tiling = c.in-Some-Ok.entry.tiling; word = c.in-Some-Ok.entry.word },
       taken c.args.walk.now.order c.args.walk.now.class c.args.walk.now.cursor c.in-Some-Ok.entry.tiling c.in-Some-Ok.entry.word next.0,
+      MatchResult-at_ok _ _ c.in-Some-Ok.entry c.in-Some-Ok.field-0-is c.in-Some-Ok.ensures.cursor,
       (
         err.0,
         subst (λ (l : List ℕ). Appends (g.O.Sink.written c.args.out.now) (g.O.Sink.written c.write_all.new.self) (take err.0 l)) (c.as_slice.ensures.value
@@ -25,10 +25,7 @@ returns-in_err-write_all-in-Some-Ok-clause-begun g c =
     )
 
 pub returns-in_err-write_all-in-Some-Ok-clause-stopped : goal.returns-in_err-write_all-in-Some-Ok-clause-stopped
-returns-in_err-write_all-in-Some-Ok-clause-stopped g c =
-    let steps = c.advance.new.steps - c.args.steps.now - 16 in
-    on_err c.from_residual.result
-    (unbounded c.args.walk.now.order c.args.walk.now.cursor c.advance.new.self.cursor steps steps (omega arith) c.in-Some-Ok.ensures.steps)
+returns-in_err-write_all-in-Some-Ok-clause-stopped g c = on_err c.from_residual.result c.in-Some-Ok.ensures.steps
 
 pub returns-in_ok-write_all-in-Some-Ok-clause-next : goal.returns-in_ok-write_all-in-Some-Ok-clause-next
 returns-in_ok-write_all-in-Some-Ok-clause-next g c =

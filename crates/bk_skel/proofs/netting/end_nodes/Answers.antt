@@ -3,7 +3,7 @@ use Rattle.std.proofs.lemmas.List.{length-map}
 use Rattle.bk_skel.proofs.Wirings.{closed_next, mark_next, none_marked}
 use Rattle.bk_skel.specs.Wiring.{closed_of}
 use Rattle.bk_word_net.specs.WordNet.{end_of}
-use Rattle.bk_skel.specs.declared.turns.Turn.{Turn}
+use Rattle.bk_skel.specs.declared.turns.MoveRecord.{MoveRecord}
 use Rattle.bk_skel.proofs.netting.end_nodes.Goals as goal
 
 pub nodes-init : goal.nodes-init
@@ -11,7 +11,7 @@ nodes-init c = record {
   within = omega arith;
   long = ap length c.all_at-ended.ensures;
   at = c.requires.many ∙ ap sum (sym (take_all (length c.args.turns.now) (closed_of c.args.turns.now)
-      (omega (arith, length-map c.args.turns.now (λ (t : Turn). t.closed)))));
+      (omega (arith, length-map c.args.turns.now (λ (t : MoveRecord). t.closed)))));
   marked = λ lists flat long k h. none_marked c.args.turns.now lists c.all_at-ended.result k c.all_at-ended.ensures long h;
 }
 

@@ -6,8 +6,8 @@ use Rattle.bk_table.proofs.cuts.bars.Goals as goal
 
 pub returns-then-place-eq0 : goal.returns-then-place-eq0
 returns-then-place-eq0 c = record {
-  barren = λ yes n other more count signs. above_is_barred n c.args.skel.now c.args.m.now.signs c.args.sign other more
-      (sym c.walls-left_wall.ensures.left ∙ c.if-not-left_wall.true)
+  barren = λ yes n front other more wall count signs. above_is_barred n front c.args.m.now.signs c.args.sign other more
+      (sym wall ∙ c.if-not-left_wall.true)
       (omega (arith, c.if-place-eq0.true, c.len-place.ensures.value, ap (λ (m : Move). length m.signs) c.m.view_is)) (c.is_above.ensures yes) signs;
 }
 
@@ -16,12 +16,12 @@ long c = c.len-place.ensures.value ∙ ap (λ (m : Move). length m.signs) c.m.vi
 
 pub returns-then-is_own : goal.returns-then-is_own
 returns-then-is_own c = record {
-  barren = λ yes n other more count signs. even_is_barred n c.args.skel.now c.args.m.now.signs c.args.sign c.args.m.now.count other more
-      (omega (arith, long c, ap open_side c.walls-left_wall.ensures.left, (c.is_own.ensures c.if-is_own.true).0))
+  barren = λ yes n front other more wall count signs. even_is_barred n front c.args.m.now.signs c.args.sign c.args.m.now.count other more
+      (omega (arith, long c, ap open_side wall, (c.is_own.ensures c.if-is_own.true).0))
       (omega (
         arith,
         long c,
-        ap open_side c.walls-left_wall.ensures.left,
+        ap open_side wall,
         ap (λ (m : Move). m.count) c.m.view_is,
         (c.is_own.ensures c.if-is_own.true).1,
       )) (c.is_even.ensures yes) count signs;
@@ -29,6 +29,6 @@ returns-then-is_own c = record {
 
 pub returns-then-begins_turned : goal.returns-then-begins_turned
 returns-then-begins_turned c = record {
-  barren = λ _ n other more count signs. turned_is_barred n c.args.skel.now c.args.m.now c.args.sign other more
+  barren = λ _ n front other more wall count signs. turned_is_barred n front c.args.m.now c.args.sign other more
       (c.begins_turned.ensures c.if-begins_turned.true) count signs;
 }

@@ -1,10 +1,11 @@
-use Rattle.std.proofs.Common.{[], ap, append_assoc, arith, inl, inr, refl, subst, sym, true, ◌++◌, ◌∙◌, ◌∷◌, ◌≡◌}
+use Rattle.std.proofs.Common.{[], ap, append_assoc, arith, inl, inr, length, refl, subst, sym, ◌++◌, ◌∙◌, ◌∷◌, ◌≡◌}
 use Rattle.bk_word.specs.Outline.{IsLegalMove}
 use Rattle.bk_word.specs.Play.{IsComplete, outline_of}
 use Rattle.bk_word.specs.Word.{Move, Word, order_of}
 use Rattle.bk_word.specs.declared.Sign.{Sign}
 use Rattle.bk_word.specs.declared.Sign.TheVariants.{Above, Even, Under}
 use Rattle.bk_net_word.specs.NetWord.{IsNetBarren}
+use Rattle.bk_table.proofs.AskedSigns.{asked_is_barred}
 use Rattle.bk_table.proofs.NextMoves.{HasNextSign, below_or_same, by_count, by_pushed, by_sign, by_whole, is_whole, next_fertile, next_fits}
 use Rattle.bk_table.proofs.NextMoves.{next_move, next_sign}
 use Rattle.bk_table.specs.Sought.{GoesOn}
@@ -12,15 +13,13 @@ use Rattle.bk_table.proofs.searching.+search.Goals as goal
 use Rattle.bk_table.proofs.searching.+search.Goals.{
   with_move-else-not-is_barren,
   with_move-then-not-is_barren,
-  with_sign-else-not-owes,
-  with_sign-then-not-owes,
 }
 
 pub with_counts-counts-init : goal.with_counts-counts-init
 with_counts-counts-init g t c = record {
   board = refl;
   all = λ w sought h few. absurd (next_fertile c.args.order c.args.board.now w h.move h.rest sought h.is
-      (subst (λ (v : Word). IsNetBarren c.args.order (v ++ h.move ∷ [])) c.skel-2.ensures.value
+      (subst (λ (v : Word). IsNetBarren c.args.order (v ++ h.move ∷ [])) c.skel-3.ensures.value
       (c.least_count-count.ensures.barren c.args.order h.move few h.legal.some)));
   kept = λ w met. met;
 }
@@ -72,32 +71,52 @@ go_on-returns-then-order-from-clause-all g t c w sought on =
 pub with_sign-returns-then-bars-clause-all : goal.with_sign-returns-then-bars-clause-all
 with_sign-returns-then-bars-clause-all g t c w sought on =
     absurd (next_fertile c.args.order c.args.board.now w on.move on.rest sought on.is
-    (subst (λ (v : Word). IsNetBarren c.args.order (v ++ on.move ∷ [])) c.skel.ensures.value
-    (c.bars.ensures.barren c.if-bars.true c.args.order on.move on.more on.count_is
-    (on.signs_are ∙ append_assoc c.args.m.now.signs (c.args.sign ∷ []) on.more))))
+    (c.bars.ensures.barren c.if-bars.true c.args.order c.args.board.now on.move on.more c.requires.next.left_is on.count_is
+    (on.signs_are ∙ append_assoc c.args.m.now.signs (c.args.sign ∷ []) on.more)))
+
+pub with_sign-returns-then-is_over-clause-all : goal.with_sign-returns-then-is_over-clause-all
+with_sign-returns-then-is_over-clause-all g t c w sought on =
+    let more = c.asked_with-more.result in
+    absurd (next_fertile c.args.order c.args.board.now w on.move on.rest sought on.is
+    (asked_is_barred c.args.order c.args.m.now.count c.args.board.now (c.args.m.now.signs ++ c.args.sign ∷ []) on.move on.more c.args.next.wanted
+    c.args.next.room more.tally.bound more.tally.aboves more.lone.found c.args.next.left_wall more.lone.low c.requires.least c.requires.next
+    (c.asked_with-more.ensures.asked c.args.board.now c.args.m.now.signs c.requires.asked) (c.is_over.ensures.over c.if-is_over.true) on.count_is
+    on.signs_are))
 
 pub with_sign-returns-clause-all : goal.with_sign-returns-clause-all
 with_sign-returns-clause-all g t c w sought on =
     let next = by_pushed c.args.board.now w c.args.m.now c.args.sign c.m.inside.count c.m.inside.signs.items c.push.new.self.items
     (ap (λ (m : Move). m.count) c.m.view_is) (ap (λ (m : Move). m.signs) c.m.view_is) c.push.ensures.items on in
-    elim c.if-not-owes.branch [
-      | with_sign-then-not-owes b ↦ subst (λ s. g.S.Leaves.has_met s w) (sym b.leaves-is) (b.with_signs.ensures.all w sought next)
-      | with_sign-else-not-owes b ↦ absurd (next_fertile c.args.order c.args.board.now w on.move on.rest sought on.is
-          (subst (λ (v : Word). IsNetBarren c.args.order (v ++ on.move ∷ [])) c.skel-2.ensures.value
-          (c.owes.ensures.barren b.if-not-owes.false on.move on.more next.count_is next.signs_are)))
-    ]
+    c.with_signs.ensures.all w sought next
 
-pub with_signs-returns-then-legal-clause-all : goal.with_signs-returns-then-legal-clause-all
-with_signs-returns-then-legal-clause-all g t c w sought on =
+pub with_signs-returns-then-len-from-clause-all : goal.with_signs-returns-then-len-from-clause-all
+with_signs-returns-then-len-from-clause-all g t c w sought on =
     c.with_move.ensures.all w sought (by_whole c.args.order c.args.board.now w c.args.m.now sought
-    (subst (λ (v : Word). IsLegalMove (outline_of v) c.args.m.now) c.skel.ensures.value (c.legal.ensures.0 c.if-legal.true)) on)
+    (record {
+      some = c.requires.some;
+      signs = omega (
+        arith,
+        c.requires.next.wanted_is,
+        c.if-len-from.true,
+        c.len.ensures.value,
+        c.from.ensures,
+        ap (λ (m : Move). length m.signs) c.m.view_is,
+      );
+    }) on)
 
 pub with_signs-returns-clause-all : goal.with_signs-returns-clause-all
 with_signs-returns-clause-all g t c w sought on = cases (next).sign refl
   where
     not : IsLegalMove (outline_of c.args.board.now) c.args.m.now → ⊥
-    not legal = let yes : c.legal.result ≡ true = c.legal.ensures.1 (subst (λ (v : Word). IsLegalMove (outline_of v) c.args.m.now)
-        (sym c.skel.ensures.value) legal) in let no = c.if-legal.false in cc
+    not legal = omega (
+      arith,
+      legal.signs,
+      c.requires.next.wanted_is,
+      c.if-len-from.false,
+      c.len.ensures.value,
+      c.from.ensures,
+      ap (λ (m : Move). length m.signs) c.m.view_is,
+    )
 
     next : HasNextSign c.args.board.now c.args.m.now.count c.args.m.now.signs w
     next = next_sign c.args.order c.args.board.now w c.args.m.now sought c.requires.some not on

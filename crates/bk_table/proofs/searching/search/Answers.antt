@@ -1,5 +1,8 @@
-use Rattle.std.proofs.Common.{[], ap, arith, slice_get, ◌≡◌}
-use Rattle.bk_word.specs.Word.{Word}
+use Rattle.std.proofs.Common.{[], ap, arith, count_by, drop, slice_get, ◌+◌, ◌∙◌, ◌≡◌}
+use Rattle.bk_word.specs.Outline.{has_left_wall, has_right_wall, valley_place}
+use Rattle.bk_word.specs.Play.{outline_of}
+use Rattle.bk_word.specs.Word.{Word, order_of}
+use Rattle.bk_bounds.specs.ClosingBound.{is_under}
 use Rattle.bk_table.proofs.NextMoves.{by_count, first_move, next_fits}
 use Rattle.bk_table.proofs.searching.search.Goals as goal
 use Rattle.bk_table.proofs.searching.search.Goals.{then-count-eq0-via-else-count-eq0+then-count-order, then-count-eq0-via-then-count-eq0}
@@ -18,3 +21,13 @@ returns-clause-all g c w sought first =
     let h = first_move c.args.order w sought (omega (arith, c.requires.least)) in
     let same : h.move.count ≡ c.args.count = first h.move (ap (λ (v : Word). slice_get v 0) h.is) in
     c.with_signs.ensures.all w sought (by_count [] c.new-board.result w h c.args.count c.new.result.items c.new-board.ensures same c.new.ensures)
+
+pub with_signs-requires-clause-next : goal.with_signs-requires-clause-next
+with_signs-requires-clause-next g c =
+    let same = c.skel.ensures.value in
+    c.next_of-next.ensures.next c.new-board.result c.args.order
+    (c.stand_beside-around.ensures.left ∙ ap (λ (w : Word). has_left_wall (outline_of w)) same)
+    (c.stand_beside-around.ensures.right ∙ ap (λ (w : Word). has_right_wall (outline_of w)) same)
+    (c.stand_beside-around.ensures.unders
+    ∙ ap (λ (w : Word). count_by is_under (drop (valley_place (outline_of w).signs + 1) (outline_of w).signs)) same)
+    (omega (arith, c.from.ensures, ap order_of c.new-board.ensures))

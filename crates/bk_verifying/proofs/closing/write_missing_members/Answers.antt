@@ -1,5 +1,5 @@
 use Rattle.std.proofs.Common.{refl, ◌∙◌}
-use Rattle.std.proofs.lemmas.Result.{IfOk-at_ok, MatchResult-at_ok}
+use Rattle.std.proofs.lemmas.Result.{IfOk-at_ok}
 use Rattle.bk_verify.proofs.Storing.{on_err}
 use Rattle.bk_verifying.proofs.BehindLines.{IsListingOn, listing_begun, listing_end, listing_more, listing_none, word_some}
 use Rattle.bk_verifying.specs.Listing.{IsListingBegun}
@@ -8,7 +8,7 @@ use Rattle.bk_verifying.proofs.closing.write_missing_members.Goals as goal
 pub members-init : goal.members-init
 members-init g c =
     let on = listing_none c.args.rest.now (g.O.Sink.written c.args.out.now) c.requires.start in
-    record { listed = on.listed; order = refl; pairs = refl; stopped = refl; faults = refl }
+    record { listed = on.listed; order = refl; pairs = refl; faults = refl }
 
 pub write_missing-requires : goal.write_missing-requires
 write_missing-requires g c =
@@ -18,7 +18,7 @@ write_missing-requires g c =
 pub returns-in-None-clause-listed : goal.returns-in-None-clause-listed
 returns-in-None-clause-listed g c =
     let on : IsListingOn c.args.rest.now c.members.rest c.members.missing (g.O.Sink.written c.args.out.now) (g.O.Sink.written c.members.out) =
-    record { listed = c.members.invariant.listed; order = c.members.invariant.order; pairs = c.members.invariant.pairs; stopped = c.members.invariant.stopped }
+    record { listed = c.members.invariant.listed; order = c.members.invariant.order; pairs = c.members.invariant.pairs }
     in
     listing_end c.args.rest.now c.members.rest c.members.missing (g.O.Sink.written c.args.out.now) (g.O.Sink.written c.members.out) on
     c.in-None.ensures.none c.advance.new.self.walk.cursor c.in-None.ensures.cursor
@@ -27,7 +27,7 @@ pub returns-in_err-write_all-in-Some-Ok-clause-begun : goal.returns-in_err-write
 returns-in_err-write_all-in-Some-Ok-clause-begun g c =
     let next = IfOk-at_ok _ c.in-Some-Ok.field-0-is c.in-Some-Ok.ensures.entry in
     let on : IsListingOn c.args.rest.now c.members.rest c.members.missing (g.O.Sink.written c.args.out.now) (g.O.Sink.written c.members.out) =
-    record { listed = c.members.invariant.listed; order = c.members.invariant.order; pairs = c.members.invariant.pairs; stopped = c.members.invariant.stopped }
+    record { listed = c.members.invariant.listed; order = c.members.invariant.order; pairs = c.members.invariant.pairs }
     in
     on_err (IsListingBegun c.args.rest.now.walk.order c.args.rest.now.pairs (g.O.Sink.written c.args.out.now) (g.O.Sink.written c.write_all.new.self))
     c.from_residual.result
@@ -40,20 +40,18 @@ pub members-preserved-in_ok-write_all-in-Some-Ok : goal.members-preserved-in_ok-
 members-preserved-in_ok-write_all-in-Some-Ok g c =
     let next = IfOk-at_ok _ c.in-Some-Ok.field-0-is c.in-Some-Ok.ensures.entry in
     let on : IsListingOn c.args.rest.now c.members.rest c.members.missing (g.O.Sink.written c.args.out.now) (g.O.Sink.written c.members.out) =
-    record { listed = c.members.invariant.listed; order = c.members.invariant.order; pairs = c.members.invariant.pairs; stopped = c.members.invariant.stopped }
+    record { listed = c.members.invariant.listed; order = c.members.invariant.order; pairs = c.members.invariant.pairs }
     in
     let more = listing_more c.args.rest.now c.members.rest c.members.missing (g.O.Sink.written c.args.out.now) (g.O.Sink.written c.members.out) on
     c.in-Some-Ok.entry.tiling c.in-Some-Ok.entry.word next.0
     c.as_slice.result.now (c.as_slice.ensures.value ∙ c.write_missing.ensures) (g.O.Sink.written c.write_all.new.self) c.advance.new.self c.requires.most
-    (MatchResult-at_ok _ _ c.in-Some-Ok.entry c.in-Some-Ok.field-0-is c.in-Some-Ok.ensures.cursor) c.advance.ensures.order c.advance.ensures.pairs
-    c.advance.ensures.stopped
+    (IfOk-at_ok _ c.in-Some-Ok.field-0-is c.in-Some-Ok.ensures.cursor) c.advance.ensures.order c.advance.ensures.pairs
     c.in_ok-write_all-in-Some-Ok.ensures.ok
     in
     record {
       listed = more.listed;
       order = more.order;
       pairs = more.pairs;
-      stopped = more.stopped;
       faults = (c.in_ok-write_all-in-Some-Ok.ensures.cause).ok ∙ c.members.invariant.faults;
     }
 
@@ -61,19 +59,17 @@ pub members-preserved : goal.members-preserved
 members-preserved g c =
     let next = IfOk-at_ok _ c.in-Some-Ok.field-0-is c.in-Some-Ok.ensures.entry in
     let on : IsListingOn c.args.rest.now c.members.rest c.members.missing (g.O.Sink.written c.args.out.now) (g.O.Sink.written c.members.out) =
-    record { listed = c.members.invariant.listed; order = c.members.invariant.order; pairs = c.members.invariant.pairs; stopped = c.members.invariant.stopped }
+    record { listed = c.members.invariant.listed; order = c.members.invariant.order; pairs = c.members.invariant.pairs }
     in
     let more = listing_more c.args.rest.now c.members.rest c.members.missing (g.O.Sink.written c.args.out.now) (g.O.Sink.written c.members.out) on
     c.in-Some-Ok.entry.tiling c.in-Some-Ok.entry.word next.0
     c.as_slice.result.now (c.as_slice.ensures.value ∙ c.write_missing.ensures) (g.O.Sink.written c.write_all.new.self) c.advance.new.self c.requires.most
-    (MatchResult-at_ok _ _ c.in-Some-Ok.entry c.in-Some-Ok.field-0-is c.in-Some-Ok.ensures.cursor) c.advance.ensures.order c.advance.ensures.pairs
-    c.advance.ensures.stopped
+    (IfOk-at_ok _ c.in-Some-Ok.field-0-is c.in-Some-Ok.ensures.cursor) c.advance.ensures.order c.advance.ensures.pairs
     c.in_ok-write_all-in-Some-Ok.ensures.ok
     in
     record {
       listed = more.listed;
       order = more.order;
       pairs = more.pairs;
-      stopped = more.stopped;
       faults = (c.in_ok-write_all-in-Some-Ok.ensures.cause).ok ∙ c.members.invariant.faults;
     }

@@ -7,7 +7,6 @@ invariant-members g l = record {
   listed : IsListed l.initial.rest.walk.order l.initial.rest.pairs l.rest.walk.cursor l.missing (g.O.Sink.written l.initial.out) (g.O.Sink.written l.out);
   order : l.rest.walk.order ≡ l.initial.rest.walk.order;
   pairs : l.rest.pairs ≡ l.initial.rest.pairs;
-  stopped : l.rest.stopped ≡ l.initial.rest.stopped;
   faults : g.O.Sink.faults l.out ≡ g.O.Sink.faults l.initial.out;
 }
 

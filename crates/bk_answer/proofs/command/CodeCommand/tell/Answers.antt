@@ -1,10 +1,9 @@
 use Rattle.std.proofs.Common.{[], ap, refl, subst, sym, ◌∙◌, ◌∷◌}
-use Rattle.bk_tiling.specs.Tiling.{Tiling}
 use Rattle.bk_report.specs.Answers.{dual_line, net_line}
 use Rattle.bk_answer.specs.Replies.{Replies}
 use Rattle.bk_answer.specs.Telling.{Allows, Tells, WantsMemory, drawing_lines, image_lines}
 use Rattle.bk_answer.specs.declared.command.CodeCommand.{CodeCommand}
-use Rattle.bk_answer.specs.declared.command.CodeCommand.TheVariants.{Canon, Check, Draw, Dual, Images, Net, Word}
+use Rattle.bk_answer.specs.declared.command.CodeCommand.TheVariants.{Canon, Check, Draw, Dual, Images, Net}
 use Rattle.bk_answer.proofs.Writing.{by_command, cause_told, piece_told, pieces_told}
 use Rattle.bk_answer.proofs.command.CodeCommand.tell.Goals as goal
 

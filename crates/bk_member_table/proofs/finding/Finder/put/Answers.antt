@@ -1,4 +1,4 @@
-use Rattle.std.proofs.Common.{ap, arith, subst, sym, ℕ, ◌∙◌, ◌≡◌}
+use Rattle.std.proofs.Common.{ap, arith, subst, sym, ◌∙◌}
 use Rattle.bk_word.specs.Word.{Word}
 use Rattle.bk_lay.proofs.Valleys.{a_tiling_has_one_word}
 use Rattle.bk_lay.proofs.WordPlay.{tiling_word_is_complete}

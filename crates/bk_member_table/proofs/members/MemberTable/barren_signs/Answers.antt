@@ -1,4 +1,4 @@
-use Rattle.std.proofs.Common.{List, ap, arith, length, subst, sym, take, ℕ, ◌<◌, ◌∙◌, ◌≡◌, ◌≤◌}
+use Rattle.std.proofs.Common.{List, ap, arith, length, subst, sym, take, ◌∙◌, ◌≡◌}
 use Rattle.bk_word.specs.Word.{Move}
 use Rattle.bk_word.specs.declared.Sign.{Sign}
 use Rattle.bk_table.specs.Span.{IsNarrow, begun_digits, span_from}

@@ -3,43 +3,43 @@ use Rattle.std.proofs.lemmas.List.{length-drop, length-take-le}
 use Rattle.bk_word.specs.declared.Sign.{Sign}
 use Rattle.bk_skel.proofs.SkelReads.{Spans, move_read, span_in}
 use Rattle.bk_skel.proofs.Wirings.{no_turn}
-use Rattle.bk_skel.specs.declared.turns.Turn.{Turn}
+use Rattle.bk_skel.specs.declared.turns.MoveRecord.{MoveRecord}
 use Rattle.bk_skel.proofs.skeleton.Skel.get.Goals as goal
 
 pub slice_bounds-append-count : goal.slice_bounds-append-count
 slice_bounds-append-count c =
     let h : Spans (get_or c.self.inside.turns.items c.args.i no_turn) (length c.self.inside.played.items) =
     span_in c.self.invariant c.args.i no_turn (omega (arith, ap (length {A = _}) c.self.view_is, c.requires)) in
-    let e = ap (λ (l : List Turn). get_or l c.args.i no_turn) c.deref.ensures.0 in
-    omega (arith, c.from.ensures, c.from-2.ensures, h.order, ap (λ (t : Turn). t.from) e, ap (λ (t : Turn). t.to) e)
+    let e = ap (λ (l : List MoveRecord). get_or l c.args.i no_turn) c.deref.ensures.0 in
+    omega (arith, c.from.ensures, c.from-2.ensures, h.order, ap (λ (t : MoveRecord). t.from) e, ap (λ (t : MoveRecord). t.to) e)
 
 pub slice_bounds-append-start : goal.slice_bounds-append-start
 slice_bounds-append-start c =
     let h : Spans (get_or c.self.inside.turns.items c.args.i no_turn) (length c.self.inside.played.items) =
     span_in c.self.invariant c.args.i no_turn (omega (arith, ap (length {A = _}) c.self.view_is, c.requires)) in
-    let e = ap (λ (l : List Turn). get_or l c.args.i no_turn) c.deref.ensures.0 in
+    let e = ap (λ (l : List MoveRecord). get_or l c.args.i no_turn) c.deref.ensures.0 in
     let k : c.from.result ≤ c.from-2.result =
-    omega (arith, c.from.ensures, c.from-2.ensures, h.order, ap (λ (t : Turn). t.from) e, ap (λ (t : Turn). t.to) e) in
+    omega (arith, c.from.ensures, c.from-2.ensures, h.order, ap (λ (t : MoveRecord). t.from) e, ap (λ (t : MoveRecord). t.to) e) in
     search rules
 
 pub slice_bounds-append-end : goal.slice_bounds-append-end
 slice_bounds-append-end c =
     let h : Spans (get_or c.self.inside.turns.items c.args.i no_turn) (length c.self.inside.played.items) =
     span_in c.self.invariant c.args.i no_turn (omega (arith, ap (length {A = _}) c.self.view_is, c.requires)) in
-    let e = ap (λ (l : List Turn). get_or l c.args.i no_turn) c.deref.ensures.0 in
+    let e = ap (λ (l : List MoveRecord). get_or l c.args.i no_turn) c.deref.ensures.0 in
     let k : c.from-2.result ≤ length c.deref-2.result.now =
-    omega (arith, c.from-2.ensures, h.within, ap (λ (t : Turn). t.to) e, ap (length {A = Sign}) c.deref-2.ensures.0) in
+    omega (arith, c.from-2.ensures, h.within, ap (λ (t : MoveRecord). t.to) e, ap (length {A = Sign}) c.deref-2.ensures.0) in
     k
 
 pub append-requires : goal.append-requires
 append-requires c =
     let h : Spans (get_or c.self.inside.turns.items c.args.i no_turn) (length c.self.inside.played.items) =
     span_in c.self.invariant c.args.i no_turn (omega (arith, ap (length {A = _}) c.self.view_is, c.requires)) in
-    let e = ap (λ (l : List Turn). get_or l c.args.i no_turn) c.deref.ensures.0 in
+    let e = ap (λ (l : List MoveRecord). get_or l c.args.i no_turn) c.deref.ensures.0 in
     let few : c.from-2.result - c.from.result ≤ 201 =
-    omega (arith, c.from.ensures, c.from-2.ensures, h.few, ap (λ (t : Turn). t.from) e, ap (λ (t : Turn). t.to) e) in
+    omega (arith, c.from.ensures, c.from-2.ensures, h.few, ap (λ (t : MoveRecord). t.from) e, ap (λ (t : MoveRecord). t.to) e) in
     let within : c.from-2.result ≤ length c.deref-2.result.now =
-    omega (arith, c.from-2.ensures, h.within, ap (λ (t : Turn). t.to) e, ap (length {A = Sign}) c.deref-2.ensures.0) in
+    omega (arith, c.from-2.ensures, h.within, ap (λ (t : MoveRecord). t.to) e, ap (length {A = Sign}) c.deref-2.ensures.0) in
     let long : length c.new-signs.result.items + length (take (c.from-2.result - c.from.result) (drop c.from.result c.deref-2.result.now)) ≤ 201 = omega (
       arith,
       few,
@@ -52,11 +52,11 @@ append-requires c =
 
 pub returns : goal.returns
 returns c =
-    let e = ap (λ (l : List Turn). get_or l c.args.i no_turn) c.deref.ensures.0 in
+    let e = ap (λ (l : List MoveRecord). get_or l c.args.i no_turn) c.deref.ensures.0 in
     let read : c.append.new.list.items ≡ slice_range c.self.inside.played.items (get_or c.self.inside.turns.items c.args.i no_turn).from
     (get_or c.self.inside.turns.items c.args.i no_turn).to =
     c.append.ensures ∙ ap (λ (l : List Sign). l ++ take (c.from-2.result - c.from.result) (drop c.from.result c.deref-2.result.now)) c.new-signs.ensures
-    ∙ (λ j. slice_range (c.deref-2.ensures.0 j) ((c.from.ensures ∙ ap (λ (t : Turn). t.from) e) j) ((c.from-2.ensures ∙ ap (λ (t : Turn). t.to) e) j)) in
+    ∙ (λ j. slice_range (c.deref-2.ensures.0 j) ((c.from.ensures ∙ ap (λ (t : MoveRecord). t.from) e) j) ((c.from-2.ensures ∙ ap (λ (t : MoveRecord). t.to) e) j)) in
     let at = move_read c.args.self.now c.self.inside.turns.items c.self.inside.played.items c.append.new.list.items c.args.i no_turn
     c.self.view_is c.requires read in
     at ∙ (λ j. Some (record { count = (sym e j).count; signs = c.append.new.list.items }))

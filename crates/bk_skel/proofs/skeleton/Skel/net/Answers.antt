@@ -7,7 +7,7 @@ use Rattle.bk_skel.proofs.SkelReads.{counted_in}
 use Rattle.bk_skel.specs.Skeleton.{moves_stored}
 use Rattle.bk_skel.specs.Wiring.{AreNumbers, AreWires, closed_of, counts_of, wires_from}
 use Rattle.bk_word_net.specs.WordNet.{end_of, net_of_word}
-use Rattle.bk_skel.specs.declared.turns.Turn.{Turn}
+use Rattle.bk_skel.specs.declared.turns.MoveRecord.{MoveRecord}
 use Rattle.bk_skel.proofs.skeleton.Skel.net.Goals as goal
 
 pub end_nodes-ended-requires-clause-numbers : goal.end_nodes-ended-requires-clause-numbers
@@ -15,7 +15,7 @@ end_nodes-ended-requires-clause-numbers c = subst (λ (l : List ℕ). AreNumbers
 
 pub end_nodes-ended-requires-clause-many : goal.end_nodes-ended-requires-clause-many
 end_nodes-ended-requires-clause-many c = ap length c.deref-2.ensures.0 ∙ closed_many c.self.invariant
-    ∙ ap (λ (l : List Turn). sum (closed_of l)) (sym c.deref.ensures.0)
+    ∙ ap (λ (l : List MoveRecord). sum (closed_of l)) (sym c.deref.ensures.0)
 
 pub slice_bounds-ended-end : goal.slice_bounds-ended-end
 slice_bounds-ended-end c =
@@ -46,7 +46,7 @@ wired-requires-clause-all c =
     let r : ReadsNet (moves_stored c.self.inside.turns.items c.self.inside.played.items) c.self.inside.turns.items
     (take (c.len.result + c.len-2.result) c.end_nodes-ended.result) =
     reads_net c.self.invariant complete c.end_nodes-ended.result (c.len.result + c.len-2.result) order c.end_nodes-ended.ensures.long read in
-    r.all ∙ ap (λ (l : List Turn). sum (counts_of l)) (sym c.deref-3.ensures.0)
+    r.all ∙ ap (λ (l : List MoveRecord). sum (counts_of l)) (sym c.deref-3.ensures.0)
 
 pub wired-requires-clause-wires : goal.wired-requires-clause-wires
 wired-requires-clause-wires c =
@@ -60,7 +60,7 @@ wired-requires-clause-wires c =
     let r : ReadsNet (moves_stored c.self.inside.turns.items c.self.inside.played.items) c.self.inside.turns.items
     (take (c.len.result + c.len-2.result) c.end_nodes-ended.result) =
     reads_net c.self.invariant complete c.end_nodes-ended.result (c.len.result + c.len-2.result) order c.end_nodes-ended.ensures.long read in
-    subst (λ (l : List Turn). AreWires (length l + 1)
+    subst (λ (l : List MoveRecord). AreWires (length l + 1)
     (wires_from 0 (counts_of l) (take (c.len.result + c.len-2.result) c.end_nodes-ended.result))) (sym c.deref-3.ensures.0) r.wires
 
 pub returns : goal.returns

@@ -54,32 +54,32 @@ splice_numbers-requires c =
     let small : c.len-2.result + c.len-3.result + 1 + c.m.inside.count ≤ 255 = omega (arith, p.numbers, c.len-2.ensures.value, c.len-3.ensures.value) in
     (omega arith, (omega arith, (within, (fits, small))))
 
-pub part-requires-clause-sizes_within : goal.part-requires-clause-sizes_within
-part-requires-clause-sizes_within c =
+pub apply_signs-requires-clause-sizes_within : goal.apply_signs-requires-clause-sizes_within
+apply_signs-requires-clause-sizes_within c =
     let p = playing c.self.invariant c.self.view_is c.m.view_is c.requires.legal c.requires.few c.turn_for-turn.ensures
     c.deref.ensures.0 c.deref-2.ensures.0 c.deref-3.ensures.0 c.len.ensures.value in
     p.sizes_within
 
-pub part-requires-clause-signs_within : goal.part-requires-clause-signs_within
-part-requires-clause-signs_within c =
+pub apply_signs-requires-clause-signs_within : goal.apply_signs-requires-clause-signs_within
+apply_signs-requires-clause-signs_within c =
     let p = playing c.self.invariant c.self.view_is c.m.view_is c.requires.legal c.requires.few c.turn_for-turn.ensures
     c.deref.ensures.0 c.deref-2.ensures.0 c.deref-3.ensures.0 c.len.ensures.value in
     p.signs_within
 
-pub part-requires-clause-sizes_fit : goal.part-requires-clause-sizes_fit
-part-requires-clause-sizes_fit c =
+pub apply_signs-requires-clause-sizes_fit : goal.apply_signs-requires-clause-sizes_fit
+apply_signs-requires-clause-sizes_fit c =
     let p = playing c.self.invariant c.self.view_is c.m.view_is c.requires.legal c.requires.few c.turn_for-turn.ensures
     c.deref.ensures.0 c.deref-2.ensures.0 c.deref-3.ensures.0 c.len.ensures.value in
     p.sizes_fit
 
-pub part-requires-clause-signs_fit : goal.part-requires-clause-signs_fit
-part-requires-clause-signs_fit c =
+pub apply_signs-requires-clause-signs_fit : goal.apply_signs-requires-clause-signs_fit
+apply_signs-requires-clause-signs_fit c =
     let p = playing c.self.invariant c.self.view_is c.m.view_is c.requires.legal c.requires.few c.turn_for-turn.ensures
     c.deref.ensures.0 c.deref-2.ensures.0 c.deref-3.ensures.0 c.len.ensures.value in
     p.signs_fit
 
-pub part-requires-clause-small : goal.part-requires-clause-small
-part-requires-clause-small c =
+pub apply_signs-requires-clause-small : goal.apply_signs-requires-clause-small
+apply_signs-requires-clause-small c =
     let p = playing c.self.invariant c.self.view_is c.m.view_is c.requires.legal c.requires.few c.turn_for-turn.ensures
     c.deref.ensures.0 c.deref-2.ensures.0 c.deref-3.ensures.0 c.len.ensures.value in
     omega (arith, p.small, ap (length {A = Sign}) c.deref-5.ensures.0)
@@ -106,13 +106,13 @@ invariant_of-self c =
     let moved : c.deref-5.result.now ≡ c.m.inside.signs.items = c.deref-5.ensures.0 in
     let n : Played (record { count = c.m.inside.count; signs = c.m.inside.signs.items }) c.self.inside.ends.items c.self.inside.sizes.items
     c.self.inside.signs.items c.self.inside.closed.items c.self.inside.turns.items c.self.inside.played.items c.turn_for-turn.result
-    c.splice_numbers.new.list.items c.part.new.sizes.items c.part.new.signs.items c.append.new.list.items c.push.new.self.items
+    c.splice_numbers.new.list.items c.apply_signs.new.sizes.items c.apply_signs.new.signs.items c.append.new.list.items c.push.new.self.items
     c.append-2.new.list.items = record {
       ends_new = c.splice_numbers.ensures ∙ (λ i. splice c.self.inside.ends.items (c.from-first.ensures i)
           (c.from-first.ensures i + c.from.ensures i) (numbers_from (number i) c.m.inside.count));
-      sizes_new = c.part.ensures.sizes ∙ (λ i. splice c.self.inside.sizes.items (first_touched c.turn_for-turn.result)
+      sizes_new = c.apply_signs.ensures.sizes ∙ (λ i. splice c.self.inside.sizes.items (first_touched c.turn_for-turn.result)
           (first_touched c.turn_for-turn.result + (open_sides c.turn_for-turn.result + 1)) (sizes_after c.turn_for-turn.result (moved i)));
-      signs_new = c.part.ensures.signs ∙ (λ i. splice c.self.inside.signs.items (first_touched c.turn_for-turn.result)
+      signs_new = c.apply_signs.ensures.signs ∙ (λ i. splice c.self.inside.signs.items (first_touched c.turn_for-turn.result)
           (first_touched c.turn_for-turn.result + open_sides c.turn_for-turn.result) (filter parts (moved i)));
       closed_new = c.append.ensures ∙ (λ i. c.self.inside.closed.items
           ++ slice_range (c.deref-4.ensures.0 i) (c.from-first.ensures i) (c.from-first.ensures i + c.from.ensures i));
@@ -130,13 +130,13 @@ returns c =
     let moved : c.deref-5.result.now ≡ c.m.inside.signs.items = c.deref-5.ensures.0 in
     let n : Played (record { count = c.m.inside.count; signs = c.m.inside.signs.items }) c.self.inside.ends.items c.self.inside.sizes.items
     c.self.inside.signs.items c.self.inside.closed.items c.self.inside.turns.items c.self.inside.played.items c.turn_for-turn.result
-    c.splice_numbers.new.list.items c.part.new.sizes.items c.part.new.signs.items c.append.new.list.items c.push.new.self.items
+    c.splice_numbers.new.list.items c.apply_signs.new.sizes.items c.apply_signs.new.signs.items c.append.new.list.items c.push.new.self.items
     c.append-2.new.list.items = record {
       ends_new = c.splice_numbers.ensures ∙ (λ i. splice c.self.inside.ends.items (c.from-first.ensures i)
           (c.from-first.ensures i + c.from.ensures i) (numbers_from (number i) c.m.inside.count));
-      sizes_new = c.part.ensures.sizes ∙ (λ i. splice c.self.inside.sizes.items (first_touched c.turn_for-turn.result)
+      sizes_new = c.apply_signs.ensures.sizes ∙ (λ i. splice c.self.inside.sizes.items (first_touched c.turn_for-turn.result)
           (first_touched c.turn_for-turn.result + (open_sides c.turn_for-turn.result + 1)) (sizes_after c.turn_for-turn.result (moved i)));
-      signs_new = c.part.ensures.signs ∙ (λ i. splice c.self.inside.signs.items (first_touched c.turn_for-turn.result)
+      signs_new = c.apply_signs.ensures.signs ∙ (λ i. splice c.self.inside.signs.items (first_touched c.turn_for-turn.result)
           (first_touched c.turn_for-turn.result + open_sides c.turn_for-turn.result) (filter parts (moved i)));
       closed_new = c.append.ensures ∙ (λ i. c.self.inside.closed.items
           ++ slice_range (c.deref-4.ensures.0 i) (c.from-first.ensures i) (c.from-first.ensures i + c.from.ensures i));

@@ -10,23 +10,23 @@ overflow_sub-kept c =
     let b = taken_back c.self.invariant c.take_last-turn.ensures c.requires c.self.view_is in
     omega (arith, b.closed_within, c.len.ensures.value, c.from.ensures)
 
-pub part_back-requires-clause-sizes_within : goal.part_back-requires-clause-sizes_within
-part_back-requires-clause-sizes_within c =
+pub undo_signs-requires-clause-sizes_within : goal.undo_signs-requires-clause-sizes_within
+undo_signs-requires-clause-sizes_within c =
     let b = taken_back c.self.invariant c.take_last-turn.ensures c.requires c.self.view_is in
     b.sizes_within
 
-pub part_back-requires-clause-signs_within : goal.part_back-requires-clause-signs_within
-part_back-requires-clause-signs_within c =
+pub undo_signs-requires-clause-signs_within : goal.undo_signs-requires-clause-signs_within
+undo_signs-requires-clause-signs_within c =
     let b = taken_back c.self.invariant c.take_last-turn.ensures c.requires c.self.view_is in
     b.signs_within
 
-pub part_back-requires-clause-sizes_fit : goal.part_back-requires-clause-sizes_fit
-part_back-requires-clause-sizes_fit c =
+pub undo_signs-requires-clause-sizes_fit : goal.undo_signs-requires-clause-sizes_fit
+undo_signs-requires-clause-sizes_fit c =
     let b = taken_back c.self.invariant c.take_last-turn.ensures c.requires c.self.view_is in
     b.sizes_fit
 
-pub part_back-requires-clause-signs_fit : goal.part_back-requires-clause-signs_fit
-part_back-requires-clause-signs_fit c =
+pub undo_signs-requires-clause-signs_fit : goal.undo_signs-requires-clause-signs_fit
+undo_signs-requires-clause-signs_fit c =
     let b = taken_back c.self.invariant c.take_last-turn.ensures c.requires c.self.view_is in
     b.signs_fit
 
@@ -53,13 +53,13 @@ invariant_of-self c =
     let kept : c.len.result - c.from.result ≡ length c.self.inside.closed.items - c.take_last-turn.result.closed =
     (λ i. c.len.ensures.value i - c.from.ensures i) in
     let n : Back c.self.inside.ends.items c.self.inside.sizes.items c.self.inside.signs.items c.self.inside.closed.items
-    c.self.inside.played.items c.take_last-turn.result c.splice.new.list.items c.part_back.new.sizes.items c.part_back.new.signs.items
+    c.self.inside.played.items c.take_last-turn.result c.splice.new.list.items c.undo_signs.new.sizes.items c.undo_signs.new.signs.items
     c.truncate.new.self.items c.truncate-2.new.self.items = record {
       ends_new = c.splice.ensures ∙ (λ i. splice c.self.inside.ends.items (c.from-first.ensures i) (c.from-first.ensures i + c.from-2.ensures i)
           (behind_read c.self.inside.closed.items c.deref.result.now (c.len.result - c.from.result)
           (length c.self.inside.closed.items - c.take_last-turn.result.closed) c.deref.ensures.0 kept i));
-      sizes_new = c.part_back.ensures.sizes;
-      signs_new = c.part_back.ensures.signs;
+      sizes_new = c.undo_signs.ensures.sizes;
+      signs_new = c.undo_signs.ensures.signs;
       closed_new = c.truncate.ensures.items ∙ ap (λ n. take n c.self.inside.closed.items) kept;
       played_new = c.truncate-2.ensures.items ∙ ap (λ n. take n c.self.inside.played.items) c.from-3.ensures;
     } in
@@ -71,13 +71,13 @@ returns c =
     let kept : c.len.result - c.from.result ≡ length c.self.inside.closed.items - c.take_last-turn.result.closed =
     (λ i. c.len.ensures.value i - c.from.ensures i) in
     let n : Back c.self.inside.ends.items c.self.inside.sizes.items c.self.inside.signs.items c.self.inside.closed.items
-    c.self.inside.played.items c.take_last-turn.result c.splice.new.list.items c.part_back.new.sizes.items c.part_back.new.signs.items
+    c.self.inside.played.items c.take_last-turn.result c.splice.new.list.items c.undo_signs.new.sizes.items c.undo_signs.new.signs.items
     c.truncate.new.self.items c.truncate-2.new.self.items = record {
       ends_new = c.splice.ensures ∙ (λ i. splice c.self.inside.ends.items (c.from-first.ensures i) (c.from-first.ensures i + c.from-2.ensures i)
           (behind_read c.self.inside.closed.items c.deref.result.now (c.len.result - c.from.result)
           (length c.self.inside.closed.items - c.take_last-turn.result.closed) c.deref.ensures.0 kept i));
-      sizes_new = c.part_back.ensures.sizes;
-      signs_new = c.part_back.ensures.signs;
+      sizes_new = c.undo_signs.ensures.sizes;
+      signs_new = c.undo_signs.ensures.signs;
       closed_new = c.truncate.ensures.items ∙ ap (λ n. take n c.self.inside.closed.items) kept;
       played_new = c.truncate-2.ensures.items ∙ ap (λ n. take n c.self.inside.played.items) c.from-3.ensures;
     } in

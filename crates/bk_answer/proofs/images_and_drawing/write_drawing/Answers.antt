@@ -1,0 +1,51 @@
+use Rattle.std.proofs.Common.{List, [], arith, subst, sym, ℕ, ◌+◌, ◌++◌, ◌<◌, ◌∙◌, ◌∷◌, ◌≤◌}
+use Rattle.std.proofs.lemmas.List.FromFn.{get_or-map-range_with_len, length-map-range_with_len}
+use Rattle.std.proofs.lemmas.Result.{err_from_is_err_and}
+use Rattle.bk_tiling.specs.Tiling.{Tiling}
+use Rattle.bk_draw.specs.Drawing.{drawing_row}
+use Rattle.bk_answer.proofs.PieceByPiece.{failed_later, written_all, written_more, written_part}
+use Rattle.bk_answer.proofs.images_and_drawing.write_drawing.Goals as goal
+use Rattle.bk_answer.specs.Telling.{drawing_lines}
+
+abbrev row_line : Tiling → ℕ → List ℕ
+row_line t y = drawing_row t y ++ 10 ∷ []
+
+pub returns-in_err-write_all-clause-failed : goal.returns-in_err-write_all-clause-failed
+returns-in_err-write_all-clause-failed g c =
+    let p = err_from_is_err_and c.from_residual.result c.from_residual.ensures.1 in
+    rw p.1
+    (written_part (drawing_lines c.args.tiling.now) c.loop-y.y c.as_slice.result.now
+    (g.O.Sink.written c.args.out.now) (g.O.Sink.written c.loop-y.out) (g.O.Sink.written c.write_all.new.self)
+    (subst (λ (n : ℕ). c.loop-y.y < n) (sym (length-map-range_with_len (row_line c.args.tiling.now) 0 (c.args.tiling.now.height + 1)))
+    (subst (λ (n : ℕ). c.loop-y.y < n + 1) c.height-y-end.ensures.value c.loop-y-test.true))
+    (c.as_slice.ensures.value ∙ c.draw_row.ensures
+    ∙ sym (get_or-map-range_with_len (row_line c.args.tiling.now) 0 (c.args.tiling.now.height + 1) c.loop-y.y c.loop-y.y []
+    (subst (λ (n : ℕ). c.loop-y.y < n + 1) c.height-y-end.ensures.value c.loop-y-test.true) (omega arith)))
+    c.loop-y.invariant.0 c.in_err-write_all.ensures.err)
+
+pub returns-in_err-write_all-clause-cause : goal.returns-in_err-write_all-clause-cause
+returns-in_err-write_all-clause-cause g c =
+    let p = err_from_is_err_and c.from_residual.result c.from_residual.ensures.1 in
+    rw p.1
+    (failed_later (g.O.Sink.faults c.args.out.now) (g.O.Sink.faults c.loop-y.out) (g.O.Sink.faults c.write_all.new.self) _ _
+    c.loop-y.invariant.1 c.in_err-write_all.ensures.cause)
+
+pub loop-y-preserved : goal.loop-y-preserved
+loop-y-preserved g c = (
+  written_more (drawing_lines c.args.tiling.now) c.loop-y.y c.as_slice.result.now
+      (g.O.Sink.written c.args.out.now) (g.O.Sink.written c.loop-y.out) (g.O.Sink.written c.write_all.new.self)
+      (subst (λ (n : ℕ). c.loop-y.y < n) (sym (length-map-range_with_len (row_line c.args.tiling.now) 0 (c.args.tiling.now.height + 1)))
+      (subst (λ (n : ℕ). c.loop-y.y < n + 1) c.height-y-end.ensures.value c.loop-y-test.true))
+      (c.as_slice.ensures.value ∙ c.draw_row.ensures
+      ∙ sym (get_or-map-range_with_len (row_line c.args.tiling.now) 0 (c.args.tiling.now.height + 1) c.loop-y.y c.loop-y.y []
+      (subst (λ (n : ℕ). c.loop-y.y < n + 1) c.height-y-end.ensures.value c.loop-y-test.true) (omega arith)))
+      c.loop-y.invariant.0 c.in_ok-write_all.ensures.ok,
+  c.in_ok-write_all.ensures.cause.ok ∙ c.loop-y.invariant.1,
+)
+
+pub returns-clause-written : goal.returns-clause-written
+returns-clause-written g c =
+    written_all (drawing_lines c.args.tiling.now) c.loop-y.y (g.O.Sink.written c.args.out.now) (g.O.Sink.written c.loop-y.out)
+    (subst (λ (n : ℕ). n ≤ c.loop-y.y) (sym (length-map-range_with_len (row_line c.args.tiling.now) 0 (c.args.tiling.now.height + 1)))
+    (subst (λ (n : ℕ). n + 1 ≤ c.loop-y.y) c.height-y-end.ensures.value c.loop-y-test.false))
+    c.loop-y.invariant.0

@@ -1,6 +1,0 @@
-use Rattle.bk_leaf.proofs.SidedMoves.{sided_less}
-use Rattle.bk_leaf.proofs.board.Board.pop.Goals as goal
-
-pub invariant_of-self : goal.invariant_of-self
-invariant_of-self c = sided_less c.self.inside.skel c.pop.new.self c.self.inside.sides.items c.truncate.new.self.items c.order.result
-    c.self.invariant c.pop.ensures c.order.ensures.value c.truncate.ensures.items

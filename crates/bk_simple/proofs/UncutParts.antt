@@ -1,0 +1,123 @@
+-- A rectangle whose border cuts no square of a tiling is a part of it, where at least two squares and not all lie in it.
+use Rattle.std.specs.List.{AllByRecursion}
+use Rattle.std.specs.Prelude.{Bool, List, [], cond, count_by, false, filter, get_or, length, refl, true, ℕ, ◌+◌, ◌<◌}
+use Rattle.std.specs.Prelude.{◌||◌, ◌∷◌, ◌≡◌, ◌≤◌, ◌⊎◌}
+use Rattle.std.proofs.Common.{ap, arith, inl, inr, subst, sym, ◌∙◌}
+use Rattle.std.proofs.lemmas.Bool.{and_from, and_parts, both_ways, cases_Bool, le-leb}
+use Rattle.std.proofs.lemmas.Bool.{leb-false, leb-true, or_cases, or_parts}
+use Rattle.std.proofs.lemmas.List.Elements.{All-from_recursion, recursion_from_All}
+use Rattle.std.proofs.lemmas.List.Sums.{AllPass-from_list_all, length-filter}
+use Rattle.std.proofs.lemmas.List.Sums.{sum_by-cons}
+use Rattle.bk_laws.proofs.Counts.{count_two}
+use Rattle.bk_tiling.proofs.Cells.{IsOver, over_from}
+use Rattle.bk_tiling.proofs.TilingLaws.{cell_once}
+use Rattle.bk_tiling.specs.Tiling.{IsTiling, IsWithin, Rectangle, Tiling, covers, order, whole}
+use Rattle.bk_tiling.specs.declared.Square.{Square}
+use Rattle.bk_simple.specs.Border.{IsUncut, is_inside, is_outside}
+use Rattle.bk_simple.specs.Simple.{IsPart}
+
+-- what is_outside and is_inside say
+outside_means : (r : Rectangle) (q : Square) → is_outside r q ≡ true
+    → ((q.x + q.s ≤ r.x) ⊎ (r.x + r.width ≤ q.x)) ⊎ ((q.y + q.s ≤ r.y) ⊎ (r.y + r.height ≤ q.y))
+outside_means r q e = elim (or_cases _ _ e) [
+  | inl across ↦ elim (or_cases _ _ across) [ inl h ↦ inl (inl (leb-true _ _ h)) | inr h ↦ inl (inr (leb-true _ _ h)) ]
+  | inr along ↦ elim (or_cases _ _ along) [ inl h ↦ inr (inl (leb-true _ _ h)) | inr h ↦ inr (inr (leb-true _ _ h)) ]
+]
+
+pub inside_means : (r : Rectangle) (q : Square) → is_inside r q ≡ true → IsWithin r q
+inside_means r q h =
+    let parts = and_parts _ _ h in
+    let across = and_parts _ _ parts.0 in
+    let along = and_parts _ _ parts.1 in
+    record { left = leb-true _ _ across.0; right = leb-true _ _ across.1; top = leb-true _ _ along.0; bottom = leb-true _ _ along.1 }
+
+pub inside_from : (r : Rectangle) (q : Square) → IsWithin r q → is_inside r q ≡ true
+inside_from r q h = and_from _ _ (and_from _ _ (le-leb _ _ h.left) (le-leb _ _ h.right)) (and_from _ _ (le-leb _ _ h.top) (le-leb _ _ h.bottom))
+
+-- a square over a cell of the rectangle is not outside it
+over_cell : (r : Rectangle) (q : Square) (i j : ℕ) → covers i j q ≡ true → r.x ≤ i → i < r.x + r.width → r.y ≤ j → j < r.y + r.height
+    → is_outside r q ≡ true → ⊥
+over_cell r q i j over left right top bottom e = cases (over_from i j q over) (outside_means r q e)
+  where
+    cases : IsOver i j q → ((q.x + q.s ≤ r.x) ⊎ (r.x + r.width ≤ q.x)) ⊎ ((q.y + q.s ≤ r.y) ⊎ (r.y + r.height ≤ q.y)) → ⊥
+    cases o (inl (inl h)) = omega (arith, o.right)
+    cases o (inl (inr h)) = omega (arith, o.left)
+    cases o (inr (inl h)) = omega (arith, o.bottom)
+    cases o (inr (inr h)) = omega (arith, o.top)
+
+-- where all that are counted are selected, the selection counts as many
+count_filter-same : {X : Type 0} (p c : X → Bool) (xs : List X) → AllByRecursion (λ x. c x ≡ true → p x ≡ true) xs → count_by c (filter p xs) ≡ count_by c xs
+count_filter-same p c [] all = refl
+count_filter-same p c (x ∷ xs) all = step (cases_Bool (p x)) (cases_Bool (c x)) (count_filter-same p c xs all.1)
+  where
+    step : (p x ≡ true) ⊎ (p x ≡ false) → (c x ≡ true) ⊎ (c x ≡ false) → count_by c (filter p xs) ≡ count_by c xs
+        → count_by c (filter p (x ∷ xs)) ≡ count_by c (x ∷ xs)
+    step (inl yes_p) counted ih =
+        let e : count_by c (filter p (x ∷ xs)) ≡ count_by c (x ∷ filter p xs) = ap (λ b. count_by c (cond b (x ∷ filter p xs) (filter p xs))) yes_p in
+        omega (arith, e, ih, sum_by-cons (λ y. cond (c y) 1 0) x xs, sum_by-cons (λ y. cond (c y) 1 0) x (filter p xs))
+    step (inr no_p) (inl counted) ih = absurd (both_ways (p x) no_p (all.0 counted))
+    step (inr no_p) (inr uncounted) ih =
+        let e : count_by c (filter p (x ∷ xs)) ≡ count_by c (filter p xs) = ap (λ b. count_by c (cond b (x ∷ filter p xs) (filter p xs))) no_p in
+        let zero_here : ◌≡◌ {A = ℕ} (cond (c x) 1 0) 0 = ap (λ b. cond b 1 0) uncounted in
+        omega (arith, e, ih, zero_here, sum_by-cons (λ y. cond (c y) 1 0) x xs)
+
+-- a fact of all elements is one of the selected
+all_filter : {X : Type 0} (P : X → Type 0) (p : X → Bool) (xs : List X) → AllByRecursion (λ x. p x ≡ true → P x) xs → AllByRecursion P (filter p xs)
+all_filter P p [] all = tt
+all_filter P p (x ∷ xs) all = step (cases_Bool (p x)) (all_filter P p xs all.1)
+  where
+    step : (p x ≡ true) ⊎ (p x ≡ false) → AllByRecursion P (filter p xs) → AllByRecursion P (cond (p x) (x ∷ filter p xs) (filter p xs))
+    step (inl yes_p) rest = subst (λ b. AllByRecursion P (cond b (x ∷ filter p xs) (filter p xs))) (sym yes_p) (all.0 yes_p, rest)
+    step (inr no_p) rest = subst (λ b. AllByRecursion P (cond b (x ∷ filter p xs) (filter p xs))) (sym no_p) rest
+
+-- a square and a rectangle that are not outside each other share a cell
+pub record Meets (r : Rectangle) (q : Square) : Type 0 where
+  pub left : r.x < q.x + q.s
+  pub right : q.x < r.x + r.width
+  pub top : r.y < q.y + q.s
+  pub bottom : q.y < r.y + r.height
+
+pub meets_from : (r : Rectangle) (q : Square) → is_outside r q ≡ false → Meets r q
+meets_from r q e =
+    let parts = or_parts _ _ e in
+    let across = or_parts _ _ parts.0 in
+    let along = or_parts _ _ parts.1 in
+    record { left = leb-false _ _ across.0; right = leb-false _ _ across.1; top = leb-false _ _ along.0; bottom = leb-false _ _ along.1 }
+
+module _ (t : Tiling) (tiling : IsTiling t) where
+  pub within_at : (k : ℕ) (d : Square) → k < length t.squares → IsWithin (whole t) (get_or t.squares k d)
+  within_at k d few = All-from_recursion (IsWithin (whole t)) t.squares tiling.tiles.within k d few
+
+  pub side_at : (k : ℕ) (d : Square) → k < length t.squares → 0 < (get_or t.squares k d).s
+  side_at k d few = All-from_recursion (λ q. 0 < q.s) t.squares tiling.tiles.sides k d few
+
+  -- a square over a cell stands at one place
+  pub one_over : (i j k l : ℕ) (d : Square) → i < t.width → j < t.height → k < l → l < length t.squares
+      → covers i j (get_or t.squares k d) ≡ true → covers i j (get_or t.squares l d) ≡ true → ⊥
+  one_over i j k l d wide high before few over also =
+      omega (arith, count_two (covers i j) t.squares k l d before few over also, cell_once t tiling i j wide high)
+
+  -- a rectangle whose border cuts no square is a part where it has enough squares, and not all
+  pub part_from_count : (r : Rectangle) → r.x + r.width ≤ t.width → r.y + r.height ≤ t.height → IsUncut r t.squares
+      → 2 ≤ count_by (is_inside r) t.squares → count_by (is_inside r) t.squares < order t → IsPart t r
+  part_from_count r right bottom uncut several not_all = record {
+    pick = is_inside r;
+    several = omega (arith, several, length-filter (is_inside r) t.squares);
+    not_all = omega (arith, not_all, length-filter (is_inside r) t.squares);
+    tiled = record {
+      some = omega (arith, several, length-filter (is_inside r) t.squares);
+      sides = all_filter (λ q. 0 < q.s) (is_inside r) t.squares (recursion_from_All _ t.squares (λ k d few picked. side_at k d few));
+      within = all_filter (IsWithin r) (is_inside r) t.squares (recursion_from_All _ t.squares (λ k d few picked. inside_means r _ picked));
+      once = λ i j left wide top high. count_filter-same (is_inside r) (covers i j) t.squares
+          (recursion_from_All _ t.squares (λ k d few over. picked i j left wide top high k d few over))
+          ∙ cell_once t tiling i j (omega arith) (omega arith);
+    };
+  }
+    where
+      picked : (i j : ℕ) → r.x ≤ i → i < r.x + r.width → r.y ≤ j → j < r.y + r.height → (k : ℕ) (d : Square) → k < length t.squares
+          → covers i j (get_or t.squares k d) ≡ true → is_inside r (get_or t.squares k d) ≡ true
+      picked i j left wide top high k d few over =
+          elim (or_cases _ _ (AllPass-from_list_all (λ q. is_inside r q || is_outside r q) t.squares uncut k d few)) [
+            | inl h ↦ h
+            | inr h ↦ absurd (over_cell r (get_or t.squares k d) i j over left wide top high h)
+          ]

@@ -1,0 +1,66 @@
+-- What the first signs of a next move ask for: where it is more than is left, no word goes on by such a move.
+use Rattle.std.proofs.Common.{Bool, List, [], ap, arith, drop, subst, sym, take, ℕ, ◌++◌, ◌+◌, ◌-◌, ◌<◌, ◌∙◌, ◌∷◌, ◌≡◌, ◌≤◌}
+use Rattle.bk_word.specs.Outline.{Outline, has_left_wall, start, valley_place}
+use Rattle.bk_word.specs.Play.{IsLegal, outline_of, signs_apart}
+use Rattle.bk_word.specs.Word.{Move, Word, order_of}
+use Rattle.bk_word.specs.declared.Sign.{Sign}
+use Rattle.bk_word.proofs.PlayLaws.{after-snoc, legal_front, legal_rest}
+use Rattle.bk_word.proofs.StoredBytes.{order_append, order_more}
+use Rattle.bk_bounds.proofs.BoundsOfWords.{shape_of_word}
+use Rattle.bk_bounds.proofs.ClosingLaws.{bound-parts, unders}
+use Rattle.bk_bounds.specs.ClosingBound.{closing_bound}
+use Rattle.bk_bounds.specs.SingleValleys.{single_valleys, sizes_of}
+use Rattle.bk_free_cuts.proofs.CutsOfTilings.{too_many_singles_is_free_barren}
+use Rattle.bk_net_word.specs.NetWord.{IsNetBarren}
+use Rattle.bk_owed.proofs.TallyLaws.{front_owes}
+use Rattle.bk_owed.specs.Lone.{lone_squares}
+use Rattle.bk_table.proofs.Cutting.{cut}
+use Rattle.bk_table.proofs.LoneSquares.{lone_after}
+use Rattle.bk_table.specs.Asking.{IsAsked, IsNext}
+
+module _ (front : Word) (other : Move) (signs more : List Sign) (are : other.signs ≡ signs ++ more) where
+  -- the signs around the valley
+  abbrev before : List Sign
+  before = take (valley_place (outline_of front).signs - 1) (outline_of front).signs
+
+  abbrev behind : List Sign
+  behind = drop (valley_place (outline_of front).signs + 1) (outline_of front).signs
+
+  -- the closing bound after the move
+  closings_after : closing_bound (before ++ signs) + unders behind ≤ closing_bound (outline_of (front ++ other ∷ [])).signs
+  closings_after = omega (arith, all, front_owes before signs more behind)
+    where
+      all : closing_bound (outline_of (front ++ other ∷ [])).signs ≡ closing_bound (before ++ (signs ++ more) ++ behind)
+      all = ap (λ (o : Outline). closing_bound o.signs) (after-snoc start front other) ∙ bound-parts (signs_apart (outline_of front) other)
+          ∙ ap (λ l. closing_bound (before ++ l ++ behind)) are
+
+  -- and the valleys of one square
+  singles_after : IsLegal (front ++ other ∷ []) → lone_squares (has_left_wall (outline_of front)) signs
+      ≤ single_valleys (outline_of (front ++ other ∷ [])).signs (sizes_of (outline_of (front ++ other ∷ [])))
+  singles_after legal = subst (λ (o : Outline). lone_squares (has_left_wall (outline_of front)) signs ≤ single_valleys o.signs (sizes_of o))
+      (sym (after-snoc start front other))
+      (lone_after (outline_of front) other signs more (legal_rest start front (other ∷ []) legal).0
+      (shape_of_word front (legal_front start front (other ∷ []) legal)) are)
+
+-- a move whose signs begin with these is barren where they ask for more than there is room for
+pub asked_is_barred : (n count : ℕ) (front : Word) (signs : List Sign) (other : Move) (more : List Sign) (wanted room bound aboves found : ℕ)
+    (left_wall low : Bool) → 2 ≤ n → IsNext front count n left_wall wanted room → IsAsked front signs bound aboves found low → room < bound + found
+    → other.count ≡ count → other.signs ≡ signs ++ more → IsNetBarren n (front ++ other ∷ [])
+asked_is_barred n count front signs other more wanted room bound aboves found left_wall low least next asked over same are =
+    cut n (front ++ other ∷ []) (λ l w rest sound word is. too_many_singles_is_free_barren n (front ++ other ∷ []) least
+    (owes (legal_front start (front ++ other ∷ []) rest (subst IsLegal is word.complete.legal))) l w rest sound word is)
+  where
+    owes : IsLegal (front ++ other ∷ []) → n < order_of (front ++ other ∷ []) + closing_bound (outline_of (front ++ other ∷ [])).signs
+        + single_valleys (outline_of (front ++ other ∷ [])).signs (sizes_of (outline_of (front ++ other ∷ [])))
+    owes legal = omega (
+      arith,
+      over,
+      same,
+      next.room_is,
+      asked.tally.bound_is,
+      asked.lone.found_is,
+      closings_after front other signs more are,
+      singles_after front other signs more are legal,
+      order_append front (other ∷ []),
+      order_more other [],
+    )

@@ -1,0 +1,35 @@
+use Rattle.std.proofs.Common.{List, [], ap, append-nil, arith, length, length-take, nat_eq, subst, sym, take, ◌++◌, ◌-◌, ◌∙◌, ◌≡◌}
+use Rattle.bk_word.specs.Outline.{valley_place}
+use Rattle.bk_word.specs.Play.{outline_of}
+use Rattle.bk_word.specs.declared.Sign.{Sign}
+use Rattle.bk_owed.proofs.LoneLaws.{lone_none}
+use Rattle.bk_owed.proofs.TallyLaws.{tally_none}
+use Rattle.bk_owed.specs.Lone.{IsLone}
+use Rattle.bk_owed.specs.Tally.{IsTally}
+use Rattle.bk_table.proofs.Cutting.{few_signs_open}
+use Rattle.bk_table.proofs.asking.stand_beside.Goals as goal
+
+at_place : (c : goal.After-tally_behind) → c.first_above-place.result ≡ valley_place (outline_of c.args.skel.now).signs
+at_place c = c.first_above-place.ensures.value ∙ ap valley_place c.signs-signs.ensures
+
+pub returns-clause-asked : goal.returns-clause-asked
+returns-clause-asked c =
+    let placed : c.first_above-place.result ≡ valley_place (outline_of c.args.skel.now).signs = at_place c in
+    let front : take c.saturating_sub.result c.signs-signs.result.now
+    ≡ take (valley_place (outline_of c.args.skel.now).signs - 1) (outline_of c.args.skel.now).signs ++ [] =
+    (λ i. take (c.saturating_sub.ensures i) (c.signs-signs.ensures i)) ∙ ap (λ k. take (k - 1) (outline_of c.args.skel.now).signs) placed
+    ∙ sym (append-nil (take (valley_place (outline_of c.args.skel.now).signs - 1) (outline_of c.args.skel.now).signs)) in record {
+      tally = subst (λ (l : List Sign). IsTally l c.tally_behind.result.bound c.tally_behind.result.aboves) front (c.tally_behind.ensures.tally [] tally_none);
+      lone = subst (λ b. IsLone b [] 0 (nat_eq c.first_above-place.result 0)) (ap (λ k. nat_eq k 0) placed) (lone_none (nat_eq c.first_above-place.result 0));
+      few = c.tally_behind.ensures.low;
+    }
+
+pub returns-clause-few : goal.returns-clause-few
+returns-clause-few c = omega (
+  arith,
+  c.tally_behind.ensures.few,
+  length-take c.saturating_sub.result c.signs-signs.result.now,
+  ap length c.signs-signs.ensures,
+  few_signs_open c.args.skel.now c.requires.legal,
+  c.requires.few,
+)

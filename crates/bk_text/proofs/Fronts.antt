@@ -1,0 +1,65 @@
+-- A side in front of bytes, and the byte right behind it.
+use Rattle.std.specs.Prelude.{Bool, List, Option, Some, [], drop, false, length, option_and_then, suc, take, true, zero, ℕ, ◌+◌, ◌<◌, ◌∷◌, ◌≡◌, ◌≤◌}
+use Rattle.std.proofs.Common.{ap, arith, get_or, subst, sym, ◌∙◌}
+use Rattle.std.proofs.Math.Seq.{take-add}
+use Rattle.std.proofs.lemmas.List.{length-drop, take_more}
+use Rattle.bk_text.specs.Gathered.{Gathered, gathered_after}
+use Rattle.bk_text.specs.Onward.{IsFrontSide, SpellOn, at_side, behind_sides, onward, with_last}
+use Rattle.bk_text.specs.Reader.{kind_of, next_place}
+use Rattle.bk_text.specs.declared.reader.Bracket.{Bracket}
+use Rattle.bk_text.specs.declared.reader.Bracket.TheVariants.{Round, Square}
+use Rattle.bk_text.specs.declared.reader.Field.TheVariants.{Side}
+use Rattle.bk_text.specs.declared.reader.Header.{Header}
+use Rattle.bk_text.specs.declared.reader.Kind.{Kind}
+use Rattle.bk_text.specs.declared.reader.Kind.TheVariants.{Close, Comma}
+use Rattle.bk_text.specs.declared.reader.Place.{Place}
+use Rattle.bk_text.specs.declared.reader.Place.TheVariants.{BeforeSide, Number}
+use Rattle.bk_text.proofs.Strides.{from, from_is_drop, onward-append}
+
+-- what one byte of a kind makes of a place
+abbrev step : Place → Gathered → Kind → Option (Place × Gathered)
+step p g k = option_and_then (λ q. Some (q, gathered_after p k g)) (next_place p k)
+
+-- the byte ends the side so
+abbrev pub Ends : ℕ → Bracket → ℕ → Bool → Type 0
+Ends b bracket side closed = (h : Header) (g : Gathered)
+    → onward (b ∷ []) (at_side h bracket side) g ≡ Some (behind_sides h bracket closed, with_last side closed g)
+
+pub comma_ends : (b side : ℕ) (bracket : Bracket) → 0 < side → kind_of b ≡ Comma → Ends b bracket side false
+comma_ends b zero bracket some kind h g = absurd (omega (arith, some))
+comma_ends b (suc n) bracket some kind h g = ap (step (Number (Side h bracket) (suc n)) g) kind
+
+pub bracket_ends : (b side : ℕ) (bracket : Bracket) → 0 < side → kind_of b ≡ Close bracket → Ends b bracket side true
+bracket_ends b zero bracket some kind h g = absurd (omega (arith, some))
+bracket_ends b (suc n) Square some kind h g = ap (step (Number (Side h Square) (suc n)) g) kind
+bracket_ends b (suc n) Round some kind h g = ap (step (Number (Side h Round) (suc n)) g) kind
+
+pub front_side : (bracket : Bracket) (bytes : List ℕ) (side digits : ℕ) (closed : Bool) → SpellOn (take digits bytes) 0 side → 0 < side
+    → digits < length bytes → Ends (get_or bytes digits 0) bracket side closed → IsFrontSide bracket bytes side (digits + 1) closed
+front_side bracket bytes side digits closed spelled some within ends = record {
+  side_fits = (some, spelled.small);
+  some = omega arith;
+  within = omega (arith, within);
+  leads = λ h g. ap (λ z. onward z (BeforeSide h bracket) g) (take_more bytes digits 0 within)
+      ∙ onward-append (take digits bytes) (get_or bytes digits 0 ∷ []) (BeforeSide h bracket) (at_side h bracket side) g g (spelled.leads h bracket g)
+      ∙ ends h g;
+}
+
+-- one side further in a group
+pub group_within : (bracket : Bracket) (bytes : List ℕ) (taken side len : ℕ) (closed : Bool) → taken ≤ length bytes
+    → IsFrontSide bracket (from taken bytes) side len closed → taken + len ≤ length bytes
+group_within bracket bytes taken side len closed within front =
+    let front' : IsFrontSide bracket (drop taken bytes) side len closed =
+    subst (λ (z : List ℕ). IsFrontSide bracket z side len closed) (from_is_drop taken bytes) front in
+    omega (arith, within, front'.within, length-drop taken bytes)
+
+pub group_further : (bracket : Bracket) (bytes : List ℕ) (taken side len : ℕ) (closed : Bool) (start g h : Gathered)
+    → ((header : Header) → onward (take taken bytes) (BeforeSide header bracket) start ≡ Some (BeforeSide header bracket, g))
+    → IsFrontSide bracket (from taken bytes) side len closed → h ≡ with_last side closed g
+    → (header : Header) → onward (take (taken + len) bytes) (BeforeSide header bracket) start ≡ Some (behind_sides header bracket closed, h)
+group_further bracket bytes taken side len closed start g h so_far front same header =
+    let front' : IsFrontSide bracket (drop taken bytes) side len closed =
+    subst (λ (z : List ℕ). IsFrontSide bracket z side len closed) (from_is_drop taken bytes) front in
+    ap (λ z. onward z (BeforeSide header bracket) start) (take-add taken len bytes)
+    ∙ onward-append (take taken bytes) (take len (drop taken bytes)) (BeforeSide header bracket) (BeforeSide header bracket) start g (so_far header)
+    ∙ front'.leads header g ∙ ap (λ z. Some (behind_sides header bracket closed, z)) (sym same)

@@ -1,0 +1,21 @@
+use Rattle.std.specs.Prelude.{false, true}
+use Rattle.std.proofs.Common.{arith, get_or, subst, sym, ◌∙◌}
+use Rattle.bk_text.specs.declared.reader.Bracket.{Bracket}
+use Rattle.bk_text.proofs.Fronts.{Ends, bracket_ends, comma_ends, front_side}
+use Rattle.bk_text.proofs.sides.front_of.Goals as goal
+
+pub returns-in-Comma : goal.returns-in-Comma
+returns-in-Comma c =
+    front_side c.args.bracket c.args.bytes.now c.side_in_front-side.result.0 c.side_in_front-side.result.1 false c.side_in_front-side.ensures.spelled
+    (omega arith) (omega arith)
+    (comma_ends (get_or c.args.bytes.now c.side_in_front-side.result.1 0) c.side_in_front-side.result.0 c.args.bracket (omega arith)
+    (sym c.kind_of.ensures ∙ c.in-Comma.is))
+
+pub returns-in-Close : goal.returns-in-Close
+returns-in-Close c =
+    front_side c.args.bracket c.args.bytes.now c.side_in_front-side.result.0 c.side_in_front-side.result.1 true c.side_in_front-side.ensures.spelled
+    (omega arith) (omega arith)
+    (subst (λ (z : Bracket). Ends (get_or c.args.bytes.now c.side_in_front-side.result.1 0) z c.side_in_front-side.result.0 true)
+    (sym (c.are_of_one_kind.ensures c.if-are_of_one_kind.true))
+    (bracket_ends (get_or c.args.bytes.now c.side_in_front-side.result.1 0) c.side_in_front-side.result.0 c.in-Close.other (omega arith)
+    (sym c.kind_of.ensures ∙ c.in-Close.is)))

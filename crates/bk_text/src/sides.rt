@@ -1,0 +1,69 @@
+//! Sides of a group that stand in front of bytes, with nothing between a side and the comma or the bracket behind it.
+
+ghost use Rattle.std.specs.Prelude.{[], IfSome, length, take, true, ◌∷◌, ◌≡◌, ◌≤◌};
+ghost use Rattle.bk_text.specs.Onward.{IsFront, SpellOn};
+
+use crate::reader::{Bracket, Kind, kind_of};
+use bk_tiling::LONGEST_SIDE;
+
+/// What stands in front of bytes, before a side of a group.
+pub(crate) enum Front {
+    /// A side and the comma right behind it, so many bytes.
+    Inner { side: u64, len: usize },
+    /// A side and right behind it the bracket that closes the group, so many bytes.
+    Last { side: u64, len: usize },
+    /// Neither.
+    Other,
+}
+
+// What stands in front of the bytes, before a side of a group that such a bracket opened.
+pub(crate) fn front_of(bracket: Bracket, bytes: &[u8]) -> Front
+    ensures { IsFront bracket bytes.now result }
+{
+    let (side, digits) = side_in_front(bytes);
+    if side == 0 || digits >= bytes.len() {
+        return Front::Other;
+    }
+    let len = digits + 1;
+    match kind_of(bytes[digits]) {
+        Kind::Comma => Front::Inner { side, len },
+        Kind::Close(other) if are_of_one_kind(bracket, other) => Front::Last { side, len },
+        _ => Front::Other,
+    }
+}
+
+// Whether two brackets are of one kind.
+fn are_of_one_kind(left: Bracket, right: Bracket) -> bool
+    ensures { result ≡ true → left ≡ right }
+{
+    matches!(
+        (left, right),
+        (Bracket::Square, Bracket::Square) | (Bracket::Round, Bracket::Round)
+    )
+}
+
+// The number of the digits in front that a side goes on with, and how many they are: 0 where there are none.
+fn side_in_front(bytes: &[u8]) -> (u64, usize)
+    ensures within { result.1 ≤ length bytes.now }
+    ensures spelled { SpellOn (take result.1 bytes.now) 0 result.0 }
+{
+    let mut side = 0;
+    for (i, byte) in bytes.iter().enumerate() {
+        match longer_side(side, *byte) {
+            Some(longer) => side = longer,
+            None => return (side, i),
+        }
+    }
+    (side, bytes.len())
+}
+
+// The side behind a further digit, or `None` where the byte is no digit or no side goes on so. Before the first digit it is 0.
+fn longer_side(side: u64, byte: u8) -> Option<u64>
+    ensures { IfSome result (SpellOn (byte ∷ []) side) }
+{
+    match kind_of(byte) {
+        Kind::Digit(digit) if side <= LONGEST_SIDE / 10 => Some(side * 10 + u64::from(digit)),
+        Kind::Zero if side > 0 && side <= LONGEST_SIDE / 10 => Some(side * 10),
+        _ => None,
+    }
+}
