@@ -2,12 +2,16 @@
 """Proves and builds the program `bouwkamp`: each crate that it stands on after those below, as many side by side as there are processors and
 memory.
 
-Says on standard error which crates are being proved, how many are done and how long it has taken. What a crate's check has proved is kept in
-its folder out/, so a build that was stopped goes on where it was. The status is 0 where the program stands in crates/bk_main/out/bk_main.
+Each crate is proved from nothing, by the prover's own command, over the libraries of the crates below. What is proved stays as a library in the
+crate's folder out/rlib/, with a sum of all that it was made from, so a build that was stopped goes on where it was. Says on standard error which
+crates are being proved, how many are done and how long it has taken. The status is 0 where the program stands in crates/bk_main/out/bk_main.
 
     scripts/build.py [--jobs N]
 """
+import fcntl
+import hashlib
 import os
+import shutil
 import subprocess
 import sys
 import threading
@@ -15,52 +19,15 @@ import time
 from concurrent.futures import FIRST_COMPLETED, ThreadPoolExecutor, wait
 
 TOP = os.path.dirname(os.path.dirname(os.path.abspath(__file__)))
-PROGRAM = f"{TOP}/crates/bk_main"
-LOG = f"{PROGRAM}/out/build.log"
+NAME = "bk_main"
+OUT = f"{TOP}/crates/{NAME}/out"
+LOG = f"{OUT}/build.log"
 # What a check may hold in memory, in bytes: with less free, fewer run side by side.
 MEMORY_OF_A_CHECK = 3_000_000_000
-# Lines of text that a processor proves in a second: all crates from nothing took 60 processor minutes, 16 minutes of wall time on four
-# processors. For the time that is told at the start alone.
+# Lines of text that a processor proves in a second. For the time that is told at the start alone.
 LINES_A_SECOND = 30
 # After so many seconds without a crate that is done, a line says what is at work.
 QUIET = 30
-
-
-def crates_below():
-    """Returns the crates that the program stands on, each with those that it names itself, the lowest first."""
-    with open(f"{TOP}/crates.txt", encoding="utf-8") as file:
-        lines = [line.partition("#")[0].partition(":") for line in file]
-    listed = {front.split()[0]: rest.split() for front, _, rest in lines if front.split()}
-    found = {}
-
-    def add(name):
-        below = [it for it in listed[name] if it in listed]
-        for it in below:
-            if it not in found:
-                add(it)
-        found[name] = below
-
-    add("bk_main")
-    del found["bk_main"]
-    return found
-
-
-def lines_of(name):
-    """Returns the number of lines of a crate's sources, definitions and proofs."""
-    files = [f"{folder}/{it}" for part in ("src", "specs", "proofs") for folder, _, found in os.walk(f"{TOP}/crates/{name}/{part}") for it in found]
-    count = 0
-    for it in files:
-        with open(it, "rb") as file:
-            count += sum(1 for _ in file)
-    return count
-
-
-def chains_of(crates, lines):
-    """Returns of each crate how many lines the longest chain of crates has that begins with it and goes up."""
-    chains = {}
-    for name in reversed(crates):
-        chains[name] = lines[name] + max((chains[it] for it in chains if name in crates[it]), default=0)
-    return chains
 
 
 def free_memory():
@@ -73,6 +40,115 @@ def told(seconds):
     """Returns a time as a person writes it."""
     minutes, seconds = divmod(round(seconds), 60)
     return f"{minutes} min {seconds:02} s" if minutes else f"{seconds} s"
+
+
+class Toolchain:
+    """Where the prover, its libraries and its linker lie, and what they are."""
+
+    def __init__(self):
+        self.folder = os.path.dirname(os.path.dirname(os.path.realpath(shutil.which("rt") or "rt")))
+        with open(f"{self.folder}/KIT-ID", "rb") as file:
+            self.identity = file.read()
+
+    def library(self, name):
+        """Returns where a library of the toolchain lies."""
+        return f"{self.folder}/rlibs/{name}.rlib"
+
+    def build(self, crate, *words):
+        """Returns the command that proves a crate and then makes what the words say."""
+        own = [f"--extern={it.name}={it.library}" for it in crate.named]
+        given = [f"--extern={it}={self.library(it)}" for it in ("std", *crate.of_toolchain)]
+        folders = [f"{self.folder}/rlibs", *(os.path.dirname(it.library) for it in crate.below)]
+        return [
+            *(f"{self.folder}/bin/rattle", "build", "--crate-name", crate.name, crate.root, *given, *own),
+            *(f"-Ldependency={it}" for it in folders),
+            *("--antt-project", f"{self.folder}/rattle/logic/antt-project.json", "--logic-built", f"{self.folder}/logic_built"),
+            *("--jobs", "1", "--links", f"{crate.name}=", *words),
+        ]
+
+    def link(self, made, program):
+        """Returns the command that links what was made to a program."""
+        libraries = [f"{self.folder}/c/{it}" for it in ("libos_c.a", "liblibc_c.a")]
+        words = ["--target", "x86_64-unknown-linux-gnu", "--toolchain", f"{self.folder}/toolchain", "-o", program]
+        return [f"{self.folder}/bin/rattle-link", *words, made, *libraries]
+
+
+class Crate:
+    """A crate, those of the repository that its line in crates.txt names, and all below it."""
+
+    def __init__(self, name, named, of_toolchain):
+        self.name, self.named, self.of_toolchain = name, named, of_toolchain
+        self.below = list(dict.fromkeys(it for one in named for it in (*one.below, one)))
+        self.folder = f"{TOP}/crates/{name}"
+        self.root = "src/main.rt" if os.path.exists(f"{self.folder}/src/main.rt") else "src/lib.rt"
+        self.library = f"{self.folder}/out/rlib/{name}.rlib"
+        self.sum, self.lines = None, 0
+        # Of the longest chain of crates that begins with this one and goes up, how many lines it has.
+        self.chain = 0
+
+    def read(self, toolchain):
+        """Counts the crate's lines, and sums up all that its library is made from."""
+        found = hashlib.sha256(toolchain.identity + repr([(it.name, it.sum) for it in self.named]).encode())
+        walked = [os.walk(f"{self.folder}/{part}") for part in ("src", "specs", "proofs")]
+        for file in sorted(f"{folder}/{it}" for part in walked for folder, _, names in part for it in names):
+            with open(file, "rb") as it:
+                text = it.read()
+            found.update(repr((os.path.relpath(file, self.folder), text)).encode())
+            self.lines += text.count(b"\n")
+        self.sum = found.hexdigest()
+
+    def kept(self):
+        """Returns the file with the sum of what the library was made from."""
+        return f"{self.folder}/out/rlib/made_from"
+
+    def is_proved(self):
+        """Returns whether the library stands there, made from what stands there now."""
+        try:
+            with open(self.kept(), encoding="utf-8") as file:
+                return os.path.isdir(self.library) and file.read() == self.sum
+        except OSError:
+            return False
+
+    def prove(self, toolchain):
+        """Proves the crate over the libraries below it. Returns whether it passed, and what was printed."""
+        if self.is_proved():
+            return True, "proved before\n"
+        shutil.rmtree(os.path.dirname(self.library), ignore_errors=True)
+        os.makedirs(os.path.dirname(self.library))
+        passed, text = ran(toolchain.build(self, "--statements", "-o", self.library), self.folder)
+        if passed:
+            with open(self.kept(), "w", encoding="utf-8") as file:
+                file.write(self.sum)
+        return passed, text
+
+
+def ran(command, folder):
+    """Runs a command. Returns whether its status is 0, and what it printed."""
+    how = {"cwd": folder, "stdin": subprocess.DEVNULL, "stdout": subprocess.PIPE, "stderr": subprocess.STDOUT}
+    done = subprocess.run(command, text=True, errors="replace", check=False, **how)
+    return done.returncode == 0, done.stdout
+
+
+def read_crates(toolchain):
+    """Returns the crates that the program stands on, the lowest first, and the program last."""
+    with open(f"{TOP}/crates.txt", encoding="utf-8") as file:
+        lines = [line.partition("#")[0].partition(":") for line in file]
+    listed = {front.split()[0]: rest.split() for front, _, rest in lines if front.split()}
+    found = {}
+
+    def add(name):
+        ours = [it for it in listed[name] if it in listed]
+        for it in ours:
+            if it not in found:
+                add(it)
+        found[name] = Crate(name, [found[it] for it in ours], [it for it in listed[name] if it not in listed])
+        found[name].read(toolchain)
+
+    add(NAME)
+    crates = [*found.values()]
+    for crate in reversed(crates):
+        crate.chain = crate.lines + max((it.chain for it in crates if crate in it.named), default=0)
+    return crates
 
 
 class Progress:
@@ -103,59 +179,58 @@ class Progress:
                 self.tell(self.so_far())
 
 
-def prove_crate(name):
-    """Proves a crate over what is proved below it. Returns whether it passed, and what was printed."""
-    words, folder = ["rt", "lib", "--jobs", "1"], f"{TOP}/crates/{name}"
-    ran = subprocess.run(words, cwd=folder, stdin=subprocess.DEVNULL, stdout=subprocess.PIPE, stderr=subprocess.STDOUT, text=True, check=False)
-    return ran.returncode == 0, ran.stdout
-
-
-def prove(crates, chains, jobs, log, progress):
+def prove(crates, toolchain, jobs, log, progress):
     """Proves these crates, so many side by side, each after those below it, and first those with the longest chains above. Returns whether
     all passed."""
-    waiting, proved, running = sorted(crates, key=chains.get, reverse=True), set(), {}
+    waiting, proved, running = sorted(crates, key=lambda it: -it.chain), set(), {}
     with ThreadPoolExecutor(jobs) as pool:
         while True:
-            ready = [name for name in waiting if proved.issuperset(crates[name])][: jobs - len(running)]
-            running.update({pool.submit(prove_crate, name): name for name in ready})
-            waiting = [name for name in waiting if name not in ready]
+            ready = [it for it in waiting if proved.issuperset(it.named)][: jobs - len(running)]
+            running.update({pool.submit(it.prove, toolchain): it for it in ready})
+            waiting = [it for it in waiting if it not in ready]
             if not running:
                 return not waiting and len(proved) == len(crates)
-            progress.at_work = sorted(running.values())
+            progress.at_work = sorted(it.name for it in running.values())
             for it in wait(running, return_when=FIRST_COMPLETED).done:
-                name, (is_proved, text) = running.pop(it), it.result()
-                log.write(f"== {name}\n{text}")
+                crate, (is_proved, text) = running.pop(it), it.result()
+                log.write(f"== {crate.name}\n{text}")
                 log.flush()
-                proved |= {name} if is_proved else set()
-                progress.at_work = sorted(running.values())
-                progress.is_done(name, is_proved)
+                proved |= {crate} if is_proved else set()
+                progress.at_work = sorted(it.name for it in running.values())
+                progress.is_done(crate.name, is_proved)
 
 
-def build(log):
-    """Builds the program, and runs it once for its help. Returns whether it stands there."""
-    log.flush()
-    ran = subprocess.run(["rt", "run", "--", "help"], cwd=PROGRAM, stdin=subprocess.DEVNULL, stdout=log, stderr=log, check=False)
-    return ran.returncode == 0 and os.access(f"{PROGRAM}/out/bk_main", os.X_OK)
+def build(program, toolchain, log):
+    """Proves, builds and links the program. Returns whether it stands there."""
+    made = f"{OUT}/{NAME}.o"
+    for command in (
+        toolchain.build(program, "--toolchain", f"{toolchain.folder}/toolchain", "-o", made),
+        toolchain.link(made, f"{OUT}/{NAME}"),
+    ):
+        passed, text = ran(command, program.folder)
+        log.write(text)
+        if not passed:
+            return False
+    return os.access(f"{OUT}/{NAME}", os.X_OK)
 
 
 def main(words):
-    crates = crates_below()
-    lines = {name: lines_of(name) for name in crates}
+    toolchain = Toolchain()
+    *crates, program = read_crates(toolchain)
     jobs = int(words[1]) if words[:1] == ["--jobs"] else len(os.sched_getaffinity(0))
     jobs = max(1, min(jobs, free_memory() // MEMORY_OF_A_CHECK))
-    minutes = max(1, round(sum(lines.values()) / LINES_A_SECOND / 60 / jobs))
+    left = sum(it.lines for it in crates if not it.is_proved())
     progress = Progress(len(crates))
     progress.tell(
-        f"proving and building the program, {len(crates)} crates on {jobs} processor{'s' * (jobs > 1)}: about {minutes} minutes from nothing, "
-        "less where parts were proved here before"
+        f"proving and building the program, {len(crates)} crates on {jobs} processor{'s' * (jobs > 1)}: "
+        f"about {max(1, round(left / LINES_A_SECOND / 60 / jobs))} minutes"
     )
-    os.makedirs(f"{PROGRAM}/out", exist_ok=True)
     with open(LOG, "w", encoding="utf-8") as log:
-        if not prove(crates, chains_of(crates, lines), jobs, log, progress):
+        if not prove(crates, toolchain, jobs, log, progress):
             progress.tell(f"not all crates are proved; what the checks printed is in {LOG}")
             return 1
         progress.tell(f"all crates are proved, now the program is built ({progress.so_far()})")
-        if not build(log):
+        if not build(program, toolchain, log):
             progress.tell(f"the build failed; what it printed is in {LOG}")
             return 1
     progress.ended.set()
@@ -164,4 +239,8 @@ def main(words):
 
 
 if __name__ == "__main__":
-    sys.exit(main(sys.argv[1:]))
+    os.makedirs(OUT, exist_ok=True)
+    with open(f"{OUT}/build.lock", "w", encoding="utf-8") as turn:
+        # A second build waits until the first one ends.
+        fcntl.flock(turn, fcntl.LOCK_EX)
+        sys.exit(main(sys.argv[1:]))
