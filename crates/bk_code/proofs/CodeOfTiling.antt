@@ -12,6 +12,7 @@ use Rattle.bk_code.proofs.FlatList.{flat_is_sides}
 use Rattle.bk_code.specs.Code.{Code, code_of}
 use Rattle.bk_code.specs.Kept.{IsKeptCode, IsSideGroup}
 
+-- a tiling's code has a group
 pub code_some : (t : Tiling) → IsTiling t → 0 < length (code_of t)
 code_some t tiling = omega (arith, length-map (square_groups t.squares) (map (λ (q : Square). q.s)), some_group t.squares tiling.tiles.some)
 

@@ -13,6 +13,7 @@ flat_onto_first : (q : Square) (groups : List (List Square)) → flat (map (map 
 flat_onto_first q [] = refl
 flat_onto_first q (group ∷ groups) = refl
 
+-- the sides of squares in groups, laid end to end, are the sides of the squares
 pub flat_groups : (squares : List Square) → flat (map (map (λ q. q.s)) (square_groups squares)) ≡ map (λ q. q.s) squares
 flat_groups [] = refl
 flat_groups (q ∷ []) = refl
@@ -24,9 +25,11 @@ flat_groups (q ∷ r ∷ squares) = cases (stands_beside q r) (flat_groups (r �
     cases true e = flat_onto_first q (square_groups (r ∷ squares)) ∙ ap (λ (sides : List ℕ). q.s ∷ sides) e
     cases false e = ap (λ (sides : List ℕ). q.s ∷ sides) e
 
+-- the flat list of a tiling's code is the list of its sides
 pub flat_is_sides : (t : Tiling) → flat (code_of t) ≡ map (λ q. q.s) t.squares
 flat_is_sides t = flat_groups t.squares
 
+-- two tilings of one width with one flat list are the same
 pub a_flat_list_fixes_a_tiling : AFlatListFixesATiling
 a_flat_list_fixes_a_tiling t u tiling other widths e = same_tiling t u tiling other widths
     (same_rest t u tiling other widths [] t.squares u.squares refl refl (sym (flat_is_sides t) ∙ e ∙ flat_is_sides u))

@@ -28,6 +28,7 @@ onto_sides : (q : Square) (groups : List (List Square)) → map (map (λ q. q.s)
 onto_sides q [] = refl
 onto_sides q (group ∷ groups) = refl
 
+-- a square before others joins the first of their groups where the next square stands beside it, else it is a group of its own
 pub groups_cons : (q r : Square) (squares : List Square) → side_groups (q ∷ r ∷ squares) ≡ before (stands_beside q r) q.s (side_groups (r ∷ squares))
 groups_cons q r squares = cases (stands_beside q r)
   where
@@ -50,6 +51,7 @@ before_some true s [] = omega arith
 before_some true s (group ∷ code) = omega arith
 before_some false s code = omega arith
 
+-- squares have a group
 pub groups_some : (q : Square) (squares : List Square) → 0 < length (side_groups (q ∷ squares))
 groups_some q [] = omega arith
 groups_some q (r ∷ squares) =

@@ -10,10 +10,12 @@ use Rattle.bk_code.specs.Code.{Code, flat, with_side}
 use Rattle.bk_code.specs.Kept.{IsKeptCode, IsSideGroup}
 use Rattle.bk_code.specs.Stored.{AreStarts, IsStored, Rise, groups_at, groups_from}
 
+-- as many places as rise between two numbers lie between them
 pub rise_below : (from : ℕ) (starts : List ℕ) (end : ℕ) → Rise from starts end → from + length starts < end
 rise_below from [] end h = omega (arith, h)
 rise_below from (start ∷ starts) end h = omega (arith, h.0, rise_below start starts end h.1)
 
+-- there are at most as many groups as sides
 pub starts_below : (starts : List ℕ) (end : ℕ) → AreStarts starts end → length starts ≤ end
 starts_below [] end h = omega arith
 starts_below (start ∷ starts) end h = omega (arith, rise_below start starts end h.1)
@@ -37,6 +39,7 @@ from_more from (start ∷ starts) xs ys h =
     let rest : groups_from start (starts ++ length xs ∷ []) (xs ++ ys) ≡ groups_from start starts xs ++ ys ∷ [] = from_more start starts xs ys h.1 in
     λ i. first i ∷ rest i
 
+-- a start at the end of the sides and further sides behind it are a further group
 pub groups_more : (starts xs ys : List ℕ) → AreStarts starts (length xs) → groups_at (starts ++ length xs ∷ []) (xs ++ ys) ≡ groups_at starts xs ++ ys ∷ []
 groups_more [] xs ys h = ap (λ (l : List ℕ). l ∷ []) (drop_at xs ys (length xs) refl)
 groups_more (start ∷ starts) xs ys h = from_more start starts xs ys h.1
@@ -55,6 +58,7 @@ from_side from (start ∷ starts) xs s h = shape starts h.1 (from_side start sta
     shape [] r rest = λ i. first i ∷ rest i
     shape (next ∷ starts) r rest = λ i. first i ∷ rest i
 
+-- a further side with no start goes into the last group
 pub groups_side : (starts xs : List ℕ) (s : ℕ) → 0 < length starts → AreStarts starts (length xs)
     → groups_at starts (xs ++ s ∷ []) ≡ with_side (groups_at starts xs) s
 groups_side [] xs s some h = absurd (omega arith)
@@ -67,6 +71,7 @@ from_flat from (start ∷ starts) xs h =
     let skip : drop start xs ≡ drop (start - from) (drop from xs) = sym (drop-drop (start - from) from xs ∙ ap (λ n. drop n xs) (omega (arith, h.0))) in
     ap (λ (l : List ℕ). slice_range xs from start ++ l) (from_flat start starts xs h.1 ∙ skip) ∙ take-append-drop (start - from) (drop from xs)
 
+-- the groups laid end to end are the sides they are cut from
 pub groups_flat : (starts xs : List ℕ) → AreStarts starts (length xs) → flat (groups_at starts xs) ≡ xs
 groups_flat [] [] h = refl
 groups_flat [] (x ∷ xs) h = absurd (omega (arith, h))
@@ -76,6 +81,7 @@ from_length : (from : ℕ) (starts xs : List ℕ) → length (groups_from from s
 from_length from [] xs = refl
 from_length from (start ∷ starts) xs = omega (arith, from_length start starts xs)
 
+-- there are as many groups as starts
 pub groups_length : (starts xs : List ℕ) → length (groups_at starts xs) ≡ length starts
 groups_length [] xs = refl
 groups_length (start ∷ starts) xs = omega (arith, from_length start starts xs)
@@ -101,6 +107,7 @@ pub flat_more : (code : Code) (group : List ℕ) → flat (code ++ group ∷ [])
 flat_more [] group = append-nil group
 flat_more (first ∷ code) group = ap (λ (l : List ℕ). first ++ l) (flat_more code group) ∙ sym (append_assoc first (flat code) group)
 
+-- a side put into the last group comes last of all
 pub flat_side : (code : Code) (s : ℕ) → 0 < length code → flat (with_side code s) ≡ flat code ++ s ∷ []
 flat_side [] s some = absurd (omega arith)
 flat_side (group ∷ []) s some = append-nil (group ++ s ∷ []) ∙ ap (λ (l : List ℕ). l ++ s ∷ []) (sym (append-nil group))
@@ -175,11 +182,13 @@ after start starts g = ap (λ n. get_or (start ∷ starts) n 0) next
     next : g + 1 ≡ suc g
     next = omega arith
 
+-- a group but the last runs from its start to the next one
 pub group_at : (starts xs : List ℕ) (g : ℕ) → AreStarts starts (length xs) → g + 1 < length starts
     → slice_range xs (get_or starts g 0) (get_or starts (g + 1) 0) ≡ get_or (groups_at starts xs) g []
 group_at [] xs g h l = absurd (omega arith)
 group_at (start ∷ starts) xs g h l = ap (slice_range xs (get_or (start ∷ starts) g 0)) (after start starts g) ∙ from_at start starts xs g h.1 (omega arith)
 
+-- the last group runs from its start to the end
 pub group_last : (starts xs : List ℕ) (g : ℕ) → AreStarts starts (length xs) → g + 1 ≡ length starts
     → slice_range xs (get_or starts g 0) (length xs) ≡ get_or (groups_at starts xs) g []
 group_last [] xs g h e = absurd (omega arith)
@@ -199,6 +208,7 @@ rise_to from starts end zero h l = omega (arith, rise_below from starts end h)
 rise_to from [] end (suc g) h l = absurd (omega arith)
 rise_to from (start ∷ starts) end (suc g) h l = rise_to start starts end g h.1 (omega arith)
 
+-- a start but the last comes before the next one, and that before the end
 pub starts_at : (starts : List ℕ) (end g : ℕ) → AreStarts starts end → g + 1 < length starts
     → (get_or starts g 0 < get_or starts (g + 1) 0) × (get_or starts (g + 1) 0 < end)
 starts_at [] end g h l = absurd (omega arith)
@@ -207,6 +217,7 @@ starts_at (start ∷ starts) end g h l =
     let next : get_or (start ∷ starts) (g + 1) 0 ≡ get_or starts g 0 = after start starts g in
     (omega (arith, both.0), omega (arith, both.1))
 
+-- each start comes before the end
 pub starts_to : (starts : List ℕ) (end g : ℕ) → AreStarts starts end → g < length starts → get_or starts g 0 < end
 starts_to [] end g h l = absurd (omega arith)
 starts_to (start ∷ starts) end g h l = rise_to start starts end g h.1 (omega arith)
@@ -215,12 +226,15 @@ starts_to (start ∷ starts) end g h l = rise_to start starts end g h.1 (omega a
 pub sides_count : (starts xs : List ℕ) (code : Code) → IsStored starts xs → groups_at starts xs ≡ code → length xs ≡ length (flat code)
 sides_count starts xs code stored view = ap length (sym (groups_flat starts xs stored.starts_rise)) ∙ ap (λ (c : Code). length (flat c)) view
 
+-- a stored code has as many groups as starts
 pub starts_count : (starts xs : List ℕ) (code : Code) → groups_at starts xs ≡ code → length starts ≡ length code
 starts_count starts xs code view = sym (groups_length starts xs) ∙ ap (λ (c : Code). length c) view
 
+-- where a code has fewer than 200 sides, so has what is stored of it
 pub sides_room : (starts xs : List ℕ) (code : Code) → IsStored starts xs → groups_at starts xs ≡ code → length (flat code) < 200 → length xs < 200
 sides_room starts xs code stored view room = omega (arith, sides_count starts xs code stored view)
 
+-- and fewer than 200 starts
 pub starts_room : (starts xs : List ℕ) (code : Code) → IsStored starts xs → groups_at starts xs ≡ code → length (flat code) < 200 → length starts < 200
 starts_room starts xs code stored view room = omega (arith, sides_count starts xs code stored view, starts_below starts (length xs) stored.starts_rise)
 
@@ -230,6 +244,7 @@ group_good [] g good l = absurd (omega arith)
 group_good (group ∷ code) zero good l = good.0
 group_good (group ∷ code) (suc g) good l = group_good code g good.1 (omega arith)
 
+-- where each group has sides that a square may have, so has the flat list
 pub flat_good : (code : Code) → AllByRecursion IsSideGroup code → AllByRecursion IsSide (flat code)
 flat_good [] good = tt
 flat_good (group ∷ code) good = all_append IsSide group (flat code) good.0.1 (flat_good code good.1)

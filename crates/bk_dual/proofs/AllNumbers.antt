@@ -14,16 +14,10 @@ use Rattle.bk_tiling.specs.Tiling.{IsOneOf, Tiling, order}
 use Rattle.bk_tiling.specs.declared.Square.{Square}
 use Rattle.bk_sym.specs.Image.{image, image_square}
 use Rattle.bk_sym.specs.declared.Turn.TheVariants.{Swap}
+use Rattle.bk_laws.proofs.Counts.{count_by-map}
 use Rattle.bk_dual.proofs.Numbers.{earlier_stands_apart, first_within, from_image, stands_at, stands_itself}
 use Rattle.bk_dual.specs.Dual.{dual_order, number_at}
 use Rattle.bk_dual.specs.DualWires.{exchanged}
-
--- a count over what is made of a list
-count-map : {A B : Type 0} (p : B → Bool) (f : A → B) (xs : List A) → count_by p (map f xs) ≡ count_by (λ x. p (f x)) xs
-count-map p f [] = refl
-count-map {A} {B} p f (x ∷ xs) = sum_by-cons (λ (y : B). cond {A = ℕ} (p y) 1 0) (f x) (map f xs)
-    ∙ ap (λ (n : ℕ). cond {A = ℕ} (p (f x)) 1 0 + n) (count-map p f xs)
-    ∙ sym (sum_by-cons (λ (y : A). cond {A = ℕ} (p (f y)) 1 0) x xs)
 
 count_first : (n x : ℕ) (xs : List ℕ) → count_by (λ m. m == n) (x ∷ xs) ≡ cond {A = ℕ} (x == n) 1 0 + count_by (λ m. m == n) xs
 count_first n x xs = sum_by-cons (λ (m : ℕ). cond {A = ℕ} (m == n) 1 0) x xs
@@ -98,10 +92,10 @@ module _ (t : Tiling) (ordered : InCodeOrder t.squares) where
   -- each number once
   pub each_number_once : (n : ℕ) → 0 < n → n ≤ order t → count_by (λ m. m == n) (dual_order t) ≡ 1
   each_number_once n some most =
-      count-map (λ m. m == n) (λ (q : Square). number_at t q.y q.x) (image Swap t).squares
+      count_by-map (λ m. m == n) (λ (q : Square). number_at t q.y q.x) (image Swap t).squares
       ∙ in_code_order-count (λ q. number_at t q.y q.x == n) (map (image_square Swap t.width t.height) t.squares)
-      ∙ count-map (λ (q : Square). number_at t q.y q.x == n) (image_square Swap t.width t.height) t.squares
-      ∙ sym (count-map (λ m. m == n) (λ (q : Square). number_at t q.x q.y) t.squares)
+      ∙ count_by-map (λ (q : Square). number_at t q.y q.x == n) (image_square Swap t.width t.height) t.squares
+      ∙ sym (count_by-map (λ m. m == n) (λ (q : Square). number_at t q.x q.y) t.squares)
       ∙ count_once n 1 (map (λ q. number_at t q.x q.y) t.squares) counts_on (omega (arith, some))
       (omega (arith, most, length-map t.squares (λ (q : Square). number_at t q.x q.y)))
 

@@ -35,6 +35,7 @@ grows v (d ∷ ds) =
     let power : 10 ^ length (d ∷ ds) ≡ 10 ^ length ds * 10 = ap (λ k. 10 ^ k) more ∙ pow_more 10 (length ds) in
     tenfold v (digit_value d) (10 ^ length ds) (10 ^ length (d ∷ ds)) (digits_value_after 10 (v * 10 + digit_value d) ds) power next
 
+-- greater powers of 10
 pub powers : (i j : ℕ) → i ≤ j → 10 ^ i ≤ 10 ^ j
 powers i j h = pow-le-pow_right {n = 10} (omega arith) {i = i} {j = j} h
 
@@ -51,6 +52,7 @@ number_read most greatest b d n ds bound fits some small is longer =
     let total : digits_value_after 10 (0 * 10 + digit_value b) ds ≡ n = ap (λ v. digits_value_after 10 v ds) first ∙ longer.1 in
     ((omega arith, (omega arith, longer.0)), omega arith, (λ e. omega arith), total)
 
+-- further digits make no number less
 pub value_grows : (v : ℕ) (ds : List ℕ) → v ≤ digits_value_after 10 v ds
 value_grows v [] = omega arith
 value_grows v (d ∷ ds) = omega (arith, value_grows (v * 10 + digit_value d) ds)

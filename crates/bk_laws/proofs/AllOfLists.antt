@@ -14,6 +14,7 @@ pub all_left : {A : Type 0} (P : A → Type 0) (xs ys : List A) → AllByRecursi
 all_left P [] ys all = tt
 all_left P (x ∷ xs) ys all = (all.0, all_left P xs ys all.1)
 
+-- what holds of each element of two lists laid end to end holds of each of the second
 pub all_right : {A : Type 0} (P : A → Type 0) (xs ys : List A) → AllByRecursion P (xs ++ ys) → AllByRecursion P ys
 all_right P [] ys all = all
 all_right P (x ∷ xs) ys all = all_right P xs ys all.1

@@ -1,6 +1,6 @@
 -- How many elements of a list pass a test, from the places of those that do.
 use Rattle.std.specs.Prelude.{Bool, List, [], cond, count_by, get_or, length, suc, true, zero, ℕ, ◌<◌, ◌∷◌, ◌≡◌, ◌≤◌}
-use Rattle.std.proofs.Common.{ap, arith}
+use Rattle.std.proofs.Common.{ap, arith, map, refl, sym, ◌+◌, ◌∙◌}
 use Rattle.std.proofs.lemmas.List.Sums.{get_or-le-sum_by, sum_by-cons}
 
 -- one that passes is counted
@@ -20,3 +20,10 @@ count_two p (x ∷ xs) zero (suc b) d ab l t u =
 count_two p (x ∷ xs) (suc a) zero d ab l t u = absurd (omega arith)
 count_two p (x ∷ xs) (suc a) (suc b) d ab l t u =
     omega (arith, count_two p xs a b d (omega arith) (omega arith) t u, sum_by-cons (λ y. cond (p y) 1 0) x xs)
+
+-- a test of the mapped elements counts those whose image passes
+pub count_by-map : {A B : Type 0} (p : B → Bool) (f : A → B) (xs : List A) → count_by p (map f xs) ≡ count_by (λ x. p (f x)) xs
+count_by-map p f [] = refl
+count_by-map {A} {B} p f (x ∷ xs) = sum_by-cons (λ (y : B). cond {A = ℕ} (p y) 1 0) (f x) (map f xs)
+    ∙ ap (λ (n : ℕ). cond {A = ℕ} (p (f x)) 1 0 + n) (count_by-map p f xs)
+    ∙ sym (sum_by-cons (λ (y : A). cond {A = ℕ} (p (f y)) 1 0) x xs)

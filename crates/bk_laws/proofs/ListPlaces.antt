@@ -1,5 +1,7 @@
 -- What stands at a place of a list: in lists laid end to end, and in a mapped list.
-use Rattle.std.proofs.Common.{List, None, Some, [], ap, arith, length, map, refl, slice_get, slice_index_or, suc, zero, ℕ, ◌++◌, ◌+◌, ◌<◌, ◌∷◌, ◌≡◌}
+use Rattle.std.specs.List.{refill}
+use Rattle.std.proofs.Common.{List, None, Some, [], ap, append-nil, arith, drop_of_length-le, length, map, refl, slice_get, slice_index_or, suc, take, take_all}
+use Rattle.std.proofs.Common.{zero, ℕ, ◌++◌, ◌+◌, ◌<◌, ◌∙◌, ◌∷◌, ◌≡◌}
 
 -- there is an element at each place below the length
 pub get_some : {A : Type 0} (xs : List A) (k : ℕ) → k < length xs → (x : A) × (slice_get xs k ≡ Some x)
@@ -42,6 +44,7 @@ get_front [] ys k d h = absurd (omega arith)
 get_front (x ∷ xs) ys zero d h = refl
 get_front (x ∷ xs) ys (suc k) d h = get_front xs ys k d (omega arith)
 
+-- of two lists laid end to end, what stands behind all of the first is what the second has there
 pub get_back : {A : Type 0} (xs ys : List A) (k j : ℕ) (d : A) → j ≡ length xs + k → slice_index_or (xs ++ ys) j d ≡ slice_index_or ys k d
 get_back [] ys k j d e = λ i. slice_index_or ys (same i) d
   where
@@ -49,3 +52,27 @@ get_back [] ys k j d e = λ i. slice_index_or ys (same i) d
     same = omega arith
 get_back (x ∷ xs) ys k zero d e = absurd (omega arith)
 get_back (x ∷ xs) ys k (suc j) d e = get_back xs ys k j d (omega arith)
+
+-- what stands at a place, by either way of reading it
+pub index_got : (xs : List ℕ) (k x : ℕ) → slice_get xs k ≡ Some x → slice_index_or xs k 0 ≡ x
+index_got [] k x e = absurd (cc)
+index_got (y ∷ xs) zero x e = cc
+index_got (y ∷ xs) (suc k) x e = index_got xs k x e
+
+-- a place within a list has an item
+pub got_index : (xs : List ℕ) (k : ℕ) → k < length xs → slice_get xs k ≡ Some (slice_index_or xs k 0)
+got_index [] k h = absurd (omega arith)
+got_index (y ∷ xs) zero h = refl
+got_index (y ∷ xs) (suc k) h = got_index xs k (omega arith)
+
+-- what is got stands within the list
+pub got_low : (xs : List ℕ) (k x : ℕ) → slice_get xs k ≡ Some x → k < length xs
+got_low [] k x e = absurd (cc)
+got_low (y ∷ xs) zero x e = omega arith
+got_low (y ∷ xs) (suc k) x e = omega (arith, got_low xs k x e)
+
+-- a list after a part of it was lent and written is what was written
+pub refilled : {X : Type 0} (old written : List X) → length written ≡ length old → refill (length old) old written ≡ written
+refilled {X = X} old written e =
+    ap (λ (rest : List X). take (length old) (written ++ rest)) (drop_of_length-le old (omega (arith, e)))
+    ∙ ap (take (length old)) (append-nil written) ∙ take_all (length old) written (omega (arith, e))

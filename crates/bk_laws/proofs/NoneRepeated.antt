@@ -1,5 +1,5 @@
 -- Lists of which no element stands twice: they are no longer than a list that has all of their elements.
-use Rattle.std.proofs.Common.{List, [], ap, arith, inl, inr, length, refl, subst, suc, sym, ◌+◌, ◌∙◌, ◌∷◌, ◌≡◌, ◌≤◌, ◌⊎◌}
+use Rattle.std.proofs.Common.{List, [], ap, arith, inl, inr, length, refl, subst, suc, sym, ◌∙◌, ◌∷◌, ◌≡◌, ◌≤◌, ◌⊎◌}
 
 -- the element stands in the list
 abbrev pub IsIn : {A : Type 0} → A → List A → Type 0
@@ -37,6 +37,7 @@ without {A} x (y ∷ ys) (inr h) = onto (without x ys h)
         others z (inl e) = inr (inl e)
         others z (inr k) = next z (w.others z k)
 
+-- a list without repetition is no longer than one that has all of its elements
 pub no_longer : {A : Type 0} (xs more : List A) → NoneRepeated xs → ((x : A) → IsIn x xs → IsIn x more) → length xs ≤ length more
 no_longer [] more none f = omega arith
 no_longer {A} (x ∷ xs) more none f = let w = without x more (f x (inl refl)) in

@@ -17,6 +17,7 @@ pub times-append : (m : ℕ) (front back : List ℕ) → times m (front ++ back)
 times-append m [] back = omega arith
 times-append m (n ∷ front) back = omega (arith, times-append m front back)
 
+-- how often a number stands in lists laid end to end is the sum of both counts
 pub times_in-append : (m : ℕ) (front back : List (List ℕ)) → times_in m (front ++ back) ≡ times_in m front + times_in m back
 times_in-append m [] back = omega arith
 times_in-append m (numbers ∷ front) back = omega (arith, times_in-append m front back)

@@ -35,8 +35,14 @@ after_of false b e f = absurd (impossible f)
 pub shift : (a v : ℕ) → ◌≡◌ {A = ℕ} (cond (nat_eq (1 + a) (suc v)) 1 0) (cond (nat_eq a v) 1 0)
 shift a v = grind (arith, nat_tests)
 
+-- 0 is no successor
 pub far : (v : ℕ) → ◌≡◌ {A = ℕ} (cond (nat_eq 0 (suc v)) 1 0) 0
 far v = grind (arith, nat_tests)
 
+-- and no successor is 0
 pub near : (a : ℕ) → ◌≡◌ {A = ℕ} (cond (nat_eq (1 + a) 0) 1 0) 0
 near a = grind (arith, nat_tests)
+
+-- two numbers are equal or not
+pub same_or_other : (m n : ℕ) → (m ≡ n) ⊎ (m ≡ n → ⊥)
+same_or_other m n = grind arith

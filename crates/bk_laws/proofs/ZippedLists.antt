@@ -32,6 +32,7 @@ zip_before R [] x ys us z = tt
 zip_before R (w ∷ xs) x ys [] z = absurd z
 zip_before R (w ∷ xs) x ys (u ∷ us) z = (z.0, zip_before R xs x ys us z.1)
 
+-- an element and the one at its place in the other list are related
 pub zip_at : {A B : Type 0} (R : A → B → Type 0) (xs : List A) (x : A) (ys : List A) (us : List B) (d : B)
     → AllZip R (xs ++ x ∷ ys) us → R x (slice_index_or us (length xs) d)
 zip_at R [] x ys [] d z = absurd z
@@ -39,6 +40,7 @@ zip_at R [] x ys (u ∷ us) d z = z.0
 zip_at R (w ∷ xs) x ys [] d z = absurd z
 zip_at R (w ∷ xs) x ys (u ∷ us) d z = zip_at R xs x ys us d z.1
 
+-- and so are the lists behind them
 pub zip_after : {A B : Type 0} (R : A → B → Type 0) (xs : List A) (x : A) (ys : List A) (us : List B)
     → AllZip R (xs ++ x ∷ ys) us → AllZip R ys (drop (suc (length xs)) us)
 zip_after R [] x ys [] z = absurd z

@@ -1,5 +1,5 @@
 -- What is laid of the rectangle 3x2 after its first move, and the outline that depicts it.
-use Rattle.std.proofs.Common.{List, [], arith, lit<, refl, ◌∷◌}
+use Rattle.std.proofs.Common.{[], lit<, refl, ◌∷◌}
 use Rattle.bk_tiling.proofs.ExampleTilings.{rectangle_3x2, square_at}
 use Rattle.bk_tiling.proofs.TilingTest.{tiling_from_test}
 use Rattle.bk_tiling.specs.Tiling.{IsTiling}

@@ -16,6 +16,7 @@ use Rattle.bk_lay.specs.Depiction.{FillsFromTop}
 use Rattle.bk_lay.specs.TilingWord.{IsLeftmostValley, hangs_under, squares_under}
 use Rattle.bk_lay.specs.WordLaws.{ValleyIsFilled}
 
+-- the square hangs at the valley's level and within its columns
 pub record IsUnder (v : Segment) (q : Square) : Type 0 where
   pub level : q.y ≡ v.level
   pub left : v.x ≤ q.x

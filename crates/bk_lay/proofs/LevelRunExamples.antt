@@ -15,9 +15,11 @@ square x y s = record { x = x; y = y; s = s }
 abbrev run : ℕ → ℕ → ℕ → Run
 run x end level = record { x = x; end = end; level = level }
 
+-- the squares 25, 17 and 23 side by side
 abbrev pub three_squares : List Square
 three_squares = square 0 0 25 ∷ square 25 0 17 ∷ square 42 0 23 ∷ []
 
+-- the outline under them
 abbrev pub the_outline : Outline
 the_outline = record { left = record { items = run 0 25 25 ∷ [] }; valley = run 25 42 17; right = record { items = run 42 65 23 ∷ [] } }
 
@@ -30,6 +32,7 @@ run_by_test laid r some e = record {
       (omega arith));
 }
 
+-- it is their outline in a rectangle of width 65
 pub outline_of_three : IsOutline 65 three_squares the_outline
 outline_of_three = record {
   runs = record {
@@ -50,5 +53,6 @@ outline_of_three = record {
 pub runs_of_three : runs_under three_squares ≡ run 42 65 23 ∷ run 25 42 17 ∷ run 0 25 25 ∷ []
 runs_of_three = refl
 
+-- from right to left, the last run is at level 25
 pub last_of_three : last_level (runs_under three_squares) ≡ 25 ∷ []
 last_of_three = refl

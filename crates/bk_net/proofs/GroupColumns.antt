@@ -15,8 +15,9 @@ use Rattle.bk_tiling.proofs.TilingGroups.{one_there}
 use Rattle.bk_tiling.specs.SquareGroups.{square_groups}
 use Rattle.bk_net.proofs.GroupSquares.{begins_below, first_in, get_index, group_of, in_group, square_at, top_of}
 use Rattle.bk_net.proofs.NodeBelow.{below_from, below_to, place}
-use Rattle.bk_net.proofs.SmithLists.{all_cols-are, cols, cols_all, cols_none, in_is_cols, in_is_none, in_total, out_at, out_total}
+use Rattle.bk_net.proofs.SmithLists.{in_total, out_at, out_total}
 use Rattle.bk_net.specs.Diagram.{node_below}
+use Rattle.bk_net.proofs.ColumnSums.{cols, all_cols-are, cols_none, cols_all, in_is_cols, in_is_none}
 
 module _ (t : Tiling) (tiling : IsTiling t) (v : ℕ) (g : List Square) (e : slice_get (square_groups t.squares) v ≡ Some g) where
   abbrev row : IsRow t.squares g

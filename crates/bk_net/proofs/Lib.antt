@@ -5,12 +5,14 @@ pub mod Joining
 -- the Smith diagram of a tiling: its groups, the node below each square, and that the sides are its one flow
 pub mod DiagramExamples
 pub mod SmithLists
+pub mod ColumnSums
 pub mod GroupSquares
 pub mod NodeBelow
 pub mod GroupColumns
 pub mod SidesFlow
 -- what the code reads off the squares: levels and numbers of the groups, and the wires
 pub mod Hanging
+pub mod SquareNumbers
 pub mod NodeNumbers
 -- network lines: what is written is read, and what was read is written
 pub mod NetLineExamples

@@ -17,6 +17,7 @@ use Rattle.bk_net.proofs.NetLinesMeant.{read_is_line}
 use Rattle.bk_net.proofs.NetStopping.{Leads, leads_on, read_whole, stops_at, stops_at_end}
 use Rattle.bk_net.proofs.ReadingAll.{line_at, line_of}
 
+-- the bytes read so far lead to this place with these wires, of which the first are kept
 pub record Progress (front : List ℕ) (p : Place) (kept : List (ℕ × ℕ)) (many : Bool) : Type 0 where
   pub all : List (ℕ × ℕ)
   pub leads : Leads front p all

@@ -1,6 +1,6 @@
 -- The node below a square: it is the bottom, or the one group that begins at the level at which the square ends.
 use Rattle.std.proofs.Common.{Bool, List, Some, [], ap, arith, cond, count_by, false, inl, inr, length, nat_eq, refl, slice_get, slice_index_or}
-use Rattle.std.proofs.Common.{subst, sym, true, ℕ, ◌&&◌, ◌+◌, ◌-◌, ◌<◌, ◌∙◌, ◌∷◌, ◌≡◌, ◌≤◌, ◌⊎◌}
+use Rattle.std.proofs.Common.{subst, sym, true, ℕ, ◌&&◌, ◌+◌, ◌<◌, ◌∙◌, ◌∷◌, ◌≡◌, ◌≤◌, ◌⊎◌}
 use Rattle.std.proofs.lemmas.Bool.{cases_lt}
 use Rattle.std.proofs.lemmas.Bool.Decides.{nat_tests}
 use Rattle.bk_laws.proofs.ListPlaces.{get_some}
@@ -19,6 +19,7 @@ use Rattle.bk_net.specs.Diagram.{group_level, node_below}
 pub below_from : (q r : Square) → r.y ≡ q.y + q.s → r.x ≤ q.x → q.x < r.x + r.s → (nat_eq r.y (q.y + q.s) && covers_column q.x r) ≡ true
 below_from q r a b c = grind (arith, nat_tests)
 
+-- a square begins at the level at which q ends, and over q's left column
 pub record IsBelow (q r : Square) : Type 0 where
   pub level : r.y ≡ q.y + q.s
   pub left : r.x ≤ q.x

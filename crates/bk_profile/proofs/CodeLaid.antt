@@ -65,6 +65,7 @@ positive : (sides : List ℕ) → AllByRecursion IsSide sides → AllByRecursion
 positive [] good = tt
 positive (s ∷ sides) good = (good.0.0, positive sides good.1)
 
+-- groups of sides that a square may have are groups of positive sides
 pub are_groups : (code : Code) → AllByRecursion IsSideGroup code → AreGroups code
 are_groups [] good = tt
 are_groups (group ∷ code) good = ((good.0.0, positive group good.0.1), are_groups code good.1)
@@ -92,6 +93,7 @@ kept_even p least greatest out low high even narrow small = record {
     count : length p.squares ≡ 0 + length (flat out.code)
     count = lays_length p.width [] out.code p.squares out.lays
 
+-- the sum of sides is at least their number, and at most that many times the longest side
 pub sum_bounds : (sides : List ℕ) → AllByRecursion IsSide sides → (sum sides ≤ length sides * 999_999_999_999_999) × (length sides ≤ sum sides)
 sum_bounds [] good = (omega arith, omega arith)
 sum_bounds (s ∷ sides) good =

@@ -199,5 +199,6 @@ lays t tiling (g ∷ groups) laid is all = (
       (lays t tiling groups (laid ++ g) (is ∙ sym (append_assoc laid g (row_of groups))) all.1),
 )
 
+-- the groups of a tiling's code fit one after another, and its squares are what is laid
 pub a_code_is_laid : ACodeIsLaid
 a_code_is_laid t tiling = lays t tiling (square_groups t.squares) [] (sym (groups_row t.squares)) (all_groups t tiling)

@@ -37,6 +37,7 @@ pub record Dividing (width : ℕ) (sides : List ℕ) (number : ℕ) (p : Laid) (
   pub good : AllByRecursion IsSideGroup code
   pub goes_on : (more : Code) → Divides width p.squares rest more → Divides width [] sides (code ++ more)
 
+-- before the first group all sides are left
 pub first_turn : (width : ℕ) (sides : List ℕ) (p : Laid) → p ≡ record { width = width; squares = [] } → Dividing width sides 1 p sides
 first_turn width sides p new = subst (λ (q : Laid). Dividing width sides 1 q sides) (sym new)
     (record { code = []; width_is = refl; lays = refl; number_is = refl; flat_is = refl; good = tt; goes_on = λ more d. d })
@@ -220,6 +221,7 @@ pub some_left : (sides : List ℕ) (b : Bool) → b ≡ (length sides == 0) → 
 some_left [] b e f = absurd (true≢false (sym e ∙ f))
 some_left (s ∷ sides) b e f = omega arith
 
+-- where the test says so, no side is left
 pub none_left : (sides : List ℕ) (b : Bool) → b ≡ (length sides == 0) → b ≡ true → sides ≡ []
 none_left [] b e f = refl
 none_left (s ∷ sides) b e f = absurd (omega (arith, eqb-true (length (s ∷ sides)) 0 (sym e ∙ f)))

@@ -6,21 +6,27 @@ use Rattle.bk_tiling.specs.declared.Square.{Square}
 use Rattle.bk_profile.proofs.GapTest.{by_tests}
 use Rattle.bk_profile.specs.Gap.{Divides, Fits, IsGap, fits, misfit, next_group, with_group}
 
+-- a segment by its left edge, its width and its level
 abbrev pub segment : ℕ → ℕ → ℕ → Segment
 segment x width level = record { x = x; width = width; level = level }
 
+-- the group 18, 15
 abbrev pub one_group : List Square
 one_group = with_group [] (segment 0 33 0) (18 ∷ 15 ∷ [])
 
+-- and 7, 8 under 15
 abbrev pub two_groups : List Square
 two_groups = with_group one_group (segment 18 15 15) (7 ∷ 8 ∷ [])
 
+-- and 14, 4 under 18
 abbrev pub three_groups : List Square
 three_groups = with_group two_groups (segment 0 18 18) (14 ∷ 4 ∷ [])
 
+-- the third gap is over the first 18 columns, at level 18
 pub third_gap : IsGap 33 two_groups (segment 0 18 18)
 third_gap = by_tests _ _ _ refl refl refl refl refl refl
 
+-- a side of 10 doesn't fit a gap of 11
 pub ten_is_not_eleven : Fits (segment 14 11 22) (10 ∷ []) → ⊥
 ten_is_not_eleven h = omega arith
 
@@ -32,9 +38,11 @@ fourth_does_not_fit =
     (fits (10 ∷ []) (segment 0 18 18) (by_tests _ _ _ refl refl refl refl refl refl) refl refl refl
     (misfit (segment 14 11 22) (by_tests _ _ _ refl refl refl refl refl refl) refl (λ h. absurd (omega arith)))))
 
+-- after two groups, the first column is filled to level 18
 pub depths : depth two_groups 0 ≡ 18
 depths = refl
 
+-- and the column 24 to level 22
 pub depths_right : depth two_groups 24 ≡ 22
 depths_right = refl
 
@@ -42,8 +50,10 @@ depths_right = refl
 pub first_group : next_group 33 (18 ∷ 15 ∷ 7 ∷ 8 ∷ []) ≡ 18 ∷ 15 ∷ []
 first_group = refl
 
+-- where the sides end before the gap is full, all of them are the next group
 pub all_that_is_left : next_group 11 (10 ∷ []) ≡ 10 ∷ []
 all_that_is_left = refl
 
+-- a group goes on to the side that reaches or passes the gap's width
 pub too_much : next_group 32 (18 ∷ 15 ∷ 7 ∷ []) ≡ 18 ∷ 15 ∷ []
 too_much = refl

@@ -17,6 +17,7 @@ pub record PassesAsGap (width : ℕ) (laid : List Square) (v : Segment) : Type 0
   pub before : all_below (λ c. nat_lt v.level (depth laid c)) v.x ≡ true
   pub after : not (nat_lt (v.x + v.width) width) || nat_lt v.level (depth laid (v.x + v.width)) ≡ true
 
+-- what passes the test is the gap
 pub passes_as_gap : (width : ℕ) (laid : List Square) (v : Segment) → PassesAsGap width laid v → IsGap width laid v
 passes_as_gap width laid v p = record {
   flat = flat;
@@ -39,6 +40,7 @@ passes_as_gap width laid v p = record {
           (each_below (λ k. nat_eq (depth laid (v.x + k)) v.level) v.width p.level (c - v.x) (omega arith));
     }
 
+-- the test by its six parts, each computed
 abbrev pub by_tests : (width : ℕ) (laid : List Square) (v : Segment) → nat_lt 0 v.width ≡ true → nat_le (v.x + v.width) width ≡ true
     → all_below (λ k. nat_eq (depth laid (v.x + k)) v.level) v.width ≡ true
     → all_below (λ c. nat_le v.level (depth laid c)) width ≡ true → all_below (λ c. nat_lt v.level (depth laid c)) v.x ≡ true

@@ -46,11 +46,13 @@ under_level new x y [] at = tt
 under_level new x y (s ∷ sides) at =
     (λ c l h. at (record { x = x; y = y; s = s }) (inl refl) c l h, under_level new (x + s) y sides (λ q k c l h. at q (inr k) c l h))
 
+-- level runs under sides are as wide as the sides together
 pub width_under : (level : ℕ) (sides : List ℕ) → width_of (runs_under level sides) ≡ sum sides
 width_under level [] = refl
 width_under level (s ∷ sides) =
     omega (arith, sum_by-cons (λ (r : Run). r.width) (run_under level s) (runs_under level sides), sum_by-cons (λ (n : ℕ). n) s sides, width_under level sides)
 
+-- there is a run for each side
 pub length_under : (level : ℕ) (sides : List ℕ) → length (runs_under level sides) ≡ length sides
 length_under level sides = length-map sides (run_under level)
 

@@ -100,6 +100,7 @@ pub record IsLaid (w : ℕ) (laid : List Square) (code : Code) : Type 0 where
   pub groups : side_groups laid ≡ code
   pub closed : (q : Square) → IsLast laid q → q.x + q.s < w → q.y < depth laid (q.x + q.s)
 
+-- nothing is laid, and no group
 pub laid_none : (w : ℕ) → IsLaid w [] []
 laid_none w = record { filled = λ c j a b. absurd (omega arith); stands = λ q h. absurd h; ordered = tt; groups = refl; closed = λ q h. absurd h }
 
@@ -201,6 +202,7 @@ module _ (w : ℕ) (laid : List Square) (code : Code) (gap : Segment) (group : L
 abbrev pub AreGroups : Code → Type 0
 AreGroups code = AllByRecursion (λ group. (0 < length group) × AllByRecursion (λ s. 0 < s) group) code
 
+-- groups that fit one after another are the groups of what is laid
 pub laid_groups : (w : ℕ) (laid : List Square) (done code : Code) (end : List Square) → IsLaid w laid done → AreGroups code → LaysTo w laid code end
     → IsLaid w end (done ++ code)
 laid_groups w laid done [] end is_laid good lays =

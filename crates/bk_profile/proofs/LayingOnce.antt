@@ -35,6 +35,7 @@ not_shorter w laid g h a b e f = cases (cases_lt g.width h.width)
         absurd (omega (arith, a.ends (omega (arith, (b.flat).within, c, f)), (b.flat).level (g.x + g.width) (omega (arith, f)) (omega (arith, f, c)), e))
     cases (inr c) = c
 
+-- what is laid has at most one gap
 pub gap_unique : (w : ℕ) (laid : List Square) (g h : Segment) → IsGap w laid g → IsGap w laid h → g ≡ h
 gap_unique w laid g h a b = λ i. record { x = x i; width = width i; level = level i }
   where
@@ -76,12 +77,14 @@ pub record Halves (w : ℕ) (laid : List Square) (code more : Code) (end : List 
   pub first : LaysTo w laid code middle
   pub second : LaysTo w middle more end
 
+-- laying a code in two parts
 pub lays_split : (w : ℕ) (laid : List Square) (code more : Code) (end : List Square) → LaysTo w laid (code ++ more) end → Halves w laid code more end
 lays_split w laid [] more end lays = record { middle = laid; first = refl; second = lays }
 lays_split w laid (group ∷ code) more end (gap, is, fits, lays) =
     let rest : Halves w (with_group laid gap group) code more end = lays_split w (with_group laid gap group) code more end lays in
     record { middle = rest.middle; first = (gap, is, fits, rest.first); second = rest.second }
 
+-- laying a code lays a square for each of its sides
 pub lays_length : (w : ℕ) (laid : List Square) (code : Code) (end : List Square) → LaysTo w laid code end → length end ≡ length laid + length (flat code)
 lays_length w laid [] end lays = omega (arith, ap length lays)
 lays_length w laid (group ∷ code) end (gap, is, fits, lays) =
@@ -97,6 +100,7 @@ group_good : (x y : ℕ) (sides : List ℕ) → AllByRecursion IsSide sides → 
 group_good x y [] good = tt
 group_good x y (s ∷ sides) good = (good.0, group_good (x + s) y sides good.1)
 
+-- where all sides are ones that a square may have, so are those of the squares
 pub lays_sides : (w : ℕ) (laid : List Square) (code : Code) (end : List Square) → AllByRecursion IsSideGroup code → LaysTo w laid code end
     → AllByRecursion (λ q. IsSide q.s) laid → AllByRecursion (λ q. IsSide q.s) end
 lays_sides w laid [] end good lays sides = subst (AllByRecursion (λ q. IsSide q.s)) lays sides

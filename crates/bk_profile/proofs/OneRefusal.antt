@@ -19,6 +19,7 @@ pub record Stops (w : ℕ) (laid : List Square) (before : Code) (group : List �
   pub is_gap : IsGap w end gap
   pub misfit : Fits gap group → ⊥
 
+-- two misfits of a code are one: the same groups before, the same group, the same gap
 pub record Same (before other : Code) (group group2 : List ℕ) (gap gap2 : Segment) : Type 0 where
   pub places : length before ≡ length other
   pub groups : group ≡ group2
@@ -79,6 +80,7 @@ least_once p l1 g1 l2 g2 a b =
       omega (arith, ga.there, gb.there, ga.above gb.column gb.within, gb.above ga.column ga.within),
     )
 
+-- a code has at most one refusal
 pub a_code_is_refused_in_one_way : ACodeIsRefusedInOneWay
 a_code_is_refused_in_one_way width code (Gap n gap_width total) (Gap n2 gap_width2 total2) a b =
     let same = stops_once width [] a.before b.before a.after b.after a.group b.group a.gap b.gap (sym a.split ∙ b.split)
@@ -96,6 +98,7 @@ a_code_is_refused_in_one_way width code (Open least greatest) (Open least2 great
     (subst (λ (l : List Square). IsUneven (record { width = width; squares = l }) least greatest) same a.uneven) b.uneven in
     λ i. Open (both.0 i) (both.1 i)
 
+-- and so has a flat list
 pub a_flat_list_is_refused_in_one_way : AFlatListIsRefusedInOneWay
 a_flat_list_is_refused_in_one_way width sides r s a b =
     let same : a.code ≡ b.code = divides_once width [] sides a.code b.code a.divided b.divided in

@@ -12,12 +12,15 @@ use Rattle.bk_profile.specs.Laid.{IsGreatestDepth, IsLeastDepth}
 use Rattle.bk_profile.specs.Outline.{AreLevel, IsLowest, IsOutline, start, width_of}
 use Rattle.bk_profile.specs.declared.runs.Run.{Run}
 
+-- a run that stands for none
 abbrev pub no_run : Run
 no_run = record { width = 0; level = 0 }
 
+-- a run begins where the one before it ends
 pub start_more : (runs : List Run) (k : ℕ) (d : Run) → k < length runs → start runs (k + 1) ≡ start runs k + (get_or runs k d).width
 start_more runs k d l = sum_by_more (λ (r : Run). r.width) runs k d l
 
+-- later runs begin further to the right
 pub start_le : (runs : List Run) (j k : ℕ) → j ≤ k → start runs j ≤ start runs k
 start_le runs zero k h = omega arith
 start_le [] (suc j) zero h = absurd (omega arith)
@@ -26,9 +29,11 @@ start_le (r ∷ runs) (suc j) zero h = absurd (omega arith)
 start_le (r ∷ runs) (suc j) (suc k) h =
     omega (arith, start_le runs j k (omega arith), sum_by-cons (λ (s : Run). s.width) r (take j runs), sum_by-cons (λ (s : Run). s.width) r (take k runs))
 
+-- past the last run begins what is behind all of them
 pub start_all : (runs : List Run) (n : ℕ) → length runs ≤ n → start runs n ≡ width_of runs
 start_all runs n h = ap width_of (take_all n runs h)
 
+-- no run begins behind all of them
 pub start_below : (runs : List Run) (b : ℕ) → start runs b ≤ width_of runs
 start_below runs b = sum_by-take-le (λ (r : Run). r.width) runs b
 
@@ -55,6 +60,7 @@ pub record Lies (x : ℕ) (runs : List Run) (c : ℕ) : Type 0 where
   pub from : x + start runs place ≤ c
   pub to : c < x + start runs (place + 1)
 
+-- over each column lies a run
 pub lies : (x : ℕ) (runs : List Run) (c : ℕ) → x ≤ c → c < x + width_of runs → Lies x runs c
 lies x [] c l h = absurd (omega arith)
 lies x (r ∷ runs) c l h =
@@ -142,6 +148,7 @@ in_width w laid runs k outline l =
       level_at w laid runs k no_run (start runs k) outline l (omega arith) (omega (arith, start_more runs k no_run l)),
     )
 
+-- the lowest runs' level is the least depth
 pub least_depth : (w : ℕ) (laid : List Square) (runs : List Run) (a b : ℕ) → IsOutline w laid runs → IsLowest runs (length runs) a b
     → IsLeastDepth (record { width = w; squares = laid }) (get_or runs a no_run).level
 least_depth w laid runs a b outline lowest = record {
@@ -160,6 +167,7 @@ least_depth w laid runs a b outline lowest = record {
     first : a < length runs
     first = omega (arith, lowest.some, lowest.within)
 
+-- a level that is a run's and that none passes is the greatest depth
 pub greatest_depth : (w : ℕ) (laid : List Square) (runs : List Run) (k greatest : ℕ) → IsOutline w laid runs
     → All (λ (r : Run). r.level ≤ greatest) runs → k < length runs → HoldsAt (λ (r : Run). r.level ≡ greatest) runs k
     → IsGreatestDepth (record { width = w; squares = laid }) greatest

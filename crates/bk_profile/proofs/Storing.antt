@@ -79,6 +79,7 @@ least_read p runs once twice places stored e f lowest =
     subst (λ (l : List Run). IsLeastDepth p (get_or l places.0 no_run).level) (sym f)
     (least_depth p.width p.squares runs places.0 places.1 stored.outline (subst (λ (l : List Run). IsLowest l (length l) places.0 places.1) e lowest))
 
+-- the greatest level of the stored runs is the greatest depth
 pub greatest_read : (p : Laid) (runs once : List Run) (greatest : ℕ) → IsStored p runs → once ≡ runs → All (λ (r : Run). r.level ≤ greatest) once
     → (k : ℕ) × (k < length once) × HoldsAt (λ (r : Run). r.level ≡ greatest) once k → IsGreatestDepth p greatest
 greatest_read p runs once greatest stored e most some =

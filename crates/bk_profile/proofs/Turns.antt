@@ -24,6 +24,7 @@ flat_append (group ∷ code) more = ap (λ (l : List ℕ). group ++ l) (flat_app
 split_at : (code : Code) (k : ℕ) → k < length code → code ≡ take k code ++ get_or code k [] ∷ drop (k + 1) code
 split_at code k l = sym (take-append-drop k code) ∙ ap (λ (c : Code). take k code ++ c) (drop_more code k [] l)
 
+-- the next group has room among 200 sides
 pub read_room : (code : Code) (k : ℕ) (group : List ℕ) (n : ℕ) → IsKeptCode code → k < length code → group ≡ get_or code k []
     → n ≡ length (flat (take k code)) → n + length group ≤ 200
 read_room code k group n kept l is count =
@@ -38,6 +39,7 @@ read_room code k group n kept l is count =
       length-append (get_or code k []) (flat (drop (k + 1) code)),
     )
 
+-- the sum of the first group is the width
 pub first_read : (code : Code) (group : List ℕ) (n : ℕ) → 0 < length code → group ≡ get_or code 0 [] → n ≡ sum group → n ≡ first_sum code
 first_read [] group n some is e = absurd (omega arith)
 first_read (first ∷ code) group n some is e = e ∙ ap (λ (l : List ℕ). sum l) is
@@ -48,11 +50,13 @@ pub record Turn (code : Code) (k : ℕ) (p : Laid) : Type 0 where
   pub lays : LaysTo (first_sum code) [] (take k code) p.squares
   pub count : length p.squares ≡ length (flat (take k code))
 
+-- before the first group nothing is laid
 pub first_turn : (code : Code) (group : List ℕ) (n : ℕ) (p : Laid) → 0 < length code → group ≡ get_or code 0 [] → n ≡ sum group
     → p ≡ record { width = n; squares = [] } → Turn code 0 p
 first_turn code group n p some is e new =
     subst (λ (q : Laid). Turn code 0 q) (sym new) (record { width = first_read code group n some is e; lays = refl; count = refl })
 
+-- with a group laid, one more of the code is laid
 pub next_turn : (code : Code) (k : ℕ) (group : List ℕ) (old new : Laid) → Turn code k old → k < length code → group ≡ get_or code k []
     → LaysGroup old group new → Turn code (k + 1) new
 next_turn code k group old new turn l is lay =
@@ -72,6 +76,7 @@ next_turn code k group old new turn l is lay =
       );
     })
 
+-- a group that misfits the gap is where the code misfits
 pub misfit_turn : (code : Code) (k : ℕ) (group : List ℕ) (old : Laid) (gap_width total : ℕ) → Turn code k old → k < length code
     → group ≡ get_or code k [] → MisfitsGap old group gap_width total → Misfits (first_sum code) code (k + 1) gap_width total
 misfit_turn code k group old gap_width total turn l is m = record {

@@ -6,6 +6,7 @@ use Rattle.bk_simple.specs.Corners.{IsBetween}
 use Rattle.bk_simple.specs.FirstLaws.{AFirstPartIsOne, ALeastRepeatedSideIsOne}
 use Rattle.bk_simple.specs.Simple.{bottom_right, top_left}
 
+-- a tiling has at most one first part
 pub a_first_part_is_one : AFirstPartIsOne
 a_first_part_is_one t r s tiling first other = same (first.first s other.part) (other.first r first.part)
   where
@@ -24,5 +25,6 @@ a_first_part_is_one t r s tiling first other = same (first.first s other.part) (
     same (inr a) (inl b) = absurd (omega (arith, a.0))
     same (inr a) (inr b) = one a.0 (omega (arith, a.1, b.1))
 
+-- a tiling has at most one least repeated side
 pub a_least_repeated_side_is_one : ALeastRepeatedSideIsOne
 a_least_repeated_side_is_one t a b first other = omega (arith, first.1 b other.0, other.1 a first.0)

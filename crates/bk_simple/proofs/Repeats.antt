@@ -1,12 +1,12 @@
 -- A number that stands twice in a list, and the ascending list of the same numbers.
 use Rattle.std.specs.List.Sorted.{IsNonDecreasing, IsPermutation}
-use Rattle.std.specs.Prelude.{Bool, IfNone, IfSome, IsNone, None, Option, Some, ◌↔◌, List, [], cond, count_by, get_or, length, map, slice_index, suc}
+use Rattle.std.specs.Prelude.{Bool, IfNone, IfSome, IsNone, None, Option, Some, ◌↔◌, List, [], cond, count_by, get_or, length, slice_index, suc}
 use Rattle.std.specs.Prelude.{ℕ, ◌+◌, ◌<◌, ◌==◌, ◌∷◌, ◌≡◌, ◌≤◌, ◌⊎◌, refl, true, false}
 use Rattle.std.proofs.Common.{ap, arith, inl, inr, sym, ◌∙◌}
 use Rattle.std.proofs.lemmas.Bool.{cases_Bool, cases_lt, eq-eqb, eqb-true}
 use Rattle.std.proofs.lemmas.List.Sorted.{sum_by-IsPermutation}
 use Rattle.std.proofs.lemmas.List.Sums.{sum_by-cons}
-use Rattle.bk_laws.proofs.Counts.{count_two}
+use Rattle.bk_laws.proofs.Counts.{count_two, count_by-map}
 use Rattle.bk_tiling.specs.Tiling.{Tiling, sides_of}
 use Rattle.bk_tiling.specs.declared.Square.{Square}
 use Rattle.bk_simple.specs.Neighbours.{IsFirstTwice, NoneTwice}
@@ -51,12 +51,6 @@ twice_from_count p (x ∷ xs) d some = step (cases_Bool (p x)) (twice_from_count
         let none_here : ◌≡◌ {A = ℕ} (cond (p x) 1 0) 0 = ap (λ b. cond b 1 0) e in
         let r : IsTwice p xs d = rest (omega (arith, some, none_here, sum_by-cons (λ y. cond (p y) 1 0) x xs)) in
         record { first = suc r.first; second = suc r.second; apart = omega (arith, r.apart); below = omega (arith, r.below); one = r.one; other = r.other }
-
--- a test of the mapped elements counts those whose image passes
-count_by-map : {X Y : Type 0} (p : Y → Bool) (f : X → Y) (xs : List X) → count_by p (map f xs) ≡ count_by (λ x. p (f x)) xs
-count_by-map p f [] = refl
-count_by-map p f (x ∷ xs) =
-    omega (arith, count_by-map p f xs, sum_by-cons (λ y. cond (p y) 1 0) (f x) (map f xs), sum_by-cons (λ y. cond (p (f y)) 1 0) x xs)
 
 module _ (t : Tiling) (sides : List ℕ) (same : IsPermutation (sides_of t) sides) (sorted : IsNonDecreasing sides) where
   count_side : (side : ℕ) → count_by (λ s. s == side) sides ≡ count_by (λ q. q.s == side) t.squares

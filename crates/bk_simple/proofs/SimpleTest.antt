@@ -86,10 +86,12 @@ rectangle-same a b ex ey ew eh = λ i. record { x = ex i; y = ey i; width = ew i
 abbrev pub between : Square → Square → Rectangle
 between p q = record { x = p.x; y = p.y; width = q.x + q.s - p.x; height = q.y + q.s - p.y }
 
+-- some rectangle from the top left corner of one square to the bottom right corner of another is a part
 abbrev pub part_test : Tiling → Rectangle → Bool
 part_test t r = (nat_le 2 (length (filter (within_test r) t.squares)) && nat_lt (length (filter (within_test r) t.squares)) (order t))
     && tiles_test r (filter (within_test r) t.squares)
 
+-- no such rectangle is a part
 abbrev pub simple_test : Tiling → Bool
 simple_test t = list_all (λ p. list_all (λ q. not (part_test t (between p q))) t.squares) t.squares
 

@@ -24,6 +24,7 @@ outside_means r q e = elim (or_cases _ _ e) [
   | inr along ↦ elim (or_cases _ _ along) [ inl h ↦ inr (inl (leb-true _ _ h)) | inr h ↦ inr (inr (leb-true _ _ h)) ]
 ]
 
+-- a square that the test puts inside a rectangle lies within it
 pub inside_means : (r : Rectangle) (q : Square) → is_inside r q ≡ true → IsWithin r q
 inside_means r q h =
     let parts = and_parts _ _ h in
@@ -31,6 +32,7 @@ inside_means r q h =
     let along = and_parts _ _ parts.1 in
     record { left = leb-true _ _ across.0; right = leb-true _ _ across.1; top = leb-true _ _ along.0; bottom = leb-true _ _ along.1 }
 
+-- and one that lies within it passes the test
 pub inside_from : (r : Rectangle) (q : Square) → IsWithin r q → is_inside r q ≡ true
 inside_from r q h = and_from _ _ (and_from _ _ (le-leb _ _ h.left) (le-leb _ _ h.right)) (and_from _ _ (le-leb _ _ h.top) (le-leb _ _ h.bottom))
 
@@ -77,6 +79,7 @@ pub record Meets (r : Rectangle) (q : Square) : Type 0 where
   pub top : r.y < q.y + q.s
   pub bottom : q.y < r.y + r.height
 
+-- a square that isn't found outside of a rectangle meets it
 pub meets_from : (r : Rectangle) (q : Square) → is_outside r q ≡ false → Meets r q
 meets_from r q e =
     let parts = or_parts _ _ e in

@@ -1,8 +1,9 @@
 -- Tilings that are images of each other, up to scale, have one canonical tiling.
 use Rattle.std.specs.List.{AllByRecursion}
 use Prim.Native.Nat.{◌∣◌}
-use Rattle.std.proofs.Common.{List, [], ap, arith, inl, inr, map, refl, subst, sym, ℕ, ◌*◌, ◌<◌, ◌∙◌, ◌∷◌, ◌≡◌}
+use Rattle.std.proofs.Common.{List, [], ap, arith, inl, inr, map, refl, subst, sym, ℕ, ◌*◌, ◌∙◌, ◌∷◌, ◌≡◌}
 use Rattle.std.proofs.lemmas.Nat.Gcd.{dvd_antisymm}
+use Rattle.std.proofs.Math.Nat.{mul-pos}
 use Rattle.bk_tiling.proofs.EnlargedTilings.{enlarged-back, enlarged-enlarged, enlarged-once}
 use Rattle.bk_frac.proofs.DivisorLaws.{gcd_of-greatest}
 use Rattle.bk_tiling.specs.Scale.{AreAlike, enlarged}
@@ -20,14 +21,10 @@ use Rattle.bk_sym.specs.ImageLaws.{ACanonicalTilingIsItsOwn, AlikeTilingsHaveOne
 use Rattle.bk_sym.specs.Turns.{after, undoing}
 use Rattle.bk_sym.specs.declared.Turn.{Turn}
 
--- a product of numbers above 0 is above 0
-product : (m n : ℕ) → 0 < m → 0 < n → 0 < m * n
-product m n a b = grind arith
-
 -- alike tilings are one in lowest terms
 alike_scaled : (t u : Tiling) → IsTiling t → IsTiling u → AreAlike t u → scaled_down_tiling t ≡ scaled_down_tiling u
 alike_scaled t u tiling other (m, n, some_m, some_n, same) =
-    enlarged-back (m * side_divisor t) (scaled_down_tiling t) (scaled_down_tiling u) (product m (side_divisor t) some_m (some_divisor t tiling))
+    enlarged-back (m * side_divisor t) (scaled_down_tiling t) (scaled_down_tiling u) (mul-pos some_m (some_divisor t tiling))
     (sym (enlarged-enlarged m (side_divisor t) (scaled_down_tiling t)) ∙ ap (enlarged m) (sym (whole_again t tiling)) ∙ same
     ∙ ap (enlarged n) (whole_again u other) ∙ enlarged-enlarged n (side_divisor u) (scaled_down_tiling u)
     ∙ ap (λ (k : ℕ). enlarged k (scaled_down_tiling u)) (sym factors))
@@ -85,6 +82,7 @@ turned_canonical t u d turn tiling same canonical = record {
         ∙ sym (images_of_images (image turn s) other (undoing turn) (images_are_tilings s turn s_is))
         ∙ ap (image other) (images_are_undone s turn s_is)
 
+-- tilings that are images of each other, up to scale, have one canonical tiling
 pub alike_tilings_have_one_canonical : AlikeTilingsHaveOneCanonical
 alike_tilings_have_one_canonical t u c d turn tiling other alike of_t of_u =
     (a_canonical_tiling_is_one t c d tiling of_t (turned_canonical t u d turn tiling same of_u)).1
@@ -97,6 +95,7 @@ pub scaled_twice : (t : Tiling) → IsTiling t → scaled_down_tiling (scaled_do
 scaled_twice t tiling = alike_scaled (scaled_down_tiling t) t (scaled_is_tiling t tiling) tiling
     (side_divisor t, 1, some_divisor t tiling, omega arith, sym (whole_again t tiling) ∙ sym (enlarged-once t))
 
+-- a canonical tiling is its own
 pub a_canonical_tiling_is_its_own : ACanonicalTilingIsItsOwn
 a_canonical_tiling_is_its_own t c tiling of_t = turned_canonical c t c (undoing of_t.turn) c_is same of_t
   where
@@ -113,6 +112,7 @@ a_canonical_tiling_is_its_own t c tiling of_t = turned_canonical c t c (undoing 
     same : scaled_down_tiling t ≡ image (undoing of_t.turn) (scaled_down_tiling c)
     same = sym (images_are_undone (scaled_down_tiling t) of_t.turn s_is) ∙ ap (image (undoing of_t.turn)) (sym of_t.image_of ∙ sym lowest)
 
+-- tilings with one canonical tiling are images of each other, up to scale
 pub one_canonical_means_alike : OneCanonicalMeansAlike
 one_canonical_means_alike t u c tiling other of_t of_u = (
   after (undoing of_u.turn) of_t.turn,

@@ -23,6 +23,7 @@ use Rattle.bk_sym.specs.ImageLaws.{ACanonicalTilingIsOne}
 use Rattle.bk_sym.specs.declared.Turn.{Turn}
 use Rattle.bk_sym.specs.declared.Turn.TheVariants.{FlipX, FlipY, Half, Same, Swap, SwapFlipX, SwapFlipY, SwapHalf}
 
+-- lists of numbers that compare as equal are equal
 pub cmp_equal : (xs ys : List ℕ) → slice_cmp nat_cmp xs ys ≡ Equal → xs ≡ ys
 cmp_equal [] [] e = refl
 cmp_equal [] (y ∷ ys) e = absurd (impossible e)
@@ -79,6 +80,7 @@ same_width s u v (inl a) (inr b) c d = omega (arith, a.0, a.1, b.0, b.1)
 same_width s u v (inr a) (inl b) c d = omega (arith, a.0, a.1, b.0, b.1)
 same_width s u v (inr a) (inr b) c d = omega (arith, a.0, b.0)
 
+-- a tiling has at most one canonical tiling
 pub a_canonical_tiling_is_one : ACanonicalTilingIsOne
 a_canonical_tiling_is_one t u v tiling a b = (
   u_is,
@@ -100,6 +102,7 @@ a_canonical_tiling_is_one t u v tiling a b = (
     v_least : IsAtMost v u
     v_least = subst (λ (i : Tiling). IsAtMost i u) (sym b.image_of) (a.greatest b.turn (subst (λ (i : Tiling). i.height ≤ i.width) b.image_of b.lying))
 
+-- the sum of the sides
 abbrev pub side_sum : List Square → ℕ
 side_sum [] = 0
 side_sum (q ∷ squares) = q.s + side_sum squares

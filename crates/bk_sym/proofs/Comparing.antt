@@ -34,6 +34,7 @@ rear-step j [] d below = absurd (omega arith)
 rear-step zero (q ∷ squares) d below = refl
 rear-step (suc j) (q ∷ squares) d below = rear-step j squares d (omega arith)
 
+-- sides from a place on whose divisor, with that of the side before them, is 1: then all sides have none above 1
 pub one_from : (i g : ℕ) (squares : List Square) (d : Square) → 0 < i → i ≤ length squares → g ≡ gcd_of (map (λ q. q.s) (drop i squares))
     → gcd (get_or squares (i - 1) d).s g ≡ 1 → gcd_of (map (λ q. q.s) squares) ≡ 1
 one_from zero g squares d some below is e = absurd (omega arith)

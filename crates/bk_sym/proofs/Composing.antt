@@ -92,6 +92,7 @@ map_same : (squares : List Square) → map (λ q. q) squares ≡ squares
 map_same [] = refl
 map_same (q ∷ squares) = ap (λ (rest : List Square). q ∷ rest) (map_same squares)
 
+-- the image by the turn that leaves all as it is
 pub image-Same : (t : Tiling) → IsTiling t → image Same t ≡ t
 image-Same t tiling = λ i. record { width = t.width; height = t.height; squares = squares i }
   where
@@ -135,9 +136,11 @@ module _ (t : Tiling) (tiling : IsTiling t) (b : Turn) where
   image_after SwapHalf = swap_half ∙ ap (image FlipY) (swap_flip_x ∙ ap (image FlipX) (by_swap b) ∙ by_flip_x (then_swap b))
       ∙ by_flip_y (then_flip_x (then_swap b))
 
+-- an image of an image is the image by both turns
 pub images_of_images : ImagesOfImages
 images_of_images t a b tiling = image_after t tiling b a
 
+-- a turn and the one that undoes it leave all as it is
 pub undone : (turn : Turn) → after (undoing turn) turn ≡ Same
 undone Same = refl
 undone FlipX = refl
@@ -148,5 +151,6 @@ undone SwapFlipX = refl
 undone SwapFlipY = refl
 undone SwapHalf = refl
 
+-- so a tiling is an image of each of its images
 pub images_are_undone : ImagesAreUndone
 images_are_undone t turn tiling = images_of_images t (undoing turn) turn tiling ∙ ap (λ (a : Turn). image a t) (undone turn) ∙ image-Same t tiling

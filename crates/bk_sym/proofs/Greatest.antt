@@ -15,12 +15,14 @@ use Rattle.bk_sym.specs.Image.{image}
 use Rattle.bk_sym.specs.declared.Turn.{Turn}
 use Rattle.bk_sym.specs.declared.Turn.TheVariants.{FlipX, FlipY, Half, Same, Swap, SwapFlipX, SwapFlipY, SwapHalf}
 
+-- each tiling is at most itself
 pub at_most-refl : (t : Tiling) → IsAtMost t t
 at_most-refl t = ap is_le (tied_itself nat_list_cmp_total (flat (code_of t)))
 
 clash : false ≡ true → ⊥
 clash e = cc
 
+-- of two tilings one is at most the other
 pub at_most-total : (t u : Tiling) → ¬ (IsAtMost t u) → IsAtMost u t
 at_most-total t u later = cases (slice_cmp nat_cmp (flat (code_of t)) (flat (code_of u))) refl
   where
@@ -39,6 +41,7 @@ at_most_lists xs ys zs a b = cases (slice_cmp nat_cmp xs ys) refl (slice_cmp nat
     cases Less e Equal f = subst (λ (list : List ℕ). is_le (slice_cmp nat_cmp xs list) ≡ true) (cmp_equal ys zs f) a
     cases Less e Less f = ap is_le (nat_list_cmp_total.trans xs ys zs e f)
 
+-- and so along three
 pub at_most-trans : (t u v : Tiling) → IsAtMost t u → IsAtMost u v → IsAtMost t v
 at_most-trans t u v = at_most_lists (flat (code_of t)) (flat (code_of u)) (flat (code_of v))
 
@@ -46,6 +49,7 @@ at_most-trans t u v = at_most_lists (flat (code_of t)) (flat (code_of u)) (flat 
 abbrev pub NoneGreater : Tiling → List Turn → ℕ → Tiling → Type 0
 NoneGreater t turns k c = (j : ℕ) → j < k → Lies (image (get_or turns j Same) t) → IsAtMost (image (get_or turns j Same) t) c
 
+-- none of the first images is greater, nor is the next one
 pub none_greater-more : (t : Tiling) (turns : List Turn) (k : ℕ) (c : Tiling) → NoneGreater t turns k c
     → (Lies (image (get_or turns k Same) t) → IsAtMost (image (get_or turns k Same) t) c) → NoneGreater t turns (k + 1) c
 none_greater-more t turns k c before here j below = cases (cases_lt j k)
@@ -58,6 +62,7 @@ none_greater-more t turns k c before here j below = cases (cases_lt j k)
 abbrev pub others : List Turn
 others = FlipX ∷ FlipY ∷ Half ∷ Swap ∷ SwapFlipX ∷ SwapFlipY ∷ SwapHalf ∷ []
 
+-- where no other image that lies is greater, nor the tiling itself, c is the greatest
 pub greatest_from : (t c : Tiling) → NoneGreater t others 7 c → (Lies (image Same t) → IsAtMost (image Same t) c) → IsGreatestImage t c
 greatest_from t c none same Same = same
 greatest_from t c none same FlipX = none 0 (omega arith)
@@ -76,6 +81,7 @@ pub record IsGreatestSoFar (t : Tiling) (first : Turn) (turns : List Turn) (k : 
   pub from_first : IsAtMost (image first t) c
   pub none_greater : NoneGreater t turns k c
 
+-- the greatest so far or the next image, whichever is greater, is the greatest with that one
 pub so_far-more : (t : Tiling) (first : Turn) (turns : List Turn) (k : ℕ) (c b new : Tiling) → IsGreatestSoFar t first turns k c
     → b ≡ image (get_or turns k Same) t → Lies (image (get_or turns k Same) t) → (new ≡ c) ⊎ (new ≡ b) → IsAtMost c new → IsAtMost b new
     → IsGreatestSoFar t first turns (k + 1) new
@@ -98,6 +104,7 @@ so_far-more t first turns k c b new far is lies one over_c over_b = from one
       none_greater = most;
     }
 
+-- where the next image isn't greater, the greatest so far stays
 pub so_far-same : (t : Tiling) (first : Turn) (turns : List Turn) (k : ℕ) (c new : Tiling) → IsGreatestSoFar t first turns k c
     → (Lies (image (get_or turns k Same) t) → IsAtMost (image (get_or turns k Same) t) c) → new ≡ c → IsGreatestSoFar t first turns (k + 1) new
 so_far-same t first turns k c new far here e = subst (IsGreatestSoFar t first turns (k + 1)) (sym e) (record {
@@ -108,6 +115,7 @@ so_far-same t first turns k c new far here e = subst (IsGreatestSoFar t first tu
   none_greater = none_greater-more t turns k c far.none_greater here;
 })
 
+-- a first image that lies is the greatest of itself alone
 pub so_far-none : (t : Tiling) (first : Turn) (turns : List Turn) (c : Tiling) → c ≡ image first t → Lies (image first t) → IsGreatestSoFar t first turns 0 c
 so_far-none t first turns c is lies = record {
   turn = first;
@@ -122,6 +130,7 @@ pub so_far-all : (t : Tiling) (first : Turn) (c : Tiling) → IsTiling t → (Li
 so_far-all t first c tiling unturned far = greatest_from t c far.none_greater
     (λ h. subst (λ (turn : Turn). IsAtMost (image turn t) c) (unturned (subst Lies (image-Same t tiling) h)) far.from_first)
 
+-- the greatest of all images in lowest terms is the canonical tiling
 pub canonical_from : (t s c : Tiling) (first : Turn) → IsTiling s → s ≡ scaled_down_tiling t → (Lies s → first ≡ Same)
     → IsGreatestSoFar s first others 7 c → IsCanonicalOf t c
 canonical_from t s c first tiling small unturned far = record {

@@ -42,6 +42,7 @@ module _ (s : Tiling) (first : Turn) (lies : Lies (image first s)) where
   greatest zero = (image first s, so_far-none s first others (image first s) refl lies)
   greatest (suc k) = let more = one_more k (greatest k) in (more.0, subst (λ (n : ℕ). IsGreatestSoFar s first others n more.0) (omega arith) more.1)
 
+-- each tiling has a canonical tiling
 pub every_tiling_has_a_canonical : EveryTilingHasACanonical
 every_tiling_has_a_canonical t tiling = cases (cases_lt (scaled_down_tiling t).width (scaled_down_tiling t).height)
   where

@@ -12,11 +12,13 @@ use Rattle.bk_sym.specs.Image.{image_square}
 use Rattle.bk_sym.specs.ImageLaws.{ImagesAreTilings}
 use Rattle.bk_sym.specs.declared.Turn.TheVariants.{FlipX, FlipY, Half, Same, Swap, SwapFlipX, SwapFlipY, SwapHalf}
 
+-- a square of the moved ones is one of the squares, moved
 pub from_map : (f : Square → Square) (squares : List Square) (p : Square) → IsOneOf p (map f squares) → (q : Square) × IsOneOf q squares × (p ≡ f q)
 from_map f [] p h = absurd h
 from_map f (r ∷ squares) p (inl e) = (r, inl refl, e)
 from_map f (r ∷ squares) p (inr h) = let found = from_map f squares p h in (found.0, inr found.1, found.2)
 
+-- and each square, moved, is one of them
 pub in_map : (f : Square → Square) (squares : List Square) (q : Square) → IsOneOf q squares → IsOneOf (f q) (map f squares)
 in_map f [] q h = absurd h
 in_map f (r ∷ squares) q (inl e) = inl (ap f e)
@@ -28,6 +30,7 @@ same_cover i j k l p q f g = both_ways (covers i j p) (covers k l q)
     (λ e. let o = f (over_from i j p e) in covers_from k l q o.left o.right o.top o.bottom) (λ e. let o = g (over_from k l q e) in
     covers_from i j p o.left o.right o.top o.bottom)
 
+-- as many moved squares lie over a cell as squares over the cell that it comes from
 pub count_same : (f : Square → Square) (i j k l : ℕ) (squares : List Square) → ((q : Square) → IsOneOf q squares → covers i j (f q) ≡ covers k l q)
     → count_by (covers i j) (map f squares) ≡ count_by (covers k l) squares
 count_same f i j k l [] each = refl
@@ -48,6 +51,7 @@ pub record Moves (t : Tiling) (f : Square → Square) (width height : ℕ) : Typ
   pub cell : (i j : ℕ) → i < width → j < height → (column i j < t.width) × (level i j < t.height)
   pub same : (i j : ℕ) → i < width → j < height → (q : Square) → IsOneOf q t.squares → covers i j (f q) ≡ covers (column i j) (level i j) q
 
+-- squares moved so that each cell comes from a cell tile the rectangle that they are moved to
 pub moved : (t : Tiling) (f : Square → Square) (width height : ℕ) → IsTiling t → Moves t f width height
     → IsTiling (record { width = width; height = height; squares = in_code_order (map f t.squares) })
 moved t f width height tiling m = record {
@@ -84,6 +88,7 @@ moved t f width height tiling m = record {
     once i j a b = count_same f i j (m.column i j) (m.level i j) t.squares (m.same i j a b)
         ∙ cell_once t tiling (m.column i j) (m.level i j) (m.cell i j a b).0 (m.cell i j a b).1
 
+-- each image of a tiling is a tiling
 pub images_are_tilings : ImagesAreTilings
 images_are_tilings t Same tiling = moved t (image_square Same t.width t.height) t.width t.height tiling (record {
   side = λ q. refl;

@@ -45,6 +45,7 @@ size_fits SwapFlipX w h most a b = (b, a)
 size_fits SwapFlipY w h most a b = (b, a)
 size_fits SwapHalf w h most a b = (b, a)
 
+-- an image of a tiling that a `Tiling` can be is one too
 pub kept_image : (turn : Turn) (t : Tiling) → IsKept t → IsKept (image turn t)
 kept_image turn t kept = record {
   tiling = images_are_tilings t turn kept.tiling;
@@ -66,6 +67,7 @@ sides_divided : (g : ℕ) (squares : List Square) → AllByRecursion (λ q. IsSi
 sides_divided g [] sides some = tt
 sides_divided g (q ∷ squares) sides some = ((some.0, omega (arith, sides.0.1, div-le_self q.s g)), sides_divided g squares sides.1 some.1)
 
+-- and so is a tiling in lowest terms
 pub kept_scaled : (t : Tiling) → IsKept t → IsKept (scaled_down_tiling t)
 kept_scaled t kept = record {
   tiling = scaled_is_tiling t kept.tiling;
@@ -80,6 +82,7 @@ kept_scaled t kept = record {
 pub all_taken : (f : Square → Square) (k : ℕ) (xs ys made : List Square) → xs ≡ ys → length xs ≤ k → made ≡ map f (take k xs) → made ≡ map f ys
 all_taken f k xs ys made same all e = e ∙ ap (map f) (take_all k xs all ∙ same)
 
+-- once all squares are turned, they are those of the image
 pub all_turned : (turn : Turn) (t : Tiling) (w h k : ℕ) (xs made : List Square) → w ≡ t.width → h ≡ t.height → xs ≡ t.squares → length xs ≤ k
     → made ≡ map (image_square turn w h) (take k xs) → made ≡ map (image_square turn t.width t.height) t.squares
 all_turned turn t w h k xs made ew eh same all e =

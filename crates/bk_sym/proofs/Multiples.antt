@@ -23,6 +23,7 @@ side_divisor-enlarged k [] some = omega arith
 side_divisor-enlarged k (q ∷ squares) some =
     ap (gcd (k * q.s)) (side_divisor-enlarged k squares some) ∙ gcd-mul k q.s (gcd_of (map (λ q. q.s) squares)) some
 
+-- a tiling enlarged has so many times the divisor
 pub divisor_of_multiple : (k : ℕ) (t : Tiling) → 0 < k → side_divisor (enlarged k t) ≡ k * side_divisor t
 divisor_of_multiple k t some = side_divisor-enlarged k t.squares some
 
@@ -105,6 +106,7 @@ list-image turn k w h [] within = refl
 list-image turn k w h (q ∷ squares) within = λ i.
     image_square-enlarged turn k w h q (within q (inl refl)).0 (within q (inl refl)).1 i ∷ list-image turn k w h squares (λ r m. within r (inr m)) i
 
+-- an image of a tiling enlarged is its image, enlarged
 pub image-enlarged : (turn : Turn) (k : ℕ) (t : Tiling) → 0 < k → IsTiling t → image turn (enlarged k t) ≡ enlarged k (image turn t)
 image-enlarged turn k t some tiling = λ i. record {
   width = (size-enlarged turn k t.width t.height i).0;

@@ -16,6 +16,7 @@ pub scaled-one : (t : Tiling) → IsTiling t → side_divisor t ≡ 1 → scaled
 scaled-one t tiling one =
     sym (enlarged-once (scaled_down_tiling t)) ∙ ap (λ (k : ℕ). enlarged k (scaled_down_tiling t)) (sym one) ∙ sym (whole_again t tiling)
 
+-- a tiling that is itself in lowest terms has sides without a common divisor above 1
 pub one-scaled : (t : Tiling) → IsTiling t → scaled_down_tiling t ≡ t → side_divisor t ≡ 1
 one-scaled t tiling same = mul_one (side_divisor t) (side_divisor t) 1 (some_divisor t tiling) (sym twice ∙ once)
   where
@@ -26,6 +27,7 @@ one-scaled t tiling same = mul_one (side_divisor t) (side_divisor t) 1 (some_div
     twice = ap side_divisor (whole_again t tiling) ∙ divisor_of_multiple (side_divisor t) (scaled_down_tiling t) (some_divisor t tiling)
         ∙ ap (λ (u : Tiling). side_divisor t * side_divisor u) same
 
+-- a tiling that lies, is in lowest terms, and is its greatest image is canonical
 pub own_from : (t : Tiling) → IsTiling t → Lies t → side_divisor t ≡ 1 → IsGreatestImage t t → IsCanonical t
 own_from t tiling lies one greatest = record {
   turn = Same;
@@ -37,8 +39,10 @@ own_from t tiling lies one greatest = record {
     same : scaled_down_tiling t ≡ t
     same = scaled-one t tiling one
 
+-- a canonical tiling has sides without a common divisor above 1
 pub own_one : (t : Tiling) → IsTiling t → IsCanonical t → side_divisor t ≡ 1
 own_one t tiling own = one-scaled t tiling (own_canonical t tiling own)
 
+-- and is its greatest image
 pub own_greatest : (t : Tiling) → IsTiling t → IsCanonical t → IsGreatestImage t t
 own_greatest t tiling own = subst (λ (u : Tiling). IsGreatestImage u t) (own_canonical t tiling own) own.greatest

@@ -71,6 +71,7 @@ same_squares (y ∷ ys) (z ∷ zs) a b counts = λ i. first i ∷ same_squares y
     rest p = let here : ◌≡◌ {A = ℕ} (cond (p y) 1 0) (cond (p z) 1 0) = ap (λ (q : Square). cond {A = ℕ} (p q) 1 0) first in
         omega (arith, here, counts p, count-cons p y ys, count-cons p z zs)
 
+-- squares sorted by level and then by column stand in code order, where no two begin at one place
 pub order_from_sort : (xs ys : List Square) → IsPermutation xs ys
     → IsSortedByKey (λ (q : Square). (q.y, q.x)) (λ (a b : ℕ × ℕ). ordering_then (nat_cmp a.0 b.0) (nat_cmp a.1 b.1)) ys
     → InCodeOrder (in_code_order xs) → ys ≡ in_code_order xs

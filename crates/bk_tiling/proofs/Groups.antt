@@ -37,6 +37,7 @@ pub record Apart (squares : List Square) : Type 0 where
 abbrev pub AllIn : List Square → List Square → Type 0
 AllIn squares group = AllByRecursion (λ q. IsOneOf q squares) group
 
+-- the first group of squares, and the others
 pub record Split (p : Square) (squares : List Square) : Type 0 where
   pub group : List Square
   pub groups : List (List Square)

@@ -31,6 +31,7 @@ shares_from p q ps qs a b c d = record {
   in_second = covers_from (max p.x q.x) (max p.y q.y) q (omega arith) (omega arith) (omega arith) (omega arith);
 }
 
+-- two squares that have a column and a level in common
 pub record Cross (p q : Square) : Type 0 where
   pub right : p.x < q.x + q.s
   pub left : q.x < p.x + p.s

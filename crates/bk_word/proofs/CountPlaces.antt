@@ -18,9 +18,11 @@ use Rattle.bk_word.proofs.StoredBytes.{order_more, order_one, stored_one}
 abbrev pub move_of : ℕ → List ℕ → Move
 move_of b bytes = record { count = b; signs = front_signs bytes }
 
+-- the byte of a count begins a move
 pub at_count : (b : ℕ) (bytes : List ℕ) → is_count b ≡ true → moves_in (b ∷ bytes) ≡ move_of b bytes ∷ moves_in bytes
 at_count b bytes h = cond-true _ _ _ h
 
+-- the byte of a sign begins none
 pub at_sign : (b : ℕ) (bytes : List ℕ) → is_count b ≡ false → moves_in (b ∷ bytes) ≡ moves_in bytes
 at_sign b bytes h = cond-false _ _ _ h
 
@@ -28,10 +30,12 @@ at_sign b bytes h = cond-false _ _ _ h
 pub from_place : (bytes : List ℕ) (i : ℕ) → i < length bytes → drop i bytes ≡ get_or bytes i 0 ∷ drop (i + 1) bytes
 from_place bytes i within = let next : suc i ≡ i + 1 = omega arith in drop-cons bytes i 0 within ∙ ap (λ (k : ℕ). get_or bytes i 0 ∷ drop k bytes) next
 
+-- so the moves from the place of a count on are the move there and those behind it
 pub count_here : (bytes : List ℕ) (i : ℕ) → i < length bytes → is_count (get_or bytes i 0) ≡ true
     → moves_in (drop i bytes) ≡ move_of (get_or bytes i 0) (drop (i + 1) bytes) ∷ moves_in (drop (i + 1) bytes)
 count_here bytes i within h = ap moves_in (from_place bytes i within) ∙ at_count (get_or bytes i 0) (drop (i + 1) bytes) h
 
+-- and those from the place of a sign on are those behind it
 pub sign_here : (bytes : List ℕ) (i : ℕ) → i < length bytes → is_count (get_or bytes i 0) ≡ false → moves_in (drop i bytes) ≡ moves_in (drop (i + 1) bytes)
 sign_here bytes i within h = ap moves_in (from_place bytes i within) ∙ at_sign (get_or bytes i 0) (drop (i + 1) bytes) h
 
@@ -63,12 +67,14 @@ first_dropped [] (suc i) m rest e = absurd (cc)
 first_dropped (n ∷ w) zero m rest e = let same : n ≡ m = cc in ap (λ (k : Move). Some k) same
 first_dropped (n ∷ w) (suc i) m rest e = first_dropped w i m rest e
 
+-- a move of a kept word is one that can stand in a word
 pub stands_dropped : (w : Word) (i : ℕ) (m : Move) (rest : Word) → drop i w ≡ m ∷ rest → AllByRecursion CanStand w → CanStand m
 stands_dropped [] zero m rest e all = absurd (cc)
 stands_dropped [] (suc i) m rest e all = absurd (cc)
 stands_dropped (n ∷ w) zero m rest e all = let same : n ≡ m = cc in subst CanStand same all.0
 stands_dropped (n ∷ w) (suc i) m rest e all = stands_dropped w i m rest e all.1
 
+-- a move hangs no more squares than its word
 pub few_dropped : (w : Word) (i : ℕ) (m : Move) (rest : Word) → drop i w ≡ m ∷ rest → m.count ≤ order_of w
 few_dropped [] zero m rest e = absurd (cc)
 few_dropped [] (suc i) m rest e = absurd (cc)
@@ -190,6 +196,7 @@ pub got : (bytes : List ℕ) (w : Word) (i k : ℕ) → IsStored bytes → moves
     → drop i w ≡ move_of (get_or bytes k 0) (drop (k + 1) bytes) ∷ moves_in (drop (k + 1) bytes)
 got bytes w i k s is within h behind = ap (λ (v : Word). drop i v) (sym is) ∙ sym behind ∙ count_here bytes k within h
 
+-- a move of a stored word can stand in a word, and hangs at most 200 squares
 pub got_stands : (bytes : List ℕ) (w : Word) (i : ℕ) (m : Move) (rest : Word) → IsStored bytes → moves_in bytes ≡ w → drop i w ≡ m ∷ rest
     → CanStand m × (m.count ≤ 200)
 got_stands bytes w i m rest s is e =
@@ -204,6 +211,7 @@ to_end bytes k = take_all (length bytes - k) (drop k bytes) (omega (arith, lengt
 pub few_signs : (bytes : List ℕ) (w : Word) (i : ℕ) (m : Move) (rest : Word) → IsStored bytes → moves_in bytes ≡ w → drop i w ≡ m ∷ rest → length m.signs ≤ 201
 few_signs bytes w i m rest s is e = let h = got_stands bytes w i m rest s is e in omega (arith, h.0.most, h.1)
 
+-- the count at the place where move i begins, with the signs behind it, is that move
 pub got_move : (S B : List ℕ) (w : Word) (i k : ℕ) (signs : List Sign) → S ≡ B → IsStored B → moves_in B ≡ w → k < length S
     → is_count (get_or S k 0) ≡ true → moves_in (drop k S) ≡ drop i (moves_in S)
     → signs ≡ front_signs (take (length S - (k + 1)) (drop (k + 1) S)) → slice_get w i ≡ Some (record { count = get_or S k 0; signs = signs })
@@ -217,6 +225,7 @@ pub record Popped (bytes : List ℕ) (w : Word) : Type 0 where
   pub moves : moves_in bytes ≡ take (length w - 1) w
   pub is_stored : IsStored bytes
 
+-- the bytes before the last count store the word without its last move
 pub popped_at : (S B left : List ℕ) (w : Word) (n k : ℕ) → S ≡ B → IsStored B → moves_in B ≡ w → n ≡ length w → 0 < length w → k < length S
     → is_count (get_or S k 0) ≡ true → moves_in (drop k S) ≡ drop (n - 1) (moves_in S) → left ≡ take k B
     → Popped left w

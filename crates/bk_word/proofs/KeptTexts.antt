@@ -21,6 +21,7 @@ pub record HasBytes (text bytes : List ℕ) : Type 0 where
   pub are_stored : IsStored bytes
   pub few : order_of (moves_in bytes) ≤ 200
 
+-- the bytes taken of a text of at most 200 squares store the word that it is the text of
 pub bytes_kept : (text bytes : List ℕ) (t : Taken) → KeepsTextOf text t → t.order ≤ 200 → bytes ≡ t.bytes.items → HasBytes text bytes
 bytes_kept text bytes t (w, is, keeps) few same =
     let order : order_of w ≤ 200 = omega (arith, few, keeps.order) in

@@ -1,5 +1,5 @@
 -- A word that is played in two parts: what is open after both, and that each is legal where the word is.
-use Rattle.std.proofs.Common.{Bool, [], arith, false, length, refl, true, ℕ, ◌++◌, ◌+◌, ◌∷◌, ◌≡◌, ◌≤◌}
+use Rattle.std.proofs.Common.{Bool, [], arith, false, length, refl, true, ◌++◌, ◌+◌, ◌∷◌, ◌≡◌, ◌≤◌}
 use Rattle.bk_word.proofs.StoredBytes.{order_more}
 use Rattle.bk_word.specs.Outline.{IsLegalMove, Outline, has_left_wall, has_right_wall, open_side}
 use Rattle.bk_word.specs.Play.{AreLegalFrom, after_move, after_moves}

@@ -5,10 +5,12 @@ use Rattle.bk_word.specs.Play.{numbers_from, parts}
 use Rattle.bk_word.specs.declared.Sign.{Sign}
 use Rattle.bk_word.specs.declared.Sign.TheVariants.{Above, Even, Under}
 
+-- so many numbers are as many as said
 pub numbers-length : (n k : ℕ) → length (numbers_from n k) ≡ k
 numbers-length n zero = refl
 numbers-length n (suc k) = ap suc (numbers-length (n + 1) k)
 
+-- the signs kept between segments are those that part them
 pub parts_filter : (signs : List Sign) → AllByRecursion (λ sign. parts sign ≡ true) (filter parts signs)
 parts_filter [] = tt
 parts_filter (Above ∷ signs) = (refl, parts_filter signs)

@@ -16,13 +16,16 @@ use Rattle.bk_word.specs.declared.Sign.TheVariants.{Above, Even, Under}
 abbrev pub AreLow : Word → Type 0
 AreLow w = AllByRecursion (λ (m : Move). m.count < 201) w
 
+-- the order of a word that begins with a move
 pub order_more : (m : Move) (w : Word) → order_of (m ∷ w) ≡ m.count + order_of w
 order_more m w = sum_by-cons (λ (k : Move). k.count) m w
 
+-- no move of a word of at most 200 squares hangs more than a byte tells
 pub few_low : (w : Word) → order_of w ≤ 200 → AreLow w
 few_low [] few = tt
 few_low (m ∷ w) few = (omega (arith, order_more m w), few_low w (omega (arith, order_more m w)))
 
+-- such a count is stored as the byte of a count
 pub count_first : (m : Move) → m.count < 201 → is_count m.count ≡ true
 count_first m low = lt-ltb m.count 201 low
 
@@ -61,15 +64,19 @@ stored_kept bytes w is kept =
     let back : moves_in bytes ≡ w = ap moves_in is ∙ read_back w (few_low w kept.few) in
     (back, record { same = is ∙ ap stored (sym back); kept = subst IsKeptWord (sym back) kept })
 
+-- words one after another are stored one after another
 pub stored_append : (v w : Word) → stored (v ++ w) ≡ stored v ++ stored w
 stored_append v w = flat_map-append stored_move v w
 
+-- and so is a word with a further move
 pub stored_one : (w : Word) (m : Move) → stored (w ++ m ∷ []) ≡ stored w ++ stored_move m
 stored_one w m = stored_append w (m ∷ []) ∙ ap (λ (z : List ℕ). stored w ++ z) (append-nil (stored_move m))
 
+-- the orders of words one after another add up
 pub order_append : (v w : Word) → order_of (v ++ w) ≡ order_of v + order_of w
 order_append v w = sum_by-append (λ (k : Move). k.count) v w
 
+-- a further move hangs so many squares more
 pub order_one : (w : Word) (m : Move) → order_of (w ++ m ∷ []) ≡ order_of w + m.count
 order_one w m = omega (arith, order_append w (m ∷ []), order_more m [])
 
@@ -81,14 +88,17 @@ short (m ∷ w) all =
     let signs : length (map sign_byte m.signs) ≡ length m.signs = length-map m.signs sign_byte in
     omega (arith, bytes, signs, short w all.1, all.0.0, all.0.1, order_more m w)
 
+-- each move that can stand hangs a square, and has at most one sign more than squares
 pub standing : (w : Word) → AllByRecursion CanStand w → AllByRecursion (λ (m : Move). (0 < m.count) × (length m.signs ≤ m.count + 1)) w
 standing [] all = tt
 standing (m ∷ w) all = ((all.0.some, all.0.most), standing w all.1)
 
+-- a stored word has at most three bytes a square
 pub kept_short : (bytes : List ℕ) → IsStored bytes → length bytes ≤ 3 * order_of (moves_in bytes)
 kept_short bytes s = subst (λ (z : List ℕ). length z ≤ 3 * order_of (moves_in bytes)) (sym s.same)
     (short (moves_in bytes) (standing (moves_in bytes) s.kept.moves))
 
+-- a word of moves that can stand, with one more of them
 pub all_one : (w : Word) (m : Move) → AllByRecursion CanStand w → CanStand m → AllByRecursion CanStand (w ++ m ∷ [])
 all_one [] m all one = (one, tt)
 all_one (n ∷ w) m all one = (all.0, all_one w m all.1 one)
@@ -97,6 +107,7 @@ all_one (n ∷ w) m all one = (all.0, all_one w m all.1 one)
 pub kept_one : (w : Word) (m : Move) → IsKeptWord w → CanStand m → order_of w + m.count ≤ 200 → IsKeptWord (w ++ m ∷ [])
 kept_one w m kept one few = record { moves = all_one w m kept.moves one; few = omega (arith, order_one w m) }
 
+-- a move's bytes behind those of a word store the word with that move
 pub pushed : (bytes : List ℕ) (w : Word) (m : Move) → IsStored bytes → moves_in bytes ≡ w → CanStand m → order_of w + m.count ≤ 200
     → (moves_in (bytes ++ stored_move m) ≡ w ++ m ∷ []) × IsStored (bytes ++ stored_move m)
 pushed bytes w m s is one few =

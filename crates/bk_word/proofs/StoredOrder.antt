@@ -69,6 +69,7 @@ words_then (m ∷ v) (n ∷ w) a b =
     ap (ordering_then (nat_cmp m.count n.count)) (signs_then m.signs n.signs v w (word_cmp v w) a.1 b.1 (words_then v w a.1 b.1))
     ∙ sym (then_then (nat_cmp m.count n.count) (slice_cmp sign_cmp m.signs n.signs) (word_cmp v w))
 
+-- stored words compare as words do
 pub stored_cmp : (a b : List ℕ) (v w : Word) → IsStored a → IsStored b → moves_in a ≡ v → moves_in b ≡ w → bytes_cmp a b ≡ word_cmp v w
 stored_cmp a b v w sa sb ia ib =
     (λ i. bytes_cmp (sa.same i) (sb.same i))

@@ -70,6 +70,7 @@ short_dots (m ∷ w) all few =
       order_more m w,
     )
 
+-- the text of a kept word has at most 800 bytes
 pub short_text : (w : Word) → IsKeptWord w → 0 < length w → length (word_text w) ≤ 800
 short_text [] kept some = omega arith
 short_text (m ∷ w) kept some =
@@ -90,6 +91,7 @@ first_pieces rest i =
     ap (λ (z : List ℕ). flat_map piece z) (sym (take-append-drop i rest)) ∙ flat_map-append piece (take i rest) (drop i rest) in
     omega (arith, length-append (flat_map piece (take i rest)) (flat_map piece (drop i rest)), ap (λ (z : List ℕ). length z) cut)
 
+-- the text of a word is its first count and then a piece for each further byte
 pub whole_text : (bytes : List ℕ) (w : Word) → bytes ≡ stored w → IsKeptWord w → 0 < length w
     → word_text w ≡ decimal (slice_index_or bytes 0 0) ++ flat_map piece (drop 1 bytes)
 whole_text bytes [] is kept some = absurd (omega arith)
@@ -104,6 +106,7 @@ further_piece bytes i within =
     ∙ flat_map-append piece (take i bytes) (get_or bytes i 0 ∷ [])
     ∙ ap (λ (z : List ℕ). flat_map piece (take i bytes) ++ z) (append-nil (piece (get_or bytes i 0)))
 
+-- the pieces of the first bytes and of the next one are together no longer than all
 pub length_further : (bytes : List ℕ) (i : ℕ) → i < length bytes → length (flat_map piece (take i bytes)) + length (piece (get_or bytes i 0))
     ≤ length (flat_map piece bytes)
 length_further bytes i within =
@@ -125,6 +128,7 @@ all_can_be_written [] all few = tt
 all_can_be_written (m ∷ w) all few =
     (record { stands = all.0; digits = omega (arith, few, order_more m w) }, all_can_be_written w all.1 (omega (arith, few, order_more m w)))
 
+-- what is written of a kept word is a text of it
 pub written_is_text : (w : Word) → IsKeptWord w → 0 < length w → IsTextOf (word_text w) w
 written_is_text w kept some = record { some = some; moves = all_can_be_written w kept.moves kept.few; text = refl }
 

@@ -143,6 +143,7 @@ an_end (Signs w m) e = some_when ((m.count - 1 - length m.signs) == 0) (w ++ m �
 
 -- ---- progress
 
+-- the bytes read so far spell what the reader stands behind, and of that the word taken is kept
 pub record Progress (front : List ℕ) (p : Place) (t : Taken) : Type 0 where
   pub r : Reading
   pub can : CanBeRead r
@@ -150,6 +151,7 @@ pub record Progress (front : List ℕ) (p : Place) (t : Taken) : Type 0 where
   pub place : p ≡ place_of r
   pub keeps : Keeps (taken r) t
 
+-- nothing is read yet, and nothing taken
 pub at_start : (t : Taken) → Keeps [] t → Progress [] BeforeCount t
 at_start t keeps = record { r = Before []; can = tt; spells = refl; place = refl; keeps = keeps }
 
@@ -198,6 +200,7 @@ stops bs i p t within g e =
         let stuck : read (get_or bs i 0 ∷ x) g.r ≡ None = ap (λ (o : Option Reading). option_and_then (read x) o) none in
         absurd (cc)
 
+-- once the place is at the end, all bytes are read
 pub whole : (bs : List ℕ) (i : ℕ) (p : Place) (t : Taken) → length bs ≤ i → Progress (take i bs) p t → Progress bs p t
 whole bs i p t all g = subst (λ (z : List ℕ). Progress z p t) (take_all i bs all) g
 
@@ -242,6 +245,7 @@ taken_short (Before w) can = all_short w can
 taken_short (Count w c) can = all_short w can.0
 taken_short (Signs w m) can = one_short w m (all_short w can.0) can.1.0 can.3
 
+-- a word of at most 200 squares takes at most 600 bytes
 pub has_room : (front : List ℕ) (p : Place) (t : Taken) → Progress front p t → t.order ≤ 200 → length t.bytes.items ≤ 600
 has_room front p t g few =
     let order : order_of (taken g.r) ≤ 200 = omega (arith, few, g.keeps.order) in

@@ -30,12 +30,14 @@ read (b ∷ bytes) r = option_and_then (read bytes) (step r (kind_of b))
 pub read_next : (r next : Reading) (k : Kind) (b : ℕ) (bytes : List ℕ) → kind_of b ≡ k → step r k ≡ Some next → read (b ∷ bytes) r ≡ read bytes next
 read_next r next k b bytes kind e = ap (λ (k : Kind). option_and_then (read bytes) (step r k)) kind ∙ ap (option_and_then (read bytes)) e
 
+-- the byte of a digit is read as that digit
 pub kind_digit : (d : ℕ) → d < 10 → kind_of (48 + d) ≡ Digit d
 kind_digit d small =
     let is_digit : (nat_le 48 (48 + d) && nat_le (48 + d) 57) ≡ true = and_from _ _ (le-leb 48 (48 + d) (omega arith)) (le-leb (48 + d) 57 (omega arith)) in
     let own : 48 + d - 48 ≡ d = omega arith in
     cond-true _ _ _ is_digit ∙ ap Digit own
 
+-- the letter of a sign is read as that sign
 pub kind_letter : (s : Sign) → kind_of (letter s) ≡ Letter s
 kind_letter Above = refl
 kind_letter Even = refl
@@ -70,6 +72,7 @@ two_digits w n x some few = elim (cases_lt n 10) [
   | inr h ↦ one_more w n x h (omega arith) (λ y. one_digit w (n / 10) y (omega arith) (omega arith))
 ]
 
+-- the digits of a count of one to three digits are read as that count
 pub count_read : (w : Word) (n : ℕ) (x : List ℕ) → 0 < n → n ≤ 999 → read (decimal n ++ x) (Before w) ≡ read x (Count w n)
 count_read w n x some few = elim (cases_lt n 100) [
   | inl h ↦ two_digits w n x some h
@@ -93,6 +96,7 @@ letters_read w c before (s ∷ ss) x few =
     ∙ letters_read w c (before ++ s ∷ []) ss x (omega (arith, length-append before (s ∷ [])))
     ∙ ap (λ (l : List Sign). read x (Signs w (record { count = c; signs = l }))) (append_assoc before (s ∷ []) ss)
 
+-- letters behind a count are read as its signs
 pub signs_read : (w : Word) (c : ℕ) (ss : List Sign) (x : List ℕ) → length ss ≤ c + 1
     → read (map letter ss ++ x) (Count w c) ≡ read x (behind w (record { count = c; signs = ss }) ss)
 signs_read w c [] x few = refl
@@ -102,6 +106,7 @@ signs_read w c (s ∷ ss) x few =
 
 -- ---- moves
 
+-- the text of a move is read as that move
 pub move_read : (w : Word) (m : Move) (x : List ℕ) → 0 < m.count → m.count ≤ 999 → length m.signs ≤ m.count + 1
     → read (move_text m ++ x) (Before w) ≡ read x (behind w m m.signs)
 move_read w m x some few most =
@@ -136,6 +141,7 @@ moves_read v m (n ∷ w) all =
     ∙ moves_read (v ++ m ∷ []) n w all.1
     ∙ ap (λ (z : Word). Some z) (append_assoc v (m ∷ []) (n ∷ w))
 
+-- each text of a word is read as that word
 pub text_is_read : (bytes : List ℕ) (w : Word) → IsTextOf bytes w → read bytes (Before []) ≡ Some w
 text_is_read bytes [] h = absurd (omega (arith, h.some))
 text_is_read bytes (m ∷ w) h = ap (λ (z : List ℕ). read z (Before [])) h.text ∙ moves_read [] m w h.moves

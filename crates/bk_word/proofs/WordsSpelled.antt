@@ -37,6 +37,7 @@ CanBeRead (Before w) = AllByRecursion IsWrittenMove w
 CanBeRead (Count w count) = AllByRecursion IsWrittenMove w × IsCount count
 CanBeRead (Signs w m) = AllByRecursion IsWrittenMove w × IsCount m.count × (0 < length m.signs) × (length m.signs ≤ m.count + 1)
 
+-- moves that a text can hold, with one more of them
 pub written_one : (w : Word) (m : Move) → AllByRecursion IsWrittenMove w → IsWrittenMove m → AllByRecursion IsWrittenMove (w ++ m ∷ [])
 written_one [] m all one = (one, tt)
 written_one (n ∷ w) m all one = (all.0, written_one w m all.1 one)
@@ -57,6 +58,7 @@ text_of_last (n ∷ k ∷ w) m =
     ∙ sym (append_assoc (move_text n) (46 ∷ []) (dotted (k ∷ w) ++ move_text m))
     ∙ sym (append_assoc (move_text n ++ 46 ∷ []) (dotted (k ∷ w)) (move_text m))
 
+-- moves that end with dots, and a last one without, are a text
 pub is_text : (w : Word) (m : Move) → AllByRecursion IsWrittenMove w → IsWrittenMove m → IsTextOf (dotted w ++ move_text m) (w ++ m ∷ [])
 is_text w m all one = record { some = omega (arith, length-append w (m ∷ [])); moves = written_one w m all one; text = sym (text_of_last w m) }
 
@@ -77,6 +79,7 @@ digit_means b h =
     let parts = and_parts (nat_le 48 b) (nat_le b 57) h in
     (omega (arith, leb-true 48 b parts.0), omega (arith, leb-true b 57 parts.1))
 
+-- a byte is the one that its kind stands for
 pub means : (b : ℕ) → Means (kind_of b) b
 means b =
     either (nat_le 48 b && nat_le b 57) (Digit (b - 48)) _ b (λ h. digit_means b h) (
@@ -87,6 +90,7 @@ means b =
 
 -- ---- one byte further
 
+-- a digit behind the digits of a number of one or two
 pub longer_decimal : (n d : ℕ) → 0 < n → n < 100 → d < 10 → decimal (n * 10 + d) ≡ decimal n ++ (48 + d) ∷ []
 longer_decimal n d some few small =
     let tens : (n * 10 + d) / 10 ≡ n = omega arith in
@@ -159,6 +163,7 @@ one_further (Signs w m) Dot b can is = when ((m.count - 1 - length m.signs) == 0
 })
 one_further (Signs w m) Other b can is = tt
 
+-- what is read with a further byte is spelled by the bytes before and that byte
 pub further : (r next : Reading) (b : ℕ) → CanBeRead r → step r (kind_of b) ≡ Some next → Further r next b
 further r next b can e = subst (λ (o : Option Reading). FurtherBy o r b) e (one_further r (kind_of b) b can (means b))
 
@@ -180,5 +185,6 @@ text_ended (Count w c) can = text_when (nat_le c 1) (w ++ bare c ∷ []) (dotted
 text_ended (Signs w m) can = text_when ((m.count - 1 - length m.signs) == 0) (w ++ m ∷ []) (dotted w ++ move_text m)
     (λ h. is_text w m can.0 (move_written m can.1 can.3 (omega (arith, eqb-true (m.count - 1 - length m.signs) 0 h))))
 
+-- where the reader says that a word may end, the bytes are a text of that word
 pub text_found : (r : Reading) (w : Word) → CanBeRead r → ended r ≡ Some w → IsTextOf (spelled r) w
 text_found r w can e = subst (λ (o : Option Word). TextBy o (spelled r)) e (text_ended r can)

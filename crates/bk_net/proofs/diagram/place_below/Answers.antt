@@ -3,8 +3,9 @@ use Rattle.std.specs.List.Sorted.{IsPartitionPoint}
 use Rattle.std.specs.Prelude.{false, true}
 use Rattle.std.proofs.lemmas.List.Sorted.{IsPartitionPoint-from_clause}
 use Rattle.bk_tiling.proofs.TilingLaws.{within_of}
-use Rattle.bk_net.proofs.NodeNumbers.{IsFound, found, parted}
+use Rattle.bk_net.proofs.NodeNumbers.{IsFound, found}
 use Rattle.bk_net.specs.GroupNumbers.{is_no_later}
+use Rattle.bk_net.proofs.SquareNumbers.{parted}
 use Rattle.bk_net.proofs.diagram.place_below.Goals as goal
 
 pub overflow_add-level : goal.overflow_add-level
