@@ -8,7 +8,7 @@ use Rattle.std.proofs.lemmas.Int.{ints}
 use Rattle.std.proofs.lemmas.List.{append_assoc, length-append, length-map, length-replicate, length-take-le, map-append, take-append-drop}
 use Rattle.std.proofs.lemmas.Option.{slice_get_within}
 use Rattle.bk_laws.proofs.Occurrences.{times}
-use Rattle.bk_laws.proofs.ListPlaces.{get_append, get_back, get_front}
+use Rattle.bk_laws.proofs.ListPlaces.{get_append, get_back, get_front, index_got}
 use Rattle.bk_laws.proofs.AllOfLists.{all_left, all_right}
 use Rattle.bk_laws.proofs.Totals.{total}
 use Rattle.bk_tiling.proofs.Cells.{from_append}
@@ -44,12 +44,6 @@ get_either (x ∷ xs) ys (suc k) q e = cases (get_either xs ys k q e)
         → ((suc k < length (x ∷ xs)) × (slice_get (x ∷ xs) (suc k) ≡ Some q)) ⊎ ((j : ℕ) × (suc k ≡ length (x ∷ xs) + j) × (slice_get ys j ≡ Some q))
     cases (inl h) = inl (omega (arith, h.0), h.1)
     cases (inr h) = inr (h.0, omega (arith, h.1), h.2)
-
--- what is got at a place stands there
-pub get_value : (xs : List ℕ) (k x : ℕ) → slice_get xs k ≡ Some x → slice_index_or xs k 0 ≡ x
-get_value [] k x e = absurd (cc)
-get_value (y ∷ xs) zero x e = cc
-get_value (y ∷ xs) (suc k) x e = get_value xs k x e
 
 module _ (O : Outline) (played : Played O) (f : Flow) (flow : IsFlow (net_after O) f) (s : HasSides f) (width : ℕ)
     (width_is : width ≡ out_sum O.hung s.sides 0) where
@@ -236,7 +230,7 @@ module _ (O : Outline) (played : Played O) (f : Flow) (flow : IsFlow (net_after 
         )
 
         side : slice_index_or s.sides k 0 ≡ q.s
-        side = get_value s.sides k q.s (subst (λ (l : List ℕ). slice_get l k ≡ Some q.s) (sym base.prefix)
+        side = index_got s.sides k q.s (subst (λ (l : List ℕ). slice_get l k ≡ Some q.s) (sym base.prefix)
             (get_append (laid_sides laid) base.rest k q.s (get_side laid k q e)))
 
     closed_at : slice_index_or O.closed (length o.closed) [] ≡ valley_of o

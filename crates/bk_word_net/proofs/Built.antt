@@ -7,7 +7,7 @@ use Rattle.std.proofs.Common.{◌+◌, ◌<◌, ◌∙◌, ◌∷◌, ◌≡◌,
 use Rattle.std.proofs.lemmas.Int.{ints}
 use Rattle.std.proofs.lemmas.Option.{slice_get_within}
 use Rattle.bk_laws.proofs.Occurrences.{times, times-concat, times_in}
-use Rattle.bk_laws.proofs.ListPlaces.{get_append, get_back}
+use Rattle.bk_laws.proofs.ListPlaces.{get_append, get_back, index_got}
 use Rattle.bk_laws.proofs.Totals.{total}
 use Rattle.bk_tiling.proofs.Rows.{laid_sides}
 use Rattle.bk_tiling.specs.CodeOrder.{in_code_order}
@@ -21,7 +21,7 @@ use Rattle.bk_word.specs.Play.{AreLegalFrom, after_move, after_moves}
 use Rattle.bk_word.specs.Word.{Move, Word}
 use Rattle.bk_lay.specs.Depiction.{IsNumbered}
 use Rattle.bk_word_net.proofs.BottomChain.{BottomChain, chain_level}
-use Rattle.bk_word_net.proofs.Building.{Base, NextSides, ValleyAt, base_move, chain_move, get_value, more, next_sides, valley_at}
+use Rattle.bk_word_net.proofs.Building.{Base, NextSides, ValleyAt, base_move, chain_move, more, next_sides, valley_at}
 use Rattle.bk_word_net.proofs.FilledColumns.{columns_are_tiling}
 use Rattle.bk_word_net.proofs.FlowFacts.{HasSides, IsLater, drop_of, is_later}
 use Rattle.bk_word_net.proofs.NoLoose.{Played, played_move}
@@ -144,7 +144,7 @@ module _ (O : Outline) (played : Played O) (f : Flow) (flow : IsFlow (net_after 
         few = omega (arith, slice_get_within all k q e, base.count)
 
         side : slice_index_or s.sides k 0 ≡ q.s
-        side = get_value s.sides k q.s (subst (λ (l : List ℕ). slice_get l k ≡ Some q.s) (sym base.prefix)
+        side = index_got s.sides k q.s (subst (λ (l : List ℕ). slice_get l k ≡ Some q.s) (sym base.prefix)
             (get_append (laid_sides all) base.rest k q.s (get_side all k q e)))
 
     height : ℕ

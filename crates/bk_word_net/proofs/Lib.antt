@@ -11,6 +11,7 @@ pub mod SidesExamples
 pub mod Sums
 pub mod AlongWord
 pub mod LaidFlow
+pub mod GrownAlike
 pub mod OneTiling
 pub mod PrimitiveTiling
 -- from a flow that places squares back to a tiling that has the word

@@ -18,7 +18,8 @@ times_in-before : (m : ℕ) (numbers : List ℕ) (lists : List (List ℕ)) → t
 times_in-before m numbers [] = refl
 times_in-before m numbers (next ∷ lists) = omega (arith, times-append m numbers next)
 
-times_in-joined : (m : ℕ) (signs : List Sign) (lists : List (List ℕ)) → times_in m (joined signs lists) ≡ times_in m lists
+-- joining keeps how often a number stands in the segments
+pub times_in-joined : (m : ℕ) (signs : List Sign) (lists : List (List ℕ)) → times_in m (joined signs lists) ≡ times_in m lists
 times_in-joined m signs [] = refl
 times_in-joined m [] (numbers ∷ lists) = refl
 times_in-joined m (Even ∷ signs) (numbers ∷ lists) = omega (arith, times_in-before m numbers (joined signs lists), times_in-joined m signs lists)
@@ -32,7 +33,8 @@ times_in-cut m (suc p) [] = refl
 times_in-cut m zero (numbers ∷ lists) = omega arith
 times_in-cut m (suc p) (numbers ∷ lists) = omega (arith, times_in-cut m p lists)
 
-times_in-singles : (m : ℕ) (numbers : List ℕ) → times_in m (map (λ q. q ∷ []) numbers) ≡ times m numbers
+-- a number stands in single segments as often as in the row
+pub times_in-singles : (m : ℕ) (numbers : List ℕ) → times_in m (map (λ q. q ∷ []) numbers) ≡ times m numbers
 times_in-singles m [] = refl
 times_in-singles m (n ∷ numbers) = omega (arith, times_in-singles m numbers)
 

@@ -41,12 +41,13 @@ use Rattle.bk_word_net.proofs.FlowWord.{IsPlacing, bottoms_are}
 use Rattle.bk_word_net.proofs.LaidFlow.{end_level, laid_sides_are_a_flow, potential_at}
 use Rattle.bk_word_net.proofs.NoLoose.{Played, a_word_has_one_flow, a_word_net_has_no_loose, closed_count, hung_number, played_move, played_start, played_word}
 use Rattle.bk_word_net.proofs.Numbering.{place_of_number}
-use Rattle.bk_word_net.proofs.OneTiling.{along_prefix, laid_along}
+use Rattle.bk_word_net.proofs.OneTiling.{laid_along}
 use Rattle.bk_word_net.proofs.Sums.{positive_sides}
 use Rattle.bk_word_net.proofs.Wires.{first_counted}
 use Rattle.bk_word_net.specs.FlowTiling.{AWordOfATilingIsPlaced, PlacesWord, SignsCompare, bottom_in, bottoms_of_move, segment_bottom}
 use Rattle.bk_word_net.specs.WordFlow.{LaidAlong, laid_flow}
 use Rattle.bk_word_net.specs.WordNet.{end_of, net_after}
+use Rattle.bk_word_net.proofs.GrownAlike.{along_prefix}
 
 sign_scaled : (k a b : ℕ) → 0 < k → sign_between (k * a) (k * b) ≡ sign_between a b
 sign_scaled k a b h = cases (three a b)

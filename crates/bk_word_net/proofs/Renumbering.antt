@@ -5,7 +5,7 @@ use Rattle.std.proofs.Common.{ℕ, ◌++◌, ◌+◌, ◌<◌, ◌∙◌, ◌∷
 use Rattle.std.proofs.lemmas.Bool.{cases_lt}
 use Rattle.std.proofs.lemmas.Option.{slice_get_within}
 use Rattle.std.proofs.lemmas.List.{length-append, length-map}
-use Rattle.bk_laws.proofs.ListPlaces.{get_map, get_some}
+use Rattle.bk_laws.proofs.ListPlaces.{get_map, get_some, index_got}
 use Rattle.bk_tiling.specs.declared.Segment.{Segment}
 use Rattle.bk_tiling.specs.Tiling.{IsOneOf, IsTiling, Tiling, covers}
 use Rattle.bk_tiling.specs.declared.Square.{Square}
@@ -24,7 +24,6 @@ use Rattle.bk_lay.proofs.Steps.{one_of}
 use Rattle.bk_lay.proofs.WordPlay.{fewer}
 use Rattle.bk_lay.specs.TilingWord.{IsWordOf}
 use Rattle.bk_word_net.proofs.AlongWord.{HasBegun, NotBegun}
-use Rattle.bk_word_net.proofs.Building.{get_value}
 use Rattle.bk_word_net.proofs.ExactNodes.{ExactEnd, IsGroupRun, exact_end}
 use Rattle.bk_word_net.proofs.LaidFlow.{get_one}
 use Rattle.bk_word_net.proofs.NoLoose.{closed_count}
@@ -72,7 +71,7 @@ module _ (t : Tiling) (w : Word) (tiling : IsTiling t) (p : IsWordOf t w) where
 
   square_at_wire : (k : ℕ) (q : Square) → slice_get e.laid k ≡ Some q → slice_get t.squares (wire k) ≡ Some q
   square_at_wire k q f = ap (slice_get t.squares)
-      (get_value (map (λ q. position_or_len (covers q.x q.y) t.squares) e.laid) k (position_or_len (covers q.x q.y) t.squares)
+      (index_got (map (λ q. position_or_len (covers q.x q.y) t.squares) e.laid) k (position_or_len (covers q.x q.y) t.squares)
       (get_map (λ q. position_or_len (covers q.x q.y) t.squares) e.laid k q f))
       ∙ pos_found (covers q.x q.y) t.squares q q_in (own_cell t tiling q q_in) (λ r h c. one_there t tiling r q q.x q.y h c q_in (own_cell t tiling q q_in))
     where

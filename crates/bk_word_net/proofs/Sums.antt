@@ -36,7 +36,8 @@ pub positive_sides : (squares : List Square) → ((q : Square) → IsOneOf q squ
 positive_sides [] each = tt
 positive_sides (q ∷ squares) each = (each q (inl refl), positive_sides squares (λ r h. each r (inr h)))
 
-one_wire : (a b : Bool) (s m n : ℕ) (r : ℤ) → r ≡ pos m -ℤ pos n
+-- one wire more: its side flows out of the node where it begins, and into the node where it ends
+pub one_wire : (a b : Bool) (s m n : ℕ) (r : ℤ) → r ≡ pos m -ℤ pos n
     → (cond a (pos s) (pos 0) -ℤ cond b (pos s) (pos 0)) +ℤ r ≡ pos (cond a s 0 + m) -ℤ pos (cond b s 0 + n)
 one_wire true true s m n r e = omega (arith, ints)
 one_wire true false s m n r e = omega (arith, ints)

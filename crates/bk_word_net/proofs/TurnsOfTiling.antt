@@ -20,11 +20,11 @@ use Rattle.bk_lay.proofs.Valleys.{one_leftmost_valley}
 use Rattle.bk_lay.specs.TilingWord.{IsLeftmostValley, MovesFollow, depth_before, depth_from, move_under, signs_between, squares_under}
 use Rattle.bk_word_net.proofs.AlongWord.{Along, along_move, along_start, top_valley}
 use Rattle.bk_word_net.proofs.ShownOutline.{fills_total}
-use Rattle.bk_word_net.proofs.OneTiling.{along_prefix, append_parts}
 use Rattle.bk_word_net.proofs.Sums.{positive_sides}
 use Rattle.bk_word_net.specs.LaidTiling.{IsLaidWith}
 use Rattle.bk_word_net.specs.LaidOutline.{IsTurn}
 use Rattle.bk_word_net.specs.WordFlow.{LaidAlong}
+use Rattle.bk_word_net.proofs.GrownAlike.{append_parts, along_prefix}
 
 -- the tiling has this width; these squares of it are laid, these moves follow, and these sides
 pub record AgreesAt (width : ℕ) (t : Tiling) (laid : List Square) (o : Outline) (w : Word) (rest : List ℕ) : Type 0 where

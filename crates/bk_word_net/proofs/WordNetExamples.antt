@@ -11,6 +11,7 @@ use Rattle.bk_word.specs.declared.Sign.TheVariants.{Even, Under}
 use Rattle.bk_word_net.specs.FlowTiling.{PlacesWord}
 use Rattle.bk_word_net.specs.WordNet.{net_of_word}
 
+-- the net of the word of 65x47 has six nodes
 pub net_65x47 : net_of_word word_65x47 ≡ record {
   nodes = 6;
   wires =
@@ -18,6 +19,7 @@ pub net_65x47 : net_of_word word_65x47 ≡ record {
 }
 net_65x47 = refl
 
+-- and that of the word of four equal squares three
 pub net_of_four : net_of_word word_of_four ≡ record { nodes = 3; wires = (0, 1) ∷ (0, 1) ∷ (1, 2) ∷ (1, 2) ∷ [] }
 net_of_four = refl
 
@@ -29,6 +31,7 @@ same_33x32 = refl
 abbrev pub word_3x2 : Word
 word_3x2 = move 2 (Under ∷ []) ∷ move 1 (Even ∷ []) ∷ []
 
+-- the flow of the rectangle 3x2
 abbrev pub flow_3x2 : Flow
 flow_3x2 = record { total = pos 3; potentials = pos 2 ∷ pos 1 ∷ pos 0 ∷ []; currents = pos 2 ∷ pos 1 ∷ pos 1 ∷ [] }
 

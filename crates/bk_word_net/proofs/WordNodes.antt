@@ -9,7 +9,7 @@ use Rattle.std.proofs.lemmas.List.{length-append, length-map}
 use Rattle.bk_laws.proofs.Occurrences.{times}
 use Rattle.bk_laws.proofs.ZippedLists.{zip_append, zip_length}
 use Rattle.bk_laws.proofs.Totals.{total}
-use Rattle.bk_laws.proofs.ListPlaces.{get_after, get_append, get_back, get_front, get_map, get_some}
+use Rattle.bk_laws.proofs.ListPlaces.{get_after, get_append, get_back, get_front, get_map, get_some, index_got}
 use Rattle.bk_tiling.proofs.Cells.{covers_from, in_all, one_counted, over_from}
 use Rattle.bk_tiling.proofs.Rows.{chain_total, laid_sides}
 use Rattle.bk_tiling.proofs.TilingLaws.{cell_once, side_of, wide_enough, within_of}
@@ -33,7 +33,6 @@ use Rattle.bk_lay.proofs.ValleySegment.{all_laid}
 use Rattle.bk_lay.proofs.WordPlay.{NoneTwice, none_twice, one_run, tiling_word_is_complete}
 use Rattle.bk_lay.specs.Depiction.{Depicts, Hangs, IsNumbered, IsSegment}
 use Rattle.bk_lay.specs.TilingWord.{IsWordOf}
-use Rattle.bk_word_net.proofs.Building.{get_value}
 use Rattle.bk_word_net.proofs.ExactNodes.{ExactEnd, IsGroupRun, exact_end}
 use Rattle.bk_word_net.proofs.LaidFlow.{get_one, zip_get}
 use Rattle.bk_word_net.proofs.NoLoose.{Played, played_word}
@@ -155,7 +154,7 @@ module _ (t : Tiling) (w : Word) (tiling : IsTiling t) (p : IsWordOf t w) where
   node_at : (k : ℕ) (v : Segment) → slice_get e.nodes k ≡ Some v → node_of_word k ≡ position_or_len (list_any (covers v.x v.level)) (square_groups t.squares)
   node_at k v f = get_front (map (λ v. position_or_len (list_any (covers v.x v.level)) (square_groups t.squares)) e.nodes)
       (length (square_groups t.squares) ∷ []) k 0 (omega (arith, names_count, slice_get_within e.nodes k v f))
-      ∙ get_value (map (λ v. position_or_len (list_any (covers v.x v.level)) (square_groups t.squares)) e.nodes) k
+      ∙ index_got (map (λ v. position_or_len (list_any (covers v.x v.level)) (square_groups t.squares)) e.nodes) k
       (position_or_len (list_any (covers v.x v.level)) (square_groups t.squares))
       (get_map (λ v. position_or_len (list_any (covers v.x v.level)) (square_groups t.squares)) e.nodes k v f)
 
