@@ -14,6 +14,7 @@ use Rattle.bk_simple.specs.Simple.{IsPerfect, IsRepeated}
 use Rattle.bk_sym.specs.Canonical.{IsCanonical}
 use Rattle.bk_barren.proofs.CornerTest.{IsLongerInCorner, in_corner}
 
+-- what is read past the end of a list of squares
 abbrev pub nowhere : Square
 nowhere = record { x = 0; y = 0; s = 0 }
 
@@ -81,6 +82,7 @@ none_more squares i before here a b ab high e = elim (cases_lt b i) [
       here a (omega (arith, ab, same)) (subst (λ (n : ℕ). (slice_index_or squares a nowhere).s ≡ (slice_index_or squares n nowhere).s) same e)
 ]
 
+-- where none of the first squares and not the next one has the side, none of them all has it
 pub none_before : (squares : List Square) (side i : ℕ) → ((a : ℕ) → a < i → (slice_index_or squares a nowhere).s ≡ side → ⊥)
     → ((slice_index_or squares i nowhere).s ≡ side → ⊥) → (a : ℕ) → a < i + 1 → (slice_index_or squares a nowhere).s ≡ side → ⊥
 none_before squares side i before here a high e = elim (cases_lt a i) [

@@ -7,8 +7,8 @@ ghost use Rattle.bk_tiling.specs.Tiling.{IsTiling, Tiling as Tiled};
 
 use bk_tiling::{Square, Tiling};
 
-/// Whether no square in a corner is longer than the one in the top left corner. Where one is, an image has a greater flat list.
-pub fn begins_greatest(tiling: &Tiling) -> bool
+// Whether no square in a corner is longer than the one in the top left corner. Where one is, an image has a greater flat list.
+pub(crate) fn begins_greatest(tiling: &Tiling) -> bool
     ensures { result ≡ false → IsCanonical tiling.now → ⊥ }
 {
     corners_allow(tiling.squares(), tiling.width(), tiling.height())
@@ -16,7 +16,8 @@ pub fn begins_greatest(tiling: &Tiling) -> bool
 
 // Whether this can be said of the squares of a rectangle in any order, the first of which is asked for in the top left corner.
 pub(crate) fn corners_allow(squares: &[Square], width: u64, height: u64) -> bool
-    ensures { result ≡ false → (t : Tiled) → IsTiling t → width ≡ t.width → height ≡ t.height → in_code_order squares.now ≡ t.squares → IsCanonical t → ⊥ }
+    ensures { result ≡ false → (t : Tiled) → IsTiling t → width ≡ t.width → height ≡ t.height
+        → in_code_order squares.now ≡ t.squares → IsCanonical t → ⊥ }
 {
     if squares.is_empty() {
         return true;

@@ -8,7 +8,6 @@ mod members;
 mod repeats;
 
 pub use bk_table::span_of;
-pub use corners::begins_greatest;
 pub use finding::Finder;
 pub use judging::qualifies;
 pub use members::MemberTable;

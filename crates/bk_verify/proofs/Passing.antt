@@ -15,7 +15,7 @@ use Rattle.bk_word.specs.Word.{Follows, Word, word_cmp}
 use Rattle.bk_word.specs.declared.Class.{Class}
 use Rattle.bk_word.specs.declared.Class.TheVariants.{Perfect}
 use Rattle.bk_lay.proofs.WordPlay.{tiling_word_is_complete}
-use Rattle.bk_walk.proofs.Starting.{word_same}
+use Rattle.bk_tree.proofs.Places.{word_same}
 use Rattle.bk_word.proofs.FollowLaws.{not_itself}
 use Rattle.bk_catalogue.specs.Catalogue.{AreAscending, Entry, IsEntry}
 use Rattle.bk_walk.specs.Walking.{HasNoneAfter, IsNextMember, WalkState}

@@ -12,9 +12,10 @@ use Rattle.bk_word.specs.Word.{Follows, Word, word_cmp}
 use Rattle.bk_word.specs.declared.Class.{Class}
 use Rattle.bk_word.proofs.FollowLaws.{not_itself}
 use Rattle.bk_catalogue.specs.Catalogue.{Entry, IsEntry}
-use Rattle.bk_walk.specs.Search.{IsEnd, IsMet, IsPlace, IsTreeWord}
+use Rattle.bk_walk.specs.Search.{HasPassed, IsEnd, IsMet, IsTreeWord}
 use Rattle.bk_tree.specs.Tree.{AreAscendingWords, IsInTree}
 
+-- the word of an entry is a word of the tree
 pub entry_word : (n : ℕ) (class : Class) (e : Entry) → IsEntry n class e → IsTreeWord n e.word
 entry_word n class e is = record {
   legal = ((tiling_word_is_complete e.tiling e.word (is.member).tiling is.word).0).legal;
@@ -45,6 +46,7 @@ before_not_before u v w f g = cases (word_cmp w v) refl
     cases Equal e = word_total.antisymm u w ∙ ap ordering_reverse (word_total.congr w v u e) ∙ sym (word_total.antisymm u v) ∙ f
     cases Greater e = follows_trans u v w f (word_total.antisymm v w ∙ ap ordering_reverse e)
 
+-- of two words not each is before the other
 pub not_both : (v w : Word) → Follows v w → Follows w v → ⊥
 not_both v w f g = not_itself v (follows_trans v w v g f)
 
@@ -61,7 +63,7 @@ ascending_to n cursor place word from (w ∷ words) all up = (
 -- the place moves on, over what no member's word is among
 module _ (n : ℕ) (class : Class) (place next : Word) (up : Follows next place)
     (none : (e : Entry) → IsEntry n class e → (Follows place e.word → ⊥) → Follows next e.word → ⊥) (cursor : Word) (met : ℕ)
-    (p : IsPlace n class cursor place met) where
+    (p : HasPassed n class cursor place met) where
   each_on : (words : List Word) → AllByRecursion (λ w. IsInTree n cursor None w × Follows place w) words
       → AllByRecursion (λ w. IsInTree n cursor None w × Follows next w) words
   each_on [] all = tt
@@ -77,7 +79,8 @@ module _ (n : ℕ) (class : Class) (place next : Word) (up : Follows next place)
   after_on : (w : Word) → IsTreeWord n w → (Follows next w → ⊥) → Follows w cursor
   after_on w tree from = p.after w tree (λ f. from (follows_trans w place next f up))
 
-  pub moved_on : IsPlace n class cursor next met
+  -- it has passed what it had, and met as many words
+  pub moved_on : HasPassed n class cursor next met
   moved_on = record { passed = passed_on; after = after_on; words = p.words; each = each_on p.words p.each; ascending = p.ascending; count = p.count }
 
   -- and past a word of the tree, which is met
@@ -85,7 +88,8 @@ module _ (n : ℕ) (class : Class) (place next : Word) (up : Follows next place)
     in_tree : IsInTree n cursor None word
     in_tree = record { legal = tree.legal; some = some; small = tree.small; after = p.after word tree from; within = tt }
 
-    pub met_on : IsPlace n class cursor next (met + 1)
+    -- it has met one word more
+    pub met_on : HasPassed n class cursor next (met + 1)
     met_on = record {
       passed = passed_on;
       after = after_on;
@@ -98,7 +102,7 @@ module _ (n : ℕ) (class : Class) (place next : Word) (up : Follows next place)
 -- up to a word of the tree, which is met
 module _ (n : ℕ) (class : Class) (place word : Word) (tree : IsTreeWord n word) (some : 0 < length word) (from : Follows place word → ⊥)
     (none : (e : Entry) → IsEntry n class e → (Follows place e.word → ⊥) → Follows word e.word → ⊥) (cursor : Word) (met : ℕ)
-    (p : IsPlace n class cursor place met) where
+    (p : HasPassed n class cursor place met) where
   each_to : (words : List Word) → AllByRecursion (λ w. IsInTree n cursor None w × Follows place w) words → AllByRecursion (IsInTree n cursor (Some word)) words
   each_to [] all = tt
   each_to (w ∷ words) all = (
@@ -112,6 +116,7 @@ module _ (n : ℕ) (class : Class) (place word : Word) (tree : IsTreeWord n word
     each_to words all.1,
   )
 
+  -- it meets the word, as one more
   pub met_at : IsMet n class cursor word (met + 1)
   met_at = record {
     after = p.after word tree from;
@@ -131,7 +136,7 @@ module _ (n : ℕ) (class : Class) (place word : Word) (tree : IsTreeWord n word
 
 -- the end: no word of the tree is left from the place on
 pub ended : (n : ℕ) (class : Class) (place cursor : Word) (met : ℕ) → ((w : Word) → IsTreeWord n w → (Follows place w → ⊥) → ⊥)
-    → IsPlace n class cursor place met → IsEnd n class cursor met
+    → HasPassed n class cursor place met → IsEnd n class cursor met
 ended n class place cursor met none p = record {
   passed = λ e is after. cases e is after (before_or e.word place);
   count = record { words = p.words; each = each_in p.words p.each; ascending = p.ascending; count = p.count };

@@ -22,7 +22,7 @@ use Rattle.bk_bounds.specs.SingleValleys.{single_valleys, sizes_of}
 use Rattle.bk_barren.specs.Cuts.{IsBarren}
 use Rattle.bk_member_table.specs.Members.{IsBarrenBy}
 use Rattle.bk_word.specs.OwnSigns.{own_signs}
-use Rattle.bk_walk.specs.MoveCuts.{EndsEven, IsCut, IsNear}
+use Rattle.bk_walk.specs.MoveCuts.{GrowsByAtMostOne, IsCut, IsFrontEndingEven}
 use Rattle.bk_tree.specs.NextMove.{IsMoveFrom, move_after, move_of, signs_after}
 use Rattle.bk_bounds.specs.VerticalCut.{line_bound_of}
 
@@ -38,6 +38,7 @@ front_from k m other from e = cases (less_to other (front_signs k m) e)
     cases (inr (h, f)) = from (less_from other m
         (inr (h, ap (signs_cmp other.signs) (sym (take-append-drop k m.signs)) ∙ less_longer other.signs (take k m.signs) (drop k m.signs) f)))
 
+-- where no member's word goes on by a move of the same count that begins with so many of the move's signs, all of these are cut
 pub cut_by_front : (n : ℕ) (class : Class) (front : Word) (m : Move) (k : ℕ)
     → ((other : Move) → IsLegalMove (outline_of front) other → other.count ≡ m.count → Begins (take k m.signs) other.signs
     → IsBarren n class (front ++ other ∷ []))
@@ -47,7 +48,8 @@ cut_by_front n class front m k barren = record {
   barren = λ other legal from to. let b = moves_between (front_signs k m) other (front_from k m other from) to in barren other legal b.0 b.1;
 }
 
-pub after_near : (k : ℕ) (m : Move) → IsNear m (move_after (front_signs k m))
+-- the move after those has few signs and at most one square more
+pub after_near : (k : ℕ) (m : Move) → GrowsByAtMostOne m (move_after (front_signs k m))
 after_near k m = cases (signs_after (take k m.signs)) (next_short (take k m.signs))
   where
     shorter : (k : ℕ) (a : List Sign) → length (take k a) ≤ length a
@@ -55,10 +57,11 @@ after_near k m = cases (signs_after (take k m.signs)) (next_short (take k m.sign
     shorter (suc k) [] = omega arith
     shorter (suc k) (s ∷ a) = omega (arith, shorter k a)
 
-    cases : (r : Option (List Sign)) → IsShort (length (take k m.signs)) r → IsNear m (move_of m.count r)
+    cases : (r : Option (List Sign)) → IsShort (length (take k m.signs)) r → GrowsByAtMostOne m (move_of m.count r)
     cases None h = record { least = omega arith; most = omega arith; signs = omega arith }
     cases (Some next) h = record { least = omega arith; most = omega arith; signs = omega (arith, shorter k m.signs) }
 
+-- all signs of a move are its own
 pub whole_front : (m : Move) → front_signs (length m.signs) m ≡ m
 whole_front m = move_from_parts (front_signs (length m.signs) m) m refl (take-length m.signs)
 
@@ -82,8 +85,9 @@ get_drop (suc f) j (t ∷ a) s e = get_drop f j a s (subst (λ (k : ℕ). slice_
     same : suc f + j ≡ suc (f + j)
     same = omega arith
 
+-- the cut by two equal squares side by side under one segment
 pub even_cut : (n : ℕ) (class : Class) (front : Word) (m : Move) (kept : ℕ) → (class ≡ Perfect) ⊎ (3 ≤ n)
-    → EndsEven (open_side (has_left_wall (outline_of front))) m.count m.signs kept → IsCut n class front m (move_after (front_signs kept m))
+    → IsFrontEndingEven (open_side (has_left_wall (outline_of front))) m.count m.signs kept → IsCut n class front m (move_after (front_signs kept m))
 even_cut n class front m kept which ends =
     cut_by_front n class front m kept (λ other legal count b. even_squares_are_barren n class front other which (contains other count b))
   where
@@ -107,6 +111,7 @@ pub members_cut : (n : ℕ) (class : Class) (front : Word) (m : Move) (kept : �
     → IsCut n class front m (move_after (front_signs kept m))
 members_cut n class front m kept none = cut_by_front n class front m kept (λ other legal count b. none.barren other b.rest count b.is)
 
+-- the cut of one square under just one
 pub single_cut : (n : ℕ) (class : Class) (front : Word) (m : Move) → m.count ≡ 1 → length (valley_of (outline_of front)) ≡ 1
     → IsCut n class front m (move_after (front_signs 0 m))
 single_cut n class front m one valley = cut_by_front n class front m 0 (λ other legal count b. one_under_one_is_barren n class front other (count ∙ one) valley)
@@ -125,6 +130,7 @@ one_cut n class front m legal barren = subst (λ (f : Move). IsCut n class front
         same = one_legal (outline_of front) m other legal lawful count
             (subst (λ (l : List Sign). Begins l other.signs) (take-length m.signs) b)
 
+-- the cut of the first move of two squares with the shorter one on the left
 pub first_cut : (n : ℕ) (class : Class) (m : Move) → m.count ≡ 2 → m.signs ≡ Above ∷ [] → IsLegalMove (outline_of []) m → IsCut n class [] m (move_after m)
 first_cut n class m two signs legal = one_cut n class [] m legal
     (subst (λ (k : Move). IsBarren n class (k ∷ [])) (sym (move_from_parts m (record { count = 2; signs = Above ∷ [] }) two signs))
@@ -135,6 +141,7 @@ one_sign [] h e = absurd (omega arith)
 one_sign (s ∷ []) h e = ap (λ t. t ∷ []) e
 one_sign (s ∷ t ∷ signs) h e = absurd (omega arith)
 
+-- the same, where nothing is played yet
 pub shorter_cut : (n : ℕ) (class : Class) (front : Word) (m : Move) → length front ≡ 0 → m.count ≡ 2 → slice_index_or m.signs 0 Above ≡ Above
     → IsLegalMove (outline_of front) m → IsCut n class front m (move_after m)
 shorter_cut n class [] m none two above legal = first_cut n class m two (one_sign m.signs (omega (arith, legal.signs)) above) legal
@@ -145,6 +152,7 @@ pub owes_lines : (n : ℕ) (class : Class) (front : Word) (left closings : ℕ) 
     → closings ≡ line_bound_of front → left < closings → IsBarren n class front
 owes_lines n class front left closings least l c many = too_many_lines_is_barren n class front least (omega arith)
 
+-- the same, with one square more for each valley of just one square
 pub owes_singles : (n : ℕ) (class : Class) (front : Word) (left closings singles : ℕ) → 3 ≤ n → left ≡ n - order_of front → closings ≡ line_bound_of front
     → singles ≡ single_valleys (outline_of front).signs (sizes_of (outline_of front)) → IsTrue (nat_lt (left - closings) singles)
     → closings ≤ left → IsBarren n class front

@@ -1,13 +1,19 @@
-pub mod Passing
-pub mod Advancing
-pub mod SearchTurns
-pub mod Starting
+-- Cuts: moves by which no member's word goes on.
 pub mod CutLaws
+pub mod OwingLaws
+-- The lines that are kept beside the moves.
+pub mod LinedMoves
+-- Words of the tree between two places, and what a search has passed.
+pub mod Advancing
+pub mod Passing
+-- Where a search begins, a step of it, and all steps one after another.
+pub mod Starting
+pub mod SearchSteps
 pub mod Standing
-pub mod Members
 pub mod SearchLoop
+-- What a complete word tells, and what a walk takes up and answers.
+pub mod Members
 pub mod TakingUp
 pub mod Answering
-pub mod OwingLaws
-pub mod LinedMoves
+-- Walks worked by hand.
 pub mod WalkExamples

@@ -3,7 +3,7 @@ use Rattle.std.specs.List.{concat, sum}
 use Rattle.std.proofs.Common.{Bool, List, [], ap, arith, drop, length, nat_eq, refl, replicate, slice_index_or, subst, suc, sym, take, zero, ℕ, ◌++◌}
 use Rattle.std.proofs.Common.{◌+◌, ◌-◌, ◌<◌, ◌∙◌, ◌∷◌, ◌≡◌}
 use Rattle.std.proofs.Math.Seq.{take-append_seam}
-use Rattle.std.proofs.lemmas.List.{append_assoc, drop-drop, take-append-drop}
+use Rattle.std.proofs.lemmas.List.{append-nil, append_assoc, drop-drop, take-append-drop}
 use Rattle.bk_word_net.proofs.NoLoose.{closed_count}
 use Rattle.bk_word_net.proofs.Shape.{hung_many}
 use Rattle.bk_word.proofs.PlayLaws.{legal-snoc, legal_front}
@@ -53,9 +53,11 @@ valley_begins w lines shown signs sizes ends is_on l s z e on = on
 lines_counted : (w : Word) → IsLegal w → length (lines_of w) ≡ order_of w
 lines_counted w legal = omega (arith, lines_long start [] w legal refl, hung_many start w)
 
+-- there is one line for each square that hangs
 pub lined_count : (w : Word) (lines : List Bool) → IsLinedWord w lines → length lines ≡ order_of w
 lined_count w lines lined = ap length lined.lines_are ∙ lines_counted w lined.legal
 
+-- a move that is played has its lines behind the others
 pub lined_more : (w more : Word) (lines lines_then : List Bool) (m : Move) (count : ℕ) (is_on is_first : Bool) → IsLinedWord w lines
     → IsLegalMove (outline_of w) m
     → is_on ≡ begins_on_line lines (valley_of (outline_of w)) → is_first ≡ nat_eq (length w) 0 → count ≡ m.count → more ≡ w ++ m ∷ []
@@ -73,13 +75,9 @@ lined_more w more lines lines_then m count is_on is_first lined legal on first s
     first_node : is_first ≡ nat_eq (length (outline_of w).closed) 0
     first_node = first ∙ ap (λ k. nat_eq k 0) nodes
 
-append_none : (lines : List Bool) → lines ≡ lines ++ []
-append_none [] = refl
-append_none (b ∷ lines) = ap (λ bs. b ∷ bs) (append_none lines)
-
 -- the lines of more moves are put behind
 lines_go_on : (o : Outline) (lines : List Bool) (w : Word) → (more : List Bool) × (lines_along o lines w ≡ lines ++ more)
-lines_go_on o lines [] = ([], append_none lines)
+lines_go_on o lines [] = ([], sym (append-nil lines))
 lines_go_on o lines (m ∷ w) = let on = begins_on_line lines (valley_of o) ∷ replicate (m.count - 1) (nat_eq (length o.closed) 0) in
     let behind = lines_go_on (after_move o m) (lines_after o lines m) w in (on ++ behind.0, behind.1 ∙ append_assoc lines on behind.0)
 
@@ -91,6 +89,7 @@ lines_of_front front rest legal = front_of (lines_go_on (outline_of front) (line
     front_of (more, e) = ap (take (order_of front)) (lines-append start [] front rest ∙ e)
         ∙ (λ i. take (sym (lines_counted front legal) i) (lines_of front ++ more)) ∙ take-append_seam (lines_of front) more
 
+-- where the last move is taken back, the lines of the squares before it are left
 pub lined_less : (w front : Word) (lines lines_then : List Bool) (order : ℕ) → IsLinedWord w lines → front ≡ take (length w - 1) w
     → order ≡ order_of front → lines_then ≡ take order lines
     → IsLinedWord front lines_then

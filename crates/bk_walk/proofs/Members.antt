@@ -8,9 +8,10 @@ use Rattle.bk_lay.proofs.WordPlay.{tiling_word_is_complete}
 use Rattle.bk_lay.specs.TilingWord.{IsWordOf}
 use Rattle.bk_word_net.proofs.PrimitiveTiling.{a_word_has_one_primitive_tiling}
 use Rattle.bk_catalogue.specs.Catalogue.{Entry, IsEntry, IsMember}
-use Rattle.bk_walk.specs.WholeWords.{Qualifies}
+use Rattle.bk_member_table.specs.Finding.{Qualifies}
 use Rattle.bk_sym.proofs.CanonicalPrimitive.{canonical_primitive}
 
+-- a tiling that qualifies is a member of its order
 pub member_from : (class : Class) (t : Tiling) (w : Word) → IsTiling t → IsWordOf t w → Qualifies class t → IsMember (order_of w) class t
 member_from class t w tiling word q = record {
   tiling = tiling;

@@ -18,6 +18,7 @@ use Rattle.bk_barren.specs.Cuts.{IsBarren}
 use Rattle.bk_walk.specs.MoveCuts.{IsCut}
 use Rattle.bk_tree.specs.NextMove.{move_after}
 
+-- the cut by signs that ask for more squares than are left
 pub owing_cut : (n : ℕ) (class : Class) (front : Word) (m : Move) (kept room left under place : ℕ) → place ≡ valley_place (outline_of front).signs
     → under ≡ count_by is_under (drop (place + 1) (outline_of front).signs) → left ≡ n - order_of front - m.count → room ≡ left - under
     → room < closing_bound (take (place - 1) (outline_of front).signs ++ take kept m.signs) → IsCut n class front m (move_after (front_signs kept m))

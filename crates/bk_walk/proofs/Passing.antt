@@ -31,9 +31,11 @@ last_over n front x w [] tree last e from = from refl
 last_over n front x w (m ∷ rest) tree last e from =
     last m (goes_on n front m rest w tree e) (not_before_first m x rest [] from) (few_from n front m rest w tree e)
 
+-- the same, where no move is played
 pub end_over : (n : ℕ) (x : Move) (w : Word) → IsTreeWord n w → IsLast n [] x → (Follows (x ∷ []) w → ⊥) → ⊥
 end_over n x w tree last from = last_over n [] x w w tree last refl from
 
+-- where no legal move is left, no word of the tree lies before the move that comes after the last one
 pub climb_over : (n : ℕ) (front : Word) (l x : Move) (w : Word) → IsTreeWord n w → IsLegalMove (outline_of front) l → IsLast n (front ++ l ∷ []) x
     → (Follows ((front ++ l ∷ []) ++ x ∷ []) w → ⊥) → Follows (front ++ move_after l ∷ []) w → ⊥
 climb_over n front l x w tree legal last from to =
@@ -62,6 +64,7 @@ pub record IsOver (front : Word) (m next : Move) (w : Word) : Type 0 where
   pub from : IsMoveFrom m other
   pub to : move_cmp other next ≡ Less
 
+-- a word of the tree from the least legal move on and before a later one goes on by a legal move between
 pub move_over : (n : ℕ) (front : Word) (x m next : Move) (w : Word) → IsTreeWord n w → IsLeastFrom (outline_of front) x m
     → (Follows (front ++ x ∷ []) w → ⊥) → Follows (front ++ next ∷ []) w → IsOver front m next w
 move_over n front x m next w tree least from to = cases (lies_between front (x ∷ []) (next ∷ []) w from to)
@@ -80,6 +83,7 @@ move_over n front x m next w tree least from to = cases (lies_between front (x �
     cases : LiesBetween front (x ∷ []) (next ∷ []) w → IsOver front m next w
     cases b = by_rest b.rest b.is b.from b.to
 
+-- up to what begins with the least legal move, only the word that ends with it is met
 pub push_over : (n : ℕ) (front : Word) (x m : Move) (w : Word) → IsTreeWord n w → IsLeastFrom (outline_of front) x m
     → (Follows (front ++ x ∷ []) w → ⊥) → Follows ((front ++ m ∷ []) ++ first_move ∷ []) w → w ≡ front ++ m ∷ []
 push_over n front x m w tree least from to =

@@ -1,22 +1,24 @@
--- Turn after turn: what a search has passed since it began, and that it ends.
+-- Step after step: what a search has passed since it began, and that it ends.
 use Rattle.std.specs.List.{AllByRecursion}
 use Rattle.std.proofs.Common.{[], ap, arith, length, ℕ, ◌++◌, ◌+◌, ◌<◌, ◌^◌, ◌∷◌, ◌≡◌, ◌≤◌}
 use Rattle.bk_word.specs.Play.{IsComplete}
 use Rattle.bk_word.specs.Word.{Follows, Move, Word, order_of}
 use Rattle.bk_word.specs.declared.Class.{Class}
 use Rattle.bk_tree.proofs.Ranks.{IsSmallMove, left_after, less_left, small_place}
-use Rattle.bk_walk.proofs.SearchTurns.{fewer_at, fewer_end, fewer_met}
+use Rattle.bk_walk.proofs.SearchSteps.{fewer_at, fewer_end, fewer_met}
 use Rattle.bk_catalogue.specs.Catalogue.{Entry, IsEntry}
 use Rattle.bk_tree.specs.NextMove.{first_move}
-use Rattle.bk_walk.specs.Search.{Advances, Counts, Ends, IsPlace, IsStand, Meets, Reaches}
+use Rattle.bk_walk.specs.Search.{Advances, Ends, HasPassed, IsSearchState, Meets, PushesGrow, Reaches}
 
 -- from the place where the search began to the one where it stands, with so many words met on the way
 pub record Continues (n : ℕ) (class : Class) (place next : Word) (met : ℕ) : Type 0 where
-  pub on : (cursor : Word) (before : ℕ) → IsPlace n class cursor place before → IsPlace n class cursor next (before + met)
+  pub on : (cursor : Word) (before : ℕ) → HasPassed n class cursor place before → HasPassed n class cursor next (before + met)
 
+-- at first nothing is passed
 pub continues_none : (n : ℕ) (class : Class) (place : Word) (met : ℕ) → met ≤ 0 → Continues n class place place met
 continues_none n class place met none = record { on = λ cursor before p. fewer_met n class cursor place before (before + met) (omega arith) p }
 
+-- on to a later place
 pub continues_on : (n : ℕ) (class : Class) (place mid next : Word) (a b met : ℕ) → Continues n class place mid a
     → Advances n class mid next b → met ≤ a + b → Continues n class place next met
 continues_on n class place mid next a b met c s few =
@@ -25,6 +27,7 @@ continues_on n class place mid next a b met c s few =
           (s.on cursor (before + a) (c.on cursor before p));
     }
 
+-- past a complete word that no member has
 pub continues_past : (n : ℕ) (class : Class) (place mid word : Word) (a b met : ℕ) → Continues n class place mid a → Reaches n class mid word b
     → ((e : Entry) → IsEntry n class e → e.word ≡ word → ⊥) → met ≤ a + b → Continues n class place (word ++ first_move ∷ []) met
 continues_past n class place mid word a b met c r not few =
@@ -33,35 +36,41 @@ continues_past n class place mid word a b met c r not few =
           (r.on not cursor (before + a) (c.on cursor before p));
     }
 
+-- up to a word that is met
 pub meets_then : (n : ℕ) (class : Class) (place mid word : Word) (a b met : ℕ) → Continues n class place mid a → Reaches n class mid word b
     → met ≤ a + b → Meets n class place word met
 meets_then n class place mid word a b met c r few cursor before p =
     fewer_at n class cursor word (before + a + b) (before + met) (omega arith) (r.reached cursor (before + a) (c.on cursor before p))
 
+-- up to the end
 pub ends_then : (n : ℕ) (class : Class) (place mid : Word) (a b met : ℕ) → Continues n class place mid a → Ends n class mid b → met ≤ a + b
     → Ends n class place met
 ends_then n class place mid a b met c e few cursor before p =
     fewer_end n class cursor (before + a + b) (before + met) (omega arith) (e cursor (before + a) (c.on cursor before p))
 
-pub counts_none : (pushes steps : ℕ) → pushes < 2 ^ 64 → Counts pushes pushes steps steps
+-- no step, no push
+pub counts_none : (pushes steps : ℕ) → pushes < 2 ^ 64 → PushesGrow pushes pushes steps steps
 counts_none pushes steps known = record { more = omega arith; counted = omega arith }
 
-pub counts_then : (p q r s t u : ℕ) → Counts p q s t → Counts q r t u → Counts p r s u
+-- counts of two parts one after another
+pub counts_then : (p q r s t u : ℕ) → PushesGrow p q s t → PushesGrow q r t u → PushesGrow p r s u
 counts_then p q r s t u a b = let m = a.more in let n = b.more in record { more = omega arith; counted = omega (arith, a.counted, b.counted) }
 
-pub counts_known : (p q s t : ℕ) → Counts p q s t → q < 2 ^ 64
+-- the count is a number of 64 bits
+pub counts_known : (p q s t : ℕ) → PushesGrow p q s t → q < 2 ^ 64
 counts_known p q s t a = omega (arith, a.counted)
 
 -- a later place is nearer to the end
-pub nearer : (n : ℕ) (front then : Word) (x y : Move) → n ≤ 16 → IsStand n front x → IsStand n then y
+pub nearer : (n : ℕ) (front then : Word) (x y : Move) → n ≤ 16 → IsSearchState n front x → IsSearchState n then y
     → Follows (then ++ y ∷ []) (front ++ x ∷ []) → left_after (then ++ y ∷ []) < left_after (front ++ x ∷ [])
 nearer n front then x y few s t up = less_left (front ++ x ∷ []) (then ++ y ∷ []) (small n front x few s).0 (small n then y few t).0 (small n then y few t).1 up
   where
-    small : (n : ℕ) (front : Word) (x : Move) → n ≤ 16 → IsStand n front x → AllByRecursion IsSmallMove (front ++ x ∷ []) × (length (front ++ x ∷ []) ≤ 18)
+    small : (n : ℕ) (front : Word) (x : Move) → n ≤ 16 → IsSearchState n front x
+        → AllByRecursion IsSmallMove (front ++ x ∷ []) × (length (front ++ x ∷ []) ≤ 18)
     small n front x few s = small_place front x s.legal (omega (arith, s.small)) (record { count = s.count; signs = s.signs })
 
 -- at a complete word of the order the search stands before what begins with it
-pub whole_stand : (n : ℕ) (word : Word) (x : Move) → IsComplete word → order_of word ≡ n → x ≡ first_move → IsStand n word x
+pub whole_stand : (n : ℕ) (word : Word) (x : Move) → IsComplete word → order_of word ≡ n → x ≡ first_move → IsSearchState n word x
 whole_stand n word x whole order first = record {
   legal = whole.legal;
   small = omega arith;

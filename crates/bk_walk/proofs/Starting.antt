@@ -11,32 +11,15 @@ use Rattle.bk_word.specs.declared.Class.{Class}
 use Rattle.bk_word.proofs.StoredBytes.{order_append, order_more}
 use Rattle.bk_walk.proofs.Advancing.{before_not_before, entry_word, not_both}
 use Rattle.bk_tree.proofs.MoveOrder.{greater}
-use Rattle.bk_tree.proofs.Places.{LiesBetween, before_first, front_cmp, lies_between, move_itself, move_same, not_before_first}
+use Rattle.bk_tree.proofs.Places.{LiesBetween, before_first, front_cmp, lies_between, move_itself, move_same, not_before_first, word_same}
 use Rattle.bk_word.proofs.PlayLaws.{legal_rest}
 use Rattle.bk_word.proofs.FollowLaws.{not_itself}
 use Rattle.bk_tree.specs.NextMove.{first_move}
-use Rattle.bk_walk.specs.Search.{IsPlace, IsTreeWord}
-
-pub word_same : (v w : Word) → word_cmp v w ≡ Equal → v ≡ w
-word_same [] [] e = refl
-word_same [] (n ∷ w) e = absurd (cc)
-word_same (m ∷ v) [] e = absurd (cc)
-word_same (m ∷ v) (n ∷ w) e = cases (move_cmp m n) refl (λ k. word_same v w k)
-  where
-    less : Less ≡ Equal → ⊥
-    less k = cc
-
-    more : Greater ≡ Equal → ⊥
-    more k = cc
-
-    cases : (r : Ordering) → move_cmp m n ≡ r → (word_cmp v w ≡ Equal → v ≡ w) → m ∷ v ≡ n ∷ w
-    cases Less f g = absurd (less (sym (ap (λ z. ordering_then z (word_cmp v w)) f) ∙ e))
-    cases Greater f g = absurd (more (sym (ap (λ z. ordering_then z (word_cmp v w)) f) ∙ e))
-    cases Equal f g = ap (λ z. z ∷ v) (move_same m n f) ∙ ap (λ z. n ∷ z) (g (sym (ap (λ z. ordering_then z (word_cmp v w)) f) ∙ e))
+use Rattle.bk_walk.specs.Search.{HasPassed, IsTreeWord}
 
 -- a place before which nothing was met
 begins_at : (n : ℕ) (class : Class) (cursor place : Word) → ((w : Word) → IsTreeWord n w → Follows w cursor → Follows place w → ⊥)
-    → ((w : Word) → IsTreeWord n w → (Follows place w → ⊥) → Follows w cursor) → IsPlace n class cursor place 0
+    → ((w : Word) → IsTreeWord n w → (Follows place w → ⊥) → Follows w cursor) → HasPassed n class cursor place 0
 begins_at n class cursor place none after = record {
   passed = λ e is. none e.word (entry_word n class e is);
   after = after;
@@ -46,7 +29,8 @@ begins_at n class cursor place none after = record {
   count = omega arith;
 }
 
-pub begins_below : (n : ℕ) (class : Class) (cursor : Word) → IsPlace n class cursor (cursor ++ first_move ∷ []) 0
+-- where all of the cursor is played, the search begins with what begins with it
+pub begins_below : (n : ℕ) (class : Class) (cursor : Word) → HasPassed n class cursor (cursor ++ first_move ∷ []) 0
 begins_below n class cursor = begins_at n class cursor (cursor ++ first_move ∷ []) none
     (λ w tree from. before_not_before cursor (cursor ++ first_move ∷ []) w up from)
   where
@@ -64,8 +48,9 @@ begins_below n class cursor = begins_at n class cursor (cursor ++ first_move ∷
             same = b.is ∙ ap (λ z. cursor ++ z) (before_first (outline_of cursor) b.rest
                 (legal_rest start cursor b.rest (subst IsLegal b.is tree.legal)) b.to) ∙ append-nil cursor
 
+-- where a move of the cursor is not legal or hangs too many squares, it begins at this move
 pub begins_beside : (n : ℕ) (class : Class) (front : Word) (x : Move) (rest : Word) → (IsLegalMove (outline_of front) x → order_of front + x.count ≤ n → ⊥)
-    → IsPlace n class (front ++ x ∷ rest) (front ++ x ∷ []) 0
+    → HasPassed n class (front ++ x ∷ rest) (front ++ x ∷ []) 0
 begins_beside n class front x rest not = begins_at n class (front ++ x ∷ rest) (front ++ x ∷ []) (none rest) after
   where
     none : (rest : Word) (w : Word) → IsTreeWord n w → Follows w (front ++ x ∷ rest) → Follows (front ++ x ∷ []) w → ⊥

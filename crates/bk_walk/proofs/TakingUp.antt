@@ -12,7 +12,7 @@ use Rattle.bk_tree.proofs.Ranks.{IsSmallWord, open_one, small_from}
 use Rattle.bk_walk.proofs.SearchLoop.{counts_then}
 use Rattle.bk_walk.proofs.Starting.{begins_below, begins_beside}
 use Rattle.bk_tree.specs.NextMove.{first_move}
-use Rattle.bk_walk.specs.Search.{Counts, IsPlace, IsStand}
+use Rattle.bk_walk.specs.Search.{HasPassed, IsSearchState, PushesGrow}
 use Rattle.bk_walk.proofs.Standing.{take_next}
 
 split_at : {A : Type 0} (xs : List A) (i : ℕ) (x : A) → slice_get xs i ≡ Some x → xs ≡ take i xs ++ x ∷ drop (i + 1) xs
@@ -25,8 +25,9 @@ pub record TakesUp (n : ℕ) (cursor first played : Word) (i pushes pushes_now s
   pub legal : IsLegal played
   pub small : order_of played ≤ n
   pub one_each : steps_now + length first ≡ steps + length played
-  pub counts : Counts pushes pushes_now steps steps_now
+  pub counts : PushesGrow pushes pushes_now steps steps_now
 
+-- one more move of the cursor is played
 pub takes_more : (n : ℕ) (cursor first played more : Word) (m : Move) (i pushes now then steps sn st : ℕ) → TakesUp n cursor first played i pushes now steps sn
     → slice_get cursor i ≡ Some m → IsLegalMove (outline_of played) m → order_of played + m.count ≤ n → more ≡ played ++ m ∷ []
     → st ≡ sn + 1 → then ≡ min (now + 1) (2 ^ 64 - 1)
@@ -39,6 +40,7 @@ takes_more n cursor first played more m i pushes now then steps sn st t g legal 
   counts = counts_then pushes now then steps sn st t.counts (record { more = omega arith; counted = p ∙ ap (λ k. min (now + k) (2 ^ 64 - 1)) (omega arith) });
 }
 
+-- the cursor takes at most 16 steps
 pub few_steps : (n : ℕ) (cursor first played : Word) (i pushes now steps sn : ℕ) → n ≤ 16
     → TakesUp n cursor first played i pushes now steps sn → sn ≤ steps + 16
 few_steps n cursor first played i pushes now steps sn few t = omega (arith, t.one_each, s.few, t.small)
@@ -48,7 +50,7 @@ few_steps n cursor first played i pushes now steps sn few t = omega (arith, t.on
 
 -- a move of the cursor that cannot be played
 pub stuck_stand : (n : ℕ) (cursor first played : Word) (m : Move) (i pushes now steps sn : ℕ) → order_of cursor ≤ 16
-    → TakesUp n cursor first played i pushes now steps sn → slice_get cursor i ≡ Some m → CanStand m → IsStand n played m
+    → TakesUp n cursor first played i pushes now steps sn → slice_get cursor i ≡ Some m → CanStand m → IsSearchState n played m
 stuck_stand n cursor first played m i pushes now steps sn few t g stands = record {
   legal = t.legal;
   small = t.small;
@@ -60,20 +62,21 @@ stuck_stand n cursor first played m i pushes now steps sn few t g stands = recor
     count : m.count ≤ 16
     count = omega (arith, few, ap order_of (split_at cursor i m g), order_append (take i cursor) (m ∷ drop (i + 1) cursor), order_more m (drop (i + 1) cursor))
 
+-- the search begins at this move
 pub stuck_place : (n : ℕ) (class : Class) (cursor first played : Word) (m : Move) (i pushes now steps sn : ℕ)
     → TakesUp n cursor first played i pushes now steps sn → slice_get cursor i ≡ Some m
-    → (IsLegalMove (outline_of played) m → order_of played + m.count ≤ n → ⊥) → IsPlace n class cursor (played ++ m ∷ []) 0
+    → (IsLegalMove (outline_of played) m → order_of played + m.count ≤ n → ⊥) → HasPassed n class cursor (played ++ m ∷ []) 0
 stuck_place n class cursor first played m i pushes now steps sn t g not =
-    subst (λ (w : Word). IsPlace n class w (played ++ m ∷ []) 0)
+    subst (λ (w : Word). HasPassed n class w (played ++ m ∷ []) 0)
     (sym (split_at cursor i m g ∙ ap (λ l. l ++ m ∷ drop (i + 1) cursor) t.begun)) (begins_beside n class played m (drop (i + 1) cursor) not)
 
--- all of the cursor is played
+-- all of the cursor is played: the search begins with what begins with it
 pub whole_place : (n : ℕ) (class : Class) (cursor first played : Word) (x : Move) (i pushes now steps sn : ℕ)
     → TakesUp n cursor first played i pushes now steps sn → length cursor ≤ i → x ≡ first_move
-    → IsPlace n class cursor (played ++ x ∷ []) 0
+    → HasPassed n class cursor (played ++ x ∷ []) 0
 whole_place n class cursor first played x i pushes now steps sn t h e =
-    subst (λ (w : Word). IsPlace n class cursor (w ++ x ∷ []) 0) (sym (take_all i cursor h) ∙ t.begun)
-    (subst (λ (m : Move). IsPlace n class cursor (cursor ++ m ∷ []) 0) (sym e) (begins_below n class cursor))
+    subst (λ (w : Word). HasPassed n class cursor (w ++ x ∷ []) 0) (sym (take_all i cursor h) ∙ t.begun)
+    (subst (λ (m : Move). HasPassed n class cursor (cursor ++ m ∷ []) 0) (sym e) (begins_below n class cursor))
 
 -- a legal move at its place can stand in a word
 pub legal_stands : (word : Word) (i : ℕ) (m : Move) → IsLegal word → slice_get word i ≡ Some m → CanStand m
@@ -87,6 +90,7 @@ legal_stands word i m l g = stands (outline_of (take i word)) (legal_rest start 
           omega (arith, k.signs, open_one (has_left_wall o), open_one (has_right_wall o));
     }
 
+-- the moves up to a place, and the one there, hang no more squares than the word
 pub order_at : (word : Word) (i : ℕ) (m : Move) (k : ℕ) → slice_get word i ≡ Some m → order_of word ≤ k → order_of (take i word) + m.count ≤ k
 order_at word i m k g few = omega (
   arith,

@@ -1,5 +1,7 @@
+-- What the crate says.
+pub mod Walking
+-- How its code keeps it.
 pub mod MoveCuts
+pub mod LinedWords
 pub mod Search
 pub mod WholeWords
-pub mod Walking
-pub mod LinedWords

@@ -18,14 +18,14 @@ pub record IsCut (n : ℕ) (class : Class) (front : Word) (m next : Move) : Type
       → IsBarren n class (front ++ other ∷ [])
 
 -- the next move is little greater: its count is at most one more, and its signs are not more
-pub record IsNear (m next : Move) : Type 0 where
+pub record GrowsByAtMostOne (m next : Move) : Type 0 where
   pub least : m.count ≤ next.count
   pub most : next.count ≤ m.count + 1
   pub signs : length next.signs ≤ length m.signs
 
 -- so many signs of a move of this count are those up to an even one between two of its own squares, where its own signs
 -- begin at the place
-pub record EndsEven (from count : ℕ) (signs : List Sign) (kept : ℕ) : Type 0 where
+pub record IsFrontEndingEven (from count : ℕ) (signs : List Sign) (kept : ℕ) : Type 0 where
   pub low : from < kept
   pub high : kept < from + count
   pub even : slice_get signs (kept - 1) ≡ Some Even

@@ -10,9 +10,9 @@ use Rattle.bk_catalogue.specs.Catalogue.{Entry, IsEntry, IsMember}
 use Rattle.bk_walk.specs.declared.search.Found.{Found}
 use Rattle.bk_walk.specs.declared.search.Found.TheVariants.{Ended, Member}
 use Rattle.bk_tree.specs.NextMove.{first_move, move_after}
-use Rattle.bk_walk.specs.declared.moves.TheConstants.{MOST_COUNT, MOST_SIGNS}
-use Rattle.bk_walk.specs.declared.search.Turn.{Turn}
-use Rattle.bk_walk.specs.declared.search.Turn.TheVariants.{Complete, End, On}
+use Rattle.bk_walk.specs.declared.search.Went.{Went}
+use Rattle.bk_walk.specs.declared.search.Went.TheVariants.{Complete, End, On}
+use Rattle.bk_walk.specs.Walking.{HasNoneAfter, HasNoneBetween}
 use Rattle.bk_tree.specs.Tree.{AreAscendingWords, HasAtLeast, IsInTree}
 
 -- a legal word of at most so many squares
@@ -22,8 +22,8 @@ pub record IsTreeWord (n : ℕ) (w : Word) : Type 0 where
 
 -- no member's word is after the cursor and before the place; each word of the tree that is not before the place is after
 -- the cursor; and so many words of the tree were met, each after the cursor and before the place, each once
-pub record IsPlace (n : ℕ) (class : Class) (cursor place : Word) (met : ℕ) : Type 0 where
-  pub passed : (e : Entry) → IsEntry n class e → Follows e.word cursor → Follows place e.word → ⊥
+pub record HasPassed (n : ℕ) (class : Class) (cursor place : Word) (met : ℕ) : Type 0 where
+  pub passed : HasNoneBetween n class cursor place
   pub after : (w : Word) → IsTreeWord n w → (Follows place w → ⊥) → Follows w cursor
   pub words : List Word
   pub each : AllByRecursion (λ w. IsInTree n cursor None w × Follows place w) words
@@ -33,50 +33,50 @@ pub record IsPlace (n : ℕ) (class : Class) (cursor place : Word) (met : ℕ) :
 -- the word is after the cursor, no member's word is between, and so many words of the tree were met up to it
 pub record IsMet (n : ℕ) (class : Class) (cursor word : Word) (met : ℕ) : Type 0 where
   pub after : Follows word cursor
-  pub passed : (e : Entry) → IsEntry n class e → Follows e.word cursor → Follows word e.word → ⊥
+  pub passed : HasNoneBetween n class cursor word
   pub count : HasAtLeast n cursor (Some word) met
 
 -- from one place to a later one, with so many words met on the way
 pub record Advances (n : ℕ) (class : Class) (place next : Word) (met : ℕ) : Type 0 where
   pub up : Follows next place
-  pub on : (cursor : Word) (before : ℕ) → IsPlace n class cursor place before → IsPlace n class cursor next (before + met)
+  pub on : (cursor : Word) (before : ℕ) → HasPassed n class cursor place before → HasPassed n class cursor next (before + met)
 
 -- from a place to a word, with so many words met on the way, itself the last. Where no member has it, the search goes on
 -- to what begins with it
 pub record Reaches (n : ℕ) (class : Class) (place word : Word) (met : ℕ) : Type 0 where
   pub up : Follows (word ++ first_move ∷ []) place
-  pub reached : (cursor : Word) (before : ℕ) → IsPlace n class cursor place before → IsMet n class cursor word (before + met)
+  pub reached : (cursor : Word) (before : ℕ) → HasPassed n class cursor place before → IsMet n class cursor word (before + met)
   pub on : ((e : Entry) → IsEntry n class e → e.word ≡ word → ⊥) → (cursor : Word) (before : ℕ)
-      → IsPlace n class cursor place before → IsPlace n class cursor (word ++ first_move ∷ []) (before + met)
+      → HasPassed n class cursor place before → HasPassed n class cursor (word ++ first_move ∷ []) (before + met)
 
 -- no member's word is after the cursor, and so many words of the tree were met
 pub record IsEnd (n : ℕ) (class : Class) (cursor : Word) (met : ℕ) : Type 0 where
-  pub passed : (e : Entry) → IsEntry n class e → Follows e.word cursor → ⊥
+  pub passed : HasNoneAfter n class cursor
   pub count : HasAtLeast n cursor None met
 
 -- from a place to the end
 abbrev pub Ends : ℕ → Class → Word → ℕ → Type 0
-Ends n class place met = (cursor : Word) (before : ℕ) → IsPlace n class cursor place before
+Ends n class place met = (cursor : Word) (before : ℕ) → HasPassed n class cursor place before
     → IsEnd n class cursor (before + met)
 
 -- a place where a search stands: the moves that it has played are a word of the tree, and the move is one from which it
 -- looks for the next legal one
-pub record IsStand (n : ℕ) (front : Word) (x : Move) : Type 0 where
+pub record IsSearchState (n : ℕ) (front : Word) (x : Move) : Type 0 where
   pub legal : IsLegal front
   pub small : order_of front ≤ n
   pub some : 0 < x.count
-  pub count : x.count ≤ MOST_COUNT
-  pub signs : length x.signs ≤ MOST_SIGNS
+  pub count : x.count ≤ 17
+  pub signs : length x.signs ≤ 18
 
--- where a turn of a search leads from a place: on to a later one, to a complete word of the order, or to the end
-abbrev pub Leads : ℕ → Class → Word → Word → Move → ℕ → Turn → Type 0
-Leads n class place front x met On = Advances n class place (front ++ x ∷ []) met × IsStand n front x
-Leads n class place front x met Complete =
+-- where a step of a search leads from a place: on to a later one, to a complete word of the order, or to the end
+abbrev pub StepLeadsTo : ℕ → Class → Word → Word → Move → ℕ → Went → Type 0
+StepLeadsTo n class place front x met On = Advances n class place (front ++ x ∷ []) met × IsSearchState n front x
+StepLeadsTo n class place front x met Complete =
     Reaches n class place front met × IsComplete front × (order_of front ≡ n) × (x ≡ first_move)
-Leads n class place front x met End = Ends n class place met × (front ≡ [])
+StepLeadsTo n class place front x met End = Ends n class place met × (front ≡ [])
 
 -- the count of pushes goes on by the steps, up to the last number that it holds
-pub record Counts (pushes pushes_then steps steps_then : ℕ) : Type 0 where
+pub record PushesGrow (pushes pushes_then steps steps_then : ℕ) : Type 0 where
   pub more : steps ≤ steps_then
   pub counted : pushes_then ≡ min (pushes + (steps_then - steps)) (2 ^ 64 - 1)
 
@@ -88,7 +88,7 @@ pub record IsClimbed (before front : Word) (x : Move) : Type 0 where
 
 -- from a place the search meets the word, and so many words up to it, itself the last
 abbrev pub Meets : ℕ → Class → Word → Word → ℕ → Type 0
-Meets n class place word met = (cursor : Word) (before : ℕ) → IsPlace n class cursor place before
+Meets n class place word met = (cursor : Word) (before : ℕ) → HasPassed n class cursor place before
     → IsMet n class cursor word (before + met)
 
 -- what a search finds from a place: the word of a member, or the end

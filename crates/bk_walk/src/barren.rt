@@ -9,10 +9,10 @@ ghost use Rattle.bk_word.specs.declared.Class.{Class};
 ghost use Rattle.bk_word.specs.declared.Class.TheVariants.{Perfect};
 ghost use Rattle.bk_word.specs.declared.Sign.TheVariants.{Above};
 ghost use Rattle.bk_barren.specs.Cuts.{IsBarren};
-ghost use Rattle.bk_walk.specs.MoveCuts.{EndsEven, IsCut, IsNear};
+ghost use Rattle.bk_walk.specs.MoveCuts.{GrowsByAtMostOne, IsCut, IsFrontEndingEven};
 
 use crate::lined::LinedSkel;
-use crate::moves::{MOST_COUNT, MOST_SIGNS, pass};
+use crate::moves::next_move;
 use crate::owing::skip_owing;
 use bk_owed::single_valleys;
 use bk_skel::{Skel, open_side};
@@ -22,12 +22,12 @@ use bk_word::{Class, Move, Sign};
 // plain. False where it isn't plain; the move is then as it was.
 pub(crate) fn skip(lined: &LinedSkel, class: Class, order: u8, m: &mut Move) -> bool
     requires legal { IsLegalMove (outline_of lined.now) m.old }
-    requires count { m.old.count < MOST_COUNT }
-    requires signs { length m.old.signs ≤ MOST_SIGNS }
+    requires count { m.old.count < 17 }
+    requires signs { length m.old.signs ≤ 18 }
     requires small { order_of lined.now + m.old.count ≤ order }
     requires most { order ≤ 16 }
     ensures cut { IsTrue result → IsCut order class lined.now m.old m.new }
-    ensures near { IsNear m.old m.new }
+    ensures near { GrowsByAtMostOne m.old m.new }
     ensures kept { result ≡ false → m.new ≡ m.old }
 {
     if skip_by_members(lined, class, order, m) {
@@ -43,19 +43,19 @@ pub(crate) fn skip(lined: &LinedSkel, class: Class, order: u8, m: &mut Move) -> 
 // that goes on by them.
 fn skip_by_members(lined: &LinedSkel, class: Class, order: u8, m: &mut Move) -> bool
     requires legal { IsLegalMove (outline_of lined.now) m.old }
-    requires count { m.old.count < MOST_COUNT }
-    requires signs { length m.old.signs ≤ MOST_SIGNS }
+    requires count { m.old.count < 17 }
+    requires signs { length m.old.signs ≤ 18 }
     requires small { order_of lined.now + m.old.count ≤ order }
     requires most { order ≤ 16 }
     ensures cut { IsTrue result → IsCut order class lined.now m.old m.new }
-    ensures near { IsNear m.old m.new }
+    ensures near { GrowsByAtMostOne m.old m.new }
     ensures kept { result ≡ false → m.new ≡ m.old }
 {
     match lined.barren_signs(class, order, m) {
         None => false,
         Some(kept) => {
             m.signs.truncate(kept);
-            pass(m);
+            next_move(m);
             true
         }
     }
@@ -64,27 +64,27 @@ fn skip_by_members(lined: &LinedSkel, class: Class, order: u8, m: &mut Move) -> 
 // Passes over a move that the sides of the first squares rule out.
 fn skip_by_sides(lined: &LinedSkel, class: Class, m: &mut Move) -> bool
     requires legal { IsLegalMove (outline_of lined.now) m.old }
-    requires count { m.old.count < MOST_COUNT }
-    requires signs { length m.old.signs ≤ MOST_SIGNS }
+    requires count { m.old.count < 17 }
+    requires signs { length m.old.signs ≤ 18 }
     ensures cut { IsTrue result → (n : ℕ) → IsCut n class lined.now m.old m.new }
-    ensures near { IsNear m.old m.new }
+    ensures near { GrowsByAtMostOne m.old m.new }
     ensures kept { result ≡ false → m.new ≡ m.old }
 {
     if !lined.rules_out(m, class) {
         return false;
     }
-    pass(m);
+    next_move(m);
     true
 }
 
 // The same, by counts and signs alone.
 fn skip_by_signs(skel: &Skel, class: Class, order: u8, m: &mut Move) -> bool
     requires legal { IsLegalMove (outline_of skel.now) m.old }
-    requires count { m.old.count < MOST_COUNT }
-    requires signs { length m.old.signs ≤ MOST_SIGNS }
+    requires count { m.old.count < 17 }
+    requires signs { length m.old.signs ≤ 18 }
     requires small { order_of skel.now + m.old.count ≤ order }
     ensures cut { IsTrue result → IsCut order class skel.now m.old m.new }
-    ensures near { IsNear m.old m.new }
+    ensures near { GrowsByAtMostOne m.old m.new }
     ensures kept { result ≡ false → m.new ≡ m.old }
 {
     if skip_even(skel, class, order, m) {
@@ -102,10 +102,10 @@ fn skip_by_signs(skel: &Skel, class: Class, order: u8, m: &mut Move) -> bool
 // Passes over a move with two equal squares side by side under one segment, and over all of its count whose signs are the
 // same up to there. Where the class isn't perfect, this is a cut at orders of at least 3.
 fn skip_even(skel: &Skel, class: Class, order: u8, m: &mut Move) -> bool
-    requires count { m.old.count < MOST_COUNT }
-    requires signs { length m.old.signs ≤ MOST_SIGNS }
+    requires count { m.old.count < 17 }
+    requires signs { length m.old.signs ≤ 18 }
     ensures cut { IsTrue result → IsCut order class skel.now m.old m.new }
-    ensures near { IsNear m.old m.new }
+    ensures near { GrowsByAtMostOne m.old m.new }
     ensures kept { result ≡ false → m.new ≡ m.old }
 {
     if !bars_even(class, order) {
@@ -116,7 +116,7 @@ fn skip_even(skel: &Skel, class: Class, order: u8, m: &mut Move) -> bool
         None => false,
         Some(kept) => {
             m.signs.truncate(kept);
-            pass(m);
+            next_move(m);
             true
         }
     }
@@ -144,9 +144,9 @@ fn is_above(sign: Sign) -> bool
 
 // How many signs there are up to the first even one between two of the move's own squares, where its own begin at `from`.
 fn first_even(m: &Move, from: usize) -> Option<usize>
-    requires count { m.now.count < MOST_COUNT }
+    requires count { m.now.count < 17 }
     requires from { from ≤ 1 }
-    ensures { IfSome result (EndsEven from m.now.count m.now.signs) }
+    ensures { IfSome result (IsFrontEndingEven from m.now.count m.now.signs) }
 {
     let end = from + usize::from(m.count);
     for (i, sign) in m.signs.as_slice().iter().enumerate() {
@@ -160,29 +160,29 @@ fn first_even(m: &Move, from: usize) -> Option<usize>
 // Passes over all moves of one square, where it would stand under just one.
 fn skip_single(skel: &Skel, m: &mut Move) -> bool
     ensures cut { IsTrue result → (n : ℕ) (class : Class) → IsCut n class skel.now m.old m.new }
-    ensures near { IsNear m.old m.new }
+    ensures near { GrowsByAtMostOne m.old m.new }
     ensures kept { result ≡ false → m.new ≡ m.old }
 {
     if m.count != 1 || skel.valley_len() != 1 {
         return false;
     }
     m.signs.clear();
-    pass(m);
+    next_move(m);
     true
 }
 
 // Passes over the first move of two squares of which the left one is the shorter.
 fn skip_shorter(skel: &Skel, m: &mut Move) -> bool
     requires legal { IsLegalMove (outline_of skel.now) m.old }
-    requires signs { length m.old.signs ≤ MOST_SIGNS }
+    requires signs { length m.old.signs ≤ 18 }
     ensures cut { IsTrue result → (n : ℕ) (class : Class) → IsCut n class skel.now m.old m.new }
-    ensures near { IsNear m.old m.new }
+    ensures near { GrowsByAtMostOne m.old m.new }
     ensures kept { result ≡ false → m.new ≡ m.old }
 {
     if skel.moves() != 0 || m.count != 2 || !is_above(m.signs.as_slice()[0]) {
         return false;
     }
-    pass(m);
+    next_move(m);
     true
 }
 

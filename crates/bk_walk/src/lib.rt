@@ -2,7 +2,6 @@
 #![tactic(auto)]
 
 mod barren;
-mod corners;
 mod judging;
 mod lined;
 mod lines;

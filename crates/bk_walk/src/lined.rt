@@ -65,7 +65,7 @@ impl LinedSkel {
     /// Plays a move, which must be legal, with at most 200 squares then. It is one step.
     pub(crate) fn push<L: Ledger>(&mut self, m: &Move, steps: &mut Steps<L>)
         requires legal { IsLegalMove (outline_of self.old) m.now }
-        requires few { order_of self.old + m.now.count ≤ LARGEST_ORDER }
+        requires few { order_of self.old + m.now.count ≤ 200 }
         ensures moves { self.new ≡ self.old ++ m.now ∷ [] }
         ensures step { steps.new ≡ steps.old + 1 }
     {

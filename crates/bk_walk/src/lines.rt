@@ -51,7 +51,7 @@ pub(crate) fn line_bound(signs: &[Sign], sizes: &[u8], ends: &[u8], lines: &[boo
     let mut aboves: usize = 0;
     let mut start: usize = 0;
     for (i, sign) in signs.iter().enumerate() {
-        most = most.max(aboves + touch(ends, start, sizes[i], sizes[i + 1], lines));
+        most = most.max(aboves + line_closing(ends, start, sizes[i], sizes[i + 1], lines));
         match *sign {
             Sign::Above => aboves += 1,
             Sign::Even => {}
@@ -59,7 +59,7 @@ pub(crate) fn line_bound(signs: &[Sign], sizes: &[u8], ends: &[u8], lines: &[boo
         }
         start += usize::from(sizes[i]);
     }
-    most.max(aboves + touch(ends, start, sizes[signs.len()], 0, lines))
+    most.max(aboves + line_closing(ends, start, sizes[signs.len()], 0, lines))
 }
 
 /// Whether the left edge of the leftmost valley lies on a line. It takes what `line_bound` takes. (Own.)
@@ -89,7 +89,7 @@ fn squares_before(sizes: &[u8], place: usize) -> usize
 
 // One where a line bounds the segment of so many of the squares from a place on, in front of a segment of as many as is said
 // next, or ended on it.
-fn touch(ends: &[u8], start: usize, size: u8, next: u8, lines: &[bool]) -> usize
+fn line_closing(ends: &[u8], start: usize, size: u8, next: u8, lines: &[bool]) -> usize
     requires { start + size + next ≤ length ends.now }
     ensures few { result ≤ 1 }
     ensures touched { result ≡ cond (list_any (on_line lines.now) (take size (drop start ends.now))

@@ -1,4 +1,4 @@
-//! Which move comes next at a state.
+//! Which move comes next at a state. A search of the orders up to 16 meets moves of at most 17 squares and 18 signs.
 #![tactic(auto)]
 
 ghost use Rattle.std.specs.Prelude.{IsTrue, None, Some, [], false, length, ◌+◌, ◌<◌, ◌≡◌, ◌≤◌};
@@ -6,11 +6,6 @@ ghost use Rattle.bk_tree.specs.NextMove.{fitted, first_move as first_of_all, mov
 
 use arrayvec::ArrayVec;
 use bk_word::{Move, Sign};
-
-// A search of the order 16 meets moves of at most so many squares and so many signs.
-pub(crate) const MOST_COUNT: u8 = 17;
-
-pub(crate) const MOST_SIGNS: usize = 18;
 
 // The move that no legal one is before.
 pub(crate) fn first_move() -> Move
@@ -25,7 +20,7 @@ pub(crate) fn first_move() -> Move
 // Makes of the signs those that are next after all that begin with them: raises the last that isn't under, and drops those
 // behind it. Where all are under, it drops all and answers false.
 fn raise(signs: &mut ArrayVec<Sign, 201>) -> bool
-    requires { length signs.old.items ≤ MOST_SIGNS }
+    requires { length signs.old.items ≤ 18 }
     ensures raised { IsTrue result → signs_after signs.old.items ≡ Some signs.new.items }
     ensures none { result ≡ false → signs_after signs.old.items ≡ None }
     ensures empty { result ≡ false → signs.new.items ≡ [] }
@@ -47,9 +42,9 @@ fn raise(signs: &mut ArrayVec<Sign, 201>) -> bool
 }
 
 // Makes of the move the next after all of its count whose signs begin with its own.
-pub(crate) fn pass(m: &mut Move)
-    requires count { m.old.count ≤ MOST_COUNT }
-    requires signs { length m.old.signs ≤ MOST_SIGNS }
+pub(crate) fn next_move(m: &mut Move)
+    requires count { m.old.count ≤ 17 }
+    requires signs { length m.old.signs ≤ 18 }
     ensures { m.new ≡ move_after m.old }
 {
     if !raise(&mut m.signs) {
@@ -60,7 +55,7 @@ pub(crate) fn pass(m: &mut Move)
 // Puts signs above behind those of the move, up to so many as a legal move wants at a valley with so many open sides.
 fn pad(m: &mut Move, sides: usize)
     requires some { 0 < m.old.count }
-    requires few { m.old.count ≤ MOST_COUNT + 1 }
+    requires few { m.old.count ≤ 18 }
     requires sides { sides ≤ 2 }
     ensures { m.new ≡ padded sides m.old }
 {
@@ -71,17 +66,17 @@ fn pad(m: &mut Move, sides: usize)
 }
 
 // Makes of the move the least legal one that isn't before it, at a valley with so many open sides.
-pub(crate) fn fit(m: &mut Move, sides: usize)
+pub(crate) fn least_legal_from(m: &mut Move, sides: usize)
     requires some { 0 < m.old.count }
-    requires count { m.old.count ≤ MOST_COUNT }
-    requires signs { length m.old.signs ≤ MOST_SIGNS }
+    requires count { m.old.count ≤ 17 }
+    requires signs { length m.old.signs ≤ 18 }
     requires sides { sides ≤ 2 }
     ensures { m.new ≡ fitted sides m.old }
 {
     let wanted = usize::from(m.count) - 1 + sides;
     if m.signs.len() > wanted {
         m.signs.truncate(wanted);
-        pass(m);
+        next_move(m);
     }
     pad(m, sides);
 }

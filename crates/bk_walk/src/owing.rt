@@ -4,9 +4,9 @@
 ghost use Rattle.std.specs.Prelude.{IsTrue, false, length, ◌+◌, ◌<◌, ◌≡◌, ◌≤◌};
 ghost use Rattle.bk_word.specs.Word.{order_of};
 ghost use Rattle.bk_word.specs.declared.Class.{Class};
-ghost use Rattle.bk_walk.specs.MoveCuts.{IsCut, IsNear};
+ghost use Rattle.bk_walk.specs.MoveCuts.{GrowsByAtMostOne, IsCut};
 
-use crate::moves::{MOST_COUNT, MOST_SIGNS, pass};
+use crate::moves::next_move;
 use bk_owed::{first_above, first_over, unders_behind};
 use bk_skel::Skel;
 use bk_word::Move;
@@ -14,11 +14,11 @@ use bk_word::Move;
 // Passes over a move, and over all of its count whose signs are the same up to a place, where the signs up to there ask for
 // more squares than are left after it: one for each segment that ends above its neighbour on one segment's side.
 pub(crate) fn skip_owing(skel: &Skel, order: u8, m: &mut Move) -> bool
-    requires count { m.old.count < MOST_COUNT }
-    requires signs { length m.old.signs ≤ MOST_SIGNS }
+    requires count { m.old.count < 17 }
+    requires signs { length m.old.signs ≤ 18 }
     requires small { order_of skel.now + m.old.count ≤ order }
     ensures cut { IsTrue result → (class : Class) → IsCut order class skel.now m.old m.new }
-    ensures near { IsNear m.old m.new }
+    ensures near { GrowsByAtMostOne m.old m.new }
     ensures kept { result ≡ false → m.new ≡ m.old }
 {
     let left = usize::from(order) - skel.order() - usize::from(m.count);
@@ -29,7 +29,7 @@ pub(crate) fn skip_owing(skel: &Skel, order: u8, m: &mut Move) -> bool
         None => false,
         Some(kept) => {
             m.signs.truncate(kept);
-            pass(m);
+            next_move(m);
             true
         }
     }

@@ -6,13 +6,13 @@ ghost use Rattle.bk_word.specs.Outline.{IsLegalMove};
 ghost use Rattle.bk_word.specs.Play.{outline_of};
 ghost use Rattle.bk_word.specs.Word.{order_of};
 ghost use Rattle.bk_word.specs.declared.Class.{Class};
-ghost use Rattle.bk_walk.specs.Search.{Counts, IsPlace, IsStand};
+ghost use Rattle.bk_walk.specs.Search.{HasPassed, IsSearchState, PushesGrow};
 
 use crate::lined::LinedSkel;
 use crate::moves::first_move;
 use crate::search::play;
 use bk_skel::{Skel, Steps};
-use bk_word::{LARGEST_ORDER, Move, NoMemory, Word};
+use bk_word::{Move, NoMemory, Word};
 use std::alloc::Global;
 use std::sync::ledger::Ledger;
 
@@ -30,10 +30,10 @@ pub(crate) fn resume<L: Ledger>(
     requires small { order_of lined.old ≤ order }
     requires few { order_of cursor.now ≤ 16 }
     requires known { pushes.old < 2 ^ 64 }
-    ensures stand { IsStand order lined.new result }
-    ensures place { (class : Class) → IsPlace order class cursor.now (lined.new ++ result ∷ []) 0 }
+    ensures stand { IsSearchState order lined.new result }
+    ensures place { (class : Class) → HasPassed order class cursor.now (lined.new ++ result ∷ []) 0 }
     ensures few { steps.new ≤ steps.old + 16 }
-    ensures counts { Counts pushes.old pushes.new steps.old steps.new }
+    ensures counts { PushesGrow pushes.old pushes.new steps.old steps.new }
 {
     'moves: for i in lined.skel().moves()..cursor.moves() {
         let m = cursor.get(i);
@@ -47,7 +47,7 @@ pub(crate) fn resume<L: Ledger>(
 
 // Whether a move is legal, and hangs no more squares than the order leaves.
 fn can_play(lined: &LinedSkel, m: &Move, order: u8) -> bool
-    requires { m.now.count ≤ LARGEST_ORDER }
+    requires { m.now.count ≤ 200 }
     ensures legal { IsTrue result → IsLegalMove (outline_of lined.now) m.now }
     ensures few { IsTrue result → order_of lined.now + m.now.count ≤ order }
     ensures no { result ≡ false → IsLegalMove (outline_of lined.now) m.now → order_of lined.now + m.now.count ≤ order → ⊥ }

@@ -6,19 +6,19 @@ ghost use Rattle.bk_word.specs.Outline.{IsLegalMove};
 ghost use Rattle.bk_word.specs.Play.{IsComplete, outline_of};
 ghost use Rattle.bk_word.specs.Word.{order_of};
 ghost use Rattle.bk_tree.specs.NextMove.{open_sides as sides_open};
-ghost use Rattle.bk_walk.specs.Search.{Counts, Finds, IsClimbed, IsStand, Leads};
+ghost use Rattle.bk_walk.specs.Search.{Finds, IsClimbed, IsSearchState, PushesGrow, StepLeadsTo};
 
 use crate::barren::{is_barren, skip};
-use crate::judging::{Leaf, judge};
+use crate::judging::{WordVerdict, judge};
 use crate::lined::LinedSkel;
-use crate::moves::{first_move, fit, pass};
+use crate::moves::{first_move, least_legal_from, next_move};
 use bk_skel::{Steps, open_side};
 use bk_tiling::Tiling;
-use bk_word::{Class, LARGEST_ORDER, Move};
+use bk_word::{Class, Move};
 use std::sync::ledger::Ledger;
 
-// Where one turn of the search leads.
-pub(crate) enum Turn {
+// Where one step of the search leads.
+pub(crate) enum Went {
     // on to a later place
     On,
     // to a complete word of the order
@@ -47,61 +47,61 @@ pub(crate) fn search<L: Ledger>(
 ) -> Found
     requires least { 2 ≤ order }
     requires order { order ≤ 16 }
-    requires stand { IsStand order lined.old next.old }
+    requires stand { IsSearchState order lined.old next.old }
     requires known { pushes.old < 2 ^ 64 }
     ensures finds { Finds order class (lined.old ++ next.old ∷ []) lined.new (steps.new - steps.old) result }
-    ensures counts { Counts pushes.old pushes.new steps.old steps.new }
+    ensures counts { PushesGrow pushes.old pushes.new steps.old steps.new }
 {
     'turns: loop {
-        match take_turn(lined, next, class, order, pushes, steps) {
-            Turn::On => {}
-            Turn::End => return Found::Ended,
-            Turn::Complete => match judge(lined.skel(), class) {
-                Leaf::Member(tiling) => return Found::Member(tiling),
-                Leaf::Other => {}
+        match search_step(lined, next, class, order, pushes, steps) {
+            Went::On => {}
+            Went::End => return Found::Ended,
+            Went::Complete => match judge(lined.skel(), class) {
+                WordVerdict::Member(tiling) => return Found::Member(tiling),
+                WordVerdict::Other => {}
             },
         }
     }
 }
 
-// Goes one turn on: back from moves after which none is left, over moves that are cut, or down by a move that is pushed.
-fn take_turn<L: Ledger>(
+// Goes one step on: back from moves after which none is left, over moves that are cut, or down by a move that is pushed.
+fn search_step<L: Ledger>(
     lined: &mut LinedSkel,
     next: &mut Move,
     class: Class,
     order: u8,
     pushes: &mut u64,
     steps: &mut Steps<L>,
-) -> Turn
+) -> Went
     requires least { 2 ≤ order }
     requires order { order ≤ 16 }
-    requires stand { IsStand order lined.old next.old }
+    requires stand { IsSearchState order lined.old next.old }
     requires known { pushes.old < 2 ^ 64 }
-    ensures leads { Leads order class (lined.old ++ next.old ∷ []) lined.new next.new (steps.new - steps.old) result }
-    ensures counts { Counts pushes.old pushes.new steps.old steps.new }
+    ensures leads { StepLeadsTo order class (lined.old ++ next.old ∷ []) lined.new next.new (steps.new - steps.old) result }
+    ensures counts { PushesGrow pushes.old pushes.new steps.old steps.new }
 {
-    fit(next, open_sides(lined));
+    least_legal_from(next, open_sides(lined));
     if lined.skel().order() + usize::from(next.count) > usize::from(order) {
         return if climb(lined, next) {
-            Turn::On
+            Went::On
         } else {
-            Turn::End
+            Went::End
         };
     }
     if skip(lined, class, order, next) {
-        return Turn::On;
+        return Went::On;
     }
     go_down(lined, next, class, order, pushes, steps);
     if is_barren(lined, order) {
         lined.pop();
-        pass(next);
-        return Turn::On;
+        next_move(next);
+        return Went::On;
     }
     *next = first_move();
-    if is_whole(lined, order) {
-        Turn::Complete
+    if is_complete_of(lined, order) {
+        Went::Complete
     } else {
-        Turn::On
+        Went::On
     }
 }
 
@@ -127,7 +127,7 @@ fn climb(lined: &mut LinedSkel, next: &mut Move) -> bool
     }
     *next = lined.skel().get(moves - 1);
     lined.pop();
-    pass(next);
+    next_move(next);
     true
 }
 
@@ -159,7 +159,7 @@ pub(crate) fn play<L: Ledger>(
     steps: &mut Steps<L>,
 )
     requires legal { IsLegalMove (outline_of lined.old) m.now }
-    requires few { order_of lined.old + m.now.count ≤ LARGEST_ORDER }
+    requires few { order_of lined.old + m.now.count ≤ 200 }
     ensures moves { lined.new ≡ lined.old ++ m.now ∷ [] }
     ensures step { steps.new ≡ steps.old + 1 }
     ensures count { pushes.new ≡ min (pushes.old + 1) (2 ^ 64 - 1) }
@@ -169,7 +169,7 @@ pub(crate) fn play<L: Ledger>(
 }
 
 // Whether the moves are a complete word of the order.
-fn is_whole(lined: &LinedSkel, order: u8) -> bool
+fn is_complete_of(lined: &LinedSkel, order: u8) -> bool
     ensures whole { IsTrue result → IsComplete lined.now × (order_of lined.now ≡ order) }
     ensures unready { result ≡ false → IsComplete lined.now → order_of lined.now ≡ order → ⊥ }
 {

@@ -54,8 +54,8 @@ impl TabledMembers {
         self.table = MemberTable::of(self.alloc, order, class, count, span_of(skel).low);
     }
 
-    /// How many signs of the move it takes, where the table tells it, until no member of the order and the class has a word that
-    /// goes on from the skeleton's moves by a move of the same count whose signs begin with them.
+    /// How many signs of the move it takes, where the table tells it, until no member of the order and the class has a word
+    /// that goes on from the skeleton's moves by a move of the same count whose signs begin with them.
     pub(crate) fn barren_signs(
         &self,
         order: u8,

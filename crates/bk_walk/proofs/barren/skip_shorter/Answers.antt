@@ -6,7 +6,7 @@ use Rattle.bk_walk.specs.MoveCuts.{IsCut}
 use Rattle.bk_walk.proofs.barren.skip_shorter.Goals as goal
 
 pub returns-clause-cut : goal.returns-clause-cut
-returns-clause-cut c _ n class = subst (λ (next : Move). IsCut n class c.args.skel.now c.args.m.now next) (sym c.pass.ensures)
+returns-clause-cut c _ n class = subst (λ (next : Move). IsCut n class c.args.skel.now c.args.m.now next) (sym c.next_move.ensures)
     (shorter_cut n class c.args.skel.now c.args.m.now (sym c.moves.ensures.value ∙ c.if-moves-ne0.false)
     (sym (ap (λ (m : Move). m.count) c.m.view_is) ∙ c.if-m-ne2.false)
     (ap (λ l. slice_index_or l 0 Above) (sym (c.as_slice.ensures.value ∙ ap (λ (m : Move). m.signs) c.m.view_is))

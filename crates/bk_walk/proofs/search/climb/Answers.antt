@@ -3,16 +3,16 @@ use Rattle.bk_word.specs.Word.{Word}
 use Rattle.bk_walk.proofs.Standing.{IsLastMove, last_move, taken_last}
 use Rattle.bk_walk.proofs.search.climb.Goals as goal
 
-pub pass-requires-clause-count : goal.pass-requires-clause-count
-pass-requires-clause-count c =
+pub next_move-requires-clause-count : goal.next_move-requires-clause-count
+next_move-requires-clause-count c =
     let was = taken_last c.args.lined.now c.pop.new.self c.get.result c.moves-moves.result
     (c.moves-moves.ensures.value ∙ ap length c.skel.ensures.value) (omega (arith, c.if-moves-eq0.false))
     (ap (λ (w : Word). slice_get w (c.moves-moves.result - 1)) (sym c.skel-2.ensures.value) ∙ c.get.ensures) c.pop.ensures in
     let last : IsLastMove c.pop.new.self c.get.result = last_move c.args.lined.now c.pop.new.self c.get.result c.skel.ensures.legal c.requires.small was in
     omega (arith, last.count)
 
-pub pass-requires-clause-signs : goal.pass-requires-clause-signs
-pass-requires-clause-signs c =
+pub next_move-requires-clause-signs : goal.next_move-requires-clause-signs
+next_move-requires-clause-signs c =
     let was = taken_last c.args.lined.now c.pop.new.self c.get.result c.moves-moves.result
     (c.moves-moves.ensures.value ∙ ap length c.skel.ensures.value) (omega (arith, c.if-moves-eq0.false))
     (ap (λ (w : Word). slice_get w (c.moves-moves.result - 1)) (sym c.skel-2.ensures.value) ∙ c.get.ensures) c.pop.ensures in
@@ -25,5 +25,5 @@ returns-clause-on c _ = record {
   was = taken_last c.args.lined.now c.pop.new.self c.get.result c.moves-moves.result
       (c.moves-moves.ensures.value ∙ ap length c.skel.ensures.value) (omega (arith, c.if-moves-eq0.false))
       (ap (λ (w : Word). slice_get w (c.moves-moves.result - 1)) (sym c.skel-2.ensures.value) ∙ c.get.ensures) c.pop.ensures;
-  next = c.pass.ensures;
+  next = c.next_move.ensures;
 }

@@ -1,4 +1,4 @@
--- The turns of a search: it climbs from a state with no move left, passes over moves that are cut, and pushes a move.
+-- The steps of a search: it climbs from a state with no move left, passes over moves that are cut, and pushes a move.
 use Rattle.std.specs.declared.cmp.Ordering.{Ordering}
 use Rattle.std.specs.declared.cmp.Ordering.TheVariants.{Equal, Greater, Less}
 use Rattle.std.specs.Ordering.{ordering_reverse, ordering_then}
@@ -20,17 +20,20 @@ use Rattle.bk_catalogue.specs.Catalogue.{Entry, IsEntry}
 use Rattle.bk_barren.specs.Cuts.{IsBarren}
 use Rattle.bk_walk.specs.MoveCuts.{IsCut}
 use Rattle.bk_tree.specs.NextMove.{IsLeastFrom, IsMoveFrom, first_move, move_after}
-use Rattle.bk_walk.specs.Search.{Advances, Ends, IsEnd, IsMet, IsPlace, IsTreeWord, Reaches}
+use Rattle.bk_walk.specs.Search.{Advances, Ends, HasPassed, IsEnd, IsMet, IsTreeWord, Reaches}
 
 -- fewer words were met, too
-pub fewer_met : (n : ℕ) (class : Class) (cursor place : Word) (more met : ℕ) → met ≤ more → IsPlace n class cursor place more → IsPlace n class cursor place met
+pub fewer_met : (n : ℕ) (class : Class) (cursor place : Word) (more met : ℕ) → met ≤ more → HasPassed n class cursor place more
+    → HasPassed n class cursor place met
 fewer_met n class cursor place more met h p =
     record { passed = p.passed; after = p.after; words = p.words; each = p.each; ascending = p.ascending; count = omega (arith, p.count) }
 
+-- the same at the end
 pub fewer_end : (n : ℕ) (class : Class) (cursor : Word) (more met : ℕ) → met ≤ more → IsEnd n class cursor more → IsEnd n class cursor met
 fewer_end n class cursor more met h p = let c = p.count in
     record { passed = p.passed; count = record { words = c.words; each = c.each; ascending = c.ascending; count = omega (arith, c.count) } }
 
+-- and at a word
 pub fewer_at : (n : ℕ) (class : Class) (cursor word : Word) (more met : ℕ) → met ≤ more → IsMet n class cursor word more → IsMet n class cursor word met
 fewer_at n class cursor word more met h p = let c = p.count in
     record { after = p.after; passed = p.passed; count = record { words = c.words; each = c.each; ascending = c.ascending; count = omega (arith, c.count) } }
@@ -58,6 +61,7 @@ up_by_move front x next rest more e = front_cmp front (x ∷ rest) (next ∷ mor
 after_itself : (m : Move) → move_cmp m (move_after m) ≡ Less
 after_itself m = begun_before m m refl (record { rest = []; is = sym (append-nil m.signs) })
 
+-- where no legal move is left, the search goes on after the last move that was played
 pub climbs : (n : ℕ) (class : Class) (front : Word) (l x : Move) (met : ℕ) → IsLegalMove (outline_of front) l → IsLast n (front ++ l ∷ []) x → met ≤ 0
     → Advances n class ((front ++ l ∷ []) ++ x ∷ []) (front ++ move_after l ∷ []) met
 climbs n class front l x met legal last few =
@@ -74,6 +78,7 @@ climbs n class front l x met legal last few =
     none : (e : Entry) → IsEntry n class e → (Follows ((front ++ l ∷ []) ++ x ∷ []) e.word → ⊥) → Follows (front ++ move_after l ∷ []) e.word → ⊥
     none e is from to = climb_over n front l x e.word (entry_word n class e is) legal last from to
 
+-- it goes on over moves that are cut
 pub cuts : (n : ℕ) (class : Class) (front : Word) (x m next : Move) (met : ℕ) → IsLeastFrom (outline_of front) x m → IsCut n class front m next → met ≤ 0
     → Advances n class (front ++ x ∷ []) (front ++ next ∷ []) met
 cuts n class front x m next met least cut few =
@@ -92,6 +97,7 @@ cuts n class front x m next met least cut few =
         by_move : IsOver front m next e.word → ⊥
         by_move o = cut.barren o.other o.legal o.from o.to e o.rest is (o.is ∙ sym (append_assoc front (o.other ∷ []) o.rest))
 
+-- where no move is played and no legal one is left, it ends
 pub ends : (n : ℕ) (class : Class) (x : Move) (met : ℕ) → IsLast n [] x → met ≤ 0 → Ends n class (x ∷ []) met
 ends n class x met last few cursor before p =
     fewer_end n class cursor before (before + met) (omega arith) (ended n class (x ∷ []) cursor before (λ w tree from. end_over n x w tree last from) p)
@@ -99,6 +105,7 @@ ends n class x met last few cursor before p =
 -- a move is pushed
 module _ (n : ℕ) (class : Class) (front : Word) (x m : Move) (met : ℕ) (legal : IsLegal front) (least : IsLeastFrom (outline_of front) x m)
     (small : order_of front + m.count ≤ n) (few : met ≤ 1) where
+  -- the moves that are played then are a word of the tree
   pub pushed_tree : IsTreeWord n (front ++ m ∷ [])
   pushed_tree = record { legal = legal-snoc start front m legal least.legal; small = omega (arith, order_append front (m ∷ []), order_more m []) }
 
@@ -120,6 +127,7 @@ module _ (n : ℕ) (class : Class) (front : Word) (x m : Move) (met : ℕ) (lega
   to_on = ap (word_cmp (front ++ m ∷ [])) (append_assoc front (m ∷ []) (first_move ∷ [])) ∙ front_cmp front (m ∷ []) (m ∷ first_move ∷ [])
       ∙ ap (λ z. ordering_then z (word_cmp [] (first_move ∷ []))) (move_itself m)
 
+  -- where no member has this word, the search goes on to what begins with it
   pub goes_down : ((e : Entry) → IsEntry n class e → e.word ≡ front ++ m ∷ [] → ⊥)
       → Advances n class (front ++ x ∷ []) ((front ++ m ∷ []) ++ first_move ∷ []) met
   goes_down not = record {
@@ -136,6 +144,7 @@ module _ (n : ℕ) (class : Class) (front : Word) (x m : Move) (met : ℕ) (lega
   up_next : Follows (front ++ move_after m ∷ []) (front ++ x ∷ [])
   up_next = up_by_move front x (move_after m) [] [] (from_less x m (move_after m) least.from (after_itself m))
 
+  -- where no member's word begins with it, the search goes on after the move
   pub turns_back : IsBarren n class (front ++ m ∷ []) → Advances n class (front ++ x ∷ []) (front ++ move_after m ∷ []) met
   turns_back barren = record {
     up = up_next;
@@ -153,6 +162,7 @@ module _ (n : ℕ) (class : Class) (front : Word) (x m : Move) (met : ℕ) (lega
               same : o.other ≡ m
               same = one_legal (outline_of front) m o.other least.legal o.legal (moves_between m o.other o.from o.to).0 (moves_between m o.other o.from o.to).1
 
+  -- it meets this word
   pub reaches : Reaches n class (front ++ x ∷ []) (front ++ m ∷ []) met
   reaches = record {
     up = up_on;

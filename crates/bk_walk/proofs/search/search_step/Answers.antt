@@ -2,24 +2,24 @@ use Rattle.std.proofs.Common.{[], ap, arith, length, subst, sym, ℕ, ◌++◌, 
 use Rattle.bk_word.specs.Outline.{IsLegalMove}
 use Rattle.bk_word.specs.Play.{outline_of}
 use Rattle.bk_word.specs.Word.{Move, order_of}
-use Rattle.bk_walk.proofs.Standing.{turn_climbs, turn_cuts, turn_ends, turn_goes_down, turn_least, turn_reaches, turn_signs, turn_turns_back}
+use Rattle.bk_walk.proofs.Standing.{step_climbs, step_cuts, step_ends, step_goes_down, step_least, step_reaches, step_signs, step_turns_back}
 use Rattle.bk_tree.specs.NextMove.{fitted, open_sides}
-use Rattle.bk_walk.specs.Search.{Leads}
-use Rattle.bk_walk.specs.declared.search.Turn.{Turn}
-use Rattle.bk_walk.proofs.search.take_turn.Goals as goal
-use Rattle.bk_walk.proofs.search.take_turn.Goals.{else-is_whole, then-is_whole}
+use Rattle.bk_walk.specs.Search.{StepLeadsTo}
+use Rattle.bk_walk.specs.declared.search.Went.{Went}
+use Rattle.bk_walk.proofs.search.search_step.Goals as goal
+use Rattle.bk_walk.proofs.search.search_step.Goals.{else-is_complete_of, then-is_complete_of}
 
 pub returns-then-climb-clause-leads : goal.returns-then-climb-clause-leads
-returns-then-climb-clause-leads g c = turn_climbs c.args.order c.args.class c.args.lined.now c.args.next.now c.fit.new.m c.requires.order
-    c.requires.stand (c.fit.ensures ∙ ap (λ k. fitted k c.args.next.now) c.open_sides.ensures.value)
+returns-then-climb-clause-leads g c = step_climbs c.args.order c.args.class c.args.lined.now c.args.next.now c.least_legal_from.new.m c.requires.order
+    c.requires.stand (c.least_legal_from.ensures ∙ ap (λ k. fitted k c.args.next.now) c.open_sides.ensures.value)
     c.climb.new.lined c.climb.new.next (c.args.steps.now - c.args.steps.now) (c.climb.ensures.on c.if-climb.true)
     (let v = c.order.ensures.value ∙ ap order_of c.skel.ensures.value in let count = ap (λ (m : Move). m.count) c.next.view_is in
     omega (arith, c.if-order-from.true, c.from.ensures, c.from-2.ensures)) (omega arith)
 
 pub returns-else-climb-clause-leads : goal.returns-else-climb-clause-leads
 returns-else-climb-clause-leads g c = (
-  turn_ends c.args.order c.args.class c.args.lined.now c.args.next.now c.fit.new.m c.requires.order c.requires.stand
-      (c.fit.ensures ∙ ap (λ k. fitted k c.args.next.now) c.open_sides.ensures.value)
+  step_ends c.args.order c.args.class c.args.lined.now c.args.next.now c.least_legal_from.new.m c.requires.order c.requires.stand
+      (c.least_legal_from.ensures ∙ ap (λ k. fitted k c.args.next.now) c.open_sides.ensures.value)
       (c.args.steps.now - c.args.steps.now) (c.climb.ensures.end c.if-climb.false)
       (let v = c.order.ensures.value ∙ ap order_of c.skel.ensures.value in let count = ap (λ (m : Move). m.count) c.next.view_is in
       omega (arith, c.if-order-from.true, c.from.ensures, c.from-2.ensures)) (omega arith),
@@ -27,16 +27,16 @@ returns-else-climb-clause-leads g c = (
 )
 
 pub skip-requires-clause-legal : goal.skip-requires-clause-legal
-skip-requires-clause-legal g c = (turn_least c.args.order c.args.class c.args.lined.now c.args.next.now c.fit.new.m c.requires.order
-    c.requires.stand (c.fit.ensures ∙ ap (λ k. fitted k c.args.next.now) c.open_sides.ensures.value)).legal
+skip-requires-clause-legal g c = (step_least c.args.order c.args.class c.args.lined.now c.args.next.now c.least_legal_from.new.m c.requires.order
+    c.requires.stand (c.least_legal_from.ensures ∙ ap (λ k. fitted k c.args.next.now) c.open_sides.ensures.value)).legal
 
 pub skip-requires-clause-signs : goal.skip-requires-clause-signs
 skip-requires-clause-signs g c =
     let count = ap (λ (m : Move). m.count) c.next.view_is in
     omega (
       arith,
-      turn_signs c.args.order c.args.class c.args.lined.now c.args.next.now c.fit.new.m c.requires.order c.requires.stand
-          (c.fit.ensures ∙ ap (λ k. fitted k c.args.next.now) c.open_sides.ensures.value),
+      step_signs c.args.order c.args.class c.args.lined.now c.args.next.now c.least_legal_from.new.m c.requires.order c.requires.stand
+          (c.least_legal_from.ensures ∙ ap (λ k. fitted k c.args.next.now) c.open_sides.ensures.value),
       c.if-order-from.false,
       c.from.ensures,
       c.from-2.ensures,
@@ -44,8 +44,8 @@ skip-requires-clause-signs g c =
     )
 
 pub returns-then-skip-clause-leads : goal.returns-then-skip-clause-leads
-returns-then-skip-clause-leads g c = turn_cuts c.args.order c.args.class c.args.lined.now c.args.next.now c.fit.new.m c.requires.order
-    c.requires.stand (c.fit.ensures ∙ ap (λ k. fitted k c.args.next.now) c.open_sides.ensures.value)
+returns-then-skip-clause-leads g c = step_cuts c.args.order c.args.class c.args.lined.now c.args.next.now c.least_legal_from.new.m c.requires.order
+    c.requires.stand (c.least_legal_from.ensures ∙ ap (λ k. fitted k c.args.next.now) c.open_sides.ensures.value)
     c.skip.new.m (c.args.steps.now - c.args.steps.now)
     (c.skip.ensures.cut c.if-skip.true) c.skip.ensures.near
     (let v = c.order.ensures.value ∙ ap order_of c.skel.ensures.value in let count = ap (λ (m : Move). m.count) c.next.view_is in
@@ -53,22 +53,22 @@ returns-then-skip-clause-leads g c = turn_cuts c.args.order c.args.class c.args.
 
 pub go_down-requires-clause-legal : goal.go_down-requires-clause-legal
 go_down-requires-clause-legal g c = subst (IsLegalMove (outline_of c.args.lined.now)) (sym (c.skip.ensures.kept c.if-skip.false))
-    (turn_least c.args.order c.args.class c.args.lined.now c.args.next.now c.fit.new.m c.requires.order c.requires.stand
-    (c.fit.ensures ∙ ap (λ k. fitted k c.args.next.now) c.open_sides.ensures.value)).legal
+    (step_least c.args.order c.args.class c.args.lined.now c.args.next.now c.least_legal_from.new.m c.requires.order c.requires.stand
+    (c.least_legal_from.ensures ∙ ap (λ k. fitted k c.args.next.now) c.open_sides.ensures.value)).legal
 
 -- the move that is pushed is the one that fits
 fits : (m n x : Move) (k j : ℕ) → m ≡ n → n ≡ fitted k x → k ≡ j → m ≡ fitted j x
 fits m n x k j e f h = e ∙ f ∙ ap (λ i. fitted i x) h
 
-pub pass-requires-clause-signs : goal.pass-requires-clause-signs
-pass-requires-clause-signs g c =
-    let same : c.skip.new.m ≡ c.fit.new.m = c.skip.ensures.kept c.if-skip.false in
+pub next_move-requires-clause-signs : goal.next_move-requires-clause-signs
+next_move-requires-clause-signs g c =
+    let same : c.skip.new.m ≡ c.least_legal_from.new.m = c.skip.ensures.kept c.if-skip.false in
     let count = ap (λ (m : Move). m.count) c.next.view_is in
     omega (
       arith,
       ap (λ (m : Move). length m.signs) same,
-      turn_signs c.args.order c.args.class c.args.lined.now c.args.next.now c.fit.new.m c.requires.order c.requires.stand
-          (c.fit.ensures ∙ ap (λ k. fitted k c.args.next.now) c.open_sides.ensures.value),
+      step_signs c.args.order c.args.class c.args.lined.now c.args.next.now c.least_legal_from.new.m c.requires.order c.requires.stand
+          (c.least_legal_from.ensures ∙ ap (λ k. fitted k c.args.next.now) c.open_sides.ensures.value),
       c.if-order-from.false,
       c.from.ensures,
       c.from-2.ensures,
@@ -77,43 +77,43 @@ pass-requires-clause-signs g c =
 
 pub returns-then-is_barren-clause-leads : goal.returns-then-is_barren-clause-leads
 returns-then-is_barren-clause-leads g c =
-    let same : c.skip.new.m ≡ c.fit.new.m = c.skip.ensures.kept c.if-skip.false in
+    let same : c.skip.new.m ≡ c.least_legal_from.new.m = c.skip.ensures.kept c.if-skip.false in
     let small : order_of c.args.lined.now + c.skip.new.m.count ≤ c.args.order =
     (let v = c.order.ensures.value ∙ ap order_of c.skel.ensures.value in let count = ap (λ (m : Move). m.count) c.next.view_is in
     omega (arith, ap (λ (m : Move). m.count) same, c.if-order-from.false, c.from.ensures, c.from-2.ensures)) in
-    turn_turns_back c.args.order c.args.class c.args.lined.now c.args.next.now c.skip.new.m c.requires.order c.requires.stand
-    (fits c.skip.new.m c.fit.new.m c.args.next.now c.open_sides.result (open_sides (outline_of c.args.lined.now))
-    (c.skip.ensures.kept c.if-skip.false) c.fit.ensures c.open_sides.ensures.value)
+    step_turns_back c.args.order c.args.class c.args.lined.now c.args.next.now c.skip.new.m c.requires.order c.requires.stand
+    (fits c.skip.new.m c.least_legal_from.new.m c.args.next.now c.open_sides.result (open_sides (outline_of c.args.lined.now))
+    (c.skip.ensures.kept c.if-skip.false) c.least_legal_from.ensures c.open_sides.ensures.value)
     small c.go_down.new.lined c.go_down.ensures.moves (c.go_down.new.steps - c.args.steps.now) (omega (arith, c.go_down.ensures.step)) c.pop.new.self
-    c.pass.new.m c.pop.ensures c.pass.ensures (c.is_barren.ensures c.if-is_barren.true c.args.class)
+    c.next_move.new.m c.pop.ensures c.next_move.ensures (c.is_barren.ensures c.if-is_barren.true c.args.class)
 
 pub returns-clause-leads : goal.returns-clause-leads
 returns-clause-leads g c =
-    let fit = fits c.skip.new.m c.fit.new.m c.args.next.now c.open_sides.result (open_sides (outline_of c.args.lined.now))
-    (c.skip.ensures.kept c.if-skip.false) c.fit.ensures c.open_sides.ensures.value in
-    let same : c.skip.new.m ≡ c.fit.new.m = c.skip.ensures.kept c.if-skip.false in
+    let fit = fits c.skip.new.m c.least_legal_from.new.m c.args.next.now c.open_sides.result (open_sides (outline_of c.args.lined.now))
+    (c.skip.ensures.kept c.if-skip.false) c.least_legal_from.ensures c.open_sides.ensures.value in
+    let same : c.skip.new.m ≡ c.least_legal_from.new.m = c.skip.ensures.kept c.if-skip.false in
     let small : order_of c.args.lined.now + c.skip.new.m.count ≤ c.args.order =
     (let v = c.order.ensures.value ∙ ap order_of c.skel.ensures.value in let count = ap (λ (m : Move). m.count) c.next.view_is in
     omega (arith, ap (λ (m : Move). m.count) same, c.if-order-from.false, c.from.ensures, c.from-2.ensures)) in
     let first = c.next-3.view_is ∙ c.first_move.ensures in
     let one : c.go_down.new.steps - c.args.steps.now ≤ 1 = omega (arith, c.go_down.ensures.step) in
-    elim c.if-is_whole.branch [
-      | then-is_whole w ↦ subst
-          (λ (r : Turn). Leads c.args.order c.args.class (c.args.lined.now ++ c.args.next.now ∷ []) c.go_down.new.lined
+    elim c.if-is_complete_of.branch [
+      | then-is_complete_of w ↦ subst
+          (λ (r : Went). StepLeadsTo c.args.order c.args.class (c.args.lined.now ++ c.args.next.now ∷ []) c.go_down.new.lined
           (record { count = c.next-3.inside.count; signs = c.next-3.inside.signs.items }) (c.go_down.new.steps - c.args.steps.now) r)
           (sym w.result-is)
-          (let whole = c.is_whole.ensures.whole w.if-is_whole.true in (
-            turn_reaches c.args.order c.args.class c.args.lined.now c.args.next.now c.skip.new.m c.requires.order c.requires.stand fit small
+          (let whole = c.is_complete_of.ensures.whole w.if-is_complete_of.true in (
+            step_reaches c.args.order c.args.class c.args.lined.now c.args.next.now c.skip.new.m c.requires.order c.requires.stand fit small
                 c.go_down.new.lined c.go_down.ensures.moves (c.go_down.new.steps - c.args.steps.now) one,
             whole.0,
             whole.1,
             first,
           ))
-      | else-is_whole w ↦ subst
-          (λ (r : Turn). Leads c.args.order c.args.class (c.args.lined.now ++ c.args.next.now ∷ []) c.go_down.new.lined
+      | else-is_complete_of w ↦ subst
+          (λ (r : Went). StepLeadsTo c.args.order c.args.class (c.args.lined.now ++ c.args.next.now ∷ []) c.go_down.new.lined
           (record { count = c.next-3.inside.count; signs = c.next-3.inside.signs.items }) (c.go_down.new.steps - c.args.steps.now) r)
           (sym w.result-is)
-          (turn_goes_down c.args.order c.args.class c.args.lined.now c.args.next.now c.skip.new.m c.requires.order c.requires.stand fit
+          (step_goes_down c.args.order c.args.class c.args.lined.now c.args.next.now c.skip.new.m c.requires.order c.requires.stand fit
           small c.go_down.new.lined c.go_down.ensures.moves (c.go_down.new.steps - c.args.steps.now) one
-          (record { count = c.next-3.inside.count; signs = c.next-3.inside.signs.items }) first (c.is_whole.ensures.unready w.if-is_whole.false))
+          (record { count = c.next-3.inside.count; signs = c.next-3.inside.signs.items }) first (c.is_complete_of.ensures.unready w.if-is_complete_of.false))
     ]
