@@ -113,5 +113,5 @@ fn begins_by(skel: &Skel, count: u8) -> bool
     ensures some { IsTrue result → 0 < length skel.now }
     ensures begins { IsTrue result → BeginsBy count skel.now }
 {
-    skel.moves() > 0 && skel.get(0).count == count
+    skel.moves() > 0 && skel.count_at(0) == count
 }

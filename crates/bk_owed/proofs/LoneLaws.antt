@@ -18,6 +18,10 @@ low-append low (Above ∷ xs) ys = low-append false xs ys
 low-append low (Even ∷ xs) ys = low-append false xs ys
 low-append low (Under ∷ xs) ys = low-append true xs ys
 
+-- more signs tell of no fewer
+pub lone_more : (low : Bool) (xs ys : List Sign) → lone_squares low xs ≤ lone_squares low (xs ++ ys)
+lone_more low xs ys = omega (arith, lone-append low xs ys)
+
 -- there are no more than signs
 pub lone_few : (low : Bool) (xs : List Sign) → lone_squares low xs ≤ length xs
 lone_few low [] = omega arith

@@ -169,6 +169,14 @@ impl Skel {
         }
     }
 
+    /// The numbers of the leftmost valley's squares, from left to right: none at the start.
+    pub fn valley_squares(&self) -> &[u8]
+        ensures { result.now ≡ valley_of (outline_of self.now) }
+    {
+        let (place, first) = leftmost(&self.sizes, &self.signs);
+        &self.ends[first..first + usize::from(self.sizes[place])]
+    }
+
     /// Whether the leftmost valley has a wall at its left, and at its right.
     pub fn walls(&self) -> (bool, bool)
         ensures left { result.0 ≡ has_left_wall (outline_of self.now) }
@@ -233,6 +241,23 @@ impl Skel {
         }
     }
 
+    /// How many squares the move at place i, from 0, hangs.
+    pub fn count_at(&self, i: usize) -> u8
+        requires { i < length self.now }
+        ensures { (m : SeenMove) → slice_get self.now i ≡ Some m → result ≡ m.count }
+    {
+        self.turn(i).count
+    }
+
+    /// The signs of the move at place i, from 0.
+    pub fn signs_at(&self, i: usize) -> &[Sign]
+        requires { i < length self.now }
+        ensures { (m : SeenMove) → slice_get self.now i ≡ Some m → result.now ≡ m.signs }
+    {
+        let turn = self.turns[i];
+        &self.played[usize::from(turn.from)..usize::from(turn.to)]
+    }
+
     /// How many squares the moves hang.
     pub fn order(&self) -> usize
         ensures value { result ≡ order_of self.now }
@@ -285,14 +310,5 @@ impl Skel {
         ensures { SaysWhere self.now i result }
     {
         self.turns[i]
-    }
-
-    // The signs of the move at place i.
-    pub(crate) fn signs_at(&self, i: usize) -> &[Sign]
-        requires { i < length self.now }
-        ensures { (m : SeenMove) → slice_get self.now i ≡ Some m → result.now ≡ m.signs }
-    {
-        let turn = self.turns[i];
-        &self.played[usize::from(turn.from)..usize::from(turn.to)]
     }
 }

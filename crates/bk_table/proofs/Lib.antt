@@ -1,4 +1,5 @@
 pub mod AskedSigns
+pub mod BehindValley
 pub mod BoardMoves
 pub mod Cutting
 pub mod Keeping

@@ -1,34 +1,46 @@
 //! What a next move's first signs ask for, counted sign by sign.
 
-ghost use Rattle.std.specs.Prelude.{IsTrue, List, [], count_by, drop, false, length, ℕ, ◌++◌, ◌+◌, ◌-◌, ◌<◌, ◌∷◌, ◌≡◌, ◌≤◌};
-ghost use Rattle.bk_bounds.specs.ClosingBound.{is_under};
-ghost use Rattle.bk_word.specs.Outline.{has_left_wall, has_right_wall, open_side, valley_place};
+ghost use Rattle.std.specs.Prelude.{IsTrue, List, [], drop, false, length, true, ℕ, ◌++◌, ◌+◌, ◌-◌, ◌<◌, ◌∷◌, ◌≡◌, ◌≤◌};
+ghost use Rattle.bk_bounds.specs.SingleValleys.{single_valleys_from};
+ghost use Rattle.bk_word.specs.Outline.{open_side};
 ghost use Rattle.bk_word.specs.Play.{IsLegal, outline_of};
 ghost use Rattle.bk_word.specs.Word.{Word as Moves, order_of};
 ghost use Rattle.bk_word.specs.declared.Sign.{Sign as SeenSign};
-ghost use Rattle.bk_table.specs.Asking.{IsAsked, IsNext};
+ghost use Rattle.bk_table.specs.Asking.{EndsOver, IsAsked, IsNext, StandBeside, singles_behind};
 
-use bk_owed::{Lone, Tally, first_above, lone_with, tally_behind, tally_with, unders_behind};
+use bk_owed::{
+    Lone, Tally, first_above, lone_with, single_valleys, tally_behind, tally_with, unders_behind,
+};
 use bk_skel::Skel;
 use bk_word::Sign;
 
-/// What stands beside the leftmost valley: whether the walls do, how many signs are under behind it, and what the signs before it
-/// ask for. (Own.)
+/// What stands beside the leftmost valley: whether the walls do, how many signs are under behind it, how many valleys of one square
+/// stand there, and what the signs before it ask for. (Own.)
 #[derive(Clone, Copy, Drop)]
 pub(crate) struct Beside {
     left_wall: bool,
     right_wall: bool,
     unders: usize,
+    behind: Behind,
     pub(crate) asked: Asked,
 }
 
+// How many valleys have one square from behind the last sign of a next move on, where the segment there isn't low at the left,
+// and where it is.
+#[derive(Clone, Copy, Drop)]
+struct Behind {
+    singles: usize,
+    singles_low: usize,
+}
+
 /// Of a next move of some count: whether the valley has a wall at its left, how many signs the move has, and how many squares may
-/// be asked for. (Own.)
+/// be asked for by them, where the segment behind the last one isn't low at the left, and where it is. (Own.)
 #[derive(Clone, Copy, Drop)]
 pub(crate) struct Next {
     pub(crate) left_wall: bool,
     pub(crate) wanted: u8,
     pub(crate) room: usize,
+    pub(crate) room_low: usize,
 }
 
 /// The tally of the signs before the valley and of a move's first signs, and the new valleys of one square by these. (Own.)
@@ -42,9 +54,8 @@ pub(crate) struct Asked {
 pub(crate) fn stand_beside(skel: &Skel) -> Beside
     requires legal { IsLegal skel.now }
     requires few { order_of skel.now ≤ 200 }
-    ensures left { result.left_wall ≡ has_left_wall (outline_of skel.now) }
-    ensures right { result.right_wall ≡ has_right_wall (outline_of skel.now) }
-    ensures unders { result.unders ≡ count_by is_under (drop (valley_place (outline_of skel.now).signs + 1) (outline_of skel.now).signs) }
+    ensures beside { StandBeside skel.now result.left_wall result.right_wall result.unders result.behind.singles
+        result.behind.singles_low }
     ensures asked { IsAsked skel.now [] result.asked.tally.bound result.asked.tally.aboves result.asked.lone.found result.asked.lone.low }
     ensures few { result.asked.tally.bound + result.asked.lone.found ≤ 400 }
 {
@@ -59,6 +70,7 @@ pub(crate) fn stand_beside(skel: &Skel) -> Beside
         left_wall,
         right_wall: place == signs.len(),
         unders: unders_behind(signs, place),
+        behind: behind_valley(signs, skel.sizes(), place),
         asked: Asked {
             tally: tally_behind(none, &signs[..place.saturating_sub(1)]),
             lone: Lone {
@@ -69,20 +81,59 @@ pub(crate) fn stand_beside(skel: &Skel) -> Beside
     }
 }
 
+// The valleys of one square behind the valley at a place.
+fn behind_valley(signs: &[Sign], sizes: &[u8], place: usize) -> Behind
+    requires long { length sizes.now ≡ length signs.now + 1 }
+    requires place { place ≤ length signs.now }
+    ensures wall { place ≡ length signs.now → result.singles ≡ 0 }
+    ensures wall_low { place ≡ length signs.now → result.singles_low ≡ 1 }
+    ensures singles { place < length signs.now
+        → result.singles ≡ single_valleys_from false (drop (place + 1) signs.now) (drop (place + 1) sizes.now) }
+    ensures singles_low { place < length signs.now
+        → result.singles_low ≡ single_valleys_from true (drop (place + 1) signs.now) (drop (place + 1) sizes.now) }
+{
+    if place == signs.len() {
+        return Behind {
+            singles: 0,
+            singles_low: 1,
+        };
+    }
+    let singles_low = single_valleys(&signs[place + 1..], &sizes[place + 1..]);
+    let first = first_single(&signs[place + 1..], sizes[place + 1]);
+    Behind {
+        singles: singles_low - first,
+        singles_low,
+    }
+}
+
+// One where the first of some segments, of so many squares, is a valley of one square if it is low at the left.
+fn first_single(signs: &[Sign], size: u8) -> usize
+    ensures { (sizes : List ℕ) → single_valleys_from true signs.now (size ∷ sizes) ≡ result + single_valleys_from false signs.now (size ∷ sizes) }
+{
+    match signs.first() {
+        Some(sign) => match *sign {
+            Sign::Above => usize::from(size == 1),
+            Sign::Even | Sign::Under => 0,
+        },
+        None => usize::from(size == 1),
+    }
+}
+
 /// Of a next move of the count, after which so many squares are left.
 pub(crate) fn next_of(beside: Beside, count: u8, left: usize) -> Next
     requires some { 0 < count }
     requires few { count ≤ 16 }
-    ensures next { (front : Moves) (order : ℕ) → beside.left_wall ≡ has_left_wall (outline_of front)
-        → beside.right_wall ≡ has_right_wall (outline_of front)
-        → beside.unders ≡ count_by is_under (drop (valley_place (outline_of front).signs + 1) (outline_of front).signs)
-        → left ≡ order - order_of front - count → IsNext front count order result.left_wall result.wanted result.room }
+    ensures next { (front : Moves) (order : ℕ)
+        → StandBeside front beside.left_wall beside.right_wall beside.unders beside.behind.singles beside.behind.singles_low
+        → left ≡ order - order_of front - count → IsNext front count order result.left_wall result.wanted result.room result.room_low }
     ensures room { result.room ≤ left }
 {
+    let room = left.saturating_sub(beside.unders);
     Next {
         left_wall: beside.left_wall,
         wanted: count - 1 + open_side(beside.left_wall) + open_side(beside.right_wall),
-        room: left.saturating_sub(beside.unders),
+        room: room.saturating_sub(beside.behind.singles),
+        room_low: room.saturating_sub(beside.behind.singles_low),
     }
 }
 
@@ -116,4 +167,12 @@ pub(crate) fn is_over(asked: Asked, room: usize) -> bool
     ensures within { result ≡ false → asked.tally.bound + asked.lone.found ≤ room }
 {
     asked.tally.bound + asked.lone.found > room
+}
+
+/// Whether the segment behind the signs is low at the left, and more squares are asked for than there is room for then.
+pub(crate) fn ends_over(asked: Asked, room_low: usize) -> bool
+    requires few { asked.tally.bound + asked.lone.found ≤ 2000 }
+    ensures { IsTrue result → EndsOver asked.tally.bound asked.lone.found asked.lone.low room_low }
+{
+    asked.lone.low && is_over(asked, room_low)
 }

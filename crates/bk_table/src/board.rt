@@ -102,13 +102,13 @@ impl Board {
         requires few { order_of self.old + m.now.count ≤ 200 }
         ensures { self.new ≡ self.old ++ m.now ∷ [] }
     {
-        let valley = self.skel.valley();
-        let first = left_of_first(&self.lefts, &valley.squares);
+        let squares = self.skel.valley_squares();
+        let first = left_of_first(&self.lefts, squares);
         let behind = self.skel.order() as u8;
         push_lefts(&mut self.lefts, first, behind, m.count);
-        let last = right_of_last(&self.rights, &valley.squares);
+        let last = right_of_last(&self.rights, squares);
         push_rights(&mut self.rights, last, behind, m.count);
-        let lines = node_lines(&self.lefts, &self.rights, &valley.squares, behind, m.count);
+        let lines = node_lines(&self.lefts, &self.rights, squares, behind, m.count);
         self.nodes.push(lines);
         self.first = first_after(self.first, behind, m.count);
         self.skel.play(m);

@@ -2,7 +2,7 @@
 #![tactic(auto)]
 
 ghost use Rattle.std.specs.Ordering.{nat_cmp};
-ghost use Rattle.std.specs.Prelude.{List, [], length, ◌%◌, ◌++◌, ◌+◌, ◌-◌, ◌/◌, ◌<◌, ◌^◌, ◌∷◌, ◌≡◌, ◌≤◌};
+ghost use Rattle.std.specs.Prelude.{List, [], length, map, ◌%◌, ◌++◌, ◌+◌, ◌-◌, ◌/◌, ◌<◌, ◌^◌, ◌∷◌, ◌≡◌, ◌≤◌};
 ghost use Rattle.bk_word.specs.Play.{IsLegal};
 ghost use Rattle.bk_word.specs.Word.{order_of, sign_place};
 ghost use Rattle.bk_table.specs.Packed.{AreDigits, begun_by, move_digits, packed, word_digits};
@@ -85,7 +85,15 @@ pub(crate) fn push_digits(digits: &mut ArrayVec<u8, MOST_DIGITS>, m: &Move)
     ensures { digits.new.items ≡ digits.old.items ++ move_digits m.now }
 {
     push_count(digits, m.count);
-    'signs: for sign in m.signs.as_slice() {
+    push_signs(digits, m.signs.as_slice());
+}
+
+// Appends those of its signs.
+pub(crate) fn push_signs(digits: &mut ArrayVec<u8, MOST_DIGITS>, signs: &[Sign])
+    requires room { length digits.old.items + length signs.now ≤ 64 }
+    ensures { digits.new.items ≡ digits.old.items ++ map sign_place signs.now }
+{
+    'signs: for sign in signs {
         digits.push(place_of(*sign));
     }
 }

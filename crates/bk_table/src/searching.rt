@@ -8,7 +8,7 @@ ghost use Rattle.bk_word.specs.Word.{Move as SeenMove, Word as Moves, order_of};
 ghost use Rattle.bk_table.specs.Asking.{IsAsked, IsNext};
 ghost use Rattle.bk_table.specs.Sought.{GoesOn, GoesOnBy, IsSought};
 
-use crate::asking::{Asked, Next, asked_with, is_over, next_of, stand_beside};
+use crate::asking::{Asked, Next, asked_with, ends_over, is_over, next_of, stand_beside};
 use crate::board::Board;
 use crate::cuts::{bars, is_barren, least_count};
 use arrayvec::ArrayVec;
@@ -61,14 +61,24 @@ fn with_counts<S: Leaves>(board: &mut Board, leaves: &mut S, order: u8)
 {
     let left = order - board.skel().order() as u8;
     let around = stand_beside(board.skel());
+    let mut m = Move {
+        count: 0,
+        signs: ArrayVec::new(),
+    };
     'counts: for count in least_count(board.skel())..left + 1 {
         let next = next_of(around, count, usize::from(left - count));
-        let mut m = Move {
-            count,
-            signs: ArrayVec::new(),
-        };
+        set_count(&mut m, count);
         with_signs(board, &mut m, leaves, order, next, around.asked);
     }
+}
+
+// Makes the move one of this count.
+#[inline]
+fn set_count(m: &mut Move, count: u8)
+    ensures count { m.new.count ≡ count }
+    ensures signs { m.new.signs ≡ m.old.signs }
+{
+    m.count = count;
 }
 
 // Meets those that go on by a move of the count whose signs begin with these.
@@ -87,7 +97,7 @@ fn with_signs<S: Leaves>(
     requires few { order_of board.old + m.old.count ≤ order }
     requires signs { length m.old.signs + 1 ≤ m.old.count + open_side (has_left_wall (outline_of board.old)) + open_side
         (has_right_wall (outline_of board.old)) }
-    requires next { IsNext board.old m.old.count order next.left_wall next.wanted next.room }
+    requires next { IsNext board.old m.old.count order next.left_wall next.wanted next.room next.room_low }
     requires room { next.room ≤ 16 }
     requires asked { IsAsked board.old m.old.signs asked.tally.bound asked.tally.aboves asked.lone.found asked.lone.low }
     requires asking { asked.tally.bound + asked.lone.found ≤ 1000 }
@@ -97,6 +107,9 @@ fn with_signs<S: Leaves>(
     ensures same { m.new ≡ m.old }
 {
     if m.signs.len() == usize::from(next.wanted) {
+        if ends_over(asked, next.room_low) {
+            return;
+        }
         with_move(board, m, leaves, order);
         return;
     }
@@ -123,7 +136,7 @@ fn with_sign<S: Leaves>(
     requires few { order_of board.old + m.old.count ≤ order }
     requires signs { length m.old.signs + 2 ≤ m.old.count + open_side (has_left_wall (outline_of board.old)) + open_side
         (has_right_wall (outline_of board.old)) }
-    requires next { IsNext board.old m.old.count order next.left_wall next.wanted next.room }
+    requires next { IsNext board.old m.old.count order next.left_wall next.wanted next.room next.room_low }
     requires room { next.room ≤ 16 }
     requires asked { IsAsked board.old m.old.signs asked.tally.bound asked.tally.aboves asked.lone.found asked.lone.low }
     requires asking { asked.tally.bound + asked.lone.found ≤ 1000 }

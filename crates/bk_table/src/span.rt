@@ -7,7 +7,7 @@ ghost use Rattle.bk_word.specs.Word.{order_of, sign_place};
 ghost use Rattle.bk_table.specs.Packed.{AreDigits, word_digits};
 ghost use Rattle.bk_table.specs.Span.{IsNarrow, begun_digits, span_from, span_of};
 
-use crate::packed::{MOST_DIGITS, number_of, place_of, push_count, push_digits};
+use crate::packed::{MOST_DIGITS, number_of, place_of, push_count, push_signs};
 use arrayvec::ArrayVec;
 use bk_skel::Skel;
 use bk_word::Sign;
@@ -77,7 +77,8 @@ fn digits_of(skel: &Skel) -> ArrayVec<u8, MOST_DIGITS>
 {
     let mut digits = ArrayVec::new();
     'moves: for i in 0..skel.moves() {
-        push_digits(&mut digits, &skel.get(i));
+        push_count(&mut digits, skel.count_at(i));
+        push_signs(&mut digits, skel.signs_at(i));
     }
     digits
 }

@@ -5,7 +5,7 @@ use Rattle.bk_word.specs.Word.{Move, Word, order_of}
 use Rattle.bk_word.specs.declared.Sign.{Sign}
 use Rattle.bk_word.specs.declared.Sign.TheVariants.{Above, Even, Under}
 use Rattle.bk_net_word.specs.NetWord.{IsNetBarren}
-use Rattle.bk_table.proofs.AskedSigns.{asked_is_barred}
+use Rattle.bk_table.proofs.AskedSigns.{asked_is_barred, ended_is_barred}
 use Rattle.bk_table.proofs.NextMoves.{HasNextSign, below_or_same, by_count, by_pushed, by_sign, by_whole, is_whole, next_fertile, next_fits}
 use Rattle.bk_table.proofs.NextMoves.{next_move, next_sign}
 use Rattle.bk_table.specs.Sought.{GoesOn}
@@ -18,6 +18,7 @@ use Rattle.bk_table.proofs.searching.+search.Goals.{
 pub with_counts-counts-init : goal.with_counts-counts-init
 with_counts-counts-init g t c = record {
   board = refl;
+  signs = c.new.ensures;
   all = λ w sought h few. absurd (next_fertile c.args.order c.args.board.now w h.move h.rest sought h.is
       (subst (λ (v : Word). IsNetBarren c.args.order (v ++ h.move ∷ [])) c.skel-3.ensures.value
       (c.least_count-count.ensures.barren c.args.order h.move few h.legal.some)));
@@ -27,10 +28,11 @@ with_counts-counts-init g t c = record {
 pub with_counts-counts-preserved : goal.with_counts-counts-preserved
 with_counts-counts-preserved g t c = record {
   board = c.with_signs.ensures.board ∙ c.counts.invariant.board;
+  signs = ap (λ (m : Move). m.signs) c.with_signs.ensures.same ∙ c.set_count.ensures.signs ∙ c.counts.invariant.signs;
   all = λ w sought h few. elim (below_or_same h.move.count c.counts.count few) [
     | inl less ↦ c.with_signs.ensures.kept w (c.counts.invariant.all w sought h less)
-    | inr same ↦ c.with_signs.ensures.all w sought (by_count c.args.board.now c.counts.board w h c.counts.count c.new.result.items
-        c.counts.invariant.board same c.new.ensures)
+    | inr same ↦ c.with_signs.ensures.all w sought (by_count c.args.board.now c.counts.board w h c.set_count.new.m.count c.set_count.new.m.signs
+        c.counts.invariant.board (same ∙ sym c.set_count.ensures.count) (c.set_count.ensures.signs ∙ c.counts.invariant.signs))
   ];
   kept = λ w met. c.with_signs.ensures.kept w (c.counts.invariant.kept w met);
 }
@@ -79,7 +81,7 @@ with_sign-returns-then-is_over-clause-all g t c w sought on =
     let more = c.asked_with-more.result in
     absurd (next_fertile c.args.order c.args.board.now w on.move on.rest sought on.is
     (asked_is_barred c.args.order c.args.m.now.count c.args.board.now (c.args.m.now.signs ++ c.args.sign ∷ []) on.move on.more c.args.next.wanted
-    c.args.next.room more.tally.bound more.tally.aboves more.lone.found c.args.next.left_wall more.lone.low c.requires.least c.requires.next
+    c.args.next.room c.args.next.room_low more.tally.bound more.tally.aboves more.lone.found c.args.next.left_wall more.lone.low c.requires.least c.requires.next
     (c.asked_with-more.ensures.asked c.args.board.now c.args.m.now.signs c.requires.asked) (c.is_over.ensures.over c.if-is_over.true) on.count_is
     on.signs_are))
 
@@ -103,6 +105,25 @@ with_signs-returns-then-len-from-clause-all g t c w sought on =
         ap (λ (m : Move). length m.signs) c.m.view_is,
       );
     }) on)
+
+pub with_signs-returns-then-ends_over-clause-all : goal.with_signs-returns-then-ends_over-clause-all
+with_signs-returns-then-ends_over-clause-all g t c w sought on =
+    let whole = by_whole c.args.order c.args.board.now w c.args.m.now sought
+    (record {
+      some = c.requires.some;
+      signs = omega (
+        arith,
+        c.requires.next.wanted_is,
+        c.if-len-from.true,
+        c.len.ensures.value,
+        c.from.ensures,
+        ap (λ (m : Move). length m.signs) c.m.view_is,
+      );
+    }) on in
+    absurd (sought.fertile (c.args.board.now ++ c.args.m.now ∷ []) whole.rest whole.is
+    (ended_is_barred c.args.order c.args.board.now c.args.m.now c.args.next.wanted c.args.next.room c.args.next.room_low c.args.asked.tally.bound
+    c.args.asked.tally.aboves c.args.asked.lone.found c.args.next.left_wall c.args.asked.lone.low c.requires.least c.requires.next c.requires.asked
+    (c.ends_over.ensures c.if-ends_over.true)))
 
 pub with_signs-returns-clause-all : goal.with_signs-returns-clause-all
 with_signs-returns-clause-all g t c w sought on = cases (next).sign refl

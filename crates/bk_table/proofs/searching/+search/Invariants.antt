@@ -1,4 +1,4 @@
-use Rattle.std.proofs.Common.{length, ◌*◌, ◌+◌, ◌-◌, ◌<◌, ◌≡◌}
+use Rattle.std.proofs.Common.{[], length, ◌*◌, ◌+◌, ◌-◌, ◌<◌, ◌≡◌}
 use Rattle.bk_word.specs.Word.{Word, order_of}
 use Rattle.bk_table.proofs.NextMoves.{HasNextMove}
 use Rattle.bk_table.specs.Sought.{IsSought}
@@ -22,6 +22,7 @@ decreases-go_on g l = 1000 * (l.order - order_of l.board.now) + 950
 abbrev pub invariant-with_counts-counts : goal.invariant-with_counts-counts
 invariant-with_counts-counts g l = record {
   board : l.board ≡ l.initial.board;
+  signs : l.m.signs ≡ [];
   all : (w : Word) → IsSought l.order w → (h : HasNextMove l.initial.board w) → h.move.count < l.count → g.S.Leaves.has_met l.leaves w;
   kept : (w : Word) → g.S.Leaves.has_met l.initial.leaves w → g.S.Leaves.has_met l.leaves w;
 }

@@ -1,9 +1,7 @@
-use Rattle.std.proofs.Common.{[], ap, arith, count_by, drop, slice_get, ◌+◌, ◌∙◌, ◌≡◌}
-use Rattle.bk_word.specs.Outline.{has_left_wall, has_right_wall, valley_place}
-use Rattle.bk_word.specs.Play.{outline_of}
+use Rattle.std.proofs.Common.{[], ap, arith, slice_get, subst, ◌≡◌}
 use Rattle.bk_word.specs.Word.{Word, order_of}
-use Rattle.bk_bounds.specs.ClosingBound.{is_under}
 use Rattle.bk_table.proofs.NextMoves.{by_count, first_move, next_fits}
+use Rattle.bk_table.specs.Asking.{StandBeside}
 use Rattle.bk_table.proofs.searching.search.Goals as goal
 use Rattle.bk_table.proofs.searching.search.Goals.{then-count-eq0-via-else-count-eq0+then-count-order, then-count-eq0-via-then-count-eq0}
 
@@ -25,9 +23,8 @@ returns-clause-all g c w sought first =
 pub with_signs-requires-clause-next : goal.with_signs-requires-clause-next
 with_signs-requires-clause-next g c =
     let same = c.skel.ensures.value in
+    let around = c.stand_beside-around.result in
     c.next_of-next.ensures.next c.new-board.result c.args.order
-    (c.stand_beside-around.ensures.left ∙ ap (λ (w : Word). has_left_wall (outline_of w)) same)
-    (c.stand_beside-around.ensures.right ∙ ap (λ (w : Word). has_right_wall (outline_of w)) same)
-    (c.stand_beside-around.ensures.unders
-    ∙ ap (λ (w : Word). count_by is_under (drop (valley_place (outline_of w).signs + 1) (outline_of w).signs)) same)
+    (subst (λ (w : Word). StandBeside w around.left_wall around.right_wall around.unders around.behind.singles around.behind.singles_low) same
+    c.stand_beside-around.ensures.beside)
     (omega (arith, c.from.ensures, ap order_of c.new-board.ensures))

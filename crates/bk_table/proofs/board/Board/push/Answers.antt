@@ -3,7 +3,6 @@ use Rattle.bk_word.specs.Outline.{IsLegalMove, start, valley_of}
 use Rattle.bk_word.specs.Play.{outline_of}
 use Rattle.bk_word.specs.Word.{Move, Word, order_of}
 use Rattle.bk_word.proofs.PlayLaws.{moves_many}
-use Rattle.bk_skel.specs.Valley.{Valley}
 use Rattle.bk_table.specs.Lefts.{first_left}
 use Rattle.bk_table.specs.Rights.{last_right}
 use Rattle.bk_table.proofs.BoardMoves.{beside_same, board_more}
@@ -14,7 +13,7 @@ use Rattle.bk_table.proofs.board.Board.push.Goals as goal
 pub invariant_of-self : goal.invariant_of-self
 invariant_of-self c =
     let w = c.self.inside.skel in
-    let valley = ap (λ (v : Valley). v.squares) (c.valley.view_is ∙ c.valley-valley.ensures) in
+    let valley = c.valley_squares-squares.ensures in
     board_more w c.play.new.self c.args.m.now c.self.inside.lefts.items c.self.inside.rights.items c.self.inside.nodes.items c.self.inside.first
     c.self.invariant
     (subst (λ (v : Word). IsLegalMove (outline_of v) c.args.m.now) (sym c.self.view_is) c.requires.legal) c.play.ensures
@@ -26,22 +25,22 @@ invariant_of-self c =
       squares = valley_of (outline_of w);
       squares_are = refl;
       left = c.left_of_first-first.result;
-      left_is = c.left_of_first-first.ensures ∙ (λ i. first_left (c.deref.ensures.0 i) ((c.deref-2.ensures.0 ∙ valley) i));
+      left_is = c.left_of_first-first.ensures ∙ (λ i. first_left (c.deref.ensures.0 i) (valley i));
       right = c.right_of_last-last.result;
-      right_is = c.right_of_last-last.ensures ∙ (λ i. last_right (c.deref-3.ensures.0 i) ((c.deref-4.ensures.0 ∙ valley) i));
+      right_is = c.right_of_last-last.ensures ∙ (λ i. last_right (c.deref-2.ensures.0 i) (valley i));
       lefts_then = c.push_lefts.new.lefts.items;
       lefts_are = c.push_lefts.ensures;
       rights_then = c.push_rights.new.rights.items;
       rights_are = c.push_rights.ensures;
       lines = c.node_lines-lines.result;
-      only = λ line has. beside_same c.deref-5.result.now c.push_lefts.new.lefts.items c.deref-6.result.now c.push_rights.new.rights.items
-          c.deref-7.result.now (valley_of (outline_of w))
-          c.order-behind.result c.order-behind.result c.m.inside.count c.m.inside.count line c.deref-5.ensures.0 c.deref-6.ensures.0
-          (c.deref-7.ensures.0 ∙ valley) refl refl (c.node_lines-lines.ensures.only line has);
-      all = λ line low b. c.node_lines-lines.ensures.all line low (beside_same c.push_lefts.new.lefts.items c.deref-5.result.now
-          c.push_rights.new.rights.items c.deref-6.result.now (valley_of (outline_of w)) c.deref-7.result.now
-          c.order-behind.result c.order-behind.result c.m.inside.count c.m.inside.count line (sym c.deref-5.ensures.0) (sym c.deref-6.ensures.0)
-          (sym (c.deref-7.ensures.0 ∙ valley)) refl refl b);
+      only = λ line has. beside_same c.deref-3.result.now c.push_lefts.new.lefts.items c.deref-4.result.now c.push_rights.new.rights.items
+          c.valley_squares-squares.result.now (valley_of (outline_of w))
+          c.order-behind.result c.order-behind.result c.m.inside.count c.m.inside.count line c.deref-3.ensures.0 c.deref-4.ensures.0
+          valley refl refl (c.node_lines-lines.ensures.only line has);
+      all = λ line low b. c.node_lines-lines.ensures.all line low (beside_same c.push_lefts.new.lefts.items c.deref-3.result.now
+          c.push_rights.new.rights.items c.deref-4.result.now (valley_of (outline_of w)) c.valley_squares-squares.result.now
+          c.order-behind.result c.order-behind.result c.m.inside.count c.m.inside.count line (sym c.deref-3.ensures.0) (sym c.deref-4.ensures.0)
+          (sym valley) refl refl b);
       nodes_then = c.push.new.self.items;
       nodes_are = c.push.ensures.items;
       first_then = c.first_after-self-inside.result;
