@@ -1,4 +1,5 @@
 -- What the crate says.
 pub mod Catalogue
+pub mod Following
 pub mod Once
 pub mod Small

@@ -13,7 +13,7 @@ use Rattle.bk_list.proofs.Continuing.{both, first_or_later}
 use Rattle.bk_catalogue.proofs.OneEntry.{one_entry}
 use Rattle.bk_list.specs.Listing.{AreFirst, HasAll}
 use Rattle.bk_list.specs.ListingLaws.{cursor_after}
-use Rattle.bk_walk.specs.Walking.{HasNoneAfter, HasNoneBetween}
+use Rattle.bk_catalogue.specs.Following.{HasNoneAfter, HasNoneBetween}
 
 pub first_none : (n : ℕ) (class : Class) (cursor : Word) → AreFirst n class cursor []
 first_none n class cursor = record { each = tt; after = tt; ascending = tt; none_between = λ e entry h. inr tt }

@@ -16,7 +16,7 @@ use Rattle.bk_groups.specs.declared.Wanted.TheVariants.{Groups, Pairs}
 use Rattle.bk_top.proofs.Statuses.{Ends, answers_lines, not_two}
 use Rattle.bk_word.specs.Word.{Word}
 use Rattle.bk_word.specs.declared.Class.{Class}
-use Rattle.bk_walk.specs.Walking.{start_cursor}
+use Rattle.bk_catalogue.specs.Following.{start_cursor}
 use Rattle.bk_top.proofs.Endings.{listed_not_two}
 use Rattle.bk_top.specs.Running.{AnswersLines, Does, DoesOther, IsRun, IsToldText, Lists, ListsLines, NoErrors, Outside, ReadsToEnd, Tries, Verifies}
 use Rattle.bk_top.specs.Running.{WritesErrors, status_of}

@@ -3,7 +3,7 @@
 ghost use Rattle.std.specs.Prelude.{IfOk, OnErr, ◌<◌, ◌≡◌, ◌≢◌, ◌≤◌};
 ghost use Rattle.bk_ports.specs.Causes.{HasCause};
 ghost use Rattle.bk_word.specs.Word.{order_of};
-ghost use Rattle.bk_walk.specs.Walking.{start_cursor};
+ghost use Rattle.bk_catalogue.specs.Following.{start_cursor};
 ghost use Rattle.bk_list.specs.Writing.{BeginsListing, WritesListing};
 
 use bk_ports::{Failed, Sink};

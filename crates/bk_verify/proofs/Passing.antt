@@ -18,7 +18,8 @@ use Rattle.bk_lay.proofs.WordPlay.{tiling_word_is_complete}
 use Rattle.bk_tree.proofs.Places.{word_same}
 use Rattle.bk_word.proofs.FollowLaws.{not_itself}
 use Rattle.bk_catalogue.specs.Catalogue.{AreAscending, Entry, IsEntry}
-use Rattle.bk_walk.specs.Walking.{HasNoneAfter, IsNextMember, WalkState}
+use Rattle.bk_catalogue.specs.Following.{HasNoneAfter}
+use Rattle.bk_walk.specs.Walking.{IsNextMember, WalkState}
 use Rattle.bk_catalogue.proofs.OneEntry.{one_entry}
 use Rattle.bk_catalogue.proofs.WordCounts.{few_entries}
 use Rattle.bk_verify.proofs.Storing.{all_at}

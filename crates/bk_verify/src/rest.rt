@@ -3,7 +3,7 @@
 ghost use Rattle.std.specs.Prelude.{IfNone, IfOk, IfSome, IsNone, IsOk, IsTrue, MatchOption, ◌≡◌, ◌≤◌, ◌↔◌};
 ghost use Rattle.bk_code.specs.Code.{code_of as code_seen};
 ghost use Rattle.bk_word.specs.declared.Class.TheVariants.{Perfect};
-ghost use Rattle.bk_walk.specs.Walking.{HasNoneAfter};
+ghost use Rattle.bk_catalogue.specs.Following.{HasNoneAfter};
 ghost use Rattle.bk_verify.specs.Kept.{AreKeptAfter, CountsMembers, IsNextMissing, IsUpTo, rest_of};
 
 use crate::kept::KeptMembers;

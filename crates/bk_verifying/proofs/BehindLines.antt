@@ -16,7 +16,7 @@ use Rattle.bk_word.specs.Word.{Follows, Word}
 use Rattle.bk_word.specs.declared.Class.TheVariants.{Perfect}
 use Rattle.bk_catalogue.proofs.WordCounts.{few_entries}
 use Rattle.bk_catalogue.specs.Catalogue.{Entry, IsEntry}
-use Rattle.bk_walk.specs.Walking.{HasNoneAfter}
+use Rattle.bk_catalogue.specs.Following.{HasNoneAfter}
 use Rattle.bk_verify.proofs.Firsts.{missing_ones_are_not_kept}
 use Rattle.bk_verify.proofs.Passing.{IsNextSuch, after_or_up, before, count_all, up_to_more, up_to_none}
 use Rattle.bk_verify.specs.Kept.{AreKeptAfter, AreUpTo, CountsMembers, IsNextMissing, IsNotKept, IsUpTo, Kept, RestState, rest_of}

@@ -3,7 +3,7 @@
 ghost use Rattle.std.specs.Prelude.{IfOk, IsTrue, OnErr, OnOk, [], ◌+◌, ◌<◌, ◌↔◌, ◌≡◌, ◌≤◌};
 ghost use Rattle.bk_ports.specs.Causes.{HasCause};
 ghost use Rattle.bk_word.specs.declared.Class.TheVariants.{Perfect};
-ghost use Rattle.bk_walk.specs.Walking.{HasNoneAfter};
+ghost use Rattle.bk_catalogue.specs.Following.{HasNoneAfter};
 ghost use Rattle.bk_verify.specs.Kept.{AreKeptAfter};
 ghost use Rattle.bk_verifying.specs.Listing.{ClosesReport, IsClosingBegun, IsListed, IsListingBegun};
 

@@ -7,7 +7,8 @@ use Rattle.bk_lay.specs.TilingWord.{IsWordOf}
 use Rattle.bk_catalogue.specs.Catalogue.{IsMember}
 use Rattle.bk_walk.specs.Search.{Ends, HasPassed, Meets}
 use Rattle.bk_tree.specs.Tree.{HasAtLeast, IsAtMostTree}
-use Rattle.bk_walk.specs.Walking.{HasNoneAfter, IsKeptWalk, IsNextMember}
+use Rattle.bk_catalogue.specs.Following.{HasNoneAfter}
+use Rattle.bk_walk.specs.Walking.{IsKeptWalk, IsNextMember}
 
 fewer_of_tree : (n : ℕ) (cursor : Word) (bound : Option Word) (more few : ℕ) → few ≤ more → HasAtLeast n cursor bound more → HasAtLeast n cursor bound few
 fewer_of_tree n cursor bound more few h t = record { words = t.words; each = t.each; ascending = t.ascending; count = omega (arith, t.count) }

@@ -12,7 +12,7 @@ use Rattle.bk_walk.specs.declared.search.Found.TheVariants.{Ended, Member}
 use Rattle.bk_tree.specs.NextMove.{first_move, move_after}
 use Rattle.bk_walk.specs.declared.search.Went.{Went}
 use Rattle.bk_walk.specs.declared.search.Went.TheVariants.{Complete, End, On}
-use Rattle.bk_walk.specs.Walking.{HasNoneAfter, HasNoneBetween}
+use Rattle.bk_catalogue.specs.Following.{HasNoneAfter, HasNoneBetween}
 use Rattle.bk_tree.specs.Tree.{AreAscendingWords, HasAtLeast, IsInTree}
 
 -- a legal word of at most so many squares

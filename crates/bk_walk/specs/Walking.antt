@@ -7,6 +7,7 @@ use Rattle.bk_word.specs.declared.Class.{Class}
 use Rattle.bk_lay.specs.TilingWord.{IsWordOf}
 use Rattle.bk_word_net.specs.WideWord.{IsWideWord}
 use Rattle.bk_catalogue.specs.Catalogue.{Entry, IsEntry, IsMember}
+use Rattle.bk_catalogue.specs.Following.{HasNoneAfter, HasNoneBetween}
 
 -- what is seen of a walk: its order and class, the word after which it goes on, whether it has ended, and how many moves
 -- it has pushed, up to the last number of 64 bits
@@ -16,20 +17,6 @@ pub record WalkState : Type 0 where
   pub cursor : Word
   pub ended : Bool
   pub pushes : ℕ
-
--- the word after which a walk starts: the given one, or that of no moves
-abbrev pub start_cursor : Option Word → Word
-start_cursor None = []
-start_cursor (Some word) = word
-
--- no member's word is after the cursor
-abbrev pub HasNoneAfter : ℕ → Class → Word → Type 0
-HasNoneAfter n class cursor = (e : Entry) → IsEntry n class e → Follows e.word cursor → ⊥
-
--- no member's word is after the cursor and before the word
-abbrev pub HasNoneBetween : ℕ → Class → Word → Word → Type 0
-HasNoneBetween n class cursor word =
-    (e : Entry) → IsEntry n class e → Follows e.word cursor → Follows word e.word → ⊥
 
 -- the least member after the cursor, and its word. Of order 2 and the class imperfect it is at the start the row of two
 -- squares of side 1 with the word 2e, and after 2e there is none

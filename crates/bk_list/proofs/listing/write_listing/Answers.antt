@@ -1,7 +1,8 @@
 use Rattle.std.proofs.Common.{ap, inl, inr, subst, ◌-◌, ◌∙◌}
 use Rattle.bk_word.specs.Word.{Word}
 use Rattle.bk_report.specs.Listings.{last_line}
-use Rattle.bk_walk.specs.Walking.{WalkState, start_cursor}
+use Rattle.bk_catalogue.specs.Following.{start_cursor}
+use Rattle.bk_walk.specs.Walking.{WalkState}
 use Rattle.bk_list.proofs.ListingSteps.{begun_whole, ended_narrow, on_err, written_whole}
 use Rattle.bk_list.proofs.StepCounts.{takes_all, took_all}
 use Rattle.bk_list.specs.Stepping.{HasEntriesBySteps, StoppedAtEntry, TakesSteps}
