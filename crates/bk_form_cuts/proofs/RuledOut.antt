@@ -106,7 +106,7 @@ square_at (r ∷ squares) (suc k) h = square_at squares k (omega arith)
 
 -- ----
 
-pub ruled_out : (w : Word) (m : Move) (class : Class) (kept bottoms : List Form) → HoldAfter w kept bottoms → order_of w + m.count ≤ 6
+pub ruled_out : (w : Word) (m : Move) (class : Class) (kept bottoms : List Form) → HoldAfter w kept bottoms → order_of w + m.count ≤ 5
     → ((sides : List ℕ) → Asked w m kept bottoms sides → (class ≡ Perfect → AreApart (order_of w + m.count) sides) → ⊥) → IsRuledOut class (w ++ m ∷ [])
 ruled_out w m class kept bottoms hold few none t laid tiling perfect p = none sides (asks w m kept bottoms hold t laid sides tiling p are).asked
     (λ is. apart (perfect is))

@@ -87,8 +87,8 @@ pub hold_all : (w : Word) (trace : Trace) → IsTraceOf w trace → length trace
 hold_all w trace is all = subst (λ (u : Word). HoldAfter u trace.kept trace.bottoms) (take_all (length trace.marks) w (omega (arith, all))) is.hold
 
 -- there is room for one mark more
-pub mark_room : (w : Word) (trace : Trace) (count : ℕ) → IsTraceOf w trace → length trace.marks ≡ length w → order_of w + count ≤ 6 → 0 < count
-    → length trace.marks < 6
+pub mark_room : (w : Word) (trace : Trace) (count : ℕ) → IsTraceOf w trace → length trace.marks ≡ length w → order_of w + count ≤ 5 → 0 < count
+    → length trace.marks < 5
 mark_room w trace count is all few some = let a = is.some in omega (
   arith,
   few,
@@ -140,7 +140,7 @@ trace_less w trace is fewer = trace_alike (take (length w - 1) w) w trace is (om
 -- ---- one move more
 
 module _ (w : Word) (m : Move) (kept bottoms : List Form) (marks : List Mark)
-    (is : IsTraceOf w (record { kept = kept; bottoms = bottoms; marks = marks })) (all : length marks ≡ length w) (few : order_of w + m.count ≤ 6)
+    (is : IsTraceOf w (record { kept = kept; bottoms = bottoms; marks = marks })) (all : length marks ≡ length w) (few : order_of w + m.count ≤ 5)
     (hangs : 0 < m.count)
     (kept_then : List Form) (first : KeepsFirst kept kept_then) (meets : (sides : List ℕ) → Asked w m kept bottoms sides
     → MeetsEquations 16 kept_then sides) where

@@ -35,11 +35,11 @@ pub record IsMarked (w : Word) (trace : Trace) (j : ℕ) (mark : Mark) : Type 0 
       → (mark.equations ≤ after.equations) × (mark.squares ≤ after.squares)
   pub hold : HoldAfter (take j w) (take mark.equations trace.kept) (take mark.squares trace.bottoms)
 
--- a trace of a word: its first moves, of at most 6 squares, are followed, and what is kept holds after them
+-- a trace of a word: its first moves, of at most 5 squares, are followed, and what is kept holds after them
 pub record IsTraceOf (w : Word) (trace : Trace) : Type 0 where
   pub followed : length trace.marks ≤ length w
   pub count : length trace.bottoms ≡ order_of (take (length trace.marks) w)
-  pub few : length trace.bottoms ≤ 6
+  pub few : length trace.bottoms ≤ 5
   pub some : length trace.marks ≤ length trace.bottoms
   pub small : AreSmall trace.bottoms
   pub hold : HoldAfter (take (length trace.marks) w) trace.kept trace.bottoms

@@ -1,17 +1,16 @@
 //! What a ledger answers to a move: equations that contradict those before, and comparisons that are known to be others.
 #![tactic(auto)]
 
-ghost use Rattle.std.specs.Prelude.{IsTrue, List, [], false, length, slice_index_or, true, ℕ, ◌+◌, ◌<◌, ◌≡◌, ◌≢◌, ◌≤◌};
+ghost use Rattle.std.specs.Prelude.{IsTrue, List, [], false, length, slice_index_or, true, ℕ, ◌+◌, ◌<◌, ◌↔◌, ◌≡◌, ◌≢◌, ◌≤◌};
 ghost use Rattle.bk_word.specs.declared.Sign.{Sign};
 ghost use Rattle.bk_forms.specs.Form.{form_value, with_side};
 ghost use Rattle.bk_forms.specs.FormLaws.{Compares, MeetsEquations};
-ghost use Rattle.bk_form_cuts.specs.Asking.{Answers, AreApart, KeepsFirst};
+ghost use Rattle.bk_form_cuts.specs.Asking.{Answers, AreApart, AreKnownEqual, KeepsFirst};
 ghost use Rattle.bk_form_cuts.specs.SideForms.{sum_of_sides as sum_seen, zero_form};
 ghost use Rattle.bk_form_cuts.specs.SidesOfTilings.{AgreeWith};
 
 use crate::levels::{level_at, sum_of_sides};
-use crate::numbers::numbers_for;
-use bk_forms::{Compared, Form, Kept, Ledger, SIDES};
+use bk_forms::{Compared, Form, Kept, Ledger};
 use bk_word::Sign;
 
 // Adds the equation of the squares that end on a valley and those that hang under it, and those of the levels beside each sign
@@ -134,14 +133,14 @@ fn is_other(compared: Compared, sign: Sign) -> bool
     }
 }
 
-// Whether two of the first sides are known to be equal. Those of which numbers that meet the equations differ aren't compared.
+// Whether two of the first sides are known to be equal.
 pub(crate) fn has_equal_sides(ledger: &Ledger, count: usize) -> bool
     requires { count ≤ 16 }
-    ensures { (sides : List ℕ) → MeetsEquations 16 ledger.now sides → AreApart count sides → result ≡ false }
+    ensures sound { (sides : List ℕ) → MeetsEquations 16 ledger.now sides → AreApart count sides → result ≡ false }
+    ensures all { (i j : ℕ) → j < i → i < count → AreKnownEqual ledger.now i j → IsTrue result }
 {
-    let numbers = numbers_for(ledger.equations());
     for i in 0..count {
-        if equals_one_before(ledger, &numbers, i) {
+        if equals_one_before(ledger, i) {
             return true;
         }
     }
@@ -149,28 +148,27 @@ pub(crate) fn has_equal_sides(ledger: &Ledger, count: usize) -> bool
 }
 
 // Whether a side is known to be equal to one before it.
-fn equals_one_before(ledger: &Ledger, numbers: &[u64; SIDES], i: usize) -> bool
+fn equals_one_before(ledger: &Ledger, i: usize) -> bool
     requires { i < 16 }
-    ensures { (sides : List ℕ) → MeetsEquations 16 ledger.now sides → AreApart (i + 1) sides → result ≡ false }
+    ensures sound { (sides : List ℕ) → MeetsEquations 16 ledger.now sides → AreApart (i + 1) sides → result ≡ false }
+    ensures all { (j : ℕ) → j < i → AreKnownEqual ledger.now i j → IsTrue result }
 {
     for j in 0..i {
-        if are_equal(ledger, numbers, i, j) {
+        if are_equal(ledger, i, j) {
             return true;
         }
     }
     false
 }
 
-// Whether two sides are known to be equal. It isn't asked where their numbers differ.
-fn are_equal(ledger: &Ledger, numbers: &[u64; SIDES], i: usize, j: usize) -> bool
+// Whether two sides are known to be equal.
+fn are_equal(ledger: &Ledger, i: usize, j: usize) -> bool
     requires first { i < 16 }
     requires second { j < 16 }
-    ensures { IsTrue result → (sides : List ℕ) → MeetsEquations 16 ledger.now sides
+    ensures sound { IsTrue result → (sides : List ℕ) → MeetsEquations 16 ledger.now sides
         → slice_index_or sides i 0 ≡ slice_index_or sides j 0 }
+    ensures all { AreKnownEqual ledger.now i j → IsTrue result }
 {
-    if numbers[i] != numbers[j] {
-        return false;
-    }
     let side = side_alone(i);
     let other = side_alone(j);
     is_even(ledger.compare(&side, &other))
@@ -186,7 +184,7 @@ fn side_alone(i: usize) -> Form
 
 // Whether a comparison is known to be even.
 fn is_even(compared: Compared) -> bool
-    ensures { result ≡ true → compared ≡ Compared.Known Sign.Even }
+    ensures { result ≡ true ↔ compared ≡ Compared.Known Sign.Even }
 {
     match compared {
         Compared::Known(Sign::Even) => true,

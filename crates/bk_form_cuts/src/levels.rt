@@ -16,10 +16,10 @@ use bk_skel::Skel;
 use bk_word::Move;
 
 // The first moves are followed while at most so many squares hang.
-pub(crate) const FOLLOWED: usize = 6;
+pub(crate) const FOLLOWED: usize = 5;
 
 // A move compares at most so many levels: of its squares, and of the segments beside the valley.
-pub(crate) const MOST_LEVELS: usize = 8;
+pub(crate) const MOST_LEVELS: usize = 7;
 
 // The sum of the sides of the squares with these numbers, from 1.
 pub(crate) fn sum_of_sides(numbers: &[u8]) -> Form
@@ -55,7 +55,7 @@ pub(crate) fn level_at(levels: &[Form], place: usize) -> Form
 
 // The numbers of so many squares that hang after the first ones.
 pub(crate) fn new_numbers(hung: usize, count: u8) -> ArrayVec<u8, FOLLOWED>
-    requires { hung + count ≤ 6 }
+    requires { hung + count ≤ 5 }
     ensures { result.items ≡ numbers_from (hung + 1) count }
 {
     let mut numbers = ArrayVec::new();
@@ -88,10 +88,10 @@ fn part(squares: &[u8], start: usize, size: u8) -> &[u8]
     &squares[start..start + usize::from(size)]
 }
 
-// The levels that a move's signs compare, where at most 6 squares hang after it.
+// The levels that a move's signs compare, where at most 5 squares hang after it.
 pub(crate) fn levels_along(bottoms: &[Form], skel: &Skel, m: &Move) -> ArrayVec<Form, MOST_LEVELS>
-    requires few { order_of skel.now + m.now.count ≤ 6 }
-    requires short { length bottoms.now ≤ 6 }
+    requires few { order_of skel.now + m.now.count ≤ 5 }
+    requires short { length bottoms.now ≤ 5 }
     requires small { AreSmall bottoms.now }
     ensures { result.items ≡ levels_seen (outline_of skel.now) m.now bottoms.now }
 {
@@ -126,7 +126,7 @@ fn push_beside(
     place: usize,
     wall: bool,
 )
-    requires { length levels.old.items < 8 }
+    requires { length levels.old.items < 7 }
     ensures { levels.new.items ≡ levels.old.items ++ cond wall []
         (level_seen bottoms.now (slice_index_or (outline_of skel.now).segments place []) ∷ []) }
 {
@@ -143,7 +143,7 @@ pub(crate) fn push_bottoms<const N: usize>(
     numbers: &[u8],
 )
     requires room { length levels.old.items + length numbers.now ≤ N }
-    requires small { IsSmall 6 valley.now }
+    requires small { IsSmall 5 valley.now }
     ensures { levels.new.items ≡ levels.old.items ++ map (λ n. with_side valley.now (n - 1)) numbers.now }
 {
     for number in numbers {

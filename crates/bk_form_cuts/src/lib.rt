@@ -6,7 +6,6 @@ ghost use Rattle.bk_form_cuts.specs.SidesOfTilings.{MovesHold};
 
 mod asking;
 mod levels;
-mod numbers;
 mod tracing;
 
 pub use tracing::Tracing;

@@ -23,7 +23,7 @@ pub(crate) struct Mark {
     pub(crate) squares: usize,
 }
 
-/// Equations between the sides of a word's squares, and the levels of their bottoms, along its first moves while at most 6
+/// Equations between the sides of a word's squares, and the levels of their bottoms, along its first moves while at most 5
 /// squares hang. (Own.)
 #[derive(Drop)]
 pub struct Tracing {
@@ -53,7 +53,7 @@ impl Tracing {
     }
 
     /// Whether a legal move after these moves is known to be ruled out: no tiling of the class has a word that begins so. It is
-    /// said only while at most 6 squares hang with it, and of a move that brings more equations than squares: where the widths
+    /// said only while at most 5 squares hang with it, and of a move that brings more equations than squares: where the widths
     /// or the levels beside a sign even contradict the equations before, where levels are known to compare otherwise than a sign
     /// says, and in the class perfect where two sides are known to be equal.
     pub fn rules_out(&self, skel: &Skel, m: &Move, class: Class) -> bool
@@ -70,11 +70,23 @@ impl Tracing {
         self.refuses(skel, m, class)
     }
 
+    /// The same, also of a move that brings no more equations than squares.
+    pub fn would_rule_out(&self, skel: &Skel, m: &Move, class: Class) -> bool
+        requires trace { IsTraceOf skel.now self.now }
+        requires legal { IsLegalMove (outline_of skel.now) m.now }
+        ensures { IsTrue result → IsRuledOut class (skel.now ++ m.now ∷ []) }
+    {
+        if !self.follows(skel, m) {
+            return false;
+        }
+        self.refuses(skel, m, class)
+    }
+
     // The same of a move that is followed, by all that the ledger answers.
     fn refuses(&self, skel: &Skel, m: &Move, class: Class) -> bool
         requires trace { IsTraceOf skel.now self.now }
         requires all { length self.now.marks ≡ length skel.now }
-        requires few { order_of skel.now + m.now.count ≤ 6 }
+        requires few { order_of skel.now + m.now.count ≤ 5 }
         ensures { IsTrue result → IsRuledOut class (skel.now ++ m.now ∷ []) }
     {
         let mut ledger = self.ledger.copy();
@@ -96,7 +108,7 @@ impl Tracing {
         class == Class::Perfect && has_equal_sides(&ledger, skel.order() + usize::from(m.count))
     }
 
-    /// Goes on by a legal move after these moves. It must be called before the move is played. A move with which 6 squares hang
+    /// Goes on by a legal move after these moves. It must be called before the move is played. A move with which 5 squares hang
     /// isn't followed, since none after it is.
     pub fn push(&mut self, skel: &Skel, m: &Move)
         requires trace { IsTraceOf skel.now self.old }
@@ -117,7 +129,7 @@ impl Tracing {
         requires trace { IsTraceOf skel.now self.old }
         requires legal { IsLegalMove (outline_of skel.now) m.now }
         requires all { length self.old.marks ≡ length skel.now }
-        requires few { order_of skel.now + m.now.count ≤ 6 }
+        requires few { order_of skel.now + m.now.count ≤ 5 }
         ensures { IsTraceOf (skel.now ++ m.now ∷ []) self.new }
     {
         self.marks.push(Mark {
@@ -156,7 +168,7 @@ impl Tracing {
     // Whether all moves so far are followed, and this one too.
     fn follows(&self, skel: &Skel, m: &Move) -> bool
         ensures all { IsTrue result → length self.now.marks ≡ length skel.now }
-        ensures few { IsTrue result → order_of skel.now + m.now.count ≤ 6 }
+        ensures few { IsTrue result → order_of skel.now + m.now.count ≤ 5 }
     {
         self.marks.len() == skel.moves() && skel.order() + usize::from(m.count) <= FOLLOWED
     }

@@ -1,8 +1,14 @@
 //! Words of three moves whose last one is ruled out by the sides of the first squares, and words whose isn't, as a table.
 
+ghost use Rattle.std.specs.Prelude.{◌≡◌};
+ghost use Rattle.bk_word.specs.Outline.{IsLegalMove};
+ghost use Rattle.bk_word.specs.Play.{outline_of};
+ghost use Rattle.bk_form_cuts.specs.Trace.{IsTraceOf};
+
+use arrayvec::ArrayVec;
 use bk_form_cuts::Tracing;
-use bk_skel::Skel;
-use bk_word::{Class, read_word};
+use bk_skel::{Skel, open_side};
+use bk_word::{Class, LARGEST_ORDER, Move, Sign, read_word};
 use std::alloc::Global;
 use std::process::Abort;
 
@@ -24,8 +30,8 @@ fn is_ruled_out(rt: &impl Abort, alloc: Global, text: &str, class: Class) -> boo
     sides.rules_out(&skel, &third, class)
 }
 
-// In 2u.2ea.1e the third side would be 0, so that the first two are equal; in 3aa.2ue.1ea and 3ua.2eaa.1e two sides are equal too. Of the
-// other rows one begins a member's word, and the others differ in a sign, in the class, or by a square more than is followed.
+// In 2u.2ea.1e the third side would be 0, so that the first two are equal. Of the other rows one begins a member's word, and the
+// others differ in a sign, in the class, or by a square more than is followed.
 #[test]
 fn moves_are_ruled_out(rt: HostRuntime) {
     for (text, class, is_out) in [
@@ -34,14 +40,105 @@ fn moves_are_ruled_out(rt: HostRuntime) {
         ("2u.2ea.1e", Class::Simple, false),
         ("2u.2ea.1a", Class::Perfect, false),
         ("2u.2aa.2ue", Class::Perfect, false),
-        ("3aa.2ue.1ea", Class::Perfect, true),
-        ("3ua.2eaa.1e", Class::Perfect, true),
-        ("4aaa.2ue.1ea", Class::Perfect, false),
+        ("3aa.2ue.1ea", Class::Perfect, false),
+        ("3ua.2eaa.1e", Class::Perfect, false),
     ] {
         assert_eq!(rt;
             is_ruled_out(&rt, rt.alloc(), text, class),
             is_out,
             "{text}"
         );
+    }
+}
+
+// The next sign of a code: its last digit of three.
+fn next_sign(code: &mut u32) -> Sign {
+    let digit = *code % 3;
+    *code /= 3;
+    match digit {
+        0 => Sign::Above,
+        1 => Sign::Even,
+        _ => Sign::Under,
+    }
+}
+
+// A move of so many squares after these moves, with the signs of a code.
+fn next_move(skel: &Skel, count: u8, code: &mut u32) -> Move {
+    let (left, right) = skel.walls();
+    let mut signs = ArrayVec::new();
+    for _ in 1..usize::from(count) + open_side(left) + open_side(right) {
+        if !signs.is_full() {
+            signs.push(next_sign(code));
+        }
+    }
+    Move { count, signs }
+}
+
+// Whether a move hangs one square under one square, or has the sign even between two of its own: then the search passes over it
+// before it asks about the sides, since two are equal.
+fn is_passed_over(skel: &Skel, m: &Move) -> bool {
+    let (left, right) = skel.walls();
+    let last = m.signs.len().saturating_sub(open_side(right));
+    let own = m.signs.iter().take(last).skip(open_side(left));
+    (m.count == 1 && skel.valley_len() == 1) || own.into_iter().any(|sign| *sign == Sign::Even)
+}
+
+// In each class a legal move is ruled out where it would be.
+fn same_answers(rt: &impl Abort, skel: &Skel, sides: &Tracing, m: &Move)
+    requires trace { IsTraceOf skel.now sides.now }
+    requires legal { IsLegalMove (outline_of skel.now) m.now }
+{
+    for class in [Class::Perfect, Class::Imperfect, Class::Simple] {
+        assert_eq!(rt;
+            sides.rules_out(skel, m, class),
+            sides.would_rule_out(skel, m, class)
+        );
+    }
+}
+
+// Along the word of these counts with the signs of a code, each move is ruled out where it would be.
+fn along(rt: &impl Abort, counts: &[u8], signs: u32) {
+    let mut code = signs;
+    let mut skel = Skel::new();
+    let mut sides = Tracing::new();
+    for count in counts {
+        let m = next_move(&skel, *count, &mut code);
+        assert!(rt; skel.legal(&m) && skel.order() + usize::from(m.count) <= LARGEST_ORDER);
+        if is_passed_over(&skel, &m) {
+            return;
+        }
+        same_answers(rt, &skel, &sides, &m);
+        sides.push(&skel, &m);
+        skel.play(&m);
+    }
+}
+
+// The words of at most 5 squares begin those of these counts, which have so many codes: 3 for each sign.
+const WORDS: [(&[u8], u32); 16] = [
+    (&[5], 81),
+    (&[1, 4], 243),
+    (&[2, 3], 243),
+    (&[3, 2], 243),
+    (&[4, 1], 243),
+    (&[1, 1, 3], 729),
+    (&[1, 2, 2], 729),
+    (&[1, 3, 1], 729),
+    (&[2, 1, 2], 729),
+    (&[2, 2, 1], 729),
+    (&[3, 1, 1], 729),
+    (&[1, 1, 1, 2], 2187),
+    (&[1, 1, 2, 1], 2187),
+    (&[1, 2, 1, 1], 2187),
+    (&[2, 1, 1, 1], 2187),
+    (&[1, 1, 1, 1, 1], 6561),
+];
+
+// No move that brings no more equations than squares would be ruled out.
+#[test]
+fn no_other_move_is_ruled_out(rt: HostRuntime) {
+    for (counts, codes) in WORDS {
+        for code in 0..codes {
+            along(&rt, counts, code);
+        }
     }
 }

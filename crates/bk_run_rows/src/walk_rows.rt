@@ -193,8 +193,8 @@ const EIGHTH_OF_11: &[u8] = b"2u.2aa.3uuu.2eaa.1ee.1ee";
 
 const SIXTEENTH_OF_11: &[u8] = b"2u.3eaa.3uue.2eae.1ee";
 
-// So many moves a whole walk of order 9 pushes, where the equations between the sides of the first six squares cut it.
-const PUSHES_OF_9: u64 = 1517;
+// So many moves a whole walk of order 9 pushes, where the equations between the sides of the first five squares cut it.
+const PUSHES_OF_9: u64 = 1568;
 
 // Goes on with two walks, which must give the same member.
 fn go_together<L: Ledger>(
@@ -215,8 +215,8 @@ fn go_together<L: Ledger>(
     }
 }
 
-// A whole walk of order 11, and one in three parts, each after the last member of the part before. A whole walk of order 9 pushes
-// as many moves as one that asks about the sides at every move does.
+// A whole walk of order 11, and one in three parts, each after the last member of the part before; and how many moves a whole walk
+// of order 9 pushes.
 fn with_equations<L: Ledger>(rt: &impl Abort, alloc: Global, blank: Blank)
     requires name { blank.name ≡ L.name }
     requires parts { blank.parts ≡ L.parts }

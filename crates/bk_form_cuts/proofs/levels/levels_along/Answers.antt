@@ -16,7 +16,7 @@ push_bottoms-requires c =
     let short = ap length (c.push_beside.ensures ∙ ap (λ (l : List SeenForm). l
     ++ cond (nat_eq c.valley.inside.place 0) [] (level_of c.args.bottoms.now
     (slice_index_or (outline_of c.args.skel.now).segments c.saturating_sub.result []) ∷ [])) c.new-levels.ensures) in
-    let room : length c.push_beside.new.levels.items + length c.as_slice-2.result.now ≤ 8 = omega (
+    let room : length c.push_beside.new.levels.items + length c.as_slice-2.result.now ≤ 7 = omega (
       arith,
       short,
       beside_short (nat_eq c.valley.inside.place 0) (level_of c.args.bottoms.now
@@ -28,7 +28,7 @@ push_bottoms-requires c =
       lit< tt,
       (
         room,
-        subst (IsSmall 6) (sym c.level_of-level.ensures) (small_more (length c.args.bottoms.now) 6
+        subst (IsSmall 5) (sym c.level_of-level.ensures) (small_more (length c.args.bottoms.now) 5
             (level_of c.args.bottoms.now c.as_slice.result.now) c.requires.short (small_level c.args.bottoms.now c.as_slice.result.now c.requires.small)),
       ),
     )

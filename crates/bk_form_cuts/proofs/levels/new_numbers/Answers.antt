@@ -6,7 +6,7 @@ use Rattle.bk_form_cuts.proofs.levels.new_numbers.Goals as goal
 pub push-requires : goal.push-requires
 push-requires c =
     let many = ap length c.loop-i.invariant ∙ numbers_many (c.args.hung + 1) c.loop-i.i in
-    let room : length c.loop-i.numbers.items < 6 = omega (arith, many, c.loop-i-test.true, c.from-i-end.ensures, c.requires) in
+    let room : length c.loop-i.numbers.items < 5 = omega (arith, many, c.loop-i-test.true, c.from-i-end.ensures, c.requires) in
     (lit< tt, room)
 
 pub loop-i-preserved : goal.loop-i-preserved

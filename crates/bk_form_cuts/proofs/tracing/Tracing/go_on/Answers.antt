@@ -17,7 +17,7 @@ use Rattle.bk_form_cuts.proofs.tracing.Tracing.go_on.Goals as goal
 
 pub push-requires : goal.push-requires
 push-requires c =
-    let room : length c.self.inside.marks.items < 6 = omega (
+    let room : length c.self.inside.marks.items < 5 = omega (
       arith,
       mark_room c.args.skel.now c.args.self.now c.args.m.now.count c.requires.trace c.requires.all c.requires.few c.requires.legal.some,
       ap (λ (t : Trace). length t.marks) c.self.view_is,
@@ -30,14 +30,14 @@ push_bottoms-requires c =
     let many = ap length (c.as_slice-8.ensures.value ∙ c.new_numbers-numbers.ensures) ∙ numbers_many (c.order.result + 1) c.m.inside.count
     ∙ ap (λ (m : Move). m.count) c.m.view_is in
     let few = c.requires.few in
-    let room : length c.self.inside.bottoms.items + length c.as_slice-8.result.now ≤ 6 = omega (arith, bottoms, many, few) in
-    let short : length c.as_slice-2.result.now ≤ 6 = omega (arith, bottoms, few, ap length c.as_slice-2.ensures.value) in
+    let room : length c.self.inside.bottoms.items + length c.as_slice-8.result.now ≤ 5 = omega (arith, bottoms, many, few) in
+    let short : length c.as_slice-2.result.now ≤ 5 = omega (arith, bottoms, few, ap length c.as_slice-2.ensures.value) in
     let small = subst AreSmall (sym (c.as_slice-2.ensures.value ∙ ap (λ (t : Trace). t.bottoms) c.self.view_is)) c.requires.trace.small in (
       lit< tt,
       (
         room,
-        subst (IsSmall 6) (sym c.level_of-level.ensures)
-            (small_more (length c.as_slice-2.result.now) 6 (level_of c.as_slice-2.result.now c.as_slice-3.result.now) short
+        subst (IsSmall 5) (sym c.level_of-level.ensures)
+            (small_more (length c.as_slice-2.result.now) 5 (level_of c.as_slice-2.result.now c.as_slice-3.result.now) short
             (small_level c.as_slice-2.result.now c.as_slice-3.result.now small)),
       ),
     )

@@ -81,4 +81,4 @@ returns-then-eq c =
     c.as_slice-3.result.now c.as_slice-4.result.now c.as_slice-5.result.now
     c.copy-ledger.ensures (c.as_slice-2.ensures.value ∙ v) numbers levels signs asked in
     let first = c.contradicts.ensures.meets sides h.meets h.widths h.signs_agree in
-    not_both c.has_equal_sides.result yes (c.has_equal_sides.ensures sides first.meets (subst (λ (n : ℕ). AreApart n sides) (sym count) (apart is))))
+    not_both c.has_equal_sides.result yes (c.has_equal_sides.ensures.sound sides first.meets (subst (λ (n : ℕ). AreApart n sides) (sym count) (apart is))))
