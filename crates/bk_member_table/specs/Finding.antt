@@ -6,6 +6,7 @@ use Rattle.bk_sym.specs.Canonical.{IsCanonical}
 use Rattle.bk_word.specs.Word.{Word}
 use Rattle.bk_word.specs.declared.Class.{Class}
 use Rattle.bk_catalogue.specs.Catalogue.{Entry, IsEntry, IsOfClass}
+use Rattle.bk_lay.specs.TilingWord.{IsWordOf}
 use Rattle.bk_signed_word.specs.SignedWord.{IsSignedWordOf}
 use Rattle.bk_table.specs.Kept.{Holds, Numbers}
 use Rattle.bk_table.specs.Packed.{packed}
@@ -23,6 +24,10 @@ pub record Finding : Type 0 where
   pub class : Class
   pub from : ℕ
   pub numbers : Numbers
+
+-- the numbers of the tiling's words are held, but for those below a number
+abbrev pub IsHeld : ℕ → Numbers → Tiling → Type 0
+IsHeld from numbers t = (w : Word) → IsWordOf t w → from ≤ packed w → Holds numbers (packed w)
 
 -- the number of the entry's word is held, or the word comes before those that are kept
 abbrev pub HoldsEntry : Finding → Entry → Type 0

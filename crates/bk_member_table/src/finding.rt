@@ -10,11 +10,12 @@ ghost use Rattle.bk_word.specs.Word.{Word as Moves, order_of};
 ghost use Rattle.bk_lay.specs.TilingWord.{IsWordOf};
 ghost use Rattle.bk_table.specs.Kept.{Holds};
 ghost use Rattle.bk_table.specs.Packed.{packed};
-ghost use Rattle.bk_member_table.specs.Finding.{HasNone};
+ghost use Rattle.bk_leaf.specs.Found.{IsFound, IsPlacementOf};
+ghost use Rattle.bk_member_table.specs.Finding.{HasNone, IsHeld, Qualifies};
 
-use crate::judging::{qualifies, tried};
+use crate::judging::{is_allowed, qualifies};
 use bk_lay::word_of;
-use bk_leaf::leaf;
+use bk_leaf::{Placed, leaf};
 use bk_table::{Board, Leaves, Packed, Span, Table};
 use bk_tiling::Tiling;
 use bk_word::{Class, INLINE_ORDER};
@@ -69,13 +70,42 @@ impl<const N: usize> Finder<N> {
         self.from <= span.low && self.table.rules_out(span)
     }
 
+    // Puts the word of the tiling that the squares are placed as into the table, where it is a member. Most words are met without it,
+    // and without its room for a tiling.
+    #[inline(never)]
+    fn meet_placed(&mut self, placed: &Placed)
+        ensures class { self.new.class ≡ self.old.class }
+        ensures from { self.new.from ≡ self.old.from }
+        ensures put { (t : Tiled) → IsTiling t → Qualifies self.old.class t → order t ≤ 16 → IsPlacementOf t placed.now
+            → IsHeld self.old.from self.new.numbers t }
+        ensures kept { (x : ℕ) → Holds self.old.numbers x → Holds self.new.numbers x }
+    {
+        let squares = placed.squares.as_slice();
+        match Tiling::try_new(placed.width, placed.height, squares) {
+            Ok(tiling) => self.meet_tiling(&tiling),
+            Err(_) => {}
+        }
+    }
+
+    // Puts the word of a tiling into the table, where it is a member.
+    fn meet_tiling(&mut self, tiling: &Tiling)
+        ensures class { self.new.class ≡ self.old.class }
+        ensures from { self.new.from ≡ self.old.from }
+        ensures put { Qualifies self.old.class tiling.now → order tiling.now ≤ 16 → IsHeld self.old.from self.new.numbers tiling.now }
+        ensures kept { (x : ℕ) → Holds self.old.numbers x → Holds self.new.numbers x }
+    {
+        if tiling.order() <= INLINE_ORDER && qualifies(tiling, self.class) {
+            self.put(tiling);
+        }
+    }
+
     // Puts the word of a tiling into the table, where it isn't before those that are kept.
     fn put(&mut self, tiling: &Tiling)
         requires tiling { IsTiling tiling.now }
         requires few { order tiling.now ≤ 16 }
         ensures class { self.new.class ≡ self.old.class }
         ensures from { self.new.from ≡ self.old.from }
-        ensures put { (w : Moves) → IsWordOf tiling.now w → self.old.from ≤ packed w → Holds self.new.numbers (packed w) }
+        ensures put { IsHeld self.old.from self.new.numbers tiling.now }
         ensures kept { (x : ℕ) → Holds self.old.numbers x → Holds self.new.numbers x }
     {
         let Ok(word) = word_of(self.alloc, tiling) else {
@@ -94,24 +124,32 @@ impl<const N: usize> Leaves for Finder<N> {
     ghost has_met = { HasMet };
 
     fn meet(&mut self, board: &Board) {
-        let Some(tiling) = member_at(board, self.class) else {
-            return;
-        };
-        if tiling.order() <= INLINE_ORDER && qualifies(&tiling, self.class) {
-            self.put(&tiling);
+        if let Some(placed) = placed_at(board, self.class) {
+            self.meet_placed(&placed);
         }
     }
 }
 
-// The tiling of which the board's complete word can be a signed word, where the corners and the class allow it: each canonical
-// tiling of the class of which it is one is found.
-fn member_at(board: &Board, class: Class) -> Option<Tiling>
+// The squares of which the board's complete word can be a signed word, where the corners and the class allow them: each canonical
+// tiling of the class of which it is one is placed so.
+fn placed_at(board: &Board, class: Class) -> Option<Placed>
     requires complete { IsComplete board.now }
     requires few { order_of board.now ≤ 16 }
-    ensures { (t : Tiled) → IsTiling t → IsOfClass class t → IsCanonical t → IsSignedWordOf t board.now → result ≡ Some t }
+    ensures { (t : Tiled) → IsTiling t → IsOfClass class t → IsCanonical t → IsSignedWordOf t board.now → IsFound t result }
 {
     match leaf(board.skel(), board.lefts()) {
-        Some(placed) => tried(&placed, class),
+        Some(placed) => only_allowed(placed, class),
         None => None,
+    }
+}
+
+// The placed squares, if the corners and the class allow them.
+fn only_allowed(placed: Placed, class: Class) -> Option<Placed>
+    ensures { (t : Tiled) → IsTiling t → IsOfClass class t → IsCanonical t → IsPlacementOf t placed → IsFound t result }
+{
+    if is_allowed(&placed, class) {
+        Some(placed)
+    } else {
+        None
     }
 }

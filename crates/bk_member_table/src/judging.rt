@@ -1,6 +1,6 @@
 //! Whether a tiling is a member of a catalogue, and whether placed squares can be one.
 
-ghost use Rattle.std.specs.Prelude.{IsTrue, Some, false, ◌≡◌, ◌↔◌};
+ghost use Rattle.std.specs.Prelude.{IsTrue, false, ◌≡◌, ◌↔◌};
 ghost use Rattle.bk_tiling.specs.CodeOrder.{in_code_order};
 ghost use Rattle.bk_tiling.specs.Tiling.{IsTiling, Tiling as Tiled};
 ghost use Rattle.bk_sym.specs.Canonical.{IsCanonical};
@@ -27,7 +27,7 @@ pub fn qualifies(tiling: &Tiling, class: Class) -> bool
     if tiling.height() > tiling.width() || !is_of_class(tiling, class) {
         return false;
     }
-    part(tiling).is_none() && is_canonical(tiling)
+    is_canonical(tiling) && part(tiling).is_none()
 }
 
 // Whether a simple tiling is of the class.
@@ -41,21 +41,12 @@ fn is_of_class(tiling: &Tiling, class: Class) -> bool
     }
 }
 
-// The tiling of placed squares, where the corners and the class allow it: each canonical tiling of the class is found.
-pub(crate) fn tried(placed: &Placed, class: Class) -> Option<Tiling>
-    ensures { (t : Tiled) → IsTiling t → IsOfClass class t → IsCanonical t → IsPlacementOf t placed.now → result ≡ Some t }
+// Whether the corners and the class allow placed squares to be a canonical tiling of the class.
+pub(crate) fn is_allowed(placed: &Placed, class: Class) -> bool
+    ensures { result ≡ false → (t : Tiled) → IsTiling t → IsOfClass class t → IsCanonical t → IsPlacementOf t placed.now → ⊥ }
 {
     let squares = placed.squares.as_slice();
-    if !corners_allow(squares, placed.width, placed.height) {
-        return None;
-    }
-    if !class_allows(squares, class) {
-        return None;
-    }
-    match Tiling::try_new(placed.width, placed.height, squares) {
-        Ok(tiling) => Some(tiling),
-        Err(_) => None,
-    }
+    corners_allow(squares, placed.width, placed.height) && class_allows(squares, class)
 }
 
 // Whether the class allows a tiling by these squares.

@@ -192,7 +192,8 @@ fn go_on<S: Leaves>(board: &mut Board, leaves: &mut S, order: u8)
     with_counts(board, leaves, order);
 }
 
-// Meets the word of the board, if it is complete.
+// Meets the word of the board, if it is complete. What that takes stands in no frame of the search, which has one for each sign.
+#[inline(never)]
 fn meet_closed<S: Leaves>(board: &Board, leaves: &mut S)
     requires few { order_of board.now ≤ 16 }
     ensures met { IsComplete board.now → S.has_met leaves.new board.now }
