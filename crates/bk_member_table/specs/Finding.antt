@@ -29,6 +29,14 @@ pub record Finding : Type 0 where
 abbrev pub IsHeld : ℕ → Numbers → Tiling → Type 0
 IsHeld from numbers t = (w : Word) → IsWordOf t w → from ≤ packed w → Holds numbers (packed w)
 
+-- what a search leaves as it is: the class, and the number from which words are kept
+pub record Wanted : Type 0 where
+  pub class : Class
+  pub from : ℕ
+
+abbrev pub wanted : Finding → Wanted
+wanted s = record { class = s.class; from = s.from }
+
 -- the number of the entry's word is held, or the word comes before those that are kept
 abbrev pub HoldsEntry : Finding → Entry → Type 0
 HoldsEntry s e = s.from ≤ packed e.word → Holds s.numbers (packed e.word)

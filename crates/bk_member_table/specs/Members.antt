@@ -17,8 +17,9 @@ pub record Members : Type 0 where
 abbrev pub BeginsBy : ℕ → Word → Type 0
 BeginsBy count w = (m : Move) → slice_get w 0 ≡ Some m → m.count ≡ count
 
--- each member of the order and the class whose word begins by the count is held: its number is in the table, or above the
--- bound of one that is cut, or below the number from which words are kept
+-- the theorem of a table of one order, class, first count and number to begin at: each member of the order and the class whose
+-- word begins with a move of the count, and whose number isn't below that from which words are kept, is held. Its number is in the
+-- table, or the table was cut and it is above the greatest that is kept.
 abbrev pub IsWhole : Members → Type 0
 IsWhole t = (e : Entry) → IsEntry t.order t.found.class e → BeginsBy t.count e.word → HoldsEntry t.found e
 

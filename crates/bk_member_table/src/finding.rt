@@ -63,6 +63,13 @@ impl<const N: usize> Finder<N> {
         self.class
     }
 
+    /// The table.
+    pub fn table(&self) -> &Table<N>
+        ensures { result.now ≡ self.now.numbers }
+    {
+        &self.table
+    }
+
     /// Whether no member that was met has its number in the span, where the number isn't below those that are kept.
     pub fn rules_out(&self, span: Span) -> bool
         ensures { IsTrue result → HasNone self.now span }
@@ -119,9 +126,13 @@ impl<const N: usize> Finder<N> {
 }
 
 impl<const N: usize> Leaves for Finder<N> {
-    ghost use Rattle.bk_member_table.specs.Finding.{HasMet};
+    ghost use Rattle.bk_member_table.specs.Finding.{HasMet, Wanted, wanted};
 
     ghost has_met = { HasMet };
+
+    ghost Fixed = { Wanted };
+
+    ghost fixed = { wanted };
 
     fn meet(&mut self, board: &Board) {
         if let Some(placed) = placed_at(board, self.class) {

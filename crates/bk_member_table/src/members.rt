@@ -4,7 +4,7 @@ ghost use Rattle.std.specs.Prelude.{IfSome, IsTrue, length, ◌+◌, ◌<◌, �
 ghost use Rattle.bk_word.specs.Play.{IsLegal};
 ghost use Rattle.bk_word.specs.Word.{order_of};
 ghost use Rattle.bk_barren.specs.Cuts.{IsBarren};
-ghost use Rattle.bk_member_table.specs.Members.{BeginsBy, IsBarrenBy, Tells};
+ghost use Rattle.bk_member_table.specs.Members.{BeginsBy, IsBarrenBy, IsWhole, Tells};
 
 use crate::finding::Finder;
 use bk_skel::Skel;
@@ -44,13 +44,18 @@ impl<const N: usize> MemberTable<N> {
         }
     }
 
-    /// The table of the members of this order and class whose words begin with a move of this count, from a number on.
+    /// The table of the members of this order and class whose words begin with a move of this count, from a number on: it is whole
+    /// up to its bound. Each of them whose packed word isn't below this number has it in the table, or, where the table was cut,
+    /// above the greatest that is kept.
     pub fn of(alloc: Global, order: u8, class: Class, count: u8, from: u128) -> MemberTable<N>
         requires room { 0 < N }
         requires least { 3 ≤ order }
         requires most { order ≤ 16 }
         ensures order { result.order ≡ order }
+        ensures class { result.found.class ≡ class }
         ensures count { result.count ≡ count }
+        ensures from { result.found.from ≡ from }
+        ensures whole { IsWhole result }
     {
         let mut finder = Finder::new(alloc, class, from);
         search(&mut finder, order, count);
@@ -59,6 +64,20 @@ impl<const N: usize> MemberTable<N> {
             count,
             finder,
         }
+    }
+
+    /// The packed words that are kept, in ascending order.
+    pub fn numbers(&self) -> &[u128]
+        ensures { result.now ≡ self.now.found.numbers.kept }
+    {
+        self.finder.table().numbers()
+    }
+
+    /// Whether there was no room for all: the table then says nothing of those above its greatest.
+    pub fn is_cut(&self) -> bool
+        ensures { result ≡ self.now.found.numbers.cut }
+    {
+        self.finder.table().is_cut()
     }
 
     /// Whether the table tells that no member of the order and the class has a word that begins with the skeleton's moves.

@@ -21,20 +21,29 @@ pub trait Leaves {
     /// What holds once a word was met.
     ghost has_met: { Self → Moves → Type 0 };
 
+    /// What no meeting changes.
+    ghost Fixed: { Type 0 };
+
+    /// That of these leaves.
+    ghost fixed: { Self → Self.Fixed };
+
     /// Meets the complete word of a board, of at most 16 squares.
     fn meet(&mut self, board: &Board)
         requires complete { IsComplete board.now }
         requires few { order_of board.now ≤ 16 }
         ensures met { has_met self.new board.now }
-        ensures kept { (w : Moves) → has_met self.old w → has_met self.new w };
+        ensures kept { (w : Moves) → has_met self.old w → has_met self.new w }
+        ensures fixed { fixed self.new ≡ fixed self.old };
 }
 
-/// Meets each word of the order, of which no beginning is barren, whose first move hangs so many squares.
+/// Meets each word of the order, of which no beginning is barren, whose first move hangs so many squares. What no meeting changes
+/// is as it was.
 pub fn search<S: Leaves>(leaves: &mut S, order: u8, count: u8)
     requires least { 2 ≤ order }
     requires most { order ≤ 16 }
     ensures all { (w : Moves) → IsSought order w → ((m : SeenMove) → slice_get w 0 ≡ Some m → m.count ≡ count) → S.has_met leaves.new w }
     ensures kept { (w : Moves) → S.has_met leaves.old w → S.has_met leaves.new w }
+    ensures fixed { S.fixed leaves.new ≡ S.fixed leaves.old }
 {
     if count == 0 || count > order {
         return;
@@ -57,6 +66,7 @@ fn with_counts<S: Leaves>(board: &mut Board, leaves: &mut S, order: u8)
     requires few { order_of board.old < order }
     ensures all { (w : Moves) → IsSought order w → GoesOn board.old w → S.has_met leaves.new w }
     ensures kept { (w : Moves) → S.has_met leaves.old w → S.has_met leaves.new w }
+    ensures fixed { S.fixed leaves.new ≡ S.fixed leaves.old }
     ensures board { board.new ≡ board.old }
 {
     let left = order - board.skel().order() as u8;
@@ -103,6 +113,7 @@ fn with_signs<S: Leaves>(
     requires asking { asked.tally.bound + asked.lone.found ≤ 1000 }
     ensures all { (w : Moves) → IsSought order w → GoesOnBy board.old m.old.count m.old.signs w → S.has_met leaves.new w }
     ensures kept { (w : Moves) → S.has_met leaves.old w → S.has_met leaves.new w }
+    ensures fixed { S.fixed leaves.new ≡ S.fixed leaves.old }
     ensures board { board.new ≡ board.old }
     ensures same { m.new ≡ m.old }
 {
@@ -142,6 +153,7 @@ fn with_sign<S: Leaves>(
     requires asking { asked.tally.bound + asked.lone.found ≤ 1000 }
     ensures all { (w : Moves) → IsSought order w → GoesOnBy board.old m.old.count (m.old.signs ++ sign ∷ []) w → S.has_met leaves.new w }
     ensures kept { (w : Moves) → S.has_met leaves.old w → S.has_met leaves.new w }
+    ensures fixed { S.fixed leaves.new ≡ S.fixed leaves.old }
     ensures board { board.new ≡ board.old }
     ensures same { m.new ≡ m.old }
 {
@@ -166,6 +178,7 @@ fn with_move<S: Leaves>(board: &mut Board, m: &Move, leaves: &mut S, order: u8)
     requires few { order_of board.old + m.now.count ≤ order }
     ensures all { (w : Moves) → IsSought order w → GoesOn (board.old ++ m.now ∷ []) w → S.has_met leaves.new w }
     ensures kept { (w : Moves) → S.has_met leaves.old w → S.has_met leaves.new w }
+    ensures fixed { S.fixed leaves.new ≡ S.fixed leaves.old }
     ensures board { board.new ≡ board.old }
 {
     board.push(m);
@@ -183,6 +196,7 @@ fn go_on<S: Leaves>(board: &mut Board, leaves: &mut S, order: u8)
     requires few { order_of board.old ≤ order }
     ensures all { (w : Moves) → IsSought order w → GoesOn board.old w → S.has_met leaves.new w }
     ensures kept { (w : Moves) → S.has_met leaves.old w → S.has_met leaves.new w }
+    ensures fixed { S.fixed leaves.new ≡ S.fixed leaves.old }
     ensures board { board.new ≡ board.old }
 {
     if board.skel().order() == usize::from(order) {
@@ -198,6 +212,7 @@ fn meet_closed<S: Leaves>(board: &Board, leaves: &mut S)
     requires few { order_of board.now ≤ 16 }
     ensures met { IsComplete board.now → S.has_met leaves.new board.now }
     ensures kept { (w : Moves) → S.has_met leaves.old w → S.has_met leaves.new w }
+    ensures fixed { S.fixed leaves.new ≡ S.fixed leaves.old }
 {
     if board.skel().is_closed() {
         leaves.meet(board);

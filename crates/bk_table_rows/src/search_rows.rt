@@ -11,6 +11,10 @@ struct Met {
 impl Leaves for Met {
     ghost has_met = { λ _ _. Unit {0} };
 
+    ghost Fixed = { Unit {0} };
+
+    ghost fixed = { λ _. tt };
+
     fn meet(&mut self, _board: &Board) {
         self.words = self.words.saturating_add(1);
     }

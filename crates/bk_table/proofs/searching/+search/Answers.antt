@@ -23,6 +23,7 @@ with_counts-counts-init g t c = record {
       (subst (λ (v : Word). IsNetBarren c.args.order (v ++ h.move ∷ [])) c.skel-3.ensures.value
       (c.least_count-count.ensures.barren c.args.order h.move few h.legal.some)));
   kept = λ w met. met;
+  fixed = refl;
 }
 
 pub with_counts-counts-preserved : goal.with_counts-counts-preserved
@@ -35,6 +36,7 @@ with_counts-counts-preserved g t c = record {
         c.counts.invariant.board (same ∙ sym c.set_count.ensures.count) (c.set_count.ensures.signs ∙ c.counts.invariant.signs))
   ];
   kept = λ w met. c.with_signs.ensures.kept w (c.counts.invariant.kept w met);
+  fixed = c.with_signs.ensures.fixed ∙ c.counts.invariant.fixed;
 }
 
 pub with_counts-returns-clause-all : goal.with_counts-returns-clause-all

@@ -25,4 +25,5 @@ invariant-with_counts-counts g l = record {
   signs : l.m.signs ≡ [];
   all : (w : Word) → IsSought l.order w → (h : HasNextMove l.initial.board w) → h.move.count < l.count → g.S.Leaves.has_met l.leaves w;
   kept : (w : Word) → g.S.Leaves.has_met l.initial.leaves w → g.S.Leaves.has_met l.leaves w;
+  fixed : g.S.Leaves.fixed l.leaves ≡ g.S.Leaves.fixed l.initial.leaves;
 }

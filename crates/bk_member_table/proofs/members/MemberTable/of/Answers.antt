@@ -7,3 +7,6 @@ invariant_of-result g c = record {
   few = c.requires.most;
   whole = whole_table c.args.order c.args.count c.search.new.leaves c.requires.least c.search.ensures.all;
 }
+
+pub returns-clause-whole : goal.returns-clause-whole
+returns-clause-whole g c = whole_table c.args.order c.args.count c.search.new.leaves c.requires.least c.search.ensures.all
