@@ -1,10 +1,11 @@
--- Command lines that ask something, and some that ask nothing.
+-- Command lines that ask something, some that ask nothing, and the line of usage.
 use Rattle.std.specs.Fmt.{digits}
 use Rattle.std.specs.Prelude.{None, Some, codes}
-use Rattle.std.proofs.Common.{List, [], ap, arith, false, nat_eq, refl, slice_index, ℕ, ◌∷◌, ◌≡◌}
+use Rattle.std.proofs.Common.{List, [], ap, arith, false, length, nat_eq, refl, slice_index, ℕ, ◌∷◌, ◌≡◌}
 use Rattle.std.proofs.lemmas.Bool.Decides.{nat_tests}
 use Rattle.bk_word.specs.declared.Class.TheVariants.{Perfect}
 use Rattle.bk_ask.specs.Asked.{Asks, AsksNothing}
+use Rattle.bk_ask.specs.Help.{usage}
 use Rattle.bk_ask.specs.declared.Ask.TheVariants as asks
 use Rattle.bk_ask.specs.declared.Kind.TheVariants as kinds
 use Rattle.bk_ask.proofs.OptionLaws.{none_stands, option_of}
@@ -16,6 +17,9 @@ differ xs ys i t e = apart (slice_index xs i) (slice_index ys i) t (ap (λ bytes
   where
     apart : (a b : ℕ) → nat_eq a b ≡ false → a ≡ b → ⊥
     apart a b t e = grind (arith, nat_tests)
+
+usage_length : length usage ≡ 42
+usage_length = refl
 
 pub check_alone : Asks (codes "check" ∷ []) asks.Check
 check_alone = record { options = []; line = refl; say = refl }

@@ -1,6 +1,6 @@
 -- Words ask one thing: the first one tells the command, and each option is read in one way.
-use Rattle.std.specs.Prelude.{List, Option, [], codes, cond, nat_eq, refl, slice_index, sum, ℕ, ◌+◌, ◌<◌, ◌∷◌, ◌≡◌, ◌≤◌}
-use Rattle.std.proofs.Common.{ap, arith, inl, inr, lit<, subst, sym, ◌∙◌, ◌⊎◌}
+use Rattle.std.specs.Prelude.{List, Option, [], codes, cond, nat_eq, refl, slice_index, sum, ℕ, ◌+◌, ◌<◌, ◌∷◌, ◌≡◌}
+use Rattle.std.proofs.Common.{ap, arith, lit<, subst, sym, ◌∙◌}
 use Rattle.bk_word.specs.Word.{Word}
 use Rattle.bk_word.specs.declared.Class.{Class}
 use Rattle.bk_word.specs.declared.Class.TheVariants.{Perfect}

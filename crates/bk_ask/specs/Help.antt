@@ -1,15 +1,15 @@
--- The text of `help`.
+-- The line of usage, and the text of `help`.
+-- Example (AskExamples): the line of usage has 42 bytes.
 use Rattle.std.specs.Prelude.{List, [], codes, flat_map, ℕ, ◌++◌, ◌∷◌}
 
 -- how a command line is built
 abbrev pub usage : List ℕ
-usage = codes "usage: bouwkamp COMMAND [--NAME VALUE]..."
+usage = codes "usage: bouwkamp COMMAND [--NAME VALUE]...\n"
 
--- the usage, and then each command with what it does
+-- each command with what it does
 abbrev pub help_lines : List (List ℕ)
 help_lines =
-    usage
-    ∷ codes "check: test each code"
+    codes "check: test each code"
     ∷ codes "canon: canonical code of each code"
     ∷ codes "images: the eight images of each code"
     ∷ codes "net: Smith diagram of each code"
@@ -26,6 +26,6 @@ help_lines =
     ∷ codes "help: this text"
     ∷ []
 
--- the lines, each with its line feed
+-- the usage, and then the commands, each with a line feed
 abbrev pub help_text : List ℕ
-help_text = flat_map (λ line. line ++ 10 ∷ []) help_lines
+help_text = usage ++ flat_map (λ line. line ++ 10 ∷ []) help_lines

@@ -4,7 +4,7 @@
 ghost use Rattle.std.specs.Prelude.{IfNone, IfSome, map, string_bytes, ◌≡◌};
 ghost use Rattle.bk_ask.specs.AskLaws.{WordsAskOneThing};
 ghost use Rattle.bk_ask.specs.Asked.{Asks, AsksNothing};
-ghost use Rattle.bk_ask.specs.Help.{help_text};
+ghost use Rattle.bk_ask.specs.Help.{help_text, usage};
 
 mod commands;
 mod options;
@@ -100,8 +100,11 @@ pub fn asked(alloc: Global, words: &[String]) -> Option<Ask>
     }
 }
 
-// How a command line is built, and then each command with what it does.
-const HELP: &[u8; 568] = b"usage: bouwkamp COMMAND [--NAME VALUE]...\n\
+// How a command line is built.
+const USAGE: &[u8; 42] = b"usage: bouwkamp COMMAND [--NAME VALUE]...\n";
+
+// Each command with what it does.
+const COMMANDS: &[u8; 526] = b"\
 check: test each code\n\
 canon: canonical code of each code\n\
 images: the eight images of each code\n\
@@ -118,13 +121,21 @@ alike: group codes by size\n\
 pair [--kind KIND]: join rectangles to squares\n\
 help: this text\n";
 
+/// Clears the buffer and leaves a line that says how a command line is built. The text is our own.
+pub fn write_usage(out: &mut AnswerBuffer)
+    ensures { out.new.items ≡ usage }
+{
+    out.clear();
+    push_bytes(USAGE, out);
+}
+
 /// Clears the buffer and leaves the text of `help`: how a command line is built, and a line for each command. The text is
 /// our own.
 pub fn write_help(out: &mut AnswerBuffer)
     ensures { out.new.items ≡ help_text }
 {
-    out.clear();
-    push_bytes(HELP, out);
+    write_usage(out);
+    push_bytes(COMMANDS, out);
 }
 
 /// Words ask one thing only.

@@ -4,7 +4,7 @@ use Rattle.std.specs.Prelude.{Err, Ok, Result}
 use Rattle.std.proofs.Common.{List, Option, Bool, false, inl, inr, refl, subst, sym, true, ℕ, ◌++◌, ◌≡◌, ◌⊎◌}
 use Rattle.bk_ports.proofs.KnownSteps.{appends_more, prefix_after}
 use Rattle.bk_ports.specs.declared.Failed.{Failed}
-use Rattle.bk_lines.specs.Ending.{Told}
+use Rattle.bk_lines.specs.Ending.{Streams}
 use Rattle.bk_lines.specs.Entries.{EntersBy, IsEntered}
 use Rattle.bk_lines.specs.Reply.{text_of}
 use Rattle.bk_lines.specs.declared.Ended.{Ended}
@@ -14,8 +14,8 @@ use Rattle.bk_groups.specs.Listed.{Listed, listing_rules, none_listed}
 use Rattle.bk_groups.specs.declared.Wanted.{Wanted}
 use Rattle.bk_groups.specs.Writing.{WritesLines}
 
-abbrev pub told_of : Option (List ℕ) → Option (List ℕ) → Option (List ℕ) → Option (List ℕ) → Told
-told_of left left_after written written_after = record { left = left; left_after = left_after; written = written; written_after = written_after }
+abbrev pub streams_of : Option (List ℕ) → Option (List ℕ) → Option (List ℕ) → Option (List ℕ) → Streams
+streams_of left left_after written written_after = record { left = left; left_after = left_after; written = written; written_after = written_after }
 
 -- all lines are entered
 abbrev pub IsVerdict : Ended → Type 0
@@ -28,9 +28,9 @@ verdict_told ended (inl e) = subst IsVerdict (sym e) tt
 verdict_told ended (inr e) = subst IsVerdict (sym e) tt
 
 module _ (wanted : Wanted) (last : Listed) (left left_after a b c : Option (List ℕ)) where
-  listed : (refused : Bool) → IsEntered listing_rules none_listed (told_of left left_after a b) refused last → (r : Result (Unit {0}) Failed)
+  listed : (refused : Bool) → IsEntered listing_rules none_listed (streams_of left left_after a b) refused last → (r : Result (Unit {0}) Failed)
       → WritesLines (closing_lines wanted last) b c r → r ≡ Ok tt
-      → IsListed wanted (told_of left left_after a c) refused
+      → IsListed wanted (streams_of left left_after a c) refused
   listed refused h (Ok x) w e = record {
     input = h.input;
     taken = h.taken;
@@ -45,9 +45,9 @@ module _ (wanted : Wanted) (last : Listed) (left left_after a b c : Option (List
   }
   listed refused h (Err f) w e = absurd (cc)
 
-  broken : (refused : Bool) → IsEntered listing_rules none_listed (told_of left left_after a b) refused last → (r : Result (Unit {0}) Failed)
+  broken : (refused : Bool) → IsEntered listing_rules none_listed (streams_of left left_after a b) refused last → (r : Result (Unit {0}) Failed)
       → WritesLines (closing_lines wanted last) b c r → (f : Failed) → r ≡ Err f
-      → IsClosingBroken wanted (told_of left left_after a c)
+      → IsClosingBroken wanted (streams_of left left_after a c)
   broken refused h (Ok x) w f e = absurd (cc)
   broken refused h (Err g) w f e = record {
     input = h.input;
@@ -61,9 +61,9 @@ module _ (wanted : Wanted) (last : Listed) (left left_after a b c : Option (List
   }
 
   -- where all lines are entered, and what is wanted was written or not
-  pub closes_well : (ended : Ended) → EntersBy listing_rules none_listed last (told_of left left_after a b) ended → IsVerdict ended
+  pub closes_well : (ended : Ended) → EntersBy listing_rules none_listed last (streams_of left left_after a b) ended → IsVerdict ended
       → (r : Result (Unit {0}) Failed) → WritesLines (closing_lines wanted last) b c r → r ≡ Ok tt
-      → ListsBy wanted (told_of left left_after a c) ended
+      → ListsBy wanted (streams_of left left_after a c) ended
   closes_well NoneRefused h v r w e = listed false h r w e
   closes_well SomeRefused h v r w e = listed true h r w e
   closes_well ReadFailed h v r w e = absurd v
@@ -71,9 +71,9 @@ module _ (wanted : Wanted) (last : Listed) (left left_after a b c : Option (List
   closes_well NoMemory h v r w e = absurd v
   closes_well TooMany h v r w e = absurd v
 
-  pub closes_broken : (ended : Ended) → EntersBy listing_rules none_listed last (told_of left left_after a b) ended → IsVerdict ended
+  pub closes_broken : (ended : Ended) → EntersBy listing_rules none_listed last (streams_of left left_after a b) ended → IsVerdict ended
       → (r : Result (Unit {0}) Failed) → WritesLines (closing_lines wanted last) b c r → (f : Failed) → r ≡ Err f
-      → ListsBy wanted (told_of left left_after a c) WriteFailed
+      → ListsBy wanted (streams_of left left_after a c) WriteFailed
   closes_broken NoneRefused h v r w f e = inr (broken false h r w f e)
   closes_broken SomeRefused h v r w f e = inr (broken true h r w f e)
   closes_broken ReadFailed h v r w f e = absurd v

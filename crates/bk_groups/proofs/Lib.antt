@@ -5,3 +5,4 @@ pub mod PairLines
 pub mod ClosedLists
 pub mod ListLoops
 pub mod LaterPairs
+pub mod OneListing

@@ -4,7 +4,7 @@ use Rattle.std.specs.Option.{option_map_or}
 use Rattle.std.specs.Prelude.{Bool, List, [], length, slice_get, true, false, ℕ, ◌++◌, ◌^◌, ◌∷◌, ◌≡◌, ◌≤◌, ◌⊎◌}
 use Rattle.std.specs.Io.KnownBytes.{Appends, Consumes, IsAtEnd}
 use Rattle.bk_ports.specs.Causes.{AppendsPrefix}
-use Rattle.bk_lines.specs.Ending.{Told}
+use Rattle.bk_lines.specs.Ending.{Streams}
 use Rattle.bk_lines.specs.Entering.{AreEntered}
 use Rattle.bk_lines.specs.Entries.{AreEntriesTooMany, IsEntryBroken, IsEntryCutOff, IsEntryCutShort}
 use Rattle.bk_lines.specs.Lines.{lines_of}
@@ -35,33 +35,33 @@ closing_lines (Pairs kind) s = all_pairs kind s.items
     ++ pairs_line (length (all_pairs kind s.items)) (length s.items) s.refused ∷ []
 
 -- the input was read to its end, its lines are listed, and what is wanted stands behind them; some lines are refused or none
-pub record IsListed (wanted : Wanted) (told : Told) (refused : Bool) : Type 0 where
+pub record IsListed (wanted : Wanted) (streams : Streams) (refused : Bool) : Type 0 where
   pub input : List ℕ
-  pub taken : Consumes told.left told.left_after input
-  pub at_end : IsAtEnd told.left_after
+  pub taken : Consumes streams.left streams.left_after input
+  pub at_end : IsAtEnd streams.left_after
   pub within : length input ≤ 2 ^ 30
   pub replies : List Reply
   pub last : Listed
   pub each : AreEntered listing_rules none_listed 1 (lines_of input) replies last
   pub any : some_refused replies ≡ refused
-  pub written : Appends told.written told.written_after (text_of replies ++ concat (closing_lines wanted last))
+  pub written : Appends streams.written streams.written_after (text_of replies ++ concat (closing_lines wanted last))
 
 -- a write failed behind the lines
-pub record IsClosingBroken (wanted : Wanted) (told : Told) : Type 0 where
+pub record IsClosingBroken (wanted : Wanted) (streams : Streams) : Type 0 where
   pub input : List ℕ
-  pub taken : Consumes told.left told.left_after input
-  pub at_end : IsAtEnd told.left_after
+  pub taken : Consumes streams.left streams.left_after input
+  pub at_end : IsAtEnd streams.left_after
   pub within : length input ≤ 2 ^ 30
   pub replies : List Reply
   pub last : Listed
   pub each : AreEntered listing_rules none_listed 1 (lines_of input) replies last
-  pub written : AppendsPrefix told.written told.written_after (text_of replies ++ concat (closing_lines wanted last))
+  pub written : AppendsPrefix streams.written streams.written_after (text_of replies ++ concat (closing_lines wanted last))
 
 -- what each ending says
-abbrev pub ListsBy : Wanted → Told → Ended → Type 0
-ListsBy wanted told NoneRefused = IsListed wanted told false
-ListsBy wanted told SomeRefused = IsListed wanted told true
-ListsBy wanted told ReadFailed = (last : Listed) × IsEntryCutOff listing_rules none_listed told last
-ListsBy wanted told WriteFailed = IsEntryBroken listing_rules none_listed told ⊎ IsClosingBroken wanted told
-ListsBy wanted told NoMemory = IsEntryCutShort listing_rules none_listed told
-ListsBy wanted told TooMany = (last : Listed) × AreEntriesTooMany listing_rules none_listed told last
+abbrev pub ListsBy : Wanted → Streams → Ended → Type 0
+ListsBy wanted streams NoneRefused = IsListed wanted streams false
+ListsBy wanted streams SomeRefused = IsListed wanted streams true
+ListsBy wanted streams ReadFailed = (last : Listed) × IsEntryCutOff listing_rules none_listed streams last
+ListsBy wanted streams WriteFailed = IsEntryBroken listing_rules none_listed streams ⊎ IsClosingBroken wanted streams
+ListsBy wanted streams NoMemory = IsEntryCutShort listing_rules none_listed streams
+ListsBy wanted streams TooMany = (last : Listed) × AreEntriesTooMany listing_rules none_listed streams last

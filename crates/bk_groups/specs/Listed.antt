@@ -1,5 +1,5 @@
 -- Lines of codes that are listed one after another: the items that are kept, and how many lines are refused.
-use Rattle.std.specs.Prelude.{Bool, List, [], false, length, true, ℕ, ◌++◌, ◌+◌, ◌<◌, ◌∷◌, ◌≤◌}
+use Rattle.std.specs.Prelude.{Bool, List, [], false, length, true, ℕ, ◌++◌, ◌+◌, ◌<◌, ◌∷◌, ◌≡◌, ◌≤◌}
 use Rattle.bk_tiling.specs.Tiling.{Tiling}
 use Rattle.bk_sym.specs.Canonical.{IsCanonicalOf}
 use Rattle.bk_text.specs.CodeLine.{Skip}
@@ -8,7 +8,8 @@ use Rattle.bk_report.specs.declared.refusal.Refused.{Refused}
 use Rattle.bk_report.specs.declared.refusal.Refused.TheVariants.{More}
 use Rattle.bk_answer.specs.Item.{HasItem, HasTiling}
 use Rattle.bk_answer.specs.Refusing.{IsLineRefused}
-use Rattle.bk_lines.specs.Entering.{Entering}
+use Rattle.bk_lines.specs.Entering.{AreEntered, Entering}
+use Rattle.bk_lines.specs.Reply.{Reply, some_refused}
 use Rattle.bk_alike.specs.declared.item.KeptItem.{KeptItem}
 
 -- the items that are kept, and how many lines were refused
@@ -51,3 +52,11 @@ MayWantItem s number bytes = (t : Tiling) × HasTiling bytes t × (length s.item
 -- how lines are listed
 abbrev pub listing_rules : Entering Listed
 listing_rules = record { enters = ListsLine; may_want = MayWantItem }
+
+-- where these lines are listed one after another, some line is refused: `check` refuses it, or it accepts it and 16,384 items
+-- are kept before it
+pub record HasRefusedLine (lines : List (List ℕ)) : Type 0 where
+  pub replies : List Reply
+  pub last : Listed
+  pub each : AreEntered listing_rules none_listed 1 lines replies last
+  pub some : some_refused replies ≡ true

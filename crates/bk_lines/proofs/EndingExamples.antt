@@ -2,12 +2,12 @@
 use Rattle.std.proofs.Common.{◌≡◌, ℕ, ◌+◌, ◌==◌, [], ◌∷◌, ◌++◌, Some, false, get_or, inl, inr, lit<, lit≤, refl, true}
 use Rattle.std.specs.Prelude.{codes}
 use Rattle.bk_lines.specs.Deciding.{HasRefused}
-use Rattle.bk_lines.specs.Ending.{AreRead, IsAnswered, IsCutOff, Rules, Told}
+use Rattle.bk_lines.specs.Ending.{AreRead, IsAnswered, IsCutOff, Replies, Streams}
 use Rattle.bk_lines.specs.Entering.{AreEntered, Entering}
 use Rattle.bk_lines.specs.Reply.{Reply}
 
 -- each line is answered by itself and a line feed, and one that begins with `!` is refused
-abbrev echo : Rules
+abbrev echo : Replies
 echo = record {
   answers = λ line pieces refused. (pieces ≡ (line ++ 10 ∷ []) ∷ []) × (refused ≡ (get_or line 0 0 == 33));
   may_want = λ line. ⊥;
@@ -20,7 +20,7 @@ abbrev second : Reply
 second = record { pieces = codes "!\n" ∷ []; refused = true }
 
 -- two lines are read to the end of the input, and the second is refused
-abbrev whole : Told
+abbrev whole : Streams
 whole = record {
   left = Some (codes "a\n!\n");
   left_after = Some [];
@@ -41,7 +41,7 @@ one_refused : HasRefused echo (codes "a" ∷ codes "!" ∷ [])
 one_refused = (codes "!", (1, lit< tt, refl), codes "!\n" ∷ [], (refl, refl))
 
 -- a read fails in the second line: the first is answered
-abbrev part : Told
+abbrev part : Streams
 part = record { left = Some (codes "a\n!\n"); left_after = Some (codes "\n"); written = Some []; written_after = Some (codes "a\n") }
 
 part_answered : IsCutOff echo part

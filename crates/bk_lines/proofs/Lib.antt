@@ -8,5 +8,6 @@ pub mod Pieces
 pub mod LineExamples
 pub mod EndingExamples
 pub mod OneReply
-pub mod OtherRules
+pub mod OtherReplies
+pub mod TakenBytes
 pub mod Deciding

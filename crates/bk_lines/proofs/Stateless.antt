@@ -6,21 +6,21 @@ use Rattle.bk_lines.specs.Reply.{Reply, AreReplies}
 use Rattle.bk_lines.specs.Lines.{kept_front}
 use Rattle.bk_lines.specs.Answer.{IsBegun}
 use Rattle.bk_lines.specs.Answered.{AreAnswered, AreBegun, AreCutShort}
-use Rattle.bk_lines.specs.Ending.{EndsBy, Rules, Told}
+use Rattle.bk_lines.specs.Ending.{RunEndsBy, Replies, Streams}
 use Rattle.bk_lines.specs.Entering.{AreAllEntered, AreEntered, Entering, IsEntryBegun, IsEntryWanting}
 use Rattle.bk_lines.specs.Entries.{EntersBy}
 use Rattle.bk_lines.specs.declared.Ended.{Ended}
 use Rattle.bk_lines.specs.declared.Ended.TheVariants.{NoneRefused, SomeRefused, ReadFailed, WriteFailed, NoMemory, TooMany}
 
 -- as long as the state serves, a line is entered as it is answered
-pub record AnswersAlike {State : Type 0} (rules : Entering State) (serves : State → Type 0) (answers : Rules) : Type 0 where
+pub record AnswersAlike {State : Type 0} (rules : Entering State) (serves : State → Type 0) (answers : Replies) : Type 0 where
   pub reply : (s l : State) (n : ℕ) (line : List ℕ) (pieces : List (List ℕ)) (refused : Bool) → serves s
       → rules.enters s n (kept_front line) pieces refused l → answers.answers line pieces refused
   pub goes_on : (s l : State) (n : ℕ) (line : List ℕ) (pieces : List (List ℕ)) (refused : Bool) → serves s
       → rules.enters s n (kept_front line) pieces refused l → serves l
   pub wants : (s : State) (n : ℕ) (line : List ℕ) → serves s → rules.may_want s n (kept_front line) → answers.may_want line
 
-module _ {State : Type 0} (rules : Entering State) (serves : State → Type 0) (answers : Rules) (alike : AnswersAlike rules serves answers) where
+module _ {State : Type 0} (rules : Entering State) (serves : State → Type 0) (answers : Replies) (alike : AnswersAlike rules serves answers) where
   replies : (s l : State) (n : ℕ) (lines : List (List ℕ)) (rs : List Reply) → serves s → AreEntered rules s n lines rs l → AreReplies answers.answers lines rs
   replies s l n [] [] served are = tt
   replies s l n [] (r ∷ rs) served are = absurd are
@@ -65,52 +65,52 @@ module _ {State : Type 0} (rules : Entering State) (serves : State → Type 0) (
   }
 
   -- each ending of the one is the same ending of the other
-  pub ends_alike : (s l : State) (told : Told) (ended : Ended) → serves s → EntersBy rules s l told ended → EndsBy answers told ended
-  ends_alike s l told NoneRefused served h = record {
+  pub ends_alike : (s l : State) (streams : Streams) (ended : Ended) → serves s → EntersBy rules s l streams ended → RunEndsBy answers streams ended
+  ends_alike s l streams NoneRefused served h = record {
     input = h.input;
     taken = h.taken;
     at_end = h.at_end;
     within = h.within;
-    answered = all_answered s l 1 _ told.written told.written_after false served h.entered;
+    answered = all_answered s l 1 _ streams.written streams.written_after false served h.entered;
   }
-  ends_alike s l told SomeRefused served h = record {
+  ends_alike s l streams SomeRefused served h = record {
     input = h.input;
     taken = h.taken;
     at_end = h.at_end;
     within = h.within;
-    answered = all_answered s l 1 _ told.written told.written_after true served h.entered;
+    answered = all_answered s l 1 _ streams.written streams.written_after true served h.entered;
   }
-  ends_alike s l told ReadFailed served h = record {
+  ends_alike s l streams ReadFailed served h = record {
     input = h.input;
     taken = h.taken;
     within = h.within;
     refused = h.refused;
-    answered = all_answered s l 1 _ told.written told.written_after h.refused served h.entered;
+    answered = all_answered s l 1 _ streams.written streams.written_after h.refused served h.entered;
   }
-  ends_alike s l told WriteFailed served h = record {
+  ends_alike s l streams WriteFailed served h = record {
     input = h.input;
     taken = h.taken;
     within = h.within;
     lines = h.lines;
     read = h.read;
-    begun = begun s 1 h.lines told.written told.written_after served h.begun;
+    begun = begun s 1 h.lines streams.written streams.written_after served h.begun;
   }
-  ends_alike s l told NoMemory served h = record {
+  ends_alike s l streams NoMemory served h = record {
     input = h.input;
     taken = h.taken;
     within = h.within;
     lines = h.lines;
     read = h.read;
-    short = short s 1 h.lines told.written told.written_after served h.short;
+    short = short s 1 h.lines streams.written streams.written_after served h.short;
   }
-  ends_alike s l told TooMany served h = record {
+  ends_alike s l streams TooMany served h = record {
     first = h.first;
     more = h.more;
     taken = h.taken;
     full = h.full;
-    some = h.some;
+    one = h.one;
     refused = h.refused;
-    answered = all_answered s l 1 _ told.written told.written_after h.refused served h.entered;
+    answered = all_answered s l 1 _ streams.written streams.written_after h.refused served h.entered;
   }
 
 -- a reply that was begun, and the state that would follow

@@ -1,5 +1,5 @@
 -- An input of which some bytes are taken, and their lines entered.
-use Rattle.std.proofs.Common.{◌≡◌, ℕ, ◌+◌, ◌^◌, ◌<◌, ◌≤◌, Bool, true, false, ◌||◌, List, [], ◌++◌, length, take, map, Option, Some, None, inl, inr}
+use Rattle.std.proofs.Common.{◌≡◌, ℕ, ◌+◌, ◌^◌, ◌≤◌, Bool, true, false, ◌||◌, List, [], ◌++◌, length, take, map, Option, Some, None, inl, inr}
 use Rattle.std.proofs.Common.{refl, sym, ap, ◌∙◌, subst, arith}
 use Rattle.std.specs.Io.KnownBytes.{Consumes, Keeps, IsAtEnd}
 use Rattle.std.proofs.lemmas.List.{append-nil, length-append}
@@ -7,7 +7,7 @@ use Rattle.bk_ports.proofs.KnownSteps.{consumes_more}
 use Rattle.bk_lines.specs.Lines.{closed_lines, open_line, last_line, lines_of, kept_front}
 use Rattle.bk_lines.specs.Entering.{AreAllEntered, Entering, IsEntryStopped}
 use Rattle.bk_lines.specs.Entries.{AreEntriesTooMany, EntersBy, IsEntered, IsEntryCutOff}
-use Rattle.bk_lines.specs.Ending.{AreRead, Told, ended_of, verdict_of}
+use Rattle.bk_lines.specs.Ending.{AreRead, Streams, ended_of, verdict_of}
 use Rattle.bk_lines.specs.declared.Ended.{Ended}
 use Rattle.bk_lines.specs.declared.line.Stop.{Stop}
 use Rattle.bk_lines.specs.declared.line.Stop.TheVariants.{WriteFailed, NoMemory}
@@ -100,14 +100,14 @@ module _ {State : Type 0} (rules : Entering State) (start s : State) (l m n a b 
     entered = state.entered;
   }
 
-  pub ends_more : (more : List ℕ) → Consumes m n more → 0 < length more → count ≡ 2 ^ 30
+  pub ends_more : (more : List ℕ) → Consumes m n more → length more ≡ 1 → count ≡ 2 ^ 30
       → AreEntriesTooMany rules start (record { left = l; left_after = n; written = a; written_after = b }) s
-  ends_more more read some full = record {
+  ends_more more read one full = record {
     first = state.input;
     more = more;
     taken = consumes_more l m n state.input more (state.input ++ more) state.taken read refl;
     full = state.size ∙ full;
-    some = some;
+    one = one;
     refused = p;
     entered = state.entered;
   }
@@ -126,20 +126,20 @@ module _ {State : Type 0} (rules : Entering State) (start s : State) (l m n a b 
   }
 
 -- where a line that was read was not entered
-module _ {State : Type 0} (rules : Entering State) (start last : State) (told : Told) (input : List ℕ) (lines : List (List ℕ)) where
-  stop_ends : (stop : Stop) → Consumes told.left told.left_after input → length input ≤ 2 ^ 30
-      → AreRead told.left_after input lines → IsEntryStopped rules start 1 lines told.written told.written_after stop
-      → EntersBy rules start last told (ended_of stop)
+module _ {State : Type 0} (rules : Entering State) (start last : State) (streams : Streams) (input : List ℕ) (lines : List (List ℕ)) where
+  stop_ends : (stop : Stop) → Consumes streams.left streams.left_after input → length input ≤ 2 ^ 30
+      → AreRead streams.left_after input lines → IsEntryStopped rules start 1 lines streams.written streams.written_after stop
+      → EntersBy rules start last streams (ended_of stop)
   stop_ends WriteFailed taken within read h =
       record { input = input; taken = taken; within = within; lines = lines; read = read; begun = h }
   stop_ends NoMemory taken within read h =
       record { input = input; taken = taken; within = within; lines = lines; read = read; short = h }
 
-  stops : (stop : Stop) (ended : Ended) → ended ≡ ended_of stop → Consumes told.left told.left_after input
-      → length input ≤ 2 ^ 30 → AreRead told.left_after input lines
-      → IsEntryStopped rules start 1 lines told.written told.written_after stop → EntersBy rules start last told ended
+  stops : (stop : Stop) (ended : Ended) → ended ≡ ended_of stop → Consumes streams.left streams.left_after input
+      → length input ≤ 2 ^ 30 → AreRead streams.left_after input lines
+      → IsEntryStopped rules start 1 lines streams.written streams.written_after stop → EntersBy rules start last streams ended
   stops stop ended is taken within read here =
-      subst (λ (e : Ended). EntersBy rules start last told e) (sym is) (stop_ends stop taken within read here)
+      subst (λ (e : Ended). EntersBy rules start last streams e) (sym is) (stop_ends stop taken within read here)
 
 module _ {State : Type 0} (rules : Entering State) (start s last : State) (l m n a b c : Option (List ℕ)) (count : ℕ)
     (kept : List ℕ) (number : ℕ) (p : Bool) (state : IsTaken rules start l m a b count kept number p s) (stop : Stop) where
@@ -176,15 +176,15 @@ module _ {State : Type 0} (rules : Entering State) (start s last : State) (l m n
       (subst (λ (i : ℕ). IsEntryStopped rules s i final b c stop) state.numbered
       (stopped_fronts rules stop s number (last_line kept) final b c fronts here)))
 
-verdict_ends : {State : Type 0} (rules : Entering State) (start last : State) (told : Told) (refused : Bool) → IsEntered rules start told refused last
-    → EntersBy rules start last told (verdict_of refused)
-verdict_ends rules start last told true h = h
-verdict_ends rules start last told false h = h
+verdict_ends : {State : Type 0} (rules : Entering State) (start last : State) (streams : Streams) (refused : Bool) → IsEntered rules start streams refused last
+    → EntersBy rules start last streams (verdict_of refused)
+verdict_ends rules start last streams true h = h
+verdict_ends rules start last streams false h = h
 
-pub ends_verdict : {State : Type 0} (rules : Entering State) (start last : State) (told : Told) (refused : Bool) (ended : Ended) → ended ≡ verdict_of refused
-    → IsEntered rules start told refused last → EntersBy rules start last told ended
-ends_verdict rules start last told refused ended is h =
-    subst (λ (e : Ended). EntersBy rules start last told e) (sym is) (verdict_ends rules start last told refused h)
+pub ends_verdict : {State : Type 0} (rules : Entering State) (start last : State) (streams : Streams) (refused : Bool) (ended : Ended)
+    → ended ≡ verdict_of refused → IsEntered rules start streams refused last → EntersBy rules start last streams ended
+ends_verdict rules start last streams refused ended is h =
+    subst (λ (e : Ended). EntersBy rules start last streams e) (sym is) (verdict_ends rules start last streams refused h)
 
 -- a read that gave no byte
 pub read_nothing : (m n : Option (List ℕ)) (bytes : List ℕ) (count : ℕ) → count ≡ 0 → Consumes m n (take count bytes) → Consumes m n []

@@ -2,15 +2,15 @@
 -- Example (EndingExamples): where a line that begins with `!` is refused, some of the lines `a` and `!` is.
 use Rattle.std.specs.Prelude.{◌^◌, ◌<◌, Contains, List, Option, length, true, ℕ}
 use Rattle.std.specs.Io.KnownBytes.{Consumes}
-use Rattle.bk_lines.specs.Ending.{Rules}
+use Rattle.bk_lines.specs.Ending.{Replies}
 
 -- some line among these is refused: it may be answered by the text of a refusal
-abbrev pub HasRefused : Rules → List (List ℕ) → Type 0
-HasRefused rules lines = (line : List ℕ) × Contains lines line × (pieces : List (List ℕ)) × rules.answers line pieces true
+abbrev pub HasRefused : Replies → List (List ℕ) → Type 0
+HasRefused replies lines = (line : List ℕ) × Contains lines line × (pieces : List (List ℕ)) × replies.answers line pieces true
 
 -- memory may be wanting at some line among these
-abbrev pub HasWanting : Rules → List (List ℕ) → Type 0
-HasWanting rules lines = (line : List ℕ) × Contains lines line × rules.may_want line
+abbrev pub HasWanting : Replies → List (List ℕ) → Type 0
+HasWanting replies lines = (line : List ℕ) × Contains lines line × replies.may_want line
 
 -- more than 2^30 bytes were taken from a source
 abbrev pub TookTooMany : Option (List ℕ) → Option (List ℕ) → Type 0

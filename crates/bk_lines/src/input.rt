@@ -18,12 +18,12 @@ use bk_ports::{Failed, Sink, Source};
 // At most so many bytes of an input are taken.
 const MOST_BYTES: usize = 1 << 30;
 
-// A read takes at most so many bytes.
+// A read asks for at most so many bytes.
 const BLOCK: usize = 16_384;
 
 /// Takes the bytes of the source to their end and enters their lines in the register, in order and numbered from 1. Each line
 /// that was taken with its line feed is entered before the next read. Of a longer input 2^30 bytes are taken, and then a read
-/// tells that there are more.
+/// gives one more.
 pub fn enter_lines<R: Register, S: Source, O: Sink>(
     register: &mut R,
     source: &mut S,
@@ -91,7 +91,7 @@ impl Stop {
     }
 }
 
-// Takes the next bytes into the front of the block, none past the most that are taken, or past them at least one.
+// Takes the next bytes into the front of the block, none past the most that are taken, or past them at most one.
 fn read_block<S: Source>(
     source: &mut S,
     block: &mut [u8; BLOCK],
@@ -100,6 +100,7 @@ fn read_block<S: Source>(
     requires { taken ≤ 2 ^ 30 }
     ensures count { IfOk result (λ n. n ≤ 16384) }
     ensures within { IfOk result (λ n. taken < 2 ^ 30 → taken + n ≤ 2 ^ 30) }
+    ensures one { IfOk result (λ n. taken ≡ 2 ^ 30 → n ≤ 1) }
     ensures bytes { ReadConsumes (S.left source.old) (S.left source.new) result block.new }
     ensures cause { HasCause (S.faults source.old) (S.faults source.new) result }
 {

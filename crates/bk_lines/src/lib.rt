@@ -113,6 +113,6 @@ pub enum Ended {
     WriteFailed,
     /// Memory was wanting at a line. All lines before it are answered.
     NoMemory,
-    /// 2^30 bytes were taken, and the next read gave more. All lines whose line feed is among these 2^30 bytes are answered.
+    /// 2^30 bytes were taken, and the next read gave one more. All lines whose line feed is among these 2^30 bytes are answered.
     TooMany,
 }

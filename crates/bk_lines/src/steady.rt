@@ -2,7 +2,7 @@
 
 ghost use Rattle.std.specs.Prelude.{◌≡◌, ◌≢◌};
 ghost use Rattle.bk_ports.specs.Causes.{Rose};
-ghost use Rattle.bk_lines.specs.Ending.{EndsBy, of_fronts};
+ghost use Rattle.bk_lines.specs.Ending.{RunEndsBy, of_fronts};
 ghost use Rattle.bk_lines.specs.Entries.{IsCalm, IsDoneOrWanting};
 
 use crate::input::enter_lines;
@@ -43,7 +43,7 @@ impl<A: Answerer> Register for Steady<'_, A> {
 }
 
 /// Takes the bytes of the source to their end and answers their lines, in order. Each line that was taken with its line
-/// feed is answered before the next read. Of a longer input 2^30 bytes are taken, and then a read tells that there are
+/// feed is answered before the next read. Of a longer input 2^30 bytes are taken, and then a read gives one
 /// more.
 pub fn answer_lines<S: Source, O: Sink, A: Answerer>(
     answerer: &A,
@@ -51,7 +51,7 @@ pub fn answer_lines<S: Source, O: Sink, A: Answerer>(
     out: &mut O,
 ) -> Ended
     // What each ending says of the bytes.
-    ensures ending { EndsBy (of_fronts (record { answers = A.answers answerer.now; may_want = A.may_want answerer.now }))
+    ensures ending { RunEndsBy (of_fronts (record { answers = A.answers answerer.now; may_want = A.may_want answerer.now }))
         (record {
           left = S.left source.old;
           left_after = S.left source.new;

@@ -6,7 +6,7 @@ ghost use Rattle.bk_tree.specs.Tree.{IsAtMostTree};
 ghost use Rattle.bk_list.specs.Stepping.{AreNextSteps, HasEntriesBySteps, StoppedAtEntry};
 ghost use Rattle.bk_list.specs.Writing.{BeginsListing, IsNext, IsNextBegun};
 
-use arrayvec::ArrayVec;
+use bk_grammar::AnswerBuffer;
 use bk_ports::{Failed, Sink};
 use bk_report::{Last, write_entry};
 use bk_skel::Steps;
@@ -26,7 +26,7 @@ pub(crate) fn write_entries<L: Ledger, O: Sink>(
     walk: &mut Walk,
     limit: Option<u64>,
     steps: &mut Steps<L>,
-    buffer: &mut ArrayVec<u8, 9000>,
+    buffer: &mut AnswerBuffer,
     out: &mut O,
 ) -> Result<(Last, u64), Failed>
     requires { walk.old.order ≤ 16 }
@@ -64,7 +64,7 @@ fn is_reached(limit: Option<u64>, listed: u64) -> bool
 fn write_next<L: Ledger, O: Sink>(
     walk: &mut Walk,
     steps: &mut Steps<L>,
-    buffer: &mut ArrayVec<u8, 9000>,
+    buffer: &mut AnswerBuffer,
     out: &mut O,
 ) -> Result<Next, Failed>
     ensures next { IfOk result (IsNext walk.old.order walk.old.class walk.old.cursor walk.new.cursor (O.written out.old) (O.written out.new)) }

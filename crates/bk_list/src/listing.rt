@@ -8,7 +8,7 @@ ghost use Rattle.bk_list.specs.Stepping.{TakesSteps, TookSteps};
 ghost use Rattle.bk_list.specs.Writing.{BeginsListing, WritesListing};
 
 use crate::entries::write_entries;
-use arrayvec::ArrayVec;
+use bk_grammar::AnswerBuffer;
 use bk_ports::{Failed, Sink};
 use bk_report::{Last, write_last};
 use bk_skel::Steps;
@@ -51,7 +51,7 @@ pub fn write_listing<L: Ledger, O: Sink>(
     ensures stopped { OnErr result (TookSteps order class (start_cursor from) limit (O.written out.old) (O.written out.new) (steps.new - steps.old)) }
 {
     let mut walk = Walk::new(alloc, order, class, from);
-    let mut buffer = ArrayVec::<u8, 9000>::new();
+    let mut buffer = AnswerBuffer::new();
     let (last, listed) = write_entries(&mut walk, limit, steps, &mut buffer, out)?;
     write_last(last, order, class, listed, walk.cursor(), &mut buffer);
     out.write_all(buffer.as_slice())?;

@@ -1,4 +1,5 @@
 pub mod Statuses
+pub mod ReadToEnd
 pub mod Endings
 pub mod WholeRuns
 pub mod WholeLists

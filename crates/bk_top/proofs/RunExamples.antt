@@ -1,5 +1,5 @@
 -- Worked examples of what is asked, of the statuses, and of what decides them.
-use Rattle.std.proofs.Common.{Some, [], arith, inl, length, refl, ℕ, ◌≡◌}
+use Rattle.std.proofs.Common.{Some, [], arith, inl, refl, ◌≡◌}
 use Rattle.std.specs.Prelude.{None, codes}
 use Rattle.bk_answer.specs.declared.command.CodeCommand.TheVariants as codes_of
 use Rattle.bk_answer.specs.declared.command.Command.TheVariants.{OfCodes}
@@ -7,16 +7,13 @@ use Rattle.bk_ask.specs.declared.Ask.TheVariants as asks
 use Rattle.bk_lines.specs.declared.Ended.TheVariants.{TooMany}
 use Rattle.bk_top.specs.Deciding.{IsDecided}
 use Rattle.bk_top.specs.Running.{IsToldText, status_of}
-use Rattle.bk_top.specs.Words.{command_asked, usage}
+use Rattle.bk_top.specs.Words.{command_asked}
 
 check_answers_lines : command_asked asks.Check ≡ Some (OfCodes codes_of.Check)
 check_answers_lines = refl
 
 a_trial_answers_none : command_asked (asks.Trial 0 2) ≡ None
 a_trial_answers_none = refl
-
-usage_length : length usage ≡ 42
-usage_length = refl
 
 too_many_status : status_of TooMany ≡ 7
 too_many_status = refl

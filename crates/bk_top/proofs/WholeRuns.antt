@@ -1,14 +1,15 @@
 -- A whole run, for each kind of what is asked.
 use Rattle.std.specs.Option.{MatchOption}
-use Rattle.std.proofs.Common.{List, Result, Err, Ok, ap, arith, inl, inr, map, refl, subst, sym, ℕ, ◌∙◌, ◌≡◌}
+use Rattle.std.proofs.Common.{List, Result, Err, Ok, arith, inl, inr, map, refl, subst, sym, ℕ, ◌∙◌, ◌≡◌}
 use Rattle.std.specs.Prelude.{None, OnErr, OnOk, Option, Some, String, string_bytes}
 use Rattle.std.specs.declared.alloc.Global.{Global}
 use Rattle.std.specs.Io.KnownBytes.{Appends}
 use Rattle.bk_ports.specs.Causes.{AppendsPrefix, HasCause}
+use Rattle.bk_lines.specs.Ending.{Streams}
 use Rattle.bk_lines.specs.declared.Ended.{Ended}
 use Rattle.bk_answer.specs.declared.command.Command.{Command}
 use Rattle.bk_ask.proofs.OneAsk.{one_ask}
-use Rattle.bk_ask.specs.Help.{help_text}
+use Rattle.bk_ask.specs.Help.{usage}
 use Rattle.bk_ask.specs.declared.Ask.{Ask}
 use Rattle.bk_ask.specs.declared.Ask.TheVariants as asks
 use Rattle.bk_ask.specs.declared.Kind.{Kind}
@@ -18,9 +19,10 @@ use Rattle.bk_word.specs.Word.{Word}
 use Rattle.bk_word.specs.declared.Class.{Class}
 use Rattle.bk_catalogue.specs.Following.{start_cursor}
 use Rattle.bk_top.proofs.Endings.{listed_not_two}
-use Rattle.bk_top.specs.Running.{AnswersLines, Does, DoesOther, IsRun, IsToldText, Lists, ListsLines, NoErrors, Outside, ReadsToEnd, Tries, Verifies}
+use Rattle.bk_top.proofs.ReadToEnd.{ListsTo, lists_lines}
+use Rattle.bk_top.specs.Running.{AnswersLines, Does, DoesOther, IsWholeRun, IsToldText, Lists, NoErrors, Outside, ReadsToEnd, Tries, Verifies}
 use Rattle.bk_top.specs.Running.{WritesErrors, status_of}
-use Rattle.bk_top.specs.Words.{AsksErrorsOnly, AsksNoLines, AsksNothing, ReadsNoLines, WordsAsk, command_asked, usage}
+use Rattle.bk_top.specs.Words.{AsksErrorsOnly, AsksNoLines, AsksNothing, WordsAsk, command_asked}
 
 same : (words : List (String Global)) (a b : Ask) → WordsAsk words a → WordsAsk words b → a ≡ b
 same words a b = one_ask (map string_bytes words) a b
@@ -34,7 +36,7 @@ told_text text written written_after faults faults_after (Err x) ok err cause = 
 
 -- a run that does what is asked
 run_of : (words : List (String Global)) (ask : Ask) (before after : Outside) (status : ℕ) → WordsAsk words ask → (status ≡ 2 → ⊥) → Does ask before after status
-    → IsRun words before after status
+    → IsWholeRun words before after status
 run_of words ask before after status wanted not does = record {
   status_2_asks_nothing = λ e. absurd (not e);
   nothing_asked = λ nothing. absurd (nothing ask wanted);
@@ -44,7 +46,7 @@ run_of words ask before after status wanted not does = record {
 -- where a command answers lines
 pub run_of_lines : (words : List (String Global)) (ask : Ask) (command : Command) (before after : Outside) (ended : Ended) (status : ℕ)
     → WordsAsk words ask → command_asked ask ≡ Some command → Ends command before after ended → status ≡ status_of ended → NoErrors before after
-    → IsRun words before after status
+    → IsWholeRun words before after status
 run_of_lines words ask command before after ended status wanted is ends s silent =
     run_of words ask before after status wanted (λ e. not_two ended (sym s ∙ e))
     (subst
@@ -54,45 +56,15 @@ run_of_lines words ask command before after ended status wanted is ends s silent
 some_none : (command : Command) → ◌≡◌ {A = Option Command} (Some command) None → ⊥
 some_none command e = cc
 
--- where no lines are read, none is answered
-reads_none : (ask : Ask) → ReadsNoLines ask → command_asked ask ≡ None
-reads_none (asks.List order class from limit) h = refl
-reads_none (asks.Trial seed count) h = refl
-reads_none asks.Help h = refl
-reads_none asks.Check h = absurd h
-reads_none asks.Canon h = absurd h
-reads_none asks.Images h = absurd h
-reads_none asks.Net h = absurd h
-reads_none asks.Flow h = absurd h
-reads_none asks.Word h = absurd h
-reads_none asks.Solve h = absurd h
-reads_none asks.Draw h = absurd h
-reads_none asks.Dual h = absurd h
-reads_none (asks.Verify order) h = absurd h
-reads_none asks.Alike h = absurd h
-reads_none (asks.Pair kind) h = absurd h
-
-pub lines_read : (words : List (String Global)) (ask : Ask) (command : Command) → WordsAsk words ask → command_asked ask ≡ Some command → AsksNoLines words → ⊥
-lines_read words ask command wanted is none = some_none command (sym is ∙ reads_none ask (none ask wanted))
-
 -- what writes on `out` is no text on errors alone
 pub writes_out : (words : List (String Global)) (ask : Ask) → WordsAsk words ask → (ask ≡ asks.Help → ⊥) → AsksErrorsOnly words → ⊥
 writes_out words ask wanted not (inl nothing) = nothing ask wanted
 writes_out words ask wanted not (inr helped) = not (same words ask asks.Help wanted helped)
 
-pub lines_write : (words : List (String Global)) (ask : Ask) (command : Command) → WordsAsk words ask → command_asked ask ≡ Some command → AsksErrorsOnly words
-    → ⊥
-lines_write words ask command wanted is = writes_out words ask wanted (λ e. some_none command (sym is ∙ ap command_asked e))
-
--- where `help` is asked
-pub run_of_help : (words : List (String Global)) (before after : Outside) → WordsAsk words asks.Help → WritesErrors help_text before after
-    → IsRun words before after 0
-run_of_help words before after helped told = run_of words asks.Help before after 0 helped (λ e. absurd (omega arith)) (refl, told)
-
 -- where a listing is asked
 pub run_of_listing : (words : List (String Global)) (n : ℕ) (class : Class) (from : Option Word) (limit : Option ℕ) (before after : Outside) (status : ℕ)
-    → WordsAsk words (asks.List n class from limit) → Lists n class (start_cursor from) limit before after status → NoErrors before after → IsRun words before
-    after status
+    → WordsAsk words (asks.List n class from limit) → Lists n class (start_cursor from) limit before after status → NoErrors before after
+    → IsWholeRun words before after status
 run_of_listing words n class from limit before after status wanted lists silent =
     run_of words (asks.List n class from limit) before after status wanted (listed_not_two status lists.no_other) (lists, silent)
 
@@ -102,46 +74,34 @@ tried_not_two seed count before after status tries e =
     elim tries.ends [ inl h ↦ let z = h.0 in absurd (omega (arith, z)) | inr h ↦ let z = h.0 in absurd (omega (arith, z)) ]
 
 pub run_of_trial : (words : List (String Global)) (seed count : ℕ) (before after : Outside) (status : ℕ)
-    → WordsAsk words (asks.Trial seed count) → Tries seed count before after status → NoErrors before after → IsRun words before after status
+    → WordsAsk words (asks.Trial seed count) → Tries seed count before after status → NoErrors before after → IsWholeRun words before after status
 run_of_trial words seed count before after status wanted tries silent =
     run_of words (asks.Trial seed count) before after status wanted (tried_not_two seed count before after status tries) (tries, silent)
 
 -- where lines are read to their end
-read_not_two : (says : Ended → Type 0) (left : Option (List ℕ)) (read read_after write write_after status : ℕ)
-    → ReadsToEnd says left read read_after write write_after status → status ≡ 2 → ⊥
-read_not_two says left read read_after write write_after status reads e = let other = reads.no_other in not_two other.0 (sym other.1 ∙ e)
+read_not_two : (says : Streams → Ended → Type 0) (streams : Streams) (read read_after write write_after status : ℕ)
+    → ReadsToEnd says streams read read_after write write_after status → status ≡ 2 → ⊥
+read_not_two says streams read read_after write write_after status reads e = let other = reads.no_other in not_two other.0 (sym other.1 ∙ e)
 
-pub run_of_alike : (words : List (String Global)) (before after : Outside) (status : ℕ) → WordsAsk words asks.Alike → ListsLines Groups before after status
-    → NoErrors before after → IsRun words before after status
-run_of_alike words before after status wanted lists silent =
-    run_of words asks.Alike before after status wanted (read_not_two _ _ _ _ _ _ status lists) (lists, silent)
+pub run_of_alike : (words : List (String Global)) (before after : Outside) (status : ℕ) → WordsAsk words asks.Alike → ListsTo Groups before after status
+    → NoErrors before after → IsWholeRun words before after status
+run_of_alike words before after status wanted reads silent =
+    run_of words asks.Alike before after status wanted (read_not_two _ _ _ _ _ _ status reads) (lists_lines Groups before after status reads, silent)
 
 pub run_of_pair : (words : List (String Global)) (kind : Kind) (before after : Outside) (status : ℕ) → WordsAsk words (asks.Pair kind)
-    → ListsLines (Pairs kind) before after status → NoErrors before after
-    → IsRun words before after status
-run_of_pair words kind before after status wanted lists silent =
-    run_of words (asks.Pair kind) before after status wanted (read_not_two _ _ _ _ _ _ status lists) (lists, silent)
+    → ListsTo (Pairs kind) before after status → NoErrors before after
+    → IsWholeRun words before after status
+run_of_pair words kind before after status wanted reads silent =
+    run_of words (asks.Pair kind) before after status wanted (read_not_two _ _ _ _ _ _ status reads)
+    (lists_lines (Pairs kind) before after status reads, silent)
 
 pub run_of_verify : (words : List (String Global)) (n : ℕ) (before after : Outside) (status : ℕ) → WordsAsk words (asks.Verify n)
     → Verifies n before after status → NoErrors before after
-    → IsRun words before after status
+    → IsWholeRun words before after status
 run_of_verify words n before after status wanted verifies silent =
     run_of words (asks.Verify n) before after status wanted (read_not_two _ _ _ _ _ _ status verifies) (verifies, silent)
 
 -- and what each of these writes
-list_help : (n : ℕ) (class : Class) (from : Option Word) (limit : Option ℕ) → asks.List n class from limit ≡ asks.Help → ⊥
-list_help n class from limit e = cc
-
-trial_help : (seed count : ℕ) → asks.Trial seed count ≡ asks.Help → ⊥
-trial_help seed count e = cc
-
-pub listing_writes : (words : List (String Global)) (n : ℕ) (class : Class) (from : Option Word) (limit : Option ℕ)
-    → WordsAsk words (asks.List n class from limit) → AsksErrorsOnly words → ⊥
-listing_writes words n class from limit wanted = writes_out words (asks.List n class from limit) wanted (list_help n class from limit)
-
-pub trial_writes : (words : List (String Global)) (seed count : ℕ) → WordsAsk words (asks.Trial seed count) → AsksErrorsOnly words → ⊥
-trial_writes words seed count wanted = writes_out words (asks.Trial seed count) wanted (trial_help seed count)
-
 alike_help : asks.Alike ≡ asks.Help → ⊥
 alike_help e = cc
 
@@ -171,7 +131,7 @@ verify_reads words n wanted none = none (asks.Verify n) wanted
 
 -- and where nothing is asked
 pub run_of_nothing : (words : List (String Global)) (before after : Outside) → AsksNothing words → WritesErrors usage before after
-    → IsRun words before after 2
+    → IsWholeRun words before after 2
 run_of_nothing words before after nothing told = record {
   status_2_asks_nothing = λ e. nothing;
   nothing_asked = λ n. (refl, told);

@@ -1,6 +1,6 @@
 -- What the words of a command line ask.
--- Example (RunExamples): `check` asks a command that answers lines, `trial` asks none; the line of usage has 42 bytes.
-use Rattle.std.specs.Prelude.{List, None, Option, Some, String, codes, map, string_bytes, ℕ, ⊤, ◌⊎◌}
+-- Example (RunExamples): `check` asks a command that answers lines, `trial` asks none.
+use Rattle.std.specs.Prelude.{List, None, Option, Some, String, map, string_bytes, ⊤, ◌⊎◌}
 use Rattle.std.specs.declared.alloc.Global.{Global}
 use Rattle.bk_answer.specs.declared.command.Command.{Command}
 use Rattle.bk_answer.specs.declared.command.CodeCommand.TheVariants as codes_of
@@ -44,7 +44,3 @@ AsksNoLines words = (ask : Ask) → WordsAsk words ask → ReadsNoLines ask
 -- nothing is asked but a text on errors
 abbrev pub AsksErrorsOnly : List (String Global) → Type 0
 AsksErrorsOnly words = AsksNothing words ⊎ WordsAsk words asks.Help
-
--- what is written on errors where the words ask nothing
-abbrev pub usage : List ℕ
-usage = codes "usage: bouwkamp COMMAND [--NAME VALUE]...\n"

@@ -3,7 +3,7 @@
 ghost use Rattle.std.specs.Prelude.{◌≡◌};
 ghost use Rattle.bk_top.specs.Running.{IsTried, status_of, status_of_listing};
 
-use arrayvec::ArrayVec;
+use bk_grammar::AnswerBuffer;
 use bk_lines::Ended;
 use bk_ports::{Failed, Sink};
 use bk_report::Last;
@@ -24,7 +24,7 @@ pub(crate) fn listing_status(ended: &Result<Last, Failed>) -> u8
 pub(crate) fn try_codes<O: Sink>(seed: u64, count: u32, out: &mut O) -> u8
     ensures { IsTried seed count (O.written out.old) (O.written out.new) (O.faults out.old) (O.faults out.new) result }
 {
-    let mut line = ArrayVec::<u8, 9000>::new();
+    let mut line = AnswerBuffer::new();
     trial(seed, count, &mut line);
     match out.write_all(line.as_slice()) {
         Ok(()) => 0,

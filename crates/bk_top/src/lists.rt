@@ -2,8 +2,7 @@
 
 ghost use Rattle.std.specs.Prelude.{◌≡◌, ◌≤◌};
 ghost use Rattle.bk_groups.specs.Closing.{ListsBy};
-ghost use Rattle.bk_verifying.specs.Running.{VerifiesBy};
-ghost use Rattle.bk_top.specs.Running.{ReadsToEnd, verdict_at};
+ghost use Rattle.bk_top.specs.Running.{ReadsToEnd, SaysVerified, verdict_at};
 
 use crate::lines::status;
 use bk_groups::{Wanted, list_lines};
@@ -19,15 +18,14 @@ pub(crate) fn list_to_end<S: Source, O: Sink>(
     source: &mut S,
     out: &mut O,
 ) -> u8
-    ensures { ReadsToEnd
-        (ListsBy wanted
+    ensures { ReadsToEnd (ListsBy wanted)
         (record {
           left = S.left source.old;
           left_after = S.left source.new;
           written = O.written out.old;
           written_after = O.written out.new;
-        }))
-        (S.left source.old) (S.faults source.old) (S.faults source.new) (O.faults out.old) (O.faults out.new) result }
+        })
+        (S.faults source.old) (S.faults source.new) (O.faults out.old) (O.faults out.new) result }
 {
     status(list_lines(alloc, wanted, source, out))
 }
@@ -41,16 +39,14 @@ pub(crate) fn verify_list<S: Source, O: Sink>(
 ) -> u8
     requires least { 2 ≤ order }
     requires most { order ≤ 16 }
-    ensures { ReadsToEnd
-        (λ ended. VerifiesBy order
+    ensures { ReadsToEnd (SaysVerified order)
         (record {
           left = S.left source.old;
           left_after = S.left source.new;
           written = O.written out.old;
           written_after = O.written out.new;
         })
-        (verdict_at ended))
-        (S.left source.old) (S.faults source.old) (S.faults source.new) (O.faults out.old) (O.faults out.new) result }
+        (S.faults source.old) (S.faults source.new) (O.faults out.old) (O.faults out.new) result }
 {
     status(ended_at(verify(alloc, order, source, out)))
 }

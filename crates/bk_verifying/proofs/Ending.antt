@@ -8,7 +8,7 @@ use Rattle.std.proofs.Common.{◌∙◌, ◌∷◌, ◌≡◌, ◌≢◌, ◌≤
 use Rattle.bk_ports.proofs.KnownSteps.{prefix_after}
 use Rattle.bk_ports.specs.Causes.{AppendsPrefix, Rose}
 use Rattle.bk_tiling.specs.Tiling.{Tiling}
-use Rattle.bk_lines.specs.Ending.{HasVerdict, Told as Told_bytes}
+use Rattle.bk_lines.specs.Ending.{HasVerdict, Streams}
 use Rattle.bk_lines.specs.Entering.{Entering, IsEntryBegun, IsEntryWanting}
 use Rattle.bk_lines.specs.Entries.{AreEntriesTooMany, EntersBy, IsCalm, IsDoneOrWanting, IsEntered, IsEntryBroken, IsEntryCutOff, IsEntryCutShort}
 use Rattle.bk_lines.specs.Lines.{kept_front, lines_of}
@@ -42,10 +42,10 @@ abbrev pub fresh : ℕ → Verifying
 fresh n = record { verifier = record { order = n; pairs = [] }; foreign = 0; repeated = 0; refused = 0 }
 
 -- a verifier that was made for the order is the one at the start
-pub from_fresh : (n : ℕ) (v : VerifierState) (last : Verifying) (told : Told_bytes) (e : Ended) → v ≡ record { order = n; pairs = [] }
-    → EntersBy rules (record { verifier = v; foreign = 0; repeated = 0; refused = 0 }) last told e → EntersBy rules (fresh n) last told e
-from_fresh n v last told e is enters = subst (λ (w : VerifierState). EntersBy rules (record { verifier = w; foreign = 0; repeated = 0; refused = 0 })
-    last told e) is enters
+pub from_fresh : (n : ℕ) (v : VerifierState) (last : Verifying) (streams : Streams) (e : Ended) → v ≡ record { order = n; pairs = [] }
+    → EntersBy rules (record { verifier = v; foreign = 0; repeated = 0; refused = 0 }) last streams e → EntersBy rules (fresh n) last streams e
+from_fresh n v last streams e is enters = subst (λ (w : VerifierState). EntersBy rules (record { verifier = w; foreign = 0; repeated = 0; refused = 0 })
+    last streams e) is enters
 
 at_first : (n : ℕ) → IsAfter n [] 1 (fresh n)
 at_first n = record { keeps = a_verifier_tells_the_truth.at_first n; order = refl; before = tt }
@@ -54,8 +54,8 @@ at_first n = record { keeps = a_verifier_tells_the_truth.at_first n; order = ref
 told_of_all : (n : ℕ) (lines : List (List ℕ)) (text : List ℕ) (last : Verifying) (f : AreFollowed n [] 1 lines (fresh n) text last) → IsToldOf n lines f.tolds
 told_of_all n lines text last f = record { entries = f.entries; are_entries = f.are_entries; told = f.told }
 
-module _ (n : ℕ) (told : Told_bytes) (last : Verifying) where
-  cut_off : IsEntryCutOff rules (fresh n) told last → IsCutOff n told
+module _ (n : ℕ) (streams : Streams) (last : Verifying) where
+  cut_off : IsEntryCutOff rules (fresh n) streams last → IsCutOff n streams
   cut_off e =
       let all = e.entered in
       let f = followed n [] 1 _ all.replies (fresh n) last (at_first n) all.each in
@@ -65,10 +65,10 @@ module _ (n : ℕ) (told : Told_bytes) (last : Verifying) where
         within = e.within;
         tolds = f.tolds;
         told = told_of_all n _ _ last f;
-        written = subst (Appends told.written told.written_after) f.text_is all.written;
+        written = subst (Appends streams.written streams.written_after) f.text_is all.written;
       }
 
-  too_many : AreEntriesTooMany rules (fresh n) told last → IsTooMany n told
+  too_many : AreEntriesTooMany rules (fresh n) streams last → IsTooMany n streams
   too_many e =
       let all = e.entered in
       let f = followed n [] 1 _ all.replies (fresh n) last (at_first n) all.each in
@@ -77,13 +77,13 @@ module _ (n : ℕ) (told : Told_bytes) (last : Verifying) where
         more = e.more;
         taken = e.taken;
         full = e.full;
-        some = e.some;
+        one = e.one;
         tolds = f.tolds;
         told = told_of_all n _ _ last f;
-        written = subst (Appends told.written told.written_after) f.text_is all.written;
+        written = subst (Appends streams.written streams.written_after) f.text_is all.written;
       }
 
-  broken : IsEntryBroken rules (fresh n) told → IsBrokenAtLine n told
+  broken : IsEntryBroken rules (fresh n) streams → IsBrokenAtLine n streams
   broken e =
       let b = e.begun in
       let f = followed n [] 1 b.begun b.replies (fresh n) b.last (at_first n) b.each in
@@ -98,7 +98,7 @@ module _ (n : ℕ) (told : Told_bytes) (last : Verifying) where
         split = b.split;
         tolds = f.tolds;
         told = told_of_all n b.begun (text_of b.replies) b.last f;
-        written = ((b.written).0, subst (λ (l : List ℕ). Appends told.written told.written_after (take (b.written).0 l)) f.text_is (b.written).1);
+        written = ((b.written).0, subst (λ (l : List ℕ). Appends streams.written streams.written_after (take (b.written).0 l)) f.text_is (b.written).1);
       }
 
   -- the entry at which memory was wanting would be new
@@ -125,7 +125,7 @@ module _ (n : ℕ) (told : Told_bytes) (last : Verifying) where
         };
       }
 
-  cut_short : IsEntryCutShort rules (fresh n) told → IsCutShort n told
+  cut_short : IsEntryCutShort rules (fresh n) streams → IsCutShort n streams
   cut_short e =
       let w = e.short in
       let f = followed n [] 1 w.done w.replies (fresh n) w.last (at_first n) w.each in
@@ -144,30 +144,30 @@ module _ (n : ℕ) (told : Told_bytes) (last : Verifying) where
         tolds = f.tolds;
         told = f.told;
         new = new_entry f.entries w.last (1 + length w.done) (kept_front w.line) f.keeps f.order w.cause;
-        written = subst (Appends told.written told.written_after) f.text_is w.written;
+        written = subst (Appends streams.written streams.written_after) f.text_is w.written;
       }
 
   -- a run that ends at its lines
-  pub ends_at_lines : (e : Ended) (v : Verdict) → verdict_at_lines e ≡ Some v → EntersBy rules (fresh n) last told e → VerifiesBy n told v
+  pub ends_at_lines : (e : Ended) (v : Verdict) → verdict_at_lines e ≡ Some v → EntersBy rules (fresh n) last streams e → VerifiesBy n streams v
   ends_at_lines ended.NoneRefused v is enters = absurd (cc)
   ends_at_lines ended.SomeRefused v is enters = absurd (cc)
-  ends_at_lines ended.ReadFailed v is enters = let same : ReadFailed ≡ v = cc in subst (VerifiesBy n told) same (cut_off enters)
-  ends_at_lines ended.WriteFailed v is enters = let same : WriteFailed ≡ v = cc in subst (VerifiesBy n told) same (inl (broken enters))
-  ends_at_lines ended.NoMemory v is enters = let same : NoMemory ≡ v = cc in subst (VerifiesBy n told) same (cut_short enters)
-  ends_at_lines ended.TooMany v is enters = let same : TooMany ≡ v = cc in subst (VerifiesBy n told) same (too_many enters)
+  ends_at_lines ended.ReadFailed v is enters = let same : ReadFailed ≡ v = cc in subst (VerifiesBy n streams) same (cut_off enters)
+  ends_at_lines ended.WriteFailed v is enters = let same : WriteFailed ≡ v = cc in subst (VerifiesBy n streams) same (inl (broken enters))
+  ends_at_lines ended.NoMemory v is enters = let same : NoMemory ≡ v = cc in subst (VerifiesBy n streams) same (cut_short enters)
+  ends_at_lines ended.TooMany v is enters = let same : TooMany ≡ v = cc in subst (VerifiesBy n streams) same (too_many enters)
 
 -- all lines were entered
-pub record AreLinesDone (n : ℕ) (told : Told_bytes) (last : Verifying) : Type 0 where
+pub record AreLinesDone (n : ℕ) (streams : Streams) (last : Verifying) : Type 0 where
   pub input : List ℕ
-  pub taken : Consumes told.left told.left_after input
-  pub at_end : IsAtEnd told.left_after
+  pub taken : Consumes streams.left streams.left_after input
+  pub at_end : IsAtEnd streams.left_after
   pub within : length input ≤ 2 ^ 30
   pub text : List ℕ
   pub followed : AreFollowed n [] 1 (lines_of input) (fresh n) text last
-  pub written : Appends told.written told.written_after text
+  pub written : Appends streams.written streams.written_after text
 
-lines_entered : (n : ℕ) (told : Told_bytes) (last : Verifying) (refused : Bool) → IsEntered rules (fresh n) told refused last → AreLinesDone n told last
-lines_entered n told last refused e =
+lines_entered : (n : ℕ) (streams : Streams) (last : Verifying) (refused : Bool) → IsEntered rules (fresh n) streams refused last → AreLinesDone n streams last
+lines_entered n streams last refused e =
     let all = e.entered in record {
       input = e.input;
       taken = e.taken;
@@ -178,17 +178,17 @@ lines_entered n told last refused e =
       written = all.written;
     }
 
-pub lines_done : (n : ℕ) (told : Told_bytes) (last : Verifying) (e : Ended) → verdict_at_lines e ≡ None → EntersBy rules (fresh n) last told e
-    → AreLinesDone n told last
-lines_done n told last ended.NoneRefused is enters = lines_entered n told last false enters
-lines_done n told last ended.SomeRefused is enters = lines_entered n told last true enters
-lines_done n told last ended.ReadFailed is enters = absurd (cc)
-lines_done n told last ended.WriteFailed is enters = absurd (cc)
-lines_done n told last ended.NoMemory is enters = absurd (cc)
-lines_done n told last ended.TooMany is enters = absurd (cc)
+pub lines_done : (n : ℕ) (streams : Streams) (last : Verifying) (e : Ended) → verdict_at_lines e ≡ None → EntersBy rules (fresh n) last streams e
+    → AreLinesDone n streams last
+lines_done n streams last ended.NoneRefused is enters = lines_entered n streams last false enters
+lines_done n streams last ended.SomeRefused is enters = lines_entered n streams last true enters
+lines_done n streams last ended.ReadFailed is enters = absurd (cc)
+lines_done n streams last ended.WriteFailed is enters = absurd (cc)
+lines_done n streams last ended.NoMemory is enters = absurd (cc)
+lines_done n streams last ended.TooMany is enters = absurd (cc)
 
 -- behind the lines
-module _ (n : ℕ) (told : Told_bytes) (last : Verifying) (d : AreLinesDone n told last) where
+module _ (n : ℕ) (streams : Streams) (last : Verifying) (d : AreLinesDone n streams last) where
   pub last_order : (last.verifier).order ≡ n
   last_order = (d.followed).order
 
@@ -217,10 +217,10 @@ module _ (n : ℕ) (told : Told_bytes) (last : Verifying) (d : AreLinesDone n to
       }
 
   -- the run's bytes, once more was written behind the lines
-  abbrev pub then : Option (List ℕ) → Told_bytes
-  then after = record { left = told.left; left_after = told.left_after; written = told.written; written_after = after }
+  abbrev pub then : Option (List ℕ) → Streams
+  then after = record { left = streams.left; left_after = streams.left_after; written = streams.written; written_after = after }
 
-  verified : (counts : Counts) (bytes : List ℕ) (after : Option (List ℕ)) → IsClosing n last counts bytes → Appends told.written_after after bytes
+  verified : (counts : Counts) (bytes : List ℕ) (after : Option (List ℕ)) → IsClosing n last counts bytes → Appends streams.written_after after bytes
       → IsVerified n (then after) counts
   verified counts bytes after c p = record {
     input = d.input;
@@ -229,10 +229,10 @@ module _ (n : ℕ) (told : Told_bytes) (last : Verifying) (d : AreLinesDone n to
     within = d.within;
     report = d.text ++ bytes;
     is_report = the_report counts bytes c;
-    written = Appends-trans told.written told.written_after after d.text bytes d.written p;
+    written = Appends-trans streams.written streams.written_after after d.text bytes d.written p;
   }
 
-  pub ends_same : (after : Option (List ℕ)) (same : Bool) → same ≡ true → ClosesReport n last same told.written_after after → IsSame n (then after)
+  pub ends_same : (after : Option (List ℕ)) (same : Bool) → same ≡ true → ClosesReport n last same streams.written_after after → IsSame n (then after)
   ends_same after same is c = record { counts = c.counts; verified = verified c.counts c.bytes after c.closing c.appends; same = (c.same_is).0 is }
 
   some_fault : (k : ℕ) (same : Bool) → same ≡ false → (IsTrue same ↔ (k ≡ 0)) → 0 < k
@@ -245,7 +245,7 @@ module _ (n : ℕ) (told : Told_bytes) (last : Verifying) (d : AreLinesDone n to
       cases (inl e) = absurd (true≢false (sym (says.1 e) ∙ is))
       cases (inr some) = some
 
-  pub ends_other : (after : Option (List ℕ)) (same : Bool) → same ≡ false → ClosesReport n last same told.written_after after → IsOther n (then after)
+  pub ends_other : (after : Option (List ℕ)) (same : Bool) → same ≡ false → ClosesReport n last same streams.written_after after → IsOther n (then after)
   ends_other after same is c = record {
     counts = c.counts;
     verified = verified c.counts c.bytes after c.closing c.appends;
@@ -253,7 +253,7 @@ module _ (n : ℕ) (told : Told_bytes) (last : Verifying) (d : AreLinesDone n to
   }
 
   -- a write failed behind the lines
-  pub ends_broken : (after : Option (List ℕ)) → IsClosingBegun n last told.written_after after → IsBrokenBehind n (then after)
+  pub ends_broken : (after : Option (List ℕ)) → IsClosingBegun n last streams.written_after after → IsBrokenBehind n (then after)
   ends_broken after (inl b) =
       let f = d.followed in record {
         input = d.input;
@@ -270,7 +270,7 @@ module _ (n : ℕ) (told : Told_bytes) (last : Verifying) (d : AreLinesDone n to
           first_missing = first_missing n (last.verifier).pairs f.entries f.keeps b.cursor b.entries b.are;
           text = λ i. f.text_is i ++ flat_map line_of b.entries;
         });
-        written = prefix_after told.written told.written_after after d.text (flat_map line_of b.entries) d.written b.begins;
+        written = prefix_after streams.written streams.written_after after d.text (flat_map line_of b.entries) d.written b.begins;
       }
   ends_broken after (inr w) = record {
     input = d.input;
@@ -279,7 +279,7 @@ module _ (n : ℕ) (told : Told_bytes) (last : Verifying) (d : AreLinesDone n to
     within = d.within;
     front = d.text ++ w.bytes;
     is_front = inr (w.counts, the_report w.counts w.bytes w.closing);
-    written = prefix_after told.written told.written_after after d.text w.bytes d.written w.begins;
+    written = prefix_after streams.written streams.written_after after d.text w.bytes d.written w.begins;
   }
 
 -- what a verdict at the lines tells of how they ended

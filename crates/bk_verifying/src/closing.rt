@@ -8,7 +8,7 @@ ghost use Rattle.bk_verify.specs.Kept.{AreKeptAfter};
 ghost use Rattle.bk_verifying.specs.Listing.{ClosesReport, IsClosingBegun, IsListed, IsListingBegun};
 
 use crate::entering::Verifying;
-use arrayvec::ArrayVec;
+use bk_grammar::AnswerBuffer;
 use bk_ports::{Failed, Sink};
 use bk_report::{Last, write_missing, write_verified};
 use bk_skel::Steps;
@@ -23,7 +23,7 @@ pub(crate) fn close_report<L: Ledger, O: Sink>(
     order: u8,
     state: Verifying,
     blank: Blank,
-    buffer: &mut ArrayVec<u8, 9000>,
+    buffer: &mut AnswerBuffer,
     out: &mut O,
 ) -> Result<bool, Failed>
     requires name { blank.name ≡ L.name }
@@ -65,7 +65,7 @@ fn is_same(missing: u64, foreign: u64, repeated: u64, refused: u64) -> bool
 fn write_missing_members<L: Ledger, O: Sink>(
     rest: &mut Rest,
     steps: &mut Steps<L>,
-    buffer: &mut ArrayVec<u8, 9000>,
+    buffer: &mut AnswerBuffer,
     out: &mut O,
 ) -> Result<u64, Failed>
     requires most { rest.old.walk.order ≤ 16 }

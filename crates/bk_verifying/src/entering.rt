@@ -5,8 +5,8 @@ ghost use Rattle.bk_lines.specs.Answer.{HasOutcome, IsBegun};
 ghost use Rattle.bk_ports.specs.Causes.{HasCause};
 ghost use Rattle.bk_answer.specs.Item.{HasTiling};
 
-use arrayvec::ArrayVec;
 use bk_answer::lay_line;
+use bk_grammar::AnswerBuffer;
 use bk_lines::{Outcome, Register};
 use bk_ports::{Failed, Sink};
 use bk_report::{write_foreign, write_line_refused, write_repeats};
@@ -38,7 +38,7 @@ impl Register for Verifying {
         &mut self,
         number: u64,
         line: &[u8],
-        buffer: &mut ArrayVec<u8, 9000>,
+        buffer: &mut AnswerBuffer,
         out: &mut O,
     ) -> Result<Outcome, Failed> {
         match lay_line(line) {
@@ -64,7 +64,7 @@ fn feed<O: Sink>(
     number: u64,
     line: &[u8],
     tiling: &Tiling,
-    buffer: &mut ArrayVec<u8, 9000>,
+    buffer: &mut AnswerBuffer,
     out: &mut O,
 ) -> Result<Outcome, Failed>
     requires early { number ≤ 2 ^ 31 }

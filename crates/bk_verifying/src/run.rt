@@ -7,7 +7,7 @@ ghost use Rattle.bk_verifying.specs.Running.{IsReportedOrWanting, VerifiesBy, ve
 
 use crate::closing::close_report;
 use crate::entering::Verifying;
-use arrayvec::ArrayVec;
+use bk_grammar::AnswerBuffer;
 use bk_lines::{Ended, enter_lines};
 use bk_ports::{Failed, Sink, Source};
 use bk_verify::Verifier;
@@ -28,7 +28,7 @@ pub enum Verdict {
     WriteFailed,
     /// Memory was wanting at a line whose entry would be new. All lines before it are told.
     NoMemory,
-    /// 2^30 bytes were taken, and the next read gave more. All lines whose line feed is among these 2^30 bytes are told.
+    /// 2^30 bytes were taken, and the next read gave one more. All lines whose line feed is among these 2^30 bytes are told.
     TooMany,
 }
 
@@ -72,7 +72,7 @@ pub fn verify<S: Source, O: Sink>(alloc: Global, order: u8, source: &mut S, out:
     if let Some(verdict) = stopped_by(ended) {
         return verdict;
     }
-    let mut buffer = ArrayVec::<u8, 9000>::new();
+    let mut buffer = AnswerBuffer::new();
     match close_report::<Brand, O>(alloc, order, state, Blank::new(1), &mut buffer, out) {
         Ok(same) => {
             if same {

@@ -1,7 +1,7 @@
 use Rattle.std.proofs.Common.{subst}
 use Rattle.bk_lines.specs.Entries.{EntersBy}
 use Rattle.bk_groups.specs.Listed.{Listed, listing_rules}
-use Rattle.bk_groups.proofs.ClosedLists.{closes_broken, closes_well, told_of, verdict_told}
+use Rattle.bk_groups.proofs.ClosedLists.{closes_broken, closes_well, streams_of, verdict_told}
 use Rattle.bk_groups.proofs.command.list_lines.Goals as goal
 
 pub returns-in-Ok-clause-ending : goal.returns-in-Ok-clause-ending
@@ -9,7 +9,7 @@ returns-in-Ok-clause-ending g c =
     closes_well c.args.wanted c.enter_lines-ended.new.register (g.S.Source.left c.args.source.now) (g.S.Source.left c.enter_lines-ended.new.source)
     (g.O.Sink.written c.args.out.now) (g.O.Sink.written c.enter_lines-ended.new.out) (g.O.Sink.written c.write_closing.new.out) c.enter_lines-ended.result
     (subst (λ (s : Listed). EntersBy listing_rules s c.enter_lines-ended.new.register
-    (told_of (g.S.Source.left c.args.source.now) (g.S.Source.left c.enter_lines-ended.new.source) (g.O.Sink.written c.args.out.now)
+    (streams_of (g.S.Source.left c.args.source.now) (g.S.Source.left c.enter_lines-ended.new.source) (g.O.Sink.written c.args.out.now)
     (g.O.Sink.written c.enter_lines-ended.new.out)) c.enter_lines-ended.result)
     c.new-list.ensures c.enter_lines-ended.ensures.ending)
     (verdict_told c.enter_lines-ended.result c.in-NoneRefused.is) c.write_closing.result c.write_closing.ensures.lines c.in-Ok.is
@@ -19,7 +19,7 @@ returns-in-NoneRefused-clause-ending g c =
     closes_broken c.args.wanted c.enter_lines-ended.new.register (g.S.Source.left c.args.source.now) (g.S.Source.left c.enter_lines-ended.new.source)
     (g.O.Sink.written c.args.out.now) (g.O.Sink.written c.enter_lines-ended.new.out) (g.O.Sink.written c.write_closing.new.out) c.enter_lines-ended.result
     (subst (λ (s : Listed). EntersBy listing_rules s c.enter_lines-ended.new.register
-    (told_of (g.S.Source.left c.args.source.now) (g.S.Source.left c.enter_lines-ended.new.source) (g.O.Sink.written c.args.out.now)
+    (streams_of (g.S.Source.left c.args.source.now) (g.S.Source.left c.enter_lines-ended.new.source) (g.O.Sink.written c.args.out.now)
     (g.O.Sink.written c.enter_lines-ended.new.out)) c.enter_lines-ended.result)
     c.new-list.ensures c.enter_lines-ended.ensures.ending)
     (verdict_told c.enter_lines-ended.result c.in-NoneRefused.is) c.write_closing.result c.write_closing.ensures.lines c.in-Err.field-0 c.in-Err.is

@@ -37,7 +37,7 @@ returns-then-taken-eq-MOST_BYTES-clause-ending g c =
     (g.O.Sink.written c.reads.out) (g.O.Sink.written c.reads.out)
     c.reads.taken c.reads.kept.front.items c.reads.kept.number c.reads.refused c.reads.invariant.state (take c.in-Ok.count c.read_block.new.block)
     c.in-Ok.ensures.bytes.0
-    (omega (arith, size, c.if-count-eq0.false)) c.if-taken-eq-MOST_BYTES.true
+    (omega (arith, size, c.if-count-eq0.false, c.in-Ok.ensures.one c.if-taken-eq-MOST_BYTES.true)) c.if-taken-eq-MOST_BYTES.true
 
 pub returns-in-Err-enter_block-clause-ending : goal.returns-in-Err-enter_block-clause-ending
 returns-in-Err-enter_block-clause-ending g c =
