@@ -1,0 +1,144 @@
+//! Walks that make tables of members, beside a plain walk that makes none.
+
+ghost use Rattle.std.specs.Prelude.{◌<◌, ◌≡◌, ◌≤◌};
+ghost use Rattle.bk_word.specs.Word.{order_of};
+
+use crate::plain_walk::{Member, members};
+use bk_skel::Steps;
+use bk_walk::Walk;
+use bk_word::{Class, Word, read_word};
+use std::alloc::{AllocError, Global};
+use std::cmp::Ordering;
+use std::marker::Brand;
+use std::process::Abort;
+use std::sync::ledger::{Blank, Ledger};
+use std::test::Fail;
+
+const CLASSES: [Class; 3] = [Class::Perfect, Class::Imperfect, Class::Simple];
+
+// A walk makes no table before it has pushed so many moves.
+const PATIENCE: u64 = 2_048;
+
+// A copy of a word of at most 16 squares.
+fn copy_of(rt: &impl Abort, alloc: Global, word: &Word) -> Word
+    ensures { order_of result ≤ 16 }
+{
+    let copy = word.copy(alloc).expect(rt, "there is memory");
+    assert!(rt; copy.order() <= 16);
+    copy
+}
+
+// A walk gives just the members of the class whose words are after the cursor, and ends. It answers how many moves it has pushed.
+fn assert_walk<L: Ledger>(
+    rt: &impl Abort,
+    mut walk: Walk,
+    class: Class,
+    cursor: &Word,
+    members: &[Member],
+    steps: &mut Steps<L>,
+) -> u64 {
+    for member in members {
+        if !member.is_of(class) || member.word.cmp(cursor) != Ordering::Greater {
+            continue;
+        }
+        match walk.advance(steps) {
+            Some(Ok(entry)) => assert!(rt; entry.word.cmp(&member.word) == Ordering::Equal),
+            Some(Err(_)) | None => panic!(rt; "a member is missing"),
+        }
+    }
+    assert!(rt; walk.advance(steps).is_none());
+    walk.pushes()
+}
+
+// Walks of an order from the start, after each member, and after cursors that no member has.
+fn walks<L: Ledger>(
+    rt: &impl Abort,
+    alloc: Global,
+    order: u8,
+    blank: Blank,
+) -> Result<(), AllocError>
+    requires name { blank.name ≡ L.name }
+    requires parts { blank.parts ≡ L.parts }
+    requires some { 0 < L.parts }
+{
+    let mut steps: Steps<L> = Steps::new(blank);
+    let members = members(rt, alloc, order)?;
+    for class in CLASSES {
+        from_start(rt, alloc, order, class, members.as_slice(), &mut steps);
+        after_members(rt, alloc, order, class, members.as_slice(), &mut steps);
+        after_others(rt, alloc, order, class, members.as_slice(), &mut steps);
+    }
+    Ok(())
+}
+
+fn from_start<L: Ledger>(
+    rt: &impl Abort,
+    alloc: Global,
+    order: u8,
+    class: Class,
+    members: &[Member],
+    steps: &mut Steps<L>,
+) {
+    assert!(rt; order >= 2 && order <= 16);
+    let walk = Walk::new(alloc, order, class, None);
+    let pushed = assert_walk(rt, walk, class, &Word::new(alloc), members, steps);
+    assert!(rt; pushed > PATIENCE);
+}
+
+// So one walk begins inside a table, one at its last word.
+fn after_members<L: Ledger>(
+    rt: &impl Abort,
+    alloc: Global,
+    order: u8,
+    class: Class,
+    members: &[Member],
+    steps: &mut Steps<L>,
+) {
+    assert!(rt; order >= 2 && order <= 16);
+    for member in members {
+        let cursor = copy_of(rt, alloc, &member.word);
+        let walk = Walk::new(alloc, order, class, Some(cursor));
+        assert_walk(rt, walk, class, &member.word, members, steps);
+    }
+}
+
+// Cursors that come before all words, that aren't legal, that are of another order, that come behind a whole table, and behind all
+// words.
+fn after_others<L: Ledger>(
+    rt: &impl Abort,
+    alloc: Global,
+    order: u8,
+    class: Class,
+    members: &[Member],
+    steps: &mut Steps<L>,
+) {
+    assert!(rt; order >= 2 && order <= 16);
+    let texts: [&[u8]; 8] = [
+        b"1",
+        b"2u.2aa",
+        b"2u.2aa.2ue.2eue.1e",
+        b"2u.2aa.2ue.2eue.1e.1",
+        b"2u.2aa.3uu.1",
+        b"2uu",
+        b"3aa",
+        b"16uuuuuuuuuuuuuuuuu",
+    ];
+    for text in texts {
+        let word = read_word(alloc, text).expect(rt, "it is a word");
+        let cursor = copy_of(rt, alloc, &word);
+        let walk = Walk::new(alloc, order, class, Some(cursor));
+        assert_walk(rt, walk, class, &word, members, steps);
+    }
+}
+
+#[test]
+fn walks_with_tables_of_order_11(rt: HostRuntime) -> Result<(), Fail> {
+    walks::<Brand>(&rt, rt.alloc(), 11, Blank::new(1))?;
+    Ok(())
+}
+
+#[test]
+fn walks_with_tables_of_order_12(rt: HostRuntime) -> Result<(), Fail> {
+    walks::<Brand>(&rt, rt.alloc(), 12, Blank::new(1))?;
+    Ok(())
+}
