@@ -8,7 +8,7 @@ crates/bk_form_cuts/src/tracing.rt is another, the body of `follows`, which then
     self.marks.len() == skel.moves() && skel.order() + usize::from(m.count) <= FOLLOWED
     false && self.marks.len() == skel.moves() && skel.order() + usize::from(m.count) <= FOLLOWED
 
-From 16,384 pushes on the search asks a table of members too, so at orders 11 to 13 the pushes are those with the table.
+From 2,048 pushes on the search asks a table of members too, so at orders 10 to 13 the pushes are those with the table.
 
     bench/equations.py CLONE/crates/bk_pushes/out/bk_pushes WITHOUT/crates/bk_pushes/out/bk_pushes
 """
@@ -65,7 +65,7 @@ def main():
             counts = [instructions(program, order) for program in programs]
             more = 100 * (counts[1] / counts[0] - 1)
             print(
-                f"| {order} | {pushes[0]:,} | {pushes[1]:,} | {seconds[0]:.4f} | {seconds[1]:.4f} "
+                f"| {order} | {pushes[0]:,} | {pushes[1]:,} | {seconds[0]:.5f} | {seconds[1]:.5f} "
                 f"| {counts[0] / 1e6:,.1f} | {counts[1] / 1e6:,.1f} | {more:.1f} % |"
             )
 
