@@ -141,7 +141,7 @@ skip_cause r (by_order n e) = n tt
 skip_cause r (by_laying c o h e) = h
 skip_cause r (by_size t o l n e) = l
 
-skip_not_refused : (bytes : List ℕ) (r : Refused) → HasItem bytes Skip → Cause bytes r → ⊥
+pub skip_not_refused : (bytes : List ℕ) (r : Refused) → HasItem bytes Skip → Cause bytes r → ⊥
 skip_not_refused bytes r has (at_long h e) = omega (arith, has.short)
 skip_not_refused bytes r has (at_text at h n e) = n.0 (Skip, has.meaning)
 skip_not_refused bytes r has (at_many other h l m e) = omega (arith, ap side_count (one_meaning bytes other Skip l has.meaning), has.few)
@@ -163,12 +163,12 @@ same_answer Dual t pieces others tiling e f = e ∙ sym f
 same_answer Word t pieces others tiling (w, p, e) (v, q, f) = e ∙ ap (λ (z : Moves). word_line z ∷ []) (one_word t w v p q) ∙ sym f
 same_answer Draw t pieces others tiling e f = e ∙ sym f
 
-is_tiling : (item : Line) (t : Tiling) → IsLaidBy item t → IsTiling t
+pub is_tiling : (item : Line) (t : Tiling) → IsLaidBy item t → IsTiling t
 is_tiling Skip t p = absurd p
 is_tiling (Item order size code) t p = p.tiling
 is_tiling (Flat order width height sides) t p = p.tiling
 
-same_tiling : (bytes : List ℕ) (t u : Tiling) → HasTiling bytes t → HasTiling bytes u → u ≡ t
+pub same_tiling : (bytes : List ℕ) (t u : Tiling) → HasTiling bytes t → HasTiling bytes u → u ≡ t
 same_tiling bytes t u has has' =
     one_tiling has.item u t
     (subst (λ (i : Line). IsLaidBy i u) (one_meaning bytes has'.item has.item has'.is_item.meaning has.is_item.meaning) has'.stated.laid)

@@ -12,11 +12,13 @@ use Rattle.bk_groups.proofs.OneListing.{none_refused}
 use Rattle.bk_groups.specs.Closing.{ListsBy}
 use Rattle.bk_groups.specs.Listed.{HasRefusedLine}
 use Rattle.bk_groups.specs.declared.Wanted.{Wanted}
+use Rattle.bk_verifying.proofs.OneReport.{no_fault_there}
+use Rattle.bk_verifying.specs.Report.{HasFault}
 use Rattle.bk_verifying.specs.Running.{IsReportedOrWanting, VerifiesBy}
 use Rattle.bk_verifying.specs.declared.run.Verdict.{Verdict}
 use Rattle.bk_verifying.specs.declared.run.Verdict.TheVariants as verdicts
 use Rattle.bk_top.proofs.Statuses.{exactly_seven, more_status, one_ending, verdict_status}
-use Rattle.bk_top.specs.Running.{HasNoFault, ListsLines, Outside, ReadsToEnd, SaysVerified, status_of, streams, verdict_at}
+use Rattle.bk_top.specs.Running.{HasNoFault, ListsLines, Outside, ReadsToEnd, SaysVerified, Verifies, status_of, streams, verdict_at}
 
 done_status : (ended : Ended) (status : ℕ) → status ≡ status_of ended → IsDoneOrWanting ended → (status ≡ 0) ⊎ ((status ≡ 1) ⊎ (status ≡ 6))
 done_status ended status s (inl v) = elim (verdict_status v.0 status (s ∙ ap status_of v.1)) [ inl e ↦ inl e | inr e ↦ inr (inl e) ]
@@ -71,9 +73,23 @@ abbrev pub ListsTo : Wanted → Outside → Outside → ℕ → Type 0
 ListsTo wanted before after status =
     ReadsToEnd (ListsBy wanted) (streams before after) before.read_faults after.read_faults before.write_faults after.write_faults status
 
+-- the status is 1 where it is neither 0 nor 6
+one_of_three : (P : Type 0) (status : ℕ) → (status ≡ 0 → P → ⊥) → P → (status ≡ 6 → ⊥) → (status ≡ 0) ⊎ ((status ≡ 1) ⊎ (status ≡ 6)) → status ≡ 1
+one_of_three P status not p other (inl zero) = absurd (not zero p)
+one_of_three P status not p other (inr (inl one)) = one
+one_of_three P status not p other (inr (inr six)) = absurd (other six)
+
+is_calm : (before after : Outside) (input : List ℕ) → before.left ≡ Some input → length input ≤ 2 ^ 30 → HasNoFault before after
+    → IsCalm before.left before.read_faults after.read_faults before.write_faults after.write_faults
+is_calm before after input tells few none = record {
+  reads = none.reads;
+  writes = none.writes;
+  within = subst (λ (l : Option (List ℕ)). IsSomeAnd l (λ bytes. length bytes ≤ 2 ^ 30)) (sym tells) few;
+}
+
+-- the lines decide whether one of them is refused
 module _ (wanted : Wanted) (before after : Outside) (status : ℕ) (reads : ListsTo wanted before after status) where
   module _ (input : List ℕ) (tells : before.left ≡ Some input) where
-    -- all lines were listed
     some_line : status ≡ 1 → HasRefusedLine (lines_of input)
     some_line one =
         let h = reads.some_refused one in
@@ -87,24 +103,47 @@ module _ (wanted : Wanted) (before after : Outside) (status : ℕ) (reads : List
         let all = taken_all input before.left after.left tells h.input h.taken h.at_end in
         none_refused (lines_of h.input) h.replies h.last h.each h.any (subst (λ (bytes : List ℕ). HasRefusedLine (lines_of bytes)) all some)
 
-    by_lines : HasRefusedLine (lines_of input) → (status ≡ 6 → ⊥) → (status ≡ 0) ⊎ ((status ≡ 1) ⊎ (status ≡ 6)) → status ≡ 1
-    by_lines some other (inl zero) = absurd (no_line zero some)
-    by_lines some other (inr (inl one)) = one
-    by_lines some other (inr (inr six)) = absurd (other six)
-
-    is_calm : length input ≤ 2 ^ 30 → HasNoFault before after
-        → IsCalm before.left before.read_faults after.read_faults before.write_faults after.write_faults
-    is_calm few none = record {
-      reads = none.reads;
-      writes = none.writes;
-      within = subst (λ (l : Option (List ℕ)). IsSomeAnd l (λ bytes. length bytes ≤ 2 ^ 30)) (sym tells) few;
-    }
-
   pub lists_lines : ListsLines wanted before after status
   lists_lines = record {
     reads = reads;
-    exactly_1 = λ input tells few none other.
-        (some_line input tells, (λ some. by_lines input tells some other (reads.complete (is_calm input tells few none))));
+    exactly_1 = λ input tells few none other. (
+      some_line input tells,
+      (λ some. one_of_three (HasRefusedLine (lines_of input)) status (no_line input tells) some other
+          (reads.complete (is_calm before after input tells few none))),
+    );
+  }
+
+-- and a run of `verify`
+abbrev pub VerifiesTo : ℕ → Outside → Outside → ℕ → Type 0
+VerifiesTo n before after status =
+    ReadsToEnd (SaysVerified n) (streams before after) before.read_faults after.read_faults before.write_faults after.write_faults status
+
+-- the lines decide whether the list and the catalogue differ
+module _ (n : ℕ) (before after : Outside) (status : ℕ) (reads : VerifiesTo n before after status) where
+  module _ (input : List ℕ) (tells : before.left ≡ Some input) where
+    some_fault : status ≡ 1 → HasFault n (lines_of input)
+    some_fault one =
+        let h = reads.some_refused one in
+        let v = h.verified in
+        let all = taken_all input before.left after.left tells v.input v.taken v.at_end in
+        subst (λ (bytes : List ℕ). HasFault n (lines_of bytes)) (sym all)
+        (record { counts = h.counts; bytes = v.report; report = v.is_report; some = h.other })
+
+    no_fault : status ≡ 0 → HasFault n (lines_of input) → ⊥
+    no_fault zero some =
+        let h = reads.none_refused zero in
+        let v = h.verified in
+        let all = taken_all input before.left after.left tells v.input v.taken v.at_end in
+        no_fault_there n (lines_of v.input) h.counts v.report v.is_report h.same (subst (λ (bytes : List ℕ). HasFault n (lines_of bytes)) all some)
+
+  pub verifies : Verifies n before after status
+  verifies = record {
+    reads = reads;
+    exactly_1 = λ input tells few none other. (
+      some_fault input tells,
+      (λ some. one_of_three (HasFault n (lines_of input)) status (no_fault input tells) some other
+          (reads.complete (is_calm before after input tells few none))),
+    );
   }
 
 verify_took : (n : ℕ) (streams : Streams) (ended : Ended) → SaysVerified n streams ended → TookBy streams ended

@@ -19,8 +19,8 @@ use Rattle.bk_word.specs.Word.{Word}
 use Rattle.bk_word.specs.declared.Class.{Class}
 use Rattle.bk_catalogue.specs.Following.{start_cursor}
 use Rattle.bk_top.proofs.Endings.{listed_not_two}
-use Rattle.bk_top.proofs.ReadToEnd.{ListsTo, lists_lines}
-use Rattle.bk_top.specs.Running.{AnswersLines, Does, DoesOther, IsWholeRun, IsToldText, Lists, NoErrors, Outside, ReadsToEnd, Tries, Verifies}
+use Rattle.bk_top.proofs.ReadToEnd.{ListsTo, VerifiesTo, lists_lines, verifies}
+use Rattle.bk_top.specs.Running.{AnswersLines, Does, DoesOther, IsWholeRun, IsToldText, Lists, NoErrors, Outside, ReadsToEnd, Tries}
 use Rattle.bk_top.specs.Running.{WritesErrors, status_of}
 use Rattle.bk_top.specs.Words.{AsksErrorsOnly, AsksNoLines, AsksNothing, WordsAsk, command_asked}
 
@@ -96,10 +96,10 @@ run_of_pair words kind before after status wanted reads silent =
     (lists_lines (Pairs kind) before after status reads, silent)
 
 pub run_of_verify : (words : List (String Global)) (n : ℕ) (before after : Outside) (status : ℕ) → WordsAsk words (asks.Verify n)
-    → Verifies n before after status → NoErrors before after
+    → VerifiesTo n before after status → NoErrors before after
     → IsWholeRun words before after status
-run_of_verify words n before after status wanted verifies silent =
-    run_of words (asks.Verify n) before after status wanted (read_not_two _ _ _ _ _ _ status verifies) (verifies, silent)
+run_of_verify words n before after status wanted reads silent =
+    run_of words (asks.Verify n) before after status wanted (read_not_two _ _ _ _ _ _ status reads) (verifies n before after status reads, silent)
 
 -- and what each of these writes
 alike_help : asks.Alike ≡ asks.Help → ⊥

@@ -62,7 +62,7 @@ record CountsOne (s next : Verifying) (told : Told) : Type 0 where
 counts_nothing : (s : Verifying) (v : VerifierState) → CountsOne s (record s { verifier = v }) nothing
 counts_nothing s v = record { foreign = λ tolds. refl; repeated = λ tolds. refl; refused = λ tolds. refl }
 
-count_yes : (p : Told → Bool) (told : Told) (tolds : List Told) (k : ℕ) → p told ≡ true → (k + 1) + count_by p tolds ≡ k + count_by p (told ∷ tolds)
+pub count_yes : (p : Told → Bool) (told : Told) (tolds : List Told) (k : ℕ) → p told ≡ true → (k + 1) + count_by p tolds ≡ k + count_by p (told ∷ tolds)
 count_yes p told tolds k e =
     let cons : count_by p (told ∷ tolds) ≡ cond {A = ℕ} (p told) 1 0 + count_by p tolds = sum_by-cons (λ (t : Told). cond {A = ℕ} (p t) 1 0) told tolds in
     let one : cond {A = ℕ} (p told) 1 0 ≡ 1 = ap (λ (b : Bool). cond {A = ℕ} b 1 0) e in

@@ -3,3 +3,4 @@ pub mod Following
 pub mod BehindLines
 pub mod Ending
 pub mod VerifyingExamples
+pub mod OneReport

@@ -2,7 +2,7 @@
 -- Example (VerifyingExamples): of a list of order 9 that lacks nothing, with a foreign and a repeated entry, the last line is
 -- `; end order 9 members 2 missing 0 foreign 1 repeated 1 refused 0`, and there are two faults.
 use Rattle.std.specs.List.{AllByRecursion}
-use Rattle.std.specs.Prelude.{Contains, List, [], count_by, flat_map, length, ℕ, ⊤, ◌++◌, ◌+◌, ◌≡◌, ◌⊎◌}
+use Rattle.std.specs.Prelude.{Contains, List, [], count_by, flat_map, length, ℕ, ⊤, ◌++◌, ◌+◌, ◌<◌, ◌≡◌, ◌⊎◌}
 use Rattle.bk_word.specs.Word.{Follows, Word}
 use Rattle.bk_word.specs.declared.Class.TheVariants.{Perfect}
 use Rattle.bk_catalogue.specs.Catalogue.{AreAscending, Entry, IsEntry}
@@ -71,3 +71,10 @@ pub record IsReport (n : ℕ) (lines : List (List ℕ)) (counts : Counts) (bytes
   pub repeated_is : counts.repeated ≡ count_by is_repeat tolds
   pub refused_is : counts.refused ≡ count_by is_refused tolds
   pub text : bytes ≡ texts_from 1 tolds ++ (flat_map line_of missing ++ counts_line n counts)
+
+-- the list and the catalogue differ: the report on these lines counts something that is missing, foreign, repeated or refused
+pub record HasFault (n : ℕ) (lines : List (List ℕ)) : Type 0 where
+  pub counts : Counts
+  pub bytes : List ℕ
+  pub report : IsReport n lines counts bytes
+  pub some : 0 < faults counts
