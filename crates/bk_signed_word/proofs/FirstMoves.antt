@@ -1,6 +1,6 @@
 -- As many squares hang from the top of a tiling's layout as the first move of the tiling's word hangs.
-use Rattle.std.proofs.Common.{Bool, List, Some, [], ap, arith, cond, count_by, false, filter, inl, inr, length, nat_lt, refl, slice_get, suc, sym}
-use Rattle.std.proofs.Common.{true, zero, ℕ, ◌+◌, ◌==◌, ◌∙◌, ◌∷◌, ◌≡◌, ◌≤◌}
+use Rattle.std.proofs.Common.{Bool, List, Some, [], ap, arith, cond, count_by, false, filter, length, nat_lt, refl, slice_get, suc, sym}
+use Rattle.std.proofs.Common.{true, ℕ, ◌+◌, ◌==◌, ◌∙◌, ◌∷◌, ◌≡◌, ◌≤◌}
 use Rattle.std.proofs.lemmas.Bool.Decides.{nat_tests}
 use Rattle.std.proofs.lemmas.List.Sums.{length-filter, sum_by-cons}
 use Rattle.std.proofs.lemmas.Option.{get_or_from_slice_get}
@@ -12,6 +12,7 @@ use Rattle.bk_tiling.specs.declared.Square.{Square}
 use Rattle.bk_word.specs.Play.{numbers_from}
 use Rattle.bk_word.specs.Word.{Move, Word}
 use Rattle.bk_lay.specs.TilingWord.{IsWordOf, hangs_under}
+use Rattle.bk_lay.proofs.Steps.{one_of}
 use Rattle.bk_word_net.proofs.AlongWord.{top_valley}
 use Rattle.bk_tiling_layout.proofs.Edges.{right_within, side}
 use Rattle.bk_tiling_layout.proofs.LineEnds.{eq_from, eq_to}
@@ -55,11 +56,6 @@ same_bool true false f g = sym (f refl)
 same_bool false true f g = g refl
 same_bool false false f g = refl
 
-index_is : (squares : List Square) (k : ℕ) (q : Square) → slice_get squares k ≡ Some q → IsOneOf q squares
-index_is [] k q e = absurd (cc)
-index_is (r ∷ squares) zero q e = let same : r ≡ q = cc in inl (sym same)
-index_is (r ∷ squares) (suc k) q e = inr (index_is squares k q e)
-
 module _ (t : Tiling) (tiling : IsTiling t) where
   top : IsNode t 0
   top = node_at t tiling 0 (omega arith)
@@ -102,7 +98,7 @@ module _ (t : Tiling) (tiling : IsTiling t) where
       each : (k : ℕ) (q : Square) → slice_get t.squares k ≡ Some q → (node_above (square_groups t.squares) (square_of t (0 + k)) == 0) ≡ hangs_under v q
       each k q f = ap (λ (i : ℕ). node_above (square_groups t.squares) (square_of t i) == 0) (from_zero k)
           ∙ ap (λ (r : Square). node_above (square_groups t.squares) r == 0)
-          (get_or_from_slice_get t.squares k q (record { x = 0; y = 0; s = 0 }) f) ∙ same_test v wide.0 wide.1 level q (index_is t.squares k q f)
+          (get_or_from_slice_get t.squares k q (record { x = 0; y = 0; s = 0 }) f) ∙ same_test v wide.0 wide.1 level q (one_of t.squares k q f)
         where
           from_zero : (k : ℕ) → 0 + k ≡ k
           from_zero k = omega arith

@@ -5,11 +5,12 @@ use Rattle.std.proofs.lemmas.Bool.{cases_lt}
 use Rattle.std.proofs.lemmas.Option.{slice_get-get_or}
 use Rattle.std.proofs.lemmas.List.{length-append, length-replicate}
 use Rattle.bk_word.specs.Outline.{Outline, start, valley_of}
-use Rattle.bk_word.specs.Play.{after_move, after_moves}
+use Rattle.bk_word.specs.Play.{after_move}
 use Rattle.bk_word.specs.Word.{Move, Word, order_of}
 use Rattle.bk_word_net.proofs.Shape.{hung_many}
 use Rattle.bk_free_cuts.proofs.NumberedLines.{in_two, sides_long}
 use Rattle.bk_free_cuts.specs.LineNumbers.{left_end, new_sides, right_end, sides_after, sides_along, sides_of}
+use Rattle.bk_free_cuts.proofs.CutByNodes.{along_long}
 
 -- the lines of the square at place k
 abbrev pub AreKnown : ℕ → ℕ × ℕ → Type 0
@@ -82,10 +83,6 @@ after_known o sides m long all k p e = cases
 along_known : (o : Outline) (sides : List (ℕ × ℕ)) (w : Word) → length sides ≡ length o.hung → AllKnown sides → AllKnown (sides_along o sides w)
 along_known o sides [] long all = all
 along_known o sides (m ∷ w) long all = along_known (after_move o m) (sides_after o sides m) w (after_long o sides m long) (after_known o sides m long all)
-
-along_long : (o : Outline) (sides : List (ℕ × ℕ)) (w : Word) → length sides ≡ length o.hung → length (sides_along o sides w) ≡ length (after_moves o w).hung
-along_long o sides [] long = long
-along_long o sides (m ∷ w) long = along_long (after_move o m) (sides_after o sides m) w (after_long o sides m long)
 
 -- of the square at place k, the number of the left line is below k + 2, that of the right one below k + 3
 pub known_lines : (w : Word) → AllKnown (sides_of w)

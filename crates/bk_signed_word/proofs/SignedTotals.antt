@@ -4,6 +4,7 @@ use Rattle.std.proofs.Common.{Bool, List, Some, [], ap, arith, cond, false, leng
 use Rattle.std.proofs.lemmas.Int.{ints}
 use Rattle.bk_net.specs.Flow.{outflow}
 use Rattle.bk_word.specs.Play.{numbers_from}
+use Rattle.bk_word_net.proofs.Sums.{one_wire}
 use Rattle.bk_signed_word.proofs.Totals.{total_from}
 
 -- a current with its sign, and the ends between which it flows where it is positive
@@ -18,13 +19,6 @@ start_of turned w = cond turned w.1 w.0
 abbrev pub finish_of : Bool → ℕ × ℕ → ℕ
 finish_of turned w = cond turned w.0 w.1
 
-one_kept : (a b : Bool) (s m n : ℕ) (r : ℤ) → r ≡ pos m -ℤ pos n
-    → (cond a (pos s) (pos 0) -ℤ cond b (pos s) (pos 0)) +ℤ r ≡ pos (cond a s 0 + m) -ℤ pos (cond b s 0 + n)
-one_kept true true s m n r e = omega (arith, ints)
-one_kept true false s m n r e = omega (arith, ints)
-one_kept false true s m n r e = omega (arith, ints)
-one_kept false false s m n r e = omega (arith, ints)
-
 one_turned : (a b : Bool) (s m n : ℕ) (r : ℤ) → r ≡ pos m -ℤ pos n
     → (cond a (neg_ℤ (pos s)) (pos 0) -ℤ cond b (neg_ℤ (pos s)) (pos 0)) +ℤ r ≡ pos (cond b s 0 + m) -ℤ pos (cond a s 0 + n)
 one_turned true true s m n r e = omega (arith, ints)
@@ -32,11 +26,11 @@ one_turned true false s m n r e = omega (arith, ints)
 one_turned false true s m n r e = omega (arith, ints)
 one_turned false false s m n r e = omega (arith, ints)
 
-one_wire : (turned : Bool) (w : ℕ × ℕ) (v s m n : ℕ) (r : ℤ) → r ≡ pos m -ℤ pos n
+turned_wire : (turned : Bool) (w : ℕ × ℕ) (v s m n : ℕ) (r : ℤ) → r ≡ pos m -ℤ pos n
     → (cond (w.0 == v) (with_sign turned s) (pos 0) -ℤ cond (w.1 == v) (with_sign turned s) (pos 0)) +ℤ r
     ≡ pos (cond (start_of turned w == v) s 0 + m) -ℤ pos (cond (finish_of turned w == v) s 0 + n)
-one_wire true w v s m n r e = one_turned (w.0 == v) (w.1 == v) s m n r e
-one_wire false w v s m n r e = one_kept (w.0 == v) (w.1 == v) s m n r e
+turned_wire true w v s m n r e = one_turned (w.0 == v) (w.1 == v) s m n r e
+turned_wire false w v s m n r e = one_wire (w.0 == v) (w.1 == v) s m n r e
 
 -- what flows out of a node is the sum of all that begins there less the sum of all that arrives
 pub signed_total : (ws : List (ℕ × ℕ)) (turned : ℕ → Bool) (s : ℕ → ℕ) (wire : ℕ → ℕ × ℕ) (b v : ℕ)
@@ -46,7 +40,7 @@ pub signed_total : (ws : List (ℕ × ℕ)) (turned : ℕ → Bool) (s : ℕ →
     (total_from (λ k. cond (finish_of (turned k) (wire k) == v) (s k) 0) b (length ws))
 signed_total [] turned s wire b v each = omega (arith, ints)
 signed_total (w ∷ ws) turned s wire b v each =
-    one_wire (turned b) w v (s b) (total_from (λ k. cond (start_of (turned k) (wire k) == v) (s k) 0) (b + 1) (length ws))
+    turned_wire (turned b) w v (s b) (total_from (λ k. cond (start_of (turned k) (wire k) == v) (s k) 0) (b + 1) (length ws))
     (total_from (λ k. cond (finish_of (turned k) (wire k) == v) (s k) 0) (b + 1) (length ws))
     (outflow ws (map (λ k. with_sign (turned k) (s k)) (numbers_from (b + 1) (length ws))) v)
     (signed_total ws turned s wire (b + 1) v (λ k x e. ap wire (next k) ∙ each (suc k) x e))
