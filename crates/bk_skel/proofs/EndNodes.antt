@@ -16,6 +16,7 @@ pub record CutAt (lists : List (List ℕ)) (place : ℕ) : Type 0 where
   pub whole : lists ≡ front ++ here ∷ back
   pub long : length front ≡ place
 
+-- lists can be cut at each of their places
 pub cut_at : (lists : List (List ℕ)) (place : ℕ) → place < length lists → CutAt lists place
 cut_at [] place h = absurd (omega arith)
 cut_at (s ∷ lists) zero h = record { front = []; here = s; back = lists; whole = refl; long = refl }

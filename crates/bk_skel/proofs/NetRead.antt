@@ -33,10 +33,12 @@ closed_turns o from (m ∷ w) = closed_turns (after_move o m) (from + length m.s
     ∙ append_assoc (map length o.closed) (slice_index (segment_sizes o) (valley_place o.signs) ∷ [])
     (closed_of (turns_from (after_move o m) (from + length m.signs) w))
 
+-- the records say how many squares each move hangs
 pub counts_turns : (o : Outline) (from : ℕ) (w : Word) → counts_of (turns_from o from w) ≡ map (λ m. m.count) w
 counts_turns o from [] = refl
 counts_turns o from (m ∷ w) = ap (λ (l : List ℕ). m.count ∷ l) (counts_turns (after_move o m) (from + length m.signs) w)
 
+-- all moves of a word hang as many squares as its order says
 pub counts_sum : (w : Word) → sum (map (λ m. m.count) w) ≡ order_of w
 counts_sum [] = refl
 counts_sum (m ∷ w) = omega (arith, sum_by-cons (λ (n : ℕ). n) m.count (map (λ m. m.count) w), order_more m w, counts_sum w)
@@ -52,6 +54,7 @@ abbrev pub nodes_from : ℕ → List ℕ → List ℕ
 nodes_from node [] = []
 nodes_from node (count ∷ counts) = replicate count node ++ nodes_from (node + 1) counts
 
+-- the squares of each move hang from the node that it closes, and nodes are closed in order
 pub hung_nodes : (o : Outline) (w : Word) → (after_moves o w).hung ≡ o.hung ++ nodes_from (length o.closed) (map (λ m. m.count) w)
 hung_nodes o [] = sym (append-nil o.hung)
 hung_nodes o (m ∷ w) = hung_nodes (after_move o m) w
@@ -64,6 +67,7 @@ zip-append [] (u ∷ us) ys vs e = absurd (omega arith)
 zip-append (x ∷ xs) [] ys vs e = absurd (omega arith)
 zip-append {A = A} {B = B} (x ∷ xs) (u ∷ us) ys vs e = ap (λ (l : List (A × B)). (x, u) ∷ l) (zip-append xs us ys vs (omega arith))
 
+-- squares that hang from nodes in order, and the nodes where they end, are the wires
 pub zip_nodes : (node : ℕ) (counts ends : List ℕ) → length ends ≡ sum counts → zip (nodes_from node counts) ends ≡ wires_from node counts ends
 zip_nodes node [] ends e = refl
 zip_nodes node (count ∷ counts) ends e =
@@ -111,10 +115,12 @@ closed_numbers {w = w} {closed = closed} s =
       times_in-append (slice_index closed i) (outline_of w).closed (outline_of w).segments,
     ))
 
+-- the records say how many squares each node closes
 pub closed_sizes : {w : Word} {ends sizes : List ℕ} {signs : List Sign} {closed : List ℕ} {turns : List MoveRecord} {played : List Sign}
     → IsStored w ends sizes signs closed turns played → closed_of turns ≡ map length (outline_of w).closed
 closed_sizes {w = w} s = ap closed_of s.turns_are ∙ sym (closed_turns start 0 w)
 
+-- as many squares are closed as the records say
 pub closed_many : {w : Word} {ends sizes : List ℕ} {signs : List Sign} {closed : List ℕ} {turns : List MoveRecord} {played : List Sign}
     → IsStored w ends sizes signs closed turns played → length closed ≡ sum (closed_of turns)
 closed_many {w = w} s = ap length (s.shows).closed_are ∙ sym (sum_lengths (outline_of w).closed) ∙ ap sum (sym (closed_sizes s))
@@ -214,6 +220,7 @@ pub record ReadsNet (w : Word) (turns : List MoveRecord) (ends : List ℕ) : Typ
   pub wires : AreWires (length turns + 1) (wires_from 0 (counts_of turns) ends)
   pub net : (record { nodes = length turns + 1; wires = wires_from 0 (counts_of turns) ends }) ≡ net_of_word w
 
+-- of a complete word, the records and the nodes where the squares end are the net of the word
 pub reads_net : {w : Word} {ends sizes : List ℕ} {signs : List Sign} {closed : List ℕ} {turns : List MoveRecord} {played : List Sign}
     → IsStored w ends sizes signs closed turns played → IsComplete w → (ended : List ℕ) (n : ℕ) → n ≡ order_of w → length ended ≡ 200
     → ((k : ℕ) → k < 200 → slice_index ended k ≡ end_of (outline_of w).closed (k + 1)) → ReadsNet w turns (take n ended)

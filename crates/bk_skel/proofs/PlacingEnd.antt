@@ -29,7 +29,8 @@ module _ (width : ℕ) (laid : List Square) (numbers : List ℕ) (o : Outline) (
   low : depth laid 0 ≤ 999_999_999_999_999 * length laid
   low = cases (cases_lt (999_999_999_999_999 * length laid) (depth laid 0))
     where
-      cases : (999_999_999_999_999 * length laid < depth laid 0) ⊎ (depth laid 0 ≤ 999_999_999_999_999 * length laid) → depth laid 0 ≤ 999_999_999_999_999 * length laid
+      cases : (999_999_999_999_999 * length laid < depth laid 0) ⊎ (depth laid 0 ≤ 999_999_999_999_999 * length laid)
+          → depth laid 0 ≤ 999_999_999_999_999 * length laid
       cases (inr h) = h
       cases (inl h) = let q = depth_comes_from laid 0 (999_999_999_999_999 * length laid) h in absurd (omega (arith, (c.board).low q.0 q.1, q.3))
 

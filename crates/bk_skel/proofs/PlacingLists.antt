@@ -11,6 +11,7 @@ pub record SignsAt (b : ℕ → ℕ) (signs : List Sign) (numbers : List ℕ) (i
   pub back : slice_index_or signs i d ≡ sign_between (b (get_or numbers i 0)) (b (get_or numbers (i + 1) 0))
       → drop (i + 1) signs ≡ signs_between (map b (drop (i + 1) numbers)) → drop i signs ≡ signs_between (map b (drop i numbers))
 
+-- signs between the bottoms of squares: the one at a place, and those behind it
 pub signs_at : (b : ℕ → ℕ) (signs : List Sign) (numbers : List ℕ) (i : ℕ) (d : Sign) → i < length signs → length signs + 1 ≡ length numbers
     → SignsAt b signs numbers i d
 signs_at b [] numbers i d h e = absurd (omega arith)
@@ -46,6 +47,7 @@ signs_at b (s ∷ signs) (n ∷ m ∷ numbers) (suc i) d h e = again (signs_at b
           (subst (λ (k : ℕ). drop k (s ∷ signs) ≡ signs_between (map b (drop k (n ∷ m ∷ numbers)))) next_again g));
     }
 
+-- past the last sign there is one square and nothing to compare
 pub signs_done : (b : ℕ → ℕ) (signs : List Sign) (numbers : List ℕ) (i : ℕ) → length signs ≤ i → i ≤ length signs
     → length signs + 1 ≡ length numbers → drop i signs ≡ signs_between (map b (drop i numbers))
 signs_done b [] [] i g h e = absurd (omega arith)

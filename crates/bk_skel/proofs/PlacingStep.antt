@@ -105,6 +105,7 @@ module _ (w : Word) (legal : IsLegal w) (given : List ℕ) (all_sides : AllByRec
         (sym (f ∙ ap (λ (ns : List ℕ). (take first numbers ++ numbers_from (length laid + 1) (length ns)) ++ drop (first + closed) numbers) taken))
         (placed_more given all_sides few w legal i laid numbers s (get_some w i below).0 at first (first + closed) place end v (turn_as v t)))
 
+-- a complete word has a first move, and there are as many sides as it hangs
 pub first_is_there : (w : Word) (complete : IsComplete w) (given : List ℕ) → AllByRecursion IsSide given → length given ≤ 200
     → length given ≡ order_of w → (turn : MoveRecord) → SaysWhere w 0 turn → (from : ℕ) → from ≡ turn.count → from ≡ length (take from given)
 first_is_there w complete given all_sides few count turn says from e =
@@ -114,11 +115,13 @@ first_is_there w complete given all_sides few count turn says from e =
       sides_there w complete.legal given all_sides few 0 complete.some [] [] (placed_start given all_sides few w complete count) turn says,
     )))
 
+-- the sum of the first move's sides is the width
 pub width_as : (w : Word) (given : List ℕ) (turn : MoveRecord) (from sum_is : ℕ) → 0 < length w → SaysWhere w 0 turn → from ≡ turn.count
     → sum_is ≡ sum (take from given) → sum_is ≡ first_width w given
 width_as [] given turn from sum_is h says e f = absurd (omega arith)
 width_as (m ∷ w) given turn from sum_is h says e f = f ∙ ap (λ (k : ℕ). sum (take k given)) (e ∙ says.count m refl)
 
+-- before the first move nothing is laid
 pub start_as : (w : Word) (given : List ℕ) (laid : List Square) (numbers : List ℕ) → laid ≡ [] → numbers ≡ [] → IsPlacedTo w given 0 [] []
     → IsPlacedTo w given 0 laid numbers
 start_as w given laid numbers e f s = subst (λ (l : List Square). IsPlacedTo w given 0 l numbers) (sym e) (subst (IsPlacedTo w given 0 []) (sym f) s)

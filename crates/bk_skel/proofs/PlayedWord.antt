@@ -7,6 +7,7 @@ use Rattle.bk_word.specs.Word.{Move, Word, order_of}
 use Rattle.bk_word.proofs.PlayLaws.{legal-last, legal-snoc}
 use Rattle.bk_skel.specs.SolveRefusal.{IsFirstIllegal}
 
+-- the first moves of a word and the next one
 pub take_more : (w : Word) (i : ℕ) (m : Move) → slice_get w i ≡ Some m → take (i + 1) w ≡ take i w ++ m ∷ []
 take_more [] i m e = absurd (cc)
 take_more (n ∷ w) zero m e = ap (λ (k : Move). k ∷ []) same
@@ -31,6 +32,7 @@ pub record IsPlayedTo (w : Word) (i : ℕ) (skel : Word) : Type 0 where
   pub moves : skel ≡ take i w
   pub legal : IsLegal skel
 
+-- before the first move nothing is played
 pub played_first : (w skel : Word) → skel ≡ [] → IsPlayedTo w 0 skel
 played_first w skel e = record { moves = e; legal = subst IsLegal (sym e) tt }
 
@@ -61,5 +63,6 @@ take_whole [] (suc i) h = refl
 take_whole (m ∷ w) zero h = absurd (omega arith)
 take_whole (m ∷ w) (suc i) h = ap (λ (v : Word). m ∷ v) (take_whole w i (omega arith))
 
+-- once all moves are played, the word is legal and stands on the skeleton
 pub played_last : (w : Word) (i : ℕ) (skel : Word) → IsPlayedTo w i skel → length w ≤ i → (skel ≡ w) × IsLegal w
 played_last w i skel p done = let same : skel ≡ w = p.moves ∙ take_whole w i done in (same, subst IsLegal same p.legal)

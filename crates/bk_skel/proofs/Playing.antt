@@ -29,6 +29,7 @@ pub record Playing (w : Word) (m : Move) (ends sizes : List ℕ) (signs : List S
   pub played_fit : length played + length m.signs ≤ 400
   pub turns_fit : length turns < 200
 
+-- a legal move of so few squares has room in all lists
 pub playing_at : (w : Word) (m : Move) (ends sizes : List ℕ) (signs : List Sign) (closed : List ℕ) (turns : List MoveRecord) (played : List Sign)
     (turn : MoveRecord) → IsStored w ends sizes signs closed turns played
     → IsLegalMove (outline_of w) m → order_of w + m.count ≤ 200 → turn ≡ turn_at sizes signs m (length played)
@@ -78,6 +79,7 @@ pub moves_shown : {w : Word} {ends sizes : List ℕ} {signs : List Sign} {closed
     → IsStored w ends sizes signs closed turns played → moves_stored turns played ≡ w
 moves_shown {w = w} s = (λ i. moves_stored (s.turns_are i) (s.played_are i)) ∙ stored_word w
 
+-- what is stored is the word that its records and signs spell
 pub stored_shown : (w : Word) (ends sizes : List ℕ) (signs : List Sign) (closed : List ℕ) (turns : List MoveRecord) (played : List Sign)
     → IsStored w ends sizes signs closed turns played → IsStored (moves_stored turns played) ends sizes signs closed turns played
 stored_shown w ends sizes signs closed turns played s = subst (λ (v : Word). IsStored v ends sizes signs closed turns played) (sym (moves_shown s)) s
@@ -92,8 +94,10 @@ pub record Played (m : Move) (ends sizes : List ℕ) (signs : List Sign) (closed
   pub turns_new : new_turns ≡ turns ++ turn ∷ []
   pub played_new : new_played ≡ played ++ m.signs
 
-pub stored_played : {w : Word} {m : Move} {ends sizes : List ℕ} {signs : List Sign} {closed : List ℕ} {turns : List MoveRecord} {played : List Sign} {turn : MoveRecord}
-    {new_ends new_sizes : List ℕ} {new_signs : List Sign} {new_closed : List ℕ} {new_turns : List MoveRecord} {new_played : List Sign}
+-- with a move played, the lists store the word with that move
+pub stored_played : {w : Word} {m : Move} {ends sizes : List ℕ} {signs : List Sign} {closed : List ℕ} {turns : List MoveRecord}
+    {played : List Sign} {turn : MoveRecord} {new_ends new_sizes : List ℕ} {new_signs : List Sign} {new_closed : List ℕ}
+    {new_turns : List MoveRecord} {new_played : List Sign}
     → IsStored w ends sizes signs closed turns played → Playing w m ends sizes signs closed turns played turn
     → Played m ends sizes signs closed turns played turn new_ends new_sizes new_signs new_closed new_turns new_played
     → IsStored (w ++ m ∷ []) new_ends new_sizes new_signs new_closed new_turns new_played

@@ -75,9 +75,11 @@ module _ (skel w : Word) (same : skel ≡ w) (complete : IsComplete skel) (net :
       from : IsRefusedFor (Loose node) net → ⊥
       from r = (r.0).1 (net_joined skel net is complete node (r.0).0)
 
+-- a complete word whose net has too large a current is wide
 pub large_word : (skel w : Word) → skel ≡ w → IsComplete skel → HasLargeCurrent (net_of_word skel) → IsComplete w × IsWideWord w
 large_word skel w same complete large = (subst IsComplete same complete, subst IsWideWord same (inr large))
 
+-- and one whose net is neither wide nor has such a current isn't
 pub not_wide : (skel w : Word) (net : Net) → skel ≡ w → net ≡ net_of_word skel → (IsWide net → ⊥)
     → (HasLargeCurrent (net_of_word skel) → false ≡ true) → IsWideWord w → ⊥
 not_wide skel w net same is never small wide = from (subst IsWideWord (sym same) wide)

@@ -1,11 +1,12 @@
 -- Lists in which some items give way to others.
-use Rattle.std.proofs.Common.{List, [], ap, append-nil, drop_of_length-le, take_all, arith, drop, length, length-set, refl, set, suc, sym, take}
+use Rattle.std.proofs.Common.{List, [], ap, take_all, arith, drop, length, length-set, refl, set, suc, sym, take}
 use Rattle.std.proofs.Common.{zero, ℕ, ◌++◌, ◌+◌, ◌-◌, ◌<◌, ◌∙◌, ◌∷◌, ◌≡◌, ◌≤◌}
 use Rattle.std.specs.List.{copy_within, refill}
 use Rattle.bk_word.specs.Play.{numbers_from}
 use Rattle.std.proofs.lemmas.List.{drop-take, drop_at, length-drop, length-take-le}
 use Rattle.std.proofs.lemmas.Grind.{take-set_at}
 use Rattle.std.proofs.lemmas.List.Edits.{take-paste}
+use Rattle.bk_laws.proofs.ListPlaces.{refilled}
 
 take_dropped : {X : Type 0} (xs : List X) (i n : ℕ) → i ≤ n → take (n - i) (drop i xs) ≡ drop i (take n xs)
 take_dropped xs i n h = sym (ap (λ k. drop i (take k xs)) (omega arith) ∙ drop-take i (n - i) xs)
@@ -20,12 +21,6 @@ behind_room old grown moved new start end room len order within same long fits f
     ∙ take-paste grown (start + room) (drop end grown) (len - end) (omega arith) (omega (arith, length-drop end grown)))
     ∙ drop_at (take (start + room) grown) (take (len - end) (drop end grown)) (start + room) (length-take-le (start + room) grown (omega arith))
     ∙ take_dropped grown end len (omega arith) ∙ ap (drop end) (ap (λ n. take n grown) same ∙ front)
-
--- a list after a part of it was lent and written is what was written
-pub refilled : {X : Type 0} (old written : List X) → length written ≡ length old → refill (length old) old written ≡ written
-refilled {X = X} old written e =
-    ap (λ (rest : List X). take (length old) (written ++ rest)) (drop_of_length-le old (omega (arith, e)))
-    ∙ ap (take (length old)) (append-nil written) ∙ take_all (length old) written (omega (arith, e))
 
 -- room that is made by lengthening a list, moving what stands behind and cutting off
 pub room_made : {X : Type 0} (old grown shown moved new : List X) (start end room len : ℕ) → start ≤ end → end ≤ length old → len ≡ length old
@@ -47,6 +42,7 @@ pub numbers-snoc : (n k : ℕ) → numbers_from n (suc k) ≡ numbers_from n k +
 numbers-snoc n zero = ap (λ m. m ∷ []) (omega arith)
 numbers-snoc n (suc k) = ap (λ (l : List ℕ). n ∷ l) (numbers-snoc (n + 1) k ∙ ap (λ m. numbers_from (n + 1) k ++ m ∷ []) (omega arith))
 
+-- one more of numbers that are written in order
 pub next_number : (room : List ℕ) (first next index : ℕ) → index < length room → next ≡ first + index
     → take index room ≡ numbers_from first index → take (index + 1) (set room index next) ≡ numbers_from first (index + 1)
 next_number room first next index within e put =

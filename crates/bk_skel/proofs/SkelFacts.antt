@@ -30,6 +30,7 @@ pub record Counted (w : Word) (ends sizes : List ℕ) (signs : List Sign) (close
   pub few : length sizes ≤ 200
   pub total : sum sizes ≡ length ends
 
+-- of a kept skeleton the lists have as many items as its word has squares and segments
 pub counted : (w : Word) (ends sizes : List ℕ) (signs : List Sign) (closed : List ℕ) → IsKeptSkeleton w
     → Shows (outline_of w) ends sizes signs closed → Counted w ends sizes signs closed
 counted w ends sizes signs closed kept s = record {
@@ -64,6 +65,7 @@ pub record Touches (w : Word) (m : Move) (ends sizes : List ℕ) (signs : List S
   pub beside : turn.left + turn.closed + turn.right ≤ length ends
   pub few_signs : length m.signs ≤ m.count + 1
 
+-- what a legal move touches lies within the lists, and what it leaves has room in them
 pub touches : (w : Word) (m : Move) (ends sizes : List ℕ) (signs : List Sign) (closed : List ℕ) (from : ℕ) → IsKeptSkeleton w
     → Shows (outline_of w) ends sizes signs closed
     → IsLegalMove (outline_of w) m → order_of w + m.count ≤ 200
@@ -130,7 +132,8 @@ touches w m ends sizes signs closed from kept s legal room = record {
     )
 
 -- what is stored after a legal move
-pub stored_move : (w : Word) (m : Move) (ends sizes : List ℕ) (signs : List Sign) (closed : List ℕ) (turns : List MoveRecord) (played : List Sign) (turn : MoveRecord)
+pub stored_move : (w : Word) (m : Move) (ends sizes : List ℕ) (signs : List Sign) (closed : List ℕ) (turns : List MoveRecord)
+    (played : List Sign) (turn : MoveRecord)
     → IsStored w ends sizes signs closed turns played → IsLegalMove (outline_of w) m → order_of w + m.count ≤ 200
     → turn ≡ turn_at sizes signs m (length played)
     → IsStored (w ++ m ∷ [])

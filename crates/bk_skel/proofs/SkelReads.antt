@@ -15,10 +15,12 @@ use Rattle.bk_skel.specs.Skeleton.{IsStored, Shows, move_of, moves_stored, signs
 use Rattle.bk_skel.specs.Valley.{leftmost_valley}
 use Rattle.bk_skel.specs.declared.turns.MoveRecord.{MoveRecord}
 
+-- so it is of what is stored
 pub counted_in : {w : Word} {ends sizes : List ℕ} {signs : List Sign} {closed : List ℕ} {turns : List MoveRecord} {played : List Sign}
     → IsStored w ends sizes signs closed turns played → Counted w ends sizes signs closed
 counted_in {w = w} {ends = ends} {sizes = sizes} {signs = signs} {closed = closed} s = counted w ends sizes signs closed s.kept s.shows
 
+-- how many items the list at a place has; none past the last list
 pub size_index : (lists : List (List ℕ)) (n : ℕ) → slice_index (map length lists) n ≡ length (slice_index_or lists n [])
 size_index [] n = refl
 size_index (s ∷ lists) zero = refl
@@ -72,6 +74,7 @@ pub record Spans (turn : MoveRecord) (end : ℕ) : Type 0 where
   pub within : turn.to ≤ end
   pub few : turn.to ≤ turn.from + 201
 
+-- the signs of each move stand among those played, and are at most 201
 pub turn_spans : (o : Outline) (from : ℕ) (w : Word) → AreLegalFrom o w → order_of w ≤ 200 → (i : ℕ) (d : MoveRecord) → i < length w
     → Spans (get_or (turns_from o from w) i d) (from + length (signs_of w))
 turn_spans o from [] legal few i d h = absurd (omega arith)
@@ -87,12 +90,14 @@ turn_spans o from (m ∷ w) legal few (suc i) d h = let r =
       few = r.few;
     }
 
+-- and so among those stored
 pub span_in : {w : Word} {ends sizes : List ℕ} {signs : List Sign} {closed : List ℕ} {turns : List MoveRecord} {played : List Sign}
     → IsStored w ends sizes signs closed turns played → (i : ℕ) (d : MoveRecord) → i < length w → Spans (get_or turns i d) (length played)
 span_in {w = w} {turns = turns} {played = played} s i d h = subst (λ (l : List MoveRecord). Spans (get_or l i d) (length played)) (sym s.turns_are)
     (subst (λ (n : ℕ). Spans (get_or (turns_from start 0 w) i d) n) (omega (arith, ap length s.played_are))
     (turn_spans start 0 w (s.kept).legal (s.kept).few i d h))
 
+-- what stands at a place of a mapped list
 pub get_map : {A B : Type 0} (f : A → B) (xs : List A) (i : ℕ) (d : A) → i < length xs → slice_get (map f xs) i ≡ Some (f (get_or xs i d))
 get_map f [] i d h = absurd (omega arith)
 get_map f (x ∷ xs) zero d h = refl

@@ -12,17 +12,21 @@ use Rattle.bk_skel.specs.Valley.{segment_sizes}
 use Rattle.bk_skel.specs.declared.turns.MoveRecord.{MoveRecord}
 use Rattle.bk_word.proofs.PlayLaws.{few_signs}
 
+-- the signs of a word are those of its first move and then the others
 pub signs-cons : (n : Move) (w : Word) → signs_of (n ∷ w) ≡ n.signs ++ signs_of w
 signs-cons n w = refl
 
+-- and with a further move its signs come last
 pub signs-snoc : (w : Word) (m : Move) → signs_of (w ++ m ∷ []) ≡ signs_of w ++ m.signs
 signs-snoc w m = flat_map-append (λ (m : Move). m.signs) w (m ∷ []) ∙ ap (λ (l : List Sign). signs_of w ++ l) (append-nil m.signs)
 
+-- and its record comes last
 pub turns-snoc : (o : Outline) (from : ℕ) (w : Word) (m : Move)
     → turns_from o from (w ++ m ∷ []) ≡ turns_from o from w
     ++ turn_at (segment_sizes (after_moves o w)) (after_moves o w).signs m (from + length (signs_of w)) ∷ []
 turns-snoc o from [] m = ap (λ n. turn_at (segment_sizes o) o.signs m n ∷ []) (omega arith)
-turns-snoc o from (n ∷ w) m = ap (λ (l : List MoveRecord). turn_at (segment_sizes o) o.signs n from ∷ l) (turns-snoc (after_move o n) (from + length n.signs) w m
+turns-snoc o from (n ∷ w) m = ap (λ (l : List MoveRecord). turn_at (segment_sizes o) o.signs n from ∷ l)
+    (turns-snoc (after_move o n) (from + length n.signs) w m
     ∙ ap (λ k. turns_from (after_move o n) (from + length n.signs) w
     ++ turn_at (segment_sizes (after_moves (after_move o n) w)) (after_moves (after_move o n) w).signs m k ∷ []) same)
   where
@@ -43,13 +47,16 @@ stored_from o from (n ∷ w) front e = (λ i. record { count = n.count; signs = 
     own = ap (take (from + length n.signs - from)) (drop_at front (n.signs ++ signs_of w) from e)
         ∙ take_at n.signs (signs_of w) (from + length n.signs - from) (omega arith)
 
+-- the records and signs of a word spell that word
 pub stored_word : (w : Word) → moves_stored (turns_from start 0 w) (signs_of w) ≡ w
 stored_word w = stored_from start 0 w [] refl
 
+-- there is a record for each move
 pub turns_many : (o : Outline) (from : ℕ) (w : Word) → length (turns_from o from w) ≡ length w
 turns_many o from [] = refl
 turns_many o from (n ∷ w) = ap suc (turns_many (after_move o n) (from + length n.signs) w)
 
+-- a legal word has at most two signs a square
 pub signs_many : (o : Outline) (w : Word) → AreLegalFrom o w → length (signs_of w) ≤ 2 * order_of w
 signs_many o [] legal = omega arith
 signs_many o (m ∷ w) legal = omega (
@@ -68,6 +75,7 @@ pub record Ends (w : Word) : Type 0 where
   pub last : Move
   pub whole : w ≡ front ++ last ∷ []
 
+-- a word that isn't empty has a last move
 pub last_move : (w : Word) → 0 < length w → Ends w
 last_move [] some = absurd (omega arith)
 last_move (m ∷ []) some = record { front = []; last = m; whole = refl }

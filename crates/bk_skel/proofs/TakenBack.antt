@@ -26,7 +26,8 @@ shows_self : (o : Outline) → Shows o (concat o.segments) (segment_sizes o) o.s
 shows_self o = record { ends_are = refl; sizes_are = refl; signs_are = refl; closed_are = refl }
 
 -- what is stored before the last move, and the numbers that taking it back rests on
-pub record TakesBack (w : Word) (ends sizes : List ℕ) (signs : List Sign) (closed : List ℕ) (rest : List MoveRecord) (turn : MoveRecord) (played : List Sign) : Type 0 where
+pub record TakesBack (w : Word) (ends sizes : List ℕ) (signs : List Sign) (closed : List ℕ) (rest : List MoveRecord)
+    (turn : MoveRecord) (played : List Sign) : Type 0 where
   pub front : Word
   pub last : Move
   pub whole : w ≡ front ++ last ∷ []
@@ -213,7 +214,8 @@ takes_back w ends sizes signs closed turns rest turn played s cut some = back (l
         turn_is = pair.1
 
 -- the same of what the code has stored, where it has a move
-pub taken_back : {self : Word} {ends sizes : List ℕ} {signs : List Sign} {closed : List ℕ} {turns rest : List MoveRecord} {turn : MoveRecord} {played : List Sign}
+pub taken_back : {self : Word} {ends sizes : List ℕ} {signs : List Sign} {closed : List ℕ} {turns rest : List MoveRecord}
+    {turn : MoveRecord} {played : List Sign}
     → IsStored (moves_stored turns played) ends sizes signs closed turns played → turns ≡ rest ++ turn ∷ [] → 0 < length self
     → moves_stored turns played ≡ self → TakesBack (moves_stored turns played) ends sizes signs closed rest turn played
 taken_back {self} {ends} {sizes} {signs} {closed} {turns} {rest} {turn} {played} s cut some same =
@@ -228,6 +230,7 @@ pub record Back (ends sizes : List ℕ) (signs : List Sign) (closed : List ℕ) 
   pub closed_new : new_closed ≡ take (length closed - turn.closed) closed
   pub played_new : new_played ≡ take turn.from played
 
+-- with the last move taken back, the lists store the word without it
 pub stored_back : {w : Word} {ends sizes : List ℕ} {signs : List Sign} {closed : List ℕ} {rest : List MoveRecord} {turn : MoveRecord}
     {played : List Sign} {new_ends new_sizes : List ℕ} {new_signs : List Sign} {new_closed : List ℕ} {new_played : List Sign}
     → (b : TakesBack w ends sizes signs closed rest turn played) → Back ends sizes signs closed played turn new_ends new_sizes new_signs new_closed new_played

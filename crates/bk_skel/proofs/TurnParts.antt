@@ -60,6 +60,7 @@ three_sizes left right n one other filled full =
     cases (l ∷ []) (r ∷ u ∷ right) one other = absurd (omega arith)
     cases (l ∷ u ∷ left) right one other = absurd (omega arith)
 
+-- beside a valley stands the sign under at its left and above at its right, where no wall is
 pub two_signs : (left right : List (List ℕ)) (left_signs right_signs : List Sign) → Beside Under left left_signs
     → Beside Above right right_signs → AllFilled left → AllFilled right
     → slice_range (Under ∷ Above ∷ []) (1 - min (length (concat left)) 1) (1 + min (length (concat right)) 1) ≡ left_signs ++ right_signs

@@ -53,6 +53,7 @@ turn_there o from (n ∷ w) zero d h = record {
 turn_there o from (n ∷ w) (suc i) d h = let r = turn_there (after_move o n) (from + length n.signs) w i d (omega arith) in
     record { count = r.count; first = r.first; closed = r.closed }
 
+-- the record of a move says how many squares it hangs and where its valley stood
 pub says_where : (v w : Word) (turns seen : List MoveRecord) (i : ℕ) (d : MoveRecord) → v ≡ w → turns ≡ turns_from start 0 v → seen ≡ turns
     → i < length w → SaysWhere w i (slice_index_or seen i d)
 says_where v w turns seen i d a e f h = subst (λ (l : List MoveRecord). SaysWhere w i (slice_index_or l i d))
@@ -88,6 +89,7 @@ within_there o from (n ∷ w) zero d h = record {
 within_there o from (n ∷ w) (suc i) d h = let r = within_there (after_move o n) (from + length n.signs) w i d (omega arith) in
     record { after = omega (arith, r.after); order = r.order; before = omega (arith, r.before, length-append n.signs (signs_of w), ap length (signs-cons n w)) }
 
+-- the signs that it names stand among those played
 pub signs_within : (v w : Word) (turns seen : List MoveRecord) (played : List Sign) (i : ℕ) (d : MoveRecord) → v ≡ w → turns ≡ turns_from start 0 v
     → seen ≡ turns → played ≡ signs_of v → i < length w
     → ((slice_index_or seen i d).from ≤ (slice_index_or seen i d).to) × ((slice_index_or seen i d).to ≤ length played)

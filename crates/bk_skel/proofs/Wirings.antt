@@ -14,6 +14,7 @@ use Rattle.bk_skel.specs.declared.turns.MoveRecord.{MoveRecord}
 abbrev pub no_turn : MoveRecord
 no_turn = record { place = 0; first = 0; left = 0; closed = 0; right = 0; count = 0; parted = 0; from = 0; to = 0 }
 
+-- wires from one node lead to other nodes that are there
 pub wire_at : (nodes node : ℕ) (ends : List ℕ) (i : ℕ) → i < length ends → AreWires nodes (map (λ e. (node, e)) ends)
     → (get_or ends i 0 < nodes) × (node ≡ get_or ends i 0 → ⊥)
 wire_at nodes node [] i h all = absurd (omega arith)
@@ -28,6 +29,7 @@ wires_back : (nodes : ℕ) (front back : List (ℕ × ℕ)) → AreWires nodes (
 wires_back nodes [] back all = all
 wires_back nodes (w ∷ front) back all = wires_back nodes front back all.1
 
+-- the records from a place on: the one there, and those behind it
 pub drop_turn : (turns : List MoveRecord) (node : ℕ) (d : MoveRecord) → node < length turns → drop node turns ≡ get_or turns node d ∷ drop (suc node) turns
 drop_turn [] node d h = absurd (omega arith)
 drop_turn (t ∷ turns) zero d h = refl
@@ -42,6 +44,7 @@ next_wires turns rest node d h = let more : suc node ≡ node + 1 = omega arith 
     ∙ (λ i. map (λ e. (node, e)) (take (get_or turns node d).count rest)
     ++ wires_from (node + 1) (counts_of (drop (more i) turns)) (drop (get_or turns node d).count rest))
 
+-- so many squares hang from a node, and the others from the nodes behind it
 pub next_count : (turns : List MoveRecord) (node : ℕ) (d : MoveRecord) → node < length turns
     → sum (counts_of (drop node turns)) ≡ (get_or turns node d).count + sum (counts_of (drop (node + 1) turns))
 next_count turns node d h = let more : suc node ≡ node + 1 = omega arith in
@@ -62,6 +65,7 @@ wires_here nodes most all had turns rest own node count d h good same whole e f 
     (subst (AreWires most) (next_wires turns rest node d h)
     (wires_back most had (wires_from node (counts_of (drop node turns)) rest) (subst (AreWires most) whole good)))))
 
+-- the wires so far with those from one node, and the wires from the nodes behind it, are all
 pub wires_more : (all had new : List (ℕ × ℕ)) (turns : List MoveRecord) (rest own behind : List ℕ) (node count : ℕ) (d : MoveRecord) → node < length turns
     → all ≡ had ++ wires_from node (counts_of (drop node turns)) rest → count ≡ (get_or turns node d).count → own ≡ take count rest
     → behind ≡ drop count rest → new ≡ had ++ map (λ e. (node, e)) own
@@ -119,6 +123,7 @@ closed_next turns (suc node) count end d some within e at =
     gets : (get_or turns (suc node - 1) d).closed ≡ (get_or turns node d).closed
     gets = ap (λ n. (get_or turns n d).closed) back
 
+-- with the squares that one more node closes marked, each square up to there has the node where it ends
 pub mark_next : (turns : List MoveRecord) (lists : List (List ℕ)) (closed ended new : List ℕ) (node count end k : ℕ) (d : MoveRecord) → 0 < node
     → node ≤ length turns → count ≡ (get_or turns (node - 1) d).closed → end ≡ sum (take node (closed_of turns))
     → closed ≡ concat lists → closed_of turns ≡ map length lists

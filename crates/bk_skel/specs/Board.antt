@@ -3,7 +3,7 @@
 -- Example (SkeletonExamples): 2u.2eu lays the sides 5, 3, 2, 1 in the width 8; square 3 has its bottom at 5, and square 4
 -- stands alone over the leftmost valley, of width 1, which a square of the side 1 fills.
 use Rattle.std.specs.List.{AllByRecursion, concat}
-use Rattle.std.specs.Prelude.{List, length, sum_by, ℕ, ◌*◌, ◌+◌, ◌-◌, ◌<◌, ◌^◌, ◌≡◌, ◌≤◌}
+use Rattle.std.specs.Prelude.{List, length, sum_by, ℕ, ◌*◌, ◌+◌, ◌<◌, ◌^◌, ◌≡◌, ◌≤◌}
 use Rattle.bk_tiling.specs.Kept.{IsSide}
 use Rattle.bk_tiling.specs.Tiling.{IsOneOf}
 use Rattle.bk_tiling.specs.declared.Segment.{Segment}

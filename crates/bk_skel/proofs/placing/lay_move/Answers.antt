@@ -3,7 +3,7 @@ use Rattle.std.proofs.lemmas.Bool.{both_ways}
 use Rattle.bk_tiling.specs.SquareGroups.{laid_group}
 use Rattle.bk_tiling.specs.declared.Segment.{Segment}
 use Rattle.bk_lay.specs.TilingWord.{signs_between}
-use Rattle.bk_skel.proofs.PlacingTurn.{after_steps, laid_as, lays_move, numbers_as, window_then}
+use Rattle.bk_skel.proofs.LaidMove.{lays_move, laid_as, numbers_as, window_then, after_steps}
 use Rattle.bk_skel.proofs.placing.lay_move.Goals as goal
 
 pub slice_bounds-gap_under-end : goal.slice_bounds-gap_under-end

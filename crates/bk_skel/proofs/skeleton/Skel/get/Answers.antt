@@ -56,7 +56,8 @@ returns c =
     let read : c.append.new.list.items ≡ slice_range c.self.inside.played.items (get_or c.self.inside.turns.items c.args.i no_turn).from
     (get_or c.self.inside.turns.items c.args.i no_turn).to =
     c.append.ensures ∙ ap (λ (l : List Sign). l ++ take (c.from-2.result - c.from.result) (drop c.from.result c.deref-2.result.now)) c.new-signs.ensures
-    ∙ (λ j. slice_range (c.deref-2.ensures.0 j) ((c.from.ensures ∙ ap (λ (t : MoveRecord). t.from) e) j) ((c.from-2.ensures ∙ ap (λ (t : MoveRecord). t.to) e) j)) in
+    ∙ (λ j. slice_range (c.deref-2.ensures.0 j) ((c.from.ensures ∙ ap (λ (t : MoveRecord). t.from) e) j)
+    ((c.from-2.ensures ∙ ap (λ (t : MoveRecord). t.to) e) j)) in
     let at = move_read c.args.self.now c.self.inside.turns.items c.self.inside.played.items c.append.new.list.items c.args.i no_turn
     c.self.view_is c.requires read in
     at ∙ (λ j. Some (record { count = (sym e j).count; signs = c.append.new.list.items }))

@@ -1,5 +1,5 @@
 use Rattle.std.specs.List.{splice}
-use Rattle.std.proofs.Common.{ap, arith, drop, length, take, ◌+◌, ◌-◌, ◌<◌, ◌∙◌, ◌≡◌, ◌≤◌}
+use Rattle.std.proofs.Common.{ap, arith, drop, length, take, ◌+◌, ◌-◌, ◌∙◌, ◌≡◌, ◌≤◌}
 use Rattle.std.proofs.lemmas.List.{length-drop}
 use Rattle.bk_skel.proofs.Playing.{moves_shown, stored_shown}
 use Rattle.bk_skel.proofs.TakenBack.{Back, behind_read, front_left, stored_back, taken_back}
