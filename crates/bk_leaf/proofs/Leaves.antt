@@ -49,6 +49,7 @@ left_at [] k d h = absurd (omega arith)
 left_at (s ∷ sides) zero d h = refl
 left_at (s ∷ sides) (suc k) d h = left_at sides k d (omega arith)
 
+-- each square of a word has a line at its left
 pub as_many_lefts : (w : Word) → length (lefts_of w) ≡ order_of w
 as_many_lefts w = length-map (sides_of w) (λ s. s.0) ∙ as_many_sides w
 

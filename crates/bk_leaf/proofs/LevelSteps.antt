@@ -1,38 +1,31 @@
 -- Levels found wire by wire, and edges found square by square; all of them small.
 use Rattle.std.specs.Int.{w64}
 use Rattle.std.specs.Prelude.{FitsSigned, nat_abs, negsuc, pos, ℤ, ◌+ℤ◌}
-use Rattle.std.proofs.Common.{List, [], ap, arith, drop, drop_of_length-le, inl, inr, length, length-set, refl, set, slice_index_or, subst, suc, sym}
+use Rattle.std.proofs.Common.{List, [], ap, arith, drop, inl, inr, length, length-set, refl, set, slice_index_or, subst, suc, sym}
 use Rattle.std.proofs.Common.{zero, ℕ, ◌*◌, ◌++◌, ◌+◌, ◌<◌, ◌^◌, ◌∙◌, ◌∷◌, ◌≡◌, ◌≤◌, ◌⊎◌}
 use Rattle.std.proofs.Math.Seq.{drop-cons}
 use Rattle.std.proofs.lemmas.Bool.{cases_lt}
 use Rattle.std.proofs.lemmas.Int.{ints}
 use Rattle.std.proofs.lemmas.List.{get_or-map, get_or-set_other, get_or-set_same, length-append, length-map}
 use Rattle.bk_laws.proofs.ListPlaces.{get_back, get_front}
+use Rattle.bk_laws.proofs.Tests.{same_or_other}
 use Rattle.bk_tiling.specs.declared.Square.{Square}
 use Rattle.bk_candidate.specs.Candidate.{line_place, right_edges_from}
 use Rattle.bk_leaf.specs.Placing.{AreKnownLines, AreLevels, AreSmall, EndWithin, HasLevels, IsPlacedAt, IsSmall, by_lefts, edges_by_lefts}
 
-same_or_not : (x y : ℕ) → (x ≡ y) ⊎ (x ≡ y → ⊥)
-same_or_not x y = cases (cases_lt x y) (cases_lt y x)
-  where
-    cases : (x < y) ⊎ (y ≤ x) → (y < x) ⊎ (x ≤ y) → (x ≡ y) ⊎ (x ≡ y → ⊥)
-    cases (inl h) k = inr (λ e. omega arith)
-    cases (inr h) (inl k) = inr (λ e. omega arith)
-    cases (inr h) (inr k) = inl (omega arith)
-
+-- a sum of two small numbers is as small as both bounds together
 pub small_sum : (a b : ℕ) (x y z : ℤ) → IsSmall a x → IsSmall b y → z ≡ x +ℤ y → IsSmall (a + b) z
 small_sum a b x y z s t e = (omega (arith, ints, s.0, t.0, e), omega (arith, ints, s.1, t.1, e))
 
+-- a small number is small by a greater bound
 pub small_more : (a b : ℕ) (x : ℤ) → IsSmall a x → a ≤ b → IsSmall b x
 small_more a b x s h = (omega (arith, ints, s.0, h), omega (arith, ints, s.1, h))
 
+-- 0 is small
 pub small_zero : (a : ℕ) → IsSmall a (pos 0)
 small_zero a = (omega (arith, ints), omega (arith, ints))
 
-pub small_abs : (most : ℕ) (z : ℤ) → IsSmall most z → nat_abs z ≤ most
-small_abs most (pos n) s = omega (arith, ints, s.1)
-small_abs most (negsuc n) s = omega (arith, ints, s.0)
-
+-- a number of small magnitude is small
 pub small_from : (most : ℕ) (z : ℤ) → nat_abs z ≤ most → IsSmall most z
 small_from most (pos n) h = (omega (arith, ints, h), omega (arith, ints, h))
 small_from most (negsuc n) h = (omega (arith, ints, h), omega (arith, ints, h))
@@ -44,6 +37,7 @@ fits_small most (negsuc n) s h = record { sfits = omega (arith, ints, s.0, h) }
 
 -- ---- levels
 
+-- the wires so far have given their ends a level, all small, and the right ones where the wires have levels
 pub record AreLevelled (wires : List (ℕ × ℕ)) (currents levels : List ℤ) (i : ℕ) : Type 0 where
   pub room : length levels ≡ 17
   pub small : (v : ℕ) → v < 17 → IsSmall (i * 2 ^ 34) (slice_index_or levels v (pos 0))
@@ -62,14 +56,7 @@ starts_right wires currents levels i levelled within at are k h low = from (are.
     from (inl e) = subst (λ (v : ℕ). slice_index_or levels v (pos 0) ≡ at v) (sym e) (levelled.right at are).0
     from (inr (j, less, e)) = subst (λ (v : ℕ). slice_index_or levels v (pos 0) ≡ at v) e ((levelled.right at are).1 j (omega (arith, less, h)))
 
-pub levelled_none : (wires : List (ℕ × ℕ)) (currents levels : List ℤ) → length levels ≡ 17
-    → ((v : ℕ) → slice_index_or levels v (pos 0) ≡ pos 0) → AreLevelled wires currents levels 0
-levelled_none wires currents levels room zeros = record {
-  room = room;
-  small = λ v h. subst (λ (z : ℤ). IsSmall (0 * 2 ^ 34) z) (sym (zeros v)) (small_zero (0 * 2 ^ 34));
-  right = λ at are. (zeros 0 ∙ sym are.top, λ j h. absurd (omega arith));
-}
-
+-- one wire more: its end lies its current below its beginning
 pub levelled_more : (wires : List (ℕ × ℕ)) (currents levels : List ℤ) (i from to : ℕ) (level : ℤ) → AreLevelled wires currents levels i
     → i < length wires → length currents ≡ length wires → EndWithin 17 wires → AreSmall (2 ^ 34) currents
     → from ≡ (slice_index_or wires i (0, 0)).0 → to ≡ (slice_index_or wires i (0, 0)).1
@@ -77,10 +64,10 @@ pub levelled_more : (wires : List (ℕ × ℕ)) (currents levels : List ℤ) (i 
     → AreLevelled wires currents (set levels to level) (i + 1)
 levelled_more wires currents levels i from to level levelled within many ends small f t e = record {
   room = length-set levels to level ∙ levelled.room;
-  small = λ v h. small_at v h (same_or_not v to);
+  small = λ v h. small_at v h (same_or_other v to);
   right = λ at are. (
-    right_at at are 0 (inl refl) (same_or_not 0 to),
-    λ j h. right_at at are (slice_index_or wires j (0, 0)).1 (inr (j, h, refl)) (same_or_not (slice_index_or wires j (0, 0)).1 to),
+    right_at at are 0 (inl refl) (same_or_other 0 to),
+    λ j h. right_at at are (slice_index_or wires j (0, 0)).1 (inr (j, h, refl)) (same_or_other (slice_index_or wires j (0, 0)).1 to),
   );
 }
   where
@@ -121,6 +108,7 @@ levelled_more wires currents levels i from to level levelled within many ends sm
         earlier (inl l) = l
         earlier (inr l) = let same : j ≡ i = omega (arith, h) in absurd (n (z ∙ ap (λ (k : ℕ). (slice_index_or wires k (0, 0)).1) same ∙ sym t))
 
+-- once all wires are passed, the levels are those of the wires, where these have any
 pub levelled_all : (wires : List (ℕ × ℕ)) (currents levels : List ℤ) (i : ℕ) → AreLevelled wires currents levels i → length wires ≤ i
     → (at : ℕ → ℤ) → AreLevels wires currents at → HasLevels wires at levels
 levelled_all wires currents levels i levelled all at are k h = (from (are.begun k h), (levelled.right at are).1 k (omega (arith, h, all)))
@@ -132,14 +120,13 @@ levelled_all wires currents levels i levelled all at are k h = (from (are.begun 
 
 -- ---- edges
 
+-- the right edges of the squares so far, all small, go on to those of all squares
 pub record AreEdges (lefts : List ℕ) (currents rights : List ℤ) (total : ℤ) (i : ℕ) : Type 0 where
   pub many : length rights ≡ i
   pub small : (k : ℕ) → k < i → IsSmall ((i + 1) * 2 ^ 34) (slice_index_or rights k (pos 0))
   pub rest : right_edges_from total rights (drop i (by_lefts lefts)) (drop i currents) ≡ edges_by_lefts total lefts currents
 
-pub edges_none : (lefts : List ℕ) (currents : List ℤ) (total : ℤ) → AreEdges lefts currents [] total 0
-edges_none lefts currents total = record { many = refl; small = λ k h. absurd (omega arith); rest = refl }
-
+-- a line lies at a small place
 pub place_small : (rights : List ℤ) (total : ℤ) (i line : ℕ) → IsSmall (2 ^ 34) total → length rights ≡ i
     → ((k : ℕ) → k < i → IsSmall ((i + 1) * 2 ^ 34) (slice_index_or rights k (pos 0))) → line < i + 2
     → IsSmall ((i + 1) * 2 ^ 34) (line_place total rights line)
@@ -147,6 +134,7 @@ place_small rights total i zero small many each h = small_zero ((i + 1) * 2 ^ 34
 place_small rights total i (suc zero) small many each h = small_more (2 ^ 34) ((i + 1) * 2 ^ 34) total small (omega arith)
 place_small rights total i (suc (suc k)) small many each h = each k (omega (arith, h))
 
+-- one square more: its right edge lies its current right of its left line
 pub edges_more : (lefts : List ℕ) (currents rights : List ℤ) (total : ℤ) (i : ℕ) (right : ℤ) → AreEdges lefts currents rights total i
     → i < length lefts → length currents ≡ length lefts
     → AreKnownLines lefts → AreSmall (2 ^ 34) currents → IsSmall (2 ^ 34) total
@@ -183,12 +171,6 @@ edges_more lefts currents rights total i right edges within long known small tot
     small_at k h (inr l) = subst (λ (z : ℤ). IsSmall ((i + 1 + 1) * 2 ^ 34) z)
         (sym (get_back rights (right ∷ []) 0 k (pos 0) (omega (arith, l, h, edges.many)))) right_small
 
-pub edges_all : (lefts : List ℕ) (currents rights : List ℤ) (total : ℤ) (i : ℕ) → AreEdges lefts currents rights total i
-    → length lefts ≤ i → rights ≡ edges_by_lefts total lefts currents
-edges_all lefts currents rights total i edges all =
-    ap (λ (rest : List (ℕ × ℕ)). right_edges_from total rights rest (drop i currents))
-    (sym (drop_of_length-le (by_lefts lefts) (omega (arith, all, length-map {A = ℕ} {B = ℕ × ℕ} lefts (λ line. (line, 0)))))) ∙ edges.rest
-
 -- ---- squares
 
 -- so many squares stand as they should
@@ -196,10 +178,12 @@ pub record ArePlaced (lefts : List ℕ) (wires : List (ℕ × ℕ)) (currents le
   pub many : length squares ≡ n
   pub each : (k : ℕ) → k < n → IsPlacedAt lefts wires currents levels rights total k (slice_index_or squares k (record { x = 0; y = 0; s = 0 }))
 
+-- before the first square none is placed
 pub placed_none : (lefts : List ℕ) (wires : List (ℕ × ℕ)) (currents levels rights : List ℤ) (total : ℤ) → ArePlaced lefts wires currents levels
     rights total [] 0
 placed_none lefts wires currents levels rights total = record { many = refl; each = λ k h. absurd (omega arith) }
 
+-- one square more, at its level and its line
 pub placed_more : (lefts : List ℕ) (wires : List (ℕ × ℕ)) (currents levels rights : List ℤ) (total : ℤ) (squares : List Square) (n : ℕ) (q : Square)
     → ArePlaced lefts wires currents levels rights total squares n
     → IsPlacedAt lefts wires currents levels rights total n q → ArePlaced lefts wires currents levels rights total (squares ++ q ∷ []) (n + 1)

@@ -11,6 +11,7 @@ use Rattle.bk_flow.proofs.NarrowNets.{small_nets_have_small_flows}
 use Rattle.bk_leaf.proofs.LevelSteps.{fits_small, small_from}
 use Rattle.bk_leaf.specs.Placing.{AreSmall, IsSmall}
 
+-- what holds of all elements holds of each
 pub index_all : {A : Type 0} (P : A → Type 0) (xs : List A) (k : ℕ) (d : A) → AllByRecursion P xs → k < length xs → P (slice_index_or xs k d)
 index_all P [] k d all h = absurd (omega arith)
 index_all P (x ∷ xs) zero d all h = all.0
