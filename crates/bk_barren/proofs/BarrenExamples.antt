@@ -5,8 +5,9 @@ use Rattle.bk_word.specs.Word.{Move}
 use Rattle.bk_word.specs.declared.Class.{Class}
 use Rattle.bk_word.specs.declared.Sign.TheVariants.{Above, Even, Under}
 use Rattle.bk_barren.proofs.CuttingFirst.{shorter_first_is_barren}
-use Rattle.bk_barren.proofs.CuttingPairs.{even_squares_are_barren, one_under_one_is_barren}
+use Rattle.bk_barren.proofs.CuttingPairs.{even_squares_are_barren}
 use Rattle.bk_barren.specs.Cuts.{IsBarren}
+use Rattle.bk_barren.proofs.OneUnderOne.{one_under_one_is_barren}
 
 -- after 2u the valley has one square, and 1e hangs one under it: the two would be a part
 pair_barren : (n : ℕ) (class : Class) → IsBarren n class (record { count = 2; signs = Under ∷ [] } ∷ record { count = 1; signs = Even ∷ [] } ∷ [])

@@ -22,10 +22,12 @@ use Rattle.bk_bounds.specs.VerticalCut.{on_line}
 abbrev pub Each : (ℕ → Type 0) → List (List ℕ) → Type 0
 Each P segments = AllByRecursion (AllByRecursion P) segments
 
+-- what holds of the numbers of all segments holds of segments put side by side
 pub each_append : (P : ℕ → Type 0) (xs ys : List (List ℕ)) → Each P xs → Each P ys → Each P (xs ++ ys)
 each_append P [] ys a b = b
 each_append P (x ∷ xs) ys a b = (a.0, each_append P xs ys a.1 b)
 
+-- and of segments joined
 pub each_joined : (P : ℕ → Type 0) (signs : List Sign) (segments : List (List ℕ)) → Each P segments → Each P (joined signs segments)
 each_joined P [] [] a = tt
 each_joined P (Above ∷ signs) [] a = tt
@@ -40,11 +42,13 @@ each_joined P (Even ∷ signs) (s ∷ segments) a = before (joined signs segment
     before [] b = (a.0, tt)
     before (t ∷ rest) b = (all_append P s t a.0 b.0, b.1)
 
+-- and of the numbers of each
 pub each_at : (P : ℕ → Type 0) (segments : List (List ℕ)) (k : ℕ) → Each P segments → AllByRecursion P (slice_index_or segments k [])
 each_at P [] k a = tt
 each_at P (s ∷ segments) zero a = a.0
 each_at P (s ∷ segments) (suc k) a = each_at P segments k a.1
 
+-- what holds of each new number holds of the new squares, each a segment
 pub each_number : (P : ℕ → Type 0) (n k : ℕ) → ((i : ℕ) → i < k → P (n + i)) → Each P (map (λ q. q ∷ []) (numbers_from n k))
 each_number P n zero each = tt
 each_number P n (suc k) each = (
@@ -66,6 +70,7 @@ IsClear laid lines q = on_line lines q ≡ true → (s : Square) → IsNumbered 
 
 -- ---- squares side by side
 
+-- of squares side by side each two lie apart
 pub chain_apart : (squares : List Square) (x end : ℕ) → Chain x squares end → (r s : Square) → IsOneOf r squares → IsOneOf s squares
     → (r.x + r.s ≤ s.x) ⊎ (s.x ≤ r.x)
 chain_apart [] x end c r s a b = absurd a
@@ -75,6 +80,7 @@ chain_apart (q ∷ squares) x end c r s (inl e) (inr b) =
 chain_apart (q ∷ squares) x end c r s (inr a) (inl f) = inr (omega (arith, c.0, ap (λ (z : Square). z.x) f, (chain_within squares (x + q.s) end c.1 r a).0))
 chain_apart (q ∷ squares) x end c r s (inr a) (inr b) = chain_apart squares (x + q.s) end c.1 r s a b
 
+-- the first of them begins where they begin
 pub chain_first : (squares : List Square) (x end : ℕ) → Chain x squares end → (s : Square) → slice_get squares 0 ≡ Some s → s.x ≡ x
 chain_first [] x end c s e = absurd (cc)
 chain_first (q ∷ squares) x end c s e = ap (λ (z : Square). z.x) (inside e) ∙ c.0
@@ -82,6 +88,7 @@ chain_first (q ∷ squares) x end c s e = ap (λ (z : Square). z.x) (inside e) �
     inside : Some q ≡ Some s → s ≡ q
     inside f = cc
 
+-- each later one begins further to the right
 pub chain_later : (squares : List Square) (x end : ℕ) → ((q : Square) → IsOneOf q squares → 0 < q.s) → Chain x squares end
     → (i : ℕ) (s : Square) → slice_get squares (suc i) ≡ Some s → 0 < s.x
 chain_later [] x end side c i s e = absurd (cc)
@@ -89,6 +96,7 @@ chain_later (q ∷ squares) x end side c i s e = omega (arith, side q (inl refl)
 
 -- ---- squares that keep their numbers
 
+-- of two lists laid end to end, what stands behind the first
 pub found_behind : {A : Type 0} (xs ys : List A) (i : ℕ) (y : A) → slice_get (xs ++ ys) (length xs + i) ≡ Some y → slice_get ys i ≡ Some y
 found_behind [] ys i y e = (λ j. slice_get ys (none j)) ∙ e
   where

@@ -17,7 +17,6 @@ use Rattle.bk_lay.proofs.Steps.{one_of}
 use Rattle.bk_lay.proofs.WordPlay.{fewer, tiling_word_is_complete}
 use Rattle.bk_lay.specs.Depiction.{IsSegment}
 use Rattle.bk_lay.specs.TilingWord.{IsWordOf}
-use Rattle.bk_barren.proofs.CuttingPairs.{one_under_one_is_barren}
 use Rattle.bk_barren.proofs.Parts.{Reached, reached}
 use Rattle.bk_word.proofs.PlayLaws.{after_moves-append}
 use Rattle.bk_barren.proofs.BegunWords.{complete_word, within_order}
@@ -25,6 +24,7 @@ use Rattle.bk_bounds.proofs.WordBoundLaws.{closings_are_hung, singles_are_hung}
 use Rattle.bk_bounds.specs.WordBounds.{HangNoPairsFrom, IsWithoutPairs}
 use Rattle.bk_catalogue.specs.Catalogue.{Entry, IsEntry}
 use Rattle.bk_barren.specs.BoundCuts.{TooManySinglesIsBarren, TooManyToCloseIsBarren}
+use Rattle.bk_barren.proofs.OneUnderOne.{one_under_one_is_barren}
 use Rattle.bk_bounds.specs.ClosingBound.{closing_bound}
 use Rattle.bk_bounds.specs.SingleValleys.{single_valleys, sizes_of}
 

@@ -7,6 +7,7 @@ pub mod ClearLines
 pub mod LinesLeft
 pub mod Cutting
 pub mod CuttingPairs
+pub mod OneUnderOne
 pub mod CuttingFirst
 pub mod CuttingBounds
 pub mod CuttingLines

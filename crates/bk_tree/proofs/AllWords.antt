@@ -17,6 +17,7 @@ use Rattle.bk_word.specs.declared.Sign.TheVariants.{Above, Even, Under}
 use Rattle.bk_tree.proofs.MoveOrder.{greater, three}
 use Rattle.bk_tree.proofs.Places.{word_same}
 use Rattle.bk_laws.proofs.NoneRepeated.{IsIn}
+use Rattle.bk_laws.proofs.Tests.{same_or_other}
 use Rattle.bk_tree.specs.Tree.{AreAscendingWords, IsInTree, IsNotAfter, IsTreeCount}
 use Rattle.bk_tree.specs.TreeLaws.{EachPartOfTheTreeHasACount}
 
@@ -125,15 +126,6 @@ each_small o n (m ∷ w) legal few = (
 among_all : (n : ℕ) (w : Word) → AreLegalFrom start w → order_of w ≤ n → IsIn w (words_to n n)
 among_all n w legal few = in_words n n w (omega (arith, moves_many start w legal, few)) (each_small start n w legal few)
 
--- whether a word is of the part
-equal_or_not : (a b : ℕ) → (a ≡ b) ⊎ (a ≡ b → ⊥)
-equal_or_not a b = by (three a b)
-  where
-    by : (a < b) ⊎ ((a ≡ b) ⊎ (b < a)) → (a ≡ b) ⊎ (a ≡ b → ⊥)
-    by (inl h) = inr (λ e. omega (arith, h, e))
-    by (inr (inl e)) = inl e
-    by (inr (inr h)) = inr (λ e. omega (arith, h, e))
-
 less_or_not : (r : Ordering) → (r ≡ Less) ⊎ (r ≡ Less → ⊥)
 less_or_not Less = inl refl
 less_or_not Equal = inr (λ (e : Equal ≡ Less). absurd (cc))
@@ -153,7 +145,7 @@ MoveParts o m = (0 < m.count) × (length m.signs + 1 ≡ m.count + open_side (ha
 
 move_or_not : (o : Outline) (m : Move) → IsLegalMove o m ⊎ (IsLegalMove o m → ⊥)
 move_or_not o m = by (both_or_not (some_or_not m.count)
-    (equal_or_not (length m.signs + 1) (m.count + open_side (has_left_wall o) + open_side (has_right_wall o))))
+    (same_or_other (length m.signs + 1) (m.count + open_side (has_left_wall o) + open_side (has_right_wall o))))
   where
     by : MoveParts o m ⊎ (MoveParts o m → ⊥) → IsLegalMove o m ⊎ (IsLegalMove o m → ⊥)
     by (inl p) = inl (record { some = p.0; signs = p.1 })

@@ -7,7 +7,8 @@ use Rattle.std.proofs.lemmas.List.{append-nil, length-append, length-replicate, 
 use Rattle.bk_word.specs.Word.{Move, move_cmp}
 use Rattle.bk_word.specs.declared.Sign.{Sign}
 use Rattle.bk_word.specs.declared.Sign.TheVariants.{Above, Even, Under}
-use Rattle.bk_tree.proofs.MoveOrder.{Begins, IsLess, begun_before, greater, less_from, less_to, move_total, moves_between, next_short, signs_cmp, IsShort}
+use Rattle.bk_word.proofs.WordOrder.{move_total}
+use Rattle.bk_tree.proofs.MoveOrder.{Begins, IsLess, begun_before, greater, less_from, less_to, moves_between, next_short, signs_cmp, IsShort}
 use Rattle.bk_tree.specs.NextMove.{IsMoveFrom, fitted, move_after, move_of, padded, signs_after, signs_wanted}
 
 longer_from : (a rest : List Sign) → signs_cmp (a ++ rest) a ≡ Less → ⊥

@@ -1,12 +1,11 @@
 -- The order of moves: which moves lie between one and the next.
-use Rattle.std.specs.Cmp.{IsTotalOrder, nat_cmp_is, on_total}
+use Rattle.std.specs.Cmp.{nat_cmp_is}
 use Rattle.std.specs.Cmp.Lexicographic.{slice_cmp}
 use Rattle.std.specs.Ordering.{nat_cmp, ordering_then}
 use Rattle.std.specs.declared.cmp.Ordering.{Ordering}
 use Rattle.std.specs.declared.cmp.Ordering.TheVariants.{Equal, Greater, Less}
 use Rattle.std.proofs.Common.{List, None, Option, Some, [], ap, arith, inl, inr, length, refl, suc, sym, ℕ, ◌++◌, ◌+◌, ◌<◌, ◌∙◌, ◌∷◌, ◌≡◌, ◌≤◌, ◌⊎◌}
-use Rattle.std.proofs.lemmas.Cmp.{lists_total, nat_cmp_total, then_total}
-use Rattle.bk_word.specs.Word.{Move, move_cmp, sign_cmp, sign_place}
+use Rattle.bk_word.specs.Word.{Move, move_cmp, sign_cmp}
 use Rattle.bk_word.specs.declared.Sign.{Sign}
 use Rattle.bk_word.specs.declared.Sign.TheVariants.{Above, Even, Under}
 use Rattle.bk_tree.specs.NextMove.{IsMoveFrom, move_after, move_of, raised, signs_after}
@@ -14,17 +13,6 @@ use Rattle.bk_tree.specs.NextMove.{IsMoveFrom, move_after, move_of, raised, sign
 -- signs compare as lists do
 abbrev pub signs_cmp : List Sign → List Sign → Ordering
 signs_cmp a b = slice_cmp sign_cmp a b
-
--- the order of moves is total
-pub move_total : IsTotalOrder move_cmp
-move_total = then_total (on_total (λ (m : Move). m.count) nat_cmp_total) (on_total (λ (m : Move). m.signs) (lists_total (on_total sign_place nat_cmp_total)))
-
--- signs are equal to themselves
-pub signs_itself : (a : List Sign) → signs_cmp a a ≡ Equal
-signs_itself [] = refl
-signs_itself (Above ∷ a) = signs_itself a
-signs_itself (Even ∷ a) = signs_itself a
-signs_itself (Under ∷ a) = signs_itself a
 
 -- signs that begin with these
 pub record Begins (front signs : List Sign) : Type 0 where

@@ -10,7 +10,8 @@ use Rattle.bk_word.specs.Play.{AreLegalFrom, outline_of}
 use Rattle.bk_word.specs.Word.{Move, Word, move_cmp, order_of, word_cmp}
 use Rattle.bk_word.specs.declared.Sign.{Sign}
 use Rattle.bk_word.specs.declared.Sign.TheVariants.{Above, Even, Under}
-use Rattle.bk_tree.proofs.MoveOrder.{Begins, IsLess, greater, less_to, none_below, signs_cmp, signs_itself, three}
+use Rattle.bk_word.proofs.WordOrder.{move_itself}
+use Rattle.bk_tree.proofs.MoveOrder.{Begins, IsLess, greater, less_to, none_below, signs_cmp, three}
 use Rattle.bk_tree.specs.NextMove.{IsMoveFrom, first_move}
 
 signs_same : (a b : List Sign) → signs_cmp a b ≡ Equal → a ≡ b
@@ -66,10 +67,6 @@ word_same (m ∷ v) (n ∷ w) e = cases (move_cmp m n) refl (λ k. word_same v w
     cases Less f g = absurd (less (sym (ap (λ z. ordering_then z (word_cmp v w)) f) ∙ e))
     cases Greater f g = absurd (more (sym (ap (λ z. ordering_then z (word_cmp v w)) f) ∙ e))
     cases Equal f g = ap (λ z. z ∷ v) (move_same m n f) ∙ ap (λ z. n ∷ z) (g (sym (ap (λ z. ordering_then z (word_cmp v w)) f) ∙ e))
-
--- a move compares as equal with itself
-pub move_itself : (m : Move) → move_cmp m m ≡ Equal
-move_itself m = ap (λ z. ordering_then z (signs_cmp m.signs m.signs)) (sym (nat_cmp_is m.count m.count Equal refl)) ∙ signs_itself m.signs
 
 -- equal first moves don't matter to the order of words
 pub front_cmp : (front u v : Word) → word_cmp (front ++ u) (front ++ v) ≡ word_cmp u v

@@ -1,4 +1,4 @@
-use Rattle.bk_barren.proofs.CuttingPairs.{one_under_one_is_barren as the_law}
+use Rattle.bk_barren.proofs.OneUnderOne.{one_under_one_is_barren as the_law}
 use Rattle.bk_barren.proofs.one_under_one_is_barren.Goals as goal
 
 pub returns : goal.returns
