@@ -44,9 +44,6 @@ spelled_further xs ys n m k one two = record {
       onward-append xs ys (at_side header bracket n) (at_side header bracket m) g g (one.leads header bracket g) ∙ two.leads header bracket g;
 }
 
-pub nothing_spelled : SpellOn [] 0 0
-nothing_spelled = record { small = omega arith; leads = λ header bracket g. refl }
-
 -- what is gathered stays so with a further side
 gathered_side : (n : ℕ) (g : Gathered) → IsSide n → IsGathered g → IsGathered (with_side n g)
 gathered_side n g side is = cases (nat_lt (kept_count g) 200) (λ e. ltb-true (kept_count g) 200 e) (λ e. ltb-false (kept_count g) 200 e)
