@@ -10,14 +10,17 @@ use Rattle.bk_text.specs.declared.reader.Bracket.TheVariants.{Round, Square}
 use Rattle.bk_text.specs.declared.reader.Kind.{Kind}
 use Rattle.bk_text.specs.declared.reader.Kind.TheVariants.{Blank, Close, Comma, Cross, Digit, Open, Other, Semicolon, Zero}
 
+-- the bracket that opens a group
 abbrev pub open_byte : Bracket → ℕ
 open_byte Square = 91
 open_byte Round = 40
 
+-- and the one that closes it
 abbrev pub close_byte : Bracket → ℕ
 close_byte Square = 93
 close_byte Round = 41
 
+-- what a byte of each kind is
 abbrev pub Means : Kind → ℕ → Type 0
 Means Blank b = IsBlank b
 Means Zero b = b ≡ 48
@@ -40,6 +43,7 @@ digit_means b h =
     let high = leb-true b 57 parts.1 in
     (omega arith, omega arith, omega arith)
 
+-- each byte is what its kind says
 pub means : (b : ℕ) → Means (kind_of b) b
 means b =
     either (b == 48) Zero _ b (λ h. eqb-true b 48 h) (

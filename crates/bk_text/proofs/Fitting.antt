@@ -47,6 +47,7 @@ Fits (BehindSide g c) t = 0 < length t.sides
 Fits (BehindGroup g) t = t.sides ≡ []
 Fits (InComment ending) t = FitsEnding ending t
 
+-- the lists go with the next place, where there is one
 abbrev pub FitsNext : Option Place → Lists → Type 0
 FitsNext None t = Unit {0}
 FitsNext (Some q) t = Fits q t
@@ -93,6 +94,7 @@ number_fits (SideOf g Square) v (Close Round) t b m h = tt
 number_fits (SideOf g Round) v (Close Square) t b m h = tt
 number_fits f v k t b m h = tt
 
+-- lists that go with a place go with the next one behind a byte
 pub fits_after : (p : Place) (k : Kind) (t : Lists) (b : ℕ) → Means k b → Fits p t → FitsNext (next_place p k) (lists_after p k t)
 fits_after (InNumber f v) k t b m h = number_fits f v k t b m h
 fits_after Start Blank t b m h = h
@@ -143,6 +145,7 @@ ended_is_side (InNumber (Third o w) v) (Digit d) t h n e = absurd (cc)
 ended_is_side (InNumber (Third o w) v) k t h n e = absurd (cc)
 ended_is_side p k t h n e = absurd (cc)
 
+-- a number that ends a line as a side is one that a square may have
 pub last_is_side : (p : Place) (t : Lists) → Fits p t → (n : ℕ) → last_side p ≡ Some n → IsSide n
 last_is_side (InNumber (Column r) v) t h n e = let same : v ≡ n = cc in subst IsSide same (h.0, h.1)
 last_is_side p t h n e = absurd (cc)

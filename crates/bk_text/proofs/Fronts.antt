@@ -25,15 +25,18 @@ abbrev pub Ends : ℕ → Bracket → ℕ → Bool → Type 0
 Ends b bracket side closed = (h : Header) (g : Gathered)
     → onward (b ∷ []) (at_side h bracket side) g ≡ Some (behind_sides h bracket closed, with_last side closed g)
 
+-- a comma ends a side, and the group goes on
 pub comma_ends : (b side : ℕ) (bracket : Bracket) → 0 < side → kind_of b ≡ Comma → Ends b bracket side false
 comma_ends b zero bracket some kind h g = absurd (omega (arith, some))
 comma_ends b (suc n) bracket some kind h g = ap (step (Number (Side h bracket) (suc n)) g) kind
 
+-- its own bracket ends a side and the group
 pub bracket_ends : (b side : ℕ) (bracket : Bracket) → 0 < side → kind_of b ≡ Close bracket → Ends b bracket side true
 bracket_ends b zero bracket some kind h g = absurd (omega (arith, some))
 bracket_ends b (suc n) Square some kind h g = ap (step (Number (Side h Square) (suc n)) g) kind
 bracket_ends b (suc n) Round some kind h g = ap (step (Number (Side h Round) (suc n)) g) kind
 
+-- digits and the byte that ends them are a side in front of the bytes
 pub front_side : (bracket : Bracket) (bytes : List ℕ) (side digits : ℕ) (closed : Bool) → SpellOn (take digits bytes) 0 side → 0 < side
     → digits < length bytes → Ends (get_or bytes digits 0) bracket side closed → IsFrontSide bracket bytes side (digits + 1) closed
 front_side bracket bytes side digits closed spelled some within ends = record {
@@ -53,6 +56,7 @@ group_within bracket bytes taken side len closed within front =
     subst (λ (z : List ℕ). IsFrontSide bracket z side len closed) (from_is_drop taken bytes) front in
     omega (arith, within, front'.within, length-drop taken bytes)
 
+-- with one more side in front taken, the reader stands before the next side or behind the group
 pub group_further : (bracket : Bracket) (bytes : List ℕ) (taken side len : ℕ) (closed : Bool) (start g h : Gathered)
     → ((header : Header) → onward (take taken bytes) (BeforeSide header bracket) start ≡ Some (BeforeSide header bracket, g))
     → IsFrontSide bracket (from taken bytes) side len closed → h ≡ with_last side closed g

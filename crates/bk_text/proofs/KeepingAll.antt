@@ -12,13 +12,16 @@ pub record Lists : Type 0 where
   pub groups : List (List ℕ)
   pub sides : List ℕ
 
+-- nothing is read yet
 abbrev pub no_lists : Lists
 no_lists = record { groups = []; sides = [] }
 
+-- with a further side, where there is one
 abbrev pub and_side : Option ℕ → Lists → Lists
 and_side None t = t
 and_side (Some n) t = record { groups = t.groups; sides = t.sides ++ n ∷ [] }
 
+-- with the open group closed, where it is
 abbrev pub and_group : Bool → Lists → Lists
 and_group false t = t
 and_group true t = record { groups = t.groups ++ t.sides ∷ []; sides = [] }
@@ -33,6 +36,7 @@ line_of Empty t = Skip
 line_of (Coded h) t = Item h.order h.size t.groups
 line_of (Row r) t = Flat r.order r.width r.height t.sides
 
+-- the line that ends here, where one may
 abbrev pub line_at : Option Ending → Lists → Option Line
 line_at None t = None
 line_at (Some e) t = Some (line_of e t)

@@ -21,6 +21,7 @@ column_range (n ∷ []) bs (a, x, e, gap, side) = (omega arith, (side_range n x 
 column_range (n ∷ m ∷ ns) bs (a, x, e, gap, (f, y, e', side, rest)) = let others =
     column_range (m ∷ ns) y rest in (omega arith, (side_range n f side, others.1))
 
+-- a line of at most 200 sides is one of which all can be kept
 pub line_range : (l : Line) (bs : List ℕ) → IsLine l bs → length (sides_of_line l) ≤ 200 → IsInRange l
 line_range Skip bs h few = tt
 line_range (Item order size []) bs (a, x, e, blanks, (f, y, e', header, (k, z, e'', groups, end))) few = absurd groups
@@ -37,12 +38,14 @@ pub read_is : (r : Result Ending TextFault) (ending : Ending) (g : Gathered) (bs
 read_is (Ok e) ending g bs is line = subst (λ (x : Ending). IsLine (line_gathered x g) bs) (sym is.0) (line is.1)
 read_is (Err fault) ending g bs is line = tt
 
+-- so the numbers of a line that was read are in range
 pub range_is : (r : Result Ending TextFault) (g : Gathered) (bs : List ℕ) → IfOk r (λ e. IsLine (line_gathered e g) bs)
     → IfOk r (λ e. length (sides_of_line (line_gathered e g)) ≤ 200)
     → IfOk r (λ e. IsInRange (line_gathered e g))
 range_is (Ok e) g bs line few = line_range (line_gathered e g) bs line few
 range_is (Err fault) g bs line few = tt
 
+-- a line is refused for its many sides exactly where it has them
 pub fault_is : (r : Result Ending TextFault) (many : Bool) (bs : List ℕ) → IfErr r (λ fault. fault ≡ Many) → OnErr r (many ≡ true)
     → (many ≡ true → IsFaultOf Many bs) → IfErr r (λ fault. IsFaultOf fault bs)
 fault_is (Ok e) many bs is full line = tt

@@ -29,12 +29,14 @@ pub record Keeps (g : Gathered) (t : Lists) : Type 0 where
   pub sides : g.many ≡ false → g.sides ≡ t.sides
   pub more : g.many ≡ true → 200 < read_count t
 
+-- the bytes read so far lead to this place with lists that go with it, of which so much is kept
 pub record Progress (front : List ℕ) (p : Place) (g : Gathered) : Type 0 where
   pub lists : Lists
   pub leads : Leads front p lists
   pub fits : Fits p lists
   pub keeps : Keeps g lists
 
+-- before the first byte nothing is read
 pub at_start : Progress [] Start nothing_gathered
 at_start = record { lists = no_lists; leads = λ x. refl; fits = refl; keeps = record { groups = λ e. refl; sides = λ e. refl; more = λ e. absurd (cc) } }
 
@@ -98,6 +100,7 @@ keeps_closed true g t keeps = keeps_group g t keeps
 pub side_fits : (front : List ℕ) (p : Place) (g : Gathered) (k : Kind) → Progress front p g → (n : ℕ) → ended_side p k ≡ Some n → IsSide n
 side_fits front p g k progress n e = ended_is_side p k progress.lists progress.fits n e
 
+-- a side that ends here is one that a square may have
 pub last_fits : (front : List ℕ) (p : Place) (g : Gathered) → Progress front p g → (n : ℕ) → last_side p ≡ Some n → IsSide n
 last_fits front p g progress n e = last_is_side p progress.lists progress.fits n e
 
@@ -112,6 +115,7 @@ side_added n g few = cases (nat_lt (kept_count g) 200) few
     cases true few' = omega (arith, length-append g.sides (n ∷ []))
     cases false few' = absurd (cc)
 
+-- a group that closes here has a side
 pub group_fits : (front : List ℕ) (p : Place) (g : Gathered) (k : Kind) → Progress front p g → closes_group p k ≡ true
     → (with_ended (ended_side p k) g).many ≡ false → 0 < length (with_ended (ended_side p k) g).sides
 group_fits front (InNumber (SideOf h c) v) g (Close d) progress closes few = side_added v g few
@@ -144,6 +148,7 @@ pub no_next : (bs : List ℕ) (i : ℕ) (p : Place) (g : Gathered) → i < lengt
     → next_place p (kind_of (get_or bs i 0)) ≡ None → IsNoLine bs i
 no_next bs i p g within progress none = stops_at bs i p progress.lists within progress.leads none
 
+-- bytes that end where no line may end are no line
 pub no_ending : (bs : List ℕ) (p : Place) (g : Gathered) → Progress bs p g → ending_at p ≡ None → IsNoLine bs (length bs)
 no_ending bs p g progress none = stops_at_end bs p progress.lists progress.leads none
 
@@ -159,6 +164,7 @@ same_line Empty g t keeps few = refl
 same_line (Coded h) g t keeps few = ap (Item h.order h.size) (sym (keeps.groups few))
 same_line (Row r) g t keeps few = ap (Flat r.order r.width r.height) (sym (keeps.sides few))
 
+-- bytes that end where a line may end are the line that was gathered
 pub line_found : (bs : List ℕ) (p : Place) (g : Gathered) (ending : Ending) → Progress bs p g → IsGathered g → ending_at p ≡ Some ending
     → (with_ended (last_side p) g).many ≡ false → IsLine (line_gathered ending (with_ended (last_side p) g)) bs
 line_found bs p g ending progress is ends few =
@@ -167,6 +173,7 @@ line_found bs p g ending progress is ends few =
     (keeps_ended (last_side p) g progress.lists is progress.keeps) few)
     (whole_line bs p g ending progress ends)
 
+-- and where not all sides were kept, a line of more than 200 sides
 pub many_found : (bs : List ℕ) (p : Place) (g : Gathered) (ending : Ending) → Progress bs p g → IsGathered g → ending_at p ≡ Some ending
     → (with_ended (last_side p) g).many ≡ true → (line : Line) × IsLine line bs × (200 < length (sides_of_line line))
 many_found bs p g ending progress is ends many =

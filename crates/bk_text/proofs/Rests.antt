@@ -26,9 +26,11 @@ line_onto t Skip = Skip
 line_onto t (Item order size code) = Item order size (onto t code)
 line_onto t (Flat order width height ns) = Flat order width height (t.sides ++ ns)
 
+-- a code with the order and the size stated before it
 abbrev pub item : Header → List (List ℕ) → Line
 item h code = Item h.order h.size code
 
+-- a row of a table
 abbrev pub row : Table → List ℕ → Line
 row r ns = Flat r.order r.width r.height ns
 
@@ -50,6 +52,7 @@ MoreSides (n ∷ ns) = Is (codes ",") then Sides (n ∷ ns)
 abbrev pub SidesRest : Bracket → List ℕ → List (List ℕ) → List ℕ → Type 0
 SidesRest bracket ns gs = Sides ns then Is (close_byte bracket ∷ []) then GroupsRest gs
 
+-- further sides of a group, and what follows the group
 abbrev pub MoreSidesRest : Bracket → List ℕ → List (List ℕ) → List ℕ → Type 0
 MoreSidesRest bracket ns gs = Blanks then MoreSides ns then Is (close_byte bracket ∷ []) then GroupsRest gs
 
@@ -58,6 +61,7 @@ abbrev pub Columns : List ℕ → List ℕ → Type 0
 Columns [] = LineEnd
 Columns (n ∷ ns) = SomeBlanks then Side n then Columns ns
 
+-- the same where blanks were read
 abbrev pub ColumnsAfterBlanks : List ℕ → List ℕ → Type 0
 ColumnsAfterBlanks [] = LineEnd
 ColumnsAfterBlanks (n ∷ ns) = Blanks then Side n then Columns ns
@@ -106,6 +110,7 @@ Rest (BehindSide h bracket) t l bs = (ns : List ℕ) × (gs : List (List ℕ)) �
 Rest (BehindGroup h) t l bs = (gs : List (List ℕ)) × GroupsRest gs bs × (l ≡ item h (onto t gs))
 Rest (Comment ending) t l bs = l ≡ line_of ending t
 
+-- what completes a line from the next place, where there is one
 abbrev pub RestAfter : Option Place → Lists → Line → List ℕ → Type 0
 RestAfter None t l bs = ⊥
 RestAfter (Some q) t l bs = Rest q t l bs

@@ -24,6 +24,7 @@ pub group_by_sides : (ns : List ℕ) → 0 < length ns → group_text ns ≡ 91 
 group_by_sides [] some = absurd (omega (arith, some))
 group_by_sides (n ∷ ns) some = ap (λ x. 91 ∷ x ++ 93 ∷ []) (joined n ns)
 
+-- a side has at most 15 digits
 pub short_side : (n : ℕ) → IsSide n → length (decimal n) ≤ 15
 short_side n side = length-decimal-le 15 n (omega arith) (omega (arith, side.1)) (omega (arith, side.1))
 
@@ -31,6 +32,7 @@ short_sides : (ns : List ℕ) → AllByRecursion IsSide ns → length (flat_map 
 short_sides [] sides = omega arith
 short_sides (n ∷ ns) sides = omega (arith, short_side n sides.0, short_sides ns sides.1, length-append (decimal n) (flat_map side_text ns))
 
+-- a group has at most 17 bytes a side
 pub short_group : (ns : List ℕ) → IsSideGroup ns → length (group_text ns) ≤ 17 * length ns
 short_group [] group = absurd (omega (arith, group.0))
 short_group (n ∷ ns) group =
@@ -41,6 +43,7 @@ short_group (n ∷ ns) group =
     ∙ length-append (decimal n) (flat_map side_text ns) in
     omega (arith, all, parts, short_side n group.1.0, short_sides ns group.1.1)
 
+-- and so has a code
 pub short_code : (code : Code) → AllByRecursion IsSideGroup code → length (code_text code) ≤ 17 * length (flat code)
 short_code [] groups = omega arith
 short_code (g ∷ code) groups =
@@ -80,5 +83,6 @@ room_for_group code old mid g kept room text within =
     let size : length mid ≡ length old + length (code_text (take g code)) = ap length text ∙ length-append old (code_text (take g code)) in
     omega (arith, size, short_code (take g code) (groups_front code g kept.groups), kept.few, length-flat_map-take (λ (x : List ℕ). x) code g [] within)
 
+-- a kept code has at most 3,400 bytes
 pub short_kept : (code : Code) → IsKeptCode code → length (code_text code) ≤ 3400
 short_kept code kept = omega (arith, short_code code kept.groups, kept.few)

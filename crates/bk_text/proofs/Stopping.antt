@@ -50,6 +50,7 @@ completion (InComment ending) t = ([], tt)
 abbrev pub Leads : List ℕ → Place → Lists → Type 0
 Leads front p t = (x : List ℕ) → read (front ++ x) Start no_lists ≡ read x p t
 
+-- what leads to a place, with one more byte
 pub leads_on : (front : List ℕ) (p q : Place) (t : Lists) (b : ℕ) → Leads front p t → next_place p (kind_of b) ≡ Some q
     → Leads (front ++ b ∷ []) q (lists_after p (kind_of b) t)
 leads_on front p q t b leads next x =

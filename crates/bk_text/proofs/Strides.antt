@@ -17,6 +17,7 @@ use Rattle.bk_text.proofs.Progress.{Progress, moved, one_more, side_fits}
 abbrev pub from : ℕ → List ℕ → List ℕ
 from i bs = take (length bs - i) (drop i bs)
 
+-- the bytes from a place on
 pub from_is_drop : (i : ℕ) (bs : List ℕ) → from i bs ≡ drop i bs
 from_is_drop i bs = take_all (length bs - i) (drop i bs) (omega (arith, length-drop i bs))
 
@@ -115,6 +116,7 @@ several_further bs i n p q g h progress is e =
     subst (λ (z : List ℕ). Progress z q h) (sym (take-add i n bs))
     (several_more (take n (drop i bs)) (take i bs) p q g h progress is (sym (ap (λ z. onward (take n z) p g) (from_is_drop i bs)) ∙ e))
 
+-- where no byte is taken, all stays
 pub none_further : (bs : List ℕ) (i n : ℕ) (p q : Place) (g h : Gathered) → n ≡ 0 → Progress (take i bs) p g → IsGathered g
     → onward (take n (from i bs)) p g ≡ Some (q, h) → Progress (take i bs) q h
 none_further bs i n p q g h none progress is e =

@@ -19,6 +19,7 @@ side_spelled n h = number_from_decimal 15 n (omega arith) (omega arith) h.0 (ome
 pub one_side : (n : ℕ) (bs after : List ℕ) → Side n bs → Blanks after → Sides (n ∷ []) (bs ++ after)
 one_side n bs after h blanks = ([], bs ++ after, refl, tt, (bs, after, refl, h, blanks))
 
+-- a side, a comma and further sides
 pub more_sides : (n m : ℕ) (ns bs rest : List ℕ) → Side n bs → Sides (m ∷ ns) rest → Sides (n ∷ m ∷ ns) (bs ++ 44 ∷ rest)
 more_sides n m ns bs rest h hs = ([], bs ++ 44 ∷ rest, refl, tt, (bs, 44 ∷ rest, refl, h, ([], 44 ∷ rest, refl, tt, (44 ∷ [], rest, refl, refl, hs))))
 
@@ -47,6 +48,7 @@ code_spelled : (code : List (List ℕ)) → AllByRecursion IsSideGroup code → 
 code_spelled [] all some = absurd (omega (arith, some))
 code_spelled (g ∷ gs) all some = groups_spelled g gs all
 
+-- a written code and the end of a line are a line that stands for the code
 pub written_code : AWrittenCodeIsRead
 written_code code end kept some ends =
     ([], code_text code ++ end, refl, tt, ([], code_text code ++ end, refl, refl, (code_text code, end, refl, code_spelled code kept.groups some, ends)))
