@@ -21,7 +21,8 @@ nodes_front : (l : Layout) (f : ℕ → ℕ) (o : Outline) (front rest : Word) �
 nodes_front l f o [] rest p = tt
 nodes_front l f o (m ∷ front) rest p = (p.0, nodes_front l f (after_move o m) front rest p.1)
 
-along_long : (o : Outline) (sides : List (ℕ × ℕ)) (w : Word) → length sides ≡ length o.hung → length (sides_along o sides w) ≡ length (after_moves o w).hung
+-- the word hangs a square for each pair of lines
+pub along_long : (o : Outline) (sides : List (ℕ × ℕ)) (w : Word) → length sides ≡ length o.hung → length (sides_along o sides w) ≡ length (after_moves o w).hung
 along_long o sides [] e = e
 along_long o sides (m ∷ w) e = along_long (after_move o m) (sides_after o sides m) w (omega (
   arith,

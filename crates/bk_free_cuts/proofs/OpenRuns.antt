@@ -2,12 +2,13 @@
 use Rattle.std.proofs.Common.{List, Option, Some, [], ap, arith, drop, inl, inr, length, map, refl, slice_get, slice_index_or, subst, suc, sym, take}
 use Rattle.std.proofs.Common.{zero, ℕ, ◌++◌, ◌+◌, ◌-◌, ◌∙◌, ◌∷◌, ◌≡◌, ◌⊎◌}
 use Rattle.bk_laws.proofs.ListPlaces.{get_after, get_append, get_map}
+use Rattle.bk_laws.proofs.Tests.{same_or_other}
 use Rattle.bk_word.specs.Outline.{Outline, start, valley_place}
 use Rattle.bk_word.specs.Play.{after_move, after_moves, before_first_list, joined, new_squares, outline_of, segments_apart, signs_apart}
 use Rattle.bk_word.specs.Word.{Word}
 use Rattle.bk_word.specs.declared.Sign.{Sign}
 use Rattle.bk_word.specs.declared.Sign.TheVariants.{Above, Even, Under}
-use Rattle.bk_layout.proofs.Counting.{got_same, same_or_other}
+use Rattle.bk_layout.proofs.Counting.{got_same}
 use Rattle.bk_layout.specs.Layout.{Layout}
 use Rattle.bk_layout.specs.LayoutLaws.{HangByNodesFrom}
 use Rattle.bk_bounds.proofs.ClosingLaws.{drop_next}

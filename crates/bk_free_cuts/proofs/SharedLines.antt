@@ -1,10 +1,11 @@
 -- Lines and nodes that words share: the nodes and squares of a word against those of its layout.
-use Rattle.std.proofs.Common.{List, None, Option, Some, [], ap, arith, cond, inl, inr, length, map, nat_eq, option_map, refl, replicate, slice_get}
+use Rattle.std.proofs.Common.{List, None, Option, Some, [], ap, arith, cond, inl, inr, length, map, nat_eq, option_map, replicate, slice_get}
 use Rattle.std.proofs.Common.{slice_index_or, subst, suc, sym, zero, ℕ, ◌++◌, ◌+◌, ◌-◌, ◌<◌, ◌∙◌, ◌∷◌, ◌≡◌, ◌≤◌, ◌⊎◌}
 use Rattle.std.proofs.lemmas.Bool.Decides.{nat_tests}
 use Rattle.std.proofs.lemmas.List.{append-nil, append_assoc, length-append, length-map}
 use Rattle.bk_laws.proofs.Occurrences.{times, times_at, times_in, times_in-append}
-use Rattle.bk_laws.proofs.ListPlaces.{get_append, get_map, get_some}
+use Rattle.bk_laws.proofs.ListPlaces.{get_append, get_map, get_some, index_got, got_low}
+use Rattle.bk_laws.proofs.Tests.{same_or_other}
 use Rattle.bk_word.proofs.PlayLists.{numbers-length}
 use Rattle.bk_word.specs.Outline.{Outline, start, valley_of}
 use Rattle.bk_word.specs.Play.{after_move, after_moves, numbers_from, outline_of}
@@ -14,13 +15,12 @@ use Rattle.bk_word_net.proofs.PlacesInLists.{wires_got}
 use Rattle.bk_word_net.proofs.Shape.{hung_many}
 use Rattle.bk_word_net.proofs.Wires.{wires_length}
 use Rattle.bk_word_net.specs.WordNet.{end_of, net_of_word}
-use Rattle.bk_layout.proofs.Counting.{at_most, got_same, got_times, none_for, once_times, one_for, same_or_other, times_got}
+use Rattle.bk_layout.proofs.Counting.{at_most, got_same, got_times, none_for, once_times, one_for, times_got}
 use Rattle.bk_layout.specs.Layout.{Fits, Layout, net_of_layout}
 use Rattle.bk_layout.specs.LayoutLaws.{IsWordOfLayout}
 use Rattle.bk_word.proofs.PlayLaws.{after_moves-append}
 use Rattle.bk_free_cuts.proofs.MarkedSquares.{numbers_at}
 use Rattle.bk_free_cuts.proofs.OpenRuns.{index_at}
-use Rattle.bk_free_cuts.proofs.WideNodes.{got_low}
 
 closed_grows : (o : Outline) (w : Word) → (more : List (List ℕ)) × ((after_moves o w).closed ≡ o.closed ++ more)
 closed_grows o [] = ([], sym (append-nil o.closed))
@@ -30,17 +30,6 @@ hung_grows : (o : Outline) (w : Word) → (more : List ℕ) × ((after_moves o w
 hung_grows o [] = ([], sym (append-nil o.hung))
 hung_grows o (m ∷ w) = let r = hung_grows (after_move o m) w in
     (replicate m.count (length o.closed) ++ r.0, r.1 ∙ append_assoc o.hung (replicate m.count (length o.closed)) r.0)
-
--- a place within a list has an item
-pub got_index : (xs : List ℕ) (k : ℕ) → k < length xs → slice_get xs k ≡ Some (slice_index_or xs k 0)
-got_index [] k h = absurd (omega arith)
-got_index (y ∷ xs) zero h = refl
-got_index (y ∷ xs) (suc k) h = got_index xs k (omega arith)
-
-index_got : (xs : List ℕ) (k x : ℕ) → slice_get xs k ≡ Some x → slice_index_or xs k 0 ≡ x
-index_got [] k x e = absurd (cc)
-index_got (y ∷ xs) zero x e = cc
-index_got (y ∷ xs) (suc k) x e = index_got xs k x e
 
 in_lists : (lists : List (List ℕ)) (v : ℕ) (numbers : List ℕ) (k c : ℕ) → slice_get lists v ≡ Some numbers → slice_get numbers k ≡ Some c
     → 0 < times c (slice_index_or lists v [])

@@ -4,7 +4,7 @@ use Rattle.std.proofs.Common.{◌∙◌, ◌≡◌, ◌≤◌, ◌⊎◌}
 use Rattle.std.proofs.lemmas.Bool.{cases_lt}
 use Rattle.std.proofs.lemmas.List.{length-append}
 use Rattle.bk_laws.proofs.Occurrences.{times, times_at, times_in-append}
-use Rattle.bk_laws.proofs.ListPlaces.{get_some}
+use Rattle.bk_laws.proofs.ListPlaces.{get_some, got_index}
 use Rattle.bk_word.specs.Outline.{start}
 use Rattle.bk_word.specs.Play.{AreLegalFrom, outline_of}
 use Rattle.bk_word.specs.Word.{Word}
@@ -17,7 +17,7 @@ use Rattle.bk_layout.specs.LayoutLaws.{IsWordOfLayout}
 use Rattle.bk_tiling_layout.specs.SimpleLayout.{AreOutermost, HasOneBetween, IsSimpleLayout, Touches}
 use Rattle.bk_word.proofs.PlayLaws.{legal_front}
 use Rattle.bk_free_cuts.proofs.OpenRuns.{index_at, open_segments_end_together}
-use Rattle.bk_free_cuts.proofs.SharedLines.{above_is, below_is, closed_got, closed_less, fresh, got_index, hung_less, node_apart, numbered_square}
+use Rattle.bk_free_cuts.proofs.SharedLines.{above_is, below_is, closed_got, closed_less, fresh, hung_less, node_apart, numbered_square}
 use Rattle.bk_free_cuts.proofs.SharedLines.{open_low, place_of, square_low, wire}
 use Rattle.bk_free_cuts.specs.OpenSegments.{EndsTogether}
 use Rattle.bk_free_cuts.specs.SharedNodes.{AreLinesApart, IsAtClosed, LinesShareTheNodeAbove}

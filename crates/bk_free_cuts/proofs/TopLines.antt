@@ -1,10 +1,10 @@
 -- In a simple layout of three squares or more no line but the walls goes down from the top to the bottom.
 use Rattle.std.proofs.Common.{Some, ap, arith, inl, inr, max, slice_get, subst, suc, sym, zero, false, true, Bool, refl, ℕ, ◌+◌, ◌<◌, ◌∙◌, ◌≡◌, ◌≤◌, ◌⊎◌}
-use Rattle.bk_laws.proofs.ListPlaces.{get_some}
+use Rattle.bk_laws.proofs.ListPlaces.{get_some, got_low}
 use Rattle.bk_layout.proofs.Counting.{got_same}
 use Rattle.bk_layout.specs.Layout.{AreNeighbours, Fits, IsFirst, IsLast, Layout}
 use Rattle.bk_tiling_layout.specs.SimpleLayout.{AreOutermost, HasOneBetween, IsSimpleLayout, Touches}
-use Rattle.bk_free_cuts.proofs.WideNodes.{got_low, top_left, top_right}
+use Rattle.bk_free_cuts.proofs.WideNodes.{top_left, top_right}
 use Rattle.bk_free_cuts.specs.FreeCuts.{AreOuterWalls}
 
 -- no three numbers are two

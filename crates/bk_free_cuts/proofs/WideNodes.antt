@@ -1,16 +1,11 @@
 -- In a simple layout no node but the top and the bottom reaches from wall to wall, and no single square does at the bottom.
-use Rattle.std.proofs.Common.{List, Some, [], ap, arith, inl, inr, length, slice_get, subst, suc, sym, zero, ℕ, ◌<◌, ◌∙◌, ◌∷◌, ◌≡◌, ◌≤◌, ◌⊎◌}
-use Rattle.bk_laws.proofs.ListPlaces.{get_some}
-use Rattle.bk_layout.proofs.Counting.{got_same, same_or_other}
+use Rattle.std.proofs.Common.{List, Some, ap, arith, inl, inr, length, slice_get, subst, suc, sym, zero, ℕ, ◌<◌, ◌∙◌, ◌≡◌, ◌≤◌, ◌⊎◌}
+use Rattle.bk_laws.proofs.ListPlaces.{get_some, got_low}
+use Rattle.bk_laws.proofs.Tests.{same_or_other}
+use Rattle.bk_layout.proofs.Counting.{got_same}
 use Rattle.bk_layout.specs.Layout.{Fits, IsFirst, IsLast, Layout}
 use Rattle.bk_tiling_layout.specs.SimpleLayout.{AreOutermost, HasOneBetween, IsSimpleLayout, Touches}
 use Rattle.bk_free_cuts.specs.FreeCuts.{AreOuterWalls}
-
--- what is got stands within the list
-pub got_low : (xs : List ℕ) (k x : ℕ) → slice_get xs k ≡ Some x → k < length xs
-got_low [] k x e = absurd (cc)
-got_low (y ∷ xs) zero x e = omega arith
-got_low (y ∷ xs) (suc k) x e = omega (arith, got_low xs k x e)
 
 -- a list of one
 one_only : (xs : List ℕ) (k q x : ℕ) → length xs ≡ 1 → slice_get xs 0 ≡ Some q → slice_get xs k ≡ Some x → x ≡ q

@@ -4,7 +4,8 @@ use Rattle.std.proofs.Common.{List, Some, [], ap, arith, inl, inr, length, map, 
 use Rattle.std.proofs.Common.{ℕ, ◌++◌, ◌+◌, ◌-◌, ◌<◌, ◌∙◌, ◌∷◌, ◌≡◌, ◌≤◌, ◌⊎◌}
 use Rattle.std.proofs.lemmas.List.{length-append, length-map, map-append}
 use Rattle.bk_laws.proofs.Occurrences.{times, times-append}
-use Rattle.bk_laws.proofs.ListPlaces.{get_append, get_last, get_map}
+use Rattle.bk_laws.proofs.ListPlaces.{get_append, get_last, get_map, index_got, got_index}
+use Rattle.bk_laws.proofs.Tests.{same_or_other}
 use Rattle.bk_word.proofs.PlayLists.{numbers-length}
 use Rattle.bk_word.specs.Outline.{Outline, start}
 use Rattle.bk_word.specs.Play.{numbers_from, outline_of}
@@ -14,19 +15,14 @@ use Rattle.bk_word_net.proofs.Shape.{hung_many}
 use Rattle.bk_word_net.proofs.Wires.{wires_length}
 use Rattle.bk_word_net.specs.Renumbering.{IsRenumbering}
 use Rattle.bk_word_net.specs.WordNet.{end_of, net_after}
-use Rattle.bk_layout.proofs.Counting.{got_times, none_for, one_for, same_or_other, times_got, times_once}
-use Rattle.bk_layout.proofs.SquareLists.{index_got, lists_at, sq_of}
+use Rattle.bk_layout.proofs.Counting.{got_times, none_for, one_for, times_got, times_once}
+use Rattle.bk_layout.proofs.SquareLists.{lists_at, sq_of}
 use Rattle.bk_layout.proofs.Sweep.{State}
 use Rattle.bk_layout.proofs.SweepEnd.{Ended, WholeSweep, done_many, is_laid, laid_many, one_segment, sweep}
 use Rattle.bk_layout.proofs.Turning.{AtLeft, walls_of}
 use Rattle.bk_layout.proofs.Chains.{Chain}
 use Rattle.bk_layout.specs.Layout.{Fits, IsFirst, IsLast, Layout, net_of_layout}
 use Rattle.bk_layout.specs.LayoutLaws.{ALayoutHasAFreeWord, IsWordOfLayout}
-
-got_index : (xs : List ℕ) (k : ℕ) → k < length xs → slice_get xs k ≡ Some (slice_index_or xs k 0)
-got_index [] k h = absurd (omega arith)
-got_index (y ∷ xs) zero h = refl
-got_index (y ∷ xs) (suc k) h = got_index xs k (omega arith)
 
 index_map : (f : List ℕ → List ℕ) (lists : List (List ℕ)) (k : ℕ) → k < length lists → slice_index_or (map f lists) k [] ≡ f (slice_index_or lists k [])
 index_map f [] k h = absurd (omega arith)

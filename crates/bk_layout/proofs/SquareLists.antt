@@ -1,13 +1,12 @@
 -- Lists of numbers as lists of the squares that have these numbers, in the order in which squares were hung.
-use Rattle.std.proofs.Common.{List, Some, [], ap, arith, length, map, refl, slice_get, slice_index_or, subst, suc, sym, zero, ℕ, ◌++◌, ◌+◌, ◌-◌, ◌<◌}
+use Rattle.std.proofs.Common.{List, [], ap, arith, length, map, refl, slice_index_or, subst, suc, zero, ℕ, ◌++◌, ◌+◌, ◌-◌, ◌<◌}
 use Rattle.std.proofs.Common.{◌∙◌, ◌∷◌, ◌≡◌, ◌≤◌}
 use Rattle.std.proofs.lemmas.List.{append_assoc, length-append, map-append}
-use Rattle.bk_laws.proofs.Occurrences.{times, times-concat, times_in, times_in-append}
+use Rattle.bk_laws.proofs.Occurrences.{times, times_in, times_in-append}
 use Rattle.bk_word.specs.Outline.{Outline}
 use Rattle.bk_word.specs.Play.{before_first_list, joined, numbers_from}
 use Rattle.bk_word.specs.declared.Sign.{Sign}
 use Rattle.bk_word.specs.declared.Sign.TheVariants.{Above, Even, Under}
-use Rattle.bk_word_net.proofs.BottomChain.{concat-joined}
 use Rattle.bk_word_net.proofs.Numbering.{Numbered, times_some}
 use Rattle.bk_layout.proofs.Chains.{singles}
 use Rattle.bk_layout.proofs.Counting.{one_for}
@@ -25,12 +24,6 @@ pub index_more : (xs ys : List ℕ) (k : ℕ) → k < length xs → slice_index_
 index_more [] ys k h = absurd (omega arith)
 index_more (x ∷ xs) ys zero h = refl
 index_more (x ∷ xs) ys (suc k) h = index_more xs ys k (omega arith)
-
--- what stands at a place, by either way of reading it
-pub index_got : (xs : List ℕ) (k x : ℕ) → slice_get xs k ≡ Some x → slice_index_or xs k 0 ≡ x
-index_got [] k x e = absurd (cc)
-index_got (y ∷ xs) zero x e = cc
-index_got (y ∷ xs) (suc k) x e = index_got xs k x e
 
 index_here : (xs : List ℕ) (y : ℕ) (ys : List ℕ) (k : ℕ) → k ≡ length xs → slice_index_or (xs ++ y ∷ ys) k 0 ≡ y
 index_here [] y ys zero e = refl
@@ -107,7 +100,3 @@ all_laid o numbered laid long m h = let r =
 pub times_singles : (m : ℕ) (numbers : List ℕ) → times_in m (singles numbers) ≡ times m numbers
 times_singles m [] = refl
 times_singles m (n ∷ numbers) = omega (arith, times_singles m numbers)
-
--- joining keeps how often a number stands in the segments
-pub times_joined : (m : ℕ) (signs : List Sign) (lists : List (List ℕ)) → times_in m (joined signs lists) ≡ times_in m lists
-times_joined m signs lists = sym (times-concat m (joined signs lists)) ∙ ap (times m) (concat-joined signs lists) ∙ times-concat m lists

@@ -5,12 +5,13 @@ use Rattle.std.proofs.Common.{◌++◌, ◌+◌, ◌<◌, ◌∙◌, ◌∷◌, 
 use Rattle.std.proofs.lemmas.List.{append-nil, append_assoc, length-map}
 use Rattle.bk_laws.proofs.Occurrences.{times, times_in}
 use Rattle.bk_laws.proofs.ListPlaces.{get_some}
+use Rattle.bk_laws.proofs.Tests.{same_or_other}
 use Rattle.bk_word.specs.Outline.{Outline, start}
 use Rattle.bk_word.specs.Play.{AreLegalFrom, IsLegal, after_move, after_moves, outline_of}
 use Rattle.bk_word.specs.Word.{Move, Word}
 use Rattle.bk_word_net.proofs.Shape.{valley_in}
 use Rattle.bk_word_net.proofs.ValleyCut.{AtValley}
-use Rattle.bk_layout.proofs.Counting.{at_most, just_as_many, none_for, same_or_other}
+use Rattle.bk_layout.proofs.Counting.{at_most, just_as_many, none_for}
 use Rattle.bk_layout.proofs.SquareLists.{lists_at, sq_of}
 use Rattle.bk_layout.proofs.Sweep.{State, ValleyAt, ending_times, valley_at}
 use Rattle.bk_layout.proofs.SweepStart.{first_by_lines, first_by_node, first_free, first_legal, first_move, first_no_twins, first_state, left_wall}

@@ -4,17 +4,18 @@ use Rattle.std.proofs.Common.{List, Some, [], ap, arith, cond, filter, inl, inr,
 use Rattle.std.proofs.Common.{◌++◌, ◌+◌, ◌-◌, ◌<◌, ◌∙◌, ◌∷◌, ◌≡◌, ◌≤◌, ◌⊎◌}
 use Rattle.std.proofs.lemmas.List.{append-nil, length-replicate}
 use Rattle.bk_laws.proofs.Occurrences.{times, times_in}
-use Rattle.bk_laws.proofs.ListPlaces.{get_append, get_some}
+use Rattle.bk_laws.proofs.ListPlaces.{get_append, get_some, index_got}
+use Rattle.bk_laws.proofs.Tests.{same_or_other}
 use Rattle.bk_word.specs.declared.Sign.TheVariants.{Even}
 use Rattle.bk_word.specs.Outline.{IsLegalMove, start}
 use Rattle.bk_word.specs.Play.{after_move, joined, numbers_from, parts, segments_apart, signs_apart}
 use Rattle.bk_word.specs.Word.{Move}
 use Rattle.bk_word.specs.declared.Sign.{Sign}
-use Rattle.bk_word_net.proofs.Numbering.{numbered_move, numbered_start}
+use Rattle.bk_word_net.proofs.Numbering.{numbered_move, numbered_start, times_in-joined}
 use Rattle.bk_word_net.proofs.Shape.{shaped_move, shaped_start}
 use Rattle.bk_layout.proofs.Chains.{Chain, even_neighbours, last_from, sign, sign_at, signs_of, singles, singles_wall}
-use Rattle.bk_layout.proofs.Counting.{got_same, none_for, one_for, same_or_other, times_got}
-use Rattle.bk_layout.proofs.SquareLists.{index_got, lists_at, map_joined, map_singles, new_numbers, new_numbers_more, sq_of, times_joined, times_singles}
+use Rattle.bk_layout.proofs.Counting.{got_same, none_for, one_for, times_got}
+use Rattle.bk_layout.proofs.SquareLists.{lists_at, map_joined, map_singles, new_numbers, new_numbers_more, sq_of, times_singles}
 use Rattle.bk_layout.proofs.Sweep.{State, hanging_times}
 use Rattle.bk_layout.proofs.Turning.{AtLeft, chain_joined, many_signs}
 use Rattle.bk_layout.proofs.WholeRuns.{Hung, is_last}
@@ -137,7 +138,7 @@ module _ (l : Layout) (fits : Fits l) (h : Hung l 0) where
       (chain_joined l fits (signs_of l new) (singles new) left_wall (singles_wall l h.first h.more h.known h.linked right_wall)))
 
   open_then : (x : ℕ) → times_in x (lists_at new (after_move start first_move).segments) ≡ times x new
-  open_then x = ap (times_in x) after_is ∙ times_joined x (signs_of l new) (singles new) ∙ times_singles x new
+  open_then x = ap (times_in x) after_is ∙ times_in-joined x (signs_of l new) (singles new) ∙ times_singles x new
 
   new_times : (x : ℕ) → x < l.squares → times x new ≡ cond (nat_eq (l.above x) 0) 1 0
   new_times x k = ap (times x) (sym h.is) ∙ hanging_times l fits x 0 k

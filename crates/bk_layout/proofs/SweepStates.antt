@@ -6,18 +6,19 @@ use Rattle.std.proofs.lemmas.List.{append_assoc, length-append, length-map, leng
 use Rattle.bk_laws.proofs.Occurrences.{times, times-append, times_in, times_in-append}
 use Rattle.bk_laws.proofs.ZippedLists.{zip_append, zip_map}
 use Rattle.bk_laws.proofs.ListPlaces.{get_append, get_last}
+use Rattle.bk_laws.proofs.Tests.{same_or_other}
 use Rattle.bk_word.specs.Outline.{Outline, valley_of}
 use Rattle.bk_word.specs.Play.{after_move, joined, new_squares, parts, segments_apart, signs_apart}
 use Rattle.bk_word.specs.Word.{Move}
 use Rattle.bk_word.specs.declared.Sign.{Sign}
 use Rattle.bk_word_net.proofs.MovedParts.{apart_segments, apart_signs, valley_is}
-use Rattle.bk_word_net.proofs.Numbering.{numbered_move}
+use Rattle.bk_word_net.proofs.Numbering.{numbered_move, times_in-joined}
 use Rattle.bk_word_net.proofs.Shape.{shaped_move}
 use Rattle.bk_word_net.proofs.ValleyCut.{AtValley}
 use Rattle.bk_layout.proofs.Chains.{Chain, signs_of, singles}
-use Rattle.bk_layout.proofs.Counting.{none_for, one_for, same_or_other, times_got}
+use Rattle.bk_layout.proofs.Counting.{none_for, one_for, times_got}
 use Rattle.bk_layout.proofs.SquareLists.{all_laid, lists_at, lists_more, map_joined, map_singles}
-use Rattle.bk_layout.proofs.SquareLists.{new_numbers, sq_of, times_joined, times_singles}
+use Rattle.bk_layout.proofs.SquareLists.{new_numbers, sq_of, times_singles}
 use Rattle.bk_layout.proofs.Sweep.{State, ValleyAt, ending_times, hanging_times}
 use Rattle.bk_layout.proofs.Turning.{AtLeft, chain_joined}
 use Rattle.bk_layout.proofs.WholeRuns.{Hung}
@@ -113,7 +114,7 @@ module _ (l : Layout) (fits : Fits l) (o : Outline) (st : State l o) (v : AtVall
   open_then : (x : ℕ) → times_in x (lists_at laid_then (after_move o step).segments)
       ≡ times_in x (lists_at laid v.before) + (times_in x (lists_at laid v.left)
       + (times x new + (times_in x (lists_at laid v.right) + times_in x (lists_at laid v.after))))
-  open_then x = ap (times_in x) after_is ∙ times_joined x apart_marks apart ∙ omega (
+  open_then x = ap (times_in x) after_is ∙ times_in-joined x apart_marks apart ∙ omega (
     arith,
     times_in-append x (lists_at laid v.before) (lists_at laid v.left ++ (singles new ++ (lists_at laid v.right ++ lists_at laid v.after))),
     times_in-append x (lists_at laid v.left) (singles new ++ (lists_at laid v.right ++ lists_at laid v.after)),

@@ -3,7 +3,7 @@ use Rattle.std.proofs.Common.{List, Some, [], ap, arith, length, map, refl, slic
 use Rattle.std.proofs.Common.{◌++◌, ◌+◌, ◌-◌, ◌<◌, ◌∙◌, ◌∷◌, ◌≡◌, ◌≤◌}
 use Rattle.std.proofs.lemmas.List.{append_assoc, length-append, length-map}
 use Rattle.bk_laws.proofs.Occurrences.{times, times_in, times_in-append}
-use Rattle.bk_laws.proofs.ListPlaces.{get_after, get_append, get_map, get_some}
+use Rattle.bk_laws.proofs.ListPlaces.{get_after, get_append, get_map, get_some, index_got}
 use Rattle.bk_word.specs.Outline.{IsLegalMove, Outline, has_left_wall, open_side, valley_of}
 use Rattle.bk_word.specs.Word.{Move}
 use Rattle.bk_word.specs.declared.Sign.TheVariants.{Even}
@@ -11,7 +11,7 @@ use Rattle.bk_word_net.proofs.MovedParts.{left_open, right_open, valley_is}
 use Rattle.bk_word_net.proofs.ValleyCut.{AtValley}
 use Rattle.bk_layout.proofs.Chains.{Chain, even_neighbours, last_from, sign, sign_at, signs_of}
 use Rattle.bk_layout.proofs.Counting.{got_same, got_times}
-use Rattle.bk_layout.proofs.SquareLists.{AreLaid, all_laid, index_got, index_more, list_more, lists_at}
+use Rattle.bk_layout.proofs.SquareLists.{AreLaid, all_laid, index_more, list_more, lists_at}
 use Rattle.bk_layout.proofs.SquareLists.{new_numbers_more, sq_of}
 use Rattle.bk_layout.proofs.Sweep.{State, ValleyAt}
 use Rattle.bk_layout.proofs.Turning.{AtLeft, many_signs, walls_of}

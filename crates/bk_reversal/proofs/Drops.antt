@@ -7,6 +7,7 @@ use Rattle.std.proofs.lemmas.Bool.Decides.{nat_tests}
 use Rattle.bk_word.specs.Word.{Move, Word, move_cmp, sign_cmp, word_cmp}
 use Rattle.bk_word.specs.declared.Sign.{Sign}
 use Rattle.bk_word.specs.declared.Sign.TheVariants.{Above, Even, Under}
+use Rattle.bk_word.proofs.WordOrder.{move_itself}
 
 -- the signs are the same up to a place at which the first have above, the second under
 abbrev pub Drops : List Sign → List Sign → Type 0
@@ -78,15 +79,6 @@ same_before (g ∷ x) (h ∷ y) a e f = let rest : x ≡ y = same_before x y a (
 same_nats : (n : ℕ) → nat_cmp n n ≡ Equal
 same_nats n = grind (arith, nat_tests)
 
-same_signs_cmp : (g : List Sign) → slice_cmp sign_cmp g g ≡ Equal
-same_signs_cmp [] = refl
-same_signs_cmp (Above ∷ g) = same_signs_cmp g
-same_signs_cmp (Even ∷ g) = same_signs_cmp g
-same_signs_cmp (Under ∷ g) = same_signs_cmp g
-
-same_move_cmp : (m : Move) → move_cmp m m ≡ Equal
-same_move_cmp m = λ i. ordering_then (same_nats m.count i) (same_signs_cmp m.signs i)
-
 -- and a word whose signs drop in one move, behind which anything may follow, is the lesser word
 pub less_word : (v w : Word) → IsLess v w → word_cmp v w ≡ Less
 less_word [] w l = absurd l
@@ -95,4 +87,4 @@ less_word (a ∷ v) (b ∷ w) (inl (e, d)) = ap
     (λ (n : ℕ). ordering_then (ordering_then (nat_cmp n b.count) (slice_cmp sign_cmp a.signs b.signs)) (slice_cmp move_cmp v w)) e
     ∙ (λ i. ordering_then (ordering_then (same_nats b.count i) (drops_less a.signs b.signs d i)) (slice_cmp move_cmp v w))
 less_word (a ∷ v) (b ∷ w) (inr (e, l)) = ap (λ (m : Move). ordering_then (move_cmp m b) (slice_cmp move_cmp v w)) e
-    ∙ (λ i. ordering_then (same_move_cmp b i) (less_word v w l i))
+    ∙ (λ i. ordering_then (move_itself b i) (less_word v w l i))

@@ -14,6 +14,7 @@ pub mod UpTo
 -- a word that breaks rule R: the move that breaks it, both sweeps side by side, and the lesser word
 pub mod MoveChain
 pub mod Trace
+pub mod NodeHeads
 pub mod BadMove
 pub mod SameSigns
 pub mod ReversedStates

@@ -3,7 +3,9 @@ use Rattle.std.proofs.Common.{Bool, List, Some, [], ap, arith, cond, false, inl,
 use Rattle.std.proofs.Common.{◌+◌, ◌<◌, ◌∙◌, ◌∷◌, ◌≡◌, ◌≤◌, ◌⊎◌}
 use Rattle.std.proofs.lemmas.Bool.Decides.{nat_tests}
 use Rattle.bk_laws.proofs.Occurrences.{times, times-append}
-use Rattle.bk_layout.proofs.Counting.{got_same, got_times, none_for, one_for, same_or_other, times_got, times_once}
+use Rattle.bk_laws.proofs.Tests.{same_or_other}
+use Rattle.bk_laws.proofs.ListPlaces.{got_low}
+use Rattle.bk_layout.proofs.Counting.{got_same, got_times, none_for, one_for, times_got, times_once}
 use Rattle.bk_layout.specs.Layout.{IsFirst}
 use Rattle.bk_reversal.specs.Reversal.{put, without_first, without_last}
 
@@ -38,12 +40,6 @@ put_other {A} k x f n e = ap (λ (b : Bool). cond {A = A} b x (f n)) (other_is n
 
 -- ---- lists
 
--- what is got stands within the list
-pub got_below : (xs : List ℕ) (k x : ℕ) → slice_get xs k ≡ Some x → k < length xs
-got_below [] k x e = absurd (cc)
-got_below (y ∷ xs) zero x e = omega arith
-got_below (y ∷ xs) (suc k) x e = omega (arith, got_below xs k x e)
-
 -- a list without its first, by places
 pub tail_got : (xs : List ℕ) (k : ℕ) → slice_get (without_first xs) k ≡ slice_get xs (suc k)
 tail_got [] k = refl
@@ -71,7 +67,7 @@ init_got (x ∷ y ∷ xs) (suc k) h = init_got (y ∷ xs) k (omega (arith, h))
 pub init_below : (xs : List ℕ) (k x : ℕ) → slice_get (without_last xs) k ≡ Some x → suc k < length xs
 init_below [] k x e = absurd (cc)
 init_below (y ∷ []) k x e = absurd (cc)
-init_below (y ∷ z ∷ xs) k x e = omega (arith, got_below (without_last (y ∷ z ∷ xs)) k x e, init_length (y ∷ z ∷ xs) (omega arith))
+init_below (y ∷ z ∷ xs) k x e = omega (arith, got_low (without_last (y ∷ z ∷ xs)) k x e, init_length (y ∷ z ∷ xs) (omega arith))
 
 -- a list with one more behind is one longer
 pub end_length : (xs : List ℕ) (q : ℕ) → length (xs ++ (q ∷ [])) ≡ suc (length xs)

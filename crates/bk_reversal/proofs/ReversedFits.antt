@@ -1,8 +1,10 @@
 -- A layout with a square reversed fits, is the same up to reversals, and has no twins where the layout has none.
 use Rattle.std.proofs.Common.{List, Some, ap, arith, false, inl, inr, length, nat_eq, refl, slice_get, subst, suc, sym, true, zero, ℕ, ◌<◌, ◌∙◌, ◌≡◌, ◌⊎◌}
-use Rattle.bk_layout.proofs.Counting.{got_same, same_or_other}
+use Rattle.bk_layout.proofs.Counting.{got_same}
 use Rattle.bk_layout.specs.Layout.{AreNeighbours, Fits, HasNoTwins, Layout}
-use Rattle.bk_reversal.proofs.Pieces.{end_cases, got_below, test_fails, test_holds}
+use Rattle.bk_laws.proofs.Tests.{same_or_other}
+use Rattle.bk_laws.proofs.ListPlaces.{got_low}
+use Rattle.bk_reversal.proofs.Pieces.{end_cases, test_fails, test_holds}
 use Rattle.bk_reversal.specs.Reversal.{CanReverse, IsUpToReversals, reversed}
 use Rattle.bk_reversal.specs.ReversalLaws.{AReversedLayoutFits}
 use Rattle.bk_reversal.proofs.ReversedSquare.{Around, around}
@@ -75,7 +77,7 @@ module _ (l : Layout) (fits : Fits l) (q p r : ℕ) (can : CanReverse l q p r) w
       first_q : x ≡ q → ⊥
       first_q i = omega (
         arith,
-        got_below (m.hanging v) (suc j) y next,
+        got_low (m.hanging v) (suc j) y next,
         by_place.length_hv,
         (lists_then l fits q p r can).hanging_once v j (length (l.hanging v)) q here (by_place.get_hv_new (length (l.hanging v)) refl),
       )
@@ -114,7 +116,7 @@ module _ (l : Layout) (fits : Fits l) (q p r : ℕ) (can : CanReverse l q p r) w
           next = ap (λ (z : ℕ). slice_get (m.hanging z) (suc j)) (sym i) ∙ f
 
           first : slice_get (l.hanging v) j ≡ Some x
-          first = sym (by_place.get_hv j (omega (arith, got_below (m.hanging v) (suc j) y next, by_place.length_hv)))
+          first = sym (by_place.get_hv j (omega (arith, got_low (m.hanging v) (suc j) y next, by_place.length_hv)))
               ∙ ap (λ (z : ℕ). slice_get (m.hanging z) j) (sym i) ∙ e
 
           ends : (slice_get (l.hanging v) (suc j) ≡ Some y) ⊎ ((suc j ≡ length (l.hanging v)) × (y ≡ q)) → slice_get (l.hanging v) (suc j) ≡ Some y

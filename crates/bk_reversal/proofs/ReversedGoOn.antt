@@ -1,8 +1,10 @@
 -- Where lines go on in a layout with a square reversed.
 use Rattle.std.proofs.Common.{Bool, List, Some, ap, arith, false, inl, inr, length, refl, slice_get, subst, suc, sym, true, ℕ, ◌<◌, ◌∙◌, ◌≡◌, ◌≤◌, ◌⊎◌}
-use Rattle.bk_layout.proofs.Counting.{got_same, same_or_other}
+use Rattle.bk_layout.proofs.Counting.{got_same}
 use Rattle.bk_layout.specs.Layout.{AreNeighbours, DoLinesGoOn, Fits, IsFirst, IsLast, Layout}
-use Rattle.bk_reversal.proofs.Pieces.{got_below, put_at, put_other}
+use Rattle.bk_laws.proofs.Tests.{same_or_other}
+use Rattle.bk_laws.proofs.ListPlaces.{got_low}
+use Rattle.bk_reversal.proofs.Pieces.{put_at, put_other}
 use Rattle.bk_reversal.specs.Reversal.{CanReverse, put, reversed}
 use Rattle.bk_reversal.proofs.ReversedSquare.{Around, around}
 use Rattle.bk_reversal.proofs.ReversedPlaces.{Places, places}
@@ -179,14 +181,14 @@ module _ (l : Layout) (fits : Fits l) (q p r : ℕ) (can : CanReverse l q p r) w
           at : AreNeighbours (l.ending v) x y → AreNeighbours (m.ending v) x y
           at (k, g, h) = (
             k,
-            by_place.get_ev k (omega (arith, got_below (l.ending v) (suc k) y h))
+            by_place.get_ev k (omega (arith, got_low (l.ending v) (suc k) y h))
                 ∙ g,
             by_place.get_ev (suc k) (inside (same_or_other (suc (suc k)) (length (l.ending v)))) ∙ h,
           )
             where
               inside : (suc (suc k) ≡ length (l.ending v)) ⊎ (suc (suc k) ≡ length (l.ending v) → ⊥) → suc (suc k) < length (l.ending v)
               inside (inl j) = absurd (a (last_is_q y (suc k, j, h)))
-              inside (inr j) = less (suc (suc k)) (length (l.ending v)) (omega (arith, got_below (l.ending v) (suc k) y h)) j
+              inside (inr j) = less (suc (suc k)) (length (l.ending v)) (omega (arith, got_low (l.ending v) (suc k) y h)) j
                 where
                   less : (b c : ℕ) → b ≤ c → (b ≡ c → ⊥) → b < c
                   less b c g n = grind arith

@@ -2,7 +2,8 @@
 use Rattle.std.proofs.Common.{List, Some, ap, arith, inl, inr, length, slice_get, subst, suc, sym, zero, ℕ, ◌∙◌, ◌≡◌, ◌⊎◌}
 use Rattle.bk_layout.proofs.Counting.{got_same}
 use Rattle.bk_layout.specs.Layout.{AreLines, Fits, IsFirst, IsLast, Layout}
-use Rattle.bk_reversal.proofs.Pieces.{end_cases, got_below}
+use Rattle.bk_laws.proofs.ListPlaces.{got_low}
+use Rattle.bk_reversal.proofs.Pieces.{end_cases}
 use Rattle.bk_reversal.specs.Reversal.{CanReverse, reversed}
 use Rattle.bk_reversal.proofs.ReversedSquare.{Around, around}
 use Rattle.bk_reversal.proofs.ReversedPlaces.{Places, places}
@@ -37,7 +38,7 @@ module _ (l : Layout) (fits : Fits l) (q p r : ℕ) (can : CanReverse l q p r) w
           ∙ ends (end_cases (l.hanging v) q (suc k) y (ap (λ (xs : List ℕ). slice_get xs (suc k)) (sym about.hanging_v) ∙ h))
         where
           old : slice_get (l.hanging v) k ≡ Some x
-          old = sym (by_place.get_hv k (omega (arith, by_place.length_hv, got_below (m.hanging v) (suc k) y h))) ∙ g
+          old = sym (by_place.get_hv k (omega (arith, by_place.length_hv, got_low (m.hanging v) (suc k) y h))) ∙ g
 
           ends : (slice_get (l.hanging v) (suc k) ≡ Some y) ⊎ ((suc k ≡ length (l.hanging v)) × (y ≡ q)) → l.right x ≡ m.left y
           ends (inl i) = fits.lines.between v x y (k, old, i) ∙ sym (about.left_x y (by_place.not_h v (suc k) y about.v_not_u i))

@@ -1,8 +1,9 @@
 -- The lists of a layout with a square reversed agree with its functions.
 use Rattle.std.proofs.Common.{ap, arith, cond, inl, inr, nat_eq, sym, ℕ, ◌+◌, ◌<◌, ◌∙◌, ◌≡◌, ◌⊎◌}
 use Rattle.bk_laws.proofs.Occurrences.{times}
+use Rattle.bk_laws.proofs.Tests.{same_or_other}
 use Rattle.bk_layout.proofs.Sweep.{ending_times, hanging_times}
-use Rattle.bk_layout.proofs.Counting.{none_for, one_for, same_or_other, times_got}
+use Rattle.bk_layout.proofs.Counting.{none_for, one_for, times_got}
 use Rattle.bk_layout.specs.Layout.{AreLists, Fits, Layout}
 use Rattle.bk_reversal.proofs.Pieces.{Sorted, sorted_has, sorted_is, sorted_once, times_end, times_init, times_tail}
 use Rattle.bk_reversal.specs.Reversal.{CanReverse, reversed}

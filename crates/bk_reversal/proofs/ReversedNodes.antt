@@ -1,7 +1,7 @@
 -- The nodes of a layout with a square reversed: u and v change their places in the rank.
 use Rattle.std.proofs.Common.{List, ap, arith, inl, inr, length, refl, ℕ, ◌<◌, ◌∙◌, ◌≡◌, ◌≤◌, ◌⊎◌}
-use Rattle.bk_layout.proofs.Counting.{same_or_other}
 use Rattle.bk_layout.specs.Layout.{AreNodes, Fits, Layout}
+use Rattle.bk_laws.proofs.Tests.{same_or_other}
 use Rattle.bk_reversal.proofs.Pieces.{put_at, put_other}
 use Rattle.bk_reversal.specs.Reversal.{CanReverse, put, reversed}
 use Rattle.bk_reversal.proofs.ReversedSquare.{Around, around}

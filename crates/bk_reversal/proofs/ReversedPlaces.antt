@@ -1,7 +1,8 @@
 -- What hangs from and ends on the nodes u and v of a reversed square, place by place.
 use Rattle.std.proofs.Common.{List, Some, ap, arith, length, slice_get, suc, sym, ℕ, ◌<◌, ◌∙◌, ◌≡◌}
 use Rattle.bk_layout.specs.Layout.{Fits, Layout}
-use Rattle.bk_reversal.proofs.Pieces.{end_length, end_new, end_old, got_below, init_below, init_got, init_length, tail_got, tail_length}
+use Rattle.bk_laws.proofs.ListPlaces.{got_low}
+use Rattle.bk_reversal.proofs.Pieces.{end_length, end_new, end_old, init_below, init_got, init_length, tail_got, tail_length}
 use Rattle.bk_reversal.specs.Reversal.{CanReverse, reversed}
 use Rattle.bk_reversal.proofs.ReversedSquare.{Around, around}
 
@@ -58,7 +59,7 @@ module _ (l : Layout) (fits : Fits l) (q p r : ℕ) (can : CanReverse l q p r) w
   length_ev = ap (λ (xs : List ℕ). suc (length xs)) about.ending_v ∙ init_length (l.ending v) (omega (arith, (about.q_last).1))
 
   ev_two : 1 < length (l.ending v)
-  ev_two = omega (arith, got_below (l.ending v) (suc (about.p_beside).0) q (about.p_beside).2)
+  ev_two = omega (arith, got_low (l.ending v) (suc (about.p_beside).0) q (about.p_beside).2)
 
   q_place : suc (about.p_beside).0 ≡ (about.q_last).0
   q_place = fits.lists.ending_once v (suc (about.p_beside).0) (about.q_last).0 q (about.p_beside).2 (about.q_last).2

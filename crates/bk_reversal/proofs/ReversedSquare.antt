@@ -1,8 +1,8 @@
 -- A square q that may be reversed: what is known of it and of p and r beside it, and where the functions of the layout change.
 -- Here and in the files on the reversed layout u is the node above q, v the one below it.
 use Rattle.std.proofs.Common.{Some, [], ap, arith, inl, inr, refl, subst, suc, sym, ℕ, ◌++◌, ◌<◌, ◌∙◌, ◌∷◌, ◌≡◌, ◌⊎◌}
-use Rattle.bk_layout.proofs.Counting.{same_or_other}
 use Rattle.bk_layout.specs.Layout.{AreNeighbours, Fits, IsLast, Layout}
+use Rattle.bk_laws.proofs.Tests.{same_or_other}
 use Rattle.bk_reversal.proofs.Pieces.{put_at, put_other}
 use Rattle.bk_reversal.specs.Reversal.{CanReverse, put, reversed, without_first, without_last}
 

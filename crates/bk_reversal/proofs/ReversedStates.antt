@@ -2,6 +2,7 @@
 use Rattle.std.proofs.Common.{List, Some, [], ap, arith, inl, inr, length, map, refl, slice_get, subst, sym, ℕ, ◌++◌, ◌+◌, ◌<◌, ◌∙◌, ◌∷◌, ◌≡◌, ◌⊎◌}
 use Rattle.std.specs.List.{AllZip}
 use Rattle.bk_laws.proofs.Occurrences.{times, times_in, times_in-append}
+use Rattle.bk_laws.proofs.Tests.{same_or_other}
 use Rattle.bk_word_net.proofs.ValleyCut.{AtValley}
 use Rattle.bk_word.specs.Outline.{Outline}
 use Rattle.bk_layout.proofs.Chains.{Chain, singles}
@@ -12,7 +13,7 @@ use Rattle.bk_layout.proofs.Turning.{AtLeft}
 use Rattle.bk_layout.proofs.WholeRuns.{Hung, hung_from}
 use Rattle.bk_reversal.proofs.MoveChain.{apart_of, many_marks, marks_chain}
 use Rattle.bk_reversal.proofs.Drops.{Drops, drops_before, drops_behind, same_before, same_behind}
-use Rattle.bk_layout.proofs.Counting.{one_for, same_or_other}
+use Rattle.bk_layout.proofs.Counting.{one_for}
 use Rattle.bk_layout.specs.Layout.{Fits, Layout}
 use Rattle.bk_reversal.proofs.Pieces.{times_tail}
 use Rattle.bk_reversal.specs.Reversal.{CanReverse, reversed}

@@ -21,10 +21,11 @@ use Rattle.bk_reversal.proofs.Measure.{are_digits, code, code_less, digits, few_
 use Rattle.bk_reversal.proofs.ReversedFits.{fits_then, no_twins_then, same_then}
 use Rattle.bk_reversal.proofs.SweepsBeside.{Late, WholeBeside, late_out, later_out, whole_beside}
 use Rattle.bk_reversal.proofs.Trace.{IsStep, Trace, Whole, sweep_of, whole_from}
-use Rattle.bk_reversal.proofs.UpTo.{up_to_both, up_to_itself}
+use Rattle.bk_reversal.proofs.UpTo.{up_to_both, up_to_itself, differ}
 use Rattle.bk_reversal.specs.Reversal.{CanReverse, IsUpToReversals, reversed}
 use Rattle.bk_reversal.specs.RuleR.{BeginsNoEvenAbove, ALayoutHasAWordByRuleR, HasWordByRuleR, KeepRuleRFrom, KeepsRuleR}
 
+-- a square of which the layout can be reversed, so that the word becomes less
 pub record Broken (l : Layout) (fits : Fits l) (o : Outline) (st : State l o) (w : Word) (tr : Trace l fits o st w) : Type 0 where
   pub q : ℕ
   pub p : ℕ
@@ -47,9 +48,6 @@ wall_or_not false = inr refl
 
 more_or_one : (n : ℕ) → (1 < n) ⊎ (1 < n → ⊥)
 more_or_one n = grind arith
-
-differ : {A : Type 0} (b : Bool) → b ≡ true → b ≡ false → A
-differ b e f = absurd (cc)
 
 scan : (l : Layout) (fits : Fits l) (o : Outline) (st : State l o) (w : Word) (tr : Trace l fits o st w) → KeepRuleRFrom o w ⊎ Broken l fits o st w tr
 scan l fits o st [] tr = inl tt

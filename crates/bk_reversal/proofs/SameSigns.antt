@@ -1,13 +1,14 @@
 -- The same open squares in both layouts, before q is hung: the signs are the same but at the right of p, where u becomes a.
 use Rattle.std.proofs.Common.{Bool, List, [], ap, arith, cond, false, inl, inr, length, refl, slice_get, subst, suc, sym, true, ℕ, ◌<◌, ◌∙◌, ◌∷◌, ◌≡◌, ◌≤◌, ◌⊎◌}
 use Rattle.bk_laws.proofs.Occurrences.{times, times_in}
+use Rattle.bk_laws.proofs.Tests.{same_or_other}
+use Rattle.bk_laws.proofs.ListPlaces.{got_low}
 use Rattle.bk_word.specs.declared.Sign.{Sign}
 use Rattle.bk_word.specs.declared.Sign.TheVariants.{Above, Even, Under}
 use Rattle.bk_layout.proofs.Chains.{Chain, Known, Run, chain_known, known_first, known_last, last_from, sign}
 use Rattle.bk_reversal.proofs.Drops.{Drops}
-use Rattle.bk_layout.proofs.Counting.{got_same, none_for, one_for, same_or_other}
+use Rattle.bk_layout.proofs.Counting.{got_same, none_for, one_for}
 use Rattle.bk_layout.specs.Layout.{AreNeighbours, Fits, IsLast, Layout}
-use Rattle.bk_reversal.proofs.Pieces.{got_below}
 use Rattle.bk_reversal.specs.Reversal.{CanReverse, reversed}
 use Rattle.bk_reversal.proofs.ReversedSquare.{Around, around}
 use Rattle.bk_reversal.proofs.ReversedPlaces.{Places, places}
@@ -41,9 +42,9 @@ module _ (l : Layout) (fits : Fits l) (q p r : ℕ) (can : CanReverse l q p r) w
       at_v : AreNeighbours (l.ending v) x y → AreNeighbours (m.ending v) x y
       at_v (k, g, h) = (
         k,
-        by_place.get_ev k (omega (arith, got_below (l.ending v) (suc k) y h))
+        by_place.get_ev k (omega (arith, got_low (l.ending v) (suc k) y h))
             ∙ g,
-        by_place.get_ev (suc k) (less (suc (suc k)) (length (l.ending v)) (omega (arith, got_below (l.ending v) (suc k) y h))
+        by_place.get_ev (suc k) (less (suc (suc k)) (length (l.ending v)) (omega (arith, got_low (l.ending v) (suc k) y h))
             (λ j. a ((last_is_q l fits q p r can) y (suc k, j, h)))) ∙ h,
       )
 

@@ -6,7 +6,6 @@ use Rattle.bk_word.specs.Play.{AreLegalFrom, after_move, after_moves}
 use Rattle.bk_word.specs.Word.{Move, Word}
 use Rattle.bk_word_net.proofs.Shape.{valley_in}
 use Rattle.bk_word_net.proofs.ValleyCut.{AtValley}
-use Rattle.bk_layout.proofs.Counting.{same_or_other}
 use Rattle.bk_layout.proofs.SquareLists.{sq_of}
 use Rattle.bk_layout.proofs.Sweep.{State, ValleyAt, valley_at}
 use Rattle.bk_layout.proofs.SweepEnd.{Ended, WholeSweep, bounded, ended}
@@ -17,6 +16,7 @@ use Rattle.bk_layout.proofs.WholeRuns.{Hung, hung_from}
 use Rattle.bk_layout.specs.FreeWord.{AreFreeFrom, HangNoTwinsFrom, HangsNoTwins, IsFreeMove}
 use Rattle.bk_layout.specs.Layout.{Fits, HasNoTwins, Layout}
 use Rattle.bk_layout.specs.LayoutLaws.{HangByLinesFrom, HangByNodesFrom, HangsByLines, HangsNode}
+use Rattle.bk_laws.proofs.Tests.{same_or_other}
 
 -- the next state comes by the move that hangs all that hangs from the valley's node
 pub record IsStep (l : Layout) (fits : Fits l) (o : Outline) (st : State l o) (mv : Move) (next : State l (after_move o mv)) : Type 0 where
@@ -68,6 +68,7 @@ traced l fits (suc steps) o st enough = onward l fits o st (λ then s e. traced 
 
 -- ---- what a trace tells of its word
 
+-- what the sweep of a layout gives of its word
 pub record Facts (l : Layout) (o : Outline) (st : State l o) (w : Word) : Type 0 where
   pub legal : AreLegalFrom o w
   pub free : AreFreeFrom o w

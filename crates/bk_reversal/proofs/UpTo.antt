@@ -3,7 +3,8 @@ use Rattle.std.proofs.Common.{Bool, arith, cond, false, inl, inr, refl, true, �
 use Rattle.bk_layout.specs.Layout.{Layout}
 use Rattle.bk_reversal.specs.Reversal.{IsUpToReversals}
 
-differ : {A : Type 0} (b : Bool) → b ≡ true → b ≡ false → A
+-- a test doesn't both pass and fail
+pub differ : {A : Type 0} (b : Bool) → b ≡ true → b ≡ false → A
 differ b e f = absurd (cc)
 
 -- a layout is itself up to reversals
@@ -29,12 +30,14 @@ pub none_turned : (l : Layout) (q : ℕ) → (up_to_itself l).turned q ≡ false
 unfolding up_to_itself
 none_turned l q = refl
 
+-- a square has the same nodes and lines in both layouts
 pub record Kept (l m : Layout) (q : ℕ) : Type 0 where
   pub above : m.above q ≡ l.above q
   pub below : m.below q ≡ l.below q
   pub left : m.left q ≡ l.left q
   pub right : m.right q ≡ l.right q
 
+-- a square stands reversed: its nodes are exchanged, and its lines are
 pub record Turned (l m : Layout) (q : ℕ) : Type 0 where
   pub above : m.above q ≡ l.below q
   pub below : m.below q ≡ l.above q

@@ -1,7 +1,8 @@
 -- Reversing a square keeps a layout sound.
 use Rattle.std.proofs.Common.{List, Some, ap, arith, inl, inr, length, refl, slice_get, subst, suc, sym, zero, ℕ, ◌<◌, ◌∙◌, ◌∷◌, ◌≡◌, ◌⊎◌}
 use Rattle.bk_laws.proofs.ListPlaces.{get_some}
-use Rattle.bk_layout.proofs.Counting.{got_same, same_or_other}
+use Rattle.bk_laws.proofs.Tests.{same_or_other}
+use Rattle.bk_layout.proofs.Counting.{got_same}
 use Rattle.bk_layout.specs.Layout.{AreNeighbours, Fits, Layout}
 use Rattle.bk_free_cuts.specs.FreeCuts.{AreOuterWalls}
 use Rattle.bk_reversal.proofs.Pieces.{init_below, init_got, put_at, put_other}

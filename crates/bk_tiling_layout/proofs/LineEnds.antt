@@ -3,7 +3,7 @@ use Rattle.std.specs.List.{list_any}
 use Rattle.std.specs.Prelude.{if◌then◌else◌}
 use Rattle.std.proofs.Common.{Bool, List, [], ap, arith, cond, false, inl, inr, nat_lt, refl, subst, suc, sym, true, zero, ℕ, ◌&&◌, ◌*◌, ◌+◌, ◌-◌}
 use Rattle.std.proofs.Common.{◌<◌, ◌==◌, ◌||◌, ◌∙◌, ◌∷◌, ◌≡◌, ◌≢◌, ◌≤◌, ◌⊎◌}
-use Rattle.std.proofs.lemmas.Bool.{both_ways, cases_lt}
+use Rattle.std.proofs.lemmas.Bool.{both_ways, cases_lt, and_parts, and_from}
 use Rattle.std.proofs.lemmas.Bool.Decides.{nat_tests}
 use Rattle.bk_tiling.specs.Tiling.{IsOneOf, Tiling}
 use Rattle.bk_tiling.specs.declared.Square.{Square}
@@ -52,22 +52,12 @@ three_from a b c d e f = (grind (arith, nat_tests), grind (arith, nat_tests), gr
 three_to : (a b c d e : ℕ) → a ≡ b → c < d → d < e → ((a == b) && (nat_lt c d && nat_lt d e)) ≡ true
 three_to a b c d e f g h = grind (arith, nat_tests)
 
-both_from : (a b : Bool) → (a && b) ≡ true → (a ≡ true) × (b ≡ true)
-both_from true true e = (refl, refl)
-both_from true false e = absurd (cc)
-both_from false b e = absurd (cc)
-
-both_to : (a b : Bool) → a ≡ true → b ≡ true → (a && b) ≡ true
-both_to true true e f = refl
-both_to true false e f = absurd (cc)
-both_to false b e f = absurd (cc)
-
 -- where the test of an end holds, a square at the left and one at the right of the line end there
 pub ends_from : (squares : List Square) (x y : ℕ) → is_end squares x y ≡ true → Ends squares x y
 ends_from squares x y e = from (any_from (λ q. (q.x + q.s == x) && (q.y + q.s == y)) squares b.0) (any_from (λ r. (r.x == x) && (r.y + r.s == y)) squares b.1)
   where
     b : (list_any (λ q. (q.x + q.s == x) && (q.y + q.s == y)) squares ≡ true) × (list_any (λ r. (r.x == x) && (r.y + r.s == y)) squares ≡ true)
-    b = both_from (list_any (λ q. (q.x + q.s == x) && (q.y + q.s == y)) squares) (list_any (λ r. (r.x == x) && (r.y + r.s == y)) squares) e
+    b = and_parts (list_any (λ q. (q.x + q.s == x) && (q.y + q.s == y)) squares) (list_any (λ r. (r.x == x) && (r.y + r.s == y)) squares) e
 
     from : (q : Square) × IsOneOf q squares × (((q.x + q.s == x) && (q.y + q.s == y)) ≡ true) → (r : Square) × IsOneOf r squares
         × (((r.x == x) && (r.y + r.s == y)) ≡ true) → Ends squares x y
@@ -76,7 +66,7 @@ ends_from squares x y e = from (any_from (λ q. (q.x + q.s == x) && (q.y + q.s =
 
 -- and where two such squares end there, the test holds
 pub ends_to : (squares : List Square) (x y : ℕ) → Ends squares x y → is_end squares x y ≡ true
-ends_to squares x y e = both_to (list_any (λ q. (q.x + q.s == x) && (q.y + q.s == y)) squares) (list_any (λ r. (r.x == x) && (r.y + r.s == y)) squares)
+ends_to squares x y e = and_from (list_any (λ q. (q.x + q.s == x) && (q.y + q.s == y)) squares) (list_any (λ r. (r.x == x) && (r.y + r.s == y)) squares)
     (any_to (λ q. (q.x + q.s == x) && (q.y + q.s == y)) squares e.left e.left_in
     (two_to (e.left.x + e.left.s) x (e.left.y + e.left.s) y e.left_edge e.left_bottom))
     (any_to (λ r. (r.x == x) && (r.y + r.s == y)) squares e.right e.right_in (two_to e.right.x x (e.right.y + e.right.s) y e.right_edge e.right_bottom))

@@ -18,6 +18,7 @@ use Rattle.bk_net.proofs.GroupSquares.{get_index, group_of, in_group, row_is}
 use Rattle.bk_net.proofs.NodeBelow.{below_from, place, stands_on}
 use Rattle.bk_net.proofs.SmithLists.{HasGroup, has_group}
 use Rattle.bk_net.specs.Diagram.{group_level, node_below, node_levels}
+use Rattle.bk_layout.proofs.Counting.{one_for}
 use Rattle.bk_tiling_layout.proofs.Edges.{Hangs, IsCell, IsOn, bottom_within, cell, hangs_below, meet, right_within, side}
 use Rattle.bk_tiling_layout.specs.TilingLayout.{node_above}
 
@@ -52,9 +53,6 @@ level_of_group (f ∷ groups) (suc v) h g e = level_of_group groups v h g e
 level_of_bottom : (groups : List (List Square)) (h : ℕ) → slice_index_or (map group_level groups ++ h ∷ []) (length groups) 0 ≡ h
 level_of_bottom [] h = refl
 level_of_bottom (g ∷ groups) h = level_of_bottom groups h
-
-one_if : (a b : ℕ) → a ≡ b → ◌≡◌ {A = ℕ} (cond (nat_eq a b) 1 0) 1
-one_if a b e = grind (arith, nat_tests)
 
 if_one : (a b : ℕ) → ◌<◌ 0 (cond {A = ℕ} (nat_eq a b) 1 0) → a ≡ b
 if_one a b h = grind (arith, nat_tests)
@@ -204,7 +202,7 @@ module _ (t : Tiling) (tiling : IsTiling t) where
           arith,
           ap (count_by (covers q.x q.y)) (get_index (square_groups t.squares) v g e),
           (own_group q h).counts v few,
-          one_if (node_above (square_groups t.squares) q) v same,
+          one_for (node_above (square_groups t.squares) q) v same,
         )))
       where
         from : (r : Square) × IsOneOf r g × (covers q.x q.y r ≡ true) → IsOneOf q g
@@ -227,7 +225,7 @@ module _ (t : Tiling) (tiling : IsTiling t) where
       arith,
       ap (count_by (λ r. nat_eq r.y (q.y + q.s) && covers_column q.x r)) (get_index (square_groups t.squares) v g e),
       (place t tiling q h).counts v few,
-      one_if (node_below (square_groups t.squares) q) v same,
+      one_for (node_below (square_groups t.squares) q) v same,
     )))
       where
         from : (r : Square) × IsOneOf r g × ((nat_eq r.y (q.y + q.s) && covers_column q.x r) ≡ true)

@@ -51,8 +51,10 @@ module _ (t : Tiling) (tiling : IsTiling t) where
         cases : (first.level < second.level) ⊎ (second.level ≤ first.level) → (second.level < first.level) ⊎ (first.level ≤ second.level)
             → HasOneBetween (layout_of t) f g u v ⊎ AreOutermost (layout_of t) f g u v
         cases (inl h) k = by_columns t tiling simple f g u v first second a.column c.column a.mark b_here c.mark d_here h lines
-        cases (inr h) (inl k) = nodes_turned t tiling simple f g u v (by_columns t tiling simple f g v u second first a.column c.column b_here a.mark d_here c.mark k lines)
-        cases (inr h) (inr k) = absurd (level_nodes t tiling simple f g u v first second a.column c.column a.mark b_here c.mark d_here (omega arith) lines nodes)
+        cases (inr h) (inl k) = nodes_turned t tiling simple f g u v
+            (by_columns t tiling simple f g v u second first a.column c.column b_here a.mark d_here c.mark k lines)
+        cases (inr h) (inr k) = absurd
+            (level_nodes t tiling simple f g u v first second a.column c.column a.mark b_here c.mark d_here (omega arith) lines nodes)
 
     module _ (many : 3 ≤ order t) where
       no_twins : HasNoTwins (layout_of t)
