@@ -1,5 +1,5 @@
 -- What comes after a cursor: the word after which a listing of a catalogue goes on.
-use Rattle.std.specs.Prelude.{None, Option, Some, []}
+use Rattle.std.specs.Prelude.{None, Option, Some, [], ℕ}
 use Rattle.bk_word.specs.Word.{Follows, Word}
 use Rattle.bk_word.specs.declared.Class.{Class}
 use Rattle.bk_catalogue.specs.Catalogue.{Entry, IsEntry}
