@@ -19,9 +19,9 @@ use Rattle.bk_word.specs.Play.{numbers_from}
 use Rattle.bk_word.specs.Word.{Word}
 use Rattle.bk_word_net.proofs.NoLoose.{a_word_has_one_flow, a_word_net_has_no_loose}
 use Rattle.bk_word_net.specs.WordNet.{net_of_word}
-use Rattle.bk_tiling_layout.proofs.Nodes.{IsNode}
 use Rattle.bk_tiling_layout.proofs.TilingSquares.{in_square, node_at}
 use Rattle.bk_tiling_layout.specs.TilingLayout.{square_of}
+use Rattle.bk_tiling_layout.proofs.GroupNodes.{IsNode}
 use Rattle.bk_free_cuts.specs.LineNumbers.{sides_of}
 use Rattle.bk_candidate.proofs.OtherOrder.{other, other_in_order, other_tiles}
 use Rattle.bk_candidate.proofs.PlacedEdges.{StandRight, edges_are, place_is}

@@ -11,11 +11,11 @@ use Rattle.bk_tiling_layout.proofs.Ascending.{AreNext, has_place, next_from}
 use Rattle.bk_tiling_layout.proofs.Edges.{MeetsLeft, MeetsRight, bottom_within, left_of, meet, right_of, right_within, side}
 use Rattle.bk_tiling_layout.proofs.LineEnds.{Ends, end_is, none_before, not_passed, number_both, number_column, number_same}
 use Rattle.bk_tiling_layout.proofs.NodeLaws.{EndsAt, along_left, along_right, deep_if_ended, ends_at, one_ended, one_hung}
-use Rattle.bk_tiling_layout.proofs.Nodes.{IsNode}
 use Rattle.bk_tiling_layout.proofs.TilingSquares.{HasNumber, ended, ended_from, ended_node, ended_one, ended_to, has_number, hung_node, hung_to}
 use Rattle.bk_tiling_layout.proofs.TilingSquares.{in_square, key, one_number}
 use Rattle.bk_tiling_layout.proofs.TilingFits.{levels_of}
 use Rattle.bk_tiling_layout.specs.TilingLayout.{layout_of, line_end, line_number, node_above, square_of}
+use Rattle.bk_tiling_layout.proofs.GroupNodes.{IsNode}
 use Rattle.bk_free_cuts.proofs.ApartLines.{lines_of_a_tiling_are_apart}
 use Rattle.bk_free_cuts.specs.SharedNodes.{AreLinesApart}
 use Rattle.bk_reversed_cuts.specs.Corners.{AreCornersApart, DoEndsMeet, IsAfter, IsBefore}

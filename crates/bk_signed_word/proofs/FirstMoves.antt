@@ -16,9 +16,9 @@ use Rattle.bk_lay.proofs.Steps.{one_of}
 use Rattle.bk_word_net.proofs.AlongWord.{top_valley}
 use Rattle.bk_tiling_layout.proofs.Edges.{right_within, side}
 use Rattle.bk_tiling_layout.proofs.LineEnds.{eq_from, eq_to}
-use Rattle.bk_tiling_layout.proofs.Nodes.{IsNode}
 use Rattle.bk_tiling_layout.proofs.TilingSquares.{node_at}
 use Rattle.bk_tiling_layout.specs.TilingLayout.{layout_of, node_above, put_by, sorted_by, square_of}
+use Rattle.bk_tiling_layout.proofs.GroupNodes.{IsNode}
 
 put_long : (f : ℕ → ℕ) (q : ℕ) (xs : List ℕ) → length (put_by f q xs) ≡ suc (length xs)
 put_long f q [] = refl

@@ -11,12 +11,12 @@ use Rattle.bk_tiling_layout.proofs.Frames.{IsAll, IsFrame, IsOne, one_or_all}
 use Rattle.bk_tiling_layout.proofs.LineEnds.{number_left, number_right}
 use Rattle.bk_tiling_layout.proofs.Marks.{IsMark, clear, number_there, passes, same_node}
 use Rattle.bk_tiling_layout.proofs.NodeLaws.{level_within}
-use Rattle.bk_tiling_layout.proofs.Nodes.{IsNode}
 use Rattle.bk_tiling_layout.proofs.TilingSquares.{HasNumber, has_number}
 use Rattle.bk_tiling_layout.proofs.TilingSquares.{node_at}
 use Rattle.bk_tiling_layout.proofs.Twins.{common}
 use Rattle.bk_tiling_layout.specs.SimpleLayout.{AreOutermost, HasOneBetween}
 use Rattle.bk_tiling_layout.specs.TilingLayout.{layout_of, line_number, node_above}
+use Rattle.bk_tiling_layout.proofs.GroupNodes.{IsNode}
 
 module _ (t : Tiling) (tiling : IsTiling t) where
   module _ (simple : IsSimple t) where

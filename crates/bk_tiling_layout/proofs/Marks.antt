@@ -7,8 +7,8 @@ use Rattle.bk_tiling.specs.declared.Square.{Square}
 use Rattle.bk_tiling_layout.proofs.Edges.{Hangs, bottom_within, hangs_below, left_of, meet, right_of, right_within, same_left, same_right, side}
 use Rattle.bk_tiling_layout.proofs.LineEnds.{Ends, end_skips, none_before, not_passed, number_end, number_left, number_right, number_same}
 use Rattle.bk_tiling_layout.proofs.NodeLaws.{HangsAt, hangs_at, level_within}
-use Rattle.bk_tiling_layout.proofs.Nodes.{IsNode}
 use Rattle.bk_tiling_layout.specs.TilingLayout.{line_end, line_number}
+use Rattle.bk_tiling_layout.proofs.GroupNodes.{IsNode}
 
 -- two squares meet in the column at the level
 pub record IsEdge (t : Tiling) (x y : ℕ) : Type 0 where

@@ -7,8 +7,8 @@ use Rattle.bk_tiling.specs.declared.Square.{Square}
 use Rattle.bk_net.specs.Diagram.{node_below}
 use Rattle.bk_tiling_layout.proofs.Edges.{Hangs, IsCell, bottom_within, cell, hangs_below, meet, right_within, same_left, same_right, side}
 use Rattle.bk_tiling_layout.proofs.LineEnds.{Ends, GoesOnLeft, GoesOnRight, end_skips, number_same}
-use Rattle.bk_tiling_layout.proofs.Nodes.{IsNode}
 use Rattle.bk_tiling_layout.specs.TilingLayout.{line_end, line_number, node_above}
+use Rattle.bk_tiling_layout.proofs.GroupNodes.{IsNode}
 
 -- levels and heights
 module _ (t : Tiling) (tiling : IsTiling t) (v : ℕ) (node : IsNode t v) where

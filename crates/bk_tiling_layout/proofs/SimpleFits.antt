@@ -9,7 +9,7 @@ use Rattle.bk_net.specs.Diagram.{node_below}
 use Rattle.bk_tiling_layout.proofs.Ascending.{AreNext, next_from, stands_in}
 use Rattle.bk_tiling_layout.proofs.Marks.{IsMark}
 use Rattle.bk_tiling_layout.proofs.NodeLaws.{beside}
-use Rattle.bk_tiling_layout.proofs.Nodes.{IsNode, most_nodes}
+use Rattle.bk_tiling_layout.proofs.Nodes.{most_nodes}
 use Rattle.bk_tiling_layout.proofs.TilingSquares.{ended, ended_from, ended_one, first_of_ended, first_of_hung, hung}
 use Rattle.bk_tiling_layout.proofs.TilingSquares.{hung_from, hung_node, hung_one, in_square, key, last_of_ended, last_of_hung, node_at, over_hung}
 use Rattle.bk_tiling_layout.proofs.Twins.{none_below, none_beside}
@@ -18,6 +18,7 @@ use Rattle.bk_tiling_layout.specs.SimpleLayout.{ASimpleTilingHasASimpleLayout, A
 use Rattle.bk_tiling_layout.specs.TilingLayout.{from_left, layout_of, node_above, square_of}
 use Rattle.bk_tiling_layout.proofs.BetweenLines.{by_columns, level_nodes, nodes_turned}
 use Rattle.bk_tiling_layout.proofs.TouchedNodes.{HasMark, mark_of, one_column, touched_node}
+use Rattle.bk_tiling_layout.proofs.GroupNodes.{IsNode}
 
 module _ (t : Tiling) (tiling : IsTiling t) where
   module _ (simple : IsSimple t) where

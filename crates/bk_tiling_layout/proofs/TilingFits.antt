@@ -12,7 +12,7 @@ use Rattle.bk_tiling_layout.proofs.LineEnds.{end_is, goes_left_from, goes_left_t
 use Rattle.bk_tiling_layout.proofs.LineEnds.{number_one, number_right, number_zero}
 use Rattle.bk_tiling_layout.proofs.NodeLaws.{EndsAt, HangsAt, along_left, along_right, beside, ends_at, ends_at_left, ends_at_right, ends_beside}
 use Rattle.bk_tiling_layout.proofs.NodeLaws.{hangs_at, is_last_ended, one_ended, one_left_line, one_right_line}
-use Rattle.bk_tiling_layout.proofs.Nodes.{IsNode, above_bottom, most_nodes}
+use Rattle.bk_tiling_layout.proofs.Nodes.{above_bottom, most_nodes}
 use Rattle.bk_layout.specs.Layout.{AreLines, AreLists, AreNeighbours, AreNodes, DoLinesGoOn, Fits, IsFirst, IsLast}
 use Rattle.bk_tiling_layout.specs.TilingLayout.{from_left, goes_on_left, goes_on_right, layout_of, line_end, line_number, node_above, square_of}
 use Rattle.bk_tiling_layout.specs.TilingLayoutLaws.{ATilingHasALayout}
@@ -20,6 +20,7 @@ use Rattle.bk_tiling_layout.proofs.TilingNet.{net_is}
 use Rattle.bk_tiling_layout.proofs.TilingSquares.{ended, ended_from, ended_one, ended_to, first_of_ended, first_of_hung, has_number, hung, hung_from}
 use Rattle.bk_tiling_layout.proofs.TilingSquares.{hung_node, hung_one, hung_to, in_square, key, last_of_ended, last_of_hung, node_at, over_hung}
 use Rattle.bk_tiling_layout.proofs.TilingSquares.{wide_at}
+use Rattle.bk_tiling_layout.proofs.GroupNodes.{IsNode}
 
 module _ (t : Tiling) (tiling : IsTiling t) where
   -- ---- lists and nodes

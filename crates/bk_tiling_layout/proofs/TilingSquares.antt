@@ -14,8 +14,9 @@ use Rattle.bk_tiling_layout.proofs.Ascending.{first_from, last_from, stands_in}
 use Rattle.bk_tiling_layout.proofs.Edges.{side}
 use Rattle.bk_tiling_layout.proofs.LineEnds.{eq_from, eq_to}
 use Rattle.bk_tiling_layout.proofs.NodeLaws.{first_ended, first_hung, last_ended, last_hung, one_ended, one_hung}
-use Rattle.bk_tiling_layout.proofs.Nodes.{IsNode, above_bottom, bottom_node, inner_node, most_nodes}
+use Rattle.bk_tiling_layout.proofs.Nodes.{above_bottom, bottom_node, inner_node, most_nodes}
 use Rattle.bk_tiling_layout.specs.TilingLayout.{from_left, node_above, square_of}
+use Rattle.bk_tiling_layout.proofs.GroupNodes.{IsNode}
 
 module _ (t : Tiling) (tiling : IsTiling t) where
   -- ---- squares and their numbers

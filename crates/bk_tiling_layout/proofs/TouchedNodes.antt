@@ -7,10 +7,11 @@ use Rattle.bk_net.specs.Diagram.{node_below}
 use Rattle.bk_tiling_layout.proofs.Edges.{bottom_within}
 use Rattle.bk_tiling_layout.proofs.LineEnds.{number_column}
 use Rattle.bk_tiling_layout.proofs.Marks.{IsMark}
-use Rattle.bk_tiling_layout.proofs.Nodes.{IsNode, above_bottom, most_nodes}
+use Rattle.bk_tiling_layout.proofs.Nodes.{above_bottom, most_nodes}
 use Rattle.bk_tiling_layout.proofs.TilingSquares.{in_square, node_at}
 use Rattle.bk_tiling_layout.specs.SimpleLayout.{Touches}
 use Rattle.bk_tiling_layout.specs.TilingLayout.{layout_of, line_number, node_above, square_of}
+use Rattle.bk_tiling_layout.proofs.GroupNodes.{IsNode}
 
 module _ (t : Tiling) (tiling : IsTiling t) where
   -- a node that a line touches is a node of the tiling
