@@ -7,7 +7,7 @@ use Rattle.bk_word.specs.declared.Sign.{Sign}
 use Rattle.bk_word.proofs.PlayLaws.{after-snoc, legal_front, legal_rest}
 use Rattle.bk_word.proofs.StoredBytes.{order_append, order_more}
 use Rattle.bk_bounds.proofs.BoundsOfWords.{shape_of_word}
-use Rattle.bk_bounds.proofs.ClosingLaws.{bound-parts, unders}
+use Rattle.bk_bounds.proofs.ClosingLaws.{aboves, aboves-append, bound-append, bound-parts, unders}
 use Rattle.bk_bounds.specs.ClosingBound.{closing_bound}
 use Rattle.bk_bounds.specs.SingleValleys.{single_valleys, sizes_of}
 use Rattle.bk_free_cuts.proofs.CutsOfTilings.{too_many_singles_is_free_barren}
@@ -51,6 +51,21 @@ module _ (front : Word) (other : Move) (signs more : List Sign) (are : other.sig
       all = ap (λ (o : Outline). closing_bound o.signs) (after-snoc start front other) ∙ bound-parts (signs_apart (outline_of front) other)
           ∙ ap (λ l. closing_bound (before ++ l ++ behind)) are
 
+  -- also where segments behind the valley are closed last
+  closings_behind_after : aboves (before ++ signs) + closing_bound behind ≤ closing_bound (outline_of (front ++ other ∷ [])).signs
+  closings_behind_after = omega (
+    arith,
+    all,
+    bound-append (before ++ (signs ++ more)) behind,
+    aboves-append before (signs ++ more),
+    aboves-append signs more,
+    aboves-append before signs,
+  )
+    where
+      all : closing_bound (outline_of (front ++ other ∷ [])).signs ≡ closing_bound (before ++ (signs ++ more) ++ behind)
+      all = ap (λ (o : Outline). closing_bound o.signs) (after-snoc start front other) ∙ bound-parts (signs_apart (outline_of front) other)
+          ∙ ap (λ l. closing_bound (before ++ l ++ behind)) are
+
   -- and the valleys of one square
   singles_after : IsLegal (front ++ other ∷ []) → lone_squares (has_left_wall (outline_of front)) signs + singles_behind false (outline_of front)
       ≤ single_valleys (outline_of (front ++ other ∷ [])).signs (sizes_of (outline_of (front ++ other ∷ [])))
@@ -63,10 +78,10 @@ module _ (front : Word) (other : Move) (signs more : List Sign) (are : other.sig
   )
 
 -- a move whose signs begin with these is barren where they ask for more than there is room for
-pub asked_is_barred : (n count : ℕ) (front : Word) (signs : List Sign) (other : Move) (more : List Sign) (wanted room room_low bound aboves found : ℕ)
-    (left_wall low : Bool) → 2 ≤ n → IsNext front count n left_wall wanted room room_low → IsAsked front signs bound aboves found low → room < bound + found
+pub asked_is_barred : (n count : ℕ) (front : Word) (signs : List Sign) (other : Move) (more : List Sign) (wanted room room_low room_above bound above found : ℕ)
+    (left_wall low : Bool) → 2 ≤ n → IsNext front count n left_wall wanted room room_low room_above → IsAsked front signs bound above found low → room < bound + found
     → other.count ≡ count → other.signs ≡ signs ++ more → IsNetBarren n (front ++ other ∷ [])
-asked_is_barred n count front signs other more wanted room room_low bound aboves found left_wall low least next asked over same are =
+asked_is_barred n count front signs other more wanted room room_low room_above bound above found left_wall low least next asked over same are =
     too_many_asked n front other least (λ legal. omega (
       arith,
       over,
@@ -80,11 +95,30 @@ asked_is_barred n count front signs other more wanted room room_low bound aboves
       order_more other [],
     ))
 
+-- so it is where they and what stands behind the valley do
+pub asked_behind_is_barred : (n count : ℕ) (front : Word) (signs : List Sign) (other : Move) (more : List Sign)
+    (wanted room room_low room_above bound above found : ℕ) (left_wall low : Bool) → 2 ≤ n
+    → IsNext front count n left_wall wanted room room_low room_above → IsAsked front signs bound above found low → room_above < above + found
+    → other.count ≡ count → other.signs ≡ signs ++ more → IsNetBarren n (front ++ other ∷ [])
+asked_behind_is_barred n count front signs other more wanted room room_low room_above bound above found left_wall low least next asked over same are =
+    too_many_asked n front other least (λ legal. omega (
+      arith,
+      over,
+      same,
+      next.room_above_is,
+      asked.tally.aboves_is,
+      asked.lone.found_is,
+      closings_behind_after front other signs more are,
+      singles_after front other signs more are legal,
+      order_append front (other ∷ []),
+      order_more other [],
+    ))
+
 -- and a move of these signs where the segment behind them is low at the left, and they ask for more then
-pub ended_is_barred : (n : ℕ) (front : Word) (m : Move) (wanted room room_low bound aboves found : ℕ) (left_wall low : Bool) → 2 ≤ n
-    → IsNext front m.count n left_wall wanted room room_low → IsAsked front m.signs bound aboves found low → EndsOver bound found low room_low
+pub ended_is_barred : (n : ℕ) (front : Word) (m : Move) (wanted room room_low room_above bound above found : ℕ) (left_wall low : Bool) → 2 ≤ n
+    → IsNext front m.count n left_wall wanted room room_low room_above → IsAsked front m.signs bound above found low → EndsOver bound found low room_low
     → IsNetBarren n (front ++ m ∷ [])
-ended_is_barred n front m wanted room room_low bound aboves found left_wall low least next asked over =
+ended_is_barred n front m wanted room room_low room_above bound above found left_wall low least next asked over =
     too_many_asked n front m least (λ legal. omega (
       arith,
       over.over,

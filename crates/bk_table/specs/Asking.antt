@@ -4,7 +4,7 @@ use Rattle.bk_word.specs.Outline.{Outline, has_left_wall, has_right_wall, open_s
 use Rattle.bk_word.specs.Play.{outline_of}
 use Rattle.bk_word.specs.Word.{Word, order_of}
 use Rattle.bk_word.specs.declared.Sign.{Sign}
-use Rattle.bk_bounds.specs.ClosingBound.{is_under}
+use Rattle.bk_bounds.specs.ClosingBound.{closing_bound, is_under}
 use Rattle.bk_bounds.specs.SingleValleys.{single_valley, single_valleys_from}
 use Rattle.bk_owed.specs.Lone.{IsLone}
 use Rattle.bk_owed.specs.Tally.{IsTally}
@@ -13,28 +13,35 @@ use Rattle.bk_owed.specs.Tally.{IsTally}
 abbrev pub unders_behind : Outline → ℕ
 unders_behind o = count_by is_under (drop (valley_place o.signs + 1) o.signs)
 
+-- the closing bound of the signs behind it
+abbrev pub closings_behind : Outline → ℕ
+closings_behind o = closing_bound (drop (valley_place o.signs + 1) o.signs)
+
 -- the valleys of one square from behind the last sign of a next move on, where the segment there is low at the left or not: at the
 -- right wall it is the move's last square
 abbrev pub singles_behind : Bool → Outline → ℕ
 singles_behind low o = cond (has_right_wall o) (single_valley low 1)
     (single_valleys_from low (drop (valley_place o.signs + 1) o.signs) (map length (drop (valley_place o.signs + 1) o.segments)))
 
--- what stands beside the leftmost valley: the walls, how many signs are under behind it, and how many valleys have one square there,
--- where the segment behind a move's last sign isn't low at the left, and where it is
-pub record StandBeside (front : Word) (left_wall right_wall : Bool) (unders singles singles_low : ℕ) : Type 0 where
+-- what stands beside the leftmost valley: the walls, how many signs are under behind it, the closing bound there, and how many valleys
+-- have one square there, where the segment behind a move's last sign isn't low at the left, and where it is
+pub record StandBeside (front : Word) (left_wall right_wall : Bool) (unders closings singles singles_low : ℕ) : Type 0 where
   pub left_is : left_wall ≡ has_left_wall (outline_of front)
   pub right_is : right_wall ≡ has_right_wall (outline_of front)
   pub unders_are : unders ≡ unders_behind (outline_of front)
+  pub closings_are : closings ≡ closings_behind (outline_of front)
   pub singles_are : singles ≡ singles_behind false (outline_of front)
   pub singles_low_are : singles_low ≡ singles_behind true (outline_of front)
 
 -- whether the valley has a wall at its left, how many signs a next move of the count has, and how many squares are left after it
--- but for those that are asked for behind the valley, where the segment behind its last sign isn't low at the left, and where it is
-pub record IsNext (front : Word) (count order : ℕ) (left_wall : Bool) (wanted room room_low : ℕ) : Type 0 where
+-- but for those that are asked for behind the valley: where segments before it or new ones are closed last and the segment behind the
+-- last sign isn't low at the left, where it is, and where segments behind the valley are closed last
+pub record IsNext (front : Word) (count order : ℕ) (left_wall : Bool) (wanted room room_low room_above : ℕ) : Type 0 where
   pub left_is : left_wall ≡ has_left_wall (outline_of front)
   pub wanted_is : wanted + 1 ≡ count + open_side (has_left_wall (outline_of front)) + open_side (has_right_wall (outline_of front))
   pub room_is : room ≡ order - order_of front - count - unders_behind (outline_of front) - singles_behind false (outline_of front)
   pub room_low_is : room_low ≡ order - order_of front - count - unders_behind (outline_of front) - singles_behind true (outline_of front)
+  pub room_above_is : room_above ≡ order - order_of front - count - closings_behind (outline_of front) - singles_behind false (outline_of front)
 
 -- the tally of the signs before the valley and of these behind them, and the new valleys of one square by these
 pub record IsAsked (front : Word) (signs : List Sign) (bound aboves found : ℕ) (low : Bool) : Type 0 where

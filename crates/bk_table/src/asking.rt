@@ -1,6 +1,7 @@
 //! What a next move's first signs ask for, counted sign by sign.
 
 ghost use Rattle.std.specs.Prelude.{IsTrue, List, [], drop, false, length, true, ℕ, ◌++◌, ◌+◌, ◌-◌, ◌<◌, ◌∷◌, ◌≡◌, ◌≤◌};
+ghost use Rattle.bk_bounds.specs.ClosingBound.{closing_bound as bound_of};
 ghost use Rattle.bk_bounds.specs.SingleValleys.{single_valleys_from};
 ghost use Rattle.bk_word.specs.Outline.{open_side};
 ghost use Rattle.bk_word.specs.Play.{IsLegal, outline_of};
@@ -9,18 +10,20 @@ ghost use Rattle.bk_word.specs.declared.Sign.{Sign as SeenSign};
 ghost use Rattle.bk_table.specs.Asking.{EndsOver, IsAsked, IsNext, StandBeside, singles_behind};
 
 use bk_owed::{
-    Lone, Tally, first_above, lone_with, single_valleys, tally_behind, tally_with, unders_behind,
+    Lone, Tally, closing_bound, first_above, lone_with, single_valleys, tally_behind, tally_with,
+    unders_behind,
 };
 use bk_skel::Skel;
 use bk_word::Sign;
 
-/// What stands beside the leftmost valley: whether the walls do, how many signs are under behind it, how many valleys of one square
-/// stand there, and what the signs before it ask for. (Own.)
+/// What stands beside the leftmost valley: whether the walls do, how many signs are under behind it, the closing bound there, how many
+/// valleys of one square stand there, and what the signs before it ask for. (Own.)
 #[derive(Clone, Copy, Drop)]
 pub(crate) struct Beside {
     left_wall: bool,
     right_wall: bool,
     unders: usize,
+    closings: usize,
     behind: Behind,
     pub(crate) asked: Asked,
 }
@@ -34,13 +37,15 @@ struct Behind {
 }
 
 /// Of a next move of some count: whether the valley has a wall at its left, how many signs the move has, and how many squares may
-/// be asked for by them, where the segment behind the last one isn't low at the left, and where it is. (Own.)
+/// be asked for by them, where the segment behind the last one isn't low at the left, where it is, and where segments behind the valley
+/// are closed last. (Own.)
 #[derive(Clone, Copy, Drop)]
 pub(crate) struct Next {
     pub(crate) left_wall: bool,
     pub(crate) wanted: u8,
     pub(crate) room: usize,
     pub(crate) room_low: usize,
+    pub(crate) room_above: usize,
 }
 
 /// The tally of the signs before the valley and of a move's first signs, and the new valleys of one square by these. (Own.)
@@ -54,7 +59,7 @@ pub(crate) struct Asked {
 pub(crate) fn stand_beside(skel: &Skel) -> Beside
     requires legal { IsLegal skel.now }
     requires few { order_of skel.now ≤ 200 }
-    ensures beside { StandBeside skel.now result.left_wall result.right_wall result.unders result.behind.singles
+    ensures beside { StandBeside skel.now result.left_wall result.right_wall result.unders result.closings result.behind.singles
         result.behind.singles_low }
     ensures asked { IsAsked skel.now [] result.asked.tally.bound result.asked.tally.aboves result.asked.lone.found result.asked.lone.low }
     ensures few { result.asked.tally.bound + result.asked.lone.found ≤ 400 }
@@ -70,6 +75,7 @@ pub(crate) fn stand_beside(skel: &Skel) -> Beside
         left_wall,
         right_wall: place == signs.len(),
         unders: unders_behind(signs, place),
+        closings: closings_behind(signs, place),
         behind: behind_valley(signs, skel.sizes(), place),
         asked: Asked {
             tally: tally_behind(none, &signs[..place.saturating_sub(1)]),
@@ -79,6 +85,18 @@ pub(crate) fn stand_beside(skel: &Skel) -> Beside
             },
         },
     }
+}
+
+// The closing bound of the signs behind the valley at a place.
+fn closings_behind(signs: &[Sign], place: usize) -> usize
+    requires few { length signs.now < 1000 }
+    requires place { place ≤ length signs.now }
+    ensures { result ≡ bound_of (drop (place + 1) signs.now) }
+{
+    if place == signs.len() {
+        return 0;
+    }
+    closing_bound(&signs[place + 1..])
 }
 
 // The valleys of one square behind the valley at a place.
@@ -124,8 +142,10 @@ pub(crate) fn next_of(beside: Beside, count: u8, left: usize) -> Next
     requires some { 0 < count }
     requires few { count ≤ 16 }
     ensures next { (front : Moves) (order : ℕ)
-        → StandBeside front beside.left_wall beside.right_wall beside.unders beside.behind.singles beside.behind.singles_low
-        → left ≡ order - order_of front - count → IsNext front count order result.left_wall result.wanted result.room result.room_low }
+        → StandBeside front beside.left_wall beside.right_wall beside.unders beside.closings beside.behind.singles
+        beside.behind.singles_low
+        → left ≡ order - order_of front - count → IsNext front count order result.left_wall result.wanted result.room result.room_low
+        result.room_above }
     ensures room { result.room ≤ left }
 {
     let room = left.saturating_sub(beside.unders);
@@ -134,6 +154,9 @@ pub(crate) fn next_of(beside: Beside, count: u8, left: usize) -> Next
         wanted: count - 1 + open_side(beside.left_wall) + open_side(beside.right_wall),
         room: room.saturating_sub(beside.behind.singles),
         room_low: room.saturating_sub(beside.behind.singles_low),
+        room_above: left
+            .saturating_sub(beside.closings)
+            .saturating_sub(beside.behind.singles),
     }
 }
 
@@ -153,11 +176,22 @@ pub(crate) fn asked_with(asked: Asked, sign: Sign) -> Asked
         → IsAsked front signs asked.tally.bound asked.tally.aboves asked.lone.found asked.lone.low
         → IsAsked front (signs ++ sign ∷ []) result.tally.bound result.tally.aboves result.lone.found result.lone.low }
     ensures few { result.tally.bound + result.lone.found ≤ asked.tally.bound + asked.lone.found + 2 }
+    ensures low { result.tally.aboves ≤ result.tally.bound }
 {
     Asked {
         tally: tally_with(asked.tally, sign),
         lone: lone_with(asked.lone, sign),
     }
+}
+
+/// Whether the signs above and the new valleys ask for more squares than there is room for where segments behind the valley are closed
+/// last.
+pub(crate) fn is_over_behind(asked: Asked, room_above: usize) -> bool
+    requires few { asked.tally.bound + asked.lone.found ≤ 2000 }
+    requires low { asked.tally.aboves ≤ asked.tally.bound }
+    ensures { IsTrue result → room_above < asked.tally.aboves + asked.lone.found }
+{
+    asked.tally.aboves + asked.lone.found > room_above
 }
 
 /// Whether more squares are asked for than there is room for.

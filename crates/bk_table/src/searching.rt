@@ -8,7 +8,9 @@ ghost use Rattle.bk_word.specs.Word.{Move as SeenMove, Word as Moves, order_of};
 ghost use Rattle.bk_table.specs.Asking.{IsAsked, IsNext};
 ghost use Rattle.bk_table.specs.Sought.{GoesOn, GoesOnBy, IsSought};
 
-use crate::asking::{Asked, Next, asked_with, ends_over, is_over, next_of, stand_beside};
+use crate::asking::{
+    Asked, Next, asked_with, ends_over, is_over, is_over_behind, next_of, stand_beside,
+};
 use crate::board::Board;
 use crate::cuts::{bars, is_barren, least_count};
 use arrayvec::ArrayVec;
@@ -107,7 +109,7 @@ fn with_signs<S: Leaves>(
     requires few { order_of board.old + m.old.count ≤ order }
     requires signs { length m.old.signs + 1 ≤ m.old.count + open_side (has_left_wall (outline_of board.old)) + open_side
         (has_right_wall (outline_of board.old)) }
-    requires next { IsNext board.old m.old.count order next.left_wall next.wanted next.room next.room_low }
+    requires next { IsNext board.old m.old.count order next.left_wall next.wanted next.room next.room_low next.room_above }
     requires room { next.room ≤ 16 }
     requires asked { IsAsked board.old m.old.signs asked.tally.bound asked.tally.aboves asked.lone.found asked.lone.low }
     requires asking { asked.tally.bound + asked.lone.found ≤ 1000 }
@@ -147,7 +149,7 @@ fn with_sign<S: Leaves>(
     requires few { order_of board.old + m.old.count ≤ order }
     requires signs { length m.old.signs + 2 ≤ m.old.count + open_side (has_left_wall (outline_of board.old)) + open_side
         (has_right_wall (outline_of board.old)) }
-    requires next { IsNext board.old m.old.count order next.left_wall next.wanted next.room next.room_low }
+    requires next { IsNext board.old m.old.count order next.left_wall next.wanted next.room next.room_low next.room_above }
     requires room { next.room ≤ 16 }
     requires asked { IsAsked board.old m.old.signs asked.tally.bound asked.tally.aboves asked.lone.found asked.lone.low }
     requires asking { asked.tally.bound + asked.lone.found ≤ 1000 }
@@ -162,6 +164,9 @@ fn with_sign<S: Leaves>(
     }
     let more = asked_with(asked, sign);
     if is_over(more, next.room) {
+        return;
+    }
+    if is_over_behind(more, next.room_above) {
         return;
     }
     m.signs.push(sign);

@@ -3,7 +3,7 @@ use Rattle.bk_word.specs.Outline.{valley_place}
 use Rattle.bk_word.specs.Play.{outline_of}
 use Rattle.bk_word.specs.declared.Sign.{Sign}
 use Rattle.bk_bounds.proofs.BoundsOfWords.{sizes_long}
-use Rattle.bk_bounds.specs.ClosingBound.{is_under}
+use Rattle.bk_bounds.specs.ClosingBound.{closing_bound, is_under}
 use Rattle.bk_owed.proofs.LoneLaws.{lone_none}
 use Rattle.bk_owed.proofs.TallyLaws.{tally_none}
 use Rattle.bk_owed.specs.Lone.{IsLone}
@@ -24,6 +24,7 @@ returns-clause-beside c =
       left_is = ap (λ k. nat_eq k 0) place;
       right_is = λ i. nat_eq (place i) (length (signs i));
       unders_are = c.unders_behind.ensures ∙ (λ i. count_by is_under (drop (place i + 1) (signs i)));
+      closings_are = c.closings_behind.ensures ∙ (λ i. closing_bound (drop (place i + 1) (signs i)));
       singles_are = behind_read false (outline_of c.args.skel.now) c.signs-signs.result.now c.sizes.result.now c.first_above-place.result
           c.behind_valley.result.singles signs sizes place within c.behind_valley.ensures.wall c.behind_valley.ensures.singles;
       singles_low_are = behind_read true (outline_of c.args.skel.now) c.signs-signs.result.now c.sizes.result.now c.first_above-place.result
@@ -58,4 +59,12 @@ behind_valley-requires-clause-long c = omega (
   sizes_long c.args.skel.now c.requires.legal,
   ap length c.sizes.ensures,
   ap length c.signs-signs.ensures,
+)
+
+pub closings_behind-requires-clause-few : goal.closings_behind-requires-clause-few
+closings_behind-requires-clause-few c = omega (
+  arith,
+  ap length c.signs-signs.ensures,
+  few_signs_open c.args.skel.now c.requires.legal,
+  c.requires.few,
 )

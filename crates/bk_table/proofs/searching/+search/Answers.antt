@@ -5,7 +5,7 @@ use Rattle.bk_word.specs.Word.{Move, Word, order_of}
 use Rattle.bk_word.specs.declared.Sign.{Sign}
 use Rattle.bk_word.specs.declared.Sign.TheVariants.{Above, Even, Under}
 use Rattle.bk_net_word.specs.NetWord.{IsNetBarren}
-use Rattle.bk_table.proofs.AskedSigns.{asked_is_barred, ended_is_barred}
+use Rattle.bk_table.proofs.AskedSigns.{asked_behind_is_barred, asked_is_barred, ended_is_barred}
 use Rattle.bk_table.proofs.NextMoves.{HasNextSign, below_or_same, by_count, by_pushed, by_sign, by_whole, is_whole, next_fertile, next_fits}
 use Rattle.bk_table.proofs.NextMoves.{next_move, next_sign}
 use Rattle.bk_table.specs.Sought.{GoesOn}
@@ -83,8 +83,17 @@ with_sign-returns-then-is_over-clause-all g t c w sought on =
     let more = c.asked_with-more.result in
     absurd (next_fertile c.args.order c.args.board.now w on.move on.rest sought on.is
     (asked_is_barred c.args.order c.args.m.now.count c.args.board.now (c.args.m.now.signs ++ c.args.sign ∷ []) on.move on.more c.args.next.wanted
-    c.args.next.room c.args.next.room_low more.tally.bound more.tally.aboves more.lone.found c.args.next.left_wall more.lone.low c.requires.least c.requires.next
+    c.args.next.room c.args.next.room_low c.args.next.room_above more.tally.bound more.tally.aboves more.lone.found c.args.next.left_wall more.lone.low c.requires.least c.requires.next
     (c.asked_with-more.ensures.asked c.args.board.now c.args.m.now.signs c.requires.asked) (c.is_over.ensures.over c.if-is_over.true) on.count_is
+    on.signs_are))
+
+pub with_sign-returns-then-is_over_behind-clause-all : goal.with_sign-returns-then-is_over_behind-clause-all
+with_sign-returns-then-is_over_behind-clause-all g t c w sought on =
+    let more = c.asked_with-more.result in
+    absurd (next_fertile c.args.order c.args.board.now w on.move on.rest sought on.is
+    (asked_behind_is_barred c.args.order c.args.m.now.count c.args.board.now (c.args.m.now.signs ++ c.args.sign ∷ []) on.move on.more c.args.next.wanted
+    c.args.next.room c.args.next.room_low c.args.next.room_above more.tally.bound more.tally.aboves more.lone.found c.args.next.left_wall more.lone.low c.requires.least c.requires.next
+    (c.asked_with-more.ensures.asked c.args.board.now c.args.m.now.signs c.requires.asked) (c.is_over_behind.ensures c.if-is_over_behind.true) on.count_is
     on.signs_are))
 
 pub with_sign-returns-clause-all : goal.with_sign-returns-clause-all
@@ -123,7 +132,7 @@ with_signs-returns-then-ends_over-clause-all g t c w sought on =
       );
     }) on in
     absurd (sought.fertile (c.args.board.now ++ c.args.m.now ∷ []) whole.rest whole.is
-    (ended_is_barred c.args.order c.args.board.now c.args.m.now c.args.next.wanted c.args.next.room c.args.next.room_low c.args.asked.tally.bound
+    (ended_is_barred c.args.order c.args.board.now c.args.m.now c.args.next.wanted c.args.next.room c.args.next.room_low c.args.next.room_above c.args.asked.tally.bound
     c.args.asked.tally.aboves c.args.asked.lone.found c.args.next.left_wall c.args.asked.lone.low c.requires.least c.requires.next c.requires.asked
     (c.ends_over.ensures c.if-ends_over.true)))
 

@@ -25,6 +25,6 @@ with_signs-requires-clause-next g c =
     let same = c.skel.ensures.value in
     let around = c.stand_beside-around.result in
     c.next_of-next.ensures.next c.new-board.result c.args.order
-    (subst (λ (w : Word). StandBeside w around.left_wall around.right_wall around.unders around.behind.singles around.behind.singles_low) same
+    (subst (λ (w : Word). StandBeside w around.left_wall around.right_wall around.unders around.closings around.behind.singles around.behind.singles_low) same
     c.stand_beside-around.ensures.beside)
     (omega (arith, c.from.ensures, ap order_of c.new-board.ensures))
