@@ -7,14 +7,13 @@ ghost use Rattle.arrayvec.specs.ArrayVec.{array_vec_len};
 ghost use Rattle.bk_tiling.specs.Kept.{IsSide};
 ghost use Rattle.bk_text.specs.CodeText.{code_text, group_text, size_text};
 
-use arrayvec::ArrayVec;
 use bk_code::Code;
-use bk_grammar::{push_bytes, push_number};
+use bk_grammar::{AnswerBuffer, push_bytes, push_number};
 use itoa::Buffer;
 
 /// Appends a code in its one spelling: each group in square brackets, `,` between its sides, and no blanks. The code
 /// must have a group, and the line room for 3,400 bytes.
-pub fn write_code(code: &Code, line: &mut ArrayVec<u8, 9000>)
+pub fn write_code(code: &Code, line: &mut AnswerBuffer)
     requires some { 0 < length code.now }
     requires room { array_vec_len line.old + 3400 ≤ 9000 }
     ensures text { line.new.items ≡ line.old.items ++ code_text code.now }
@@ -26,7 +25,7 @@ pub fn write_code(code: &Code, line: &mut ArrayVec<u8, 9000>)
 }
 
 // Appends a group, for which there must be room.
-fn write_group(sides: &[u64], line: &mut ArrayVec<u8, 9000>)
+fn write_group(sides: &[u64], line: &mut AnswerBuffer)
     requires some { 0 < length sides.now }
     requires sides { AllByRecursion IsSide sides.now }
     requires room { array_vec_len line.old + 17 * length sides.now ≤ 9000 }
@@ -44,7 +43,7 @@ fn write_group(sides: &[u64], line: &mut ArrayVec<u8, 9000>)
 
 // Appends a side, for which there must be room.
 #[tactic(auto, using(crate::proofs::Spelling::short_side))]
-fn push_side(side: u64, line: &mut ArrayVec<u8, 9000>)
+fn push_side(side: u64, line: &mut AnswerBuffer)
     requires side { IsSide side }
     requires room { array_vec_len line.old + 15 ≤ 9000 }
     ensures text { line.new.items ≡ line.old.items ++ decimal side }
@@ -55,7 +54,7 @@ fn push_side(side: u64, line: &mut ArrayVec<u8, 9000>)
 }
 
 /// Appends a size: the width, `x` and the height. The line must have room for 41 bytes.
-pub fn write_size(width: u64, height: u64, line: &mut ArrayVec<u8, 9000>)
+pub fn write_size(width: u64, height: u64, line: &mut AnswerBuffer)
     requires { array_vec_len line.old + 41 ≤ 9000 }
     ensures text { line.new.items ≡ line.old.items ++ size_text width height }
     ensures short { length (size_text width height) ≤ 41 }

@@ -8,12 +8,11 @@ ghost use Rattle.bk_word.specs.WordText.{letter as letter_of_sign, word_text};
 
 use crate::storage::{is_count, sign_of};
 use crate::{Sign, Word};
-use arrayvec::ArrayVec;
-use bk_grammar::{push_bytes, push_number};
+use bk_grammar::{AnswerBuffer, push_bytes, push_number};
 
 /// Appends the text of a word: its moves with a dot between each two, and of each the count and the letters of its signs. The
 /// word must have a move, and `out` room for 1,000 bytes.
-pub fn write_word(word: &Word, out: &mut ArrayVec<u8, 9000>)
+pub fn write_word(word: &Word, out: &mut AnswerBuffer)
     requires some { 0 < length word.now }
     requires room { array_vec_len out.old + 1000 ≤ 9000 }
     ensures text { out.new.items ≡ out.old.items ++ word_text word.now }
@@ -25,7 +24,7 @@ pub fn write_word(word: &Word, out: &mut ArrayVec<u8, 9000>)
 }
 
 // Appends what is written of bytes that aren't the first.
-fn write_pieces(bytes: &[u8], out: &mut ArrayVec<u8, 9000>)
+fn write_pieces(bytes: &[u8], out: &mut AnswerBuffer)
     requires { array_vec_len out.old + length (flat_map piece bytes.now) + 20 ≤ 9000 }
     ensures { out.new.items ≡ out.old.items ++ flat_map piece bytes.now }
 {
