@@ -79,8 +79,8 @@ module _ (front : Word) (other : Move) (signs more : List Sign) (are : other.sig
 
 -- a move whose signs begin with these is barren where they ask for more than there is room for
 pub asked_is_barred : (n count : ℕ) (front : Word) (signs : List Sign) (other : Move) (more : List Sign) (wanted room room_low room_above bound above found : ℕ)
-    (left_wall low : Bool) → 2 ≤ n → IsNext front count n left_wall wanted room room_low room_above → IsAsked front signs bound above found low → room < bound + found
-    → other.count ≡ count → other.signs ≡ signs ++ more → IsNetBarren n (front ++ other ∷ [])
+    (left_wall low : Bool) → 2 ≤ n → IsNext front count n left_wall wanted room room_low room_above → IsAsked front signs bound above found low
+    → room < bound + found → other.count ≡ count → other.signs ≡ signs ++ more → IsNetBarren n (front ++ other ∷ [])
 asked_is_barred n count front signs other more wanted room room_low room_above bound above found left_wall low least next asked over same are =
     too_many_asked n front other least (λ legal. omega (
       arith,

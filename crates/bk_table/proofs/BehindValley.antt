@@ -11,7 +11,8 @@ use Rattle.bk_table.specs.Asking.{singles_behind}
 -- the first of the segments behind a place, apart from the others
 pub first_apart : (signs : List Sign) (sizes : List ℕ) (place size all first : ℕ) → place + 1 < length sizes → size ≡ slice_index_or sizes (place + 1) 0
     → all ≡ single_valleys (drop (place + 1) signs) (drop (place + 1) sizes)
-    → ((rest : List ℕ) → single_valleys_from true (drop (place + 1) signs) (size ∷ rest) ≡ first + single_valleys_from false (drop (place + 1) signs) (size ∷ rest))
+    → ((rest : List ℕ) → single_valleys_from true (drop (place + 1) signs) (size ∷ rest)
+    ≡ first + single_valleys_from false (drop (place + 1) signs) (size ∷ rest))
     → all ≡ first + single_valleys_from false (drop (place + 1) signs) (drop (place + 1) sizes)
 first_apart signs sizes place size all first within is are apart = omega (
   arith,

@@ -172,7 +172,8 @@ at_place (suc k) signs back old segments rest squares within many h parted = ome
     there : lone_squares false signs + singles (is_low false signs) back rest ≤ singles true (filter parts (take (suc k - 1) old ++ signs ++ back))
         (joined (take (suc k - 1) old ++ signs ++ back) (take (suc k) segments ++ lone squares ++ rest))
     there = subst (λ (j : ℕ). lone_squares false signs + singles (is_low false signs) back rest
-        ≤ singles true (filter parts (take j old ++ signs ++ back)) (joined (take j old ++ signs ++ back) (take (suc k) segments ++ lone squares ++ rest))) before
+        ≤ singles true (filter parts (take j old ++ signs ++ back))
+        (joined (take j old ++ signs ++ back) (take (suc k) segments ++ lone squares ++ rest))) before
         (at_neighbour k signs back old segments rest squares (omega arith) (omega arith) long parted)
 
 -- the last of some squares

@@ -1,4 +1,5 @@
-use Rattle.std.proofs.Common.{List, [], ap, append-nil, arith, count_by, drop, false, length, length-take, nat_eq, subst, sym, take, true, ◌++◌, ◌+◌, ◌-◌, ◌∙◌, ◌≡◌}
+use Rattle.std.proofs.Common.{List, [], ap, append-nil, arith, count_by, drop, false, length, length-take, nat_eq, subst, sym, take, true, ◌++◌}
+use Rattle.std.proofs.Common.{◌+◌, ◌-◌, ◌∙◌, ◌≡◌}
 use Rattle.bk_word.specs.Outline.{valley_place}
 use Rattle.bk_word.specs.Play.{outline_of}
 use Rattle.bk_word.specs.declared.Sign.{Sign}

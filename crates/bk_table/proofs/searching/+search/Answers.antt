@@ -83,7 +83,8 @@ with_sign-returns-then-is_over-clause-all g t c w sought on =
     let more = c.asked_with-more.result in
     absurd (next_fertile c.args.order c.args.board.now w on.move on.rest sought on.is
     (asked_is_barred c.args.order c.args.m.now.count c.args.board.now (c.args.m.now.signs ++ c.args.sign ∷ []) on.move on.more c.args.next.wanted
-    c.args.next.room c.args.next.room_low c.args.next.room_above more.tally.bound more.tally.aboves more.lone.found c.args.next.left_wall more.lone.low c.requires.least c.requires.next
+    c.args.next.room c.args.next.room_low c.args.next.room_above more.tally.bound more.tally.aboves more.lone.found
+    c.args.next.left_wall more.lone.low c.requires.least c.requires.next
     (c.asked_with-more.ensures.asked c.args.board.now c.args.m.now.signs c.requires.asked) (c.is_over.ensures.over c.if-is_over.true) on.count_is
     on.signs_are))
 
@@ -92,7 +93,8 @@ with_sign-returns-then-is_over_behind-clause-all g t c w sought on =
     let more = c.asked_with-more.result in
     absurd (next_fertile c.args.order c.args.board.now w on.move on.rest sought on.is
     (asked_behind_is_barred c.args.order c.args.m.now.count c.args.board.now (c.args.m.now.signs ++ c.args.sign ∷ []) on.move on.more c.args.next.wanted
-    c.args.next.room c.args.next.room_low c.args.next.room_above more.tally.bound more.tally.aboves more.lone.found c.args.next.left_wall more.lone.low c.requires.least c.requires.next
+    c.args.next.room c.args.next.room_low c.args.next.room_above more.tally.bound more.tally.aboves more.lone.found
+    c.args.next.left_wall more.lone.low c.requires.least c.requires.next
     (c.asked_with-more.ensures.asked c.args.board.now c.args.m.now.signs c.requires.asked) (c.is_over_behind.ensures c.if-is_over_behind.true) on.count_is
     on.signs_are))
 
@@ -132,7 +134,8 @@ with_signs-returns-then-ends_over-clause-all g t c w sought on =
       );
     }) on in
     absurd (sought.fertile (c.args.board.now ++ c.args.m.now ∷ []) whole.rest whole.is
-    (ended_is_barred c.args.order c.args.board.now c.args.m.now c.args.next.wanted c.args.next.room c.args.next.room_low c.args.next.room_above c.args.asked.tally.bound
+    (ended_is_barred c.args.order c.args.board.now c.args.m.now c.args.next.wanted c.args.next.room c.args.next.room_low
+    c.args.next.room_above c.args.asked.tally.bound
     c.args.asked.tally.aboves c.args.asked.lone.found c.args.next.left_wall c.args.asked.lone.low c.requires.least c.requires.next c.requires.asked
     (c.ends_over.ensures c.if-ends_over.true)))
 
