@@ -4,6 +4,8 @@
 #[cfg(test)]
 mod dual_rows;
 #[cfg(test)]
+mod elim_rows;
+#[cfg(test)]
 mod flow_rows;
 #[cfg(test)]
 mod form_cuts_rows;
