@@ -8,7 +8,9 @@ use Rattle.bk_tiling.proofs.TilingLaws.{within_of}
 use Rattle.bk_tiling.specs.Point.{is_corner}
 use Rattle.bk_tiling.specs.Tiling.{IsOneOf, IsTiling, Tiling}
 use Rattle.bk_tiling.specs.declared.Square.{Square}
-use Rattle.bk_dual.proofs.CornerCounts.{crossing_begins, own_corner, top_left}
+use Rattle.bk_dual.proofs.CrossingBegins.{crossing_begins}
+use Rattle.bk_dual.proofs.SquareCorners.{own_corner}
+use Rattle.bk_dual.proofs.CornerCounts.{top_left}
 use Rattle.bk_dual.proofs.PointSums.{one_counts, sum_none, sum_plus, sum_same}
 use Rattle.bk_dual.specs.Dual.{crossings, is_crossing}
 

@@ -2,6 +2,8 @@ pub mod DualExamples
 pub mod Numbers
 pub mod PointSums
 pub mod CornerCounts
+pub mod CrossingBegins
+pub mod SquareCorners
 pub mod CrossingCount
 pub mod NodesCounted
 pub mod AllNumbers

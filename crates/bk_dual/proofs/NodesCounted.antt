@@ -14,7 +14,9 @@ use Rattle.bk_tiling.specs.declared.Square.{Square}
 use Rattle.bk_sym.proofs.Images.{images_are_tilings}
 use Rattle.bk_sym.specs.Image.{image, image_square}
 use Rattle.bk_sym.specs.declared.Turn.TheVariants.{Swap}
-use Rattle.bk_dual.proofs.CornerCounts.{among, at_square, bottom_left, none_among, none_between, on_left, on_top, over_here, top_left, top_right}
+use Rattle.bk_dual.proofs.CornerCounts.{among, bottom_left, on_left, on_top, over_here, top_left, top_right}
+use Rattle.bk_dual.proofs.SquareCorners.{at_square}
+use Rattle.bk_dual.proofs.CrossingBegins.{none_among, none_between}
 use Rattle.bk_dual.proofs.CrossingCount.{crossings_at_squares}
 use Rattle.bk_dual.proofs.PointSums.{sum_plus, sum_same, sum_same_in}
 use Rattle.bk_dual.specs.Dual.{is_crossing}

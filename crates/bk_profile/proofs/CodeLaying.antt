@@ -6,7 +6,7 @@ use Rattle.std.proofs.lemmas.List.Sums.{sum_by-append}
 use Rattle.std.proofs.lemmas.List.{append-nil, append_assoc}
 use Rattle.bk_laws.proofs.Totals.{sum_is_total}
 use Rattle.bk_tiling.proofs.Cells.{column_from, column_left, column_right, counted_one, covers_from, depth_comes_from, depth_reaches, from_append}
-use Rattle.bk_tiling.proofs.Cells.{in_all, no_two, one_counted, over_from}
+use Rattle.bk_tiling.proofs.Cells.{in_all, one_counted, over_from}
 use Rattle.bk_tiling.proofs.Members.{in_back, in_front}
 use Rattle.bk_tiling.proofs.Rows.{chain_over, chain_total, chain_within, laid_sides}
 use Rattle.bk_tiling.proofs.TilingLaws.{cell_once, side_of, within_of}
@@ -17,7 +17,7 @@ use Rattle.bk_tiling.specs.declared.Square.{Square}
 use Rattle.bk_tiling.proofs.Groups.{AllIn, IsGroup, IsRow, chain_is_group, groups_row, row_of}
 use Rattle.bk_tiling.proofs.NextCorner.{IsNoLater, next_corner}
 use Rattle.bk_tiling.proofs.OrderLaws.{before_level}
-use Rattle.bk_tiling.proofs.TilingGroups.{all_groups}
+use Rattle.bk_tiling.proofs.TilingGroups.{all_groups, one_there}
 use Rattle.bk_tiling.specs.SquareGroups.{laid_group, square_groups}
 use Rattle.bk_profile.specs.Gap.{IsGap, LaysTo}
 use Rattle.bk_profile.specs.LayingLaws.{ACodeIsLaid}
@@ -28,12 +28,13 @@ before_all (p ∷ front) back o q r (inl e) k = ap (λ (s : Square). comes_befor
     ∙ in_all (λ s. comes_before p s ≡ true) (front ++ back) o.0 r (in_back front back r k)
 before_all (p ∷ front) back o q r (inr h) k = before_all front back o.1 q r h k
 
+back_order : (front back : List Square) → InCodeOrder (front ++ back) → InCodeOrder back
+back_order [] back o = o
+back_order (q ∷ front) back o = back_order front back o.1
+
 module _ (t : Tiling) (tiling : IsTiling t) (laid group back : List Square) (is : t.squares ≡ laid ++ (group ++ back)) (g : IsGroup t.squares group) where
   abbrev row : IsRow t.squares group
   row = g.row
-
-  in_laid : (q : Square) → IsOneOf q laid → IsOneOf q t.squares
-  in_laid q h = subst (IsOneOf q) (sym is) (in_front laid (group ++ back) q h)
 
   in_group : (q : Square) → IsOneOf q group → IsOneOf q t.squares
   in_group q h = subst (IsOneOf q) (sym is) (in_back laid (group ++ back) q (in_front group back q h))
@@ -81,11 +82,6 @@ module _ (t : Tiling) (tiling : IsTiling t) (laid group back : List Square) (is 
       from : (r : Square) × IsOneOf r group × (r.x ≤ c) × (c < r.x + r.s) → (r : Square) × IsOneOf r group × (covers c g.row.first.y r ≡ true)
       from (r, h, a, b) = let top = in_all (λ q. q.y ≡ g.row.first.y) group g.row.tops r h in
           (r, h, covers_from c g.row.first.y r a b (omega (arith, top)) (omega (arith, top, side_of t tiling r (in_group r h))))
-
-  one_over : (q r : Square) (i j : ℕ) → IsOneOf q t.squares → covers i j q ≡ true → IsOneOf r t.squares → covers i j r ≡ true → q ≡ r
-  one_over q r i j a e b f = let o = over_from i j q e in let w =
-      within_of t tiling q a in
-      no_two (covers i j) t.squares (omega (arith, cell_once t tiling i j (omega (arith, o.right, w.right)) (omega (arith, o.bottom, w.bottom)))) q r a e b f
 
   end_within : g.row.end ≤ t.width
   end_within = cases (cases_lt g.row.first.x g.row.end)
@@ -141,7 +137,7 @@ module _ (t : Tiling) (tiling : IsTiling t) (laid group back : List Square) (is 
               by (inl k) = last (at_level (g.row.end - 1) (omega (arith, some_width)) (omega (arith, some_width)))
                 where
                   last : (r : Square) × IsOneOf r group × (covers (g.row.end - 1) g.row.first.y r ≡ true) → g.row.first.y < depth laid g.row.end
-                  last (r, m, f) = let same : z ≡ r = one_over z r (g.row.end - 1) g.row.first.y h
+                  last (r, m, f) = let same : z ≡ r = one_there t tiling z r (g.row.end - 1) g.row.first.y h
                       (covers_from (g.row.end - 1) g.row.first.y z (omega arith) (omega (arith, (over_from g.row.end g.row.first.y z e).right))
                       (omega (arith, ey)) (omega (arith, ey, side_of t tiling z h))) (in_group r m) f in
                       absurd (omega (
@@ -152,12 +148,7 @@ module _ (t : Tiling) (tiling : IsTiling t) (laid group back : List Square) (is 
                       ))
 
           order : InCodeOrder (g.row.first ∷ (g.row.rest ++ back))
-          order = tail_order laid (subst InCodeOrder next_is tiling.ordered)
-            where
-              tail_order : (front : List Square) → InCodeOrder (front ++ (g.row.first ∷ (g.row.rest ++ back)))
-                  → InCodeOrder (g.row.first ∷ (g.row.rest ++ back))
-              tail_order [] o = o
-              tail_order (q ∷ front) o = tail_order front o.1
+          order = back_order laid (g.row.first ∷ (g.row.rest ++ back)) (subst InCodeOrder next_is tiling.ordered)
 
           later : IsOneOf z (g.row.first ∷ (g.row.rest ++ back)) → g.row.first.y ≤ z.y
           later (inl same) = omega (arith, ap (λ (s : Square). s.y) same)

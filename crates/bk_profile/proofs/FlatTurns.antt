@@ -2,9 +2,8 @@
 use Rattle.std.specs.List.{AllByRecursion}
 use Rattle.std.specs.Prelude.{IfErr, IfOk, IsOkAnd, Result}
 use Rattle.std.specs.declared.result.Result.TheVariants.{Err, Ok}
-use mathlib.Core.Bool.{true≢false}
-use Rattle.std.proofs.Common.{Bool, List, [], ap, arith, eqb-true, false, length, refl, subst, sum, sym, true, ℕ, ◌==◌, ◌++◌, ◌+◌, ◌<◌, ◌∙◌, ◌∷◌, ◌≡◌, ◌≤◌}
-use Rattle.std.proofs.lemmas.List.{append-nil, append_assoc, length-append}
+use Rattle.std.proofs.Common.{Bool, List, [], ap, arith, drop, eqb-true, length, refl, subst, sum, sym, take, true, ℕ, ◌==◌, ◌++◌, ◌+◌, ◌<◌, ◌∙◌, ◌∷◌, ◌≡◌, ◌≤◌}
+use Rattle.std.proofs.lemmas.List.{append-nil, append_assoc, length-append, length-take-le, take-append-drop}
 use Rattle.bk_laws.proofs.AllOfLists.{all_left, all_right}
 use Rattle.bk_tiling.specs.Kept.{IsSide}
 use Rattle.bk_tiling.specs.Tiling.{Tiling}
@@ -17,6 +16,7 @@ use Rattle.bk_code.specs.Kept.{IsSideGroup}
 use Rattle.bk_profile.proofs.CodeLaid.{laid_out, sum_bounds}
 use Rattle.bk_profile.proofs.Division.{falls_short, flat_refused_has_none}
 use Rattle.bk_profile.proofs.LayingOnce.{gap_of_none, gap_unique, lays_length, lays_push}
+use Rattle.bk_profile.proofs.Turns.{misfits_at}
 use Rattle.bk_profile.specs.Gap.{Divides, Fits, IsGap, LaysTo, done, fits, misfit, next_group, with_group}
 use Rattle.bk_profile.specs.Laid.{IsLaidOut, IsLaidTiling, IsUneven, Laid, LaysGroup, MisfitsGap}
 use Rattle.bk_profile.specs.Refused.{HasFlat, IsFlatRefused, IsOpen}
@@ -37,6 +37,25 @@ pub record Dividing (width : ℕ) (sides : List ℕ) (number : ℕ) (p : Laid) (
   pub good : AllByRecursion IsSideGroup code
   pub goes_on : (more : Code) → Divides width p.squares rest more → Divides width [] sides (code ++ more)
 
+-- the next group of the sides that are left, as long as the gap takes, and what is left behind it
+pub record IsNextGroup (p : Laid) (rest group left : List ℕ) (gap : Segment) : Type 0 where
+  pub is : IsGap p.width p.squares gap
+  pub next : group ≡ next_group gap.width rest
+  pub some : 0 < length rest
+  pub split : group ++ left ≡ rest
+  pub long : 0 < length group
+
+-- as many of the sides as the next group has are the next group
+pub next_group_is : (p : Laid) (rest group left : List ℕ) (gap : Segment) (n : ℕ) → IsGap p.width p.squares gap → group ≡ take n rest → left ≡ drop n rest
+    → take n rest ≡ next_group gap.width rest → 0 < n → n ≤ length rest → IsNextGroup p rest group left gap
+next_group_is p rest group left gap n is front back next some within = record {
+  is = is;
+  next = front ∙ next;
+  some = omega (arith, some, within);
+  split = (λ i. front i ++ back i) ∙ take-append-drop n rest;
+  long = omega (arith, some, ap length front, length-take-le n rest within);
+}
+
 -- before the first group all sides are left
 pub first_turn : (width : ℕ) (sides : List ℕ) (p : Laid) → p ≡ record { width = width; squares = [] } → Dividing width sides 1 p sides
 first_turn width sides p new = subst (λ (q : Laid). Dividing width sides 1 q sides) (sym new)
@@ -46,9 +65,6 @@ module _ (width : ℕ) (sides : List ℕ) (number : ℕ) (p : Laid) (rest : List
     (good : AllByRecursion IsSide sides) where
   count : length p.squares + length rest ≡ length sides
   count = omega (arith, lays_length width [] turn.code p.squares turn.lays, ap length turn.flat_is, length-append (flat turn.code) rest)
-
-  pub rest_few : length rest ≤ 200
-  rest_few = omega (arith, count, few)
 
   pub rest_good : AllByRecursion IsSide rest
   rest_good = all_right IsSide (flat turn.code) rest (subst (AllByRecursion IsSide) (sym turn.flat_is) good)
@@ -61,16 +77,15 @@ module _ (width : ℕ) (sides : List ℕ) (number : ℕ) (p : Laid) (rest : List
       groups (group ∷ code) all = omega (arith, all.0.0, groups code all.1, length-append group (flat code))
 
   -- the next group
-  module _ (group left : List ℕ) (gap : Segment) (is : IsGap p.width p.squares gap) (next : group ≡ next_group gap.width rest)
-      (some : 0 < length rest) (split : group ++ left ≡ rest) (long : 0 < length group) where
+  module _ (group left : List ℕ) (gap : Segment) (its : IsNextGroup p rest group left gap) where
     pub group_good : AllByRecursion IsSide group
-    group_good = all_left IsSide group left (subst (AllByRecursion IsSide) (sym split) rest_good)
+    group_good = all_left IsSide group left (subst (AllByRecursion IsSide) (sym its.split) rest_good)
 
     pub group_room : length p.squares + length group ≤ 200
-    group_room = omega (arith, count, few, ap length split, length-append group left)
+    group_room = omega (arith, count, few, ap length its.split, length-append group left)
 
     here : IsGap width p.squares gap
-    here = subst (λ n. IsGap n p.squares gap) turn.width_is is
+    here = subst (λ n. IsGap n p.squares gap) turn.width_is its.is
 
     divides_fit : (group rest left : List ℕ) (code : Code) → 0 < length rest → group ≡ next_group gap.width rest → group ++ left ≡ rest
         → Fits gap group → Divides width (with_group p.squares gap group) left code → Divides width p.squares rest (group ∷ code)
@@ -89,14 +104,14 @@ module _ (width : ℕ) (sides : List ℕ) (number : ℕ) (p : Laid) (rest : List
       lays = lays_push width [] turn.code p.squares group gap turn.lays here fit;
       number_is = omega (arith, turn.number_is, length-append turn.code (group ∷ []));
       flat_is = ap (λ (l : List ℕ). l ++ left) (flat_more turn.code group) ∙ append_assoc (flat turn.code) group left
-          ∙ ap (λ (l : List ℕ). flat turn.code ++ l) split ∙ turn.flat_is;
-      good = all_more turn.code group turn.good (long, group_good);
+          ∙ ap (λ (l : List ℕ). flat turn.code ++ l) its.split ∙ turn.flat_is;
+      good = all_more turn.code group turn.good (its.long, group_good);
       goes_on = λ more d. subst (λ (c : Code). Divides width [] sides c) (sym (append_assoc turn.code (group ∷ []) more))
-          (turn.goes_on (group ∷ more) (divides_fit group rest left more some next split fit d));
+          (turn.goes_on (group ∷ more) (divides_fit group rest left more its.some its.next its.split fit d));
     })
       where
         same : lay.gap ≡ gap
-        same = gap_unique p.width p.squares lay.gap gap lay.is_gap is
+        same = gap_unique p.width p.squares lay.gap gap lay.is_gap its.is
 
         fit : Fits gap group
         fit = lay.fits ∙ ap (λ (g : Segment). g.width) same
@@ -107,25 +122,12 @@ module _ (width : ℕ) (sides : List ℕ) (number : ℕ) (p : Laid) (rest : List
     pub misfit_turn : (gap_width total : ℕ) → MisfitsGap p group gap_width total → IsFlatRefused width sides (Gap number gap_width total)
     misfit_turn gap_width total m = record {
       code = turn.code ++ group ∷ [];
-      divided = turn.goes_on (group ∷ []) (divides_misfit group rest some next (λ fit. m.misfit (fit ∙ ap (λ (g : Segment). g.width) (sym same))));
-      refused = record {
-        before = turn.code;
-        group = group;
-        after = [];
-        split = refl;
-        place = turn.number_is;
-        laid = p.squares;
-        lays = turn.lays;
-        gap = m.gap;
-        is_gap = subst (λ n. IsGap n p.squares m.gap) turn.width_is m.is_gap;
-        gap_is = m.width;
-        total_is = m.total_is;
-        misfit = m.misfit;
-      };
+      divided = turn.goes_on (group ∷ []) (divides_misfit group rest its.some its.next (λ fit. m.misfit (fit ∙ ap (λ (g : Segment). g.width) (sym same))));
+      refused = misfits_at width (turn.code ++ group ∷ []) turn.code [] group number p gap_width total refl turn.number_is turn.width_is turn.lays m;
     }
       where
         same : m.gap ≡ gap
-        same = gap_unique p.width p.squares m.gap gap m.is_gap is
+        same = gap_unique p.width p.squares m.gap gap m.is_gap its.is
 
 -- after the last turn
 module _ (width : ℕ) (sides : List ℕ) (number : ℕ) (p : Laid) (rest : List ℕ) (turn : Dividing width sides number p rest) (few : length sides ≤ 200)
@@ -215,11 +217,6 @@ too_wide width total (s ∷ sides) some few good wide is = record {
 
     not : Fits (whole_gap width) (s ∷ sides) → ⊥
     not e = omega (arith, short, e)
-
--- whether sides are left, as a test tells it
-pub some_left : (sides : List ℕ) (b : Bool) → b ≡ (length sides == 0) → b ≡ false → 0 < length sides
-some_left [] b e f = absurd (true≢false (sym e ∙ f))
-some_left (s ∷ sides) b e f = omega arith
 
 -- where the test says so, no side is left
 pub none_left : (sides : List ℕ) (b : Bool) → b ≡ (length sides == 0) → b ≡ true → sides ≡ []

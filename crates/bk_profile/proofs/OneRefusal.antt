@@ -25,6 +25,12 @@ pub record Same (before other : Code) (group group2 : List ℕ) (gap gap2 : Segm
   pub groups : group ≡ group2
   pub gaps : gap ≡ gap2
 
+-- a group that misfits the gap doesn't begin a code that is laid
+not_laid : (w : ℕ) (laid : List Square) (first : List ℕ) (code : Code) (group : List ℕ) (gap : Segment) (end : List Square) → group ≡ first
+    → IsGap w laid gap → (Fits gap group → ⊥) → LaysTo w laid (first ∷ code) end → ⊥
+not_laid w laid first code group gap end same is misfit (g, is_gap, fits, lays) =
+    misfit (ap (λ (l : List ℕ). sum l) same ∙ fits ∙ ap (λ (s : Segment). s.width) (gap_unique w laid g gap is_gap is))
+
 stops_once : (w : ℕ) (laid : List Square) (before other after after2 : Code) (group group2 : List ℕ) (gap gap2 : Segment)
     → before ++ group ∷ after ≡ other ++ group2 ∷ after2
     → Stops w laid before group gap → Stops w laid other group2 gap2 → Same before other group group2 gap gap2
@@ -34,22 +40,16 @@ stops_once w laid [] [] after after2 group group2 gap gap2 e a b = record {
   gaps = gap_unique w laid gap gap2 (subst (λ (l : List Square). IsGap w l gap) (sym a.lays) a.is_gap)
       (subst (λ (l : List Square). IsGap w l gap2) (sym b.lays) b.is_gap);
 }
-stops_once w laid [] (first ∷ other) after after2 group group2 gap gap2 e a b = absurd (from b.lays)
+stops_once w laid [] (first ∷ other) after after2 group group2 gap gap2 e a b =
+    absurd (not_laid w laid first other group gap b.end same (subst (λ (l : List Square). IsGap w l gap) (sym a.lays) a.is_gap) a.misfit b.lays)
   where
     same : group ≡ first
     same = cc
-
-    from : LaysTo w laid (first ∷ other) b.end → ⊥
-    from (g, is, fits, lays) = a.misfit (ap (λ (l : List ℕ). sum l) same ∙ fits
-        ∙ ap (λ (s : Segment). s.width) (gap_unique w laid g gap is (subst (λ (l : List Square). IsGap w l gap) (sym a.lays) a.is_gap)))
-stops_once w laid (first ∷ before) [] after after2 group group2 gap gap2 e a b = absurd (from a.lays)
+stops_once w laid (first ∷ before) [] after after2 group group2 gap gap2 e a b =
+    absurd (not_laid w laid first before group2 gap2 a.end same (subst (λ (l : List Square). IsGap w l gap2) (sym b.lays) b.is_gap) b.misfit a.lays)
   where
     same : group2 ≡ first
     same = cc
-
-    from : LaysTo w laid (first ∷ before) a.end → ⊥
-    from (g, is, fits, lays) = b.misfit (ap (λ (l : List ℕ). sum l) same ∙ fits
-        ∙ ap (λ (s : Segment). s.width) (gap_unique w laid g gap2 is (subst (λ (l : List Square). IsGap w l gap2) (sym b.lays) b.is_gap)))
 stops_once w laid (first ∷ before) (second ∷ other) after after2 group group2 gap gap2 e a b =
     from a.lays b.lays (λ h. stops_once w (with_group laid h second) before other after after2 group group2 gap gap2 rest)
   where

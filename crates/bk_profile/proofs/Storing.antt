@@ -31,6 +31,13 @@ pub record Reads (runs once twice : List Run) (places : ℕ × ℕ) (gap : Segme
   pub end : gap.x + gap.width ≡ start twice places.1
   pub level : (d : Run) → gap.level ≡ (get_or twice places.0 d).level
 
+-- an outline read twice alike, with what is computed of it
+pub reads_from : (runs once twice : List Run) (places : ℕ × ℕ) (gap : Segment) → once ≡ runs → twice ≡ runs
+    → IsLowest once (length once) places.0 places.1 → gap.x ≡ start twice places.0 → gap.x + gap.width ≡ start twice places.1
+    → ((d : Run) → gap.level ≡ (get_or twice places.0 d).level) → Reads runs once twice places gap
+reads_from runs once twice places gap first second lowest x end level =
+    record { once_is = first; twice_is = second; lowest = lowest; x = x; end = end; level = level }
+
 module _ (p : Laid) (runs once twice : List Run) (places : ℕ × ℕ) (gap : Segment) (stored : IsStored p runs) (reads : Reads runs once twice places gap) where
   pub lowest_runs : IsLowest runs (length runs) places.0 places.1
   lowest_runs = subst (λ (l : List Run). IsLowest l (length l) places.0 places.1) reads.once_is reads.lowest
@@ -55,9 +62,6 @@ module _ (p : Laid) (runs once twice : List Run) (places : ℕ × ℕ) (gap : Se
     (stored.outline).low places.0 no_run (omega (arith, lowest_runs.some, lowest_runs.within)),
     (stored.profile).few,
   )
-
-  pub end_small : gap.x + gap.width ≤ 200000000000000000
-  end_small = let a = (gap_read.flat).within in let b = (stored.profile).narrow in omega arith
 
   pub stored_laid : (sides : List ℕ) → Fits gap sides → AllByRecursion IsSide sides → 0 < length sides → length p.squares + length sides ≤ 200
       → IsStored (record { width = p.width; squares = with_group p.squares gap sides })

@@ -76,23 +76,32 @@ next_turn code k group old new turn l is lay =
       );
     })
 
--- a group that misfits the gap is where the code misfits
-pub misfit_turn : (code : Code) (k : ℕ) (group : List ℕ) (old : Laid) (gap_width total : ℕ) → Turn code k old → k < length code
-    → group ≡ get_or code k [] → MisfitsGap old group gap_width total → Misfits (first_sum code) code (k + 1) gap_width total
-misfit_turn code k group old gap_width total turn l is m = record {
-  before = take k code;
+-- a code misfits where its groups before one are laid, and that one misfits the gap
+pub misfits_at : (width : ℕ) (code before after : Code) (group : List ℕ) (number : ℕ) (p : Laid) (gap_width total : ℕ)
+    → code ≡ before ++ group ∷ after → length before + 1 ≡ number → p.width ≡ width → LaysTo width [] before p.squares
+    → MisfitsGap p group gap_width total → Misfits width code number gap_width total
+misfits_at width code before after group number p gap_width total split place same lays m = record {
+  before = before;
   group = group;
-  after = drop (k + 1) code;
-  split = split_at code k l ∙ ap (λ (g : List ℕ). take k code ++ g ∷ drop (k + 1) code) (sym is);
-  place = omega (arith, length-take-le k code (omega (arith, l)));
-  laid = old.squares;
-  lays = turn.lays;
+  after = after;
+  split = split;
+  place = place;
+  laid = p.squares;
+  lays = lays;
   gap = m.gap;
-  is_gap = subst (λ n. IsGap n old.squares m.gap) turn.width m.is_gap;
+  is_gap = subst (λ n. IsGap n p.squares m.gap) same m.is_gap;
   gap_is = m.width;
   total_is = m.total_is;
   misfit = m.misfit;
 }
+
+-- a group that misfits the gap is where the code misfits
+pub misfit_turn : (code : Code) (k : ℕ) (group : List ℕ) (old : Laid) (gap_width total : ℕ) → Turn code k old → k < length code
+    → group ≡ get_or code k [] → MisfitsGap old group gap_width total → Misfits (first_sum code) code (k + 1) gap_width total
+misfit_turn code k group old gap_width total turn l is =
+    misfits_at (first_sum code) code (take k code) (drop (k + 1) code) group (k + 1) old gap_width total
+    (split_at code k l ∙ ap (λ (g : List ℕ). take k code ++ g ∷ drop (k + 1) code) (sym is)) (omega (arith, length-take-le k code (omega (arith, l))))
+    turn.width turn.lays
 
 -- no tiling has a code that is refused
 pub refused_has_none : (code : Code) (refusal : Refusal) → 0 < length code → IsRefused (first_sum code) code refusal → (t : Tiling) → HasCode code t → ⊥

@@ -3,7 +3,8 @@ use Rattle.std.proofs.Common.{List, None, Option, Some, ap, arith, get_or, inl, 
 use Rattle.std.specs.Prelude.{MatchOption}
 use Rattle.bk_tiling.specs.Tiling.{IsTiling, Rectangle, Tiling}
 use Rattle.bk_tiling.specs.declared.Square.{Square}
-use Rattle.bk_simple.proofs.Parts.{between-one, between_corners}
+use Rattle.bk_simple.proofs.PartCorners.{between-one}
+use Rattle.bk_simple.proofs.Parts.{between_corners}
 use Rattle.bk_simple.proofs.Repeats.{imperfect}
 use Rattle.bk_simple.specs.Corners.{IsBetween}
 use Rattle.bk_simple.specs.Simple.{IsFirstPart, IsLeastRepeated, IsPerfect, IsSimple, bottom_right, top_left}

@@ -4,6 +4,7 @@ pub mod SimpleExamples
 pub mod LargeExamples
 pub mod Counting
 pub mod UncutParts
+pub mod PartCorners
 pub mod Parts
 pub mod PartTrials
 pub mod Reaching

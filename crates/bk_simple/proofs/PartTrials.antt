@@ -8,7 +8,8 @@ use Rattle.bk_tiling.specs.declared.Square.{Square}
 use Rattle.bk_simple.specs.Border.{IsUncut, is_inside}
 use Rattle.bk_simple.specs.Simple.{IsFirstPart, IsPart, IsSimple, bottom_right, top_left}
 use Rattle.bk_simple.specs.Corners.{IsBetween, IsFirstPartFrom, IsPartAt}
-use Rattle.bk_simple.proofs.Parts.{across, between-one, between_corners, bottom_right_at, bottom_right_below, corners_apart, count_of_part, top_left_at}
+use Rattle.bk_simple.proofs.Parts.{across, between_corners, bottom_right_below, corners_apart, count_of_part}
+use Rattle.bk_simple.proofs.PartCorners.{between-one, bottom_right_at, top_left_at}
 use Rattle.bk_simple.proofs.Parts.{top_left_below, uncut_part}
 use Rattle.bk_simple.proofs.UncutParts.{part_from_count, side_at, within_at}
 

@@ -1,14 +1,10 @@
--- The squares at the corners of a part: they determine the rectangle, no square lies across its border, and the one at the
+-- The squares at the corners of a part: no square lies across its border, and the one at the
 -- bottom right stands behind the one at the top left.
-use Rattle.std.specs.List.{position_or_len}
-use Rattle.std.specs.Prelude.{Bool, IsTrue, List, count_by, false, filter, get_or, length, max, refl, true, ℕ, ◌&&◌, ◌+◌, ◌-◌, ◌<◌, ◌==◌}
-use Rattle.std.specs.Prelude.{◌||◌, ◌≡◌, ◌≤◌, ◌⊎◌}
+use Rattle.std.specs.Prelude.{IsTrue, count_by, false, filter, get_or, length, max, refl, true, ℕ, ◌&&◌, ◌+◌, ◌-◌, ◌<◌, ◌==◌, ◌||◌, ◌≡◌, ◌≤◌, ◌⊎◌}
 use Rattle.std.proofs.Common.{ap, arith, inl, inr, sym, ◌∙◌}
-use Rattle.std.proofs.lemmas.Bool.{and_from, and_parts, both_ways, cases_Bool, cases_eq, cases_lt, eq-eqb, eqb-true, false_from_ne_true}
-use Rattle.std.proofs.lemmas.Bool.{or_left, or_right, true_from_ne_false}
+use Rattle.std.proofs.lemmas.Bool.{and_parts, both_ways, cases_Bool, cases_eq, cases_lt, eqb-true, false_from_ne_true, or_left, or_right, true_from_ne_false}
 use Rattle.std.proofs.lemmas.List.Elements.{All-from_recursion}
-use Rattle.std.proofs.lemmas.List.Sums.{fails_before_first, length-filter, list_all-from_AllPass, passes_at_first}
-use Rattle.std.proofs.lemmas.List.Sums.{position_or_len_is}
+use Rattle.std.proofs.lemmas.List.Sums.{length-filter, list_all-from_AllPass, passes_at_first}
 use Rattle.std.proofs.lemmas.Bool.Decides.{nat_tests}
 use Rattle.bk_tiling.proofs.Cells.{IsOver, covers_from, over_from}
 use Rattle.bk_tiling.proofs.Places.{later_place}
@@ -23,87 +19,7 @@ use Rattle.bk_simple.specs.Border.{IsUncut, is_inside, is_outside}
 use Rattle.bk_simple.specs.Simple.{IsPart, bottom_right, top_left}
 use Rattle.bk_simple.specs.Corners.{IsBetween}
 use Rattle.bk_simple.proofs.UncutParts.{Meets, inside_from, inside_means, meets_from, one_over, side_at, within_at}
-
--- the first place that passes is no later than one that does
-first_below : {X : Type 0} (p : X → Bool) (xs : List X) (k : ℕ) (d : X) → k < length xs → p (get_or xs k d) ≡ true → position_or_len p xs < length xs
-first_below p xs k d few e = elim (cases_lt k (position_or_len p xs)) [
-  | inl h ↦ absurd (both_ways (p (get_or xs k d)) (fails_before_first p xs k d h) e)
-  | inr h ↦ omega arith
-]
-
--- a square covers the cells at its corners
-covers_first : (q : Square) (x y : ℕ) → 0 < q.s → x ≡ q.x → y ≡ q.y → covers x y q ≡ true
-covers_first q x y some ex ey = covers_from x y q (omega arith) (omega arith) (omega arith) (omega arith)
-
-covers_last : (q : Square) (x y : ℕ) → 0 < q.s → x ≡ q.x + q.s → y ≡ q.y + q.s → covers (x - 1) (y - 1) q ≡ true
-covers_last q x y some ex ey = covers_from (x - 1) (y - 1) q (omega arith) (omega arith) (omega arith) (omega arith)
-
-both_equal : (a b c d : ℕ) → (a == b) && (c == d) ≡ true → (a ≡ b) × (c ≡ d)
-both_equal a b c d e = let parts = and_parts (a == b) (c == d) e in (eqb-true a b parts.0, eqb-true c d parts.1)
-
-equal_both : (a b c d : ℕ) → a ≡ b → c ≡ d → (a == b) && (c == d) ≡ true
-equal_both a b c d e f = and_from (a == b) (c == d) (eq-eqb a b e) (eq-eqb c d f)
-
--- two corners determine the rectangle
-pub between-one : (p q : Square) (r s : Rectangle) → IsBetween p q r → IsBetween p q s → r ≡ s
-between-one p q r s a b = λ i. record { x = x i; y = y i; width = width i; height = height i }
-  where
-    x : r.x ≡ s.x
-    x = omega (arith, a.left, b.left)
-
-    y : r.y ≡ s.y
-    y = omega (arith, a.top, b.top)
-
-    width : r.width ≡ s.width
-    width = omega (arith, a.left, b.left, a.right, b.right)
-
-    height : r.height ≡ s.height
-    height = omega (arith, a.top, b.top, a.bottom, b.bottom)
-
-module _ (t : Tiling) (tiling : IsTiling t) where
-  -- the first square at a corner is the one of the pair
-  pub top_left_at : (i : ℕ) (d q : Square) (r : Rectangle) → i < length t.squares → IsBetween (get_or t.squares i d) q r → top_left t r ≡ i
-  top_left_at i d q r few h =
-      position_or_len_is (λ q. (q.x == r.x) && (q.y == r.y)) t.squares i d (omega arith) (λ k below. false_from_ne_true _ (λ e. earlier k below e))
-      (λ _. equal_both (get_or t.squares i d).x r.x (get_or t.squares i d).y r.y (sym h.left) (sym h.top))
-    where
-      here : IsWithin (whole t) (get_or t.squares i d)
-      here = within_at t tiling i d few
-
-      also : 0 < (get_or t.squares i d).s
-      also = side_at t tiling i d few
-
-      earlier : (k : ℕ) → k < i → ((get_or t.squares k d).x == r.x) && ((get_or t.squares k d).y == r.y) ≡ true → ⊥
-      earlier k below e =
-          let same = both_equal (get_or t.squares k d).x r.x (get_or t.squares k d).y r.y e in
-          one_over t tiling r.x r.y k i d (omega (arith, here.right, h.left, also)) (omega (arith, here.bottom, h.top, also)) below few
-          (covers_first (get_or t.squares k d) r.x r.y (side_at t tiling k d (omega arith)) (sym same.0) (sym same.1))
-          (covers_first (get_or t.squares i d) r.x r.y also h.left h.top)
-
-  pub bottom_right_at : (j : ℕ) (d p : Square) (r : Rectangle) → j < length t.squares → IsBetween p (get_or t.squares j d) r → bottom_right t r ≡ j
-  bottom_right_at j d p r few h =
-      position_or_len_is (λ q. (q.x + q.s == r.x + r.width) && (q.y + q.s == r.y + r.height)) t.squares j d (omega arith)
-      (λ k below. false_from_ne_true _ (λ e. earlier k below e))
-      (λ _. equal_both ((get_or t.squares j d).x + (get_or t.squares j d).s) (r.x + r.width) ((get_or t.squares j d).y + (get_or t.squares j d).s)
-      (r.y + r.height) (sym h.right) (sym h.bottom))
-    where
-      here : IsWithin (whole t) (get_or t.squares j d)
-      here = within_at t tiling j d few
-
-      also : 0 < (get_or t.squares j d).s
-      also = side_at t tiling j d few
-
-      earlier : (k : ℕ) → k < j
-          → ((get_or t.squares k d).x + (get_or t.squares k d).s == r.x + r.width) && ((get_or t.squares k d).y + (get_or t.squares k
-          d).s == r.y + r.height) ≡ true → ⊥
-      earlier k below e =
-          let same =
-          both_equal ((get_or t.squares k d).x + (get_or t.squares k d).s) (r.x + r.width) ((get_or t.squares k d).y + (get_or t.squares k d).s)
-          (r.y + r.height) e in
-          one_over t tiling (r.x + r.width - 1) (r.y + r.height - 1) k j d (omega (arith, here.right, h.right, also))
-          (omega (arith, here.bottom, h.bottom, also)) below few
-          (covers_last (get_or t.squares k d) (r.x + r.width) (r.y + r.height) (side_at t tiling k d (omega arith)) (sym same.0) (sym same.1))
-          (covers_last (get_or t.squares j d) (r.x + r.width) (r.y + r.height) also h.right h.bottom)
+use Rattle.bk_simple.proofs.PartCorners.{covers_first, equal_both, first_below}
 
 module _ (t : Tiling) (r : Rectangle) (tiling : IsTiling t) (part : IsPart t r) where
   abbrev none : Square

@@ -1,6 +1,6 @@
 -- Each image of a tiling is a tiling.
 use Rattle.std.specs.Cmp.{both_ways}
-use Rattle.std.proofs.Common.{Bool, List, [], ap, arith, cond, count_by, inl, inr, length, map, refl, subst, sym, ℕ, ◌-◌, ◌<◌, ◌∙◌, ◌∷◌, ◌≡◌}
+use Rattle.std.proofs.Common.{Bool, List, [], ap, arith, cond, count_by, inl, inr, length, map, refl, subst, sym, ℕ, ◌+◌, ◌-◌, ◌<◌, ◌∙◌, ◌∷◌, ◌≡◌, ◌≤◌}
 use Rattle.bk_tiling.proofs.Cells.{IsOver, all_from, count-cons, covers_from, over_from}
 use Rattle.bk_tiling.proofs.OrderLaws.{in_code_order-count}
 use Rattle.bk_tiling.proofs.TilingLaws.{cell_once, side_of, within_of}
@@ -10,6 +10,7 @@ use Rattle.bk_tiling.specs.declared.Square.{Square}
 use Rattle.bk_tiling.proofs.PuttingInOrder.{from_order, in_order, ordered}
 use Rattle.bk_sym.specs.Image.{image_square}
 use Rattle.bk_sym.specs.ImageLaws.{ImagesAreTilings}
+use Rattle.bk_sym.specs.declared.Turn.{Turn}
 use Rattle.bk_sym.specs.declared.Turn.TheVariants.{FlipX, FlipY, Half, Same, Swap, SwapFlipX, SwapFlipY, SwapHalf}
 
 -- a square of the moved ones is one of the squares, moved
@@ -88,117 +89,86 @@ moved t f width height tiling m = record {
     once i j a b = count_same f i j (m.column i j) (m.level i j) t.squares (m.same i j a b)
         ∙ cell_once t tiling (m.column i j) (m.level i j) (m.cell i j a b).0 (m.cell i j a b).1
 
+-- a square lies over one cell exactly where another lies over another cell
+record BothOver (i j k l : ℕ) (p q : Square) : Type 0 where
+  forth : p.x ≤ i → i < p.x + p.s → p.y ≤ j → j < p.y + p.s → IsOver k l q
+  back : q.x ≤ k → k < q.x + q.s → q.y ≤ l → l < q.y + q.s → IsOver i j p
+
+-- a turn by which each square and each of its cells comes from the rectangle
+turned : (t : Tiling) → IsTiling t → (turn : Turn) (width height : ℕ) (column level : ℕ → ℕ → ℕ)
+    → ((q : Square) → (image_square turn t.width t.height q).s ≡ q.s)
+    → ((i j : ℕ) → i < width → j < height → (column i j < t.width) × (level i j < t.height))
+    → ((q : Square) → q.x + q.s ≤ 0 + t.width → q.y + q.s ≤ 0 + t.height
+    → IsWithin (record { x = 0; y = 0; width = width; height = height }) (image_square turn t.width t.height q))
+    → ((i j : ℕ) → i < width → j < height → (q : Square) → q.x + q.s ≤ 0 + t.width → q.y + q.s ≤ 0 + t.height
+    → BothOver i j (column i j) (level i j) (image_square turn t.width t.height q) q)
+    → IsTiling (record { width = width; height = height; squares = in_code_order (map (image_square turn t.width t.height) t.squares) })
+turned t tiling turn width height column level side cell within over = moved t (image_square turn t.width t.height) width height tiling (record {
+  side = side;
+  within = λ q h. within q (within_of t tiling q h).right (within_of t tiling q h).bottom;
+  column = column;
+  level = level;
+  cell = cell;
+  same = λ i j a b q h. let o = over i j a b q (within_of t tiling q h).right (within_of t tiling q h).bottom in
+      same_cover i j (column i j) (level i j) (image_square turn t.width t.height q) q (λ p. o.forth p.left p.right p.top p.bottom)
+      (λ p. o.back p.left p.right p.top p.bottom);
+})
+
 -- each image of a tiling is a tiling
 pub images_are_tilings : ImagesAreTilings
-images_are_tilings t Same tiling = moved t (image_square Same t.width t.height) t.width t.height tiling (record {
-  side = λ q. refl;
-  within = λ q h. let w = within_of t tiling q h in let a = w.right in let b = w.bottom in
-      record { left = omega arith; right = omega arith; top = omega arith; bottom = omega arith };
-  column = λ i j. i;
-  level = λ i j. j;
-  cell = λ i j a b. (omega arith, omega arith);
-  same = λ i j a b q h. let w = within_of t tiling q h in let c = w.right in let e = w.bottom in let d = side_of t tiling q h in
-      same_cover i j i j (image_square Same t.width t.height q) q
-      (λ o. let l = o.left in let r = o.right in let u = o.top in let v = o.bottom in
-      record { left = omega arith; right = omega arith; top = omega arith; bottom = omega arith })
-      (λ o. let l = o.left in let r = o.right in let u = o.top in let v = o.bottom in
-      record { left = omega arith; right = omega arith; top = omega arith; bottom = omega arith });
-})
-images_are_tilings t FlipX tiling = moved t (image_square FlipX t.width t.height) t.width t.height tiling (record {
-  side = λ q. refl;
-  within = λ q h. let w = within_of t tiling q h in let a = w.right in let b = w.bottom in
-      record { left = omega arith; right = omega arith; top = omega arith; bottom = omega arith };
-  column = λ i j. t.width - 1 - i;
-  level = λ i j. j;
-  cell = λ i j a b. (omega arith, omega arith);
-  same = λ i j a b q h. let w = within_of t tiling q h in let c = w.right in let e = w.bottom in let d = side_of t tiling q h in
-      same_cover i j (t.width - 1 - i) j (image_square FlipX t.width t.height q) q
-      (λ o. let l = o.left in let r = o.right in let u = o.top in let v = o.bottom in
-      record { left = omega arith; right = omega arith; top = omega arith; bottom = omega arith })
-      (λ o. let l = o.left in let r = o.right in let u = o.top in let v = o.bottom in
-      record { left = omega arith; right = omega arith; top = omega arith; bottom = omega arith });
-})
-images_are_tilings t FlipY tiling = moved t (image_square FlipY t.width t.height) t.width t.height tiling (record {
-  side = λ q. refl;
-  within = λ q h. let w = within_of t tiling q h in let a = w.right in let b = w.bottom in
-      record { left = omega arith; right = omega arith; top = omega arith; bottom = omega arith };
-  column = λ i j. i;
-  level = λ i j. t.height - 1 - j;
-  cell = λ i j a b. (omega arith, omega arith);
-  same = λ i j a b q h. let w = within_of t tiling q h in let c = w.right in let e = w.bottom in let d = side_of t tiling q h in
-      same_cover i j i (t.height - 1 - j) (image_square FlipY t.width t.height q) q
-      (λ o. let l = o.left in let r = o.right in let u = o.top in let v = o.bottom in
-      record { left = omega arith; right = omega arith; top = omega arith; bottom = omega arith })
-      (λ o. let l = o.left in let r = o.right in let u = o.top in let v = o.bottom in
-      record { left = omega arith; right = omega arith; top = omega arith; bottom = omega arith });
-})
-images_are_tilings t Half tiling = moved t (image_square Half t.width t.height) t.width t.height tiling (record {
-  side = λ q. refl;
-  within = λ q h. let w = within_of t tiling q h in let a = w.right in let b = w.bottom in
-      record { left = omega arith; right = omega arith; top = omega arith; bottom = omega arith };
-  column = λ i j. t.width - 1 - i;
-  level = λ i j. t.height - 1 - j;
-  cell = λ i j a b. (omega arith, omega arith);
-  same = λ i j a b q h. let w = within_of t tiling q h in let c = w.right in let e = w.bottom in let d = side_of t tiling q h in
-      same_cover i j (t.width - 1 - i) (t.height - 1 - j) (image_square Half t.width t.height q) q
-      (λ o. let l = o.left in let r = o.right in let u = o.top in let v = o.bottom in
-      record { left = omega arith; right = omega arith; top = omega arith; bottom = omega arith })
-      (λ o. let l = o.left in let r = o.right in let u = o.top in let v = o.bottom in
-      record { left = omega arith; right = omega arith; top = omega arith; bottom = omega arith });
-})
-images_are_tilings t Swap tiling = moved t (image_square Swap t.width t.height) t.height t.width tiling (record {
-  side = λ q. refl;
-  within = λ q h. let w = within_of t tiling q h in let a = w.right in let b = w.bottom in
-      record { left = omega arith; right = omega arith; top = omega arith; bottom = omega arith };
-  column = λ i j. j;
-  level = λ i j. i;
-  cell = λ i j a b. (omega arith, omega arith);
-  same = λ i j a b q h. let w = within_of t tiling q h in let c = w.right in let e = w.bottom in let d = side_of t tiling q h in
-      same_cover i j j i (image_square Swap t.width t.height q) q
-      (λ o. let l = o.left in let r = o.right in let u = o.top in let v = o.bottom in
-      record { left = omega arith; right = omega arith; top = omega arith; bottom = omega arith })
-      (λ o. let l = o.left in let r = o.right in let u = o.top in let v = o.bottom in
-      record { left = omega arith; right = omega arith; top = omega arith; bottom = omega arith });
-})
-images_are_tilings t SwapFlipX tiling = moved t (image_square SwapFlipX t.width t.height) t.height t.width tiling (record {
-  side = λ q. refl;
-  within = λ q h. let w = within_of t tiling q h in let a = w.right in let b = w.bottom in
-      record { left = omega arith; right = omega arith; top = omega arith; bottom = omega arith };
-  column = λ i j. j;
-  level = λ i j. t.height - 1 - i;
-  cell = λ i j a b. (omega arith, omega arith);
-  same = λ i j a b q h. let w = within_of t tiling q h in let c = w.right in let e = w.bottom in let d = side_of t tiling q h in
-      same_cover i j j (t.height - 1 - i) (image_square SwapFlipX t.width t.height q) q
-      (λ o. let l = o.left in let r = o.right in let u = o.top in let v = o.bottom in
-      record { left = omega arith; right = omega arith; top = omega arith; bottom = omega arith })
-      (λ o. let l = o.left in let r = o.right in let u = o.top in let v = o.bottom in
-      record { left = omega arith; right = omega arith; top = omega arith; bottom = omega arith });
-})
-images_are_tilings t SwapFlipY tiling = moved t (image_square SwapFlipY t.width t.height) t.height t.width tiling (record {
-  side = λ q. refl;
-  within = λ q h. let w = within_of t tiling q h in let a = w.right in let b = w.bottom in
-      record { left = omega arith; right = omega arith; top = omega arith; bottom = omega arith };
-  column = λ i j. t.width - 1 - j;
-  level = λ i j. i;
-  cell = λ i j a b. (omega arith, omega arith);
-  same = λ i j a b q h. let w = within_of t tiling q h in let c = w.right in let e = w.bottom in let d = side_of t tiling q h in
-      same_cover i j (t.width - 1 - j) i (image_square SwapFlipY t.width t.height q) q
-      (λ o. let l = o.left in let r = o.right in let u = o.top in let v = o.bottom in
-      record { left = omega arith; right = omega arith; top = omega arith; bottom = omega arith })
-      (λ o. let l = o.left in let r = o.right in let u = o.top in let v = o.bottom in
-      record { left = omega arith; right = omega arith; top = omega arith; bottom = omega arith });
-})
-images_are_tilings t SwapHalf tiling = moved t (image_square SwapHalf t.width t.height) t.height t.width tiling (record {
-  side = λ q. refl;
-  within = λ q h. let w = within_of t tiling q h in let a = w.right in let b = w.bottom in
-      record { left = omega arith; right = omega arith; top = omega arith; bottom = omega arith };
-  column = λ i j. t.width - 1 - j;
-  level = λ i j. t.height - 1 - i;
-  cell = λ i j a b. (omega arith, omega arith);
-  same = λ i j a b q h. let w = within_of t tiling q h in let c = w.right in let e = w.bottom in let d = side_of t tiling q h in
-      same_cover i j (t.width - 1 - j) (t.height - 1 - i) (image_square SwapHalf t.width t.height q) q
-      (λ o. let l = o.left in let r = o.right in let u = o.top in let v = o.bottom in
-      record { left = omega arith; right = omega arith; top = omega arith; bottom = omega arith })
-      (λ o. let l = o.left in let r = o.right in let u = o.top in let v = o.bottom in
-      record { left = omega arith; right = omega arith; top = omega arith; bottom = omega arith });
-})
+images_are_tilings t Same tiling = turned t tiling Same t.width t.height (λ i j. i) (λ i j. j)
+    (λ q. refl) (λ i j a b. (omega arith, omega arith))
+    (λ q c e. record { left = omega arith; right = omega arith; top = omega arith; bottom = omega arith })
+    (λ i j a b q c e. record {
+      forth = λ l r u v. record { left = omega arith; right = omega arith; top = omega arith; bottom = omega arith };
+      back = λ l r u v. record { left = omega arith; right = omega arith; top = omega arith; bottom = omega arith };
+    })
+images_are_tilings t FlipX tiling = turned t tiling FlipX t.width t.height (λ i j. t.width - 1 - i) (λ i j. j)
+    (λ q. refl) (λ i j a b. (omega arith, omega arith))
+    (λ q c e. record { left = omega arith; right = omega arith; top = omega arith; bottom = omega arith })
+    (λ i j a b q c e. record {
+      forth = λ l r u v. record { left = omega arith; right = omega arith; top = omega arith; bottom = omega arith };
+      back = λ l r u v. record { left = omega arith; right = omega arith; top = omega arith; bottom = omega arith };
+    })
+images_are_tilings t FlipY tiling = turned t tiling FlipY t.width t.height (λ i j. i) (λ i j. t.height - 1 - j)
+    (λ q. refl) (λ i j a b. (omega arith, omega arith))
+    (λ q c e. record { left = omega arith; right = omega arith; top = omega arith; bottom = omega arith })
+    (λ i j a b q c e. record {
+      forth = λ l r u v. record { left = omega arith; right = omega arith; top = omega arith; bottom = omega arith };
+      back = λ l r u v. record { left = omega arith; right = omega arith; top = omega arith; bottom = omega arith };
+    })
+images_are_tilings t Half tiling = turned t tiling Half t.width t.height (λ i j. t.width - 1 - i) (λ i j. t.height - 1 - j)
+    (λ q. refl) (λ i j a b. (omega arith, omega arith))
+    (λ q c e. record { left = omega arith; right = omega arith; top = omega arith; bottom = omega arith })
+    (λ i j a b q c e. record {
+      forth = λ l r u v. record { left = omega arith; right = omega arith; top = omega arith; bottom = omega arith };
+      back = λ l r u v. record { left = omega arith; right = omega arith; top = omega arith; bottom = omega arith };
+    })
+images_are_tilings t Swap tiling = turned t tiling Swap t.height t.width (λ i j. j) (λ i j. i)
+    (λ q. refl) (λ i j a b. (omega arith, omega arith))
+    (λ q c e. record { left = omega arith; right = omega arith; top = omega arith; bottom = omega arith })
+    (λ i j a b q c e. record {
+      forth = λ l r u v. record { left = omega arith; right = omega arith; top = omega arith; bottom = omega arith };
+      back = λ l r u v. record { left = omega arith; right = omega arith; top = omega arith; bottom = omega arith };
+    })
+images_are_tilings t SwapFlipX tiling = turned t tiling SwapFlipX t.height t.width (λ i j. j) (λ i j. t.height - 1 - i)
+    (λ q. refl) (λ i j a b. (omega arith, omega arith))
+    (λ q c e. record { left = omega arith; right = omega arith; top = omega arith; bottom = omega arith })
+    (λ i j a b q c e. record {
+      forth = λ l r u v. record { left = omega arith; right = omega arith; top = omega arith; bottom = omega arith };
+      back = λ l r u v. record { left = omega arith; right = omega arith; top = omega arith; bottom = omega arith };
+    })
+images_are_tilings t SwapFlipY tiling = turned t tiling SwapFlipY t.height t.width (λ i j. t.width - 1 - j) (λ i j. i)
+    (λ q. refl) (λ i j a b. (omega arith, omega arith))
+    (λ q c e. record { left = omega arith; right = omega arith; top = omega arith; bottom = omega arith })
+    (λ i j a b q c e. record {
+      forth = λ l r u v. record { left = omega arith; right = omega arith; top = omega arith; bottom = omega arith };
+      back = λ l r u v. record { left = omega arith; right = omega arith; top = omega arith; bottom = omega arith };
+    })
+images_are_tilings t SwapHalf tiling = turned t tiling SwapHalf t.height t.width (λ i j. t.width - 1 - j) (λ i j. t.height - 1 - i)
+    (λ q. refl) (λ i j a b. (omega arith, omega arith))
+    (λ q c e. record { left = omega arith; right = omega arith; top = omega arith; bottom = omega arith })
+    (λ i j a b q c e. record {
+      forth = λ l r u v. record { left = omega arith; right = omega arith; top = omega arith; bottom = omega arith };
+      back = λ l r u v. record { left = omega arith; right = omega arith; top = omega arith; bottom = omega arith };
+    })

@@ -1,5 +1,7 @@
 pub mod ImageExamples
 pub mod Images
+pub mod EnlargedBack
+pub mod DividedPlaces
 pub mod ScaledDown
 pub mod CanonicalLaws
 pub mod SortedSquares

@@ -17,7 +17,7 @@ use Rattle.bk_text.specs.declared.reader.Place.TheVariants.{BeforeGroup, BeforeH
 use Rattle.bk_text.specs.declared.reader.Place.TheVariants.{BehindSecond, BehindSide, BehindThird, Comment as InComment, Number as InNumber, Start}
 use Rattle.bk_text.proofs.ByteKinds.{Means}
 use Rattle.bk_text.proofs.KeepingAll.{Lists, and_side, line_of, lists_after, no_lists}
-use Rattle.bk_text.proofs.WhatWasRead.{nines}
+use Rattle.bk_text.proofs.FrontBytes.{nines}
 
 abbrev FitsField : Field → Lists → Type 0
 FitsField First t = t ≡ no_lists

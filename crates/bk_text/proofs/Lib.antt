@@ -4,7 +4,11 @@ pub mod Spelling
 pub mod KeepingAll
 pub mod ByteKinds
 pub mod Rests
+pub mod FrontParts
+pub mod FrontBytes
 pub mod WhatWasRead
+pub mod NumbersRead
+pub mod GroupsRead
 pub mod LinesRead
 pub mod Stopping
 pub mod Fitting

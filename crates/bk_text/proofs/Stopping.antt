@@ -12,7 +12,8 @@ use Rattle.bk_text.specs.declared.reader.Place.{Place}
 use Rattle.bk_text.specs.declared.reader.Place.TheVariants.{BeforeGroup, BeforeHeight, BeforeSide, BehindColumn, BehindFirst, BehindGroup}
 use Rattle.bk_text.specs.declared.reader.Place.TheVariants.{BehindSecond, BehindSide, BehindThird, Comment as InComment, Number as InNumber, Start}
 use Rattle.bk_text.proofs.KeepingAll.{Lists, and_side, line_at, lists_after, no_lists, read}
-use Rattle.bk_text.proofs.LinesRead.{line_is_read, read_next}
+use Rattle.bk_text.proofs.LinesRead.{line_is_read}
+use Rattle.bk_text.proofs.NumbersRead.{read_next}
 use Rattle.bk_text.proofs.WhatWasRead.{read_is_line}
 
 abbrev Found : Option Line → Type 0

@@ -14,6 +14,7 @@ pub mod WordsRead
 pub mod WordsSpelled
 pub mod Failing
 pub mod WordPieces
+pub mod ReadSoFar
 pub mod WordProgress
 pub mod ItemParts
 pub mod KeptTexts

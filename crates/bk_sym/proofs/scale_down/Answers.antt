@@ -15,20 +15,17 @@ from_known-requires c =
     c.loop-q.squares.items c.side_divisor-divisor.ensures.value c.width.ensures.value c.height.ensures.value c.squares-q-items.ensures.value
     c.loop-q-test.false c.loop-q.invariant)) (kept_scaled t c.squares-q-items.ensures.kept)
 
+same : (c : goal.After-from_known) → c.from_known.result ≡ scaled_down_tiling c.args.tiling.now
+same c = c.from_known.ensures ∙ scaled_made c.args.tiling.now c.side_divisor-divisor.result c.width.result c.height.result c.loop-q.q-index
+    c.squares-q-items.result.now c.loop-q.squares.items c.side_divisor-divisor.ensures.value c.width.ensures.value c.height.ensures.value
+    c.squares-q-items.ensures.value c.loop-q-test.false c.loop-q.invariant
+
 pub returns-clause-exact : goal.returns-clause-exact
 returns-clause-exact c =
     let t : Tiling = c.args.tiling.now in
-    let same : c.from_known.result ≡ scaled_down_tiling t =
-    c.from_known.ensures ∙ scaled_made t c.side_divisor-divisor.result c.width.result c.height.result c.loop-q.q-index c.squares-q-items.result.now
-    c.loop-q.squares.items c.side_divisor-divisor.ensures.value c.width.ensures.value c.height.ensures.value c.squares-q-items.ensures.value
-    c.loop-q-test.false c.loop-q.invariant in
-    whole_again t c.squares-q-items.ensures.kept.tiling ∙ ap (enlarged (side_divisor t)) (sym same)
+    whole_again t c.squares-q-items.ensures.kept.tiling ∙ ap (enlarged (side_divisor t)) (sym (same c))
 
 pub returns-clause-primitive : goal.returns-clause-primitive
 returns-clause-primitive c =
     let t : Tiling = c.args.tiling.now in
-    let same : c.from_known.result ≡ scaled_down_tiling t =
-    c.from_known.ensures ∙ scaled_made t c.side_divisor-divisor.result c.width.result c.height.result c.loop-q.q-index c.squares-q-items.result.now
-    c.loop-q.squares.items c.side_divisor-divisor.ensures.value c.width.ensures.value c.height.ensures.value c.squares-q-items.ensures.value
-    c.loop-q-test.false c.loop-q.invariant in
-    subst IsPrimitiveTiling (sym same) (scaled_primitive t c.squares-q-items.ensures.kept.tiling)
+    subst IsPrimitiveTiling (sym (same c)) (scaled_primitive t c.squares-q-items.ensures.kept.tiling)

@@ -1,9 +1,7 @@
-use Rattle.std.proofs.Common.{Err, Ok, ap, arith, length, refl, ◌++◌, ◌<◌, ◌∙◌, ◌≡◌}
-use Rattle.std.proofs.lemmas.List.{length-take-le, take-append-drop}
+use Rattle.std.proofs.Common.{Err, Ok, arith, refl}
 use Rattle.bk_profile.proofs.Division.{flat_refused_has_none}
 use Rattle.bk_profile.proofs.FlatTurns.{ends_ok, ends_only, ends_refused, group_good, group_room, misfit_turn, next_turn, none_left, numbers}
-use Rattle.bk_profile.proofs.FlatTurns.{rest_good, too_wide}
-use Rattle.bk_profile.specs.Gap.{next_group}
+use Rattle.bk_profile.proofs.FlatTurns.{next_group_is, rest_good, too_wide}
 use Rattle.bk_profile.specs.declared.laying.Refusal.TheVariants.{Gap}
 use Rattle.bk_profile.proofs.dividing.lay_flat_in.Goals as goal
 
@@ -22,65 +20,29 @@ group_len-requires-clause-sides c =
 
 pub lay-requires-clause-sides : goal.lay-requires-clause-sides
 lay-requires-clause-sides c =
-    let split : c.split_at.result.0.now ++ c.split_at.result.1.now ≡ c.loop-rest.rest.now =
-    (λ i. c.split_at.ensures.front i ++ c.split_at.ensures.back i) ∙ take-append-drop c.group_len.result c.loop-rest.rest.now in
-    let next : c.split_at.result.0.now ≡ next_group c.gap.result.width c.loop-rest.rest.now = c.split_at.ensures.front ∙ c.group_len.ensures.group in
-    let long : 0 < length c.split_at.result.0.now = omega (
-      arith,
-      ap length c.split_at.ensures.front,
-      length-take-le c.group_len.result c.loop-rest.rest.now c.group_len.ensures.within,
-      c.group_len.ensures.some,
-    ) in
-    let some : 0 < length c.loop-rest.rest.now = omega (arith, c.group_len.ensures.some, c.group_len.ensures.within) in
     group_good c.args.width c.args.sides.now c.loop-rest.group c.loop-rest.profile c.loop-rest.rest.now c.loop-rest.invariant c.requires.few
-    c.requires.sides c.split_at.result.0.now c.split_at.result.1.now c.gap.result c.gap.ensures.gap next some split long
+    c.requires.sides c.split_at.result.0.now c.split_at.result.1.now c.gap.result (next_group_is _ _ _ _ _ c.group_len.result c.gap.ensures.gap
+    c.split_at.ensures.front c.split_at.ensures.back c.group_len.ensures.group c.group_len.ensures.some c.group_len.ensures.within)
 
 pub lay-requires-clause-room : goal.lay-requires-clause-room
 lay-requires-clause-room c =
-    let split : c.split_at.result.0.now ++ c.split_at.result.1.now ≡ c.loop-rest.rest.now =
-    (λ i. c.split_at.ensures.front i ++ c.split_at.ensures.back i) ∙ take-append-drop c.group_len.result c.loop-rest.rest.now in
-    let next : c.split_at.result.0.now ≡ next_group c.gap.result.width c.loop-rest.rest.now = c.split_at.ensures.front ∙ c.group_len.ensures.group in
-    let long : 0 < length c.split_at.result.0.now = omega (
-      arith,
-      ap length c.split_at.ensures.front,
-      length-take-le c.group_len.result c.loop-rest.rest.now c.group_len.ensures.within,
-      c.group_len.ensures.some,
-    ) in
-    let some : 0 < length c.loop-rest.rest.now = omega (arith, c.group_len.ensures.some, c.group_len.ensures.within) in
     group_room c.args.width c.args.sides.now c.loop-rest.group c.loop-rest.profile c.loop-rest.rest.now c.loop-rest.invariant c.requires.few
-    c.requires.sides c.split_at.result.0.now c.split_at.result.1.now c.gap.result c.gap.ensures.gap next some split long
+    c.requires.sides c.split_at.result.0.now c.split_at.result.1.now c.gap.result (next_group_is _ _ _ _ _ c.group_len.result c.gap.ensures.gap
+    c.split_at.ensures.front c.split_at.ensures.back c.group_len.ensures.group c.group_len.ensures.some c.group_len.ensures.within)
 
 pub returns-in-Err-clause-refused : goal.returns-in-Err-clause-refused
 returns-in-Err-clause-refused c =
-    let split : c.split_at.result.0.now ++ c.split_at.result.1.now ≡ c.loop-rest.rest.now =
-    (λ i. c.split_at.ensures.front i ++ c.split_at.ensures.back i) ∙ take-append-drop c.group_len.result c.loop-rest.rest.now in
-    let next : c.split_at.result.0.now ≡ next_group c.gap.result.width c.loop-rest.rest.now = c.split_at.ensures.front ∙ c.group_len.ensures.group in
-    let long : 0 < length c.split_at.result.0.now = omega (
-      arith,
-      ap length c.split_at.ensures.front,
-      length-take-le c.group_len.result c.loop-rest.rest.now c.group_len.ensures.within,
-      c.group_len.ensures.some,
-    ) in
-    let some : 0 < length c.loop-rest.rest.now = omega (arith, c.group_len.ensures.some, c.group_len.ensures.within) in
     misfit_turn c.args.width c.args.sides.now c.loop-rest.group c.loop-rest.profile c.loop-rest.rest.now c.loop-rest.invariant c.requires.few
-    c.requires.sides c.split_at.result.0.now c.split_at.result.1.now c.gap.result c.gap.ensures.gap next some split long c.in-Err.fault.gap
+    c.requires.sides c.split_at.result.0.now c.split_at.result.1.now c.gap.result (next_group_is _ _ _ _ _ c.group_len.result c.gap.ensures.gap
+    c.split_at.ensures.front c.split_at.ensures.back c.group_len.ensures.group c.group_len.ensures.some c.group_len.ensures.within) c.in-Err.fault.gap
     c.in-Err.fault.sum c.in-Err.ensures.err
 
 pub returns-in-Err-clause-only : goal.returns-in-Err-clause-only
 returns-in-Err-clause-only c t has =
-    let split : c.split_at.result.0.now ++ c.split_at.result.1.now ≡ c.loop-rest.rest.now =
-    (λ i. c.split_at.ensures.front i ++ c.split_at.ensures.back i) ∙ take-append-drop c.group_len.result c.loop-rest.rest.now in
-    let next : c.split_at.result.0.now ≡ next_group c.gap.result.width c.loop-rest.rest.now = c.split_at.ensures.front ∙ c.group_len.ensures.group in
-    let long : 0 < length c.split_at.result.0.now = omega (
-      arith,
-      ap length c.split_at.ensures.front,
-      length-take-le c.group_len.result c.loop-rest.rest.now c.group_len.ensures.within,
-      c.group_len.ensures.some,
-    ) in
-    let some : 0 < length c.loop-rest.rest.now = omega (arith, c.group_len.ensures.some, c.group_len.ensures.within) in
     absurd (flat_refused_has_none c.args.width c.args.sides.now (Gap c.loop-rest.group c.in-Err.fault.gap c.in-Err.fault.sum)
     (misfit_turn c.args.width c.args.sides.now c.loop-rest.group c.loop-rest.profile c.loop-rest.rest.now c.loop-rest.invariant c.requires.few
-    c.requires.sides c.split_at.result.0.now c.split_at.result.1.now c.gap.result c.gap.ensures.gap next some split long c.in-Err.fault.gap
+    c.requires.sides c.split_at.result.0.now c.split_at.result.1.now c.gap.result (next_group_is _ _ _ _ _ c.group_len.result c.gap.ensures.gap
+    c.split_at.ensures.front c.split_at.ensures.back c.group_len.ensures.group c.group_len.ensures.some c.group_len.ensures.within) c.in-Err.fault.gap
     c.in-Err.fault.sum c.in-Err.ensures.err) t has)
 
 pub overflow_add-group : goal.overflow_add-group
@@ -94,18 +56,9 @@ overflow_add-group c =
 
 pub loop-rest-preserved : goal.loop-rest-preserved
 loop-rest-preserved c =
-    let split : c.split_at.result.0.now ++ c.split_at.result.1.now ≡ c.loop-rest.rest.now =
-    (λ i. c.split_at.ensures.front i ++ c.split_at.ensures.back i) ∙ take-append-drop c.group_len.result c.loop-rest.rest.now in
-    let next : c.split_at.result.0.now ≡ next_group c.gap.result.width c.loop-rest.rest.now = c.split_at.ensures.front ∙ c.group_len.ensures.group in
-    let long : 0 < length c.split_at.result.0.now = omega (
-      arith,
-      ap length c.split_at.ensures.front,
-      length-take-le c.group_len.result c.loop-rest.rest.now c.group_len.ensures.within,
-      c.group_len.ensures.some,
-    ) in
-    let some : 0 < length c.loop-rest.rest.now = omega (arith, c.group_len.ensures.some, c.group_len.ensures.within) in
     next_turn c.args.width c.args.sides.now c.loop-rest.group c.loop-rest.profile c.loop-rest.rest.now c.loop-rest.invariant c.requires.few
-    c.requires.sides c.split_at.result.0.now c.split_at.result.1.now c.gap.result c.gap.ensures.gap next some split long c.lay.new.self
+    c.requires.sides c.split_at.result.0.now c.split_at.result.1.now c.gap.result (next_group_is _ _ _ _ _ c.group_len.result c.gap.ensures.gap
+    c.split_at.ensures.front c.split_at.ensures.back c.group_len.ensures.group c.group_len.ensures.some c.group_len.ensures.within) c.lay.new.self
     c.in_default.ensures.ok
 
 pub returns-in-Ok-clause-ok : goal.returns-in-Ok-clause-ok
