@@ -1,24 +1,12 @@
 -- A member's word is complete, so the moves that begin it are legal.
-use Rattle.std.proofs.Common.{arith, subst, ℕ, ◌++◌, ◌<◌, ◌∷◌, ◌≡◌, ◌≤◌}
-use Rattle.bk_word.specs.Outline.{IsLegalMove, start}
-use Rattle.bk_word.specs.Play.{AreLegalFrom, IsComplete, IsLegal, outline_of}
-use Rattle.bk_word.specs.Word.{Move, Word, order_of}
+use Rattle.std.proofs.Common.{arith, subst, ℕ, ◌++◌, ◌<◌, ◌≡◌, ◌≤◌}
+use Rattle.bk_word.specs.Play.{IsComplete}
+use Rattle.bk_word.specs.Word.{Word, order_of}
 use Rattle.bk_word.specs.declared.Class.{Class}
 use Rattle.bk_lay.proofs.WordPlay.{tiling_word_is_complete}
 use Rattle.bk_catalogue.specs.Catalogue.{Entry, IsEntry}
-use Rattle.bk_word.proofs.PlayLaws.{legal_front, legal_rest}
 
 module _ (n : ℕ) (class : Class) (e : Entry) (entry : IsEntry n class e) where
-  -- the first moves of a member's word are legal
-  pub legal_before : (front rest : Word) → e.word ≡ front ++ rest → IsLegal front
-  legal_before front rest word = legal_front start front rest
-      (subst (AreLegalFrom start) word ((tiling_word_is_complete e.tiling e.word (entry.member).tiling entry.word).0).legal)
-
-  -- and so is the next one
-  pub legal_move : (front : Word) (m : Move) (rest : Word) → e.word ≡ front ++ m ∷ rest → IsLegalMove (outline_of front) m
-  legal_move front m rest word = (legal_rest start front (m ∷ rest)
-      (subst (AreLegalFrom start) word ((tiling_word_is_complete e.tiling e.word (entry.member).tiling entry.word).0).legal)).0
-
   -- the whole is complete
   pub complete_word : (front rest : Word) → e.word ≡ front ++ rest → IsComplete (front ++ rest)
   complete_word front rest word = subst IsComplete word (tiling_word_is_complete e.tiling e.word (entry.member).tiling entry.word).0

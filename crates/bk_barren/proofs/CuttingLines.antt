@@ -11,7 +11,7 @@ use Rattle.bk_bounds.specs.WordBounds.{EndsNoLine}
 use Rattle.bk_barren.proofs.BegunWords.{complete_word, within_order}
 use Rattle.bk_bounds.specs.SingleValleys.{single_valleys, sizes_of}
 use Rattle.bk_barren.specs.BoundCuts.{TooManyLinesIsBarren}
-use Rattle.bk_bounds.specs.VerticalCut.{line_bound_of, lines_of}
+use Rattle.bk_bounds.specs.VerticalCut.{line_bound_of, edges_on_lines}
 
 -- the law: a line that is left cuts the tiling in two
 pub too_many_lines_is_barren : TooManyLinesIsBarren
@@ -23,5 +23,6 @@ too_many_lines_is_barren n class front many few e rest entry word =
     -- a line that is left at the end of a member's word would cut its tiling
     no_line : EndsNoLine e.word
     no_line s is any = (entry.member).simple (line_is_compound e.tiling (entry.member).tiling
-        (line_left e.tiling (outline_of e.word) (lines_of e.word) (entry.member).tiling (clear_word e.tiling e.word (entry.member).tiling entry.word) s is any)
+        (line_left e.tiling (outline_of e.word) (edges_on_lines e.word) (entry.member).tiling
+        (clear_word e.tiling e.word (entry.member).tiling entry.word) s is any)
         (omega (arith, many, (entry.member).order)))

@@ -6,7 +6,7 @@ use Rattle.bk_word.specs.Word.{Word}
 use Rattle.bk_word.specs.declared.Sign.TheVariants.{Above, Even, Under}
 use Rattle.bk_bounds.specs.ClosingBound.{closing_bound, closings}
 use Rattle.bk_bounds.specs.SingleValleys.{single_valleys, sizes_of}
-use Rattle.bk_bounds.specs.VerticalCut.{line_bound, line_bound_of, lines_of, segments_of, touched}
+use Rattle.bk_bounds.specs.VerticalCut.{line_bound, line_bound_of, edges_on_lines, segments_of, touched}
 
 -- four segments: the first ends below the second, that one above the third, and the third below the fourth
 pub four_segments : closing_bound (Under ∷ Above ∷ Under ∷ []) ≡ 2
@@ -48,7 +48,7 @@ pub no_valley_below : single_valleys (Above ∷ Under ∷ []) (2 ∷ 1 ∷ 2 ∷
 no_valley_below = refl
 
 -- lines stand at the left of the second and of the third square at the top
-pub lines_at_the_top : lines_of (move 3 (Under ∷ Above ∷ []) ∷ []) ≡ false ∷ true ∷ true ∷ []
+pub lines_at_the_top : edges_on_lines (move 3 (Under ∷ Above ∷ []) ∷ []) ≡ false ∷ true ∷ true ∷ []
 lines_at_the_top = refl
 
 -- a square beside another, and one under the right one that ends level with the left one: the line between them runs
@@ -56,7 +56,7 @@ lines_at_the_top = refl
 abbrev cut_in_two : Word
 cut_in_two = two Under ∷ move 1 (Even ∷ []) ∷ []
 
-pub lines_cut_in_two : lines_of cut_in_two ≡ false ∷ true ∷ true ∷ []
+pub lines_cut_in_two : edges_on_lines cut_in_two ≡ false ∷ true ∷ true ∷ []
 lines_cut_in_two = refl
 
 pub bound_cut_in_two : line_bound_of cut_in_two ≡ 1

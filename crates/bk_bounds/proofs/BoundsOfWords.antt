@@ -8,7 +8,7 @@ use Rattle.bk_word.specs.Play.{IsLegal, outline_of}
 use Rattle.bk_word.specs.Word.{Word}
 use Rattle.bk_word_net.proofs.Shape.{Shaped, shaped_moves, shaped_start}
 use Rattle.bk_bounds.specs.SingleValleys.{sizes_of}
-use Rattle.bk_bounds.specs.VerticalCut.{line_bound, line_bound_of, lines_of, segments_of, touched}
+use Rattle.bk_bounds.specs.VerticalCut.{line_bound, line_bound_of, edges_on_lines, segments_of, touched}
 
 -- ---- the flat lists make the segments again
 
@@ -20,8 +20,8 @@ segments_again (s ∷ segments) = (λ i. take_at s (concat segments) (length s) 
 
 -- the bound of a word by these flat lists
 pub line_bound_by_lists : (w : Word) → line_bound (outline_of w).signs
-    (touched (lines_of w) (segments_of (sizes_of (outline_of w)) (concat (outline_of w).segments))) ≡ line_bound_of w
-line_bound_by_lists w = λ i. line_bound (outline_of w).signs (touched (lines_of w) (segments_again (outline_of w).segments i))
+    (touched (edges_on_lines w) (segments_of (sizes_of (outline_of w)) (concat (outline_of w).segments))) ≡ line_bound_of w
+line_bound_by_lists w = λ i. line_bound (outline_of w).signs (touched (edges_on_lines w) (segments_again (outline_of w).segments i))
 
 -- ---- there is one segment more than signs
 

@@ -1,5 +1,7 @@
 pub mod ClosingLaws
+pub mod MostClosings
 pub mod SingleLaws
+pub mod JoinedLines
 pub mod LineLaws
 pub mod LineMoves
 pub mod WordBoundLaws

@@ -6,7 +6,7 @@ use Rattle.std.proofs.lemmas.List.{drop-drop, drop_all, drop_more}
 use Rattle.bk_word.specs.declared.Sign.{Sign}
 use Rattle.bk_word.specs.declared.Sign.TheVariants.{Above, Even, Under}
 use Rattle.bk_bounds.proofs.ClosingLaws.{at_most_one, unders, unders-cons}
-use Rattle.bk_bounds.proofs.LineLaws.{bound_unders}
+use Rattle.bk_bounds.proofs.JoinedLines.{bound_unders}
 use Rattle.bk_bounds.specs.ClosingBound.{is_above, is_under}
 use Rattle.bk_bounds.specs.VerticalCut.{begins_on_line, line_bound, next_on_line, on_line, segments_of, touched}
 

@@ -11,7 +11,8 @@ use Rattle.bk_word.specs.declared.Sign.{Sign}
 use Rattle.bk_word.specs.declared.Sign.TheVariants.{Above, Even, Under}
 use Rattle.bk_word_net.proofs.Shape.{Shaped}
 use Rattle.bk_bounds.proofs.ClosingLaws.{AroundValley, around_valley, unders}
-use Rattle.bk_bounds.proofs.LineLaws.{bound, from_first, from_last, from_valley, joined_bound}
+use Rattle.bk_bounds.proofs.JoinedLines.{bound, joined_bound}
+use Rattle.bk_bounds.proofs.LineLaws.{from_first, from_last, from_valley}
 use Rattle.bk_bounds.proofs.SingleLaws.{place_within, same_length, wall_test}
 use Rattle.bk_bounds.specs.ClosingBound.{is_above}
 use Rattle.bk_bounds.specs.VerticalCut.{begins_on_line, lines_after, lines_along, next_on_line, on_line}

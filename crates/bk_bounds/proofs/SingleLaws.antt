@@ -1,5 +1,4 @@
 -- The valleys of one square: a move closes at most one of them, and all others stay.
-use Rattle.std.specs.List.{AllByRecursion}
 use Rattle.std.proofs.Common.{Bool, List, [], ap, arith, drop, false, filter, inl, inr, length, map, nat_eq, refl, slice_index_or, suc, take, true}
 use Rattle.std.proofs.Common.{zero, ℕ, ◌++◌, ◌+◌, ◌-◌, ◌<◌, ◌∷◌, ◌≡◌, ◌≤◌, ◌⊎◌}
 use Rattle.std.proofs.lemmas.Bool.Decides.{nat_tests}
@@ -11,15 +10,18 @@ use Rattle.bk_word.specs.Word.{Move}
 use Rattle.bk_word.specs.declared.Sign.{Sign}
 use Rattle.bk_word.specs.declared.Sign.TheVariants.{Above, Even, Under}
 use Rattle.bk_word.proofs.PlayLists.{numbers-length}
+use Rattle.bk_word_net.proofs.OutlineParts.{filter_part}
 use Rattle.bk_word_net.proofs.Shape.{Shaped}
+use Rattle.bk_word_net.proofs.ValleyCut.{AllPart}
 use Rattle.bk_bounds.proofs.ClosingLaws.{drop_next}
 use Rattle.bk_bounds.specs.SingleValleys.{single_valley, single_valleys, single_valleys_from, sizes_of}
 
 -- the valleys of one square among segments, from the first on
-abbrev singles : Bool → List Sign → List (List ℕ) → ℕ
+abbrev pub singles : Bool → List Sign → List (List ℕ) → ℕ
 singles low signs segments = single_valleys_from low signs (map length segments)
 
-low_is_more : (b : Bool) (signs : List Sign) (segments : List (List ℕ)) → singles false signs segments ≤ singles b signs segments
+-- a first segment that may be a valley counts for no less
+pub low_is_more : (b : Bool) (signs : List Sign) (segments : List (List ℕ)) → singles false signs segments ≤ singles b signs segments
 low_is_more b signs [] = omega arith
 low_is_more b [] (s ∷ segments) = omega arith
 low_is_more b (Above ∷ signs) (s ∷ segments) = omega arith
@@ -37,8 +39,10 @@ first_grown x (Above ∷ signs) (s ∷ segments) = refl
 first_grown x (Even ∷ signs) (s ∷ segments) = refl
 first_grown x (Under ∷ signs) (s ∷ segments) = refl
 
-abbrev ArePart : List Sign → Type 0
-ArePart signs = AllByRecursion (λ sign. parts sign ≡ true) signs
+-- a segment that is joined to the next ones
+pub grown_is_more : (b : Bool) (x : List ℕ) (signs : List Sign) (segments : List (List ℕ))
+    → singles false signs segments ≤ singles b signs (before_first_list x segments)
+grown_is_more b x signs segments = omega (arith, first_grown x signs segments, low_is_more b signs (before_first_list x segments))
 
 no_part : (A : Type 0) → parts Even ≡ true → A
 no_part A e = absurd (clash e)
@@ -46,13 +50,8 @@ no_part A e = absurd (clash e)
     clash : false ≡ true → ⊥
     clash f = cc
 
-filter_parted : (signs : List Sign) → ArePart signs → filter parts signs ≡ signs
-filter_parted [] p = refl
-filter_parted (Above ∷ signs) p = ap (λ ss. Above ∷ ss) (filter_parted signs p.1)
-filter_parted (Even ∷ signs) p = no_part (filter parts (Even ∷ signs) ≡ Even ∷ signs) p.0
-filter_parted (Under ∷ signs) p = ap (λ ss. Under ∷ ss) (filter_parted signs p.1)
-
-joined_parted : (signs : List Sign) (segments : List (List ℕ)) → ArePart signs → joined signs segments ≡ segments
+-- nothing is joined where no sign is even
+joined_parted : (signs : List Sign) (segments : List (List ℕ)) → AllPart signs → joined signs segments ≡ segments
 joined_parted [] [] p = refl
 joined_parted (Above ∷ signs) [] p = refl
 joined_parted (Even ∷ signs) [] p = refl
@@ -62,13 +61,14 @@ joined_parted (Above ∷ signs) (s ∷ segments) p = ap (λ ss. s ∷ ss) (joine
 joined_parted (Even ∷ signs) (s ∷ segments) p = no_part (joined (Even ∷ signs) (s ∷ segments) ≡ s ∷ segments) p.0
 joined_parted (Under ∷ signs) (s ∷ segments) p = ap (λ ss. s ∷ ss) (joined_parted signs segments p.1)
 
+-- segments between which no sign is even stay as they are
+pub unchanged : (b : Bool) (back : List Sign) (rest : List (List ℕ)) → AllPart back → singles b (filter parts back) (joined back rest) ≡ singles b back rest
+unchanged b back rest p = λ i. singles b (filter_part back p i) (joined_parted back rest p i)
+
 -- what stands at the right of the new squares stays, but for its first segment
-kept : (b : Bool) (signs : List Sign) (segments : List (List ℕ)) (back : List Sign) (rest : List (List ℕ)) → length signs ≡ length segments → ArePart back
+kept : (b : Bool) (signs : List Sign) (segments : List (List ℕ)) (back : List Sign) (rest : List (List ℕ)) → length signs ≡ length segments → AllPart back
     → singles false back rest ≤ singles b (filter parts (signs ++ back)) (joined (signs ++ back) (segments ++ rest))
-kept b [] [] back rest e p = omega (arith, low_is_more b back rest, same)
-  where
-    same : singles b (filter parts back) (joined back rest) ≡ singles b back rest
-    same = λ i. singles b (filter_parted back p i) (joined_parted back rest p i)
+kept b [] [] back rest e p = omega (arith, low_is_more b back rest, unchanged b back rest p)
 kept b [] (s ∷ segments) back rest e p = absurd (omega arith)
 kept b (g ∷ signs) [] back rest e p = absurd (omega arith)
 kept b (Above ∷ signs) (s ∷ segments) back rest e p = omega (arith, kept false signs segments back rest (omega arith) p)
@@ -76,8 +76,7 @@ kept b (Under ∷ signs) (s ∷ segments) back rest e p = omega (arith, kept tru
 kept b (Even ∷ signs) (s ∷ segments) back rest e p = omega (
   arith,
   kept false signs segments back rest (omega arith) p,
-  first_grown s (filter parts (signs ++ back)) (joined (signs ++ back) (segments ++ rest)),
-  low_is_more b (filter parts (signs ++ back)) (before_first_list s (joined (signs ++ back) (segments ++ rest))),
+  grown_is_more b s (filter parts (signs ++ back)) (joined (signs ++ back) (segments ++ rest)),
 )
 
 behind_next : (g : Sign) (signs : List Sign) (s : List ℕ) (segments : List (List ℕ)) (k : ℕ)
@@ -102,7 +101,7 @@ place_within (Above ∷ signs) = omega arith
 place_within (Even ∷ signs) = omega (arith, place_within signs)
 place_within (Under ∷ signs) = omega (arith, place_within signs)
 
-parted_behind : (signs : List Sign) (k : ℕ) → ArePart signs → ArePart (drop k signs)
+parted_behind : (signs : List Sign) (k : ℕ) → AllPart signs → AllPart (drop k signs)
 parted_behind [] zero p = tt
 parted_behind [] (suc k) p = tt
 parted_behind (s ∷ signs) zero p = p

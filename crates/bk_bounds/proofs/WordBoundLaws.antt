@@ -14,7 +14,7 @@ use Rattle.bk_word.proofs.PlayLaws.{after_moves-append, legal_front, legal_rest}
 use Rattle.bk_bounds.proofs.SingleLaws.{singles_after}
 use Rattle.bk_bounds.specs.ClosingBound.{closing_bound}
 use Rattle.bk_bounds.specs.SingleValleys.{single_valley, single_valleys, sizes_of}
-use Rattle.bk_bounds.specs.VerticalCut.{line_bound, lines_after, lines_along, lines_of, on_line, touched}
+use Rattle.bk_bounds.specs.VerticalCut.{line_bound, lines_after, lines_along, edges_on_lines, on_line, touched}
 use Rattle.bk_bounds.specs.WordBounds.{ClosingsAreHung, LinesAreHung, HangNoPairsFrom, HangsNoPair, SinglesAreHung}
 
 -- without pairs from the start on is so after the first moves
@@ -139,7 +139,7 @@ pub lines_are_hung : LinesAreHung
 lines_are_hung front rest complete pairs none = omega (
   arith,
   order_append front rest,
-  lines_left (outline_of front) (lines_of front) rest (legal_rest start front rest complete.legal)
+  lines_left (outline_of front) (edges_on_lines front) rest (legal_rest start front rest complete.legal)
       (shaped_moves start front (legal_front start front rest complete.legal) shaped_start)
       (lines_long start [] front (legal_front start front rest complete.legal) refl)
       (ap (λ (o : Outline). length o.segments) (sym (at_end front rest)) ∙ complete.one)

@@ -38,13 +38,13 @@ lines_along o lines [] = lines
 lines_along o lines (m ∷ moves) = lines_along (after_move o m) (lines_after o lines m) moves
 
 -- of each square of the word whether its left edge lies on a line
-abbrev pub lines_of : Word → List Bool
-lines_of w = lines_along start [] w
+abbrev pub edges_on_lines : Word → List Bool
+edges_on_lines w = lines_along start [] w
 
 -- a legal word, and its lines
 pub record IsLinedWord (w : Word) (lines : List Bool) : Type 0 where
   pub legal : IsLegal w
-  pub lines_are : lines ≡ lines_of w
+  pub lines_are : lines ≡ edges_on_lines w
 
 -- whether the first of these segments, if there is one, begins on a line
 abbrev pub next_on_line : List Bool → List (List ℕ) → Bool
@@ -83,4 +83,4 @@ segments_of (size ∷ sizes) ends = take size ends ∷ segments_of sizes (drop s
 
 -- the bound after the moves of a word
 abbrev pub line_bound_of : Word → ℕ
-line_bound_of w = line_bound (outline_of w).signs (touched (lines_of w) (outline_of w).segments)
+line_bound_of w = line_bound (outline_of w).signs (touched (edges_on_lines w) (outline_of w).segments)

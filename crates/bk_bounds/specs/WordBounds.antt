@@ -9,7 +9,7 @@ use Rattle.bk_word.specs.Play.{IsComplete, after_move, outline_of}
 use Rattle.bk_word.specs.Word.{Move, Word, order_of}
 use Rattle.bk_bounds.specs.ClosingBound.{closing_bound}
 use Rattle.bk_bounds.specs.SingleValleys.{single_valleys, sizes_of}
-use Rattle.bk_bounds.specs.VerticalCut.{line_bound_of, lines_of, on_line}
+use Rattle.bk_bounds.specs.VerticalCut.{line_bound_of, edges_on_lines, on_line}
 
 -- after its first moves a complete word hangs at least as many squares as segments must be closed
 abbrev pub ClosingsAreHung : Type 0
@@ -37,7 +37,7 @@ SinglesAreHung = (front rest : Word) → IsComplete (front ++ rest) → IsWithou
 
 -- no line from the top comes down to the last segment
 abbrev pub EndsNoLine : Word → Type 0
-EndsNoLine w = (s : List ℕ) → (outline_of w).segments ≡ s ∷ [] → list_any (on_line (lines_of w)) s ≡ true → ⊥
+EndsNoLine w = (s : List ℕ) → (outline_of w).segments ≡ s ∷ [] → list_any (on_line (edges_on_lines w)) s ≡ true → ⊥
 
 -- then it hangs one more where lines from the top end on a segment
 abbrev pub LinesAreHung : Type 0

@@ -1,6 +1,9 @@
 pub mod FormExamples
 pub mod FormValues
-pub mod FormSteps
+pub mod NarrowForms
+pub mod CombinedForms
+pub mod FormSigns
+pub mod PivotSteps
 pub mod Reducing
 pub mod Adding
 pub mod Freeing

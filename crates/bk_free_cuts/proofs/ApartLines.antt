@@ -4,9 +4,9 @@ use Rattle.bk_tiling.proofs.TilingLaws.{side_of, within_of}
 use Rattle.bk_tiling.specs.Tiling.{IsOneOf, IsTiling, Tiling}
 use Rattle.bk_tiling.specs.declared.Square.{Square}
 use Rattle.bk_layout.proofs.Counting.{got_same}
-use Rattle.bk_tiling_layout.proofs.Ascending.{in_order, stands_in}
-use Rattle.bk_tiling_layout.proofs.LineEnds.{number_column}
-use Rattle.bk_tiling_layout.proofs.NodeLaws.{one_ended}
+use Rattle.bk_tiling_layout.proofs.AscendingPlaces.{in_order, stands_in}
+use Rattle.bk_tiling_layout.proofs.LineNumbers.{number_column}
+use Rattle.bk_tiling_layout.proofs.NodeColumns.{one_ended}
 use Rattle.bk_tiling_layout.proofs.TilingSquares.{ended, ended_from, ended_node, ended_one, in_square, key}
 use Rattle.bk_tiling_layout.specs.TilingLayout.{layout_of, square_of}
 use Rattle.bk_free_cuts.specs.SharedNodes.{AreLinesApart, LinesOfATilingAreApart}

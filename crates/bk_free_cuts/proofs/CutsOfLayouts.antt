@@ -19,7 +19,7 @@ use Rattle.bk_word.proofs.PlayLaws.{legal_front}
 use Rattle.bk_bounds.specs.ClosingBound.{closing_bound}
 use Rattle.bk_word.specs.OwnSigns.{own_signs}
 use Rattle.bk_bounds.specs.SingleValleys.{single_valleys, sizes_of}
-use Rattle.bk_bounds.specs.VerticalCut.{line_bound_of, lines_of, on_line}
+use Rattle.bk_bounds.specs.VerticalCut.{line_bound_of, edges_on_lines, on_line}
 use Rattle.bk_tiling_layout.specs.SimpleLayout.{IsSimpleLayout, Touches}
 use Rattle.bk_bounds.proofs.WordBoundLaws.{closings_are_hung, lines_are_hung, singles_are_hung}
 use Rattle.bk_free_cuts.proofs.MarkedSquares.{IsTopLine, some_marked, tops_of_word}
@@ -201,12 +201,12 @@ module _ (l : Layout) (fits : Fits l) (w : Word) (word : IsWordOfLayout l w) whe
 
       -- no line from the top comes down to the last segment
       ends_no_line : 3 ≤ l.squares → EndsNoLine w
-      ends_no_line many s e any = from (some_marked (lines_of w) s any)
+      ends_no_line many s e any = from (some_marked (edges_on_lines w) s any)
         where
           last_is : map square s ≡ l.ending l.bottom
           last_is = ap (λ (x : List (List ℕ)). map square (slice_index_or x 0 [])) (sym e) ∙ word.end
 
-          from : (j n : ℕ) × (slice_get s j ≡ Some n) × (on_line (lines_of w) n ≡ true) → ⊥
+          from : (j n : ℕ) × (slice_get s j ≡ Some n) × (on_line (edges_on_lines w) n ≡ true) → ⊥
           from (j, n, at, on) = no_line_down l fits simple walls many bottom_left bottom_right line.p line.q (square n) line.side_by_side
               there.0 there.1 line.is
             where

@@ -6,7 +6,7 @@ use Rattle.bk_tiling.specs.Tiling.{IsTiling, Tiling}
 use Rattle.bk_word.specs.Word.{Move, Word}
 use Rattle.bk_layout.proofs.LayoutNet.{a_layout_has_a_free_word}
 use Rattle.bk_layout.specs.Layout.{Fits}
-use Rattle.bk_tiling_layout.proofs.LineEnds.{number_column, number_one, number_zero}
+use Rattle.bk_tiling_layout.proofs.LineNumbers.{number_column, number_one, number_zero}
 use Rattle.bk_tiling_layout.proofs.SimpleFits.{a_simple_tiling_has_a_simple_layout}
 use Rattle.bk_tiling_layout.proofs.TilingFits.{a_tiling_has_a_layout}
 use Rattle.bk_tiling_layout.proofs.TilingSquares.{in_square}

@@ -6,6 +6,7 @@ pub mod CutsOfTilings
 pub mod OpenRuns
 pub mod ApartLines
 pub mod SharedLines
+pub mod SharedSquares
 pub mod SharedPairs
 pub mod NumberedLines
 pub mod InnerLines

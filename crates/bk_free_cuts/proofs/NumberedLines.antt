@@ -34,6 +34,17 @@ sides_long hung zero left right = refl
 sides_long hung (suc zero) left right = refl
 sides_long hung (suc (suc more)) left right = ap suc (sides_long (suc hung) (suc more) (suc (suc hung)) right)
 
+-- after a move there are as many pairs of lines as squares
+pub after_long : (o : Outline) (sides : List (ℕ × ℕ)) (m : Move) → length sides ≡ length o.hung → length (sides_after o sides m) ≡ length (after_move o m).hung
+after_long o sides m long = omega (
+  arith,
+  long,
+  length-append sides (new_sides (length o.hung) m.count (left_end sides (valley_of o)) (right_end sides (valley_of o))),
+  sides_long (length o.hung) m.count (left_end sides (valley_of o)) (right_end sides (valley_of o)),
+  length-append o.hung (replicate m.count (length o.closed)),
+  length-replicate m.count (length o.closed),
+)
+
 module _ (l : Layout) (square : ℕ → ℕ) where
   -- the two numbers of the square at place k stand for the lines at its left and right
   abbrev pub Stand : ℕ → ℕ → ℕ → Type 0
@@ -147,19 +158,9 @@ module _ (l : Layout) (square : ℕ → ℕ) where
       → HangByNodesFrom l (λ number. square (number - 1)) o w → AllStand sides → AllStand (sides_along o sides w)
   all_along fits o sides [] legal numbered long nodes all = all
   all_along fits o sides (m ∷ w) legal numbered long nodes all =
-      all_along fits (after_move o m) (sides_after o sides m) w legal.1 (numbered_move o m numbered) long_then nodes.1
+      all_along fits (after_move o m) (sides_after o sides m) w legal.1 (numbered_move o m numbered) (after_long o sides m long) nodes.1
       (all_after fits o sides m nodes.0 all (legal.0).some long low)
     where
-      long_then : length (sides_after o sides m) ≡ length (after_move o m).hung
-      long_then = omega (
-        arith,
-        long,
-        length-append sides (new_sides (length o.hung) m.count (left_end sides (valley_of o)) (right_end sides (valley_of o))),
-        sides_long (length o.hung) m.count (left_end sides (valley_of o)) (right_end sides (valley_of o)),
-        length-append o.hung (replicate m.count (length o.closed)),
-        length-replicate m.count (length o.closed),
-      )
-
       low : (k a : ℕ) → slice_get (valley_of o) k ≡ Some a → a - 1 < length sides
       low k a e = let r = hung_number o numbered a
           (omega (

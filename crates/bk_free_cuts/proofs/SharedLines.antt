@@ -1,12 +1,10 @@
 -- Lines and nodes that words share: the nodes and squares of a word against those of its layout.
-use Rattle.std.proofs.Common.{List, None, Option, Some, [], ap, arith, cond, inl, inr, length, map, nat_eq, option_map, replicate, slice_get}
-use Rattle.std.proofs.Common.{slice_index_or, subst, suc, sym, zero, ℕ, ◌++◌, ◌+◌, ◌-◌, ◌<◌, ◌∙◌, ◌∷◌, ◌≡◌, ◌≤◌, ◌⊎◌}
+use Rattle.std.proofs.Common.{List, None, Option, Some, [], ap, arith, cond, length, nat_eq, option_map, replicate, slice_get, slice_index_or, subst}
+use Rattle.std.proofs.Common.{suc, sym, ℕ, ◌++◌, ◌+◌, ◌-◌, ◌<◌, ◌∙◌, ◌∷◌, ◌≡◌, ◌≤◌}
 use Rattle.std.proofs.lemmas.Bool.Decides.{nat_tests}
-use Rattle.std.proofs.lemmas.List.{append-nil, append_assoc, length-append, length-map}
+use Rattle.std.proofs.lemmas.List.{append-nil, append_assoc, length-append}
 use Rattle.bk_laws.proofs.Occurrences.{times, times_at, times_in, times_in-append}
 use Rattle.bk_laws.proofs.ListPlaces.{get_append, get_map, get_some, index_got, got_low}
-use Rattle.bk_laws.proofs.Tests.{same_or_other}
-use Rattle.bk_word.proofs.PlayLists.{numbers-length}
 use Rattle.bk_word.specs.Outline.{Outline, start, valley_of}
 use Rattle.bk_word.specs.Play.{after_move, after_moves, numbers_from, outline_of}
 use Rattle.bk_word.specs.Word.{Word}
@@ -15,7 +13,7 @@ use Rattle.bk_word_net.proofs.PlacesInLists.{wires_got}
 use Rattle.bk_word_net.proofs.Shape.{hung_many}
 use Rattle.bk_word_net.proofs.Wires.{wires_length}
 use Rattle.bk_word_net.specs.WordNet.{end_of, net_of_word}
-use Rattle.bk_layout.proofs.Counting.{at_most, got_same, got_times, none_for, once_times, one_for, times_got}
+use Rattle.bk_layout.proofs.Counting.{got_times}
 use Rattle.bk_layout.specs.Layout.{Fits, Layout, net_of_layout}
 use Rattle.bk_layout.specs.LayoutLaws.{IsWordOfLayout}
 use Rattle.bk_word.proofs.PlayLaws.{after_moves-append}
@@ -34,11 +32,6 @@ hung_grows o (m ∷ w) = let r = hung_grows (after_move o m) w in
 in_lists : (lists : List (List ℕ)) (v : ℕ) (numbers : List ℕ) (k c : ℕ) → slice_get lists v ≡ Some numbers → slice_get numbers k ≡ Some c
     → 0 < times c (slice_index_or lists v [])
 in_lists lists v numbers k c e f = subst (λ (xs : List ℕ). 0 < times c xs) (sym (index_at lists v numbers e)) (got_times numbers k c f)
-
-list_low : (lists : List (List ℕ)) (v : ℕ) (numbers : List ℕ) → slice_get lists v ≡ Some numbers → v < length lists
-list_low [] v numbers e = absurd (cc)
-list_low (x ∷ lists) zero numbers e = omega arith
-list_low (x ∷ lists) (suc v) numbers e = omega (arith, list_low lists v numbers e)
 
 place_is : (p v : ℕ) → 0 < cond {A = ℕ} (nat_eq p v) 1 0 → p ≡ v
 place_is p v h = grind (arith, nat_tests)
@@ -59,13 +52,10 @@ pair_got a b c d e = (ap first e, ap second e)
     second (Some x) = x.1
 
 module _ (l : Layout) (fits : Fits l) (w : Word) (word : IsWordOfLayout l w) where
-  ow : Outline
-  ow = outline_of w
-
   numbered_w : Numbered (outline_of w)
   numbered_w = numbered_moves start w numbered_start
 
-  hung_w : length (outline_of w).hung ≡ l.squares
+  pub hung_w : length (outline_of w).hung ≡ l.squares
   hung_w = omega (arith, hung_many start w, word.order)
 
   wires_w : length (net_of_word w).wires ≡ length (outline_of w).hung
@@ -75,7 +65,7 @@ module _ (l : Layout) (fits : Fits l) (w : Word) (word : IsWordOfLayout l w) whe
   pub square_low : (k : ℕ) → k < length (outline_of w).hung → word.square k < l.squares
   square_low k h = omega (arith, hung_w, wires_w, word.net.wire_apart.below k (omega (arith, h, wires_w)))
 
-  square_apart : (j k : ℕ) → j < length (outline_of w).hung → k < length (outline_of w).hung → word.square j ≡ word.square k → j ≡ k
+  pub square_apart : (j k : ℕ) → j < length (outline_of w).hung → k < length (outline_of w).hung → word.square j ≡ word.square k → j ≡ k
   square_apart j k a b e = word.net.wire_apart.apart j k (omega (arith, a, wires_w)) (omega (arith, b, wires_w)) e
 
   -- its nodes are not taken for one another
@@ -194,56 +184,3 @@ module _ (l : Layout) (fits : Fits l) (w : Word) (word : IsWordOfLayout l w) whe
                   ∙ sym (index_at (outline_of front).closed v numbers h))
                   (subst (λ (n : ℕ). 0 < times n (slice_index_or ((outline_of w).closed ++ (outline_of w).segments) v [])) number
                   (subst (λ (u : ℕ). 0 < times (1 + (a - 1)) (slice_index_or ((outline_of w).closed ++ (outline_of w).segments) u [])) at_v p.here))
-
-  -- ---- each square of the layout is one of the word
-
-  all_squares : List ℕ
-  all_squares = map word.square (numbers_from 0 (length (outline_of w).hung))
-
-  at_place : (k : ℕ) → k < length (outline_of w).hung → slice_get (map word.square (numbers_from 0 (length (outline_of w).hung))) k ≡ Some (word.square k)
-  at_place k h = get_map word.square (numbers_from 0 (length (outline_of w).hung)) k k (numbers_at 0 (length (outline_of w).hung) k h
-      ∙ ap (λ (x : ℕ). Some x) (omega arith))
-
-  long : length (map word.square (numbers_from 0 (length (outline_of w).hung))) ≡ length (outline_of w).hung
-  long = length-map (numbers_from 0 (length (outline_of w).hung)) word.square ∙ numbers-length 0 (length (outline_of w).hung)
-
-  low_place : (k q : ℕ) → slice_get (map word.square (numbers_from 0 (length (outline_of w).hung))) k ≡ Some q
-      → (k < length (outline_of w).hung) × (word.square k ≡ q)
-  low_place k q e = (below, got_same (word.square k) q (sym (at_place k below) ∙ e))
-    where
-      below : k < length (outline_of w).hung
-      below = omega (arith, got_low (map word.square (numbers_from 0 (length (outline_of w).hung))) k q e, long)
-
-  few : (q : ℕ) → times q (map word.square (numbers_from 0 (length (outline_of w).hung))) ≤ 1
-  few q = once_times (map word.square (numbers_from 0 (length (outline_of w).hung))) q
-      (λ j k e f. square_apart j k (low_place j q e).0 (low_place k q f).0 ((low_place j q e).1 ∙ sym (low_place k q f).1))
-
-  -- each square of the layout has a number in the word
-  pub numbered_square : (q : ℕ) → q < l.squares → (k : ℕ) × (k < length (outline_of w).hung) × (word.square k ≡ q)
-  numbered_square q h = cases (two (times q (map word.square (numbers_from 0 (length (outline_of w).hung)))))
-    where
-      two : (n : ℕ) → (n ≡ 0) ⊎ (0 < n)
-      two n = grind arith
-
-      none : times q (map word.square (numbers_from 0 (length (outline_of w).hung))) ≡ 0 → ⊥
-      none e = omega (arith, long, hung_w, at_most l.squares (q ∷ map word.square (numbers_from 0 (length (outline_of w).hung))) low once)
-        where
-          low : (x : ℕ) → 0 < times x (q ∷ map word.square (numbers_from 0 (length (outline_of w).hung))) → x < l.squares
-          low x k = by_place (times_got (q ∷ map word.square (numbers_from 0 (length (outline_of w).hung))) x k)
-            where
-              by_place : (j : ℕ) × (slice_get (q ∷ map word.square (numbers_from 0 (length (outline_of w).hung))) j ≡ Some x) → x < l.squares
-              by_place (zero, g) = omega (arith, h, got_same q x g)
-              by_place (suc j, g) = omega (arith, square_low j (low_place j x g).0, (low_place j x g).1)
-
-          once : (x : ℕ) → x < l.squares → times x (q ∷ map word.square (numbers_from 0 (length (outline_of w).hung))) ≤ 1
-          once x k = same (same_or_other x q)
-            where
-              same : (x ≡ q) ⊎ (x ≡ q → ⊥) → times x (q ∷ map word.square (numbers_from 0 (length (outline_of w).hung))) ≤ 1
-              same (inl g) = omega (arith, one_for x q g, ap (λ (y : ℕ). times y (map word.square (numbers_from 0 (length (outline_of w).hung)))) g, e)
-              same (inr g) = omega (arith, none_for x q g, few x)
-
-      cases : (times q (map word.square (numbers_from 0 (length (outline_of w).hung))) ≡ 0)
-          ⊎ (0 < times q (map word.square (numbers_from 0 (length (outline_of w).hung)))) → (k : ℕ) × (k < length (outline_of w).hung) × (word.square k ≡ q)
-      cases (inl e) = absurd (none e)
-      cases (inr k) = let g = times_got (map word.square (numbers_from 0 (length (outline_of w).hung))) q k in
-          (g.0, (low_place g.0 q g.1).0, (low_place g.0 q g.1).1)

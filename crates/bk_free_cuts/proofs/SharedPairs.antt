@@ -17,7 +17,8 @@ use Rattle.bk_layout.specs.LayoutLaws.{IsWordOfLayout}
 use Rattle.bk_tiling_layout.specs.SimpleLayout.{AreOutermost, HasOneBetween, IsSimpleLayout, Touches}
 use Rattle.bk_word.proofs.PlayLaws.{legal_front}
 use Rattle.bk_free_cuts.proofs.OpenRuns.{index_at, open_segments_end_together}
-use Rattle.bk_free_cuts.proofs.SharedLines.{above_is, below_is, closed_got, closed_less, fresh, hung_less, node_apart, numbered_square}
+use Rattle.bk_free_cuts.proofs.SharedLines.{above_is, below_is, closed_got, closed_less, fresh, hung_less, node_apart}
+use Rattle.bk_free_cuts.proofs.SharedSquares.{numbered_square}
 use Rattle.bk_free_cuts.proofs.SharedLines.{open_low, place_of, square_low, wire}
 use Rattle.bk_free_cuts.specs.OpenSegments.{EndsTogether}
 use Rattle.bk_free_cuts.specs.SharedNodes.{AreLinesApart, IsAtClosed, LinesShareTheNodeAbove}

@@ -16,7 +16,8 @@ use Rattle.bk_layout.proofs.SquareLists.{lists_at, sq_of}
 use Rattle.bk_layout.proofs.Sweep.{State, ValleyAt, ending_times, valley_at}
 use Rattle.bk_layout.proofs.SweepStart.{first_by_lines, first_by_node, first_free, first_legal, first_move, first_no_twins, first_state, left_wall}
 use Rattle.bk_layout.proofs.SweepStates.{state_then}
-use Rattle.bk_layout.proofs.SweepStep.{by_lines, by_node, free, legal, move, no_twins}
+use Rattle.bk_layout.proofs.SweepMove.{free, legal, move, no_twins}
+use Rattle.bk_layout.proofs.SweepStep.{by_lines, by_node}
 use Rattle.bk_layout.proofs.WholeRuns.{Hung, hung_from}
 use Rattle.bk_layout.specs.FreeWord.{AreFreeFrom, HangNoTwinsFrom, IsFree, IsWithoutTwins}
 use Rattle.bk_layout.specs.Layout.{Fits, HasNoTwins, Layout}

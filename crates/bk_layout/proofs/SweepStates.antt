@@ -1,29 +1,29 @@
 -- After a step of the sweep its state holds again: the outline after the move stands for the squares that are laid then.
 use Rattle.std.specs.List.{AllZip}
-use Rattle.std.proofs.Common.{List, Some, [], ap, arith, cond, filter, inl, inr, length, map, nat_eq, refl, replicate, slice_get, subst, suc, sym, ℕ}
-use Rattle.std.proofs.Common.{◌++◌, ◌+◌, ◌<◌, ◌∙◌, ◌∷◌, ◌≡◌, ◌≤◌, ◌⊎◌}
-use Rattle.std.proofs.lemmas.List.{append_assoc, length-append, length-map, length-replicate, map-append}
+use Rattle.std.proofs.Common.{List, Some, [], ap, arith, cond, inl, inr, length, map, nat_eq, refl, replicate, slice_get, suc, sym, ℕ, ◌++◌, ◌+◌, ◌<◌}
+use Rattle.std.proofs.Common.{◌∙◌, ◌∷◌, ◌≡◌, ◌≤◌, ◌⊎◌}
+use Rattle.std.proofs.lemmas.List.{length-append, length-map, length-replicate, map-append}
 use Rattle.bk_laws.proofs.Occurrences.{times, times-append, times_in, times_in-append}
 use Rattle.bk_laws.proofs.ZippedLists.{zip_append, zip_map}
 use Rattle.bk_laws.proofs.ListPlaces.{get_append, get_last}
 use Rattle.bk_laws.proofs.Tests.{same_or_other}
 use Rattle.bk_word.specs.Outline.{Outline, valley_of}
-use Rattle.bk_word.specs.Play.{after_move, joined, new_squares, parts, segments_apart, signs_apart}
+use Rattle.bk_word.specs.Play.{after_move}
 use Rattle.bk_word.specs.Word.{Move}
 use Rattle.bk_word.specs.declared.Sign.{Sign}
-use Rattle.bk_word_net.proofs.MovedParts.{apart_segments, apart_signs, valley_is}
+use Rattle.bk_word_net.proofs.OutlineParts.{valley_is}
 use Rattle.bk_word_net.proofs.Numbering.{numbered_move, times_in-joined}
 use Rattle.bk_word_net.proofs.Shape.{shaped_move}
 use Rattle.bk_word_net.proofs.ValleyCut.{AtValley}
-use Rattle.bk_layout.proofs.Chains.{Chain, signs_of, singles}
+use Rattle.bk_layout.proofs.Chains.{signs_of, singles}
 use Rattle.bk_layout.proofs.Counting.{none_for, one_for, times_got}
-use Rattle.bk_layout.proofs.SquareLists.{all_laid, lists_at, lists_more, map_joined, map_singles}
-use Rattle.bk_layout.proofs.SquareLists.{new_numbers, sq_of, times_singles}
+use Rattle.bk_layout.proofs.SquareLists.{all_laid, lists_at, lists_more, sq_of, times_singles}
 use Rattle.bk_layout.proofs.Sweep.{State, ValleyAt, ending_times, hanging_times}
-use Rattle.bk_layout.proofs.Turning.{AtLeft, chain_joined}
 use Rattle.bk_layout.proofs.WholeRuns.{Hung}
 use Rattle.bk_layout.specs.Layout.{Fits, Layout}
-use Rattle.bk_layout.proofs.SweepStep.{laid_before, left_line, legal, move, parts_times, right_line}
+use Rattle.bk_layout.proofs.SweepMove.{legal, move}
+use Rattle.bk_layout.proofs.SweepStep.{laid_before, parts_times}
+use Rattle.bk_layout.proofs.OutlineThen.{after_is, chain_then}
 
 module _ (l : Layout) (fits : Fits l) (o : Outline) (st : State l o) (v : AtValley o) (at : ValleyAt l o st.laid v)
     (low : l.below at.q < l.bottom) (h : Hung l (l.below at.q)) where
@@ -39,7 +39,6 @@ module _ (l : Layout) (fits : Fits l) (o : Outline) (st : State l o) (v : AtVall
   abbrev laid_then : List ℕ
   laid_then = st.laid ++ (h.first ∷ h.more)
 
-  -- the move of this step
   abbrev step : Move
   step = move l fits o st v at low h
 
@@ -49,55 +48,6 @@ module _ (l : Layout) (fits : Fits l) (o : Outline) (st : State l o) (v : AtVall
 
   abbrev apart_marks : List Sign
   apart_marks = v.before_signs ++ (signs_of l (at.left.beyond ++ (h.first ∷ (h.more ++ at.right.beyond))) ++ v.after_signs)
-
-  chain_apart : Chain l apart_marks apart × AtLeft l apart
-  chain_apart = at.left.hang h.first [] (h.more ++ at.right.beyond)
-      (singles h.more ++ (lists_at st.laid v.right ++ lists_at st.laid v.after)) v.after_signs (left_line l fits o st v at low h)
-      (at.right.hang h.first h.more h.known h.linked (right_line l fits o st v at low h))
-
-  -- ---- the outline after the move, in squares
-
-  same_before : lists_at laid_then v.before ≡ lists_at laid v.before
-  same_before = lists_more laid new v.before (λ m k. laid_before l fits o st v at low h m (omega (arith, k, parts_times l fits o st v at low h m)))
-
-  same_left : lists_at laid_then v.left ≡ lists_at laid v.left
-  same_left = lists_more laid new v.left (λ m k. laid_before l fits o st v at low h m (omega (arith, k, parts_times l fits o st v at low h m)))
-
-  same_right : lists_at laid_then v.right ≡ lists_at laid v.right
-  same_right = lists_more laid new v.right (λ m k. laid_before l fits o st v at low h m (omega (arith, k, parts_times l fits o st v at low h m)))
-
-  same_after : lists_at laid_then v.after ≡ lists_at laid v.after
-  same_after = lists_more laid new v.after (λ m k. laid_before l fits o st v at low h m (omega (arith, k, parts_times l fits o st v at low h m)))
-
-  new_are : map (sq_of laid_then) (new_squares o step) ≡ new
-  new_are = new_numbers laid new (length o.hung + 1) (omega (arith, st.long))
-
-  news_are : lists_at laid_then (singles (new_squares o step)) ≡ singles new
-  news_are = map_singles (sq_of laid_then) (new_squares o step) ∙ ap singles new_are
-
-  apart_is : lists_at laid_then (segments_apart o step) ≡ apart
-  apart_is = ap (lists_at laid_then) (apart_segments o v step (legal l fits o st v at low h))
-      ∙ map-append (map (sq_of laid_then)) v.before ((v.left ++ (singles (new_squares o step) ++ v.right)) ++ v.after)
-      ∙ ap (λ (x : List (List ℕ)). lists_at laid_then v.before ++ x)
-      (map-append (map (sq_of laid_then)) (v.left ++ (singles (new_squares o step) ++ v.right)) v.after
-      ∙ ap (λ (x : List (List ℕ)). x ++ lists_at laid_then v.after) (map-append (map (sq_of laid_then)) v.left (singles (new_squares o step) ++ v.right)
-      ∙ ap (λ (x : List (List ℕ)). lists_at laid_then v.left ++ x) (map-append (map (sq_of laid_then)) (singles (new_squares o step)) v.right)))
-      ∙ (λ i. same_before i ++ ((same_left i ++ (news_are i ++ same_right i)) ++ same_after i))
-      ∙ regroup (lists_at laid v.before) (lists_at laid v.left) (singles new) (lists_at laid v.right) (lists_at laid v.after)
-    where
-      regroup : (a b c d e : List (List ℕ)) → a ++ ((b ++ (c ++ d)) ++ e) ≡ a ++ (b ++ (c ++ (d ++ e)))
-      regroup a b c d e = simp append_assoc
-
-  marks_are : signs_apart o step ≡ apart_marks
-  marks_are = apart_signs o v step (legal l fits o st v at low h)
-
-  after_is : lists_at laid_then (after_move o step).segments ≡ joined apart_marks apart
-  after_is = map_joined (sq_of laid_then) (signs_apart o step) (segments_apart o step) ∙ (λ i. joined (marks_are i) (apart_is i))
-
-  chain_then : Chain l (after_move o step).signs (lists_at laid_then (after_move o step).segments) × AtLeft l (lists_at laid_then (after_move o step).segments)
-  chain_then = subst (λ (x : List (List ℕ)). Chain l (after_move o step).signs x × AtLeft l x) (sym after_is)
-      (subst (λ (g : List Sign). Chain l (filter parts g) (joined apart_marks apart) × AtLeft l (joined apart_marks apart)) (sym marks_are)
-      (chain_joined l fits apart_marks apart chain_apart.1 chain_apart.0))
 
   -- ---- the counts
 
@@ -114,7 +64,7 @@ module _ (l : Layout) (fits : Fits l) (o : Outline) (st : State l o) (v : AtVall
   open_then : (x : ℕ) → times_in x (lists_at laid_then (after_move o step).segments)
       ≡ times_in x (lists_at laid v.before) + (times_in x (lists_at laid v.left)
       + (times x new + (times_in x (lists_at laid v.right) + times_in x (lists_at laid v.after))))
-  open_then x = ap (times_in x) after_is ∙ times_in-joined x apart_marks apart ∙ omega (
+  open_then x = ap (times_in x) (after_is l fits o st v at low h) ∙ times_in-joined x apart_marks apart ∙ omega (
     arith,
     times_in-append x (lists_at laid v.before) (lists_at laid v.left ++ (singles new ++ (lists_at laid v.right ++ lists_at laid v.after))),
     times_in-append x (lists_at laid v.left) (singles new ++ (lists_at laid v.right ++ lists_at laid v.after)),
@@ -182,8 +132,8 @@ module _ (l : Layout) (fits : Fits l) (o : Outline) (st : State l o) (v : AtVall
         length-append o.hung (replicate step.count (length o.closed)),
         length-replicate step.count (length o.closed),
       );
-      chain = chain_then.0;
-      wall = chain_then.1;
+      chain = (chain_then l fits o st v at low h).0;
+      wall = (chain_then l fits o st v at low h).1;
       closed = closed_then;
       hung = zip_append (λ q k. slice_get done_then k ≡ Some (l.above q)) st.laid new o.hung (replicate step.count (length o.closed))
           (zip_map (λ q k. slice_get st.done k ≡ Some (l.above q)) (λ q k. slice_get done_then k ≡ Some (l.above q))

@@ -6,8 +6,10 @@ pub mod ReversedLists
 pub mod ReversedPlaces
 pub mod ReversedNodes
 pub mod ReversedLines
+pub mod GoingOnReversed
 pub mod ReversedGoOn
 pub mod ReversedFits
+pub mod ListsOfFiveExamples
 pub mod FitsFiveExamples
 -- layouts that are one up to reversed squares
 pub mod UpTo
@@ -15,10 +17,13 @@ pub mod UpTo
 pub mod MoveChain
 pub mod Trace
 pub mod NodeHeads
+pub mod EvenAbove
 pub mod BadMove
 pub mod SameSigns
 pub mod ReversedStates
+pub mod MovesBoth
 pub mod SweepsBeside
+pub mod WholeBeside
 -- words can't become less for ever, so some word keeps the rule
 pub mod Drops
 pub mod Measure

@@ -6,7 +6,7 @@ use Rattle.bk_word_net.proofs.ValleyCut.{AtValley}
 use Rattle.bk_layout.proofs.Chains.{Chain, last_from, singles}
 use Rattle.bk_layout.proofs.SquareLists.{lists_at, sq_of}
 use Rattle.bk_layout.proofs.Sweep.{State, ValleyAt}
-use Rattle.bk_layout.proofs.SweepStep.{move}
+use Rattle.bk_layout.proofs.SweepMove.{move}
 use Rattle.bk_layout.proofs.Turning.{AtLeft, many_signs}
 use Rattle.bk_layout.proofs.WholeRuns.{Hung, is_last}
 use Rattle.bk_layout.specs.Layout.{Fits, IsLast, Layout}

@@ -49,17 +49,11 @@ module _ (l : Layout) (fits : Fits l) (q p r : ℕ) (can : CanReverse l q p r) w
   p_not_q : p ≡ q → ⊥
   p_not_q e = omega (arith, fits.lists.ending_once v p_beside.0 (suc p_beside.0) q (p_beside.1 ∙ ap (λ (x : ℕ). Some x) e) p_beside.2)
 
-  q_not_p : q ≡ p → ⊥
-  q_not_p e = p_not_q (sym e)
-
   r_is : (r < l.squares) × (l.below r ≡ u)
   r_is = fits.lists.ending_is u 0 r can.over
 
   r_not_q : r ≡ q → ⊥
   r_not_q e = u_not_v (sym r_is.1 ∙ ap l.below e)
-
-  q_not_r : q ≡ r → ⊥
-  q_not_r e = r_not_q (sym e)
 
   r_left : l.left q ≡ l.left r
   r_left = fits.lines.same_left u r q can.over can.first

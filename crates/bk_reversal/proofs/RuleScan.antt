@@ -7,7 +7,7 @@ use Rattle.bk_word.specs.Play.{after_move}
 use Rattle.bk_word.specs.Word.{Move, Word, order_of}
 use Rattle.bk_word.specs.declared.Sign.{Sign}
 use Rattle.bk_word.specs.declared.Sign.TheVariants.{Above, Even, Under}
-use Rattle.bk_word_net.proofs.MovedParts.{left_open}
+use Rattle.bk_word_net.proofs.OutlineParts.{left_open}
 use Rattle.bk_word_net.proofs.ValleyCut.{Beside}
 use Rattle.bk_layout.proofs.LayoutNet.{word_of_sweep}
 use Rattle.bk_layout.proofs.Sweep.{State}
@@ -16,10 +16,12 @@ use Rattle.bk_layout.proofs.WholeRuns.{hung_from}
 use Rattle.bk_layout.specs.FreeWord.{HangNoTwinsFrom}
 use Rattle.bk_layout.specs.Layout.{Fits, HasNoTwins, Layout}
 use Rattle.bk_layout.specs.LayoutLaws.{IsWordOfLayout}
-use Rattle.bk_reversal.proofs.BadMove.{Bad, bad_move}
+use Rattle.bk_reversal.proofs.EvenAbove.{Bad}
+use Rattle.bk_reversal.proofs.BadMove.{bad_move}
 use Rattle.bk_reversal.proofs.Measure.{are_digits, code, code_less, digits, few_digits, less_digits}
 use Rattle.bk_reversal.proofs.ReversedFits.{fits_then, no_twins_then, same_then}
-use Rattle.bk_reversal.proofs.SweepsBeside.{Late, WholeBeside, late_out, later_out, whole_beside}
+use Rattle.bk_reversal.proofs.SweepsBeside.{Late, late_out, later_out}
+use Rattle.bk_reversal.proofs.WholeBeside.{WholeBeside, whole_beside}
 use Rattle.bk_reversal.proofs.Trace.{IsStep, Trace, Whole, sweep_of, whole_from}
 use Rattle.bk_reversal.proofs.UpTo.{up_to_both, up_to_itself, differ}
 use Rattle.bk_reversal.specs.Reversal.{CanReverse, IsUpToReversals, reversed}

@@ -12,7 +12,8 @@ use Rattle.bk_layout.specs.Layout.{AreNeighbours, Fits, IsLast, Layout}
 use Rattle.bk_reversal.specs.Reversal.{CanReverse, reversed}
 use Rattle.bk_reversal.proofs.ReversedSquare.{Around, around}
 use Rattle.bk_reversal.proofs.ReversedPlaces.{Places, places}
-use Rattle.bk_reversal.proofs.ReversedGoOn.{goes_left_x, goes_right_p, goes_right_x, last_is_q, only_p, only_q}
+use Rattle.bk_reversal.proofs.GoingOnReversed.{goes_left_x, goes_right_p, goes_right_x, last_is_q}
+use Rattle.bk_reversal.proofs.ReversedGoOn.{only_p, only_q}
 
 module _ (l : Layout) (fits : Fits l) (q p r : ℕ) (can : CanReverse l q p r) where
   abbrev m : Layout

@@ -9,7 +9,8 @@ use Rattle.bk_reversal.proofs.Pieces.{init_below, init_got, put_at, put_other}
 use Rattle.bk_reversal.proofs.ReversedFits.{fits_then, no_twins_then, same_then}
 use Rattle.bk_reversal.specs.Reversal.{CanReverse, IsUpToReversals, put, reversed, without_last}
 use Rattle.bk_reversed_cuts.proofs.CornerLines.{lines_from_corners}
-use Rattle.bk_reversed_cuts.proofs.UpToReversals.{corners_over, pairs_over, parts_over}
+use Rattle.bk_reversed_cuts.proofs.UpToReversals.{corners_over, parts_over}
+use Rattle.bk_reversed_cuts.proofs.NodesUpToReversals.{pairs_over}
 use Rattle.bk_reversed_cuts.specs.Corners.{AReversedLayoutIsSound, DoEndsMeet}
 
 module _ (l : Layout) (fits : Fits l) (q p r : ℕ) (can : CanReverse l q p r) where

@@ -2,7 +2,8 @@
 use Rattle.bk_free_cuts.proofs.CutsOfTilings.{a_simple_tiling_has_a_sound_layout}
 use Rattle.bk_reversal.proofs.RuleScan.{HasWordThatKeeps, a_word_that_keeps}
 use Rattle.bk_reversed_cuts.proofs.SoundReversal.{a_reversed_layout_is_sound}
-use Rattle.bk_reversed_cuts.proofs.TilingCorners.{corners, ends_meet}
+use Rattle.bk_reversed_cuts.proofs.TilingCorners.{corners}
+use Rattle.bk_reversed_cuts.proofs.MeetingEnds.{ends_meet}
 use Rattle.bk_reversed_cuts.specs.Corners.{ASimpleTilingIsSoundAround, ASoundLayoutHasASoundWordByRuleR, HasSoundWordByRuleR, IsSoundAround}
 
 -- up to reversed squares a sound layout has a word by rule R whose layout is sound

@@ -15,7 +15,7 @@ use Rattle.bk_lay.specs.TilingWord.{IsWordOf, hangs_under}
 use Rattle.bk_lay.proofs.Steps.{one_of}
 use Rattle.bk_word_net.proofs.AlongWord.{top_valley}
 use Rattle.bk_tiling_layout.proofs.Edges.{right_within, side}
-use Rattle.bk_tiling_layout.proofs.LineEnds.{eq_from, eq_to}
+use Rattle.bk_tiling_layout.proofs.LineNumbers.{eq_from, eq_to}
 use Rattle.bk_tiling_layout.proofs.TilingSquares.{node_at}
 use Rattle.bk_tiling_layout.specs.TilingLayout.{layout_of, node_above, put_by, sorted_by, square_of}
 use Rattle.bk_tiling_layout.proofs.GroupNodes.{IsNode}

@@ -1,14 +1,13 @@
 -- The numbers of lines in a word: each square's left line was there before it, its right line is there with it.
-use Rattle.std.proofs.Common.{List, Some, [], ap, arith, inl, inr, length, refl, replicate, slice_get, slice_index_or, suc, zero, ℕ, ◌+◌, ◌-◌, ◌<◌}
+use Rattle.std.proofs.Common.{List, Some, [], ap, arith, inl, inr, length, refl, slice_get, slice_index_or, suc, zero, ℕ, ◌+◌, ◌-◌, ◌<◌}
 use Rattle.std.proofs.Common.{◌∷◌, ◌≡◌, ◌≤◌, ◌⊎◌}
 use Rattle.std.proofs.lemmas.Bool.{cases_lt}
 use Rattle.std.proofs.lemmas.Option.{slice_get-get_or}
-use Rattle.std.proofs.lemmas.List.{length-append, length-replicate}
 use Rattle.bk_word.specs.Outline.{Outline, start, valley_of}
 use Rattle.bk_word.specs.Play.{after_move}
 use Rattle.bk_word.specs.Word.{Move, Word, order_of}
 use Rattle.bk_word_net.proofs.Shape.{hung_many}
-use Rattle.bk_free_cuts.proofs.NumberedLines.{in_two, sides_long}
+use Rattle.bk_free_cuts.proofs.NumberedLines.{after_long, in_two}
 use Rattle.bk_free_cuts.specs.LineNumbers.{left_end, new_sides, right_end, sides_after, sides_along, sides_of}
 use Rattle.bk_free_cuts.proofs.CutByNodes.{along_long}
 
@@ -58,16 +57,6 @@ right_known : (sides : List (ℕ × ℕ)) → AllKnown sides → (numbers : List
 right_known sides all [] = omega arith
 right_known sides all (a ∷ []) = (at_known sides all (a - 1)).1
 right_known sides all (a ∷ b ∷ numbers) = right_known sides all (b ∷ numbers)
-
-after_long : (o : Outline) (sides : List (ℕ × ℕ)) (m : Move) → length sides ≡ length o.hung → length (sides_after o sides m) ≡ length (after_move o m).hung
-after_long o sides m long = omega (
-  arith,
-  long,
-  length-append sides (new_sides (length o.hung) m.count (left_end sides (valley_of o)) (right_end sides (valley_of o))),
-  sides_long (length o.hung) m.count (left_end sides (valley_of o)) (right_end sides (valley_of o)),
-  length-append o.hung (replicate m.count (length o.closed)),
-  length-replicate m.count (length o.closed),
-)
 
 after_known : (o : Outline) (sides : List (ℕ × ℕ)) (m : Move) → length sides ≡ length o.hung → AllKnown sides → AllKnown (sides_after o sides m)
 after_known o sides m long all k p e = cases

@@ -4,5 +4,6 @@ pub mod SignedTotals
 pub mod FirstMoves
 pub mod KnownLines
 pub mod SignedWords
+pub mod SignedWires
 pub mod SignedFlows
 pub mod SignedWordExamples

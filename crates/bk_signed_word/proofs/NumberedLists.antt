@@ -23,18 +23,6 @@ numbers_index f b zero k d h = absurd (omega arith)
 numbers_index f b (suc n) zero d h = ap f (omega arith)
 numbers_index f b (suc n) (suc k) d h = numbers_index f (b + 1) n k d (omega arith) ∙ ap f (omega arith)
 
--- the values at the places of a list
-pub numbers_map : {A B : Type 0} (f : ℕ → B) (h : A → B) (b : ℕ) (xs : List A) → ((k : ℕ) (x : A) → slice_get xs k ≡ Some x → f (b + k) ≡ h x)
-    → map f (numbers_from b (length xs)) ≡ map h xs
-numbers_map f h b [] each = refl
-numbers_map f h b (x ∷ xs) each = λ i. (ap f at ∙ each 0 x refl) i ∷ numbers_map f h (b + 1) xs (λ k y e. ap f (next k) ∙ each (suc k) y e) i
-  where
-    at : b ≡ b + 0
-    at = omega arith
-
-    next : (k : ℕ) → b + 1 + k ≡ b + suc k
-    next k = omega arith
-
 -- two functions, and what holds at each number
 pub numbers_each : {A : Type 0} (f g : ℕ → A) (b n : ℕ) → ((k : ℕ) → b ≤ k → k < b + n → f k ≡ g k) → map f (numbers_from b n) ≡ map g (numbers_from b n)
 numbers_each f g b zero each = refl

@@ -13,7 +13,7 @@ use Rattle.bk_layout.proofs.LayoutNet.{a_layout_has_a_free_word}
 use Rattle.bk_layout.specs.Layout.{Fits, Layout, net_of_layout}
 use Rattle.bk_layout.specs.LayoutLaws.{IsWordOfLayout}
 use Rattle.bk_tiling_layout.proofs.Edges.{bottom_within}
-use Rattle.bk_tiling_layout.proofs.LineEnds.{number_column, number_one, number_zero}
+use Rattle.bk_tiling_layout.proofs.LineNumbers.{number_column, number_one, number_zero}
 use Rattle.bk_tiling_layout.proofs.TilingFits.{a_tiling_has_a_layout}
 use Rattle.bk_tiling_layout.proofs.TilingSquares.{in_square}
 use Rattle.bk_tiling_layout.proofs.TilingNet.{net_is}

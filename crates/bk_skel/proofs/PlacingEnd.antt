@@ -15,7 +15,7 @@ use Rattle.bk_tiling.specs.declared.Square.{Square}
 use Rattle.bk_word.specs.Outline.{Outline, start}
 use Rattle.bk_lay.specs.Depiction.{IsSegment, Span}
 use Rattle.bk_word_net.proofs.TilingOfTurns.{is_tiling, tiles}
-use Rattle.bk_word_net.proofs.NumberedValley.{numbered_bottom, segment_span}
+use Rattle.bk_word_net.proofs.NumberedSquares.{numbered_bottom, segment_span}
 use Rattle.bk_skel.specs.Board.{IsClosed}
 use Rattle.bk_word_net.specs.LaidOutline.{IsNumber, bottom_at}
 

@@ -23,7 +23,7 @@ use Rattle.bk_word.specs.Word.{Move, Word, order_of}
 use Rattle.bk_lay.proofs.Valleys.{one_leftmost_valley}
 use Rattle.bk_lay.specs.TilingWord.{MovesFollow}
 use Rattle.bk_word_net.specs.WordFlow.{LaidAlong}
-use Rattle.bk_word_net.proofs.ShownOutline.{shows_start}
+use Rattle.bk_word_net.proofs.RunsAfterTurn.{shows_start}
 use Rattle.bk_word_net.proofs.TurnsOfTiling.{AgreesAt, AgreesOn, agrees_on, agrees_start}
 use Rattle.bk_word_net.proofs.TilingOfTurns.{Turns, all_deep, built, follow_turns, is_tiling}
 use Rattle.bk_word_net.proofs.NumberedValley.{shows_turn}

@@ -7,7 +7,8 @@ use Rattle.bk_laws.proofs.ListPlaces.{get_append, get_last, get_some}
 use Rattle.bk_tiling.specs.declared.Square.{Square}
 use Rattle.bk_word.specs.Play.{numbers_from}
 use Rattle.bk_word.specs.declared.Sign.{Sign}
-use Rattle.bk_word_net.proofs.NumberedValley.{SeesLeft, SeesRight, numbered_square}
+use Rattle.bk_word_net.proofs.NumberedSquares.{numbered_square}
+use Rattle.bk_word_net.proofs.NumberedValley.{SeesLeft, SeesRight}
 use Rattle.bk_word_net.specs.LaidOutline.{IsNumber, bottom_at, square_at}
 
 -- numbers of laid squares stay so, with the same squares

@@ -23,7 +23,8 @@ use Rattle.bk_lay.proofs.Steps.{one_of}
 use Rattle.bk_lay.proofs.Valleys.{one_leftmost_valley}
 use Rattle.bk_lay.specs.Depiction.{Span}
 use Rattle.bk_lay.specs.TilingWord.{depth_before, depth_from, signs_between}
-use Rattle.bk_word_net.proofs.NumberedValley.{Sees, numbered_square, open_after, open_parts, sees}
+use Rattle.bk_word_net.proofs.NumberedSquares.{numbered_square}
+use Rattle.bk_word_net.proofs.NumberedValley.{Sees, open_after, open_parts, sees}
 use Rattle.bk_skel.specs.Board.{CanLay, IsFittingGap, columns_of}
 use Rattle.bk_skel.proofs.PlacingNumbers.{bottoms_more, bottoms_new, all_known_more, known_new, middle, CutLeft, cut_left}
 use Rattle.bk_skel.proofs.PlacingNumbers.{CutRight, cut_right, Window}

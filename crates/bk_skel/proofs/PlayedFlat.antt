@@ -12,7 +12,8 @@ use Rattle.bk_word.specs.declared.Sign.{Sign}
 use Rattle.bk_word.specs.declared.Sign.TheVariants.{Above, Even, Under}
 use Rattle.bk_word_net.proofs.BottomChain.{concat-append, concat-joined, concat-singles}
 use Rattle.bk_skel.proofs.FlatMoves.{sizes_between, splice_at}
-use Rattle.bk_word_net.proofs.MovedParts.{left_one, many_between, right_one, segments_after, signs_after, valley_is}
+use Rattle.bk_word_net.proofs.OutlineParts.{left_one, right_one, valley_is}
+use Rattle.bk_word_net.proofs.MovedParts.{many_between, segments_after, signs_after}
 use Rattle.bk_word_net.proofs.Shape.{Filled, Shaped, filled_parts, valley_in}
 use Rattle.bk_skel.proofs.TurnParts.{closed_is, first_is, left_is, right_is, sides_are, signs_before_are, sizes_before_are, start_is}
 use Rattle.bk_word_net.proofs.ValleyCut.{AtValley}

@@ -9,7 +9,8 @@ use Rattle.bk_word.specs.Outline.{IsLegalMove, Outline, start}
 use Rattle.bk_word.specs.Play.{after_move, joined, new_squares, numbers_from, outline_of, parts}
 use Rattle.bk_word.specs.Word.{Move, Word, order_of}
 use Rattle.bk_word.specs.declared.Sign.{Sign}
-use Rattle.bk_word_net.proofs.MovedParts.{many_between, many_segments, many_signs, segments_after}
+use Rattle.bk_word_net.proofs.OutlineParts.{many_segments, many_signs}
+use Rattle.bk_word_net.proofs.MovedParts.{many_between, segments_after}
 use Rattle.bk_skel.proofs.PlayedFlat.{ends_were, shows_move}
 use Rattle.bk_word_net.proofs.Shape.{AllFilled, Filled, Shaped, filled_many, filled_move, filled_parts, hung_many, joined_many, shaped_move}
 use Rattle.bk_word_net.proofs.Shape.{shaped_moves, shaped_start, valley_in}

@@ -9,7 +9,7 @@ use Rattle.bk_word.specs.Outline.{IsLegalMove, Outline, start}
 use Rattle.bk_word.specs.Play.{after_move, new_squares, outline_of, parts}
 use Rattle.bk_word.specs.Word.{Move, Word, order_of}
 use Rattle.bk_word.specs.declared.Sign.{Sign}
-use Rattle.bk_word_net.proofs.MovedParts.{many_segments}
+use Rattle.bk_word_net.proofs.OutlineParts.{many_segments}
 use Rattle.bk_skel.proofs.PlayedFlat.{closed_are, ends_are, ends_were, shows_back, signs_are, sizes_after_many, sizes_are}
 use Rattle.bk_word_net.proofs.Shape.{Filled, Shaped, filled_parts, shaped_moves, shaped_start, valley_in}
 use Rattle.bk_skel.proofs.SkelFacts.{Counted, counted, snoc_one}

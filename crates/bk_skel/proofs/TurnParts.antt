@@ -10,7 +10,7 @@ use Rattle.bk_word.specs.Word.{Move}
 use Rattle.bk_word.specs.declared.Sign.{Sign}
 use Rattle.bk_word.specs.declared.Sign.TheVariants.{Above, Under}
 use Rattle.bk_word_net.proofs.BottomChain.{concat-append}
-use Rattle.bk_word_net.proofs.MovedParts.{left_one, many_signs, none_after, none_before, right_one}
+use Rattle.bk_word_net.proofs.OutlineParts.{left_one, many_signs, none_after, none_before, right_one}
 use Rattle.bk_word_net.proofs.Shape.{AllFilled, Filled, Shaped}
 use Rattle.bk_word_net.proofs.ValleyCut.{AtValley, Beside}
 use Rattle.bk_skel.specs.Skeleton.{first_touched, open_sides, signs_before, sizes_before, turn_at}

@@ -8,9 +8,10 @@ use Rattle.bk_simple.specs.Simple.{IsSimple}
 use Rattle.bk_net.specs.Diagram.{node_below}
 use Rattle.bk_tiling_layout.proofs.Edges.{side}
 use Rattle.bk_tiling_layout.proofs.Frames.{IsAll, IsFrame, IsOne, one_or_all}
-use Rattle.bk_tiling_layout.proofs.LineEnds.{number_left, number_right}
-use Rattle.bk_tiling_layout.proofs.Marks.{IsMark, clear, number_there, passes, same_node}
-use Rattle.bk_tiling_layout.proofs.NodeLaws.{level_within}
+use Rattle.bk_tiling_layout.proofs.LineNumbers.{number_left, number_right}
+use Rattle.bk_tiling_layout.proofs.LineEdges.{IsMark, same_node}
+use Rattle.bk_tiling_layout.proofs.Marks.{clear, number_there, passes}
+use Rattle.bk_tiling_layout.proofs.NodeColumns.{level_within}
 use Rattle.bk_tiling_layout.proofs.TilingSquares.{HasNumber, has_number}
 use Rattle.bk_tiling_layout.proofs.TilingSquares.{node_at}
 use Rattle.bk_tiling_layout.proofs.Twins.{common}

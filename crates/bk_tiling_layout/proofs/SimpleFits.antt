@@ -6,8 +6,8 @@ use Rattle.bk_tiling.specs.SquareGroups.{square_groups}
 use Rattle.bk_tiling.specs.Tiling.{IsOneOf, IsTiling, Tiling, order}
 use Rattle.bk_simple.specs.Simple.{IsSimple}
 use Rattle.bk_net.specs.Diagram.{node_below}
-use Rattle.bk_tiling_layout.proofs.Ascending.{AreNext, next_from, stands_in}
-use Rattle.bk_tiling_layout.proofs.Marks.{IsMark}
+use Rattle.bk_tiling_layout.proofs.AscendingPlaces.{AreNext, next_from, stands_in}
+use Rattle.bk_tiling_layout.proofs.LineEdges.{IsMark}
 use Rattle.bk_tiling_layout.proofs.NodeLaws.{beside}
 use Rattle.bk_tiling_layout.proofs.Nodes.{most_nodes}
 use Rattle.bk_tiling_layout.proofs.TilingSquares.{ended, ended_from, ended_one, first_of_ended, first_of_hung, hung}

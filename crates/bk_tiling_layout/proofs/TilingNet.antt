@@ -29,10 +29,11 @@ wires_mapped above below n (g ∷ groups) each =
     own [] each = refl
     own (q ∷ g) each = λ i. (each q (inl refl) i, below q) ∷ own g (λ r h. each r (inr h)) i
 
-numbers_mapped : (f : ℕ → ℕ × ℕ) (h : Square → ℕ × ℕ) (n : ℕ) (squares : List Square)
-    → ((k : ℕ) (q : Square) → slice_get squares k ≡ Some q → f (n + k) ≡ h q) → map f (numbers_from n (length squares)) ≡ map h squares
-numbers_mapped f h n [] each = refl
-numbers_mapped f h n (q ∷ squares) each = λ i. (ap f at ∙ each 0 q refl) i ∷ numbers_mapped f h (n + 1) squares (λ k r e. ap f (next k) ∙ each (suc k) r e) i
+-- the values at the places of a list are what is made of its elements
+pub numbers_map : {A B : Type 0} (f : ℕ → B) (h : A → B) (n : ℕ) (xs : List A) → ((k : ℕ) (x : A) → slice_get xs k ≡ Some x → f (n + k) ≡ h x)
+    → map f (numbers_from n (length xs)) ≡ map h xs
+numbers_map f h n [] each = refl
+numbers_map f h n (q ∷ squares) each = λ i. (ap f at ∙ each 0 q refl) i ∷ numbers_map f h (n + 1) squares (λ k r e. ap f (next k) ∙ each (suc k) r e) i
   where
     at : n ≡ n + 0
     at = omega arith
@@ -52,7 +53,7 @@ module _ (t : Tiling) (tiling : IsTiling t) where
     where
       wires : map (λ q. (node_above (square_groups t.squares) (square_of t q), node_below (square_groups t.squares) (square_of t q)))
           (numbers_from 0 (length t.squares)) ≡ group_wires (node_below (square_groups t.squares)) 0 (square_groups t.squares)
-      wires = numbers_mapped (λ q. (
+      wires = numbers_map {A = Square} {B = ℕ × ℕ} (λ q. (
         node_above (square_groups t.squares) (square_of t q),
         node_below (square_groups t.squares) (square_of t q),
       ))

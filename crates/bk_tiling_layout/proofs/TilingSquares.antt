@@ -10,10 +10,11 @@ use Rattle.bk_tiling.specs.Tiling.{IsOneOf, IsTiling, Tiling}
 use Rattle.bk_tiling.specs.declared.Square.{Square}
 use Rattle.bk_net.specs.Diagram.{node_below}
 use Rattle.bk_layout.specs.Layout.{IsFirst, IsLast}
-use Rattle.bk_tiling_layout.proofs.Ascending.{first_from, last_from, stands_in}
+use Rattle.bk_tiling_layout.proofs.AscendingPlaces.{first_from, last_from, stands_in}
 use Rattle.bk_tiling_layout.proofs.Edges.{side}
-use Rattle.bk_tiling_layout.proofs.LineEnds.{eq_from, eq_to}
-use Rattle.bk_tiling_layout.proofs.NodeLaws.{first_ended, first_hung, last_ended, last_hung, one_ended, one_hung}
+use Rattle.bk_tiling_layout.proofs.LineNumbers.{eq_from, eq_to}
+use Rattle.bk_tiling_layout.proofs.NodeColumns.{one_ended, one_hung}
+use Rattle.bk_tiling_layout.proofs.NodeLaws.{first_ended, first_hung, last_ended, last_hung}
 use Rattle.bk_tiling_layout.proofs.Nodes.{above_bottom, bottom_node, inner_node, most_nodes}
 use Rattle.bk_tiling_layout.specs.TilingLayout.{from_left, node_above, square_of}
 use Rattle.bk_tiling_layout.proofs.GroupNodes.{IsNode}

@@ -5,8 +5,8 @@ use Rattle.bk_tiling.specs.Tiling.{IsOneOf, IsTiling, Tiling}
 use Rattle.bk_tiling.specs.declared.Square.{Square}
 use Rattle.bk_net.specs.Diagram.{node_below}
 use Rattle.bk_tiling_layout.proofs.Edges.{bottom_within}
-use Rattle.bk_tiling_layout.proofs.LineEnds.{number_column}
-use Rattle.bk_tiling_layout.proofs.Marks.{IsMark}
+use Rattle.bk_tiling_layout.proofs.LineNumbers.{number_column}
+use Rattle.bk_tiling_layout.proofs.LineEdges.{IsMark}
 use Rattle.bk_tiling_layout.proofs.Nodes.{above_bottom, most_nodes}
 use Rattle.bk_tiling_layout.proofs.TilingSquares.{in_square, node_at}
 use Rattle.bk_tiling_layout.specs.SimpleLayout.{Touches}

@@ -4,5 +4,6 @@ pub mod LastSigns
 pub mod Places
 pub mod Ranks
 pub mod TreeCounts
+pub mod FiniteWords
 pub mod AllWords
 pub mod TreeExamples

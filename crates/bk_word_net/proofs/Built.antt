@@ -21,7 +21,8 @@ use Rattle.bk_word.specs.Play.{AreLegalFrom, after_move, after_moves}
 use Rattle.bk_word.specs.Word.{Move, Word}
 use Rattle.bk_lay.specs.Depiction.{IsNumbered}
 use Rattle.bk_word_net.proofs.BottomChain.{BottomChain, chain_level}
-use Rattle.bk_word_net.proofs.Building.{Base, NextSides, ValleyAt, base_move, chain_move, more, next_sides, valley_at}
+use Rattle.bk_word_net.proofs.PlacedMoves.{Base, NextSides, ValleyAt, base_move, chain_move, more, next_sides}
+use Rattle.bk_word_net.proofs.FilledValley.{valley_at}
 use Rattle.bk_word_net.proofs.FilledColumns.{columns_are_tiling}
 use Rattle.bk_word_net.proofs.FlowFacts.{HasSides, IsLater, drop_of, is_later}
 use Rattle.bk_word_net.proofs.NoLoose.{Played, played_move}

@@ -27,7 +27,8 @@ use Rattle.bk_word_net.proofs.AlongWord.{AtEnd, HasBegun, NotBegun, at_end}
 use Rattle.bk_word_net.proofs.BottomChain.{BottomChain}
 use Rattle.bk_word_net.proofs.Built.{LaidTurns, Result, all_deep, bottom_at, build_all, built, is_tiling}
 use Rattle.bk_word_net.proofs.FlowFacts.{HasSides, has_sides, is_later, sides_count, total_is}
-use Rattle.bk_word_net.proofs.FlowWord.{Placing, follow}
+use Rattle.bk_word_net.proofs.PlacedValley.{Placing}
+use Rattle.bk_word_net.proofs.FlowWord.{follow}
 use Rattle.bk_word_net.proofs.LaidFlow.{pos_sides}
 use Rattle.bk_word_net.proofs.NoLoose.{Played, closed_count, played_start, played_word}
 use Rattle.bk_word_net.proofs.Sums.{out_sum, weighted, weighted_nil}

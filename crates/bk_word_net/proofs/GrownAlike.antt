@@ -75,9 +75,6 @@ along_prefix t laid levels (m ∷ w) all_laid all_levels l = let p =
     (squares_under t l.0 ++ p.0, p.1 ∙ append_assoc laid (squares_under t l.0) p.0)
 
 module _ (m n : ℕ) (t u : Tiling) (tiling : IsTiling t) (other : IsTiling u) where
-  AreInStep : List Square → List Square → Type 0
-  AreInStep tl ul = map (enlarged_square m) tl ≡ map (enlarged_square n) ul
-
   -- the valleys that the two take stand in proportion
   valleys_alike : (tl ul : List Square) (tn un : List Segment) (o : Outline) (v z : Segment) → Along t tl tn o → Along u ul un o
       → IsLeftmostValley t.width tl v → IsLeftmostValley u.width ul z

@@ -18,19 +18,29 @@ pub mod PrimitiveTiling
 pub mod BottomChain
 pub mod FlowFacts
 pub mod FilledColumns
-pub mod Building
+pub mod PlacedMoves
+pub mod FilledValley
 pub mod Built
+pub mod PlacedValley
 pub mod FlowWord
 pub mod FlowTilings
+pub mod AlikeBottoms
+pub mod PlacedSides
 pub mod PlacedWord
 -- the net of a tiling's word is its Smith diagram, renumbered
+pub mod GroupRuns
 pub mod ExactNodes
+pub mod CellGroups
 pub mod WordNodes
+pub mod WordSquares
 pub mod Renumbering
 -- squares laid move by move, with the outline that shows them
+pub mod OutlineParts
 pub mod MovedParts
 pub mod ValleyCut
+pub mod RunsAfterTurn
 pub mod ShownOutline
+pub mod NumberedSquares
 pub mod NumberedValley
 pub mod TurnsOfTiling
 pub mod TilingOfTurns

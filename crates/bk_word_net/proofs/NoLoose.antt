@@ -133,9 +133,6 @@ module _ (o : Outline) (p : Played o) (one : length o.segments ≡ 1) where
           (get_front o.closed o.segments (end_of (o.closed ++ o.segments) (1 + k)) [] a) (place k h).here))
       cases (inr a) = omega (arith, p.below k h)
 
-  abbrev IsWire : ℕ × ℕ → Type 0
-  IsWire w = (w.0 < length o.closed + 1) × (w.1 < length o.closed + 1) × (w.0 < w.1)
-
   wires : AllByRecursion (λ w. (w.0 < length o.closed + 1) × (w.1 < length o.closed + 1) × (w.0 ≡ w.1 → ⊥)) (net_after o).wires
   wires = wires_all (λ w. (w.0 < length o.closed + 1) × (w.1 < length o.closed + 1) × (w.0 ≡ w.1 → ⊥)) (end_of (o.closed ++ o.segments)) 1 o.hung
       (λ k h. (omega (arith, p.below k h), end_is_node k h, λ e. absurd (omega (arith, end_is_later k h))))

@@ -14,7 +14,7 @@ use Rattle.bk_net.proofs.SmithLists.{group_wires}
 use Rattle.bk_lay.proofs.Steps.{one_of}
 use Rattle.bk_lay.proofs.WordPlay.{NoneTwice, fewer}
 use Rattle.bk_lay.specs.Depiction.{IsNumbered, Span}
-use Rattle.bk_word_net.proofs.Building.{get_either}
+use Rattle.bk_word_net.proofs.PlacedMoves.{get_either}
 use Rattle.bk_word_net.proofs.Wires.{same_or_none, wires_by}
 
 -- ---- numbers counted as squares, to compare how many there are

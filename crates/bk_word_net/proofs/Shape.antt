@@ -12,7 +12,8 @@ use Rattle.bk_word.specs.Word.{Move, Word, order_of}
 use Rattle.bk_word.specs.declared.Sign.{Sign}
 use Rattle.bk_word.specs.declared.Sign.TheVariants.{Above, Even, Under}
 use Rattle.bk_word_net.proofs.BottomChain.{concat-append, concat-joined, concat-singles}
-use Rattle.bk_word_net.proofs.MovedParts.{apart_segments, apart_signs, many_between, many_segments, valley_is}
+use Rattle.bk_word_net.proofs.OutlineParts.{many_segments, valley_is}
+use Rattle.bk_word_net.proofs.MovedParts.{apart_segments, apart_signs, many_between}
 use Rattle.bk_word_net.proofs.ValleyCut.{AllPart, AtValley, at_valley}
 
 -- each segment has a square

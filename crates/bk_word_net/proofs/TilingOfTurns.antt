@@ -23,7 +23,7 @@ use Rattle.bk_lay.proofs.Laying.{ordered_filter}
 use Rattle.bk_lay.specs.Depiction.{IsSegment}
 use Rattle.bk_lay.specs.TilingWord.{MovesFollow, bottoms, depth_before, depth_from, hangs_under, move_under, signs_between, squares_under}
 use Rattle.bk_word_net.proofs.FilledColumns.{columns_are_tiling, columns_tile}
-use Rattle.bk_word_net.proofs.ShownOutline.{fills_total}
+use Rattle.bk_word_net.proofs.RunsAfterTurn.{fills_total}
 use Rattle.bk_word_net.specs.LaidOutline.{IsTurn, ShowsLaid}
 use Rattle.bk_word_net.specs.WordFlow.{LaidAlong}
 

@@ -19,7 +19,7 @@ use Rattle.bk_lay.proofs.Laying.{under_chain}
 use Rattle.bk_lay.proofs.Valleys.{one_leftmost_valley}
 use Rattle.bk_lay.specs.TilingWord.{IsLeftmostValley, MovesFollow, depth_before, depth_from, move_under, signs_between, squares_under}
 use Rattle.bk_word_net.proofs.AlongWord.{Along, along_move, along_start, top_valley}
-use Rattle.bk_word_net.proofs.ShownOutline.{fills_total}
+use Rattle.bk_word_net.proofs.RunsAfterTurn.{fills_total}
 use Rattle.bk_word_net.proofs.Sums.{positive_sides}
 use Rattle.bk_word_net.specs.LaidTiling.{IsLaidWith}
 use Rattle.bk_word_net.specs.LaidOutline.{IsTurn}

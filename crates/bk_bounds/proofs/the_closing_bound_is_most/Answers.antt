@@ -1,4 +1,4 @@
-use Rattle.bk_bounds.proofs.ClosingLaws.{the_closing_bound_is_most as the_law}
+use Rattle.bk_bounds.proofs.MostClosings.{the_closing_bound_is_most as the_law}
 use Rattle.bk_bounds.proofs.the_closing_bound_is_most.Goals as goal
 
 pub returns : goal.returns
