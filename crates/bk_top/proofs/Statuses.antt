@@ -2,8 +2,7 @@
 use Rattle.std.proofs.Common.{ap, arith, cond, inl, inr, refl, subst, sym, ℕ, ◌==◌, ◌∙◌, ◌≡◌, ◌⊎◌}
 use Rattle.std.specs.Prelude.{Bool, IsSomeAnd, List, Option, Some, false, length, true, ◌<◌, ◌^◌, ◌≤◌, ◌↔◌}
 use Rattle.bk_ports.specs.Causes.{Rose}
-use Rattle.bk_lines.proofs.Deciding.{refused_none, refused_some, wanting_line}
-use Rattle.bk_lines.proofs.OneReply.{HasOneReply}
+use Rattle.bk_lines.proofs.Deciding.{HasOneReply, refused_none, refused_some, wanting_line}
 use Rattle.bk_lines.proofs.OtherReplies.{ends_within}
 use Rattle.bk_lines.proofs.TakenBytes.{TookBy, answers_took, more_come, too_many_exactly}
 use Rattle.bk_lines.specs.Deciding.{HasRefused, TookTooMany}
