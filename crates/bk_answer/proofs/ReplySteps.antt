@@ -1,6 +1,6 @@
 -- Steps of answering: from what is told of a tiling to the answer to its line.
-use Rattle.std.proofs.Common.{Bool, Err, List, Ok, Option, Result, [], false, length, subst, sym, true, ℕ, ◌+◌, ◌<◌, ◌∷◌, ◌≡◌}
-use Rattle.std.specs.Prelude.{IfErr, IfOk, OnErr}
+use Rattle.std.proofs.Common.{Bool, Err, List, Ok, Option, Result, [], false, length, refl, subst, sym, true, ℕ, ◌+◌, ◌<◌, ◌∷◌, ◌≡◌}
+use Rattle.std.specs.Prelude.{IfOk, OnErr}
 use Rattle.std.specs.Io.KnownBytes.{Appends}
 use Rattle.bk_ports.specs.Causes.{AppendsPrefix}
 use Rattle.bk_ports.specs.declared.Failed.{Failed}
@@ -16,7 +16,7 @@ use Rattle.bk_answer.specs.declared.command.Command.{Command}
 use Rattle.bk_answer.specs.declared.command.Command.TheVariants.{Flow, OfCodes, Solve}
 use Rattle.bk_answer.specs.WordAnswer.{word_too_long}
 use Rattle.bk_answer.specs.NetAnswer.{net_too_long}
-use Rattle.bk_answer.specs.Answer.{AnswersLine}
+use Rattle.bk_answer.specs.Answer.{AnswersLine, MayWant}
 use Rattle.bk_answer.specs.CodeAnswer.{AnswersCodeLine, AnswersTiling, answers, any_command, refuses, too_large}
 use Rattle.bk_answer.specs.Replies.{Replies}
 use Rattle.bk_answer.specs.Telling.{Allows, Tells, tells}
@@ -30,11 +30,13 @@ module _ (A B : List (List ℕ) → Bool → Type 0) (V W : Type 0) (more : (pie
   written_more : (refused : Bool) → IsWritten A a b refused → IsWritten B a b refused
   written_more refused w = record { pieces = w.pieces; answer = more w.pieces refused w.answer; written = w.written }
 
-  outcome_more : (o : Outcome) → HasOutcome A V a b o → HasOutcome B W a b o
+  -- of an outcome
+  pub outcome_more : (o : Outcome) → HasOutcome A V a b o → HasOutcome B W a b o
   outcome_more outcomes.Accepted h = written_more false h
   outcome_more outcomes.Refused h = written_more true h
   outcome_more outcomes.NoMemory h = record { cause = wants h.cause; kept = h.kept }
 
+  -- of the result of a call
   pub replies_more : (r : Result Outcome Failed) → Replies A V a b r → Replies B W a b r
   replies_more (Ok o) h = outcome_more o h
   replies_more (Err f) h = record { pieces = h.pieces; refused = h.refused; answer = more h.pieces h.refused h.answer; written = h.written }
@@ -67,21 +69,37 @@ line_answer command bytes t pieces true has (not, is) = subst (λ l. AnswersCode
 line_answer command bytes t pieces false has (allowed, told) = answers t pieces has allowed told
 
 -- a line that is too long is refused for that, whatever is asked of it
-pub long_line : (command : Command) (bytes : List ℕ) → 8192 < length bytes → AnswersLine command bytes (refusal_line Long ∷ []) true
+long_line : (command : Command) (bytes : List ℕ) → 8192 < length bytes → AnswersLine command bytes (refusal_line Long ∷ []) true
 long_line (OfCodes command) bytes long = refuses Long (any_command Long (too_long long))
 long_line Flow bytes long = net_too_long long
 long_line Solve bytes long = word_too_long long
 
-pub from_err : {T E : Type 0} (P : E → Type 0) (r : Result T E) (x : E) → r ≡ Err x → IfErr r P → P x
-from_err P r x e = subst (λ s. IfErr s P) e
-
 -- what a reply says in the two cases of its result
-pub reply_outcome : (A : List (List ℕ) → Bool → Type 0) (V : Type 0) (a b : Option (List ℕ)) (r : Result Outcome Failed) → Replies A V a b r
+reply_outcome : (A : List (List ℕ) → Bool → Type 0) (V : Type 0) (a b : Option (List ℕ)) (r : Result Outcome Failed) → Replies A V a b r
     → IfOk r (HasOutcome A V a b)
 reply_outcome A V a b (Ok o) h = h
 reply_outcome A V a b (Err f) h = tt
 
-pub reply_begun : (A : List (List ℕ) → Bool → Type 0) (V : Type 0) (a b : Option (List ℕ)) (r : Result Outcome Failed) → Replies A V a b r
+reply_begun : (A : List (List ℕ) → Bool → Type 0) (V : Type 0) (a b : Option (List ℕ)) (r : Result Outcome Failed) → Replies A V a b r
     → OnErr r (IsBegun A a b)
 reply_begun A V a b (Ok o) h = tt
 reply_begun A V a b (Err f) h = h
+
+-- what a line's reply says in the two cases of its result, by another name of the command
+pub reply_says : (d e : Command) (line : List ℕ) (a b : Option (List ℕ)) (r : Result Outcome Failed) → d ≡ e
+    → Replies (AnswersLine e line) (MayWant e line) a b r
+    → IfOk r (HasOutcome (AnswersLine d line) (MayWant d line) a b) × OnErr r (IsBegun (AnswersLine d line) a b)
+reply_says d e line a b r is reply =
+    let here : Replies (AnswersLine d line) (MayWant d line) a b r =
+    subst (λ (x : Command). Replies (AnswersLine x line) (MayWant x line) a b r) (sym is) reply in (
+      reply_outcome (AnswersLine d line) (MayWant d line) a b r here,
+      reply_begun (AnswersLine d line) (MayWant d line) a b r here,
+    )
+
+-- and where the line is too long
+pub long_says : (d : Command) (line : List ℕ) (a b : Option (List ℕ)) (r : Result Outcome Failed) → 8192 < length line
+    → IfOk r (λ o. (o ≡ outcomes.Refused) × Appends a b (refusal_line Long)) → OnErr r (AppendsPrefix a b (refusal_line Long))
+    → IfOk r (HasOutcome (AnswersLine d line) (MayWant d line) a b) × OnErr r (IsBegun (AnswersLine d line) a b)
+long_says d line a b r long ok err =
+    reply_says d d line a b r refl
+    (refusal_replies (AnswersLine d line) (MayWant d line) Long a b r (long_line d line long) ok err)

@@ -13,14 +13,25 @@ cut_one (x ∷ xs) a one is = rw (take_rest (x ∷ xs) 1) (ap (λ z. z ∷ xs) (
 abbrev pub later_words : List (String Global) → List (List ℕ)
 later_words words = map string_bytes (take (length words - 1) (drop 1 words))
 
+-- some words are the first one and those behind it
 pub split_words : (words : List (String Global)) (command : String Global) (name : List ℕ) → 1 ≤ length words → command ≡ get_or words 0 command
     → name ≡ string_bytes command
     → map string_bytes words ≡ name ∷ later_words words
 split_words words command name one is same = ap (map string_bytes) (cut_one words command one is) ∙ ap (λ (n : List ℕ). n ∷ later_words words) (sym same)
 
+-- where there are no words, there are no bytes of words
 pub no_words : (words : List (String Global)) → true ≡ nat_eq (length words) 0 → map string_bytes words ≡ []
 no_words [] test = refl
 no_words (word ∷ words) test = absurd (omega (arith, eqb-true (length (word ∷ words)) 0 (sym test)))
 
+-- what asks nothing does so by another name of the words
 pub none_along : {A : Type 0} (o : Option A) (words more : List (List ℕ)) → words ≡ more → IfNone o (AsksNothing more) → IfNone o (AsksNothing words)
 none_along o words more same none = subst (λ (w : List (List ℕ)). IfNone o (AsksNothing w)) (sym same) none
+
+-- where the first word is the one said, and nothing is asked by it and the later words, the words ask nothing
+pub none_by : {A : Type 0} (o : Option A) (words : List (String Global)) (command : String Global) (name said : List ℕ) → 1 ≤ length words
+    → command ≡ get_or words 0 command → name ≡ string_bytes command → name ≡ said → IfNone o (AsksNothing (said ∷ later_words words))
+    → IfNone o (AsksNothing (map string_bytes words))
+none_by o words command name said one is same says none =
+    none_along o (map string_bytes words) (said ∷ later_words words)
+    (split_words words command name one is same ∙ ap (λ (n : List ℕ). n ∷ later_words words) says) none

@@ -18,25 +18,6 @@ pub record SayTheSame (name : List ℕ) (all left : List (List ℕ)) : Type 0 wh
   pub out : IsLeftOut (options_in left) name → IsLeftOut (options_in all) name
   pub has : (value : List ℕ) → Contains (options_in left) (option_of name value) → Contains (options_in all) (option_of name value)
 
-pub one_more : (names : List (List ℕ)) (name value : List ℕ) (words : List (List ℕ)) → Contains names name → IsLeftOut (options_in words) name
-    → AreOptions names words
-    → AreOptions names (name ∷ value ∷ words)
-one_more names name value words known out are = record {
-  whole = ap (λ (rest : List (List ℕ)). name ∷ value ∷ rest) are.whole;
-  known = (known, are.known);
-  once = (out, are.once);
-}
-
-pub first_known : (names : List (List ℕ)) (name value : List ℕ) (words : List (List ℕ)) → AreOptions names (name ∷ value ∷ words) → Contains names name
-first_known names name value words are = are.known.0
-
-pub one_less : (names : List (List ℕ)) (name value : List ℕ) (words : List (List ℕ)) → AreOptions names (name ∷ value ∷ words) → AreOptions names words
-one_less names name value words are = record {
-  whole = ap (λ (line : List (List ℕ)). drop 2 line) are.whole;
-  known = are.known.1;
-  once = are.once.1;
-}
-
 pub say_more : (name : List ℕ) (all : List (List ℕ)) (first value : List ℕ) (words : List (List ℕ)) → first ≢ name
     → SayTheSame name all (first ∷ value ∷ words) → SayTheSame name all words
 say_more name all first value words other so = record {

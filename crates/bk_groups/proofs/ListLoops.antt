@@ -19,9 +19,10 @@ use Rattle.bk_groups.specs.Pairs.{all_pairs, pairs_with}
 use Rattle.bk_groups.specs.Writing.{WritesLines}
 use Rattle.bk_groups.specs.declared.Wanted.TheVariants.{Groups, Pairs}
 use Rattle.bk_groups.proofs.PairLines.{IsItemAt, few_with}
-use Rattle.bk_groups.proofs.WrittenLines.{IsWrittenTo, broken_before, item_at, last_written, nothing_left, one_broken, one_line, prefix_more}
+use Rattle.bk_groups.proofs.WrittenLines.{IsWrittenTo, broken_before, item_at, last_written, one_broken, one_line, prefix_more}
 use Rattle.bk_groups.proofs.WrittenLines.{same_item, written_broken, written_more}
 
+-- to drop nothing leaves a list as it is
 pub drop_none : {A : Type 0} (xs : List A) → drop 0 xs ≡ xs
 drop_none [] = refl
 drop_none (x ∷ xs) = refl
@@ -39,12 +40,14 @@ next_of {A} f xs k x below e =
     let at = item_at xs k below in
     ap (λ (l : List A). flat_map f l) at.left ∙ ap (λ (y : A). f y ++ flat_map f (drop (k + 1) xs)) (same_item (slice_get xs k) at.item x at.here e)
 
+-- the lines of the element at a place are written, and those of the next ones are left
 pub loop_more : {A : Type 0} (f : A → List (List ℕ)) (all : List (List ℕ)) (xs : List A) (k : ℕ) (x : A) (a b c : Option (List ℕ)) → k < length xs
     → slice_get xs k ≡ Some x
     → IsWrittenTo all (flat_map f (drop k xs)) a b → Appends b c (concat (f x)) → IsWrittenTo all (flat_map f (drop (k + 1) xs)) a c
 loop_more f all xs k x a b c below e state here = written_more all (flat_map f (drop k xs)) (f x) (flat_map f (drop (k + 1) xs)) a b c state
     (next_of f xs k x below e) here
 
+-- where a write of them fails, a beginning of all lines stands written
 pub loop_broken : {A : Type 0} (f : A → List (List ℕ)) (all : List (List ℕ)) (xs : List A) (k : ℕ) (x : A) (a b c : Option (List ℕ)) → k < length xs
     → slice_get xs k ≡ Some x
     → IsWrittenTo all (flat_map f (drop k xs)) a b → AppendsPrefix b c (concat (f x)) → AppendsPrefix a c (concat all)
@@ -60,6 +63,7 @@ count_next f xs total k n m x below e so_far is =
 
 -- ---- the item at a place, and its line
 
+-- the line of the member at a place is that of its item
 pub member_is : (items : List KeptItem) (place : ℕ) (item : KeptItem) → slice_get items place ≡ Some item
     → member_at items place ≡ member_line item.line item.tiling ∷ []
 member_is items place item e = ap (λ (o : Option KeptItem). option_map_or (λ x. member_line x.line x.tiling ∷ []) o []) e
@@ -69,12 +73,14 @@ module _ (items : List KeptItem) (places : List ℕ) (k d line : ℕ) (t : Tilin
   member_here : member_at items (get_or places k d) ≡ member_line line t ∷ []
   member_here = member_is items (get_or places k d) here.0 here.1 ∙ (λ i. member_line (sym here.2 i) (sym here.3 i) ∷ [])
 
+  -- the line of the member at a place is written
   pub members_more : (all : List (List ℕ)) (a b c : Option (List ℕ)) → IsWrittenTo all (flat_map (member_at items) (drop k places)) a b → Appends b c piece
       → IsWrittenTo all (flat_map (member_at items) (drop (k + 1) places)) a c
   members_more all a b c state w =
       loop_more (member_at items) all places k (get_or places k d) a b c below (slice_get-get_or places k d below) state
       (subst (λ (l : List (List ℕ)). Appends b c (concat l)) (sym member_here) (one_line (member_line line t) piece b c is w))
 
+  -- or a write of it failed
   pub members_broken : (all : List (List ℕ)) (a b c : Option (List ℕ)) → IsWrittenTo all (flat_map (member_at items) (drop k places)) a b
       → AppendsPrefix b c piece → AppendsPrefix a c (concat all)
   members_broken all a b c state w =
@@ -87,9 +93,7 @@ length-groups : (items : List KeptItem) (S : List (ℕ × ℕ)) → length (map 
 length-groups items [] = refl
 length-groups items (a ∷ S) = omega (arith, length-groups items S)
 
-pub group_within : (items : List KeptItem) (g : ℕ) → g < length (sizes items) → g < length (alike_groups items)
-group_within items g below = omega (arith, length-groups items (sizes items))
-
+-- a group has a size
 pub size_within : (items : List KeptItem) (g : ℕ) → g < length (alike_groups items) → g < length (sizes items)
 size_within items g below = omega (arith, length-groups items (sizes items))
 
@@ -114,9 +118,11 @@ below_all test n m (x ∷ items) fits = by (test (n, x)) (below_all test (n + 1)
 group_below : (items : List KeptItem) (a : ℕ × ℕ) → AllByRecursion (λ place. place < length items) (group_of items a)
 group_below items a = below_all (λ (i, item). size_eq a (item_size item)) 0 (length items) items (omega arith)
 
+-- the places of the items of one size are places of items
 pub places_of_size : (items : List KeptItem) (a : ℕ × ℕ) (places : List ℕ) → places ≡ group_of items a → AllByRecursion (λ place. place < length items) places
 places_of_size items a places are = subst (λ (l : List ℕ). AllByRecursion (λ place. place < length items) l) (sym are) (group_below items a)
 
+-- and so are those of a group
 pub places_below : (items : List KeptItem) (g : ℕ) (a : ℕ × ℕ) (members : List ℕ) → slice_get (sizes items) g ≡ Some a
     → slice_get (alike_groups items) g ≡ Some members
     → AllByRecursion (λ place. place < length items) members
@@ -137,6 +143,7 @@ pub first_broken : (line piece : List ℕ) (rest : List (List ℕ)) (a b : Optio
     → AppendsPrefix a b (concat (line ∷ rest))
 first_broken line piece rest a b is h = prefix_more a b line (concat rest) (subst (λ (l : List ℕ). AppendsPrefix a b l) is h)
 
+-- the first line is written, and the call for the others tells how it ended
 pub first_then : {T E : Type 0} (line piece : List ℕ) (rest : List (List ℕ)) (a b c : Option (List ℕ)) (r : Result T E) → piece ≡ line
     → Appends a b piece → WritesLines rest b c r → WritesLines (line ∷ rest) a c r
 first_then line piece rest a b c (Ok x) is here later =
@@ -153,9 +160,7 @@ next_pairs kind items k x below e =
     ap (λ (l : List KeptItem). all_pairs kind l) at.left
     ∙ ap (λ (y : KeptItem). pairs_with kind y (drop (k + 1) items) ++ all_pairs kind (drop (k + 1) items)) (same_item (slice_get items k) at.item x at.here e)
 
-pub count_none : (kind : Kind) (items : List KeptItem) → 0 + length (all_pairs kind (drop 0 items)) ≡ length (all_pairs kind items)
-count_none kind items = let e = ap (λ (l : List KeptItem). length (all_pairs kind l)) (drop_none items) in omega (arith, e)
-
+-- the pairs of the item at a place are written, and those of the later items are left
 pub pairs_more : (kind : Kind) (items : List KeptItem) (k : ℕ) (a b c : Option (List ℕ)) → k < length items
     → IsWrittenTo (all_pairs kind items) (all_pairs kind (drop k items)) a b
     → ((x : KeptItem) → slice_get items k ≡ Some x → Appends b c (concat (pairs_with kind x (drop (k + 1) items))))
@@ -166,6 +171,7 @@ pairs_more kind items k a b c below state here =
     (all_pairs kind (drop (k + 1) items)) a b c state
     (next_pairs kind items k at.item below at.here) (here at.item at.here)
 
+-- where a write of them fails, a beginning of the lines of all pairs stands written
 pub pairs_broken : (kind : Kind) (items : List KeptItem) (k : ℕ) (a b c : Option (List ℕ)) → k < length items
     → IsWrittenTo (all_pairs kind items) (all_pairs kind (drop k items)) a b
     → ((x : KeptItem) → slice_get items k ≡ Some x → AppendsPrefix b c (concat (pairs_with kind x (drop (k + 1) items))))
@@ -175,10 +181,6 @@ pairs_broken kind items k a b c below state here =
     written_broken (all_pairs kind items) (all_pairs kind (drop k items)) (pairs_with kind at.item (drop (k + 1) items))
     (all_pairs kind (drop (k + 1) items)) a b c state
     (next_pairs kind items k at.item below at.here) (here at.item at.here)
-
-pub count_all : (kind : Kind) (items : List KeptItem) (k n : ℕ) → length items ≤ k
-    → n + length (all_pairs kind (drop k items)) ≡ length (all_pairs kind items) → n ≡ length (all_pairs kind items)
-count_all kind items k n late e = let none = ap (λ (l : List KeptItem). length (all_pairs kind l)) (nothing_left items k late) in omega (arith, none)
 
 -- how many there are with one more item
 pub count_more : (kind : Kind) (items : List KeptItem) (k n m : ℕ) → k < length items
@@ -200,9 +202,11 @@ few_by kind (a ∷ later) few = omega (
   length-append (pairs_with kind a later) (all_pairs kind later),
 )
 
+-- items of at most 16,384 have at most 2^28 pairs
 pub few_all : (kind : Kind) (items : List KeptItem) → length items ≤ 16384 → length (all_pairs kind items) ≤ 268435456
 few_all kind items few = omega (arith, few_by kind items few)
 
+-- and so have those up to any place
 pub few_so_far : (kind : Kind) (items : List KeptItem) (k n m : ℕ) → k < length items → length items ≤ 16384
     → n + length (all_pairs kind (drop k items)) ≡ length (all_pairs kind items)
     → ((x : KeptItem) → slice_get items k ≡ Some x → m ≡ length (pairs_with kind x (drop (k + 1) items))) → n + m ≤ 268435456
@@ -210,6 +214,7 @@ few_so_far kind items k n m below few e is = omega (arith, few_all kind items fe
 
 -- ---- what stands behind the lines
 
+-- a write failed at the groups
 pub groups_broken : {T E : Type 0} (s : Listed) (items : List KeptItem) (a c : Option (List ℕ)) (r : Result T E) (f : E) → items ≡ s.items → r ≡ Err f
     → AppendsPrefix a c (concat (flat_map (group_lines items) (sizes items))) → WritesLines (closing_lines Groups s) a c r
 groups_broken s items a c r f e is h =
@@ -217,6 +222,7 @@ groups_broken s items a c r f e is h =
     (broken_before (flat_map (group_lines s.items) (sizes s.items)) (alike_line (length (sizes s.items)) (length s.items) s.refused ∷ []) a c
     (subst (λ (l : List KeptItem). AppendsPrefix a c (concat (flat_map (group_lines l) (sizes l)))) e h))
 
+-- the groups are written, and the call for the last line tells how it ended
 pub groups_closed : {T E : Type 0} (s : Listed) (items : List KeptItem) (groups many refused : ℕ) (piece : List ℕ) (a b c : Option (List ℕ))
     (r : Result T E) → items ≡ s.items
     → Appends a b (concat (flat_map (group_lines items) (sizes items))) → groups ≡ length (alike_groups items) → many ≡ length items
@@ -229,6 +235,7 @@ groups_closed s items groups many refused piece a b c r e first g m t p ok err =
     (subst (λ (l : List KeptItem). Appends a b (concat (flat_map (group_lines l) (sizes l)))) e first)
     (p ∙ (λ i. alike_line (g' i) (m' i) (t i))) ok err
 
+-- a write failed at the pairs
 pub pairs_cut : {T E : Type 0} (kind : Kind) (s : Listed) (items : List KeptItem) (a c : Option (List ℕ)) (r : Result T E) (f : E) → items ≡ s.items → r ≡ Err f
     → AppendsPrefix a c (concat (all_pairs kind items)) → WritesLines (closing_lines (Pairs kind) s) a c r
 pairs_cut kind s items a c r f e is h =
@@ -236,6 +243,7 @@ pairs_cut kind s items a c r f e is h =
     (broken_before (all_pairs kind s.items) (pairs_line (length (all_pairs kind s.items)) (length s.items) s.refused ∷ []) a c
     (subst (λ (l : List KeptItem). AppendsPrefix a c (concat (all_pairs kind l))) e h))
 
+-- the pairs are written, and the call for the last line tells how it ended
 pub pairs_closed : {T E : Type 0} (kind : Kind) (s : Listed) (items : List KeptItem) (pairs many refused : ℕ) (piece : List ℕ)
     (a b c : Option (List ℕ)) (r : Result T E) → items ≡ s.items
     → Appends a b (concat (all_pairs kind items)) → pairs ≡ length (all_pairs kind items) → many ≡ length items → refused ≡ s.refused

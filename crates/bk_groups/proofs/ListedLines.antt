@@ -12,6 +12,7 @@ use Rattle.bk_tiling.specs.Tiling.{Tiling}
 use Rattle.bk_report.specs.ListLines.{refused_line}
 use Rattle.bk_report.specs.declared.refusal.Refused.{Refused}
 use Rattle.bk_answer.specs.Refusing.{IsLineRefused}
+use Rattle.bk_answer.proofs.ReplySteps.{outcome_more}
 use Rattle.bk_sym.specs.Canonical.{IsCanonicalOf}
 use Rattle.bk_report.specs.declared.refusal.Refused.TheVariants.{More}
 use Rattle.bk_groups.specs.Listed.{Listed, ListsLine, ListsTiling, keeps, no_more, refuses, with_item, with_refused}
@@ -23,26 +24,20 @@ pub refused_outcome : (answers : List (List ℕ) → Bool → Type 0) (wants : T
 refused_outcome answers wants line a b (Ok o) h ok = subst (HasOutcome answers wants a b) (sym ok.0) (writes_one answers true line a b h ok.1)
 refused_outcome answers wants line a b (Err f) h ok = tt
 
+-- or a write of it failed
 pub refused_begun : (answers : List (List ℕ) → Bool → Type 0) (line : List ℕ) (a b : Option (List ℕ)) (r : Result Outcome Failed) → answers (line ∷ []) true
     → OnErr r (AppendsPrefix a b line) → OnErr r (IsBegun answers a b)
 refused_begun answers line a b (Ok o) h err = tt
 refused_begun answers line a b (Err f) h err = begins_one answers true line a b h err
 
--- an answer of one kind is one of another
-module _ (A B : List (List ℕ) → Bool → Type 0) (V W : Type 0) (more : (pieces : List (List ℕ)) (refused : Bool) → A pieces refused → B pieces refused)
-    (wants : V → W) (a b : Option (List ℕ)) where
-  written_more : (refused : Bool) → IsWritten A a b refused → IsWritten B a b refused
-  written_more refused w = record { pieces = w.pieces; answer = more w.pieces refused w.answer; written = w.written }
+-- what a call comes to by one kind of answer, it comes to by another
+pub more_outcome : (A B : List (List ℕ) → Bool → Type 0) (V W : Type 0)
+    (more : (pieces : List (List ℕ)) (refused : Bool) → A pieces refused → B pieces refused) (wants : V → W) (a b : Option (List ℕ))
+    (r : Result Outcome Failed) → IfOk r (HasOutcome A V a b) → IfOk r (HasOutcome B W a b)
+more_outcome A B V W more wants a b (Ok o) h = outcome_more A B V W more wants a b o h
+more_outcome A B V W more wants a b (Err f) h = tt
 
-  outcome_more : (o : Outcome) → HasOutcome A V a b o → HasOutcome B W a b o
-  outcome_more outcomes.Accepted h = written_more _ h
-  outcome_more outcomes.Refused h = written_more _ h
-  outcome_more outcomes.NoMemory h = record { cause = wants h.cause; kept = h.kept }
-
-  pub more_outcome : (r : Result Outcome Failed) → IfOk r (HasOutcome A V a b) → IfOk r (HasOutcome B W a b)
-  more_outcome (Ok o) h = outcome_more o h
-  more_outcome (Err f) h = tt
-
+-- and so what was begun
 pub more_begun : (A B : List (List ℕ) → Bool → Type 0) (more : (pieces : List (List ℕ)) (refused : Bool) → A pieces refused → B pieces refused)
     (a b : Option (List ℕ)) (r : Result Outcome Failed)
     → OnErr r (IsBegun A a b) → OnErr r (IsBegun B a b)

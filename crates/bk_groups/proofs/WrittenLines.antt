@@ -2,7 +2,7 @@
 use Rattle.std.specs.List.{concat}
 use Rattle.std.specs.Prelude.{Err, Ok, OnErr, OnOk, Result, Some, drop, min, slice_get, take, zero}
 use Rattle.std.specs.Io.KnownBytes.{Appends}
-use Rattle.std.proofs.Common.{List, [], Option, ap, arith, length, refl, subst, suc, sym, ℕ, ◌++◌, ◌+◌, ◌<◌, ◌∙◌, ◌∷◌, ◌≡◌, ◌≤◌}
+use Rattle.std.proofs.Common.{List, [], Option, ap, arith, length, refl, subst, suc, sym, ℕ, ◌++◌, ◌+◌, ◌<◌, ◌∙◌, ◌∷◌, ◌≡◌}
 use Rattle.std.proofs.lemmas.List.{append-nil, append_assoc, take-append-le, take_min}
 use Rattle.std.proofs.lemmas.List.Folds.{concat-append}
 use Rattle.bk_ports.specs.Causes.{AppendsPrefix}
@@ -23,9 +23,11 @@ pub record IsWrittenTo (all rest : List (List ℕ)) (before now : Option (List �
   pub split : all ≡ done ++ rest
   pub written : Appends before now (concat done)
 
+-- nothing is written yet, and all lines are still to be written
 pub written_none : (all : List (List ℕ)) (w : Option (List ℕ)) → IsWrittenTo all all w w
 written_none all w = record { done = []; split = refl; written = appends_nothing w }
 
+-- the next of the lines are written
 pub written_more : (all rest piece later : List (List ℕ)) (a b c : Option (List ℕ)) → IsWrittenTo all rest a b → rest ≡ piece ++ later
     → Appends b c (concat piece) → IsWrittenTo all later a c
 written_more all rest piece later a b c state is here = record {
@@ -34,11 +36,13 @@ written_more all rest piece later a b c state is here = record {
   written = appends_more a b c (concat state.done) (concat piece) (concat (state.done ++ piece)) state.written here (concat-append state.done piece);
 }
 
+-- where none is left, all are written
 pub written_all : (all rest : List (List ℕ)) (a b : Option (List ℕ)) → IsWrittenTo all rest a b → rest ≡ [] → Appends a b (concat all)
 written_all all rest a b state none =
     subst (λ (l : List (List ℕ)). Appends a b (concat l)) (sym (state.split ∙ ap (λ (l : List (List ℕ)). state.done ++ l) none
     ∙ append-nil state.done)) state.written
 
+-- where a write of the next of them fails, a beginning of all lines stands written
 pub written_broken : (all rest piece later : List (List ℕ)) (a b c : Option (List ℕ)) → IsWrittenTo all rest a b → rest ≡ piece ++ later
     → AppendsPrefix b c (concat piece) → AppendsPrefix a c (concat all)
 written_broken all rest piece later a b c state is here =
@@ -52,6 +56,7 @@ written_broken all rest piece later a b c state is here =
 pub one_line : (line piece : List ℕ) (a b : Option (List ℕ)) → piece ≡ line → Appends a b piece → Appends a b (concat (line ∷ []))
 one_line line piece a b is w = subst (λ (l : List ℕ). Appends a b l) (is ∙ sym (append-nil line)) w
 
+-- or a beginning of it
 pub one_broken : (line piece : List ℕ) (a b : Option (List ℕ)) → piece ≡ line → AppendsPrefix a b piece → AppendsPrefix a b (concat (line ∷ []))
 one_broken line piece a b is w = subst (λ (l : List ℕ). AppendsPrefix a b l) (is ∙ sym (append-nil line)) w
 
@@ -74,6 +79,7 @@ pub record IsAt {A : Type 0} (xs : List A) (k : ℕ) : Type 0 where
   pub here : slice_get xs k ≡ Some item
   pub left : drop k xs ≡ item ∷ drop (k + 1) xs
 
+-- each place below the length has an item
 pub item_at : {A : Type 0} (xs : List A) (k : ℕ) → k < length xs → IsAt xs k
 item_at [] k below = absurd (omega arith)
 item_at (x ∷ xs) zero below = record { item = x; here = refl; left = refl }
@@ -82,11 +88,6 @@ item_at (x ∷ xs) (suc k) below =
     let e : suc (k + 1) ≡ suc k + 1 = omega arith in
     record { item = at.item; here = at.here; left = at.left ∙ ap (λ (l : ℕ). at.item ∷ drop l (x ∷ xs)) e }
 
+-- a place has one item
 pub same_item : {A : Type 0} (o : Option A) (x y : A) → o ≡ Some x → o ≡ Some y → x ≡ y
 same_item o x y e f = cc
-
-pub nothing_left : {A : Type 0} (xs : List A) (k : ℕ) → length xs ≤ k → drop k xs ≡ []
-nothing_left [] zero late = refl
-nothing_left [] (suc k) late = refl
-nothing_left (x ∷ xs) zero late = absurd (omega arith)
-nothing_left (x ∷ xs) (suc k) late = nothing_left xs k (omega arith)

@@ -7,7 +7,8 @@ use Rattle.bk_lines.specs.Lines.{closed_lines, open_line}
 use Rattle.bk_lines.specs.Entering.{AreAllEntered, Entering, IsEntryStopped}
 use Rattle.bk_lines.specs.declared.line.Stop.{Stop}
 use Rattle.bk_lines.proofs.Cuts.{IsFirstFeed, HasNoFeed, closed-none, open-none, closed-first, open-first}
-use Rattle.bk_lines.proofs.Joining.{entered_none, entered_more, stopped_after, stopped_front}
+use Rattle.bk_lines.proofs.Joining.{entered_more}
+use Rattle.bk_lines.proofs.StoppedLines.{stopped_after, stopped_front}
 
 not_true : (b : Bool) → ¬ (b ≡ true) → b ≡ false
 not_true true h = absurd (h refl)
@@ -35,9 +36,6 @@ pub record IsReadTo {State : Type 0} (rules : Entering State) (start : State) (f
   pub entered : AreAllEntered rules start from done before now refused state
 
 module _ {State : Type 0} (rules : Entering State) (start : State) (from : ℕ) (begun block : List ℕ) where
-  pub read_none : (w : Option (List ℕ)) → IsReadTo rules start from begun block begun block from w w false start
-  read_none w = record { done = []; lines = refl; open_is = refl; count = omega arith; entered = entered_none rules start from w }
-
   -- the lines at the next line feed
   next_lines : (kept rest : List ℕ) (k : ℕ) (done : List (List ℕ)) → closed_lines begun block ≡ done ++ closed_lines kept rest → IsFirstFeed rest k
       → closed_lines begun block ≡ (done ++ (kept ++ take k rest) ∷ []) ++ closed_lines [] (drop (k + 1) rest)

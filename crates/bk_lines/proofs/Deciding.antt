@@ -10,7 +10,6 @@ use Rattle.bk_lines.specs.Ending.{IsCutShort, Replies, RunEndsBy, Streams}
 use Rattle.bk_lines.specs.Lines.{lines_of}
 use Rattle.bk_lines.specs.Reply.{AreReplies, Reply, some_refused}
 use Rattle.bk_lines.specs.declared.Ended.TheVariants.{NoneRefused, SomeRefused}
-use Rattle.bk_lines.proofs.OneReply.{HasOneReply}
 use Rattle.bk_lines.proofs.TakenBytes.{read_front, taken_all}
 
 -- ---- the lines among which one is
@@ -29,6 +28,10 @@ is_later : (line : List ℕ) (lines : List (List ℕ)) (sought : List ℕ) → C
 is_later line lines sought has = Contains-append_right (line ∷ []) lines sought has
 
 -- ---- which line is refused
+
+-- a line has one reply
+abbrev pub HasOneReply : (List ℕ → List (List ℕ) → Bool → Type 0) → Type 0
+HasOneReply answers = (line : List ℕ) (pieces others : List (List ℕ)) (p q : Bool) → answers line pieces p → answers line others q → (pieces ≡ others) × (p ≡ q)
 
 refused_later : (p q : Bool) → p ≡ false → (p || q) ≡ true → q ≡ true
 refused_later true q e h = absurd (true≢false e)

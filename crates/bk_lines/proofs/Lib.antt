@@ -1,13 +1,14 @@
 pub mod Cuts
 pub mod Fronts
 pub mod Joining
+pub mod StoppedLines
+pub mod OneLine
 pub mod Blocks
 pub mod Taking
 pub mod Stateless
 pub mod Pieces
 pub mod LineExamples
 pub mod EndingExamples
-pub mod OneReply
 pub mod OtherReplies
 pub mod TakenBytes
 pub mod Deciding

@@ -1,29 +1,20 @@
 -- An input of which some bytes are taken, and their lines entered.
-use Rattle.std.proofs.Common.{◌≡◌, ℕ, ◌+◌, ◌^◌, ◌≤◌, Bool, true, false, ◌||◌, List, [], ◌++◌, length, take, map, Option, Some, None, inl, inr}
+use Rattle.std.proofs.Common.{◌≡◌, ℕ, ◌+◌, ◌^◌, ◌≤◌, Bool, true, false, ◌||◌, List, [], ◌++◌, length, take, map, Option, inl, inr}
 use Rattle.std.proofs.Common.{refl, sym, ap, ◌∙◌, subst, arith}
-use Rattle.std.specs.Io.KnownBytes.{Consumes, Keeps, IsAtEnd}
+use Rattle.std.specs.Io.KnownBytes.{Consumes, IsAtEnd}
 use Rattle.std.proofs.lemmas.List.{append-nil, length-append}
 use Rattle.bk_ports.proofs.KnownSteps.{consumes_more}
 use Rattle.bk_lines.specs.Lines.{closed_lines, open_line, last_line, lines_of, kept_front}
 use Rattle.bk_lines.specs.Entering.{AreAllEntered, Entering, IsEntryStopped}
-use Rattle.bk_lines.specs.Entries.{AreEntriesTooMany, EntersBy, IsEntered, IsEntryCutOff}
+use Rattle.bk_lines.specs.Entries.{AreEntriesTooMany, EntersBy, IsEntered}
 use Rattle.bk_lines.specs.Ending.{AreRead, Streams, ended_of, verdict_of}
 use Rattle.bk_lines.specs.declared.Ended.{Ended}
 use Rattle.bk_lines.specs.declared.line.Stop.{Stop}
 use Rattle.bk_lines.specs.declared.line.Stop.TheVariants.{WriteFailed, NoMemory}
 use Rattle.bk_lines.proofs.Cuts.{closed-append, open-append}
 use Rattle.bk_lines.proofs.Fronts.{closed-fronts, open-fronts, front-front, last-fronts}
-use Rattle.bk_lines.proofs.Joining.{entered_none, entered_more, entered_fronts, fronts_many, stopped_after, stopped_fronts}
-
-consumes_nothing : (left : Option (List ℕ)) → Consumes left left []
-consumes_nothing None = tt
-consumes_nothing (Some bytes) = refl
-
-consumes_kept : (a b c : Option (List ℕ)) (xs : List ℕ) → Consumes a b xs → Keeps b c → Consumes a c xs
-consumes_kept None b c xs p k = tt
-consumes_kept (Some old) None c xs p k = absurd p
-consumes_kept (Some old) (Some bs) None xs p k = absurd k
-consumes_kept (Some old) (Some bs) (Some cs) xs p k = p ∙ ap (λ (l : List ℕ). xs ++ l) (sym k)
+use Rattle.bk_lines.proofs.Joining.{entered_more, entered_fronts, fronts_many}
+use Rattle.bk_lines.proofs.StoppedLines.{stopped_after, stopped_fronts}
 
 -- some bytes are taken, of which the lines with a line feed are entered, and the front of the open line is kept, with its number
 pub record IsTaken {State : Type 0} (rules : Entering State) (start : State) (left now_left before now : Option (List ℕ)) (count : ℕ) (kept : List ℕ)
@@ -40,17 +31,6 @@ same_front : (kept whole : List ℕ) → kept ≡ kept_front whole → kept_fron
 same_front kept whole e = ap (λ (l : List ℕ). kept_front l) e ∙ front-front whole
 
 module _ {State : Type 0} (rules : Entering State) (start : State) where
-  pub taken_none : (left w : Option (List ℕ)) (kept : List ℕ) (number : ℕ) → kept ≡ [] → number ≡ 1
-      → IsTaken rules start left left w w 0 kept number false start
-  taken_none left w kept number none first = record {
-    input = [];
-    taken = consumes_nothing left;
-    size = refl;
-    front = none;
-    numbered = first;
-    entered = entered_none rules start 1 w;
-  }
-
   pub taken_more : (s t : State) (l m n a b c : Option (List ℕ)) (count more : ℕ) (kept now_kept bytes : List ℕ) (number now_number : ℕ) (p q : Bool)
       → IsTaken rules start l m a b count kept number p s → Consumes m n bytes → length bytes ≡ more → now_kept ≡ kept_front (open_line kept bytes)
       → now_number ≡ number + length (closed_lines kept bytes) → AreAllEntered rules s number (closed_lines kept bytes) b c q t
@@ -90,15 +70,6 @@ module _ {State : Type 0} (rules : Entering State) (start s : State) (l m n a b 
   last_same : map kept_front (last_line kept) ≡ map kept_front (last_line (open_line [] state.input))
   last_same =
       ap (λ (o : List ℕ). map kept_front (last_line o)) state.front ∙ last-fronts (open_line [] state.input)
-
-  pub ends_read : Keeps m n → count ≤ 2 ^ 30 → IsEntryCutOff rules start (record { left = l; left_after = n; written = a; written_after = b }) s
-  ends_read still within = record {
-    input = state.input;
-    taken = consumes_kept l m n state.input state.taken still;
-    within = omega (arith, state.size);
-    refused = p;
-    entered = state.entered;
-  }
 
   pub ends_more : (more : List ℕ) → Consumes m n more → length more ≡ 1 → count ≡ 2 ^ 30
       → AreEntriesTooMany rules start (record { left = l; left_after = n; written = a; written_after = b }) s

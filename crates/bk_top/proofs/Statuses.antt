@@ -2,8 +2,7 @@
 use Rattle.std.proofs.Common.{ap, arith, cond, inl, inr, refl, subst, sym, ℕ, ◌==◌, ◌∙◌, ◌≡◌, ◌⊎◌}
 use Rattle.std.specs.Prelude.{Bool, IsSomeAnd, List, Option, Some, false, length, true, ◌<◌, ◌^◌, ◌≤◌, ◌↔◌}
 use Rattle.bk_ports.specs.Causes.{Rose}
-use Rattle.bk_lines.proofs.Deciding.{refused_none, refused_some, wanting_line}
-use Rattle.bk_lines.proofs.OneReply.{HasOneReply}
+use Rattle.bk_lines.proofs.Deciding.{HasOneReply, refused_none, refused_some, wanting_line}
 use Rattle.bk_lines.proofs.OtherReplies.{ends_within}
 use Rattle.bk_lines.proofs.TakenBytes.{TookBy, answers_took, more_come, too_many_exactly}
 use Rattle.bk_lines.specs.Deciding.{HasRefused, TookTooMany}
@@ -32,9 +31,11 @@ named_ending WriteFailed = refl
 named_ending NoMemory = refl
 named_ending TooMany = refl
 
+-- a status is that of one ending
 pub one_ending : (status : ℕ) (a b : Ended) → status ≡ status_of a → status ≡ status_of b → a ≡ b
 one_ending status a b p q = sym (named_ending a) ∙ ap named_by (sym p ∙ q) ∙ named_ending b
 
+-- no ending has the status of words that ask nothing
 pub not_two : (ended : Ended) → status_of ended ≡ 2 → ⊥
 not_two NoneRefused e = omega arith
 not_two SomeRefused e = omega arith
@@ -43,6 +44,7 @@ not_two WriteFailed e = omega arith
 not_two NoMemory e = omega arith
 not_two TooMany e = omega arith
 
+-- where all lines were answered, the status is 0 or 1
 pub verdict_status : (refused : Bool) (status : ℕ) → status ≡ status_of (verdict_of refused) → (status ≡ 0) ⊎ (status ≡ 1)
 verdict_status false status e = inl e
 verdict_status true status e = inr e
@@ -50,10 +52,12 @@ verdict_status true status e = inr e
 -- where more bytes come and no call fails, the status is 7 or 6; and it is 7 exactly where too many were taken
 module _ (streams : Streams) (input : List ℕ) (tells : streams.left ≡ Some input) (ended : Ended) (status : ℕ) (s : status ≡ status_of ended)
     (took : TookBy streams ended) where
+  -- more bytes came than may be taken
   pub more_status : (ended ≡ ReadFailed → ⊥) → (ended ≡ WriteFailed → ⊥) → 2 ^ 30 < length input → (status ≡ 7) ⊎ (status ≡ 6)
   more_status reads writes many =
       elim (more_come streams input tells many ended took reads writes) [ inl e ↦ inl (s ∙ ap status_of e) | inr e ↦ inr (s ∙ ap status_of e) ]
 
+  -- the status is 7 exactly where too many were taken
   pub exactly_seven : status ≡ 7 ↔ TookTooMany streams.left streams.left_after
   exactly_seven =
       let exactly = too_many_exactly streams input tells ended took in (
@@ -128,6 +132,7 @@ module _ (command : Command) (before after : Outside) (ended : Ended) (status : 
       within = subst (λ (l : Option (List ℕ)). IsSomeAnd l (λ bytes. length bytes ≤ 2 ^ 30)) (sym tells) few;
     }
 
+  -- all that the statuses say of a run over lines
   pub answers_lines : AnswersLines command before after status
   answers_lines = record {
     all_accepted = at NoneRefused;

@@ -1,10 +1,8 @@
 -- A whole run, for each kind of what is asked.
 use Rattle.std.specs.Option.{MatchOption}
-use Rattle.std.proofs.Common.{List, Result, Err, Ok, arith, inl, inr, map, refl, subst, sym, ℕ, ◌∙◌, ◌≡◌}
-use Rattle.std.specs.Prelude.{None, OnErr, OnOk, Option, Some, String, string_bytes}
+use Rattle.std.proofs.Common.{List, arith, inl, inr, map, refl, subst, sym, ℕ, ◌∙◌, ◌≡◌}
+use Rattle.std.specs.Prelude.{None, Option, Some, String, string_bytes}
 use Rattle.std.specs.declared.alloc.Global.{Global}
-use Rattle.std.specs.Io.KnownBytes.{Appends}
-use Rattle.bk_ports.specs.Causes.{AppendsPrefix, HasCause}
 use Rattle.bk_lines.specs.Ending.{Streams}
 use Rattle.bk_lines.specs.declared.Ended.{Ended}
 use Rattle.bk_answer.specs.declared.command.Command.{Command}
@@ -20,19 +18,12 @@ use Rattle.bk_word.specs.declared.Class.{Class}
 use Rattle.bk_catalogue.specs.Following.{start_cursor}
 use Rattle.bk_top.proofs.Endings.{listed_not_two}
 use Rattle.bk_top.proofs.ReadToEnd.{ListsTo, VerifiesTo, lists_lines, verifies}
-use Rattle.bk_top.specs.Running.{AnswersLines, Does, DoesOther, IsWholeRun, IsToldText, Lists, NoErrors, Outside, ReadsToEnd, Tries}
+use Rattle.bk_top.specs.Running.{AnswersLines, Does, DoesOther, IsWholeRun, Lists, NoErrors, Outside, ReadsToEnd, Tries}
 use Rattle.bk_top.specs.Running.{WritesErrors, status_of}
 use Rattle.bk_top.specs.Words.{AsksErrorsOnly, AsksNoLines, AsksNothing, WordsAsk, command_asked}
 
 same : (words : List (String Global)) (a b : Ask) → WordsAsk words a → WordsAsk words b → a ≡ b
 same words a b = one_ask (map string_bytes words) a b
-
--- a text was written by one call
-pub told_text : {T E : Type 0} (text : List ℕ) (written written_after : Option (List ℕ)) (faults faults_after : ℕ) (r : Result T E)
-    → OnOk r (Appends written written_after text) → OnErr r (AppendsPrefix written written_after text) → HasCause faults faults_after r
-    → IsToldText text written written_after faults faults_after
-told_text text written written_after faults faults_after (Ok x) ok err cause = inl (ok, cause.ok)
-told_text text written written_after faults faults_after (Err x) ok err cause = inr (err, cause.failed)
 
 -- a run that does what is asked
 run_of : (words : List (String Global)) (ask : Ask) (before after : Outside) (status : ℕ) → WordsAsk words ask → (status ≡ 2 → ⊥) → Does ask before after status
@@ -73,6 +64,7 @@ tried_not_two : (seed count : ℕ) (before after : Outside) (status : ℕ) → T
 tried_not_two seed count before after status tries e =
     elim tries.ends [ inl h ↦ let z = h.0 in absurd (omega (arith, z)) | inr h ↦ let z = h.0 in absurd (omega (arith, z)) ]
 
+-- the run
 pub run_of_trial : (words : List (String Global)) (seed count : ℕ) (before after : Outside) (status : ℕ)
     → WordsAsk words (asks.Trial seed count) → Tries seed count before after status → NoErrors before after → IsWholeRun words before after status
 run_of_trial words seed count before after status wanted tries silent =
@@ -83,11 +75,13 @@ read_not_two : (says : Streams → Ended → Type 0) (streams : Streams) (read r
     → ReadsToEnd says streams read read_after write write_after status → status ≡ 2 → ⊥
 read_not_two says streams read read_after write write_after status reads e = let other = reads.no_other in not_two other.0 (sym other.1 ∙ e)
 
+-- the run of `alike`
 pub run_of_alike : (words : List (String Global)) (before after : Outside) (status : ℕ) → WordsAsk words asks.Alike → ListsTo Groups before after status
     → NoErrors before after → IsWholeRun words before after status
 run_of_alike words before after status wanted reads silent =
     run_of words asks.Alike before after status wanted (read_not_two _ _ _ _ _ _ status reads) (lists_lines Groups before after status reads, silent)
 
+-- the run of `pair`
 pub run_of_pair : (words : List (String Global)) (kind : Kind) (before after : Outside) (status : ℕ) → WordsAsk words (asks.Pair kind)
     → ListsTo (Pairs kind) before after status → NoErrors before after
     → IsWholeRun words before after status
@@ -95,6 +89,7 @@ run_of_pair words kind before after status wanted reads silent =
     run_of words (asks.Pair kind) before after status wanted (read_not_two _ _ _ _ _ _ status reads)
     (lists_lines (Pairs kind) before after status reads, silent)
 
+-- the run of `verify`
 pub run_of_verify : (words : List (String Global)) (n : ℕ) (before after : Outside) (status : ℕ) → WordsAsk words (asks.Verify n)
     → VerifiesTo n before after status → NoErrors before after
     → IsWholeRun words before after status
@@ -111,21 +106,27 @@ pair_help kind e = cc
 verify_help : (n : ℕ) → asks.Verify n ≡ asks.Help → ⊥
 verify_help n e = cc
 
+-- `alike` doesn't write on errors only
 pub alike_writes : (words : List (String Global)) → WordsAsk words asks.Alike → AsksErrorsOnly words → ⊥
 alike_writes words wanted = writes_out words asks.Alike wanted alike_help
 
+-- nor does `pair`
 pub pair_writes : (words : List (String Global)) (kind : Kind) → WordsAsk words (asks.Pair kind) → AsksErrorsOnly words → ⊥
 pair_writes words kind wanted = writes_out words (asks.Pair kind) wanted (pair_help kind)
 
+-- nor does `verify`
 pub verify_writes : (words : List (String Global)) (n : ℕ) → WordsAsk words (asks.Verify n) → AsksErrorsOnly words → ⊥
 verify_writes words n wanted = writes_out words (asks.Verify n) wanted (verify_help n)
 
+-- `alike` reads lines
 pub alike_reads : (words : List (String Global)) → WordsAsk words asks.Alike → AsksNoLines words → ⊥
 alike_reads words wanted none = none asks.Alike wanted
 
+-- so does `pair`
 pub pair_reads : (words : List (String Global)) (kind : Kind) → WordsAsk words (asks.Pair kind) → AsksNoLines words → ⊥
 pair_reads words kind wanted none = none (asks.Pair kind) wanted
 
+-- so does `verify`
 pub verify_reads : (words : List (String Global)) (n : ℕ) → WordsAsk words (asks.Verify n) → AsksNoLines words → ⊥
 verify_reads words n wanted none = none (asks.Verify n) wanted
 

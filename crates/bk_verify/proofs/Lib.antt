@@ -1,5 +1,7 @@
 pub mod Storing
 pub mod Standing
+pub mod MembersUpTo
+pub mod CountedMembers
 pub mod Passing
 pub mod Firsts
 pub mod VerifyExamples

@@ -29,6 +29,7 @@ canonical_order t u is =
     ∙ length-map s.squares (image_square is.turn s.width s.height)
     ∙ length-map t.squares (λ q. record { x = q.x / side_divisor t; y = q.y / side_divisor t; s = q.s / side_divisor t })
 
+-- a tiling of another order stands for no member
 pub none_of_other_order : (n : ℕ) (t : Tiling) → (length t.squares ≡ n → ⊥) → StandsForNone n t
 none_of_other_order n t not v stands = not (sym (canonical_order t v stands.canonical) ∙ (stands.member).order)
 
@@ -37,6 +38,7 @@ module _ (n : ℕ) (t u : Tiling) (tiling : IsTiling t) (is : IsCanonicalOf t u)
   pub stands_one : (v : Tiling) → StandsFor n t v → v ≡ u
   stands_one v stands = (a_canonical_tiling_is_one t v u tiling stands.canonical is).1
 
+  -- nor does one whose canonical tiling isn't perfect and simple
   pub none_of_other_kind : (IsPerfect u → IsSimple u → ⊥) → StandsForNone n t
   none_of_other_kind not v stands =
       let member = subst (IsMember n Perfect) (stands_one v stands) stands.member in not member.class member.simple
@@ -60,18 +62,6 @@ pub stands_told : (n : ℕ) (t u : Tiling) (order wanted : ℕ) (told : Bool) �
     → (IsTrue told ↔ IsPerfect u × IsSimple u) → told ≡ true → StandsFor n t u
 stands_told n t u order wanted told tiling is length_is wanted_is same says it =
     let kind = says.0 it in stands_for n t u tiling is (sym length_is ∙ same ∙ wanted_is) kind.0 kind.1
-
--- what is kept is a member
-pub kept_stands : (s : VerifierState) (t u : Tiling) (line : ℕ) → IsKeptVerifier s → IsCanonicalOf t u → IsKeptFrom s.pairs u line → RepeatsFrom s t line
-kept_stands s t u line kept is from = record {
-  tiling = u;
-  stands = record {
-    canonical = is;
-    member = all_at (λ (p : Kept). IsMember s.order Perfect p.tiling) s.pairs (record { line = line; tiling = u })
-        kept.members from;
-  };
-  kept = from;
-}
 
 -- a pair is among those that are kept, or its tiling isn't kept
 not_itself : (pairs : List Kept) (u : Tiling) (line : ℕ) → IsNotKept pairs u → IsKeptFrom pairs u line → ⊥
@@ -116,6 +106,7 @@ module _ (s : VerifierState) (t : Tiling) (kept : IsKeptVerifier s) (tiling : Is
   same_line a b from that = one_line s.pairs from.tiling a b kept.apart from.kept
       (subst (λ (v : Tiling). IsKeptFrom s.pairs v b) (one_stands that.tiling from.tiling that.stands from.stands) that.kept)
 
+-- what is told of an entry is one thing
 pub an_entry_is_told_one_thing : AnEntryIsToldOneThing
 an_entry_is_told_one_thing s line t New New x y kept tiling a b = refl
 an_entry_is_told_one_thing s line t New (Repeats g) x y kept tiling a b = absurd (not_both s t kept tiling g a.sight b.0)
@@ -129,18 +120,17 @@ an_entry_is_told_one_thing s line t Foreign Foreign x y kept tiling a b = refl
 
 -- a member that was new is kept
 module _ (s : VerifierState) (t u : Tiling) (line : ℕ) (pairs : List Kept) (stands : StandsFor s.order t u) (new : IsNotKept s.pairs u) where
+  -- the entry is the first one that stands for the member
   abbrev pub first_sight : IsFirstSight s t
   first_sight = record { tiling = u; stands = stands; new = new }
 
   now_is : pairs ≡ s.pairs ++ record { line = line; tiling = u } ∷ [] → record { order = s.order; pairs = pairs } ≡ with_kept s line u
   now_is e = λ i. record { order = s.order; pairs = e i }
 
+  -- it is taken in
   pub taken_in : pairs ≡ s.pairs ++ record { line = line; tiling = u } ∷ [] → IsTakenIn s line t (record { order = s.order; pairs = pairs })
   taken_in e = record { sight = first_sight; taken = now_is e }
 
+  -- and what is kept with it is right
   pub kept_then : IsKeptVerifier s → pairs ≡ s.pairs ++ record { line = line; tiling = u } ∷ [] → IsKeptVerifier (record { order = s.order; pairs = pairs })
   kept_then kept e = subst IsKeptVerifier (sym (now_is e)) (kept_with s t line first_sight kept)
-
-pub kept_same : (s : VerifierState) (pairs : List Kept) → IsKeptVerifier s → pairs ≡ s.pairs → IsKeptVerifier (record { order = s.order; pairs = pairs })
-kept_same s pairs kept e = let same : s ≡ record { order = s.order; pairs = pairs } = (λ i. record { order = s.order; pairs = sym e i })
-    in subst IsKeptVerifier same kept

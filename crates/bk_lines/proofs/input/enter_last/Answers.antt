@@ -1,6 +1,6 @@
 use Rattle.std.proofs.Common.{◌∙◌, sym}
 use Rattle.bk_lines.proofs.Fronts.{front-whole}
-use Rattle.bk_lines.proofs.Joining.{last_entered, last_stopped, not_none}
+use Rattle.bk_lines.proofs.OneLine.{last_entered, last_stopped, not_none}
 use Rattle.bk_lines.proofs.input.enter_last.Goals as goal
 
 pub returns-clause-entered : goal.returns-clause-entered

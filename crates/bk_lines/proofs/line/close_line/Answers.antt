@@ -1,6 +1,6 @@
 use Rattle.std.proofs.Common.{◌≡◌, ◌++◌, ◌∙◌, length, sym, eqb-true}
 use Rattle.bk_lines.proofs.Fronts.{front-alone}
-use Rattle.bk_lines.proofs.Joining.{line_entered, line_stopped}
+use Rattle.bk_lines.proofs.OneLine.{line_entered, line_stopped}
 use Rattle.bk_lines.proofs.line.close_line.Goals as goal
 
 pub returns-then-is_empty-clause-entered : goal.returns-then-is_empty-clause-entered

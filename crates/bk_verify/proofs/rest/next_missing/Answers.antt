@@ -1,6 +1,7 @@
 use Rattle.std.proofs.Common.{arith, true≢false}
 use Rattle.std.proofs.lemmas.Result.{IfOk-at_ok, MatchResult-at_ok}
-use Rattle.bk_verify.proofs.Passing.{at_none, at_some, few_members, passing_counted, passing_missing, passing_more, passing_none}
+use Rattle.bk_verify.proofs.CountedMembers.{few_members}
+use Rattle.bk_verify.proofs.Passing.{at_none, at_some, passing_counted, passing_missing, passing_more, passing_none}
 use Rattle.bk_verify.specs.Kept.{IsKeptFrom, IsNotKept, IsUpTo}
 use Rattle.bk_verify.proofs.rest.next_missing.Goals as goal
 

@@ -1,7 +1,7 @@
 use Rattle.std.proofs.Common.{refl, ◌∙◌}
 use Rattle.std.proofs.lemmas.Result.{IfOk-at_ok}
 use Rattle.bk_verify.proofs.Storing.{on_err}
-use Rattle.bk_verifying.proofs.BehindLines.{IsListingOn, listing_begun, listing_end, listing_more, listing_none, word_some}
+use Rattle.bk_verifying.proofs.MissingListed.{IsListingOn, listing_begun, listing_end, listing_more, listing_none, word_some}
 use Rattle.bk_verifying.specs.Listing.{IsListingBegun}
 use Rattle.bk_verifying.proofs.closing.write_missing_members.Goals as goal
 

@@ -1,6 +1,7 @@
 use Rattle.std.proofs.Common.{inr, sym}
 use Rattle.bk_lines.specs.Ending.{Streams}
-use Rattle.bk_verifying.proofs.Ending.{ends_at_lines, ends_broken, ends_other, ends_same, from_fresh, last_order, lines_done}
+use Rattle.bk_verifying.proofs.Ending.{ends_broken, ends_other, ends_same, last_order, lines_done}
+use Rattle.bk_verifying.proofs.EndingAtLines.{ends_at_lines, from_fresh}
 use Rattle.bk_verifying.proofs.run.verify.Goals as goal
 
 pub returns-in-Some-clause-verified : goal.returns-in-Some-clause-verified
