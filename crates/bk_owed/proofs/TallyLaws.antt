@@ -5,9 +5,9 @@ use Rattle.std.proofs.lemmas.List.{drop_all, drop_more, take-append-drop, take_a
 use Rattle.bk_word.specs.Outline.{valley_place}
 use Rattle.bk_word.specs.declared.Sign.{Sign}
 use Rattle.bk_word.specs.declared.Sign.TheVariants.{Above, Even, Under}
-use Rattle.bk_bounds.proofs.ClosingLaws.{aboves-append, aboves-cons, bound-append, unders, unders-cons}
+use Rattle.bk_bounds.proofs.ClosingLaws.{aboves-append, aboves-cons, bound-append, bound_aboves, unders, unders-append, unders-cons}
 use Rattle.bk_bounds.specs.ClosingBound.{closing_bound}
-use Rattle.bk_owed.specs.Tally.{IsTally}
+use Rattle.bk_owed.specs.Tally.{IsRaisedTally, IsTally}
 
 -- the first signs ask for no less than all do
 pub front_owes : (before front rest behind : List Sign) → closing_bound (before ++ front) + unders behind ≤ closing_bound (before ++ (front ++ rest) ++ behind)
@@ -38,6 +38,31 @@ tally_under signs bound more above low t e = let b = t.bound_is in let a = t.abo
   bound_is = omega (arith, bound-append signs (Under ∷ []), unders-cons Under []);
   aboves_is = omega (arith, aboves-append signs (Under ∷ []), aboves-cons Under []);
 }
+
+-- the same, where the first segment has more closings
+pub raised_above : (signs : List Sign) (mark bound more above now : ℕ) → IsRaisedTally signs mark bound above → more ≡ max bound (above + 1)
+    → now ≡ above + 1 → IsRaisedTally (signs ++ Above ∷ []) mark more now
+raised_above signs mark bound more above now t e f = let b = t.bound_is in let a = t.aboves_is in record {
+  bound_is = omega (arith, bound-append signs (Above ∷ []), unders-append signs (Above ∷ []), unders-cons Above []);
+  aboves_is = omega (arith, aboves-append signs (Above ∷ []), aboves-cons Above []);
+}
+
+pub raised_even : (signs : List Sign) (mark bound above : ℕ) → above ≤ bound → IsRaisedTally signs mark bound above
+    → IsRaisedTally (signs ++ Even ∷ []) mark bound above
+raised_even signs mark bound above low t = let b = t.bound_is in let a = t.aboves_is in record {
+  bound_is = omega (arith, bound-append signs (Even ∷ []), unders-append signs (Even ∷ []), unders-cons Even [], bound_aboves signs);
+  aboves_is = omega (arith, aboves-append signs (Even ∷ []), aboves-cons Even []);
+}
+
+pub raised_under : (signs : List Sign) (mark bound more above : ℕ) → above ≤ bound → IsRaisedTally signs mark bound above → more ≡ bound + 1
+    → IsRaisedTally (signs ++ Under ∷ []) mark more above
+raised_under signs mark bound more above low t e = let b = t.bound_is in let a = t.aboves_is in record {
+  bound_is = omega (arith, bound-append signs (Under ∷ []), unders-append signs (Under ∷ []), unders-cons Under [], bound_aboves signs);
+  aboves_is = omega (arith, aboves-append signs (Under ∷ []), aboves-cons Under []);
+}
+
+pub raised_none : (mark : ℕ) → IsRaisedTally [] mark mark 0
+raised_none mark = record { bound_is = omega arith; aboves_is = refl }
 
 pub tally_none : IsTally [] 0 0
 tally_none = record { bound_is = refl; aboves_is = refl }
@@ -77,6 +102,16 @@ tally_next before signs i bound above h t = subst (λ (l : List Sign). IsTally l
 pub tally_all : (before signs : List Sign) (i bound above : ℕ) → length signs ≤ i → IsTally (before ++ take i signs) bound above
     → IsTally (before ++ signs) bound above
 tally_all before signs i bound above h t = subst (λ (l : List Sign). IsTally (before ++ l) bound above) (take_all i signs h) t
+
+pub raised_next : (before signs : List Sign) (i mark bound above : ℕ) → i < length signs
+    → IsRaisedTally ((before ++ take i signs) ++ slice_index_or signs i Above ∷ []) mark bound above
+    → IsRaisedTally (before ++ take (i + 1) signs) mark bound above
+raised_next before signs i mark bound above h t = subst (λ (l : List Sign). IsRaisedTally l mark bound above)
+    (append_assoc before (take i signs) (slice_index_or signs i Above ∷ []) ∙ ap (λ l. before ++ l) (sym (take_here signs i h))) t
+
+pub raised_all : (before signs : List Sign) (i mark bound above : ℕ) → length signs ≤ i → IsRaisedTally (before ++ take i signs) mark bound above
+    → IsRaisedTally (before ++ signs) mark bound above
+raised_all before signs i mark bound above h t = subst (λ (l : List Sign). IsRaisedTally (before ++ l) mark bound above) (take_all i signs h) t
 
 -- the valley's place, from a place on
 pub place_above : (signs : List Sign) (i : ℕ) → i < length signs → slice_index_or signs i Above ≡ Above → valley_place (drop i signs) ≡ 0

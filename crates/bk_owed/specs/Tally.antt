@@ -1,9 +1,14 @@
 -- The closing bound of signs, counted sign by sign.
-use Rattle.std.specs.Prelude.{List, count_by, ℕ, ◌≡◌}
+use Rattle.std.specs.Prelude.{List, count_by, max, ℕ, ◌+◌, ◌≡◌}
 use Rattle.bk_word.specs.declared.Sign.{Sign}
-use Rattle.bk_bounds.specs.ClosingBound.{closing_bound, is_above}
+use Rattle.bk_bounds.specs.ClosingBound.{closing_bound, is_above, is_under}
 
 -- the closing bound of the signs, and how many of them are above
 pub record IsTally (signs : List Sign) (bound aboves : ℕ) : Type 0 where
   pub bound_is : bound ≡ closing_bound signs
+  pub aboves_is : aboves ≡ count_by is_above signs
+
+-- the same, where the first segment has so many closings more
+pub record IsRaisedTally (signs : List Sign) (mark bound aboves : ℕ) : Type 0 where
+  pub bound_is : bound ≡ max (closing_bound signs) (count_by is_under signs + mark)
   pub aboves_is : aboves ≡ count_by is_above signs

@@ -5,7 +5,7 @@ ghost use Rattle.std.specs.Prelude.{IfNone, IfSome, IsTrue, List, [], count_by, 
 ghost use Rattle.bk_word.specs.Outline.{valley_place};
 ghost use Rattle.bk_word.specs.declared.Sign.{Sign as SeenSign};
 ghost use Rattle.bk_bounds.specs.ClosingBound.{closing_bound as bound_of, is_under};
-ghost use Rattle.bk_owed.specs.Tally.{IsTally};
+ghost use Rattle.bk_owed.specs.Tally.{IsRaisedTally, IsTally};
 
 use bk_word::Sign;
 
@@ -22,6 +22,8 @@ pub fn tally_with(tally: Tally, sign: Sign) -> Tally
     requires low { tally.aboves ≤ tally.bound }
     ensures tally { (signs : List SeenSign) → IsTally signs tally.bound tally.aboves
         → IsTally (signs ++ sign ∷ []) result.bound result.aboves }
+    ensures raised { (signs : List SeenSign) (mark : ℕ) → IsRaisedTally signs mark tally.bound tally.aboves
+        → IsRaisedTally (signs ++ sign ∷ []) mark result.bound result.aboves }
     ensures low { result.aboves ≤ result.bound }
     ensures one { result.bound ≤ tally.bound + 1 }
 {
@@ -44,6 +46,8 @@ pub fn tally_behind(tally: Tally, signs: &[Sign]) -> Tally
     requires low { tally.aboves ≤ tally.bound }
     ensures tally { (before : List SeenSign) → IsTally before tally.bound tally.aboves
         → IsTally (before ++ signs.now) result.bound result.aboves }
+    ensures raised { (before : List SeenSign) (mark : ℕ) → IsRaisedTally before mark tally.bound tally.aboves
+        → IsRaisedTally (before ++ signs.now) mark result.bound result.aboves }
     ensures low { result.aboves ≤ result.bound }
     ensures few { result.bound ≤ tally.bound + length signs.now }
 {

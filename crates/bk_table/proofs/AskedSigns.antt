@@ -1,5 +1,8 @@
 -- What the first signs of a next move ask for: where it is more than is left, no word goes on by such a move.
-use Rattle.std.proofs.Common.{Bool, List, [], ap, append-nil, arith, drop, false, subst, sym, take, ℕ, ◌++◌, ◌+◌, ◌-◌, ◌<◌, ◌∙◌, ◌∷◌, ◌≡◌, ◌≤◌}
+use Rattle.std.proofs.Common.{Bool, List, [], ap, append-nil, arith, drop, false, inl, inr, length, refl, subst, sym, take, true, ℕ}
+use Rattle.std.proofs.Common.{◌++◌, ◌+◌, ◌-◌, ◌<◌, ◌∙◌, ◌∷◌, ◌≡◌, ◌≤◌, ◌⊎◌}
+use Rattle.std.proofs.lemmas.Bool.{cases_lt}
+use Rattle.std.proofs.lemmas.List.{length-drop}
 use Rattle.bk_word.specs.Outline.{Outline, has_left_wall, start, valley_place}
 use Rattle.bk_word.specs.Play.{IsLegal, outline_of, signs_apart}
 use Rattle.bk_word.specs.Word.{Move, Word, order_of}
@@ -7,17 +10,20 @@ use Rattle.bk_word.specs.declared.Sign.{Sign}
 use Rattle.bk_word.proofs.PlayLaws.{after-snoc, legal_front, legal_rest}
 use Rattle.bk_word.proofs.StoredBytes.{order_append, order_more}
 use Rattle.bk_bounds.proofs.BoundsOfWords.{shape_of_word}
-use Rattle.bk_bounds.proofs.ClosingLaws.{aboves, aboves-append, bound-append, bound-parts, unders}
+use Rattle.bk_bounds.proofs.ClosingLaws.{aboves, aboves-append, bound-append, bound-parts, bound_unders, unders, unders-append}
 use Rattle.bk_bounds.specs.ClosingBound.{closing_bound}
+use Rattle.bk_bounds.specs.VerticalCut.{line_bound, line_bound_of, lines_of, touched}
 use Rattle.bk_bounds.specs.SingleValleys.{single_valleys, sizes_of}
-use Rattle.bk_free_cuts.proofs.CutsOfTilings.{too_many_singles_is_free_barren}
+use Rattle.bk_free_cuts.proofs.CutsOfTilings.{too_many_lines_is_free_barren, too_many_singles_is_free_barren}
 use Rattle.bk_net_word.specs.NetWord.{IsNetBarren}
 use Rattle.bk_owed.proofs.LoneLaws.{lone_more}
 use Rattle.bk_owed.proofs.TallyLaws.{front_owes}
+use Rattle.bk_owed.specs.Tally.{IsRaisedTally}
 use Rattle.bk_owed.specs.Lone.{is_low, lone_squares}
 use Rattle.bk_table.proofs.Cutting.{cut}
+use Rattle.bk_table.proofs.LinesAsked.{behind_of_word, first_of_word}
 use Rattle.bk_table.proofs.LoneSquares.{behind_least, lone_after}
-use Rattle.bk_table.specs.Asking.{EndsOver, IsAsked, IsNext, singles_behind}
+use Rattle.bk_table.specs.Asking.{EndsOver, IsAsked, IsMark, IsNext, has_first_mark, line_bound_behind, singles_behind}
 
 -- after a move there are the valleys of one square that its signs tell of and those behind it
 all_singles : (front : Word) (m : Move) → IsLegal (front ++ m ∷ []) → lone_squares (has_left_wall (outline_of front)) m.signs
@@ -33,6 +39,13 @@ too_many_asked : (n : ℕ) (front : Word) (m : Move) → 2 ≤ n → (IsLegal (f
     + closing_bound (outline_of (front ++ m ∷ [])).signs
     + single_valleys (outline_of (front ++ m ∷ [])).signs (sizes_of (outline_of (front ++ m ∷ [])))) → IsNetBarren n (front ++ m ∷ [])
 too_many_asked n front m least owes = cut n (front ++ m ∷ []) (λ l w rest sound word is. too_many_singles_is_free_barren n (front ++ m ∷ []) least
+    (owes (legal_front start (front ++ m ∷ []) rest (subst IsLegal is word.complete.legal))) l w rest sound word is)
+
+-- so it is where lines from the top end
+too_many_marked : (n : ℕ) (front : Word) (m : Move) → 3 ≤ n → (IsLegal (front ++ m ∷ []) → n < order_of (front ++ m ∷ [])
+    + line_bound_of (front ++ m ∷ [])
+    + single_valleys (outline_of (front ++ m ∷ [])).signs (sizes_of (outline_of (front ++ m ∷ [])))) → IsNetBarren n (front ++ m ∷ [])
+too_many_marked n front m least owes = cut n (front ++ m ∷ []) (λ l w rest sound word is. too_many_lines_is_free_barren n (front ++ m ∷ []) least
     (owes (legal_front start (front ++ m ∷ []) rest (subst IsLegal is word.complete.legal))) l w rest sound word is)
 
 module _ (front : Word) (other : Move) (signs more : List Sign) (are : other.signs ≡ signs ++ more) where
@@ -66,6 +79,50 @@ module _ (front : Word) (other : Move) (signs more : List Sign) (are : other.sig
       all = ap (λ (o : Outline). closing_bound o.signs) (after-snoc start front other) ∙ bound-parts (signs_apart (outline_of front) other)
           ∙ ap (λ l. closing_bound (before ++ l ++ behind)) are
 
+  -- the first segment's closings, where it has a mark
+  marked_after : IsLegal (front ++ other ∷ []) → 0 < valley_place (outline_of front).signs → has_first_mark front ≡ true
+      → unders (before ++ signs) + unders behind + 1 ≤ line_bound_of (front ++ other ∷ [])
+  marked_after legal h e = omega (
+    arith,
+    first_of_word front other legal h e,
+    unders-append (before ++ other.signs) behind,
+    unders-append before other.signs,
+    unders-append before signs,
+    ap unders are,
+    unders-append signs more,
+  )
+
+  -- those behind the valley, where lines from the top end
+  lines_behind_after : IsLegal (front ++ other ∷ []) → 0 < line_bound_behind (valley_place (outline_of front).signs) front
+      → aboves (before ++ signs) + line_bound_behind (valley_place (outline_of front).signs) front ≤ line_bound_of (front ++ other ∷ [])
+  lines_behind_after legal some = cases (cases_lt (valley_place (outline_of front).signs) (length (outline_of front).signs))
+    where
+      none : (back : List Sign) (segments : List (List ℕ)) → length segments ≡ 0 → line_bound back (touched (lines_of front) segments) ≡ 0
+      none back [] z = refl
+      none back (s ∷ segments) z = absurd (omega arith)
+
+      cases : (valley_place (outline_of front).signs < length (outline_of front).signs)
+          ⊎ (length (outline_of front).signs ≤ valley_place (outline_of front).signs)
+          → aboves (before ++ signs) + line_bound_behind (valley_place (outline_of front).signs) front ≤ line_bound_of (front ++ other ∷ [])
+      cases (inl h) = omega (
+        arith,
+        behind_of_word front other legal h,
+        aboves-append before other.signs,
+        aboves-append before signs,
+        ap aboves are,
+        aboves-append signs more,
+      )
+      cases (inr h) = absurd (omega (
+        arith,
+        some,
+        none behind (drop (valley_place (outline_of front).signs + 1) (outline_of front).segments) (omega (
+          arith,
+          h,
+          length-drop (valley_place (outline_of front).signs + 1) (outline_of front).segments,
+          (shape_of_word front (legal_front start front (other ∷ []) legal)).many,
+        )),
+      ))
+
   -- and the valleys of one square
   singles_after : IsLegal (front ++ other ∷ []) → lone_squares (has_left_wall (outline_of front)) signs + singles_behind false (outline_of front)
       ≤ single_valleys (outline_of (front ++ other ∷ [])).signs (sizes_of (outline_of (front ++ other ∷ [])))
@@ -77,57 +134,90 @@ module _ (front : Word) (other : Move) (signs more : List Sign) (are : other.sig
     behind_least (is_low (has_left_wall (outline_of front)) other.signs) (outline_of front),
   )
 
--- a move whose signs begin with these is barren where they ask for more than there is room for
-pub asked_is_barred : (n count : ℕ) (front : Word) (signs : List Sign) (other : Move) (more : List Sign) (wanted room room_low room_above bound above found : ℕ)
-    (left_wall low : Bool) → 2 ≤ n → IsNext front count n left_wall wanted room room_low room_above → IsAsked front signs bound above found low
-    → room < bound + found → other.count ≡ count → other.signs ≡ signs ++ more → IsNetBarren n (front ++ other ∷ [])
-asked_is_barred n count front signs other more wanted room room_low room_above bound above found left_wall low least next asked over same are =
-    too_many_asked n front other least (λ legal. omega (
+-- a move is barren after which the raised bound of its first signs, and as many valleys of one square as are said, ask for more than is left
+raised_is_barred : (n : ℕ) (front : Word) (other : Move) (signs more : List Sign) (mark bound aboves singles : ℕ) → 2 ≤ n
+    → other.signs ≡ signs ++ more → IsMark n front mark
+    → IsRaisedTally (take (valley_place (outline_of front).signs - 1) (outline_of front).signs ++ signs) mark bound aboves
+    → (IsLegal (front ++ other ∷ []) → singles
+    ≤ single_valleys (outline_of (front ++ other ∷ [])).signs (sizes_of (outline_of (front ++ other ∷ []))))
+    → n < order_of (front ++ other ∷ []) + bound + unders (drop (valley_place (outline_of front).signs + 1) (outline_of front).signs) + singles
+    → IsNetBarren n (front ++ other ∷ [])
+raised_is_barred n front other signs more mark bound aboves singles least are marked tally all over =
+    cases (cases_lt (closing_bound (before front other signs more are ++ signs)) bound)
+  where
+    plain : bound ≤ closing_bound (before front other signs more are ++ signs) → IsNetBarren n (front ++ other ∷ [])
+    plain h = too_many_asked n front other least (λ legal. omega (arith, over, h, closings_after front other signs more are, all legal))
+
+    raised : closing_bound (before front other signs more are ++ signs) < bound → IsNetBarren n (front ++ other ∷ [])
+    raised h = too_many_marked n front other (marked.least some) (λ legal. omega (
       arith,
       over,
-      same,
-      next.room_is,
-      asked.tally.bound_is,
-      asked.lone.found_is,
-      closings_after front other signs more are,
-      singles_after front other signs more are legal,
-      order_append front (other ∷ []),
-      order_more other [],
+      is,
+      marked.few,
+      marked_after front other signs more are legal (marked.apart some) (marked.has some),
+      all legal,
     ))
+      where
+        is : bound ≡ unders (before front other signs more are ++ signs) + mark
+        is = omega (arith, h, tally.bound_is)
+
+        some : 0 < mark
+        some = omega (arith, h, is, bound_unders (before front other signs more are ++ signs))
+
+    cases : (closing_bound (before front other signs more are ++ signs) < bound) ⊎ (bound ≤ closing_bound (before front other signs more are ++ signs))
+        → IsNetBarren n (front ++ other ∷ [])
+    cases (inl h) = raised h
+    cases (inr h) = plain h
+
+-- a move whose signs begin with these is barren where they ask for more than there is room for
+pub asked_is_barred : (n count : ℕ) (front : Word) (signs : List Sign) (other : Move) (more : List Sign) (wanted room room_low room_above bound above found : ℕ)
+    (left_wall low : Bool) → 2 ≤ n → IsNext front count n left_wall wanted room room_low room_above → IsAsked n front signs bound above found low
+    → room < bound + found → other.count ≡ count → other.signs ≡ signs ++ more → IsNetBarren n (front ++ other ∷ [])
+asked_is_barred n count front signs other more wanted room room_low room_above bound above found left_wall low least next asked over same are =
+    raised_is_barred n front other signs more asked.mark bound above (found + singles_behind false (outline_of front)) least are asked.mark_is asked.tally
+    (λ legal. omega (arith, asked.lone.found_is, singles_after front other signs more are legal))
+    (omega (arith, over, same, next.room_is, order_append front (other ∷ []), order_more other []))
 
 -- so it is where they and what stands behind the valley do
 pub asked_behind_is_barred : (n count : ℕ) (front : Word) (signs : List Sign) (other : Move) (more : List Sign)
     (wanted room room_low room_above bound above found : ℕ) (left_wall low : Bool) → 2 ≤ n
-    → IsNext front count n left_wall wanted room room_low room_above → IsAsked front signs bound above found low → room_above < above + found
+    → IsNext front count n left_wall wanted room room_low room_above → IsAsked n front signs bound above found low → room_above < above + found
     → other.count ≡ count → other.signs ≡ signs ++ more → IsNetBarren n (front ++ other ∷ [])
 asked_behind_is_barred n count front signs other more wanted room room_low room_above bound above found left_wall low least next asked over same are =
-    too_many_asked n front other least (λ legal. omega (
+    cases (cases_lt 0 next.closings)
+  where
+    more_than : n < order_of (front ++ other ∷ []) + above + next.closings + found + singles_behind false (outline_of front)
+    more_than = omega (arith, over, same, next.room_above_is, order_append front (other ∷ []), order_more other [])
+
+    cases : (0 < next.closings) ⊎ (next.closings ≤ 0) → IsNetBarren n (front ++ other ∷ [])
+    cases (inl h) = too_many_marked n front other (next.closings_are.least h) (λ legal. omega (
       arith,
-      over,
-      same,
-      next.room_above_is,
+      more_than,
+      next.closings_are.are h,
+      asked.tally.aboves_is,
+      asked.lone.found_is,
+      lines_behind_after front other signs more are legal (omega (arith, h, next.closings_are.are h)),
+      singles_after front other signs more are legal,
+    ))
+    cases (inr h) = too_many_asked n front other least (λ legal. omega (
+      arith,
+      more_than,
+      h,
       asked.tally.aboves_is,
       asked.lone.found_is,
       closings_behind_after front other signs more are,
       singles_after front other signs more are legal,
-      order_append front (other ∷ []),
-      order_more other [],
     ))
 
 -- and a move of these signs where the segment behind them is low at the left, and they ask for more then
 pub ended_is_barred : (n : ℕ) (front : Word) (m : Move) (wanted room room_low room_above bound above found : ℕ) (left_wall low : Bool) → 2 ≤ n
-    → IsNext front m.count n left_wall wanted room room_low room_above → IsAsked front m.signs bound above found low → EndsOver bound found low room_low
+    → IsNext front m.count n left_wall wanted room room_low room_above → IsAsked n front m.signs bound above found low → EndsOver bound found low room_low
     → IsNetBarren n (front ++ m ∷ [])
 ended_is_barred n front m wanted room room_low room_above bound above found left_wall low least next asked over =
-    too_many_asked n front m least (λ legal. omega (
+    raised_is_barred n front m m.signs [] asked.mark bound above (found + singles_behind true (outline_of front)) least (sym (append-nil m.signs))
+    asked.mark_is asked.tally (λ legal. omega (
       arith,
-      over.over,
-      next.room_low_is,
-      asked.tally.bound_is,
       asked.lone.found_is,
-      closings_after front m m.signs [] (sym (append-nil m.signs)),
       all_singles front m legal,
       ap (λ b. singles_behind b (outline_of front)) (sym asked.lone.now_is ∙ over.low_is),
-      order_append front (m ∷ []),
-      order_more m [],
-    ))
+    )) (omega (arith, over.over, next.room_low_is, order_append front (m ∷ []), order_more m []))

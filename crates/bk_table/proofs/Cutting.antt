@@ -9,9 +9,7 @@ use Rattle.bk_word.specs.Word.{Move, Word, order_of}
 use Rattle.bk_word.specs.declared.Sign.{Sign}
 use Rattle.bk_word.specs.declared.Sign.TheVariants.{Above, Even}
 use Rattle.bk_free_cuts.proofs.CutsOfTilings.{even_squares_are_free_barren, one_segment_is_free_barren, one_under_one_is_free_barren}
-use Rattle.bk_free_cuts.proofs.CutsOfTilings.{staying_above_is_free_barren, too_many_lines_is_free_barren}
-use Rattle.bk_bounds.specs.SingleValleys.{single_valleys, sizes_of}
-use Rattle.bk_bounds.specs.VerticalCut.{line_bound_of}
+use Rattle.bk_free_cuts.proofs.CutsOfTilings.{staying_above_is_free_barren}
 use Rattle.bk_word.proofs.PlayLaws.{few_signs}
 use Rattle.bk_word.proofs.StoredBytes.{order_more}
 use Rattle.bk_free_cuts.proofs.CutByNodes.{shared_node_is_free_barren}
@@ -79,17 +77,6 @@ even_is_barred n front signs sign count other more least most even same are =
     cut n (front ++ other ∷ []) (even_squares_are_free_barren n front other
     (contained (open_side (has_left_wall (outline_of front))) (other.count - 1) (length signs) other.signs Even least (omega arith)
     (ap (λ l. slice_get l (length signs)) are ∙ sign_behind signs sign more ∙ ap (λ s. Some s) even)))
-
--- too many are owed: where lines from the top end, and to valleys of one square
-pub too_many_lines : (n : ℕ) (front : Word) (left closings singles : ℕ) → 3 ≤ n → left ≡ n - order_of front → closings ≡ line_bound_of front
-    → singles ≡ single_valleys (outline_of front).signs (sizes_of (outline_of front)) → left < closings + singles → IsNetBarren n front
-too_many_lines n front left closings singles least l c s over = cut n front (too_many_lines_is_free_barren n front least (omega (arith, over, l, c, s)))
-
--- too many are owed where lines from the top end
-pub too_many_ends : (n : ℕ) (front : Word) (left closings : ℕ) → 3 ≤ n → left ≡ n - order_of front → closings ≡ line_bound_of front → left < closings
-    → IsNetBarren n front
-too_many_ends n front left closings least l c over = too_many_lines n front left closings
-    (single_valleys (outline_of front).signs (sizes_of (outline_of front))) least l c refl (omega (arith, over))
 
 -- one segment is left too early
 pub one_segment : (n : ℕ) (front : Word) → 0 < length front → order_of front < n → length (outline_of front).segments ≡ 1 → IsNetBarren n front

@@ -5,6 +5,7 @@ pub mod Cutting
 pub mod Keeping
 pub mod LeftLines
 pub mod LineSets
+pub mod LinesAsked
 pub mod LinesBeside
 pub mod LoneSquares
 pub mod PackedOrder
@@ -14,6 +15,7 @@ pub mod Spans
 pub mod SpanExamples
 pub mod FirstNumbers
 pub mod RightLines
+pub mod SegmentsBehind
 pub mod SharedSegments
 pub mod TopLineExamples
 pub mod TopLineMarks

@@ -1,19 +1,17 @@
 //! What a next move's first signs ask for, counted sign by sign.
 
 ghost use Rattle.std.specs.Prelude.{IsTrue, List, [], drop, false, length, true, ℕ, ◌++◌, ◌+◌, ◌-◌, ◌<◌, ◌∷◌, ◌≡◌, ◌≤◌};
-ghost use Rattle.bk_bounds.specs.ClosingBound.{closing_bound as bound_of};
 ghost use Rattle.bk_bounds.specs.SingleValleys.{single_valleys_from};
-ghost use Rattle.bk_word.specs.Outline.{open_side};
-ghost use Rattle.bk_word.specs.Play.{IsLegal, outline_of};
+ghost use Rattle.bk_word.specs.Outline.{open_side, valley_place};
+ghost use Rattle.bk_word.specs.Play.{outline_of};
 ghost use Rattle.bk_word.specs.Word.{Word as Moves, order_of};
 ghost use Rattle.bk_word.specs.declared.Sign.{Sign as SeenSign};
-ghost use Rattle.bk_table.specs.Asking.{EndsOver, IsAsked, IsNext, StandBeside, singles_behind};
+ghost use Rattle.bk_table.specs.Asking.{AreClosingsBehind, EndsOver, IsAsked, IsMark, IsNext, StandBeside};
 
+use crate::board::Board;
 use bk_owed::{
-    Lone, Tally, closing_bound, first_above, lone_with, single_valleys, tally_behind, tally_with,
-    unders_behind,
+    Lone, Tally, first_above, lone_with, single_valleys, tally_behind, tally_with, unders_behind,
 };
-use bk_skel::Skel;
 use bk_word::Sign;
 
 /// What stands beside the leftmost valley: whether the walls do, how many signs are under behind it, the closing bound there, how many
@@ -55,19 +53,19 @@ pub(crate) struct Asked {
     pub(crate) lone: Lone,
 }
 
-/// What stands beside the leftmost valley.
-pub(crate) fn stand_beside(skel: &Skel) -> Beside
-    requires legal { IsLegal skel.now }
-    requires few { order_of skel.now ≤ 200 }
-    ensures beside { StandBeside skel.now result.left_wall result.right_wall result.unders result.closings result.behind.singles
+/// What stands beside the leftmost valley of a board, from which words of the order are looked for.
+pub(crate) fn stand_beside(board: &Board, order: u8) -> Beside
+    requires few { order_of board.now ≤ 200 }
+    ensures beside { StandBeside order board.now result.left_wall result.right_wall result.unders result.closings result.behind.singles
         result.behind.singles_low }
-    ensures asked { IsAsked skel.now [] result.asked.tally.bound result.asked.tally.aboves result.asked.lone.found result.asked.lone.low }
-    ensures few { result.asked.tally.bound + result.asked.lone.found ≤ 400 }
+    ensures asked { IsAsked order board.now [] result.asked.tally.bound result.asked.tally.aboves result.asked.lone.found result.asked.lone.low }
+    ensures few { result.asked.tally.bound + result.asked.lone.found ≤ 401 }
 {
+    let skel = board.skel();
     let signs = skel.signs();
     let place = first_above(signs);
-    let none = Tally {
-        bound: 0,
+    let marked = Tally {
+        bound: first_mark(board, place, order),
         aboves: 0,
     };
     let left_wall = place == 0;
@@ -75,10 +73,10 @@ pub(crate) fn stand_beside(skel: &Skel) -> Beside
         left_wall,
         right_wall: place == signs.len(),
         unders: unders_behind(signs, place),
-        closings: closings_behind(signs, place),
+        closings: closings_behind(board, place, order),
         behind: behind_valley(signs, skel.sizes(), place),
         asked: Asked {
-            tally: tally_behind(none, &signs[..place.saturating_sub(1)]),
+            tally: tally_behind(marked, &signs[..place.saturating_sub(1)]),
             lone: Lone {
                 found: 0,
                 low: left_wall,
@@ -87,16 +85,29 @@ pub(crate) fn stand_beside(skel: &Skel) -> Beside
     }
 }
 
-// The closing bound of the signs behind the valley at a place.
-fn closings_behind(signs: &[Sign], place: usize) -> usize
-    requires few { length signs.now < 1000 }
-    requires place { place ≤ length signs.now }
-    ensures { result ≡ bound_of (drop (place + 1) signs.now) }
+// One where the first segment has a mark at orders of at least 3, and isn't the valley at this place.
+fn first_mark(board: &Board, place: usize, order: u8) -> usize
+    requires place { place ≡ valley_place (outline_of board.now).signs }
+    ensures few { result ≤ 1 }
+    ensures mark { IsMark order board.now result }
 {
-    if place == signs.len() {
-        return 0;
+    if order >= 3 && place > 0 {
+        usize::from(board.is_first_touched())
+    } else {
+        0
     }
-    closing_bound(&signs[place + 1..])
+}
+
+// The closing bound of the segments behind the valley at a place, where at orders of at least 3 those with a mark have one closing more.
+fn closings_behind(board: &Board, place: usize, order: u8) -> usize
+    requires place { place ≡ valley_place (outline_of board.now).signs }
+    ensures { AreClosingsBehind order board.now result }
+{
+    if order >= 3 {
+        board.line_bound_behind(place)
+    } else {
+        0
+    }
 }
 
 // The valleys of one square behind the valley at a place.
@@ -142,7 +153,7 @@ pub(crate) fn next_of(beside: Beside, count: u8, left: usize) -> Next
     requires some { 0 < count }
     requires few { count ≤ 16 }
     ensures next { (front : Moves) (order : ℕ)
-        → StandBeside front beside.left_wall beside.right_wall beside.unders beside.closings beside.behind.singles
+        → StandBeside order front beside.left_wall beside.right_wall beside.unders beside.closings beside.behind.singles
         beside.behind.singles_low
         → left ≡ order - order_of front - count → IsNext front count order result.left_wall result.wanted result.room result.room_low
         result.room_above }
@@ -172,9 +183,9 @@ fn open_side(wall: bool) -> u8
 pub(crate) fn asked_with(asked: Asked, sign: Sign) -> Asked
     requires few { asked.tally.bound + asked.lone.found ≤ 1000 }
     requires low { asked.tally.aboves ≤ asked.tally.bound }
-    ensures asked { (front : Moves) (signs : List SeenSign)
-        → IsAsked front signs asked.tally.bound asked.tally.aboves asked.lone.found asked.lone.low
-        → IsAsked front (signs ++ sign ∷ []) result.tally.bound result.tally.aboves result.lone.found result.lone.low }
+    ensures asked { (n : ℕ) (front : Moves) (signs : List SeenSign)
+        → IsAsked n front signs asked.tally.bound asked.tally.aboves asked.lone.found asked.lone.low
+        → IsAsked n front (signs ++ sign ∷ []) result.tally.bound result.tally.aboves result.lone.found result.lone.low }
     ensures few { result.tally.bound + result.lone.found ≤ asked.tally.bound + asked.lone.found + 2 }
     ensures low { result.tally.aboves ≤ result.tally.bound }
 {

@@ -1,18 +1,18 @@
 //! Words that are played and taken back by the search, with the lines at the left of their squares.
 #![tactic(auto)]
 
-ghost use Rattle.std.specs.Prelude.{IsTrue, [], cond, length, nat_eq, take, ◌++◌, ◌+◌, ◌-◌, ◌<◌, ◌∷◌, ◌≡◌, ◌≤◌};
-ghost use Rattle.bk_bounds.specs.VerticalCut.{line_bound_of};
+ghost use Rattle.std.specs.Prelude.{IsTrue, [], cond, length, nat_eq, take, true, ◌++◌, ◌+◌, ◌-◌, ◌<◌, ◌∷◌, ◌≡◌, ◌≤◌};
 ghost use Rattle.bk_word.specs.Outline.{IsLegalMove};
 ghost use Rattle.bk_word.specs.Play.{IsLegal, outline_of};
 ghost use Rattle.bk_word.specs.Word.{order_of};
 ghost use Rattle.bk_free_cuts.specs.LineNumbers.{lefts_of};
+ghost use Rattle.bk_table.specs.Asking.{has_first_mark, line_bound_behind};
 ghost use Rattle.bk_table.specs.NodeLines.{ShareLines};
 
 use crate::line_set::LineSet;
 use crate::node_lines::{has_both, node_lines};
 use crate::sides::{left_of, left_of_first, push_lefts, push_rights, right_of, right_of_last};
-use crate::top_lines::line_bound;
+use crate::top_lines::{is_first_touched, line_bound_from};
 use arrayvec::ArrayVec;
 use bk_skel::Skel;
 use bk_word::{LARGEST_ORDER, Move};
@@ -83,16 +83,30 @@ impl Board {
         has_both(&self.nodes, left, right)
     }
 
-    /// The closing bound after the moves, where a segment that a line from the top bounds or ended on has one closing more.
-    pub(crate) fn line_bound(&self) -> usize
-        ensures { result ≡ line_bound_of self.now }
+    /// Whether a line from the top bounds the first open segment or ended on it.
+    pub(crate) fn is_first_touched(&self) -> bool
+        ensures { IsTrue result → has_first_mark self.now ≡ true }
     {
-        line_bound(
-            self.skel.signs(),
+        is_first_touched(self.skel.sizes(), self.skel.ends(), &self.lefts, self.first)
+    }
+
+    /// The closing bound of the segments behind the one at a place, where one that a line from the top bounds or ended on has one
+    /// closing more; 0 where there are none.
+    pub(crate) fn line_bound_behind(&self, place: usize) -> usize
+        requires { place ≤ length (outline_of self.now).signs }
+        ensures { result ≡ line_bound_behind place self.now }
+    {
+        let signs = self.skel.signs();
+        if place == signs.len() {
+            return 0;
+        }
+        line_bound_from(
+            signs,
             self.skel.sizes(),
             self.skel.ends(),
             &self.lefts,
             self.first,
+            place + 1,
         )
     }
 

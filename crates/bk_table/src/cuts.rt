@@ -12,7 +12,6 @@ ghost use Rattle.bk_net_word.specs.NetWord.{IsNetBarren};
 
 use crate::board::Board;
 use crate::sharing::shares_a_node;
-use bk_owed::single_valleys;
 use bk_skel::Skel;
 use bk_word::{Move, Sign};
 
@@ -93,19 +92,12 @@ fn is_own(place: usize, left_wall: bool, count: u8) -> bool
 }
 
 // Whether no word of the order begins with the board's moves, of which the last one hangs so many squares: one segment is left
-// too early, the open ones ask for more squares than are left, or two lines at one segment share a closed node. The lines are
-// looked at after a move of one square alone: others bring no two old lines to one segment.
+// too early, or two lines at one segment share a closed node. The lines are looked at after a move of one square alone: others bring
+// no two old lines to one segment. That the open segments ask for more squares than are left is asked before the move is played.
 pub(crate) fn is_barren(board: &Board, last: u8, order: u8) -> bool
     ensures { IsTrue result → IsNetBarren order board.now }
 {
-    cannot_end(board, order) || is_parted(board, last)
-}
-
-// Whether the open segments can't be closed by the squares that are left: one is left too early, or they ask for more squares.
-fn cannot_end(board: &Board, order: u8) -> bool
-    ensures { IsTrue result → IsNetBarren order board.now }
-{
-    is_whole_early(board.skel(), order) || owes_too_many(board, order)
+    is_whole_early(board.skel(), order) || is_parted(board, last)
 }
 
 // Whether one segment is left while fewer squares hang than the order.
@@ -113,21 +105,6 @@ fn is_whole_early(skel: &Skel, order: u8) -> bool
     ensures { IsTrue result → IsNetBarren order skel.now }
 {
     skel.is_closed() && skel.order() < usize::from(order)
-}
-
-// Whether fewer squares are left than must be hung: one for each segment that ends above its neighbour on one segment's side,
-// one for that segment itself where a line from the top bounds it or ended on it, and one more for each valley of one square.
-// At orders under 3 nothing is said.
-fn owes_too_many(board: &Board, order: u8) -> bool
-    ensures { IsTrue result → IsNetBarren order board.now }
-{
-    if order < 3 {
-        return false;
-    }
-    let skel = board.skel();
-    let left = usize::from(order).saturating_sub(skel.order());
-    let closings = board.line_bound();
-    closings > left || single_valleys(skel.signs(), skel.sizes()) > left - closings
 }
 
 // Whether the last move hangs one square, and then two lines at one open segment bound a part of the tiling.

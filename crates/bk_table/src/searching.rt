@@ -51,7 +51,7 @@ pub fn search<S: Leaves>(leaves: &mut S, order: u8, count: u8)
         return;
     }
     let mut board = Board::new();
-    let around = stand_beside(board.skel());
+    let around = stand_beside(&board, order);
     let next = next_of(around, count, usize::from(order - count));
     let mut m = Move {
         count,
@@ -72,7 +72,7 @@ fn with_counts<S: Leaves>(board: &mut Board, leaves: &mut S, order: u8)
     ensures board { board.new ≡ board.old }
 {
     let left = order - board.skel().order() as u8;
-    let around = stand_beside(board.skel());
+    let around = stand_beside(board, order);
     let mut m = Move {
         count: 0,
         signs: ArrayVec::new(),
@@ -111,7 +111,7 @@ fn with_signs<S: Leaves>(
         (has_right_wall (outline_of board.old)) }
     requires next { IsNext board.old m.old.count order next.left_wall next.wanted next.room next.room_low next.room_above }
     requires room { next.room ≤ 16 }
-    requires asked { IsAsked board.old m.old.signs asked.tally.bound asked.tally.aboves asked.lone.found asked.lone.low }
+    requires asked { IsAsked order board.old m.old.signs asked.tally.bound asked.tally.aboves asked.lone.found asked.lone.low }
     requires asking { asked.tally.bound + asked.lone.found ≤ 1000 }
     ensures all { (w : Moves) → IsSought order w → GoesOnBy board.old m.old.count m.old.signs w → S.has_met leaves.new w }
     ensures kept { (w : Moves) → S.has_met leaves.old w → S.has_met leaves.new w }
@@ -151,7 +151,7 @@ fn with_sign<S: Leaves>(
         (has_right_wall (outline_of board.old)) }
     requires next { IsNext board.old m.old.count order next.left_wall next.wanted next.room next.room_low next.room_above }
     requires room { next.room ≤ 16 }
-    requires asked { IsAsked board.old m.old.signs asked.tally.bound asked.tally.aboves asked.lone.found asked.lone.low }
+    requires asked { IsAsked order board.old m.old.signs asked.tally.bound asked.tally.aboves asked.lone.found asked.lone.low }
     requires asking { asked.tally.bound + asked.lone.found ≤ 1000 }
     ensures all { (w : Moves) → IsSought order w → GoesOnBy board.old m.old.count (m.old.signs ++ sign ∷ []) w → S.has_met leaves.new w }
     ensures kept { (w : Moves) → S.has_met leaves.old w → S.has_met leaves.new w }

@@ -1,7 +1,7 @@
 //! How many squares are still to hang at least, where lines run from the top between squares of the first move.
 
 ghost use Rattle.std.specs.List.{list_any, sum};
-ghost use Rattle.std.specs.Prelude.{cond, drop, length, take, ◌||◌, ◌+◌, ◌≡◌, ◌≤◌};
+ghost use Rattle.std.specs.Prelude.{IsTrue, cond, drop, false, length, slice_index_or, take, true, ◌||◌, ◌+◌, ◌<◌, ◌^◌, ◌≡◌, ◌≤◌};
 ghost use Rattle.bk_bounds.specs.VerticalCut.{begins_on_line, line_bound, on_line, segments_of, touched};
 ghost use Rattle.bk_table.specs.TopLines.{is_top_line, on_top_lines};
 
@@ -36,6 +36,46 @@ pub(crate) fn line_bound(
         start += usize::from(sizes[i]);
     }
     most.max(aboves + touch(ends, start, sizes[signs.len()], 0, lefts, first))
+}
+
+/// Whether a line from the top bounds the first of the open segments or ended on it. (Own.)
+pub(crate) fn is_first_touched(sizes: &[u8], ends: &[u8], lefts: &[u8], first: u8) -> bool
+    requires some { 0 < length sizes.now }
+    requires enough { sum sizes.now ≤ length ends.now }
+    ensures { IsTrue result → slice_index_or (touched (on_top_lines first lefts.now) (segments_of sizes.now ends.now)) 0 false ≡ true }
+{
+    let next = if sizes.len() > 1 { sizes[1] } else { 0 };
+    touch(ends, 0, sizes[0], next, lefts, first) == 1
+}
+
+/// The closing bound of the segments from a place on, where one that a line from the top touches has one closing more. (Own.)
+pub(crate) fn line_bound_from(
+    signs: &[Sign],
+    sizes: &[u8],
+    ends: &[u8],
+    lefts: &[u8],
+    first: u8,
+    from: usize,
+) -> usize
+    requires long { length sizes.now ≡ length signs.now + 1 }
+    requires enough { sum sizes.now ≤ length ends.now }
+    requires from { from ≤ length signs.now }
+    ensures { result ≡ line_bound (drop from signs.now) (touched (on_top_lines first lefts.now) (drop from (segments_of sizes.now ends.now))) }
+{
+    let start = squares_in(&sizes[..from]);
+    line_bound(&signs[from..], &sizes[from..], &ends[start..], lefts, first)
+}
+
+// How many squares segments of these sizes have.
+fn squares_in(sizes: &[u8]) -> usize
+    requires { sum sizes.now < 2 ^ 64 }
+    ensures { result ≡ sum sizes.now }
+{
+    let mut squares: usize = 0;
+    'sizes: for size in sizes {
+        squares += usize::from(*size);
+    }
+    squares
 }
 
 // One where a line from the top bounds the segment of so many of the squares from a place on, in front of a segment of as many

@@ -1,10 +1,7 @@
-use Rattle.std.proofs.Common.{ap, arith, length-drop, sym, ◌+◌}
-use Rattle.std.proofs.lemmas.List.{drop_all}
-use Rattle.bk_bounds.specs.ClosingBound.{closing_bound}
+use Rattle.std.proofs.Common.{arith}
+use Rattle.bk_word.specs.Play.{outline_of}
+use Rattle.bk_bounds.proofs.SingleLaws.{place_within}
 use Rattle.bk_table.proofs.asking.closings_behind.Goals as goal
 
-pub returns-then-place-signs : goal.returns-then-place-signs
-returns-then-place-signs c = sym (ap closing_bound (drop_all (c.args.place + 1) c.args.signs.now (omega (arith, c.if-place-signs.true))))
-
-pub closing_bound-requires : goal.closing_bound-requires
-closing_bound-requires c = omega (arith, length-drop (c.args.place + 1) c.args.signs.now, c.requires.few)
+pub line_bound_behind-requires : goal.line_bound_behind-requires
+line_bound_behind-requires c = omega (arith, c.requires.place, place_within (outline_of c.args.board.now).signs)

@@ -20,7 +20,7 @@ with_counts-counts-init g t c = record {
   board = refl;
   signs = c.new.ensures;
   all = λ w sought h few. absurd (next_fertile c.args.order c.args.board.now w h.move h.rest sought h.is
-      (subst (λ (v : Word). IsNetBarren c.args.order (v ++ h.move ∷ [])) c.skel-3.ensures.value
+      (subst (λ (v : Word). IsNetBarren c.args.order (v ++ h.move ∷ [])) c.skel-2.ensures.value
       (c.least_count-count.ensures.barren c.args.order h.move few h.legal.some)));
   kept = λ w met. met;
   fixed = refl;
@@ -85,8 +85,8 @@ with_sign-returns-then-is_over-clause-all g t c w sought on =
     (asked_is_barred c.args.order c.args.m.now.count c.args.board.now (c.args.m.now.signs ++ c.args.sign ∷ []) on.move on.more c.args.next.wanted
     c.args.next.room c.args.next.room_low c.args.next.room_above more.tally.bound more.tally.aboves more.lone.found
     c.args.next.left_wall more.lone.low c.requires.least c.requires.next
-    (c.asked_with-more.ensures.asked c.args.board.now c.args.m.now.signs c.requires.asked) (c.is_over.ensures.over c.if-is_over.true) on.count_is
-    on.signs_are))
+    (c.asked_with-more.ensures.asked c.args.order c.args.board.now c.args.m.now.signs c.requires.asked)
+    (c.is_over.ensures.over c.if-is_over.true) on.count_is on.signs_are))
 
 pub with_sign-returns-then-is_over_behind-clause-all : goal.with_sign-returns-then-is_over_behind-clause-all
 with_sign-returns-then-is_over_behind-clause-all g t c w sought on =
@@ -95,8 +95,8 @@ with_sign-returns-then-is_over_behind-clause-all g t c w sought on =
     (asked_behind_is_barred c.args.order c.args.m.now.count c.args.board.now (c.args.m.now.signs ++ c.args.sign ∷ []) on.move on.more c.args.next.wanted
     c.args.next.room c.args.next.room_low c.args.next.room_above more.tally.bound more.tally.aboves more.lone.found
     c.args.next.left_wall more.lone.low c.requires.least c.requires.next
-    (c.asked_with-more.ensures.asked c.args.board.now c.args.m.now.signs c.requires.asked) (c.is_over_behind.ensures c.if-is_over_behind.true) on.count_is
-    on.signs_are))
+    (c.asked_with-more.ensures.asked c.args.order c.args.board.now c.args.m.now.signs c.requires.asked)
+    (c.is_over_behind.ensures c.if-is_over_behind.true) on.count_is on.signs_are))
 
 pub with_sign-returns-clause-all : goal.with_sign-returns-clause-all
 with_sign-returns-clause-all g t c w sought on =

@@ -1,7 +1,6 @@
-use Rattle.std.proofs.Common.{[], ap, arith, slice_get, subst, ◌≡◌}
+use Rattle.std.proofs.Common.{[], ap, arith, slice_get, ◌≡◌}
 use Rattle.bk_word.specs.Word.{Word, order_of}
 use Rattle.bk_table.proofs.NextMoves.{by_count, first_move, next_fits}
-use Rattle.bk_table.specs.Asking.{StandBeside}
 use Rattle.bk_table.proofs.searching.search.Goals as goal
 use Rattle.bk_table.proofs.searching.search.Goals.{then-count-eq0-via-else-count-eq0+then-count-order, then-count-eq0-via-then-count-eq0}
 
@@ -21,10 +20,5 @@ returns-clause-all g c w sought first =
     c.with_signs.ensures.all w sought (by_count [] c.new-board.result w h c.args.count c.new.result.items c.new-board.ensures same c.new.ensures)
 
 pub with_signs-requires-clause-next : goal.with_signs-requires-clause-next
-with_signs-requires-clause-next g c =
-    let same = c.skel.ensures.value in
-    let around = c.stand_beside-around.result in
-    c.next_of-next.ensures.next c.new-board.result c.args.order
-    (subst (λ (w : Word). StandBeside w around.left_wall around.right_wall around.unders around.closings around.behind.singles around.behind.singles_low) same
-    c.stand_beside-around.ensures.beside)
+with_signs-requires-clause-next g c = c.next_of-next.ensures.next c.new-board.result c.args.order c.stand_beside-around.ensures.beside
     (omega (arith, c.from.ensures, ap order_of c.new-board.ensures))

@@ -1,6 +1,0 @@
-use Rattle.std.proofs.Common.{subst}
-use Rattle.bk_net_word.specs.NetWord.{IsNetBarren}
-use Rattle.bk_table.proofs.cuts.cannot_end.Goals as goal
-
-pub returns-then-is_whole_early : goal.returns-then-is_whole_early
-returns-then-is_whole_early c early = subst (IsNetBarren c.args.order) c.skel.ensures.value (c.is_whole_early.ensures early)
