@@ -9,13 +9,13 @@ use Rattle.bk_tiling.specs.Scale.{IsPrimitiveTiling}
 use Rattle.bk_tiling.specs.Tiling.{IsTiling, Tiling}
 use Rattle.bk_tiling.specs.declared.Square.{Square}
 use Rattle.bk_net.specs.Flow.{IsPrimitiveFlow}
-use Rattle.bk_net.specs.Net.{HasNoLoose, IsNet, Net}
+use Rattle.bk_net.specs.Net.{HasNoLoose, Net}
 use Rattle.bk_word.specs.Play.{IsComplete}
 use Rattle.bk_word.specs.Word.{Word, order_of}
 use Rattle.bk_word_net.specs.WordNet.{net_of_word}
 use Rattle.bk_signed_word.specs.SignedWord.{IsSignedWordOf}
 use Rattle.bk_leaf.proofs.Leaves.{accepted_found, as_many_lefts, currents_many, currents_small, ends_within, height_found, in_order_found, joined, lines_known}
-use Rattle.bk_leaf.proofs.Leaves.{no_zero_found, nodes_few, total_small, width_found, wires_are, word_net}
+use Rattle.bk_leaf.proofs.Leaves.{no_zero_found, nodes_few, total_small, width_found, wires_are}
 use Rattle.bk_leaf.proofs.LevelSteps.{fits_small}
 use Rattle.bk_free_cuts.specs.LineNumbers.{lefts_of}
 use Rattle.bk_leaf.specs.Placing.{AreKnownLines, AreLevels, AreSmall, EndWithin, HasLevels, IsPlacedAt, IsSmall, edges_by_lefts}
@@ -46,9 +46,6 @@ module _ (w : Word) (complete : IsComplete w) (few : order_of w ≤ 16) (net : N
 
   pub net_joined : HasNoLoose net
   net_joined = subst HasNoLoose (sym net_is) (joined w complete few)
-
-  pub net_is_one : IsNet net
-  net_is_one = subst IsNet (sym net_is) (word_net w complete few)
 
   pub net_nodes : net.nodes ≤ 17
   net_nodes = omega (arith, ap (λ (n : Net). n.nodes) net_is, nodes_few w complete few)

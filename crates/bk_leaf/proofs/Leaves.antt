@@ -74,9 +74,6 @@ module _ (w : Word) (complete : IsComplete w) (few : order_of w ≤ 16) where
   pub nodes_few : (net_of_word w).nodes ≤ 17
   nodes_few = omega (arith, few, closed_count start w, moves_many start w complete.legal)
 
-  pub nodes_some : 0 < (net_of_word w).nodes
-  nodes_some = omega arith
-
   pub ends_within : EndWithin 17 (net_of_word w).wires
   ends_within k h = let e = ((a_word_net_has_no_loose w complete).0).ends k (0, 0) h in (omega (arith, e.0, nodes_few), omega (arith, e.1, nodes_few))
 

@@ -178,11 +178,6 @@ pub record ArePlaced (lefts : List ℕ) (wires : List (ℕ × ℕ)) (currents le
   pub many : length squares ≡ n
   pub each : (k : ℕ) → k < n → IsPlacedAt lefts wires currents levels rights total k (slice_index_or squares k (record { x = 0; y = 0; s = 0 }))
 
--- before the first square none is placed
-pub placed_none : (lefts : List ℕ) (wires : List (ℕ × ℕ)) (currents levels rights : List ℤ) (total : ℤ) → ArePlaced lefts wires currents levels
-    rights total [] 0
-placed_none lefts wires currents levels rights total = record { many = refl; each = λ k h. absurd (omega arith) }
-
 -- one square more, at its level and its line
 pub placed_more : (lefts : List ℕ) (wires : List (ℕ × ℕ)) (currents levels rights : List ℤ) (total : ℤ) (squares : List Square) (n : ℕ) (q : Square)
     → ArePlaced lefts wires currents levels rights total squares n

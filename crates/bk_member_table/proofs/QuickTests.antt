@@ -1,7 +1,7 @@
 -- What quick tests of a tiling's squares in any order show: a longer square in a corner, and two squares of one side.
 use Rattle.std.specs.Prelude.{count_by, get_or, ◌==◌}
-use Rattle.std.proofs.Common.{List, arith, inl, inr, length, refl, slice_index_or, subst, sym, ℕ, ◌+◌, ◌<◌, ◌∙◌, ◌≡◌, ◌≤◌}
-use Rattle.std.proofs.lemmas.Bool.{cases_lt, eq-eqb, eqb-true}
+use Rattle.std.proofs.Common.{List, arith, length, refl, slice_index_or, subst, sym, ℕ, ◌<◌, ◌∙◌, ◌≡◌, ◌≤◌}
+use Rattle.std.proofs.lemmas.Bool.{eq-eqb, eqb-true}
 use Rattle.bk_laws.proofs.Counts.{count_two}
 use Rattle.bk_tiling.proofs.Members.{one_at}
 use Rattle.bk_tiling.proofs.OrderLaws.{in_code_order-count}
@@ -70,22 +70,3 @@ perfect_if_none t squares same none i j d before below e = none w.first w.second
           in_code_order-count (λ q. q.s == (get_or t.squares i d).s) squares,
           subst (λ (l : List Square). 2 ≤ count_by (λ q. q.s == (get_or t.squares i d).s) l) (sym same) twice,
         ))
-
--- one more place that was looked at
-pub none_more : (squares : List Square) (i : ℕ) → ((a b : ℕ) → a < b → b < i → (slice_index_or squares a nowhere).s ≡ (slice_index_or squares b
-    nowhere).s → ⊥)
-    → ((a : ℕ) → a < i → (slice_index_or squares a nowhere).s ≡ (slice_index_or squares i nowhere).s → ⊥)
-    → (a b : ℕ) → a < b → b < i + 1 → (slice_index_or squares a nowhere).s ≡ (slice_index_or squares b nowhere).s → ⊥
-none_more squares i before here a b ab high e = elim (cases_lt b i) [
-  | inl low ↦ before a b ab low e
-  | inr up ↦ let same : b ≡ i = omega (arith, up, high) in
-      here a (omega (arith, ab, same)) (subst (λ (n : ℕ). (slice_index_or squares a nowhere).s ≡ (slice_index_or squares n nowhere).s) same e)
-]
-
--- where none of the first squares and not the next one has the side, none of them all has it
-pub none_before : (squares : List Square) (side i : ℕ) → ((a : ℕ) → a < i → (slice_index_or squares a nowhere).s ≡ side → ⊥)
-    → ((slice_index_or squares i nowhere).s ≡ side → ⊥) → (a : ℕ) → a < i + 1 → (slice_index_or squares a nowhere).s ≡ side → ⊥
-none_before squares side i before here a high e = elim (cases_lt a i) [
-  | inl low ↦ before a low e
-  | inr up ↦ let same : a ≡ i = omega (arith, up, high) in here (subst (λ (n : ℕ). (slice_index_or squares n nowhere).s ≡ side) same e)
-]

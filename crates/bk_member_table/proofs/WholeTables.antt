@@ -52,14 +52,6 @@ whole_table n count s least all e is by =
     let net = a_simple_tiling_has_a_net_word e.tiling (is.member).tiling (is.member).simple (subst (λ k. 3 ≤ k) (sym (is.member).order) least) in
     all net.0 (sought n s.class e net.0 is net.1) (begins n count s.class e net.0 is net.1 by) n e is (net.1).signed
 
--- no word begins by no square
-first_some : (w : Word) → IsLegal w → 0 < length w → BeginsBy 0 w → ⊥
-first_some [] legal some by = omega (arith, some)
-first_some (m ∷ w) legal some by = omega (arith, by m refl, (legal.0).some)
-
-pub empty_table : (n : ℕ) (s : Finding) → IsWhole (record { order = n; count = 0; found = s })
-empty_table n s e is by = let c = (entry_complete n s.class e is).0 in absurd (first_some e.word c.legal c.some by)
-
 -- ---- what a whole table rules out
 
 begins_by_front : (count : ℕ) (front rest : Word) → 0 < length front → BeginsBy count front → BeginsBy count (front ++ rest)

@@ -1,5 +1,5 @@
 -- New squares that are valleys, sign by sign.
-use Rattle.std.proofs.Common.{Bool, List, [], ap, arith, false, refl, sym, true, ℕ, ◌++◌, ◌+◌, ◌∷◌, ◌≡◌, ◌≤◌, length}
+use Rattle.std.proofs.Common.{Bool, List, [], ap, arith, false, refl, sym, true, ℕ, ◌++◌, ◌+◌, ◌∷◌, ◌≡◌, ◌≤◌}
 use Rattle.bk_word.specs.declared.Sign.{Sign}
 use Rattle.bk_word.specs.declared.Sign.TheVariants.{Above, Even, Under}
 use Rattle.bk_bounds.specs.SingleValleys.{single_valley}
@@ -21,14 +21,6 @@ low-append low (Under ∷ xs) ys = low-append true xs ys
 -- more signs tell of no fewer
 pub lone_more : (low : Bool) (xs ys : List Sign) → lone_squares low xs ≤ lone_squares low (xs ++ ys)
 lone_more low xs ys = omega (arith, lone-append low xs ys)
-
--- there are no more than signs
-pub lone_few : (low : Bool) (xs : List Sign) → lone_squares low xs ≤ length xs
-lone_few low [] = omega arith
-lone_few true (Above ∷ xs) = omega (arith, lone_few false xs)
-lone_few false (Above ∷ xs) = omega (arith, lone_few false xs)
-lone_few low (Even ∷ xs) = omega (arith, lone_few false xs)
-lone_few low (Under ∷ xs) = omega (arith, lone_few true xs)
 
 -- no sign
 pub lone_none : (low : Bool) → IsLone low [] 0 low

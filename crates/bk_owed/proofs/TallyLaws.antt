@@ -1,8 +1,7 @@
 -- Tallies of signs, sign by sign, and what the first signs of a list ask for.
 use Rattle.std.proofs.Common.{List, [], ap, append_assoc, arith, drop, length, max, refl, slice_index_or, subst, suc, sym, take, zero, ℕ}
 use Rattle.std.proofs.Common.{◌++◌, ◌+◌, ◌<◌, ◌∙◌, ◌∷◌, ◌≡◌, ◌≤◌}
-use Rattle.std.proofs.lemmas.List.{drop_all, drop_more, take-append-drop, take_all}
-use Rattle.bk_word.specs.Outline.{valley_place}
+use Rattle.std.proofs.lemmas.List.{take-append-drop, take_all}
 use Rattle.bk_word.specs.declared.Sign.{Sign}
 use Rattle.bk_word.specs.declared.Sign.TheVariants.{Above, Even, Under}
 use Rattle.bk_bounds.proofs.ClosingLaws.{aboves-append, aboves-cons, bound-append, bound_aboves, unders, unders-append, unders-cons}
@@ -99,32 +98,14 @@ pub tally_next : (before signs : List Sign) (i bound above : ℕ) → i < length
 tally_next before signs i bound above h t = subst (λ (l : List Sign). IsTally l bound above)
     (append_assoc before (take i signs) (slice_index_or signs i Above ∷ []) ∙ ap (λ l. before ++ l) (sym (take_here signs i h))) t
 
-pub tally_all : (before signs : List Sign) (i bound above : ℕ) → length signs ≤ i → IsTally (before ++ take i signs) bound above
-    → IsTally (before ++ signs) bound above
-tally_all before signs i bound above h t = subst (λ (l : List Sign). IsTally (before ++ l) bound above) (take_all i signs h) t
-
+-- the same with the first segment raised by a mark
 pub raised_next : (before signs : List Sign) (i mark bound above : ℕ) → i < length signs
     → IsRaisedTally ((before ++ take i signs) ++ slice_index_or signs i Above ∷ []) mark bound above
     → IsRaisedTally (before ++ take (i + 1) signs) mark bound above
 raised_next before signs i mark bound above h t = subst (λ (l : List Sign). IsRaisedTally l mark bound above)
     (append_assoc before (take i signs) (slice_index_or signs i Above ∷ []) ∙ ap (λ l. before ++ l) (sym (take_here signs i h))) t
 
+-- and up to a place behind all, all are tallied
 pub raised_all : (before signs : List Sign) (i mark bound above : ℕ) → length signs ≤ i → IsRaisedTally (before ++ take i signs) mark bound above
     → IsRaisedTally (before ++ signs) mark bound above
 raised_all before signs i mark bound above h t = subst (λ (l : List Sign). IsRaisedTally (before ++ l) mark bound above) (take_all i signs h) t
-
--- the valley's place, from a place on
-pub place_above : (signs : List Sign) (i : ℕ) → i < length signs → slice_index_or signs i Above ≡ Above → valley_place (drop i signs) ≡ 0
-place_above signs i h e = ap valley_place (drop_more signs i Above h) ∙ ap (λ s. valley_place (s ∷ drop (i + 1) signs)) e
-
-pub place_on : (signs : List Sign) (i : ℕ) (s : Sign) → i < length signs → slice_index_or signs i Above ≡ s → (s ≡ Above → ⊥)
-    → valley_place (drop i signs) ≡ 1 + valley_place (drop (i + 1) signs)
-place_on signs i s h e not = ap valley_place (drop_more signs i Above h) ∙ ap (λ t. valley_place (t ∷ drop (i + 1) signs)) e ∙ step s not
-  where
-    step : (s : Sign) → (s ≡ Above → ⊥) → valley_place (s ∷ drop (i + 1) signs) ≡ 1 + valley_place (drop (i + 1) signs)
-    step Above not = absurd (not refl)
-    step Even not = omega arith
-    step Under not = omega arith
-
-pub place_end : (signs : List Sign) (i : ℕ) → length signs ≤ i → valley_place (drop i signs) ≡ 0
-place_end signs i h = ap valley_place (drop_all i signs h)

@@ -1,29 +1,12 @@
 -- The valleys of one square behind the leftmost valley, as they are counted.
-use Rattle.std.proofs.Common.{Bool, List, ap, arith, cond, drop, false, length, map, refl, slice_index_or, sym, true, ℕ, ◌+◌, ◌<◌, ◌∙◌, ◌∷◌, ◌≡◌}
+use Rattle.std.proofs.Common.{Bool, List, ap, arith, cond, drop, false, length, map, refl, sym, true, ℕ, ◌+◌, ◌<◌, ◌∙◌, ◌≡◌}
 use Rattle.std.proofs.Common.{◌≤◌}
 use Rattle.std.proofs.lemmas.Bool.Decides.{nat_tests}
-use Rattle.std.proofs.lemmas.List.{drop-map, drop_more}
+use Rattle.std.proofs.lemmas.List.{drop-map}
 use Rattle.bk_word.specs.Outline.{Outline, has_right_wall, valley_place}
 use Rattle.bk_word.specs.declared.Sign.{Sign}
-use Rattle.bk_bounds.specs.SingleValleys.{single_valley, single_valleys, single_valleys_from}
+use Rattle.bk_bounds.specs.SingleValleys.{single_valley, single_valleys_from}
 use Rattle.bk_table.specs.Asking.{singles_behind}
-
--- the first of the segments behind a place, apart from the others
-pub first_apart : (signs : List Sign) (sizes : List ℕ) (place size all first : ℕ) → place + 1 < length sizes → size ≡ slice_index_or sizes (place + 1) 0
-    → all ≡ single_valleys (drop (place + 1) signs) (drop (place + 1) sizes)
-    → ((rest : List ℕ) → single_valleys_from true (drop (place + 1) signs) (size ∷ rest)
-    ≡ first + single_valleys_from false (drop (place + 1) signs) (size ∷ rest))
-    → all ≡ first + single_valleys_from false (drop (place + 1) signs) (drop (place + 1) sizes)
-first_apart signs sizes place size all first within is are apart = omega (
-  arith,
-  are,
-  apart (drop (place + 1 + 1) sizes),
-  ap (single_valleys_from true (drop (place + 1) signs)) here,
-  ap (single_valleys_from false (drop (place + 1) signs)) here,
-)
-  where
-    here : drop (place + 1) sizes ≡ size ∷ drop (place + 1 + 1) sizes
-    here = drop_more sizes (place + 1) 0 within ∙ ap (λ (s : ℕ). s ∷ drop (place + 1 + 1) sizes) (sym is)
 
 -- what is counted by the flat lists is what is said of the outline
 pub behind_read : (low : Bool) (o : Outline) (signs : List Sign) (sizes : List ℕ) (place found : ℕ) → signs ≡ o.signs → sizes ≡ map length o.segments

@@ -1,5 +1,5 @@
 -- What a board keeps, as a move is played and taken back.
-use Rattle.std.proofs.Common.{List, Some, [], ap, arith, cond, inl, inr, length, nat_eq, refl, slice_get, slice_index_or, subst, sym, take, ℕ, ◌++◌}
+use Rattle.std.proofs.Common.{List, [], ap, cond, inl, inr, length, nat_eq, slice_index_or, subst, sym, take, ℕ, ◌++◌}
 use Rattle.std.proofs.Common.{◌+◌, ◌-◌, ◌<◌, ◌∙◌, ◌∷◌, ◌≡◌, ◌⊎◌}
 use Rattle.bk_word.specs.Outline.{IsLegalMove, valley_of}
 use Rattle.bk_word.specs.Play.{numbers_from, outline_of}
@@ -98,18 +98,7 @@ board_less w front lefts rights nodes first order moves lefts_then rights_then n
   first_is = first_kept w front first board.first_is e;
 }
 
--- ---- before the first move, and two lines at one node
-
-pub board_new : IsBoardOf [] [] [] [] 0
-board_new = record {
-  left_word = record { legal = tt; lefts_are = refl };
-  rights_are = refl;
-  node_lines = record { as_many = refl; touch = λ v line lines e has. absurd (none v lines e); all = λ v line lines e low t. absurd (none v lines e) };
-  first_is = λ some. absurd (omega (arith, some));
-}
-  where
-    none : (v : ℕ) (lines : LineSet) → slice_get [] v ≡ Some lines → ⊥
-    none v lines e = cc
+-- ---- two lines at one node
 
 pub share_lines : (w : Word) (lefts rights : List ℕ) (nodes : List LineSet) (first a b left right : ℕ) → IsBoardOf w lefts rights nodes first
     → left ≡ slice_index_or lefts (a - 1) 0

@@ -1,15 +1,8 @@
 -- The first number of a table that isn't below a bound, and spans that meet no number of the table.
-use Rattle.std.proofs.Common.{Contains, List, [], arith, drop, false, inl, inr, length, slice_index, subst, suc, take, zero, ℕ, ◌<◌, ◌∷◌, ◌≡◌, ◌≤◌}
+use Rattle.std.proofs.Common.{Contains, List, [], arith, drop, length, slice_index, subst, suc, take, zero, ℕ, ◌<◌, ◌∷◌, ◌≡◌, ◌≤◌}
 use Rattle.std.proofs.lemmas.List.{take_all}
-use Rattle.bk_table.specs.Kept.{AreAscendingNumbers, Holds, IsFirstFrom, IsPlaceOf, Numbers}
-use Rattle.bk_table.specs.Span.{IsWithin}
-use Rattle.bk_table.specs.declared.span.Span.{Span}
+use Rattle.bk_table.specs.Kept.{AreAscendingNumbers, IsFirstFrom, IsPlaceOf}
 use Rattle.bk_table.proofs.Keeping.{All, all_again, all_map, get_at, no_less_from}
-
-all_has : (P : ℕ → Type 0) (xs : List ℕ) (x : ℕ) → All P xs → Contains xs x → P x
-all_has P [] x all (k, few, is) = absurd (omega (arith, few))
-all_has P (y ∷ xs) x all (zero, few, is) = subst P is all.0
-all_has P (y ∷ xs) x all (suc k, few, is) = all_has P xs x all.1 (k, omega (arith, few), is)
 
 contains_at : (xs : List ℕ) (place : ℕ) (x : ℕ) → place < length xs → slice_index xs place ≡ x → Contains xs x
 contains_at [] place x few is = absurd (omega arith)
@@ -32,15 +25,3 @@ first_is xs bound place x asc is few at = record { has = contains_at xs place x 
 -- none is, where the place is the end
 pub none_is : (xs : List ℕ) (bound place : ℕ) → IsPlaceOf xs bound place → length xs ≤ place → All (λ y. y < bound) xs
 none_is xs bound place is end = subst (All (λ y. y < bound)) (take_all place xs end) is.before
-
--- where the first number from the span's low end on is behind the span, the table holds none of the span
-pub behind_span : (t : Numbers) (span : Span) (first : ℕ) → IsFirstFrom t.kept span.low first → span.last < first → (x : ℕ) → IsWithin span x → Holds t x → ⊥
-behind_span t span first is behind x within (inl has) = let h = all_has (λ y. span.low ≤ y → first ≤ y) t.kept x is.least has (within.from)
-    in omega (arith, h, behind, within.to)
-behind_span t span first is behind x within (inr beyond) = let h = all_has (λ y. y < x) t.kept first (beyond.beyond) is.has
-    in omega (arith, h, behind, within.to)
-
--- where all are below the span, and none was dropped, neither
-pub below_span : (t : Numbers) (span : Span) → All (λ y. y < span.low) t.kept → t.cut ≡ false → (x : ℕ) → IsWithin span x → Holds t x → ⊥
-below_span t span below whole x within (inl has) = let h = all_has (λ y. y < span.low) t.kept x below has in omega (arith, h, within.from)
-below_span t span below whole x within (inr beyond) = let cut = beyond.cut in absurd (cc)

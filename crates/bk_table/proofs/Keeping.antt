@@ -2,7 +2,7 @@
 use Rattle.std.specs.List.{AllByRecursion}
 use Rattle.std.proofs.Common.{Bool, Contains, IsTrue, List, [], ap, arith, drop, false, inl, inr, length, length-append, refl, slice_index, subst}
 use Rattle.std.proofs.Common.{suc, sym, take, true, zero, ℕ, ◌++◌, ◌+◌, ◌<◌, ◌∙◌, ◌∷◌, ◌≡◌, ◌≤◌, ◌⊎◌, ◌↔◌}
-use Rattle.std.proofs.lemmas.List.{take-append-drop, take_all}
+use Rattle.std.proofs.lemmas.List.{take-append-drop}
 use Rattle.std.proofs.lemmas.List.Elements.{Contains-append_cases, Contains-append_left, Contains-append_right}
 use Rattle.bk_table.specs.Kept.{AreAscendingNumbers, Holds, IsKeptTable, IsPlaceOf, Numbers}
 
@@ -150,25 +150,6 @@ put_in room t u x place table is not few kept cut = (
     others : (y : ℕ) → Holds t y → Holds u y
     others y (inl h) = inl (subst (λ l. Contains l y) (sym kept) (has_others x place t.kept y h))
     others y (inr h) = absurd (none h.cut)
-
--- where there is none, and the number is greater than all
-pub passed_over : (room : ℕ) (t u : Numbers) (x place : ℕ) → IsKeptTable room t → IsPlaceOf t.kept x place → place ≡ room → room ≤ length t.kept
-    → length t.kept ≤ room → u.kept ≡ t.kept → u.cut ≡ true → IsKeptTable room u × HoldsOneMore t u x
-passed_over room t u x place table is end many few kept cut = (
-  record { ascending = subst AreAscendingNumbers (sym kept) table.ascending; full = λ e. omega (arith, ap length kept) },
-  record {
-    put = inr (record {
-      cut = cut;
-      beyond = subst (All (λ y. y < x)) (sym kept)
-          (subst (All (λ y. y < x)) (take_all place t.kept (omega arith)) is.before);
-    });
-    kept = others;
-  },
-)
-  where
-    others : (y : ℕ) → Holds t y → Holds u y
-    others y (inl h) = inl (subst (λ l. Contains l y) (sym kept) h)
-    others y (inr h) = inr (record { cut = cut; beyond = subst (All (λ z. z < y)) (sym kept) h.beyond })
 
 -- where there is none, and the last is dropped for it
 pub put_for_last : (room : ℕ) (t u : Numbers) (x place last : ℕ) (front : List ℕ) → IsKeptTable room t → IsPlaceOf t.kept x place

@@ -1,6 +1,6 @@
 -- How the words that a search looks for go on from moves: by a next move, sign by sign.
-use Rattle.std.proofs.Common.{List, [], ap, append-nil, append_assoc, arith, inl, inr, length, length-append, refl, subst, suc, sym}
-use Rattle.std.proofs.Common.{take, ℕ, ◌++◌, ◌+◌, ◌-◌, ◌<◌, ◌∙◌, ◌∷◌, ◌≡◌, ◌≤◌, ◌⊎◌}
+use Rattle.std.proofs.Common.{List, [], ap, append-nil, append_assoc, arith, length, length-append, refl, subst, sym}
+use Rattle.std.proofs.Common.{ℕ, ◌++◌, ◌+◌, ◌<◌, ◌∙◌, ◌∷◌, ◌≡◌, ◌≤◌, ◌⊎◌}
 use Rattle.bk_word.specs.Outline.{IsLegalMove, Outline, has_left_wall, has_right_wall, open_side, start}
 use Rattle.bk_word.specs.Play.{IsLegal, outline_of}
 use Rattle.bk_word.specs.Word.{Move, Word, order_of}
@@ -10,22 +10,8 @@ use Rattle.bk_word.proofs.StoredBytes.{order_append, order_more}
 use Rattle.bk_net_word.specs.NetWord.{IsNetBarren}
 use Rattle.bk_table.specs.Sought.{GoesOn, GoesOnBy, IsSought}
 
--- the last of the moves taken back
-pub popped : (front : Word) (m : Move) (more w : Word) → more ≡ front ++ m ∷ [] → w ≡ take (length more - 1) more → w ≡ front
-popped front m more w e f = f ∙ ap (λ (v : Word). take (length v - 1) v) e ∙ whole front
-  where
-    whole : (front : Word) → take (length (front ++ m ∷ []) - 1) (front ++ m ∷ []) ≡ front
-    whole [] = refl
-    whole (k ∷ front) = ap (λ j. take j (k ∷ front ++ m ∷ [])) long ∙ ap (λ v. k ∷ v) (whole front)
-      where
-        long : length (k ∷ front ++ m ∷ []) - 1 ≡ suc (length (front ++ m ∷ []) - 1)
-        long = omega (arith, length-append front (m ∷ []))
-
 pub longer : (front : Word) (m : Move) → 0 < length (front ++ m ∷ [])
 longer front m = omega (arith, length-append front (m ∷ []))
-
-pub order-snoc : (front : Word) (m : Move) → order_of (front ++ m ∷ []) ≡ order_of front + m.count
-order-snoc front m = omega (arith, order_append front (m ∷ []), order_more m [])
 
 -- a word goes on from these moves by a legal one
 pub record HasNextMove (front w : Word) : Type 0 where
@@ -47,9 +33,6 @@ next_move n front w sought few on = cases on.rest on.is
 -- which hangs no more squares than are left
 pub next_fits : (n : ℕ) (front w : Word) → IsSought n w → (h : HasNextMove front w) → order_of front + h.move.count ≤ n
 next_fits n front w sought h = omega (arith, sought.order, ap order_of h.is, order_append front (h.move ∷ h.rest), order_more h.move h.rest)
-
-pub by_move : (front w : Word) (h : HasNextMove front w) → GoesOnBy front h.move.count [] w
-by_move front w h = record { move = h.move; rest = h.rest; is = h.is; count_is = refl; more = h.move.signs; signs_are = refl }
 
 -- no beginning is barren, nor that with the next move
 snoc : (front w : Word) (m : Move) (rest : Word) → w ≡ front ++ m ∷ rest → w ≡ (front ++ m ∷ []) ++ rest
@@ -96,23 +79,6 @@ next_sign n front w m sought some not on = cases on.more on.signs_are
       sign = s;
       on = record { move = on.move; rest = on.rest; is = on.is; count_is = on.count_is; more = more; signs_are = e ∙ sym (append_assoc m.signs (s ∷ []) more) };
     }
-
--- there is room for one
-pub room_for_sign : (o : Outline) (m : Move) → 0 < m.count → (IsLegalMove o m → ⊥)
-    → length m.signs + 1 ≤ m.count + open_side (has_left_wall o) + open_side (has_right_wall o)
-    → length m.signs + 2 ≤ m.count + open_side (has_left_wall o) + open_side (has_right_wall o)
-room_for_sign o m some not room = cases (two (length m.signs + 1) (m.count + open_side (has_left_wall o) + open_side (has_right_wall o)))
-  where
-    two : (a b : ℕ) → (a ≡ b) ⊎ ((a < b) ⊎ (b < a))
-    two a b = grind arith
-
-    cases : (length m.signs + 1 ≡ m.count + open_side (has_left_wall o) + open_side (has_right_wall o))
-        ⊎ ((length m.signs + 1 < m.count + open_side (has_left_wall o) + open_side (has_right_wall o))
-        ⊎ (m.count + open_side (has_left_wall o) + open_side (has_right_wall o) < length m.signs + 1))
-        → length m.signs + 2 ≤ m.count + open_side (has_left_wall o) + open_side (has_right_wall o)
-    cases (inl e) = absurd (not (record { some = some; signs = e }))
-    cases (inr (inl h)) = omega arith
-    cases (inr (inr h)) = omega arith
 
 -- ---- at the end
 

@@ -43,12 +43,6 @@ segment_within [] i h = absurd (omega arith)
 segment_within (n ∷ sizes) zero h = omega (arith, sum-cons n sizes)
 segment_within (n ∷ sizes) (suc i) h = omega (arith, segment_within sizes i (omega arith), sum-cons n sizes, sum-cons n (take i sizes))
 
-pub segment_next : (sizes : List ℕ) (i : ℕ) → i < length sizes → sum (take (i + 1) sizes) ≡ sum (take i sizes) + slice_index_or sizes i 0
-segment_next [] i h = absurd (omega arith)
-segment_next (n ∷ sizes) zero h = refl
-segment_next (n ∷ sizes) (suc i) h = let more : suc i + 1 ≡ suc (i + 1) = omega arith in
-    ap (λ k. sum (take k (n ∷ sizes))) more ∙ omega (arith, segment_next sizes i (omega arith), sum-cons n (take (i + 1) sizes), sum-cons n (take i sizes))
-
 pub shared_segment : (w : Word) (k : ℕ) (squares : List ℕ) → slice_get (outline_of w).segments k ≡ Some squares → ShareWithin w squares → ShareANode w
 shared_segment w k squares is s = record {
   segment = k;

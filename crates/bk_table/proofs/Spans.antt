@@ -19,9 +19,6 @@ pub digits_join : (v w : Word) → word_digits (v ++ w) ≡ word_digits v ++ wor
 digits_join [] w = refl
 digits_join (m ∷ v) w = ap (λ z. move_digits m ++ z) (digits_join v w) ∙ sym (append_assoc (move_digits m) (word_digits v) (word_digits w))
 
-pub digits_one : (v : Word) (m : Move) → word_digits (v ++ m ∷ []) ≡ word_digits v ++ move_digits m
-digits_one v m = digits_join v (m ∷ []) ∙ ap (λ z. word_digits v ++ z) (append-nil (move_digits m))
-
 -- a move of some squares more leaves room for all digits
 pub begun_fit : (v : Word) (count : ℕ) (signs : List Sign) → IsLegal v → 0 < count → length signs ≤ count + 1 → order_of v + count ≤ 16
     → length (begun_digits v count signs) ≤ 64

@@ -24,9 +24,6 @@ use Rattle.bk_table.specs.declared.line_set.LineSet.{LineSet}
 
 -- ---- one move
 
-new_pairs : Outline → List (ℕ × ℕ) → Move → List (ℕ × ℕ)
-new_pairs o sides m = new_sides (length o.hung) m.count (left_end sides (valley_of o)) (right_end sides (valley_of o))
-
 -- a place in the front of a list
 in_front : {A : Type 0} (xs ys : List A) (k : ℕ) (x : A) → k < length xs → slice_get (xs ++ ys) k ≡ Some x → slice_get xs k ≡ Some x
 in_front xs ys k x low e = let r = get_some xs k low in r.1 ∙ sym (get_append xs ys k r.0 r.1) ∙ e
