@@ -1,4 +1,5 @@
 -- What a command line asks.
+-- Examples (AskExamples): `check` asks for the answers of check, and `list --limit 1 --order 9` for one entry of order 9, class perfect.
 use Rattle.std.specs.Prelude.{List, Option, [], codes, ℕ, ◌∷◌, ◌≡◌}
 use Rattle.bk_word.specs.Word.{Word}
 use Rattle.bk_word.specs.declared.Class.{Class}

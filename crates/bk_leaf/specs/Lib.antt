@@ -1,2 +1,4 @@
-pub mod Placing
+-- What the crate says.
 pub mod Found
+-- How its code keeps it.
+pub mod Placing

@@ -1,2 +1,4 @@
-pub mod Finding
+-- What the crate says.
 pub mod Members
+-- How its code keeps it.
+pub mod Finding

@@ -1,4 +1,5 @@
 -- How two rectangles of one size are laid together to a square.
+-- Example (PairExamples): [2,1][1] and itself make a square of side 5 with the sides 2, 1, 2, 1, 3, 2, 1, 1 in code order.
 use Rattle.std.specs.Prelude.{List, [], count_by, map, max, ℕ, ◌++◌, ◌+◌, ◌<◌, ◌==◌, ◌∷◌, ◌≡◌, ◌≢◌, ◌≤◌}
 use Rattle.bk_tiling.specs.CodeOrder.{in_code_order}
 use Rattle.bk_tiling.specs.Scale.{moved_square}

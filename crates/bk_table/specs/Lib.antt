@@ -1,11 +1,13 @@
-pub mod Asking
-pub mod Boards
-pub mod Kept
-pub mod Lefts
-pub mod NodeLines
+-- What the crate says.
+pub mod Sought
 pub mod Packed
 pub mod PackedLaws
 pub mod Span
+pub mod Kept
+-- How its code keeps it.
+pub mod Lefts
 pub mod Rights
-pub mod Sought
+pub mod NodeLines
 pub mod TopLines
+pub mod Boards
+pub mod Asking

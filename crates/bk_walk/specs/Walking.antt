@@ -1,4 +1,6 @@
 -- A walk through the catalogue: what is seen of it, and what it answers.
+-- Example (WalkExamples): of order 2 and the class imperfect, a walk from the word of no move gives the row of two squares first, and
+-- nothing after it; in the class perfect it gives nothing at all.
 use Rattle.std.specs.Prelude.{Bool, None, Option, Some, [], length, take, true, ℕ, ◌<◌, ◌^◌, ◌≡◌, ◌≤◌}
 use Rattle.bk_tiling.specs.Tiling.{Tiling}
 use Rattle.bk_word.specs.Play.{IsComplete}
