@@ -8,7 +8,10 @@ pub mod SmithLists
 pub mod ColumnSums
 pub mod GroupSquares
 pub mod NodeBelow
+pub mod GroupEdges
 pub mod GroupColumns
+pub mod SidesPotentials
+pub mod TopGroup
 pub mod SidesFlow
 -- what the code reads off the squares: levels and numbers of the groups, and the wires
 pub mod Hanging

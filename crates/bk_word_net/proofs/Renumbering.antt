@@ -13,7 +13,7 @@ use Rattle.bk_tiling.proofs.Groups.{row_of}
 use Rattle.bk_tiling.proofs.TilingGroups.{one_there}
 use Rattle.bk_tiling.specs.SquareGroups.{square_groups}
 use Rattle.bk_net.proofs.GroupSquares.{group_of, row_is}
-use Rattle.bk_net.proofs.SidesFlow.{deep}
+use Rattle.bk_net.proofs.TopGroup.{deep}
 use Rattle.bk_net.proofs.SmithLists.{group_wires}
 use Rattle.bk_net.specs.Diagram.{node_below, smith_diagram}
 use Rattle.bk_word.specs.Outline.{start}
