@@ -14,14 +14,11 @@ use crate::flow::answer_net_line;
 use crate::items::{Desk, lay_at};
 use crate::solve::answer_word_line;
 use bk_grammar::AnswerBuffer;
-use bk_lines::{Answerer, Outcome};
+use bk_lines::{Answerer, LONGEST_LINE, Outcome};
 use bk_ports::{Failed, Sink};
 use bk_report::{Refused, write_refused};
 use bk_tiling::Tiling;
 use std::alloc::Global;
-
-/// A line of more bytes is too long.
-pub const LONGEST_LINE: usize = 8_192;
 
 /// A command that answers lines, and where it takes memory from.
 #[derive(Clone, Copy)]

@@ -5,7 +5,7 @@ ghost use Rattle.bk_ports.specs.Causes.{HasCause};
 ghost use Rattle.bk_answer.specs.NetAnswer.{AnswersNet, AnswersNetLine, MayWantForNet, NetWants, refused_net};
 ghost use Rattle.bk_answer.specs.Replies.{Replies};
 
-use crate::answer::{LONGEST_LINE, refuse};
+use crate::answer::refuse;
 use crate::command::accepted;
 use bk_flow::{FlowFault, solve};
 use bk_grammar::AnswerBuffer;

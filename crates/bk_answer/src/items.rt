@@ -8,8 +8,8 @@ ghost use Rattle.bk_text.specs.ReadLine.{IsInRange};
 ghost use Rattle.bk_answer.specs.Item.{IsLaidItem, IsLaidLine, IsSize, laid_if, side_count};
 ghost use Rattle.bk_answer.specs.Refusing.{IsItemRefused, IsLineRefused, refused_for, refused_text};
 
-use crate::answer::LONGEST_LINE;
 use bk_code::{Code, flat};
+use bk_lines::LONGEST_LINE;
 use bk_profile::{Profile, Refusal, lay_code_in, lay_flat_in};
 use bk_report::Refused;
 use bk_text::{Ending, Gatherer, TextFault, read_into};

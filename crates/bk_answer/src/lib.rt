@@ -10,7 +10,8 @@ mod images_and_drawing;
 mod items;
 mod solve;
 
-pub use answer::{LONGEST_LINE, LineAnswerer};
+pub use answer::LineAnswerer;
+pub use bk_lines::LONGEST_LINE;
 pub use command::{CodeCommand, Command};
 pub use items::{Desk, lay_line};
 

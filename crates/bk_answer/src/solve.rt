@@ -6,7 +6,7 @@ ghost use Rattle.bk_word.specs.Word.{order_of};
 ghost use Rattle.bk_answer.specs.Replies.{Replies};
 ghost use Rattle.bk_answer.specs.WordAnswer.{AnswersWord, AnswersWordLine, MayWantForWord};
 
-use crate::answer::{LONGEST_LINE, refuse};
+use crate::answer::refuse;
 use crate::command::accepted;
 use bk_grammar::AnswerBuffer;
 use bk_lines::Outcome;

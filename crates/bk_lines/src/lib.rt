@@ -16,6 +16,7 @@ mod steady;
 use bk_grammar::AnswerBuffer;
 use bk_ports::{Failed, Sink};
 pub use input::enter_lines;
+pub use line::LONGEST_LINE;
 pub use steady::answer_lines;
 
 /// What came of a line.

@@ -11,8 +11,14 @@ use arrayvec::ArrayVec;
 use bk_grammar::AnswerBuffer;
 use bk_ports::{Failed, Sink};
 
+/// How many bytes a line may have. A longer one is refused, whatever it holds. (Own.)
+pub const LONGEST_LINE: usize = 8_192;
+
+// Of a line so many bytes are kept: one more than it may have.
+const KEPT: usize = LONGEST_LINE + 1;
+
 // What is kept of a line: its first 8,193 bytes.
-pub type Front = ArrayVec<u8, 8193>;
+pub type Front = ArrayVec<u8, KEPT>;
 
 // A line whose end has not come.
 #[derive(Drop)]
@@ -89,7 +95,7 @@ pub fn close_line<R: Register, O: Sink>(
     let number = kept.number;
     kept.number = number + 1;
     if kept.front.is_empty() {
-        let front = &end[..end.len().min(8193)];
+        let front = &end[..end.len().min(KEPT)];
         return enter_line(register, number, front, buffer, out);
     }
     keep(&mut kept.front, end);
