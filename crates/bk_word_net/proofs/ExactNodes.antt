@@ -15,7 +15,7 @@ use Rattle.bk_tiling.specs.declared.Square.{Square}
 use Rattle.bk_tiling.proofs.Groups.{IsRow, row_of}
 use Rattle.bk_tiling.proofs.TilingGroups.{one_there}
 use Rattle.bk_tiling.specs.SquareGroups.{square_groups}
-use Rattle.bk_net.proofs.GroupColumns.{at_level, end_within, not_right, width_is}
+use Rattle.bk_net.proofs.GroupEdges.{at_level, end_within, not_right, width_is}
 use Rattle.bk_net.proofs.GroupSquares.{group_of, in_group, row_is, top_of}
 use Rattle.bk_word.specs.Outline.{Outline, start}
 use Rattle.bk_word.specs.Play.{after_move, after_moves}
