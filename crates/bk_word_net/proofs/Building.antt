@@ -22,7 +22,7 @@ use Rattle.bk_net.specs.Flow.{Flow, IsFlow, potential}
 use Rattle.bk_word.specs.Outline.{Outline, valley_of, valley_place}
 use Rattle.bk_word.specs.Play.{after_move, new_squares, numbers_from, segments_apart, signs_apart}
 use Rattle.bk_word.specs.Word.{Move}
-use Rattle.bk_lay.proofs.Steps.{one_of}
+use Rattle.bk_lay.proofs.LaidRuns.{one_of}
 use Rattle.bk_lay.specs.Depiction.{IsNumbered, Span}
 use Rattle.bk_word_net.proofs.BottomChain.{BottomChain, chain_group, chain_join, chain_least, chain_level, chain_more, chain_split, concat-append}
 use Rattle.bk_word_net.proofs.BottomChain.{concat-cut, concat-joined, concat-singles}

@@ -20,7 +20,8 @@ use Rattle.bk_net.proofs.GroupSquares.{group_of, in_group, row_is, top_of}
 use Rattle.bk_word.specs.Outline.{Outline, start}
 use Rattle.bk_word.specs.Play.{after_move, after_moves}
 use Rattle.bk_word.specs.Word.{Move, Word}
-use Rattle.bk_lay.proofs.Filling.{cell, hangs, in_tiling, is_laid, is_under}
+use Rattle.bk_lay.proofs.UnderValley.{cell, hangs, is_laid}
+use Rattle.bk_lay.proofs.Filling.{in_tiling, is_under}
 use Rattle.bk_lay.specs.TilingWord.{IsLeftmostValley, IsWordOf, MovesFollow, hangs_under, squares_under}
 use Rattle.bk_word_net.proofs.AlongWord.{Along, along_move, along_start, get_snoc}
 

@@ -24,7 +24,8 @@ use Rattle.bk_word.specs.Play.{AreLegalFrom, after_move, new_squares, numbers_fr
 use Rattle.bk_word.specs.Word.{Move, Word}
 use Rattle.bk_word.specs.declared.Sign.{Sign}
 use Rattle.bk_lay.proofs.Depicting.{some_signs}
-use Rattle.bk_lay.proofs.Filling.{IsUnder, hangs_from, under_from, valley_is_filled}
+use Rattle.bk_lay.proofs.UnderValley.{IsUnder, hangs_from, under_from}
+use Rattle.bk_lay.proofs.Filling.{valley_is_filled}
 use Rattle.bk_lay.proofs.Joining.{levels}
 use Rattle.bk_lay.proofs.Laying.{ordered_filter}
 use Rattle.bk_lay.proofs.Places.{HasFirst, HasLast, Placed, depth_from_end, placed}

@@ -21,7 +21,7 @@ use Rattle.bk_word.specs.declared.Sign.{Sign}
 use Rattle.bk_lay.proofs.Depicting.{FirstIs, LastIs, signs_new}
 use Rattle.bk_lay.proofs.Joining.{Joined, join, levels}
 use Rattle.bk_lay.proofs.Places.{HasFirst, HasLast, Placed, depth_from_end, placed}
-use Rattle.bk_lay.proofs.Steps.{new_levels, new_segments, one_of, run_of, segment_more}
+use Rattle.bk_lay.proofs.LaidRuns.{new_levels, new_segments, one_of, run_of, segment_more}
 use Rattle.bk_lay.specs.Depiction.{IsNumbered, IsSegment}
 use Rattle.bk_lay.specs.TilingWord.{IsLeftmostValley, depth_before, depth_from, signs_between}
 use Rattle.bk_word_net.specs.LaidOutline.{IsTurn, ShowsLaid}

@@ -28,7 +28,7 @@ use Rattle.bk_word.specs.Play.{IsComplete, outline_of, parts}
 use Rattle.bk_word.specs.Word.{Word}
 use Rattle.bk_word.specs.declared.Sign.{Sign}
 use Rattle.bk_lay.proofs.SquaresOnce.{own_cell}
-use Rattle.bk_lay.proofs.Steps.{one_of}
+use Rattle.bk_lay.proofs.LaidRuns.{one_of}
 use Rattle.bk_lay.proofs.ValleySegment.{all_laid}
 use Rattle.bk_lay.proofs.WordPlay.{NoneTwice, none_twice, one_run, tiling_word_is_complete}
 use Rattle.bk_lay.specs.Depiction.{Depicts, Hangs, IsNumbered, IsSegment}
