@@ -20,7 +20,7 @@ use Rattle.bk_word.specs.declared.Sign.{Sign}
 use Rattle.bk_lay.proofs.Filling.{in_tiling, valley_is_filled}
 use Rattle.bk_lay.proofs.Laying.{under_chain}
 use Rattle.bk_lay.proofs.Places.{Placed, placed}
-use Rattle.bk_lay.proofs.Steps.{one_of}
+use Rattle.bk_lay.proofs.LaidRuns.{one_of}
 use Rattle.bk_lay.proofs.ValleySegment.{valley_segment}
 use Rattle.bk_lay.proofs.Valleys.{one_leftmost_valley}
 use Rattle.bk_lay.specs.Depiction.{Hangs, IsSegment}

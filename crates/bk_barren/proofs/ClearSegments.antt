@@ -14,7 +14,7 @@ use Rattle.bk_tiling.specs.declared.Square.{Square}
 use Rattle.bk_word.specs.Play.{before_first_list, joined, numbers_from}
 use Rattle.bk_word.specs.declared.Sign.{Sign}
 use Rattle.bk_word.specs.declared.Sign.TheVariants.{Above, Even, Under}
-use Rattle.bk_lay.proofs.Steps.{one_of}
+use Rattle.bk_lay.proofs.LaidRuns.{one_of}
 use Rattle.bk_lay.specs.Depiction.{IsNumbered, IsSegment, Span}
 use Rattle.bk_bounds.specs.VerticalCut.{on_line}
 

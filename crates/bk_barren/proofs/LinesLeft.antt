@@ -8,7 +8,7 @@ use Rattle.bk_tiling.specs.declared.Segment.{Segment}
 use Rattle.bk_tiling.specs.Tiling.{IsOneOf, IsTiling, Tiling}
 use Rattle.bk_tiling.specs.declared.Square.{Square}
 use Rattle.bk_word.specs.Outline.{Outline}
-use Rattle.bk_lay.proofs.Steps.{one_of}
+use Rattle.bk_lay.proofs.LaidRuns.{one_of}
 use Rattle.bk_lay.proofs.ValleySegment.{all_laid}
 use Rattle.bk_lay.specs.Depiction.{IsNumbered, IsSegment, Span}
 use Rattle.bk_bounds.specs.VerticalCut.{on_line}

@@ -103,31 +103,27 @@ module _ (width : ℕ) (laid : List Square) (sides : (n : ℕ) (q : Square) → 
       rest : List Sign
       rest = signs_between (levels (u ∷ runs))
 
+      -- a run at another level stays a run of its own
+      parted : (sign : Sign) → sign_between v.level u.level ≡ sign
+          → Joined (x + v.width) u.level (joined (signs_between (levels (u ∷ runs))) (r ∷ segments)) (filter parts (signs_between (levels (u ∷ runs))))
+          → Joined x v.level (s ∷ joined (signs_between (levels (u ∷ runs))) (r ∷ segments)) (sign ∷ filter parts (signs_between (levels (u ∷ runs))))
+      parted sign e j = record {
+        first = v;
+        more = j.first ∷ j.more;
+        same_level = refl;
+        cut = (cut.0, cut.1, j.cut);
+        depicts = (zip.0, j.depicts);
+        between = λ i. (sym e ∙ ap (sign_between v.level) (sym j.same_level)) i ∷ j.between i;
+      }
+
       cases : ((v.level < u.level) × (sign_between v.level u.level ≡ Above)) ⊎ ((v.level ≡ u.level) × (sign_between v.level u.level ≡ Even))
           ⊎ ((u.level < v.level) × (sign_between v.level u.level ≡ Under))
           → Joined (x + v.width) u.level (joined (signs_between (levels (u ∷ runs))) (r ∷ segments)) (filter parts (signs_between (levels (u ∷ runs))))
           → Joined x v.level (joined (signs_between (levels (v ∷ u ∷ runs))) (s ∷ r ∷ segments)) (filter parts (signs_between (levels (v ∷ u ∷ runs))))
       cases (inl h) j = subst (λ (sign : Sign). Joined x v.level (joined (sign ∷ signs_between (levels (u ∷ runs))) (s ∷ r ∷ segments))
-          (filter parts (sign ∷ signs_between (levels (u ∷ runs))))) (sym h.1)
-          (record {
-            first = v;
-            more = j.first ∷ j.more;
-            same_level = refl;
-            cut = (cut.0, cut.1, j.cut);
-            depicts = (zip.0, j.depicts);
-            between = λ i. (sym h.1 ∙ ap (sign_between v.level) (sym j.same_level)) i ∷ j.between i;
-          })
-      cases (inr (inr h)) j =
-          subst (λ (sign : Sign). Joined x v.level (joined (sign ∷ signs_between (levels (u ∷ runs))) (s ∷ r ∷ segments))
-          (filter parts (sign ∷ signs_between (levels (u ∷ runs))))) (sym h.1)
-          (record {
-            first = v;
-            more = j.first ∷ j.more;
-            same_level = refl;
-            cut = (cut.0, cut.1, j.cut);
-            depicts = (zip.0, j.depicts);
-            between = λ i. (sym h.1 ∙ ap (sign_between v.level) (sym j.same_level)) i ∷ j.between i;
-          })
+          (filter parts (sign ∷ signs_between (levels (u ∷ runs))))) (sym h.1) (parted Above h.1 j)
+      cases (inr (inr h)) j = subst (λ (sign : Sign). Joined x v.level (joined (sign ∷ signs_between (levels (u ∷ runs))) (s ∷ r ∷ segments))
+          (filter parts (sign ∷ signs_between (levels (u ∷ runs))))) (sym h.1) (parted Under h.1 j)
       cases (inr (inl h)) j =
           subst (λ (sign : Sign). Joined x v.level (joined (sign ∷ signs_between (levels (u ∷ runs))) (s ∷ r ∷ segments))
           (filter parts (sign ∷ signs_between (levels (u ∷ runs))))) (sym h.1)

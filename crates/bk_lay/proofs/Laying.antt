@@ -12,7 +12,8 @@ use Rattle.bk_tiling.specs.Column.{covers_column, depth}
 use Rattle.bk_tiling.specs.declared.Segment.{Segment}
 use Rattle.bk_tiling.specs.Tiling.{IsOneOf, IsTiling, Tiling, covers}
 use Rattle.bk_tiling.specs.declared.Square.{Square}
-use Rattle.bk_lay.proofs.Filling.{cell, hangs, in_tiling, is_under}
+use Rattle.bk_lay.proofs.UnderValley.{cell, hangs}
+use Rattle.bk_lay.proofs.Filling.{in_tiling, is_under}
 use Rattle.bk_lay.specs.Depiction.{FillsFromTop}
 use Rattle.bk_lay.specs.TilingWord.{IsLeftmostValley, hangs_under, squares_under}
 

@@ -1,5 +1,6 @@
 -- leftmost valleys, and that each tiling has one word
 pub mod Valleys
+pub mod UnderValley
 pub mod Filling
 pub mod Words
 pub mod WordTest
@@ -10,6 +11,8 @@ pub mod Joining
 pub mod Places
 pub mod Laying
 pub mod Depicting
+pub mod LaidRuns
+pub mod LegalMoves
 pub mod Steps
 pub mod ValleySegment
 pub mod WordPlay

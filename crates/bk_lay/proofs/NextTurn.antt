@@ -12,7 +12,8 @@ use Rattle.bk_tiling.specs.Column.{depth}
 use Rattle.bk_tiling.specs.Tiling.{IsOneOf, IsTiling, Tiling}
 use Rattle.bk_tiling.specs.declared.Square.{Square}
 use Rattle.bk_word.specs.Word.{Word, order_of}
-use Rattle.bk_lay.proofs.Filling.{hangs, in_tiling, under_from}
+use Rattle.bk_lay.proofs.UnderValley.{hangs, under_from}
+use Rattle.bk_lay.proofs.Filling.{in_tiling}
 use Rattle.bk_lay.proofs.Laying.{new_depth, same_depth, under_chain}
 use Rattle.bk_lay.proofs.MeetingRuns.{falls_at_end, last_of, leftmost_in_outline, right_at_end, right_more, segment_of}
 use Rattle.bk_lay.proofs.Places.{depth_before_at, depth_from_at}

@@ -8,7 +8,8 @@ use Rattle.bk_tiling.specs.declared.Segment.{Segment}
 use Rattle.bk_tiling.specs.Tiling.{IsOneOf, IsTiling, Tiling}
 use Rattle.bk_tiling.specs.declared.Square.{Square}
 use Rattle.bk_word.specs.Word.{Word}
-use Rattle.bk_lay.proofs.Filling.{IsUnder, first_under, in_tiling, is_under, valley_is_filled}
+use Rattle.bk_lay.proofs.UnderValley.{IsUnder}
+use Rattle.bk_lay.proofs.Filling.{first_under, in_tiling, is_under, valley_is_filled}
 use Rattle.bk_lay.proofs.Valleys.{leftmost_by_falling, one_leftmost_valley}
 use Rattle.bk_lay.specs.Depiction.{FillsFromTop}
 use Rattle.bk_lay.specs.TilingWord.{IsLeftmostValley, MovesFollow, move_under, squares_under}

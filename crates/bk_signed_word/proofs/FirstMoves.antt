@@ -12,7 +12,7 @@ use Rattle.bk_tiling.specs.declared.Square.{Square}
 use Rattle.bk_word.specs.Play.{numbers_from}
 use Rattle.bk_word.specs.Word.{Move, Word}
 use Rattle.bk_lay.specs.TilingWord.{IsWordOf, hangs_under}
-use Rattle.bk_lay.proofs.Steps.{one_of}
+use Rattle.bk_lay.proofs.LaidRuns.{one_of}
 use Rattle.bk_word_net.proofs.AlongWord.{top_valley}
 use Rattle.bk_tiling_layout.proofs.Edges.{right_within, side}
 use Rattle.bk_tiling_layout.proofs.LineNumbers.{eq_from, eq_to}

@@ -19,7 +19,7 @@ use Rattle.bk_word.proofs.PlayLists.{numbers-length}
 use Rattle.bk_word.specs.Outline.{Outline, valley_of}
 use Rattle.bk_word.specs.Play.{after_move, numbers_from}
 use Rattle.bk_word.specs.declared.Sign.{Sign}
-use Rattle.bk_lay.proofs.Steps.{one_of}
+use Rattle.bk_lay.proofs.LaidRuns.{one_of}
 use Rattle.bk_lay.proofs.Valleys.{one_leftmost_valley}
 use Rattle.bk_lay.specs.Depiction.{Span}
 use Rattle.bk_lay.specs.TilingWord.{depth_before, depth_from, signs_between}

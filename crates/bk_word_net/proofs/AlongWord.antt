@@ -17,7 +17,8 @@ use Rattle.bk_tiling.specs.declared.Square.{Square}
 use Rattle.bk_word.specs.Outline.{IsLegalMove, Outline, start, valley_of}
 use Rattle.bk_word.specs.Play.{after_move, after_moves}
 use Rattle.bk_word.specs.Word.{Move, Word}
-use Rattle.bk_lay.proofs.Filling.{cell, hangs, valley_is_filled}
+use Rattle.bk_lay.proofs.UnderValley.{cell, hangs}
+use Rattle.bk_lay.proofs.Filling.{valley_is_filled}
 use Rattle.bk_lay.proofs.Joining.{levels}
 use Rattle.bk_lay.proofs.Laying.{under_chain}
 use Rattle.bk_lay.proofs.Steps.{move_depicts, start_depicts_nothing}

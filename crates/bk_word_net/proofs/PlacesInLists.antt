@@ -11,7 +11,7 @@ use Rattle.bk_tiling.specs.declared.Square.{Square}
 use Rattle.bk_tiling.proofs.Groups.{row_of}
 use Rattle.bk_net.proofs.NodeBelow.{place}
 use Rattle.bk_net.proofs.SmithLists.{group_wires}
-use Rattle.bk_lay.proofs.Steps.{one_of}
+use Rattle.bk_lay.proofs.LaidRuns.{one_of}
 use Rattle.bk_lay.proofs.WordPlay.{NoneTwice, fewer}
 use Rattle.bk_lay.specs.Depiction.{IsNumbered, Span}
 use Rattle.bk_word_net.proofs.PlacedMoves.{get_either}

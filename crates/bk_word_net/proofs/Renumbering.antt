@@ -20,7 +20,7 @@ use Rattle.bk_word.specs.Outline.{start}
 use Rattle.bk_word.specs.Play.{outline_of}
 use Rattle.bk_word.specs.Word.{Word}
 use Rattle.bk_lay.proofs.SquaresOnce.{own_cell, squares_once}
-use Rattle.bk_lay.proofs.Steps.{one_of}
+use Rattle.bk_lay.proofs.LaidRuns.{one_of}
 use Rattle.bk_lay.proofs.WordPlay.{fewer}
 use Rattle.bk_lay.specs.TilingWord.{IsWordOf}
 use Rattle.bk_word_net.proofs.AlongWord.{HasBegun, NotBegun}

@@ -18,7 +18,7 @@ use Rattle.bk_tiling.specs.declared.Segment.{Segment}
 use Rattle.bk_tiling.specs.declared.Square.{Square}
 use Rattle.bk_word.specs.Outline.{Outline}
 use Rattle.bk_word.specs.Word.{Move, Word}
-use Rattle.bk_lay.proofs.Filling.{IsUnder, hangs_from, under_from}
+use Rattle.bk_lay.proofs.UnderValley.{IsUnder, hangs_from, under_from}
 use Rattle.bk_lay.proofs.Laying.{ordered_filter}
 use Rattle.bk_lay.specs.Depiction.{IsSegment}
 use Rattle.bk_lay.specs.TilingWord.{MovesFollow, bottoms, depth_before, depth_from, hangs_under, move_under, signs_between, squares_under}
