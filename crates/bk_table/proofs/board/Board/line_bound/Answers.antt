@@ -2,7 +2,7 @@ use Rattle.std.proofs.Common.{ap, arith, length, sum, ◌∙◌, ◌≡◌}
 use Rattle.bk_word.specs.Play.{outline_of}
 use Rattle.bk_skel.proofs.TurnParts.{sum_lengths}
 use Rattle.bk_bounds.proofs.BoundsOfWords.{line_bound_by_lists, sizes_long}
-use Rattle.bk_bounds.specs.VerticalCut.{line_bound, line_bound_of, lines_of, segments_of, touched}
+use Rattle.bk_bounds.specs.VerticalCut.{line_bound, line_bound_of, edges_on_lines, segments_of, touched}
 use Rattle.bk_table.proofs.TopLineMarks.{marks_of_board}
 use Rattle.bk_table.specs.TopLines.{on_top_lines}
 use Rattle.bk_table.proofs.board.Board.line_bound.Goals as goal
@@ -20,7 +20,7 @@ line_bound-requires-clause-enough c = omega (arith, sum_lengths (outline_of c.se
 
 pub returns : goal.returns
 returns c =
-    let marks : on_top_lines c.self.inside.first c.deref.result.now ≡ lines_of c.self.inside.skel =
+    let marks : on_top_lines c.self.inside.first c.deref.result.now ≡ edges_on_lines c.self.inside.skel =
     ap (on_top_lines c.self.inside.first) c.deref.ensures.0 ∙ marks_of_board c.self.inside.skel c.self.inside.lefts.items c.self.inside.rights.items
     c.self.inside.nodes.items c.self.inside.first c.self.invariant in
     c.line_bound.ensures ∙ (λ i. line_bound (c.signs.ensures i)
