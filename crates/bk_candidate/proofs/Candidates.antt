@@ -29,7 +29,8 @@ use Rattle.bk_candidate.proofs.PrimitiveFlow.{same_levels, signed_flow_is_primit
 use Rattle.bk_candidate.specs.Candidate.{IsCandidateOf, TheCandidateIsTheTiling, candidate_square, candidate_squares, level_in, line_place}
 use Rattle.bk_candidate.specs.Candidate.{placed_square, right_edges, right_edges_from}
 use Rattle.bk_signed_word.proofs.KnownLines.{as_many_sides, known_lines}
-use Rattle.bk_signed_word.proofs.SignedFlows.{ends_below, hangs_by_flow, potential_is, signed_sides_are_the_one_flow, square_apart, square_below, top_potential}
+use Rattle.bk_signed_word.proofs.SignedWires.{ends_below, square_apart, square_below}
+use Rattle.bk_signed_word.proofs.SignedFlows.{hangs_by_flow, potential_is, signed_sides_are_the_one_flow, top_potential}
 use Rattle.bk_signed_word.proofs.NumberedLists.{numbers_all, numbers_each, numbers_index, numbers_length}
 use Rattle.bk_signed_word.specs.SignedFlow.{signed_flow, signed_side, upper_end}
 use Rattle.bk_signed_word.specs.SignedWord.{IsSignedWordOf, left_edge, line_column}
@@ -53,9 +54,6 @@ no_zero false n h e = omega (arith, ints, h, e)
 
 module _ (t : Tiling) (w : Word) (f : Flow) (tiling : IsTiling t) (primitive : IsPrimitiveTiling t) (s : IsSignedWordOf t w)
     (flow : IsFlow (net_of_word w) f) (positive : pos 1 ≤ℤ f.total) (lowest : IsPrimitive f) where
-  abbrev side_flow : Flow
-  side_flow = signed_flow t w s
-
   side_one : IsOneFlow (net_of_word w) (signed_flow t w s)
   side_one = signed_sides_are_the_one_flow t w tiling s
 

@@ -17,7 +17,7 @@ use Rattle.bk_tiling_layout.specs.TilingLayout.{square_of}
 use Rattle.bk_candidate.proofs.OtherOrder.{in_other, number_in}
 use Rattle.bk_candidate.specs.Candidate.{level_in}
 use Rattle.bk_signed_word.proofs.NumberedLists.{at_number}
-use Rattle.bk_signed_word.proofs.SignedFlows.{square_apart, square_below}
+use Rattle.bk_signed_word.proofs.SignedWires.{square_apart, square_below}
 use Rattle.bk_signed_word.specs.SignedFlow.{signed_flow, signed_side}
 use Rattle.bk_signed_word.specs.SignedWord.{IsSignedWordOf}
 

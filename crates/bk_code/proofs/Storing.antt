@@ -238,12 +238,6 @@ sides_room starts xs code stored view room = omega (arith, sides_count starts xs
 pub starts_room : (starts xs : List ℕ) (code : Code) → IsStored starts xs → groups_at starts xs ≡ code → length (flat code) < 200 → length starts < 200
 starts_room starts xs code stored view room = omega (arith, sides_count starts xs code stored view, starts_below starts (length xs) stored.starts_rise)
 
--- the groups of a code, and its flat list, are of sides
-pub group_good : (code : Code) (g : ℕ) → AllByRecursion IsSideGroup code → g < length code → IsSideGroup (get_or code g [])
-group_good [] g good l = absurd (omega arith)
-group_good (group ∷ code) zero good l = good.0
-group_good (group ∷ code) (suc g) good l = group_good code g good.1 (omega arith)
-
 -- where each group has sides that a square may have, so has the flat list
 pub flat_good : (code : Code) → AllByRecursion IsSideGroup code → AllByRecursion IsSide (flat code)
 flat_good [] good = tt

@@ -4,4 +4,6 @@ pub mod SmallForms
 pub mod Asked
 pub mod Segments
 pub mod Traces
+pub mod TraceMore
+pub mod TraceBack
 pub mod RuledOut

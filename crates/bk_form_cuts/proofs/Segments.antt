@@ -15,20 +15,7 @@ use Rattle.bk_form_cuts.specs.SideForms.{level_of, levels_along}
 use Rattle.bk_word.specs.declared.Sign.{Sign}
 use Rattle.bk_word.specs.declared.Sign.TheVariants.{Above, Even, Under}
 
-pub numbers_more : (n k : ℕ) → numbers_from n (suc k) ≡ numbers_from n k ++ (n + k) ∷ []
-numbers_more n zero = ap (λ (m : ℕ). m ∷ []) (nothing n)
-  where
-    nothing : (n : ℕ) → n ≡ n + 0
-    nothing n = omega arith
-numbers_more n (suc k) = ap (λ (l : List ℕ). n ∷ l) (numbers_more (n + 1) k) ∙ ap (λ (m : ℕ). n ∷ (numbers_from (n + 1) k ++ m ∷ [])) (further n k)
-  where
-    further : (n k : ℕ) → n + 1 + k ≡ n + suc k
-    further n k = omega arith
-
-pub numbers_many : (n k : ℕ) → length (numbers_from n k) ≡ k
-numbers_many n zero = λ i. 0
-numbers_many n (suc k) = ap suc (numbers_many (n + 1) k)
-
+-- the leftmost valley is one of the segments
 pub place_within : (signs : List Sign) → valley_place signs ≤ length signs
 place_within [] = omega arith
 place_within (Above ∷ signs) = omega arith
@@ -56,6 +43,7 @@ module _ (segments : List (List ℕ)) (i : ℕ) (h : i < length segments) where
       ∙ sym (ap (λ (l : List (List ℕ)). get_or l i []) c.whole ∙ ap (λ (k : ℕ). get_or (c.front ++ c.here ∷ c.back) k []) (sym c.long)
       ∙ here_at c.front c.here c.back)
 
+  -- a segment's squares end within all open squares
   pub segment_room : sum (take i (map length segments)) + get_or (map length segments) i 0 ≤ length (concat segments)
   segment_room = omega (arith, next, sum_lengths segments, below (suc i) (map length segments))
     where
@@ -71,10 +59,12 @@ module _ (segments : List (List ℕ)) (sizes ends : List ℕ) (start i : ℕ) (s
   within : i < length segments
   within = omega (arith, h, ap length sizes_are, length-map segments (length {A = ℕ}))
 
+  -- its squares are the slice at their place
   pub part_is : slice_range ends start (start + get_or sizes i 0) ≡ get_or segments i []
   part_is = (λ j. slice_range (ends_are j) ((start_is ∙ ap (λ (l : List ℕ). sum (take i l)) sizes_are) j)
       ((start_is ∙ ap (λ (l : List ℕ). sum (take i l)) sizes_are) j + get_or (sizes_are j) i 0)) ∙ segment_is segments i within
 
+  -- and the slice lies within them
   pub part_room : start + get_or sizes i 0 ≤ length ends
   part_room = omega (
     arith,
@@ -85,6 +75,7 @@ module _ (segments : List (List ℕ)) (sizes ends : List ℕ) (start i : ℕ) (s
     segment_room segments i within,
   )
 
+-- where the next segment begins
 pub sum_then : (segments : List (List ℕ)) (sizes : List ℕ) (start i size : ℕ) → sizes ≡ map length segments → start ≡ sum (take i sizes)
     → size ≡ get_or sizes i 0 → i < length sizes → start + size ≡ sum (take (i + 1) sizes)
 sum_then segments sizes start i size are is e h = (λ j. is j + e j) ∙ sym (sum_next sizes i h) ∙ ap (λ (k : ℕ). sum (take k sizes)) one
@@ -92,6 +83,7 @@ sum_then segments sizes start i size are is e h = (λ j. is j + e j) ∙ sym (su
     one : suc i ≡ i + 1
     one = omega arith
 
+-- past the last segment there is none
 pub segment_past : (segments : List (List ℕ)) (i : ℕ) → length segments ≤ i → get_or segments i [] ≡ []
 segment_past [] i h = λ j. []
 segment_past (s ∷ segments) zero h = absurd (omega arith)
@@ -114,6 +106,7 @@ numbers_are w m numbers hung count is h c = is ∙ (λ i. numbers_from ((h ∙ s
     many : length (outline_of w).hung ≡ order_of w
     many = omega (arith, hung_many start w)
 
+-- at most one level is known at a side
 pub beside_short : (b : Bool) (f : Form) → length (cond {A = List Form} b [] (f ∷ [])) ≤ 1
 beside_short true f = omega arith
 beside_short false f = omega arith

@@ -58,6 +58,17 @@ zeroth a b e = grind (arith, nat_tests)
 other : (a b : ℕ) → (a ≡ b → ⊥) → nat_eq a b ≡ false
 other a b h = grind (arith, nat_tests)
 
+-- the level of a segment that stands beside the valley is zipped with its depth
+zip_by : (sides : List ℕ) (b : Bool) (f : Form) (ns ms : List ℕ) → b ≡ false → ns ≡ ms → AllZip (IsLevelOf sides) (f ∷ []) ms
+    → AllZip (IsLevelOf sides) (cond b [] (f ∷ [])) ns
+zip_by sides true f ns ms e g z = absurd (cc)
+zip_by sides false f ns ms e g z = subst (AllZip (IsLevelOf sides) (f ∷ [])) (sym g) z
+
+-- and at a wall nothing is
+zip_none : (sides : List ℕ) (b : Bool) (f : Form) (ns : List ℕ) → b ≡ true → ns ≡ [] → AllZip (IsLevelOf sides) (cond b [] (f ∷ [])) ns
+zip_none sides true f ns e g = subst (AllZip (IsLevelOf sides) []) (sym g) tt
+zip_none sides false f ns e g = absurd (cc)
+
 module _ (t : Tiling) (laid : List Square) (nodes : List Segment) (o : Outline) (v : Segment) (sides : List ℕ) (bottoms : List Form)
     (tiling : IsTiling t) (d : Depicts t laid nodes o) (found : IsLeftmostValley t.width laid v)
     (zip : AllZip (IsBottomOf sides) bottoms laid) where
@@ -83,22 +94,14 @@ module _ (t : Tiling) (laid : List Square) (nodes : List Segment) (o : Outline) 
       (run_some t.width laid 0 front u back (subst (AreRuns t.width laid 0) (is ∙ e) d.cut)) zip
       (zip_at (IsSegment laid) front u back o.segments [] (subst (λ (runs : List Segment). AllZip (IsSegment laid) runs o.segments) (is ∙ e) d.segments))
 
+  -- the level at the left of the valley is the depth there
   pub left_is : AllZip (IsLevelOf sides) (left_level o bottoms) (depth_before laid v.x)
   left_is = cases (subst (λ (w : Segment). ((p.before ≡ []) × (w.x ≡ 0)) ⊎ HasLast laid w.x p.before) same p.left)
     where
-      zip_by : (b : Bool) (f : Form) (ns ms : List ℕ) → b ≡ false → ns ≡ ms → AllZip (IsLevelOf sides) (f ∷ []) ms
-          → AllZip (IsLevelOf sides) (cond b [] (f ∷ [])) ns
-      zip_by true f ns ms e g z = absurd (cc)
-      zip_by false f ns ms e g z = subst (AllZip (IsLevelOf sides) (f ∷ [])) (sym g) z
-
-      zip_none : (b : Bool) (f : Form) (ns : List ℕ) → b ≡ true → ns ≡ [] → AllZip (IsLevelOf sides) (cond b [] (f ∷ [])) ns
-      zip_none true f ns e g = subst (AllZip (IsLevelOf sides) []) (sym g) tt
-      zip_none false f ns e g = absurd (cc)
-
       cases : ((p.before ≡ []) × (v.x ≡ 0)) ⊎ HasLast laid v.x p.before → AllZip (IsLevelOf sides) (left_level o bottoms) (depth_before laid v.x)
-      cases (inl (none, at)) = zip_none (has_left_wall o) (level_of bottoms (slice_index_or o.segments (valley_place o.signs - 1) []))
+      cases (inl (none, at)) = zip_none sides (has_left_wall o) (level_of bottoms (slice_index_or o.segments (valley_place o.signs - 1) []))
           (depth_before laid v.x) (zeroth (valley_place o.signs) 0 (number ∙ ap length none)) (ap (depth_before laid) at)
-      cases (inr h) = zip_by (has_left_wall o) (level_of bottoms (slice_index_or o.segments (valley_place o.signs - 1) [])) (depth_before laid v.x)
+      cases (inr h) = zip_by sides (has_left_wall o) (level_of bottoms (slice_index_or o.segments (valley_place o.signs - 1) [])) (depth_before laid v.x)
           ((h.last).level ∷ [])
           (other (valley_place o.signs) 0 (λ e. omega (arith, number, e, before_many))) h.level (
             subst (λ (k : ℕ). IsLevelOf sides (level_of bottoms (slice_index_or o.segments k [])) (h.last).level) place
@@ -115,18 +118,10 @@ module _ (t : Tiling) (laid : List Square) (nodes : List Segment) (o : Outline) 
           split : p.before ++ v ∷ p.after ≡ h.front ++ h.last ∷ (v ∷ p.after)
           split = ap (λ (b : List Segment). b ++ v ∷ p.after) h.is ∙ append_assoc h.front (h.last ∷ []) (v ∷ p.after)
 
+  -- and so is that at its right
   pub right_is : AllZip (IsLevelOf sides) (right_level o bottoms) (depth_from t.width laid (v.x + v.width))
   right_is = cases (subst (λ (w : Segment). ((p.after ≡ []) × (w.x + w.width ≡ t.width)) ⊎ HasFirst t.width laid (w.x + w.width) p.after) same p.right)
     where
-      zip_by : (b : Bool) (f : Form) (ns ms : List ℕ) → b ≡ false → ns ≡ ms → AllZip (IsLevelOf sides) (f ∷ []) ms
-          → AllZip (IsLevelOf sides) (cond b [] (f ∷ [])) ns
-      zip_by true f ns ms e g z = absurd (cc)
-      zip_by false f ns ms e g z = subst (AllZip (IsLevelOf sides) (f ∷ [])) (sym g) z
-
-      zip_none : (b : Bool) (f : Form) (ns : List ℕ) → b ≡ true → ns ≡ [] → AllZip (IsLevelOf sides) (cond b [] (f ∷ [])) ns
-      zip_none true f ns e g = subst (AllZip (IsLevelOf sides) []) (sym g) tt
-      zip_none false f ns e g = absurd (cc)
-
       at_wall : (c w : ℕ) (ds : List ℕ) → c ≡ w → cond (nat_lt c w) ds [] ≡ []
       at_wall c w ds e = ap (λ (b : Bool). cond b ds []) (not_less c w e)
         where
@@ -135,11 +130,11 @@ module _ (t : Tiling) (laid : List Square) (nodes : List Segment) (o : Outline) 
 
       cases : ((p.after ≡ []) × (v.x + v.width ≡ t.width)) ⊎ HasFirst t.width laid (v.x + v.width) p.after
           → AllZip (IsLevelOf sides) (right_level o bottoms) (depth_from t.width laid (v.x + v.width))
-      cases (inl (none, at)) = zip_none (has_right_wall o) (level_of bottoms (slice_index_or o.segments (valley_place o.signs + 1) []))
+      cases (inl (none, at)) = zip_none sides (has_right_wall o) (level_of bottoms (slice_index_or o.segments (valley_place o.signs + 1) []))
           (depth_from t.width laid (v.x + v.width))
           (zeroth (valley_place o.signs) (length o.signs) (omega (arith, number, many, ap length none)))
           (at_wall (v.x + v.width) t.width (depth laid (v.x + v.width) ∷ []) at)
-      cases (inr h) = zip_by (has_right_wall o) (level_of bottoms (slice_index_or o.segments (valley_place o.signs + 1) []))
+      cases (inr h) = zip_by sides (has_right_wall o) (level_of bottoms (slice_index_or o.segments (valley_place o.signs + 1) []))
           (depth_from t.width laid (v.x + v.width)) ((h.first).level ∷ [])
           (other (valley_place o.signs) (length o.signs) (λ e. omega (arith, number, many, e, ap length h.is))) h.level (
             subst (λ (k : ℕ). IsLevelOf sides (level_of bottoms (slice_index_or o.segments k [])) (h.first).level) place
@@ -153,6 +148,7 @@ module _ (t : Tiling) (laid : List Square) (nodes : List Segment) (o : Outline) 
           split : p.before ++ v ∷ p.after ≡ (p.before ++ v ∷ []) ++ h.first ∷ h.back
           split = ap (λ (a : List Segment). p.before ++ v ∷ a) h.is ∙ sym (append_assoc p.before (v ∷ []) (h.first ∷ h.back))
 
+  -- and the valley's own
   pub valley_level : IsLevelOf sides (level_of bottoms (valley_of o)) v.level
   valley_level = subst (λ (k : ℕ). IsLevelOf sides (level_of bottoms (slice_index_or o.segments k [])) v.level) (sym number) (at_run p.before v p.after refl)
 
@@ -222,6 +218,7 @@ module _ (t : Tiling) (laid : List Square) (nodes : List Segment) (o : Outline) 
       )
       old numbers n (inr top) = absurd (n top.1)
 
+  -- what a move of a tiling's word says holds of the tiling's sides
   pub move_holds : MoveHolds o (move_under t laid v) bottoms (laid ++ squares_under t v) sides
   move_holds = record {
     widths = widths;
@@ -229,6 +226,7 @@ module _ (t : Tiling) (laid : List Square) (nodes : List Segment) (o : Outline) 
     bottoms_then = zip_append (IsBottomOf sides) bottoms (new_bottoms o (move_under t laid v) bottoms) laid (squares_under t v) zip news;
   }
 
+-- the law: so it does of all moves of the word
 pub moves_hold : MovesHold
 moves_hold front m bottoms t laid laid_then sides tiling before (v, found, low, is, e) are zip =
     subst (λ (l : List Square). MoveHolds (outline_of front) m bottoms l sides) e

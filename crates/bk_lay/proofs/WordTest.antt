@@ -1,9 +1,10 @@
 -- A test of a word against a tiling: the valleys are given, and each is tested.
-use Rattle.std.proofs.Common.{Bool, List, [], ap, arith, nat_eq, nat_le, nat_lt, not, refl, subst, suc, sym, true, zero, ℕ, ◌++◌, ◌+◌, ◌-◌, ◌<◌}
-use Rattle.std.proofs.Common.{◌||◌, ◌∙◌, ◌∷◌, ◌≡◌}
+use Rattle.std.proofs.Common.{Bool, List, [], arith, nat_eq, nat_le, nat_lt, not, refl, subst, suc, true, zero, ℕ, ◌++◌, ◌+◌, ◌<◌}
+use Rattle.std.proofs.Common.{◌||◌, ◌∷◌, ◌≡◌}
 use Rattle.std.proofs.lemmas.Bool.Decides.{nat_tests}
 use Rattle.std.proofs.lemmas.Bool.{eqb-true, leb-true, ltb-true}
 use Rattle.bk_laws.proofs.Tests.{after_of, all_below, each_below}
+use Rattle.bk_tiling.proofs.LevelTest.{level_from_tests}
 use Rattle.bk_tiling.specs.Column.{IsLevel, depth}
 use Rattle.bk_tiling.specs.declared.Segment.{Segment}
 use Rattle.bk_tiling.specs.Tiling.{Tiling}
@@ -39,14 +40,7 @@ pub passes_as_valley : (width : ℕ) (laid : List Square) (v : Segment) → Pass
 passes_as_valley width laid v p = leftmost_by_falling width laid v valley falls
   where
     flat : IsLevel width laid v
-    flat = record {
-      some = ltb-true 0 v.width p.some;
-      within = leb-true (v.x + v.width) width p.within;
-      level = λ c low high. let e : v.x + (c - v.x) ≡ c = omega arith in
-          sym (ap (depth laid) e)
-          ∙ eqb-true (depth laid (v.x + (c - v.x))) v.level (each_below (λ k. nat_eq (depth laid (v.x + k)) v.level) v.width p.level (c - v.x)
-          (omega arith));
-    }
+    flat = level_from_tests width laid v p.some p.within p.level
 
     ends : v.x + v.width < width → nat_lt (v.x + v.width) width ≡ true
     ends h = grind (arith, nat_tests)

@@ -1,8 +1,9 @@
 -- A test of a gap, by which the gap of an example is shown by computation.
-use Rattle.std.proofs.Common.{List, ap, arith, nat_eq, nat_le, nat_lt, not, sym, true, ℕ, ◌+◌, ◌-◌, ◌<◌, ◌||◌, ◌∙◌, ◌≡◌}
+use Rattle.std.proofs.Common.{List, arith, nat_eq, nat_le, nat_lt, not, true, ℕ, ◌+◌, ◌<◌, ◌||◌, ◌≡◌}
 use Rattle.std.proofs.lemmas.Bool.Decides.{nat_tests}
-use Rattle.std.proofs.lemmas.Bool.{eqb-true, leb-true, ltb-true}
+use Rattle.std.proofs.lemmas.Bool.{leb-true, ltb-true}
 use Rattle.bk_laws.proofs.Tests.{after_of, all_below, each_below}
+use Rattle.bk_tiling.proofs.LevelTest.{level_from_tests}
 use Rattle.bk_tiling.specs.Column.{IsLevel, depth}
 use Rattle.bk_tiling.specs.declared.Segment.{Segment}
 use Rattle.bk_tiling.specs.declared.Square.{Square}
@@ -31,14 +32,7 @@ passes_as_gap width laid v p = record {
     end h = grind (arith, nat_tests)
 
     flat : IsLevel width laid v
-    flat = record {
-      some = ltb-true 0 v.width p.some;
-      within = leb-true (v.x + v.width) width p.within;
-      level = λ c low high. let e : v.x + (c - v.x) ≡ c = omega arith in
-          sym (ap (depth laid) e)
-          ∙ eqb-true (depth laid (v.x + (c - v.x))) v.level
-          (each_below (λ k. nat_eq (depth laid (v.x + k)) v.level) v.width p.level (c - v.x) (omega arith));
-    }
+    flat = level_from_tests width laid v p.some p.within p.level
 
 -- the test by its six parts, each computed
 abbrev pub by_tests : (width : ℕ) (laid : List Square) (v : Segment) → nat_lt 0 v.width ≡ true → nat_le (v.x + v.width) width ≡ true

@@ -6,7 +6,8 @@ use Rattle.std.proofs.lemmas.List.{get_or-drop, get_or-take, length-append, leng
 use Rattle.std.proofs.lemmas.List.Elements.{All-append}
 use Rattle.std.proofs.lemmas.List.Sums.{sum_by-append, sum_by-cons}
 use Rattle.bk_laws.proofs.Totals.{sum_is_total, total}
-use Rattle.bk_tiling.proofs.Group.{depth_beside, depth_under, length_group}
+use Rattle.bk_tiling.proofs.FilledGroup.{depth_beside, depth_under}
+use Rattle.bk_tiling.proofs.Group.{length_group}
 use Rattle.bk_tiling.specs.Column.{depth}
 use Rattle.bk_tiling.specs.Kept.{IsSide}
 use Rattle.bk_tiling.specs.SquareGroups.{laid_group}

@@ -5,7 +5,8 @@ use Rattle.std.proofs.lemmas.Bool.{cases_Bool, cases_lt}
 use Rattle.std.proofs.lemmas.List.{append-nil, append_assoc}
 use Rattle.bk_laws.proofs.Totals.{sum_is_total, total}
 use Rattle.bk_tiling.proofs.Cells.{all_from, column_from, depth-append, depth_reaches, from_append, in_all}
-use Rattle.bk_tiling.proofs.Group.{HasOver, depth_under, filled_group, group_sides, group_top, group_within, over_group}
+use Rattle.bk_tiling.proofs.Group.{HasOver, group_sides, group_top, group_within, over_group}
+use Rattle.bk_tiling.proofs.FilledGroup.{depth_under, filled_group}
 use Rattle.bk_tiling.proofs.Groups.{beside_from, beside_to}
 use Rattle.bk_tiling.proofs.PuttingInOrder.{group_ordered}
 use Rattle.bk_tiling.proofs.Scaling.{before_from}

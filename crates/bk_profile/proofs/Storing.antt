@@ -3,7 +3,8 @@ use Rattle.std.specs.List.{All, AllByRecursion, HoldsAt}
 use Rattle.std.proofs.Common.{List, ap, arith, drop, get_or, length, subst, sym, take, ℕ, ◌*◌, ◌++◌, ◌+◌, ◌<◌, ◌∙◌, ◌≡◌, ◌≤◌}
 use Rattle.std.proofs.lemmas.List.{length-append}
 use Rattle.bk_laws.proofs.Totals.{sum_is_total, total}
-use Rattle.bk_tiling.proofs.Group.{filled_group, length_group}
+use Rattle.bk_tiling.proofs.FilledGroup.{filled_group}
+use Rattle.bk_tiling.proofs.Group.{length_group}
 use Rattle.bk_tiling.specs.Column.{depth}
 use Rattle.bk_tiling.specs.Kept.{IsSide}
 use Rattle.bk_tiling.specs.SquareGroups.{laid_group}

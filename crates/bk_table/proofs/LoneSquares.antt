@@ -1,76 +1,34 @@
 -- New squares that are valleys of one square: after a move there are at least as many as its first signs tell.
-use Rattle.std.specs.List.{AllByRecursion}
 use Rattle.std.proofs.Common.{Bool, List, [], ap, append-nil, append_assoc, arith, cond, drop, false, filter, length, map, nat_eq, refl, slice_index_or, subst}
 use Rattle.std.proofs.Common.{suc, sym, take, true, zero, ℕ, ◌++◌, ◌+◌, ◌-◌, ◌<◌, ◌∙◌, ◌∷◌, ◌≡◌, ◌≤◌}
 use Rattle.std.proofs.lemmas.List.{drop_all, length-append, length-take, map-append}
 use Rattle.std.proofs.lemmas.Bool.Decides.{nat_tests}
 use Rattle.bk_word.specs.Outline.{IsLegalMove, Outline, has_left_wall, has_right_wall, open_side, valley_place}
-use Rattle.bk_word.specs.Play.{after_move, before_first_list, joined, new_squares, parts}
+use Rattle.bk_word.specs.Play.{after_move, joined, new_squares, parts}
 use Rattle.bk_word.specs.Word.{Move}
 use Rattle.bk_word.specs.declared.Sign.{Sign}
 use Rattle.bk_word.specs.declared.Sign.TheVariants.{Above, Even, Under}
 use Rattle.bk_word.proofs.PlayLists.{numbers-length}
 use Rattle.bk_word_net.proofs.Shape.{Shaped}
-use Rattle.bk_bounds.proofs.SingleLaws.{place_within}
-use Rattle.bk_bounds.specs.SingleValleys.{single_valley, single_valleys, single_valleys_from, sizes_of}
+use Rattle.bk_word_net.proofs.ValleyCut.{AllPart}
+use Rattle.bk_bounds.proofs.SingleLaws.{grown_is_more, low_is_more, place_within, singles, unchanged}
+use Rattle.bk_bounds.specs.SingleValleys.{single_valley, single_valleys, sizes_of}
 use Rattle.bk_owed.specs.Lone.{is_low, lone_squares}
 use Rattle.bk_table.specs.Asking.{singles_behind}
-
--- the valleys of one square among segments, from the first on
-abbrev singles : Bool → List Sign → List (List ℕ) → ℕ
-singles low signs segments = single_valleys_from low signs (map length segments)
-
-low_is_more : (b : Bool) (signs : List Sign) (segments : List (List ℕ)) → singles false signs segments ≤ singles b signs segments
-low_is_more b signs [] = omega arith
-low_is_more b [] (s ∷ segments) = omega arith
-low_is_more b (Above ∷ signs) (s ∷ segments) = omega arith
-low_is_more b (Even ∷ signs) (s ∷ segments) = omega arith
-low_is_more b (Under ∷ signs) (s ∷ segments) = omega arith
-
--- where the first segment is no valley, its squares do not count
-first_grown : (x : List ℕ) (signs : List Sign) (segments : List (List ℕ)) → singles false signs (before_first_list x segments) ≡ singles false signs segments
-first_grown x [] [] = refl
-first_grown x (Above ∷ signs) [] = refl
-first_grown x (Even ∷ signs) [] = refl
-first_grown x (Under ∷ signs) [] = refl
-first_grown x [] (s ∷ segments) = refl
-first_grown x (Above ∷ signs) (s ∷ segments) = refl
-first_grown x (Even ∷ signs) (s ∷ segments) = refl
-first_grown x (Under ∷ signs) (s ∷ segments) = refl
-
--- a segment joined to the next ones
-grown_is_more : (b : Bool) (x : List ℕ) (signs : List Sign) (segments : List (List ℕ))
-    → singles false signs segments ≤ singles b signs (before_first_list x segments)
-grown_is_more b x signs segments = omega (arith, first_grown x signs segments, low_is_more b signs (before_first_list x segments))
 
 -- each square a segment of its own
 abbrev lone : List ℕ → List (List ℕ)
 lone squares = map (λ q. q ∷ []) squares
 
 -- between open segments no sign is even, so behind the last sign of a move nothing is joined
-abbrev ArePart : List Sign → Type 0
-ArePart signs = AllByRecursion (λ sign. parts sign ≡ true) signs
-
-parted_behind : (signs : List Sign) (k : ℕ) → ArePart signs → ArePart (drop k signs)
+parted_behind : (signs : List Sign) (k : ℕ) → AllPart signs → AllPart (drop k signs)
 parted_behind [] zero p = tt
 parted_behind [] (suc k) p = tt
 parted_behind (s ∷ signs) zero p = p
 parted_behind (s ∷ signs) (suc k) p = parted_behind signs k p.1
 
-unchanged : (b : Bool) (back : List Sign) (rest : List (List ℕ)) → ArePart back → singles b (filter parts back) (joined back rest) ≡ singles b back rest
-unchanged b [] [] p = refl
-unchanged b (Above ∷ back) [] p = refl
-unchanged b (Under ∷ back) [] p = refl
-unchanged b (Even ∷ back) rest p = absurd (clash p.0)
-  where
-    clash : false ≡ true → ⊥
-    clash f = cc
-unchanged b [] (s ∷ rest) p = refl
-unchanged b (Above ∷ back) (s ∷ rest) p = omega (arith, unchanged false back rest p.1)
-unchanged b (Under ∷ back) (s ∷ rest) p = omega (arith, unchanged true back rest p.1)
-
 -- in a row of new squares, each with a sign at its right, and behind it
-in_row : (b : Bool) (signs back : List Sign) (squares : List ℕ) (rest : List (List ℕ)) → length signs ≡ length squares → ArePart back
+in_row : (b : Bool) (signs back : List Sign) (squares : List ℕ) (rest : List (List ℕ)) → length signs ≡ length squares → AllPart back
     → lone_squares b signs + singles (is_low b signs) back rest ≤ singles b (filter parts (signs ++ back)) (joined (signs ++ back) (lone squares ++ rest))
 in_row b [] back [] rest h p = omega (arith, unchanged b back rest p)
 in_row b [] back (q ∷ squares) rest h p = absurd (omega arith)
@@ -84,7 +42,7 @@ in_row b (Even ∷ signs) back (q ∷ squares) rest h p = omega (
 in_row b (Under ∷ signs) back (q ∷ squares) rest h p = omega (arith, in_row true signs back squares rest (omega arith) p)
 
 -- behind a segment that is no valley
-behind_one : (x : List ℕ) (signs back : List Sign) (squares : List ℕ) (rest : List (List ℕ)) → length signs ≡ length squares + 1 → ArePart back
+behind_one : (x : List ℕ) (signs back : List Sign) (squares : List ℕ) (rest : List (List ℕ)) → length signs ≡ length squares + 1 → AllPart back
     → lone_squares false signs + singles (is_low false signs) back rest
     ≤ singles false (filter parts (signs ++ back)) (joined (signs ++ back) (x ∷ lone squares ++ rest))
 behind_one x [] back squares rest h p = absurd (omega arith)
@@ -116,13 +74,13 @@ take_one (x ∷ xs) zero h = refl
 take_one (x ∷ xs) (suc k) h = ap (λ l. x ∷ l) (take_one xs k (omega arith))
 
 -- the outline after a move of these signs, at a valley at this place: with a wall at its left, and without
-at_wall : (signs back old : List Sign) (segments rest : List (List ℕ)) (squares : List ℕ) → length signs ≡ length squares → ArePart back
+at_wall : (signs back old : List Sign) (segments rest : List (List ℕ)) (squares : List ℕ) → length signs ≡ length squares → AllPart back
     → lone_squares true signs + singles (is_low true signs) back rest ≤ singles true (filter parts (take (0 - 1) old ++ signs ++ back))
     (joined (take (0 - 1) old ++ signs ++ back) (take 0 segments ++ lone squares ++ rest))
 at_wall signs back old segments rest squares h p = in_row true signs back squares rest h p
 
 at_neighbour : (k : ℕ) (signs back old : List Sign) (segments rest : List (List ℕ)) (squares : List ℕ) → k < length old → k < length segments
-    → length signs ≡ length squares + 1 → ArePart back → lone_squares false signs + singles (is_low false signs) back rest
+    → length signs ≡ length squares + 1 → AllPart back → lone_squares false signs + singles (is_low false signs) back rest
     ≤ singles true (filter parts (take k old ++ signs ++ back)) (joined (take k old ++ signs ++ back) (take (suc k) segments ++ lone squares ++ rest))
 at_neighbour k signs back old segments rest squares in_old in_segments h p = omega (arith, whole, here, same)
   where
@@ -154,7 +112,7 @@ no_wall : (k : ℕ) → nat_eq (suc k) 0 ≡ false
 no_wall k = grind (arith, nat_tests)
 
 at_place : (p : ℕ) (signs back old : List Sign) (segments rest : List (List ℕ)) (squares : List ℕ) → p ≤ length old → length segments ≡ length old + 1
-    → length signs ≡ length squares + open_side (nat_eq p 0) → ArePart back → lone_squares (nat_eq p 0) signs + singles (is_low (nat_eq p 0) signs) back rest
+    → length signs ≡ length squares + open_side (nat_eq p 0) → AllPart back → lone_squares (nat_eq p 0) signs + singles (is_low (nat_eq p 0) signs) back rest
     ≤ singles true (filter parts (take (p - 1) old ++ signs ++ back)) (joined (take (p - 1) old ++ signs ++ back) (take p segments ++ lone squares ++ rest))
 at_place zero signs back old segments rest squares within many h parted = at_wall signs back old segments rest squares (omega arith) parted
 at_place (suc k) signs back old segments rest squares within many h parted = omega (arith, apart, there)

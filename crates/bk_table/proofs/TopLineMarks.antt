@@ -7,7 +7,7 @@ use Rattle.bk_word.specs.Outline.{Outline, start, valley_of}
 use Rattle.bk_word.specs.Play.{AreLegalFrom, IsLegal, after_move, numbers_from}
 use Rattle.bk_word.specs.Word.{Move, Word, order_of}
 use Rattle.bk_word.proofs.StoredBytes.{order_more}
-use Rattle.bk_bounds.specs.VerticalCut.{begins_on_line, lines_after, lines_along, lines_of}
+use Rattle.bk_bounds.specs.VerticalCut.{begins_on_line, lines_after, lines_along, edges_on_lines}
 use Rattle.bk_free_cuts.specs.LineNumbers.{left_end, lefts_of, new_sides, right_end, sides_after, sides_along}
 use Rattle.bk_table.proofs.LeftLines.{end_left, lefts_in, new_lefts}
 use Rattle.bk_table.specs.Boards.{IsBoardOf}
@@ -87,7 +87,7 @@ later_top first o sides lines (m ∷ w) legal some many are =
     (inner_low first (length o.hung + 2) (m.count - 1) (omega (arith, many)) ∙ ap (replicate (m.count - 1)) (sym (not_first (length o.closed) some))))
 
 -- the marks of a word are those of the lines from its top
-pub marks_of_lefts : (w : Word) → IsLegal w → lines_of w ≡ on_top_lines (first_count w) (lefts_of w)
+pub marks_of_lefts : (w : Word) → IsLegal w → edges_on_lines w ≡ on_top_lines (first_count w) (lefts_of w)
 marks_of_lefts [] legal = refl
 marks_of_lefts (m ∷ w) legal =
     later_top m.count (after_move start m) (sides_after start [] m) (lines_after start [] m) w legal.1 (omega arith)
@@ -97,7 +97,7 @@ marks_of_lefts (m ∷ w) legal =
 -- ---- on a board
 
 pub marks_of_board : (w : Word) (lefts rights : List ℕ) (nodes : List LineSet) (first : ℕ) → IsBoardOf w lefts rights nodes first
-    → on_top_lines first lefts ≡ lines_of w
+    → on_top_lines first lefts ≡ edges_on_lines w
 marks_of_board [] lefts rights nodes first board = ap (on_top_lines first) board.left_word.lefts_are
 marks_of_board (m ∷ w) lefts rights nodes first board =
     (λ i. on_top_lines (board.first_is (omega arith) i) (board.left_word.lefts_are i)) ∙ sym (marks_of_lefts (m ∷ w) board.left_word.legal)

@@ -1,6 +1,7 @@
 -- squares and tilings: cells, lists in the order of a code, the test that computes, worked examples
 pub mod Cells
 pub mod TilingLaws
+pub mod LevelTest
 pub mod TilingTest
 pub mod OrderLaws
 pub mod ExampleTilings
@@ -18,6 +19,7 @@ pub mod Sizes
 -- the groups of a code, and that a width and the sides fix a tiling
 pub mod NextCorner
 pub mod Group
+pub mod FilledGroup
 pub mod Groups
 pub mod TilingGroups
 pub mod GroupStarts

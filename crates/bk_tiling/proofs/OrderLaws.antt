@@ -1,8 +1,8 @@
 -- Squares in the order of a code: putting them in order keeps each, and changes nothing where they stand so.
 use Rattle.std.specs.List.{AllByRecursion}
 use Rattle.std.specs.Prelude.{Bool, IsTrue, List, [], cond, count_by, false, length, nat_lt, refl, suc, true, ◌<◌, ◌==◌, ◌∷◌, ◌≡◌, ◌⊎◌}
-use Rattle.std.proofs.Common.{ap, arith, eqb-true, inl, inr, ltb-true, subst, sum_by, sym, ℕ, ◌+◌, ◌∙◌, ◌≤◌}
-use Rattle.std.proofs.lemmas.Bool.{and_from, and_parts, both_ways, cases_Bool, eq-eqb, lt-ltb, or_cases, or_left, or_right}
+use Rattle.std.proofs.Common.{ap, arith, eqb-true, inl, inr, ltb-true, sum_by, ℕ, ◌+◌, ◌∙◌, ◌≤◌}
+use Rattle.std.proofs.lemmas.Bool.{and_from, and_parts, eq-eqb, lt-ltb, or_cases, or_left, or_right}
 use Rattle.std.proofs.lemmas.Bool.Decides.{nat_tests}
 use Rattle.std.proofs.lemmas.List.Sums.{sum_by-cons}
 use Rattle.std.specs.Ordering.{is_lt, nat_cmp, ordering_then}
@@ -60,28 +60,6 @@ all_later p q (r ∷ qs) h all = (comes_before-trans p q r h all.0, all_later p 
 -- two squares at different places
 abbrev pub AreApart : Square → Square → Type 0
 AreApart p q = IsTrue (comes_before p q) ⊎ IsTrue (comes_before q p)
-
--- the squares are at different places, each two of them
-abbrev pub AllApart : List Square → Type 0
-AllApart [] = Unit {0}
-AllApart (q ∷ qs) = AllByRecursion (λ p. AreApart p q) qs × AllApart qs
-
-with_square-order : (q : Square) (qs : List Square) → AllByRecursion (λ p. AreApart p q) qs → InCodeOrder qs → InCodeOrder (with_square q qs)
-with_square-order q [] apart order = (tt, tt)
-with_square-order q (p ∷ qs) apart order = step (cases_Bool (comes_before q p)) (with_square-order q qs apart.1 order.1)
-  where
-    step : (comes_before q p ≡ true) ⊎ (comes_before q p ≡ false) → InCodeOrder (with_square q qs) → InCodeOrder (with_square q (p ∷ qs))
-    step (inl first) rest =
-        subst (λ b. InCodeOrder (cond b (q ∷ p ∷ qs) (p ∷ with_square q qs))) (sym first) ((first, all_later q p qs first order.0), order)
-    step (inr later) rest =
-        let earlier : IsTrue (comes_before p q) = elim apart.0 [ inl h ↦ h | inr h ↦ absurd (both_ways (comes_before q p) later h) ] in
-        subst (λ b. InCodeOrder (cond b (q ∷ p ∷ qs) (p ∷ with_square q qs))) (sym later)
-        (with_square-all (λ r. IsTrue (comes_before p r)) q qs earlier order.0, rest)
-
--- squares at different places are put in code order
-pub in_code_order-order : (qs : List Square) → AllApart qs → InCodeOrder (in_code_order qs)
-in_code_order-order [] apart = tt
-in_code_order-order (q ∷ qs) apart = with_square-order q (in_code_order qs) (in_code_order-all (λ p. AreApart p q) qs apart.0) (in_code_order-order qs apart.1)
 
 -- each square stands in it as often as before
 with_square-count : (c : Square → Bool) (q : Square) (qs : List Square) → count_by c (with_square q qs) ≡ count_by c (q ∷ qs)

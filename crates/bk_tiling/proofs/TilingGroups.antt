@@ -1,8 +1,8 @@
 -- The groups of a tiling: each is a group among its squares, and the first stands at the top left corner.
 use Rattle.std.specs.List.{AllByRecursion}
 use Rattle.std.proofs.Common.{List, [], ap, arith, inl, inr, length, refl, subst, sym, true, ℕ, ◌∙◌, ◌∷◌, ◌≡◌}
-use Rattle.bk_tiling.proofs.Cells.{no_two, over_from}
-use Rattle.bk_tiling.proofs.TilingLaws.{cell_once, side_of, wide_enough, within_of}
+use Rattle.bk_tiling.proofs.Cells.{no_two}
+use Rattle.bk_tiling.proofs.TilingLaws.{cell_most, side_of, wide_enough, within_of}
 use Rattle.bk_tiling.specs.Tiling.{IsOneOf, IsTiling, Tiling, covers}
 use Rattle.bk_tiling.specs.declared.Square.{Square}
 use Rattle.bk_tiling.proofs.Groups.{AllIn, Apart, IsGroup, Split, split}
@@ -12,9 +12,7 @@ use Rattle.bk_tiling.specs.SquareGroups.{square_groups}
 module _ (t : Tiling) (tiling : IsTiling t) where
   -- two squares of the tiling over one cell are one square
   pub one_there : (q r : Square) (i j : ℕ) → IsOneOf q t.squares → covers i j q ≡ true → IsOneOf r t.squares → covers i j r ≡ true → q ≡ r
-  one_there q r i j a e b f = let o = over_from i j q e in let w =
-      within_of t tiling q a in
-      no_two (covers i j) t.squares (omega (arith, cell_once t tiling i j (omega (arith, o.right, w.right)) (omega (arith, o.bottom, w.bottom)))) q r a e b f
+  one_there q r i j a e b f = no_two (covers i j) t.squares (cell_most t tiling i j) q r a e b f
 
   apart : Apart t.squares
   apart = record { ordered = tiling.ordered; sides = side_of t tiling; apart = λ q r a b i j e f. one_there q r i j a e b f }

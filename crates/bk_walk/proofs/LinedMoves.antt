@@ -15,7 +15,7 @@ use Rattle.bk_bounds.proofs.BoundsOfWords.{segments_again}
 use Rattle.bk_bounds.proofs.LineCounting.{sum-cons}
 use Rattle.bk_bounds.proofs.LineMoves.{lines-append, lines_long}
 use Rattle.bk_bounds.specs.SingleValleys.{sizes_of}
-use Rattle.bk_bounds.specs.VerticalCut.{IsLinedWord, begins_on_line, lines_after, lines_along, lines_of, segments_of}
+use Rattle.bk_bounds.specs.VerticalCut.{IsLinedWord, begins_on_line, lines_after, lines_along, edges_on_lines, segments_of}
 
 -- ---- the valley
 
@@ -50,7 +50,7 @@ valley_begins w lines shown signs sizes ends is_on l s z e on = on
 
 -- ---- moves
 
-lines_counted : (w : Word) → IsLegal w → length (lines_of w) ≡ order_of w
+lines_counted : (w : Word) → IsLegal w → length (edges_on_lines w) ≡ order_of w
 lines_counted w legal = omega (arith, lines_long start [] w legal refl, hung_many start w)
 
 -- there is one line for each square that hangs
@@ -66,7 +66,7 @@ pub lined_more : (w more : Word) (lines lines_then : List Bool) (m : Move) (coun
 lined_more w more lines lines_then m count is_on is_first lined legal on first same e f = record {
   legal = subst IsLegal (sym e) (legal-snoc start w m lined.legal legal);
   lines_are = f ∙ (λ i. lines ++ on i ∷ replicate (same i - 1) (first_node i)) ∙ ap (λ ls. lines_after (outline_of w) ls m) lined.lines_are
-      ∙ sym (lines-append start [] w (m ∷ [])) ∙ ap lines_of (sym e);
+      ∙ sym (lines-append start [] w (m ∷ [])) ∙ ap edges_on_lines (sym e);
 }
   where
     nodes : length w ≡ length (outline_of w).closed
@@ -81,13 +81,13 @@ lines_go_on o lines [] = ([], sym (append-nil lines))
 lines_go_on o lines (m ∷ w) = let on = begins_on_line lines (valley_of o) ∷ replicate (m.count - 1) (nat_eq (length o.closed) 0) in
     let behind = lines_go_on (after_move o m) (lines_after o lines m) w in (on ++ behind.0, behind.1 ∙ append_assoc lines on behind.0)
 
-lines_of_front : (front rest : Word) → IsLegal front → take (order_of front) (lines_of (front ++ rest)) ≡ lines_of front
-lines_of_front front rest legal = front_of (lines_go_on (outline_of front) (lines_of front) rest)
+edges_of_front : (front rest : Word) → IsLegal front → take (order_of front) (edges_on_lines (front ++ rest)) ≡ edges_on_lines front
+edges_of_front front rest legal = front_of (lines_go_on (outline_of front) (edges_on_lines front) rest)
   where
-    front_of : ((more : List Bool) × (lines_along (outline_of front) (lines_of front) rest ≡ lines_of front ++ more))
-        → take (order_of front) (lines_of (front ++ rest)) ≡ lines_of front
+    front_of : ((more : List Bool) × (lines_along (outline_of front) (edges_on_lines front) rest ≡ edges_on_lines front ++ more))
+        → take (order_of front) (edges_on_lines (front ++ rest)) ≡ edges_on_lines front
     front_of (more, e) = ap (take (order_of front)) (lines-append start [] front rest ∙ e)
-        ∙ (λ i. take (sym (lines_counted front legal) i) (lines_of front ++ more)) ∙ take-append_seam (lines_of front) more
+        ∙ (λ i. take (sym (lines_counted front legal) i) (edges_on_lines front ++ more)) ∙ take-append_seam (edges_on_lines front) more
 
 -- where the last move is taken back, the lines of the squares before it are left
 pub lined_less : (w front : Word) (lines lines_then : List Bool) (order : ℕ) → IsLinedWord w lines → front ≡ take (length w - 1) w
@@ -95,7 +95,7 @@ pub lined_less : (w front : Word) (lines lines_then : List Bool) (order : ℕ) �
     → IsLinedWord front lines_then
 lined_less w front lines lines_then order lined e o f = subst (λ v. IsLinedWord v lines_then) (sym e) (record {
   legal = lawful;
-  lines_are = f ∙ (λ i. take (order_is i) (lines_are i)) ∙ lines_of_front (take (length w - 1) w) (drop (length w - 1) w) lawful;
+  lines_are = f ∙ (λ i. take (order_is i) (lines_are i)) ∙ edges_of_front (take (length w - 1) w) (drop (length w - 1) w) lawful;
 })
   where
     whole : w ≡ take (length w - 1) w ++ drop (length w - 1) w
@@ -107,5 +107,5 @@ lined_less w front lines lines_then order lined e o f = subst (λ v. IsLinedWord
     order_is : order ≡ order_of (take (length w - 1) w)
     order_is = o ∙ ap order_of e
 
-    lines_are : lines ≡ lines_of (take (length w - 1) w ++ drop (length w - 1) w)
-    lines_are = lined.lines_are ∙ ap lines_of whole
+    lines_are : lines ≡ edges_on_lines (take (length w - 1) w ++ drop (length w - 1) w)
+    lines_are = lined.lines_are ∙ ap edges_on_lines whole

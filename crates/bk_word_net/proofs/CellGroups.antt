@@ -33,6 +33,7 @@ module _ (t : Tiling) (w : Word) (tiling : IsTiling t) (p : IsWordOf t w) where
   abbrev pub e : ExactEnd t (outline_of w)
   e = exact_end t w tiling p
 
+  -- the nodes depict what is laid
   abbrev pub d : Depicts t e.laid e.nodes (outline_of w)
   d = (e.along).depicts
 
@@ -40,6 +41,7 @@ module _ (t : Tiling) (w : Word) (tiling : IsTiling t) (p : IsWordOf t w) where
   pub complete : IsComplete w
   complete = (tiling_word_is_complete t w tiling p).0
 
+  -- the outline is played
   pub played : Played (outline_of w)
   played = played_word w complete
 
@@ -50,6 +52,7 @@ module _ (t : Tiling) (w : Word) (tiling : IsTiling t) (p : IsWordOf t w) where
   wide : (q : Square) → IsOneOf q t.squares → q.x < t.width
   wide q h = let a = (within_of t tiling q h).right in omega (arith, side_of t tiling q h)
 
+  -- a square begins above the bottom
   pub low : (q : Square) → IsOneOf q t.squares → q.y < t.height
   low q h = let a = (within_of t tiling q h).bottom in omega (arith, side_of t tiling q h)
 
@@ -84,6 +87,7 @@ module _ (t : Tiling) (w : Word) (tiling : IsTiling t) (p : IsWordOf t w) where
       q_in : IsOneOf q t.squares
       q_in = in_group t tiling k g is q h
 
+  -- a node's group is found at the group's place
   pub node_place : (v : Segment) (r : IsGroupRun t v) → position_or_len (list_any (covers v.x v.level)) (square_groups t.squares) ≡ r.place
   node_place v r = in_place r.place r.group r.first v.x v.level r.is first_in
       (covers_from v.x v.level r.first (omega (arith, r.x)) (omega (arith, r.x, side)) (omega (arith, r.y)) (omega (arith, r.y, side)))
@@ -113,6 +117,7 @@ module _ (t : Tiling) (w : Word) (tiling : IsTiling t) (p : IsWordOf t w) where
           × IsOneOf s r.group × (covers c v.level s ≡ true)
       from (s, h, f) = (s, h, subst (λ (j : ℕ). covers c j s ≡ true) (ap (λ (z : Square). z.y) same ∙ r.y) f)
 
+  -- a square under a node is one of its group
   pub of_node : (v : Segment) (r : IsGroupRun t v) (q : Square) → IsOneOf q t.squares → q.y ≡ v.level → v.x ≤ q.x → q.x < v.x + v.width → IsOneOf q r.group
   of_node v r q h y lo hi = from (over_node v r q.x lo hi)
     where

@@ -55,6 +55,7 @@ pub record Exact (t : Tiling) (laid : List Square) (nodes : List Segment) : Type
 
 module _ (t : Tiling) (laid : List Square) (nodes : List Segment) (o : Outline) (v : Segment) (tiling : IsTiling t)
     (a : Along t laid nodes o) (x : Exact t laid nodes) (found : IsLeftmostValley t.width laid v) (low : v.level < t.height) where
+  -- the valley is level
   pub flat : IsLevel t.width laid v
   flat = (found.valley).flat
 
@@ -66,6 +67,7 @@ module _ (t : Tiling) (laid : List Square) (nodes : List Segment) (o : Outline) 
       from : (q : Square) × IsOneOf q t.squares × (covers c v.level q ≡ true) → (q : Square) × IsOneOf q (squares_under t v) × (covers c v.level q ≡ true)
       from (q, k, e) = (q, in_filter (hangs_under v) t.squares q k (hangs t laid v tiling a.fills found low c q lo hi k e), e)
 
+  -- after the move its columns are deeper
   pub deeper : (c : ℕ) → v.x ≤ c → c < v.x + v.width → v.level < depth (laid ++ squares_under t v) c
   deeper c lo hi = let q = under_at c lo hi in let o = over_from c v.level q.0 q.2 in
       omega (arith, o.bottom, depth_reaches (laid ++ squares_under t v) c q.0 (in_back laid (squares_under t v) q.0 q.1) (column_from c q.0 o.left o.right))

@@ -134,6 +134,7 @@ module _ (m n : ℕ) (t u : Tiling) (tiling : IsTiling t) (other : IsTiling u) w
                     ∙ ap (λ (k : ℕ). n * k) qb,
               )
 
+  -- where the sides stand in proportion, so do the squares that the moves lay
   pub same_laid : (tl ul : List Square) (tn un : List Segment) (tv uv : List ℕ) (o : Outline) (w : Word) → Along t tl tn o → Along u ul un o
       → MovesFollow t tl w → MovesFollow u ul w
       → (te ue : List Square) (ve we : List ℕ) → LaidAlong t tl tv w te ve → LaidAlong u ul uv w ue we

@@ -35,6 +35,7 @@ span_last laid level x n [] end s = record { front = []; last = n; is = refl; bo
 span_last laid level x n (p ∷ numbers) end s = let r = span_last laid level (x + (s.0).s) p numbers end s.4 in
     record { front = n ∷ r.front; last = r.last; is = ap (λ (ns : List ℕ). n ∷ ns) r.is; bottom = r.bottom }
 
+-- a span of some width has a last square
 pub span_some : (laid : List Square) (level x : ℕ) (numbers : List ℕ) (end : ℕ) → x < end → Span laid level x numbers end → SpanLast laid level numbers
 span_some laid level x [] end h s = absurd (omega (arith, s))
 span_some laid level x (n ∷ numbers) end h s = span_last laid level x n numbers end s
@@ -46,6 +47,7 @@ pub record ZipLast (R : Segment → List ℕ → Type 0) (x : Segment) (us : Lis
   pub is : us ≡ front ++ last ∷ []
   pub here : R x last
 
+-- lists beside runs, of which the last is known, have a last one beside it
 pub zip_last : (R : Segment → List ℕ → Type 0) (xs : List Segment) (x : Segment) (us : List (List ℕ)) → AllZip R (xs ++ x ∷ []) us → ZipLast R x us
 zip_last R [] x [] z = absurd z
 zip_last R [] x (u ∷ []) z = record { front = []; last = u; is = refl; here = z.0 }

@@ -47,6 +47,7 @@ joined_some (Even ∷ signs) s segments = some (joined signs segments)
     some [] = omega arith
     some (t ∷ l) = omega arith
 
+-- segments behind which no sign is even are joined apart from what follows
 pub joined_before : (signs back_signs : List Sign) (segments back : List (List ℕ)) → length segments ≡ length signs + 1
     → length back ≡ length back_signs → AllPart back_signs → joined (signs ++ back_signs) (segments ++ back) ≡ joined signs segments ++ back
 joined_before signs back_signs [] back many backs part = absurd (omega arith)

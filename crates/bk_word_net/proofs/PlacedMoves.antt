@@ -78,6 +78,7 @@ module _ (O : Outline) (played : Played O) (f : Flow) (flow : IsFlow (net_after 
     pub more : length (o.closed ++ valley_of o ∷ []) ≡ length o.closed + 1
     more = omega (arith, length-append o.closed (valley_of o ∷ []))
 
+    -- the squares that hang at the end: those before, those of the move, and the later ones
     pub hung_is : O.hung ≡ o.hung ++ (replicate m.count (length o.closed) ++ later.hung)
     hung_is = later.hung_is ∙ append_assoc o.hung (replicate m.count (length o.closed)) later.hung
 

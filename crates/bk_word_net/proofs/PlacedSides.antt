@@ -46,9 +46,11 @@ current_positive (negsuc n) s wide all h k e =
 
 module _ (t : Tiling) (w : Word) (f : Flow) (tiling : IsTiling t) (p : IsWordOf t w) (flow : IsFlow (net_after (outline_of w)) f) (all : ℕ)
     (some : 0 < all) (total_is : f.total ≡ pos all) where
+  -- the word of a tiling is complete
   pub complete : IsComplete w
   complete = (tiling_word_is_complete t w tiling p).0
 
+  -- what is laid along the word
   pub tl : (laid : List Square) × ((levels : List ℕ) × LaidAlong t [] [] w laid levels)
   tl = laid_along t [] [] w p
 
@@ -58,6 +60,7 @@ module _ (t : Tiling) (w : Word) (f : Flow) (tiling : IsTiling t) (p : IsWordOf 
   g_flow : IsFlow (net_after (outline_of w)) (laid_flow t tl.0 (tl.1).0)
   g_flow = laid_sides_are_a_flow t w tl.0 (tl.1).0 tiling p (tl.1).1
 
+  -- what is so at its end
   pub e : AtEnd t (outline_of w) tl.0 (tl.1).0
   e = at_end t w tiling p tl.0 (tl.1).0 (tl.1).1
 
@@ -71,6 +74,7 @@ module _ (t : Tiling) (w : Word) (f : Flow) (tiling : IsTiling t) (p : IsWordOf 
   pub proportion : map (λ c. c *ℤ pos t.width) f.currents ≡ map (λ c. c *ℤ f.total) (map (λ q. pos q.s) tl.0)
   proportion = (a_word_has_one_flow w (laid_flow t tl.0 (tl.1).0) complete g_flow (omega (arith, ints, wide_enough t tiling))).proportional f flow
 
+  -- currents in proportion to the sides of squares of the tiling are positive
   pub currents : (cs : List ℤ) (squares : List Square) → map (λ c. c *ℤ pos t.width) cs ≡ map (λ c. c *ℤ f.total) (map (λ q. pos q.s) squares)
       → AllByRecursion (λ q. IsOneOf q t.squares) squares → AllByRecursion (λ c. pos 1 ≤ℤ c) cs
   currents [] squares eq ins = tt
@@ -113,6 +117,7 @@ module _ (t : Tiling) (w : Word) (f : Flow) (tiling : IsTiling t) (p : IsWordOf 
     complete.one,
   )
 
+  -- bottoms by the flow are in proportion to those by the flow of the tiling
   pub alike : (n : ℕ) → 1 ≤ n → n ≤ length (outline_of w).hung
       → all * bottom_in (laid_flow t tl.0 (tl.1).0) ((outline_of w).closed ++ (outline_of w).segments) n
       ≡ t.width * bottom_in f ((outline_of w).closed ++ (outline_of w).segments) n
@@ -127,6 +132,7 @@ module _ (t : Tiling) (w : Word) (f : Flow) (tiling : IsTiling t) (p : IsWordOf 
       from (inr b) = potential_at t w tiling p (outline_of w) played.numbered begun tl.0 (tl.1).0 e 0 b.top
           (ap (λ (l : List Segment). slice_get (l ++ ((e.along).depicts).runs) 0) b.nodes_are) ∙ ap (λ (l : ℕ). pos t.height -ℤ pos l) b.level
 
+  -- and the bottoms by that flow are those of the squares
   pub bottom_is : (n : ℕ) (q : Square) → IsNumbered tl.0 n q
       → bottom_in (laid_flow t tl.0 (tl.1).0) ((outline_of w).closed ++ (outline_of w).segments) n ≡ q.y + q.s
   bottom_is n q (k, is, at) = (λ i. bottom_in (laid_flow t tl.0 (tl.1).0) ((outline_of w).closed ++ (outline_of w).segments) (number i)) ∙ ap nat_abs drop

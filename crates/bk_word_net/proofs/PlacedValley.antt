@@ -28,6 +28,7 @@ use Rattle.bk_word_net.proofs.AlongWord.{top_valley}
 use Rattle.bk_word_net.proofs.LaidFlow.{get_one}
 use Rattle.bk_word_net.proofs.Sums.{positive_total, span_sum}
 
+-- a list with a first number is not empty
 pub not_nil : (n : ℕ) (ns : List ℕ) → n ∷ ns ≡ [] → ⊥
 not_nil n ns e = cc
 

@@ -98,9 +98,11 @@ module _ (width : ℕ) (laid : List Square) (o : Outline) (s : ShowsLaid width l
       (fills : total new ≡ v.width)
       (signs : m.signs ≡ signs_between (depth_before laid v.x ++ map (λ q. q.y + q.s) (laid_group v.x v.level new)
       ++ depth_from width laid (v.x + v.width))) where
+    -- the valley is level
     pub flat : IsLevel width laid v
     flat = (found.valley).flat
 
+    -- under the new squares is the valley's level
     pub there : (c : ℕ) → v.x ≤ c → c < v.x + total new → depth laid c ≡ v.level
     there c lo hi = flat.level c lo (omega (arith, fills))
 
@@ -144,6 +146,7 @@ module _ (width : ℕ) (laid : List Square) (o : Outline) (s : ShowsLaid width l
     runs_end x [] after cut = omega (arith, cut.0)
     runs_end x (r ∷ before) after cut = omega (arith, runs_end (x + r.width) before after cut.2)
 
+    -- after the turn the columns are cut into the runs before, the new ones, and those behind
     pub runs_all : (x : ℕ) (before after : List Segment) → AreRuns width laid x (before ++ v ∷ after)
         → AreRuns width (laid ++ laid_group v.x v.level new) x (before ++ map run_of (laid_group v.x v.level new) ++ after)
     runs_all x [] after cut = subst (λ (y : ℕ). AreRuns width (laid ++ laid_group v.x v.level new) y (map run_of (laid_group v.x v.level new) ++ after)) cut.0
@@ -156,6 +159,7 @@ module _ (width : ℕ) (laid : List Square) (o : Outline) (s : ShowsLaid width l
       runs_all (x + r.width) before after cut.2,
     )
 
+    -- and the signs compare their levels
     pub new_signs : signs_apart o m ≡ signs_between (levels (before ++ map run_of (laid_group v.x v.level new) ++ after))
     new_signs = (λ i. take (number_levels i - 1) (level_signs i) ++ signs i ++ drop (number_levels i + 1) (level_signs i))
         ∙ signs_new (levels before) (depth_before laid v.x) v.level (levels after) (depth_from width laid (v.x + v.width))

@@ -3,7 +3,8 @@ use Rattle.bk_word.specs.Play.{outline_of}
 use Rattle.bk_word.specs.Word.{Move}
 use Rattle.bk_skel.specs.Valley.{Valley}
 use Rattle.bk_forms.specs.Form.{Form as SeenForm, with_side}
-use Rattle.bk_form_cuts.proofs.Segments.{beside_short, levels_are, numbers_are, numbers_many, place_within}
+use Rattle.bk_form_cuts.proofs.Segments.{beside_short, levels_are, numbers_are, place_within}
+use Rattle.bk_word.proofs.PlayLists.{numbers-length}
 use Rattle.bk_form_cuts.proofs.SmallForms.{small_level, small_more}
 use Rattle.bk_form_cuts.specs.SideForms.{level_of}
 use Rattle.bk_form_cuts.specs.Trace.{IsSmall}
@@ -12,7 +13,7 @@ use Rattle.bk_form_cuts.proofs.levels.levels_along.Goals as goal
 pub push_bottoms-requires : goal.push_bottoms-requires
 push_bottoms-requires c =
     let count = ap (λ (m : Move). m.count) c.m.view_is in
-    let many = ap length (c.as_slice-2.ensures.value ∙ c.new_numbers-numbers.ensures) ∙ numbers_many (c.order.result + 1) c.m.inside.count in
+    let many = ap length (c.as_slice-2.ensures.value ∙ c.new_numbers-numbers.ensures) ∙ numbers-length (c.order.result + 1) c.m.inside.count in
     let short = ap length (c.push_beside.ensures ∙ ap (λ (l : List SeenForm). l
     ++ cond (nat_eq c.valley.inside.place 0) [] (level_of c.args.bottoms.now
     (slice_index_or (outline_of c.args.skel.now).segments c.saturating_sub.result []) ∷ [])) c.new-levels.ensures) in

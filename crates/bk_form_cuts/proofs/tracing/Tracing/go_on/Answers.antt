@@ -7,9 +7,10 @@ use Rattle.bk_form_cuts.specs.SideForms.{levels_along}
 use Rattle.bk_form_cuts.specs.Trace.{IsTraceOf, Trace}
 use Rattle.bk_form_cuts.proofs.Segments.{numbers_are}
 use Rattle.bk_forms.specs.Form.{with_side}
-use Rattle.bk_form_cuts.proofs.Segments.{numbers_many}
+use Rattle.bk_word.proofs.PlayLists.{numbers-length}
 use Rattle.bk_form_cuts.proofs.SmallForms.{small_level, small_more}
-use Rattle.bk_form_cuts.proofs.Traces.{bottoms_room, here, mark_room, trace_more}
+use Rattle.bk_form_cuts.proofs.Traces.{bottoms_room, here, mark_room}
+use Rattle.bk_form_cuts.proofs.TraceMore.{trace_more}
 use Rattle.bk_form_cuts.specs.SideForms.{level_of, new_bottoms}
 use Rattle.bk_form_cuts.specs.Trace.{AreSmall, IsSmall}
 use Rattle.bk_form_cuts.specs.declared.tracing.Mark.{Mark}
@@ -27,7 +28,7 @@ push-requires c =
 pub push_bottoms-requires : goal.push_bottoms-requires
 push_bottoms-requires c =
     let bottoms = ap (λ (t : Trace). length t.bottoms) c.self.view_is ∙ bottoms_room c.args.skel.now c.args.self.now c.requires.trace c.requires.all in
-    let many = ap length (c.as_slice-8.ensures.value ∙ c.new_numbers-numbers.ensures) ∙ numbers_many (c.order.result + 1) c.m.inside.count
+    let many = ap length (c.as_slice-8.ensures.value ∙ c.new_numbers-numbers.ensures) ∙ numbers-length (c.order.result + 1) c.m.inside.count
     ∙ ap (λ (m : Move). m.count) c.m.view_is in
     let few = c.requires.few in
     let room : length c.self.inside.bottoms.items + length c.as_slice-8.result.now ≤ 5 = omega (arith, bottoms, many, few) in

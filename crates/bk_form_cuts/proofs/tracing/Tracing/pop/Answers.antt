@@ -1,6 +1,7 @@
 use Rattle.std.proofs.Common.{List, ap, arith, length, subst, sym, take, ◌-◌, ◌≤◌}
 use Rattle.bk_forms.specs.Form.{Form as SeenForm}
-use Rattle.bk_form_cuts.proofs.Traces.{trace_back, trace_less}
+use Rattle.bk_form_cuts.proofs.Traces.{trace_less}
+use Rattle.bk_form_cuts.proofs.TraceBack.{trace_back}
 use Rattle.bk_form_cuts.specs.Trace.{IsTraceOf, Trace}
 use Rattle.bk_form_cuts.proofs.tracing.Tracing.pop.Goals as goal
 
