@@ -12,7 +12,7 @@ use Rattle.bk_word.proofs.StoredBytes.{order_append, order_more}
 use Rattle.bk_bounds.proofs.BoundsOfWords.{shape_of_word}
 use Rattle.bk_bounds.proofs.ClosingLaws.{aboves, aboves-append, bound-append, bound-parts, bound_unders, unders, unders-append}
 use Rattle.bk_bounds.specs.ClosingBound.{closing_bound}
-use Rattle.bk_bounds.specs.VerticalCut.{line_bound, line_bound_of, lines_of, touched}
+use Rattle.bk_bounds.specs.VerticalCut.{line_bound, line_bound_of, edges_on_lines, touched}
 use Rattle.bk_bounds.specs.SingleValleys.{single_valleys, sizes_of}
 use Rattle.bk_free_cuts.proofs.CutsOfTilings.{too_many_lines_is_free_barren, too_many_singles_is_free_barren}
 use Rattle.bk_net_word.specs.NetWord.{IsNetBarren}
@@ -97,7 +97,7 @@ module _ (front : Word) (other : Move) (signs more : List Sign) (are : other.sig
       → aboves (before ++ signs) + line_bound_behind (valley_place (outline_of front).signs) front ≤ line_bound_of (front ++ other ∷ [])
   lines_behind_after legal some = cases (cases_lt (valley_place (outline_of front).signs) (length (outline_of front).signs))
     where
-      none : (back : List Sign) (segments : List (List ℕ)) → length segments ≡ 0 → line_bound back (touched (lines_of front) segments) ≡ 0
+      none : (back : List Sign) (segments : List (List ℕ)) → length segments ≡ 0 → line_bound back (touched (edges_on_lines front) segments) ≡ 0
       none back [] z = refl
       none back (s ∷ segments) z = absurd (omega arith)
 

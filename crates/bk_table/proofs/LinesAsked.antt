@@ -12,10 +12,10 @@ use Rattle.bk_word.proofs.PlayLaws.{after-snoc, legal_front, legal_rest}
 use Rattle.bk_word_net.proofs.Shape.{Shaped}
 use Rattle.bk_bounds.proofs.BoundsOfWords.{shape_of_word}
 use Rattle.bk_bounds.proofs.ClosingLaws.{aboves, aboves-cons, unders}
-use Rattle.bk_bounds.proofs.LineLaws.{bound, joined_bound}
+use Rattle.bk_bounds.proofs.JoinedLines.{bound, joined_bound}
 use Rattle.bk_bounds.proofs.LineMoves.{lines-append, lines_long}
 use Rattle.bk_bounds.proofs.SingleLaws.{same_length}
-use Rattle.bk_bounds.specs.VerticalCut.{begins_on_line, line_bound, line_bound_of, lines_after, lines_of, next_on_line, on_line, touched}
+use Rattle.bk_bounds.specs.VerticalCut.{begins_on_line, line_bound, line_bound_of, lines_after, edges_on_lines, next_on_line, on_line, touched}
 
 -- ---- on lists
 
@@ -134,27 +134,27 @@ module _ (o : Outline) (lines : List Bool) (m : Move) (legal : IsLegalMove o m) 
 
 module _ (front : Word) (m : Move) (legal : IsLegal (front ++ m ∷ [])) where
   word_is : line_bound_of (front ++ m ∷ [])
-      ≡ bound (lines_after (outline_of front) (lines_of front) m) (after_move (outline_of front) m).signs (after_move (outline_of front) m).segments
+      ≡ bound (lines_after (outline_of front) (edges_on_lines front) m) (after_move (outline_of front) m).signs (after_move (outline_of front) m).segments
   word_is = λ i. line_bound (after-snoc start front m i).signs (touched (lines-append start [] front (m ∷ []) i) (after-snoc start front m i).segments)
 
   -- after a legal move the first segment has its mark, where it isn't the valley
-  pub first_of_word : 0 < valley_place (outline_of front).signs → slice_index_or (touched (lines_of front) (outline_of front).segments) 0 false ≡ true
+  pub first_of_word : 0 < valley_place (outline_of front).signs → slice_index_or (touched (edges_on_lines front) (outline_of front).segments) 0 false ≡ true
       → unders (signs_apart (outline_of front) m) + 1 ≤ line_bound_of (front ++ m ∷ [])
   first_of_word h e = omega (
     arith,
     word_is,
-    first_after (outline_of front) (lines_of front) m (legal_rest start front (m ∷ []) legal).0
+    first_after (outline_of front) (edges_on_lines front) m (legal_rest start front (m ∷ []) legal).0
         (shape_of_word front (legal_front start front (m ∷ []) legal)) (lines_long start [] front (legal_front start front (m ∷ []) legal) refl) h e,
   )
 
   -- and the segments behind the valley have theirs
   pub behind_of_word : valley_place (outline_of front).signs < length (outline_of front).signs
       → aboves (take (valley_place (outline_of front).signs - 1) (outline_of front).signs ++ m.signs)
-      + bound (lines_of front) (drop (valley_place (outline_of front).signs + 1) (outline_of front).signs)
+      + bound (edges_on_lines front) (drop (valley_place (outline_of front).signs + 1) (outline_of front).signs)
       (drop (valley_place (outline_of front).signs + 1) (outline_of front).segments) ≤ line_bound_of (front ++ m ∷ [])
   behind_of_word h = omega (
     arith,
     word_is,
-    behind_after (outline_of front) (lines_of front) m (legal_rest start front (m ∷ []) legal).0
+    behind_after (outline_of front) (edges_on_lines front) m (legal_rest start front (m ∷ []) legal).0
         (shape_of_word front (legal_front start front (m ∷ []) legal)) (lines_long start [] front (legal_front start front (m ∷ []) legal) refl) h,
   )

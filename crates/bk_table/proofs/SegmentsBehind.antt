@@ -8,7 +8,7 @@ use Rattle.bk_word.specs.Word.{Word}
 use Rattle.bk_bounds.proofs.BoundsOfWords.{segments_again, shape_of_word}
 use Rattle.bk_bounds.proofs.LineCounting.{sum-cons}
 use Rattle.bk_bounds.specs.SingleValleys.{sizes_of}
-use Rattle.bk_bounds.specs.VerticalCut.{line_bound, lines_of, segments_of, touched}
+use Rattle.bk_bounds.specs.VerticalCut.{line_bound, edges_on_lines, segments_of, touched}
 use Rattle.bk_table.specs.Asking.{has_first_mark, line_bound_behind}
 
 -- the segments from a place on
@@ -37,18 +37,18 @@ pub slice_rest : {A : Type 0} (xs : List A) (k : ℕ) → take (length xs - k) (
 slice_rest xs k = take_all (length xs - k) (drop k xs) (omega (arith, length-drop k xs))
 
 -- their bound
-pub behind_by_lists : (w : Word) (p : ℕ) (lines : List Bool) → lines ≡ lines_of w
+pub behind_by_lists : (w : Word) (p : ℕ) (lines : List Bool) → lines ≡ edges_on_lines w
     → line_bound (drop p (outline_of w).signs) (touched lines (drop p (segments_of (sizes_of (outline_of w)) (concat (outline_of w).segments))))
-    ≡ line_bound (drop p (outline_of w).signs) (touched (lines_of w) (drop p (outline_of w).segments))
+    ≡ line_bound (drop p (outline_of w).signs) (touched (edges_on_lines w) (drop p (outline_of w).segments))
 behind_by_lists w p lines same = λ i. line_bound (drop p (outline_of w).signs) (touched (same i) (drop p (segments_again (outline_of w).segments i)))
 
 -- behind the last segment there are none
 pub none_behind : (w : Word) (p : ℕ) → IsLegal w → length (outline_of w).signs ≤ p → line_bound_behind p w ≡ 0
-none_behind w p legal h = ap (λ ss. line_bound (drop (p + 1) (outline_of w).signs) (touched (lines_of w) ss))
+none_behind w p legal h = ap (λ ss. line_bound (drop (p + 1) (outline_of w).signs) (touched (edges_on_lines w) ss))
     (drop_all (p + 1) (outline_of w).segments (omega (arith, h, (shape_of_word w legal).many)))
 
 -- the mark of the first segment
-pub first_by_lists : (w : Word) (lines : List Bool) → lines ≡ lines_of w
+pub first_by_lists : (w : Word) (lines : List Bool) → lines ≡ edges_on_lines w
     → slice_index_or (touched lines (segments_of (sizes_of (outline_of w)) (concat (outline_of w).segments))) 0 false ≡ true
     → has_first_mark w ≡ true
 first_by_lists w lines same e = sym (λ i. slice_index_or (touched (same i) (segments_again (outline_of w).segments i)) 0 false) ∙ e

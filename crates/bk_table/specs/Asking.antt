@@ -6,7 +6,7 @@ use Rattle.bk_word.specs.Word.{Word, order_of}
 use Rattle.bk_word.specs.declared.Sign.{Sign}
 use Rattle.bk_bounds.specs.ClosingBound.{is_under}
 use Rattle.bk_bounds.specs.SingleValleys.{single_valley, single_valleys_from}
-use Rattle.bk_bounds.specs.VerticalCut.{line_bound, lines_of, touched}
+use Rattle.bk_bounds.specs.VerticalCut.{line_bound, edges_on_lines, touched}
 use Rattle.bk_owed.specs.Lone.{IsLone}
 use Rattle.bk_owed.specs.Tally.{IsRaisedTally}
 
@@ -16,11 +16,11 @@ unders_behind o = count_by is_under (drop (valley_place o.signs + 1) o.signs)
 
 -- whether a line from the top bounds the first open segment or ended on it
 abbrev pub has_first_mark : Word → Bool
-has_first_mark w = slice_index_or (touched (lines_of w) (outline_of w).segments) 0 false
+has_first_mark w = slice_index_or (touched (edges_on_lines w) (outline_of w).segments) 0 false
 
 -- the closing bound of the segments behind the one at a place, where one that a line from the top touches has one closing more
 abbrev pub line_bound_behind : ℕ → Word → ℕ
-line_bound_behind place w = line_bound (drop (place + 1) (outline_of w).signs) (touched (lines_of w) (drop (place + 1) (outline_of w).segments))
+line_bound_behind place w = line_bound (drop (place + 1) (outline_of w).signs) (touched (edges_on_lines w) (drop (place + 1) (outline_of w).segments))
 
 -- how many closings the first segment has more: at most one, where it has a mark and isn't the leftmost valley, at orders of at least 3
 pub record IsMark (n : ℕ) (front : Word) (mark : ℕ) : Type 0 where

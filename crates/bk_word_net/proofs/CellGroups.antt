@@ -10,7 +10,7 @@ use Rattle.bk_tiling.specs.Tiling.{IsOneOf, IsTiling, Tiling, covers}
 use Rattle.bk_tiling.specs.declared.Square.{Square}
 use Rattle.bk_tiling.proofs.TilingGroups.{one_there}
 use Rattle.bk_tiling.specs.SquareGroups.{square_groups}
-use Rattle.bk_net.proofs.GroupColumns.{at_level}
+use Rattle.bk_net.proofs.GroupEdges.{at_level}
 use Rattle.bk_net.proofs.GroupSquares.{get_index, group_of, in_group, row_is}
 use Rattle.bk_net.proofs.SmithLists.{has_group}
 use Rattle.bk_word.specs.Play.{IsComplete, outline_of}

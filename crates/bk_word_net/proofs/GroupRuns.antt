@@ -14,10 +14,11 @@ use Rattle.bk_tiling.specs.declared.Square.{Square}
 use Rattle.bk_tiling.proofs.Groups.{IsRow, row_of}
 use Rattle.bk_tiling.proofs.TilingGroups.{one_there}
 use Rattle.bk_tiling.specs.SquareGroups.{square_groups}
-use Rattle.bk_net.proofs.GroupColumns.{at_level, end_within, not_right, width_is}
+use Rattle.bk_net.proofs.GroupEdges.{at_level, end_within, not_right, width_is}
 use Rattle.bk_net.proofs.GroupSquares.{group_of, in_group, row_is, top_of}
 use Rattle.bk_word.specs.Outline.{Outline}
-use Rattle.bk_lay.proofs.Filling.{cell, hangs, in_tiling, is_laid, is_under}
+use Rattle.bk_lay.proofs.Filling.{in_tiling, is_under}
+use Rattle.bk_lay.proofs.UnderValley.{cell, hangs, is_laid}
 use Rattle.bk_lay.specs.TilingWord.{IsLeftmostValley, hangs_under, squares_under}
 use Rattle.bk_word_net.proofs.AlongWord.{Along}
 

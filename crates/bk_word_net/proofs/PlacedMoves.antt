@@ -14,13 +14,14 @@ use Rattle.bk_tiling.proofs.Rows.{laid_sides}
 use Rattle.bk_tiling.specs.Column.{depth}
 use Rattle.bk_tiling.specs.Tiling.{IsOneOf, covers}
 use Rattle.bk_tiling.specs.declared.Square.{Square}
-use Rattle.bk_tiling.proofs.Group.{depth_beside, depth_under, filled_group, group_list, group_sides, group_top, group_within}
+use Rattle.bk_tiling.proofs.Group.{group_list, group_sides, group_top, group_within}
+use Rattle.bk_tiling.proofs.FilledGroup.{depth_beside, depth_under, filled_group}
 use Rattle.bk_tiling.specs.SquareGroups.{laid_group}
 use Rattle.bk_net.specs.Flow.{Flow, IsFlow, potential}
 use Rattle.bk_word.specs.Outline.{Outline, valley_of, valley_place}
 use Rattle.bk_word.specs.Play.{after_move, new_squares, numbers_from, segments_apart, signs_apart}
 use Rattle.bk_word.specs.Word.{Move}
-use Rattle.bk_lay.proofs.Steps.{one_of}
+use Rattle.bk_lay.proofs.LaidRuns.{one_of}
 use Rattle.bk_lay.specs.Depiction.{Span}
 use Rattle.bk_word_net.proofs.BottomChain.{BottomChain, chain_group, chain_join, chain_more, concat-append, concat-joined, concat-singles}
 use Rattle.bk_word_net.proofs.FlowFacts.{HasSides, IsLater, sides_count, times_below}

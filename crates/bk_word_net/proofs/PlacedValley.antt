@@ -18,7 +18,7 @@ use Rattle.bk_tiling.specs.SquareGroups.{laid_group}
 use Rattle.bk_word.specs.Outline.{Outline, valley_of}
 use Rattle.bk_word.specs.Play.{after_move, numbers_from}
 use Rattle.bk_word.specs.Word.{Move, Word}
-use Rattle.bk_lay.proofs.Filling.{IsUnder, hangs_from, under_from}
+use Rattle.bk_lay.proofs.UnderValley.{IsUnder, hangs_from, under_from}
 use Rattle.bk_lay.proofs.Laying.{ordered_filter}
 use Rattle.bk_lay.proofs.ValleySegment.{valley_segment}
 use Rattle.bk_lay.proofs.Valleys.{segment_path}

@@ -4,7 +4,8 @@ use Rattle.std.proofs.Common.{List, [], ap, arith, drop, inl, inr, length, map, 
 use Rattle.std.proofs.Common.{◌≤◌, ◌⊎◌}
 use Rattle.std.proofs.lemmas.List.{length-append, length-map, map-append}
 use Rattle.bk_laws.proofs.Totals.{sum_is_total, total}
-use Rattle.bk_tiling.proofs.Group.{depth_beside, depth_under, group_sides, group_within}
+use Rattle.bk_tiling.proofs.Group.{group_sides, group_within}
+use Rattle.bk_tiling.proofs.FilledGroup.{depth_beside, depth_under}
 use Rattle.bk_tiling.specs.Column.{AreRuns, IsLevel, depth}
 use Rattle.bk_tiling.specs.SquareGroups.{laid_group}
 use Rattle.bk_tiling.specs.Tiling.{IsOneOf}
@@ -17,7 +18,7 @@ use Rattle.bk_word.specs.declared.Sign.{Sign}
 use Rattle.bk_lay.proofs.Depicting.{FirstIs, LastIs, signs_new}
 use Rattle.bk_lay.proofs.Joining.{levels}
 use Rattle.bk_lay.proofs.Places.{HasFirst, HasLast, Placed, depth_from_end, placed}
-use Rattle.bk_lay.proofs.Steps.{new_levels, run_of}
+use Rattle.bk_lay.proofs.LaidRuns.{new_levels, run_of}
 use Rattle.bk_lay.specs.Depiction.{IsSegment}
 use Rattle.bk_lay.specs.TilingWord.{IsLeftmostValley, depth_before, depth_from, signs_between}
 use Rattle.bk_word_net.specs.LaidOutline.{IsTurn, ShowsLaid}

@@ -7,7 +7,8 @@ use Rattle.std.proofs.lemmas.List.{length-append, length-map, length-replicate}
 use Rattle.bk_laws.proofs.ZippedLists.{zip_after, zip_append, zip_before, zip_length, zip_map}
 use Rattle.bk_laws.proofs.Totals.{total}
 use Rattle.bk_tiling.proofs.Cells.{depth-append, from_append}
-use Rattle.bk_tiling.proofs.Group.{HasOver, depth_under, filled_group, group_sides, group_within, length_group, over_group}
+use Rattle.bk_tiling.proofs.Group.{HasOver, group_sides, group_within, length_group, over_group}
+use Rattle.bk_tiling.proofs.FilledGroup.{depth_under, filled_group}
 use Rattle.bk_tiling.specs.Column.{AreRuns, depth}
 use Rattle.bk_tiling.specs.SquareGroups.{laid_group}
 use Rattle.bk_tiling.specs.Tiling.{IsOneOf}
@@ -20,7 +21,7 @@ use Rattle.bk_word.specs.Word.{Move}
 use Rattle.bk_word.specs.declared.Sign.{Sign}
 use Rattle.bk_lay.proofs.Joining.{Joined, join, levels}
 use Rattle.bk_lay.proofs.Places.{HasFirst, HasLast}
-use Rattle.bk_lay.proofs.Steps.{new_segments, one_of, run_of, segment_more}
+use Rattle.bk_lay.proofs.LaidRuns.{new_segments, one_of, run_of, segment_more}
 use Rattle.bk_lay.specs.Depiction.{IsNumbered, IsSegment}
 use Rattle.bk_lay.specs.TilingWord.{IsLeftmostValley, depth_before, depth_from, signs_between}
 use Rattle.bk_word_net.specs.LaidOutline.{ShowsLaid}

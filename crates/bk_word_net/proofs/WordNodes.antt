@@ -15,7 +15,7 @@ use Rattle.bk_tiling.specs.SquareGroups.{square_groups}
 use Rattle.bk_word.specs.Play.{outline_of}
 use Rattle.bk_word.specs.Word.{Word}
 use Rattle.bk_lay.proofs.SquaresOnce.{own_cell}
-use Rattle.bk_lay.proofs.Steps.{one_of}
+use Rattle.bk_lay.proofs.LaidRuns.{one_of}
 use Rattle.bk_lay.specs.Depiction.{Hangs}
 use Rattle.bk_lay.specs.TilingWord.{IsWordOf}
 use Rattle.bk_word_net.proofs.GroupRuns.{IsGroupRun}

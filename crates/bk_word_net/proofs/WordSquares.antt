@@ -23,7 +23,7 @@ use Rattle.bk_word.specs.Play.{outline_of, parts}
 use Rattle.bk_word.specs.Word.{Word}
 use Rattle.bk_word.specs.declared.Sign.{Sign}
 use Rattle.bk_lay.proofs.SquaresOnce.{own_cell}
-use Rattle.bk_lay.proofs.Steps.{one_of}
+use Rattle.bk_lay.proofs.LaidRuns.{one_of}
 use Rattle.bk_lay.proofs.ValleySegment.{all_laid}
 use Rattle.bk_lay.proofs.WordPlay.{one_run}
 use Rattle.bk_lay.specs.Depiction.{Hangs, IsNumbered, IsSegment}

@@ -4,7 +4,7 @@ use Rattle.bk_word.specs.Play.{outline_of}
 use Rattle.bk_word.specs.Word.{Word}
 use Rattle.bk_skel.proofs.TurnParts.{sum_lengths}
 use Rattle.bk_bounds.proofs.BoundsOfWords.{sizes_long}
-use Rattle.bk_bounds.specs.VerticalCut.{lines_of, segments_of, touched}
+use Rattle.bk_bounds.specs.VerticalCut.{edges_on_lines, segments_of, touched}
 use Rattle.bk_table.proofs.SegmentsBehind.{first_by_lists}
 use Rattle.bk_table.proofs.TopLineMarks.{marks_of_board}
 use Rattle.bk_table.specs.Asking.{has_first_mark}
@@ -24,7 +24,7 @@ is_first_touched-requires-clause-enough c =
 
 pub returns : goal.returns
 returns c told =
-    let marks : on_top_lines c.self.inside.first c.deref.result.now ≡ lines_of c.self.inside.skel =
+    let marks : on_top_lines c.self.inside.first c.deref.result.now ≡ edges_on_lines c.self.inside.skel =
     ap (on_top_lines c.self.inside.first) c.deref.ensures.0 ∙ marks_of_board c.self.inside.skel c.self.inside.lefts.items c.self.inside.rights.items
     c.self.inside.nodes.items c.self.inside.first c.self.invariant in
     subst (λ (w : Word). has_first_mark w ≡ true) c.self.view_is (first_by_lists c.self.inside.skel (on_top_lines c.self.inside.first c.deref.result.now)

@@ -3,7 +3,7 @@ use Rattle.std.specs.List.{sum}
 use Rattle.bk_word.specs.Play.{outline_of}
 use Rattle.bk_skel.proofs.TurnParts.{sum_lengths}
 use Rattle.bk_bounds.proofs.BoundsOfWords.{sizes_long}
-use Rattle.bk_bounds.specs.VerticalCut.{line_bound, lines_of, segments_of, touched}
+use Rattle.bk_bounds.specs.VerticalCut.{line_bound, edges_on_lines, segments_of, touched}
 use Rattle.bk_table.proofs.SegmentsBehind.{behind_by_lists, none_behind}
 use Rattle.bk_table.proofs.TopLineMarks.{marks_of_board}
 use Rattle.bk_table.specs.Asking.{line_bound_behind}
@@ -24,7 +24,7 @@ line_bound_from-requires-clause-enough c =
 
 pub returns : goal.returns
 returns c =
-    let marks : on_top_lines c.self.inside.first c.deref.result.now ≡ lines_of c.self.inside.skel =
+    let marks : on_top_lines c.self.inside.first c.deref.result.now ≡ edges_on_lines c.self.inside.skel =
     ap (on_top_lines c.self.inside.first) c.deref.ensures.0 ∙ marks_of_board c.self.inside.skel c.self.inside.lefts.items c.self.inside.rights.items
     c.self.inside.nodes.items c.self.inside.first c.self.invariant in
     c.line_bound_from.ensures ∙ (λ i. line_bound (drop (c.args.place + 1) (c.signs-signs.ensures i))
