@@ -1,6 +1,7 @@
 -- Worked examples of how runs over lines end, of what is read, and of lines that are entered.
-use Rattle.std.proofs.Common.{◌≡◌, ℕ, ◌+◌, ◌==◌, [], ◌∷◌, ◌++◌, Some, false, get_or, inl, inr, lit<, lit≤, refl, true}
+use Rattle.std.proofs.Common.{◌≡◌, ℕ, ◌+◌, ◌-◌, ◌^◌, ◌==◌, [], ◌∷◌, ◌++◌, Some, false, get_or, inl, inr, lit<, lit≤, refl, true}
 use Rattle.std.specs.Prelude.{codes}
+use Rattle.bk_lines.specs.Asking.{asked_count}
 use Rattle.bk_lines.specs.Deciding.{HasRefused}
 use Rattle.bk_lines.specs.Ending.{AreRead, IsAnswered, IsCutOff, Replies, Streams}
 use Rattle.bk_lines.specs.Entering.{AreEntered, Entering}
@@ -72,3 +73,7 @@ nothing = record { pieces = []; refused = false }
 
 summed_twice : AreEntered summed 10 1 (codes "a" ∷ [] ∷ []) (nothing ∷ nothing ∷ []) 13
 summed_twice = (11, (refl, refl, refl), (13, (refl, refl, refl), refl))
+
+-- what the first read asks for, one where 10 bytes are left, and one more
+asked_counts : (asked_count 0 ≡ 16384) × ((asked_count (2 ^ 30 - 10) ≡ 10) × (asked_count (2 ^ 30) ≡ 1))
+asked_counts = (refl, (refl, refl))

@@ -1,6 +1,7 @@
 -- What the crate says.
 pub mod Lines
 pub mod Reply
+pub mod Asking
 pub mod Answered
 pub mod Ending
 pub mod Deciding

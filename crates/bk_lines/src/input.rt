@@ -4,6 +4,7 @@ ghost use Rattle.std.specs.Prelude.{◌≡◌, ◌≢◌, ◌≤◌, ◌<◌, �
 ghost use Rattle.std.specs.Io.KnownBytes.{ReadConsumes};
 ghost use Rattle.bk_ports.specs.Causes.{HasCause, Rose};
 ghost use Rattle.bk_lines.specs.Lines.{last_line};
+ghost use Rattle.bk_lines.specs.Asking.{asked_count};
 ghost use Rattle.bk_lines.specs.Answered.{CountFits};
 ghost use Rattle.bk_lines.specs.Ending.{ended_of, verdict_of};
 ghost use Rattle.bk_lines.specs.Entering.{AreAllEntered, IsEntryStopped};
@@ -105,7 +106,17 @@ fn read_block<S: Source>(
     ensures cause { HasCause (S.faults source.old) (S.faults source.new) result }
 {
     let most = (MOST_BYTES - taken).clamp(1, BLOCK);
-    source.read(&mut block[..most])
+    ask(source, &mut block[..most], taken)
+}
+
+// Reads once, and asks for as many bytes as it should where so many were taken. Each read of an input is this one.
+fn ask<S: Source>(source: &mut S, buf: &mut [u8], taken: usize) -> Result<usize, Failed>
+    requires asked { length buf.old ≡ asked_count taken }
+    ensures count { IfOk result (λ n. n ≤ length buf.new) }
+    ensures bytes { ReadConsumes (S.left source.old) (S.left source.new) result buf.new }
+    ensures cause { HasCause (S.faults source.old) (S.faults source.new) result }
+{
+    source.read(buf)
 }
 
 // Enters the line that the end of the input ends, if it has bytes, and says whether it is refused.
