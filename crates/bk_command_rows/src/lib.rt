@@ -13,3 +13,5 @@ mod line_rows;
 mod list_rows;
 #[cfg(test)]
 mod listing_rows;
+#[cfg(test)]
+mod reads_rows;

@@ -1,0 +1,123 @@
+//! How many bytes each read asks for: 16,384, at most what is left of the first 2^30 bytes, and then one.
+
+ghost use Rattle.std.specs.Prelude.{None};
+
+use crate::command_words::words;
+use arrayvec::ArrayVec;
+use bk_ports::{Failed, MemSink, Source};
+use bk_top::run;
+use std::alloc::AllocError;
+use std::test::Fail;
+
+// Lengths of buffers, and how many reads in a row came with each.
+type Asked = ArrayVec<(usize, u32), 8>;
+
+// Copies of `;`, at most so many in a read. It notes what each read asks for.
+#[derive(Drop)]
+struct NotingSource {
+    left: u64,
+    most: u64,
+    asked: Asked,
+}
+
+impl Source for NotingSource {
+    ghost left = { λ _. None };
+
+    ghost faults = { λ _. 0 };
+
+    fn read(&mut self, buf: &mut [u8]) -> Result<usize, Failed> {
+        note(&mut self.asked, buf.len());
+        let count = self.left.min(self.most).min(buf.len() as u64);
+        buf[..count as usize].fill(b';');
+        self.left -= count;
+        Ok(count as usize)
+    }
+}
+
+// Adds a read that asks for so many bytes.
+fn note(asked: &mut Asked, length: usize) {
+    let count = asked.len();
+    if count > 0 && asked[count - 1].0 == length {
+        asked[count - 1].1 = asked[count - 1].1.saturating_add(1);
+    } else {
+        let _ = asked.try_push((length, 1));
+    }
+}
+
+// What the reads of a command ask for over so many bytes, and its status.
+fn asked(rt: &HostRuntime, command: &str, left: u64, most: u64) -> Result<(Asked, u8), AllocError> {
+    let words = words(rt, command)?;
+    let mut source = NotingSource {
+        left,
+        most,
+        asked: ArrayVec::new(),
+    };
+    let mut room = [0; 200];
+    let mut out = MemSink::new(&mut room, &[]);
+    let mut no_room = [];
+    let mut err = MemSink::new(&mut no_room, &[]);
+    let status = run(rt.alloc(), &words, &mut source, &mut out, &mut err);
+    Ok((source.asked, status))
+}
+
+// A whole block is asked for, also behind an input that ends with one.
+#[test]
+fn reads_of_short_inputs(rt: HostRuntime) -> Result<(), Fail> {
+    for command in [
+        "check",
+        "canon",
+        "images",
+        "net",
+        "dual",
+        "draw",
+        "word",
+        "flow",
+        "solve",
+        "verify --order 2",
+        "alike",
+        "pair",
+    ] {
+        for (left, most, times) in [
+            (0, 16_384, 1),
+            (3, 16_384, 2),
+            (3, 1, 4),
+            (16_383, 16_384, 2),
+            (16_384, 16_384, 2),
+            (16_385, 16_384, 3),
+            (32_768, 16_384, 3),
+        ] {
+            let (asked, _) = asked(&rt, command, left, most)?;
+            assert_eq!(rt;
+                asked.as_slice(),
+                [(16_384, times)].as_slice(),
+                "{command} {left}"
+            );
+        }
+    }
+    Ok(())
+}
+
+// Towards 2^30 bytes no read asks for more than are left of them, and behind them one asks for one byte.
+#[test]
+fn reads_of_long_inputs(rt: HostRuntime) -> Result<(), Fail> {
+    let whole = 1 << 30;
+    for command in ["check", "verify --order 2", "alike", "pair"] {
+        let rows: [(u64, u64, &[(usize, u32)], u8); 4] = [
+            (whole - 5, 16_384, &[(16_384, 65_536), (5, 1)], 1),
+            (whole, 16_384, &[(16_384, 65_536), (1, 1)], 1),
+            (whole + 1, 16_384, &[(16_384, 65_536), (1, 1)], 7),
+            (
+                whole + 9,
+                10_000,
+                &[(16_384, 107_373), (11_824, 1), (1_824, 1), (1, 1)],
+                7,
+            ),
+        ];
+        for (left, most, want, status) in rows {
+            let (asked, got) = asked(&rt, command, left, most)?;
+            assert_eq!(rt; asked.as_slice(), want, "{command} {left}");
+            assert_eq!(rt; got, status, "{command} {left}");
+        }
+    }
+    Ok(())
+}
