@@ -4,6 +4,7 @@ pub mod SingleLaws
 pub mod JoinedLines
 pub mod LineLaws
 pub mod LineMoves
+pub mod MarksKept
 pub mod WordBoundLaws
 pub mod BoundsOfWords
 pub mod BoundExamples

@@ -15,15 +15,16 @@ use Rattle.bk_bounds.proofs.JoinedLines.{behind_bound, bound, bound_unders, more
 -- ---- a move, on lists
 
 module _ (lines later : List Bool) (keeps : (q : ℕ) → on_line lines q ≡ true → on_line later q ≡ true) where
-  any_more : (s : List ℕ) → list_any (on_line lines) s ≡ true → list_any (on_line later) s ≡ true
+  -- where each square on a line stays on one, so do segments: one with a square on a line, one that begins on one, the next one
+  pub any_more : (s : List ℕ) → list_any (on_line lines) s ≡ true → list_any (on_line later) s ≡ true
   any_more [] e = absurd (cc)
   any_more (q ∷ s) e = or_more (on_line lines q) (list_any (on_line lines) s) (on_line later q) (list_any (on_line later) s) (keeps q) (any_more s) e
 
-  begins_more : (s : List ℕ) → begins_on_line lines s ≡ true → begins_on_line later s ≡ true
+  pub begins_more : (s : List ℕ) → begins_on_line lines s ≡ true → begins_on_line later s ≡ true
   begins_more [] e = absurd (cc)
   begins_more (q ∷ s) e = keeps q e
 
-  next_more : (segments : List (List ℕ)) → next_on_line lines segments ≡ true → next_on_line later segments ≡ true
+  pub next_more : (segments : List (List ℕ)) → next_on_line lines segments ≡ true → next_on_line later segments ≡ true
   next_more [] e = absurd (cc)
   next_more (s ∷ segments) e = begins_more s e
 
@@ -32,7 +33,8 @@ module _ (lines later : List Bool) (keeps : (q : ℕ) → on_line lines q ≡ tr
   mark_more s b d f = more (list_any (on_line lines) s || b) (list_any (on_line later) s || d)
       (or_more (list_any (on_line lines) s) b (list_any (on_line later) s) d (any_more s) f)
 
-  bound_more : (signs : List Sign) (segments : List (List ℕ)) → bound lines signs segments ≤ bound later signs segments
+  -- and the bound doesn't fall
+  pub bound_more : (signs : List Sign) (segments : List (List ℕ)) → bound lines signs segments ≤ bound later signs segments
   bound_more signs [] = omega arith
   bound_more [] (s ∷ segments) = mark_more s (next_on_line lines segments) (next_on_line later segments) (next_more segments)
   bound_more (g ∷ signs) (s ∷ segments) = omega

@@ -165,7 +165,8 @@ module _ (o : Outline) (lines : List Bool) (m : Move) (legal : IsLegalMove o m) 
   later : List Bool
   later = lines ++ begins_on_line lines (valley_of o) ∷ replicate (m.count - 1) (nat_eq (length o.closed) 0)
 
-  keeps : (q : ℕ) → on_line lines q ≡ true → on_line (lines_after o lines m) q ≡ true
+  -- a square on a line stays on it
+  pub keeps : (q : ℕ) → on_line lines q ≡ true → on_line (lines_after o lines m) q ≡ true
   keeps q e = get_front lines (begins_on_line lines (valley_of o) ∷ replicate (m.count - 1) (nat_eq (length o.closed) 0)) (q - 1) false
       (true_within lines (q - 1) e) ∙ e
 
@@ -174,7 +175,8 @@ module _ (o : Outline) (lines : List Bool) (m : Move) (legal : IsLegalMove o m) 
   first_is = get_back lines (begins_on_line lines (valley_of o) ∷ replicate (m.count - 1) (nat_eq (length o.closed) 0)) 0
       (length o.hung + 1 - 1) false (omega (arith, long))
 
-  first_new : (k : ℕ) → 0 < k → begins_on_line lines (valley_of o) ≡ true
+  -- where the valley begins on a line, so do the new squares
+  pub first_new : (k : ℕ) → 0 < k → begins_on_line lines (valley_of o) ≡ true
       → next_on_line (lines_after o lines m) (map (λ q. q ∷ []) (numbers_from (length o.hung + 1) k) ++ drop (valley_place o.signs + 1) o.segments) ≡ true
   first_new zero h e = absurd (omega arith)
   first_new (suc k) h e = first_is ∙ e

@@ -36,13 +36,12 @@ impl Source for NotingSource {
 
 // Adds a read that asks for so many bytes.
 fn note(asked: &mut Asked, length: usize) {
-    if let Some((last, times)) = asked.last_mut() {
-        if *last == length {
-            *times = times.saturating_add(1);
-            return;
-        }
+    let count = asked.len();
+    if count > 0 && asked[count - 1].0 == length {
+        asked[count - 1].1 = asked[count - 1].1.saturating_add(1);
+    } else {
+        let _ = asked.try_push((length, 1));
     }
-    let _ = asked.try_push((length, 1));
 }
 
 // What the reads of a command ask for over so many bytes, and its status.

@@ -21,7 +21,7 @@ use Rattle.bk_owed.proofs.TallyLaws.{front_owes}
 use Rattle.bk_owed.specs.Tally.{IsRaisedTally}
 use Rattle.bk_owed.specs.Lone.{is_low, lone_squares}
 use Rattle.bk_table.proofs.Cutting.{cut}
-use Rattle.bk_table.proofs.LinesAsked.{behind_of_word, first_of_word}
+use Rattle.bk_bounds.proofs.MarksKept.{behind_of_word, first_of_word}
 use Rattle.bk_table.proofs.LoneSquares.{behind_least, lone_after}
 use Rattle.bk_table.specs.Asking.{EndsOver, IsAsked, IsMark, IsNext, has_first_mark, line_bound_behind, singles_behind}
 

@@ -5,7 +5,6 @@ pub mod Cutting
 pub mod Keeping
 pub mod LeftLines
 pub mod LineSets
-pub mod LinesAsked
 pub mod LinesBeside
 pub mod LoneSquares
 pub mod PackedOrder
