@@ -1,20 +1,29 @@
 -- A table that a search has filled is whole, since each member has a net word, which the search has met.
-use Rattle.std.proofs.Common.{List, Some, [], ap, append_assoc, arith, length, length-append, map, refl, slice_get, slice_index_or, subst, suc, sym}
-use Rattle.std.proofs.Common.{take, zero, ℕ, ◌%◌, ◌++◌, ◌+◌, ◌-◌, ◌/◌, ◌<◌, ◌∙◌, ◌∷◌, ◌≡◌, ◌≤◌}
+use Rattle.std.proofs.Common.{Contains, List, Some, [], ap, append_assoc, arith, inl, inr, length, length-append, map, refl, slice_get, slice_index_or}
+use Rattle.std.proofs.Common.{subst, suc, sym, take, zero, ℕ, ◌%◌, ◌++◌, ◌+◌, ◌-◌, ◌/◌, ◌<◌, ◌∙◌, ◌∷◌, ◌≡◌, ◌≤◌, ◌⊎◌}
+use Rattle.std.proofs.lemmas.Bool.{cases_lt}
 use Rattle.std.proofs.lemmas.List.{length-map, length-take-le, map-append}
-use Rattle.bk_word.specs.Play.{IsComplete, IsLegal}
+use Rattle.bk_tiling.specs.Tiling.{IsTiling}
+use Rattle.bk_word.specs.Outline.{valley_of}
+use Rattle.bk_word.specs.Play.{IsComplete, IsLegal, outline_of}
 use Rattle.bk_word.specs.Word.{Move, Word, order_of, sign_place}
 use Rattle.bk_word.specs.declared.Class.{Class}
 use Rattle.bk_word.specs.declared.Sign.{Sign}
 use Rattle.bk_lay.proofs.WordPlay.{tiling_word_is_complete}
+use Rattle.bk_lay.specs.TilingWord.{IsWordOf}
 use Rattle.bk_catalogue.specs.Catalogue.{Entry, IsEntry}
 use Rattle.bk_barren.specs.Cuts.{IsBarren}
 use Rattle.bk_net_word.proofs.NetWords.{a_simple_tiling_has_a_net_word}
 use Rattle.bk_net_word.specs.NetWord.{IsNetBarren, IsNetWordOf}
+use Rattle.bk_second_move.proofs.SecondMoves.{the_node_under_the_last_is_touched_alike}
+use Rattle.bk_second_move.specs.SecondMove.{AreUnder}
+use Rattle.bk_signed_word.specs.SignedWord.{IsSignedWordOf}
 use Rattle.bk_table.specs.Kept.{Holds}
 use Rattle.bk_table.specs.Packed.{packed, word_digits}
-use Rattle.bk_table.specs.Sought.{IsSought}
+use Rattle.bk_table.specs.Second.{BeginsUnder}
+use Rattle.bk_table.specs.Sought.{IsSought, IsTouchedUnderFirst}
 use Rattle.bk_table.specs.Span.{IsWithin, begun_digits, span_from, span_of}
+use Rattle.bk_table.specs.TopLines.{first_count}
 use Rattle.bk_table.specs.declared.span.Span.{Span}
 use Rattle.bk_table.proofs.Spans.{begun_fit, begun_move, moves_that_go_on, words_that_go_on}
 use Rattle.bk_member_table.specs.Finding.{Finding, HasMet, HasNone}
@@ -45,12 +54,65 @@ begins n count class e w is net by m first =
     let own = first_of e.word ((entry_complete n class e is).0).some in
     (net.signed).first_count e.word m own.0 is.word own.1 first ∙ by own.0 own.1
 
+-- what the number from which words are kept tells of their second moves
+abbrev pub TellsSecond : ℕ → ℕ → ℕ → Type 0
+TellsSecond count from second = (first : Move) (rest : Word) → IsLegal (first ∷ rest) → order_of (first ∷ rest) ≤ 16 → first.count ≡ count
+    → from ≤ packed (first ∷ rest) → 0 < second → BeginsUnder first rest second
+
+-- so many squares touch the node under the last square of the first move, if its signs are all under: one more than the second move hangs
+touched_by : (e : Entry) (w : Word) (first second : Move) (more : Word) (least : ℕ) → IsTiling e.tiling → IsWordOf e.tiling (first ∷ second ∷ more)
+    → AreUnder first.signs → IsSignedWordOf e.tiling w → first_count w ≡ first.count → least ≤ second.count + 1 → IsTouchedUnderFirst least w
+touched_by e w first second more least tiling word under signed same few front rest m is on = omega (
+  arith,
+  few,
+  the_node_under_the_last_is_touched_alike e.tiling first second more w tiling word under signed front rest m is
+      (subst (Contains (valley_of (outline_of front))) same on),
+)
+
+-- a word that isn't below the number is touched so
+touched : (n count from second least : ℕ) (class : Class) (e : Entry) (w : Word) → n ≤ 16 → IsEntry n class e → IsNetWordOf e.tiling w
+    → BeginsBy count e.word → from ≤ packed e.word → TellsSecond count from second → least ≤ second + 1 → (second ≡ 0 → least ≡ 0)
+    → IsTouchedUnderFirst least w
+touched n count from second least class e w few is net by above tells most unknown = cases (cases_lt 0 second)
+  where
+    complete : IsComplete e.word × (order_of e.word ≡ n)
+    complete = entry_complete n class e is
+
+    first : HasFirst e.word
+    first = first_of e.word (complete.0).some
+
+    at_first : (v : Word) (m : Move) → slice_get v 0 ≡ Some m → (rest : Word) × (v ≡ m ∷ rest)
+    at_first [] m e = absurd (cc)
+    at_first (k ∷ rest) m e = let same : k ≡ m = cc in (rest, ap (λ z. z ∷ rest) same)
+
+    own : (rest : Word) × (e.word ≡ first.0 ∷ rest)
+    own = at_first e.word first.0 first.1
+
+    counts : first_count w ≡ first.0.count
+    counts = from_word w refl
+      where
+        from_word : (v : Word) → w ≡ v → first_count w ≡ first.0.count
+        from_word [] none = absurd (omega (arith, (net.signed).complete.some, ap (λ (z : Word). length z) none))
+        from_word (m ∷ v) same = ap first_count same ∙ (net.signed).first_count e.word m first.0 is.word first.1 (ap (λ (z : Word). slice_get z 0) same)
+
+    cases : (0 < second) ⊎ (second ≤ 0) → IsTouchedUnderFirst least w
+    cases (inr none) = λ front rest m is on. omega (arith, unknown (omega (arith, none)))
+    cases (inl some) = from_second (tells first.0 own.0 (subst IsLegal own.1 (complete.0).legal) (omega (arith, few, complete.1, ap order_of own.1))
+        (by first.0 first.1) (subst (λ v. from ≤ packed v) own.1 above) some)
+      where
+        from_second : BeginsUnder first.0 own.0 second → IsTouchedUnderFirst least w
+        from_second b = touched_by e w first.0 b.second b.more least (is.member).tiling (subst (IsWordOf e.tiling) (own.1 ∙ ap (λ v. first.0 ∷ v) b.is) is.word)
+            b.under net.signed counts (omega (arith, most, b.hangs))
+
 -- the table is whole
-pub whole_table : (n count : ℕ) (s : Finding) → 3 ≤ n → ((w : Word) → IsSought n w → BeginsBy count w → HasMet s w)
+pub whole_table : (n count from second least : ℕ) (s : Finding) → 3 ≤ n → n ≤ 16 → s.from ≡ from → TellsSecond count from second
+    → least ≤ second + 1 → (second ≡ 0 → least ≡ 0) → ((w : Word) → IsSought n w → IsTouchedUnderFirst least w → BeginsBy count w → HasMet s w)
     → IsWhole (record { order = n; count = count; found = s })
-whole_table n count s least all e is by =
-    let net = a_simple_tiling_has_a_net_word e.tiling (is.member).tiling (is.member).simple (subst (λ k. 3 ≤ k) (sym (is.member).order) least) in
-    all net.0 (sought n s.class e net.0 is net.1) (begins n count s.class e net.0 is net.1 by) n e is (net.1).signed
+whole_table n count from second least s many few same tells most unknown all e is by above =
+    let net = a_simple_tiling_has_a_net_word e.tiling (is.member).tiling (is.member).simple (subst (λ k. 3 ≤ k) (sym (is.member).order) many) in
+    all net.0 (sought n s.class e net.0 is net.1)
+    (touched n count from second least s.class e net.0 few is net.1 by (omega (arith, above, same)) tells most unknown)
+    (begins n count s.class e net.0 is net.1 by) n e is (net.1).signed above
 
 -- ---- what a whole table rules out
 

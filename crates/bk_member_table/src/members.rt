@@ -8,7 +8,7 @@ ghost use Rattle.bk_member_table.specs.Members.{BeginsBy, IsBarrenBy, IsWhole, T
 
 use crate::finding::Finder;
 use bk_skel::Skel;
-use bk_table::{search, span_of, span_with};
+use bk_table::{least_second, search, span_of, span_with};
 use bk_word::{Class, Move};
 use std::alloc::Global;
 use std::marker::Model;
@@ -58,7 +58,8 @@ impl<const N: usize> MemberTable<N> {
         ensures whole { IsWhole result }
     {
         let mut finder = Finder::new(alloc, class, from);
-        search(&mut finder, order, count);
+        let least = touching(least_second(count, from));
+        search(&mut finder, order, count, least);
         MemberTable {
             order,
             count,
@@ -125,6 +126,16 @@ impl<const N: usize> MemberTable<N> {
         }
         begins_by(skel, self.count)
     }
+}
+
+// How many squares at least touch the node under the last square of the first move, where a second move hangs at least so many and all
+// signs of the first one are under. It is 0, which asks for none, where at least 3 do anyway: under one square never hangs just one.
+fn touching(second: u8) -> u8
+    requires few { second ≤ 17 }
+    ensures most { result ≤ second + 1 }
+    ensures unknown { second ≡ 0 → result ≡ 0 }
+{
+    if second <= 2 { 0 } else { second + 1 }
 }
 
 // Whether there is a first move, and hangs so many squares.

@@ -12,8 +12,10 @@ pub mod PackedExamples
 pub mod NextMoves
 pub mod Spans
 pub mod SpanExamples
+pub mod FirstNode
 pub mod FirstNumbers
 pub mod RightLines
+pub mod SecondNumbers
 pub mod SegmentsBehind
 pub mod SharedSegments
 pub mod TopLineExamples

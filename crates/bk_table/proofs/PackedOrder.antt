@@ -108,12 +108,13 @@ sign_small Above = omega arith
 sign_small Even = omega arith
 sign_small Under = omega arith
 
-signs_digits : (signs : List Sign) → AreDigits (map sign_place signs)
+-- the places of signs are digits
+pub signs_digits : (signs : List Sign) → AreDigits (map sign_place signs)
 signs_digits [] = tt
 signs_digits (s ∷ signs) = (sign_small s, signs_digits signs)
 
 -- the two digits of a count are one of base 16
-count_digits : (room count : ℕ) (rest : List ℕ) → begun_by (suc (suc room)) ((count - 1) / 4 ∷ (count - 1) % 4 ∷ rest)
+pub count_digits : (room count : ℕ) (rest : List ℕ) → begun_by (suc (suc room)) ((count - 1) / 4 ∷ (count - 1) % 4 ∷ rest)
     ≡ (count - 1) * 4 ^ room + begun_by room rest
 count_digits room count rest =
     begun-cons (suc room) ((count - 1) / 4) ((count - 1) % 4 ∷ rest)

@@ -1,5 +1,6 @@
 -- What the crate says.
 pub mod Sought
+pub mod Second
 pub mod Packed
 pub mod PackedLaws
 pub mod Span

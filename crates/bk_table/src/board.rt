@@ -8,6 +8,7 @@ ghost use Rattle.bk_word.specs.Word.{order_of};
 ghost use Rattle.bk_free_cuts.specs.LineNumbers.{lefts_of};
 ghost use Rattle.bk_table.specs.Asking.{has_first_mark, line_bound_behind};
 ghost use Rattle.bk_table.specs.NodeLines.{ShareLines};
+ghost use Rattle.bk_table.specs.TopLines.{first_count};
 
 use crate::line_set::LineSet;
 use crate::node_lines::{has_both, node_lines};
@@ -68,6 +69,13 @@ impl Board {
         ensures { result.now ≡ lefts_of self.now }
     {
         self.lefts.as_slice()
+    }
+
+    /// How many squares the first move hangs.
+    pub(crate) fn first(&self) -> u8
+        ensures { 0 < length self.now → result ≡ first_count self.now }
+    {
+        self.first
     }
 
     /// Whether the line at the left of one square and that at the right of another, by their numbers from 1, touch one closed node.

@@ -7,7 +7,7 @@ ghost use Rattle.bk_word.specs.Play.{outline_of};
 ghost use Rattle.bk_word.specs.Word.{Move as SeenMove, Word as Moves};
 ghost use Rattle.bk_word.specs.declared.Sign.{Sign as SeenSign};
 ghost use Rattle.bk_word.specs.declared.Sign.TheVariants.{Above, Even};
-ghost use Rattle.bk_table.specs.Sought.{BeginsTurned};
+ghost use Rattle.bk_table.specs.Sought.{BeginsTurned, IsSought, IsTouchedUnderFirst};
 ghost use Rattle.bk_net_word.specs.NetWord.{IsNetBarren};
 
 use crate::board::Board;
@@ -15,8 +15,34 @@ use crate::sharing::shares_a_node;
 use bk_skel::Skel;
 use bk_word::{Move, Sign};
 
+// The least count of a next move that is tried, where at least so many squares touch the node under the last square of the first move.
+pub(crate) fn least_tried(board: &Board, least: u8) -> u8
+    ensures some { 0 < result }
+    ensures none { (n : ℕ) (w rest : Moves) (m : SeenMove) → IsSought n w → IsTouchedUnderFirst least w → w ≡ board.now ++ m ∷ rest → 0 < m.count
+        → m.count < result → ⊥ }
+{
+    let count = least_count(board.skel());
+    let missing = missing_under_first(board, least);
+    if missing > count { missing } else { count }
+}
+
+// How many squares at least the next move hangs if the last square of the first move stands on the valley, and so many touch its node:
+// those that don't stand there.
+fn missing_under_first(board: &Board, least: u8) -> u8
+    ensures { (w rest : Moves) (m : SeenMove) → IsTouchedUnderFirst least w → w ≡ board.now ++ m ∷ rest → result ≤ m.count }
+{
+    if least == 0 {
+        return 0;
+    }
+    let squares = board.skel().valley_squares();
+    if !squares.contains(&board.first()) {
+        return 0;
+    }
+    usize::from(least).saturating_sub(squares.len()) as u8
+}
+
 // The least count of a next move that isn't barren: one square hangs under no segment of just one, and the first move is none of one.
-pub(crate) fn least_count(skel: &Skel) -> u8
+fn least_count(skel: &Skel) -> u8
     ensures some { 0 < result }
     ensures few { result ≤ 2 }
     ensures barren { (n : ℕ) (m : SeenMove) → m.count < result → 0 < m.count → IsNetBarren n (skel.now ++ m ∷ []) }

@@ -11,6 +11,7 @@ mod line_set;
 mod node_lines;
 mod packed;
 mod searching;
+mod second;
 mod sharing;
 mod sides;
 mod span;
@@ -20,6 +21,7 @@ mod top_lines;
 pub use board::Board;
 pub use packed::Packed;
 pub use searching::{Leaves, search};
+pub use second::least_second;
 pub use span::{Span, span_of, span_with};
 pub use table::Table;
 

@@ -6,13 +6,13 @@ ghost use Rattle.bk_word.specs.Outline.{IsLegalMove, has_left_wall, has_right_wa
 ghost use Rattle.bk_word.specs.Play.{IsComplete, outline_of};
 ghost use Rattle.bk_word.specs.Word.{Move as SeenMove, Word as Moves, order_of};
 ghost use Rattle.bk_table.specs.Asking.{IsAsked, IsNext};
-ghost use Rattle.bk_table.specs.Sought.{GoesOn, GoesOnBy, IsSought};
+ghost use Rattle.bk_table.specs.Sought.{GoesOn, GoesOnBy, IsSought, IsTouchedUnderFirst};
 
 use crate::asking::{
     Asked, Next, asked_with, ends_over, is_over, is_over_behind, next_of, stand_beside,
 };
 use crate::board::Board;
-use crate::cuts::{bars, is_barren, least_count};
+use crate::cuts::{bars, is_barren, least_tried};
 use arrayvec::ArrayVec;
 use bk_word::{Move, Sign};
 
@@ -38,12 +38,13 @@ pub trait Leaves {
         ensures fixed { fixed self.new ≡ fixed self.old };
 }
 
-/// Meets each word of the order, of which no beginning is barren, whose first move hangs so many squares. What no meeting changes
-/// is as it was.
-pub fn search<S: Leaves>(leaves: &mut S, order: u8, count: u8)
+/// Meets each word of the order, of which no beginning is barren, whose first move hangs so many squares, and in which at least so
+/// many touch the node under the last one of these; 0 asks for none. What no meeting changes is as it was.
+pub fn search<S: Leaves>(leaves: &mut S, order: u8, count: u8, least: u8)
     requires least { 2 ≤ order }
     requires most { order ≤ 16 }
-    ensures all { (w : Moves) → IsSought order w → ((m : SeenMove) → slice_get w 0 ≡ Some m → m.count ≡ count) → S.has_met leaves.new w }
+    ensures all { (w : Moves) → IsSought order w → IsTouchedUnderFirst least w → ((m : SeenMove) → slice_get w 0 ≡ Some m → m.count ≡ count)
+        → S.has_met leaves.new w }
     ensures kept { (w : Moves) → S.has_met leaves.old w → S.has_met leaves.new w }
     ensures fixed { S.fixed leaves.new ≡ S.fixed leaves.old }
 {
@@ -57,16 +58,16 @@ pub fn search<S: Leaves>(leaves: &mut S, order: u8, count: u8)
         count,
         signs: ArrayVec::new(),
     };
-    with_signs(&mut board, &mut m, leaves, order, next, around.asked);
+    with_signs(&mut board, &mut m, leaves, order, least, next, around.asked);
 }
 
 // Meets all that go on from the board's moves.
 #[cycle(search)]
-fn with_counts<S: Leaves>(board: &mut Board, leaves: &mut S, order: u8)
+fn with_counts<S: Leaves>(board: &mut Board, leaves: &mut S, order: u8, least: u8)
     requires least { 2 ≤ order }
     requires most { order ≤ 16 }
     requires few { order_of board.old < order }
-    ensures all { (w : Moves) → IsSought order w → GoesOn board.old w → S.has_met leaves.new w }
+    ensures all { (w : Moves) → IsSought order w → IsTouchedUnderFirst least w → GoesOn board.old w → S.has_met leaves.new w }
     ensures kept { (w : Moves) → S.has_met leaves.old w → S.has_met leaves.new w }
     ensures fixed { S.fixed leaves.new ≡ S.fixed leaves.old }
     ensures board { board.new ≡ board.old }
@@ -77,10 +78,10 @@ fn with_counts<S: Leaves>(board: &mut Board, leaves: &mut S, order: u8)
         count: 0,
         signs: ArrayVec::new(),
     };
-    'counts: for count in least_count(board.skel())..left + 1 {
+    'counts: for count in least_tried(board, least)..left + 1 {
         let next = next_of(around, count, usize::from(left - count));
         set_count(&mut m, count);
-        with_signs(board, &mut m, leaves, order, next, around.asked);
+        with_signs(board, &mut m, leaves, order, least, next, around.asked);
     }
 }
 
@@ -100,6 +101,7 @@ fn with_signs<S: Leaves>(
     m: &mut Move,
     leaves: &mut S,
     order: u8,
+    least: u8,
     next: Next,
     asked: Asked,
 )
@@ -113,7 +115,7 @@ fn with_signs<S: Leaves>(
     requires room { next.room ≤ 16 }
     requires asked { IsAsked order board.old m.old.signs asked.tally.bound asked.tally.aboves asked.lone.found asked.lone.low }
     requires asking { asked.tally.bound + asked.lone.found ≤ 1000 }
-    ensures all { (w : Moves) → IsSought order w → GoesOnBy board.old m.old.count m.old.signs w → S.has_met leaves.new w }
+    ensures all { (w : Moves) → IsSought order w → IsTouchedUnderFirst least w → GoesOnBy board.old m.old.count m.old.signs w → S.has_met leaves.new w }
     ensures kept { (w : Moves) → S.has_met leaves.old w → S.has_met leaves.new w }
     ensures fixed { S.fixed leaves.new ≡ S.fixed leaves.old }
     ensures board { board.new ≡ board.old }
@@ -123,12 +125,12 @@ fn with_signs<S: Leaves>(
         if ends_over(asked, next.room_low) {
             return;
         }
-        with_move(board, m, leaves, order);
+        with_move(board, m, leaves, order, least);
         return;
     }
-    with_sign(board, m, Sign::Above, leaves, order, next, asked);
-    with_sign(board, m, Sign::Even, leaves, order, next, asked);
-    with_sign(board, m, Sign::Under, leaves, order, next, asked);
+    with_sign(board, m, Sign::Above, leaves, order, least, next, asked);
+    with_sign(board, m, Sign::Even, leaves, order, least, next, asked);
+    with_sign(board, m, Sign::Under, leaves, order, least, next, asked);
 }
 
 // And those whose next sign is this. It is written out for each sign, so that what bars one is known there.
@@ -140,6 +142,7 @@ fn with_sign<S: Leaves>(
     sign: Sign,
     leaves: &mut S,
     order: u8,
+    least: u8,
     next: Next,
     asked: Asked,
 )
@@ -153,7 +156,8 @@ fn with_sign<S: Leaves>(
     requires room { next.room ≤ 16 }
     requires asked { IsAsked order board.old m.old.signs asked.tally.bound asked.tally.aboves asked.lone.found asked.lone.low }
     requires asking { asked.tally.bound + asked.lone.found ≤ 1000 }
-    ensures all { (w : Moves) → IsSought order w → GoesOnBy board.old m.old.count (m.old.signs ++ sign ∷ []) w → S.has_met leaves.new w }
+    ensures all { (w : Moves) → IsSought order w → IsTouchedUnderFirst least w → GoesOnBy board.old m.old.count (m.old.signs ++ sign ∷ []) w
+        → S.has_met leaves.new w }
     ensures kept { (w : Moves) → S.has_met leaves.old w → S.has_met leaves.new w }
     ensures fixed { S.fixed leaves.new ≡ S.fixed leaves.old }
     ensures board { board.new ≡ board.old }
@@ -170,36 +174,36 @@ fn with_sign<S: Leaves>(
         return;
     }
     m.signs.push(sign);
-    with_signs(board, m, leaves, order, next, more);
+    with_signs(board, m, leaves, order, least, next, more);
     let _ = m.signs.pop();
 }
 
 // Meets those that go on by the move.
 #[cycle(search)]
-fn with_move<S: Leaves>(board: &mut Board, m: &Move, leaves: &mut S, order: u8)
+fn with_move<S: Leaves>(board: &mut Board, m: &Move, leaves: &mut S, order: u8, least: u8)
     requires least { 2 ≤ order }
     requires most { order ≤ 16 }
     requires legal { IsLegalMove (outline_of board.old) m.now }
     requires few { order_of board.old + m.now.count ≤ order }
-    ensures all { (w : Moves) → IsSought order w → GoesOn (board.old ++ m.now ∷ []) w → S.has_met leaves.new w }
+    ensures all { (w : Moves) → IsSought order w → IsTouchedUnderFirst least w → GoesOn (board.old ++ m.now ∷ []) w → S.has_met leaves.new w }
     ensures kept { (w : Moves) → S.has_met leaves.old w → S.has_met leaves.new w }
     ensures fixed { S.fixed leaves.new ≡ S.fixed leaves.old }
     ensures board { board.new ≡ board.old }
 {
     board.push(m);
     if !is_barren(board, m.count, order) {
-        go_on(board, leaves, order);
+        go_on(board, leaves, order, least);
     }
     board.pop();
 }
 
 // Meets the word of the board where so many squares hang, else those that go on from it.
 #[cycle(search)]
-fn go_on<S: Leaves>(board: &mut Board, leaves: &mut S, order: u8)
+fn go_on<S: Leaves>(board: &mut Board, leaves: &mut S, order: u8, least: u8)
     requires least { 2 ≤ order }
     requires most { order ≤ 16 }
     requires few { order_of board.old ≤ order }
-    ensures all { (w : Moves) → IsSought order w → GoesOn board.old w → S.has_met leaves.new w }
+    ensures all { (w : Moves) → IsSought order w → IsTouchedUnderFirst least w → GoesOn board.old w → S.has_met leaves.new w }
     ensures kept { (w : Moves) → S.has_met leaves.old w → S.has_met leaves.new w }
     ensures fixed { S.fixed leaves.new ≡ S.fixed leaves.old }
     ensures board { board.new ≡ board.old }
@@ -208,7 +212,7 @@ fn go_on<S: Leaves>(board: &mut Board, leaves: &mut S, order: u8)
         meet_closed(board, leaves);
         return;
     }
-    with_counts(board, leaves, order);
+    with_counts(board, leaves, order, least);
 }
 
 // Meets the word of the board, if it is complete. What that takes stands in no frame of the search, which has one for each sign.

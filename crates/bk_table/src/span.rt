@@ -84,7 +84,7 @@ fn digits_of(skel: &Skel) -> ArrayVec<u8, MOST_DIGITS>
 }
 
 // The greatest number of the digits that are left behind so many.
-fn left_behind(count: usize) -> u128
+pub(crate) fn left_behind(count: usize) -> u128
     requires { count ≤ 64 }
     ensures { result ≡ 4 ^ (64 - count) - 1 }
 {

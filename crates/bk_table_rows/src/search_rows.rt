@@ -1,6 +1,10 @@
-//! How many words a search meets.
+//! How many words a search meets, and what a number tells of a word's second move.
 
-use bk_table::{Board, Leaves, search};
+use bk_skel::skeleton_of;
+use bk_table::{Board, Leaves, least_second, search, span_of};
+use bk_word::read_word;
+use std::alloc::Global;
+use std::process::Abort;
 
 // How many words are met.
 #[derive(Drop)]
@@ -26,8 +30,49 @@ fn words_are_met_once_for_each_net(rt: HostRuntime) {
     for (order, words) in rows {
         let mut met = Met { words: 0 };
         for count in 1..order + 1 {
-            search(&mut met, order, count);
+            search(&mut met, order, count, 0);
         }
         assert_eq!(rt; met.words, words, "order {order}");
+    }
+}
+
+#[test]
+fn words_that_touch_the_first_node_less_are_passed_over(rt: HostRuntime) {
+    // how many squares at least touch the node under the second square of the first move, and how many words of order 11 are met
+    let rows: [(u8, usize); 6] = [(0, 120), (3, 120), (4, 59), (5, 15), (6, 1), (7, 0)];
+    for (least, words) in rows {
+        let mut met = Met { words: 0 };
+        search(&mut met, 11, 2, least);
+        assert_eq!(rt; met.words, words, "least {least}");
+    }
+}
+
+// The least number of a word of at most 16 squares that begins with the moves of a text.
+fn first_number(rt: &impl Abort, alloc: Global, text: &[u8]) -> u128 {
+    let word = read_word(alloc, text).expect(rt, "it is a word");
+    let front = skeleton_of(&word).expect(rt, "it is legal");
+    assert!(rt; front.order() <= 16);
+    span_of(&front).low
+}
+
+#[test]
+fn a_number_tells_how_many_squares_a_second_move_hangs(rt: HostRuntime) {
+    // moves from whose number on words are looked at, the count of their first move, and how many squares their second one hangs at
+    // least; 0 where that isn't known
+    let rows: [(&[u8], u8, u8); 10] = [
+        (b"2u.2aa.2ue.2eue.1e", 2, 2),
+        (b"2u.6euaaaa.2eue.1ae.2uu.1ue.1ea.1ee", 2, 6),
+        (b"3uu.4euaa", 3, 4),
+        (b"4uuu.3eaa", 4, 3),
+        (b"2u", 2, 0),
+        (b"2a.2uu", 2, 0),
+        (b"3ua.2aue", 3, 0),
+        (b"2u.6euaaaa", 3, 0),
+        (b"3aa", 2, 17),
+        (b"2u.2aa", 17, 0),
+    ];
+    for (text, count, squares) in rows {
+        let number = first_number(&rt, rt.alloc(), text);
+        assert_eq!(rt; least_second(count, number), squares);
     }
 }

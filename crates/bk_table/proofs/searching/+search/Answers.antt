@@ -1,7 +1,7 @@
 use Rattle.std.proofs.Common.{[], ap, append_assoc, arith, inl, inr, length, refl, subst, sym, ◌++◌, ◌∙◌, ◌∷◌, ◌≡◌}
 use Rattle.bk_word.specs.Outline.{IsLegalMove}
 use Rattle.bk_word.specs.Play.{IsComplete, outline_of}
-use Rattle.bk_word.specs.Word.{Move, Word, order_of}
+use Rattle.bk_word.specs.Word.{Move, order_of}
 use Rattle.bk_word.specs.declared.Sign.{Sign}
 use Rattle.bk_word.specs.declared.Sign.TheVariants.{Above, Even, Under}
 use Rattle.bk_net_word.specs.NetWord.{IsNetBarren}
@@ -19,9 +19,7 @@ pub with_counts-counts-init : goal.with_counts-counts-init
 with_counts-counts-init g t c = record {
   board = refl;
   signs = c.new.ensures;
-  all = λ w sought h few. absurd (next_fertile c.args.order c.args.board.now w h.move h.rest sought h.is
-      (subst (λ (v : Word). IsNetBarren c.args.order (v ++ h.move ∷ [])) c.skel-2.ensures.value
-      (c.least_count-count.ensures.barren c.args.order h.move few h.legal.some)));
+  all = λ w sought touched h few. absurd (c.least_tried-count.ensures.none c.args.order w h.rest h.move sought touched h.is h.legal.some few);
   kept = λ w met. met;
   fixed = refl;
 }
@@ -30,9 +28,9 @@ pub with_counts-counts-preserved : goal.with_counts-counts-preserved
 with_counts-counts-preserved g t c = record {
   board = c.with_signs.ensures.board ∙ c.counts.invariant.board;
   signs = ap (λ (m : Move). m.signs) c.with_signs.ensures.same ∙ c.set_count.ensures.signs ∙ c.counts.invariant.signs;
-  all = λ w sought h few. elim (below_or_same h.move.count c.counts.count few) [
-    | inl less ↦ c.with_signs.ensures.kept w (c.counts.invariant.all w sought h less)
-    | inr same ↦ c.with_signs.ensures.all w sought (by_count c.args.board.now c.counts.board w h c.set_count.new.m.count c.set_count.new.m.signs
+  all = λ w sought touched h few. elim (below_or_same h.move.count c.counts.count few) [
+    | inl less ↦ c.with_signs.ensures.kept w (c.counts.invariant.all w sought touched h less)
+    | inr same ↦ c.with_signs.ensures.all w sought touched (by_count c.args.board.now c.counts.board w h c.set_count.new.m.count c.set_count.new.m.signs
         c.counts.invariant.board (same ∙ sym c.set_count.ensures.count) (c.set_count.ensures.signs ∙ c.counts.invariant.signs))
   ];
   kept = λ w met. c.with_signs.ensures.kept w (c.counts.invariant.kept w met);
@@ -40,9 +38,9 @@ with_counts-counts-preserved g t c = record {
 }
 
 pub with_counts-returns-clause-all : goal.with_counts-returns-clause-all
-with_counts-returns-clause-all g t c w sought on =
+with_counts-returns-clause-all g t c w sought touched on =
     let h = next_move c.args.order c.args.board.now w sought c.requires.few on in
-    c.counts.invariant.all w sought h (omega (
+    c.counts.invariant.all w sought touched h (omega (
       arith,
       next_fits c.args.order c.args.board.now w sought h,
       c.counts-test.false,
@@ -51,17 +49,17 @@ with_counts-returns-clause-all g t c w sought on =
     ))
 
 pub with_move-returns-clause-all : goal.with_move-returns-clause-all
-with_move-returns-clause-all g t c w sought on =
+with_move-returns-clause-all g t c w sought touched on =
     elim c.if-not-is_barren.branch [
       | with_move-then-not-is_barren b ↦
-          subst (λ s. g.S.Leaves.has_met s w) (sym b.leaves-is) (b.go_on.ensures.all w sought (subst (λ v. GoesOn v w) (sym c.push.ensures) on))
+          subst (λ s. g.S.Leaves.has_met s w) (sym b.leaves-is) (b.go_on.ensures.all w sought touched (subst (λ v. GoesOn v w) (sym c.push.ensures) on))
       | with_move-else-not-is_barren b ↦
           absurd (sought.fertile (c.args.board.now ++ c.args.m.now ∷ []) on.rest on.is
           (subst (IsNetBarren c.args.order) c.push.ensures (c.is_barren.ensures b.if-not-is_barren.false)))
     ]
 
 pub go_on-returns-then-order-from-clause-all : goal.go_on-returns-then-order-from-clause-all
-go_on-returns-then-order-from-clause-all g t c w sought on =
+go_on-returns-then-order-from-clause-all g t c w sought touched on =
     let full : order_of c.args.board.now ≡ c.args.order = omega (
       arith,
       c.if-order-from.true,
@@ -73,13 +71,13 @@ go_on-returns-then-order-from-clause-all g t c w sought on =
     subst (λ v. g.S.Leaves.has_met c.meet_closed.new.leaves v) (sym whole) (c.meet_closed.ensures.met (subst IsComplete whole sought.complete))
 
 pub with_sign-returns-then-bars-clause-all : goal.with_sign-returns-then-bars-clause-all
-with_sign-returns-then-bars-clause-all g t c w sought on =
+with_sign-returns-then-bars-clause-all g t c w sought touched on =
     absurd (next_fertile c.args.order c.args.board.now w on.move on.rest sought on.is
     (c.bars.ensures.barren c.if-bars.true c.args.order c.args.board.now on.move on.more c.requires.next.left_is on.count_is
     (on.signs_are ∙ append_assoc c.args.m.now.signs (c.args.sign ∷ []) on.more)))
 
 pub with_sign-returns-then-is_over-clause-all : goal.with_sign-returns-then-is_over-clause-all
-with_sign-returns-then-is_over-clause-all g t c w sought on =
+with_sign-returns-then-is_over-clause-all g t c w sought touched on =
     let more = c.asked_with-more.result in
     absurd (next_fertile c.args.order c.args.board.now w on.move on.rest sought on.is
     (asked_is_barred c.args.order c.args.m.now.count c.args.board.now (c.args.m.now.signs ++ c.args.sign ∷ []) on.move on.more c.args.next.wanted
@@ -89,7 +87,7 @@ with_sign-returns-then-is_over-clause-all g t c w sought on =
     (c.is_over.ensures.over c.if-is_over.true) on.count_is on.signs_are))
 
 pub with_sign-returns-then-is_over_behind-clause-all : goal.with_sign-returns-then-is_over_behind-clause-all
-with_sign-returns-then-is_over_behind-clause-all g t c w sought on =
+with_sign-returns-then-is_over_behind-clause-all g t c w sought touched on =
     let more = c.asked_with-more.result in
     absurd (next_fertile c.args.order c.args.board.now w on.move on.rest sought on.is
     (asked_behind_is_barred c.args.order c.args.m.now.count c.args.board.now (c.args.m.now.signs ++ c.args.sign ∷ []) on.move on.more c.args.next.wanted
@@ -99,14 +97,14 @@ with_sign-returns-then-is_over_behind-clause-all g t c w sought on =
     (c.is_over_behind.ensures c.if-is_over_behind.true) on.count_is on.signs_are))
 
 pub with_sign-returns-clause-all : goal.with_sign-returns-clause-all
-with_sign-returns-clause-all g t c w sought on =
+with_sign-returns-clause-all g t c w sought touched on =
     let next = by_pushed c.args.board.now w c.args.m.now c.args.sign c.m.inside.count c.m.inside.signs.items c.push.new.self.items
     (ap (λ (m : Move). m.count) c.m.view_is) (ap (λ (m : Move). m.signs) c.m.view_is) c.push.ensures.items on in
-    c.with_signs.ensures.all w sought next
+    c.with_signs.ensures.all w sought touched next
 
 pub with_signs-returns-then-len-from-clause-all : goal.with_signs-returns-then-len-from-clause-all
-with_signs-returns-then-len-from-clause-all g t c w sought on =
-    c.with_move.ensures.all w sought (by_whole c.args.order c.args.board.now w c.args.m.now sought
+with_signs-returns-then-len-from-clause-all g t c w sought touched on =
+    c.with_move.ensures.all w sought touched (by_whole c.args.order c.args.board.now w c.args.m.now sought
     (record {
       some = c.requires.some;
       signs = omega (
@@ -120,7 +118,7 @@ with_signs-returns-then-len-from-clause-all g t c w sought on =
     }) on)
 
 pub with_signs-returns-then-ends_over-clause-all : goal.with_signs-returns-then-ends_over-clause-all
-with_signs-returns-then-ends_over-clause-all g t c w sought on =
+with_signs-returns-then-ends_over-clause-all g t c w sought touched on =
     let whole = by_whole c.args.order c.args.board.now w c.args.m.now sought
     (record {
       some = c.requires.some;
@@ -140,7 +138,7 @@ with_signs-returns-then-ends_over-clause-all g t c w sought on =
     (c.ends_over.ensures c.if-ends_over.true)))
 
 pub with_signs-returns-clause-all : goal.with_signs-returns-clause-all
-with_signs-returns-clause-all g t c w sought on = cases (next).sign refl
+with_signs-returns-clause-all g t c w sought touched on = cases (next).sign refl
   where
     not : IsLegalMove (outline_of c.args.board.now) c.args.m.now → ⊥
     not legal = omega (
@@ -158,9 +156,10 @@ with_signs-returns-clause-all g t c w sought on = cases (next).sign refl
 
     cases : (s : Sign) → (next).sign ≡ s → g.S.Leaves.has_met c.with_sign-3.new.leaves w
     cases Above e = c.with_sign-3.ensures.kept w (c.with_sign-2.ensures.kept w
-        (c.with_sign.ensures.all w sought (by_sign c.args.board.now c.args.board.now c.args.m.now c.args.m.now (next).sign Above w refl refl e (next).on)))
-    cases Even e = c.with_sign-3.ensures.kept w (c.with_sign-2.ensures.all w sought
+        (c.with_sign.ensures.all w sought touched
+        (by_sign c.args.board.now c.args.board.now c.args.m.now c.args.m.now (next).sign Above w refl refl e (next).on)))
+    cases Even e = c.with_sign-3.ensures.kept w (c.with_sign-2.ensures.all w sought touched
         (by_sign c.args.board.now c.with_sign.new.board c.args.m.now c.with_sign.new.m (next).sign Even w c.with_sign.ensures.board
         c.with_sign.ensures.same e (next).on))
-    cases Under e = c.with_sign-3.ensures.all w sought (by_sign c.args.board.now c.with_sign-2.new.board c.args.m.now c.with_sign-2.new.m (next).sign
+    cases Under e = c.with_sign-3.ensures.all w sought touched (by_sign c.args.board.now c.with_sign-2.new.board c.args.m.now c.with_sign-2.new.m (next).sign
         Under w (c.with_sign-2.ensures.board ∙ c.with_sign.ensures.board) (c.with_sign-2.ensures.same ∙ c.with_sign.ensures.same) e (next).on)

@@ -1,7 +1,7 @@
 use Rattle.std.proofs.Common.{[], length, ◌*◌, ◌+◌, ◌-◌, ◌<◌, ◌≡◌}
 use Rattle.bk_word.specs.Word.{Word, order_of}
 use Rattle.bk_table.proofs.NextMoves.{HasNextMove}
-use Rattle.bk_table.specs.Sought.{IsSought}
+use Rattle.bk_table.specs.Sought.{IsSought, IsTouchedUnderFirst}
 use Rattle.bk_table.proofs.searching.+search.Given as goal
 
 abbrev pub decreases-with_counts : goal.decreases-with_counts
@@ -23,7 +23,8 @@ abbrev pub invariant-with_counts-counts : goal.invariant-with_counts-counts
 invariant-with_counts-counts g l = record {
   board : l.board ≡ l.initial.board;
   signs : l.m.signs ≡ [];
-  all : (w : Word) → IsSought l.order w → (h : HasNextMove l.initial.board w) → h.move.count < l.count → g.S.Leaves.has_met l.leaves w;
+  all : (w : Word) → IsSought l.order w → IsTouchedUnderFirst l.least w → (h : HasNextMove l.initial.board w) → h.move.count < l.count
+      → g.S.Leaves.has_met l.leaves w;
   kept : (w : Word) → g.S.Leaves.has_met l.initial.leaves w → g.S.Leaves.has_met l.leaves w;
   fixed : g.S.Leaves.fixed l.leaves ≡ g.S.Leaves.fixed l.initial.leaves;
 }
