@@ -5,6 +5,7 @@ use bk_ask::*;
 use bk_grammar::push_bytes;
 use bk_word::Class;
 use std::alloc::{AllocError, Global};
+use std::process::Abort;
 use std::test::Fail;
 
 // The words of a line, with a blank between each two.
@@ -55,23 +56,30 @@ fn seen(ask: Option<Ask>) -> Shown {
     }
 }
 
+// What the words ask.
+fn read_words(alloc: Global, words: &[String]) -> Shown {
+    seen(asked(alloc, words))
+}
+
+// Asserts what the words of a line ask.
+fn expect_asked(rt: &impl Abort, alloc: Global, line: &str, want: Shown) -> Result<(), AllocError> {
+    let words = words(alloc, line)?;
+    assert_eq!(rt; read_words(alloc, words.as_slice()), want, "{line}");
+    Ok(())
+}
+
 #[test]
 fn commands_that_stand_alone(rt: HostRuntime) -> Result<(), Fail> {
     for name in [
         "check", "canon", "images", "net", "flow", "word", "solve", "draw", "dual", "alike", "help",
     ] {
-        let words = words(rt.alloc(), name)?;
-        assert_eq!(rt;
-            seen(asked(rt.alloc(), words.as_slice())),
-            Shown::Alone(name)
-        );
+        expect_asked(&rt, rt.alloc(), name, Shown::Alone(name))?;
     }
     Ok(())
 }
 
-#[test]
-fn commands_with_options(rt: HostRuntime) -> Result<(), Fail> {
-    for (line, ask) in [
+fn lines_with_options() -> [(&'static str, Shown); 13] {
+    [
         (
             "list --order 2",
             Shown::Listing(2, Class::Perfect, None, None),
@@ -106,16 +114,19 @@ fn commands_with_options(rt: HostRuntime) -> Result<(), Fail> {
         ("pair", Shown::Pair(Kind::Perfect)),
         ("pair --kind perfect", Shown::Pair(Kind::Perfect)),
         ("pair --kind any", Shown::Pair(Kind::Any)),
-    ] {
-        let words = words(rt.alloc(), line)?;
-        assert_eq!(rt; seen(asked(rt.alloc(), words.as_slice())), ask, "{line}");
+    ]
+}
+
+#[test]
+fn commands_with_options(rt: HostRuntime) -> Result<(), Fail> {
+    for (line, ask) in lines_with_options() {
+        expect_asked(&rt, rt.alloc(), line, ask)?;
     }
     Ok(())
 }
 
-#[test]
-fn words_that_ask_nothing(rt: HostRuntime) -> Result<(), Fail> {
-    for line in [
+fn lines_that_ask_nothing() -> &'static [&'static str] {
+    &[
         "",
         "Check",
         "check ",
@@ -164,17 +175,34 @@ fn words_that_ask_nothing(rt: HostRuntime) -> Result<(), Fail> {
         "trial --seed 0 --count 100001",
         "trial --seed 0 --count 2 --order 9",
         "trial --seed 00 --count 2",
-    ] {
-        let words = words(rt.alloc(), line)?;
-        assert_eq!(rt;
-            seen(asked(rt.alloc(), words.as_slice())),
-            Shown::Nothing,
-            "{line}"
-        );
+    ]
+}
+
+#[test]
+fn words_that_ask_nothing(rt: HostRuntime) -> Result<(), Fail> {
+    for line in lines_that_ask_nothing() {
+        expect_asked(&rt, rt.alloc(), line, Shown::Nothing)?;
     }
-    assert_eq!(rt; seen(asked(rt.alloc(), &[])), Shown::Nothing);
+    assert_eq!(rt; read_words(rt.alloc(), &[]), Shown::Nothing);
     Ok(())
 }
+
+const HELP: &str = "usage: bouwkamp COMMAND [--NAME VALUE]...\n\
+    check: test each code\n\
+    canon: canonical code of each code\n\
+    images: the eight images of each code\n\
+    net: Smith diagram of each code\n\
+    flow: currents of each network\n\
+    word: word of each code\n\
+    solve: code of each word\n\
+    draw: drawing of each code\n\
+    list --order N [--class CLASS] [--from WORD] [--limit K]: catalogue of an order\n\
+    trial --seed S --count C: trial codes\n\
+    dual: dual diagram of each code\n\
+    verify --order N: hold a list against the catalogue\n\
+    alike: group codes by size\n\
+    pair [--kind KIND]: join rectangles to squares\n\
+    help: this text\n";
 
 // The text of `help`, over an older text.
 #[test]
@@ -182,21 +210,5 @@ fn help(rt: HostRuntime) {
     let mut out = ArrayVec::new();
     push_bytes(b"an older text", &mut out);
     write_help(&mut out);
-    let text = "usage: bouwkamp COMMAND [--NAME VALUE]...\n\
-        check: test each code\n\
-        canon: canonical code of each code\n\
-        images: the eight images of each code\n\
-        net: Smith diagram of each code\n\
-        flow: currents of each network\n\
-        word: word of each code\n\
-        solve: code of each word\n\
-        draw: drawing of each code\n\
-        list --order N [--class CLASS] [--from WORD] [--limit K]: catalogue of an order\n\
-        trial --seed S --count C: trial codes\n\
-        dual: dual diagram of each code\n\
-        verify --order N: hold a list against the catalogue\n\
-        alike: group codes by size\n\
-        pair [--kind KIND]: join rectangles to squares\n\
-        help: this text\n";
-    assert_eq!(rt; out.as_slice(), text.as_bytes());
+    assert_eq!(rt; out.as_slice(), HELP.as_bytes());
 }

@@ -1,30 +1,42 @@
 //! Rows of `bk_groups`.
 
+use arrayvec::ArrayVec;
 use bk_ask::Kind;
 use bk_groups::{Wanted, list_lines};
 use bk_lines::Ended;
 use bk_ports::{MemSink, MemSource};
 use std::alloc::{AllocError, Global};
+use std::process::Abort;
 use std::test::Fail;
 
 const PERFECT: Wanted = Wanted::Pairs(Kind::Perfect);
 
 const ANY: Wanted = Wanted::Pairs(Kind::Any);
 
-// Whether a list ends so and writes this.
-fn gives(alloc: Global, wanted: Wanted, list: &str, ended: Ended, report: &str) -> bool {
-    let mut source = MemSource::new(list.as_bytes(), 50, &[]);
+// How a list ends, and what is written.
+fn listed(alloc: Global, wanted: Wanted, list: &[u8]) -> (Ended, ArrayVec<u8, 1000>) {
+    let mut source = MemSource::new(list, 50, &[]);
     let mut room = [0; 1000];
     let mut out = MemSink::new(&mut room, &[]);
-    let got = list_lines(alloc, wanted, &mut source, &mut out);
-    got == ended && out.written() == report.as_bytes()
+    let ended = list_lines(alloc, wanted, &mut source, &mut out);
+    let mut text = ArrayVec::new();
+    let _ = text.try_extend_from_slice(out.written());
+    (ended, text)
 }
 
-// Three items of one size and two of another, by turns.
-#[test]
-fn two_sizes_by_turns(rt: HostRuntime) {
-    let list = "[2,1][1]\n[1,1]\n[2][1,1]\n[1][1]\n[1,2][1]";
-    for (wanted, report) in [
+// What is wanted of a list, how it ends and what is written.
+type Row = (Wanted, &'static str, Ended, &'static str);
+
+// Asserts that a list ends so and writes this.
+fn expect_listed(rt: &impl Abort, alloc: Global, row: Row) {
+    let (wanted, list, ended, report) = row;
+    let (got, text) = listed(alloc, wanted, list.as_bytes());
+    assert_eq!(rt; text.as_slice(), report.as_bytes(), "{report}");
+    assert_eq!(rt; got, ended, "{report}");
+}
+
+fn rows_of_two_sizes() -> [(Wanted, &'static str); 3] {
+    [
         (
             Wanted::Groups,
             "3x2 3\n1 [2,1][1]\n3 [2,1][1]\n5 [2,1][1]\n2x1 2\n2 [1,1]\n4 [1,1]\n; groups 2 items 5 refused 0\n",
@@ -35,60 +47,72 @@ fn two_sizes_by_turns(rt: HostRuntime) {
              3 5 5x5 [2,1,2][1][3,2][1,1]\n; pairs 4 items 5 refused 0\n",
         ),
         (PERFECT, "; pairs 0 items 5 refused 0\n"),
-    ] {
-        assert!(rt;
-            gives(rt.alloc(), wanted, list, Ended::NoneRefused, report),
-            "{report}"
-        );
+    ]
+}
+
+// Three items of one size and two of another, by turns.
+#[test]
+fn two_sizes_by_turns(rt: HostRuntime) {
+    let list = "[2,1][1]\n[1,1]\n[2][1,1]\n[1][1]\n[1,2][1]";
+    for (wanted, report) in rows_of_two_sizes() {
+        let row = (wanted, list, Ended::NoneRefused, report);
+        expect_listed(&rt, rt.alloc(), row);
     }
 }
 
-// Two perfect rectangles of one size that have no side in common, two that have one, and two of which one has a side as long as
-// both are high.
-#[test]
-fn perfect_rectangles(rt: HostRuntime) {
-    let apart = "[222,164,207][80,41,43][39,2][37,215][200,22][178]\n[1]\n[1,,1]\n\
-                 [247,154,192][116,38][230][175,72][49,67][103,18][85]\n[1]";
-    let one_in_common =
-        "[58,48][20,28][41,17][7,13][24][5,23][18]\n[55,51][15,8,9,19][44,11][7,1][10][33][29]";
-    let as_high = "[377,136,95][34,61][7,27][123,20][108][118,5][113]\n\
-                   [209,205,194][11,183][44,172][168,41][1,43][42][85]";
-    for (wanted, list, ended, report) in [
+const APART: &str = "[222,164,207][80,41,43][39,2][37,215][200,22][178]\n[1]\n[1,,1]\n\
+    [247,154,192][116,38][230][175,72][49,67][103,18][85]\n[1]";
+
+const ONE_IN_COMMON: &str =
+    "[58,48][20,28][41,17][7,13][24][5,23][18]\n[55,51][15,8,9,19][44,11][7,1][10][33][29]";
+
+const AS_HIGH: &str = "[377,136,95][34,61][7,27][123,20][108][118,5][113]\n\
+    [209,205,194][11,183][44,172][168,41][1,43][42][85]";
+
+fn rows_of_perfect_rectangles() -> [Row; 5] {
+    [
         (
             PERFECT,
-            apart,
+            APART,
             Ended::SomeRefused,
             "line 3 no text 3\n1 4 1015x1015 [222,164,207,422][80,41,43][39,2][37,215][200,22][178]\
              [593,247,175][72,103][154,116,49][18,85][67][38,230][192]\n; pairs 1 items 4 refused 1\n",
         ),
         (
             PERFECT,
-            one_in_common,
+            ONE_IN_COMMON,
             Ended::NoneRefused,
             "; pairs 0 items 2 refused 0\n",
         ),
         (
             ANY,
-            one_in_common,
+            ONE_IN_COMMON,
             Ended::NoneRefused,
             "1 2 205x205 [58,48,99][20,28][41,17][7,13][24][5,23][18]\
              [106,55,44][11,33][51,15][8,7][1,10,29][9][19]\n; pairs 1 items 2 refused 0\n",
         ),
         (
             PERFECT,
-            as_high,
+            AS_HIGH,
             Ended::NoneRefused,
             "; pairs 0 items 2 refused 0\n",
         ),
         (
             ANY,
-            as_high,
+            AS_HIGH,
             Ended::NoneRefused,
             "1 2 985x985 [377,136,95,377][34,61][7,27][123,20][108][118,5][113]\
              [608,209,168][41,42,85][205,44,1][43][172][194,11][183]\n; pairs 1 items 2 refused 0\n",
         ),
-    ] {
-        assert!(rt; gives(rt.alloc(), wanted, list, ended, report), "{report}");
+    ]
+}
+
+// Two perfect rectangles of one size that have no side in common, two that have one, and two of which one has a side as long as
+// both are high.
+#[test]
+fn perfect_rectangles(rt: HostRuntime) {
+    for row in rows_of_perfect_rectangles() {
+        expect_listed(&rt, rt.alloc(), row);
     }
 }
 
@@ -100,30 +124,31 @@ fn push_times(text: &str, times: usize, list: &mut Vec<u8>) -> Result<(), AllocE
     Ok(())
 }
 
-// Whether what is written of two strips of width 2 begins and ends so. Each has so many squares of side 2, and so many rows of
-// two squares of side 1 below.
-fn strips_give(
-    alloc: Global,
-    strips: [(usize, usize); 2],
-    begin: &str,
-    end: &str,
-) -> Result<bool, AllocError> {
+// Two strips of width 2. Each has so many squares of side 2, and so many rows of two squares of side 1 below.
+fn list_of_strips(alloc: Global, strips: [(usize, usize); 2]) -> Result<Vec<u8>, AllocError> {
     let mut list = Vec::new(alloc);
     for (squares, rows) in strips {
         push_times("[2]", squares, &mut list)?;
         push_times("[1,1]", rows, &mut list)?;
         list.push(b'\n')?;
     }
-    let mut source = MemSource::new(list.as_slice(), 50, &[]);
-    let mut room = [0; 1000];
-    let mut out = MemSink::new(&mut room, &[]);
-    let got = list_lines(alloc, ANY, &mut source, &mut out);
-    let written = out.written();
-    Ok(
-        got == Ended::NoneRefused
-            && written.starts_with(begin.as_bytes())
-            && written.ends_with(end.as_bytes()),
-    )
+    Ok(list)
+}
+
+// Asserts that what is written of two strips begins and ends so.
+fn expect_strips(
+    rt: &impl Abort,
+    alloc: Global,
+    strips: [(usize, usize); 2],
+    begin: &str,
+    end: &str,
+) -> Result<(), AllocError> {
+    let list = list_of_strips(alloc, strips)?;
+    let (ended, text) = listed(alloc, ANY, list.as_slice());
+    assert_eq!(rt; ended, Ended::NoneRefused, "{end}");
+    assert!(rt; text.as_slice().starts_with(begin.as_bytes()), "{end}");
+    assert!(rt; text.as_slice().ends_with(end.as_bytes()), "{end}");
+    Ok(())
 }
 
 // Strips of 99 and 99 squares, and of 101 and 98.
@@ -137,7 +162,7 @@ fn strips_of_198_and_199_squares(rt: HostRuntime) -> Result<(), Fail> {
         ),
         ([(1, 50), (2, 48)], "; pairs 0 ", "items 2 refused 0\n"),
     ] {
-        assert!(rt; strips_give(rt.alloc(), strips, begin, end)?, "{end}");
+        expect_strips(&rt, rt.alloc(), strips, begin, end)?;
     }
     Ok(())
 }

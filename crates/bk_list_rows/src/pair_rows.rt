@@ -18,10 +18,20 @@ fn tiling(width: u64, height: u64, placed: &[(u64, u64, u64)]) -> Result<Tiling,
     Ok(Tiling::try_new(width, height, squares.as_slice())?)
 }
 
+// What two rectangles are laid together to.
+fn laid(a: &Tiling, b: &Tiling) -> Result<Tiling, PairFault> {
+    lay_pair(a, b)
+}
+
+// What they are joined to.
+fn joined(a: &Tiling, b: &Tiling) -> Result<Tiling, PairFault> {
+    join(a, b)
+}
+
 #[test]
 fn a_rectangle_is_laid_with_itself(rt: HostRuntime) -> Result<(), Fail> {
     let small = tiling(3, 2, &[(0, 0, 2), (2, 0, 1), (2, 1, 1)])?;
-    let square = lay_pair(&small, &small).ok().ok_or("not laid")?;
+    let square = laid(&small, &small).ok().ok_or("not laid")?;
     assert_eq!(rt;
         (square.width(), square.height(), square.order()),
         (5, 5, 8)
@@ -40,23 +50,23 @@ fn pairs_are_refused(rt: HostRuntime) -> Result<(), Fail> {
     let one = tiling(1, 1, &[(0, 0, 1)])?;
     let long = tiling(2, 1, &[(0, 0, 1), (1, 0, 1)])?;
     assert_eq!(rt;
-        join(&small, &small).err(),
+        joined(&small, &small).err(),
         Some(PairFault::Twice { side: 1 })
     );
-    assert_eq!(rt; join(&small, &long).err(), Some(PairFault::Size));
-    assert_eq!(rt; join(&one, &one).err(), Some(PairFault::Square));
-    assert_eq!(rt; lay_pair(&one, &one).err(), Some(PairFault::Square));
+    assert_eq!(rt; joined(&small, &long).err(), Some(PairFault::Size));
+    assert_eq!(rt; joined(&one, &one).err(), Some(PairFault::Square));
+    assert_eq!(rt; laid(&one, &one).err(), Some(PairFault::Square));
     let mut ones = ArrayVec::<(u64, u64, u64), 200>::new();
     for x in 0..100 {
         ones.try_push((x, 0, 1))?;
     }
     let hundred = tiling(100, 1, ones.as_slice())?;
     assert_eq!(rt;
-        lay_pair(&hundred, &hundred).err(),
+        laid(&hundred, &hundred).err(),
         Some(PairFault::Many { n: 202 })
     );
     assert_eq!(rt;
-        join(&hundred, &hundred).err(),
+        joined(&hundred, &hundred).err(),
         Some(PairFault::Many { n: 202 })
     );
     Ok(())
@@ -86,7 +96,7 @@ fn two_hundred_squares_are_laid(rt: HostRuntime) -> Result<(), Fail> {
         (52, 2, 4, Some(PairFault::Many { n: 201 })),
     ] {
         let (a, b) = (strip(width, first)?, strip(width, second)?);
-        assert_eq!(rt; lay_pair(&a, &b).err(), fault);
+        assert_eq!(rt; laid(&a, &b).err(), fault);
     }
     Ok(())
 }
@@ -95,17 +105,17 @@ fn two_hundred_squares_are_laid(rt: HostRuntime) -> Result<(), Fail> {
 #[test]
 fn shared_sides_are_laid_alone(rt: HostRuntime) -> Result<(), Fail> {
     let wide = tiling(5, 3, &[(0, 0, 3), (3, 0, 2), (3, 2, 1), (4, 2, 1)])?;
-    let square = lay_pair(&wide, &wide).ok().ok_or("not laid")?;
+    let square = laid(&wide, &wide).ok().ok_or("not laid")?;
     assert_eq!(rt; (square.width(), square.order()), (8, 10));
     assert_eq!(rt;
-        join(&wide, &wide).err(),
+        joined(&wide, &wide).err(),
         Some(PairFault::Twice { side: 1 })
     );
     let upright = tiling(2, 3, &[(0, 0, 2), (0, 2, 1), (1, 2, 1)])?;
     let rows = tiling(2, 3, &[(0, 0, 1), (1, 0, 1), (0, 1, 2)])?;
-    assert!(rt; lay_pair(&upright, &rows).is_ok());
+    assert!(rt; laid(&upright, &rows).is_ok());
     assert_eq!(rt;
-        join(&upright, &rows).err(),
+        joined(&upright, &rows).err(),
         Some(PairFault::Twice { side: 1 })
     );
     Ok(())

@@ -6,7 +6,7 @@ use arrayvec::ArrayVec;
 use bk_code::flat;
 use bk_skel::Steps;
 use bk_tiling::{MOST_SQUARES, Square, Tiling};
-use bk_verify::{Fed, Verifier};
+use bk_verify::{Fed, Rest, Verifier};
 use std::alloc::Global;
 use std::marker::Brand;
 use std::process::Abort;
@@ -67,6 +67,45 @@ fn tiling(width: u64, height: u64, placed: &[Placed]) -> Result<Tiling, Fail> {
     Ok(Tiling::try_new(width, height, squares.as_slice())?)
 }
 
+// What a verifier says of a line.
+fn fed(verifier: &mut Verifier, line: u64, tiling: &Tiling) -> Option<Fed> {
+    verifier.feed(line, tiling).ok()
+}
+
+// The sides of the next member that is missing, by its code.
+fn next_sides<L: Ledger>(
+    rt: &impl Abort,
+    rest: &mut Rest,
+    steps: &mut Steps<L>,
+) -> Option<ArrayVec<u64, MOST_SQUARES>> {
+    match rest.advance(steps)? {
+        Ok(entry) => {
+            let mut sides = ArrayVec::new();
+            let _ = sides.try_extend_from_slice(flat(&entry.code));
+            Some(sides)
+        }
+        Err(_) => panic!(rt; "the walk is cut short"),
+    }
+}
+
+// Feeds a list of order 9.
+fn feed_9(rt: &impl Abort, verifier: &mut Verifier) -> Result<(), Fail> {
+    let first = tiling(33, 32, &NINE)?;
+    let turned = tiling(64, 66, &TURNED)?;
+    assert_eq!(rt; fed(verifier, 1, &first), Some(Fed::New));
+    assert_eq!(rt; fed(verifier, 4, &turned), Some(Fed::Repeats { line: 1 }));
+    assert_eq!(rt; fed(verifier, 5, &first), Some(Fed::Repeats { line: 1 }));
+    for foreign in [tiling(1, 1, &[(0, 0, 1)])?, tiling(15, 11, &IMPERFECT)?] {
+        assert_eq!(rt; fed(verifier, 6, &foreign), Some(Fed::Foreign));
+    }
+    Ok(())
+}
+
+// How many members were passed.
+fn members(rest: &Rest) -> u64 {
+    rest.members()
+}
+
 // Feeds a list of order 9, and names what it lacks.
 fn list_of_9<L: Ledger>(rt: &impl Abort, alloc: Global, blank: Blank) -> Result<(), Fail>
     requires name { blank.name ≡ L.name }
@@ -74,27 +113,19 @@ fn list_of_9<L: Ledger>(rt: &impl Abort, alloc: Global, blank: Blank) -> Result<
     requires some { 0 < L.parts }
 {
     let mut verifier = Verifier::new(alloc, 9);
-    let first = tiling(33, 32, &NINE)?;
-    let turned = tiling(64, 66, &TURNED)?;
-    assert_eq!(rt; verifier.feed(1, &first), Ok(Fed::New));
-    assert_eq!(rt; verifier.feed(4, &turned), Ok(Fed::Repeats { line: 1 }));
-    assert_eq!(rt; verifier.feed(5, &first), Ok(Fed::Repeats { line: 1 }));
-    for foreign in [tiling(1, 1, &[(0, 0, 1)])?, tiling(15, 11, &IMPERFECT)?] {
-        assert_eq!(rt; verifier.feed(6, &foreign), Ok(Fed::Foreign));
-    }
-
+    feed_9(rt, &mut verifier)?;
     let mut steps: Steps<L> = Steps::new(blank);
     let mut rest = verifier.finish();
-    assert_eq!(rt; rest.members(), 0);
-    match rest.advance(&mut steps) {
-        Some(Ok(entry)) => {
-            let sides = [36, 33, 5, 28, 25, 9, 2, 7, 16].as_slice();
-            assert_eq!(rt; flat(&entry.code), sides);
-        }
-        Some(Err(_)) | None => panic!(rt; "a member is missing"),
-    }
-    assert!(rt; rest.advance(&mut steps).is_none());
-    assert_eq!(rt; rest.members(), 2);
+    assert_eq!(rt; members(&rest), 0);
+    let Some(sides) = next_sides(rt, &mut rest, &mut steps) else {
+        panic!(rt; "a member is missing");
+    };
+    assert_eq!(rt;
+        sides.as_slice(),
+        [36, 33, 5, 28, 25, 9, 2, 7, 16].as_slice()
+    );
+    assert!(rt; next_sides(rt, &mut rest, &mut steps).is_none());
+    assert_eq!(rt; members(&rest), 2);
     Ok(())
 }
 

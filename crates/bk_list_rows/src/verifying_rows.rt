@@ -2,34 +2,55 @@
 
 ghost use Rattle.std.specs.Prelude.{◌<◌, ◌≤◌};
 
+use arrayvec::ArrayVec;
 use bk_ports::{MemSink, MemSource};
 use bk_verifying::{Verdict, verify};
 use std::alloc::Global;
 use std::process::Abort;
 
-// Whether a list that is held against the catalogue of an order ends so and writes this. These reads and writes fail.
-fn gives(
+// How a list that is held against the catalogue of an order ends, and what is written. This read and this write fail.
+fn verified(
     alloc: Global,
     order: u8,
     list: &str,
-    reads: &[u64],
-    writes: &[(u64, usize)],
-    verdict: Verdict,
-    report: &str,
-) -> bool
+    read: u64,
+    write: (u64, usize),
+) -> (Verdict, ArrayVec<u8, 1000>)
     requires least { 2 ≤ order }
     requires most { order ≤ 16 }
 {
-    let mut source = MemSource::new(list.as_bytes(), 50, reads);
+    let reads = [read];
+    let mut source = MemSource::new(list.as_bytes(), 50, &reads);
     let mut room = [0; 1000];
-    let mut out = MemSink::new(&mut room, writes);
-    let got = verify(alloc, order, &mut source, &mut out);
-    got == verdict && out.written() == report.as_bytes()
+    let writes = [write];
+    let mut out = MemSink::new(&mut room, &writes);
+    let verdict = verify(alloc, order, &mut source, &mut out);
+    let mut text = ArrayVec::new();
+    let _ = text.try_extend_from_slice(out.written());
+    (verdict, text)
 }
 
-#[test]
-fn lists_of_order_9(rt: HostRuntime) {
-    for (list, verdict, report) in [
+// A list, the read and the write that fail, how it ends and what is written.
+type Row = (&'static str, u64, (u64, usize), Verdict, &'static str);
+
+// Asserts them of a list that is held against the catalogue of an order.
+fn expect_verified(rt: &impl Abort, alloc: Global, order: u8, row: Row)
+    requires least { 2 ≤ order }
+    requires most { order ≤ 16 }
+{
+    let (list, read, write, verdict, report) = row;
+    let (got, text) = verified(alloc, order, list, read, write);
+    assert_eq!(rt; text.as_slice(), report.as_bytes(), "{report}");
+    assert_eq!(rt; got, verdict, "{report}");
+}
+
+// The number of no read, and where no write fails.
+const NO_READ: u64 = u64::MAX;
+
+const NO_WRITE: (u64, usize) = (u64::MAX, 0);
+
+fn lists_and_reports_of_order_9() -> [(&'static str, Verdict, &'static str); 5] {
+    [
         (
             "9 33x32 [18,15][7,8][14,4][10,1][9] ; 2u.2aa.2ue.2eue.1e\n\
              9 69x61 [36,33][5,28][25,9,2][7][16] ; 2u.2aa.3uue.1ea.1ee\n\
@@ -61,77 +82,84 @@ fn lists_of_order_9(rt: HostRuntime) {
             Verdict::Differs,
             "line 1 foreign\n; end order 9 members 2 missing 0 foreign 1 repeated 0 refused 0\n",
         ),
-    ] {
-        assert!(rt;
-            gives(rt.alloc(), 9, list, &[], &[], verdict, report),
-            "{report}"
-        );
+    ]
+}
+
+#[test]
+fn lists_of_order_9(rt: HostRuntime) {
+    for (list, verdict, report) in lists_and_reports_of_order_9() {
+        let row = (list, NO_READ, NO_WRITE, verdict, report);
+        expect_verified(&rt, rt.alloc(), 9, row);
     }
 }
+
+const LIST_OF_10: &str = "[30,27][3,11,13][25,8][17,2][15]\n\
+    [55,39][16,23][60,11][4,19][15][34]\n\
+    [135,132,123][9,114][36,105][102,33][69]\n\
+    [60,45][19,26][44,16][12,7][33][28]\n\
+    [57,54][3,7,44][41,15,4][11][26]\n\
+    [60,54][6,22,26][50,16][34,4][30]\n\
+    [57,54][3,7,44][41,15,4][11][27]\n";
+
+const REPORT_OF_10: &str = "line 6 repeats 1\nline 7 no gap 5 26 27\n\
+    missing 10 65x47 [25,17,23][11,6][5,24][22,3][19] ; 3ua.2aue.2ue.2ea.1ee\n\
+    ; end order 10 members 6 missing 1 foreign 0 repeated 1 refused 1\n";
+
+const LIST_OF_8: &str = "[18,15][7,8][14,4][10,1][9]\n[1]\n[1,1][1,1][1,1][1,1]\n";
+
+const REPORT_OF_8: &str = "line 1 foreign\nline 2 foreign\nline 3 foreign\n\
+    ; end order 8 members 0 missing 0 foreign 3 repeated 0 refused 0\n";
 
 // Of order 10 one member is missing, one turned, one scaled, one there twice and one broken; of order 8 there is none.
 #[test]
 fn other_orders(rt: HostRuntime) {
-    for (order, list, report) in [
-        (
-            10,
-            "[30,27][3,11,13][25,8][17,2][15]\n\
-             [55,39][16,23][60,11][4,19][15][34]\n\
-             [135,132,123][9,114][36,105][102,33][69]\n\
-             [60,45][19,26][44,16][12,7][33][28]\n\
-             [57,54][3,7,44][41,15,4][11][26]\n\
-             [60,54][6,22,26][50,16][34,4][30]\n\
-             [57,54][3,7,44][41,15,4][11][27]\n",
-            "line 6 repeats 1\nline 7 no gap 5 26 27\n\
-             missing 10 65x47 [25,17,23][11,6][5,24][22,3][19] ; 3ua.2aue.2ue.2ea.1ee\n\
-             ; end order 10 members 6 missing 1 foreign 0 repeated 1 refused 1\n",
-        ),
-        (
-            8,
-            "[18,15][7,8][14,4][10,1][9]\n[1]\n[1,1][1,1][1,1][1,1]\n",
-            "line 1 foreign\nline 2 foreign\nline 3 foreign\n\
-             ; end order 8 members 0 missing 0 foreign 3 repeated 0 refused 0\n",
-        ),
-    ] {
-        assert!(rt;
-            gives(rt.alloc(), order, list, &[], &[], Verdict::Differs, report),
-            "{report}"
-        );
-    }
+    let ten = (
+        LIST_OF_10,
+        NO_READ,
+        NO_WRITE,
+        Verdict::Differs,
+        REPORT_OF_10,
+    );
+    expect_verified(&rt, rt.alloc(), 10, ten);
+    let eight = (LIST_OF_8, NO_READ, NO_WRITE, Verdict::Differs, REPORT_OF_8);
+    expect_verified(&rt, rt.alloc(), 8, eight);
 }
 
+const FAILED: Verdict = Verdict::WriteFailed;
+
 // The first, the second and the last write of a report fail, and a read after the first line.
-#[test]
-fn faults(rt: HostRuntime) {
-    let list = "[1]\n[18,15][7,8][14,4][10,1][9]\n[1,1]\n";
-    let failed = Verdict::WriteFailed;
-    for (reads, writes, verdict, report) in [
-        ([].as_slice(), (0, 3), failed, "lin"),
-        (&[], (1, 0), failed, "line 1 foreign\n"),
+fn rows_of_faults() -> [(u64, (u64, usize), Verdict, &'static str); 6] {
+    [
+        (NO_READ, (0, 3), FAILED, "lin"),
+        (NO_READ, (1, 0), FAILED, "line 1 foreign\n"),
         (
-            &[],
+            NO_READ,
             (2, 9),
-            failed,
+            FAILED,
             "line 1 foreign\nline 3 foreign\nmissing 9",
         ),
         (
-            &[],
+            NO_READ,
             (3, 5),
-            failed,
+            FAILED,
             "line 1 foreign\nline 3 foreign\n\
              missing 9 69x61 [36,33][5,28][25,9,2][7][16] ; 2u.2aa.3uue.1ea.1ee\n; end",
         ),
-        (&[0], (9, 0), Verdict::ReadFailed, ""),
+        (0, (9, 0), Verdict::ReadFailed, ""),
         (
-            &[1],
+            1,
             (9, 0),
             Verdict::ReadFailed,
             "line 1 foreign\nline 3 foreign\n",
         ),
-    ] {
-        assert!(rt;
-            gives(rt.alloc(), 9, list, reads, &[writes], verdict, report),
-            "{report}"
-        );
+    ]
+}
+
+#[test]
+fn faults(rt: HostRuntime) {
+    let list = "[1]\n[18,15][7,8][14,4][10,1][9]\n[1,1]\n";
+    for (read, write, verdict, report) in rows_of_faults() {
+        let row = (list, read, write, verdict, report);
+        expect_verified(&rt, rt.alloc(), 9, row);
     }
 }
