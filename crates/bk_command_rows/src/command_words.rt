@@ -1,12 +1,12 @@
 //! Command lines for the tests.
 
-use std::alloc::AllocError;
+use std::alloc::{AllocError, Global};
 
 // The words of a command line, with a blank between each two.
-pub(crate) fn words(rt: &HostRuntime, line: &str) -> Result<Vec<String>, AllocError> {
-    let mut words = Vec::new(rt.alloc());
+pub(crate) fn words(alloc: Global, line: &str) -> Result<Vec<String>, AllocError> {
+    let mut words = Vec::new(alloc);
     for word in line.split(' ') {
-        words.push(String::from_str(rt.alloc(), word)?)?;
+        words.push(String::from_str(alloc, word)?)?;
     }
     Ok(words)
 }

@@ -1,33 +1,11 @@
 //! The examples of `examples/`, and those of the tour in README with its tables.
 
-use crate::command_words::words;
-use bk_ports::{MemSink, MemSource};
-use bk_top::run;
-use std::alloc::AllocError;
+use crate::command_runs::{Row, expect_rows};
 use std::test::Fail;
 
-// Whether a command line over this input writes this and ends with this status.
-fn gives(
-    rt: &HostRuntime,
-    line: &str,
-    input: &str,
-    status: u8,
-    output: &str,
-) -> Result<bool, AllocError> {
-    let words = words(rt, line)?;
-    let mut source = MemSource::new(input.as_bytes(), 50, &[]);
-    let mut room = [0; 400];
-    let mut out = MemSink::new(&mut room, &[]);
-    let mut no_room = [];
-    let mut err = MemSink::new(&mut no_room, &[]);
-    let got = run(rt.alloc(), &words, &mut source, &mut out, &mut err);
-    Ok(got == status && out.written() == output.as_bytes())
-}
-
 // The folders of `examples/`: what is read, and what is written.
-#[test]
-fn folders(rt: HostRuntime) -> Result<(), Fail> {
-    for (line, input, status, output) in [
+fn rows_of_folders() -> &'static [Row] {
+    &[
         (
             "check",
             "; rectangles from the literature, each in another spelling\n\
@@ -176,16 +154,18 @@ fn folders(rt: HostRuntime) -> Result<(), Fail> {
             0,
             "trial seed 0 count 2 ok 2 perfect 1 simple 0 squares 272\n",
         ),
-    ] {
-        assert!(rt; gives(&rt, line, input, status, output)?, "{line}");
-    }
+    ]
+}
+
+#[test]
+fn folders(rt: HostRuntime) -> Result<(), Fail> {
+    expect_rows(&rt, rt.alloc(), 50, rows_of_folders())?;
     Ok(())
 }
 
 // The blocks of the tour, and the examples of the tables of lines and of refusals.
-#[test]
-fn tour(rt: HostRuntime) -> Result<(), Fail> {
-    for (line, input, status, output) in [
+fn rows_of_the_tour() -> &'static [Row] {
+    &[
         (
             "check",
             "[18,15][7,8][14,4][10,1][9]\n",
@@ -320,8 +300,11 @@ fn tour(rt: HostRuntime) -> Result<(), Fail> {
              unfinished\n\
              none\n",
         ),
-    ] {
-        assert!(rt; gives(&rt, line, input, status, output)?, "{line}");
-    }
+    ]
+}
+
+#[test]
+fn tour(rt: HostRuntime) -> Result<(), Fail> {
+    expect_rows(&rt, rt.alloc(), 50, rows_of_the_tour())?;
     Ok(())
 }

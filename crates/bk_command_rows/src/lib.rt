@@ -2,6 +2,8 @@
 #![tactic(auto)]
 
 #[cfg(test)]
+mod command_runs;
+#[cfg(test)]
 mod command_words;
 #[cfg(test)]
 mod example_rows;

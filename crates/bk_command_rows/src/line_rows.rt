@@ -1,16 +1,16 @@
 //! Runs over lines.
 
+use crate::command_runs::*;
 use crate::command_words::words;
 use arrayvec::ArrayVec;
-use bk_ports::{FillSource, MemSink, MemSource};
-use bk_top::run;
-use std::alloc::AllocError;
+use bk_ports::{FillSource, MemSink, MemSource, Source};
+use std::alloc::{AllocError, Global};
+use std::process::Abort;
 use std::test::Fail;
 
-#[test]
-fn codes_are_checked(rt: HostRuntime) -> Result<(), Fail> {
-    let check = words(&rt, "check")?;
-    for (line, answer) in [
+// Codes, and what `check` answers.
+fn codes() -> &'static [(&'static str, &'static str)] {
+    &[
         (
             "33x32 [18,15][7,8][14,4][10,1][9]",
             "ok 9 33x32 perfect simple\n",
@@ -62,83 +62,66 @@ fn codes_are_checked(rt: HostRuntime) -> Result<(), Fail> {
             "1 999999999999999999 1 1",
             "no gap 1 999999999999999999 1\n",
         ),
-    ] {
-        let mut source = MemSource::new(line.as_bytes(), 7, &[]);
-        let mut room = [0; 60];
-        let mut out = MemSink::new(&mut room, &[]);
-        let mut no_room = [];
-        let mut err = MemSink::new(&mut no_room, &[]);
-        let status = run(rt.alloc(), &check, &mut source, &mut out, &mut err);
-        assert_eq!(rt; out.written(), answer.as_bytes(), "{line}");
-        assert_eq!(rt; status, u8::from(answer.starts_with("no ")), "{line}");
+    ]
+}
+
+#[test]
+fn codes_are_checked(rt: HostRuntime) -> Result<(), Fail> {
+    for (line, answer) in codes() {
+        let status = u8::from(answer.starts_with("no "));
+        let row = ("check", *line, NO_READ, NO_WRITE, status, *answer);
+        expect_row(&rt, rt.alloc(), 7, row)?;
     }
     Ok(())
+}
+
+// Inputs, and what `check` answers.
+fn long_lines() -> [(Parts, &'static str); 6] {
+    [
+        (("", "[", 8_192, ""), "no text 1\n"),
+        (("", "1", 8_192, ""), "no text 18\n"),
+        (("[1", ",1", 300, ""), "no text 602\n"),
+        (("[1", ",1", 300, "]"), "no many\n"),
+        (("", "[1]", 201, ""), "no many\n"),
+        (
+            ("", "9", 8_193, "\n[1]"),
+            "no long\nok 1 1x1 perfect simple\n",
+        ),
+    ]
 }
 
 #[test]
 fn lines_that_are_too_long_or_have_too_many_sides(rt: HostRuntime) -> Result<(), Fail> {
-    let check = words(&rt, "check")?;
-    for (front, part, times, end, answers) in [
-        ("", "[", 8_192, "", "no text 1\n"),
-        ("", "1", 8_192, "", "no text 18\n"),
-        ("[1", ",1", 300, "", "no text 602\n"),
-        ("[1", ",1", 300, "]", "no many\n"),
-        ("", "[1]", 201, "", "no many\n"),
-        (
-            "",
-            "9",
-            8_193,
-            "\n[1]",
-            "no long\nok 1 1x1 perfect simple\n",
-        ),
-    ] {
-        let mut input = ArrayVec::<u8, 9000>::new();
-        let _ = input.try_extend_from_slice(front.as_bytes());
-        for _ in 0..times {
-            let _ = input.try_extend_from_slice(part.as_bytes());
-        }
-        let _ = input.try_extend_from_slice(end.as_bytes());
-        let mut source = MemSource::new(&input, 9_000, &[]);
-        let mut room = [0; 60];
-        let mut out = MemSink::new(&mut room, &[]);
-        let mut no_room = [];
-        let mut err = MemSink::new(&mut no_room, &[]);
-        let status = run(rt.alloc(), &check, &mut source, &mut out, &mut err);
-        assert_eq!(rt; out.written(), answers.as_bytes(), "{part}");
-        assert_eq!(rt; status, 1, "{part}");
+    for (input, answers) in long_lines() {
+        let output = (answers, "", 0, "");
+        expect_built(&rt, rt.alloc(), "check", input, 1, output)?;
     }
     Ok(())
 }
 
-#[test]
-fn tilings_are_turned_hung_and_drawn(rt: HostRuntime) -> Result<(), Fail> {
-    let no_pairs: &[(u64, usize)] = &[];
-    for (command, input, writes, status, output) in [
+fn rows_of_tilings() -> &'static [Row] {
+    &[
         (
             "canon",
             "[36,28][8,20][30,14][2,18][16]",
-            no_pairs,
             0,
             "33x32 [18,15][7,8][14,4][10,1][9]\n",
         ),
         (
             "canon",
             "33x32 [18,15][7,8][14,4][10,1][9]",
-            no_pairs,
             0,
             "33x32 [18,15][7,8][14,4][10,1][9]\n",
         ),
         (
             "canon",
             "[5,3,4,11][2,1][5][7][3,2][1,12][11]",
-            no_pairs,
             0,
             "23x23 [12,11][2,5,4][11,1][3][1,3][7,2][5]\n",
         ),
         (
             "images",
             "[2,1][1]",
-            no_pairs,
             0,
             "3x2 [2,1][1]\n3x2 [1,2][1]\n3x2 [2,1][1]\n3x2 [1,2][1]\n\
              2x3 [2][1,1]\n2x3 [2][1,1]\n2x3 [1,1][2]\n2x3 [1,1][2]\n",
@@ -146,57 +129,42 @@ fn tilings_are_turned_hung_and_drawn(rt: HostRuntime) -> Result<(), Fail> {
         (
             "net",
             "[18,15][7,8][14,4][10,1][9]",
-            no_pairs,
             0,
             "6 0-2 0-1 1-3 1-4 2-5 2-3 3-5 3-4 4-5 ; 33 18 15 7 8 14 4 10 1 9\n",
         ),
         (
             "net",
             "[1,1][1,1]\n[1]",
-            no_pairs,
             0,
             "3 0-1 0-1 1-2 1-2 ; 2 1 1 1 1\n2 0-1 ; 1 1\n",
         ),
         (
             "dual",
             "33x32 [18,15][7,8][14,4][10,1][9]",
-            no_pairs,
             0,
             "6 0-2 0-1 1-2 1-3 2-5 2-4 3-4 3-5 4-5 ; 32 18 14 4 10 15 7 1 9 8 ; 1 5 6 7 2 3 8 9 4 ; 0\n",
         ),
         (
             "dual",
             "[1,1][1,1]",
-            no_pairs,
             0,
             "3 0-1 0-1 1-2 1-2 ; 2 1 1 1 1 ; 1 3 2 4 ; 1\n",
         ),
-        ("draw", "[2,1][1]", no_pairs, 0, "+-++\n| ++\n+-++\n"),
-        (
-            "draw",
-            "[401]\n4x4 [401]",
-            no_pairs,
-            1,
-            "no large\nno size 401x401\n",
-        ),
-        ("draw", "[2,1][1]", &[(1, 0)], 4, "+-++\n"),
-    ] {
-        let command = words(&rt, command)?;
-        let mut source = MemSource::new(input.as_bytes(), 90, &[]);
-        let mut room = [0; 120];
-        let mut out = MemSink::new(&mut room, writes);
-        let mut no_room = [];
-        let mut err = MemSink::new(&mut no_room, &[]);
-        let got = run(rt.alloc(), &command, &mut source, &mut out, &mut err);
-        assert_eq!(rt; out.written(), output.as_bytes(), "{input}");
-        assert_eq!(rt; got, status, "{input}");
-    }
-    Ok(())
+        ("draw", "[2,1][1]", 0, "+-++\n| ++\n+-++\n"),
+        ("draw", "[401]\n4x4 [401]", 1, "no large\nno size 401x401\n"),
+    ]
 }
 
 #[test]
-fn words_flows_and_tilings_of_words(rt: HostRuntime) -> Result<(), Fail> {
-    for (command, input, status, output) in [
+fn tilings_are_turned_hung_and_drawn(rt: HostRuntime) -> Result<(), Fail> {
+    expect_rows(&rt, rt.alloc(), 90, rows_of_tilings())?;
+    let cut = ("draw", "[2,1][1]", NO_READ, (1, 0), 4, "+-++\n");
+    expect_row(&rt, rt.alloc(), 90, cut)?;
+    Ok(())
+}
+
+fn rows_of_words() -> &'static [Row] {
+    &[
         (
             "word",
             "[25,17,23][11,6][5,24][22,3][19]\n[1]\n[1,1][1,1]\n4x4 [1]",
@@ -246,128 +214,82 @@ fn words_flows_and_tilings_of_words(rt: HostRuntime) -> Result<(), Fail> {
             0,
             "1x17 [1][1][1][1][1][1][1][1][1][1][1][1][1][1][1][1][1]\n",
         ),
-    ] {
-        let command = words(&rt, command)?;
-        let mut source = MemSource::new(input.as_bytes(), 90, &[]);
-        let mut room = [0; 120];
-        let mut out = MemSink::new(&mut room, &[]);
-        let mut no_room = [];
-        let mut err = MemSink::new(&mut no_room, &[]);
-        let got = run(rt.alloc(), &command, &mut source, &mut out, &mut err);
-        assert_eq!(rt; out.written(), output.as_bytes(), "{input}");
-        assert_eq!(rt; got, status, "{input}");
-    }
+    ]
+}
+
+#[test]
+fn words_flows_and_tilings_of_words(rt: HostRuntime) -> Result<(), Fail> {
+    expect_rows(&rt, rt.alloc(), 90, rows_of_words())?;
     Ok(())
 }
 
 #[test]
 fn a_word_of_two_hundred_moves(rt: HostRuntime) -> Result<(), Fail> {
-    let word = words(&rt, "word")?;
-    let mut input = ArrayVec::<u8, 9000>::new();
-    let mut answer = ArrayVec::<u8, 9000>::new();
-    for i in 0..200 {
-        let _ = input.try_extend_from_slice(b"[1]");
-        let _ = answer.try_extend_from_slice(if i == 0 { b"1" } else { b".1" });
-    }
-    let _ = answer.try_extend_from_slice(b"\n");
-    let mut source = MemSource::new(&input, 9_000, &[]);
-    let mut room = [0; 400];
-    let mut out = MemSink::new(&mut room, &[]);
-    let mut no_room = [];
-    let mut err = MemSink::new(&mut no_room, &[]);
-    let status = run(rt.alloc(), &word, &mut source, &mut out, &mut err);
-    assert_eq!(rt; out.written(), answer.as_slice());
-    assert_eq!(rt; status, 0);
+    let tower = ("", "[1]", 200, "");
+    let answer = ("1", ".1", 199, "\n");
+    expect_built(&rt, rt.alloc(), "word", tower, 0, answer)?;
     Ok(())
-}
-
-// The answer of `solve` to a front, a part so many times, and an end; none of them has a line feed.
-fn solved(
-    rt: &HostRuntime,
-    front: &str,
-    part: &str,
-    times: usize,
-    end: &str,
-    answer: &str,
-) -> Result<bool, AllocError> {
-    let solve = words(rt, "solve")?;
-    let mut input = ArrayVec::<u8, 9000>::new();
-    let _ = input.try_extend_from_slice(front.as_bytes());
-    for _ in 0..times {
-        let _ = input.try_extend_from_slice(part.as_bytes());
-    }
-    let _ = input.try_extend_from_slice(end.as_bytes());
-    let mut source = MemSource::new(&input, 9_000, &[]);
-    let mut room = [0; 60];
-    let mut out = MemSink::new(&mut room, &[]);
-    let mut no_room = [];
-    let mut err = MemSink::new(&mut no_room, &[]);
-    let status = run(rt.alloc(), &solve, &mut source, &mut out, &mut err);
-    Ok(status == 1 && out.written() == answer.as_bytes())
 }
 
 #[test]
 fn words_that_are_wide_or_have_too_many_squares(rt: HostRuntime) -> Result<(), Fail> {
-    assert!(rt; solved(&rt, "2u", ".2eu", 98, ".1e", "wide\n")?);
-    assert!(rt; solved(&rt, "201", "u", 200, "", "no many\n")?);
+    let wide = ("2u", ".2eu", 98, ".1e");
+    let many = ("201", "u", 200, "");
+    expect_built(&rt, rt.alloc(), "solve", wide, 1, ("wide\n", "", 0, ""))?;
+    expect_built(&rt, rt.alloc(), "solve", many, 1, ("no many\n", "", 0, ""))?;
     Ok(())
 }
 
-#[test]
-fn faults_end_the_run(rt: HostRuntime) -> Result<(), Fail> {
-    let check = words(&rt, "check")?;
-    let no_calls: &[u64] = &[];
-    let fourth: &[u64] = &[3];
-    let seventh: &[u64] = &[6];
-    let no_pairs: &[(u64, usize)] = &[];
-    for (input, reads, writes, status, answers) in [
-        ("[1]", fourth, no_pairs, 3, ""),
+fn rows_of_faults() -> &'static [FailingRow] {
+    &[
+        ("check", "[1]", 3, NO_WRITE, 3, ""),
         (
+            "check",
             "[1]\n[2,1][1]\n",
-            seventh,
-            no_pairs,
+            6,
+            NO_WRITE,
             3,
             "ok 1 1x1 perfect simple\n",
         ),
         (
+            "check",
             "[1]\n[2",
-            no_calls,
-            no_pairs,
+            NO_READ,
+            NO_WRITE,
             1,
             "ok 1 1x1 perfect simple\nno text 2\n",
         ),
-        ("[1]\n[1]\n", no_calls, &[(0, 0)], 4, ""),
+        ("check", "[1]\n[1]\n", NO_READ, (0, 0), 4, ""),
         (
+            "check",
             "[1]\n[2\n",
-            no_calls,
-            &[(1, 5)],
+            NO_READ,
+            (1, 5),
             4,
             "ok 1 1x1 perfect simple\nno te",
         ),
         (
+            "check",
             "[1]\n[2\n",
-            no_calls,
-            &[(1, 50)],
+            NO_READ,
+            (1, 50),
             4,
             "ok 1 1x1 perfect simple\nno text 2\n",
         ),
         (
+            "check",
             "[2\n[1]\n",
-            no_calls,
-            &[(2, 0)],
+            NO_READ,
+            (2, 0),
             1,
             "no text 2\nok 1 1x1 perfect simple\n",
         ),
-    ] {
-        let mut source = MemSource::new(input.as_bytes(), 1, reads);
-        let mut room = [0; 60];
-        let mut out = MemSink::new(&mut room, writes);
-        let mut no_room = [];
-        let mut err = MemSink::new(&mut no_room, &[]);
-        let got = run(rt.alloc(), &check, &mut source, &mut out, &mut err);
-        assert_eq!(rt; got, status, "{input}");
-        assert_eq!(rt; out.written(), answers.as_bytes(), "{input}");
-    }
+    ]
+}
+
+#[test]
+fn faults_end_the_run(rt: HostRuntime) -> Result<(), Fail> {
+    expect_failing_rows(&rt, rt.alloc(), 1, rows_of_faults())?;
     Ok(())
 }
 
@@ -390,44 +312,62 @@ const HELP: &str = "usage: bouwkamp COMMAND [--NAME VALUE]...\n\
     pair [--kind KIND]: join rectangles to squares\n\
     help: this text\n";
 
-// Words that ask nothing, and `help`: a text on errors, of which a failed write keeps a part, and no read.
-#[test]
-fn texts_on_errors(rt: HostRuntime) -> Result<(), Fail> {
-    let no_pairs: &[(u64, usize)] = &[];
-    for (line, writes, status, text) in [
-        ("", no_pairs, 2, USAGE),
-        ("checks", no_pairs, 2, USAGE),
-        ("check --", no_pairs, 2, USAGE),
-        ("list", no_pairs, 2, USAGE),
-        ("list --order 1", no_pairs, 2, USAGE),
-        ("list --order 17", no_pairs, 2, USAGE),
-        ("verify --order 17", no_pairs, 2, USAGE),
-        ("verify --order 9 --class perfect", no_pairs, 2, USAGE),
-        ("list --order=9", no_pairs, 2, USAGE),
-        ("list --order 9 --order 9", no_pairs, 2, USAGE),
-        ("list --order 9 --from 3", no_pairs, 2, USAGE),
+// Words that ask nothing, and `help`: the write that fails, the status, and what is kept.
+fn rows_of_errors() -> &'static [(&'static str, FailedWrite, u8, &'static str)] {
+    &[
+        ("", NO_WRITE, 2, USAGE),
+        ("checks", NO_WRITE, 2, USAGE),
+        ("check --", NO_WRITE, 2, USAGE),
+        ("list", NO_WRITE, 2, USAGE),
+        ("list --order 1", NO_WRITE, 2, USAGE),
+        ("list --order 17", NO_WRITE, 2, USAGE),
+        ("verify --order 17", NO_WRITE, 2, USAGE),
+        ("verify --order 9 --class perfect", NO_WRITE, 2, USAGE),
+        ("list --order=9", NO_WRITE, 2, USAGE),
+        ("list --order 9 --order 9", NO_WRITE, 2, USAGE),
+        ("list --order 9 --from 3", NO_WRITE, 2, USAGE),
         (
             "list --order 9 --from 17uuuuuuuuuuuuuuuu",
-            no_pairs,
+            NO_WRITE,
             2,
             USAGE,
         ),
-        ("list --order 9 --class compound", no_pairs, 2, USAGE),
-        ("trial --seed 0", no_pairs, 2, USAGE),
-        ("check --", &[(0, 5)], 2, "usage"),
-        ("help", no_pairs, 0, HELP),
-        ("help", &[(0, 6)], 0, "usage:"),
-        ("help me", no_pairs, 2, USAGE),
-    ] {
-        let words = words(&rt, line)?;
+        ("list --order 9 --class compound", NO_WRITE, 2, USAGE),
+        ("trial --seed 0", NO_WRITE, 2, USAGE),
+        ("check --", (0, 5), 2, "usage"),
+        ("help", NO_WRITE, 0, HELP),
+        ("help", (0, 6), 0, "usage:"),
+        ("help me", NO_WRITE, 2, USAGE),
+    ]
+}
+
+// The status of a run with no room for output, and the text on errors.
+fn told<S: Source>(
+    alloc: Global,
+    words: &[String],
+    source: &mut S,
+    write: FailedWrite,
+) -> (u8, Text) {
+    let mut no_room = [];
+    let mut out = MemSink::new(&mut no_room, &[]);
+    let mut room = [0; 700];
+    let writes = [write];
+    let mut err = MemSink::new(&mut room, &writes);
+    let status = status_of(alloc, words, source, &mut out, &mut err);
+    let mut text = ArrayVec::new();
+    let _ = text.try_extend_from_slice(err.written());
+    (status, text)
+}
+
+// A text on errors, of which a failed write keeps a part, and no read.
+#[test]
+fn texts_on_errors(rt: HostRuntime) -> Result<(), Fail> {
+    for (line, write, status, text) in rows_of_errors() {
+        let words = words(rt.alloc(), line)?;
         let mut source = MemSource::new(b"[1]\n", 1, &[0]);
-        let mut no_room = [];
-        let mut out = MemSink::new(&mut no_room, &[]);
-        let mut room = [0; 700];
-        let mut err = MemSink::new(&mut room, writes);
-        let got = run(rt.alloc(), &words, &mut source, &mut out, &mut err);
-        assert_eq!(rt; got, status, "{line}");
-        assert_eq!(rt; err.written(), text.as_bytes(), "{line}");
+        let (got, told) = told(rt.alloc(), &words, &mut source, *write);
+        assert_eq!(rt; got, *status, "{line}");
+        assert_eq!(rt; told.as_slice(), text.as_bytes(), "{line}");
     }
     Ok(())
 }
@@ -435,31 +375,27 @@ fn texts_on_errors(rt: HostRuntime) -> Result<(), Fail> {
 #[test]
 fn no_words(rt: HostRuntime) -> Result<(), Fail> {
     let mut source = MemSource::new(b"", 1, &[]);
-    let mut no_room = [];
-    let mut out = MemSink::new(&mut no_room, &[]);
-    let mut room = [0; 50];
-    let mut err = MemSink::new(&mut room, &[]);
-    assert_eq!(rt; run(rt.alloc(), &[], &mut source, &mut out, &mut err), 2);
-    assert_eq!(rt; err.written(), USAGE.as_bytes());
+    let (status, text) = told(rt.alloc(), &[], &mut source, NO_WRITE);
+    assert_eq!(rt; status, 2);
+    assert_eq!(rt; text.as_slice(), USAGE.as_bytes());
     Ok(())
 }
 
-// The status of a check of one line of so many bytes, and whether the line is answered as too long.
-fn one_line(rt: &HostRuntime, bytes: u64) -> Result<(u8, bool), AllocError> {
-    let check = words(rt, "check")?;
+// Asserts what a check of one line of so many bytes writes, and its status.
+fn expect_one_line(
+    rt: &impl Abort,
+    alloc: Global,
+    bytes: u64,
+    want: (u8, &[u8]),
+) -> Result<(), AllocError> {
     let mut source = FillSource::new(b';', bytes);
-    let mut room = [0; 8];
-    let mut out = MemSink::new(&mut room, &[]);
-    let mut no_room = [];
-    let mut err = MemSink::new(&mut no_room, &[]);
-    let status = run(rt.alloc(), &check, &mut source, &mut out, &mut err);
-    Ok((status, out.written() == b"no long\n".as_slice()))
+    expect(rt, alloc, "check", &mut source, NO_WRITE, want, "`;`")
 }
 
 // The longest input, and one of a byte more.
 #[test]
 fn the_longest_input(rt: HostRuntime) -> Result<(), Fail> {
-    assert_eq!(rt; one_line(&rt, 1 << 30)?, (1, true));
-    assert_eq!(rt; one_line(&rt, (1 << 30) + 1)?, (7, false));
+    expect_one_line(&rt, rt.alloc(), 1 << 30, (1, b"no long\n"))?;
+    expect_one_line(&rt, rt.alloc(), (1 << 30) + 1, (7, b""))?;
     Ok(())
 }

@@ -1,68 +1,50 @@
-//! Lists whose items are grouped or paired, as tables.
+//! Lists whose items are grouped or paired, as tables. The input comes in parts of eight bytes.
 
+use crate::command_runs::*;
 use crate::command_words::words;
 use bk_ports::{MemSink, MemSource};
-use bk_top::run;
-use std::alloc::AllocError;
+use std::alloc::{AllocError, Global};
 use std::test::Fail;
 
-// Whether a command line over this input, which comes in parts of eight bytes, writes this and ends with this status.
-fn gives(
-    rt: &HostRuntime,
-    line: &str,
-    input: &str,
-    reads: &[u64],
-    writes: &[(u64, usize)],
-    status: u8,
-    output: &str,
-) -> Result<bool, AllocError> {
-    let words = words(rt, line)?;
-    let mut source = MemSource::new(input.as_bytes(), 8, reads);
-    let mut room = [0; 1000];
-    let mut out = MemSink::new(&mut room, writes);
-    let mut no_room = [];
-    let mut err = MemSink::new(&mut no_room, &[]);
-    let got = run(rt.alloc(), &words, &mut source, &mut out, &mut err);
-    Ok(got == status && out.written() == output.as_bytes())
-}
-
-#[test]
-fn items_are_grouped(rt: HostRuntime) -> Result<(), Fail> {
-    for (input, status, output) in [
+fn rows_of_groups() -> &'static [Row] {
+    &[
         (
+            "alike",
             "[2,1][1]\n[1]\n[2][1,1]\n",
             0,
             "3x2 2\n1 [2,1][1]\n3 [2,1][1]\n1x1 1\n2 [1]\n; groups 2 items 3 refused 0\n",
         ),
-        ("", 0, "; groups 0 items 0 refused 0\n"),
+        ("alike", "", 0, "; groups 0 items 0 refused 0\n"),
         (
+            "alike",
             "[1]\n[2,1][1]\n; a comment\n[1]\n[2][1,1]",
             0,
             "1x1 2\n1 [1]\n4 [1]\n3x2 2\n2 [2,1][1]\n5 [2,1][1]\n; groups 2 items 4 refused 0\n",
         ),
         (
+            "alike",
             "[1,1]\n[18,,15]\n[1][1]\n33x32\n[2,1][1]",
             1,
             "line 2 no text 4\nline 4 no text 5\n\
              2x1 2\n1 [1,1]\n3 [1,1]\n3x2 1\n5 [2,1][1]\n; groups 2 items 3 refused 2\n",
         ),
         (
+            "alike",
             "33x32 [18,15][7,8][14,4][10,1][9]\n[18,15][7,9]\n[2,2]",
             1,
             "line 2 no gap 2 15 16\n33x32 1\n1 [18,15][7,8][14,4][10,1][9]\n2x1 1\n3 [1,1]\n; groups 2 items 2 refused 1\n",
         ),
-    ] {
-        assert!(rt;
-            gives(&rt, "alike", input, &[], &[], status, output)?,
-            "{input}"
-        );
-    }
-    Ok(())
+    ]
 }
 
 #[test]
-fn items_are_paired(rt: HostRuntime) -> Result<(), Fail> {
-    for (line, input, status, output) in [
+fn items_are_grouped(rt: HostRuntime) -> Result<(), Fail> {
+    expect_rows(&rt, rt.alloc(), 8, rows_of_groups())?;
+    Ok(())
+}
+
+fn rows_of_pairs() -> &'static [Row] {
+    &[
         (
             "pair --kind any",
             "[2,1][1]\n[1,2][1]\n",
@@ -95,106 +77,87 @@ fn items_are_paired(rt: HostRuntime) -> Result<(), Fail> {
             0,
             "; pairs 0 items 2 refused 0\n",
         ),
-    ] {
-        assert!(rt;
-            gives(&rt, line, input, &[], &[], status, output)?,
-            "{input}"
-        );
-    }
+    ]
+}
+
+#[test]
+fn items_are_paired(rt: HostRuntime) -> Result<(), Fail> {
+    expect_rows(&rt, rt.alloc(), 8, rows_of_pairs())?;
     Ok(())
+}
+
+fn rows_of_faults() -> &'static [FailingRow] {
+    &[
+        ("alike", "[1]\n[1]\n[1]", 1, NO_WRITE, 3, ""),
+        ("pair", "[1\n[1]\n[1]", 1, NO_WRITE, 3, "line 1 no text 2\n"),
+        ("alike", "[1\n[1]", NO_READ, (0, 3), 4, "lin"),
+        ("alike", "[1]", NO_READ, (0, 2), 4, "1x"),
+        ("alike", "[1]", NO_READ, (1, 2), 4, "1x1 1\n1 "),
+        ("alike", "[1]", NO_READ, (2, 1), 4, "1x1 1\n1 [1]\n;"),
+        ("pair --kind any", "[1,1]\n[1,1]", NO_READ, (0, 3), 4, "1 2"),
+        (
+            "pair --kind any",
+            "[1,1]\n[1,1]",
+            NO_READ,
+            (1, 2),
+            4,
+            "1 2 3x3 [1,1,1][2,1][1]\n; ",
+        ),
+    ]
 }
 
 #[test]
 fn failed_reads_and_writes(rt: HostRuntime) -> Result<(), Fail> {
-    let no_pairs: &[(u64, usize)] = &[];
-    let no_calls: &[u64] = &[];
-    let second: &[u64] = &[1];
-    for (line, input, reads, writes, status, output) in [
-        ("alike", "[1]\n[1]\n[1]", second, no_pairs, 3, ""),
-        (
-            "pair",
-            "[1\n[1]\n[1]",
-            second,
-            no_pairs,
-            3,
-            "line 1 no text 2\n",
-        ),
-        ("alike", "[1\n[1]", no_calls, &[(0, 3)], 4, "lin"),
-        ("alike", "[1]", no_calls, &[(0, 2)], 4, "1x"),
-        ("alike", "[1]", no_calls, &[(1, 2)], 4, "1x1 1\n1 "),
-        ("alike", "[1]", no_calls, &[(2, 1)], 4, "1x1 1\n1 [1]\n;"),
-        (
-            "pair --kind any",
-            "[1,1]\n[1,1]",
-            no_calls,
-            &[(0, 3)],
-            4,
-            "1 2",
-        ),
-        (
-            "pair --kind any",
-            "[1,1]\n[1,1]",
-            no_calls,
-            &[(1, 2)],
-            4,
-            "1 2 3x3 [1,1,1][2,1][1]\n; ",
-        ),
-    ] {
-        assert!(rt;
-            gives(&rt, line, input, reads, writes, status, output)?,
-            "{output}"
-        );
-    }
+    expect_failing_rows(&rt, rt.alloc(), 8, rows_of_faults())?;
     Ok(())
 }
 
-// The last line of the pairs of two columns of so many squares.
-fn columns_are_paired(rt: &HostRuntime, squares: usize, last: &str) -> Result<bool, AllocError> {
-    let words = words(rt, "pair --kind any")?;
-    let mut input = Vec::new(rt.alloc());
-    for _ in 0..2 {
-        for _ in 0..squares {
-            for byte in [b'[', b'1', b']'] {
-                input.push(byte)?;
-            }
-        }
-        input.push(b'\n')?;
-    }
-    let mut source = MemSource::new(input.as_slice(), 8, &[]);
-    let mut room = [0; 1000];
-    let mut out = MemSink::new(&mut room, &[]);
-    let mut no_room = [];
-    let mut err = MemSink::new(&mut no_room, &[]);
-    let got = run(rt.alloc(), &words, &mut source, &mut out, &mut err);
-    Ok(got == 0 && out.written().ends_with(last.as_bytes()))
+// Whether what is written of the pairs of two columns of so many squares ends so.
+fn columns_are_paired(alloc: Global, squares: usize, last: &str) -> Result<bool, AllocError> {
+    let mut input = built(("", "[1]", squares, "\n"));
+    add(&mut input, ("", "[1]", squares, "\n"));
+    let mut source = MemSource::new(&input, 8, &[]);
+    let (status, text) = ran(alloc, "pair --kind any", &mut source, NO_WRITE)?;
+    Ok(status == 0 && text.as_slice().ends_with(last.as_bytes()))
 }
 
 #[test]
 fn two_hundred_squares_are_not_too_many(rt: HostRuntime) -> Result<(), Fail> {
-    assert!(rt; columns_are_paired(&rt, 99, "]\n; pairs 1 items 2 refused 0\n")?);
-    assert!(rt; columns_are_paired(&rt, 100, "; pairs 0 items 2 refused 0\n")?);
+    assert!(rt; columns_are_paired(rt.alloc(), 99, "]\n; pairs 1 items 2 refused 0\n")?);
+    assert!(rt; columns_are_paired(rt.alloc(), 100, "; pairs 0 items 2 refused 0\n")?);
     Ok(())
+}
+
+// A text so many times.
+fn repeated(alloc: Global, text: &[u8], times: usize) -> Result<Vec<u8>, AllocError> {
+    let mut all = Vec::new(alloc);
+    for _ in 0..times {
+        all.extend_from_slice(text)?;
+    }
+    Ok(all)
+}
+
+// The status of `alike` over this input, and what it writes in this room.
+fn grouped<'a>(
+    alloc: Global,
+    input: &[u8],
+    room: &'a mut [u8],
+) -> Result<(u8, MemSink<'a>), AllocError> {
+    let words = words(alloc, "alike")?;
+    let mut source = MemSource::new(input, 9_000, &[]);
+    let mut out = MemSink::new(room, &[]);
+    let mut no_room = [];
+    let mut err = MemSink::new(&mut no_room, &[]);
+    let status = status_of(alloc, &words, &mut source, &mut out, &mut err);
+    Ok((status, out))
 }
 
 #[test]
 fn no_more_than_16384_items_are_listed(rt: HostRuntime) -> Result<(), Fail> {
-    let words = words(&rt, "alike")?;
-    let mut input = Vec::new(rt.alloc());
-    for _ in 0..16_385 {
-        for byte in [b'[', b'1', b']', b'\n'] {
-            input.push(byte)?;
-        }
-    }
-    let mut source = MemSource::new(input.as_slice(), 9_000, &[]);
-    let mut room = Vec::new(rt.alloc());
-    for _ in 0..180_000 {
-        room.push(0)?;
-    }
-    let mut out = MemSink::new(room.as_mut_slice(), &[]);
-    let mut no_room = [];
-    let mut err = MemSink::new(&mut no_room, &[]);
-    let got = run(rt.alloc(), &words, &mut source, &mut out, &mut err);
-    assert_eq!(rt; got, 1);
+    let input = repeated(rt.alloc(), b"[1]\n", 16_385)?;
+    let mut room = repeated(rt.alloc(), &[0], 180_000)?;
+    let (status, out) = grouped(rt.alloc(), input.as_slice(), room.as_mut_slice())?;
+    assert_eq!(rt; status, 1);
     assert!(rt;
         out.written()
             .starts_with(b"line 16385 no more\n1x1 16384\n1 [1]\n2 [1]\n")

@@ -1,42 +1,35 @@
 //! Listings and trials, as tables.
 
-use crate::command_words::words;
-use bk_ports::{MemSink, MemSource, Sink};
-use bk_top::run;
-use std::alloc::AllocError;
+use crate::command_runs::*;
+use arrayvec::ArrayVec;
+use bk_ports::MemSource;
+use std::alloc::{AllocError, Global};
+use std::process::Abort;
 use std::test::Fail;
 
-// Whether a command line, whose source fails at once, writes this and ends with this status.
-fn gives(
-    rt: &HostRuntime,
-    line: &str,
-    writes: &[(u64, usize)],
-    status: u8,
-    output: &str,
-) -> Result<bool, AllocError> {
-    let words = words(rt, line)?;
-    let mut source = MemSource::new(b"[1]\n", 1, &[0]);
-    let mut room = [0; 1000];
-    let mut out = MemSink::new(&mut room, writes);
-    let mut no_room = [];
-    let mut err = MemSink::new(&mut no_room, &[]);
-    let got = run(rt.alloc(), &words, &mut source, &mut out, &mut err);
-    Ok(got == status && out.written() == output.as_bytes())
+const WHOLE: &str = "9 33x32 [18,15][7,8][14,4][10,1][9] ; 2u.2aa.2ue.2eue.1e\n\
+    9 69x61 [36,33][5,28][25,9,2][7][16] ; 2u.2aa.3uue.1ea.1ee\n\
+    ; end order 9 listed 2\n";
+
+const SECOND: &str =
+    "9 69x61 [36,33][5,28][25,9,2][7][16] ; 2u.2aa.3uue.1ea.1ee\n; end order 9 listed 1\n";
+
+// A command line, the write that fails, the status, and what is written.
+type Unread = (&'static str, FailedWrite, u8, &'static str);
+
+// Asserts that a command line, whose source fails at once, writes this and ends with this status.
+fn expect_unread(rt: &impl Abort, alloc: Global, row: Unread) -> Result<(), AllocError> {
+    let (line, write, status, output) = row;
+    expect_row(rt, alloc, 1, (line, "[1]\n", 0, write, status, output))
 }
 
-#[test]
-fn order_nine(rt: HostRuntime) -> Result<(), Fail> {
-    let whole = "9 33x32 [18,15][7,8][14,4][10,1][9] ; 2u.2aa.2ue.2eue.1e\n\
-        9 69x61 [36,33][5,28][25,9,2][7][16] ; 2u.2aa.3uue.1ea.1ee\n\
-        ; end order 9 listed 2\n";
-    let second =
-        "9 69x61 [36,33][5,28][25,9,2][7][16] ; 2u.2aa.3uue.1ea.1ee\n; end order 9 listed 1\n";
-    for (line, output) in [
-        ("list --order 9", whole),
-        ("list --order 9 --class perfect", whole),
-        ("list --order 9 --from 2u.2aa", whole),
-        ("list --from 1 --order 9", whole),
-        ("list --order 9 --from 2u.2aa.2ue.2eue.1e", second),
+fn rows_of_listings() -> &'static [(&'static str, &'static str)] {
+    &[
+        ("list --order 9", WHOLE),
+        ("list --order 9 --class perfect", WHOLE),
+        ("list --order 9 --from 2u.2aa", WHOLE),
+        ("list --from 1 --order 9", WHOLE),
+        ("list --order 9 --from 2u.2aa.2ue.2eue.1e", SECOND),
         (
             "list --order 9 --from 2u.2aa.2ue.2eue.1e --limit 1",
             "9 69x61 [36,33][5,28][25,9,2][7][16] ; 2u.2aa.3uue.1ea.1ee\n; limit order 9 listed 1\n",
@@ -51,7 +44,7 @@ fn order_nine(rt: HostRuntime) -> Result<(), Fail> {
              9 69x61 [36,33][5,28][25,9,2][7][16] ; 2u.2aa.3uue.1ea.1ee\n\
              ; limit order 9 listed 2\n",
         ),
-        ("list --order 9 --limit 3", whole),
+        ("list --order 9 --limit 3", WHOLE),
         ("list --order 9 --limit 0", "; limit order 9 listed 0\n"),
         (
             "list --order 9 --from 2u.2aa.3uue.1ea.1ee",
@@ -79,16 +72,20 @@ fn order_nine(rt: HostRuntime) -> Result<(), Fail> {
              9 15x11 [6,4,5][3,1][6][5,1][4] ; 3ua.2aue.2ue.1a.1ee\n\
              ; end order 9 class simple listed 3\n",
         ),
-    ] {
-        assert!(rt; gives(&rt, line, &[], 0, output)?, "{line}");
+    ]
+}
+
+#[test]
+fn order_nine(rt: HostRuntime) -> Result<(), Fail> {
+    for (line, output) in rows_of_listings() {
+        expect_unread(&rt, rt.alloc(), (*line, NO_WRITE, 0, *output))?;
     }
     Ok(())
 }
 
 // The listing of order 9 whose writes fail.
-#[test]
-fn failed_writes(rt: HostRuntime) -> Result<(), Fail> {
-    for (writes, output) in [
+fn rows_of_failed_writes() -> &'static [(FailedWrite, &'static str)] {
+    &[
         ((0, 0), ""),
         (
             (1, 10),
@@ -99,57 +96,84 @@ fn failed_writes(rt: HostRuntime) -> Result<(), Fail> {
             "9 33x32 [18,15][7,8][14,4][10,1][9] ; 2u.2aa.2ue.2eue.1e\n\
              9 69x61 [36,33][5,28][25,9,2][7][16] ; 2u.2aa.3uue.1ea.1ee\n; end",
         ),
-    ] {
-        assert!(rt;
-            gives(&rt, "list --order 9", &[writes], 4, output)?,
-            "{output}"
-        );
+    ]
+}
+
+#[test]
+fn failed_writes(rt: HostRuntime) -> Result<(), Fail> {
+    for (write, output) in rows_of_failed_writes() {
+        expect_unread(&rt, rt.alloc(), ("list --order 9", *write, 4, *output))?;
     }
     Ok(())
 }
 
-#[test]
-fn trials(rt: HostRuntime) -> Result<(), Fail> {
-    let no_pairs: &[(u64, usize)] = &[];
-    for (line, writes, status, output) in [
+fn rows_of_trials() -> &'static [Unread] {
+    &[
         (
             "trial --seed 0 --count 2",
-            no_pairs,
+            NO_WRITE,
             0,
             "trial seed 0 count 2 ok 2 perfect 1 simple 0 squares 272\n",
         ),
         (
             "trial --seed 0 --count 0",
-            no_pairs,
+            NO_WRITE,
             0,
             "trial seed 0 count 0 ok 0 perfect 0 simple 0 squares 0\n",
         ),
         (
             "trial --seed 1 --count 1",
-            no_pairs,
+            NO_WRITE,
             0,
             "trial seed 1 count 1 ok 1 perfect 1 simple 0 squares 72\n",
         ),
         (
             "trial --count 2 --seed 18446744073709551615",
-            no_pairs,
+            NO_WRITE,
             0,
             "trial seed 18446744073709551615 count 2 ok 2 perfect 1 simple 0 squares 274\n",
         ),
-        ("trial --seed 0 --count 0", &[(0, 7)], 4, "trial s"),
-    ] {
-        assert!(rt; gives(&rt, line, writes, status, output)?, "{line}");
+        ("trial --seed 0 --count 0", (0, 7), 4, "trial s"),
+    ]
+}
+
+#[test]
+fn trials(rt: HostRuntime) -> Result<(), Fail> {
+    for row in rows_of_trials() {
+        expect_unread(&rt, rt.alloc(), *row)?;
     }
     Ok(())
+}
+
+// Runs a command line over an empty source, and gives what is written, once the status is 0.
+fn listed(rt: &impl Abort, alloc: Global, line: &str) -> Result<Text, AllocError> {
+    let mut source = MemSource::new(b"", 1, &[]);
+    let (status, text) = ran(alloc, line, &mut source, NO_WRITE)?;
+    assert_eq!(rt; status, 0, "{line}");
+    Ok(text)
+}
+
+// Asserts that a command line lists this entry alone, and gives the one that lists the next.
+fn expect_entry(
+    rt: &impl Abort,
+    alloc: Global,
+    command: &str,
+    entry: &str,
+) -> Result<String, Fail> {
+    let text = listed(rt, alloc, command)?;
+    let want = format!(in alloc; "{entry}\n; limit order 10 listed 1\n")?;
+    assert_eq!(rt; text.as_slice(), want.as_str().as_bytes());
+    let Some((_, word)) = entry.split_once(" ; ") else {
+        return Err(Fail::new("no text"));
+    };
+    Ok(format!(in alloc; "list --order 10 --limit 1 --from {word}")?)
 }
 
 // The entries of order 10, whole, and then one by one, each after the word of the one before.
 #[test]
 fn order_ten(rt: HostRuntime) -> Result<(), Fail> {
-    let mut room = [0; 1000];
-    let mut out = MemSink::new(&mut room, &[]);
-    assert_eq!(rt; listed(&rt, "list --order 10", &mut out)?, 0);
-    let Ok(whole) = str::from_utf8(out.written()) else {
+    let text = listed(&rt, rt.alloc(), "list --order 10")?;
+    let Ok(whole) = str::from_utf8(text.as_slice()) else {
         return Err(Fail::new("no text"));
     };
     assert!(rt; whole.ends_with("\n; end order 10 listed 6\n"));
@@ -158,30 +182,26 @@ fn order_ten(rt: HostRuntime) -> Result<(), Fail> {
     );
     let mut command = String::from_str(rt.alloc(), "list --order 10 --limit 1")?;
     for entry in whole.split('\n').take(6) {
-        let mut room = [0; 200];
-        let mut out = MemSink::new(&mut room, &[]);
-        assert_eq!(rt; listed(&rt, command.as_str(), &mut out)?, 0);
-        let text = format!(in rt.alloc(); "{entry}\n; limit order 10 listed 1\n")?;
-        assert_eq!(rt; out.written(), text.as_str().as_bytes());
-        let Some((_, word)) = entry.split_once(" ; ") else {
-            return Err(Fail::new("no text"));
-        };
-        command = format!(in rt.alloc(); "list --order 10 --limit 1 --from {word}")?;
+        command = expect_entry(&rt, rt.alloc(), command.as_str(), entry)?;
     }
-    assert!(rt; gives(&rt, command.as_str(), &[], 0, "; end order 10 listed 0\n")?);
+    let mut source = MemSource::new(b"[1]\n", 1, &[0]);
+    let want = (0, b"; end order 10 listed 0\n".as_slice());
+    expect(
+        &rt,
+        rt.alloc(),
+        command.as_str(),
+        &mut source,
+        NO_WRITE,
+        want,
+        "",
+    )?;
     Ok(())
 }
 
-// The entries of order 11, whole, and then in three parts, each after the last word of the part before: the eighth and the
-// sixteenth of 22.
-#[test]
-fn order_eleven(rt: HostRuntime) -> Result<(), Fail> {
-    let mut room = [0; 4000];
-    let mut out = MemSink::new(&mut room, &[]);
-    assert_eq!(rt; listed(&rt, "list --order 11", &mut out)?, 0);
-    let mut parts = [0; 4000];
-    let mut together = MemSink::new(&mut parts, &[]);
-    for (line, last) in [
+// The listing of order 11 in three parts, each after the last word of the part before, with their last lines: the eighth and
+// the sixteenth of 22.
+fn parts_of_eleven() -> &'static [(&'static str, &'static str)] {
+    &[
         ("list --order 11 --limit 8", "; limit order 11 listed 8\n"),
         (
             "list --order 11 --limit 8 --from 2u.2aa.3uuu.2eaa.1ee.1ee",
@@ -191,27 +211,36 @@ fn order_eleven(rt: HostRuntime) -> Result<(), Fail> {
             "list --order 11 --from 2u.3eaa.3uue.2eae.1ee",
             "; end order 11 listed 6\n",
         ),
-    ] {
-        let mut room = [0; 2000];
-        let mut part = MemSink::new(&mut room, &[]);
-        assert_eq!(rt; listed(&rt, line, &mut part)?, 0);
-        let Some(entries) = part.written().strip_suffix(last.as_bytes()) else {
-            return Err(Fail::new("another end"));
-        };
-        assert!(rt; together.write_all(entries).is_ok(), "{line}");
-    }
-    let Some(entries) = out.written().strip_suffix(b"; end order 11 listed 22\n") else {
+    ]
+}
+
+// Adds the entries that a command line lists before this last line.
+fn add_entries(
+    rt: &impl Abort,
+    alloc: Global,
+    line: &str,
+    last: &str,
+    together: &mut Text,
+) -> Result<(), Fail> {
+    let part = listed(rt, alloc, line)?;
+    let Some(entries) = part.as_slice().strip_suffix(last.as_bytes()) else {
         return Err(Fail::new("another end"));
     };
-    assert_eq!(rt; entries, together.written());
+    assert!(rt; together.try_extend_from_slice(entries).is_ok(), "{line}");
     Ok(())
 }
 
-// Runs a command line over an empty source, and gives the status.
-fn listed(rt: &HostRuntime, line: &str, out: &mut MemSink) -> Result<u8, AllocError> {
-    let words = words(rt, line)?;
-    let mut source = MemSource::new(b"", 1, &[]);
-    let mut no_room = [];
-    let mut err = MemSink::new(&mut no_room, &[]);
-    Ok(run(rt.alloc(), &words, &mut source, out, &mut err))
+// The entries of order 11, whole, and then in parts.
+#[test]
+fn order_eleven(rt: HostRuntime) -> Result<(), Fail> {
+    let whole = listed(&rt, rt.alloc(), "list --order 11")?;
+    let mut together = ArrayVec::new();
+    for (line, last) in parts_of_eleven() {
+        add_entries(&rt, rt.alloc(), line, last, &mut together)?;
+    }
+    let Some(entries) = whole.as_slice().strip_suffix(b"; end order 11 listed 22\n") else {
+        return Err(Fail::new("another end"));
+    };
+    assert_eq!(rt; entries, together.as_slice());
+    Ok(())
 }

@@ -2,11 +2,11 @@
 
 ghost use Rattle.std.specs.Prelude.{None};
 
-use crate::command_words::words;
+use crate::command_runs::{NO_WRITE, ran};
 use arrayvec::ArrayVec;
-use bk_ports::{Failed, MemSink, Source};
-use bk_top::run;
-use std::alloc::AllocError;
+use bk_ports::{Failed, Source};
+use std::alloc::{AllocError, Global};
+use std::process::Abort;
 use std::test::Fail;
 
 // Lengths of buffers, and how many reads in a row came with each.
@@ -45,19 +45,40 @@ fn note(asked: &mut Asked, length: usize) {
 }
 
 // What the reads of a command ask for over so many bytes, and its status.
-fn asked(rt: &HostRuntime, command: &str, left: u64, most: u64) -> Result<(Asked, u8), AllocError> {
-    let words = words(rt, command)?;
+fn asked(alloc: Global, command: &str, left: u64, most: u64) -> Result<(Asked, u8), AllocError> {
     let mut source = NotingSource {
         left,
         most,
         asked: ArrayVec::new(),
     };
-    let mut room = [0; 200];
-    let mut out = MemSink::new(&mut room, &[]);
-    let mut no_room = [];
-    let mut err = MemSink::new(&mut no_room, &[]);
-    let status = run(rt.alloc(), &words, &mut source, &mut out, &mut err);
+    let (status, _) = ran(alloc, command, &mut source, NO_WRITE)?;
     Ok((source.asked, status))
+}
+
+// So many bytes, the most in a read, and how many reads ask for a block.
+fn short_inputs() -> [(u64, u64, u32); 7] {
+    [
+        (0, 16_384, 1),
+        (3, 16_384, 2),
+        (3, 1, 4),
+        (16_383, 16_384, 2),
+        (16_384, 16_384, 2),
+        (16_385, 16_384, 3),
+        (32_768, 16_384, 3),
+    ]
+}
+
+// Asserts them of a command.
+fn expect_short(rt: &impl Abort, alloc: Global, command: &str) -> Result<(), AllocError> {
+    for (left, most, times) in short_inputs() {
+        let (asked, _) = asked(alloc, command, left, most)?;
+        assert_eq!(rt;
+            asked.as_slice(),
+            [(16_384, times)].as_slice(),
+            "{command} {left}"
+        );
+    }
+    Ok(())
 }
 
 // A whole block is asked for, also behind an input that ends with one.
@@ -77,22 +98,36 @@ fn reads_of_short_inputs(rt: HostRuntime) -> Result<(), Fail> {
         "alike",
         "pair",
     ] {
-        for (left, most, times) in [
-            (0, 16_384, 1),
-            (3, 16_384, 2),
-            (3, 1, 4),
-            (16_383, 16_384, 2),
-            (16_384, 16_384, 2),
-            (16_385, 16_384, 3),
-            (32_768, 16_384, 3),
-        ] {
-            let (asked, _) = asked(&rt, command, left, most)?;
-            assert_eq!(rt;
-                asked.as_slice(),
-                [(16_384, times)].as_slice(),
-                "{command} {left}"
-            );
-        }
+        expect_short(&rt, rt.alloc(), command)?;
+    }
+    Ok(())
+}
+
+// So many bytes, the most in a read, what the reads ask for, and the status.
+type Long = (u64, u64, &'static [(usize, u32)], u8);
+
+// Inputs about as long as the longest.
+fn long_inputs() -> [Long; 4] {
+    let whole = 1 << 30;
+    [
+        (whole - 5, 16_384, &[(16_384, 65_536), (5, 1)], 1),
+        (whole, 16_384, &[(16_384, 65_536), (1, 1)], 1),
+        (whole + 1, 16_384, &[(16_384, 65_536), (1, 1)], 7),
+        (
+            whole + 9,
+            10_000,
+            &[(16_384, 107_373), (11_824, 1), (1_824, 1), (1, 1)],
+            7,
+        ),
+    ]
+}
+
+// Asserts them of a command.
+fn expect_long(rt: &impl Abort, alloc: Global, command: &str) -> Result<(), AllocError> {
+    for (left, most, want, status) in long_inputs() {
+        let (asked, got) = asked(alloc, command, left, most)?;
+        assert_eq!(rt; asked.as_slice(), want, "{command} {left}");
+        assert_eq!(rt; got, status, "{command} {left}");
     }
     Ok(())
 }
@@ -100,24 +135,8 @@ fn reads_of_short_inputs(rt: HostRuntime) -> Result<(), Fail> {
 // Towards 2^30 bytes no read asks for more than are left of them, and behind them one asks for one byte.
 #[test]
 fn reads_of_long_inputs(rt: HostRuntime) -> Result<(), Fail> {
-    let whole = 1 << 30;
     for command in ["check", "verify --order 2", "alike", "pair"] {
-        let rows: [(u64, u64, &[(usize, u32)], u8); 4] = [
-            (whole - 5, 16_384, &[(16_384, 65_536), (5, 1)], 1),
-            (whole, 16_384, &[(16_384, 65_536), (1, 1)], 1),
-            (whole + 1, 16_384, &[(16_384, 65_536), (1, 1)], 7),
-            (
-                whole + 9,
-                10_000,
-                &[(16_384, 107_373), (11_824, 1), (1_824, 1), (1, 1)],
-                7,
-            ),
-        ];
-        for (left, most, want, status) in rows {
-            let (asked, got) = asked(&rt, command, left, most)?;
-            assert_eq!(rt; asked.as_slice(), want, "{command} {left}");
-            assert_eq!(rt; got, status, "{command} {left}");
-        }
+        expect_long(&rt, rt.alloc(), command)?;
     }
     Ok(())
 }
