@@ -1,8 +1,11 @@
 //! Runs over lines whose answers are easy to foresee.
 
+ghost use Rattle.std.specs.Prelude.{◌<◌};
+
 use arrayvec::ArrayVec;
 use bk_lines::{Answerer, Ended, Outcome, Register, answer_lines, enter_lines};
 use bk_ports::{Failed, FillSource, MemSink, MemSource, Sink, Source};
+use std::process::Abort;
 
 // A line is answered by its length. One that begins with `!` is refused, and at one that begins with `?` memory is wanting.
 struct Lengths;
@@ -41,6 +44,18 @@ impl Answerer for Lengths {
     ghost empty_line = { λ _. tt };
 }
 
+// Asserts how a run over an input in pieces of at most so many bytes ends, and what it writes.
+fn assert_run(rt: &impl Abort, input: &[u8], most: usize, ending: Ended, text: &[u8])
+    requires { 0 < most }
+{
+    let mut source = MemSource::new(input, most, &[]);
+    let mut room = [0; 100];
+    let mut out = MemSink::new(&mut room, &[]);
+    let ended = answer_lines(&Lengths, &mut source, &mut out);
+    assert_eq!(rt; ended, ending, "at most {most}");
+    assert_eq!(rt; out.written(), text, "at most {most}");
+}
+
 #[test]
 fn lines_come_in_any_cuts(rt: HostRuntime) {
     let rows: [(&[u8], Ended, &[u8]); 9] = [
@@ -56,17 +71,21 @@ fn lines_come_in_any_cuts(rt: HostRuntime) {
     ];
     for (input, ending, text) in rows {
         for most in 1..12 {
-            let mut source = MemSource::new(input, most, &[]);
-            let mut room = [0; 100];
-            let mut out = MemSink::new(&mut room, &[]);
-            assert_eq!(rt;
-                answer_lines(&Lengths, &mut source, &mut out),
-                ending,
-                "at most {most}"
-            );
-            assert_eq!(rt; out.written(), text, "at most {most}");
+            assert_run(&rt, input, most, ending, text);
         }
     }
+}
+
+// Asserts what a run over a line of so many bytes writes.
+fn assert_long(rt: &impl Abort, length: u64, text: &[u8]) {
+    let mut source = FillSource::new(b'a', length);
+    let mut room = [0; 100];
+    let mut out = MemSink::new(&mut room, &[]);
+    assert_eq!(rt;
+        answer_lines(&Lengths, &mut source, &mut out),
+        Ended::NoneRefused
+    );
+    assert_eq!(rt; out.written(), text, "a line of {length} bytes");
 }
 
 #[test]
@@ -79,14 +98,7 @@ fn a_long_line_is_kept_as_far_as_it_counts(rt: HostRuntime) {
         (40_000, b"8193\n"),
     ];
     for (length, text) in rows {
-        let mut source = FillSource::new(b'a', length);
-        let mut room = [0; 100];
-        let mut out = MemSink::new(&mut room, &[]);
-        assert_eq!(rt;
-            answer_lines(&Lengths, &mut source, &mut out),
-            Ended::NoneRefused
-        );
-        assert_eq!(rt; out.written(), text, "a line of {length} bytes");
+        assert_long(&rt, length, text);
     }
 }
 
@@ -95,28 +107,23 @@ fn a_long_line_ends_at_its_line_feed(rt: HostRuntime) {
     let mut input = [b'a'; 9004];
     input[9000] = b'\n';
     for most in [1, 10, 8192, 8193, 9000, 9001, 9004] {
-        let mut source = MemSource::new(&input, most, &[]);
-        let mut room = [0; 100];
-        let mut out = MemSink::new(&mut room, &[]);
-        assert_eq!(rt;
-            answer_lines(&Lengths, &mut source, &mut out),
-            Ended::NoneRefused
-        );
-        assert_eq!(rt; out.written(), b"8193\n3\n".as_slice(), "at most {most}");
+        assert_run(&rt, &input, most, Ended::NoneRefused, b"8193\n3\n");
     }
 }
 
-// After a run the source gives what comes next: a failed read was the last one.
-#[test]
-fn a_fault_ends_the_run(rt: HostRuntime) {
-    let rows: [(
-        usize,
-        &[u64],
-        &[(u64, usize)],
-        Ended,
-        &[u8],
-        Result<usize, Failed>,
-    ); 7] = [
+// The longest pieces, the reads and the writes that fail, how the run ends, what it writes, and what the source gives then.
+type Faulty = (
+    usize,
+    &'static [u64],
+    &'static [(u64, usize)],
+    Ended,
+    &'static [u8],
+    Result<usize, Failed>,
+);
+
+// Runs with faults.
+fn faulty_runs() -> [Faulty; 7] {
+    [
         (3, &[2], &[], Ended::ReadFailed, b"2\n2\n", Ok(3)),
         (4, &[1], &[], Ended::ReadFailed, b"2\n", Ok(4)),
         (100, &[0], &[], Ended::ReadFailed, b"", Ok(9)),
@@ -124,14 +131,26 @@ fn a_fault_ends_the_run(rt: HostRuntime) {
         (4, &[1, 2], &[], Ended::ReadFailed, b"2\n", Err(Failed)),
         (3, &[2], &[(1, 1)], Ended::WriteFailed, b"2\n2", Err(Failed)),
         (3, &[], &[(2, 2)], Ended::WriteFailed, b"2\n2\n3\n", Ok(0)),
-    ];
-    for (most, read_fails, write_fails, ending, text, next) in rows {
-        let mut source = MemSource::new(b"ab\ncd\nefg", most, read_fails);
-        let mut room = [0; 100];
-        let mut out = MemSink::new(&mut room, write_fails);
-        assert_eq!(rt; answer_lines(&Lengths, &mut source, &mut out), ending);
-        assert_eq!(rt; out.written(), text);
-        assert_eq!(rt; source.read(&mut [0; 9]), next);
+    ]
+}
+
+// Asserts a run with faults.
+fn assert_faulty(rt: &impl Abort, run: Faulty) {
+    let (most, read_fails, write_fails, ending, text, next) = run;
+    assert!(rt; most > 0);
+    let mut source = MemSource::new(b"ab\ncd\nefg", most, read_fails);
+    let mut room = [0; 100];
+    let mut out = MemSink::new(&mut room, write_fails);
+    assert_eq!(rt; answer_lines(&Lengths, &mut source, &mut out), ending);
+    assert_eq!(rt; out.written(), text);
+    assert_eq!(rt; source.read(&mut [0; 9]), next);
+}
+
+// After a run the source gives what comes next: a failed read was the last one.
+#[test]
+fn a_fault_ends_the_run(rt: HostRuntime) {
+    for run in faulty_runs() {
+        assert_faulty(&rt, run);
     }
 }
 
@@ -169,6 +188,20 @@ impl Register for Numbers {
     ghost still_ready = { λ _ _ _. tt };
 }
 
+// Asserts how a numbered run over an input in pieces of at most so many bytes ends, what it writes, and the last number.
+fn assert_numbered(rt: &impl Abort, input: &[u8], most: usize, ending: Ended, then: (&[u8], u64))
+    requires { 0 < most }
+{
+    let mut source = MemSource::new(input, most, &[]);
+    let mut room = [0; 100];
+    let mut out = MemSink::new(&mut room, &[]);
+    let mut numbers = Numbers { last: 0 };
+    let ended = enter_lines(&mut numbers, &mut source, &mut out);
+    assert_eq!(rt; ended, ending, "at most {most}");
+    assert_eq!(rt; out.written(), then.0, "at most {most}");
+    assert_eq!(rt; numbers.last, then.1, "at most {most}");
+}
+
 #[test]
 fn all_lines_are_numbered(rt: HostRuntime) {
     let rows: [(&[u8], Ended, &[u8], u64); 6] = [
@@ -181,14 +214,7 @@ fn all_lines_are_numbered(rt: HostRuntime) {
     ];
     for (input, ending, text, last) in rows {
         for most in 1..12 {
-            let mut source = MemSource::new(input, most, &[]);
-            let mut room = [0; 100];
-            let mut out = MemSink::new(&mut room, &[]);
-            let mut numbers = Numbers { last: 0 };
-            let ended = enter_lines(&mut numbers, &mut source, &mut out);
-            assert_eq!(rt; ended, ending, "at most {most}");
-            assert_eq!(rt; out.written(), text, "at most {most}");
-            assert_eq!(rt; numbers.last, last, "at most {most}");
+            assert_numbered(&rt, input, most, ending, (text, last));
         }
     }
 }

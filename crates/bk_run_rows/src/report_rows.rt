@@ -10,13 +10,32 @@ use bk_report::{
     write_word_line,
 };
 use bk_tiling::{Square, Tiling};
-use bk_word::{Class, read_word};
+use bk_word::{Class, Word, read_word};
+use std::alloc::Global;
+use std::process::Abort;
 use std::test::Fail;
 
-#[test]
-fn refusals_have_their_texts(rt: HostRuntime) -> Result<(), Fail> {
-    let mut line = ArrayVec::new();
-    for (refused, text) in [
+// A line as it is written.
+type Line = ArrayVec<u8, 9000>;
+
+// Two squares beside one of twice their size.
+fn three_squares() -> Result<Tiling, Fail> {
+    let squares = [
+        Square { x: 0, y: 0, s: 2 },
+        Square { x: 2, y: 0, s: 1 },
+        Square { x: 2, y: 1, s: 1 },
+    ];
+    Ok(Tiling::try_new(3, 2, &squares)?)
+}
+
+// Their word.
+fn word_of_three(alloc: Global) -> Result<Word, Fail> {
+    Ok(read_word(alloc, b"2u.1e")?)
+}
+
+// Refusals and their texts.
+fn refusals() -> [(Refused, &'static str); 16] {
+    [
         (Refused::Long, "no long\n"),
         (Refused::Text { at: 0 }, "no text 0\n"),
         (Refused::Many, "no many\n"),
@@ -52,7 +71,13 @@ fn refusals_have_their_texts(rt: HostRuntime) -> Result<(), Fail> {
         (Refused::Illegal { place: 1 }, "illegal 1\n"),
         (Refused::Unfinished, "unfinished\n"),
         (Refused::More, "no more\n"),
-    ] {
+    ]
+}
+
+#[test]
+fn refusals_have_their_texts(rt: HostRuntime) -> Result<(), Fail> {
+    let mut line = ArrayVec::new();
+    for (refused, text) in refusals() {
         write_refused(&refused, &mut line);
         assert_eq!(rt; line.as_slice(), text.as_bytes());
     }
@@ -61,12 +86,7 @@ fn refusals_have_their_texts(rt: HostRuntime) -> Result<(), Fail> {
 
 #[test]
 fn a_tiling_has_its_lines(rt: HostRuntime) -> Result<(), Fail> {
-    let squares = [
-        Square { x: 0, y: 0, s: 2 },
-        Square { x: 2, y: 0, s: 1 },
-        Square { x: 2, y: 1, s: 1 },
-    ];
-    let tiling = Tiling::try_new(3, 2, &squares)?;
+    let tiling = three_squares()?;
     let mut line = ArrayVec::new();
     write_tiling(&tiling, &mut line);
     assert_eq!(rt; line.as_slice(), b"3x2 [2,1][1]\n".as_slice());
@@ -82,13 +102,8 @@ fn a_tiling_has_its_lines(rt: HostRuntime) -> Result<(), Fail> {
 
 #[test]
 fn a_word_has_its_lines(rt: HostRuntime) -> Result<(), Fail> {
-    let squares = [
-        Square { x: 0, y: 0, s: 2 },
-        Square { x: 2, y: 0, s: 1 },
-        Square { x: 2, y: 1, s: 1 },
-    ];
-    let tiling = Tiling::try_new(3, 2, &squares)?;
-    let word = read_word(rt.alloc(), b"2u.1e")?;
+    let tiling = three_squares()?;
+    let word = word_of_three(rt.alloc())?;
     assert!(rt; word.moves() > 0);
     let mut line = ArrayVec::new();
     write_word_line(&word, &mut line);
@@ -98,12 +113,12 @@ fn a_word_has_its_lines(rt: HostRuntime) -> Result<(), Fail> {
     Ok(())
 }
 
-#[test]
-fn listings_have_their_last_lines(rt: HostRuntime) -> Result<(), Fail> {
-    let word = read_word(rt.alloc(), b"2u.1e")?;
-    assert!(rt; word.moves() > 0);
-    let mut line = ArrayVec::new();
-    for (last, order, class, listed, text) in [
+// How a listing ends, its order, its class and how many members it has, and its last line.
+type Ending = (Last, u8, Class, u64, &'static str);
+
+// Listings and their last lines.
+fn endings() -> [Ending; 4] {
+    [
         (Last::End, 9, Class::Perfect, 2, "; end order 9 listed 2\n"),
         (
             Last::Limit,
@@ -126,69 +141,93 @@ fn listings_have_their_last_lines(rt: HostRuntime) -> Result<(), Fail> {
             u64::MAX,
             "; wide order 16 class simple listed 18446744073709551615 at 2u.1e\n",
         ),
-    ] {
+    ]
+}
+
+#[test]
+fn listings_have_their_last_lines(rt: HostRuntime) -> Result<(), Fail> {
+    let word = word_of_three(rt.alloc())?;
+    assert!(rt; word.moves() > 0);
+    let mut line = ArrayVec::new();
+    for (last, order, class, listed, text) in endings() {
         write_last(last, order, class, listed, &word, &mut line);
         assert_eq!(rt; line.as_slice(), text.as_bytes());
     }
     Ok(())
 }
 
-#[test]
-fn lines_of_lists_have_their_texts(rt: HostRuntime) -> Result<(), Fail> {
-    let squares = [
-        Square { x: 0, y: 0, s: 2 },
-        Square { x: 2, y: 0, s: 1 },
-        Square { x: 2, y: 1, s: 1 },
-    ];
-    let tiling = Tiling::try_new(3, 2, &squares)?;
-    let mut line = ArrayVec::new();
-    write_line_refused(16_385, &Refused::More, &mut line);
+// Asserts the lines about lines that are refused, repeat another or are foreign.
+fn assert_lines_about_lines(rt: &impl Abort, line: &mut Line) {
+    write_line_refused(16_385, &Refused::More, line);
     assert_eq!(rt; line.as_slice(), b"line 16385 no more\n".as_slice());
-    write_repeats(2, 1, &mut line);
+    write_repeats(2, 1, line);
     assert_eq!(rt; line.as_slice(), b"line 2 repeats 1\n".as_slice());
-    write_foreign(3, &mut line);
+    write_foreign(3, line);
     assert_eq!(rt; line.as_slice(), b"line 3 foreign\n".as_slice());
-    write_group(33, 32, 2, &mut line);
+}
+
+// Asserts the lines of groups, members and pairs.
+fn assert_lines_of_groups(rt: &impl Abort, tiling: &Tiling, line: &mut Line) {
+    write_group(33, 32, 2, line);
     assert_eq!(rt; line.as_slice(), b"33x32 2\n".as_slice());
-    write_member(4, &tiling, &mut line);
+    write_member(4, tiling, line);
     assert_eq!(rt; line.as_slice(), b"4 [2,1][1]\n".as_slice());
-    write_pair(1, 2, &tiling, &mut line);
+    write_pair(1, 2, tiling, line);
     assert_eq!(rt; line.as_slice(), b"1 2 3x2 [2,1][1]\n".as_slice());
-    write_alike(1, 2, 3, &mut line);
+}
+
+// Asserts the last lines of groups and pairs.
+fn assert_lines_of_counts(rt: &impl Abort, line: &mut Line) {
+    write_alike(1, 2, 3, line);
     assert_eq!(rt;
         line.as_slice(),
         b"; groups 1 items 2 refused 3\n".as_slice()
     );
-    write_pairs(1, 2, 3, &mut line);
+    write_pairs(1, 2, 3, line);
     assert_eq!(rt;
         line.as_slice(),
         b"; pairs 1 items 2 refused 3\n".as_slice()
     );
-    Ok(())
 }
 
 #[test]
-fn verified_lists_have_their_lines(rt: HostRuntime) -> Result<(), Fail> {
-    let squares = [
-        Square { x: 0, y: 0, s: 2 },
-        Square { x: 2, y: 0, s: 1 },
-        Square { x: 2, y: 1, s: 1 },
-    ];
-    let tiling = Tiling::try_new(3, 2, &squares)?;
-    let word = read_word(rt.alloc(), b"2u.1e")?;
-    assert!(rt; word.moves() > 0);
+fn lines_of_lists_have_their_texts(rt: HostRuntime) -> Result<(), Fail> {
+    let tiling = three_squares()?;
     let mut line = ArrayVec::new();
-    write_missing(&tiling, &word, &mut line);
+    assert_lines_about_lines(&rt, &mut line);
+    assert_lines_of_groups(&rt, &tiling, &mut line);
+    assert_lines_of_counts(&rt, &mut line);
+    Ok(())
+}
+
+// Asserts the line of a member that a list lacks.
+fn assert_missing(rt: &impl Abort, tiling: &Tiling, word: &Word, line: &mut Line) {
+    assert!(rt; word.moves() > 0);
+    write_missing(tiling, word, line);
     assert_eq!(rt;
         line.as_slice(),
         b"missing 3 3x2 [2,1][1] ; 2u.1e\n".as_slice()
     );
-    write_verified(Last::End, 9, [1, 2, 3, 4, 5], &word, &mut line);
+}
+
+// Asserts the last lines of lists that are verified.
+fn assert_verified(rt: &impl Abort, word: &Word, line: &mut Line) {
+    assert!(rt; word.moves() > 0);
+    write_verified(Last::End, 9, [1, 2, 3, 4, 5], word, line);
     let end = "; end order 9 members 1 missing 2 foreign 3 repeated 4 refused 5\n";
     assert_eq!(rt; line.as_slice(), end.as_bytes());
-    write_verified(Last::Wide, 9, [1, 2, 3, 4, 5], &word, &mut line);
+    write_verified(Last::Wide, 9, [1, 2, 3, 4, 5], word, line);
     let wide = "; wide order 9 members 1 missing 2 foreign 3 repeated 4 refused 5 at 2u.1e\n";
     assert_eq!(rt; line.as_slice(), wide.as_bytes());
+}
+
+#[test]
+fn verified_lists_have_their_lines(rt: HostRuntime) -> Result<(), Fail> {
+    let tiling = three_squares()?;
+    let word = word_of_three(rt.alloc())?;
+    let mut line = ArrayVec::new();
+    assert_missing(&rt, &tiling, &word, &mut line);
+    assert_verified(&rt, &word, &mut line);
     Ok(())
 }
 

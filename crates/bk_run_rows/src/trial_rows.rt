@@ -33,13 +33,18 @@ fn lines(rt: HostRuntime) {
     }
 }
 
+// The line about forty trial codes of one seed.
+fn forty_trials() -> ArrayVec<u8, 9000> {
+    let mut line = ArrayVec::new();
+    trial(7, 40, &mut line);
+    line
+}
+
 // The same line twice.
 #[test]
 fn forty(rt: HostRuntime) {
-    let mut line = ArrayVec::new();
-    trial(7, 40, &mut line);
-    let mut again = ArrayVec::new();
-    trial(7, 40, &mut again);
+    let line = forty_trials();
+    let again = forty_trials();
     assert_eq!(rt; line.as_slice(), again.as_slice());
     assert!(rt;
         line.as_slice()

@@ -28,18 +28,35 @@ const PUSHES_WITHOUT_FORMS: u64 = 1569;
 
 const ONE_OF_10: &[u8] = b"3ua.2aue.2ue.2ea.1ee";
 
+// The word of a text.
+fn word_in(rt: &impl Abort, alloc: Global, text: &[u8]) -> Word {
+    read_word(alloc, text).expect(rt, "it is a word")
+}
+
 // A walk from the cursor of this text, or from the start.
 fn walk_from(rt: &impl Abort, alloc: Global, order: u8, class: Class, text: Option<&[u8]>) -> Walk {
-    let from = match text {
-        Some(text) => {
-            let word = read_word(alloc, text).expect(rt, "it is a word");
-            assert!(rt; word.order() <= INLINE_ORDER);
-            Some(word)
-        }
-        None => None,
-    };
     assert!(rt; order >= 2 && usize::from(order) <= INLINE_ORDER);
-    Walk::new(alloc, order, class, from)
+    match text {
+        Some(text) => {
+            let word = word_in(rt, alloc, text);
+            assert!(rt; word.order() <= INLINE_ORDER);
+            Walk::new(alloc, order, class, Some(word))
+        }
+        None => Walk::new(alloc, order, class, None),
+    }
+}
+
+// The next member of a walk.
+fn next<L: Ledger>(walk: &mut Walk, steps: &mut Steps<L>) -> Option<Result<Entry, WideAt>> {
+    walk.advance(steps)
+}
+
+// The next member of a walk, which must come.
+fn member<L: Ledger>(rt: &impl Abort, walk: &mut Walk, steps: &mut Steps<L>) -> Entry {
+    match next(walk, steps) {
+        Some(Ok(entry)) => entry,
+        Some(Err(_)) | None => panic!(rt; "a member is missing"),
+    }
 }
 
 // The text of a word of at least one move and at most 16 squares.
@@ -50,20 +67,21 @@ fn text_of(rt: &impl Abort, word: &Word) -> ArrayVec<u8, 9000> {
     text
 }
 
+// Asserts the sides and the word of a member, and that its walk is there.
+fn assert_member(rt: &impl Abort, entry: &Entry, walk: &Walk, sides: &[u64], text: &[u8]) {
+    assert_eq!(rt; flat(&entry.code), sides);
+    assert_eq!(rt; text_of(rt, &entry.word).as_slice(), text);
+    assert_eq!(rt; text_of(rt, walk.cursor()).as_slice(), text);
+}
+
 // Goes on with the walk, which must give these members and then end.
 fn lists<L: Ledger>(rt: &impl Abort, walk: &mut Walk, members: &[Listed], steps: &mut Steps<L>) {
     for (sides, text) in members {
-        match walk.advance(steps) {
-            Some(Ok(entry)) => {
-                assert_eq!(rt; flat(&entry.code), *sides);
-                assert_eq!(rt; text_of(rt, &entry.word).as_slice(), *text);
-                assert_eq!(rt; text_of(rt, walk.cursor()).as_slice(), *text);
-            }
-            Some(Err(_)) | None => panic!(rt; "a member is missing"),
-        }
+        let entry = member(rt, walk, steps);
+        assert_member(rt, &entry, walk, sides, text);
     }
-    assert!(rt; walk.advance(steps).is_none());
-    assert!(rt; walk.advance(steps).is_none());
+    assert!(rt; next(walk, steps).is_none());
+    assert!(rt; next(walk, steps).is_none());
 }
 
 fn whole_orders<L: Ledger>(rt: &impl Abort, alloc: Global, blank: Blank)
@@ -141,19 +159,15 @@ fn order_10<L: Ledger>(rt: &impl Abort, alloc: Global, blank: Blank)
     let mut walk = walk_from(rt, alloc, 10, Class::Perfect, None);
     let mut is_there = false;
     for _ in 0..6 {
-        match walk.advance(&mut steps) {
-            Some(Ok(entry)) => {
-                if text_of(rt, &entry.word).as_slice() == ONE_OF_10 {
-                    is_there = true;
-                    let sides: &[u64] = &[25, 17, 23, 11, 6, 5, 24, 22, 3, 19];
-                    assert_eq!(rt; flat(&entry.code), sides);
-                }
-            }
-            Some(Err(_)) | None => panic!(rt; "a member is missing"),
+        let entry = member(rt, &mut walk, &mut steps);
+        if text_of(rt, &entry.word).as_slice() == ONE_OF_10 {
+            is_there = true;
+            let sides: &[u64] = &[25, 17, 23, 11, 6, 5, 24, 22, 3, 19];
+            assert_eq!(rt; flat(&entry.code), sides);
         }
     }
     assert!(rt; is_there);
-    assert!(rt; walk.advance(&mut steps).is_none());
+    assert!(rt; next(&mut walk, &mut steps).is_none());
 }
 
 #[test]
@@ -173,7 +187,7 @@ fn parts_of_order_9<L: Ledger>(rt: &impl Abort, alloc: Global, blank: Blank)
     assert_eq!(rt; whole.pushes(), 0);
     lists(rt, &mut whole, &[FIRST_OF_9, SECOND_OF_9], &mut steps);
     let mut front = walk_from(rt, alloc, 9, Class::Perfect, None);
-    assert!(rt; front.advance(&mut steps).is_some());
+    assert!(rt; next(&mut front, &mut steps).is_some());
     let mut back = walk_from(rt, alloc, 9, Class::Perfect, Some(FIRST_OF_9.1));
     lists(rt, &mut back, &[SECOND_OF_9], &mut steps);
     assert!(rt; whole.pushes() >= 8 && whole.pushes() < PUSHES_WITHOUT_FORMS);
@@ -203,16 +217,13 @@ fn go_together<L: Ledger>(
     part: &mut Walk,
     steps: &mut Steps<L>,
 ) {
-    match (whole.advance(steps), part.advance(steps)) {
-        (Some(Ok(entry)), Some(Ok(same))) => {
-            assert_eq!(rt;
-                text_of(rt, &entry.word).as_slice(),
-                text_of(rt, &same.word).as_slice()
-            );
-            assert_eq!(rt; flat(&entry.code), flat(&same.code));
-        }
-        _ => panic!(rt; "a member is missing"),
-    }
+    let entry = member(rt, whole, steps);
+    let same = member(rt, part, steps);
+    assert_eq!(rt;
+        text_of(rt, &entry.word).as_slice(),
+        text_of(rt, &same.word).as_slice()
+    );
+    assert_eq!(rt; flat(&entry.code), flat(&same.code));
 }
 
 // A whole walk of order 11, and one in three parts, each after the last member of the part before; and how many moves a whole walk
@@ -238,7 +249,7 @@ fn with_equations<L: Ledger>(rt: &impl Abort, alloc: Global, blank: Blank)
             go_together(rt, &mut whole, &mut part, &mut steps);
         }
     }
-    assert!(rt; whole.advance(&mut steps).is_none());
+    assert!(rt; next(&mut whole, &mut steps).is_none());
 }
 
 #[test]
