@@ -2,9 +2,10 @@
 """Proves and builds the program `bouwkamp`: each crate that it stands on after those below, as many side by side as there are processors and
 memory.
 
-Each crate is proved from nothing, by the prover's own command, over the libraries of the crates below. What is proved stays as a library in the
-crate's folder out/rlib/, with a sum of all that it was made from, so a build that was stopped goes on where it was. Says on standard error which
-crates are being proved, how many are done and how long it has taken. The status is 0 where the program stands in crates/bk_main/out/bk_main.
+Each crate is proved from nothing, by the prover's own command, over the libraries of the crates below, by more processes the fewer crates are at
+work. What is proved stays as a library in the crate's folder out/rlib/, with a sum of all that it was made from, so a build that was stopped goes on
+where it was. Says on standard error which crates are being proved, how many are done and how long it has taken. The status is 0 where the program
+stands in crates/bk_main/out/bk_main.
 
     scripts/build.py [--jobs N]
 """
@@ -54,8 +55,8 @@ class Toolchain:
         """Returns where a library of the toolchain lies."""
         return f"{self.folder}/rlibs/{name}.rlib"
 
-    def build(self, crate, *words):
-        """Returns the command that proves a crate and then makes what the words say."""
+    def build(self, crate, jobs, *words):
+        """Returns the command that proves a crate by so many processes and then makes what the words say."""
         own = [f"--extern={it.name}={it.library}" for it in crate.named]
         given = [f"--extern={it}={self.library(it)}" for it in ("std", *crate.of_toolchain)]
         folders = [f"{self.folder}/rlibs", *(os.path.dirname(it.library) for it in crate.below)]
@@ -63,7 +64,7 @@ class Toolchain:
             *(f"{self.folder}/bin/rattle", "build", "--crate-name", crate.name, crate.root, *given, *own),
             *(f"-Ldependency={it}" for it in folders),
             *("--antt-project", f"{self.folder}/rattle/logic/antt-project.json", "--logic-built", f"{self.folder}/logic_built"),
-            *("--jobs", "1", "--links", f"{crate.name}=", *words),
+            *("--jobs", str(jobs), "--links", f"{crate.name}=", *words),
         ]
 
     def link(self, made, program):
@@ -109,13 +110,13 @@ class Crate:
         except OSError:
             return False
 
-    def prove(self, toolchain):
-        """Proves the crate over the libraries below it. Returns whether it passed, and what was printed."""
+    def prove(self, toolchain, jobs):
+        """Proves the crate over the libraries below it, by so many processes. Returns whether it passed, and what was printed."""
         if self.is_proved():
             return True, "proved before\n"
         shutil.rmtree(os.path.dirname(self.library), ignore_errors=True)
         os.makedirs(os.path.dirname(self.library))
-        passed, text = ran(toolchain.build(self, "--statements", "-o", self.library), self.folder)
+        passed, text = ran(toolchain.build(self, jobs, "--statements", "-o", self.library), self.folder)
         if passed:
             with open(self.kept(), "w", encoding="utf-8") as file:
                 file.write(self.sum)
@@ -179,6 +180,12 @@ class Progress:
                 self.tell(self.so_far())
 
 
+def processes(jobs, crates):
+    """Returns by how many processes a crate is proved where so many are at work. A long one is often at work alone in the end, so it has a second
+    one also where all processors are taken."""
+    return max(min(2, jobs), jobs // crates)
+
+
 def prove(crates, toolchain, jobs, log, progress):
     """Proves these crates, so many side by side, each after those below it, and first those with the longest chains above. Returns whether
     all passed."""
@@ -186,7 +193,7 @@ def prove(crates, toolchain, jobs, log, progress):
     with ThreadPoolExecutor(jobs) as pool:
         while True:
             ready = [it for it in waiting if proved.issuperset(it.named)][: jobs - len(running)]
-            running.update({pool.submit(it.prove, toolchain): it for it in ready})
+            running.update({pool.submit(it.prove, toolchain, processes(jobs, len(running) + len(ready))): it for it in ready})
             waiting = [it for it in waiting if it not in ready]
             if not running:
                 return not waiting and len(proved) == len(crates)
@@ -200,11 +207,11 @@ def prove(crates, toolchain, jobs, log, progress):
                 progress.is_done(crate.name, is_proved)
 
 
-def build(program, toolchain, log):
-    """Proves, builds and links the program. Returns whether it stands there."""
+def build(program, toolchain, jobs, log):
+    """Proves the program by so many processes, builds and links it. Returns whether it stands there."""
     made = f"{OUT}/{NAME}.o"
     for command in (
-        toolchain.build(program, "--toolchain", f"{toolchain.folder}/toolchain", "-o", made),
+        toolchain.build(program, jobs, "--toolchain", f"{toolchain.folder}/toolchain", "-o", made),
         toolchain.link(made, f"{OUT}/{NAME}"),
     ):
         passed, text = ran(command, program.folder)
@@ -230,7 +237,7 @@ def main(words):
             progress.tell(f"not all crates are proved; what the checks printed is in {LOG}")
             return 1
         progress.tell(f"all crates are proved, now the program is built ({progress.so_far()})")
-        if not build(program, toolchain, log):
+        if not build(program, toolchain, jobs, log):
             progress.tell(f"the build failed; what it printed is in {LOG}")
             return 1
     progress.ended.set()

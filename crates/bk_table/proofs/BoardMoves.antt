@@ -4,15 +4,15 @@ use Rattle.std.proofs.Common.{◌+◌, ◌-◌, ◌<◌, ◌∙◌, ◌∷◌, �
 use Rattle.bk_word.specs.Outline.{IsLegalMove, valley_of}
 use Rattle.bk_word.specs.Play.{numbers_from, outline_of}
 use Rattle.bk_word.specs.Word.{Move, Word, order_of}
-use Rattle.bk_table.proofs.LeftLines.{index_left, left_less, left_more}
-use Rattle.bk_table.proofs.RightLines.{index_right, right_less, right_more}
+use Rattle.bk_table.proofs.LeftLines.{end_left, index_left, left_less, left_more}
+use Rattle.bk_table.proofs.RightLines.{end_right, index_right, right_less, right_more}
 use Rattle.bk_table.proofs.TopLineMarks.{first_kept, first_more}
 use Rattle.bk_table.proofs.TouchedLines.{AreNextLines, nodes_less, nodes_more}
-use Rattle.bk_free_cuts.specs.LineNumbers.{lefts_of, sides_at, sides_of}
-use Rattle.bk_free_cuts.specs.NodeCut.{TouchesClosed}
+use Rattle.bk_free_cuts.specs.LineNumbers.{left_end, lefts_of, right_end, sides_at, sides_of}
 use Rattle.bk_table.specs.Boards.{IsBoardOf}
 use Rattle.bk_table.specs.Lefts.{IsLeftWord, first_left}
-use Rattle.bk_table.specs.NodeLines.{AreNodeLines, Has, HasBoth, IsBesideNew, IsBesideOneOf, ShareLines}
+use Rattle.bk_table.specs.Joining.{TouchOneNode}
+use Rattle.bk_table.specs.NodeLines.{AreNodeLines, Has, HasBoth, IsBesideNew, IsBesideOneOf}
 use Rattle.bk_table.specs.Rights.{last_right, rights_of}
 use Rattle.bk_table.specs.declared.line_set.LineSet.{LineSet}
 
@@ -100,23 +100,34 @@ board_less w front lefts rights nodes first order moves lefts_then rights_then n
 
 -- ---- two lines at one node
 
-pub share_lines : (w : Word) (lefts rights : List ℕ) (nodes : List LineSet) (first a b left right : ℕ) → IsBoardOf w lefts rights nodes first
-    → left ≡ slice_index_or lefts (a - 1) 0
-    → right ≡ slice_index_or rights (b - 1) 1 → (left ≡ 0 → right ≡ 1 → ⊥) → HasBoth nodes left right → ShareLines w a b
-share_lines w lefts rights nodes first a b left right board l r walls both = record {
+-- that touch one of the kept nodes touch a closed node of the word
+pub touch_lines : (w : Word) (lefts rights : List ℕ) (nodes : List LineSet) (first left right : ℕ) → IsBoardOf w lefts rights nodes first
+    → (left ≡ 0 → right ≡ 1 → ⊥) → HasBoth nodes left right → TouchOneNode w left right
+touch_lines w lefts rights nodes first left right board walls both = record {
   node = both.node;
-  left = subst (λ (line : ℕ). TouchesClosed (outline_of w) (sides_of w) line both.node) left_is
-      ((board.node_lines).touch both.node left both.lines both.at both.has_left);
-  right = subst (λ (line : ℕ). TouchesClosed (outline_of w) (sides_of w) line both.node) right_is
-      ((board.node_lines).touch both.node right both.lines both.at both.has_right);
-  not_walls = λ e f. walls (left_is ∙ e) (right_is ∙ f);
+  at_left = (board.node_lines).touch both.node left both.lines both.at both.has_left;
+  at_right = (board.node_lines).touch both.node right both.lines both.at both.has_right;
+  not_walls = walls;
 }
-  where
-    left_is : left ≡ (sides_at (sides_of w) a).0
-    left_is = l ∙ ap (λ (ls : List ℕ). slice_index_or ls (a - 1) 0) (board.left_word).lefts_are ∙ sym (index_left (sides_of w) (a - 1))
 
-    right_is : right ≡ (sides_at (sides_of w) b).1
-    right_is = r ∙ ap (λ (rs : List ℕ). slice_index_or rs (b - 1) 1) board.rights_are ∙ sym (index_right (sides_of w) (b - 1))
+-- the lines at the sides of a square
+pub left_on_board : (w : Word) (lefts rights : List ℕ) (nodes : List LineSet) (first square : ℕ) → IsBoardOf w lefts rights nodes first
+    → slice_index_or lefts (square - 1) 0 ≡ (sides_at (sides_of w) square).0
+left_on_board w lefts rights nodes first square board = ap (λ (ls : List ℕ). slice_index_or ls (square - 1) 0) (board.left_word).lefts_are
+    ∙ sym (index_left (sides_of w) (square - 1))
+
+pub right_on_board : (w : Word) (lefts rights : List ℕ) (nodes : List LineSet) (first square : ℕ) → IsBoardOf w lefts rights nodes first
+    → slice_index_or rights (square - 1) 1 ≡ (sides_at (sides_of w) square).1
+right_on_board w lefts rights nodes first square board = ap (λ (rs : List ℕ). slice_index_or rs (square - 1) 1) board.rights_are
+    ∙ sym (index_right (sides_of w) (square - 1))
+
+-- and at those of a segment
+pub ends_on_board : (w : Word) (lefts rights : List ℕ) (nodes : List LineSet) (first : ℕ) (squares : List ℕ) → IsBoardOf w lefts rights nodes first
+    → (first_left lefts squares ≡ left_end (sides_of w) squares) × (last_right rights squares ≡ right_end (sides_of w) squares)
+ends_on_board w lefts rights nodes first squares board = (
+  ap (λ (ls : List ℕ). first_left ls squares) (board.left_word).lefts_are ∙ sym (end_left (sides_of w) squares),
+  ap (λ (rs : List ℕ). last_right rs squares) board.rights_are ∙ sym (end_right (sides_of w) squares),
+)
 
 pub not_both : (left right : ℕ) → ((left ≡ 0) × (right ≡ 1 → ⊥)) ⊎ (left ≡ 0 → ⊥) → left ≡ 0 → right ≡ 1 → ⊥
 not_both left right (inl h) e f = h.1 f

@@ -10,6 +10,7 @@ pub mod LoneSquares
 pub mod PackedOrder
 pub mod PackedExamples
 pub mod NextMoves
+pub mod OpenSegments
 pub mod Spans
 pub mod SpanExamples
 pub mod FirstNode
@@ -17,7 +18,8 @@ pub mod FirstNumbers
 pub mod RightLines
 pub mod SecondNumbers
 pub mod SegmentsBehind
-pub mod SharedSegments
+pub mod JoinedSegments
+pub mod JoiningExamples
 pub mod TopLineExamples
 pub mod TopLineMarks
 pub mod TouchedLines

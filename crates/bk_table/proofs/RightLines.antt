@@ -28,7 +28,7 @@ index_right [] k = refl
 index_right (s ∷ sides) zero = refl
 index_right (s ∷ sides) (suc k) = index_right sides k
 
-end_right : (sides : List (ℕ × ℕ)) (numbers : List ℕ) → right_end sides numbers ≡ last_right (rights_in sides) numbers
+pub end_right : (sides : List (ℕ × ℕ)) (numbers : List ℕ) → right_end sides numbers ≡ last_right (rights_in sides) numbers
 end_right sides [] = refl
 end_right sides (number ∷ []) = index_right sides (number - 1)
 end_right sides (number ∷ next ∷ numbers) = end_right sides (next ∷ numbers)

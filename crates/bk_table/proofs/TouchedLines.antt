@@ -224,6 +224,11 @@ from_word : (w : Word) (m : Move) (line v : ℕ) → TouchesClosed (outline_of (
 from_word w m line v t = subst (λ (o : Outline). TouchesClosed o (sides_after (outline_of w) (sides_of w) m) line v) (after-snoc start w m)
     (subst (λ (s : List (ℕ × ℕ)). TouchesClosed (outline_of (w ++ m ∷ [])) s line v) (sides_snoc w m) t)
 
+-- what touches a closed node touches it after the next move
+pub touch_more : (w : Word) (m : Move) (line v : ℕ) → TouchesClosed (outline_of w) (sides_of w) line v
+    → TouchesClosed (outline_of (w ++ m ∷ [])) (sides_of (w ++ m ∷ [])) line v
+touch_more w m line v t = onto_word w m line v (touch_after (outline_of w) (sides_of w) m line v (sides_many w) t)
+
 -- what is known of the lines of the node that the next move closes
 pub record AreNextLines (w : Word) (m : Move) (lines : LineSet) : Type 0 where
   pub only : (line : ℕ) → Has lines line → IsBesideOneOf (lefts_of (w ++ m ∷ [])) (rights_of (w ++ m ∷ [])) (valley_of (outline_of w)) line
@@ -279,8 +284,7 @@ nodes_more w m nodes lines legal are next = record {
 
     touched : (v line : ℕ) (set : LineSet) → slice_get (nodes ++ lines ∷ []) v ≡ Some set → Has set line → (v < length nodes) ⊎ (length nodes ≤ v)
         → TouchesClosed (outline_of (w ++ m ∷ [])) (sides_of (w ++ m ∷ [])) line v
-    touched v line set e has (inl low) = onto_word w m line v (touch_after (outline_of w) (sides_of w) m line v (sides_many w)
-        (are.touch v line set (in_front nodes (lines ∷ []) v set low e) has))
+    touched v line set e has (inl low) = touch_more w m line v (are.touch v line set (in_front nodes (lines ∷ []) v set low e) has)
     touched v line set e has (inr high) = subst (λ k. TouchesClosed (outline_of (w ++ m ∷ [])) (sides_of (w ++ m ∷ [])) line k) (place v set e high)
         (next_touch w m line (next.only line (subst (λ (s : LineSet). Has s line) (sym (same v set e high)) has)))
 
@@ -325,7 +329,7 @@ one_less w front m nodes before whole are e = record {
         → TouchesClosed (outline_of front) (sides_of front) line v → Has set line
     held v line set f low t = let r = in_take nodes (length front) v set f in
         are.all v line set r.0 low (subst (λ (v' : Word). TouchesClosed (outline_of v') (sides_of v') line v) (sym whole)
-        (onto_word front m line v (touch_after (outline_of front) (sides_of front) m line v (sides_many front) t)))
+        (touch_more front m line v t))
 
 pub nodes_less : (w front : Word) (nodes before : List LineSet) → 0 < length w → AreNodeLines w nodes → front ≡ take (length w - 1) w
     → before ≡ take (length front) nodes → AreNodeLines front before

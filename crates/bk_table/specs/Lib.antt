@@ -9,6 +9,7 @@ pub mod Kept
 pub mod Lefts
 pub mod Rights
 pub mod NodeLines
+pub mod Joining
 pub mod TopLines
 pub mod Boards
 pub mod Asking

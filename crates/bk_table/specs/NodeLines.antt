@@ -5,7 +5,7 @@ use Rattle.std.specs.Int.{bit_at}
 use Rattle.std.specs.Prelude.{List, Some, length, slice_get, slice_index_or, ℕ, ◌+◌, ◌-◌, ◌<◌, ◌≡◌, ◌⊎◌}
 use Rattle.bk_word.specs.Play.{outline_of}
 use Rattle.bk_word.specs.Word.{Word}
-use Rattle.bk_free_cuts.specs.LineNumbers.{sides_at, sides_of}
+use Rattle.bk_free_cuts.specs.LineNumbers.{sides_of}
 use Rattle.bk_free_cuts.specs.NodeCut.{TouchesClosed}
 use Rattle.bk_table.specs.declared.line_set.LineSet.{LineSet}
 
@@ -43,28 +43,3 @@ pub record AreNodeLines (w : Word) (nodes : List LineSet) : Type 0 where
   pub as_many : length nodes ≡ length w
   pub touch : (v line : ℕ) (lines : LineSet) → slice_get nodes v ≡ Some lines → Has lines line → TouchesClosed (outline_of w) (sides_of w) line v
   pub all : (v line : ℕ) (lines : LineSet) → slice_get nodes v ≡ Some lines → line < 32 → TouchesClosed (outline_of w) (sides_of w) line v → Has lines line
-
--- the line at the left of one square and that at the right of another touch one closed node, and they are not the two walls
-pub record ShareLines (w : Word) (a b : ℕ) : Type 0 where
-  pub node : ℕ
-  pub left : TouchesClosed (outline_of w) (sides_of w) (sides_at (sides_of w) a).0 node
-  pub right : TouchesClosed (outline_of w) (sides_of w) (sides_at (sides_of w) b).1 node
-  pub not_walls : (sides_at (sides_of w) a).0 ≡ 0 → (sides_at (sides_of w) b).1 ≡ 1 → ⊥
-
--- so do one of these squares and this one
-pub record SharesWithOne (w : Word) (squares : List ℕ) (b : ℕ) : Type 0 where
-  pub place : ℕ
-  pub number : ℕ
-  pub at : slice_get squares place ≡ Some number
-  pub share : ShareLines w number b
-
--- so do two of these squares, the one before the other
-pub record ShareWithin (w : Word) (squares : List ℕ) : Type 0 where
-  pub i : ℕ
-  pub j : ℕ
-  pub a : ℕ
-  pub b : ℕ
-  pub first : slice_get squares i ≡ Some a
-  pub second : slice_get squares j ≡ Some b
-  pub order : i < j
-  pub share : ShareLines w a b

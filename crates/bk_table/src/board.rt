@@ -5,9 +5,9 @@ ghost use Rattle.std.specs.Prelude.{IsTrue, [], cond, length, nat_eq, take, true
 ghost use Rattle.bk_word.specs.Outline.{IsLegalMove};
 ghost use Rattle.bk_word.specs.Play.{IsLegal, outline_of};
 ghost use Rattle.bk_word.specs.Word.{order_of};
-ghost use Rattle.bk_free_cuts.specs.LineNumbers.{lefts_of};
+ghost use Rattle.bk_free_cuts.specs.LineNumbers.{left_end, lefts_of, right_end, sides_at, sides_of};
 ghost use Rattle.bk_table.specs.Asking.{has_first_mark, line_bound_behind};
-ghost use Rattle.bk_table.specs.NodeLines.{ShareLines};
+ghost use Rattle.bk_table.specs.Joining.{TouchOneNode};
 ghost use Rattle.bk_table.specs.TopLines.{first_count};
 
 use crate::line_set::LineSet;
@@ -78,13 +78,38 @@ impl Board {
         self.first
     }
 
-    /// Whether the line at the left of one square and that at the right of another, by their numbers from 1, touch one closed node.
-    /// The two walls don't count.
-    pub(crate) fn share(&self, a: u8, b: u8) -> bool
-        ensures { IsTrue result → ShareLines self.now a b }
+    /// The line at the left of the square of this number, from 1.
+    pub(crate) fn left_of(&self, square: u8) -> u8
+        ensures { result ≡ (sides_at (sides_of self.now) square).0 }
     {
-        let left = left_of(&self.lefts, a);
-        let right = right_of(&self.rights, b);
+        left_of(&self.lefts, square)
+    }
+
+    /// The line at the right of the square of this number, from 1.
+    pub(crate) fn right_of(&self, square: u8) -> u8
+        ensures { result ≡ (sides_at (sides_of self.now) square).1 }
+    {
+        right_of(&self.rights, square)
+    }
+
+    /// The line at the left of the first of these squares: the left wall where there are none.
+    pub(crate) fn left_end(&self, squares: &[u8]) -> u8
+        ensures { result ≡ left_end (sides_of self.now) squares.now }
+    {
+        left_of_first(&self.lefts, squares)
+    }
+
+    /// The line at the right of the last of them: the right wall where there are none.
+    pub(crate) fn right_end(&self, squares: &[u8]) -> u8
+        ensures { result ≡ right_end (sides_of self.now) squares.now }
+    {
+        right_of_last(&self.rights, squares)
+    }
+
+    /// Whether these two lines touch one closed node. The two walls don't count.
+    pub(crate) fn touch_one(&self, left: u8, right: u8) -> bool
+        ensures { IsTrue result → TouchOneNode self.now left right }
+    {
         if left == 0 && right == 1 {
             return false;
         }

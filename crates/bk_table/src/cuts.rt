@@ -11,7 +11,6 @@ ghost use Rattle.bk_table.specs.Sought.{BeginsTurned, IsSought, IsTouchedUnderFi
 ghost use Rattle.bk_net_word.specs.NetWord.{IsNetBarren};
 
 use crate::board::Board;
-use crate::sharing::shares_a_node;
 use bk_skel::Skel;
 use bk_word::{Move, Sign};
 
@@ -115,27 +114,4 @@ fn is_own(place: usize, left_wall: bool, count: u8) -> bool
 {
     let from = if left_wall { 0 } else { 1 };
     from <= place && place + 1 < from + usize::from(count)
-}
-
-// Whether no word of the order begins with the board's moves, of which the last one hangs so many squares: one segment is left
-// too early, or two lines at one segment share a closed node. The lines are looked at after a move of one square alone: others bring
-// no two old lines to one segment. That the open segments ask for more squares than are left is asked before the move is played.
-pub(crate) fn is_barren(board: &Board, last: u8, order: u8) -> bool
-    ensures { IsTrue result → IsNetBarren order board.now }
-{
-    is_whole_early(board.skel(), order) || is_parted(board, last)
-}
-
-// Whether one segment is left while fewer squares hang than the order.
-fn is_whole_early(skel: &Skel, order: u8) -> bool
-    ensures { IsTrue result → IsNetBarren order skel.now }
-{
-    skel.is_closed() && skel.order() < usize::from(order)
-}
-
-// Whether the last move hangs one square, and then two lines at one open segment bound a part of the tiling.
-fn is_parted(board: &Board, last: u8) -> bool
-    ensures { IsTrue result → (n : ℕ) → IsNetBarren n board.now }
-{
-    last == 1 && shares_a_node(board)
 }

@@ -7,12 +7,12 @@ ghost use Rattle.bk_table.specs.Span.{MovesThatGoOnLieInASpan, WordsThatGoOnLieI
 mod asking;
 mod board;
 mod cuts;
+mod joining;
 mod line_set;
 mod node_lines;
 mod packed;
 mod searching;
 mod second;
-mod sharing;
 mod sides;
 mod span;
 mod table;

@@ -12,7 +12,8 @@ use crate::asking::{
     Asked, Next, asked_with, ends_over, is_over, is_over_behind, next_of, stand_beside,
 };
 use crate::board::Board;
-use crate::cuts::{bars, is_barren, least_tried};
+use crate::cuts::{bars, least_tried};
+use crate::joining::joins_barrenly;
 use arrayvec::ArrayVec;
 use bk_word::{Move, Sign};
 
@@ -190,10 +191,11 @@ fn with_move<S: Leaves>(board: &mut Board, m: &Move, leaves: &mut S, order: u8, 
     ensures fixed { S.fixed leaves.new ≡ S.fixed leaves.old }
     ensures board { board.new ≡ board.old }
 {
-    board.push(m);
-    if !is_barren(board, m.count, order) {
-        go_on(board, leaves, order, least);
+    if joins_barrenly(board, m, order) {
+        return;
     }
+    board.push(m);
+    go_on(board, leaves, order, least);
     board.pop();
 }
 

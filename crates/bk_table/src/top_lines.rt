@@ -66,8 +66,8 @@ pub(crate) fn line_bound_from(
     line_bound(&signs[from..], &sizes[from..], &ends[start..], lefts, first)
 }
 
-// How many squares segments of these sizes have.
-fn squares_in(sizes: &[u8]) -> usize
+/// How many squares segments of these sizes have.
+pub(crate) fn squares_in(sizes: &[u8]) -> usize
     requires { sum sizes.now < 2 ^ 64 }
     ensures { result ≡ sum sizes.now }
 {

@@ -4,16 +4,11 @@ use Rattle.bk_word.specs.Play.{IsComplete, outline_of}
 use Rattle.bk_word.specs.Word.{Move, order_of}
 use Rattle.bk_word.specs.declared.Sign.{Sign}
 use Rattle.bk_word.specs.declared.Sign.TheVariants.{Above, Even, Under}
-use Rattle.bk_net_word.specs.NetWord.{IsNetBarren}
 use Rattle.bk_table.proofs.AskedSigns.{asked_behind_is_barred, asked_is_barred, ended_is_barred}
 use Rattle.bk_table.proofs.NextMoves.{HasNextSign, below_or_same, by_count, by_pushed, by_sign, by_whole, is_whole, next_fertile, next_fits}
 use Rattle.bk_table.proofs.NextMoves.{next_move, next_sign}
 use Rattle.bk_table.specs.Sought.{GoesOn}
 use Rattle.bk_table.proofs.searching.+search.Goals as goal
-use Rattle.bk_table.proofs.searching.+search.Goals.{
-  with_move-else-not-is_barren,
-  with_move-then-not-is_barren,
-}
 
 pub with_counts-counts-init : goal.with_counts-counts-init
 with_counts-counts-init g t c = record {
@@ -48,15 +43,13 @@ with_counts-returns-clause-all g t c w sought touched on =
       ap order_of c.skel.ensures.value,
     ))
 
+pub with_move-returns-then-joins_barrenly-clause-all : goal.with_move-returns-then-joins_barrenly-clause-all
+with_move-returns-then-joins_barrenly-clause-all g t c w sought touched on =
+    absurd (sought.fertile (c.args.board.now ++ c.args.m.now ∷ []) on.rest on.is (c.joins_barrenly.ensures c.if-joins_barrenly.true))
+
 pub with_move-returns-clause-all : goal.with_move-returns-clause-all
 with_move-returns-clause-all g t c w sought touched on =
-    elim c.if-not-is_barren.branch [
-      | with_move-then-not-is_barren b ↦
-          subst (λ s. g.S.Leaves.has_met s w) (sym b.leaves-is) (b.go_on.ensures.all w sought touched (subst (λ v. GoesOn v w) (sym c.push.ensures) on))
-      | with_move-else-not-is_barren b ↦
-          absurd (sought.fertile (c.args.board.now ++ c.args.m.now ∷ []) on.rest on.is
-          (subst (IsNetBarren c.args.order) c.push.ensures (c.is_barren.ensures b.if-not-is_barren.false)))
-    ]
+    c.go_on.ensures.all w sought touched (subst (λ v. GoesOn v w) (sym c.push.ensures) on)
 
 pub go_on-returns-then-order-from-clause-all : goal.go_on-returns-then-order-from-clause-all
 go_on-returns-then-order-from-clause-all g t c w sought touched on =

@@ -1,4 +1,4 @@
--- Two squares of an open segment whose lines share a closed node.
+-- The squares of an open segment, by the flat lists that a skeleton keeps: how many squares each segment has, and all of them.
 use Rattle.std.specs.List.{concat, sum}
 use Rattle.std.proofs.Common.{List, Some, [], ap, arith, drop, length, refl, slice_get, slice_index_or, suc, sym, take, zero, ℕ, ◌+◌, ◌-◌, ◌<◌, ◌∙◌}
 use Rattle.std.proofs.Common.{◌∷◌, ◌≡◌, ◌≤◌}
@@ -10,8 +10,6 @@ use Rattle.bk_bounds.proofs.BoundsOfWords.{segments_again}
 use Rattle.bk_bounds.proofs.LineCounting.{sum-cons}
 use Rattle.bk_bounds.specs.SingleValleys.{sizes_of}
 use Rattle.bk_bounds.specs.VerticalCut.{segments_of}
-use Rattle.bk_free_cuts.specs.NodeCut.{ShareANode}
-use Rattle.bk_table.specs.NodeLines.{ShareWithin, SharesWithOne}
 
 segment_at : (sizes ends : List ℕ) (i : ℕ) → i < length sizes
     → slice_index_or (segments_of sizes ends) i [] ≡ take (slice_index_or sizes i 0) (drop (sum (take i sizes)) ends)
@@ -42,42 +40,3 @@ pub segment_within : (sizes : List ℕ) (i : ℕ) → i < length sizes → sum (
 segment_within [] i h = absurd (omega arith)
 segment_within (n ∷ sizes) zero h = omega (arith, sum-cons n sizes)
 segment_within (n ∷ sizes) (suc i) h = omega (arith, segment_within sizes i (omega arith), sum-cons n sizes, sum-cons n (take i sizes))
-
-pub shared_segment : (w : Word) (k : ℕ) (squares : List ℕ) → slice_get (outline_of w).segments k ≡ Some squares → ShareWithin w squares → ShareANode w
-shared_segment w k squares is s = record {
-  segment = k;
-  numbers = squares;
-  is = is;
-  i = s.i;
-  j = s.j;
-  a = s.a;
-  b = s.b;
-  first = s.first;
-  second = s.second;
-  order = omega (arith, s.order);
-  node = (s.share).node;
-  left = (s.share).left;
-  right = (s.share).right;
-  not_own = λ e f. absurd (omega (arith, e, s.order));
-  not_walls = (s.share).not_walls;
-}
-
--- two squares of which the one stands before the other
-pub within_more : (w : Word) (squares : List ℕ) (j d : ℕ) → j < length squares → SharesWithOne w (take j squares) (slice_index_or squares j d)
-    → ShareWithin w squares
-within_more w squares j d within s = record {
-  i = s.place;
-  j = j;
-  a = s.number;
-  b = slice_index_or squares j d;
-  first = (in_take squares j s.place s.number s.at).0;
-  second = slice_get-get_or squares j d within;
-  order = (in_take squares j s.place s.number s.at).1;
-  share = s.share;
-}
-  where
-    in_take : (xs : List ℕ) (k i x : ℕ) → slice_get (take k xs) i ≡ Some x → (slice_get xs i ≡ Some x) × (i < k)
-    in_take xs zero i x f = absurd (cc)
-    in_take [] (suc k) i x f = absurd (cc)
-    in_take (y ∷ xs) (suc k) zero x f = (f, omega arith)
-    in_take (y ∷ xs) (suc k) (suc i) x f = let r = in_take xs k i x f in (r.0, omega (arith, r.1))
