@@ -9,11 +9,12 @@ use Rattle.bk_word.specs.Play.{AreLegalFrom, after_move, after_moves, new_square
 use Rattle.bk_word.specs.Word.{Move, Word}
 use Rattle.bk_word.specs.declared.Sign.{Sign}
 use Rattle.bk_word.specs.declared.Sign.TheVariants.{Above, Even, Under}
+use Rattle.bk_word.proofs.PlayLists.{place_within}
 use Rattle.bk_word_net.proofs.Shape.{Shaped}
 use Rattle.bk_bounds.proofs.ClosingLaws.{AroundValley, around_valley, unders}
 use Rattle.bk_bounds.proofs.JoinedLines.{bound, joined_bound}
 use Rattle.bk_bounds.proofs.LineLaws.{from_first, from_last, from_valley}
-use Rattle.bk_bounds.proofs.SingleLaws.{place_within, same_length, wall_test}
+use Rattle.bk_bounds.proofs.SingleLaws.{same_length, wall_test}
 use Rattle.bk_bounds.specs.ClosingBound.{is_above}
 use Rattle.bk_bounds.specs.VerticalCut.{begins_on_line, lines_after, lines_along, next_on_line, on_line}
 

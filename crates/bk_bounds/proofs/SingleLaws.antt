@@ -9,7 +9,7 @@ use Rattle.bk_word.specs.Play.{after_move, before_first_list, joined, new_square
 use Rattle.bk_word.specs.Word.{Move}
 use Rattle.bk_word.specs.declared.Sign.{Sign}
 use Rattle.bk_word.specs.declared.Sign.TheVariants.{Above, Even, Under}
-use Rattle.bk_word.proofs.PlayLists.{numbers-length}
+use Rattle.bk_word.proofs.PlayLists.{numbers-length, place_within}
 use Rattle.bk_word_net.proofs.OutlineParts.{filter_part}
 use Rattle.bk_word_net.proofs.Shape.{Shaped}
 use Rattle.bk_word_net.proofs.ValleyCut.{AllPart}
@@ -93,13 +93,6 @@ at_valley (Above ∷ signs) (s ∷ segments) = omega arith
 at_valley (Even ∷ signs) (s ∷ segments) = omega
     (arith, at_valley signs segments, low_is_more true signs segments, behind_next Even signs s segments (valley_place signs))
 at_valley (Under ∷ signs) (s ∷ segments) = omega (arith, at_valley signs segments, behind_next Under signs s segments (valley_place signs))
-
--- the leftmost valley is one of the segments
-pub place_within : (signs : List Sign) → valley_place signs ≤ length signs
-place_within [] = omega arith
-place_within (Above ∷ signs) = omega arith
-place_within (Even ∷ signs) = omega (arith, place_within signs)
-place_within (Under ∷ signs) = omega (arith, place_within signs)
 
 parted_behind : (signs : List Sign) (k : ℕ) → AllPart signs → AllPart (drop k signs)
 parted_behind [] zero p = tt

@@ -12,15 +12,6 @@ use Rattle.bk_word.specs.Word.{Move, Word, order_of}
 use Rattle.bk_word_net.proofs.Shape.{hung_many}
 use Rattle.bk_forms.specs.Form.{Form, with_side}
 use Rattle.bk_form_cuts.specs.SideForms.{level_of, levels_along}
-use Rattle.bk_word.specs.declared.Sign.{Sign}
-use Rattle.bk_word.specs.declared.Sign.TheVariants.{Above, Even, Under}
-
--- the leftmost valley is one of the segments
-pub place_within : (signs : List Sign) → valley_place signs ≤ length signs
-place_within [] = omega arith
-place_within (Above ∷ signs) = omega arith
-place_within (Even ∷ signs) = omega (arith, place_within signs)
-place_within (Under ∷ signs) = omega (arith, place_within signs)
 
 here_at : (front : List (List ℕ)) (here : List ℕ) (back : List (List ℕ)) → get_or (front ++ here ∷ back) (length front) [] ≡ here
 here_at [] here back = λ i. here

@@ -7,7 +7,9 @@ use Rattle.std.proofs.lemmas.Int.{ints}
 use Rattle.bk_forms.specs.Form.{Form, coefficient, with_side}
 use Rattle.bk_form_cuts.specs.SideForms.{level_of, zero_form}
 use Rattle.bk_form_cuts.specs.Trace.{AreSmall, IsSmall}
+use Rattle.bk_laws.proofs.ListPlaces.{get_either}
 
+-- a form whose coefficients are at most j has them at most k, where k is no less
 pub small_more : (j k : ℕ) (form : Form) → j ≤ k → IsSmall j form → IsSmall k form
 small_more j k [] h all = tt
 small_more j k (a ∷ form) h all = (omega (arith, all.0), small_more j k form h all.1)
@@ -16,9 +18,11 @@ small_nought : (n k : ℕ) → IsSmall k (replicate n (pos 0))
 small_nought zero k = tt
 small_nought (suc n) k = (omega arith, small_nought n k)
 
+-- the form 0 is small
 pub small_zero : (k : ℕ) → IsSmall k zero_form
 small_zero k = small_nought 16 k
 
+-- each coefficient of a small form is small
 pub small_at : (k : ℕ) (form : Form) (c : ℕ) → IsSmall k form → nat_abs (coefficient form c) ≤ k
 small_at k [] c all = omega arith
 small_at k (a ∷ form) zero all = all.0
@@ -34,6 +38,7 @@ small_set k [] c a h all = tt
 small_set k (b ∷ form) zero a h all = (h, all.1)
 small_set k (b ∷ form) (suc c) a h all = (all.0, small_set k form c a h all.1)
 
+-- with one more side a form is small by one more
 pub small_with_side : (k : ℕ) (form : Form) (c : ℕ) → IsSmall k form → IsSmall (suc k) (with_side form c)
 small_with_side k form c all = small_set (suc k) form c (coefficient form c +ℤ pos 1) (one_more (coefficient form c) k (small_at k form c all))
     (small_more k (suc k) form (omega arith) all)
@@ -50,6 +55,7 @@ past [] k h = λ i. zero_form
 past (f ∷ forms) zero h = absurd (omega arith)
 past (f ∷ forms) (suc k) h = past forms k (omega arith)
 
+-- the level of a segment is as small as the bottoms
 pub small_level : (bottoms : List Form) (numbers : List ℕ) → AreSmall bottoms → IsSmall (length bottoms) (level_of bottoms numbers)
 small_level bottoms [] small = small_zero (length bottoms)
 small_level bottoms (n ∷ numbers) small = cases (cases_lt (n - 1) (length bottoms))
@@ -69,20 +75,10 @@ new_small (n ∷ numbers) level k zero form small e = subst (IsSmall (suc k)) sa
     same = cc
 new_small (n ∷ numbers) level k (suc i) form small e = new_small numbers level k i form small e
 
-split_get : (xs ys : List Form) (i : ℕ) (form : Form) → slice_get (xs ++ ys) i ≡ Some form → (slice_get xs i ≡ Some form)
-    ⊎ ((j : ℕ) × (i ≡ length xs + j) × (slice_get ys j ≡ Some form))
-split_get [] ys i form e = inr (i, omega arith, e)
-split_get (x ∷ xs) ys zero form e = inl e
-split_get (x ∷ xs) ys (suc i) form e = cases (split_get xs ys i form e)
-  where
-    cases : (slice_get xs i ≡ Some form) ⊎ ((j : ℕ) × (i ≡ length xs + j) × (slice_get ys j ≡ Some form)) → (slice_get xs i ≡ Some form)
-        ⊎ ((j : ℕ) × (suc i ≡ length (x ∷ xs) + j) × (slice_get ys j ≡ Some form))
-    cases (inl f) = inl f
-    cases (inr (j, is, f)) = inr (j, omega (arith, is), f)
-
+-- and after a move all bottoms are small
 pub small_new : (bottoms : List Form) (level : Form) (numbers : List ℕ) → AreSmall bottoms → IsSmall (length bottoms) level
     → AreSmall (bottoms ++ map (λ n. with_side level (n - 1)) numbers)
-small_new bottoms level numbers small low i form e = cases (split_get bottoms (map (λ n. with_side level (n - 1)) numbers) i form e)
+small_new bottoms level numbers small low i form e = cases (get_either bottoms (map (λ n. with_side level (n - 1)) numbers) i form e)
   where
     cases : (slice_get bottoms i ≡ Some form) ⊎ ((j : ℕ) × (i ≡ length bottoms + j)
         × (slice_get (map (λ n. with_side level (n - 1)) numbers) j ≡ Some form)) → IsSmall (suc i) form

@@ -7,7 +7,8 @@ use Rattle.bk_word.specs.Word.{Word}
 use Rattle.bk_layout.proofs.Counting.{got_same}
 use Rattle.bk_layout.specs.Layout.{Fits, Layout}
 use Rattle.bk_layout.specs.LayoutLaws.{HangByNodesFrom, HangsNode}
-use Rattle.bk_free_cuts.proofs.NumberedLines.{hung_at, in_two}
+use Rattle.bk_laws.proofs.ListPlaces.{get_either}
+use Rattle.bk_free_cuts.proofs.NumberedLines.{hung_at}
 use Rattle.bk_free_cuts.specs.FreeCuts.{AreOuterWalls}
 use Rattle.bk_free_cuts.specs.LineNumbers.{left_end, line_of, new_sides, right_end, sides_after, sides_along}
 
@@ -73,7 +74,7 @@ module _ (l : Layout) (square : ℕ → ℕ) where
           next = hung_at l square o m h (suc k) low
 
       after : AllKnown (sides_after o sides m)
-      after k p e = cases (in_two sides (new_sides (length o.hung) m.count (left_end sides (valley_of o)) (right_end sides (valley_of o))) k p e)
+      after k p e = cases (get_either sides (new_sides (length o.hung) m.count (left_end sides (valley_of o)) (right_end sides (valley_of o))) k p e)
         where
           cases : (slice_get sides k ≡ Some p) ⊎ ((j : ℕ) × (k ≡ length sides + j)
               × (slice_get (new_sides (length o.hung) m.count (left_end sides (valley_of o)) (right_end sides (valley_of o))) j ≡ Some p))

@@ -1,8 +1,8 @@
 -- The numbers of lines in a word stand for the layout's lines.
-use Rattle.std.proofs.Common.{List, Some, [], ap, arith, inl, inr, length, map, refl, replicate, slice_get, slice_index_or, subst, suc, sym, zero, ℕ}
-use Rattle.std.proofs.Common.{◌++◌, ◌+◌, ◌-◌, ◌<◌, ◌∙◌, ◌∷◌, ◌≡◌, ◌⊎◌}
+use Rattle.std.proofs.Common.{List, Some, [], ap, arith, inl, inr, length, map, refl, replicate, slice_get, slice_index_or, subst, suc, sym, zero, ℕ, ◌+◌, ◌-◌}
+use Rattle.std.proofs.Common.{◌<◌, ◌∙◌, ◌∷◌, ◌≡◌, ◌⊎◌}
 use Rattle.std.proofs.lemmas.List.{length-append, length-map, length-replicate}
-use Rattle.bk_laws.proofs.ListPlaces.{get_map}
+use Rattle.bk_laws.proofs.ListPlaces.{get_either, get_map}
 use Rattle.bk_laws.proofs.Occurrences.{times_at, times_in-append}
 use Rattle.bk_word.specs.Outline.{Outline, start, valley_of, valley_place}
 use Rattle.bk_word.specs.Play.{AreLegalFrom, after_move, new_squares, numbers_from}
@@ -15,18 +15,6 @@ use Rattle.bk_layout.specs.Layout.{Fits, IsLast, Layout}
 use Rattle.bk_layout.specs.LayoutLaws.{HangByNodesFrom, HangsNode}
 use Rattle.bk_free_cuts.proofs.MarkedSquares.{numbers_at}
 use Rattle.bk_free_cuts.specs.LineNumbers.{LineNumbersAreLines, left_end, line_of, new_sides, right_end, sides_after, sides_along, sides_at}
-
--- a place in two lists, one after the other
-pub in_two : (xs ys : List (ℕ × ℕ)) (k : ℕ) (p : ℕ × ℕ) → slice_get (xs ++ ys) k ≡ Some p → (slice_get xs k ≡ Some p)
-    ⊎ ((j : ℕ) × (k ≡ length xs + j) × (slice_get ys j ≡ Some p))
-in_two [] ys k p e = inr (k, omega arith, e)
-in_two (x ∷ xs) ys zero p e = inl e
-in_two (x ∷ xs) ys (suc k) p e = onto (in_two xs ys k p e)
-  where
-    onto : (slice_get xs k ≡ Some p) ⊎ ((j : ℕ) × (k ≡ length xs + j) × (slice_get ys j ≡ Some p)) → (slice_get xs k ≡ Some p)
-        ⊎ ((j : ℕ) × (suc k ≡ suc (length xs) + j) × (slice_get ys j ≡ Some p))
-    onto (inl f) = inl f
-    onto (inr (j, f, g)) = inr (j, omega (arith, f), g)
 
 -- a move gives as many pairs as it hangs squares
 pub sides_long : (hung count left right : ℕ) → length (new_sides hung count left right) ≡ count
@@ -138,7 +126,7 @@ module _ (l : Layout) (square : ℕ → ℕ) where
 
     all_after : 0 < m.count → length sides ≡ length o.hung → ((k a : ℕ) → slice_get (valley_of o) k ≡ Some a → a - 1 < length sides)
         → AllStand (sides_after o sides m)
-    all_after some long low k p e = cases (in_two sides
+    all_after some long low k p e = cases (get_either sides
         (new_sides (length o.hung) m.count (left_end sides (valley_of o)) (right_end sides (valley_of o))) k p e)
       where
         here : (l.left (square (length o.hung)) ≡ line_of l square (left_end sides (valley_of o)))

@@ -1,7 +1,7 @@
 -- What stands at a place of a list: in lists laid end to end, and in a mapped list.
 use Rattle.std.specs.List.{refill}
-use Rattle.std.proofs.Common.{List, None, Some, [], ap, append-nil, arith, drop_of_length-le, length, map, refl, slice_get, slice_index_or, suc, take, take_all}
-use Rattle.std.proofs.Common.{zero, ℕ, ◌++◌, ◌+◌, ◌<◌, ◌∙◌, ◌∷◌, ◌≡◌}
+use Rattle.std.proofs.Common.{List, None, Some, [], ap, append-nil, arith, drop_of_length-le, inl, inr, length, map, refl, slice_get, slice_index_or, suc, take}
+use Rattle.std.proofs.Common.{take_all, zero, ℕ, ◌++◌, ◌+◌, ◌<◌, ◌∙◌, ◌∷◌, ◌≡◌, ◌⊎◌}
 
 -- there is an element at each place below the length
 pub get_some : {A : Type 0} (xs : List A) (k : ℕ) → k < length xs → (x : A) × (slice_get xs k ≡ Some x)
@@ -31,6 +31,18 @@ get_after [] ys i j e = ap (slice_get ys) same
     same = omega arith
 get_after (x ∷ xs) ys i zero e = absurd (omega arith)
 get_after (x ∷ xs) ys i (suc j) e = get_after xs ys i j (omega arith)
+
+-- what two lists have, end to end, stands at its place in the first, or in the second at the place less the first's length
+pub get_either : {A : Type 0} (xs ys : List A) (k : ℕ) (x : A) → slice_get (xs ++ ys) k ≡ Some x
+    → (slice_get xs k ≡ Some x) ⊎ ((j : ℕ) × (k ≡ length xs + j) × (slice_get ys j ≡ Some x))
+get_either [] ys k x e = inr (k, omega arith, e)
+get_either (w ∷ xs) ys zero x e = inl e
+get_either (w ∷ xs) ys (suc k) x e = one_more (get_either xs ys k x e)
+  where
+    one_more : (slice_get xs k ≡ Some x) ⊎ ((j : ℕ) × (k ≡ length xs + j) × (slice_get ys j ≡ Some x))
+        → (slice_get xs k ≡ Some x) ⊎ ((j : ℕ) × (suc k ≡ length (w ∷ xs) + j) × (slice_get ys j ≡ Some x))
+    one_more (inl f) = inl f
+    one_more (inr (j, f, g)) = inr (j, omega (arith, f), g)
 
 -- a mapped list has the mapped element
 pub get_map : {A B : Type 0} (f : A → B) (xs : List A) (k : ℕ) (x : A) → slice_get xs k ≡ Some x → slice_get (map f xs) k ≡ Some (f x)

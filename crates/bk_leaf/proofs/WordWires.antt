@@ -14,12 +14,12 @@ use Rattle.bk_net.specs.Flow.{Flow, IsFlow, potential}
 use Rattle.bk_word.specs.Outline.{Outline, start, valley_of, valley_place}
 use Rattle.bk_word.specs.Play.{AreLegalFrom, IsComplete, after_move, after_moves, outline_of}
 use Rattle.bk_word.specs.Word.{Move, Word}
+use Rattle.bk_word.proofs.PlayLists.{place_within}
 use Rattle.bk_word_net.proofs.NoLoose.{Played, closed_count, hung_number, played_move, played_start}
 use Rattle.bk_word_net.proofs.Numbering.{HasPlace, place_of_number}
 use Rattle.bk_word_net.proofs.PlacesInLists.{wires_got}
 use Rattle.bk_word_net.proofs.Shape.{AllFilled, Shaped, filled_move, shaped_move, shaped_start}
 use Rattle.bk_word_net.specs.WordNet.{end_of, net_of_word}
-use Rattle.bk_bounds.proofs.SingleLaws.{place_within}
 use Rattle.bk_candidate.specs.Candidate.{level_in}
 use Rattle.bk_leaf.specs.Placing.{AreLevels}
 

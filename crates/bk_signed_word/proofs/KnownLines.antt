@@ -7,9 +7,10 @@ use Rattle.bk_word.specs.Outline.{Outline, start, valley_of}
 use Rattle.bk_word.specs.Play.{after_move}
 use Rattle.bk_word.specs.Word.{Move, Word, order_of}
 use Rattle.bk_word_net.proofs.Shape.{hung_many}
-use Rattle.bk_free_cuts.proofs.NumberedLines.{after_long, in_two}
+use Rattle.bk_free_cuts.proofs.NumberedLines.{after_long}
 use Rattle.bk_free_cuts.specs.LineNumbers.{left_end, new_sides, right_end, sides_after, sides_along, sides_of}
 use Rattle.bk_free_cuts.proofs.CutByNodes.{along_long}
+use Rattle.bk_laws.proofs.ListPlaces.{get_either}
 
 -- the lines of the square at place k
 abbrev pub AreKnown : ℕ → ℕ × ℕ → Type 0
@@ -60,7 +61,7 @@ right_known sides all (a ∷ b ∷ numbers) = right_known sides all (b ∷ numbe
 
 after_known : (o : Outline) (sides : List (ℕ × ℕ)) (m : Move) → length sides ≡ length o.hung → AllKnown sides → AllKnown (sides_after o sides m)
 after_known o sides m long all k p e = cases
-    (in_two sides (new_sides (length o.hung) m.count (left_end sides (valley_of o)) (right_end sides (valley_of o))) k p e)
+    (get_either sides (new_sides (length o.hung) m.count (left_end sides (valley_of o)) (right_end sides (valley_of o))) k p e)
   where
     cases : (slice_get sides k ≡ Some p) ⊎ ((j : ℕ) × (k ≡ length sides + j)
         × (slice_get (new_sides (length o.hung) m.count (left_end sides (valley_of o)) (right_end sides (valley_of o))) j ≡ Some p)) → AreKnown k p

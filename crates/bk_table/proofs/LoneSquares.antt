@@ -8,10 +8,10 @@ use Rattle.bk_word.specs.Play.{after_move, joined, new_squares, parts}
 use Rattle.bk_word.specs.Word.{Move}
 use Rattle.bk_word.specs.declared.Sign.{Sign}
 use Rattle.bk_word.specs.declared.Sign.TheVariants.{Above, Even, Under}
-use Rattle.bk_word.proofs.PlayLists.{numbers-length}
+use Rattle.bk_word.proofs.PlayLists.{numbers-length, place_within}
 use Rattle.bk_word_net.proofs.Shape.{Shaped}
 use Rattle.bk_word_net.proofs.ValleyCut.{AllPart}
-use Rattle.bk_bounds.proofs.SingleLaws.{grown_is_more, low_is_more, place_within, singles, unchanged}
+use Rattle.bk_bounds.proofs.SingleLaws.{grown_is_more, low_is_more, singles, unchanged}
 use Rattle.bk_bounds.specs.SingleValleys.{single_valley, single_valleys, sizes_of}
 use Rattle.bk_owed.specs.Lone.{is_low, lone_squares}
 use Rattle.bk_table.specs.Asking.{singles_behind}

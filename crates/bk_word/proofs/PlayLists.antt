@@ -1,6 +1,7 @@
--- Lists that the play of a word is made of: numbers in their order, and the signs that part segments.
-use Rattle.std.proofs.Common.{List, [], ap, filter, length, refl, suc, true, zero, ℕ, ◌+◌, ◌∷◌, ◌≡◌}
+-- Lists that the play of a word is made of: numbers in their order, the signs that part segments, and the place of the valley among them.
+use Rattle.std.proofs.Common.{List, [], ap, arith, filter, length, refl, suc, true, zero, ℕ, ◌+◌, ◌∷◌, ◌≡◌, ◌≤◌}
 use Rattle.std.specs.List.{AllByRecursion}
+use Rattle.bk_word.specs.Outline.{valley_place}
 use Rattle.bk_word.specs.Play.{numbers_from, parts}
 use Rattle.bk_word.specs.declared.Sign.{Sign}
 use Rattle.bk_word.specs.declared.Sign.TheVariants.{Above, Even, Under}
@@ -16,3 +17,10 @@ parts_filter [] = tt
 parts_filter (Above ∷ signs) = (refl, parts_filter signs)
 parts_filter (Even ∷ signs) = parts_filter signs
 parts_filter (Under ∷ signs) = (refl, parts_filter signs)
+
+-- the leftmost valley is one of the segments
+pub place_within : (signs : List Sign) → valley_place signs ≤ length signs
+place_within [] = omega arith
+place_within (Above ∷ signs) = omega arith
+place_within (Even ∷ signs) = omega (arith, place_within signs)
+place_within (Under ∷ signs) = omega (arith, place_within signs)

@@ -21,12 +21,13 @@ use Rattle.bk_word.specs.Play.{AreLegalFrom, after_move, after_moves}
 use Rattle.bk_word.specs.Word.{Move, Word}
 use Rattle.bk_lay.specs.Depiction.{IsNumbered}
 use Rattle.bk_word_net.proofs.BottomChain.{BottomChain, chain_level}
-use Rattle.bk_word_net.proofs.PlacedMoves.{Base, NextSides, ValleyAt, base_move, chain_move, more, next_sides}
+use Rattle.bk_word_net.proofs.PlacedMoves.{base_move, chain_move}
 use Rattle.bk_word_net.proofs.FilledValley.{valley_at}
 use Rattle.bk_word_net.proofs.FilledColumns.{columns_are_tiling}
 use Rattle.bk_word_net.proofs.FlowFacts.{HasSides, IsLater, drop_of, is_later}
 use Rattle.bk_word_net.proofs.NoLoose.{Played, played_move}
 use Rattle.bk_word_net.proofs.Numbering.{HasPlace, place_of_number}
+use Rattle.bk_word_net.proofs.NextSides.{Base, NextSides, ValleyAt, more, next_sides}
 use Rattle.bk_word_net.proofs.Sums.{get_side, out_sum}
 use Rattle.bk_word_net.proofs.Wires.{same_if_counted}
 use Rattle.bk_word_net.specs.WordNet.{end_of, net_after}
@@ -133,54 +134,55 @@ module _ (O : Outline) (played : Played O) (f : Flow) (flow : IsFlow (net_after 
         count = refl;
       }) (inl (refl, refl))
 
-  -- at the end
+-- and what these squares are at the end: a tiling
+module _ (O : Outline) (played : Played O) (f : Flow) (flow : IsFlow (net_after O) f) (s : HasSides f) (width : ℕ)
+    (width_is : width ≡ out_sum O.hung s.sides 0)
+    (all : List Square) (base : Base O played f flow s width width_is all O) (one : length O.segments ≡ 1) (chain : BottomChain all 0 (concat O.segments) width)
+    (some : 0 < width) where
+  -- the bottom of a square
+  pub bottom_at : (k : ℕ) (q : Square) → slice_get all k ≡ Some q → pos (q.y + q.s) ≡ potential f 0 -ℤ potential f (end_of (O.closed ++ O.segments) (1 + k))
+  bottom_at k q e = omega (arith, ints, base.tops k q e, drop_of O played.numbered f flow s k few, side)
+    where
+      few : k < length O.hung
+      few = omega (arith, slice_get_within all k q e, base.count)
 
-  module _ (all : List Square) (base : Base O played f flow s width width_is all O) (one : length O.segments ≡ 1)
-      (chain : BottomChain all 0 (concat O.segments) width) (some : 0 < width) where
-    -- the bottom of a square
-    pub bottom_at : (k : ℕ) (q : Square) → slice_get all k ≡ Some q → pos (q.y + q.s) ≡ potential f 0 -ℤ potential f (end_of (O.closed ++ O.segments) (1 + k))
-    bottom_at k q e = omega (arith, ints, base.tops k q e, drop_of O played.numbered f flow s k few, side)
-      where
-        few : k < length O.hung
-        few = omega (arith, slice_get_within all k q e, base.count)
+      side : slice_index_or s.sides k 0 ≡ q.s
+      side = index_got s.sides k q.s (subst (λ (l : List ℕ). slice_get l k ≡ Some q.s) (sym base.prefix)
+          (get_append (laid_sides all) base.rest k q.s (get_side all k q e)))
 
-        side : slice_index_or s.sides k 0 ≡ q.s
-        side = index_got s.sides k q.s (subst (λ (l : List ℕ). slice_get l k ≡ Some q.s) (sym base.prefix)
-            (get_append (laid_sides all) base.rest k q.s (get_side all k q e)))
+  height : ℕ
+  height = nat_abs (potential f 0 -ℤ potential f (length O.closed))
 
-    height : ℕ
-    height = nat_abs (potential f 0 -ℤ potential f (length O.closed))
+  only : (n : ℕ) (lists : List (List ℕ)) → length lists ≡ 1 → times_in n lists ≡ times n (slice_index_or lists 0 [])
+  only n [] e = absurd (omega arith)
+  only n (numbers ∷ []) e = omega arith
+  only n (numbers ∷ more ∷ lists) e = absurd (omega arith)
 
-    only : (n : ℕ) (lists : List (List ℕ)) → length lists ≡ 1 → times_in n lists ≡ times n (slice_index_or lists 0 [])
-    only n [] e = absurd (omega arith)
-    only n (numbers ∷ []) e = omega arith
-    only n (numbers ∷ more ∷ lists) e = absurd (omega arith)
+  ends_last : (n : ℕ) (q : Square) → 0 < times n (concat O.segments) → IsNumbered all n q
+      → q.y + q.s ≡ nat_abs (potential f 0 -ℤ potential f (length O.closed))
+  ends_last n q h (k, is, at) = ap nat_abs (bottom_at k q at ∙ ap (λ (v : ℕ). potential f 0 -ℤ potential f v) place)
+    where
+      p : HasPlace (1 + k) (O.closed ++ O.segments) (end_of (O.closed ++ O.segments) (1 + k))
+      p = place_of_number O played.numbered (1 + k) (omega arith) (omega (arith, slice_get_within all k q at, base.count))
 
-    ends_last : (n : ℕ) (q : Square) → 0 < times n (concat O.segments) → IsNumbered all n q
-        → q.y + q.s ≡ nat_abs (potential f 0 -ℤ potential f (length O.closed))
-    ends_last n q h (k, is, at) = ap nat_abs (bottom_at k q at ∙ ap (λ (v : ℕ). potential f 0 -ℤ potential f v) place)
-      where
-        p : HasPlace (1 + k) (O.closed ++ O.segments) (end_of (O.closed ++ O.segments) (1 + k))
-        p = place_of_number O played.numbered (1 + k) (omega arith) (omega (arith, slice_get_within all k q at, base.count))
+      number : 1 + k ≡ n
+      number = omega (arith, is)
 
-        number : 1 + k ≡ n
-        number = omega (arith, is)
+      stands : times (1 + k) (slice_index_or (O.closed ++ O.segments) (length O.closed) []) ≡ times n (concat O.segments)
+      stands = ap (times (1 + k)) (get_back O.closed O.segments 0 (length O.closed) [] (omega arith))
+          ∙ (λ i. times (number i) (slice_index_or O.segments 0 [])) ∙ sym (only n O.segments one) ∙ sym (times-concat n O.segments)
 
-        stands : times (1 + k) (slice_index_or (O.closed ++ O.segments) (length O.closed) []) ≡ times n (concat O.segments)
-        stands = ap (times (1 + k)) (get_back O.closed O.segments 0 (length O.closed) [] (omega arith))
-            ∙ (λ i. times (number i) (slice_index_or O.segments 0 [])) ∙ sym (only n O.segments one) ∙ sym (times-concat n O.segments)
+      place : end_of (O.closed ++ O.segments) (1 + k) ≡ length O.closed
+      place = same_if_counted (end_of (O.closed ++ O.segments) (1 + k)) (length O.closed) (omega (arith, h, stands, p.counts (length O.closed)))
 
-        place : end_of (O.closed ++ O.segments) (1 + k) ≡ length O.closed
-        place = same_if_counted (end_of (O.closed ++ O.segments) (1 + k)) (length O.closed) (omega (arith, h, stands, p.counts (length O.closed)))
+  -- at the end all columns are as deep as the potential drops
+  pub all_deep : (c : ℕ) → c < width → depth all c ≡ nat_abs (potential f 0 -ℤ potential f (length O.closed))
+  all_deep c h = (chain_level all (nat_abs (potential f 0 -ℤ potential f (length O.closed))) 0 (concat O.segments) width chain ends_last).1 c (omega arith) h
 
-    -- at the end all columns are as deep as the potential drops
-    pub all_deep : (c : ℕ) → c < width → depth all c ≡ nat_abs (potential f 0 -ℤ potential f (length O.closed))
-    all_deep c h = (chain_level all (nat_abs (potential f 0 -ℤ potential f (length O.closed))) 0 (concat O.segments) width chain ends_last).1 c (omega arith) h
+  -- the rectangle of these squares
+  abbrev pub built : Tiling
+  built = record { width = width; height = nat_abs (potential f 0 -ℤ potential f (length O.closed)); squares = in_code_order all }
 
-    -- the rectangle of these squares
-    abbrev pub built : Tiling
-    built = record { width = width; height = nat_abs (potential f 0 -ℤ potential f (length O.closed)); squares = in_code_order all }
-
-    -- it is a tiling
-    pub is_tiling : 0 < length all → IsTiling built
-    is_tiling = columns_are_tiling width (nat_abs (potential f 0 -ℤ potential f (length O.closed))) all base.inside base.filled all_deep
+  -- it is a tiling
+  pub is_tiling : 0 < length all → IsTiling built
+  is_tiling = columns_are_tiling width (nat_abs (potential f 0 -ℤ potential f (length O.closed))) all base.inside base.filled all_deep

@@ -21,10 +21,10 @@ use Rattle.bk_word_net.proofs.BottomChain.{BottomChain, chain_least, chain_level
 use Rattle.bk_word_net.proofs.FlowFacts.{HasSides, IsLater, balance, drop_of}
 use Rattle.bk_word_net.proofs.NoLoose.{Played}
 use Rattle.bk_word_net.proofs.Numbering.{HasPlace, place_of_number}
+use Rattle.bk_word_net.proofs.NextSides.{Base, ValleyAt, hung_is, more, next_sides}
 use Rattle.bk_word_net.proofs.Sums.{get_side, out_sum, positive_total, span_sum_of, weighted, weighted_nil}
 use Rattle.bk_word_net.proofs.Wires.{first_counted, same_if_counted}
 use Rattle.bk_word_net.specs.WordNet.{end_of, net_after}
-use Rattle.bk_word_net.proofs.PlacedMoves.{Base, ValleyAt, hung_is, more, next_sides}
 
 module _ (O : Outline) (played : Played O) (f : Flow) (flow : IsFlow (net_after O) f) (s : HasSides f) (width : ℕ)
     (width_is : width ≡ out_sum O.hung s.sides 0) where

@@ -18,10 +18,12 @@ pub mod PrimitiveTiling
 pub mod BottomChain
 pub mod FlowFacts
 pub mod FilledColumns
+pub mod NextSides
 pub mod PlacedMoves
 pub mod FilledValley
 pub mod Built
 pub mod PlacedValley
+pub mod MoveBottoms
 pub mod FlowWord
 pub mod FlowTilings
 pub mod AlikeBottoms
@@ -33,6 +35,7 @@ pub mod ExactNodes
 pub mod CellGroups
 pub mod WordNodes
 pub mod WordSquares
+pub mod WordEnds
 pub mod Renumbering
 -- squares laid move by move, with the outline that shows them
 pub mod OutlineParts

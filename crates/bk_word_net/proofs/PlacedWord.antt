@@ -31,7 +31,6 @@ use Rattle.bk_lay.specs.TilingWord.{IsLeftmostValley, IsWordOf, MovesFollow, bot
 use Rattle.bk_word_net.proofs.AlongWord.{Along, HasBegun, NotBegun, along_move, along_start, top_valley}
 use Rattle.bk_word_net.proofs.FlowFacts.{IsLater, is_later}
 use Rattle.bk_word_net.proofs.PlacedValley.{IsPlacing}
-use Rattle.bk_word_net.proofs.FlowWord.{bottoms_are}
 use Rattle.bk_word_net.proofs.NoLoose.{Played, hung_number, played_move, played_start}
 use Rattle.bk_word_net.proofs.Sums.{positive_sides}
 use Rattle.bk_word_net.specs.FlowTiling.{AWordOfATilingIsPlaced, PlacesWord, SignsCompare, bottom_in, bottoms_of_move}
@@ -40,6 +39,7 @@ use Rattle.bk_word_net.specs.WordNet.{net_after}
 use Rattle.bk_word_net.proofs.GrownAlike.{along_prefix}
 use Rattle.bk_word_net.proofs.AlikeBottoms.{bottoms_alike, signs_scaled}
 use Rattle.bk_word_net.proofs.PlacedSides.{alike, bottom_is, complete, currents, e, proportion, tl}
+use Rattle.bk_word_net.proofs.MoveBottoms.{bottoms_are}
 
 module _ (t : Tiling) (w : Word) (f : Flow) (tiling : IsTiling t) (p : IsWordOf t w) (flow : IsFlow (net_after (outline_of w)) f) (all : ℕ)
     (some : 0 < all) (total_is : f.total ≡ pos all) where

@@ -5,7 +5,7 @@ use Rattle.std.proofs.Common.{slice_index_or, subst, suc, sym, true, zero, ℕ, 
 use Rattle.std.proofs.lemmas.Bool.{both_ways, cases_lt}
 use Rattle.std.proofs.lemmas.List.{length-map}
 use Rattle.bk_laws.proofs.Occurrences.{times}
-use Rattle.bk_laws.proofs.ListPlaces.{get_after, get_append, get_map}
+use Rattle.bk_laws.proofs.ListPlaces.{get_after, get_append, get_either, get_map}
 use Rattle.bk_tiling.specs.Tiling.{IsOneOf}
 use Rattle.bk_tiling.specs.declared.Square.{Square}
 use Rattle.bk_tiling.proofs.Groups.{row_of}
@@ -14,7 +14,6 @@ use Rattle.bk_net.proofs.SmithLists.{group_wires}
 use Rattle.bk_lay.proofs.LaidRuns.{one_of}
 use Rattle.bk_lay.proofs.WordPlay.{NoneTwice, fewer}
 use Rattle.bk_lay.specs.Depiction.{IsNumbered, Span}
-use Rattle.bk_word_net.proofs.PlacedMoves.{get_either}
 use Rattle.bk_word_net.proofs.Wires.{same_or_none, wires_by}
 
 -- ---- numbers counted as squares, to compare how many there are
@@ -135,9 +134,9 @@ wire_at below n (g ∷ groups) j q e = cases (get_either g (row_of groups) j q e
     zeroth : n ≡ n + 0
     zeroth = omega arith
 
-    cases : ((j < length g) × (slice_get g j ≡ Some q)) ⊎ ((i : ℕ) × (j ≡ length g + i) × (slice_get (row_of groups) i ≡ Some q))
+    cases : (slice_get g j ≡ Some q) ⊎ ((i : ℕ) × (j ≡ length g + i) × (slice_get (row_of groups) i ≡ Some q))
         → ((j : ℕ) (q : Square) → slice_get (row_of groups) j ≡ Some q → WireAt below (n + 1) groups j q) → WireAt below n (g ∷ groups) j q
-    cases (inl (h, f)) rest = record {
+    cases (inl f) rest = record {
       place = 0;
       group = g;
       is = refl;

@@ -33,10 +33,11 @@ use Rattle.bk_word_net.specs.Renumbering.{IsRenumbering, WordNetIsSmithDiagram}
 use Rattle.bk_word_net.specs.WordNet.{end_of, net_of_word}
 use Rattle.bk_word_net.proofs.PlacesInLists.{WireAt, one_index, pos_found, wire_at, wires_got}
 use Rattle.bk_word_net.proofs.CellGroups.{complete, heads, in_place, laid_in}
-use Rattle.bk_word_net.proofs.WordNodes.{hung_group}
-use Rattle.bk_word_net.proofs.WordSquares.{all_in_laid, as_many, closed_is, ends_there, hung_is}
 use Rattle.bk_word_net.proofs.CellGroups.{laid_once}
+use Rattle.bk_word_net.proofs.WordNodes.{hung_group}
 use Rattle.bk_word_net.proofs.WordNodes.{node_apart, node_below_groups, node_last, node_of_word, node_run}
+use Rattle.bk_word_net.proofs.WordSquares.{all_in_laid, as_many, closed_is, hung_is}
+use Rattle.bk_word_net.proofs.WordEnds.{ends_there}
 
 module _ (t : Tiling) (w : Word) (tiling : IsTiling t) (p : IsWordOf t w) where
   abbrev e : ExactEnd t (outline_of w)

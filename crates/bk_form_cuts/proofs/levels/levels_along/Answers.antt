@@ -3,8 +3,8 @@ use Rattle.bk_word.specs.Play.{outline_of}
 use Rattle.bk_word.specs.Word.{Move}
 use Rattle.bk_skel.specs.Valley.{Valley}
 use Rattle.bk_forms.specs.Form.{Form as SeenForm, with_side}
-use Rattle.bk_form_cuts.proofs.Segments.{beside_short, levels_are, numbers_are, place_within}
-use Rattle.bk_word.proofs.PlayLists.{numbers-length}
+use Rattle.bk_form_cuts.proofs.Segments.{beside_short, levels_are, numbers_are}
+use Rattle.bk_word.proofs.PlayLists.{numbers-length, place_within}
 use Rattle.bk_form_cuts.proofs.SmallForms.{small_level, small_more}
 use Rattle.bk_form_cuts.specs.SideForms.{level_of}
 use Rattle.bk_form_cuts.specs.Trace.{IsSmall}

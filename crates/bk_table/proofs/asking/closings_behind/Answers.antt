@@ -1,6 +1,6 @@
 use Rattle.std.proofs.Common.{arith}
 use Rattle.bk_word.specs.Play.{outline_of}
-use Rattle.bk_bounds.proofs.SingleLaws.{place_within}
+use Rattle.bk_word.proofs.PlayLists.{place_within}
 use Rattle.bk_table.proofs.asking.closings_behind.Goals as goal
 
 pub line_bound_behind-requires : goal.line_bound_behind-requires
