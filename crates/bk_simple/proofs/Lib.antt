@@ -6,6 +6,7 @@ pub mod Counting
 pub mod UncutParts
 pub mod PartCorners
 pub mod Parts
+pub mod CornerOrder
 pub mod PartTrials
 pub mod Reaching
 pub mod Repeats

@@ -1,25 +1,20 @@
--- The squares at the corners of a part: no square lies across its border, and the one at the
--- bottom right stands behind the one at the top left.
-use Rattle.std.specs.Prelude.{IsTrue, count_by, false, filter, get_or, length, max, refl, true, ℕ, ◌&&◌, ◌+◌, ◌-◌, ◌<◌, ◌==◌, ◌||◌, ◌≡◌, ◌≤◌, ◌⊎◌}
+-- The squares at the corners of a part, and that no square lies across its border.
+use Rattle.std.specs.Prelude.{IsTrue, count_by, false, filter, get_or, length, max, true, ℕ, ◌&&◌, ◌+◌, ◌-◌, ◌<◌, ◌==◌, ◌||◌, ◌≡◌, ◌⊎◌}
 use Rattle.std.proofs.Common.{ap, arith, inl, inr, sym, ◌∙◌}
-use Rattle.std.proofs.lemmas.Bool.{and_parts, both_ways, cases_Bool, cases_eq, cases_lt, eqb-true, false_from_ne_true, or_left, or_right, true_from_ne_false}
+use Rattle.std.proofs.lemmas.Bool.{and_parts, both_ways, cases_Bool, eqb-true, false_from_ne_true, or_left, or_right}
 use Rattle.std.proofs.lemmas.List.Elements.{All-from_recursion}
 use Rattle.std.proofs.lemmas.List.Sums.{length-filter, list_all-from_AllPass, passes_at_first}
-use Rattle.std.proofs.lemmas.Bool.Decides.{nat_tests}
 use Rattle.bk_tiling.proofs.Cells.{IsOver, covers_from, over_from}
-use Rattle.bk_tiling.proofs.Places.{later_place}
-use Rattle.bk_tiling.specs.CodeOrder.{comes_before}
 use Rattle.bk_tiling.proofs.TilingLaws.{cell_once}
 use Rattle.bk_tiling.specs.Tiling.{IsTiling, IsWithin, Rectangle, Tiling, covers, whole}
 use Rattle.bk_tiling.specs.declared.Square.{Square}
-use Rattle.bk_simple.proofs.Repeats.{IsTwice, twice_from_count}
 use Rattle.bk_simple.proofs.SimpleLaws.{count_filter-lt}
 use Rattle.bk_simple.proofs.SimpleTest.{all_selected, first_corner, has_cell, last_corner, same_selection, selected_within}
 use Rattle.bk_simple.specs.Border.{IsUncut, is_inside, is_outside}
 use Rattle.bk_simple.specs.Simple.{IsPart, bottom_right, top_left}
 use Rattle.bk_simple.specs.Corners.{IsBetween}
-use Rattle.bk_simple.proofs.UncutParts.{Meets, inside_from, inside_means, meets_from, one_over, side_at, within_at}
-use Rattle.bk_simple.proofs.PartCorners.{covers_first, equal_both, first_below}
+use Rattle.bk_simple.proofs.UncutParts.{Meets, inside_from, meets_from, side_at, within_at}
+use Rattle.bk_simple.proofs.PartCorners.{equal_both, first_below}
 
 module _ (t : Tiling) (r : Rectangle) (tiling : IsTiling t) (part : IsPart t r) where
   abbrev none : Square
@@ -35,6 +30,7 @@ module _ (t : Tiling) (r : Rectangle) (tiling : IsTiling t) (part : IsPart t r) 
   last_place : (k : ℕ) × (k < length t.squares) × IsTrue (part.pick (at k)) × IsTrue (covers (r.x + r.width - 1) (r.y + r.height - 1) (at k))
   last_place = last_corner t r tiling part
 
+  -- there is a square at the top left corner
   pub top_left_below : top_left t r < length t.squares
   top_left_below =
       let q : Square = at first_place.0 in
@@ -43,6 +39,7 @@ module _ (t : Tiling) (r : Rectangle) (tiling : IsTiling t) (part : IsPart t r) 
       first_below (λ q. (q.x == r.x) && (q.y == r.y)) t.squares first_place.0 none first_place.1
       (equal_both q.x r.x q.y r.y (omega (arith, p.left, c.left)) (omega (arith, p.top, c.top)))
 
+  -- and one at the bottom right corner
   pub bottom_right_below : bottom_right t r < length t.squares
   bottom_right_below =
       let q : Square = at last_place.0 in
@@ -53,6 +50,7 @@ module _ (t : Tiling) (r : Rectangle) (tiling : IsTiling t) (part : IsPart t r) 
       (equal_both (q.x + q.s) (r.x + r.width) (q.y + q.s) (r.y + r.height) (omega (arith, p.right, c.right, cell.0))
       (omega (arith, p.bottom, c.bottom, cell.1)))
 
+  -- the part reaches from the corner of the first to that of the second
   pub between_corners : (d : Square) → IsBetween (get_or t.squares (top_left t r) d) (get_or t.squares (bottom_right t r) d) r
   between_corners d =
       let first = and_parts _ _ (passes_at_first (λ q. (q.x == r.x) && (q.y == r.y)) t.squares d top_left_below) in
@@ -102,88 +100,3 @@ module _ (t : Tiling) (r : Rectangle) (tiling : IsTiling t) (part : IsPart t r) 
       each k d few (inl h) other = or_left _ _ h
       each k d few (inr h) (inl o) = or_right _ _ o
       each k d few (inr h) (inr o) = absurd (across k d few h (meets_from r (get_or t.squares k d) o))
-
-  -- the square at the bottom right corner doesn't stand before that at the top left one
-  pub corners_in_order : top_left t r ≤ bottom_right t r
-  corners_in_order = cases (cases_lt (top_left t r) (bottom_right t r))
-    where
-      p : Square
-      p = at (top_left t r)
-
-      q : Square
-      q = at (bottom_right t r)
-
-      corners : IsBetween p q r
-      corners = between_corners none
-
-      inside : is_inside r q ≡ true
-      inside = true_from_ne_false (is_inside r q) (λ cut. across (bottom_right t r) none bottom_right_below cut (record {
-        left = omega (arith, corners.right, corners.wide);
-        right = omega (arith, corners.right, side_at t tiling (bottom_right t r) none bottom_right_below);
-        top = omega (arith, corners.bottom, corners.high);
-        bottom = omega (arith, corners.bottom, side_at t tiling (bottom_right t r) none bottom_right_below);
-      }))
-
-      not_before : comes_before q p ≡ true → ⊥
-      not_before e = let within = inside_means r q inside in grind (arith, nat_tests, e, within.left, within.top, corners.left, corners.top)
-
-      cases : (top_left t r < bottom_right t r) ⊎ (bottom_right t r ≤ top_left t r) → top_left t r ≤ bottom_right t r
-      cases (inl up) = omega arith
-      cases (inr down) = equal_or (cases_eq (bottom_right t r) (top_left t r))
-        where
-          equal_or : (bottom_right t r ≡ top_left t r) ⊎ (bottom_right t r ≡ top_left t r → ⊥) → top_left t r ≤ bottom_right t r
-          equal_or (inl same) = omega (arith, same)
-          equal_or (inr other) =
-              absurd (not_before (later_place t.squares tiling.ordered (bottom_right t r) (top_left t r) none (omega (arith, down, other)) top_left_below))
-
-  -- nor is it that square: it would be the part, and hold two squares
-  pub corners_apart : top_left t r < bottom_right t r
-  corners_apart = cases (cases_eq (top_left t r) (bottom_right t r))
-    where
-      q : Square
-      q = at (top_left t r)
-
-      twice : IsTwice (is_inside r) t.squares none
-      twice = twice_from_count (is_inside r) t.squares none (omega (arith, count_of_part, part.several))
-
-      alone : (k : ℕ) → k < length t.squares → is_inside r (at k) ≡ true → top_left t r ≡ bottom_right t r → (k ≡ top_left t r → ⊥) → ⊥
-      alone k below inside same other = two (cases_lt k (top_left t r))
-        where
-          corners : IsBetween q (at (bottom_right t r)) r
-          corners = between_corners none
-
-          width_is : r.x + r.width ≡ q.x + q.s
-          width_is = corners.right ∙ ap (λ n. (at n).x + (at n).s) (sym same)
-
-          height_is : r.y + r.height ≡ q.y + q.s
-          height_is = corners.bottom ∙ ap (λ n. (at n).y + (at n).s) (sym same)
-
-          within : IsWithin r (at k)
-          within = inside_means r (at k) inside
-
-          side : 0 < (at k).s
-          side = side_at t tiling k none below
-
-          own : covers (at k).x (at k).y (at k) ≡ true
-          own = covers_first (at k) (at k).x (at k).y side refl refl
-
-          over : covers (at k).x (at k).y q ≡ true
-          over = covers_from (at k).x (at k).y q (omega (arith, corners.left, within.left)) (omega (arith, width_is, within.right, side))
-              (omega (arith, corners.top, within.top)) (omega (arith, height_is, within.bottom, side))
-
-          bounds : IsWithin (whole t) (at k)
-          bounds = within_at t tiling k none below
-
-          two : (k < top_left t r) ⊎ (top_left t r ≤ k) → ⊥
-          two (inl before) = one_over t tiling (at k).x (at k).y k (top_left t r) none (omega (arith, bounds.right, side))
-              (omega (arith, bounds.bottom, side)) before top_left_below own over
-          two (inr behind) = one_over t tiling (at k).x (at k).y (top_left t r) k none (omega (arith, bounds.right, side))
-              (omega (arith, bounds.bottom, side)) (omega (arith, behind, other)) below over own
-
-      cases : (top_left t r ≡ bottom_right t r) ⊎ (top_left t r ≡ bottom_right t r → ⊥) → top_left t r < bottom_right t r
-      cases (inl same) = absurd (one_of (cases_eq twice.first (top_left t r)))
-        where
-          one_of : (twice.first ≡ top_left t r) ⊎ (twice.first ≡ top_left t r → ⊥) → ⊥
-          one_of (inl first) = alone twice.second twice.below twice.other same (λ e. omega (arith, twice.apart, first, e))
-          one_of (inr other) = alone twice.first (omega (arith, twice.apart, twice.below)) twice.one same other
-      cases (inr other) = let low : top_left t r ≤ bottom_right t r = corners_in_order in omega (arith, low, other)
