@@ -1,10 +1,10 @@
 -- The net of the word of a layout is the layout's net: nodes by the order of closing, squares by that of hanging.
 use Rattle.std.specs.List.{AllZip}
-use Rattle.std.proofs.Common.{List, Some, [], ap, arith, inl, inr, length, map, option_map, refl, slice_get, slice_index_or, subst, suc, sym, zero}
-use Rattle.std.proofs.Common.{ℕ, ◌++◌, ◌+◌, ◌-◌, ◌<◌, ◌∙◌, ◌∷◌, ◌≡◌, ◌≤◌, ◌⊎◌}
-use Rattle.std.proofs.lemmas.List.{length-append, length-map, map-append}
-use Rattle.bk_laws.proofs.Occurrences.{times, times-append}
-use Rattle.bk_laws.proofs.ListPlaces.{get_append, get_last, get_map, index_got, got_index}
+use Rattle.std.proofs.Common.{List, Some, [], ap, arith, inl, inr, length, map, option_map, refl, slice_get, slice_index_or, subst, suc, sym, zero, ℕ, ◌++◌}
+use Rattle.std.proofs.Common.{◌+◌, ◌-◌, ◌<◌, ◌∙◌, ◌∷◌, ◌≡◌, ◌⊎◌}
+use Rattle.std.proofs.lemmas.List.{length-map, map-append}
+use Rattle.bk_laws.proofs.Occurrences.{times}
+use Rattle.bk_laws.proofs.ListPlaces.{get_append, get_map, index_got}
 use Rattle.bk_laws.proofs.Tests.{same_or_other}
 use Rattle.bk_word.proofs.PlayLists.{numbers-length}
 use Rattle.bk_word.specs.Outline.{Outline, start}
@@ -15,12 +15,13 @@ use Rattle.bk_word_net.proofs.Shape.{hung_many}
 use Rattle.bk_word_net.proofs.Wires.{wires_length}
 use Rattle.bk_word_net.specs.Renumbering.{IsRenumbering}
 use Rattle.bk_word_net.specs.WordNet.{end_of, net_after}
-use Rattle.bk_layout.proofs.Counting.{got_times, none_for, one_for, times_got, times_once}
+use Rattle.bk_layout.proofs.Counting.{none_for, one_for, times_got}
 use Rattle.bk_layout.proofs.SquareLists.{lists_at, sq_of}
 use Rattle.bk_layout.proofs.Sweep.{State}
-use Rattle.bk_layout.proofs.SweepEnd.{Ended, WholeSweep, done_many, is_laid, laid_many, one_segment, sweep}
+use Rattle.bk_layout.proofs.SweepEnd.{Ended, WholeSweep, laid_many, one_segment, sweep}
 use Rattle.bk_layout.proofs.Turning.{AtLeft, walls_of}
 use Rattle.bk_layout.proofs.Chains.{Chain}
+use Rattle.bk_layout.proofs.LayoutNumbers.{closed_many, first_node, hung_is, last_node, node_apart, node_low, square_apart, square_low}
 use Rattle.bk_layout.specs.Layout.{Fits, IsFirst, IsLast, Layout, net_of_layout}
 use Rattle.bk_layout.specs.LayoutLaws.{ALayoutHasAFreeWord, IsWordOfLayout}
 
@@ -54,7 +55,6 @@ numbers_got from zero (suc n) h = ap (λ (x : ℕ). Some x) (omega arith)
 numbers_got from (suc k) (suc n) h = numbers_got (from + 1) k n (omega arith) ∙ ap (λ (x : ℕ). Some x) (omega arith)
 
 module _ (l : Layout) (fits : Fits l) (o : Outline) (st : State l o) (end : Ended l o st) where
-  -- all nodes in the order of closing, the bottom last
   abbrev all_nodes : List ℕ
   all_nodes = st.done ++ (l.bottom ∷ [])
 
@@ -66,78 +66,11 @@ module _ (l : Layout) (fits : Fits l) (o : Outline) (st : State l o) (end : Ende
   abbrev pub square : ℕ → ℕ
   square k = slice_index_or st.laid k 0
 
-  closed_many : length o.closed ≡ l.bottom
-  closed_many = sym (length-map o.closed (map (sq_of st.laid))) ∙ ap length st.closed ∙ length-map st.done l.ending ∙ done_many l fits o st end
-
-  nodes_many : length all_nodes ≡ l.bottom + 1
-  nodes_many = omega (arith, length-append st.done (l.bottom ∷ []), done_many l fits o st end)
-
-  hung_is : length o.hung ≡ l.squares
-  hung_is = sym st.long ∙ laid_many l fits o st end
-
   word_wires : length (net_after o).wires ≡ l.squares
-  word_wires = wires_length (end_of (o.closed ++ o.segments)) 1 o.hung ∙ hung_is
+  word_wires = wires_length (end_of (o.closed ++ o.segments)) 1 o.hung ∙ hung_is l fits o st end
 
   layout_wires : length (net_of_layout l).wires ≡ l.squares
   layout_wires = length-map (numbers_from 0 l.squares) (λ (q : ℕ). (l.above q, l.below q)) ∙ numbers-length 0 l.squares
-
-  -- ---- squares
-
-  square_got : (k : ℕ) → k < l.squares → slice_get st.laid k ≡ Some (square k)
-  square_got k h = got_index st.laid k (omega (arith, h, laid_many l fits o st end))
-
-  square_low : (k : ℕ) → k < l.squares → square k < l.squares
-  square_low k h = st.laid_low (square k) (got_times st.laid k (square k) (square_got k h))
-
-  square_apart : (j k : ℕ) → j < l.squares → k < l.squares → square j ≡ square k → j ≡ k
-  square_apart j k a b e = times_once st.laid (square k) (omega (arith, is_laid l fits o st end (square k) (square_low k b))) j k
-      (square_got j a ∙ ap (λ (x : ℕ). Some x) e) (square_got k b)
-
-  -- ---- nodes
-
-  bottom_open : (n : ℕ) → times l.bottom st.done ≡ n → n ≡ 0
-  bottom_open zero e = refl
-  bottom_open (suc n) e = absurd (omega (arith, st.done_low l.bottom (omega (arith, e))))
-
-  nodes_once : (v : ℕ) → times v all_nodes ≤ 1
-  nodes_once v = cases (same_or_other v l.bottom)
-    where
-      cases : (v ≡ l.bottom) ⊎ (v ≡ l.bottom → ⊥) → times v all_nodes ≤ 1
-      cases (inl e) = omega (
-        arith,
-        times-append v st.done (l.bottom ∷ []),
-        one_for v l.bottom e,
-        ap (λ (u : ℕ). times u st.done) e,
-        bottom_open (times l.bottom st.done) refl,
-      )
-      cases (inr e) = omega (arith, times-append v st.done (l.bottom ∷ []), none_for v l.bottom e, st.done_once v)
-
-  nodes_low : (v : ℕ) → 0 < times v all_nodes → v < l.bottom + 1
-  nodes_low v h = cases (same_or_other v l.bottom)
-    where
-      cases : (v ≡ l.bottom) ⊎ (v ≡ l.bottom → ⊥) → v < l.bottom + 1
-      cases (inl e) = omega (arith, e)
-      cases (inr e) = omega (arith, st.done_low v (omega (arith, h, times-append v st.done (l.bottom ∷ []), none_for v l.bottom e)))
-
-  node_got : (k : ℕ) → k < l.bottom + 1 → slice_get all_nodes k ≡ Some (node k)
-  node_got k h = got_index all_nodes k (omega (arith, h, nodes_many))
-
-  node_low : (k : ℕ) → k < l.bottom + 1 → node k < l.bottom + 1
-  node_low k h = nodes_low (node k) (got_times all_nodes k (node k) (node_got k h))
-
-  node_apart : (j k : ℕ) → j < l.bottom + 1 → k < l.bottom + 1 → node j ≡ node k → j ≡ k
-  node_apart j k a b e = times_once all_nodes (node k) (nodes_once (node k)) j k (node_got j a ∙ ap (λ (x : ℕ). Some x) e) (node_got k b)
-
-  first_node : node 0 ≡ 0
-  first_node = index_got all_nodes 0 0 (get_append st.done (l.bottom ∷ []) 0 0 st.top)
-
-  last_node : (k : ℕ) → suc k ≡ l.bottom + 1 → node k ≡ k
-  last_node k h = index_got all_nodes k l.bottom ((λ i. slice_get all_nodes (same i)) ∙ get_last st.done l.bottom []) ∙ omega (arith, h)
-    where
-      same : k ≡ length st.done
-      same = omega (arith, h, done_many l fits o st end)
-
-  -- ---- each wire
 
   from_node : (k : ℕ) → k < l.squares → node (slice_index_or o.hung k 0) ≡ l.above (square k)
   from_node k h = index_got all_nodes (slice_index_or o.hung k 0) (l.above (square k))
@@ -148,7 +81,7 @@ module _ (l : Layout) (fits : Fits l) (o : Outline) (st : State l o) (end : Ende
   lists_are = map-append (map (sq_of st.laid)) o.closed o.segments ∙ (λ i. st.closed i ++ end.one i) ∙ sym (map-append l.ending st.done (l.bottom ∷ []))
 
   to_node : (k : ℕ) → k < l.squares → node (end_of (o.closed ++ o.segments) (1 + k)) ≡ l.below (square k)
-  to_node k h = at (end_of (o.closed ++ o.segments) (1 + k)) (place_of_number o st.numbered (1 + k) (omega arith) (omega (arith, h, hung_is)))
+  to_node k h = at (end_of (o.closed ++ o.segments) (1 + k)) (place_of_number o st.numbered (1 + k) (omega arith) (omega (arith, h, hung_is l fits o st end)))
     where
       as_index : 1 + k - 1 ≡ k
       as_index = omega arith
@@ -173,10 +106,11 @@ module _ (l : Layout) (fits : Fits l) (o : Outline) (st : State l o) (end : Ende
   each : (k : ℕ) → k < l.squares → slice_get (net_of_layout l).wires (square k)
       ≡ option_map (λ (x : ℕ × ℕ). (node x.0, node x.1)) (slice_get (net_after o).wires k)
   each k h = there ∙ (λ i. Some (sym (from_node k h) i, sym (to_node k h) i))
-      ∙ sym (ap (option_map (λ (x : ℕ × ℕ). (node x.0, node x.1))) (wires_got (end_of (o.closed ++ o.segments)) 1 o.hung k (omega (arith, h, hung_is))))
+      ∙ sym (ap (option_map (λ (x : ℕ × ℕ). (node x.0, node x.1)))
+      (wires_got (end_of (o.closed ++ o.segments)) 1 o.hung k (omega (arith, h, hung_is l fits o st end))))
     where
       number : slice_get (numbers_from 0 l.squares) (square k) ≡ Some (square k)
-      number = numbers_got 0 (square k) l.squares (square_low k h) ∙ ap (λ (x : ℕ). Some x) (omega arith)
+      number = numbers_got 0 (square k) l.squares (square_low l fits o st end k h) ∙ ap (λ (x : ℕ). Some x) (omega arith)
 
       there : slice_get (net_of_layout l).wires (square k) ≡ Some (l.above (square k), l.below (square k))
       there = get_map (λ (q : ℕ). (l.above q, l.below q)) (numbers_from 0 l.squares) (square k) (square k) number
@@ -184,26 +118,22 @@ module _ (l : Layout) (fits : Fits l) (o : Outline) (st : State l o) (end : Ende
   -- by these numbers the net of the outline is the layout's net
   pub renumbering : IsRenumbering (net_after o) (net_of_layout l) node square
   renumbering = record {
-    nodes = omega (arith, closed_many);
+    nodes = omega (arith, closed_many l fits o st end);
     wires = word_wires ∙ sym layout_wires;
     node_apart = record {
-      below = λ k h. omega (arith, closed_many, node_low k (omega (arith, h, closed_many)));
+      below = λ k h. omega (arith, closed_many l fits o st end, node_low l fits o st end k (omega (arith, h, closed_many l fits o st end)));
       apart =
-          λ j k a b e. node_apart j k (omega (arith, a, closed_many)) (omega (arith, b, closed_many)) e;
+          λ j k a b e. node_apart l fits o st end j k (omega (arith, a, closed_many l fits o st end)) (omega (arith, b, closed_many l fits o st end)) e;
     };
     wire_apart = record {
-      below = λ k h. omega (arith, word_wires, square_low k (omega (arith, h, word_wires)));
+      below = λ k h. omega (arith, word_wires, square_low l fits o st end k (omega (arith, h, word_wires)));
       apart =
-          λ j k a b e. square_apart j k (omega (arith, a, word_wires)) (omega (arith, b, word_wires)) e;
+          λ j k a b e. square_apart l fits o st end j k (omega (arith, a, word_wires)) (omega (arith, b, word_wires)) e;
     };
-    first = first_node;
-    last = λ k h. last_node k (omega (arith, h, closed_many));
+    first = first_node l fits o st end;
+    last = λ k h. last_node l fits o st end k (omega (arith, h, closed_many l fits o st end));
     each = λ k h. each k (omega (arith, h, word_wires));
   }
-
-  -- all squares of the layout are hung
-  pub hung_many_is : length o.hung ≡ l.squares
-  hung_many_is = hung_is
 
 last_segment : (f : ℕ → ℕ) (segments : List (List ℕ)) (s : List ℕ) → map (map f) segments ≡ s ∷ [] → map f (slice_index_or segments 0 []) ≡ s
 last_segment f [] s e = absurd (omega (arith, ap length e))
@@ -213,7 +143,7 @@ last_segment f (x ∷ segments) s e = ap (λ (y : List (List ℕ)). slice_index_
 pub word_of_sweep : (l : Layout) → Fits l → (s : WholeSweep l) → IsWordOfLayout l s.word
 word_of_sweep l fits s = record {
   complete = record { legal = s.legal; some = s.some; one = one_segment l fits (outline_of s.word) s.last s.end };
-  order = omega (arith, hung_many start s.word, hung_many_is l fits (outline_of s.word) s.last s.end);
+  order = omega (arith, hung_many start s.word, hung_is l fits (outline_of s.word) s.last s.end);
   free = s.free;
   no_twins = s.no_twins;
   first_count = s.first_count;

@@ -82,9 +82,11 @@ module _ (l : Layout) (fits : Fits l) (o : Outline) (st : State l o) (v : AtVall
   marks_are : signs_apart o step ≡ apart_marks
   marks_are = apart_signs o v step (legal l fits o st v at low h)
 
+  -- the segments after the move are those apart, joined where the signs are even
   pub after_is : lists_at laid_then (after_move o step).segments ≡ joined apart_marks apart
   after_is = map_joined (sq_of laid_then) (signs_apart o step) (segments_apart o step) ∙ (λ i. joined (marks_are i) (apart_is i))
 
+  -- the open squares after the move are a chain from wall to wall, with its signs between
   pub chain_then : Chain l (after_move o step).signs (lists_at laid_then (after_move o step).segments) × AtLeft l (lists_at laid_then (after_move o
       step).segments)
   chain_then = subst (λ (x : List (List ℕ)). Chain l (after_move o step).signs x × AtLeft l x) (sym after_is)
