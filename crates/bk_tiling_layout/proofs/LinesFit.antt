@@ -7,10 +7,10 @@ use Rattle.bk_tiling_layout.proofs.AscendingPlaces.{AreNext, next_from}
 use Rattle.bk_tiling_layout.proofs.LineNumbers.{number_left, number_right}
 use Rattle.bk_tiling_layout.proofs.NodeLaws.{beside}
 use Rattle.bk_tiling_layout.proofs.NodeLines.{one_left_line, one_right_line}
+use Rattle.bk_tiling_layout.proofs.NodeCorners.{first_of_ended, first_of_hung, last_of_ended, last_of_hung, over_hung}
 use Rattle.bk_layout.specs.Layout.{AreLines, AreNeighbours, IsFirst, IsLast}
 use Rattle.bk_tiling_layout.specs.TilingLayout.{from_left, layout_of, line_number, node_above, square_of}
-use Rattle.bk_tiling_layout.proofs.TilingSquares.{ended_from, first_of_ended, first_of_hung, hung, hung_from, hung_node, hung_one, in_square, key}
-use Rattle.bk_tiling_layout.proofs.TilingSquares.{last_of_ended, last_of_hung, over_hung, wide_at}
+use Rattle.bk_tiling_layout.proofs.TilingSquares.{ended_from, hung, hung_from, hung_node, hung_one, in_square, key, wide_at}
 use Rattle.bk_tiling_layout.proofs.GroupNodes.{IsNode}
 
 module _ (t : Tiling) (tiling : IsTiling t) where

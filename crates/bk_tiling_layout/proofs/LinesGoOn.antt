@@ -8,9 +8,10 @@ use Rattle.bk_tiling_layout.proofs.AscendingPlaces.{first_to, last_to}
 use Rattle.bk_tiling_layout.proofs.Edges.{MeetsLeft, MeetsRight, bottom_within, left_of, right_of}
 use Rattle.bk_tiling_layout.proofs.LineEnds.{end_is, goes_left_from, goes_left_to, goes_right_from, goes_right_to}
 use Rattle.bk_tiling_layout.proofs.LineNumbers.{number_one, number_zero}
-use Rattle.bk_tiling_layout.proofs.NodeLines.{along_left, along_right, ends_at_left, ends_at_right}
+use Rattle.bk_tiling_layout.proofs.NodeLines.{along_left, along_right}
 use Rattle.bk_tiling_layout.proofs.NodeLaws.{is_last_ended}
 use Rattle.bk_tiling_layout.proofs.Nodes.{most_nodes}
+use Rattle.bk_tiling_layout.proofs.NodeEnds.{ends_at_left, ends_at_right}
 use Rattle.bk_layout.specs.Layout.{IsFirst, IsLast}
 use Rattle.bk_tiling_layout.specs.TilingLayout.{from_left, goes_on_left, goes_on_right, line_end, line_number, square_of}
 use Rattle.bk_tiling_layout.proofs.TilingSquares.{ended, ended_from, ended_one, ended_to, in_square, key, node_at, wide_at}

@@ -10,8 +10,8 @@ use Rattle.bk_tiling_layout.proofs.AscendingPlaces.{AreNext, next_from, stands_i
 use Rattle.bk_tiling_layout.proofs.LineEdges.{IsMark}
 use Rattle.bk_tiling_layout.proofs.NodeLaws.{beside}
 use Rattle.bk_tiling_layout.proofs.Nodes.{most_nodes}
-use Rattle.bk_tiling_layout.proofs.TilingSquares.{ended, ended_from, ended_one, first_of_ended, first_of_hung, hung}
-use Rattle.bk_tiling_layout.proofs.TilingSquares.{hung_from, hung_node, hung_one, in_square, key, last_of_ended, last_of_hung, node_at, over_hung}
+use Rattle.bk_tiling_layout.proofs.NodeCorners.{first_of_ended, first_of_hung, last_of_ended, last_of_hung, over_hung}
+use Rattle.bk_tiling_layout.proofs.TilingSquares.{ended, ended_from, ended_one, hung, hung_from, hung_node, hung_one, in_square, key, node_at}
 use Rattle.bk_tiling_layout.proofs.Twins.{none_below, none_beside}
 use Rattle.bk_layout.specs.Layout.{HasNoTwins}
 use Rattle.bk_tiling_layout.specs.SimpleLayout.{ASimpleTilingHasASimpleLayout, AreOutermost, HasNoPairs, HasNoParts, HasOneBetween}

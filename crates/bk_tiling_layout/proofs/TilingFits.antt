@@ -8,7 +8,6 @@ use Rattle.bk_net.specs.Diagram.{node_below}
 use Rattle.bk_tiling_layout.proofs.AscendingPlaces.{next_to}
 use Rattle.bk_tiling_layout.proofs.Edges.{bottom_within, right_within}
 use Rattle.bk_tiling_layout.proofs.LineNumbers.{number_both}
-use Rattle.bk_tiling_layout.proofs.NodeLines.{ends_beside}
 use Rattle.bk_tiling_layout.proofs.NodeColumns.{one_ended}
 use Rattle.bk_layout.specs.Layout.{AreNeighbours, DoLinesGoOn, Fits}
 use Rattle.bk_tiling_layout.specs.TilingLayout.{from_left, goes_on_left, goes_on_right, layout_of, line_end, line_number, square_of}
@@ -17,6 +16,7 @@ use Rattle.bk_tiling_layout.proofs.TilingNet.{net_is}
 use Rattle.bk_tiling_layout.proofs.TilingSquares.{ended, ended_from, ended_one, ended_to, in_square, key, wide_at}
 use Rattle.bk_tiling_layout.proofs.GroupNodes.{IsNode}
 use Rattle.bk_tiling_layout.proofs.NodesFit.{lists, nodes, some_groups}
+use Rattle.bk_tiling_layout.proofs.NodeEnds.{ends_beside}
 use Rattle.bk_tiling_layout.proofs.LinesFit.{lines}
 use Rattle.bk_tiling_layout.proofs.LinesGoOn.{at_left, at_right, ends_left, ends_right, left_goes, node, right_goes}
 

@@ -10,9 +10,9 @@ use Rattle.bk_net.proofs.GroupSquares.{row_is}
 use Rattle.bk_net.proofs.SmithLists.{group_wires}
 use Rattle.bk_net.specs.Diagram.{node_below, smith_diagram}
 use Rattle.bk_word.specs.Play.{numbers_from}
-use Rattle.bk_tiling_layout.proofs.Nodes.{above_from}
 use Rattle.bk_layout.specs.Layout.{net_of_layout}
 use Rattle.bk_tiling_layout.specs.TilingLayout.{layout_of, node_above, square_of}
+use Rattle.bk_tiling_layout.proofs.InnerNodes.{above_from}
 
 -- ---- the net
 

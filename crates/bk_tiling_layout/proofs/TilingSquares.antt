@@ -1,5 +1,5 @@
--- The squares of a tiling and their numbers in its layout, and what stands first and last at each node.
-use Rattle.std.proofs.Common.{Bool, ap, arith, inl, inr, length, subst, sym, true, ℕ, ◌+◌, ◌<◌, ◌==◌, ◌∙◌, ◌≡◌, ◌≤◌, ◌⊎◌}
+-- The squares of a tiling and their numbers in its layout, and which of them hang from a node and end on it.
+use Rattle.std.proofs.Common.{Bool, ap, arith, inl, inr, length, subst, sym, true, ℕ, ◌+◌, ◌<◌, ◌==◌, ◌≡◌, ◌≤◌, ◌⊎◌}
 use Rattle.std.proofs.lemmas.Bool.{cases_lt}
 use Rattle.bk_laws.proofs.ListPlaces.{get_some}
 use Rattle.bk_tiling.proofs.Members.{one_at}
@@ -9,19 +9,15 @@ use Rattle.bk_tiling.specs.SquareGroups.{square_groups}
 use Rattle.bk_tiling.specs.Tiling.{IsOneOf, IsTiling, Tiling}
 use Rattle.bk_tiling.specs.declared.Square.{Square}
 use Rattle.bk_net.specs.Diagram.{node_below}
-use Rattle.bk_layout.specs.Layout.{IsFirst, IsLast}
-use Rattle.bk_tiling_layout.proofs.AscendingPlaces.{first_from, last_from, stands_in}
 use Rattle.bk_tiling_layout.proofs.Edges.{side}
 use Rattle.bk_tiling_layout.proofs.LineNumbers.{eq_from, eq_to}
 use Rattle.bk_tiling_layout.proofs.NodeColumns.{one_ended, one_hung}
-use Rattle.bk_tiling_layout.proofs.NodeLaws.{first_ended, first_hung, last_ended, last_hung}
-use Rattle.bk_tiling_layout.proofs.Nodes.{above_bottom, bottom_node, inner_node, most_nodes}
-use Rattle.bk_tiling_layout.specs.TilingLayout.{from_left, node_above, square_of}
+use Rattle.bk_tiling_layout.proofs.Nodes.{above_bottom, bottom_node, most_nodes}
+use Rattle.bk_tiling_layout.specs.TilingLayout.{node_above, square_of}
 use Rattle.bk_tiling_layout.proofs.GroupNodes.{IsNode}
+use Rattle.bk_tiling_layout.proofs.InnerNodes.{inner_node}
 
 module _ (t : Tiling) (tiling : IsTiling t) where
-  -- ---- squares and their numbers
-
   -- the square of a number is the tiling's
   pub in_square : (k : ℕ) → k < length t.squares → IsOneOf (square_of t k) t.squares
   in_square k h = one_at t.squares k (record { x = 0; y = 0; s = 0 }) h
@@ -111,66 +107,3 @@ module _ (t : Tiling) (tiling : IsTiling t) where
   ended_one v q r h k e f same = one_number q r h k
       (one_ended t tiling v (ended_node v q h e) (key q) (square_of t q) (square_of t r) (in_square q h) (in_square r k) (ended_from v q e)
       (ended_from v r f) (omega arith) (wide_at q h) (omega (arith, same)) (omega (arith, same, wide_at r k)))
-
-  -- what holds of all numbers holds of all squares
-  pub over_hung : (v : ℕ) (P : Square → Type 0) → ((r : ℕ) → r < length t.squares → hung v r ≡ true → P (square_of t r)) → (w : Square)
-      → IsOneOf w t.squares → node_above (square_groups t.squares) w ≡ v → P w
-  over_hung v P each w h e = let k = has_number w h in
-      subst P k.is (each k.number k.below (hung_to v k.number (ap (node_above (square_groups t.squares)) k.is ∙ e)))
-
-  over_ended : (v : ℕ) (P : Square → Type 0) → ((r : ℕ) → r < length t.squares → ended v r ≡ true → P (square_of t r)) → (w : Square)
-      → IsOneOf w t.squares → node_below (square_groups t.squares) w ≡ v → P w
-  over_ended v P each w h e = let k = has_number w h in
-      subst P k.is (each k.number k.below (ended_to v k.number (ap (node_below (square_groups t.squares)) k.is ∙ e)))
-
-  -- the squares at both ends of a node's lists
-  pub first_of_hung : (v p : ℕ) → IsFirst (from_left t (λ q. node_above (square_groups t.squares) (square_of t q) == v)) p
-      → (p < length t.squares) × (hung v p ≡ true) × ((node : IsNode t v) → (square_of t p).x ≡ node.left)
-  first_of_hung v p first = (
-    s.0,
-    s.1,
-    λ node. first_hung t tiling v node (square_of t p) (in_square p s.0) (hung_from v p s.1)
-        (over_hung v (λ w. key p ≤ w.x) (λ r h e. first_from key (hung v) (length t.squares) (hung_one v) p first r h e)),
-  )
-    where
-      s : (p < length t.squares) × (hung v p ≡ true)
-      s = stands_in key (hung v) (length t.squares) (hung_one v) 0 p first
-
-  -- and the first that ends there
-  pub first_of_ended : (v p : ℕ) → IsFirst (from_left t (λ q. node_below (square_groups t.squares) (square_of t q) == v)) p
-      → (p < length t.squares) × (ended v p ≡ true) × ((node : IsNode t v) → (square_of t p).x ≡ node.left)
-  first_of_ended v p first = (
-    s.0,
-    s.1,
-    λ node. first_ended t tiling v node (square_of t p) (in_square p s.0) (ended_from v p s.1)
-        (over_ended v (λ w. key p ≤ w.x) (λ r h e. first_from key (ended v) (length t.squares) (ended_one v) p first r h e)),
-  )
-    where
-      s : (p < length t.squares) × (ended v p ≡ true)
-      s = stands_in key (ended v) (length t.squares) (ended_one v) 0 p first
-
-  -- the last in the list of what hangs from a node ends at its right end
-  pub last_of_hung : (v p : ℕ) → IsLast (from_left t (λ q. node_above (square_groups t.squares) (square_of t q) == v)) p
-      → (p < length t.squares) × (hung v p ≡ true) × ((node : IsNode t v) → (square_of t p).x + (square_of t p).s ≡ node.right)
-  last_of_hung v p last = (
-    s.0,
-    s.1,
-    λ node. last_hung t tiling v node (square_of t p) (in_square p s.0) (hung_from v p s.1)
-        (over_hung v (λ w. w.x ≤ key p) (λ r h e. last_from key (hung v) (length t.squares) (hung_one v) p last r h e)),
-  )
-    where
-      s : (p < length t.squares) × (hung v p ≡ true)
-      s = stands_in key (hung v) (length t.squares) (hung_one v) last.0 p last.2
-
-  -- and the last that ends there
-  pub last_of_ended : (v p : ℕ) → IsLast (from_left t (λ q. node_below (square_groups t.squares) (square_of t q) == v)) p
-      → (p < length t.squares) × (ended v p ≡ true) × ((node : IsNode t v) → (square_of t p).x + (square_of t p).s ≡ node.right)
-  last_of_ended v p last = (
-    s.0,
-    s.1,
-    λ node. last_ended t tiling v node (square_of t p) (in_square p s.0) (ended_from v p s.1)
-        (over_ended v (λ w. w.x ≤ key p) (λ r h e. last_from key (ended v) (length t.squares) (ended_one v) p last r h e)),
-  )
-    where
-      s : (p < length t.squares) × (ended v p ≡ true)
-      s = stands_in key (ended v) (length t.squares) (ended_one v) last.0 p last.2
