@@ -24,7 +24,9 @@ use Rattle.bk_tiling_layout.specs.SimpleLayout.{IsSimpleLayout, Touches}
 use Rattle.bk_bounds.proofs.WordBoundLaws.{closings_are_hung, lines_are_hung, singles_are_hung}
 use Rattle.bk_free_cuts.proofs.MarkedSquares.{IsTopLine, some_marked, tops_of_word}
 use Rattle.bk_free_cuts.proofs.TopLines.{no_line_down}
-use Rattle.bk_free_cuts.proofs.WideNodes.{ends_left, ends_right, no_wide_bottom, no_wide_node}
+use Rattle.bk_free_cuts.proofs.TouchingWalls.{ends_left, ends_right}
+use Rattle.bk_free_cuts.proofs.WideNodes.{no_wide_node}
+use Rattle.bk_free_cuts.proofs.WideBottom.{no_wide_bottom}
 use Rattle.bk_bounds.specs.WordBounds.{EndsNoLine, HangNoPairsFrom, HangsNoPair, IsWithoutPairs}
 use Rattle.bk_free_cuts.specs.FreeCuts.{AreOuterWalls}
 
@@ -139,10 +141,10 @@ module _ (l : Layout) (fits : Fits l) (w : Word) (word : IsWordOfLayout l w) whe
       ending_bottom = fits.nodes.ending_some l.bottom fits.some (omega arith)
 
       bottom_left : Touches l 0 l.bottom
-      bottom_left = ends_left l fits simple walls l.bottom ending_bottom word.end_from word.end_to
+      bottom_left = ends_left l fits l.bottom ending_bottom word.end_from word.end_to
 
       bottom_right : Touches l 1 l.bottom
-      bottom_right = ends_right l fits simple walls l.bottom ending_bottom word.end_from word.end_to
+      bottom_right = ends_right l fits l.bottom ending_bottom word.end_from word.end_to
 
       -- one segment is left at the end alone
       pub one_segment_fits : (front rest : Word) → w ≡ front ++ rest → 0 < length front → order_of front < l.squares
@@ -150,8 +152,8 @@ module _ (l : Layout) (fits : Fits l) (w : Word) (word : IsWordOfLayout l w) whe
       one_segment_fits front [] is some few one = omega (arith, few, few_hung front [] is)
       one_segment_fits front (m ∷ rest) is some few one =
           no_wide_node l fits simple walls h.node above_none h.low
-          (ends_left l fits simple walls h.node ends (h.from_wall one) (h.to_wall one))
-          (ends_right l fits simple walls h.node ends (h.from_wall one) (h.to_wall one)) bottom_left bottom_right
+          (ends_left l fits h.node ends (h.from_wall one) (h.to_wall one))
+          (ends_right l fits h.node ends (h.from_wall one) (h.to_wall one)) bottom_left bottom_right
         where
           h : HangsNode l square (outline_of front) m
           h = (nodes front (m ∷ rest) is).0

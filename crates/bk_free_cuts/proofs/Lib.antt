@@ -1,4 +1,6 @@
+pub mod TouchingWalls
 pub mod WideNodes
+pub mod WideBottom
 pub mod TopLines
 pub mod MarkedSquares
 pub mod CutsOfLayouts
@@ -7,6 +9,7 @@ pub mod OpenRuns
 pub mod ApartLines
 pub mod SharedLines
 pub mod SharedSquares
+pub mod ClosedNodes
 pub mod SharedPairs
 pub mod NumberedLines
 pub mod InnerLines

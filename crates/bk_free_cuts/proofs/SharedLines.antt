@@ -55,6 +55,7 @@ module _ (l : Layout) (fits : Fits l) (w : Word) (word : IsWordOfLayout l w) whe
   numbered_w : Numbered (outline_of w)
   numbered_w = numbered_moves start w numbered_start
 
+  -- a word hangs as many squares as the layout has
   pub hung_w : length (outline_of w).hung ≡ l.squares
   hung_w = omega (arith, hung_many start w, word.order)
 
@@ -65,6 +66,7 @@ module _ (l : Layout) (fits : Fits l) (w : Word) (word : IsWordOfLayout l w) whe
   pub square_low : (k : ℕ) → k < length (outline_of w).hung → word.square k < l.squares
   square_low k h = omega (arith, hung_w, wires_w, word.net.wire_apart.below k (omega (arith, h, wires_w)))
 
+  -- and no two of them are one
   pub square_apart : (j k : ℕ) → j < length (outline_of w).hung → k < length (outline_of w).hung → word.square j ≡ word.square k → j ≡ k
   square_apart j k a b e = word.net.wire_apart.apart j k (omega (arith, a, wires_w)) (omega (arith, b, wires_w)) e
 

@@ -1,27 +1,21 @@
 -- Lines and nodes that words share: two lines at one open segment, and a closed node.
-use Rattle.std.proofs.Common.{List, Some, [], ap, arith, inl, inr, length, refl, slice_get, slice_index_or, subst, suc, sym, ℕ, ◌++◌, ◌+◌, ◌-◌, ◌<◌}
-use Rattle.std.proofs.Common.{◌∙◌, ◌≡◌, ◌≤◌, ◌⊎◌}
+use Rattle.std.proofs.Common.{List, Some, ap, arith, inl, inr, length, refl, slice_get, slice_index_or, subst, sym, ℕ, ◌++◌, ◌+◌, ◌-◌, ◌<◌, ◌∙◌, ◌≡◌, ◌≤◌, ◌⊎◌}
 use Rattle.std.proofs.lemmas.Bool.{cases_lt}
-use Rattle.std.proofs.lemmas.List.{length-append}
-use Rattle.bk_laws.proofs.Occurrences.{times, times_at, times_in-append}
-use Rattle.bk_laws.proofs.ListPlaces.{get_some, got_index}
+use Rattle.bk_laws.proofs.ListPlaces.{got_index}
 use Rattle.bk_word.specs.Outline.{start}
 use Rattle.bk_word.specs.Play.{AreLegalFrom, outline_of}
 use Rattle.bk_word.specs.Word.{Word}
 use Rattle.bk_word_net.proofs.NoLoose.{Played, played_moves, played_start}
-use Rattle.bk_word_net.proofs.Numbering.{HasPlace, times_some}
-use Rattle.bk_word_net.specs.WordNet.{end_of}
 use Rattle.bk_layout.proofs.Counting.{got_same}
 use Rattle.bk_layout.specs.Layout.{Fits, Layout}
 use Rattle.bk_layout.specs.LayoutLaws.{IsWordOfLayout}
 use Rattle.bk_tiling_layout.specs.SimpleLayout.{AreOutermost, HasOneBetween, IsSimpleLayout, Touches}
 use Rattle.bk_word.proofs.PlayLaws.{legal_front}
-use Rattle.bk_free_cuts.proofs.OpenRuns.{index_at, open_segments_end_together}
-use Rattle.bk_free_cuts.proofs.SharedLines.{above_is, below_is, closed_got, closed_less, fresh, hung_less, node_apart}
-use Rattle.bk_free_cuts.proofs.SharedSquares.{numbered_square}
-use Rattle.bk_free_cuts.proofs.SharedLines.{open_low, place_of, square_low, wire}
+use Rattle.bk_free_cuts.proofs.OpenRuns.{open_segments_end_together}
+use Rattle.bk_free_cuts.proofs.SharedLines.{above_is, closed_less, fresh, node_apart, open_low}
+use Rattle.bk_free_cuts.proofs.ClosedNodes.{from_closed, touches_closed}
 use Rattle.bk_free_cuts.specs.OpenSegments.{EndsTogether}
-use Rattle.bk_free_cuts.specs.SharedNodes.{AreLinesApart, IsAtClosed, LinesShareTheNodeAbove}
+use Rattle.bk_free_cuts.specs.SharedNodes.{AreLinesApart, LinesShareTheNodeAbove}
 
 module _ (l : Layout) (fits : Fits l) (simple : IsSimpleLayout l) (lines : AreLinesApart l) (w : Word) (word : IsWordOfLayout l w)
     (front rest : Word) (is : w ≡ front ++ rest)
@@ -50,59 +44,6 @@ module _ (l : Layout) (fits : Fits l) (simple : IsSimpleLayout l) (lines : AreLi
 
   not_node : (u : ℕ) → u < length (outline_of front).closed → t.node ≡ word.node u → ⊥
   not_node u h k = fresh l fits w word front rest is x i a s e f u h (a_is.1 ∙ k)
-
-  -- a square of the layout that ends on a closed node hangs from a closed node
-  from_closed : (z : ℕ) → z < l.squares → l.above z ≡ t.node → l.below z ≡ word.node v → ⊥
-  from_closed z h top bottom = at (numbered_square l fits w word z h)
-    where
-      at : (k : ℕ) × (k < length (outline_of w).hung) × (word.square k ≡ z) → ⊥
-      at (k, low, same) = from (get_some (outline_of front).closed v closed)
-        where
-          p : HasPlace (1 + k) ((outline_of w).closed ++ (outline_of w).segments) (end_of ((outline_of w).closed ++ (outline_of w).segments) (1 + k))
-          p = place_of l fits w word k low
-
-          at_v : end_of ((outline_of w).closed ++ (outline_of w).segments) (1 + k) ≡ v
-          at_v = node_apart l fits w word (end_of ((outline_of w).closed ++ (outline_of w).segments) (1 + k)) v
-              (omega (arith, p.below, length-append (outline_of w).closed (outline_of w).segments, (word.complete).one))
-              (omega (arith, closed, closed_less l fits w word front rest is))
-              (sym (wire l fits w word k low).1 ∙ ap l.below same ∙ bottom)
-
-          from : (numbers : List ℕ) × (slice_get (outline_of front).closed v ≡ Some numbers) → ⊥
-          from (numbers, q) = not_node (slice_index_or (outline_of front).hung k 0) (played.below k within)
-              (sym top ∙ ap l.above (sym same) ∙ above_is l fits w word front rest is k (slice_index_or (outline_of front).hung k 0)
-              (got_index (outline_of front).hung k within))
-            where
-              there : 0 < times (1 + k) (slice_index_or (outline_of front).closed v [])
-              there = subst (λ (xs : List ℕ). 0 < times (1 + k) xs)
-                  (index_at ((outline_of w).closed ++ (outline_of w).segments) v numbers
-                  (closed_got l fits w word front rest is v numbers q) ∙ sym (index_at (outline_of front).closed v numbers q))
-                  (subst (λ (u : ℕ). 0 < times (1 + k) (slice_index_or ((outline_of w).closed ++ (outline_of w).segments) u [])) at_v p.here)
-
-              within : k < length (outline_of front).hung
-              within = omega (
-                arith,
-                (times_some (1 + k) 1 (length (outline_of front).hung)
-                    (omega (
-                      arith,
-                      there,
-                      times_at (1 + k) v (outline_of front).closed,
-                      played.numbered (1 + k),
-                      times_in-append (1 + k) (outline_of front).closed (outline_of front).segments,
-                    ))).1,
-              )
-
-  touches_closed : (c line : ℕ) → IsAtClosed (outline_of front) c v → (l.left (word.square c) ≡ line) ⊎ (l.right (word.square c) ≡ line)
-      → Touches l line (word.node v)
-  touches_closed c line at beside = record { square = word.square c; within = square_low l fits w word c low; beside = beside; at = node at.at }
-    where
-      low : c < length (outline_of w).hung
-      low = omega (arith, at.within, hung_less l fits w word front rest is)
-
-      node : (slice_get (outline_of front).hung c ≡ Some v)
-          ⊎ ((k : ℕ) × (numbers : List ℕ) × (slice_get (outline_of front).closed v ≡ Some numbers) × (slice_get numbers k ≡ Some (suc c)))
-          → (l.above (word.square c) ≡ word.node v) ⊎ (l.below (word.square c) ≡ word.node v)
-      node (inl h) = inl (above_is l fits w word front rest is c v h)
-      node (inr (k, numbers, h, q)) = inr (below_is l fits w word front rest is v numbers k c h q low)
 
   -- one square between the two lines, that ends on the open segment's node
   module _ (z : ℕ) (within : z < l.squares) (top : l.above z ≡ word.node v) (bottom : l.below z ≡ t.node) where
@@ -157,7 +98,7 @@ module _ (l : Layout) (fits : Fits l) (simple : IsSimpleLayout l) (lines : AreLi
           ⊎ (l.below z.square ≡ t.node) → (i ≡ j) × (slice_get (outline_of front).hung (a - 1) ≡ Some v)
       nodes (inl h) (inl k) = absurd (down (h ∙ sym k))
       nodes (inl h) (inr k) = sides z.square z.within h k z.left z.right
-      nodes (inr h) (inl k) = absurd (from_closed z.square z.within h k)
+      nodes (inr h) (inl k) = let c = from_closed l fits w word front rest is v closed z.square z.within k in absurd (not_node c.0 c.1 (sym h ∙ c.2))
       nodes (inr h) (inr k) = absurd (down (h ∙ sym k))
 
   shared : Touches l left_line (word.node v) → Touches l right_line (word.node v)
@@ -177,5 +118,5 @@ module _ (l : Layout) (fits : Fits l) (simple : IsSimpleLayout l) (lines : AreLi
 pub lines_share_the_node_above : LinesShareTheNodeAbove
 lines_share_the_node_above l w front rest fits simple lines word is x i j a b v c d s e f g order at_c beside_c at_d beside_d =
     shared l fits simple lines w word front rest is x i j a b s e f g order v at_c.closed
-    (touches_closed l fits simple lines w word front rest is x i j a b s e f g order v at_c.closed c (l.left (word.square (a - 1))) at_c beside_c)
-    (touches_closed l fits simple lines w word front rest is x i j a b s e f g order v at_c.closed d (l.right (word.square (b - 1))) at_d beside_d)
+    (touches_closed l fits w word front rest is v at_c.closed c (l.left (word.square (a - 1))) at_c beside_c)
+    (touches_closed l fits w word front rest is v at_c.closed d (l.right (word.square (b - 1))) at_d beside_d)

@@ -4,8 +4,8 @@ use Rattle.bk_laws.proofs.ListPlaces.{get_some, got_low}
 use Rattle.bk_layout.proofs.Counting.{got_same}
 use Rattle.bk_layout.specs.Layout.{AreNeighbours, Fits, IsFirst, IsLast, Layout}
 use Rattle.bk_tiling_layout.specs.SimpleLayout.{AreOutermost, HasOneBetween, IsSimpleLayout, Touches}
-use Rattle.bk_free_cuts.proofs.WideNodes.{top_left, top_right}
 use Rattle.bk_free_cuts.specs.FreeCuts.{AreOuterWalls}
+use Rattle.bk_free_cuts.proofs.TouchingWalls.{top_left, top_right}
 
 -- no three numbers are two
 three : (a b : ℕ) → (0 ≡ a) ⊎ (0 ≡ b) → (1 ≡ a) ⊎ (1 ≡ b) → (2 ≡ a) ⊎ (2 ≡ b) → ⊥
@@ -169,14 +169,14 @@ module _ (l : Layout) (fits : Fits l) (simple : IsSimpleLayout l) (walls : AreOu
       one_of f g (inr c) m n = n c.0 c.1
 
       at_left : HasOneBetween l 0 (l.left q) 0 l.bottom
-      at_left = cases (simple.parts 0 (l.left q) 0 l.bottom not_left nodes_apart (top_left l fits simple walls) bottom_left touch_top touch_bottom)
+      at_left = cases (simple.parts 0 (l.left q) 0 l.bottom not_left nodes_apart (top_left l fits) bottom_left touch_top touch_bottom)
         where
           cases : HasOneBetween l 0 (l.left q) 0 l.bottom ⊎ AreOutermost l 0 (l.left q) 0 l.bottom → HasOneBetween l 0 (l.left q) 0 l.bottom
           cases (inl c) = c
           cases (inr o) = absurd (one_of 0 (l.left q) o.lines (λ c d. not_right d) (λ c d. not_left (sym d)))
 
       at_right : HasOneBetween l (l.left q) 1 0 l.bottom
-      at_right = cases (simple.parts (l.left q) 1 0 l.bottom not_right nodes_apart touch_top touch_bottom (top_right l fits simple walls) bottom_right)
+      at_right = cases (simple.parts (l.left q) 1 0 l.bottom not_right nodes_apart touch_top touch_bottom (top_right l fits) bottom_right)
         where
           cases : HasOneBetween l (l.left q) 1 0 l.bottom ⊎ AreOutermost l (l.left q) 1 0 l.bottom → HasOneBetween l (l.left q) 1 0 l.bottom
           cases (inl c) = c
