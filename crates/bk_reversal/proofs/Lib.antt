@@ -1,10 +1,13 @@
 -- the reversed layout fits: its lists, places, nodes and lines
 pub mod ReversalExamples
 pub mod Pieces
+pub mod AroundSquare
 pub mod ReversedSquare
+pub mod ReversedCounts
 pub mod ReversedLists
 pub mod ReversedPlaces
 pub mod ReversedNodes
+pub mod ReversedEnds
 pub mod ReversedLines
 pub mod GoingOnReversed
 pub mod ReversedGoOn
@@ -19,6 +22,7 @@ pub mod Trace
 pub mod NodeHeads
 pub mod EvenAbove
 pub mod BadMove
+pub mod MovedSigns
 pub mod SameSigns
 pub mod ReversedStates
 pub mod MovesBoth

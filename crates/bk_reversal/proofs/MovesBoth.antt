@@ -9,14 +9,45 @@ use Rattle.bk_layout.proofs.Sweep.{State, ValleyAt, valley_at}
 use Rattle.bk_layout.proofs.SweepMove.{move}
 use Rattle.bk_layout.proofs.WholeRuns.{Hung, hung_from}
 use Rattle.bk_reversal.proofs.MoveChain.{apart_of, many_marks, marks_chain}
+use Rattle.bk_reversal.proofs.MovedSigns.{head_not}
 use Rattle.bk_reversal.proofs.Drops.{Drops, drops_before, drops_behind, same_before, same_behind}
 use Rattle.bk_layout.proofs.Counting.{one_for}
 use Rattle.bk_layout.specs.Layout.{Fits, Layout}
 use Rattle.bk_reversal.proofs.Pieces.{times_tail}
 use Rattle.bk_reversal.specs.Reversal.{CanReverse, reversed}
-use Rattle.bk_reversal.proofs.ReversedSquare.{Around, around}
+use Rattle.bk_reversal.proofs.ReversedSquare.{around}
 use Rattle.bk_reversal.proofs.ReversedFits.{fits_then}
-use Rattle.bk_reversal.proofs.SameSigns.{dropped_signs, head_not, same_signs}
+use Rattle.bk_reversal.proofs.SameSigns.{dropped_signs, same_signs}
+use Rattle.bk_reversal.proofs.AroundSquare.{Around}
+
+-- how often a square stands among the open ones
+module _ (l : Layout) (o : Outline) (st : State l o) (c : AtValley o) (at : ValleyAt l o st.laid c) where
+  -- before the move, in parts
+  open_then : (x : ℕ) → times_in x (lists_at st.laid o.segments)
+      ≡ times_in x (lists_at st.laid c.before)
+      + (times_in x (lists_at st.laid c.left)
+      + (times x (at.q ∷ at.qs) + (times_in x (lists_at st.laid c.right) + times_in x (lists_at st.laid c.after))))
+  open_then x = ap (times_in x) at.cut ∙ omega (
+    arith,
+    times_in-append x (lists_at st.laid c.before) (lists_at st.laid c.left ++ ((at.q ∷ at.qs) ∷ (lists_at st.laid c.right ++ lists_at st.laid c.after))),
+    times_in-append x (lists_at st.laid c.left) ((at.q ∷ at.qs) ∷ (lists_at st.laid c.right ++ lists_at st.laid c.after)),
+    times_in-append x (lists_at st.laid c.right) (lists_at st.laid c.after),
+  )
+
+  -- and with the new squares in place of the valley
+  apart_times : (first : ℕ) (more : List ℕ) (x : ℕ) → times_in x (apart_of st.laid o c first more)
+      ≡ times_in x (lists_at st.laid c.before)
+      + (times_in x (lists_at st.laid c.left)
+      + (times x (first ∷ more) + (times_in x (lists_at st.laid c.right) + times_in x (lists_at st.laid c.after))))
+  apart_times first more x = omega (
+    arith,
+    times_in-append x (lists_at st.laid c.before)
+        (lists_at st.laid c.left ++ (singles (first ∷ more) ++ (lists_at st.laid c.right ++ lists_at st.laid c.after))),
+    times_in-append x (lists_at st.laid c.left) (singles (first ∷ more) ++ (lists_at st.laid c.right ++ lists_at st.laid c.after)),
+    times_in-append x (singles (first ∷ more)) (lists_at st.laid c.right ++ lists_at st.laid c.after),
+    times_in-append x (lists_at st.laid c.right) (lists_at st.laid c.after),
+    times_singles x (first ∷ more),
+  )
 
 module _ (l : Layout) (fits : Fits l) (q p r : ℕ) (can : CanReverse l q p r) where
   abbrev m : Layout
@@ -30,8 +61,6 @@ module _ (l : Layout) (fits : Fits l) (q p r : ℕ) (can : CanReverse l q p r) w
 
   abbrev about : Around l fits q p r can
   about = around l fits q p r can
-
-  -- ---- one move in both sweeps
 
   -- the next move of both sweeps
   pub record MovesBoth (o : Outline) (st : State l o) (both : State m o) (c : AtValley o) (at : ValleyAt l o st.laid c)
@@ -64,35 +93,11 @@ module _ (l : Layout) (fits : Fits l) (q p r : ℕ) (can : CanReverse l q p r) w
         ((move l fits o st c at low h).signs ++ c.after_signs)
         ((dropped_signs l fits q p r can) (c.before_signs ++ ((move l fits o st c at low h).signs ++ c.after_signs))
         (c.before_signs ++ ((move m (fits_then l fits q p r can) o both c at_both low_both hung_both).signs ++ c.after_signs))
-        (apart_of st.laid o c h.first h.more) marks marks_both (omega (arith, apart_times q, zero_parts, no_new)) (omega (arith, apart_times p, t))));
+        (apart_of st.laid o c h.first h.more) marks marks_both
+        (omega (arith, apart_times l o st c at h.first h.more q, zero_parts, no_new)) (omega (arith, apart_times l o st c at h.first h.more p, t))));
     counts = counts;
   }
     where
-      open_then : (x : ℕ) → times_in x (lists_at st.laid o.segments)
-          ≡ times_in x (lists_at st.laid c.before)
-          + (times_in x (lists_at st.laid c.left)
-          + (times x (at.q ∷ at.qs) + (times_in x (lists_at st.laid c.right) + times_in x (lists_at st.laid c.after))))
-      open_then x = ap (times_in x) at.cut ∙ omega (
-        arith,
-        times_in-append x (lists_at st.laid c.before) (lists_at st.laid c.left ++ ((at.q ∷ at.qs) ∷ (lists_at st.laid c.right ++ lists_at st.laid c.after))),
-        times_in-append x (lists_at st.laid c.left) ((at.q ∷ at.qs) ∷ (lists_at st.laid c.right ++ lists_at st.laid c.after)),
-        times_in-append x (lists_at st.laid c.right) (lists_at st.laid c.after),
-      )
-
-      apart_times : (x : ℕ) → times_in x (apart_of st.laid o c h.first h.more)
-          ≡ times_in x (lists_at st.laid c.before)
-          + (times_in x (lists_at st.laid c.left)
-          + (times x (h.first ∷ h.more) + (times_in x (lists_at st.laid c.right) + times_in x (lists_at st.laid c.after))))
-      apart_times x = omega (
-        arith,
-        times_in-append x (lists_at st.laid c.before)
-            (lists_at st.laid c.left ++ (singles (h.first ∷ h.more) ++ (lists_at st.laid c.right ++ lists_at st.laid c.after))),
-        times_in-append x (lists_at st.laid c.left) (singles (h.first ∷ h.more) ++ (lists_at st.laid c.right ++ lists_at st.laid c.after)),
-        times_in-append x (singles (h.first ∷ h.more)) (lists_at st.laid c.right ++ lists_at st.laid c.after),
-        times_in-append x (lists_at st.laid c.right) (lists_at st.laid c.after),
-        times_singles x (h.first ∷ h.more),
-      )
-
       q_open : times_in q (lists_at st.laid o.segments) ≡ 0
       q_open = omega (arith, no_q, st.laid_times q can.known, st.open_times q can.known)
 
@@ -102,10 +107,10 @@ module _ (l : Layout) (fits : Fits l) (q p r : ℕ) (can : CanReverse l q p r) w
       zero_parts : times_in q (lists_at st.laid c.before)
           + (times_in q (lists_at st.laid c.left)
           + (times q (at.q ∷ at.qs) + (times_in q (lists_at st.laid c.right) + times_in q (lists_at st.laid c.after)))) ≡ 0
-      zero_parts = omega (arith, q_open, open_then q)
+      zero_parts = omega (arith, q_open, open_then l o st c at q)
 
       not_q : at.q ≡ q → ⊥
-      not_q e = (head_not l fits q p r can) q at.q at.qs (omega (arith, zero_parts)) e
+      not_q e = head_not q at.q at.qs (omega (arith, zero_parts)) e
 
       at_both : ValleyAt m o both.laid c
       at_both = valley_at m (fits_then l fits q p r can) o both.laid c both.chain both.wall
@@ -171,5 +176,5 @@ module _ (l : Layout) (fits : Fits l) (q p r : ℕ) (can : CanReverse l q p r) w
           ((move l fits o st c at low h).signs ++ c.after_signs)
           ((same_signs l fits q p r can) (c.before_signs ++ ((move l fits o st c at low h).signs ++ c.after_signs))
           (c.before_signs ++ ((move m (fits_then l fits q p r can) o both c at_both low_both hung_both).signs ++ c.after_signs))
-          (apart_of st.laid o c h.first h.more) marks marks_both (omega (arith, apart_times q, zero_parts, no_new))
-          (omega (arith, apart_times p, open_then p, p_open, t))))
+          (apart_of st.laid o c h.first h.more) marks marks_both (omega (arith, apart_times l o st c at h.first h.more q, zero_parts, no_new))
+          (omega (arith, apart_times l o st c at h.first h.more p, open_then l o st c at p, p_open, t))))

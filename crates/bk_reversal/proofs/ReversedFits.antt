@@ -7,12 +7,13 @@ use Rattle.bk_laws.proofs.ListPlaces.{got_low}
 use Rattle.bk_reversal.proofs.Pieces.{end_cases, test_fails, test_holds}
 use Rattle.bk_reversal.specs.Reversal.{CanReverse, IsUpToReversals, reversed}
 use Rattle.bk_reversal.specs.ReversalLaws.{AReversedLayoutFits}
-use Rattle.bk_reversal.proofs.ReversedSquare.{Around, around}
+use Rattle.bk_reversal.proofs.ReversedSquare.{around}
 use Rattle.bk_reversal.proofs.ReversedLists.{lists_then}
 use Rattle.bk_reversal.proofs.ReversedPlaces.{Places, places}
 use Rattle.bk_reversal.proofs.ReversedNodes.{nodes_then}
 use Rattle.bk_reversal.proofs.ReversedLines.{lines_then, top_is}
 use Rattle.bk_reversal.proofs.ReversedGoOn.{go_on_then}
+use Rattle.bk_reversal.proofs.AroundSquare.{Around}
 
 module _ (l : Layout) (fits : Fits l) (q p r : ℕ) (can : CanReverse l q p r) where
   abbrev m : Layout

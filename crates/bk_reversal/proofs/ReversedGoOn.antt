@@ -5,10 +5,11 @@ use Rattle.bk_layout.specs.Layout.{AreNeighbours, DoLinesGoOn, Fits, Layout}
 use Rattle.bk_laws.proofs.Tests.{same_or_other}
 use Rattle.bk_laws.proofs.ListPlaces.{got_low}
 use Rattle.bk_reversal.specs.Reversal.{CanReverse, reversed}
-use Rattle.bk_reversal.proofs.ReversedSquare.{Around, around}
+use Rattle.bk_reversal.proofs.ReversedSquare.{around}
 use Rattle.bk_reversal.proofs.ReversedPlaces.{Places, places}
 use Rattle.bk_reversal.proofs.GoingOnReversed.{at_left_wall, at_right_wall, differ, goes_left_q, goes_left_x, goes_right_p, goes_right_x, last_is_q}
 use Rattle.bk_reversal.proofs.GoingOnReversed.{on_left, on_right}
+use Rattle.bk_reversal.proofs.AroundSquare.{Around}
 
 module _ (l : Layout) (fits : Fits l) (q p r : ℕ) (can : CanReverse l q p r) where
   abbrev m : Layout

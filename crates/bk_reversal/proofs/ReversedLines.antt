@@ -1,12 +1,14 @@
 -- The lines of a layout with a square reversed, beside each other and at the ends of each node.
-use Rattle.std.proofs.Common.{List, Some, ap, arith, inl, inr, length, slice_get, subst, suc, sym, zero, ℕ, ◌∙◌, ◌≡◌, ◌⊎◌}
+use Rattle.std.proofs.Common.{List, Some, ap, arith, inl, inr, length, slice_get, subst, suc, sym, ℕ, ◌∙◌, ◌≡◌, ◌⊎◌}
 use Rattle.bk_layout.proofs.Counting.{got_same}
 use Rattle.bk_layout.specs.Layout.{AreLines, Fits, IsFirst, IsLast, Layout}
 use Rattle.bk_laws.proofs.ListPlaces.{got_low}
 use Rattle.bk_reversal.proofs.Pieces.{end_cases}
 use Rattle.bk_reversal.specs.Reversal.{CanReverse, reversed}
-use Rattle.bk_reversal.proofs.ReversedSquare.{Around, around}
+use Rattle.bk_reversal.proofs.ReversedSquare.{around}
 use Rattle.bk_reversal.proofs.ReversedPlaces.{Places, places}
+use Rattle.bk_reversal.proofs.ReversedEnds.{last_eu, last_ev, last_hu, last_hv}
+use Rattle.bk_reversal.proofs.AroundSquare.{Around}
 
 module _ (l : Layout) (fits : Fits l) (q p r : ℕ) (can : CanReverse l q p r) where
   abbrev m : Layout
@@ -82,47 +84,19 @@ module _ (l : Layout) (fits : Fits l) (q p r : ℕ) (can : CanReverse l q p r) w
       on (inr (inr (a, b))) = at_w a b (ap (λ (xs : List ℕ). slice_get xs 0) (sym (about.ending_w w a b)) ∙ e)
           (ap (λ (xs : List ℕ). slice_get xs 0) (sym (about.hanging_w w a b)) ∙ f)
 
-  -- last squares
-  last_eu : (x : ℕ) → IsLast (m.ending u) x → IsLast (l.ending u) x
-  last_eu x (zero, g, h) = absurd (omega (arith, g, by_place.length_eu, by_place.eu_some))
-  last_eu x (suc k, g, h) = (k, omega (arith, g, by_place.length_eu), sym (by_place.get_eu k) ∙ h)
-
-  -- what ends last on u ends last on it in the reversed layout
-  pub eu_last : (x : ℕ) → IsLast (l.ending u) x → IsLast (m.ending u) x
-  eu_last x (k, g, h) = (suc k, omega (arith, g, by_place.length_eu), by_place.get_eu k ∙ h)
-
-  last_hu : (x : ℕ) → IsLast (m.hanging u) x → (k : ℕ) × (suc (suc k) ≡ length (l.hanging u)) × (slice_get (l.hanging u) (suc k) ≡ Some x)
-  last_hu x (k, g, h) = (k, omega (arith, g, by_place.length_hu), sym (by_place.get_hu k) ∙ h)
-
-  last_ev : (x : ℕ) → IsLast (m.ending v) x → x ≡ p
-  last_ev x (k, g, h) = got_same x p (sym h ∙ by_place.get_ev k (omega (arith, g, by_place.length_ev)) ∙ ap (slice_get (l.ending v)) place ∙ (about.p_beside).1)
-    where
-      place : k ≡ (about.p_beside).0
-      place = omega (arith, by_place.q_place, (about.q_last).1, g, by_place.length_ev)
-
-  -- what ends last on v there is p
-  pub p_last : IsLast (m.ending v) p
-  p_last = (
-    (about.p_beside).0,
-    omega (arith, by_place.q_place, (about.q_last).1, by_place.length_ev),
-    by_place.get_ev (about.p_beside).0 (omega (arith, by_place.q_place, (about.q_last).1)) ∙ (about.p_beside).1,
-  )
-
-  last_hv : (x : ℕ) → IsLast (m.hanging v) x → x ≡ q
-  last_hv x (k, g, h) = got_same x q (sym h ∙ by_place.get_hv_new k (omega (arith, g, by_place.length_hv)))
-
   same_right : (w x y : ℕ) → IsLast (m.ending w) x → IsLast (m.hanging w) y → m.right y ≡ m.right x
   same_right w x y e f = on (about.which w)
     where
       at_u : IsLast (m.ending u) x → IsLast (m.hanging u) y → m.right y ≡ m.right x
-      at_u g h = from (last_eu x g) (last_hu y h)
+      at_u g h = from (last_eu l fits q p r can x g) (last_hu l fits q p r can y h)
         where
           from : IsLast (l.ending u) x → (k : ℕ) × (suc (suc k) ≡ length (l.hanging u)) × (slice_get (l.hanging u) (suc k) ≡ Some y) → m.right y ≡ m.right x
           from (j, a, b) (k, c, d) = about.right_x y (by_place.not_hu k y d) ∙ fits.lines.same_right u x y (j, a, b) (suc k, c, d)
               ∙ sym (about.right_x x (by_place.not_e u j x about.u_not_v b))
 
       at_v : IsLast (m.ending v) x → IsLast (m.hanging v) y → m.right y ≡ m.right x
-      at_v g h = ap m.right (last_hv y h) ∙ about.right_q ∙ sym can.beside ∙ sym (about.right_x p about.p_not_q) ∙ ap m.right (sym (last_ev x g))
+      at_v g h = ap m.right (last_hv l fits q p r can y h) ∙ about.right_q ∙ sym can.beside ∙ sym (about.right_x p about.p_not_q)
+          ∙ ap m.right (sym (last_ev l fits q p r can x g))
 
       at_w : (w ≡ u → ⊥) → (w ≡ v → ⊥) → IsLast (l.ending w) x → IsLast (l.hanging w) y → m.right y ≡ m.right x
       at_w a b (j, g, h) (k, c, d) = about.right_x y (by_place.not_h w k y a d) ∙ fits.lines.same_right w x y (j, g, h) (k, c, d)

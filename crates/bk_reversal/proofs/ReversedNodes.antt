@@ -4,8 +4,9 @@ use Rattle.bk_layout.specs.Layout.{AreNodes, Fits, Layout}
 use Rattle.bk_laws.proofs.Tests.{same_or_other}
 use Rattle.bk_reversal.proofs.Pieces.{put_at, put_other}
 use Rattle.bk_reversal.specs.Reversal.{CanReverse, put, reversed}
-use Rattle.bk_reversal.proofs.ReversedSquare.{Around, around}
+use Rattle.bk_reversal.proofs.ReversedSquare.{around}
 use Rattle.bk_reversal.proofs.ReversedPlaces.{Places, places}
+use Rattle.bk_reversal.proofs.AroundSquare.{Around}
 
 module _ (l : Layout) (fits : Fits l) (q p r : ℕ) (can : CanReverse l q p r) where
   abbrev m : Layout

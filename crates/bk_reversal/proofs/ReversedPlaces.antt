@@ -4,7 +4,8 @@ use Rattle.bk_layout.specs.Layout.{Fits, Layout}
 use Rattle.bk_laws.proofs.ListPlaces.{got_low}
 use Rattle.bk_reversal.proofs.Pieces.{end_length, end_new, end_old, init_below, init_got, init_length, tail_got, tail_length}
 use Rattle.bk_reversal.specs.Reversal.{CanReverse, reversed}
-use Rattle.bk_reversal.proofs.ReversedSquare.{Around, around}
+use Rattle.bk_reversal.proofs.ReversedSquare.{around}
+use Rattle.bk_reversal.proofs.AroundSquare.{Around}
 
 module _ (l : Layout) (fits : Fits l) (q p r : ℕ) (can : CanReverse l q p r) where
   abbrev m : Layout

@@ -9,8 +9,9 @@ use Rattle.bk_layout.proofs.Sweep.{State}
 use Rattle.bk_layout.proofs.Turning.{AtLeft}
 use Rattle.bk_layout.specs.Layout.{Fits, Layout}
 use Rattle.bk_reversal.specs.Reversal.{CanReverse, reversed}
-use Rattle.bk_reversal.proofs.ReversedSquare.{Around, around}
-use Rattle.bk_reversal.proofs.SameSigns.{chain_then, head_not}
+use Rattle.bk_reversal.proofs.ReversedSquare.{around}
+use Rattle.bk_reversal.proofs.MovedSigns.{chain_then, head_not}
+use Rattle.bk_reversal.proofs.AroundSquare.{Around}
 
 module _ (l : Layout) (fits : Fits l) (q p r : ℕ) (can : CanReverse l q p r) where
   abbrev m : Layout
@@ -31,19 +32,19 @@ module _ (l : Layout) (fits : Fits l) (q p r : ℕ) (can : CanReverse l q p r) w
   hung_moved done [] (k ∷ ks) z t = absurd z
   hung_moved done (x ∷ xs) [] z t = absurd z
   hung_moved done (x ∷ xs) (k ∷ ks) z t = (
-    z.0 ∙ ap (λ (w : ℕ). Some w) (sym (about.above_x x ((head_not l fits q p r can) q x xs t))),
+    z.0 ∙ ap (λ (w : ℕ). Some w) (sym (about.above_x x (head_not q x xs t))),
     hung_moved done xs ks z.1 (omega (arith, t)),
   )
 
   ending_moved : (done : List ℕ) → times u done ≡ 0 → times v done ≡ 0 → map l.ending done ≡ map m.ending done
   ending_moved [] a b = refl
-  ending_moved (w ∷ done) a b = λ i. sym (about.ending_w w ((head_not l fits q p r can) u w done a)
-      ((head_not l fits q p r can) v w done b)) i ∷ ending_moved done (omega (arith, a)) (omega (arith, b)) i
+  ending_moved (w ∷ done) a b = λ i. sym (about.ending_w w (head_not u w done a)
+      (head_not v w done b)) i ∷ ending_moved done (omega (arith, a)) (omega (arith, b)) i
 
   wall_moved : (segments : List (List ℕ)) → AtLeft l segments → times_in q segments ≡ 0 → AtLeft m segments
   wall_moved [] a t = absurd a
   wall_moved ([] ∷ segments) a t = absurd a
-  wall_moved ((x ∷ xs) ∷ segments) a t = about.left_x x ((head_not l fits q p r can) q x xs (omega (arith, t))) ∙ a
+  wall_moved ((x ∷ xs) ∷ segments) a t = about.left_x x (head_not q x xs (omega (arith, t))) ∙ a
 
   -- a state of the sweep before p and q are laid and v is closed is one of the reversed layout's sweep
   pub state_moved : (o : Outline) (st : State l o) → times q st.laid ≡ 0 → times p st.laid ≡ 0 → times v st.done ≡ 0 → (s : State m o)
