@@ -28,14 +28,15 @@ stairs = refl
 pub one_segment : closing_bound [] ≡ 0
 one_segment = refl
 
--- two squares, of which the right one is the shorter, and then two under that, stairs down to the right: the first
--- segment and the second must be closed, and the first has one square
+-- two squares, of which the right one is the shorter, and then two under that, stairs down to the right
 abbrev two_moves : Word
 two_moves = two Under ∷ move 2 (Above ∷ Above ∷ []) ∷ []
 
+-- the first segment and the second must be closed
 pub two_moves_bound : closing_bound (outline_of two_moves).signs ≡ 2
 two_moves_bound = refl
 
+-- and the first is a valley of one square
 pub two_moves_singles : single_valleys (outline_of two_moves).signs (sizes_of (outline_of two_moves)) ≡ 1
 two_moves_singles = refl
 
@@ -56,9 +57,11 @@ lines_at_the_top = refl
 abbrev cut_in_two : Word
 cut_in_two = two Under ∷ move 1 (Even ∷ []) ∷ []
 
+-- a line stands at the left of the second square and of the third
 pub lines_cut_in_two : edges_on_lines cut_in_two ≡ false ∷ true ∷ true ∷ []
 lines_cut_in_two = refl
 
+-- so the last segment must be closed
 pub bound_cut_in_two : line_bound_of cut_in_two ≡ 1
 bound_cut_in_two = refl
 
@@ -66,15 +69,18 @@ bound_cut_in_two = refl
 pub middle_bound : line_bound (Under ∷ Above ∷ []) (touched (false ∷ true ∷ true ∷ []) (segments_of (1 ∷ 1 ∷ 1 ∷ []) (1 ∷ 2 ∷ 3 ∷ []))) ≡ 2
 middle_bound = refl
 
--- at the end of the words of simple tilings no bound is left
+-- at the end of the word of a simple tiling, the 33x32, no bound is left
 pub end_33x32 : line_bound_of word_33x32 ≡ 0
 end_33x32 = refl
 
+-- nor at the end of the word of the 65x47
 pub end_65x47 : line_bound_of word_65x47 ≡ 0
 end_65x47 = refl
 
+-- nor of that of the 69x61
 pub end_69x61 : line_bound_of word_69x61 ≡ 0
 end_69x61 = refl
 
+-- and no valley of one square is left
 pub singles_65x47 : single_valleys (outline_of word_65x47).signs (sizes_of (outline_of word_65x47)) ≡ 0
 singles_65x47 = refl

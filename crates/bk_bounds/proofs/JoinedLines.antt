@@ -12,10 +12,12 @@ use Rattle.bk_bounds.specs.VerticalCut.{begins_on_line, line_bound, next_on_line
 abbrev pub bound : List Bool → List Sign → List (List ℕ) → ℕ
 bound lines signs segments = line_bound signs (touched lines segments)
 
+-- where one of two holds, and each says another, one of those holds
 pub or_more : (a b c d : Bool) → (a ≡ true → c ≡ true) → (b ≡ true → d ≡ true) → (a || b) ≡ true → (c || d) ≡ true
 or_more true b c d f g e = or_left c d (f refl)
 or_more false b c d f g e = or_right c d (g e)
 
+-- a test that holds wherever another does counts no less
 pub more : (a b : Bool) → (a ≡ true → b ≡ true) → ◌≤◌ (cond {A = ℕ} a 1 0) (cond {A = ℕ} b 1 0)
 more false b f = omega arith
 more true b f = omega (arith, ap (λ (c : Bool). cond {A = ℕ} c 1 0) (f refl))

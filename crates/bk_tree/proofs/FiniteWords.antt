@@ -113,5 +113,6 @@ each_small o n (m ∷ w) legal few = (
   each_small (after_move o m) n w legal.1 (omega (arith, order_more m w, few)),
 )
 
+-- the legal words of order n or less are among those of n moves and n squares a move
 pub among_all : (n : ℕ) (w : Word) → AreLegalFrom start w → order_of w ≤ n → IsIn w (words_to n n)
 among_all n w legal few = in_words n n w (omega (arith, moves_many start w legal, few)) (each_small start n w legal few)
