@@ -1,6 +1,8 @@
 pub mod Sums
 pub mod PlayedNodes
 pub mod SignedNodes
+pub mod LoneValley
+pub mod UnderSquare
 pub mod UnderLast
 pub mod SecondMoves
 pub mod SecondMoveExamples

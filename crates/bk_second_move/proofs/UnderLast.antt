@@ -1,83 +1,29 @@
 -- A tiling whose word begins with a move all signs of which are under: its second move hangs all squares under the top right one,
 -- which ends on their node alone.
-use Rattle.std.proofs.Common.{Bool, List, Some, [], ap, append-nil, arith, cond, false, filter, inl, inr, length, map, nat_eq, refl, slice_get}
-use Rattle.std.proofs.Common.{slice_index_or, subst, suc, sym, true, zero, ℕ, ◌++◌, ◌+◌, ◌-◌, ◌<◌, ◌∙◌, ◌∷◌, ◌≡◌, ◌≤◌, ◌⊎◌}
-use Rattle.std.proofs.lemmas.Bool.{cases_lt}
-use Rattle.std.proofs.lemmas.Bool.Decides.{nat_tests}
-use Rattle.std.proofs.lemmas.List.Sums.{length-filter}
-use Rattle.std.proofs.lemmas.Option.{get_or_from_slice_get}
+use Rattle.std.proofs.Common.{List, Some, [], ap, arith, inl, inr, length, slice_get, subst, suc, sym, zero, ℕ, ◌++◌, ◌+◌, ◌∙◌, ◌∷◌, ◌≡◌}
 use Rattle.bk_laws.proofs.ListPlaces.{get_append, get_some}
-use Rattle.bk_tiling.proofs.Cells.{column_left, column_right, depth_comes_from, from_filter}
+use Rattle.bk_tiling.proofs.Cells.{from_filter}
 use Rattle.bk_tiling.proofs.Rows.{Chain}
-use Rattle.bk_tiling.specs.Column.{covers_column}
 use Rattle.bk_tiling.specs.SquareGroups.{square_groups}
 use Rattle.bk_tiling.specs.Tiling.{IsOneOf, IsTiling, Tiling}
 use Rattle.bk_tiling.specs.declared.Segment.{Segment}
 use Rattle.bk_tiling.specs.declared.Square.{Square}
 use Rattle.bk_net.specs.Diagram.{node_below}
-use Rattle.bk_word.specs.Outline.{IsLegalMove, start, valley_of, valley_place}
-use Rattle.bk_word.specs.Play.{after_move, joined, numbers_from, parts, segments_apart, signs_apart}
+use Rattle.bk_word.specs.Outline.{start, valley_of}
+use Rattle.bk_word.specs.Play.{after_move}
 use Rattle.bk_word.specs.Word.{Move, Word}
-use Rattle.bk_word.specs.declared.Sign.{Sign}
-use Rattle.bk_word.specs.declared.Sign.TheVariants.{Under}
 use Rattle.bk_lay.proofs.Filling.{is_under}
 use Rattle.bk_lay.proofs.LaidRuns.{one_of}
 use Rattle.bk_lay.proofs.Laying.{under_chain}
 use Rattle.bk_lay.proofs.WordPlay.{tiling_word_is_complete}
 use Rattle.bk_lay.specs.Depiction.{IsSegment}
-use Rattle.bk_lay.specs.TilingWord.{IsLeftmostValley, IsWordOf, hangs_under, squares_under}
+use Rattle.bk_lay.specs.TilingWord.{IsWordOf, hangs_under, squares_under}
 use Rattle.bk_word_net.proofs.AlongWord.{Along, along_move, along_start, top_valley}
 use Rattle.bk_word_net.proofs.LaidFlow.{get_one}
-use Rattle.bk_tiling_layout.proofs.Edges.{meet, side}
-use Rattle.bk_tiling_layout.proofs.GroupNodes.{IsNode}
-use Rattle.bk_tiling_layout.proofs.Nodes.{most_nodes}
-use Rattle.bk_tiling_layout.proofs.TilingSquares.{has_number, in_square, node_at, one_number}
-use Rattle.bk_tiling_layout.specs.TilingLayout.{node_above, square_of}
-use Rattle.bk_signed_word.proofs.Totals.{total_from}
-use Rattle.bk_second_move.proofs.SignedNodes.{ends_of, touching}
-use Rattle.bk_second_move.proofs.Sums.{counted, not_counted, total_both, total_counts, total_one}
+use Rattle.bk_second_move.proofs.SignedNodes.{touching}
 use Rattle.bk_second_move.specs.SecondMove.{AreUnder}
-
--- ---- the outline after such a move
-
--- all signs stay
-under_parts : (signs : List Sign) → AreUnder signs → filter parts signs ≡ signs
-under_parts [] under = refl
-under_parts (s ∷ signs) under = subst (λ z. filter parts (z ∷ signs) ≡ z ∷ signs) (sym under.0) (ap (λ l. Under ∷ l) (under_parts signs under.1))
-
--- and no segments are joined
-under_joins : (signs : List Sign) (segments : List (List ℕ)) → AreUnder signs → joined signs segments ≡ segments
-under_joins signs [] under = refl
-under_joins [] (g ∷ segments) under = refl
-under_joins (s ∷ signs) (g ∷ segments) under =
-    subst (λ z. joined (z ∷ signs) (g ∷ segments) ≡ g ∷ segments) (sym under.0) (ap (λ l. g ∷ l) (under_joins signs segments under.1))
-
--- so the last one is the valley
-under_place : (signs : List Sign) → AreUnder signs → valley_place signs ≡ length signs
-under_place [] under = refl
-under_place (s ∷ signs) under = subst (λ z. valley_place (z ∷ signs) ≡ suc (length signs)) (sym under.0) (ap suc (under_place signs under.1))
-
-single_at : (n count k : ℕ) → k < count → slice_index_or (map (λ q. q ∷ []) (numbers_from n count) ++ []) k [] ≡ (n + k) ∷ []
-single_at n zero k h = absurd (omega arith)
-single_at n (suc count) zero h = ap (λ i. i ∷ []) (omega arith)
-single_at n (suc count) (suc k) h = single_at (n + 1) count k (omega arith) ∙ ap (λ i. i ∷ []) (omega arith)
-
--- the last square stands alone on the valley
-valley_alone : (m : Move) → IsLegalMove start m → AreUnder m.signs → valley_of (after_move start m) ≡ m.count ∷ []
-valley_alone m legal under = (λ i. slice_index_or (whole i) (place i) []) ∙ single_at 1 m.count (length m.signs) (omega (arith, legal.signs))
-    ∙ ap (λ k. k ∷ []) (omega (arith, legal.signs))
-  where
-    same : signs_apart start m ≡ m.signs
-    same = append-nil m.signs
-
-    all : AreUnder (signs_apart start m)
-    all = subst AreUnder (sym same) under
-
-    whole : joined (signs_apart start m) (segments_apart start m) ≡ segments_apart start m
-    whole = under_joins (signs_apart start m) (segments_apart start m) all
-
-    place : valley_place (filter parts (signs_apart start m)) ≡ length m.signs
-    place = ap valley_place (under_parts (signs_apart start m) all) ∙ under_place (signs_apart start m) all ∙ ap length same
+use Rattle.bk_second_move.proofs.LoneValley.{valley_alone}
+use Rattle.bk_second_move.proofs.UnderSquare.{IsValleyUnder, touched_there}
 
 -- the last square of a row ends where the row does
 chain_last : (squares : List Square) (x end k : ℕ) (q : Square) → Chain x squares end → slice_get squares k ≡ Some q → suc k ≡ length squares → q.x + q.s ≡ end
@@ -95,132 +41,6 @@ pub record IsUnderLast (t : Tiling) (count : ℕ) : Type 0 where
   pub top : square.y ≡ 0
   pub right : square.x + square.s ≡ t.width
   pub touched : touching t (node_below (square_groups t.squares) square) ≡ count
-
--- a square of a tiling, and a leftmost valley as wide as it just under it
-record IsValleyUnder (t : Tiling) (laid : List Square) (v : Segment) (q : Square) : Type 0 where
-  is : IsOneOf q t.squares
-  top : q.y ≡ 0
-  right : q.x + q.s ≡ t.width
-  x : v.x ≡ q.x
-  wide : v.width ≡ q.s
-  level : v.level ≡ q.s
-  found : IsLeftmostValley t.width laid v
-  low : v.level < t.height
-  tops : (r : Square) → IsOneOf r laid → (r.y ≡ 0) × IsOneOf r t.squares
-
-module _ (t : Tiling) (tiling : IsTiling t) (laid : List Square) (v : Segment) (q : Square) (u : IsValleyUnder t laid v q) where
-  abbrev below : ℕ
-  below = node_below (square_groups t.squares) q
-
-  node : IsNode t below
-  node = node_at t tiling below (most_nodes t tiling q u.is)
-
-  ends : (q.y + q.s ≡ node.level) × (node.left ≤ q.x) × (q.x + q.s ≤ node.right)
-  ends = node.end_to q u.is refl
-
-  side_some : 0 < q.s
-  side_some = side t tiling q u.is
-
-  -- the node reaches no further to the left, since the column there is deeper
-  left_is : node.left ≡ q.x
-  left_is = cases (cases_lt node.left q.x)
-    where
-      cases : (node.left < q.x) ⊎ (q.x ≤ node.left) → node.left ≡ q.x
-      cases (inr h) = omega (arith, h, ends.1)
-      cases (inl h) = absurd (from (depth_comes_from laid (q.x - 1) v.level (u.found.valley.left (q.x - 1) (omega (arith, h, u.x)))))
-        where
-          from : (r : Square) × IsOneOf r laid × (covers_column (q.x - 1) r ≡ true) × (v.level < r.y + r.s) → ⊥
-          from (r, is, over, deep) = omega (
-            arith,
-            (u.tops r is).0,
-            side_some,
-            ends.0,
-            u.top,
-            node.under r (q.x - 1) (u.tops r is).1 (omega (arith, h)) (omega (arith, h, ends.2))
-                (record {
-                  left = column_left (q.x - 1) r over;
-                  right = column_right (q.x - 1) r over;
-                  top = omega (arith, (u.tops r is).0);
-                  bottom = omega (arith, deep, u.level, ends.0, u.top);
-                }),
-          )
-
-  right_is : node.right ≡ q.x + q.s
-  right_is = omega (arith, ends.2, node.wide, u.right)
-
-  -- what hangs from the node hangs under the valley
-  under_from : (r : Square) → hangs_under v r ≡ true → (r.y ≡ v.level) × (v.x ≤ r.x) × (r.x + r.s ≤ v.x + v.width)
-  under_from r h = (one r h, two r h, three r h)
-    where
-      one : (r : Square) → hangs_under v r ≡ true → r.y ≡ v.level
-      one r h = grind (arith, nat_tests)
-
-      two : (r : Square) → hangs_under v r ≡ true → v.x ≤ r.x
-      two r h = grind (arith, nat_tests)
-
-      three : (r : Square) → hangs_under v r ≡ true → r.x + r.s ≤ v.x + v.width
-      three r h = grind (arith, nat_tests)
-
-  under_to : (r : Square) → r.y ≡ v.level → v.x ≤ r.x → r.x + r.s ≤ v.x + v.width → hangs_under v r ≡ true
-  under_to r e l m = grind (arith, nat_tests)
-
-  hung_one : (b : Bool) (n : ℕ) → (n ≡ below → b ≡ true) → (b ≡ true → n ≡ below) → ◌≡◌ {A = ℕ} (cond (nat_eq n below) 1 0) (cond b 1 0)
-  hung_one true n to from = counted n below (from refl)
-  hung_one false n to from = not_counted n below (λ e. absurd (no (to e)))
-    where
-      no : false ≡ true → ⊥
-      no e = cc
-
-  hung_here : (k : ℕ) (r : Square) → slice_get t.squares k ≡ Some r
-      → ◌≡◌ {A = ℕ} (cond (nat_eq (ends_of t (0 + k)).0 below) 1 0) (cond (hangs_under v r) 1 0)
-  hung_here k r e = ap (λ (z : Square). cond {A = ℕ} (nat_eq (node_above (square_groups t.squares) z) below) 1 0) same
-      ∙ hung_one (hangs_under v r) (node_above (square_groups t.squares) r) to from
-    where
-      same : square_of t (0 + k) ≡ r
-      same = ap (square_of t) (from_zero k) ∙ get_or_from_slice_get t.squares k r (record { x = 0; y = 0; s = 0 }) e
-        where
-          from_zero : (k : ℕ) → 0 + k ≡ k
-          from_zero k = omega arith
-
-      own : IsOneOf r t.squares
-      own = one_of t.squares k r e
-
-      to : node_above (square_groups t.squares) r ≡ below → hangs_under v r ≡ true
-      to f = let h = node.hang_to r own f in under_to r (omega (arith, h.0, ends.0, u.top, u.level)) (omega (arith, h.1, left_is, u.x))
-          (omega (arith, h.2, right_is, u.x, u.wide))
-
-      from : hangs_under v r ≡ true → node_above (square_groups t.squares) r ≡ below
-      from f = let h = under_from r f in let s = side t tiling r own in node.hang_from r r.x own (omega (arith, h.0, ends.0, u.top, u.level))
-          (omega (arith, h.1, left_is, u.x)) (omega (arith, h.2, s, right_is, u.x, u.wide)) (omega arith) (omega (arith, s))
-
-  -- the square itself ends at it, and no other
-  ended_one : total_from (λ k. cond (nat_eq (ends_of t k).1 below) 1 0) 0 (length t.squares) ≡ 1
-  ended_one = let n = has_number t tiling q u.is in
-      total_one (λ k. cond (nat_eq (ends_of t k).1 below) 1 0) n.number 0 (length t.squares) (omega arith) (omega (arith, n.below))
-      (counted (ends_of t n.number).1 below (ap (node_below (square_groups t.squares)) n.is))
-      (λ k lo hi other. not_counted (ends_of t k).1 below (λ e. other (one_number t tiling k n.number (omega arith) n.below
-      (same (square_of t k) (in_square t tiling k (omega arith)) e ∙ sym n.is))))
-    where
-      same : (r : Square) → IsOneOf r t.squares → node_below (square_groups t.squares) r ≡ below → r ≡ q
-      same r own e = let h = node.end_to r own e in let s = side t tiling r own in
-          meet t tiling r.x (node.level - 1) r q own u.is
-          (record { left = omega arith; right = omega (arith, s); top = omega (arith, h.0, s); bottom = omega (arith, h.0, s) })
-          (record {
-            left = omega (arith, h.1, left_is);
-            right = omega (arith, h.2, s, right_is);
-            top = omega (arith, u.top);
-            bottom = omega (arith, ends.0, side_some);
-          })
-
-  -- so one square more touches it than hang under the valley
-  touched_there : touching t below ≡ length (squares_under t v) + 1
-  touched_there = total_both (λ k. cond (nat_eq (ends_of t k).0 below) 1 0) (λ k. cond (nat_eq (ends_of t k).1 below) 1 0) 0 (length t.squares)
-      ∙ omega (
-        arith,
-        total_counts t.squares (hangs_under v) (λ k. cond (nat_eq (ends_of t k).0 below) 1 0) 0 hung_here,
-        length-filter (hangs_under v) t.squares,
-        ended_one,
-      )
 
 module _ (t : Tiling) (tiling : IsTiling t) (first second : Move) (more : Word) (p : IsWordOf t (first ∷ second ∷ more)) (under : AreUnder first.signs) where
   abbrev row : List Square
