@@ -7,6 +7,8 @@ pub mod LeftLines
 pub mod LineSets
 pub mod LinesBeside
 pub mod LoneSquares
+pub mod BaseFour
+pub mod WordDigits
 pub mod PackedOrder
 pub mod PackedExamples
 pub mod NextMoves
@@ -22,4 +24,6 @@ pub mod JoinedSegments
 pub mod JoiningExamples
 pub mod TopLineExamples
 pub mod TopLineMarks
+pub mod KeptTouches
+pub mod ClosingTouches
 pub mod TouchedLines

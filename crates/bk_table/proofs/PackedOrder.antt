@@ -7,24 +7,21 @@ use Rattle.std.specs.List.{AllByRecursion}
 use Rattle.std.specs.Ordering.{nat_cmp, ordering_then}
 use Rattle.std.specs.declared.cmp.Ordering.{Ordering}
 use Rattle.std.specs.declared.cmp.Ordering.TheVariants.{Equal, Greater, Less}
-use Rattle.std.proofs.Common.{Bool, List, Some, [], ap, append-nil, append_assoc, arith, drop, false, get_or, inl, inr, length, length-append, map}
-use Rattle.std.proofs.Common.{refl, slice_get, subst, suc, sym, take, true, zero, ℕ, ◌%◌, ◌*◌, ◌++◌, ◌+◌, ◌-◌, ◌/◌, ◌<◌, ◌^◌, ◌∙◌, ◌∷◌, ◌≡◌, ◌≤◌}
-use Rattle.std.proofs.Common.{◌⊎◌}
-use Rattle.std.proofs.lemmas.List.{length-map, length-take-le, take-append-drop}
-use Rattle.std.proofs.Math.Seq.{take-suc}
-use Rattle.std.proofs.Math.Nat.{mul-le-mul_right, one-le-pow, pow-succ'}
-use Rattle.bk_laws.proofs.AllOfLists.{all_append, all_left}
-use Rattle.bk_word.specs.Outline.{IsLegalMove, Outline, has_left_wall, has_right_wall, open_side, start}
+use Rattle.std.proofs.Common.{List, [], ap, arith, inl, inr, length, length-append, map, refl, subst, suc, sym, zero, ℕ, ◌*◌, ◌++◌, ◌+◌, ◌-◌, ◌<◌, ◌^◌, ◌∙◌}
+use Rattle.std.proofs.Common.{◌∷◌, ◌≡◌, ◌≤◌, ◌⊎◌}
+use Rattle.std.proofs.lemmas.List.{length-map}
+use Rattle.bk_laws.proofs.AllOfLists.{all_append}
+use Rattle.bk_word.specs.Outline.{IsLegalMove, Outline, start}
 use Rattle.bk_word.specs.Play.{AreLegalFrom, after_move}
 use Rattle.bk_word.specs.Word.{Move, Word, move_cmp, order_of, sign_cmp, sign_place, word_cmp}
 use Rattle.bk_word.specs.declared.Sign.{Sign}
 use Rattle.bk_word.specs.declared.Sign.TheVariants.{Above, Even, Under}
 use Rattle.bk_word.proofs.StoredBytes.{order_more}
-use Rattle.bk_table.specs.Packed.{AreDigits, begun_by, move_digits, word_digits}
+use Rattle.bk_table.specs.Packed.{AreDigits, begun_by, word_digits}
 use Rattle.bk_table.specs.PackedLaws.{PackedWordsCompare}
-
-three : (x y : ℕ) → (x < y) ⊎ ((x ≡ y) ⊎ (y < x))
-three x y = grind arith
+use Rattle.bk_word.proofs.PlayLaws.{few_signs}
+use Rattle.bk_table.proofs.BaseFour.{three, begun-cons, digits_small, first_decides}
+use Rattle.bk_table.proofs.WordDigits.{signs_digits, count_digits, few_digits, are_digits, low_counts}
 
 then_assoc : (a b c : Ordering) → ordering_then (ordering_then a b) c ≡ ordering_then a (ordering_then b c)
 then_assoc Less b c = refl
@@ -56,78 +53,6 @@ move_same m n e = cases (three m.count n.count)
     cases (inr (inl h)) = let f = signs (by Equal (nat_cmp_is m.count n.count Equal h)) in λ i. record { count = h i; signs = f i }
     cases (inr (inr h)) = let f = by Greater (nat_cmp_is m.count n.count Greater h) in absurd (cc)
 
--- ---- digits
-
-pub four_times : (room : ℕ) → 4 ^ (suc room) ≡ 4 * 4 ^ room
-four_times room = pow-succ' 4 room
-
-pub three_at_most : (d p : ℕ) → d < 4 → d * p + p ≤ 4 * p
-three_at_most d p h = let k : d + 1 ≤ 4 = omega arith in let l = mul-le-mul_right p k in omega (arith, l)
-
--- the first digit, and those behind it
-pub begun-cons : (room d : ℕ) (ds : List ℕ) → begun_by (suc room) (d ∷ ds) ≡ d * 4 ^ room + begun_by room ds
-begun-cons room d ds = let e : suc room - 1 ≡ room = omega arith in ap (λ r. d * 4 ^ r + begun_by r ds) e
-
--- so many digits make a number below that power
-pub digits_small : (room : ℕ) (ds : List ℕ) → AreDigits ds → length ds ≤ room → begun_by room ds < 4 ^ room
-digits_small room [] digits few = omega (arith, one-le-pow room 4 (omega arith))
-digits_small zero (d ∷ ds) digits few = absurd (omega arith)
-digits_small (suc room) (d ∷ ds) digits few =
-    omega (arith, begun-cons room d ds, four_times room, three_at_most d (4 ^ room) digits.0, digits_small room ds digits.1 (omega arith))
-
--- the first digit decides, else the rest
-pub first_decides : (x y p a b : ℕ) → a < p → b < p → nat_cmp (x * p + a) (y * p + b) ≡ ordering_then (nat_cmp x y) (nat_cmp a b)
-first_decides x y p a b small small_b = cases (three x y)
-  where
-    cases : (x < y) ⊎ ((x ≡ y) ⊎ (y < x)) → nat_cmp (x * p + a) (y * p + b) ≡ ordering_then (nat_cmp x y) (nat_cmp a b)
-    cases (inl h) =
-        let k : x + 1 ≤ y = omega arith in
-        let l = mul-le-mul_right p k in
-        sym (nat_cmp_is (x * p + a) (y * p + b) Less (omega (arith, l))) ∙ ap (λ z. ordering_then z (nat_cmp a b)) (nat_cmp_is x y Less h)
-    cases (inr (inl h)) = same (three a b)
-      where
-        equal : ordering_then (nat_cmp x y) (nat_cmp a b) ≡ nat_cmp a b
-        equal = ap (λ z. ordering_then z (nat_cmp a b)) (sym (nat_cmp_is x y Equal h))
-
-        times : x * p ≡ y * p
-        times = ap (λ z. z * p) h
-
-        same : (a < b) ⊎ ((a ≡ b) ⊎ (b < a)) → nat_cmp (x * p + a) (y * p + b) ≡ ordering_then (nat_cmp x y) (nat_cmp a b)
-        same (inl k) = sym (nat_cmp_is (x * p + a) (y * p + b) Less (omega (arith, times))) ∙ nat_cmp_is a b Less k ∙ sym equal
-        same (inr (inl k)) = sym (nat_cmp_is (x * p + a) (y * p + b) Equal (omega (arith, times))) ∙ nat_cmp_is a b Equal k ∙ sym equal
-        same (inr (inr k)) = sym (nat_cmp_is (x * p + a) (y * p + b) Greater (omega (arith, times))) ∙ nat_cmp_is a b Greater k ∙ sym equal
-    cases (inr (inr h)) =
-        let k : y + 1 ≤ x = omega arith in
-        let l = mul-le-mul_right p k in
-        sym (nat_cmp_is (x * p + a) (y * p + b) Greater (omega (arith, l))) ∙ ap (λ z. ordering_then z (nat_cmp a b)) (nat_cmp_is x y Greater h)
-
--- ---- signs and counts as digits
-
-sign_small : (s : Sign) → sign_place s < 4
-sign_small Above = omega arith
-sign_small Even = omega arith
-sign_small Under = omega arith
-
--- the places of signs are digits
-pub signs_digits : (signs : List Sign) → AreDigits (map sign_place signs)
-signs_digits [] = tt
-signs_digits (s ∷ signs) = (sign_small s, signs_digits signs)
-
--- the two digits of a count are one of base 16
-pub count_digits : (room count : ℕ) (rest : List ℕ) → begun_by (suc (suc room)) ((count - 1) / 4 ∷ (count - 1) % 4 ∷ rest)
-    ≡ (count - 1) * 4 ^ room + begun_by room rest
-count_digits room count rest =
-    begun-cons (suc room) ((count - 1) / 4) ((count - 1) % 4 ∷ rest)
-    ∙ omega (
-      arith,
-      begun-cons room ((count - 1) % 4) rest,
-      ap (λ z. (count - 1) / 4 * z) (four_times room),
-      parts ((count - 1) / 4) ((count - 1) % 4) (count - 1) (4 ^ room) (omega arith),
-    )
-  where
-    parts : (a b c p : ℕ) → 4 * a + b ≡ c → a * (4 * p) + b * p ≡ c * p
-    parts a b c p e = let f = ap (λ z. z * p) e in omega (arith, f)
-
 -- signs of one number, and digits behind them
 signs_decide : (room : ℕ) (s t : List Sign) (ds es : List ℕ) → length s ≡ length t → AreDigits ds → AreDigits es
     → length s + length ds ≤ room → length t + length es ≤ room
@@ -152,43 +77,6 @@ signs_decide (suc room) (s ∷ ss) (t ∷ ts) ds es e digits digits_e few few_e 
 
     shorter : room - length ss ≡ suc room - length (s ∷ ss)
     shorter = omega arith
-
--- ---- words
-
--- a legal move has at most four digits for each of its squares
-pub few_signs : (o : Outline) (m : Move) → IsLegalMove o m → length m.signs ≤ m.count + 1
-few_signs o m legal = omega (arith, legal.signs, open_one (has_left_wall o), open_one (has_right_wall o))
-  where
-    open_one : (b : Bool) → open_side b ≤ 1
-    open_one true = omega arith
-    open_one false = omega arith
-
-pub few_digits : (o : Outline) (w : Word) → AreLegalFrom o w → length (word_digits w) ≤ 4 * order_of w
-few_digits o [] legal = omega arith
-few_digits o (m ∷ w) legal = omega (
-  arith,
-  legal.0.some,
-  order_more m w,
-  few_signs o m legal.0,
-  length-append (move_digits m) (word_digits w),
-  length-map m.signs sign_place,
-  few_digits (after_move o m) w legal.1,
-)
-
-pub are_digits : (w : Word) → AllByRecursion (λ m. m.count ≤ 16) w → AreDigits (word_digits w)
-are_digits [] low = tt
-are_digits (m ∷ w) low = (
-  omega (arith, low.0),
-  (
-    omega arith,
-    all_append (λ d. d < 4) (map sign_place m.signs) (word_digits w) (signs_digits m.signs)
-        (are_digits w low.1),
-  ),
-)
-
-pub low_counts : (n : ℕ) (w : Word) → order_of w ≤ n → AllByRecursion (λ m. m.count ≤ n) w
-low_counts n [] few = tt
-low_counts n (m ∷ w) few = (omega (arith, few, order_more m w), low_counts n w (omega (arith, few, order_more m w)))
 
 count_cmp : (x y : ℕ) → 0 < x → 0 < y → nat_cmp (x - 1) (y - 1) ≡ nat_cmp x y
 count_cmp x y some some_y = cases (three x y)
@@ -282,78 +170,7 @@ words_compare o (m ∷ v) (n ∷ w) (suc (suc room)) legal legal_w e few low low
         rest Greater f = ap (λ z. ordering_then z behind) f ∙ sym (ap (λ z. ordering_then z (word_cmp v w)) f)
         rest Equal f = ap (ordering_then (move_cmp m n)) (again h (move_same m n f))
 
+-- the numbers of legal words of one order compare as the words do
 pub packed_words_compare : PackedWordsCompare
 packed_words_compare v w legal legal_w e few = words_compare start v w 64 legal legal_w e (omega arith) (low_counts 16 v (omega (arith, e)))
     (low_counts 16 w few)
-
--- ---- written digit by digit
-
--- one digit more, at the next place
-pub begun-snoc : (room d : ℕ) (ds : List ℕ) → length ds < room → begun_by room (ds ++ d ∷ []) ≡ begun_by room ds + d * 4 ^ (room - 1 - length ds)
-begun-snoc zero d ds few = absurd (omega arith)
-begun-snoc (suc room) d [] few = let e : suc room - 1 - 0 ≡ suc room - 1 = omega arith in let f = ap (λ r. d * 4 ^ r) e in omega (arith, f)
-begun-snoc (suc room) d (x ∷ ds) few =
-    let e : suc room - 1 - suc (length ds) ≡ room - 1 - length ds = omega arith in
-    let f = ap (λ r. d * 4 ^ r) e in
-    omega (arith, f, begun-cons room x (ds ++ d ∷ []), begun-cons room x ds, begun-snoc room d ds (omega arith))
-
-digits_before : (ds : List ℕ) (i : ℕ) → AreDigits ds → AreDigits (take i ds)
-digits_before ds i digits = all_left (λ d. d < 4) (take i ds) (drop i ds) (subst AreDigits (sym (take-append-drop i ds)) digits)
-
--- what is written of digits, and the unit of the next one
-pub record IsNextSum (ds : List ℕ) (i number unit d : ℕ) : Type 0 where
-  pub sum : number + d * unit ≡ begun_by 64 (take (i + 1) ds)
-  pub small : number + d * unit < 4 ^ 64
-  pub next : i + 1 < 64 → unit / 4 ≡ 4 ^ (63 - (i + 1))
-
-pub next_sum : (ds : List ℕ) (i number unit d : ℕ) → i < length ds → length ds ≤ 64 → AreDigits ds → number ≡ begun_by 64 (take i ds)
-    → (i < 64 → unit ≡ 4 ^ (63 - i)) → d ≡ get_or ds i 0 → IsNextSum ds i number unit d
-next_sum ds i number unit d within few digits e u is = record {
-  sum = sum;
-  small = subst (λ n. n < 4 ^ 64) (sym sum) (digits_small 64 (take (i + 1) ds) (digits_before ds (i + 1) digits)
-      (omega (arith, length-take-le (i + 1) ds (omega arith))));
-  next = quarter;
-}
-  where
-    long : length (take i ds) ≡ i
-    long = length-take-le i ds (omega arith)
-
-    sum : number + d * unit ≡ begun_by 64 (take (i + 1) ds)
-    sum = ap (λ n. n + d * unit) e ∙ ap (λ z. begun_by 64 (take i ds) + d * z) (u (omega arith))
-        ∙ ap (λ k. begun_by 64 (take i ds) + d * 4 ^ (63 - k)) (sym long)
-        ∙ sym (begun-snoc 64 d (take i ds) (omega (arith, long))) ∙ ap (λ z. begun_by 64 (take i ds ++ z ∷ [])) is
-        ∙ sym (ap (begun_by 64) (take-suc ds i 0 within))
-        ∙ ap (λ k. begun_by 64 (take k ds)) one_more
-      where
-        one_more : suc i ≡ i + 1
-        one_more = omega arith
-
-    quarter : i + 1 < 64 → unit / 4 ≡ 4 ^ (63 - (i + 1))
-    quarter h =
-        let e : 63 - i ≡ suc (63 - (i + 1)) = omega arith in
-        omega (arith, u (omega arith), ap (λ k. 4 ^ k) e, four_times (63 - (i + 1)))
-
--- ---- move by move
-
-pub digits_next : (w : Word) (i : ℕ) (m : Move) → slice_get w i ≡ Some m → word_digits (take (i + 1) w) ≡ word_digits (take i w) ++ move_digits m
-digits_next [] i m is = absurd (cc)
-digits_next (k ∷ w) zero m is = let e : k ≡ m = cc in append-nil (move_digits k) ∙ ap move_digits e
-digits_next (k ∷ w) (suc i) m is =
-    let e : suc i + 1 ≡ suc (i + 1) = omega arith in
-    ap (λ j. word_digits (take j (k ∷ w))) e ∙ ap (λ z. move_digits k ++ z) (digits_next w i m is)
-    ∙ sym (append_assoc (move_digits k) (word_digits (take i w)) (move_digits m))
-
-pub digits_room : (w : Word) (i : ℕ) (m : Move) → slice_get w i ≡ Some m → length (word_digits (take i w)) + length m.signs + 2 ≤ length (word_digits w)
-digits_room [] i m is = absurd (cc)
-digits_room (k ∷ w) zero m is = let e : k ≡ m = cc in omega (
-  arith,
-  ap (λ (z : Move). length z.signs) e,
-  length-append (move_digits k) (word_digits w),
-  length-map k.signs sign_place,
-)
-digits_room (k ∷ w) (suc i) m is = omega (
-  arith,
-  digits_room w i m is,
-  length-append (move_digits k) (word_digits w),
-  length-append (move_digits k) (word_digits (take i w)),
-)

@@ -15,7 +15,9 @@ use Rattle.bk_word.specs.declared.Sign.TheVariants.{Above, Even, Under}
 use Rattle.bk_second_move.specs.SecondMove.{AreUnder}
 use Rattle.bk_table.specs.Packed.{AreDigits, begun_by, move_digits, packed, word_digits}
 use Rattle.bk_table.specs.Second.{BeginsUnder}
-use Rattle.bk_table.proofs.PackedOrder.{are_digits, begun-cons, count_digits, digits_small, few_digits, few_signs, low_counts, signs_digits}
+use Rattle.bk_table.proofs.WordDigits.{are_digits, count_digits, few_digits, low_counts, signs_digits}
+use Rattle.bk_table.proofs.BaseFour.{begun-cons, digits_small}
+use Rattle.bk_word.proofs.PlayLaws.{few_signs}
 use Rattle.bk_table.proofs.Spans.{begun_join}
 
 -- so many signs, all under

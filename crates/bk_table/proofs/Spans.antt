@@ -12,7 +12,8 @@ use Rattle.bk_word.specs.declared.Sign.{Sign}
 use Rattle.bk_table.specs.Packed.{AreDigits, begun_by, move_digits, packed, word_digits}
 use Rattle.bk_table.specs.Span.{IsNarrow, IsWithin, MovesThatGoOnLieInASpan, WordsThatGoOnLieInASpan, begun_digits, span_from}
 use Rattle.bk_table.specs.declared.span.Span.{Span}
-use Rattle.bk_table.proofs.PackedOrder.{are_digits, begun-cons, begun-snoc, digits_small, few_digits, four_times, low_counts, three_at_most}
+use Rattle.bk_table.proofs.WordDigits.{are_digits, few_digits, low_counts}
+use Rattle.bk_table.proofs.BaseFour.{begun-cons, begun-snoc, digits_small, four_times, three_at_most}
 
 -- the digits of moves are those of the first ones and then those of the rest
 pub digits_join : (v w : Word) → word_digits (v ++ w) ≡ word_digits v ++ word_digits w

@@ -1,216 +1,36 @@
 -- The lines that closed nodes touch, as a move is played and taken back.
-use Rattle.std.proofs.Common.{List, Some, [], ap, arith, drop, inl, inr, length, length-append, refl, replicate, slice_get}
-use Rattle.std.proofs.Common.{subst, suc, sym, take, zero, ℕ, ◌++◌, ◌+◌, ◌-◌, ◌<◌, ◌∙◌, ◌∷◌, ◌≡◌, ◌≤◌, ◌⊎◌}
-use Rattle.std.proofs.lemmas.List.{length-replicate, take-append-drop}
-use Rattle.std.proofs.lemmas.Option.{get_or_from_slice_get, slice_get_within}
-use Rattle.bk_laws.proofs.ListPlaces.{get_after, get_append, get_front, get_last, get_some}
-use Rattle.bk_laws.proofs.Occurrences.{times, times_at, times_in-append}
-use Rattle.bk_word.specs.Outline.{Outline, start, valley_of, valley_place}
+use Rattle.std.proofs.Common.{List, Some, [], ap, arith, drop, inl, inr, length, length-append, refl, slice_get, subst, suc, sym, take, zero, ℕ, ◌++◌, ◌-◌, ◌<◌}
+use Rattle.std.proofs.Common.{◌∙◌, ◌∷◌, ◌≡◌, ◌≤◌, ◌⊎◌}
+use Rattle.std.proofs.lemmas.List.{take-append-drop}
+use Rattle.std.proofs.lemmas.Option.{slice_get_within}
+use Rattle.bk_laws.proofs.ListPlaces.{get_last}
+use Rattle.bk_word.specs.Outline.{Outline, start, valley_of}
 use Rattle.bk_word.specs.Play.{IsLegal, after_move, outline_of}
 use Rattle.bk_word.specs.Word.{Move, Word, order_of}
 use Rattle.bk_word.proofs.PlayLaws.{after-snoc}
-use Rattle.bk_word_net.proofs.NoLoose.{Played, closed_count, hung_number, played_moves, played_start}
-use Rattle.bk_word_net.proofs.Numbering.{Numbered, numbered_moves, numbered_start}
+use Rattle.bk_word_net.proofs.NoLoose.{closed_count, played_moves, played_start}
+use Rattle.bk_word_net.proofs.Numbering.{numbered_moves, numbered_start}
 use Rattle.bk_word_net.proofs.Shape.{hung_many}
-use Rattle.bk_layout.proofs.Counting.{got_same, got_times}
-use Rattle.bk_free_cuts.specs.LineNumbers.{left_end, lefts_of, new_sides, right_end, sides_after, sides_at, sides_of}
+use Rattle.bk_layout.proofs.Counting.{got_same}
+use Rattle.bk_free_cuts.specs.LineNumbers.{lefts_of, sides_after, sides_of}
 use Rattle.bk_free_cuts.specs.NodeCut.{TouchesClosed}
-use Rattle.bk_free_cuts.specs.SharedNodes.{IsAtClosed}
-use Rattle.bk_table.proofs.LeftLines.{along_append, along_more, index_left, lefts_in}
-use Rattle.bk_table.proofs.RightLines.{index_right, rights_in}
+use Rattle.bk_table.proofs.LeftLines.{along_append, along_more, lefts_in}
+use Rattle.bk_table.proofs.RightLines.{rights_in}
 use Rattle.bk_table.specs.Rights.{rights_of}
-use Rattle.bk_table.specs.NodeLines.{AreNodeLines, Has, IsBeside, IsBesideNew, IsBesideOneOf}
+use Rattle.bk_table.specs.NodeLines.{AreNodeLines, Has, IsBesideNew, IsBesideOneOf}
 use Rattle.bk_table.specs.declared.line_set.LineSet.{LineSet}
+use Rattle.bk_table.proofs.KeptTouches.{in_front, touch_after, touch_before}
+use Rattle.bk_table.proofs.ClosingTouches.{touch_valley, touch_new, only_touch}
 
--- ---- one move
-
--- a place in the front of a list
-in_front : {A : Type 0} (xs ys : List A) (k : ℕ) (x : A) → k < length xs → slice_get (xs ++ ys) k ≡ Some x → slice_get xs k ≡ Some x
-in_front xs ys k x low e = let r = get_some xs k low in r.1 ∙ sym (get_append xs ys k r.0 r.1) ∙ e
-
-replicated : (n c k : ℕ) → k < n → slice_get (replicate n c) k ≡ Some c
-replicated zero c k low = absurd (omega arith)
-replicated (suc n) c zero low = refl
-replicated (suc n) c (suc k) low = replicated n c k (omega arith)
-
-is_replicated : (n c k v : ℕ) → slice_get (replicate n c) k ≡ Some v → c ≡ v
-is_replicated zero c k v e = absurd (cc)
-is_replicated (suc n) c zero v e = got_same c v e
-is_replicated (suc n) c (suc k) v e = is_replicated n c k v e
-
--- what a closed node touches it touches after the next move
-at_after : (o : Outline) (m : Move) (place v : ℕ) → IsAtClosed o place v → IsAtClosed (after_move o m) place v
-at_after o m place v a = record {
-  within = omega (arith, a.within, length-append o.hung (replicate m.count (length o.closed)));
-  closed = omega (arith, a.closed, length-append o.closed (valley_of o ∷ []));
-  at = cases a.at;
-}
-  where
-    cases : (slice_get o.hung place ≡ Some v) ⊎ ((k : ℕ) × (numbers : List ℕ) × (slice_get o.closed v ≡ Some numbers)
-        × (slice_get numbers k ≡ Some (suc place)))
-        → (slice_get (after_move o m).hung place ≡ Some v) ⊎ ((k : ℕ) × (numbers : List ℕ) × (slice_get (after_move o m).closed v ≡ Some numbers)
-        × (slice_get numbers k ≡ Some (suc place)))
-    cases (inl e) = inl (get_append o.hung (replicate m.count (length o.closed)) place v e)
-    cases (inr (k, numbers, e, f)) = inr (k, numbers, get_append o.closed (valley_of o ∷ []) v numbers e, f)
-
-pair_after : (o : Outline) (sides : List (ℕ × ℕ)) (m : Move) (place : ℕ) → place < length sides
-    → sides_at (sides_after o sides m) (suc place) ≡ sides_at sides (suc place)
-pair_after o sides m place low = get_front sides (new_sides (length o.hung) m.count (left_end sides (valley_of o)) (right_end sides (valley_of o)))
-    (suc place - 1) (0, 1) (omega (arith, low))
-
-touch_after : (o : Outline) (sides : List (ℕ × ℕ)) (m : Move) (line v : ℕ) → length sides ≡ length o.hung → TouchesClosed o sides line v
-    → TouchesClosed (after_move o m) (sides_after o sides m) line v
-touch_after o sides m line v long t = record {
-  place = t.place;
-  at = at_after o m t.place v t.at;
-  beside = subst (λ (s : ℕ × ℕ). (s.0 ≡ line) ⊎ (s.1 ≡ line)) (sym (pair_after o sides m t.place (omega (arith, (t.at).within, long)))) t.beside;
-}
-
--- and it touched it before the last move
-number_in : (o : Outline) → Numbered o → (v k number : ℕ) (numbers : List ℕ) → slice_get o.closed v ≡ Some numbers → slice_get numbers k ≡ Some number
-    → number ≤ length o.hung
-number_in o numbered v k number numbers e f = (hung_number o numbered number (omega (
-  arith,
-  got_times numbers k number f,
-  times_at number v o.closed,
-  ap (λ (l : List ℕ). times number l) (get_or_from_slice_get o.closed v numbers [] e),
-  times_in-append number o.closed o.segments,
-))).1
-
-at_before : (o : Outline) (m : Move) → Numbered o → (place v : ℕ) → v < length o.closed → IsAtClosed (after_move o m) place v → IsAtClosed o place v
-at_before o m numbered place v old a = cases a.at
-  where
-    two : (a b : ℕ) → (a < b) ⊎ (b ≤ a)
-    two a b = grind arith
-
-    hangs : slice_get (after_move o m).hung place ≡ Some v → (place < length o.hung) ⊎ (length o.hung ≤ place) → place < length o.hung
-    hangs e (inl low) = low
-    hangs e (inr high) = absurd (omega (
-      arith,
-      old,
-      is_replicated m.count (length o.closed) (place - length o.hung) v
-          (sym (get_after o.hung (replicate m.count (length o.closed)) (place - length o.hung) place (omega (arith, high))) ∙ e),
-    ))
-
-    cases : (slice_get (after_move o m).hung place ≡ Some v) ⊎ ((k : ℕ) × (numbers : List ℕ) × (slice_get (after_move o m).closed v ≡ Some numbers)
-        × (slice_get numbers k ≡ Some (suc place)))
-        → IsAtClosed o place v
-    cases (inl e) = let low = hangs e (two place (length o.hung)) in
-        record { within = low; closed = old; at = inl (in_front o.hung (replicate m.count (length o.closed)) place v low e) }
-    cases (inr (k, numbers, e, f)) = let same = in_front o.closed (valley_of o ∷ []) v numbers old e in
-        record { within = omega (arith, number_in o numbered v k (suc place) numbers same f); closed = old; at = inr (k, numbers, same, f) }
-
-touch_before : (o : Outline) (sides : List (ℕ × ℕ)) (m : Move) (line v : ℕ) → Numbered o → length sides ≡ length o.hung → v < length o.closed
-    → TouchesClosed (after_move o m) (sides_after o sides m) line v → TouchesClosed o sides line v
-touch_before o sides m line v numbered long old t = record {
-  place = t.place;
-  at = before;
-  beside = subst (λ (s : ℕ × ℕ). (s.0 ≡ line) ⊎ (s.1 ≡ line)) (pair_after o sides m t.place (omega (arith, before.within, long))) t.beside;
-}
-  where
-    before : IsAtClosed o t.place v
-    before = at_before o m numbered t.place v old t.at
-
--- ---- the node that a move closes
-
-beside_pair : (sides : List (ℕ × ℕ)) (place line : ℕ) → IsBeside (lefts_in sides) (rights_in sides) (suc place) line
-    → ((sides_at sides (suc place)).0 ≡ line) ⊎ ((sides_at sides (suc place)).1 ≡ line)
-beside_pair sides place line (inl e) = inl (index_left sides (suc place - 1) ∙ e)
-beside_pair sides place line (inr e) = inr (index_right sides (suc place - 1) ∙ e)
-
-touch_valley : (o : Outline) (sides : List (ℕ × ℕ)) (m : Move) (line : ℕ) → Numbered o
-    → IsBesideOneOf (lefts_in (sides_after o sides m)) (rights_in (sides_after o sides m)) (valley_of o) line
-    → TouchesClosed (after_move o m) (sides_after o sides m) line (length o.closed)
-touch_valley o sides m line numbered b = record {
-  place = b.number - 1;
-  at = record {
-    within = omega (arith, low.0, low.1, length-append o.hung (replicate m.count (length o.closed)));
-    closed = omega (arith, length-append o.closed (valley_of o ∷ []));
-    at = inr (b.place, valley_of o, get_last o.closed (valley_of o) [], b.at ∙ ap (λ (n : ℕ). Some n) (sym one));
-  };
-  beside = beside_pair (sides_after o sides m) (b.number - 1) line (subst
-      (λ n. IsBeside (lefts_in (sides_after o sides m)) (rights_in (sides_after o sides m)) n line) (sym one) b.beside);
-}
-  where
-    low : (1 ≤ b.number) × (b.number ≤ length o.hung)
-    low = hung_number o numbered b.number (omega (
-      arith,
-      got_times (valley_of o) b.place b.number b.at,
-      times_at b.number (valley_place o.signs) o.segments,
-      times_in-append b.number o.closed o.segments,
-    ))
-
-    one : suc (b.number - 1) ≡ b.number
-    one = omega (arith, low.0)
-
-touch_new : (o : Outline) (sides : List (ℕ × ℕ)) (m : Move) (line : ℕ)
-    → IsBesideNew (lefts_in (sides_after o sides m)) (rights_in (sides_after o sides m)) (length o.hung) m.count line
-    → TouchesClosed (after_move o m) (sides_after o sides m) line (length o.closed)
-touch_new o sides m line b = record {
-  place = length o.hung + b.k;
-  at = record {
-    within = omega (arith, b.low, length-append o.hung (replicate m.count (length o.closed)), length-replicate m.count (length o.closed));
-    closed = omega (arith, length-append o.closed (valley_of o ∷ []));
-    at = inl (get_after o.hung (replicate m.count (length o.closed)) b.k (length o.hung + b.k) refl ∙ replicated m.count (length o.closed) b.k b.low);
-  };
-  beside = beside_pair (sides_after o sides m) (length o.hung + b.k) line
-      (subst (λ n. IsBeside (lefts_in (sides_after o sides m)) (rights_in (sides_after o sides m)) n line) number b.beside);
-}
-  where
-    number : length o.hung + b.k + 1 ≡ suc (length o.hung + b.k)
-    number = omega arith
-
--- and nothing else touches it
-pair_beside : (sides : List (ℕ × ℕ)) (place line : ℕ) → ((sides_at sides (suc place)).0 ≡ line) ⊎ ((sides_at sides (suc place)).1 ≡ line)
-    → IsBeside (lefts_in sides) (rights_in sides) (suc place) line
-pair_beside sides place line (inl e) = inl (sym (index_left sides (suc place - 1)) ∙ e)
-pair_beside sides place line (inr e) = inr (sym (index_right sides (suc place - 1)) ∙ e)
-
-only_touch : (o : Outline) (sides : List (ℕ × ℕ)) (m : Move) (line : ℕ) → Played o
-    → TouchesClosed (after_move o m) (sides_after o sides m) line (length o.closed)
-    → IsBesideOneOf (lefts_in (sides_after o sides m)) (rights_in (sides_after o sides m)) (valley_of o) line
-    ⊎ IsBesideNew (lefts_in (sides_after o sides m)) (rights_in (sides_after o sides m)) (length o.hung) m.count line
-only_touch o sides m line played t = cases (t.at).at
-  where
-    beside : IsBeside (lefts_in (sides_after o sides m)) (rights_in (sides_after o sides m)) (suc t.place) line
-    beside = pair_beside (sides_after o sides m) t.place line t.beside
-
-    two : (a b : ℕ) → (a < b) ⊎ (b ≤ a)
-    two a b = grind arith
-
-    new : slice_get (after_move o m).hung t.place ≡ Some (length o.closed) → (t.place < length o.hung) ⊎ (length o.hung ≤ t.place) → length o.hung ≤ t.place
-    new e (inl low) = absurd (omega (
-      arith,
-      played.below t.place low,
-      get_or_from_slice_get o.hung t.place (length o.closed) 0
-          (in_front o.hung (replicate m.count (length o.closed)) t.place (length o.closed) low e),
-    ))
-    new e (inr high) = high
-
-    cases : (slice_get (after_move o m).hung t.place ≡ Some (length o.closed))
-        ⊎ ((k : ℕ) × (numbers : List ℕ) × (slice_get (after_move o m).closed (length o.closed) ≡ Some numbers) × (slice_get numbers k ≡ Some (suc t.place)))
-        → IsBesideOneOf (lefts_in (sides_after o sides m)) (rights_in (sides_after o sides m)) (valley_of o) line
-        ⊎ IsBesideNew (lefts_in (sides_after o sides m)) (rights_in (sides_after o sides m)) (length o.hung) m.count line
-    cases (inl e) =
-        let high = new e (two t.place (length o.hung)) in
-        let number : suc t.place ≡ length o.hung + (t.place - length o.hung) + 1 = omega (arith, high) in
-        inr (record {
-          k = t.place - length o.hung;
-          low = omega (arith, high, (t.at).within, length-append o.hung (replicate m.count (length o.closed)), length-replicate m.count (length o.closed));
-          beside = subst (λ n. IsBeside (lefts_in (sides_after o sides m)) (rights_in (sides_after o sides m)) n line) number beside;
-        })
-    cases (inr (k, numbers, e, f)) =
-        let same : numbers ≡ valley_of o = got_same numbers (valley_of o) (sym e ∙ get_last o.closed (valley_of o) []) in
-        inl (record { place = k; number = suc t.place; at = subst (λ (l : List ℕ). slice_get l k ≡ Some (suc t.place)) same f; beside = beside })
-
--- ---- words
-
+-- the lines at the sides of the squares, with one move more
 pub sides_snoc : (w : Word) (m : Move) → sides_of (w ++ m ∷ []) ≡ sides_after (outline_of w) (sides_of w) m
 sides_snoc w m = along_append start [] w (m ∷ [])
 
+-- each square has its two
 pub sides_many : (w : Word) → length (sides_of w) ≡ length (outline_of w).hung
 sides_many w = let more = along_more start [] w in omega (arith, ap (λ (l : List (ℕ × ℕ)). length l) more.1, more.2, hung_many start w)
 
+-- each move has closed a node
 closed_many : (w : Word) → length (outline_of w).closed ≡ length w
 closed_many w = omega (arith, closed_count start w)
 
@@ -298,7 +118,6 @@ nodes_more w m nodes lines legal are next = record {
         (next.all line small (next_only w m line legal (subst (λ k. TouchesClosed (outline_of (w ++ m ∷ [])) (sides_of (w ++ m ∷ [])) line k)
         (sym (place v set e high)) t)))
 
--- a move less
 one_less : (w front : Word) (m : Move) (nodes before : List LineSet) → w ≡ front ++ m ∷ [] → AreNodeLines w nodes → before ≡ take (length front) nodes
     → AreNodeLines front before
 one_less w front m nodes before whole are e = record {
@@ -331,6 +150,7 @@ one_less w front m nodes before whole are e = record {
         are.all v line set r.0 low (subst (λ (v' : Word). TouchesClosed (outline_of v') (sides_of v') line v) (sym whole)
         (touch_more front m line v t))
 
+-- a move less, without the lines of the node that it closed
 pub nodes_less : (w front : Word) (nodes before : List LineSet) → 0 < length w → AreNodeLines w nodes → front ≡ take (length w - 1) w
     → before ≡ take (length front) nodes → AreNodeLines front before
 nodes_less w front nodes before some are e f = cases (drop (length w - 1) w) refl

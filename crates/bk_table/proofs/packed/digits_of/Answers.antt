@@ -2,7 +2,7 @@ use Rattle.std.specs.Prelude.{List, ◌++◌}
 use Rattle.std.proofs.Common.{ap, arith, length, sym, ℕ, ◌∙◌}
 use Rattle.bk_word.specs.Outline.{start}
 use Rattle.bk_table.specs.Packed.{move_digits}
-use Rattle.bk_table.proofs.PackedOrder.{digits_next, digits_room, few_digits}
+use Rattle.bk_table.proofs.WordDigits.{digits_next, digits_room, few_digits}
 use Rattle.bk_table.proofs.packed.digits_of.Goals as goal
 
 pub push_digits-requires-clause-room : goal.push_digits-requires-clause-room

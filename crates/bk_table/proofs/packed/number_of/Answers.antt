@@ -1,5 +1,5 @@
 use Rattle.std.proofs.Common.{arith}
-use Rattle.bk_table.proofs.PackedOrder.{IsNextSum, next_sum}
+use Rattle.bk_table.proofs.BaseFour.{IsNextSum, next_sum}
 use Rattle.bk_table.proofs.packed.number_of.Goals as goal
 
 next : (c : goal.After-from) → IsNextSum c.args.digits.now c.digits.digit-index c.digits.number c.digits.unit c.from.result

@@ -2,7 +2,7 @@ use Rattle.std.proofs.Common.{List, ap, arith, length, subst, sym, ℕ, ◌∙�
 use Rattle.bk_word.specs.Outline.{start}
 use Rattle.bk_table.specs.Packed.{AreDigits}
 use Rattle.bk_table.specs.Span.{span_from}
-use Rattle.bk_table.proofs.PackedOrder.{are_digits, few_digits, low_counts}
+use Rattle.bk_table.proofs.WordDigits.{are_digits, few_digits, low_counts}
 use Rattle.bk_table.proofs.span.span_of.Goals as goal
 
 pub span_from-requires-clause-few : goal.span_from-requires-clause-few

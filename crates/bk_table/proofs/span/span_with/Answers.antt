@@ -1,7 +1,7 @@
 use Rattle.std.proofs.Common.{List, [], ap, arith, length, subst, sym, ℕ, ◌%◌, ◌++◌, ◌-◌, ◌/◌, ◌∙◌, ◌∷◌, ◌≡◌}
 use Rattle.bk_table.specs.Packed.{AreDigits}
 use Rattle.bk_table.specs.Span.{begun_digits, span_from}
-use Rattle.bk_table.proofs.PackedOrder.{few_digits}
+use Rattle.bk_table.proofs.WordDigits.{few_digits}
 use Rattle.bk_table.proofs.Spans.{begun_are_digits, begun_fit}
 use Rattle.bk_word.specs.Outline.{start}
 use Rattle.bk_table.proofs.span.span_with.Goals as goal

@@ -1,6 +1,6 @@
 use Rattle.std.proofs.Common.{subst, sym, ◌∙◌}
 use Rattle.bk_table.specs.Packed.{AreDigits}
-use Rattle.bk_table.proofs.PackedOrder.{are_digits, low_counts}
+use Rattle.bk_table.proofs.WordDigits.{are_digits, low_counts}
 use Rattle.bk_table.proofs.packed.Packed.of.Goals as goal
 
 pub number_of-requires-clause-digits : goal.number_of-requires-clause-digits
