@@ -4,5 +4,9 @@ pub mod ListedLines
 pub mod PairLines
 pub mod ClosedLists
 pub mod ListLoops
+pub mod GroupMembers
+pub mod PairLoops
+pub mod LastLines
 pub mod LaterPairs
 pub mod OneListing
+pub mod GroupExamples

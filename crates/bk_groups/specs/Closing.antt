@@ -1,4 +1,5 @@
 -- What is written behind the lines of a list, and how a run ends that lists lines.
+-- Example (GroupExamples): `; groups 2 items 3 refused 1`.
 use Rattle.std.specs.List.{concat, flat_map}
 use Rattle.std.specs.Option.{option_map_or}
 use Rattle.std.specs.Prelude.{Bool, List, [], length, slice_get, true, false, ℕ, ◌++◌, ◌^◌, ◌∷◌, ◌≡◌, ◌≤◌, ◌⊎◌}

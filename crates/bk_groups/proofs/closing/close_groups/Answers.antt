@@ -1,6 +1,6 @@
 use Rattle.std.proofs.Common.{◌∙◌}
 use Rattle.std.proofs.lemmas.Result.{err_from_is_err_and}
-use Rattle.bk_groups.proofs.ListLoops.{groups_broken, groups_closed}
+use Rattle.bk_groups.proofs.LastLines.{groups_broken, groups_closed}
 use Rattle.bk_groups.proofs.closing.close_groups.Goals as goal
 
 pub returns-in_err-write_groups-clause-lines : goal.returns-in_err-write_groups-clause-lines

@@ -1,6 +1,6 @@
 use Rattle.std.proofs.Common.{◌∙◌}
 use Rattle.std.proofs.lemmas.Result.{err_from_is_err_and}
-use Rattle.bk_groups.proofs.ListLoops.{pairs_closed, pairs_cut}
+use Rattle.bk_groups.proofs.LastLines.{pairs_closed, pairs_cut}
 use Rattle.bk_groups.proofs.closing.close_pairs.Goals as goal
 
 pub returns-in_err-pairs-clause-lines : goal.returns-in_err-pairs-clause-lines

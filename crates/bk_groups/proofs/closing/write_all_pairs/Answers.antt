@@ -1,7 +1,8 @@
 use Rattle.std.proofs.Common.{arith, ◌∙◌}
 use Rattle.std.proofs.lemmas.Result.{err_from_is_err_and}
 use Rattle.bk_groups.specs.Pairs.{all_pairs}
-use Rattle.bk_groups.proofs.ListLoops.{count_more, ends_broken, few_so_far, pairs_broken, pairs_more}
+use Rattle.bk_groups.proofs.PairLoops.{count_more, few_so_far, pairs_broken, pairs_more}
+use Rattle.bk_groups.proofs.ListLoops.{ends_broken}
 use Rattle.bk_groups.proofs.closing.write_all_pairs.Goals as goal
 
 pub returns-in_err-more-clause-lines : goal.returns-in_err-more-clause-lines

@@ -3,7 +3,8 @@ use Rattle.std.proofs.Common.{subst, ℕ, ◌∙◌, ◌<◌}
 use Rattle.std.proofs.lemmas.Result.{err_from_is_err_and}
 use Rattle.bk_alike.specs.Alike.{sizes}
 use Rattle.bk_groups.specs.Closing.{group_lines}
-use Rattle.bk_groups.proofs.ListLoops.{ends_broken, loop_broken, loop_more, size_within}
+use Rattle.bk_groups.proofs.ListLoops.{ends_broken, loop_broken, loop_more}
+use Rattle.bk_groups.proofs.GroupMembers.{size_within}
 use Rattle.bk_groups.proofs.WrittenLines.{item_at}
 use Rattle.bk_groups.proofs.closing.write_groups.Goals as goal
 

@@ -5,7 +5,8 @@ use Rattle.bk_ports.specs.Causes.{AppendsPrefix}
 use Rattle.bk_report.specs.ListLines.{group_line}
 use Rattle.bk_groups.specs.Closing.{group_lines, member_at}
 use Rattle.bk_groups.specs.Writing.{WritesLines}
-use Rattle.bk_groups.proofs.ListLoops.{ends_broken, first_broken, first_then, lines_of_group, places_below}
+use Rattle.bk_groups.proofs.ListLoops.{ends_broken, first_broken, first_then}
+use Rattle.bk_groups.proofs.GroupMembers.{lines_of_group, places_below}
 use Rattle.bk_groups.proofs.closing.write_one_group.Goals as goal
 
 pub returns-in_err-write_all-clause-lines : goal.returns-in_err-write_all-clause-lines

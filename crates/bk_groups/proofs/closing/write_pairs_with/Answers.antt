@@ -1,7 +1,7 @@
 use Rattle.std.proofs.Common.{List, subst, ℕ}
 use Rattle.bk_groups.specs.Writing.{WritesLines}
 use Rattle.bk_groups.proofs.LaterPairs.{counted_alike, pairs_looked_up}
-use Rattle.bk_groups.proofs.ListLoops.{places_of_size}
+use Rattle.bk_groups.proofs.GroupMembers.{places_of_size}
 use Rattle.bk_groups.proofs.closing.write_pairs_with.Goals as goal
 
 pub write_pairs_among-requires-clause-others : goal.write_pairs_among-requires-clause-others
