@@ -12,8 +12,9 @@ use Rattle.bk_word.specs.declared.Sign.{Sign}
 use Rattle.bk_lay.specs.TilingWord.{depth_before, depth_from, signs_between}
 use Rattle.bk_skel.specs.Board.{CanLay, IsFittingGap}
 use Rattle.bk_skel.proofs.PlacingNumbers.{Window}
-use Rattle.bk_skel.proofs.PlacingTurn.{gap, order, within, fits, only, room, few_after, window_inside, turn}
-use Rattle.bk_skel.proofs.PlacingTurn.{signs_as, fitting_as, window_as, low_as}
+use Rattle.bk_skel.proofs.PlacingTurn.{gap, order, within, fits, only, turn, signs_as, fitting_as}
+use Rattle.bk_skel.proofs.NumbersAfter.{room, few_after, low_as}
+use Rattle.bk_skel.proofs.PlacingWindow.{window_inside, window_as}
 use Rattle.bk_word_net.specs.LaidOutline.{IsNumber, IsTurn, bottom_at}
 
 -- what a move that can be laid has: the gap that it fills, and what stands there after it, under the names that the code has

@@ -14,7 +14,9 @@ use Rattle.bk_word.specs.Outline.{Outline, start, valley_of}
 use Rattle.bk_word.specs.Play.{IsComplete, IsLegal, after_moves, numbers_from, outline_of}
 use Rattle.bk_word.specs.Word.{Move, Word, order_of}
 use Rattle.bk_word.specs.declared.Sign.{Sign}
-use Rattle.bk_skel.proofs.PlacingLoop.{IsPlacedTo, can_lay, first_width, new_fits, placed_closed, placed_end, placed_more, placed_none, placed_start}
+use Rattle.bk_skel.proofs.PlacingLoop.{IsPlacedTo, first_width, placed_start}
+use Rattle.bk_skel.proofs.PlacingMore.{can_lay, new_fits, placed_more, placed_none}
+use Rattle.bk_skel.proofs.PlacedWhole.{placed_closed, placed_end}
 use Rattle.bk_word_net.specs.LaidTiling.{IsLaidWith}
 use Rattle.bk_skel.specs.Board.{CanLay, IsClosed}
 use Rattle.bk_word_net.specs.LaidOutline.{IsTurn, front_of}

@@ -31,6 +31,10 @@ sizes_after_many size last (Even ∷ signs) =
 sizes_after_many size last (Under ∷ signs) =
     omega (arith, sum_by-cons (λ g. cond (parts g) 1 0) Under signs, sizes_after_many (next_size last signs) last signs)
 
+-- five lists joined, grouped otherwise
+regroup : (a b c d e : List ℕ) → a ++ ((b ++ (c ++ d)) ++ e) ≡ (a ++ b) ++ (c ++ (d ++ e))
+regroup a b c d e = simp append_assoc
+
 module _ (o : Outline) (shaped : Shaped o) (m : Move) (legal : IsLegalMove o m) (from : ℕ) where
   abbrev v : AtValley o
   v = valley_in o shaped
@@ -69,9 +73,6 @@ module _ (o : Outline) (shaped : Shaped o) (m : Move) (legal : IsLegalMove o m) 
       ∙ ap (λ (l : List ℕ). concat v.left ++ l) (concat-append (map (λ q. q ∷ []) (new_squares o m)) v.right
       ∙ ap (λ (l : List ℕ). l ++ concat v.right) (concat-singles (new_squares o m)))))
       ∙ regroup (concat v.before) (concat v.left) (new_squares o m) (concat v.right) (concat v.after)
-    where
-      regroup : (a b c d e : List ℕ) → a ++ ((b ++ (c ++ d)) ++ e) ≡ (a ++ b) ++ (c ++ (d ++ e))
-      regroup a b c d e = simp append_assoc
 
   pub sizes_are : segment_sizes (after_move o m) ≡ map length v.before ++ (sizes_after turn m.signs ++ map length v.after)
   sizes_are = ap (map length) (segments_after o v m legal) ∙ map-append length v.before (joined m.signs between ++ v.after)

@@ -1,21 +1,20 @@
--- What is read of a skeleton: its leftmost valley and its moves.
-use Rattle.std.proofs.Common.{List, Some, [], ap, arith, get_or, length, map, nat_eq, refl, slice_get, slice_index, slice_index_or, slice_range}
+-- What is read of a skeleton: its segments and its moves.
+use Rattle.std.proofs.Common.{List, Some, [], ap, arith, get_or, length, map, refl, slice_get, slice_index, slice_index_or, slice_range}
 use Rattle.std.proofs.Common.{subst, suc, sum, sym, take, zero, ℕ, ◌++◌, ◌+◌, ◌<◌, ◌∙◌, ◌∷◌, ◌≡◌, ◌≤◌}
 use Rattle.std.proofs.lemmas.List.Sums.{sum_by-take-drop}
 use Rattle.std.proofs.lemmas.List.{length-append, length-map}
 use Rattle.bk_word.proofs.StoredBytes.{order_more}
-use Rattle.bk_word.specs.Outline.{Outline, start, valley_of, valley_place}
-use Rattle.bk_word.specs.Play.{AreLegalFrom, after_move, outline_of}
+use Rattle.bk_word.specs.Outline.{Outline, start, valley_place}
+use Rattle.bk_word.specs.Play.{AreLegalFrom, after_move}
 use Rattle.bk_word.specs.Word.{Word, order_of}
 use Rattle.bk_word.specs.declared.Sign.{Sign}
 use Rattle.bk_skel.proofs.EndNodes.{CutAt, cut_at, here_is, sum_next}
 use Rattle.bk_skel.proofs.SkelFacts.{Counted, counted}
 use Rattle.bk_word.proofs.PlayLaws.{few_signs}
 use Rattle.bk_skel.specs.Skeleton.{IsStored, Shows, move_of, moves_stored, signs_of, turns_from}
-use Rattle.bk_skel.specs.Valley.{leftmost_valley}
 use Rattle.bk_skel.specs.declared.turns.MoveRecord.{MoveRecord}
 
--- so it is of what is stored
+-- what is stored has as many items as its word has squares and segments
 pub counted_in : {w : Word} {ends sizes : List ℕ} {signs : List Sign} {closed : List ℕ} {turns : List MoveRecord} {played : List Sign}
     → IsStored w ends sizes signs closed turns played → Counted w ends sizes signs closed
 counted_in {w = w} {ends = ends} {sizes = sizes} {signs = signs} {closed = closed} s = counted w ends sizes signs closed s.kept s.shows
@@ -48,25 +47,6 @@ segment_read o ends sizes signs closed place s h =
 
     next : sum (take place sizes) + slice_index sizes place ≡ sum (take (suc place) (map length o.segments))
     next = sym (sum_next sizes place h) ∙ ap (λ (l : List ℕ). sum (take (suc place) l)) s.sizes_are
-
--- the leftmost valley, as it is read
-pub valley_read : {w : Word} {ends sizes : List ℕ} {signs : List Sign} {closed : List ℕ} {turns : List MoveRecord} {played : List Sign}
-    → IsStored w ends sizes signs closed turns played → (place many : ℕ) (squares : List ℕ)
-    → place ≡ valley_place signs → place ≤ length signs → many ≡ length signs
-    → squares ≡ slice_range ends (sum (take place sizes)) (sum (take place sizes) + slice_index sizes place)
-    → (record { place = place; left_wall = nat_eq place 0; right_wall = nat_eq place many; squares = squares }) ≡ leftmost_valley (outline_of w)
-valley_read {w = w} {ends = ends} {sizes = sizes} {signs = signs} {closed = closed} s place many squares at within all read =
-    λ i. record { place = is i; left_wall = nat_eq (is i) 0; right_wall = nat_eq (is i) (count i); squares = own i }
-  where
-    is : place ≡ valley_place (outline_of w).signs
-    is = at ∙ ap valley_place (s.shows).signs_are
-
-    count : many ≡ length (outline_of w).signs
-    count = all ∙ ap length (s.shows).signs_are
-
-    own : squares ≡ valley_of (outline_of w)
-    own = read ∙ segment_read (outline_of w) ends sizes signs closed place s.shows (omega (arith, (counted_in s).many))
-        ∙ ap (λ n. slice_index_or (outline_of w).segments n []) is
 
 -- the signs of a move, where it is read
 pub record Spans (turn : MoveRecord) (end : ℕ) : Type 0 where

@@ -2,7 +2,8 @@ use Rattle.std.proofs.Common.{List, ap, arith, length, slice_index, subst, sum, 
 use Rattle.std.proofs.lemmas.List.{length-take-le}
 use Rattle.bk_word.specs.Play.{IsComplete, outline_of}
 use Rattle.bk_word.specs.Word.{order_of}
-use Rattle.bk_skel.proofs.NetRead.{ReadsNet, closed_many, closed_numbers, closed_sizes, reads_net}
+use Rattle.bk_skel.proofs.NetRead.{ReadsNet, reads_net}
+use Rattle.bk_skel.proofs.RecordCounts.{closed_many, closed_numbers, closed_sizes}
 use Rattle.bk_skel.proofs.SkelReads.{counted_in}
 use Rattle.bk_skel.specs.Skeleton.{moves_stored}
 use Rattle.bk_skel.specs.Wiring.{AreNumbers, AreWires, closed_of, counts_of, wires_from}

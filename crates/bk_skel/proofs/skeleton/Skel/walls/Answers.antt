@@ -1,10 +1,8 @@
-use Rattle.std.proofs.Common.{ap, arith, length, sum}
-use Rattle.bk_skel.proofs.SkelReads.{counted_in}
+use Rattle.bk_skel.proofs.ValleyReads.{valley_sizes}
 use Rattle.bk_skel.proofs.skeleton.Skel.walls.Goals as goal
 
 pub leftmost-place-requires-clause-many : goal.leftmost-place-requires-clause-many
-leftmost-place-requires-clause-many c = omega (arith, ap length c.deref.ensures.0, ap length c.deref-2.ensures.0, (counted_in c.self.invariant).many)
+leftmost-place-requires-clause-many c = (valley_sizes c.self.invariant c.deref.result.now c.deref-2.result.now c.deref.ensures.0 c.deref-2.ensures.0).0
 
 pub leftmost-place-requires-clause-small : goal.leftmost-place-requires-clause-small
-leftmost-place-requires-clause-small c =
-    let kept = c.self.invariant.kept in let k = counted_in c.self.invariant in omega (arith, ap sum c.deref.ensures.0, k.total, k.all, kept.few)
+leftmost-place-requires-clause-small c = (valley_sizes c.self.invariant c.deref.result.now c.deref-2.result.now c.deref.ensures.0 c.deref-2.ensures.0).1
