@@ -9,7 +9,7 @@ use Rattle.std.proofs.lemmas.List.{drop_all, length-drop, take-append-drop, take
 use Rattle.std.proofs.lemmas.List.Sums.{sum_by-cons}
 use Rattle.bk_laws.proofs.AllOfLists.{all_left}
 use Rattle.bk_word.specs.KeptWord.{CanStand, IsKeptWord}
-use Rattle.bk_word.specs.Stored.{IsStored, front_signs, is_count, moves_in, sign_byte, sign_of, stored, stored_move}
+use Rattle.bk_word.specs.Stored.{IsStoredWord, front_signs, is_count, moves_in, sign_byte, sign_of, stored, stored_move}
 use Rattle.bk_word.specs.Word.{Move, Word, order_of}
 use Rattle.bk_word.specs.declared.Sign.{Sign}
 use Rattle.bk_word.proofs.StoredBytes.{order_more, order_one, stored_one}
@@ -119,8 +119,8 @@ all_signs (b ∷ bytes) e = cases (is_count b) refl (all_signs bytes)
         ap (λ (l : List Sign). length (map sign_byte l)) (cond-false _ _ _ h) ∙ ap (λ (n : ℕ). suc n) (others fewer)
 
 -- what stands before the last count
-pub last_off : (a : List ℕ) (c : ℕ) (rest : List ℕ) → is_count c ≡ true → moves_in rest ≡ [] → IsStored (a ++ c ∷ rest)
-    → (moves_in (a ++ c ∷ rest) ≡ moves_in a ++ move_of c rest ∷ []) × IsStored a
+pub last_off : (a : List ℕ) (c : ℕ) (rest : List ℕ) → is_count c ≡ true → moves_in rest ≡ [] → IsStoredWord (a ++ c ∷ rest)
+    → (moves_in (a ++ c ∷ rest) ≡ moves_in a ++ move_of c rest ∷ []) × IsStoredWord a
 last_off a c rest h none s =
     let moves : moves_in (a ++ c ∷ rest) ≡ moves_in a ++ move_of c rest ∷ [] =
     moves_before a c rest h ∙ ap (λ (w : Word). moves_in a ++ w) (at_count c rest h ∙ ap (λ (w : Word). move_of c rest ∷ w) none) in
@@ -173,15 +173,15 @@ none_behind bytes k within some h e =
     empty (m ∷ w) e = absurd (omega arith)
 
 -- the word without its last move
-pub popped : (bytes : List ℕ) (w : Word) (k : ℕ) → IsStored bytes → moves_in bytes ≡ w → k < length bytes → 0 < length w
+pub popped : (bytes : List ℕ) (w : Word) (k : ℕ) → IsStoredWord bytes → moves_in bytes ≡ w → k < length bytes → 0 < length w
     → is_count (get_or bytes k 0) ≡ true → moves_in (drop k bytes) ≡ drop (length (moves_in bytes) - 1) (moves_in bytes)
-    → (moves_in (take k bytes) ≡ take (length w - 1) w) × IsStored (take k bytes)
+    → (moves_in (take k bytes) ≡ take (length w - 1) w) × IsStoredWord (take k bytes)
 popped bytes w k s is within some h behind =
     let c : ℕ = get_or bytes k 0 in
     let none = none_behind bytes k within (subst (λ (v : Word). 0 < length v) (sym is) some) h behind in
     let whole : take k bytes ++ c ∷ drop (k + 1) bytes ≡ bytes = ap (λ (z : List ℕ). take k bytes ++ z) (sym (from_place bytes k within))
     ∙ take-append-drop k bytes in
-    let off = last_off (take k bytes) c (drop (k + 1) bytes) h none (subst IsStored (sym whole) s) in
+    let off = last_off (take k bytes) c (drop (k + 1) bytes) h none (subst IsStoredWord (sym whole) s) in
     let word : w ≡ moves_in (take k bytes) ++ move_of c (drop (k + 1) bytes) ∷ [] = sym is ∙ ap moves_in (sym whole) ∙ off.0 in
     (sym (ap (λ (v : Word). take (length v - 1) v) word ∙ front_taken (moves_in (take k bytes)) (move_of c (drop (k + 1) bytes))), off.1)
   where
@@ -191,13 +191,13 @@ popped bytes w k s is within some h behind =
         ap (λ (k : ℕ). take k (v ++ m ∷ [])) n ∙ take-append_seam v (m ∷ [])
 
 -- the move whose count stands at a place
-pub got : (bytes : List ℕ) (w : Word) (i k : ℕ) → IsStored bytes → moves_in bytes ≡ w → k < length bytes → is_count (get_or bytes k 0) ≡ true
+pub got : (bytes : List ℕ) (w : Word) (i k : ℕ) → IsStoredWord bytes → moves_in bytes ≡ w → k < length bytes → is_count (get_or bytes k 0) ≡ true
     → moves_in (drop k bytes) ≡ drop i (moves_in bytes)
     → drop i w ≡ move_of (get_or bytes k 0) (drop (k + 1) bytes) ∷ moves_in (drop (k + 1) bytes)
 got bytes w i k s is within h behind = ap (λ (v : Word). drop i v) (sym is) ∙ sym behind ∙ count_here bytes k within h
 
 -- a move of a stored word can stand in a word, and hangs at most 200 squares
-pub got_stands : (bytes : List ℕ) (w : Word) (i : ℕ) (m : Move) (rest : Word) → IsStored bytes → moves_in bytes ≡ w → drop i w ≡ m ∷ rest
+pub got_stands : (bytes : List ℕ) (w : Word) (i : ℕ) (m : Move) (rest : Word) → IsStoredWord bytes → moves_in bytes ≡ w → drop i w ≡ m ∷ rest
     → CanStand m × (m.count ≤ 200)
 got_stands bytes w i m rest s is e =
     let kept : IsKeptWord w = subst IsKeptWord is s.kept in
@@ -208,31 +208,33 @@ pub to_end : (bytes : List ℕ) (k : ℕ) → take (length bytes - k) (drop k by
 to_end bytes k = take_all (length bytes - k) (drop k bytes) (omega (arith, length-drop k bytes))
 
 -- the signs of a move that is kept
-pub few_signs : (bytes : List ℕ) (w : Word) (i : ℕ) (m : Move) (rest : Word) → IsStored bytes → moves_in bytes ≡ w → drop i w ≡ m ∷ rest → length m.signs ≤ 201
+pub few_signs : (bytes : List ℕ) (w : Word) (i : ℕ) (m : Move) (rest : Word) → IsStoredWord bytes → moves_in bytes ≡ w → drop i w ≡ m ∷ rest
+    → length m.signs ≤ 201
 few_signs bytes w i m rest s is e = let h = got_stands bytes w i m rest s is e in omega (arith, h.0.most, h.1)
 
 -- the count at the place where move i begins, with the signs behind it, is that move
-pub got_move : (S B : List ℕ) (w : Word) (i k : ℕ) (signs : List Sign) → S ≡ B → IsStored B → moves_in B ≡ w → k < length S
+pub got_move : (S B : List ℕ) (w : Word) (i k : ℕ) (signs : List Sign) → S ≡ B → IsStoredWord B → moves_in B ≡ w → k < length S
     → is_count (get_or S k 0) ≡ true → moves_in (drop k S) ≡ drop i (moves_in S)
     → signs ≡ front_signs (take (length S - (k + 1)) (drop (k + 1) S)) → slice_get w i ≡ Some (record { count = get_or S k 0; signs = signs })
 got_move S B w i k signs same s is within h behind e =
     let word : moves_in S ≡ w = ap moves_in same ∙ is in
     let read : signs ≡ front_signs (drop (k + 1) S) = e ∙ ap front_signs (to_end S (k + 1)) in
-    first_dropped w i _ _ (got S w i k (subst IsStored (sym same) s) word within h behind) ∙ (λ j. Some (record { count = get_or S k 0; signs = sym read j }))
+    first_dropped w i _ _ (got S w i k (subst IsStoredWord (sym same) s) word within h behind)
+    ∙ (λ j. Some (record { count = get_or S k 0; signs = sym read j }))
 
 -- what is left of a word without its last move
 pub record Popped (bytes : List ℕ) (w : Word) : Type 0 where
   pub moves : moves_in bytes ≡ take (length w - 1) w
-  pub is_stored : IsStored bytes
+  pub is_stored : IsStoredWord bytes
 
 -- the bytes before the last count store the word without its last move
-pub popped_at : (S B left : List ℕ) (w : Word) (n k : ℕ) → S ≡ B → IsStored B → moves_in B ≡ w → n ≡ length w → 0 < length w → k < length S
+pub popped_at : (S B left : List ℕ) (w : Word) (n k : ℕ) → S ≡ B → IsStoredWord B → moves_in B ≡ w → n ≡ length w → 0 < length w → k < length S
     → is_count (get_or S k 0) ≡ true → moves_in (drop k S) ≡ drop (n - 1) (moves_in S) → left ≡ take k B
     → Popped left w
 popped_at S B left w n k same s is count some within h behind e =
     let word : moves_in S ≡ w = ap moves_in same ∙ is in
     let last : moves_in (drop k S) ≡ drop (length (moves_in S) - 1) (moves_in S) =
     behind ∙ ap (λ (m : ℕ). drop (m - 1) (moves_in S)) (count ∙ ap (λ (v : Word). length v) (sym word)) in
-    let off = popped S w k (subst IsStored (sym same) s) word within some h last in
+    let off = popped S w k (subst IsStoredWord (sym same) s) word within some h last in
     let left_is : left ≡ take k S = e ∙ ap (λ (z : List ℕ). take k z) (sym same) in
-    record { moves = ap moves_in left_is ∙ off.0; is_stored = subst IsStored (sym left_is) off.1 }
+    record { moves = ap moves_in left_is ∙ off.0; is_stored = subst IsStoredWord (sym left_is) off.1 }

@@ -4,7 +4,7 @@ use Rattle.std.specs.Prelude.{List, [], length, ℕ, ◌∷◌, ◌<◌, ◌≡�
 use Rattle.std.proofs.Common.{ap, arith, inl, inr, subst, sym, ◌∙◌}
 use Rattle.std.proofs.lemmas.Bool.{cases_lt}
 use Rattle.bk_word.specs.KeptWord.{CanStand, IsKeptWord}
-use Rattle.bk_word.specs.Stored.{IsStored, moves_in, stored}
+use Rattle.bk_word.specs.Stored.{IsStoredWord, moves_in, stored}
 use Rattle.bk_word.specs.Taken.{KeepsTextOf}
 use Rattle.bk_word.specs.Word.{Word, order_of}
 use Rattle.bk_word.specs.WordText.{IsTextOf, IsWrittenMove}
@@ -18,7 +18,7 @@ all_stand (m ∷ w) all = (all.0.stands, all_stand w all.1)
 -- the word of a text, of at most 200 squares, and its bytes
 pub record HasBytes (text bytes : List ℕ) : Type 0 where
   pub is : IsTextOf text (moves_in bytes)
-  pub are_stored : IsStored bytes
+  pub are_stored : IsStoredWord bytes
   pub few : order_of (moves_in bytes) ≤ 200
 
 -- the bytes taken of a text of at most 200 squares store the word that it is the text of
@@ -37,7 +37,7 @@ many_squares w h = elim (cases_lt 16 (order_of w)) [
 ]
 
 -- and more than 64 bytes
-pub many_bytes : (bytes : List ℕ) → IsStored bytes → (length bytes ≤ 64 → ⊥) → 64 < length (stored (moves_in bytes))
+pub many_bytes : (bytes : List ℕ) → IsStoredWord bytes → (length bytes ≤ 64 → ⊥) → 64 < length (stored (moves_in bytes))
 many_bytes bytes are h = elim (cases_lt 64 (length bytes)) [
   | inl more ↦ omega (arith, more, same)
   | inr few ↦ absurd (h few)

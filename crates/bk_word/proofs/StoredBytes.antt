@@ -7,7 +7,7 @@ use Rattle.std.proofs.lemmas.Grind.{flat_map-append}
 use Rattle.std.proofs.lemmas.List.{append-nil, length-map}
 use Rattle.std.proofs.lemmas.List.Sums.{sum_by-append, sum_by-cons}
 use Rattle.bk_word.specs.KeptWord.{CanStand, IsKeptWord}
-use Rattle.bk_word.specs.Stored.{IsKeptBuffer, IsStored, front_signs, is_count, moves_in, sign_byte, stored, stored_move}
+use Rattle.bk_word.specs.Stored.{IsKeptBuffer, IsStoredWord, front_signs, is_count, moves_in, sign_byte, stored, stored_move}
 use Rattle.bk_word.specs.Word.{Move, Word, order_of}
 use Rattle.bk_word.specs.declared.Sign.{Sign}
 use Rattle.bk_word.specs.declared.Sign.TheVariants.{Above, Even, Under}
@@ -59,7 +59,7 @@ read_back (m ∷ w) low =
     ∙ ap (with_front m.count m.signs) (front_passed m.signs (stored w) ∙ read_back w low.1)
 
 -- bytes that store a word which can be kept
-pub stored_kept : (bytes : List ℕ) (w : Word) → bytes ≡ stored w → IsKeptWord w → (moves_in bytes ≡ w) × IsStored bytes
+pub stored_kept : (bytes : List ℕ) (w : Word) → bytes ≡ stored w → IsKeptWord w → (moves_in bytes ≡ w) × IsStoredWord bytes
 stored_kept bytes w is kept =
     let back : moves_in bytes ≡ w = ap moves_in is ∙ read_back w (few_low w kept.few) in
     (back, record { same = is ∙ ap stored (sym back); kept = subst IsKeptWord (sym back) kept })
@@ -94,7 +94,7 @@ standing [] all = tt
 standing (m ∷ w) all = ((all.0.some, all.0.most), standing w all.1)
 
 -- a stored word has at most three bytes a square
-pub kept_short : (bytes : List ℕ) → IsStored bytes → length bytes ≤ 3 * order_of (moves_in bytes)
+pub kept_short : (bytes : List ℕ) → IsStoredWord bytes → length bytes ≤ 3 * order_of (moves_in bytes)
 kept_short bytes s = subst (λ (z : List ℕ). length z ≤ 3 * order_of (moves_in bytes)) (sym s.same)
     (short (moves_in bytes) (standing (moves_in bytes) s.kept.moves))
 
@@ -108,8 +108,8 @@ pub kept_one : (w : Word) (m : Move) → IsKeptWord w → CanStand m → order_o
 kept_one w m kept one few = record { moves = all_one w m kept.moves one; few = omega (arith, order_one w m) }
 
 -- a move's bytes behind those of a word store the word with that move
-pub pushed : (bytes : List ℕ) (w : Word) (m : Move) → IsStored bytes → moves_in bytes ≡ w → CanStand m → order_of w + m.count ≤ 200
-    → (moves_in (bytes ++ stored_move m) ≡ w ++ m ∷ []) × IsStored (bytes ++ stored_move m)
+pub pushed : (bytes : List ℕ) (w : Word) (m : Move) → IsStoredWord bytes → moves_in bytes ≡ w → CanStand m → order_of w + m.count ≤ 200
+    → (moves_in (bytes ++ stored_move m) ≡ w ++ m ∷ []) × IsStoredWord (bytes ++ stored_move m)
 pushed bytes w m s is one few =
     let kept : IsKeptWord w = subst IsKeptWord is s.kept in
     stored_kept (bytes ++ stored_move m) (w ++ m ∷ []) (ap (λ (z : List ℕ). z ++ stored_move m) (s.same ∙ ap stored is)

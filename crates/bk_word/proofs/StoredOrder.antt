@@ -7,7 +7,7 @@ use Rattle.std.specs.declared.cmp.Ordering.TheVariants.{Equal, Greater, Less}
 use Rattle.std.proofs.Common.{ap, arith, sym, ◌∙◌}
 use Rattle.std.proofs.lemmas.Bool.{cond-true, lt-ltb}
 use Rattle.std.proofs.lemmas.Bool.Decides.{nat_tests}
-use Rattle.bk_word.specs.Stored.{IsStored, moves_in, sign_byte, stored}
+use Rattle.bk_word.specs.Stored.{IsStoredWord, moves_in, sign_byte, stored}
 use Rattle.bk_word.specs.Word.{Word, sign_cmp, word_cmp}
 use Rattle.bk_word.specs.declared.Sign.{Sign}
 use Rattle.bk_word.specs.declared.Sign.TheVariants.{Above, Even, Under}
@@ -70,7 +70,7 @@ words_then (m ∷ v) (n ∷ w) a b =
     ∙ sym (then_then (nat_cmp m.count n.count) (slice_cmp sign_cmp m.signs n.signs) (word_cmp v w))
 
 -- stored words compare as words do
-pub stored_cmp : (a b : List ℕ) (v w : Word) → IsStored a → IsStored b → moves_in a ≡ v → moves_in b ≡ w → bytes_cmp a b ≡ word_cmp v w
+pub stored_cmp : (a b : List ℕ) (v w : Word) → IsStoredWord a → IsStoredWord b → moves_in a ≡ v → moves_in b ≡ w → bytes_cmp a b ≡ word_cmp v w
 stored_cmp a b v w sa sb ia ib =
     (λ i. bytes_cmp (sa.same i) (sb.same i))
     ∙ words_then (moves_in a) (moves_in b) (few_low (moves_in a) sa.kept.few) (few_low (moves_in b) sb.kept.few)

@@ -44,11 +44,11 @@ abbrev pub piece : ℕ → List ℕ
 piece b = cond (is_count b) (46 ∷ decimal b) (letter (sign_of b) ∷ [])
 
 -- the bytes are those of a word that can be kept
-pub record IsStored (bytes : List ℕ) : Type 0 where
+pub record IsStoredWord (bytes : List ℕ) : Type 0 where
   pub same : bytes ≡ stored (moves_in bytes)
   pub kept : IsKeptWord (moves_in bytes)
 
 -- they stand in a buffer of so many bytes, which has at least those that need no memory
 pub record IsKeptBuffer (bytes : List ℕ) (capacity : ℕ) : Type 0 where
-  pub stored : IsStored bytes
+  pub stored : IsStoredWord bytes
   pub room : 64 ≤ capacity

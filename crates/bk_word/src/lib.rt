@@ -4,7 +4,7 @@
 ghost use Rattle.std.specs.Cmp.{IsTotalOrder};
 ghost use Rattle.std.specs.Prelude.{IfOk, IsOk, OnErr, OnOk, Some, [], length, slice_get, take, ◌+◌, ◌++◌, ◌-◌, ◌<◌, ◌∷◌, ◌≡◌, ◌≤◌};
 ghost use Rattle.bk_word.specs.KeptWord.{CanStand, IsKeptWord};
-ghost use Rattle.bk_word.specs.Stored.{IsStored, moves_in, stored, stored_move};
+ghost use Rattle.bk_word.specs.Stored.{IsStoredWord, moves_in, stored, stored_move};
 ghost use Rattle.bk_word.specs.Word.{order_of, word_cmp};
 ghost use Rattle.bk_word.specs.WordTextLaws.{ATextIsOfOneWord, AWrittenWordIsRead};
 
@@ -183,7 +183,7 @@ impl Word {
 
     // The word that is stored so.
     pub(crate) fn from_bytes(alloc: Global, bytes: &[u8]) -> Result<Word, NoMemory>
-        requires { IsStored bytes.now }
+        requires { IsStoredWord bytes.now }
         ensures ok { IfOk result (λ w. w ≡ moves_in bytes.now) }
         ensures inline { order_of (moves_in bytes.now) ≤ 16 → IsOk result }
         ensures bytes { length bytes.now ≤ 64 → IsOk result }

@@ -1,6 +1,6 @@
 use Rattle.std.specs.Prelude.{List, length, map, ◌++◌, ◌∷◌, ◌≡◌}
 use Rattle.std.proofs.Common.{ap, arith, subst, sym, ℕ, ◌∙◌}
-use Rattle.bk_word.specs.Stored.{IsStored, moves_in, sign_byte, stored_move}
+use Rattle.bk_word.specs.Stored.{IsStoredWord, moves_in, sign_byte, stored_move}
 use Rattle.bk_word.specs.declared.Sign.{Sign}
 use Rattle.bk_word.proofs.Failing.{no_err, on_ok}
 use Rattle.bk_word.proofs.StoredBytes.{has_bytes, has_room, pushed}
@@ -15,7 +15,7 @@ pushed_bytes c =
 
 pub invariant_of-self-2 : goal.invariant_of-self-2
 invariant_of-self-2 c = record {
-  stored = subst IsStored (sym (pushed_bytes c)) (pushed c.self.inside.bytes.items c.args.self.now c.args.m.now c.self.invariant.stored c.self.view_is
+  stored = subst IsStoredWord (sym (pushed_bytes c)) (pushed c.self.inside.bytes.items c.args.self.now c.args.m.now c.self.invariant.stored c.self.view_is
       c.requires.stands c.requires.few).1;
   room = omega (arith, c.self.invariant.room, c.extend_from_slice.ensures.capacity);
 }
