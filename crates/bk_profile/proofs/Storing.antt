@@ -15,7 +15,7 @@ use Rattle.bk_profile.proofs.RunStarts.{gap_from_runs, greatest_depth, least_dep
 use Rattle.bk_profile.specs.Gap.{Fits, IsGap, with_group}
 use Rattle.bk_profile.specs.Laid.{IsGreatestDepth, IsLeastDepth, Laid}
 use Rattle.bk_profile.specs.Outline.{IsLowest, runs_under, start}
-use Rattle.bk_profile.specs.Stored.{IsStored}
+use Rattle.bk_profile.specs.Stored.{IsStoredProfile}
 use Rattle.bk_profile.specs.declared.runs.Run.{Run}
 
 -- the columns of a gap, by the sum of the sides that fill it
@@ -39,7 +39,8 @@ pub reads_from : (runs once twice : List Run) (places : ℕ × ℕ) (gap : Segme
 reads_from runs once twice places gap first second lowest x end level =
     record { once_is = first; twice_is = second; lowest = lowest; x = x; end = end; level = level }
 
-module _ (p : Laid) (runs once twice : List Run) (places : ℕ × ℕ) (gap : Segment) (stored : IsStored p runs) (reads : Reads runs once twice places gap) where
+module _ (p : Laid) (runs once twice : List Run) (places : ℕ × ℕ) (gap : Segment) (stored : IsStoredProfile p runs)
+    (reads : Reads runs once twice places gap) where
   pub lowest_runs : IsLowest runs (length runs) places.0 places.1
   lowest_runs = subst (λ (l : List Run). IsLowest l (length l) places.0 places.1) reads.once_is reads.lowest
 
@@ -65,7 +66,7 @@ module _ (p : Laid) (runs once twice : List Run) (places : ℕ × ℕ) (gap : Se
   )
 
   pub stored_laid : (sides : List ℕ) → Fits gap sides → AllByRecursion IsSide sides → 0 < length sides → length p.squares + length sides ≤ 200
-      → IsStored (record { width = p.width; squares = with_group p.squares gap sides })
+      → IsStoredProfile (record { width = p.width; squares = with_group p.squares gap sides })
       ((take places.0 runs ++ runs_under gap.level sides) ++ drop places.1 runs)
   stored_laid sides fits good some room = record {
     profile = record {
@@ -78,14 +79,14 @@ module _ (p : Laid) (runs once twice : List Run) (places : ℕ × ℕ) (gap : Se
   }
 
 -- the depths that are read off
-pub least_read : (p : Laid) (runs once twice : List Run) (places : ℕ × ℕ) → IsStored p runs → once ≡ runs → twice ≡ runs
+pub least_read : (p : Laid) (runs once twice : List Run) (places : ℕ × ℕ) → IsStoredProfile p runs → once ≡ runs → twice ≡ runs
     → IsLowest once (length once) places.0 places.1 → IsLeastDepth p (get_or twice places.0 no_run).level
 least_read p runs once twice places stored e f lowest =
     subst (λ (l : List Run). IsLeastDepth p (get_or l places.0 no_run).level) (sym f)
     (least_depth p.width p.squares runs places.0 places.1 stored.outline (subst (λ (l : List Run). IsLowest l (length l) places.0 places.1) e lowest))
 
 -- the greatest level of the stored runs is the greatest depth
-pub greatest_read : (p : Laid) (runs once : List Run) (greatest : ℕ) → IsStored p runs → once ≡ runs → All (λ (r : Run). r.level ≤ greatest) once
+pub greatest_read : (p : Laid) (runs once : List Run) (greatest : ℕ) → IsStoredProfile p runs → once ≡ runs → All (λ (r : Run). r.level ≤ greatest) once
     → (k : ℕ) × (k < length once) × HoldsAt (λ (r : Run). r.level ≡ greatest) once k → IsGreatestDepth p greatest
 greatest_read p runs once greatest stored e most some =
     let at : (k : ℕ) × (k < length runs) × HoldsAt (λ (r : Run). r.level ≡ greatest) runs k =

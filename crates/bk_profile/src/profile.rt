@@ -31,13 +31,13 @@ pub struct Profile {
 
 impl Model for Profile {
     ghost use Rattle.bk_profile.specs.Laid.{Laid};
-    ghost use Rattle.bk_profile.specs.Stored.{IsStored};
+    ghost use Rattle.bk_profile.specs.Stored.{IsStoredProfile};
 
     ghost Value = { Laid };
 
     ghost view = { λ p. record { width = p.width; squares = p.laid.items } };
 
-    ghost invariant = { λ p. IsStored (record { width = p.width; squares = p.laid.items }) p.outline.items };
+    ghost invariant = { λ p. IsStoredProfile (record { width = p.width; squares = p.laid.items }) p.outline.items };
 }
 
 impl Profile {
