@@ -8,7 +8,7 @@ use Rattle.bk_laws.proofs.AllOfLists.{all_append}
 use Rattle.bk_tiling.specs.Kept.{IsSide}
 use Rattle.bk_code.specs.Code.{Code, flat, with_side}
 use Rattle.bk_code.specs.Kept.{IsKeptCode, IsSideGroup}
-use Rattle.bk_code.specs.Stored.{AreStarts, IsStored, Rise, groups_at, groups_from}
+use Rattle.bk_code.specs.Stored.{AreStarts, IsStoredCode, Rise, groups_at, groups_from}
 
 -- as many places as rise between two numbers lie between them
 pub rise_below : (from : ℕ) (starts : List ℕ) (end : ℕ) → Rise from starts end → from + length starts < end
@@ -128,8 +128,8 @@ all_side (group ∷ []) s all one = ((omega (arith, length-append group (s ∷ [
 all_side (group ∷ next ∷ code) s all one = (all.0, all_side (next ∷ code) s all.1 one)
 
 -- what is stored after a further group
-pub stored_more : (starts xs : List ℕ) (ys : List ℕ) → IsStored starts xs → 0 < length ys → AllByRecursion IsSide ys → length xs + length ys ≤ 200
-    → IsStored (starts ++ length xs ∷ []) (xs ++ ys)
+pub stored_more : (starts xs : List ℕ) (ys : List ℕ) → IsStoredCode starts xs → 0 < length ys → AllByRecursion IsSide ys → length xs + length ys ≤ 200
+    → IsStoredCode (starts ++ length xs ∷ []) (xs ++ ys)
 stored_more starts xs ys stored some sides room = record {
   starts_rise = starts_more starts (length xs) (length (xs ++ ys)) stored.starts_rise (omega (arith, length-append xs ys));
   code = subst IsKeptCode (sym cut) (record {
@@ -147,7 +147,7 @@ stored_more starts xs ys stored some sides room = record {
     cut = groups_more starts xs ys stored.starts_rise
 
 -- and after a further side of the last group
-pub stored_side : (starts xs : List ℕ) (s : ℕ) → IsStored starts xs → 0 < length starts → IsSide s → length xs < 200 → IsStored starts (xs ++ s ∷ [])
+pub stored_side : (starts xs : List ℕ) (s : ℕ) → IsStoredCode starts xs → 0 < length starts → IsSide s → length xs < 200 → IsStoredCode starts (xs ++ s ∷ [])
 stored_side starts xs s stored some side room = record {
   starts_rise = starts_on starts (length xs) (length (xs ++ s ∷ [])) some stored.starts_rise (omega (arith, length-append xs (s ∷ [])));
   code = subst IsKeptCode (sym cut) (record {
@@ -223,7 +223,7 @@ starts_to [] end g h l = absurd (omega arith)
 starts_to (start ∷ starts) end g h l = rise_to start starts end g h.1 (omega arith)
 
 -- how many sides and groups a stored code has
-pub sides_count : (starts xs : List ℕ) (code : Code) → IsStored starts xs → groups_at starts xs ≡ code → length xs ≡ length (flat code)
+pub sides_count : (starts xs : List ℕ) (code : Code) → IsStoredCode starts xs → groups_at starts xs ≡ code → length xs ≡ length (flat code)
 sides_count starts xs code stored view = ap length (sym (groups_flat starts xs stored.starts_rise)) ∙ ap (λ (c : Code). length (flat c)) view
 
 -- a stored code has as many groups as starts
@@ -231,11 +231,11 @@ pub starts_count : (starts xs : List ℕ) (code : Code) → groups_at starts xs 
 starts_count starts xs code view = sym (groups_length starts xs) ∙ ap (λ (c : Code). length c) view
 
 -- where a code has fewer than 200 sides, so has what is stored of it
-pub sides_room : (starts xs : List ℕ) (code : Code) → IsStored starts xs → groups_at starts xs ≡ code → length (flat code) < 200 → length xs < 200
+pub sides_room : (starts xs : List ℕ) (code : Code) → IsStoredCode starts xs → groups_at starts xs ≡ code → length (flat code) < 200 → length xs < 200
 sides_room starts xs code stored view room = omega (arith, sides_count starts xs code stored view)
 
 -- and fewer than 200 starts
-pub starts_room : (starts xs : List ℕ) (code : Code) → IsStored starts xs → groups_at starts xs ≡ code → length (flat code) < 200 → length starts < 200
+pub starts_room : (starts xs : List ℕ) (code : Code) → IsStoredCode starts xs → groups_at starts xs ≡ code → length (flat code) < 200 → length starts < 200
 starts_room starts xs code stored view room = omega (arith, sides_count starts xs code stored view, starts_below starts (length xs) stored.starts_rise)
 
 -- where each group has sides that a square may have, so has the flat list

@@ -25,6 +25,6 @@ AreStarts [] end = end ≡ 0
 AreStarts (start ∷ starts) end = (start ≡ 0) × Rise start starts end
 
 -- what holds of the places and sides that are stored
-pub record IsStored (starts sides : List ℕ) : Type 0 where
+pub record IsStoredCode (starts sides : List ℕ) : Type 0 where
   pub starts_rise : AreStarts starts (length sides)
   pub code : IsKeptCode (groups_at starts sides)

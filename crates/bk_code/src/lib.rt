@@ -25,13 +25,13 @@ pub struct Code {
 
 impl Model for Code {
     ghost use Rattle.bk_code.specs.Code.{Code as Groups};
-    ghost use Rattle.bk_code.specs.Stored.{IsStored, groups_at};
+    ghost use Rattle.bk_code.specs.Stored.{IsStoredCode, groups_at};
 
     ghost Value = { Groups };
 
     ghost view = { λ c. groups_at c.starts.items c.sides.items };
 
-    ghost invariant = { λ c. IsStored c.starts.items c.sides.items };
+    ghost invariant = { λ c. IsStoredCode c.starts.items c.sides.items };
 }
 
 impl Code {
