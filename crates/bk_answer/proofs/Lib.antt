@@ -10,3 +10,4 @@ pub mod PieceByPiece
 pub mod Writing
 pub mod ItemSteps
 pub mod ReplySteps
+pub mod TellingExamples

@@ -1,4 +1,5 @@
 -- What a command tells of a tiling.
+-- Example (TellingExamples): of the rectangle 3x2 `draw` tells three rows.
 use Rattle.std.specs.List.{range_with_len}
 use Rattle.std.specs.Prelude.{Bool, List, [], false, map, ℕ, ◌+◌, ◌++◌, ◌<◌, ◌∷◌, ◌≡◌, ◌≤◌}
 use Rattle.bk_tiling.specs.Tiling.{Tiling, order}
