@@ -4,6 +4,7 @@ use Rattle.bk_profile.specs.Laid.{IsProfile, Laid}
 use Rattle.bk_profile.specs.Outline.{IsOutline}
 use Rattle.bk_profile.specs.declared.runs.Run.{Run}
 
+-- what holds of what is laid and the runs that are stored
 pub record IsStoredProfile (p : Laid) (runs : List Run) : Type 0 where
   pub profile : IsProfile p
   pub outline : IsOutline p.width p.squares runs
