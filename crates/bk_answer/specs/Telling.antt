@@ -5,8 +5,7 @@ use Rattle.std.specs.Prelude.{Bool, List, [], false, map, ℕ, ◌+◌, ◌++◌
 use Rattle.bk_tiling.specs.Tiling.{Tiling, order}
 use Rattle.bk_sym.specs.Canonical.{IsCanonicalOf}
 use Rattle.bk_sym.specs.Image.{image}
-use Rattle.bk_sym.specs.declared.Turn.{Turn}
-use Rattle.bk_sym.specs.declared.Turn.TheVariants.{FlipX, FlipY, Half, Same, Swap, SwapFlipX, SwapFlipY, SwapHalf}
+use Rattle.bk_sym.specs.Turns.{turns}
 use Rattle.bk_draw.specs.Drawing.{drawing_row}
 use Rattle.bk_word.specs.Word.{Word as Moves}
 use Rattle.bk_lay.specs.TilingWord.{IsWordOf}
@@ -14,10 +13,6 @@ use Rattle.bk_report.specs.Answers.{IsCheckLine, dual_line, net_line, tiling_lin
 use Rattle.bk_report.specs.Listings.{word_line}
 use Rattle.bk_answer.specs.declared.command.CodeCommand.{CodeCommand}
 use Rattle.bk_answer.specs.declared.command.CodeCommand.TheVariants.{Canon, Check, Draw, Dual, Images, Net, Word}
-
--- all turns, in the order in which images are given
-abbrev pub turns : List Turn
-turns = Same ∷ FlipX ∷ FlipY ∷ Half ∷ Swap ∷ SwapFlipX ∷ SwapFlipY ∷ SwapHalf ∷ []
 
 -- the lines of the eight images of a tiling
 abbrev pub image_lines : Tiling → List (List ℕ)

@@ -14,18 +14,6 @@ use bk_report::write_tiling;
 use bk_sym::{Turn, image};
 use bk_tiling::Tiling;
 
-// All turns, in the order in which images are given.
-const TURNS: [Turn; 8] = [
-    Turn::Same,
-    Turn::FlipX,
-    Turn::FlipY,
-    Turn::Half,
-    Turn::Swap,
-    Turn::SwapFlipX,
-    Turn::SwapFlipY,
-    Turn::SwapHalf,
-];
-
 // Writes the lines of the eight images of a tiling, each by one call.
 pub(crate) fn write_images<O: Sink>(
     tiling: &Tiling,
@@ -36,7 +24,7 @@ pub(crate) fn write_images<O: Sink>(
     ensures failed { OnErr result (AppendsPrefix (O.written out.old) (O.written out.new) (concat (image_lines tiling.now))) }
     ensures cause { HasCause (O.faults out.old) (O.faults out.new) result }
 {
-    for which in TURNS {
+    for which in Turn::ALL {
         write_tiling(&image(tiling, which), buffer);
         out.write_all(buffer.as_slice())?;
     }

@@ -3,7 +3,7 @@ use Rattle.std.specs.Cmp.Lexicographic.{nat_list_cmp_total, slice_cmp}
 use Rattle.std.specs.Ordering.{is_le, nat_cmp, ordering_reverse}
 use Rattle.std.specs.declared.cmp.Ordering.{Ordering}
 use Rattle.std.specs.declared.cmp.Ordering.TheVariants.{Equal, Greater, Less}
-use Rattle.std.proofs.Common.{List, [], ap, arith, false, get_or, inl, inr, refl, subst, sym, true, ℕ, ◌+◌, ◌<◌, ◌∙◌, ◌∷◌, ◌≡◌, ◌≤◌, ◌⊎◌}
+use Rattle.std.proofs.Common.{List, [], ap, arith, drop, false, get_or, inl, inr, refl, subst, sym, true, ℕ, ◌+◌, ◌<◌, ◌∙◌, ◌∷◌, ◌≡◌, ◌≤◌, ◌⊎◌}
 use Rattle.std.proofs.lemmas.Bool.{cases_lt}
 use Rattle.std.proofs.lemmas.Cmp.{tied_itself}
 use Rattle.bk_code.specs.Code.{code_of, flat}
@@ -12,6 +12,7 @@ use Rattle.bk_sym.proofs.CanonicalLaws.{cmp_equal}
 use Rattle.bk_sym.proofs.Composing.{image-Same}
 use Rattle.bk_sym.specs.Canonical.{IsAtMost, IsCanonicalOf, IsGreatestImage, Lies, scaled_down_tiling}
 use Rattle.bk_sym.specs.Image.{image}
+use Rattle.bk_sym.specs.Turns.{turns}
 use Rattle.bk_sym.specs.declared.Turn.{Turn}
 use Rattle.bk_sym.specs.declared.Turn.TheVariants.{FlipX, FlipY, Half, Same, Swap, SwapFlipX, SwapFlipY, SwapHalf}
 
@@ -58,20 +59,27 @@ none_greater-more t turns k c before here j below = cases (cases_lt j k)
     cases (inl h) = before j h
     cases (inr h) = let e : k ≡ j = omega arith in subst (λ n. Lies (image (get_or turns n Same) t) → IsAtMost (image (get_or turns n Same) t) c) e here
 
--- all turns but one
-abbrev pub others : List Turn
-others = FlipX ∷ FlipY ∷ Half ∷ Swap ∷ SwapFlipX ∷ SwapFlipY ∷ SwapHalf ∷ []
+-- where no image that lies is greater, c is the greatest
+pub greatest_from : (t c : Tiling) → NoneGreater t turns 8 c → IsGreatestImage t c
+greatest_from t c none Same = none 0 (omega arith)
+greatest_from t c none FlipX = none 1 (omega arith)
+greatest_from t c none FlipY = none 2 (omega arith)
+greatest_from t c none Half = none 3 (omega arith)
+greatest_from t c none Swap = none 4 (omega arith)
+greatest_from t c none SwapFlipX = none 5 (omega arith)
+greatest_from t c none SwapFlipY = none 6 (omega arith)
+greatest_from t c none SwapHalf = none 7 (omega arith)
 
--- where no other image that lies is greater, nor the tiling itself, c is the greatest
-pub greatest_from : (t c : Tiling) → NoneGreater t others 7 c → (Lies (image Same t) → IsAtMost (image Same t) c) → IsGreatestImage t c
-greatest_from t c none same Same = same
-greatest_from t c none same FlipX = none 0 (omega arith)
-greatest_from t c none same FlipY = none 1 (omega arith)
-greatest_from t c none same Half = none 2 (omega arith)
-greatest_from t c none same Swap = none 3 (omega arith)
-greatest_from t c none same SwapFlipX = none 4 (omega arith)
-greatest_from t c none same SwapFlipY = none 5 (omega arith)
-greatest_from t c none same SwapHalf = none 6 (omega arith)
+-- nor is one where the tiling isn't, and no image by another turn
+pub greatest_of_others : (t c : Tiling) → IsTiling t → IsAtMost t c → NoneGreater t (drop 1 turns) 7 c → IsGreatestImage t c
+greatest_of_others t c tiling most none Same = λ _. subst (λ (u : Tiling). IsAtMost u c) (sym (image-Same t tiling)) most
+greatest_of_others t c tiling most none FlipX = none 0 (omega arith)
+greatest_of_others t c tiling most none FlipY = none 1 (omega arith)
+greatest_of_others t c tiling most none Half = none 2 (omega arith)
+greatest_of_others t c tiling most none Swap = none 3 (omega arith)
+greatest_of_others t c tiling most none SwapFlipX = none 4 (omega arith)
+greatest_of_others t c tiling most none SwapFlipY = none 5 (omega arith)
+greatest_of_others t c tiling most none SwapHalf = none 6 (omega arith)
 
 -- what is known of the greatest image so far
 pub record IsGreatestSoFar (t : Tiling) (first : Turn) (turns : List Turn) (k : ℕ) (c : Tiling) : Type 0 where
@@ -125,17 +133,11 @@ so_far-none t first turns c is lies = record {
   none_greater = λ j below. absurd (omega arith);
 }
 
--- an image that lies by no turn at all is the first one tried
-pub so_far-all : (t : Tiling) (first : Turn) (c : Tiling) → IsTiling t → (Lies t → first ≡ Same) → IsGreatestSoFar t first others 7 c → IsGreatestImage t c
-so_far-all t first c tiling unturned far = greatest_from t c far.none_greater
-    (λ h. subst (λ (turn : Turn). IsAtMost (image turn t) c) (unturned (subst Lies (image-Same t tiling) h)) far.from_first)
-
 -- the greatest of all images in lowest terms is the canonical tiling
-pub canonical_from : (t s c : Tiling) (first : Turn) → IsTiling s → s ≡ scaled_down_tiling t → (Lies s → first ≡ Same)
-    → IsGreatestSoFar s first others 7 c → IsCanonicalOf t c
-canonical_from t s c first tiling small unturned far = record {
+pub canonical_from : (t s c : Tiling) (first : Turn) → s ≡ scaled_down_tiling t → IsGreatestSoFar s first turns 8 c → IsCanonicalOf t c
+canonical_from t s c first small far = record {
   turn = far.turn;
   image_of = far.image_of ∙ ap (image far.turn) small;
   lying = far.lying;
-  greatest = subst (λ (u : Tiling). IsGreatestImage u c) small (so_far-all s first c tiling unturned far);
+  greatest = subst (λ (u : Tiling). IsGreatestImage u c) small (greatest_from s c far.none_greater);
 }

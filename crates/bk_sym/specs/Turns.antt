@@ -1,7 +1,12 @@
 -- Turns one after the other.
 -- Example (ImageExamples): two quarter turns one way are a half turn, and a quarter turn is undone by one the other way.
+use Rattle.std.specs.Prelude.{List, [], ◌∷◌}
 use Rattle.bk_sym.specs.declared.Turn.{Turn}
 use Rattle.bk_sym.specs.declared.Turn.TheVariants.{FlipX, FlipY, Half, Same, Swap, SwapFlipX, SwapFlipY, SwapHalf}
+
+-- all turns, in the order in which images are given
+abbrev pub turns : List Turn
+turns = Same ∷ FlipX ∷ FlipY ∷ Half ∷ Swap ∷ SwapFlipX ∷ SwapFlipY ∷ SwapHalf ∷ []
 
 -- the turn, and then left and right exchanged
 abbrev pub then_flip_x : Turn → Turn

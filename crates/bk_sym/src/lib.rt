@@ -40,16 +40,19 @@ pub enum Turn {
     SwapHalf,
 }
 
-// All turns but the one that leaves a tiling as it is.
-const OTHERS: [Turn; 7] = [
-    Turn::FlipX,
-    Turn::FlipY,
-    Turn::Half,
-    Turn::Swap,
-    Turn::SwapFlipX,
-    Turn::SwapFlipY,
-    Turn::SwapHalf,
-];
+impl Turn {
+    /// All turns: first the one that leaves a tiling as it is, then the others that exchange no columns and levels.
+    pub const ALL: [Turn; 8] = [
+        Turn::Same,
+        Turn::FlipX,
+        Turn::FlipY,
+        Turn::Half,
+        Turn::Swap,
+        Turn::SwapFlipX,
+        Turn::SwapFlipY,
+        Turn::SwapHalf,
+    ];
+}
 
 /// That image of a tiling: its squares turned or mirrored with the rectangle.
 pub fn image(tiling: &Tiling, which: Turn) -> Tiling
@@ -157,7 +160,7 @@ pub fn canonical(tiling: &Tiling) -> Tiling
     let small = scale_down(tiling);
     let first = first_lying(&small);
     let mut greatest = image(&small, first);
-    for which in OTHERS {
+    for which in Turn::ALL {
         if which != first && lies(&small, which) {
             greatest = later_image(greatest, &small, which);
         }
@@ -221,8 +224,8 @@ fn is_greatest(tiling: &Tiling) -> bool
     requires { IsKept tiling.now }
     ensures { IsTrue result ↔ IsGreatestImage tiling.now tiling.now }
 {
-    for which in OTHERS {
-        if lies(tiling, which) && !is_image_at_most(tiling, which) {
+    for which in &Turn::ALL[1..] {
+        if lies(tiling, *which) && !is_image_at_most(tiling, *which) {
             return false;
         }
     }

@@ -2,12 +2,13 @@ use Rattle.std.proofs.Common.{[], ap, sym, ◌∙◌}
 use Rattle.std.proofs.lemmas.List.{get_or-map}
 use Rattle.std.proofs.lemmas.Result.{err_from_is_err_and}
 use Rattle.bk_sym.specs.Image.{image}
+use Rattle.bk_sym.specs.Turns.{turns}
 use Rattle.bk_sym.specs.declared.Turn.{Turn}
 use Rattle.bk_sym.specs.declared.Turn.TheVariants.{Same}
 use Rattle.bk_report.specs.Answers.{tiling_line}
 use Rattle.bk_answer.proofs.PieceByPiece.{failed_later, written_all, written_more, written_part}
 use Rattle.bk_answer.proofs.images_and_drawing.write_images.Goals as goal
-use Rattle.bk_answer.specs.Telling.{image_lines, turns}
+use Rattle.bk_answer.specs.Telling.{image_lines}
 
 pub returns-in_err-write_all-clause-failed : goal.returns-in_err-write_all-clause-failed
 returns-in_err-write_all-clause-failed g c =
