@@ -55,6 +55,7 @@ module _ (w : Word) (legal : IsLegal w) (given : List ℕ) (all_sides : AllByRec
     own_signs : (get_some w i below).0.signs ≡ signs
     own_signs = sym (signs_are (get_some w i below).0 at)
 
+    -- the move can be laid
     pub step_can : (o : Outline) × CanLay width laid numbers first (first + closed) signs new o
     step_can = (
       after_moves start (take i w),
@@ -93,10 +94,12 @@ module _ (w : Word) (legal : IsLegal w) (given : List ℕ) (all_sides : AllByRec
               (get_some w i below).0.signs;
         }) (take (get_some w i below).0.count (drop (length laid) given)) v) (sym width_is) t))
 
+    -- where it has no turn, no tiling has the word with these sides
     pub step_none : ((v : Segment) → IsTurn width laid (record { count = length new; signs = signs }) new v → ⊥) → (t : Tiling) → IsLaidWith w given t → ⊥
     step_none never = placed_none given all_sides few w legal i laid numbers s (get_some w i below).0 at first (first + closed) place end
         (λ v t. never v (turn_back v t))
 
+    -- with it laid, the placing has come one move further
     pub step_more : (next : List Square) (next_numbers : List ℕ) → (v : Segment)
         × (IsTurn width laid (record { count = length new; signs = signs }) new v × (next ≡ laid ++ laid_group v.x v.level new))
         → next_numbers ≡ (take first numbers ++ numbers_from (length laid + 1) (length new)) ++ drop (first + closed) numbers
@@ -132,6 +135,7 @@ module _ (w : Word) (complete : IsComplete w) (given : List ℕ) (all_sides : Al
     (count : length given ≡ order_of w) (i : ℕ) (done : length w ≤ i)
     (laid : List Square) (numbers seen : List ℕ) (s : IsPlacedTo w given i laid numbers) (width : ℕ)
     (width_is : width ≡ first_width w given) (seen_is : seen ≡ numbers) where
+  -- past the last move all squares are laid on one segment
   pub end_can : (o : Outline) × IsClosed width laid seen o
   end_can = (
     outline_of w,
@@ -140,6 +144,7 @@ module _ (w : Word) (complete : IsComplete w) (given : List ℕ) (all_sides : Al
         (placed_closed given all_sides few w complete count i done laid numbers s)),
   )
 
+  -- and the tiling that they make has the word with these sides
   pub end_is : (t : Tiling) → t ≡ record { width = width; height = depth laid 0; squares = in_code_order laid } → IsLaidWith w given t
   end_is t e = subst (IsLaidWith w given) (sym
       (e ∙ ap (λ (n : ℕ). record { width = n; height = depth laid 0; squares = in_code_order laid }) width_is))

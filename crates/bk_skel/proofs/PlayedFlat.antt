@@ -74,6 +74,7 @@ module _ (o : Outline) (shaped : Shaped o) (m : Move) (legal : IsLegalMove o m) 
       ∙ ap (λ (l : List ℕ). l ++ concat v.right) (concat-singles (new_squares o m)))))
       ∙ regroup (concat v.before) (concat v.left) (new_squares o m) (concat v.right) (concat v.after)
 
+  -- how many squares each segment has after it
   pub sizes_are : segment_sizes (after_move o m) ≡ map length v.before ++ (sizes_after turn m.signs ++ map length v.after)
   sizes_are = ap (map length) (segments_after o v m legal) ∙ map-append length v.before (joined m.signs between ++ v.after)
       ∙ ap (λ (l : List ℕ). map length v.before ++ l) (map-append length (joined m.signs between) v.after ∙ ap (λ (l : List ℕ). l ++ map length v.after) middle)
@@ -83,18 +84,17 @@ module _ (o : Outline) (shaped : Shaped o) (m : Move) (legal : IsLegalMove o m) 
           (omega (arith, legal.some, numbers-length (length o.hung + 1) m.count)) (many_between o v m legal)
           ∙ (λ i. joined_sizes (max (sym (left_is o shaped m from v f) i) 1) (max (sym (right_is o shaped m from v f) i) 1) m.signs)
 
+  -- the signs after it
   pub signs_are : (after_move o m).signs ≡ v.before_signs ++ (filter parts m.signs ++ v.after_signs)
   signs_are = signs_after o v m legal
 
+  -- the closed squares after it: those of the valley come behind those before
   pub closed_are : concat (after_move o m).closed ≡ concat o.closed ++ v.valley
   closed_are = concat-append o.closed (valley_of o ∷ []) ∙ ap (λ (l : List ℕ). concat o.closed ++ l) (append-nil (valley_of o) ∙ valley_is o v)
 
   -- how far the parts reach
   first_long : length (concat v.before ++ concat v.left) ≡ turn.first
   first_long = length-append (concat v.before) (concat v.left) ∙ sym (first_is o shaped m from v f)
-
-  closed_long : turn.first + length v.valley ≡ turn.first + turn.closed
-  closed_long = omega (arith, closed_is o shaped m from v f)
 
   start_long : length (map length v.before) ≡ first_touched turn
   start_long = length-map v.before length ∙ sym (start_is o shaped m from v f)
@@ -124,7 +124,7 @@ module _ (o : Outline) (shaped : Shaped o) (m : Move) (legal : IsLegalMove o m) 
   shows_move ends sizes signs closed s = record {
     ends_are = ap (λ (l : List ℕ). splice l turn.first (turn.first + turn.closed) (new_squares o m)) (s.ends_are ∙ ends_were)
         ∙ splice_at (concat v.before ++ concat v.left) v.valley (concat v.right ++ concat v.after) (new_squares o m) turn.first
-        (turn.first + turn.closed) first_long closed_long
+        (turn.first + turn.closed) first_long (omega (arith, closed_is o shaped m from v f))
         ∙ sym ends_are;
     sizes_are = ap (λ (l : List ℕ). splice l (first_touched turn) (first_touched turn + (open_sides turn + 1)) (sizes_after turn m.signs))
         (s.sizes_are ∙ sizes_were)
