@@ -8,7 +8,8 @@ use Rattle.std.proofs.lemmas.List.Elements.{All-from_recursion}
 use Rattle.std.proofs.lemmas.List.{length-append, length-map}
 use Rattle.bk_laws.proofs.AllOfLists.{all_append}
 use Rattle.bk_tiling.proofs.Cells.{all_from, in_all}
-use Rattle.bk_tiling.proofs.JoinedParts.{HasCell, IsPart, Splits, tiles_alone, tiles_joined}
+use Rattle.bk_tiling.proofs.CutRectangles.{left_part, lower_part, rectangle, right_part, split_beside, split_stacked, upper_part}
+use Rattle.bk_tiling.proofs.JoinedParts.{HasCell, Splits, tiles_alone, tiles_joined}
 use Rattle.bk_tiling.proofs.MovedSquares.{all_moved, moved_rectangle, tiles_moved}
 use Rattle.bk_tiling.proofs.OneRefusal.{kept_from, tiles_apart, tiles_cells}
 use Rattle.bk_tiling.proofs.Refusing.{IsSortedByPlace, sorted_in_order}
@@ -44,55 +45,6 @@ growing_height t g = most_height (record t { squares = in_code_order t.squares }
 abbrev square_at : ℕ → ℕ → ℕ → Square
 square_at x y s = record { x = x; y = y; s = s }
 
--- two rectangles side by side, the left one of width a
-abbrev beside : ℕ → ℕ → ℕ → Rectangle
-beside x a h = record { x = x; y = 0; width = a; height = h }
-
--- two rectangles one above the other, the upper one of height a
-abbrev stacked : ℕ → ℕ → ℕ → Rectangle
-stacked y w a = record { x = 0; y = y; width = w; height = a }
-
-module _ (n a b h : ℕ) (sum : n ≡ a + b) where
-  left_part : IsPart (sized n h) (beside 0 a h)
-  left_part = record { left = omega arith; right = omega arith; top = omega arith; bottom = omega arith }
-
-  right_part : IsPart (sized n h) (beside a b h)
-  right_part = record { left = omega arith; right = omega arith; top = omega arith; bottom = omega arith }
-
-  split_beside : Splits (sized n h) (beside 0 a h) (beside a b h)
-  split_beside i j has = cases (cases_lt i a)
-    where
-      cases : (i < a) ⊎ (a ≤ i) → (HasCell (beside 0 a h) i j × (HasCell (beside a b h) i j → ⊥))
-          ⊎ ((HasCell (beside 0 a h) i j → ⊥) × HasCell (beside a b h) i j)
-      cases (inl l) = inl (
-        record { left = omega arith; right = omega arith; top = omega arith; bottom = omega (arith, has.bottom) },
-        λ no. omega (arith, no.left),
-      )
-      cases (inr m) = inr (
-        λ no. omega (arith, no.right),
-        record { left = m; right = omega (arith, has.right); top = omega arith; bottom = omega (arith, has.bottom) },
-      )
-
-  upper_part : IsPart (sized h n) (stacked 0 h a)
-  upper_part = record { left = omega arith; right = omega arith; top = omega arith; bottom = omega arith }
-
-  lower_part : IsPart (sized h n) (stacked a h b)
-  lower_part = record { left = omega arith; right = omega arith; top = omega arith; bottom = omega arith }
-
-  split_stacked : Splits (sized h n) (stacked 0 h a) (stacked a h b)
-  split_stacked i j has = cases (cases_lt j a)
-    where
-      cases : (j < a) ⊎ (a ≤ j) → (HasCell (stacked 0 h a) i j × (HasCell (stacked a h b) i j → ⊥))
-          ⊎ ((HasCell (stacked 0 h a) i j → ⊥) × HasCell (stacked a h b) i j)
-      cases (inl l) = inl (
-        record { left = omega arith; right = omega (arith, has.right); top = omega arith; bottom = omega arith },
-        λ no. omega (arith, no.top),
-      )
-      cases (inr m) = inr (
-        λ no. omega (arith, no.bottom),
-        record { left = omega arith; right = omega (arith, has.right); top = m; bottom = omega (arith, has.bottom) },
-      )
-
 swapped : (r a b : Rectangle) → Splits r a b → Splits r b a
 swapped r a b splits i j has = cases (splits i j has)
   where
@@ -114,10 +66,12 @@ module _ (t : Tiling) (g : IsGrowing t) (few : length t.squares < 200) where
     accepted = record {
       few = omega (arith, length-append t.squares (square_at t.width 0 t.height ∷ []));
       sides = all_append (λ q. IsSide q.s) t.squares (square_at t.width 0 t.height ∷ []) (g.accepted).sides ((some_height, side), tt);
-      tiles = tiles_joined (sized (t.width + t.height) t.height) (beside 0 t.width t.height) (beside t.width t.height t.height) t.squares
+      tiles = tiles_joined (sized (t.width + t.height) t.height) (rectangle 0 0 t.width t.height) (rectangle t.width 0 t.height t.height) t.squares
           (square_at t.width 0 t.height ∷ [])
-          (left_part (t.width + t.height) t.width t.height t.height refl) (right_part (t.width + t.height) t.width t.height t.height refl)
-          (split_beside (t.width + t.height) t.width t.height t.height refl) (g.accepted).tiles (tiles_alone (square_at t.width 0 t.height) some_height);
+          (left_part 0 t.width 0 (t.width + t.height) t.width t.height t.height (omega arith) refl)
+          (right_part 0 t.width 0 (t.width + t.height) t.width t.height t.height (omega arith) refl)
+          (split_beside 0 t.width 0 (t.width + t.height) t.width t.height t.height (omega arith) refl)
+          (g.accepted).tiles (tiles_alone (square_at t.width 0 t.height) some_height);
     };
     width_fits = omega (arith, growing_width t g);
     height_fits = g.height_fits;
@@ -129,10 +83,12 @@ module _ (t : Tiling) (g : IsGrowing t) (few : length t.squares < 200) where
     accepted = record {
       few = omega (arith, length-append t.squares (square_at 0 t.height t.width ∷ []));
       sides = all_append (λ q. IsSide q.s) t.squares (square_at 0 t.height t.width ∷ []) (g.accepted).sides ((some_width, side), tt);
-      tiles = tiles_joined (sized t.width (t.height + t.width)) (stacked 0 t.width t.height) (stacked t.height t.width t.width) t.squares
+      tiles = tiles_joined (sized t.width (t.height + t.width)) (rectangle 0 0 t.width t.height) (rectangle 0 t.height t.width t.width) t.squares
           (square_at 0 t.height t.width ∷ [])
-          (upper_part (t.height + t.width) t.height t.width t.width refl) (lower_part (t.height + t.width) t.height t.width t.width refl)
-          (split_stacked (t.height + t.width) t.height t.width t.width refl) (g.accepted).tiles (tiles_alone (square_at 0 t.height t.width) some_width);
+          (upper_part 0 0 t.height t.width (t.height + t.width) t.height t.width (omega arith) refl)
+          (lower_part 0 0 t.height t.width (t.height + t.width) t.height t.width (omega arith) refl)
+          (split_stacked 0 0 t.height t.width (t.height + t.width) t.height t.width (omega arith) refl)
+          (g.accepted).tiles (tiles_alone (square_at 0 t.height t.width) some_width);
     };
     width_fits = g.width_fits;
     height_fits = omega (arith, growing_height t g);
@@ -141,10 +97,10 @@ module _ (t : Tiling) (g : IsGrowing t) (few : length t.squares < 200) where
   sides_moved : (right down : ℕ) → AllByRecursion (λ q. IsSide q.s) (map (moved_square right down) t.squares)
   sides_moved right down = all_moved (λ q. IsSide q.s) (λ q. IsSide q.s) right down (λ q is. is) t.squares (g.accepted).sides
 
-  moved_right : moved_rectangle t.height 0 (sized t.width t.height) ≡ beside t.height t.width t.height
+  moved_right : moved_rectangle t.height 0 (sized t.width t.height) ≡ rectangle t.height 0 t.width t.height
   moved_right = λ z. record { x = zero-add t.height z; y = 0; width = t.width; height = t.height }
 
-  moved_down : moved_rectangle 0 t.width (sized t.width t.height) ≡ stacked t.width t.width t.height
+  moved_down : moved_rectangle 0 t.width (sized t.width t.height) ≡ rectangle 0 t.width t.width t.height
   moved_down = λ z. record { x = 0; y = zero-add t.width z; width = t.width; height = t.height }
 
   -- with one at its left
@@ -159,11 +115,12 @@ module _ (t : Tiling) (g : IsGrowing t) (few : length t.squares < 200) where
       );
       sides = all_append (λ q. IsSide q.s) (map (moved_square t.height 0) t.squares) (square_at 0 0 t.height ∷ []) (sides_moved t.height 0)
           ((some_height, side), tt);
-      tiles = tiles_joined (sized (t.width + t.height) t.height) (beside t.height t.width t.height) (beside 0 t.height t.height)
+      tiles = tiles_joined (sized (t.width + t.height) t.height) (rectangle t.height 0 t.width t.height) (rectangle 0 0 t.height t.height)
           (map (moved_square t.height 0) t.squares) (square_at 0 0 t.height ∷ [])
-          (right_part (t.width + t.height) t.height t.width t.height (omega arith)) (left_part (t.width + t.height) t.height t.width t.height (omega arith))
-          (swapped (sized (t.width + t.height) t.height) (beside 0 t.height t.height) (beside t.height t.width t.height)
-          (split_beside (t.width + t.height) t.height t.width t.height (omega arith)))
+          (right_part 0 t.height 0 (t.width + t.height) t.height t.width t.height (omega arith) (omega arith))
+          (left_part 0 t.height 0 (t.width + t.height) t.height t.width t.height (omega arith) (omega arith))
+          (swapped (sized (t.width + t.height) t.height) (rectangle 0 0 t.height t.height) (rectangle t.height 0 t.width t.height)
+          (split_beside 0 t.height 0 (t.width + t.height) t.height t.width t.height (omega arith) (omega arith)))
           (subst (λ (r : Rectangle). Tiles r (map (moved_square t.height 0) t.squares)) moved_right
           (tiles_moved t.height 0 (sized t.width t.height) t.squares (g.accepted).tiles))
           (tiles_alone (square_at 0 0 t.height) some_height);
@@ -179,11 +136,12 @@ module _ (t : Tiling) (g : IsGrowing t) (few : length t.squares < 200) where
       few = omega (arith, length-append (map (moved_square 0 t.width) t.squares) (square_at 0 0 t.width ∷ []), length-map t.squares (moved_square 0 t.width));
       sides = all_append (λ q. IsSide q.s) (map (moved_square 0 t.width) t.squares) (square_at 0 0 t.width ∷ []) (sides_moved 0 t.width)
           ((some_width, side), tt);
-      tiles = tiles_joined (sized t.width (t.height + t.width)) (stacked t.width t.width t.height) (stacked 0 t.width t.width)
+      tiles = tiles_joined (sized t.width (t.height + t.width)) (rectangle 0 t.width t.width t.height) (rectangle 0 0 t.width t.width)
           (map (moved_square 0 t.width) t.squares) (square_at 0 0 t.width ∷ [])
-          (lower_part (t.height + t.width) t.width t.height t.width (omega arith)) (upper_part (t.height + t.width) t.width t.height t.width (omega arith))
-          (swapped (sized t.width (t.height + t.width)) (stacked 0 t.width t.width) (stacked t.width t.width t.height)
-          (split_stacked (t.height + t.width) t.width t.height t.width (omega arith)))
+          (lower_part 0 0 t.width t.width (t.height + t.width) t.width t.height (omega arith) (omega arith))
+          (upper_part 0 0 t.width t.width (t.height + t.width) t.width t.height (omega arith) (omega arith))
+          (swapped (sized t.width (t.height + t.width)) (rectangle 0 0 t.width t.width) (rectangle 0 t.width t.width t.height)
+          (split_stacked 0 0 t.width t.width (t.height + t.width) t.width t.height (omega arith) (omega arith)))
           (subst (λ (r : Rectangle). Tiles r (map (moved_square 0 t.width) t.squares)) moved_down
           (tiles_moved 0 t.width (sized t.width t.height) t.squares (g.accepted).tiles))
           (tiles_alone (square_at 0 0 t.width) some_width);

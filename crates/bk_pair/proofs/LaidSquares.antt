@@ -21,7 +21,7 @@ use Rattle.bk_tiling.specs.declared.Square.{Square}
 use Rattle.bk_sym.specs.Image.{image, image_square}
 use Rattle.bk_sym.specs.declared.Turn.TheVariants.{Swap}
 use Rattle.bk_pair.specs.Pair.{CanBeLaid, corner_squares, joined_square, laid_squares}
-use Rattle.bk_pair.proofs.Quarters.{left_part, lower_part, rectangle, right_part, split_beside, split_stacked, upper_part}
+use Rattle.bk_tiling.proofs.CutRectangles.{left_part, lower_part, rectangle, right_part, split_beside, split_stacked, upper_part}
 
 abbrev square_at : ℕ → ℕ → ℕ → Square
 square_at x y s = record { x = x; y = y; s = s }

@@ -24,6 +24,7 @@ pub mod Groups
 pub mod TilingGroups
 pub mod GroupStarts
 pub mod JoinedParts
+pub mod CutRectangles
 pub mod GroupCount
 -- why a list of squares is refused
 pub mod Refusing
