@@ -18,6 +18,7 @@ pub record SayTheSame (name : List ℕ) (all left : List (List ℕ)) : Type 0 wh
   pub out : IsLeftOut (options_in left) name → IsLeftOut (options_in all) name
   pub has : (value : List ℕ) → Contains (options_in left) (option_of name value) → Contains (options_in all) (option_of name value)
 
+-- where the first option left has another name, those behind it say the same
 pub say_more : (name : List ℕ) (all : List (List ℕ)) (first value : List ℕ) (words : List (List ℕ)) → first ≢ name
     → SayTheSame name all (first ∷ value ∷ words) → SayTheSame name all words
 say_more name all first value words other so = record {
@@ -25,15 +26,18 @@ say_more name all first value words other so = record {
   has = λ v has. so.has v (later_stands (option_of first value) (options_in words) (option_of name v) has);
 }
 
+-- fewer than two words have no option
 pub none_left : (words : List (List ℕ)) → length words < 2 → options_in words ≡ []
 none_left [] few = refl
 none_left (word ∷ []) few = refl
 none_left (word ∷ next ∷ words) few = absurd (omega arith)
 
+-- no words are options of any names
 pub end_stands : (names words : List (List ℕ)) → length words ≡ 0 → AreOptions names words
 end_stands names [] none = record { whole = refl; known = tt; once = tt }
 end_stands names (word ∷ words) none = absurd (omega arith)
 
+-- fewer than two words are options only where there are none
 pub end_falls : (names words : List (List ℕ)) → length words < 2 → AreOptions names words → length words ≡ 0
 end_falls names [] few are = refl
 end_falls names (word ∷ []) few are = ap length are.whole
@@ -47,11 +51,13 @@ cut_two [] a two is = absurd (omega arith)
 cut_two (x ∷ []) a two is = absurd (omega arith)
 cut_two (x ∷ y ∷ ys) a two is = rw (take_rest (x ∷ y ∷ ys) 2) (ap (λ z. z ∷ y ∷ ys) (sym is))
 
+-- a name that the test tells apart is another
 pub other_name : (text name : List ℕ) → false ≡ bytes_eq text name → text ≢ name
 other_name text name test same =
     let true' : bytes_eq text name ≡ true = (bytes_eq-Decides text name).1 same in
     cc
 
+-- where the first word isn't the name, the words behind the first two say the same of it
 pub say_rest : (name : List ℕ) (all : List (List ℕ)) (words : List (String Global)) (first : String Global) (text : List ℕ) → 2 ≤ length words
     → first ≡ get_or words 0 first
     → text ≡ string_bytes first → false ≡ bytes_eq text name → SayTheSame name all (map string_bytes words)
@@ -61,12 +67,14 @@ say_rest name all words first text two is same test so =
     say_more name all (string_bytes first) (string_bytes (get_or words 1 first)) (map string_bytes (take (length words - 2) (drop 2 words)))
     (λ e. other_name text name test (same ∙ e)) (subst (λ (w : List (String Global)). SayTheSame name all (map string_bytes w)) cut so)
 
+-- where fewer than two words are left, the option is left out
 pub say_none : (name : List ℕ) (all : List (List ℕ)) (words : List (String Global)) → length words < 2 → SayTheSame name all (map string_bytes words)
     → IsLeftOut (options_in all) name
 say_none name all words few so =
     so.out (subst (λ (options : List NamedValue). IsLeftOut options name)
     (sym (none_left (map string_bytes words) (omega (arith, length-map words string_bytes)))) tt)
 
+-- and all words are options just where no word is left
 pub stand_end : (names all : List (List ℕ)) (words : List (String Global)) (empty : Bool) → length words < 2 → empty ≡ nat_eq (length words) 0
     → StandOrFall names all (map string_bytes words)
     → (empty ≡ true → AreOptions names all) × (AreOptions names all → empty ≡ true)

@@ -22,6 +22,7 @@ first_feed bytes k found = record {
   before = λ j below. not_true _ (found.0.before j (omega arith) below);
 }
 
+-- where no byte is the line feed there is none
 pub no_feed : (bytes : List ℕ) → IsFirstByte (is_byte 10) bytes None → HasNoFeed bytes
 no_feed bytes found = λ k below. not_true _ (found k (omega arith) below)
 
@@ -43,6 +44,7 @@ module _ {State : Type 0} (rules : Entering State) (start : State) (from : ℕ) 
       e ∙ ap (λ (l : List (List ℕ)). done ++ l) (closed-first kept rest k first)
       ∙ sym (append_assoc done ((kept ++ take k rest) ∷ []) (closed_lines [] (drop (k + 1) rest)))
 
+  -- the line up to the next line feed is entered
   pub read_more : (s l : State) (kept rest now_kept now_rest : List ℕ) (k m n : ℕ) (a b c : Option (List ℕ)) (p q : Bool)
       → IsReadTo rules start from begun block kept rest m a b p s → IsFirstFeed rest k → now_kept ≡ [] → now_rest ≡ drop (k + 1) rest → n ≡ m + 1
       → AreAllEntered rules s m ((kept ++ take k rest) ∷ []) b c q l → IsReadTo rules start from begun block now_kept now_rest n a c (p || q) l
@@ -65,20 +67,24 @@ module _ {State : Type 0} (rules : Entering State) (start : State) (from : ℕ) 
   all_done kept rest done e none =
       e ∙ ap (λ (l : List (List ℕ)). done ++ l) (closed-none kept rest none) ∙ append-nil done
 
+  -- where no line feed is left, all lines of the block are entered
   pub read_all : (s : State) (kept rest : List ℕ) (n : ℕ) (a b : Option (List ℕ)) (p : Bool) → IsReadTo rules start from begun block kept rest n a b p s
       → HasNoFeed rest → AreAllEntered rules start from (closed_lines begun block) a b p s
   read_all s kept rest n a b p state none =
       subst (λ (l : List (List ℕ)). AreAllEntered rules start from l a b p s) (sym (all_done kept rest state.done state.lines none)) state.entered
 
+  -- they are counted
   pub count_all : (s : State) (kept rest : List ℕ) (n : ℕ) (a b : Option (List ℕ)) (p : Bool) → IsReadTo rules start from begun block kept rest n a b p s
       → HasNoFeed rest → n ≡ from + length (closed_lines begun block)
   count_all s kept rest n a b p state none =
       state.count ∙ ap (λ (l : List (List ℕ)). from + length l) (sym (all_done kept rest state.done state.lines none))
 
+  -- and what is left is the open line
   pub open_all : (s : State) (kept rest : List ℕ) (n : ℕ) (a b : Option (List ℕ)) (p : Bool) → IsReadTo rules start from begun block kept rest n a b p s
       → HasNoFeed rest → open_line begun block ≡ kept ++ rest
   open_all s kept rest n a b p state none = state.open_is ∙ open-none kept rest none
 
+  -- where the line up to the next line feed stops the run, so does the block
   pub read_stopped : (s : State) (kept rest : List ℕ) (k n : ℕ) (a b c : Option (List ℕ)) (p : Bool) (stop : Stop)
       → IsReadTo rules start from begun block kept rest n a b p s → IsFirstFeed rest k → IsEntryStopped rules s n ((kept ++ take k rest) ∷ []) b c stop
       → IsEntryStopped rules start from (closed_lines begun block) a c stop

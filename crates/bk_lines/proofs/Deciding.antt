@@ -105,6 +105,7 @@ module _ (replies : Replies) (streams : Streams) (input : List ℕ) (tells : str
       let a = all_answered true h.input h.taken h.at_end h.answered in
       refused_line replies (lines_of input) a.replies a.each a.any
 
+  -- where the ending says that none was, no line is refused
   pub refused_none : HasOneReply replies.answers → RunEndsBy replies streams NoneRefused → HasRefused replies (lines_of input) → ⊥
   refused_none one h =
       let a = all_answered false h.input h.taken h.at_end h.answered in

@@ -31,6 +31,7 @@ same_front : (kept whole : List ℕ) → kept ≡ kept_front whole → kept_fron
 same_front kept whole e = ap (λ (l : List ℕ). kept_front l) e ∙ front-front whole
 
 module _ {State : Type 0} (rules : Entering State) (start : State) where
+  -- a block more is taken, and its lines are entered
   pub taken_more : (s t : State) (l m n a b c : Option (List ℕ)) (count more : ℕ) (kept now_kept bytes : List ℕ) (number now_number : ℕ) (p q : Bool)
       → IsTaken rules start l m a b count kept number p s → Consumes m n bytes → length bytes ≡ more → now_kept ≡ kept_front (open_line kept bytes)
       → now_number ≡ number + length (closed_lines kept bytes) → AreAllEntered rules s number (closed_lines kept bytes) b c q t
@@ -71,6 +72,7 @@ module _ {State : Type 0} (rules : Entering State) (start s : State) (l m n a b 
   last_same =
       ap (λ (o : List ℕ). map kept_front (last_line o)) state.front ∙ last-fronts (open_line [] state.input)
 
+  -- a byte more than may be taken is there
   pub ends_more : (more : List ℕ) → Consumes m n more → length more ≡ 1 → count ≡ 2 ^ 30
       → AreEntriesTooMany rules start (record { left = l; left_after = n; written = a; written_after = b }) s
   ends_more more read one full = record {
@@ -83,6 +85,7 @@ module _ {State : Type 0} (rules : Entering State) (start s : State) (l m n a b 
     entered = state.entered;
   }
 
+  -- the input ends, and with its last line all are entered
   pub ends_all : (q : Bool) (t : State) → Consumes m n [] → IsAtEnd n → count ≤ 2 ^ 30 → AreAllEntered rules s number (last_line kept) b c q t
       → IsEntered rules start (record { left = l; left_after = n; written = a; written_after = c }) (p || q) t
   ends_all q t read at_end within here = record {
@@ -114,6 +117,7 @@ module _ {State : Type 0} (rules : Entering State) (start last : State) (streams
 
 module _ {State : Type 0} (rules : Entering State) (start s last : State) (l m n a b c : Option (List ℕ)) (count : ℕ)
     (kept : List ℕ) (number : ℕ) (p : Bool) (state : IsTaken rules start l m a b count kept number p s) (stop : Stop) where
+  -- a line of a block stops the run
   pub ends_block : (ended : Ended) (more : ℕ) (bytes : List ℕ) → ended ≡ ended_of stop → Consumes m n bytes
       → length bytes ≡ more → count + more ≤ 2 ^ 30 → IsEntryStopped rules s number (closed_lines kept bytes) b c stop
       → EntersBy rules start last (record { left = l; left_after = n; written = a; written_after = c }) ended
@@ -131,6 +135,7 @@ module _ {State : Type 0} (rules : Entering State) (start s last : State) (l m n
       (omega (arith, length-append state.input bytes, state.size, size, within)) (inl refl)
       (subst (λ (lines : List (List ℕ)). IsEntryStopped rules start 1 lines a c stop) (sym (closed-append [] state.input bytes)) all)
 
+  -- the last line stops it
   pub ends_last : (ended : Ended) → ended ≡ ended_of stop → Consumes m n [] → IsAtEnd n → count ≤ 2 ^ 30
       → IsEntryStopped rules s number (last_line kept) b c stop
       → EntersBy rules start last (record { left = l; left_after = n; written = a; written_after = c }) ended
@@ -152,6 +157,7 @@ verdict_ends : {State : Type 0} (rules : Entering State) (start last : State) (s
 verdict_ends rules start last streams true h = h
 verdict_ends rules start last streams false h = h
 
+-- the run ends as its lines were refused or not
 pub ends_verdict : {State : Type 0} (rules : Entering State) (start last : State) (streams : Streams) (refused : Bool) (ended : Ended)
     → ended ≡ verdict_of refused → IsEntered rules start streams refused last → EntersBy rules start last streams ended
 ends_verdict rules start last streams refused ended is h =
