@@ -2,3 +2,4 @@ pub mod PrintedBytes
 pub mod EntryLines
 pub mod ListLines
 pub mod Accepted
+pub mod ReadBackExamples

@@ -1,5 +1,6 @@
 -- What `list` writes is read again by `check`: each entry as the tiling that was listed, and accepted. Statements alone; each
 -- is proved apart.
+-- Example (ReadBackExamples): the item of the rectangle 3x2 states the order 3 and the size 3x2.
 use Rattle.std.specs.List.{AllZip, concat}
 use Rattle.std.specs.Prelude.{List, Option, Some, false, ℕ, ◌≡◌, ◌≤◌}
 use Rattle.bk_tiling.specs.Tiling.{Tiling, order}
