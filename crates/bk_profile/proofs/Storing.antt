@@ -41,6 +41,7 @@ reads_from runs once twice places gap first second lowest x end level =
 
 module _ (p : Laid) (runs once twice : List Run) (places : ℕ × ℕ) (gap : Segment) (stored : IsStoredProfile p runs)
     (reads : Reads runs once twice places gap) where
+  -- the runs that are read as the lowest are
   pub lowest_runs : IsLowest runs (length runs) places.0 places.1
   lowest_runs = subst (λ (l : List Run). IsLowest l (length l) places.0 places.1) reads.once_is reads.lowest
 
@@ -53,6 +54,7 @@ module _ (p : Laid) (runs once twice : List Run) (places : ℕ × ℕ) (gap : Se
   level_is : (d : Run) → gap.level ≡ (get_or runs places.0 d).level
   level_is d = reads.level d ∙ ap (λ (l : List Run). (get_or l places.0 d).level) reads.twice_is
 
+  -- so the gap is the one that they leave
   pub gap_read : IsGap p.width p.squares gap
   gap_read = gap_from_runs p.width p.squares runs places.0 places.1 gap stored.outline lowest_runs x_is end_is level_is
 
@@ -65,6 +67,7 @@ module _ (p : Laid) (runs once twice : List Run) (places : ℕ × ℕ) (gap : Se
     (stored.profile).few,
   )
 
+  -- with a group laid in it, what is laid and its runs are stored as before
   pub stored_laid : (sides : List ℕ) → Fits gap sides → AllByRecursion IsSide sides → 0 < length sides → length p.squares + length sides ≤ 200
       → IsStoredProfile (record { width = p.width; squares = with_group p.squares gap sides })
       ((take places.0 runs ++ runs_under gap.level sides) ++ drop places.1 runs)

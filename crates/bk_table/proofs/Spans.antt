@@ -33,6 +33,7 @@ begun_fit v count signs legal some few_of few = omega (
   some,
 )
 
+-- what is begun of a word has digits
 pub begun_are_digits : (v : Word) (count : ℕ) (signs : List Sign) → order_of v + count ≤ 16 → AreDigits (begun_digits v count signs)
 begun_are_digits v count signs few = all_append (λ d. d < 4) (word_digits v) (move_digits begun) (are_digits v (low_counts 16 v (omega (arith, few))))
     (subst AreDigits (append-nil (move_digits begun)) (are_digits (begun ∷ []) (omega (arith, few), tt)))
@@ -120,6 +121,7 @@ pub record IsQuarter (ds : List ℕ) (d left : ℕ) : Type 0 where
   pub low : begun_by 64 ds + d * (left + 1) ≡ begun_by 64 (ds ++ d ∷ [])
   pub left_is : left ≡ 4 ^ (64 - length (ds ++ d ∷ [])) - 1
 
+-- a digit more leaves a quarter of the numbers
 pub quarter : (ds : List ℕ) (d left : ℕ) → length ds < 64 → left ≡ (4 ^ (64 - length ds) - 1) / 4 → IsQuarter ds d left
 quarter ds d left few is = record { low = omega (arith, begun-snoc 64 d ds few, times); left_is = less ∙ ap (λ k. 4 ^ k - 1) (sym one_less) }
   where
@@ -141,6 +143,7 @@ quarter ds d left few is = record { low = omega (arith, begun-snoc 64 d ds few, 
     times : d * (left + 1) ≡ d * 4 ^ (64 - 1 - length ds)
     times = ap (λ z. d * z) (power) ∙ ap (λ k. d * 4 ^ k) (sym (place))
 
+-- so a span narrowed by a digit is that of the digits with it
 pub narrowed_is : (s : Span) (d : ℕ) (ds : List ℕ) → length ds < 64 → s ≡ span_from ds
     → ◌≡◌ {A = Span} (record { low = s.low + d * ((s.last - s.low) / 4 + 1); last = s.low + d * ((s.last - s.low) / 4 + 1) + (s.last - s.low) / 4 })
     (span_from (ds ++ d ∷ []))
