@@ -76,6 +76,7 @@ module _ (a b : Tiling) (kept : IsKept a) (turned : IsKept (image Swap b)) (can 
     turned_order,
   )
 
+  -- each square that is laid has a side that a square may have
   pub sides_kept : AllByRecursion (λ q. IsSide q.s) (laid_squares a b)
   sides_kept =
       all_append (λ q. IsSide q.s) a.squares (corner_squares a ++ map (moved_square a.width a.height) (image Swap b).squares) kept.sides (
@@ -87,9 +88,11 @@ module _ (a b : Tiling) (kept : IsKept a) (turned : IsKept (image Swap b)) (can 
         ),
       )
 
+  -- they tile the square
   pub tiles : Tiles (sized (a.width + a.height) (a.width + a.height)) (laid_squares a b)
   tiles = square_tiles a.width a.height a.squares (image Swap b).squares some_cells.0 some_cells.1 kept.tiling.tiles turned_tiles
 
+  -- so no two of them share a cell
   pub apart : ShareNoCell (laid_squares a b)
   apart = tiles_apart (a.width + a.height) (a.width + a.height) (laid_squares a b) tiles
 
@@ -153,5 +156,6 @@ pub made : (a b : Tiling) (w h : ℕ) (squares : List Square) → w ≡ a.width 
     → ◌≡◌ {A = Tiling} (record { width = w + h; height = w + h; squares = squares }) (joined_square a b)
 made a b w h squares wide high same = λ i. record { width = wide i + high i; height = wide i + high i; squares = same i }
 
+-- each of them has a side, told square by square
 pub have_sides : (a b : Tiling) → IsKept a → IsKept (image Swap b) → CanBeLaid a b → HaveSides (laid_squares a b)
 have_sides a b kept turned can = All-from_recursion (λ (q : Square). IsSide q.s) (laid_squares a b) (sides_kept a b kept turned can)
