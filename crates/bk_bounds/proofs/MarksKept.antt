@@ -64,7 +64,8 @@ module _ (o : Outline) (lines : List Bool) (m : Move) (legal : IsLegalMove o m) 
       → unders (signs_apart o m) + 1 ≤ bound (lines_after o lines m) (after_move o m).signs (after_move o m).segments
   first_after h e = omega (
     arith,
-    apart_first lines (lines_after o lines m) (keeps o lines m legal shape long) (valley_place o.signs) o.segments (signs_apart o m) (map (λ q. q ∷ []) (new_squares o m))
+    apart_first lines (lines_after o lines m) (keeps o lines m legal shape long) (valley_place o.signs) o.segments (signs_apart o m)
+    (map (λ q. q ∷ []) (new_squares o m))
         (drop (valley_place o.signs + 1) o.segments) h e (first_new o lines m legal shape long m.count legal.some),
     joined_bound (lines_after o lines m) (signs_apart o m) (segments_apart o m),
   )
@@ -78,7 +79,8 @@ module _ (o : Outline) (lines : List Bool) (m : Move) (legal : IsLegalMove o m) 
     behind_counts (lines_after o lines m) (take (valley_place o.signs - 1) o.signs ++ m.signs) (drop (valley_place o.signs + 1) o.signs)
         (take (valley_place o.signs) o.segments ++ map (λ q. q ∷ []) (new_squares o m)) (drop (valley_place o.signs + 1) o.segments)
         (same_length o m legal shape h),
-    bound_more lines (lines_after o lines m) (keeps o lines m legal shape long) (drop (valley_place o.signs + 1) o.signs) (drop (valley_place o.signs + 1) o.segments),
+    bound_more lines (lines_after o lines m) (keeps o lines m legal shape long) (drop (valley_place o.signs + 1) o.signs)
+        (drop (valley_place o.signs + 1) o.segments),
     joined_bound (lines_after o lines m) (signs_apart o m) (segments_apart o m),
   )
 

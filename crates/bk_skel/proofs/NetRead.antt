@@ -11,7 +11,7 @@ use Rattle.bk_word_net.proofs.Numbering.{numbered_moves, numbered_start}
 use Rattle.bk_word_net.proofs.NoLoose.{a_word_net_has_no_loose, closed_count}
 use Rattle.bk_skel.proofs.SkelReads.{counted_in}
 use Rattle.bk_skel.proofs.StoredMoves.{turns_many}
-use Rattle.bk_skel.specs.Skeleton.{IsStored}
+use Rattle.bk_skel.specs.Skeleton.{IsStoredSkeleton}
 use Rattle.bk_skel.specs.Wiring.{AreWires, counts_of, wires_from}
 use Rattle.bk_word_net.specs.WordNet.{end_of, net_of_word}
 use Rattle.bk_skel.specs.declared.turns.MoveRecord.{MoveRecord}
@@ -27,7 +27,7 @@ pub record ReadsNet (w : Word) (turns : List MoveRecord) (ends : List ℕ) : Typ
 
 -- of a complete word, the records and the nodes where the squares end are the net of the word
 pub reads_net : {w : Word} {ends sizes : List ℕ} {signs : List Sign} {closed : List ℕ} {turns : List MoveRecord} {played : List Sign}
-    → IsStored w ends sizes signs closed turns played → IsComplete w → (ended : List ℕ) (n : ℕ) → n ≡ order_of w → length ended ≡ 200
+    → IsStoredSkeleton w ends sizes signs closed turns played → IsComplete w → (ended : List ℕ) (n : ℕ) → n ≡ order_of w → length ended ≡ 200
     → ((k : ℕ) → k < 200 → slice_index ended k ≡ end_of (outline_of w).closed (k + 1)) → ReadsNet w turns (take n ended)
 reads_net {w = w} {turns = turns} s complete ended n order long read =
     record { all = all; wires = subst (λ (m : Net). AreWires m.nodes m.wires) (sym net) good; net = net }

@@ -8,7 +8,7 @@ use Rattle.bk_word.specs.declared.Sign.{Sign}
 use Rattle.bk_skel.proofs.SkelFacts.{Counted, Touches, counted, stored_move, touches}
 use Rattle.bk_word.proofs.PlayLaws.{moves_many}
 use Rattle.bk_skel.proofs.StoredMoves.{signs_many, stored_word, turns_many}
-use Rattle.bk_skel.specs.Skeleton.{IsStored, first_touched, moves_stored, open_sides, sizes_after, turn_at}
+use Rattle.bk_skel.specs.Skeleton.{IsStoredSkeleton, first_touched, moves_stored, open_sides, sizes_after, turn_at}
 use Rattle.bk_skel.specs.declared.turns.MoveRecord.{MoveRecord}
 
 -- the move is legal, and what it needs of the lists is there
@@ -31,7 +31,7 @@ pub record Playing (w : Word) (m : Move) (ends sizes : List ℕ) (signs : List S
 
 -- a legal move of so few squares has room in all lists
 pub playing_at : (w : Word) (m : Move) (ends sizes : List ℕ) (signs : List Sign) (closed : List ℕ) (turns : List MoveRecord) (played : List Sign)
-    (turn : MoveRecord) → IsStored w ends sizes signs closed turns played
+    (turn : MoveRecord) → IsStoredSkeleton w ends sizes signs closed turns played
     → IsLegalMove (outline_of w) m → order_of w + m.count ≤ 200 → turn ≡ turn_at sizes signs m (length played)
     → Playing w m ends sizes signs closed turns played turn
 playing_at w m ends sizes signs closed turns played turn s legal few e = record {
@@ -62,7 +62,7 @@ playing_at w m ends sizes signs closed turns played turn s legal few e = record 
 -- the same where the values are read
 pub playing : {w : Word} {ends sizes : List ℕ} {signs : List Sign} {closed : List ℕ} {turns : List MoveRecord} {played : List Sign}
     → {now : Word} {count : ℕ} {moved : List Sign} {m : Move} {turn : MoveRecord} {read_sizes : List ℕ} {read_signs read_moved : List Sign} {from : ℕ}
-    → IsStored w ends sizes signs closed turns played → w ≡ now → record { count = count; signs = moved } ≡ m
+    → IsStoredSkeleton w ends sizes signs closed turns played → w ≡ now → record { count = count; signs = moved } ≡ m
     → IsLegalMove (outline_of now) m → order_of now + m.count ≤ 200
     → turn ≡ turn_at read_sizes read_signs (record { count = count; signs = read_moved }) from
     → read_sizes ≡ sizes → read_signs ≡ signs → read_moved ≡ moved → from ≡ length played
@@ -76,13 +76,13 @@ playing {w} {ends} {sizes} {signs} {closed} {turns} {played} {now} {count} {move
 
 -- what is stored is stored of the moves that it shows
 pub moves_shown : {w : Word} {ends sizes : List ℕ} {signs : List Sign} {closed : List ℕ} {turns : List MoveRecord} {played : List Sign}
-    → IsStored w ends sizes signs closed turns played → moves_stored turns played ≡ w
+    → IsStoredSkeleton w ends sizes signs closed turns played → moves_stored turns played ≡ w
 moves_shown {w = w} s = (λ i. moves_stored (s.turns_are i) (s.played_are i)) ∙ stored_word w
 
 -- what is stored is the word that its records and signs spell
 pub stored_shown : (w : Word) (ends sizes : List ℕ) (signs : List Sign) (closed : List ℕ) (turns : List MoveRecord) (played : List Sign)
-    → IsStored w ends sizes signs closed turns played → IsStored (moves_stored turns played) ends sizes signs closed turns played
-stored_shown w ends sizes signs closed turns played s = subst (λ (v : Word). IsStored v ends sizes signs closed turns played) (sym (moves_shown s)) s
+    → IsStoredSkeleton w ends sizes signs closed turns played → IsStoredSkeleton (moves_stored turns played) ends sizes signs closed turns played
+stored_shown w ends sizes signs closed turns played s = subst (λ (v : Word). IsStoredSkeleton v ends sizes signs closed turns played) (sym (moves_shown s)) s
 
 -- the lists after a move, by those before it
 pub record Played (m : Move) (ends sizes : List ℕ) (signs : List Sign) (closed : List ℕ) (turns : List MoveRecord) (played : List Sign) (turn : MoveRecord)
@@ -98,25 +98,25 @@ pub record Played (m : Move) (ends sizes : List ℕ) (signs : List Sign) (closed
 pub stored_played : {w : Word} {m : Move} {ends sizes : List ℕ} {signs : List Sign} {closed : List ℕ} {turns : List MoveRecord}
     {played : List Sign} {turn : MoveRecord} {new_ends new_sizes : List ℕ} {new_signs : List Sign} {new_closed : List ℕ}
     {new_turns : List MoveRecord} {new_played : List Sign}
-    → IsStored w ends sizes signs closed turns played → Playing w m ends sizes signs closed turns played turn
+    → IsStoredSkeleton w ends sizes signs closed turns played → Playing w m ends sizes signs closed turns played turn
     → Played m ends sizes signs closed turns played turn new_ends new_sizes new_signs new_closed new_turns new_played
-    → IsStored (w ++ m ∷ []) new_ends new_sizes new_signs new_closed new_turns new_played
+    → IsStoredSkeleton (w ++ m ∷ []) new_ends new_sizes new_signs new_closed new_turns new_played
 stored_played {w = w} {m = m} {ends = ends} {sizes = sizes} {signs = signs} {closed = closed} {turns = turns} {played = played}
     {turn = turn} {new_ends = new_ends} {new_sizes = new_sizes} {new_signs = new_signs} {new_closed = new_closed} {new_turns = new_turns}
     {new_played = new_played} s p n =
-    subst (λ (l : List ℕ). IsStored (w ++ m ∷ []) l new_sizes new_signs new_closed new_turns new_played) (sym n.ends_new)
-    (subst (λ (l : List ℕ). IsStored (w ++ m ∷ [])
+    subst (λ (l : List ℕ). IsStoredSkeleton (w ++ m ∷ []) l new_sizes new_signs new_closed new_turns new_played) (sym n.ends_new)
+    (subst (λ (l : List ℕ). IsStoredSkeleton (w ++ m ∷ [])
     (splice ends turn.first (turn.first + turn.closed) (numbers_from (length ends + length closed + 1) m.count)) l new_signs new_closed
     new_turns new_played) (sym n.sizes_new)
-    (subst (λ (l : List Sign). IsStored (w ++ m ∷ [])
+    (subst (λ (l : List Sign). IsStoredSkeleton (w ++ m ∷ [])
     (splice ends turn.first (turn.first + turn.closed) (numbers_from (length ends + length closed + 1) m.count))
     (splice sizes (first_touched turn) (first_touched turn + (open_sides turn + 1)) (sizes_after turn m.signs)) l new_closed new_turns
     new_played) (sym n.signs_new)
-    (subst (λ (l : List ℕ). IsStored (w ++ m ∷ [])
+    (subst (λ (l : List ℕ). IsStoredSkeleton (w ++ m ∷ [])
     (splice ends turn.first (turn.first + turn.closed) (numbers_from (length ends + length closed + 1) m.count))
     (splice sizes (first_touched turn) (first_touched turn + (open_sides turn + 1)) (sizes_after turn m.signs))
     (splice signs (first_touched turn) (first_touched turn + open_sides turn) (filter parts m.signs)) l new_turns new_played) (sym n.closed_new)
-    (subst (λ (l : List MoveRecord × List Sign). IsStored (w ++ m ∷ [])
+    (subst (λ (l : List MoveRecord × List Sign). IsStoredSkeleton (w ++ m ∷ [])
     (splice ends turn.first (turn.first + turn.closed) (numbers_from (length ends + length closed + 1) m.count))
     (splice sizes (first_touched turn) (first_touched turn + (open_sides turn + 1)) (sizes_after turn m.signs))
     (splice signs (first_touched turn) (first_touched turn + open_sides turn) (filter parts m.signs))

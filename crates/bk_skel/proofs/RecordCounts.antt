@@ -13,7 +13,7 @@ use Rattle.bk_word_net.proofs.Numbering.{numbered_moves, numbered_start}
 use Rattle.bk_word_net.proofs.NoLoose.{hung_number}
 use Rattle.bk_skel.proofs.SkelReads.{counted_in, size_index}
 use Rattle.bk_skel.proofs.TurnParts.{sum_lengths}
-use Rattle.bk_skel.specs.Skeleton.{IsStored, turns_from}
+use Rattle.bk_skel.specs.Skeleton.{IsStoredSkeleton, turns_from}
 use Rattle.bk_skel.specs.Valley.{segment_sizes}
 use Rattle.bk_skel.specs.Wiring.{AreNumbers, closed_of, counts_of}
 use Rattle.bk_skel.specs.declared.turns.MoveRecord.{MoveRecord}
@@ -47,7 +47,7 @@ times_here (x ∷ xs) (suc i) h = omega (arith, times_here xs i (omega arith))
 
 -- the numbers of the closed squares are those of squares
 pub closed_numbers : {w : Word} {ends sizes : List ℕ} {signs : List Sign} {closed : List ℕ} {turns : List MoveRecord} {played : List Sign}
-    → IsStored w ends sizes signs closed turns played → AreNumbers 200 closed
+    → IsStoredSkeleton w ends sizes signs closed turns played → AreNumbers 200 closed
 closed_numbers {w = w} {closed = closed} s =
     record { positive = λ i h. (number i h).0; small = λ i h. omega (arith, (number i h).1, (counted_in s).hung, (s.kept).few) }
   where
@@ -62,10 +62,10 @@ closed_numbers {w = w} {closed = closed} s =
 
 -- the records say how many squares each node closes
 pub closed_sizes : {w : Word} {ends sizes : List ℕ} {signs : List Sign} {closed : List ℕ} {turns : List MoveRecord} {played : List Sign}
-    → IsStored w ends sizes signs closed turns played → closed_of turns ≡ map length (outline_of w).closed
+    → IsStoredSkeleton w ends sizes signs closed turns played → closed_of turns ≡ map length (outline_of w).closed
 closed_sizes {w = w} s = ap closed_of s.turns_are ∙ sym (closed_turns start 0 w)
 
 -- as many squares are closed as the records say
 pub closed_many : {w : Word} {ends sizes : List ℕ} {signs : List Sign} {closed : List ℕ} {turns : List MoveRecord} {played : List Sign}
-    → IsStored w ends sizes signs closed turns played → length closed ≡ sum (closed_of turns)
+    → IsStoredSkeleton w ends sizes signs closed turns played → length closed ≡ sum (closed_of turns)
 closed_many {w = w} s = ap length (s.shows).closed_are ∙ sym (sum_lengths (outline_of w).closed) ∙ ap sum (sym (closed_sizes s))

@@ -18,7 +18,7 @@ use Rattle.bk_word.proofs.PlayLaws.{after-snoc, few_signs, legal-snoc}
 use Rattle.bk_skel.proofs.StoredMoves.{signs-snoc, turns-snoc}
 use Rattle.bk_skel.proofs.TurnParts.{closed_is, first_is, left_is, right_is, sides_are, start_is, sum_lengths}
 use Rattle.bk_word_net.proofs.ValleyCut.{AtValley}
-use Rattle.bk_skel.specs.Skeleton.{IsStored, Shows, first_touched, open_sides, signs_of, sizes_after, turn_at}
+use Rattle.bk_skel.specs.Skeleton.{IsStoredSkeleton, Shows, first_touched, open_sides, signs_of, sizes_after, turn_at}
 use Rattle.bk_skel.specs.Valley.{IsKeptSkeleton, segment_sizes}
 use Rattle.bk_skel.specs.declared.turns.MoveRecord.{MoveRecord}
 
@@ -135,9 +135,9 @@ touches w m ends sizes signs closed from kept s legal room = record {
 -- what is stored after a legal move
 pub stored_move : (w : Word) (m : Move) (ends sizes : List ℕ) (signs : List Sign) (closed : List ℕ) (turns : List MoveRecord)
     (played : List Sign) (turn : MoveRecord)
-    → IsStored w ends sizes signs closed turns played → IsLegalMove (outline_of w) m → order_of w + m.count ≤ 200
+    → IsStoredSkeleton w ends sizes signs closed turns played → IsLegalMove (outline_of w) m → order_of w + m.count ≤ 200
     → turn ≡ turn_at sizes signs m (length played)
-    → IsStored (w ++ m ∷ [])
+    → IsStoredSkeleton (w ++ m ∷ [])
     (splice ends turn.first (turn.first + turn.closed) (numbers_from (length ends + length closed + 1) m.count))
     (splice sizes (first_touched turn) (first_touched turn + (open_sides turn + 1)) (sizes_after turn m.signs))
     (splice signs (first_touched turn) (first_touched turn + open_sides turn) (filter parts m.signs))

@@ -11,12 +11,12 @@ use Rattle.bk_word.specs.declared.Sign.{Sign}
 use Rattle.bk_skel.proofs.EndNodes.{CutAt, cut_at, here_is, sum_next}
 use Rattle.bk_skel.proofs.SkelFacts.{Counted, counted}
 use Rattle.bk_word.proofs.PlayLaws.{few_signs}
-use Rattle.bk_skel.specs.Skeleton.{IsStored, Shows, move_of, moves_stored, signs_of, turns_from}
+use Rattle.bk_skel.specs.Skeleton.{IsStoredSkeleton, Shows, move_of, moves_stored, signs_of, turns_from}
 use Rattle.bk_skel.specs.declared.turns.MoveRecord.{MoveRecord}
 
 -- what is stored has as many items as its word has squares and segments
 pub counted_in : {w : Word} {ends sizes : List ℕ} {signs : List Sign} {closed : List ℕ} {turns : List MoveRecord} {played : List Sign}
-    → IsStored w ends sizes signs closed turns played → Counted w ends sizes signs closed
+    → IsStoredSkeleton w ends sizes signs closed turns played → Counted w ends sizes signs closed
 counted_in {w = w} {ends = ends} {sizes = sizes} {signs = signs} {closed = closed} s = counted w ends sizes signs closed s.kept s.shows
 
 -- how many items the list at a place has; none past the last list
@@ -72,7 +72,7 @@ turn_spans o from (m ∷ w) legal few (suc i) d h = let r =
 
 -- and so among those stored
 pub span_in : {w : Word} {ends sizes : List ℕ} {signs : List Sign} {closed : List ℕ} {turns : List MoveRecord} {played : List Sign}
-    → IsStored w ends sizes signs closed turns played → (i : ℕ) (d : MoveRecord) → i < length w → Spans (get_or turns i d) (length played)
+    → IsStoredSkeleton w ends sizes signs closed turns played → (i : ℕ) (d : MoveRecord) → i < length w → Spans (get_or turns i d) (length played)
 span_in {w = w} {turns = turns} {played = played} s i d h = subst (λ (l : List MoveRecord). Spans (get_or l i d) (length played)) (sym s.turns_are)
     (subst (λ (n : ℕ). Spans (get_or (turns_from start 0 w) i d) n) (omega (arith, ap length s.played_are))
     (turn_spans start 0 w (s.kept).legal (s.kept).few i d h))

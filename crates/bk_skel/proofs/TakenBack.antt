@@ -12,7 +12,7 @@ use Rattle.bk_word_net.proofs.Shape.{Shaped, shaped_moves, shaped_start}
 use Rattle.bk_skel.proofs.SkelFacts.{snoc_one}
 use Rattle.bk_skel.proofs.StoredMoves.{Ends, last_move, signs-snoc, turns-snoc}
 use Rattle.bk_word.proofs.PlayLaws.{after-snoc, legal-last, legal_front}
-use Rattle.bk_skel.specs.Skeleton.{IsStored, Shows, first_touched, moves_stored, open_sides, signs_before, signs_of, sizes_before, turn_at, turns_from}
+use Rattle.bk_skel.specs.Skeleton.{IsStoredSkeleton, Shows, first_touched, moves_stored, open_sides, signs_before, signs_of, sizes_before, turn_at, turns_from}
 use Rattle.bk_skel.specs.Valley.{IsKeptSkeleton, segment_sizes}
 use Rattle.bk_skel.specs.declared.turns.MoveRecord.{MoveRecord}
 use Rattle.bk_skel.proofs.BackFits.{closed_in, ends_in, sizes_in, sizes_few, signs_in, signs_few, ends_few}
@@ -23,7 +23,7 @@ pub record TakesBack (w : Word) (ends sizes : List ℕ) (signs : List Sign) (clo
   pub front : Word
   pub last : Move
   pub whole : w ≡ front ++ last ∷ []
-  pub stored : IsStored front
+  pub stored : IsStoredSkeleton front
       (splice ends turn.first (turn.first + turn.count) (drop (length closed - turn.closed) closed))
       (splice sizes (first_touched turn) (first_touched turn + (turn.parted + 1)) (sizes_before turn))
       (splice signs (first_touched turn) (first_touched turn + turn.parted) (signs_before turn))
@@ -40,7 +40,7 @@ pub record TakesBack (w : Word) (ends sizes : List ℕ) (signs : List Sign) (clo
 
 -- the last move taken back
 pub takes_back : (w : Word) (ends sizes : List ℕ) (signs : List Sign) (closed : List ℕ) (turns rest : List MoveRecord) (turn : MoveRecord) (played : List Sign)
-    → IsStored w ends sizes signs closed turns played → turns ≡ rest ++ turn ∷ [] → 0 < length w → TakesBack w ends sizes signs closed rest turn played
+    → IsStoredSkeleton w ends sizes signs closed turns played → turns ≡ rest ++ turn ∷ [] → 0 < length w → TakesBack w ends sizes signs closed rest turn played
 takes_back w ends sizes signs closed turns rest turn played s cut some = back (last_move w some)
   where
     back : Ends w → TakesBack w ends sizes signs closed rest turn played
@@ -109,7 +109,7 @@ takes_back w ends sizes signs closed turns rest turn played s cut some = back (l
 -- the same of what the code has stored, where it has a move
 pub taken_back : {self : Word} {ends sizes : List ℕ} {signs : List Sign} {closed : List ℕ} {turns rest : List MoveRecord}
     {turn : MoveRecord} {played : List Sign}
-    → IsStored (moves_stored turns played) ends sizes signs closed turns played → turns ≡ rest ++ turn ∷ [] → 0 < length self
+    → IsStoredSkeleton (moves_stored turns played) ends sizes signs closed turns played → turns ≡ rest ++ turn ∷ [] → 0 < length self
     → moves_stored turns played ≡ self → TakesBack (moves_stored turns played) ends sizes signs closed rest turn played
 taken_back {self} {ends} {sizes} {signs} {closed} {turns} {rest} {turn} {played} s cut some same =
     takes_back (moves_stored turns played) ends sizes signs closed turns rest turn played s cut (omega (arith, some, ap (length {A = Move}) same))
@@ -127,16 +127,16 @@ pub record Back (ends sizes : List ℕ) (signs : List Sign) (closed : List ℕ) 
 pub stored_back : {w : Word} {ends sizes : List ℕ} {signs : List Sign} {closed : List ℕ} {rest : List MoveRecord} {turn : MoveRecord}
     {played : List Sign} {new_ends new_sizes : List ℕ} {new_signs : List Sign} {new_closed : List ℕ} {new_played : List Sign}
     → (b : TakesBack w ends sizes signs closed rest turn played) → Back ends sizes signs closed played turn new_ends new_sizes new_signs new_closed new_played
-    → IsStored b.front new_ends new_sizes new_signs new_closed rest new_played
+    → IsStoredSkeleton b.front new_ends new_sizes new_signs new_closed rest new_played
 stored_back {ends = ends} {sizes = sizes} {signs = signs} {closed = closed} {rest = rest} {turn = turn} {played = played}
     {new_ends = new_ends} {new_sizes = new_sizes} {new_signs = new_signs} {new_closed = new_closed} {new_played = new_played} b n =
-    subst (λ (l : List ℕ). IsStored b.front l new_sizes new_signs new_closed rest new_played) (sym n.ends_new)
-    (subst (λ (l : List ℕ). IsStored b.front (splice ends turn.first (turn.first + turn.count) (drop (length closed - turn.closed) closed))
+    subst (λ (l : List ℕ). IsStoredSkeleton b.front l new_sizes new_signs new_closed rest new_played) (sym n.ends_new)
+    (subst (λ (l : List ℕ). IsStoredSkeleton b.front (splice ends turn.first (turn.first + turn.count) (drop (length closed - turn.closed) closed))
     l new_signs new_closed rest new_played) (sym n.sizes_new)
-    (subst (λ (l : List Sign). IsStored b.front
+    (subst (λ (l : List Sign). IsStoredSkeleton b.front
     (splice ends turn.first (turn.first + turn.count) (drop (length closed - turn.closed) closed))
     (splice sizes (first_touched turn) (first_touched turn + (turn.parted + 1)) (sizes_before turn)) l new_closed rest new_played) (sym n.signs_new)
-    (subst (λ (l : List ℕ × List Sign). IsStored b.front
+    (subst (λ (l : List ℕ × List Sign). IsStoredSkeleton b.front
     (splice ends turn.first (turn.first + turn.count) (drop (length closed - turn.closed) closed))
     (splice sizes (first_touched turn) (first_touched turn + (turn.parted + 1)) (sizes_before turn))
     (splice signs (first_touched turn) (first_touched turn + turn.parted) (signs_before turn)) l.0 rest l.1)

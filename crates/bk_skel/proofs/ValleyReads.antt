@@ -6,13 +6,13 @@ use Rattle.bk_word.specs.Play.{outline_of}
 use Rattle.bk_word.specs.Word.{Word}
 use Rattle.bk_word.specs.declared.Sign.{Sign}
 use Rattle.bk_skel.proofs.SkelReads.{counted_in, reads_segment, segment_read, sum_of_front}
-use Rattle.bk_skel.specs.Skeleton.{IsStored}
+use Rattle.bk_skel.specs.Skeleton.{IsStoredSkeleton}
 use Rattle.bk_skel.specs.Valley.{leftmost_valley}
 use Rattle.bk_skel.specs.declared.turns.MoveRecord.{MoveRecord}
 
 -- what is looked for a valley: a size more than signs, and few squares in all
 pub valley_sizes : {w : Word} {ends sizes : List ℕ} {signs : List Sign} {closed : List ℕ} {turns : List MoveRecord} {played : List Sign}
-    → IsStored w ends sizes signs closed turns played
+    → IsStoredSkeleton w ends sizes signs closed turns played
     → (looked : List ℕ) (between : List Sign) → looked ≡ sizes → between ≡ signs
     → (length looked ≡ length between + 1) × (sum looked ≤ 200)
 valley_sizes s looked between e f =
@@ -20,7 +20,7 @@ valley_sizes s looked between e f =
 
 -- the valley is one of the segments
 pub valley_within : {w : Word} {ends sizes : List ℕ} {signs : List Sign} {closed : List ℕ} {turns : List MoveRecord} {played : List Sign}
-    → IsStored w ends sizes signs closed turns played
+    → IsStoredSkeleton w ends sizes signs closed turns played
     → (looked : List ℕ) (between : List Sign) (place : ℕ) → looked ≡ sizes → between ≡ signs → place ≤ length between
     → place < length looked
 valley_within s looked between place e f low = omega (arith, low, ap length e, ap length f, (counted_in s).many)
@@ -32,7 +32,7 @@ pub record AreOfValley (w : Word) (squares : List ℕ) (first end : ℕ) : Type 
 
 -- so are those from where the valley is found to begin, as many as its size says
 pub valley_cut : {w : Word} {ends sizes : List ℕ} {signs : List Sign} {closed : List ℕ} {turns : List MoveRecord} {played : List Sign}
-    → IsStored w ends sizes signs closed turns played
+    → IsStoredSkeleton w ends sizes signs closed turns played
     → (looked again squares : List ℕ) (between : List Sign) (place first size : ℕ) → looked ≡ sizes → again ≡ sizes → squares ≡ ends
     → between ≡ signs → place ≡ valley_place between → place ≤ length between → first ≡ sum (take (valley_place between) looked)
     → size ≡ slice_index again place → AreOfValley w squares first (first + size)
@@ -57,7 +57,7 @@ valley_cut {w = w} {ends = ends} {sizes = sizes} {signs = signs} {closed = close
 
 -- the leftmost valley, as it is read
 pub valley_read : {w : Word} {ends sizes : List ℕ} {signs : List Sign} {closed : List ℕ} {turns : List MoveRecord} {played : List Sign}
-    → IsStored w ends sizes signs closed turns played
+    → IsStoredSkeleton w ends sizes signs closed turns played
     → (place many : ℕ) (squares : List ℕ) → place ≡ valley_place signs → many ≡ length signs → squares ≡ valley_of (outline_of w)
     → (record { place = place; left_wall = nat_eq place 0; right_wall = nat_eq place many; squares = squares }) ≡ leftmost_valley (outline_of w)
 valley_read {w = w} s place many squares at all own =

@@ -82,7 +82,8 @@ pub record Shows (o : Outline) (ends sizes : List ℕ) (signs : List Sign) (clos
   pub closed_are : closed ≡ concat o.closed
 
 -- all that is stored of moves
-pub record IsStored (moves : Word) (ends sizes : List ℕ) (signs : List Sign) (closed : List ℕ) (turns : List MoveRecord) (played : List Sign) : Type 0 where
+pub record IsStoredSkeleton (moves : Word) (ends sizes : List ℕ) (signs : List Sign) (closed : List ℕ) (turns : List MoveRecord)
+    (played : List Sign) : Type 0 where
   pub kept : IsKeptSkeleton moves
   pub shows : Shows (outline_of moves) ends sizes signs closed
   pub turns_are : turns ≡ turns_from start 0 moves

@@ -60,13 +60,13 @@ pub struct Skel {
 
 impl Model for Skel {
     ghost use Rattle.bk_word.specs.Word.{Word as Moves};
-    ghost use Rattle.bk_skel.specs.Skeleton.{IsStored, moves_stored};
+    ghost use Rattle.bk_skel.specs.Skeleton.{IsStoredSkeleton, moves_stored};
 
     ghost Value = { Moves };
 
     ghost view = { λ s. moves_stored s.turns.items s.played.items };
 
-    ghost invariant = { λ s. IsStored (moves_stored s.turns.items s.played.items) s.ends.items s.sizes.items s.signs.items
+    ghost invariant = { λ s. IsStoredSkeleton (moves_stored s.turns.items s.played.items) s.ends.items s.sizes.items s.signs.items
         s.closed.items s.turns.items s.played.items };
 }
 

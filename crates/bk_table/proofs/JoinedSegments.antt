@@ -184,7 +184,8 @@ new_square w m one = ap (λ (l : List (ℕ × ℕ)). sides_at l (length (outline
     (right_end (sides_of w) (valley_of (outline_of w)))) 0 (0, 1)) one
 
 -- two lines that touch one closed node, at the sides of two squares that stand at one segment after the move
-share_after : (w : Word) (m : Move) (place : ℕ) (numbers : List ℕ) (i j a b left right : ℕ) → slice_get (after_move (outline_of w) m).segments place ≡ Some numbers
+share_after : (w : Word) (m : Move) (place : ℕ) (numbers : List ℕ) (i j a b left right : ℕ)
+    → slice_get (after_move (outline_of w) m).segments place ≡ Some numbers
     → slice_get numbers i ≡ Some a → slice_get numbers j ≡ Some b → i < j
     → left ≡ (sides_at (sides_of (w ++ m ∷ [])) a).0 → right ≡ (sides_at (sides_of (w ++ m ∷ [])) b).1
     → TouchOneNode w left right → ShareANode (w ++ m ∷ [])

@@ -13,6 +13,7 @@ returns-then-touch_one c _ = record {
     | then-touch_one-via-then-touch_one b ↦
         inl (subst (λ (line : ℕ). TouchOneNode c.args.board.now c.args.left line) c.right_of-right.ensures (c.touch_one.ensures b.if-touch_one.true))
     | then-touch_one-via-else-touch_one+then-share_before b ↦
-        inr (subst (λ (line : ℕ). ShareBefore c.args.board.now c.args.earlier.now line) c.right_of-right.ensures (b.share_before.ensures b.if-share_before.true))
+        inr (subst (λ (line : ℕ). ShareBefore c.args.board.now c.args.earlier.now line) c.right_of-right.ensures
+        (b.share_before.ensures b.if-share_before.true))
   ];
 }
