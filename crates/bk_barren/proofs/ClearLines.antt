@@ -5,7 +5,7 @@ use Rattle.std.proofs.Common.{slice_index_or, subst, suc, sym, take, true, zero,
 use Rattle.std.proofs.lemmas.Bool.Decides.{nat_tests}
 use Rattle.std.proofs.lemmas.List.{length-append, length-replicate}
 use Rattle.bk_laws.proofs.ZippedLists.{zip_length}
-use Rattle.bk_laws.proofs.ListPlaces.{get_back}
+use Rattle.bk_laws.proofs.ListPlaces.{get_after, get_back}
 use Rattle.bk_tiling.proofs.Cells.{from_append}
 use Rattle.bk_tiling.proofs.Rows.{Chain, chain_within}
 use Rattle.bk_tiling.proofs.TilingLaws.{side_of, wide_enough}
@@ -27,8 +27,7 @@ use Rattle.bk_lay.specs.Depiction.{Hangs, IsSegment}
 use Rattle.bk_lay.specs.TilingWord.{IsLeftmostValley, IsWordOf, MovesFollow, move_under, squares_under}
 use Rattle.bk_word_net.proofs.AlongWord.{Along, HasBegun, NotBegun, along_move, along_start}
 use Rattle.bk_bounds.specs.VerticalCut.{begins_on_line, lines_after, lines_along, on_line}
-use Rattle.bk_barren.proofs.ClearSegments.{Each, IsClear, chain_apart, chain_first, chain_later, each_append, each_at, each_joined, each_number}
-use Rattle.bk_barren.proofs.ClearSegments.{found_behind, keep_others}
+use Rattle.bk_barren.proofs.ClearSegments.{Each, IsClear, chain_apart, chain_first, chain_later, each_append, each_at, each_joined, each_number, keep_others}
 
 module _ (t : Tiling) (laid : List Square) (nodes : List Segment) (o : Outline) (lines : List Bool) (v : Segment) (tiling : IsTiling t)
     (a : Along t laid nodes o) (long : length lines ≡ length laid)
@@ -129,10 +128,9 @@ module _ (t : Tiling) (laid : List Square) (nodes : List Segment) (o : Outline) 
   news = each_number (IsClear (laid ++ squares_under t v) (lines_after o lines (move_under t laid v))) (length o.hung + 1) (length (squares_under t v)) each
     where
       each : (i : ℕ) → i < length (squares_under t v) → IsClear (laid ++ squares_under t v) (lines_after o lines (move_under t laid v)) (length o.hung + 1 + i)
-      each i h on s numbered = new_clear i h s (found_behind laid (squares_under t v) i s
-          ((λ j. slice_get (laid ++ squares_under t v) (place j)) ∙ numbered.2)) (sym there ∙ on)
+      each i h on s numbered = new_clear i h s (sym (get_after laid (squares_under t v) i numbered.0 place) ∙ numbered.2) (sym there ∙ on)
         where
-          place : length laid + i ≡ numbered.0
+          place : numbered.0 ≡ length laid + i
           place = omega (arith, numbered.1, hung_long)
 
           there : on_line (lines_after o lines (move_under t laid v)) (length o.hung + 1 + i)

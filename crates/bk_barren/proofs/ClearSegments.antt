@@ -96,17 +96,6 @@ chain_later (q ∷ squares) x end side c i s e = omega (arith, side q (inl refl)
 
 -- ---- squares that keep their numbers
 
--- of two lists laid end to end, what stands behind the first
-pub found_behind : {A : Type 0} (xs ys : List A) (i : ℕ) (y : A) → slice_get (xs ++ ys) (length xs + i) ≡ Some y → slice_get ys i ≡ Some y
-found_behind [] ys i y e = (λ j. slice_get ys (none j)) ∙ e
-  where
-    none : i ≡ 0 + i
-    none = omega arith
-found_behind (x ∷ xs) ys i y e = found_behind xs ys i y ((λ j. slice_get (x ∷ (xs ++ ys)) (next j)) ∙ e)
-  where
-    next : suc (length xs + i) ≡ suc (length xs) + i
-    next = omega arith
-
 one_found : {A : Type 0} (x y : A) → Some x ≡ Some y → x ≡ y
 one_found x y e = cc
 

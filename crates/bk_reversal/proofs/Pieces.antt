@@ -87,17 +87,6 @@ end_new [] q (suc k) h = absurd (omega arith)
 end_new (x ∷ xs) q zero h = absurd (omega arith)
 end_new (x ∷ xs) q (suc k) h = end_new xs q k (omega (arith, h))
 
--- each of its items is one of these
-pub end_cases : (xs : List ℕ) (q k x : ℕ) → slice_get (xs ++ (q ∷ [])) k ≡ Some x → (slice_get xs k ≡ Some x) ⊎ ((k ≡ length xs) × (x ≡ q))
-end_cases [] q zero x e = inr (refl, sym (got_same q x e))
-end_cases [] q (suc k) x e = absurd (cc)
-end_cases (y ∷ xs) q zero x e = inl e
-end_cases (y ∷ xs) q (suc k) x e = on (end_cases xs q k x e)
-  where
-    on : (slice_get xs k ≡ Some x) ⊎ ((k ≡ length xs) × (x ≡ q)) → (slice_get xs k ≡ Some x) ⊎ ((suc k ≡ suc (length xs)) × (x ≡ q))
-    on (inl f) = inl f
-    on (inr (f, g)) = inr (ap suc f, g)
-
 -- ---- counts
 
 -- how often a number stands in a list without its first

@@ -4,7 +4,7 @@ use Rattle.bk_layout.proofs.Counting.{got_same}
 use Rattle.bk_layout.specs.Layout.{AreNeighbours, Fits, HasNoTwins, Layout}
 use Rattle.bk_laws.proofs.Tests.{same_or_other}
 use Rattle.bk_laws.proofs.ListPlaces.{got_low}
-use Rattle.bk_reversal.proofs.Pieces.{end_cases, test_fails, test_holds}
+use Rattle.bk_reversal.proofs.Pieces.{test_fails, test_holds}
 use Rattle.bk_reversal.specs.Reversal.{CanReverse, IsUpToReversals, reversed}
 use Rattle.bk_reversal.specs.ReversalLaws.{AReversedLayoutFits}
 use Rattle.bk_reversal.proofs.ReversedSquare.{around}
@@ -14,6 +14,7 @@ use Rattle.bk_reversal.proofs.ReversedNodes.{nodes_then}
 use Rattle.bk_reversal.proofs.ReversedLines.{lines_then, top_is}
 use Rattle.bk_reversal.proofs.ReversedGoOn.{go_on_then}
 use Rattle.bk_reversal.proofs.AroundSquare.{Around}
+use Rattle.bk_word_net.proofs.AlongWord.{get_snoc}
 
 module _ (l : Layout) (fits : Fits l) (q p r : ℕ) (can : CanReverse l q p r) where
   abbrev m : Layout
@@ -120,12 +121,13 @@ module _ (l : Layout) (fits : Fits l) (q p r : ℕ) (can : CanReverse l q p r) w
           first = sym (by_place.get_hv j (omega (arith, got_low (m.hanging v) (suc j) y next, by_place.length_hv)))
               ∙ ap (λ (z : ℕ). slice_get (m.hanging z) j) (sym i) ∙ e
 
-          ends : (slice_get (l.hanging v) (suc j) ≡ Some y) ⊎ ((suc j ≡ length (l.hanging v)) × (y ≡ q)) → slice_get (l.hanging v) (suc j) ≡ Some y
-          ends (inl c) = c
-          ends (inr (c, d)) = absurd (b d)
+          ends : ((suc j < length (l.hanging v)) × (slice_get (l.hanging v) (suc j) ≡ Some y)) ⊎ ((suc j ≡ length (l.hanging v)) × (q ≡ y))
+              → slice_get (l.hanging v) (suc j) ≡ Some y
+          ends (inl (low, c)) = c
+          ends (inr (c, d)) = absurd (b (sym d))
 
           second : slice_get (l.hanging v) (suc j) ≡ Some y
-          second = ends (end_cases (l.hanging v) q (suc j) y (ap (λ (xs : List ℕ). slice_get xs (suc j)) (sym about.hanging_v) ∙ next))
+          second = ends (get_snoc (l.hanging v) q (suc j) y (ap (λ (xs : List ℕ). slice_get xs (suc j)) (sym about.hanging_v) ∙ next))
       hung a b (inr (inr (c, d))) = (
         j,
         ap (λ (xs : List ℕ). slice_get xs j) (sym (about.hanging_w w c d))

@@ -1,14 +1,14 @@
 -- The lines of a layout with a square reversed, beside each other and at the ends of each node.
-use Rattle.std.proofs.Common.{List, Some, ap, arith, inl, inr, length, slice_get, subst, suc, sym, ℕ, ◌∙◌, ◌≡◌, ◌⊎◌}
+use Rattle.std.proofs.Common.{List, Some, ap, arith, inl, inr, length, slice_get, subst, suc, sym, ℕ, ◌<◌, ◌∙◌, ◌≡◌, ◌⊎◌}
 use Rattle.bk_layout.proofs.Counting.{got_same}
 use Rattle.bk_layout.specs.Layout.{AreLines, Fits, IsFirst, IsLast, Layout}
 use Rattle.bk_laws.proofs.ListPlaces.{got_low}
-use Rattle.bk_reversal.proofs.Pieces.{end_cases}
 use Rattle.bk_reversal.specs.Reversal.{CanReverse, reversed}
 use Rattle.bk_reversal.proofs.ReversedSquare.{around}
 use Rattle.bk_reversal.proofs.ReversedPlaces.{Places, places}
 use Rattle.bk_reversal.proofs.ReversedEnds.{last_eu, last_ev, last_hu, last_hv}
 use Rattle.bk_reversal.proofs.AroundSquare.{Around}
+use Rattle.bk_word_net.proofs.AlongWord.{get_snoc}
 
 module _ (l : Layout) (fits : Fits l) (q p r : ℕ) (can : CanReverse l q p r) where
   abbrev m : Layout
@@ -37,14 +37,15 @@ module _ (l : Layout) (fits : Fits l) (q p r : ℕ) (can : CanReverse l q p r) w
 
       at_v : slice_get (m.hanging v) k ≡ Some x → slice_get (m.hanging v) (suc k) ≡ Some y → m.right x ≡ m.left y
       at_v g h = about.right_x x (by_place.not_h v k x about.v_not_u old)
-          ∙ ends (end_cases (l.hanging v) q (suc k) y (ap (λ (xs : List ℕ). slice_get xs (suc k)) (sym about.hanging_v) ∙ h))
+          ∙ ends (get_snoc (l.hanging v) q (suc k) y (ap (λ (xs : List ℕ). slice_get xs (suc k)) (sym about.hanging_v) ∙ h))
         where
           old : slice_get (l.hanging v) k ≡ Some x
           old = sym (by_place.get_hv k (omega (arith, by_place.length_hv, got_low (m.hanging v) (suc k) y h))) ∙ g
 
-          ends : (slice_get (l.hanging v) (suc k) ≡ Some y) ⊎ ((suc k ≡ length (l.hanging v)) × (y ≡ q)) → l.right x ≡ m.left y
-          ends (inl i) = fits.lines.between v x y (k, old, i) ∙ sym (about.left_x y (by_place.not_h v (suc k) y about.v_not_u i))
-          ends (inr (i, j)) = fits.lines.same_right v q x about.q_last (k, i, old) ∙ sym about.left_q ∙ ap m.left (sym j)
+          ends : ((suc k < length (l.hanging v)) × (slice_get (l.hanging v) (suc k) ≡ Some y)) ⊎ ((suc k ≡ length (l.hanging v)) × (q ≡ y))
+              → l.right x ≡ m.left y
+          ends (inl (low, i)) = fits.lines.between v x y (k, old, i) ∙ sym (about.left_x y (by_place.not_h v (suc k) y about.v_not_u i))
+          ends (inr (i, j)) = fits.lines.same_right v q x about.q_last (k, i, old) ∙ sym about.left_q ∙ ap m.left j
 
       at_w : (w ≡ u → ⊥) → slice_get (l.hanging w) k ≡ Some x → slice_get (l.hanging w) (suc k) ≡ Some y → m.right x ≡ m.left y
       at_w a g h = about.right_x x (by_place.not_h w k x a g) ∙ fits.lines.between w x y (k, g, h) ∙ sym (about.left_x y (by_place.not_h w (suc k) y a h))
