@@ -57,9 +57,6 @@ module _ (w : Word) (complete : IsComplete w) (few : order_of w ≤ 16) (net : N
     pub shown_ends : EndWithin 17 wires
     shown_ends = subst (EndWithin 17) (sym all_wires) (ends_within w complete few)
 
-    pub shown_few : length wires ≤ 16
-    shown_few = omega (arith, ap length wires_is, net_few)
-
   module _ (lefts : List ℕ) (lefts_is : lefts ≡ lefts_of w) where
     pub lefts_known : AreKnownLines lefts
     lefts_known = subst AreKnownLines (sym lefts_is) (lines_known w complete few)

@@ -144,9 +144,6 @@ module _ (l : Layout) (fits : Fits l) (q p r : ℕ) (can : CanReverse l q p r) w
                   }
           go b (inr some) = with (state_then m (fits_then l fits q p r can) o both s.c b.at_both b.low_both b.hung_both)
             where
-              mine : Move
-              mine = move m (fits_then l fits q p r can) o both s.c b.at_both b.low_both b.hung_both
-
               with : (then : State m (after_move o (move m (fits_then l fits q p r can) o both s.c b.at_both b.low_both b.hung_both)))
                   × (length then.done ≡ suc (length both.done)) × (then.laid ≡ both.laid ++ (b.hung_both.first ∷ b.hung_both.more)) → Beside o both (mv ∷ w)
               with (then, _, grows) = rest (traced m (fits_then l fits q p r can) m.bottom

@@ -15,7 +15,6 @@ pub mod NextMoves
 pub mod OpenSegments
 pub mod Spans
 pub mod SpanExamples
-pub mod FirstNode
 pub mod FirstNumbers
 pub mod RightLines
 pub mod SecondNumbers

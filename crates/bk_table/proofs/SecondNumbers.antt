@@ -1,6 +1,6 @@
 -- What a word's number tells of its second move, where all signs of the first one are under.
 use Rattle.std.specs.List.{AllByRecursion}
-use Rattle.std.proofs.Common.{List, [], ap, arith, inl, inr, length, map, refl, replicate, subst, suc, sym, zero, ℕ, ◌%◌, ◌*◌, ◌++◌, ◌+◌}
+use Rattle.std.proofs.Common.{List, [], ap, arith, inl, inr, length, map, refl, replicate, subst, suc, sym, zero, ℕ, ◌*◌, ◌++◌, ◌+◌}
 use Rattle.std.proofs.Common.{◌-◌, ◌/◌, ◌<◌, ◌^◌, ◌∙◌, ◌∷◌, ◌≡◌, ◌≤◌, ◌⊎◌}
 use Rattle.std.proofs.Math.Nat.{one-le-pow, pow-le-pow_right}
 use Rattle.std.proofs.lemmas.Nat.{div_below}
@@ -27,15 +27,6 @@ unders n = replicate n Under
 -- a first move of so many squares with such signs
 abbrev pub under_move : ℕ → Move
 under_move count = record { count = count; signs = unders (count - 1) }
-
--- one sign more that is under is one digit more
-pub under_more : (count k : ℕ) → move_digits (record { count = count; signs = unders k }) ++ 2 ∷ []
-    ≡ move_digits (record { count = count; signs = unders (suc k) })
-under_more count k = ap (λ l. (count - 1) / 4 ∷ (count - 1) % 4 ∷ l) (snoc k)
-  where
-    snoc : (k : ℕ) → map sign_place (unders k) ++ 2 ∷ [] ≡ map sign_place (unders (suc k))
-    snoc zero = refl
-    snoc (suc k) = ap (λ l. 2 ∷ l) (snoc k)
 
 -- signs that aren't all under make a smaller number
 under_or_below : (room : ℕ) (signs : List Sign) (ds : List ℕ) → AreDigits ds → length signs + length ds ≤ room

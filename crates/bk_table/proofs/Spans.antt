@@ -98,14 +98,6 @@ moves_that_go_on front rest m signs more legal few is =
         ∙ ap (λ l. word_digits front ++ l) (append_assoc (begun_move m.count signs) (map sign_place more) (word_digits rest))
         ∙ sym (append_assoc (word_digits front) (begun_move m.count signs) (map sign_place more ++ word_digits rest))
 
--- ---- what is left behind digits
-
--- a digit less, and a quarter is left
-pub quarter_left : (left i : ℕ) → i < 64 → left ≡ 4 ^ (64 - i) - 1 → left / 4 ≡ 4 ^ (64 - (i + 1)) - 1
-quarter_left left i few is =
-    let e : 64 - i ≡ suc (64 - (i + 1)) = omega arith in
-    omega (arith, is, ap (λ k. 4 ^ k) e, four_times (64 - (i + 1)), one-le-pow (64 - (i + 1)) 4 (omega arith))
-
 -- ---- the moves of a word
 
 -- each move of a legal word is legal at its turn

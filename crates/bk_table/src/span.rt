@@ -88,9 +88,8 @@ pub(crate) fn left_behind(count: usize) -> u128
     requires { count ≤ 64 }
     ensures { result ≡ 4 ^ (64 - count) - 1 }
 {
-    let mut left = u128::MAX;
-    'digits: for _ in 0..count {
-        left /= 4;
+    if count == 0 {
+        return u128::MAX;
     }
-    left
+    4u128.pow((64 - count) as u32) - 1
 }
