@@ -20,6 +20,7 @@ pub mod RightLines
 pub mod SecondNumbers
 pub mod SegmentsBehind
 pub mod JoinedSegments
+pub mod SharedAfter
 pub mod JoiningExamples
 pub mod TopLineExamples
 pub mod TopLineMarks

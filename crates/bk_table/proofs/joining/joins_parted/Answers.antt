@@ -4,7 +4,7 @@ use Rattle.bk_word.specs.Play.{IsLegal, outline_of}
 use Rattle.bk_word.specs.Word.{Word}
 use Rattle.bk_free_cuts.specs.LineNumbers.{left_end, right_end, sides_of}
 use Rattle.bk_table.specs.Joining.{JoinsLeft, JoinsRight}
-use Rattle.bk_table.proofs.JoinedSegments.{shared_before, shared_behind}
+use Rattle.bk_table.proofs.SharedAfter.{shared_before, shared_behind}
 use Rattle.bk_table.proofs.joining.joins_parted.Goals as goal
 
 pub returns-then-share_before : goal.returns-then-share_before
