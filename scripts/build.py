@@ -3,9 +3,9 @@
 memory.
 
 Each crate is proved from nothing, by the prover's own command, over the libraries of the crates below, by more processes the fewer crates are at
-work. What is proved stays as a library in the crate's folder out/rlib/, with a sum of all that it was made from, so a build that was stopped goes on
-where it was. Says on standard error which crates are being proved, how many are done and how long it has taken. The status is 0 where the program
-stands in crates/bk_main/out/bk_main.
+work; that on which the most stands above it goes before the others. What is proved stays as a library in the crate's folder out/rlib/, with a sum
+of all that it was made from, so a build that was stopped goes on where it was. Says on standard error which crates are being proved, how many are
+done and how long it has taken. The status is 0 where the program stands in crates/bk_main/out/bk_main.
 
     scripts/build.py [--jobs N]
 """
@@ -110,23 +110,24 @@ class Crate:
         except OSError:
             return False
 
-    def prove(self, toolchain, jobs):
-        """Proves the crate over the libraries below it, by so many processes. Returns whether it passed, and what was printed."""
+    def prove(self, toolchain, jobs, waits):
+        """Proves the crate over the libraries below it, by so many processes, which let others go first where they are said to wait. Returns whether
+        it passed, and what was printed."""
         if self.is_proved():
             return True, "proved before\n"
         shutil.rmtree(os.path.dirname(self.library), ignore_errors=True)
         os.makedirs(os.path.dirname(self.library))
-        passed, text = ran(toolchain.build(self, jobs, "--statements", "-o", self.library), self.folder)
+        passed, text = ran(toolchain.build(self, jobs, "--statements", "-o", self.library), self.folder, waits)
         if passed:
             with open(self.kept(), "w", encoding="utf-8") as file:
                 file.write(self.sum)
         return passed, text
 
 
-def ran(command, folder):
-    """Runs a command. Returns whether its status is 0, and what it printed."""
+def ran(command, folder, waits=False):
+    """Runs a command, which lets others go first where it is said to wait. Returns whether its status is 0, and what it printed."""
     how = {"cwd": folder, "stdin": subprocess.DEVNULL, "stdout": subprocess.PIPE, "stderr": subprocess.STDOUT}
-    done = subprocess.run(command, text=True, errors="replace", check=False, **how)
+    done = subprocess.run(["nice", "-n", "10" if waits else "0", *command], text=True, errors="replace", check=False, **how)
     return done.returncode == 0, done.stdout
 
 
@@ -193,7 +194,9 @@ def prove(crates, toolchain, jobs, log, progress):
     with ThreadPoolExecutor(jobs) as pool:
         while True:
             ready = [it for it in waiting if proved.issuperset(it.named)][: jobs - len(running)]
-            running.update({pool.submit(it.prove, toolchain, processes(jobs, len(running) + len(ready))): it for it in ready})
+            longest = max((it.chain for it in (*running.values(), *ready)), default=0)
+            share = processes(jobs, len(running) + len(ready))
+            running.update({pool.submit(it.prove, toolchain, share, it.chain < longest): it for it in ready})
             waiting = [it for it in waiting if it not in ready]
             if not running:
                 return not waiting and len(proved) == len(crates)
