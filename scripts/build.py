@@ -26,7 +26,7 @@ LOG = f"{OUT}/build.log"
 # What a check may hold in memory, in bytes: with less free, fewer run side by side.
 MEMORY_OF_A_CHECK = 3_000_000_000
 # Lines of text that a processor proves in a second. For the time that is told at the start alone.
-LINES_A_SECOND = 30
+LINES_A_SECOND = 24
 # After so many seconds without a crate that is done, a line says what is at work.
 QUIET = 30
 
@@ -194,9 +194,9 @@ def prove(crates, toolchain, jobs, log, progress):
     with ThreadPoolExecutor(jobs) as pool:
         while True:
             ready = [it for it in waiting if proved.issuperset(it.named)][: jobs - len(running)]
-            longest = max((it.chain for it in (*running.values(), *ready)), default=0)
-            share = processes(jobs, len(running) + len(ready))
-            running.update({pool.submit(it.prove, toolchain, share, it.chain < longest): it for it in ready})
+            at_work = [*running.values(), *ready]
+            longest = max((it.chain for it in at_work), default=0)
+            running.update({pool.submit(it.prove, toolchain, processes(jobs, len(at_work)), it.chain < longest): it for it in ready})
             waiting = [it for it in waiting if it not in ready]
             if not running:
                 return not waiting and len(proved) == len(crates)
