@@ -65,7 +65,7 @@ module _ (o : Outline) (lines : List Bool) (m : Move) (legal : IsLegalMove o m) 
   first_after h e = omega (
     arith,
     apart_first lines (lines_after o lines m) (keeps o lines m legal shape long) (valley_place o.signs) o.segments (signs_apart o m)
-    (map (λ q. q ∷ []) (new_squares o m))
+        (map (λ q. q ∷ []) (new_squares o m))
         (drop (valley_place o.signs + 1) o.segments) h e (first_new o lines m legal shape long m.count legal.some),
     joined_bound (lines_after o lines m) (signs_apart o m) (segments_apart o m),
   )
