@@ -6,6 +6,7 @@ pub mod TilingTest
 pub mod OrderLaws
 pub mod ExampleTilings
 pub mod TilingExamples
+pub mod ColumnExamples
 pub mod LargeExamples
 pub mod Members
 pub mod Scaling

@@ -1,10 +1,12 @@
--- The first overlap and the first cell that is not covered, worked out.
-use Rattle.std.proofs.Common.{List, [], arith, count_by, inl, inr, length, refl, slice_index_or, suc, zero, ℕ, ◌<◌, ◌∷◌}
+-- The first overlap and the first cell that is not covered, worked out, with the rows over and at that cell.
+use Rattle.std.proofs.Common.{List, [], arith, count_by, inl, inr, length, lit<, lit≤, refl, slice_index_or, suc, zero, ℕ, ◌<◌, ◌∷◌}
 use Rattle.bk_tiling.proofs.Cells.{over_from}
 use Rattle.bk_tiling.proofs.ExampleTilings.{square_at}
 use Rattle.bk_tiling.specs.Refusal.{IsFirstOverlap, IsFirstUncovered, IsLesserPair, SharesCell}
+use Rattle.bk_tiling.specs.Row.{IsRowAt}
 use Rattle.bk_tiling.specs.Tiling.{covers}
 use Rattle.bk_tiling.specs.declared.Square.{Square}
+use Rattle.bk_tiling.specs.declared.checks.Row.TheVariants.{Covered, Free}
 
 -- three squares, of which the third lies over the corners of both others
 abbrev crossing : List Square
@@ -52,3 +54,13 @@ first_uncovered = record { column = omega arith; level = omega arith; free = ref
     left zero within = omega arith
     left (suc zero) within = omega arith
     left (suc (suc i)) within = absurd (omega arith)
+
+-- these squares cover level 0, and not level 1: there column 2 is the first one that is free
+covered_row : IsRowAt 3 open_corner 0 (Covered 1)
+covered_row = (lit< tt, λ i j within from until. first_uncovered.above i j within until)
+
+not_covered_row : IsRowAt 3 open_corner 0 (Covered 2) → ⊥
+not_covered_row row = let some : 0 < 0 = row.1 2 1 (lit< tt) (lit≤ tt) (lit< tt) in omega (arith, some)
+
+free_row : IsRowAt 3 open_corner 1 (Free 2)
+free_row = (first_uncovered.column, first_uncovered.free, first_uncovered.left)

@@ -1,4 +1,6 @@
 -- Which tilings a `Tiling` of the code can be: those of at most 200 squares, none too large.
+-- Example (TilingExamples): the rectangle 3x2 of squares 2, 1, 1 is one, and the squares of 33x32 in another order are none; a square has
+-- no side of 10^15.
 use Rattle.std.specs.List.{AllByRecursion}
 use Rattle.std.specs.Prelude.{length, ℕ, ◌<◌, ◌^◌, ◌≤◌}
 use Rattle.bk_tiling.specs.Tiling.{IsTiling, Tiling}

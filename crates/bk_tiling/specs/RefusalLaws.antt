@@ -1,4 +1,4 @@
--- A list of squares has one refusal, or makes a `Tiling`, and not both.
+-- A list of squares has one refusal, or makes a `Tiling`, and not both. Statements alone; they are proved apart.
 use Rattle.std.specs.Prelude.{List, ℕ, ◌≡◌}
 use Rattle.bk_tiling.specs.Refusal.{IsAccepted, IsRefusal}
 use Rattle.bk_tiling.specs.declared.NotTiling.{NotTiling}
