@@ -1,10 +1,12 @@
 -- A rectangle of width 33, with sides laid and divided under it.
-use Rattle.std.proofs.Common.{List, [], arith, refl, ℕ, ◌∷◌, ◌≡◌}
+use Rattle.std.proofs.Common.{List, [], arith, lit<, refl, ℕ, ◌<◌, ◌∷◌, ◌≡◌}
+use Rattle.bk_tiling.proofs.ExampleTilings.{rectangle_33x32}
 use Rattle.bk_tiling.specs.Column.{depth}
 use Rattle.bk_tiling.specs.declared.Segment.{Segment}
 use Rattle.bk_tiling.specs.declared.Square.{Square}
+use Rattle.bk_code.specs.Code.{code_of}
 use Rattle.bk_profile.proofs.GapTest.{by_tests}
-use Rattle.bk_profile.specs.Gap.{Divides, Fits, IsGap, fits, misfit, next_group, with_group}
+use Rattle.bk_profile.specs.Gap.{Divides, Fits, IsGap, LaysTo, fits, misfit, next_group, with_group}
 
 -- a segment by its left edge, its width and its level
 abbrev pub segment : ℕ → ℕ → ℕ → Segment
@@ -26,6 +28,21 @@ three_groups = with_group two_groups (segment 0 18 18) (14 ∷ 4 ∷ [])
 pub third_gap : IsGap 33 two_groups (segment 0 18 18)
 third_gap = by_tests _ _ _ refl refl refl refl refl refl
 
+-- under the first group a run that ends a column before the wall is no gap: the depth there is no greater
+pub cut_short : IsGap 33 one_group (segment 18 14 15) → ⊥
+cut_short gap = let deeper : 15 < 15 = gap.ends (lit< tt) in omega (arith, deeper)
+
+-- the group 1, 2, 1 in a rectangle of width 4
+abbrev low_ends : List Square
+low_ends = with_group [] (segment 0 4 0) (1 ∷ 2 ∷ 1 ∷ [])
+
+-- of the two runs of least depth under it the left one is the gap
+pub left_end : IsGap 4 low_ends (segment 0 1 1)
+left_end = by_tests _ _ _ refl refl refl refl refl refl
+
+pub not_right_end : IsGap 4 low_ends (segment 3 1 1) → ⊥
+not_right_end gap = let deeper : 1 < 1 = gap.leftmost 0 (lit< tt) in omega (arith, deeper)
+
 -- a side of 10 doesn't fit a gap of 11
 pub ten_is_not_eleven : Fits (segment 14 11 22) (10 ∷ []) → ⊥
 ten_is_not_eleven h = omega arith
@@ -37,6 +54,30 @@ fourth_does_not_fit =
     (fits (14 ∷ 4 ∷ 10 ∷ []) (segment 18 15 15) (by_tests _ _ _ refl refl refl refl refl refl) refl refl refl
     (fits (10 ∷ []) (segment 0 18 18) (by_tests _ _ _ refl refl refl refl refl refl) refl refl refl
     (misfit (segment 14 11 22) (by_tests _ _ _ refl refl refl refl refl refl) refl (λ h. absurd (omega arith)))))
+
+-- all five groups of the rectangle fit, and its squares are laid as they stand in it
+pub all_laid : LaysTo 33 [] (code_of rectangle_33x32) rectangle_33x32.squares
+all_laid = (
+  segment 0 33 0,
+  by_tests _ _ _ refl refl refl refl refl refl,
+  refl,
+  (
+    segment 18 15 15,
+    by_tests _ _ _ refl refl refl refl refl refl,
+    refl,
+    (
+      segment 0 18 18,
+      by_tests _ _ _ refl refl refl refl refl refl,
+      refl,
+      (
+        segment 14 11 22,
+        by_tests _ _ _ refl refl refl refl refl refl,
+        refl,
+        (segment 24 9 23, by_tests _ _ _ refl refl refl refl refl refl, refl, refl),
+      ),
+    ),
+  ),
+)
 
 -- after two groups, the first column is filled to level 18
 pub depths : depth two_groups 0 ≡ 18

@@ -12,3 +12,4 @@ pub mod Division
 pub mod FlatTurns
 pub mod OneRefusal
 pub mod RefusalExamples
+pub mod LaidExamples

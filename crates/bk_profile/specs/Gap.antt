@@ -1,4 +1,7 @@
 -- Laying a code: the gap that the next group goes into, and how a flat list of sides is divided.
+-- Examples (GapExamples): after [18,15][7,8] the gap of the rectangle 33x32 has the 18 columns from 0 on at level 18; of two runs of least
+-- depth the left one is the gap, and a run that is cut short is none. The flat list 18, 15, 7, 8, 14, 4, 10 is divided into
+-- [18,15][7,8][14,4][10], of which the last group does not fit.
 use Rattle.std.specs.Prelude.{List, [], cond, nat_le, sum, ℕ, ◌++◌, ◌+◌, ◌-◌, ◌<◌, ◌∷◌, ◌≡◌, ◌≤◌}
 use Rattle.bk_tiling.specs.Column.{IsLevel, depth}
 use Rattle.bk_tiling.specs.declared.Segment.{Segment}

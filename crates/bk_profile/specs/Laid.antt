@@ -1,4 +1,7 @@
 -- What a contract sees of a `Profile`, and what laying a group does to it.
+-- Examples (LaidExamples): in the width 33 with the group 18, 15 laid the group 7, 8 is laid next, and 7, 9 is not, of sum 16 at a gap of
+-- 15 columns; laid one after another the five groups of the rectangle 33x32 are that tiling. (RefusalExamples): after
+-- [18,15][7,8][14,4][10,1] the depths lie between 23 and 32.
 use Rattle.std.specs.Prelude.{List, [], length, sum, ℕ, ◌<◌, ◌≡◌, ◌≤◌}
 use Rattle.bk_tiling.specs.Column.{IsFilled, depth}
 use Rattle.bk_tiling.specs.Tiling.{IsTiling, Tiling}

@@ -1,4 +1,5 @@
 -- Laying gives a tiling back, and ends in one way. Statements alone; they are proved apart.
+-- Example (GapExamples): the five groups of the rectangle 33x32 fit, and its squares are laid as they stand in it.
 use Rattle.std.specs.Prelude.{List, [], length, ℕ, ◌<◌, ◌≡◌}
 use Rattle.bk_tiling.specs.Tiling.{IsTiling, Tiling}
 use Rattle.bk_code.specs.Code.{Code, code_of}

@@ -1,4 +1,6 @@
 -- What it is that a tiling has a code or a flat list, and why none has one.
+-- Examples (RefusalExamples): [18,15][7,9] is refused for its second group, of sum 16, at a gap of 15 columns; [18,15][7,8][14,4][10,1]
+-- since it ends open, between the depths 23 and 32; the flat list 18, 15, 7, 8, 14, 4, 10 for its fourth group.
 use Rattle.std.specs.Prelude.{List, [], length, sum, ℕ, ◌++◌, ◌+◌, ◌∷◌, ◌≡◌}
 use Rattle.bk_tiling.specs.Tiling.{IsTiling, Tiling}
 use Rattle.bk_tiling.specs.declared.Segment.{Segment}
