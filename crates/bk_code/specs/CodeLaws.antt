@@ -1,4 +1,5 @@
 -- What a code tells of its tiling, and how codes are ordered. Statements alone; they are proved apart.
+-- Example (CodeExamples): two squares of side 1 in a row and two in a column have one flat list, and other widths.
 use Rattle.std.specs.Cmp.{IsTotalOrder}
 use Rattle.std.specs.Prelude.{◌≡◌}
 use Rattle.bk_tiling.specs.Tiling.{IsTiling, Tiling}

@@ -1,4 +1,5 @@
 -- Which codes a `Code` can be: those of at most 200 sides, none too large, with no group empty.
+-- Example (CodeExamples): [2,1][1] is one; with an empty group between the two it is none.
 use Rattle.std.specs.List.{AllByRecursion}
 use Rattle.std.specs.Prelude.{List, length, ℕ, ◌<◌, ◌≤◌}
 use Rattle.bk_tiling.specs.Kept.{IsSide}
