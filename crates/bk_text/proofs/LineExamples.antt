@@ -1,10 +1,12 @@
 -- Lines of codes, and where bytes leave their grammar.
 use Rattle.std.specs.Fmt.{digits}
-use Rattle.std.specs.Prelude.{None, Some, [], codes, refl, ◌∷◌, ◌≡◌}
-use Rattle.std.proofs.Common.{lit<}
+use Rattle.std.specs.Prelude.{List, None, Some, [], codes, flat_map, refl, replicate, ℕ, ◌++◌, ◌∷◌, ◌≡◌}
+use Rattle.std.proofs.Common.{arith, lit<, lit≤}
 use Rattle.bk_text.specs.CodeLine.{Flat, IsLine, IsNoLine, Item, Skip}
-use Rattle.bk_text.specs.CodeText.{code_text}
+use Rattle.bk_text.specs.CodeText.{code_text, size_text}
+use Rattle.bk_text.specs.ReadLine.{IsFaultOf, IsInRange}
 use Rattle.bk_text.specs.Reader.{no_header}
+use Rattle.bk_text.specs.declared.TextFault.TheVariants.{Many, Text}
 use Rattle.bk_text.specs.declared.reader.Bracket.TheVariants.{Square}
 use Rattle.bk_text.specs.declared.reader.Field.TheVariants.{Height, Side, Third}
 use Rattle.bk_text.specs.declared.reader.Place.TheVariants.{BeforeGroup, BeforeSide, BehindSide, Number, Start}
@@ -37,6 +39,10 @@ spelled-two : code_text ((18 ∷ 15 ∷ []) ∷ (7 ∷ []) ∷ []) ≡ codes "[1
 unfolding digits
 spelled-two = refl
 
+spelled-size : size_text 33 32 ≡ codes "33x32"
+unfolding digits
+spelled-size = refl
+
 -- where bytes leave the grammar
 at-two_commas : IsNoLine (codes "[18,,15]") 4
 at-two_commas = stops_at (codes "[18,,15]") 4 (BeforeSide no_header Square) (record { groups = []; sides = 18 ∷ [] }) (lit< tt) (λ x. refl) refl
@@ -65,3 +71,32 @@ at-long_side = stops_at (codes "[1234567890123456]") 16 (Number (Side no_header 
 -- a table row needs a side, and its sides are numbers
 at-table : IsNoLine (codes "9 33 32") 7
 at-table = stops_at_end (codes "9 33 32") (Number (Third 9 33) 32) no_lists (λ x. refl) refl
+
+-- what is read of that table row is in range, and an item without groups is not
+in_range-table : IsInRange (Flat 3 3 2 (2 ∷ 1 ∷ 1 ∷ []))
+in_range-table = (
+  (lit< tt, lit< tt),
+  (lit< tt, lit< tt),
+  (lit< tt, lit< tt),
+  lit< tt,
+  lit≤ tt,
+  ((lit< tt, lit≤ tt), ((lit< tt, lit≤ tt), ((lit< tt, lit≤ tt), tt))),
+)
+
+not_in_range-item : IsInRange (Item None None []) → ⊥
+not_in_range-item some = omega (arith, some)
+
+-- bytes that leave the grammar are refused for it
+fault-two_commas : IsFaultOf (Text 4) (codes "[18,,15]")
+fault-two_commas = at-two_commas
+
+-- 201 squares of side 1 in a row, as a table row
+abbrev ones : List ℕ
+ones = replicate 201 1
+
+abbrev long_row : List ℕ
+long_row = codes "201 201 1" ++ flat_map (λ side. codes " 1") ones
+
+-- it is a line, and has too many sides
+fault-many : IsFaultOf Many long_row
+fault-many = (Flat 201 201 1 ones, read_is_line long_row (Flat 201 201 1 ones) refl, lit< tt)

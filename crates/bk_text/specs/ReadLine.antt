@@ -1,4 +1,6 @@
 -- What is read of a line, and when it is refused.
+-- Example (LineExamples): `[18,,15]` is refused as `Text` at 4, and a table row of 201 sides of 1 as `Many`; the table row `3 3 2 2 1 1` is
+-- in range.
 use Rattle.std.specs.List.{AllByRecursion}
 use Rattle.std.specs.Prelude.{List, [], length, ℕ, ◌<◌, ◌^◌, ◌≤◌}
 use Rattle.bk_code.specs.Code.{flat}
