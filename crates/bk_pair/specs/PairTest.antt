@@ -1,4 +1,6 @@
 -- Whether two tilings are laid together, and whether they join to a perfect square, as tests.
+-- Example (PairExamples): [2,1][1] can be laid together with itself, but not to a perfect square; the 2 by 2 squares of
+-- side 1, which make a square, can't.
 use Rattle.std.specs.List.{list_any}
 use Rattle.std.specs.Prelude.{Bool, List, [], nat_eq, nat_le, not, true, ℕ, ◌&&◌, ◌+◌, ◌==◌, ◌∷◌, ◌↔◌, ◌≡◌}
 use Rattle.bk_tiling.specs.Tiling.{Tiling, order}
