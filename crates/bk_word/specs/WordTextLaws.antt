@@ -1,4 +1,5 @@
 -- Laws of the texts of words. Statements alone; each is proved apart.
+-- Example (WordExamples): what is written of the staircase, 2u.2eu.1e, is its text; the word of no moves has none.
 use Rattle.std.specs.Prelude.{List, length, ℕ, ◌<◌, ◌≡◌}
 use Rattle.bk_word.specs.KeptWord.{IsKeptWord}
 use Rattle.bk_word.specs.Word.{Word}
