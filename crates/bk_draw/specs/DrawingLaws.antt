@@ -1,4 +1,5 @@
 -- What holds of drawings. Statements alone; they are proved apart.
+-- Example (DrawingExamples): the row "| ++" of the rectangle 3x2 has a space within, and none at its end.
 use Rattle.std.specs.Prelude.{ℕ, ◌≢◌, ◌≤◌}
 use Rattle.bk_tiling.specs.Tiling.{IsTiling, Tiling}
 use Rattle.bk_draw.specs.Drawing.{character}
