@@ -1,8 +1,11 @@
 -- Answers as they are written.
 use Rattle.std.specs.Fmt.{digits}
 use Rattle.std.specs.Prelude.{None, [], codes, negsuc, pos, refl, ◌++◌, ◌∷◌, ◌≡◌}
+use Rattle.std.proofs.Common.{sym}
 use Rattle.bk_tiling.proofs.ExampleTilings.{rectangle_33x32, square_2x2}
-use Rattle.bk_report.specs.Answers.{dual_line, flow_line, net_line, verdict_line}
+use Rattle.bk_tiling.proofs.TilingTest.{pairs_from_test, tiling_from_test}
+use Rattle.bk_simple.proofs.SimpleTest.{simple_from_test}
+use Rattle.bk_report.specs.Answers.{IsCheckLine, dual_line, flow_line, net_line, verdict_line}
 use Rattle.bk_report.specs.Refusals.{refusal_line}
 use Rattle.bk_report.specs.Trial.{trial_line}
 use Rattle.bk_report.specs.declared.refusal.Refused.TheVariants.{Gap, Size}
@@ -10,6 +13,18 @@ use Rattle.bk_report.specs.declared.refusal.Refused.TheVariants.{Gap, Size}
 pub checked : verdict_line rectangle_33x32 None None ≡ codes "ok 9 33x32 perfect simple" ++ 10 ∷ []
 unfolding digits
 checked = refl
+
+-- that is the line of check of this rectangle, which is perfect and simple
+pub check_line-33x32 : IsCheckLine rectangle_33x32 (codes "ok 9 33x32 perfect simple" ++ 10 ∷ [])
+check_line-33x32 = record {
+  repeated = None;
+  part = None;
+  verdicts = record {
+    perfect = pairs_from_test (λ q. q.s) rectangle_33x32.squares refl;
+    simple = simple_from_test rectangle_33x32 (tiling_from_test rectangle_33x32 refl) refl;
+  };
+  text = sym checked;
+}
 
 pub refused : refusal_line (Gap 2 15 16) ≡ codes "no gap 2 15 16" ++ 10 ∷ []
 unfolding digits

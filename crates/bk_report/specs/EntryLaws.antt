@@ -1,4 +1,5 @@
 -- What is written of an entry is read again. A statement alone; it is proved apart.
+-- Example (ListingExamples): that of the rectangle 33x32 is a line, and stands for the order 9, the size 33x32 and its code.
 use Rattle.std.specs.Prelude.{Some}
 use Rattle.bk_tiling.specs.Kept.{IsKept}
 use Rattle.bk_tiling.specs.Tiling.{Tiling, order}
