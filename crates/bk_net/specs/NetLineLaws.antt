@@ -1,4 +1,4 @@
--- The grammar of network lines is unambiguous.
+-- The grammar of network lines is unambiguous. A statement alone; it is proved apart.
 use Rattle.std.specs.Prelude.{List, ℕ, ◌≡◌}
 use Rattle.bk_net.specs.NetLine.{IsNetLine, NetLine}
 
