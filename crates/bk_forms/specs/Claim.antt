@@ -1,4 +1,5 @@
 -- What a reduced form says of positive sides.
+-- Example (FormExamples): a + 2c is positive, a form of zeros zero, -b negative, and 2a - b open.
 use Rattle.std.specs.List.{list_all}
 use Rattle.std.specs.Prelude.{Bool, cond, not, ◌||◌}
 use Rattle.bk_forms.specs.Form.{Form, is_negative, is_zero}
