@@ -11,3 +11,6 @@ pub mod Writing
 pub mod ItemSteps
 pub mod ReplySteps
 pub mod TellingExamples
+pub mod CodeAnswerExamples
+pub mod NetAnswerExamples
+pub mod WordAnswerExamples

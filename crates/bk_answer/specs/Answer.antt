@@ -1,4 +1,5 @@
 -- What a command answers to a line.
+-- Example (CodeAnswerExamples): `draw` answers `[2,1][1]` by three rows; at no line memory is wanting for `check`.
 use Rattle.std.specs.Prelude.{Bool, List, ℕ}
 use Rattle.bk_answer.specs.CodeAnswer.{AnswersCodeLine, MayWantForCode}
 use Rattle.bk_answer.specs.NetAnswer.{AnswersNetLine, MayWantForNet}

@@ -1,5 +1,7 @@
 -- What `check` accepts, told of tilings alone: `[2,1][1]` and the row `3 3 2 2 1 1` are accepted, since a tiling 3 by 2 of three
 -- squares has this code; `2x3 [2,1][1]` is not, since that tiling has another size.
+-- Example (CodeAnswerExamples): each answer to `[2,1][1]` begins with `ok`; that to `2x3 [2,1][1]` doesn't, so no tiling has what that
+-- line states.
 use Rattle.std.specs.List.{concat}
 use Rattle.std.specs.Prelude.{Bool, IfSome, List, Option, codes, ℕ, ◌++◌, ◌↔◌, ◌≡◌}
 use Rattle.bk_tiling.specs.Tiling.{Tiling, order}

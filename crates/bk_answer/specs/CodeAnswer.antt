@@ -1,4 +1,5 @@
 -- What a command that reads codes answers to a line, to its item, and to the tiling that is laid for it.
+-- Example (CodeAnswerExamples): `draw` answers `[2,1][1]` by three rows, `[18,15][7,9]` by `no gap 2 15 16`, and a comment by nothing.
 use Rattle.std.specs.Prelude.{Bool, List, [], false, true, ℕ, ◌∷◌, ◌≡◌}
 use Rattle.bk_tiling.specs.Tiling.{Tiling}
 use Rattle.bk_report.specs.Refusals.{refusal_line}

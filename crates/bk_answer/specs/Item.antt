@@ -1,4 +1,6 @@
 -- What the item of a line states, and the tilings that it speaks of.
+-- Example (CodeAnswerExamples): the lines `[2,1][1]` and `3 3 2 2 1 1` speak of the rectangle 3x2 of the squares 2, 1, 1; the item of
+-- `2x3 [2,1][1]` doesn't.
 use Rattle.std.specs.Prelude.{Bool, IfSome, List, None, Option, Some, false, length, true, ℕ, ◌≡◌, ◌≤◌}
 use Rattle.bk_tiling.specs.Tiling.{Tiling, order}
 use Rattle.bk_profile.specs.Refused.{HasCode, HasFlat}

@@ -1,4 +1,5 @@
 -- What `flow` answers to a line.
+-- Example (NetAnswerExamples): `2 1-0` is answered by `1 -1`, `2` by `no loose 0`, and `2 1-1` by `no wire 1`.
 use Rattle.std.specs.Prelude.{Bool, List, [], false, length, true, ℕ, ◌<◌, ◌∷◌, ◌≤◌}
 use Rattle.bk_net.specs.Flow.{IsPrimitiveFlow}
 use Rattle.bk_net.specs.KeptNet.{IsKeptNet}

@@ -1,4 +1,6 @@
 -- Why a line of codes is refused.
+-- Example (CodeAnswerExamples): `2x3 [2,1][1]` is refused for its size, which is 3x2; `[18,15][7,9]` for its second group, whose sum 16
+-- doesn't fit into a gap of 15 columns; and `3 [18,15][7,9]` for its order, which is 4.
 use Rattle.std.specs.Prelude.{List, length, ℕ, ◌<◌, ◌≤◌}
 use Rattle.bk_tiling.specs.Tiling.{Tiling}
 use Rattle.bk_profile.specs.Refused.{IsFlatRefused, IsRefused, first_sum}

@@ -1,4 +1,6 @@
 -- What `solve` answers to a line.
+-- Example (WordAnswerExamples): the line `2u.1e` is answered by `3x2 [2,1][1]`, the word 2u by `unfinished`, the word 2u.2e by
+-- `illegal 2`, and a line of blanks by nothing.
 use Rattle.std.specs.Prelude.{Bool, List, [], false, length, slice_range, true, ℕ, ◌+◌, ◌<◌, ◌∷◌, ◌≡◌, ◌≤◌}
 use Rattle.bk_grammar.specs.Grammar.{LineEnd}
 use Rattle.bk_tiling.specs.Tiling.{IsTiling, Tiling}
