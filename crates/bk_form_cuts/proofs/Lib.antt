@@ -7,3 +7,4 @@ pub mod Traces
 pub mod TraceMore
 pub mod TraceBack
 pub mod RuledOut
+pub mod SideFormExamples

@@ -1,5 +1,7 @@
 -- Forms over the sides of a word's squares: the levels of bottoms and of open segments, and sums of sides. The side of
 -- square n, from 1, stands in column n - 1.
+-- Example (SideFormExamples): the word of the rectangle 33x32 begins with 2u.2aa. With a, b, c, d for the sides, the squares of the
+-- first move end at a and b, and those of the second at b + c and b + d; its signs compare a, b + c, b + d.
 use Rattle.std.specs.Prelude.{Bool, List, [], cond, count_by, false, fold, map, nat_le, pos, replicate, slice_index_or, true, ℕ, ◌++◌, ◌+◌, ◌-◌, ◌∷◌}
 use Rattle.bk_word.specs.Outline.{Outline, has_left_wall, has_right_wall, valley_of, valley_place}
 use Rattle.bk_word.specs.Play.{new_squares}
