@@ -1,11 +1,14 @@
--- Command lines that ask something, some that ask nothing, and the line of usage.
+-- Options and their values, command lines that ask something, some that ask nothing, and the line of usage.
 use Rattle.std.specs.Fmt.{digits}
 use Rattle.std.specs.Prelude.{None, Some, codes}
-use Rattle.std.proofs.Common.{List, [], ap, arith, false, length, nat_eq, refl, slice_index, ℕ, ◌∷◌, ◌≡◌}
+use Rattle.std.proofs.Common.{List, [], ap, arith, false, length, lit<, lit≤, nat_eq, refl, slice_index, ℕ, ◌∷◌, ◌≡◌}
 use Rattle.std.proofs.lemmas.Bool.Decides.{nat_tests}
-use Rattle.bk_word.specs.declared.Class.TheVariants.{Perfect}
-use Rattle.bk_ask.specs.Asked.{Asks, AsksNothing}
+use Rattle.bk_word.proofs.WordExamples.{staircase}
+use Rattle.bk_word.specs.declared.Class.TheVariants.{Imperfect, Perfect}
+use Rattle.bk_ask.specs.Asked.{Asks, AsksNothing, verify_names}
 use Rattle.bk_ask.specs.Help.{usage}
+use Rattle.bk_ask.specs.OptionValues.{IsClassName, IsCursor, IsNumberWithin}
+use Rattle.bk_ask.specs.Options.{AreOptions, options_in}
 use Rattle.bk_ask.specs.declared.Ask.TheVariants as asks
 use Rattle.bk_ask.specs.declared.Kind.TheVariants as kinds
 use Rattle.bk_ask.proofs.OptionLaws.{none_stands, option_of}
@@ -17,6 +20,58 @@ differ xs ys i t e = apart (slice_index xs i) (slice_index ys i) t (ap (λ bytes
   where
     apart : (a b : ℕ) → nat_eq a b ≡ false → a ≡ b → ⊥
     apart a b t e = grind (arith, nat_tests)
+
+-- ---- options, and their values
+
+-- the last name has no value, and is in no option
+two_of_three : options_in (codes "--order" ∷ codes "9" ∷ codes "--class" ∷ []) ≡ record { name = codes "--order"; value = codes "9" } ∷ []
+two_of_three = refl
+
+-- so these words are no options
+name_without_value : AreOptions verify_names (codes "--order" ∷ []) → ⊥
+name_without_value are = let none : codes "--order" ∷ [] ≡ [] = are.whole in cc
+
+-- nor are those in which a name stands twice
+name_twice : AreOptions verify_names (codes "--order" ∷ codes "9" ∷ codes "--order" ∷ codes "9" ∷ []) → ⊥
+name_twice are = are.once.0.0 refl
+
+order_16 : IsNumberWithin 2 16 (codes "16") 16
+unfolding digits
+order_16 = record { at_least = lit≤ tt; at_most = lit≤ tt; text = refl }
+
+order_17 : IsNumberWithin 2 16 (codes "17") 17 → ⊥
+order_17 is = omega (arith, is.at_most)
+
+-- a number has no 0 before it
+zero_before_9 : IsNumberWithin 2 16 (codes "09") 9 → ⊥
+unfolding digits
+zero_before_9 is = differ (codes "09") (codes "9") 0 refl is.text
+
+-- the text of a word of five squares
+cursor_of_five : IsCursor (codes "2u.2eu.1e") staircase
+unfolding digits
+cursor_of_five = record {
+  text = record {
+    some = lit< tt;
+    moves = (
+      record { stands = record { some = lit< tt; least = lit≤ tt; most = lit≤ tt }; digits = lit≤ tt },
+      (
+        record { stands = record { some = lit< tt; least = lit≤ tt; most = lit≤ tt }; digits = lit≤ tt },
+        (record { stands = record { some = lit< tt; least = lit≤ tt; most = lit≤ tt }; digits = lit≤ tt }, tt),
+      ),
+    );
+    text = refl;
+  };
+  few = lit≤ tt;
+}
+
+class_named : IsClassName (codes "imperfect") Imperfect
+class_named = refl
+
+class_cut : IsClassName (codes "perfect") Imperfect → ⊥
+class_cut is = differ (codes "perfect") (codes "imperfect") 0 refl is
+
+-- ---- command lines
 
 usage_length : length usage ≡ 42
 usage_length = refl

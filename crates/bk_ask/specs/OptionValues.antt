@@ -1,4 +1,6 @@
 -- The values that options may have.
+-- Example (AskExamples): `16` is a number within 2 and 16, `17` is not, and `09` is not the number 9; `2u.2eu.1e` is a cursor, and
+-- `imperfect` names a class.
 use Rattle.std.specs.Prelude.{List, [], codes, decimal, slice_index, ℕ, ◌∷◌, ◌≡◌, ◌≤◌, ◌⊎◌}
 use Rattle.bk_word.specs.Word.{Word, order_of}
 use Rattle.bk_word.specs.WordText.{IsTextOf}

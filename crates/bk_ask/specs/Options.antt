@@ -1,4 +1,6 @@
 -- Options: names and values that stand behind a command.
+-- Example (AskExamples): in `--order 9 --class` stands one option, since the last name has no value. `--order` alone is no option of
+-- `verify`, and neither is `--order 9 --order 9`, in which the name stands twice.
 use Rattle.std.specs.List.{AllByRecursion}
 use Rattle.std.specs.Prelude.{Contains, List, None, Option, Some, [], flat_map, ℕ, ⊤, ◌∷◌, ◌≡◌, ◌≢◌}
 
