@@ -1,4 +1,5 @@
 -- Each layout that fits has a free word, whose net is the layout's. A statement alone; it is proved apart.
+-- Example (WordOfLayoutExamples): 2u.1e is the word of the layout of the rectangle 3x2 of the squares 2, 1, 1.
 use Rattle.std.specs.Prelude.{Some, [], length, map, slice_get, slice_index_or, suc, ℕ, ⊤, ◌+◌, ◌-◌, ◌<◌, ◌∷◌, ◌≡◌}
 use Rattle.bk_word.specs.Outline.{Outline, start, valley_of}
 use Rattle.bk_word.specs.Play.{IsComplete, after_move, new_squares, outline_of}
