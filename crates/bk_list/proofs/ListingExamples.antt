@@ -1,12 +1,14 @@
 -- Listings of order 2: one imperfect tiling, and no perfect one.
 use Rattle.std.specs.Fmt.{digits}
-use Rattle.std.specs.Prelude.{None, Some, codes}
+use Rattle.std.specs.Prelude.{List, None, Some, codes, ℕ}
 use Rattle.std.proofs.Common.{[], inl, inr, refl, ◌++◌, ◌∷◌}
 use Rattle.bk_word.specs.declared.Class.TheVariants.{Imperfect, Perfect}
 use Rattle.bk_catalogue.proofs.CatalogueExamples.{entry_is, no_perfect, only, row_entry}
+use Rattle.bk_report.specs.declared.listing.Last.TheVariants.{End}
 use Rattle.bk_list.proofs.WholeListing.{a_whole_listing_is_the_catalogue}
 use Rattle.bk_list.specs.Listing.{AreFirst, AtEnd, AtLimit, IsListing}
 use Rattle.bk_list.specs.ListingLaws.{WritesCatalogue}
+use Rattle.bk_list.specs.Writing.{BeginsListing, HasEntries, WritesListing}
 
 none_yet : AreFirst 2 Imperfect [] []
 none_yet = record { each = tt; after = tt; ascending = tt; none_between = λ e is h. inr tt }
@@ -42,3 +44,26 @@ no_entries = record {
   ends = (tt, λ e is h. absurd (no_perfect e is));
   text = refl;
 }
+
+-- ---- what stands written
+
+abbrev both_lines : List ℕ
+both_lines = codes "2 2x1 [1,1] ; 2e\n; end order 2 class imperfect listed 1\n"
+
+-- the whole listing, behind what was written before
+written_whole : WritesListing 2 Imperfect [] None End (Some (codes "; order 2\n")) (Some (codes "; order 2\n" ++ both_lines))
+written_whole = record { ending = AtEnd; named = refl; bytes = both_lines; listing = whole_listing; appends = refl }
+
+-- a write that failed in the middle of its first line
+written_begun : BeginsListing 2 Imperfect [] None (Some []) (Some (codes "2 2x1 [1,1"))
+unfolding digits
+written_begun = record {
+  bytes = codes "2 2x1 [1,1] ; 2e\n";
+  front = inl (record { entries = row_entry ∷ []; first = one_listed; within = inl tt; text = refl });
+  begins = (10, refl);
+}
+
+-- all entries, but not the last line
+written_entries : HasEntries 2 Imperfect [] None End 1 (Some []) (Some (codes "2 2x1 [1,1] ; 2e\n"))
+unfolding digits
+written_entries = record { entries = row_entry ∷ []; first = one_listed; ends = (tt, λ e is h. only e is); count = refl; appends = refl }

@@ -1,4 +1,6 @@
 -- What a listing writes, and what of it stands written where a write fails.
+-- Example (ListingExamples): the listing of order 2 and the class imperfect, written behind a line that stood there; all its entries without
+-- the last line; and `2 2x1 [1,1`, where the write of its first line failed.
 use Rattle.std.specs.Prelude.{List, Option, flat_map, length, ℕ, ◌≡◌, ◌⊎◌}
 use Rattle.std.specs.Io.KnownBytes.{Appends}
 use Rattle.bk_ports.specs.Causes.{AppendsPrefix}
