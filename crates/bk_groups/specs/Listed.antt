@@ -1,4 +1,6 @@
 -- Lines of codes that are listed one after another: the items that are kept, and how many lines are refused.
+-- Example (GroupExamples): of `[1,2][1]` the canonical tiling is kept, `[18,15][7,9]` is refused by `line 2 no gap 2 15 16`; where 16,384
+-- items are kept, the next one is refused too.
 use Rattle.std.specs.Prelude.{Bool, List, [], false, length, true, ℕ, ◌++◌, ◌+◌, ◌<◌, ◌∷◌, ◌≡◌, ◌≤◌}
 use Rattle.bk_tiling.specs.Tiling.{Tiling}
 use Rattle.bk_sym.specs.Canonical.{IsCanonicalOf}

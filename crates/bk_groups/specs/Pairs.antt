@@ -1,4 +1,6 @@
 -- The pairs of items that are laid together to a square.
+-- Example (GroupExamples): of the rectangles 3x2, 2x2 and 3x2 on the lines 1, 2 and 4 the first and the last are laid to a square of side 5,
+-- which is a pair of the kind any; none is of the kind perfect.
 use Rattle.std.specs.List.{flat_map}
 use Rattle.std.specs.Prelude.{Bool, List, [], cond, ℕ, ◌++◌, ◌∷◌}
 use Rattle.bk_tiling.specs.Tiling.{Tiling}
