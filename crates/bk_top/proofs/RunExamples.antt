@@ -1,12 +1,15 @@
--- Worked examples of what is asked, of the statuses, and of what decides them.
+-- Worked examples of what is asked, of the statuses, of what decides them, and of a catalogue that was written.
 use Rattle.std.proofs.Common.{Some, [], arith, inl, refl, ◌≡◌}
-use Rattle.std.specs.Prelude.{None, codes}
+use Rattle.std.specs.Prelude.{List, None, codes, ℕ}
+use Rattle.bk_word.specs.declared.Class.TheVariants.{Imperfect}
 use Rattle.bk_answer.specs.declared.command.CodeCommand.TheVariants as codes_of
 use Rattle.bk_answer.specs.declared.command.Command.TheVariants.{OfCodes}
 use Rattle.bk_ask.specs.declared.Ask.TheVariants as asks
 use Rattle.bk_lines.specs.declared.Ended.TheVariants.{TooMany}
+use Rattle.bk_list.proofs.ListingExamples.{whole_catalogue}
 use Rattle.bk_top.specs.Deciding.{IsDecided}
-use Rattle.bk_top.specs.Running.{IsToldText, status_of}
+use Rattle.bk_top.specs.Running.{IsToldText, Outside, status_of}
+use Rattle.bk_top.specs.WholeCatalogue.{AppendsCatalogue}
 use Rattle.bk_top.specs.Words.{command_asked}
 
 check_answers_lines : command_asked asks.Check ≡ Some (OfCodes codes_of.Check)
@@ -28,3 +31,11 @@ no_lines = record {
 
 told_whole : IsToldText (codes "a\n") (Some (codes "0\n")) (Some (codes "0\na\n")) 2 2
 told_whole = inl (refl, refl)
+
+-- nothing is read, and these bytes are written
+abbrev outside : List ℕ → Outside
+outside bytes = record { left = Some []; read_faults = 0; written = Some bytes; write_faults = 0; errors = Some []; error_faults = 0 }
+
+catalogue_appended : AppendsCatalogue 2 Imperfect (outside (codes "0\n"))
+    (outside (codes "0\n2 2x1 [1,1] ; 2e\n; end order 2 class imperfect listed 1\n"))
+catalogue_appended = record { bytes = _; catalogue = whole_catalogue; appends = refl }
