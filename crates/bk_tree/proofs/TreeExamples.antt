@@ -1,12 +1,13 @@
--- Which moves come next, and the tree of order 1: it has one word, one move of one square.
-use Rattle.std.proofs.Common.{None, [], arith, length, refl, sym, zero, ◌∷◌, ◌≡◌, ◌≤◌, List, ap, ◌∙◌}
+-- Which moves come next, and the tree of order 1: it has one word, one move of one square, up to that word one, and behind it none.
+use Rattle.std.proofs.Common.{None, Some, [], arith, length, refl, subst, sym, zero, ◌+◌, ◌<◌, ◌∷◌, ◌≡◌, ◌≤◌, List, ap, ◌∙◌}
 use Rattle.bk_word.proofs.StoredBytes.{order_more}
 use Rattle.bk_word.specs.Outline.{Outline, start}
 use Rattle.bk_word.specs.Play.{AreLegalFrom, after_move}
-use Rattle.bk_word.specs.Word.{Move, Word, order_of}
+use Rattle.bk_word.specs.Word.{Follows, Move, Word, order_of}
 use Rattle.bk_word.specs.declared.Sign.{Sign}
 use Rattle.bk_word.specs.declared.Sign.TheVariants.{Above, Even, Under}
 use Rattle.bk_tree.proofs.Places.{move_from_parts}
+use Rattle.bk_tree.proofs.TreeCounts.{tree_counts_add}
 use Rattle.bk_tree.specs.NextMove.{first_move, fitted, move_after}
 use Rattle.bk_tree.specs.Tree.{IsInTree, IsTreeCount}
 
@@ -35,6 +36,39 @@ one_count = record {
   all = λ w t. (zero, omega arith, sym (one_word w t));
   count = refl;
 }
+
+-- a word of some moves follows that of none
+after_none : (w : Word) → 0 < length w → Follows w []
+after_none [] some = absurd (omega (arith, some))
+after_none (m ∷ w) some = refl
+
+-- no word is after this one and not it
+none_behind : (w : Word) → IsInTree 1 (first_move ∷ []) None w → ⊥
+none_behind w t = not_itself (subst (λ (v : Word). Follows v (first_move ∷ [])) (one_word w in_tree) t.after)
+  where
+    in_tree : IsInTree 1 [] None w
+    in_tree = record { legal = t.legal; some = t.some; small = t.small; after = after_none w t.some; within = tt }
+
+    not_itself : Follows (first_move ∷ []) (first_move ∷ []) → ⊥
+    not_itself h = cc
+
+-- up to the word there is one, namely itself
+count_up_to : IsTreeCount 1 [] (Some (first_move ∷ [])) 1
+count_up_to = record {
+  words = (first_move ∷ []) ∷ [];
+  each = (record { legal = (record { some = omega arith; signs = refl }, tt); some = omega arith; small = omega arith; after = refl; within = λ h. cc }, tt);
+  ascending = (tt, tt);
+  all = λ w t. (zero, omega arith, sym (one_word w (record { legal = t.legal; some = t.some; small = t.small; after = t.after; within = tt })));
+  count = refl;
+}
+
+-- behind it there is none
+count_behind : IsTreeCount 1 (first_move ∷ []) None 0
+count_behind = record { words = []; each = tt; ascending = tt; all = λ w t. absurd (none_behind w t); count = refl }
+
+-- and 1 + 0 is the count of all
+count_of_both : IsTreeCount 1 [] None (1 + 0)
+count_of_both = tree_counts_add 1 [] (first_move ∷ []) None 1 0 (λ h. cc) tt count_up_to count_behind
 
 -- behind all that begin with 2au comes 2e
 after_2au : move_after (record { count = 2; signs = Above ∷ Under ∷ [] }) ≡ record { count = 2; signs = Even ∷ [] }

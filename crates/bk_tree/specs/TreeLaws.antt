@@ -1,4 +1,5 @@
 -- Each part of the tree has a tree count, which is one number, and it is additive. Statements alone; each is proved apart.
+-- Example (TreeExamples): of order 1 there is one word, 1. Up to it there is one, behind it none, and 1 + 0 is the count of all.
 use Rattle.std.specs.Prelude.{Option, Some, length, ℕ, ◌+◌, ◌<◌, ◌≡◌, ◌≤◌}
 use Rattle.bk_word.specs.Play.{IsLegal}
 use Rattle.bk_word.specs.Word.{Follows, Word, order_of}
