@@ -1,5 +1,5 @@
--- What is laid of the rectangle 3x2 after its first move, and the outline that depicts it.
-use Rattle.std.proofs.Common.{[], lit<, refl, ◌∷◌}
+-- What is laid of the rectangle 3x2 after its first move, the outline that depicts it, and which of two valleys is the first rise.
+use Rattle.std.proofs.Common.{[], arith, lit<, lit≤, refl, suc, zero, ◌∷◌}
 use Rattle.bk_tiling.proofs.ExampleTilings.{rectangle_3x2, square_at}
 use Rattle.bk_tiling.proofs.TilingTest.{tiling_from_test}
 use Rattle.bk_tiling.specs.Tiling.{IsTiling}
@@ -10,6 +10,7 @@ use Rattle.bk_lay.proofs.Steps.{move_depicts, start_depicts_nothing}
 use Rattle.bk_lay.proofs.WordTest.{by_tests, passes_as_valley}
 use Rattle.bk_lay.proofs.Words.{nothing_laid}
 use Rattle.bk_lay.specs.Depiction.{Depicts}
+use Rattle.bk_lay.specs.WordLaws.{NeverDeeperBefore}
 
 abbrev top : Segment
 top = record { x = 0; width = 3; level = 0 }
@@ -22,3 +23,13 @@ after_one : Depicts rectangle_3x2 (square_at 0 0 2 ∷ square_at 2 0 1 ∷ []) (
     (record { segments = (1 ∷ []) ∷ (2 ∷ []) ∷ []; signs = Under ∷ []; closed = [] ∷ []; hung = 0 ∷ 0 ∷ [] })
 after_one = (move_depicts rectangle_3x2 [] [] start top tiling-3x2 (nothing_laid rectangle_3x2 tiling-3x2)
     (start_depicts_nothing rectangle_3x2 tiling-3x2) (passes_as_valley 3 [] top (by_tests _ _ _ refl refl refl refl refl refl)) (lit< tt)).1
+
+-- under the squares 2 and 1 the columns 0 and 1 are filled to level 2, and column 2, the valley, to level 1
+first_rise : NeverDeeperBefore (square_at 0 0 2 ∷ square_at 2 0 1 ∷ []) (record { x = 2; width = 1; level = 1 })
+first_rise zero h = lit≤ tt
+first_rise (suc zero) h = lit≤ tt
+first_rise (suc (suc c)) h = absurd (omega (arith, h))
+
+-- under the squares 1, 2 and 1 column 1 is deeper than column 0, so the valley in column 3 is not the first
+later_rise : NeverDeeperBefore (square_at 0 0 1 ∷ square_at 1 0 2 ∷ square_at 3 0 1 ∷ []) (record { x = 3; width = 1; level = 1 }) → ⊥
+later_rise never = omega (arith, never zero (lit≤ tt))
