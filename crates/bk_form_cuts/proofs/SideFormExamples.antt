@@ -27,8 +27,8 @@ use Rattle.bk_form_cuts.specs.SidesOfTilings.{AgreeWith, HoldAfter, IsBottomOf, 
 use Rattle.bk_form_cuts.specs.Trace.{IsRuledOut}
 
 -- the form with these first coefficients
-abbrev form : List ℤ → Form
-form coefficients = coefficients ++ replicate (16 - length coefficients) (pos 0)
+abbrev form_of : List ℤ → Form
+form_of coefficients = coefficients ++ replicate (16 - length coefficients) (pos 0)
 
 abbrev first : Move
 first = two Under
@@ -40,27 +40,27 @@ second = move 2 (Above ∷ Above ∷ [])
 
 -- the squares that hang from the top end at their own sides, here called a and b
 abbrev first_bottoms : List Form
-first_bottoms = form (pos 1 ∷ []) ∷ form (pos 0 ∷ pos 1 ∷ []) ∷ []
+first_bottoms = form_of (pos 1 ∷ []) ∷ form_of (pos 0 ∷ pos 1 ∷ []) ∷ []
 
 bottoms_of_first : new_bottoms start first [] ≡ first_bottoms
 bottoms_of_first = refl
 
 -- under the square of side b hang squares of sides c and d: they end at b + c and b + d
 abbrev second_bottoms : List Form
-second_bottoms = form (pos 0 ∷ pos 1 ∷ pos 1 ∷ []) ∷ form (pos 0 ∷ pos 1 ∷ pos 0 ∷ pos 1 ∷ []) ∷ []
+second_bottoms = form_of (pos 0 ∷ pos 1 ∷ pos 1 ∷ []) ∷ form_of (pos 0 ∷ pos 1 ∷ pos 0 ∷ pos 1 ∷ []) ∷ []
 
 bottoms_of_second : new_bottoms (outline_of (first ∷ [])) second first_bottoms ≡ second_bottoms
 bottoms_of_second = refl
 
 -- at the left of the valley stands the bottom of the first square, at its right a wall
-levels_of_second : levels_along (outline_of (first ∷ [])) second first_bottoms ≡ form (pos 1 ∷ []) ∷ second_bottoms
+levels_of_second : levels_along (outline_of (first ∷ [])) second first_bottoms ≡ form_of (pos 1 ∷ []) ∷ second_bottoms
 levels_of_second = refl
 
-sum_of_two : sum_of_sides (3 ∷ 4 ∷ []) ≡ form (pos 0 ∷ pos 0 ∷ pos 1 ∷ pos 1 ∷ [])
+sum_of_two : sum_of_sides (3 ∷ 4 ∷ []) ≡ form_of (pos 0 ∷ pos 0 ∷ pos 1 ∷ pos 1 ∷ [])
 sum_of_two = refl
 
 -- the level of a segment is that of its first square
-level_of_two : level_of first_bottoms (2 ∷ 1 ∷ []) ≡ form (pos 0 ∷ pos 1 ∷ [])
+level_of_two : level_of first_bottoms (2 ∷ 1 ∷ []) ≡ form_of (pos 0 ∷ pos 1 ∷ [])
 level_of_two = refl
 
 top_level : level_of first_bottoms [] ≡ zero_form
@@ -95,13 +95,13 @@ same_sign : {s sign : Sign} → Some s ≡ Some sign → s ≡ sign
 same_sign e = cc
 
 -- 18 is less than 22, and 22 less than 23
-agree_with_sides : AgreeWith second.signs (form (pos 1 ∷ []) ∷ second_bottoms) sides
+agree_with_sides : AgreeWith second.signs (form_of (pos 1 ∷ []) ∷ second_bottoms) sides
 agree_with_sides zero sign e = subst (λ (s : Sign). Compares s (pos 18) (pos 22)) (same_sign e) (omega (arith, ints))
 agree_with_sides (suc zero) sign e = subst (λ (s : Sign). Compares s (pos 22) (pos 23)) (same_sign e) (omega (arith, ints))
 agree_with_sides (suc (suc i)) sign e = absurd (cc)
 
 -- 18 is not 22
-not_even : AgreeWith (Even ∷ Above ∷ []) (form (pos 1 ∷ []) ∷ second_bottoms) sides → ⊥
+not_even : AgreeWith (Even ∷ Above ∷ []) (form_of (pos 1 ∷ []) ∷ second_bottoms) sides → ⊥
 not_even agree = omega (arith, ints, agree zero Even refl)
 
 -- the width of the valley is 15 = 7 + 8, and the new squares end at 15 + 7 and 15 + 8

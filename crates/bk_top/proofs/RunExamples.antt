@@ -33,9 +33,9 @@ told_whole : IsToldText (codes "a\n") (Some (codes "0\n")) (Some (codes "0\na\n"
 told_whole = inl (refl, refl)
 
 -- nothing is read, and these bytes are written
-abbrev outside : List ℕ → Outside
-outside bytes = record { left = Some []; read_faults = 0; written = Some bytes; write_faults = 0; errors = Some []; error_faults = 0 }
+abbrev written_so_far : List ℕ → Outside
+written_so_far bytes = record { left = Some []; read_faults = 0; written = Some bytes; write_faults = 0; errors = Some []; error_faults = 0 }
 
-catalogue_appended : AppendsCatalogue 2 Imperfect (outside (codes "0\n"))
-    (outside (codes "0\n2 2x1 [1,1] ; 2e\n; end order 2 class imperfect listed 1\n"))
+catalogue_appended : AppendsCatalogue 2 Imperfect (written_so_far (codes "0\n"))
+    (written_so_far (codes "0\n2 2x1 [1,1] ; 2e\n; end order 2 class imperfect listed 1\n"))
 catalogue_appended = record { bytes = _; catalogue = whole_catalogue; appends = refl }
