@@ -1,5 +1,5 @@
 -- What the net of a word makes of it: its one primitive tiling, or that no tiling has the word.
--- Example (RealisedExamples of bk_skel): 2u.1e has the rectangle 3x2 of the squares 2, 1, 1.
+-- Example (WordAnswerExamples of bk_answer): 2u.1e has the rectangle 3x2 of the squares 2, 1, 1.
 use Rattle.std.specs.Prelude.{None, Option, Some, ◌≡◌}
 use Rattle.bk_tiling.specs.Scale.{IsPrimitiveTiling}
 use Rattle.bk_tiling.specs.Tiling.{IsTiling, Tiling}
