@@ -1,9 +1,9 @@
 -- Lines from the top around a move: the segments that it leaves keep their marks, and count for the bound as before.
 use Rattle.std.specs.List.{list_any}
-use Rattle.std.proofs.Common.{Bool, List, [], ap, arith, cond, drop, false, length, map, nat_eq, refl, replicate, slice_index_or, suc, take, true}
-use Rattle.std.proofs.Common.{zero, ℕ, ◌||◌, ◌++◌, ◌+◌, ◌-◌, ◌<◌, ◌∙◌, ◌∷◌, ◌≡◌, ◌≤◌}
-use Rattle.bk_word.specs.Outline.{IsLegalMove, Outline, start, valley_of, valley_place}
-use Rattle.bk_word.specs.Play.{IsLegal, after_move, new_squares, numbers_from, outline_of, segments_apart, signs_apart}
+use Rattle.std.proofs.Common.{Bool, List, [], ap, arith, cond, drop, false, length, map, refl, slice_index_or, suc, take, true}
+use Rattle.std.proofs.Common.{zero, ℕ, ◌||◌, ◌++◌, ◌+◌, ◌-◌, ◌<◌, ◌∷◌, ◌≡◌, ◌≤◌}
+use Rattle.bk_word.specs.Outline.{IsLegalMove, Outline, start, valley_place}
+use Rattle.bk_word.specs.Play.{IsLegal, after_move, new_squares, outline_of, segments_apart, signs_apart}
 use Rattle.bk_word.specs.Word.{Move, Word}
 use Rattle.bk_word.specs.declared.Sign.{Sign}
 use Rattle.bk_word.proofs.PlayLaws.{after-snoc, legal_front, legal_rest}

@@ -1,6 +1,6 @@
 -- Each network line is read as what it stands for.
 use Rattle.std.specs.Char.{digit_value}
-use Rattle.std.specs.Prelude.{List, None, Some, [], codes, if◌then◌else◌, nat_lt, option_map, ℕ, ◌*◌, ◌++◌, ◌+◌, ◌<◌, ◌∷◌, ◌≡◌}
+use Rattle.std.specs.Prelude.{List, None, Some, [], codes, nat_lt, option_map, ℕ, ◌*◌, ◌++◌, ◌+◌, ◌<◌, ◌∷◌, ◌≡◌}
 use Rattle.std.proofs.Common.{ap, append_assoc, arith, inl, inr, refl, sym, ◌∙◌}
 use Rattle.std.proofs.lemmas.Bool.{and_from, cond-true, lt-ltb}
 use Rattle.std.proofs.lemmas.List.{append-nil}

@@ -1,7 +1,7 @@
 -- Two tilings of one size and two squares tile a square.
 use Rattle.std.specs.List.{AllByRecursion}
 use Rattle.std.specs.Prelude.{map, slice_index_or}
-use Rattle.std.proofs.Common.{List, [], ap, arith, length, refl, subst, sym, zero-add, ℕ, ◌++◌, ◌+◌, ◌<◌, ◌^◌, ◌∙◌, ◌∷◌, ◌≡◌, ◌≤◌}
+use Rattle.std.proofs.Common.{List, [], ap, arith, length, refl, subst, sym, zero-add, ℕ, ◌++◌, ◌+◌, ◌<◌, ◌∙◌, ◌∷◌, ◌≡◌, ◌≤◌}
 use Rattle.std.proofs.lemmas.List.{append_assoc, length-append, length-map}
 use Rattle.std.proofs.lemmas.List.Elements.{All-from_recursion}
 use Rattle.bk_laws.proofs.AllOfLists.{all_append}
@@ -14,7 +14,7 @@ use Rattle.bk_tiling.proofs.OrderLaws.{in_code_order-length}
 use Rattle.bk_tiling.proofs.Sizes.{most_height, most_width}
 use Rattle.bk_tiling.specs.CodeOrder.{in_code_order}
 use Rattle.bk_tiling.specs.Kept.{IsKept, IsSide}
-use Rattle.bk_tiling.specs.Refusal.{HaveSides, IsAccepted, ShareNoCell, sized}
+use Rattle.bk_tiling.specs.Refusal.{HaveSides, ShareNoCell, sized}
 use Rattle.bk_tiling.specs.Scale.{moved_square}
 use Rattle.bk_tiling.specs.Tiling.{IsWithin, Rectangle, Tiles, Tiling, order, whole}
 use Rattle.bk_tiling.specs.declared.Square.{Square}

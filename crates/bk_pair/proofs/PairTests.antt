@@ -1,12 +1,12 @@
 -- The tests decide whether two tilings are laid together, and whether they join.
 use Rattle.std.specs.List.{list_any}
-use Rattle.std.specs.Prelude.{Bool, Err, IfErr, IfOk, Ok, Result, cond, count_by, false, nat_eq, nat_le, not, true}
-use Rattle.std.proofs.Common.{List, [], ap, arith, inl, inr, refl, sym, ℕ, ◌&&◌, ◌+◌, ◌<◌, ◌==◌, ◌||◌, ◌∙◌, ◌∷◌, ◌≡◌, ◌≤◌}
+use Rattle.std.specs.Prelude.{Bool, Err, IfErr, Ok, Result, cond, count_by, false, nat_eq, nat_le, not, true}
+use Rattle.std.proofs.Common.{List, [], ap, arith, inl, inr, refl, sym, ℕ, ◌&&◌, ◌+◌, ◌==◌, ◌||◌, ◌∙◌, ◌∷◌, ◌≡◌, ◌≤◌}
 use Rattle.std.proofs.lemmas.Bool.{cases_Bool, eq-eqb, eqb-true, true≢false}
 use Rattle.std.proofs.lemmas.Bool.Decides.{nat_tests}
 use Rattle.std.proofs.lemmas.List.Sums.{sum_by-cons}
 use Rattle.bk_tiling.specs.Tiling.{Tiling, order}
-use Rattle.bk_pair.specs.Pair.{ArePair, AreOneSize, CanBeLaid, IsLayingFault, IsPairFault, IsSharedSide, pair_sides}
+use Rattle.bk_pair.specs.Pair.{ArePair, CanBeLaid, IsLayingFault, IsPairFault, pair_sides}
 use Rattle.bk_pair.specs.PairTest.{TheTestsDecide, are_pair, can_be_laid, no_twice}
 use Rattle.bk_pair.specs.declared.PairFault.{PairFault}
 use Rattle.bk_pair.specs.declared.PairFault.TheVariants as faults

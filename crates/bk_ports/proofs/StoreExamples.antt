@@ -1,5 +1,5 @@
 -- Worked examples of sources and sinks in memory.
-use Rattle.std.proofs.Common.{◌≡◌, ℕ, List, [], ◌∷◌, Some, None, Ok, Err, Result, refl}
+use Rattle.std.proofs.Common.{◌≡◌, ℕ, List, [], ◌∷◌, Some, None, Ok, Err, refl}
 use Rattle.std.specs.Prelude.{codes}
 use Rattle.bk_ports.specs.Causes.{counted}
 use Rattle.bk_ports.specs.Stores.{Supply, given_count, after_read, limit_of, Store, kept_count, after_write}

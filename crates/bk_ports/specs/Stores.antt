@@ -1,7 +1,7 @@
 -- Sources and sinks in memory: what they hold, and what each call does.
 -- Example (StoreExamples): of `abcdef`, at most 4 bytes a call, a buffer of 3 bytes gets 3 and one of 9 gets 4; of `defg` a call
 -- that fails keeps `def` where its pair says 3.
-use Rattle.std.specs.Prelude.{ℕ, ◌+◌, ◌-◌, ◌^◌, ◌==◌, min, List, ◌++◌, length, take, drop, find, unwrap_or, Result, Ok, Err}
+use Rattle.std.specs.Prelude.{ℕ, ◌+◌, ◌-◌, ◌==◌, min, List, ◌++◌, length, take, drop, find, unwrap_or, Result, Ok, Err}
 use Rattle.std.specs.declared.option.Option.{Option}
 use Rattle.std.specs.Option.{option_map}
 use Rattle.bk_ports.specs.Causes.{counted}

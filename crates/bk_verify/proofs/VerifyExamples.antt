@@ -1,15 +1,14 @@
 -- A list of order 9 that others made: on line 1 the rectangle 33x32 turned and twice as large, on line 2 the square of one square,
 -- on line 3 the rectangle 33x32 as it is catalogued.
-use Rattle.std.specs.List.{AllByRecursion}
-use Rattle.std.specs.Prelude.{Contains, List, [], length, refl, ◌∷◌, ◌≡◌}
+use Rattle.std.specs.Prelude.{List, [], refl, ◌∷◌, ◌≡◌}
 use Rattle.std.proofs.Common.{arith, lit≤}
 use Rattle.bk_tiling.specs.Tiling.{Tiling, sides_of}
 use Rattle.bk_tiling.proofs.ExampleTilings.{rectangle_33x32, square_at, turned_33x32}
 use Rattle.bk_sym.specs.Canonical.{IsCanonicalOf}
 use Rattle.bk_sym.specs.declared.Turn.TheVariants.{FlipX, FlipY, Half, Same, Swap, SwapFlipX, SwapFlipY, SwapHalf}
-use Rattle.bk_verify.specs.Kept.{IsFed, IsKeptFrom, Kept, VerifierState}
+use Rattle.bk_verify.specs.Kept.{IsFed, VerifierState}
 use Rattle.bk_verify.specs.Stored.{kept_of}
-use Rattle.bk_verify.specs.Verify.{Accepted, IsFirstOf, IsForeign, IsOf}
+use Rattle.bk_verify.specs.Verify.{Accepted, IsFirstOf, IsForeign}
 use Rattle.bk_verify.specs.declared.verifier.Fed.TheVariants.{Foreign}
 use Rattle.bk_verify.proofs.Standing.{none_of_other_order}
 

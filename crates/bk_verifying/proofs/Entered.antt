@@ -1,20 +1,11 @@
 -- What stands written once a line is entered, or was begun.
-use Rattle.std.specs.List.{concat}
 use Rattle.std.specs.Prelude.{Option, take}
 use Rattle.std.specs.Io.KnownBytes.{Appends}
 use Rattle.std.proofs.KnownBytes.{Appends-nil}
-use Rattle.std.proofs.Common.{Bool, List, [], append-nil, false, subst, sym, true, ℕ, ◌+◌, ◌∙◌, ◌∷◌, ◌≡◌}
+use Rattle.std.proofs.Common.{Bool, List, [], append-nil, subst, sym, ℕ, ◌∙◌, ◌∷◌, ◌≡◌}
 use Rattle.bk_ports.specs.Causes.{AppendsPrefix}
-use Rattle.bk_tiling.specs.Tiling.{Tiling}
-use Rattle.bk_text.specs.CodeLine.{Skip}
 use Rattle.bk_lines.specs.Answer.{IsBegun, IsWritten}
-use Rattle.bk_report.specs.ListLines.{foreign_line, refused_line, repeats_line}
-use Rattle.bk_report.specs.declared.refusal.Refused.{Refused}
-use Rattle.bk_answer.specs.Item.{HasItem, HasTiling}
-use Rattle.bk_answer.specs.Refusing.{IsLineRefused}
-use Rattle.bk_verify.specs.Kept.{IsFed, VerifierState}
-use Rattle.bk_verify.specs.declared.verifier.Fed.{Fed}
-use Rattle.bk_verifying.specs.Entering.{EntersLine, after_fed, fed_pieces, feeds, no_item, refuses}
+use Rattle.bk_verifying.specs.Entering.{EntersLine}
 use Rattle.bk_verifying.specs.declared.entering.Verifying.{Verifying}
 
 -- the line is entered so, and what was written is this

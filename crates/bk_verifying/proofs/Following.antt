@@ -6,7 +6,7 @@ use Rattle.std.proofs.lemmas.List.Sums.{sum_by-cons}
 use Rattle.bk_laws.proofs.AllOfLists.{all_append}
 use Rattle.bk_tiling.specs.Tiling.{IsTiling, Tiling}
 use Rattle.bk_text.specs.CodeLine.{Flat, Item, Line, Skip}
-use Rattle.bk_lines.specs.Entering.{AreEntered, Entering}
+use Rattle.bk_lines.specs.Entering.{AreEntered}
 use Rattle.bk_lines.specs.Lines.{kept_front}
 use Rattle.bk_lines.specs.Reply.{Reply, text_of}
 use Rattle.bk_report.specs.declared.refusal.Refused.{Refused}
@@ -20,7 +20,7 @@ use Rattle.bk_verify.specs.VerifyLaws.{IsTrueOf, KeepsFirsts}
 use Rattle.bk_verify.specs.declared.verifier.Fed.{Fed}
 use Rattle.bk_verify.specs.declared.verifier.Fed.TheVariants.{Foreign, New, Repeats}
 use Rattle.bk_verifying.specs.Entering.{EntersLine, MayWantAt, after_fed, fed_pieces, feeds, no_item, refuses}
-use Rattle.bk_verifying.specs.Told.{AreEntries, AreTold, HasEntry, IsTold, Told, accepted, foreign, is_foreign, is_refused, is_repeat, no_line}
+use Rattle.bk_verifying.specs.Told.{AreEntries, AreTold, IsTold, Told, accepted, foreign, is_foreign, is_refused, is_repeat, no_line}
 use Rattle.bk_verifying.specs.Told.{nothing, passed, refused, repeats, texts_from, told_text}
 use Rattle.bk_verifying.specs.declared.entering.Verifying.{Verifying}
 

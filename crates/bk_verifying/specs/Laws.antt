@@ -1,7 +1,5 @@
 -- An empty line is passed over, and the counts stay below the number of the line.
 use Rattle.std.proofs.Common.{[], arith, false, inl, lit≤, refl, ℕ, ◌+◌}
-use Rattle.bk_text.specs.CodeLine.{Skip}
-use Rattle.bk_answer.specs.Item.{HasItem}
 use Rattle.bk_verifying.specs.Entering.{CountsAreBelow, EntersLine, no_item}
 use Rattle.bk_verifying.specs.declared.entering.Verifying.{Verifying}
 

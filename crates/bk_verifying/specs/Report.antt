@@ -3,7 +3,7 @@
 -- `; end order 9 members 2 missing 0 foreign 1 repeated 1 refused 0`, and there are two faults.
 use Rattle.std.specs.List.{AllByRecursion}
 use Rattle.std.specs.Prelude.{Contains, List, [], count_by, flat_map, length, ℕ, ⊤, ◌++◌, ◌+◌, ◌<◌, ◌≡◌, ◌⊎◌}
-use Rattle.bk_word.specs.Word.{Follows, Word}
+use Rattle.bk_word.specs.Word.{Follows}
 use Rattle.bk_word.specs.declared.Class.TheVariants.{Perfect}
 use Rattle.bk_catalogue.specs.Catalogue.{AreAscending, Entry, IsEntry}
 use Rattle.bk_report.specs.ListLines.{missing_line, verified_line}

@@ -1,14 +1,14 @@
 -- A walk through the catalogue: what is seen of it, and what it answers.
 -- Example (WalkExamples): of order 2 and the class imperfect, a walk from the word of no move gives the row of two squares first, and
 -- nothing after it; in the class perfect it gives nothing at all.
-use Rattle.std.specs.Prelude.{Bool, None, Option, Some, [], length, take, true, ℕ, ◌<◌, ◌^◌, ◌≡◌, ◌≤◌}
+use Rattle.std.specs.Prelude.{Bool, length, take, true, ℕ, ◌<◌, ◌^◌, ◌≡◌, ◌≤◌}
 use Rattle.bk_tiling.specs.Tiling.{Tiling}
 use Rattle.bk_word.specs.Play.{IsComplete}
 use Rattle.bk_word.specs.Word.{Follows, Word, order_of}
 use Rattle.bk_word.specs.declared.Class.{Class}
 use Rattle.bk_lay.specs.TilingWord.{IsWordOf}
 use Rattle.bk_word_net.specs.WideWord.{IsWideWord}
-use Rattle.bk_catalogue.specs.Catalogue.{Entry, IsEntry, IsMember}
+use Rattle.bk_catalogue.specs.Catalogue.{IsMember}
 use Rattle.bk_catalogue.specs.Following.{HasNoneAfter, HasNoneBetween}
 
 -- what is seen of a walk: its order and class, the word after which it goes on, whether it has ended, and how many moves

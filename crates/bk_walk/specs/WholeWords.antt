@@ -1,6 +1,5 @@
 -- What a complete word of the order tells.
 use Rattle.std.specs.Prelude.{◌≡◌}
-use Rattle.bk_tiling.specs.Tiling.{Tiling}
 use Rattle.bk_word.specs.Word.{Word, order_of}
 use Rattle.bk_word.specs.declared.Class.{Class}
 use Rattle.bk_lay.specs.TilingWord.{IsWordOf}

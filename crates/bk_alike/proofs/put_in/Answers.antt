@@ -1,4 +1,4 @@
-use Rattle.std.proofs.Common.{ap, List, ℕ, ◌++◌, ◌∙◌, ◌∷◌, []}
+use Rattle.std.proofs.Common.{ap, ◌++◌, ◌∙◌, ◌∷◌, []}
 use Rattle.bk_alike.proofs.Storing.{set_placed, set_same}
 use Rattle.bk_alike.proofs.put_in.Goals as goal
 

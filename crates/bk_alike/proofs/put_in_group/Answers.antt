@@ -1,7 +1,7 @@
 use Rattle.std.specs.List.{position_or_len}
 use Rattle.std.specs.Prelude.{map, not}
 use Rattle.std.specs.Result.{is_ok}
-use Rattle.std.proofs.Common.{List, [], ap, arith, length, sym, vec_len, ℕ, ◌++◌, ◌+◌, ◌∙◌, ◌∷◌, ◌≡◌, ◌≤◌, true, Bool}
+use Rattle.std.proofs.Common.{List, [], ap, arith, length, sym, vec_len, ℕ, ◌++◌, ◌+◌, ◌∙◌, ◌∷◌, ◌≡◌, ◌≤◌, true}
 use Rattle.std.specs.Prelude.{vec_capacity}
 use Rattle.std.proofs.lemmas.List.{length-map, map-append}
 use Rattle.bk_alike.specs.Alike.{size_eq}

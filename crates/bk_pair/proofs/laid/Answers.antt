@@ -1,11 +1,8 @@
-use Rattle.std.specs.List.{AllByRecursion}
-use Rattle.std.proofs.Common.{List, ap, subst, sym, ◌+◌, ◌∙◌, ◌≡◌}
+use Rattle.std.proofs.Common.{ap, subst, sym, ◌∙◌, ◌≡◌}
 use Rattle.bk_tiling.specs.CodeOrder.{in_code_order}
 use Rattle.bk_tiling.specs.Kept.{IsKept}
 use Rattle.bk_tiling.specs.Refusal.{HaveSides, ShareNoCell}
-use Rattle.bk_tiling.specs.Tiling.{Tiling}
-use Rattle.bk_tiling.specs.declared.Square.{Square}
-use Rattle.bk_pair.specs.Pair.{joined_square, laid_squares}
+use Rattle.bk_pair.specs.Pair.{laid_squares}
 use Rattle.bk_pair.proofs.LaidSquares.{apart, have_sides, kept_square, laid_items, made, room_left}
 use Rattle.bk_pair.proofs.laid.Goals as goal
 

@@ -1,4 +1,4 @@
-use Rattle.std.proofs.Common.{List, arith, length, subst, sym, ap}
+use Rattle.std.proofs.Common.{List, arith, length, ap}
 use Rattle.bk_tiling.specs.declared.Square.{Square}
 use Rattle.bk_pair.proofs.LaidSquares.{small_place}
 use Rattle.bk_pair.proofs.push_moved.Goals as goal

@@ -1,7 +1,7 @@
 use Rattle.std.specs.List.{position_or_len}
 use Rattle.std.specs.Prelude.{map, vec_capacity}
 use Rattle.std.specs.Result.{is_ok}
-use Rattle.std.proofs.Common.{List, [], ap, arith, length, subst, sym, vec_len, ℕ, ◌++◌, ◌+◌, ◌∙◌, ◌∷◌, ◌≡◌, ◌≤◌, ◌<◌}
+use Rattle.std.proofs.Common.{List, [], ap, arith, length, subst, sym, vec_len, ℕ, ◌++◌, ◌+◌, ◌∙◌, ◌∷◌, ◌≡◌, ◌≤◌}
 use Rattle.bk_alike.specs.Alike.{item_size, size_eq, with_size}
 use Rattle.bk_alike.specs.Grouped.{IsGrouped, with_place}
 use Rattle.bk_alike.specs.declared.item.KeptItem.{KeptItem}

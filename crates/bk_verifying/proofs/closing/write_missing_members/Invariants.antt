@@ -1,4 +1,4 @@
-use Rattle.std.proofs.Common.{[], ◌-◌, ◌^◌, ◌≡◌}
+use Rattle.std.proofs.Common.{◌-◌, ◌^◌, ◌≡◌}
 use Rattle.bk_verifying.specs.Listing.{IsListed}
 use Rattle.bk_verifying.proofs.closing.write_missing_members.Given as goal
 

@@ -1,6 +1,4 @@
-use Rattle.std.specs.Prelude.{Option}
 use Rattle.std.proofs.Common.{false, refl, subst, true, ◌+◌, ◌∙◌}
-use Rattle.bk_tiling.specs.Tiling.{Tiling}
 use Rattle.bk_lines.specs.Answer.{IsBegun}
 use Rattle.bk_report.specs.ListLines.{refused_line}
 use Rattle.bk_answer.specs.Item.{IsLaidLine}
