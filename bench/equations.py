@@ -22,13 +22,13 @@ from taken import compiled, taken
 ORDERS = range(9, 14)
 
 
-def instructions(program, order):
-    """How many instructions callgrind counts in the search for an order."""
-    command = ["valgrind", "--tool=callgrind", "--callgrind-out-file=/dev/null", program, str(order)]
+def counted(command):
+    """How many instructions callgrind counts in the run of a command."""
+    command = ["valgrind", "--tool=callgrind", "--callgrind-out-file=/dev/null", *command]
     run = subprocess.run(command, stdout=subprocess.DEVNULL, stderr=subprocess.PIPE, text=True, check=True)
     found = re.search(r"Collected : (\d+)", run.stderr)
     if found is None:
-        raise SystemExit(f"callgrind counts nothing of {program}")
+        raise SystemExit(f"callgrind counts nothing of {' '.join(command)}")
     return int(found.group(1))
 
 
@@ -62,7 +62,7 @@ def main():
         for order in ORDERS:
             runs = max(5, given.runs // 2 ** (order - 9))
             pushes, seconds = searched(peak, programs, order, runs)
-            counts = [instructions(program, order) for program in programs]
+            counts = [counted([program, str(order)]) for program in programs]
             more = 100 * (counts[1] / counts[0] - 1)
             print(
                 f"| {order} | {pushes[0]:,} | {pushes[1]:,} | {seconds[0]:.5f} | {seconds[1]:.5f} "
