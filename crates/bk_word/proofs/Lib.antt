@@ -1,6 +1,7 @@
 -- words: their order, worked examples, how the code stores them
 pub mod WordOrder
 pub mod WordExamples
+pub mod SignLaws
 pub mod StoredBytes
 pub mod StoredOrder
 pub mod CountPlaces

@@ -1,5 +1,6 @@
 -- What the crate says.
 pub mod Word
+pub mod Signs
 pub mod Outline
 pub mod Play
 pub mod OwnSigns

@@ -11,6 +11,7 @@ ghost use Rattle.bk_word.specs.WordTextLaws.{ATextIsOfOneWord, AWrittenWordIsRea
 mod item;
 mod reader;
 mod reading;
+mod signs;
 mod storage;
 mod writer;
 

@@ -1,0 +1,50 @@
+//! Tests of a sign.
+#![tactic(auto)]
+
+ghost use Rattle.std.specs.Prelude.{◌≡◌};
+ghost use Rattle.bk_word.specs.Play.{parts};
+ghost use Rattle.bk_word.specs.Signs.{is_above, is_even, is_under};
+
+use crate::Sign;
+
+impl Sign {
+    /// Whether the left one of the two bottoms is higher.
+    pub fn is_above(self) -> bool
+        ensures { result ≡ is_above self }
+    {
+        match self {
+            Sign::Above => true,
+            Sign::Even | Sign::Under => false,
+        }
+    }
+
+    /// Whether both bottoms are level.
+    pub fn is_even(self) -> bool
+        ensures { result ≡ is_even self }
+    {
+        match self {
+            Sign::Even => true,
+            Sign::Above | Sign::Under => false,
+        }
+    }
+
+    /// Whether the left one of the two bottoms is lower.
+    pub fn is_under(self) -> bool
+        ensures { result ≡ is_under self }
+    {
+        match self {
+            Sign::Under => true,
+            Sign::Above | Sign::Even => false,
+        }
+    }
+
+    /// Whether the sign stays between two segments: the two bottoms aren't level.
+    pub fn parts(self) -> bool
+        ensures { result ≡ parts self }
+    {
+        match self {
+            Sign::Even => false,
+            Sign::Above | Sign::Under => true,
+        }
+    }
+}
