@@ -5,10 +5,11 @@ use Rattle.std.proofs.lemmas.List.{append-nil, take-append-drop}
 use Rattle.std.proofs.lemmas.List.Sums.{sum_by-append, sum_by-cons}
 use Rattle.bk_word.specs.Outline.{Outline, valley_place}
 use Rattle.bk_word.specs.Play.{after_move, parts}
+use Rattle.bk_word.specs.Signs.{is_above, is_under}
 use Rattle.bk_word.specs.Word.{Move}
 use Rattle.bk_word.specs.declared.Sign.{Sign}
 use Rattle.bk_word.specs.declared.Sign.TheVariants.{Above, Even, Under}
-use Rattle.bk_bounds.specs.ClosingBound.{closing_bound, is_above, is_under}
+use Rattle.bk_bounds.specs.ClosingBound.{closing_bound}
 
 -- how many signs are above, and how many under
 abbrev pub aboves : List Sign → ℕ

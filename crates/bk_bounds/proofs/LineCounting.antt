@@ -3,11 +3,11 @@ use Rattle.std.specs.List.{list_any, sum}
 use Rattle.std.proofs.Common.{Bool, List, [], ap, arith, cond, drop, false, length, max, refl, slice_index_or, sym, take, ℕ, ◌||◌, ◌+◌, ◌<◌, ◌∙◌, ◌∷◌, ◌≡◌, ◌≤◌}
 use Rattle.std.proofs.lemmas.List.Sums.{sum_by-cons}
 use Rattle.std.proofs.lemmas.List.{drop-drop, drop_all, drop_more}
+use Rattle.bk_word.specs.Signs.{is_above, is_under}
 use Rattle.bk_word.specs.declared.Sign.{Sign}
 use Rattle.bk_word.specs.declared.Sign.TheVariants.{Above, Even, Under}
 use Rattle.bk_bounds.proofs.ClosingLaws.{at_most_one, unders, unders-cons}
 use Rattle.bk_bounds.proofs.JoinedLines.{bound_unders}
-use Rattle.bk_bounds.specs.ClosingBound.{is_above, is_under}
 use Rattle.bk_bounds.specs.VerticalCut.{begins_on_line, line_bound, next_on_line, on_line, segments_of, touched}
 
 -- the greatest number of closings of the segments up to a place by the signs up to it, and how many of these are above

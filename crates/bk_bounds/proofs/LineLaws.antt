@@ -4,11 +4,12 @@ use Rattle.std.proofs.Common.{Bool, List, [], ap, arith, cond, drop, false, inl,
 use Rattle.std.proofs.Common.{◌+◌, ◌<◌, ◌∷◌, ◌≡◌, ◌≤◌, ◌⊎◌}
 use Rattle.std.proofs.lemmas.List.Sums.{sum_by-take-drop}
 use Rattle.std.proofs.lemmas.Bool.{cases_lt}
+use Rattle.bk_word.specs.Signs.{is_above, is_under}
 use Rattle.bk_word.specs.declared.Sign.{Sign}
 use Rattle.bk_word.specs.declared.Sign.TheVariants.{Above}
 use Rattle.bk_bounds.proofs.ClosingLaws.{at_most_one, unders, unders-append, unders-cons}
 use Rattle.bk_bounds.proofs.MostClosings.{closings-first, closings-next}
-use Rattle.bk_bounds.specs.ClosingBound.{closings, is_above, is_under}
+use Rattle.bk_bounds.specs.ClosingBound.{closings}
 use Rattle.bk_bounds.specs.VerticalCut.{IsMostMarked, TheLineBoundIsMost, begins_on_line, line_bound, next_on_line, on_line}
 use Rattle.bk_bounds.proofs.JoinedLines.{behind_bound, bound, bound_unders, more, or_more}
 

@@ -6,6 +6,7 @@ use Rattle.std.proofs.lemmas.List.{append_assoc, length-append, length-drop, len
 use Rattle.bk_laws.proofs.ListPlaces.{get_back, get_front}
 use Rattle.bk_word.specs.Outline.{IsLegalMove, Outline, valley_of, valley_place}
 use Rattle.bk_word.specs.Play.{AreLegalFrom, after_move, after_moves, new_squares, numbers_from, segments_apart, signs_apart}
+use Rattle.bk_word.specs.Signs.{is_above}
 use Rattle.bk_word.specs.Word.{Move, Word}
 use Rattle.bk_word.specs.declared.Sign.{Sign}
 use Rattle.bk_word.specs.declared.Sign.TheVariants.{Above, Even, Under}
@@ -15,7 +16,6 @@ use Rattle.bk_bounds.proofs.ClosingLaws.{AroundValley, around_valley, unders}
 use Rattle.bk_bounds.proofs.JoinedLines.{bound, joined_bound}
 use Rattle.bk_bounds.proofs.LineLaws.{from_first, from_last, from_valley}
 use Rattle.bk_bounds.proofs.SingleLaws.{same_length, wall_test}
-use Rattle.bk_bounds.specs.ClosingBound.{is_above}
 use Rattle.bk_bounds.specs.VerticalCut.{begins_on_line, lines_after, lines_along, next_on_line, on_line}
 
 -- what a move needs on the lists

@@ -1,9 +1,10 @@
 -- The closing bound is the greatest number of closings.
 use Rattle.std.proofs.Common.{List, [], arith, cond, inl, inr, length, refl, suc, take, zero, ℕ, ◌+◌, ◌<◌, ◌∷◌, ◌≡◌, ◌≤◌, ◌⊎◌}
 use Rattle.std.proofs.lemmas.Bool.{cases_lt}
+use Rattle.bk_word.specs.Signs.{is_above}
 use Rattle.bk_word.specs.declared.Sign.{Sign}
 use Rattle.bk_word.specs.declared.Sign.TheVariants.{Above, Even, Under}
-use Rattle.bk_bounds.specs.ClosingBound.{IsMostClosings, TheClosingBoundIsMost, closing_bound, closings, is_above}
+use Rattle.bk_bounds.specs.ClosingBound.{IsMostClosings, TheClosingBoundIsMost, closing_bound, closings}
 use Rattle.bk_bounds.proofs.ClosingLaws.{aboves-cons, bound_unders, unders, unders-cons}
 
 -- ---- it is the greatest number of closings

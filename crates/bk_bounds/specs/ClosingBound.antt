@@ -1,21 +1,10 @@
 -- How many squares are still to hang at least, by the signs between the open segments: a segment that ends above a
 -- neighbour is closed by a later move.
 -- Example (BoundExamples): of four segments with the signs under, above, under between them two must be closed.
-use Rattle.std.specs.Prelude.{Bool, List, [], count_by, drop, false, length, max, suc, take, true, ℕ, ◌+◌, ◌∷◌, ◌≡◌, ◌≤◌}
+use Rattle.std.specs.Prelude.{List, [], count_by, drop, length, max, suc, take, ℕ, ◌+◌, ◌∷◌, ◌≡◌, ◌≤◌}
+use Rattle.bk_word.specs.Signs.{is_above, is_under}
 use Rattle.bk_word.specs.declared.Sign.{Sign}
 use Rattle.bk_word.specs.declared.Sign.TheVariants.{Above, Even, Under}
-
--- the segment at the left of the sign ends above that at its right
-abbrev pub is_above : Sign → Bool
-is_above Above = true
-is_above Even = false
-is_above Under = false
-
--- the segment at the left of the sign ends below that at its right
-abbrev pub is_under : Sign → Bool
-is_under Above = false
-is_under Even = false
-is_under Under = true
 
 -- how many segments end above their neighbour on the side of segment i: the left ones of the signs above at the left
 -- of it, and the right ones of the signs under at the right of it

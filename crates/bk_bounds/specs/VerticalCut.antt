@@ -13,9 +13,10 @@ use Rattle.std.specs.Prelude.{Bool, List, [], cond, count_by, drop, false, lengt
 use Rattle.std.specs.Prelude.{◌-◌, ◌<◌, ◌∷◌, ◌≡◌, ◌≤◌}
 use Rattle.bk_word.specs.Outline.{Outline, start, valley_of}
 use Rattle.bk_word.specs.Play.{IsLegal, after_move, outline_of}
+use Rattle.bk_word.specs.Signs.{is_above, is_under}
 use Rattle.bk_word.specs.Word.{Move, Word}
 use Rattle.bk_word.specs.declared.Sign.{Sign}
-use Rattle.bk_bounds.specs.ClosingBound.{closings, is_above, is_under}
+use Rattle.bk_bounds.specs.ClosingBound.{closings}
 
 -- whether the left edge of this square lies on a line, where the list says it of all squares in the order of their
 -- numbers, from 1

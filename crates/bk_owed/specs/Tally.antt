@@ -1,7 +1,8 @@
 -- The closing bound of signs, counted sign by sign.
 use Rattle.std.specs.Prelude.{List, count_by, max, ℕ, ◌+◌, ◌≡◌}
+use Rattle.bk_word.specs.Signs.{is_above, is_under}
 use Rattle.bk_word.specs.declared.Sign.{Sign}
-use Rattle.bk_bounds.specs.ClosingBound.{closing_bound, is_above, is_under}
+use Rattle.bk_bounds.specs.ClosingBound.{closing_bound}
 
 -- the closing bound of the signs, and how many of them are above
 pub record IsTally (signs : List Sign) (bound aboves : ℕ) : Type 0 where

@@ -3,8 +3,9 @@
 
 ghost use Rattle.std.specs.Prelude.{IfNone, IfSome, IsTrue, List, [], count_by, drop, length, take, true, ℕ, ◌++◌, ◌+◌, ◌<◌, ◌^◌, ◌∷◌, ◌≡◌, ◌≤◌};
 ghost use Rattle.bk_word.specs.Outline.{valley_place};
+ghost use Rattle.bk_word.specs.Signs.{is_under};
 ghost use Rattle.bk_word.specs.declared.Sign.{Sign as SeenSign};
-ghost use Rattle.bk_bounds.specs.ClosingBound.{closing_bound as bound_of, is_under};
+ghost use Rattle.bk_bounds.specs.ClosingBound.{closing_bound as bound_of};
 ghost use Rattle.bk_owed.specs.Tally.{IsRaisedTally, IsTally};
 
 use bk_word::Sign;
@@ -134,16 +135,6 @@ pub fn unders_behind(signs: &[Sign], place: usize) -> usize
     }
     signs[place + 1..]
         .iter()
-        .filter(|sign| is_under(**sign))
+        .filter(|sign| sign.is_under())
         .count()
-}
-
-// Whether the left one of two bottoms is lower.
-fn is_under(sign: Sign) -> bool
-    ensures { result ≡ is_under sign }
-{
-    match sign {
-        Sign::Under => true,
-        Sign::Above | Sign::Even => false,
-    }
 }
