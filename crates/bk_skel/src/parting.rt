@@ -6,7 +6,7 @@ ghost use Rattle.bk_word.specs.Play.{parts};
 ghost use Rattle.bk_skel.specs.Skeleton.{first_touched, joined_sizes, open_sides, signs_before, sizes_after, sizes_before};
 
 use crate::splicing::{make_room, splice};
-use crate::turns::{MoveRecord, parts};
+use crate::turns::MoveRecord;
 use arrayvec::ArrayVec;
 use bk_word::{LARGEST_ORDER, Sign};
 
@@ -84,7 +84,7 @@ fn put_signs(room: &mut [Sign], moved: &[Sign])
 {
     let mut place = 0;
     for sign in moved {
-        if parts(*sign) {
+        if sign.parts() {
             room[place] = *sign;
             place += 1;
         }
@@ -108,7 +108,7 @@ fn put_sizes(room: &mut [u8], moved: &[Sign], first: u8, last: u8)
     let mut size = first;
     for (i, sign) in moved.iter().enumerate() {
         let next = size_of_next(i + 1 == moved.len(), last);
-        if parts(*sign) {
+        if sign.parts() {
             room[place] = size;
             place += 1;
             size = next;

@@ -116,15 +116,5 @@ fn right_of(sizes: &[u8], place: usize, last: usize) -> u8
 fn parting(moved: &[Sign]) -> usize
     ensures { result ≡ count_by parts moved.now }
 {
-    moved.iter().filter(|sign| parts(**sign)).count()
-}
-
-// Whether the sign stays between two segments.
-pub(crate) fn parts(sign: Sign) -> bool
-    ensures { result ≡ parts sign }
-{
-    match sign {
-        Sign::Even => false,
-        Sign::Above | Sign::Under => true,
-    }
+    moved.iter().filter(|sign| sign.parts()).count()
 }
