@@ -2,9 +2,9 @@
 use Rattle.std.specs.Prelude.{Bool, List, cond, count_by, drop, false, length, map, slice_index_or, take, true, ℕ, ◌++◌, ◌+◌, ◌-◌, ◌<◌, ◌≡◌, ◌≤◌}
 use Rattle.bk_word.specs.Outline.{Outline, has_left_wall, has_right_wall, open_side, valley_place}
 use Rattle.bk_word.specs.Play.{outline_of}
+use Rattle.bk_word.specs.Signs.{is_under}
 use Rattle.bk_word.specs.Word.{Word, order_of}
 use Rattle.bk_word.specs.declared.Sign.{Sign}
-use Rattle.bk_bounds.specs.ClosingBound.{is_under}
 use Rattle.bk_bounds.specs.SingleValleys.{single_valley, single_valleys_from}
 use Rattle.bk_bounds.specs.VerticalCut.{line_bound, edges_on_lines, touched}
 use Rattle.bk_owed.specs.Lone.{IsLone}

@@ -61,13 +61,13 @@ pub(crate) fn bars(left_wall: bool, m: &Move, sign: Sign) -> bool
 {
     let place = m.signs.len();
     if !left_wall && place == 0 {
-        return is_above(sign);
+        return sign.is_above();
     }
     if begins_turned(m, sign) {
         return true;
     }
     if is_own(place, left_wall, m.count) {
-        return is_even(sign);
+        return sign.is_even();
     }
     false
 }
@@ -80,30 +80,18 @@ fn begins_turned(m: &Move, sign: Sign) -> bool
     if m.count < 2 || m.signs.len() != 1 {
         return false;
     }
-    if is_even(m.signs.as_slice()[0]) {
-        return is_above(sign);
+    are_even_and_above(m.signs.as_slice()[0], sign)
+}
+
+// Whether a sign is even and the next one above.
+fn are_even_and_above(sign: Sign, next: Sign) -> bool
+    ensures even { IsTrue result → sign ≡ Even }
+    ensures above { IsTrue result → next ≡ Above }
+{
+    if sign.is_even() {
+        return next.is_above();
     }
     false
-}
-
-// Whether the left one of two bottoms is higher.
-fn is_above(sign: Sign) -> bool
-    ensures { IsTrue result → sign ≡ Above }
-{
-    match sign {
-        Sign::Above => true,
-        Sign::Even | Sign::Under => false,
-    }
-}
-
-// Whether two bottoms are level.
-fn is_even(sign: Sign) -> bool
-    ensures { IsTrue result → sign ≡ Even }
-{
-    match sign {
-        Sign::Even => true,
-        Sign::Above | Sign::Under => false,
-    }
 }
 
 // Whether the sign at a place stands between two of a move's own squares.

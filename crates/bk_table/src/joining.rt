@@ -45,17 +45,7 @@ fn leaves_one_early(skel: &Skel, m: &Move, order: u8) -> bool
 fn any_parts(signs: &[Sign]) -> bool
     ensures { result ≡ list_any parts signs.now }
 {
-    signs.iter().any(|sign| parts(*sign))
-}
-
-// Whether the sign stays between two segments.
-fn parts(sign: Sign) -> bool
-    ensures { result ≡ parts sign }
-{
-    match sign {
-        Sign::Even => false,
-        Sign::Above | Sign::Under => true,
-    }
+    signs.iter().any(|sign| sign.parts())
 }
 
 // Whether, after a legal move of one square, two lines at the segment that it joins bound a part of the tiling.

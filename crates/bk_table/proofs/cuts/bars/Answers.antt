@@ -1,6 +1,7 @@
 use Rattle.std.proofs.Common.{ap, arith, length, sym, ◌∙◌, ◌≡◌}
 use Rattle.bk_word.specs.Outline.{open_side}
 use Rattle.bk_word.specs.Word.{Move}
+use Rattle.bk_word.proofs.SignLaws.{only_above, only_even}
 use Rattle.bk_table.proofs.Cutting.{above_is_barred, even_is_barred, turned_is_barred}
 use Rattle.bk_table.proofs.cuts.bars.Goals as goal
 
@@ -8,7 +9,8 @@ pub returns-then-place-eq0 : goal.returns-then-place-eq0
 returns-then-place-eq0 c = record {
   barren = λ yes n front other more wall count signs. above_is_barred n front c.args.m.now.signs c.args.sign other more
       (sym wall ∙ c.if-not-left_wall.true)
-      (omega (arith, c.if-place-eq0.true, c.len-place.ensures.value, ap (λ (m : Move). length m.signs) c.m.view_is)) (c.is_above.ensures yes) signs;
+      (omega (arith, c.if-place-eq0.true, c.len-place.ensures.value, ap (λ (m : Move). length m.signs) c.m.view_is))
+      (only_above c.args.sign (sym c.is_above.ensures ∙ yes)) signs;
 }
 
 long : (c : goal.After-is_even) → c.len-place.result ≡ length c.args.m.now.signs
@@ -24,7 +26,7 @@ returns-then-is_own c = record {
         ap open_side wall,
         ap (λ (m : Move). m.count) c.m.view_is,
         (c.is_own.ensures c.if-is_own.true).1,
-      )) (c.is_even.ensures yes) count signs;
+      )) (only_even c.args.sign (sym c.is_even.ensures ∙ yes)) count signs;
 }
 
 pub returns-then-begins_turned : goal.returns-then-begins_turned
