@@ -2,12 +2,11 @@
 -- square n, from 1, stands in column n - 1.
 -- Example (SideFormExamples): the word of the rectangle 33x32 begins with 2u.2aa. With a, b, c, d for the sides, the squares of the
 -- first move end at a and b, and those of the second at b + c and b + d; its signs compare a, b + c, b + d.
-use Rattle.std.specs.Prelude.{Bool, List, [], cond, count_by, false, fold, map, nat_le, pos, replicate, slice_index_or, true, ℕ, ◌++◌, ◌+◌, ◌-◌, ◌∷◌}
+use Rattle.std.specs.Prelude.{Bool, List, [], cond, count_by, fold, map, nat_le, pos, replicate, slice_index_or, ℕ, ◌++◌, ◌+◌, ◌-◌, ◌∷◌}
 use Rattle.bk_word.specs.Outline.{Outline, has_left_wall, has_right_wall, valley_of, valley_place}
 use Rattle.bk_word.specs.Play.{new_squares}
+use Rattle.bk_word.specs.Signs.{is_even}
 use Rattle.bk_word.specs.Word.{Move}
-use Rattle.bk_word.specs.declared.Sign.{Sign}
-use Rattle.bk_word.specs.declared.Sign.TheVariants.{Above, Even, Under}
 use Rattle.bk_forms.specs.Form.{Form, with_side}
 
 -- the form of zeros
@@ -42,12 +41,6 @@ right_level o bottoms = cond (has_right_wall o) []
 abbrev pub levels_along : Outline → Move → List Form → List Form
 levels_along o m bottoms = left_level o bottoms ++ new_bottoms o m bottoms ++ right_level o bottoms
 
--- whether both bottoms beside a sign are level
-abbrev pub is_level : Sign → Bool
-is_level Above = false
-is_level Even = true
-is_level Under = false
-
 -- whether a move brings more equations than squares: that of the widths, and one for each sign even
 abbrev pub brings_more : Move → Bool
-brings_more m = nat_le m.count (count_by is_level m.signs)
+brings_more m = nat_le m.count (count_by is_even m.signs)

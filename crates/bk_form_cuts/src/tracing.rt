@@ -5,7 +5,7 @@ ghost use Rattle.std.specs.Prelude.{IsTrue, List, [], length, take, ℕ, ◌++�
 ghost use Rattle.bk_word.specs.Outline.{IsLegalMove};
 ghost use Rattle.bk_word.specs.Play.{outline_of};
 ghost use Rattle.bk_word.specs.Word.{order_of};
-ghost use Rattle.bk_form_cuts.specs.SideForms.{brings_more, is_level};
+ghost use Rattle.bk_form_cuts.specs.SideForms.{brings_more};
 ghost use Rattle.bk_form_cuts.specs.Trace.{IsRuledOut, IsTraceOf};
 
 use crate::asking::{compares_otherwise, contradicts, has_equal_sides};
@@ -13,7 +13,7 @@ use crate::levels::{FOLLOWED, level_of, levels_along, new_numbers, push_bottoms}
 use arrayvec::ArrayVec;
 use bk_forms::{Form, Ledger};
 use bk_skel::Skel;
-use bk_word::{Class, Move, Sign};
+use bk_word::{Class, Move};
 use std::marker::Model;
 
 // How many equations and squares there were before a move.
@@ -179,15 +179,5 @@ impl Tracing {
 fn binds_earlier(m: &Move) -> bool
     ensures { result ≡ brings_more m.now }
 {
-    m.signs.iter().filter(|sign| is_level(**sign)).count() >= usize::from(m.count)
-}
-
-// Whether both bottoms beside a sign are level.
-fn is_level(sign: Sign) -> bool
-    ensures { result ≡ is_level sign }
-{
-    match sign {
-        Sign::Even => true,
-        Sign::Above | Sign::Under => false,
-    }
+    m.signs.iter().filter(|sign| sign.is_even()).count() >= usize::from(m.count)
 }
