@@ -3,6 +3,7 @@ use Rattle.std.proofs.Common.{List, [], ap, arith, count_by, drop, subst, take, 
 use Rattle.std.proofs.Common.{◌++◌, ◌+◌, ◌-◌, ◌<◌, ◌∙◌, ◌∷◌, ◌≡◌}
 use Rattle.bk_word.specs.Outline.{Outline, start, valley_place}
 use Rattle.bk_word.specs.Play.{outline_of, signs_apart}
+use Rattle.bk_word.specs.Signs.{is_under}
 use Rattle.bk_word.specs.Word.{Move, Word, order_of}
 use Rattle.bk_word.specs.declared.Class.{Class}
 use Rattle.bk_word.specs.declared.Sign.{Sign}
@@ -13,7 +14,7 @@ use Rattle.bk_owed.proofs.TallyLaws.{front_owes}
 use Rattle.bk_walk.proofs.CutLaws.{cut_by_front, front_signs}
 use Rattle.bk_barren.proofs.CuttingBounds.{too_many_to_close_is_barren}
 use Rattle.bk_tree.proofs.MoveOrder.{Begins}
-use Rattle.bk_bounds.specs.ClosingBound.{closing_bound, is_under}
+use Rattle.bk_bounds.specs.ClosingBound.{closing_bound}
 use Rattle.bk_barren.specs.Cuts.{IsBarren}
 use Rattle.bk_walk.specs.MoveCuts.{IsCut}
 use Rattle.bk_tree.specs.NextMove.{move_after}

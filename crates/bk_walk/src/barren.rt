@@ -7,7 +7,6 @@ ghost use Rattle.bk_word.specs.Play.{outline_of};
 ghost use Rattle.bk_word.specs.Word.{order_of};
 ghost use Rattle.bk_word.specs.declared.Class.{Class};
 ghost use Rattle.bk_word.specs.declared.Class.TheVariants.{Perfect};
-ghost use Rattle.bk_word.specs.declared.Sign.TheVariants.{Above};
 ghost use Rattle.bk_barren.specs.Cuts.{IsBarren};
 ghost use Rattle.bk_walk.specs.MoveCuts.{GrowsByAtMostOne, IsCut, IsFrontEndingEven};
 
@@ -132,16 +131,6 @@ fn bars_even(class: Class, order: u8) -> bool
     }
 }
 
-// Whether the left one of two bottoms is higher.
-fn is_above(sign: Sign) -> bool
-    ensures { IsTrue result → sign ≡ Above }
-{
-    match sign {
-        Sign::Above => true,
-        Sign::Even | Sign::Under => false,
-    }
-}
-
 // How many signs there are up to the first even one between two of the move's own squares, where its own begin at `from`.
 fn first_even(m: &Move, from: usize) -> Option<usize>
     requires count { m.now.count < 17 }
@@ -179,7 +168,7 @@ fn skip_shorter(skel: &Skel, m: &mut Move) -> bool
     ensures near { GrowsByAtMostOne m.old m.new }
     ensures kept { result ≡ false → m.new ≡ m.old }
 {
-    if skel.moves() != 0 || m.count != 2 || !is_above(m.signs.as_slice()[0]) {
+    if skel.moves() != 0 || m.count != 2 || !m.signs.as_slice()[0].is_above() {
         return false;
     }
     next_move(m);

@@ -1,11 +1,12 @@
 use Rattle.std.proofs.Common.{List, ap, arith, count_by, drop, refl, subst, sym, take, ◌++◌, ◌+◌, ◌-◌, ◌<◌, ◌∙◌, ◌≡◌}
 use Rattle.bk_word.specs.Outline.{valley_place}
 use Rattle.bk_word.specs.Play.{outline_of}
+use Rattle.bk_word.specs.Signs.{is_under}
 use Rattle.bk_word.specs.Word.{Move, order_of}
 use Rattle.bk_word.specs.declared.Sign.{Sign}
 use Rattle.bk_walk.proofs.CutLaws.{after_near, front_signs}
 use Rattle.bk_walk.proofs.OwingLaws.{owing_cut}
-use Rattle.bk_bounds.specs.ClosingBound.{closing_bound, is_under}
+use Rattle.bk_bounds.specs.ClosingBound.{closing_bound}
 use Rattle.bk_walk.specs.MoveCuts.{GrowsByAtMostOne, IsCut}
 use Rattle.bk_tree.specs.NextMove.{move_after}
 use Rattle.bk_walk.proofs.owing.skip_owing.Goals as goal
