@@ -1,12 +1,14 @@
 //! The primitive tiling of a word, from the flow of its net.
 
 ghost use Rattle.std.specs.List.{AllByRecursion};
-ghost use Rattle.std.specs.Prelude.{All, Any, IfErr, IfNone, IfOk, IfSome, IsErr, IsOk, IsTrue, OnOk, length, map, nat_abs, pos, ◌<◌, ◌^◌, ◌↔◌, ◌≡◌, ◌≤◌, ◌≤ℤ◌};
+ghost use Rattle.std.specs.Prelude.{All, Any, IfErr, IfNone, IfOk, IfSome, IsErr, IsOk, IsTrue, None, OnOk, length, map, nat_abs, pos, ◌<◌, ◌<ℤ◌, ◌^◌, ◌↔◌, ◌≡◌, ◌≤◌, ◌≤ℤ◌};
 ghost use Rattle.bk_net.specs.Flow.{IsPrimitiveFlow};
+ghost use Rattle.bk_net.specs.Net.{HasNoLoose};
 ghost use Rattle.bk_tiling.specs.Kept.{IsSide};
 ghost use Rattle.bk_word.specs.Play.{IsComplete, IsLegal};
 ghost use Rattle.bk_word.specs.Word.{order_of};
 ghost use Rattle.bk_skel.specs.SolveRefusal.{IsFirstIllegal, IsSolveFault};
+ghost use Rattle.bk_skel.specs.Unfit.{HasUnfitCurrent};
 ghost use Rattle.bk_word_net.specs.Realised.{IsRealised};
 ghost use Rattle.bk_word_net.specs.WideWord.{HasLargeCurrent, IsWideWord};
 ghost use Rattle.bk_word_net.specs.WordNet.{net_of_word};
@@ -14,8 +16,9 @@ ghost use Rattle.bk_word_net.specs.WordNet.{net_of_word};
 use crate::placing::placed;
 use crate::skeleton::Skel;
 use arrayvec::ArrayVec;
-use bk_flow::{Flow, FlowFault, solve, solve_small};
+use bk_flow::{Flow, FlowFault, solve, solve_small, whole_flow};
 use bk_frac::Wide;
+use bk_net::Net;
 use bk_tiling::{LONGEST_SIDE, MOST_SQUARES, Tiling};
 use bk_word::{INLINE_ORDER, Word};
 use std::alloc::Global;
@@ -48,6 +51,35 @@ pub fn realise_small(skel: &Skel) -> Result<Option<Tiling>, Wide>
         Ok(flow) => realised(skel, &flow),
         Err(Wide) => unreachable!(),
     }
+}
+
+/// Whether whole numbers of 32 bits tell of the word of a closed skeleton of at most 16 squares that no tiling has it: a current of
+/// its net's flow is less than 1, and so no side. It takes no memory, and no room for a tiling. (Own.)
+pub fn lacks_sides(skel: &Skel) -> bool
+    requires closed { IsComplete skel.now }
+    requires few { order_of skel.now ≤ 16 }
+    ensures { IsTrue result → IsRealised skel.now None }
+{
+    has_unfit(&skel.net())
+}
+
+// Whether whole numbers of 32 bits tell that a current of the net's primitive flow is less than 1, and so no side.
+fn has_unfit(net: &Net) -> bool
+    requires few { length net.now.wires ≤ 16 }
+    requires joined { HasNoLoose net.now }
+    ensures { IsTrue result → HasUnfitCurrent net.now }
+{
+    match whole_flow(net) {
+        Some(flow) => has_below_one(flow.currents()),
+        None => false,
+    }
+}
+
+// Whether a current is less than 1.
+fn has_below_one(currents: &[i32]) -> bool
+    ensures { IsTrue result → Any (λ c. c <ℤ pos 1) currents.now }
+{
+    currents.iter().any(|current| *current < 1)
 }
 
 /// The primitive tiling that has a word of at least one move; no other has it (Brooks, Smith, Stone and Tutte 1940). It is

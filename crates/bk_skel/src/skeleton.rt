@@ -229,16 +229,26 @@ impl Skel {
         requires { i < length self.now }
         ensures { slice_get self.now i ≡ Some result }
     {
+        let mut m = Move {
+            count: 0,
+            signs: ArrayVec::new(),
+        };
+        self.read_move(i, &mut m);
+        m
+    }
+
+    /// Makes of a move the one at place i, from 0, in the room that is there.
+    pub fn read_move(&self, i: usize, m: &mut Move)
+        requires { i < length self.now }
+        ensures { slice_get self.now i ≡ Some m.new }
+    {
         let turn = self.turns[i];
-        let mut signs = ArrayVec::new();
+        m.count = turn.count;
+        m.signs.clear();
         append(
-            &mut signs,
+            &mut m.signs,
             &self.played[usize::from(turn.from)..usize::from(turn.to)],
         );
-        Move {
-            count: turn.count,
-            signs,
-        }
     }
 
     /// How many squares the move at place i, from 0, hangs.

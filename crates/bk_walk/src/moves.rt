@@ -17,6 +17,14 @@ pub(crate) fn first_move() -> Move
     }
 }
 
+// Makes of a move the one that no legal one is before, in the room that is there.
+pub(crate) fn begin_anew(m: &mut Move)
+    ensures { m.new ≡ first_of_all }
+{
+    m.count = 1;
+    m.signs.clear();
+}
+
 // Makes of the signs those that are next after all that begin with them: raises the last that isn't under, and drops those
 // behind it. Where all are under, it drops all and answers false.
 fn raise(signs: &mut ArrayVec<Sign, 201>) -> bool

@@ -11,7 +11,7 @@ ghost use Rattle.bk_walk.specs.Search.{Finds, IsClimbed, IsSearchState, PushesGr
 use crate::barren::{is_barren, skip};
 use crate::judging::{WordVerdict, judge};
 use crate::lined::LinedSkel;
-use crate::moves::{first_move, least_legal_from, next_move};
+use crate::moves::{begin_anew, least_legal_from, next_move};
 use bk_skel::{Steps, open_side};
 use bk_tiling::Tiling;
 use bk_word::{Class, Move};
@@ -97,7 +97,7 @@ fn search_step<L: Ledger>(
         next_move(next);
         return Went::On;
     }
-    *next = first_move();
+    begin_anew(next);
     if is_complete_of(lined, order) {
         Went::Complete
     } else {
@@ -125,7 +125,7 @@ fn climb(lined: &mut LinedSkel, next: &mut Move) -> bool
     if moves == 0 {
         return false;
     }
-    *next = lined.skel().get(moves - 1);
+    lined.skel().read_move(moves - 1, next);
     lined.pop();
     next_move(next);
     true

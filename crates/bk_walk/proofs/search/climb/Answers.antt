@@ -5,25 +5,25 @@ use Rattle.bk_walk.proofs.search.climb.Goals as goal
 
 pub next_move-requires-clause-count : goal.next_move-requires-clause-count
 next_move-requires-clause-count c =
-    let was = taken_last c.args.lined.now c.pop.new.self c.get.result c.moves-moves.result
+    let was = taken_last c.args.lined.now c.pop.new.self c.read_move.new.m c.moves-moves.result
     (c.moves-moves.ensures.value ∙ ap length c.skel.ensures.value) (omega (arith, c.if-moves-eq0.false))
-    (ap (λ (w : Word). slice_get w (c.moves-moves.result - 1)) (sym c.skel-2.ensures.value) ∙ c.get.ensures) c.pop.ensures in
-    let last : IsLastMove c.pop.new.self c.get.result = last_move c.args.lined.now c.pop.new.self c.get.result c.skel.ensures.legal c.requires.small was in
+    (ap (λ (w : Word). slice_get w (c.moves-moves.result - 1)) (sym c.skel-2.ensures.value) ∙ c.read_move.ensures) c.pop.ensures in
+    let last : IsLastMove c.pop.new.self c.read_move.new.m = last_move c.args.lined.now c.pop.new.self c.read_move.new.m c.skel.ensures.legal c.requires.small was in
     omega (arith, last.count)
 
 pub next_move-requires-clause-signs : goal.next_move-requires-clause-signs
 next_move-requires-clause-signs c =
-    let was = taken_last c.args.lined.now c.pop.new.self c.get.result c.moves-moves.result
+    let was = taken_last c.args.lined.now c.pop.new.self c.read_move.new.m c.moves-moves.result
     (c.moves-moves.ensures.value ∙ ap length c.skel.ensures.value) (omega (arith, c.if-moves-eq0.false))
-    (ap (λ (w : Word). slice_get w (c.moves-moves.result - 1)) (sym c.skel-2.ensures.value) ∙ c.get.ensures) c.pop.ensures in
-    let last : IsLastMove c.pop.new.self c.get.result = last_move c.args.lined.now c.pop.new.self c.get.result c.skel.ensures.legal c.requires.small was in
+    (ap (λ (w : Word). slice_get w (c.moves-moves.result - 1)) (sym c.skel-2.ensures.value) ∙ c.read_move.ensures) c.pop.ensures in
+    let last : IsLastMove c.pop.new.self c.read_move.new.m = last_move c.args.lined.now c.pop.new.self c.read_move.new.m c.skel.ensures.legal c.requires.small was in
     omega (arith, last.signs)
 
 pub returns-clause-on : goal.returns-clause-on
 returns-clause-on c _ = record {
-  last = c.get.result;
-  was = taken_last c.args.lined.now c.pop.new.self c.get.result c.moves-moves.result
+  last = c.read_move.new.m;
+  was = taken_last c.args.lined.now c.pop.new.self c.read_move.new.m c.moves-moves.result
       (c.moves-moves.ensures.value ∙ ap length c.skel.ensures.value) (omega (arith, c.if-moves-eq0.false))
-      (ap (λ (w : Word). slice_get w (c.moves-moves.result - 1)) (sym c.skel-2.ensures.value) ∙ c.get.ensures) c.pop.ensures;
+      (ap (λ (w : Word). slice_get w (c.moves-moves.result - 1)) (sym c.skel-2.ensures.value) ∙ c.read_move.ensures) c.pop.ensures;
   next = c.next_move.ensures;
 }

@@ -1,13 +1,10 @@
-use Rattle.std.proofs.Common.{[], ap, arith, length, subst, sym, ℕ, ◌++◌, ◌+◌, ◌-◌, ◌∙◌, ◌∷◌, ◌≡◌, ◌≤◌}
+use Rattle.std.proofs.Common.{ap, arith, length, subst, sym, ℕ, ◌+◌, ◌-◌, ◌∙◌, ◌≡◌, ◌≤◌}
 use Rattle.bk_word.specs.Outline.{IsLegalMove}
 use Rattle.bk_word.specs.Play.{outline_of}
 use Rattle.bk_word.specs.Word.{Move, order_of}
 use Rattle.bk_walk.proofs.Standing.{step_climbs, step_cuts, step_ends, step_goes_down, step_least, step_reaches, step_signs, step_turns_back}
 use Rattle.bk_tree.specs.NextMove.{fitted, open_sides}
-use Rattle.bk_walk.specs.Search.{StepLeadsTo}
-use Rattle.bk_walk.specs.declared.search.Went.{Went}
 use Rattle.bk_walk.proofs.search.search_step.Goals as goal
-use Rattle.bk_walk.proofs.search.search_step.Goals.{else-is_complete_of, then-is_complete_of}
 
 pub returns-then-climb-clause-leads : goal.returns-then-climb-clause-leads
 returns-then-climb-clause-leads g c = step_climbs c.args.order c.args.class c.args.lined.now c.args.next.now c.least_legal_from.new.m c.requires.order
@@ -87,33 +84,30 @@ returns-then-is_barren-clause-leads g c =
     small c.go_down.new.lined c.go_down.ensures.moves (c.go_down.new.steps - c.args.steps.now) (omega (arith, c.go_down.ensures.step)) c.pop.new.self
     c.next_move.new.m c.pop.ensures c.next_move.ensures (c.is_barren.ensures c.if-is_barren.true c.args.class)
 
-pub returns-clause-leads : goal.returns-clause-leads
-returns-clause-leads g c =
+pub returns-then-is_complete_of-clause-leads : goal.returns-then-is_complete_of-clause-leads
+returns-then-is_complete_of-clause-leads g c =
     let fit = fits c.skip.new.m c.least_legal_from.new.m c.args.next.now c.open_sides.result (open_sides (outline_of c.args.lined.now))
     (c.skip.ensures.kept c.if-skip.false) c.least_legal_from.ensures c.open_sides.ensures.value in
     let same : c.skip.new.m ≡ c.least_legal_from.new.m = c.skip.ensures.kept c.if-skip.false in
     let small : order_of c.args.lined.now + c.skip.new.m.count ≤ c.args.order =
     (let v = c.order.ensures.value ∙ ap order_of c.skel.ensures.value in let count = ap (λ (m : Move). m.count) c.next.view_is in
     omega (arith, ap (λ (m : Move). m.count) same, c.if-order-from.false, c.from.ensures, c.from-2.ensures)) in
-    let first = c.next-3.view_is ∙ c.first_move.ensures in
-    let one : c.go_down.new.steps - c.args.steps.now ≤ 1 = omega (arith, c.go_down.ensures.step) in
-    elim c.if-is_complete_of.branch [
-      | then-is_complete_of w ↦ subst
-          (λ (r : Went). StepLeadsTo c.args.order c.args.class (c.args.lined.now ++ c.args.next.now ∷ []) c.go_down.new.lined
-          (record { count = c.next-3.inside.count; signs = c.next-3.inside.signs.items }) (c.go_down.new.steps - c.args.steps.now) r)
-          (sym w.result-is)
-          (let whole = c.is_complete_of.ensures.whole w.if-is_complete_of.true in (
-            step_reaches c.args.order c.args.class c.args.lined.now c.args.next.now c.skip.new.m c.requires.order c.requires.stand fit small
-                c.go_down.new.lined c.go_down.ensures.moves (c.go_down.new.steps - c.args.steps.now) one,
-            whole.0,
-            whole.1,
-            first,
-          ))
-      | else-is_complete_of w ↦ subst
-          (λ (r : Went). StepLeadsTo c.args.order c.args.class (c.args.lined.now ++ c.args.next.now ∷ []) c.go_down.new.lined
-          (record { count = c.next-3.inside.count; signs = c.next-3.inside.signs.items }) (c.go_down.new.steps - c.args.steps.now) r)
-          (sym w.result-is)
-          (step_goes_down c.args.order c.args.class c.args.lined.now c.args.next.now c.skip.new.m c.requires.order c.requires.stand fit
-          small c.go_down.new.lined c.go_down.ensures.moves (c.go_down.new.steps - c.args.steps.now) one
-          (record { count = c.next-3.inside.count; signs = c.next-3.inside.signs.items }) first (c.is_complete_of.ensures.unready w.if-is_complete_of.false))
-    ]
+    let whole = c.is_complete_of.ensures.whole c.if-is_complete_of.true in (
+      step_reaches c.args.order c.args.class c.args.lined.now c.args.next.now c.skip.new.m c.requires.order c.requires.stand fit small
+          c.go_down.new.lined c.go_down.ensures.moves (c.go_down.new.steps - c.args.steps.now) (omega (arith, c.go_down.ensures.step)),
+      whole.0,
+      whole.1,
+      c.begin_anew.ensures,
+    )
+
+pub returns-else-is_complete_of-clause-leads : goal.returns-else-is_complete_of-clause-leads
+returns-else-is_complete_of-clause-leads g c =
+    let fit = fits c.skip.new.m c.least_legal_from.new.m c.args.next.now c.open_sides.result (open_sides (outline_of c.args.lined.now))
+    (c.skip.ensures.kept c.if-skip.false) c.least_legal_from.ensures c.open_sides.ensures.value in
+    let same : c.skip.new.m ≡ c.least_legal_from.new.m = c.skip.ensures.kept c.if-skip.false in
+    let small : order_of c.args.lined.now + c.skip.new.m.count ≤ c.args.order =
+    (let v = c.order.ensures.value ∙ ap order_of c.skel.ensures.value in let count = ap (λ (m : Move). m.count) c.next.view_is in
+    omega (arith, ap (λ (m : Move). m.count) same, c.if-order-from.false, c.from.ensures, c.from-2.ensures)) in
+    step_goes_down c.args.order c.args.class c.args.lined.now c.args.next.now c.skip.new.m c.requires.order c.requires.stand fit
+    small c.go_down.new.lined c.go_down.ensures.moves (c.go_down.new.steps - c.args.steps.now) (omega (arith, c.go_down.ensures.step))
+    c.begin_anew.new.m c.begin_anew.ensures (c.is_complete_of.ensures.unready c.if-is_complete_of.false)

@@ -4,7 +4,7 @@ use Rattle.bk_word.specs.declared.Sign.{Sign}
 use Rattle.bk_skel.proofs.SkelReads.{Spans, move_read, span_in}
 use Rattle.bk_skel.proofs.Wirings.{no_turn}
 use Rattle.bk_skel.specs.declared.turns.MoveRecord.{MoveRecord}
-use Rattle.bk_skel.proofs.skeleton.Skel.get.Goals as goal
+use Rattle.bk_skel.proofs.skeleton.Skel.read_move.Goals as goal
 
 pub slice_bounds-append-count : goal.slice_bounds-append-count
 slice_bounds-append-count c =
@@ -40,11 +40,11 @@ append-requires c =
     omega (arith, c.from.ensures, c.from-2.ensures, h.few, ap (λ (t : MoveRecord). t.from) e, ap (λ (t : MoveRecord). t.to) e) in
     let within : c.from-2.result ≤ length c.deref-2.result.now =
     omega (arith, c.from-2.ensures, h.within, ap (λ (t : MoveRecord). t.to) e, ap (length {A = Sign}) c.deref-2.ensures.0) in
-    let long : length c.new-signs.result.items + length (take (c.from-2.result - c.from.result) (drop c.from.result c.deref-2.result.now)) ≤ 201 = omega (
+    let long : length c.clear.new.self.items + length (take (c.from-2.result - c.from.result) (drop c.from.result c.deref-2.result.now)) ≤ 201 = omega (
       arith,
       few,
       within,
-      ap (length {A = Sign}) c.new-signs.ensures,
+      ap (length {A = Sign}) c.clear.ensures,
       length-take-le (c.from-2.result - c.from.result) (drop c.from.result c.deref-2.result.now)
           (omega (arith, within, length-drop c.from.result c.deref-2.result.now)),
     ) in
@@ -55,7 +55,7 @@ returns c =
     let e = ap (λ (l : List MoveRecord). get_or l c.args.i no_turn) c.deref.ensures.0 in
     let read : c.append.new.list.items ≡ slice_range c.self.inside.played.items (get_or c.self.inside.turns.items c.args.i no_turn).from
     (get_or c.self.inside.turns.items c.args.i no_turn).to =
-    c.append.ensures ∙ ap (λ (l : List Sign). l ++ take (c.from-2.result - c.from.result) (drop c.from.result c.deref-2.result.now)) c.new-signs.ensures
+    c.append.ensures ∙ ap (λ (l : List Sign). l ++ take (c.from-2.result - c.from.result) (drop c.from.result c.deref-2.result.now)) c.clear.ensures
     ∙ (λ j. slice_range (c.deref-2.ensures.0 j) ((c.from.ensures ∙ ap (λ (t : MoveRecord). t.from) e) j)
     ((c.from-2.ensures ∙ ap (λ (t : MoveRecord). t.to) e) j)) in
     let at = move_read c.args.self.now c.self.inside.turns.items c.self.inside.played.items c.append.new.list.items c.args.i no_turn
