@@ -1,11 +1,10 @@
 -- A table that a search has filled is whole, since each member has a net word, which the search has met.
-use Rattle.std.proofs.Common.{Contains, List, Some, [], ap, append_assoc, arith, inl, inr, length, length-append, map, refl, slice_get, slice_index_or}
+use Rattle.std.proofs.Common.{List, Some, [], ap, append_assoc, arith, inl, inr, length, length-append, map, refl, slice_get, slice_index_or}
 use Rattle.std.proofs.Common.{subst, suc, sym, take, zero, ℕ, ◌%◌, ◌++◌, ◌+◌, ◌-◌, ◌/◌, ◌<◌, ◌∙◌, ◌∷◌, ◌≡◌, ◌≤◌, ◌⊎◌}
 use Rattle.std.proofs.lemmas.Bool.{cases_lt}
 use Rattle.std.proofs.lemmas.List.{length-map, length-take-le, map-append}
 use Rattle.bk_tiling.specs.Tiling.{IsTiling}
-use Rattle.bk_word.specs.Outline.{valley_of}
-use Rattle.bk_word.specs.Play.{IsComplete, IsLegal, outline_of}
+use Rattle.bk_word.specs.Play.{IsComplete, IsLegal}
 use Rattle.bk_word.specs.Word.{Move, Word, order_of, sign_place}
 use Rattle.bk_word.specs.declared.Class.{Class}
 use Rattle.bk_word.specs.declared.Sign.{Sign}
@@ -16,7 +15,7 @@ use Rattle.bk_barren.specs.Cuts.{IsBarren}
 use Rattle.bk_net_word.proofs.NetWords.{a_simple_tiling_has_a_net_word}
 use Rattle.bk_net_word.specs.NetWord.{IsNetBarren, IsNetWordOf}
 use Rattle.bk_second_move.proofs.SecondMoves.{the_node_under_the_last_is_touched_alike}
-use Rattle.bk_second_move.specs.SecondMove.{AreUnder}
+use Rattle.bk_second_move.specs.SecondMove.{AreUnder, ClosesWith}
 use Rattle.bk_signed_word.specs.SignedWord.{IsSignedWordOf}
 use Rattle.bk_table.specs.Kept.{Holds}
 use Rattle.bk_table.specs.Packed.{packed, word_digits}
@@ -62,11 +61,11 @@ TellsSecond count from second = (first : Move) (rest : Word) → IsLegal (first 
 -- so many squares touch the node under the last square of the first move, if its signs are all under: one more than the second move hangs
 touched_by : (e : Entry) (w : Word) (first second : Move) (more : Word) (least : ℕ) → IsTiling e.tiling → IsWordOf e.tiling (first ∷ second ∷ more)
     → AreUnder first.signs → IsSignedWordOf e.tiling w → first_count w ≡ first.count → least ≤ second.count + 1 → IsTouchedUnderFirst least w
-touched_by e w first second more least tiling word under signed same few front rest m is on = omega (
+touched_by e w first second more least tiling word under signed same few touching closes = omega (
   arith,
   few,
-  the_node_under_the_last_is_touched_alike e.tiling first second more w tiling word under signed front rest m is
-      (subst (Contains (valley_of (outline_of front))) same on),
+  the_node_under_the_last_is_touched_alike e.tiling first second more w tiling word under signed touching
+      (subst (λ (square : ℕ). ClosesWith square w touching) same closes),
 )
 
 -- a word that isn't below the number is touched so
@@ -96,7 +95,7 @@ touched n count from second least class e w few is net by above tells most unkno
         from_word (m ∷ v) same = ap first_count same ∙ (net.signed).first_count e.word m first.0 is.word first.1 (ap (λ (z : Word). slice_get z 0) same)
 
     cases : (0 < second) ⊎ (second ≤ 0) → IsTouchedUnderFirst least w
-    cases (inr none) = λ front rest m is on. omega (arith, unknown (omega (arith, none)))
+    cases (inr none) = λ touching closes. omega (arith, unknown (omega (arith, none)))
     cases (inl some) = from_second (tells first.0 own.0 (subst IsLegal own.1 (complete.0).legal) (omega (arith, few, complete.1, ap order_of own.1))
         (by first.0 first.1) (subst (λ v. from ≤ packed v) own.1 above) some)
       where

@@ -144,18 +144,18 @@ module _ (t : Tiling) (tiling : IsTiling t) (first second : Move) (more : Word) 
 
 -- the law
 pub the_node_under_the_last_is_touched_alike : TheNodeUnderTheLastIsTouchedAlike
-the_node_under_the_last_is_touched_alike t first second more w tiling p under s front rest m is on =
-    from first.count refl (front ++ m ∷ rest) refl
+the_node_under_the_last_is_touched_alike t first second more w tiling p under s touching c =
+    sym c.count ∙ from first.count refl (c.front ++ c.move ∷ c.rest) refl
   where
-    signed : IsSignedWordOf t (front ++ m ∷ rest)
-    signed = subst (IsSignedWordOf t) is s
+    signed : IsSignedWordOf t (c.front ++ c.move ∷ c.rest)
+    signed = subst (IsSignedWordOf t) c.is s
 
-    stands : 0 < times first.count (valley_of (outline_of front))
-    stands = contained (valley_of (outline_of front)) first.count on
+    stands : 0 < times first.count (valley_of (outline_of c.front))
+    stands = contained (valley_of (outline_of c.front)) first.count c.stands
 
-    from : (c : ℕ) → first.count ≡ c → (v : Word) → front ++ m ∷ rest ≡ v → length (valley_of (outline_of front)) + m.count ≡ second.count + 1
+    from : (n : ℕ) → first.count ≡ n → (v : Word) → c.front ++ c.move ∷ c.rest ≡ v → length (valley_of (outline_of c.front)) + c.move.count ≡ second.count + 1
     from zero e v f = absurd (omega (arith, e, (((tiling_word_is_complete t (first ∷ second ∷ more) tiling p).0).legal.0).some))
-    from (suc k) e [] f = absurd (omega (arith, length-append front (m ∷ rest), ap (λ (z : Word). length z) f))
+    from (suc k) e [] f = absurd (omega (arith, length-append c.front (c.move ∷ c.rest), ap (λ (z : Word). length z) f))
     from (suc k) e (own ∷ moves) f =
-        alike t tiling first second more p front m rest signed (under_last t tiling first second more p under) stands k e own moves f
+        alike t tiling first second more p c.front c.move c.rest signed (under_last t tiling first second more p under) stands k e own moves f
         (signed.first_count (first ∷ second ∷ more) own first p refl (ap (λ (z : Word). slice_get z 0) f) ∙ e)

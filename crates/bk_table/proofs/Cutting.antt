@@ -17,7 +17,8 @@ use Rattle.bk_free_cuts.specs.FreeCuts.{IsFreeBarren}
 use Rattle.bk_free_cuts.specs.NodeCut.{ShareANode}
 use Rattle.bk_net_word.proofs.NetWords.{a_free_barren_word_is_net_barren, even_then_above_is_net_barren}
 use Rattle.bk_net_word.specs.NetWord.{IsNetBarren}
-use Rattle.bk_table.specs.Sought.{BeginsTurned}
+use Rattle.bk_table.specs.Sought.{BeginsTurned, IsTouchedUnderFirst}
+use Rattle.bk_table.specs.TopLines.{first_count}
 
 -- a cut on free words is one on net words
 pub cut : (n : ℕ) (front : Word) → IsFreeBarren n front → IsNetBarren n front
@@ -27,6 +28,13 @@ cut n front barren = a_free_barren_word_is_net_barren n front barren
 pub lone_is_barren : (front : Word) (valley count : ℕ) → valley ≡ length (valley_of (outline_of front)) → valley ≡ 1 → (n : ℕ) (m : Move)
     → m.count < 2 → 0 < m.count → IsNetBarren n (front ++ m ∷ [])
 lone_is_barren front valley count is one n m few some = cut n (front ++ m ∷ []) (one_under_one_is_free_barren n front m (omega arith) (sym is ∙ one))
+
+-- where at least so many squares touch the node under the last square of the first move, at least so many stand on the valley with it
+-- and hang from there by the next move together
+pub closes_the_first : (least : ℕ) (w : Word) → IsTouchedUnderFirst least w → (front rest : Word) (m : Move) → w ≡ front ++ m ∷ rest
+    → Contains (valley_of (outline_of front)) (first_count w) → least ≤ length (valley_of (outline_of front)) + m.count
+closes_the_first least w touched front rest m is on = touched (length (valley_of (outline_of front)) + m.count)
+    (record { front = front; move = m; rest = rest; is = is; stands = on; count = refl })
 
 sign_behind : (signs : List Sign) (s : Sign) (more : List Sign) → slice_get (signs ++ s ∷ more) (length signs) ≡ Some s
 sign_behind [] s more = refl

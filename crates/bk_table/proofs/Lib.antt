@@ -12,6 +12,7 @@ pub mod WordDigits
 pub mod PackedOrder
 pub mod PackedExamples
 pub mod NextMoves
+pub mod SoughtExamples
 pub mod OpenSegments
 pub mod Spans
 pub mod SpanExamples

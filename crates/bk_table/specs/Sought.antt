@@ -1,11 +1,13 @@
 -- What a search through free words looks for.
-use Rattle.std.specs.Prelude.{Contains, List, Some, length, slice_get, ℕ, ◌++◌, ◌+◌, ◌<◌, ◌∷◌, ◌≡◌, ◌≤◌}
-use Rattle.bk_word.specs.Outline.{valley_of}
-use Rattle.bk_word.specs.Play.{IsComplete, outline_of}
+-- Examples (SoughtExamples): 2u.1e is not sought, since one square hangs under one alone, though it is complete. In 2u.2aa at least 3
+-- squares touch the node under the first move, and not at least 4. It goes on from 2u by a move of 2 squares that begins with above.
+use Rattle.std.specs.Prelude.{List, Some, length, slice_get, ℕ, ◌++◌, ◌<◌, ◌∷◌, ◌≡◌, ◌≤◌}
+use Rattle.bk_word.specs.Play.{IsComplete}
 use Rattle.bk_word.specs.Word.{Move, Word, order_of}
 use Rattle.bk_word.specs.declared.Sign.{Sign}
 use Rattle.bk_word.specs.declared.Sign.TheVariants.{Above, Even}
 use Rattle.bk_net_word.specs.NetWord.{IsNetBarren}
+use Rattle.bk_second_move.specs.SecondMove.{ClosesWith}
 use Rattle.bk_table.specs.TopLines.{first_count}
 
 -- a complete word of the order, of which no beginning is barren
@@ -14,11 +16,9 @@ pub record IsSought (n : ℕ) (w : Word) : Type 0 where
   pub order : order_of w ≡ n
   pub fertile : (front rest : Word) → w ≡ front ++ rest → IsNetBarren n front → ⊥
 
--- at least so many squares touch the node under the last square of the first move: where that stands on the leftmost valley, so
--- many stand there and hang from there by the next move together
+-- at least so many squares touch the node under the last square of the first move
 abbrev pub IsTouchedUnderFirst : ℕ → Word → Type 0
-IsTouchedUnderFirst least w = (front rest : Word) (m : Move) → w ≡ front ++ m ∷ rest → Contains (valley_of (outline_of front)) (first_count w)
-    → least ≤ length (valley_of (outline_of front)) + m.count
+IsTouchedUnderFirst least w = (touching : ℕ) → ClosesWith (first_count w) w touching → least ≤ touching
 
 -- the word goes on from these moves
 pub record GoesOn (front w : Word) : Type 0 where
