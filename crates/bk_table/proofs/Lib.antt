@@ -13,6 +13,7 @@ pub mod PackedOrder
 pub mod PackedExamples
 pub mod NextMoves
 pub mod SoughtExamples
+pub mod KeptExamples
 pub mod OpenSegments
 pub mod Spans
 pub mod SpanExamples

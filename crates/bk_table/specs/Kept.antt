@@ -1,4 +1,6 @@
 -- What a table keeps of the numbers that were put into it: it has room for so many, and when it is full it drops the greatest.
+-- Examples (KeptExamples): a table with room for three that keeps 3, 5, 8 and dropped a number holds 5, and 9, which is above its bound,
+-- and not 4. There the place of 5 is 1, and the first from 4 on is 5.
 use Rattle.std.specs.List.{AllByRecursion}
 use Rattle.std.specs.Prelude.{Bool, Contains, List, [], drop, length, take, true, ℕ, ⊤, ◌<◌, ◌∷◌, ◌≡◌, ◌≤◌, ◌⊎◌}
 
