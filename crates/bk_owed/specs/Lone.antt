@@ -1,4 +1,6 @@
 -- The new squares of a move that are valleys, counted sign by sign: each is a valley of one square.
+-- Examples (LoneExamples): of four squares with the signs above, under, above the third ends above both beside it and is a valley, and
+-- so is the first, where it is low at the left. By the signs above, under the first alone is counted, and the next square is low.
 use Rattle.std.specs.Prelude.{Bool, List, [], false, true, ℕ, ◌+◌, ◌∷◌, ◌≡◌}
 use Rattle.bk_word.specs.declared.Sign.{Sign}
 use Rattle.bk_word.specs.declared.Sign.TheVariants.{Above, Even, Under}
