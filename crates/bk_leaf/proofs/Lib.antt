@@ -3,3 +3,4 @@ pub mod LevelSteps
 pub mod SmallFlows
 pub mod Leaves
 pub mod LeafRun
+pub mod FoundExamples
