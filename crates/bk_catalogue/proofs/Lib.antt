@@ -4,6 +4,7 @@ pub mod ClassesKept
 pub mod ListedOnce
 pub mod TwoSquares
 pub mod CatalogueExamples
+pub mod FollowingExamples
 pub mod SmallMembers
 pub mod OneEntry
 pub mod WordCounts

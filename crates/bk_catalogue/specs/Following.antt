@@ -1,4 +1,6 @@
 -- What comes after a cursor: the word after which a listing of a catalogue goes on.
+-- Examples (FollowingExamples): in the catalogue of order 2 and the class imperfect no word is after 2e, but one is after the start. No
+-- word is between the start and 2e, but one is between the start and 2u.
 use Rattle.std.specs.Prelude.{None, Option, Some, [], ℕ}
 use Rattle.bk_word.specs.Word.{Follows, Word}
 use Rattle.bk_word.specs.declared.Class.{Class}

@@ -1,4 +1,5 @@
 -- Members of small orders have small sides. A statement alone; it is proved apart.
+-- Example (FollowingExamples): the row of two squares of side 1 is a small tiling; a single square of side 2^34 + 1 is not.
 use Rattle.std.specs.List.{AllByRecursion}
 use Rattle.std.specs.Prelude.{ℕ, ◌^◌, ◌≤◌}
 use Rattle.bk_tiling.specs.Kept.{IsKept}
