@@ -1,4 +1,6 @@
--- What the corners of a canonical tiling show: no square there is longer than the top left one.
+-- What the corners of a canonical tiling show: no square there is longer than the top left one. A statement alone; it is proved apart.
+-- Example (BarrenExamples): the rectangle 69x61 has the square of side 36 at the top left. That of side 33 comes there in its image with
+-- left and right exchanged, and not in that turned by a half.
 use Rattle.std.specs.Prelude.{◌≡◌, ◌≤◌}
 use Rattle.bk_tiling.specs.Tiling.{IsOneOf, IsTiling, Tiling}
 use Rattle.bk_tiling.specs.declared.Square.{Square}
