@@ -1,18 +1,18 @@
--- A word and the sides of its tiling in the order of laying, which isn't the order of the code; and a word with an illegal
--- move.
-use Rattle.std.proofs.Common.{List, [], arith, refl, ℕ, ◌++◌, ◌∷◌}
+-- A word and the sides of its tiling in the order of laying, which isn't the order of the code; and words that are refused.
+use Rattle.std.proofs.Common.{List, [], arith, lit<, refl, ℕ, ◌++◌, ◌∷◌}
 use Rattle.bk_tiling.proofs.ExampleTilings.{rectangle_65x47}
 use Rattle.bk_tiling.proofs.TilingTest.{tiling_from_test}
 use Rattle.bk_tiling.specs.SquareGroups.{laid_group}
 use Rattle.bk_tiling.specs.declared.Segment.{Segment}
 use Rattle.bk_tiling.specs.declared.Square.{Square}
-use Rattle.bk_word.proofs.WordExamples.{word_65x47}
+use Rattle.bk_word.proofs.WordExamples.{two, word_65x47}
 use Rattle.bk_word.specs.Word.{Word}
 use Rattle.bk_word.specs.declared.Sign.TheVariants.{Even, Under}
 use Rattle.bk_lay.proofs.WordExamples.{the_word_65x47}
 use Rattle.bk_lay.proofs.WordTest.{by_tests, passes_as_valley}
 use Rattle.bk_word_net.specs.LaidTiling.{IsLaidWith}
-use Rattle.bk_skel.specs.SolveRefusal.{IsFirstIllegal}
+use Rattle.bk_skel.specs.SolveRefusal.{IsFirstIllegal, IsSolveFault}
+use Rattle.bk_skel.specs.declared.realising.SolveFault.TheVariants.{Illegal, OpenEnd}
 
 abbrev segment : ℕ → ℕ → ℕ → Segment
 segment x width level = record { x = x; width = width; level = level }
@@ -58,3 +58,13 @@ illegal-2 = record {
   before = (record { some = omega arith; signs = refl }, tt);
   here = λ legal. absurd (omega (arith, (legal.1).0.signs));
 }
+
+illegal : IsSolveFault illegal_word (Illegal 2)
+illegal = illegal-2
+
+-- 2u leaves two segments, and 2e one
+open_end : IsSolveFault (two Under ∷ []) OpenEnd
+open_end = ((record { some = omega arith; signs = refl }, tt), lit< tt)
+
+not_open : IsSolveFault (two Even ∷ []) OpenEnd → ⊥
+not_open fault = omega (arith, fault.1)
