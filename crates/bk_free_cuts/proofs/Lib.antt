@@ -15,3 +15,4 @@ pub mod NumberedLines
 pub mod InnerLines
 pub mod CutByNodes
 pub mod NodeCutExamples
+pub mod SegmentExamples

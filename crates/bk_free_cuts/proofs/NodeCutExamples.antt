@@ -13,7 +13,7 @@ use Rattle.bk_free_cuts.specs.NodeCut.{ShareANode}
 abbrev move : ℕ → List Sign → Move
 move count signs = record { count = count; signs = signs }
 
-abbrev front : Word
+abbrev pub front : Word
 front = move 3 (Above ∷ Above ∷ []) ∷ move 2 (Under ∷ Even ∷ []) ∷ move 1 (Even ∷ Above ∷ []) ∷ []
 
 -- the gap between 1 and 2 has the number 2, that between 2 and 3 the number 3, that between 4 and 5 the number 5

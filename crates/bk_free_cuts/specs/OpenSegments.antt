@@ -1,5 +1,7 @@
 -- What the cut by lines that share a node needs of a word of a layout: the squares of one open segment end on one node, side
 -- by side. A statement alone; it is proved apart.
+-- Example (SegmentExamples): in the rectangle 3x2 of the squares 2, 1, 1 with the word 2u.1e the squares 1 and 3 end together on the
+-- bottom, and the squares 1 and 2 don't end together.
 use Rattle.std.specs.Prelude.{List, Some, slice_get, ℕ, ◌++◌, ◌+◌, ◌-◌, ◌≡◌}
 use Rattle.bk_word.specs.Play.{outline_of}
 use Rattle.bk_word.specs.Word.{Word}

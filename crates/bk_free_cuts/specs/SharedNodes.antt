@@ -1,6 +1,8 @@
 -- Lines that share a node, on words: two lines at one open segment share no closed node but the one from which the square
 -- between them hangs. Else the two lines and that node bound, with the segment's node, a part of the tiling.
 -- Statements alone; each is proved apart.
+-- Examples (SegmentExamples): along the nodes of the rectangle 3x2 of the squares 2, 1, 1 no line stands twice. After 3aa.2ue.1ea
+-- square 5, at the place 4, hangs from the closed node 1 and ends on node 2, and isn't at the top.
 use Rattle.std.specs.Prelude.{List, Some, length, slice_get, suc, ℕ, ◌++◌, ◌-◌, ◌<◌, ◌≡◌, ◌≢◌, ◌≤◌, ◌⊎◌}
 use Rattle.bk_tiling.specs.Tiling.{IsTiling, Tiling}
 use Rattle.bk_word.specs.Outline.{Outline}
