@@ -1,3 +1,4 @@
 pub mod FoundMembers
 pub mod WholeTables
 pub mod QuickTests
+pub mod MembersExamples

@@ -1,4 +1,6 @@
 -- When a table of members is whole.
+-- Examples (MembersExamples): of order 2 and the class imperfect the one member has the word 2e. With the first count 2 the table that
+-- keeps its number is whole, and one that keeps nothing is not. With the first count 1 one that keeps nothing is whole.
 use Rattle.std.specs.Prelude.{List, Some, [], length, slice_get, take, ℕ, ◌++◌, ◌<◌, ◌∷◌, ◌≡◌, ◌≤◌}
 use Rattle.bk_word.specs.Word.{Move, Word}
 use Rattle.bk_word.specs.declared.Class.{Class}
