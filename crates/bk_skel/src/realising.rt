@@ -1,7 +1,8 @@
 //! The primitive tiling of a word, from the flow of its net.
 
 ghost use Rattle.std.specs.List.{AllByRecursion};
-ghost use Rattle.std.specs.Prelude.{All, Any, IfErr, IfNone, IfOk, IfSome, IsErr, IsOk, IsTrue, None, OnOk, length, map, nat_abs, pos, ◌<◌, ◌<ℤ◌, ◌^◌, ◌↔◌, ◌≡◌, ◌≤◌, ◌≤ℤ◌};
+ghost use Rattle.std.specs.Prelude.{All, Any, IfErr, IfNone, IfOk, IfSome, IsErr, IsOk, IsTrue, None, OnOk, length, map, nat_abs, pos};
+ghost use Rattle.std.specs.Prelude.{◌<◌, ◌<ℤ◌, ◌^◌, ◌↔◌, ◌≡◌, ◌≤◌, ◌≤ℤ◌};
 ghost use Rattle.bk_net.specs.Flow.{IsPrimitiveFlow};
 ghost use Rattle.bk_net.specs.Net.{HasNoLoose};
 ghost use Rattle.bk_tiling.specs.Kept.{IsSide};

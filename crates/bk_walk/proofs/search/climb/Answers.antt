@@ -8,7 +8,8 @@ next_move-requires-clause-count c =
     let was = taken_last c.args.lined.now c.pop.new.self c.read_move.new.m c.moves-moves.result
     (c.moves-moves.ensures.value ∙ ap length c.skel.ensures.value) (omega (arith, c.if-moves-eq0.false))
     (ap (λ (w : Word). slice_get w (c.moves-moves.result - 1)) (sym c.skel-2.ensures.value) ∙ c.read_move.ensures) c.pop.ensures in
-    let last : IsLastMove c.pop.new.self c.read_move.new.m = last_move c.args.lined.now c.pop.new.self c.read_move.new.m c.skel.ensures.legal c.requires.small was in
+    let last : IsLastMove c.pop.new.self c.read_move.new.m =
+    last_move c.args.lined.now c.pop.new.self c.read_move.new.m c.skel.ensures.legal c.requires.small was in
     omega (arith, last.count)
 
 pub next_move-requires-clause-signs : goal.next_move-requires-clause-signs
@@ -16,7 +17,8 @@ next_move-requires-clause-signs c =
     let was = taken_last c.args.lined.now c.pop.new.self c.read_move.new.m c.moves-moves.result
     (c.moves-moves.ensures.value ∙ ap length c.skel.ensures.value) (omega (arith, c.if-moves-eq0.false))
     (ap (λ (w : Word). slice_get w (c.moves-moves.result - 1)) (sym c.skel-2.ensures.value) ∙ c.read_move.ensures) c.pop.ensures in
-    let last : IsLastMove c.pop.new.self c.read_move.new.m = last_move c.args.lined.now c.pop.new.self c.read_move.new.m c.skel.ensures.legal c.requires.small was in
+    let last : IsLastMove c.pop.new.self c.read_move.new.m =
+    last_move c.args.lined.now c.pop.new.self c.read_move.new.m c.skel.ensures.legal c.requires.small was in
     omega (arith, last.signs)
 
 pub returns-clause-on : goal.returns-clause-on
