@@ -21,6 +21,7 @@ pub(crate) fn listing_status(ended: &Result<Last, Failed>) -> u8
 }
 
 // Writes the line about trial codes, and gives the status.
+#[inline(never)]
 pub(crate) fn try_codes<O: Sink>(seed: u64, count: u32, out: &mut O) -> u8
     ensures { IsTried seed count (O.written out.old) (O.written out.new) (O.faults out.old) (O.faults out.new) result }
 {

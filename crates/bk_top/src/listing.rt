@@ -15,6 +15,7 @@ use std::marker::Brand;
 use std::sync::ledger::{Blank, Ledger};
 
 // Writes the listing of the catalogue of an order and a class after a word, up to a limit.
+#[inline(never)]
 pub(crate) fn write_listing<O: Sink>(
     alloc: Global,
     order: u8,

@@ -12,6 +12,7 @@ use bk_verifying::{Verdict, verify};
 use std::alloc::Global;
 
 // Lists the lines, and gives the status.
+#[inline(never)]
 pub(crate) fn list_to_end<S: Source, O: Sink>(
     alloc: Global,
     wanted: Wanted,
@@ -31,6 +32,7 @@ pub(crate) fn list_to_end<S: Source, O: Sink>(
 }
 
 // Holds the list against the catalogue of an order, and gives the status.
+#[inline(never)]
 pub(crate) fn verify_list<S: Source, O: Sink>(
     alloc: Global,
     order: u8,

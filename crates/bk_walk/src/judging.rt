@@ -8,7 +8,7 @@ ghost use Rattle.bk_walk.specs.WholeWords.{DecidesWord};
 
 use bk_frac::Wide;
 use bk_member_table::qualifies;
-use bk_skel::{Skel, lacks_sides, realise_small};
+use bk_skel::{Skel, realise_small};
 use bk_tiling::Tiling;
 use bk_word::Class;
 
@@ -23,20 +23,6 @@ pub(crate) enum WordVerdict {
 
 // What a complete word of at most 16 squares tells of the members of the class.
 pub(crate) fn judge(skel: &Skel, class: Class) -> WordVerdict
-    requires whole { IsComplete skel.now }
-    requires few { order_of skel.now ≤ 16 }
-    ensures { DecidesWord class skel.now result }
-{
-    if lacks_sides(skel) {
-        return WordVerdict::Other;
-    }
-    judge_realised(skel, class)
-}
-
-// The same, of a word whose sides are all looked for. Most words that a search meets are decided without it, and without its room for
-// a tiling.
-#[inline(never)]
-fn judge_realised(skel: &Skel, class: Class) -> WordVerdict
     requires whole { IsComplete skel.now }
     requires few { order_of skel.now ≤ 16 }
     ensures { DecidesWord class skel.now result }

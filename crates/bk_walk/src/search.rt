@@ -2,9 +2,11 @@
 #![tactic(auto)]
 
 ghost use Rattle.std.specs.Prelude.{IsTrue, Some, [], false, length, min, ◌++◌, ◌+◌, ◌-◌, ◌<◌, ◌^◌, ◌∷◌, ◌≡◌, ◌≤◌};
+ghost use Rattle.bk_tiling.specs.Tiling.{IsTiling, Tiling as Tiled};
 ghost use Rattle.bk_word.specs.Outline.{IsLegalMove};
 ghost use Rattle.bk_word.specs.Play.{IsComplete, outline_of};
 ghost use Rattle.bk_word.specs.Word.{order_of};
+ghost use Rattle.bk_lay.specs.TilingWord.{IsWordOf};
 ghost use Rattle.bk_tree.specs.NextMove.{open_sides as sides_open};
 ghost use Rattle.bk_walk.specs.Search.{Finds, IsClimbed, IsSearchState, PushesGrow, StepLeadsTo};
 
@@ -12,7 +14,7 @@ use crate::barren::{is_barren, skip};
 use crate::judging::{WordVerdict, judge};
 use crate::lined::LinedSkel;
 use crate::moves::{begin_anew, least_legal_from, next_move};
-use bk_skel::{Steps, open_side};
+use bk_skel::{Steps, lacks_sides, open_side};
 use bk_tiling::Tiling;
 use bk_word::{Class, Move};
 use std::sync::ledger::Ledger;
@@ -21,7 +23,7 @@ use std::sync::ledger::Ledger;
 pub(crate) enum Went {
     // on to a later place
     On,
-    // to a complete word of the order
+    // to a complete word of the order, which a tiling may have
     Complete,
     // to the end of the tree
     End,
@@ -98,7 +100,7 @@ fn search_step<L: Ledger>(
         return Went::On;
     }
     begin_anew(next);
-    if is_complete_of(lined, order) {
+    if is_candidate(lined, order) {
         Went::Complete
     } else {
         Went::On
@@ -166,6 +168,19 @@ pub(crate) fn play<L: Ledger>(
 {
     lined.push(m, steps);
     *pushes = pushes.saturating_add(1);
+}
+
+// Whether the moves are a complete word of the order which a tiling may have: it isn't told by whole numbers that none has it. No room is taken for
+// a tiling.
+fn is_candidate(lined: &LinedSkel, order: u8) -> bool
+    requires order { order ≤ 16 }
+    ensures whole { IsTrue result → IsComplete lined.now × (order_of lined.now ≡ order) }
+    ensures none { result ≡ false → IsComplete lined.now → order_of lined.now ≡ order → (t : Tiled) → IsTiling t → ¬ (IsWordOf t lined.now) }
+{
+    if is_complete_of(lined, order) {
+        return !lacks_sides(lined.skel());
+    }
+    false
 }
 
 // Whether the moves are a complete word of the order.

@@ -84,15 +84,15 @@ returns-then-is_barren-clause-leads g c =
     small c.go_down.new.lined c.go_down.ensures.moves (c.go_down.new.steps - c.args.steps.now) (omega (arith, c.go_down.ensures.step)) c.pop.new.self
     c.next_move.new.m c.pop.ensures c.next_move.ensures (c.is_barren.ensures c.if-is_barren.true c.args.class)
 
-pub returns-then-is_complete_of-clause-leads : goal.returns-then-is_complete_of-clause-leads
-returns-then-is_complete_of-clause-leads g c =
+pub returns-then-is_candidate-clause-leads : goal.returns-then-is_candidate-clause-leads
+returns-then-is_candidate-clause-leads g c =
     let fit = fits c.skip.new.m c.least_legal_from.new.m c.args.next.now c.open_sides.result (open_sides (outline_of c.args.lined.now))
     (c.skip.ensures.kept c.if-skip.false) c.least_legal_from.ensures c.open_sides.ensures.value in
     let same : c.skip.new.m ≡ c.least_legal_from.new.m = c.skip.ensures.kept c.if-skip.false in
     let small : order_of c.args.lined.now + c.skip.new.m.count ≤ c.args.order =
     (let v = c.order.ensures.value ∙ ap order_of c.skel.ensures.value in let count = ap (λ (m : Move). m.count) c.next.view_is in
     omega (arith, ap (λ (m : Move). m.count) same, c.if-order-from.false, c.from.ensures, c.from-2.ensures)) in
-    let whole = c.is_complete_of.ensures.whole c.if-is_complete_of.true in (
+    let whole = c.is_candidate.ensures.whole c.if-is_candidate.true in (
       step_reaches c.args.order c.args.class c.args.lined.now c.args.next.now c.skip.new.m c.requires.order c.requires.stand fit small
           c.go_down.new.lined c.go_down.ensures.moves (c.go_down.new.steps - c.args.steps.now) (omega (arith, c.go_down.ensures.step)),
       whole.0,
@@ -100,8 +100,8 @@ returns-then-is_complete_of-clause-leads g c =
       c.begin_anew.ensures,
     )
 
-pub returns-else-is_complete_of-clause-leads : goal.returns-else-is_complete_of-clause-leads
-returns-else-is_complete_of-clause-leads g c =
+pub returns-else-is_candidate-clause-leads : goal.returns-else-is_candidate-clause-leads
+returns-else-is_candidate-clause-leads g c =
     let fit = fits c.skip.new.m c.least_legal_from.new.m c.args.next.now c.open_sides.result (open_sides (outline_of c.args.lined.now))
     (c.skip.ensures.kept c.if-skip.false) c.least_legal_from.ensures c.open_sides.ensures.value in
     let same : c.skip.new.m ≡ c.least_legal_from.new.m = c.skip.ensures.kept c.if-skip.false in
@@ -110,4 +110,4 @@ returns-else-is_complete_of-clause-leads g c =
     omega (arith, ap (λ (m : Move). m.count) same, c.if-order-from.false, c.from.ensures, c.from-2.ensures)) in
     step_goes_down c.args.order c.args.class c.args.lined.now c.args.next.now c.skip.new.m c.requires.order c.requires.stand fit
     small c.go_down.new.lined c.go_down.ensures.moves (c.go_down.new.steps - c.args.steps.now) (omega (arith, c.go_down.ensures.step))
-    c.begin_anew.new.m c.begin_anew.ensures (c.is_complete_of.ensures.unready c.if-is_complete_of.false)
+    c.begin_anew.new.m c.begin_anew.ensures (c.is_candidate.ensures.none c.if-is_candidate.false)

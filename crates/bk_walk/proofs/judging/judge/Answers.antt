@@ -1,6 +1,6 @@
 use Rattle.bk_word.specs.Word.{order_of}
 use Rattle.bk_walk.proofs.Members.{member_from, none_other}
-use Rattle.bk_walk.proofs.judging.judge_realised.Goals as goal
+use Rattle.bk_walk.proofs.judging.judge.Goals as goal
 
 pub returns-then-qualifies : goal.returns-then-qualifies
 returns-then-qualifies c =
