@@ -1,7 +1,7 @@
 //! What is kept along the first moves of a word, and taken back with them.
 #![tactic(auto)]
 
-ghost use Rattle.std.specs.Prelude.{IsTrue, List, [], length, take, ℕ, ◌++◌, ◌+◌, ◌-◌, ◌<◌, ◌∷◌, ◌≡◌, ◌≤◌};
+ghost use Rattle.std.specs.Prelude.{IsTrue, List, [], false, length, min, take, ℕ, ◌++◌, ◌+◌, ◌-◌, ◌<◌, ◌∷◌, ◌≡◌, ◌≤◌};
 ghost use Rattle.bk_word.specs.Outline.{IsLegalMove};
 ghost use Rattle.bk_word.specs.Play.{outline_of};
 ghost use Rattle.bk_word.specs.Word.{order_of};
@@ -59,7 +59,9 @@ impl Tracing {
     pub fn rules_out(&self, skel: &Skel, m: &Move, class: Class) -> bool
         requires trace { IsTraceOf skel.now self.now }
         requires legal { IsLegalMove (outline_of skel.now) m.now }
-        ensures { IsTrue result → IsRuledOut class (skel.now ++ m.now ∷ []) }
+        ensures sound { IsTrue result → IsRuledOut class (skel.now ++ m.now ∷ []) }
+        ensures few { IsTrue result → order_of skel.now + m.now.count ≤ 5 }
+        ensures more { IsTrue result → IsTrue (brings_more m.now) }
     {
         if !self.follows(skel, m) {
             return false;
@@ -74,7 +76,8 @@ impl Tracing {
     pub fn would_rule_out(&self, skel: &Skel, m: &Move, class: Class) -> bool
         requires trace { IsTraceOf skel.now self.now }
         requires legal { IsLegalMove (outline_of skel.now) m.now }
-        ensures { IsTrue result → IsRuledOut class (skel.now ++ m.now ∷ []) }
+        ensures sound { IsTrue result → IsRuledOut class (skel.now ++ m.now ∷ []) }
+        ensures few { IsTrue result → order_of skel.now + m.now.count ≤ 5 }
     {
         if !self.follows(skel, m) {
             return false;
@@ -113,7 +116,9 @@ impl Tracing {
     pub fn push(&mut self, skel: &Skel, m: &Move)
         requires trace { IsTraceOf skel.now self.old }
         requires legal { IsLegalMove (outline_of skel.now) m.now }
-        ensures { IsTraceOf (skel.now ++ m.now ∷ []) self.new }
+        ensures trace { IsTraceOf (skel.now ++ m.now ∷ []) self.new }
+        ensures followed { length self.old.marks ≡ length skel.now → order_of skel.now + m.now.count < 5
+            → length self.new.marks ≡ length skel.now + 1 }
     {
         if skel.order() + usize::from(m.count) >= FOLLOWED {
             return;
@@ -130,7 +135,8 @@ impl Tracing {
         requires legal { IsLegalMove (outline_of skel.now) m.now }
         requires all { length self.old.marks ≡ length skel.now }
         requires few { order_of skel.now + m.now.count ≤ 5 }
-        ensures { IsTraceOf (skel.now ++ m.now ∷ []) self.new }
+        ensures trace { IsTraceOf (skel.now ++ m.now ∷ []) self.new }
+        ensures followed { length self.new.marks ≡ length skel.now + 1 }
     {
         self.marks.push(Mark {
             equations: self.ledger.len(),
@@ -154,7 +160,8 @@ impl Tracing {
     pub fn pop(&mut self, skel: &Skel)
         requires trace { IsTraceOf skel.now self.old }
         requires some { 0 < length skel.now }
-        ensures { IsTraceOf (take (length skel.now - 1) skel.now) self.new }
+        ensures trace { IsTraceOf (take (length skel.now - 1) skel.now) self.new }
+        ensures followed { length self.new.marks ≡ min (length self.old.marks) (length skel.now - 1) }
     {
         if self.marks.len() < skel.moves() {
             return;
@@ -169,6 +176,7 @@ impl Tracing {
     fn follows(&self, skel: &Skel, m: &Move) -> bool
         ensures all { IsTrue result → length self.now.marks ≡ length skel.now }
         ensures few { IsTrue result → order_of skel.now + m.now.count ≤ 5 }
+        ensures no { result ≡ false → length self.now.marks ≡ length skel.now → order_of skel.now + m.now.count ≤ 5 → ⊥ }
     {
         self.marks.len() == skel.moves() && skel.order() + usize::from(m.count) <= FOLLOWED
     }

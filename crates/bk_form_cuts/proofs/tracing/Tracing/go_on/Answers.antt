@@ -43,8 +43,8 @@ push_bottoms-requires c =
       ),
     )
 
-pub returns : goal.returns
-returns c =
+pub returns-clause-trace : goal.returns-clause-trace
+returns-clause-trace c =
     let w = c.args.skel.now in
     let v = ap (λ (v : Valley). v.squares) (c.valley.view_is ∙ c.valley-valley.ensures) in
     let count = ap (λ (m : Move). m.count) c.m.view_is in

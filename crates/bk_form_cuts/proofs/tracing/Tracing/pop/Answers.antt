@@ -5,12 +5,12 @@ use Rattle.bk_form_cuts.proofs.TraceBack.{trace_back}
 use Rattle.bk_form_cuts.specs.Trace.{IsTraceOf, Trace}
 use Rattle.bk_form_cuts.proofs.tracing.Tracing.pop.Goals as goal
 
-pub returns-then-len-moves : goal.returns-then-len-moves
-returns-then-len-moves c = trace_less c.args.skel.now c.args.self.now c.requires.trace
+pub returns-then-len-moves-clause-trace : goal.returns-then-len-moves-clause-trace
+returns-then-len-moves-clause-trace c = trace_less c.args.skel.now c.args.self.now c.requires.trace
     (omega (arith, c.if-len-moves.true, c.len.ensures.value, c.moves.ensures.value, ap (λ (t : Trace). length t.marks) c.self.view_is))
 
-pub returns-in-Some : goal.returns-in-Some
-returns-in-Some c =
+pub returns-in-Some-clause-trace : goal.returns-in-Some-clause-trace
+returns-in-Some-clause-trace c =
     let all : length c.args.skel.now ≤ length c.self.inside.marks.items = omega (arith, c.if-len-moves.false, c.len.ensures.value, c.moves.ensures.value) in
     let w = take (length c.args.skel.now - 1) c.args.skel.now in
     subst (λ (ks : List SeenForm). IsTraceOf (take (length c.args.skel.now - 1) c.args.skel.now)

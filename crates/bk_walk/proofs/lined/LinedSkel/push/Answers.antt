@@ -38,5 +38,5 @@ invariant_of-self g c =
           (subst (λ (w : Word). IsLegalMove (outline_of w) c.args.m.now) (sym c.self.view_is) c.requires.legal) is_on
           (ap (λ k. nat_eq k 0) c.moves-is_first.ensures.value) (c.from.ensures ∙ ap (λ (m : Move). m.count) c.m.view_is)
           c.push-2.ensures.moves c.push_lines.ensures;
-      traced = subst (λ (w : Word). IsTraceOf w c.push.new.self) (sym c.push-2.ensures.moves) c.push.ensures;
+      traced = subst (λ (w : Word). IsTraceOf w c.push.new.self) (sym c.push-2.ensures.moves) c.push.ensures.trace;
     }
