@@ -1,7 +1,12 @@
 -- The first number of a table that isn't below a bound, and spans that meet no number of the table.
-use Rattle.std.proofs.Common.{Contains, List, [], arith, drop, length, slice_index, subst, suc, take, zero, ℕ, ◌<◌, ◌∷◌, ◌≡◌, ◌≤◌}
+use Rattle.std.proofs.Common.{Contains, IsTrue, List, [], arith, drop, inl, inr, length, nat_lt, slice_index, subst, suc, take, zero, ℕ}
+use Rattle.std.proofs.Common.{◌<◌, ◌∷◌, ◌≡◌, ◌≤◌, ◌⊎◌}
+use Rattle.std.proofs.lemmas.Bool.{cases_lt}
+use Rattle.std.proofs.lemmas.Bool.Decides.{nat_tests}
 use Rattle.std.proofs.lemmas.List.{take_all}
-use Rattle.bk_table.specs.Kept.{AreAscendingNumbers, IsFirstFrom, IsPlaceOf}
+use Rattle.bk_table.specs.Kept.{AreAscendingNumbers, Holds, IsFirstFrom, IsPlaceOf, Numbers}
+use Rattle.bk_table.specs.Span.{IsWithin}
+use Rattle.bk_table.specs.declared.span.Span.{Span}
 use Rattle.bk_table.proofs.Keeping.{All, all_again, all_map, get_at, no_less_from}
 
 contains_at : (xs : List ℕ) (place : ℕ) (x : ℕ) → place < length xs → slice_index xs place ≡ x → Contains xs x
@@ -25,3 +30,15 @@ first_is xs bound place x asc is few at = record { has = contains_at xs place x 
 -- none is, where the place is the end
 pub none_is : (xs : List ℕ) (bound place : ℕ) → IsPlaceOf xs bound place → length xs ≤ place → All (λ y. y < bound) xs
 none_is xs bound place is end = subst (All (λ y. y < bound)) (take_all place xs end) is.before
+
+-- the table holds no number of the span
+abbrev pub HoldsNone : Numbers → Span → Type 0
+HoldsNone t s = (x : ℕ) → IsWithin s x → Holds t x → ⊥
+
+-- where it holds none, the first that isn't below the least of the span is above the greatest
+pub first_is_above : (t : Numbers) (s : Span) (first : ℕ) → IsFirstFrom t.kept s.low first → HoldsNone t s → IsTrue (nat_lt s.last first)
+first_is_above t s first is none = cases (cases_lt s.last first)
+  where
+    cases : (s.last < first) ⊎ (first ≤ s.last) → IsTrue (nat_lt s.last first)
+    cases (inl above) = grind (arith, nat_tests)
+    cases (inr within) = absurd (none first (record { from = is.from; to = within }) (inl is.has))

@@ -79,6 +79,17 @@ has_others x place xs y has = cases (Contains-append_cases (take place xs) (drop
     cases (inl h) = Contains-append_left (take place xs) (x ∷ drop place xs) y h
     cases (inr (k, few, is)) = Contains-append_right (take place xs) (x ∷ drop place xs) y (suc k, omega (arith, few), is)
 
+pub has_only : (x place : ℕ) (xs : List ℕ) (y : ℕ) → Contains (with_one place x xs) y → Contains xs y ⊎ (y ≡ x)
+has_only x place xs y has = cases (Contains-append_cases (take place xs) (x ∷ drop place xs) y has)
+  where
+    whole : Contains (take place xs ++ drop place xs) y → Contains xs y ⊎ (y ≡ x)
+    whole h = inl (subst (λ l. Contains l y) (take-append-drop place xs) h)
+
+    cases : Contains (take place xs) y ⊎ Contains (x ∷ drop place xs) y → Contains xs y ⊎ (y ≡ x)
+    cases (inl h) = whole (Contains-append_left (take place xs) (drop place xs) y h)
+    cases (inr (zero, few, is)) = inr (sym is)
+    cases (inr (suc k, few, is)) = whole (Contains-append_right (take place xs) (drop place xs) y (k, omega (arith, few), is))
+
 pub all_one : (P : ℕ → Type 0) (x place : ℕ) (xs : List ℕ) → P x → All P xs → All P (with_one place x xs)
 all_one P x place xs one all = all_join P (take place xs) (x ∷ drop place xs) (all_take P place xs all) (one, all_drop P place xs all)
 
@@ -118,18 +129,11 @@ place_before (y ∷ front) last x (suc place) few before from =
 
 -- ---- a table with one more
 
--- it holds the number, and all that it held
+-- it holds the number, and all that it held, and keeps no other
 pub record HoldsOneMore (t u : Numbers) (x : ℕ) : Type 0 where
   pub put : Holds u x
   pub kept : (y : ℕ) → Holds t y → Holds u y
-
-pub had : (room : ℕ) (t : Numbers) (x place : ℕ) → place < length t.kept → slice_index t.kept place ≡ x → Holds t x
-had room t x place few is = inl (contains t.kept place few is)
-  where
-    contains : (xs : List ℕ) (place : ℕ) → place < length xs → slice_index xs place ≡ x → Contains xs x
-    contains [] place few is = absurd (omega arith)
-    contains (y ∷ xs) zero few is = (zero, omega arith, is)
-    contains (y ∷ xs) (suc place) few is = let c = contains xs place (omega arith) is in (suc c.0, omega (arith, c.1), c.2)
+  pub only : (y : ℕ) → Contains u.kept y → Contains t.kept y ⊎ (y ≡ x)
 
 -- where there is room
 pub put_in : (room : ℕ) (t u : Numbers) (x place : ℕ) → IsKeptTable room t → IsPlaceOf t.kept x place
@@ -141,7 +145,11 @@ put_in room t u x place table is not few kept cut = (
         (greater_from x place t.kept table.ascending is.from not));
     full = λ e. absurd (none (sym cut ∙ e));
   },
-  record { put = inl (subst (λ l. Contains l x) (sym kept) (has_one x place t.kept)); kept = others },
+  record {
+    put = inl (subst (λ l. Contains l x) (sym kept) (has_one x place t.kept));
+    kept = others;
+    only = λ y h. has_only x place t.kept y (subst (λ l. Contains l y) kept h);
+  },
 )
   where
     none : t.cut ≡ true → ⊥
@@ -160,7 +168,11 @@ put_for_last room t u x place last front table is not few full was kept cut = (
     ascending = subst AreAscendingNumbers (sym kept) (one_ascends x place front asc.0 there.before there.from);
     full = λ e. omega (arith, ap length kept, long_one x place front, long);
   },
-  record { put = inl (subst (λ l. Contains l x) (sym kept) (has_one x place front)); kept = others },
+  record {
+    put = inl (subst (λ l. Contains l x) (sym kept) (has_one x place front));
+    kept = others;
+    only = λ y h. was_there y (has_only x place front y (subst (λ l. Contains l y) kept h));
+  },
 )
   where
     long : length front + 1 ≡ room
@@ -176,6 +188,10 @@ put_for_last room t u x place last front table is not few full was kept cut = (
     below : (y : ℕ) → last ≤ y → All (λ z. z < y) u.kept
     below y h = subst (All (λ z. z < y)) (sym kept) (all_one (λ z. z < y) x place front (omega (arith, (there).less))
         (all_map (λ z. z < last) (λ z. z < y) front (λ z k. omega arith) (asc).1))
+
+    was_there : (y : ℕ) → Contains front y ⊎ (y ≡ x) → Contains t.kept y ⊎ (y ≡ x)
+    was_there y (inl h) = inl (subst (λ l. Contains l y) (sym was) (Contains-append_left front (last ∷ []) y h))
+    was_there y (inr e) = inr e
 
     had_it : (y : ℕ) → Contains front y ⊎ Contains (last ∷ []) y → Holds u y
     had_it y (inl h) = inl (subst (λ l. Contains l y) (sym kept) (has_others x place front y h))

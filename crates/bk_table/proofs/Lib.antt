@@ -20,6 +20,7 @@ pub mod SpanExamples
 pub mod FirstNumbers
 pub mod RightLines
 pub mod SecondNumbers
+pub mod SecondUnits
 pub mod SegmentsBehind
 pub mod JoinedSegments
 pub mod SharedAfter

@@ -61,7 +61,7 @@ under_or_below (suc room) (s ∷ signs) ds digits few = cases s (under_or_below 
       begun-cons room 2 (map sign_place (unders (length signs))),
     ))
 
-all_unders : (signs : List Sign) → AreUnder signs → signs ≡ unders (length signs)
+pub all_unders : (signs : List Sign) → AreUnder signs → signs ≡ unders (length signs)
 all_unders [] under = refl
 all_unders (s ∷ signs) under = λ i. under.0 i ∷ all_unders signs under.1 i
 

@@ -2,7 +2,7 @@
 #![tactic(auto)]
 
 ghost use Rattle.std.specs.List.{AllByRecursion};
-ghost use Rattle.std.specs.Prelude.{IfNone, IfSome, IsTrue, [], drop, false, length, slice_index, take, ℕ, ◌++◌, ◌<◌, ◌∷◌, ◌≡◌, ◌≤◌, ◌↔◌};
+ghost use Rattle.std.specs.Prelude.{Contains, IfNone, IfSome, IsTrue, [], drop, false, length, slice_index, take, ℕ, ◌++◌, ◌<◌, ◌∷◌, ◌≡◌, ◌≤◌, ◌↔◌, ◌⊎◌};
 ghost use Rattle.bk_table.specs.Kept.{AreAscendingNumbers, Holds, IsFirstFrom, IsPlaceOf};
 ghost use Rattle.bk_table.specs.Span.{IsWithin};
 
@@ -66,9 +66,10 @@ impl<const N: usize> Table<N> {
         }
     }
 
-    /// Whether the table tells that no number of the span was put into it.
+    /// Whether the table tells that no number of the span was put into it. It tells so wherever it holds none of them.
     pub fn rules_out(&self, span: Span) -> bool
-        ensures { IsTrue result → (x : ℕ) → IsWithin span x → Holds self.now x → ⊥ }
+        ensures none { IsTrue result → (x : ℕ) → IsWithin span x → Holds self.now x → ⊥ }
+        ensures all { span.low ≤ span.last → ((x : ℕ) → IsWithin span x → Holds self.now x → ⊥) → IsTrue result }
     {
         match self.first_from(span.low) {
             Some(first) => span.last < first,
@@ -76,11 +77,12 @@ impl<const N: usize> Table<N> {
         }
     }
 
-    /// Puts a number into the table, if it isn't there, and drops the greatest where there is no room.
+    /// Puts a number into the table, if it isn't there, and drops the greatest where there is no room. No other number is put.
     pub fn put(&mut self, number: u128)
         requires { 0 < N }
         ensures put { Holds self.new number }
         ensures kept { (x : ℕ) → Holds self.old x → Holds self.new x }
+        ensures only { (x : ℕ) → Contains self.new.kept x → Contains self.old.kept x ⊎ (x ≡ number) }
     {
         let place = place_of(self.numbers.as_slice(), number);
         if has_at(self.numbers.as_slice(), place, number) {

@@ -1,4 +1,4 @@
-use Rattle.std.proofs.Common.{Bool, List, ap, arith, length, refl, subst, sym, true, ℕ}
+use Rattle.std.proofs.Common.{Bool, Contains, List, ap, arith, length, refl, subst, sym, true, ℕ, ◌≡◌, ◌⊎◌}
 use Rattle.bk_table.specs.Kept.{Holds, IsKeptTable, IsPlaceOf, Numbers}
 use Rattle.bk_table.proofs.Keeping.{HoldsOneMore, not_there, put_for_last, put_in}
 use Rattle.bk_table.proofs.table.Table.put.Given as given
@@ -27,6 +27,9 @@ returns-then-len-clause-put g c = (roomy g c).1.put
 pub returns-then-len-clause-kept : goal.returns-then-len-clause-kept
 returns-then-len-clause-kept g c x held = (roomy g c).1.kept x (subst (λ (t : Numbers). Holds t x) (sym c.self.view_is) held)
 
+pub returns-then-len-clause-only : goal.returns-then-len-clause-only
+returns-then-len-clause-only g c x has = subst (λ (t : Numbers). Contains t.kept x ⊎ (x ≡ c.args.number)) c.self.view_is ((roomy g c).1.only x has)
+
 -- in the place of the last
 for_last : (g : given.Over) (c : goal.After-insert-2 g) → IsKeptTable g.row.N (seen c.insert-2.new.numbers.items true)
     × HoldsOneMore (seen c.self.inside.numbers.items c.self.inside.cut) (seen c.insert-2.new.numbers.items true) c.args.number
@@ -53,3 +56,6 @@ returns-clause-put g c = (for_last g c).1.put
 
 pub returns-clause-kept : goal.returns-clause-kept
 returns-clause-kept g c x held = (for_last g c).1.kept x (subst (λ (t : Numbers). Holds t x) (sym c.self.view_is) held)
+
+pub returns-clause-only : goal.returns-clause-only
+returns-clause-only g c x has = subst (λ (t : Numbers). Contains t.kept x ⊎ (x ≡ c.args.number)) c.self.view_is ((for_last g c).1.only x has)

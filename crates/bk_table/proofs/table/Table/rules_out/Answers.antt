@@ -1,0 +1,5 @@
+use Rattle.bk_table.proofs.FirstNumbers.{first_is_above}
+use Rattle.bk_table.proofs.table.Table.rules_out.Goals as goal
+
+pub returns-in-Some-clause-all : goal.returns-in-Some-clause-all
+returns-in-Some-clause-all g c order none = first_is_above c.args.self.now c.args.span c.in-Some.first c.in-Some.ensures.first none
