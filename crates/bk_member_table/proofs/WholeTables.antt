@@ -32,7 +32,7 @@ use Rattle.bk_member_table.specs.Members.{BeginsBy, IsBarrenBy, IsWhole, Members
 abbrev pub HasFirst : Word → Type 0
 HasFirst w = (m : Move) × (slice_get w 0 ≡ Some m)
 
-first_of : (w : Word) → 0 < length w → HasFirst w
+pub first_of : (w : Word) → 0 < length w → HasFirst w
 first_of [] some = absurd (omega arith)
 first_of (m ∷ w) some = (m, refl)
 

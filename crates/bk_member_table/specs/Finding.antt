@@ -45,6 +45,12 @@ HoldsEntry s e = s.from ≤ packed e.word → Holds s.numbers (packed e.word)
 abbrev pub HasNone : Finding → Span → Type 0
 HasNone s span = (e : Entry) → IsWithin span (packed e.word) → HoldsEntry s e → ⊥
 
+-- the span doesn't begin below the number from which words are kept, and no number in it is held
+pub record IsFree (s : Finding) (span : Span) : Type 0 where
+  pub order : span.low ≤ span.last
+  pub kept : s.from ≤ span.low
+  pub none : (x : ℕ) → IsWithin span x → Holds s.numbers x → ⊥
+
 -- the members of which this is a signed word are held
 abbrev pub HasMet : Finding → Word → Type 0
 HasMet s w = (n : ℕ) (e : Entry) → IsEntry n s.class e → IsSignedWordOf e.tiling w → HoldsEntry s e

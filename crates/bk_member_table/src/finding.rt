@@ -11,7 +11,7 @@ ghost use Rattle.bk_lay.specs.TilingWord.{IsWordOf};
 ghost use Rattle.bk_table.specs.Kept.{Holds};
 ghost use Rattle.bk_table.specs.Packed.{packed};
 ghost use Rattle.bk_leaf.specs.Found.{IsFound, IsPlacementOf};
-ghost use Rattle.bk_member_table.specs.Finding.{HasNone, IsHeld, Qualifies};
+ghost use Rattle.bk_member_table.specs.Finding.{HasNone, IsFree, IsHeld, Qualifies};
 
 use crate::judging::{is_allowed, qualifies};
 use bk_lay::word_of;
@@ -70,9 +70,11 @@ impl<const N: usize> Finder<N> {
         &self.table
     }
 
-    /// Whether no member that was met has its number in the span, where the number isn't below those that are kept.
+    /// Whether no member that was met has its number in the span, where the number isn't below those that are kept. It says so of each span, from
+    /// its least number to its greatest, that doesn't begin below those, and of which no number is held.
     pub fn rules_out(&self, span: Span) -> bool
-        ensures { IsTrue result → HasNone self.now span }
+        ensures none { IsTrue result → HasNone self.now span }
+        ensures all { IsFree self.now span → IsTrue result }
     {
         self.from <= span.low && self.table.rules_out(span)
     }

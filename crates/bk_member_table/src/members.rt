@@ -1,9 +1,11 @@
 //! A table of the members of one order and class whose words begin with one count.
 
-ghost use Rattle.std.specs.Prelude.{IfSome, IsTrue, length, ◌+◌, ◌<◌, ◌≡◌, ◌≤◌};
+ghost use Rattle.std.specs.Prelude.{IfSome, IsSome, IsTrue, [], false, length, ◌+◌, ◌<◌, ◌≡◌, ◌≤◌};
 ghost use Rattle.bk_word.specs.Play.{IsLegal};
 ghost use Rattle.bk_word.specs.Word.{order_of};
 ghost use Rattle.bk_barren.specs.Cuts.{IsBarren};
+ghost use Rattle.bk_table.specs.Span.{begun_digits, span_from, span_of};
+ghost use Rattle.bk_member_table.specs.Finding.{IsFree};
 ghost use Rattle.bk_member_table.specs.Members.{BeginsBy, IsBarrenBy, IsWhole, Tells};
 
 use crate::finding::Finder;
@@ -36,6 +38,8 @@ impl<const N: usize> MemberTable<N> {
     /// A table of no count, which says nothing.
     pub fn new(alloc: Global) -> MemberTable<N>
         requires { 0 < N }
+        ensures count { result.count ≡ 0 }
+        ensures none { result.found.numbers ≡ record { kept = []; cut = false } }
     {
         MemberTable {
             order: 0,
@@ -81,11 +85,13 @@ impl<const N: usize> MemberTable<N> {
         self.finder.table().is_cut()
     }
 
-    /// Whether the table tells that no member of the order and the class has a word that begins with the skeleton's moves.
+    /// Whether the table tells that no member of the order and the class has a word that begins with the skeleton's moves. It tells so where it is
+    /// one of the order, the class and the first move's count, and holds no number of a word that begins so.
     pub fn rules_out(&self, order: u8, class: Class, skel: &Skel) -> bool
         requires legal { IsLegal skel.now }
         requires few { order_of skel.now ≤ 16 }
-        ensures { IsTrue result → IsBarren order class skel.now }
+        ensures barren { IsTrue result → IsBarren order class skel.now }
+        ensures all { Tells self.now order class skel.now → IsFree self.now.found (span_of skel.now) → IsTrue result }
     {
         self.tells(order, class, skel) && self.finder.rules_out(span_of(skel))
     }
@@ -97,7 +103,9 @@ impl<const N: usize> MemberTable<N> {
         requires some { 0 < m.now.count }
         requires few { order_of skel.now + m.now.count ≤ 16 }
         requires signs { length m.now.signs ≤ m.now.count + 1 }
-        ensures { IfSome result (IsBarrenBy order class skel.now m.now) }
+        ensures barren { IfSome result (IsBarrenBy order class skel.now m.now) }
+        ensures all { Tells self.now order class skel.now → IsFree self.now.found (span_from (begun_digits skel.now m.now.count m.now.signs))
+            → IsSome result }
     {
         if !self.tells(order, class, skel) {
             return None;
@@ -119,7 +127,8 @@ impl<const N: usize> MemberTable<N> {
 
     // Whether the table is one of this order and class, and of the count by which the skeleton's moves begin.
     fn tells(&self, order: u8, class: Class, skel: &Skel) -> bool
-        ensures { IsTrue result → Tells self.now order class skel.now }
+        ensures yes { IsTrue result → Tells self.now order class skel.now }
+        ensures no { result ≡ false → Tells self.now order class skel.now → ⊥ }
     {
         if self.order != order || self.finder.class() != class {
             return false;
@@ -134,6 +143,7 @@ fn touching(second: u8) -> u8
     requires few { second ≤ 17 }
     ensures most { result ≤ second + 1 }
     ensures unknown { second ≡ 0 → result ≡ 0 }
+    ensures told { 2 < second → result ≡ second + 1 }
 {
     if second <= 2 { 0 } else { second + 1 }
 }
@@ -142,6 +152,7 @@ fn touching(second: u8) -> u8
 fn begins_by(skel: &Skel, count: u8) -> bool
     ensures some { IsTrue result → 0 < length skel.now }
     ensures begins { IsTrue result → BeginsBy count skel.now }
+    ensures no { result ≡ false → 0 < length skel.now → BeginsBy count skel.now → ⊥ }
 {
     skel.moves() > 0 && skel.count_at(0) == count
 }

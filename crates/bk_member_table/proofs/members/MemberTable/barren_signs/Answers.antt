@@ -9,12 +9,12 @@ use Rattle.bk_member_table.specs.Members.{Members, Tells}
 use Rattle.bk_member_table.proofs.WholeTables.{narrowed_span, room_left, ruled_out_by}
 use Rattle.bk_member_table.proofs.members.MemberTable.barren_signs.Goals as goal
 
-pub returns-then-rules_out : goal.returns-then-rules_out
-returns-then-rules_out g c =
+pub returns-then-rules_out-clause-barren : goal.returns-then-rules_out-clause-barren
+returns-then-rules_out-clause-barren g c =
     ruled_out_by (record { order = c.self.inside.order; count = c.self.inside.count; found = c.self.inside.finder }) c.args.order c.args.class
     c.args.skel.now c.args.m.now c.signs.kept
     c.self.invariant.whole c.self.invariant.few
-    (subst (λ (t : Members). Tells t c.args.order c.args.class c.args.skel.now) (sym c.self.view_is) (c.tells.ensures c.if-not-tells.false))
+    (subst (λ (t : Members). Tells t c.args.order c.args.class c.args.skel.now) (sym c.self.view_is) (c.tells.ensures.yes c.if-not-tells.false))
     (omega (
       arith,
       c.signs-test.true,
@@ -22,7 +22,7 @@ returns-then-rules_out g c =
       ap (λ (l : List Sign). length l)
           (c.as_slice-signs.ensures.value ∙ ap (λ (m : Move). m.signs) c.m.view_is),
     ))
-    (subst (λ (s : Span). HasNone c.self.inside.finder s) c.signs.invariant (c.rules_out.ensures c.if-rules_out.true))
+    (subst (λ (s : Span). HasNone c.self.inside.finder s) c.signs.invariant (c.rules_out.ensures.none c.if-rules_out.true))
 
 pub narrowed-span-requires : goal.narrowed-span-requires
 narrowed-span-requires g c = subst IsNarrow (sym c.signs.invariant)
@@ -46,15 +46,15 @@ signs-preserved g c =
     (omega (arith, c.signs-test.true, ap (λ (l : List Sign). length l) (c.as_slice-signs.ensures.value ∙ ap (λ (m : Move). m.signs) c.m.view_is))))
     c.signs.invariant)
 
-pub returns-then-rules_out-2 : goal.returns-then-rules_out-2
-returns-then-rules_out-2 g c =
+pub returns-then-rules_out-2-clause-barren : goal.returns-then-rules_out-2-clause-barren
+returns-then-rules_out-2-clause-barren g c =
     ruled_out_by (record { order = c.self.inside.order; count = c.self.inside.count; found = c.self.inside.finder }) c.args.order c.args.class
     c.args.skel.now c.args.m.now (length c.as_slice-signs.result.now)
     c.self.invariant.whole c.self.invariant.few
-    (subst (λ (t : Members). Tells t c.args.order c.args.class c.args.skel.now) (sym c.self.view_is) (c.tells.ensures c.if-not-tells.false))
+    (subst (λ (t : Members). Tells t c.args.order c.args.class c.args.skel.now) (sym c.self.view_is) (c.tells.ensures.yes c.if-not-tells.false))
     (omega (arith, ap (λ (l : List Sign). length l) (c.as_slice-signs.ensures.value ∙ ap (λ (m : Move). m.signs) c.m.view_is)))
     (subst (λ (s : Span). HasNone c.self.inside.finder s) (c.signs.invariant
-    ∙ ap (λ k. span_from (begun_digits c.args.skel.now c.args.m.now.count (take k c.args.m.now.signs))) all) (c.rules_out-2.ensures c.if-rules_out-2.true))
+    ∙ ap (λ k. span_from (begun_digits c.args.skel.now c.args.m.now.count (take k c.args.m.now.signs))) all) (c.rules_out-2.ensures.none c.if-rules_out-2.true))
   where
     all : c.signs.kept ≡ length c.as_slice-signs.result.now
     all = omega (arith, c.signs-test.false, c.signs.auto.kept-end)
