@@ -21,7 +21,7 @@ use Rattle.bk_catalogue.proofs.WordCounts.{few_entries}
 use Rattle.bk_list.specs.Listing.{AreFirst, AtEnd, AtLimit, Ending, EndsBy, IsBelowLimit, IsListing, IsWithinLimit, ending_line, line_of, name_of}
 use Rattle.bk_list.specs.ListingLaws.{cursor_after}
 use Rattle.bk_catalogue.specs.Following.{HasNoneAfter}
-use Rattle.bk_walk.specs.Walking.{IsNextMember}
+use Rattle.bk_walk.specs.Walking.{IsNextMember, WalkState}
 use Rattle.bk_list.specs.Writing.{AreEndedBy, BeginsListing, HasEntries, IsNext, IsNextBegun, TakesNext, WritesListing}
 use Rattle.bk_list.specs.declared.entries.Next.{Next}
 use Rattle.bk_list.specs.declared.entries.Next.TheVariants.{Member, Nothing}
@@ -38,6 +38,11 @@ word_some n class cursor t w next = ((tiling_word_is_complete t w (next.member).
 pub on_err : {A E : Type 0} {P : Type 0} (r : Result A E) → P → OnErr r P
 on_err (Ok a) p = tt
 on_err (Err e) p = p
+
+-- a walk of an order and a class, seen as one of these
+pub seen_so : (w : WalkState) (n : ℕ) (class : Class) → w.order ≡ n → w.class ≡ class
+    → w ≡ record { order = n; class = class; cursor = w.cursor; ended = w.ended; pushes = w.pushes }
+seen_so w n class e f = λ i. record { order = e i; class = f i; cursor = w.cursor; ended = w.ended; pushes = w.pushes }
 
 -- the next entry, by other names of the order, of the class and of what came
 pub next_as : (k n : ℕ) (one class : Class) (cursor then : Word) (b c : Option (List ℕ)) (x next : Next) → k ≡ n → one ≡ class → x ≡ next

@@ -10,7 +10,7 @@ use bk_grammar::AnswerBuffer;
 use bk_ports::{Failed, Sink};
 use bk_report::{Last, write_entry};
 use bk_skel::Steps;
-use bk_walk::Walk;
+use bk_walk::TabledWalk;
 use std::sync::ledger::Ledger;
 
 // What comes after the cursor.
@@ -22,8 +22,8 @@ pub(crate) enum Next {
 }
 
 // Writes the entries of a listing, up to its end, and gives how it ends and how many entries it has.
-pub(crate) fn write_entries<L: Ledger, O: Sink>(
-    walk: &mut Walk,
+pub(crate) fn write_entries<const ROOM: usize, L: Ledger, O: Sink>(
+    walk: &mut TabledWalk<ROOM>,
     limit: Option<u64>,
     steps: &mut Steps<L>,
     buffer: &mut AnswerBuffer,
@@ -61,8 +61,8 @@ fn is_reached(limit: Option<u64>, listed: u64) -> bool
 }
 
 // Writes the entry of the next member, by one call.
-fn write_next<L: Ledger, O: Sink>(
-    walk: &mut Walk,
+fn write_next<const ROOM: usize, L: Ledger, O: Sink>(
+    walk: &mut TabledWalk<ROOM>,
     steps: &mut Steps<L>,
     buffer: &mut AnswerBuffer,
     out: &mut O,

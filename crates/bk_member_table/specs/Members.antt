@@ -25,9 +25,8 @@ BeginsBy count w = (m : Move) → slice_get w 0 ≡ Some m → m.count ≡ count
 abbrev pub IsWhole : Members → Type 0
 IsWhole t = (e : Entry) → IsEntry t.order t.found.class e → BeginsBy t.count e.word → HoldsEntry t.found e
 
--- what holds of each table with room for so many
-pub record IsMemberTable (room : ℕ) (t : Members) : Type 0 where
-  pub some : 0 < room
+-- what holds of each table
+pub record IsMemberTable (t : Members) : Type 0 where
   pub few : t.order ≤ 16
   pub whole : IsWhole t
 

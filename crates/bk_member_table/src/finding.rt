@@ -32,20 +32,16 @@ pub struct Finder<const N: usize> {
 }
 
 impl<const N: usize> Model for Finder<N> {
-    ghost use Rattle.std.specs.Prelude.{◌<◌};
     ghost use Rattle.bk_member_table.specs.Finding.{Finding};
 
     ghost Value = { Finding };
 
     ghost view = { λ s. record { class = s.class; from = s.from; numbers = s.table } };
-
-    ghost invariant = { λ s. 0 < N };
 }
 
 impl<const N: usize> Finder<N> {
     /// One that has met no word.
     pub fn new(alloc: Global, class: Class, from: u128) -> Finder<N>
-        requires { 0 < N }
         ensures { result ≡ record { class = class; from = from; numbers = record { kept = []; cut = false } } }
     {
         Finder {

@@ -31,13 +31,12 @@ impl<const N: usize> Model for MemberTable<N> {
 
     ghost view = { λ t. record { order = t.order; count = t.count; found = t.finder } };
 
-    ghost invariant = { λ t. IsMemberTable N (record { order = t.order; count = t.count; found = t.finder }) };
+    ghost invariant = { λ t. IsMemberTable (record { order = t.order; count = t.count; found = t.finder }) };
 }
 
 impl<const N: usize> MemberTable<N> {
     /// A table of no count, which says nothing.
     pub fn new(alloc: Global) -> MemberTable<N>
-        requires { 0 < N }
         ensures count { result.count ≡ 0 }
         ensures none { result.found.numbers ≡ record { kept = []; cut = false } }
     {
@@ -52,7 +51,6 @@ impl<const N: usize> MemberTable<N> {
     /// up to its bound. Each of them whose packed word isn't below this number has it in the table, or, where the table was cut,
     /// above the greatest that is kept.
     pub fn of(alloc: Global, order: u8, class: Class, count: u8, from: u128) -> MemberTable<N>
-        requires room { 0 < N }
         requires least { 3 ≤ order }
         requires most { order ≤ 16 }
         ensures order { result.order ≡ order }

@@ -79,7 +79,6 @@ impl<const N: usize> Table<N> {
 
     /// Puts a number into the table, if it isn't there, and drops the greatest where there is no room. No other number is put.
     pub fn put(&mut self, number: u128)
-        requires { 0 < N }
         ensures put { Holds self.new number }
         ensures kept { (x : ℕ) → Holds self.old x → Holds self.new x }
         ensures only { (x : ℕ) → Contains self.new.kept x → Contains self.old.kept x ⊎ (x ≡ number) }

@@ -19,7 +19,12 @@ use bk_word::{Class, Move, Sign};
 
 // Passes over a legal move by which no member's word of the order and the class goes on, and over others of which this is as
 // plain. False where it isn't plain; the move is then as it was.
-pub(crate) fn skip(lined: &LinedSkel, class: Class, order: u8, m: &mut Move) -> bool
+pub(crate) fn skip<const ROOM: usize>(
+    lined: &LinedSkel<ROOM>,
+    class: Class,
+    order: u8,
+    m: &mut Move,
+) -> bool
     requires legal { IsLegalMove (outline_of lined.now) m.old }
     requires count { m.old.count < 17 }
     requires signs { length m.old.signs ≤ 18 }
@@ -40,7 +45,12 @@ pub(crate) fn skip(lined: &LinedSkel, class: Class, order: u8, m: &mut Move) -> 
 
 // Passes over a move, and over all of its count whose signs are the same up to a place, where the table of members has none
 // that goes on by them.
-fn skip_by_members(lined: &LinedSkel, class: Class, order: u8, m: &mut Move) -> bool
+fn skip_by_members<const ROOM: usize>(
+    lined: &LinedSkel<ROOM>,
+    class: Class,
+    order: u8,
+    m: &mut Move,
+) -> bool
     requires legal { IsLegalMove (outline_of lined.now) m.old }
     requires count { m.old.count < 17 }
     requires signs { length m.old.signs ≤ 18 }
@@ -61,7 +71,7 @@ fn skip_by_members(lined: &LinedSkel, class: Class, order: u8, m: &mut Move) -> 
 }
 
 // Passes over a move that the sides of the first squares rule out.
-fn skip_by_sides(lined: &LinedSkel, class: Class, m: &mut Move) -> bool
+fn skip_by_sides<const ROOM: usize>(lined: &LinedSkel<ROOM>, class: Class, m: &mut Move) -> bool
     requires legal { IsLegalMove (outline_of lined.now) m.old }
     requires count { m.old.count < 17 }
     requires signs { length m.old.signs ≤ 18 }
@@ -176,7 +186,7 @@ fn skip_shorter(skel: &Skel, m: &mut Move) -> bool
 }
 
 // Whether it is plain that no member's word of the order begins with these moves, in any class.
-pub(crate) fn is_barren(lined: &LinedSkel, order: u8) -> bool
+pub(crate) fn is_barren<const ROOM: usize>(lined: &LinedSkel<ROOM>, order: u8) -> bool
     ensures { IsTrue result → (class : Class) → IsBarren order class lined.now }
 {
     is_whole_early(lined.skel(), order) || owes_too_many(lined, order)
@@ -192,7 +202,7 @@ fn is_whole_early(skel: &Skel, order: u8) -> bool
 // Whether fewer squares are left than must still hang: one for each segment that ends above its neighbour on one segment's
 // side, one for that segment itself where a vertical line from the top bounds it or ended on it, and one more for each valley
 // of just one square. At orders under 3 nothing is said.
-fn owes_too_many(lined: &LinedSkel, order: u8) -> bool
+fn owes_too_many<const ROOM: usize>(lined: &LinedSkel<ROOM>, order: u8) -> bool
     ensures { IsTrue result → (class : Class) → IsBarren order class lined.now }
 {
     if order < 3 {

@@ -12,4 +12,5 @@ mod search;
 mod tabled;
 mod walk;
 
-pub use walk::{Entry, Walk, WideAt};
+pub use tabled::{LEAST_TABLED_ORDER, MOST_MEMBERS};
+pub use walk::{Entry, TabledWalk, UntabledWalk, Walk, WideAt};

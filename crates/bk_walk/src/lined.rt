@@ -20,17 +20,17 @@ use std::marker::Model;
 use std::sync::ledger::Ledger;
 
 /// A skeleton, of each of its squares whether its left edge lies on a vertical line that runs from the top between squares of
-/// the first move, what is known of the sides of its first squares, and a table of members. It is seen as the list of its
-/// moves. (Own.)
+/// the first move, what is known of the sides of its first squares, and room for a table of members. It is seen as the
+/// list of its moves. (Own.)
 #[derive(Drop)]
-pub(crate) struct LinedSkel {
+pub(crate) struct LinedSkel<const ROOM: usize> {
     skel: Skel,
     lines: ArrayVec<bool, LARGEST_ORDER>,
     sides: Tracing,
-    tabled: TabledMembers,
+    tabled: TabledMembers<ROOM>,
 }
 
-impl Model for LinedSkel {
+impl<const ROOM: usize> Model for LinedSkel<ROOM> {
     ghost use Rattle.bk_word.specs.Word.{Word as Moves};
     ghost use Rattle.bk_walk.specs.LinedWords.{IsKeptLined};
 
@@ -41,9 +41,9 @@ impl Model for LinedSkel {
     ghost invariant = { λ s. IsKeptLined s.skel s.lines.items s.sides };
 }
 
-impl LinedSkel {
+impl<const ROOM: usize> LinedSkel<ROOM> {
     /// The skeleton of no move.
-    pub(crate) fn new(alloc: Global) -> LinedSkel
+    pub(crate) fn new(alloc: Global) -> LinedSkel<ROOM>
         ensures { result ≡ [] }
     {
         LinedSkel {

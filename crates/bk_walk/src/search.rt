@@ -39,8 +39,8 @@ pub(crate) enum Found {
 }
 
 // Searches on from a place, up to the next member's word.
-pub(crate) fn search<L: Ledger>(
-    lined: &mut LinedSkel,
+pub(crate) fn search<const ROOM: usize, L: Ledger>(
+    lined: &mut LinedSkel<ROOM>,
     next: &mut Move,
     class: Class,
     order: u8,
@@ -67,8 +67,8 @@ pub(crate) fn search<L: Ledger>(
 }
 
 // Goes one step on: back from moves after which none is left, over moves that are cut, or down by a move that is pushed.
-fn search_step<L: Ledger>(
-    lined: &mut LinedSkel,
+fn search_step<const ROOM: usize, L: Ledger>(
+    lined: &mut LinedSkel<ROOM>,
     next: &mut Move,
     class: Class,
     order: u8,
@@ -108,7 +108,7 @@ fn search_step<L: Ledger>(
 }
 
 // How many sides of the leftmost valley are no walls.
-fn open_sides(lined: &LinedSkel) -> usize
+fn open_sides<const ROOM: usize>(lined: &LinedSkel<ROOM>) -> usize
     ensures value { result ≡ sides_open (outline_of lined.now) }
     ensures few { result ≤ 2 }
 {
@@ -117,7 +117,7 @@ fn open_sides(lined: &LinedSkel) -> usize
 }
 
 // Takes the last move back, and makes of the other the next after it. False where there is no move.
-fn climb(lined: &mut LinedSkel, next: &mut Move) -> bool
+fn climb<const ROOM: usize>(lined: &mut LinedSkel<ROOM>, next: &mut Move) -> bool
     requires small { order_of lined.old ≤ 16 }
     ensures on { IsTrue result → IsClimbed lined.old lined.new next.new }
     ensures end { result ≡ false → lined.old ≡ [] }
@@ -134,8 +134,8 @@ fn climb(lined: &mut LinedSkel, next: &mut Move) -> bool
 }
 
 // Pushes a move, counts it, and makes a table of members where the walk wants it.
-fn go_down<L: Ledger>(
-    lined: &mut LinedSkel,
+fn go_down<const ROOM: usize, L: Ledger>(
+    lined: &mut LinedSkel<ROOM>,
     m: &Move,
     class: Class,
     order: u8,
@@ -154,8 +154,8 @@ fn go_down<L: Ledger>(
 }
 
 // Pushes a move, and counts it.
-pub(crate) fn play<L: Ledger>(
-    lined: &mut LinedSkel,
+pub(crate) fn play<const ROOM: usize, L: Ledger>(
+    lined: &mut LinedSkel<ROOM>,
     m: &Move,
     pushes: &mut u64,
     steps: &mut Steps<L>,
@@ -172,7 +172,7 @@ pub(crate) fn play<L: Ledger>(
 
 // Whether the moves are a complete word of the order which a tiling may have: it isn't told by whole numbers that none has it. No room is taken for
 // a tiling.
-fn is_candidate(lined: &LinedSkel, order: u8) -> bool
+fn is_candidate<const ROOM: usize>(lined: &LinedSkel<ROOM>, order: u8) -> bool
     requires order { order ≤ 16 }
     ensures whole { IsTrue result → IsComplete lined.now × (order_of lined.now ≡ order) }
     ensures none { result ≡ false → IsComplete lined.now → order_of lined.now ≡ order → (t : Tiled) → IsTiling t → ¬ (IsWordOf t lined.now) }
@@ -184,7 +184,7 @@ fn is_candidate(lined: &LinedSkel, order: u8) -> bool
 }
 
 // Whether the moves are a complete word of the order.
-fn is_complete_of(lined: &LinedSkel, order: u8) -> bool
+fn is_complete_of<const ROOM: usize>(lined: &LinedSkel<ROOM>, order: u8) -> bool
     ensures whole { IsTrue result → IsComplete lined.now × (order_of lined.now ≡ order) }
     ensures unready { result ≡ false → IsComplete lined.now → order_of lined.now ≡ order → ⊥ }
 {

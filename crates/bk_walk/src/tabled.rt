@@ -11,24 +11,28 @@ use bk_skel::Skel;
 use bk_word::{Class, Move};
 use std::alloc::Global;
 
-// There is room for all members of order 16 whose words begin with one count.
-const MOST_MEMBERS: usize = 5_500;
+/// So many members make a table worth its room: all of order 16 whose words begin with one count.
+pub const MOST_MEMBERS: usize = 5_500;
+
+/// The least order of which a walk may make a table: whole walks of lower ones push fewer moves than it waits for.
+pub const LEAST_TABLED_ORDER: u8 = 10;
 
 // A walk pushes so many moves before it makes a table: a walk of fewer is done sooner without one. As measured, one of order 9
 // pushes fewer, and a whole one of order 12 takes 4 ms so, and 22 where it waits for eight times as many.
 const PATIENCE: u64 = 2_048;
 
-/// The table of the members whose words begin with one count, and this count; none is made at first, and the count is 0. (Own.)
+/// Room for a table of so many of the members whose words begin with one count, and this count; none is made at first, and the count is
+/// 0. Where there is no room none is ever made. (Own.)
 #[derive(Drop)]
-pub(crate) struct TabledMembers {
+pub(crate) struct TabledMembers<const ROOM: usize> {
     alloc: Global,
     count: u8,
-    table: MemberTable<MOST_MEMBERS>,
+    table: MemberTable<ROOM>,
 }
 
-impl TabledMembers {
+impl<const ROOM: usize> TabledMembers<ROOM> {
     /// No table is made.
-    pub(crate) fn new(alloc: Global) -> TabledMembers {
+    pub(crate) fn new(alloc: Global) -> TabledMembers<ROOM> {
         TabledMembers {
             alloc,
             count: 0,
@@ -43,7 +47,7 @@ impl TabledMembers {
         requires legal { IsLegal skel.now }
         requires few { order_of skel.now ≤ 16 }
     {
-        if pushes < PATIENCE || order < 3 || skel.moves() == 0 {
+        if ROOM == 0 || pushes < PATIENCE || order < 3 || skel.moves() == 0 {
             return;
         }
         let count = skel.get(0).count;

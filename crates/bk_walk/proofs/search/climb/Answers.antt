@@ -4,7 +4,7 @@ use Rattle.bk_walk.proofs.Standing.{IsLastMove, last_move, taken_last}
 use Rattle.bk_walk.proofs.search.climb.Goals as goal
 
 pub next_move-requires-clause-count : goal.next_move-requires-clause-count
-next_move-requires-clause-count c =
+next_move-requires-clause-count g c =
     let was = taken_last c.args.lined.now c.pop.new.self c.read_move.new.m c.moves-moves.result
     (c.moves-moves.ensures.value ∙ ap length c.skel.ensures.value) (omega (arith, c.if-moves-eq0.false))
     (ap (λ (w : Word). slice_get w (c.moves-moves.result - 1)) (sym c.skel-2.ensures.value) ∙ c.read_move.ensures) c.pop.ensures in
@@ -13,7 +13,7 @@ next_move-requires-clause-count c =
     omega (arith, last.count)
 
 pub next_move-requires-clause-signs : goal.next_move-requires-clause-signs
-next_move-requires-clause-signs c =
+next_move-requires-clause-signs g c =
     let was = taken_last c.args.lined.now c.pop.new.self c.read_move.new.m c.moves-moves.result
     (c.moves-moves.ensures.value ∙ ap length c.skel.ensures.value) (omega (arith, c.if-moves-eq0.false))
     (ap (λ (w : Word). slice_get w (c.moves-moves.result - 1)) (sym c.skel-2.ensures.value) ∙ c.read_move.ensures) c.pop.ensures in
@@ -22,7 +22,7 @@ next_move-requires-clause-signs c =
     omega (arith, last.signs)
 
 pub returns-clause-on : goal.returns-clause-on
-returns-clause-on c _ = record {
+returns-clause-on g c _ = record {
   last = c.read_move.new.m;
   was = taken_last c.args.lined.now c.pop.new.self c.read_move.new.m c.moves-moves.result
       (c.moves-moves.ensures.value ∙ ap length c.skel.ensures.value) (omega (arith, c.if-moves-eq0.false))

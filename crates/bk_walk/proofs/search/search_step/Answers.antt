@@ -1,4 +1,4 @@
-use Rattle.std.proofs.Common.{ap, arith, length, subst, sym, ℕ, ◌+◌, ◌-◌, ◌∙◌, ◌≡◌, ◌≤◌}
+use Rattle.std.proofs.Common.{ap, arith, length, rules, subst, sym, ℕ, ◌+◌, ◌-◌, ◌∙◌, ◌≡◌, ◌≤◌}
 use Rattle.bk_word.specs.Outline.{IsLegalMove}
 use Rattle.bk_word.specs.Play.{outline_of}
 use Rattle.bk_word.specs.Word.{Move, order_of}
@@ -23,21 +23,31 @@ returns-else-climb-clause-leads g c = (
   c.climb.ensures.kept c.if-climb.false,
 )
 
-pub skip-requires-clause-legal : goal.skip-requires-clause-legal
-skip-requires-clause-legal g c = (step_least c.args.order c.args.class c.args.lined.now c.args.next.now c.least_legal_from.new.m c.requires.order
-    c.requires.stand (c.least_legal_from.ensures ∙ ap (λ k. fitted k c.args.next.now) c.open_sides.ensures.value)).legal
-
-pub skip-requires-clause-signs : goal.skip-requires-clause-signs
-skip-requires-clause-signs g c =
+pub skip-requires : goal.skip-requires
+skip-requires g c =
     let count = ap (λ (m : Move). m.count) c.next.view_is in
-    omega (
-      arith,
-      step_signs c.args.order c.args.class c.args.lined.now c.args.next.now c.least_legal_from.new.m c.requires.order c.requires.stand
-          (c.least_legal_from.ensures ∙ ap (λ k. fitted k c.args.next.now) c.open_sides.ensures.value),
-      c.if-order-from.false,
-      c.from.ensures,
-      c.from-2.ensures,
-      c.requires.order,
+    let fit = c.least_legal_from.ensures ∙ ap (λ k. fitted k c.args.next.now) c.open_sides.ensures.value in (
+      search rules,
+      (
+        (step_least c.args.order c.args.class c.args.lined.now c.args.next.now c.least_legal_from.new.m c.requires.order c.requires.stand fit).legal,
+        (
+          omega (arith, c.if-order-from.false, c.from.ensures, c.from-2.ensures, c.requires.order),
+          (
+            omega (
+              arith,
+              step_signs c.args.order c.args.class c.args.lined.now c.args.next.now c.least_legal_from.new.m c.requires.order c.requires.stand fit,
+              c.if-order-from.false,
+              c.from.ensures,
+              c.from-2.ensures,
+              c.requires.order,
+            ),
+            (
+              omega (arith, c.if-order-from.false, c.from.ensures, c.from-2.ensures, c.order.ensures.value, ap order_of c.skel.ensures.value),
+              c.requires.order,
+            ),
+          ),
+        ),
+      ),
     )
 
 pub returns-then-skip-clause-leads : goal.returns-then-skip-clause-leads
@@ -48,10 +58,29 @@ returns-then-skip-clause-leads g c = step_cuts c.args.order c.args.class c.args.
     (let v = c.order.ensures.value ∙ ap order_of c.skel.ensures.value in let count = ap (λ (m : Move). m.count) c.next.view_is in
     omega (arith, c.if-order-from.false, c.from.ensures, c.from-2.ensures)) (omega arith)
 
-pub go_down-requires-clause-legal : goal.go_down-requires-clause-legal
-go_down-requires-clause-legal g c = subst (IsLegalMove (outline_of c.args.lined.now)) (sym (c.skip.ensures.kept c.if-skip.false))
-    (step_least c.args.order c.args.class c.args.lined.now c.args.next.now c.least_legal_from.new.m c.requires.order c.requires.stand
-    (c.least_legal_from.ensures ∙ ap (λ k. fitted k c.args.next.now) c.open_sides.ensures.value)).legal
+pub go_down-requires : goal.go_down-requires
+go_down-requires g c =
+    let count = ap (λ (m : Move). m.count) c.next.view_is in
+    let fit = c.least_legal_from.ensures ∙ ap (λ k. fitted k c.args.next.now) c.open_sides.ensures.value in
+    let same : c.skip.new.m ≡ c.least_legal_from.new.m = c.skip.ensures.kept c.if-skip.false in (
+      search rules,
+      (
+        c.requires.order,
+        (
+          subst (IsLegalMove (outline_of c.args.lined.now)) (sym same)
+              (step_least c.args.order c.args.class c.args.lined.now c.args.next.now c.least_legal_from.new.m c.requires.order c.requires.stand fit).legal,
+          omega (
+            arith,
+            ap (λ (m : Move). m.count) same,
+            c.if-order-from.false,
+            c.from.ensures,
+            c.from-2.ensures,
+            c.order.ensures.value,
+            ap order_of c.skel.ensures.value,
+          ),
+        ),
+      ),
+    )
 
 -- the move that is pushed is the one that fits
 fits : (m n x : Move) (k j : ℕ) → m ≡ n → n ≡ fitted k x → k ≡ j → m ≡ fitted j x

@@ -5,7 +5,6 @@ use Rattle.bk_member_table.proofs.members.MemberTable.of.Goals as goal
 
 pub invariant_of-result : goal.invariant_of-result
 invariant_of-result g c = record {
-  some = c.requires.room;
   few = c.requires.most;
   whole = whole_table c.args.order c.args.count c.args.from c.least_second.result c.touching-least.result c.search.new.leaves c.requires.least
       c.requires.most (ap (λ (f : Wanted). f.from) c.search.ensures.fixed ∙ ap (λ (f : Finding). f.from) c.new-finder.ensures)

@@ -1,35 +1,34 @@
 use Rattle.std.proofs.Common.{ap, inl, inr, subst, ◌-◌, ◌∙◌}
 use Rattle.bk_word.specs.Word.{Word}
 use Rattle.bk_report.specs.Listings.{last_line}
-use Rattle.bk_catalogue.specs.Following.{start_cursor}
 use Rattle.bk_walk.specs.Walking.{WalkState}
-use Rattle.bk_list.proofs.ListingSteps.{begun_whole, ended_narrow, on_err, written_whole}
+use Rattle.bk_list.proofs.ListingSteps.{begun_whole, ended_narrow, on_err, seen_so, written_whole}
 use Rattle.bk_list.proofs.StepCounts.{takes_all, took_all}
 use Rattle.bk_list.specs.Stepping.{HasEntriesBySteps, StoppedAtEntry, TakesSteps}
 use Rattle.bk_list.specs.Writing.{BeginsListing, HasEntries}
-use Rattle.bk_list.proofs.listing.write_listing.Goals as goal
+use Rattle.bk_list.proofs.listing.write_by.Goals as goal
 
 pub returns-in_err-last-clause-begun : goal.returns-in_err-last-clause-begun
 returns-in_err-last-clause-begun g c =
     on_err c.from_residual.result
     (subst (λ (w : WalkState). BeginsListing w.order w.class w.cursor c.args.limit (g.O.Sink.written c.args.out.now)
-    (g.O.Sink.written c.write_entries.new.out)) c.new-walk.ensures c.in_err-last.ensures.begun)
+    (g.O.Sink.written c.write_entries.new.out)) (seen_so c.args.walk.now c.args.order c.args.class c.requires.order_is c.requires.class_is) c.in_err-last.ensures.begun)
 
 pub returns-in_err-last-clause-stopped : goal.returns-in_err-last-clause-stopped
 returns-in_err-last-clause-stopped g c =
     on_err c.from_residual.result
     (inl (subst (λ (w : WalkState). StoppedAtEntry w.order w.class w.cursor c.args.limit (g.O.Sink.written c.args.out.now)
-    (g.O.Sink.written c.write_entries.new.out) (c.write_entries.new.steps - c.args.steps.now)) c.new-walk.ensures c.in_err-last.ensures.stopped))
+    (g.O.Sink.written c.write_entries.new.out) (c.write_entries.new.steps - c.args.steps.now)) (seen_so c.args.walk.now c.args.order c.args.class c.requires.order_is c.requires.class_is) c.in_err-last.ensures.stopped))
 
 pub returns-in_err-write_all-clause-begun : goal.returns-in_err-write_all-clause-begun
 returns-in_err-write_all-clause-begun g c =
     on_err c.from_residual-in_err-write_all.result
-    (begun_whole c.args.order c.args.class (start_cursor c.args.from) c.args.limit c.in_ok-last.last c.in_ok-last.listed c.write_entries.new.walk.cursor
+    (begun_whole c.args.order c.args.class c.args.walk.now.cursor c.args.limit c.in_ok-last.last c.in_ok-last.listed c.write_entries.new.walk.cursor
     (g.O.Sink.written c.args.out.now)
     (g.O.Sink.written c.write_entries.new.out) (g.O.Sink.written c.write_all.new.self)
     (subst (λ (w : WalkState). HasEntries w.order w.class w.cursor c.args.limit c.in_ok-last.last c.in_ok-last.listed (g.O.Sink.written c.args.out.now)
     (g.O.Sink.written c.write_entries.new.out))
-    c.new-walk.ensures (c.in_ok-last.ensures.ended).lines)
+    (seen_so c.args.walk.now c.args.order c.args.class c.requires.order_is c.requires.class_is) (c.in_ok-last.ensures.ended).lines)
     c.as_slice.result.now (c.as_slice.ensures.value ∙ c.write_last.ensures
     ∙ ap (λ (w : Word). last_line c.in_ok-last.last c.args.order c.args.class c.in_ok-last.listed w) c.cursor.ensures)
     c.in_err-write_all.ensures.err)
@@ -37,37 +36,37 @@ returns-in_err-write_all-clause-begun g c =
 pub returns-in_err-write_all-clause-stopped : goal.returns-in_err-write_all-clause-stopped
 returns-in_err-write_all-clause-stopped g c =
     on_err c.from_residual-in_err-write_all.result
-    (inr (took_all c.args.order c.args.class (start_cursor c.args.from) c.args.limit c.in_ok-last.last c.in_ok-last.listed c.write_entries.new.walk.cursor
+    (inr (took_all c.args.order c.args.class c.args.walk.now.cursor c.args.limit c.in_ok-last.last c.in_ok-last.listed c.write_entries.new.walk.cursor
     (g.O.Sink.written c.args.out.now) (g.O.Sink.written c.write_entries.new.out) (g.O.Sink.written c.write_all.new.self)
     (c.write_entries.new.steps - c.args.steps.now)
     (subst (λ (w : WalkState). HasEntriesBySteps w.order w.class w.cursor c.args.limit c.in_ok-last.last c.in_ok-last.listed
     (g.O.Sink.written c.args.out.now) (g.O.Sink.written c.write_entries.new.out) (c.write_entries.new.steps - c.args.steps.now))
-    c.new-walk.ensures c.in_ok-last.ensures.ended)
+    (seen_so c.args.walk.now c.args.order c.args.class c.requires.order_is c.requires.class_is) c.in_ok-last.ensures.ended)
     c.as_slice.result.now (c.as_slice.ensures.value ∙ c.write_last.ensures
     ∙ ap (λ (w : Word). last_line c.in_ok-last.last c.args.order c.args.class c.in_ok-last.listed w) c.cursor.ensures)
     c.in_err-write_all.ensures.err))
 
 pub returns-clause-listed : goal.returns-clause-listed
 returns-clause-listed g c =
-    written_whole c.args.order c.args.class (start_cursor c.args.from) c.args.limit c.in_ok-last.last c.in_ok-last.listed c.write_entries.new.walk.cursor
+    written_whole c.args.order c.args.class c.args.walk.now.cursor c.args.limit c.in_ok-last.last c.in_ok-last.listed c.write_entries.new.walk.cursor
     (g.O.Sink.written c.args.out.now)
     (g.O.Sink.written c.write_entries.new.out) (g.O.Sink.written c.write_all.new.self)
     (subst (λ (w : WalkState). HasEntries w.order w.class w.cursor c.args.limit c.in_ok-last.last c.in_ok-last.listed (g.O.Sink.written c.args.out.now)
     (g.O.Sink.written c.write_entries.new.out))
-    c.new-walk.ensures (c.in_ok-last.ensures.ended).lines)
+    (seen_so c.args.walk.now c.args.order c.args.class c.requires.order_is c.requires.class_is) (c.in_ok-last.ensures.ended).lines)
     c.as_slice.result.now (c.as_slice.ensures.value ∙ c.write_last.ensures
     ∙ ap (λ (w : Word). last_line c.in_ok-last.last c.args.order c.args.class c.in_ok-last.listed w) c.cursor.ensures)
     c.in_ok-write_all.ensures.ok
 
 pub returns-clause-narrow : goal.returns-clause-narrow
 returns-clause-narrow g c =
-    ended_narrow c.new-walk.result.order c.new-walk.result.class c.new-walk.result.cursor c.args.limit c.in_ok-last.last c.in_ok-last.listed
+    ended_narrow c.args.walk.now.order c.args.walk.now.class c.args.walk.now.cursor c.args.limit c.in_ok-last.last c.in_ok-last.listed
     (g.O.Sink.written c.args.out.now) (g.O.Sink.written c.write_entries.new.out) (c.in_ok-last.ensures.ended).lines
 
 pub returns-clause-steps : goal.returns-clause-steps
 returns-clause-steps g c =
     subst (λ (w : WalkState). TakesSteps w.order w.class w.cursor c.args.limit c.in_ok-last.last (c.write_entries.new.steps - c.args.steps.now))
-    c.new-walk.ensures
-    (takes_all c.new-walk.result.order c.new-walk.result.class c.new-walk.result.cursor c.args.limit c.in_ok-last.last c.in_ok-last.listed
+    (seen_so c.args.walk.now c.args.order c.args.class c.requires.order_is c.requires.class_is)
+    (takes_all c.args.walk.now.order c.args.walk.now.class c.args.walk.now.cursor c.args.limit c.in_ok-last.last c.in_ok-last.listed
     (g.O.Sink.written c.args.out.now) (g.O.Sink.written c.write_entries.new.out) (c.write_entries.new.steps - c.args.steps.now)
     c.in_ok-last.ensures.ended)
