@@ -1,7 +1,8 @@
 #!/usr/bin/env python3
 """Runs the gate in one piece, and writes its times and the sizes of the crates into docs/GATE.md, between the two marks that stand there.
 
-Each run proves all from nothing. The status is the gate's.
+Each run proves all from nothing: what a toolchain keeps of earlier runs isn't used (`--anew`, where the toolchain knows it). The status is the
+gate's.
 
     scripts/gate_times.py
 """
@@ -49,10 +50,20 @@ def sizes(name):
     return [*parts, len(files_of(name, "must-fail", ".edit")), tests_of(name)]
 
 
+def told_by(word):
+    """Returns what the toolchain's command says to a word."""
+    return subprocess.run(["rt", word], stdin=subprocess.DEVNULL, stdout=subprocess.PIPE, stderr=subprocess.STDOUT, text=True, check=False).stdout
+
+
+def gate():
+    """Returns the command that runs the gate from nothing."""
+    return ["rt", "ci", "--anew"] if "--anew" in told_by("help") else ["rt", "ci"]
+
+
 def run_gate():
     """Runs the gate. Returns its status, its last lines, for each crate when its proof was done, in seconds from the start, and the whole time."""
     began, done, last = time.monotonic(), {}, []
-    ran = subprocess.Popen(["rt", "ci"], cwd=TOP, stdin=subprocess.DEVNULL, stdout=subprocess.PIPE, stderr=subprocess.STDOUT, text=True)
+    ran = subprocess.Popen(gate(), cwd=TOP, stdin=subprocess.DEVNULL, stdout=subprocess.PIPE, stderr=subprocess.STDOUT, text=True)
     for line in ran.stdout:
         print(line, end="", flush=True)
         found = re.fullmatch(r"(?:rt: )?(\w+) proved\n", line)
@@ -66,7 +77,7 @@ def table(last, done, wall):
     used = resource.getrusage(resource.RUSAGE_CHILDREN)
     spent = used.ru_utime + used.ru_stime
     yield f"One run of `rt ci`, from nothing, on {time.strftime('%d %B %Y')}, on {len(os.sched_getaffinity(0))} processors: {wall / 60:.0f} minutes, "
-    yield f"{spent / 60:.0f} processor minutes. It ended with:\n\n"
+    yield f"{spent / 60:.0f} processor minutes, with {told_by('version').split()[0]}. It ended with:\n\n"
     yield from (f"    {it}\n" for it in last)
     yield "\n| crate | proved at | src | specs | proofs | edits | tests |\n|---|---|---|---|---|---|---|\n"
     total = [0] * 5
