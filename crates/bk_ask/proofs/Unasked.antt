@@ -113,3 +113,7 @@ none_alone name none (asks.Pair kind) named say = none.no_pair named
 
 pub nothing_alone : (name : List ℕ) → IsNoneAlone name → AsksNothing (name ∷ [])
 nothing_alone name none ask is = none_alone name none ask (ap first_of is.line) (options_say name [] ask is)
+
+-- a name alone asks for the command of this name, where that may stand alone
+pub asks_alone : (name : List ℕ) (ask : Ask) → name ≡ command_name ask → OptionsSay [] ask → Asks (name ∷ []) ask
+asks_alone name ask named say = record { options = []; line = ap (λ (n : List ℕ). n ∷ []) named; say = say }
