@@ -1,3 +1,5 @@
+use Rattle.std.proofs.lemmas.Grind.{common_steps}
+use Rattle.std.proofs.Common.{arith}
 use Rattle.std.specs.Prelude.{decimal, option_map}
 use Rattle.bk_text.specs.CodeText.{size_text}
 use Rattle.bk_tiling.specs.Tiling.{order}
@@ -24,3 +26,27 @@ returns c =
     )
     (verdict_pieces c.args.out.now.items (decimal (order c.args.tiling.now)) (size_text c.args.tiling.now.width c.args.tiling.now.height)
     (perfect_text c.args.repeated) (simple_text (option_map rectangle_of c.args.part)))
+
+pub push_number-requires : goal.push_number-requires
+push_number-requires c = grind (arith, common_steps)
+
+pub push-requires : goal.push-requires
+push-requires c = grind (arith, common_steps)
+
+pub write_size-requires : goal.write_size-requires
+write_size-requires c = grind (arith, common_steps)
+
+pub push-requires-2 : goal.push-requires-2
+push-requires-2 c = grind (arith, common_steps)
+
+pub push_perfect-requires : goal.push_perfect-requires
+push_perfect-requires c = grind (arith, common_steps)
+
+pub push-requires-3 : goal.push-requires-3
+push-requires-3 c = grind (arith, common_steps)
+
+pub push_simple-requires : goal.push_simple-requires
+push_simple-requires c = grind (arith, common_steps)
+
+pub push-requires-4 : goal.push-requires-4
+push-requires-4 c = grind (arith, common_steps)

@@ -1,6 +1,7 @@
+use Rattle.std.proofs.lemmas.Grind.{common_steps}
 use Rattle.bk_tiling.specs.declared.Square.{Square}
 use Rattle.std.specs.Prelude.{All, decimal}
-use Rattle.std.proofs.Common.{List, subst, sym, ℕ, ◌≤◌}
+use Rattle.std.proofs.Common.{arith, List, subst, sym, ℕ, ◌≤◌}
 use Rattle.bk_tiling.specs.Tiling.{order}
 use Rattle.bk_sym.specs.Image.{image}
 use Rattle.bk_sym.specs.declared.Turn.TheVariants.{Swap}
@@ -35,3 +36,24 @@ returns-clause-line c =
     )
     (dual_pieces wire_text (λ (q : Square). decimal q.s) decimal (decimal (dual_diagram c.args.tiling.now).nodes) (decimal (image Swap c.args.tiling.now).width)
     (decimal (crossings c.args.tiling.now)) (dual_diagram c.args.tiling.now).wires (image Swap c.args.tiling.now).squares (dual_order c.args.tiling.now))
+
+pub push_sides-requires : goal.push_sides-requires
+push_sides-requires c = grind (arith, common_steps)
+
+pub push_bytes-requires-2 : goal.push_bytes-requires-2
+push_bytes-requires-2 c = grind (arith, common_steps)
+
+pub push_places-requires-clause-room : goal.push_places-requires-clause-room
+push_places-requires-clause-room c = grind (arith, common_steps)
+
+pub push_bytes-requires-3 : goal.push_bytes-requires-3
+push_bytes-requires-3 c = grind (arith, common_steps)
+
+pub push_number-requires : goal.push_number-requires
+push_number-requires c = grind (arith, common_steps)
+
+pub push-requires : goal.push-requires
+push-requires c = grind (arith, common_steps)
+
+pub returns-clause-short : goal.returns-clause-short
+returns-clause-short c = grind (arith, common_steps)

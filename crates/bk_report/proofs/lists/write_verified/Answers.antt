@@ -1,3 +1,5 @@
+use Rattle.std.proofs.lemmas.Grind.{common_steps}
+use Rattle.std.proofs.Common.{arith}
 use Rattle.std.specs.Prelude.{decimal, slice_index}
 use Rattle.bk_report.specs.Listings.{last_name, wide_words}
 use Rattle.bk_report.proofs.ListPieces.{verified_pieces}
@@ -22,3 +24,6 @@ returns c =
     (verified_pieces (last_name c.args.last) (decimal c.args.order) (decimal (slice_index c.args.counts 0)) (decimal (slice_index c.args.counts 1))
     (decimal (slice_index c.args.counts 2))
     (decimal (slice_index c.args.counts 3)) (decimal (slice_index c.args.counts 4)) (wide_words c.args.last c.args.word.now))
+
+pub push-requires : goal.push-requires
+push-requires c = grind (arith, common_steps)

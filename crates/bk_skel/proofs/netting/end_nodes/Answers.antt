@@ -1,3 +1,4 @@
+use Rattle.std.proofs.lemmas.Grind.{common_steps}
 use Rattle.std.proofs.Common.{ap, arith, drop, length, sum, sym, take_all, ◌+◌, ◌∙◌, ◌≡◌}
 use Rattle.std.proofs.lemmas.List.{length-map}
 use Rattle.bk_skel.proofs.Wirings.{closed_next, mark_next, none_marked}
@@ -32,3 +33,9 @@ nodes-preserved c = let i = c.nodes.invariant in record {
 pub returns-clause-nodes : goal.returns-clause-nodes
 returns-clause-nodes c = let i = c.nodes.invariant in let none : c.nodes.node ≡ 0 = omega arith in
     λ lists flat long k h. i.marked lists flat long k h ∙ (λ j. none j + end_of (drop (none j) lists) (k + 1)) ∙ omega arith
+
+pub slice_bounds-mark-end-in-nodes : goal.slice_bounds-mark-end-in-nodes
+slice_bounds-mark-end-in-nodes c = grind (arith, common_steps)
+
+pub mark-requires : goal.mark-requires
+mark-requires c = grind (arith, common_steps)

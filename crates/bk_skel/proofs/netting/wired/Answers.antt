@@ -1,3 +1,4 @@
+use Rattle.std.proofs.lemmas.Grind.{common_steps}
 use Rattle.std.proofs.Common.{ap, arith, length, ◌+◌, ◌∙◌, ◌≡◌}
 use Rattle.std.proofs.lemmas.List.{length-append, length-map}
 use Rattle.bk_skel.proofs.Wirings.{next_count, no_turn, wires_here, wires_more}
@@ -34,3 +35,9 @@ loop-node-preserved c =
           c.args.turns.now c.loop-node.rest.now c.split_at.result.0.now c.split_at.result.1.now c.loop-node.node c.from.result _
           (omega arith) i.wires c.from.ensures c.split_at.ensures.front c.split_at.ensures.back wires;
     }
+
+pub split_at-requires : goal.split_at-requires
+split_at-requires c = grind (arith, common_steps)
+
+pub returns : goal.returns
+returns c = grind (arith, common_steps)

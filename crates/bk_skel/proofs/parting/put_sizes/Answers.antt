@@ -1,3 +1,4 @@
+use Rattle.std.proofs.lemmas.Grind.{common_steps}
 use Rattle.std.proofs.Common.{List, ap, arith, count_by, length, sym, take, take_all, ◌++◌, ◌+◌, ◌∙◌, ◌≡◌}
 use Rattle.std.proofs.lemmas.List.{drop_all}
 use Rattle.bk_word.specs.Play.{parts}
@@ -15,3 +16,15 @@ returns c =
     ∙ ap (λ (l : List Sign). take c.loop-i.place c.loop-i.room ++ joined_sizes c.loop-i.size c.args.last l)
     (sym (drop_all c.loop-i.i c.args.moved.now (omega arith)))
     ∙ sym i.put
+
+pub bounds-room-place : goal.bounds-room-place
+bounds-room-place c = grind (arith, common_steps)
+
+pub overflow_add-place : goal.overflow_add-place
+overflow_add-place c = grind (arith, common_steps)
+
+pub loop-i-preserved : goal.loop-i-preserved
+loop-i-preserved c = grind (arith, common_steps)
+
+pub bounds-room-place-2 : goal.bounds-room-place-2
+bounds-room-place-2 c = grind (arith, common_steps)

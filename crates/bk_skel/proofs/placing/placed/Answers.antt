@@ -1,3 +1,4 @@
+use Rattle.std.proofs.lemmas.Grind.{common_steps}
 use Rattle.std.proofs.Common.{arith, drop, refl, take, ◌+◌, ◌-◌}
 use Rattle.bk_word_net.proofs.LaidOnce.{laid_once}
 use Rattle.bk_skel.proofs.PlacingLoop.{placed_start}
@@ -80,3 +81,9 @@ returns-clause-only c u l = laid_once c.args.skel.now c.args.sides.now c.closed.
     (omega (arith, c.requires.count, (c.moves-moves.ensures.kept).few)) c.requires.count c.loop-i.i
     (omega (arith, c.loop-i-test.false, c.moves-moves.ensures.value)) c.loop-i.laid.items c.loop-i.numbers.items c.deref.result.now
     c.loop-i.invariant.to c.sum_of-width.result c.loop-i.invariant.width c.deref.ensures.0 c.closed.result c.closed.ensures) l
+
+pub sum_of-width-requires-clause-few : goal.sum_of-width-requires-clause-few
+sum_of-width-requires-clause-few c = grind (arith, common_steps)
+
+pub sum_of-width-requires-clause-sides : goal.sum_of-width-requires-clause-sides
+sum_of-width-requires-clause-sides c = grind (arith, common_steps)

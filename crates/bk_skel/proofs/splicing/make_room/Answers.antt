@@ -1,3 +1,4 @@
+use Rattle.std.proofs.lemmas.Grind.{common_steps}
 use Rattle.std.proofs.Common.{arith}
 use Rattle.bk_skel.proofs.Rooms.{room_made}
 use Rattle.bk_skel.proofs.splicing.make_room.Goals as goal
@@ -9,3 +10,9 @@ returns-clause-back g c = room_made c.args.list.now.items c.lengthen.new.list.it
     (omega (arith, c.lengthen.ensures.long)) (omega
     (arith, c.lengthen.ensures.long, c.saturating_sub.ensures, c.len-len.ensures.value, c.requires.order, c.requires.within)) c.lengthen.ensures.front
     c.deref_mut.ensures.value c.copy_within.ensures.len c.copy_within.ensures.after c.truncate.ensures.items
+
+pub returns-clause-long : goal.returns-clause-long
+returns-clause-long g c = grind (arith, common_steps)
+
+pub returns-clause-front : goal.returns-clause-front
+returns-clause-front g c = grind (arith, common_steps)

@@ -1,3 +1,4 @@
+use Rattle.std.proofs.lemmas.Grind.{common_steps}
 use Rattle.std.proofs.Common.{List, ap, arith, length, slice_index, subst, sum, sym, take, ℕ, ◌+◌, ◌<◌, ◌∙◌, ◌≡◌, ◌≤◌}
 use Rattle.std.proofs.lemmas.List.{length-take-le}
 use Rattle.bk_word.specs.Play.{IsComplete, outline_of}
@@ -82,3 +83,9 @@ returns c =
           wires_from 0 (counts_of (c.deref-3.ensures.0 i)) (take (c.len.result + c.len-2.result) c.end_nodes-ended.result);
     }) ∙ r.net
     ∙ ap net_of_word c.self.view_is
+
+pub wired-requires-clause-some : goal.wired-requires-clause-some
+wired-requires-clause-some c = grind (arith, common_steps)
+
+pub wired-requires-clause-room : goal.wired-requires-clause-room
+wired-requires-clause-room c = grind (arith, common_steps)

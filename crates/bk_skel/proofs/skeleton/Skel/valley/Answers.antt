@@ -1,4 +1,5 @@
-use Rattle.std.proofs.Common.{List, ap, drop, take, ℕ, ◌+◌, ◌++◌, ◌-◌, ◌∙◌}
+use Rattle.std.proofs.lemmas.Grind.{common_steps}
+use Rattle.std.proofs.Common.{arith, List, ap, drop, take, ℕ, ◌+◌, ◌++◌, ◌-◌, ◌∙◌}
 use Rattle.bk_word.specs.Outline.{valley_place}
 use Rattle.bk_word.specs.Play.{outline_of}
 use Rattle.bk_word.specs.Word.{Word}
@@ -33,3 +34,6 @@ returns c =
     c.leftmost-place.result.1 c.from.result c.deref.ensures.0 c.deref-4.ensures.0 c.deref-3.ensures.0 c.deref-2.ensures.0
     c.leftmost-place.ensures.place c.leftmost-place.ensures.within c.leftmost-place.ensures.first c.from.ensures).are)
     ∙ ap (λ (w : Word). leftmost_valley (outline_of w)) c.self.view_is
+
+pub append-requires : goal.append-requires
+append-requires c = grind (arith, common_steps)
