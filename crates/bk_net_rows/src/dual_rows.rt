@@ -1,29 +1,60 @@
 //! Rows of `bk_dual`.
 
+use crate::tilings::*;
+use arrayvec::ArrayVec;
 use bk_dual::*;
-use bk_tiling::{Square, Tiling};
-use std::test::Fail;
+use bk_net::Net;
+use bk_tiling::{MOST_SQUARES, Tiling};
+use std::process::Abort;
 
-fn at(x: u64, y: u64, s: u64) -> Square {
-    Square { x, y, s }
+// A simple square of thirteen squares.
+fn thirteen_squares() -> Rectangle {
+    (
+        23,
+        23,
+        &[
+            (0, 0, 12),
+            (12, 0, 11),
+            (12, 11, 2),
+            (14, 11, 5),
+            (19, 11, 4),
+            (0, 12, 11),
+            (11, 12, 1),
+            (11, 13, 3),
+            (19, 15, 1),
+            (20, 15, 3),
+            (11, 16, 7),
+            (18, 16, 2),
+            (18, 18, 5),
+        ],
+    )
 }
 
-#[test]
-fn diagrams_and_crossings(rt: HostRuntime) -> Result<(), Fail> {
-    let nine = [
-        at(0, 0, 18),
-        at(18, 0, 15),
-        at(18, 15, 7),
-        at(25, 15, 8),
-        at(0, 18, 14),
-        at(14, 18, 4),
-        at(14, 22, 10),
-        at(24, 22, 1),
-        at(24, 23, 9),
-    ];
-    let tiling = Tiling::try_new(33, 32, &nine)?;
-    let dual = dual_of(&tiling);
-    let wires = [
+// The diagram of a tiling.
+fn diagram(tiling: &Tiling) -> Net {
+    dual_of(tiling)
+}
+
+// The squares that its wires stand for.
+fn numbers(tiling: &Tiling) -> ArrayVec<u16, MOST_SQUARES> {
+    dual_order(tiling)
+}
+
+// How many points a tiling has where four squares meet.
+fn count_crossings(tiling: &Tiling) -> u32 {
+    crossings(tiling)
+}
+
+// Asserts the nodes and the wires of the diagram of the vertical segments.
+fn assert_diagram(rt: &impl Abort, rectangle: Rectangle, nodes: u16, wires: &[(u16, u16)]) {
+    let dual = diagram(&tiling(rt, rectangle));
+    assert_eq!(rt; dual.nodes(), nodes);
+    assert_eq!(rt; dual.wires(), wires);
+}
+
+// The wires of the diagrams of nine and of thirteen squares.
+fn wires_of_nine() -> &'static [(u16, u16)] {
+    &[
         (0, 2),
         (0, 1),
         (1, 2),
@@ -33,46 +64,11 @@ fn diagrams_and_crossings(rt: HostRuntime) -> Result<(), Fail> {
         (3, 4),
         (3, 5),
         (4, 5),
-    ];
-    assert_eq!(rt; dual.nodes(), 6);
-    assert_eq!(rt; dual.wires(), wires.as_slice());
-    assert_eq!(rt;
-        dual_order(&tiling).as_slice(),
-        [1, 5, 6, 7, 2, 3, 8, 9, 4].as_slice()
-    );
-    assert_eq!(rt; crossings(&tiling), 0);
-
-    let four = [at(0, 0, 1), at(1, 0, 1), at(0, 1, 1), at(1, 1, 1)];
-    let tiling = Tiling::try_new(2, 2, &four)?;
-    assert_eq!(rt; dual_order(&tiling).as_slice(), [1, 3, 2, 4].as_slice());
-    assert_eq!(rt; crossings(&tiling), 1);
-
-    let three = [at(0, 0, 2), at(2, 0, 1), at(2, 1, 1)];
-    assert_eq!(rt; crossings(&Tiling::try_new(3, 2, &three)?), 0);
-    Ok(())
+    ]
 }
 
-// The vertical segments of a square of thirteen squares.
-#[test]
-fn diagram_of_a_square(rt: HostRuntime) -> Result<(), Fail> {
-    let thirteen = [
-        at(0, 0, 12),
-        at(12, 0, 11),
-        at(12, 11, 2),
-        at(14, 11, 5),
-        at(19, 11, 4),
-        at(0, 12, 11),
-        at(11, 12, 1),
-        at(11, 13, 3),
-        at(19, 15, 1),
-        at(20, 15, 3),
-        at(11, 16, 7),
-        at(18, 16, 2),
-        at(18, 18, 5),
-    ];
-    let tiling = Tiling::try_new(23, 23, &thirteen)?;
-    let dual = dual_of(&tiling);
-    let wires = [
+fn wires_of_thirteen() -> &'static [(u16, u16)] {
+    &[
         (0, 2),
         (0, 1),
         (1, 2),
@@ -86,13 +82,27 @@ fn diagram_of_a_square(rt: HostRuntime) -> Result<(), Fail> {
         (5, 7),
         (5, 6),
         (6, 7),
-    ];
-    assert_eq!(rt; dual.nodes(), 8);
-    assert_eq!(rt; dual.wires(), wires.as_slice());
-    assert_eq!(rt;
-        dual_order(&tiling).as_slice(),
-        [1, 6, 7, 8, 11, 2, 3, 4, 12, 13, 5, 9, 10].as_slice()
-    );
-    assert_eq!(rt; crossings(&tiling), 0);
-    Ok(())
+    ]
+}
+
+#[test]
+fn diagrams(rt: HostRuntime) {
+    assert_diagram(&rt, nine_squares(), 6, wires_of_nine());
+    assert_diagram(&rt, thirteen_squares(), 8, wires_of_thirteen());
+}
+
+// Asserts which squares the wires stand for, and how many crossings there are.
+fn assert_order(rt: &impl Abort, rectangle: Rectangle, order: &[u16], count: u32) {
+    let tiling = tiling(rt, rectangle);
+    assert_eq!(rt; numbers(&tiling).as_slice(), order);
+    assert_eq!(rt; count_crossings(&tiling), count);
+}
+
+#[test]
+fn orders_and_crossings(rt: HostRuntime) {
+    assert_order(&rt, nine_squares(), &[1, 5, 6, 7, 2, 3, 8, 9, 4], 0);
+    let thirteen = &[1, 6, 7, 8, 11, 2, 3, 4, 12, 13, 5, 9, 10];
+    assert_order(&rt, thirteen_squares(), thirteen, 0);
+    assert_order(&rt, four_squares(), &[1, 3, 2, 4], 1);
+    assert_eq!(rt; count_crossings(&tiling(&rt, three_squares())), 0);
 }

@@ -5,14 +5,21 @@ ghost use Rattle.std.specs.Prelude.{◌+◌, ◌*◌, ◌≡◌, ◌≤◌};
 use bk_flow::{Flow, FlowFault, SMALL, solve, solve_small};
 use bk_frac::Wide;
 use bk_net::{Net, NetLine, read_net};
+use std::alloc::Global;
+use std::process::Abort;
 use std::test::Fail;
 
 // The net of a line.
-fn net_in(line: &[u8]) -> Result<Net, Fail> {
-    match read_net(line)? {
-        NetLine::Item { net } => Ok(net),
-        NetLine::Skip => Err("the line has a net".into()),
+fn net_in(rt: &impl Abort, line: &[u8]) -> Net {
+    match read_net(line) {
+        Ok(NetLine::Item { net }) => net,
+        _ => panic!(rt; "the line has a net"),
     }
+}
+
+// The flow of a net.
+fn flow_in(alloc: Global, net: &Net) -> Result<Flow, FlowFault> {
+    solve(alloc, net)
 }
 
 // The flow of a small net without a loose node, which takes no memory.
@@ -48,8 +55,8 @@ fn flows_of_small_nets(rt: HostRuntime) -> Result<(), Fail> {
         (b"3 0-1 0-1 1-2 1-2 1-2", 6, &[3, 3, 2, 2, 2]),
     ];
     for (line, total, currents) in rows {
-        let net = net_in(line)?;
-        let flow = solve(rt.alloc(), &net)?;
+        let net = net_in(&rt, line);
+        let flow = flow_in(rt.alloc(), &net)?;
         assert_eq!(rt; flow.total(), total);
         assert_eq!(rt; flow.currents(), currents);
         let small = small_flow(&net)?;
@@ -64,7 +71,7 @@ fn flows_of_small_nets(rt: HostRuntime) -> Result<(), Fail> {
 fn the_flow_of_a_path_in_memory(rt: HostRuntime) -> Result<(), Fail> {
     let line =
         b"18 0-1 1-2 2-3 3-4 4-5 5-6 6-7 7-8 8-9 9-10 10-11 11-12 12-13 13-14 14-15 15-16 16-17";
-    let flow = solve(rt.alloc(), &net_in(line)?)?;
+    let flow = flow_in(rt.alloc(), &net_in(&rt, line))?;
     assert_eq!(rt; flow.total(), 1);
     assert_eq!(rt; flow.currents(), [1; 17].as_slice());
     Ok(())
@@ -80,7 +87,7 @@ fn nets_with_loose_nodes(rt: HostRuntime) -> Result<(), Fail> {
         (b"5 0-4 1-4 2-3", 2),
     ];
     for (line, node) in rows {
-        let fault = solve(rt.alloc(), &net_in(line)?).err();
+        let fault = flow_in(rt.alloc(), &net_in(&rt, line)).err();
         assert_eq!(rt; fault, Some(FlowFault::Loose { node }));
     }
     Ok(())
@@ -103,9 +110,9 @@ fn ladder(rungs: u16) -> Net
 // 128 bits.
 #[test]
 fn ladders(rt: HostRuntime) -> Result<(), Fail> {
-    let flow = solve(rt.alloc(), &ladder(20))?;
+    let flow = flow_in(rt.alloc(), &ladder(20))?;
     assert_eq!(rt; flow.total(), 267914296);
-    let fault = solve(rt.alloc(), &ladder(92)).err();
+    let fault = flow_in(rt.alloc(), &ladder(92)).err();
     assert_eq!(rt; fault, Some(FlowFault::Wide));
     Ok(())
 }

@@ -12,29 +12,40 @@ use bk_word::{Class, LARGEST_ORDER, Move, Sign, read_word};
 use std::alloc::Global;
 use std::process::Abort;
 
-// Whether the last move of a word of three moves is ruled out in a class.
-fn is_ruled_out(rt: &impl Abort, alloc: Global, text: &str, class: Class) -> bool {
-    let word = read_word(alloc, text.as_bytes()).expect(rt, "it is a word");
-    assert!(rt; word.moves() == 3 && word.order() <= 16);
-    let (first, second, third) = (word.get(0), word.get(1), word.get(2));
-    let mut skel = Skel::new();
-    let mut sides = Tracing::new();
-    assert!(rt; skel.legal(&first) && first.count <= 16);
-    sides.push(&skel, &first);
-    skel.play(&first);
-    assert!(rt; skel.legal(&second) && second.count <= 16);
-    assert!(rt; skel.order() <= 16);
-    sides.push(&skel, &second);
-    skel.play(&second);
-    assert!(rt; skel.legal(&third));
-    sides.rules_out(&skel, &third, class)
+// Goes on by a move after these moves.
+fn go_on(rt: &impl Abort, skel: &mut Skel, sides: &mut Tracing, m: &Move)
+    requires trace { IsTraceOf skel.old sides.old }
+    ensures trace { IsTraceOf skel.new sides.new }
+{
+    assert!(rt; skel.legal(m) && skel.order() + usize::from(m.count) <= LARGEST_ORDER);
+    sides.push(skel, m);
+    skel.play(m);
 }
 
-// In 2u.2ea.1e the third side would be 0, so that the first two are equal. Of the other rows one begins a member's word, and the
-// others differ in a sign, in the class, or by a square more than is followed.
-#[test]
-fn moves_are_ruled_out(rt: HostRuntime) {
-    for (text, class, is_out) in [
+// Whether a move after these moves is ruled out in a class.
+fn is_out(rt: &impl Abort, skel: &Skel, sides: &Tracing, m: &Move, class: Class) -> bool
+    requires trace { IsTraceOf skel.now sides.now }
+{
+    assert!(rt; skel.legal(m));
+    sides.rules_out(skel, m, class)
+}
+
+// Whether the last move of a word is ruled out in a class.
+fn is_ruled_out(rt: &impl Abort, alloc: Global, text: &str, class: Class) -> bool {
+    let word = read_word(alloc, text.as_bytes()).expect(rt, "it is a word");
+    assert!(rt; word.moves() > 0);
+    let last = word.moves() - 1;
+    let mut skel = Skel::new();
+    let mut sides = Tracing::new();
+    for i in 0..last {
+        go_on(rt, &mut skel, &mut sides, &word.get(i));
+    }
+    is_out(rt, &skel, &sides, &word.get(last), class)
+}
+
+// Words of three moves, with a class, and whether the last move is ruled out in it.
+fn rows() -> &'static [(&'static str, Class, bool)] {
+    &[
         ("2u.2ea.1e", Class::Perfect, true),
         ("2u.2ea.1e", Class::Imperfect, false),
         ("2u.2ea.1e", Class::Simple, false),
@@ -42,12 +53,16 @@ fn moves_are_ruled_out(rt: HostRuntime) {
         ("2u.2aa.2ue", Class::Perfect, false),
         ("3aa.2ue.1ea", Class::Perfect, false),
         ("3ua.2eaa.1e", Class::Perfect, false),
-    ] {
-        assert_eq!(rt;
-            is_ruled_out(&rt, rt.alloc(), text, class),
-            is_out,
-            "{text}"
-        );
+    ]
+}
+
+// In 2u.2ea.1e the third side would be 0, so that the first two are equal. Of the other rows one begins a member's word, and the
+// others differ in a sign, in the class, or by a square more than is followed.
+#[test]
+fn moves_are_ruled_out(rt: HostRuntime) {
+    for (text, class, want) in rows() {
+        let is_out = is_ruled_out(&rt, rt.alloc(), text, *class);
+        assert_eq!(rt; is_out, *want, "{text}");
     }
 }
 
@@ -86,8 +101,8 @@ fn is_passed_over(skel: &Skel, m: &Move) -> bool {
 // In each class a legal move is ruled out where it would be.
 fn same_answers(rt: &impl Abort, skel: &Skel, sides: &Tracing, m: &Move)
     requires trace { IsTraceOf skel.now sides.now }
-    requires legal { IsLegalMove (outline_of skel.now) m.now }
 {
+    assert!(rt; skel.legal(m));
     for class in [Class::Perfect, Class::Imperfect, Class::Simple] {
         assert_eq!(rt;
             sides.rules_out(skel, m, class),
@@ -103,41 +118,41 @@ fn along(rt: &impl Abort, counts: &[u8], signs: u32) {
     let mut sides = Tracing::new();
     for count in counts {
         let m = next_move(&skel, *count, &mut code);
-        assert!(rt; skel.legal(&m) && skel.order() + usize::from(m.count) <= LARGEST_ORDER);
         if is_passed_over(&skel, &m) {
             return;
         }
         same_answers(rt, &skel, &sides, &m);
-        sides.push(&skel, &m);
-        skel.play(&m);
+        go_on(rt, &mut skel, &mut sides, &m);
     }
 }
 
 // The words of at most 5 squares begin those of these counts, which have so many codes: 3 for each sign.
-const WORDS: [(&[u8], u32); 16] = [
-    (&[5], 81),
-    (&[1, 4], 243),
-    (&[2, 3], 243),
-    (&[3, 2], 243),
-    (&[4, 1], 243),
-    (&[1, 1, 3], 729),
-    (&[1, 2, 2], 729),
-    (&[1, 3, 1], 729),
-    (&[2, 1, 2], 729),
-    (&[2, 2, 1], 729),
-    (&[3, 1, 1], 729),
-    (&[1, 1, 1, 2], 2187),
-    (&[1, 1, 2, 1], 2187),
-    (&[1, 2, 1, 1], 2187),
-    (&[2, 1, 1, 1], 2187),
-    (&[1, 1, 1, 1, 1], 6561),
-];
+fn counts_of_words() -> &'static [(&'static [u8], u32)] {
+    &[
+        (&[5], 81),
+        (&[1, 4], 243),
+        (&[2, 3], 243),
+        (&[3, 2], 243),
+        (&[4, 1], 243),
+        (&[1, 1, 3], 729),
+        (&[1, 2, 2], 729),
+        (&[1, 3, 1], 729),
+        (&[2, 1, 2], 729),
+        (&[2, 2, 1], 729),
+        (&[3, 1, 1], 729),
+        (&[1, 1, 1, 2], 2187),
+        (&[1, 1, 2, 1], 2187),
+        (&[1, 2, 1, 1], 2187),
+        (&[2, 1, 1, 1], 2187),
+        (&[1, 1, 1, 1, 1], 6561),
+    ]
+}
 
 // No move that brings no more equations than squares would be ruled out.
 #[test]
 fn no_other_move_is_ruled_out(rt: HostRuntime) {
-    for (counts, codes) in WORDS {
-        for code in 0..codes {
+    for (counts, codes) in counts_of_words() {
+        for code in 0..*codes {
             along(&rt, counts, code);
         }
     }

@@ -2,20 +2,25 @@
 
 use bk_frac::{Frac, Wide, common, gcd};
 
-fn over(num: i64, den: i64) -> Result<Frac, Wide> {
-    if den == 0 {
-        Err(Wide)
-    } else {
-        Frac::whole(num).div(Frac::whole(den))
-    }
-}
-
-fn less(a: (i64, i64), b: (i64, i64)) -> Result<Frac, Wide> {
-    over(a.0, a.1)?.sub(over(b.0, b.1)?)
+// The four calls.
+fn whole(n: i64) -> Frac {
+    Frac::whole(n)
 }
 
 fn divided(a: Frac, b: Frac) -> Result<Frac, Wide> {
     if b.num() == 0 { Err(Wide) } else { a.div(b) }
+}
+
+fn times(a: Frac, b: Frac) -> Result<Frac, Wide> {
+    a.mul(b)
+}
+
+fn less(a: Frac, b: Frac) -> Result<Frac, Wide> {
+    a.sub(b)
+}
+
+fn over(num: i64, den: i64) -> Result<Frac, Wide> {
+    divided(whole(num), whole(den))
 }
 
 fn parts(f: Result<Frac, Wide>) -> Result<(i128, i128), Wide> {
@@ -23,69 +28,121 @@ fn parts(f: Result<Frac, Wide>) -> Result<(i128, i128), Wide> {
     Ok((f.num(), f.den()))
 }
 
-#[test]
-fn divisors(rt: HostRuntime) {
-    for (a, b, want) in [
+fn rows_of_divisors() -> &'static [(u128, u128, u128)] {
+    &[
         (0, 0, 0),
         (0, 7, 7),
         (12, 18, 6),
         (123456789012345678, 987654321098765432, 2),
-    ] {
-        assert_eq!(rt; gcd(a, b), want, "{a} and {b}");
-    }
+    ]
 }
 
 #[test]
-fn differences(rt: HostRuntime) {
-    for (a, b, want) in [
+fn divisors(rt: HostRuntime) {
+    for (a, b, want) in rows_of_divisors() {
+        assert_eq!(rt; gcd(*a, *b), *want, "{a} and {b}");
+    }
+}
+
+// The numerator and the denominator of a fraction.
+type Written = (i64, i64);
+
+fn difference(a: Written, b: Written) -> Result<(i128, i128), Wide> {
+    parts(less(over(a.0, a.1)?, over(b.0, b.1)?))
+}
+
+fn rows_of_differences() -> &'static [(Written, Written, (i128, i128))] {
+    &[
         ((1, 3), (1, 1), (-2, 3)),
         ((5, 6), (3, 4), (1, 12)),
         ((1, 2), (3, 4), (-1, 4)),
         ((7, -2), (7, -2), (0, 1)),
-    ] {
-        assert_eq!(rt; parts(less(a, b)), Ok(want));
+    ]
+}
+
+#[test]
+fn differences(rt: HostRuntime) {
+    for (a, b, want) in rows_of_differences() {
+        assert_eq!(rt; difference(*a, *b), Ok(*want));
     }
 }
 
-// 1 over 2^63 - 1, squared, fits; a fourth of it doesn't. 2^126 fits; its double doesn't.
+// 1 over 2^63 - 1, squared.
+fn least_square() -> Result<Frac, Wide> {
+    let unit = over(1, i64::MAX)?;
+    times(unit, unit)
+}
+
+// It fits; a fourth of it doesn't.
 #[test]
-fn limits(rt: HostRuntime) {
-    let unit = over(1, i64::MAX).unwrap_or(Frac::whole(0));
-    let square = unit.mul(unit).unwrap_or(Frac::whole(0));
+fn small_limits(rt: HostRuntime) {
+    let square = least_square().unwrap_or(whole(0));
     assert_eq!(rt;
         (square.num(), square.den()),
         (1, 85070591730234615847396907784232501249)
     );
-    assert_eq!(rt; divided(square, Frac::whole(4)), Err(Wide));
-    let large = Frac::whole(i64::MIN)
-        .mul(Frac::whole(i64::MIN))
-        .unwrap_or(Frac::default());
+    assert_eq!(rt; divided(square, whole(4)), Err(Wide));
+}
+
+// 2^126 fits; its double doesn't.
+#[test]
+fn large_limits(rt: HostRuntime) {
+    let least = whole(i64::MIN);
+    let large = times(least, least).unwrap_or(Frac::default());
     assert_eq!(rt; (large.num(), large.den()), (1 << 126, 1));
-    assert_eq!(rt; large.mul(Frac::whole(2)), Err(Wide));
-    assert_eq!(rt;
-        large.sub(Frac::whole(-1)).and_then(|f| f.sub(large)),
-        Ok(Frac::whole(1))
-    );
-    assert_eq!(rt;
-        Frac::default().sub(large).and_then(|f| f.sub(large)),
-        Err(Wide)
-    );
+    assert_eq!(rt; times(large, whole(2)), Err(Wide));
+}
+
+// 2^126 plus one less 2^126, and 2^126 taken from none twice.
+fn there_and_back(large: Frac) -> Result<Frac, Wide> {
+    less(less(large, whole(-1))?, large)
+}
+
+fn twice_less(large: Frac) -> Result<Frac, Wide> {
+    less(less(Frac::default(), large)?, large)
+}
+
+#[test]
+fn large_differences(rt: HostRuntime) {
+    let least = whole(i64::MIN);
+    let large = times(least, least).unwrap_or(Frac::default());
+    assert_eq!(rt; there_and_back(large), Ok(whole(1)));
+    assert_eq!(rt; twice_less(large), Err(Wide));
+}
+
+// Fractions in whole numbers.
+fn in_whole_numbers(fracs: [Frac; 4]) -> Result<[i128; 4], Wide> {
+    let mut whole = [7; 4];
+    common(&fracs, &mut whole)?;
+    Ok(whole)
+}
+
+static PROPORTIONS: [(&[Written; 4], &[i128; 4]); 3] = [
+    (&[(1, 1), (1, 2), (1, 2), (0, 1)], &[2, 1, 1, 0]),
+    (&[(2, 3), (-4, 5), (0, 1), (0, 1)], &[5, -6, 0, 0]),
+    (&[(0, 1), (0, 1), (0, 1), (0, 1)], &[0, 0, 0, 0]),
+];
+
+fn rows_of_proportions() -> &'static [(&'static [Written; 4], &'static [i128; 4])] {
+    &PROPORTIONS
+}
+
+// A fraction that is not wide, or else zero.
+fn some_over(written: Written) -> Frac {
+    over(written.0, written.1).unwrap_or(Frac::default())
+}
+
+// What four fractions are in proportion to.
+fn proportion(written: [Written; 4]) -> Result<[i128; 4], Wide> {
+    let [a, b, c, d] = written;
+    in_whole_numbers([some_over(a), some_over(b), some_over(c), some_over(d)])
 }
 
 #[test]
 fn proportions(rt: HostRuntime) {
-    for (fracs, want) in [
-        ([(1, 1), (1, 2), (1, 2), (0, 1)], Ok([2, 1, 1, 0])),
-        ([(2, 3), (-4, 5), (0, 1), (0, 1)], Ok([5, -6, 0, 0])),
-        ([(0, 1), (0, 1), (0, 1), (0, 1)], Ok([0, 0, 0, 0])),
-        (
-            [(1, i64::MAX), (1, i64::MAX - 1), (1, 5), (0, 1)],
-            Err(Wide),
-        ),
-    ] {
-        let mut whole = [7; 4];
-        let fracs = fracs.map(|(num, den)| over(num, den).unwrap_or(Frac::default()));
-        let answer = common(&fracs, &mut whole);
-        assert_eq!(rt; answer.map(|()| whole), want);
+    for (written, want) in rows_of_proportions() {
+        assert_eq!(rt; proportion(**written), Ok(**want));
     }
+    let wide = [(1, i64::MAX), (1, i64::MAX - 1), (1, 5), (0, 1)];
+    assert_eq!(rt; proportion(wide), Err(Wide));
 }

@@ -1,115 +1,116 @@
 //! Worked rows, as tables.
 
+use crate::tilings::*;
 use arrayvec::ArrayVec;
 use bk_lay::*;
 use bk_tiling::{Square, Tiling};
-use bk_word::write_word;
+use bk_word::{Word, write_word};
+use std::alloc::Global;
 use std::process::Abort;
 
-fn at(x: u64, y: u64, s: u64) -> Square {
-    Square { x, y, s }
+// The word of a tiling.
+fn word(rt: &impl Abort, alloc: Global, tiling: &Tiling) -> Word {
+    match word_of(alloc, tiling) {
+        Ok(word) => word,
+        Err(_) => panic!(rt; "there is memory"),
+    }
 }
 
-fn tiling(rt: &impl Abort, width: u64, height: u64, squares: &[Square]) -> Tiling {
-    match Tiling::try_new(width, height, squares) {
-        Ok(tiling) => tiling,
-        Err(_) => panic!(rt; "they tile it"),
-    }
+// Asserts the text of the word of a rectangle.
+fn assert_word(rt: &impl Abort, alloc: Global, rectangle: Rectangle, text: &str) {
+    let word = word(rt, alloc, &tiling(rt, rectangle));
+    assert!(rt; word.moves() > 0);
+    let mut out = ArrayVec::new();
+    write_word(&word, &mut out);
+    assert_eq!(rt; out.as_slice(), text.as_bytes());
+}
+
+// The 69 by 61 rectangle of nine squares, and the 65 by 47 rectangle of ten.
+fn other_nine_squares() -> Rectangle {
+    (
+        69,
+        61,
+        &[
+            (0, 0, 36),
+            (36, 0, 33),
+            (36, 33, 5),
+            (41, 33, 28),
+            (0, 36, 25),
+            (25, 36, 9),
+            (34, 36, 2),
+            (34, 38, 7),
+            (25, 45, 16),
+        ],
+    )
+}
+
+fn ten_squares() -> Rectangle {
+    (
+        65,
+        47,
+        &[
+            (0, 0, 25),
+            (25, 0, 17),
+            (42, 0, 23),
+            (25, 17, 11),
+            (36, 17, 6),
+            (36, 23, 5),
+            (41, 23, 24),
+            (0, 25, 22),
+            (22, 25, 3),
+            (22, 28, 19),
+        ],
+    )
+}
+
+static FEW_SQUARES: [(Rectangle, &'static str); 4] = [
+    ((1, 1, &[(0, 0, 1)]), "1"),
+    ((3, 2, &[(0, 0, 2), (2, 0, 1), (2, 1, 1)]), "2u.1e"),
+    (
+        (2, 2, &[(0, 0, 1), (1, 0, 1), (0, 1, 1), (1, 1, 1)]),
+        "2e.2e",
+    ),
+    (
+        (
+            8,
+            5,
+            &[(0, 0, 5), (5, 0, 3), (5, 3, 2), (7, 3, 1), (7, 4, 1)],
+        ),
+        "2u.2eu.1e",
+    ),
+];
+
+fn few_squares() -> &'static [(Rectangle, &'static str)] {
+    &FEW_SQUARES
 }
 
 // Rectangles with their squares, and the texts of their words.
 #[test]
 fn words(rt: HostRuntime) {
-    let rows: [(u64, u64, &[Square], &str); 7] = [
-        (1, 1, &[at(0, 0, 1)], "1"),
-        (3, 2, &[at(0, 0, 2), at(2, 0, 1), at(2, 1, 1)], "2u.1e"),
-        (
-            2,
-            2,
-            &[at(0, 0, 1), at(1, 0, 1), at(0, 1, 1), at(1, 1, 1)],
-            "2e.2e",
-        ),
-        (
-            8,
-            5,
-            &[
-                at(0, 0, 5),
-                at(5, 0, 3),
-                at(5, 3, 2),
-                at(7, 3, 1),
-                at(7, 4, 1),
-            ],
-            "2u.2eu.1e",
-        ),
-        (
-            33,
-            32,
-            &[
-                at(0, 0, 18),
-                at(18, 0, 15),
-                at(18, 15, 7),
-                at(25, 15, 8),
-                at(0, 18, 14),
-                at(14, 18, 4),
-                at(14, 22, 10),
-                at(24, 22, 1),
-                at(24, 23, 9),
-            ],
-            "2u.2aa.2ue.2eue.1e",
-        ),
-        (
-            69,
-            61,
-            &[
-                at(0, 0, 36),
-                at(36, 0, 33),
-                at(36, 33, 5),
-                at(41, 33, 28),
-                at(0, 36, 25),
-                at(25, 36, 9),
-                at(34, 36, 2),
-                at(34, 38, 7),
-                at(25, 45, 16),
-            ],
-            "2u.2aa.3uue.1ea.1ee",
-        ),
-        (
-            65,
-            47,
-            &[
-                at(0, 0, 25),
-                at(25, 0, 17),
-                at(42, 0, 23),
-                at(25, 17, 11),
-                at(36, 17, 6),
-                at(36, 23, 5),
-                at(41, 23, 24),
-                at(0, 25, 22),
-                at(22, 25, 3),
-                at(22, 28, 19),
-            ],
-            "3ua.2aue.2ue.2ea.1ee",
-        ),
-    ];
-    for (width, height, squares, text) in rows {
-        let tiling = tiling(&rt, width, height, squares);
-        let word = word_of(rt.alloc(), &tiling).expect(&rt, "memory");
-        assert!(rt; word.moves() > 0);
-        let mut out = ArrayVec::new();
-        write_word(&word, &mut out);
-        assert_eq!(rt; out.as_slice(), text.as_bytes());
+    for (rectangle, text) in few_squares() {
+        assert_word(&rt, rt.alloc(), *rectangle, text);
+    }
+    assert_word(&rt, rt.alloc(), nine_squares(), "2u.2aa.2ue.2eue.1e");
+    assert_word(&rt, rt.alloc(), other_nine_squares(), "2u.2aa.3uue.1ea.1ee");
+    assert_word(&rt, rt.alloc(), ten_squares(), "3ua.2aue.2ue.2ea.1ee");
+}
+
+// A column of 200 squares of side 1.
+fn column(rt: &impl Abort) -> Tiling {
+    let mut squares = [Square { x: 0, y: 0, s: 1 }; 200];
+    for (y, q) in squares.iter_mut().enumerate() {
+        q.y = y as u64;
+    }
+    match Tiling::try_new(1, 200, &squares) {
+        Ok(tiling) => tiling,
+        Err(_) => panic!(rt; "they tile it"),
     }
 }
 
 // A column of 200 squares has a word of 200 moves, past what is kept without memory.
 #[test]
 fn a_column(rt: HostRuntime) {
-    let mut squares = [at(0, 0, 1); 200];
-    for (y, q) in squares.iter_mut().enumerate() {
-        q.y = y as u64;
-    }
-    let column = tiling(&rt, 1, 200, &squares);
-    let word = word_of(rt.alloc(), &column).expect(&rt, "memory");
+    let word = word(&rt, rt.alloc(), &column(&rt));
     assert_eq!(rt; (word.moves(), word.order()), (200, 200));
     for i in 0..word.moves() {
         let turn = word.get(i);

@@ -22,4 +22,6 @@ mod skel_realising_rows;
 #[cfg(test)]
 mod skel_rows;
 #[cfg(test)]
+mod tilings;
+#[cfg(test)]
 mod word_rows;
