@@ -1,3 +1,4 @@
+use Rattle.std.proofs.lemmas.Grind.{common_steps}
 use Rattle.std.proofs.Common.{Bool, Contains, List, ap, arith, length, refl, subst, sym, true, ℕ, ◌≡◌, ◌⊎◌}
 use Rattle.bk_table.specs.Kept.{Holds, IsKeptTable, IsPlaceOf, Numbers}
 use Rattle.bk_table.proofs.Keeping.{HoldsOneMore, not_there, put_for_last, put_in}
@@ -59,3 +60,9 @@ returns-clause-kept g c x held = (for_last g c).1.kept x (subst (λ (t : Numbers
 
 pub returns-clause-only : goal.returns-clause-only
 returns-clause-only g c x has = subst (λ (t : Numbers). Contains t.kept x ⊎ (x ≡ c.args.number)) c.self.view_is ((for_last g c).1.only x has)
+
+pub returns-then-place-clause-put : goal.returns-then-place-clause-put
+returns-then-place-clause-put g c = grind (arith, common_steps)
+
+pub insert-requires-2 : goal.insert-requires-2
+insert-requires-2 g c = grind (arith, common_steps)
