@@ -1,7 +1,5 @@
 //! Tables of members, beside the members that a plain walk finds.
 
-ghost use Rattle.std.specs.Prelude.{◌<◌};
-
 use crate::plain_walk::{Member, members};
 use bk_member_table::MemberTable;
 use bk_skel::{Skel, skeleton_of};
@@ -37,9 +35,7 @@ fn table_of<const N: usize>(
     class: Class,
     count: u8,
     from: u128,
-) -> MemberTable<N>
-    requires { 0 < N }
-{
+) -> MemberTable<N> {
     assert!(rt; order >= 3 && order <= 16);
     MemberTable::of(alloc, order, class, count, from)
 }
@@ -99,9 +95,7 @@ fn tables_have_just_the_members(rt: HostRuntime) -> Result<(), Fail> {
 }
 
 // A table of the perfect members of order 11 that begin with two squares, from a number on.
-fn table_of_11<const N: usize>(alloc: Global, from: u128) -> MemberTable<N>
-    requires { 0 < N }
-{
+fn table_of_11<const N: usize>(alloc: Global, from: u128) -> MemberTable<N> {
     MemberTable::of(alloc, 11, Class::Perfect, 2, from)
 }
 
@@ -139,12 +133,6 @@ fn rows_of_fronts() -> &'static [(&'static [u8], bool, bool)] {
     ]
 }
 
-// Whether a table tells that no perfect member of order 11 has a word that begins so.
-fn is_out<const N: usize>(rt: &impl Abort, table: &MemberTable<N>, front: &Skel) -> bool {
-    assert!(rt; front.order() <= 16);
-    table.rules_out(11, Class::Perfect, front)
-}
-
 #[test]
 fn a_table_that_overflows_keeps_the_least(rt: HostRuntime) -> Result<(), Fail> {
     let members = members(&rt, rt.alloc(), 11)?;
@@ -155,8 +143,12 @@ fn a_table_that_overflows_keeps_the_least(rt: HostRuntime) -> Result<(), Fail> {
     assert_eq!(rt; small.numbers(), &all[..3]);
     for (text, by_whole, by_small) in rows_of_fronts() {
         let front = front_of(&rt, rt.alloc(), text);
-        assert_eq!(rt; is_out(&rt, &whole, &front), *by_whole);
-        assert_eq!(rt; is_out(&rt, &small, &front), *by_small);
+        assert!(rt; front.order() <= 16);
+        let told = (
+            whole.rules_out(11, Class::Perfect, &front),
+            small.rules_out(11, Class::Perfect, &front),
+        );
+        assert_eq!(rt; told, (*by_whole, *by_small));
     }
     Ok(())
 }
