@@ -1,39 +1,47 @@
 //! Rows of `bk_draw`.
 
+use crate::tilings::*;
 use arrayvec::ArrayVec;
 use bk_draw::*;
-use bk_tiling::{Square, Tiling};
-use std::test::Fail;
+use bk_tiling::Tiling;
+use std::process::Abort;
 
-#[test]
-fn rows_of_three_squares(rt: HostRuntime) -> Result<(), Fail> {
-    let squares = [
-        Square { x: 0, y: 0, s: 2 },
-        Square { x: 2, y: 0, s: 1 },
-        Square { x: 2, y: 1, s: 1 },
-    ];
-    let tiling = Tiling::try_new(3, 2, &squares)?;
+// A row of a drawing.
+type Drawn = ArrayVec<u8, 402>;
+
+// Draws a row of a tiling.
+fn draw(rt: &impl Abort, tiling: &Tiling, y: u64, row: &mut Drawn) {
     assert!(rt; tiling.width() <= LARGEST_DRAWN);
-    let mut row = ArrayVec::new();
-    for (y, want) in [(0, b"+-++\n"), (1, b"| ++\n"), (2, b"+-++\n")] {
-        draw_row(&tiling, y, &mut row);
-        assert_eq!(rt; row.as_slice(), want.as_slice());
-    }
-    Ok(())
+    draw_row(tiling, y, row);
+}
+
+fn rows_of_three() -> &'static [(u64, &'static [u8])] {
+    &[(0, b"+-++\n"), (1, b"| ++\n"), (2, b"+-++\n")]
 }
 
 #[test]
-fn widest_row(rt: HostRuntime) -> Result<(), Fail> {
-    let tiling = Tiling::try_new(400, 400, &[Square { x: 0, y: 0, s: 400 }])?;
-    assert!(rt; tiling.width() <= LARGEST_DRAWN);
+fn rows_of_three_squares(rt: HostRuntime) {
+    let tiling = tiling(&rt, three_squares());
     let mut row = ArrayVec::new();
-    draw_row(&tiling, 400, &mut row);
+    for (y, want) in rows_of_three() {
+        draw(&rt, &tiling, *y, &mut row);
+        assert_eq!(rt; row.as_slice(), *want);
+    }
+}
+
+// Asserts the length of a row, and how it begins and ends.
+fn assert_wide(rt: &impl Abort, row: &[u8], begin: &[u8], end: &[u8]) {
     assert_eq!(rt; row.len(), 402);
-    assert!(rt; row.as_slice().starts_with(b"+-"));
-    assert!(rt; row.as_slice().ends_with(b"-+\n"));
-    draw_row(&tiling, 200, &mut row);
-    assert_eq!(rt; row.len(), 402);
-    assert!(rt; row.as_slice().starts_with(b"| "));
-    assert!(rt; row.as_slice().ends_with(b" |\n"));
-    Ok(())
+    assert!(rt; row.starts_with(begin));
+    assert!(rt; row.ends_with(end));
+}
+
+#[test]
+fn widest_row(rt: HostRuntime) {
+    let tiling = tiling(&rt, (400, 400, &[(0, 0, 400)]));
+    let mut row = ArrayVec::new();
+    draw(&rt, &tiling, 400, &mut row);
+    assert_wide(&rt, &row, b"+-", b"-+\n");
+    draw(&rt, &tiling, 200, &mut row);
+    assert_wide(&rt, &row, b"| ", b" |\n");
 }

@@ -4,6 +4,8 @@
 #[cfg(test)]
 mod code_rows;
 #[cfg(test)]
+mod codes;
+#[cfg(test)]
 mod draw_rows;
 #[cfg(test)]
 mod gen_rows;
@@ -19,3 +21,5 @@ mod sym_rows;
 mod text_rows;
 #[cfg(test)]
 mod tiling_rows;
+#[cfg(test)]
+mod tilings;

@@ -1,28 +1,11 @@
 //! Rows of `bk_profile`.
 
+use crate::codes::*;
 use bk_code::{Code, flat};
 use bk_profile::*;
-use bk_tiling::{LONGEST_SIDE, MOST_SQUARES, Square, Tiling};
+use bk_tiling::{LONGEST_SIDE, Tiling};
 use std::process::Abort;
 use std::test::Fail;
-
-// The code with these groups.
-fn code_with(rt: &impl Abort, groups: &[&[u64]]) -> Code {
-    let mut code = Code::new();
-    for group in groups {
-        for (i, side) in group.iter().enumerate() {
-            assert!(rt; *side >= 1 && *side <= LONGEST_SIDE);
-            assert!(rt; flat(&code).len() < MOST_SQUARES);
-            if i == 0 {
-                code.begin_group(*side);
-            } else {
-                assert!(rt; code.groups() > 0);
-                code.push_side(*side);
-            }
-        }
-    }
-    code
-}
 
 // A tiling's width, height and order, or why there is none.
 type Size = Result<(u64, u64, usize), Refusal>;
@@ -34,9 +17,15 @@ fn size(laid: Result<Tiling, Refusal>) -> Size {
     }
 }
 
-#[test]
-fn lays_codes(rt: HostRuntime) {
-    let rows: [(&[&[u64]], Size); 7] = [
+// What the code with these groups is laid to.
+fn laid(rt: &impl Abort, groups: Groups) -> Size {
+    let code = code_with(rt, groups);
+    assert!(rt; code.groups() > 0);
+    size(lay_code(&code))
+}
+
+fn rows_of_codes() -> &'static [(Groups, Size)] {
+    &[
         (
             &[&[18, 15], &[7, 8], &[14, 4], &[10, 1], &[9]],
             Ok((33, 32, 9)),
@@ -63,22 +52,29 @@ fn lays_codes(rt: HostRuntime) {
                 greatest: 32,
             }),
         ),
-    ];
-    for (groups, want) in rows {
-        let code = code_with(&rt, groups);
-        assert!(rt; code.groups() > 0);
-        assert_eq!(rt; size(lay_code(&code)), want);
-    }
+    ]
 }
 
 #[test]
-fn lays_flat_lists(rt: HostRuntime) {
-    let nine = [18, 15, 7, 8, 14, 4, 10, 1, 9];
-    let rows: [(u64, &[u64], Size); 5] = [
-        (33, &nine, Ok((33, 32, 9))),
+fn lays_codes(rt: HostRuntime) {
+    for (groups, want) in rows_of_codes() {
+        assert_eq!(rt; laid(&rt, groups), *want);
+    }
+}
+
+// What the sides of a code are laid to under a width.
+fn laid_flat(rt: &impl Abort, width: u64, code: &Code) -> Size {
+    assert!(rt; !flat(code).is_empty());
+    assert!(rt; width >= 1 && width <= 999_999_999_999_999_999);
+    size(lay_flat(width, flat(code)))
+}
+
+fn rows_of_flat_lists() -> &'static [(u64, &'static [u64], Size)] {
+    &[
+        (33, &[18, 15, 7, 8, 14, 4, 10, 1, 9], Ok((33, 32, 9))),
         (
             32,
-            &nine,
+            &[18, 15, 7, 8, 14, 4, 10, 1, 9],
             Err(Refusal::Gap {
                 group: 1,
                 gap: 32,
@@ -87,7 +83,7 @@ fn lays_flat_lists(rt: HostRuntime) {
         ),
         (
             33,
-            &nine[..8],
+            &[18, 15, 7, 8, 14, 4, 10, 1],
             Err(Refusal::Open {
                 least: 23,
                 greatest: 32,
@@ -95,7 +91,7 @@ fn lays_flat_lists(rt: HostRuntime) {
         ),
         (
             33,
-            &nine[..7],
+            &[18, 15, 7, 8, 14, 4, 10],
             Err(Refusal::Gap {
                 group: 4,
                 gap: 11,
@@ -104,43 +100,56 @@ fn lays_flat_lists(rt: HostRuntime) {
         ),
         (
             999_999_999_999_999_999,
-            &nine[7..8],
+            &[1],
             Err(Refusal::Gap {
                 group: 1,
                 gap: 999_999_999_999_999_999,
                 sum: 1,
             }),
         ),
-    ];
-    for (width, sides, want) in rows {
-        let code = code_with(&rt, &[sides]);
-        assert!(rt; !flat(&code).is_empty());
-        assert!(rt; width >= 1 && width <= 999_999_999_999_999_999);
-        assert_eq!(rt; size(lay_flat(width, flat(&code))), want);
+    ]
+}
+
+#[test]
+fn lays_flat_lists(rt: HostRuntime) {
+    for (width, sides, want) in rows_of_flat_lists() {
+        let code = code_with(&rt, &[*sides]);
+        assert_eq!(rt; laid_flat(&rt, *width, &code), *want);
+    }
+}
+
+// Lays a group of two sides.
+fn lay_two(rt: &impl Abort, profile: &mut Profile, sides: &[u64; 2]) -> Result<(), GapFault> {
+    assert!(rt; sides[0] >= 1 && sides[0] <= LONGEST_SIDE);
+    assert!(rt; sides[1] >= 1 && sides[1] <= LONGEST_SIDE);
+    assert!(rt; profile.laid().len() < 100);
+    profile.lay(sides)
+}
+
+// The column, the width and the level of the gap.
+fn gap(profile: &Profile) -> (u64, u64, u64) {
+    let gap = profile.gap();
+    (gap.x, gap.width, gap.level)
+}
+
+// The squares that are laid, by their columns, levels and sides.
+fn assert_laid(rt: &impl Abort, profile: &Profile, squares: &[(u64, u64, u64)]) {
+    assert_eq!(rt; profile.laid().len(), squares.len());
+    for (q, (x, y, s)) in profile.laid().iter().zip(squares) {
+        assert_eq!(rt; (q.x, q.y, q.s), (*x, *y, *s));
     }
 }
 
 #[test]
 fn lays_group_by_group(rt: HostRuntime) {
     let mut profile = Profile::new(33);
-    let whole = Segment {
-        x: 0,
-        width: 33,
-        level: 0,
-    };
-    assert_eq!(rt; profile.gap(), whole);
-    assert_eq!(rt; profile.lay(&[18, 15]), Ok(()));
-    let right = Segment {
-        x: 18,
-        width: 15,
-        level: 15,
-    };
-    assert_eq!(rt; profile.gap(), right);
-    assert!(rt; profile.laid().len() < 100);
-    assert_eq!(rt; profile.lay(&[7, 9]), Err(GapFault { gap: 15, sum: 16 }));
+    assert_eq!(rt; gap(&profile), (0, 33, 0));
+    assert_eq!(rt; lay_two(&rt, &mut profile, &[18, 15]), Ok(()));
+    assert_eq!(rt; gap(&profile), (18, 15, 15));
+    let fault = GapFault { gap: 15, sum: 16 };
+    assert_eq!(rt; lay_two(&rt, &mut profile, &[7, 9]), Err(fault));
     assert_eq!(rt; (profile.least(), profile.greatest()), (15, 18));
-    let laid = [Square { x: 0, y: 0, s: 18 }, Square { x: 18, y: 0, s: 15 }];
-    assert_eq!(rt; profile.laid(), laid.as_slice());
+    assert_laid(&rt, &profile, &[(0, 0, 18), (18, 0, 15)]);
 }
 
 #[test]

@@ -21,8 +21,8 @@ fn stopped(
 // A command, an input, and the answers.
 type Calls = (&'static str, &'static str, &'static [&'static str]);
 
-fn rows_of_calls() -> [Calls; 9] {
-    [
+fn rows_of_calls() -> &'static [Calls] {
+    &[
         (
             "check",
             "; a comment\n\n[1]\n \n[2\n[1][1]\n\n",
@@ -84,7 +84,7 @@ fn expect_calls(rt: &impl Abort, alloc: Global, row: Calls) -> Result<(), AllocE
 #[test]
 fn each_answer_is_one_call(rt: HostRuntime) -> Result<(), Fail> {
     for row in rows_of_calls() {
-        expect_calls(&rt, rt.alloc(), row)?;
+        expect_calls(&rt, rt.alloc(), *row)?;
     }
     Ok(())
 }
@@ -140,34 +140,36 @@ const TOWER: Parts = ("", "[1]", 200, "");
 // One of the longest side.
 const LONGEST_TOWER: Parts = ("", "[999999999999999]", 200, "");
 
-fn rows_of_towers() -> [(&'static str, Parts, Parts); 6] {
-    [
+static ROWS_OF_TOWERS: [(&'static str, Parts, Parts); 6] = [
+    (
+        "check",
+        TOWER,
+        ("ok 200 1x200 imperfect 1 compound 0,0 1x2\n", "", 0, ""),
+    ),
+    ("canon", TOWER, ("200x1 [1", ",1", 199, "]\n")),
+    ("draw", TOWER, ("", "++\n", 201, "")),
+    ("word", TOWER, ("1", ".1", 199, "\n")),
+    ("solve", ("1", ".1", 199, ""), ("1x200 ", "[1]", 200, "\n")),
+    (
+        "check",
+        LONGEST_TOWER,
         (
-            "check",
-            TOWER,
-            ("ok 200 1x200 imperfect 1 compound 0,0 1x2\n", "", 0, ""),
+            "ok 200 999999999999999x199999999999999800 imperfect 999999999999999",
+            " compound 0,0 999999999999999x1999999999999998\n",
+            1,
+            "",
         ),
-        ("canon", TOWER, ("200x1 [1", ",1", 199, "]\n")),
-        ("draw", TOWER, ("", "++\n", 201, "")),
-        ("word", TOWER, ("1", ".1", 199, "\n")),
-        ("solve", ("1", ".1", 199, ""), ("1x200 ", "[1]", 200, "\n")),
-        (
-            "check",
-            LONGEST_TOWER,
-            (
-                "ok 200 999999999999999x199999999999999800 imperfect 999999999999999",
-                " compound 0,0 999999999999999x1999999999999998\n",
-                1,
-                "",
-            ),
-        ),
-    ]
+    ),
+];
+
+fn rows_of_towers() -> &'static [(&'static str, Parts, Parts)] {
+    &ROWS_OF_TOWERS
 }
 
 #[test]
 fn towers_of_two_hundred_squares(rt: HostRuntime) -> Result<(), Fail> {
     for (command, input, output) in rows_of_towers() {
-        expect_built(&rt, rt.alloc(), command, input, 0, output)?;
+        expect_built(&rt, rt.alloc(), command, *input, 0, *output)?;
     }
     Ok(())
 }

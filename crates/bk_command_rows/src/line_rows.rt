@@ -76,25 +76,27 @@ fn codes_are_checked(rt: HostRuntime) -> Result<(), Fail> {
 }
 
 // Inputs, and what `check` answers.
-fn long_lines() -> [(Parts, &'static str); 6] {
-    [
-        (("", "[", 8_192, ""), "no text 1\n"),
-        (("", "1", 8_192, ""), "no text 18\n"),
-        (("[1", ",1", 300, ""), "no text 602\n"),
-        (("[1", ",1", 300, "]"), "no many\n"),
-        (("", "[1]", 201, ""), "no many\n"),
-        (
-            ("", "9", 8_193, "\n[1]"),
-            "no long\nok 1 1x1 perfect simple\n",
-        ),
-    ]
+static LONG_LINES: [(Parts, &'static str); 6] = [
+    (("", "[", 8_192, ""), "no text 1\n"),
+    (("", "1", 8_192, ""), "no text 18\n"),
+    (("[1", ",1", 300, ""), "no text 602\n"),
+    (("[1", ",1", 300, "]"), "no many\n"),
+    (("", "[1]", 201, ""), "no many\n"),
+    (
+        ("", "9", 8_193, "\n[1]"),
+        "no long\nok 1 1x1 perfect simple\n",
+    ),
+];
+
+fn long_lines() -> &'static [(Parts, &'static str)] {
+    &LONG_LINES
 }
 
 #[test]
 fn lines_that_are_too_long_or_have_too_many_sides(rt: HostRuntime) -> Result<(), Fail> {
     for (input, answers) in long_lines() {
-        let output = (answers, "", 0, "");
-        expect_built(&rt, rt.alloc(), "check", input, 1, output)?;
+        let output = (*answers, "", 0, "");
+        expect_built(&rt, rt.alloc(), "check", *input, 1, output)?;
     }
     Ok(())
 }

@@ -56,8 +56,8 @@ fn asked(alloc: Global, command: &str, left: u64, most: u64) -> Result<(Asked, u
 }
 
 // So many bytes, the most in a read, and how many reads ask for a block.
-fn short_inputs() -> [(u64, u64, u32); 7] {
-    [
+fn short_inputs() -> &'static [(u64, u64, u32)] {
+    &[
         (0, 16_384, 1),
         (3, 16_384, 2),
         (3, 1, 4),
@@ -71,10 +71,10 @@ fn short_inputs() -> [(u64, u64, u32); 7] {
 // Asserts them of a command.
 fn expect_short(rt: &impl Abort, alloc: Global, command: &str) -> Result<(), AllocError> {
     for (left, most, times) in short_inputs() {
-        let (asked, _) = asked(alloc, command, left, most)?;
+        let (asked, _) = asked(alloc, command, *left, *most)?;
         assert_eq!(rt;
             asked.as_slice(),
-            [(16_384, times)].as_slice(),
+            [(16_384, *times)].as_slice(),
             "{command} {left}"
         );
     }
@@ -106,28 +106,32 @@ fn reads_of_short_inputs(rt: HostRuntime) -> Result<(), Fail> {
 // So many bytes, the most in a read, what the reads ask for, and the status.
 type Long = (u64, u64, &'static [(usize, u32)], u8);
 
+// The length of the longest input.
+const WHOLE: u64 = 1 << 30;
+
 // Inputs about as long as the longest.
-fn long_inputs() -> [Long; 4] {
-    let whole = 1 << 30;
-    [
-        (whole - 5, 16_384, &[(16_384, 65_536), (5, 1)], 1),
-        (whole, 16_384, &[(16_384, 65_536), (1, 1)], 1),
-        (whole + 1, 16_384, &[(16_384, 65_536), (1, 1)], 7),
-        (
-            whole + 9,
-            10_000,
-            &[(16_384, 107_373), (11_824, 1), (1_824, 1), (1, 1)],
-            7,
-        ),
-    ]
+static LONG_INPUTS: [Long; 4] = [
+    (WHOLE - 5, 16_384, &[(16_384, 65_536), (5, 1)], 1),
+    (WHOLE, 16_384, &[(16_384, 65_536), (1, 1)], 1),
+    (WHOLE + 1, 16_384, &[(16_384, 65_536), (1, 1)], 7),
+    (
+        WHOLE + 9,
+        10_000,
+        &[(16_384, 107_373), (11_824, 1), (1_824, 1), (1, 1)],
+        7,
+    ),
+];
+
+fn long_inputs() -> &'static [Long] {
+    &LONG_INPUTS
 }
 
 // Asserts them of a command.
 fn expect_long(rt: &impl Abort, alloc: Global, command: &str) -> Result<(), AllocError> {
     for (left, most, want, status) in long_inputs() {
-        let (asked, got) = asked(alloc, command, left, most)?;
-        assert_eq!(rt; asked.as_slice(), want, "{command} {left}");
-        assert_eq!(rt; got, status, "{command} {left}");
+        let (asked, got) = asked(alloc, command, *left, *most)?;
+        assert_eq!(rt; asked.as_slice(), *want, "{command} {left}");
+        assert_eq!(rt; got, *status, "{command} {left}");
     }
     Ok(())
 }

@@ -35,8 +35,8 @@ fn expect_listed(rt: &impl Abort, alloc: Global, row: Row) {
     assert_eq!(rt; got, ended, "{report}");
 }
 
-fn rows_of_two_sizes() -> [(Wanted, &'static str); 3] {
-    [
+fn rows_of_two_sizes() -> &'static [(Wanted, &'static str)] {
+    &[
         (
             Wanted::Groups,
             "3x2 3\n1 [2,1][1]\n3 [2,1][1]\n5 [2,1][1]\n2x1 2\n2 [1,1]\n4 [1,1]\n; groups 2 items 5 refused 0\n",
@@ -55,7 +55,7 @@ fn rows_of_two_sizes() -> [(Wanted, &'static str); 3] {
 fn two_sizes_by_turns(rt: HostRuntime) {
     let list = "[2,1][1]\n[1,1]\n[2][1,1]\n[1][1]\n[1,2][1]";
     for (wanted, report) in rows_of_two_sizes() {
-        let row = (wanted, list, Ended::NoneRefused, report);
+        let row = (*wanted, list, Ended::NoneRefused, *report);
         expect_listed(&rt, rt.alloc(), row);
     }
 }
@@ -69,8 +69,8 @@ const ONE_IN_COMMON: &str =
 const AS_HIGH: &str = "[377,136,95][34,61][7,27][123,20][108][118,5][113]\n\
     [209,205,194][11,183][44,172][168,41][1,43][42][85]";
 
-fn rows_of_perfect_rectangles() -> [Row; 5] {
-    [
+fn rows_of_perfect_rectangles() -> &'static [Row] {
+    &[
         (
             PERFECT,
             APART,
@@ -112,7 +112,7 @@ fn rows_of_perfect_rectangles() -> [Row; 5] {
 #[test]
 fn perfect_rectangles(rt: HostRuntime) {
     for row in rows_of_perfect_rectangles() {
-        expect_listed(&rt, rt.alloc(), row);
+        expect_listed(&rt, rt.alloc(), *row);
     }
 }
 
@@ -151,18 +151,27 @@ fn expect_strips(
     Ok(())
 }
 
+// How many squares of side 2 and how many rows two strips have, and how what is written begins and ends.
+type Strips = ([(usize, usize); 2], &'static str, &'static str);
+
+static ROWS_OF_STRIPS: [Strips; 2] = [
+    (
+        [(1, 49), (1, 49)],
+        "1 2 53x53 [2,1,",
+        ",1]\n; pairs 1 items 2 refused 0\n",
+    ),
+    ([(1, 50), (2, 48)], "; pairs 0 ", "items 2 refused 0\n"),
+];
+
+fn rows_of_strips() -> &'static [Strips] {
+    &ROWS_OF_STRIPS
+}
+
 // Strips of 99 and 99 squares, and of 101 and 98.
 #[test]
 fn strips_of_198_and_199_squares(rt: HostRuntime) -> Result<(), Fail> {
-    for (strips, begin, end) in [
-        (
-            [(1, 49), (1, 49)],
-            "1 2 53x53 [2,1,",
-            ",1]\n; pairs 1 items 2 refused 0\n",
-        ),
-        ([(1, 50), (2, 48)], "; pairs 0 ", "items 2 refused 0\n"),
-    ] {
-        expect_strips(&rt, rt.alloc(), strips, begin, end)?;
+    for (strips, begin, end) in rows_of_strips() {
+        expect_strips(&rt, rt.alloc(), *strips, begin, end)?;
     }
     Ok(())
 }

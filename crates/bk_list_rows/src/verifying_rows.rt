@@ -49,8 +49,8 @@ const NO_READ: u64 = u64::MAX;
 
 const NO_WRITE: (u64, usize) = (u64::MAX, 0);
 
-fn lists_and_reports_of_order_9() -> [(&'static str, Verdict, &'static str); 5] {
-    [
+fn lists_and_reports_of_order_9() -> &'static [(&'static str, Verdict, &'static str)] {
+    &[
         (
             "9 33x32 [18,15][7,8][14,4][10,1][9] ; 2u.2aa.2ue.2eue.1e\n\
              9 69x61 [36,33][5,28][25,9,2][7][16] ; 2u.2aa.3uue.1ea.1ee\n\
@@ -88,7 +88,7 @@ fn lists_and_reports_of_order_9() -> [(&'static str, Verdict, &'static str); 5] 
 #[test]
 fn lists_of_order_9(rt: HostRuntime) {
     for (list, verdict, report) in lists_and_reports_of_order_9() {
-        let row = (list, NO_READ, NO_WRITE, verdict, report);
+        let row = (*list, NO_READ, NO_WRITE, *verdict, *report);
         expect_verified(&rt, rt.alloc(), 9, row);
     }
 }
@@ -128,8 +128,8 @@ fn other_orders(rt: HostRuntime) {
 const FAILED: Verdict = Verdict::WriteFailed;
 
 // The first, the second and the last write of a report fail, and a read after the first line.
-fn rows_of_faults() -> [(u64, (u64, usize), Verdict, &'static str); 6] {
-    [
+fn rows_of_faults() -> &'static [(u64, (u64, usize), Verdict, &'static str)] {
+    &[
         (NO_READ, (0, 3), FAILED, "lin"),
         (NO_READ, (1, 0), FAILED, "line 1 foreign\n"),
         (
@@ -159,7 +159,7 @@ fn rows_of_faults() -> [(u64, (u64, usize), Verdict, &'static str); 6] {
 fn faults(rt: HostRuntime) {
     let list = "[1]\n[18,15][7,8][14,4][10,1][9]\n[1,1]\n";
     for (read, write, verdict, report) in rows_of_faults() {
-        let row = (list, read, write, verdict, report);
+        let row = (list, *read, *write, *verdict, *report);
         expect_verified(&rt, rt.alloc(), 9, row);
     }
 }

@@ -56,9 +56,9 @@ fn assert_run(rt: &impl Abort, input: &[u8], most: usize, ending: Ended, text: &
     assert_eq!(rt; out.written(), text, "at most {most}");
 }
 
-#[test]
-fn lines_come_in_any_cuts(rt: HostRuntime) {
-    let rows: [(&[u8], Ended, &[u8]); 9] = [
+// Inputs, how their runs end, and what is written.
+fn inputs_and_answers() -> &'static [(&'static [u8], Ended, &'static [u8])] {
+    &[
         (b"", Ended::NoneRefused, b""),
         (b"\n", Ended::NoneRefused, b""),
         (b"a", Ended::NoneRefused, b"1\n"),
@@ -68,10 +68,14 @@ fn lines_come_in_any_cuts(rt: HostRuntime) {
         (b"ab\ncde\n!x", Ended::SomeRefused, b"2\n3\n2\n"),
         (b"ab\n!\n?\ncde\n", Ended::NoMemory, b"2\n1\n"),
         (b"ab\n?", Ended::NoMemory, b"2\n"),
-    ];
-    for (input, ending, text) in rows {
+    ]
+}
+
+#[test]
+fn lines_come_in_any_cuts(rt: HostRuntime) {
+    for (input, ending, text) in inputs_and_answers() {
         for most in 1..12 {
-            assert_run(&rt, input, most, ending, text);
+            assert_run(&rt, input, most, *ending, text);
         }
     }
 }
@@ -122,16 +126,18 @@ type Faulty = (
 );
 
 // Runs with faults.
-fn faulty_runs() -> [Faulty; 7] {
-    [
-        (3, &[2], &[], Ended::ReadFailed, b"2\n2\n", Ok(3)),
-        (4, &[1], &[], Ended::ReadFailed, b"2\n", Ok(4)),
-        (100, &[0], &[], Ended::ReadFailed, b"", Ok(9)),
-        (100, &[1], &[], Ended::ReadFailed, b"2\n2\n", Ok(0)),
-        (4, &[1, 2], &[], Ended::ReadFailed, b"2\n", Err(Failed)),
-        (3, &[2], &[(1, 1)], Ended::WriteFailed, b"2\n2", Err(Failed)),
-        (3, &[], &[(2, 2)], Ended::WriteFailed, b"2\n2\n3\n", Ok(0)),
-    ]
+static FAULTY_RUNS: [Faulty; 7] = [
+    (3, &[2], &[], Ended::ReadFailed, b"2\n2\n", Ok(3)),
+    (4, &[1], &[], Ended::ReadFailed, b"2\n", Ok(4)),
+    (100, &[0], &[], Ended::ReadFailed, b"", Ok(9)),
+    (100, &[1], &[], Ended::ReadFailed, b"2\n2\n", Ok(0)),
+    (4, &[1, 2], &[], Ended::ReadFailed, b"2\n", Err(Failed)),
+    (3, &[2], &[(1, 1)], Ended::WriteFailed, b"2\n2", Err(Failed)),
+    (3, &[], &[(2, 2)], Ended::WriteFailed, b"2\n2\n3\n", Ok(0)),
+];
+
+fn faulty_runs() -> &'static [Faulty] {
+    &FAULTY_RUNS
 }
 
 // Asserts a run with faults.
@@ -150,7 +156,7 @@ fn assert_faulty(rt: &impl Abort, run: Faulty) {
 #[test]
 fn a_fault_ends_the_run(rt: HostRuntime) {
     for run in faulty_runs() {
-        assert_faulty(&rt, run);
+        assert_faulty(&rt, *run);
     }
 }
 
@@ -202,19 +208,23 @@ fn assert_numbered(rt: &impl Abort, input: &[u8], most: usize, ending: Ended, th
     assert_eq!(rt; numbers.last, then.1, "at most {most}");
 }
 
-#[test]
-fn all_lines_are_numbered(rt: HostRuntime) {
-    let rows: [(&[u8], Ended, &[u8], u64); 6] = [
+// Inputs, how their numbered runs end, what is written, and the last number.
+fn inputs_and_numbers() -> &'static [(&'static [u8], Ended, &'static [u8], u64)] {
+    &[
         (b"", Ended::NoneRefused, b"", 0),
         (b"a", Ended::NoneRefused, b"1\n", 1),
         (b"ab\n\n\ncde\n\n", Ended::NoneRefused, b"2\n3\n", 4),
         (b"\n\na\n\n!b", Ended::SomeRefused, b"1\n2\n", 5),
         (b"a\n\n?\nb", Ended::NoMemory, b"1\n", 3),
         (b"\n\n\n", Ended::NoneRefused, b"", 0),
-    ];
-    for (input, ending, text, last) in rows {
+    ]
+}
+
+#[test]
+fn all_lines_are_numbered(rt: HostRuntime) {
+    for (input, ending, text, last) in inputs_and_numbers() {
         for most in 1..12 {
-            assert_numbered(&rt, input, most, ending, (text, last));
+            assert_numbered(&rt, input, most, *ending, (text, *last));
         }
     }
 }

@@ -34,8 +34,8 @@ fn word_of_three(alloc: Global) -> Result<Word, Fail> {
 }
 
 // Refusals and their texts.
-fn refusals() -> [(Refused, &'static str); 16] {
-    [
+fn refusals() -> &'static [(Refused, &'static str)] {
+    &[
         (Refused::Long, "no long\n"),
         (Refused::Text { at: 0 }, "no text 0\n"),
         (Refused::Many, "no many\n"),
@@ -78,7 +78,7 @@ fn refusals() -> [(Refused, &'static str); 16] {
 fn refusals_have_their_texts(rt: HostRuntime) -> Result<(), Fail> {
     let mut line = ArrayVec::new();
     for (refused, text) in refusals() {
-        write_refused(&refused, &mut line);
+        write_refused(refused, &mut line);
         assert_eq!(rt; line.as_slice(), text.as_bytes());
     }
     Ok(())
@@ -117,8 +117,8 @@ fn a_word_has_its_lines(rt: HostRuntime) -> Result<(), Fail> {
 type Ending = (Last, u8, Class, u64, &'static str);
 
 // Listings and their last lines.
-fn endings() -> [Ending; 4] {
-    [
+fn endings() -> &'static [Ending] {
+    &[
         (Last::End, 9, Class::Perfect, 2, "; end order 9 listed 2\n"),
         (
             Last::Limit,
@@ -150,7 +150,7 @@ fn listings_have_their_last_lines(rt: HostRuntime) -> Result<(), Fail> {
     assert!(rt; word.moves() > 0);
     let mut line = ArrayVec::new();
     for (last, order, class, listed, text) in endings() {
-        write_last(last, order, class, listed, &word, &mut line);
+        write_last(*last, *order, *class, *listed, &word, &mut line);
         assert_eq!(rt; line.as_slice(), text.as_bytes());
     }
     Ok(())
@@ -247,10 +247,11 @@ fn a_flow_has_its_line(rt: HostRuntime) -> Result<(), Fail> {
     Ok(())
 }
 
-#[test]
-fn trials_have_their_lines(rt: HostRuntime) {
-    let mut line = ArrayVec::new();
-    for (seed, count, ok, perfect, squares, text) in [
+// A seed, how many trial codes of it there are, how many of them are accepted and perfect, their squares, and the line.
+type Trial = (u64, u32, u64, u64, u64, &'static str);
+
+fn rows_of_trials() -> &'static [Trial] {
+    &[
         (
             0,
             2,
@@ -275,8 +276,14 @@ fn trials_have_their_lines(rt: HostRuntime) {
             274,
             "trial seed 18446744073709551615 count 2 ok 2 perfect 1 simple 0 squares 274\n",
         ),
-    ] {
-        write_trial(seed, count, ok, perfect, 0, squares, &mut line);
+    ]
+}
+
+#[test]
+fn trials_have_their_lines(rt: HostRuntime) {
+    let mut line = ArrayVec::new();
+    for (seed, count, ok, perfect, squares, text) in rows_of_trials() {
+        write_trial(*seed, *count, *ok, *perfect, 0, *squares, &mut line);
         assert_eq!(rt; line.as_slice(), text.as_bytes());
     }
 }

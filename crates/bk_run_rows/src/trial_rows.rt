@@ -3,10 +3,9 @@
 use arrayvec::ArrayVec;
 use bk_trial::*;
 
-#[test]
-fn lines(rt: HostRuntime) {
-    let mut line = ArrayVec::new();
-    for (seed, count, text) in [
+// Seeds, how many trial codes of each there are, and the lines.
+fn rows() -> &'static [(u64, u32, &'static str)] {
+    &[
         (
             0,
             0,
@@ -27,8 +26,14 @@ fn lines(rt: HostRuntime) {
             2,
             "trial seed 18446744073709551615 count 2 ok 2 perfect 1 simple 0 squares 274\n",
         ),
-    ] {
-        trial(seed, count, &mut line);
+    ]
+}
+
+#[test]
+fn lines(rt: HostRuntime) {
+    let mut line = ArrayVec::new();
+    for (seed, count, text) in rows() {
+        trial(*seed, *count, &mut line);
         assert_eq!(rt; line.as_slice(), text.as_bytes());
     }
 }

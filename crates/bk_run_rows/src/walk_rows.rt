@@ -15,9 +15,13 @@ use std::sync::ledger::{Blank, Ledger};
 // The sides of a member's code, and the text of its word.
 type Listed = (&'static [u64], &'static [u8]);
 
-const FIRST_OF_9: Listed = (&[18, 15, 7, 8, 14, 4, 10, 1, 9], b"2u.2aa.2ue.2eue.1e");
+const FIRST_WORD: &[u8] = b"2u.2aa.2ue.2eue.1e";
 
-const SECOND_OF_9: Listed = (&[36, 33, 5, 28, 25, 9, 2, 7, 16], b"2u.2aa.3uue.1ea.1ee");
+const SECOND_WORD: &[u8] = b"2u.2aa.3uue.1ea.1ee";
+
+const FIRST_OF_9: Listed = (&[18, 15, 7, 8, 14, 4, 10, 1, 9], FIRST_WORD);
+
+const SECOND_OF_9: Listed = (&[36, 33, 5, 28, 25, 9, 2, 7, 16], SECOND_WORD);
 
 const IMPERFECT_OF_9: Listed = (&[6, 4, 5, 3, 1, 6, 5, 1, 4], b"3ua.2aue.2ue.1a.1ee");
 
@@ -84,22 +88,28 @@ fn lists<L: Ledger>(rt: &impl Abort, walk: &mut Walk, members: &[Listed], steps:
     assert!(rt; next(walk, steps).is_none());
 }
 
+// Orders, classes, and their members.
+static ORDERS: [(u8, Class, &[Listed]); 6] = [
+    (2, Class::Perfect, &[]),
+    (2, Class::Imperfect, &[PAIR]),
+    (2, Class::Simple, &[PAIR]),
+    (9, Class::Perfect, &[FIRST_OF_9, SECOND_OF_9]),
+    (9, Class::Imperfect, &[IMPERFECT_OF_9]),
+    (9, Class::Simple, &[FIRST_OF_9, SECOND_OF_9, IMPERFECT_OF_9]),
+];
+
+fn orders() -> &'static [(u8, Class, &'static [Listed])] {
+    &ORDERS
+}
+
 fn whole_orders<L: Ledger>(rt: &impl Abort, alloc: Global, blank: Blank)
     requires name { blank.name ≡ L.name }
     requires parts { blank.parts ≡ L.parts }
     requires some { 0 < L.parts }
 {
     let mut steps: Steps<L> = Steps::new(blank);
-    let rows: [(u8, Class, &[Listed]); 6] = [
-        (2, Class::Perfect, &[]),
-        (2, Class::Imperfect, &[PAIR]),
-        (2, Class::Simple, &[PAIR]),
-        (9, Class::Perfect, &[FIRST_OF_9, SECOND_OF_9]),
-        (9, Class::Imperfect, &[IMPERFECT_OF_9]),
-        (9, Class::Simple, &[FIRST_OF_9, SECOND_OF_9, IMPERFECT_OF_9]),
-    ];
-    for (order, class, members) in rows {
-        let mut walk = walk_from(rt, alloc, order, class, None);
+    for (order, class, members) in orders() {
+        let mut walk = walk_from(rt, alloc, *order, *class, None);
         lists(rt, &mut walk, members, &mut steps);
     }
     for order in 3..9 {
@@ -121,24 +131,29 @@ fn lists_whole_orders(rt: HostRuntime) {
 }
 
 // Cursors at members, at words that no member has, at words that are not legal or of other orders, and after all words.
+static CURSORS: [(&[u8], &[Listed]); 9] = [
+    (FIRST_WORD, &[SECOND_OF_9]),
+    (SECOND_WORD, &[]),
+    (b"1", &[FIRST_OF_9, SECOND_OF_9]),
+    (b"2u.2aa", &[FIRST_OF_9, SECOND_OF_9]),
+    (b"2uu", &[]),
+    (b"2u.2aa.3uu.1", &[SECOND_OF_9]),
+    (b"2u.2aa.2ue.2eue.1e.1", &[SECOND_OF_9]),
+    (b"3aa", &[]),
+    (b"16uuuuuuuuuuuuuuuuu", &[]),
+];
+
+fn rows_of_cursors() -> &'static [(&'static [u8], &'static [Listed])] {
+    &CURSORS
+}
+
 fn cursors<L: Ledger>(rt: &impl Abort, alloc: Global, blank: Blank)
     requires name { blank.name ≡ L.name }
     requires parts { blank.parts ≡ L.parts }
     requires some { 0 < L.parts }
 {
     let mut steps: Steps<L> = Steps::new(blank);
-    let rows: [(&[u8], &[Listed]); 9] = [
-        (FIRST_OF_9.1, &[SECOND_OF_9]),
-        (SECOND_OF_9.1, &[]),
-        (b"1", &[FIRST_OF_9, SECOND_OF_9]),
-        (b"2u.2aa", &[FIRST_OF_9, SECOND_OF_9]),
-        (b"2uu", &[]),
-        (b"2u.2aa.3uu.1", &[SECOND_OF_9]),
-        (b"2u.2aa.2ue.2eue.1e.1", &[SECOND_OF_9]),
-        (b"3aa", &[]),
-        (b"16uuuuuuuuuuuuuuuuu", &[]),
-    ];
-    for (text, members) in rows {
+    for (text, members) in rows_of_cursors() {
         let mut walk = walk_from(rt, alloc, 9, Class::Perfect, Some(text));
         lists(rt, &mut walk, members, &mut steps);
     }
@@ -188,7 +203,7 @@ fn parts_of_order_9<L: Ledger>(rt: &impl Abort, alloc: Global, blank: Blank)
     lists(rt, &mut whole, &[FIRST_OF_9, SECOND_OF_9], &mut steps);
     let mut front = walk_from(rt, alloc, 9, Class::Perfect, None);
     assert!(rt; next(&mut front, &mut steps).is_some());
-    let mut back = walk_from(rt, alloc, 9, Class::Perfect, Some(FIRST_OF_9.1));
+    let mut back = walk_from(rt, alloc, 9, Class::Perfect, Some(FIRST_WORD));
     lists(rt, &mut back, &[SECOND_OF_9], &mut steps);
     assert!(rt; whole.pushes() >= 8 && whole.pushes() < PUSHES_WITHOUT_FORMS);
     assert!(rt; front.pushes() >= 5 && back.pushes() >= 5);
@@ -226,6 +241,17 @@ fn go_together<L: Ledger>(
     assert_eq!(rt; flat(&entry.code), flat(&same.code));
 }
 
+// Where each of three parts of the order begins, and how many members it has.
+static PARTS_OF_11: [(Option<&[u8]>, u8); 3] = [
+    (None, 8),
+    (Some(EIGHTH_OF_11), 8),
+    (Some(SIXTEENTH_OF_11), 6),
+];
+
+fn parts_of_order_11() -> &'static [(Option<&'static [u8]>, u8)] {
+    &PARTS_OF_11
+}
+
 // A whole walk of order 11, and one in three parts, each after the last member of the part before; and how many moves a whole walk
 // of order 9 pushes.
 fn with_equations<L: Ledger>(rt: &impl Abort, alloc: Global, blank: Blank)
@@ -238,14 +264,9 @@ fn with_equations<L: Ledger>(rt: &impl Abort, alloc: Global, blank: Blank)
     lists(rt, &mut nine, &[FIRST_OF_9, SECOND_OF_9], &mut steps);
     assert_eq!(rt; nine.pushes(), PUSHES_OF_9);
     let mut whole = walk_from(rt, alloc, 11, Class::Perfect, None);
-    let parts: [(Option<&[u8]>, u8); 3] = [
-        (None, 8),
-        (Some(EIGHTH_OF_11), 8),
-        (Some(SIXTEENTH_OF_11), 6),
-    ];
-    for (from, members) in parts {
-        let mut part = walk_from(rt, alloc, 11, Class::Perfect, from);
-        for _ in 0..members {
+    for (from, members) in parts_of_order_11() {
+        let mut part = walk_from(rt, alloc, 11, Class::Perfect, *from);
+        for _ in 0..*members {
             go_together(rt, &mut whole, &mut part, &mut steps);
         }
     }

@@ -1,7 +1,5 @@
 //! Tables of members, beside the members that a plain walk finds.
 
-ghost use Rattle.std.specs.Prelude.{◌<◌};
-
 use crate::plain_walk::{Member, members};
 use bk_member_table::MemberTable;
 use bk_skel::{Skel, skeleton_of};
@@ -29,6 +27,19 @@ fn numbers(
     Ok(numbers)
 }
 
+// A table of the members of an order and a class that begin with a move of the count, from a number on.
+fn table_of<const N: usize>(
+    rt: &impl Abort,
+    alloc: Global,
+    order: u8,
+    class: Class,
+    count: u8,
+    from: u128,
+) -> MemberTable<N> {
+    assert!(rt; order >= 3 && order <= 16);
+    MemberTable::of(alloc, order, class, count, from)
+}
+
 // For each first count the table of an order and a class has the numbers of just the members.
 fn assert_tables(
     rt: &impl Abort,
@@ -39,7 +50,7 @@ fn assert_tables(
 ) -> Result<(), AllocError> {
     assert!(rt; order >= 3 && order <= 16);
     for count in 1..order + 1 {
-        let table = MemberTable::<100>::of(alloc, order, class, count, 0);
+        let table: MemberTable<100> = table_of(rt, alloc, order, class, count, 0);
         let want = numbers(alloc, members, class, count, 0)?;
         assert!(rt; !table.is_cut());
         assert_eq!(rt;
@@ -51,10 +62,9 @@ fn assert_tables(
     Ok(())
 }
 
-#[test]
-fn tables_have_just_the_members(rt: HostRuntime) -> Result<(), Fail> {
-    // how many perfect and imperfect members an order has (sequences A002839 and A002881 of the OEIS)
-    let rows: [(u8, usize, usize); 7] = [
+// How many perfect and imperfect members an order has (sequences A002839 and A002881 of the OEIS).
+fn rows_of_orders() -> &'static [(u8, usize, usize)] {
+    &[
         (5, 0, 0),
         (6, 0, 0),
         (7, 0, 0),
@@ -62,26 +72,30 @@ fn tables_have_just_the_members(rt: HostRuntime) -> Result<(), Fail> {
         (9, 2, 1),
         (10, 6, 0),
         (11, 22, 0),
-    ];
-    for (order, perfect, imperfect) in rows {
-        let members = members(&rt, rt.alloc(), order)?;
-        let found = members.iter().filter(|member| member.is_perfect).count();
-        assert_eq!(rt;
-            (found, members.len()),
-            (perfect, perfect + imperfect),
-            "order {order}"
-        );
+    ]
+}
+
+// How many of the members are perfect, and how many are not.
+fn counts(members: &[Member]) -> (usize, usize) {
+    let perfect = members.iter().filter(|member| member.is_perfect).count();
+    (perfect, members.len().saturating_sub(perfect))
+}
+
+#[test]
+fn tables_have_just_the_members(rt: HostRuntime) -> Result<(), Fail> {
+    for (order, perfect, imperfect) in rows_of_orders() {
+        let members = members(&rt, rt.alloc(), *order)?;
+        let found = counts(members.as_slice());
+        assert_eq!(rt; found, (*perfect, *imperfect), "order {order}");
         for class in CLASSES {
-            assert_tables(&rt, rt.alloc(), order, class, members.as_slice())?;
+            assert_tables(&rt, rt.alloc(), *order, class, members.as_slice())?;
         }
     }
     Ok(())
 }
 
 // A table of the perfect members of order 11 that begin with two squares, from a number on.
-fn table_of_11<const N: usize>(alloc: Global, from: u128) -> MemberTable<N>
-    requires { 0 < N }
-{
+fn table_of_11<const N: usize>(alloc: Global, from: u128) -> MemberTable<N> {
     MemberTable::of(alloc, 11, Class::Perfect, 2, from)
 }
 
@@ -104,16 +118,9 @@ fn front_of(rt: &impl Abort, alloc: Global, text: &[u8]) -> Skel {
     skeleton_of(&word).expect(rt, "it is legal")
 }
 
-#[test]
-fn a_table_that_overflows_keeps_the_least(rt: HostRuntime) -> Result<(), Fail> {
-    let members = members(&rt, rt.alloc(), 11)?;
-    let all = numbers(rt.alloc(), members.as_slice(), Class::Perfect, 2, 0)?;
-    let whole: MemberTable<100> = table_of_11(rt.alloc(), 0);
-    let small: MemberTable<3> = table_of_11(rt.alloc(), 0);
-    assert!(rt; small.is_cut() && !whole.is_cut() && all.len() > 3);
-    assert_eq!(rt; small.numbers(), &all[..3]);
-    // moves, and whether the whole table and the small one tell that no member's word begins with them
-    let rows: [(&[u8], bool, bool); 9] = [
+// Moves, and whether the whole table and the small one tell that no member's word begins with them.
+fn rows_of_fronts() -> &'static [(&'static [u8], bool, bool)] {
+    &[
         (b"2u.1a", true, true),
         (b"2u.2aa", false, false),
         (b"2u.2aa.2ua", true, true),
@@ -123,15 +130,25 @@ fn a_table_that_overflows_keeps_the_least(rt: HostRuntime) -> Result<(), Fail> {
         (b"2u.3eaa.3uue.2eae.1ee", false, false),
         (b"2u.4aaaa", true, false),
         (b"3aa", false, false),
-    ];
-    for (text, by_whole, by_small) in rows {
+    ]
+}
+
+#[test]
+fn a_table_that_overflows_keeps_the_least(rt: HostRuntime) -> Result<(), Fail> {
+    let members = members(&rt, rt.alloc(), 11)?;
+    let all = numbers(rt.alloc(), members.as_slice(), Class::Perfect, 2, 0)?;
+    let whole: MemberTable<100> = table_of_11(rt.alloc(), 0);
+    let small: MemberTable<3> = table_of_11(rt.alloc(), 0);
+    assert!(rt; small.is_cut() && !whole.is_cut() && all.len() > 3);
+    assert_eq!(rt; small.numbers(), &all[..3]);
+    for (text, by_whole, by_small) in rows_of_fronts() {
         let front = front_of(&rt, rt.alloc(), text);
         assert!(rt; front.order() <= 16);
         let told = (
             whole.rules_out(11, Class::Perfect, &front),
             small.rules_out(11, Class::Perfect, &front),
         );
-        assert_eq!(rt; told, (by_whole, by_small));
+        assert_eq!(rt; told, (*by_whole, *by_small));
     }
     Ok(())
 }

@@ -24,26 +24,40 @@ impl Leaves for Met {
     }
 }
 
+// A search through the words of an order that begin with a move of the count.
+fn meet(rt: &impl Abort, met: &mut Met, order: u8, count: u8, least: u8) {
+    assert!(rt; order >= 2 && order <= 16);
+    search(met, order, count, least);
+}
+
+// Orders, and how many words are met.
+fn rows_of_orders() -> &'static [(u8, usize)] {
+    &[(5, 1), (6, 0), (7, 4), (8, 6), (9, 24), (10, 66)]
+}
+
 #[test]
 fn words_are_met_once_for_each_net(rt: HostRuntime) {
-    let rows: [(u8, usize); 6] = [(5, 1), (6, 0), (7, 4), (8, 6), (9, 24), (10, 66)];
-    for (order, words) in rows {
+    for (order, words) in rows_of_orders() {
         let mut met = Met { words: 0 };
-        for count in 1..order + 1 {
-            search(&mut met, order, count, 0);
+        assert!(rt; *order <= 16);
+        for count in 1..*order + 1 {
+            meet(&rt, &mut met, *order, count, 0);
         }
-        assert_eq!(rt; met.words, words, "order {order}");
+        assert_eq!(rt; met.words, *words, "order {order}");
     }
+}
+
+// How many squares at least touch the node under the second square of the first move, and how many words of order 11 are met.
+fn rows_of_touching() -> &'static [(u8, usize)] {
+    &[(0, 120), (3, 120), (4, 59), (5, 15), (6, 1), (7, 0)]
 }
 
 #[test]
 fn words_that_touch_the_first_node_less_are_passed_over(rt: HostRuntime) {
-    // how many squares at least touch the node under the second square of the first move, and how many words of order 11 are met
-    let rows: [(u8, usize); 6] = [(0, 120), (3, 120), (4, 59), (5, 15), (6, 1), (7, 0)];
-    for (least, words) in rows {
+    for (least, words) in rows_of_touching() {
         let mut met = Met { words: 0 };
-        search(&mut met, 11, 2, least);
-        assert_eq!(rt; met.words, words, "least {least}");
+        meet(&rt, &mut met, 11, 2, *least);
+        assert_eq!(rt; met.words, *words, "least {least}");
     }
 }
 
@@ -55,11 +69,10 @@ fn first_number(rt: &impl Abort, alloc: Global, text: &[u8]) -> u128 {
     span_of(&front).low
 }
 
-#[test]
-fn a_number_tells_how_many_squares_a_second_move_hangs(rt: HostRuntime) {
-    // moves from whose number on words are looked at, the count of their first move, and how many squares their second one hangs at
-    // least; 0 where that isn't known
-    let rows: [(&[u8], u8, u8); 10] = [
+// Moves from whose number on words are looked at, the count of their first move, and how many squares their second one hangs at
+// least; 0 where that isn't known.
+fn rows_of_fronts() -> &'static [(&'static [u8], u8, u8)] {
+    &[
         (b"2u.2aa.2ue.2eue.1e", 2, 2),
         (b"2u.6euaaaa.2eue.1ae.2uu.1ue.1ea.1ee", 2, 6),
         (b"3uu.4euaa", 3, 4),
@@ -70,9 +83,13 @@ fn a_number_tells_how_many_squares_a_second_move_hangs(rt: HostRuntime) {
         (b"2u.6euaaaa", 3, 0),
         (b"3aa", 2, 17),
         (b"2u.2aa", 17, 0),
-    ];
-    for (text, count, squares) in rows {
+    ]
+}
+
+#[test]
+fn a_number_tells_how_many_squares_a_second_move_hangs(rt: HostRuntime) {
+    for (text, count, squares) in rows_of_fronts() {
         let number = first_number(&rt, rt.alloc(), text);
-        assert_eq!(rt; least_second(count, number), squares);
+        assert_eq!(rt; least_second(*count, number), *squares);
     }
 }

@@ -28,6 +28,26 @@ fn copy_of(rt: &impl Abort, alloc: Global, word: &Word) -> Word
     copy
 }
 
+// A walk of an order and a class from the start.
+fn walk_from_start(rt: &impl Abort, alloc: Global, order: u8, class: Class) -> Walk {
+    assert!(rt; order >= 2 && order <= 16);
+    Walk::new(alloc, order, class, None)
+}
+
+// A walk after a cursor.
+fn walk_after(rt: &impl Abort, alloc: Global, order: u8, class: Class, cursor: &Word) -> Walk {
+    assert!(rt; order >= 2 && order <= 16);
+    Walk::new(alloc, order, class, Some(copy_of(rt, alloc, cursor)))
+}
+
+// Asserts the word of the next member of a walk.
+fn assert_next<L: Ledger>(rt: &impl Abort, walk: &mut Walk, word: &Word, steps: &mut Steps<L>) {
+    match walk.advance(steps) {
+        Some(Ok(entry)) => assert!(rt; entry.word.cmp(word) == Ordering::Equal),
+        Some(Err(_)) | None => panic!(rt; "a member is missing"),
+    }
+}
+
 // A walk gives just the members of the class whose words are after the cursor, and ends. It answers how many moves it has pushed.
 fn assert_walk<L: Ledger>(
     rt: &impl Abort,
@@ -41,10 +61,7 @@ fn assert_walk<L: Ledger>(
         if !member.is_of(class) || member.word.cmp(cursor) != Ordering::Greater {
             continue;
         }
-        match walk.advance(steps) {
-            Some(Ok(entry)) => assert!(rt; entry.word.cmp(&member.word) == Ordering::Equal),
-            Some(Err(_)) | None => panic!(rt; "a member is missing"),
-        }
+        assert_next(rt, &mut walk, &member.word, steps);
     }
     assert!(rt; walk.advance(steps).is_none());
     walk.pushes()
@@ -79,8 +96,7 @@ fn from_start<L: Ledger>(
     members: &[Member],
     steps: &mut Steps<L>,
 ) {
-    assert!(rt; order >= 2 && order <= 16);
-    let walk = Walk::new(alloc, order, class, None);
+    let walk = walk_from_start(rt, alloc, order, class);
     let pushed = assert_walk(rt, walk, class, &Word::new(alloc), members, steps);
     assert!(rt; pushed > PATIENCE);
 }
@@ -94,26 +110,16 @@ fn after_members<L: Ledger>(
     members: &[Member],
     steps: &mut Steps<L>,
 ) {
-    assert!(rt; order >= 2 && order <= 16);
     for member in members {
-        let cursor = copy_of(rt, alloc, &member.word);
-        let walk = Walk::new(alloc, order, class, Some(cursor));
+        let walk = walk_after(rt, alloc, order, class, &member.word);
         assert_walk(rt, walk, class, &member.word, members, steps);
     }
 }
 
-// Cursors that come before all words, that aren't legal, that are of another order, that come behind a whole table, and behind all
+// The texts of cursors that come before all words, that aren't legal, that are of another order, that come behind a whole table, and behind all
 // words.
-fn after_others<L: Ledger>(
-    rt: &impl Abort,
-    alloc: Global,
-    order: u8,
-    class: Class,
-    members: &[Member],
-    steps: &mut Steps<L>,
-) {
-    assert!(rt; order >= 2 && order <= 16);
-    let texts: [&[u8]; 8] = [
+fn texts() -> &'static [&'static [u8]] {
+    &[
         b"1",
         b"2u.2aa",
         b"2u.2aa.2ue.2eue.1e",
@@ -122,11 +128,20 @@ fn after_others<L: Ledger>(
         b"2uu",
         b"3aa",
         b"16uuuuuuuuuuuuuuuuu",
-    ];
-    for text in texts {
+    ]
+}
+
+fn after_others<L: Ledger>(
+    rt: &impl Abort,
+    alloc: Global,
+    order: u8,
+    class: Class,
+    members: &[Member],
+    steps: &mut Steps<L>,
+) {
+    for text in texts() {
         let word = read_word(alloc, text).expect(rt, "it is a word");
-        let cursor = copy_of(rt, alloc, &word);
-        let walk = Walk::new(alloc, order, class, Some(cursor));
+        let walk = walk_after(rt, alloc, order, class, &word);
         assert_walk(rt, walk, class, &word, members, steps);
     }
 }
