@@ -199,7 +199,8 @@ module _ (n : ℕ) (class : Class) (front : Word) (x m : Move) (few : n ≤ 16) 
       where
         not : (e : Entry) → IsEntry n class e → e.word ≡ front ++ m ∷ [] → ⊥
         not e is same = none (subst IsComplete (same ∙ sym push) (entry_whole n class e is).0)
-            (sym (ap order_of (same ∙ sym push)) ∙ (entry_whole n class e is).1) e.tiling (is.member).tiling (subst (IsWordOf e.tiling) (same ∙ sym push) is.word)
+            (sym (ap order_of (same ∙ sym push)) ∙ (entry_whole n class e is).1) e.tiling (is.member).tiling
+            (subst (IsWordOf e.tiling) (same ∙ sym push) is.word)
 
     -- to the word of the moves, which is met
     pub step_reaches : Reaches n class (front ++ x ∷ []) pushed met

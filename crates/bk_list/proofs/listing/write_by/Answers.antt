@@ -12,13 +12,15 @@ pub returns-in_err-last-clause-begun : goal.returns-in_err-last-clause-begun
 returns-in_err-last-clause-begun g c =
     on_err c.from_residual.result
     (subst (λ (w : WalkState). BeginsListing w.order w.class w.cursor c.args.limit (g.O.Sink.written c.args.out.now)
-    (g.O.Sink.written c.write_entries.new.out)) (seen_so c.args.walk.now c.args.order c.args.class c.requires.order_is c.requires.class_is) c.in_err-last.ensures.begun)
+    (g.O.Sink.written c.write_entries.new.out))
+    (seen_so c.args.walk.now c.args.order c.args.class c.requires.order_is c.requires.class_is) c.in_err-last.ensures.begun)
 
 pub returns-in_err-last-clause-stopped : goal.returns-in_err-last-clause-stopped
 returns-in_err-last-clause-stopped g c =
     on_err c.from_residual.result
     (inl (subst (λ (w : WalkState). StoppedAtEntry w.order w.class w.cursor c.args.limit (g.O.Sink.written c.args.out.now)
-    (g.O.Sink.written c.write_entries.new.out) (c.write_entries.new.steps - c.args.steps.now)) (seen_so c.args.walk.now c.args.order c.args.class c.requires.order_is c.requires.class_is) c.in_err-last.ensures.stopped))
+    (g.O.Sink.written c.write_entries.new.out) (c.write_entries.new.steps - c.args.steps.now))
+    (seen_so c.args.walk.now c.args.order c.args.class c.requires.order_is c.requires.class_is) c.in_err-last.ensures.stopped))
 
 pub returns-in_err-write_all-clause-begun : goal.returns-in_err-write_all-clause-begun
 returns-in_err-write_all-clause-begun g c =
