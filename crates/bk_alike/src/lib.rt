@@ -74,15 +74,15 @@ impl Alike {
         if self.items.len() >= MOST_ITEMS {
             return Err(AddFault::Full);
         }
-        let tiling = canonical(tiling);
-        let size = (tiling.width(), tiling.height());
+        let item = item_of(line, tiling);
+        let size = size_of(&item.tiling);
         let place = self.items.len() as u32;
         if self.items.reserve(1).is_err() {
             return Err(AddFault::NoMemory);
         }
         match put_in_group(self.alloc, &mut self.sizes, &mut self.groups, size, place) {
             Ok(()) => {
-                let _fits = self.items.push(KeptItem { line, tiling });
+                let _fits = self.items.push(item);
                 Ok(())
             }
             Err(NoRoom) => Err(AddFault::NoMemory),
@@ -143,6 +143,24 @@ impl Alike {
             None => &[],
         }
     }
+}
+
+// What is kept of a tiling: its canonical tiling, with its line.
+fn item_of(line: u64, tiling: &Tiling) -> KeptItem
+    ensures line { result.line ≡ line }
+    ensures canonical { IsCanonicalOf tiling.now result.tiling }
+{
+    KeptItem {
+        line,
+        tiling: canonical(tiling),
+    }
+}
+
+// The size of a tiling.
+fn size_of(tiling: &Tiling) -> (u64, u64)
+    ensures { result ≡ (tiling.now.width, tiling.now.height) }
+{
+    (tiling.width(), tiling.height())
 }
 
 // Memory is wanting.

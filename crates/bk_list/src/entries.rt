@@ -1,7 +1,9 @@
 //! The entries of a listing, written as soon as each is known.
 
-ghost use Rattle.std.specs.Prelude.{IfOk, IsTrue, None, OnErr, Some, false, ◌-◌, ◌≡◌, ◌≤◌};
-ghost use Rattle.bk_ports.specs.Causes.{HasCause};
+ghost use Rattle.std.specs.Io.KnownBytes.{Appends};
+ghost use Rattle.std.specs.Prelude.{IfOk, IsTrue, None, OnErr, OnOk, Some, false, length, ◌-◌, ◌<◌, ◌≡◌, ◌≤◌};
+ghost use Rattle.bk_ports.specs.Causes.{AppendsPrefix, HasCause};
+ghost use Rattle.bk_report.specs.Listings.{entry_line};
 ghost use Rattle.bk_tree.specs.Tree.{IsAtMostTree};
 ghost use Rattle.bk_list.specs.Stepping.{AreNextSteps, HasEntriesBySteps, StoppedAtEntry};
 ghost use Rattle.bk_list.specs.Writing.{BeginsListing, IsNext, IsNextBegun};
@@ -10,7 +12,9 @@ use bk_grammar::AnswerBuffer;
 use bk_ports::{Failed, Sink};
 use bk_report::{Last, write_entry};
 use bk_skel::Steps;
+use bk_tiling::Tiling;
 use bk_walk::TabledWalk;
+use bk_word::Word;
 use std::sync::ledger::Ledger;
 
 // What comes after the cursor.
@@ -79,9 +83,24 @@ fn write_next<const ROOM: usize, L: Ledger, O: Sink>(
         None => Ok(Next::Nothing),
         Some(Err(_)) => unreachable!(),
         Some(Ok(entry)) => {
-            write_entry(&entry.tiling, &entry.word, buffer);
-            out.write_all(buffer.as_slice())?;
+            write_line(&entry.tiling, &entry.word, buffer, out)?;
             Ok(Next::Member)
         }
     }
+}
+
+// Writes the line of an entry, by one call.
+fn write_line<O: Sink>(
+    tiling: &Tiling,
+    word: &Word,
+    buffer: &mut AnswerBuffer,
+    out: &mut O,
+) -> Result<(), Failed>
+    requires { 0 < length word.now }
+    ensures written { OnOk result (Appends (O.written out.old) (O.written out.new) (entry_line tiling.now word.now)) }
+    ensures begun { OnErr result (AppendsPrefix (O.written out.old) (O.written out.new) (entry_line tiling.now word.now)) }
+    ensures cause { HasCause (O.faults out.old) (O.faults out.new) result }
+{
+    write_entry(tiling, word, buffer);
+    out.write_all(buffer.as_slice())
 }

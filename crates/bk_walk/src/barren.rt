@@ -13,6 +13,7 @@ ghost use Rattle.bk_walk.specs.MoveCuts.{GrowsByAtMostOne, IsCut, IsFrontEndingE
 use crate::lined::LinedSkel;
 use crate::moves::next_move;
 use crate::owing::skip_owing;
+use crate::tabled::TabledMembers;
 use bk_owed::single_valleys;
 use bk_skel::{Skel, open_side};
 use bk_word::{Class, Move, Sign};
@@ -20,7 +21,8 @@ use bk_word::{Class, Move, Sign};
 // Passes over a legal move by which no member's word of the order and the class goes on, and over others of which this is as
 // plain. False where it isn't plain; the move is then as it was.
 pub(crate) fn skip<const ROOM: usize>(
-    lined: &LinedSkel<ROOM>,
+    lined: &LinedSkel,
+    tabled: &TabledMembers<ROOM>,
     class: Class,
     order: u8,
     m: &mut Move,
@@ -34,7 +36,7 @@ pub(crate) fn skip<const ROOM: usize>(
     ensures near { GrowsByAtMostOne m.old m.new }
     ensures kept { result ≡ false → m.new ≡ m.old }
 {
-    if skip_by_members(lined, class, order, m) {
+    if skip_by_members(lined, tabled, class, order, m) {
         return true;
     }
     if skip_by_signs(lined.skel(), class, order, m) {
@@ -46,7 +48,8 @@ pub(crate) fn skip<const ROOM: usize>(
 // Passes over a move, and over all of its count whose signs are the same up to a place, where the table of members has none
 // that goes on by them.
 fn skip_by_members<const ROOM: usize>(
-    lined: &LinedSkel<ROOM>,
+    lined: &LinedSkel,
+    tabled: &TabledMembers<ROOM>,
     class: Class,
     order: u8,
     m: &mut Move,
@@ -60,7 +63,7 @@ fn skip_by_members<const ROOM: usize>(
     ensures near { GrowsByAtMostOne m.old m.new }
     ensures kept { result ≡ false → m.new ≡ m.old }
 {
-    match lined.barren_signs(class, order, m) {
+    match tabled.barren_signs(order, class, lined.skel(), m) {
         None => false,
         Some(kept) => {
             m.signs.truncate(kept);
@@ -71,7 +74,7 @@ fn skip_by_members<const ROOM: usize>(
 }
 
 // Passes over a move that the sides of the first squares rule out.
-fn skip_by_sides<const ROOM: usize>(lined: &LinedSkel<ROOM>, class: Class, m: &mut Move) -> bool
+fn skip_by_sides(lined: &LinedSkel, class: Class, m: &mut Move) -> bool
     requires legal { IsLegalMove (outline_of lined.now) m.old }
     requires count { m.old.count < 17 }
     requires signs { length m.old.signs ≤ 18 }
@@ -186,7 +189,7 @@ fn skip_shorter(skel: &Skel, m: &mut Move) -> bool
 }
 
 // Whether it is plain that no member's word of the order begins with these moves, in any class.
-pub(crate) fn is_barren<const ROOM: usize>(lined: &LinedSkel<ROOM>, order: u8) -> bool
+pub(crate) fn is_barren(lined: &LinedSkel, order: u8) -> bool
     ensures { IsTrue result → (class : Class) → IsBarren order class lined.now }
 {
     is_whole_early(lined.skel(), order) || owes_too_many(lined, order)
@@ -202,7 +205,7 @@ fn is_whole_early(skel: &Skel, order: u8) -> bool
 // Whether fewer squares are left than must still hang: one for each segment that ends above its neighbour on one segment's
 // side, one for that segment itself where a vertical line from the top bounds it or ended on it, and one more for each valley
 // of just one square. At orders under 3 nothing is said.
-fn owes_too_many<const ROOM: usize>(lined: &LinedSkel<ROOM>, order: u8) -> bool
+fn owes_too_many(lined: &LinedSkel, order: u8) -> bool
     ensures { IsTrue result → (class : Class) → IsBarren order class lined.now }
 {
     if order < 3 {

@@ -1,36 +1,37 @@
 //! Words that are played and taken back, with the vertical lines that run from the top and the equations between first sides.
 #![tactic(auto)]
 
-ghost use Rattle.std.specs.Prelude.{IfSome, IsTrue, [], length, take, ℕ, ◌++◌, ◌+◌, ◌-◌, ◌<◌, ◌∷◌, ◌≡◌, ◌≤◌};
+ghost use Rattle.std.specs.Prelude.{IsTrue, [], length, take, ℕ, ◌++◌, ◌+◌, ◌-◌, ◌<◌, ◌∷◌, ◌≡◌, ◌≤◌};
 ghost use Rattle.bk_word.specs.Outline.{IsLegalMove};
 ghost use Rattle.bk_word.specs.Play.{IsLegal, outline_of};
 ghost use Rattle.bk_word.specs.Word.{order_of};
 ghost use Rattle.bk_barren.specs.Cuts.{IsBarren};
 ghost use Rattle.bk_bounds.specs.VerticalCut.{line_bound_of};
-ghost use Rattle.bk_member_table.specs.Members.{IsBarrenBy};
+ghost use Rattle.bk_form_cuts.specs.Trace.{IsTraceOf};
 
 use crate::lines::{line_bound, push_lines, valley_on_line};
-use crate::tabled::TabledMembers;
 use arrayvec::ArrayVec;
 use bk_form_cuts::Tracing;
 use bk_skel::{Skel, Steps};
 use bk_word::{Class, LARGEST_ORDER, Move};
-use std::alloc::Global;
 use std::marker::Model;
 use std::sync::ledger::Ledger;
 
+// A whole walk of a lower order saves one push by the equations between sides, and loses more time on them.
+const LEAST_TRACED_ORDER: u8 = 9;
+
 /// A skeleton, of each of its squares whether its left edge lies on a vertical line that runs from the top between squares of
-/// the first move, what is known of the sides of its first squares, and room for a table of members. It is seen as the
-/// list of its moves. (Own.)
+/// the first move, and what is known of the sides of its first squares, where that is followed. It is seen as the list of its
+/// moves. (Own.)
 #[derive(Drop)]
-pub(crate) struct LinedSkel<const ROOM: usize> {
+pub(crate) struct LinedSkel {
     skel: Skel,
     lines: ArrayVec<bool, LARGEST_ORDER>,
     sides: Tracing,
-    tabled: TabledMembers<ROOM>,
+    is_traced: bool,
 }
 
-impl<const ROOM: usize> Model for LinedSkel<ROOM> {
+impl Model for LinedSkel {
     ghost use Rattle.bk_word.specs.Word.{Word as Moves};
     ghost use Rattle.bk_walk.specs.LinedWords.{IsKeptLined};
 
@@ -41,16 +42,16 @@ impl<const ROOM: usize> Model for LinedSkel<ROOM> {
     ghost invariant = { λ s. IsKeptLined s.skel s.lines.items s.sides };
 }
 
-impl<const ROOM: usize> LinedSkel<ROOM> {
-    /// The skeleton of no move.
-    pub(crate) fn new(alloc: Global) -> LinedSkel<ROOM>
+impl LinedSkel {
+    /// The skeleton of no move, for a search of the order.
+    pub(crate) fn new(order: u8) -> LinedSkel
         ensures { result ≡ [] }
     {
         LinedSkel {
             skel: Skel::new(),
             lines: ArrayVec::new(),
             sides: Tracing::new(),
-            tabled: TabledMembers::new(alloc),
+            is_traced: order >= LEAST_TRACED_ORDER,
         }
     }
 
@@ -73,7 +74,7 @@ impl<const ROOM: usize> LinedSkel<ROOM> {
         let is_first = skel.moves() == 0;
         let is_on = valley_on_line(skel.signs(), skel.sizes(), skel.ends(), &self.lines);
         push_lines(&mut self.lines, is_on, is_first, usize::from(m.count));
-        self.sides.push(&self.skel, m);
+        trace(&mut self.sides, self.is_traced, &self.skel, m);
         self.skel.push(m, steps);
     }
 
@@ -95,25 +96,6 @@ impl<const ROOM: usize> LinedSkel<ROOM> {
         self.sides.rules_out(&self.skel, m, class)
     }
 
-    /// Makes the table of members for the count of the first move, where a walk that has pushed so many moves wants it.
-    pub(crate) fn renew(&mut self, class: Class, order: u8, pushes: u64)
-        requires most { order ≤ 16 }
-        requires few { order_of self.old ≤ 16 }
-        ensures { self.new ≡ self.old }
-    {
-        self.tabled.renew(&self.skel, class, order, pushes);
-    }
-
-    /// How many signs of a legal move it takes, where the table of members tells it, until no member's word goes on from these
-    /// moves by a move of the same count whose signs begin with them.
-    pub(crate) fn barren_signs(&self, class: Class, order: u8, m: &Move) -> Option<usize>
-        requires legal { IsLegalMove (outline_of self.now) m.now }
-        requires few { order_of self.now + m.now.count ≤ 16 }
-        ensures { IfSome result (IsBarrenBy order class self.now m.now) }
-    {
-        self.tabled.barren_signs(order, class, &self.skel, m)
-    }
-
     /// The closing bound after the moves, where a segment that a line bounds or ended on has one closing more.
     pub(crate) fn line_bound(&self) -> usize
         ensures { result ≡ line_bound_of self.now }
@@ -125,4 +107,16 @@ impl<const ROOM: usize> LinedSkel<ROOM> {
             &self.lines,
         )
     }
+}
+
+// Goes on with what is known of the sides by a legal move, where it is followed.
+fn trace(sides: &mut Tracing, is_traced: bool, skel: &Skel, m: &Move)
+    requires trace { IsTraceOf skel.now sides.old }
+    requires legal { IsLegalMove (outline_of skel.now) m.now }
+    ensures { IsTraceOf (skel.now ++ m.now ∷ []) sides.new }
+{
+    if !is_traced {
+        return;
+    }
+    sides.push(skel, m);
 }

@@ -18,8 +18,8 @@ use std::sync::ledger::Ledger;
 
 // Plays the moves of the cursor that are not played yet, as far as they are legal and hang at most as many squares as the
 // order. It gives the move from which a search looks for the next legal one.
-pub(crate) fn resume<const ROOM: usize, L: Ledger>(
-    lined: &mut LinedSkel<ROOM>,
+pub(crate) fn resume<L: Ledger>(
+    lined: &mut LinedSkel,
     cursor: &Word,
     order: u8,
     pushes: &mut u64,
@@ -46,7 +46,7 @@ pub(crate) fn resume<const ROOM: usize, L: Ledger>(
 }
 
 // Whether a move is legal, and hangs no more squares than the order leaves.
-fn can_play<const ROOM: usize>(lined: &LinedSkel<ROOM>, m: &Move, order: u8) -> bool
+fn can_play(lined: &LinedSkel, m: &Move, order: u8) -> bool
     requires { m.now.count ≤ 200 }
     ensures legal { IsTrue result → IsLegalMove (outline_of lined.now) m.now }
     ensures few { IsTrue result → order_of lined.now + m.now.count ≤ order }

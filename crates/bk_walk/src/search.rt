@@ -14,6 +14,7 @@ use crate::barren::{is_barren, skip};
 use crate::judging::{WordVerdict, judge};
 use crate::lined::LinedSkel;
 use crate::moves::{begin_anew, least_legal_from, next_move};
+use crate::tabled::TabledMembers;
 use bk_skel::{Steps, lacks_sides, open_side};
 use bk_tiling::Tiling;
 use bk_word::{Class, Move};
@@ -40,7 +41,8 @@ pub(crate) enum Found {
 
 // Searches on from a place, up to the next member's word.
 pub(crate) fn search<const ROOM: usize, L: Ledger>(
-    lined: &mut LinedSkel<ROOM>,
+    lined: &mut LinedSkel,
+    tabled: &mut TabledMembers<ROOM>,
     next: &mut Move,
     class: Class,
     order: u8,
@@ -55,7 +57,7 @@ pub(crate) fn search<const ROOM: usize, L: Ledger>(
     ensures counts { PushesGrow pushes.old pushes.new steps.old steps.new }
 {
     'turns: loop {
-        match search_step(lined, next, class, order, pushes, steps) {
+        match search_step(lined, tabled, next, class, order, pushes, steps) {
             Went::On => {}
             Went::End => return Found::Ended,
             Went::Complete => match judge(lined.skel(), class) {
@@ -68,7 +70,8 @@ pub(crate) fn search<const ROOM: usize, L: Ledger>(
 
 // Goes one step on: back from moves after which none is left, over moves that are cut, or down by a move that is pushed.
 fn search_step<const ROOM: usize, L: Ledger>(
-    lined: &mut LinedSkel<ROOM>,
+    lined: &mut LinedSkel,
+    tabled: &mut TabledMembers<ROOM>,
     next: &mut Move,
     class: Class,
     order: u8,
@@ -90,10 +93,10 @@ fn search_step<const ROOM: usize, L: Ledger>(
             Went::End
         };
     }
-    if skip(lined, class, order, next) {
+    if skip(lined, tabled, class, order, next) {
         return Went::On;
     }
-    go_down(lined, next, class, order, pushes, steps);
+    go_down(lined, tabled, next, class, order, pushes, steps);
     if is_barren(lined, order) {
         lined.pop();
         next_move(next);
@@ -108,7 +111,7 @@ fn search_step<const ROOM: usize, L: Ledger>(
 }
 
 // How many sides of the leftmost valley are no walls.
-fn open_sides<const ROOM: usize>(lined: &LinedSkel<ROOM>) -> usize
+fn open_sides(lined: &LinedSkel) -> usize
     ensures value { result ≡ sides_open (outline_of lined.now) }
     ensures few { result ≤ 2 }
 {
@@ -117,7 +120,7 @@ fn open_sides<const ROOM: usize>(lined: &LinedSkel<ROOM>) -> usize
 }
 
 // Takes the last move back, and makes of the other the next after it. False where there is no move.
-fn climb<const ROOM: usize>(lined: &mut LinedSkel<ROOM>, next: &mut Move) -> bool
+fn climb(lined: &mut LinedSkel, next: &mut Move) -> bool
     requires small { order_of lined.old ≤ 16 }
     ensures on { IsTrue result → IsClimbed lined.old lined.new next.new }
     ensures end { result ≡ false → lined.old ≡ [] }
@@ -135,7 +138,8 @@ fn climb<const ROOM: usize>(lined: &mut LinedSkel<ROOM>, next: &mut Move) -> boo
 
 // Pushes a move, counts it, and makes a table of members where the walk wants it.
 fn go_down<const ROOM: usize, L: Ledger>(
-    lined: &mut LinedSkel<ROOM>,
+    lined: &mut LinedSkel,
+    tabled: &mut TabledMembers<ROOM>,
     m: &Move,
     class: Class,
     order: u8,
@@ -150,12 +154,12 @@ fn go_down<const ROOM: usize, L: Ledger>(
     ensures count { pushes.new ≡ min (pushes.old + 1) (2 ^ 64 - 1) }
 {
     play(lined, m, pushes, steps);
-    lined.renew(class, order, *pushes);
+    tabled.renew(lined.skel(), class, order, *pushes);
 }
 
 // Pushes a move, and counts it.
-pub(crate) fn play<const ROOM: usize, L: Ledger>(
-    lined: &mut LinedSkel<ROOM>,
+pub(crate) fn play<L: Ledger>(
+    lined: &mut LinedSkel,
     m: &Move,
     pushes: &mut u64,
     steps: &mut Steps<L>,
@@ -172,7 +176,7 @@ pub(crate) fn play<const ROOM: usize, L: Ledger>(
 
 // Whether the moves are a complete word of the order which a tiling may have: it isn't told by whole numbers that none has it. No room is taken for
 // a tiling.
-fn is_candidate<const ROOM: usize>(lined: &LinedSkel<ROOM>, order: u8) -> bool
+fn is_candidate(lined: &LinedSkel, order: u8) -> bool
     requires order { order ≤ 16 }
     ensures whole { IsTrue result → IsComplete lined.now × (order_of lined.now ≡ order) }
     ensures none { result ≡ false → IsComplete lined.now → order_of lined.now ≡ order → (t : Tiled) → IsTiling t → ¬ (IsWordOf t lined.now) }
@@ -184,7 +188,7 @@ fn is_candidate<const ROOM: usize>(lined: &LinedSkel<ROOM>, order: u8) -> bool
 }
 
 // Whether the moves are a complete word of the order.
-fn is_complete_of<const ROOM: usize>(lined: &LinedSkel<ROOM>, order: u8) -> bool
+fn is_complete_of(lined: &LinedSkel, order: u8) -> bool
     ensures whole { IsTrue result → IsComplete lined.now × (order_of lined.now ≡ order) }
     ensures unready { result ≡ false → IsComplete lined.now → order_of lined.now ≡ order → ⊥ }
 {

@@ -1,38 +1,30 @@
-use Rattle.std.proofs.Common.{List, take, subst, ℕ, ◌∙◌}
-use Rattle.std.specs.Io.KnownBytes.{Appends}
 use Rattle.std.proofs.lemmas.Result.{IfOk-at_ok, MatchResult-at_ok}
 use Rattle.bk_list.proofs.ListingSteps.{on_err, taken, word_some}
 use Rattle.bk_list.proofs.entries.write_next.Goals as goal
 
-pub write_entry-requires : goal.write_entry-requires
-write_entry-requires g c =
+pub write_line-requires : goal.write_line-requires
+write_line-requires g c =
     let next = IfOk-at_ok _ c.in-Some-Ok.field-0-is c.in-Some-Ok.ensures.entry in
     word_some c.args.walk.now.order c.args.walk.now.class c.args.walk.now.cursor c.in-Some-Ok.entry.tiling c.in-Some-Ok.entry.word next.0
 
-pub returns-in_err-write_all-in-Some-Ok-clause-begun : goal.returns-in_err-write_all-in-Some-Ok-clause-begun
-returns-in_err-write_all-in-Some-Ok-clause-begun g c =
+pub returns-in_err-write_line-in-Some-Ok-clause-begun : goal.returns-in_err-write_line-in-Some-Ok-clause-begun
+returns-in_err-write_line-in-Some-Ok-clause-begun g c =
     let next = IfOk-at_ok _ c.in-Some-Ok.field-0-is c.in-Some-Ok.ensures.entry in
-    let err = c.in_err-write_all-in-Some-Ok.ensures.err in
     on_err c.from_residual.result (
       record { tiling = c.in-Some-Ok.entry.tiling; word = c.in-Some-Ok.entry.word },
       taken c.args.walk.now.order c.args.walk.now.class c.args.walk.now.cursor c.in-Some-Ok.entry.tiling c.in-Some-Ok.entry.word next.0,
       MatchResult-at_ok _ _ c.in-Some-Ok.entry c.in-Some-Ok.field-0-is c.in-Some-Ok.ensures.cursor,
-      (
-        err.0,
-        subst (λ (l : List ℕ). Appends (g.O.Sink.written c.args.out.now) (g.O.Sink.written c.write_all.new.self) (take err.0 l)) (c.as_slice.ensures.value
-            ∙ c.write_entry.ensures) err.1,
-      ),
+      c.in_err-write_line-in-Some-Ok.ensures.begun,
     )
 
-pub returns-in_err-write_all-in-Some-Ok-clause-stopped : goal.returns-in_err-write_all-in-Some-Ok-clause-stopped
-returns-in_err-write_all-in-Some-Ok-clause-stopped g c = on_err c.from_residual.result c.in-Some-Ok.ensures.steps
+pub returns-in_err-write_line-in-Some-Ok-clause-stopped : goal.returns-in_err-write_line-in-Some-Ok-clause-stopped
+returns-in_err-write_line-in-Some-Ok-clause-stopped g c = on_err c.from_residual.result c.in-Some-Ok.ensures.steps
 
-pub returns-in_ok-write_all-in-Some-Ok-clause-next : goal.returns-in_ok-write_all-in-Some-Ok-clause-next
-returns-in_ok-write_all-in-Some-Ok-clause-next g c =
+pub returns-in_ok-write_line-in-Some-Ok-clause-next : goal.returns-in_ok-write_line-in-Some-Ok-clause-next
+returns-in_ok-write_line-in-Some-Ok-clause-next g c =
     let next = IfOk-at_ok _ c.in-Some-Ok.field-0-is c.in-Some-Ok.ensures.entry in (
       record { tiling = c.in-Some-Ok.entry.tiling; word = c.in-Some-Ok.entry.word },
       taken c.args.walk.now.order c.args.walk.now.class c.args.walk.now.cursor c.in-Some-Ok.entry.tiling c.in-Some-Ok.entry.word next.0,
       MatchResult-at_ok _ _ c.in-Some-Ok.entry c.in-Some-Ok.field-0-is c.in-Some-Ok.ensures.cursor,
-      subst (Appends (g.O.Sink.written c.args.out.now) (g.O.Sink.written c.write_all.new.self)) (c.as_slice.ensures.value ∙ c.write_entry.ensures)
-          c.in_ok-write_all-in-Some-Ok.ensures.ok,
+      c.in_ok-write_line-in-Some-Ok.ensures.written,
     )

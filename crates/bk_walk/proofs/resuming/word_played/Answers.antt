@@ -1,4 +1,4 @@
-use Rattle.std.proofs.Common.{[], ap, arith, false, sym, true, ◌++◌, ◌∙◌, ◌∷◌, ◌≡◌}
+use Rattle.std.proofs.Common.{[], ap, arith, false, rules, sym, true, ◌++◌, ◌∙◌, ◌∷◌, ◌≡◌}
 use Rattle.bk_word.specs.Word.{order_of}
 use Rattle.bk_walk.proofs.TakingUp.{legal_stands, order_at}
 use Rattle.bk_walk.proofs.resuming.word_played.Goals as goal
@@ -20,3 +20,6 @@ unreachable-requires c = no (c.in-Err.ensures.inline
 pub moves-preserved : goal.moves-preserved
 moves-preserved c = c.in-Ok.ensures.ok ∙ ap (λ l. l ++ c.get.result ∷ []) c.moves.invariant
     ∙ sym (take_next c.args.skel.now c.moves.i c.get.result c.get.ensures)
+
+pub moves-init : goal.moves-init
+moves-init c = search rules

@@ -6,9 +6,14 @@ use Rattle.bk_walk.proofs.Standing.{step_climbs, step_cuts, step_ends, step_goes
 use Rattle.bk_tree.specs.NextMove.{fitted, open_sides}
 use Rattle.bk_walk.proofs.search.search_step.Goals as goal
 
+-- the least legal move is the one that fits
+least_fits : (n x : Move) (k j : ℕ) → n ≡ fitted k x → k ≡ j → n ≡ fitted j x
+least_fits n x k j e h = e ∙ ap (λ i. fitted i x) h
+
 pub returns-then-climb-clause-leads : goal.returns-then-climb-clause-leads
 returns-then-climb-clause-leads g c = step_climbs c.args.order c.args.class c.args.lined.now c.args.next.now c.least_legal_from.new.m c.requires.order
-    c.requires.stand (c.least_legal_from.ensures ∙ ap (λ k. fitted k c.args.next.now) c.open_sides.ensures.value)
+    c.requires.stand (least_fits c.least_legal_from.new.m c.args.next.now c.open_sides.result (open_sides (outline_of c.args.lined.now))
+    c.least_legal_from.ensures c.open_sides.ensures.value)
     c.climb.new.lined c.climb.new.next (c.args.steps.now - c.args.steps.now) (c.climb.ensures.on c.if-climb.true)
     (let v = c.order.ensures.value ∙ ap order_of c.skel.ensures.value in let count = ap (λ (m : Move). m.count) c.next.view_is in
     omega (arith, c.if-order-from.true, c.from.ensures, c.from-2.ensures)) (omega arith)
@@ -16,7 +21,8 @@ returns-then-climb-clause-leads g c = step_climbs c.args.order c.args.class c.ar
 pub returns-else-climb-clause-leads : goal.returns-else-climb-clause-leads
 returns-else-climb-clause-leads g c = (
   step_ends c.args.order c.args.class c.args.lined.now c.args.next.now c.least_legal_from.new.m c.requires.order c.requires.stand
-      (c.least_legal_from.ensures ∙ ap (λ k. fitted k c.args.next.now) c.open_sides.ensures.value)
+      (least_fits c.least_legal_from.new.m c.args.next.now c.open_sides.result (open_sides (outline_of c.args.lined.now))
+      c.least_legal_from.ensures c.open_sides.ensures.value)
       (c.args.steps.now - c.args.steps.now) (c.climb.ensures.end c.if-climb.false)
       (let v = c.order.ensures.value ∙ ap order_of c.skel.ensures.value in let count = ap (λ (m : Move). m.count) c.next.view_is in
       omega (arith, c.if-order-from.true, c.from.ensures, c.from-2.ensures)) (omega arith),
@@ -26,7 +32,8 @@ returns-else-climb-clause-leads g c = (
 pub skip-requires : goal.skip-requires
 skip-requires g c =
     let count = ap (λ (m : Move). m.count) c.next.view_is in
-    let fit = c.least_legal_from.ensures ∙ ap (λ k. fitted k c.args.next.now) c.open_sides.ensures.value in (
+    let fit = least_fits c.least_legal_from.new.m c.args.next.now c.open_sides.result (open_sides (outline_of c.args.lined.now))
+    c.least_legal_from.ensures c.open_sides.ensures.value in (
       search rules,
       (
         (step_least c.args.order c.args.class c.args.lined.now c.args.next.now c.least_legal_from.new.m c.requires.order c.requires.stand fit).legal,
@@ -52,7 +59,8 @@ skip-requires g c =
 
 pub returns-then-skip-clause-leads : goal.returns-then-skip-clause-leads
 returns-then-skip-clause-leads g c = step_cuts c.args.order c.args.class c.args.lined.now c.args.next.now c.least_legal_from.new.m c.requires.order
-    c.requires.stand (c.least_legal_from.ensures ∙ ap (λ k. fitted k c.args.next.now) c.open_sides.ensures.value)
+    c.requires.stand (least_fits c.least_legal_from.new.m c.args.next.now c.open_sides.result (open_sides (outline_of c.args.lined.now))
+    c.least_legal_from.ensures c.open_sides.ensures.value)
     c.skip.new.m (c.args.steps.now - c.args.steps.now)
     (c.skip.ensures.cut c.if-skip.true) c.skip.ensures.near
     (let v = c.order.ensures.value ∙ ap order_of c.skel.ensures.value in let count = ap (λ (m : Move). m.count) c.next.view_is in
@@ -61,7 +69,8 @@ returns-then-skip-clause-leads g c = step_cuts c.args.order c.args.class c.args.
 pub go_down-requires : goal.go_down-requires
 go_down-requires g c =
     let count = ap (λ (m : Move). m.count) c.next.view_is in
-    let fit = c.least_legal_from.ensures ∙ ap (λ k. fitted k c.args.next.now) c.open_sides.ensures.value in
+    let fit = least_fits c.least_legal_from.new.m c.args.next.now c.open_sides.result (open_sides (outline_of c.args.lined.now))
+    c.least_legal_from.ensures c.open_sides.ensures.value in
     let same : c.skip.new.m ≡ c.least_legal_from.new.m = c.skip.ensures.kept c.if-skip.false in (
       search rules,
       (
@@ -84,7 +93,7 @@ go_down-requires g c =
 
 -- the move that is pushed is the one that fits
 fits : (m n x : Move) (k j : ℕ) → m ≡ n → n ≡ fitted k x → k ≡ j → m ≡ fitted j x
-fits m n x k j e f h = e ∙ f ∙ ap (λ i. fitted i x) h
+fits m n x k j e f h = e ∙ least_fits n x k j f h
 
 pub next_move-requires-clause-signs : goal.next_move-requires-clause-signs
 next_move-requires-clause-signs g c =
@@ -94,7 +103,8 @@ next_move-requires-clause-signs g c =
       arith,
       ap (λ (m : Move). length m.signs) same,
       step_signs c.args.order c.args.class c.args.lined.now c.args.next.now c.least_legal_from.new.m c.requires.order c.requires.stand
-          (c.least_legal_from.ensures ∙ ap (λ k. fitted k c.args.next.now) c.open_sides.ensures.value),
+          (least_fits c.least_legal_from.new.m c.args.next.now c.open_sides.result (open_sides (outline_of c.args.lined.now))
+          c.least_legal_from.ensures c.open_sides.ensures.value),
       c.if-order-from.false,
       c.from.ensures,
       c.from-2.ensures,

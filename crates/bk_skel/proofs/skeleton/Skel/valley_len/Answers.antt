@@ -1,3 +1,5 @@
+use Rattle.std.proofs.lemmas.Grind.{common_steps}
+use Rattle.std.proofs.Common.{arith}
 use Rattle.bk_skel.proofs.ValleyReads.{valley_sizes, valley_within}
 use Rattle.bk_skel.proofs.skeleton.Skel.valley_len.Goals as goal
 
@@ -11,3 +13,6 @@ pub bounds-deref-place : goal.bounds-deref-place
 bounds-deref-place c =
     valley_within c.self.invariant c.deref-3.result.now c.deref-2.result.now c.leftmost-place.result.0 c.deref-3.ensures.0 c.deref-2.ensures.0
     c.leftmost-place.ensures.within
+
+pub returns : goal.returns
+returns c = grind (arith, common_steps)

@@ -1,3 +1,4 @@
+use Rattle.std.proofs.lemmas.Grind.{common_steps}
 use Rattle.std.proofs.Common.{arith, refl, subst, sym, true≢false, ◌∙◌}
 use Rattle.bk_verify.proofs.Standing.{canonical_order, kept_then, none_of_other_kind, none_of_other_order, stands_told, taken_in}
 use Rattle.bk_verify.proofs.Storing.{on_err}
@@ -85,3 +86,6 @@ returns-clause-fed c =
     (taken_in (record { order = c.self.inside.order; pairs = c.self.inside.kept }) c.args.tiling.now c.canonical-member.result c.args.line
     c.keep.new.self stands c.in_default.ensures
     c.in_ok-keep.ensures.kept)
+
+pub returns-in-Some-clause-fed : goal.returns-in-Some-clause-fed
+returns-in-Some-clause-fed c = grind (arith, common_steps)

@@ -6,7 +6,7 @@ use Rattle.bk_bounds.specs.VerticalCut.{line_bound, line_bound_of, edges_on_line
 use Rattle.bk_walk.proofs.lined.LinedSkel.line_bound.Goals as goal
 
 pub line_bound-requires-clause-long : goal.line_bound-requires-clause-long
-line_bound-requires-clause-long g c = omega (
+line_bound-requires-clause-long c = omega (
   arith,
   sizes_long c.self.inside.skel c.self.invariant.lined.legal,
   ap length c.sizes.ensures,
@@ -14,10 +14,10 @@ line_bound-requires-clause-long g c = omega (
 )
 
 pub line_bound-requires-clause-enough : goal.line_bound-requires-clause-enough
-line_bound-requires-clause-enough g c = omega (arith, sum_lengths (outline_of c.self.inside.skel).segments, ap sum c.sizes.ensures, ap length c.ends.ensures)
+line_bound-requires-clause-enough c = omega (arith, sum_lengths (outline_of c.self.inside.skel).segments, ap sum c.sizes.ensures, ap length c.ends.ensures)
 
 pub returns : goal.returns
-returns g c =
+returns c =
     let lines_are : c.deref.result.now ≡ edges_on_lines c.self.inside.skel = c.deref.ensures.0 ∙ c.self.invariant.lined.lines_are in
     c.line_bound.ensures ∙ (λ i. line_bound (c.signs.ensures i)
     (touched (lines_are i) (segments_of (c.sizes.ensures i) (c.ends.ensures i)))) ∙ line_bound_by_lists c.self.inside.skel ∙ ap line_bound_of c.self.view_is

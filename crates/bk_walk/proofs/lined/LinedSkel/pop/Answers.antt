@@ -5,7 +5,7 @@ use Rattle.bk_walk.proofs.LinedMoves.{lined_less}
 use Rattle.bk_walk.proofs.lined.LinedSkel.pop.Goals as goal
 
 pub invariant_of-self : goal.invariant_of-self
-invariant_of-self g c = record {
+invariant_of-self c = record {
   lined = lined_less c.self.inside.skel c.pop-2.new.self c.self.inside.lines.items c.truncate.new.self.items c.order.result
       c.self.invariant.lined c.pop-2.ensures c.order.ensures.value c.truncate.ensures.items;
   traced = subst (λ (w : Word). IsTraceOf w c.pop.new.self) (sym c.pop-2.ensures) c.pop.ensures.trace;

@@ -33,10 +33,10 @@ invariant_of-self g c =
     c.ends.result.now c.valley_on_line-is_on.result c.deref.ensures.0
     c.signs.ensures c.sizes.ensures c.ends.ensures c.valley_on_line-is_on.ensures in
     record {
-      lined = lined_more c.self.inside.skel c.push-2.new.self c.self.inside.lines.items c.push_lines.new.lines.items c.args.m.now c.from.result
+      lined = lined_more c.self.inside.skel c.push.new.self c.self.inside.lines.items c.push_lines.new.lines.items c.args.m.now c.from.result
           c.valley_on_line-is_on.result (nat_eq c.moves-is_first.result 0) c.self.invariant.lined
           (subst (λ (w : Word). IsLegalMove (outline_of w) c.args.m.now) (sym c.self.view_is) c.requires.legal) is_on
           (ap (λ k. nat_eq k 0) c.moves-is_first.ensures.value) (c.from.ensures ∙ ap (λ (m : Move). m.count) c.m.view_is)
-          c.push-2.ensures.moves c.push_lines.ensures;
-      traced = subst (λ (w : Word). IsTraceOf w c.push.new.self) (sym c.push-2.ensures.moves) c.push.ensures.trace;
+          c.push.ensures.moves c.push_lines.ensures;
+      traced = subst (λ (w : Word). IsTraceOf w c.trace.new.sides) (sym c.push.ensures.moves) c.trace.ensures;
     }

@@ -1,0 +1,14 @@
+use Rattle.std.specs.Io.KnownBytes.{Appends}
+use Rattle.std.proofs.Common.{List, OnErr, OnOk, subst, ℕ, ◌∙◌}
+use Rattle.bk_ports.specs.Causes.{AppendsPrefix}
+use Rattle.bk_list.proofs.entries.write_line.Goals as goal
+
+pub returns-clause-written : goal.returns-clause-written
+returns-clause-written g c =
+    subst (λ (l : List ℕ). OnOk c.write_all.result (Appends (g.O.Sink.written c.args.out.now) (g.O.Sink.written c.write_all.new.self) l))
+    (c.as_slice.ensures.value ∙ c.write_entry.ensures) c.write_all.ensures.ok
+
+pub returns-clause-begun : goal.returns-clause-begun
+returns-clause-begun g c =
+    subst (λ (l : List ℕ). OnErr c.write_all.result (AppendsPrefix (g.O.Sink.written c.args.out.now) (g.O.Sink.written c.write_all.new.self) l))
+    (c.as_slice.ensures.value ∙ c.write_entry.ensures) c.write_all.ensures.err
