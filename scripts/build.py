@@ -3,9 +3,9 @@
 memory.
 
 Each crate is proved from nothing, by the prover's own command, over the libraries of the crates below, by more processes the fewer crates are at
-work; that on which the most stands above it goes before the others. What is proved stays as a library in the crate's folder out/rlib/, with a sum
-of all that it was made from, so a build that was stopped goes on where it was. Says on standard error which crates are being proved, how many are
-done and how long it has taken. The status is 0 where the program stands in crates/bk_main/out/bk_main.
+work; that on which the most stands above it has a second one, and goes before the others. What is proved stays as a library in the crate's folder
+out/rlib/, with a sum of all that it was made from, so a build that was stopped goes on where it was. Says on standard error which crates are being
+proved, how many are done and how long it has taken. The status is 0 where the program stands in crates/bk_main/out/bk_main.
 
     scripts/build.py [--jobs N]
 """
@@ -181,10 +181,10 @@ class Progress:
                 self.tell(self.so_far())
 
 
-def processes(jobs, crates):
-    """Returns by how many processes a crate is proved where so many are at work. A long one is often at work alone in the end, so it has a second
-    one also where all processors are taken."""
-    return max(min(2, jobs), jobs // crates)
+def processes(jobs, crates, is_longest):
+    """Returns by how many processes a crate is proved where so many are at work. With a second one it is sooner done, but takes half as much time again
+    in all; so where all processors are taken only the crate with the longest chain above it has one."""
+    return max(min(2 if is_longest else 1, jobs), jobs // crates)
 
 
 def prove(crates, toolchain, jobs, log, progress):
@@ -196,7 +196,9 @@ def prove(crates, toolchain, jobs, log, progress):
             ready = [it for it in waiting if proved.issuperset(it.named)][: jobs - len(running)]
             at_work = [*running.values(), *ready]
             longest = max((it.chain for it in at_work), default=0)
-            running.update({pool.submit(it.prove, toolchain, processes(jobs, len(at_work)), it.chain < longest): it for it in ready})
+            for it in ready:
+                is_longest = it.chain == longest
+                running[pool.submit(it.prove, toolchain, processes(jobs, len(at_work), is_longest), not is_longest)] = it
             waiting = [it for it in waiting if it not in ready]
             if not running:
                 return not waiting and len(proved) == len(crates)

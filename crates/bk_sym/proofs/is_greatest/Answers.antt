@@ -1,4 +1,4 @@
-use Rattle.std.proofs.Common.{arith, drop, refl, subst, ◌≡◌}
+use Rattle.std.proofs.Common.{arith, drop, refl, rules, subst, ◌≡◌}
 use Rattle.bk_tiling.specs.Tiling.{Tiling}
 use Rattle.bk_sym.proofs.Greatest.{NoneGreater, at_most-refl, greatest_of_others}
 use Rattle.bk_sym.specs.Turns.{turns}
@@ -11,3 +11,6 @@ returns c =
       (λ _. greatest_of_others t t c.requires.tiling (at_most-refl t) (subst (λ k. NoneGreater t (drop 1 turns) k t) e c.loop-which.invariant)),
       (λ _. refl),
     )
+
+pub returns-then-not-is_image_at_most : goal.returns-then-not-is_image_at_most
+returns-then-not-is_image_at_most c = search rules

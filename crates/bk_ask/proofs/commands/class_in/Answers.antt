@@ -1,4 +1,4 @@
-use Rattle.std.proofs.Common.{IfErr, codes, map, string_bytes, subst, sym}
+use Rattle.std.proofs.Common.{IfErr, codes, map, rules, string_bytes, subst, sym}
 use Rattle.bk_ask.specs.Asked.{MayHaveClass}
 use Rattle.bk_ask.specs.OptionValues.{IsClassName}
 use Rattle.bk_ask.specs.Options.{options_in}
@@ -13,3 +13,6 @@ returns-in-Some-clause-err c =
     (fault_then c.class_named.result (record {}) ((class : Class) → IsClassName c.in-Some.name.now class → ⊥) ((class : Class) → MayHaveClass options class → ⊥)
     (λ none class may. no_meaning options (codes "--class") c.in-Some.name.now IsClassName c.requires c.in-Some.ensures.some none may.named may.has)
     c.class_named.ensures.none)
+
+pub returns-in-None-clause-ok : goal.returns-in-None-clause-ok
+returns-in-None-clause-ok c = search rules

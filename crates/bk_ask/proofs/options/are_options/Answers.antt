@@ -1,4 +1,5 @@
-use Rattle.std.proofs.Common.{map, string_bytes}
+use Rattle.std.proofs.lemmas.Grind.{common_steps}
+use Rattle.std.proofs.Common.{arith, map, string_bytes}
 use Rattle.bk_ask.proofs.OptionSteps.{stand_end}
 use Rattle.bk_ask.proofs.options.are_options.Goals as goal
 
@@ -6,3 +7,6 @@ pub returns : goal.returns
 returns c =
     stand_end (map (λ name. name.now) c.args.names.now) (map string_bytes c.args.words.now) c.options.left.now c.is_empty.result
     c.in_default.len_below c.is_empty.ensures c.options.invariant
+
+pub options-preserved : goal.options-preserved
+options-preserved c = grind (arith, common_steps)

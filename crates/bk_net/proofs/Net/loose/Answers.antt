@@ -1,4 +1,4 @@
-use Rattle.std.proofs.Common.{List, ap, arith, sym, ℕ, ◌-◌, ◌∙◌, ◌≡◌}
+use Rattle.std.proofs.Common.{List, ap, arith, rules, sym, ℕ, ◌-◌, ◌∙◌, ◌≡◌}
 use Rattle.std.specs.Prelude.{slice_index}
 use Rattle.bk_net.proofs.Joining.{labels_of_net, least, none_loose}
 use Rattle.bk_net.proofs.Net.loose.Goals as goal
@@ -35,3 +35,6 @@ returns-clause-none c =
     (labels_of_net c.args.self.now c.nodes-nodes.result c.wires.result.now c.labels_of-labels.result.items c.nodes-nodes.ensures.value
     c.wires.ensures.value c.labels_of-labels.ensures)
     (omega arith) (λ u h. c.loop-v.invariant u (omega (arith, c.nodes-nodes.ensures.value)) ∙ last)
+
+pub loop-v-init : goal.loop-v-init
+loop-v-init c = search rules

@@ -1,3 +1,4 @@
+use Rattle.std.proofs.lemmas.Grind.{common_steps}
 use Rattle.std.proofs.Common.{List, ap, arith, length, sum, sym, take, ℕ, ◌∙◌, ◌≡◌}
 use Rattle.std.proofs.lemmas.List.{take_all}
 use Rattle.std.proofs.lemmas.List.Sums.{sum_by_more}
@@ -14,3 +15,6 @@ returns-clause-group c =
     let whole : take (length c.args.rest.now) c.args.rest.now ≡ c.args.rest.now = take_all (length c.args.rest.now) c.args.rest.now (omega arith) in
     let all : take c.loop-i.i c.args.rest.now ≡ c.args.rest.now = take_all c.loop-i.i c.args.rest.now (omega (arith, c.loop-i-test.false)) in
     whole ∙ sym (falls_short c.args.gap c.args.rest.now (omega (arith, c.loop-i.invariant.total, c.loop-i.invariant.short, ap (λ (l : List ℕ). sum l) all)))
+
+pub loop-i-preserved : goal.loop-i-preserved
+loop-i-preserved c = grind (arith, common_steps)
