@@ -1,5 +1,5 @@
 use Rattle.std.proofs.lemmas.Grind.{common_steps}
-use Rattle.std.proofs.Common.{arith}
+use Rattle.std.proofs.Common.{arith, rules}
 use Rattle.bk_report.proofs.refusal.push_refusal.Goals as goal
 
 pub write_size-requires : goal.write_size-requires
@@ -40,3 +40,6 @@ returns-in-Unfinished-clause-short c = grind (arith, common_steps)
 
 pub returns-in-More-clause-short : goal.returns-in-More-clause-short
 returns-in-More-clause-short c = grind (arith, common_steps)
+
+pub returns-in-Gap-clause-text : goal.returns-in-Gap-clause-text
+returns-in-Gap-clause-text c = search rules

@@ -1,4 +1,4 @@
-use Rattle.std.proofs.Common.{None, Some, arith, subst, sym, ℕ, ◌+◌, ◌≡◌}
+use Rattle.std.proofs.Common.{None, Some, arith, rules, subst, sym, ℕ, ◌+◌, ◌≡◌}
 use Rattle.bk_tiling.specs.Tiling.{Tiling}
 use Rattle.bk_trial.specs.TrialLine.{IsTally, tiling_at}
 use Rattle.bk_trial.specs.declared.tally.Tally.{Tally}
@@ -33,3 +33,9 @@ loop-k-preserved c = elim c.match-laid_again.branch [
       w.add.ensures.accepted w.add.ensures.perfect w.add.ensures.simple w.add.ensures.squares)
   | in_default w ↦ absurd (never (tiling_at c.args.seed c.loop-k.k) w.in_default.ensures)
 ]
+
+pub loop-k-init : goal.loop-k-init
+loop-k-init c = search rules
+
+pub returns : goal.returns
+returns c = search rules
