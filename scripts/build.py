@@ -25,8 +25,10 @@ OUT = f"{TOP}/crates/{NAME}/out"
 LOG = f"{OUT}/build.log"
 # What a check may hold in memory, in bytes: with less free, fewer run side by side.
 MEMORY_OF_A_CHECK = 3_000_000_000
-# Lines of text that a processor proves in a second. For the time that is told at the start alone.
-LINES_A_SECOND = 24
+# A line of code takes a processor about as long as so many lines of definitions and proofs.
+LINES_FOR_ONE_OF_CODE = 40
+# So many lines of definitions and proofs a processor proves in a second. For the time that is told at the start alone.
+LINES_A_SECOND = 240
 # After so many seconds without a crate that is done, a line says what is at work.
 QUIET = 30
 
@@ -83,19 +85,19 @@ class Crate:
         self.folder = f"{TOP}/crates/{name}"
         self.root = "src/main.rt" if os.path.exists(f"{self.folder}/src/main.rt") else "src/lib.rt"
         self.library = f"{self.folder}/out/rlib/{name}.rlib"
-        self.sum, self.lines = None, 0
-        # Of the longest chain of crates that begins with this one and goes up, how many lines it has.
+        self.sum, self.work = None, 0
+        # How much work the longest chain of crates is that begins with this one and goes up.
         self.chain = 0
 
     def read(self, toolchain):
-        """Counts the crate's lines, and sums up all that its library is made from."""
+        """Tells how much work it is to prove the crate, in lines of definitions and proofs, and sums up all that its library is made from."""
         found = hashlib.sha256(toolchain.identity + repr([(it.name, it.sum) for it in self.named]).encode())
         walked = [os.walk(f"{self.folder}/{part}") for part in ("src", "specs", "proofs")]
         for file in sorted(f"{folder}/{it}" for part in walked for folder, _, names in part for it in names):
             with open(file, "rb") as it:
                 text = it.read()
             found.update(repr((os.path.relpath(file, self.folder), text)).encode())
-            self.lines += text.count(b"\n")
+            self.work += text.count(b"\n") * (LINES_FOR_ONE_OF_CODE if file.endswith(".rt") else 1)
         self.sum = found.hexdigest()
 
     def kept(self):
@@ -149,7 +151,7 @@ def read_crates(toolchain):
     add(NAME)
     crates = [*found.values()]
     for crate in reversed(crates):
-        crate.chain = crate.lines + max((it.chain for it in crates if crate in it.named), default=0)
+        crate.chain = crate.work + max((it.chain for it in crates if crate in it.named), default=0)
     return crates
 
 
@@ -231,7 +233,7 @@ def main(words):
     *crates, program = read_crates(toolchain)
     jobs = int(words[1]) if words[:1] == ["--jobs"] else len(os.sched_getaffinity(0))
     jobs = max(1, min(jobs, free_memory() // MEMORY_OF_A_CHECK))
-    left = sum(it.lines for it in crates if not it.is_proved())
+    left = sum(it.work for it in crates if not it.is_proved())
     progress = Progress(len(crates))
     progress.tell(
         f"proving and building the program, {len(crates)} crates on {jobs} processor{'s' * (jobs > 1)}: "
