@@ -9,7 +9,7 @@ use Rattle.bk_tiling.proofs.TilingLaws.{side_of, within_of}
 use Rattle.bk_tiling.specs.Column.{depth}
 use Rattle.bk_tiling.specs.declared.Segment.{Segment}
 use Rattle.bk_tiling.specs.declared.Square.{Square}
-use Rattle.bk_tiling.specs.Tiling.{IsOneOf, Tiling}
+use Rattle.bk_tiling.specs.Tiling.{IsOneOf, IsTiling, Tiling}
 use Rattle.bk_simple.specs.Simple.{IsPerfect}
 use Rattle.bk_word.specs.Outline.{start}
 use Rattle.bk_word.specs.Play.{outline_of}
@@ -19,6 +19,7 @@ use Rattle.bk_word.specs.declared.Class.TheVariants.{Perfect}
 use Rattle.bk_word.proofs.StoredBytes.{order_append, order_more}
 use Rattle.bk_lay.proofs.SquaresOnce.{own_cell}
 use Rattle.bk_lay.proofs.WordPlay.{NoneTwice, none_twice}
+use Rattle.bk_lay.specs.Depiction.{FillsFromTop}
 use Rattle.bk_lay.specs.TilingWord.{IsWordOf, MovesFollow, squares_under}
 use Rattle.bk_word_net.proofs.AlongWord.{Along, along_start}
 use Rattle.bk_forms.specs.Form.{Form}
@@ -104,7 +105,29 @@ square_at [] k h = absurd (omega arith)
 square_at (r ∷ squares) zero h = (r, refl)
 square_at (r ∷ squares) (suc k) h = square_at squares k (omega arith)
 
--- ----
+-- no two of the squares that fill a perfect tiling from the top have one side
+pub sides_apart : (t : Tiling) → IsTiling t → IsPerfect t → (laid : List Square) → FillsFromTop t laid → (i j : ℕ) (p q : Square) → j < i
+    → slice_get laid i ≡ Some p → slice_get laid j ≡ Some q → p.s ≡ q.s → ⊥
+sides_apart t tiling perfect laid fills i j p q low at_i at_j e = two_places laid once i j p low at_i (at_j ∙ ap (λ (r : Square). Some r) (sym same))
+  where
+    laid_in : (r : Square) → IsOneOf r laid → IsOneOf r t.squares
+    laid_in r h = in_all (λ s. IsOneOf s t.squares) laid fills.squares r h
+
+    once : NoneTwice laid
+    once = none_twice laid (λ r h. omega (arith, fills.filled r.x r.y (wide r h) (deep r h))) (λ r h. own_cell t tiling r (laid_in r h))
+      where
+        wide : (r : Square) → IsOneOf r laid → r.x < t.width
+        wide r h = let reach = (within_of t tiling r (laid_in r h)).right in omega (arith, side_of t tiling r (laid_in r h))
+
+        deep : (r : Square) → IsOneOf r laid → r.y < depth laid r.x
+        deep r h = omega (
+          arith,
+          depth_reaches laid r.x r h (column_from r.x r (omega arith) (omega (arith, side_of t tiling r (laid_in r h)))),
+          side_of t tiling r (laid_in r h),
+        )
+
+    same : p ≡ q
+    same = same_square t.squares perfect p q (laid_in p (one_at laid i p at_i)) (laid_in q (one_at laid j q at_j)) e
 
 pub ruled_out : (w : Word) (m : Move) (class : Class) (kept bottoms : List Form) → HoldAfter w kept bottoms → order_of w + m.count ≤ 5
     → ((sides : List ℕ) → Asked w m kept bottoms sides → (class ≡ Perfect → AreApart (order_of w + m.count) sides) → ⊥) → IsRuledOut class (w ++ m ∷ [])
@@ -126,31 +149,15 @@ ruled_out w m class kept bottoms hold few none t laid tiling perfect p = none si
     are : AreSidesOf laid (map (λ q. q.s) laid ++ replicate (16 - length laid) 1)
     are = filled_up laid (omega (arith, many, few)) (λ q h. side_of t tiling q (laid_in q h))
 
-    once : NoneTwice laid
-    once = none_twice laid (λ q h. omega (arith, ((a.1).fills).filled q.x q.y (wide q h) (deep q h))) (λ q h. own_cell t tiling q (laid_in q h))
-      where
-        wide : (q : Square) → IsOneOf q laid → q.x < t.width
-        wide q h = let r = (within_of t tiling q (laid_in q h)).right in omega (arith, side_of t tiling q (laid_in q h))
-
-        deep : (q : Square) → IsOneOf q laid → q.y < depth laid q.x
-        deep q h = omega (
-          arith,
-          depth_reaches laid q.x q h (column_from q.x q (omega arith) (omega (arith, side_of t tiling q (laid_in q h)))),
-          side_of t tiling q (laid_in q h),
-        )
-
     apart : IsPerfect t → AreApart (order_of w + m.count) (map (λ q. q.s) laid ++ replicate (16 - length laid) 1)
-    apart is i j low high e = two_places laid once i j (one.0) low one.1 (other.1 ∙ ap (λ (q : Square). Some q) (sym same))
+    apart is i j low high e = sides_apart t tiling is laid (a.1).fills i j one.0 other.0 low one.1 other.1
+        (sym (sides_read laid (replicate (16 - length laid) 1) i one.0 one.1) ∙ e ∙ sides_read laid (replicate (16 - length laid) 1) j other.0 other.1)
       where
         one : (q : Square) × (slice_get laid i ≡ Some q)
         one = square_at laid i (omega (arith, many))
 
         other : (q : Square) × (slice_get laid j ≡ Some q)
         other = square_at laid j (omega (arith, many))
-
-        same : one.0 ≡ other.0
-        same = same_square t.squares is one.0 other.0 (laid_in one.0 (one_at laid i one.0 one.1)) (laid_in other.0 (one_at laid j other.0 other.1))
-            (sym (sides_read laid (replicate (16 - length laid) 1) i one.0 one.1) ∙ e ∙ sides_read laid (replicate (16 - length laid) 1) j other.0 other.1)
 
 pub not_both : (b : Bool) → b ≡ true → b ≡ false → ⊥
 not_both b e f = cc

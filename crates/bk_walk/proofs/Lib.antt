@@ -13,6 +13,7 @@ pub mod Standing
 pub mod SearchLoop
 -- What a complete word tells, and what a walk takes up and answers.
 pub mod Members
+pub mod RepeatedSides
 pub mod TakingUp
 pub mod Answering
 -- Walks worked by hand.

@@ -4,9 +4,7 @@ use Rattle.std.proofs.lemmas.Bool.{cases_lt}
 use Rattle.std.proofs.lemmas.List.{length-append, take_all, take_at}
 use Rattle.std.proofs.lemmas.Grind.{take_at_read}
 use Rattle.std.proofs.lemmas.Option.{get_or_from_slice_get, slice_get_within}
-use Rattle.bk_tiling.specs.Tiling.{IsTiling, Tiling}
 use Rattle.bk_lay.proofs.WordPlay.{tiling_word_is_complete}
-use Rattle.bk_lay.specs.TilingWord.{IsWordOf}
 use Rattle.bk_word.specs.Outline.{IsLegalMove, Outline, start}
 use Rattle.bk_word.specs.Play.{IsComplete, IsLegal, outline_of}
 use Rattle.bk_word.specs.Word.{Move, Word, order_of}
@@ -22,6 +20,7 @@ use Rattle.bk_catalogue.specs.Catalogue.{Entry, IsEntry}
 use Rattle.bk_barren.specs.Cuts.{IsBarren}
 use Rattle.bk_walk.specs.MoveCuts.{GrowsByAtMostOne, IsCut}
 use Rattle.bk_tree.specs.NextMove.{IsLeastFrom, IsMoveFrom, first_move, fitted, move_after, open_sides}
+use Rattle.bk_walk.specs.WholeWords.{HasNoMember}
 use Rattle.bk_walk.specs.Search.{Advances, Ends, IsClimbed, IsSearchState, IsTreeWord, Reaches}
 
 -- the first items, with the next one
@@ -185,9 +184,8 @@ module _ (n : ℕ) (class : Class) (front : Word) (x m : Move) (few : n ≤ 16) 
         near : GrowsByAtMostOne m (move_after m)
         near = move_after_near m
 
-    -- on, where the moves are no complete word of the order that a tiling has
-    pub step_goes_down : (next : Move) → next ≡ first_move
-        → (IsComplete pushed → order_of pushed ≡ n → (t : Tiling) → IsTiling t → IsWordOf t pushed → ⊥)
+    -- on, where the moves are no complete word of the order that a member has
+    pub step_goes_down : (next : Move) → next ≡ first_move → (IsComplete pushed → order_of pushed ≡ n → HasNoMember class pushed)
         → Advances n class (front ++ x ∷ []) (pushed ++ next ∷ []) met × IsSearchState n pushed next
     step_goes_down next first none = (
       subst (λ (b : Word). Advances n class (front ++ x ∷ []) (b ++ next ∷ []) met) (sym push)
@@ -198,9 +196,11 @@ module _ (n : ℕ) (class : Class) (front : Word) (x m : Move) (few : n ≤ 16) 
     )
       where
         not : (e : Entry) → IsEntry n class e → e.word ≡ front ++ m ∷ [] → ⊥
-        not e is same = none (subst IsComplete (same ∙ sym push) (entry_whole n class e is).0)
-            (sym (ap order_of (same ∙ sym push)) ∙ (entry_whole n class e is).1) e.tiling (is.member).tiling
-            (subst (IsWordOf e.tiling) (same ∙ sym push) is.word)
+        not e is same = none (subst IsComplete (same ∙ sym push) (entry_whole n class e is).0) counted e
+            (subst (λ (k : ℕ). IsEntry k class e) (sym counted) is) (same ∙ sym push)
+          where
+            counted : order_of pushed ≡ n
+            counted = sym (ap order_of (same ∙ sym push)) ∙ (entry_whole n class e is).1
 
     -- to the word of the moves, which is met
     pub step_reaches : Reaches n class (front ++ x ∷ []) pushed met

@@ -1,11 +1,13 @@
--- What a walk through the catalogues of order 2 gives from the start.
-use Rattle.std.proofs.Common.{[], refl, subst, sym}
+-- What a walk through the catalogues of order 2 gives from the start, and what its one word tells.
+use Rattle.std.specs.Prelude.{pos}
+use Rattle.std.proofs.Common.{[], arith, refl, subst, sym, ◌∷◌}
 use Rattle.bk_word.specs.Word.{Follows, Word}
 use Rattle.bk_word.specs.declared.Class.TheVariants.{Imperfect, Perfect}
 use Rattle.bk_word.proofs.FollowLaws.{not_itself}
 use Rattle.bk_catalogue.proofs.TwoSquares.{row_of_two}
 use Rattle.bk_catalogue.specs.Following.{HasNoneAfter}
 use Rattle.bk_walk.specs.Walking.{IsNextMember}
+use Rattle.bk_walk.specs.WholeWords.{HasNoMember, HasTwoAlike}
 use Rattle.bk_catalogue.proofs.CatalogueExamples.{row_word, has_word, entry_is, row_word_of, no_perfect}
 
 -- a walk gives the row first, and nothing after it; in the class perfect nothing at all
@@ -22,3 +24,10 @@ none_after_it e is after = not_itself row_word (subst (λ (w : Word). Follows w 
 
 none_at_all : HasNoneAfter 2 Perfect []
 none_at_all e is after = no_perfect e is
+
+-- the currents of the row's net are one number at two places, and no member of the class perfect has its word
+row_alike : HasTwoAlike (pos 1 ∷ pos 1 ∷ [])
+row_alike = record { first = 0; second = 1; number = pos 1; apart = omega arith; at_first = refl; at_second = refl }
+
+row_not_perfect : HasNoMember Perfect row_word
+row_not_perfect e is same = no_perfect e is

@@ -8,14 +8,15 @@ ghost use Rattle.bk_word.specs.Play.{IsComplete, outline_of};
 ghost use Rattle.bk_word.specs.Word.{order_of};
 ghost use Rattle.bk_lay.specs.TilingWord.{IsWordOf};
 ghost use Rattle.bk_tree.specs.NextMove.{open_sides as sides_open};
+ghost use Rattle.bk_walk.specs.WholeWords.{HasNoMember};
 ghost use Rattle.bk_walk.specs.Search.{Finds, IsClimbed, IsSearchState, PushesGrow, StepLeadsTo};
 
 use crate::barren::{is_barren, skip};
-use crate::judging::{WordVerdict, judge};
+use crate::judging::{WordVerdict, has_no_member, judge};
 use crate::lined::LinedSkel;
 use crate::moves::{begin_anew, least_legal_from, next_move};
 use crate::tabled::TabledMembers;
-use bk_skel::{Steps, lacks_sides, open_side};
+use bk_skel::{Steps, open_side};
 use bk_tiling::Tiling;
 use bk_word::{Class, Move};
 use std::sync::ledger::Ledger;
@@ -24,7 +25,7 @@ use std::sync::ledger::Ledger;
 pub(crate) enum Went {
     // on to a later place
     On,
-    // to a complete word of the order, which a tiling may have
+    // to a complete word of the order, which a member may have
     Complete,
     // to the end of the tree
     End,
@@ -103,7 +104,7 @@ fn search_step<const ROOM: usize, L: Ledger>(
         return Went::On;
     }
     begin_anew(next);
-    if is_candidate(lined, order) {
+    if is_candidate(lined, class, order) {
         Went::Complete
     } else {
         Went::On
@@ -174,15 +175,15 @@ pub(crate) fn play<L: Ledger>(
     *pushes = pushes.saturating_add(1);
 }
 
-// Whether the moves are a complete word of the order which a tiling may have: it isn't told by whole numbers that none has it. No room is taken for
+// Whether the moves are a complete word of the order which a member may have: it isn't told by whole numbers that none has it. No room is taken for
 // a tiling.
-fn is_candidate(lined: &LinedSkel, order: u8) -> bool
+fn is_candidate(lined: &LinedSkel, class: Class, order: u8) -> bool
     requires order { order ≤ 16 }
     ensures whole { IsTrue result → IsComplete lined.now × (order_of lined.now ≡ order) }
-    ensures none { result ≡ false → IsComplete lined.now → order_of lined.now ≡ order → (t : Tiled) → IsTiling t → ¬ (IsWordOf t lined.now) }
+    ensures none { result ≡ false → IsComplete lined.now → order_of lined.now ≡ order → HasNoMember class lined.now }
 {
     if is_complete_of(lined, order) {
-        return !lacks_sides(lined.skel());
+        return !has_no_member(lined.skel(), class);
     }
     false
 }
