@@ -36,6 +36,7 @@ COMMANDS = [
 # Each command that takes no memory, with its words, and its lines where it reads any.
 TAKE_NONE = [
     *(([command], [NINE, TOWER]) for command in ("check", "canon", "images", "net", "dual", "draw")),
+    (["list", "--order", "12", "--class", "simple"], []),
     (["list", "--order", "10", "--class", "simple", "--from", "2u.2aa", "--limit", "5"], []),
     (["trial", "--seed", "1", "--count", "20"], []),
     (["help"], []),

@@ -75,7 +75,7 @@ impl Alike {
             return Err(AddFault::Full);
         }
         let item = item_of(line, tiling);
-        let size = size_of(&item.tiling);
+        let size = tiling_size(&item.tiling);
         let place = self.items.len() as u32;
         if self.items.reserve(1).is_err() {
             return Err(AddFault::NoMemory);
@@ -157,7 +157,7 @@ fn item_of(line: u64, tiling: &Tiling) -> KeptItem
 }
 
 // The size of a tiling.
-fn size_of(tiling: &Tiling) -> (u64, u64)
+fn tiling_size(tiling: &Tiling) -> (u64, u64)
     ensures { result ≡ (tiling.now.width, tiling.now.height) }
 {
     (tiling.width(), tiling.height())

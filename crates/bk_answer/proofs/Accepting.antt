@@ -62,7 +62,7 @@ accepted bytes item pieces refused has (answers t _ has' _ an) b =
     (t, subst (λ (i : Line). IsStatedBy i t) (one_meaning bytes has'.item item has'.is_item.meaning has.meaning) has'.stated)
 
 -- check refuses for no cause of its own
-check_refuses : (bytes : List ℕ) (r : Refused) → CommandCause Check bytes r → IsLineRefused bytes r
+pub check_refuses : (bytes : List ℕ) (r : Refused) → CommandCause Check bytes r → IsLineRefused bytes r
 check_refuses bytes r (by_line h) = h
 check_refuses bytes r (by_tiling t has n e) = absurd (n tt)
 

@@ -163,6 +163,7 @@ same_answer Dual t pieces others tiling e f = e ∙ sym f
 same_answer Word t pieces others tiling (w, p, e) (v, q, f) = e ∙ ap (λ (z : Moves). word_line z ∷ []) (one_word t w v p q) ∙ sym f
 same_answer Draw t pieces others tiling e f = e ∙ sym f
 
+-- what an item lays is a tiling
 pub is_tiling : (item : Line) (t : Tiling) → IsLaidBy item t → IsTiling t
 is_tiling Skip t p = absurd p
 is_tiling (Item order size code) t p = p.tiling

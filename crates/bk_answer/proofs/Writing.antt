@@ -1,8 +1,9 @@
 -- What is written for a tiling is what is told of it.
 use Rattle.std.specs.List.{concat}
 use Rattle.std.proofs.Common.{Bool, Err, List, Ok, Option, Result, [], false, true, inl, inr, arith, subst, sym, ℕ, ◌<◌, ◌∷◌, ◌≡◌, ◌≤◌, ◌⊎◌}
-use Rattle.std.specs.Prelude.{IsOk, OnErr, OnOk, Some, None, refl}
-use Rattle.std.specs.Io.KnownBytes.{Appends, Keeps}
+use Rattle.std.specs.Prelude.{IsOk, OnErr, OnOk}
+use Rattle.std.specs.Io.KnownBytes.{Appends}
+use Rattle.std.proofs.KnownBytes.{Keeps-refl}
 use Rattle.bk_ports.specs.Causes.{AppendsPrefix, HasCause}
 use Rattle.bk_ports.specs.declared.Failed.{Failed}
 use Rattle.bk_lines.proofs.Pieces.{begins_one, writes_one}
@@ -57,11 +58,6 @@ module _ {T : Type 0} (before now : ℕ) where
   pub cause_told : (w : Result T Failed) (r : Result Outcome Failed) → HasCause before now w → r ≡ accepted_if w → HasCause before now r
   cause_told w r h is = subst (HasCause before now) (sym is) (cause_if w h)
 
--- nothing is written
-kept : (a : Option (List ℕ)) → Keeps a a
-kept None = tt
-kept (Some xs) = refl
-
 two : (a b : ℕ) → (a ≤ b) ⊎ (b < a)
 two a b = grind arith
 
@@ -73,7 +69,7 @@ not_err (Err y) x e ok = let no : false ≡ true = ok in cc
 pub wants : {T E : Type 0} (A : List (List ℕ) → Bool → Type 0) (t : Tiling) (r : Result T E) (x : E) (a : Option (List ℕ)) → r ≡ Err x
     → (order t ≤ 16 → IsOk r)
     → Replies A (16 < order t) a a (Ok NoMemory)
-wants A t r x a e inline = record { cause = by (two (order t) 16); kept = kept a }
+wants A t r x a e inline = record { cause = by (two (order t) 16); kept = Keeps-refl a }
   where
     by : (order t ≤ 16) ⊎ (16 < order t) → 16 < order t
     by (inl h) = absurd (not_err r x e (inline h))

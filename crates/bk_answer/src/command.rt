@@ -17,7 +17,7 @@ use bk_ports::{Failed, Sink};
 use bk_report::{write_check, write_dual, write_net, write_tiling, write_word_line};
 use bk_sym::canonical;
 use bk_tiling::Tiling;
-use bk_word::{INLINE_ORDER, NoMemory};
+use bk_word::NoMemory;
 use std::alloc::Global;
 
 /// A command that reads lines of codes: what it tells of the tiling of a code.
@@ -137,8 +137,6 @@ fn tell_word<O: Sink>(
 pub(crate) fn accepted(written: Result<(), Failed>) -> Result<Outcome, Failed>
     ensures { result ≡ accepted_if written }
 {
-    match written {
-        Ok(()) => Ok(Outcome::Accepted),
-        Err(failed) => Err(failed),
-    }
+    written?;
+    Ok(Outcome::Accepted)
 }

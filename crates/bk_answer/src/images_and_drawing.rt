@@ -7,7 +7,7 @@ ghost use Rattle.bk_ports.specs.Causes.{AppendsPrefix, HasCause};
 ghost use Rattle.bk_answer.specs.Telling.{drawing_lines, image_lines};
 
 use arrayvec::ArrayVec;
-use bk_draw::{LARGEST_DRAWN, draw_row};
+use bk_draw::draw_row;
 use bk_grammar::AnswerBuffer;
 use bk_ports::{Failed, Sink};
 use bk_report::write_tiling;

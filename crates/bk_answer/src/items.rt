@@ -13,7 +13,7 @@ use bk_lines::LONGEST_LINE;
 use bk_profile::{Profile, Refusal, lay_code_in, lay_flat_in};
 use bk_report::Refused;
 use bk_text::{Ending, Gatherer, TextFault, read_into};
-use bk_tiling::{MOST_SQUARES, Tiling};
+use bk_tiling::Tiling;
 
 /// Room to read a line and to lay its squares, for one line after another: it holds anything before and after.
 #[derive(Drop)]

@@ -13,7 +13,7 @@ use bk_lines::Outcome;
 use bk_ports::{Failed, Sink};
 use bk_report::{Refused, write_tiling};
 use bk_skel::{SolveFault, realise};
-use bk_word::{INLINE_ORDER, Word, WordFault, read_word, word_item};
+use bk_word::{Word, WordFault, read_word, word_item};
 use std::alloc::Global;
 
 // Answers a word line that isn't too long.

@@ -11,7 +11,7 @@ ghost use Rattle.bk_ask.specs.OptionValues.{IsCursor, IsNumberWithin};
 use crate::options::{are_options, value_of};
 use crate::values::{class_named, cursor_in, kind_named, number_within};
 use crate::{Ask, Kind};
-use bk_word::{Class, Word};
+use bk_word::{Class, INLINE_ORDER, Word};
 use std::alloc::Global;
 
 // The words ask nothing.
@@ -103,7 +103,7 @@ fn order_given(options: &[String]) -> Option<u8>
     ensures some { IfSome result (Given (options_in (map string_bytes options.now)) (codes "--order") (IsNumberWithin 2 16)) }
     ensures none { IfNone result ((n : ℕ) → Given (options_in (map string_bytes options.now)) (codes "--order") (IsNumberWithin 2 16) n → ⊥) }
 {
-    match number_given(options, "--order", 2, 16) {
+    match number_given(options, "--order", 2, INLINE_ORDER as u64) {
         Some(order) => Some(order as u8),
         None => None,
     }

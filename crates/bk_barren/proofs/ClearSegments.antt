@@ -2,7 +2,7 @@
 use Rattle.std.specs.List.{AllByRecursion, AllZip}
 use Rattle.std.proofs.Common.{Bool, List, Some, [], ap, arith, drop, false, inl, inr, length, map, refl, slice_get}
 use Rattle.std.proofs.Common.{slice_index_or, subst, suc, sym, take, true, zero, ℕ, ◌++◌, ◌+◌, ◌-◌, ◌<◌, ◌∙◌, ◌∷◌, ◌≡◌, ◌≤◌, ◌⊎◌}
-use Rattle.std.proofs.lemmas.Option.{slice_get_within}
+use Rattle.std.proofs.lemmas.Option.{same_Some, slice_get_within}
 use Rattle.bk_laws.proofs.ListPlaces.{get_append, get_front}
 use Rattle.bk_laws.proofs.AllOfLists.{all_append}
 use Rattle.bk_tiling.proofs.Cells.{from_append}
@@ -96,15 +96,12 @@ chain_later (q ∷ squares) x end side c i s e = omega (arith, side q (inl refl)
 
 -- ---- squares that keep their numbers
 
-one_found : {A : Type 0} (x y : A) → Some x ≡ Some y → x ≡ y
-one_found x y e = cc
-
 same_number : (j k n : ℕ) → n ≡ suc j → n ≡ suc k → j ≡ k
 same_number j k n e f = omega arith
 
 -- the square of a number is one
 one_number : (laid : List Square) (n : ℕ) (s r : Square) → IsNumbered laid n s → IsNumbered laid n r → s ≡ r
-one_number laid n s r a b = one_found s r (sym a.2 ∙ (λ i. slice_get laid (same_number a.0 b.0 n a.1 b.1 i)) ∙ b.2)
+one_number laid n s r a b = same_Some s r (sym a.2 ∙ (λ i. slice_get laid (same_number a.0 b.0 n a.1 b.1 i)) ∙ b.2)
 
 number_more : (laid new : List Square) (n : ℕ) (s : Square) → IsNumbered laid n s → IsNumbered (laid ++ new) n s
 number_more laid new n s a = (a.0, a.1, get_append laid new a.0 s a.2)

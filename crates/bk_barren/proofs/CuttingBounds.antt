@@ -8,13 +8,13 @@ use Rattle.bk_tiling.specs.Column.{AreRuns}
 use Rattle.bk_tiling.specs.declared.Segment.{Segment}
 use Rattle.bk_tiling.specs.Tiling.{IsOneOf, IsTiling, Tiling, covers}
 use Rattle.bk_tiling.specs.declared.Square.{Square}
-use Rattle.bk_word.specs.Outline.{Outline, start}
+use Rattle.bk_word.specs.Outline.{Outline, sizes_of, start}
 use Rattle.bk_word.specs.Play.{outline_of}
 use Rattle.bk_word.specs.Word.{Word, order_of}
 use Rattle.bk_word.specs.declared.Class.{Class}
 use Rattle.bk_lay.proofs.SquaresOnce.{own_cell, squares_once}
 use Rattle.bk_lay.proofs.LaidRuns.{one_of}
-use Rattle.bk_lay.proofs.WordPlay.{fewer, tiling_word_is_complete}
+use Rattle.bk_lay.proofs.WordPlay.{fewer}
 use Rattle.bk_lay.specs.Depiction.{IsSegment}
 use Rattle.bk_lay.specs.TilingWord.{IsWordOf}
 use Rattle.bk_barren.proofs.Parts.{Reached, reached}
@@ -26,16 +26,12 @@ use Rattle.bk_catalogue.specs.Catalogue.{Entry, IsEntry}
 use Rattle.bk_barren.specs.BoundCuts.{TooManySinglesIsBarren, TooManyToCloseIsBarren}
 use Rattle.bk_barren.proofs.OneUnderOne.{one_under_one_is_barren}
 use Rattle.bk_bounds.specs.ClosingBound.{closing_bound}
-use Rattle.bk_bounds.specs.SingleValleys.{single_valleys, sizes_of}
+use Rattle.bk_bounds.specs.SingleValleys.{single_valleys}
 
 module _ (n : ℕ) (class : Class) (e : Entry) (entry : IsEntry n class e) where
   -- at the end of a member's word one segment is left, so no sign
   at_end : Reached e.tiling (outline_of e.word) [] (order_of e.word)
   at_end = reached e.tiling e.word [] (entry.member).tiling (subst (IsWordOf e.tiling) (sym (append-nil e.word)) entry.word)
-
-  -- a member's word leaves one segment
-  pub one_left : length (outline_of e.word).segments ≡ 1
-  one_left = ((tiling_word_is_complete e.tiling e.word (entry.member).tiling entry.word).0).one
 
 -- the law
 pub too_many_to_close_is_barren : TooManyToCloseIsBarren

@@ -2,6 +2,7 @@
 use Rattle.std.proofs.Common.{arith, subst, ◌+◌}
 use Rattle.bk_word.specs.Play.{outline_of}
 use Rattle.bk_word.specs.Word.{order_of}
+use Rattle.bk_word.specs.Outline.{sizes_of}
 use Rattle.bk_barren.proofs.ClearLines.{clear_word}
 use Rattle.bk_barren.proofs.LinesLeft.{line_left}
 use Rattle.bk_barren.proofs.VerticalParts.{line_is_compound}
@@ -9,7 +10,7 @@ use Rattle.bk_barren.proofs.CuttingBounds.{without_pairs}
 use Rattle.bk_bounds.proofs.WordBoundLaws.{lines_are_hung}
 use Rattle.bk_bounds.specs.WordBounds.{EndsNoLine}
 use Rattle.bk_barren.proofs.BegunWords.{complete_word, within_order}
-use Rattle.bk_bounds.specs.SingleValleys.{single_valleys, sizes_of}
+use Rattle.bk_bounds.specs.SingleValleys.{single_valleys}
 use Rattle.bk_barren.specs.BoundCuts.{TooManyLinesIsBarren}
 use Rattle.bk_bounds.specs.VerticalCut.{line_bound_of, edges_on_lines}
 

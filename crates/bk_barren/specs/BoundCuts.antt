@@ -6,9 +6,10 @@ use Rattle.std.specs.Prelude.{ℕ, ◌+◌, ◌<◌, ◌≤◌}
 use Rattle.bk_word.specs.Play.{outline_of}
 use Rattle.bk_word.specs.Word.{Word, order_of}
 use Rattle.bk_word.specs.declared.Class.{Class}
+use Rattle.bk_word.specs.Outline.{sizes_of}
 use Rattle.bk_barren.specs.Cuts.{IsBarren}
 use Rattle.bk_bounds.specs.ClosingBound.{closing_bound}
-use Rattle.bk_bounds.specs.SingleValleys.{single_valleys, sizes_of}
+use Rattle.bk_bounds.specs.SingleValleys.{single_valleys}
 use Rattle.bk_bounds.specs.VerticalCut.{line_bound_of}
 
 -- moves after which fewer squares are left than segments that must be closed

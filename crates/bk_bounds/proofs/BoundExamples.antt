@@ -4,8 +4,9 @@ use Rattle.bk_word.proofs.WordExamples.{move, two, word_33x32, word_65x47, word_
 use Rattle.bk_word.specs.Play.{outline_of}
 use Rattle.bk_word.specs.Word.{Word}
 use Rattle.bk_word.specs.declared.Sign.TheVariants.{Above, Even, Under}
+use Rattle.bk_word.specs.Outline.{sizes_of}
 use Rattle.bk_bounds.specs.ClosingBound.{closing_bound, closings}
-use Rattle.bk_bounds.specs.SingleValleys.{single_valleys, sizes_of}
+use Rattle.bk_bounds.specs.SingleValleys.{single_valleys}
 use Rattle.bk_bounds.specs.VerticalCut.{line_bound, line_bound_of, edges_on_lines, segments_of, touched}
 
 -- four segments: the first ends below the second, that one above the third, and the third below the fourth

@@ -1,14 +1,14 @@
 -- The bounds after the moves of a legal word, by the flat lists of the open segments: how many squares each has, and the
 -- numbers of these squares.
-use Rattle.std.specs.List.{concat}
-use Rattle.std.proofs.Common.{List, [], ap, arith, length, map, refl, ℕ, ◌+◌, ◌∙◌, ◌∷◌, ◌≡◌}
-use Rattle.std.proofs.lemmas.List.{drop_at, length-map, take_at}
-use Rattle.bk_word.specs.Outline.{start}
+use Rattle.std.specs.List.{concat, sum}
+use Rattle.std.proofs.Common.{List, [], ap, arith, drop, length, map, refl, slice_index_or, suc, sym, take, zero, ℕ, ◌+◌, ◌<◌, ◌∙◌, ◌∷◌, ◌≡◌}
+use Rattle.std.proofs.lemmas.List.{drop-drop, drop_at, length-map, take_at}
+use Rattle.bk_word.specs.Outline.{sizes_of, start}
 use Rattle.bk_word.specs.Play.{IsLegal, outline_of}
 use Rattle.bk_word.specs.Word.{Word}
 use Rattle.bk_word_net.proofs.Shape.{Shaped, shaped_moves, shaped_start}
-use Rattle.bk_bounds.specs.SingleValleys.{sizes_of}
 use Rattle.bk_bounds.specs.VerticalCut.{line_bound, line_bound_of, edges_on_lines, segments_of, touched}
+use Rattle.bk_bounds.proofs.LineCounting.{sum-cons}
 
 -- ---- the flat lists make the segments again
 
@@ -17,6 +17,14 @@ pub segments_again : (segments : List (List ℕ)) → segments_of (map length se
 segments_again [] = refl
 segments_again (s ∷ segments) = (λ i. take_at s (concat segments) (length s) refl i
     ∷ segments_of (map length segments) (drop_at s (concat segments) (length s) refl i)) ∙ ap (λ ss. s ∷ ss) (segments_again segments)
+
+-- a segment, by the flat lists: so many squares, behind those of the segments before it
+pub segment_at : (sizes ends : List ℕ) (i : ℕ) → i < length sizes
+    → slice_index_or (segments_of sizes ends) i [] ≡ take (slice_index_or sizes i 0) (drop (sum (take i sizes)) ends)
+segment_at [] ends i h = absurd (omega arith)
+segment_at (n ∷ sizes) ends zero h = refl
+segment_at (n ∷ sizes) ends (suc i) h = segment_at sizes (drop n ends) i (omega arith)
+    ∙ ap (take (slice_index_or sizes i 0)) (drop-drop (sum (take i sizes)) n ends ∙ (λ j. drop (sym (sum-cons n (take i sizes)) j) ends))
 
 -- the bound of a word by these flat lists
 pub line_bound_by_lists : (w : Word) → line_bound (outline_of w).signs

@@ -4,7 +4,7 @@ use Rattle.std.proofs.Common.{zero, ℕ, ◌++◌, ◌+◌, ◌-◌, ◌<◌, �
 use Rattle.std.proofs.lemmas.Bool.Decides.{nat_tests}
 use Rattle.std.proofs.lemmas.List.{length-append, length-drop, length-map, length-take}
 use Rattle.std.proofs.lemmas.Bool.{cases_lt}
-use Rattle.bk_word.specs.Outline.{IsLegalMove, Outline, has_right_wall, open_side, valley_of, valley_place}
+use Rattle.bk_word.specs.Outline.{IsLegalMove, Outline, has_right_wall, open_side, sizes_of, valley_of, valley_place}
 use Rattle.bk_word.specs.Play.{after_move, before_first_list, joined, new_squares, parts}
 use Rattle.bk_word.specs.Word.{Move}
 use Rattle.bk_word.specs.declared.Sign.{Sign}
@@ -14,7 +14,7 @@ use Rattle.bk_word_net.proofs.OutlineParts.{filter_part}
 use Rattle.bk_word_net.proofs.Shape.{Shaped}
 use Rattle.bk_word_net.proofs.ValleyCut.{AllPart}
 use Rattle.bk_bounds.proofs.ClosingLaws.{drop_next}
-use Rattle.bk_bounds.specs.SingleValleys.{single_valley, single_valleys, single_valleys_from, sizes_of}
+use Rattle.bk_bounds.specs.SingleValleys.{single_valley, single_valleys, single_valleys_from}
 
 -- the valleys of one square among segments, from the first on
 abbrev pub singles : Bool → List Sign → List (List ℕ) → ℕ
@@ -94,7 +94,8 @@ at_valley (Even ∷ signs) (s ∷ segments) = omega
     (arith, at_valley signs segments, low_is_more true signs segments, behind_next Even signs s segments (valley_place signs))
 at_valley (Under ∷ signs) (s ∷ segments) = omega (arith, at_valley signs segments, behind_next Under signs s segments (valley_place signs))
 
-parted_behind : (signs : List Sign) (k : ℕ) → AllPart signs → AllPart (drop k signs)
+-- where no sign is even, none of those behind a place is
+pub parted_behind : (signs : List Sign) (k : ℕ) → AllPart signs → AllPart (drop k signs)
 parted_behind [] zero p = tt
 parted_behind [] (suc k) p = tt
 parted_behind (s ∷ signs) zero p = p

@@ -3,7 +3,7 @@ use Rattle.std.specs.List.{list_any}
 use Rattle.std.proofs.Common.{Bool, List, [], ap, arith, cond, false, inl, inr, length, map, refl, sym, true, ℕ, ◌||◌, ◌++◌, ◌+◌, ◌∙◌, ◌∷◌, ◌≡◌, ◌≤◌, ◌⊎◌}
 use Rattle.std.proofs.lemmas.Bool.Decides.{nat_tests}
 use Rattle.std.proofs.lemmas.List.{nil_from_length}
-use Rattle.bk_word.specs.Outline.{IsLegalMove, Outline, start, valley_of}
+use Rattle.bk_word.specs.Outline.{IsLegalMove, Outline, sizes_of, start, valley_of}
 use Rattle.bk_word.specs.Play.{AreLegalFrom, after_move, after_moves, outline_of}
 use Rattle.bk_word.specs.Word.{Move, Word, order_of}
 use Rattle.bk_word.proofs.StoredBytes.{order_append, order_more}
@@ -13,7 +13,7 @@ use Rattle.bk_bounds.proofs.LineMoves.{line_bound_after, lines-append, lines_lon
 use Rattle.bk_word.proofs.PlayLaws.{after_moves-append, legal_front, legal_rest}
 use Rattle.bk_bounds.proofs.SingleLaws.{singles_after}
 use Rattle.bk_bounds.specs.ClosingBound.{closing_bound}
-use Rattle.bk_bounds.specs.SingleValleys.{single_valley, single_valleys, sizes_of}
+use Rattle.bk_bounds.specs.SingleValleys.{single_valley, single_valleys}
 use Rattle.bk_bounds.specs.VerticalCut.{line_bound, lines_after, lines_along, edges_on_lines, on_line, touched}
 use Rattle.bk_bounds.specs.WordBounds.{ClosingsAreHung, LinesAreHung, HangNoPairsFrom, HangsNoPair, SinglesAreHung}
 

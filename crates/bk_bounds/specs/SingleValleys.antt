@@ -1,8 +1,7 @@
 -- How many squares are still to hang at least, where some valleys have just one square: a move that closes such a
 -- valley hangs at least two.
 -- Example (BoundExamples): of segments of 1, 1 and 2 squares with the signs above and under one valley has one square.
-use Rattle.std.specs.Prelude.{Bool, List, [], cond, false, length, map, nat_eq, true, ℕ, ◌&&◌, ◌+◌, ◌∷◌}
-use Rattle.bk_word.specs.Outline.{Outline}
+use Rattle.std.specs.Prelude.{Bool, List, [], cond, false, nat_eq, true, ℕ, ◌&&◌, ◌+◌, ◌∷◌}
 use Rattle.bk_word.specs.declared.Sign.{Sign}
 use Rattle.bk_word.specs.declared.Sign.TheVariants.{Above, Even, Under}
 
@@ -23,7 +22,3 @@ single_valleys_from low (Under ∷ signs) (size ∷ sizes) = single_valleys_from
 -- above at the right
 abbrev pub single_valleys : List Sign → List ℕ → ℕ
 single_valleys signs sizes = single_valleys_from true signs sizes
-
--- how many squares each open segment has
-abbrev pub sizes_of : Outline → List ℕ
-sizes_of o = map length o.segments

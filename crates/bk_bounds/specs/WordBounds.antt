@@ -4,11 +4,11 @@
 -- least seven squares.
 use Rattle.std.specs.List.{list_any}
 use Rattle.std.specs.Prelude.{List, [], length, true, ℕ, ⊤, ◌++◌, ◌+◌, ◌∷◌, ◌≡◌, ◌≤◌}
-use Rattle.bk_word.specs.Outline.{Outline, start, valley_of}
+use Rattle.bk_word.specs.Outline.{Outline, sizes_of, start, valley_of}
 use Rattle.bk_word.specs.Play.{IsComplete, after_move, outline_of}
 use Rattle.bk_word.specs.Word.{Move, Word, order_of}
 use Rattle.bk_bounds.specs.ClosingBound.{closing_bound}
-use Rattle.bk_bounds.specs.SingleValleys.{single_valleys, sizes_of}
+use Rattle.bk_bounds.specs.SingleValleys.{single_valleys}
 use Rattle.bk_bounds.specs.VerticalCut.{line_bound_of, edges_on_lines, on_line}
 
 -- after its first moves a complete word hangs at least as many squares as segments must be closed

@@ -23,12 +23,13 @@ use Rattle.bk_tiling_layout.proofs.TilingSquares.{in_square, node_at}
 use Rattle.bk_tiling_layout.specs.TilingLayout.{square_of}
 use Rattle.bk_tiling_layout.proofs.GroupNodes.{IsNode}
 use Rattle.bk_free_cuts.specs.LineNumbers.{sides_of}
+use Rattle.bk_free_cuts.proofs.CutByNodes.{as_many_sides}
 use Rattle.bk_candidate.proofs.OtherOrder.{other, other_in_order, other_tiles}
 use Rattle.bk_candidate.proofs.PlacedEdges.{StandRight, edges_are, place_is}
 use Rattle.bk_candidate.proofs.PrimitiveFlow.{same_levels, signed_flow_is_primitive}
 use Rattle.bk_candidate.specs.Candidate.{IsCandidateOf, TheCandidateIsTheTiling, candidate_square, candidate_squares, level_in, line_place}
 use Rattle.bk_candidate.specs.Candidate.{placed_square, right_edges, right_edges_from}
-use Rattle.bk_signed_word.proofs.KnownLines.{as_many_sides, known_lines}
+use Rattle.bk_signed_word.proofs.KnownLines.{known_lines}
 use Rattle.bk_signed_word.proofs.SignedWires.{ends_below, square_apart, square_below}
 use Rattle.bk_signed_word.proofs.SignedFlows.{hangs_by_flow, potential_is, signed_sides_are_the_one_flow, top_potential}
 use Rattle.bk_signed_word.proofs.NumberedLists.{numbers_all, numbers_each, numbers_index, numbers_length}

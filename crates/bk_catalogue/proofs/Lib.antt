@@ -1,6 +1,7 @@
 pub mod Carrying
 pub mod PartsKept
 pub mod ClassesKept
+pub mod PerfectSides
 pub mod ListedOnce
 pub mod TwoSquares
 pub mod CatalogueExamples

@@ -15,9 +15,9 @@ use Rattle.bk_word.specs.declared.Class.{Class}
 use Rattle.bk_word.specs.declared.Sign.{Sign}
 use Rattle.bk_word.specs.declared.Sign.TheVariants.{Above, Even, Under}
 use Rattle.bk_word.proofs.StoredBytes.{order_more}
+use Rattle.bk_word.proofs.WordOrder.{move_same}
 use Rattle.bk_catalogue.specs.Catalogue.{AreAscending, Entry, IsEntry}
 use Rattle.bk_tree.proofs.MoveOrder.{less_to}
-use Rattle.bk_tree.proofs.Places.{move_same}
 use Rattle.bk_tree.proofs.Ranks.{open_one}
 
 four_fit : (k : ℕ) → 0 < k → 4 * power 3 k ≤ power 12 k

@@ -64,80 +64,55 @@ pub(crate) fn ran<S: Source>(
     Ok((status, text))
 }
 
-// Asserts that a command line over a source ends with this status and writes this.
-pub(crate) fn expect<S: Source>(
-    rt: &impl Abort,
+// Whether a command line over a source ends with this status and writes this.
+pub(crate) fn ends_so<S: Source>(
     alloc: Global,
     line: &str,
     source: &mut S,
     write: FailedWrite,
     want: (u8, &[u8]),
-    named: &str,
-) -> Result<(), AllocError> {
-    let (status, text) = ran(alloc, line, source, write)?;
-    assert_eq!(rt; text.as_slice(), want.1, "{line} over {named}");
-    assert_eq!(rt; status, want.0, "{line} over {named}");
-    Ok(())
+) -> bool {
+    match ran(alloc, line, source, write) {
+        Ok((status, text)) => status == want.0 && text.as_slice() == want.1,
+        Err(AllocError) => false,
+    }
 }
 
 // The same over an input that is read at once.
-pub(crate) fn expect_at_once(
-    rt: &impl Abort,
-    alloc: Global,
-    line: &str,
-    input: &[u8],
-    want: (u8, &[u8]),
-    named: &str,
-) -> Result<(), AllocError> {
+pub(crate) fn ends_at_once(alloc: Global, line: &str, input: &[u8], want: (u8, &[u8])) -> bool {
     let mut source = MemSource::new(input, 9_000, &[]);
-    expect(rt, alloc, line, &mut source, NO_WRITE, want, named)
+    ends_so(alloc, line, &mut source, NO_WRITE, want)
 }
 
 // The same as a row says, where a read gives at most so many bytes.
-pub(crate) fn expect_row(
-    rt: &impl Abort,
-    alloc: Global,
-    most: usize,
-    row: FailingRow,
-) -> Result<(), AllocError>
+pub(crate) fn is_row(alloc: Global, most: usize, row: &FailingRow) -> bool
     requires some { 0 < most }
 {
     let (line, input, read, write, status, output) = row;
-    let reads = [read];
+    let reads = [*read];
     let mut source = MemSource::new(input.as_bytes(), most, &reads);
-    let want = (status, output.as_bytes());
-    expect(rt, alloc, line, &mut source, write, want, input)
+    let want = (*status, output.as_bytes());
+    ends_so(alloc, line, &mut source, *write, want)
 }
 
-// The same as each of some rows says.
-pub(crate) fn expect_rows(
-    rt: &impl Abort,
-    alloc: Global,
-    most: usize,
-    rows: &[Row],
-) -> Result<(), AllocError>
+// Asserts the same as each of some rows says.
+pub(crate) fn expect_rows(rt: &impl Abort, alloc: Global, most: usize, rows: &[Row])
     requires some { 0 < most }
 {
     for (line, input, status, output) in rows {
         let row = (*line, *input, NO_READ, NO_WRITE, *status, *output);
-        expect_row(rt, alloc, most, row)?;
+        assert!(rt; is_row(alloc, most, &row), "{line} over {input}");
     }
-    Ok(())
 }
 
 // The same with the reads and the writes that fail.
-pub(crate) fn expect_failing_rows(
-    rt: &impl Abort,
-    alloc: Global,
-    most: usize,
-    rows: &[FailingRow],
-) -> Result<(), AllocError>
+pub(crate) fn expect_failing_rows(rt: &impl Abort, alloc: Global, most: usize, rows: &[FailingRow])
     requires some { 0 < most }
 {
     for row in rows {
-        expect_row(rt, alloc, most, *row)?;
+        let (line, input) = (row.0, row.1);
+        assert!(rt; is_row(alloc, most, row), "{line} over {input}");
     }
-    Ok(())
 }
 
 // A front, a part so many times, and an end.
@@ -160,15 +135,8 @@ pub(crate) fn built(parts: Parts) -> Text {
     text
 }
 
-// Asserts that a command line over such an input, which is read at once, ends with this status and writes such a text.
-pub(crate) fn expect_built(
-    rt: &impl Abort,
-    alloc: Global,
-    line: &str,
-    input: Parts,
-    status: u8,
-    output: Parts,
-) -> Result<(), AllocError> {
+// Whether a command line over such an input, which is read at once, ends with this status and writes such a text.
+pub(crate) fn is_built(alloc: Global, line: &str, input: Parts, status: u8, output: Parts) -> bool {
     let (text, answer) = (built(input), built(output));
-    expect_at_once(rt, alloc, line, &text, (status, &answer), input.1)
+    ends_at_once(alloc, line, &text, (status, &answer))
 }

@@ -2,11 +2,8 @@
 
 use crate::command_runs::*;
 use crate::command_words::words;
-use arrayvec::ArrayVec;
-use bk_ports::{FillSource, MemSink, MemSource, Source};
+use bk_ports::{FillSource, MemSink, MemSource};
 use std::alloc::{AllocError, Global};
-use std::process::Abort;
-use std::test::Fail;
 
 // Codes, and what `check` answers.
 fn codes() -> &'static [(&'static str, &'static str)] {
@@ -66,13 +63,12 @@ fn codes() -> &'static [(&'static str, &'static str)] {
 }
 
 #[test]
-fn codes_are_checked(rt: HostRuntime) -> Result<(), Fail> {
+fn codes_are_checked(rt: HostRuntime) {
     for (line, answer) in codes() {
         let status = u8::from(answer.starts_with("no "));
         let row = ("check", *line, NO_READ, NO_WRITE, status, *answer);
-        expect_row(&rt, rt.alloc(), 7, row)?;
+        assert!(rt; is_row(rt.alloc(), 7, &row), "{line}");
     }
-    Ok(())
 }
 
 // Inputs, and what `check` answers.
@@ -93,12 +89,14 @@ fn long_lines() -> &'static [(Parts, &'static str)] {
 }
 
 #[test]
-fn lines_that_are_too_long_or_have_too_many_sides(rt: HostRuntime) -> Result<(), Fail> {
+fn lines_that_are_too_long_or_have_too_many_sides(rt: HostRuntime) {
     for (input, answers) in long_lines() {
-        let output = (*answers, "", 0, "");
-        expect_built(&rt, rt.alloc(), "check", *input, 1, output)?;
+        let (output, times) = ((*answers, "", 0, ""), input.2);
+        assert!(rt;
+            is_built(rt.alloc(), "check", *input, 1, output),
+            "{times}: {answers}"
+        );
     }
-    Ok(())
 }
 
 fn rows_of_tilings() -> &'static [Row] {
@@ -158,11 +156,10 @@ fn rows_of_tilings() -> &'static [Row] {
 }
 
 #[test]
-fn tilings_are_turned_hung_and_drawn(rt: HostRuntime) -> Result<(), Fail> {
-    expect_rows(&rt, rt.alloc(), 90, rows_of_tilings())?;
+fn tilings_are_turned_hung_and_drawn(rt: HostRuntime) {
+    expect_rows(&rt, rt.alloc(), 90, rows_of_tilings());
     let cut = ("draw", "[2,1][1]", NO_READ, (1, 0), 4, "+-++\n");
-    expect_row(&rt, rt.alloc(), 90, cut)?;
-    Ok(())
+    assert!(rt; is_row(rt.alloc(), 90, &cut));
 }
 
 fn rows_of_words() -> &'static [Row] {
@@ -220,26 +217,23 @@ fn rows_of_words() -> &'static [Row] {
 }
 
 #[test]
-fn words_flows_and_tilings_of_words(rt: HostRuntime) -> Result<(), Fail> {
-    expect_rows(&rt, rt.alloc(), 90, rows_of_words())?;
-    Ok(())
+fn words_flows_and_tilings_of_words(rt: HostRuntime) {
+    expect_rows(&rt, rt.alloc(), 90, rows_of_words());
 }
 
 #[test]
-fn a_word_of_two_hundred_moves(rt: HostRuntime) -> Result<(), Fail> {
+fn a_word_of_two_hundred_moves(rt: HostRuntime) {
     let tower = ("", "[1]", 200, "");
     let answer = ("1", ".1", 199, "\n");
-    expect_built(&rt, rt.alloc(), "word", tower, 0, answer)?;
-    Ok(())
+    assert!(rt; is_built(rt.alloc(), "word", tower, 0, answer));
 }
 
 #[test]
-fn words_that_are_wide_or_have_too_many_squares(rt: HostRuntime) -> Result<(), Fail> {
+fn words_that_are_wide_or_have_too_many_squares(rt: HostRuntime) {
     let wide = ("2u", ".2eu", 98, ".1e");
     let many = ("201", "u", 200, "");
-    expect_built(&rt, rt.alloc(), "solve", wide, 1, ("wide\n", "", 0, ""))?;
-    expect_built(&rt, rt.alloc(), "solve", many, 1, ("no many\n", "", 0, ""))?;
-    Ok(())
+    assert!(rt; is_built(rt.alloc(), "solve", wide, 1, ("wide\n", "", 0, "")));
+    assert!(rt; is_built(rt.alloc(), "solve", many, 1, ("no many\n", "", 0, "")));
 }
 
 fn rows_of_faults() -> &'static [FailingRow] {
@@ -290,9 +284,8 @@ fn rows_of_faults() -> &'static [FailingRow] {
 }
 
 #[test]
-fn faults_end_the_run(rt: HostRuntime) -> Result<(), Fail> {
-    expect_failing_rows(&rt, rt.alloc(), 1, rows_of_faults())?;
-    Ok(())
+fn faults_end_the_run(rt: HostRuntime) {
+    expect_failing_rows(&rt, rt.alloc(), 1, rows_of_faults());
 }
 
 const USAGE: &str = "usage: bouwkamp COMMAND [--NAME VALUE]...\n";
@@ -343,61 +336,48 @@ fn rows_of_errors() -> &'static [(&'static str, FailedWrite, u8, &'static str)] 
     ]
 }
 
-// The status of a run with no room for output, and the text on errors.
-fn told<S: Source>(
-    alloc: Global,
-    words: &[String],
-    source: &mut S,
-    write: FailedWrite,
-) -> (u8, Text) {
+// Whether a run with no room for output, whose first read fails, has this status, and the text on errors is this.
+fn tells(alloc: Global, words: &[String], write: FailedWrite, want: (u8, &[u8])) -> bool {
+    let mut source = MemSource::new(b"[1]\n", 1, &[0]);
     let mut no_room = [];
     let mut out = MemSink::new(&mut no_room, &[]);
     let mut room = [0; 700];
     let writes = [write];
     let mut err = MemSink::new(&mut room, &writes);
-    let status = status_of(alloc, words, source, &mut out, &mut err);
-    let mut text = ArrayVec::new();
-    let _ = text.try_extend_from_slice(err.written());
-    (status, text)
+    status_of(alloc, words, &mut source, &mut out, &mut err) == want.0 && err.written() == want.1
+}
+
+// The same of a command line.
+fn line_tells(alloc: Global, line: &str, write: FailedWrite, want: (u8, &[u8])) -> bool {
+    match words(alloc, line) {
+        Ok(words) => tells(alloc, &words, write, want),
+        Err(AllocError) => false,
+    }
 }
 
 // A text on errors, of which a failed write keeps a part, and no read.
 #[test]
-fn texts_on_errors(rt: HostRuntime) -> Result<(), Fail> {
+fn texts_on_errors(rt: HostRuntime) {
     for (line, write, status, text) in rows_of_errors() {
-        let words = words(rt.alloc(), line)?;
-        let mut source = MemSource::new(b"[1]\n", 1, &[0]);
-        let (got, told) = told(rt.alloc(), &words, &mut source, *write);
-        assert_eq!(rt; got, *status, "{line}");
-        assert_eq!(rt; told.as_slice(), text.as_bytes(), "{line}");
+        let want = (*status, text.as_bytes());
+        assert!(rt; line_tells(rt.alloc(), line, *write, want), "{line}");
     }
-    Ok(())
 }
 
 #[test]
-fn no_words(rt: HostRuntime) -> Result<(), Fail> {
-    let mut source = MemSource::new(b"", 1, &[]);
-    let (status, text) = told(rt.alloc(), &[], &mut source, NO_WRITE);
-    assert_eq!(rt; status, 2);
-    assert_eq!(rt; text.as_slice(), USAGE.as_bytes());
-    Ok(())
+fn no_words(rt: HostRuntime) {
+    assert!(rt; tells(rt.alloc(), &[], NO_WRITE, (2, USAGE.as_bytes())));
 }
 
-// Asserts what a check of one line of so many bytes writes, and its status.
-fn expect_one_line(
-    rt: &impl Abort,
-    alloc: Global,
-    bytes: u64,
-    want: (u8, &[u8]),
-) -> Result<(), AllocError> {
+// Whether a check of one line of so many bytes has this status and writes this.
+fn is_one_line(alloc: Global, bytes: u64, want: (u8, &[u8])) -> bool {
     let mut source = FillSource::new(b';', bytes);
-    expect(rt, alloc, "check", &mut source, NO_WRITE, want, "`;`")
+    ends_so(alloc, "check", &mut source, NO_WRITE, want)
 }
 
 // The longest input, and one of a byte more.
 #[test]
-fn the_longest_input(rt: HostRuntime) -> Result<(), Fail> {
-    expect_one_line(&rt, rt.alloc(), 1 << 30, (1, b"no long\n"))?;
-    expect_one_line(&rt, rt.alloc(), (1 << 30) + 1, (7, b""))?;
-    Ok(())
+fn the_longest_input(rt: HostRuntime) {
+    assert!(rt; is_one_line(rt.alloc(), 1 << 30, (1, b"no long\n")));
+    assert!(rt; is_one_line(rt.alloc(), (1 << 30) + 1, (7, b"")));
 }

@@ -17,10 +17,10 @@ const SECOND: &str =
 // A command line, the write that fails, the status, and what is written.
 type Unread = (&'static str, FailedWrite, u8, &'static str);
 
-// Asserts that a command line, whose source fails at once, writes this and ends with this status.
-fn expect_unread(rt: &impl Abort, alloc: Global, row: Unread) -> Result<(), AllocError> {
+// Whether a command line, whose source fails at once, writes this and ends with this status.
+fn is_unread(alloc: Global, row: Unread) -> bool {
     let (line, write, status, output) = row;
-    expect_row(rt, alloc, 1, (line, "[1]\n", 0, write, status, output))
+    is_row(alloc, 1, &(line, "[1]\n", 0, write, status, output))
 }
 
 fn rows_of_listings() -> &'static [(&'static str, &'static str)] {
@@ -76,11 +76,13 @@ fn rows_of_listings() -> &'static [(&'static str, &'static str)] {
 }
 
 #[test]
-fn order_nine(rt: HostRuntime) -> Result<(), Fail> {
+fn order_nine(rt: HostRuntime) {
     for (line, output) in rows_of_listings() {
-        expect_unread(&rt, rt.alloc(), (*line, NO_WRITE, 0, *output))?;
+        assert!(rt;
+            is_unread(rt.alloc(), (*line, NO_WRITE, 0, *output)),
+            "{line}"
+        );
     }
-    Ok(())
 }
 
 // The listing of order 9 whose writes fail.
@@ -100,11 +102,11 @@ fn rows_of_failed_writes() -> &'static [(FailedWrite, &'static str)] {
 }
 
 #[test]
-fn failed_writes(rt: HostRuntime) -> Result<(), Fail> {
+fn failed_writes(rt: HostRuntime) {
     for (write, output) in rows_of_failed_writes() {
-        expect_unread(&rt, rt.alloc(), ("list --order 9", *write, 4, *output))?;
+        let row = ("list --order 9", *write, 4, *output);
+        assert!(rt; is_unread(rt.alloc(), row), "{output}");
     }
-    Ok(())
 }
 
 fn rows_of_trials() -> &'static [Unread] {
@@ -138,18 +140,18 @@ fn rows_of_trials() -> &'static [Unread] {
 }
 
 #[test]
-fn trials(rt: HostRuntime) -> Result<(), Fail> {
+fn trials(rt: HostRuntime) {
     for row in rows_of_trials() {
-        expect_unread(&rt, rt.alloc(), *row)?;
+        let output = row.3;
+        assert!(rt; is_unread(rt.alloc(), *row), "{output}");
     }
-    Ok(())
 }
 
 // Runs a command line over an empty source, and gives what is written, once the status is 0.
 fn listed(rt: &impl Abort, alloc: Global, line: &str) -> Result<Text, AllocError> {
     let mut source = MemSource::new(b"", 1, &[]);
     let (status, text) = ran(alloc, line, &mut source, NO_WRITE)?;
-    assert_eq!(rt; status, 0, "{line}");
+    assert!(rt; status == 0, "{line}");
     Ok(text)
 }
 
@@ -162,11 +164,24 @@ fn expect_entry(
 ) -> Result<String, Fail> {
     let text = listed(rt, alloc, command)?;
     let want = format!(in alloc; "{entry}\n; limit order 10 listed 1\n")?;
-    assert_eq!(rt; text.as_slice(), want.as_str().as_bytes());
+    assert!(rt; text.as_slice() == want.as_str().as_bytes());
     let Some((_, word)) = entry.split_once(" ; ") else {
         return Err(Fail::new("no text"));
     };
     Ok(format!(in alloc; "list --order 10 --limit 1 --from {word}")?)
+}
+
+// Whether a listing of order 10 has this entry and this end.
+fn is_order_ten(whole: &str) -> bool {
+    whole.ends_with("\n; end order 10 listed 6\n")
+        && whole.contains("10 65x47 [25,17,23][11,6][5,24][22,3][19] ; 3ua.2aue.2ue.2ea.1ee\n")
+}
+
+// Whether nothing is listed behind the last entry of order 10.
+fn ends_ten(alloc: Global, command: &str) -> bool {
+    let mut source = MemSource::new(b"[1]\n", 1, &[0]);
+    let want = (0, b"; end order 10 listed 0\n".as_slice());
+    ends_so(alloc, command, &mut source, NO_WRITE, want)
 }
 
 // The entries of order 10, whole, and then one by one, each after the word of the one before.
@@ -176,25 +191,12 @@ fn order_ten(rt: HostRuntime) -> Result<(), Fail> {
     let Ok(whole) = str::from_utf8(text.as_slice()) else {
         return Err(Fail::new("no text"));
     };
-    assert!(rt; whole.ends_with("\n; end order 10 listed 6\n"));
-    assert!(rt;
-        whole.contains("10 65x47 [25,17,23][11,6][5,24][22,3][19] ; 3ua.2aue.2ue.2ea.1ee\n")
-    );
+    assert!(rt; is_order_ten(whole));
     let mut command = String::from_str(rt.alloc(), "list --order 10 --limit 1")?;
     for entry in whole.split('\n').take(6) {
         command = expect_entry(&rt, rt.alloc(), command.as_str(), entry)?;
     }
-    let mut source = MemSource::new(b"[1]\n", 1, &[0]);
-    let want = (0, b"; end order 10 listed 0\n".as_slice());
-    expect(
-        &rt,
-        rt.alloc(),
-        command.as_str(),
-        &mut source,
-        NO_WRITE,
-        want,
-        "",
-    )?;
+    assert!(rt; ends_ten(rt.alloc(), command.as_str()));
     Ok(())
 }
 
@@ -241,6 +243,6 @@ fn order_eleven(rt: HostRuntime) -> Result<(), Fail> {
     let Some(entries) = whole.as_slice().strip_suffix(b"; end order 11 listed 22\n") else {
         return Err(Fail::new("another end"));
     };
-    assert_eq!(rt; entries, together.as_slice());
+    assert!(rt; entries == together.as_slice());
     Ok(())
 }

@@ -7,7 +7,6 @@ use arrayvec::ArrayVec;
 use bk_ports::{Failed, Source};
 use std::alloc::{AllocError, Global};
 use std::process::Abort;
-use std::test::Fail;
 
 // Lengths of buffers, and how many reads in a row came with each.
 type Asked = ArrayVec<(usize, u32), 8>;
@@ -68,22 +67,33 @@ fn short_inputs() -> &'static [(u64, u64, u32)] {
     ]
 }
 
-// Asserts them of a command.
-fn expect_short(rt: &impl Abort, alloc: Global, command: &str) -> Result<(), AllocError> {
-    for (left, most, times) in short_inputs() {
-        let (asked, _) = asked(alloc, command, *left, *most)?;
-        assert_eq!(rt;
-            asked.as_slice(),
-            [(16_384, *times)].as_slice(),
-            "{command} {left}"
-        );
+// Whether the reads of a command over so many bytes ask for this, and its status, if one is told, is this.
+fn asks(
+    alloc: Global,
+    command: &str,
+    input: (u64, u64),
+    want: &[(usize, u32)],
+    end: Option<u8>,
+) -> bool {
+    match asked(alloc, command, input.0, input.1) {
+        Ok((asked, status)) => {
+            asked.as_slice() == want && (end.is_none() || end == Some(status))
+        }
+        Err(AllocError) => false,
     }
-    Ok(())
+}
+
+// Asserts them of a command.
+fn expect_short(rt: &impl Abort, alloc: Global, command: &str) {
+    for (left, most, times) in short_inputs() {
+        let asks = asks(alloc, command, (*left, *most), &[(16_384, *times)], None);
+        assert!(rt; asks, "{command} {left}");
+    }
 }
 
 // A whole block is asked for, also behind an input that ends with one.
 #[test]
-fn reads_of_short_inputs(rt: HostRuntime) -> Result<(), Fail> {
+fn reads_of_short_inputs(rt: HostRuntime) {
     for command in [
         "check",
         "canon",
@@ -98,9 +108,8 @@ fn reads_of_short_inputs(rt: HostRuntime) -> Result<(), Fail> {
         "alike",
         "pair",
     ] {
-        expect_short(&rt, rt.alloc(), command)?;
+        expect_short(&rt, rt.alloc(), command);
     }
-    Ok(())
 }
 
 // So many bytes, the most in a read, what the reads ask for, and the status.
@@ -127,20 +136,17 @@ fn long_inputs() -> &'static [Long] {
 }
 
 // Asserts them of a command.
-fn expect_long(rt: &impl Abort, alloc: Global, command: &str) -> Result<(), AllocError> {
+fn expect_long(rt: &impl Abort, alloc: Global, command: &str) {
     for (left, most, want, status) in long_inputs() {
-        let (asked, got) = asked(alloc, command, *left, *most)?;
-        assert_eq!(rt; asked.as_slice(), *want, "{command} {left}");
-        assert_eq!(rt; got, *status, "{command} {left}");
+        let asks = asks(alloc, command, (*left, *most), want, Some(*status));
+        assert!(rt; asks, "{command} {left}");
     }
-    Ok(())
 }
 
 // Towards 2^30 bytes no read asks for more than are left of them, and behind them one asks for one byte.
 #[test]
-fn reads_of_long_inputs(rt: HostRuntime) -> Result<(), Fail> {
+fn reads_of_long_inputs(rt: HostRuntime) {
     for command in ["check", "verify --order 2", "alike", "pair"] {
-        expect_long(&rt, rt.alloc(), command)?;
+        expect_long(&rt, rt.alloc(), command);
     }
-    Ok(())
 }

@@ -1,4 +1,4 @@
--- What the crate says.
+-- What the crate says. Its code is kept by what proofs/ says alone.
 pub mod Table
 pub mod Wide
 pub mod FlowNumbers

@@ -1,6 +1,6 @@
 -- What answers of a ledger say of two signs, of equations kept before, and of equal sides.
 use Rattle.std.specs.Prelude.{pos, ℤ, ◌+ℤ◌}
-use Rattle.std.proofs.Common.{Bool, List, Some, [], ap, arith, false, get_or, length, refl, slice_get, subst, suc, sym, take, true, zero, ℕ, ◌+◌}
+use Rattle.std.proofs.Common.{List, Some, [], ap, arith, get_or, length, refl, slice_get, subst, suc, sym, take, zero, ℕ, ◌+◌}
 use Rattle.std.proofs.Common.{◌<◌, ◌∙◌, ◌∷◌, ◌≡◌}
 use Rattle.std.proofs.lemmas.Int.{ints}
 use Rattle.std.proofs.lemmas.List.{length-append, take-append-le, take-take, take_all}
@@ -25,11 +25,6 @@ one_sign Even Under x y h k = absurd (omega (arith, ints, h, k))
 one_sign Under Above x y h k = absurd (omega (arith, ints, h, k))
 one_sign Under Even x y h k = absurd (omega (arith, ints, h, k))
 one_sign Under Under x y h k = refl
-
--- a test that can't hold fails
-pub never_true : (b : Bool) → (b ≡ true → ⊥) → b ≡ false
-never_true true h = absurd (h refl)
-never_true false h = refl
 
 sign_read : (signs : List Sign) (i : ℕ) (d : Sign) → i < length signs → slice_get signs i ≡ Some (get_or signs i d)
 sign_read [] i d h = absurd (omega arith)

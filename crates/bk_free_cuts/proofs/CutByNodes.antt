@@ -1,11 +1,12 @@
 -- The cut by lines that share a node, from the numbers of lines that a word gives.
 use Rattle.std.proofs.Common.{List, Some, [], ap, arith, inl, inr, length, refl, replicate, slice_get, subst, suc, sym, ℕ, ◌++◌, ◌-◌, ◌<◌, ◌∙◌, ◌∷◌}
 use Rattle.std.proofs.Common.{◌≡◌, ◌≤◌, ◌⊎◌}
-use Rattle.std.proofs.lemmas.List.{length-append, length-replicate}
+use Rattle.std.proofs.lemmas.List.{length-append, length-map, length-replicate}
 use Rattle.bk_word.specs.Outline.{Outline, start, valley_of}
 use Rattle.bk_word.specs.Play.{AreLegalFrom, after_move, after_moves, outline_of}
-use Rattle.bk_word.specs.Word.{Word}
+use Rattle.bk_word.specs.Word.{Word, order_of}
 use Rattle.bk_word_net.proofs.Numbering.{numbered_start}
+use Rattle.bk_word_net.proofs.Shape.{hung_many}
 use Rattle.bk_layout.specs.Layout.{Layout}
 use Rattle.bk_layout.specs.LayoutLaws.{HangByNodesFrom, IsWordOfLayout}
 use Rattle.bk_word.proofs.PlayLaws.{legal_front}
@@ -14,7 +15,7 @@ use Rattle.bk_free_cuts.proofs.NumberedLines.{AllStand, all_along, index_stand, 
 use Rattle.bk_free_cuts.proofs.SharedLines.{hung_less, open_low, square_low}
 use Rattle.bk_free_cuts.proofs.SharedPairs.{lines_share_the_node_above}
 use Rattle.bk_free_cuts.specs.FreeCuts.{IsSound}
-use Rattle.bk_free_cuts.specs.LineNumbers.{left_end, line_of, new_sides, right_end, sides_after, sides_along, sides_at, sides_of}
+use Rattle.bk_free_cuts.specs.LineNumbers.{left_end, lefts_of, line_of, new_sides, right_end, sides_after, sides_along, sides_at, sides_of}
 use Rattle.bk_free_cuts.specs.NodeCut.{ShareANode, SharedNodeIsFreeBarren, TouchesClosed}
 
 nodes_front : (l : Layout) (f : ℕ → ℕ) (o : Outline) (front rest : Word) → HangByNodesFrom l f o (front ++ rest) → HangByNodesFrom l f o front
@@ -32,6 +33,14 @@ along_long o sides (m ∷ w) e = along_long (after_move o m) (sides_after o side
   length-append o.hung (replicate m.count (length o.closed)),
   length-replicate m.count (length o.closed),
 ))
+
+-- each square of a word has its lines
+pub as_many_sides : (w : Word) → length (sides_of w) ≡ order_of w
+as_many_sides w = omega (arith, along_long start [] w refl, hung_many start w)
+
+-- and a line at its left
+pub as_many_lefts : (w : Word) → length (lefts_of w) ≡ order_of w
+as_many_lefts w = length-map (sides_of w) (λ s. s.0) ∙ as_many_sides w
 
 module _ (n : ℕ) (front : Word) (s : ShareANode front) (l : Layout) (w rest : Word) (sound : IsSound n l) (word : IsWordOfLayout l w)
     (is : w ≡ front ++ rest) where

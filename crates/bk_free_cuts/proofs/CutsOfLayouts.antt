@@ -3,7 +3,7 @@ use Rattle.std.proofs.Common.{Contains, List, Some, [], ap, arith, drop, inl, in
 use Rattle.std.proofs.Common.{true, zero, ℕ, ◌++◌, ◌+◌, ◌-◌, ◌<◌, ◌∙◌, ◌∷◌, ◌≡◌, ◌≤◌, ◌⊎◌}
 use Rattle.std.proofs.lemmas.List.{length-map, nil_from_length}
 use Rattle.bk_laws.proofs.ListPlaces.{get_map, get_some}
-use Rattle.bk_word.specs.Outline.{Outline, has_left_wall, open_side, start, valley_of, valley_place}
+use Rattle.bk_word.specs.Outline.{Outline, has_left_wall, open_side, sizes_of, start, valley_of, valley_place}
 use Rattle.bk_word.specs.Play.{AreLegalFrom, IsComplete, after_move, after_moves, new_squares, outline_of}
 use Rattle.bk_word.specs.Word.{Move, Word, order_of}
 use Rattle.bk_word.specs.declared.Sign.{Sign}
@@ -18,7 +18,7 @@ use Rattle.bk_layout.specs.LayoutLaws.{HangByNodesFrom, HangsNode, IsWordOfLayou
 use Rattle.bk_word.proofs.PlayLaws.{legal_front}
 use Rattle.bk_bounds.specs.ClosingBound.{closing_bound}
 use Rattle.bk_word.specs.OwnSigns.{own_signs}
-use Rattle.bk_bounds.specs.SingleValleys.{single_valleys, sizes_of}
+use Rattle.bk_bounds.specs.SingleValleys.{single_valleys}
 use Rattle.bk_bounds.specs.VerticalCut.{line_bound_of, edges_on_lines, on_line}
 use Rattle.bk_tiling_layout.specs.SimpleLayout.{IsSimpleLayout, Touches}
 use Rattle.bk_bounds.proofs.WordBoundLaws.{closings_are_hung, lines_are_hung, singles_are_hung}

@@ -1,8 +1,8 @@
 -- The squares of one open segment stay side by side until their node is closed.
 use Rattle.std.proofs.Common.{List, Option, Some, [], ap, arith, drop, inl, inr, length, map, refl, slice_get, slice_index_or, subst, suc, sym, take}
 use Rattle.std.proofs.Common.{zero, ℕ, ◌++◌, ◌+◌, ◌-◌, ◌∙◌, ◌∷◌, ◌≡◌, ◌⊎◌}
+use Rattle.std.proofs.lemmas.Bool.{cases_eq}
 use Rattle.bk_laws.proofs.ListPlaces.{get_after, get_append, get_map}
-use Rattle.bk_laws.proofs.Tests.{same_or_other}
 use Rattle.bk_word.specs.Outline.{Outline, start, valley_place}
 use Rattle.bk_word.specs.Play.{after_move, after_moves, before_first_list, joined, new_squares, outline_of, segments_apart, signs_apart}
 use Rattle.bk_word.specs.Word.{Word}
@@ -140,7 +140,7 @@ module _ (l : Layout) (f : ℕ → ℕ) where
       → map f (slice_index_or (after_moves o rest).segments 0 []) ≡ l.ending l.bottom
       → (i : ℕ) (s : List ℕ) → slice_get o.segments i ≡ Some s → EndsTogether l f s
   together o [] nodes one end i s e = whole s l.bottom (ap (map f) (sym (only_first o.segments i s one e)) ∙ end)
-  together o (m ∷ rest) nodes one end i s e = cases (same_or_other i (valley_place o.signs)) (together (after_move o m) rest nodes.1 one end)
+  together o (m ∷ rest) nodes one end i s e = cases (cases_eq i (valley_place o.signs)) (together (after_move o m) rest nodes.1 one end)
     where
       cases : (i ≡ valley_place o.signs) ⊎ (i ≡ valley_place o.signs → ⊥)
           → ((j : ℕ) (t : List ℕ) → slice_get (after_move o m).segments j ≡ Some t → EndsTogether l f t) → EndsTogether l f s

@@ -1,9 +1,9 @@
 -- Each square of a layout is one of its word.
 use Rattle.std.proofs.Common.{Some, ap, arith, inl, inr, length, map, slice_get, suc, sym, zero, ℕ, ◌<◌, ◌∙◌, ◌∷◌, ◌≡◌, ◌≤◌, ◌⊎◌}
 use Rattle.std.proofs.lemmas.List.{length-map}
+use Rattle.std.proofs.lemmas.Bool.{cases_eq}
 use Rattle.bk_laws.proofs.Occurrences.{times}
 use Rattle.bk_laws.proofs.ListPlaces.{get_map, got_low}
-use Rattle.bk_laws.proofs.Tests.{same_or_other}
 use Rattle.bk_word.proofs.PlayLists.{numbers-length}
 use Rattle.bk_word.specs.Play.{numbers_from, outline_of}
 use Rattle.bk_word.specs.Word.{Word}
@@ -52,7 +52,7 @@ module _ (l : Layout) (fits : Fits l) (w : Word) (word : IsWordOfLayout l w) whe
               by_place (suc j, g) = omega (arith, square_low l fits w word j (low_place j x g).0, (low_place j x g).1)
 
           once : (x : ℕ) → x < l.squares → times x (q ∷ map word.square (numbers_from 0 (length (outline_of w).hung))) ≤ 1
-          once x k = same (same_or_other x q)
+          once x k = same (cases_eq x q)
             where
               same : (x ≡ q) ⊎ (x ≡ q → ⊥) → times x (q ∷ map word.square (numbers_from 0 (length (outline_of w).hung))) ≤ 1
               same (inl g) = omega (arith, one_for x q g, ap (λ (y : ℕ). times y (map word.square (numbers_from 0 (length (outline_of w).hung)))) g, e)

@@ -1,7 +1,7 @@
 -- In a simple layout of two squares or more no single square reaches from wall to wall at the bottom.
 use Rattle.std.proofs.Common.{List, Some, ap, arith, inl, inr, length, slice_get, subst, suc, sym, zero, ℕ, ◌<◌, ◌∙◌, ◌≡◌, ◌≤◌, ◌⊎◌}
+use Rattle.std.proofs.lemmas.Bool.{cases_eq}
 use Rattle.bk_laws.proofs.ListPlaces.{get_some, got_low}
-use Rattle.bk_laws.proofs.Tests.{same_or_other}
 use Rattle.bk_layout.proofs.Counting.{got_same}
 use Rattle.bk_layout.specs.Layout.{Fits, Layout}
 use Rattle.bk_tiling_layout.specs.SimpleLayout.{IsSimpleLayout}
@@ -32,7 +32,7 @@ module _ (l : Layout) (fits : Fits l) (simple : IsSimpleLayout l) (walls : AreOu
 
     all_top : (n v : ℕ) → fits.nodes.rank v < n → v < l.bottom → v ≡ 0
     all_top zero v rank low = absurd (omega arith)
-    all_top (suc n) v rank low = cases (same_or_other v 0) (all_top n)
+    all_top (suc n) v rank low = cases (cases_eq v 0) (all_top n)
       where
         positive : (v : ℕ) → (v ≡ 0 → ⊥) → 0 < v
         positive v n = grind arith

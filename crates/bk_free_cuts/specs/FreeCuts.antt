@@ -6,7 +6,7 @@
 use Rattle.std.specs.Prelude.{Contains, [], length, ℕ, ◌++◌, ◌+◌, ◌<◌, ◌∷◌, ◌≡◌, ◌≢◌, ◌≤◌}
 use Rattle.bk_simple.specs.Simple.{IsSimple}
 use Rattle.bk_tiling.specs.Tiling.{IsTiling, Tiling, order}
-use Rattle.bk_word.specs.Outline.{valley_of}
+use Rattle.bk_word.specs.Outline.{sizes_of, valley_of}
 use Rattle.bk_word.specs.Play.{outline_of}
 use Rattle.bk_word.specs.Word.{Move, Word, order_of}
 use Rattle.bk_word.specs.declared.Sign.TheVariants.{Even}
@@ -17,7 +17,7 @@ use Rattle.bk_tiling_layout.specs.SimpleLayout.{IsSimpleLayout}
 use Rattle.bk_tiling_layout.specs.TilingLayout.{layout_of}
 use Rattle.bk_bounds.specs.ClosingBound.{closing_bound}
 use Rattle.bk_word.specs.OwnSigns.{own_signs}
-use Rattle.bk_bounds.specs.SingleValleys.{single_valleys, sizes_of}
+use Rattle.bk_bounds.specs.SingleValleys.{single_valleys}
 use Rattle.bk_bounds.specs.VerticalCut.{line_bound_of}
 use Rattle.bk_free_cuts.specs.SharedNodes.{AreLinesApart}
 

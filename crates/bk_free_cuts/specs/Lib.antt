@@ -1,4 +1,4 @@
--- What the crate says.
+-- What the crate says. It has laws alone, so there is no code to keep.
 pub mod FreeCuts
 pub mod SharedNodes
 pub mod OpenSegments

@@ -38,14 +38,13 @@ impl Growing {
         requires { IsGrowing (record { width = width; height = height; squares = squares.now }) }
         ensures { result ≡ record { width = width; height = height; squares = squares.now } }
     {
-        let mut copy = ArrayVec::new();
-        for q in squares {
-            copy.push(*q);
-        }
+        let Ok(squares) = ArrayVec::try_from(squares) else {
+            unreachable!();
+        };
         Growing {
             width,
             height,
-            squares: copy,
+            squares,
         }
     }
 

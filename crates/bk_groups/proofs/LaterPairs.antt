@@ -6,6 +6,7 @@ use Rattle.std.specs.Prelude.{Bool, Err, IfOk, Ok, Result, Some, cond, drop, fal
 use Rattle.std.proofs.Common.{List, [], Option, ap, arith, inl, inr, length, refl, subst, suc, sym, ℕ, ◌&&◌, ◌++◌, ◌+◌, ◌<◌, ◌∙◌, ◌∷◌, ◌≡◌, ◌≤◌}
 use Rattle.std.proofs.lemmas.Bool.{cases_Bool}
 use Rattle.std.proofs.lemmas.Bool.Decides.{nat_tests}
+use Rattle.std.proofs.KnownBytes.{Appends-nil}
 use Rattle.bk_tiling.specs.Tiling.{Tiling, order}
 use Rattle.bk_ask.specs.declared.Kind.{Kind}
 use Rattle.bk_ask.specs.declared.Kind.TheVariants as kinds
@@ -17,7 +18,6 @@ use Rattle.bk_alike.specs.declared.item.KeptItem.{KeptItem}
 use Rattle.bk_groups.specs.LaterLines.{later_lines}
 use Rattle.bk_groups.specs.Pairs.{is_pair, pair_lines, pairs_with}
 use Rattle.bk_groups.proofs.ListLoops.{drop_none}
-use Rattle.bk_lines.proofs.Joining.{appends_nothing}
 use Rattle.bk_groups.specs.Writing.{WritesLines}
 use Rattle.bk_groups.proofs.WrittenLines.{item_at}
 use Rattle.bk_groups.proofs.PairLines.{IsItemAt, tiling_at}
@@ -144,7 +144,7 @@ module _ (kind : Kind) (items : List KeptItem) (i j : ℕ) (behind : i < j) (bel
 pub before_written : (kind : Kind) (items : List KeptItem) (i j : ℕ) → j ≤ i → (a : KeptItem) (w : Option (List ℕ))
     → Appends w w (concat (later_lines kind items i a j))
 before_written kind items i j before a w =
-    subst (λ (l : List (List ℕ)). Appends w w (concat l)) (sym (no_line_before kind items i j a before)) (appends_nothing w)
+    subst (λ (l : List (List ℕ)). Appends w w (concat l)) (sym (no_line_before kind items i j a before)) (Appends-nil w)
 
 pub before_counted : (kind : Kind) (items : List KeptItem) (i j : ℕ) → j ≤ i → (a : KeptItem) → 0 ≡ length (later_lines kind items i a j)
 before_counted kind items i j before a = ap (λ (l : List (List ℕ)). length l) (sym (no_line_before kind items i j a before))

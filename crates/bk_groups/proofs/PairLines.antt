@@ -6,7 +6,7 @@ use Rattle.std.proofs.lemmas.List.{length-append}
 use Rattle.bk_tiling.specs.Tiling.{Tiling}
 use Rattle.bk_ask.specs.declared.Kind.{Kind}
 use Rattle.bk_ask.specs.declared.Kind.TheVariants as kinds
-use Rattle.bk_pair.proofs.PairTests.{laid_test, laid_tested, pair_test, pair_tested}
+use Rattle.bk_pair.proofs.PairTests.{laid_test, laid_from, pair_test, pair_from}
 use Rattle.bk_pair.specs.Pair.{ArePair, CanBeLaid, IsLayingFault, IsPairFault, joined_square}
 use Rattle.bk_pair.specs.PairTest.{are_pair, can_be_laid}
 use Rattle.bk_pair.specs.declared.PairFault.{PairFault}
@@ -33,7 +33,7 @@ module _ (kind : Kind) (a b : KeptItem) (first second : ℕ) (s t : Tiling) (one
 pub some_pair : (a b : Tiling) (r : Result Tiling PairFault) (o : Option Tiling) → o ≡ result_ok r → IfOk r (λ _. ArePair a b)
     → IfOk r (λ t. t ≡ joined_square a b)
     → IfSome o (λ t. (t ≡ joined_square a b) × (are_pair a b ≡ true))
-some_pair a b (Ok t) o e pair is = subst (λ o. IfSome o (λ t. (t ≡ joined_square a b) × (are_pair a b ≡ true))) (sym e) (is, pair_tested a b pair)
+some_pair a b (Ok t) o e pair is = subst (λ o. IfSome o (λ t. (t ≡ joined_square a b) × (are_pair a b ≡ true))) (sym e) (is, pair_from a b pair)
 some_pair a b (Err f) o e pair is = subst (λ o. IfSome o (λ t. (t ≡ joined_square a b) × (are_pair a b ≡ true))) (sym e) tt
 
 pub no_pair : (a b : Tiling) (r : Result Tiling PairFault) (o : Option Tiling) → o ≡ result_ok r → IfErr r (IsPairFault a b) → IfNone o (are_pair a b ≡ false)
@@ -43,7 +43,7 @@ no_pair a b (Err f) o e fault = subst (λ o. IfNone o (are_pair a b ≡ false)) 
 pub some_laid : (a b : Tiling) (r : Result Tiling PairFault) (o : Option Tiling) → o ≡ result_ok r → IfOk r (λ _. CanBeLaid a b)
     → IfOk r (λ t. t ≡ joined_square a b)
     → IfSome o (λ t. (t ≡ joined_square a b) × (can_be_laid a b ≡ true))
-some_laid a b (Ok t) o e can is = subst (λ o. IfSome o (λ t. (t ≡ joined_square a b) × (can_be_laid a b ≡ true))) (sym e) (is, laid_tested a b can)
+some_laid a b (Ok t) o e can is = subst (λ o. IfSome o (λ t. (t ≡ joined_square a b) × (can_be_laid a b ≡ true))) (sym e) (is, laid_from a b can)
 some_laid a b (Err f) o e can is = subst (λ o. IfSome o (λ t. (t ≡ joined_square a b) × (can_be_laid a b ≡ true))) (sym e) tt
 
 pub no_laid : (a b : Tiling) (r : Result Tiling PairFault) (o : Option Tiling) → o ≡ result_ok r → IfErr r (IsLayingFault a b)

@@ -5,9 +5,9 @@ use Rattle.std.specs.Io.KnownBytes.{Appends}
 use Rattle.std.proofs.Common.{List, [], Option, ap, arith, length, refl, subst, suc, sym, ℕ, ◌++◌, ◌+◌, ◌<◌, ◌∙◌, ◌∷◌, ◌≡◌}
 use Rattle.std.proofs.lemmas.List.{append-nil, append_assoc, take-append-le, take_min}
 use Rattle.std.proofs.lemmas.List.Folds.{concat-append}
+use Rattle.std.proofs.KnownBytes.{Appends-nil}
 use Rattle.bk_ports.specs.Causes.{AppendsPrefix}
 use Rattle.bk_ports.proofs.KnownSteps.{appends_more, prefix_after}
-use Rattle.bk_lines.proofs.Joining.{appends_nothing}
 use Rattle.bk_groups.specs.Writing.{WritesLines}
 
 -- a beginning of bytes is one of more bytes
@@ -25,7 +25,7 @@ pub record IsWrittenTo (all rest : List (List ℕ)) (before now : Option (List �
 
 -- nothing is written yet, and all lines are still to be written
 pub written_none : (all : List (List ℕ)) (w : Option (List ℕ)) → IsWrittenTo all all w w
-written_none all w = record { done = []; split = refl; written = appends_nothing w }
+written_none all w = record { done = []; split = refl; written = Appends-nil w }
 
 -- the next of the lines are written
 pub written_more : (all rest piece later : List (List ℕ)) (a b c : Option (List ℕ)) → IsWrittenTo all rest a b → rest ≡ piece ++ later

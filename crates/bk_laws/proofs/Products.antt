@@ -2,7 +2,7 @@
 use Rattle.std.proofs.Common.{arith, inl, inr, ℕ, ◌*◌, ◌<◌, ◌≡◌, ◌≤◌, ◌⊎◌}
 use Rattle.std.proofs.Math.Nat.{mul-lt-mul_of_pos_left}
 
--- a positive factor keeps the order
+-- a positive factor keeps the order: std's law with its numbers written out
 pub mul_below : (k m n : ℕ) → 0 < k → m < n → k * m < k * n
 mul_below k m n h l = mul-lt-mul_of_pos_left l h
 

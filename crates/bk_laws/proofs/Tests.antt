@@ -42,7 +42,3 @@ far v = grind (arith, nat_tests)
 -- and no successor is 0
 pub near : (a : ℕ) → ◌≡◌ {A = ℕ} (cond (nat_eq (1 + a) 0) 1 0) 0
 near a = grind (arith, nat_tests)
-
--- two numbers are equal or not
-pub same_or_other : (m n : ℕ) → (m ≡ n) ⊎ (m ≡ n → ⊥)
-same_or_other m n = grind arith

@@ -8,10 +8,6 @@ use Rattle.bk_word.specs.Word.{Word}
 use Rattle.bk_lay.specs.TilingWord.{IsLeftmostValley, IsValley, MovesFollow, move_under, squares_under}
 use Rattle.bk_lay.specs.WordLaws.{ATilingHasOneWord, NeverDeeperBefore}
 
--- the depth at a column of a level run, under another name for the column
-at_level : (width : ℕ) (laid : List Square) (v : Segment) → IsLevel width laid v → (c d : ℕ) → c ≡ d → v.x ≤ d → d < v.x + v.width → depth laid c ≡ v.level
-at_level width laid v flat c d e low high = ap (depth laid) e ∙ flat.level d low high
-
 level_of : (width : ℕ) (laid : List Square) (v : Segment) → IsLevel width laid v → depth laid v.x ≡ v.level
 level_of width laid v flat = let some = flat.some in flat.level v.x (omega arith) (omega arith)
 

@@ -10,14 +10,14 @@ use bk_tiling::{MOST_SQUARES, Square};
 use bk_word::Sign;
 
 /// A move has at most so many signs.
-const MOST_SIGNS: usize = MOST_SQUARES + 1;
+const MOST_MOVE_SIGNS: usize = MOST_SQUARES + 1;
 
 // The signs between the bottoms of squares, from left to right, and the levels beside these.
 pub(crate) fn signs_of(
     before: Option<u64>,
     squares: &[Square],
     after: Option<u64>,
-) -> ArrayVec<Sign, MOST_SIGNS>
+) -> ArrayVec<Sign, MOST_MOVE_SIGNS>
     requires few { length squares.now ≤ 200 }
     requires fit { AllByRecursion (λ q. q.y + q.s < 2 ^ 64) squares.now }
     ensures { result.items ≡ signs_between (option_to_list before ++ bottoms_of squares.now ++ option_to_list after) }
@@ -36,7 +36,7 @@ pub(crate) fn signs_of(
 }
 
 // Appends the sign between two levels, where there is one at the left.
-fn push_sign(signs: &mut ArrayVec<Sign, MOST_SIGNS>, left: Option<u64>, right: u64)
+fn push_sign(signs: &mut ArrayVec<Sign, MOST_MOVE_SIGNS>, left: Option<u64>, right: u64)
     requires { length signs.old.items < 201 }
     ensures { signs.new.items ≡ signs.old.items ++ signs_between (option_to_list left ++ right ∷ []) }
 {

@@ -8,7 +8,7 @@ ghost use Rattle.bk_lay.specs.TilingWord.{IsWordOf};
 
 use crate::outline::{Outline, Run};
 use bk_tiling::{Square, Tiling};
-use bk_word::{INLINE_ORDER, NoMemory, Word};
+use bk_word::{NoMemory, Word};
 use std::alloc::Global;
 
 /// The word of a tiling. Its squares are laid in turns, always all those under the leftmost valley of what is laid: the

@@ -3,9 +3,9 @@ use Rattle.std.specs.List.{AllZip}
 use Rattle.std.proofs.Common.{List, Some, [], ap, arith, inl, inr, length, map, option_map, refl, slice_get, slice_index_or, subst, suc, sym, zero, ℕ, ◌++◌}
 use Rattle.std.proofs.Common.{◌+◌, ◌-◌, ◌<◌, ◌∙◌, ◌∷◌, ◌≡◌, ◌⊎◌}
 use Rattle.std.proofs.lemmas.List.{length-map, map-append}
+use Rattle.std.proofs.lemmas.Bool.{cases_eq}
 use Rattle.bk_laws.proofs.Occurrences.{times}
 use Rattle.bk_laws.proofs.ListPlaces.{get_append, get_map, index_got}
-use Rattle.bk_laws.proofs.Tests.{same_or_other}
 use Rattle.bk_word.proofs.PlayLists.{numbers-length}
 use Rattle.bk_word.specs.Outline.{Outline, start}
 use Rattle.bk_word.specs.Play.{numbers_from, outline_of}
@@ -43,7 +43,7 @@ zip_got R (x ∷ xs) (y ∷ ys) (suc k) z h = zip_got R xs ys k z.1 (omega arith
 
 map_times : (f : ℕ → ℕ) (xs : List ℕ) (m : ℕ) → 0 < times m xs → 0 < times (f m) (map f xs)
 map_times f [] m h = absurd (omega arith)
-map_times f (x ∷ xs) m h = cases (same_or_other m x) (map_times f xs m)
+map_times f (x ∷ xs) m h = cases (cases_eq m x) (map_times f xs m)
   where
     cases : (m ≡ x) ⊎ (m ≡ x → ⊥) → (0 < times m xs → 0 < times (f m) (map f xs)) → 0 < times (f m) (map f (x ∷ xs))
     cases (inl e) rest = omega (arith, one_for (f m) (f x) (ap f e))

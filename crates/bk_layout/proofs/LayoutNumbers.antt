@@ -2,9 +2,9 @@
 use Rattle.std.proofs.Common.{List, Some, [], ap, arith, inl, inr, length, map, refl, slice_get, slice_index_or, suc, sym, zero, ℕ, ◌++◌, ◌+◌, ◌<◌, ◌∙◌, ◌∷◌}
 use Rattle.std.proofs.Common.{◌≡◌, ◌≤◌, ◌⊎◌}
 use Rattle.std.proofs.lemmas.List.{length-append, length-map}
+use Rattle.std.proofs.lemmas.Bool.{cases_eq}
 use Rattle.bk_laws.proofs.Occurrences.{times, times-append}
 use Rattle.bk_laws.proofs.ListPlaces.{get_append, get_last, got_index, index_got}
-use Rattle.bk_laws.proofs.Tests.{same_or_other}
 use Rattle.bk_word.specs.Outline.{Outline}
 use Rattle.bk_layout.proofs.Counting.{got_times, none_for, one_for, times_once}
 use Rattle.bk_layout.proofs.SquareLists.{sq_of}
@@ -53,7 +53,7 @@ module _ (l : Layout) (fits : Fits l) (o : Outline) (st : State l o) (end : Ende
   bottom_open (suc n) e = absurd (omega (arith, st.done_low l.bottom (omega (arith, e))))
 
   nodes_once : (v : ℕ) → times v all_nodes ≤ 1
-  nodes_once v = cases (same_or_other v l.bottom)
+  nodes_once v = cases (cases_eq v l.bottom)
     where
       cases : (v ≡ l.bottom) ⊎ (v ≡ l.bottom → ⊥) → times v all_nodes ≤ 1
       cases (inl e) = omega (
@@ -66,7 +66,7 @@ module _ (l : Layout) (fits : Fits l) (o : Outline) (st : State l o) (end : Ende
       cases (inr e) = omega (arith, times-append v st.done (l.bottom ∷ []), none_for v l.bottom e, st.done_once v)
 
   nodes_low : (v : ℕ) → 0 < times v all_nodes → v < l.bottom + 1
-  nodes_low v h = cases (same_or_other v l.bottom)
+  nodes_low v h = cases (cases_eq v l.bottom)
     where
       cases : (v ≡ l.bottom) ⊎ (v ≡ l.bottom → ⊥) → v < l.bottom + 1
       cases (inl e) = omega (arith, e)

@@ -3,9 +3,9 @@
 use Rattle.std.proofs.Common.{List, Option, Some, [], ap, arith, cond, inl, inr, length, map, nat_eq, refl, slice_get, subst, suc, sym, zero, ℕ}
 use Rattle.std.proofs.Common.{◌++◌, ◌+◌, ◌<◌, ◌∙◌, ◌∷◌, ◌≡◌, ◌≤◌, ◌⊎◌}
 use Rattle.std.proofs.lemmas.List.{append-nil, append_assoc, length-map}
+use Rattle.std.proofs.lemmas.Bool.{cases_eq}
 use Rattle.bk_laws.proofs.Occurrences.{times, times_in}
 use Rattle.bk_laws.proofs.ListPlaces.{get_some}
-use Rattle.bk_laws.proofs.Tests.{same_or_other}
 use Rattle.bk_word.specs.Outline.{Outline, start}
 use Rattle.bk_word.specs.Play.{AreLegalFrom, IsLegal, after_move, after_moves, outline_of}
 use Rattle.bk_word.specs.Word.{Move, Word}
@@ -63,7 +63,7 @@ bounded l o st = at_most l.bottom st.done st.done_low (λ q h. st.done_once q)
 
 onward : (l : Layout) → Fits l → (o : Outline) (st : State l o)
     → ((then : Outline) (s : State l then) → length s.done ≡ suc (length st.done) → Swept l then s) → Swept l o st
-onward l fits o st more = cases (same_or_other (l.below at.q) l.bottom)
+onward l fits o st more = cases (cases_eq (l.below at.q) l.bottom)
   where
     v : AtValley o
     v = valley_in o st.shaped
@@ -126,7 +126,7 @@ module _ (l : Layout) (fits : Fits l) (o : Outline) (st : State l o) (end : Ende
 
   all_closed : (n v : ℕ) → fits.nodes.rank v < n → v < l.bottom → times v st.done ≡ 1
   all_closed zero v rank low = absurd (omega arith)
-  all_closed (suc n) v rank low = cases (same_or_other v 0) (all_closed n)
+  all_closed (suc n) v rank low = cases (cases_eq v 0) (all_closed n)
     where
       from : (v ≡ 0 → ⊥) → (q : ℕ) × (slice_get (l.ending v) 0 ≡ Some q)
           → ((u : ℕ) → fits.nodes.rank u < n → u < l.bottom → times u st.done ≡ 1) → times v st.done ≡ 1

@@ -3,9 +3,9 @@ use Rattle.std.specs.List.{AllZip}
 use Rattle.std.proofs.Common.{List, Some, [], ap, arith, cond, filter, inl, inr, length, map, nat_eq, refl, replicate, slice_get, subst, suc, sym, ℕ}
 use Rattle.std.proofs.Common.{◌++◌, ◌+◌, ◌-◌, ◌<◌, ◌∙◌, ◌∷◌, ◌≡◌, ◌≤◌, ◌⊎◌}
 use Rattle.std.proofs.lemmas.List.{append-nil, length-replicate}
+use Rattle.std.proofs.lemmas.Bool.{cases_eq}
 use Rattle.bk_laws.proofs.Occurrences.{times, times_in}
 use Rattle.bk_laws.proofs.ListPlaces.{get_append, get_some, index_got}
-use Rattle.bk_laws.proofs.Tests.{same_or_other}
 use Rattle.bk_word.specs.declared.Sign.TheVariants.{Even}
 use Rattle.bk_word.specs.Outline.{IsLegalMove, start}
 use Rattle.bk_word.specs.Play.{after_move, joined, numbers_from, parts, segments_apart, signs_apart}
@@ -165,11 +165,11 @@ module _ (l : Layout) (fits : Fits l) (h : Hung l 0) where
       hung = hung_then new (λ x k. (new_above x k).1);
       laid_times = λ q k. omega (arith, new_times q k);
       open_times = λ q k. omega (arith, open_then q, new_times q k, none_for (l.below q) 0 (λ e. omega (arith, e, (fits.nodes.ends_below q k).0)));
-      done_once = λ v. once v (same_or_other v 0);
+      done_once = λ v. once v (cases_eq v 0);
       top = refl;
       begun = omega (arith, one_for 0 0 refl);
       laid_low = λ q k. (new_above q k).0;
-      done_low = λ v k. low v k (same_or_other v 0);
+      done_low = λ v k. low v k (cases_eq v 0);
     },
     refl,
   )

@@ -3,10 +3,10 @@ use Rattle.std.specs.List.{AllZip}
 use Rattle.std.proofs.Common.{List, Some, [], ap, arith, cond, inl, inr, length, map, nat_eq, refl, replicate, slice_get, suc, sym, ℕ, ◌++◌, ◌+◌, ◌<◌}
 use Rattle.std.proofs.Common.{◌∙◌, ◌∷◌, ◌≡◌, ◌≤◌, ◌⊎◌}
 use Rattle.std.proofs.lemmas.List.{length-append, length-map, length-replicate, map-append}
+use Rattle.std.proofs.lemmas.Bool.{cases_eq}
 use Rattle.bk_laws.proofs.Occurrences.{times, times-append, times_in, times_in-append}
 use Rattle.bk_laws.proofs.ZippedLists.{zip_append, zip_map}
 use Rattle.bk_laws.proofs.ListPlaces.{get_append, get_last}
-use Rattle.bk_laws.proofs.Tests.{same_or_other}
 use Rattle.bk_word.specs.Outline.{Outline, valley_of}
 use Rattle.bk_word.specs.Play.{after_move}
 use Rattle.bk_word.specs.Word.{Move}
@@ -150,11 +150,11 @@ module _ (l : Layout) (fits : Fits l) (o : Outline) (st : State l o) (v : AtVall
         done_more (l.above q),
         done_more (l.below q),
       );
-      done_once = λ u. once u (same_or_other u node);
+      done_once = λ u. once u (cases_eq u node);
       top = get_append st.done (node ∷ []) 0 0 st.top;
       begun = omega (arith, st.begun, done_more 0, none_for 0 node (λ e. omega (arith, e, (fits.nodes.ends_below at.q at.known).0)));
       laid_low = λ q k. low_laid q (two (times q st.laid) (times q new) (omega (arith, k, times-append q st.laid new)));
-      done_low = λ u k. low_done u k (same_or_other u node);
+      done_low = λ u k. low_done u k (cases_eq u node);
     },
     omega (arith, length-append st.done (node ∷ [])),
     refl,

@@ -14,7 +14,7 @@ use Rattle.bk_tiling.specs.Scale.{IsPrimitiveTiling}
 use Rattle.bk_tiling.specs.Tiling.{IsOneOf, IsTiling, Tiles, Tiling, whole}
 use Rattle.bk_tiling.specs.declared.Square.{Square}
 use Rattle.bk_net.specs.Flow.{Flow, IsPrimitiveFlow, potential}
-use Rattle.bk_net.specs.Net.{HasNoLoose, IsNet, last_node}
+use Rattle.bk_net.specs.Net.{HasNoLoose, last_node}
 use Rattle.bk_word.proofs.PlayLaws.{moves_many}
 use Rattle.bk_word.specs.Outline.{start}
 use Rattle.bk_word.specs.Play.{IsComplete, numbers_from, outline_of}
@@ -25,7 +25,8 @@ use Rattle.bk_word_net.proofs.Shape.{hung_many}
 use Rattle.bk_word_net.proofs.WordTilings.{wires_many}
 use Rattle.bk_word_net.specs.WordNet.{net_of_word}
 use Rattle.bk_free_cuts.specs.LineNumbers.{lefts_of, sides_of}
-use Rattle.bk_signed_word.proofs.KnownLines.{as_many_sides, known_lines}
+use Rattle.bk_free_cuts.proofs.CutByNodes.{as_many_lefts}
+use Rattle.bk_signed_word.proofs.KnownLines.{known_lines}
 use Rattle.bk_signed_word.specs.SignedWord.{IsSignedWordOf}
 use Rattle.bk_candidate.proofs.Candidates.{the_candidate_is_the_tiling}
 use Rattle.bk_candidate.specs.Candidate.{IsCandidateOf, candidate_square, candidate_squares, level_in, line_place, placed_square, right_edges_from}
@@ -49,10 +50,6 @@ left_at [] k d h = absurd (omega arith)
 left_at (s ∷ sides) zero d h = refl
 left_at (s ∷ sides) (suc k) d h = left_at sides k d (omega arith)
 
--- each square of a word has a line at its left
-pub as_many_lefts : (w : Word) → length (lefts_of w) ≡ order_of w
-as_many_lefts w = length-map (sides_of w) (λ s. s.0) ∙ as_many_sides w
-
 -- where squares end is told by the lines at their left
 edges_told : (total : ℤ) (rights : List ℤ) (sides : List (ℕ × ℕ)) (currents : List ℤ)
     → right_edges_from total rights (by_lefts (map (λ s. s.0) sides)) currents ≡ right_edges_from total rights sides currents
@@ -67,9 +64,6 @@ module _ (w : Word) (complete : IsComplete w) (few : order_of w ≤ 16) where
 
   pub joined : HasNoLoose (net_of_word w)
   joined = (a_word_net_has_no_loose w complete).1
-
-  pub word_net : IsNet (net_of_word w)
-  word_net = (a_word_net_has_no_loose w complete).0
 
   pub nodes_few : (net_of_word w).nodes ≤ 17
   nodes_few = omega (arith, few, closed_count start w, moves_many start w complete.legal)

@@ -4,11 +4,10 @@ use Rattle.std.specs.Prelude.{FitsSigned, nat_abs, negsuc, pos, ℤ, ◌+ℤ◌}
 use Rattle.std.proofs.Common.{List, [], ap, arith, drop, inl, inr, length, length-set, refl, set, slice_index_or, subst, suc, sym}
 use Rattle.std.proofs.Common.{zero, ℕ, ◌*◌, ◌++◌, ◌+◌, ◌<◌, ◌^◌, ◌∙◌, ◌∷◌, ◌≡◌, ◌≤◌, ◌⊎◌}
 use Rattle.std.proofs.Math.Seq.{drop-cons}
-use Rattle.std.proofs.lemmas.Bool.{cases_lt}
+use Rattle.std.proofs.lemmas.Bool.{cases_eq, cases_lt}
 use Rattle.std.proofs.lemmas.Int.{ints}
 use Rattle.std.proofs.lemmas.List.{get_or-map, get_or-set_other, get_or-set_same, length-append, length-map}
 use Rattle.bk_laws.proofs.ListPlaces.{get_back, get_front}
-use Rattle.bk_laws.proofs.Tests.{same_or_other}
 use Rattle.bk_tiling.specs.declared.Square.{Square}
 use Rattle.bk_candidate.specs.Candidate.{line_place, right_edges_from}
 use Rattle.bk_leaf.specs.Placing.{AreKnownLines, AreLevels, AreSmall, EndWithin, HasLevels, IsPlacedAt, IsSmall, by_lefts, edges_by_lefts}
@@ -64,10 +63,10 @@ pub levelled_more : (wires : List (ℕ × ℕ)) (currents levels : List ℤ) (i 
     → AreLevelled wires currents (set levels to level) (i + 1)
 levelled_more wires currents levels i from to level levelled within many ends small f t e = record {
   room = length-set levels to level ∙ levelled.room;
-  small = λ v h. small_at v h (same_or_other v to);
+  small = λ v h. small_at v h (cases_eq v to);
   right = λ at are. (
-    right_at at are 0 (inl refl) (same_or_other 0 to),
-    λ j h. right_at at are (slice_index_or wires j (0, 0)).1 (inr (j, h, refl)) (same_or_other (slice_index_or wires j (0, 0)).1 to),
+    right_at at are 0 (inl refl) (cases_eq 0 to),
+    λ j h. right_at at are (slice_index_or wires j (0, 0)).1 (inr (j, h, refl)) (cases_eq (slice_index_or wires j (0, 0)).1 to),
   );
 }
   where

@@ -4,11 +4,11 @@ ghost use Rattle.std.specs.Prelude.{length, pos, slice_index_or, ℕ, ℤ, ◌*�
 ghost use Rattle.bk_candidate.specs.Candidate.{line_place};
 ghost use Rattle.bk_leaf.specs.Placing.{AreKnownLines, AreLevels, AreSmall, EndWithin, HasLevels, IsSmall, edges_by_lefts};
 
-use crate::placing::MOST;
 use arrayvec::ArrayVec;
+use bk_word::INLINE_ORDER;
 
 // A net of so many wires and one node more, without a loose node.
-pub(crate) const NODES: usize = MOST + 1;
+pub(crate) const NODES: usize = INLINE_ORDER + 1;
 
 // How far the nodes lie under the first, by the currents of the wires, each of which leads down from a node whose level is
 // known from those before.
@@ -29,7 +29,7 @@ pub(crate) fn levels_of(wires: &[(u16, u16)], currents: &[i64]) -> [i64; NODES]
 }
 
 // Where the squares end: each as far behind its left line as its current says.
-pub(crate) fn rights_of(lefts: &[u8], currents: &[i64], total: i64) -> ArrayVec<i64, MOST>
+pub(crate) fn rights_of(lefts: &[u8], currents: &[i64], total: i64) -> ArrayVec<i64, INLINE_ORDER>
     requires many { length currents.now ≡ length lefts.now }
     requires few { length lefts.now ≤ 16 }
     requires known { AreKnownLines lefts.now }

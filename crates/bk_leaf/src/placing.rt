@@ -16,9 +16,7 @@ use crate::levels::{NODES, levels_of, place_of, rights_of};
 use arrayvec::ArrayVec;
 use bk_skel::Skel;
 use bk_tiling::Square;
-
-/// The squares of a word of the search are at most so many.
-pub(crate) const MOST: usize = 16;
+use bk_word::INLINE_ORDER;
 
 /// Squares that were placed in a rectangle, in the order in which a word hangs them. Whether they tile it isn't known. (Own.)
 #[derive(Drop)]
@@ -28,7 +26,7 @@ pub struct Placed {
     /// How many levels it has.
     pub height: u64,
     /// The squares.
-    pub squares: ArrayVec<Square, MOST>,
+    pub squares: ArrayVec<Square, INLINE_ORDER>,
 }
 
 /// The squares of the one tiling that lies of which the complete word can be a signed word: they are placed by the one flow of the
@@ -81,7 +79,7 @@ fn squares_at(
     levels: &[i64; NODES],
     rights: &[i64],
     total: i64,
-) -> ArrayVec<Square, MOST>
+) -> ArrayVec<Square, INLINE_ORDER>
     requires few { length lefts.now ≤ 16 }
     requires wires { length wires.now ≡ length lefts.now }
     requires currents { length currents.now ≡ length lefts.now }

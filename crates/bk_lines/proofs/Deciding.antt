@@ -2,7 +2,7 @@
 use Rattle.std.proofs.Common.{Bool, List, Some, [], arith, false, inl, inr, refl, subst, sym, true, ℕ, ◌∙◌, ◌∷◌, ◌||◌, ◌≡◌}
 use Rattle.std.specs.Prelude.{Contains, ◌⊎◌}
 use Rattle.std.specs.Io.KnownBytes.{Consumes, IsAtEnd}
-use Rattle.std.proofs.lemmas.Bool.{true≢false}
+use Rattle.std.proofs.lemmas.Bool.{or_parts, true≢false}
 use Rattle.std.proofs.lemmas.List.Elements.{Contains-append_cases, Contains-append_left, Contains-append_right, Contains-push, Contains-push_cases}
 use Rattle.bk_lines.specs.Answered.{AreAnswered}
 use Rattle.bk_lines.specs.Deciding.{HasRefused, HasWanting}
@@ -37,10 +37,6 @@ refused_later : (p q : Bool) → p ≡ false → (p || q) ≡ true → q ≡ tru
 refused_later true q e h = absurd (true≢false e)
 refused_later false q e h = h
 
-neither : (p q : Bool) → (p || q) ≡ false → (p ≡ false) × (q ≡ false)
-neither true q h = absurd (true≢false h)
-neither false q h = (refl, h)
-
 module _ (replies : Replies) where
   here_or_later : (line : List ℕ) (lines : List (List ℕ)) (r : Reply) → replies.answers line r.pieces r.refused → (p : Bool)
       → r.refused ≡ p → (r.refused ≡ false → HasRefused replies lines) → HasRefused replies (line ∷ lines)
@@ -67,7 +63,7 @@ module _ (replies : Replies) where
   none_refused one [] (r ∷ rs) are none found = absurd are
   none_refused one (line ∷ lines) [] are none found = absurd are
   none_refused one (line ∷ lines) (r ∷ rs) are none found =
-      let parts = neither r.refused (some_refused rs) none in
+      let parts = or_parts r.refused (some_refused rs) none in
       elim (first_or_later line lines found.0 found.1) [
         | inl e ↦
             let own : replies.answers line found.2 true = subst (λ (l : List ℕ). replies.answers l found.2 true) (sym e) found.3 in

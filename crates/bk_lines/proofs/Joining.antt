@@ -1,18 +1,12 @@
 -- Lines that are entered one after another: the first and then the others, and lines of which the same fronts are kept.
-use Rattle.std.proofs.Common.{◌≡◌, ℕ, ◌+◌, Bool, ◌||◌, List, [], ◌∷◌, ◌++◌, length, map, Option, Some, None, sym, ap, ◌∙◌, subst, arith}
-use Rattle.std.specs.Io.KnownBytes.{Appends}
-use Rattle.std.proofs.lemmas.List.{append-nil, length-map}
+use Rattle.std.proofs.Common.{◌≡◌, ℕ, ◌+◌, Bool, ◌||◌, List, [], ◌∷◌, ◌++◌, length, map, Option, sym, ap, ◌∙◌, subst, arith}
+use Rattle.std.proofs.lemmas.List.{length-map}
 use Rattle.std.proofs.lemmas.Grind.{flat_map-append}
 use Rattle.std.proofs.lemmas.List.Folds.{list_any-append}
 use Rattle.bk_ports.proofs.KnownSteps.{appends_more}
 use Rattle.bk_lines.specs.Lines.{kept_front}
 use Rattle.bk_lines.specs.Reply.{Reply, reply_text, is_refused, text_of, some_refused}
 use Rattle.bk_lines.specs.Entering.{AreAllEntered, AreEntered, Entering}
-
--- known bytes that stay grow by nothing
-pub appends_nothing : (w : Option (List ℕ)) → Appends w w []
-appends_nothing None = tt
-appends_nothing (Some xs) = sym (append-nil xs)
 
 -- lines of which the same fronts are kept are as many
 pub fronts_many : (xs ys : List (List ℕ)) → map kept_front xs ≡ map kept_front ys → length xs ≡ length ys

@@ -2,13 +2,13 @@
 use Rattle.std.proofs.Common.{ℕ, Bool, List, [], ◌∷◌, Option, sym, subst}
 use Rattle.std.specs.Io.KnownBytes.{Appends}
 use Rattle.std.proofs.lemmas.List.{append-nil}
+use Rattle.std.proofs.KnownBytes.{Appends-nil}
 use Rattle.bk_ports.specs.Causes.{AppendsPrefix}
 use Rattle.bk_lines.specs.Answer.{IsWritten, IsBegun}
-use Rattle.bk_lines.proofs.Joining.{appends_nothing}
 
 module _ (answers : List (List ℕ) → Bool → Type 0) (refused : Bool) where
   pub writes_none : (w : Option (List ℕ)) → answers [] refused → IsWritten answers w w refused
-  writes_none w h = record { pieces = []; answer = h; written = appends_nothing w }
+  writes_none w h = record { pieces = []; answer = h; written = Appends-nil w }
 
   pub writes_one : (piece : List ℕ) (a b : Option (List ℕ)) → answers (piece ∷ []) refused → Appends a b piece → IsWritten answers a b refused
   writes_one piece a b h written = record {

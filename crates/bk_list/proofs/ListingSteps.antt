@@ -1,8 +1,8 @@
 -- A listing, line by line: what stands written after so many entries, and after the last line.
-use Rattle.std.specs.Prelude.{OnErr, Option, Result, flat_map}
+use Rattle.std.specs.Prelude.{Option, flat_map}
 use Rattle.std.specs.Io.KnownBytes.{Appends}
 use Rattle.std.proofs.KnownBytes.{Appends-nil, Appends-trans}
-use Rattle.std.proofs.Common.{Err, List, None, Ok, Some, [], ap, append-nil, arith, inl, inr, length, refl, subst, sym, ℕ, ◌++◌, ◌+◌, ◌<◌, ◌^◌, ◌∙◌}
+use Rattle.std.proofs.Common.{List, None, Some, [], ap, append-nil, arith, inl, inr, length, refl, subst, sym, ℕ, ◌++◌, ◌+◌, ◌<◌, ◌^◌, ◌∙◌}
 use Rattle.std.proofs.Common.{◌∷◌, ◌≡◌, ◌≤◌, ◌⊎◌}
 use Rattle.std.proofs.lemmas.Grind.{flat_map-append}
 use Rattle.std.proofs.lemmas.List.{length-append}
@@ -26,18 +26,8 @@ use Rattle.bk_list.specs.Writing.{AreEndedBy, BeginsListing, HasEntries, IsNext,
 use Rattle.bk_list.specs.declared.entries.Next.{Next}
 use Rattle.bk_list.specs.declared.entries.Next.TheVariants.{Member, Nothing}
 
--- what comes next is taken
-pub taken : (n : ℕ) (class : Class) (cursor : Word) (t : Tiling) (w : Word) → IsNextMember n class cursor t w
-    → TakesNext n class cursor (record { tiling = t; word = w })
-taken n class cursor t w next = record { entry = record { member = next.member; word = next.word_is }; after = next.after; least = next.least }
-
 pub word_some : (n : ℕ) (class : Class) (cursor : Word) (t : Tiling) (w : Word) → IsNextMember n class cursor t w → 0 < length w
 word_some n class cursor t w next = ((tiling_word_is_complete t w (next.member).tiling next.word_is).0).some
-
--- what holds of a failure holds of this result, where it is one
-pub on_err : {A E : Type 0} {P : Type 0} (r : Result A E) → P → OnErr r P
-on_err (Ok a) p = tt
-on_err (Err e) p = p
 
 -- a walk of an order and a class, seen as one of these
 pub seen_so : (w : WalkState) (n : ℕ) (class : Class) → w.order ≡ n → w.class ≡ class
@@ -112,7 +102,7 @@ lines_more entries e = flat_map-append line_of entries (e ∷ []) ∙ ap (λ l. 
 module _ (n : ℕ) (class : Class) (start cursor : Word) (limit : Option ℕ) (listed : ℕ) (a b : Option (List ℕ))
     (s : IsListed n class start cursor limit listed a b) (not : limit ≡ Some listed → ⊥) where
   pub first_then : (e : Entry) → TakesNext n class cursor e → AreFirst n class start (s.entries ++ e ∷ [])
-  first_then e t = first_more n class start s.entries e s.first t.entry (subst (Follows e.word) s.at t.after)
+  first_then e t = first_more n class start s.entries e s.first (record { member = t.member; word = t.word_is }) (subst (Follows e.word) s.at t.after)
       (λ f is h. t.least f is (subst (Follows f.word) (sym s.at) h))
 
   pub within_then : (e : Entry) → IsWithinLimit limit (s.entries ++ e ∷ [])

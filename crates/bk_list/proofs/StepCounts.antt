@@ -2,15 +2,15 @@
 use Rattle.std.specs.Prelude.{Option, flat_map}
 use Rattle.std.specs.Io.KnownBytes.{Appends}
 use Rattle.std.proofs.KnownBytes.{Appends-trans}
-use Rattle.std.proofs.Common.{List, None, Some, [], arith, length, subst, sym, take, ℕ, ◌*◌, ◌++◌, ◌+◌, ◌-◌, ◌∙◌, ◌∷◌, ◌≡◌, ◌≤◌}
+use Rattle.std.proofs.Common.{List, None, Some, [], arith, length, subst, sym, take, ℕ, ◌*◌, ◌++◌, ◌+◌, ◌-◌, ◌∙◌, ◌∷◌, ◌≡◌}
 use Rattle.std.proofs.lemmas.List.{length-append}
 use Rattle.bk_ports.specs.Causes.{AppendsPrefix}
 use Rattle.bk_word.proofs.FollowLaws.{not_itself}
 use Rattle.bk_word.proofs.WordOrder.{follows_trans}
 use Rattle.bk_word.specs.Word.{Follows, Word}
 use Rattle.bk_word.specs.declared.Class.{Class}
-use Rattle.bk_tree.proofs.TreeCounts.{at_least_adds}
-use Rattle.bk_tree.specs.Tree.{HasAtLeast, IsAtMostTree, IsNotAfter}
+use Rattle.bk_tree.proofs.TreeCounts.{at_least_adds, at_least_fewer}
+use Rattle.bk_tree.specs.Tree.{IsAtMostTree, IsNotAfter}
 use Rattle.bk_report.specs.Listings.{last_line}
 use Rattle.bk_report.specs.declared.listing.Last.{Last}
 use Rattle.bk_report.specs.declared.listing.Last.TheVariants.{End, Limit}
@@ -24,11 +24,6 @@ use Rattle.bk_list.specs.Writing.{IsNext, IsNextBegun}
 use Rattle.bk_list.specs.declared.entries.Next.{Next}
 use Rattle.bk_list.specs.declared.entries.Next.TheVariants.{Member, Nothing}
 
--- at least as many are at least fewer
-fewer : (n : ℕ) (cursor : Word) (bound : Option Word) (a b : ℕ) → b ≤ a → HasAtLeast n cursor bound a → HasAtLeast n cursor bound b
-fewer n cursor bound a b less h =
-    record { words = h.words; each = h.each; ascending = h.ascending; count = omega (arith, h.count, less) }
-
 -- before the first call
 pub no_steps : (n : ℕ) (start : Word) (steps : ℕ) → IsAtMostTreeAnd n start (Some start) 0 (steps - steps)
 no_steps n start steps = record { words = []; each = tt; ascending = tt; count = omega arith }
@@ -38,7 +33,7 @@ pub one_call_more : (n : ℕ) (start between : Word) (bound : Option Word) (call
     → IsAtMostTreeAnd n start (Some between) calls (mid - first) → IsAtMostTree n between bound (last - mid)
     → IsAtMostTreeAnd n start bound (calls + 1) (last - first)
 one_call_more n start between bound calls first mid last from to a b =
-    fewer n start bound (((mid - first) - 16 * calls) + ((last - mid) - 16)) ((last - first) - 16 * (calls + 1)) (omega arith)
+    at_least_fewer n start bound (((mid - first) - 16 * calls) + ((last - mid) - 16)) ((last - first) - 16 * (calls + 1)) (omega arith)
     (at_least_adds n start between bound ((mid - first) - 16 * calls) ((last - mid) - 16) from to a b)
 
 -- the steps of one call, by another name of the order and of what came

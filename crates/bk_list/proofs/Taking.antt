@@ -1,12 +1,11 @@
 -- The first members after a cursor, one more at a time, up to the end of the listing.
 use Rattle.std.specs.List.{AllByRecursion}
-use Rattle.std.specs.Ordering.{ordering_reverse}
 use Rattle.std.specs.declared.cmp.Ordering.{Ordering}
 use Rattle.std.specs.declared.cmp.Ordering.TheVariants.{Equal, Greater, Less}
-use Rattle.std.proofs.Common.{Contains, List, [], ap, arith, inl, inr, refl, zero, ℕ, ◌++◌, ◌∙◌, ◌∷◌, ◌≡◌, ◌⊎◌}
-use Rattle.bk_word.proofs.WordOrder.{word_total}
+use Rattle.std.proofs.Common.{Contains, List, [], arith, inl, inr, refl, zero, ℕ, ◌++◌, ◌∷◌, ◌≡◌, ◌⊎◌}
 use Rattle.bk_word.specs.Word.{Follows, Word, word_cmp}
 use Rattle.bk_word.specs.declared.Class.{Class}
+use Rattle.bk_word.proofs.FollowLaws.{turned}
 use Rattle.bk_tree.proofs.Places.{word_same}
 use Rattle.bk_catalogue.specs.Catalogue.{Entry, IsEntry}
 use Rattle.bk_list.proofs.Continuing.{both, first_or_later}
@@ -21,13 +20,6 @@ first_none n class cursor = record { each = tt; after = tt; ascending = tt; none
 pub last_word : (cursor : Word) (entries : List Entry) (e : Entry) → cursor_after cursor (entries ++ e ∷ []) ≡ e.word
 last_word cursor [] e = refl
 last_word cursor (f ∷ entries) e = last_word f.word entries e
-
-ordering_turned : (r : Ordering) → r ≡ Greater → ordering_reverse r ≡ Less
-ordering_turned r e = ap ordering_reverse e
-
--- the one word is before the other where that one is greater
-turned : (v w : Word) → word_cmp v w ≡ Greater → Follows v w
-turned v w e = word_total.antisymm w v ∙ ordering_turned (word_cmp v w) e
 
 -- the least member after a cursor is the first one
 module _ (n : ℕ) (class : Class) (cursor : Word) (e : Entry) (is : IsEntry n class e) (after : Follows e.word cursor)

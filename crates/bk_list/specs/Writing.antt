@@ -4,13 +4,14 @@
 use Rattle.std.specs.Prelude.{List, Option, flat_map, length, ℕ, ◌≡◌, ◌⊎◌}
 use Rattle.std.specs.Io.KnownBytes.{Appends}
 use Rattle.bk_ports.specs.Causes.{AppendsPrefix}
-use Rattle.bk_word.specs.Word.{Follows, Word}
+use Rattle.bk_word.specs.Word.{Word}
 use Rattle.bk_word.specs.declared.Class.{Class}
-use Rattle.bk_catalogue.specs.Catalogue.{Entry, IsEntry}
+use Rattle.bk_catalogue.specs.Catalogue.{Entry}
 use Rattle.bk_report.specs.declared.listing.Last.{Last}
 use Rattle.bk_report.specs.declared.listing.Last.TheVariants.{End, Limit, Wide}
 use Rattle.bk_list.specs.Listing.{AreFirst, AtEnd, AtLimit, Ending, EndsBy, IsListing, IsWithinLimit, line_of, name_of}
-use Rattle.bk_catalogue.specs.Following.{HasNoneAfter, HasNoneBetween}
+use Rattle.bk_catalogue.specs.Following.{HasNoneAfter}
+use Rattle.bk_walk.specs.Walking.{IsNextMember}
 use Rattle.bk_list.specs.declared.entries.Next.{Next}
 use Rattle.bk_list.specs.declared.entries.Next.TheVariants.{Member, Nothing}
 
@@ -40,11 +41,9 @@ pub record BeginsListing (n : ℕ) (class : Class) (cursor : Word) (limit : Opti
   pub front : IsFront n class cursor limit bytes
   pub begins : AppendsPrefix written written_after bytes
 
--- the least member after the cursor, of which the one call wrote what is said
-pub record TakesNext (n : ℕ) (class : Class) (cursor : Word) (e : Entry) : Type 0 where
-  pub entry : IsEntry n class e
-  pub after : Follows e.word cursor
-  pub least : HasNoneBetween n class cursor e.word
+-- the entry of the least member after the cursor
+abbrev pub TakesNext : ℕ → Class → Word → Entry → Type 0
+TakesNext n class cursor e = IsNextMember n class cursor e.tiling e.word
 
 -- one member more was listed; or nothing was written, because there is none
 abbrev pub IsNext : ℕ → Class → Word → Word → Option (List ℕ) → Option (List ℕ) → Next → Type 0

@@ -58,10 +58,7 @@ fn is_reached(limit: Option<u64>, listed: u64) -> bool
     ensures yes { IsTrue result → limit ≡ Some listed }
     ensures no { result ≡ false → limit ≡ Some listed → ⊥ }
 {
-    match limit {
-        Some(most) => most == listed,
-        None => false,
-    }
+    matches!(limit, Some(most) if most == listed)
 }
 
 // Writes the entry of the next member, by one call.

@@ -14,18 +14,14 @@ fn added(alike: &mut Alike, line: u64, tiling: &Tiling) -> Result<(), AddFault> 
     alike.add(line, tiling)
 }
 
-// How many items there are, and how many groups.
-fn counts(alike: &Alike) -> (usize, usize) {
-    (alike.len(), alike.groups())
+// Whether there are so many items, and so many groups.
+fn are_counts(alike: &Alike, items: usize, groups: usize) -> bool {
+    alike.len() == items && alike.groups() == groups
 }
 
-// The size of a group and its members.
-fn group(alike: &Alike, g: usize) -> Option<((u64, u64), &[u32])> {
-    if g < alike.groups() {
-        Some((alike.size(g), alike.members(g)))
-    } else {
-        None
-    }
+// Whether a group is there, with this size and these members.
+fn is_group(alike: &Alike, g: usize, size: (u64, u64), members: &[u32]) -> bool {
+    g < alike.groups() && alike.size(g) == size && alike.members(g) == members
 }
 
 #[test]
@@ -42,12 +38,12 @@ fn items_are_grouped_by_size(rt: HostRuntime) -> Result<(), Fail> {
     ];
     let one = [Square { x: 0, y: 0, s: 1 }];
     let mut alike = Alike::new(rt.alloc());
-    assert_eq!(rt; added(&mut alike, 1, &tiling(3, 2, &lying)?), Ok(()));
-    assert_eq!(rt; added(&mut alike, 2, &tiling(1, 1, &one)?), Ok(()));
-    assert_eq!(rt; added(&mut alike, 4, &tiling(4, 6, &standing)?), Ok(()));
-    assert_eq!(rt; counts(&alike), (3, 2));
-    assert_eq!(rt; group(&alike, 0), Some(((3, 2), [0, 2].as_slice())));
-    assert_eq!(rt; group(&alike, 1), Some(((1, 1), [1].as_slice())));
+    assert!(rt; added(&mut alike, 1, &tiling(3, 2, &lying)?) == Ok(()));
+    assert!(rt; added(&mut alike, 2, &tiling(1, 1, &one)?) == Ok(()));
+    assert!(rt; added(&mut alike, 4, &tiling(4, 6, &standing)?) == Ok(()));
+    assert!(rt; are_counts(&alike, 3, 2));
+    assert!(rt; is_group(&alike, 0, (3, 2), &[0, 2]));
+    assert!(rt; is_group(&alike, 1, (1, 1), &[1]));
     Ok(())
 }
 
@@ -56,9 +52,9 @@ fn no_more_than_16384_items_are_kept(rt: HostRuntime) -> Result<(), Fail> {
     let one = tiling(1, 1, &[Square { x: 0, y: 0, s: 1 }])?;
     let mut alike = Alike::new(rt.alloc());
     for line in 1..16_385 {
-        assert_eq!(rt; added(&mut alike, line, &one), Ok(()));
+        assert!(rt; added(&mut alike, line, &one) == Ok(()));
     }
-    assert_eq!(rt; added(&mut alike, 16_385, &one), Err(AddFault::Full));
-    assert_eq!(rt; counts(&alike), (16_384, 1));
+    assert!(rt; added(&mut alike, 16_385, &one) == Err(AddFault::Full));
+    assert!(rt; are_counts(&alike, 16_384, 1));
     Ok(())
 }

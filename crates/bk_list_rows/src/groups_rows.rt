@@ -1,38 +1,27 @@
 //! Rows of `bk_groups`.
 
-use arrayvec::ArrayVec;
 use bk_ask::Kind;
 use bk_groups::{Wanted, list_lines};
 use bk_lines::Ended;
 use bk_ports::{MemSink, MemSource};
 use std::alloc::{AllocError, Global};
-use std::process::Abort;
 use std::test::Fail;
 
 const PERFECT: Wanted = Wanted::Pairs(Kind::Perfect);
 
 const ANY: Wanted = Wanted::Pairs(Kind::Any);
 
-// How a list ends, and what is written.
-fn listed(alloc: Global, wanted: Wanted, list: &[u8]) -> (Ended, ArrayVec<u8, 1000>) {
-    let mut source = MemSource::new(list, 50, &[]);
-    let mut room = [0; 1000];
-    let mut out = MemSink::new(&mut room, &[]);
-    let ended = list_lines(alloc, wanted, &mut source, &mut out);
-    let mut text = ArrayVec::new();
-    let _ = text.try_extend_from_slice(out.written());
-    (ended, text)
-}
-
 // What is wanted of a list, how it ends and what is written.
 type Row = (Wanted, &'static str, Ended, &'static str);
 
-// Asserts that a list ends so and writes this.
-fn expect_listed(rt: &impl Abort, alloc: Global, row: Row) {
+// Whether a list ends so and writes this.
+fn is_listed(alloc: Global, row: &Row) -> bool {
     let (wanted, list, ended, report) = row;
-    let (got, text) = listed(alloc, wanted, list.as_bytes());
-    assert_eq!(rt; text.as_slice(), report.as_bytes(), "{report}");
-    assert_eq!(rt; got, ended, "{report}");
+    let mut source = MemSource::new(list.as_bytes(), 50, &[]);
+    let mut room = [0; 1000];
+    let mut out = MemSink::new(&mut room, &[]);
+    list_lines(alloc, *wanted, &mut source, &mut out) == *ended
+        && out.written() == report.as_bytes()
 }
 
 fn rows_of_two_sizes() -> &'static [(Wanted, &'static str)] {
@@ -56,7 +45,7 @@ fn two_sizes_by_turns(rt: HostRuntime) {
     let list = "[2,1][1]\n[1,1]\n[2][1,1]\n[1][1]\n[1,2][1]";
     for (wanted, report) in rows_of_two_sizes() {
         let row = (*wanted, list, Ended::NoneRefused, *report);
-        expect_listed(&rt, rt.alloc(), row);
+        assert!(rt; is_listed(rt.alloc(), &row), "{report}");
     }
 }
 
@@ -112,7 +101,8 @@ fn rows_of_perfect_rectangles() -> &'static [Row] {
 #[test]
 fn perfect_rectangles(rt: HostRuntime) {
     for row in rows_of_perfect_rectangles() {
-        expect_listed(&rt, rt.alloc(), *row);
+        let report = row.3;
+        assert!(rt; is_listed(rt.alloc(), row), "{report}");
     }
 }
 
@@ -135,20 +125,14 @@ fn list_of_strips(alloc: Global, strips: [(usize, usize); 2]) -> Result<Vec<u8>,
     Ok(list)
 }
 
-// Asserts that what is written of two strips begins and ends so.
-fn expect_strips(
-    rt: &impl Abort,
-    alloc: Global,
-    strips: [(usize, usize); 2],
-    begin: &str,
-    end: &str,
-) -> Result<(), AllocError> {
-    let list = list_of_strips(alloc, strips)?;
-    let (ended, text) = listed(alloc, ANY, list.as_slice());
-    assert_eq!(rt; ended, Ended::NoneRefused, "{end}");
-    assert!(rt; text.as_slice().starts_with(begin.as_bytes()), "{end}");
-    assert!(rt; text.as_slice().ends_with(end.as_bytes()), "{end}");
-    Ok(())
+// Whether no line of two strips is refused, and what is written of them begins and ends so.
+fn strips_are_listed(alloc: Global, list: &[u8], begin: &str, end: &str) -> bool {
+    let mut source = MemSource::new(list, 50, &[]);
+    let mut room = [0; 1000];
+    let mut out = MemSink::new(&mut room, &[]);
+    list_lines(alloc, ANY, &mut source, &mut out) == Ended::NoneRefused
+        && out.written().starts_with(begin.as_bytes())
+        && out.written().ends_with(end.as_bytes())
 }
 
 // How many squares of side 2 and how many rows two strips have, and how what is written begins and ends.
@@ -171,7 +155,8 @@ fn rows_of_strips() -> &'static [Strips] {
 #[test]
 fn strips_of_198_and_199_squares(rt: HostRuntime) -> Result<(), Fail> {
     for (strips, begin, end) in rows_of_strips() {
-        expect_strips(&rt, rt.alloc(), *strips, begin, end)?;
+        let list = list_of_strips(rt.alloc(), *strips)?;
+        assert!(rt; strips_are_listed(rt.alloc(), &list, begin, end), "{end}");
     }
     Ok(())
 }

@@ -72,38 +72,44 @@ fn fed(verifier: &mut Verifier, line: u64, tiling: &Tiling) -> Option<Fed> {
     verifier.feed(line, tiling).ok()
 }
 
-// The sides of the next member that is missing, by its code.
-fn next_sides<L: Ledger>(
-    rt: &impl Abort,
-    rest: &mut Rest,
-    steps: &mut Steps<L>,
-) -> Option<ArrayVec<u64, MOST_SQUARES>> {
-    match rest.advance(steps)? {
-        Ok(entry) => {
-            let mut sides = ArrayVec::new();
-            let _ = sides.try_extend_from_slice(flat(&entry.code));
-            Some(sides)
-        }
-        Err(_) => panic!(rt; "the walk is cut short"),
+// Whether the next member that is missing has these sides.
+fn lacks<L: Ledger>(rest: &mut Rest, sides: &[u64], steps: &mut Steps<L>) -> bool {
+    match rest.advance(steps) {
+        Some(Ok(entry)) => flat(&entry.code) == sides,
+        _ => false,
     }
+}
+
+// Whether no more member is missing.
+fn is_over<L: Ledger>(rest: &mut Rest, steps: &mut Steps<L>) -> bool {
+    rest.advance(steps).is_none()
 }
 
 // Feeds a list of order 9.
 fn feed_9(rt: &impl Abort, verifier: &mut Verifier) -> Result<(), Fail> {
     let first = tiling(33, 32, &NINE)?;
     let turned = tiling(64, 66, &TURNED)?;
-    assert_eq!(rt; fed(verifier, 1, &first), Some(Fed::New));
-    assert_eq!(rt; fed(verifier, 4, &turned), Some(Fed::Repeats { line: 1 }));
-    assert_eq!(rt; fed(verifier, 5, &first), Some(Fed::Repeats { line: 1 }));
-    for foreign in [tiling(1, 1, &[(0, 0, 1)])?, tiling(15, 11, &IMPERFECT)?] {
-        assert_eq!(rt; fed(verifier, 6, &foreign), Some(Fed::Foreign));
-    }
+    assert!(rt; fed(verifier, 1, &first) == Some(Fed::New));
+    assert!(rt; fed(verifier, 4, &turned) == Some(Fed::Repeats { line: 1 }));
+    assert!(rt; fed(verifier, 5, &first) == Some(Fed::Repeats { line: 1 }));
     Ok(())
 }
 
-// How many members were passed.
-fn members(rest: &Rest) -> u64 {
-    rest.members()
+// Feeds it two that are foreign.
+fn feed_foreign(rt: &impl Abort, verifier: &mut Verifier) -> Result<(), Fail> {
+    let one = tiling(1, 1, &[(0, 0, 1)])?;
+    assert!(rt; fed(verifier, 6, &one) == Some(Fed::Foreign));
+    let imperfect = tiling(15, 11, &IMPERFECT)?;
+    assert!(rt; fed(verifier, 6, &imperfect) == Some(Fed::Foreign));
+    Ok(())
+}
+
+// Whether the rest of a list lacks the second member alone, and passes two.
+fn lacks_second<L: Ledger>(rest: &mut Rest, steps: &mut Steps<L>) -> bool {
+    rest.members() == 0
+        && lacks(rest, &[36, 33, 5, 28, 25, 9, 2, 7, 16], steps)
+        && is_over(rest, steps)
+        && rest.members() == 2
 }
 
 // Feeds a list of order 9, and names what it lacks.
@@ -114,18 +120,10 @@ fn list_of_9<L: Ledger>(rt: &impl Abort, alloc: Global, blank: Blank) -> Result<
 {
     let mut verifier = Verifier::new(alloc, 9);
     feed_9(rt, &mut verifier)?;
+    feed_foreign(rt, &mut verifier)?;
     let mut steps: Steps<L> = Steps::new(blank);
     let mut rest = verifier.finish();
-    assert_eq!(rt; members(&rest), 0);
-    let Some(sides) = next_sides(rt, &mut rest, &mut steps) else {
-        panic!(rt; "a member is missing");
-    };
-    assert_eq!(rt;
-        sides.as_slice(),
-        [36, 33, 5, 28, 25, 9, 2, 7, 16].as_slice()
-    );
-    assert!(rt; next_sides(rt, &mut rest, &mut steps).is_none());
-    assert_eq!(rt; members(&rest), 2);
+    assert!(rt; lacks_second(&mut rest, &mut steps));
     Ok(())
 }
 

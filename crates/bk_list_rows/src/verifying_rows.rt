@@ -2,46 +2,25 @@
 
 ghost use Rattle.std.specs.Prelude.{◌<◌, ◌≤◌};
 
-use arrayvec::ArrayVec;
 use bk_ports::{MemSink, MemSource};
 use bk_verifying::{Verdict, verify};
 use std::alloc::Global;
-use std::process::Abort;
-
-// How a list that is held against the catalogue of an order ends, and what is written. This read and this write fail.
-fn verified(
-    alloc: Global,
-    order: u8,
-    list: &str,
-    read: u64,
-    write: (u64, usize),
-) -> (Verdict, ArrayVec<u8, 1000>)
-    requires least { 2 ≤ order }
-    requires most { order ≤ 16 }
-{
-    let reads = [read];
-    let mut source = MemSource::new(list.as_bytes(), 50, &reads);
-    let mut room = [0; 1000];
-    let writes = [write];
-    let mut out = MemSink::new(&mut room, &writes);
-    let verdict = verify(alloc, order, &mut source, &mut out);
-    let mut text = ArrayVec::new();
-    let _ = text.try_extend_from_slice(out.written());
-    (verdict, text)
-}
 
 // A list, the read and the write that fail, how it ends and what is written.
 type Row = (&'static str, u64, (u64, usize), Verdict, &'static str);
 
-// Asserts them of a list that is held against the catalogue of an order.
-fn expect_verified(rt: &impl Abort, alloc: Global, order: u8, row: Row)
+// Whether a list that is held against the catalogue of an order, with a read and a write that fail, ends so and writes this.
+fn is_verified(alloc: Global, order: u8, row: &Row) -> bool
     requires least { 2 ≤ order }
     requires most { order ≤ 16 }
 {
     let (list, read, write, verdict, report) = row;
-    let (got, text) = verified(alloc, order, list, read, write);
-    assert_eq!(rt; text.as_slice(), report.as_bytes(), "{report}");
-    assert_eq!(rt; got, verdict, "{report}");
+    let reads = [*read];
+    let mut source = MemSource::new(list.as_bytes(), 50, &reads);
+    let mut room = [0; 1000];
+    let writes = [*write];
+    let mut out = MemSink::new(&mut room, &writes);
+    verify(alloc, order, &mut source, &mut out) == *verdict && out.written() == report.as_bytes()
 }
 
 // The number of no read, and where no write fails.
@@ -89,7 +68,7 @@ fn lists_and_reports_of_order_9() -> &'static [(&'static str, Verdict, &'static 
 fn lists_of_order_9(rt: HostRuntime) {
     for (list, verdict, report) in lists_and_reports_of_order_9() {
         let row = (*list, NO_READ, NO_WRITE, *verdict, *report);
-        expect_verified(&rt, rt.alloc(), 9, row);
+        assert!(rt; is_verified(rt.alloc(), 9, &row), "{report}");
     }
 }
 
@@ -120,9 +99,9 @@ fn other_orders(rt: HostRuntime) {
         Verdict::Differs,
         REPORT_OF_10,
     );
-    expect_verified(&rt, rt.alloc(), 10, ten);
+    assert!(rt; is_verified(rt.alloc(), 10, &ten));
     let eight = (LIST_OF_8, NO_READ, NO_WRITE, Verdict::Differs, REPORT_OF_8);
-    expect_verified(&rt, rt.alloc(), 8, eight);
+    assert!(rt; is_verified(rt.alloc(), 8, &eight));
 }
 
 const FAILED: Verdict = Verdict::WriteFailed;
@@ -160,6 +139,6 @@ fn faults(rt: HostRuntime) {
     let list = "[1]\n[18,15][7,8][14,4][10,1][9]\n[1,1]\n";
     for (read, write, verdict, report) in rows_of_faults() {
         let row = (list, *read, *write, *verdict, *report);
-        expect_verified(&rt, rt.alloc(), 9, row);
+        assert!(rt; is_verified(rt.alloc(), 9, &row), "{report}");
     }
 }

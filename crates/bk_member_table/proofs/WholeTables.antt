@@ -1,4 +1,4 @@
--- A table that a search has filled is whole, since each member has a net word, which the search has met.
+-- A table that a search has filled is whole, since each member has a net word, which the search has met; and what such a table rules out.
 use Rattle.std.proofs.Common.{List, Some, [], ap, append_assoc, arith, inl, inr, length, length-append, map, refl, slice_get, slice_index_or}
 use Rattle.std.proofs.Common.{subst, suc, sym, take, zero, ℕ, ◌%◌, ◌++◌, ◌+◌, ◌-◌, ◌/◌, ◌<◌, ◌∙◌, ◌∷◌, ◌≡◌, ◌≤◌, ◌⊎◌}
 use Rattle.std.proofs.lemmas.Bool.{cases_lt}
@@ -8,9 +8,9 @@ use Rattle.bk_word.specs.Play.{IsComplete, IsLegal}
 use Rattle.bk_word.specs.Word.{Move, Word, order_of, sign_place}
 use Rattle.bk_word.specs.declared.Class.{Class}
 use Rattle.bk_word.specs.declared.Sign.{Sign}
-use Rattle.bk_lay.proofs.WordPlay.{tiling_word_is_complete}
 use Rattle.bk_lay.specs.TilingWord.{IsWordOf}
 use Rattle.bk_catalogue.specs.Catalogue.{Entry, IsEntry}
+use Rattle.bk_catalogue.proofs.OneEntry.{entry_complete}
 use Rattle.bk_barren.specs.Cuts.{IsBarren}
 use Rattle.bk_net_word.proofs.NetWords.{a_simple_tiling_has_a_net_word}
 use Rattle.bk_net_word.specs.NetWord.{IsNetBarren, IsNetWordOf}
@@ -25,8 +25,8 @@ use Rattle.bk_table.specs.Span.{IsWithin, begun_digits, span_from, span_of}
 use Rattle.bk_table.specs.TopLines.{first_count}
 use Rattle.bk_table.specs.declared.span.Span.{Span}
 use Rattle.bk_table.proofs.Spans.{begun_fit, begun_move, moves_that_go_on, words_that_go_on}
-use Rattle.bk_member_table.specs.Finding.{Finding, HasMet, HasNone}
-use Rattle.bk_member_table.specs.Members.{BeginsBy, IsBarrenBy, IsWhole, Members, Tells}
+use Rattle.bk_member_table.specs.Finding.{Finding, HasMet, HasNone, IsFree}
+use Rattle.bk_member_table.specs.Members.{BeginsBy, IsBarrenBy, IsLeastFree, IsWhole, Members, Tells}
 
 -- a word with a move has a first one
 abbrev pub HasFirst : Word → Type 0
@@ -35,9 +35,6 @@ HasFirst w = (m : Move) × (slice_get w 0 ≡ Some m)
 pub first_of : (w : Word) → 0 < length w → HasFirst w
 first_of [] some = absurd (omega arith)
 first_of (m ∷ w) some = (m, refl)
-
-entry_complete : (n : ℕ) (class : Class) (e : Entry) → IsEntry n class e → IsComplete e.word × (order_of e.word ≡ n)
-entry_complete n class e is = let c = tiling_word_is_complete e.tiling e.word (is.member).tiling is.word in (c.0, c.1 ∙ (is.member).order)
 
 -- a net word of a member is one that the search looks for
 sought : (n : ℕ) (class : Class) (e : Entry) (w : Word) → IsEntry n class e → IsNetWordOf e.tiling w → IsSought n w
@@ -104,14 +101,15 @@ touched n count from second least class e w few is net by above tells most unkno
             b.under net.signed counts (omega (arith, most, b.hangs))
 
 -- the table is whole
-pub whole_table : (n count from second least : ℕ) (s : Finding) → 3 ≤ n → n ≤ 16 → s.from ≡ from → TellsSecond count from second
+pub whole_table : (n count from second least : ℕ) (s : Finding) → 3 ≤ n → n ≤ 16 → s.order ≡ n → s.from ≡ from → TellsSecond count from second
     → least ≤ second + 1 → (second ≡ 0 → least ≡ 0) → ((w : Word) → IsSought n w → IsTouchedUnderFirst least w → BeginsBy count w → HasMet s w)
-    → IsWhole (record { order = n; count = count; found = s })
-whole_table n count from second least s many few same tells most unknown all e is by above =
+    → IsWhole (record { count = count; found = s })
+whole_table n count from second least s many few order_is same tells most unknown all e own by above =
+    let is = subst (λ k. IsEntry k s.class e) order_is own in
     let net = a_simple_tiling_has_a_net_word e.tiling (is.member).tiling (is.member).simple (subst (λ k. 3 ≤ k) (sym (is.member).order) many) in
     all net.0 (sought n s.class e net.0 is net.1)
     (touched n count from second least s.class e net.0 few is net.1 by (omega (arith, above, same)) tells most unknown)
-    (begins n count s.class e net.0 is net.1 by) n e is (net.1).signed above
+    (begins n count s.class e net.0 is net.1 by) e own (net.1).signed above
 
 -- ---- what a whole table rules out
 
@@ -124,14 +122,14 @@ none_within : (t : Members) (n : ℕ) (class : Class) (front rest : Word) (span 
     → (e : Entry) → IsEntry n class e → e.word ≡ front ++ rest → IsWithin span (packed e.word) → ⊥
 none_within t n class front rest span whole tells none e is split within = none e within (whole e own begins)
   where
-    own : IsEntry t.order t.found.class e
-    own = subst (λ k. IsEntry t.order k e) (sym tells.class_is) (subst (λ k. IsEntry k class e) (sym tells.order) is)
+    own : IsEntry t.found.order t.found.class e
+    own = subst (λ k. IsEntry t.found.order k e) (sym tells.class_is) (subst (λ k. IsEntry k class e) (sym tells.order) is)
 
     begins : BeginsBy t.count e.word
     begins = subst (BeginsBy t.count) (sym split) (begins_by_front t.count front rest tells.some tells.begins)
 
 -- so no word begins with moves whose span the table has none of
-pub ruled_out : (t : Members) (n : ℕ) (class : Class) (front : Word) → IsWhole t → t.order ≤ 16 → Tells t n class front
+pub ruled_out : (t : Members) (n : ℕ) (class : Class) (front : Word) → IsWhole t → t.found.order ≤ 16 → Tells t n class front
     → HasNone t.found (span_of front) → IsBarren n class front
 ruled_out t n class front whole few tells none e rest is split = none_within t n class front rest (span_of front) whole tells none e is split within
   where
@@ -143,7 +141,7 @@ ruled_out t n class front whole few tells none e rest is split = none_within t n
         (words_that_go_on front rest (subst IsLegal split ((complete).0).legal) (omega (arith, few, tells.order, (complete).1, ap order_of split)))
 
 -- nor goes on by a move that begins so
-pub ruled_out_by : (t : Members) (n : ℕ) (class : Class) (front : Word) (m : Move) (kept : ℕ) → IsWhole t → t.order ≤ 16 → Tells t n class front
+pub ruled_out_by : (t : Members) (n : ℕ) (class : Class) (front : Word) (m : Move) (kept : ℕ) → IsWhole t → t.found.order ≤ 16 → Tells t n class front
     → kept ≤ length m.signs
     → HasNone t.found (span_from (begun_digits front m.count (take kept m.signs))) → IsBarrenBy n class front m kept
 ruled_out_by t n class front m kept whole few tells within none = record { within = within; barren = barren }
@@ -209,3 +207,23 @@ pub narrowed_span : (front : Word) (count : ℕ) (xs signs : List Sign) (k : ℕ
 narrowed_span front count xs signs k d span same few is =
     is ∙ ap span_from (sym (narrowed_signs front count signs k (slice_index_or xs k d) (subst (λ l. k < length l) same few)
     (subst (λ l. slice_get l k ≡ Some (slice_index_or xs k d)) same (sign_at xs k d few))))
+
+-- ---- and with how many signs it does so first
+
+-- before a sign is tried: the span is that of the signs so far, and with fewer of them the table told nothing
+pub record IsNarrowedSoFar (s : Finding) (front : Word) (m : Move) (kept : ℕ) (span : Span) : Type 0 where
+  pub span_is : span ≡ span_from (begun_digits front m.count (take kept m.signs))
+  pub least : IsLeastFree s front m kept
+
+-- and after one more sign
+pub narrowed_more : (s : Finding) (front : Word) (m : Move) (kept : ℕ) (span next : Span) → IsNarrowedSoFar s front m kept span
+    → (IsFree s span → ⊥) → next ≡ span_from (begun_digits front m.count (take (kept + 1) m.signs)) → IsNarrowedSoFar s front m (kept + 1) next
+narrowed_more s front m kept span next so_far held is = record { span_is = is; least = least }
+  where
+    least : IsLeastFree s front m (kept + 1)
+    least k low free = cases (cases_lt k kept)
+      where
+        cases : (k < kept) ⊎ (kept ≤ k) → ⊥
+        cases (inl less) = so_far.least k less free
+        cases (inr more) = let same : k ≡ kept = omega (arith, low, more) in
+            held (subst (IsFree s) (ap (λ (n : ℕ). span_from (begun_digits front m.count (take n m.signs))) same ∙ sym so_far.span_is) free)

@@ -1,5 +1,5 @@
 -- What a search for members keeps of the words that it met.
-use Rattle.std.specs.Prelude.{ℕ, ◌≤◌}
+use Rattle.std.specs.Prelude.{Contains, ℕ, ◌≡◌, ◌≤◌}
 use Rattle.bk_tiling.specs.Tiling.{Tiling}
 use Rattle.bk_simple.specs.Simple.{IsSimple}
 use Rattle.bk_sym.specs.Canonical.{IsCanonical}
@@ -19,8 +19,9 @@ pub record Qualifies (class : Class) (t : Tiling) : Type 0 where
   pub of_class : IsOfClass class t
   pub canonical : IsCanonical t
 
--- the class that is looked for, the number from which words are kept, and what is kept
+-- the order and the class that are looked for, the number from which words are kept, and what is kept
 pub record Finding : Type 0 where
+  pub order : ℕ
   pub class : Class
   pub from : ℕ
   pub numbers : Numbers
@@ -29,13 +30,27 @@ pub record Finding : Type 0 where
 abbrev pub IsHeld : ℕ → Numbers → Tiling → Type 0
 IsHeld from numbers t = (w : Word) → IsWordOf t w → from ≤ packed w → Holds numbers (packed w)
 
--- what a search leaves as it is: the class, and the number from which words are kept
+-- the number is that of a member's word, and not below the one from which words are kept
+abbrev pub IsMembersNumber : Finding → ℕ → Type 0
+IsMembersNumber s x = (e : Entry) × IsEntry s.order s.class e × (packed e.word ≡ x) × (s.from ≤ x)
+
+-- all that are kept are such numbers
+abbrev pub HasOnlyMembers : Finding → Type 0
+HasOnlyMembers s = (x : ℕ) → Contains s.numbers.kept x → IsMembersNumber s x
+
+-- what holds of each search
+pub record IsFinder (s : Finding) : Type 0 where
+  pub few : s.order ≤ 16
+  pub only : HasOnlyMembers s
+
+-- what a search leaves as it is: the order and the class, and the number from which words are kept
 pub record Wanted : Type 0 where
+  pub order : ℕ
   pub class : Class
   pub from : ℕ
 
 abbrev pub wanted : Finding → Wanted
-wanted s = record { class = s.class; from = s.from }
+wanted s = record { order = s.order; class = s.class; from = s.from }
 
 -- the number of the entry's word is held, or the word comes before those that are kept
 abbrev pub HoldsEntry : Finding → Entry → Type 0
@@ -53,4 +68,4 @@ pub record IsFree (s : Finding) (span : Span) : Type 0 where
 
 -- the members of which this is a signed word are held
 abbrev pub HasMet : Finding → Word → Type 0
-HasMet s w = (n : ℕ) (e : Entry) → IsEntry n s.class e → IsSignedWordOf e.tiling w → HoldsEntry s e
+HasMet s w = (e : Entry) → IsEntry s.order s.class e → IsSignedWordOf e.tiling w → HoldsEntry s e

@@ -1,9 +1,9 @@
 //! The members whose signed words a search meets.
 
 ghost use Rattle.std.specs.Prelude.{IsTrue, Some, [], false, ℕ, ◌<◌, ◌≡◌, ◌≤◌};
-ghost use Rattle.bk_tiling.specs.Tiling.{IsTiling, Tiling as Tiled, order};
+ghost use Rattle.bk_tiling.specs.Tiling.{IsTiling, Tiling as Tiled};
 ghost use Rattle.bk_sym.specs.Canonical.{IsCanonical};
-ghost use Rattle.bk_catalogue.specs.Catalogue.{IsOfClass};
+ghost use Rattle.bk_catalogue.specs.Catalogue.{IsMember, IsOfClass};
 ghost use Rattle.bk_signed_word.specs.SignedWord.{IsSignedWordOf};
 ghost use Rattle.bk_word.specs.Play.{IsComplete};
 ghost use Rattle.bk_word.specs.Word.{Word as Moves, order_of};
@@ -11,45 +11,58 @@ ghost use Rattle.bk_lay.specs.TilingWord.{IsWordOf};
 ghost use Rattle.bk_table.specs.Kept.{Holds};
 ghost use Rattle.bk_table.specs.Packed.{packed};
 ghost use Rattle.bk_leaf.specs.Found.{IsFound, IsPlacementOf};
-ghost use Rattle.bk_member_table.specs.Finding.{HasNone, IsFree, IsHeld, Qualifies};
+ghost use Rattle.bk_member_table.specs.Finding.{HasNone, HasOnlyMembers, IsFree, IsHeld, wanted};
 
 use crate::judging::{is_allowed, qualifies};
 use bk_lay::word_of;
 use bk_leaf::{Placed, leaf};
 use bk_table::{Board, Leaves, Packed, Span, Table};
 use bk_tiling::Tiling;
-use bk_word::{Class, INLINE_ORDER};
+use bk_word::Class;
 use std::alloc::Global;
 use std::marker::Model;
 
-/// Puts the packed words of the members of a class into a table, from a number on, as a search meets their signed words. (Own.)
+/// Puts the packed words of the members of an order and a class into a table, from a number on, as a search meets their signed words, and no
+/// other numbers. (Own.)
 #[derive(Drop)]
 pub struct Finder<const N: usize> {
     alloc: Global,
+    order: u8,
     class: Class,
     from: u128,
     table: Table<N>,
 }
 
 impl<const N: usize> Model for Finder<N> {
-    ghost use Rattle.bk_member_table.specs.Finding.{Finding};
+    ghost use Rattle.bk_member_table.specs.Finding.{Finding, IsFinder};
 
     ghost Value = { Finding };
 
-    ghost view = { λ s. record { class = s.class; from = s.from; numbers = s.table } };
+    ghost view = { λ s. record { order = s.order; class = s.class; from = s.from; numbers = s.table } };
+
+    ghost invariant = { λ s. IsFinder (record { order = s.order; class = s.class; from = s.from; numbers = s.table }) };
 }
 
 impl<const N: usize> Finder<N> {
     /// One that has met no word.
-    pub fn new(alloc: Global, class: Class, from: u128) -> Finder<N>
-        ensures { result ≡ record { class = class; from = from; numbers = record { kept = []; cut = false } } }
+    pub fn new(alloc: Global, order: u8, class: Class, from: u128) -> Finder<N>
+        requires { order ≤ 16 }
+        ensures { result ≡ record { order = order; class = class; from = from; numbers = record { kept = []; cut = false } } }
     {
         Finder {
             alloc,
+            order,
             class,
             from,
             table: Table::new(),
         }
+    }
+
+    /// The order that is looked for.
+    pub fn order(&self) -> u8
+        ensures { result ≡ self.now.order }
+    {
+        self.order
     }
 
     /// The class that is looked for.
@@ -59,9 +72,10 @@ impl<const N: usize> Finder<N> {
         self.class
     }
 
-    /// The table.
+    /// The table, which keeps the numbers of members alone.
     pub fn table(&self) -> &Table<N>
-        ensures { result.now ≡ self.now.numbers }
+        ensures value { result.now ≡ self.now.numbers }
+        ensures only { HasOnlyMembers self.now }
     {
         &self.table
     }
@@ -79,10 +93,8 @@ impl<const N: usize> Finder<N> {
     // and without its room for a tiling.
     #[inline(never)]
     fn meet_placed(&mut self, placed: &Placed)
-        ensures class { self.new.class ≡ self.old.class }
-        ensures from { self.new.from ≡ self.old.from }
-        ensures put { (t : Tiled) → IsTiling t → Qualifies self.old.class t → order t ≤ 16 → IsPlacementOf t placed.now
-            → IsHeld self.old.from self.new.numbers t }
+        ensures fixed { wanted self.new ≡ wanted self.old }
+        ensures put { (t : Tiled) → IsMember self.old.order self.old.class t → IsPlacementOf t placed.now → IsHeld self.old.from self.new.numbers t }
         ensures kept { (x : ℕ) → Holds self.old.numbers x → Holds self.new.numbers x }
     {
         let squares = placed.squares.as_slice();
@@ -94,22 +106,19 @@ impl<const N: usize> Finder<N> {
 
     // Puts the word of a tiling into the table, where it is a member.
     fn meet_tiling(&mut self, tiling: &Tiling)
-        ensures class { self.new.class ≡ self.old.class }
-        ensures from { self.new.from ≡ self.old.from }
-        ensures put { Qualifies self.old.class tiling.now → order tiling.now ≤ 16 → IsHeld self.old.from self.new.numbers tiling.now }
+        ensures fixed { wanted self.new ≡ wanted self.old }
+        ensures put { IsMember self.old.order self.old.class tiling.now → IsHeld self.old.from self.new.numbers tiling.now }
         ensures kept { (x : ℕ) → Holds self.old.numbers x → Holds self.new.numbers x }
     {
-        if tiling.order() <= INLINE_ORDER && qualifies(tiling, self.class) {
+        if tiling.order() == usize::from(self.order) && qualifies(tiling, self.class) {
             self.put(tiling);
         }
     }
 
-    // Puts the word of a tiling into the table, where it isn't before those that are kept.
+    // Puts the word of a member into the table, where it isn't before those that are kept.
     fn put(&mut self, tiling: &Tiling)
-        requires tiling { IsTiling tiling.now }
-        requires few { order tiling.now ≤ 16 }
-        ensures class { self.new.class ≡ self.old.class }
-        ensures from { self.new.from ≡ self.old.from }
+        requires { IsMember self.old.order self.old.class tiling.now }
+        ensures fixed { wanted self.new ≡ wanted self.old }
         ensures put { IsHeld self.old.from self.new.numbers tiling.now }
         ensures kept { (x : ℕ) → Holds self.old.numbers x → Holds self.new.numbers x }
     {

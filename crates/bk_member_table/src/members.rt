@@ -5,8 +5,8 @@ ghost use Rattle.bk_word.specs.Play.{IsLegal};
 ghost use Rattle.bk_word.specs.Word.{order_of};
 ghost use Rattle.bk_barren.specs.Cuts.{IsBarren};
 ghost use Rattle.bk_table.specs.Span.{begun_digits, span_from, span_of};
-ghost use Rattle.bk_member_table.specs.Finding.{IsFree};
-ghost use Rattle.bk_member_table.specs.Members.{BeginsBy, IsBarrenBy, IsWhole, Tells};
+ghost use Rattle.bk_member_table.specs.Finding.{HasOnlyMembers, IsFree};
+ghost use Rattle.bk_member_table.specs.Members.{BeginsBy, IsBarrenBy, IsLeastFree, IsWhole, Tells};
 
 use crate::finding::Finder;
 use bk_skel::Skel;
@@ -19,7 +19,6 @@ use std::marker::Model;
 /// there is no room for all, of the least ones. (Own.)
 #[derive(Drop)]
 pub struct MemberTable<const N: usize> {
-    order: u8,
     count: u8,
     finder: Finder<N>,
 }
@@ -29,9 +28,9 @@ impl<const N: usize> Model for MemberTable<N> {
 
     ghost Value = { Members };
 
-    ghost view = { λ t. record { order = t.order; count = t.count; found = t.finder } };
+    ghost view = { λ t. record { count = t.count; found = t.finder } };
 
-    ghost invariant = { λ t. IsMemberTable (record { order = t.order; count = t.count; found = t.finder }) };
+    ghost invariant = { λ t. IsMemberTable (record { count = t.count; found = t.finder }) };
 }
 
 impl<const N: usize> MemberTable<N> {
@@ -41,9 +40,8 @@ impl<const N: usize> MemberTable<N> {
         ensures none { result.found.numbers ≡ record { kept = []; cut = false } }
     {
         MemberTable {
-            order: 0,
             count: 0,
-            finder: Finder::new(alloc, Class::Simple, 0),
+            finder: Finder::new(alloc, 0, Class::Simple, 0),
         }
     }
 
@@ -53,25 +51,23 @@ impl<const N: usize> MemberTable<N> {
     pub fn of(alloc: Global, order: u8, class: Class, count: u8, from: u128) -> MemberTable<N>
         requires least { 3 ≤ order }
         requires most { order ≤ 16 }
-        ensures order { result.order ≡ order }
+        ensures order { result.found.order ≡ order }
         ensures class { result.found.class ≡ class }
         ensures count { result.count ≡ count }
         ensures from { result.found.from ≡ from }
         ensures whole { IsWhole result }
     {
-        let mut finder = Finder::new(alloc, class, from);
+        let mut finder = Finder::new(alloc, order, class, from);
         let least = touching(least_second(count, from));
         search(&mut finder, order, count, least);
-        MemberTable {
-            order,
-            count,
-            finder,
-        }
+        MemberTable { count, finder }
     }
 
-    /// The packed words that are kept, in ascending order.
+    /// The packed words that are kept, in ascending order: each is that of a member of the order and the class, and not below the number from which
+    /// words are kept.
     pub fn numbers(&self) -> &[u128]
-        ensures { result.now ≡ self.now.found.numbers.kept }
+        ensures value { result.now ≡ self.now.found.numbers.kept }
+        ensures only { HasOnlyMembers self.now.found }
     {
         self.finder.table().numbers()
     }
@@ -95,13 +91,14 @@ impl<const N: usize> MemberTable<N> {
     }
 
     /// How many signs of the move it takes, where the table tells it, until no member of the order and the class has a word that
-    /// goes on from the skeleton's moves by a move of the same count whose signs begin with them.
+    /// goes on from the skeleton's moves by a move of the same count whose signs begin with them. Of fewer signs it holds a number of what begins so.
     pub fn barren_signs(&self, order: u8, class: Class, skel: &Skel, m: &Move) -> Option<usize>
         requires legal { IsLegal skel.now }
         requires some { 0 < m.now.count }
         requires few { order_of skel.now + m.now.count ≤ 16 }
         requires signs { length m.now.signs ≤ m.now.count + 1 }
         ensures barren { IfSome result (IsBarrenBy order class skel.now m.now) }
+        ensures least { IfSome result (IsLeastFree self.now.found skel.now m.now) }
         ensures all { Tells self.now order class skel.now → IsFree self.now.found (span_from (begun_digits skel.now m.now.count m.now.signs))
             → IsSome result }
     {
@@ -128,7 +125,7 @@ impl<const N: usize> MemberTable<N> {
         ensures yes { IsTrue result → Tells self.now order class skel.now }
         ensures no { result ≡ false → Tells self.now order class skel.now → ⊥ }
     {
-        if self.order != order || self.finder.class() != class {
+        if self.finder.order() != order || self.finder.class() != class {
             return false;
         }
         begins_by(skel, self.count)

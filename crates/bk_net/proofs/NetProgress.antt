@@ -1,20 +1,19 @@
 -- How far a network line was read, with the wires that are kept.
-use Rattle.std.specs.Prelude.{Bool, Err, IfErr, IfOk, List, None, Ok, Result, Some, [], false, length, refl, take, ℕ, ◌+◌, ◌<◌, ◌≡◌, ◌≤◌}
+use Rattle.std.specs.Prelude.{Bool, Err, IfErr, IfOk, List, None, Ok, Result, Some, false, length, take, ℕ, ◌<◌, ◌≡◌, ◌≤◌}
 use Rattle.std.proofs.Common.{ap, arith, get_or, subst, sym, ◌∙◌}
-use Rattle.std.proofs.lemmas.List.{take_all, take_more}
+use Rattle.std.proofs.lemmas.List.{take_all}
 use Rattle.bk_net.specs.Gathered.{IsNoNet, Keeps, and_wire}
 use Rattle.bk_net.specs.NetLine.{IsNetLine, IsNoNetLine, Item, NetLine, Skip}
 use Rattle.bk_net.specs.ReadNet.{IsFaultOf, stands_for}
-use Rattle.bk_net.specs.Reader.{ended_wire, ending_at, kind_of, last_wire, next_place}
+use Rattle.bk_net.specs.Reader.{ending_at, kind_of, last_wire, next_place}
 use Rattle.bk_net.specs.declared.NetFault.{NetFault}
 use Rattle.bk_net.specs.declared.NetFault.TheVariants.{Many, Nodes as NodesFault, Text, Wire}
 use Rattle.bk_net.specs.declared.NetLine.{NetLine as NetLineRead}
 use Rattle.bk_net.specs.declared.reader.Ending.{Ending}
 use Rattle.bk_net.specs.declared.reader.Ending.TheVariants.{Empty, Nodes}
 use Rattle.bk_net.specs.declared.reader.Place.{Place}
-use Rattle.bk_net.specs.declared.reader.Place.TheVariants.{Start}
 use Rattle.bk_net.proofs.NetLinesMeant.{read_is_line}
-use Rattle.bk_net.proofs.NetStopping.{Leads, leads_on, read_whole, stops_at, stops_at_end}
+use Rattle.bk_net.proofs.NetStopping.{Leads, read_whole, stops_at, stops_at_end}
 use Rattle.bk_net.proofs.ReadingAll.{line_at, line_of}
 
 -- the bytes read so far lead to this place with these wires, of which the first are kept
@@ -22,22 +21,6 @@ pub record Progress (front : List ℕ) (p : Place) (kept : List (ℕ × ℕ)) (m
   pub all : List (ℕ × ℕ)
   pub leads : Leads front p all
   pub keeps : Keeps all kept many
-
--- before the first byte nothing was read
-pub at_start : Progress [] Start [] false
-at_start = record { all = []; leads = λ x. refl; keeps = record { same = λ e. refl; more = λ e. absurd (cc) } }
-
--- one byte further
-pub one_further : (bs : List ℕ) (i : ℕ) (p q : Place) (kept next_kept : List (ℕ × ℕ)) (many next_many : Bool) → i < length bs → Progress (take i bs) p kept many
-    → next_place p (kind_of (get_or bs i 0)) ≡ Some q
-    → ((all : List (ℕ × ℕ)) → Keeps all kept many → Keeps (and_wire (ended_wire p (kind_of (get_or bs i 0))) all) next_kept next_many)
-    → Progress (take (i + 1) bs) q next_kept next_many
-one_further bs i p q kept next_kept many next_many within progress next keeps =
-    subst (λ (z : List ℕ). Progress z q next_kept next_many) (sym (take_more bs i 0 within)) (record {
-      all = and_wire (ended_wire p (kind_of (get_or bs i 0))) progress.all;
-      leads = leads_on (take i bs) p q progress.all (get_or bs i 0) progress.leads next;
-      keeps = keeps progress.all progress.keeps;
-    })
 
 -- where the reader stops, the bytes leave the grammar
 pub no_next : (bs : List ℕ) (i : ℕ) (p : Place) (kept : List (ℕ × ℕ)) (many : Bool) → i < length bs → Progress (take i bs) p kept many

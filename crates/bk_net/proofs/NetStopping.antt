@@ -1,6 +1,6 @@
 -- Where the reader of a network line stops, and that it stops right there.
 use Rattle.std.specs.Prelude.{List, None, Option, Some, [], codes, length, option_and_then, refl, take, ℕ, ◌++◌, ◌<◌, ◌∷◌, ◌≡◌}
-use Rattle.std.proofs.Common.{ap, append_assoc, get_or, sym, ◌∙◌}
+use Rattle.std.proofs.Common.{ap, get_or, sym, ◌∙◌}
 use Rattle.std.proofs.lemmas.List.{append-nil}
 use Rattle.bk_grammar.proofs.Leaving.{leaves_at_end, leaves_before}
 use Rattle.bk_grammar.specs.Longest.{Begins}
@@ -11,7 +11,7 @@ use Rattle.bk_net.specs.declared.reader.Place.{Place}
 use Rattle.bk_net.specs.declared.reader.Place.TheVariants.{BehindDash, Between, Comment as InComment, Count, First, Second, Start}
 use Rattle.bk_net.proofs.NetLinesMeant.{read_is_line}
 use Rattle.bk_net.proofs.NetLinesRead.{line_is_read}
-use Rattle.bk_net.proofs.ReadingAll.{line_at, read, read_next}
+use Rattle.bk_net.proofs.ReadingAll.{line_at, read}
 
 abbrev Found : Option NetLine → Type 0
 Found None = ⊥
@@ -34,13 +34,6 @@ completion (InComment ending) ws = ([], tt)
 -- behind the front of a line the reader stands at this place, with these wires
 abbrev pub Leads : List ℕ → Place → List (ℕ × ℕ) → Type 0
 Leads front p ws = (x : List ℕ) → read (front ++ x) Start [] ≡ read x p ws
-
--- a further byte leads the reader from one place to the next
-pub leads_on : (front : List ℕ) (p q : Place) (ws : List (ℕ × ℕ)) (b : ℕ) → Leads front p ws → next_place p (kind_of b) ≡ Some q
-    → Leads (front ++ b ∷ []) q (and_wire (ended_wire p (kind_of b)) ws)
-leads_on front p q ws b leads next x =
-    ap (λ (z : List ℕ). read z Start []) (append_assoc front (b ∷ []) x) ∙ leads (b ∷ x)
-    ∙ read_next p q (kind_of b) ws (and_wire (ended_wire p (kind_of b)) ws) b x refl next refl
 
 -- a front that leads to a place begins a line
 begins : (front : List ℕ) (p : Place) (ws : List (ℕ × ℕ)) → Leads front p ws → Begins SomeNetLine front

@@ -1,10 +1,8 @@
 //! Rows of `bk_dual`.
 
 use crate::tilings::*;
-use arrayvec::ArrayVec;
 use bk_dual::*;
-use bk_net::Net;
-use bk_tiling::{MOST_SQUARES, Tiling};
+use bk_tiling::Tiling;
 use std::process::Abort;
 
 // A simple square of thirteen squares.
@@ -30,26 +28,16 @@ fn thirteen_squares() -> Rectangle {
     )
 }
 
-// The diagram of a tiling.
-fn diagram(tiling: &Tiling) -> Net {
-    dual_of(tiling)
-}
-
-// The squares that its wires stand for.
-fn numbers(tiling: &Tiling) -> ArrayVec<u16, MOST_SQUARES> {
-    dual_order(tiling)
-}
-
-// How many points a tiling has where four squares meet.
-fn count_crossings(tiling: &Tiling) -> u32 {
-    crossings(tiling)
+// Whether the diagram of a tiling's vertical segments has these nodes and wires.
+fn is_diagram(tiling: &Tiling, nodes: u16, wires: &[(u16, u16)]) -> bool {
+    let dual = dual_of(tiling);
+    dual.nodes() == nodes && dual.wires() == wires
 }
 
 // Asserts the nodes and the wires of the diagram of the vertical segments.
 fn assert_diagram(rt: &impl Abort, rectangle: Rectangle, nodes: u16, wires: &[(u16, u16)]) {
-    let dual = diagram(&tiling(rt, rectangle));
-    assert_eq!(rt; dual.nodes(), nodes);
-    assert_eq!(rt; dual.wires(), wires);
+    let tiling = tiling(rt, rectangle);
+    assert!(rt; is_diagram(&tiling, nodes, wires), "{nodes}");
 }
 
 // The wires of the diagrams of nine and of thirteen squares.
@@ -91,11 +79,15 @@ fn diagrams(rt: HostRuntime) {
     assert_diagram(&rt, thirteen_squares(), 8, wires_of_thirteen());
 }
 
+// Whether the wires of a tiling's diagram stand for these squares, and it has so many points where four squares meet.
+fn is_order(tiling: &Tiling, order: &[u16], count: u32) -> bool {
+    dual_order(tiling).as_slice() == order && crossings(tiling) == count
+}
+
 // Asserts which squares the wires stand for, and how many crossings there are.
 fn assert_order(rt: &impl Abort, rectangle: Rectangle, order: &[u16], count: u32) {
     let tiling = tiling(rt, rectangle);
-    assert_eq!(rt; numbers(&tiling).as_slice(), order);
-    assert_eq!(rt; count_crossings(&tiling), count);
+    assert!(rt; is_order(&tiling, order, count), "{order:?}");
 }
 
 #[test]
@@ -104,5 +96,5 @@ fn orders_and_crossings(rt: HostRuntime) {
     let thirteen = &[1, 6, 7, 8, 11, 2, 3, 4, 12, 13, 5, 9, 10];
     assert_order(&rt, thirteen_squares(), thirteen, 0);
     assert_order(&rt, four_squares(), &[1, 3, 2, 4], 1);
-    assert_eq!(rt; count_crossings(&tiling(&rt, three_squares())), 0);
+    assert!(rt; crossings(&tiling(&rt, three_squares())) == 0);
 }

@@ -8,39 +8,52 @@ ghost use Rattle.bk_form_cuts.specs.Trace.{IsTraceOf};
 use arrayvec::ArrayVec;
 use bk_form_cuts::Tracing;
 use bk_skel::{Skel, open_side};
-use bk_word::{Class, LARGEST_ORDER, Move, Sign, read_word};
+use bk_word::{Class, LARGEST_ORDER, Move, Sign, Word, read_word};
 use std::alloc::Global;
-use std::process::Abort;
 
-// Goes on by a move after these moves.
-fn go_on(rt: &impl Abort, skel: &mut Skel, sides: &mut Tracing, m: &Move)
+// Goes on by a move after these moves; whether it is legal.
+fn go_on(skel: &mut Skel, sides: &mut Tracing, m: &Move) -> bool
     requires trace { IsTraceOf skel.old sides.old }
     ensures trace { IsTraceOf skel.new sides.new }
 {
-    assert!(rt; skel.legal(m) && skel.order() + usize::from(m.count) <= LARGEST_ORDER);
+    if !skel.legal(m) || skel.order() + usize::from(m.count) > LARGEST_ORDER {
+        return false;
+    }
     sides.push(skel, m);
     skel.play(m);
+    true
 }
 
-// Whether a move after these moves is ruled out in a class.
-fn is_out(rt: &impl Abort, skel: &Skel, sides: &Tracing, m: &Move, class: Class) -> bool
+// Whether a move after these moves is ruled out in a class, if it is legal.
+fn is_out(skel: &Skel, sides: &Tracing, m: &Move, class: Class) -> Option<bool>
     requires trace { IsTraceOf skel.now sides.now }
 {
-    assert!(rt; skel.legal(m));
-    sides.rules_out(skel, m, class)
+    if skel.legal(m) {
+        Some(sides.rules_out(skel, m, class))
+    } else {
+        None
+    }
 }
 
-// Whether the last move of a word is ruled out in a class.
-fn is_ruled_out(rt: &impl Abort, alloc: Global, text: &str, class: Class) -> bool {
-    let word = read_word(alloc, text.as_bytes()).expect(rt, "it is a word");
-    assert!(rt; word.moves() > 0);
-    let last = word.moves() - 1;
+// Whether the last move of a word is ruled out in a class, if all are legal.
+fn is_last_out(word: &Word, class: Class) -> Option<bool> {
+    let last = word.moves().checked_sub(1)?;
     let mut skel = Skel::new();
     let mut sides = Tracing::new();
     for i in 0..last {
-        go_on(rt, &mut skel, &mut sides, &word.get(i));
+        if !go_on(&mut skel, &mut sides, &word.get(i)) {
+            return None;
+        }
     }
-    is_out(rt, &skel, &sides, &word.get(last), class)
+    is_out(&skel, &sides, &word.get(last), class)
+}
+
+// The same of the word of a text.
+fn is_ruled_out(alloc: Global, text: &str, class: Class) -> Option<bool> {
+    match read_word(alloc, text.as_bytes()) {
+        Ok(word) => is_last_out(&word, class),
+        Err(_) => None,
+    }
 }
 
 // Words of three moves, with a class, and whether the last move is ruled out in it.
@@ -61,8 +74,10 @@ fn rows() -> &'static [(&'static str, Class, bool)] {
 #[test]
 fn moves_are_ruled_out(rt: HostRuntime) {
     for (text, class, want) in rows() {
-        let is_out = is_ruled_out(&rt, rt.alloc(), text, *class);
-        assert_eq!(rt; is_out, *want, "{text}");
+        assert!(rt;
+            is_ruled_out(rt.alloc(), text, *class) == Some(*want),
+            "{text}"
+        );
     }
 }
 
@@ -89,41 +104,54 @@ fn next_move(skel: &Skel, count: u8, code: &mut u32) -> Move {
     Move { count, signs }
 }
 
+// Whether a move has the sign even between two of its own squares.
+fn has_even(skel: &Skel, m: &Move) -> bool {
+    let (left, right) = skel.walls();
+    let last = m.signs.len().saturating_sub(open_side(right));
+    for sign in m.signs.iter().take(last).skip(open_side(left)) {
+        if *sign == Sign::Even {
+            return true;
+        }
+    }
+    false
+}
+
 // Whether a move hangs one square under one square, or has the sign even between two of its own: then the search passes over it
 // before it asks about the sides, since two are equal.
 fn is_passed_over(skel: &Skel, m: &Move) -> bool {
-    let (left, right) = skel.walls();
-    let last = m.signs.len().saturating_sub(open_side(right));
-    let own = m.signs.iter().take(last).skip(open_side(left));
-    (m.count == 1 && skel.valley_len() == 1) || own.into_iter().any(|sign| *sign == Sign::Even)
+    (m.count == 1 && skel.valley_len() == 1) || has_even(skel, m)
 }
 
-// In each class a legal move is ruled out where it would be.
-fn same_answers(rt: &impl Abort, skel: &Skel, sides: &Tracing, m: &Move)
+// Whether a move is legal, and in each class ruled out where it would be.
+fn same_answers(skel: &Skel, sides: &Tracing, m: &Move) -> bool
     requires trace { IsTraceOf skel.now sides.now }
 {
-    assert!(rt; skel.legal(m));
-    for class in [Class::Perfect, Class::Imperfect, Class::Simple] {
-        assert_eq!(rt;
-            sides.rules_out(skel, m, class),
-            sides.would_rule_out(skel, m, class)
-        );
+    if !skel.legal(m) {
+        return false;
     }
+    for class in [Class::Perfect, Class::Imperfect, Class::Simple] {
+        if sides.rules_out(skel, m, class) != sides.would_rule_out(skel, m, class) {
+            return false;
+        }
+    }
+    true
 }
 
-// Along the word of these counts with the signs of a code, each move is ruled out where it would be.
-fn along(rt: &impl Abort, counts: &[u8], signs: u32) {
+// Whether along the word of these counts with the signs of a code each move is ruled out where it would be.
+fn along(counts: &[u8], signs: u32) -> bool {
     let mut code = signs;
     let mut skel = Skel::new();
     let mut sides = Tracing::new();
     for count in counts {
         let m = next_move(&skel, *count, &mut code);
         if is_passed_over(&skel, &m) {
-            return;
+            return true;
         }
-        same_answers(rt, &skel, &sides, &m);
-        go_on(rt, &mut skel, &mut sides, &m);
+        if !same_answers(&skel, &sides, &m) || !go_on(&mut skel, &mut sides, &m) {
+            return false;
+        }
     }
+    true
 }
 
 // The words of at most 5 squares begin those of these counts, which have so many codes: 3 for each sign.
@@ -153,7 +181,7 @@ fn counts_of_words() -> &'static [(&'static [u8], u32)] {
 fn no_other_move_is_ruled_out(rt: HostRuntime) {
     for (counts, codes) in counts_of_words() {
         for code in 0..*codes {
-            along(&rt, counts, code);
+            assert!(rt; along(counts, code), "{code}");
         }
     }
 }

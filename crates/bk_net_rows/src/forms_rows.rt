@@ -26,6 +26,11 @@ fn added(ledger: &mut Ledger, left: &Form, right: &Form) -> Kept {
     ledger.add_equation(left, right)
 }
 
+// Whether this is answered to an equation, and so many are kept then.
+fn is_added(ledger: &mut Ledger, left: First, right: First, answer: Kept, len: usize) -> bool {
+    added(ledger, &form(left), &form(right)) == answer && ledger.len() == len
+}
+
 // How two forms compare.
 fn compared(ledger: &Ledger, left: &Form, right: &Form) -> Compared {
     ledger.compare(left, right)
@@ -61,9 +66,10 @@ fn rows_of_equations() -> &'static [(First, First, Kept, usize)] {
 fn equations(rt: HostRuntime) {
     let mut ledger = Ledger::new();
     for (left, right, answer, len) in rows_of_equations() {
-        let got = added(&mut ledger, &form(*left), &form(*right));
-        assert_eq!(rt; got, *answer);
-        assert_eq!(rt; ledger.len(), *len);
+        assert!(rt;
+            is_added(&mut ledger, *left, *right, *answer, *len),
+            "{left:?} {right:?}"
+        );
     }
 }
 
@@ -77,17 +83,29 @@ fn rows_of_comparisons() -> &'static [(First, First, Compared)] {
     ]
 }
 
+// Whether two forms compare so.
+fn is_compared(ledger: &Ledger, left: First, right: First, answer: Compared) -> bool {
+    compared(ledger, &form(left), &form(right)) == answer
+}
+
+// Whether nothing is kept after a cut, and nothing known of two sides.
+fn forgets(ledger: &mut Ledger) -> bool {
+    ledger.cut(0);
+    ledger.len() == 0 && is_compared(ledger, S2, S0, Compared::Unknown)
+}
+
 // Comparisons where s0 = s1 + s2 is kept.
 #[test]
 fn comparisons(rt: HostRuntime) {
     let mut ledger = Ledger::new();
-    assert_eq!(rt; added(&mut ledger, &form(S0), &form(S1_S2)), Kept::Added);
+    assert!(rt; is_added(&mut ledger, S0, S1_S2, Kept::Added, 1));
     for (left, right, answer) in rows_of_comparisons() {
-        assert_eq!(rt; compared(&ledger, &form(*left), &form(*right)), *answer);
+        assert!(rt;
+            is_compared(&ledger, *left, *right, *answer),
+            "{left:?} {right:?}"
+        );
     }
-    ledger.cut(0);
-    assert_eq!(rt; ledger.len(), 0);
-    assert_eq!(rt; compared(&ledger, &form(S2), &form(S0)), Compared::Unknown);
+    assert!(rt; forgets(&mut ledger));
 }
 
 // The form with the greatest coefficient of the first side.
@@ -104,16 +122,23 @@ fn rows_of_wide_forms() -> &'static [(First, Kept, Compared)] {
     ]
 }
 
+// Whether the widest form and a form compare so, and this is answered to their equation.
+fn is_wide(ledger: &mut Ledger, right: First, answer: Kept, comparison: Compared) -> bool {
+    let widest = widest();
+    let right = form(right);
+    compared(ledger, &widest, &right) == comparison && added(ledger, &widest, &right) == answer
+}
+
 // A difference of 2^63 passes; one of 2^63 - 1 doesn't.
 #[test]
 fn wide_forms(rt: HostRuntime) {
-    let widest = widest();
-    assert_eq!(rt; widest.coeff(0), i64::MAX);
+    assert!(rt; widest().coeff(0) == i64::MAX);
     let mut ledger = Ledger::new();
     for (right, answer, comparison) in rows_of_wide_forms() {
-        let right = form(*right);
-        assert_eq!(rt; compared(&ledger, &widest, &right), *comparison);
-        assert_eq!(rt; added(&mut ledger, &widest, &right), *answer);
+        assert!(rt;
+            is_wide(&mut ledger, *right, *answer, *comparison),
+            "{right:?}"
+        );
     }
-    assert_eq!(rt; ledger.len(), 1);
+    assert!(rt; ledger.len() == 1);
 }

@@ -22,6 +22,8 @@ mod skel_realising_rows;
 #[cfg(test)]
 mod skel_rows;
 #[cfg(test)]
+mod texts;
+#[cfg(test)]
 mod tilings;
 #[cfg(test)]
 mod word_rows;

@@ -1,30 +1,27 @@
 //! Rows of `bk_net`.
 
+use crate::texts::built;
 use crate::tilings::*;
-use arrayvec::ArrayVec;
 use bk_net::*;
 use bk_tiling::Tiling;
-use std::alloc::{AllocError, Global};
+use std::alloc::Global;
 use std::process::Abort;
-use std::test::Fail;
 
-// The diagram of a tiling, and the levels of its nodes.
-fn hung(tiling: &Tiling) -> (Net, ArrayVec<u64, MOST_NODES>) {
-    net_of(tiling)
+// Whether a net has these nodes and wires and no loose node.
+fn is_net(net: &Net, nodes: usize, wires: &[(u16, u16)]) -> bool {
+    usize::from(net.nodes()) == nodes && net.wires() == wires && net.loose().is_none()
 }
 
-// Asserts the nodes and the wires of a net without a loose node.
-fn assert_net(rt: &impl Abort, net: &Net, nodes: usize, wires: &[(u16, u16)]) {
-    assert_eq!(rt; usize::from(net.nodes()), nodes);
-    assert_eq!(rt; net.wires(), wires);
-    assert_eq!(rt; net.loose(), None);
+// Whether the diagram of a tiling has these wires and levels.
+fn hangs(tiling: &Tiling, wires: &[(u16, u16)], levels: &[u64]) -> bool {
+    let (net, found) = net_of(tiling);
+    is_net(&net, levels.len(), wires) && found.as_slice() == levels
 }
 
 // Asserts the wires and the levels of the diagram of a rectangle.
 fn assert_hung(rt: &impl Abort, rectangle: Rectangle, wires: &[(u16, u16)], levels: &[u64]) {
-    let (net, found) = hung(&tiling(rt, rectangle));
-    assert_net(rt, &net, levels.len(), wires);
-    assert_eq!(rt; found.as_slice(), levels);
+    let tiling = tiling(rt, rectangle);
+    assert!(rt; hangs(&tiling, wires, levels), "{levels:?}");
 }
 
 // The wires of the diagram of nine squares.
@@ -63,51 +60,48 @@ fn meaning(line: &[u8]) -> Result<(u16, Option<u16>), NetFault> {
     }
 }
 
-fn lines_that_are_read() -> &'static [(&'static [u8], u16, Option<u16>)] {
+// The same, if it is read.
+fn seen_in(line: &[u8]) -> Option<(u16, Option<u16>)> {
+    meaning(line).ok()
+}
+
+fn lines_that_are_read() -> &'static [(&'static str, u16, Option<u16>)] {
     &[
-        (b"", 0, None),
-        (b" \t; 2 0-1", 0, None),
-        (b"4 0-1 0-2 1-2 1-3 2-3", 4, None),
-        (b" 2  1-0\r;", 2, None),
-        (b"4 0-1 2-3", 4, Some(0)),
-        (b"3 0-2", 3, Some(1)),
-        (b"2", 2, Some(0)),
+        ("", 0, None),
+        (" \t; 2 0-1", 0, None),
+        ("4 0-1 0-2 1-2 1-3 2-3", 4, None),
+        (" 2  1-0\r;", 2, None),
+        ("4 0-1 2-3", 4, Some(0)),
+        ("3 0-2", 3, Some(1)),
+        ("2", 2, Some(0)),
     ]
 }
 
 #[test]
 fn reads_lines(rt: HostRuntime) {
     for (line, nodes, loose) in lines_that_are_read() {
-        match meaning(line) {
-            Ok(seen) => assert_eq!(rt; seen, (*nodes, *loose)),
-            Err(_) => panic!(rt; "it is read"),
-        }
+        assert!(rt;
+            seen_in(line.as_bytes()) == Some((*nodes, *loose)),
+            "{line}"
+        );
     }
 }
 
-fn lines_that_are_refused() -> &'static [(&'static [u8], &'static [u8])] {
+fn lines_that_are_refused() -> &'static [(&'static str, &'static str)] {
     &[
-        (b"2 0", b"Text 3"),
-        (b"2 0-", b"Text 4"),
-        (b"02 0-1", b"Text 1"),
-        (b"2 0-1x", b"Text 5"),
-        (b"2 0 -1", b"Text 3"),
-        (b"1000 0-1", b"Text 3"),
-        (b"1", b"Nodes 1"),
-        (b"202 0-1", b"Nodes 202"),
-        (b"0 0-0", b"Nodes 0"),
-        (b"3 0-1 1-3", b"Wire 2"),
-        (b"3 0-1 0-2 1-1 3-3", b"Wire 3"),
-        (b"2 0-1 ,", b"Text 6"),
+        ("2 0", "Text 3"),
+        ("2 0-", "Text 4"),
+        ("02 0-1", "Text 1"),
+        ("2 0-1x", "Text 5"),
+        ("2 0 -1", "Text 3"),
+        ("1000 0-1", "Text 3"),
+        ("1", "Nodes 1"),
+        ("202 0-1", "Nodes 202"),
+        ("0 0-0", "Nodes 0"),
+        ("3 0-1 1-3", "Wire 2"),
+        ("3 0-1 0-2 1-1 3-3", "Wire 3"),
+        ("2 0-1 ,", "Text 6"),
     ]
-}
-
-// The fault of a line.
-fn refusal(rt: &impl Abort, line: &[u8]) -> NetFault {
-    match meaning(line) {
-        Ok(_) => panic!(rt; "it is refused"),
-        Err(fault) => fault,
-    }
 }
 
 // The number of a fault.
@@ -120,37 +114,44 @@ fn place_of(fault: &NetFault) -> u64 {
     }
 }
 
+// Whether a fault is printed so, with its number behind.
+fn is_printed(alloc: Global, fault: &NetFault, want: &str) -> bool {
+    let place = place_of(fault);
+    match format!(in alloc; "{fault} {place}") {
+        Ok(text) => text.as_str() == want,
+        Err(_) => false,
+    }
+}
+
+// Whether a line is refused by such a fault.
+fn is_refused(alloc: Global, line: &[u8], want: &str) -> bool {
+    match meaning(line) {
+        Ok(_) => false,
+        Err(fault) => is_printed(alloc, &fault, want),
+    }
+}
+
 #[test]
-fn refuses_lines(rt: HostRuntime) -> Result<(), Fail> {
+fn refuses_lines(rt: HostRuntime) {
     for (line, want) in lines_that_are_refused() {
-        let fault = refusal(&rt, line);
-        let place = place_of(&fault);
-        let text = format!(in rt.alloc(); "{fault} {place}")?;
-        assert_eq!(rt; text.as_bytes(), *want);
+        assert!(rt; is_refused(rt.alloc(), line.as_bytes(), want), "{line}");
     }
-    Ok(())
 }
 
-// A line of two nodes and so many wires.
-fn line_of_wires(alloc: Global, wires: usize) -> Result<Vec<u8>, AllocError> {
-    let mut line = Vec::new(alloc);
-    line.push(b'2')?;
-    for _ in 0..wires {
-        line.extend_from_slice(b" 0-1")?;
-    }
-    Ok(line)
+// Whether a line of two nodes and 200 wires is read.
+fn reads_most() -> bool {
+    let line = built("2", " 0-1", 200, "");
+    seen_in(line.as_slice()) == Some((2, None))
+}
+
+// Whether one of a wire more is refused.
+fn refuses_more(alloc: Global) -> bool {
+    let line = built("2", " 0-1", 200, " 1-0");
+    is_refused(alloc, line.as_slice(), "Many 0")
 }
 
 #[test]
-fn refuses_many_wires(rt: HostRuntime) -> Result<(), Fail> {
-    let mut line = line_of_wires(rt.alloc(), 200)?;
-    match meaning(&line) {
-        Ok(seen) => assert_eq!(rt; seen, (2, None)),
-        Err(_) => panic!(rt; "it is read"),
-    }
-    line.extend_from_slice(b" 1-0")?;
-    let fault = refusal(&rt, &line);
-    assert!(rt; matches!(fault, NetFault::Many));
-    assert_eq!(rt; format!(in rt.alloc(); "{fault}")?.as_str(), "Many");
-    Ok(())
+fn refuses_many_wires(rt: HostRuntime) {
+    assert!(rt; reads_most());
+    assert!(rt; refuses_more(rt.alloc()));
 }

@@ -1,152 +1,178 @@
 //! Rows of `bk_skel`.
 
+use crate::texts::built;
 use bk_skel::*;
 use bk_tiling::{LONGEST_SIDE, Square, Tiling};
-use bk_word::{INLINE_ORDER, read_word};
-use std::alloc::{AllocError, Global};
-use std::process::Abort;
-use std::test::Fail;
+use bk_word::{INLINE_ORDER, Word, read_word};
+use std::alloc::Global;
 
 // A tiling's width, its height and its sides in code order.
 type Rectangle = (u64, u64, &'static [u64]);
 
-// Asserts that a word is realised as this rectangle, also without memory where its order is at most 16.
-fn assert_realised(rt: &impl Abort, alloc: Global, text: &[u8], want: Option<Rectangle>) {
-    let word = read_word(alloc, text).expect(rt, "it is a word");
-    assert!(rt; word.moves() > 0);
-    let tiling = realise(alloc, &word).expect(rt, "it is complete and not wide");
-    assert_rectangle(rt, &tiling, want);
-    if word.order() > INLINE_ORDER {
-        return;
+// Whether the sides of squares are these.
+fn are_sides(squares: &[Square], sides: &[u64]) -> bool {
+    if squares.len() != sides.len() {
+        return false;
     }
-    let skel = skeleton_of(&word).expect(rt, "it is legal");
-    assert!(rt; skel.is_closed());
-    assert!(rt; skel.order() <= INLINE_ORDER);
-    let small = realise_small(&skel).ok().expect(rt, "it is not wide");
-    assert_rectangle(rt, &small, want);
+    for i in 0..sides.len() {
+        if squares[i].s != sides[i] {
+            return false;
+        }
+    }
+    true
 }
 
-// A tiling's width, its height and its order.
-fn size(tiling: &Tiling) -> (u64, u64, usize) {
-    (tiling.width(), tiling.height(), tiling.order())
+// Whether a tiling has this size and these sides.
+fn is_tiling(tiling: &Tiling, rectangle: &Rectangle) -> bool {
+    let (width, height, sides) = rectangle;
+    tiling.width() == *width
+        && tiling.height() == *height
+        && tiling.order() == sides.len()
+        && are_sides(tiling.squares(), sides)
 }
 
-// Its squares in code order.
-fn squares(tiling: &Tiling) -> &[Square] {
-    tiling.squares()
-}
-
-// Asserts the sides of squares.
-fn assert_sides(rt: &impl Abort, squares: &[Square], sides: &[u64]) {
-    for (q, side) in squares.iter().zip(sides) {
-        assert_eq!(rt; q.s, *side);
+// Whether a tiling is this rectangle, or both are none.
+fn is_rectangle(tiling: &Option<Tiling>, want: &Option<Rectangle>) -> bool {
+    match (tiling, want) {
+        (Some(tiling), Some(rectangle)) => is_tiling(tiling, rectangle),
+        (None, None) => true,
+        _ => false,
     }
 }
 
-// Asserts size and sides of a tiling, or that there is none.
-fn assert_rectangle(rt: &impl Abort, tiling: &Option<Tiling>, want: Option<Rectangle>) {
-    let Some((width, height, sides)) = want else {
-        assert!(rt; tiling.is_none());
-        return;
+// Whether a word of at most 16 squares is realised as this rectangle without memory.
+fn is_realised_small(word: &Word, want: &Option<Rectangle>) -> bool {
+    let Ok(skel) = skeleton_of(word) else {
+        return false;
     };
-    let tiling = tiling.as_ref().expect(rt, "some tiling has the word");
-    assert_eq!(rt; size(tiling), (width, height, sides.len()));
-    assert_sides(rt, squares(tiling), sides);
+    if !skel.is_closed() || skel.order() > INLINE_ORDER {
+        return false;
+    }
+    match realise_small(&skel) {
+        Ok(tiling) => is_rectangle(&tiling, want),
+        Err(_) => false,
+    }
 }
 
-static WORDS_AND_RECTANGLES: [(&'static [u8], Option<Rectangle>); 8] = [
-    (b"2u.2eu.1e", Some((8, 5, &[5, 3, 2, 1, 1]))),
-    (b"2e.2e", Some((2, 2, &[1, 1, 1, 1]))),
-    (b"1", Some((1, 1, &[1]))),
-    (b"2u.2ea.1e", None),
-    (b"2a.1u.1e", None),
+// Whether a word is realised as this rectangle.
+fn is_realised(alloc: Global, word: &Word, want: &Option<Rectangle>) -> bool {
+    if word.moves() == 0 {
+        return false;
+    }
+    match realise(alloc, word) {
+        Ok(tiling) => is_rectangle(&tiling, want),
+        Err(_) => false,
+    }
+}
+
+// Whether the word of a text is realised as this rectangle, also without memory where its order is at most 16.
+fn realises(alloc: Global, text: &str, want: &Option<Rectangle>) -> bool {
+    match read_word(alloc, text.as_bytes()) {
+        Ok(word) => {
+            is_realised(alloc, &word, want)
+                && (word.order() > INLINE_ORDER || is_realised_small(&word, want))
+        }
+        Err(_) => false,
+    }
+}
+
+static WORDS_AND_RECTANGLES: [(&'static str, Option<Rectangle>); 8] = [
+    ("2u.2eu.1e", Some((8, 5, &[5, 3, 2, 1, 1]))),
+    ("2e.2e", Some((2, 2, &[1, 1, 1, 1]))),
+    ("1", Some((1, 1, &[1]))),
+    ("2u.2ea.1e", None),
+    ("2a.1u.1e", None),
     (
-        b"2u.2aa.2ue.2eue.1e",
+        "2u.2aa.2ue.2eue.1e",
         Some((33, 32, &[18, 15, 7, 8, 14, 4, 10, 1, 9])),
     ),
     (
-        b"3ua.2aue.2ue.2ea.1ee",
+        "3ua.2aue.2ue.2ea.1ee",
         Some((65, 47, &[25, 17, 23, 11, 6, 5, 24, 22, 3, 19])),
     ),
     (
-        b"1.1.1.1.1.1.1.1.1.1.1.1.1.1.1.1.1",
+        "1.1.1.1.1.1.1.1.1.1.1.1.1.1.1.1.1",
         Some((1, 17, &[1, 1, 1, 1, 1, 1, 1, 1, 1, 1, 1, 1, 1, 1, 1, 1, 1])),
     ),
 ];
 
-fn words_and_rectangles() -> &'static [(&'static [u8], Option<Rectangle>)] {
+fn words_and_rectangles() -> &'static [(&'static str, Option<Rectangle>)] {
     &WORDS_AND_RECTANGLES
 }
 
 #[test]
 fn realises_words(rt: HostRuntime) {
     for (text, want) in words_and_rectangles() {
-        assert_realised(&rt, rt.alloc(), text, *want);
+        assert!(rt; realises(rt.alloc(), text, want), "{text}");
     }
 }
 
 // Why a word is refused.
-fn refusal(rt: &impl Abort, alloc: Global, text: &[u8]) -> SolveFault {
-    let word = read_word(alloc, text).expect(rt, "it is a word");
-    assert!(rt; word.moves() > 0);
-    match realise(alloc, &word) {
-        Ok(_) => panic!(rt; "it is refused"),
-        Err(fault) => fault,
+fn refusal(alloc: Global, text: &[u8]) -> Option<SolveFault> {
+    let word = read_word(alloc, text).ok()?;
+    if word.moves() == 0 {
+        return None;
     }
+    realise(alloc, &word).err()
 }
 
-fn words_that_are_refused() -> &'static [(&'static [u8], SolveFault)] {
+fn words_that_are_refused() -> &'static [(&'static str, SolveFault)] {
     &[
-        (b"2u.2e.1", SolveFault::Illegal { place: 2 }),
-        (b"2uu", SolveFault::Illegal { place: 1 }),
-        (b"2u.2eu", SolveFault::OpenEnd),
-        (b"1.2a", SolveFault::OpenEnd),
+        ("2u.2e.1", SolveFault::Illegal { place: 2 }),
+        ("2uu", SolveFault::Illegal { place: 1 }),
+        ("2u.2eu", SolveFault::OpenEnd),
+        ("1.2a", SolveFault::OpenEnd),
     ]
 }
 
-// The text of the word of a staircase of 199 squares.
-fn stairs(alloc: Global) -> Result<Vec<u8>, AllocError> {
-    let mut stairs = Vec::new(alloc);
-    stairs.extend_from_slice(b"2u")?;
-    for _ in 0..98 {
-        stairs.extend_from_slice(b".2eu")?;
-    }
-    stairs.extend_from_slice(b".1e")?;
-    Ok(stairs)
+// Whether the word of a staircase of 199 squares is refused as wide.
+fn stairs_are_wide(alloc: Global) -> bool {
+    let stairs = built("2u", ".2eu", 98, ".1e");
+    refusal(alloc, stairs.as_slice()) == Some(SolveFault::Wide)
 }
 
 #[test]
-fn refuses_words(rt: HostRuntime) -> Result<(), Fail> {
+fn refuses_words(rt: HostRuntime) {
     for (text, want) in words_that_are_refused() {
-        assert_eq!(rt; refusal(&rt, rt.alloc(), text), *want);
+        assert!(rt;
+            refusal(rt.alloc(), text.as_bytes()) == Some(*want),
+            "{text}"
+        );
     }
-    let stairs = stairs(rt.alloc())?;
-    assert_eq!(rt; refusal(&rt, rt.alloc(), &stairs), SolveFault::Wide);
-    Ok(())
+    assert!(rt; stairs_are_wide(rt.alloc()));
 }
 
 // The skeleton of a word.
-fn skeleton(rt: &impl Abort, alloc: Global, text: &[u8]) -> Skel {
-    let word = read_word(alloc, text).expect(rt, "it is a word");
-    skeleton_of(&word).expect(rt, "it is legal")
+fn skeleton(alloc: Global, text: &[u8]) -> Option<Skel> {
+    let word = read_word(alloc, text).ok()?;
+    skeleton_of(&word).ok()
+}
+
+static SIDES_AND_RECTANGLES: [(&'static [u64], Option<Rectangle>); 5] = [
+    (&[5, 3, 2, 1, 1], Some((8, 5, &[5, 3, 2, 1, 1]))),
+    (&[10, 6, 4, 2, 2], Some((16, 10, &[10, 6, 4, 2, 2]))),
+    (&[5, 3, 1, 2, 1], None),
+    (&[5, 3, 2, 2, 1], None),
+    (&[3, 5, 2, 1, 1], None),
+];
+
+fn sides_and_rectangles() -> &'static [(&'static [u64], Option<Rectangle>)] {
+    &SIDES_AND_RECTANGLES
+}
+
+// Whether sides that squares may have are laid on a skeleton as this rectangle.
+fn is_laid(skel: &Skel, sides: &[u64], want: &Option<Rectangle>) -> bool {
+    if !skel.is_closed() || skel.order() != sides.len() {
+        return false;
+    }
+    sides.iter().all(|side| *side >= 1 && *side <= LONGEST_SIDE)
+        && is_rectangle(&placed(skel, sides), want)
 }
 
 #[test]
 fn places_sides(rt: HostRuntime) {
-    let rows: [(&[u64], Option<Rectangle>); 5] = [
-        (&[5, 3, 2, 1, 1], Some((8, 5, &[5, 3, 2, 1, 1]))),
-        (&[10, 6, 4, 2, 2], Some((16, 10, &[10, 6, 4, 2, 2]))),
-        (&[5, 3, 1, 2, 1], None),
-        (&[5, 3, 2, 2, 1], None),
-        (&[3, 5, 2, 1, 1], None),
-    ];
-    let skel = skeleton(&rt, rt.alloc(), b"2u.2eu.1e");
-    assert!(rt; skel.is_closed() && skel.order() == 5);
-    for (sides, want) in rows {
-        assert_eq!(rt; sides.len(), 5);
-        for side in sides {
-            assert!(rt; *side >= 1 && *side <= LONGEST_SIDE);
-        }
-        assert_rectangle(&rt, &placed(&skel, sides), want);
+    let skel = skeleton(rt.alloc(), b"2u.2eu.1e").expect(&rt, "it is legal");
+    for (sides, want) in sides_and_rectangles() {
+        assert!(rt; is_laid(&skel, sides, want), "{sides:?}");
     }
 }

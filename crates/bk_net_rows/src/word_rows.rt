@@ -1,46 +1,47 @@
 //! Worked rows, as tables.
 
+use crate::texts::built;
 use arrayvec::ArrayVec;
 use bk_word::*;
 use std::alloc::Global;
 use std::cmp::Ordering;
 use std::process::Abort;
-use std::test::Fail;
 
-// The word of a text.
-fn word(rt: &impl Abort, alloc: Global, text: &[u8]) -> Word {
-    match read_word(alloc, text) {
-        Ok(word) => word,
-        Err(_) => panic!(rt; "the text of a word"),
+// Whether the first word is smaller than the second, the second greater than the first, and the first equal to itself.
+fn is_less(first: &Word, second: &Word) -> bool {
+    first.cmp(second) == Ordering::Less
+        && second.cmp(first) == Ordering::Greater
+        && first.cmp(first) == Ordering::Equal
+}
+
+// The same of the words of two texts.
+fn reads_less(alloc: Global, less: &str, more: &str) -> bool {
+    let Ok(first) = read_word(alloc, less.as_bytes()) else {
+        return false;
+    };
+    match read_word(alloc, more.as_bytes()) {
+        Ok(second) => is_less(&first, &second),
+        Err(_) => false,
     }
 }
 
-// How two words compare.
-fn compared(first: &Word, second: &Word) -> Ordering {
-    first.cmp(second)
-}
-
 // Two words of a row, the smaller one first.
-fn rows_in_order() -> &'static [(&'static [u8], &'static [u8])] {
+fn rows_in_order() -> &'static [(&'static str, &'static str)] {
     &[
-        (b"2a", b"2e"),
-        (b"2e", b"2u"),
-        (b"2u", b"3aa"),
-        (b"2u", b"2u.1a"),
-        (b"2u.2a", b"2u.2aa"),
-        (b"1.2uu", b"2a"),
-        (b"9aaaaaaaa", b"10aaaaaaaaa"),
+        ("2a", "2e"),
+        ("2e", "2u"),
+        ("2u", "3aa"),
+        ("2u", "2u.1a"),
+        ("2u.2a", "2u.2aa"),
+        ("1.2uu", "2a"),
+        ("9aaaaaaaa", "10aaaaaaaaa"),
     ]
 }
 
 #[test]
 fn order(rt: HostRuntime) {
     for (less, more) in rows_in_order() {
-        let first = word(&rt, rt.alloc(), less);
-        let second = word(&rt, rt.alloc(), more);
-        assert_eq!(rt; compared(&first, &second), Ordering::Less);
-        assert_eq!(rt; compared(&second, &first), Ordering::Greater);
-        assert_eq!(rt; compared(&first, &first), Ordering::Equal);
+        assert!(rt; reads_less(rt.alloc(), less, more), "{less}, {more}");
     }
 }
 
@@ -59,30 +60,44 @@ fn rows_of_texts() -> &'static [(&'static str, u8)] {
     ]
 }
 
-// Asserts that a word is written so.
-fn assert_written(rt: &impl Abort, word: &Word, text: &[u8]) {
-    assert!(rt; word.moves() > 0);
+// Whether a word is written so.
+fn is_written(word: &Word, text: &[u8]) -> bool {
+    if word.moves() == 0 {
+        return false;
+    }
     let mut out = ArrayVec::new();
     write_word(word, &mut out);
-    assert_eq!(rt; out.as_slice(), text);
+    out.as_slice() == text
+}
+
+// Whether a text is that of a word of this order, by both calls, and is written as it was read.
+fn reads_in_order(alloc: Global, text: &[u8], order: u8) -> bool {
+    match read_word(alloc, text) {
+        Ok(word) => {
+            text_order(text) == Some(order)
+                && word.order() == usize::from(order)
+                && is_written(&word, text)
+        }
+        Err(_) => false,
+    }
 }
 
 // Texts with their orders, which are written as they were read.
 #[test]
 fn texts(rt: HostRuntime) {
     for (text, order) in rows_of_texts() {
-        assert_eq!(rt; text_order(text.as_bytes()), Some(*order));
-        let word = word(&rt, rt.alloc(), text.as_bytes());
-        assert_eq!(rt; word.order(), usize::from(*order));
-        assert_written(&rt, &word, text.as_bytes());
+        assert!(rt;
+            reads_in_order(rt.alloc(), text.as_bytes(), *order),
+            "{text}"
+        );
     }
 }
 
-// How many bytes of a text that is none begin one.
-fn place_in(alloc: Global, text: &[u8]) -> Option<usize> {
+// Whether a text is none, and so many bytes of it begin one.
+fn begins_one(alloc: Global, text: &[u8], place: usize) -> bool {
     match read_word(alloc, text) {
-        Err(WordFault::Text { at }) => Some(at),
-        _ => None,
+        Err(WordFault::Text { at }) => text_order(text).is_none() && at == place,
+        _ => false,
     }
 }
 
@@ -106,38 +121,36 @@ fn rows_of_no_texts() -> &'static [(&'static str, usize)] {
 #[test]
 fn no_texts(rt: HostRuntime) {
     for (text, place) in rows_of_no_texts() {
-        assert_eq!(rt; text_order(text.as_bytes()), None);
-        assert_eq!(rt; place_in(rt.alloc(), text.as_bytes()), Some(*place));
+        assert!(rt; begins_one(rt.alloc(), text.as_bytes(), *place), "{text}");
     }
 }
 
-// A text that is built.
-type Text = ArrayVec<u8, 1000>;
-
-fn append(rt: &impl Abort, text: &mut Text, piece: &[u8]) {
-    assert!(rt; text.try_extend_from_slice(piece).is_ok());
+// Whether a text has too many squares by both calls.
+fn is_too_many(alloc: Global, text: &[u8]) -> bool {
+    match read_word(alloc, text) {
+        Err(WordFault::Many) => text_order(text) == Some(201),
+        _ => false,
+    }
 }
 
-// A piece so many times behind a start.
-fn repeated(rt: &impl Abort, start: &[u8], piece: &[u8], times: usize) -> Text {
-    let mut text = ArrayVec::new();
-    append(rt, &mut text, start);
-    for _ in 0..times {
-        append(rt, &mut text, piece);
-    }
-    text
+// Whether a text of so many more moves of one square than one has too many.
+fn are_too_many(alloc: Global, times: usize) -> bool {
+    let more = built("1", ".1", times, "");
+    is_too_many(alloc, more.as_slice())
+}
+
+// Whether a text of 200 moves of one square is read in order.
+fn reads_most(alloc: Global) -> bool {
+    let most = built("1", ".1", 199, "");
+    reads_in_order(alloc, most.as_slice(), 200)
 }
 
 // 200 squares, and more.
 #[test]
 fn many(rt: HostRuntime) {
-    let most = repeated(&rt, b"1", b".1", 199);
-    assert_eq!(rt; text_order(most.as_slice()), Some(200));
-    assert_eq!(rt; word(&rt, rt.alloc(), most.as_slice()).order(), 200);
+    assert!(rt; reads_most(rt.alloc()));
     for times in [200, 201, 400] {
-        let more = repeated(&rt, b"1", b".1", times);
-        assert_eq!(rt; text_order(more.as_slice()), Some(201));
-        assert!(rt; matches!(read_word(rt.alloc(), more.as_slice()), Err(WordFault::Many)));
+        assert!(rt; are_too_many(rt.alloc(), times), "{times}");
     }
 }
 
@@ -152,34 +165,40 @@ fn pushed(rt: &impl Abort, alloc: Global, whole: &Word) -> Word {
     pushed
 }
 
-// A copy of a word at once.
-fn copied(rt: &impl Abort, alloc: Global, word: &Word) -> Word {
+// Whether a copy of a word at once is this one.
+fn is_copied(alloc: Global, word: &Word, whole: &Word) -> bool {
     match word.copy(alloc) {
-        Ok(copy) => copy,
-        Err(NoMemory) => panic!(rt; "there is memory"),
+        Ok(copy) => copy.cmp(whole) == Ordering::Equal,
+        Err(NoMemory) => false,
     }
 }
 
-// Takes the last move back.
-fn pop(rt: &impl Abort, word: &mut Word) {
-    assert!(rt; word.moves() > 0);
+// Whether a word of 100 moves has 99 and is less than another one when its last move is taken back.
+fn is_less_without_last(word: &mut Word, whole: &Word) -> bool {
+    if word.moves() != 100 {
+        return false;
+    }
     word.pop();
+    word.moves() == 99 && word.cmp(whole) == Ordering::Less
+}
+
+// The word of a staircase of 199 squares.
+fn stairs(rt: &impl Abort, alloc: Global) -> Word {
+    let text = built("2u", ".2eu", 98, ".1e");
+    match read_word(alloc, text.as_slice()) {
+        Ok(word) => word,
+        Err(_) => panic!(rt; "the text of a word"),
+    }
 }
 
 // The staircase of 199 squares, pushed move by move, is its copy; it follows what is left without its last move.
 #[test]
 fn staircase(rt: HostRuntime) {
-    let mut text = repeated(&rt, b"2u", b".2eu", 98);
-    append(&rt, &mut text, b".1e");
-    let whole = word(&rt, rt.alloc(), text.as_slice());
-    assert_eq!(rt; whole.order(), 199);
+    let whole = stairs(&rt, rt.alloc());
+    assert!(rt; whole.order() == 199);
     let mut pushed = pushed(&rt, rt.alloc(), &whole);
-    let copy = copied(&rt, rt.alloc(), &pushed);
-    assert_eq!(rt; compared(&copy, &whole), Ordering::Equal);
-    assert_eq!(rt; pushed.moves(), 100);
-    pop(&rt, &mut pushed);
-    assert_eq!(rt; pushed.moves(), 99);
-    assert_eq!(rt; compared(&pushed, &whole), Ordering::Less);
+    assert!(rt; is_copied(rt.alloc(), &pushed, &whole));
+    assert!(rt; is_less_without_last(&mut pushed, &whole));
 }
 
 fn rows_of_items() -> &'static [(&'static str, Option<(usize, usize)>)] {
@@ -197,7 +216,7 @@ fn rows_of_items() -> &'static [(&'static str, Option<(usize, usize)>)] {
 #[test]
 fn items(rt: HostRuntime) {
     for (line, item) in rows_of_items() {
-        assert_eq!(rt; word_item(line.as_bytes()), *item);
+        assert!(rt; word_item(line.as_bytes()) == *item, "{line}");
     }
 }
 
@@ -209,13 +228,28 @@ fn names_of_faults() -> &'static [(WordFault, &'static str)] {
     ]
 }
 
+// Whether a fault is printed as this name.
+fn is_printed(alloc: Global, fault: &WordFault, name: &str) -> bool {
+    match format!(in alloc; "{fault}") {
+        Ok(text) => text.as_str() == name,
+        Err(_) => false,
+    }
+}
+
+// Whether the lack of memory is printed as its name.
+fn no_memory_is_printed(alloc: Global) -> bool {
+    let fault = NoMemory;
+    match format!(in alloc; "{fault}") {
+        Ok(text) => text.as_str() == "NoMemory",
+        Err(_) => false,
+    }
+}
+
 // Each fault is printed as its name.
 #[test]
-fn messages(rt: HostRuntime) -> Result<(), Fail> {
+fn messages(rt: HostRuntime) {
     for (fault, name) in names_of_faults() {
-        assert_eq!(rt; format!(in rt.alloc(); "{fault}")?.as_str(), *name);
+        assert!(rt; is_printed(rt.alloc(), fault, name), "{name}");
     }
-    let fault = NoMemory;
-    assert_eq!(rt; format!(in rt.alloc(); "{fault}")?.as_str(), "NoMemory");
-    Ok(())
+    assert!(rt; no_memory_is_printed(rt.alloc()));
 }

@@ -26,7 +26,7 @@ move_of : (P : Move → Type 0) (front : Word) (m : Move) (rest : Word) → AllB
 move_of P [] m rest all = all.0
 move_of P (a ∷ front) m rest all = move_of P front m rest all.1
 
--- no net word has a move beside a left neighbour that begins with the signs even and above
+-- no net word has a move of two squares or more that begins with the signs even and above
 pub even_then_above_is_net_barren : EvenThenAboveIsNetBarren
 even_then_above_is_net_barren n front m begins l w rest sound word keeps is =
     begins (move_of BeginsNoEvenAbove front m rest (subst (λ (v : Word). AllByRecursion BeginsNoEvenAbove v) (is ∙ append_assoc front (m ∷ []) rest) keeps))

@@ -1,7 +1,7 @@
 -- Net words: the words that a search by nets has to meet. Each simple tiling of at least 3 squares has one, and a search may pass
 -- over whatever no net word begins with. Statements alone; each is proved apart.
--- Example (NetWordExamples): the rectangle 11x13 of the sides 4, 7, 4, 5, 1, 6 has the word 2a.1u.2ea.1e, and the net word
--- 2a.1a.2ue.1e.
+-- Example (NetWordExamples): the rectangle 11x13 of the sides 4, 7, 4, 5, 1, 6 has the word 2a.1u.2ea.1e, which breaks rule R, and the signed word
+-- 2a.1a.2ue.1e, which keeps it. That is no net word, since what begins with 2a.1a is barren: one square hangs under one. The rectangle is compound.
 use Rattle.std.specs.List.{AllByRecursion}
 use Rattle.std.specs.Prelude.{[], false, ℕ, ◌++◌, ◌∷◌, ◌≡◌, ◌≤◌}
 use Rattle.bk_simple.specs.Simple.{IsSimple}

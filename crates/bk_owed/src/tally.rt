@@ -92,11 +92,12 @@ fn tally_of(signs: &[Sign], room: usize) -> Option<Tally>
     Some(tally)
 }
 
-/// How many of the signs bring the closing bound of those before and these above the room that there is; `None` where none do.
+/// How many of the signs bring the closing bound of those before and these above the room that there is; `None` exactly where all of them don't.
 /// It looks no further than to the first that does. (Own.)
 pub fn first_over(before: &[Sign], signs: &[Sign], room: usize) -> Option<usize>
     requires { room < 1000 }
-    ensures { IfSome result (λ kept. room < bound_of (before.now ++ take kept signs.now)) }
+    ensures over { IfSome result (λ kept. room < bound_of (before.now ++ take kept signs.now)) }
+    ensures none { IfNone result (bound_of (before.now ++ signs.now) ≤ room) }
 {
     let mut tally = match tally_of(before, room) {
         Some(tally) => tally,

@@ -2,7 +2,7 @@
 use Rattle.std.specs.List.{list_any}
 use Rattle.std.specs.Prelude.{Bool, Err, IfErr, Ok, Result, cond, count_by, false, nat_eq, nat_le, not, true}
 use Rattle.std.proofs.Common.{List, [], ap, arith, inl, inr, refl, sym, ℕ, ◌&&◌, ◌+◌, ◌==◌, ◌||◌, ◌∙◌, ◌∷◌, ◌≡◌, ◌≤◌}
-use Rattle.std.proofs.lemmas.Bool.{cases_Bool, eq-eqb, eqb-true, true≢false}
+use Rattle.std.proofs.lemmas.Bool.{and_from, and_parts, cases_Bool, eq-eqb, eqb-true, true≢false}
 use Rattle.std.proofs.lemmas.Bool.Decides.{nat_tests}
 use Rattle.std.proofs.lemmas.List.Sums.{sum_by-cons}
 use Rattle.bk_tiling.specs.Tiling.{Tiling, order}
@@ -10,14 +10,6 @@ use Rattle.bk_pair.specs.Pair.{ArePair, CanBeLaid, IsLayingFault, IsPairFault, p
 use Rattle.bk_pair.specs.PairTest.{TheTestsDecide, are_pair, can_be_laid, no_twice}
 use Rattle.bk_pair.specs.declared.PairFault.{PairFault}
 use Rattle.bk_pair.specs.declared.PairFault.TheVariants as faults
-
--- two tests that both hold
-both : (p q : Bool) → (p && q) ≡ true → (p ≡ true) × (q ≡ true)
-both true q e = (refl, e)
-both false q e = absurd (true≢false (sym e))
-
-and_true : (p q : Bool) → p ≡ true → q ≡ true → (p && q) ≡ true
-and_true p q e f = ap (λ (v : Bool). v && q) e ∙ f
 
 -- ---- no number stands twice
 
@@ -40,7 +32,7 @@ none_counted p (x ∷ xs) e = elim (cases_Bool (p x)) [
 once_each : (xs : List ℕ) → no_twice xs ≡ true → (side : ℕ) → count_by (λ s. s == side) xs ≤ 1
 once_each [] e side = omega arith
 once_each (x ∷ xs) e side =
-    let parts = both (not (list_any (λ y. y == x) xs)) (no_twice xs) e in
+    let parts = and_parts (not (list_any (λ y. y == x) xs)) (no_twice xs) e in
     let later = once_each xs parts.1 side in
     elim (cases_Bool (x == side)) [
       | inl t ↦
@@ -65,7 +57,7 @@ apart_from_counts (x ∷ xs) none = elim (cases_Bool (list_any (λ y. y == x) xs
       let one : ◌≡◌ {A = ℕ} (cond (x == x) 1 0) 1 = ap (λ b. cond b 1 0) (eq-eqb x x refl) in
       absurd (none x (omega (arith, one, any_counted (λ y. y == x) xs t, sum_by-cons (λ y. cond {A = ℕ} (y == x) 1 0) x xs)))
   | inr f ↦
-      and_true (not (list_any (λ y. y == x) xs)) (no_twice xs) (ap not f)
+      and_from (not (list_any (λ y. y == x) xs)) (no_twice xs) (ap not f)
       (apart_from_counts xs (λ side two. none side (omega (arith, two, sum_by-cons (λ y. cond {A = ℕ} (y == side) 1 0) x xs))))
 ]
 
@@ -73,11 +65,11 @@ apart_from_counts (x ∷ xs) none = elim (cases_Bool (list_any (λ y. y == x) xs
 
 laid_to : (a b : Tiling) → can_be_laid a b ≡ true → CanBeLaid a b
 laid_to a b e =
-    let p = both (nat_eq a.width b.width && nat_eq a.height b.height) _ e in
-    let size = both (nat_eq a.width b.width) (nat_eq a.height b.height) p.0 in
-    let q = both (not (nat_eq a.width a.height)) _ p.1 in
-    let r = both (nat_le (order a + order b + 2) 200) _ q.1 in
-    let s = both (nat_le a.width 999999999999999) (nat_le a.height 999999999999999) r.1 in
+    let p = and_parts (nat_eq a.width b.width && nat_eq a.height b.height) _ e in
+    let size = and_parts (nat_eq a.width b.width) (nat_eq a.height b.height) p.0 in
+    let q = and_parts (not (nat_eq a.width a.height)) _ p.1 in
+    let r = and_parts (nat_le (order a + order b + 2) 200) _ q.1 in
+    let s = and_parts (nat_le a.width 999999999999999) (nat_le a.height 999999999999999) r.1 in
     record {
       size = record { width = eqb-true a.width b.width size.0; height = eqb-true a.height b.height size.1 };
       oblong = λ same. true≢false (sym q.0 ∙ ap not (eq-eqb a.width a.height same));
@@ -89,13 +81,14 @@ laid_to a b e =
     le_of : (m n : ℕ) → nat_le m n ≡ true → m ≤ n
     le_of m n e = grind (arith, nat_tests)
 
-laid_from : (a b : Tiling) → CanBeLaid a b → can_be_laid a b ≡ true
+-- tilings that can be laid together pass the test for it
+pub laid_from : (a b : Tiling) → CanBeLaid a b → can_be_laid a b ≡ true
 laid_from a b can =
-    and_true (nat_eq a.width b.width && nat_eq a.height b.height) _ (and_true (nat_eq a.width b.width) (nat_eq a.height b.height)
+    and_from (nat_eq a.width b.width && nat_eq a.height b.height) _ (and_from (nat_eq a.width b.width) (nat_eq a.height b.height)
     (eq-eqb a.width b.width can.size.width) (eq-eqb a.height b.height can.size.height))
-    (and_true (not (nat_eq a.width a.height)) _ (unequal a.width a.height can.oblong)
-    (and_true (nat_le (order a + order b + 2) 200) _ (le_test (order a + order b + 2) 200 can.few)
-    (and_true (nat_le a.width 999999999999999) (nat_le a.height 999999999999999) (le_test a.width 999999999999999 can.wide)
+    (and_from (not (nat_eq a.width a.height)) _ (unequal a.width a.height can.oblong)
+    (and_from (nat_le (order a + order b + 2) 200) _ (le_test (order a + order b + 2) 200 can.few)
+    (and_from (nat_le a.width 999999999999999) (nat_le a.height 999999999999999) (le_test a.width 999999999999999 can.wide)
     (le_test a.height 999999999999999 can.high))))
   where
     unequal : (m n : ℕ) → (m ≡ n → ⊥) → not (nat_eq m n) ≡ true
@@ -106,11 +99,12 @@ laid_from a b can =
 
 pair_to : (a b : Tiling) → are_pair a b ≡ true → ArePair a b
 pair_to a b e =
-    let p = both (can_be_laid a b) (no_twice (pair_sides a b)) e in
+    let p = and_parts (can_be_laid a b) (no_twice (pair_sides a b)) e in
     record { laid = laid_to a b p.0; differ = λ side two. omega (arith, two, once_each (pair_sides a b) p.1 side) }
 
-pair_from : (a b : Tiling) → ArePair a b → are_pair a b ≡ true
-pair_from a b pair = and_true (can_be_laid a b) (no_twice (pair_sides a b)) (laid_from a b pair.laid) (apart_from_counts (pair_sides a b) pair.differ)
+-- and a pair passes its test
+pub pair_from : (a b : Tiling) → ArePair a b → are_pair a b ≡ true
+pair_from a b pair = and_from (can_be_laid a b) (no_twice (pair_sides a b)) (laid_from a b pair.laid) (apart_from_counts (pair_sides a b) pair.differ)
 
 pub the_tests_decide : TheTestsDecide
 the_tests_decide a b = ((laid_to a b, laid_from a b), (pair_to a b, pair_from a b))
@@ -143,9 +137,3 @@ laid_test a b (Err f) fault = test_of (can_be_laid a b) (CanBeLaid a b) (laid_to
 pub pair_test : {T : Type 0} (a b : Tiling) (r : Result T PairFault) → IfErr r (IsPairFault a b) → IfErr r (λ _. are_pair a b ≡ false)
 pair_test a b (Ok t) fault = tt
 pair_test a b (Err f) fault = test_of (are_pair a b) (ArePair a b) (pair_to a b) (not_pair a b f fault)
-
-pub laid_tested : (a b : Tiling) → CanBeLaid a b → can_be_laid a b ≡ true
-laid_tested = laid_from
-
-pub pair_tested : (a b : Tiling) → ArePair a b → are_pair a b ≡ true
-pair_tested = pair_from

@@ -1,7 +1,7 @@
 -- The sides that occur twice, by the ascending list of all sides.
 use Rattle.std.specs.List.Sorted.{IsNonDecreasing, IsPermutation}
 use Rattle.std.specs.Prelude.{IfNone, IfSome, None, Option, Some, count_by, get_or, map}
-use Rattle.std.proofs.Common.{List, [], ap, arith, cond, length, refl, subst, sym, ℕ, ◌++◌, ◌+◌, ◌==◌, ◌∷◌, ◌≡◌}
+use Rattle.std.proofs.Common.{List, [], ap, arith, cond, length, refl, subst, sym, ℕ, ◌++◌, ◌==◌, ◌∷◌, ◌≡◌}
 use Rattle.std.proofs.lemmas.Bool.{eq-eqb}
 use Rattle.std.proofs.lemmas.List.Sums.{sum_by-append, sum_by-cons}
 use Rattle.bk_laws.proofs.Counts.{count_two}

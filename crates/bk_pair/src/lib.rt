@@ -4,8 +4,6 @@
 ghost use Rattle.std.specs.List.Sorted.{IsNonDecreasing, IsPermutation};
 ghost use Rattle.std.specs.Prelude.{IfErr, IfNone, IfOk, IfSome, length, map, ℕ, ◌++◌, ◌+◌, ◌<◌, ◌^◌, ◌≡◌, ◌≤◌};
 ghost use Rattle.std.specs.List.{AllByRecursion};
-ghost use Rattle.bk_tiling.specs.CodeOrder.{in_code_order};
-ghost use Rattle.bk_tiling.specs.Refusal.{HaveSides, ShareNoCell};
 ghost use Rattle.bk_tiling.specs.Scale.{moved_square};
 ghost use Rattle.bk_tiling.specs.Tiling.{order, sides_of};
 ghost use Rattle.bk_simple.specs.Simple.{IsPerfect};
@@ -15,7 +13,7 @@ ghost use Rattle.bk_pair.specs.Pair.{ArePair, CanBeLaid, IsLayingFault, IsLeastS
 use arrayvec::ArrayVec;
 use bk_simple::first_twice;
 use bk_sym::{Turn, image};
-use bk_tiling::{Square, Tiling};
+use bk_tiling::{LONGEST_SIDE, MOST_SQUARES, Square, Tiling, put_in_order};
 
 /// Why two tilings make no square, or no perfect one. The names and their order are this project's own.
 #[derive(Clone, Copy, Debug, PartialEq, Eq)]
@@ -82,11 +80,11 @@ fn laying_fault(a: &Tiling, b: &Tiling) -> Option<PairFault>
         return Some(PairFault::Square);
     }
     let n = a.order() + b.order() + 2;
-    if n > 200 {
+    if n > MOST_SQUARES {
         return Some(PairFault::Many { n });
     }
     let side = width.max(height);
-    if side > 999_999_999_999_999 {
+    if side > LONGEST_SIDE {
         return Some(PairFault::Long { side });
     }
     None
@@ -103,7 +101,7 @@ fn shared_side(a: &Tiling, b: &Tiling) -> Option<u64>
 }
 
 // All sides of what the two make, in ascending order.
-fn sorted_sides(a: &Tiling, b: &Tiling) -> ArrayVec<u64, 200>
+fn sorted_sides(a: &Tiling, b: &Tiling) -> ArrayVec<u64, MOST_SQUARES>
     requires { order a.now + order b.now + 2 ≤ 200 }
     ensures same { IsPermutation (pair_sides a.now b.now) result.items }
     ensures sorted { IsNonDecreasing result.items }
@@ -118,7 +116,7 @@ fn sorted_sides(a: &Tiling, b: &Tiling) -> ArrayVec<u64, 200>
 }
 
 // Appends the sides of a tiling.
-fn push_sides(tiling: &Tiling, sides: &mut ArrayVec<u64, 200>)
+fn push_sides(tiling: &Tiling, sides: &mut ArrayVec<u64, MOST_SQUARES>)
     requires { length sides.old.items + order tiling.now ≤ 200 }
     ensures { sides.new.items ≡ sides.old.items ++ sides_of tiling.now }
 {
@@ -151,7 +149,7 @@ fn laid(a: &Tiling, b: &Tiling) -> Tiling
 }
 
 // Appends the squares of a tiling, moved to the right and down.
-fn push_moved(tiling: &Tiling, right: u64, down: u64, squares: &mut ArrayVec<Square, 200>)
+fn push_moved(tiling: &Tiling, right: u64, down: u64, squares: &mut ArrayVec<Square, MOST_SQUARES>)
     requires room { length squares.old.items + order tiling.now ≤ 200 }
     requires right { right ≤ 999_999_999_999_999 }
     requires down { down ≤ 999_999_999_999_999 }
@@ -164,13 +162,4 @@ fn push_moved(tiling: &Tiling, right: u64, down: u64, squares: &mut ArrayVec<Squ
             s: q.s,
         });
     }
-}
-
-// Puts squares into code order, of which no two share a cell.
-fn put_in_order(squares: &mut ArrayVec<Square, 200>)
-    requires sides { HaveSides squares.old.items }
-    requires apart { ShareNoCell squares.old.items }
-    ensures { squares.new.items ≡ in_code_order squares.old.items }
-{
-    squares.sort_unstable_by_key(|q| (q.y, q.x));
 }

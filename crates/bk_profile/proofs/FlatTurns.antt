@@ -56,11 +56,6 @@ next_group_is p rest group left gap n is front back next some within = record {
   long = omega (arith, some, ap length front, length-take-le n rest within);
 }
 
--- before the first group all sides are left
-pub first_turn : (width : ℕ) (sides : List ℕ) (p : Laid) → p ≡ record { width = width; squares = [] } → Dividing width sides 1 p sides
-first_turn width sides p new = subst (λ (q : Laid). Dividing width sides 1 q sides) (sym new)
-    (record { code = []; width_is = refl; lays = refl; number_is = refl; flat_is = refl; good = tt; goes_on = λ more d. d })
-
 module _ (width : ℕ) (sides : List ℕ) (number : ℕ) (p : Laid) (rest : List ℕ) (turn : Dividing width sides number p rest) (few : length sides ≤ 200)
     (good : AllByRecursion IsSide sides) where
   count : length p.squares + length rest ≡ length sides

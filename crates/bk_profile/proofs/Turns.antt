@@ -50,12 +50,6 @@ pub record Turn (code : Code) (k : ℕ) (p : Laid) : Type 0 where
   pub lays : LaysTo (first_sum code) [] (take k code) p.squares
   pub count : length p.squares ≡ length (flat (take k code))
 
--- before the first group nothing is laid
-pub first_turn : (code : Code) (group : List ℕ) (n : ℕ) (p : Laid) → 0 < length code → group ≡ get_or code 0 [] → n ≡ sum group
-    → p ≡ record { width = n; squares = [] } → Turn code 0 p
-first_turn code group n p some is e new =
-    subst (λ (q : Laid). Turn code 0 q) (sym new) (record { width = first_read code group n some is e; lays = refl; count = refl })
-
 -- with a group laid, one more of the code is laid
 pub next_turn : (code : Code) (k : ℕ) (group : List ℕ) (old new : Laid) → Turn code k old → k < length code → group ≡ get_or code k []
     → LaysGroup old group new → Turn code (k + 1) new
@@ -136,10 +130,6 @@ module _ (code : Code) (k : ℕ) (p : Laid) (kept : IsKeptCode code) (some : 0 <
   pub ends_ok : (r : Result Tiling Refusal) → IfOk r (IsLaidTiling p) → IfOk r (HasCode code)
   ends_ok (Ok t) is = has_code t is
   ends_ok (Err e) is = tt
-
-  pub ends_refused : (r : Result Tiling Refusal) → IfErr r (IsOpen p) → IfErr r (IsRefused (first_sum code) code)
-  ends_refused (Ok t) h = tt
-  ends_refused (Err e) h = open_refused e h
 
   pub ends_only : (r : Result Tiling Refusal) → IfOk r (IsLaidTiling p) → IfErr r (IsOpen p) → (t : Tiling) → HasCode code t → IsOkAnd r (λ u. u ≡ t)
   ends_only (Ok u) is h t has = the_one u t is has

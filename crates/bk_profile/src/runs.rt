@@ -92,7 +92,7 @@ pub(crate) fn hang(
 )
     requires order { first < end }
     requires within { end ≤ length outline.old.items }
-    requires room { length outline.old.items + length sides.now ≤ MOST_RUNS }
+    requires room { length outline.old.items + length sides.now ≤ 201 }
     requires high { level < 2 ^ 63 }
     requires sides { AllByRecursion IsSide sides.now }
     ensures { outline.new.items ≡ (take first outline.old.items ++ runs_under level sides.now) ++ drop end outline.old.items }
@@ -117,7 +117,7 @@ fn take_out(outline: &mut ArrayVec<Run, MOST_RUNS>, first: usize, end: usize)
 // Puts in the runs under a group, from a place on.
 fn put_in(outline: &mut ArrayVec<Run, MOST_RUNS>, first: usize, level: u64, sides: &[u64])
     requires place { first ≤ length outline.old.items }
-    requires room { length outline.old.items + length sides.now ≤ MOST_RUNS }
+    requires room { length outline.old.items + length sides.now ≤ 201 }
     requires high { level < 2 ^ 63 }
     requires sides { AllByRecursion IsSide sides.now }
     ensures { outline.new.items ≡ (take first outline.old.items ++ runs_under level sides.now) ++ drop first outline.old.items }

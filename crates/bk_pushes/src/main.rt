@@ -6,7 +6,7 @@ ghost use Rattle.std.specs.Prelude.{◌<◌, ◌≡◌, ◌≤◌};
 
 use bk_skel::Steps;
 use bk_walk::Walk;
-use bk_word::Class;
+use bk_word::{Class, INLINE_ORDER};
 use std::alloc::Global;
 use std::marker::Brand;
 use std::sync::ledger::{Blank, Ledger};
@@ -18,7 +18,7 @@ const MOST_MEMBERS: u64 = 100_000;
 fn main(rt: HostRuntime) -> io::Result<()> {
     for word in env::args(&rt)?.skip(1) {
         match word.as_str().parse::<u8>() {
-            Ok(order) if order >= 2 && order <= 16 => {
+            Ok(order) if order >= 2 && usize::from(order) <= INLINE_ORDER => {
                 let (members, pushes) = counted(rt.alloc(), order);
                 println!(rt; "{order} {members} {pushes}")?;
             }

@@ -13,16 +13,15 @@ use Rattle.bk_report.specs.Answers.{IsCheckLine}
 use Rattle.bk_report.specs.Listings.{entry_text}
 use Rattle.bk_report.specs.declared.listing.Last.{Last}
 use Rattle.bk_report.specs.declared.listing.Last.TheVariants.{End, Limit}
-use Rattle.bk_report.specs.declared.refusal.Refused.{Refused}
 use Rattle.bk_lines.specs.Lines.{lines_of}
 use Rattle.bk_lines.specs.Reply.{AreReplies, Reply, some_refused, text_of}
-use Rattle.bk_answer.proofs.OneAnswer.{CommandCause, by_line, by_tiling, cause_of, command_cause, not_refused, one_answer, skip_not_stated}
+use Rattle.bk_answer.proofs.OneAnswer.{cause_of, command_cause, not_refused, one_answer, skip_not_stated}
 use Rattle.bk_answer.specs.Answer.{AnswersLine}
 use Rattle.bk_answer.specs.CodeAnswer.{AnswersCodeLine, answers, no_item, refuses}
 use Rattle.bk_answer.specs.Item.{HasItem, IsStatedBy}
-use Rattle.bk_answer.specs.Refusing.{IsLineRefused}
 use Rattle.bk_answer.specs.declared.command.CodeCommand.TheVariants.{Check}
 use Rattle.bk_answer.specs.declared.command.Command.TheVariants.{OfCodes}
+use Rattle.bk_answer.proofs.Accepting.{check_refuses}
 use Rattle.bk_list.proofs.NarrowListings.{no_listing_ends_at_a_wide_word}
 use Rattle.bk_list.specs.Listing.{AtEnd, AtLimit, Ending, IsListing, WideAt, line_of}
 use Rattle.bk_read_back.proofs.EntryLines.{member_printed, read_as}
@@ -36,16 +35,11 @@ record IsAccepted (t : Tiling) (pieces : List (List ℕ)) (refused : Bool) : Typ
   pieces_are : pieces ≡ line ∷ []
   not_refused_is : refused ≡ false
 
--- check refuses for no cause of its own
-line_cause : (bytes : List ℕ) (r : Refused) → CommandCause Check bytes r → IsLineRefused bytes r
-line_cause bytes r (by_line h) = h
-line_cause bytes r (by_tiling t has n e) = absurd (n tt)
-
 accepted : (bytes : List ℕ) (t : Tiling) → IsReadAs bytes t → (pieces : List (List ℕ)) (refused : Bool) → AnswersCodeLine Check bytes pieces refused
     → IsAccepted t pieces refused
 accepted bytes t read pieces refused (no_item skip) = absurd (skip_not_stated bytes (item_of t) t skip read.item read.stated)
 accepted bytes t read pieces refused (refuses r h) =
-    absurd (not_refused bytes (item_of t) t r read.item read.stated (cause_of bytes r (line_cause bytes r (command_cause Check bytes r h))))
+    absurd (not_refused bytes (item_of t) t r read.item read.stated (cause_of bytes r (check_refuses bytes r (command_cause Check bytes r h))))
 accepted bytes t read pieces refused (answers u _ has _ (line, c, e)) = record {
   line = line;
   is = subst (λ (z : Tiling). IsCheckLine z line) (read.only u own) c;

@@ -2,8 +2,8 @@
 -- after that.
 use Rattle.std.proofs.Common.{Bool, List, Some, [], ap, arith, cond, inl, inr, length, nat_eq, refl, slice_get, suc, sym, ℕ, ◌+◌, ◌<◌, ◌∙◌, ◌∷◌, ◌≡◌}
 use Rattle.std.proofs.Common.{◌≤◌, ◌⊎◌}
+use Rattle.std.proofs.lemmas.Bool.{cases_eq}
 use Rattle.bk_laws.proofs.Occurrences.{times}
-use Rattle.bk_laws.proofs.Tests.{same_or_other}
 use Rattle.bk_word.specs.Outline.{Outline}
 use Rattle.bk_word.specs.declared.Sign.TheVariants.{Above, Even}
 use Rattle.bk_word_net.proofs.ValleyCut.{AtValley}
@@ -67,7 +67,7 @@ module _ (l : Layout) (fits : Fits l) (o : Outline) (st : State l o) (c : AtVall
       ∙ put_other (l.below q) (top + 1) (λ w. top + 2 + old w) w b
 
   which : (w : ℕ) → (w ≡ l.above q) ⊎ ((w ≡ l.below q) ⊎ ((w ≡ l.above q → ⊥) × (w ≡ l.below q → ⊥)))
-  which w = on (same_or_other w (l.above q)) (same_or_other w (l.below q))
+  which w = on (cases_eq w (l.above q)) (cases_eq w (l.below q))
     where
       on : (w ≡ l.above q) ⊎ (w ≡ l.above q → ⊥) → (w ≡ l.below q) ⊎ (w ≡ l.below q → ⊥) → (w ≡ l.above q)
           ⊎ ((w ≡ l.below q) ⊎ ((w ≡ l.above q → ⊥) × (w ≡ l.below q → ⊥)))
@@ -99,7 +99,7 @@ module _ (l : Layout) (fits : Fits l) (o : Outline) (st : State l o) (c : AtVall
 
       on : (times (l.above x) st.done ≡ 0) ⊎ (0 < times (l.above x) st.done) → (times (l.below x) st.done ≡ 0)
           ⊎ (0 < times (l.below x) st.done) → rank (l.above x) < rank (l.below x)
-      on (inl a) b = ends a (up l fits o st c at low h s one two even over x k a) (which (l.above x)) (which (l.below x)) (same_or_other x q)
+      on (inl a) b = ends a (up l fits o st c at low h s one two even over x k a) (which (l.above x)) (which (l.below x)) (cases_eq x q)
       on (inr a) (inl b) = omega (arith, rank_in (l.above x) a, old_low (l.above x) a, out_high (l.below x) b)
       on (inr a) (inr b) = omega (arith, rank_in (l.above x) a, rank_in (l.below x) b, fits.nodes.rises x k)
 

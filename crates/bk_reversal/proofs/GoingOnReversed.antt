@@ -1,8 +1,8 @@
 -- Which lines go on in a layout with a square reversed, and at which squares they then stand.
 use Rattle.std.proofs.Common.{Bool, List, ap, arith, false, inl, inr, refl, slice_get, subst, suc, sym, true, ℕ, ◌<◌, ◌∙◌, ◌≡◌, ◌⊎◌}
+use Rattle.std.proofs.lemmas.Bool.{cases_eq}
 use Rattle.bk_layout.proofs.Counting.{got_same}
 use Rattle.bk_layout.specs.Layout.{Fits, IsFirst, IsLast, Layout}
-use Rattle.bk_laws.proofs.Tests.{same_or_other}
 use Rattle.bk_reversal.proofs.Pieces.{put_at, put_other}
 use Rattle.bk_reversal.specs.Reversal.{CanReverse, put, reversed}
 use Rattle.bk_reversal.proofs.ReversedSquare.{around}
@@ -65,7 +65,7 @@ module _ (l : Layout) (fits : Fits l) (q p r : ℕ) (can : CanReverse l q p r) w
 
   -- where the line at the left of a square goes on, it is the first that ends on its node
   pub on_left : (x : ℕ) → x < l.squares → m.goes_left x ≡ true → IsFirst (m.ending (m.below x)) x × (m.below x < l.bottom)
-  on_left x low e = on (same_or_other x q) (same_or_other x r)
+  on_left x low e = on (cases_eq x q) (cases_eq x r)
     where
       kept : (x ≡ q → ⊥) → (x ≡ r → ⊥) → IsFirst (l.ending (l.below x)) x × (l.below x < l.bottom) → IsFirst (m.ending (l.below x)) x × (l.below x < l.bottom)
       kept a b f = (at (about.which (l.below x)), f.1)
@@ -85,7 +85,7 @@ module _ (l : Layout) (fits : Fits l) (q p r : ℕ) (can : CanReverse l q p r) w
 
   -- and where that at its right does, the last
   pub on_right : (x : ℕ) → x < l.squares → m.goes_right x ≡ true → IsLast (m.ending (m.below x)) x × (m.below x < l.bottom)
-  on_right x low e = on (same_or_other x q) (same_or_other x p)
+  on_right x low e = on (cases_eq x q) (cases_eq x p)
     where
       kept : (x ≡ q → ⊥) → IsLast (l.ending (l.below x)) x × (l.below x < l.bottom) → IsLast (m.ending (l.below x)) x × (l.below x < l.bottom)
       kept a f = (at (about.which (l.below x)), f.1)
@@ -107,7 +107,7 @@ module _ (l : Layout) (fits : Fits l) (q p r : ℕ) (can : CanReverse l q p r) w
 
   -- the square at the left wall is the first that ends on its node
   pub at_left_wall : (x : ℕ) → x < l.squares → m.left x ≡ 0 → IsFirst (m.ending (m.below x)) x
-  at_left_wall x low e = on (same_or_other x q)
+  at_left_wall x low e = on (cases_eq x q)
     where
       q_away : l.left q ≡ 0 → ⊥
       q_away f = omega (arith, fits.lists.ending_once v 0 (suc (about.p_beside).0) q (fits.go_on.at_left_wall q can.known f) (about.p_beside).2)
@@ -127,7 +127,7 @@ module _ (l : Layout) (fits : Fits l) (q p r : ℕ) (can : CanReverse l q p r) w
 
   -- and that at the right wall the last
   pub at_right_wall : (x : ℕ) → x < l.squares → m.right x ≡ 1 → IsLast (m.ending (m.below x)) x
-  at_right_wall x low e = on (same_or_other x q)
+  at_right_wall x low e = on (cases_eq x q)
     where
       p_away : l.right p ≡ 1 → ⊥
       p_away f = about.p_not_q (last_is_q p (subst (λ (z : ℕ). IsLast (l.ending z) p) about.p_below (fits.go_on.at_right_wall p can.before f)))

@@ -1,7 +1,7 @@
 -- The signs between open squares in a layout and in the one with q reversed, before q is hung: they are the same but at the right of p.
 use Rattle.std.proofs.Common.{Bool, List, [], ap, arith, cond, false, inl, inr, length, refl, subst, suc, sym, true, ℕ, ◌<◌, ◌∙◌, ◌∷◌, ◌≡◌, ◌≤◌, ◌⊎◌}
+use Rattle.std.proofs.lemmas.Bool.{cases_eq}
 use Rattle.bk_laws.proofs.Occurrences.{times, times_in}
-use Rattle.bk_laws.proofs.Tests.{same_or_other}
 use Rattle.bk_laws.proofs.ListPlaces.{got_low}
 use Rattle.bk_word.specs.declared.Sign.{Sign}
 use Rattle.bk_word.specs.declared.Sign.TheVariants.{Above, Even, Under}
@@ -73,7 +73,7 @@ module _ (l : Layout) (fits : Fits l) (q p r : ℕ) (can : CanReverse l q p r) w
 
   -- signs between the same squares
   pub sign_moved : (x y : ℕ) → (x ≡ q → ⊥) → (x ≡ p → ⊥) → (y ≡ q → ⊥) → x < l.squares → l.right x ≡ l.left y → sign m x y ≡ sign l x y
-  sign_moved x y a b c low line = on (same_or_other y r)
+  sign_moved x y a b c low line = on (cases_eq y r)
     where
       goes : (g : Bool) → l.goes_right x ≡ g → y ≡ r → sign m x y ≡ sign l x y
       goes true e f = ap (λ (g : Bool). cond {A = Sign} g Above (cond (m.goes_left y) Under Even)) ((goes_right_x l fits q p r can) x a b ∙ e)

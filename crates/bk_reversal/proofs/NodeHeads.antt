@@ -1,9 +1,8 @@
 -- What stands at the left of a valley begins its node; and sums over the squares that end there.
 use Rattle.std.proofs.Common.{List, Some, [], ap, arith, false, inl, inr, length, refl, slice_get, sym, true, ℕ}
 use Rattle.std.proofs.Common.{◌++◌, ◌+◌, ◌<◌, ◌∙◌, ◌∷◌, ◌≡◌, ◌≤◌, ◌⊎◌}
-use Rattle.std.proofs.lemmas.Bool.{both_ways}
+use Rattle.std.proofs.lemmas.Bool.{both_ways, cases_eq}
 use Rattle.bk_laws.proofs.Occurrences.{times}
-use Rattle.bk_laws.proofs.Tests.{same_or_other}
 use Rattle.bk_word.specs.Outline.{valley_place}
 use Rattle.bk_word.specs.declared.Sign.{Sign}
 use Rattle.bk_word.specs.declared.Sign.TheVariants.{Above, Even, Under}
@@ -105,7 +104,7 @@ total f (x ∷ xs) = f x + total f xs
 -- a rank is at most the sum in which it stands
 pub in_total : (f : ℕ → ℕ) (w : ℕ) (xs : List ℕ) → 0 < times w xs → f w ≤ total f xs
 in_total f w [] h = absurd (omega arith)
-in_total f w (x ∷ xs) h = on (same_or_other w x) (in_total f w xs)
+in_total f w (x ∷ xs) h = on (cases_eq w x) (in_total f w xs)
   where
     on : (w ≡ x) ⊎ (w ≡ x → ⊥) → (0 < times w xs → f w ≤ total f xs) → f w ≤ f x + total f xs
     on (inl e) rest = omega (arith, ap f e)

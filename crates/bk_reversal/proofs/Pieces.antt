@@ -2,8 +2,8 @@
 use Rattle.std.proofs.Common.{Bool, List, Some, [], ap, arith, cond, false, inl, inr, length, nat_eq, refl, slice_get, suc, sym, true, zero, ℕ, ◌++◌}
 use Rattle.std.proofs.Common.{◌+◌, ◌<◌, ◌∙◌, ◌∷◌, ◌≡◌, ◌≤◌, ◌⊎◌}
 use Rattle.std.proofs.lemmas.Bool.Decides.{nat_tests}
+use Rattle.std.proofs.lemmas.Bool.{cases_eq}
 use Rattle.bk_laws.proofs.Occurrences.{times, times-append}
-use Rattle.bk_laws.proofs.Tests.{same_or_other}
 use Rattle.bk_laws.proofs.ListPlaces.{got_low}
 use Rattle.bk_layout.proofs.Counting.{got_same, got_times, none_for, one_for, times_got, times_once}
 use Rattle.bk_layout.specs.Layout.{IsFirst}
@@ -116,7 +116,7 @@ pub record Sorted (n : ℕ) (a : ℕ → ℕ) (h : ℕ → List ℕ) : Type 0 wh
 
 -- what stands in the list of a node has this node
 pub sorted_is : (n : ℕ) (a : ℕ → ℕ) (h : ℕ → List ℕ) → Sorted n a h → (v k q : ℕ) → slice_get (h v) k ≡ Some q → (q < n) × (a q ≡ v)
-sorted_is n a h s v k q e = (below, cases (same_or_other (a q) v))
+sorted_is n a h s v k q e = (below, cases (cases_eq (a q) v))
   where
     below : q < n
     below = s.low q v (got_times (h v) k q e)
@@ -131,7 +131,7 @@ sorted_has n a h s q low = times_got (h (a q)) q (omega (arith, s.counted q (a q
 
 -- and once
 pub sorted_once : (n : ℕ) (a : ℕ → ℕ) (h : ℕ → List ℕ) → Sorted n a h → (v j k q : ℕ) → slice_get (h v) j ≡ Some q → slice_get (h v) k ≡ Some q → j ≡ k
-sorted_once n a h s v j k q e f = times_once (h v) q (few (same_or_other (a q) v)) j k e f
+sorted_once n a h s v j k q e f = times_once (h v) q (few (cases_eq (a q) v)) j k e f
   where
     few : (a q ≡ v) ⊎ (a q ≡ v → ⊥) → times q (h v) ≤ 1
     few (inl g) = omega (arith, s.counted q v (s.low q v (got_times (h v) j q e)), one_for (a q) v g)

@@ -1,7 +1,7 @@
 -- How often each square stands in each list of a layout with a square reversed.
 use Rattle.std.proofs.Common.{ap, arith, cond, inl, inr, nat_eq, sym, ℕ, ◌+◌, ◌<◌, ◌∙◌, ◌≡◌, ◌⊎◌}
+use Rattle.std.proofs.lemmas.Bool.{cases_eq}
 use Rattle.bk_laws.proofs.Occurrences.{times}
-use Rattle.bk_laws.proofs.Tests.{same_or_other}
 use Rattle.bk_layout.proofs.Sweep.{ending_times, hanging_times}
 use Rattle.bk_layout.proofs.Counting.{none_for, one_for}
 use Rattle.bk_layout.specs.Layout.{Fits, Layout}
@@ -11,7 +11,7 @@ use Rattle.bk_reversal.proofs.ReversedSquare.{around}
 use Rattle.bk_reversal.proofs.AroundSquare.{Around}
 
 one_or_none : (a b : ℕ) → ((a ≡ b) × (cond {A = ℕ} (nat_eq a b) 1 0 ≡ 1)) ⊎ ((a ≡ b → ⊥) × (cond {A = ℕ} (nat_eq a b) 1 0 ≡ 0))
-one_or_none a b = on (same_or_other a b)
+one_or_none a b = on (cases_eq a b)
   where
     on : (a ≡ b) ⊎ (a ≡ b → ⊥) → ((a ≡ b) × (cond {A = ℕ} (nat_eq a b) 1 0 ≡ 1)) ⊎ ((a ≡ b → ⊥) × (cond {A = ℕ} (nat_eq a b) 1 0 ≡ 0))
     on (inl e) = inl (e, one_for a b e)

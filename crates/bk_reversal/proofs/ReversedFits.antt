@@ -1,8 +1,8 @@
 -- A layout with a square reversed fits, is the same up to reversals, and has no twins where the layout has none.
 use Rattle.std.proofs.Common.{List, Some, ap, arith, false, inl, inr, length, nat_eq, refl, slice_get, subst, suc, sym, true, zero, ℕ, ◌<◌, ◌∙◌, ◌≡◌, ◌⊎◌}
+use Rattle.std.proofs.lemmas.Bool.{cases_eq}
 use Rattle.bk_layout.proofs.Counting.{got_same}
 use Rattle.bk_layout.specs.Layout.{AreNeighbours, Fits, HasNoTwins, Layout}
-use Rattle.bk_laws.proofs.Tests.{same_or_other}
 use Rattle.bk_laws.proofs.ListPlaces.{got_low}
 use Rattle.bk_reversal.proofs.Pieces.{test_fails, test_holds}
 use Rattle.bk_reversal.specs.Reversal.{CanReverse, IsUpToReversals, reversed}
@@ -71,7 +71,7 @@ module _ (l : Layout) (fits : Fits l) (q p r : ℕ) (can : CanReverse l q p r) w
 
   -- reversing keeps a layout without twins
   pub no_twins_then : HasNoTwins l → HasNoTwins m
-  no_twins_then single w x y (j, e, f) (k, g, h) = on (same_or_other x q) (same_or_other y q)
+  no_twins_then single w x y (j, e, f) (k, g, h) = on (cases_eq x q) (cases_eq y q)
     where
       node : m.above x ≡ w
       node = ((lists_then l fits q p r can).hanging_is w j x e).1

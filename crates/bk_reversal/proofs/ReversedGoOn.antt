@@ -1,8 +1,8 @@
 -- Where lines go on in a layout with a square reversed.
 use Rattle.std.proofs.Common.{List, Some, ap, arith, false, inl, inr, length, slice_get, subst, suc, sym, ℕ, ◌<◌, ◌∙◌, ◌≡◌, ◌≤◌, ◌⊎◌}
+use Rattle.std.proofs.lemmas.Bool.{cases_eq}
 use Rattle.bk_layout.proofs.Counting.{got_same}
 use Rattle.bk_layout.specs.Layout.{AreNeighbours, DoLinesGoOn, Fits, Layout}
-use Rattle.bk_laws.proofs.Tests.{same_or_other}
 use Rattle.bk_laws.proofs.ListPlaces.{got_low}
 use Rattle.bk_reversal.specs.Reversal.{CanReverse, reversed}
 use Rattle.bk_reversal.proofs.ReversedSquare.{around}
@@ -58,7 +58,7 @@ module _ (l : Layout) (fits : Fits l) (q p r : ℕ) (can : CanReverse l q p r) w
 
   meet : (x y : ℕ) → x < l.squares → y < l.squares → m.right x ≡ m.left y → m.goes_right x ≡ false → m.goes_left y ≡ false
       → AreNeighbours (m.ending (m.below x)) x y
-  meet x y low low_y line e f = on (same_or_other y q) (same_or_other x p) (same_or_other x q) (same_or_other y r)
+  meet x y low low_y line e f = on (cases_eq y q) (cases_eq x p) (cases_eq x q) (cases_eq y r)
     where
       kept : (y ≡ q → ⊥) → AreNeighbours (l.ending (l.below x)) x y → (l.below x ≡ u)
           ⊎ ((l.below x ≡ v) ⊎ ((l.below x ≡ u → ⊥) × (l.below x ≡ v → ⊥))) → AreNeighbours (m.ending (l.below x)) x y
@@ -73,7 +73,7 @@ module _ (l : Layout) (fits : Fits l) (q p r : ℕ) (can : CanReverse l q p r) w
             k,
             by_place.get_ev k (omega (arith, got_low (l.ending v) (suc k) y h))
                 ∙ g,
-            by_place.get_ev (suc k) (inside (same_or_other (suc (suc k)) (length (l.ending v)))) ∙ h,
+            by_place.get_ev (suc k) (inside (cases_eq (suc (suc k)) (length (l.ending v)))) ∙ h,
           )
             where
               inside : (suc (suc k) ≡ length (l.ending v)) ⊎ (suc (suc k) ≡ length (l.ending v) → ⊥) → suc (suc k) < length (l.ending v)

@@ -1,7 +1,7 @@
 -- The lists of a layout with a square reversed agree with its functions.
 use Rattle.std.proofs.Common.{ap, arith, inl, inr, ℕ, ◌<◌, ◌≡◌, ◌⊎◌}
+use Rattle.std.proofs.lemmas.Bool.{cases_eq}
 use Rattle.bk_laws.proofs.Occurrences.{times}
-use Rattle.bk_laws.proofs.Tests.{same_or_other}
 use Rattle.bk_layout.proofs.Counting.{none_for, times_got}
 use Rattle.bk_layout.specs.Layout.{AreLists, Fits, Layout}
 use Rattle.bk_reversal.proofs.Pieces.{Sorted, sorted_has, sorted_is, sorted_once, times_end, times_init, times_tail}
@@ -42,7 +42,7 @@ module _ (l : Layout) (fits : Fits l) (q p r : ℕ) (can : CanReverse l q p r) w
 
       on : (w ≡ u) ⊎ ((w ≡ v) ⊎ ((w ≡ u → ⊥) × (w ≡ v → ⊥))) → x < l.squares
       on (inl e) = in_list u (omega (arith, h, ap (λ (y : ℕ). times x (m.hanging y)) e, ap (times x) about.hanging_u, times_tail (l.hanging u) q x can.first))
-      on (inr (inl e)) = at_v e (same_or_other x q)
+      on (inr (inl e)) = at_v e (cases_eq x q)
       on (inr (inr (a, b))) = in_list w (omega (arith, h, ap (times x) (about.hanging_w w a b)))
 
   ending_low : (x w : ℕ) → 0 < times x (m.ending w) → x < l.squares
@@ -56,7 +56,7 @@ module _ (l : Layout) (fits : Fits l) (q p r : ℕ) (can : CanReverse l q p r) w
       at_u e (inr f) = in_list u (omega (arith, h, ap (λ (y : ℕ). times x (m.ending y)) e, ap (times x) about.ending_u, none_for x q f))
 
       on : (w ≡ u) ⊎ ((w ≡ v) ⊎ ((w ≡ u → ⊥) × (w ≡ v → ⊥))) → x < l.squares
-      on (inl e) = at_u e (same_or_other x q)
+      on (inl e) = at_u e (cases_eq x q)
       on (inr (inl e)) = in_list v (omega (
         arith,
         h,

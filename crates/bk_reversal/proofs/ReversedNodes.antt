@@ -1,7 +1,7 @@
 -- The nodes of a layout with a square reversed: u and v change their places in the rank.
 use Rattle.std.proofs.Common.{List, ap, arith, inl, inr, length, refl, ℕ, ◌<◌, ◌∙◌, ◌≡◌, ◌≤◌, ◌⊎◌}
+use Rattle.std.proofs.lemmas.Bool.{cases_eq}
 use Rattle.bk_layout.specs.Layout.{AreNodes, Fits, Layout}
-use Rattle.bk_laws.proofs.Tests.{same_or_other}
 use Rattle.bk_reversal.proofs.Pieces.{put_at, put_other}
 use Rattle.bk_reversal.specs.Reversal.{CanReverse, put, reversed}
 use Rattle.bk_reversal.proofs.ReversedSquare.{around}
@@ -37,7 +37,7 @@ module _ (l : Layout) (fits : Fits l) (q p r : ℕ) (can : CanReverse l q p r) w
   rank_w w a b = put_other u (can.rank v) (put v (can.rank u) can.rank) w a ∙ put_other v (can.rank u) can.rank w b
 
   rises : (x : ℕ) → x < l.squares → rank (m.above x) < rank (m.below x)
-  rises x low = on (same_or_other x q)
+  rises x low = on (cases_eq x q)
     where
       kept : (x ≡ q → ⊥) → (l.above x ≡ u) ⊎ ((l.above x ≡ v) ⊎ ((l.above x ≡ u → ⊥) × (l.above x ≡ v → ⊥))) → (l.below x ≡ u)
           ⊎ ((l.below x ≡ v) ⊎ ((l.below x ≡ u → ⊥) × (l.below x ≡ v → ⊥))) → rank (l.above x) < rank (l.below x)
@@ -67,8 +67,8 @@ module _ (l : Layout) (fits : Fits l) (q p r : ℕ) (can : CanReverse l q p r) w
   -- the nodes of the reversed layout are those of a layout
   pub nodes_then : AreNodes m
   nodes_then = record {
-    hangs_above = λ x h. hangs_above x h (same_or_other x q);
-    ends_below = λ x h. ends_below x h (same_or_other x q);
+    hangs_above = λ x h. hangs_above x h (cases_eq x q);
+    ends_below = λ x h. ends_below x h (cases_eq x q);
     hanging_some = λ w h. hanging_some w h (about.which w);
     ending_some = λ w h g. ending_some w h g (about.which w);
     rank = rank;

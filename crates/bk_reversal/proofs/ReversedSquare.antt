@@ -1,7 +1,7 @@
 -- A square q that may be reversed: what is known of it and of p and r beside it holds, and the functions of the layout change there alone.
 use Rattle.std.proofs.Common.{Some, [], ap, arith, inl, inr, refl, subst, suc, sym, ℕ, ◌++◌, ◌<◌, ◌∙◌, ◌∷◌, ◌≡◌, ◌⊎◌}
+use Rattle.std.proofs.lemmas.Bool.{cases_eq}
 use Rattle.bk_layout.specs.Layout.{AreNeighbours, Fits, IsLast, Layout}
-use Rattle.bk_laws.proofs.Tests.{same_or_other}
 use Rattle.bk_reversal.proofs.Pieces.{put_at, put_other}
 use Rattle.bk_reversal.proofs.AroundSquare.{Around}
 use Rattle.bk_reversal.specs.Reversal.{CanReverse, put, reversed, without_first, without_last}
@@ -106,7 +106,7 @@ module _ (l : Layout) (fits : Fits l) (q p r : ℕ) (can : CanReverse l q p r) w
 
   -- u, v or another node
   which : (w : ℕ) → (w ≡ u) ⊎ ((w ≡ v) ⊎ ((w ≡ u → ⊥) × (w ≡ v → ⊥)))
-  which w = on (same_or_other w u) (same_or_other w v)
+  which w = on (cases_eq w u) (cases_eq w v)
     where
       on : (w ≡ u) ⊎ (w ≡ u → ⊥) → (w ≡ v) ⊎ (w ≡ v → ⊥) → (w ≡ u) ⊎ ((w ≡ v) ⊎ ((w ≡ u → ⊥) × (w ≡ v → ⊥)))
       on (inl e) f = inl e

@@ -1,8 +1,8 @@
 -- States of both sweeps: as long as p and q aren't laid and v isn't closed, they are the same.
 use Rattle.std.proofs.Common.{List, Some, [], ap, arith, inl, inr, map, refl, slice_get, sym, ℕ, ◌+◌, ◌<◌, ◌∙◌, ◌∷◌, ◌≡◌, ◌⊎◌}
 use Rattle.std.specs.List.{AllZip}
+use Rattle.std.proofs.lemmas.Bool.{cases_eq}
 use Rattle.bk_laws.proofs.Occurrences.{times, times_in}
-use Rattle.bk_laws.proofs.Tests.{same_or_other}
 use Rattle.bk_word.specs.Outline.{Outline}
 use Rattle.bk_layout.proofs.SquareLists.{lists_at}
 use Rattle.bk_layout.proofs.Sweep.{State}
@@ -60,8 +60,8 @@ module _ (l : Layout) (fits : Fits l) (q p r : ℕ) (can : CanReverse l q p r) w
       wall = wall_moved (lists_at st.laid o.segments) st.wall q_closed;
       closed = st.closed ∙ ending_moved st.done no_u no_v;
       hung = hung_moved st.done st.laid o.hung st.hung no_q;
-      laid_times = λ x h. laid x h (same_or_other x q);
-      open_times = λ x h. opened x h (same_or_other x q);
+      laid_times = λ x h. laid x h (cases_eq x q);
+      open_times = λ x h. opened x h (cases_eq x q);
       done_once = st.done_once;
       top = st.top;
       begun = st.begun;

@@ -1,7 +1,8 @@
 -- A trace keeps rule R, or has a move that doesn't; then a layout with one more square reversed has a lesser word.
 use Rattle.std.specs.List.{AllByRecursion}
-use Rattle.std.proofs.Common.{Bool, List, Some, [], ap, arith, false, inl, inr, length, refl, slice_get, subst, suc, sym, true, zero, ℕ, ◌+◌, ◌<◌}
+use Rattle.std.proofs.Common.{List, Some, [], ap, arith, false, inl, inr, length, refl, slice_get, subst, suc, sym, true, zero, ℕ, ◌+◌, ◌<◌}
 use Rattle.std.proofs.Common.{◌∙◌, ◌∷◌, ◌≡◌, ◌⊎◌}
+use Rattle.std.proofs.lemmas.Bool.{cases_Bool}
 use Rattle.bk_word.specs.Outline.{Outline, has_left_wall, open_side, start}
 use Rattle.bk_word.specs.Play.{after_move}
 use Rattle.bk_word.specs.Word.{Move, Word, order_of}
@@ -44,16 +45,12 @@ begins (Even ∷ Above ∷ h) = inl (refl, refl)
 begins (Even ∷ Even ∷ h) = inr (λ e f. absurd (cc))
 begins (Even ∷ Under ∷ h) = inr (λ e f. absurd (cc))
 
-wall_or_not : (b : Bool) → (b ≡ true) ⊎ (b ≡ false)
-wall_or_not true = inl refl
-wall_or_not false = inr refl
-
 more_or_one : (n : ℕ) → (1 < n) ⊎ (1 < n → ⊥)
 more_or_one n = grind arith
 
 scan : (l : Layout) (fits : Fits l) (o : Outline) (st : State l o) (w : Word) (tr : Trace l fits o st w) → KeepRuleRFrom o w ⊎ Broken l fits o st w tr
 scan l fits o st [] tr = inl tt
-scan l fits o st (mv ∷ w) tr = on (wall_or_not (has_left_wall o)) (more_or_one mv.count) (begins mv.signs) (scan l fits (after_move o mv) tr.0 w tr.2)
+scan l fits o st (mv ∷ w) tr = on (cases_Bool (has_left_wall o)) (more_or_one mv.count) (begins mv.signs) (scan l fits (after_move o mv) tr.0 w tr.2)
   where
     s : IsStep l fits o st mv tr.0
     s = tr.1
@@ -98,7 +95,7 @@ none_of o [] single keeps = tt
 none_of o (mv ∷ w) single keeps = (here, none_of (after_move o mv) w single.1 keeps.1)
   where
     here : BeginsNoEvenAbove mv
-    here two even over = on (wall_or_not (has_left_wall o))
+    here two even over = on (cases_Bool (has_left_wall o))
       where
         at : has_left_wall o ≡ true → open_side (has_left_wall o) + 0 ≡ 0
         at wall = omega (arith, ap open_side wall)

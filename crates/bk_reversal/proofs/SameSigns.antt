@@ -1,7 +1,7 @@
 -- The same open squares in both layouts, before q is hung: their signs are the same, or they drop at the right of p.
 use Rattle.std.proofs.Common.{List, [], ap, arith, inl, inr, refl, slice_get, subst, suc, sym, ℕ, ◌<◌, ◌∙◌, ◌∷◌, ◌≡◌, ◌⊎◌}
+use Rattle.std.proofs.lemmas.Bool.{cases_eq}
 use Rattle.bk_laws.proofs.Occurrences.{times, times_in}
-use Rattle.bk_laws.proofs.Tests.{same_or_other}
 use Rattle.bk_word.specs.declared.Sign.{Sign}
 use Rattle.bk_layout.proofs.Chains.{Chain, Run, chain_known, known_first, known_last, last_from, sign}
 use Rattle.bk_reversal.proofs.Drops.{Drops}
@@ -32,12 +32,12 @@ module _ (l : Layout) (fits : Fits l) (q p r : ℕ) (can : CanReverse l q p r) w
 
   -- p stands last in its segment
   last_is_p : (x : ℕ) (xs : List ℕ) → Run l x xs → times q (x ∷ xs) ≡ 0 → 0 < times p (x ∷ xs) → last_from x xs ≡ p
-  last_is_p x [] run a b = on (same_or_other p x)
+  last_is_p x [] run a b = on (cases_eq p x)
     where
       on : (p ≡ x) ⊎ (p ≡ x → ⊥) → x ≡ p
       on (inl e) = sym e
       on (inr e) = absurd (omega (arith, b, none_for p x e))
-  last_is_p x (y ∷ xs) run a b = on (same_or_other p x) (λ t. last_is_p y xs run.1 (omega (arith, a)) t)
+  last_is_p x (y ∷ xs) run a b = on (cases_eq p x) (λ t. last_is_p y xs run.1 (omega (arith, a)) t)
     where
       next : p ≡ x → AreNeighbours (l.ending (l.below p)) p y → y ≡ q
       next e (k, g, h) = got_same y q (sym h ∙ ap (slice_get (l.ending (l.below p)))

@@ -1,6 +1,7 @@
 -- The moves of a sweep with the states between them.
 use Rattle.std.proofs.Common.{List, Option, Some, [], ap, arith, inl, inr, length, refl, subst, suc, sym, zero, ℕ, ◌++◌, ◌+◌, ◌<◌, ◌∙◌, ◌∷◌, ◌≡◌, ◌≤◌, ◌⊎◌}
 use Rattle.std.proofs.lemmas.List.{append-nil, append_assoc}
+use Rattle.std.proofs.lemmas.Bool.{cases_eq}
 use Rattle.bk_word.specs.Outline.{IsLegalMove, Outline, start}
 use Rattle.bk_word.specs.Play.{AreLegalFrom, after_move, after_moves}
 use Rattle.bk_word.specs.Word.{Move, Word}
@@ -17,7 +18,6 @@ use Rattle.bk_layout.proofs.WholeRuns.{Hung, hung_from}
 use Rattle.bk_layout.specs.FreeWord.{AreFreeFrom, HangNoTwinsFrom, HangsNoTwins, IsFreeMove}
 use Rattle.bk_layout.specs.Layout.{Fits, HasNoTwins, Layout}
 use Rattle.bk_layout.specs.LayoutLaws.{HangByLinesFrom, HangByNodesFrom, HangsByLines, HangsNode}
-use Rattle.bk_laws.proofs.Tests.{same_or_other}
 
 -- the next state comes by the move that hangs all that hangs from the valley's node
 pub record IsStep (l : Layout) (fits : Fits l) (o : Outline) (st : State l o) (mv : Move) (next : State l (after_move o mv)) : Type 0 where
@@ -37,7 +37,7 @@ Trace l fits o st (mv ∷ w) = (next : State l (after_move o mv)) × IsStep l fi
 
 onward : (l : Layout) (fits : Fits l) (o : Outline) (st : State l o)
     → ((then : Outline) (s : State l then) → length s.done ≡ suc (length st.done) → (w : Word) × Trace l fits then s w) → (w : Word) × Trace l fits o st w
-onward l fits o st more = cases (same_or_other (l.below at.q) l.bottom)
+onward l fits o st more = cases (cases_eq (l.below at.q) l.bottom)
   where
     c : AtValley o
     c = valley_in o st.shaped

@@ -1,7 +1,7 @@
 -- Reversing a square keeps a layout sound.
 use Rattle.std.proofs.Common.{List, Some, ap, arith, inl, inr, length, refl, slice_get, subst, suc, sym, zero, ℕ, ◌<◌, ◌∙◌, ◌∷◌, ◌≡◌, ◌⊎◌}
+use Rattle.std.proofs.lemmas.Bool.{cases_eq}
 use Rattle.bk_laws.proofs.ListPlaces.{get_some}
-use Rattle.bk_laws.proofs.Tests.{same_or_other}
 use Rattle.bk_layout.proofs.Counting.{got_same}
 use Rattle.bk_layout.specs.Layout.{AreNeighbours, Fits, Layout}
 use Rattle.bk_free_cuts.specs.FreeCuts.{AreOuterWalls}
@@ -50,21 +50,21 @@ module _ (l : Layout) (fits : Fits l) (q p r : ℕ) (can : CanReverse l q p r) w
       inner_left e = walls.not_before p can.before (can.beside ∙ e)
 
       not_beyond : (x : ℕ) → x < l.squares → m.left x ≡ 1 → ⊥
-      not_beyond x low e = on (same_or_other x q)
+      not_beyond x low e = on (cases_eq x q)
         where
           on : (x ≡ q) ⊎ (x ≡ q → ⊥) → ⊥
           on (inl i) = inner_right (sym left_q ∙ ap m.left (sym i) ∙ e)
           on (inr n) = walls.not_beyond x low (sym (left_x x n) ∙ e)
 
       not_before : (x : ℕ) → x < l.squares → m.right x ≡ 0 → ⊥
-      not_before x low e = on (same_or_other x q)
+      not_before x low e = on (cases_eq x q)
         where
           on : (x ≡ q) ⊎ (x ≡ q → ⊥) → ⊥
           on (inl i) = inner_left (sym right_q ∙ ap m.right (sym i) ∙ e)
           on (inr n) = walls.not_before x low (sym (right_x x n) ∙ e)
 
       apart_m : (x : ℕ) → x < l.squares → m.left x ≡ m.right x → ⊥
-      apart_m x low e = on (same_or_other x q)
+      apart_m x low e = on (cases_eq x q)
         where
           on : (x ≡ q) ⊎ (x ≡ q → ⊥) → ⊥
           on (inl i) = walls.apart q can.known (sym right_q ∙ ap m.right (sym i) ∙ sym e ∙ ap m.left i ∙ left_q)
@@ -78,7 +78,7 @@ module _ (l : Layout) (fits : Fits l) (q p r : ℕ) (can : CanReverse l q p r) w
 
   -- neighbours of the reversed layout, but for q, are neighbours before
   back : (w x y : ℕ) → (w ≡ l.above q → ⊥) → AreNeighbours (m.ending w) x y → AreNeighbours (l.ending w) x y
-  back w x y n (k, e, f) = on (same_or_other w (l.below q))
+  back w x y n (k, e, f) = on (cases_eq w (l.below q))
     where
       on : (w ≡ l.below q) ⊎ (w ≡ l.below q → ⊥) → AreNeighbours (l.ending w) x y
       on (inl i) = (
@@ -103,7 +103,7 @@ module _ (l : Layout) (fits : Fits l) (q p r : ℕ) (can : CanReverse l q p r) w
 
   -- squares that end side by side meet in it at one line
   pub ends_over : DoEndsMeet l → DoEndsMeet m
-  ends_over ends w x y (k, e, f) = on (same_or_other w (l.above q))
+  ends_over ends w x y (k, e, f) = on (cases_eq w (l.above q))
     where
       other : (x ≡ q → ⊥) → (y ≡ q → ⊥) → AreNeighbours (l.ending w) x y → m.right x ≡ m.left y
       other a b n = right_x x a ∙ ends w x y n ∙ sym (left_x y b)

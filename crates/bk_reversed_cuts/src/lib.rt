@@ -13,7 +13,8 @@ pub fn a_sound_layout_has_a_sound_word_by_rule_r()
     ensures { ASoundLayoutHasASoundWordByRuleR }
 {}
 
-/// The layout of a simple tiling of at least 3 squares is sound, and so are those with squares of it reversed.
+/// The layout of a simple tiling of at least 3 squares is sound; around a node no line stands before two squares or after two, and squares that end
+/// side by side share a line: what reversing a square keeps.
 pub fn a_simple_tiling_is_sound_around()
     ensures { ASimpleTilingIsSoundAround }
 {}

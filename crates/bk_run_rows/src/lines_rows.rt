@@ -44,65 +44,71 @@ impl Answerer for Lengths {
     ghost empty_line = { λ _. tt };
 }
 
-// Asserts how a run over an input in pieces of at most so many bytes ends, and what it writes.
-fn assert_run(rt: &impl Abort, input: &[u8], most: usize, ending: Ended, text: &[u8])
+// Whether a run over an input in pieces of at most so many bytes ends so, and writes this.
+fn runs_so(input: &[u8], most: usize, ending: Ended, text: &[u8]) -> bool
     requires { 0 < most }
 {
     let mut source = MemSource::new(input, most, &[]);
     let mut room = [0; 100];
     let mut out = MemSink::new(&mut room, &[]);
-    let ended = answer_lines(&Lengths, &mut source, &mut out);
-    assert_eq!(rt; ended, ending, "at most {most}");
-    assert_eq!(rt; out.written(), text, "at most {most}");
+    answer_lines(&Lengths, &mut source, &mut out) == ending && out.written() == text
+}
+
+// Asserts how the runs over an input end in pieces of each length up to 11, and what they write.
+fn assert_runs(rt: &impl Abort, input: &str, ending: Ended, text: &[u8]) {
+    for most in 1..12 {
+        assert!(rt;
+            runs_so(input.as_bytes(), most, ending, text),
+            "{input}, at most {most}"
+        );
+    }
 }
 
 // Inputs, how their runs end, and what is written.
-fn inputs_and_answers() -> &'static [(&'static [u8], Ended, &'static [u8])] {
+fn inputs_and_answers() -> &'static [(&'static str, Ended, &'static [u8])] {
     &[
-        (b"", Ended::NoneRefused, b""),
-        (b"\n", Ended::NoneRefused, b""),
-        (b"a", Ended::NoneRefused, b"1\n"),
-        (b"ab\n\ncde\n", Ended::NoneRefused, b"2\n3\n"),
-        (b"\n\nab\n\ncde", Ended::NoneRefused, b"2\n3\n"),
-        (b"ab\n!\ncde\n", Ended::SomeRefused, b"2\n1\n3\n"),
-        (b"ab\ncde\n!x", Ended::SomeRefused, b"2\n3\n2\n"),
-        (b"ab\n!\n?\ncde\n", Ended::NoMemory, b"2\n1\n"),
-        (b"ab\n?", Ended::NoMemory, b"2\n"),
+        ("", Ended::NoneRefused, b""),
+        ("\n", Ended::NoneRefused, b""),
+        ("a", Ended::NoneRefused, b"1\n"),
+        ("ab\n\ncde\n", Ended::NoneRefused, b"2\n3\n"),
+        ("\n\nab\n\ncde", Ended::NoneRefused, b"2\n3\n"),
+        ("ab\n!\ncde\n", Ended::SomeRefused, b"2\n1\n3\n"),
+        ("ab\ncde\n!x", Ended::SomeRefused, b"2\n3\n2\n"),
+        ("ab\n!\n?\ncde\n", Ended::NoMemory, b"2\n1\n"),
+        ("ab\n?", Ended::NoMemory, b"2\n"),
     ]
 }
 
 #[test]
 fn lines_come_in_any_cuts(rt: HostRuntime) {
     for (input, ending, text) in inputs_and_answers() {
-        for most in 1..12 {
-            assert_run(&rt, input, most, *ending, text);
-        }
+        assert_runs(&rt, input, *ending, text);
     }
 }
 
-// Asserts what a run over a line of so many bytes writes.
-fn assert_long(rt: &impl Abort, length: u64, text: &[u8]) {
+// Whether a run over a line of so many bytes writes this.
+fn runs_long(length: u64, text: &[u8]) -> bool {
     let mut source = FillSource::new(b'a', length);
     let mut room = [0; 100];
     let mut out = MemSink::new(&mut room, &[]);
-    assert_eq!(rt;
-        answer_lines(&Lengths, &mut source, &mut out),
-        Ended::NoneRefused
-    );
-    assert_eq!(rt; out.written(), text, "a line of {length} bytes");
+    answer_lines(&Lengths, &mut source, &mut out) == Ended::NoneRefused && out.written() == text
 }
 
-#[test]
-fn a_long_line_is_kept_as_far_as_it_counts(rt: HostRuntime) {
-    let rows: [(u64, &[u8]); 5] = [
+// Lengths of lines, and what is written.
+fn lengths_and_answers() -> &'static [(u64, &'static [u8])] {
+    &[
         (8191, b"8191\n"),
         (8192, b"8192\n"),
         (8193, b"8193\n"),
         (9000, b"8193\n"),
         (40_000, b"8193\n"),
-    ];
-    for (length, text) in rows {
-        assert_long(&rt, length, text);
+    ]
+}
+
+#[test]
+fn a_long_line_is_kept_as_far_as_it_counts(rt: HostRuntime) {
+    for (length, text) in lengths_and_answers() {
+        assert!(rt; runs_long(*length, text), "a line of {length} bytes");
     }
 }
 
@@ -111,7 +117,8 @@ fn a_long_line_ends_at_its_line_feed(rt: HostRuntime) {
     let mut input = [b'a'; 9004];
     input[9000] = b'\n';
     for most in [1, 10, 8192, 8193, 9000, 9001, 9004] {
-        assert_run(&rt, &input, most, Ended::NoneRefused, b"8193\n3\n");
+        let fits = runs_so(&input, most, Ended::NoneRefused, b"8193\n3\n");
+        assert!(rt; fits, "at most {most}");
     }
 }
 
@@ -140,23 +147,25 @@ fn faulty_runs() -> &'static [Faulty] {
     &FAULTY_RUNS
 }
 
-// Asserts a run with faults.
-fn assert_faulty(rt: &impl Abort, run: Faulty) {
+// Whether a run with faults is so. After it the source gives what comes next: a failed read was the last one.
+fn fails_so(run: &Faulty) -> bool {
     let (most, read_fails, write_fails, ending, text, next) = run;
-    assert!(rt; most > 0);
-    let mut source = MemSource::new(b"ab\ncd\nefg", most, read_fails);
+    if *most == 0 {
+        return false;
+    }
+    let mut source = MemSource::new(b"ab\ncd\nefg", *most, read_fails);
     let mut room = [0; 100];
     let mut out = MemSink::new(&mut room, write_fails);
-    assert_eq!(rt; answer_lines(&Lengths, &mut source, &mut out), ending);
-    assert_eq!(rt; out.written(), text);
-    assert_eq!(rt; source.read(&mut [0; 9]), next);
+    answer_lines(&Lengths, &mut source, &mut out) == *ending
+        && out.written() == *text
+        && source.read(&mut [0; 9]) == *next
 }
 
-// After a run the source gives what comes next: a failed read was the last one.
 #[test]
 fn a_fault_ends_the_run(rt: HostRuntime) {
     for run in faulty_runs() {
-        assert_faulty(&rt, *run);
+        let (most, read_fails, write_fails, _, _, _) = run;
+        assert!(rt; fails_so(run), "{most} {read_fails:?} {write_fails:?}");
     }
 }
 
@@ -194,37 +203,42 @@ impl Register for Numbers {
     ghost still_ready = { λ _ _ _. tt };
 }
 
-// Asserts how a numbered run over an input in pieces of at most so many bytes ends, what it writes, and the last number.
-fn assert_numbered(rt: &impl Abort, input: &[u8], most: usize, ending: Ended, then: (&[u8], u64))
+// Whether a numbered run over an input in pieces of at most so many bytes ends so, and what is written and the last number.
+fn numbers_so(input: &[u8], most: usize, ending: Ended, text: &[u8], last: u64) -> bool
     requires { 0 < most }
 {
     let mut source = MemSource::new(input, most, &[]);
     let mut room = [0; 100];
     let mut out = MemSink::new(&mut room, &[]);
     let mut numbers = Numbers { last: 0 };
-    let ended = enter_lines(&mut numbers, &mut source, &mut out);
-    assert_eq!(rt; ended, ending, "at most {most}");
-    assert_eq!(rt; out.written(), then.0, "at most {most}");
-    assert_eq!(rt; numbers.last, then.1, "at most {most}");
+    enter_lines(&mut numbers, &mut source, &mut out) == ending
+        && out.written() == text
+        && numbers.last == last
+}
+
+// Asserts them of an input in pieces of each length up to 11.
+fn assert_numbers(rt: &impl Abort, input: &str, ending: Ended, text: &[u8], last: u64) {
+    for most in 1..12 {
+        let fits = numbers_so(input.as_bytes(), most, ending, text, last);
+        assert!(rt; fits, "{input}, at most {most}");
+    }
 }
 
 // Inputs, how their numbered runs end, what is written, and the last number.
-fn inputs_and_numbers() -> &'static [(&'static [u8], Ended, &'static [u8], u64)] {
+fn inputs_and_numbers() -> &'static [(&'static str, Ended, &'static [u8], u64)] {
     &[
-        (b"", Ended::NoneRefused, b"", 0),
-        (b"a", Ended::NoneRefused, b"1\n", 1),
-        (b"ab\n\n\ncde\n\n", Ended::NoneRefused, b"2\n3\n", 4),
-        (b"\n\na\n\n!b", Ended::SomeRefused, b"1\n2\n", 5),
-        (b"a\n\n?\nb", Ended::NoMemory, b"1\n", 3),
-        (b"\n\n\n", Ended::NoneRefused, b"", 0),
+        ("", Ended::NoneRefused, b"", 0),
+        ("a", Ended::NoneRefused, b"1\n", 1),
+        ("ab\n\n\ncde\n\n", Ended::NoneRefused, b"2\n3\n", 4),
+        ("\n\na\n\n!b", Ended::SomeRefused, b"1\n2\n", 5),
+        ("a\n\n?\nb", Ended::NoMemory, b"1\n", 3),
+        ("\n\n\n", Ended::NoneRefused, b"", 0),
     ]
 }
 
 #[test]
 fn all_lines_are_numbered(rt: HostRuntime) {
     for (input, ending, text, last) in inputs_and_numbers() {
-        for most in 1..12 {
-            assert_numbered(&rt, input, most, *ending, (text, *last));
-        }
+        assert_numbers(&rt, input, *ending, text, *last);
     }
 }

@@ -13,13 +13,19 @@ fn piece<'a, S: Source>(source: &mut S, buf: &'a mut [u8]) -> Option<&'a [u8]>
     Some(&buf[..count])
 }
 
+// Whether one call of a source gives this, or fails where this is "failed".
+fn gives<S: Source>(source: &mut S, buf: &mut [u8], want: &str) -> bool
+    requires { 0 < length buf.old }
+{
+    piece(source, buf).unwrap_or(b"failed") == want.as_bytes()
+}
+
 #[test]
 fn a_memory_source_gives_pieces(rt: HostRuntime) {
     let mut source = MemSource::new(b"abcdef", 2, &[1]);
     let mut buf = [0; 4];
     for want in ["ab", "failed", "cd", "ef", ""] {
-        let got = piece(&mut source, &mut buf).unwrap_or(b"failed");
-        assert_eq!(rt; got, want.as_bytes());
+        assert!(rt; gives(&mut source, &mut buf, want), "{want}");
     }
 }
 
@@ -28,24 +34,32 @@ fn a_fill_source_gives_copies(rt: HostRuntime) {
     let mut source = FillSource::new(b'x', 5);
     let mut buf = [0; 3];
     for want in ["xxx", "xx", ""] {
-        let got = piece(&mut source, &mut buf).unwrap_or(b"failed");
-        assert_eq!(rt; got, want.as_bytes());
+        assert!(rt; gives(&mut source, &mut buf, want), "{want}");
     }
+}
+
+// Whether bytes fit into a sink, and it keeps this then.
+fn keeps(sink: &mut MemSink<'_>, bytes: &str, fits: bool, kept: &str) -> bool {
+    sink.write_all(bytes.as_bytes()).is_ok() == fits && sink.written() == kept.as_bytes()
+}
+
+// Writes one after another, whether they fit, and what is kept then.
+fn writes_and_kept() -> &'static [(&'static str, bool, &'static str)] {
+    &[
+        ("abc", true, "abc"),
+        ("def", false, "abcde"),
+        ("fg", true, "abcdefg"),
+        ("hi", false, "abcdefgh"),
+        ("", true, "abcdefgh"),
+    ]
 }
 
 #[test]
 fn a_memory_sink_keeps_what_fits(rt: HostRuntime) {
     let mut room = [0; 8];
     let mut sink = MemSink::new(&mut room, &[(1, 2), (1, 9)]);
-    for (bytes, fits, kept) in [
-        ("abc", true, "abc"),
-        ("def", false, "abcde"),
-        ("fg", true, "abcdefg"),
-        ("hi", false, "abcdefgh"),
-        ("", true, "abcdefgh"),
-    ] {
-        assert_eq!(rt; sink.write_all(bytes.as_bytes()).is_ok(), fits);
-        assert_eq!(rt; sink.written(), kept.as_bytes());
+    for (bytes, fits, kept) in writes_and_kept() {
+        assert!(rt; keeps(&mut sink, bytes, *fits, kept), "{bytes}");
     }
 }
 
@@ -73,8 +87,7 @@ fn a_reader_is_a_source(rt: HostRuntime) {
     let mut buf = [0; 4];
     let mut source = StdSource::new(b"abcdef".as_slice());
     for want in ["abcd", "ef", ""] {
-        let got = piece(&mut source, &mut buf).unwrap_or(b"failed");
-        assert_eq!(rt; got, want.as_bytes());
+        assert!(rt; gives(&mut source, &mut buf, want), "{want}");
     }
     assert!(rt; StdSource::new(Broken).read(&mut buf).is_err());
 }
@@ -116,8 +129,7 @@ fn a_source_answers_an_error_and_reads_on(rt: HostRuntime) {
     let mut buf = [0; 4];
     let mut source = StdSource::new(Digits(0));
     for want in ["1", "failed", "3", "4"] {
-        let got = piece(&mut source, &mut buf).unwrap_or(b"failed");
-        assert_eq!(rt; got, want.as_bytes());
+        assert!(rt; gives(&mut source, &mut buf, want), "{want}");
     }
 }
 
@@ -160,10 +172,9 @@ impl Write for Script {
     }
 }
 
-#[test]
-fn a_sink_answers_an_error_and_writes_on(rt: HostRuntime) {
-    let mut sink = StdSink::new(Script(b"21f!1x1f0f"));
-    for (bytes, fits) in [
+// Writes one after another, and whether they succeed.
+fn writes_and_answers() -> &'static [(&'static str, bool)] {
+    &[
         ("abc", true),
         ("de", false),
         ("f", false),
@@ -171,7 +182,16 @@ fn a_sink_answers_an_error_and_writes_on(rt: HostRuntime) {
         ("h", false),
         ("", true),
         ("i", false),
-    ] {
-        assert_eq!(rt; sink.write_all(bytes.as_bytes()).is_ok(), fits, "{bytes}");
+    ]
+}
+
+#[test]
+fn a_sink_answers_an_error_and_writes_on(rt: HostRuntime) {
+    let mut sink = StdSink::new(Script(b"21f!1x1f0f"));
+    for (bytes, fits) in writes_and_answers() {
+        assert!(rt;
+            sink.write_all(bytes.as_bytes()).is_ok() == *fits,
+            "{bytes}"
+        );
     }
 }

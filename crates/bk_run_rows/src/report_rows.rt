@@ -2,7 +2,7 @@
 
 use arrayvec::ArrayVec;
 use bk_flow::solve;
-use bk_net::{NetLine, read_net};
+use bk_net::{Net, NetLine, read_net};
 use bk_report::{
     Last, Refused, write_alike, write_check, write_entry, write_flow, write_foreign, write_group,
     write_last, write_line_refused, write_member, write_missing, write_net, write_pair,
@@ -12,11 +12,15 @@ use bk_report::{
 use bk_tiling::{Square, Tiling};
 use bk_word::{Class, Word, read_word};
 use std::alloc::Global;
-use std::process::Abort;
 use std::test::Fail;
 
 // A line as it is written.
 type Line = ArrayVec<u8, 9000>;
+
+// Whether a line is written so.
+fn is(line: &Line, text: &str) -> bool {
+    line.as_slice() == text.as_bytes()
+}
 
 // Two squares beside one of twice their size.
 fn three_squares() -> Result<Tiling, Fail> {
@@ -74,42 +78,73 @@ fn refusals() -> &'static [(Refused, &'static str)] {
     ]
 }
 
+// Whether the line of a refusal is written so.
+fn is_refused(refused: &Refused, text: &str, line: &mut Line) -> bool {
+    write_refused(refused, line);
+    is(line, text)
+}
+
 #[test]
-fn refusals_have_their_texts(rt: HostRuntime) -> Result<(), Fail> {
+fn refusals_have_their_texts(rt: HostRuntime) {
     let mut line = ArrayVec::new();
     for (refused, text) in refusals() {
-        write_refused(refused, &mut line);
-        assert_eq!(rt; line.as_slice(), text.as_bytes());
+        assert!(rt; is_refused(refused, text, &mut line), "{text}");
     }
-    Ok(())
+}
+
+// Whether the code of three squares is written so.
+fn is_code(tiling: &Tiling, line: &mut Line) -> bool {
+    write_tiling(tiling, line);
+    is(line, "3x2 [2,1][1]\n")
+}
+
+// Whether what is said of them is.
+fn is_checked(tiling: &Tiling, line: &mut Line) -> bool {
+    write_check(tiling, line);
+    is(line, "ok 3 3x2 imperfect 1 compound 2,0 1x2\n")
+}
+
+// Whether their net is.
+fn is_net(tiling: &Tiling, line: &mut Line) -> bool {
+    write_net(tiling, line);
+    is(line, "3 0-2 0-1 1-2 ; 3 2 1 1\n")
 }
 
 #[test]
 fn a_tiling_has_its_lines(rt: HostRuntime) -> Result<(), Fail> {
     let tiling = three_squares()?;
     let mut line = ArrayVec::new();
-    write_tiling(&tiling, &mut line);
-    assert_eq!(rt; line.as_slice(), b"3x2 [2,1][1]\n".as_slice());
-    write_check(&tiling, &mut line);
-    assert_eq!(rt;
-        line.as_slice(),
-        b"ok 3 3x2 imperfect 1 compound 2,0 1x2\n".as_slice()
-    );
-    write_net(&tiling, &mut line);
-    assert_eq!(rt; line.as_slice(), b"3 0-2 0-1 1-2 ; 3 2 1 1\n".as_slice());
+    assert!(rt; is_code(&tiling, &mut line));
+    assert!(rt; is_checked(&tiling, &mut line));
+    assert!(rt; is_net(&tiling, &mut line));
     Ok(())
+}
+
+// Whether the word of three squares is written so.
+fn is_word(word: &Word, line: &mut Line) -> bool {
+    if word.moves() == 0 {
+        return false;
+    }
+    write_word_line(word, line);
+    is(line, "2u.1e\n")
+}
+
+// Whether their entry is.
+fn is_entry(tiling: &Tiling, word: &Word, line: &mut Line) -> bool {
+    if word.moves() == 0 {
+        return false;
+    }
+    write_entry(tiling, word, line);
+    is(line, "3 3x2 [2,1][1] ; 2u.1e\n")
 }
 
 #[test]
 fn a_word_has_its_lines(rt: HostRuntime) -> Result<(), Fail> {
     let tiling = three_squares()?;
     let word = word_of_three(rt.alloc())?;
-    assert!(rt; word.moves() > 0);
     let mut line = ArrayVec::new();
-    write_word_line(&word, &mut line);
-    assert_eq!(rt; line.as_slice(), b"2u.1e\n".as_slice());
-    write_entry(&tiling, &word, &mut line);
-    assert_eq!(rt; line.as_slice(), b"3 3x2 [2,1][1] ; 2u.1e\n".as_slice());
+    assert!(rt; is_word(&word, &mut line));
+    assert!(rt; is_entry(&tiling, &word, &mut line));
     Ok(())
 }
 
@@ -144,81 +179,121 @@ fn endings() -> &'static [Ending] {
     ]
 }
 
+// Whether the last line of a listing is written so.
+fn is_ending(ending: &Ending, word: &Word, line: &mut Line) -> bool {
+    let (last, order, class, listed, text) = ending;
+    if word.moves() == 0 {
+        return false;
+    }
+    write_last(*last, *order, *class, *listed, word, line);
+    is(line, text)
+}
+
 #[test]
 fn listings_have_their_last_lines(rt: HostRuntime) -> Result<(), Fail> {
     let word = word_of_three(rt.alloc())?;
-    assert!(rt; word.moves() > 0);
     let mut line = ArrayVec::new();
-    for (last, order, class, listed, text) in endings() {
-        write_last(*last, *order, *class, *listed, &word, &mut line);
-        assert_eq!(rt; line.as_slice(), text.as_bytes());
+    for ending in endings() {
+        let text = ending.4;
+        assert!(rt; is_ending(ending, &word, &mut line), "{text}");
     }
     Ok(())
 }
 
-// Asserts the lines about lines that are refused, repeat another or are foreign.
-fn assert_lines_about_lines(rt: &impl Abort, line: &mut Line) {
+// Whether the line about a line that is refused is written so.
+fn is_line_refused(line: &mut Line) -> bool {
     write_line_refused(16_385, &Refused::More, line);
-    assert_eq!(rt; line.as_slice(), b"line 16385 no more\n".as_slice());
+    is(line, "line 16385 no more\n")
+}
+
+// Whether the line about one that repeats another is.
+fn is_repeated(line: &mut Line) -> bool {
     write_repeats(2, 1, line);
-    assert_eq!(rt; line.as_slice(), b"line 2 repeats 1\n".as_slice());
+    is(line, "line 2 repeats 1\n")
+}
+
+// Whether the line about one that is foreign is.
+fn is_foreign(line: &mut Line) -> bool {
     write_foreign(3, line);
-    assert_eq!(rt; line.as_slice(), b"line 3 foreign\n".as_slice());
+    is(line, "line 3 foreign\n")
 }
 
-// Asserts the lines of groups, members and pairs.
-fn assert_lines_of_groups(rt: &impl Abort, tiling: &Tiling, line: &mut Line) {
+// Whether the line of a group is written so.
+fn is_group(line: &mut Line) -> bool {
     write_group(33, 32, 2, line);
-    assert_eq!(rt; line.as_slice(), b"33x32 2\n".as_slice());
-    write_member(4, tiling, line);
-    assert_eq!(rt; line.as_slice(), b"4 [2,1][1]\n".as_slice());
-    write_pair(1, 2, tiling, line);
-    assert_eq!(rt; line.as_slice(), b"1 2 3x2 [2,1][1]\n".as_slice());
+    is(line, "33x32 2\n")
 }
 
-// Asserts the last lines of groups and pairs.
-fn assert_lines_of_counts(rt: &impl Abort, line: &mut Line) {
+// Whether the line of a member of a group is.
+fn is_member(tiling: &Tiling, line: &mut Line) -> bool {
+    write_member(4, tiling, line);
+    is(line, "4 [2,1][1]\n")
+}
+
+// Whether the line of a pair is.
+fn is_pair(tiling: &Tiling, line: &mut Line) -> bool {
+    write_pair(1, 2, tiling, line);
+    is(line, "1 2 3x2 [2,1][1]\n")
+}
+
+// Whether the last line of groups is written so.
+fn is_end_of_groups(line: &mut Line) -> bool {
     write_alike(1, 2, 3, line);
-    assert_eq!(rt;
-        line.as_slice(),
-        b"; groups 1 items 2 refused 3\n".as_slice()
-    );
+    is(line, "; groups 1 items 2 refused 3\n")
+}
+
+// Whether the last line of pairs is.
+fn is_end_of_pairs(line: &mut Line) -> bool {
     write_pairs(1, 2, 3, line);
-    assert_eq!(rt;
-        line.as_slice(),
-        b"; pairs 1 items 2 refused 3\n".as_slice()
-    );
+    is(line, "; pairs 1 items 2 refused 3\n")
 }
 
 #[test]
 fn lines_of_lists_have_their_texts(rt: HostRuntime) -> Result<(), Fail> {
     let tiling = three_squares()?;
     let mut line = ArrayVec::new();
-    assert_lines_about_lines(&rt, &mut line);
-    assert_lines_of_groups(&rt, &tiling, &mut line);
-    assert_lines_of_counts(&rt, &mut line);
+    assert!(rt; is_line_refused(&mut line));
+    assert!(rt; is_repeated(&mut line));
+    assert!(rt; is_foreign(&mut line));
+    assert!(rt; is_group(&mut line));
+    assert!(rt; is_member(&tiling, &mut line));
+    assert!(rt; is_pair(&tiling, &mut line));
+    assert!(rt; is_end_of_groups(&mut line));
+    assert!(rt; is_end_of_pairs(&mut line));
     Ok(())
 }
 
-// Asserts the line of a member that a list lacks.
-fn assert_missing(rt: &impl Abort, tiling: &Tiling, word: &Word, line: &mut Line) {
-    assert!(rt; word.moves() > 0);
+// Whether the line of a member that a list lacks is written so.
+fn is_missing(tiling: &Tiling, word: &Word, line: &mut Line) -> bool {
+    if word.moves() == 0 {
+        return false;
+    }
     write_missing(tiling, word, line);
-    assert_eq!(rt;
-        line.as_slice(),
-        b"missing 3 3x2 [2,1][1] ; 2u.1e\n".as_slice()
-    );
+    is(line, "missing 3 3x2 [2,1][1] ; 2u.1e\n")
 }
 
-// Asserts the last lines of lists that are verified.
-fn assert_verified(rt: &impl Abort, word: &Word, line: &mut Line) {
-    assert!(rt; word.moves() > 0);
+// Whether the last line of a list that is verified is.
+fn is_verified(word: &Word, line: &mut Line) -> bool {
+    if word.moves() == 0 {
+        return false;
+    }
     write_verified(Last::End, 9, [1, 2, 3, 4, 5], word, line);
-    let end = "; end order 9 members 1 missing 2 foreign 3 repeated 4 refused 5\n";
-    assert_eq!(rt; line.as_slice(), end.as_bytes());
+    is(
+        line,
+        "; end order 9 members 1 missing 2 foreign 3 repeated 4 refused 5\n",
+    )
+}
+
+// Whether that of one whose walk ends at a wide word is.
+fn is_wide(word: &Word, line: &mut Line) -> bool {
+    if word.moves() == 0 {
+        return false;
+    }
     write_verified(Last::Wide, 9, [1, 2, 3, 4, 5], word, line);
-    let wide = "; wide order 9 members 1 missing 2 foreign 3 repeated 4 refused 5 at 2u.1e\n";
-    assert_eq!(rt; line.as_slice(), wide.as_bytes());
+    is(
+        line,
+        "; wide order 9 members 1 missing 2 foreign 3 repeated 4 refused 5 at 2u.1e\n",
+    )
 }
 
 #[test]
@@ -226,25 +301,44 @@ fn verified_lists_have_their_lines(rt: HostRuntime) -> Result<(), Fail> {
     let tiling = three_squares()?;
     let word = word_of_three(rt.alloc())?;
     let mut line = ArrayVec::new();
-    assert_missing(&rt, &tiling, &word, &mut line);
-    assert_verified(&rt, &word, &mut line);
+    assert!(rt; is_missing(&tiling, &word, &mut line));
+    assert!(rt; is_verified(&word, &mut line));
+    assert!(rt; is_wide(&word, &mut line));
     Ok(())
 }
 
-#[test]
-fn a_flow_has_its_line(rt: HostRuntime) -> Result<(), Fail> {
-    let mut out = ArrayVec::new();
-    let rows: [(&[u8], &[u8]); 2] = [
-        (b"4 0-1 0-2 1-2 1-3 2-3", b"2 1 1 0 1 1\n"),
-        (b"2 1-0", b"1 -1\n"),
-    ];
-    for (line, text) in rows {
-        if let NetLine::Item { net } = read_net(line)? {
-            write_flow(&solve(rt.alloc(), &net)?, &mut out);
+// Whether the line of the flow of a net is written so.
+fn is_flow(alloc: Global, net: &Net, text: &str, line: &mut Line) -> bool {
+    match solve(alloc, net) {
+        Ok(flow) => {
+            write_flow(&flow, line);
+            is(line, text)
         }
-        assert_eq!(rt; out.as_slice(), text);
+        Err(_) => false,
     }
-    Ok(())
+}
+
+// Whether that of the net of a line of text is.
+fn has_flow(alloc: Global, net: &str, text: &str, line: &mut Line) -> bool {
+    match read_net(net.as_bytes()) {
+        Ok(NetLine::Item { net }) => is_flow(alloc, &net, text, line),
+        _ => false,
+    }
+}
+
+fn nets_and_flows() -> &'static [(&'static str, &'static str)] {
+    &[
+        ("4 0-1 0-2 1-2 1-3 2-3", "2 1 1 0 1 1\n"),
+        ("2 1-0", "1 -1\n"),
+    ]
+}
+
+#[test]
+fn a_flow_has_its_line(rt: HostRuntime) {
+    let mut line = ArrayVec::new();
+    for (net, text) in nets_and_flows() {
+        assert!(rt; has_flow(rt.alloc(), net, text, &mut line), "{net}");
+    }
 }
 
 // A seed, how many trial codes of it there are, how many of them are accepted and perfect, their squares, and the line.
@@ -279,11 +373,18 @@ fn rows_of_trials() -> &'static [Trial] {
     ]
 }
 
+// Whether the line about trial codes is written so.
+fn is_trial(trial: &Trial, line: &mut Line) -> bool {
+    let (seed, count, ok, perfect, squares, text) = trial;
+    write_trial(*seed, *count, *ok, *perfect, 0, *squares, line);
+    is(line, text)
+}
+
 #[test]
 fn trials_have_their_lines(rt: HostRuntime) {
     let mut line = ArrayVec::new();
-    for (seed, count, ok, perfect, squares, text) in rows_of_trials() {
-        write_trial(*seed, *count, *ok, *perfect, 0, *squares, &mut line);
-        assert_eq!(rt; line.as_slice(), text.as_bytes());
+    for trial in rows_of_trials() {
+        let text = trial.5;
+        assert!(rt; is_trial(trial, &mut line), "{text}");
     }
 }

@@ -29,12 +29,17 @@ fn rows() -> &'static [(u64, u32, &'static str)] {
     ]
 }
 
+// Whether the line about so many trial codes of a seed is this.
+fn is_line(seed: u64, count: u32, text: &str, line: &mut ArrayVec<u8, 9000>) -> bool {
+    trial(seed, count, line);
+    line.as_slice() == text.as_bytes()
+}
+
 #[test]
 fn lines(rt: HostRuntime) {
     let mut line = ArrayVec::new();
     for (seed, count, text) in rows() {
-        trial(*seed, *count, &mut line);
-        assert_eq!(rt; line.as_slice(), text.as_bytes());
+        assert!(rt; is_line(*seed, *count, text, &mut line), "{text}");
     }
 }
 
@@ -45,14 +50,15 @@ fn forty_trials() -> ArrayVec<u8, 9000> {
     line
 }
 
+// Whether two lines about them are the same and begin so.
+fn are_same(line: &[u8], again: &[u8]) -> bool {
+    line == again && line.starts_with(b"trial seed 7 count 40 ok 40 perfect ")
+}
+
 // The same line twice.
 #[test]
 fn forty(rt: HostRuntime) {
     let line = forty_trials();
     let again = forty_trials();
-    assert_eq!(rt; line.as_slice(), again.as_slice());
-    assert!(rt;
-        line.as_slice()
-            .starts_with(b"trial seed 7 count 40 ok 40 perfect ")
-    );
+    assert!(rt; are_same(line.as_slice(), again.as_slice()));
 }

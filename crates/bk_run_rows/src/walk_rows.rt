@@ -13,32 +13,34 @@ use std::process::Abort;
 use std::sync::ledger::{Blank, Ledger};
 
 // The sides of a member's code, and the text of its word.
-type Listed = (&'static [u64], &'static [u8]);
+type Listed = (&'static [u64], &'static str);
 
-const FIRST_WORD: &[u8] = b"2u.2aa.2ue.2eue.1e";
+const FIRST_WORD: &str = "2u.2aa.2ue.2eue.1e";
 
-const SECOND_WORD: &[u8] = b"2u.2aa.3uue.1ea.1ee";
+const SECOND_WORD: &str = "2u.2aa.3uue.1ea.1ee";
 
 const FIRST_OF_9: Listed = (&[18, 15, 7, 8, 14, 4, 10, 1, 9], FIRST_WORD);
 
 const SECOND_OF_9: Listed = (&[36, 33, 5, 28, 25, 9, 2, 7, 16], SECOND_WORD);
 
-const IMPERFECT_OF_9: Listed = (&[6, 4, 5, 3, 1, 6, 5, 1, 4], b"3ua.2aue.2ue.1a.1ee");
+const IMPERFECT_OF_9: Listed = (&[6, 4, 5, 3, 1, 6, 5, 1, 4], "3ua.2aue.2ue.1a.1ee");
 
-const PAIR: Listed = (&[1, 1], b"2e");
+const PAIR: Listed = (&[1, 1], "2e");
 
 // So many moves a whole walk of order 9 pushes without the cut by the equations between sides.
 const PUSHES_WITHOUT_FORMS: u64 = 1569;
 
-const ONE_OF_10: &[u8] = b"3ua.2aue.2ue.2ea.1ee";
+const ONE_OF_10: &str = "3ua.2aue.2ue.2ea.1ee";
+
+const SIDES_OF_10: &[u64] = &[25, 17, 23, 11, 6, 5, 24, 22, 3, 19];
 
 // The word of a text.
-fn word_in(rt: &impl Abort, alloc: Global, text: &[u8]) -> Word {
-    read_word(alloc, text).expect(rt, "it is a word")
+fn word_in(rt: &impl Abort, alloc: Global, text: &str) -> Word {
+    read_word(alloc, text.as_bytes()).expect(rt, "it is a word")
 }
 
 // A walk from the cursor of this text, or from the start.
-fn walk_from(rt: &impl Abort, alloc: Global, order: u8, class: Class, text: Option<&[u8]>) -> Walk {
+fn walk_from(rt: &impl Abort, alloc: Global, order: u8, class: Class, text: Option<&str>) -> Walk {
     assert!(rt; order >= 2 && usize::from(order) <= INLINE_ORDER);
     match text {
         Some(text) => {
@@ -50,42 +52,67 @@ fn walk_from(rt: &impl Abort, alloc: Global, order: u8, class: Class, text: Opti
     }
 }
 
-// The next member of a walk.
-fn next<L: Ledger>(walk: &mut Walk, steps: &mut Steps<L>) -> Option<Result<Entry, WideAt>> {
-    walk.advance(steps)
+// The next member of a walk, if there is one and it isn't wide.
+fn next<L: Ledger>(walk: &mut Walk, steps: &mut Steps<L>) -> Option<Entry> {
+    walk.advance(steps)?.ok()
 }
 
-// The next member of a walk, which must come.
-fn member<L: Ledger>(rt: &impl Abort, walk: &mut Walk, steps: &mut Steps<L>) -> Entry {
-    match next(walk, steps) {
-        Some(Ok(entry)) => entry,
-        Some(Err(_)) | None => panic!(rt; "a member is missing"),
-    }
+// Whether a walk is at its end.
+fn is_over<L: Ledger>(walk: &mut Walk, steps: &mut Steps<L>) -> bool {
+    walk.advance(steps).is_none()
 }
 
-// The text of a word of at least one move and at most 16 squares.
-fn text_of(rt: &impl Abort, word: &Word) -> ArrayVec<u8, 9000> {
-    assert!(rt; word.moves() > 0);
+// The text of a word, or none of a word without a move.
+fn text_of(word: &Word) -> ArrayVec<u8, 9000> {
     let mut text = ArrayVec::new();
-    write_word(word, &mut text);
+    if word.moves() > 0 {
+        write_word(word, &mut text);
+    }
     text
 }
 
-// Asserts the sides and the word of a member, and that its walk is there.
-fn assert_member(rt: &impl Abort, entry: &Entry, walk: &Walk, sides: &[u64], text: &[u8]) {
-    assert_eq!(rt; flat(&entry.code), sides);
-    assert_eq!(rt; text_of(rt, &entry.word).as_slice(), text);
-    assert_eq!(rt; text_of(rt, walk.cursor()).as_slice(), text);
+// Whether a word is written so.
+fn is_written(word: &Word, text: &str) -> bool {
+    word.moves() > 0 && text_of(word).as_slice() == text.as_bytes()
 }
 
-// Goes on with the walk, which must give these members and then end.
-fn lists<L: Ledger>(rt: &impl Abort, walk: &mut Walk, members: &[Listed], steps: &mut Steps<L>) {
-    for (sides, text) in members {
-        let entry = member(rt, walk, steps);
-        assert_member(rt, &entry, walk, sides, text);
+// Whether a member has these sides and this word.
+fn is_member(entry: &Entry, sides: &[u64], text: &str) -> bool {
+    flat(&entry.code) == sides && is_written(&entry.word, text)
+}
+
+// Whether the next member of a walk has these sides and this word, and the walk is there.
+fn lists_one<L: Ledger>(walk: &mut Walk, sides: &[u64], text: &str, steps: &mut Steps<L>) -> bool {
+    match next(walk, steps) {
+        Some(entry) => is_member(&entry, sides, text) && is_written(walk.cursor(), text),
+        None => false,
     }
-    assert!(rt; next(walk, steps).is_none());
-    assert!(rt; next(walk, steps).is_none());
+}
+
+// Goes on with the walk; whether it gives these members and then ends, asked twice.
+fn lists<L: Ledger>(walk: &mut Walk, members: &[Listed], steps: &mut Steps<L>) -> bool {
+    for (sides, text) in members {
+        if !lists_one(walk, sides, text, steps) {
+            return false;
+        }
+    }
+    is_over(walk, steps) && is_over(walk, steps)
+}
+
+// An order, a class, and the cursor that a walk begins after.
+type Start = (u8, Class, Option<&'static str>);
+
+// Whether a walk gives these members and then ends.
+fn lists_from<L: Ledger>(
+    rt: &impl Abort,
+    alloc: Global,
+    start: Start,
+    members: &[Listed],
+    steps: &mut Steps<L>,
+) -> bool {
+    let (order, class, text) = start;
+    let mut walk = walk_from(rt, alloc, order, class, text);
+    lists(&mut walk, members, steps)
 }
 
 // Orders, classes, and their members.
@@ -109,8 +136,11 @@ fn whole_orders<L: Ledger>(rt: &impl Abort, alloc: Global, blank: Blank)
 {
     let mut steps: Steps<L> = Steps::new(blank);
     for (order, class, members) in orders() {
-        let mut walk = walk_from(rt, alloc, *order, *class, None);
-        lists(rt, &mut walk, members, &mut steps);
+        let start = (*order, *class, None);
+        assert!(rt;
+            lists_from(rt, alloc, start, members, &mut steps),
+            "{order} {class:?}"
+        );
     }
     for order in 3..9 {
         lists_none(rt, alloc, order, &mut steps);
@@ -120,8 +150,11 @@ fn whole_orders<L: Ledger>(rt: &impl Abort, alloc: Global, blank: Blank)
 // Walks of the order list no member in any class.
 fn lists_none<L: Ledger>(rt: &impl Abort, alloc: Global, order: u8, steps: &mut Steps<L>) {
     for class in [Class::Perfect, Class::Imperfect, Class::Simple] {
-        let mut walk = walk_from(rt, alloc, order, class, None);
-        lists(rt, &mut walk, &[], steps);
+        let start = (order, class, None);
+        assert!(rt;
+            lists_from(rt, alloc, start, &[], steps),
+            "{order} {class:?}"
+        );
     }
 }
 
@@ -131,19 +164,19 @@ fn lists_whole_orders(rt: HostRuntime) {
 }
 
 // Cursors at members, at words that no member has, at words that are not legal or of other orders, and after all words.
-static CURSORS: [(&[u8], &[Listed]); 9] = [
+static CURSORS: [(&str, &[Listed]); 9] = [
     (FIRST_WORD, &[SECOND_OF_9]),
     (SECOND_WORD, &[]),
-    (b"1", &[FIRST_OF_9, SECOND_OF_9]),
-    (b"2u.2aa", &[FIRST_OF_9, SECOND_OF_9]),
-    (b"2uu", &[]),
-    (b"2u.2aa.3uu.1", &[SECOND_OF_9]),
-    (b"2u.2aa.2ue.2eue.1e.1", &[SECOND_OF_9]),
-    (b"3aa", &[]),
-    (b"16uuuuuuuuuuuuuuuuu", &[]),
+    ("1", &[FIRST_OF_9, SECOND_OF_9]),
+    ("2u.2aa", &[FIRST_OF_9, SECOND_OF_9]),
+    ("2uu", &[]),
+    ("2u.2aa.3uu.1", &[SECOND_OF_9]),
+    ("2u.2aa.2ue.2eue.1e.1", &[SECOND_OF_9]),
+    ("3aa", &[]),
+    ("16uuuuuuuuuuuuuuuuu", &[]),
 ];
 
-fn rows_of_cursors() -> &'static [(&'static [u8], &'static [Listed])] {
+fn rows_of_cursors() -> &'static [(&'static str, &'static [Listed])] {
     &CURSORS
 }
 
@@ -154,14 +187,44 @@ fn cursors<L: Ledger>(rt: &impl Abort, alloc: Global, blank: Blank)
 {
     let mut steps: Steps<L> = Steps::new(blank);
     for (text, members) in rows_of_cursors() {
-        let mut walk = walk_from(rt, alloc, 9, Class::Perfect, Some(text));
-        lists(rt, &mut walk, members, &mut steps);
+        let start = (9, Class::Perfect, Some(*text));
+        assert!(rt; lists_from(rt, alloc, start, members, &mut steps), "{text}");
     }
 }
 
 #[test]
 fn goes_on_after_any_cursor(rt: HostRuntime) {
     cursors::<Brand>(&rt, rt.alloc(), Blank::new(1));
+}
+
+// Whether a member has this word, and then these sides; none if it has others.
+fn fits(entry: &Entry, sides: &[u64], text: &str) -> Option<bool> {
+    if !is_written(&entry.word, text) {
+        Some(false)
+    } else if flat(&entry.code) == sides {
+        Some(true)
+    } else {
+        None
+    }
+}
+
+// The same of the next member of a walk; none if there is no member.
+fn next_fits<L: Ledger>(walk: &mut Walk, steps: &mut Steps<L>) -> Option<bool> {
+    let entry = next(walk, steps)?;
+    fits(&entry, SIDES_OF_10, ONE_OF_10)
+}
+
+// Whether a walk of order 10 gives six members, one of them this one, and then ends.
+fn lists_six<L: Ledger>(rt: &impl Abort, alloc: Global, steps: &mut Steps<L>) -> bool {
+    let mut walk = walk_from(rt, alloc, 10, Class::Perfect, None);
+    let mut is_there = false;
+    for _ in 0..6 {
+        match next_fits(&mut walk, steps) {
+            Some(fits) => is_there = is_there || fits,
+            None => return false,
+        }
+    }
+    is_there && is_over(&mut walk, steps)
 }
 
 // The members of order 10, of which there are six.
@@ -171,23 +234,48 @@ fn order_10<L: Ledger>(rt: &impl Abort, alloc: Global, blank: Blank)
     requires some { 0 < L.parts }
 {
     let mut steps: Steps<L> = Steps::new(blank);
-    let mut walk = walk_from(rt, alloc, 10, Class::Perfect, None);
-    let mut is_there = false;
-    for _ in 0..6 {
-        let entry = member(rt, &mut walk, &mut steps);
-        if text_of(rt, &entry.word).as_slice() == ONE_OF_10 {
-            is_there = true;
-            let sides: &[u64] = &[25, 17, 23, 11, 6, 5, 24, 22, 3, 19];
-            assert_eq!(rt; flat(&entry.code), sides);
-        }
-    }
-    assert!(rt; is_there);
-    assert!(rt; next(&mut walk, &mut steps).is_none());
+    assert!(rt; lists_six(rt, alloc, &mut steps));
 }
 
 #[test]
 fn lists_six_of_order_10(rt: HostRuntime) {
     order_10::<Brand>(&rt, rt.alloc(), Blank::new(1));
+}
+
+// How many moves a walk of order 9 pushes that begins here, gives these members and ends.
+fn pushes_of<L: Ledger>(
+    rt: &impl Abort,
+    alloc: Global,
+    from: Option<&str>,
+    members: &[Listed],
+    steps: &mut Steps<L>,
+) -> Option<u64> {
+    let mut walk = walk_from(rt, alloc, 9, Class::Perfect, from);
+    if walk.pushes() == 0 && lists(&mut walk, members, steps) {
+        Some(walk.pushes())
+    } else {
+        None
+    }
+}
+
+// How many moves a walk of order 9 pushes to its first member.
+fn pushes_to_first<L: Ledger>(rt: &impl Abort, alloc: Global, steps: &mut Steps<L>) -> Option<u64> {
+    let mut walk = walk_from(rt, alloc, 9, Class::Perfect, None);
+    if is_over(&mut walk, steps) {
+        None
+    } else {
+        Some(walk.pushes())
+    }
+}
+
+// Whether a walk pushes so few moves more in two parts than as a whole, and each of them some.
+fn are_few(all: u64, first: u64, second: u64) -> bool {
+    first >= 5
+        && second >= 5
+        && first <= 1000000
+        && second <= 1000000
+        && all <= 1000000
+        && first + second <= all + 16
 }
 
 // A walk that is cut at its first entry and continued pushes at most 16 moves more than a whole one, and a whole one fewer than
@@ -198,18 +286,13 @@ fn parts_of_order_9<L: Ledger>(rt: &impl Abort, alloc: Global, blank: Blank)
     requires some { 0 < L.parts }
 {
     let mut steps: Steps<L> = Steps::new(blank);
-    let mut whole = walk_from(rt, alloc, 9, Class::Perfect, None);
-    assert_eq!(rt; whole.pushes(), 0);
-    lists(rt, &mut whole, &[FIRST_OF_9, SECOND_OF_9], &mut steps);
-    let mut front = walk_from(rt, alloc, 9, Class::Perfect, None);
-    assert!(rt; next(&mut front, &mut steps).is_some());
-    let mut back = walk_from(rt, alloc, 9, Class::Perfect, Some(FIRST_WORD));
-    lists(rt, &mut back, &[SECOND_OF_9], &mut steps);
-    assert!(rt; whole.pushes() >= 8 && whole.pushes() < PUSHES_WITHOUT_FORMS);
-    assert!(rt; front.pushes() >= 5 && back.pushes() >= 5);
-    let (all, first, second) = (whole.pushes(), front.pushes(), back.pushes());
-    assert!(rt; first <= 1000000 && second <= 1000000 && all <= 1000000);
-    assert!(rt; first + second <= all + 16);
+    let all = pushes_of(rt, alloc, None, &[FIRST_OF_9, SECOND_OF_9], &mut steps);
+    let all = all.expect(rt, "both members");
+    let first = pushes_to_first(rt, alloc, &mut steps).expect(rt, "the first member");
+    let second = pushes_of(rt, alloc, Some(FIRST_WORD), &[SECOND_OF_9], &mut steps);
+    let second = second.expect(rt, "the second member");
+    assert!(rt; all >= 8 && all < PUSHES_WITHOUT_FORMS);
+    assert!(rt; are_few(all, first, second), "{all} {first} {second}");
 }
 
 #[test]
@@ -218,59 +301,81 @@ fn counts_pushes(rt: HostRuntime) {
 }
 
 // Of the 22 members of order 11 the eighth and the sixteenth word.
-const EIGHTH_OF_11: &[u8] = b"2u.2aa.3uuu.2eaa.1ee.1ee";
+const EIGHTH_OF_11: &str = "2u.2aa.3uuu.2eaa.1ee.1ee";
 
-const SIXTEENTH_OF_11: &[u8] = b"2u.3eaa.3uue.2eae.1ee";
+const SIXTEENTH_OF_11: &str = "2u.3eaa.3uue.2eae.1ee";
 
 // So many moves a whole walk of order 9 pushes, where the equations between the sides of the first five squares cut it.
 const PUSHES_OF_9: u64 = 1568;
 
-// Goes on with two walks, which must give the same member.
-fn go_together<L: Ledger>(
+// Whether two members have the same word and the same code.
+fn are_same(entry: &Entry, same: &Entry) -> bool {
+    entry.word.moves() > 0
+        && text_of(&entry.word).as_slice() == text_of(&same.word).as_slice()
+        && flat(&entry.code) == flat(&same.code)
+}
+
+// Goes on with two walks; whether they give the same member.
+fn go_together<L: Ledger>(whole: &mut Walk, part: &mut Walk, steps: &mut Steps<L>) -> bool {
+    let Some(entry) = next(whole, steps) else {
+        return false;
+    };
+    match next(part, steps) {
+        Some(same) => are_same(&entry, &same),
+        None => false,
+    }
+}
+
+// The same for so many members of a walk of order 11 that begins here.
+fn go_along<L: Ledger>(
     rt: &impl Abort,
+    alloc: Global,
     whole: &mut Walk,
-    part: &mut Walk,
+    part: (Option<&str>, u8),
     steps: &mut Steps<L>,
-) {
-    let entry = member(rt, whole, steps);
-    let same = member(rt, part, steps);
-    assert_eq!(rt;
-        text_of(rt, &entry.word).as_slice(),
-        text_of(rt, &same.word).as_slice()
-    );
-    assert_eq!(rt; flat(&entry.code), flat(&same.code));
+) -> bool {
+    let (from, count) = part;
+    let mut walk = walk_from(rt, alloc, 11, Class::Perfect, from);
+    for _ in 0..count {
+        if !go_together(whole, &mut walk, steps) {
+            return false;
+        }
+    }
+    true
 }
 
 // Where each of three parts of the order begins, and how many members it has.
-static PARTS_OF_11: [(Option<&[u8]>, u8); 3] = [
+static PARTS_OF_11: [(Option<&str>, u8); 3] = [
     (None, 8),
     (Some(EIGHTH_OF_11), 8),
     (Some(SIXTEENTH_OF_11), 6),
 ];
 
-fn parts_of_order_11() -> &'static [(Option<&'static [u8]>, u8)] {
+fn parts_of_order_11() -> &'static [(Option<&'static str>, u8)] {
     &PARTS_OF_11
 }
 
-// A whole walk of order 11, and one in three parts, each after the last member of the part before; and how many moves a whole walk
-// of order 9 pushes.
+// A whole walk of order 11, and one in three parts, each after the last member of the part before; whether they agree.
+fn parts_agree<L: Ledger>(rt: &impl Abort, alloc: Global, steps: &mut Steps<L>) -> bool {
+    let mut whole = walk_from(rt, alloc, 11, Class::Perfect, None);
+    for part in parts_of_order_11() {
+        if !go_along(rt, alloc, &mut whole, *part, steps) {
+            return false;
+        }
+    }
+    is_over(&mut whole, steps)
+}
+
+// How many moves a whole walk of order 9 pushes, and the parts of order 11.
 fn with_equations<L: Ledger>(rt: &impl Abort, alloc: Global, blank: Blank)
     requires name { blank.name ≡ L.name }
     requires parts { blank.parts ≡ L.parts }
     requires some { 0 < L.parts }
 {
     let mut steps: Steps<L> = Steps::new(blank);
-    let mut nine = walk_from(rt, alloc, 9, Class::Perfect, None);
-    lists(rt, &mut nine, &[FIRST_OF_9, SECOND_OF_9], &mut steps);
-    assert_eq!(rt; nine.pushes(), PUSHES_OF_9);
-    let mut whole = walk_from(rt, alloc, 11, Class::Perfect, None);
-    for (from, members) in parts_of_order_11() {
-        let mut part = walk_from(rt, alloc, 11, Class::Perfect, *from);
-        for _ in 0..*members {
-            go_together(rt, &mut whole, &mut part, &mut steps);
-        }
-    }
-    assert!(rt; next(&mut whole, &mut steps).is_none());
+    let nine = pushes_of(rt, alloc, None, &[FIRST_OF_9, SECOND_OF_9], &mut steps);
+    assert!(rt; nine == Some(PUSHES_OF_9));
+    assert!(rt; parts_agree(rt, alloc, &mut steps));
 }
 
 #[test]

@@ -25,8 +25,9 @@ use Rattle.bk_free_cuts.specs.LineNumbers.{left_end, new_sides, right_end, sides
 use Rattle.bk_signed_word.proofs.SignedWires.{pair_is, square_below}
 use Rattle.bk_signed_word.proofs.Totals.{total_from}
 use Rattle.bk_signed_word.specs.SignedWord.{IsSignedWordOf, right_edge}
+use Rattle.bk_layout.proofs.Counting.{one_for}
 use Rattle.bk_second_move.proofs.PlayedNodes.{ends_here, hung_kept, touched, wire_is}
-use Rattle.bk_second_move.proofs.Sums.{counted, touches}
+use Rattle.bk_second_move.proofs.Sums.{touches}
 use Rattle.bk_second_move.proofs.SignedNodes.{touched_alike, touching}
 use Rattle.bk_second_move.proofs.UnderLast.{IsUnderLast, under_last}
 use Rattle.bk_second_move.specs.SecondMove.{TheNodeUnderTheLastIsTouchedAlike}
@@ -59,7 +60,7 @@ last_from_top m w k e = hung_kept (after_move start m) w k (omega (arith, e, len
 -- what a list contains stands in it, so often at least
 contained : (xs : List ℕ) (x : ℕ) → Contains xs x → 0 < times x xs
 contained [] x (k, h, e) = absurd (omega arith)
-contained (y ∷ xs) x (zero, h, e) = let same : y ≡ x = e in let one = counted x y (sym same) in omega (arith, one)
+contained (y ∷ xs) x (zero, h, e) = let same : y ≡ x = e in let one = one_for x y (sym same) in omega (arith, one)
 contained (y ∷ xs) x (suc k, h, e) = omega (arith, contained xs x (k, omega arith, e))
 
 -- ---- in a signed word

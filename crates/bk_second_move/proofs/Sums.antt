@@ -1,34 +1,25 @@
 -- Sums of values at numbers in a row: of two functions, of one value alone, and of how often numbers stand in a list.
 use Rattle.std.proofs.Common.{Bool, List, Some, [], ap, arith, cond, count_by, inl, inr, length, nat_eq, refl, slice_get, slice_index_or, suc, sym}
 use Rattle.std.proofs.Common.{zero, ℕ, ◌+◌, ◌-◌, ◌<◌, ◌∙◌, ◌∷◌, ◌≡◌, ◌≤◌, ◌⊎◌}
-use Rattle.std.proofs.lemmas.Bool.{cases_lt}
-use Rattle.std.proofs.lemmas.Bool.Decides.{nat_tests}
+use Rattle.std.proofs.lemmas.Bool.{cases_eq, cases_lt}
 use Rattle.bk_laws.proofs.Occurrences.{times}
-use Rattle.bk_laws.proofs.Tests.{same_or_other}
 use Rattle.bk_tiling.proofs.Cells.{count-cons}
 use Rattle.bk_tiling.specs.declared.Square.{Square}
 use Rattle.bk_word_net.proofs.Wires.{first_counted, found_time}
 use Rattle.bk_signed_word.proofs.Totals.{total_from}
+use Rattle.bk_layout.proofs.Counting.{none_for, one_for}
 
 -- how many ends of a wire are at a node
 abbrev pub touches : ℕ → ℕ × ℕ → ℕ
 touches v wire = cond (nat_eq wire.0 v) 1 0 + cond (nat_eq wire.1 v) 1 0
 
--- a number counts for itself
-pub counted : (a b : ℕ) → a ≡ b → ◌≡◌ {A = ℕ} (cond (nat_eq a b) 1 0) 1
-counted a b e = grind (arith, nat_tests)
-
--- and not for another
-pub not_counted : (a b : ℕ) → (a ≡ b → ⊥) → ◌≡◌ {A = ℕ} (cond (nat_eq a b) 1 0) 0
-not_counted a b e = grind (arith, nat_tests)
-
 -- two numbers are counted as two others are that are equal where these are
 pub counted_alike : (a b c d : ℕ) → (a ≡ b → c ≡ d) → (c ≡ d → a ≡ b) → ◌≡◌ {A = ℕ} (cond (nat_eq a b) 1 0) (cond (nat_eq c d) 1 0)
-counted_alike a b c d to from = cases (same_or_other a b)
+counted_alike a b c d to from = cases (cases_eq a b)
   where
     cases : (a ≡ b) ⊎ (a ≡ b → ⊥) → ◌≡◌ {A = ℕ} (cond (nat_eq a b) 1 0) (cond (nat_eq c d) 1 0)
-    cases (inl e) = counted a b e ∙ sym (counted c d (to e))
-    cases (inr e) = not_counted a b e ∙ sym (not_counted c d (λ f. e (from f)))
+    cases (inl e) = one_for a b e ∙ sym (one_for c d (to e))
+    cases (inr e) = none_for a b e ∙ sym (none_for c d (λ f. e (from f)))
 
 -- the sum of two functions
 pub total_both : (f g : ℕ → ℕ) (b n : ℕ) → total_from (λ k. f k + g k) b n ≡ total_from f b n + total_from g b n
@@ -95,8 +86,8 @@ total_long n [] within = total_zero (λ k. times (1 + k) []) 0 n (λ k lo hi. re
 total_long n (x ∷ xs) within = omega (
   arith,
   total_both (λ k. cond (nat_eq (1 + k) x) 1 0) (λ k. times (1 + k) xs) 0 n,
-  total_one (λ k. cond (nat_eq (1 + k) x) 1 0) (x - 1) 0 n (omega arith) (omega (arith, own)) (counted (1 + (x - 1)) x (omega (arith, own)))
-      (λ k lo hi e. not_counted (1 + k) x (λ f. e (omega (arith, f)))),
+  total_one (λ k. cond (nat_eq (1 + k) x) 1 0) (x - 1) 0 n (omega arith) (omega (arith, own)) (one_for (1 + (x - 1)) x (omega (arith, own)))
+      (λ k lo hi e. none_for (1 + k) x (λ f. e (omega (arith, f)))),
   total_long n xs (λ y h. within y (omega (arith, h))),
 )
   where

@@ -21,8 +21,9 @@ use Rattle.bk_tiling_layout.proofs.Nodes.{most_nodes}
 use Rattle.bk_tiling_layout.proofs.TilingSquares.{has_number, in_square, node_at, one_number}
 use Rattle.bk_tiling_layout.specs.TilingLayout.{node_above, square_of}
 use Rattle.bk_signed_word.proofs.Totals.{total_from}
+use Rattle.bk_layout.proofs.Counting.{none_for, one_for}
 use Rattle.bk_second_move.proofs.SignedNodes.{ends_of, touching}
-use Rattle.bk_second_move.proofs.Sums.{counted, not_counted, total_both, total_counts, total_one}
+use Rattle.bk_second_move.proofs.Sums.{total_both, total_counts, total_one}
 
 -- a square of a tiling, and a leftmost valley as wide as it just under it
 pub record IsValleyUnder (t : Tiling) (laid : List Square) (v : Segment) (q : Square) : Type 0 where
@@ -93,8 +94,8 @@ module _ (t : Tiling) (tiling : IsTiling t) (laid : List Square) (v : Segment) (
   under_to r e l m = grind (arith, nat_tests)
 
   hung_one : (b : Bool) (n : ℕ) → (n ≡ below → b ≡ true) → (b ≡ true → n ≡ below) → ◌≡◌ {A = ℕ} (cond (nat_eq n below) 1 0) (cond b 1 0)
-  hung_one true n to from = counted n below (from refl)
-  hung_one false n to from = not_counted n below (λ e. absurd (no (to e)))
+  hung_one true n to from = one_for n below (from refl)
+  hung_one false n to from = none_for n below (λ e. absurd (no (to e)))
     where
       no : false ≡ true → ⊥
       no e = cc
@@ -125,8 +126,8 @@ module _ (t : Tiling) (tiling : IsTiling t) (laid : List Square) (v : Segment) (
   ended_one : total_from (λ k. cond (nat_eq (ends_of t k).1 below) 1 0) 0 (length t.squares) ≡ 1
   ended_one = let n = has_number t tiling q u.is in
       total_one (λ k. cond (nat_eq (ends_of t k).1 below) 1 0) n.number 0 (length t.squares) (omega arith) (omega (arith, n.below))
-      (counted (ends_of t n.number).1 below (ap (node_below (square_groups t.squares)) n.is))
-      (λ k lo hi other. not_counted (ends_of t k).1 below (λ e. other (one_number t tiling k n.number (omega arith) n.below
+      (one_for (ends_of t n.number).1 below (ap (node_below (square_groups t.squares)) n.is))
+      (λ k lo hi other. none_for (ends_of t k).1 below (λ e. other (one_number t tiling k n.number (omega arith) n.below
       (same (square_of t k) (in_square t tiling k (omega arith)) e ∙ sym n.is))))
     where
       same : (r : Square) → IsOneOf r t.squares → node_below (square_groups t.squares) r ≡ below → r ≡ q

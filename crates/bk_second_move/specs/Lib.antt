@@ -1,2 +1,2 @@
--- What the crate says.
+-- What the crate says. It has laws alone, so there is no code to keep.
 pub mod SecondMove

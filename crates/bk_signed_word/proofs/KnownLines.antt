@@ -5,11 +5,9 @@ use Rattle.std.proofs.lemmas.Bool.{cases_lt}
 use Rattle.std.proofs.lemmas.Option.{slice_get-get_or}
 use Rattle.bk_word.specs.Outline.{Outline, start, valley_of}
 use Rattle.bk_word.specs.Play.{after_move}
-use Rattle.bk_word.specs.Word.{Move, Word, order_of}
-use Rattle.bk_word_net.proofs.Shape.{hung_many}
+use Rattle.bk_word.specs.Word.{Move, Word}
 use Rattle.bk_free_cuts.proofs.NumberedLines.{after_long}
 use Rattle.bk_free_cuts.specs.LineNumbers.{left_end, new_sides, right_end, sides_after, sides_along, sides_of}
-use Rattle.bk_free_cuts.proofs.CutByNodes.{along_long}
 use Rattle.bk_laws.proofs.ListPlaces.{get_either}
 
 -- the lines of the square at place k
@@ -80,7 +78,3 @@ known_lines w = along_known start [] w refl (λ k p e. absurd (none k p e))
   where
     none : (k : ℕ) (p : ℕ × ℕ) → slice_get [] k ≡ Some p → ⊥
     none k p e = cc
-
--- each square has its lines
-pub as_many_sides : (w : Word) → length (sides_of w) ≡ order_of w
-as_many_sides w = omega (arith, along_long start [] w refl, hung_many start w)

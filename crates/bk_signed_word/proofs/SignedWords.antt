@@ -20,11 +20,12 @@ use Rattle.bk_tiling_layout.proofs.TilingNet.{net_is}
 use Rattle.bk_tiling_layout.specs.TilingLayout.{layout_of, line_number, square_of}
 use Rattle.bk_free_cuts.proofs.NumberedLines.{line_numbers_are_lines}
 use Rattle.bk_free_cuts.specs.LineNumbers.{line_of, sides_of}
+use Rattle.bk_free_cuts.proofs.CutByNodes.{as_many_sides}
 use Rattle.bk_reversal.proofs.UpTo.{none_turned, up_to_itself}
 use Rattle.bk_reversal.specs.Reversal.{IsUpToReversals}
 use Rattle.bk_signed_word.proofs.FirstMoves.{first_count}
 use Rattle.bk_signed_word.proofs.NumberedLists.{numbers_length, reversed_numbers}
-use Rattle.bk_signed_word.proofs.KnownLines.{as_many_sides, known_lines}
+use Rattle.bk_signed_word.proofs.KnownLines.{known_lines}
 use Rattle.bk_signed_word.specs.SignedWord.{ATilingHasAPositiveWord, AWordUpToReversalsIsSigned, IsSignedWordOf, left_edge, line_column}
 use Rattle.bk_signed_word.specs.SignedWord.{reversed_net, right_edge, with_reversed}
 

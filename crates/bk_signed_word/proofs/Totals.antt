@@ -1,8 +1,7 @@
 -- Sums over numbers: two ways round, and along a renumbering.
 use Rattle.std.proofs.Common.{ap, arith, cond, inl, inr, refl, subst, suc, sym, zero, ℕ, ◌*◌, ◌+◌, ◌<◌, ◌==◌, ◌∙◌, ◌≡◌, ◌≤◌, ◌⊎◌}
-use Rattle.std.proofs.lemmas.Bool.{cases_lt}
+use Rattle.std.proofs.lemmas.Bool.{cases_eq, cases_lt}
 use Rattle.std.proofs.lemmas.Bool.Decides.{nat_tests}
-use Rattle.bk_laws.proofs.Tests.{same_or_other}
 
 -- the sum of so many values from a number on
 abbrev pub total_from : (ℕ → ℕ) → ℕ → ℕ → ℕ
@@ -58,7 +57,7 @@ step_none x y u m c e f g = subst (λ (z : ℕ). x + u ≡ (z + m) * c) (sym f) 
 
 weighted : (f : ℕ → ℕ) (j c b n : ℕ) → total_from (λ k. cond (f k == j) c 0) b n ≡ times_of f j b n * c
 weighted f j c b zero = omega arith
-weighted f j c b (suc n) = cases (same_or_other (f b) j) (weighted f j c (b + 1) n)
+weighted f j c b (suc n) = cases (cases_eq (f b) j) (weighted f j c (b + 1) n)
   where
     cases : (f b ≡ j) ⊎ (f b ≡ j → ⊥) → total_from (λ k. cond (f k == j) c 0) (b + 1) n ≡ times_of f j (b + 1) n * c
         → cond (f b == j) c 0 + total_from (λ k. cond (f k == j) c 0) (b + 1) n ≡ (cond (f b == j) 1 0 + times_of f j (b + 1) n) * c
@@ -77,7 +76,7 @@ never f j b (suc n) none = omega (
 
 once_at_most : (f : ℕ → ℕ) (j b n : ℕ) → ((i k : ℕ) → i < b + n → k < b + n → f i ≡ f k → i ≡ k) → times_of f j b n ≤ 1
 once_at_most f j b zero one = omega arith
-once_at_most f j b (suc n) one = cases (same_or_other (f b) j) (once_at_most f j (b + 1) n (λ i k h m. one i k (omega arith) (omega arith)))
+once_at_most f j b (suc n) one = cases (cases_eq (f b) j) (once_at_most f j (b + 1) n (λ i k h m. one i k (omega arith) (omega arith)))
   where
     cases : (f b ≡ j) ⊎ (f b ≡ j → ⊥) → times_of f j (b + 1) n ≤ 1 → cond (f b == j) 1 0 + times_of f j (b + 1) n ≤ 1
     cases (inl e) rest = omega (

@@ -4,7 +4,7 @@ use Rattle.std.proofs.Common.{List, ap, arith, filter, length, map, max, refl, �
 use Rattle.std.proofs.lemmas.List.{length-append, length-map}
 use Rattle.std.proofs.lemmas.List.Sums.{length-filter}
 use Rattle.bk_word.proofs.PlayLists.{numbers-length}
-use Rattle.bk_word.specs.Outline.{IsLegalMove, Outline}
+use Rattle.bk_word.specs.Outline.{IsLegalMove, Outline, sizes_of}
 use Rattle.bk_word.specs.Play.{after_move, new_squares, outline_of, parts}
 use Rattle.bk_word.specs.Word.{Move, Word, order_of}
 use Rattle.bk_word.specs.declared.Sign.{Sign}
@@ -15,16 +15,16 @@ use Rattle.bk_skel.proofs.SkelFacts.{Counted, counted}
 use Rattle.bk_skel.proofs.TurnParts.{closed_is, first_is, sides_are, start_is}
 use Rattle.bk_word_net.proofs.ValleyCut.{AtValley}
 use Rattle.bk_skel.specs.Skeleton.{Shows, first_touched, open_sides, sizes_after, turn_at}
-use Rattle.bk_skel.specs.Valley.{IsKeptSkeleton, segment_sizes}
+use Rattle.bk_skel.specs.Valley.{IsKeptSkeleton}
 use Rattle.bk_skel.specs.declared.turns.MoveRecord.{MoveRecord}
 
-shows_self : (o : Outline) → Shows o (concat o.segments) (segment_sizes o) o.signs (concat o.closed)
+shows_self : (o : Outline) → Shows o (concat o.segments) (sizes_of o) o.signs (concat o.closed)
 shows_self o = record { ends_are = refl; sizes_are = refl; signs_are = refl; closed_are = refl }
 
 module _ (front : Word) (m : Move) (kept : IsKeptSkeleton front) (legal : IsLegalMove (outline_of front) m)
     (few : order_of front + m.count ≤ 200) (from : ℕ) where
-  c : Counted front (concat (outline_of front).segments) (segment_sizes (outline_of front)) (outline_of front).signs (concat (outline_of front).closed)
-  c = counted front (concat (outline_of front).segments) (segment_sizes (outline_of front)) (outline_of front).signs
+  c : Counted front (concat (outline_of front).segments) (sizes_of (outline_of front)) (outline_of front).signs (concat (outline_of front).closed)
+  c = counted front (concat (outline_of front).segments) (sizes_of (outline_of front)) (outline_of front).signs
       (concat (outline_of front).closed) kept (shows_self (outline_of front))
 
   abbrev v : AtValley (outline_of front)
@@ -34,7 +34,7 @@ module _ (front : Word) (m : Move) (kept : IsKeptSkeleton front) (legal : IsLega
   f = filled_parts (outline_of front) v c.shaped
 
   abbrev turn : MoveRecord
-  turn = turn_at (segment_sizes (outline_of front)) (outline_of front).signs m from
+  turn = turn_at (sizes_of (outline_of front)) (outline_of front).signs m from
 
   -- the squares that the move closed are there
   pub closed_in : (closed : List ℕ) → closed ≡ concat (after_move (outline_of front) m).closed → turn.closed ≤ length closed
@@ -60,7 +60,7 @@ module _ (front : Word) (m : Move) (kept : IsKeptSkeleton front) (legal : IsLega
   pub ends_in : (ends : List ℕ) → ends ≡ concat (after_move (outline_of front) m).segments → turn.first + m.count ≤ length ends
   ends_in ends e = omega (arith, first_is (outline_of front) c.shaped m from v f, long_ends ends e)
 
-  long_sizes : (sizes : List ℕ) → sizes ≡ segment_sizes (after_move (outline_of front) m)
+  long_sizes : (sizes : List ℕ) → sizes ≡ sizes_of (after_move (outline_of front) m)
       → length sizes ≡ length v.before + ((turn.parted + 1) + length v.after)
   long_sizes sizes e = ap length (e ∙ sizes_are (outline_of front) c.shaped m legal from) ∙ omega (
     arith,
@@ -72,11 +72,11 @@ module _ (front : Word) (m : Move) (kept : IsKeptSkeleton front) (legal : IsLega
   )
 
   -- the segments that came in the place of those touched are there
-  pub sizes_in : (sizes : List ℕ) → sizes ≡ segment_sizes (after_move (outline_of front) m) → first_touched turn + (turn.parted + 1) ≤ length sizes
+  pub sizes_in : (sizes : List ℕ) → sizes ≡ sizes_of (after_move (outline_of front) m) → first_touched turn + (turn.parted + 1) ≤ length sizes
   sizes_in sizes e = omega (arith, start_is (outline_of front) c.shaped m from v f, long_sizes sizes e)
 
   -- with those touched in their place the segments are few
-  pub sizes_few : (sizes : List ℕ) → sizes ≡ segment_sizes (after_move (outline_of front) m) → length sizes - (turn.parted + 1) + (open_sides turn + 1) ≤ 200
+  pub sizes_few : (sizes : List ℕ) → sizes ≡ sizes_of (after_move (outline_of front) m) → length sizes - (turn.parted + 1) + (open_sides turn + 1) ≤ 200
   sizes_few sizes e = omega (
     arith,
     sides_are (outline_of front) c.shaped m from v f,

@@ -4,7 +4,7 @@ use Rattle.std.proofs.Common.{Bool, List, [], ap, arith, cond, drop, false, leng
 use Rattle.std.proofs.Common.{take, true, zero, ℕ, ◌++◌, ◌+◌, ◌-◌, ◌<◌, ◌∙◌, ◌∷◌, ◌≡◌}
 use Rattle.std.proofs.lemmas.List.{append_assoc, drop_at, length-append, length-map, map-append, take_at}
 use Rattle.std.proofs.lemmas.List.Sums.{sum_by-append, sum_by-cons}
-use Rattle.bk_word_net.proofs.BottomChain.{concat-append}
+use Rattle.std.proofs.lemmas.List.Folds.{concat-append}
 use Rattle.bk_skel.proofs.TurnParts.{sum_lengths}
 use Rattle.bk_word_net.specs.WordNet.{end_of}
 

@@ -1,7 +1,7 @@
 -- The placing of a whole word: its squares are a tiling that has the word with these sides.
 use Rattle.std.specs.List.{AllByRecursion}
 use Rattle.std.proofs.Common.{List, [], ap, arith, drop, length, refl, subst, suc, sym, zero, ℕ, ◌++◌, ◌<◌, ◌∙◌, ◌∷◌, ◌≡◌, ◌≤◌}
-use Rattle.std.proofs.lemmas.List.{append-nil}
+use Rattle.std.proofs.lemmas.List.{append-nil, drop_all, take_all}
 use Rattle.bk_tiling.proofs.PuttingInOrder.{in_order}
 use Rattle.bk_tiling.proofs.Rows.{laid_sides}
 use Rattle.bk_tiling.specs.Column.{depth}
@@ -18,13 +18,12 @@ use Rattle.bk_word_net.specs.WordFlow.{LaidAlong}
 use Rattle.bk_word_net.proofs.TilingOfTurns.{Turns, all_deep, built, follow_turns, is_tiling}
 use Rattle.bk_word_net.specs.LaidTiling.{IsLaidWith}
 use Rattle.bk_skel.specs.Board.{IsBoard, IsClosed}
-use Rattle.bk_skel.proofs.WordCuts.{take_whole}
 use Rattle.bk_skel.proofs.PlacingLoop.{first_width, IsPlacedTo}
 
 module _ (given : List ℕ) (all_sides : AllByRecursion IsSide given) (few : length given ≤ 200) (w : Word) (complete : IsComplete w)
     (count : length given ≡ order_of w) (i : ℕ) (done : length w ≤ i) (laid : List Square) (numbers : List ℕ) (s : IsPlacedTo w given i laid numbers) where
   all_laid : length laid ≡ length given
-  all_laid = omega (arith, s.many, ap order_of (take_whole w i done).1)
+  all_laid = omega (arith, s.many, ap order_of (drop_all i w done))
 
   none_left : (k : ℕ) (xs : List ℕ) → k ≡ length xs → drop k xs ≡ []
   none_left zero [] e = refl
@@ -36,7 +35,7 @@ module _ (given : List ℕ) (all_sides : AllByRecursion IsSide given) (few : len
   sides_are = sym (s.sides ∙ ap (λ (xs : List ℕ). laid_sides laid ++ xs) (none_left (length laid) given all_laid) ∙ append-nil (laid_sides laid))
 
   board : IsBoard (first_width w given) laid numbers (outline_of w)
-  board = subst (λ (v : Word). IsBoard (first_width w given) laid numbers (after_moves start v)) (take_whole w i done).0 s.board
+  board = subst (λ (v : Word). IsBoard (first_width w given) laid numbers (after_moves start v)) (take_all i w done) s.board
 
   some : 0 < length laid
   some = from w complete.some complete.legal (omega (arith, all_laid, count))
@@ -75,7 +74,7 @@ module _ (given : List ℕ) (all_sides : AllByRecursion IsSide given) (few : len
   tiling = is_tiling (first_width w given) board.some laid (outline_of w) board.shows complete.one some
 
   turns : Turns (first_width w given) [] w laid
-  turns = s.turns laid (subst (λ (v : Word). Turns (first_width w given) laid v laid) (sym (take_whole w i done).1) refl)
+  turns = s.turns laid (subst (λ (v : Word). Turns (first_width w given) laid v laid) (sym (drop_all i w done)) refl)
 
   -- and they are a tiling that has the word with these sides
   pub placed_end : IsLaidWith w given (record { width = first_width w given; height = depth laid 0; squares = in_code_order laid })

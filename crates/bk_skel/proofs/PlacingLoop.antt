@@ -17,7 +17,7 @@ use Rattle.bk_word_net.proofs.TurnsOfTiling.{AgreesAt, agrees_start}
 use Rattle.bk_word_net.proofs.TilingOfTurns.{Turns}
 use Rattle.bk_word_net.specs.LaidTiling.{IsLaidWith}
 use Rattle.bk_skel.specs.Board.{IsBoard}
-use Rattle.bk_skel.proofs.WordCuts.{all_take, sum_bounds}
+use Rattle.bk_skel.proofs.SideCuts.{all_take, sum_bounds}
 
 -- the width: what the sides of the first move sum to
 abbrev pub first_width : Word → List ℕ → ℕ

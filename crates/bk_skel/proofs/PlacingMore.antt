@@ -12,6 +12,7 @@ use Rattle.bk_word.proofs.StoredBytes.{order_more}
 use Rattle.bk_word.specs.Outline.{IsLegalMove, Outline, start, valley_of}
 use Rattle.bk_word.specs.Play.{IsLegal, after_move, after_moves, numbers_from}
 use Rattle.bk_word.specs.Word.{Move, Word, order_of}
+use Rattle.bk_word.proofs.WordCuts.{legal_at, outline_more, split_at}
 use Rattle.bk_lay.proofs.Valleys.{one_leftmost_valley}
 use Rattle.bk_word_net.proofs.TurnsOfTiling.{AgreesAt, AgreesOn, agrees_on}
 use Rattle.bk_word_net.proofs.TilingOfTurns.{Turns}
@@ -21,7 +22,7 @@ use Rattle.bk_skel.proofs.PlacingTurn.{gap, only}
 use Rattle.bk_word_net.specs.LaidTiling.{IsLaidWith}
 use Rattle.bk_skel.specs.Board.{CanLay, IsBoard}
 use Rattle.bk_word_net.specs.LaidOutline.{IsNumber, IsTurn, front_of}
-use Rattle.bk_skel.proofs.WordCuts.{split_at, outline_more, legal_at, all_take, all_drop}
+use Rattle.bk_skel.proofs.SideCuts.{all_take, all_drop}
 use Rattle.bk_skel.proofs.LaidSides.{laid_long, further, sides_next}
 use Rattle.bk_skel.proofs.PlacingLoop.{first_width, IsPlacedTo}
 

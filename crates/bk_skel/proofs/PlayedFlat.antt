@@ -4,13 +4,14 @@ use Rattle.std.proofs.Common.{List, [], ap, arith, cond, count_by, drop, filter,
 use Rattle.std.proofs.Common.{◌∙◌, ◌∷◌, ◌≡◌}
 use Rattle.std.proofs.lemmas.List.{append-nil, append_assoc, drop_at, length-append, length-map, map-append, take_at}
 use Rattle.std.proofs.lemmas.List.Sums.{length-filter, sum_by-cons}
+use Rattle.std.proofs.lemmas.List.Folds.{concat-append}
 use Rattle.bk_word.proofs.PlayLists.{numbers-length}
-use Rattle.bk_word.specs.Outline.{IsLegalMove, Outline, valley_of}
+use Rattle.bk_word.specs.Outline.{IsLegalMove, Outline, sizes_of, valley_of}
 use Rattle.bk_word.specs.Play.{after_move, joined, new_squares, parts}
 use Rattle.bk_word.specs.Word.{Move}
 use Rattle.bk_word.specs.declared.Sign.{Sign}
 use Rattle.bk_word.specs.declared.Sign.TheVariants.{Above, Even, Under}
-use Rattle.bk_word_net.proofs.BottomChain.{concat-append, concat-joined, concat-singles}
+use Rattle.bk_word_net.proofs.BottomChain.{concat-joined, concat-singles}
 use Rattle.bk_skel.proofs.FlatMoves.{sizes_between, splice_at}
 use Rattle.bk_word_net.proofs.OutlineParts.{left_one, right_one, valley_is}
 use Rattle.bk_word_net.proofs.MovedParts.{many_between, segments_after, signs_after}
@@ -18,7 +19,6 @@ use Rattle.bk_word_net.proofs.Shape.{Filled, Shaped, filled_parts, valley_in}
 use Rattle.bk_skel.proofs.TurnParts.{closed_is, first_is, left_is, right_is, sides_are, signs_before_are, sizes_before_are, start_is}
 use Rattle.bk_word_net.proofs.ValleyCut.{AtValley}
 use Rattle.bk_skel.specs.Skeleton.{Shows, first_touched, joined_sizes, next_size, open_sides, signs_before, sizes_after, sizes_before, turn_at}
-use Rattle.bk_skel.specs.Valley.{segment_sizes}
 use Rattle.bk_skel.specs.declared.turns.MoveRecord.{MoveRecord}
 
 -- how many segments the signs leave
@@ -43,7 +43,7 @@ module _ (o : Outline) (shaped : Shaped o) (m : Move) (legal : IsLegalMove o m) 
   f = filled_parts o (valley_in o shaped) shaped
 
   abbrev turn : MoveRecord
-  turn = turn_at (segment_sizes o) o.signs m from
+  turn = turn_at (sizes_of o) o.signs m from
 
   -- the segments that come in the place of those touched
   abbrev between : List (List ℕ)
@@ -56,7 +56,7 @@ module _ (o : Outline) (shaped : Shaped o) (m : Move) (legal : IsLegalMove o m) 
       ∙ ap (λ (l : List ℕ). concat v.left ++ (v.valley ++ l)) (concat-append v.right v.after))
       ∙ sym (append_assoc (concat v.before) (concat v.left) (v.valley ++ (concat v.right ++ concat v.after)))
 
-  sizes_were : segment_sizes o ≡ map length v.before ++ ((map length v.left ++ (length v.valley ∷ map length v.right)) ++ map length v.after)
+  sizes_were : sizes_of o ≡ map length v.before ++ ((map length v.left ++ (length v.valley ∷ map length v.right)) ++ map length v.after)
   sizes_were = ap (map length) v.segments ∙ map-append length v.before (v.left ++ (v.valley ∷ (v.right ++ v.after)))
       ∙ ap (λ (l : List ℕ). map length v.before ++ l) (map-append length v.left (v.valley ∷ (v.right ++ v.after))
       ∙ ap (λ (l : List ℕ). map length v.left ++ (length v.valley ∷ l)) (map-append length v.right v.after)
@@ -75,7 +75,7 @@ module _ (o : Outline) (shaped : Shaped o) (m : Move) (legal : IsLegalMove o m) 
       ∙ regroup (concat v.before) (concat v.left) (new_squares o m) (concat v.right) (concat v.after)
 
   -- how many squares each segment has after it
-  pub sizes_are : segment_sizes (after_move o m) ≡ map length v.before ++ (sizes_after turn m.signs ++ map length v.after)
+  pub sizes_are : sizes_of (after_move o m) ≡ map length v.before ++ (sizes_after turn m.signs ++ map length v.after)
   sizes_are = ap (map length) (segments_after o v m legal) ∙ map-append length v.before (joined m.signs between ++ v.after)
       ∙ ap (λ (l : List ℕ). map length v.before ++ l) (map-append length (joined m.signs between) v.after ∙ ap (λ (l : List ℕ). l ++ map length v.after) middle)
     where

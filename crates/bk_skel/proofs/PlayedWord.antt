@@ -1,5 +1,6 @@
 -- A word played on a skeleton, move by move, up to its first illegal move.
-use Rattle.std.proofs.Common.{Some, [], ap, arith, length, refl, slice_get, subst, suc, sym, take, zero, ℕ, ◌++◌, ◌+◌, ◌-◌, ◌<◌, ◌∙◌, ◌∷◌, ◌≡◌, ◌≤◌}
+use Rattle.std.proofs.Common.{Some, [], ap, arith, length, slice_get, subst, suc, sym, take, zero, ℕ, ◌++◌, ◌+◌, ◌-◌, ◌<◌, ◌∙◌, ◌∷◌, ◌≡◌, ◌≤◌}
+use Rattle.std.proofs.lemmas.List.{take_all}
 use Rattle.bk_word.proofs.StoredBytes.{order_more}
 use Rattle.bk_word.specs.Outline.{IsLegalMove, start}
 use Rattle.bk_word.specs.Play.{IsLegal, outline_of}
@@ -57,12 +58,6 @@ module _ (w : Word) (i : ℕ) (skel : Word) (p : IsPlayedTo w i skel) (m : Move)
       back : i ≡ i + 1 - 1
       back = omega arith
 
-take_whole : (w : Word) (i : ℕ) → length w ≤ i → take i w ≡ w
-take_whole [] zero h = refl
-take_whole [] (suc i) h = refl
-take_whole (m ∷ w) zero h = absurd (omega arith)
-take_whole (m ∷ w) (suc i) h = ap (λ (v : Word). m ∷ v) (take_whole w i (omega arith))
-
 -- once all moves are played, the word is legal and stands on the skeleton
 pub played_last : (w : Word) (i : ℕ) (skel : Word) → IsPlayedTo w i skel → length w ≤ i → (skel ≡ w) × IsLegal w
-played_last w i skel p done = let same : skel ≡ w = p.moves ∙ take_whole w i done in (same, subst IsLegal same p.legal)
+played_last w i skel p done = let same : skel ≡ w = p.moves ∙ take_all i w done in (same, subst IsLegal same p.legal)

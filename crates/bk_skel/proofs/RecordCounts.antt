@@ -5,7 +5,7 @@ use Rattle.std.proofs.lemmas.List.{append-nil, append_assoc, map-append}
 use Rattle.std.proofs.lemmas.List.Sums.{sum_by-cons}
 use Rattle.bk_laws.proofs.Occurrences.{times, times-concat, times_in-append}
 use Rattle.bk_word.proofs.StoredBytes.{order_more}
-use Rattle.bk_word.specs.Outline.{Outline, start, valley_of, valley_place}
+use Rattle.bk_word.specs.Outline.{Outline, sizes_of, start, valley_of, valley_place}
 use Rattle.bk_word.specs.Play.{after_move, after_moves, outline_of}
 use Rattle.bk_word.specs.Word.{Word, order_of}
 use Rattle.bk_word.specs.declared.Sign.{Sign}
@@ -14,7 +14,6 @@ use Rattle.bk_word_net.proofs.NoLoose.{hung_number}
 use Rattle.bk_skel.proofs.SkelReads.{counted_in, size_index}
 use Rattle.bk_skel.proofs.TurnParts.{sum_lengths}
 use Rattle.bk_skel.specs.Skeleton.{IsStoredSkeleton, turns_from}
-use Rattle.bk_skel.specs.Valley.{segment_sizes}
 use Rattle.bk_skel.specs.Wiring.{AreNumbers, closed_of, counts_of}
 use Rattle.bk_skel.specs.declared.turns.MoveRecord.{MoveRecord}
 
@@ -24,7 +23,7 @@ closed_turns o from [] = sym (append-nil (map length o.closed))
 closed_turns o from (m ∷ w) = closed_turns (after_move o m) (from + length m.signs) w
     ∙ ap (λ (l : List ℕ). l ++ closed_of (turns_from (after_move o m) (from + length m.signs) w))
     (map-append length o.closed (valley_of o ∷ []) ∙ ap (λ n. map length o.closed ++ n ∷ []) (sym (size_index o.segments (valley_place o.signs))))
-    ∙ append_assoc (map length o.closed) (slice_index (segment_sizes o) (valley_place o.signs) ∷ [])
+    ∙ append_assoc (map length o.closed) (slice_index (sizes_of o) (valley_place o.signs) ∷ [])
     (closed_of (turns_from (after_move o m) (from + length m.signs) w))
 
 -- the records say how many squares each move hangs

@@ -1,11 +1,11 @@
 -- What is known of what a skeleton stores.
 use Rattle.std.specs.List.{concat, splice}
-use Rattle.std.proofs.Common.{List, [], ap, arith, count_by, filter, inl, inr, length, map, refl, replicate, slice_range, subst, sum, sym, ℕ, ◌++◌}
+use Rattle.std.proofs.Common.{List, [], ap, arith, count_by, filter, inl, inr, length, map, replicate, slice_range, subst, sum, sym, ℕ, ◌++◌}
 use Rattle.std.proofs.Common.{◌+◌, ◌-◌, ◌∙◌, ◌∷◌, ◌≡◌, ◌≤◌, ◌⊎◌}
 use Rattle.std.proofs.lemmas.List.Sums.{length-filter}
 use Rattle.std.proofs.lemmas.List.{length-append, length-map, length-replicate}
 use Rattle.bk_word.proofs.StoredBytes.{order_one}
-use Rattle.bk_word.specs.Outline.{IsLegalMove, Outline, start}
+use Rattle.bk_word.specs.Outline.{IsLegalMove, Outline, sizes_of, start}
 use Rattle.bk_word.specs.Play.{after_move, joined, new_squares, numbers_from, outline_of, parts}
 use Rattle.bk_word.specs.Word.{Move, Word, order_of}
 use Rattle.bk_word.specs.declared.Sign.{Sign}
@@ -19,7 +19,7 @@ use Rattle.bk_skel.proofs.StoredMoves.{signs-snoc, turns-snoc}
 use Rattle.bk_skel.proofs.TurnParts.{closed_is, first_is, left_is, right_is, sides_are, start_is, sum_lengths}
 use Rattle.bk_word_net.proofs.ValleyCut.{AtValley}
 use Rattle.bk_skel.specs.Skeleton.{IsStoredSkeleton, Shows, first_touched, open_sides, signs_of, sizes_after, turn_at}
-use Rattle.bk_skel.specs.Valley.{IsKeptSkeleton, segment_sizes}
+use Rattle.bk_skel.specs.Valley.{IsKeptSkeleton}
 use Rattle.bk_skel.specs.declared.turns.MoveRecord.{MoveRecord}
 
 -- the numbers of what a kept skeleton's outline has
@@ -70,7 +70,7 @@ pub record Touches (w : Word) (m : Move) (ends sizes : List ℕ) (signs : List S
 pub touches : (w : Word) (m : Move) (ends sizes : List ℕ) (signs : List Sign) (closed : List ℕ) (from : ℕ) → IsKeptSkeleton w
     → Shows (outline_of w) ends sizes signs closed
     → IsLegalMove (outline_of w) m → order_of w + m.count ≤ 200
-    → Touches w m ends sizes signs closed (turn_at (segment_sizes (outline_of w)) (outline_of w).signs m from)
+    → Touches w m ends sizes signs closed (turn_at (sizes_of (outline_of w)) (outline_of w).signs m from)
 touches w m ends sizes signs closed from kept s legal room = record {
   first = omega (arith, first_is (outline_of w) c.shaped m from v f, closed_is (outline_of w) c.shaped m from v f, squares);
   sizes_within = omega (arith, start_is (outline_of w) c.shaped m from v f, sides_are (outline_of w) c.shaped m from v f, many_segments (outline_of w) v, long);
@@ -157,11 +157,11 @@ stored_move w m ends sizes signs closed turns played turn s legal room e = recor
     c : Counted w ends sizes signs closed
     c = counted w ends sizes signs closed s.kept s.shows
 
-    turn_was : turn ≡ turn_at (segment_sizes (outline_of w)) (outline_of w).signs m (length played)
+    turn_was : turn ≡ turn_at (sizes_of (outline_of w)) (outline_of w).signs m (length played)
     turn_was = e ∙ (λ i. turn_at ((s.shows).sizes_are i) ((s.shows).signs_are i) m (length played))
 
-    turn_is : turn ≡ turn_at (segment_sizes (outline_of w)) (outline_of w).signs m (0 + length (signs_of w))
-    turn_is = turn_was ∙ ap (turn_at (segment_sizes (outline_of w)) (outline_of w).signs m) (ap length s.played_are ∙ omega arith)
+    turn_is : turn ≡ turn_at (sizes_of (outline_of w)) (outline_of w).signs m (0 + length (signs_of w))
+    turn_is = turn_was ∙ ap (turn_at (sizes_of (outline_of w)) (outline_of w).signs m) (ap length s.played_are ∙ omega arith)
 
     number : length ends + length closed + 1 ≡ length (outline_of w).hung + 1
     number = omega (arith, c.all, c.hung)
@@ -175,37 +175,9 @@ stored_move w m ends sizes signs closed turns played turn s legal room e = recor
         (splice sizes (first_touched t) (first_touched t + (open_sides t + 1)) (sizes_after t m.signs))
         (splice signs (first_touched t) (first_touched t + open_sides t) (filter parts m.signs))
         (closed ++ slice_range ends t.first (t.first + t.closed))) (sym turn_was)
-        (subst (λ (n : ℕ). let t : MoveRecord = turn_at (segment_sizes (outline_of w)) (outline_of w).signs m (length played) in
+        (subst (λ (n : ℕ). let t : MoveRecord = turn_at (sizes_of (outline_of w)) (outline_of w).signs m (length played) in
         Shows (after_move (outline_of w) m) (splice ends t.first (t.first + t.closed) (numbers_from n m.count))
         (splice sizes (first_touched t) (first_touched t + (open_sides t + 1)) (sizes_after t m.signs))
         (splice signs (first_touched t) (first_touched t + open_sides t) (filter parts m.signs))
         (closed ++ slice_range ends t.first (t.first + t.closed))) (sym number)
         (shows_move (outline_of w) c.shaped m legal (length played) ends sizes signs closed s.shows))
-
--- two lists with a last item are one only where all is
-pub snoc_one : {A : Type 0} (xs ys : List A) (x y : A) → xs ++ x ∷ [] ≡ ys ++ y ∷ [] → (xs ≡ ys) × (x ≡ y)
-snoc_one [] [] x y e = (refl, cc)
-snoc_one {A = A} [] (b ∷ []) x y e = absurd (longer x b y e)
-  where
-    longer : (x b y : A) → x ∷ [] ≡ b ∷ y ∷ [] → ⊥
-    longer x b y e = cc
-snoc_one {A = A} [] (b ∷ d ∷ ys) x y e = absurd (longer x b d (ys ++ y ∷ []) e)
-  where
-    longer : (x b d : A) (l : List A) → x ∷ [] ≡ b ∷ d ∷ l → ⊥
-    longer x b d l e = cc
-snoc_one {A = A} (a ∷ []) [] x y e = absurd (longer x a y e)
-  where
-    longer : (x a y : A) → a ∷ x ∷ [] ≡ y ∷ [] → ⊥
-    longer x a y e = cc
-snoc_one {A = A} (a ∷ c ∷ xs) [] x y e = absurd (longer a c y (xs ++ x ∷ []) e)
-  where
-    longer : (a c y : A) (l : List A) → a ∷ c ∷ l ≡ y ∷ [] → ⊥
-    longer a c y l e = cc
-snoc_one {A = A} (a ∷ xs) (b ∷ ys) x y e = let r = snoc_one xs ys x y (rest (xs ++ x ∷ []) (ys ++ y ∷ []) e) in
-    ((λ i. head (xs ++ x ∷ []) (ys ++ y ∷ []) e i ∷ r.0 i), r.1)
-  where
-    rest : (l m : List A) → a ∷ l ≡ b ∷ m → l ≡ m
-    rest l m e = cc
-
-    head : (l m : List A) → a ∷ l ≡ b ∷ m → a ≡ b
-    head l m e = cc

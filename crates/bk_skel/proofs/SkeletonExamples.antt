@@ -5,7 +5,7 @@ use Rattle.bk_tiling.specs.SquareGroups.{laid_group}
 use Rattle.bk_tiling.specs.declared.Segment.{Segment}
 use Rattle.bk_tiling.specs.declared.Square.{Square}
 use Rattle.bk_word.proofs.WordExamples.{staircase}
-use Rattle.bk_word.specs.Outline.{start}
+use Rattle.bk_word.specs.Outline.{sizes_of, start}
 use Rattle.bk_word.specs.Play.{outline_of}
 use Rattle.bk_word.specs.Word.{Move}
 use Rattle.bk_word.specs.declared.Sign.TheVariants.{Even, Under}
@@ -14,7 +14,7 @@ use Rattle.bk_word_net.specs.LaidOutline.{IsGap, IsTurn, back_of, bottom_at, fro
 use Rattle.bk_skel.specs.Board.{columns_of}
 use Rattle.bk_skel.specs.Skeleton.{Shows, first_touched, joined_sizes, moves_stored, open_sides, signs_before, signs_of, sizes_after, sizes_before, turns_from}
 use Rattle.bk_skel.specs.TurnRecord.{SaysWhere}
-use Rattle.bk_skel.specs.Valley.{leftmost_valley, segment_sizes}
+use Rattle.bk_skel.specs.Valley.{leftmost_valley}
 use Rattle.bk_skel.specs.declared.turns.MoveRecord.{MoveRecord}
 
 -- ---- the leftmost valley before each move, and how many squares each open segment has
@@ -28,16 +28,16 @@ second_valley = refl
 third_valley : leftmost_valley (outline_of (take 2 staircase)) ≡ record { place = 1; left_wall = false; right_wall = true; squares = 4 ∷ [] }
 third_valley = refl
 
-sizes_at_first : segment_sizes (outline_of []) ≡ 0 ∷ []
+sizes_at_first : sizes_of (outline_of []) ≡ 0 ∷ []
 sizes_at_first = refl
 
-sizes_after_one : segment_sizes (outline_of (take 1 staircase)) ≡ 1 ∷ 1 ∷ []
+sizes_after_one : sizes_of (outline_of (take 1 staircase)) ≡ 1 ∷ 1 ∷ []
 sizes_after_one = refl
 
-sizes_after_two : segment_sizes (outline_of (take 2 staircase)) ≡ 2 ∷ 1 ∷ []
+sizes_after_two : sizes_of (outline_of (take 2 staircase)) ≡ 2 ∷ 1 ∷ []
 sizes_after_two = refl
 
-sizes_after_all : segment_sizes (outline_of staircase) ≡ 3 ∷ []
+sizes_after_all : sizes_of (outline_of staircase) ≡ 3 ∷ []
 sizes_after_all = refl
 
 -- ---- the records of the moves

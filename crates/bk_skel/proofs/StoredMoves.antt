@@ -3,12 +3,11 @@ use Rattle.std.proofs.Common.{List, [], ap, arith, length, refl, slice_range, su
 use Rattle.std.proofs.lemmas.List.{append-nil, append_assoc, drop_at, length-append, take_at}
 use Rattle.std.proofs.lemmas.Grind.{flat_map-append}
 use Rattle.bk_word.proofs.StoredBytes.{order_more}
-use Rattle.bk_word.specs.Outline.{Outline, start}
+use Rattle.bk_word.specs.Outline.{Outline, sizes_of, start}
 use Rattle.bk_word.specs.Play.{AreLegalFrom, after_move, after_moves}
 use Rattle.bk_word.specs.Word.{Move, Word, order_of}
 use Rattle.bk_word.specs.declared.Sign.{Sign}
 use Rattle.bk_skel.specs.Skeleton.{moves_stored, signs_of, turn_at, turns_from}
-use Rattle.bk_skel.specs.Valley.{segment_sizes}
 use Rattle.bk_skel.specs.declared.turns.MoveRecord.{MoveRecord}
 use Rattle.bk_word.proofs.PlayLaws.{few_signs}
 
@@ -23,12 +22,12 @@ signs-snoc w m = flat_map-append (λ (m : Move). m.signs) w (m ∷ []) ∙ ap (�
 -- and its record comes last
 pub turns-snoc : (o : Outline) (from : ℕ) (w : Word) (m : Move)
     → turns_from o from (w ++ m ∷ []) ≡ turns_from o from w
-    ++ turn_at (segment_sizes (after_moves o w)) (after_moves o w).signs m (from + length (signs_of w)) ∷ []
-turns-snoc o from [] m = ap (λ n. turn_at (segment_sizes o) o.signs m n ∷ []) (omega arith)
-turns-snoc o from (n ∷ w) m = ap (λ (l : List MoveRecord). turn_at (segment_sizes o) o.signs n from ∷ l)
+    ++ turn_at (sizes_of (after_moves o w)) (after_moves o w).signs m (from + length (signs_of w)) ∷ []
+turns-snoc o from [] m = ap (λ n. turn_at (sizes_of o) o.signs m n ∷ []) (omega arith)
+turns-snoc o from (n ∷ w) m = ap (λ (l : List MoveRecord). turn_at (sizes_of o) o.signs n from ∷ l)
     (turns-snoc (after_move o n) (from + length n.signs) w m
     ∙ ap (λ k. turns_from (after_move o n) (from + length n.signs) w
-    ++ turn_at (segment_sizes (after_moves (after_move o n) w)) (after_moves (after_move o n) w).signs m k ∷ []) same)
+    ++ turn_at (sizes_of (after_moves (after_move o n) w)) (after_moves (after_move o n) w).signs m k ∷ []) same)
   where
     same : from + length n.signs + length (signs_of w) ≡ from + length (signs_of (n ∷ w))
     same = omega (arith, ap length (signs-cons n w), length-append n.signs (signs_of w))

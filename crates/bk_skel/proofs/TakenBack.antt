@@ -1,19 +1,18 @@
 -- What is stored of a skeleton whose last move is taken back.
 use Rattle.std.specs.List.{splice}
 use Rattle.std.proofs.Common.{List, [], ap, arith, drop, length, subst, sym, take, take_all, ℕ, ◌++◌, ◌+◌, ◌-◌, ◌<◌, ◌∙◌, ◌∷◌, ◌≡◌, ◌≤◌}
-use Rattle.std.proofs.lemmas.List.{length-append, length-drop, take_at}
+use Rattle.std.proofs.lemmas.List.{length-append, length-drop, same_from_push, take_at}
 use Rattle.bk_word.proofs.StoredBytes.{order_one}
-use Rattle.bk_word.specs.Outline.{IsLegalMove, Outline, start}
+use Rattle.bk_word.specs.Outline.{IsLegalMove, Outline, sizes_of, start}
 use Rattle.bk_word.specs.Play.{after_move, outline_of}
 use Rattle.bk_word.specs.Word.{Move, Word, order_of}
 use Rattle.bk_word.specs.declared.Sign.{Sign}
 use Rattle.bk_skel.proofs.PlayedFlat.{shows_back}
 use Rattle.bk_word_net.proofs.Shape.{Shaped, shaped_moves, shaped_start}
-use Rattle.bk_skel.proofs.SkelFacts.{snoc_one}
 use Rattle.bk_skel.proofs.StoredMoves.{Ends, last_move, signs-snoc, turns-snoc}
 use Rattle.bk_word.proofs.PlayLaws.{after-snoc, legal-last, legal_front}
 use Rattle.bk_skel.specs.Skeleton.{IsStoredSkeleton, Shows, first_touched, moves_stored, open_sides, signs_before, signs_of, sizes_before, turn_at, turns_from}
-use Rattle.bk_skel.specs.Valley.{IsKeptSkeleton, segment_sizes}
+use Rattle.bk_skel.specs.Valley.{IsKeptSkeleton}
 use Rattle.bk_skel.specs.declared.turns.MoveRecord.{MoveRecord}
 use Rattle.bk_skel.proofs.BackFits.{closed_in, ends_in, sizes_in, sizes_few, signs_in, signs_few, ends_few}
 
@@ -95,15 +94,15 @@ takes_back w ends sizes signs closed turns rest turn played s cut some = back (l
         shaped = shaped_moves start r.front kept.legal shaped_start
 
         pair : (rest ≡ turns_from start 0 r.front)
-            × (turn ≡ turn_at (segment_sizes (outline_of r.front)) (outline_of r.front).signs r.last (0 + length (signs_of r.front)))
-        pair = snoc_one rest (turns_from start 0 r.front) turn
-            (turn_at (segment_sizes (outline_of r.front)) (outline_of r.front).signs r.last (0 + length (signs_of r.front)))
+            × (turn ≡ turn_at (sizes_of (outline_of r.front)) (outline_of r.front).signs r.last (0 + length (signs_of r.front)))
+        pair = same_from_push rest (turns_from start 0 r.front) turn
+            (turn_at (sizes_of (outline_of r.front)) (outline_of r.front).signs r.last (0 + length (signs_of r.front)))
             (sym cut ∙ s.turns_are ∙ ap (turns_from start 0) r.whole ∙ turns-snoc start 0 r.front r.last)
 
         rest_is : rest ≡ turns_from start 0 r.front
         rest_is = pair.0
 
-        turn_is : turn ≡ turn_at (segment_sizes (outline_of r.front)) (outline_of r.front).signs r.last (0 + length (signs_of r.front))
+        turn_is : turn ≡ turn_at (sizes_of (outline_of r.front)) (outline_of r.front).signs r.last (0 + length (signs_of r.front))
         turn_is = pair.1
 
 -- the same of what the code has stored, where it has a move

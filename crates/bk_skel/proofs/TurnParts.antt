@@ -5,16 +5,15 @@ use Rattle.std.proofs.Common.{zero, ℕ, ◌++◌, ◌+◌, ◌-◌, ◌<◌, �
 use Rattle.std.proofs.lemmas.Bool.Decides.{nat_tests}
 use Rattle.std.proofs.lemmas.List.{append-nil, append_assoc, length-append, take_at}
 use Rattle.std.proofs.lemmas.List.Sums.{sum_by-cons}
-use Rattle.bk_word.specs.Outline.{Outline, valley_place}
+use Rattle.std.proofs.lemmas.List.Folds.{concat-append}
+use Rattle.bk_word.specs.Outline.{Outline, sizes_of, valley_place}
 use Rattle.bk_word.specs.Word.{Move}
 use Rattle.bk_word.specs.declared.Sign.{Sign}
 use Rattle.bk_word.specs.declared.Sign.TheVariants.{Above, Under}
-use Rattle.bk_word_net.proofs.BottomChain.{concat-append}
 use Rattle.bk_word_net.proofs.OutlineParts.{left_one, many_signs, none_after, none_before, right_one}
 use Rattle.bk_word_net.proofs.Shape.{AllFilled, Filled, Shaped}
 use Rattle.bk_word_net.proofs.ValleyCut.{AtValley, Beside}
 use Rattle.bk_skel.specs.Skeleton.{first_touched, open_sides, signs_before, sizes_before, turn_at}
-use Rattle.bk_skel.specs.Valley.{segment_sizes}
 use Rattle.bk_skel.specs.declared.turns.MoveRecord.{MoveRecord}
 
 -- the sum of some lengths
@@ -80,7 +79,7 @@ two_signs left right left_signs right_signs a b filled full =
 
 module _ (o : Outline) (shaped : Shaped o) (m : Move) (from : ℕ) (v : AtValley o) (f : Filled o v) where
   abbrev pub turn : MoveRecord
-  turn = turn_at (segment_sizes o) o.signs m from
+  turn = turn_at (sizes_of o) o.signs m from
 
   fronts : o.segments ≡ (v.before ++ v.left) ++ (v.valley ∷ (v.right ++ v.after))
   fronts = v.segments ∙ sym (append_assoc v.before v.left (v.valley ∷ (v.right ++ v.after)))
@@ -88,18 +87,18 @@ module _ (o : Outline) (shaped : Shaped o) (m : Move) (from : ℕ) (v : AtValley
   place_long : length (v.before ++ v.left) ≡ valley_place o.signs
   place_long = length-append v.before v.left ∙ sym v.place
 
-  pub first_is : (turn_at (segment_sizes o) o.signs m from).first ≡ length (concat v.before) + length (concat v.left)
+  pub first_is : (turn_at (sizes_of o) o.signs m from).first ≡ length (concat v.before) + length (concat v.left)
   first_is = ap sum (take_map (valley_place o.signs) o.segments)
       ∙ sum_lengths (take (valley_place o.signs) o.segments)
       ∙ ap (λ (l : List (List ℕ)). length (concat l))
       (ap (take (valley_place o.signs)) fronts ∙ take_at (v.before ++ v.left) (v.valley ∷ (v.right ++ v.after)) (valley_place o.signs) place_long)
       ∙ ap length (concat-append v.before v.left) ∙ length-append (concat v.before) (concat v.left)
 
-  pub closed_is : (turn_at (segment_sizes o) o.signs m from).closed ≡ length v.valley
+  pub closed_is : (turn_at (sizes_of o) o.signs m from).closed ≡ length v.valley
   closed_is = ap (λ (l : List (List ℕ)). slice_index (map length l) (valley_place o.signs)) fronts
       ∙ size_at (v.before ++ v.left) v.valley (v.right ++ v.after) (valley_place o.signs) place_long
 
-  pub left_is : (turn_at (segment_sizes o) o.signs m from).left ≡ length (concat v.left)
+  pub left_is : (turn_at (sizes_of o) o.signs m from).left ≡ length (concat v.left)
   left_is = cases v.left_beside
     where
       wall : (p x : ℕ) → p ≡ 0 → ◌≡◌ {A = ℕ} (cond (nat_eq p 0) 0 x) 0
@@ -118,7 +117,7 @@ module _ (o : Outline) (shaped : Shaped o) (m : Move) (from : ℕ) (v : AtValley
           ∙ size_at v.before s (v.valley ∷ (v.right ++ v.after)) (valley_place o.signs - 1) (omega (arith, v.place, ap length e))
           ∙ sym (ap length (append-nil s)) ∙ sym (ap (λ (l : List (List ℕ)). length (concat l)) e)
 
-  pub right_is : (turn_at (segment_sizes o) o.signs m from).right ≡ length (concat v.right)
+  pub right_is : (turn_at (sizes_of o) o.signs m from).right ≡ length (concat v.right)
   right_is = cases v.right_beside
     where
       wall : (p n x : ℕ) → p ≡ n → ◌≡◌ {A = ℕ} (cond (nat_eq p n) 0 x) 0
@@ -143,22 +142,22 @@ module _ (o : Outline) (shaped : Shaped o) (m : Move) (from : ℕ) (v : AtValley
           (omega (arith, length-append (v.before ++ v.left) (v.valley ∷ []), place_long))
           ∙ sym (ap length (append-nil s)) ∙ sym (ap (λ (l : List (List ℕ)). length (concat l)) e)
 
-  pub left_min : min (turn_at (segment_sizes o) o.signs m from).left 1 ≡ length v.left
+  pub left_min : min (turn_at (sizes_of o) o.signs m from).left 1 ≡ length v.left
   left_min = ap (λ n. min n 1) left_is ∙ one_beside v.left (left_one o v).1 f.left
 
-  pub right_min : min (turn_at (segment_sizes o) o.signs m from).right 1 ≡ length v.right
+  pub right_min : min (turn_at (sizes_of o) o.signs m from).right 1 ≡ length v.right
   right_min = ap (λ n. min n 1) right_is ∙ one_beside v.right (right_one o v).1 f.right
 
-  pub start_is : first_touched (turn_at (segment_sizes o) o.signs m from) ≡ length v.before
+  pub start_is : first_touched (turn_at (sizes_of o) o.signs m from) ≡ length v.before
   start_is = omega (arith, v.place, left_min)
 
-  pub sides_are : open_sides (turn_at (segment_sizes o) o.signs m from) ≡ length v.left + length v.right
+  pub sides_are : open_sides (turn_at (sizes_of o) o.signs m from) ≡ length v.left + length v.right
   sides_are = omega (arith, left_min, right_min)
 
-  pub sizes_before_are : sizes_before (turn_at (segment_sizes o) o.signs m from) ≡ map length v.left ++ (length v.valley ∷ map length v.right)
+  pub sizes_before_are : sizes_before (turn_at (sizes_of o) o.signs m from) ≡ map length v.left ++ (length v.valley ∷ map length v.right)
   sizes_before_are = (λ i. slice_range (left_is i ∷ closed_is i ∷ right_is i ∷ []) (1 - min (left_is i) 1) (2 + min (right_is i) 1))
       ∙ three_sizes v.left v.right (length v.valley) (left_one o v).1 (right_one o v).1 f.left f.right
 
-  pub signs_before_are : signs_before (turn_at (segment_sizes o) o.signs m from) ≡ v.left_signs ++ v.right_signs
+  pub signs_before_are : signs_before (turn_at (sizes_of o) o.signs m from) ≡ v.left_signs ++ v.right_signs
   signs_before_are = (λ i. slice_range (Under ∷ Above ∷ []) (1 - min (left_is i) 1) (1 + min (right_is i) 1))
       ∙ two_signs v.left v.right v.left_signs v.right_signs v.left_beside v.right_beside f.left f.right

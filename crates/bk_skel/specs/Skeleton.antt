@@ -2,12 +2,12 @@
 -- Example (SkeletonExamples): the last move of 2u.2eu.1e makes one segment of three squares of one of two and one of one.
 use Rattle.std.specs.List.{concat}
 use Rattle.std.specs.Prelude.{List, [], cond, count_by, flat_map, length, map, max, min, nat_eq, slice_index, slice_range, sum, take, ℕ, ◌+◌, ◌-◌, ◌∷◌, ◌≡◌}
-use Rattle.bk_word.specs.Outline.{Outline, start, valley_place}
+use Rattle.bk_word.specs.Outline.{Outline, sizes_of, start, valley_place}
 use Rattle.bk_word.specs.Play.{after_move, outline_of, parts}
 use Rattle.bk_word.specs.Word.{Move, Word}
 use Rattle.bk_word.specs.declared.Sign.{Sign}
 use Rattle.bk_word.specs.declared.Sign.TheVariants.{Above, Under}
-use Rattle.bk_skel.specs.Valley.{IsKeptSkeleton, segment_sizes}
+use Rattle.bk_skel.specs.Valley.{IsKeptSkeleton}
 use Rattle.bk_skel.specs.declared.turns.MoveRecord.{MoveRecord}
 
 -- the record of a move, whose signs begin at this place of all moves' signs, by the sizes of the open segments and the
@@ -59,7 +59,7 @@ sizes_after turn signs = joined_sizes (max turn.left 1) (max turn.right 1) signs
 -- the records of moves that are played one after another
 abbrev pub turns_from : Outline → ℕ → Word → List MoveRecord
 turns_from o from [] = []
-turns_from o from (m ∷ moves) = turn_at (segment_sizes o) o.signs m from ∷ turns_from (after_move o m) (from + length m.signs) moves
+turns_from o from (m ∷ moves) = turn_at (sizes_of o) o.signs m from ∷ turns_from (after_move o m) (from + length m.signs) moves
 
 -- the signs of all moves, one after another
 abbrev pub signs_of : Word → List Sign
@@ -77,7 +77,7 @@ moves_stored turns played = map (move_of played) turns
 -- signs between the segments, and the numbers of the closed squares, node by node
 pub record Shows (o : Outline) (ends sizes : List ℕ) (signs : List Sign) (closed : List ℕ) : Type 0 where
   pub ends_are : ends ≡ concat o.segments
-  pub sizes_are : sizes ≡ segment_sizes o
+  pub sizes_are : sizes ≡ sizes_of o
   pub signs_are : signs ≡ o.signs
   pub closed_are : closed ≡ concat o.closed
 

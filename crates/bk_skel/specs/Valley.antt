@@ -1,6 +1,6 @@
 -- The leftmost valley of an outline, and what the play makes of a skeleton that callers see.
 -- Example (SkeletonExamples): before the last move of 2u.2eu.1e the leftmost valley is square 4 alone, at the right wall.
-use Rattle.std.specs.Prelude.{Bool, List, length, map, ℕ, ◌≤◌}
+use Rattle.std.specs.Prelude.{Bool, List, ℕ, ◌≤◌}
 use Rattle.bk_word.specs.Outline.{Outline, has_left_wall, has_right_wall, valley_of, valley_place}
 use Rattle.bk_word.specs.Play.{IsLegal}
 use Rattle.bk_word.specs.Word.{Word, order_of}
@@ -21,10 +21,6 @@ leftmost_valley o = record {
   right_wall = has_right_wall o;
   squares = valley_of o;
 }
-
--- how many squares each open segment has, from left to right
-abbrev pub segment_sizes : Outline → List ℕ
-segment_sizes o = map length o.segments
 
 -- what holds of the moves of each skeleton
 pub record IsKeptSkeleton (moves : Word) : Type 0 where

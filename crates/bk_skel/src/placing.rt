@@ -5,7 +5,6 @@ ghost use Rattle.std.specs.Prelude.{IfSome, IsSomeAnd, IsTrue, drop, false, leng
 ghost use Rattle.bk_tiling.specs.CodeOrder.{in_code_order};
 ghost use Rattle.bk_tiling.specs.Column.{depth};
 ghost use Rattle.bk_tiling.specs.Kept.{IsSide};
-ghost use Rattle.bk_tiling.specs.Refusal.{HaveSides, ShareNoCell};
 ghost use Rattle.bk_tiling.specs.SquareGroups.{laid_group};
 ghost use Rattle.bk_tiling.specs.Tiling.{Tiling as Tiled};
 ghost use Rattle.bk_tiling.specs.declared.Segment.{Segment as Gap};
@@ -21,7 +20,7 @@ use crate::skeleton::Skel;
 use crate::splicing::splice_numbers;
 use arrayvec::ArrayVec;
 use bk_lay::sign_between;
-use bk_tiling::{MOST_SQUARES, Segment, Square, Tiling, push_group, sum_of};
+use bk_tiling::{MOST_SQUARES, Segment, Square, Tiling, push_group, put_in_order, sum_of};
 use bk_word::Sign;
 
 // The numbers of the laid squares that are open, from left to right. Squares are numbered from 1 in the order of laying.
@@ -93,15 +92,6 @@ pub(crate) fn closed(laid: ArrayVec<Square, MOST_SQUARES>, numbers: &[u8], width
     let mut squares = laid;
     put_in_order(&mut squares);
     Tiling::from_known(width, height, squares)
-}
-
-// Puts squares into code order, of which no two share a cell.
-fn put_in_order(squares: &mut ArrayVec<Square, MOST_SQUARES>)
-    requires sides { HaveSides squares.old.items }
-    requires apart { ShareNoCell squares.old.items }
-    ensures { squares.new.items ≡ in_code_order squares.old.items }
-{
-    squares.sort_unstable_by_key(|q| (q.y, q.x));
 }
 
 // The gap under the squares of these numbers: the columns over which they stand, at the level of their bottoms. Where

@@ -21,7 +21,7 @@ use bk_flow::{Flow, FlowFault, solve, solve_small, whole_flow};
 use bk_frac::Wide;
 use bk_net::Net;
 use bk_tiling::{LONGEST_SIDE, MOST_SQUARES, Tiling};
-use bk_word::{INLINE_ORDER, Word};
+use bk_word::Word;
 use std::alloc::Global;
 
 /// Why a word has no answer.

@@ -7,10 +7,10 @@
 
 ghost use Rattle.std.specs.List.{concat};
 ghost use Rattle.std.specs.Prelude.{IsTrue, Some, [], length, slice_get, take, ◌+◌, ◌++◌, ◌-◌, ◌<◌, ◌∷◌, ◌≡◌, ◌≤◌, ◌↔◌};
-ghost use Rattle.bk_word.specs.Outline.{IsLegalMove, has_left_wall, has_right_wall, open_side, valley_of};
+ghost use Rattle.bk_word.specs.Outline.{IsLegalMove, has_left_wall, has_right_wall, open_side, sizes_of, valley_of};
 ghost use Rattle.bk_word.specs.Play.{IsComplete, outline_of};
 ghost use Rattle.bk_word.specs.Word.{Move as SeenMove, order_of};
-ghost use Rattle.bk_skel.specs.Valley.{IsKeptSkeleton, leftmost_valley, segment_sizes};
+ghost use Rattle.bk_skel.specs.Valley.{IsKeptSkeleton, leftmost_valley};
 ghost use Rattle.bk_skel.specs.TurnRecord.{SaysWhere};
 ghost use Rattle.bk_word_net.specs.WordNet.{net_of_word};
 
@@ -26,7 +26,7 @@ use std::marker::Model;
 use std::sync::ledger::Ledger;
 
 // The moves of a skeleton have at most so many signs: each at most one more than squares.
-pub(crate) const MOST_SIGNS: usize = 400;
+pub(crate) const MOST_PLAYED_SIGNS: usize = 400;
 
 /// The leftmost valley of a skeleton: how many open segments stand at its left, whether it has a wall at its left and at its
 /// right, and the numbers of its squares from left to right, in the order of hanging from 1.
@@ -55,7 +55,7 @@ pub struct Skel {
     signs: ArrayVec<Sign, LARGEST_ORDER>,
     closed: ArrayVec<u8, LARGEST_ORDER>,
     turns: ArrayVec<MoveRecord, LARGEST_ORDER>,
-    played: ArrayVec<Sign, MOST_SIGNS>,
+    played: ArrayVec<Sign, MOST_PLAYED_SIGNS>,
 }
 
 impl Model for Skel {
@@ -204,7 +204,7 @@ impl Skel {
 
     /// How many squares each open segment has, from left to right.
     pub fn sizes(&self) -> &[u8]
-        ensures { result.now ≡ segment_sizes (outline_of self.now) }
+        ensures { result.now ≡ sizes_of (outline_of self.now) }
     {
         self.sizes.as_slice()
     }

@@ -3,7 +3,7 @@ use Rattle.std.proofs.Common.{Bool, List, [], ap, append-nil, arith, drop, false
 use Rattle.std.proofs.Common.{◌++◌, ◌+◌, ◌-◌, ◌<◌, ◌∙◌, ◌∷◌, ◌≡◌, ◌≤◌, ◌⊎◌}
 use Rattle.std.proofs.lemmas.Bool.{cases_lt}
 use Rattle.std.proofs.lemmas.List.{length-drop}
-use Rattle.bk_word.specs.Outline.{Outline, has_left_wall, start, valley_place}
+use Rattle.bk_word.specs.Outline.{Outline, has_left_wall, sizes_of, start, valley_place}
 use Rattle.bk_word.specs.Play.{IsLegal, outline_of, signs_apart}
 use Rattle.bk_word.specs.Word.{Move, Word, order_of}
 use Rattle.bk_word.specs.declared.Sign.{Sign}
@@ -13,7 +13,7 @@ use Rattle.bk_bounds.proofs.BoundsOfWords.{shape_of_word}
 use Rattle.bk_bounds.proofs.ClosingLaws.{aboves, aboves-append, bound-append, bound-parts, bound_unders, unders, unders-append}
 use Rattle.bk_bounds.specs.ClosingBound.{closing_bound}
 use Rattle.bk_bounds.specs.VerticalCut.{line_bound, line_bound_of, edges_on_lines, touched}
-use Rattle.bk_bounds.specs.SingleValleys.{single_valleys, sizes_of}
+use Rattle.bk_bounds.specs.SingleValleys.{single_valleys}
 use Rattle.bk_free_cuts.proofs.CutsOfTilings.{too_many_lines_is_free_barren, too_many_singles_is_free_barren}
 use Rattle.bk_net_word.specs.NetWord.{IsNetBarren}
 use Rattle.bk_owed.proofs.LoneLaws.{lone_more}

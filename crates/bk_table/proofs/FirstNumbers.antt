@@ -3,11 +3,11 @@ use Rattle.std.proofs.Common.{Contains, IsTrue, List, [], arith, drop, inl, inr,
 use Rattle.std.proofs.Common.{◌<◌, ◌∷◌, ◌≡◌, ◌≤◌, ◌⊎◌}
 use Rattle.std.proofs.lemmas.Bool.{cases_lt}
 use Rattle.std.proofs.lemmas.Bool.Decides.{nat_tests}
-use Rattle.std.proofs.lemmas.List.{take_all}
+use Rattle.std.proofs.lemmas.List.{drop_more}
 use Rattle.bk_table.specs.Kept.{AreAscendingNumbers, Holds, IsFirstFrom, IsPlaceOf, Numbers}
 use Rattle.bk_table.specs.Span.{IsWithin}
 use Rattle.bk_table.specs.declared.span.Span.{Span}
-use Rattle.bk_table.proofs.Keeping.{All, all_again, all_map, get_at, no_less_from}
+use Rattle.bk_table.proofs.Keeping.{All, all_again, all_map, no_less_from}
 
 contains_at : (xs : List ℕ) (place : ℕ) (x : ℕ) → place < length xs → slice_index xs place ≡ x → Contains xs x
 contains_at [] place x few is = absurd (omega arith)
@@ -20,16 +20,12 @@ pub first_is : (xs : List ℕ) (bound place x : ℕ) → AreAscendingNumbers xs 
 first_is xs bound place x asc is few at = record { has = contains_at xs place x few at; from = from; least = least }
   where
     from : bound ≤ x
-    from = subst (λ y. bound ≤ y) at (subst (All (λ y. bound ≤ y)) (get_at xs place few) is.from).0
+    from = subst (λ y. bound ≤ y) at (subst (All (λ y. bound ≤ y)) (drop_more xs place 0 few) is.from).0
 
     least : All (λ y. bound ≤ y → x ≤ y) xs
     least = all_again (λ y. bound ≤ y → x ≤ y) place xs
         (all_map (λ y. y < bound) (λ y. bound ≤ y → x ≤ y) (take place xs) (λ y h k. absurd (omega arith)) is.before)
         (all_map (λ y. x ≤ y) (λ y. bound ≤ y → x ≤ y) (drop place xs) (λ y h k. h) (no_less_from x place xs asc few (omega (arith, at))))
-
--- none is, where the place is the end
-pub none_is : (xs : List ℕ) (bound place : ℕ) → IsPlaceOf xs bound place → length xs ≤ place → All (λ y. y < bound) xs
-none_is xs bound place is end = subst (All (λ y. y < bound)) (take_all place xs end) is.before
 
 -- the table holds no number of the span
 abbrev pub HoldsNone : Numbers → Span → Type 0

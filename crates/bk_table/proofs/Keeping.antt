@@ -208,11 +208,6 @@ put_for_last room t u x place last front table is not few full was kept cut = (
 
 -- ---- finding the place
 
-pub get_at : (xs : List ℕ) (i : ℕ) → i < length xs → drop i xs ≡ slice_index xs i ∷ drop (i + 1) xs
-get_at [] i h = absurd (omega arith)
-get_at (x ∷ xs) zero h = refl
-get_at (x ∷ xs) (suc i) h = let e : suc i + 1 ≡ suc (i + 1) = omega arith in get_at xs i (omega arith) ∙ ap (λ k. slice_index xs i ∷ drop k (x ∷ xs)) (sym e)
-
 -- those up to a number that is less are less
 pub less_up_to : (x place : ℕ) (xs : List ℕ) → AreAscendingNumbers xs → place < length xs → slice_index xs place < x → All (λ y. y < x) (take (place + 1) xs)
 less_up_to x place [] asc few less = absurd (omega arith)

@@ -2,7 +2,7 @@
 use Rattle.std.proofs.Common.{List, [], ap, append_assoc, arith, drop, length, length-append, map, refl, slice_index_or, subst, suc, sym, take, zero}
 use Rattle.std.proofs.Common.{ℕ, ◌++◌, ◌+◌, ◌-◌, ◌<◌, ◌∙◌, ◌∷◌, ◌≡◌, ◌≤◌}
 use Rattle.std.proofs.Math.Seq.{take-append_seam}
-use Rattle.std.proofs.lemmas.List.{append-nil, length-map, map-append, take-append-drop}
+use Rattle.std.proofs.lemmas.List.{append-nil, map-append, take-append-drop}
 use Rattle.bk_word.specs.Outline.{IsLegalMove, Outline, start, valley_of}
 use Rattle.bk_word.specs.Play.{IsLegal, after_move, after_moves, numbers_from, outline_of}
 use Rattle.bk_word.specs.Word.{Move, Word, order_of}
@@ -11,6 +11,7 @@ use Rattle.bk_word.proofs.StoredBytes.{order_more}
 use Rattle.bk_word_net.proofs.Shape.{hung_many}
 use Rattle.bk_free_cuts.proofs.NumberedLines.{sides_long}
 use Rattle.bk_free_cuts.specs.LineNumbers.{left_end, lefts_of, new_sides, right_end, sides_after, sides_along, sides_of}
+use Rattle.bk_free_cuts.proofs.CutByNodes.{as_many_lefts}
 use Rattle.bk_table.specs.Lefts.{IsLeftWord, first_left}
 
 -- ---- one move
@@ -55,9 +56,6 @@ along_more o sides (m ∷ w) =
         sides_long (length o.hung) m.count (left_end sides (valley_of o)) (right_end sides (valley_of o)),
       ),
     )
-
-pub as_many_lefts : (w : Word) → length (lefts_of w) ≡ order_of w
-as_many_lefts w = let more = along_more start [] w in length-map (sides_of w) (λ s. s.0) ∙ ap length more.1 ∙ more.2
 
 -- ---- played and taken back
 

@@ -3,7 +3,7 @@ use Rattle.std.proofs.Common.{Bool, List, [], ap, append-nil, append_assoc, arit
 use Rattle.std.proofs.Common.{suc, sym, take, true, zero, ℕ, ◌++◌, ◌+◌, ◌-◌, ◌<◌, ◌∙◌, ◌∷◌, ◌≡◌, ◌≤◌}
 use Rattle.std.proofs.lemmas.List.{drop_all, length-append, length-take, map-append}
 use Rattle.std.proofs.lemmas.Bool.Decides.{nat_tests}
-use Rattle.bk_word.specs.Outline.{IsLegalMove, Outline, has_left_wall, has_right_wall, open_side, valley_place}
+use Rattle.bk_word.specs.Outline.{IsLegalMove, Outline, has_left_wall, has_right_wall, open_side, sizes_of, valley_place}
 use Rattle.bk_word.specs.Play.{after_move, joined, new_squares, parts}
 use Rattle.bk_word.specs.Word.{Move}
 use Rattle.bk_word.specs.declared.Sign.{Sign}
@@ -11,21 +11,14 @@ use Rattle.bk_word.specs.declared.Sign.TheVariants.{Above, Even, Under}
 use Rattle.bk_word.proofs.PlayLists.{numbers-length, place_within}
 use Rattle.bk_word_net.proofs.Shape.{Shaped}
 use Rattle.bk_word_net.proofs.ValleyCut.{AllPart}
-use Rattle.bk_bounds.proofs.SingleLaws.{grown_is_more, low_is_more, singles, unchanged}
-use Rattle.bk_bounds.specs.SingleValleys.{single_valley, single_valleys, sizes_of}
+use Rattle.bk_bounds.proofs.SingleLaws.{grown_is_more, low_is_more, parted_behind, singles, unchanged}
+use Rattle.bk_bounds.specs.SingleValleys.{single_valley, single_valleys}
 use Rattle.bk_owed.specs.Lone.{is_low, lone_squares}
 use Rattle.bk_table.specs.Asking.{singles_behind}
 
 -- each square a segment of its own
 abbrev lone : List ℕ → List (List ℕ)
 lone squares = map (λ q. q ∷ []) squares
-
--- between open segments no sign is even, so behind the last sign of a move nothing is joined
-parted_behind : (signs : List Sign) (k : ℕ) → AllPart signs → AllPart (drop k signs)
-parted_behind [] zero p = tt
-parted_behind [] (suc k) p = tt
-parted_behind (s ∷ signs) zero p = p
-parted_behind (s ∷ signs) (suc k) p = parted_behind signs k p.1
 
 -- in a row of new squares, each with a sign at its right, and behind it
 in_row : (b : Bool) (signs back : List Sign) (squares : List ℕ) (rest : List (List ℕ)) → length signs ≡ length squares → AllPart back

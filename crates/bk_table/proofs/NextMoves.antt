@@ -1,7 +1,7 @@
 -- How the words that a search looks for go on from moves: by a next move, sign by sign.
 use Rattle.std.proofs.Common.{List, [], ap, append-nil, append_assoc, arith, length, length-append, refl, subst, sym}
 use Rattle.std.proofs.Common.{ℕ, ◌++◌, ◌+◌, ◌<◌, ◌∙◌, ◌∷◌, ◌≡◌, ◌≤◌, ◌⊎◌}
-use Rattle.bk_word.specs.Outline.{IsLegalMove, Outline, has_left_wall, has_right_wall, open_side, start}
+use Rattle.bk_word.specs.Outline.{IsLegalMove, start}
 use Rattle.bk_word.specs.Play.{IsLegal, outline_of}
 use Rattle.bk_word.specs.Word.{Move, Word, order_of}
 use Rattle.bk_word.specs.declared.Sign.{Sign}
@@ -9,9 +9,6 @@ use Rattle.bk_word.proofs.PlayLaws.{legal_rest}
 use Rattle.bk_word.proofs.StoredBytes.{order_append, order_more}
 use Rattle.bk_net_word.specs.NetWord.{IsNetBarren}
 use Rattle.bk_table.specs.Sought.{GoesOn, GoesOnBy, IsSought}
-
-pub longer : (front : Word) (m : Move) → 0 < length (front ++ m ∷ [])
-longer front m = omega (arith, length-append front (m ∷ []))
 
 -- a word goes on from these moves by a legal one
 pub record HasNextMove (front w : Word) : Type 0 where
@@ -42,9 +39,6 @@ pub next_fertile : (n : ℕ) (front w : Word) (m : Move) (rest : Word) → IsSou
 next_fertile n front w m rest sought is barren = sought.fertile (front ++ m ∷ []) rest (snoc front w m rest is) barren
 
 -- ---- sign by sign
-
-wanted : (o : Outline) → ℕ
-wanted o = open_side (has_left_wall o) + open_side (has_right_wall o)
 
 -- where all signs are there, the word goes on by the move itself
 pub by_whole : (n : ℕ) (front w : Word) (m : Move) → IsSought n w → IsLegalMove (outline_of front) m → GoesOnBy front m.count m.signs w

@@ -1,22 +1,15 @@
 -- The squares of an open segment, by the flat lists that a skeleton keeps: how many squares each segment has, and all of them.
 use Rattle.std.specs.List.{concat, sum}
-use Rattle.std.proofs.Common.{List, Some, [], ap, arith, drop, length, refl, slice_get, slice_index_or, suc, sym, take, zero, ℕ, ◌+◌, ◌-◌, ◌<◌, ◌∙◌}
+use Rattle.std.proofs.Common.{List, Some, [], ap, arith, drop, length, slice_get, slice_index_or, suc, sym, take, zero, ℕ, ◌+◌, ◌-◌, ◌<◌, ◌∙◌}
 use Rattle.std.proofs.Common.{◌∷◌, ◌≡◌, ◌≤◌}
-use Rattle.std.proofs.lemmas.List.{drop-drop, length-map}
+use Rattle.std.proofs.lemmas.List.{length-map}
 use Rattle.std.proofs.lemmas.Option.{slice_get-get_or}
 use Rattle.bk_word.specs.Play.{outline_of}
 use Rattle.bk_word.specs.Word.{Word}
-use Rattle.bk_bounds.proofs.BoundsOfWords.{segments_again}
+use Rattle.bk_word.specs.Outline.{sizes_of}
+use Rattle.bk_bounds.proofs.BoundsOfWords.{segment_at, segments_again}
 use Rattle.bk_bounds.proofs.LineCounting.{sum-cons}
-use Rattle.bk_bounds.specs.SingleValleys.{sizes_of}
 use Rattle.bk_bounds.specs.VerticalCut.{segments_of}
-
-segment_at : (sizes ends : List ℕ) (i : ℕ) → i < length sizes
-    → slice_index_or (segments_of sizes ends) i [] ≡ take (slice_index_or sizes i 0) (drop (sum (take i sizes)) ends)
-segment_at [] ends i h = absurd (omega arith)
-segment_at (n ∷ sizes) ends zero h = refl
-segment_at (n ∷ sizes) ends (suc i) h = segment_at sizes (drop n ends) i (omega arith)
-    ∙ ap (take (slice_index_or sizes i 0)) (drop-drop (sum (take i sizes)) n ends ∙ (λ j. drop (sym (sum-cons n (take i sizes)) j) ends))
 
 -- the squares of a segment among all open ones
 pub segment_read : (w : Word) (sizes ends : List ℕ) (i start size : ℕ) → sizes ≡ sizes_of (outline_of w) → ends ≡ concat (outline_of w).segments

@@ -2,7 +2,6 @@
 -- are as many digits in both words, up to the first difference.
 use Rattle.std.specs.Cmp.{nat_cmp_is}
 use Rattle.std.specs.Cmp.Lexicographic.{slice_cmp}
-use Rattle.std.specs.FinMap.{slice_cmp-IsAntisymmetric}
 use Rattle.std.specs.List.{AllByRecursion}
 use Rattle.std.specs.Ordering.{nat_cmp, ordering_then}
 use Rattle.std.specs.declared.cmp.Ordering.{Ordering}
@@ -15,43 +14,14 @@ use Rattle.bk_word.specs.Outline.{IsLegalMove, Outline, start}
 use Rattle.bk_word.specs.Play.{AreLegalFrom, after_move}
 use Rattle.bk_word.specs.Word.{Move, Word, move_cmp, order_of, sign_cmp, sign_place, word_cmp}
 use Rattle.bk_word.specs.declared.Sign.{Sign}
-use Rattle.bk_word.specs.declared.Sign.TheVariants.{Above, Even, Under}
 use Rattle.bk_word.proofs.StoredBytes.{order_more}
 use Rattle.bk_table.specs.Packed.{AreDigits, begun_by, word_digits}
 use Rattle.bk_table.specs.PackedLaws.{PackedWordsCompare}
 use Rattle.bk_word.proofs.PlayLaws.{few_signs}
+use Rattle.bk_word.proofs.WordOrder.{move_same}
+use Rattle.bk_word.proofs.StoredOrder.{then_then}
 use Rattle.bk_table.proofs.BaseFour.{three, begun-cons, digits_small, first_decides}
 use Rattle.bk_table.proofs.WordDigits.{signs_digits, count_digits, few_digits, are_digits, low_counts}
-
-then_assoc : (a b c : Ordering) → ordering_then (ordering_then a b) c ≡ ordering_then a (ordering_then b c)
-then_assoc Less b c = refl
-then_assoc Equal b c = refl
-then_assoc Greater b c = refl
-
-move_same : (m n : Move) → move_cmp m n ≡ Equal → m ≡ n
-move_same m n e = cases (three m.count n.count)
-  where
-    by : (r : Ordering) → r ≡ nat_cmp m.count n.count → ordering_then r (slice_cmp sign_cmp m.signs n.signs) ≡ Equal
-    by r f = ap (λ z. ordering_then z (slice_cmp sign_cmp m.signs n.signs)) f ∙ e
-
-    one : (s t : Sign) → sign_cmp s t ≡ Equal → s ≡ t
-    one Above Above f = refl
-    one Above Even f = absurd (cc)
-    one Above Under f = absurd (cc)
-    one Even Above f = absurd (cc)
-    one Even Even f = refl
-    one Even Under f = absurd (cc)
-    one Under Above f = absurd (cc)
-    one Under Even f = absurd (cc)
-    one Under Under f = refl
-
-    signs : slice_cmp sign_cmp m.signs n.signs ≡ Equal → m.signs ≡ n.signs
-    signs f = slice_cmp-IsAntisymmetric {R = sign_cmp} (λ s t g. one s t g) m.signs n.signs f
-
-    cases : (m.count < n.count) ⊎ ((m.count ≡ n.count) ⊎ (n.count < m.count)) → m ≡ n
-    cases (inl h) = let f = by Less (nat_cmp_is m.count n.count Less h) in absurd (cc)
-    cases (inr (inl h)) = let f = signs (by Equal (nat_cmp_is m.count n.count Equal h)) in λ i. record { count = h i; signs = f i }
-    cases (inr (inr h)) = let f = by Greater (nat_cmp_is m.count n.count Greater h) in absurd (cc)
 
 -- signs of one number, and digits behind them
 signs_decide : (room : ℕ) (s t : List Sign) (ds es : List ℕ) → length s ≡ length t → AreDigits ds → AreDigits es
@@ -70,7 +40,7 @@ signs_decide (suc room) (s ∷ ss) (t ∷ ts) ds es e digits digits_e few few_e 
     (digits_small room (map sign_place ts ++ es) (all_append (λ d. d < 4) (map sign_place ts) es (signs_digits ts) digits_e) (few_digits ts es few_e))
     ∙ ap (ordering_then (sign_cmp s t)) (signs_decide room ss ts ds es (omega arith) digits digits_e (omega arith) (omega arith)
     ∙ ap (λ r. ordering_then (slice_cmp sign_cmp ss ts) (nat_cmp (begun_by r ds) (begun_by r es))) shorter)
-    ∙ sym (then_assoc (sign_cmp s t) (slice_cmp sign_cmp ss ts) (nat_cmp (begun_by (suc room - length (s ∷ ss)) ds) (begun_by (suc room - length (s ∷ ss)) es)))
+    ∙ sym (then_then (sign_cmp s t) (slice_cmp sign_cmp ss ts) (nat_cmp (begun_by (suc room - length (s ∷ ss)) ds) (begun_by (suc room - length (s ∷ ss)) es)))
   where
     few_digits : (xs : List Sign) (fs : List ℕ) → suc (length xs) + length fs ≤ suc room → length (map sign_place xs ++ fs) ≤ room
     few_digits xs fs h = omega (arith, length-append (map sign_place xs) fs, length-map xs sign_place)
@@ -159,7 +129,7 @@ words_compare o (m ∷ v) (n ∷ w) (suc (suc room)) legal legal_w e few low low
         (omega (arith, few, few_signs o m legal.0, legal.0.some, few_digits (after_move o m) v legal.1, e, order_more m v))
         (omega (arith, few, few_signs o n legal_w.0, legal_w.0.some, few_digits (after_move o n) w legal_w.1, order_more n w))
         )
-        ∙ sym (then_assoc (nat_cmp m.count n.count) (slice_cmp sign_cmp m.signs n.signs) behind)
+        ∙ sym (then_then (nat_cmp m.count n.count) (slice_cmp sign_cmp m.signs n.signs) behind)
         ∙ rest (move_cmp m n) refl
       where
         behind : Ordering

@@ -1,13 +1,13 @@
 -- The first open segment, and the segments behind a place, by the flat lists of the open squares.
 use Rattle.std.specs.List.{concat}
 use Rattle.std.proofs.Common.{Bool, List, [], ap, arith, drop, false, length, refl, slice_index_or, suc, sum, sym, take, true, zero, ℕ}
-use Rattle.std.proofs.Common.{◌+◌, ◌-◌, ◌<◌, ◌∙◌, ◌∷◌, ◌≡◌, ◌≤◌}
-use Rattle.std.proofs.lemmas.List.{drop-drop, drop_all, drop_more, length-drop, take_all}
+use Rattle.std.proofs.Common.{◌+◌, ◌<◌, ◌∙◌, ◌∷◌, ◌≡◌, ◌≤◌}
+use Rattle.std.proofs.lemmas.List.{drop-drop, drop_all, drop_more}
 use Rattle.bk_word.specs.Play.{IsLegal, outline_of}
 use Rattle.bk_word.specs.Word.{Word}
+use Rattle.bk_word.specs.Outline.{sizes_of}
 use Rattle.bk_bounds.proofs.BoundsOfWords.{segments_again, shape_of_word}
 use Rattle.bk_bounds.proofs.LineCounting.{sum-cons}
-use Rattle.bk_bounds.specs.SingleValleys.{sizes_of}
 use Rattle.bk_bounds.specs.VerticalCut.{line_bound, edges_on_lines, segments_of, touched}
 use Rattle.bk_table.specs.Asking.{has_first_mark, line_bound_behind}
 
@@ -32,11 +32,7 @@ sum_parts zero sizes = omega arith
 sum_parts (suc i) [] = refl
 sum_parts (suc i) (n ∷ sizes) = omega (arith, sum_parts i sizes, sum-cons n (take i sizes), sum-cons n sizes)
 
--- a slice from a place on
-pub slice_rest : {A : Type 0} (xs : List A) (k : ℕ) → take (length xs - k) (drop k xs) ≡ drop k xs
-slice_rest xs k = take_all (length xs - k) (drop k xs) (omega (arith, length-drop k xs))
-
--- their bound
+-- the bound of the segments from a place on
 pub behind_by_lists : (w : Word) (p : ℕ) (lines : List Bool) → lines ≡ edges_on_lines w
     → line_bound (drop p (outline_of w).signs) (touched lines (drop p (segments_of (sizes_of (outline_of w)) (concat (outline_of w).segments))))
     ≡ line_bound (drop p (outline_of w).signs) (touched (edges_on_lines w) (drop p (outline_of w).segments))

@@ -1,10 +1,10 @@
 -- Words that go on from some moves have their numbers in a span: the digits behind those of the moves make a number below the
 -- power of 4 that is left.
-use Rattle.std.proofs.Common.{List, Some, [], ap, append-nil, append_assoc, arith, length, length-append, map, refl, slice_get, subst, suc, sym}
-use Rattle.std.proofs.Common.{take, zero, ℕ, ◌%◌, ◌*◌, ◌++◌, ◌+◌, ◌-◌, ◌/◌, ◌<◌, ◌^◌, ◌∙◌, ◌∷◌, ◌≡◌, ◌≤◌}
+use Rattle.std.proofs.Common.{List, [], ap, append-nil, append_assoc, arith, length, length-append, map, refl, subst, suc, sym}
+use Rattle.std.proofs.Common.{zero, ℕ, ◌%◌, ◌*◌, ◌++◌, ◌+◌, ◌-◌, ◌/◌, ◌<◌, ◌^◌, ◌∙◌, ◌∷◌, ◌≡◌, ◌≤◌}
 use Rattle.std.proofs.Math.Nat.{one-le-pow}
-use Rattle.bk_word.specs.Outline.{IsLegalMove, Outline, start}
-use Rattle.bk_word.specs.Play.{AreLegalFrom, IsLegal, after_move, after_moves}
+use Rattle.bk_word.specs.Outline.{start}
+use Rattle.bk_word.specs.Play.{IsLegal}
 use Rattle.bk_word.specs.Word.{Move, Word, order_of, sign_place}
 use Rattle.std.proofs.lemmas.List.{length-map, map-append}
 use Rattle.bk_laws.proofs.AllOfLists.{all_append, all_right}
@@ -97,14 +97,6 @@ moves_that_go_on front rest m signs more legal few is =
         ∙ ap (λ l. word_digits front ++ (l ++ word_digits rest)) first
         ∙ ap (λ l. word_digits front ++ l) (append_assoc (begun_move m.count signs) (map sign_place more) (word_digits rest))
         ∙ sym (append_assoc (word_digits front) (begun_move m.count signs) (map sign_place more ++ word_digits rest))
-
--- ---- the moves of a word
-
--- each move of a legal word is legal at its turn
-pub legal_at : (o : Outline) (w : Word) (i : ℕ) (m : Move) → AreLegalFrom o w → slice_get w i ≡ Some m → IsLegalMove (after_moves o (take i w)) m
-legal_at o [] i m legal is = absurd (cc)
-legal_at o (n ∷ w) zero m legal is = let same : n ≡ m = cc in subst (IsLegalMove o) same legal.0
-legal_at o (n ∷ w) (suc i) m legal is = legal_at (after_move o n) w i m legal.1 is
 
 -- ---- one digit more
 

@@ -12,6 +12,7 @@ use crate::board::Board;
 use bk_owed::{
     Lone, Tally, first_above, lone_with, single_valleys, tally_behind, tally_with, unders_behind,
 };
+use bk_skel::open_side;
 use bk_word::Sign;
 
 /// What stands beside the leftmost valley: whether the walls do, how many signs are under behind it, the closing bound there, how many
@@ -162,21 +163,13 @@ pub(crate) fn next_of(beside: Beside, count: u8, left: usize) -> Next
     let room = left.saturating_sub(beside.unders);
     Next {
         left_wall: beside.left_wall,
-        wanted: count - 1 + open_side(beside.left_wall) + open_side(beside.right_wall),
+        wanted: count - 1 + open_side(beside.left_wall) as u8 + open_side(beside.right_wall) as u8,
         room: room.saturating_sub(beside.behind.singles),
         room_low: room.saturating_sub(beside.behind.singles_low),
         room_above: left
             .saturating_sub(beside.closings)
             .saturating_sub(beside.behind.singles),
     }
-}
-
-// One for a side of the valley that is no wall.
-fn open_side(wall: bool) -> u8
-    ensures value { result ≡ open_side wall }
-    ensures few { result ≤ 1 }
-{
-    if wall { 0 } else { 1 }
 }
 
 /// What is asked for with one sign more.

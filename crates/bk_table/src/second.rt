@@ -12,7 +12,7 @@ ghost use Rattle.bk_table.specs.Second.{BeginsUnder};
 use crate::packed::{MOST_DIGITS, number_of, place_of, push_count};
 use crate::span::left_behind;
 use arrayvec::ArrayVec;
-use bk_word::Sign;
+use bk_word::{INLINE_ORDER, Sign};
 
 /// How many squares at least the second move hangs in each legal word of at most 16 squares whose first move hangs so many and
 /// whose number isn't below this one, if all signs of the first move are under in them; 0 where the number doesn't tell it. It tells as much as
@@ -24,7 +24,7 @@ pub fn least_second(count: u8, from: u128) -> u8
     ensures told { (first second : SeenMove) (more : Moves) → IsLegal (first ∷ second ∷ more) → order_of (first ∷ second ∷ more) ≤ 16
         → first.count ≡ count → AreUnder first.signs → packed (first ∷ second ∷ more) ≤ from → 1 < second.count → second.count ≤ result }
 {
-    if count == 0 || count > 16 {
+    if count == 0 || usize::from(count) > INLINE_ORDER {
         return 0;
     }
     let digits = under_digits(count);
@@ -56,5 +56,5 @@ fn at_most_16(number: u128) -> u8
     ensures few { result ≤ 16 }
     ensures least { (n : ℕ) → n ≤ number → n ≤ 16 → n ≤ result }
 {
-    if number < 16 { number as u8 } else { 16 }
+    number.min(INLINE_ORDER as u128) as u8
 }

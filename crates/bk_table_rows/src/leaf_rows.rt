@@ -47,7 +47,7 @@ fn assert_found(rt: &impl Abort, found: &Option<Tiling>, want: Option<Sides>) {
     }
 }
 
-static WORDS: [(&[u8], Option<Sides>); 4] = [
+static WORDS: [(&[u8], Option<Sides>); 5] = [
     (b"2u.1e", Some((3, 2, &[2, 1, 1]))),
     // a square stands reversed, and the rectangle 11x13 stands
     (b"2a.1a.2ue.1e", None),
@@ -55,6 +55,11 @@ static WORDS: [(&[u8], Option<Sides>); 4] = [
     (b"2u.2eu.1e", Some((8, 5, &[5, 3, 2, 1, 1]))),
     (
         b"2u.2aa.2ue.2eue.1e",
+        Some((33, 32, &[18, 15, 7, 8, 14, 4, 10, 1, 9])),
+    ),
+    // the square of side 7 stands reversed
+    (
+        b"2a.2ua.3euue.1e.1e",
         Some((33, 32, &[18, 15, 7, 8, 14, 4, 10, 1, 9])),
     ),
 ];

@@ -30,7 +30,7 @@ fn meet(rt: &impl Abort, met: &mut Met, order: u8, count: u8, least: u8) {
     search(met, order, count, least);
 }
 
-// Orders, and how many words are met.
+// Orders, and how many words are met: as many as there are rooted 3-connected planar maps of one edge more (sequence A000287 of the OEIS).
 fn rows_of_orders() -> &'static [(u8, usize)] {
     &[(5, 1), (6, 0), (7, 4), (8, 6), (9, 24), (10, 66)]
 }
@@ -47,7 +47,8 @@ fn words_are_met_once_for_each_net(rt: HostRuntime) {
     }
 }
 
-// How many squares at least touch the node under the second square of the first move, and how many words of order 11 are met.
+// How many squares at least touch the node under the second square of the first move, and how many words of order 11 are met: as many as there are
+// such maps of 12 edges whose root leaves a vertex of degree 3 beside an edge to one of at least so many (counted by bench/rooted_maps.py).
 fn rows_of_touching() -> &'static [(u8, usize)] {
     &[(0, 120), (3, 120), (4, 59), (5, 15), (6, 1), (7, 0)]
 }

@@ -5,7 +5,7 @@ ghost use Rattle.bk_word.specs.Word.{order_of};
 
 use crate::plain_walk::{Member, members};
 use bk_skel::Steps;
-use bk_walk::Walk;
+use bk_walk::{TabledWalk, Walk};
 use bk_word::{Class, Word, read_word};
 use std::alloc::{AllocError, Global};
 use std::cmp::Ordering;
@@ -41,7 +41,12 @@ fn walk_after(rt: &impl Abort, alloc: Global, order: u8, class: Class, cursor: &
 }
 
 // Asserts the word of the next member of a walk.
-fn assert_next<L: Ledger>(rt: &impl Abort, walk: &mut Walk, word: &Word, steps: &mut Steps<L>) {
+fn assert_next<const ROOM: usize, L: Ledger>(
+    rt: &impl Abort,
+    walk: &mut TabledWalk<ROOM>,
+    word: &Word,
+    steps: &mut Steps<L>,
+) {
     match walk.advance(steps) {
         Some(Ok(entry)) => assert!(rt; entry.word.cmp(word) == Ordering::Equal),
         Some(Err(_)) | None => panic!(rt; "a member is missing"),
@@ -49,9 +54,9 @@ fn assert_next<L: Ledger>(rt: &impl Abort, walk: &mut Walk, word: &Word, steps: 
 }
 
 // A walk gives just the members of the class whose words are after the cursor, and ends. It answers how many moves it has pushed.
-fn assert_walk<L: Ledger>(
+fn assert_walk<const ROOM: usize, L: Ledger>(
     rt: &impl Abort,
-    mut walk: Walk,
+    mut walk: TabledWalk<ROOM>,
     class: Class,
     cursor: &Word,
     members: &[Member],
@@ -65,6 +70,12 @@ fn assert_walk<L: Ledger>(
     }
     assert!(rt; walk.advance(steps).is_none());
     walk.pushes()
+}
+
+// A walk of an order and a class from the start, with room for a table of three members.
+fn walk_with_little_room(rt: &impl Abort, alloc: Global, order: u8, class: Class) -> TabledWalk<3> {
+    assert!(rt; order >= 2 && order <= 16);
+    TabledWalk::new(alloc, order, class, None)
 }
 
 // Walks of an order from the start, after each member, and after cursors that no member has.
@@ -85,9 +96,11 @@ fn walks<L: Ledger>(
         after_members(rt, alloc, order, class, members.as_slice(), &mut steps);
         after_others(rt, alloc, order, class, members.as_slice(), &mut steps);
     }
+    from_start_with_little_room(rt, alloc, order, members.as_slice(), &mut steps);
     Ok(())
 }
 
+// A walk that asks tables pushes few moves more than it waits for: one that asks none pushes 29,818 at order 11 in the class perfect.
 fn from_start<L: Ledger>(
     rt: &impl Abort,
     alloc: Global,
@@ -98,7 +111,20 @@ fn from_start<L: Ledger>(
 ) {
     let walk = walk_from_start(rt, alloc, order, class);
     let pushed = assert_walk(rt, walk, class, &Word::new(alloc), members, steps);
-    assert!(rt; pushed > PATIENCE);
+    assert!(rt; pushed > PATIENCE && pushed < 2 * PATIENCE);
+}
+
+// A table that has no room for all members says nothing past its greatest word, so the walk pushes more.
+fn from_start_with_little_room<L: Ledger>(
+    rt: &impl Abort,
+    alloc: Global,
+    order: u8,
+    members: &[Member],
+    steps: &mut Steps<L>,
+) {
+    let walk = walk_with_little_room(rt, alloc, order, Class::Perfect);
+    let pushed = assert_walk(rt, walk, Class::Perfect, &Word::new(alloc), members, steps);
+    assert!(rt; pushed > 2 * PATIENCE);
 }
 
 // So one walk begins inside a table, one at its last word.

@@ -6,7 +6,7 @@ use Rattle.std.proofs.lemmas.List.{append-nil, take_more}
 use Rattle.bk_code.specs.Code.{flat}
 use Rattle.bk_tiling.specs.Kept.{IsSide}
 use Rattle.bk_text.specs.CodeLine.{Flat, IsLine, IsNoLine, Item, Line}
-use Rattle.bk_text.specs.Gathered.{Gathered, IsGathered, gathered_after, kept_count, line_gathered, nothing_gathered, with_closed, with_ended}
+use Rattle.bk_text.specs.Gathered.{Gathered, IsGathered, gathered_after, kept_count, line_gathered, with_closed, with_ended}
 use Rattle.bk_text.specs.Gathered.{with_group, with_side}
 use Rattle.bk_text.specs.ReadLine.{sides_of_line}
 use Rattle.bk_text.specs.Reader.{closes_group, ended_side, ending_at, kind_of, last_side, next_place}
@@ -16,10 +16,10 @@ use Rattle.bk_text.specs.declared.reader.Field.TheVariants.{Side as SideOf}
 use Rattle.bk_text.specs.declared.reader.Kind.{Kind}
 use Rattle.bk_text.specs.declared.reader.Kind.TheVariants.{Close}
 use Rattle.bk_text.specs.declared.reader.Place.{Place}
-use Rattle.bk_text.specs.declared.reader.Place.TheVariants.{BehindSide, Number as InNumber, Start}
+use Rattle.bk_text.specs.declared.reader.Place.TheVariants.{BehindSide, Number as InNumber}
 use Rattle.bk_text.proofs.ByteKinds.{means}
 use Rattle.bk_text.proofs.Fitting.{Fits, FitsNext, counted, ended_is_side, fits_after, last_is_side, read_count}
-use Rattle.bk_text.proofs.KeepingAll.{Lists, and_group, and_side, line_at, line_of, lists_after, no_lists}
+use Rattle.bk_text.proofs.KeepingAll.{Lists, and_group, and_side, line_at, line_of, lists_after}
 use Rattle.bk_text.proofs.Stopping.{Leads, leads_on, read_whole, stops_at, stops_at_end}
 use Rattle.bk_text.proofs.WhatWasRead.{read_is_line}
 
@@ -35,10 +35,6 @@ pub record Progress (front : List ℕ) (p : Place) (g : Gathered) : Type 0 where
   pub leads : Leads front p lists
   pub fits : Fits p lists
   pub keeps : Keeps g lists
-
--- before the first byte nothing is read
-pub at_start : Progress [] Start nothing_gathered
-at_start = record { lists = no_lists; leads = λ x. refl; fits = refl; keeps = record { groups = λ e. refl; sides = λ e. refl; more = λ e. absurd (cc) } }
 
 -- a side is kept, or is one too many
 keeps_side : (n : ℕ) (g : Gathered) (t : Lists) → IsGathered g → Keeps g t → Keeps (with_side n g) (record { groups = t.groups; sides = t.sides ++ n ∷ [] })

@@ -49,12 +49,6 @@ short_code [] groups = omega arith
 short_code (g ∷ code) groups =
     omega (arith, short_group g groups.0, short_code code groups.1, length-append (group_text g) (code_text code), length-append g (flat code))
 
--- the i-th of a list of which each is so
-pub at_place : (P : ℕ → Type 0) (ns : List ℕ) (i : ℕ) → AllByRecursion P ns → i < length ns → P (get_or ns i 0)
-at_place P [] i all within = absurd (omega (arith, within))
-at_place P (n ∷ ns) zero all within = all.0
-at_place P (n ∷ ns) (suc i) all within = at_place P ns i all.1 (omega (arith, within))
-
 -- the text of a group is written whole
 pub whole_group : (ns old mid new : List ℕ) (i : ℕ) → 0 < length ns → length ns ≤ i + 1
     → mid ≡ old ++ 91 ∷ decimal (get_or ns 0 0) ++ flat_map side_text (take i (take (length ns - 1) (drop 1 ns))) → new ≡ mid ++ 93 ∷ []

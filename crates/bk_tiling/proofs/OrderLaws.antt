@@ -52,11 +52,6 @@ comes_before-trans p q r h k = elim (comes_before-cases p q h) [
   ]
 ]
 
-all_later : (p q : Square) (qs : List Square) → IsTrue (comes_before p q) → AllByRecursion (λ r. IsTrue (comes_before q r)) qs
-    → AllByRecursion (λ r. IsTrue (comes_before p r)) qs
-all_later p q [] h all = tt
-all_later p q (r ∷ qs) h all = (comes_before-trans p q r h all.0, all_later p q qs h all.1)
-
 -- two squares at different places
 abbrev pub AreApart : Square → Square → Type 0
 AreApart p q = IsTrue (comes_before p q) ⊎ IsTrue (comes_before q p)

@@ -113,7 +113,7 @@ impl Tiling {
         Ok(Tiling {
             width,
             height,
-            squares: put_in_order(squares),
+            squares: in_order(squares),
         })
     }
 
@@ -209,19 +209,26 @@ fn replace(kept: &mut ArrayVec<Square, MOST_SQUARES>, squares: &[Square])
     }
 }
 
-// The squares, put in code order.
-fn put_in_order(squares: &[Square]) -> ArrayVec<Square, MOST_SQUARES>
+// A copy of the squares in code order.
+fn in_order(squares: &[Square]) -> ArrayVec<Square, MOST_SQUARES>
     requires few { length squares.now ≤ 200 }
     requires apart { ShareNoCell squares.now }
     requires sides { HaveSides squares.now }
     ensures { result.items ≡ in_code_order squares.now }
 {
     let mut sorted = ArrayVec::new();
-    for q in squares {
-        sorted.push(*q);
-    }
-    sorted.sort_unstable_by_key(|q| (q.y, q.x));
+    replace(&mut sorted, squares);
+    put_in_order(&mut sorted);
     sorted
+}
+
+/// Puts squares into code order, of which no two share a cell.
+pub fn put_in_order(squares: &mut ArrayVec<Square, MOST_SQUARES>)
+    requires sides { HaveSides squares.old.items }
+    requires apart { ShareNoCell squares.old.items }
+    ensures { squares.new.items ≡ in_code_order squares.old.items }
+{
+    squares.sort_unstable_by_key(|q| (q.y, q.x));
 }
 
 /// A list of squares is refused in one way only.

@@ -3,7 +3,7 @@ use Rattle.std.specs.Prelude.{IsTrue}
 use Rattle.std.specs.List.{list_all}
 use Rattle.std.proofs.Common.{Bool, List, [], ap, arith, cond, count_by, false, inl, inr, length, refl, true, ℕ, ◌&&◌, ◌+◌, ◌-◌, ◌<◌, ◌||◌, ◌∙◌, ◌∷◌}
 use Rattle.std.proofs.Common.{◌≡◌, ◌≤◌, ◌⊎◌}
-use Rattle.std.proofs.lemmas.Bool.{cases_Bool, cases_lt}
+use Rattle.std.proofs.lemmas.Bool.{cases_Bool, cases_lt, or_left, or_right}
 use Rattle.std.proofs.lemmas.Bool.Decides.{nat_tests}
 use Rattle.bk_tiling.proofs.Cells.{count-cons, no_two}
 use Rattle.bk_tiling.specs.Tiling.{IsOneOf, IsTiling, Rectangle, Tiling}
@@ -53,14 +53,6 @@ outside_top r q a = grind (arith, nat_tests)
 
 outside_bottom : (r : Rectangle) (q : Square) → r.y + r.height ≤ q.y → is_outside r q ≡ true
 outside_bottom r q a = grind (arith, nat_tests)
-
-either_first : (a b : Bool) → a ≡ true → (a || b) ≡ true
-either_first true b e = refl
-either_first false b e = absurd (cc)
-
-either_second : (a b : Bool) → b ≡ true → (a || b) ≡ true
-either_second true b e = refl
-either_second false b e = e
 
 uncut_from : (r : Rectangle) (squares : List Square) → ((q : Square) → IsOneOf q squares → (is_inside r q || is_outside r q) ≡ true)
     → IsTrue (list_all (λ q. is_inside r q || is_outside r q) squares)
@@ -140,11 +132,11 @@ module _ (t : Tiling) (tiling : IsTiling t) (simple : IsSimple t) (left right to
       each q h = cases (cases_lt q.x right) (cases_lt left (q.x + q.s)) (cases_lt q.y bottom) (cases_lt top (q.y + q.s))
         where
           out : is_outside rect q ≡ true → (is_inside rect q || is_outside rect q) ≡ true
-          out e = either_second (is_inside rect q) (is_outside rect q) e
+          out e = or_right (is_inside rect q) (is_outside rect q) e
 
           cases : (q.x < right) ⊎ (right ≤ q.x) → (left < q.x + q.s) ⊎ (q.x + q.s ≤ left) → (q.y < bottom) ⊎ (bottom ≤ q.y)
               → (top < q.y + q.s) ⊎ (q.y + q.s ≤ top) → (is_inside rect q || is_outside rect q) ≡ true
-          cases (inl a) (inl b) (inl c) (inl d) = either_first (is_inside rect q) (is_outside rect q) (test_from q (inside_or_out q h a b c d))
+          cases (inl a) (inl b) (inl c) (inl d) = or_left (is_inside rect q) (is_outside rect q) (test_from q (inside_or_out q h a b c d))
           cases (inr a) b c d = out (outside_right rect q (omega (arith, width_is, a)))
           cases (inl a) (inr b) c d = out (outside_left rect q b)
           cases (inl a) (inl b) (inr c) d = out (outside_bottom rect q (omega (arith, height_is, c)))

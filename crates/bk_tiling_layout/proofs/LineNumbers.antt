@@ -1,19 +1,14 @@
 -- The numbers of the lines of a tiling: one number, one line.
 use Rattle.std.specs.Prelude.{if◌then◌else◌}
-use Rattle.std.proofs.Common.{Bool, ap, arith, false, refl, suc, sym, true, zero, ℕ, ◌*◌, ◌+◌, ◌-◌, ◌<◌, ◌==◌, ◌∙◌, ◌≡◌, ◌≢◌, ◌≤◌}
+use Rattle.std.proofs.Common.{Bool, ap, arith, false, refl, sym, true, ℕ, ◌*◌, ◌+◌, ◌-◌, ◌<◌, ◌==◌, ◌∙◌, ◌≡◌, ◌≢◌, ◌≤◌}
 use Rattle.std.proofs.lemmas.Bool.{both_ways}
 use Rattle.std.proofs.lemmas.Bool.Decides.{nat_tests}
+use Rattle.std.proofs.lemmas.Nat.{same_from_place}
 use Rattle.bk_tiling.specs.Tiling.{Tiling}
 use Rattle.bk_tiling_layout.specs.TilingLayout.{line_end, line_number}
 use Rattle.bk_tiling_layout.proofs.LineEnds.{end_within}
 
 -- ---- the numbers of lines
-
-pair : (a b c d m : ℕ) → b < m → d < m → a * m + b ≡ c * m + d → (a ≡ c) × (b ≡ d)
-pair zero b zero d m h k e = (refl, omega (arith, e))
-pair zero b (suc c) d m h k e = absurd (omega (arith, e))
-pair (suc a) b zero d m h k e = absurd (omega (arith, e))
-pair (suc a) b (suc c) d m h k e = let r = pair a b c d m h k (omega (arith, e)) in (ap suc r.0, r.1)
 
 -- equal numbers pass the test of equality
 pub eq_to : (a b : ℕ) → a ≡ b → (a == b) ≡ true
@@ -85,7 +80,7 @@ module _ (t : Tiling) where
       cases (wall_right i j n) (inner l o m) = absurd (omega (arith, n, m, e))
       cases (inner i j n) (wall_left l m) = absurd (omega (arith, n, m, e))
       cases (inner i j n) (wall_right l o m) = absurd (omega (arith, o))
-      cases (inner i j n) (inner l o m) = pair x (line_end t.squares x (t.height - y) y) a (line_end t.squares a (t.height - b) b) (t.height + 1)
+      cases (inner i j n) (inner l o m) = same_from_place x (line_end t.squares x (t.height - y) y) a (line_end t.squares a (t.height - b) b) (t.height + 1)
           (omega (arith, end_within t.squares x (t.height - y) y)) (omega (arith, end_within t.squares a (t.height - b) b)) (omega (arith, n, m, e))
 
   -- two levels of a column from which the line ends at one place have one number
@@ -105,7 +100,7 @@ module _ (t : Tiling) where
       cases (wall_right i j n) (inner l o m) = absurd (omega (arith, n, m, e))
       cases (inner i j n) (wall_left l m) = absurd (omega (arith, n, m, e))
       cases (inner i j n) (wall_right l o m) = absurd (omega (arith, n, m, e))
-      cases (inner i j n) (inner l o m) = (pair x (line_end t.squares x (t.height - y) y) a (line_end t.squares a (t.height - b) b) (t.height + 1)
+      cases (inner i j n) (inner l o m) = (same_from_place x (line_end t.squares x (t.height - y) y) a (line_end t.squares a (t.height - b) b) (t.height + 1)
           (omega (arith, end_within t.squares x (t.height - y) y)) (omega (arith, end_within t.squares a (t.height - b) b)) (omega (arith, n, m, e))).0
 
   -- and of two levels of one number the line ends at one place

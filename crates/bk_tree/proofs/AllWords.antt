@@ -5,6 +5,7 @@ use Rattle.std.specs.declared.cmp.Ordering.{Ordering}
 use Rattle.std.specs.declared.cmp.Ordering.TheVariants.{Equal, Greater, Less}
 use Rattle.std.proofs.Common.{Contains, List, None, Option, Some, [], ap, arith, inl, inr, length, refl, subst, suc, sym, zero, ℕ, ◌+◌, ◌<◌, ◌∙◌, ◌∷◌}
 use Rattle.std.proofs.Common.{◌≡◌, ◌≤◌, ◌⊎◌}
+use Rattle.std.proofs.lemmas.Bool.{cases_eq}
 use Rattle.bk_word.proofs.WordOrder.{follows_trans, word_total}
 use Rattle.bk_word.specs.Outline.{IsLegalMove, Outline, has_left_wall, has_right_wall, open_side, start}
 use Rattle.bk_word.specs.Play.{AreLegalFrom, after_move}
@@ -12,7 +13,6 @@ use Rattle.bk_word.specs.Word.{Follows, Move, Word, order_of, word_cmp}
 use Rattle.bk_tree.proofs.MoveOrder.{greater, three}
 use Rattle.bk_tree.proofs.Places.{word_same}
 use Rattle.bk_laws.proofs.NoneRepeated.{IsIn}
-use Rattle.bk_laws.proofs.Tests.{same_or_other}
 use Rattle.bk_tree.specs.Tree.{AreAscendingWords, IsInTree, IsNotAfter, IsTreeCount}
 use Rattle.bk_tree.specs.TreeLaws.{EachPartOfTheTreeHasACount}
 use Rattle.bk_tree.proofs.FiniteWords.{among_all, words_to}
@@ -36,7 +36,7 @@ MoveParts o m = (0 < m.count) × (length m.signs + 1 ≡ m.count + open_side (ha
 
 move_or_not : (o : Outline) (m : Move) → IsLegalMove o m ⊎ (IsLegalMove o m → ⊥)
 move_or_not o m = by (both_or_not (some_or_not m.count)
-    (same_or_other (length m.signs + 1) (m.count + open_side (has_left_wall o) + open_side (has_right_wall o))))
+    (cases_eq (length m.signs + 1) (m.count + open_side (has_left_wall o) + open_side (has_right_wall o))))
   where
     by : MoveParts o m ⊎ (MoveParts o m → ⊥) → IsLegalMove o m ⊎ (IsLegalMove o m → ⊥)
     by (inl p) = inl (record { some = p.0; signs = p.1 })

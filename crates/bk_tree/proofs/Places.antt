@@ -1,54 +1,20 @@
 -- Words between one place of the tree and the next. A place is a word: what is before it is passed.
-use Rattle.std.specs.Cmp.{nat_cmp_is}
-use Rattle.std.specs.Ordering.{nat_cmp, ordering_then}
+use Rattle.std.specs.Ordering.{ordering_then}
 use Rattle.std.specs.declared.cmp.Ordering.{Ordering}
 use Rattle.std.specs.declared.cmp.Ordering.TheVariants.{Equal, Greater, Less}
-use Rattle.std.proofs.Common.{List, [], ap, arith, inl, inr, length, refl, sym, ℕ, ◌++◌, ◌+◌, ◌<◌, ◌∙◌, ◌∷◌, ◌≡◌, ◌≤◌, ◌⊎◌}
+use Rattle.std.proofs.Common.{List, [], ap, arith, inl, inr, length, refl, sym, ℕ, ◌++◌, ◌+◌, ◌∙◌, ◌∷◌, ◌≡◌, ◌≤◌}
 use Rattle.std.proofs.lemmas.List.{append-nil, length-append}
 use Rattle.bk_word.specs.Outline.{IsLegalMove, Outline}
 use Rattle.bk_word.specs.Play.{AreLegalFrom, outline_of}
 use Rattle.bk_word.specs.Word.{Move, Word, move_cmp, order_of, word_cmp}
 use Rattle.bk_word.specs.declared.Sign.{Sign}
-use Rattle.bk_word.specs.declared.Sign.TheVariants.{Above, Even, Under}
-use Rattle.bk_word.proofs.WordOrder.{move_itself}
-use Rattle.bk_tree.proofs.MoveOrder.{Begins, IsLess, greater, less_to, none_below, signs_cmp, three}
+use Rattle.bk_word.proofs.WordOrder.{move_itself, move_same}
+use Rattle.bk_tree.proofs.MoveOrder.{Begins, IsLess, greater, less_to, none_below}
 use Rattle.bk_tree.specs.NextMove.{IsMoveFrom, first_move}
-
-signs_same : (a b : List Sign) → signs_cmp a b ≡ Equal → a ≡ b
-signs_same [] [] e = refl
-signs_same [] (s ∷ b) e = absurd (cc)
-signs_same (s ∷ a) [] e = absurd (cc)
-signs_same (Above ∷ a) (Above ∷ b) e = ap (λ l. Above ∷ l) (signs_same a b e)
-signs_same (Above ∷ a) (Even ∷ b) e = absurd (cc)
-signs_same (Above ∷ a) (Under ∷ b) e = absurd (cc)
-signs_same (Even ∷ a) (Above ∷ b) e = absurd (cc)
-signs_same (Even ∷ a) (Even ∷ b) e = ap (λ l. Even ∷ l) (signs_same a b e)
-signs_same (Even ∷ a) (Under ∷ b) e = absurd (cc)
-signs_same (Under ∷ a) (Above ∷ b) e = absurd (cc)
-signs_same (Under ∷ a) (Even ∷ b) e = absurd (cc)
-signs_same (Under ∷ a) (Under ∷ b) e = ap (λ l. Under ∷ l) (signs_same a b e)
 
 -- moves of one count and equal signs are equal
 pub move_from_parts : (m n : Move) → m.count ≡ n.count → m.signs ≡ n.signs → m ≡ n
 move_from_parts m n e f = λ i. record { count = e i; signs = f i }
-
--- and so are those that compare as equal
-pub move_same : (m n : Move) → move_cmp m n ≡ Equal → m ≡ n
-move_same m n e = cases (three m.count n.count)
-  where
-    by : (r : Ordering) → r ≡ nat_cmp m.count n.count → ordering_then r (signs_cmp m.signs n.signs) ≡ Equal
-    by r f = ap (λ z. ordering_then z (signs_cmp m.signs n.signs)) f ∙ e
-
-    less : Less ≡ Equal → ⊥
-    less k = cc
-
-    more : Greater ≡ Equal → ⊥
-    more k = cc
-
-    cases : (m.count < n.count) ⊎ ((m.count ≡ n.count) ⊎ (n.count < m.count)) → m ≡ n
-    cases (inl h) = absurd (less (by Less (nat_cmp_is m.count n.count Less h)))
-    cases (inr (inl h)) = move_from_parts m n h (signs_same m.signs n.signs (by Equal (nat_cmp_is m.count n.count Equal h)))
-    cases (inr (inr h)) = absurd (more (by Greater (nat_cmp_is m.count n.count Greater h)))
 
 -- and words that compare as equal
 pub word_same : (v w : Word) → word_cmp v w ≡ Equal → v ≡ w

@@ -16,8 +16,8 @@ use Rattle.bk_word.specs.Word.{Follows, Move, Word, move_cmp, order_of, sign_cmp
 use Rattle.bk_word.specs.declared.Sign.{Sign}
 use Rattle.bk_word.specs.declared.Sign.TheVariants.{Above, Even, Under}
 use Rattle.bk_word.proofs.StoredBytes.{order_more}
+use Rattle.bk_word.proofs.WordOrder.{move_same}
 use Rattle.bk_tree.proofs.MoveOrder.{IsLess, greater, less_to, signs_cmp}
-use Rattle.bk_tree.proofs.Places.{move_same}
 
 -- the number of these digits, of which the first is the greatest place: each place says that it is there, and its digit
 abbrev number : ℕ → ℕ → List ℕ → ℕ

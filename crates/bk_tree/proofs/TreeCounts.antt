@@ -44,6 +44,11 @@ the_tree_count_is_most n cursor bound count number t h =
           (λ w k. in_from t.words w (t.all w (in_all_words (IsInTree n cursor bound) h.words h.each w k))),
     )
 
+-- where the tree has at least so many words, it has at least each smaller number
+pub at_least_fewer : (n : ℕ) (cursor : Word) (bound : Option Word) (a b : ℕ) → b ≤ a → HasAtLeast n cursor bound a → HasAtLeast n cursor bound b
+at_least_fewer n cursor bound a b less h =
+    record { words = h.words; each = h.each; ascending = h.ascending; count = omega (arith, h.count, less) }
+
 -- two tree counts of one part are one number
 pub the_tree_count_is_one : TheTreeCountIsOne
 the_tree_count_is_one n cursor bound count other a b = omega (

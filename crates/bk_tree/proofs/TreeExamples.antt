@@ -1,11 +1,12 @@
 -- Which moves come next, and the tree of order 1: it has one word, one move of one square, up to that word one, and behind it none.
-use Rattle.std.proofs.Common.{None, Some, [], arith, length, refl, subst, sym, zero, ◌+◌, ◌<◌, ◌∷◌, ◌≡◌, ◌≤◌, List, ap, ◌∙◌}
+use Rattle.std.proofs.Common.{None, Some, [], arith, length, refl, subst, sym, zero, ◌+◌, ◌∷◌, ◌≡◌, ◌≤◌, List, ap, ◌∙◌}
 use Rattle.bk_word.proofs.StoredBytes.{order_more}
 use Rattle.bk_word.specs.Outline.{Outline, start}
 use Rattle.bk_word.specs.Play.{AreLegalFrom, after_move}
 use Rattle.bk_word.specs.Word.{Follows, Move, Word, order_of}
 use Rattle.bk_word.specs.declared.Sign.{Sign}
 use Rattle.bk_word.specs.declared.Sign.TheVariants.{Above, Even, Under}
+use Rattle.bk_word.proofs.FollowLaws.{after_none}
 use Rattle.bk_tree.proofs.Places.{move_from_parts}
 use Rattle.bk_tree.proofs.TreeCounts.{tree_counts_add}
 use Rattle.bk_tree.specs.NextMove.{first_move, fitted, move_after}
@@ -36,11 +37,6 @@ one_count = record {
   all = λ w t. (zero, omega arith, sym (one_word w t));
   count = refl;
 }
-
--- a word of some moves follows that of none
-after_none : (w : Word) → 0 < length w → Follows w []
-after_none [] some = absurd (omega (arith, some))
-after_none (m ∷ w) some = refl
 
 -- no word is after this one and not it
 none_behind : (w : Word) → IsInTree 1 (first_move ∷ []) None w → ⊥

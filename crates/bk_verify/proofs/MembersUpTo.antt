@@ -1,31 +1,21 @@
 -- Members of a kind in their order: those up to a word, and the next one behind it.
 use Rattle.std.specs.List.{AllByRecursion}
-use Rattle.std.specs.Ordering.{ordering_reverse}
 use Rattle.std.specs.declared.cmp.Ordering.{Ordering}
 use Rattle.std.specs.declared.cmp.Ordering.TheVariants.{Equal, Greater, Less}
-use Rattle.std.proofs.Common.{Contains, List, [], ap, arith, inl, inr, length, refl, subst, sym, ℕ}
-use Rattle.std.proofs.Common.{◌++◌, ◌<◌, ◌∙◌, ◌∷◌, ◌≡◌, ◌⊎◌}
+use Rattle.std.proofs.Common.{Contains, List, [], inl, inr, refl, subst, sym, ℕ}
+use Rattle.std.proofs.Common.{◌++◌, ◌∷◌, ◌≡◌, ◌⊎◌}
 use Rattle.std.proofs.lemmas.List.Elements.{Contains-append_left, Contains-push}
 use Rattle.bk_laws.proofs.AllOfLists.{all_append}
 use Rattle.bk_tiling.specs.Tiling.{Tiling}
-use Rattle.bk_word.proofs.WordOrder.{follows_trans, word_total}
+use Rattle.bk_word.proofs.WordOrder.{follows_trans}
 use Rattle.bk_word.specs.Word.{Follows, Word, word_cmp}
 use Rattle.bk_word.specs.declared.Class.TheVariants.{Perfect}
 use Rattle.bk_lay.proofs.WordPlay.{tiling_word_is_complete}
 use Rattle.bk_tree.proofs.Places.{word_same}
-use Rattle.bk_word.proofs.FollowLaws.{not_itself}
+use Rattle.bk_word.proofs.FollowLaws.{after_none, not_itself, turned}
 use Rattle.bk_catalogue.specs.Catalogue.{AreAscending, Entry, IsEntry}
 use Rattle.bk_catalogue.proofs.OneEntry.{one_entry}
 use Rattle.bk_verify.specs.Kept.{AreUpTo, IsUpTo}
-
--- a member's word is after that of no moves
-after_none : (w : Word) → 0 < length w → Follows w []
-after_none [] h = absurd (omega arith)
-after_none (m ∷ w) h = refl
-
--- how one word stands to another
-turned : (v w : Word) → word_cmp v w ≡ Greater → Follows v w
-turned v w e = word_total.antisymm w v ∙ ap ordering_reverse e
 
 compared : (v w : Word) → Follows w v ⊎ ((v ≡ w) ⊎ Follows v w)
 compared v w = cases (word_cmp v w) refl

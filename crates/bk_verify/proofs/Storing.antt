@@ -154,7 +154,3 @@ on_ok P (Err e) p = tt
 
 pub not_ok : {A E : Type 0} (P : Type 0) (r : Result A E) (e : E) → r ≡ Err e → OnOk r P
 not_ok {A} {E} P r e is = subst (λ (r : Result A E). OnOk r P) (sym is) tt
-
-pub on_err : {A E : Type 0} (P : Type 0) (r : Result A E) → P → OnErr r P
-on_err P (Ok a) p = tt
-on_err P (Err e) p = p

@@ -7,6 +7,7 @@ ghost use Rattle.bk_verify.specs.Kept.{IsKeptFrom, IsNotKept};
 use crate::verifier::NoMemory;
 use arrayvec::ArrayVec;
 use bk_tiling::{Square, Tiling};
+use bk_word::INLINE_ORDER;
 use indexmap::IndexMap;
 use std::alloc::Global;
 use std::marker::Model;
@@ -15,7 +16,7 @@ use std::marker::Model;
 #[derive(PartialEq, Eq, Hash, Drop)]
 pub(crate) struct Flat {
     width: u64,
-    sides: ArrayVec<u64, 16>,
+    sides: ArrayVec<u64, INLINE_ORDER>,
 }
 
 // What is kept of a member besides them, with the line on which it was first.
@@ -23,7 +24,7 @@ pub(crate) struct Flat {
 pub(crate) struct Seen {
     line: u64,
     height: u64,
-    squares: ArrayVec<Square, 16>,
+    squares: ArrayVec<Square, INLINE_ORDER>,
 }
 
 // Members with the lines on which they were first, in the order of first sight.

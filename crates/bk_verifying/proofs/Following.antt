@@ -5,13 +5,13 @@ use Rattle.std.proofs.Common.{◌<◌, ◌∙◌, ◌∷◌, ◌≡◌, ◌≢�
 use Rattle.std.proofs.lemmas.List.Sums.{sum_by-cons}
 use Rattle.bk_laws.proofs.AllOfLists.{all_append}
 use Rattle.bk_tiling.specs.Tiling.{IsTiling, Tiling}
-use Rattle.bk_text.specs.CodeLine.{Flat, Item, Line, Skip}
+use Rattle.bk_text.specs.CodeLine.{Skip}
 use Rattle.bk_lines.specs.Entering.{AreEntered}
 use Rattle.bk_lines.specs.Lines.{kept_front}
 use Rattle.bk_lines.specs.Reply.{Reply, text_of}
 use Rattle.bk_report.specs.declared.refusal.Refused.{Refused}
-use Rattle.bk_answer.proofs.OneAnswer.{cause_of, not_refused, skip_not_stated}
-use Rattle.bk_answer.specs.Item.{HasItem, HasTiling, IsLaidBy}
+use Rattle.bk_answer.proofs.OneAnswer.{cause_of, is_tiling, not_refused, skip_not_stated}
+use Rattle.bk_answer.specs.Item.{HasItem, HasTiling}
 use Rattle.bk_answer.specs.Refusing.{IsLineRefused}
 use Rattle.bk_verify.proofs.Firsts.{a_verifier_tells_the_truth, truths_stay}
 use Rattle.bk_verify.specs.Kept.{IsFed, VerifierState}
@@ -25,13 +25,8 @@ use Rattle.bk_verifying.specs.Told.{nothing, passed, refused, repeats, texts_fro
 use Rattle.bk_verifying.specs.declared.entering.Verifying.{Verifying}
 
 -- what is accepted is a tiling
-laid_tiling : (item : Line) (t : Tiling) → IsLaidBy item t → IsTiling t
-laid_tiling Skip t p = absurd p
-laid_tiling (Item order size code) t p = p.tiling
-laid_tiling (Flat order width height sides) t p = p.tiling
-
 has_tiling : (line : List ℕ) (t : Tiling) → HasTiling line t → IsTiling t
-has_tiling line t has = laid_tiling has.item t (has.stated).laid
+has_tiling line t has = is_tiling has.item t (has.stated).laid
 
 -- a line without an item and a line that is refused have none
 skip_has_none : (line : List ℕ) → HasItem line Skip → (t : Tiling) → HasTiling line t → ⊥

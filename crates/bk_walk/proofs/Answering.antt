@@ -1,17 +1,15 @@
 -- What a walk answers, from what its search found.
-use Rattle.std.proofs.Common.{None, Option, Some, [], ap, arith, length, refl, subst, sym, take, true, ℕ, ◌+◌, ◌-◌, ◌<◌, ◌^◌, ◌≡◌, ◌≤◌}
+use Rattle.std.proofs.Common.{None, Some, [], ap, arith, length, refl, subst, sym, take, true, ℕ, ◌+◌, ◌-◌, ◌<◌, ◌^◌, ◌≡◌, ◌≤◌}
 use Rattle.bk_tiling.specs.Tiling.{Tiling}
 use Rattle.bk_word.specs.Word.{Word, order_of}
 use Rattle.bk_word.specs.declared.Class.{Class}
 use Rattle.bk_lay.specs.TilingWord.{IsWordOf}
 use Rattle.bk_catalogue.specs.Catalogue.{IsMember}
 use Rattle.bk_walk.specs.Search.{Ends, HasPassed, Meets}
-use Rattle.bk_tree.specs.Tree.{HasAtLeast, IsAtMostTree}
+use Rattle.bk_tree.specs.Tree.{IsAtMostTree}
+use Rattle.bk_tree.proofs.TreeCounts.{at_least_fewer}
 use Rattle.bk_catalogue.specs.Following.{HasNoneAfter}
 use Rattle.bk_walk.specs.Walking.{IsKeptWalk, IsNextMember}
-
-fewer_of_tree : (n : ℕ) (cursor : Word) (bound : Option Word) (more few : ℕ) → few ≤ more → HasAtLeast n cursor bound more → HasAtLeast n cursor bound few
-fewer_of_tree n cursor bound more few h t = record { words = t.words; each = t.each; ascending = t.ascending; count = omega (arith, t.count) }
 
 module _ (n : ℕ) (class : Class) (cursor place : Word) (p : HasPassed n class cursor place 0) (start began ended : ℕ) (few : began ≤ start + 16) where
   -- where the search ends, no member's word is after the cursor
@@ -20,12 +18,12 @@ module _ (n : ℕ) (class : Class) (cursor place : Word) (p : HasPassed n class 
 
   -- and all steps are at most 16 more than the tree has words after the cursor
   pub steps_to_end : Ends n class place (ended - began) → IsAtMostTree n cursor None (ended - start)
-  steps_to_end e = fewer_of_tree n cursor None (0 + (ended - began)) (ended - start - 16) (omega arith) (e cursor 0 p).count
+  steps_to_end e = at_least_fewer n cursor None (0 + (ended - began)) (ended - start - 16) (omega arith) (e cursor 0 p).count
 
   -- where it finds a word, they are at most 16 more than there are up to this word
   pub steps_to_word : (word found : Word) → found ≡ word → Meets n class place word (ended - began) → IsAtMostTree n cursor (Some found) (ended - start)
   steps_to_word word found same m = subst (λ (w : Word). IsAtMostTree n cursor (Some w) (ended - start)) (sym same)
-      (fewer_of_tree n cursor (Some word) (0 + (ended - began)) (ended - start - 16) (omega arith) (m cursor 0 p).count)
+      (at_least_fewer n cursor (Some word) (0 + (ended - began)) (ended - start - 16) (omega arith) (m cursor 0 p).count)
 
   -- and the member that it finds is the least after the cursor
   pub next_member : (t : Tiling) (word found : Word) → found ≡ word → IsMember n class t → IsWordOf t word

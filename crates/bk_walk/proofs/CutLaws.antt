@@ -5,7 +5,7 @@ use Rattle.std.proofs.lemmas.List.{take-append-drop}
 use Rattle.std.proofs.Math.Seq.{take-length}
 use Rattle.std.proofs.lemmas.Bool.{ltb-true}
 use Rattle.bk_laws.proofs.ListPlaces.{get_append}
-use Rattle.bk_word.specs.Outline.{IsLegalMove, has_left_wall, open_side, valley_of}
+use Rattle.bk_word.specs.Outline.{IsLegalMove, has_left_wall, open_side, sizes_of, valley_of}
 use Rattle.bk_word.specs.Play.{outline_of}
 use Rattle.bk_word.specs.Word.{Move, Word, order_of}
 use Rattle.bk_word.specs.declared.Class.{Class}
@@ -18,7 +18,7 @@ use Rattle.bk_barren.proofs.CuttingPairs.{even_squares_are_barren}
 use Rattle.bk_tree.proofs.Fitting.{less_longer}
 use Rattle.bk_tree.proofs.MoveOrder.{Begins, IsLess, IsShort, begun_before, less_from, less_to, moves_between, next_short, signs_cmp}
 use Rattle.bk_tree.proofs.Places.{move_from_parts, one_legal}
-use Rattle.bk_bounds.specs.SingleValleys.{single_valleys, sizes_of}
+use Rattle.bk_bounds.specs.SingleValleys.{single_valleys}
 use Rattle.bk_barren.specs.Cuts.{IsBarren}
 use Rattle.bk_barren.proofs.OneUnderOne.{one_under_one_is_barren}
 use Rattle.bk_member_table.specs.Members.{IsBarrenBy}

@@ -1,30 +1,21 @@
 -- The lines of a word, as a move is played and taken back, and whether one stands at the left of its valley.
 use Rattle.std.specs.List.{concat, sum}
-use Rattle.std.proofs.Common.{Bool, List, [], ap, arith, drop, length, nat_eq, refl, replicate, slice_index_or, subst, suc, sym, take, zero, ℕ, ◌++◌}
+use Rattle.std.proofs.Common.{Bool, List, [], ap, arith, drop, length, nat_eq, refl, replicate, slice_index_or, subst, sym, take, ℕ, ◌++◌}
 use Rattle.std.proofs.Common.{◌+◌, ◌-◌, ◌<◌, ◌∙◌, ◌∷◌, ◌≡◌}
 use Rattle.std.proofs.Math.Seq.{take-append_seam}
-use Rattle.std.proofs.lemmas.List.{append-nil, append_assoc, drop-drop, take-append-drop}
+use Rattle.std.proofs.lemmas.List.{append-nil, append_assoc, take-append-drop}
 use Rattle.bk_word_net.proofs.NoLoose.{closed_count}
 use Rattle.bk_word_net.proofs.Shape.{hung_many}
 use Rattle.bk_word.proofs.PlayLaws.{legal-snoc, legal_front}
-use Rattle.bk_word.specs.Outline.{IsLegalMove, Outline, start, valley_of, valley_place}
+use Rattle.bk_word.specs.Outline.{IsLegalMove, Outline, sizes_of, start, valley_of, valley_place}
 use Rattle.bk_word.specs.Play.{IsLegal, after_move, outline_of}
 use Rattle.bk_word.specs.Word.{Move, Word, order_of}
 use Rattle.bk_word.specs.declared.Sign.{Sign}
-use Rattle.bk_bounds.proofs.BoundsOfWords.{segments_again}
-use Rattle.bk_bounds.proofs.LineCounting.{sum-cons}
+use Rattle.bk_bounds.proofs.BoundsOfWords.{segment_at, segments_again}
 use Rattle.bk_bounds.proofs.LineMoves.{lines-append, lines_long}
-use Rattle.bk_bounds.specs.SingleValleys.{sizes_of}
 use Rattle.bk_bounds.specs.VerticalCut.{IsLinedWord, begins_on_line, lines_after, lines_along, edges_on_lines, segments_of}
 
 -- ---- the valley
-
-segment_at : (sizes ends : List ℕ) (i : ℕ) → i < length sizes
-    → slice_index_or (segments_of sizes ends) i [] ≡ take (slice_index_or sizes i 0) (drop (sum (take i sizes)) ends)
-segment_at [] ends i h = absurd (omega arith)
-segment_at (n ∷ sizes) ends zero h = refl
-segment_at (n ∷ sizes) ends (suc i) h = segment_at sizes (drop n ends) i (omega arith)
-    ∙ ap (take (slice_index_or sizes i 0)) (drop-drop (sum (take i sizes)) n ends ∙ (λ j. drop (sym (sum-cons n (take i sizes)) j) ends))
 
 -- the squares of the valley, where it stands at the place and so many squares are open before it
 pub valley_slice : (signs : List Sign) (sizes ends : List ℕ) (place before size : ℕ) → place ≡ valley_place signs → place < length sizes

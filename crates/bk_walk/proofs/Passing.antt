@@ -8,9 +8,9 @@ use Rattle.bk_word.specs.Play.{IsLegal, after_moves, outline_of}
 use Rattle.bk_word.specs.Word.{Follows, Move, Word, move_cmp, order_of, word_cmp}
 use Rattle.bk_word.proofs.StoredBytes.{order_append, order_more}
 use Rattle.bk_tree.proofs.MoveOrder.{Begins, greater, moves_between}
-use Rattle.bk_tree.proofs.Places.{IsLast, LiesBetween, before_first, before_one, lies_between, move_same, not_before_first, one_legal}
+use Rattle.bk_tree.proofs.Places.{IsLast, LiesBetween, before_first, before_one, lies_between, not_before_first, one_legal}
 use Rattle.bk_word.proofs.PlayLaws.{legal_rest}
-use Rattle.bk_word.proofs.WordOrder.{move_itself}
+use Rattle.bk_word.proofs.WordOrder.{move_itself, move_same}
 use Rattle.bk_tree.specs.NextMove.{IsLeastFrom, IsMoveFrom, first_move, move_after}
 use Rattle.bk_walk.specs.Search.{IsTreeWord}
 

@@ -14,7 +14,7 @@ use Rattle.bk_lay.specs.TilingWord.{IsWordOf}
 use Rattle.bk_word_net.proofs.PlacedSides.{e, proportion, tl}
 use Rattle.bk_word_net.specs.WordNet.{net_of_word}
 use Rattle.bk_catalogue.specs.Catalogue.{IsOfClass}
-use Rattle.bk_form_cuts.proofs.RuledOut.{sides_apart}
+use Rattle.bk_catalogue.proofs.PerfectSides.{sides_apart}
 use Rattle.bk_walk.specs.WholeWords.{HasNoMember, HasTwoAlike, HasTwoCurrentsAlike}
 
 -- where currents are in proportion to sides, so are those at one place

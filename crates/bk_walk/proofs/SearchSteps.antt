@@ -4,7 +4,7 @@ use Rattle.std.specs.declared.cmp.Ordering.TheVariants.{Equal, Greater, Less}
 use Rattle.std.specs.Ordering.{ordering_reverse, ordering_then}
 use Rattle.std.proofs.Common.{[], ap, append_assoc, arith, inl, inr, length, refl, subst, sym, ℕ, ◌++◌, ◌+◌, ◌<◌, ◌∙◌, ◌∷◌, ◌≡◌, ◌≤◌, ◌⊎◌}
 use Rattle.std.proofs.lemmas.List.{append-nil, length-append}
-use Rattle.bk_word.proofs.WordOrder.{follows_trans, move_total, move_itself}
+use Rattle.bk_word.proofs.WordOrder.{follows_trans, move_total, move_itself, move_same}
 use Rattle.bk_word.specs.Outline.{IsLegalMove, start}
 use Rattle.bk_word.specs.Play.{IsLegal, outline_of}
 use Rattle.bk_word.specs.Word.{Follows, Move, Word, move_cmp, order_of, word_cmp}
@@ -14,7 +14,7 @@ use Rattle.bk_word.proofs.PlayLaws.{legal-snoc}
 use Rattle.bk_walk.proofs.Advancing.{ended, entry_word, met_at, met_on, moved_on}
 use Rattle.bk_tree.proofs.MoveOrder.{begun_before, moves_between}
 use Rattle.bk_walk.proofs.Passing.{IsOver, climb_over, end_over, move_over, push_over}
-use Rattle.bk_tree.proofs.Places.{IsLast, before_one, front_cmp, move_same, one_legal}
+use Rattle.bk_tree.proofs.Places.{IsLast, before_one, front_cmp, one_legal}
 use Rattle.bk_word.proofs.FollowLaws.{not_itself}
 use Rattle.bk_catalogue.specs.Catalogue.{Entry, IsEntry}
 use Rattle.bk_barren.specs.Cuts.{IsBarren}

@@ -4,7 +4,6 @@ use Rattle.std.proofs.lemmas.Bool.{cases_lt}
 use Rattle.std.proofs.lemmas.List.{length-append, take_all, take_at}
 use Rattle.std.proofs.lemmas.Grind.{take_at_read}
 use Rattle.std.proofs.lemmas.Option.{get_or_from_slice_get, slice_get_within}
-use Rattle.bk_lay.proofs.WordPlay.{tiling_word_is_complete}
 use Rattle.bk_word.specs.Outline.{IsLegalMove, Outline, start}
 use Rattle.bk_word.specs.Play.{IsComplete, IsLegal, outline_of}
 use Rattle.bk_word.specs.Word.{Move, Word, order_of}
@@ -17,6 +16,7 @@ use Rattle.bk_tree.proofs.MoveOrder.{less_from}
 use Rattle.bk_tree.proofs.Places.{IsLast}
 use Rattle.bk_walk.proofs.SearchSteps.{climbs, cuts, ends, goes_down, pushed_tree, reaches, turns_back}
 use Rattle.bk_catalogue.specs.Catalogue.{Entry, IsEntry}
+use Rattle.bk_catalogue.proofs.OneEntry.{entry_complete}
 use Rattle.bk_barren.specs.Cuts.{IsBarren}
 use Rattle.bk_walk.specs.MoveCuts.{GrowsByAtMostOne, IsCut}
 use Rattle.bk_tree.specs.NextMove.{IsLeastFrom, IsMoveFrom, first_move, fitted, move_after, open_sides}
@@ -92,9 +92,6 @@ pub taken_last : (before front : Word) (m : Move) (moves : ℕ) → moves ≡ le
     → front ≡ take (length before - 1) before → before ≡ front ++ m ∷ []
 taken_last before front m moves e some g f = sym (take_all (moves - 1 + 1) before (omega arith)) ∙ take_next before (moves - 1) m g
     ∙ ap (λ l. l ++ m ∷ []) (ap (λ k. take (k - 1) before) e ∙ sym f)
-
-entry_whole : (n : ℕ) (class : Class) (e : Entry) → IsEntry n class e → IsComplete e.word × (order_of e.word ≡ n)
-entry_whole n class e is = let done = tiling_word_is_complete e.tiling e.word (is.member).tiling is.word in (done.0, done.1 ∙ (is.member).order)
 
 front_of_more : (front : Word) (m : Move) → take (length (front ++ m ∷ []) - 1) (front ++ m ∷ []) ≡ front
 front_of_more front m = take_at front (m ∷ []) (length (front ++ m ∷ []) - 1) (omega (arith, length-append front (m ∷ [])))
@@ -196,11 +193,11 @@ module _ (n : ℕ) (class : Class) (front : Word) (x m : Move) (few : n ≤ 16) 
     )
       where
         not : (e : Entry) → IsEntry n class e → e.word ≡ front ++ m ∷ [] → ⊥
-        not e is same = none (subst IsComplete (same ∙ sym push) (entry_whole n class e is).0) counted e
+        not e is same = none (subst IsComplete (same ∙ sym push) (entry_complete n class e is).0) counted e
             (subst (λ (k : ℕ). IsEntry k class e) (sym counted) is) (same ∙ sym push)
           where
             counted : order_of pushed ≡ n
-            counted = sym (ap order_of (same ∙ sym push)) ∙ (entry_whole n class e is).1
+            counted = sym (ap order_of (same ∙ sym push)) ∙ (entry_complete n class e is).1
 
     -- to the word of the moves, which is met
     pub step_reaches : Reaches n class (front ++ x ∷ []) pushed met

@@ -3,7 +3,7 @@ use Rattle.std.specs.declared.cmp.Ordering.{Ordering}
 use Rattle.std.specs.declared.cmp.Ordering.TheVariants.{Equal, Greater, Less}
 use Rattle.std.specs.Ordering.{ordering_reverse, ordering_then}
 use Rattle.std.proofs.Common.{[], ap, append-nil, arith, refl, subst, sym, ℕ, ◌++◌, ◌+◌, ◌∙◌, ◌∷◌, ◌≡◌, ◌≤◌}
-use Rattle.bk_word.proofs.WordOrder.{follows_trans, word_total, move_itself}
+use Rattle.bk_word.proofs.WordOrder.{follows_trans, word_total, move_itself, move_same}
 use Rattle.bk_word.specs.Outline.{IsLegalMove, start}
 use Rattle.bk_word.specs.Play.{IsLegal, outline_of}
 use Rattle.bk_word.specs.Word.{Follows, Move, Word, move_cmp, order_of, word_cmp}
@@ -11,7 +11,7 @@ use Rattle.bk_word.specs.declared.Class.{Class}
 use Rattle.bk_word.proofs.StoredBytes.{order_append, order_more}
 use Rattle.bk_walk.proofs.Advancing.{before_not_before, entry_word, not_both}
 use Rattle.bk_tree.proofs.MoveOrder.{greater}
-use Rattle.bk_tree.proofs.Places.{LiesBetween, before_first, front_cmp, lies_between, move_same, not_before_first, word_same}
+use Rattle.bk_tree.proofs.Places.{LiesBetween, before_first, front_cmp, lies_between, not_before_first, word_same}
 use Rattle.bk_word.proofs.PlayLaws.{legal_rest}
 use Rattle.bk_word.proofs.FollowLaws.{not_itself}
 use Rattle.bk_tree.specs.NextMove.{first_move}

@@ -1,18 +1,17 @@
 -- Where the counts stand among the bytes of a word.
-use Rattle.std.specs.List.{AllByRecursion}
 use Rattle.std.specs.Prelude.{List, Some, [], cond, count_by, drop, false, length, map, refl, slice_get, suc, take, true, zero, ℕ, ◌++◌, ◌+◌, ◌-◌}
 use Rattle.std.specs.Prelude.{◌<◌, ◌∷◌, ◌≡◌, ◌≤◌}
 use Rattle.std.proofs.Common.{Bool, ap, arith, get_or, length-append, subst, sym, ◌∙◌}
-use Rattle.std.proofs.Math.Seq.{drop-cons, take-append_seam}
+use Rattle.std.proofs.Math.Seq.{take-append_seam}
 use Rattle.std.proofs.lemmas.Bool.{cond-false, cond-true}
-use Rattle.std.proofs.lemmas.List.{drop_all, length-drop, take-append-drop, take_all}
+use Rattle.std.proofs.lemmas.List.{drop_all, drop_more, length-drop, take-append-drop, take_rest}
 use Rattle.std.proofs.lemmas.List.Sums.{sum_by-cons}
 use Rattle.bk_laws.proofs.AllOfLists.{all_left}
 use Rattle.bk_word.specs.KeptWord.{CanStand, IsKeptWord}
 use Rattle.bk_word.specs.Stored.{IsStoredWord, front_signs, is_count, moves_in, sign_byte, sign_of, stored, stored_move}
-use Rattle.bk_word.specs.Word.{Move, Word, order_of}
+use Rattle.bk_word.specs.Word.{Move, Word}
 use Rattle.bk_word.specs.declared.Sign.{Sign}
-use Rattle.bk_word.proofs.StoredBytes.{order_more, order_one, stored_one}
+use Rattle.bk_word.proofs.StoredBytes.{order_one, stored_one}
 
 -- the move whose count stands first
 abbrev pub move_of : ℕ → List ℕ → Move
@@ -26,18 +25,14 @@ at_count b bytes h = cond-true _ _ _ h
 pub at_sign : (b : ℕ) (bytes : List ℕ) → is_count b ≡ false → moves_in (b ∷ bytes) ≡ moves_in bytes
 at_sign b bytes h = cond-false _ _ _ h
 
--- the bytes from a place on
-pub from_place : (bytes : List ℕ) (i : ℕ) → i < length bytes → drop i bytes ≡ get_or bytes i 0 ∷ drop (i + 1) bytes
-from_place bytes i within = let next : suc i ≡ i + 1 = omega arith in drop-cons bytes i 0 within ∙ ap (λ (k : ℕ). get_or bytes i 0 ∷ drop k bytes) next
-
 -- so the moves from the place of a count on are the move there and those behind it
 pub count_here : (bytes : List ℕ) (i : ℕ) → i < length bytes → is_count (get_or bytes i 0) ≡ true
     → moves_in (drop i bytes) ≡ move_of (get_or bytes i 0) (drop (i + 1) bytes) ∷ moves_in (drop (i + 1) bytes)
-count_here bytes i within h = ap moves_in (from_place bytes i within) ∙ at_count (get_or bytes i 0) (drop (i + 1) bytes) h
+count_here bytes i within h = ap moves_in (drop_more bytes i 0 within) ∙ at_count (get_or bytes i 0) (drop (i + 1) bytes) h
 
 -- and those from the place of a sign on are those behind it
 pub sign_here : (bytes : List ℕ) (i : ℕ) → i < length bytes → is_count (get_or bytes i 0) ≡ false → moves_in (drop i bytes) ≡ moves_in (drop (i + 1) bytes)
-sign_here bytes i within h = ap moves_in (from_place bytes i within) ∙ at_sign (get_or bytes i 0) (drop (i + 1) bytes) h
+sign_here bytes i within h = ap moves_in (drop_more bytes i 0 within) ∙ at_sign (get_or bytes i 0) (drop (i + 1) bytes) h
 
 -- as many counts as moves
 pub counts_moves : (bytes : List ℕ) → count_by is_count bytes ≡ length (moves_in bytes)
@@ -66,20 +61,6 @@ first_dropped [] zero m rest e = absurd (cc)
 first_dropped [] (suc i) m rest e = absurd (cc)
 first_dropped (n ∷ w) zero m rest e = let same : n ≡ m = cc in ap (λ (k : Move). Some k) same
 first_dropped (n ∷ w) (suc i) m rest e = first_dropped w i m rest e
-
--- a move of a kept word is one that can stand in a word
-pub stands_dropped : (w : Word) (i : ℕ) (m : Move) (rest : Word) → drop i w ≡ m ∷ rest → AllByRecursion CanStand w → CanStand m
-stands_dropped [] zero m rest e all = absurd (cc)
-stands_dropped [] (suc i) m rest e all = absurd (cc)
-stands_dropped (n ∷ w) zero m rest e all = let same : n ≡ m = cc in subst CanStand same all.0
-stands_dropped (n ∷ w) (suc i) m rest e all = stands_dropped w i m rest e all.1
-
--- a move hangs no more squares than its word
-pub few_dropped : (w : Word) (i : ℕ) (m : Move) (rest : Word) → drop i w ≡ m ∷ rest → m.count ≤ order_of w
-few_dropped [] zero m rest e = absurd (cc)
-few_dropped [] (suc i) m rest e = absurd (cc)
-few_dropped (n ∷ w) zero m rest e = let same : n ≡ m = cc in subst (λ (k : Move). k.count ≤ order_of (n ∷ w)) same (omega (arith, order_more n w))
-few_dropped (n ∷ w) (suc i) m rest e = omega (arith, order_more n w, few_dropped w i m rest e)
 
 -- the last move is taken off
 append_same : (a b x y : List ℕ) → length x ≡ length y → a ++ x ≡ b ++ y → a ≡ b
@@ -179,7 +160,7 @@ pub popped : (bytes : List ℕ) (w : Word) (k : ℕ) → IsStoredWord bytes → 
 popped bytes w k s is within some h behind =
     let c : ℕ = get_or bytes k 0 in
     let none = none_behind bytes k within (subst (λ (v : Word). 0 < length v) (sym is) some) h behind in
-    let whole : take k bytes ++ c ∷ drop (k + 1) bytes ≡ bytes = ap (λ (z : List ℕ). take k bytes ++ z) (sym (from_place bytes k within))
+    let whole : take k bytes ++ c ∷ drop (k + 1) bytes ≡ bytes = ap (λ (z : List ℕ). take k bytes ++ z) (sym (drop_more bytes k 0 within))
     ∙ take-append-drop k bytes in
     let off = last_off (take k bytes) c (drop (k + 1) bytes) h none (subst IsStoredWord (sym whole) s) in
     let word : w ≡ moves_in (take k bytes) ++ move_of c (drop (k + 1) bytes) ∷ [] = sym is ∙ ap moves_in (sym whole) ∙ off.0 in
@@ -196,29 +177,13 @@ pub got : (bytes : List ℕ) (w : Word) (i k : ℕ) → IsStoredWord bytes → m
     → drop i w ≡ move_of (get_or bytes k 0) (drop (k + 1) bytes) ∷ moves_in (drop (k + 1) bytes)
 got bytes w i k s is within h behind = ap (λ (v : Word). drop i v) (sym is) ∙ sym behind ∙ count_here bytes k within h
 
--- a move of a stored word can stand in a word, and hangs at most 200 squares
-pub got_stands : (bytes : List ℕ) (w : Word) (i : ℕ) (m : Move) (rest : Word) → IsStoredWord bytes → moves_in bytes ≡ w → drop i w ≡ m ∷ rest
-    → CanStand m × (m.count ≤ 200)
-got_stands bytes w i m rest s is e =
-    let kept : IsKeptWord w = subst IsKeptWord is s.kept in
-    (stands_dropped w i m rest e kept.moves, omega (arith, kept.few, few_dropped w i m rest e))
-
--- the bytes from a place to the end
-pub to_end : (bytes : List ℕ) (k : ℕ) → take (length bytes - k) (drop k bytes) ≡ drop k bytes
-to_end bytes k = take_all (length bytes - k) (drop k bytes) (omega (arith, length-drop k bytes))
-
--- the signs of a move that is kept
-pub few_signs : (bytes : List ℕ) (w : Word) (i : ℕ) (m : Move) (rest : Word) → IsStoredWord bytes → moves_in bytes ≡ w → drop i w ≡ m ∷ rest
-    → length m.signs ≤ 201
-few_signs bytes w i m rest s is e = let h = got_stands bytes w i m rest s is e in omega (arith, h.0.most, h.1)
-
 -- the count at the place where move i begins, with the signs behind it, is that move
 pub got_move : (S B : List ℕ) (w : Word) (i k : ℕ) (signs : List Sign) → S ≡ B → IsStoredWord B → moves_in B ≡ w → k < length S
     → is_count (get_or S k 0) ≡ true → moves_in (drop k S) ≡ drop i (moves_in S)
     → signs ≡ front_signs (take (length S - (k + 1)) (drop (k + 1) S)) → slice_get w i ≡ Some (record { count = get_or S k 0; signs = signs })
 got_move S B w i k signs same s is within h behind e =
     let word : moves_in S ≡ w = ap moves_in same ∙ is in
-    let read : signs ≡ front_signs (drop (k + 1) S) = e ∙ ap front_signs (to_end S (k + 1)) in
+    let read : signs ≡ front_signs (drop (k + 1) S) = e ∙ ap front_signs (take_rest S (k + 1)) in
     first_dropped w i _ _ (got S w i k (subst IsStoredWord (sym same) s) word within h behind)
     ∙ (λ j. Some (record { count = get_or S k 0; signs = sym read j }))
 

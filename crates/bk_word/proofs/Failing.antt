@@ -1,5 +1,5 @@
 -- What is known of a call that failed, or did not.
-use Rattle.std.specs.Prelude.{Err, IsOk, Ok, OnOk, Result, false, true, ◌≡◌}
+use Rattle.std.specs.Prelude.{Err, IsOk, Ok, OnErr, OnOk, Result, false, true, ◌≡◌}
 use Rattle.std.specs.Result.{is_err}
 
 -- a call that is known not to have failed keeps what it promises of a success
@@ -11,3 +11,8 @@ on_ok (Err f) P h e = absurd (cc)
 pub no_err : {T E : Type 0} (r : Result T E) → IsOk r → is_err r ≡ true → false ≡ true
 no_err (Ok v) h e = e
 no_err (Err f) h e = h
+
+-- what holds of a failure holds of this result, where it is one
+pub on_err : {A E : Type 0} {P : Type 0} (r : Result A E) → P → OnErr r P
+on_err (Ok a) p = tt
+on_err (Err e) p = p

@@ -8,6 +8,7 @@ pub mod CountPlaces
 -- the play: its lists, and words that are played in two parts
 pub mod PlayLists
 pub mod PlayLaws
+pub mod WordCuts
 pub mod FollowLaws
 -- words and items as texts: what is written is read, and what was read is written
 pub mod WordItemExamples

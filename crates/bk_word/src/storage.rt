@@ -5,7 +5,7 @@ ghost use Rattle.std.specs.Prelude.{count_by, drop, length, map, slice_index, tr
 ghost use Rattle.bk_word.specs.Word.{order_of};
 ghost use Rattle.bk_word.specs.Stored.{front_signs, is_count, moves_in, sign_byte, sign_of as sign_of_byte};
 
-use crate::{LARGEST_ORDER, Sign};
+use crate::Sign;
 use arrayvec::ArrayVec;
 
 // The least byte of a sign. Those of counts are below it.

@@ -18,11 +18,6 @@ use Rattle.bk_word.specs.declared.Sign.{Sign}
 use Rattle.bk_word.specs.declared.Sign.TheVariants.{Above, Even, Under}
 use Rattle.bk_lay.specs.Depiction.{IsNumbered, Span}
 
--- lists of lists put together, as one list
-pub concat-append : (front back : List (List ℕ)) → concat (front ++ back) ≡ concat front ++ concat back
-concat-append [] back = refl
-concat-append (numbers ∷ front) back = ap (λ (ns : List ℕ). numbers ++ ns) (concat-append front back) ∙ sym (append_assoc numbers (concat front) (concat back))
-
 concat-before : (numbers : List ℕ) (lists : List (List ℕ)) → concat (before_first_list numbers lists) ≡ numbers ++ concat lists
 concat-before numbers [] = refl
 concat-before numbers (next ∷ lists) = append_assoc numbers next (concat lists)

@@ -4,6 +4,7 @@ use Rattle.std.specs.List.{AllZip, concat}
 use Rattle.std.proofs.Common.{List, [], ap, arith, drop, inl, inr, length, map, nat_eq, refl, slice_index_or, subst, suc, sym, take, ℕ, ◌++◌, ◌+◌}
 use Rattle.std.proofs.Common.{◌<◌, ◌∙◌, ◌∷◌, ◌≡◌, ◌⊎◌}
 use Rattle.std.proofs.lemmas.List.{append-nil, append_assoc}
+use Rattle.std.proofs.lemmas.List.Folds.{concat-append}
 use Rattle.bk_laws.proofs.ZippedLists.{zip_after, zip_at, zip_before, zip_length}
 use Rattle.bk_tiling.specs.Column.{AreRuns, IsLevel, depth}
 use Rattle.bk_tiling.specs.SquareGroups.{laid_group}
@@ -19,7 +20,7 @@ use Rattle.bk_lay.proofs.Valleys.{one_leftmost_valley}
 use Rattle.bk_word.specs.declared.Sign.{Sign}
 use Rattle.bk_lay.specs.Depiction.{IsSegment, Span}
 use Rattle.bk_lay.specs.TilingWord.{IsLeftmostValley, depth_before, depth_from}
-use Rattle.bk_word_net.proofs.BottomChain.{concat-append, concat-cut, concat-joined, concat-singles}
+use Rattle.bk_word_net.proofs.BottomChain.{concat-cut, concat-joined, concat-singles}
 use Rattle.bk_word_net.proofs.RunsAfterTurn.{fills_total, first_is, last_is, level_signs, number_levels, one_run, place_in, runs_at}
 use Rattle.bk_word_net.proofs.ShownOutline.{shows_move}
 use Rattle.bk_word_net.specs.LaidOutline.{IsGap, IsTurn, ShowsLaid, back_of, bottom_at, front_of}

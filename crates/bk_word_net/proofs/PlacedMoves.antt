@@ -6,6 +6,7 @@ use Rattle.std.proofs.Common.{List, Some, [], ap, arith, drop, inl, inr, length,
 use Rattle.std.proofs.Common.{◌++◌, ◌+◌, ◌<◌, ◌∙◌, ◌∷◌, ◌≡◌, ◌≤◌, ◌⊎◌}
 use Rattle.std.proofs.lemmas.List.{append_assoc, length-append, length-map, length-replicate, map-append}
 use Rattle.std.proofs.lemmas.Option.{slice_get_within}
+use Rattle.std.proofs.lemmas.List.Folds.{concat-append}
 use Rattle.bk_laws.proofs.ListPlaces.{get_back, get_either, get_front}
 use Rattle.bk_laws.proofs.Totals.{total}
 use Rattle.bk_tiling.proofs.Cells.{from_append}
@@ -20,7 +21,7 @@ use Rattle.bk_word.specs.Outline.{Outline, valley_place}
 use Rattle.bk_word.specs.Play.{after_move, new_squares, numbers_from, segments_apart, signs_apart}
 use Rattle.bk_word.specs.Word.{Move}
 use Rattle.bk_lay.proofs.LaidRuns.{one_of}
-use Rattle.bk_word_net.proofs.BottomChain.{BottomChain, chain_group, chain_join, chain_more, concat-append, concat-joined, concat-singles}
+use Rattle.bk_word_net.proofs.BottomChain.{BottomChain, chain_group, chain_join, chain_more, concat-joined, concat-singles}
 use Rattle.bk_word_net.proofs.FlowFacts.{HasSides, IsLater}
 use Rattle.bk_word_net.proofs.NoLoose.{Played}
 use Rattle.bk_word_net.proofs.NextSides.{Base, NextSides, ValleyAt, hung_is}

@@ -3,6 +3,7 @@
 use Rattle.std.specs.List.{AllByRecursion, concat}
 use Rattle.std.proofs.Common.{List, [], ap, arith, filter, inl, inr, length, map, refl, replicate, subst, suc, sym, ℕ, ◌++◌, ◌+◌, ◌<◌, ◌∙◌, ◌∷◌, ◌≡◌, ◌≤◌, ◌⊎◌}
 use Rattle.std.proofs.lemmas.List.{length-append, length-replicate}
+use Rattle.std.proofs.lemmas.List.Folds.{concat-append}
 use Rattle.bk_laws.proofs.AllOfLists.{all_append, all_left, all_right}
 use Rattle.bk_word.proofs.PlayLists.{numbers-length}
 use Rattle.bk_word.proofs.StoredBytes.{order_more}
@@ -11,7 +12,7 @@ use Rattle.bk_word.specs.Play.{AreLegalFrom, after_move, after_moves, before_fir
 use Rattle.bk_word.specs.Word.{Move, Word, order_of}
 use Rattle.bk_word.specs.declared.Sign.{Sign}
 use Rattle.bk_word.specs.declared.Sign.TheVariants.{Above, Even, Under}
-use Rattle.bk_word_net.proofs.BottomChain.{concat-append, concat-joined, concat-singles}
+use Rattle.bk_word_net.proofs.BottomChain.{concat-joined, concat-singles}
 use Rattle.bk_word_net.proofs.OutlineParts.{many_segments, valley_is}
 use Rattle.bk_word_net.proofs.MovedParts.{apart_segments, apart_signs, many_between}
 use Rattle.bk_word_net.proofs.ValleyCut.{AllPart, AtValley, at_valley}

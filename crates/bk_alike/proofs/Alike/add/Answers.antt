@@ -17,7 +17,7 @@ invariant_of-self-in-Ok c =
     let fits = c.push-fits.ensures.succeeds (omega (arith, room)) in
     let items = pushed_on (is_ok c.push-fits.result) c.reserve.new.self.items (c.reserve.new.self.items ++ x ∷ []) c.push-fits.new.self.items fits
     c.push-fits.ensures.items in
-    let size : c.size_of-size.result ≡ item_size x = c.size_of-size.ensures in
+    let size : c.tiling_size-size.result ≡ item_size x = c.tiling_size-size.ensures in
     let place : c.len-place.result ≡ length c.self.inside.items.items = omega arith in
     let old = map (λ group. group.items) c.self.inside.groups.items in
     subst (λ (l : List KeptItem). IsGrouped l c.put_in_group.new.sizes.keys (map (λ group. group.items) c.put_in_group.new.groups.items))
@@ -26,7 +26,7 @@ invariant_of-self-in-Ok c =
     (map (λ group. group.items) c.put_in_group.new.groups.items)
     c.self.invariant (omega arith)
     (c.in-Ok.ensures.sizes ∙ ap (with_size c.self.inside.sizes.keys) size)
-    (c.in-Ok.ensures.groups ∙ ap (λ (k : ℕ). with_place old (position_or_len (size_eq c.size_of-size.result) c.self.inside.sizes.keys) k) place
+    (c.in-Ok.ensures.groups ∙ ap (λ (k : ℕ). with_place old (position_or_len (size_eq c.tiling_size-size.result) c.self.inside.sizes.keys) k) place
     ∙ ap (λ (s : ℕ × ℕ). with_place old (position_or_len (size_eq s) c.self.inside.sizes.keys) (length c.self.inside.items.items)) size))
 
 pub returns-then-len-ge-MOST_ITEMS-clause-full : goal.returns-then-len-ge-MOST_ITEMS-clause-full

@@ -2,10 +2,10 @@ use Rattle.std.specs.List.{concat}
 use Rattle.std.specs.Io.KnownBytes.{Appends}
 use Rattle.std.proofs.Common.{List, ap, length, subst, sym, true, false, ℕ, ◌∙◌, ◌≡◌}
 use Rattle.std.proofs.lemmas.Result.{err_from_is_err_and}
+use Rattle.std.proofs.KnownBytes.{Appends-nil}
 use Rattle.bk_ports.specs.Causes.{AppendsPrefix}
 use Rattle.bk_tiling.specs.Tiling.{Tiling}
 use Rattle.bk_pair.specs.Pair.{joined_square}
-use Rattle.bk_lines.proofs.Joining.{appends_nothing}
 use Rattle.bk_groups.specs.Pairs.{is_pair, pair_lines}
 use Rattle.bk_groups.proofs.ListLoops.{ends_broken}
 use Rattle.bk_groups.proofs.PairLines.{made_line, made_none, none_told, some_told}
@@ -48,7 +48,7 @@ returns-in-None-clause-lines g c a b at next =
     c.make_pair-square.ensures.none in
     subst (λ (l : List (List ℕ)). Appends (g.O.Sink.written c.args.out.now) (g.O.Sink.written c.args.out.now) (concat l))
     (sym (made_none c.args.kind c.args.items.now c.args.i c.args.j c.item-first.result.0 c.item-second.result.0 c.item-first.result.1.now
-    c.item-second.result.1.now c.item-first.ensures c.item-second.ensures a b at next told)) (appends_nothing (g.O.Sink.written c.args.out.now))
+    c.item-second.result.1.now c.item-first.ensures c.item-second.ensures a b at next told)) (Appends-nil (g.O.Sink.written c.args.out.now))
 
 pub returns-in-None-clause-count : goal.returns-in-None-clause-count
 returns-in-None-clause-count g c a b at next =

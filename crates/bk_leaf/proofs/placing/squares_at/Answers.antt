@@ -1,11 +1,29 @@
 use Rattle.std.specs.Int.{w64}
 use Rattle.std.specs.Prelude.{pos}
-use Rattle.std.proofs.Common.{List, ap, arith, of_z, slice_index_or, subst, sym, to_z, ℕ, ◌+◌, ◌*◌, ◌^◌, ◌∙◌, ◌≡◌}
+use Rattle.std.proofs.Common.{List, ap, arith, of_z, rules, slice_index_or, subst, sym, to_z, ℕ, ◌+◌, ◌*◌, ◌^◌, ◌∙◌, ◌≡◌}
 use Rattle.std.proofs.lemmas.Int.{to_z-of_z}
 use Rattle.bk_tiling.specs.declared.Square.{Square}
 use Rattle.bk_candidate.specs.Candidate.{placed_square}
 use Rattle.bk_leaf.proofs.LevelSteps.{ArePlaced, fits_small, placed_more}
 use Rattle.bk_leaf.proofs.placing.squares_at.Goals as goal
+
+pub place_of-left-requires : goal.place_of-left-requires
+place_of-left-requires c = search rules
+
+pub square_between-requires-clause-left : goal.square_between-requires-clause-left
+square_between-requires-clause-left c = search rules
+
+pub square_between-requires-clause-right : goal.square_between-requires-clause-right
+square_between-requires-clause-right c = search rules
+
+pub square_between-requires-clause-above : goal.square_between-requires-clause-above
+square_between-requires-clause-above c = search rules
+
+pub square_between-requires-clause-below : goal.square_between-requires-clause-below
+square_between-requires-clause-below c = search rules
+
+pub square_between-requires-clause-current : goal.square_between-requires-clause-current
+square_between-requires-clause-current c = search rules
 
 pub loop-k-preserved : goal.loop-k-preserved
 loop-k-preserved c =

@@ -1,5 +1,6 @@
 use Rattle.std.proofs.Common.{refl, ◌-◌, ◌∙◌}
-use Rattle.bk_list.proofs.ListingSteps.{begun_as, listed_begun, listed_more, listed_none, next_as, on_err}
+use Rattle.bk_word.proofs.Failing.{on_err}
+use Rattle.bk_list.proofs.ListingSteps.{begun_as, listed_begun, listed_more, listed_none, next_as}
 use Rattle.bk_list.proofs.StepCounts.{next_steps_as, no_steps, steps_all, steps_begun, steps_limit, steps_more, tree_as}
 use Rattle.bk_list.specs.declared.entries.Next.TheVariants.{Member, Nothing}
 use Rattle.bk_list.proofs.entries.write_entries.Goals as goal

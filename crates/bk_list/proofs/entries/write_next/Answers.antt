@@ -1,5 +1,6 @@
 use Rattle.std.proofs.lemmas.Result.{IfOk-at_ok, MatchResult-at_ok}
-use Rattle.bk_list.proofs.ListingSteps.{on_err, taken, word_some}
+use Rattle.bk_word.proofs.Failing.{on_err}
+use Rattle.bk_list.proofs.ListingSteps.{word_some}
 use Rattle.bk_list.proofs.entries.write_next.Goals as goal
 
 pub write_line-requires : goal.write_line-requires
@@ -12,7 +13,7 @@ returns-in_err-write_line-in-Some-Ok-clause-begun g c =
     let next = IfOk-at_ok _ c.in-Some-Ok.field-0-is c.in-Some-Ok.ensures.entry in
     on_err c.from_residual.result (
       record { tiling = c.in-Some-Ok.entry.tiling; word = c.in-Some-Ok.entry.word },
-      taken c.args.walk.now.order c.args.walk.now.class c.args.walk.now.cursor c.in-Some-Ok.entry.tiling c.in-Some-Ok.entry.word next.0,
+      next.0,
       MatchResult-at_ok _ _ c.in-Some-Ok.entry c.in-Some-Ok.field-0-is c.in-Some-Ok.ensures.cursor,
       c.in_err-write_line-in-Some-Ok.ensures.begun,
     )
@@ -24,7 +25,7 @@ pub returns-in_ok-write_line-in-Some-Ok-clause-next : goal.returns-in_ok-write_l
 returns-in_ok-write_line-in-Some-Ok-clause-next g c =
     let next = IfOk-at_ok _ c.in-Some-Ok.field-0-is c.in-Some-Ok.ensures.entry in (
       record { tiling = c.in-Some-Ok.entry.tiling; word = c.in-Some-Ok.entry.word },
-      taken c.args.walk.now.order c.args.walk.now.class c.args.walk.now.cursor c.in-Some-Ok.entry.tiling c.in-Some-Ok.entry.word next.0,
+      next.0,
       MatchResult-at_ok _ _ c.in-Some-Ok.entry c.in-Some-Ok.field-0-is c.in-Some-Ok.ensures.cursor,
       c.in_ok-write_line-in-Some-Ok.ensures.written,
     )

@@ -1,8 +1,9 @@
 use Rattle.std.proofs.Common.{ap, inl, inr, subst, ◌-◌, ◌∙◌}
 use Rattle.bk_word.specs.Word.{Word}
+use Rattle.bk_word.proofs.Failing.{on_err}
 use Rattle.bk_report.specs.Listings.{last_line}
 use Rattle.bk_walk.specs.Walking.{WalkState}
-use Rattle.bk_list.proofs.ListingSteps.{begun_whole, ended_narrow, on_err, seen_so, written_whole}
+use Rattle.bk_list.proofs.ListingSteps.{begun_whole, ended_narrow, seen_so, written_whole}
 use Rattle.bk_list.proofs.StepCounts.{takes_all, took_all}
 use Rattle.bk_list.specs.Stepping.{HasEntriesBySteps, StoppedAtEntry, TakesSteps}
 use Rattle.bk_list.specs.Writing.{BeginsListing, HasEntries}

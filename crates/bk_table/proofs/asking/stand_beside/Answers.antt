@@ -1,12 +1,11 @@
 use Rattle.std.proofs.Common.{List, [], ap, append-nil, arith, count_by, drop, length, length-take, nat_eq, subst, sym, take, ◌++◌}
 use Rattle.std.proofs.Common.{false, true, ◌+◌, ◌-◌, ◌∙◌, ◌≡◌}
-use Rattle.bk_word.specs.Outline.{valley_place}
+use Rattle.bk_word.specs.Outline.{sizes_of, valley_place}
 use Rattle.bk_word.specs.Play.{IsLegal, outline_of}
 use Rattle.bk_word.specs.Signs.{is_under}
 use Rattle.bk_word.specs.Word.{Word}
 use Rattle.bk_word.specs.declared.Sign.{Sign}
 use Rattle.bk_bounds.proofs.BoundsOfWords.{sizes_long}
-use Rattle.bk_bounds.specs.SingleValleys.{sizes_of}
 use Rattle.bk_owed.proofs.LoneLaws.{lone_none}
 use Rattle.bk_owed.proofs.TallyLaws.{raised_none}
 use Rattle.bk_owed.specs.Lone.{IsLone}

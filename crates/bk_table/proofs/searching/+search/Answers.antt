@@ -1,4 +1,5 @@
 use Rattle.std.proofs.Common.{[], ap, append_assoc, arith, inl, inr, length, refl, subst, sym, ◌++◌, ◌∙◌, ◌∷◌, ◌≡◌}
+use Rattle.std.proofs.lemmas.Grind.{common_steps}
 use Rattle.bk_word.specs.Outline.{IsLegalMove}
 use Rattle.bk_word.specs.Play.{IsComplete, outline_of}
 use Rattle.bk_word.specs.Word.{Move, order_of}
@@ -47,6 +48,15 @@ pub with_move-returns-then-joins_barrenly-clause-all : goal.with_move-returns-th
 with_move-returns-then-joins_barrenly-clause-all g t c w sought touched on =
     absurd (sought.fertile (c.args.board.now ++ c.args.m.now ∷ []) on.rest on.is (c.joins_barrenly.ensures c.if-joins_barrenly.true))
 
+pub with_move-go_on-requires : goal.with_move-go_on-requires
+with_move-go_on-requires g t c = grind (arith, common_steps)
+
+pub with_move-pop-requires : goal.with_move-pop-requires
+with_move-pop-requires g t c = grind (arith, common_steps)
+
+pub with_move-returns-clause-board : goal.with_move-returns-clause-board
+with_move-returns-clause-board g t c = grind (arith, common_steps)
+
 pub with_move-returns-clause-all : goal.with_move-returns-clause-all
 with_move-returns-clause-all g t c w sought touched on =
     c.go_on.ensures.all w sought touched (subst (λ v. GoesOn v w) (sym c.push.ensures) on)
@@ -94,6 +104,9 @@ with_sign-returns-clause-all g t c w sought touched on =
     let next = by_pushed c.args.board.now w c.args.m.now c.args.sign c.m.inside.count c.m.inside.signs.items c.push.new.self.items
     (ap (λ (m : Move). m.count) c.m.view_is) (ap (λ (m : Move). m.signs) c.m.view_is) c.push.ensures.items on in
     c.with_signs.ensures.all w sought touched next
+
+pub with_sign-returns-clause-same : goal.with_sign-returns-clause-same
+with_sign-returns-clause-same g t c = grind (arith, common_steps)
 
 pub with_signs-returns-then-len-from-clause-all : goal.with_signs-returns-then-len-from-clause-all
 with_signs-returns-then-len-from-clause-all g t c w sought touched on =

@@ -9,7 +9,7 @@ use Rattle.bk_table.proofs.second.least_second.Goals.{then-from-low-via-then-fro
 
 pub number_of-low-requires-clause-digits : goal.number_of-low-requires-clause-digits
 number_of-low-requires-clause-digits c = subst AreDigits (sym (c.as_slice.ensures.value ∙ c.under_digits-digits.ensures))
-    (under_digits c.args.count (omega (arith, c.if-count-gt16.false)))
+    (under_digits c.args.count (omega (arith, c.if-from-gt-INLINE_ORDER.false)))
 
 pub overflow_add-unit : goal.overflow_add-unit
 overflow_add-unit c = omega (arith, unit_fits c.left_behind-unit.result c.len.result c.left_behind-unit.ensures)

@@ -4,9 +4,9 @@ use Rattle.std.proofs.lemmas.List.{length-append}
 use Rattle.std.proofs.lemmas.Option.{slice_get-get_or}
 use Rattle.bk_word.specs.Outline.{start}
 use Rattle.bk_word.specs.Word.{Move, Word, sign_place}
+use Rattle.bk_word.proofs.WordCuts.{legal_at}
 use Rattle.bk_table.specs.Packed.{move_digits}
 use Rattle.bk_table.proofs.WordDigits.{digits_next, digits_room, few_digits}
-use Rattle.bk_table.proofs.Spans.{legal_at}
 use Rattle.bk_table.proofs.span.digits_of.Goals as goal
 
 -- the move at a place

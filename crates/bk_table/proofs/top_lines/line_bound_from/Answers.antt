@@ -1,7 +1,8 @@
 use Rattle.std.specs.List.{sum}
 use Rattle.std.proofs.Common.{ap, arith, drop, length, length-drop, ◌∙◌}
+use Rattle.std.proofs.lemmas.List.{take_rest}
 use Rattle.bk_bounds.specs.VerticalCut.{line_bound, segments_of, touched}
-use Rattle.bk_table.proofs.SegmentsBehind.{segments_drop, slice_rest, sum_parts}
+use Rattle.bk_table.proofs.SegmentsBehind.{segments_drop, sum_parts}
 use Rattle.bk_table.specs.TopLines.{on_top_lines}
 use Rattle.bk_table.proofs.top_lines.line_bound_from.Goals as goal
 
@@ -23,15 +24,15 @@ line_bound-requires-clause-enough c = omega (
   length-drop c.squares_in-start.result c.args.ends.now,
   sum_parts c.args.from c.args.sizes.now,
   c.squares_in-start.ensures,
-  ap sum (slice_rest c.args.sizes.now c.args.from),
-  ap length (slice_rest c.args.ends.now c.squares_in-start.result),
+  ap sum (take_rest c.args.sizes.now c.args.from),
+  ap length (take_rest c.args.ends.now c.squares_in-start.result),
   c.requires.enough,
 )
 
 pub returns : goal.returns
 returns c = c.line_bound.ensures
-    ∙ (λ i. line_bound (slice_rest c.args.signs.now c.args.from i) (touched (on_top_lines c.args.first c.args.lefts.now)
-    (segments_of (slice_rest c.args.sizes.now c.args.from i) (slice_rest c.args.ends.now c.squares_in-start.result i))))
+    ∙ (λ i. line_bound (take_rest c.args.signs.now c.args.from i) (touched (on_top_lines c.args.first c.args.lefts.now)
+    (segments_of (take_rest c.args.sizes.now c.args.from i) (take_rest c.args.ends.now c.squares_in-start.result i))))
     ∙ (λ i. line_bound (drop c.args.from c.args.signs.now) (touched (on_top_lines c.args.first c.args.lefts.now)
     (segments_of (drop c.args.from c.args.sizes.now) (drop (c.squares_in-start.ensures i) c.args.ends.now))))
     ∙ ap (λ ss. line_bound (drop c.args.from c.args.signs.now) (touched (on_top_lines c.args.first c.args.lefts.now) ss))

@@ -31,13 +31,13 @@ returns-in-Some-first_uncovered-clause-accepted c =
       c.in-Some-first_uncovered.ensures.some,
     )
 
-accepted : (c : goal.After-put_in_order) → IsAccepted c.args.width c.args.height c.args.squares.now
+accepted : (c : goal.After-in_order) → IsAccepted c.args.width c.args.height c.args.squares.now
 accepted c = accepted_from c.args.width c.args.height c.args.squares.now (omega arith) (omega arith, omega arith) c.in_default.ensures.none
     c.in_default-first_outside.ensures.none c.in_default-first_overlap.ensures.none c.in_default-first_uncovered.ensures.none
 
 pub invariant_of-result : goal.invariant_of-result
 invariant_of-result c =
-    kept_from c.args.width c.args.height c.args.squares.now c.put_in_order.result.items (omega arith) (omega arith) (accepted c) c.put_in_order.ensures
+    kept_from c.args.width c.args.height c.args.squares.now c.in_order.result.items (omega arith) (omega arith) (accepted c) c.in_order.ensures
 
 pub returns-clause-accepted : goal.returns-clause-accepted
 returns-clause-accepted c = (λ _. accepted c, λ _. refl)

@@ -1,13 +1,11 @@
 use Rattle.std.proofs.Common.{◌∙◌}
-use Rattle.bk_verify.proofs.Storing.{on_err}
+use Rattle.bk_word.proofs.Failing.{on_err}
 use Rattle.bk_verifying.proofs.BehindLines.{closes_report, closing_begun}
-use Rattle.bk_verifying.specs.Listing.{IsClosingBegun}
 use Rattle.bk_verifying.proofs.closing.close_report.Goals as goal
 
 pub returns-in_err-write_all-clause-begun : goal.returns-in_err-write_all-clause-begun
 returns-in_err-write_all-clause-begun g c =
-    on_err (IsClosingBegun c.args.order c.args.state (g.O.Sink.written c.args.out.now) (g.O.Sink.written c.write_all.new.self))
-    c.from_residual-in_err-write_all.result
+    on_err c.from_residual-in_err-write_all.result
     (closing_begun c.args.order c.args.state c.finish-rest.result c.write_missing_members.new.rest _ c.members.result
     (g.O.Sink.written c.args.out.now) (g.O.Sink.written c.write_missing_members.new.out)
     c.requires.order c.finish-rest.ensures c.in_ok-missing.ensures.listed c.in_ok-missing.ensures.all c.in_ok-missing.ensures.ended

@@ -1,8 +1,7 @@
 use Rattle.std.proofs.Common.{refl, ◌∙◌}
 use Rattle.std.proofs.lemmas.Result.{IfOk-at_ok}
-use Rattle.bk_verify.proofs.Storing.{on_err}
+use Rattle.bk_word.proofs.Failing.{on_err}
 use Rattle.bk_verifying.proofs.MissingListed.{IsListingOn, listing_begun, listing_end, listing_more, listing_none, word_some}
-use Rattle.bk_verifying.specs.Listing.{IsListingBegun}
 use Rattle.bk_verifying.proofs.closing.write_missing_members.Goals as goal
 
 pub members-init : goal.members-init
@@ -29,8 +28,7 @@ returns-in_err-write_all-in-Some-Ok-clause-begun g c =
     let on : IsListingOn c.args.rest.now c.members.rest c.members.missing (g.O.Sink.written c.args.out.now) (g.O.Sink.written c.members.out) =
     record { listed = c.members.invariant.listed; order = c.members.invariant.order; pairs = c.members.invariant.pairs }
     in
-    on_err (IsListingBegun c.args.rest.now.walk.order c.args.rest.now.pairs (g.O.Sink.written c.args.out.now) (g.O.Sink.written c.write_all.new.self))
-    c.from_residual.result
+    on_err c.from_residual.result
     (listing_begun c.args.rest.now c.members.rest c.members.missing (g.O.Sink.written c.args.out.now) (g.O.Sink.written c.members.out) on
     c.in-Some-Ok.entry.tiling c.in-Some-Ok.entry.word next.0
     c.as_slice.result.now (c.as_slice.ensures.value ∙ c.write_missing.ensures) (g.O.Sink.written c.write_all.new.self)

@@ -28,7 +28,7 @@ returns-in-Some-clause-cut c _ class = subst (λ (next : Move). IsCut c.args.ord
     let read : take c.saturating_sub.result c.signs-signs.result.now ++ take c.in-Some.kept c.as_slice.result.now
     ≡ take (c.first_above-place.result - 1) (outline_of c.args.skel.now).signs ++ take c.in-Some.kept c.args.m.now.signs =
     (λ i. take (c.saturating_sub.ensures i) (c.signs-signs.ensures i) ++ take c.in-Some.kept (shown i)) in
-    subst (λ (l : List Sign). c.saturating_sub-room.result < closing_bound l) read c.in-Some.ensures))
+    subst (λ (l : List Sign). c.saturating_sub-room.result < closing_bound l) read c.in-Some.ensures.over))
 
 pub returns-in-Some-clause-near : goal.returns-in-Some-clause-near
 returns-in-Some-clause-near c = subst (GrowsByAtMostOne c.args.m.now) (sym (same c)) (after_near c.in-Some.kept c.args.m.now)

@@ -1,7 +1,7 @@
 use Rattle.std.specs.Prelude.{List, decimal, drop, flat_map, length, ◌++◌}
 use Rattle.std.proofs.Common.{ap, append_assoc, arith, get_or, length-append, sym, ℕ, ◌∙◌}
+use Rattle.std.proofs.lemmas.List.{take_rest}
 use Rattle.bk_word.specs.Stored.{piece}
-use Rattle.bk_word.proofs.CountPlaces.{to_end}
 use Rattle.bk_word.proofs.WordPieces.{short_text, some_byte, whole_text}
 use Rattle.bk_word.proofs.writer.write_word.Goals as goal
 
@@ -9,7 +9,7 @@ pub write_pieces-requires : goal.write_pieces-requires
 write_pieces-requires c =
     let short = short_text c.args.word.now c.bytes-bytes.ensures.kept c.requires.some in
     let whole = whole_text c.bytes-bytes.result.now c.args.word.now c.bytes-bytes.ensures.value c.bytes-bytes.ensures.kept c.requires.some in
-    let rest = to_end c.bytes-bytes.result.now 1 in
+    let rest = take_rest c.bytes-bytes.result.now 1 in
     omega (
       arith,
       short,
@@ -26,7 +26,7 @@ pub returns-clause-text : goal.returns-clause-text
 returns-clause-text c =
     let whole = whole_text c.bytes-bytes.result.now c.args.word.now c.bytes-bytes.ensures.value c.bytes-bytes.ensures.kept c.requires.some in
     c.write_pieces.ensures
-    ∙ (λ i. c.push_number.ensures.text i ++ flat_map piece (to_end c.bytes-bytes.result.now 1 i))
+    ∙ (λ i. c.push_number.ensures.text i ++ flat_map piece (take_rest c.bytes-bytes.result.now 1 i))
     ∙ append_assoc c.args.out.now.items (decimal c.from.result) (flat_map piece (drop 1 c.bytes-bytes.result.now))
     ∙ ap (λ (n : ℕ). c.args.out.now.items ++ (decimal n ++ flat_map piece (drop 1 c.bytes-bytes.result.now))) c.from.ensures
     ∙ ap (λ (z : List ℕ). c.args.out.now.items ++ z) (sym whole)

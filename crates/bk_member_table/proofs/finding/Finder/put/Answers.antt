@@ -4,14 +4,33 @@ use Rattle.bk_lay.proofs.Valleys.{a_tiling_has_one_word}
 use Rattle.bk_lay.proofs.WordPlay.{tiling_word_is_complete}
 use Rattle.bk_table.specs.Kept.{Holds}
 use Rattle.bk_table.specs.Packed.{packed}
+use Rattle.bk_catalogue.specs.Catalogue.{IsMember}
 use Rattle.bk_member_table.specs.Finding.{Finding}
+use Rattle.bk_member_table.proofs.FoundMembers.{members_number, only_with}
 use Rattle.bk_member_table.proofs.finding.Finder.put.Goals as goal
 
 pub of-requires-clause-legal : goal.of-requires-clause-legal
 of-requires-clause-legal g c = ((tiling_word_is_complete c.args.tiling.now c.in-Ok.word c.requires.tiling c.in-Ok.ensures.word).0).legal
 
 pub of-requires-clause-few : goal.of-requires-clause-few
-of-requires-clause-few g c = omega (arith, (tiling_word_is_complete c.args.tiling.now c.in-Ok.word c.requires.tiling c.in-Ok.ensures.word).1, c.requires.few)
+of-requires-clause-few g c = omega (
+  arith,
+  (tiling_word_is_complete c.args.tiling.now c.in-Ok.word c.requires.tiling c.in-Ok.ensures.word).1,
+  c.requires.order,
+  c.self.invariant.few,
+  ap (λ (s : Finding). s.order) c.self.view_is,
+)
+
+pub invariant_of-self : goal.invariant_of-self
+invariant_of-self g c = record {
+  few = c.self.invariant.few;
+  only = only_with s c.put.new.self c.number-number.result c.self.invariant.only (members_number s c.args.tiling.now c.in-Ok.word c.number-number.result
+      (subst (λ (s : Finding). IsMember s.order s.class c.args.tiling.now) (sym c.self.view_is) c.requires) c.in-Ok.ensures.word
+      (c.number-number.ensures ∙ c.of.ensures) c.if-self-number.true) c.put.ensures.only;
+}
+  where
+    s : Finding
+    s = record { order = c.self.inside.order; class = c.self.inside.class; from = c.self.inside.from; numbers = c.self.inside.table }
 
 pub returns-then-self-number-clause-put : goal.returns-then-self-number-clause-put
 returns-then-self-number-clause-put g c w is least =

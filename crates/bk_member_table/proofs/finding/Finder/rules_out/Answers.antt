@@ -5,8 +5,8 @@ use Rattle.bk_member_table.proofs.finding.Finder.rules_out.Goals as goal
 
 pub returns-then-self-span-clause-none : goal.returns-then-self-span-clause-none
 returns-then-self-span-clause-none g c told = subst (λ (s : Finding). HasNone s c.args.span) c.self.view_is
-    (has_none (record { class = c.self.inside.class; from = c.self.inside.from; numbers = c.self.inside.table }) c.args.span c.if-self-span.true
-    (c.rules_out.ensures.none told))
+    (has_none (record { order = c.self.inside.order; class = c.self.inside.class; from = c.self.inside.from; numbers = c.self.inside.table })
+    c.args.span c.if-self-span.true (c.rules_out.ensures.none told))
 
 pub returns-then-self-span-clause-all : goal.returns-then-self-span-clause-all
 returns-then-self-span-clause-all g c free =

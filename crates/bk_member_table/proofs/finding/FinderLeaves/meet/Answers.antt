@@ -5,12 +5,11 @@ use Rattle.bk_member_table.proofs.finding.FinderLeaves.meet.Goals as goal
 
 pub returns-in-Some-clause-met : goal.returns-in-Some-clause-met
 returns-in-Some-clause-met g c = met_placed c.args.board.now c.placed_at.result c.in-Some.placed c.args.self.now c.meet_placed.new.self
-    (subst (λ (s : Finding). FindsAll c.args.board.now s.class c.placed_at.result) c.self.view_is c.placed_at.ensures) c.in-Some.is c.requires.few
-    c.meet_placed.ensures.class c.meet_placed.ensures.from c.meet_placed.ensures.put
+    (subst (λ (s : Finding). FindsAll c.args.board.now s.class c.placed_at.result) c.self.view_is c.placed_at.ensures) c.in-Some.is
+    c.meet_placed.ensures.fixed c.meet_placed.ensures.put
 
 pub returns-in-Some-clause-kept : goal.returns-in-Some-clause-kept
-returns-in-Some-clause-kept g c = still_met c.args.self.now c.meet_placed.new.self c.meet_placed.ensures.class c.meet_placed.ensures.from
-    c.meet_placed.ensures.kept
+returns-in-Some-clause-kept g c = still_met c.args.self.now c.meet_placed.new.self c.meet_placed.ensures.fixed c.meet_placed.ensures.kept
 
 pub returns-in_default-clause-met : goal.returns-in_default-clause-met
 returns-in_default-clause-met g c = met_nothing c.args.board.now c.placed_at.result c.args.self.now

@@ -8,7 +8,7 @@ use Rattle.bk_member_table.proofs.members.MemberTable.rules_out.Goals as goal
 
 pub returns-then-tells-clause-barren : goal.returns-then-tells-clause-barren
 returns-then-tells-clause-barren g c told =
-    ruled_out (record { order = c.self.inside.order; count = c.self.inside.count; found = c.self.inside.finder }) c.args.order c.args.class
+    ruled_out (record { count = c.self.inside.count; found = c.self.inside.finder }) c.args.order c.args.class
     c.args.skel.now c.self.invariant.whole c.self.invariant.few
     (subst (λ (t : Members). Tells t c.args.order c.args.class c.args.skel.now) (sym c.self.view_is) (c.tells.ensures.yes c.if-tells.true))
     (subst (λ (s : Span). HasNone c.self.inside.finder s) c.span_of.ensures (c.rules_out.ensures.none told))

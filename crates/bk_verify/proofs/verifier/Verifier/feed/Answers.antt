@@ -1,7 +1,7 @@
 use Rattle.std.proofs.lemmas.Grind.{common_steps}
 use Rattle.std.proofs.Common.{arith, refl, subst, sym, true≢false, ◌∙◌}
+use Rattle.bk_word.proofs.Failing.{on_err}
 use Rattle.bk_verify.proofs.Standing.{canonical_order, kept_then, none_of_other_kind, none_of_other_order, stands_told, taken_in}
-use Rattle.bk_verify.proofs.Storing.{on_err}
 use Rattle.bk_verify.specs.Kept.{IsFirstSight, IsTakenIn, StandsFor, StandsForNone, VerifierState}
 use Rattle.bk_verify.proofs.verifier.Verifier.feed.Goals as goal
 
@@ -49,7 +49,7 @@ returns-in_err-keep-clause-wanting c =
     c.order.ensures.kept.tiling
     c.canonical-member.ensures.canonical c.order.ensures.value c.from.ensures c.if-order-from.false c.is_simple_perfect.ensures c.if-not-is_simple_perfect.false
     in
-    on_err (IsFirstSight c.args.self.now c.args.tiling.now) c.from_residual.result
+    on_err c.from_residual.result
     (subst (λ (s : VerifierState). IsFirstSight s c.args.tiling.now) c.self.view_is
     (record { tiling = c.canonical-member.result; stands = stands; new = c.in_default.ensures }))
 

@@ -1,11 +1,9 @@
 use Rattle.std.proofs.Common.{false, refl, subst, true, ◌+◌, ◌∙◌}
-use Rattle.bk_lines.specs.Answer.{IsBegun}
 use Rattle.bk_report.specs.ListLines.{refused_line}
 use Rattle.bk_answer.specs.Item.{IsLaidLine}
-use Rattle.bk_verify.proofs.Storing.{on_err}
+use Rattle.bk_word.proofs.Failing.{on_err}
 use Rattle.bk_verifying.proofs.Entered.{begun_one, written_none, written_one}
-use Rattle.bk_verifying.specs.Entering.{EntersLine, no_item, refuses}
-use Rattle.bk_verifying.specs.declared.entering.Verifying.{Verifying}
+use Rattle.bk_verifying.specs.Entering.{no_item, refuses}
 use Rattle.bk_verifying.proofs.entering.VerifyingRegister.enter.Goals as goal
 
 pub returns-in-Ok-None-clause-outcome : goal.returns-in-Ok-None-clause-outcome
@@ -22,9 +20,7 @@ returns-in_ok-write_all-in-Err-clause-outcome g c =
 
 pub returns-in_err-write_all-in-Err-clause-failed : goal.returns-in_err-write_all-in-Err-clause-failed
 returns-in_err-write_all-in-Err-clause-failed g c =
-    on_err (IsBegun (λ pieces refused. (last : Verifying) × EntersLine c.args.self.now c.args.number c.args.line.now pieces refused last)
-    (g.O.Sink.written c.args.out.now) (g.O.Sink.written c.write_all.new.self))
-    c.from_residual.result
+    on_err c.from_residual.result
     (begun_one c.args.self.now c.args.number c.args.line.now true (record c.args.self.now { refused = c.args.self.now.refused + 1 })
     (g.O.Sink.written c.args.out.now) (g.O.Sink.written c.write_all.new.self) (refused_line c.args.number c.in-Err.refused) c.as_slice.result.now
     (c.as_slice.ensures.value ∙ c.write_line_refused.ensures) (refuses c.in-Err.refused c.in-Err.ensures.refused) c.in_err-write_all-in-Err.ensures.err)

@@ -1,5 +1,5 @@
 use Rattle.std.proofs.Common.{rules}
-use Rattle.bk_alike.proofs.size_of.Goals as goal
+use Rattle.bk_alike.proofs.tiling_size.Goals as goal
 
 pub returns : goal.returns
 returns c = search rules
