@@ -44,10 +44,6 @@ some_found n m g e = by (nat_lt n m) refl e
     by true t e = (same_Some g n (e ∙ ap (λ (v : Bool). cond v (Some n) None) t), (grind (arith, nat_tests)))
     by false t e = absurd (cc)
 
--- what holds where a call went well
-pub went_well : {T E : Type 0} (r : Result T E) (P : Type 0) → is_err r ≡ false → OnOk r P → P
-went_well (Ok x) P e h = h
-went_well (Err x) P e h = absurd (true≢false e)
-
+-- what was pushed stands at the end
 pub pushed_on : {A : Type 0} (b : Bool) (xs ys zs : List A) → b ≡ true → zs ≡ cond b ys xs → zs ≡ ys
 pushed_on b xs ys zs ok e = e ∙ ap (λ (v : Bool). cond v ys xs) ok

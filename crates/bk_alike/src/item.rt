@@ -1,6 +1,6 @@
 //! An item that is kept.
 
-use bk_tiling::Tiling;
+use bk_pair::KeptTiling;
 
 /// An item: the number of its line, and its canonical tiling.
 #[derive(Drop)]
@@ -8,5 +8,5 @@ pub struct KeptItem {
     /// The number of its line, from 1.
     pub line: u64,
     /// Its canonical tiling.
-    pub tiling: Tiling,
+    pub tiling: KeptTiling,
 }

@@ -2,7 +2,7 @@
 #![tactic(auto)]
 
 ghost use Rattle.std.specs.List.{position_or_len};
-ghost use Rattle.std.specs.Prelude.{OnErr, OnOk, [], length, map, slice_get, ◌++◌, ◌<◌, ◌∷◌, ◌≡◌, ◌≤◌, ◌↔◌};
+ghost use Rattle.std.specs.Prelude.{IfOk, OnErr, OnOk, [], length, map, slice_get, ◌++◌, ◌<◌, ◌∷◌, ◌≡◌, ◌≤◌, ◌↔◌};
 ghost use Rattle.bk_tiling.specs.Tiling.{Tiling as Tiled};
 ghost use Rattle.bk_sym.specs.Canonical.{IsCanonicalOf};
 ghost use Rattle.bk_alike.specs.Alike.{alike_groups, group_of, size_eq, sizes, with_size};
@@ -10,11 +10,12 @@ ghost use Rattle.bk_alike.specs.Grouped.{with_place};
 
 mod item;
 
+use bk_pair::KeptTiling;
 use bk_sym::canonical;
 use bk_tiling::Tiling;
 use indexmap::IndexSet;
 pub use item::KeptItem;
-use std::alloc::Global;
+use std::alloc::{AllocError, Global};
 use std::marker::Model;
 
 // At most so many items are kept.
@@ -74,8 +75,11 @@ impl Alike {
         if self.items.len() >= MOST_ITEMS {
             return Err(AddFault::Full);
         }
-        let item = item_of(line, tiling);
-        let size = tiling_size(&item.tiling);
+        let item = match item_of(self.alloc, line, tiling) {
+            Ok(item) => item,
+            Err(AllocError) => return Err(AddFault::NoMemory),
+        };
+        let size = (item.tiling.width(), item.tiling.height());
         let place = self.items.len() as u32;
         if self.items.reserve(1).is_err() {
             return Err(AddFault::NoMemory);
@@ -85,7 +89,7 @@ impl Alike {
                 let _fits = self.items.push(item);
                 Ok(())
             }
-            Err(NoRoom) => Err(AddFault::NoMemory),
+            Err(AllocError) => Err(AddFault::NoMemory),
         }
     }
 
@@ -98,7 +102,7 @@ impl Alike {
     }
 
     /// The item at a place, from 0.
-    pub fn item(&self, i: usize) -> (u64, &Tiling)
+    pub fn item(&self, i: usize) -> (u64, &KeptTiling)
         requires { i < length self.now }
         ensures { (item : _) × (slice_get self.now i ≡ Some item) × (result.0 ≡ item.line) × (result.1.now ≡ item.tiling) }
     {
@@ -146,26 +150,15 @@ impl Alike {
 }
 
 // What is kept of a tiling: its canonical tiling, with its line.
-fn item_of(line: u64, tiling: &Tiling) -> KeptItem
-    ensures line { result.line ≡ line }
-    ensures canonical { IsCanonicalOf tiling.now result.tiling }
+fn item_of(alloc: Global, line: u64, tiling: &Tiling) -> Result<KeptItem, AllocError>
+    ensures line { IfOk result (λ item. item.line ≡ line) }
+    ensures canonical { IfOk result (λ item. IsCanonicalOf tiling.now item.tiling) }
 {
-    KeptItem {
+    Ok(KeptItem {
         line,
-        tiling: canonical(tiling),
-    }
+        tiling: KeptTiling::new(alloc, &canonical(tiling))?,
+    })
 }
-
-// The size of a tiling.
-fn tiling_size(tiling: &Tiling) -> (u64, u64)
-    ensures { result ≡ (tiling.now.width, tiling.now.height) }
-{
-    (tiling.width(), tiling.height())
-}
-
-// Memory is wanting.
-#[derive(Clone, Copy, Drop)]
-struct NoRoom;
 
 // Puts a place into the group of a size, or into a new one at the end.
 fn put_in_group(
@@ -174,7 +167,7 @@ fn put_in_group(
     groups: &mut Vec<Vec<u32>>,
     size: (u64, u64),
     place: u32,
-) -> Result<(), NoRoom>
+) -> Result<(), AllocError>
     requires { length groups.old.items ≡ length sizes.old.keys }
     ensures sizes { OnOk result (sizes.new.keys ≡ with_size sizes.old.keys size) }
     ensures groups { OnOk result (map (λ group. group.items) groups.new.items
@@ -187,10 +180,10 @@ fn put_in_group(
         None => {
             let mut group = Vec::new(alloc);
             if group.push(place).is_err() || groups.reserve(1).is_err() {
-                return Err(NoRoom);
+                return Err(AllocError);
             }
             if sizes.insert(size).is_err() {
-                return Err(NoRoom);
+                return Err(AllocError);
             }
             let _fits = groups.push(group);
             Ok(())
@@ -199,13 +192,13 @@ fn put_in_group(
 }
 
 // Puts a place into a group.
-fn put_in(groups: &mut Vec<Vec<u32>>, g: usize, place: u32) -> Result<(), NoRoom>
+fn put_in(groups: &mut Vec<Vec<u32>>, g: usize, place: u32) -> Result<(), AllocError>
     requires { g < length groups.old.items }
     ensures put { OnOk result (map (λ group. group.items) groups.new.items ≡ with_place (map (λ group. group.items) groups.old.items) g place) }
     ensures same { OnErr result (map (λ group. group.items) groups.new.items ≡ map (λ group. group.items) groups.old.items) }
 {
     match groups[g].push(place) {
         Ok(()) => Ok(()),
-        Err(_) => Err(NoRoom),
+        Err(_) => Err(AllocError),
     }
 }

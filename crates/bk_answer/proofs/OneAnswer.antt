@@ -34,7 +34,7 @@ use Rattle.bk_answer.specs.CodeAnswer.{AnswersCodeLine, IsRefusedBy, answers, an
 use Rattle.bk_answer.specs.Telling.{Allows, IsAnswerTo}
 
 -- an item has one tiling, and one cause why it has none
-one_tiling : (item : Line) (t u : Tiling) → IsLaidBy item t → IsLaidBy item u → t ≡ u
+pub one_tiling : (item : Line) (t u : Tiling) → IsLaidBy item t → IsLaidBy item u → t ≡ u
 one_tiling Skip t u p q = absurd p
 one_tiling (Item order size code) t u p q =
     let same : code_of t ≡ code_of u = p.code_is ∙ sym q.code_is in
@@ -101,7 +101,7 @@ one_item_cause item r s (by_size t p l n e) (by_size u o k m d) = e ∙ ap (λ (
 one_place : (bytes : List ℕ) (a b : ℕ) → IsNoLine bytes a → IsNoLine bytes b → a ≡ b
 one_place bytes a b p q = omega (arith, p.1.longest b q.1.inside q.1.begins, q.1.longest a p.1.inside p.1.begins)
 
-one_line_cause : (bytes : List ℕ) (r s : Refused) → Cause bytes r → Cause bytes s → r ≡ s
+pub one_line_cause : (bytes : List ℕ) (r s : Refused) → Cause bytes r → Cause bytes s → r ≡ s
 one_line_cause bytes r s (at_long h e) (at_long k d) = e ∙ sym d
 one_line_cause bytes r s (at_long h e) (at_text at k n d) = absurd (omega arith)
 one_line_cause bytes r s (at_long h e) (at_many item k l m d) = absurd (omega arith)

@@ -1,5 +1,5 @@
 -- Steps of answering: from what is told of a tiling to the answer to its line.
-use Rattle.std.proofs.Common.{Bool, Err, List, Ok, Option, Result, [], false, length, refl, subst, sym, true, ℕ, ◌+◌, ◌<◌, ◌∷◌, ◌≡◌}
+use Rattle.std.proofs.Common.{Bool, Err, List, Ok, Option, Result, [], false, subst, sym, true, ℕ, ◌+◌, ◌∷◌, ◌≡◌}
 use Rattle.std.specs.Prelude.{IfOk, OnErr}
 use Rattle.std.specs.Io.KnownBytes.{Appends}
 use Rattle.bk_ports.specs.Causes.{AppendsPrefix}
@@ -11,17 +11,13 @@ use Rattle.bk_lines.specs.declared.Outcome.TheVariants as outcomes
 use Rattle.bk_tiling.specs.Tiling.{Tiling}
 use Rattle.bk_report.specs.Refusals.{refusal_line}
 use Rattle.bk_report.specs.declared.refusal.Refused.{Refused}
-use Rattle.bk_report.specs.declared.refusal.Refused.TheVariants.{Large, Long, Text}
+use Rattle.bk_report.specs.declared.refusal.Refused.TheVariants.{Large, Text}
 use Rattle.bk_answer.specs.declared.command.Command.{Command}
-use Rattle.bk_answer.specs.declared.command.Command.TheVariants.{Flow, OfCodes, Solve}
-use Rattle.bk_answer.specs.WordAnswer.{word_too_long}
-use Rattle.bk_answer.specs.NetAnswer.{net_too_long}
 use Rattle.bk_answer.specs.Answer.{AnswersLine, MayWant}
-use Rattle.bk_answer.specs.CodeAnswer.{AnswersCodeLine, AnswersTiling, answers, any_command, refuses, too_large}
+use Rattle.bk_answer.specs.CodeAnswer.{AnswersCodeLine, AnswersTiling, answers, refuses, too_large}
 use Rattle.bk_answer.specs.Replies.{Replies}
 use Rattle.bk_answer.specs.Telling.{Allows, Tells, tells}
 use Rattle.bk_answer.specs.Item.{HasTiling}
-use Rattle.bk_answer.specs.Refusing.{too_long}
 use Rattle.bk_answer.specs.declared.command.CodeCommand.{CodeCommand}
 
 -- an answer of one kind is one of another
@@ -68,12 +64,6 @@ pub line_answer : (command : CodeCommand) (bytes : List ℕ) (t : Tiling) (piece
 line_answer command bytes t pieces true has (not, is) = subst (λ l. AnswersCodeLine command bytes l true) (sym is) (refuses Large (too_large t has not))
 line_answer command bytes t pieces false has (allowed, told) = answers t pieces has allowed told
 
--- a line that is too long is refused for that, whatever is asked of it
-long_line : (command : Command) (bytes : List ℕ) → 8192 < length bytes → AnswersLine command bytes (refusal_line Long ∷ []) true
-long_line (OfCodes command) bytes long = refuses Long (any_command Long (too_long long))
-long_line Flow bytes long = net_too_long long
-long_line Solve bytes long = word_too_long long
-
 -- what a reply says in the two cases of its result
 reply_outcome : (A : List (List ℕ) → Bool → Type 0) (V : Type 0) (a b : Option (List ℕ)) (r : Result Outcome Failed) → Replies A V a b r
     → IfOk r (HasOutcome A V a b)
@@ -95,11 +85,3 @@ reply_says d e line a b r is reply =
       reply_outcome (AnswersLine d line) (MayWant d line) a b r here,
       reply_begun (AnswersLine d line) (MayWant d line) a b r here,
     )
-
--- and where the line is too long
-pub long_says : (d : Command) (line : List ℕ) (a b : Option (List ℕ)) (r : Result Outcome Failed) → 8192 < length line
-    → IfOk r (λ o. (o ≡ outcomes.Refused) × Appends a b (refusal_line Long)) → OnErr r (AppendsPrefix a b (refusal_line Long))
-    → IfOk r (HasOutcome (AnswersLine d line) (MayWant d line) a b) × OnErr r (IsBegun (AnswersLine d line) a b)
-long_says d line a b r long ok err =
-    reply_says d d line a b r refl
-    (refusal_replies (AnswersLine d line) (MayWant d line) Long a b r (long_line d line long) ok err)

@@ -7,6 +7,8 @@ use Rattle.bk_answer.specs.CodeAnswer.{no_item}
 use Rattle.bk_answer.specs.NetAnswer.{no_net_item}
 use Rattle.bk_answer.specs.WordAnswer.{no_word_item}
 use Rattle.bk_answer.specs.Item.{HasItem}
+use Rattle.bk_answer.specs.Plain.{PlainAnswers, code_command}
+use Rattle.bk_answer.specs.declared.plain.PlainCommand.{PlainCommand}
 use Rattle.bk_answer.specs.declared.command.Command.{Command}
 use Rattle.bk_answer.specs.declared.command.Command.TheVariants.{Flow, OfCodes, Solve}
 
@@ -17,3 +19,6 @@ pub no_answer_to_empty : (command : Command) → AnswersLine command [] [] false
 no_answer_to_empty (OfCodes command) = no_item empty_has_none
 no_answer_to_empty Flow = no_net_item (record { short = lit≤ tt; meaning = ([], [], refl, tt, inl refl) })
 no_answer_to_empty Solve = no_word_item (lit≤ tt) ([], [], refl, tt, inl refl)
+
+pub no_plain_answer_to_empty : (command : PlainCommand) → PlainAnswers command [] [] false
+no_plain_answer_to_empty command = no_answer_to_empty (OfCodes (code_command command))

@@ -1,11 +1,13 @@
 -- What the item of a line states, and the tilings that it speaks of.
 -- Example (CodeAnswerExamples): the lines `[2,1][1]` and `3 3 2 2 1 1` speak of the rectangle 3x2 of the squares 2, 1, 1; the item of
 -- `2x3 [2,1][1]` doesn't.
-use Rattle.std.specs.Prelude.{Bool, IfSome, List, None, Option, Some, false, length, true, ℕ, ◌≡◌, ◌≤◌}
+use Rattle.std.specs.Prelude.{IfSome, List, None, Option, Some, length, ℕ, ◌≡◌, ◌≤◌}
 use Rattle.bk_tiling.specs.Tiling.{Tiling, order}
 use Rattle.bk_profile.specs.Refused.{HasCode, HasFlat}
 use Rattle.bk_text.specs.CodeLine.{Flat, IsLine, Item, Line, Skip}
 use Rattle.bk_text.specs.ReadLine.{sides_of_line}
+use Rattle.bk_answer.specs.declared.items.Laid.{Laid}
+use Rattle.bk_answer.specs.declared.items.Laid.TheVariants.{Nothing, OnDesk}
 
 -- the number of sides
 abbrev pub side_count : Line → ℕ
@@ -61,7 +63,7 @@ abbrev pub IsLaidLine : List ℕ → Option Tiling → Type 0
 IsLaidLine bytes None = HasItem bytes Skip
 IsLaidLine bytes (Some t) = HasTiling bytes t
 
--- the tiling, where there is one
-abbrev pub laid_if : Bool → Tiling → Option Tiling
-laid_if false t = None
-laid_if true t = Some t
+-- the tiling on the desk, where one is laid
+abbrev pub laid_if : Laid → Tiling → Option Tiling
+laid_if Nothing t = None
+laid_if OnDesk t = Some t

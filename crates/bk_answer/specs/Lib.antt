@@ -6,6 +6,7 @@ pub mod CodeAnswer
 pub mod NetAnswer
 pub mod WordAnswer
 pub mod Answer
+pub mod Plain
 pub mod Checked
 pub mod AnswerLaws
 -- How its code keeps it.

@@ -3,21 +3,18 @@
 ghost use Rattle.std.specs.Prelude.{IfOk, OnErr, ◌≡◌};
 ghost use Rattle.bk_ports.specs.Causes.{AppendsPrefix, HasCause};
 ghost use Rattle.std.specs.Io.KnownBytes.{Appends};
-ghost use Rattle.bk_tiling.specs.Tiling.{IsTiling};
 ghost use Rattle.bk_report.specs.Refusals.{refusal_line};
-ghost use Rattle.bk_answer.specs.Replies.{Replies};
-ghost use Rattle.bk_answer.specs.CodeAnswer.{AnswersCodeLine, AnswersTiling, MayWantForCode};
-ghost use Rattle.bk_answer.specs.Telling.{WantsMemory};
+ghost use Rattle.bk_answer.specs.Replies.{accepted_if};
 
-use crate::command::{CodeCommand, Command};
+use crate::by_word::answer_by_word;
+use crate::command::Command;
 use crate::flow::answer_net_line;
-use crate::items::{Desk, lay_at};
+use crate::items::Desk;
 use crate::solve::answer_word_line;
 use bk_grammar::AnswerBuffer;
-use bk_lines::{Answerer, LONGEST_LINE, Outcome};
+use bk_lines::{Answerer, Outcome};
 use bk_ports::{Failed, Sink};
 use bk_report::{Refused, write_refused};
-use bk_tiling::Tiling;
 use std::alloc::Global;
 
 /// A command that answers lines, and where it takes memory from.
@@ -49,63 +46,19 @@ impl Answerer for LineAnswerer {
         buffer: &mut AnswerBuffer,
         out: &mut O,
     ) -> Result<Outcome, Failed> {
-        if line.len() > LONGEST_LINE {
-            return refuse(Refused::Long, buffer, out);
-        }
         match self.command {
-            Command::OfCodes(command) => command.answer_line(self.alloc, line, desk, buffer, out),
+            Command::OfCodes(command) => match command.plain() {
+                Some(plain) => plain.answer_line(line, desk, buffer, out),
+                None => answer_by_word(self.alloc, line, desk, buffer, out),
+            },
             Command::Flow => answer_net_line(self.alloc, line, buffer, out),
-            Command::Solve => answer_word_line(self.alloc, line, buffer, out),
+            Command::Solve => answer_word_line(self.alloc, line, desk, buffer, out),
         }
     }
 
     ghost use Rattle.bk_answer.specs.EmptyLine.{no_answer_to_empty};
 
     ghost empty_line = { λ a. no_answer_to_empty a.command };
-}
-
-impl CodeCommand {
-    // Answers a line of a code.
-    fn answer_line<O: Sink>(
-        self,
-        alloc: Global,
-        line: &[u8],
-        desk: &mut Desk,
-        buffer: &mut AnswerBuffer,
-        out: &mut O,
-    ) -> Result<Outcome, Failed>
-        ensures reply { Replies (AnswersCodeLine self line.now) (MayWantForCode self line.now) (O.written out.old) (O.written out.new) result }
-        ensures cause { HasCause (O.faults out.old) (O.faults out.new) result }
-    {
-        match lay_at(line, desk) {
-            Ok(some) => {
-                if some {
-                    self.answer_tiling(alloc, &desk.tiling, buffer, out)
-                } else {
-                    Ok(Outcome::Accepted)
-                }
-            }
-            Err(refused) => refuse(refused, buffer, out),
-        }
-    }
-
-    // Answers the tiling of a line.
-    fn answer_tiling<O: Sink>(
-        self,
-        alloc: Global,
-        tiling: &Tiling,
-        buffer: &mut AnswerBuffer,
-        out: &mut O,
-    ) -> Result<Outcome, Failed>
-        requires { IsTiling tiling.now }
-        ensures reply { Replies (AnswersTiling self tiling.now) (WantsMemory self tiling.now) (O.written out.old) (O.written out.new) result }
-        ensures cause { HasCause (O.faults out.old) (O.faults out.new) result }
-    {
-        if !self.allows(tiling) {
-            return refuse(Refused::Large, buffer, out);
-        }
-        self.tell(alloc, tiling, buffer, out)
-    }
 }
 
 // Answers by the line of a refusal.
@@ -122,4 +75,12 @@ pub(crate) fn refuse<O: Sink>(
     write_refused(&refused, buffer);
     out.write_all(buffer.as_slice())?;
     Ok(Outcome::Refused)
+}
+
+// What a call that writes an answer comes to.
+pub(crate) fn accepted(written: Result<(), Failed>) -> Result<Outcome, Failed>
+    ensures { result ≡ accepted_if written }
+{
+    written?;
+    Ok(Outcome::Accepted)
 }

@@ -1,24 +1,9 @@
-//! The commands that answer lines, and what is told of a tiling.
+//! The commands that answer lines.
 
-ghost use Rattle.std.specs.Prelude.{IsTrue, ◌<◌, ◌↔◌, ◌≡◌};
-ghost use Rattle.bk_ports.specs.Causes.{HasCause};
-ghost use Rattle.bk_tiling.specs.Tiling.{IsTiling, Tiling as Seen, order};
-ghost use Rattle.bk_sym.specs.Canonical.{IsCanonicalOf};
-ghost use Rattle.bk_report.specs.Answers.{tiling_line};
-ghost use Rattle.bk_answer.specs.Replies.{Replies, accepted_if};
-ghost use Rattle.bk_answer.specs.Telling.{Tells};
+ghost use Rattle.std.specs.Prelude.{IfNone, IfSome, ◌≡◌};
+ghost use Rattle.bk_answer.specs.Plain.{TakesMemory, code_command};
 
-use crate::images_and_drawing::{write_drawing, write_images};
-use bk_draw::LARGEST_DRAWN;
-use bk_grammar::AnswerBuffer;
-use bk_lay::word_of;
-use bk_lines::Outcome;
-use bk_ports::{Failed, Sink};
-use bk_report::{write_check, write_dual, write_net, write_tiling, write_word_line};
-use bk_sym::canonical;
-use bk_tiling::Tiling;
-use bk_word::NoMemory;
-use std::alloc::Global;
+use crate::plain::PlainCommand;
 
 /// A command that reads lines of codes: what it tells of the tiling of a code.
 #[derive(Clone, Copy, Debug, PartialEq, Eq)]
@@ -51,92 +36,32 @@ pub enum Command {
 }
 
 impl CodeCommand {
-    ghost use Rattle.bk_answer.specs.Telling.{Allows, Tells, WantsMemory};
-
-    // Whether the command answers this tiling.
-    pub(crate) fn allows(self, tiling: &Tiling) -> bool
-        ensures { IsTrue result ↔ Allows self tiling.now }
+    /// The same command as one that takes no memory; `None` is for `Word` alone.
+    pub fn plain(self) -> Option<PlainCommand>
+        ensures some { IfSome result (λ plain. code_command plain ≡ self) }
+        ensures none { IfNone result (self ≡ CodeCommand.Word) }
     {
         match self {
-            CodeCommand::Draw => tiling.width() <= LARGEST_DRAWN
-                && tiling.height() <= LARGEST_DRAWN,
-            CodeCommand::Check
-            | CodeCommand::Canon
-            | CodeCommand::Images
-            | CodeCommand::Net
-            | CodeCommand::Dual
-            | CodeCommand::Word => true,
+            CodeCommand::Check => Some(PlainCommand::Check),
+            CodeCommand::Canon => Some(PlainCommand::Canon),
+            CodeCommand::Images => Some(PlainCommand::Images),
+            CodeCommand::Net => Some(PlainCommand::Net),
+            CodeCommand::Dual => Some(PlainCommand::Dual),
+            CodeCommand::Draw => Some(PlainCommand::Draw),
+            CodeCommand::Word => None,
         }
     }
+}
 
-    // Writes what is told of a tiling.
-    pub(crate) fn tell<O: Sink>(
-        self,
-        alloc: Global,
-        tiling: &Tiling,
-        buffer: &mut AnswerBuffer,
-        out: &mut O,
-    ) -> Result<Outcome, Failed>
-        requires tiling { IsTiling tiling.now }
-        requires allowed { Allows self tiling.now }
-        ensures reply { Replies (Tells self tiling.now) (WantsMemory self tiling.now) (O.written out.old) (O.written out.new) result }
-        ensures cause { HasCause (O.faults out.old) (O.faults out.new) result }
+impl Command {
+    /// The same command as one that takes no memory; `None` is for those that take some past 16 squares or wires.
+    pub fn plain(self) -> Option<PlainCommand>
+        ensures some { IfSome result (λ plain. Command.OfCodes (code_command plain) ≡ self) }
+        ensures none { IfNone result (TakesMemory self) }
     {
         match self {
-            CodeCommand::Check => {
-                write_check(tiling, buffer);
-                accepted(out.write_all(buffer.as_slice()))
-            }
-            CodeCommand::Canon => {
-                write_canonical(tiling, buffer);
-                accepted(out.write_all(buffer.as_slice()))
-            }
-            CodeCommand::Images => accepted(write_images(tiling, buffer, out)),
-            CodeCommand::Net => {
-                write_net(tiling, buffer);
-                accepted(out.write_all(buffer.as_slice()))
-            }
-            CodeCommand::Dual => {
-                write_dual(tiling, buffer);
-                accepted(out.write_all(buffer.as_slice()))
-            }
-            CodeCommand::Word => tell_word(alloc, tiling, buffer, out),
-            CodeCommand::Draw => accepted(write_drawing(tiling, out)),
+            Command::OfCodes(command) => command.plain(),
+            Command::Flow | Command::Solve => None,
         }
     }
-}
-
-// Clears the buffer and leaves the line of the canonical tiling.
-fn write_canonical(tiling: &Tiling, buffer: &mut AnswerBuffer)
-    ensures { (c : Seen) × IsCanonicalOf tiling.now c × (buffer.new.items ≡ tiling_line c) }
-{
-    write_tiling(&canonical(tiling), buffer);
-}
-
-// Writes the word of a tiling, or says that memory is wanting.
-fn tell_word<O: Sink>(
-    alloc: Global,
-    tiling: &Tiling,
-    buffer: &mut AnswerBuffer,
-    out: &mut O,
-) -> Result<Outcome, Failed>
-    requires { IsTiling tiling.now }
-    ensures reply { Replies (Tells CodeCommand.Word tiling.now) (16 < order tiling.now) (O.written out.old) (O.written out.new) result }
-    ensures cause { HasCause (O.faults out.old) (O.faults out.new) result }
-{
-    match word_of(alloc, tiling) {
-        Ok(word) => {
-            write_word_line(&word, buffer);
-            accepted(out.write_all(buffer.as_slice()))
-        }
-        Err(NoMemory) => Ok(Outcome::NoMemory),
-    }
-}
-
-// What a call that writes an answer comes to.
-pub(crate) fn accepted(written: Result<(), Failed>) -> Result<Outcome, Failed>
-    ensures { result ≡ accepted_if written }
-{
-    written?;
-    Ok(Outcome::Accepted)
 }

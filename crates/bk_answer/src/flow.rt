@@ -1,31 +1,32 @@
 //! The answer to a network line.
 
-ghost use Rattle.std.specs.Prelude.{length, ◌≡◌, ◌≤◌};
+ghost use Rattle.std.specs.Prelude.{◌≡◌};
 ghost use Rattle.bk_ports.specs.Causes.{HasCause};
 ghost use Rattle.bk_answer.specs.NetAnswer.{AnswersNet, AnswersNetLine, MayWantForNet, NetWants, refused_net};
 ghost use Rattle.bk_answer.specs.Replies.{Replies};
 
-use crate::answer::refuse;
-use crate::command::accepted;
+use crate::answer::{accepted, refuse};
 use bk_flow::{FlowFault, solve};
 use bk_grammar::AnswerBuffer;
-use bk_lines::Outcome;
+use bk_lines::{LONGEST_LINE, Outcome};
 use bk_net::{Net, NetFault, NetLine, read_net};
 use bk_ports::{Failed, Sink};
 use bk_report::{Refused, write_flow};
 use std::alloc::Global;
 
-// Answers a network line that isn't too long.
+// Answers a network line.
 pub(crate) fn answer_net_line<O: Sink>(
     alloc: Global,
     line: &[u8],
     buffer: &mut AnswerBuffer,
     out: &mut O,
 ) -> Result<Outcome, Failed>
-    requires { length line.now ≤ 8192 }
     ensures reply { Replies (AnswersNetLine line.now) (MayWantForNet line.now) (O.written out.old) (O.written out.new) result }
     ensures cause { HasCause (O.faults out.old) (O.faults out.new) result }
 {
+    if line.len() > LONGEST_LINE {
+        return refuse(Refused::Long, buffer, out);
+    }
     match read_net(line) {
         Ok(NetLine::Skip) => Ok(Outcome::Accepted),
         Ok(NetLine::Item { net }) => answer_net(alloc, &net, buffer, out),

@@ -1,6 +1,6 @@
 //! The tiling that a line of codes speaks of.
 
-ghost use Rattle.std.specs.Prelude.{IfErr, IfOk, IfSome, IsTrue, length, true, ◌<◌, ◌↔◌, ◌≡◌, ◌≤◌};
+ghost use Rattle.std.specs.Prelude.{IfErr, IfOk, IfSome, IsTrue, length, ◌<◌, ◌↔◌, ◌≡◌, ◌≤◌};
 ghost use Rattle.bk_text.specs.CodeLine.{Flat, Item};
 ghost use Rattle.bk_code.specs.Code.{flat};
 ghost use Rattle.bk_text.specs.Gathered.{line_gathered};
@@ -12,6 +12,7 @@ use bk_code::{Code, flat};
 use bk_lines::LONGEST_LINE;
 use bk_profile::{Profile, Refusal, lay_code_in, lay_flat_in};
 use bk_report::Refused;
+use bk_skel::Room;
 use bk_text::{Ending, Gatherer, TextFault, read_into};
 use bk_tiling::Tiling;
 
@@ -21,6 +22,7 @@ pub struct Desk {
     gatherer: Gatherer,
     profile: Profile,
     pub(crate) tiling: Tiling,
+    pub(crate) room: Room,
 }
 
 impl Desk {
@@ -30,8 +32,18 @@ impl Desk {
             gatherer: Gatherer::new(),
             profile: Profile::new(1),
             tiling: Tiling::unit(),
+            room: Room::new(),
         }
     }
+}
+
+// What is laid at a desk for a line that isn't refused.
+#[derive(Clone, Copy, Debug, PartialEq, Eq)]
+pub(crate) enum Laid {
+    // The line has no item.
+    Nothing,
+    // The tiling that its item speaks of lies on the desk.
+    OnDesk,
 }
 
 /// The tiling that a line of codes speaks of, by Bouwkamp's notation (1946-47) or as a row of a table, or `None` where it has
@@ -42,18 +54,22 @@ pub fn lay_line(line: &[u8]) -> Result<Option<Tiling>, Refused>
     ensures refused { IfErr result (IsLineRefused line.now) }
 {
     let mut desk = Desk::new();
-    let some = lay_at(line, &mut desk)?;
+    let laid = lay_at(line, &mut desk)?;
     let Desk {
         gatherer: _,
         profile: _,
         tiling,
+        room: _,
     } = desk;
-    Ok(if some { Some(tiling) } else { None })
+    match laid {
+        Laid::OnDesk => Ok(Some(tiling)),
+        Laid::Nothing => Ok(None),
+    }
 }
 
-// Does what `lay_line` does at a desk: it says whether the line has an item, and leaves its tiling there.
-pub(crate) fn lay_at(line: &[u8], desk: &mut Desk) -> Result<bool, Refused>
-    ensures laid { IfOk result (λ some. IsLaidLine line.now (laid_if some desk.new.tiling)) }
+// Does what `lay_line` does at a desk, and leaves the tiling there.
+pub(crate) fn lay_at(line: &[u8], desk: &mut Desk) -> Result<Laid, Refused>
+    ensures laid { IfOk result (λ laid. IsLaidLine line.now (laid_if laid desk.new.tiling)) }
     ensures refused { IfErr result (IsLineRefused line.now) }
 {
     if line.len() > LONGEST_LINE {
@@ -66,14 +82,14 @@ pub(crate) fn lay_at(line: &[u8], desk: &mut Desk) -> Result<bool, Refused>
 }
 
 // Lays the item that was gathered at a desk.
-fn lay_item(ending: Ending, desk: &mut Desk) -> Result<bool, Refused>
+fn lay_item(ending: Ending, desk: &mut Desk) -> Result<Laid, Refused>
     requires { IsInRange (line_gathered ending desk.old.gatherer) }
-    ensures laid { IfOk result (λ some. IsLaidItem (line_gathered ending desk.old.gatherer) (laid_if some desk.new.tiling)) }
+    ensures laid { IfOk result (λ laid. IsLaidItem (line_gathered ending desk.old.gatherer) (laid_if laid desk.new.tiling)) }
     ensures refused { IfErr result (IsItemRefused (line_gathered ending desk.old.gatherer)) }
     ensures few { side_count (line_gathered ending desk.old.gatherer) ≤ 200 }
 {
     match ending {
-        Ending::Empty => Ok(false),
+        Ending::Empty => Ok(Laid::Nothing),
         Ending::Coded(header) => lay_groups(
             header.order,
             header.size,
@@ -98,9 +114,9 @@ fn lay_groups(
     code: &Code,
     profile: &mut Profile,
     tiling: &mut Tiling,
-) -> Result<bool, Refused>
+) -> Result<Laid, Refused>
     requires { 0 < length code.now }
-    ensures laid { IfOk result (λ some. IsLaidItem (Item order size code.now) (laid_if some tiling.new)) }
+    ensures laid { IfOk result (λ laid. IsLaidItem (Item order size code.now) (laid_if laid tiling.new)) }
     ensures refused { IfErr result (IsItemRefused (Item order size code.now)) }
     ensures few { length (flat code.now) ≤ 200 }
 {
@@ -121,9 +137,9 @@ fn lay_row(
     sides: &[u64],
     profile: &mut Profile,
     tiling: &mut Tiling,
-) -> Result<bool, Refused>
+) -> Result<Laid, Refused>
     requires { IsInRange (Flat order size.0 size.1 sides.now) }
-    ensures laid { IfOk result (λ some. IsLaidItem (Flat order size.0 size.1 sides.now) (laid_if some tiling.new)) }
+    ensures laid { IfOk result (λ laid. IsLaidItem (Flat order size.0 size.1 sides.now) (laid_if laid tiling.new)) }
     ensures refused { IfErr result (IsItemRefused (Flat order size.0 size.1 sides.now)) }
 {
     if !allows_order(Some(order), sides.len()) {
@@ -136,14 +152,14 @@ fn lay_row(
 }
 
 // That there is a tiling, where no other size is stated.
-fn of_size(size: Option<(u64, u64)>, tiling: &Tiling) -> Result<bool, Refused>
-    ensures laid { IfOk result (λ some. (some ≡ true) × IsSize size tiling.now.width tiling.now.height) }
+fn of_size(size: Option<(u64, u64)>, tiling: &Tiling) -> Result<Laid, Refused>
+    ensures laid { IfOk result (λ laid. (laid ≡ Laid.OnDesk) × IsSize size tiling.now.width tiling.now.height) }
     ensures refused { IfErr result (λ r. (r ≡ Refused.Size tiling.now.width tiling.now.height)
         × (IsSize size tiling.now.width tiling.now.height → ⊥)) }
 {
     let (width, height) = (tiling.width(), tiling.height());
     if allows_size(size, width, height) {
-        Ok(true)
+        Ok(Laid::OnDesk)
     } else {
         Err(Refused::Size { width, height })
     }

@@ -4,16 +4,19 @@
 ghost use Rattle.bk_answer.specs.AnswerLaws.{AFrontHasTheAnswer, ALineHasOneAnswer, CheckAcceptsTilings};
 
 mod answer;
+mod by_word;
 mod command;
 mod flow;
 mod images_and_drawing;
 mod items;
+mod plain;
 mod solve;
 
 pub use answer::LineAnswerer;
 pub use bk_lines::LONGEST_LINE;
 pub use command::{CodeCommand, Command};
 pub use items::{Desk, lay_line};
+pub use plain::{PlainAnswerer, PlainCommand};
 
 /// A line has at most one answer.
 pub fn a_line_has_one_answer()

@@ -1,39 +1,42 @@
 //! The answer to a word line.
 
-ghost use Rattle.std.specs.Prelude.{length, ◌<◌, ◌≤◌};
+ghost use Rattle.std.specs.Prelude.{length, ◌<◌};
 ghost use Rattle.bk_ports.specs.Causes.{HasCause};
 ghost use Rattle.bk_word.specs.Word.{order_of};
 ghost use Rattle.bk_answer.specs.Replies.{Replies};
 ghost use Rattle.bk_answer.specs.WordAnswer.{AnswersWord, AnswersWordLine, MayWantForWord};
 
-use crate::answer::refuse;
-use crate::command::accepted;
+use crate::answer::{accepted, refuse};
+use crate::items::Desk;
 use bk_grammar::AnswerBuffer;
-use bk_lines::Outcome;
+use bk_lines::{LONGEST_LINE, Outcome};
 use bk_ports::{Failed, Sink};
 use bk_report::{Refused, write_tiling};
-use bk_skel::{SolveFault, realise};
+use bk_skel::{Realised, SolveFault, realise_in};
 use bk_word::{Word, WordFault, read_word, word_item};
 use std::alloc::Global;
 
-// Answers a word line that isn't too long.
+// Answers a word line.
 pub(crate) fn answer_word_line<O: Sink>(
     alloc: Global,
     line: &[u8],
+    desk: &mut Desk,
     buffer: &mut AnswerBuffer,
     out: &mut O,
 ) -> Result<Outcome, Failed>
-    requires { length line.now ≤ 8192 }
     ensures reply { Replies (AnswersWordLine line.now) (MayWantForWord line.now) (O.written out.old) (O.written out.new) result }
     ensures cause { HasCause (O.faults out.old) (O.faults out.new) result }
 {
+    if line.len() > LONGEST_LINE {
+        return refuse(Refused::Long, buffer, out);
+    }
     let Some((start, end)) = word_item(line) else {
         return Ok(Outcome::Accepted);
     };
     match read_word(alloc, &line[start..end]) {
         Ok(word) => {
             let _few = word.order();
-            answer_word(alloc, &word, buffer, out)
+            answer_word(alloc, &word, desk, buffer, out)
         }
         Err(WordFault::Text { at }) => refuse(Refused::Text { at: start + at }, buffer, out),
         Err(WordFault::Many) => refuse(Refused::Many, buffer, out),
@@ -45,6 +48,7 @@ pub(crate) fn answer_word_line<O: Sink>(
 fn answer_word<O: Sink>(
     alloc: Global,
     word: &Word,
+    desk: &mut Desk,
     buffer: &mut AnswerBuffer,
     out: &mut O,
 ) -> Result<Outcome, Failed>
@@ -52,12 +56,12 @@ fn answer_word<O: Sink>(
     ensures reply { Replies (AnswersWord word.now) (16 < order_of word.now) (O.written out.old) (O.written out.new) result }
     ensures cause { HasCause (O.faults out.old) (O.faults out.new) result }
 {
-    match realise(alloc, word) {
-        Ok(Some(tiling)) => {
-            write_tiling(&tiling, buffer);
+    match realise_in(alloc, word, &mut desk.room, &mut desk.tiling) {
+        Ok(Realised::Found) => {
+            write_tiling(&desk.tiling, buffer);
             accepted(out.write_all(buffer.as_slice()))
         }
-        Ok(None) => refuse(Refused::Nothing, buffer, out),
+        Ok(Realised::Nothing) => refuse(Refused::Nothing, buffer, out),
         Err(SolveFault::Illegal { place }) => refuse(Refused::Illegal { place }, buffer, out),
         Err(SolveFault::OpenEnd) => refuse(Refused::Unfinished, buffer, out),
         Err(SolveFault::Wide) => refuse(Refused::Wide, buffer, out),

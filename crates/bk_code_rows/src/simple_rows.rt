@@ -91,3 +91,50 @@ fn repeated_sides_and_parts(rt: HostRuntime) {
     assert_simple(&rt, four_squares(), Some(1), Some((0, 0, 2, 1)));
     assert_simple(&rt, three_squares(), Some(1), Some((2, 0, 1, 2)));
 }
+
+// A square of side 32, and the 33 by 32 rectangle of nine squares beside it.
+fn nine_beside_one() -> Rectangle {
+    (
+        65,
+        32,
+        &[
+            (0, 0, 32),
+            (32, 0, 18),
+            (50, 0, 15),
+            (50, 15, 7),
+            (57, 15, 8),
+            (32, 18, 14),
+            (46, 18, 4),
+            (46, 22, 10),
+            (56, 22, 1),
+            (56, 23, 9),
+        ],
+    )
+}
+
+// A square of side 33, and the 33 by 32 rectangle of nine squares below it.
+fn nine_below_one() -> Rectangle {
+    (
+        33,
+        65,
+        &[
+            (0, 0, 33),
+            (0, 33, 18),
+            (18, 33, 15),
+            (18, 48, 7),
+            (25, 48, 8),
+            (0, 51, 14),
+            (14, 51, 4),
+            (14, 55, 10),
+            (24, 55, 1),
+            (24, 56, 9),
+        ],
+    )
+}
+
+// The first square begins no part, though its row or its column goes on.
+#[test]
+fn parts_beside_and_below(rt: HostRuntime) {
+    assert_simple(&rt, nine_beside_one(), None, Some((32, 0, 33, 32)));
+    assert_simple(&rt, nine_below_one(), None, Some((0, 33, 33, 32)));
+}

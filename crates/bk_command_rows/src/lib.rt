@@ -2,6 +2,8 @@
 #![tactic(auto)]
 
 #[cfg(test)]
+mod call_rows;
+#[cfg(test)]
 mod command_runs;
 #[cfg(test)]
 mod command_words;

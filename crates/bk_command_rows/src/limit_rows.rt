@@ -4,104 +4,7 @@ use crate::command_runs::*;
 use arrayvec::ArrayVec;
 use bk_ports::MemSource;
 use std::alloc::{AllocError, Global};
-use std::process::Abort;
 use std::test::Fail;
-
-// What a command writes over an input, where the write of this number fails, and its status.
-fn stopped(
-    alloc: Global,
-    command: &str,
-    input: &[u8],
-    fails: u64,
-) -> Result<(u8, Text), AllocError> {
-    let mut source = MemSource::new(input, 9_000, &[]);
-    ran(alloc, command, &mut source, (fails, 0))
-}
-
-// A command, an input, and the answers.
-type Calls = (&'static str, &'static str, &'static [&'static str]);
-
-fn rows_of_calls() -> &'static [Calls] {
-    &[
-        (
-            "check",
-            "; a comment\n\n[1]\n \n[2\n[1][1]\n\n",
-            &[
-                "ok 1 1x1 perfect simple\n",
-                "no text 2\n",
-                "ok 2 1x2 imperfect 1 simple\n",
-            ],
-        ),
-        ("canon", " \n[2][2]\n", &["2x1 [1,1]\n"]),
-        (
-            "images",
-            ";\n[2,1][1]",
-            &[
-                "3x2 [2,1][1]\n",
-                "3x2 [1,2][1]\n",
-                "3x2 [2,1][1]\n",
-                "3x2 [1,2][1]\n",
-                "2x3 [2][1,1]\n",
-                "2x3 [2][1,1]\n",
-                "2x3 [1,1][2]\n",
-                "2x3 [1,1][2]\n",
-            ],
-        ),
-        ("net", "[1]\n;\n[1", &["2 0-1 ; 1 1\n", "no text 2\n"]),
-        ("dual", ";\n[1]\n", &["2 0-1 ; 1 1 ; 1 ; 0\n"]),
-        ("draw", ";\n[2,1][1]", &["+-++\n", "| ++\n", "+-++\n"]),
-        ("word", "[1]\n;\n[1,1][1,1]\n", &["1\n", "2e.2e\n"]),
-        (
-            "flow",
-            ";\n2 1-0\n\n4 0-1 2-3\n",
-            &["1 -1\n", "no loose 0\n"],
-        ),
-        (
-            "solve",
-            ";\n2e.2e\n\n2u.2ea.1e\n",
-            &["2x2 [1,1][1,1]\n", "none\n"],
-        ),
-    ]
-}
-
-// Whether a command writes this where the write of this number fails, and ends with the status of a failed write.
-fn stops_so(alloc: Global, command: &str, input: &str, fails: u64, text: &[u8]) -> bool {
-    match stopped(alloc, command, input.as_bytes(), fails) {
-        Ok((status, got)) => status == 4 && got.as_slice() == text,
-        Err(AllocError) => false,
-    }
-}
-
-// Whether it writes this where no write fails, and ends with a status of a whole run.
-fn goes_through(alloc: Global, command: &str, input: &str, text: &[u8]) -> bool {
-    match stopped(alloc, command, input.as_bytes(), 999) {
-        Ok((status, got)) => status < 2 && got.as_slice() == text,
-        Err(AllocError) => false,
-    }
-}
-
-// Asserts that a command writes each of its answers by one call.
-fn expect_calls(rt: &impl Abort, alloc: Global, row: &Calls) {
-    let (command, input, answers) = row;
-    let mut stands: Text = ArrayVec::new();
-    for (call, answer) in answers.iter().enumerate() {
-        let stops = stops_so(alloc, command, input, call as u64, stands.as_slice());
-        assert!(rt; stops, "{command} {call}");
-        let _ = stands.try_extend_from_slice(answer.as_bytes());
-    }
-    assert!(rt;
-        goes_through(alloc, command, input, stands.as_slice()),
-        "{command}"
-    );
-}
-
-// Each answer is one call, each image and each row of a drawing too; where there is no answer there is no call.
-#[test]
-fn each_answer_is_one_call(rt: HostRuntime) {
-    for row in rows_of_calls() {
-        expect_calls(&rt, rt.alloc(), row);
-    }
-}
 
 const LONGEST: &str = "[999999999999999]";
 
@@ -153,7 +56,7 @@ const TOWER: Parts = ("", "[1]", 200, "");
 // One of the longest side.
 const LONGEST_TOWER: Parts = ("", "[999999999999999]", 200, "");
 
-static ROWS_OF_TOWERS: [(&'static str, Parts, Parts); 6] = [
+static ROWS_OF_TOWERS: [(&'static str, Parts, Parts); 12] = [
     (
         "check",
         TOWER,
@@ -161,7 +64,13 @@ static ROWS_OF_TOWERS: [(&'static str, Parts, Parts); 6] = [
     ),
     ("canon", TOWER, ("200x1 [1", ",1", 199, "]\n")),
     ("draw", TOWER, ("", "++\n", 201, "")),
+    ("word", ("", "[1]", 33, ""), ("1", ".1", 32, "\n")),
+    ("word", ("", "[1]", 65, ""), ("1", ".1", 64, "\n")),
+    ("word", ("", "[1]", 129, ""), ("1", ".1", 128, "\n")),
     ("word", TOWER, ("1", ".1", 199, "\n")),
+    ("solve", ("1", ".1", 32, ""), ("1x33 ", "[1]", 33, "\n")),
+    ("solve", ("1", ".1", 64, ""), ("1x65 ", "[1]", 65, "\n")),
+    ("solve", ("1", ".1", 128, ""), ("1x129 ", "[1]", 129, "\n")),
     ("solve", ("1", ".1", 199, ""), ("1x200 ", "[1]", 200, "\n")),
     (
         "check",
@@ -180,7 +89,7 @@ fn rows_of_towers() -> &'static [(&'static str, Parts, Parts)] {
 }
 
 #[test]
-fn towers_of_two_hundred_squares(rt: HostRuntime) {
+fn towers_of_up_to_two_hundred_squares(rt: HostRuntime) {
     for (command, input, output) in rows_of_towers() {
         let part = input.1;
         assert!(rt;
@@ -214,6 +123,26 @@ fn dual_of_the_tower(alloc: Global) -> Result<Text, AllocError> {
     Ok(dual)
 }
 
+// The line of a ladder of 92 rungs: each node is joined to the last one and to the next.
+fn ladder(alloc: Global) -> Result<Text, AllocError> {
+    let mut line = built(("94", "", 0, ""));
+    for node in 0..92 {
+        let next = node + 1;
+        let wires = format!(in alloc; " {node}-93 {node}-{next}")?;
+        let _ = line.try_extend_from_slice(wires.as_str().as_bytes());
+    }
+    add(&mut line, (" 92-93", "", 0, ""));
+    Ok(line)
+}
+
+// The total of its currents in lowest terms is the 186th Fibonacci number, which has 128 bits.
+#[test]
+fn a_wide_flow(rt: HostRuntime) -> Result<(), Fail> {
+    let line = ladder(rt.alloc())?;
+    assert!(rt; ends_at_once(rt.alloc(), "flow", &line, (1, b"wide\n")));
+    Ok(())
+}
+
 // Whether these are the images of the tower.
 fn tower_has_images(alloc: Global) -> bool {
     let (tower, images) = (built(TOWER), images_of_the_tower());
@@ -229,7 +158,8 @@ fn tower_has_dual(alloc: Global) -> Result<bool, AllocError> {
 // Whether these are the currents of its Smith diagram, as `net` writes it.
 fn tower_has_currents(alloc: Global) -> Result<bool, AllocError> {
     let tower = built(TOWER);
-    let (status, net) = stopped(alloc, "net", &tower, 999)?;
+    let mut source = MemSource::new(&tower, 9_000, &[]);
+    let (status, net) = ran(alloc, "net", &mut source, NO_WRITE)?;
     let currents = built(("1", " 1", 200, "\n"));
     Ok(status == 0 && ends_at_once(alloc, "flow", &net, (0, &currents)))
 }

@@ -330,8 +330,10 @@ fn rows_of_errors() -> &'static [(&'static str, FailedWrite, u8, &'static str)] 
         ("list --order 9 --class compound", NO_WRITE, 2, USAGE),
         ("trial --seed 0", NO_WRITE, 2, USAGE),
         ("check --", (0, 5), 2, "usage"),
+        ("check --", (1, 0), 2, USAGE),
         ("help", NO_WRITE, 0, HELP),
         ("help", (0, 6), 0, "usage:"),
+        ("help", (1, 0), 0, HELP),
         ("help me", NO_WRITE, 2, USAGE),
     ]
 }
@@ -355,7 +357,7 @@ fn line_tells(alloc: Global, line: &str, write: FailedWrite, want: (u8, &[u8])) 
     }
 }
 
-// A text on errors, of which a failed write keeps a part, and no read.
+// A text on errors, by one call, of which a failed write keeps a part, and no read.
 #[test]
 fn texts_on_errors(rt: HostRuntime) {
     for (line, write, status, text) in rows_of_errors() {

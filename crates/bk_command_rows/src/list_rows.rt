@@ -42,6 +42,7 @@ fn items_are_grouped(rt: HostRuntime) {
     expect_rows(&rt, rt.alloc(), 8, rows_of_groups());
 }
 
+// Of the rectangles 593x422 the sides differ, so two of them with two squares make the perfect square of side 1015.
 fn rows_of_pairs() -> &'static [Row] {
     &[
         (
@@ -76,7 +77,42 @@ fn rows_of_pairs() -> &'static [Row] {
             0,
             "; pairs 0 items 2 refused 0\n",
         ),
+        (
+            "pair",
+            "[247,154,192][116,38][230][175,72][49,67][103,18][85]\n\
+             [247,154,192][116,38][230][175,72][49,67][103,18][85]\n\
+             [222,164,207][80,41,43][39,2][37,215][200,22][178]\n",
+            0,
+            "1 3 1015x1015 [247,154,192,422][116,38][230][175,72][49,67][103,18][85][593,222,200][22,178]\
+             [164,80][41,39][2,37][43][215][207]\n\
+             2 3 1015x1015 [247,154,192,422][116,38][230][175,72][49,67][103,18][85][593,222,200][22,178]\
+             [164,80][41,39][2,37][43][215][207]\n; pairs 2 items 3 refused 0\n",
+        ),
     ]
+}
+
+// Both members of order 9, and one alone.
+fn rows_of_whole_lists() -> &'static [Row] {
+    &[
+        (
+            "verify --order 9",
+            "[18,15][7,8][14,4][10,1][9]\n[36,33][5,28][25,9,2][7][16]\n",
+            0,
+            "; end order 9 members 2 missing 0 foreign 0 repeated 0 refused 0\n",
+        ),
+        (
+            "verify --order 9",
+            "[36,33][5,28][25,9,2][7][16]\n",
+            1,
+            "missing 9 33x32 [18,15][7,8][14,4][10,1][9] ; 2u.2aa.2ue.2eue.1e\n\
+             ; end order 9 members 2 missing 1 foreign 0 repeated 0 refused 0\n",
+        ),
+    ]
+}
+
+#[test]
+fn a_list_is_the_catalogue(rt: HostRuntime) {
+    expect_rows(&rt, rt.alloc(), 8, rows_of_whole_lists());
 }
 
 #[test]

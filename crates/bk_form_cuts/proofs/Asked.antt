@@ -26,7 +26,8 @@ one_sign Under Above x y h k = absurd (omega (arith, ints, h, k))
 one_sign Under Even x y h k = absurd (omega (arith, ints, h, k))
 one_sign Under Under x y h k = refl
 
-sign_read : (signs : List Sign) (i : ℕ) (d : Sign) → i < length signs → slice_get signs i ≡ Some (get_or signs i d)
+-- the sign at a place of a list
+pub sign_read : (signs : List Sign) (i : ℕ) (d : Sign) → i < length signs → slice_get signs i ≡ Some (get_or signs i d)
 sign_read [] i d h = absurd (omega arith)
 sign_read (s ∷ signs) zero d h = refl
 sign_read (s ∷ signs) (suc i) d h = sign_read signs i d (omega arith)

@@ -7,4 +7,6 @@ pub mod Traces
 pub mod TraceMore
 pub mod TraceBack
 pub mod RuledOut
+pub mod MoveAnswers
 pub mod SideFormExamples
+pub mod CutExamples

@@ -27,7 +27,7 @@ use Rattle.bk_form_cuts.specs.SidesOfTilings.{AgreeWith, HoldAfter, IsBottomOf, 
 use Rattle.bk_form_cuts.specs.Trace.{IsRuledOut}
 
 -- the form with these first coefficients
-abbrev form_of : List ℤ → Form
+abbrev pub form_of : List ℤ → Form
 form_of coefficients = coefficients ++ replicate (16 - length coefficients) (pos 0)
 
 abbrev first : Move

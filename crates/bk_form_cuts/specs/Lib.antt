@@ -5,3 +5,4 @@ pub mod RuledOutCut
 -- How its code keeps it.
 pub mod Trace
 pub mod Asking
+pub mod MoveCuts

@@ -1,11 +1,13 @@
 //! What a ledger answers to a move: equations that contradict those before, and comparisons that are known to be others.
 #![tactic(auto)]
 
-ghost use Rattle.std.specs.Prelude.{IsTrue, List, [], false, length, slice_index_or, true, ℕ, ◌+◌, ◌<◌, ◌↔◌, ◌≡◌, ◌≢◌, ◌≤◌};
+ghost use Rattle.std.specs.Prelude.{IsTrue, List, Some, [], false, length, slice_index_or, true, ℕ, ◌+◌, ◌<◌, ◌↔◌, ◌≡◌, ◌≢◌, ◌≤◌};
 ghost use Rattle.bk_word.specs.declared.Sign.{Sign};
 ghost use Rattle.bk_forms.specs.Form.{form_value, with_side};
 ghost use Rattle.bk_forms.specs.FormLaws.{Compares, MeetsEquations};
+ghost use Rattle.bk_forms.specs.Reduction.{addition, comparison, contradiction, kept_after};
 ghost use Rattle.bk_form_cuts.specs.Asking.{Answers, AreApart, AreKnownEqual, KeepsFirst};
+ghost use Rattle.bk_form_cuts.specs.MoveCuts.{LevelsContradict, SidesAreEqual, SignIsOther, WidthsContradict, kept_by_sign, kept_by_signs, kept_by_widths};
 ghost use Rattle.bk_form_cuts.specs.SideForms.{sum_of_sides as sum_seen, zero_form};
 ghost use Rattle.bk_form_cuts.specs.SidesOfTilings.{AgreeWith};
 
@@ -28,6 +30,9 @@ pub(crate) fn contradicts(
         → (valley.now ≢ [] → form_value (sum_seen valley.now) sides ≡ form_value (sum_seen numbers.now) sides)
         → AgreeWith signs.now levels.now sides → Answers ledger.new sides result }
     ensures first { KeepsFirst ledger.old ledger.new }
+    ensures kept { result ≡ false → ledger.new ≡ kept_by_signs (kept_by_widths ledger.old valley.now numbers.now) levels.now signs.now (length signs.now) }
+    ensures widths { WidthsContradict ledger.old valley.now numbers.now → IsTrue result }
+    ensures levels { LevelsContradict (kept_by_widths ledger.old valley.now numbers.now) levels.now signs.now → IsTrue result }
 {
     if contradicts_widths(ledger, valley, numbers) {
         return true;
@@ -44,6 +49,8 @@ fn contradicts_widths(ledger: &mut Ledger, valley: &[u8], numbers: &[u8]) -> boo
         → (valley.now ≢ [] → form_value (sum_seen valley.now) sides ≡ form_value (sum_seen numbers.now) sides)
         → Answers ledger.new sides result }
     ensures first { KeepsFirst ledger.old ledger.new }
+    ensures kept { ledger.new ≡ kept_by_widths ledger.old valley.now numbers.now }
+    ensures all { WidthsContradict ledger.old valley.now numbers.now → IsTrue result }
 {
     if valley.is_empty() {
         return false;
@@ -56,6 +63,8 @@ fn is_contradiction(ledger: &mut Ledger, left: &Form, right: &Form) -> bool
     ensures meets { (sides : List ℕ) → MeetsEquations 16 ledger.old sides
         → form_value left.now sides ≡ form_value right.now sides → Answers ledger.new sides result }
     ensures first { KeepsFirst ledger.old ledger.new }
+    ensures kept { ledger.new ≡ kept_after ledger.old (addition ledger.old left.now right.now) }
+    ensures all { addition ledger.old left.now right.now ≡ contradiction → IsTrue result }
 {
     match ledger.add_equation(left, right) {
         Kept::Contradiction => true,
@@ -68,6 +77,8 @@ fn contradicts_signs(ledger: &mut Ledger, levels: &[Form], signs: &[Sign]) -> bo
     ensures meets { (sides : List ℕ) → MeetsEquations 16 ledger.old sides → AgreeWith signs.now levels.now sides
         → Answers ledger.new sides result }
     ensures first { KeepsFirst ledger.old ledger.new }
+    ensures kept { result ≡ false → ledger.new ≡ kept_by_signs ledger.old levels.now signs.now (length signs.now) }
+    ensures all { LevelsContradict ledger.old levels.now signs.now → IsTrue result }
 {
     for (i, sign) in signs.iter().enumerate() {
         if contradicts_sign(
@@ -87,6 +98,8 @@ fn contradicts_sign(ledger: &mut Ledger, sign: Sign, left: &Form, right: &Form) 
     ensures meets { (sides : List ℕ) → MeetsEquations 16 ledger.old sides
         → Compares sign (form_value left.now sides) (form_value right.now sides) → Answers ledger.new sides result }
     ensures first { KeepsFirst ledger.old ledger.new }
+    ensures kept { ledger.new ≡ kept_by_sign (Some sign) ledger.old left.now right.now }
+    ensures all { sign ≡ Sign.Even → addition ledger.old left.now right.now ≡ contradiction → IsTrue result }
 {
     match sign {
         Sign::Even => is_contradiction(ledger, left, right),
@@ -96,8 +109,9 @@ fn contradicts_sign(ledger: &mut Ledger, sign: Sign, left: &Form, right: &Form) 
 
 // Whether the levels beside a sign are known to compare otherwise.
 pub(crate) fn compares_otherwise(ledger: &Ledger, levels: &[Form], signs: &[Sign]) -> bool
-    ensures { (sides : List ℕ) → MeetsEquations 16 ledger.now sides → AgreeWith signs.now levels.now sides
+    ensures sound { (sides : List ℕ) → MeetsEquations 16 ledger.now sides → AgreeWith signs.now levels.now sides
         → result ≡ false }
+    ensures all { SignIsOther ledger.now levels.now signs.now → IsTrue result }
 {
     for (i, sign) in signs.iter().enumerate() {
         if is_known_otherwise(
@@ -114,8 +128,9 @@ pub(crate) fn compares_otherwise(ledger: &Ledger, levels: &[Form], signs: &[Sign
 
 // Whether the levels beside a sign are known to compare otherwise. Beside a sign even their equation is kept already.
 fn is_known_otherwise(ledger: &Ledger, sign: Sign, left: &Form, right: &Form) -> bool
-    ensures { (sides : List ℕ) → MeetsEquations 16 ledger.now sides
+    ensures sound { (sides : List ℕ) → MeetsEquations 16 ledger.now sides
         → Compares sign (form_value left.now sides) (form_value right.now sides) → result ≡ false }
+    ensures all { (known : Sign) → sign ≢ Sign.Even → comparison ledger.now left.now right.now ≡ Some known → known ≢ sign → IsTrue result }
 {
     if sign == Sign::Even {
         return false;
@@ -125,7 +140,8 @@ fn is_known_otherwise(ledger: &Ledger, sign: Sign, left: &Form, right: &Form) ->
 
 // Whether a known comparison is another sign.
 fn is_other(compared: Compared, sign: Sign) -> bool
-    ensures { result ≡ true → (known : Sign) × (compared ≡ Compared.Known known) × (known ≢ sign) }
+    ensures known { result ≡ true → (known : Sign) × (compared ≡ Compared.Known known) × (known ≢ sign) }
+    ensures all { (known : Sign) → compared ≡ Compared.Known known → known ≢ sign → IsTrue result }
 {
     match compared {
         Compared::Known(known) => known != sign,
@@ -137,7 +153,7 @@ fn is_other(compared: Compared, sign: Sign) -> bool
 pub(crate) fn has_equal_sides(ledger: &Ledger, count: usize) -> bool
     requires { count ≤ 16 }
     ensures sound { (sides : List ℕ) → MeetsEquations 16 ledger.now sides → AreApart count sides → result ≡ false }
-    ensures all { (i j : ℕ) → j < i → i < count → AreKnownEqual ledger.now i j → IsTrue result }
+    ensures all { SidesAreEqual ledger.now count → IsTrue result }
 {
     for i in 0..count {
         if equals_one_before(ledger, i) {

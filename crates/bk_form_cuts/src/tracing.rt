@@ -5,6 +5,7 @@ ghost use Rattle.std.specs.Prelude.{IsTrue, List, [], false, length, min, take, 
 ghost use Rattle.bk_word.specs.Outline.{IsLegalMove};
 ghost use Rattle.bk_word.specs.Play.{outline_of};
 ghost use Rattle.bk_word.specs.Word.{order_of};
+ghost use Rattle.bk_form_cuts.specs.MoveCuts.{IsCut};
 ghost use Rattle.bk_form_cuts.specs.SideForms.{brings_more};
 ghost use Rattle.bk_form_cuts.specs.Trace.{IsRuledOut, IsTraceOf};
 
@@ -53,15 +54,17 @@ impl Tracing {
     }
 
     /// Whether a legal move after these moves is known to be ruled out: no tiling of the class has a word that begins so. It is
-    /// said only while at most 5 squares hang with it, and of a move that brings more equations than squares: where the widths
-    /// or the levels beside a sign even contradict the equations before, where levels are known to compare otherwise than a sign
-    /// says, and in the class perfect where two sides are known to be equal.
+    /// said only while at most 5 squares hang with it, and of a move that brings more equations than squares; there always where
+    /// the widths or the levels beside a sign even contradict the equations before, where levels are known to compare otherwise
+    /// than a sign says, and in the class perfect where two sides are known to be equal.
     pub fn rules_out(&self, skel: &Skel, m: &Move, class: Class) -> bool
         requires trace { IsTraceOf skel.now self.now }
         requires legal { IsLegalMove (outline_of skel.now) m.now }
         ensures sound { IsTrue result → IsRuledOut class (skel.now ++ m.now ∷ []) }
         ensures few { IsTrue result → order_of skel.now + m.now.count ≤ 5 }
         ensures more { IsTrue result → IsTrue (brings_more m.now) }
+        ensures all { length self.now.marks ≡ length skel.now → order_of skel.now + m.now.count ≤ 5 → IsTrue (brings_more m.now)
+            → IsCut class skel.now m.now self.now.kept self.now.bottoms → IsTrue result }
     {
         if !self.follows(skel, m) {
             return false;
@@ -78,6 +81,8 @@ impl Tracing {
         requires legal { IsLegalMove (outline_of skel.now) m.now }
         ensures sound { IsTrue result → IsRuledOut class (skel.now ++ m.now ∷ []) }
         ensures few { IsTrue result → order_of skel.now + m.now.count ≤ 5 }
+        ensures all { length self.now.marks ≡ length skel.now → order_of skel.now + m.now.count ≤ 5
+            → IsCut class skel.now m.now self.now.kept self.now.bottoms → IsTrue result }
     {
         if !self.follows(skel, m) {
             return false;
@@ -90,7 +95,8 @@ impl Tracing {
         requires trace { IsTraceOf skel.now self.now }
         requires all { length self.now.marks ≡ length skel.now }
         requires few { order_of skel.now + m.now.count ≤ 5 }
-        ensures { IsTrue result → IsRuledOut class (skel.now ++ m.now ∷ []) }
+        ensures sound { IsTrue result → IsRuledOut class (skel.now ++ m.now ∷ []) }
+        ensures all { IsCut class skel.now m.now self.now.kept self.now.bottoms → IsTrue result }
     {
         let mut ledger = self.ledger.copy();
         let valley = skel.valley();

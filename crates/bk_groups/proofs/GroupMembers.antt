@@ -2,7 +2,8 @@
 use Rattle.std.specs.List.{AllByRecursion, enumerate_from, flat_map}
 use Rattle.std.specs.Prelude.{Bool, Some, cond, false, filter, map, slice_get, true}
 use Rattle.std.specs.Option.{option_map}
-use Rattle.std.proofs.Common.{List, [], Option, ap, arith, length, refl, subst, sym, ℕ, ◌+◌, ◌<◌, ◌∙◌, ◌∷◌, ◌≡◌, ◌≤◌}
+use Rattle.std.proofs.Common.{List, [], Option, ap, arith, get_or, length, refl, subst, sym, ℕ, ◌+◌, ◌<◌, ◌∙◌, ◌∷◌, ◌≡◌, ◌≤◌}
+use Rattle.std.proofs.lemmas.List.Elements.{All-from_recursion}
 use Rattle.std.proofs.lemmas.Option.{same_Some, slice_get-map}
 use Rattle.bk_alike.specs.Alike.{alike_groups, group_of, item_size, size_eq, sizes}
 use Rattle.bk_alike.specs.declared.item.KeptItem.{KeptItem}
@@ -43,6 +44,12 @@ group_below items a = below_all (λ (i, item). size_eq a (item_size item)) 0 (le
 -- the places of the items of one size are places of items
 pub places_of_size : (items : List KeptItem) (a : ℕ × ℕ) (places : List ℕ) → places ≡ group_of items a → AllByRecursion (λ place. place < length items) places
 places_of_size items a places are = subst (λ (l : List ℕ). AllByRecursion (λ place. place < length items) l) (sym are) (group_below items a)
+
+-- so each of them is one
+pub place_below : (items : List KeptItem) (a : ℕ × ℕ) (places : List ℕ) (k : ℕ) → places ≡ group_of items a → k < length places
+    → get_or places k 0 < length items
+place_below items a places k are below =
+    All-from_recursion (λ place. place < length items) places (places_of_size items a places are) k 0 below
 
 -- and so are those of a group
 pub places_below : (items : List KeptItem) (g : ℕ) (a : ℕ × ℕ) (members : List ℕ) → slice_get (sizes items) g ≡ Some a

@@ -1,12 +1,10 @@
 -- The lines of an item with each later one are its lines with the items of its own size that stand behind it.
-use Rattle.std.specs.List.{concat, enumerate_from, flat_map}
+use Rattle.std.specs.List.{enumerate_from, flat_map}
 use Rattle.std.specs.Option.{option_map_or}
-use Rattle.std.specs.Io.KnownBytes.{Appends}
-use Rattle.std.specs.Prelude.{Bool, Err, IfOk, Ok, Result, Some, cond, drop, false, filter, map, nat_eq, nat_le, nat_lt, not, slice_get, true, zero}
-use Rattle.std.proofs.Common.{List, [], Option, ap, arith, inl, inr, length, refl, subst, suc, sym, ℕ, ◌&&◌, ◌++◌, ◌+◌, ◌<◌, ◌∙◌, ◌∷◌, ◌≡◌, ◌≤◌}
+use Rattle.std.specs.Prelude.{Bool, Some, cond, drop, false, filter, map, nat_eq, nat_le, nat_lt, not, slice_get, true, zero}
+use Rattle.std.proofs.Common.{List, [], Option, ap, arith, inl, inr, refl, suc, sym, ℕ, ◌&&◌, ◌++◌, ◌+◌, ◌<◌, ◌∙◌, ◌∷◌, ◌≡◌, ◌≤◌}
 use Rattle.std.proofs.lemmas.Bool.{cases_Bool}
 use Rattle.std.proofs.lemmas.Bool.Decides.{nat_tests}
-use Rattle.std.proofs.KnownBytes.{Appends-nil}
 use Rattle.bk_tiling.specs.Tiling.{Tiling, order}
 use Rattle.bk_ask.specs.declared.Kind.{Kind}
 use Rattle.bk_ask.specs.declared.Kind.TheVariants as kinds
@@ -18,8 +16,6 @@ use Rattle.bk_alike.specs.declared.item.KeptItem.{KeptItem}
 use Rattle.bk_groups.specs.LaterLines.{later_lines}
 use Rattle.bk_groups.specs.Pairs.{is_pair, pair_lines, pairs_with}
 use Rattle.bk_groups.proofs.ListLoops.{drop_none}
-use Rattle.bk_groups.specs.Writing.{WritesLines}
-use Rattle.bk_groups.proofs.WrittenLines.{item_at}
 use Rattle.bk_groups.proofs.PairLines.{IsItemAt, tiling_at}
 
 -- items of two sizes are no pair
@@ -122,37 +118,3 @@ pairs_looked_up kind items i line width height t places at wide high looked a e 
     let tiling : t ≡ a.tiling = tiling_at items i line t a at e in
     let size : ◌≡◌ {A = ℕ × ℕ} (width, height) (item_size a) = (λ j. (wide j, high j)) ∙ ap (λ (u : Tiling). (u.width, u.height)) tiling in
     ap (flat_map (later_lines kind items i a)) (looked ∙ ap (group_of items) size) ∙ pairs_of_size kind items i a
-
--- what is written of two items is what is written of the first and a place behind it
-module _ (kind : Kind) (items : List KeptItem) (i j : ℕ) (behind : i < j) (below : j < length items) where
-  pub behind_written : {T E : Type 0} (a : KeptItem) (before after : Option (List ℕ)) (r : Result T E)
-      → ((b : KeptItem) → slice_get items j ≡ Some b → WritesLines (pair_lines kind a b) before after r)
-      → WritesLines (later_lines kind items i a j) before after r
-  behind_written a before after r written =
-      let at = item_at items j below in
-      subst (λ (l : List (List ℕ)). WritesLines l before after r) (sym (line_behind kind items i j a at.item behind at.here)) (written at.item at.here)
-
-  pub behind_counted : {E : Type 0} (r : Result ℕ E) → IfOk r (λ n. (a b : KeptItem) → slice_get items i ≡ Some a → slice_get items j ≡ Some b
-      → n ≡ length (pair_lines kind a b))
-      → IfOk r (λ n. (a : KeptItem) → slice_get items i ≡ Some a → n ≡ length (later_lines kind items i a j))
-  behind_counted (Ok n) counted = λ a e.
-      let at = item_at items j below in
-      counted a at.item e at.here ∙ ap (λ (l : List (List ℕ)). length l) (sym (line_behind kind items i j a at.item behind at.here))
-  behind_counted (Err f) counted = tt
-
--- and of a place before it nothing
-pub before_written : (kind : Kind) (items : List KeptItem) (i j : ℕ) → j ≤ i → (a : KeptItem) (w : Option (List ℕ))
-    → Appends w w (concat (later_lines kind items i a j))
-before_written kind items i j before a w =
-    subst (λ (l : List (List ℕ)). Appends w w (concat l)) (sym (no_line_before kind items i j a before)) (Appends-nil w)
-
-pub before_counted : (kind : Kind) (items : List KeptItem) (i j : ℕ) → j ≤ i → (a : KeptItem) → 0 ≡ length (later_lines kind items i a j)
-before_counted kind items i j before a = ap (λ (l : List (List ℕ)). length l) (sym (no_line_before kind items i j a before))
-
--- the count of the lines of the places is that of the lines with each later item
-pub counted_alike : {E : Type 0} (kind : Kind) (items : List KeptItem) (i : ℕ) (places : List ℕ) (r : Result ℕ E)
-    → ((a : KeptItem) → slice_get items i ≡ Some a → flat_map (later_lines kind items i a) places ≡ pairs_with kind a (drop (i + 1) items))
-    → IfOk r (λ n. (a : KeptItem) → slice_get items i ≡ Some a → n ≡ length (flat_map (later_lines kind items i a) places))
-    → IfOk r (λ n. (a : KeptItem) → slice_get items i ≡ Some a → n ≡ length (pairs_with kind a (drop (i + 1) items)))
-counted_alike kind items i places (Ok n) same counted = λ a e. counted a e ∙ ap (λ (l : List (List ℕ)). length l) (same a e)
-counted_alike kind items i places (Err f) same counted = tt

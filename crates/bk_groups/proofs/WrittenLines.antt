@@ -27,6 +27,10 @@ pub record IsWrittenTo (all rest : List (List ℕ)) (before now : Option (List �
 pub written_none : (all : List (List ℕ)) (w : Option (List ℕ)) → IsWrittenTo all all w w
 written_none all w = record { done = []; split = refl; written = Appends-nil w }
 
+-- the same where they are told in another way
+pub written_from : (all rest : List (List ℕ)) (w : Option (List ℕ)) → rest ≡ all → IsWrittenTo all rest w w
+written_from all rest w is = record { done = []; split = sym is; written = Appends-nil w }
+
 -- the next of the lines are written
 pub written_more : (all rest piece later : List (List ℕ)) (a b c : Option (List ℕ)) → IsWrittenTo all rest a b → rest ≡ piece ++ later
     → Appends b c (concat piece) → IsWrittenTo all later a c

@@ -2,16 +2,12 @@
 -- Example (GroupExamples): `; groups 2 items 3 refused 1`.
 use Rattle.std.specs.List.{concat, flat_map}
 use Rattle.std.specs.Option.{option_map_or}
-use Rattle.std.specs.Prelude.{Bool, List, [], length, slice_get, true, false, ℕ, ◌++◌, ◌^◌, ◌∷◌, ◌≡◌, ◌≤◌, ◌⊎◌}
-use Rattle.std.specs.Io.KnownBytes.{Appends, Consumes, IsAtEnd}
+use Rattle.std.specs.Prelude.{Bool, List, Option, [], length, slice_get, ℕ, ◌++◌, ◌∷◌, ◌≡◌}
+use Rattle.std.specs.Io.KnownBytes.{Appends}
 use Rattle.bk_ports.specs.Causes.{AppendsPrefix}
-use Rattle.bk_lines.specs.Ending.{Streams}
-use Rattle.bk_lines.specs.Entering.{AreEntered}
-use Rattle.bk_lines.specs.Entries.{AreEntriesTooMany, IsEntryBroken, IsEntryCutOff, IsEntryCutShort}
-use Rattle.bk_lines.specs.Lines.{lines_of}
+use Rattle.bk_lines.specs.Ending.{Output}
+use Rattle.bk_lines.specs.Entering.{AreAllEntered, AreEntered, IsEntryBegun, IsEntryWanting}
 use Rattle.bk_lines.specs.Reply.{Reply, some_refused, text_of}
-use Rattle.bk_lines.specs.declared.Ended.{Ended}
-use Rattle.bk_lines.specs.declared.Ended.TheVariants.{NoMemory, NoneRefused, ReadFailed, SomeRefused, TooMany, WriteFailed}
 use Rattle.bk_report.specs.ListLines.{alike_line, group_line, member_line, pairs_line}
 use Rattle.bk_alike.specs.Alike.{group_of, sizes}
 use Rattle.bk_alike.specs.declared.item.KeptItem.{KeptItem}
@@ -35,34 +31,27 @@ closing_lines Groups s = flat_map (group_lines s.items) (sizes s.items)
 closing_lines (Pairs kind) s = all_pairs kind s.items
     ++ pairs_line (length (all_pairs kind s.items)) (length s.items) s.refused ∷ []
 
--- the input was read to its end, its lines are listed, and what is wanted stands behind them; some lines are refused or none
-pub record IsListed (wanted : Wanted) (streams : Streams) (refused : Bool) : Type 0 where
-  pub input : List ℕ
-  pub taken : Consumes streams.left streams.left_after input
-  pub at_end : IsAtEnd streams.left_after
-  pub within : length input ≤ 2 ^ 30
+-- these lines are listed, some of them refused or none, and what is wanted stands behind them
+pub record IsListed (wanted : Wanted) (lines : List (List ℕ)) (refused : Bool) (before after : Option (List ℕ)) : Type 0 where
   pub replies : List Reply
   pub last : Listed
-  pub each : AreEntered listing_rules none_listed 1 (lines_of input) replies last
+  pub each : AreEntered listing_rules none_listed 1 lines replies last
   pub any : some_refused replies ≡ refused
-  pub written : Appends streams.written streams.written_after (text_of replies ++ concat (closing_lines wanted last))
+  pub written : Appends before after (text_of replies ++ concat (closing_lines wanted last))
 
--- a write failed behind the lines
-pub record IsClosingBroken (wanted : Wanted) (streams : Streams) : Type 0 where
-  pub input : List ℕ
-  pub taken : Consumes streams.left streams.left_after input
-  pub at_end : IsAtEnd streams.left_after
-  pub within : length input ≤ 2 ^ 30
+-- a write failed behind these lines
+pub record IsClosingBroken (wanted : Wanted) (lines : List (List ℕ)) (before after : Option (List ℕ)) : Type 0 where
   pub replies : List Reply
   pub last : Listed
-  pub each : AreEntered listing_rules none_listed 1 (lines_of input) replies last
-  pub written : AppendsPrefix streams.written streams.written_after (text_of replies ++ concat (closing_lines wanted last))
+  pub each : AreEntered listing_rules none_listed 1 lines replies last
+  pub written : AppendsPrefix before after (text_of replies ++ concat (closing_lines wanted last))
 
--- what each ending says
-abbrev pub ListsBy : Wanted → Streams → Ended → Type 0
-ListsBy wanted streams NoneRefused = IsListed wanted streams false
-ListsBy wanted streams SomeRefused = IsListed wanted streams true
-ListsBy wanted streams ReadFailed = (last : Listed) × IsEntryCutOff listing_rules none_listed streams last
-ListsBy wanted streams WriteFailed = IsEntryBroken listing_rules none_listed streams ⊎ IsClosingBroken wanted streams
-ListsBy wanted streams NoMemory = IsEntryCutShort listing_rules none_listed streams
-ListsBy wanted streams TooMany = (last : Listed) × AreEntriesTooMany listing_rules none_listed streams last
+-- what a run writes that lists lines
+abbrev pub listing_of : Wanted → Output
+listing_of wanted = record {
+  lines = λ lines refused before after. (last : Listed) × AreAllEntered listing_rules none_listed 1 lines before after refused last;
+  whole = λ lines refused before after. IsListed wanted lines refused before after;
+  begun = λ lines before after. IsEntryBegun listing_rules none_listed 1 lines before after;
+  begun_behind = λ lines before after. IsClosingBroken wanted lines before after;
+  short = λ lines before after. IsEntryWanting listing_rules none_listed 1 lines before after;
+}

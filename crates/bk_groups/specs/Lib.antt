@@ -2,6 +2,7 @@
 pub mod Listed
 pub mod Pairs
 pub mod Closing
+pub mod ListingLaw
 -- How its code keeps it.
 pub mod EmptyLine
 pub mod Writing

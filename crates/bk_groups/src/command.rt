@@ -1,9 +1,8 @@
 //! The run of a command that lists lines.
 
-ghost use Rattle.std.specs.Prelude.{◌≡◌, ◌≢◌};
-ghost use Rattle.bk_ports.specs.Causes.{Rose};
-ghost use Rattle.bk_lines.specs.Entries.{IsCalm, IsDoneOrWanting};
-ghost use Rattle.bk_groups.specs.Closing.{ListsBy};
+ghost use Rattle.bk_lines.specs.Ending.{EndsWith};
+ghost use Rattle.bk_lines.specs.Faults.{CountsTell, IsCalm, IsDoneOrWanting};
+ghost use Rattle.bk_groups.specs.Closing.{listing_of};
 
 use crate::Wanted;
 use crate::closing::write_closing;
@@ -22,7 +21,7 @@ pub fn list_lines<S: Source, O: Sink>(
     out: &mut O,
 ) -> Ended
     // What each ending says of the bytes.
-    ensures ending { ListsBy wanted
+    ensures ending { EndsWith (listing_of wanted)
         (record {
           left = S.left source.old;
           left_after = S.left source.new;
@@ -32,14 +31,23 @@ pub fn list_lines<S: Source, O: Sink>(
         result }
 
     // Where nothing goes wrong, all is written, or memory is wanting.
-    ensures complete { IsCalm (S.left source.old) (S.faults source.old) (S.faults source.new) (O.faults out.old) (O.faults out.new)
+    ensures complete { IsCalm (S.left source.old)
+        (record {
+          read = S.faults source.old;
+          read_after = S.faults source.new;
+          write = O.faults out.old;
+          write_after = O.faults out.new;
+        })
         → IsDoneOrWanting result }
 
-    // And of the counts of faults, whatever is told of the bytes.
-    ensures read_failed { result ≡ Ended.ReadFailed → Rose (S.faults source.old) (S.faults source.new) }
-    ensures none_failed { result ≢ Ended.ReadFailed → S.faults source.new ≡ S.faults source.old }
-    ensures write_failed { result ≡ Ended.WriteFailed → Rose (O.faults out.old) (O.faults out.new) }
-    ensures all_written { result ≢ Ended.WriteFailed → O.faults out.new ≡ O.faults out.old }
+    // What the ending tells of the counts of faults.
+    ensures faults { CountsTell result
+        (record {
+          read = S.faults source.old;
+          read_after = S.faults source.new;
+          write = O.faults out.old;
+          write_after = O.faults out.new;
+        }) }
 {
     let mut list = ItemList::new(alloc);
     let ended = enter_lines(&mut list, source, out);

@@ -4,9 +4,9 @@ use Rattle.std.specs.Prelude.{Contains, ◌⊎◌}
 use Rattle.std.specs.Io.KnownBytes.{Consumes, IsAtEnd}
 use Rattle.std.proofs.lemmas.Bool.{or_parts, true≢false}
 use Rattle.std.proofs.lemmas.List.Elements.{Contains-append_cases, Contains-append_left, Contains-append_right, Contains-push, Contains-push_cases}
-use Rattle.bk_lines.specs.Answered.{AreAnswered}
+use Rattle.bk_lines.specs.Answered.{AreAnswered, Replies, answers_of}
 use Rattle.bk_lines.specs.Deciding.{HasRefused, HasWanting}
-use Rattle.bk_lines.specs.Ending.{IsCutShort, Replies, RunEndsBy, Streams}
+use Rattle.bk_lines.specs.Ending.{EndsWith, IsCutShort, Streams}
 use Rattle.bk_lines.specs.Lines.{lines_of}
 use Rattle.bk_lines.specs.Reply.{AreReplies, Reply, some_refused}
 use Rattle.bk_lines.specs.declared.Ended.TheVariants.{NoneRefused, SomeRefused}
@@ -75,7 +75,7 @@ module _ (replies : Replies) where
 
 module _ (replies : Replies) (streams : Streams) (input : List ℕ) (tells : streams.left ≡ Some input) where
   -- memory was wanting at a line of the input
-  pub wanting_line : IsCutShort replies streams → HasWanting replies (lines_of input)
+  pub wanting_line : IsCutShort (answers_of replies) streams → HasWanting replies (lines_of input)
   wanting_line h =
       let s = h.short in
       let front = read_front input streams.left streams.left_after tells h.input h.lines h.taken h.read in
@@ -96,13 +96,13 @@ module _ (replies : Replies) (streams : Streams) (input : List ℕ) (tells : str
       (sym (taken_all input streams.left streams.left_after tells taken h at_end)) answered
 
   -- some of them are refused or none, as the ending says
-  pub refused_some : RunEndsBy replies streams SomeRefused → HasRefused replies (lines_of input)
+  pub refused_some : EndsWith (answers_of replies) streams SomeRefused → HasRefused replies (lines_of input)
   refused_some h =
-      let a = all_answered true h.input h.taken h.at_end h.answered in
+      let a = all_answered true h.input h.taken h.at_end h.written in
       refused_line replies (lines_of input) a.replies a.each a.any
 
   -- where the ending says that none was, no line is refused
-  pub refused_none : HasOneReply replies.answers → RunEndsBy replies streams NoneRefused → HasRefused replies (lines_of input) → ⊥
+  pub refused_none : HasOneReply replies.answers → EndsWith (answers_of replies) streams NoneRefused → HasRefused replies (lines_of input) → ⊥
   refused_none one h =
-      let a = all_answered false h.input h.taken h.at_end h.answered in
+      let a = all_answered false h.input h.taken h.at_end h.written in
       none_refused replies one (lines_of input) a.replies a.each a.any

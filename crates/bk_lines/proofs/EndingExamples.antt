@@ -1,10 +1,13 @@
 -- Worked examples of how runs over lines end, of what is read, and of lines that are entered.
 use Rattle.std.proofs.Common.{◌≡◌, ℕ, ◌+◌, ◌-◌, ◌^◌, ◌==◌, [], ◌∷◌, ◌++◌, Some, false, get_or, inl, inr, lit<, lit≤, refl, true}
 use Rattle.std.specs.Prelude.{codes}
+use Rattle.bk_lines.specs.Answered.{Replies, answers_of}
 use Rattle.bk_lines.specs.Asking.{asked_count}
 use Rattle.bk_lines.specs.Deciding.{HasRefused}
-use Rattle.bk_lines.specs.Ending.{AreRead, IsAnswered, IsCutOff, Replies, Streams}
+use Rattle.bk_lines.specs.Ending.{AreRead, EndsWith, Streams}
 use Rattle.bk_lines.specs.Entering.{AreEntered, Entering}
+use Rattle.bk_lines.specs.Faults.{CountsTell}
+use Rattle.bk_lines.specs.declared.Ended.TheVariants.{ReadFailed, SomeRefused, WriteFailed}
 use Rattle.bk_lines.specs.Reply.{Reply}
 
 -- each line is answered by itself and a line feed, and one that begins with `!` is refused
@@ -29,13 +32,13 @@ whole = record {
   written_after = Some (codes "0\na\n!\n");
 }
 
-whole_answered : IsAnswered echo whole true
+whole_answered : EndsWith (answers_of echo) whole SomeRefused
 whole_answered = record {
   input = codes "a\n!\n";
   taken = refl;
   at_end = refl;
   within = lit≤ tt;
-  answered = record { replies = first ∷ second ∷ []; each = ((refl, refl), ((refl, refl), tt)); written = refl; any = refl };
+  written = record { replies = first ∷ second ∷ []; each = ((refl, refl), ((refl, refl), tt)); written = refl; any = refl };
 }
 
 one_refused : HasRefused echo (codes "a" ∷ codes "!" ∷ [])
@@ -45,13 +48,13 @@ one_refused = (codes "!", (1, lit< tt, refl), codes "!\n" ∷ [], (refl, refl))
 abbrev part : Streams
 part = record { left = Some (codes "a\n!\n"); left_after = Some (codes "\n"); written = Some []; written_after = Some (codes "a\n") }
 
-part_answered : IsCutOff echo part
+part_answered : EndsWith (answers_of echo) part ReadFailed
 part_answered = record {
   input = codes "a\n!";
   taken = refl;
   within = lit≤ tt;
   refused = false;
-  answered = record { replies = first ∷ []; each = ((refl, refl), tt); written = refl; any = refl };
+  written = record { replies = first ∷ []; each = ((refl, refl), tt); written = refl; any = refl };
 }
 
 -- of these bytes one line was read, and at the end of the input two
@@ -77,3 +80,7 @@ summed_twice = (11, (refl, refl, refl), (13, (refl, refl, refl), refl))
 -- what the first read asks for, one where 10 bytes are left, and one more
 asked_counts : (asked_count 0 ≡ 16384) × ((asked_count (2 ^ 30 - 10) ≡ 10) × (asked_count (2 ^ 30) ≡ 1))
 asked_counts = (refl, (refl, refl))
+
+-- the third write fails, and no read
+one_write_failed : CountsTell WriteFailed (record { read = 0; read_after = 0; write = 2; write_after = 3 })
+one_write_failed = (refl, lit< tt)

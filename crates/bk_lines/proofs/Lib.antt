@@ -8,7 +8,10 @@ pub mod Taking
 pub mod Stateless
 pub mod Pieces
 pub mod LineExamples
+pub mod AnswerExamples
 pub mod EndingExamples
+pub mod OtherOutputs
 pub mod OtherReplies
 pub mod TakenBytes
+pub mod CountedFaults
 pub mod Deciding

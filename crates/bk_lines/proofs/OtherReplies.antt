@@ -1,10 +1,10 @@
 -- Where each of some replies is one of others, a run by the first is a run by the others.
-use Rattle.std.proofs.Common.{Bool, List, Option, [], false, true, ℕ, ◌∷◌}
-use Rattle.bk_lines.specs.Answered.{AreAnswered, AreBegun, AreCutShort}
-use Rattle.bk_lines.specs.Ending.{RunEndsBy, Replies, Streams}
+use Rattle.std.proofs.Common.{Bool, List, Option, [], ℕ, ◌∷◌}
+use Rattle.bk_lines.specs.Answered.{AreAnswered, AreBegun, AreCutShort, Replies, answers_of}
+use Rattle.bk_lines.specs.Ending.{EndsWith, Streams}
 use Rattle.bk_lines.specs.Reply.{AreReplies, Reply}
 use Rattle.bk_lines.specs.declared.Ended.{Ended}
-use Rattle.bk_lines.specs.declared.Ended.TheVariants.{NoMemory, NoneRefused, ReadFailed, SomeRefused, TooMany, WriteFailed}
+use Rattle.bk_lines.proofs.OtherOutputs.{ends_as}
 
 -- each of some replies is one of others, and so is each line at which memory may be wanting
 pub record AreWithin (replies others : Replies) : Type 0 where
@@ -47,50 +47,10 @@ module _ (replies others : Replies) (within : AreWithin replies others) where
     written = h.written;
   }
 
-  pub ends_within : (streams : Streams) (ended : Ended) → RunEndsBy replies streams ended → RunEndsBy others streams ended
-  ends_within streams NoneRefused h = record {
-    input = h.input;
-    taken = h.taken;
-    at_end = h.at_end;
-    within = h.within;
-    answered = answered _ streams.written streams.written_after false h.answered;
-  }
-  ends_within streams SomeRefused h = record {
-    input = h.input;
-    taken = h.taken;
-    at_end = h.at_end;
-    within = h.within;
-    answered = answered _ streams.written streams.written_after true h.answered;
-  }
-  ends_within streams ReadFailed h = record {
-    input = h.input;
-    taken = h.taken;
-    within = h.within;
-    refused = h.refused;
-    answered = answered _ streams.written streams.written_after h.refused h.answered;
-  }
-  ends_within streams WriteFailed h = record {
-    input = h.input;
-    taken = h.taken;
-    within = h.within;
-    lines = h.lines;
-    read = h.read;
-    begun = begun h.lines streams.written streams.written_after h.begun;
-  }
-  ends_within streams NoMemory h = record {
-    input = h.input;
-    taken = h.taken;
-    within = h.within;
-    lines = h.lines;
-    read = h.read;
-    short = short h.lines streams.written streams.written_after h.short;
-  }
-  ends_within streams TooMany h = record {
-    first = h.first;
-    more = h.more;
-    taken = h.taken;
-    full = h.full;
-    one = h.one;
-    refused = h.refused;
-    answered = answered _ streams.written streams.written_after h.refused h.answered;
-  }
+  pub ends_within : (streams : Streams) (ended : Ended) → EndsWith (answers_of replies) streams ended → EndsWith (answers_of others) streams ended
+  ends_within =
+      ends_as (answers_of replies) (answers_of others)
+      (record {
+        stops = record { lines = λ lines p a b. answered lines a b p; begun = begun; begun_behind = λ lines a b none. absurd none; short = short };
+        whole = λ lines p a b. answered lines a b p;
+      })

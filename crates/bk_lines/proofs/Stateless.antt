@@ -1,16 +1,15 @@
 -- Where the reply to a line rests on the line alone, a run that enters lines is one that answers them.
-use Rattle.std.proofs.Common.{ℕ, ◌+◌, Bool, true, false, List, [], ◌∷◌, length, Option}
+use Rattle.std.proofs.Common.{ℕ, ◌+◌, Bool, List, [], ◌∷◌, length, Option}
 use Rattle.std.proofs.Common.{sym, subst}
 use Rattle.std.specs.Prelude.{Err, Ok, OnErr, Result}
 use Rattle.bk_lines.specs.Reply.{Reply, AreReplies}
 use Rattle.bk_lines.specs.Lines.{kept_front}
 use Rattle.bk_lines.specs.Answer.{IsBegun}
-use Rattle.bk_lines.specs.Answered.{AreAnswered, AreBegun, AreCutShort}
-use Rattle.bk_lines.specs.Ending.{RunEndsBy, Replies, Streams}
-use Rattle.bk_lines.specs.Entering.{AreAllEntered, AreEntered, Entering, IsEntryBegun, IsEntryWanting}
-use Rattle.bk_lines.specs.Entries.{EntersBy}
+use Rattle.bk_lines.specs.Answered.{AreAnswered, AreBegun, AreCutShort, Replies, answers_of}
+use Rattle.bk_lines.specs.Ending.{EndsWith, Streams}
+use Rattle.bk_lines.specs.Entering.{AreAllEntered, AreEntered, Entering, IsEntryBegun, IsEntryWanting, entries_of}
 use Rattle.bk_lines.specs.declared.Ended.{Ended}
-use Rattle.bk_lines.specs.declared.Ended.TheVariants.{NoneRefused, SomeRefused, ReadFailed, WriteFailed, NoMemory, TooMany}
+use Rattle.bk_lines.proofs.OtherOutputs.{ends_as}
 
 -- as long as the state serves, a line is entered as it is answered
 pub record AnswersAlike {State : Type 0} (rules : Entering State) (serves : State → Type 0) (answers : Replies) : Type 0 where
@@ -65,53 +64,20 @@ module _ {State : Type 0} (rules : Entering State) (serves : State → Type 0) (
   }
 
   -- each ending of the one is the same ending of the other
-  pub ends_alike : (s l : State) (streams : Streams) (ended : Ended) → serves s → EntersBy rules s l streams ended → RunEndsBy answers streams ended
-  ends_alike s l streams NoneRefused served h = record {
-    input = h.input;
-    taken = h.taken;
-    at_end = h.at_end;
-    within = h.within;
-    answered = all_answered s l 1 _ streams.written streams.written_after false served h.entered;
-  }
-  ends_alike s l streams SomeRefused served h = record {
-    input = h.input;
-    taken = h.taken;
-    at_end = h.at_end;
-    within = h.within;
-    answered = all_answered s l 1 _ streams.written streams.written_after true served h.entered;
-  }
-  ends_alike s l streams ReadFailed served h = record {
-    input = h.input;
-    taken = h.taken;
-    within = h.within;
-    refused = h.refused;
-    answered = all_answered s l 1 _ streams.written streams.written_after h.refused served h.entered;
-  }
-  ends_alike s l streams WriteFailed served h = record {
-    input = h.input;
-    taken = h.taken;
-    within = h.within;
-    lines = h.lines;
-    read = h.read;
-    begun = begun s 1 h.lines streams.written streams.written_after served h.begun;
-  }
-  ends_alike s l streams NoMemory served h = record {
-    input = h.input;
-    taken = h.taken;
-    within = h.within;
-    lines = h.lines;
-    read = h.read;
-    short = short s 1 h.lines streams.written streams.written_after served h.short;
-  }
-  ends_alike s l streams TooMany served h = record {
-    first = h.first;
-    more = h.more;
-    taken = h.taken;
-    full = h.full;
-    one = h.one;
-    refused = h.refused;
-    answered = all_answered s l 1 _ streams.written streams.written_after h.refused served h.entered;
-  }
+  pub ends_alike : (s l : State) (streams : Streams) (ended : Ended) → serves s → EndsWith (entries_of rules s l) streams ended
+      → EndsWith (answers_of answers) streams ended
+  ends_alike s l streams ended served =
+      ends_as (entries_of rules s l) (answers_of answers)
+      (record {
+        stops = record {
+          lines = λ lines p a b. all_answered s l 1 lines a b p served;
+          begun = λ lines a b. begun s 1 lines a b served;
+          begun_behind = λ lines a b none. absurd none;
+          short = λ lines a b. short s 1 lines a b served;
+        };
+        whole = λ lines p a b. all_answered s l 1 lines a b p served;
+      })
+      streams ended
 
 -- a reply that was begun, and the state that would follow
 pub begun_in_state : {T E State : Type 0} (r : Result T E) (answers : List (List ℕ) → Bool → Type 0) (follows : State → Type 0) (l : State)

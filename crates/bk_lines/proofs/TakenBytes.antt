@@ -4,7 +4,7 @@ use Rattle.std.specs.Prelude.{◌↔◌, ◌⊎◌}
 use Rattle.std.specs.Io.KnownBytes.{Consumes, IsAtEnd}
 use Rattle.std.proofs.lemmas.List.{append_assoc, append-nil, length-append}
 use Rattle.bk_lines.specs.Deciding.{TookTooMany}
-use Rattle.bk_lines.specs.Ending.{AreRead, Replies, RunEndsBy, Streams}
+use Rattle.bk_lines.specs.Ending.{AreRead, EndsWith, Output, Streams}
 use Rattle.bk_lines.specs.Lines.{closed_lines, last_line, lines_of, open_line}
 use Rattle.bk_lines.specs.declared.Ended.{Ended}
 use Rattle.bk_lines.specs.declared.Ended.TheVariants.{NoMemory, NoneRefused, ReadFailed, SomeRefused, TooMany, WriteFailed}
@@ -13,7 +13,7 @@ use Rattle.bk_lines.proofs.Cuts.{closed-append}
 -- what is taken from a source that tells its bytes
 module _ (input : List ℕ) (left left_after : Option (List ℕ)) (tells : left ≡ Some input) where
   -- is a front of them
-  taken_front : (taken : List ℕ) → Consumes left left_after taken
+  pub taken_front : (taken : List ℕ) → Consumes left left_after taken
       → (rest : List ℕ) × (left_after ≡ Some rest) × (input ≡ taken ++ rest)
   taken_front taken h = by left_after (subst (λ (l : Option (List ℕ)). Consumes l left_after taken) tells h)
     where
@@ -85,18 +85,19 @@ TookBy streams NoMemory = HasTaken streams
 TookBy streams TooMany = TookTooMany streams.left streams.left_after
 
 -- 2^30 bytes and one more are too many
-pub took_one_more : (left left_after : Option (List ℕ)) (first more : List ℕ) → Consumes left left_after (first ++ more) → length first ≡ 2 ^ 30
+took_one_more : (left left_after : Option (List ℕ)) (first more : List ℕ) → Consumes left left_after (first ++ more) → length first ≡ 2 ^ 30
     → length more ≡ 1 → TookTooMany left left_after
 took_one_more left left_after first more h full one = (first ++ more, h, omega (arith, full, one, length-append first more))
 
--- a run whose lines are answered
-pub answers_took : (replies : Replies) (streams : Streams) (ended : Ended) → RunEndsBy replies streams ended → TookBy streams ended
-answers_took replies streams NoneRefused h = record { input = h.input; taken = h.taken; at_end = h.at_end; within = h.within }
-answers_took replies streams SomeRefused h = record { input = h.input; taken = h.taken; at_end = h.at_end; within = h.within }
-answers_took replies streams ReadFailed h = record { input = h.input; taken = h.taken; within = h.within }
-answers_took replies streams WriteFailed h = record { input = h.input; taken = h.taken; within = h.within }
-answers_took replies streams NoMemory h = record { input = h.input; taken = h.taken; within = h.within }
-answers_took replies streams TooMany h = took_one_more streams.left streams.left_after h.first h.more h.taken h.full h.one
+-- each run took so many
+pub ends_took : (output : Output) (streams : Streams) (ended : Ended) → EndsWith output streams ended → TookBy streams ended
+ends_took output streams NoneRefused h = record { input = h.input; taken = h.taken; at_end = h.at_end; within = h.within }
+ends_took output streams SomeRefused h = record { input = h.input; taken = h.taken; at_end = h.at_end; within = h.within }
+ends_took output streams ReadFailed h = record { input = h.input; taken = h.taken; within = h.within }
+ends_took output streams WriteFailed (inl h) = record { input = h.input; taken = h.taken; within = h.within }
+ends_took output streams WriteFailed (inr h) = record { input = h.input; taken = h.taken; within = h.within }
+ends_took output streams NoMemory h = record { input = h.input; taken = h.taken; within = h.within }
+ends_took output streams TooMany h = took_one_more streams.left streams.left_after h.first h.more h.taken h.full h.one
 
 -- and the converse, where the source tells its bytes
 module _ (streams : Streams) (input : List ℕ) (tells : streams.left ≡ Some input) where

@@ -5,9 +5,8 @@ use Rattle.std.specs.Io.KnownBytes.{Consumes, IsAtEnd}
 use Rattle.std.proofs.lemmas.List.{append-nil, length-append}
 use Rattle.bk_ports.proofs.KnownSteps.{consumes_more}
 use Rattle.bk_lines.specs.Lines.{closed_lines, open_line, last_line, lines_of, kept_front}
-use Rattle.bk_lines.specs.Entering.{AreAllEntered, Entering, IsEntryStopped}
-use Rattle.bk_lines.specs.Entries.{AreEntriesTooMany, EntersBy, IsEntered}
-use Rattle.bk_lines.specs.Ending.{AreRead, Streams, ended_of, verdict_of}
+use Rattle.bk_lines.specs.Entering.{AreAllEntered, Entering, IsEntryStopped, entries_of}
+use Rattle.bk_lines.specs.Ending.{AreRead, EndsWith, IsTooMany, IsWhole, Streams, ended_of, verdict_of}
 use Rattle.bk_lines.specs.declared.Ended.{Ended}
 use Rattle.bk_lines.specs.declared.line.Stop.{Stop}
 use Rattle.bk_lines.specs.declared.line.Stop.TheVariants.{WriteFailed, NoMemory}
@@ -74,7 +73,7 @@ module _ {State : Type 0} (rules : Entering State) (start s : State) (l m n a b 
 
   -- a byte more than may be taken is there
   pub ends_more : (more : List ℕ) → Consumes m n more → length more ≡ 1 → count ≡ 2 ^ 30
-      → AreEntriesTooMany rules start (record { left = l; left_after = n; written = a; written_after = b }) s
+      → IsTooMany (entries_of rules start s) (record { left = l; left_after = n; written = a; written_after = b })
   ends_more more read one full = record {
     first = state.input;
     more = more;
@@ -82,18 +81,18 @@ module _ {State : Type 0} (rules : Entering State) (start s : State) (l m n a b 
     full = state.size ∙ full;
     one = one;
     refused = p;
-    entered = state.entered;
+    written = state.entered;
   }
 
   -- the input ends, and with its last line all are entered
   pub ends_all : (q : Bool) (t : State) → Consumes m n [] → IsAtEnd n → count ≤ 2 ^ 30 → AreAllEntered rules s number (last_line kept) b c q t
-      → IsEntered rules start (record { left = l; left_after = n; written = a; written_after = c }) (p || q) t
+      → IsWhole (entries_of rules start t) (record { left = l; left_after = n; written = a; written_after = c }) (p || q)
   ends_all q t read at_end within here = record {
     input = state.input;
     taken = consumes_more l m n state.input [] state.input state.taken read (sym (append-nil state.input));
     at_end = at_end;
     within = omega (arith, state.size);
-    entered =
+    written =
         entered_more rules start s t 1 (closed_lines [] state.input) (last_line (open_line [] state.input)) a b c p q state.entered
         (subst (λ (i : ℕ). AreAllEntered rules s i (last_line (open_line [] state.input)) b c q t) state.numbered
         (entered_fronts rules s t number (last_line kept) (last_line (open_line [] state.input)) b c q last_same here));
@@ -103,24 +102,24 @@ module _ {State : Type 0} (rules : Entering State) (start s : State) (l m n a b 
 module _ {State : Type 0} (rules : Entering State) (start last : State) (streams : Streams) (input : List ℕ) (lines : List (List ℕ)) where
   stop_ends : (stop : Stop) → Consumes streams.left streams.left_after input → length input ≤ 2 ^ 30
       → AreRead streams.left_after input lines → IsEntryStopped rules start 1 lines streams.written streams.written_after stop
-      → EntersBy rules start last streams (ended_of stop)
+      → EndsWith (entries_of rules start last) streams (ended_of stop)
   stop_ends WriteFailed taken within read h =
-      record { input = input; taken = taken; within = within; lines = lines; read = read; begun = h }
+      inl (record { input = input; taken = taken; within = within; lines = lines; read = read; begun = h })
   stop_ends NoMemory taken within read h =
       record { input = input; taken = taken; within = within; lines = lines; read = read; short = h }
 
   stops : (stop : Stop) (ended : Ended) → ended ≡ ended_of stop → Consumes streams.left streams.left_after input
       → length input ≤ 2 ^ 30 → AreRead streams.left_after input lines
-      → IsEntryStopped rules start 1 lines streams.written streams.written_after stop → EntersBy rules start last streams ended
+      → IsEntryStopped rules start 1 lines streams.written streams.written_after stop → EndsWith (entries_of rules start last) streams ended
   stops stop ended is taken within read here =
-      subst (λ (e : Ended). EntersBy rules start last streams e) (sym is) (stop_ends stop taken within read here)
+      subst (λ (e : Ended). EndsWith (entries_of rules start last) streams e) (sym is) (stop_ends stop taken within read here)
 
 module _ {State : Type 0} (rules : Entering State) (start s last : State) (l m n a b c : Option (List ℕ)) (count : ℕ)
     (kept : List ℕ) (number : ℕ) (p : Bool) (state : IsTaken rules start l m a b count kept number p s) (stop : Stop) where
   -- a line of a block stops the run
   pub ends_block : (ended : Ended) (more : ℕ) (bytes : List ℕ) → ended ≡ ended_of stop → Consumes m n bytes
       → length bytes ≡ more → count + more ≤ 2 ^ 30 → IsEntryStopped rules s number (closed_lines kept bytes) b c stop
-      → EntersBy rules start last (record { left = l; left_after = n; written = a; written_after = c }) ended
+      → EndsWith (entries_of rules start last) (record { left = l; left_after = n; written = a; written_after = c }) ended
   ends_block ended more bytes is read size within here =
       let known = closed_lines [] state.input in
       let next = closed_lines (open_line [] state.input) bytes in
@@ -138,7 +137,7 @@ module _ {State : Type 0} (rules : Entering State) (start s last : State) (l m n
   -- the last line stops it
   pub ends_last : (ended : Ended) → ended ≡ ended_of stop → Consumes m n [] → IsAtEnd n → count ≤ 2 ^ 30
       → IsEntryStopped rules s number (last_line kept) b c stop
-      → EntersBy rules start last (record { left = l; left_after = n; written = a; written_after = c }) ended
+      → EndsWith (entries_of rules start last) (record { left = l; left_after = n; written = a; written_after = c }) ended
   ends_last ended is read at_end within here =
       let known = closed_lines [] state.input in
       let final = last_line (open_line [] state.input) in
@@ -152,16 +151,16 @@ module _ {State : Type 0} (rules : Entering State) (start s last : State) (l m n
       (subst (λ (i : ℕ). IsEntryStopped rules s i final b c stop) state.numbered
       (stopped_fronts rules stop s number (last_line kept) final b c fronts here)))
 
-verdict_ends : {State : Type 0} (rules : Entering State) (start last : State) (streams : Streams) (refused : Bool) → IsEntered rules start streams refused last
-    → EntersBy rules start last streams (verdict_of refused)
+verdict_ends : {State : Type 0} (rules : Entering State) (start last : State) (streams : Streams) (refused : Bool) → IsWhole (entries_of rules start last) streams refused
+    → EndsWith (entries_of rules start last) streams (verdict_of refused)
 verdict_ends rules start last streams true h = h
 verdict_ends rules start last streams false h = h
 
 -- the run ends as its lines were refused or not
 pub ends_verdict : {State : Type 0} (rules : Entering State) (start last : State) (streams : Streams) (refused : Bool) (ended : Ended)
-    → ended ≡ verdict_of refused → IsEntered rules start streams refused last → EntersBy rules start last streams ended
+    → ended ≡ verdict_of refused → IsWhole (entries_of rules start last) streams refused → EndsWith (entries_of rules start last) streams ended
 ends_verdict rules start last streams refused ended is h =
-    subst (λ (e : Ended). EntersBy rules start last streams e) (sym is) (verdict_ends rules start last streams refused h)
+    subst (λ (e : Ended). EndsWith (entries_of rules start last) streams e) (sym is) (verdict_ends rules start last streams refused h)
 
 -- a read that gave no byte
 pub read_nothing : (m n : Option (List ℕ)) (bytes : List ℕ) (count : ℕ) → count ≡ 0 → Consumes m n (take count bytes) → Consumes m n []

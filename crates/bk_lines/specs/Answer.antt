@@ -1,5 +1,6 @@
 -- What one answer to a line writes. `answers` says which pieces the line may get, and whether they are the text of a
 -- refusal; `before` and `after` are the bytes that a sink has taken, where it tells them.
+-- Example (AnswerExamples): where a line gets its bytes and then a line feed, and the second write fails, its bytes stand there.
 use Rattle.std.specs.Prelude.{ℕ, Bool, true, false, List, Option}
 use Rattle.std.specs.List.{concat}
 use Rattle.std.specs.Io.KnownBytes.{Appends, Keeps}

@@ -2,7 +2,7 @@
 -- Example (EndingExamples): where a line that begins with `!` is refused, some of the lines `a` and `!` is.
 use Rattle.std.specs.Prelude.{◌^◌, ◌<◌, Contains, List, Option, length, true, ℕ}
 use Rattle.std.specs.Io.KnownBytes.{Consumes}
-use Rattle.bk_lines.specs.Ending.{Replies}
+use Rattle.bk_lines.specs.Answered.{Replies}
 
 -- some line among these is refused: it may be answered by the text of a refusal
 abbrev pub HasRefused : Replies → List (List ℕ) → Type 0

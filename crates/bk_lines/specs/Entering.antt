@@ -4,6 +4,7 @@
 use Rattle.std.specs.Prelude.{◌≡◌, ◌+◌, ℕ, Bool, List, [], ◌∷◌, ◌++◌, length, Option}
 use Rattle.std.specs.Io.KnownBytes.{Appends}
 use Rattle.bk_ports.specs.Causes.{AppendsPrefix}
+use Rattle.bk_lines.specs.Ending.{Output, lines_alone}
 use Rattle.bk_lines.specs.Lines.{kept_front}
 use Rattle.bk_lines.specs.Reply.{Reply, text_of, some_refused}
 use Rattle.bk_lines.specs.declared.line.Stop.{Stop}
@@ -60,3 +61,10 @@ pub record IsEntryWanting {State : Type 0} (rules : Entering State) (state : Sta
 abbrev pub IsEntryStopped : {State : Type 0} → Entering State → State → ℕ → List (List ℕ) → Option (List ℕ) → Option (List ℕ) → Stop → Type 0
 IsEntryStopped rules state number lines before after WriteFailed = IsEntryBegun rules state number lines before after
 IsEntryStopped rules state number lines before after NoMemory = IsEntryWanting rules state number lines before after
+
+-- what a run writes that enters lines in a register: from the state at the start to the last one
+abbrev pub entries_of : {State : Type 0} → Entering State → State → State → Output
+entries_of rules state last =
+    lines_alone (λ lines refused before after. AreAllEntered rules state 1 lines before after refused last)
+    (λ lines before after. IsEntryBegun rules state 1 lines before after)
+    (λ lines before after. IsEntryWanting rules state 1 lines before after)

@@ -1,14 +1,14 @@
 //! All lines of an input.
 
-ghost use Rattle.std.specs.Prelude.{◌≡◌, ◌≢◌, ◌≤◌, ◌<◌, ◌+◌, ◌^◌, ◌||◌, IfOk, IfErr, length};
+ghost use Rattle.std.specs.Prelude.{◌≡◌, ◌≤◌, ◌<◌, ◌+◌, ◌^◌, ◌||◌, IfOk, IfErr, length};
 ghost use Rattle.std.specs.Io.KnownBytes.{ReadConsumes};
-ghost use Rattle.bk_ports.specs.Causes.{HasCause, Rose};
+ghost use Rattle.bk_ports.specs.Causes.{HasCause};
 ghost use Rattle.bk_lines.specs.Lines.{last_line};
 ghost use Rattle.bk_lines.specs.Asking.{asked_count};
 ghost use Rattle.bk_lines.specs.Answered.{CountFits};
-ghost use Rattle.bk_lines.specs.Ending.{ended_of, verdict_of};
-ghost use Rattle.bk_lines.specs.Entering.{AreAllEntered, IsEntryStopped};
-ghost use Rattle.bk_lines.specs.Entries.{EntersBy, IsCalm, IsDoneOrWanting};
+ghost use Rattle.bk_lines.specs.Ending.{EndsWith, ended_of, verdict_of};
+ghost use Rattle.bk_lines.specs.Entering.{AreAllEntered, IsEntryStopped, entries_of};
+ghost use Rattle.bk_lines.specs.Faults.{CountsTell, IsCalm, IsDoneOrWanting};
 
 use crate::block::enter_block;
 use crate::line::{Front, OpenLine, Stop, enter_line};
@@ -33,7 +33,7 @@ pub fn enter_lines<R: Register, S: Source, O: Sink>(
     requires { R.is_ready register.old 1 }
 
     // What each ending says of the bytes and of the register.
-    ensures ending { EntersBy (record { enters = R.enters; may_want = R.may_want }) register.old register.new
+    ensures ending { EndsWith (entries_of (record { enters = R.enters; may_want = R.may_want }) register.old register.new)
         (record {
           left = S.left source.old;
           left_after = S.left source.new;
@@ -43,14 +43,23 @@ pub fn enter_lines<R: Register, S: Source, O: Sink>(
         result }
 
     // Where nothing goes wrong, all lines are entered, or memory is wanting.
-    ensures complete { IsCalm (S.left source.old) (S.faults source.old) (S.faults source.new) (O.faults out.old) (O.faults out.new)
+    ensures complete { IsCalm (S.left source.old)
+        (record {
+          read = S.faults source.old;
+          read_after = S.faults source.new;
+          write = O.faults out.old;
+          write_after = O.faults out.new;
+        })
         → IsDoneOrWanting result }
 
-    // And of the counts of faults, whatever is told of the bytes.
-    ensures read_failed { result ≡ Ended.ReadFailed → Rose (S.faults source.old) (S.faults source.new) }
-    ensures none_failed { result ≢ Ended.ReadFailed → S.faults source.new ≡ S.faults source.old }
-    ensures write_failed { result ≡ Ended.WriteFailed → Rose (O.faults out.old) (O.faults out.new) }
-    ensures all_written { result ≢ Ended.WriteFailed → O.faults out.new ≡ O.faults out.old }
+    // What the ending tells of the counts of faults.
+    ensures faults { CountsTell result
+        (record {
+          read = S.faults source.old;
+          read_after = S.faults source.new;
+          write = O.faults out.old;
+          write_after = O.faults out.new;
+        }) }
 {
     let mut block = [0u8; BLOCK];
     let mut kept = OpenLine {

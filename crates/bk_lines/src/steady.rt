@@ -1,9 +1,8 @@
 //! A run over lines each of which is answered for itself.
 
-ghost use Rattle.std.specs.Prelude.{◌≡◌, ◌≢◌};
-ghost use Rattle.bk_ports.specs.Causes.{Rose};
-ghost use Rattle.bk_lines.specs.Ending.{RunEndsBy, of_fronts};
-ghost use Rattle.bk_lines.specs.Entries.{IsCalm, IsDoneOrWanting};
+ghost use Rattle.bk_lines.specs.Answered.{answers_of, of_fronts};
+ghost use Rattle.bk_lines.specs.Ending.{EndsWith};
+ghost use Rattle.bk_lines.specs.Faults.{CountsTell, IsCalm, IsDoneOrWanting};
 
 use crate::input::enter_lines;
 use crate::{Answerer, Ended, Outcome, Register};
@@ -52,7 +51,7 @@ pub fn answer_lines<S: Source, O: Sink, A: Answerer>(
     out: &mut O,
 ) -> Ended
     // What each ending says of the bytes.
-    ensures ending { RunEndsBy (of_fronts (record { answers = A.answers answerer.now; may_want = A.may_want answerer.now }))
+    ensures ending { EndsWith (answers_of (of_fronts (record { answers = A.answers answerer.now; may_want = A.may_want answerer.now })))
         (record {
           left = S.left source.old;
           left_after = S.left source.new;
@@ -62,14 +61,23 @@ pub fn answer_lines<S: Source, O: Sink, A: Answerer>(
         result }
 
     // Where nothing goes wrong, all lines are answered, or memory is wanting at one that was read.
-    ensures complete { IsCalm (S.left source.old) (S.faults source.old) (S.faults source.new) (O.faults out.old) (O.faults out.new)
+    ensures complete { IsCalm (S.left source.old)
+        (record {
+          read = S.faults source.old;
+          read_after = S.faults source.new;
+          write = O.faults out.old;
+          write_after = O.faults out.new;
+        })
         → IsDoneOrWanting result }
 
-    // And of the counts of faults, whatever is told of the bytes.
-    ensures read_failed { result ≡ Ended.ReadFailed → Rose (S.faults source.old) (S.faults source.new) }
-    ensures none_failed { result ≢ Ended.ReadFailed → S.faults source.new ≡ S.faults source.old }
-    ensures write_failed { result ≡ Ended.WriteFailed → Rose (O.faults out.old) (O.faults out.new) }
-    ensures all_written { result ≢ Ended.WriteFailed → O.faults out.new ≡ O.faults out.old }
+    // What the ending tells of the counts of faults.
+    ensures faults { CountsTell result
+        (record {
+          read = S.faults source.old;
+          read_after = S.faults source.new;
+          write = O.faults out.old;
+          write_after = O.faults out.new;
+        }) }
 {
     let mut steady = Steady {
         answerer,

@@ -1,13 +1,16 @@
--- A listing with the limit 0 takes no step, also where its line could not be written.
+-- A listing with the limit 0 takes no step, also where its line could not be written; and what a listing of one entry may take.
 use Rattle.std.specs.List.{AllByRecursion}
 use Rattle.std.specs.Prelude.{Option}
-use Rattle.std.proofs.Common.{List, Some, [], arith, inl, inr, length, ℕ, ◌++◌, ◌<◌, ◌∷◌, ◌≡◌}
+use Rattle.std.proofs.Common.{List, Some, [], arith, inl, inr, length, refl, ℕ, ◌++◌, ◌<◌, ◌∷◌, ◌≡◌}
 use Rattle.std.proofs.lemmas.List.{length-append}
 use Rattle.bk_word.specs.Word.{Word}
 use Rattle.bk_word.specs.declared.Class.{Class}
+use Rattle.bk_word.specs.declared.Class.TheVariants.{Imperfect}
+use Rattle.bk_catalogue.proofs.CatalogueExamples.{row_entry, row_word}
 use Rattle.bk_catalogue.specs.Catalogue.{Entry}
 use Rattle.bk_report.specs.declared.listing.Last.TheVariants.{Limit}
-use Rattle.bk_tree.specs.Tree.{IsInTree}
+use Rattle.bk_tree.specs.Tree.{IsInTree, IsNotAfter}
+use Rattle.bk_list.proofs.ListingExamples.{one_listed}
 use Rattle.bk_list.specs.Listing.{AtEnd, AtLimit, Ending, EndsBy, IsWithinLimit, WideAt, name_of}
 use Rattle.bk_list.specs.Stepping.{AreStepsTo, TakesSteps, TookSteps}
 
@@ -45,3 +48,22 @@ stopped_at_once n class cursor a b steps (inr t) = by t.ending t.ends t.few
     by AtEnd ends few = absurd (omega (arith, ends.0))
     by AtLimit ends few = no_entries n cursor steps t.entries ends few
     by (WideAt w) ends few = absurd few
+
+-- the word 2e is legal, and none up to itself but itself
+row_in_tree : (bound : Option Word) → IsNotAfter bound row_word → IsInTree 2 [] bound row_word
+row_in_tree bound within = record {
+  legal = (record { some = omega arith; signs = refl }, tt);
+  some = omega arith;
+  small = omega arith;
+  after = refl;
+  within = within;
+}
+
+-- list --order 2 --class imperfect --limit 1
+at_most_17 : TakesSteps 2 Imperfect [] (Some 1) Limit 17
+at_most_17 = record {
+  entries = row_entry ∷ [];
+  first = one_listed;
+  ends = refl;
+  few = record { words = row_word ∷ []; each = (row_in_tree (Some row_word) (λ h. cc), tt); ascending = (tt, tt); count = omega arith };
+}

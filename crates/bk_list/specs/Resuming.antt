@@ -1,5 +1,7 @@
 -- Runs of a listing one after another, each from where the one before it stopped, and what they have together. Statements
 -- alone; they are proved apart.
+-- Example (ResumingExamples): `list --order 2 --class imperfect --limit 1`, and then the same without a limit from 2e, have together
+-- what one listing without a limit has.
 use Rattle.std.specs.List.{AllByRecursion}
 use Rattle.std.specs.Prelude.{Contains, List, None, Option, [], flat_map, ℕ, ◌∷◌, ◌≡◌, ◌≤◌, ◌⊎◌}
 use Rattle.bk_word.specs.Word.{Follows, Word}
@@ -47,8 +49,8 @@ EndsAtEnd (run ∷ []) = run.ending ≡ AtEnd
 EndsAtEnd (run ∷ next ∷ runs) = EndsAtEnd (next ∷ runs)
 
 -- what the runs have together: members after the first cursor, ascending, so each once; and each member after it that they
--- lack has a word that was named, or one after the last cursor. Example (ResumingExamples): after a run that ended at a wide
--- word w, a run from w lacks at most the member with the word w
+-- lack has a word that was named, or one after the last cursor: so after a run that ended at a wide word w, a run from w lacks at
+-- most the member with the word w
 pub record HaveTogether (n : ℕ) (class : Class) (cursor : Word) (runs : List Run) (last : Word) : Type 0 where
   pub each : AllByRecursion (IsEntry n class) (entries_of runs)
   pub after : AllByRecursion (λ e. Follows e.word cursor) (entries_of runs)
@@ -66,7 +68,7 @@ OnlyNamedOnesAreMissing = (n : ℕ) (class : Class) (cursor last : Word) (runs :
     → (e : Entry) → IsEntry n class e → Follows e.word cursor → Contains (entries_of runs) e ⊎ IsNamed e.word runs
 
 -- and of an order of at most 16 nothing is missing: the runs have together the entries of one listing without a limit, which
--- ends because there are no more members. Example (ResumingExamples): a run that was cut at its limit, and the rest
+-- ends because there are no more members
 abbrev pub NothingIsMissing : Type 0
 NothingIsMissing = (n : ℕ) (class : Class) (cursor last : Word) (runs : List Run) → n ≤ 16 → AreRuns n class cursor runs last → EndsAtEnd runs
     → AreFirst n class cursor (entries_of runs) × EndsBy n class cursor None (entries_of runs) AtEnd

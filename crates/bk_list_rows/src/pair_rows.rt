@@ -1,8 +1,9 @@
 //! Rectangles of one size that are laid together, and some that are not.
 
 use arrayvec::ArrayVec;
-use bk_pair::{PairFault, join, lay_pair};
-use bk_tiling::{Square, Tiling};
+use bk_pair::{KeptTiling, PairFault, join, lay_pair};
+use bk_tiling::{LONGEST_SIDE, Square, Tiling};
+use std::alloc::Global;
 use std::process::Abort;
 use std::test::Fail;
 
@@ -84,6 +85,125 @@ fn hundred() -> Result<Tiling, Fail> {
         ones.try_push((x, 0, 1))?;
     }
     tiling(100, 1, ones.as_slice())
+}
+
+// The squares of the rectangles 33x32 and 69x61 of order 9.
+const PLACED_33X32: [(u64, u64, u64); 9] = [
+    (0, 0, 18),
+    (18, 0, 15),
+    (18, 15, 7),
+    (25, 15, 8),
+    (0, 18, 14),
+    (14, 18, 4),
+    (14, 22, 10),
+    (24, 22, 1),
+    (24, 23, 9),
+];
+
+const PLACED_69X61: [(u64, u64, u64); 9] = [
+    (0, 0, 36),
+    (36, 0, 33),
+    (36, 33, 5),
+    (41, 33, 28),
+    (0, 36, 25),
+    (25, 36, 9),
+    (34, 36, 2),
+    (34, 38, 7),
+    (25, 45, 16),
+];
+
+// Two perfect rectangles that no square joins: with itself one has all sides twice, and the other is of another size.
+#[test]
+fn the_rectangles_of_order_nine(rt: HostRuntime) -> Result<(), Fail> {
+    let (first, second) = (
+        tiling(33, 32, &PLACED_33X32)?,
+        tiling(69, 61, &PLACED_69X61)?,
+    );
+    assert!(rt; not_joined(&first, &first) == Some(PairFault::Twice { side: 1 }));
+    assert!(rt; not_joined(&first, &second) == Some(PairFault::Size));
+    assert!(rt; not_laid(&first, &first) == None);
+    Ok(())
+}
+
+// Two perfect rectangles of order 13 and one size, with no side in common.
+const ONE_OF_593X422: [(u64, u64, u64); 13] = [
+    (0, 0, 247),
+    (247, 0, 154),
+    (401, 0, 192),
+    (247, 154, 116),
+    (363, 154, 38),
+    (363, 192, 230),
+    (0, 247, 175),
+    (175, 247, 72),
+    (247, 270, 49),
+    (296, 270, 67),
+    (175, 319, 103),
+    (278, 319, 18),
+    (278, 337, 85),
+];
+
+const OTHER_OF_593X422: [(u64, u64, u64); 13] = [
+    (0, 0, 222),
+    (222, 0, 164),
+    (386, 0, 207),
+    (222, 164, 80),
+    (302, 164, 41),
+    (343, 164, 43),
+    (302, 205, 39),
+    (341, 205, 2),
+    (341, 207, 37),
+    (378, 207, 215),
+    (0, 222, 200),
+    (200, 222, 22),
+    (200, 244, 178),
+];
+
+// The sides of the square that they make, in code order.
+const SIDES_OF_1015: &[u64] = &[
+    247, 154, 192, 422, 116, 38, 230, 175, 72, 49, 67, 103, 18, 85, 593, 222, 200, 22, 178, 164,
+    80, 41, 39, 2, 37, 43, 215, 207,
+];
+
+// Whether two rectangles join to a square of this width and these sides.
+fn is_joined(a: &Tiling, b: &Tiling, width: u64, sides: &[u64]) -> bool {
+    match join(a, b) {
+        Ok(square) => is_square(&square, width, sides),
+        Err(_) => false,
+    }
+}
+
+// Whether two rectangles join as kept ones, and whether they can be laid together.
+fn kept_join(alloc: Global, a: &Tiling, b: &Tiling) -> Result<(bool, bool), Fail> {
+    let (first, second) = (KeptTiling::new(alloc, a)?, KeptTiling::new(alloc, b)?);
+    Ok((first.joins(&second), first.can_be_laid(&second)))
+}
+
+#[test]
+fn two_rectangles_join_to_a_perfect_square(rt: HostRuntime) -> Result<(), Fail> {
+    let (one, other) = (
+        tiling(593, 422, &ONE_OF_593X422)?,
+        tiling(593, 422, &OTHER_OF_593X422)?,
+    );
+    assert!(rt; is_joined(&one, &other, 1015, SIDES_OF_1015));
+    assert!(rt; kept_join(rt.alloc(), &one, &other)? == (true, true));
+    assert!(rt; kept_join(rt.alloc(), &one, &one)? == (false, true));
+    let kept = KeptTiling::new(rt.alloc(), &one)?;
+    assert!(rt; kept.width() == 593 && kept.height() == 422);
+    assert!(rt; kept.tiling().squares() == one.squares());
+    Ok(())
+}
+
+// Two squares of the longest side beside each other: the width is no side.
+#[test]
+fn rectangles_too_long_for_a_square(rt: HostRuntime) -> Result<(), Fail> {
+    let side = LONGEST_SIDE;
+    let long = tiling(2 * side, side, &[(0, 0, side), (side, 0, side)])?;
+    let fault = Some(PairFault::Long {
+        side: 1_999_999_999_999_998,
+    });
+    assert!(rt; not_laid(&long, &long) == fault);
+    assert!(rt; not_joined(&long, &long) == fault);
+    Ok(())
 }
 
 #[test]

@@ -2,25 +2,26 @@
 
 ghost use Rattle.std.specs.Prelude.{◌<◌, ◌≤◌};
 
+use bk_lines::Ended;
 use bk_ports::{MemSink, MemSource};
-use bk_verifying::{Verdict, verify};
+use bk_verifying::verify;
 use std::alloc::Global;
 
 // A list, the read and the write that fail, how it ends and what is written.
-type Row = (&'static str, u64, (u64, usize), Verdict, &'static str);
+type Row = (&'static str, u64, (u64, usize), Ended, &'static str);
 
 // Whether a list that is held against the catalogue of an order, with a read and a write that fail, ends so and writes this.
 fn is_verified(alloc: Global, order: u8, row: &Row) -> bool
     requires least { 2 ≤ order }
     requires most { order ≤ 16 }
 {
-    let (list, read, write, verdict, report) = row;
+    let (list, read, write, ended, report) = row;
     let reads = [*read];
     let mut source = MemSource::new(list.as_bytes(), 50, &reads);
     let mut room = [0; 1000];
     let writes = [*write];
     let mut out = MemSink::new(&mut room, &writes);
-    verify(alloc, order, &mut source, &mut out) == *verdict && out.written() == report.as_bytes()
+    verify(alloc, order, &mut source, &mut out) == *ended && out.written() == report.as_bytes()
 }
 
 // The number of no read, and where no write fails.
@@ -28,37 +29,37 @@ const NO_READ: u64 = u64::MAX;
 
 const NO_WRITE: (u64, usize) = (u64::MAX, 0);
 
-fn lists_and_reports_of_order_9() -> &'static [(&'static str, Verdict, &'static str)] {
+fn lists_and_reports_of_order_9() -> &'static [(&'static str, Ended, &'static str)] {
     &[
         (
             "9 33x32 [18,15][7,8][14,4][10,1][9] ; 2u.2aa.2ue.2eue.1e\n\
              9 69x61 [36,33][5,28][25,9,2][7][16] ; 2u.2aa.3uue.1ea.1ee\n\
              ; end order 9 listed 2\n",
-            Verdict::Agrees,
+            Ended::NoneRefused,
             "; end order 9 members 2 missing 0 foreign 0 repeated 0 refused 0\n",
         ),
         (
             "[18,15][7,8][14,4][10,1][9]\n[36,28][8,20][30,14][2,18][16]\n[1]\n[18,15][7,9]\n",
-            Verdict::Differs,
+            Ended::SomeRefused,
             "line 2 repeats 1\nline 3 foreign\nline 4 no gap 2 15 16\n\
              missing 9 69x61 [36,33][5,28][25,9,2][7][16] ; 2u.2aa.3uue.1ea.1ee\n\
              ; end order 9 members 2 missing 1 foreign 1 repeated 1 refused 1\n",
         ),
         (
             "",
-            Verdict::Differs,
+            Ended::SomeRefused,
             "missing 9 33x32 [18,15][7,8][14,4][10,1][9] ; 2u.2aa.2ue.2eue.1e\n\
              missing 9 69x61 [36,33][5,28][25,9,2][7][16] ; 2u.2aa.3uue.1ea.1ee\n\
              ; end order 9 members 2 missing 2 foreign 0 repeated 0 refused 0\n",
         ),
         (
             "\n; a comment\n[36,33][5,28][25,9,2][7][16]\n\n[15,18][8,7][4,14][1,10][9]\n[36,33][5,28][25,9,2][7][16]",
-            Verdict::Differs,
+            Ended::SomeRefused,
             "line 6 repeats 3\n; end order 9 members 2 missing 0 foreign 0 repeated 1 refused 0\n",
         ),
         (
             "[6,4,5][3,1][6][5,1][4]\n[18,15][7,8][14,4][10,1][9]\n[36,33][5,28][25,9,2][7][16]\n",
-            Verdict::Differs,
+            Ended::SomeRefused,
             "line 1 foreign\n; end order 9 members 2 missing 0 foreign 1 repeated 0 refused 0\n",
         ),
     ]
@@ -66,8 +67,8 @@ fn lists_and_reports_of_order_9() -> &'static [(&'static str, Verdict, &'static 
 
 #[test]
 fn lists_of_order_9(rt: HostRuntime) {
-    for (list, verdict, report) in lists_and_reports_of_order_9() {
-        let row = (*list, NO_READ, NO_WRITE, *verdict, *report);
+    for (list, ended, report) in lists_and_reports_of_order_9() {
+        let row = (*list, NO_READ, NO_WRITE, *ended, *report);
         assert!(rt; is_verified(rt.alloc(), 9, &row), "{report}");
     }
 }
@@ -96,18 +97,24 @@ fn other_orders(rt: HostRuntime) {
         LIST_OF_10,
         NO_READ,
         NO_WRITE,
-        Verdict::Differs,
+        Ended::SomeRefused,
         REPORT_OF_10,
     );
     assert!(rt; is_verified(rt.alloc(), 10, &ten));
-    let eight = (LIST_OF_8, NO_READ, NO_WRITE, Verdict::Differs, REPORT_OF_8);
+    let eight = (
+        LIST_OF_8,
+        NO_READ,
+        NO_WRITE,
+        Ended::SomeRefused,
+        REPORT_OF_8,
+    );
     assert!(rt; is_verified(rt.alloc(), 8, &eight));
 }
 
-const FAILED: Verdict = Verdict::WriteFailed;
+const FAILED: Ended = Ended::WriteFailed;
 
 // The first, the second and the last write of a report fail, and a read after the first line.
-fn rows_of_faults() -> &'static [(u64, (u64, usize), Verdict, &'static str)] {
+fn rows_of_faults() -> &'static [(u64, (u64, usize), Ended, &'static str)] {
     &[
         (NO_READ, (0, 3), FAILED, "lin"),
         (NO_READ, (1, 0), FAILED, "line 1 foreign\n"),
@@ -124,11 +131,11 @@ fn rows_of_faults() -> &'static [(u64, (u64, usize), Verdict, &'static str)] {
             "line 1 foreign\nline 3 foreign\n\
              missing 9 69x61 [36,33][5,28][25,9,2][7][16] ; 2u.2aa.3uue.1ea.1ee\n; end",
         ),
-        (0, (9, 0), Verdict::ReadFailed, ""),
+        (0, (9, 0), Ended::ReadFailed, ""),
         (
             1,
             (9, 0),
-            Verdict::ReadFailed,
+            Ended::ReadFailed,
             "line 1 foreign\nline 3 foreign\n",
         ),
     ]
@@ -137,8 +144,8 @@ fn rows_of_faults() -> &'static [(u64, (u64, usize), Verdict, &'static str)] {
 #[test]
 fn faults(rt: HostRuntime) {
     let list = "[1]\n[18,15][7,8][14,4][10,1][9]\n[1,1]\n";
-    for (read, write, verdict, report) in rows_of_faults() {
-        let row = (list, *read, *write, *verdict, *report);
+    for (read, write, ended, report) in rows_of_faults() {
+        let row = (list, *read, *write, *ended, *report);
         assert!(rt; is_verified(rt.alloc(), 9, &row), "{report}");
     }
 }

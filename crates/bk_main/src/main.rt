@@ -1,35 +1,86 @@
 //! The workbench for squared rectangles.
 #![tactic(auto)]
 
-use bk_ports::{StdSink, StdSource};
-use std::env;
-use std::io::{self, ErrorKind};
+ghost use Rattle.std.specs.Prelude.{IfOk, drop, ◌≡◌};
+ghost use Rattle.std.specs.Process.{exit_status};
+ghost use Rattle.std.specs.Vec.Iter.{into_iter_items};
+ghost use Rattle.bk_main.specs.Ended.{EndsBy};
+
+use bk_ports::{Sink, Source, StdSink, StdSource};
+use std::alloc::{AllocError, Global};
+use std::env::{self, Args};
+use std::io::ErrorKind;
 use std::process::ExitCode;
 use std::rt::Env;
 
-// Memory for the words was wanting.
-const NO_MEMORY: u8 = 6;
-
-// The words can't be had, as where one isn't UTF-8.
-const NO_WORDS: u8 = 8;
+// Why there are no arguments.
+#[derive(Clone, Copy, Debug, PartialEq, Eq)]
+enum NoArguments {
+    // Memory for them was wanting.
+    NoMemory,
+    // They can't be had, as where one isn't UTF-8.
+    NotText,
+}
 
 fn main(rt: HostRuntime) -> ExitCode {
-    let words = match words(&rt) {
-        Ok(words) => words,
-        Err(error) if error.kind() == ErrorKind::OutOfMemory => return ExitCode::from(NO_MEMORY),
-        Err(_) => return ExitCode::from(NO_WORDS),
-    };
     let mut source = StdSource::new(rt.stdin());
     let mut out = StdSink::new(rt.stdout());
     let mut err = StdSink::new(rt.stderr());
-    ExitCode::from(bk_top::run(rt.alloc(), &words, &mut source, &mut out, &mut err))
+    run(rt.alloc(), &arguments(&rt), &mut source, &mut out, &mut err)
 }
 
-// The words of the command line, without the program's name.
-fn words<R: Env + AllocGlobal>(rt: &R) -> io::Result<Vec<String>> {
-    let mut words = Vec::new(rt.alloc());
-    for word in env::args(rt)?.skip(1) {
+// The arguments of the command line, without the program's name.
+fn arguments<R: Env + AllocGlobal>(rt: &R) -> Result<Vec<String>, NoArguments> {
+    match env::args(rt) {
+        Ok(args) => without_name(rt.alloc(), args).map_err(|_| NoArguments::NoMemory),
+        Err(error) if error.kind() == ErrorKind::OutOfMemory => Err(NoArguments::NoMemory),
+        Err(_) => Err(NoArguments::NotText),
+    }
+}
+
+// All arguments but the first, each as it is.
+fn without_name(alloc: Global, mut args: Args) -> Result<Vec<String>, AllocError>
+    ensures { IfOk result (λ v. v.items ≡ drop 1 (into_iter_items args)) }
+{
+    let _name = args.next();
+    let mut words = Vec::new(alloc);
+    for word in args {
         words.push(word)?;
     }
     Ok(words)
+}
+
+// Runs what the arguments ask, and gives the status of the run as that of the process. Where there are no arguments, nothing
+// is read or written, and the status says why.
+fn run<S: Source, O: Sink, E: Sink>(
+    alloc: Global,
+    arguments: &Result<Vec<String>, NoArguments>,
+    source: &mut S,
+    out: &mut O,
+    err: &mut E,
+) -> ExitCode
+    ensures { EndsBy arguments.now
+        (record {
+          left = S.left source.old;
+          read_faults = S.faults source.old;
+          written = O.written out.old;
+          write_faults = O.faults out.old;
+          errors = E.written err.old;
+          error_faults = E.faults err.old;
+        })
+        (record {
+          left = S.left source.new;
+          read_faults = S.faults source.new;
+          written = O.written out.new;
+          write_faults = O.faults out.new;
+          errors = E.written err.new;
+          error_faults = E.faults err.new;
+        })
+        (exit_status result) }
+{
+    match arguments {
+        Ok(words) => ExitCode::from(bk_top::run(alloc, words, source, out, err)),
+        Err(NoArguments::NoMemory) => ExitCode::from(6),
+        Err(NoArguments::NotText) => ExitCode::from(8),
+    }
 }

@@ -1,16 +1,10 @@
--- What quick tests of a tiling's squares in any order show: a longer square in a corner, and two squares of one side.
-use Rattle.std.specs.Prelude.{count_by, get_or, ◌==◌}
-use Rattle.std.proofs.Common.{List, arith, length, refl, slice_index_or, subst, sym, ℕ, ◌<◌, ◌∙◌, ◌≡◌, ◌≤◌}
-use Rattle.std.proofs.lemmas.Bool.{eq-eqb, eqb-true}
-use Rattle.bk_laws.proofs.Counts.{count_two}
+-- What a quick test of a tiling's squares in any order shows: a longer square in a corner.
+use Rattle.std.proofs.Common.{List, arith, length, slice_index_or, subst, ℕ, ◌<◌, ◌≡◌}
 use Rattle.bk_tiling.proofs.Members.{one_at}
-use Rattle.bk_tiling.proofs.OrderLaws.{in_code_order-count}
 use Rattle.bk_tiling.proofs.PuttingInOrder.{in_order}
 use Rattle.bk_tiling.specs.CodeOrder.{in_code_order}
 use Rattle.bk_tiling.specs.Tiling.{IsOneOf, IsTiling, Tiling}
 use Rattle.bk_tiling.specs.declared.Square.{Square}
-use Rattle.bk_simple.proofs.Repeats.{IsTwice, imperfect, twice_from_count}
-use Rattle.bk_simple.specs.Simple.{IsPerfect, IsRepeated}
 use Rattle.bk_sym.specs.Canonical.{IsCanonical}
 use Rattle.bk_barren.proofs.CornerTest.{IsLongerInCorner, in_corner}
 
@@ -36,37 +30,3 @@ not_greatest t squares width height k tiling w h same some x y longer canonical 
 
     here : (i : ℕ) → i < length squares → IsOneOf (slice_index_or squares i nowhere) t.squares
     here i low = subst (IsOneOf (slice_index_or squares i nowhere)) same (in_order squares (slice_index_or squares i nowhere) (one_at squares i nowhere low))
-
--- two squares of one side in some order show that the tiling isn't perfect
-pub not_perfect : (t : Tiling) (squares : List Square) (i j : ℕ) → in_code_order squares ≡ t.squares → i < j → j < length squares
-    → (slice_index_or squares i nowhere).s ≡ (slice_index_or squares j nowhere).s → IsPerfect t → ⊥
-not_perfect t squares i j same before below e = imperfect t (slice_index_or squares i nowhere).s twice
-  where
-    twice : IsRepeated t (slice_index_or squares i nowhere).s
-    twice = subst (λ (l : List Square). 2 ≤ count_by (λ q. q.s == (slice_index_or squares i nowhere).s) l) same
-        (omega (
-          arith,
-          in_code_order-count (λ q. q.s == (slice_index_or squares i nowhere).s) squares,
-          count_two (λ q. q.s == (slice_index_or squares i nowhere).s) squares i j nowhere before below
-              (eq-eqb (slice_index_or squares i nowhere).s (slice_index_or squares i nowhere).s refl)
-              (eq-eqb (slice_index_or squares j nowhere).s (slice_index_or squares i nowhere).s (sym e)),
-        ))
-
--- and where no two have one side it is
-pub perfect_if_none : (t : Tiling) (squares : List Square) → in_code_order squares ≡ t.squares
-    → ((i j : ℕ) → i < j → j < length squares → (slice_index_or squares i nowhere).s ≡ (slice_index_or squares j nowhere).s → ⊥) → IsPerfect t
-perfect_if_none t squares same none i j d before below e = none w.first w.second w.apart w.below
-    (eqb-true (get_or squares w.first nowhere).s (get_or t.squares i d).s w.one ∙ sym (eqb-true (get_or squares w.second nowhere).s (get_or t.squares
-    i d).s w.other))
-  where
-    twice : 2 ≤ count_by (λ q. q.s == (get_or t.squares i d).s) t.squares
-    twice = count_two (λ q. q.s == (get_or t.squares i d).s) t.squares i j d before below
-        (eq-eqb (get_or t.squares i d).s (get_or t.squares i d).s refl) (eq-eqb (get_or t.squares j d).s (get_or t.squares i d).s (sym e))
-
-    w : IsTwice (λ q. q.s == (get_or t.squares i d).s) squares nowhere
-    w = twice_from_count (λ q. q.s == (get_or t.squares i d).s) squares nowhere
-        (omega (
-          arith,
-          in_code_order-count (λ q. q.s == (get_or t.squares i d).s) squares,
-          subst (λ (l : List Square). 2 ≤ count_by (λ q. q.s == (get_or t.squares i d).s) l) (sym same) twice,
-        ))

@@ -1,5 +1,6 @@
 -- What a search for members keeps of the words that it met.
-use Rattle.std.specs.Prelude.{Contains, ℕ, ◌≡◌, ◌≤◌}
+use Rattle.std.specs.List.{AllByRecursion}
+use Rattle.std.specs.Prelude.{Contains, IsSome, List, length, ℕ, ◌<◌, ◌≡◌, ◌≤◌}
 use Rattle.bk_tiling.specs.Tiling.{Tiling}
 use Rattle.bk_simple.specs.Simple.{IsSimple}
 use Rattle.bk_sym.specs.Canonical.{IsCanonical}
@@ -7,11 +8,11 @@ use Rattle.bk_word.specs.Word.{Word}
 use Rattle.bk_word.specs.declared.Class.{Class}
 use Rattle.bk_catalogue.specs.Catalogue.{Entry, IsEntry, IsOfClass}
 use Rattle.bk_lay.specs.TilingWord.{IsWordOf}
-use Rattle.bk_signed_word.specs.SignedWord.{IsSignedWordOf}
-use Rattle.bk_table.specs.Kept.{Holds, Numbers}
-use Rattle.bk_table.specs.Packed.{packed}
-use Rattle.bk_table.specs.Span.{IsWithin}
-use Rattle.bk_table.specs.declared.span.Span.{Span}
+use Rattle.bk_normal_cuts.specs.NormalImage.{IsMetByNormalWord}
+use Rattle.bk_sym.specs.Image.{image}
+use Rattle.bk_sym.specs.declared.Turn.{Turn}
+use Rattle.bk_packed.specs.Kept.{AreAscendingNumbers, Holds, Numbers}
+use Rattle.bk_packed.specs.Packed.{packed}
 
 -- what is asked of a tiling besides its order
 pub record Qualifies (class : Class) (t : Tiling) : Type 0 where
@@ -38,10 +39,18 @@ IsMembersNumber s x = (e : Entry) × IsEntry s.order s.class e × (packed e.word
 abbrev pub HasOnlyMembers : Finding → Type 0
 HasOnlyMembers s = (x : ℕ) → Contains s.numbers.kept x → IsMembersNumber s x
 
--- what holds of each search
-pub record IsFinder (s : Finding) : Type 0 where
+-- there are more such numbers than there is room for
+pub record HasMoreMembers (room : ℕ) (s : Finding) : Type 0 where
+  pub numbers : List ℕ
+  pub ascending : AreAscendingNumbers numbers
+  pub each : AllByRecursion (IsMembersNumber s) numbers
+  pub more : room < length numbers
+
+-- what holds of each search that has room for so many
+pub record IsFinder (room : ℕ) (s : Finding) : Type 0 where
   pub few : s.order ≤ 16
   pub only : HasOnlyMembers s
+  pub cut : IsSome s.numbers.limit → HasMoreMembers room s
 
 -- what a search leaves as it is: the order and the class, and the number from which words are kept
 pub record Wanted : Type 0 where
@@ -56,16 +65,6 @@ wanted s = record { order = s.order; class = s.class; from = s.from }
 abbrev pub HoldsEntry : Finding → Entry → Type 0
 HoldsEntry s e = s.from ≤ packed e.word → Holds s.numbers (packed e.word)
 
--- no entry with a number in the span is held
-abbrev pub HasNone : Finding → Span → Type 0
-HasNone s span = (e : Entry) → IsWithin span (packed e.word) → HoldsEntry s e → ⊥
-
--- the span doesn't begin below the number from which words are kept, and no number in it is held
-pub record IsFree (s : Finding) (span : Span) : Type 0 where
-  pub order : span.low ≤ span.last
-  pub kept : s.from ≤ span.low
-  pub none : (x : ℕ) → IsWithin span x → Holds s.numbers x → ⊥
-
--- the members of which this is a signed word are held
+-- the members of which an image is met by this word are held
 abbrev pub HasMet : Finding → Word → Type 0
-HasMet s w = (e : Entry) → IsEntry s.order s.class e → IsSignedWordOf e.tiling w → HoldsEntry s e
+HasMet s w = (e : Entry) (turn : Turn) → IsEntry s.order s.class e → IsMetByNormalWord (image turn e.tiling) w → HoldsEntry s e

@@ -1,48 +1,32 @@
--- When a table of members is whole.
--- Examples (MembersExamples): of order 2 and the class imperfect the one member has the word 2e. With the first count 2 the table that
--- keeps its number is whole, and one that keeps nothing is not. With the first count 1 one that keeps nothing is whole. The one with its
--- number keeps only members, and one with the number 0 doesn't.
-use Rattle.std.specs.Prelude.{List, Some, [], length, slice_get, take, ℕ, ◌++◌, ◌<◌, ◌∷◌, ◌≡◌, ◌≤◌}
-use Rattle.bk_word.specs.Word.{Move, Word}
-use Rattle.bk_word.specs.declared.Class.{Class}
-use Rattle.bk_word.specs.declared.Sign.{Sign}
-use Rattle.bk_barren.specs.Cuts.{IsBarren}
+-- When a table of members is whole, and what it tells of the numbers from a bound on.
+-- Examples (MembersExamples): of order 2 and the class imperfect the one member has the word 2e. The table that keeps its number is whole, and one
+-- that keeps nothing is not. The one with its number keeps only members, and one with the number 0 doesn't. The least number from 0 on is that of
+-- 2e, and behind it there is none.
+use Rattle.std.specs.List.{AllByRecursion}
+use Rattle.std.specs.Prelude.{None, ℕ, ◌<◌, ◌≡◌, ◌≤◌}
 use Rattle.bk_catalogue.specs.Catalogue.{Entry, IsEntry}
-use Rattle.bk_table.specs.Span.{begun_digits, span_from}
-use Rattle.bk_member_table.specs.Finding.{Finding, HoldsEntry, IsFree}
+use Rattle.bk_packed.specs.Kept.{AreAscendingNumbers, IsFirstFrom}
+use Rattle.bk_packed.specs.Packed.{packed}
+use Rattle.bk_member_table.specs.Finding.{Finding, HoldsEntry, IsMembersNumber}
 
--- the count of the first move, and what was found
-pub record Members : Type 0 where
-  pub count : ℕ
-  pub found : Finding
-
--- the first move, if there is one, hangs so many squares
-abbrev pub BeginsBy : ℕ → Word → Type 0
-BeginsBy count w = (m : Move) → slice_get w 0 ≡ Some m → m.count ≡ count
-
--- the theorem of a table of one order, class, first count and number to begin at: each member of the order and the class whose
--- word begins with a move of the count, and whose number isn't below that from which words are kept, is held. Its number is in the
--- table, or the table was cut and it is above the greatest that is kept.
-abbrev pub IsWhole : Members → Type 0
-IsWhole t = (e : Entry) → IsEntry t.found.order t.found.class e → BeginsBy t.count e.word → HoldsEntry t.found e
+-- the theorem of a table of one order, class and number to begin at: each member of the order and the class whose number isn't below that from
+-- which words are kept is held. Its number is in the table, or the table was cut and it is above the greatest that is kept.
+abbrev pub IsWhole : Finding → Type 0
+IsWhole t = (e : Entry) → IsEntry t.order t.class e → HoldsEntry t e
 
 -- what holds of each table
-pub record IsMemberTable (t : Members) : Type 0 where
-  pub few : t.found.order ≤ 16
+pub record IsMemberTable (t : Finding) : Type 0 where
+  pub few : t.order ≤ 16
   pub whole : IsWhole t
+  pub ascending : AreAscendingNumbers t.numbers.kept
 
--- the table is one of this order and class, and of a count by which these moves begin
-pub record Tells (t : Members) (n : ℕ) (class : Class) (front : Word) : Type 0 where
-  pub order : t.found.order ≡ n
-  pub class_is : t.found.class ≡ class
-  pub some : 0 < length front
-  pub begins : BeginsBy t.count front
+-- the least number that is kept and isn't below a bound: that of a member's word, and no member's word has a number from the bound on that is less
+pub record IsNextNumber (t : Finding) (bound x : ℕ) : Type 0 where
+  pub member : IsMembersNumber t x
+  pub first : IsFirstFrom t.numbers.kept bound x
+  pub least : t.from ≤ bound → (e : Entry) → IsEntry t.order t.class e → bound ≤ packed e.word → x ≤ packed e.word
 
--- no member's word goes on from these moves by a move of the same count that begins with so many of the move's signs
-pub record IsBarrenBy (n : ℕ) (class : Class) (front : Word) (m : Move) (kept : ℕ) : Type 0 where
-  pub within : kept ≤ length m.signs
-  pub barren : (other : Move) (more : List Sign) → other.count ≡ m.count → other.signs ≡ take kept m.signs ++ more → IsBarren n class (front ++ other ∷ [])
-
--- with fewer of the move's signs something that may be held has a number in the span of what begins so
-abbrev pub IsLeastFree : Finding → Word → Move → ℕ → Type 0
-IsLeastFree s front m kept = (k : ℕ) → k < kept → IsFree s (span_from (begun_digits front m.count (take k m.signs))) → ⊥
+-- all numbers that are kept are below a bound; so where none was dropped no member's word has a number from the bound on
+pub record HasNoneFrom (t : Finding) (bound : ℕ) : Type 0 where
+  pub kept : AllByRecursion (λ y. y < bound) t.numbers.kept
+  pub none : t.from ≤ bound → t.numbers.limit ≡ None → (e : Entry) → IsEntry t.order t.class e → bound ≤ packed e.word → ⊥

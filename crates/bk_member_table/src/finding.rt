@@ -1,31 +1,38 @@
-//! The members whose signed words a search meets.
+//! The members of which a search meets a word of an image.
 
-ghost use Rattle.std.specs.Prelude.{IsTrue, Some, [], false, ℕ, ◌<◌, ◌≡◌, ◌≤◌};
-ghost use Rattle.bk_tiling.specs.Tiling.{IsTiling, Tiling as Tiled};
-ghost use Rattle.bk_sym.specs.Canonical.{IsCanonical};
+ghost use Rattle.std.specs.Prelude.{IsSome, IsTrue, None, [], ℕ, ◌<◌, ◌≡◌, ◌≤◌};
+ghost use Rattle.bk_tiling.specs.Tiling.{Tiling as Tiled};
+ghost use Rattle.bk_tiling.specs.Scale.{IsPrimitiveTiling};
+ghost use Rattle.bk_sym.specs.Image.{image};
+ghost use Rattle.bk_sym.specs.declared.Turn.{Turn as Turned};
+ghost use Rattle.bk_normal.specs.Normal.{IsHalf};
+ghost use Rattle.bk_normal_cuts.specs.NormalImage.{AreSettledCounts, IsMetByNormalWord};
 ghost use Rattle.bk_catalogue.specs.Catalogue.{IsMember, IsOfClass};
-ghost use Rattle.bk_signed_word.specs.SignedWord.{IsSignedWordOf};
 ghost use Rattle.bk_word.specs.Play.{IsComplete};
 ghost use Rattle.bk_word.specs.Word.{Word as Moves, order_of};
 ghost use Rattle.bk_lay.specs.TilingWord.{IsWordOf};
-ghost use Rattle.bk_table.specs.Kept.{Holds};
-ghost use Rattle.bk_table.specs.Packed.{packed};
-ghost use Rattle.bk_leaf.specs.Found.{IsFound, IsPlacementOf};
-ghost use Rattle.bk_member_table.specs.Finding.{HasNone, HasOnlyMembers, IsFree, IsHeld, wanted};
+ghost use Rattle.bk_packed.specs.Kept.{AreAscendingNumbers, Holds};
+ghost use Rattle.bk_packed.specs.Packed.{packed};
+ghost use Rattle.bk_free_leaf.specs.Found.{IsFound, IsPlacementOf};
+ghost use Rattle.bk_free_leaf.specs.Ties.{AreTiesOf};
+ghost use Rattle.bk_free_search.specs.SeenCounts.{seen_counts};
+ghost use Rattle.bk_member_table.specs.Finding.{HasMoreMembers, HasOnlyMembers, IsHeld, wanted};
 
-use crate::judging::{is_allowed, qualifies};
+use crate::judging::is_simple_of;
+use bk_free_leaf::{Placed, Ties, leaf};
+use bk_free_search::{Board, Counts, Leaves};
 use bk_lay::word_of;
-use bk_leaf::{Placed, leaf};
-use bk_table::{Board, Leaves, Packed, Span, Table};
+use bk_packed::{Packed, Table};
+use bk_sym::canonical;
 use bk_tiling::Tiling;
 use bk_word::Class;
 use std::alloc::Global;
 use std::marker::Model;
 
-/// Puts the packed words of the members of an order and a class into a table, from a number on, as a search meets their signed words, and no
-/// other numbers. (Own.)
+// Puts the packed words of the members of an order and a class into a table, from a number on, as a search meets words of their images, and no
+// other numbers.
 #[derive(Drop)]
-pub struct Finder<const N: usize> {
+pub(crate) struct Finder<const N: usize> {
     alloc: Global,
     order: u8,
     class: Class,
@@ -40,14 +47,14 @@ impl<const N: usize> Model for Finder<N> {
 
     ghost view = { λ s. record { order = s.order; class = s.class; from = s.from; numbers = s.table } };
 
-    ghost invariant = { λ s. IsFinder (record { order = s.order; class = s.class; from = s.from; numbers = s.table }) };
+    ghost invariant = { λ s. IsFinder N (record { order = s.order; class = s.class; from = s.from; numbers = s.table }) };
 }
 
 impl<const N: usize> Finder<N> {
     /// One that has met no word.
     pub fn new(alloc: Global, order: u8, class: Class, from: u128) -> Finder<N>
         requires { order ≤ 16 }
-        ensures { result ≡ record { order = order; class = class; from = from; numbers = record { kept = []; cut = false } } }
+        ensures { result ≡ record { order = order; class = class; from = from; numbers = record { kept = []; limit = None } } }
     {
         Finder {
             alloc,
@@ -72,29 +79,38 @@ impl<const N: usize> Finder<N> {
         self.class
     }
 
-    /// The table, which keeps the numbers of members alone.
+    /// The number from which words are kept.
+    pub fn from(&self) -> u128
+        ensures { result ≡ self.now.from }
+    {
+        self.from
+    }
+
+    /// The table, which keeps the numbers of members alone, and dropped some only where there are more than it has room for.
     pub fn table(&self) -> &Table<N>
         ensures value { result.now ≡ self.now.numbers }
         ensures only { HasOnlyMembers self.now }
+        ensures full { IsSome self.now.numbers.limit → HasMoreMembers N self.now }
     {
         &self.table
     }
 
-    /// Whether no member that was met has its number in the span, where the number isn't below those that are kept. It says so of each span, from
-    /// its least number to its greatest, that doesn't begin below those, and of which no number is held.
-    pub fn rules_out(&self, span: Span) -> bool
-        ensures none { IsTrue result → HasNone self.now span }
-        ensures all { IsFree self.now span → IsTrue result }
+    /// Brings the numbers into ascending order, each once.
+    pub fn settle(&mut self)
+        ensures fixed { wanted self.new ≡ wanted self.old }
+        ensures ascending { AreAscendingNumbers self.new.numbers.kept }
+        ensures kept { (x : ℕ) → Holds self.old.numbers x → Holds self.new.numbers x }
     {
-        self.from <= span.low && self.table.rules_out(span)
+        self.table.settle();
     }
 
-    // Puts the word of the tiling that the squares are placed as into the table, where it is a member. Most words are met without it,
-    // and without its room for a tiling.
+    // Puts the word of the canonical tiling of the one that the squares are placed as into the table, where this is a member. Most words
+    // are met without it, and without its room for tilings.
     #[inline(never)]
     fn meet_placed(&mut self, placed: &Placed)
         ensures fixed { wanted self.new ≡ wanted self.old }
-        ensures put { (t : Tiled) → IsMember self.old.order self.old.class t → IsPlacementOf t placed.now → IsHeld self.old.from self.new.numbers t }
+        ensures put { (t : Tiled) (turn : Turned) → IsMember self.old.order self.old.class t → IsPlacementOf (image turn t) placed.now
+            → IsHeld self.old.from self.new.numbers t }
         ensures kept { (x : ℕ) → Holds self.old.numbers x → Holds self.new.numbers x }
     {
         let squares = placed.squares.as_slice();
@@ -104,20 +120,25 @@ impl<const N: usize> Finder<N> {
         }
     }
 
-    // Puts the word of a tiling into the table, where it is a member.
+    // Puts the word of a tiling's canonical tiling into the table, where this is a member.
     fn meet_tiling(&mut self, tiling: &Tiling)
         ensures fixed { wanted self.new ≡ wanted self.old }
-        ensures put { IsMember self.old.order self.old.class tiling.now → IsHeld self.old.from self.new.numbers tiling.now }
+        ensures put { (t : Tiled) (turn : Turned) → IsMember self.old.order self.old.class t → tiling.now ≡ image turn t
+            → IsHeld self.old.from self.new.numbers t }
         ensures kept { (x : ℕ) → Holds self.old.numbers x → Holds self.new.numbers x }
     {
-        if tiling.order() == usize::from(self.order) && qualifies(tiling, self.class) {
-            self.put(tiling);
+        if tiling.order() != usize::from(self.order) {
+            return;
+        }
+        let member = canonical(tiling);
+        if is_simple_of(&member, self.class) {
+            self.put(&member);
         }
     }
 
     // Puts the word of a member into the table, where it isn't before those that are kept.
     fn put(&mut self, tiling: &Tiling)
-        requires { IsMember self.old.order self.old.class tiling.now }
+        requires member { IsMember self.old.order self.old.class tiling.now }
         ensures fixed { wanted self.new ≡ wanted self.old }
         ensures put { IsHeld self.old.from self.new.numbers tiling.now }
         ensures kept { (x : ℕ) → Holds self.old.numbers x → Holds self.new.numbers x }
@@ -148,26 +169,59 @@ impl<const N: usize> Leaves for Finder<N> {
     }
 }
 
-// The squares of which the board's complete word can be a signed word, where the corners and the class allow them: each canonical
-// tiling of the class of which it is one is placed so.
+// The squares of the image that the board's complete word can meet, if they can be those of one of the class.
 fn placed_at(board: &Board, class: Class) -> Option<Placed>
     requires complete { IsComplete board.now }
     requires few { order_of board.now ≤ 16 }
-    ensures { (t : Tiled) → IsTiling t → IsOfClass class t → IsCanonical t → IsSignedWordOf t board.now → IsFound t result }
+    ensures { (u : Tiled) → IsMetByNormalWord u board.now → IsPrimitiveTiling u → IsOfClass class u → IsFound u result }
 {
-    match leaf(board.skel(), board.lefts()) {
-        Some(placed) => only_allowed(placed, class),
-        None => None,
+    let counts = board.counts();
+    if lies_better(&counts) {
+        return None;
+    }
+    leaf(board.skel(), board.lefts(), ties_of(&counts), class)
+}
+
+// Whether the counts are such that another image, with columns and levels exchanged, is met in place of this one.
+fn lies_better(counts: &Counts) -> bool
+    ensures { IsTrue result → AreSettledCounts (seen_counts counts.now) → ⊥ }
+{
+    if !is_half(counts) {
+        return false;
+    }
+    counts.right == counts.top && counts.left > counts.bottom
+}
+
+// Which of these counts tie.
+fn ties_of(counts: &Counts) -> Ties
+    ensures { AreTiesOf (seen_counts counts.now) result }
+{
+    Ties {
+        level: counts.bottom == counts.top,
+        across: counts.left == counts.right,
+        size: is_turned_alike(counts),
     }
 }
 
-// The placed squares, if the corners and the class allow them.
-fn only_allowed(placed: Placed, class: Class) -> Option<Placed>
-    ensures { (t : Tiled) → IsTiling t → IsOfClass class t → IsCanonical t → IsPlacementOf t placed → IsFound t result }
+// Whether the counts are those of an image that lies where this one stands: the nodes are half of three more than the squares, and as
+// many squares lie at the right as at the top, and at the left as at the bottom.
+fn is_turned_alike(counts: &Counts) -> bool
+    ensures half { IsTrue result → IsHalf (seen_counts counts.now) }
+    ensures right { IsTrue result → counts.now.right ≡ counts.now.top }
+    ensures left { IsTrue result → counts.now.left ≡ counts.now.bottom }
 {
-    if is_allowed(&placed, class) {
-        Some(placed)
-    } else {
-        None
+    if !is_half(counts) {
+        return false;
     }
+    counts.right == counts.top && counts.left == counts.bottom
+}
+
+// Whether the moves are half of one more than the squares.
+fn is_half(counts: &Counts) -> bool
+    ensures { IsTrue result → IsHalf (seen_counts counts.now) }
+{
+    if counts.moves == 0 || counts.squares < counts.moves {
+        return false;
+    }
+    counts.squares - counts.moves == counts.moves - 1
 }

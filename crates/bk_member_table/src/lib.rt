@@ -5,9 +5,6 @@ mod corners;
 mod finding;
 mod judging;
 mod members;
-mod repeats;
 
-pub use bk_table::span_of;
-pub use finding::Finder;
 pub use judging::qualifies;
 pub use members::MemberTable;

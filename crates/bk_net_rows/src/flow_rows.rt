@@ -2,7 +2,9 @@
 
 ghost use Rattle.std.specs.Prelude.{◌+◌, ◌*◌, ◌≡◌, ◌≤◌};
 
-use bk_flow::{Flow, FlowFault, SMALL, solve, solve_small};
+use bk_flow::{
+    Flow, FlowFault, NarrowFlow, SMALL, SmallFlow, narrow_flow, solve, solve_small, whole_flow,
+};
 use bk_net::{Net, NetLine, read_net};
 use std::alloc::Global;
 
@@ -77,6 +79,72 @@ fn flows_of_small_nets(rt: HostRuntime) {
             flows_both_ways(rt.alloc(), line, *total, currents),
             "{line}"
         );
+    }
+}
+
+// Whether numbers of 64 bits are these.
+fn are_numbers(numbers: &[i64], want: &[i128]) -> bool {
+    if numbers.len() != want.len() {
+        return false;
+    }
+    for i in 0..want.len() {
+        if i128::from(numbers[i]) != want[i] {
+            return false;
+        }
+    }
+    true
+}
+
+// Whether numbers of 32 bits are these.
+fn are_small_numbers(numbers: &[i32], want: &[i128]) -> bool {
+    if numbers.len() != want.len() {
+        return false;
+    }
+    for i in 0..want.len() {
+        if i128::from(numbers[i]) != want[i] {
+            return false;
+        }
+    }
+    true
+}
+
+// Whether a flow in 64 bits has this total and these currents.
+fn is_narrow_flow(flow: &NarrowFlow, total: i128, currents: &[i128]) -> bool {
+    i128::from(flow.total()) == total && are_numbers(flow.currents(), currents)
+}
+
+// Whether one in 32 bits has.
+fn is_small_flow(flow: &SmallFlow, total: i128, currents: &[i128]) -> bool {
+    i128::from(flow.total()) == total && are_small_numbers(flow.currents(), currents)
+}
+
+// Whether the flow of a small net is found with this total and these currents in 64 bits, and in 32 bits.
+fn flows_narrowly(net: &Net, total: i128, currents: &[i128]) -> bool {
+    if net.loose().is_some() || net.wires().len() > SMALL {
+        return false;
+    }
+    match whole_flow(net) {
+        Some(flow) => {
+            is_small_flow(&flow, total, currents)
+                && is_narrow_flow(&narrow_flow(net), total, currents)
+        }
+        None => false,
+    }
+}
+
+// The same of the net of a line.
+fn line_flows_narrowly(line: &str, total: i128, currents: &[i128]) -> bool {
+    match net_in(line) {
+        Some(net) => flows_narrowly(&net, total, currents),
+        None => false,
+    }
+}
+
+// Whole numbers of 32 bits decide each of these nets.
+#[test]
+fn narrow_flows(rt: HostRuntime) {
+    for (line, total, currents) in rows_of_flows() {
+        assert!(rt; line_flows_narrowly(line, *total, currents), "{line}");
     }
 }
 

@@ -107,6 +107,88 @@ fn realises_words(rt: HostRuntime) {
     }
 }
 
+// Whether a word is realised in this room as this rectangle, which then stands in the room for a tiling.
+fn is_realised_in(
+    alloc: Global,
+    word: &Word,
+    room: &mut Room,
+    tiling: &mut Tiling,
+    want: &Option<Rectangle>,
+) -> bool {
+    if word.moves() == 0 {
+        return false;
+    }
+    match (realise_in(alloc, word, room, tiling), want) {
+        (Ok(Realised::Found), Some(rectangle)) => is_tiling(tiling, rectangle),
+        (Ok(Realised::Nothing), None) => true,
+        _ => false,
+    }
+}
+
+// The same of the word of a text.
+fn realises_in(
+    alloc: Global,
+    text: &str,
+    room: &mut Room,
+    tiling: &mut Tiling,
+    want: &Option<Rectangle>,
+) -> bool {
+    match read_word(alloc, text.as_bytes()) {
+        Ok(word) => is_realised_in(alloc, &word, room, tiling, want),
+        Err(_) => false,
+    }
+}
+
+// One room serves all words, the same one twice, and one behind a word that is refused.
+#[test]
+fn realises_words_in_one_room(rt: HostRuntime) {
+    let mut room = Room::new();
+    let mut tiling = Tiling::unit();
+    for (text, want) in words_and_rectangles() {
+        for _ in 0..2 {
+            assert!(rt;
+                realises_in(rt.alloc(), text, &mut room, &mut tiling, want),
+                "{text}"
+            );
+        }
+        assert!(rt; !realises_in(rt.alloc(), "2u.2e.1", &mut room, &mut tiling, want));
+    }
+}
+
+// Whether the flow of a closed skeleton of few squares has this total and these currents.
+fn has_flow(skel: &Skel, total: i64, currents: &[i64]) -> bool {
+    if !skel.is_closed() || skel.order() > INLINE_ORDER {
+        return false;
+    }
+    let flow = flow_of(skel);
+    flow.total() == total && flow.currents() == currents
+}
+
+// Whether the flow of the net of a word has.
+fn word_has_flow(alloc: Global, text: &str, total: i64, currents: &[i64]) -> bool {
+    match skeleton(alloc, text.as_bytes()) {
+        Some(skel) => has_flow(&skel, total, currents),
+        None => false,
+    }
+}
+
+fn words_and_flows() -> &'static [(&'static str, i64, &'static [i64])] {
+    &[
+        ("1", 1, &[1]),
+        ("2e.2e", 2, &[1, 1, 1, 1]),
+        ("2u.2eu.1e", 8, &[5, 3, 2, 1, 1]),
+        ("2u.2ea.1e", 2, &[1, 1, 0, 1, 1]),
+    ]
+}
+
+// The net of 2u.2ea.1e is a bridge in balance, whose middle wire has no current: so no tiling has this word.
+#[test]
+fn flows_of_words(rt: HostRuntime) {
+    for (text, total, currents) in words_and_flows() {
+        assert!(rt; word_has_flow(rt.alloc(), text, *total, currents), "{text}");
+    }
+}
+
 // Why a word is refused.
 fn refusal(alloc: Global, text: &[u8]) -> Option<SolveFault> {
     let word = read_word(alloc, text).ok()?;

@@ -29,7 +29,8 @@ none_counted p (x ∷ xs) e = elim (cases_Bool (p x)) [
       omega (arith, none, none_counted p xs (sym (ap (λ (v : Bool). v || list_any p xs) f) ∙ e), sum_by-cons (λ y. cond {A = ℕ} (p y) 1 0) x xs)
 ]
 
-once_each : (xs : List ℕ) → no_twice xs ≡ true → (side : ℕ) → count_by (λ s. s == side) xs ≤ 1
+-- where none stands twice, each number is counted once at most
+pub once_each : (xs : List ℕ) → no_twice xs ≡ true → (side : ℕ) → count_by (λ s. s == side) xs ≤ 1
 once_each [] e side = omega arith
 once_each (x ∷ xs) e side =
     let parts = and_parts (not (list_any (λ y. y == x) xs)) (no_twice xs) e in
@@ -50,7 +51,8 @@ once_each (x ∷ xs) e side =
     not_false true e = absurd (true≢false (sym e))
     not_false false e = refl
 
-apart_from_counts : (xs : List ℕ) → ((side : ℕ) → ¬ (2 ≤ count_by (λ s. s == side) xs)) → no_twice xs ≡ true
+-- and back
+pub apart_from_counts : (xs : List ℕ) → ((side : ℕ) → ¬ (2 ≤ count_by (λ s. s == side) xs)) → no_twice xs ≡ true
 apart_from_counts [] none = refl
 apart_from_counts (x ∷ xs) none = elim (cases_Bool (list_any (λ y. y == x) xs)) [
   | inl t ↦
@@ -63,7 +65,8 @@ apart_from_counts (x ∷ xs) none = elim (cases_Bool (list_any (λ y. y == x) xs
 
 -- ---- the tests
 
-laid_to : (a b : Tiling) → can_be_laid a b ≡ true → CanBeLaid a b
+-- what passes the test can be laid together
+pub laid_to : (a b : Tiling) → can_be_laid a b ≡ true → CanBeLaid a b
 laid_to a b e =
     let p = and_parts (nat_eq a.width b.width && nat_eq a.height b.height) _ e in
     let size = and_parts (nat_eq a.width b.width) (nat_eq a.height b.height) p.0 in
@@ -97,7 +100,8 @@ laid_from a b can =
     le_test : (m n : ℕ) → m ≤ n → nat_le m n ≡ true
     le_test m n h = grind (arith, nat_tests)
 
-pair_to : (a b : Tiling) → are_pair a b ≡ true → ArePair a b
+-- what passes the test is a pair
+pub pair_to : (a b : Tiling) → are_pair a b ≡ true → ArePair a b
 pair_to a b e =
     let p = and_parts (can_be_laid a b) (no_twice (pair_sides a b)) e in
     record { laid = laid_to a b p.0; differ = λ side two. omega (arith, two, once_each (pair_sides a b) p.1 side) }
@@ -126,7 +130,7 @@ not_pair a b (faults.Long side) fault pair = omega (arith, fault.3, fault.4, pai
 not_pair a b (faults.Twice side) fault pair = pair.differ side fault.1.shared
 
 -- the tests, by what the calls gave
-test_of : (b : Bool) (P : Type 0) → (b ≡ true → P) → (P → ⊥) → b ≡ false
+pub test_of : (b : Bool) (P : Type 0) → (b ≡ true → P) → (P → ⊥) → b ≡ false
 test_of true P to never = absurd (never (to refl))
 test_of false P to never = refl
 

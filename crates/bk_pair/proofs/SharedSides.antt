@@ -76,7 +76,8 @@ count_kept f keeps side (q ∷ squares) = omega (
   sum_by-cons (λ (q : Square). cond {A = ℕ} (q.s == side) 1 0) q squares,
 )
 
-count_sides : (side : ℕ) (squares : List Square) → count_by (λ s. s == side) (map (λ q. q.s) squares) ≡ count_by (λ q. q.s == side) squares
+-- the sides of squares are counted as the squares are
+pub count_sides : (side : ℕ) (squares : List Square) → count_by (λ s. s == side) (map (λ q. q.s) squares) ≡ count_by (λ q. q.s == side) squares
 count_sides side [] = refl
 count_sides side (q ∷ squares) =
     omega (

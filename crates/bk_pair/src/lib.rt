@@ -7,13 +7,17 @@ ghost use Rattle.std.specs.List.{AllByRecursion};
 ghost use Rattle.bk_tiling.specs.Scale.{moved_square};
 ghost use Rattle.bk_tiling.specs.Tiling.{order, sides_of};
 ghost use Rattle.bk_simple.specs.Simple.{IsPerfect};
+ghost use Rattle.bk_pair.specs.OwnSides.{PairsByConditions};
 ghost use Rattle.bk_pair.specs.PairTest.{TheTestsDecide};
 ghost use Rattle.bk_pair.specs.Pair.{ArePair, CanBeLaid, IsLayingFault, IsLeastShared, IsPairFault, IsSharedSide, joined_square, pair_sides};
+
+mod kept;
 
 use arrayvec::ArrayVec;
 use bk_simple::first_twice;
 use bk_sym::{Turn, image};
 use bk_tiling::{LONGEST_SIDE, MOST_SQUARES, Square, Tiling, put_in_order};
+pub use kept::KeptTiling;
 
 /// Why two tilings make no square, or no perfect one. The names and their order are this project's own.
 #[derive(Clone, Copy, Debug, PartialEq, Eq)]
@@ -65,6 +69,13 @@ pub fn join(a: &Tiling, b: &Tiling) -> Result<Tiling, PairFault>
 /// they join.
 pub fn the_tests_decide()
     ensures { TheTestsDecide }
+{}
+
+/// Two tilings join to a perfect square exactly where they are of one size that is no square's, both are perfect, no side is
+/// in both, none is their width or their height, they have at most 198 squares together, and neither width nor height is
+/// above 999,999,999,999,999.
+pub fn a_pair_meets_its_conditions()
+    ensures { PairsByConditions }
 {}
 
 // Why the two are not laid together.

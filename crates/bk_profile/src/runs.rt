@@ -1,9 +1,9 @@
 //! The outline of laid squares as level runs of columns, side by side.
 
 ghost use Rattle.std.specs.List.{All, AllByRecursion, HoldsAt};
-ghost use Rattle.std.specs.Prelude.{drop, length, slice_index_or, sum, take, ℕ, ◌+◌, ◌++◌, ◌<◌, ◌^◌, ◌≡◌, ◌≤◌};
+ghost use Rattle.std.specs.Prelude.{drop, length, slice_index_or, slice_set, sum, take, ℕ, ◌+◌, ◌++◌, ◌<◌, ◌^◌, ◌≡◌, ◌≤◌};
 ghost use Rattle.bk_tiling.specs.Kept.{IsSide};
-ghost use Rattle.bk_profile.specs.Outline.{IsLowest, runs_under, start, width_of};
+ghost use Rattle.bk_profile.specs.Outline.{IsLowest, run_under, runs_under, start, width_of};
 
 use arrayvec::ArrayVec;
 use bk_tiling::{MOST_SQUARES, Segment};
@@ -92,18 +92,32 @@ pub(crate) fn hang(
 )
     requires order { first < end }
     requires within { end ≤ length outline.old.items }
+    requires some { 0 < length sides.now }
     requires room { length outline.old.items + length sides.now ≤ 201 }
     requires high { level < 2 ^ 63 }
     requires sides { AllByRecursion IsSide sides.now }
     ensures { outline.new.items ≡ (take first outline.old.items ++ runs_under level sides.now) ++ drop end outline.old.items }
 {
-    take_out(outline, first, end);
-    put_in(outline, first, level, sides);
+    set_run(outline, first, level, sides[0]);
+    take_out(outline, first + 1, end);
+    put_in(outline, first + 1, level, &sides[1..]);
+}
+
+// Puts the run under a square in the place of another.
+fn set_run(outline: &mut ArrayVec<Run, MOST_RUNS>, place: usize, level: u64, side: u64)
+    requires place { place < length outline.old.items }
+    requires fits { level + side < 2 ^ 64 }
+    ensures { outline.new.items ≡ slice_set outline.old.items place (run_under level side) }
+{
+    outline[place] = Run {
+        width: side,
+        level: level + side,
+    };
 }
 
 // Takes out the runs from one place up to another.
 fn take_out(outline: &mut ArrayVec<Run, MOST_RUNS>, first: usize, end: usize)
-    requires order { first < end }
+    requires order { first ≤ end }
     requires within { end ≤ length outline.old.items }
     ensures { outline.new.items ≡ take first outline.old.items ++ drop end outline.old.items }
 {

@@ -300,7 +300,7 @@ fn counts_pushes(rt: HostRuntime) {
     parts_of_order_9::<Brand>(&rt, rt.alloc(), Blank::new(1));
 }
 
-// Of the 22 members of order 11 the eighth and the sixteenth word.
+// The eighth and the sixteenth word among the members of order 11.
 const EIGHTH_OF_11: &str = "2u.2aa.3uuu.2eaa.1ee.1ee";
 
 const SIXTEENTH_OF_11: &str = "2u.3eaa.3uue.2eae.1ee";

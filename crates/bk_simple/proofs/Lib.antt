@@ -9,5 +9,6 @@ pub mod Parts
 pub mod CornerOrder
 pub mod PartTrials
 pub mod Reaching
+pub mod Seams
 pub mod Repeats
 pub mod OneFirst

@@ -1,16 +1,17 @@
 -- What the trial of one pair of squares shows, and how the trials lead from pair to pair to the first part.
-use Rattle.std.specs.Prelude.{count_by, false, get_or, length, ℕ, ◌+◌, ◌<◌}
+use Rattle.std.specs.Prelude.{count_by, get_or, length, ℕ, ◌+◌, ◌<◌}
 use Rattle.std.specs.Prelude.{◌≡◌, ◌≢◌, ◌≤◌, ◌⊎◌}
 use Rattle.std.proofs.Common.{arith, inl, inr, subst}
-use Rattle.std.proofs.lemmas.Bool.{cases_eq}
-use Rattle.bk_tiling.specs.Tiling.{IsTiling, Rectangle, Tiling, order}
+use Rattle.std.proofs.lemmas.Bool.{cases_eq, true_from_ne_false}
+use Rattle.bk_tiling.specs.Tiling.{IsTiling, IsWithin, Rectangle, Tiling, order}
 use Rattle.bk_tiling.specs.declared.Square.{Square}
 use Rattle.bk_simple.specs.Border.{IsUncut, is_inside}
 use Rattle.bk_simple.specs.Simple.{IsFirstPart, IsPart, IsSimple, bottom_right, top_left}
-use Rattle.bk_simple.specs.Corners.{IsBetween, IsFirstPartFrom, IsPartAt}
+use Rattle.bk_simple.specs.Corners.{IsBetween, IsFirstPartFrom, IsHeldBetween, IsPartAt}
+use Rattle.bk_simple.specs.Reach.{NoneHigher, NoneWider}
 use Rattle.bk_simple.proofs.Parts.{across, between_corners, bottom_right_below, count_of_part, top_left_below, uncut_part}
 use Rattle.bk_simple.proofs.PartCorners.{between-one, bottom_right_at, top_left_at}
-use Rattle.bk_simple.proofs.UncutParts.{part_from_count, side_at, within_at}
+use Rattle.bk_simple.proofs.UncutParts.{inside_means, part_from_count, side_at, within_at}
 use Rattle.bk_simple.proofs.CornerOrder.{corners_apart}
 
 -- what the trial of one pair of squares shows
@@ -20,35 +21,56 @@ module _ (t : Tiling) (tiling : IsTiling t) (i j : ℕ) (d : Square) where
       subst (λ k. IsBetween (get_or t.squares k d) (get_or t.squares j d) r) p.first
       (subst (λ k. IsBetween (get_or t.squares (top_left t r) d) (get_or t.squares k d) r) p.last (between_corners t r tiling p.part d))
 
-  -- where no rectangle lies between the two squares, no part has them at its corners
-  pub none_between : ((r : Rectangle) → ¬ (IsBetween (get_or t.squares i d) (get_or t.squares j d) r)) → (r : Rectangle) → ¬ (IsPartAt t i j r)
-  none_between nowhere r p = nowhere r (corners_at r p)
+  -- a part with the two squares at its corners holds both, and goes past no end that none without a cut square goes past
+  held_at : (right bottom : ℕ) → NoneWider t.squares (get_or t.squares i d) t.width right → NoneHigher t.squares (get_or t.squares i d) t.height bottom
+      → (r : Rectangle) → IsPartAt t i j r → i < length t.squares → j < length t.squares
+      → IsHeldBetween (get_or t.squares i d) (get_or t.squares j d) (right, bottom) r
+  held_at right bottom wider higher r p first last = record {
+    corners = c;
+    first_column = omega (arith, c.left, holds_last.left);
+    first_level = omega (arith, c.top, holds_last.top);
+    last_column = omega (arith, c.right, holds_first.right);
+    last_level = omega (arith, c.bottom, holds_first.bottom);
+    narrow = omega (arith, c.right, wider r c.left c.top uncut (omega (arith, c.right, (within_at t tiling j d last).right)));
+    low = omega (arith, c.bottom, higher r c.left c.top uncut (omega (arith, c.bottom, (within_at t tiling j d last).bottom)));
+  }
+    where
+      c : IsBetween (get_or t.squares i d) (get_or t.squares j d) r
+      c = corners_at r p
+
+      uncut : IsUncut r t.squares
+      uncut = uncut_part t r tiling p.part
+
+      holds_first : IsWithin r (get_or t.squares i d)
+      holds_first =
+          let side = side_at t tiling i d first in
+          inside_means r (get_or t.squares i d) (true_from_ne_false (is_inside r (get_or t.squares i d))
+          (λ cut. across t r tiling p.part i d first cut (record {
+            left = omega (arith, c.left, side);
+            right = omega (arith, c.left, c.wide);
+            top = omega (arith, c.top, side);
+            bottom = omega (arith, c.top, c.high);
+          })))
+
+      holds_last : IsWithin r (get_or t.squares j d)
+      holds_last =
+          let side = side_at t tiling j d last in
+          inside_means r (get_or t.squares j d) (true_from_ne_false (is_inside r (get_or t.squares j d)) (λ cut. across t r tiling p.part j d last cut (record {
+            left = omega (arith, c.right, c.wide);
+            right = omega (arith, c.right, side);
+            top = omega (arith, c.bottom, c.high);
+            bottom = omega (arith, c.bottom, side);
+          })))
+
+  -- where no rectangle that holds both squares lies between them, no part has them at its corners
+  pub none_between : (right bottom : ℕ) → NoneWider t.squares (get_or t.squares i d) t.width right → NoneHigher t.squares (get_or t.squares i d) t.height bottom
+      → i < length t.squares → j < length t.squares
+      → ((r : Rectangle) → ¬ (IsHeldBetween (get_or t.squares i d) (get_or t.squares j d) (right, bottom) r)) → (r : Rectangle) → ¬ (IsPartAt t i j r)
+  none_between right bottom wider higher first last nowhere r p = nowhere r (held_at right bottom wider higher r p first last)
 
   module _ (tried : Rectangle) (h : IsBetween (get_or t.squares i d) (get_or t.squares j d) tried) where
     tried_part : (r : Rectangle) → IsPartAt t i j r → IsPart t tried
     tried_part r p = subst (IsPart t) (between-one (get_or t.squares i d) (get_or t.squares j d) r tried (corners_at r p) h) p.part
-
-    -- a part holds the squares at its corners
-    pub none_outside_first : i < length t.squares → is_inside tried (get_or t.squares i d) ≡ false → (r : Rectangle) → ¬ (IsPartAt t i j r)
-    none_outside_first few outside r p =
-        let side = side_at t tiling i d few in
-        across t tried tiling (tried_part r p) i d few outside (record {
-          left = omega (arith, h.left, side);
-          right = omega (arith, h.left, h.wide);
-          top = omega (arith, h.top, side);
-          bottom = omega (arith, h.top, h.high);
-        })
-
-    -- nor has one where the second lies outside the rectangle between them
-    pub none_outside_last : j < length t.squares → is_inside tried (get_or t.squares j d) ≡ false → (r : Rectangle) → ¬ (IsPartAt t i j r)
-    none_outside_last few outside r p =
-        let side = side_at t tiling j d few in
-        across t tried tiling (tried_part r p) j d few outside (record {
-          left = omega (arith, h.right, h.wide);
-          right = omega (arith, h.right, side);
-          top = omega (arith, h.bottom, h.high);
-          bottom = omega (arith, h.bottom, side);
-        })
 
     -- nor where a square lies across the border of that rectangle
     pub none_cut : ¬ (IsUncut tried t.squares) → (r : Rectangle) → ¬ (IsPartAt t i j r)

@@ -1,21 +1,89 @@
--- Which pairs of squares are ruled out by how far a rectangle can reach from its top left corner without cutting a square.
-use Rattle.std.specs.Prelude.{get_or, length, ℕ, ◌+◌, ◌<◌, ◌⊎◌}
-use Rattle.std.proofs.Common.{arith, inl, inr}
+-- Where no part begins with a square, by how far a rectangle can reach from its top left corner without cutting a square.
+use Rattle.std.specs.Prelude.{get_or, length, true, ℕ, ◌+◌, ◌<◌, ◌≡◌, ◌≢◌, ◌≤◌, ◌⊎◌}
+use Rattle.std.proofs.Common.{arith, inl, inr, subst, sym}
+use Rattle.std.proofs.lemmas.Bool.{cases_eq, true_from_ne_false}
 use Rattle.bk_tiling.specs.Tiling.{IsTiling, Rectangle, Tiling}
+use Rattle.bk_tiling.proofs.OrderLaws.{before_level}
+use Rattle.bk_tiling.proofs.Places.{later_place}
 use Rattle.bk_tiling.specs.declared.Square.{Square}
-use Rattle.bk_simple.proofs.PartTrials.{none_cut}
-use Rattle.bk_simple.proofs.UncutParts.{within_at}
-use Rattle.bk_simple.specs.Border.{IsUncut}
-use Rattle.bk_simple.specs.Corners.{IsBetween, IsPartAt}
+use Rattle.bk_simple.proofs.CornerOrder.{corners_apart}
+use Rattle.bk_simple.proofs.PartCorners.{bottom_right_at}
+use Rattle.bk_simple.proofs.Parts.{across, between_corners, bottom_right_below, uncut_part}
+use Rattle.bk_simple.proofs.PartTrials.{NoneBelow}
+use Rattle.bk_simple.proofs.UncutParts.{inside_means, side_at, within_at}
+use Rattle.bk_simple.specs.Border.{is_inside}
+use Rattle.bk_simple.specs.Corners.{IsBetween}
+use Rattle.bk_simple.specs.Simple.{IsPart, bottom_right, top_left}
 use Rattle.bk_simple.specs.Reach.{NoneHigher, NoneWider}
 
--- no part ends behind or below the ends of such rectangles
-pub none_past : (t : Tiling) (tiling : IsTiling t) (i j : ℕ) (d : Square) (tried : Rectangle)
-    → IsBetween (get_or t.squares i d) (get_or t.squares j d) tried → j < length t.squares → (right bottom : ℕ)
-    → NoneWider t.squares (get_or t.squares i d) t.width right → NoneHigher t.squares (get_or t.squares i d) t.height bottom
-    → (right < tried.x + tried.width) ⊎ (bottom < tried.y + tried.height) → (r : Rectangle) → ¬ (IsPartAt t i j r)
-none_past t tiling i j d tried h few right bottom wider higher past = none_cut t tiling i j d tried h (λ uncut. cut uncut past)
-  where
-    cut : IsUncut tried t.squares → (right < tried.x + tried.width) ⊎ (bottom < tried.y + tried.height) → ⊥
-    cut uncut (inl behind) = omega (arith, behind, wider tried h.left h.top uncut (omega (arith, h.right, (within_at t tiling j d few).right)))
-    cut uncut (inr below) = omega (arith, below, higher tried h.left h.top uncut (omega (arith, h.bottom, (within_at t tiling j d few).bottom)))
+module _ (t : Tiling) (tiling : IsTiling t) (i : ℕ) (d : Square) (right bottom : ℕ)
+    (wider : NoneWider t.squares (get_or t.squares i d) t.width right) (higher : NoneHigher t.squares (get_or t.squares i d) t.height bottom) where
+  abbrev at : ℕ → Square
+  at k = get_or t.squares k d
+
+  -- the corners of a part that begins with square i
+  corners : (r : Rectangle) → IsPart t r → top_left t r ≡ i → IsBetween (at i) (at (bottom_right t r)) r
+  corners r part first = subst (λ (k : ℕ). IsBetween (at k) (at (bottom_right t r)) r) first (between_corners t r tiling part d)
+
+  -- it ends at both ends, or before them
+  record Reaches (r : Rectangle) : Type 0 where
+    pub across : r.x + r.width ≤ right
+    pub down : r.y + r.height ≤ bottom
+
+  reaches : (r : Rectangle) → IsPart t r → top_left t r ≡ i → Reaches r
+  reaches r part first =
+      let c = corners r part first in
+      let uncut = uncut_part t r tiling part in
+      let last = within_at t tiling (bottom_right t r) d (bottom_right_below t r tiling part) in
+      record {
+        across = wider r c.left c.top uncut (omega (arith, c.right, last.right));
+        down = higher r c.left c.top uncut (omega (arith, c.bottom, last.bottom));
+      }
+
+  -- no part begins with square i where it reaches to both ends: this square would be the part
+  pub none_just : i < length t.squares → (right ≤ (at i).x + (at i).s) × (bottom ≤ (at i).y + (at i).s) → (r : Rectangle) → IsPart t r → top_left t r ≢ i
+  none_just few just r part first =
+      let c = corners r part first in
+      let far = reaches r part first in
+      let side = side_at t tiling i d few in
+      let inside : is_inside r (at i) ≡ true = true_from_ne_false (is_inside r (at i)) (λ cut. across t r tiling part i d few cut (record {
+        left = omega (arith, c.left, side);
+        right = omega (arith, c.left, c.wide);
+        top = omega (arith, c.top, side);
+        bottom = omega (arith, c.top, c.high);
+      })) in
+      let within = inside_means r (at i) inside in
+      let own : IsBetween (at i) (at i) r = record {
+        left = c.left;
+        top = c.top;
+        right = omega (arith, far.across, just.0, within.right);
+        bottom = omega (arith, far.down, just.1, within.bottom);
+        wide = c.wide;
+        high = c.high;
+      } in
+      omega (arith, first, corners_apart t r tiling part, bottom_right_at t tiling i d (at i) r few own)
+
+  -- nor where none ends before a square that begins at the level of the lower end, or below it: a later one ends still lower
+  pub none_behind : (j : ℕ) → NoneBelow t i j → j < length t.squares → bottom ≤ (at j).y → (r : Rectangle) → IsPart t r → top_left t r ≢ i
+  none_behind j below few low r part first = from (cases_eq (bottom_right t r) j)
+    where
+      far : Reaches r
+      far = reaches r part first
+
+      c : IsBetween (at i) (at (bottom_right t r)) r
+      c = corners r part first
+
+      under : bottom_right t r < length t.squares
+      under = bottom_right_below t r tiling part
+
+      side : 0 < (at (bottom_right t r)).s
+      side = side_at t tiling (bottom_right t r) d under
+
+      no_lower : (at j).y ≤ (at (bottom_right t r)).y → ⊥
+      no_lower h = omega (arith, low, far.down, c.bottom, side)
+
+      from : (bottom_right t r ≡ j) ⊎ (bottom_right t r ≡ j → ⊥) → ⊥
+      from (inl e) = no_lower (subst (λ (k : ℕ). (at j).y ≤ (at k).y) (sym e) (omega arith))
+      from (inr e) =
+          let least : j ≤ bottom_right t r = below r part first in
+          no_lower (before_level (at j) (at (bottom_right t r)) (later_place t.squares tiling.ordered j (bottom_right t r) d (omega (arith, e)) under))

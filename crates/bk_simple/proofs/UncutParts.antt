@@ -16,8 +16,8 @@ use Rattle.bk_tiling.specs.declared.Square.{Square}
 use Rattle.bk_simple.specs.Border.{IsUncut, is_inside, is_outside}
 use Rattle.bk_simple.specs.Simple.{IsPart}
 
--- what is_outside and is_inside say
-outside_means : (r : Rectangle) (q : Square) → is_outside r q ≡ true
+-- a square that the test puts outside a rectangle ends before it or begins behind it, across or down
+pub outside_means : (r : Rectangle) (q : Square) → is_outside r q ≡ true
     → ((q.x + q.s ≤ r.x) ⊎ (r.x + r.width ≤ q.x)) ⊎ ((q.y + q.s ≤ r.y) ⊎ (r.y + r.height ≤ q.y))
 outside_means r q e = elim (or_cases _ _ e) [
   | inl across ↦ elim (or_cases _ _ across) [ inl h ↦ inl (inl (leb-true _ _ h)) | inr h ↦ inl (inr (leb-true _ _ h)) ]

@@ -7,7 +7,7 @@ ghost use Rattle.bk_simple.specs.Border.{IsUncut, is_inside, is_outside, rectang
 ghost use Rattle.bk_simple.specs.FirstLaws.{AFirstPartIsOne, ALeastRepeatedSideIsOne};
 ghost use Rattle.bk_simple.specs.Neighbours.{IsFirstTwice, NoneTwice};
 ghost use Rattle.bk_simple.specs.Simple.{IsFirstPart, IsLeastRepeated, IsPart, IsPerfect, IsSimple, top_left};
-ghost use Rattle.bk_simple.specs.Corners.{IsBetween, IsFirstPartFrom, IsPartAt};
+ghost use Rattle.bk_simple.specs.Corners.{IsFirstPartFrom, IsHeldBetween, IsPartAt};
 ghost use Rattle.bk_simple.specs.Reach.{NoneHigher, NoneWider, square_of};
 ghost use Rattle.bk_tiling.specs.Tiling.{Rectangle, sides_of};
 
@@ -85,47 +85,60 @@ fn part_from(tiling: &Tiling, i: usize) -> Option<SubRect>
     ensures first { IfSome result (λ r. IsFirstPartFrom tiling.now i (rectangle_of r)) }
 {
     let squares = tiling.squares();
-    let right = right_end(squares, i, squares[i], tiling.width());
-    let bottom = bottom_end(squares, i + 1, squares[i], tiling.height());
+    let ends = (right_end(tiling, i), bottom_end(tiling, i));
+    if reaches_to(squares[i], ends) {
+        return None;
+    }
     for j in i + 1..tiling.order() {
-        if let Some(found) = part_at(tiling, i, j, (right, bottom)) {
+        if squares[j].y >= ends.1 {
+            return None;
+        }
+        if let Some(found) = part_at(tiling, i, j, ends) {
             return Some(found);
         }
     }
     None
 }
 
-// A column at which each rectangle ends, or before it, that begins at the top left corner of p, ends at `most` or before, and
-// whose border cuts no square: the first left edge of the squares that hang across the level of its top. The first squares, so
-// many, are looked at.
-fn right_end(squares: &[Square], count: usize, p: Square, most: u64) -> u64
-    requires { count ≤ length squares.now }
-    ensures { NoneWider squares.now p most result }
+// Whether the square ends at a column or behind it, and at a level or below it.
+fn reaches_to(q: Square, ends: (u64, u64)) -> bool
+    requires fits { (q.x + q.s < 2 ^ 64) × (q.y + q.s < 2 ^ 64) }
+    ensures { IsTrue result ↔ ((ends.0 ≤ q.x + q.s) × (ends.1 ≤ q.y + q.s)) }
 {
-    let mut end = most;
-    for k in 0..count {
+    ends.0 <= q.x + q.s && ends.1 <= q.y + q.s
+}
+
+// The column where the squares end that stand side by side from the square at place i on: no rectangle goes past it that begins at
+// the top left corner of this square, and whose border cuts no square.
+fn right_end(tiling: &Tiling, i: usize) -> u64
+    requires { i < length tiling.now.squares }
+    ensures { NoneWider tiling.now.squares (square_of tiling.now i) tiling.now.width result }
+{
+    let squares = tiling.squares();
+    let mut end = squares[i].x + squares[i].s;
+    for k in i + 1..tiling.order() {
         let q = squares[k];
-        if p.x <= q.x && q.x < end {
-            end = if crosses(q.y, q.s, p.y) { q.x } else { end };
+        if q.y != squares[i].y || q.x != end {
+            return end;
         }
+        end += q.s;
     }
     end
 }
 
-// A level at which each rectangle ends, or above it, that begins at the top left corner of p, ends at `most` or above, and
-// whose border cuts no square: the first top of the squares that reach across the column of its left edge. The squares from a
-// place on are looked at.
-fn bottom_end(squares: &[Square], from: usize, p: Square, most: u64) -> u64
-    ensures { NoneHigher squares.now p most result }
+// The top of the first square behind the one at place i that reaches across the column of its left edge, or the height: no
+// rectangle goes past it that begins at the top left corner of this square, and whose border cuts no square.
+fn bottom_end(tiling: &Tiling, i: usize) -> u64
+    requires { i < length tiling.now.squares }
+    ensures { NoneHigher tiling.now.squares (square_of tiling.now i) tiling.now.height result }
 {
-    let mut end = most;
-    for k in from..squares.len() {
-        let q = squares[k];
-        if p.y <= q.y && q.y < end {
-            end = if crosses(q.x, q.s, p.x) { q.y } else { end };
+    let squares = tiling.squares();
+    for k in i + 1..tiling.order() {
+        if crosses(squares[k].x, squares[k].s, squares[i].x) {
+            return squares[k].y;
         }
     }
-    end
+    tiling.height()
 }
 
 // Whether the n numbers from a on begin before a number and go on past it.
@@ -146,13 +159,7 @@ fn part_at(tiling: &Tiling, i: usize, j: usize, ends: (u64, u64)) -> Option<SubR
     ensures part { IfSome result (λ r. IsPartAt tiling.now i j (rectangle_of r)) }
 {
     let squares = tiling.squares();
-    let tried = between(squares[i], squares[j])?;
-    if goes_past(&tried, ends) {
-        return None;
-    }
-    if !lies_inside(&tried, squares[i]) || !lies_inside(&tried, squares[j]) {
-        return None;
-    }
+    let tried = between(squares[i], squares[j], ends)?;
     let inside = count_inside(tiling, &tried)?;
     if inside >= 2 && inside < tiling.order() {
         Some(tried)
@@ -161,31 +168,32 @@ fn part_at(tiling: &Tiling, i: usize, j: usize, ends: (u64, u64)) -> Option<SubR
     }
 }
 
-// The rectangle from the top left corner of p to the bottom right corner of q, where it has a cell.
-fn between(p: Square, q: Square) -> Option<SubRect>
-    requires fits { (q.x + q.s < 2 ^ 64) × (q.y + q.s < 2 ^ 64) }
-    ensures none { IfNone result ((r : Rectangle) → ¬ (IsBetween p q r)) }
-    ensures some { IfSome result (λ r. IsBetween p q (rectangle_of r)) }
+// The rectangle from the top left corner of p to the bottom right corner of q, where both lie in it and it goes past none of
+// these ends.
+fn between(p: Square, q: Square, ends: (u64, u64)) -> Option<SubRect>
+    requires p_fits { (p.x + p.s < 2 ^ 64) × (p.y + p.s < 2 ^ 64) }
+    requires q_fits { (q.x + q.s < 2 ^ 64) × (q.y + q.s < 2 ^ 64) }
+    requires sides { (0 < p.s) × (0 < q.s) }
+    ensures none { IfNone result ((r : Rectangle) → ¬ (IsHeldBetween p q ends r)) }
+    ensures some { IfSome result (λ r. IsHeldBetween p q ends (rectangle_of r)) }
 {
-    let right = q.x + q.s;
-    let bottom = q.y + q.s;
-    if right <= p.x || bottom <= p.y {
+    if !goes_on((p.x, p.s), (q.x, q.s), ends.0) || !goes_on((p.y, p.s), (q.y, q.s), ends.1) {
         return None;
     }
     Some(SubRect {
         x: p.x,
         y: p.y,
-        width: right - p.x,
-        height: bottom - p.y,
+        width: q.x + q.s - p.x,
+        height: q.y + q.s - p.y,
     })
 }
 
-// Whether the rectangle ends behind a column, or below a level.
-fn goes_past(r: &SubRect, ends: (u64, u64)) -> bool
-    requires fits { (r.now.x + r.now.width < 2 ^ 64) × (r.now.y + r.now.height < 2 ^ 64) }
-    ensures { IsTrue result ↔ ((ends.0 < r.now.x + r.now.width) ⊎ (ends.1 < r.now.y + r.now.height)) }
+// Whether a span of numbers, given by its first and how many they are, begins and ends no earlier than another, and goes past no end.
+fn goes_on(p: (u64, u64), q: (u64, u64), end: u64) -> bool
+    requires fits { (p.0 + p.1 < 2 ^ 64) × (q.0 + q.1 < 2 ^ 64) }
+    ensures { IsTrue result ↔ ((p.0 ≤ q.0) × (p.0 + p.1 ≤ q.0 + q.1) × (q.0 + q.1 ≤ end)) }
 {
-    r.x + r.width > ends.0 || r.y + r.height > ends.1
+    p.0 <= q.0 && q.0 + q.1 <= end && p.0 + p.1 <= q.0 + q.1
 }
 
 // How many squares lie in the rectangle, where none lies across its border.

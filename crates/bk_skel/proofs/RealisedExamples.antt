@@ -1,5 +1,5 @@
 -- A word and the sides of its tiling in the order of laying, which isn't the order of the code; and words that are refused.
-use Rattle.std.proofs.Common.{List, [], arith, lit<, refl, ℕ, ◌++◌, ◌∷◌}
+use Rattle.std.proofs.Common.{List, None, Some, [], arith, lit<, refl, ℕ, ◌++◌, ◌∷◌, ◌≡◌}
 use Rattle.bk_tiling.proofs.ExampleTilings.{rectangle_65x47}
 use Rattle.bk_tiling.proofs.TilingTest.{tiling_from_test}
 use Rattle.bk_tiling.specs.SquareGroups.{laid_group}
@@ -11,7 +11,9 @@ use Rattle.bk_word.specs.declared.Sign.TheVariants.{Even, Under}
 use Rattle.bk_lay.proofs.WordExamples.{the_word_65x47}
 use Rattle.bk_lay.proofs.WordTest.{by_tests, passes_as_valley}
 use Rattle.bk_word_net.specs.LaidTiling.{IsLaidWith}
+use Rattle.bk_skel.specs.RealisedIn.{tiling_found}
 use Rattle.bk_skel.specs.SolveRefusal.{IsFirstIllegal, IsSolveFault}
+use Rattle.bk_skel.specs.declared.placing.Realised.TheVariants.{Found, Nothing}
 use Rattle.bk_skel.specs.declared.realising.SolveFault.TheVariants.{Illegal, OpenEnd}
 
 abbrev segment : ℕ → ℕ → ℕ → Segment
@@ -68,3 +70,10 @@ open_end = ((record { some = omega arith; signs = refl }, tt), lit< tt)
 
 not_open : IsSolveFault (two Even ∷ []) OpenEnd → ⊥
 not_open fault = omega (arith, fault.1)
+
+-- where nothing is found the room tells no tiling
+nothing_found : tiling_found Nothing rectangle_65x47 ≡ None
+nothing_found = refl
+
+room_found : tiling_found Found rectangle_65x47 ≡ Some rectangle_65x47
+room_found = refl

@@ -1,11 +1,8 @@
 -- What the faults and the flow of a word's net say of the word.
-use Rattle.std.specs.List.{AllByRecursion, Any}
-use Rattle.std.specs.Prelude.{List, pos, ℤ, ◌<ℤ◌, ◌≤ℤ◌}
-use Rattle.std.proofs.Common.{ap, arith, false, inl, inr, length, refl, subst, sym, true, ℕ, ◌<◌, ◌≡◌, ◌≤◌, ◌⊎◌}
-use Rattle.std.proofs.lemmas.Int.{ints}
-use Rattle.std.proofs.lemmas.List.Elements.{All-from_recursion}
-use Rattle.bk_tiling.specs.Tiling.{IsTiling, Tiling}
+use Rattle.std.specs.Prelude.{All, List, nat_abs, ℤ}
+use Rattle.std.proofs.Common.{ap, arith, false, get_or, inl, inr, length, subst, suc, sym, true, ℕ, ◌<◌, ◌^◌, ◌≡◌, ◌≤◌, ◌⊎◌}
 use Rattle.bk_net.specs.Net.{HasNoLoose, Net}
+use Rattle.bk_flow.specs.FlowNumbers.{FlowNumbers, IsNarrowFlow}
 use Rattle.bk_flow.specs.Refusal.{IsRefusedFor}
 use Rattle.bk_flow.specs.Wide.{IsWide}
 use Rattle.bk_flow.specs.declared.FlowFault.TheVariants.{Loose, NoMemory, Wide}
@@ -13,13 +10,11 @@ use Rattle.bk_flow.specs.declared.FlowFault.{FlowFault}
 use Rattle.bk_word.specs.Outline.{start}
 use Rattle.bk_word.specs.Play.{IsComplete, IsLegal, outline_of}
 use Rattle.bk_word.specs.Word.{Word, order_of}
-use Rattle.bk_lay.specs.TilingWord.{IsWordOf}
 use Rattle.bk_word_net.proofs.NoLoose.{a_word_net_has_no_loose}
-use Rattle.bk_word_net.proofs.WordTilings.{none_by, wires_many}
+use Rattle.bk_word_net.proofs.WordTilings.{wires_many}
 use Rattle.bk_word_net.proofs.Shape.{Shaped, shaped_moves, shaped_start}
 use Rattle.bk_word_net.specs.WideWord.{HasLargeCurrent, IsWideWord}
 use Rattle.bk_word_net.specs.WordNet.{net_of_word}
-use Rattle.bk_skel.specs.Unfit.{HasUnfitCurrent}
 
 module _ (w : Word) (net : Net) (is : net ≡ net_of_word w) where
   pub net_few : order_of w ≤ 16 → length net.wires ≤ 16
@@ -37,16 +32,10 @@ module _ (w : Word) (net : Net) (is : net ≡ net_of_word w) where
   pub wide_net : IsWide net → IsWideWord w
   wide_net wide = inl (subst IsWide is wide)
 
--- a current less than 1 in the primitive flow of a word's net: no tiling has the word
-pub no_tiling_by : (w : Word) (net : Net) → net ≡ net_of_word w → IsComplete w → HasUnfitCurrent net → (t : Tiling) → IsTiling t → IsWordOf t w → ⊥
-no_tiling_by w net is complete unfit = from (subst HasUnfitCurrent is unfit)
-  where
-    never : (cs : List ℤ) → Any (λ c. c <ℤ pos 1) cs → AllByRecursion (λ c. pos 1 ≤ℤ c) cs → ⊥
-    never cs (k, c, within, at, below) all =
-        let long : pos 1 ≤ℤ c = subst (λ (x : ℤ). pos 1 ≤ℤ x) at (All-from_recursion (λ x. pos 1 ≤ℤ x) cs all k c within) in omega (arith, ints, below, long)
-
-    from : HasUnfitCurrent (net_of_word w) → (t : Tiling) → IsTiling t → IsWordOf t w → ⊥
-    from (total, currents, flow, any) = none_by w complete total currents flow currents refl (never currents any)
+-- the currents of a narrow flow are not too large for sides
+pub small_enough : (f : FlowNumbers) → IsNarrowFlow f → (seen : List ℤ) → seen ≡ f.currents → All (λ c. nat_abs c < 10 ^ 15) seen
+small_enough f narrow seen is = subst (λ (cs : List ℤ). All (λ c. nat_abs c < 10 ^ 15) cs) (sym is)
+    (λ k d h. let low : nat_abs (get_or f.currents k d) ≤ 2 ^ 34 = narrow.small (suc k) d (omega (arith, h)) in omega (arith, low))
 
 -- where all moves are legal and the word isn't complete, more than one segment is left
 pub open_end : (skel w : Word) → skel ≡ w → 0 < length w → IsLegal w → (IsComplete skel → ⊥) → IsLegal w × (1 < length (outline_of w).segments)

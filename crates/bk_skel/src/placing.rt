@@ -13,6 +13,7 @@ ghost use Rattle.bk_word.specs.Play.{IsComplete, numbers_from};
 ghost use Rattle.bk_word.specs.Word.{order_of};
 ghost use Rattle.bk_lay.specs.TilingWord.{signs_between};
 ghost use Rattle.bk_word_net.specs.LaidTiling.{IsLaidWith};
+ghost use Rattle.bk_skel.specs.RealisedIn.{tiling_found};
 ghost use Rattle.bk_skel.specs.Board.{CanLay, IsClosed, IsFittingGap, columns_of};
 ghost use Rattle.bk_word_net.specs.LaidOutline.{IsNumber, IsTurn, bottom_at, square_at};
 
@@ -26,6 +27,15 @@ use bk_word::Sign;
 // The numbers of the laid squares that are open, from left to right. Squares are numbered from 1 in the order of laying.
 pub(crate) type Numbers = ArrayVec<u8, MOST_SQUARES>;
 
+/// What is found of a word that is laid in room that is there.
+#[derive(Clone, Copy, Debug, PartialEq, Eq)]
+pub enum Realised {
+    /// A tiling, which stands in the room.
+    Found,
+    /// No tiling.
+    Nothing,
+}
+
 /// The tiling of a closed skeleton's word whose squares have these sides, in the order in which the word lays them; each is
 /// 1 to 999,999,999,999,999. It is the only one. `None` comes exactly where no tiling of the word has them: where the
 /// squares of a move don't fill its valley, or their bottoms don't compare as its signs say (own).
@@ -36,9 +46,30 @@ pub fn placed(skel: &Skel, sides: &[u64]) -> Option<Tiling>
     ensures placed { IfSome result (IsLaidWith skel.now sides.now) }
     ensures only { (u : Tiled) → IsLaidWith skel.now sides.now u → IsSomeAnd result (λ t. t ≡ u) }
 {
+    let mut tiling = Tiling::unit();
+    let mut laid = ArrayVec::new();
+    match place(skel, sides, &mut laid, &mut tiling) {
+        Realised::Found => Some(tiling),
+        Realised::Nothing => None,
+    }
+}
+
+// The same in room that is there: for the squares that are laid, and for the tiling.
+pub(crate) fn place(
+    skel: &Skel,
+    sides: &[u64],
+    laid: &mut ArrayVec<Square, MOST_SQUARES>,
+    tiling: &mut Tiling,
+) -> Realised
+    requires closed { IsComplete skel.now }
+    requires count { length sides.now ≡ order_of skel.now }
+    requires sides { AllByRecursion IsSide sides.now }
+    ensures placed { IfSome (tiling_found result tiling.new) (IsLaidWith skel.now sides.now) }
+    ensures only { (u : Tiled) → IsLaidWith skel.now sides.now u → IsSomeAnd (tiling_found result tiling.new) (λ t. t ≡ u) }
+{
     let moves = skel.moves();
     let width = sum_of(&sides[..usize::from(skel.turn(0).count)]);
-    let mut laid = ArrayVec::new();
+    laid.clear();
     let mut numbers = ArrayVec::new();
     for i in 0..moves {
         let turn = skel.turn(i);
@@ -47,11 +78,12 @@ pub fn placed(skel: &Skel, sides: &[u64]) -> Option<Tiling>
         let first = usize::from(turn.first);
         let end = first + usize::from(turn.closed);
         let signs = skel.signs_at(i);
-        if !lay_move(&mut laid, &mut numbers, width, first, end, signs, new) {
-            return None;
+        if !lay_move(laid, &mut numbers, width, first, end, signs, new) {
+            return Realised::Nothing;
         }
     }
-    Some(closed(laid, &numbers, width))
+    close(laid, &numbers, width, tiling);
+    Realised::Found
 }
 
 // Lays squares of these sides in the leftmost valley, whose squares' numbers stand from `first` up to `end`. It is true
@@ -83,15 +115,14 @@ pub(crate) fn lay_move(
     signs_fit(laid, &numbers[left..left + signs.len() + 1], signs)
 }
 
-// The tiling of all squares that are laid, whose bottoms lie at one level.
-pub(crate) fn closed(laid: ArrayVec<Square, MOST_SQUARES>, numbers: &[u8], width: u64) -> Tiling
-    requires { (o : Outline) × IsClosed width laid.items numbers.now o }
-    ensures { result ≡ record { width = width; height = depth laid.items 0; squares = in_code_order laid.items } }
+// Makes the tiling of all squares that are laid, whose bottoms lie at one level, and puts these in its order.
+fn close(laid: &mut ArrayVec<Square, MOST_SQUARES>, numbers: &[u8], width: u64, tiling: &mut Tiling)
+    requires { (o : Outline) × IsClosed width laid.old.items numbers.now o }
+    ensures { tiling.new ≡ record { width = width; height = depth laid.old.items 0; squares = in_code_order laid.old.items } }
 {
-    let height = bottom_of(&laid, numbers[0]);
-    let mut squares = laid;
-    put_in_order(&mut squares);
-    Tiling::from_known(width, height, squares)
+    let height = bottom_of(laid, numbers[0]);
+    put_in_order(laid);
+    tiling.become_known(width, height, laid.as_slice());
 }
 
 // The gap under the squares of these numbers: the columns over which they stand, at the level of their bottoms. Where

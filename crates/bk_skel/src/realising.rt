@@ -1,26 +1,24 @@
 //! The primitive tiling of a word, from the flow of its net.
 
 ghost use Rattle.std.specs.List.{AllByRecursion};
-ghost use Rattle.std.specs.Prelude.{All, Any, IfErr, IfNone, IfOk, IfSome, IsErr, IsOk, IsTrue, None, OnOk, length, map, nat_abs, pos};
-ghost use Rattle.std.specs.Prelude.{◌<◌, ◌<ℤ◌, ◌^◌, ◌↔◌, ◌≡◌, ◌≤◌, ◌≤ℤ◌};
+ghost use Rattle.std.specs.Prelude.{All, Any, IfErr, IfNone, IfOk, IfSome, IsErr, IsOk, IsTrue, OnOk, length, map, nat_abs, pos};
+ghost use Rattle.std.specs.Prelude.{◌<◌, ◌^◌, ◌↔◌, ◌≡◌, ◌≤◌, ◌≤ℤ◌};
 ghost use Rattle.bk_net.specs.Flow.{IsPrimitiveFlow};
-ghost use Rattle.bk_net.specs.Net.{HasNoLoose};
 ghost use Rattle.bk_tiling.specs.Kept.{IsSide};
 ghost use Rattle.bk_word.specs.Play.{IsComplete, IsLegal};
 ghost use Rattle.bk_word.specs.Word.{order_of};
+ghost use Rattle.bk_skel.specs.RealisedIn.{tiling_found};
 ghost use Rattle.bk_skel.specs.SolveRefusal.{IsFirstIllegal, IsSolveFault};
-ghost use Rattle.bk_skel.specs.Unfit.{HasUnfitCurrent};
 ghost use Rattle.bk_word_net.specs.Realised.{IsRealised};
 ghost use Rattle.bk_word_net.specs.WideWord.{HasLargeCurrent, IsWideWord};
 ghost use Rattle.bk_word_net.specs.WordNet.{net_of_word};
 
-use crate::placing::placed;
+use crate::placing::{Realised, place, placed};
 use crate::skeleton::Skel;
 use arrayvec::ArrayVec;
-use bk_flow::{Flow, FlowFault, solve, solve_small, whole_flow};
+use bk_flow::{Flow, FlowFault, NarrowFlow, SMALL, narrow_flow, solve};
 use bk_frac::Wide;
-use bk_net::Net;
-use bk_tiling::{LONGEST_SIDE, MOST_SQUARES, Tiling};
+use bk_tiling::{LONGEST_SIDE, MOST_SQUARES, Square, Tiling};
 use bk_word::Word;
 use std::alloc::Global;
 
@@ -48,39 +46,47 @@ pub fn realise_small(skel: &Skel) -> Result<Option<Tiling>, Wide>
     ensures wide { IsErr result ↔ IsWideWord skel.now }
     ensures narrow { IsOk result }
 {
-    match solve_small(&skel.net()) {
-        Ok(flow) => realised(skel, &flow),
-        Err(Wide) => unreachable!(),
-    }
+    Ok(realise_by(skel, &flow_of(skel)))
 }
 
-/// Whether whole numbers of 32 bits tell of the word of a closed skeleton of at most 16 squares that no tiling has it: a current of
-/// its net's flow is less than 1, and so no side. It takes no memory, and no room for a tiling. (Own.)
-pub fn lacks_sides(skel: &Skel) -> bool
+/// The primitive flow of the net of a closed skeleton's word of at most 16 squares. It takes no memory, and no room for a
+/// tiling. (Own.)
+pub fn flow_of(skel: &Skel) -> NarrowFlow
     requires closed { IsComplete skel.now }
     requires few { order_of skel.now ≤ 16 }
-    ensures { IsTrue result → IsRealised skel.now None }
+    ensures { IsPrimitiveFlow (net_of_word skel.now) result.total result.currents }
 {
-    has_unfit(&skel.net())
+    narrow_flow(&skel.net())
 }
 
-// Whether whole numbers of 32 bits tell that a current of the net's primitive flow is less than 1, and so no side.
-fn has_unfit(net: &Net) -> bool
-    requires few { length net.now.wires ≤ 16 }
-    requires joined { HasNoLoose net.now }
-    ensures { IsTrue result → HasUnfitCurrent net.now }
+/// What `realise_small` answers, from the flow that `flow_of` gives: the primitive tiling of the word, or `None` where no
+/// tiling has it. (Own.)
+pub fn realise_by(skel: &Skel, flow: &NarrowFlow) -> Option<Tiling>
+    requires closed { IsComplete skel.now }
+    requires flow { IsPrimitiveFlow (net_of_word skel.now) flow.now.total flow.now.currents }
+    ensures { IsRealised skel.now result }
 {
-    match whole_flow(net) {
-        Some(flow) => has_below_one(flow.currents()),
-        None => false,
+    match sides_of_few(flow.currents()) {
+        Some(sides) => placed(skel, &sides),
+        None => None,
     }
 }
 
-// Whether a current is less than 1.
-fn has_below_one(currents: &[i32]) -> bool
-    ensures { IsTrue result → Any (λ c. c <ℤ pos 1) currents.now }
-{
-    currents.iter().any(|current| *current < 1)
+/// Room in which words are realised one after another. What stands in it after a word says nothing. (Own.)
+#[derive(Drop)]
+pub struct Room {
+    skel: Skel,
+    laid: ArrayVec<Square, MOST_SQUARES>,
+}
+
+impl Room {
+    /// Room for one word at a time.
+    pub fn new() -> Room {
+        Room {
+            skel: Skel::new(),
+            laid: ArrayVec::new(),
+        }
+    }
 }
 
 /// The primitive tiling that has a word of at least one move; no other has it (Brooks, Smith, Stone and Tutte 1940). It is
@@ -94,23 +100,38 @@ pub fn realise(alloc: Global, word: &Word) -> Result<Option<Tiling>, SolveFault>
     ensures realised { IfOk result (IsRealised word.now) }
     ensures refused { IfErr result (IsSolveFault word.now) }
 {
-    let skel = match skeleton_of(word) {
-        Ok(skel) => skel,
-        Err(place) => return Err(SolveFault::Illegal { place }),
-    };
-    if !skel.is_closed() {
+    let mut room = Room::new();
+    let mut tiling = Tiling::unit();
+    match realise_in(alloc, word, &mut room, &mut tiling) {
+        Ok(Realised::Found) => Ok(Some(tiling)),
+        Ok(Realised::Nothing) => Ok(None),
+        Err(fault) => Err(fault),
+    }
+}
+
+/// The same in room that is there: where a tiling is found it stands in `tiling`, which else is left as it is or not. (Own.)
+pub fn realise_in(
+    alloc: Global,
+    word: &Word,
+    room: &mut Room,
+    tiling: &mut Tiling,
+) -> Result<Realised, SolveFault>
+    requires { 0 < length word.now }
+    ensures complete { OnOk result (IsComplete word.now) }
+    ensures narrow { OnOk result (¬ (IsWideWord word.now)) }
+    ensures realised { IfOk result (λ found. IsRealised word.now (tiling_found found tiling.new)) }
+    ensures refused { IfErr result (IsSolveFault word.now) }
+{
+    if let Err(place) = play_word(&mut room.skel, word) {
+        return Err(SolveFault::Illegal { place });
+    }
+    if !room.skel.is_closed() {
         return Err(SolveFault::OpenEnd);
     }
-    let flow = match solve(alloc, &skel.net()) {
-        Ok(flow) => flow,
-        Err(FlowFault::NoMemory) => return Err(SolveFault::NoMemory),
-        Err(FlowFault::Wide) => return Err(SolveFault::Wide),
-        Err(FlowFault::Loose { node: _ }) => unreachable!(),
-    };
-    match realised(&skel, &flow) {
-        Ok(tiling) => Ok(tiling),
-        Err(Wide) => Err(SolveFault::Wide),
+    if room.skel.order() > SMALL {
+        return realise_in_memory(alloc, &room.skel, &mut room.laid, tiling);
     }
+    Ok(realise_few(&room.skel, &mut room.laid, tiling))
 }
 
 /// The skeleton of a word: its moves, played one after the other. Where they are not all legal, the number of the first that isn't,
@@ -121,6 +142,19 @@ pub fn skeleton_of(word: &Word) -> Result<Skel, usize>
     ensures illegal { IfErr result (IsFirstIllegal word.now) }
 {
     let mut skel = Skel::new();
+    match play_word(&mut skel, word) {
+        Ok(()) => Ok(skel),
+        Err(place) => Err(place),
+    }
+}
+
+// Makes a skeleton that of a word. Where its moves are not all legal, the number of the first that isn't, from 1.
+fn play_word(skel: &mut Skel, word: &Word) -> Result<(), usize>
+    ensures skeleton { OnOk result (skel.new ≡ word.now) }
+    ensures legal { OnOk result (IsLegal word.now) }
+    ensures illegal { IfErr result (IsFirstIllegal word.now) }
+{
+    skel.clear();
     for i in 0..word.moves() {
         let m = word.get(i);
         if !skel.legal(&m) {
@@ -128,14 +162,60 @@ pub fn skeleton_of(word: &Word) -> Result<Skel, usize>
         }
         skel.play(&m);
     }
-    Ok(skel)
+    Ok(())
+}
+
+// What the flow of a word's net makes of a closed skeleton of at most 16 squares.
+fn realise_few(
+    skel: &Skel,
+    laid: &mut ArrayVec<Square, MOST_SQUARES>,
+    tiling: &mut Tiling,
+) -> Realised
+    requires closed { IsComplete skel.now }
+    requires few { order_of skel.now ≤ 16 }
+    ensures { IsRealised skel.now (tiling_found result tiling.new) }
+{
+    let flow = flow_of(skel);
+    match sides_of_few(flow.currents()) {
+        Some(sides) => place(skel, &sides, laid, tiling),
+        None => Realised::Nothing,
+    }
+}
+
+// The same of any closed skeleton, whose net is solved in memory where it has more than 16 squares.
+fn realise_in_memory(
+    alloc: Global,
+    skel: &Skel,
+    laid: &mut ArrayVec<Square, MOST_SQUARES>,
+    tiling: &mut Tiling,
+) -> Result<Realised, SolveFault>
+    requires closed { IsComplete skel.now }
+    ensures narrow { OnOk result (¬ (IsWideWord skel.now)) }
+    ensures realised { IfOk result (λ found. IsRealised skel.now (tiling_found found tiling.new)) }
+    ensures refused { IfErr result (IsSolveFault skel.now) }
+{
+    let flow = match solve(alloc, &skel.net()) {
+        Ok(flow) => flow,
+        Err(FlowFault::NoMemory) => return Err(SolveFault::NoMemory),
+        Err(FlowFault::Wide) => return Err(SolveFault::Wide),
+        Err(FlowFault::Loose { node: _ }) => unreachable!(),
+    };
+    match realised(skel, &flow, laid, tiling) {
+        Ok(found) => Ok(found),
+        Err(Wide) => Err(SolveFault::Wide),
+    }
 }
 
 // What a flow of a word's net makes of the word.
-fn realised(skel: &Skel, flow: &Flow) -> Result<Option<Tiling>, Wide>
+fn realised(
+    skel: &Skel,
+    flow: &Flow,
+    laid: &mut ArrayVec<Square, MOST_SQUARES>,
+    tiling: &mut Tiling,
+) -> Result<Realised, Wide>
     requires closed { IsComplete skel.now }
     requires flow { IsPrimitiveFlow (net_of_word skel.now) flow.now.total flow.now.currents }
-    ensures realised { IfOk result (IsRealised skel.now) }
+    ensures realised { IfOk result (λ found. IsRealised skel.now (tiling_found found tiling.new)) }
     ensures wide { IsErr result ↔ HasLargeCurrent (net_of_word skel.now) }
 {
     let currents = flow.currents();
@@ -143,8 +223,8 @@ fn realised(skel: &Skel, flow: &Flow) -> Result<Option<Tiling>, Wide>
         return Err(Wide);
     }
     match sides_of(currents) {
-        Some(sides) => Ok(placed(skel, &sides)),
-        None => Ok(None),
+        Some(sides) => Ok(place(skel, &sides, laid, tiling)),
+        None => Ok(Realised::Nothing),
     }
 }
 
@@ -158,6 +238,24 @@ fn has_large(currents: &[i128]) -> bool
 // The currents as sides, where each is at least 1.
 fn sides_of(currents: &[i128]) -> Option<ArrayVec<u64, MOST_SQUARES>>
     requires few { length currents.now ≤ 200 }
+    requires small { All (λ c. nat_abs c < 10 ^ 15) currents.now }
+    ensures sides { IfSome result (λ s. AllByRecursion IsSide s.items) }
+    ensures currents { IfSome result (λ s. currents.now ≡ map pos s.items) }
+    ensures none { IfNone result (¬ (AllByRecursion (λ c. pos 1 ≤ℤ c) currents.now)) }
+{
+    let mut sides = ArrayVec::new();
+    for current in currents {
+        if *current < 1 {
+            return None;
+        }
+        sides.push(*current as u64);
+    }
+    Some(sides)
+}
+
+// The currents of few squares as sides, where each is at least 1.
+fn sides_of_few(currents: &[i64]) -> Option<ArrayVec<u64, SMALL>>
+    requires few { length currents.now ≤ 16 }
     requires small { All (λ c. nat_abs c < 10 ^ 15) currents.now }
     ensures sides { IfSome result (λ s. AllByRecursion IsSide s.items) }
     ensures currents { IfSome result (λ s. currents.now ≡ map pos s.items) }

@@ -87,6 +87,19 @@ impl Skel {
         }
     }
 
+    /// Becomes the skeleton of no move.
+    pub fn clear(&mut self)
+        ensures { self.new ≡ [] }
+    {
+        self.ends.clear();
+        self.sizes.clear();
+        self.sizes.push(0);
+        self.signs.clear();
+        self.closed.clear();
+        self.turns.clear();
+        self.played.clear();
+    }
+
     /// Whether the move may be played: it hangs a square, and has a sign between each two of its squares and one more for
     /// each side of the leftmost valley that is no wall.
     pub fn legal(&self, m: &Move) -> bool
@@ -108,7 +121,8 @@ impl Skel {
         steps.tick();
     }
 
-    /// Plays a move, which must be legal, with at most 200 squares then. It counts no step.
+    /// Plays a move, which must be legal, with at most 200 squares then. It counts no step, so a bound on steps says nothing of
+    /// moves that are played so.
     pub fn play(&mut self, m: &Move)
         requires legal { IsLegalMove (outline_of self.old) m.now }
         requires few { order_of self.old + m.now.count ≤ 200 }

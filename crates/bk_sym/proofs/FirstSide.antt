@@ -16,7 +16,7 @@ use Rattle.bk_code.proofs.FlatList.{flat_is_sides}
 use Rattle.bk_code.specs.Code.{code_of, flat}
 use Rattle.bk_sym.proofs.Images.{images_are_tilings, in_map}
 use Rattle.bk_sym.proofs.KeptImages.{side-image_square}
-use Rattle.bk_sym.specs.Canonical.{IsAtMost}
+use Rattle.bk_sym.specs.Canonical.{BeginsWith, IsAtMost}
 use Rattle.bk_sym.specs.Image.{image, image_square}
 use Rattle.bk_sym.specs.declared.Turn.{Turn}
 
@@ -88,3 +88,35 @@ begins_shorter_at_most t u turn squares others width height k c d tiling other e
     (subst (λ (n : ℕ). IsShorterFirst turn t.squares u.squares n height k c d) w
     (subst (λ (l : List Square). IsShorterFirst turn t.squares l width height k c d) o
     (subst (λ (l : List Square). IsShorterFirst turn l others width height k c d) e shorter))))
+
+-- a list begins with its head
+head_is : (squares : List Square) (m : Square) → HasHead squares m → (d : Square) → (slice_index_or squares 0 d).s ≡ m.s
+head_is squares m h d = ap (λ (l : List Square). (slice_index_or l 0 d).s) h.is ∙ ap (λ (s : Square). s.s) h.same
+
+-- an image begins with the square that comes to the top left corner
+begins_at : (t : Tiling) (turn : Turn) (k : ℕ) (c : Square) → IsTiling t → k < length t.squares
+    → (image_square turn t.width t.height (slice_index_or t.squares k c)).x ≡ 0
+    → (image_square turn t.width t.height (slice_index_or t.squares k c)).y ≡ 0 → BeginsWith (image turn t) (slice_index_or t.squares k c).s
+begins_at t turn k c tiling few x y d =
+    head_is (image turn t).squares (image_square turn t.width t.height q) (turned_first t turn q tiling (one_at t.squares k c few) x y) d
+    ∙ side-image_square turn t.width t.height q
+  where
+    q : Square
+    q = slice_index_or t.squares k c
+
+-- a square of this number comes to the top left corner in an image
+pub record ComesFirst (turn : Turn) (squares : List Square) (width height k : ℕ) (c : Square) : Type 0 where
+  pub within : k < length squares
+  pub left : (image_square turn width height (slice_index_or squares k c)).x ≡ 0
+  pub top : (image_square turn width height (slice_index_or squares k c)).y ≡ 0
+
+-- the same of the squares and the size as they were read
+pub begins_with : (t : Tiling) (turn : Turn) (squares : List Square) (width height k : ℕ) (c : Square) → IsTiling t → squares ≡ t.squares
+    → width ≡ t.width → height ≡ t.height → ComesFirst turn squares width height k c → BeginsWith (image turn t) (slice_index_or squares k c).s
+begins_with t turn squares width height k c tiling e w h first =
+    subst (λ (l : List Square). BeginsWith (image turn t) (slice_index_or l k c).s) (sym e)
+    (begins_at t turn k c tiling here.within here.left here.top)
+  where
+    here : ComesFirst turn t.squares t.width t.height k c
+    here = subst (λ (n : ℕ). ComesFirst turn t.squares t.width n k c) h
+        (subst (λ (n : ℕ). ComesFirst turn t.squares n height k c) w (subst (λ (l : List Square). ComesFirst turn l width height k c) e first))

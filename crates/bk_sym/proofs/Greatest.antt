@@ -10,7 +10,7 @@ use Rattle.bk_code.specs.Code.{code_of, flat}
 use Rattle.bk_tiling.specs.Tiling.{IsTiling, Tiling}
 use Rattle.bk_sym.proofs.CanonicalLaws.{cmp_equal}
 use Rattle.bk_sym.proofs.Composing.{image-Same}
-use Rattle.bk_sym.specs.Canonical.{IsAtMost, IsCanonicalOf, IsGreatestImage, Lies, scaled_down_tiling}
+use Rattle.bk_sym.specs.Canonical.{IsAtMost, IsCanonicalOf, IsGreatestImage, IsGreatestOf, Lies, scaled_down_tiling}
 use Rattle.bk_sym.specs.Image.{image}
 use Rattle.bk_sym.specs.Turns.{turns}
 use Rattle.bk_sym.specs.declared.Turn.{Turn}
@@ -133,11 +133,18 @@ so_far-none t first turns c is lies = record {
   none_greater = λ j below. absurd (omega arith);
 }
 
+-- the greatest of itself and of all images is the greatest
+pub greatest_of : (t c : Tiling) (first : Turn) → IsGreatestSoFar t first turns 8 c → IsGreatestOf t c
+greatest_of t c first far = record { turn = far.turn; image_of = far.image_of; lying = far.lying; greatest = greatest_from t c far.none_greater }
+
 -- the greatest of all images in lowest terms is the canonical tiling
-pub canonical_from : (t s c : Tiling) (first : Turn) → s ≡ scaled_down_tiling t → IsGreatestSoFar s first turns 8 c → IsCanonicalOf t c
-canonical_from t s c first small far = record {
-  turn = far.turn;
-  image_of = far.image_of ∙ ap (image far.turn) small;
-  lying = far.lying;
-  greatest = subst (λ (u : Tiling). IsGreatestImage u c) small (greatest_from s c far.none_greater);
+pub canonical_of : (t s c : Tiling) → s ≡ scaled_down_tiling t → IsGreatestOf s c → IsCanonicalOf t c
+canonical_of t s c small g = record {
+  turn = g.turn;
+  image_of = g.image_of ∙ ap (image g.turn) small;
+  lying = g.lying;
+  greatest = subst (λ (u : Tiling). IsGreatestImage u c) small g.greatest;
 }
+
+pub canonical_from : (t s c : Tiling) (first : Turn) → s ≡ scaled_down_tiling t → IsGreatestSoFar s first turns 8 c → IsCanonicalOf t c
+canonical_from t s c first small far = canonical_of t s c small (greatest_of s c first far)

@@ -2,8 +2,9 @@
 -- Example (ImageExamples): the rectangle 69x61 is canonical; of 33x32 enlarged twofold, with columns and levels exchanged, it is 33x32.
 use Rattle.std.specs.Cmp.Lexicographic.{slice_cmp}
 use Rattle.std.specs.Ordering.{is_le, nat_cmp}
-use Rattle.std.specs.Prelude.{IsTrue, map, ◌/◌, ◌≡◌, ◌≤◌}
+use Rattle.std.specs.Prelude.{IsTrue, map, slice_index_or, ℕ, ◌/◌, ◌≡◌, ◌≤◌}
 use Rattle.bk_tiling.specs.Tiling.{Tiling}
+use Rattle.bk_tiling.specs.declared.Square.{Square}
 use Rattle.bk_code.specs.Code.{code_of, flat}
 use Rattle.bk_frac.specs.Divisor.{gcd_of}
 use Rattle.bk_sym.specs.Image.{image}
@@ -29,6 +30,17 @@ Lies t = t.height ≤ t.width
 -- no image of t that lies has a greater flat list than c
 abbrev pub IsGreatestImage : Tiling → Tiling → Type 0
 IsGreatestImage t c = (turn : Turn) → Lies (image turn t) → IsAtMost (image turn t) c
+
+-- g is the greatest of the images of t that lie
+pub record IsGreatestOf (t g : Tiling) : Type 0 where
+  pub turn : Turn
+  pub image_of : g ≡ image turn t
+  pub lying : Lies g
+  pub greatest : IsGreatestImage t g
+
+-- the first square of t has this side
+abbrev pub BeginsWith : Tiling → ℕ → Type 0
+BeginsWith t side = (d : Square) → (slice_index_or t.squares 0 d).s ≡ side
 
 -- c is canonical for t: among the images of t in lowest terms that are at least as wide as high, it is
 -- the one with the greatest flat list. A width and a flat list fix a tiling, so there is only one

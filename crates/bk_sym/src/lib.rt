@@ -1,14 +1,13 @@
 //! The turns and mirrors of a tiling, and its canonical tiling.
 #![tactic(auto)]
 
-ghost use Rattle.std.specs.Prelude.{IsTrue, ◌+◌, ◌<◌, ◌↔◌, ◌≡◌, ◌≤◌, ◌⊎◌};
+ghost use Rattle.std.specs.Prelude.{IfSome, IsTrue, false, ◌+◌, ◌<◌, ◌↔◌, ◌≡◌, ◌≤◌, ◌⊎◌};
 ghost use Rattle.bk_code.specs.Code.{code_cmp, code_of};
 ghost use Rattle.bk_frac.specs.Divisor.{gcd as common_divisor, gcd_of};
-ghost use Rattle.bk_sym.specs.Canonical.{IsAtMost, IsCanonical, IsCanonicalOf, IsGreatestImage, Lies, scaled_down_tiling};
+ghost use Rattle.bk_sym.specs.Canonical.{BeginsWith, IsAtMost, IsCanonical, IsCanonicalOf, IsGreatestImage, IsGreatestOf, Lies, scaled_down_tiling};
 ghost use Rattle.bk_sym.specs.Image.{image, image_size, image_square};
 ghost use Rattle.bk_sym.specs.ImageLaws.{ACanonicalTilingIsItsOwn, ACanonicalTilingIsOne, AlikeTilingsHaveOneCanonical, ImagesAreTilings};
 ghost use Rattle.bk_sym.specs.ImageLaws.{EveryTilingHasACanonical, ImagesAreUndone, ImagesOfImages, OneCanonicalMeansAlike};
-ghost use Rattle.bk_sym.specs.declared.Turn.TheVariants.{Same};
 ghost use Rattle.bk_tiling.specs.CodeOrder.{InCodeOrder, in_code_order};
 ghost use Rattle.bk_tiling.specs.Kept.{IsKept};
 ghost use Rattle.bk_tiling.specs.Scale.{IsPrimitiveTiling, enlarged};
@@ -132,6 +131,7 @@ pub fn scale_down(tiling: &Tiling) -> Tiling
 fn side_divisor(tiling: &Tiling) -> u64
     ensures value { result ≡ gcd_of (sides_of tiling.now) }
     ensures some { 0 < result }
+    ensures kept { IsKept tiling.now }
 {
     let squares = tiling.squares();
     let mut divisor = 0;
@@ -157,28 +157,88 @@ pub fn canonical(tiling: &Tiling) -> Tiling
     ensures canonical { IsCanonicalOf tiling.now result }
     ensures kept { IsKept result }
 {
-    let small = scale_down(tiling);
-    let first = first_lying(&small);
-    let mut greatest = image(&small, first);
+    if side_divisor(tiling) == 1 {
+        greatest_image(tiling)
+    } else {
+        canonical_of_multiple(tiling)
+    }
+}
+
+// The canonical tiling of one that is brought into lowest terms first.
+#[inline(never)]
+fn canonical_of_multiple(tiling: &Tiling) -> Tiling
+    ensures canonical { IsCanonicalOf tiling.now result }
+    ensures kept { IsKept result }
+{
+    greatest_image(&scale_down(tiling))
+}
+
+// Of the images that are at least as wide as high the one with the greatest flat list of sides.
+fn greatest_image(tiling: &Tiling) -> Tiling
+    ensures greatest { IsGreatestOf tiling.now result }
+    ensures kept { IsKept result }
+{
+    let first = first_turn(tiling);
+    let mut greatest = image(tiling, first);
     for which in Turn::ALL {
-        if which != first && lies(&small, which) {
-            greatest = later_image(greatest, &small, which);
+        if which != first && may_be_greater(tiling, which, &greatest) {
+            become_later(&mut greatest, tiling, which);
         }
     }
     greatest
 }
 
-// Of a tiling and an image of another the one with the greater flat list of sides.
-fn later_image(greatest: Tiling, tiling: &Tiling, which: Turn) -> Tiling
-    ensures one { (result ≡ greatest) ⊎ (result ≡ image which tiling.now) }
-    ensures first { IsAtMost greatest result }
-    ensures second { IsAtMost (image which tiling.now) result }
+// Becomes that image of another tiling, where its flat list of sides is greater. It is hardly ever needed, and its room only here.
+#[inline(never)]
+fn become_later(greatest: &mut Tiling, tiling: &Tiling, which: Turn)
+    ensures one { (greatest.new ≡ greatest.old) ⊎ (greatest.new ≡ image which tiling.now) }
+    ensures first { IsAtMost greatest.old greatest.new }
+    ensures second { IsAtMost (image which tiling.now) greatest.new }
 {
-    if begins_shorter(tiling, which, &greatest) {
-        greatest
-    } else {
-        later_of(greatest, image(tiling, which))
+    let other = image(tiling, which);
+    if !is_at_most(&other, greatest) {
+        *greatest = other;
     }
+}
+
+// Whether that image lies, and begins with no shorter square than the other tiling.
+fn may_be_greater(tiling: &Tiling, which: Turn, other: &Tiling) -> bool
+    ensures lying { IsTrue result → Lies (image which tiling.now) }
+    ensures left { result ≡ false → Lies (image which tiling.now) → IsAtMost (image which tiling.now) other.now }
+{
+    lies(tiling, which) && !begins_shorter(tiling, which, other)
+}
+
+// A turn whose image lies: of these one that brings the longest square to the top left corner, so that hardly another image has to be
+// made to compare it.
+fn first_turn(tiling: &Tiling) -> Turn
+    ensures lying { Lies (image result tiling.now) }
+    ensures kept { IsKept tiling.now }
+{
+    let mut first = first_lying(tiling);
+    let mut longest = 0;
+    for which in Turn::ALL {
+        if let Some(side) = first_side(tiling, which) {
+            if side > longest && lies(tiling, which) {
+                longest = side;
+                first = which;
+            }
+        }
+    }
+    first
+}
+
+// The side of the square that comes to the top left corner in that image.
+fn first_side(tiling: &Tiling, which: Turn) -> Option<u64>
+    ensures { IfSome result (BeginsWith (image which tiling.now)) }
+{
+    let (width, height) = (tiling.width(), tiling.height());
+    for q in tiling.squares() {
+        if comes_first(*q, which, width, height) {
+            return Some(q.s);
+        }
+    }
+    None
 }
 
 // Whether the square that comes to the top left corner in that image is shorter than the first square of the other tiling.
@@ -239,10 +299,10 @@ fn is_image_at_most(tiling: &Tiling, which: Turn) -> bool
     begins_shorter(tiling, which, tiling) || is_at_most(&image(tiling, which), tiling)
 }
 
-// A turn whose image lies: none, where the tiling does.
+// A turn whose image lies.
 fn first_lying(tiling: &Tiling) -> Turn
     ensures lying { Lies (image result tiling.now) }
-    ensures same { Lies tiling.now → result ≡ Same }
+    ensures kept { IsKept tiling.now }
 {
     if tiling.height() <= tiling.width() {
         Turn::Same
@@ -257,15 +317,6 @@ fn lies(tiling: &Tiling, which: Turn) -> bool
 {
     let (width, height) = turned_size(which, tiling.width(), tiling.height());
     height <= width
-}
-
-// Of two tilings the one with the greater flat list of sides.
-fn later_of(a: Tiling, b: Tiling) -> Tiling
-    ensures one { (result ≡ a) ⊎ (result ≡ b) }
-    ensures first { IsAtMost a result }
-    ensures second { IsAtMost b result }
-{
-    if is_at_most(&b, &a) { a } else { b }
 }
 
 // Whether the flat list of sides of one tiling is lexicographically at most that of another.

@@ -1,9 +1,9 @@
-//! Rows of `bk_leaf`.
+//! Rows of `bk_free_leaf`.
 
-use bk_leaf::leaf;
-use bk_table::Board;
+use bk_free_leaf::{Ties, leaf};
+use bk_free_search::Board;
 use bk_tiling::Tiling;
-use bk_word::{Move, Word, read_word};
+use bk_word::{Class, Move, Word, read_word};
 use std::process::Abort;
 
 // A tiling's width, its height and its sides in code order.
@@ -15,10 +15,17 @@ fn push(rt: &impl Abort, board: &mut Board, m: &Move) {
     board.push(m);
 }
 
-// The tiling at a complete word, if one is found.
-fn found_at(rt: &impl Abort, board: &Board) -> Option<Tiling> {
+// No counts are said to tie.
+const NO_TIES: Ties = Ties {
+    level: false,
+    across: false,
+    size: false,
+};
+
+// The tiling at a complete word, if one of the class is found.
+fn found_at(rt: &impl Abort, board: &Board, class: Class) -> Option<Tiling> {
     assert!(rt; board.skel().is_closed() && board.skel().order() <= 16);
-    let placed = leaf(board.skel(), board.lefts())?;
+    let placed = leaf(board.skel(), board.lefts(), NO_TIES, class)?;
     match Tiling::try_new(placed.width, placed.height, &placed.squares) {
         Ok(tiling) => Some(tiling),
         Err(_) => None,
@@ -26,12 +33,12 @@ fn found_at(rt: &impl Abort, board: &Board) -> Option<Tiling> {
 }
 
 // Asserts the sides in the code of the tiling at the leaf of a word.
-fn assert_leaf(rt: &impl Abort, word: &Word, want: Option<Sides>) {
+fn assert_leaf(rt: &impl Abort, word: &Word, class: Class, want: Option<Sides>) {
     let mut board = Board::new();
     for i in 0..word.moves() {
         push(rt, &mut board, &word.get(i));
     }
-    assert_found(rt, &found_at(rt, &board), want);
+    assert_found(rt, &found_at(rt, &board, class), want);
 }
 
 fn assert_found(rt: &impl Abort, found: &Option<Tiling>, want: Option<Sides>) {
@@ -47,31 +54,44 @@ fn assert_found(rt: &impl Abort, found: &Option<Tiling>, want: Option<Sides>) {
     }
 }
 
-static WORDS: [(&[u8], Option<Sides>); 5] = [
-    (b"2u.1e", Some((3, 2, &[2, 1, 1]))),
-    // a square stands reversed, and the rectangle 11x13 stands
-    (b"2a.1a.2ue.1e", None),
-    // turned on its side it has a word by rule R without a reversed square
-    (b"2u.2eu.1e", Some((8, 5, &[5, 3, 2, 1, 1]))),
+static WORDS: [(&[u8], Class, Option<Sides>); 9] = [
+    (b"2u.1e", Class::Imperfect, Some((3, 2, &[2, 1, 1]))),
+    (b"2u.1e", Class::Simple, Some((3, 2, &[2, 1, 1]))),
+    (b"2u.1e", Class::Perfect, None),
+    // a square stands reversed, and the rectangle is higher than wide
+    (
+        b"2a.1a.2ue.1e",
+        Class::Simple,
+        Some((11, 13, &[4, 7, 4, 1, 6, 5])),
+    ),
+    (b"2u.2eu.1e", Class::Simple, Some((8, 5, &[5, 3, 2, 1, 1]))),
     (
         b"2u.2aa.2ue.2eue.1e",
+        Class::Perfect,
         Some((33, 32, &[18, 15, 7, 8, 14, 4, 10, 1, 9])),
     ),
+    (b"2u.2aa.2ue.2eue.1e", Class::Imperfect, None),
     // the square of side 7 stands reversed
     (
         b"2a.2ua.3euue.1e.1e",
+        Class::Perfect,
+        Some((33, 32, &[18, 15, 7, 8, 14, 4, 10, 1, 9])),
+    ),
+    (
+        b"2a.2ua.3euue.1e.1e",
+        Class::Simple,
         Some((33, 32, &[18, 15, 7, 8, 14, 4, 10, 1, 9])),
     ),
 ];
 
-fn words() -> &'static [(&'static [u8], Option<Sides>)] {
+fn words() -> &'static [(&'static [u8], Class, Option<Sides>)] {
     &WORDS
 }
 
 #[test]
 fn places_candidates(rt: HostRuntime) {
-    for (text, want) in words() {
+    for (text, class, want) in words() {
         let word = read_word(rt.alloc(), text).expect(&rt, "it is a word");
-        assert_leaf(&rt, &word, *want);
+        assert_leaf(&rt, &word, *class, *want);
     }
 }

@@ -8,10 +8,10 @@
 use arrayvec::ArrayVec;
 use bk_lay::word_of;
 use bk_owed::{closing_bound, single_valleys};
+use bk_packed::Packed;
 use bk_simple::{part, repeated};
 use bk_skel::{Skel, open_side, realise_small, skeleton_of};
 use bk_sym::is_canonical;
-use bk_table::Packed;
 use bk_word::{Class, Move, Sign, Word};
 use std::alloc::{AllocError, Global};
 use std::process::Abort;
@@ -29,8 +29,6 @@ pub(crate) struct Member {
     pub(crate) word: Word,
     /// The word packed.
     pub(crate) number: u128,
-    /// How many squares the first move hangs.
-    pub(crate) count: u8,
     /// Whether its sides all differ.
     pub(crate) is_perfect: bool,
 }
@@ -189,12 +187,9 @@ fn member_at(rt: &impl Abort, alloc: Global, skel: &Skel) -> Option<Member> {
     }
     let word = word_of(alloc, &tiling).expect(rt, "there is memory");
     let number = number_of(rt, &word);
-    assert!(rt; word.moves() > 0);
-    let count = word.get(0).count;
     Some(Member {
         word,
         number,
-        count,
         is_perfect: repeated(&tiling).is_none(),
     })
 }

@@ -15,4 +15,5 @@ pub mod Fitting
 pub mod Progress
 pub mod LineRange
 pub mod Strides
+pub mod CommentBytes
 pub mod Fronts

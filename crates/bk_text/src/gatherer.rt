@@ -90,9 +90,9 @@ impl Gatherer {
         }
     }
 
-    // Takes the sides in front of bytes, where a side of a group comes next, with the commas and the bracket right behind them. The place
-    // moves behind them. Tells how many bytes they are.
-    pub(crate) fn take_sides(&mut self, place: &mut Place, bytes: &[u8]) -> usize
+    // Takes several bytes at once: where a side of a group comes next the sides in front, with the commas and the bracket right behind
+    // them, and behind the `;` of a comment all bytes. The place moves behind them. Tells how many bytes they are.
+    pub(crate) fn take_ahead(&mut self, place: &mut Place, bytes: &[u8]) -> usize
         ensures within { result ≤ length bytes.now }
         ensures leads { onward (take result bytes.now) place.old self.old ≡ Some (place.new, self.new) }
         ensures was { IsGathered self.old }
@@ -106,6 +106,7 @@ impl Gatherer {
                 }
                 taken
             }
+            Place::Comment(_) => bytes.len(),
             _ => 0,
         }
     }

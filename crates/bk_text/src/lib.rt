@@ -76,7 +76,7 @@ pub fn read_into(line: &[u8], gatherer: &mut Gatherer) -> Result<Ending, TextFau
     let mut at = 0;
     gatherer.clear();
     'bytes: while at < line.len() {
-        let taken = gatherer.take_sides(&mut place, &line[at..]);
+        let taken = gatherer.take_ahead(&mut place, &line[at..]);
         if taken > 0 {
             at += taken;
             continue;

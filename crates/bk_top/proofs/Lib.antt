@@ -1,4 +1,6 @@
+pub mod CommandAnswers
 pub mod Statuses
+pub mod AnsweredLines
 pub mod ReadToEnd
 pub mod Endings
 pub mod WholeRuns

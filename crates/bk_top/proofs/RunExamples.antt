@@ -5,10 +5,13 @@ use Rattle.bk_word.specs.declared.Class.TheVariants.{Imperfect}
 use Rattle.bk_answer.specs.declared.command.CodeCommand.TheVariants as codes_of
 use Rattle.bk_answer.specs.declared.command.Command.TheVariants.{OfCodes}
 use Rattle.bk_ask.specs.declared.Ask.TheVariants as asks
-use Rattle.bk_lines.specs.declared.Ended.TheVariants.{TooMany}
+use Rattle.bk_lines.specs.declared.Ended.TheVariants.{NoneRefused, TooMany}
 use Rattle.bk_list.proofs.ListingExamples.{whole_catalogue}
+use Rattle.bk_top.proofs.AnsweredLines.{answers_lines}
 use Rattle.bk_top.specs.Deciding.{IsDecided}
-use Rattle.bk_top.specs.Running.{IsToldText, Outside, status_of}
+use Rattle.bk_top.specs.Outside.{Outside, status_of}
+use Rattle.bk_top.specs.ReadsToEnd.{AnswersLines}
+use Rattle.bk_top.specs.Running.{IsToldText}
 use Rattle.bk_top.specs.WholeCatalogue.{AppendsCatalogue}
 use Rattle.bk_top.specs.Words.{command_asked}
 
@@ -39,3 +42,16 @@ written_so_far bytes = record { left = Some []; read_faults = 0; written = Some 
 catalogue_appended : AppendsCatalogue 2 Imperfect (written_so_far (codes "0\n"))
     (written_so_far (codes "0\n2 2x1 [1,1] ; 2e\n; end order 2 class imperfect listed 1\n"))
 catalogue_appended = record { bytes = _; catalogue = whole_catalogue; appends = refl }
+
+-- `check` of an input without bytes
+checked_none : AnswersLines (OfCodes codes_of.Check) (written_so_far (codes "0\n")) (written_so_far (codes "0\n")) 0
+checked_none =
+    answers_lines (OfCodes codes_of.Check) (written_so_far (codes "0\n")) (written_so_far (codes "0\n")) NoneRefused 0 refl
+    (record {
+      input = [];
+      taken = refl;
+      at_end = refl;
+      within = omega arith;
+      written = record { replies = []; each = tt; written = refl; any = refl };
+    })
+    (refl, refl)

@@ -3,23 +3,30 @@ use Rattle.std.specs.Option.{MatchOption}
 use Rattle.std.proofs.Common.{List, arith, inl, inr, map, refl, subst, sym, ℕ, ◌∙◌, ◌≡◌}
 use Rattle.std.specs.Prelude.{None, Option, Some, String, string_bytes}
 use Rattle.std.specs.declared.alloc.Global.{Global}
-use Rattle.bk_lines.specs.Ending.{Streams}
+use Rattle.bk_lines.specs.Answered.{answers_of, of_fronts}
+use Rattle.bk_lines.specs.Ending.{EndsWith, Output, Streams}
+use Rattle.bk_lines.specs.Faults.{CountsTell, Faults}
 use Rattle.bk_lines.specs.declared.Ended.{Ended}
+use Rattle.bk_answer.specs.Answer.{AnswersLine, MayWant}
 use Rattle.bk_answer.specs.declared.command.Command.{Command}
 use Rattle.bk_ask.proofs.OneAsk.{one_ask}
 use Rattle.bk_ask.specs.Help.{usage}
 use Rattle.bk_ask.specs.declared.Ask.{Ask}
 use Rattle.bk_ask.specs.declared.Ask.TheVariants as asks
 use Rattle.bk_ask.specs.declared.Kind.{Kind}
+use Rattle.bk_groups.specs.Closing.{listing_of}
 use Rattle.bk_groups.specs.declared.Wanted.TheVariants.{Groups, Pairs}
-use Rattle.bk_top.proofs.Statuses.{Ends, answers_lines, not_two}
+use Rattle.bk_verifying.specs.Running.{report_of}
+use Rattle.bk_top.proofs.AnsweredLines.{answers_lines}
+use Rattle.bk_top.proofs.Statuses.{not_two}
 use Rattle.bk_word.specs.Word.{Word}
 use Rattle.bk_word.specs.declared.Class.{Class}
 use Rattle.bk_catalogue.specs.Following.{start_cursor}
 use Rattle.bk_top.proofs.Endings.{listed_not_two}
-use Rattle.bk_top.proofs.ReadToEnd.{ListsTo, VerifiesTo, lists_lines, verifies}
-use Rattle.bk_top.specs.Running.{AnswersLines, Does, DoesOther, IsWholeRun, Lists, NoErrors, Outside, ReadsToEnd, Tries}
-use Rattle.bk_top.specs.Running.{WritesErrors, status_of}
+use Rattle.bk_top.proofs.ReadToEnd.{lists_lines, verifies}
+use Rattle.bk_top.specs.Outside.{Outside, faults_of, status_of, streams_of}
+use Rattle.bk_top.specs.ReadsToEnd.{AnswersLines, ReadsToEnd}
+use Rattle.bk_top.specs.Running.{Does, DoesOther, IsWholeRun, Lists, NoErrors, Tries, WritesErrors}
 use Rattle.bk_top.specs.Words.{AsksErrorsOnly, AsksNoLines, AsksNothing, WordsAsk, command_asked}
 
 same : (words : List (String Global)) (a b : Ask) → WordsAsk words a → WordsAsk words b → a ≡ b
@@ -36,13 +43,14 @@ run_of words ask before after status wanted not does = record {
 
 -- where a command answers lines
 pub run_of_lines : (words : List (String Global)) (ask : Ask) (command : Command) (before after : Outside) (ended : Ended) (status : ℕ)
-    → WordsAsk words ask → command_asked ask ≡ Some command → Ends command before after ended → status ≡ status_of ended → NoErrors before after
-    → IsWholeRun words before after status
-run_of_lines words ask command before after ended status wanted is ends s silent =
+    → WordsAsk words ask → command_asked ask ≡ Some command
+    → EndsWith (answers_of (of_fronts (record { answers = AnswersLine command; may_want = MayWant command }))) (streams_of before after) ended
+    → CountsTell ended (faults_of before after) → status ≡ status_of ended → NoErrors before after → IsWholeRun words before after status
+run_of_lines words ask command before after ended status wanted is ends tell s silent =
     run_of words ask before after status wanted (λ e. not_two ended (sym s ∙ e))
     (subst
     (λ (o : Option Command). MatchOption o (DoesOther ask before after status) (λ c. AnswersLines c before after status × NoErrors before after)) (sym is)
-    (answers_lines command before after ended status ends s, silent))
+    (answers_lines command before after ended status s ends tell, silent))
 
 some_none : (command : Command) → ◌≡◌ {A = Option Command} (Some command) None → ⊥
 some_none command e = cc
@@ -71,30 +79,31 @@ run_of_trial words seed count before after status wanted tries silent =
     run_of words (asks.Trial seed count) before after status wanted (tried_not_two seed count before after status tries) (tries, silent)
 
 -- where lines are read to their end
-read_not_two : (says : Streams → Ended → Type 0) (streams : Streams) (read read_after write write_after status : ℕ)
-    → ReadsToEnd says streams read read_after write write_after status → status ≡ 2 → ⊥
-read_not_two says streams read read_after write write_after status reads e = let other = reads.no_other in not_two other.0 (sym other.1 ∙ e)
+read_not_two : (output : Output) (streams : Streams) (faults : Faults) (status : ℕ) → ReadsToEnd output streams faults status → status ≡ 2 → ⊥
+read_not_two output streams faults status reads e = not_two reads.ended (sym reads.status_is ∙ e)
 
 -- the run of `alike`
-pub run_of_alike : (words : List (String Global)) (before after : Outside) (status : ℕ) → WordsAsk words asks.Alike → ListsTo Groups before after status
-    → NoErrors before after → IsWholeRun words before after status
+pub run_of_alike : (words : List (String Global)) (before after : Outside) (status : ℕ) → WordsAsk words asks.Alike
+    → ReadsToEnd (listing_of Groups) (streams_of before after) (faults_of before after) status → NoErrors before after → IsWholeRun words before after status
 run_of_alike words before after status wanted reads silent =
-    run_of words asks.Alike before after status wanted (read_not_two _ _ _ _ _ _ status reads) (lists_lines Groups before after status reads, silent)
+    run_of words asks.Alike before after status wanted (read_not_two (listing_of Groups) (streams_of before after) (faults_of before after) status reads)
+    (lists_lines Groups before after status reads, silent)
 
 -- the run of `pair`
 pub run_of_pair : (words : List (String Global)) (kind : Kind) (before after : Outside) (status : ℕ) → WordsAsk words (asks.Pair kind)
-    → ListsTo (Pairs kind) before after status → NoErrors before after
+    → ReadsToEnd (listing_of (Pairs kind)) (streams_of before after) (faults_of before after) status → NoErrors before after
     → IsWholeRun words before after status
 run_of_pair words kind before after status wanted reads silent =
-    run_of words (asks.Pair kind) before after status wanted (read_not_two _ _ _ _ _ _ status reads)
+    run_of words (asks.Pair kind) before after status wanted (read_not_two (listing_of (Pairs kind)) (streams_of before after)
+    (faults_of before after) status reads)
     (lists_lines (Pairs kind) before after status reads, silent)
 
 -- the run of `verify`
 pub run_of_verify : (words : List (String Global)) (n : ℕ) (before after : Outside) (status : ℕ) → WordsAsk words (asks.Verify n)
-    → VerifiesTo n before after status → NoErrors before after
-    → IsWholeRun words before after status
+    → ReadsToEnd (report_of n) (streams_of before after) (faults_of before after) status → NoErrors before after → IsWholeRun words before after status
 run_of_verify words n before after status wanted reads silent =
-    run_of words (asks.Verify n) before after status wanted (read_not_two _ _ _ _ _ _ status reads) (verifies n before after status reads, silent)
+    run_of words (asks.Verify n) before after status wanted (read_not_two (report_of n) (streams_of before after) (faults_of before after) status reads)
+    (verifies n before after status reads, silent)
 
 -- and what each of these writes
 alike_help : asks.Alike ≡ asks.Help → ⊥

@@ -3,7 +3,7 @@
 -- Example (RunExamples): of no lines the status is 0.
 use Rattle.std.specs.Prelude.{List, ℕ, ◌≡◌, ◌≢◌, ◌⊎◌, ◌↔◌}
 use Rattle.bk_lines.specs.Deciding.{HasRefused, HasWanting}
-use Rattle.bk_lines.specs.Ending.{Replies}
+use Rattle.bk_lines.specs.Answered.{Replies}
 use Rattle.bk_answer.specs.Answer.{MayWant}
 use Rattle.bk_answer.specs.Checked.{IsReplyTo}
 use Rattle.bk_answer.specs.declared.command.Command.{Command}

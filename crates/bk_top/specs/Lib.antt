@@ -1,5 +1,7 @@
 -- What the crate says. Its code is kept by what proofs/ says alone.
 pub mod Words
 pub mod Deciding
+pub mod Outside
+pub mod ReadsToEnd
 pub mod Running
 pub mod WholeCatalogue

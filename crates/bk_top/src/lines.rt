@@ -1,7 +1,8 @@
 //! How runs over lines, listings and trials end.
 
 ghost use Rattle.std.specs.Prelude.{◌≡◌};
-ghost use Rattle.bk_top.specs.Running.{IsTried, status_of, status_of_listing};
+ghost use Rattle.bk_top.specs.Outside.{status_of};
+ghost use Rattle.bk_top.specs.Running.{IsTried, status_of_listing};
 
 use bk_grammar::AnswerBuffer;
 use bk_lines::Ended;

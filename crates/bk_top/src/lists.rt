@@ -1,14 +1,14 @@
 //! Lists that are read to their end.
 
-ghost use Rattle.std.specs.Prelude.{◌≡◌, ◌≤◌};
-ghost use Rattle.bk_groups.specs.Closing.{ListsBy};
-ghost use Rattle.bk_top.specs.Running.{ReadsToEnd, SaysVerified, verdict_at};
+ghost use Rattle.std.specs.Prelude.{◌≤◌};
+ghost use Rattle.bk_groups.specs.Closing.{listing_of};
+ghost use Rattle.bk_verifying.specs.Running.{report_of};
+ghost use Rattle.bk_top.specs.ReadsToEnd.{ReadsToEnd};
 
 use crate::lines::status;
 use bk_groups::{Wanted, list_lines};
-use bk_lines::Ended;
 use bk_ports::{Sink, Source};
-use bk_verifying::{Verdict, verify};
+use bk_verifying::verify;
 use std::alloc::Global;
 
 // Lists the lines, and gives the status.
@@ -19,14 +19,20 @@ pub(crate) fn list_to_end<S: Source, O: Sink>(
     source: &mut S,
     out: &mut O,
 ) -> u8
-    ensures { ReadsToEnd (ListsBy wanted)
+    ensures { ReadsToEnd (listing_of wanted)
         (record {
           left = S.left source.old;
           left_after = S.left source.new;
           written = O.written out.old;
           written_after = O.written out.new;
         })
-        (S.faults source.old) (S.faults source.new) (O.faults out.old) (O.faults out.new) result }
+        (record {
+          read = S.faults source.old;
+          read_after = S.faults source.new;
+          write = O.faults out.old;
+          write_after = O.faults out.new;
+        })
+        result }
 {
     status(list_lines(alloc, wanted, source, out))
 }
@@ -41,28 +47,20 @@ pub(crate) fn verify_list<S: Source, O: Sink>(
 ) -> u8
     requires least { 2 ≤ order }
     requires most { order ≤ 16 }
-    ensures { ReadsToEnd (SaysVerified order)
+    ensures { ReadsToEnd (report_of order)
         (record {
           left = S.left source.old;
           left_after = S.left source.new;
           written = O.written out.old;
           written_after = O.written out.new;
         })
-        (S.faults source.old) (S.faults source.new) (O.faults out.old) (O.faults out.new) result }
+        (record {
+          read = S.faults source.old;
+          read_after = S.faults source.new;
+          write = O.faults out.old;
+          write_after = O.faults out.new;
+        })
+        result }
 {
-    status(ended_at(verify(alloc, order, source, out)))
-}
-
-// What an ending is called where lines are answered.
-fn ended_at(verdict: Verdict) -> Ended
-    ensures { verdict ≡ verdict_at result }
-{
-    match verdict {
-        Verdict::Agrees => Ended::NoneRefused,
-        Verdict::Differs => Ended::SomeRefused,
-        Verdict::ReadFailed => Ended::ReadFailed,
-        Verdict::WriteFailed => Ended::WriteFailed,
-        Verdict::NoMemory => Ended::NoMemory,
-        Verdict::TooMany => Ended::TooMany,
-    }
+    status(verify(alloc, order, source, out))
 }

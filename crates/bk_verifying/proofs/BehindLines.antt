@@ -19,6 +19,7 @@ use Rattle.bk_verify.specs.Verify.{Accepted, AreNotOf}
 use Rattle.bk_verify.specs.VerifyLaws.{KeepsFirsts}
 use Rattle.bk_verifying.specs.Listing.{ClosesReport, IsClosing, IsClosingBegun, IsListed}
 use Rattle.bk_verifying.specs.Report.{AreAllMissing, AreFirstMissing, Counts, counts_line, line_of}
+use Rattle.bk_verifying.specs.Running.{TellsFaults}
 use Rattle.bk_verifying.specs.declared.entering.Verifying.{Verifying}
 
 -- what is listed are the first missing members
@@ -97,15 +98,14 @@ module _ (n : ℕ) (s : Verifying) (first now : RestState) (missing members : �
   }
 
   -- the last line is written, and the report is whole
-  pub closes_report : (line : List ℕ) → line ≡ counts_line n the_counts → (c : Option (List ℕ)) → Appends b c line → (same : Bool)
-      → (IsTrue same ↔ (missing + s.foreign + s.repeated + s.refused ≡ 0))
-      → ClosesReport n s same a c
-  closes_report line is c p same says = record {
+  pub closes_report : (line : List ℕ) → line ≡ counts_line n the_counts → (c : Option (List ℕ)) → Appends b c line → (differs : Bool)
+      → TellsFaults differs (missing + s.foreign + s.repeated + s.refused) → ClosesReport n s differs a c
+  closes_report line is c p differs says = record {
     counts = the_counts;
     bytes = flat_map line_of listed.entries ++ line;
     closing = is_closing line is;
     appends = Appends-trans a b c (flat_map line_of listed.entries) line listed.appends p;
-    same_is = says;
+    verdict = says;
   }
 
   -- or its write failed

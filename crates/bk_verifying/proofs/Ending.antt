@@ -1,152 +1,126 @@
 -- How a run ends behind its lines: what is told of all of them, with what stands behind them, is the report.
-use Rattle.std.specs.Prelude.{IsTrue, Option, flat_map, ◌↔◌}
-use Rattle.std.specs.Io.KnownBytes.{Appends, Consumes, IsAtEnd}
+use Rattle.std.specs.Prelude.{Option, flat_map}
+use Rattle.std.specs.Io.KnownBytes.{Appends}
 use Rattle.std.proofs.KnownBytes.{Appends-trans}
-use Rattle.std.proofs.Common.{Bool, List, None, [], arith, false, inl, inr, length, sym, true, true≢false, ℕ, ◌++◌, ◌<◌, ◌^◌}
-use Rattle.std.proofs.Common.{◌∙◌, ◌≡◌, ◌≤◌, ◌⊎◌}
+use Rattle.std.proofs.Common.{Bool, List, [], arith, false, inl, inr, subst, sym, true, ℕ, ◌++◌, ◌≡◌, ◌⊎◌}
 use Rattle.bk_ports.proofs.KnownSteps.{prefix_after}
-use Rattle.bk_lines.specs.Ending.{Streams}
-use Rattle.bk_lines.specs.Entries.{EntersBy, IsEntered}
-use Rattle.bk_lines.specs.Lines.{lines_of}
+use Rattle.bk_lines.proofs.OtherOutputs.{IsStop, broken_behind, whole_behind}
+use Rattle.bk_lines.specs.Ending.{EndsWith, IsBrokenBehind, IsWhole, Output, Streams}
+use Rattle.bk_lines.specs.Entering.{AreAllEntered, entries_of}
 use Rattle.bk_lines.specs.Reply.{text_of}
 use Rattle.bk_lines.specs.declared.Ended.{Ended}
-use Rattle.bk_lines.specs.declared.Ended.TheVariants as ended
+use Rattle.bk_lines.specs.declared.Ended.TheVariants.{NoMemory, NoneRefused, ReadFailed, SomeRefused, TooMany, WriteFailed}
 use Rattle.bk_verifying.proofs.BehindLines.{all_missing, first_missing}
+use Rattle.bk_verifying.proofs.EndingAtLines.{at_first, fresh, rules}
 use Rattle.bk_verifying.proofs.Following.{AreFollowed, followed}
 use Rattle.bk_verifying.specs.Listing.{ClosesReport, IsClosing, IsClosingBegun}
-use Rattle.bk_verifying.specs.Report.{Counts, IsReport, faults, line_of}
-use Rattle.bk_verifying.specs.Running.{IsBrokenBehind, IsOther, IsSame}
-use Rattle.bk_verifying.specs.Running.{IsVerified, verdict_at_lines}
+use Rattle.bk_verifying.specs.Report.{Counts, IsReport, line_of}
+use Rattle.bk_verifying.specs.Running.{TellsFront, TellsReport, report_of}
 use Rattle.bk_verifying.specs.declared.entering.Verifying.{Verifying}
-use Rattle.bk_verifying.specs.declared.run.Verdict.TheVariants.{NoMemory, ReadFailed, TooMany, WriteFailed}
-use Rattle.bk_verifying.proofs.EndingAtLines.{at_first, fresh, rules}
 
--- all lines were entered
-pub record AreLinesDone (n : ℕ) (streams : Streams) (last : Verifying) : Type 0 where
-  pub input : List ℕ
-  pub taken : Consumes streams.left streams.left_after input
-  pub at_end : IsAtEnd streams.left_after
-  pub within : length input ≤ 2 ^ 30
+-- the lines were entered
+pub record AreLinesDone (n : ℕ) (lines : List (List ℕ)) (last : Verifying) (a b : Option (List ℕ)) : Type 0 where
   pub text : List ℕ
-  pub followed : AreFollowed n [] 1 (lines_of input) (fresh n) text last
-  pub written : Appends streams.written streams.written_after text
+  pub followed : AreFollowed n [] 1 lines (fresh n) text last
+  pub written : Appends a b text
 
-lines_entered : (n : ℕ) (streams : Streams) (last : Verifying) (refused : Bool) → IsEntered rules (fresh n) streams refused last → AreLinesDone n streams last
-lines_entered n streams last refused e =
-    let all = e.entered in record {
-      input = e.input;
-      taken = e.taken;
-      at_end = e.at_end;
-      within = e.within;
-      text = text_of all.replies;
-      followed = followed n [] 1 (lines_of e.input) all.replies (fresh n) last (at_first n) all.each;
-      written = all.written;
-    }
-
--- where no verdict was given at the lines
-pub lines_done : (n : ℕ) (streams : Streams) (last : Verifying) (e : Ended) → verdict_at_lines e ≡ None → EntersBy rules (fresh n) last streams e
-    → AreLinesDone n streams last
-lines_done n streams last ended.NoneRefused is enters = lines_entered n streams last false enters
-lines_done n streams last ended.SomeRefused is enters = lines_entered n streams last true enters
-lines_done n streams last ended.ReadFailed is enters = absurd (cc)
-lines_done n streams last ended.WriteFailed is enters = absurd (cc)
-lines_done n streams last ended.NoMemory is enters = absurd (cc)
-lines_done n streams last ended.TooMany is enters = absurd (cc)
+lines_done : (n : ℕ) (last : Verifying) (lines : List (List ℕ)) (a b : Option (List ℕ)) (refused : Bool)
+    → AreAllEntered rules (fresh n) 1 lines a b refused last → AreLinesDone n lines last a b
+lines_done n last lines a b refused all = record {
+  text = text_of all.replies;
+  followed = followed n [] 1 lines all.replies (fresh n) last (at_first n) all.each;
+  written = all.written;
+}
 
 -- behind the lines
-module _ (n : ℕ) (streams : Streams) (last : Verifying) (d : AreLinesDone n streams last) where
-  -- the order is that asked for
-  pub last_order : (last.verifier).order ≡ n
-  last_order = (d.followed).order
-
-  the_report : (counts : Counts) (bytes : List ℕ) → IsClosing n last counts bytes → IsReport n (lines_of d.input) counts (d.text ++ bytes)
-  the_report counts bytes c =
+module _ (n : ℕ) (last : Verifying) (lines : List (List ℕ)) (a b c : Option (List ℕ)) (d : AreLinesDone n lines last a b) where
+  the_report : (counts : Counts) (bytes : List ℕ) → IsClosing n last counts bytes → IsReport n lines counts (d.text ++ bytes)
+  the_report counts bytes k =
       let f = d.followed in
       let foreign = f.foreign_is in
       let repeated = f.repeated_is in
       let refused = f.refused_is in
-      let a = c.foreign in
-      let b = c.repeated in
-      let r = c.refused in record {
+      let x = k.foreign in
+      let y = k.repeated in
+      let z = k.refused in record {
         entries = f.entries;
         tolds = f.tolds;
-        missing = c.entries;
+        missing = k.entries;
         are_entries = f.are_entries;
         told = f.told;
-        first_missing = first_missing n (last.verifier).pairs f.entries f.keeps c.cursor c.entries c.are;
-        all_missing = all_missing n (last.verifier).pairs f.entries f.keeps c.cursor c.entries c.are c.all;
-        members = c.members;
-        missing_is = c.missing;
-        foreign_is = omega (arith, a, foreign);
-        repeated_is = omega (arith, b, repeated);
-        refused_is = omega (arith, r, refused);
-        text = λ i. f.text_is i ++ c.text i;
+        first_missing = first_missing n (last.verifier).pairs f.entries f.keeps k.cursor k.entries k.are;
+        all_missing = all_missing n (last.verifier).pairs f.entries f.keeps k.cursor k.entries k.are k.all;
+        members = k.members;
+        missing_is = k.missing;
+        foreign_is = omega (arith, x, foreign);
+        repeated_is = omega (arith, y, repeated);
+        refused_is = omega (arith, z, refused);
+        text = λ i. f.text_is i ++ k.text i;
       }
 
-  -- the run's bytes, once more was written behind the lines
-  abbrev pub then : Option (List ℕ) → Streams
-  then after = record { left = streams.left; left_after = streams.left_after; written = streams.written; written_after = after }
-
-  verified : (counts : Counts) (bytes : List ℕ) (after : Option (List ℕ)) → IsClosing n last counts bytes → Appends streams.written_after after bytes
-      → IsVerified n (then after) counts
-  verified counts bytes after c p = record {
-    input = d.input;
-    taken = d.taken;
-    at_end = d.at_end;
-    within = d.within;
-    report = d.text ++ bytes;
-    is_report = the_report counts bytes c;
-    written = Appends-trans streams.written streams.written_after after d.text bytes d.written p;
-  }
-
-  -- the report was written, and tells no fault
-  pub ends_same : (after : Option (List ℕ)) (same : Bool) → same ≡ true → ClosesReport n last same streams.written_after after → IsSame n (then after)
-  ends_same after same is c = record { counts = c.counts; verified = verified c.counts c.bytes after c.closing c.appends; same = (c.same_is).0 is }
-
-  some_fault : (k : ℕ) (same : Bool) → same ≡ false → (IsTrue same ↔ (k ≡ 0)) → 0 < k
-  some_fault k same is says = cases (two k)
-    where
-      two : (k : ℕ) → (k ≡ 0) ⊎ (0 < k)
-      two k = grind arith
-
-      cases : (k ≡ 0) ⊎ (0 < k) → 0 < k
-      cases (inl e) = absurd (true≢false (sym (says.1 e) ∙ is))
-      cases (inr some) = some
-
-  -- or tells one
-  pub ends_other : (after : Option (List ℕ)) (same : Bool) → same ≡ false → ClosesReport n last same streams.written_after after → IsOther n (then after)
-  ends_other after same is c = record {
-    counts = c.counts;
-    verified = verified c.counts c.bytes after c.closing c.appends;
-    other = some_fault (faults c.counts) same is c.same_is;
+  -- the report was written, and tells a fault or none
+  told_report : (differs : Bool) (k : ClosesReport n last differs b c) → TellsReport n lines differs a c
+  told_report differs k = record {
+    counts = k.counts;
+    report = d.text ++ k.bytes;
+    is_report = the_report k.counts k.bytes k.closing;
+    verdict = k.verdict;
+    appends = Appends-trans a b c d.text k.bytes d.written k.appends;
   }
 
   -- a write failed behind the lines
-  pub ends_broken : (after : Option (List ℕ)) → IsClosingBegun n last streams.written_after after → IsBrokenBehind n (then after)
-  ends_broken after (inl b) =
+  told_front : IsClosingBegun n last b c → TellsFront n lines a c
+  told_front (inl k) =
       let f = d.followed in record {
-        input = d.input;
-        taken = d.taken;
-        at_end = d.at_end;
-        within = d.within;
-        front = d.text ++ flat_map line_of b.entries;
+        front = d.text ++ flat_map line_of k.entries;
         is_front = inl (record {
           entries = f.entries;
           tolds = f.tolds;
-          missing = b.entries;
+          missing = k.entries;
           are_entries = f.are_entries;
           told = f.told;
-          first_missing = first_missing n (last.verifier).pairs f.entries f.keeps b.cursor b.entries b.are;
-          text = λ i. f.text_is i ++ flat_map line_of b.entries;
+          first_missing = first_missing n (last.verifier).pairs f.entries f.keeps k.cursor k.entries k.are;
+          text = λ i. f.text_is i ++ flat_map line_of k.entries;
         });
-        written = prefix_after streams.written streams.written_after after d.text (flat_map line_of b.entries) d.written b.begins;
+        begins = prefix_after a b c d.text (flat_map line_of k.entries) d.written k.begins;
       }
-  ends_broken after (inr w) = record {
-    input = d.input;
-    taken = d.taken;
-    at_end = d.at_end;
-    within = d.within;
+  told_front (inr w) = record {
     front = d.text ++ w.bytes;
     is_front = inr (w.counts, the_report w.counts w.bytes w.closing);
-    written = prefix_after streams.written streams.written_after after d.text w.bytes d.written w.begins;
+    begins = prefix_after a b c d.text w.bytes d.written w.begins;
   }
+
+-- a run that read its input to the end
+module _ (n : ℕ) (last : Verifying) (left left_after a b : Option (List ℕ)) (refused : Bool)
+    (all : IsWhole (entries_of rules (fresh n) last) (record { left = left; left_after = left_after; written = a; written_after = b }) refused) where
+  -- the order is that asked for
+  pub last_order : (last.verifier).order ≡ n
+  last_order = ((lines_done n last _ a b refused all.written).followed).order
+
+  -- its report was written
+  pub ends_whole : (c : Option (List ℕ)) (differs told : Bool) → told ≡ differs → ClosesReport n last told b c
+      → IsWhole (report_of n) (record { left = left; left_after = left_after; written = a; written_after = c }) differs
+  ends_whole c differs told e k =
+      whole_behind (entries_of rules (fresh n) last) (report_of n) left left_after a b c refused all differs
+      (λ lines entered. told_report n last lines a b c (lines_done n last lines a b refused entered) differs
+      (subst (λ (d : Bool). ClosesReport n last d b c) e k))
+
+  -- or a write of it failed
+  pub ends_broken : (c : Option (List ℕ)) → IsClosingBegun n last b c
+      → IsBrokenBehind (report_of n) (record { left = left; left_after = left_after; written = a; written_after = c })
+  ends_broken c k =
+      broken_behind (entries_of rules (fresh n) last) (report_of n) left left_after a b c refused all
+      (λ lines entered. told_front n last lines a b c (lines_done n last lines a b refused entered) k)
+
+-- all was read where the lines end so
+pub whole_at : (output : Output) (streams : Streams) (ended : Ended) → (ended ≡ NoneRefused) ⊎ (ended ≡ SomeRefused) → EndsWith output streams ended
+    → (refused : Bool) × IsWhole output streams refused
+whole_at output streams ended (inl e) h = (false, subst (EndsWith output streams) e h)
+whole_at output streams ended (inr e) h = (true, subst (EndsWith output streams) e h)
+
+-- and the run stopped where they end otherwise
+pub stop_told : (ended : Ended) → (ended ≡ ReadFailed) ⊎ ((ended ≡ WriteFailed) ⊎ ((ended ≡ NoMemory) ⊎ (ended ≡ TooMany))) → IsStop ended
+stop_told ended (inl e) = subst IsStop (sym e) tt
+stop_told ended (inr (inl e)) = subst IsStop (sym e) tt
+stop_told ended (inr (inr (inl e))) = subst IsStop (sym e) tt
+stop_told ended (inr (inr (inr e))) = subst IsStop (sym e) tt

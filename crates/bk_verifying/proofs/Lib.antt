@@ -5,4 +5,5 @@ pub mod BehindLines
 pub mod EndingAtLines
 pub mod Ending
 pub mod VerifyingExamples
+pub mod OneAscending
 pub mod OneReport

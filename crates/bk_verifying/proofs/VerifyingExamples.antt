@@ -1,15 +1,15 @@
 -- A list of order 9 without a missing member, of which line 2 repeats line 1 and line 3 is foreign.
 use Rattle.std.specs.Fmt.{digits}
-use Rattle.std.specs.Prelude.{List, None, Some, [], codes, count_by, flat_map, refl, ◌++◌, ◌∷◌, ◌≡◌}
+use Rattle.std.specs.Prelude.{List, Some, [], false, codes, count_by, flat_map, refl, ◌++◌, ◌∷◌, ◌≡◌}
 use Rattle.bk_tiling.proofs.ExampleTilings.{rectangle_33x32}
 use Rattle.bk_word.proofs.WordExamples.{word_33x32}
-use Rattle.bk_lines.specs.declared.Ended.TheVariants as ended
 use Rattle.bk_verify.specs.declared.verifier.Fed.TheVariants.{Foreign, New, Repeats}
+use Rattle.bk_catalogue.proofs.CatalogueExamples.{no_perfect}
+use Rattle.bk_verifying.proofs.OneReport.{a_list_has_one_report}
 use Rattle.bk_verifying.specs.Entering.{fed_pieces}
 use Rattle.bk_verifying.specs.Report.{Counts, counts_line, faults, line_of}
-use Rattle.bk_verifying.specs.Running.{verdict_at_lines}
-use Rattle.bk_verifying.specs.Told.{Told, foreign, is_foreign, is_refused, is_repeat, nothing, repeats, texts_from}
-use Rattle.bk_verifying.specs.declared.run.Verdict.TheVariants.{ReadFailed}
+use Rattle.bk_verifying.specs.Running.{TellsReport}
+use Rattle.bk_verifying.specs.Told.{IsToldOf, Told, foreign, is_foreign, is_refused, is_repeat, no_line, nothing, repeats, texts_from}
 
 -- what is written for the entries of the three lines
 new-entry : fed_pieces 1 New ≡ []
@@ -48,9 +48,31 @@ missing-lines : flat_map line_of (record { tiling = rectangle_33x32; word = word
 unfolding digits
 missing-lines = refl
 
--- a read that fails ends the run, and the end of the list doesn't
-failed-read : verdict_at_lines ended.ReadFailed ≡ Some ReadFailed
-failed-read = refl
+-- of a list without lines nothing is told, and nothing else can be
+nothing_else : (tolds : List Told) → IsToldOf 9 [] tolds → tolds ≡ []
+nothing_else tolds is = a_list_has_one_report.told 9 [] tolds [] is (record { entries = []; are_entries = no_line 1; told = tt })
 
-list-read : verdict_at_lines ended.SomeRefused ≡ None
-list-read = refl
+-- of the order 2, which has no perfect member, the report on it is one line, and it tells no fault
+no_list : TellsReport 2 [] false (Some []) (Some (codes "; end order 2 members 0 missing 0 foreign 0 repeated 0 refused 0" ++ 10 ∷ []))
+unfolding digits
+no_list = record {
+  counts = record { members = 0; missing = 0; foreign = 0; repeated = 0; refused = 0 };
+  report = codes "; end order 2 members 0 missing 0 foreign 0 repeated 0 refused 0" ++ 10 ∷ [];
+  is_report = record {
+    entries = [];
+    tolds = [];
+    missing = [];
+    are_entries = no_line 1;
+    told = tt;
+    first_missing = record { each = tt; none = tt; ascending = tt; first = λ e is none. absurd (no_perfect e is) };
+    all_missing = λ e is none. absurd (no_perfect e is);
+    members = record { entries = []; each = tt; counted = tt; ascending = tt; all = λ e is counted. absurd (no_perfect e is); number = refl };
+    missing_is = refl;
+    foreign_is = refl;
+    repeated_is = refl;
+    refused_is = refl;
+    text = refl;
+  };
+  verdict = refl;
+  appends = refl;
+}

@@ -1,6 +1,7 @@
 -- What the crate says.
 pub mod Told
 pub mod Report
+pub mod ReportLaw
 pub mod Running
 -- How its code keeps it.
 pub mod Entering

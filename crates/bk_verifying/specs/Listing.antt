@@ -7,6 +7,7 @@ use Rattle.bk_word.specs.Word.{Word}
 use Rattle.bk_catalogue.specs.Catalogue.{Entry}
 use Rattle.bk_verify.specs.Kept.{AreKeptAfter, AreUpTo, CountsMembers, IsNotKept, Kept}
 use Rattle.bk_verifying.specs.Report.{Counts, counts_line, faults, line_of}
+use Rattle.bk_verifying.specs.Running.{TellsFaults}
 use Rattle.bk_verifying.specs.declared.entering.Verifying.{Verifying}
 
 -- the lines of those up to the cursor were written, so many
@@ -37,13 +38,13 @@ pub record IsClosing (n : ℕ) (s : Verifying) (counts : Counts) (bytes : List �
   pub refused : counts.refused ≡ s.refused
   pub text : bytes ≡ flat_map line_of entries ++ counts_line n counts
 
--- it was written, and it is told whether nothing is missing, foreign, repeated or refused
-pub record ClosesReport (n : ℕ) (s : Verifying) (same : Bool) (written written_after : Option (List ℕ)) : Type 0 where
+-- it was written, and it is told whether something is missing, foreign, repeated or refused
+pub record ClosesReport (n : ℕ) (s : Verifying) (differs : Bool) (written written_after : Option (List ℕ)) : Type 0 where
   pub counts : Counts
   pub bytes : List ℕ
   pub closing : IsClosing n s counts bytes
   pub appends : Appends written written_after bytes
-  pub same_is : IsTrue same ↔ (faults counts ≡ 0)
+  pub verdict : TellsFaults differs (faults counts)
 
 -- a beginning of it was written
 pub record IsWholeBegun (n : ℕ) (s : Verifying) (written written_after : Option (List ℕ)) : Type 0 where

@@ -1,11 +1,12 @@
 //! What stands behind the lines of a list: the missing members and the last line.
 
-ghost use Rattle.std.specs.Prelude.{IfOk, IsTrue, OnErr, OnOk, [], ◌+◌, ◌<◌, ◌↔◌, ◌≡◌, ◌≤◌};
+ghost use Rattle.std.specs.Prelude.{IfOk, OnErr, OnOk, [], ◌+◌, ◌<◌, ◌≡◌, ◌≤◌};
 ghost use Rattle.bk_ports.specs.Causes.{HasCause};
 ghost use Rattle.bk_word.specs.declared.Class.TheVariants.{Perfect};
 ghost use Rattle.bk_catalogue.specs.Following.{HasNoneAfter};
 ghost use Rattle.bk_verify.specs.Kept.{AreKeptAfter};
 ghost use Rattle.bk_verifying.specs.Listing.{ClosesReport, IsClosingBegun, IsListed, IsListingBegun};
+ghost use Rattle.bk_verifying.specs.Running.{TellsFaults};
 
 use crate::entering::Verifying;
 use bk_grammar::AnswerBuffer;
@@ -17,7 +18,7 @@ use bk_word::Word;
 use std::alloc::Global;
 use std::sync::ledger::{Blank, Ledger};
 
-// Writes the missing members and the last line, and tells whether the list is the catalogue.
+// Writes the missing members and the last line, and tells whether the list and the catalogue differ.
 pub(crate) fn close_report<L: Ledger, O: Sink>(
     alloc: Global,
     order: u8,
@@ -31,7 +32,7 @@ pub(crate) fn close_report<L: Ledger, O: Sink>(
     requires some { 0 < L.parts }
     requires most { order ≤ 16 }
     requires order { state.verifier.order ≡ order }
-    ensures closed { IfOk result (λ same. ClosesReport order state same (O.written out.old) (O.written out.new)) }
+    ensures closed { IfOk result (λ differs. ClosesReport order state differs (O.written out.old) (O.written out.new)) }
     ensures begun { OnErr result (IsClosingBegun order state (O.written out.old) (O.written out.new)) }
     ensures cause { HasCause (O.faults out.old) (O.faults out.new) result }
 {
@@ -47,18 +48,18 @@ pub(crate) fn close_report<L: Ledger, O: Sink>(
     let counts = [rest.members(), missing, foreign, repeated, refused];
     write_verified(Last::End, order, counts, &Word::new(alloc), buffer);
     out.write_all(buffer.as_slice())?;
-    let same = is_same(missing, foreign, repeated, refused);
-    Ok(same)
+    let differs = has_fault(missing, foreign, repeated, refused);
+    Ok(differs)
 }
 
-// Whether no count tells of a fault.
-fn is_same(missing: u64, foreign: u64, repeated: u64, refused: u64) -> bool
-    ensures { IsTrue result ↔ (missing + foreign + repeated + refused ≡ 0) }
+// Whether some count tells of a fault.
+fn has_fault(missing: u64, foreign: u64, repeated: u64, refused: u64) -> bool
+    ensures { TellsFaults result (missing + foreign + repeated + refused) }
 {
     if missing > 0 || foreign > 0 {
-        return false;
+        return true;
     }
-    repeated == 0 && refused == 0
+    repeated > 0 || refused > 0
 }
 
 // Writes a line for each missing member, ascending, each by one call, and gives how many there are.

@@ -23,7 +23,7 @@ entry_word n class e is = record {
 }
 
 -- the word is before the other, or not
-before_or : (v w : Word) → Follows w v ⊎ (Follows w v → ⊥)
+pub before_or : (v w : Word) → Follows w v ⊎ (Follows w v → ⊥)
 before_or v w = cases (word_cmp v w) refl
   where
     equal : Equal ≡ Less → ⊥
@@ -134,8 +134,8 @@ module _ (n : ℕ) (class : Class) (place word : Word) (tree : IsTreeWord n word
       cases e is after before (inl f) = p.passed e is after f
       cases e is after before (inr f) = none e is f before
 
--- the end: no word of the tree is left from the place on
-pub ended : (n : ℕ) (class : Class) (place cursor : Word) (met : ℕ) → ((w : Word) → IsTreeWord n w → (Follows place w → ⊥) → ⊥)
+-- the end: no word of a member is left from the place on
+pub ended : (n : ℕ) (class : Class) (place cursor : Word) (met : ℕ) → ((e : Entry) → IsEntry n class e → (Follows place e.word → ⊥) → ⊥)
     → HasPassed n class cursor place met → IsEnd n class cursor met
 ended n class place cursor met none p = record {
   passed = λ e is after. cases e is after (before_or e.word place);
@@ -148,4 +148,4 @@ ended n class place cursor met none p = record {
 
     cases : (e : Entry) → IsEntry n class e → Follows e.word cursor → Follows place e.word ⊎ (Follows place e.word → ⊥) → ⊥
     cases e is after (inl f) = p.passed e is after f
-    cases e is after (inr f) = none e.word (entry_word n class e is) f
+    cases e is after (inr f) = none e is f

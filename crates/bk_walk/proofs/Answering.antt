@@ -1,11 +1,13 @@
 -- What a walk answers, from what its search found.
-use Rattle.std.proofs.Common.{None, Some, [], ap, arith, length, refl, subst, sym, take, true, ℕ, ◌+◌, ◌-◌, ◌<◌, ◌^◌, ◌≡◌, ◌≤◌}
+use Rattle.std.proofs.Common.{Bool, None, Some, [], ap, arith, false, length, refl, subst, sym, take, true, ℕ, ◌+◌, ◌-◌, ◌<◌, ◌^◌, ◌∙◌, ◌≡◌, ◌≤◌}
 use Rattle.bk_tiling.specs.Tiling.{Tiling}
 use Rattle.bk_word.specs.Word.{Word, order_of}
 use Rattle.bk_word.specs.declared.Class.{Class}
 use Rattle.bk_lay.specs.TilingWord.{IsWordOf}
 use Rattle.bk_catalogue.specs.Catalogue.{IsMember}
-use Rattle.bk_walk.specs.Search.{Ends, HasPassed, Meets}
+use Rattle.std.proofs.lemmas.List.{take_all}
+use Rattle.bk_walk.specs.declared.search.Found.{Found}
+use Rattle.bk_walk.specs.Search.{Ends, Finds, HasPassed, Meets}
 use Rattle.bk_tree.specs.Tree.{IsAtMostTree}
 use Rattle.bk_tree.proofs.TreeCounts.{at_least_fewer}
 use Rattle.bk_catalogue.specs.Following.{HasNoneAfter}
@@ -43,3 +45,31 @@ kept_at_end n class cursor played pushes least most few e none known = record {
   none = λ _. none;
   known = known;
 }
+
+-- what a search finds, of its order and class
+pub finds_of : (n m : ℕ) (class other : Class) (place front : Word) (met : ℕ) (found : Found) → m ≡ n → other ≡ class → Finds m other place front met found
+    → Finds n class place front met found
+finds_of n m class other place front met found e f finds = subst (λ (k : Class). Finds n k place front met found) f
+    (subst (λ (k : ℕ). Finds k other place front met found) e finds)
+
+-- a walk that has ended, by what is the same of it
+pub kept_ended : (n m : ℕ) (class other : Class) (cursor played : Word) (pushes : ℕ) → m ≡ n → other ≡ class → IsKeptWalk n class cursor played true pushes
+    → IsKeptWalk m other cursor played true pushes
+kept_ended n m class other cursor played pushes e f kept = subst (λ (k : Class). IsKeptWalk m k cursor played true pushes) (sym f)
+    (subst (λ (k : ℕ). IsKeptWalk k class cursor played true pushes) (sym e) kept)
+
+-- a walk at the word of a member
+pub kept_at_word : (n m : ℕ) (other : Class) (cursor played : Word) (ended : Bool) (pushes : ℕ) → 2 ≤ n → n ≤ 16 → m ≡ n → cursor ≡ played → order_of played ≡ n
+    → ended ≡ false → pushes < 2 ^ 64 → IsKeptWalk m other cursor played ended pushes
+kept_at_word n m other cursor played ended pushes least most e same order going known = record {
+  least = omega (arith, e);
+  most = omega (arith, e);
+  few = omega (arith, ap order_of same, order);
+  begun = ap (take (length played)) same ∙ take_all (length played) played (omega arith);
+  small = omega (arith, order, e);
+  none = λ done. absurd (apart (sym going ∙ done));
+  known = known;
+}
+  where
+    apart : false ≡ true → ⊥
+    apart f = cc

@@ -21,7 +21,6 @@ use Rattle.bk_tree.proofs.Places.{move_from_parts, one_legal}
 use Rattle.bk_bounds.specs.SingleValleys.{single_valleys}
 use Rattle.bk_barren.specs.Cuts.{IsBarren}
 use Rattle.bk_barren.proofs.OneUnderOne.{one_under_one_is_barren}
-use Rattle.bk_member_table.specs.Members.{IsBarrenBy}
 use Rattle.bk_word.specs.OwnSigns.{own_signs}
 use Rattle.bk_walk.specs.MoveCuts.{GrowsByAtMostOne, IsCut, IsFrontEndingEven}
 use Rattle.bk_tree.specs.NextMove.{IsMoveFrom, move_after, move_of, signs_after}
@@ -106,11 +105,6 @@ even_cut n class front m kept which ends =
       where
         place : kept - 1 ≡ open_side (has_left_wall (outline_of front)) + (kept - 1 - open_side (has_left_wall (outline_of front)))
         place = let low = ends.low in omega arith
-
--- what a table of members tells
-pub members_cut : (n : ℕ) (class : Class) (front : Word) (m : Move) (kept : ℕ) → IsBarrenBy n class front m kept
-    → IsCut n class front m (move_after (front_signs kept m))
-members_cut n class front m kept none = cut_by_front n class front m kept (λ other legal count b. none.barren other b.rest count b.is)
 
 -- the cut of one square under just one
 pub single_cut : (n : ℕ) (class : Class) (front : Word) (m : Move) → m.count ≡ 1 → length (valley_of (outline_of front)) ≡ 1

@@ -11,9 +11,18 @@ pub mod Starting
 pub mod SearchSteps
 pub mod Standing
 pub mod SearchLoop
+pub mod StateLaws
+pub mod SearchTurns
+-- Where a table of members stands.
+pub mod PlaceLaws
+pub mod TablesTell
+pub mod LeapLaws
+pub mod GoingTo
+pub mod LeapStates
 -- What a complete word tells, and what a walk takes up and answers.
 pub mod Members
 pub mod RepeatedSides
+pub mod UnfitFlows
 pub mod TakingUp
 pub mod Answering
 -- Walks worked by hand.

@@ -8,7 +8,9 @@ use Rattle.bk_lay.proofs.WordPlay.{tiling_word_is_complete}
 use Rattle.bk_lay.specs.TilingWord.{IsWordOf}
 use Rattle.bk_word_net.proofs.PrimitiveTiling.{a_word_has_one_primitive_tiling}
 use Rattle.bk_catalogue.specs.Catalogue.{Entry, IsEntry, IsMember}
+use Rattle.bk_word_net.specs.Realised.{IsTilingOf}
 use Rattle.bk_member_table.specs.Finding.{Qualifies}
+use Rattle.bk_walk.specs.Leaping.{IsMembersWord}
 use Rattle.bk_sym.proofs.CanonicalPrimitive.{canonical_primitive}
 
 -- a tiling that qualifies is a member of its order
@@ -30,3 +32,16 @@ none_other n class t w tiling primitive word not e is same =
     one : e.tiling ≡ t
     one = a_word_has_one_primitive_tiling e.tiling t w (is.member).tiling tiling
         (canonical_primitive e.tiling (is.member).tiling (is.member).canonical) primitive (subst (IsWordOf e.tiling) same is.word) word
+
+-- the one tiling that has a member's word is the member
+pub member_realised : (n : ℕ) (class : Class) (w : Word) (t : Tiling) → IsMembersWord n class w → IsTilingOf w t → IsMember n class t
+member_realised n class w t m r = subst (IsMember n class) one (m.is).member
+  where
+    one : (m.entry).tiling ≡ t
+    one = a_word_has_one_primitive_tiling (m.entry).tiling t w ((m.is).member).tiling r.tiling
+        (canonical_primitive (m.entry).tiling ((m.is).member).tiling ((m.is).member).canonical) r.primitive
+        (subst (IsWordOf (m.entry).tiling) m.word_is (m.is).word) r.word
+
+-- and there is one
+pub some_realised : (n : ℕ) (class : Class) (w : Word) → IsMembersWord n class w → ((t : Tiling) → IsTiling t → IsWordOf t w → ⊥) → ⊥
+some_realised n class w m none = none (m.entry).tiling ((m.is).member).tiling (subst (IsWordOf (m.entry).tiling) m.word_is (m.is).word)

@@ -15,7 +15,7 @@ use Rattle.bk_word_net.proofs.PlacedSides.{e, proportion, tl}
 use Rattle.bk_word_net.specs.WordNet.{net_of_word}
 use Rattle.bk_catalogue.specs.Catalogue.{IsOfClass}
 use Rattle.bk_catalogue.proofs.PerfectSides.{sides_apart}
-use Rattle.bk_walk.specs.WholeWords.{HasNoMember, HasTwoAlike, HasTwoCurrentsAlike}
+use Rattle.bk_walk.specs.WholeWords.{HasNoMember, HasTwoAlike}
 
 -- where currents are in proportion to sides, so are those at one place
 at_place : (cs : List ℤ) (laid : List Square) (a b : ℤ) → map (λ c. c *ℤ a) cs ≡ map (λ c. c *ℤ b) (map (λ q. pos q.s) laid)
@@ -64,7 +64,8 @@ not_perfect w total currents (potentials, one, primitive) two t tiling word perf
     cases (negsuc n) is h = omega (arith, ints, h)
 
 -- and no member of the class perfect has the word
-pub no_perfect_member : (w : Word) (class : Class) → class ≡ Perfect → HasTwoCurrentsAlike (net_of_word w) → HasNoMember class w
-no_perfect_member w class is (total, currents, flow, two) entry member same =
+pub no_perfect_member : (w : Word) (class : Class) → class ≡ Perfect → (total : ℤ) (currents : List ℤ) → IsPrimitiveFlow (net_of_word w) total currents
+    → HasTwoAlike currents → HasNoMember class w
+no_perfect_member w class is total currents flow two entry member same =
     not_perfect w total currents flow two entry.tiling ((member.member).tiling) (subst (IsWordOf entry.tiling) same member.word)
     (subst (λ (c : Class). IsOfClass c entry.tiling) is ((member.member).class))

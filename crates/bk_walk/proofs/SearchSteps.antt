@@ -39,7 +39,7 @@ fewer_at n class cursor word more met h p = let c = p.count in
     record { after = p.after; passed = p.passed; count = record { words = c.words; each = c.each; ascending = c.ascending; count = omega (arith, c.count) } }
 
 -- a move that is not before x stands at or after it
-at_or_after : (x m : Move) → IsMoveFrom x m → (move_cmp x m ≡ Less) ⊎ (x ≡ m)
+pub at_or_after : (x m : Move) → IsMoveFrom x m → (move_cmp x m ≡ Less) ⊎ (x ≡ m)
 at_or_after x m from = cases (move_cmp m x) refl
   where
     cases : (r : Ordering) → move_cmp m x ≡ r → (move_cmp x m ≡ Less) ⊎ (x ≡ m)
@@ -55,7 +55,7 @@ from_less x m next from e = cases (at_or_after x m from)
     cases (inr f) = ap (λ z. move_cmp z next) f ∙ e
 
 -- where the moves ascend, so do the words
-up_by_move : (front : Word) (x next : Move) (rest more : Word) → move_cmp x next ≡ Less → Follows (front ++ next ∷ more) (front ++ x ∷ rest)
+pub up_by_move : (front : Word) (x next : Move) (rest more : Word) → move_cmp x next ≡ Less → Follows (front ++ next ∷ more) (front ++ x ∷ rest)
 up_by_move front x next rest more e = front_cmp front (x ∷ rest) (next ∷ more) ∙ ap (λ z. ordering_then z (word_cmp rest more)) e
 
 after_itself : (m : Move) → move_cmp m (move_after m) ≡ Less
@@ -100,7 +100,8 @@ cuts n class front x m next met least cut few =
 -- where no move is played and no legal one is left, it ends
 pub ends : (n : ℕ) (class : Class) (x : Move) (met : ℕ) → IsLast n [] x → met ≤ 0 → Ends n class (x ∷ []) met
 ends n class x met last few cursor before p =
-    fewer_end n class cursor before (before + met) (omega arith) (ended n class (x ∷ []) cursor before (λ w tree from. end_over n x w tree last from) p)
+    fewer_end n class cursor before (before + met) (omega arith) (ended n class (x ∷ []) cursor before
+    (λ e is from. end_over n x e.word (entry_word n class e is) last from) p)
 
 -- a move is pushed
 module _ (n : ℕ) (class : Class) (front : Word) (x m : Move) (met : ℕ) (legal : IsLegal front) (least : IsLeastFrom (outline_of front) x m)

@@ -6,7 +6,9 @@ use Rattle.std.proofs.lemmas.Grind.{take_at_read}
 use Rattle.std.proofs.lemmas.Option.{get_or_from_slice_get, slice_get_within}
 use Rattle.bk_word.specs.Outline.{IsLegalMove, Outline, start}
 use Rattle.bk_word.specs.Play.{IsComplete, IsLegal, outline_of}
-use Rattle.bk_word.specs.Word.{Move, Word, order_of}
+use Rattle.bk_word.specs.Word.{Move, Word, move_cmp, order_of}
+use Rattle.bk_word.proofs.WordOrder.{move_itself}
+use Rattle.std.specs.declared.cmp.Ordering.TheVariants.{Equal, Less}
 use Rattle.bk_word.specs.declared.Class.{Class}
 use Rattle.bk_word.proofs.StoredBytes.{order_append, order_more}
 use Rattle.bk_word.proofs.PlayLaws.{few_signs, legal_front, legal_rest}
@@ -96,17 +98,13 @@ taken_last before front m moves e some g f = sym (take_all (moves - 1 + 1) befor
 front_of_more : (front : Word) (m : Move) → take (length (front ++ m ∷ []) - 1) (front ++ m ∷ []) ≡ front
 front_of_more front m = take_at front (m ∷ []) (length (front ++ m ∷ []) - 1) (omega (arith, length-append front (m ∷ [])))
 
--- a step from a place, by the least legal move that is not before the move there
+-- the move that is fitted is the least legal one
+pub step_least : (n : ℕ) (front : Word) (x m : Move) → IsSearchState n front x → m ≡ fitted (open_sides (outline_of front)) x → IsLeastFrom (outline_of front) x m
+step_least n front x m s fits = subst (IsLeastFrom (outline_of front) x) (sym fits) (fit_least (outline_of front) x s.some)
+
+-- a step from a place where the move that fits hangs too many squares
 module _ (n : ℕ) (class : Class) (front : Word) (x m : Move) (few : n ≤ 16) (s : IsSearchState n front x)
     (fits : m ≡ fitted (open_sides (outline_of front)) x) where
-  -- the move is the least legal one
-  pub step_least : IsLeastFrom (outline_of front) x m
-  step_least = subst (IsLeastFrom (outline_of front) x) (sym fits) (fit_least (outline_of front) x s.some)
-
-  -- it has at most one sign more than squares
-  pub step_signs : length m.signs ≤ m.count + 1
-  step_signs = few_signs (outline_of front) m step_least.legal
-
   step_last : n < order_of front + m.count → IsLast n front x
   step_last many = last_from_fit n front x s.some (subst (λ (k : Move). n < order_of front + k.count) fits many)
 
@@ -140,15 +138,34 @@ module _ (n : ℕ) (class : Class) (front : Word) (x m : Move) (few : n ≤ 16) 
   step_ends met e many none = subst (λ (b : Word). Ends n class (b ++ x ∷ []) met) (sym e)
       (ends n class x met (subst (λ (b : Word). IsLast n b x) e (step_last many)) none)
 
+-- a legal move is the least that isn't before it
+pub least_itself : (front : Word) (m : Move) → IsLegalMove (outline_of front) m → IsLeastFrom (outline_of front) m m
+least_itself front m legal = record { legal = legal; from = itself; least = λ other is from. from }
+  where
+    less_equal : Less ≡ Equal → ⊥
+    less_equal f = cc
+
+    itself : move_cmp m m ≡ Less → ⊥
+    itself e = less_equal (sym e ∙ move_itself m)
+
+-- a step from a place at a legal move
+module _ (n : ℕ) (class : Class) (front : Word) (m : Move) (few : n ≤ 16) (s : IsSearchState n front m) (legal : IsLegalMove (outline_of front) m) where
+  least : IsLeastFrom (outline_of front) m m
+  least = least_itself front m legal
+
+  -- it has at most one sign more than squares
+  pub step_signs : length m.signs ≤ m.count + 1
+  step_signs = few_signs (outline_of front) m legal
+
   -- over moves that are cut
   pub step_cuts : (next : Move) (met : ℕ) → IsCut n class front m next → GrowsByAtMostOne m next → order_of front + m.count ≤ n → met ≤ 0
-      → Advances n class (front ++ x ∷ []) (front ++ next ∷ []) met × IsSearchState n front next
+      → Advances n class (front ++ m ∷ []) (front ++ next ∷ []) met × IsSearchState n front next
   step_cuts next met cut near small none = (
-    cuts n class front x m next met step_least cut none,
+    cuts n class front m m next met least cut none,
     record {
       legal = s.legal;
       small = s.small;
-      some = omega (arith, near.least, (step_least.legal).some);
+      some = omega (arith, near.least, legal.some);
       count = omega (arith, near.most);
       signs = omega (arith, near.signs, step_signs);
     },
@@ -157,19 +174,19 @@ module _ (n : ℕ) (class : Class) (front : Word) (x m : Move) (few : n ≤ 16) 
   -- down, by a push
   module _ (small : order_of front + m.count ≤ n) (pushed : Word) (push : pushed ≡ front ++ m ∷ []) (met : ℕ) (one : met ≤ 1) where
     tree : IsTreeWord n pushed
-    tree = subst (IsTreeWord n) (sym push) (pushed_tree n class front x m met s.legal step_least small one)
+    tree = subst (IsTreeWord n) (sym push) (pushed_tree n class front m m met s.legal least small one)
 
     -- and back, where no member's word begins so
     pub step_turns_back : (popped : Word) (next : Move) → popped ≡ take (length pushed - 1) pushed → next ≡ move_after m → IsBarren n class pushed
-        → Advances n class (front ++ x ∷ []) (popped ++ next ∷ []) met × IsSearchState n popped next
+        → Advances n class (front ++ m ∷ []) (popped ++ next ∷ []) met × IsSearchState n popped next
     step_turns_back popped next pop after barren = (
-      subst (λ (b : Word). Advances n class (front ++ x ∷ []) (b ++ next ∷ []) met) (sym same)
-          (subst (λ (k : Move). Advances n class (front ++ x ∷ []) (front ++ k ∷ []) met) (sym after)
-          (turns_back n class front x m met s.legal step_least small one (subst (IsBarren n class) push barren))),
+      subst (λ (b : Word). Advances n class (front ++ m ∷ []) (b ++ next ∷ []) met) (sym same)
+          (subst (λ (k : Move). Advances n class (front ++ m ∷ []) (front ++ k ∷ []) met) (sym after)
+          (turns_back n class front m m met s.legal least small one (subst (IsBarren n class) push barren))),
       subst (λ (b : Word). IsSearchState n b next) (sym same) (record {
         legal = s.legal;
         small = s.small;
-        some = omega (arith, near.least, (step_least.legal).some, ap (λ (k : Move). k.count) after);
+        some = omega (arith, near.least, legal.some, ap (λ (k : Move). k.count) after);
         count = omega (arith, near.most, ap (λ (k : Move). k.count) after);
         signs = omega (arith, near.signs, step_signs, ap (λ (k : Move). length k.signs) after);
       }),
@@ -183,11 +200,11 @@ module _ (n : ℕ) (class : Class) (front : Word) (x m : Move) (few : n ≤ 16) 
 
     -- on, where the moves are no complete word of the order that a member has
     pub step_goes_down : (next : Move) → next ≡ first_move → (IsComplete pushed → order_of pushed ≡ n → HasNoMember class pushed)
-        → Advances n class (front ++ x ∷ []) (pushed ++ next ∷ []) met × IsSearchState n pushed next
+        → Advances n class (front ++ m ∷ []) (pushed ++ next ∷ []) met × IsSearchState n pushed next
     step_goes_down next first none = (
-      subst (λ (b : Word). Advances n class (front ++ x ∷ []) (b ++ next ∷ []) met) (sym push)
-          (subst (λ (k : Move). Advances n class (front ++ x ∷ []) ((front ++ m ∷ []) ++ k ∷ []) met) (sym first)
-          (goes_down n class front x m met s.legal step_least small one not)),
+      subst (λ (b : Word). Advances n class (front ++ m ∷ []) (b ++ next ∷ []) met) (sym push)
+          (subst (λ (k : Move). Advances n class (front ++ m ∷ []) ((front ++ m ∷ []) ++ k ∷ []) met) (sym first)
+          (goes_down n class front m m met s.legal least small one not)),
       subst (IsSearchState n pushed) (sym first)
           (record { legal = tree.legal; small = tree.small; some = omega arith; count = omega arith; signs = omega arith }),
     )
@@ -200,5 +217,5 @@ module _ (n : ℕ) (class : Class) (front : Word) (x m : Move) (few : n ≤ 16) 
             counted = sym (ap order_of (same ∙ sym push)) ∙ (entry_complete n class e is).1
 
     -- to the word of the moves, which is met
-    pub step_reaches : Reaches n class (front ++ x ∷ []) pushed met
-    step_reaches = subst (λ (b : Word). Reaches n class (front ++ x ∷ []) b met) (sym push) (reaches n class front x m met s.legal step_least small one)
+    pub step_reaches : Reaches n class (front ++ m ∷ []) pushed met
+    step_reaches = subst (λ (b : Word). Reaches n class (front ++ m ∷ []) b met) (sym push) (reaches n class front m m met s.legal least small one)

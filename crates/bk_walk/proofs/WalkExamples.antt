@@ -1,17 +1,14 @@
 -- What a walk through the catalogues of order 2 gives from the start, and what its one word tells.
 use Rattle.std.specs.Prelude.{pos}
-use Rattle.std.proofs.Common.{[], arith, lit<, refl, subst, suc, sym, zero, ◌<◌, ◌∷◌, ◌≡◌}
-use Rattle.std.proofs.lemmas.List.Elements.{All-from_recursion}
-use Rattle.bk_net.specs.Net.{HasNoLoose, IsNet, along, here}
-use Rattle.bk_flow.proofs.Solution.{eliminated_primitive}
+use Rattle.std.proofs.Common.{[], arith, inl, inr, refl, subst, suc, sym, zero, ◌∷◌, ◌≡◌}
+use Rattle.std.proofs.lemmas.Int.{ints}
 use Rattle.bk_word.specs.Word.{Follows, Word}
 use Rattle.bk_word.specs.declared.Class.TheVariants.{Imperfect, Perfect}
 use Rattle.bk_word.proofs.FollowLaws.{not_itself}
 use Rattle.bk_catalogue.proofs.TwoSquares.{row_of_two}
 use Rattle.bk_catalogue.specs.Following.{HasNoneAfter}
 use Rattle.bk_walk.specs.Walking.{IsNextMember}
-use Rattle.bk_word_net.specs.WordNet.{net_of_word}
-use Rattle.bk_walk.specs.WholeWords.{HasNoMember, HasTwoAlike, HasTwoCurrentsAlike}
+use Rattle.bk_walk.specs.WholeWords.{HasNoMember, HasTwoAlike, IsUnfit}
 use Rattle.bk_catalogue.proofs.CatalogueExamples.{row_word, has_word, entry_is, row_word_of, no_perfect}
 
 -- a walk gives the row first, and nothing after it; in the class perfect nothing at all
@@ -33,21 +30,15 @@ none_at_all e is after = no_perfect e is
 row_alike : HasTwoAlike (pos 1 ∷ pos 1 ∷ [])
 row_alike = record { first = 0; second = 1; number = pos 1; apart = omega arith; at_first = refl; at_second = refl }
 
-row_net : IsNet (net_of_word row_word)
-row_net = record {
-  some = omega arith;
-  ends = All-from_recursion (λ w. (w.0 < 2) × (w.1 < 2) × (w.0 ≡ w.1 → ⊥)) ((net_of_word row_word).wires)
-      ((lit< tt, lit< tt, λ e. omega (arith, e)), ((lit< tt, lit< tt, λ e. omega (arith, e)), tt));
-}
+-- so they are unfit in the class perfect, and in the class imperfect they are fit
+row_unfit : IsUnfit Perfect (pos 1 ∷ pos 1 ∷ [])
+row_unfit = inr (refl, row_alike)
 
-row_joined : HasNoLoose (net_of_word row_word)
-row_joined zero few = along (0, lit< tt, refl) here
-row_joined (suc zero) few = here
-row_joined (suc (suc v)) few = absurd (omega arith)
-
-row_currents_alike : HasTwoCurrentsAlike (net_of_word row_word)
-row_currents_alike =
-    (pos 2, pos 1 ∷ pos 1 ∷ [], eliminated_primitive (net_of_word row_word) (pos 2) (pos 1 ∷ pos 1 ∷ []) row_net row_joined refl, row_alike)
+row_fit : IsUnfit Imperfect (pos 1 ∷ pos 1 ∷ []) → ⊥
+row_fit (inl (zero, c, within, at, below)) = let one : pos 1 ≡ c = at in omega (arith, ints, one, below)
+row_fit (inl (suc zero, c, within, at, below)) = let one : pos 1 ≡ c = at in omega (arith, ints, one, below)
+row_fit (inl (suc (suc k), c, within, at, below)) = absurd (omega (arith, within))
+row_fit (inr (perfect, two)) = cc
 
 row_not_perfect : HasNoMember Perfect row_word
 row_not_perfect e is same = no_perfect e is

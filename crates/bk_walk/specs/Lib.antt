@@ -3,5 +3,6 @@ pub mod Walking
 -- How its code keeps it.
 pub mod MoveCuts
 pub mod LinedWords
+pub mod Leaping
 pub mod Search
 pub mod WholeWords

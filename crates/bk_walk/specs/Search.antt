@@ -2,16 +2,18 @@
 -- it is passed. What it meets are the words that it pushes, and each is one step.
 use Rattle.std.specs.List.{AllByRecursion}
 use Rattle.std.specs.Prelude.{List, None, Some, [], length, min, ℕ, ◌++◌, ◌+◌, ◌-◌, ◌<◌, ◌^◌, ◌∷◌, ◌≡◌, ◌≤◌}
-use Rattle.bk_word.specs.Play.{IsComplete, IsLegal}
+use Rattle.bk_word.specs.Outline.{IsLegalMove}
+use Rattle.bk_word.specs.Play.{IsComplete, IsLegal, outline_of}
 use Rattle.bk_word.specs.Word.{Follows, Move, Word, order_of}
 use Rattle.bk_word.specs.declared.Class.{Class}
 use Rattle.bk_lay.specs.TilingWord.{IsWordOf}
 use Rattle.bk_catalogue.specs.Catalogue.{Entry, IsEntry, IsMember}
+use Rattle.bk_walk.specs.Leaping.{IsMembersWord}
 use Rattle.bk_walk.specs.declared.search.Found.{Found}
 use Rattle.bk_walk.specs.declared.search.Found.TheVariants.{Ended, Member}
 use Rattle.bk_tree.specs.NextMove.{first_move, move_after}
 use Rattle.bk_walk.specs.declared.search.Went.{Went}
-use Rattle.bk_walk.specs.declared.search.Went.TheVariants.{Complete, End, On}
+use Rattle.bk_walk.specs.declared.search.Went.TheVariants.{Complete, End, On, Leapt}
 use Rattle.bk_catalogue.specs.Following.{HasNoneAfter, HasNoneBetween}
 use Rattle.bk_tree.specs.Tree.{AreAscendingWords, HasAtLeast, IsInTree}
 
@@ -68,11 +70,17 @@ pub record IsSearchState (n : ℕ) (front : Word) (x : Move) : Type 0 where
   pub count : x.count ≤ 17
   pub signs : length x.signs ≤ 18
 
--- where a step of a search leads from a place: on to a later one, to a complete word of the order, or to the end
+-- from a place the search meets the word, and so many words up to it, itself the last
+abbrev pub Meets : ℕ → Class → Word → Word → ℕ → Type 0
+Meets n class place word met = (cursor : Word) (before : ℕ) → HasPassed n class cursor place before
+    → IsMet n class cursor word (before + met)
+
+-- where a step of a search leads from a place: on to a later one, to a complete word of the order, to the word of a member, or to the end
 abbrev pub StepLeadsTo : ℕ → Class → Word → Word → Move → ℕ → Went → Type 0
 StepLeadsTo n class place front x met On = Advances n class place (front ++ x ∷ []) met × IsSearchState n front x
 StepLeadsTo n class place front x met Complete =
     Reaches n class place front met × IsComplete front × (order_of front ≡ n) × (x ≡ first_move)
+StepLeadsTo n class place front x met Leapt = Meets n class place front met × IsMembersWord n class front
 StepLeadsTo n class place front x met End = Ends n class place met × (front ≡ [])
 
 -- the count of pushes goes on by the steps, up to the last number that it holds
@@ -86,10 +94,36 @@ pub record IsClimbed (before front : Word) (x : Move) : Type 0 where
   pub was : before ≡ front ++ last ∷ []
   pub next : x ≡ move_after last
 
--- from a place the search meets the word, and so many words up to it, itself the last
-abbrev pub Meets : ℕ → Class → Word → Word → ℕ → Type 0
-Meets n class place word met = (cursor : Word) (before : ℕ) → HasPassed n class cursor place before
-    → IsMet n class cursor word (before + met)
+-- a search: its order and class, the moves that it has played, the move from which it looks for the next legal one, and how many moves it
+-- has pushed, up to the last number of 64 bits
+pub record SearchState : Type 0 where
+  pub order : ℕ
+  pub class : Class
+  pub front : Word
+  pub next : Move
+  pub pushes : ℕ
+
+-- the place where it stands
+abbrev pub place_of : SearchState → Word
+place_of s = s.front ++ s.next ∷ []
+
+-- what holds of each search
+pub record IsKeptSearch (s : SearchState) : Type 0 where
+  pub least : 2 ≤ s.order
+  pub most : s.order ≤ 16
+  pub stand : IsSearchState s.order s.front s.next
+  pub known : s.pushes < 2 ^ 64
+
+-- the next move is legal, and hangs no more squares than are left
+pub record IsReady (s : SearchState) : Type 0 where
+  pub legal : IsLegalMove (outline_of s.front) s.next
+  pub few : order_of s.front + s.next.count ≤ s.order
+
+-- a step changes neither the order nor the class, and counts its pushes
+pub record StaysOf (s then : SearchState) (steps steps_then : ℕ) : Type 0 where
+  pub order : then.order ≡ s.order
+  pub class : then.class ≡ s.class
+  pub counts : PushesGrow s.pushes then.pushes steps steps_then
 
 -- what a search finds from a place: the word of a member, or the end
 abbrev pub Finds : ℕ → Class → Word → Word → ℕ → Found → Type 0

@@ -1,10 +1,9 @@
 -- What a complete word of the order tells.
--- Example (WalkExamples): the word 2e, whose net has the currents 1 and 1, is that of no member of the class perfect.
-use Rattle.std.specs.Prelude.{List, Some, slice_get, ℕ, ℤ, ◌<◌, ◌≡◌}
-use Rattle.bk_net.specs.Flow.{IsPrimitiveFlow}
-use Rattle.bk_net.specs.Net.{Net}
+-- Example (WalkExamples): the word 2e, whose net has the currents 1 and 1, is that of no member of the class perfect; these are unfit in that class alone.
+use Rattle.std.specs.Prelude.{Any, List, Some, pos, slice_get, ℕ, ℤ, ◌<ℤ◌, ◌<◌, ◌≡◌, ◌⊎◌}
 use Rattle.bk_word.specs.Word.{Word, order_of}
 use Rattle.bk_word.specs.declared.Class.{Class}
+use Rattle.bk_word.specs.declared.Class.TheVariants.{Perfect}
 use Rattle.bk_lay.specs.TilingWord.{IsWordOf}
 use Rattle.bk_catalogue.specs.Catalogue.{Entry, IsEntry, IsMember}
 use Rattle.bk_walk.specs.declared.judging.WordVerdict.{WordVerdict}
@@ -28,6 +27,6 @@ pub record HasTwoAlike (numbers : List ℤ) : Type 0 where
   pub at_first : slice_get numbers first ≡ Some number
   pub at_second : slice_get numbers second ≡ Some number
 
--- two currents of the net's primitive flow are the same: no perfect tiling has such a flow
-abbrev pub HasTwoCurrentsAlike : Net → Type 0
-HasTwoCurrentsAlike net = (total : ℤ) × (currents : List ℤ) × IsPrimitiveFlow net total currents × HasTwoAlike currents
+-- currents that those of no member are: one is less than 1, or in the class perfect two are the same
+abbrev pub IsUnfit : Class → List ℤ → Type 0
+IsUnfit class currents = Any (λ c. c <ℤ pos 1) currents ⊎ ((class ≡ Perfect) × HasTwoAlike currents)

@@ -13,64 +13,25 @@ ghost use Rattle.bk_walk.specs.MoveCuts.{GrowsByAtMostOne, IsCut, IsFrontEndingE
 use crate::lined::LinedSkel;
 use crate::moves::next_move;
 use crate::owing::skip_owing;
-use crate::tabled::TabledMembers;
 use bk_owed::single_valleys;
 use bk_skel::{Skel, open_side};
 use bk_word::{Class, Move, Sign};
 
 // Passes over a legal move by which no member's word of the order and the class goes on, and over others of which this is as
 // plain. False where it isn't plain; the move is then as it was.
-pub(crate) fn skip<const ROOM: usize>(
-    lined: &LinedSkel,
-    tabled: &TabledMembers<ROOM>,
-    class: Class,
-    order: u8,
-    m: &mut Move,
-) -> bool
+pub(crate) fn skip(lined: &LinedSkel, class: Class, order: u8, m: &mut Move) -> bool
     requires legal { IsLegalMove (outline_of lined.now) m.old }
     requires count { m.old.count < 17 }
     requires signs { length m.old.signs ≤ 18 }
     requires small { order_of lined.now + m.old.count ≤ order }
-    requires most { order ≤ 16 }
     ensures cut { IsTrue result → IsCut order class lined.now m.old m.new }
     ensures near { GrowsByAtMostOne m.old m.new }
     ensures kept { result ≡ false → m.new ≡ m.old }
 {
-    if skip_by_members(lined, tabled, class, order, m) {
-        return true;
-    }
     if skip_by_signs(lined.skel(), class, order, m) {
         return true;
     }
     skip_by_sides(lined, class, m)
-}
-
-// Passes over a move, and over all of its count whose signs are the same up to a place, where the table of members has none
-// that goes on by them.
-fn skip_by_members<const ROOM: usize>(
-    lined: &LinedSkel,
-    tabled: &TabledMembers<ROOM>,
-    class: Class,
-    order: u8,
-    m: &mut Move,
-) -> bool
-    requires legal { IsLegalMove (outline_of lined.now) m.old }
-    requires count { m.old.count < 17 }
-    requires signs { length m.old.signs ≤ 18 }
-    requires small { order_of lined.now + m.old.count ≤ order }
-    requires most { order ≤ 16 }
-    ensures cut { IsTrue result → IsCut order class lined.now m.old m.new }
-    ensures near { GrowsByAtMostOne m.old m.new }
-    ensures kept { result ≡ false → m.new ≡ m.old }
-{
-    match tabled.barren_signs(order, class, lined.skel(), m) {
-        None => false,
-        Some(kept) => {
-            m.signs.truncate(kept);
-            next_move(m);
-            true
-        }
-    }
 }
 
 // Passes over a move that the sides of the first squares rule out.

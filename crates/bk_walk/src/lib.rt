@@ -3,10 +3,12 @@
 
 mod barren;
 mod judging;
+mod leaping;
 mod lined;
 mod lines;
 mod moves;
 mod owing;
+mod realising;
 mod resuming;
 mod search;
 mod tabled;

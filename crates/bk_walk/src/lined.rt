@@ -88,6 +88,16 @@ impl LinedSkel {
         self.lines.truncate(self.skel.order());
     }
 
+    /// Takes moves back until so many are left.
+    pub(crate) fn shorten(&mut self, moves: usize)
+        requires { moves ≤ length self.old }
+        ensures { self.new ≡ take moves self.old }
+    {
+        'moves: while moves < self.skel.moves() {
+            self.pop();
+        }
+    }
+
     /// Whether a legal move after these moves is known to be ruled out by the sides of the first squares.
     pub(crate) fn rules_out(&self, m: &Move, class: Class) -> bool
         requires { IsLegalMove (outline_of self.now) m.now }

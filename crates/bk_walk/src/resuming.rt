@@ -1,48 +1,39 @@
-//! Where a walk goes on: after its cursor.
+//! Where a search goes on: after a cursor.
 #![tactic(auto)]
 
-ghost use Rattle.std.specs.Prelude.{IsTrue, [], false, length, take, ◌++◌, ◌+◌, ◌<◌, ◌^◌, ◌∷◌, ◌≡◌, ◌≤◌};
+ghost use Rattle.std.specs.Prelude.{IsTrue, false, length, take, ◌+◌, ◌≡◌, ◌≤◌};
 ghost use Rattle.bk_word.specs.Outline.{IsLegalMove};
 ghost use Rattle.bk_word.specs.Play.{outline_of};
 ghost use Rattle.bk_word.specs.Word.{order_of};
-ghost use Rattle.bk_word.specs.declared.Class.{Class};
-ghost use Rattle.bk_walk.specs.Search.{HasPassed, IsSearchState, PushesGrow};
+ghost use Rattle.bk_walk.specs.Search.{HasPassed, StaysOf, place_of};
 
 use crate::lined::LinedSkel;
-use crate::moves::first_move;
-use crate::search::play;
+use crate::moves::begin_anew;
+use crate::search::Search;
 use bk_skel::{Skel, Steps};
 use bk_word::{Move, NoMemory, Word};
 use std::alloc::Global;
 use std::sync::ledger::Ledger;
 
-// Plays the moves of the cursor that are not played yet, as far as they are legal and hang at most as many squares as the
-// order. It gives the move from which a search looks for the next legal one.
-pub(crate) fn resume<L: Ledger>(
-    lined: &mut LinedSkel,
-    cursor: &Word,
-    order: u8,
-    pushes: &mut u64,
-    steps: &mut Steps<L>,
-) -> Move
-    requires order { order ≤ 16 }
-    requires begun { take (length lined.old) cursor.now ≡ lined.old }
-    requires small { order_of lined.old ≤ order }
-    requires few { order_of cursor.now ≤ 16 }
-    requires known { pushes.old < 2 ^ 64 }
-    ensures stand { IsSearchState order lined.new result }
-    ensures place { (class : Class) → HasPassed order class cursor.now (lined.new ++ result ∷ []) 0 }
-    ensures few { steps.new ≤ steps.old + 16 }
-    ensures counts { PushesGrow pushes.old pushes.new steps.old steps.new }
-{
-    'moves: for i in lined.skel().moves()..cursor.moves() {
-        let m = cursor.get(i);
-        if !can_play(lined, &m, order) {
-            return m;
+impl<const ROOM: usize> Search<ROOM> {
+    // Plays the moves of the cursor that are not played yet, as far as they are legal and hang at most as many squares as the
+    // order, and goes to the place from which nothing is passed but what isn't after the cursor.
+    pub(crate) fn resume<L: Ledger>(&mut self, cursor: &Word, steps: &mut Steps<L>)
+        requires begun { take (length self.old.front) cursor.now ≡ self.old.front }
+        requires few { order_of cursor.now ≤ 16 }
+        ensures place { HasPassed self.old.order self.old.class cursor.now (place_of self.new) 0 }
+        ensures few { steps.new ≤ steps.old + 16 }
+        ensures stays { StaysOf self.old self.new steps.old steps.new }
+    {
+        'moves: for i in self.lined.skel().moves()..cursor.moves() {
+            self.next = cursor.get(i);
+            if !can_play(&self.lined, &self.next, self.order) {
+                return;
+            }
+            self.go_down(steps);
         }
-        play(lined, &m, pushes, steps);
+        begin_anew(&mut self.next);
     }
-    first_move()
 }
 
 // Whether a move is legal, and hangs no more squares than the order leaves.

@@ -1,24 +1,27 @@
 //! The search through the tree of legal words, in ascending order.
 #![tactic(auto)]
 
-ghost use Rattle.std.specs.Prelude.{IsTrue, Some, [], false, length, min, ◌++◌, ◌+◌, ◌-◌, ◌<◌, ◌^◌, ◌∷◌, ◌≡◌, ◌≤◌};
-ghost use Rattle.bk_tiling.specs.Tiling.{IsTiling, Tiling as Tiled};
-ghost use Rattle.bk_word.specs.Outline.{IsLegalMove};
+ghost use Rattle.std.specs.Prelude.{IsTrue, [], false, min, ◌++◌, ◌+◌, ◌-◌, ◌<◌, ◌^◌, ◌∷◌, ◌≡◌, ◌≤◌};
 ghost use Rattle.bk_word.specs.Play.{IsComplete, outline_of};
 ghost use Rattle.bk_word.specs.Word.{order_of};
-ghost use Rattle.bk_lay.specs.TilingWord.{IsWordOf};
-ghost use Rattle.bk_tree.specs.NextMove.{open_sides as sides_open};
+ghost use Rattle.bk_tree.specs.NextMove.{first_move as first_of_all, open_sides as sides_open};
+ghost use Rattle.bk_walk.specs.Leaping.{TellsOfPlace};
 ghost use Rattle.bk_walk.specs.WholeWords.{HasNoMember};
-ghost use Rattle.bk_walk.specs.Search.{Finds, IsClimbed, IsSearchState, PushesGrow, StepLeadsTo};
+ghost use Rattle.bk_walk.specs.Search.{Finds, IsClimbed, IsReady, StaysOf, StepLeadsTo, place_of};
 
 use crate::barren::{is_barren, skip};
 use crate::judging::{WordVerdict, has_no_member, judge};
 use crate::lined::LinedSkel;
-use crate::moves::{begin_anew, least_legal_from, next_move};
-use crate::tabled::TabledMembers;
-use bk_skel::{Steps, open_side};
+use crate::moves::{begin_anew, first_move, least_legal_from, next_move};
+use crate::realising::realised;
+use crate::tabled::{PATIENCE, Told, tell};
+use bk_member_table::MemberTable;
+use bk_packed::number_with;
+use bk_skel::{Skel, Steps, open_side};
 use bk_tiling::Tiling;
 use bk_word::{Class, Move};
+use std::alloc::Global;
+use std::marker::Model;
 use std::sync::ledger::Ledger;
 
 // Where one step of the search leads.
@@ -27,6 +30,8 @@ pub(crate) enum Went {
     On,
     // to a complete word of the order, which a member may have
     Complete,
+    // to the word of a member
+    Leapt,
     // to the end of the tree
     End,
 }
@@ -34,81 +39,172 @@ pub(crate) enum Went {
 // What a search finds.
 #[derive(Drop)]
 pub(crate) enum Found {
-    // this member, whose word is that of the skeleton
+    // this member, whose word is that of the moves played
     Member(Tiling),
     // nothing more
     Ended,
 }
 
-// Searches on from a place, up to the next member's word.
-pub(crate) fn search<const ROOM: usize, L: Ledger>(
-    lined: &mut LinedSkel,
-    tabled: &mut TabledMembers<ROOM>,
-    next: &mut Move,
+/// A search for the words of members of an order and a class. It is seen as the order, the class, the moves that it has played,
+/// the move from which it looks for the next legal one, and how many moves it has pushed. It has room for a table of so many members. (Own.)
+#[derive(Drop)]
+pub(crate) struct Search<const ROOM: usize> {
+    alloc: Global,
+    pub(crate) order: u8,
     class: Class,
-    order: u8,
-    pushes: &mut u64,
-    steps: &mut Steps<L>,
-) -> Found
-    requires least { 2 ≤ order }
-    requires order { order ≤ 16 }
-    requires stand { IsSearchState order lined.old next.old }
-    requires known { pushes.old < 2 ^ 64 }
-    ensures finds { Finds order class (lined.old ++ next.old ∷ []) lined.new (steps.new - steps.old) result }
-    ensures counts { PushesGrow pushes.old pushes.new steps.old steps.new }
-{
-    'turns: loop {
-        match search_step(lined, tabled, next, class, order, pushes, steps) {
-            Went::On => {}
-            Went::End => return Found::Ended,
-            Went::Complete => match judge(lined.skel(), class) {
-                WordVerdict::Member(tiling) => return Found::Member(tiling),
-                WordVerdict::Other => {}
-            },
+    pub(crate) lined: LinedSkel,
+    pub(crate) next: Move,
+    table: MemberTable<ROOM>,
+    pushes: u64,
+}
+
+impl<const ROOM: usize> Model for Search<ROOM> {
+    ghost use Rattle.bk_walk.specs.Search.{IsKeptSearch, SearchState};
+
+    ghost Value = { SearchState };
+
+    ghost view = { λ s. record { order = s.order; class = s.class; front = s.lined; next = s.next; pushes = s.pushes } };
+
+    ghost invariant = { λ s. IsKeptSearch (record { order = s.order; class = s.class; front = s.lined; next = s.next; pushes = s.pushes }) };
+}
+
+impl<const ROOM: usize> Search<ROOM> {
+    /// A search that has played no move.
+    pub(crate) fn new(alloc: Global, order: u8, class: Class) -> Search<ROOM>
+        requires least { 2 ≤ order }
+        requires most { order ≤ 16 }
+        ensures { result ≡ record { order = order; class = class; front = []; next = first_of_all; pushes = 0 } }
+    {
+        Search {
+            alloc,
+            order,
+            class,
+            lined: LinedSkel::new(order),
+            next: first_move(),
+            table: MemberTable::new(alloc),
+            pushes: 0,
         }
+    }
+
+    /// The moves that it has played, for reading.
+    pub(crate) fn skel(&self) -> &Skel
+        ensures value { result.now ≡ self.now.front }
+        ensures few { order_of result.now ≤ 16 }
+    {
+        self.lined.skel()
+    }
+
+    /// How many moves it has pushed.
+    pub(crate) fn pushes(&self) -> u64
+        ensures { result ≡ self.now.pushes }
+    {
+        self.pushes
+    }
+
+    /// Searches on from its place, up to the next member's word.
+    pub(crate) fn search<L: Ledger>(&mut self, steps: &mut Steps<L>) -> Found
+        ensures finds { Finds self.old.order self.old.class (place_of self.old) self.new.front (steps.new - steps.old) result }
+        ensures stays { StaysOf self.old self.new steps.old steps.new }
+    {
+        let _known = self.pushes;
+        'turns: loop {
+            match self.step(steps) {
+                Went::On => {}
+                Went::End => return Found::Ended,
+                Went::Leapt => return Found::Member(realised(self.lined.skel(), self.class)),
+                Went::Complete => match judge(self.lined.skel(), self.class) {
+                    WordVerdict::Member(tiling) => return Found::Member(tiling),
+                    WordVerdict::Other => {}
+                },
+            }
+        }
+    }
+
+    // Goes one step on: back from moves after which none is left, to where a table of members tells, or a step through the tree.
+    fn step<L: Ledger>(&mut self, steps: &mut Steps<L>) -> Went
+        ensures leads { StepLeadsTo self.old.order self.old.class (place_of self.old) self.new.front self.new.next (steps.new - steps.old) result }
+        ensures stays { StaysOf self.old self.new steps.old steps.new }
+    {
+        least_legal_from(&mut self.next, open_sides(&self.lined));
+        if hangs_over(&self.lined, &self.next, self.order) {
+            if climb(&mut self.lined, &mut self.next) {
+                return Went::On;
+            }
+            begin_anew(&mut self.next);
+            return Went::End;
+        }
+        match self.ask() {
+            Told::Nothing => self.walk_on(steps),
+            Told::Next(number) => {
+                self.leap(number, steps);
+                Went::Leapt
+            }
+            Told::NoMore => {
+                self.lined = LinedSkel::new(self.order);
+                Went::End
+            }
+        }
+    }
+
+    // What a table of members tells of the place. One is made from there on where many moves were pushed and there is none that tells.
+    fn ask(&mut self) -> Told
+        requires { IsReady self.old }
+        ensures tells { TellsOfPlace self.old.order self.old.class (place_of self.old) result }
+        ensures same { self.new ≡ self.old }
+    {
+        if ROOM == 0 || self.pushes < PATIENCE || self.order < 3 {
+            return Told::Nothing;
+        }
+        let number = number_with(self.lined.skel(), &self.next);
+        match tell(&self.table, self.order, self.class, number) {
+            Told::Nothing => {
+                self.table = MemberTable::of(self.alloc, self.order, self.class, number);
+                tell(&self.table, self.order, self.class, number)
+            }
+            answer => answer,
+        }
+    }
+
+    // Goes one step on through the tree: over moves that are cut, or down by the next move.
+    fn walk_on<L: Ledger>(&mut self, steps: &mut Steps<L>) -> Went
+        requires { IsReady self.old }
+        ensures leads { StepLeadsTo self.old.order self.old.class (place_of self.old) self.new.front self.new.next (steps.new - steps.old) result }
+        ensures stays { StaysOf self.old self.new steps.old steps.new }
+    {
+        if skip(&self.lined, self.class, self.order, &mut self.next) {
+            return Went::On;
+        }
+        self.go_down(steps);
+        if is_barren(&self.lined, self.order) {
+            self.lined.pop();
+            next_move(&mut self.next);
+            return Went::On;
+        }
+        begin_anew(&mut self.next);
+        if is_candidate(&self.lined, self.class, self.order) {
+            Went::Complete
+        } else {
+            Went::On
+        }
+    }
+
+    // Pushes the next move, and counts it. It stays the next.
+    pub(crate) fn go_down<L: Ledger>(&mut self, steps: &mut Steps<L>)
+        requires { IsReady self.old }
+        ensures state { self.new ≡ record self.old { front = self.old.front ++ self.old.next ∷ []; pushes = min (self.old.pushes + 1) (2 ^ 64 - 1) } }
+        ensures step { steps.new ≡ steps.old + 1 }
+    {
+        self.lined.push(&self.next, steps);
+        self.pushes = self.pushes.saturating_add(1);
     }
 }
 
-// Goes one step on: back from moves after which none is left, over moves that are cut, or down by a move that is pushed.
-fn search_step<const ROOM: usize, L: Ledger>(
-    lined: &mut LinedSkel,
-    tabled: &mut TabledMembers<ROOM>,
-    next: &mut Move,
-    class: Class,
-    order: u8,
-    pushes: &mut u64,
-    steps: &mut Steps<L>,
-) -> Went
-    requires least { 2 ≤ order }
-    requires order { order ≤ 16 }
-    requires stand { IsSearchState order lined.old next.old }
-    requires known { pushes.old < 2 ^ 64 }
-    ensures leads { StepLeadsTo order class (lined.old ++ next.old ∷ []) lined.new next.new (steps.new - steps.old) result }
-    ensures counts { PushesGrow pushes.old pushes.new steps.old steps.new }
+// Whether the moves and one more hang more squares than the order.
+fn hangs_over(lined: &LinedSkel, m: &Move, order: u8) -> bool
+    ensures over { IsTrue result → order < order_of lined.now + m.now.count }
+    ensures few { result ≡ false → order_of lined.now + m.now.count ≤ order }
 {
-    least_legal_from(next, open_sides(lined));
-    if lined.skel().order() + usize::from(next.count) > usize::from(order) {
-        return if climb(lined, next) {
-            Went::On
-        } else {
-            Went::End
-        };
-    }
-    if skip(lined, tabled, class, order, next) {
-        return Went::On;
-    }
-    go_down(lined, tabled, next, class, order, pushes, steps);
-    if is_barren(lined, order) {
-        lined.pop();
-        next_move(next);
-        return Went::On;
-    }
-    begin_anew(next);
-    if is_candidate(lined, class, order) {
-        Went::Complete
-    } else {
-        Went::On
-    }
+    lined.skel().order() + usize::from(m.count) > usize::from(order)
 }
 
 // How many sides of the leftmost valley are no walls.
@@ -135,44 +231,6 @@ fn climb(lined: &mut LinedSkel, next: &mut Move) -> bool
     lined.pop();
     next_move(next);
     true
-}
-
-// Pushes a move, counts it, and makes a table of members where the walk wants it.
-fn go_down<const ROOM: usize, L: Ledger>(
-    lined: &mut LinedSkel,
-    tabled: &mut TabledMembers<ROOM>,
-    m: &Move,
-    class: Class,
-    order: u8,
-    pushes: &mut u64,
-    steps: &mut Steps<L>,
-)
-    requires order { order ≤ 16 }
-    requires legal { IsLegalMove (outline_of lined.old) m.now }
-    requires few { order_of lined.old + m.now.count ≤ order }
-    ensures moves { lined.new ≡ lined.old ++ m.now ∷ [] }
-    ensures step { steps.new ≡ steps.old + 1 }
-    ensures count { pushes.new ≡ min (pushes.old + 1) (2 ^ 64 - 1) }
-{
-    play(lined, m, pushes, steps);
-    tabled.renew(lined.skel(), class, order, *pushes);
-}
-
-// Pushes a move, and counts it.
-pub(crate) fn play<L: Ledger>(
-    lined: &mut LinedSkel,
-    m: &Move,
-    pushes: &mut u64,
-    steps: &mut Steps<L>,
-)
-    requires legal { IsLegalMove (outline_of lined.old) m.now }
-    requires few { order_of lined.old + m.now.count ≤ 200 }
-    ensures moves { lined.new ≡ lined.old ++ m.now ∷ [] }
-    ensures step { steps.new ≡ steps.old + 1 }
-    ensures count { pushes.new ≡ min (pushes.old + 1) (2 ^ 64 - 1) }
-{
-    lined.push(m, steps);
-    *pushes = pushes.saturating_add(1);
 }
 
 // Whether the moves are a complete word of the order which a member may have: it isn't told by whole numbers that none has it. No room is taken for

@@ -5,7 +5,8 @@ use Rattle.std.proofs.Common.{List, [], ap, arith, length, sym, vec_len, â„•, â—
 use Rattle.std.specs.Prelude.{vec_capacity}
 use Rattle.std.proofs.lemmas.List.{length-map, map-append}
 use Rattle.bk_alike.specs.Alike.{size_eq}
-use Rattle.bk_alike.proofs.Storing.{none_late, pushed_on, went_well, with_place-end}
+use Rattle.bk_alike.proofs.Storing.{none_late, pushed_on, with_place-end}
+use Rattle.bk_pair.proofs.KeptSquares.{went_well}
 use Rattle.bk_alike.proofs.put_in_group.Goals as goal
 
 pub returns-else-is_err-3-clause-groups : goal.returns-else-is_err-3-clause-groups

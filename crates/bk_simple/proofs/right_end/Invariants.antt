@@ -1,5 +1,5 @@
-use Rattle.bk_simple.specs.Reach.{NoneWider}
+use Rattle.bk_simple.proofs.Seams.{IsRunTo}
 use Rattle.bk_simple.proofs.right_end.Given as goal
 
 abbrev pub invariant-loop-k : goal.invariant-loop-k
-invariant-loop-k l = NoneWider l.squares l.p l.most l.end
+invariant-loop-k l = IsRunTo l.tiling.squares l.i (record { x = 0; y = 0; s = 0 }) l.k l.end

@@ -16,44 +16,44 @@ bytes-preserved-then-taken-gt0 c = record {
   within = omega (
     arith,
     c.bytes.invariant.within,
-    c.take_sides-taken.ensures.within,
+    c.take_ahead-taken.ensures.within,
     ap (λ z. length z) (from_is_drop c.bytes.at c.args.line.now),
     length-drop c.bytes.at c.args.line.now,
   );
-  read = several_further c.args.line.now c.bytes.at c.take_sides-taken.result c.bytes.place c.take_sides-taken.new.place c.bytes.gatherer
-      c.take_sides-taken.new.self c.bytes.invariant.read c.take_sides-taken.ensures.was c.take_sides-taken.ensures.leads;
+  read = several_further c.args.line.now c.bytes.at c.take_ahead-taken.result c.bytes.place c.take_ahead-taken.new.place c.bytes.gatherer
+      c.take_ahead-taken.new.self c.bytes.invariant.read c.take_ahead-taken.ensures.was c.take_ahead-taken.ensures.leads;
 }
 
 pub returns-in_default-clause-fault : goal.returns-in_default-clause-fault
 returns-in_default-clause-fault c =
-    no_next c.args.line.now c.bytes.at c.take_sides-taken.new.place c.take_sides-taken.new.self (omega arith)
-    (none_further c.args.line.now c.bytes.at c.take_sides-taken.result c.bytes.place c.take_sides-taken.new.place c.bytes.gatherer c.take_sides-taken.new.self
+    no_next c.args.line.now c.bytes.at c.take_ahead-taken.new.place c.take_ahead-taken.new.self (omega arith)
+    (none_further c.args.line.now c.bytes.at c.take_ahead-taken.result c.bytes.place c.take_ahead-taken.new.place c.bytes.gatherer c.take_ahead-taken.new.self
     (omega arith) c.bytes.invariant.read
-    c.take_sides-taken.ensures.was c.take_sides-taken.ensures.leads)
-    (ap (next_place c.take_sides-taken.new.place) (sym c.kind_of-kind.ensures) ∙ sym c.next.ensures ∙ c.in_default.is)
+    c.take_ahead-taken.ensures.was c.take_ahead-taken.ensures.leads)
+    (ap (next_place c.take_ahead-taken.new.place) (sym c.kind_of-kind.ensures) ∙ sym c.next.ensures ∙ c.in_default.is)
 
 pub take-requires-clause-side : goal.take-requires-clause-side
-take-requires-clause-side c = side_fits (take c.bytes.at c.args.line.now) c.take_sides-taken.new.place c.take_sides-taken.new.self c.kind_of-kind.result
-    (none_further c.args.line.now c.bytes.at c.take_sides-taken.result c.bytes.place c.take_sides-taken.new.place c.bytes.gatherer c.take_sides-taken.new.self
+take-requires-clause-side c = side_fits (take c.bytes.at c.args.line.now) c.take_ahead-taken.new.place c.take_ahead-taken.new.self c.kind_of-kind.result
+    (none_further c.args.line.now c.bytes.at c.take_ahead-taken.result c.bytes.place c.take_ahead-taken.new.place c.bytes.gatherer c.take_ahead-taken.new.self
     (omega arith) c.bytes.invariant.read
-    c.take_sides-taken.ensures.was c.take_sides-taken.ensures.leads)
+    c.take_ahead-taken.ensures.was c.take_ahead-taken.ensures.leads)
 
 pub take-requires-clause-group : goal.take-requires-clause-group
-take-requires-clause-group c = group_fits (take c.bytes.at c.args.line.now) c.take_sides-taken.new.place c.take_sides-taken.new.self c.kind_of-kind.result
-    (none_further c.args.line.now c.bytes.at c.take_sides-taken.result c.bytes.place c.take_sides-taken.new.place c.bytes.gatherer c.take_sides-taken.new.self
+take-requires-clause-group c = group_fits (take c.bytes.at c.args.line.now) c.take_ahead-taken.new.place c.take_ahead-taken.new.self c.kind_of-kind.result
+    (none_further c.args.line.now c.bytes.at c.take_ahead-taken.result c.bytes.place c.take_ahead-taken.new.place c.bytes.gatherer c.take_ahead-taken.new.self
     (omega arith) c.bytes.invariant.read
-    c.take_sides-taken.ensures.was c.take_sides-taken.ensures.leads)
+    c.take_ahead-taken.ensures.was c.take_ahead-taken.ensures.leads)
 
 pub bytes-preserved : goal.bytes-preserved
 bytes-preserved c = record {
   within = omega arith;
   read = subst (Progress (take (c.bytes.at + 1) c.args.line.now) c.in-Some.next)
-      (ap (λ k. gathered_after c.take_sides-taken.new.place k c.take_sides-taken.new.self) (sym c.kind_of-kind.ensures) ∙ sym c.take.ensures.after)
-      (one_further c.args.line.now c.bytes.at c.take_sides-taken.new.place c.in-Some.next c.take_sides-taken.new.self (omega arith)
-      (none_further c.args.line.now c.bytes.at c.take_sides-taken.result c.bytes.place c.take_sides-taken.new.place c.bytes.gatherer c.take_sides-taken.new.self
+      (ap (λ k. gathered_after c.take_ahead-taken.new.place k c.take_ahead-taken.new.self) (sym c.kind_of-kind.ensures) ∙ sym c.take.ensures.after)
+      (one_further c.args.line.now c.bytes.at c.take_ahead-taken.new.place c.in-Some.next c.take_ahead-taken.new.self (omega arith)
+      (none_further c.args.line.now c.bytes.at c.take_ahead-taken.result c.bytes.place c.take_ahead-taken.new.place c.bytes.gatherer c.take_ahead-taken.new.self
       (omega arith) c.bytes.invariant.read
-      c.take_sides-taken.ensures.was c.take_sides-taken.ensures.leads)
-      c.take.ensures.was (ap (next_place c.take_sides-taken.new.place) (sym c.kind_of-kind.ensures) ∙ sym c.next.ensures ∙ c.in-Some.is));
+      c.take_ahead-taken.ensures.was c.take_ahead-taken.ensures.leads)
+      c.take.ensures.was (ap (next_place c.take_ahead-taken.new.place) (sym c.kind_of-kind.ensures) ∙ sym c.next.ensures ∙ c.in-Some.is));
 }
 
 -- the whole line was read

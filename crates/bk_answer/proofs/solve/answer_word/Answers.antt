@@ -2,7 +2,9 @@ use Rattle.std.proofs.Common.{length, subst, ◌<◌, ◌∙◌}
 use Rattle.bk_word.specs.Play.{IsComplete, IsLegal, outline_of}
 use Rattle.bk_word.specs.Word.{order_of}
 use Rattle.bk_word_net.specs.Realised.{IsRealised}
+use Rattle.bk_skel.specs.RealisedIn.{tiling_found}
 use Rattle.bk_skel.specs.SolveRefusal.{IsSolveFault}
+use Rattle.bk_skel.specs.declared.placing.Realised.{Realised}
 use Rattle.bk_word_net.specs.WideWord.{IsWideWord}
 use Rattle.bk_report.specs.Answers.{tiling_line}
 use Rattle.bk_report.specs.declared.refusal.Refused.TheVariants.{Illegal, Nothing, Unfinished, Wide}
@@ -11,21 +13,21 @@ use Rattle.bk_answer.proofs.ReplySteps.{refusal_replies}
 use Rattle.bk_answer.proofs.Writing.{piece_replies}
 use Rattle.bk_answer.proofs.solve.answer_word.Goals as goal
 
-pub returns-in-Ok-Some-clause-reply : goal.returns-in-Ok-Some-clause-reply
-returns-in-Ok-Some-clause-reply g c =
+pub returns-in-Ok-Found-clause-reply : goal.returns-in-Ok-Found-clause-reply
+returns-in-Ok-Found-clause-reply g c =
     piece_replies (AnswersWord c.args.word.now) (16 < order_of c.args.word.now) (g.O.Sink.written c.args.out.now)
     (g.O.Sink.written c.write_all.new.self)
-    (tiling_line c.in-Ok-Some.tiling) c.as_slice.result.now c.write_all.result c.accepted.result
-    (realised c.in-Ok-Some.tiling c.in-Ok-Some.ensures.complete c.in-Ok-Some.ensures.narrow
-    (subst (IsRealised c.args.word.now) c.in-Ok-Some.field-0-is c.in-Ok-Some.ensures.realised))
+    (tiling_line c.realise_in.new.tiling) c.as_slice.result.now c.write_all.result c.accepted.result
+    (realised c.realise_in.new.tiling c.in-Ok-Found.ensures.complete c.in-Ok-Found.ensures.narrow
+    (subst (λ (found : Realised). IsRealised c.args.word.now (tiling_found found c.realise_in.new.tiling)) c.in-Ok-Found.field-0-is c.in-Ok-Found.ensures.realised))
     (c.as_slice.ensures.value ∙ c.write_tiling.ensures) c.write_all.ensures.ok c.write_all.ensures.err c.accepted.ensures
 
-pub returns-in-Ok-None-clause-reply : goal.returns-in-Ok-None-clause-reply
-returns-in-Ok-None-clause-reply g c =
+pub returns-in-Ok-Nothing-clause-reply : goal.returns-in-Ok-Nothing-clause-reply
+returns-in-Ok-Nothing-clause-reply g c =
     refusal_replies (AnswersWord c.args.word.now) (16 < order_of c.args.word.now) Nothing (g.O.Sink.written c.args.out.now)
     (g.O.Sink.written c.refuse.new.out) c.refuse.result
-    (no_tiling c.in-Ok-None.ensures.complete c.in-Ok-None.ensures.narrow
-    (subst (IsRealised c.args.word.now) c.in-Ok-None.field-0-is c.in-Ok-None.ensures.realised))
+    (no_tiling c.in-Ok-Nothing.ensures.complete c.in-Ok-Nothing.ensures.narrow
+    (subst (λ (found : Realised). IsRealised c.args.word.now (tiling_found found c.realise_in.new.tiling)) c.in-Ok-Nothing.field-0-is c.in-Ok-Nothing.ensures.realised))
     c.refuse.ensures.outcome c.refuse.ensures.failed
 
 pub returns-in-Err-Illegal-clause-reply : goal.returns-in-Err-Illegal-clause-reply

@@ -1,4 +1,4 @@
-use Rattle.std.proofs.Common.{None, Option, false, refl, subst, sym, ℕ, ◌<◌, ◌≡◌, ◌≤◌}
+use Rattle.std.proofs.Common.{None, Option, arith, false, refl, subst, sym, ℕ, ◌<◌, ◌≡◌, ◌≤◌}
 use Rattle.std.specs.Prelude.{IfNone, slice_range}
 use Rattle.bk_grammar.specs.Grammar.{LineEnd}
 use Rattle.bk_lines.proofs.Pieces.{writes_none}
@@ -6,8 +6,8 @@ use Rattle.bk_word.specs.ReadWord.{IsFaultOf}
 use Rattle.bk_word.specs.Word.{Word, order_of}
 use Rattle.bk_word.specs.WordText.{IsTextOf}
 use Rattle.bk_word.specs.declared.reading.WordFault.{WordFault}
-use Rattle.bk_report.specs.declared.refusal.Refused.TheVariants.{Many}
-use Rattle.bk_answer.specs.WordAnswer.{AnswersWord, AnswersWordLine, HasWord, MayWantForWord, large_word, no_word, no_word_item, of_word}
+use Rattle.bk_report.specs.declared.refusal.Refused.TheVariants.{Long, Many}
+use Rattle.bk_answer.specs.WordAnswer.{AnswersWord, AnswersWordLine, HasWord, MayWantForWord, large_word, no_word, no_word_item, of_word, word_too_long}
 use Rattle.bk_answer.proofs.ReplySteps.{refusal_replies, replies_more, text_replies}
 use Rattle.bk_answer.proofs.solve.answer_word_line.Goals as goal
 
@@ -17,14 +17,15 @@ none_is P o e = subst (λ z. IfNone z P) e
 pub returns-in_default-clause-reply : goal.returns-in_default-clause-reply
 returns-in_default-clause-reply g c =
     writes_none (AnswersWordLine c.args.line.now) false (g.O.Sink.written c.args.out.now)
-    (no_word_item c.requires (none_is (LineEnd c.args.line.now) c.word_item.result c.in_default.is c.word_item.ensures.none))
+    (no_word_item (omega (arith, c.if-line-gt-LONGEST_LINE.false))
+    (none_is (LineEnd c.args.line.now) c.word_item.result c.in_default.is c.word_item.ensures.none))
 
 pub returns-in-Ok-clause-reply : goal.returns-in-Ok-clause-reply
 returns-in-Ok-clause-reply g c =
     let has : HasWord c.args.line.now c.in-Ok.word = record {
       start = c.in-Some.start;
       text = slice_range c.args.line.now c.in-Some.start c.in-Some.end;
-      item = record { short = c.requires; stop = c.in-Some.end; item = c.in-Some.ensures.some; text_is = refl };
+      item = record { short = omega (arith, c.if-line-gt-LONGEST_LINE.false); stop = c.in-Some.end; item = c.in-Some.ensures.some; text_is = refl };
       word = c.in-Ok.ensures.read;
       few = subst (λ (n : ℕ). n ≤ 200) c.order-few.ensures.value c.order-few.ensures.few;
     } in
@@ -35,11 +36,11 @@ returns-in-Ok-clause-reply g c =
 pub returns-in-Err-Text-clause-reply : goal.returns-in-Err-Text-clause-reply
 returns-in-Err-Text-clause-reply g c =
     text_replies (AnswersWordLine c.args.line.now) (MayWantForWord c.args.line.now) c.in-Some.start c.in-Err-Text.at _
-    (g.O.Sink.written c.args.out.now) (g.O.Sink.written c.refuse.new.out) c.refuse.result (sym c.in-Err-Text.at-is)
+    (g.O.Sink.written c.args.out.now) (g.O.Sink.written c.refuse-in-Err-Text.new.out) c.refuse-in-Err-Text.result (sym c.in-Err-Text.at-is)
     (no_word c.in-Some.start c.in-Err-Text.at (slice_range c.args.line.now c.in-Some.start c.in-Some.end)
-    (record { short = c.requires; stop = c.in-Some.end; item = c.in-Some.ensures.some; text_is = refl })
+    (record { short = omega (arith, c.if-line-gt-LONGEST_LINE.false); stop = c.in-Some.end; item = c.in-Some.ensures.some; text_is = refl })
     (subst (λ (f : WordFault). IsFaultOf f (slice_range c.args.line.now c.in-Some.start c.in-Some.end)) c.in-Err-Text.field-0-is c.in-Err-Text.ensures.fault))
-    c.refuse.ensures.outcome c.refuse.ensures.failed
+    c.refuse-in-Err-Text.ensures.outcome c.refuse-in-Err-Text.ensures.failed
 
 pub returns-in-Err-Many-clause-reply : goal.returns-in-Err-Many-clause-reply
 returns-in-Err-Many-clause-reply g c =
@@ -48,5 +49,10 @@ returns-in-Err-Many-clause-reply g c =
     refusal_replies (AnswersWordLine c.args.line.now) (MayWantForWord c.args.line.now) Many (g.O.Sink.written c.args.out.now)
     (g.O.Sink.written c.refuse-in-Err-Many.new.out) c.refuse-in-Err-Many.result
     (large_word c.in-Some.start (slice_range c.args.line.now c.in-Some.start c.in-Some.end) cause.0
-    (record { short = c.requires; stop = c.in-Some.end; item = c.in-Some.ensures.some; text_is = refl }) cause.1 cause.2)
+    (record { short = omega (arith, c.if-line-gt-LONGEST_LINE.false); stop = c.in-Some.end; item = c.in-Some.ensures.some; text_is = refl }) cause.1 cause.2)
     c.refuse-in-Err-Many.ensures.outcome c.refuse-in-Err-Many.ensures.failed
+
+pub returns-then-line-gt-LONGEST_LINE-clause-reply : goal.returns-then-line-gt-LONGEST_LINE-clause-reply
+returns-then-line-gt-LONGEST_LINE-clause-reply g c =
+    refusal_replies (AnswersWordLine c.args.line.now) (MayWantForWord c.args.line.now) Long (g.O.Sink.written c.args.out.now)
+    (g.O.Sink.written c.refuse.new.out) c.refuse.result (word_too_long c.if-line-gt-LONGEST_LINE.true) c.refuse.ensures.outcome c.refuse.ensures.failed

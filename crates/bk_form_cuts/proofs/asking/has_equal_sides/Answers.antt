@@ -13,3 +13,8 @@ loop-i-preserved c = λ k j low high known. elim (cases_lt k c.loop-i.i) [
       (c.equals_one_before.ensures.all j (omega (arith, low, same)) (subst (λ (n : ℕ). AreKnownEqual c.args.ledger.now n j) same known))
       c.if-equals_one_before.false
 ]
+
+pub returns-clause-all : goal.returns-clause-all
+returns-clause-all c equal =
+    let within = equal.within in
+    absurd (c.loop-i.invariant equal.second equal.first equal.order (omega (arith, within, c.loop-i-test.false)) equal.equal)

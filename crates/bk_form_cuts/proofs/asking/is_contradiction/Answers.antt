@@ -1,9 +1,9 @@
-use Rattle.std.proofs.Common.{inl, inr, refl, subst, sym}
+use Rattle.std.proofs.Common.{List, inl, inr, refl, subst, sym}
 use Rattle.bk_forms.specs.FormLaws.{MeetsEquations}
 use Rattle.bk_forms.specs.Form.{Form as SeenForm}
-use Rattle.std.proofs.Common.{List}
 use Rattle.bk_forms.specs.Reduction.{addition}
 use Rattle.bk_form_cuts.proofs.Asked.{keeps_after}
+use Rattle.bk_form_cuts.proofs.MoveAnswers.{no_contradiction}
 use Rattle.bk_form_cuts.proofs.asking.is_contradiction.Goals as goal
 
 pub returns-in-Added : goal.returns-in-Added
@@ -16,4 +16,7 @@ returns-in-Added c = record {
     none = refl;
   };
   first = keeps_after c.args.ledger.now c.add_equation.new.self (addition c.args.ledger.now c.args.left.now c.args.right.now) c.add_equation.ensures.kept;
+  kept = c.add_equation.ensures.kept;
+  all = λ told. absurd (no_contradiction (addition c.args.ledger.now c.args.left.now c.args.right.now) c.add_equation.result c.add_equation.ensures.answer
+      c.in-Added.is told);
 }

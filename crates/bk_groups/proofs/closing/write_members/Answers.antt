@@ -1,5 +1,6 @@
 use Rattle.std.specs.List.{flat_map}
-use Rattle.std.proofs.Common.{◌∙◌}
+use Rattle.std.proofs.Common.{ap, ◌∙◌}
+use Rattle.bk_report.specs.ListLines.{member_line}
 use Rattle.std.proofs.lemmas.Result.{err_from_is_err_and}
 use Rattle.bk_groups.specs.Closing.{member_at}
 use Rattle.bk_groups.proofs.ListLoops.{ends_broken, members_broken, members_more}
@@ -12,7 +13,8 @@ returns-in_err-write_all-clause-lines g c =
     c.from_residual.result p.0 p.1
     (members_broken c.args.items.now c.args.places.now c.loop-place.place-index 0 c.item-line.result.0 c.item-line.result.1.now c.as_slice.result.now
     c.loop-place-test.true c.item-line.ensures
-    (c.as_slice.ensures.value ∙ c.write_member.ensures) (flat_map (member_at c.args.items.now) c.args.places.now) (g.O.Sink.written c.args.out.now)
+    (c.as_slice.ensures.value ∙ c.write_member.ensures ∙ ap (member_line c.item-line.result.0) c.tiling.ensures)
+    (flat_map (member_at c.args.items.now) c.args.places.now) (g.O.Sink.written c.args.out.now)
     (g.O.Sink.written c.loop-place.out) (g.O.Sink.written c.write_all.new.self)
     c.loop-place.invariant.written c.in_err-write_all.ensures.err)
 
@@ -21,7 +23,8 @@ loop-place-preserved g c = record {
   written =
       members_more c.args.items.now c.args.places.now c.loop-place.place-index 0 c.item-line.result.0 c.item-line.result.1.now c.as_slice.result.now
       c.loop-place-test.true c.item-line.ensures
-      (c.as_slice.ensures.value ∙ c.write_member.ensures) (flat_map (member_at c.args.items.now) c.args.places.now) (g.O.Sink.written c.args.out.now)
+      (c.as_slice.ensures.value ∙ c.write_member.ensures ∙ ap (member_line c.item-line.result.0) c.tiling.ensures)
+      (flat_map (member_at c.args.items.now) c.args.places.now) (g.O.Sink.written c.args.out.now)
       (g.O.Sink.written c.loop-place.out) (g.O.Sink.written c.write_all.new.self)
       c.loop-place.invariant.written c.in_ok-write_all.ensures.ok;
   same = c.in_ok-write_all.ensures.cause.ok ∙ c.loop-place.invariant.same;

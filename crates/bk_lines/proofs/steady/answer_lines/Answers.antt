@@ -1,6 +1,6 @@
 use Rattle.std.proofs.Common.{refl, subst, ◌∙◌, ◌≡◌}
 use Rattle.bk_lines.proofs.Stateless.{ends_alike}
-use Rattle.bk_lines.specs.Ending.{of_fronts}
+use Rattle.bk_lines.specs.Answered.{of_fronts}
 use Rattle.bk_lines.specs.Lines.{kept_front}
 use Rattle.bk_lines.proofs.steady.answer_lines.Goals as goal
 

@@ -1,16 +1,19 @@
 use Rattle.std.proofs.Common.{subst, sym}
-use Rattle.bk_sym.proofs.CanonicalPrimitive.{canonical_primitive}
 use Rattle.bk_word.specs.Word.{Word}
-use Rattle.bk_signed_word.specs.SignedWord.{IsSignedWordOf}
-use Rattle.bk_member_table.proofs.FoundMembers.{found_here, found_none}
+use Rattle.bk_normal.specs.Normal.{Counts}
+use Rattle.bk_normal_cuts.proofs.NormalImages.{a_normal_word_has_settled_counts}
+use Rattle.bk_normal_cuts.specs.NormalImage.{AreSettledCounts, IsMetByNormalWord}
+use Rattle.bk_normal_cuts.specs.WordNumbers.{counts_of_word}
+use Rattle.bk_free_leaf.specs.Ties.{AreTiesOf}
 use Rattle.bk_member_table.proofs.finding.placed_at.Goals as goal
 
-pub returns-in-Some : goal.returns-in-Some
-returns-in-Some c = λ t tiling class canonical signed. c.only_allowed.ensures t tiling class canonical
-    (found_here t c.leaf.result c.in-Some.placed (c.leaf.ensures t tiling (canonical_primitive t tiling canonical) canonical.lying
-    (subst (λ (w : Word). IsSignedWordOf t w) (sym c.skel.ensures.value) signed)) c.in-Some.is)
+pub returns-then-lies_better : goal.returns-then-lies_better
+returns-then-lies_better c u met lowest class = absurd (c.lies_better.ensures c.if-lies_better.true
+    (subst AreSettledCounts (sym c.counts-counts.ensures) (a_normal_word_has_settled_counts u c.args.board.now met)))
 
-pub returns-in-None : goal.returns-in-None
-returns-in-None c = λ t tiling class canonical signed. absurd (found_none t c.leaf.result
-    (c.leaf.ensures t tiling (canonical_primitive t tiling canonical) canonical.lying
-    (subst (λ (w : Word). IsSignedWordOf t w) (sym c.skel.ensures.value) signed)) c.in-None.is)
+pub leaf-requires-clause-ties : goal.leaf-requires-clause-ties
+leaf-requires-clause-ties c = subst (λ (w : Word). AreTiesOf (counts_of_word w) c.ties_of.result) (sym c.skel.ensures.value)
+    (subst (λ (n : Counts). AreTiesOf n c.ties_of.result) c.counts-counts.ensures c.ties_of.ensures)
+
+pub returns : goal.returns
+returns c u met lowest class = c.leaf.ensures u (subst (IsMetByNormalWord u) (sym c.skel.ensures.value) met) lowest class

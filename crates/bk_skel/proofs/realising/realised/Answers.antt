@@ -1,6 +1,7 @@
 use Rattle.std.proofs.Common.{refl}
 use Rattle.std.proofs.lemmas.Bool.{both_ways}
 use Rattle.bk_word_net.proofs.WordTilings.{large_by, large_from, none_by, realised_by, sides_many}
+use Rattle.bk_skel.specs.RealisedIn.{tiling_found}
 use Rattle.bk_skel.proofs.realising.realised.Goals as goal
 
 pub returns-then-has_large-clause-wide : goal.returns-then-has_large-clause-wide
@@ -10,14 +11,14 @@ returns-then-has_large-clause-wide c = (
   λ h. refl,
 )
 
-pub placed-requires-clause-count : goal.placed-requires-clause-count
-placed-requires-clause-count c = sides_many c.args.skel.now c.requires.closed c.args.flow.now.total c.args.flow.now.currents c.requires.flow
+pub place-requires-clause-count : goal.place-requires-clause-count
+place-requires-clause-count c = sides_many c.args.skel.now c.requires.closed c.args.flow.now.total c.args.flow.now.currents c.requires.flow
     c.currents-currents.result.now c.in-Some.sides.items c.deref.result.now c.currents-currents.ensures.value c.in-Some.ensures.currents c.deref.ensures.0
 
 pub returns-in-Some-clause-realised : goal.returns-in-Some-clause-realised
 returns-in-Some-clause-realised c = realised_by c.args.skel.now c.requires.closed c.args.flow.now.total c.args.flow.now.currents c.requires.flow
     c.currents-currents.result.now c.in-Some.sides.items c.deref.result.now c.currents-currents.ensures.value c.in-Some.ensures.currents
-    c.deref.ensures.0 c.placed.result c.placed.ensures.placed c.placed.ensures.only
+    c.deref.ensures.0 (tiling_found c.place.result c.place.new.tiling) c.place.ensures.placed c.place.ensures.only
 
 pub returns-in-Some-clause-wide : goal.returns-in-Some-clause-wide
 returns-in-Some-clause-wide c = (

@@ -21,4 +21,4 @@ returns-clause-closed g c =
     c.in_ok-missing.ensures.order c.members.ensures.reached c.as_slice.result.now (c.as_slice.ensures.value ∙ c.write_verified-2.ensures)
     (g.O.Sink.written c.write_all.new.self)
     c.in_ok-write_all.ensures.ok
-    c.is_same-same.result c.is_same-same.ensures
+    c.has_fault-differs.result c.has_fault-differs.ensures

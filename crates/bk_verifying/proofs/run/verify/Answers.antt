@@ -1,72 +1,73 @@
-use Rattle.std.proofs.Common.{inr, sym}
-use Rattle.bk_lines.specs.Ending.{Streams}
-use Rattle.bk_verifying.proofs.Ending.{ends_broken, ends_other, ends_same, last_order, lines_done}
-use Rattle.bk_verifying.proofs.EndingAtLines.{ends_at_lines, from_fresh}
+use Rattle.std.proofs.Common.{false, inr, true}
+use Rattle.bk_lines.specs.Entering.{entries_of}
+use Rattle.bk_verifying.proofs.Ending.{ends_broken, ends_whole, last_order, stop_told, whole_at}
+use Rattle.bk_verifying.proofs.EndingAtLines.{fresh, from_fresh, rules, stops_at_lines}
 use Rattle.bk_verifying.proofs.run.verify.Goals as goal
-
-pub returns-in-Some-clause-verified : goal.returns-in-Some-clause-verified
-returns-in-Some-clause-verified g c =
-    let streams : Streams = record {
-      left = g.S.Source.left c.args.source.now;
-      left_after = g.S.Source.left c.enter_lines-ended.new.source;
-      written = g.O.Sink.written c.args.out.now;
-      written_after = g.O.Sink.written c.enter_lines-ended.new.out;
-    }
-    in
-    ends_at_lines c.args.order streams c.enter_lines-ended.new.register c.enter_lines-ended.result c.in-Some.verdict (sym c.in-Some.ensures)
-    (from_fresh c.args.order c.new.result c.enter_lines-ended.new.register streams c.enter_lines-ended.result c.new.ensures c.enter_lines-ended.ensures.ending)
 
 pub close_report-requires-clause-order : goal.close_report-requires-clause-order
 close_report-requires-clause-order g c =
-    let streams : Streams = record {
+    let all = whole_at (entries_of rules (fresh c.args.order) c.enter_lines-ended.new.register)
+    (record {
       left = g.S.Source.left c.args.source.now;
       left_after = g.S.Source.left c.enter_lines-ended.new.source;
       written = g.O.Sink.written c.args.out.now;
       written_after = g.O.Sink.written c.enter_lines-ended.new.out;
-    }
-    in
-    last_order c.args.order streams c.enter_lines-ended.new.register
-    (lines_done c.args.order streams c.enter_lines-ended.new.register c.enter_lines-ended.result (sym c.in_default.ensures)
-    (from_fresh c.args.order c.new.result c.enter_lines-ended.new.register streams c.enter_lines-ended.result c.new.ensures c.enter_lines-ended.ensures.ending))
+    })
+    c.enter_lines-ended.result c.in-NoneRefused.is
+    (from_fresh c.args.order c.new.result c.enter_lines-ended.new.register _ c.enter_lines-ended.result c.new.ensures c.enter_lines-ended.ensures.ending) in
+    last_order c.args.order c.enter_lines-ended.new.register (g.S.Source.left c.args.source.now) (g.S.Source.left c.enter_lines-ended.new.source)
+    (g.O.Sink.written c.args.out.now) (g.O.Sink.written c.enter_lines-ended.new.out) all.0 all.1
 
-pub returns-then-same-clause-verified : goal.returns-then-same-clause-verified
-returns-then-same-clause-verified g c =
-    let streams : Streams = record {
+pub returns-in-Ok-true-clause-verified : goal.returns-in-Ok-true-clause-verified
+returns-in-Ok-true-clause-verified g c =
+    let all = whole_at (entries_of rules (fresh c.args.order) c.enter_lines-ended.new.register)
+    (record {
       left = g.S.Source.left c.args.source.now;
       left_after = g.S.Source.left c.enter_lines-ended.new.source;
       written = g.O.Sink.written c.args.out.now;
       written_after = g.O.Sink.written c.enter_lines-ended.new.out;
-    }
-    in
-    ends_same c.args.order streams c.enter_lines-ended.new.register
-    (lines_done c.args.order streams c.enter_lines-ended.new.register c.enter_lines-ended.result (sym c.in_default.ensures)
-    (from_fresh c.args.order c.new.result c.enter_lines-ended.new.register streams c.enter_lines-ended.result c.new.ensures c.enter_lines-ended.ensures.ending))
-    (g.O.Sink.written c.close_report.new.out) c.in-Ok.same c.if-same.true c.in-Ok.ensures.closed
+    })
+    c.enter_lines-ended.result c.in-NoneRefused.is
+    (from_fresh c.args.order c.new.result c.enter_lines-ended.new.register _ c.enter_lines-ended.result c.new.ensures c.enter_lines-ended.ensures.ending) in
+    ends_whole c.args.order c.enter_lines-ended.new.register (g.S.Source.left c.args.source.now) (g.S.Source.left c.enter_lines-ended.new.source)
+    (g.O.Sink.written c.args.out.now) (g.O.Sink.written c.enter_lines-ended.new.out) all.0 all.1
+    (g.O.Sink.written c.close_report.new.out) true c.in-Ok-true.field-0 c.in-Ok-true.field-0-test c.in-Ok-true.ensures.closed
 
-pub returns-else-same-clause-verified : goal.returns-else-same-clause-verified
-returns-else-same-clause-verified g c =
-    let streams : Streams = record {
+pub returns-in-Ok-false-clause-verified : goal.returns-in-Ok-false-clause-verified
+returns-in-Ok-false-clause-verified g c =
+    let all = whole_at (entries_of rules (fresh c.args.order) c.enter_lines-ended.new.register)
+    (record {
       left = g.S.Source.left c.args.source.now;
       left_after = g.S.Source.left c.enter_lines-ended.new.source;
       written = g.O.Sink.written c.args.out.now;
       written_after = g.O.Sink.written c.enter_lines-ended.new.out;
-    }
-    in
-    ends_other c.args.order streams c.enter_lines-ended.new.register
-    (lines_done c.args.order streams c.enter_lines-ended.new.register c.enter_lines-ended.result (sym c.in_default.ensures)
-    (from_fresh c.args.order c.new.result c.enter_lines-ended.new.register streams c.enter_lines-ended.result c.new.ensures c.enter_lines-ended.ensures.ending))
-    (g.O.Sink.written c.close_report.new.out) c.in-Ok.same c.if-same.false c.in-Ok.ensures.closed
+    })
+    c.enter_lines-ended.result c.in-NoneRefused.is
+    (from_fresh c.args.order c.new.result c.enter_lines-ended.new.register _ c.enter_lines-ended.result c.new.ensures c.enter_lines-ended.ensures.ending) in
+    ends_whole c.args.order c.enter_lines-ended.new.register (g.S.Source.left c.args.source.now) (g.S.Source.left c.enter_lines-ended.new.source)
+    (g.O.Sink.written c.args.out.now) (g.O.Sink.written c.enter_lines-ended.new.out) all.0 all.1
+    (g.O.Sink.written c.close_report.new.out) false c.in-Ok-false.field-0 c.in-Ok-false.field-0-test c.in-Ok-false.ensures.closed
 
 pub returns-in-Err-clause-verified : goal.returns-in-Err-clause-verified
 returns-in-Err-clause-verified g c =
-    let streams : Streams = record {
+    let all = whole_at (entries_of rules (fresh c.args.order) c.enter_lines-ended.new.register)
+    (record {
       left = g.S.Source.left c.args.source.now;
       left_after = g.S.Source.left c.enter_lines-ended.new.source;
       written = g.O.Sink.written c.args.out.now;
       written_after = g.O.Sink.written c.enter_lines-ended.new.out;
-    }
-    in
-    inr (ends_broken c.args.order streams c.enter_lines-ended.new.register
-    (lines_done c.args.order streams c.enter_lines-ended.new.register c.enter_lines-ended.result (sym c.in_default.ensures)
-    (from_fresh c.args.order c.new.result c.enter_lines-ended.new.register streams c.enter_lines-ended.result c.new.ensures c.enter_lines-ended.ensures.ending))
+    })
+    c.enter_lines-ended.result c.in-NoneRefused.is
+    (from_fresh c.args.order c.new.result c.enter_lines-ended.new.register _ c.enter_lines-ended.result c.new.ensures c.enter_lines-ended.ensures.ending) in
+    inr (ends_broken c.args.order c.enter_lines-ended.new.register (g.S.Source.left c.args.source.now) (g.S.Source.left c.enter_lines-ended.new.source)
+    (g.O.Sink.written c.args.out.now) (g.O.Sink.written c.enter_lines-ended.new.out) all.0 all.1
     (g.O.Sink.written c.close_report.new.out) c.in-Err.ensures.begun)
+
+pub returns-in-ReadFailed : goal.returns-in-ReadFailed
+returns-in-ReadFailed g c = record {
+  verified =
+      stops_at_lines c.args.order _ c.enter_lines-ended.new.register c.enter_lines-ended.result (stop_told c.enter_lines-ended.result c.in-ReadFailed.is)
+      (from_fresh c.args.order c.new.result c.enter_lines-ended.new.register _ c.enter_lines-ended.result c.new.ensures c.enter_lines-ended.ensures.ending);
+  complete = c.enter_lines-ended.ensures.complete;
+  faults = c.enter_lines-ended.ensures.faults;
+}

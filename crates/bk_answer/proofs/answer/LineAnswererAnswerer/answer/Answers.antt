@@ -1,25 +1,27 @@
-use Rattle.bk_answer.proofs.ReplySteps.{long_says, reply_says}
+use Rattle.std.proofs.Common.{ap, sym, ◌∙◌}
+use Rattle.bk_answer.specs.declared.command.Command.TheVariants.{OfCodes}
+use Rattle.bk_answer.proofs.ReplySteps.{reply_says}
 use Rattle.bk_answer.proofs.answer.LineAnswererAnswerer.answer.Goals as goal
 
-pub returns-then-line-gt-LONGEST_LINE-clause-outcome : goal.returns-then-line-gt-LONGEST_LINE-clause-outcome
-returns-then-line-gt-LONGEST_LINE-clause-outcome g c =
-    (long_says c.args.self.now.command c.args.line.now (g.O.Sink.written c.args.out.now) (g.O.Sink.written c.refuse.new.out) c.refuse.result
-    c.if-line-gt-LONGEST_LINE.true c.refuse.ensures.outcome c.refuse.ensures.failed).0
-
-pub returns-then-line-gt-LONGEST_LINE-clause-failed : goal.returns-then-line-gt-LONGEST_LINE-clause-failed
-returns-then-line-gt-LONGEST_LINE-clause-failed g c =
-    (long_says c.args.self.now.command c.args.line.now (g.O.Sink.written c.args.out.now) (g.O.Sink.written c.refuse.new.out) c.refuse.result
-    c.if-line-gt-LONGEST_LINE.true c.refuse.ensures.outcome c.refuse.ensures.failed).1
-
-pub returns-in-OfCodes-clause-outcome : goal.returns-in-OfCodes-clause-outcome
-returns-in-OfCodes-clause-outcome g c =
+pub returns-in-Some-clause-outcome : goal.returns-in-Some-clause-outcome
+returns-in-Some-clause-outcome g c =
     (reply_says c.args.self.now.command _ c.args.line.now (g.O.Sink.written c.args.out.now) (g.O.Sink.written c.answer_line.new.out)
-    c.answer_line.result c.in-OfCodes.is c.answer_line.ensures.reply).0
+    c.answer_line.result (c.in-OfCodes.is ∙ ap OfCodes (sym c.in-Some.ensures.some)) c.answer_line.ensures.reply).0
 
-pub returns-in-OfCodes-clause-failed : goal.returns-in-OfCodes-clause-failed
-returns-in-OfCodes-clause-failed g c =
+pub returns-in-Some-clause-failed : goal.returns-in-Some-clause-failed
+returns-in-Some-clause-failed g c =
     (reply_says c.args.self.now.command _ c.args.line.now (g.O.Sink.written c.args.out.now) (g.O.Sink.written c.answer_line.new.out)
-    c.answer_line.result c.in-OfCodes.is c.answer_line.ensures.reply).1
+    c.answer_line.result (c.in-OfCodes.is ∙ ap OfCodes (sym c.in-Some.ensures.some)) c.answer_line.ensures.reply).1
+
+pub returns-in-None-clause-outcome : goal.returns-in-None-clause-outcome
+returns-in-None-clause-outcome g c =
+    (reply_says c.args.self.now.command _ c.args.line.now (g.O.Sink.written c.args.out.now) (g.O.Sink.written c.answer_by_word.new.out)
+    c.answer_by_word.result (c.in-OfCodes.is ∙ ap OfCodes c.in-None.ensures.none) c.answer_by_word.ensures.reply).0
+
+pub returns-in-None-clause-failed : goal.returns-in-None-clause-failed
+returns-in-None-clause-failed g c =
+    (reply_says c.args.self.now.command _ c.args.line.now (g.O.Sink.written c.args.out.now) (g.O.Sink.written c.answer_by_word.new.out)
+    c.answer_by_word.result (c.in-OfCodes.is ∙ ap OfCodes c.in-None.ensures.none) c.answer_by_word.ensures.reply).1
 
 pub returns-in-Flow-clause-outcome : goal.returns-in-Flow-clause-outcome
 returns-in-Flow-clause-outcome g c =

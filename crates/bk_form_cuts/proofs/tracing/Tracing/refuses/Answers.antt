@@ -1,4 +1,4 @@
-use Rattle.std.proofs.Common.{List, ap, length, rules, subst, sym, ℕ, ◌+◌, ◌∙◌, ◌≡◌}
+use Rattle.std.proofs.Common.{List, ap, length, refl, rules, subst, sym, ℕ, ◌+◌, ◌∙◌, ◌≡◌}
 use Rattle.bk_word.specs.Play.{outline_of}
 use Rattle.bk_word.specs.Word.{Move, order_of}
 use Rattle.bk_skel.specs.Valley.{Valley}
@@ -6,6 +6,7 @@ use Rattle.bk_forms.specs.Form.{Form as SeenForm}
 use Rattle.bk_form_cuts.specs.SideForms.{levels_along}
 use Rattle.bk_form_cuts.specs.Trace.{IsTraceOf, Trace}
 use Rattle.bk_form_cuts.proofs.Segments.{numbers_are}
+use Rattle.bk_form_cuts.proofs.MoveAnswers.{all_cuts_are_told}
 use Rattle.bk_form_cuts.proofs.RuledOut.{not_both, ruled_out}
 use Rattle.bk_form_cuts.proofs.Traces.{here, hold_all}
 use Rattle.bk_form_cuts.specs.SidesOfTilings.{AgreeWith}
@@ -14,8 +15,8 @@ use Rattle.bk_word.specs.declared.Class.TheVariants.{Perfect}
 use Rattle.bk_form_cuts.specs.Asking.{AreApart}
 use Rattle.bk_form_cuts.proofs.tracing.Tracing.refuses.Goals as goal
 
-pub returns-then-contradicts : goal.returns-then-contradicts
-returns-then-contradicts c =
+pub returns-then-contradicts-clause-sound : goal.returns-then-contradicts-clause-sound
+returns-then-contradicts-clause-sound c =
     let w = c.args.skel.now in
     let v = ap (λ (v : Valley). v.squares) (c.valley.view_is ∙ c.valley-valley.ensures) in
     let numbers = numbers_are c.args.skel.now c.args.m.now c.as_slice-3.result.now c.order.result c.m.inside.count
@@ -35,8 +36,8 @@ returns-then-contradicts c =
     let first = c.contradicts.ensures.meets sides h.meets h.widths h.signs_agree in
     not_both c.contradicts.result c.if-contradicts.true first.none)
 
-pub returns-then-compares_otherwise : goal.returns-then-compares_otherwise
-returns-then-compares_otherwise c =
+pub returns-then-compares_otherwise-clause-sound : goal.returns-then-compares_otherwise-clause-sound
+returns-then-compares_otherwise-clause-sound c =
     let w = c.args.skel.now in
     let v = ap (λ (v : Valley). v.squares) (c.valley.view_is ∙ c.valley-valley.ensures) in
     let numbers = numbers_are c.args.skel.now c.args.m.now c.as_slice-3.result.now c.order.result c.m.inside.count
@@ -57,10 +58,10 @@ returns-then-compares_otherwise c =
     let agree = subst (λ (ss : List Sign). AgreeWith ss c.as_slice-6.result.now sides) (c.as_slice-5.ensures.value ∙ sym c.as_slice-7.ensures.value)
     (subst (λ (ls : List SeenForm). AgreeWith c.as_slice-5.result.now ls sides) (c.as_slice-4.ensures.value ∙ sym c.as_slice-6.ensures.value)
     h.signs_agree) in
-    not_both c.compares_otherwise.result c.if-compares_otherwise.true (c.compares_otherwise.ensures sides first.meets agree))
+    not_both c.compares_otherwise.result c.if-compares_otherwise.true (c.compares_otherwise.ensures.sound sides first.meets agree))
 
-pub returns-then-eq : goal.returns-then-eq
-returns-then-eq c =
+pub returns-then-eq-clause-sound : goal.returns-then-eq-clause-sound
+returns-then-eq-clause-sound c =
     let w = c.args.skel.now in
     let v = ap (λ (v : Valley). v.squares) (c.valley.view_is ∙ c.valley-valley.ensures) in
     let numbers = numbers_are c.args.skel.now c.args.m.now c.as_slice-3.result.now c.order.result c.m.inside.count
@@ -82,3 +83,55 @@ returns-then-eq c =
     c.copy-ledger.ensures (c.as_slice-2.ensures.value ∙ v) numbers levels signs asked in
     let first = c.contradicts.ensures.meets sides h.meets h.widths h.signs_agree in
     not_both c.has_equal_sides.result yes (c.has_equal_sides.ensures.sound sides first.meets (subst (λ (n : ℕ). AreApart n sides) (sym count) (apart is))))
+
+pub returns-then-eq-clause-all : goal.returns-then-eq-clause-all
+returns-then-eq-clause-all c =
+    let v = ap (λ (v : Valley). v.squares) (c.valley.view_is ∙ c.valley-valley.ensures) in
+    let numbers = numbers_are c.args.skel.now c.args.m.now c.as_slice-3.result.now c.order.result c.m.inside.count
+    (c.as_slice-3.ensures.value ∙ c.new_numbers-numbers.ensures) c.order.ensures.value (ap (λ (m : Move). m.count) c.m.view_is) in
+    let levels = c.as_slice-4.ensures.value ∙ c.levels_along-levels.ensures
+    ∙ ap (levels_along (outline_of c.args.skel.now) c.args.m.now) (c.as_slice.ensures.value ∙ ap (λ (t : Trace). t.bottoms) c.self.view_is) in
+    let signs = c.as_slice-5.ensures.value ∙ ap (λ (m : Move). m.signs) c.m.view_is in
+    let kept = c.copy-ledger.ensures ∙ ap (λ (t : Trace). t.kept) c.self.view_is in
+    all_cuts_are_told c.args.class c.args.skel.now c.args.m.now c.args.self.now.kept c.args.self.now.bottoms (record {
+      kept = c.copy-ledger.result;
+      valley = c.as_slice-2.result.now;
+      numbers = c.as_slice-3.result.now;
+      levels = c.as_slice-4.result.now;
+      signs = c.as_slice-5.result.now;
+    }) (λ j. record {
+      kept = kept j;
+      valley = (c.as_slice-2.ensures.value ∙ v) j;
+      numbers = numbers j;
+      levels = levels j;
+      signs = signs j;
+    }) c.contradicts.new.ledger c.as_slice-6.result.now c.as_slice-7.result.now (c.order-then-eq.result + c.from.result) (c.contradicts.ensures.kept c.if-contradicts.false)
+    (c.as_slice-6.ensures.value ∙ sym c.as_slice-4.ensures.value) (c.as_slice-7.ensures.value ∙ sym c.as_slice-5.ensures.value) (λ i. c.order-then-eq.ensures.value i + (c.from.ensures ∙ ap (λ (m : Move). m.count) c.m.view_is) i)
+    c.contradicts.result c.compares_otherwise.result c.has_equal_sides.result c.if-contradicts.false c.contradicts.ensures.widths c.contradicts.ensures.levels
+    c.if-compares_otherwise.false c.compares_otherwise.ensures.all (λ _ equal. c.has_equal_sides.ensures.all equal)
+
+pub returns-else-eq-clause-all : goal.returns-else-eq-clause-all
+returns-else-eq-clause-all c =
+    let v = ap (λ (v : Valley). v.squares) (c.valley.view_is ∙ c.valley-valley.ensures) in
+    let numbers = numbers_are c.args.skel.now c.args.m.now c.as_slice-3.result.now c.order.result c.m.inside.count
+    (c.as_slice-3.ensures.value ∙ c.new_numbers-numbers.ensures) c.order.ensures.value (ap (λ (m : Move). m.count) c.m.view_is) in
+    let levels = c.as_slice-4.ensures.value ∙ c.levels_along-levels.ensures
+    ∙ ap (levels_along (outline_of c.args.skel.now) c.args.m.now) (c.as_slice.ensures.value ∙ ap (λ (t : Trace). t.bottoms) c.self.view_is) in
+    let signs = c.as_slice-5.ensures.value ∙ ap (λ (m : Move). m.signs) c.m.view_is in
+    let kept = c.copy-ledger.ensures ∙ ap (λ (t : Trace). t.kept) c.self.view_is in
+    all_cuts_are_told c.args.class c.args.skel.now c.args.m.now c.args.self.now.kept c.args.self.now.bottoms (record {
+      kept = c.copy-ledger.result;
+      valley = c.as_slice-2.result.now;
+      numbers = c.as_slice-3.result.now;
+      levels = c.as_slice-4.result.now;
+      signs = c.as_slice-5.result.now;
+    }) (λ j. record {
+      kept = kept j;
+      valley = (c.as_slice-2.ensures.value ∙ v) j;
+      numbers = numbers j;
+      levels = levels j;
+      signs = signs j;
+    }) c.contradicts.new.ledger c.as_slice-6.result.now c.as_slice-7.result.now (order_of c.args.skel.now + c.args.m.now.count) (c.contradicts.ensures.kept c.if-contradicts.false)
+    (c.as_slice-6.ensures.value ∙ sym c.as_slice-4.ensures.value) (c.as_slice-7.ensures.value ∙ sym c.as_slice-5.ensures.value) refl
+    c.contradicts.result c.compares_otherwise.result c.eq.result c.if-contradicts.false c.contradicts.ensures.widths c.contradicts.ensures.levels
+    c.if-compares_otherwise.false c.compares_otherwise.ensures.all (λ perfect _. search rules)

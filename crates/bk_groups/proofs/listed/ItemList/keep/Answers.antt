@@ -1,7 +1,7 @@
 use Rattle.std.proofs.Common.{ap, arith, length, refl, sym, ◌<◌, ◌∙◌}
 use Rattle.bk_report.specs.ListLines.{refused_line}
 use Rattle.bk_report.specs.declared.refusal.Refused.TheVariants.{More}
-use Rattle.bk_alike.proofs.Storing.{went_well}
+use Rattle.bk_pair.proofs.KeptSquares.{went_well}
 use Rattle.bk_groups.specs.Listed.{Listed, ListsTiling, with_item, with_refused}
 use Rattle.bk_groups.proofs.ListedLines.{kept_item, refused_begun, refused_item, refused_outcome}
 use Rattle.bk_groups.proofs.listed.ItemList.keep.Goals as goal

@@ -1,7 +1,6 @@
 use Rattle.std.proofs.Common.{subst}
 use Rattle.bk_member_table.specs.Finding.{HasOnlyMembers}
-use Rattle.bk_member_table.specs.Members.{Members}
 use Rattle.bk_member_table.proofs.members.MemberTable.numbers.Goals as goal
 
 pub returns-clause-only : goal.returns-clause-only
-returns-clause-only g c = subst (λ (t : Members). HasOnlyMembers t.found) c.self.view_is c.table.ensures.only
+returns-clause-only g c = subst HasOnlyMembers c.self.view_is c.table.ensures.only

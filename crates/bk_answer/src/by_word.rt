@@ -1,0 +1,59 @@
+//! The answer to a line of a code by the word of its tiling.
+
+ghost use Rattle.std.specs.Prelude.{◌<◌};
+ghost use Rattle.bk_ports.specs.Causes.{HasCause};
+ghost use Rattle.bk_tiling.specs.Tiling.{IsTiling, order};
+ghost use Rattle.bk_answer.specs.CodeAnswer.{AnswersCodeLine, MayWantForCode};
+ghost use Rattle.bk_answer.specs.Replies.{Replies};
+ghost use Rattle.bk_answer.specs.Telling.{Tells};
+
+use crate::answer::{accepted, refuse};
+use crate::command::CodeCommand;
+use crate::items::{Desk, Laid, lay_at};
+use bk_grammar::AnswerBuffer;
+use bk_lay::word_of;
+use bk_lines::Outcome;
+use bk_ports::{Failed, Sink};
+use bk_report::write_word_line;
+use bk_tiling::Tiling;
+use bk_word::NoMemory;
+use std::alloc::Global;
+
+// Answers a line of a code by the word of its tiling.
+pub(crate) fn answer_by_word<O: Sink>(
+    alloc: Global,
+    line: &[u8],
+    desk: &mut Desk,
+    buffer: &mut AnswerBuffer,
+    out: &mut O,
+) -> Result<Outcome, Failed>
+    ensures reply { Replies (AnswersCodeLine CodeCommand.Word line.now) (MayWantForCode CodeCommand.Word line.now)
+        (O.written out.old) (O.written out.new) result }
+    ensures cause { HasCause (O.faults out.old) (O.faults out.new) result }
+{
+    match lay_at(line, desk) {
+        Ok(Laid::OnDesk) => tell_word(alloc, &desk.tiling, buffer, out),
+        Ok(Laid::Nothing) => Ok(Outcome::Accepted),
+        Err(refused) => refuse(refused, buffer, out),
+    }
+}
+
+// Writes the word of a tiling, or says that memory is wanting.
+fn tell_word<O: Sink>(
+    alloc: Global,
+    tiling: &Tiling,
+    buffer: &mut AnswerBuffer,
+    out: &mut O,
+) -> Result<Outcome, Failed>
+    requires { IsTiling tiling.now }
+    ensures reply { Replies (Tells CodeCommand.Word tiling.now) (16 < order tiling.now) (O.written out.old) (O.written out.new) result }
+    ensures cause { HasCause (O.faults out.old) (O.faults out.new) result }
+{
+    match word_of(alloc, tiling) {
+        Ok(word) => {
+            write_word_line(&word, buffer);
+            accepted(out.write_all(buffer.as_slice()))
+        }
+        Err(NoMemory) => Ok(Outcome::NoMemory),
+    }
+}

@@ -1,0 +1,170 @@
+//! The commands that read codes and take no memory: nothing on their way has an allocator.
+
+ghost use Rattle.std.specs.Prelude.{IsTrue, ◌↔◌, ◌≡◌};
+ghost use Rattle.bk_ports.specs.Causes.{HasCause};
+ghost use Rattle.bk_tiling.specs.Tiling.{IsTiling, Tiling as Seen};
+ghost use Rattle.bk_sym.specs.Canonical.{IsCanonicalOf};
+ghost use Rattle.bk_report.specs.Answers.{tiling_line};
+ghost use Rattle.bk_answer.specs.CodeAnswer.{AnswersCodeLine, AnswersTiling, MayWantForCode};
+ghost use Rattle.bk_answer.specs.Plain.{code_command};
+ghost use Rattle.bk_answer.specs.Replies.{Replies};
+ghost use Rattle.bk_answer.specs.Telling.{Allows, Tells, WantsMemory};
+
+use crate::answer::{accepted, refuse};
+use crate::images_and_drawing::{write_drawing, write_images};
+use crate::items::{Desk, Laid, lay_at};
+use bk_draw::LARGEST_DRAWN;
+use bk_grammar::AnswerBuffer;
+use bk_lines::{Answerer, Outcome};
+use bk_ports::{Failed, Sink};
+use bk_report::{Refused, write_check, write_dual, write_net, write_tiling};
+use bk_sym::canonical;
+use bk_tiling::Tiling;
+
+/// A command that reads lines of codes and takes no memory.
+#[derive(Clone, Copy, Debug, PartialEq, Eq)]
+pub enum PlainCommand {
+    /// Whether a code is that of a tiling, and what the tiling is.
+    Check,
+    /// The canonical tiling.
+    Canon,
+    /// The eight images: turned and mirrored.
+    Images,
+    /// The Smith diagram, and the sides as its currents.
+    Net,
+    /// The dual diagram, the sides as its currents, the squares of its wires, and the crossings.
+    Dual,
+    /// A drawing in characters, where it is at most 400 wide and 400 high.
+    Draw,
+}
+
+/// A command that answers lines and takes no memory.
+#[derive(Clone, Copy)]
+pub struct PlainAnswerer {
+    /// What is asked of each line.
+    pub command: PlainCommand,
+}
+
+impl Answerer for PlainAnswerer {
+    ghost use Rattle.bk_answer.specs.Plain.{PlainAnswers, PlainWants};
+
+    ghost answers = { λ a. PlainAnswers a.command };
+
+    ghost may_want = { λ a. PlainWants a.command };
+
+    type Desk = Desk;
+
+    fn desk(&self) -> Desk {
+        Desk::new()
+    }
+
+    fn answer<O: Sink>(
+        &self,
+        line: &[u8],
+        desk: &mut Desk,
+        buffer: &mut AnswerBuffer,
+        out: &mut O,
+    ) -> Result<Outcome, Failed> {
+        self.command.answer_line(line, desk, buffer, out)
+    }
+
+    ghost use Rattle.bk_answer.specs.EmptyLine.{no_plain_answer_to_empty};
+
+    ghost empty_line = { λ a. no_plain_answer_to_empty a.command };
+}
+
+impl PlainCommand {
+    // Answers a line of a code.
+    pub(crate) fn answer_line<O: Sink>(
+        self,
+        line: &[u8],
+        desk: &mut Desk,
+        buffer: &mut AnswerBuffer,
+        out: &mut O,
+    ) -> Result<Outcome, Failed>
+        ensures reply { Replies (AnswersCodeLine (code_command self) line.now) (MayWantForCode (code_command self) line.now)
+            (O.written out.old) (O.written out.new) result }
+        ensures cause { HasCause (O.faults out.old) (O.faults out.new) result }
+    {
+        match lay_at(line, desk) {
+            Ok(Laid::OnDesk) => self.answer_tiling(&desk.tiling, buffer, out),
+            Ok(Laid::Nothing) => Ok(Outcome::Accepted),
+            Err(refused) => refuse(refused, buffer, out),
+        }
+    }
+
+    // Answers the tiling of a line.
+    fn answer_tiling<O: Sink>(
+        self,
+        tiling: &Tiling,
+        buffer: &mut AnswerBuffer,
+        out: &mut O,
+    ) -> Result<Outcome, Failed>
+        requires { IsTiling tiling.now }
+        ensures reply { Replies (AnswersTiling (code_command self) tiling.now) (WantsMemory (code_command self) tiling.now)
+            (O.written out.old) (O.written out.new) result }
+        ensures cause { HasCause (O.faults out.old) (O.faults out.new) result }
+    {
+        if !self.allows(tiling) {
+            return refuse(Refused::Large, buffer, out);
+        }
+        self.tell(tiling, buffer, out)
+    }
+
+    // Whether the command answers this tiling.
+    fn allows(self, tiling: &Tiling) -> bool
+        ensures { IsTrue result ↔ Allows (code_command self) tiling.now }
+    {
+        match self {
+            PlainCommand::Draw => tiling.width() <= LARGEST_DRAWN
+                && tiling.height() <= LARGEST_DRAWN,
+            PlainCommand::Check
+            | PlainCommand::Canon
+            | PlainCommand::Images
+            | PlainCommand::Net
+            | PlainCommand::Dual => true,
+        }
+    }
+
+    // Writes what is told of a tiling.
+    fn tell<O: Sink>(
+        self,
+        tiling: &Tiling,
+        buffer: &mut AnswerBuffer,
+        out: &mut O,
+    ) -> Result<Outcome, Failed>
+        requires tiling { IsTiling tiling.now }
+        requires allowed { Allows (code_command self) tiling.now }
+        ensures reply { Replies (Tells (code_command self) tiling.now) (WantsMemory (code_command self) tiling.now)
+            (O.written out.old) (O.written out.new) result }
+        ensures cause { HasCause (O.faults out.old) (O.faults out.new) result }
+    {
+        match self {
+            PlainCommand::Check => {
+                write_check(tiling, buffer);
+                accepted(out.write_all(buffer.as_slice()))
+            }
+            PlainCommand::Canon => {
+                write_canonical(tiling, buffer);
+                accepted(out.write_all(buffer.as_slice()))
+            }
+            PlainCommand::Images => accepted(write_images(tiling, buffer, out)),
+            PlainCommand::Net => {
+                write_net(tiling, buffer);
+                accepted(out.write_all(buffer.as_slice()))
+            }
+            PlainCommand::Dual => {
+                write_dual(tiling, buffer);
+                accepted(out.write_all(buffer.as_slice()))
+            }
+            PlainCommand::Draw => accepted(write_drawing(tiling, out)),
+        }
+    }
+}
+
+// Clears the buffer and leaves the line of the canonical tiling.
+fn write_canonical(tiling: &Tiling, buffer: &mut AnswerBuffer)
+    ensures { (c : Seen) × IsCanonicalOf tiling.now c × (buffer.new.items ≡ tiling_line c) }
+{
+    write_tiling(&canonical(tiling), buffer);
+}

@@ -1,5 +1,0 @@
-pub mod OtherOrder
-pub mod PrimitiveFlow
-pub mod PlacedEdges
-pub mod Candidates
-pub mod CandidateExamples

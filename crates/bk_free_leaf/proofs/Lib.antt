@@ -1,0 +1,14 @@
+pub mod OtherOrder
+pub mod PrimitiveFlow
+pub mod PlacedEdges
+pub mod Candidates
+pub mod CandidateExamples
+pub mod WordWires
+pub mod LevelSteps
+pub mod SmallFlows
+pub mod FoundSides
+pub mod Leaves
+pub mod LeafRun
+pub mod FoundExamples
+pub mod LongestSquares
+pub mod TiesExamples

@@ -1,0 +1,46 @@
+//! What a class allows of the currents of a flow.
+
+ghost use Rattle.std.specs.List.Sorted.{IsNonDecreasing, IsPermutation};
+ghost use Rattle.std.specs.Prelude.{IsTrue, false, length, map, nat_abs, ◌≡◌, ◌≤◌, ◌↔◌};
+ghost use Rattle.bk_tiling.specs.Tiling.{Tiling as Tiled, sides_of};
+ghost use Rattle.bk_simple.specs.Simple.{IsPerfect};
+ghost use Rattle.bk_catalogue.specs.Catalogue.{IsOfClass};
+
+use arrayvec::ArrayVec;
+use bk_simple::first_twice;
+use bk_word::{Class, INLINE_ORDER};
+
+// Whether the class allows a tiling whose sides have the magnitudes of these currents.
+pub(crate) fn class_allows(currents: &[i64], class: Class) -> bool
+    requires few { length currents.now ≤ 16 }
+    ensures { result ≡ false → (t : Tiled) → IsPermutation (sides_of t) (map nat_abs currents.now) → IsOfClass class t → ⊥ }
+{
+    match class {
+        Class::Perfect => !has_repeated(currents),
+        Class::Imperfect => has_repeated(currents),
+        Class::Simple => true,
+    }
+}
+
+// Whether two currents have one magnitude: then no tiling whose sides these are is perfect, and else each is.
+fn has_repeated(currents: &[i64]) -> bool
+    requires few { length currents.now ≤ 16 }
+    ensures { (t : Tiled) → IsPermutation (sides_of t) (map nat_abs currents.now) → (result ≡ false ↔ IsPerfect t) }
+{
+    let magnitudes = sorted_magnitudes(currents);
+    first_twice(magnitudes.as_slice()).is_some()
+}
+
+// Their magnitudes in ascending order.
+fn sorted_magnitudes(currents: &[i64]) -> ArrayVec<u64, INLINE_ORDER>
+    requires few { length currents.now ≤ 16 }
+    ensures same { IsPermutation (map nat_abs currents.now) result.items }
+    ensures sorted { IsNonDecreasing result.items }
+{
+    let mut magnitudes = ArrayVec::new();
+    'currents: for current in currents {
+        magnitudes.push(current.unsigned_abs());
+    }
+    magnitudes.sort_unstable();
+    magnitudes
+}

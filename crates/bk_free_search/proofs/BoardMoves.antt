@@ -1,0 +1,134 @@
+-- What a board keeps, as a move is played and taken back.
+use Rattle.std.proofs.Common.{List, [], ap, cond, inl, inr, length, nat_eq, slice_index_or, subst, sym, take, ℕ, ◌++◌}
+use Rattle.std.proofs.Common.{◌+◌, ◌-◌, ◌<◌, ◌∙◌, ◌∷◌, ◌≡◌, ◌⊎◌}
+use Rattle.bk_word.specs.Outline.{IsLegalMove, valley_of}
+use Rattle.bk_word.specs.Play.{numbers_from, outline_of}
+use Rattle.bk_word.specs.Word.{Move, Word, order_of}
+use Rattle.bk_free_search.proofs.LeftLines.{end_left, index_left, left_less, left_more}
+use Rattle.bk_free_search.proofs.RightLines.{end_right, index_right, right_less, right_more}
+use Rattle.bk_free_search.proofs.TopLineMarks.{first_kept, first_more}
+use Rattle.bk_free_search.proofs.TouchedLines.{AreNextLines, nodes_less, nodes_more}
+use Rattle.bk_free_cuts.specs.LineNumbers.{left_end, lefts_of, right_end, sides_at, sides_of}
+use Rattle.bk_free_search.specs.Boards.{IsBoardOf}
+use Rattle.bk_free_search.specs.Lefts.{IsLeftWord, first_left}
+use Rattle.bk_free_search.specs.Joining.{TouchOneNode}
+use Rattle.bk_free_search.specs.NodeLines.{AreNodeLines, Has, HasBoth, IsBesideNew, IsBesideOneOf}
+use Rattle.bk_free_search.specs.Rights.{last_right, rights_of}
+use Rattle.bk_free_search.specs.declared.line_set.LineSet.{LineSet}
+
+-- what is known of a move that is played
+pub record IsPlayed (w : Word) (m : Move) (lefts rights : List ℕ) (nodes : List LineSet) (first : ℕ) : Type 0 where
+  pub hung : ℕ
+  pub hung_is : hung ≡ order_of w
+  pub count : ℕ
+  pub count_is : count ≡ m.count
+  pub squares : List ℕ
+  pub squares_are : squares ≡ valley_of (outline_of w)
+  pub left : ℕ
+  pub left_is : left ≡ first_left lefts squares
+  pub right : ℕ
+  pub right_is : right ≡ last_right rights squares
+  pub lefts_then : List ℕ
+  pub lefts_are : lefts_then ≡ lefts ++ left ∷ numbers_from (hung + 2) (count - 1)
+  pub rights_then : List ℕ
+  pub rights_are : rights_then ≡ rights ++ numbers_from (hung + 2) (count - 1) ++ right ∷ []
+  pub lines : LineSet
+  pub only : (line : ℕ) → Has lines line → IsBesideOneOf lefts_then rights_then squares line ⊎ IsBesideNew lefts_then rights_then hung count line
+  pub all : (line : ℕ) → line < 32 → IsBesideOneOf lefts_then rights_then squares line ⊎ IsBesideNew lefts_then rights_then hung count line → Has lines line
+  pub nodes_then : List LineSet
+  pub nodes_are : nodes_then ≡ nodes ++ lines ∷ []
+  pub first_then : ℕ
+  pub first_is : first_then ≡ cond (nat_eq hung 0) count first
+
+abbrev pub beside : List ℕ → List ℕ → List ℕ → ℕ → ℕ → ℕ → Type 0
+beside lefts rights squares hung count line = IsBesideOneOf lefts rights squares line ⊎ IsBesideNew lefts rights hung count line
+
+pub beside_same : (lefts lefts' rights rights' squares squares' : List ℕ) (hung hung' count count' line : ℕ) → lefts ≡ lefts' → rights ≡ rights'
+    → squares ≡ squares' → hung ≡ hung' → count ≡ count'
+    → beside lefts rights squares hung count line → beside lefts' rights' squares' hung' count' line
+beside_same lefts lefts' rights rights' squares squares' hung hung' count count' line a b c d e h =
+    subst (λ (ls : List ℕ). beside ls rights' squares' hung' count' line) a
+    (subst (λ (rs : List ℕ). beside lefts rs squares' hung' count' line) b
+    (subst (λ (qs : List ℕ). beside lefts rights qs hung' count' line) c
+    (subst (λ (k : ℕ). beside lefts rights squares k count' line) d
+    (subst (λ (k : ℕ). beside lefts rights squares hung k line) e h))))
+
+pub board_more : (w more : Word) (m : Move) (lefts rights : List ℕ) (nodes : List LineSet) (first : ℕ) → IsBoardOf w lefts rights nodes first
+    → IsLegalMove (outline_of w) m → more ≡ w ++ m ∷ []
+    → (p : IsPlayed w m lefts rights nodes first) → IsBoardOf more p.lefts_then p.rights_then p.nodes_then p.first_then
+board_more w more m lefts rights nodes first board legal e p = record {
+  left_word = left;
+  rights_are = right ∙ ap rights_of (sym e);
+  node_lines = subst (λ (v : Word). AreNodeLines v p.nodes_then) (sym e)
+      (subst (λ (l : List LineSet). AreNodeLines (w ++ m ∷ []) l) (sym p.nodes_are) (nodes_more w m nodes p.lines board.left_word.legal board.node_lines next));
+  first_is = λ _. first_more w more m e p.hung first p.first_then board.left_word.legal p.hung_is board.first_is
+      (p.first_is ∙ ap (λ k. cond (nat_eq p.hung 0) k first) p.count_is);
+}
+  where
+    left : IsLeftWord more p.lefts_then
+    left = left_more w more lefts p.lefts_then m p.left p.count board.left_word legal (p.left_is ∙ ap (first_left lefts) p.squares_are) p.count_is e
+        (p.lefts_are ∙ ap (λ k. lefts ++ p.left ∷ numbers_from (k + 2) (p.count - 1)) p.hung_is)
+
+    lefts_are : p.lefts_then ≡ lefts_of (w ++ m ∷ [])
+    lefts_are = left.lefts_are ∙ ap lefts_of e
+
+    right : p.rights_then ≡ rights_of (w ++ m ∷ [])
+    right = p.rights_are ∙ ap (λ k. rights ++ numbers_from (k + 2) (p.count - 1) ++ p.right ∷ []) p.hung_is
+        ∙ right_more w m rights p.right p.count legal board.rights_are (p.right_is ∙ ap (last_right rights) p.squares_are) p.count_is
+
+    next : AreNextLines w m p.lines
+    next = record {
+      only = λ line has. beside_same p.lefts_then (lefts_of (w ++ m ∷ [])) p.rights_then (rights_of (w ++ m ∷ [])) p.squares
+          (valley_of (outline_of w)) p.hung (order_of w) p.count m.count line lefts_are right p.squares_are p.hung_is p.count_is (p.only line has);
+      all = λ line low b. p.all line low (beside_same (lefts_of (w ++ m ∷ [])) p.lefts_then (rights_of (w ++ m ∷ [])) p.rights_then
+          (valley_of (outline_of w)) p.squares (order_of w) p.hung m.count p.count line (sym lefts_are) (sym right) (sym p.squares_are)
+          (sym p.hung_is) (sym p.count_is) b);
+    }
+
+-- what is left when the last move is taken back
+pub board_less : (w front : Word) (lefts rights : List ℕ) (nodes : List LineSet) (first order moves : ℕ) (lefts_then rights_then : List ℕ)
+    (nodes_then : List LineSet) → IsBoardOf w lefts rights nodes first
+    → 0 < length w → front ≡ take (length w - 1) w → order ≡ order_of front → moves ≡ length front → lefts_then ≡ take order lefts
+    → rights_then ≡ take order rights → nodes_then ≡ take moves nodes
+    → IsBoardOf front lefts_then rights_then nodes_then first
+board_less w front lefts rights nodes first order moves lefts_then rights_then nodes_then board some e o n l r t = record {
+  left_word = left_less w front lefts lefts_then order board.left_word e o l;
+  rights_are = right_less w front rights rights_then order board.rights_are e o r;
+  node_lines = nodes_less w front nodes nodes_then some board.node_lines e (t ∙ ap (λ k. take k nodes) n);
+  first_is = first_kept w front first board.first_is e;
+}
+
+-- ---- two lines at one node
+
+-- that touch one of the kept nodes touch a closed node of the word
+pub touch_lines : (w : Word) (lefts rights : List ℕ) (nodes : List LineSet) (first left right : ℕ) → IsBoardOf w lefts rights nodes first
+    → (left ≡ 0 → right ≡ 1 → ⊥) → HasBoth nodes left right → TouchOneNode w left right
+touch_lines w lefts rights nodes first left right board walls both = record {
+  node = both.node;
+  at_left = (board.node_lines).touch both.node left both.lines both.at both.has_left;
+  at_right = (board.node_lines).touch both.node right both.lines both.at both.has_right;
+  not_walls = walls;
+}
+
+-- the lines at the sides of a square
+pub left_on_board : (w : Word) (lefts rights : List ℕ) (nodes : List LineSet) (first square : ℕ) → IsBoardOf w lefts rights nodes first
+    → slice_index_or lefts (square - 1) 0 ≡ (sides_at (sides_of w) square).0
+left_on_board w lefts rights nodes first square board = ap (λ (ls : List ℕ). slice_index_or ls (square - 1) 0) (board.left_word).lefts_are
+    ∙ sym (index_left (sides_of w) (square - 1))
+
+pub right_on_board : (w : Word) (lefts rights : List ℕ) (nodes : List LineSet) (first square : ℕ) → IsBoardOf w lefts rights nodes first
+    → slice_index_or rights (square - 1) 1 ≡ (sides_at (sides_of w) square).1
+right_on_board w lefts rights nodes first square board = ap (λ (rs : List ℕ). slice_index_or rs (square - 1) 1) board.rights_are
+    ∙ sym (index_right (sides_of w) (square - 1))
+
+-- and at those of a segment
+pub ends_on_board : (w : Word) (lefts rights : List ℕ) (nodes : List LineSet) (first : ℕ) (squares : List ℕ) → IsBoardOf w lefts rights nodes first
+    → (first_left lefts squares ≡ left_end (sides_of w) squares) × (last_right rights squares ≡ right_end (sides_of w) squares)
+ends_on_board w lefts rights nodes first squares board = (
+  ap (λ (ls : List ℕ). first_left ls squares) (board.left_word).lefts_are ∙ sym (end_left (sides_of w) squares),
+  ap (λ (rs : List ℕ). last_right rs squares) board.rights_are ∙ sym (end_right (sides_of w) squares),
+)
+
+pub not_both : (left right : ℕ) → ((left ≡ 0) × (right ≡ 1 → ⊥)) ⊎ (left ≡ 0 → ⊥) → left ≡ 0 → right ≡ 1 → ⊥
+not_both left right (inl h) e f = h.1 f
+not_both left right (inr h) e f = h e

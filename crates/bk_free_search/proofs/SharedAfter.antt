@@ -1,0 +1,129 @@
+-- After a move of one square two lines that touch one closed node stand at one segment: those at the left of one of its squares and at
+-- the right of a later one, where the new square's lines are those of the valley.
+use Rattle.std.proofs.Common.{List, Some, [], ap, arith, inl, inr, length, refl, slice_get, slice_index_or, subst}
+use Rattle.std.proofs.Common.{suc, sym, ℕ, ◌++◌}
+use Rattle.std.proofs.Common.{◌+◌, ◌-◌, ◌<◌, ◌∙◌, ◌∷◌, ◌≡◌, ◌⊎◌}
+use Rattle.std.proofs.lemmas.Option.{get_or_from_slice_get, slice_get_within}
+use Rattle.bk_laws.proofs.ListPlaces.{get_after, get_append, get_back, get_front, get_last}
+use Rattle.bk_laws.proofs.Occurrences.{times, times_at, times_in-append}
+use Rattle.bk_word.specs.Outline.{IsLegalMove, Outline, start, valley_of, valley_place}
+use Rattle.bk_word.specs.Play.{IsLegal, after_move, outline_of}
+use Rattle.bk_word.specs.Word.{Move, Word}
+use Rattle.bk_word.proofs.PlayLaws.{after-snoc}
+use Rattle.bk_word_net.proofs.NoLoose.{hung_number}
+use Rattle.bk_word_net.proofs.Numbering.{numbered_moves, numbered_start}
+use Rattle.bk_word_net.proofs.Shape.{shaped_moves, shaped_start, valley_in}
+use Rattle.bk_layout.proofs.Counting.{got_times}
+use Rattle.bk_free_cuts.specs.LineNumbers.{left_end, new_sides, right_end, sides_at, sides_of}
+use Rattle.bk_free_cuts.specs.NodeCut.{ShareANode, TouchesClosed}
+use Rattle.bk_free_search.proofs.TouchedLines.{sides_many, sides_snoc, touch_more}
+use Rattle.bk_free_search.specs.Joining.{JoinsLeft, JoinsRight, ShareBefore, ShareBehind, TouchOneNode}
+use Rattle.bk_free_search.proofs.JoinedSegments.{IsJoined, is_joined}
+
+-- a square that stands open was hung
+open_low : (w : Word) (k i a : ℕ) (s : List ℕ) → slice_get (outline_of w).segments k ≡ Some s → slice_get s i ≡ Some a → a - 1 < length (sides_of w)
+open_low w k i a s e f = let o = outline_of w in
+    let within = hung_number o (numbered_moves start w numbered_start) a (omega (
+      arith,
+      got_times s i a f,
+      times_at a k o.segments,
+      ap (λ (l : List ℕ). times a l) (get_or_from_slice_get o.segments k s [] e),
+      times_in-append a o.closed o.segments,
+    )) in
+    omega (arith, within.0, within.1, sides_many w)
+
+-- its lines stay
+same_sides : (w : Word) (m : Move) (a : ℕ) → a - 1 < length (sides_of w) → sides_at (sides_of (w ++ m ∷ [])) a ≡ sides_at (sides_of w) a
+same_sides w m a low = ap (λ (l : List (ℕ × ℕ)). sides_at l a) (sides_snoc w m)
+    ∙ get_front (sides_of w) (new_sides (length (outline_of w).hung) m.count (left_end (sides_of w) (valley_of (outline_of w)))
+    (right_end (sides_of w) (valley_of (outline_of w)))) (a - 1) (0, 1) low
+
+-- those of the new square are those of the valley
+new_square : (w : Word) (m : Move) → m.count ≡ 1 → sides_at (sides_of (w ++ m ∷ [])) (length (outline_of w).hung + 1)
+    ≡ (left_end (sides_of w) (valley_of (outline_of w)), right_end (sides_of w) (valley_of (outline_of w)))
+new_square w m one = ap (λ (l : List (ℕ × ℕ)). sides_at l (length (outline_of w).hung + 1)) (sides_snoc w m)
+    ∙ get_back (sides_of w) (new_sides (length (outline_of w).hung) m.count (left_end (sides_of w) (valley_of (outline_of w)))
+    (right_end (sides_of w) (valley_of (outline_of w)))) 0 (length (outline_of w).hung + 1 - 1) (0, 1) (omega (arith, sides_many w))
+    ∙ ap (λ k. slice_index_or (new_sides (length (outline_of w).hung) k (left_end (sides_of w) (valley_of (outline_of w)))
+    (right_end (sides_of w) (valley_of (outline_of w)))) 0 (0, 1)) one
+
+-- two lines that touch one closed node, at the sides of two squares that stand at one segment after the move
+share_after : (w : Word) (m : Move) (place : ℕ) (numbers : List ℕ) (i j a b left right : ℕ)
+    → slice_get (after_move (outline_of w) m).segments place ≡ Some numbers
+    → slice_get numbers i ≡ Some a → slice_get numbers j ≡ Some b → i < j
+    → left ≡ (sides_at (sides_of (w ++ m ∷ [])) a).0 → right ≡ (sides_at (sides_of (w ++ m ∷ [])) b).1
+    → TouchOneNode w left right → ShareANode (w ++ m ∷ [])
+share_after w m place numbers i j a b left right is first second order l r touch = record {
+  segment = place;
+  numbers = numbers;
+  is = ap (λ (o : Outline). slice_get o.segments place) (after-snoc start w m) ∙ is;
+  i = i;
+  j = j;
+  a = a;
+  b = b;
+  first = first;
+  second = second;
+  order = omega (arith, order);
+  node = touch.node;
+  left = subst (λ (line : ℕ). TouchesClosed (outline_of (w ++ m ∷ [])) (sides_of (w ++ m ∷ [])) line touch.node) l
+      (touch_more w m left touch.node touch.at_left);
+  right = subst (λ (line : ℕ). TouchesClosed (outline_of (w ++ m ∷ [])) (sides_of (w ++ m ∷ [])) line touch.node) r
+      (touch_more w m right touch.node touch.at_right);
+  not_own = λ e f. absurd (omega (arith, e, order));
+  not_walls = λ e f. touch.not_walls (l ∙ e) (r ∙ f);
+}
+
+-- what is got from a list that is empty or another one is got from that one
+got_from : (s t : List ℕ) → (s ≡ []) ⊎ (s ≡ t) → (i a : ℕ) → slice_get s i ≡ Some a → slice_get t i ≡ Some a
+got_from s t (inr e) i a f = ap (λ (x : List ℕ). slice_get x i) (sym e) ∙ f
+got_from s t (inl e) i a f = absurd (nothing (ap (λ (x : List ℕ). slice_get x i) (sym e) ∙ f))
+  where
+    nothing : slice_get [] i ≡ Some a → ⊥
+    nothing g = cc
+
+module _ (w : Word) (m : Move) (word : IsLegal w) (legal : IsLegalMove (outline_of w) m) (one : m.count ≡ 1) (left right : List ℕ)
+    (l : JoinsLeft (outline_of w) m left) (r : JoinsRight (outline_of w) m right) where
+  abbrev number : ℕ
+  number = length (outline_of w).hung + 1
+
+  here : IsJoined (outline_of w) m left right
+  here = is_joined (outline_of w) (valley_in (outline_of w) (shaped_moves start w word shaped_start)) m legal one left right l r
+
+  left_low : JoinsLeft (outline_of w) m left → (i a : ℕ) → slice_get left i ≡ Some a → a - 1 < length (sides_of w)
+  left_low (inl e) i a f = absurd (let g : slice_get [] i ≡ Some a = ap (λ (x : List ℕ). slice_get x i) (sym e) ∙ f in cc)
+  left_low (inr (some, e, even)) i a f = open_low w (valley_place (outline_of w).signs - 1) i a left e f
+
+  right_low : JoinsRight (outline_of w) m right → (i a : ℕ) → slice_get right i ≡ Some a → a - 1 < length (sides_of w)
+  right_low (inl e) i a f = absurd (let g : slice_get [] i ≡ Some a = ap (λ (x : List ℕ). slice_get x i) (sym e) ∙ f in cc)
+  right_low (inr (e, even)) i a f = open_low w (valley_place (outline_of w).signs + 1) i a right e f
+
+  -- places among the squares of the joined segment
+  at_before : (i a : ℕ) → slice_get left i ≡ Some a → (slice_get (here.before ++ number ∷ here.behind) i ≡ Some a) × (i < length here.before)
+  at_before i a f = let g = got_from left here.before here.left_is i a f in
+      (get_append here.before (number ∷ here.behind) i a g, slice_get_within here.before i a g)
+
+  at_behind : (k b : ℕ) → slice_get right k ≡ Some b → slice_get (here.before ++ number ∷ here.behind) (length here.before + suc k) ≡ Some b
+  at_behind k b f = get_after here.before (number ∷ here.behind) (suc k) (length here.before + suc k) refl ∙ got_from right here.behind here.right_is k b f
+
+  -- the line at the left of an earlier square, and that at the right of the new one
+  pub shared_before : (line : ℕ) → line ≡ right_end (sides_of w) (valley_of (outline_of w)) → ShareBefore w left line → ShareANode (w ++ m ∷ [])
+  shared_before line is s = let f = at_before s.place s.number s.at in
+      share_after w m here.place (here.before ++ number ∷ here.behind) s.place (length here.before) s.number number (sides_at (sides_of w) s.number).0 line
+      here.at f.0 (get_last here.before number here.behind) f.1 (ap (λ (p : ℕ × ℕ). p.0) (sym (same_sides w m s.number (left_low l s.place s.number s.at))))
+      (is ∙ ap (λ (p : ℕ × ℕ). p.1) (sym (new_square w m one))) s.touch
+
+  -- the line at the right of a later square, and that at the left of the new one or of an earlier one
+  pub shared_behind : (line : ℕ) → line ≡ left_end (sides_of w) (valley_of (outline_of w)) → ShareBehind w line left right → ShareANode (w ++ m ∷ [])
+  shared_behind line is s = cases s.touch
+    where
+      right_line : (sides_at (sides_of w) s.number).1 ≡ (sides_at (sides_of (w ++ m ∷ [])) s.number).1
+      right_line = ap (λ (p : ℕ × ℕ). p.1) (sym (same_sides w m s.number (right_low r s.place s.number s.at)))
+
+      cases : TouchOneNode w line (sides_at (sides_of w) s.number).1 ⊎ ShareBefore w left (sides_at (sides_of w) s.number).1 → ShareANode (w ++ m ∷ [])
+      cases (inl touch) = share_after w m here.place (here.before ++ number ∷ here.behind) (length here.before) (length here.before + suc s.place) number
+          s.number line (sides_at (sides_of w) s.number).1 here.at (get_last here.before number here.behind) (at_behind s.place s.number s.at) (omega arith)
+          (is ∙ ap (λ (p : ℕ × ℕ). p.0) (sym (new_square w m one))) right_line touch
+      cases (inr b) = let f = at_before b.place b.number b.at in
+          share_after w m here.place (here.before ++ number ∷ here.behind) b.place (length here.before + suc s.place) b.number s.number
+          (sides_at (sides_of w) b.number).0 (sides_at (sides_of w) s.number).1 here.at f.0 (at_behind s.place s.number s.at) (omega (arith, f.1))
+          (ap (λ (p : ℕ × ℕ). p.0) (sym (same_sides w m b.number (left_low l b.place b.number b.at)))) right_line b.touch

@@ -1,0 +1,61 @@
+use Rattle.std.proofs.Common.{ap, arith, cond, length, max, ℕ, ◌+◌, ◌∙◌, ◌≡◌}
+use Rattle.bk_word.specs.Play.{outline_of}
+use Rattle.bk_word.specs.Word.{Word}
+use Rattle.bk_bounds.proofs.BoundsOfWords.{shape_of_word}
+use Rattle.bk_normal.specs.Normal.{Counts}
+use Rattle.bk_normal_cuts.proofs.NextMove.{too_few_evens_is_normal_barren}
+use Rattle.bk_normal_cuts.specs.NextMove.{AreMostMovesThen, left_squares_then, right_squares_then}
+use Rattle.bk_free_search.proofs.AheadMoves.{most_then_is}
+use Rattle.bk_free_search.proofs.ahead.look_ahead.Goals as goal
+
+moves_are : (c : goal.After-saturating_sub-3) → c.counts-counts.result.moves ≡ length c.args.board.now
+moves_are c = ap (λ (k : Counts). k.moves) c.counts-counts.ensures
+
+left_are : (c : goal.After-saturating_sub-3) → c.from.result + c.one_if.result ≡ left_squares_then c.args.board.now
+left_are c = omega (
+  arith,
+  c.from.ensures,
+  c.one_if.ensures,
+  ap (λ (k : Counts). k.left) c.counts-counts.ensures,
+  ap (λ b. cond {A = ℕ} b 1 0) c.requires.left,
+)
+
+right_are : (c : goal.After-saturating_sub-3) → c.from-2.result + c.one_if-2.result ≡ right_squares_then c.args.board.now
+right_are c = omega (
+  arith,
+  c.from-2.ensures,
+  c.one_if-2.ensures,
+  ap (λ (k : Counts). k.right) c.counts-counts.ensures,
+  ap (λ b. cond {A = ℕ} b 1 0) c.requires.right,
+)
+
+most_is : (c : goal.After-saturating_sub-3) → AreMostMovesThen c.args.order c.args.board.now c.most_then-most.result
+most_is c = most_then_is c.args.order c.args.board.now c.counts-counts.result.moves c.counts-counts.result.top c.max.result c.most_then-most.result
+    (moves_are c) (ap (λ (k : Counts). k.top) c.counts-counts.ensures) (c.max.ensures ∙ (λ i. max (left_are c i) (right_are c i)))
+    c.most_then-most.ensures.none c.most_then-most.ensures.some
+
+pub returns-clause-moves : goal.returns-clause-moves
+returns-clause-moves c = record {
+  most = c.most_then-most.result;
+  most_is = most_is c;
+  left_is = omega (arith, c.saturating_sub.ensures, c.from-moves.ensures, moves_are c);
+}
+
+pub returns-clause-evens : goal.returns-clause-evens
+returns-clause-evens c m few = too_few_evens_is_normal_barren c.args.order c.most_then-most.result c.args.board.now m (most_is c) (omega (
+  arith,
+  few,
+  c.saturating_sub-3.ensures,
+  c.saturating_sub-2.ensures,
+  c.from-moves.ensures,
+  c.from-3.ensures,
+  c.from-4.ensures,
+  moves_are c,
+  left_are c,
+  right_are c,
+  ap (λ (k : Counts). k.squares) c.counts-counts.ensures,
+  ap length c.signs.ensures,
+  ap (λ (v : Word). length (outline_of v).signs) c.skel.ensures.value,
+  ap (λ (v : Word). length (outline_of v).segments) c.skel.ensures.value,
+  (shape_of_word c.skel.result.now c.skel.ensures.legal).many,
+))

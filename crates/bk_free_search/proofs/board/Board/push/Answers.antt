@@ -1,0 +1,82 @@
+use Rattle.std.proofs.Common.{List, ap, arith, length, lit<, refl, subst, sym, ℕ, ◌∙◌}
+use Rattle.bk_word.specs.Outline.{IsLegalMove, start, valley_of}
+use Rattle.bk_word.specs.Play.{outline_of}
+use Rattle.bk_word.specs.Word.{Move, Word, order_of}
+use Rattle.bk_word.proofs.PlayLaws.{moves_many}
+use Rattle.bk_free_search.specs.Lefts.{first_left}
+use Rattle.bk_free_search.specs.Rights.{last_right}
+use Rattle.bk_free_search.proofs.BoardMoves.{beside_same, board_more}
+use Rattle.bk_free_search.proofs.LeftLines.{left_count}
+use Rattle.bk_free_search.proofs.RightLines.{as_many_rights}
+use Rattle.bk_free_search.proofs.board.Board.push.Goals as goal
+
+pub invariant_of-self : goal.invariant_of-self
+invariant_of-self c =
+    let w = c.self.inside.skel in
+    let valley = c.valley_squares-squares.ensures in
+    board_more w c.play.new.self c.args.m.now c.self.inside.lefts.items c.self.inside.rights.items c.self.inside.nodes.items c.self.inside.first
+    c.self.invariant
+    (subst (λ (v : Word). IsLegalMove (outline_of v) c.args.m.now) (sym c.self.view_is) c.requires.legal) c.play.ensures
+    (record {
+      hung = c.order-behind.result;
+      hung_is = c.order-behind.ensures.value;
+      count = c.m.inside.count;
+      count_is = ap (λ (m : Move). m.count) c.m.view_is;
+      squares = valley_of (outline_of w);
+      squares_are = refl;
+      left = c.left_of_first-first.result;
+      left_is = c.left_of_first-first.ensures ∙ (λ i. first_left (c.deref.ensures.0 i) (valley i));
+      right = c.right_of_last-last.result;
+      right_is = c.right_of_last-last.ensures ∙ (λ i. last_right (c.deref-2.ensures.0 i) (valley i));
+      lefts_then = c.push_lefts.new.lefts.items;
+      lefts_are = c.push_lefts.ensures;
+      rights_then = c.push_rights.new.rights.items;
+      rights_are = c.push_rights.ensures;
+      lines = c.node_lines-lines.result;
+      only = λ line has. beside_same c.deref-3.result.now c.push_lefts.new.lefts.items c.deref-4.result.now c.push_rights.new.rights.items
+          c.valley_squares-squares.result.now (valley_of (outline_of w))
+          c.order-behind.result c.order-behind.result c.m.inside.count c.m.inside.count line c.deref-3.ensures.0 c.deref-4.ensures.0
+          valley refl refl (c.node_lines-lines.ensures.only line has);
+      all = λ line low b. c.node_lines-lines.ensures.all line low (beside_same c.push_lefts.new.lefts.items c.deref-3.result.now
+          c.push_rights.new.rights.items c.deref-4.result.now (valley_of (outline_of w)) c.valley_squares-squares.result.now
+          c.order-behind.result c.order-behind.result c.m.inside.count c.m.inside.count line (sym c.deref-3.ensures.0) (sym c.deref-4.ensures.0)
+          (sym valley) refl refl b);
+      nodes_then = c.push.new.self.items;
+      nodes_are = c.push.ensures.items;
+      first_then = c.first_after-self-inside.result;
+      first_is = c.first_after-self-inside.ensures;
+    })
+
+pub push_lefts-requires-clause-fits : goal.push_lefts-requires-clause-fits
+push_lefts-requires-clause-fits c =
+    omega (
+      arith,
+      left_count c.self.inside.skel c.self.inside.lefts.items c.self.invariant.left_word,
+      ap order_of c.self.view_is,
+      ap (λ (m : Move). m.count) c.m.view_is,
+      c.requires.few,
+    )
+
+pub push_rights-requires-clause-fits : goal.push_rights-requires-clause-fits
+push_rights-requires-clause-fits c =
+    omega (
+      arith,
+      ap (λ (l : List ℕ). length l) c.self.invariant.rights_are,
+      as_many_rights c.self.inside.skel,
+      ap order_of c.self.view_is,
+      ap (λ (m : Move). m.count) c.m.view_is,
+      c.requires.few,
+    )
+
+pub push-requires : goal.push-requires
+push-requires c = (
+  lit< tt,
+  omega (
+    arith,
+    c.self.invariant.node_lines.as_many,
+    moves_many start c.self.inside.skel c.self.invariant.left_word.legal,
+    ap order_of c.self.view_is,
+    c.requires.legal.some,
+    c.requires.few,
+  ),
+)

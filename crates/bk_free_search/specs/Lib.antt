@@ -1,0 +1,12 @@
+-- What the crate says.
+pub mod Sought
+pub mod SeenCounts
+-- How its code keeps it.
+pub mod Lefts
+pub mod Rights
+pub mod NodeLines
+pub mod Joining
+pub mod TopLines
+pub mod Boards
+pub mod Asking
+pub mod Strong

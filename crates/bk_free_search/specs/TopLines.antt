@@ -1,0 +1,13 @@
+-- The squares whose left edges lie on a line that runs from the top between two squares of the first move, by the numbers of
+-- their left lines.
+-- Example (TopLineExamples): in 3aa.2ue.1ea the squares have the left lines 0, 2, 3, 0, 5, 5, and those of 2 and 3 begin at the
+-- top.
+use Rattle.std.specs.Prelude.{Bool, List, map, nat_le, ℕ, ◌&&◌}
+
+-- the line of this number begins between two squares of a first move of so many
+abbrev pub is_top_line : ℕ → ℕ → Bool
+is_top_line first line = nat_le 2 line && nat_le line first
+
+-- of each square whether its left edge lies on such a line, by the left lines of all squares
+abbrev pub on_top_lines : ℕ → List ℕ → List Bool
+on_top_lines first lefts = map (is_top_line first) lefts

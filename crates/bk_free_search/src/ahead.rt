@@ -1,0 +1,79 @@
+//! How many moves a word has left at most, and how many signs of its next move are even at least.
+
+ghost use Rattle.std.specs.Prelude.{cond, nat_lt, ◌+◌, ◌/◌, ◌<◌, ◌≡◌, ◌≤◌};
+ghost use Rattle.bk_word.specs.Outline.{has_left_wall, has_right_wall};
+ghost use Rattle.bk_word.specs.Play.{outline_of};
+ghost use Rattle.bk_word.specs.Word.{order_of};
+ghost use Rattle.bk_normal_cuts.specs.NormalCuts.{most_moves_of};
+ghost use Rattle.bk_free_search.specs.Asking.{AreEvensNeeded, AreMovesLeft};
+
+use crate::board::Board;
+use crate::counts::one_if;
+
+/// How many moves are left after the next one, and how many signs of this one are even at least. (Own.)
+#[derive(Clone, Copy, Drop)]
+pub(crate) struct Ahead {
+    pub(crate) moves: usize,
+    pub(crate) evens: usize,
+}
+
+/// What is ahead of a board, whose leftmost valley has walls beside it or not, as is said, in words of the order.
+pub(crate) fn look_ahead(board: &Board, order: u8, left_wall: bool, right_wall: bool) -> Ahead
+    requires few { order_of board.now ≤ 200 }
+    requires left { left_wall ≡ has_left_wall (outline_of board.now) }
+    requires right { right_wall ≡ has_right_wall (outline_of board.now) }
+    ensures moves { AreMovesLeft order board.now result.moves }
+    ensures evens { AreEvensNeeded order board.now result.evens }
+{
+    let counts = board.counts();
+    let moves = usize::from(counts.moves) + 1;
+    let left = usize::from(counts.left) + one_if(left_wall);
+    let right = usize::from(counts.right) + one_if(right_wall);
+    let most = most_then(order, counts.moves, counts.top, left.max(right));
+    let segments = board.skel().signs().len() + 1;
+    Ahead {
+        moves: most.saturating_sub(moves),
+        evens: (usize::from(order)
+            + 3 * moves
+            + segments
+            + left.saturating_sub(right)).saturating_sub(
+            usize::from(counts.squares) + 3 * most + 2,
+        ),
+    }
+}
+
+// The most moves of a word of the order in which so many squares hang from the top, and so many lie at a wall: half of one square more,
+// and one less than just half where more lie at the wall.
+fn most_moves(order: u8, top: u8, wall: usize) -> usize
+    ensures { result ≡ cond (nat_lt top wall) (order / 2) ((order + 1) / 2) }
+{
+    if usize::from(top) < wall {
+        usize::from(order) / 2
+    } else {
+        (usize::from(order) + 1) / 2
+    }
+}
+
+// The most moves of one that goes on from so many moves so that then so many squares lie at a wall.
+fn most_then(order: u8, moves: u8, top: u8, wall: usize) -> usize
+    ensures none { moves ≡ 0 → result ≡ (order + 1) / 2 }
+    ensures some { 0 < moves → result ≡ cond (nat_lt top wall) (order / 2) ((order + 1) / 2) }
+    ensures few { result ≤ 128 }
+{
+    if moves == 0 {
+        return (usize::from(order) + 1) / 2;
+    }
+    most_moves(order, top, wall)
+}
+
+/// The most moves of a word of the order that goes on from the board.
+pub(crate) fn most_moves_of(board: &Board, order: u8) -> usize
+    ensures { result ≡ most_moves_of order board.now }
+{
+    let counts = board.counts();
+    most_moves(
+        order,
+        counts.top,
+        usize::from(counts.left.max(counts.right)),
+    )
+}

@@ -1,0 +1,229 @@
+//! Words that are played and taken back by the search, with the lines at the left of their squares.
+#![tactic(auto)]
+
+ghost use Rattle.std.specs.Prelude.{IsTrue, [], cond, length, nat_eq, take, true, ◌++◌, ◌+◌, ◌-◌, ◌<◌, ◌∷◌, ◌≡◌, ◌≤◌};
+ghost use Rattle.bk_word.specs.Outline.{IsLegalMove};
+ghost use Rattle.bk_word.specs.Play.{IsLegal, outline_of};
+ghost use Rattle.bk_word.specs.Word.{order_of};
+ghost use Rattle.bk_free_cuts.specs.LineNumbers.{left_end, lefts_of, right_end, sides_at, sides_of};
+ghost use Rattle.bk_free_search.specs.Asking.{has_first_mark, line_bound_behind};
+ghost use Rattle.bk_free_search.specs.Joining.{TouchOneNode};
+ghost use Rattle.bk_normal_cuts.specs.WordNumbers.{counts_of_word, first_count};
+ghost use Rattle.bk_normal_cuts.specs.StrongBound.{strong_bound_of, weight_of};
+ghost use Rattle.bk_free_search.specs.Rights.{rights_of};
+ghost use Rattle.bk_free_search.specs.Strong.{ArePassedWithin};
+ghost use Rattle.bk_free_search.specs.SeenCounts.{seen_counts};
+
+use crate::counts::{Counts, times};
+use crate::line_set::LineSet;
+use crate::node_lines::{has_both, node_lines};
+use crate::sides::{left_of, left_of_first, push_lefts, push_rights, right_of, right_of_last};
+use crate::strong::{Passed, strong_pass};
+use crate::top_lines::{is_first_touched, line_bound_from};
+use arrayvec::ArrayVec;
+use bk_skel::Skel;
+use bk_word::{LARGEST_ORDER, Move};
+use std::marker::Model;
+
+/// A skeleton, of each of its squares the numbers of the lines at its left and its right edge, of each closed node the lines that
+/// it touches, and how many squares the first move hangs. Line 0 is the left wall, 1 the right one, and k + 2 that between the
+/// square at place k, in the order of hanging from 0, and the next of its move. It is seen as the list of its moves. (Own.)
+#[derive(Drop)]
+pub struct Board {
+    skel: Skel,
+    lefts: ArrayVec<u8, LARGEST_ORDER>,
+    rights: ArrayVec<u8, LARGEST_ORDER>,
+    nodes: ArrayVec<LineSet, LARGEST_ORDER>,
+    first: u8,
+}
+
+impl Model for Board {
+    ghost use Rattle.bk_word.specs.Word.{Word as Moves};
+    ghost use Rattle.bk_free_search.specs.Boards.{IsBoardOf};
+
+    ghost Value = { Moves };
+
+    ghost view = { λ s. s.skel };
+
+    ghost invariant = { λ s. IsBoardOf s.skel s.lefts.items s.rights.items s.nodes.items s.first };
+}
+
+impl Board {
+    /// The board of no move.
+    pub fn new() -> Board
+        ensures { result ≡ [] }
+    {
+        Board {
+            skel: Skel::new(),
+            lefts: ArrayVec::new(),
+            rights: ArrayVec::new(),
+            nodes: ArrayVec::new(),
+            first: 0,
+        }
+    }
+
+    /// The skeleton, for reading.
+    pub fn skel(&self) -> &Skel
+        ensures value { result.now ≡ self.now }
+        ensures legal { IsLegal result.now }
+    {
+        &self.skel
+    }
+
+    /// The number of the line at the left edge of each square, in the order of hanging.
+    pub fn lefts(&self) -> &[u8]
+        ensures { result.now ≡ lefts_of self.now }
+    {
+        self.lefts.as_slice()
+    }
+
+    /// The number of the line at the right edge of each square, in the order of hanging.
+    pub fn rights(&self) -> &[u8]
+        ensures { result.now ≡ rights_of self.now }
+    {
+        self.rights.as_slice()
+    }
+
+    /// How many squares the first move hangs: none where there is no move.
+    pub(crate) fn first(&self) -> u8
+        ensures { result ≡ first_count self.now }
+    {
+        if self.skel.moves() == 0 {
+            0
+        } else {
+            self.first
+        }
+    }
+
+    /// How many squares and moves there are, and how many squares hang from the top, stand in the first open segment, which is the last
+    /// one of a complete word, and lie at each wall.
+    pub fn counts(&self) -> Counts
+        ensures { seen_counts result ≡ counts_of_word self.now }
+    {
+        Counts {
+            squares: self.skel.order() as u8,
+            moves: self.skel.moves() as u8,
+            top: self.first(),
+            bottom: self.skel.sizes()[0],
+            left: times(&self.lefts, 0),
+            right: times(&self.rights, 1),
+        }
+    }
+
+    /// The line at the left of the square of this number, from 1.
+    pub(crate) fn left_of(&self, square: u8) -> u8
+        ensures { result ≡ (sides_at (sides_of self.now) square).0 }
+    {
+        left_of(&self.lefts, square)
+    }
+
+    /// The line at the right of the square of this number, from 1.
+    pub(crate) fn right_of(&self, square: u8) -> u8
+        ensures { result ≡ (sides_at (sides_of self.now) square).1 }
+    {
+        right_of(&self.rights, square)
+    }
+
+    /// The line at the left of the first of these squares: the left wall where there are none.
+    pub(crate) fn left_end(&self, squares: &[u8]) -> u8
+        ensures { result ≡ left_end (sides_of self.now) squares.now }
+    {
+        left_of_first(&self.lefts, squares)
+    }
+
+    /// The line at the right of the last of them: the right wall where there are none.
+    pub(crate) fn right_end(&self, squares: &[u8]) -> u8
+        ensures { result ≡ right_end (sides_of self.now) squares.now }
+    {
+        right_of_last(&self.rights, squares)
+    }
+
+    /// Whether these two lines touch one closed node. The two walls don't count.
+    pub(crate) fn touch_one(&self, left: u8, right: u8) -> bool
+        ensures { IsTrue result → TouchOneNode self.now left right }
+    {
+        if left == 0 && right == 1 {
+            return false;
+        }
+        has_both(&self.nodes, left, right)
+    }
+
+    /// Whether a line from the top bounds the first open segment or ended on it.
+    pub(crate) fn is_first_touched(&self) -> bool
+        ensures { IsTrue result → has_first_mark self.now ≡ true }
+    {
+        is_first_touched(self.skel.sizes(), self.skel.ends(), &self.lefts, self.first)
+    }
+
+    /// The closing bound of the segments behind the one at a place, where one that a line from the top bounds or ended on has one
+    /// closing more; 0 where there are none.
+    pub(crate) fn line_bound_behind(&self, place: usize) -> usize
+        requires { place ≤ length (outline_of self.now).signs }
+        ensures { result ≡ line_bound_behind place self.now }
+    {
+        let signs = self.skel.signs();
+        if place == signs.len() {
+            return 0;
+        }
+        line_bound_from(
+            signs,
+            self.skel.sizes(),
+            self.skel.ends(),
+            &self.lefts,
+            self.first,
+            place + 1,
+        )
+    }
+
+    /// What a pass over the open segments counts.
+    pub(crate) fn strong_pass(&self) -> Passed
+        requires few { order_of self.now ≤ 200 }
+        ensures bound { result.most ≡ strong_bound_of self.now }
+        ensures weight { result.more ≡ weight_of self.now }
+        ensures few { ArePassedWithin result 4000 }
+    {
+        strong_pass(
+            self.skel.signs(),
+            self.skel.sizes(),
+            self.skel.ends(),
+            &self.lefts,
+            self.first(),
+        )
+    }
+
+    /// Plays a move, which must be legal, with at most 200 squares then.
+    pub fn push(&mut self, m: &Move)
+        requires legal { IsLegalMove (outline_of self.old) m.now }
+        requires few { order_of self.old + m.now.count ≤ 200 }
+        ensures { self.new ≡ self.old ++ m.now ∷ [] }
+    {
+        let squares = self.skel.valley_squares();
+        let first = left_of_first(&self.lefts, squares);
+        let behind = self.skel.order() as u8;
+        push_lefts(&mut self.lefts, first, behind, m.count);
+        let last = right_of_last(&self.rights, squares);
+        push_rights(&mut self.rights, last, behind, m.count);
+        let lines = node_lines(&self.lefts, &self.rights, squares, behind, m.count);
+        self.nodes.push(lines);
+        self.first = first_after(self.first, behind, m.count);
+        self.skel.play(m);
+    }
+
+    /// Takes the last move back. There must be one.
+    pub fn pop(&mut self)
+        requires { 0 < length self.old }
+        ensures { self.new ≡ take (length self.old - 1) self.old }
+    {
+        self.skel.pop();
+        self.lefts.truncate(self.skel.order());
+        self.rights.truncate(self.skel.order());
+        self.nodes.truncate(self.skel.moves());
+    }
+}
+
+// How many squares the first move hangs, after a move of so many, where so many squares were hung before.
+fn first_after(first: u8, hung: u8, count: u8) -> u8
+    ensures { result ≡ cond (nat_eq hung 0) count first }
+{
+    if hung == 0 { count } else { first }
+}

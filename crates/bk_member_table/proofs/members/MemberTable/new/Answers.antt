@@ -1,0 +1,8 @@
+use Rattle.std.proofs.Common.{ap}
+use Rattle.bk_member_table.specs.Finding.{Finding}
+use Rattle.bk_member_table.proofs.WholeTables.{table_of_none}
+use Rattle.bk_member_table.proofs.members.MemberTable.new.Goals as goal
+
+pub invariant_of-result : goal.invariant_of-result
+invariant_of-result g c = table_of_none c.new.result (ap (λ (f : Finding). f.order) c.new.ensures)
+    (ap (λ (f : Finding). f.numbers.kept) c.new.ensures)

@@ -1,0 +1,11 @@
+pub mod ImageCounts
+pub mod ImageCorners
+pub mod MirroredGroups
+pub mod MirroredCrossings
+pub mod UpendedGroups
+pub mod FewNodes
+pub mod NormalImages
+pub mod SameNumbers
+pub mod LayoutSides
+pub mod LayoutCounts
+pub mod NormalExamples

@@ -1,0 +1,11 @@
+use Rattle.std.proofs.Common.{Contains, List, ap, arith, length, subst, sym, take, ℕ, ◌∙◌, ◌↔◌}
+use Rattle.bk_packed.proofs.BroughtForward.{refilled}
+use Rattle.bk_packed.proofs.settling.drop_equals.Goals as goal
+
+pub returns-clause-same : goal.returns-clause-same
+returns-clause-same g c x =
+    let kept = c.truncate.ensures.items ∙ ap (take c.bring_forward-count.result) (refilled c.args.numbers.now.items c.bring_forward-count.new.numbers
+    (omega (arith, c.bring_forward-count.auto.numbers, ap (λ (l : List ℕ). length l) c.deref_mut.ensures.value))) in
+    subst (λ l. Contains l x ↔ Contains c.args.numbers.now.items x) (sym kept) (subst (λ l. Contains
+    (take c.bring_forward-count.result c.bring_forward-count.new.numbers) x ↔ Contains l x)
+    c.deref_mut.ensures.value (c.bring_forward-count.ensures.same x))

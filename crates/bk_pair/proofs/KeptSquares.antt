@@ -1,0 +1,102 @@
+-- Squares of a tiling in another order: they are accepted, and put in code order they are the tiling again.
+use Rattle.std.specs.List.{AllByRecursion}
+use Rattle.std.specs.List.Sorted.{IsPermutation}
+use Rattle.std.specs.Prelude.{Err, Ok, OnOk, Result, false}
+use Rattle.std.specs.Result.{is_err}
+use Rattle.std.proofs.Common.{Bool, List, [], arith, cond, count_by, length, refl, subst, sym, ℕ, ◌++◌, ◌<◌, ◌∙◌, ◌≡◌, ◌≤◌}
+use Rattle.std.proofs.lemmas.Bool.{true≢false}
+use Rattle.std.proofs.lemmas.List.Elements.{All-from_recursion, recursion_from_All}
+use Rattle.std.proofs.lemmas.List.Sorted.{All-permutation, IsPermutation-sym, length_permutation, sum_by-IsPermutation}
+use Rattle.bk_tiling.proofs.Cells.{all_from, in_all}
+use Rattle.bk_tiling.proofs.OneRefusal.{kept_from, tiles_apart}
+use Rattle.bk_tiling.proofs.PuttingInOrder.{from_order, in_order}
+use Rattle.bk_tiling.proofs.Scaling.{same_members}
+use Rattle.bk_tiling.specs.CodeOrder.{in_code_order}
+use Rattle.bk_tiling.specs.Kept.{IsKept, IsSide}
+use Rattle.bk_tiling.specs.Refusal.{HaveSides, IsAccepted, ShareNoCell, sized}
+use Rattle.bk_tiling.specs.Tiling.{IsOneOf, IsWithin, Tiling, covers}
+use Rattle.bk_tiling.specs.declared.Square.{Square}
+use Rattle.bk_pair.specs.Kept.{AreAscending, IsKeptBySides, tiling_of}
+use Rattle.bk_pair.specs.OwnSides.{stands_apart}
+
+-- what holds where a call went well
+pub went_well : {T E : Type 0} (r : Result T E) (P : Type 0) → is_err r ≡ false → OnOk r P → P
+went_well (Ok x) P e h = h
+went_well (Err x) P e h = absurd (true≢false e)
+
+-- squares that were copied to an empty list
+pub copied : {T E : Type 0} (r : Result T E) (empty part kept all : List Square) → is_err r ≡ false → OnOk r (all ≡ empty ++ part) → empty ≡ []
+    → part ≡ kept → all ≡ kept
+copied r empty part kept all ok is none same =
+    went_well r (all ≡ empty ++ part) ok is ∙ (λ i. none i ++ same i)
+
+-- what holds of all squares holds of them in another order
+moved_all : (P : Square → Type 0) (xs ys : List Square) → IsPermutation xs ys → AllByRecursion P xs → AllByRecursion P ys
+moved_all P xs ys moved all = recursion_from_All P ys (All-permutation P xs ys moved (All-from_recursion P xs all))
+
+-- a square of them is one of the squares in the first order
+all_members : (xs ys : List Square) → IsPermutation xs ys → (q : Square) → IsOneOf q ys → IsOneOf q xs
+all_members xs ys moved q h =
+    in_all (λ q. IsOneOf q xs) ys (moved_all (λ q. IsOneOf q xs) xs ys moved (all_from (λ q. IsOneOf q xs) xs (λ p k. k))) q h
+
+module _ (t : Tiling) (kept : IsKept t) (squares : List Square) (moved : IsPermutation t.squares squares) where
+  -- the squares of a kept tiling are accepted in any order
+  pub moved_accepted : IsAccepted t.width t.height squares
+  moved_accepted = record {
+    few = omega (arith, kept.few, length_permutation t.squares squares moved);
+    sides = moved_all (λ q. IsSide q.s) t.squares squares moved kept.sides;
+    tiles = record {
+      some = omega (arith, kept.tiling.tiles.some, length_permutation t.squares squares moved);
+      sides = moved_all (λ q. 0 < q.s) t.squares squares moved kept.tiling.tiles.sides;
+      within = moved_all (IsWithin (sized t.width t.height)) t.squares squares moved kept.tiling.tiles.within;
+      once = λ i j left right top bottom.
+          sum_by-IsPermutation (λ q. cond {A = ℕ} (covers i j q) 1 0) t.squares squares moved ∙ kept.tiling.tiles.once i j left right top bottom;
+    };
+  }
+
+  from_moved : (q : Square) → IsOneOf q squares → IsOneOf q t.squares
+  from_moved = all_members t.squares squares moved
+
+  to_moved : (q : Square) → IsOneOf q t.squares → IsOneOf q squares
+  to_moved = all_members squares t.squares (IsPermutation-sym t.squares squares moved)
+
+  -- put in code order they are a tiling that is kept
+  pub moved_kept : IsKept (tiling_of t.width t.height squares)
+  moved_kept = kept_from t.width t.height squares (in_code_order squares) kept.width_fits kept.height_fits moved_accepted refl
+
+  -- and it is the same tiling
+  pub moved_back : in_code_order squares ≡ t.squares
+  moved_back = same_members (in_code_order squares) t.squares moved_kept.tiling.ordered kept.tiling.ordered
+      (λ q h. from_moved q (from_order squares q h)) (λ q h. in_order squares q (to_moved q h))
+
+  pub moved_tiling : tiling_of t.width t.height squares ≡ t
+  moved_tiling = λ i. record { width = t.width; height = t.height; squares = moved_back i }
+
+-- what is stored of a tiling is what is kept of it
+pub kept_by_sides : (t : Tiling) → IsKept t → (squares : List Square) → IsPermutation t.squares squares → AreAscending squares
+    → (width height : ℕ) → width ≡ t.width → height ≡ t.height → (apart : Bool) → apart ≡ stands_apart (tiling_of width height squares)
+    → IsKeptBySides width height squares apart
+kept_by_sides t kept squares moved ascending width height wide high apart is = record {
+  accepted = subst (λ (w : ℕ). IsAccepted w height squares) (sym wide)
+      (subst (λ (h : ℕ). IsAccepted t.width h squares) (sym high) (moved_accepted t kept squares moved));
+  width_fits = omega (arith, wide, kept.width_fits);
+  height_fits = omega (arith, high, kept.height_fits);
+  ascending = ascending;
+  apart_is = is;
+}
+
+pub seen_as : (t : Tiling) → IsKept t → (squares : List Square) → IsPermutation t.squares squares → (width height : ℕ) → width ≡ t.width → height ≡ t.height
+    → tiling_of width height squares ≡ t
+seen_as t kept squares moved width height wide high =
+    (λ i. tiling_of (wide i) (high i) squares) ∙ moved_tiling t kept squares moved
+
+-- from what is stored the tiling is made again
+module _ (width height : ℕ) (squares : List Square) (apart : Bool) (stored : IsKeptBySides width height squares apart) where
+  pub stored_sides : HaveSides squares
+  stored_sides = All-from_recursion (λ (q : Square). IsSide q.s) squares stored.accepted.sides
+
+  pub stored_apart : ShareNoCell squares
+  stored_apart = tiles_apart width height squares stored.accepted.tiles
+
+  pub stored_kept : (made : List Square) → made ≡ in_code_order squares → IsKept (record { width = width; height = height; squares = made })
+  stored_kept made is = kept_from width height squares made stored.width_fits stored.height_fits stored.accepted is

@@ -1,8 +1,0 @@
-pub mod Sums
-pub mod PlayedNodes
-pub mod SignedNodes
-pub mod LoneValley
-pub mod UnderSquare
-pub mod UnderLast
-pub mod SecondMoves
-pub mod SecondMoveExamples

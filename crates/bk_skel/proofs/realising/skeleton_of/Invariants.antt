@@ -1,5 +1,0 @@
-use Rattle.bk_skel.proofs.PlayedWord.{IsPlayedTo}
-use Rattle.bk_skel.proofs.realising.skeleton_of.Given as goal
-
-abbrev pub invariant-loop-i : goal.invariant-loop-i
-invariant-loop-i l = IsPlayedTo l.word l.i l.skel

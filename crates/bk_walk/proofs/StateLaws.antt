@@ -1,0 +1,116 @@
+-- What a search is after a step from where its next move is legal.
+use Rattle.std.proofs.Common.{[], ap, arith, length, min, subst, sym, take, ℕ, ◌++◌, ◌+◌, ◌-◌, ◌<◌, ◌^◌, ◌∙◌, ◌∷◌, ◌≡◌, ◌≤◌}
+use Rattle.bk_word.specs.Outline.{start}
+use Rattle.bk_word.specs.Play.{IsComplete, outline_of}
+use Rattle.bk_word.specs.Word.{Move, Word, order_of}
+use Rattle.bk_word.specs.declared.Class.{Class}
+use Rattle.bk_word.proofs.PlayLaws.{few_signs, legal-snoc}
+use Rattle.bk_word.proofs.StoredBytes.{order_one}
+use Rattle.bk_barren.specs.Cuts.{IsBarren}
+use Rattle.bk_tree.specs.NextMove.{first_move, move_after}
+use Rattle.bk_walk.specs.MoveCuts.{GrowsByAtMostOne, IsCut}
+use Rattle.bk_walk.specs.WholeWords.{HasNoMember}
+use Rattle.bk_walk.specs.Search.{IsKeptSearch, IsReady, IsSearchState, SearchState, StaysOf, StepLeadsTo, place_of}
+use Rattle.bk_walk.specs.declared.search.Went.TheVariants.{Complete, On}
+use Rattle.bk_walk.proofs.Standing.{step_cuts, step_goes_down, step_reaches, step_turns_back}
+
+-- the same order and class, where the search stands
+pub kept_of : (s : SearchState) (front : Word) (next : Move) (pushes : ℕ) → IsKeptSearch s → IsSearchState s.order front next → pushes < 2 ^ 64
+    → IsKeptSearch (record { order = s.order; class = s.class; front = front; next = next; pushes = pushes })
+kept_of s front next pushes kept stand known = record { least = kept.least; most = kept.most; stand = stand; known = known }
+
+-- nothing is pushed
+pub stays_none : (s then : SearchState) (steps : ℕ) → IsKeptSearch s → then.order ≡ s.order → then.class ≡ s.class → then.pushes ≡ s.pushes
+    → StaysOf s then steps steps
+stays_none s then steps kept order of_class pushes = record {
+  order = order;
+  class = of_class;
+  counts = record { more = omega arith; counted = omega (arith, pushes, kept.known) };
+}
+
+-- one move is pushed
+pub stays_one : (s then : SearchState) (steps steps_then : ℕ) → then.order ≡ s.order → then.class ≡ s.class → then.pushes ≡ min (s.pushes + 1) (2 ^ 64 - 1)
+    → steps_then ≡ steps + 1 → StaysOf s then steps steps_then
+stays_one s then steps steps_then order of_class pushes one = record {
+  order = order;
+  class = of_class;
+  counts = record { more = omega (arith, one); counted = omega (arith, pushes, one) };
+}
+
+module _ (s : SearchState) (kept : IsKeptSearch s) (ready : IsReady s) where
+  -- the next move has few squares and signs
+  pub count_few : s.next.count < 17
+  count_few = omega (arith, ready.few, kept.most)
+
+  pub signs_few : length s.next.signs ≤ 18
+  signs_few = omega (arith, ready.few, kept.most, few_signs (outline_of s.front) s.next ready.legal)
+
+  -- where it is pushed, the moves are a word of the tree
+  pub stand_down : IsSearchState s.order (s.front ++ s.next ∷ []) s.next
+  stand_down = record {
+    legal = legal-snoc start s.front s.next kept.stand.legal ready.legal;
+    small = omega (arith, ready.few, order_one s.front s.next);
+    some = ready.legal.some;
+    count = kept.stand.count;
+    signs = kept.stand.signs;
+  }
+
+  -- over moves that are cut
+  pub leads_over : (next : Move) (steps : ℕ) → IsCut s.order s.class s.front s.next next → GrowsByAtMostOne s.next next
+      → StepLeadsTo s.order s.class (place_of s) s.front next (steps - steps) On
+  leads_over next steps cut near = step_cuts s.order s.class s.front s.next kept.most kept.stand ready.legal next (steps - steps) cut near ready.few (omega arith)
+
+  module _ (pushed : Word) (steps then : ℕ) (is : pushed ≡ s.front ++ s.next ∷ []) (one : then ≡ steps + 1) where
+    -- down and back, where no member's word begins so
+    pub leads_back : (popped : Word) (next : Move) → popped ≡ take (length pushed - 1) pushed → next ≡ move_after s.next → IsBarren s.order s.class pushed
+        → StepLeadsTo s.order s.class (place_of s) popped next (then - steps) On
+    leads_back popped next pop after barren = step_turns_back s.order s.class s.front s.next kept.most kept.stand ready.legal ready.few pushed is (then - steps)
+        (omega (arith, one)) popped next pop after barren
+
+    -- down, where the moves are no complete word of the order that a member has
+    pub leads_down : (next : Move) → next ≡ first_move → (IsComplete pushed → order_of pushed ≡ s.order → HasNoMember s.class pushed)
+        → StepLeadsTo s.order s.class (place_of s) pushed next (then - steps) On
+    leads_down next first none = step_goes_down s.order s.class s.front s.next kept.most kept.stand ready.legal ready.few pushed is (then - steps)
+        (omega (arith, one)) next first none
+
+    -- to a complete word
+    pub leads_to : (next : Move) → next ≡ first_move → IsComplete pushed → order_of pushed ≡ s.order
+        → StepLeadsTo s.order s.class (place_of s) pushed next (then - steps) Complete
+    leads_to next first whole order = (
+      step_reaches s.order s.class s.front s.next kept.most kept.stand ready.legal ready.few pushed is (then - steps) (omega (arith, one)),
+      whole,
+      order,
+      first,
+    )
+
+-- the state after the push of a move, which stays the next
+abbrev pub down_from : SearchState → Move → SearchState
+down_from s m = record { order = s.order; class = s.class; front = s.front ++ m ∷ []; next = m; pushes = min (s.pushes + 1) (2 ^ 64 - 1) }
+
+-- from there: back, on or to a complete word
+module _ (s t : SearchState) (kept : IsKeptSearch s) (ready : IsReady s) (m : Move) (steps then : ℕ) (is : t ≡ down_from s m) (same : m ≡ s.next)
+    (one : then ≡ steps + 1) where
+  front_is : t.front ≡ s.front ++ s.next ∷ []
+  front_is = ap (λ (u : SearchState). u.front) is ∙ ap (λ (k : Move). s.front ++ k ∷ []) same
+
+  order_is : t.order ≡ s.order
+  order_is = ap (λ (u : SearchState). u.order) is
+
+  pub walked_back : (popped : Word) (next : Move) → popped ≡ take (length t.front - 1) t.front → next ≡ move_after t.next → IsBarren t.order s.class t.front
+      → StepLeadsTo s.order s.class (place_of s) popped next (then - steps) On
+  walked_back popped next pop after barren = leads_back s kept ready t.front steps then front_is one popped next pop
+      (after ∙ ap move_after (ap (λ (u : SearchState). u.next) is ∙ same)) (subst (λ (n : ℕ). IsBarren n s.class t.front) order_is barren)
+
+  pub walked_down : (next : Move) → next ≡ first_move → (IsComplete t.front → order_of t.front ≡ t.order → HasNoMember t.class t.front)
+      → StepLeadsTo s.order s.class (place_of s) t.front next (then - steps) On
+  walked_down next first none = leads_down s kept ready t.front steps then front_is one next first
+      (λ whole order. subst (λ (k : Class). HasNoMember k t.front) (ap (λ (u : SearchState). u.class) is) (none whole (order ∙ sym order_is)))
+
+  pub walked_to : (next : Move) → next ≡ first_move → IsComplete t.front × (order_of t.front ≡ t.order)
+      → StepLeadsTo s.order s.class (place_of s) t.front next (then - steps) Complete
+  walked_to next first whole = leads_to s kept ready t.front steps then front_is one next first whole.0 (whole.1 ∙ order_is)
+
+-- no move is played
+pub stand_first : (n : ℕ) (front : Word) (next : Move) → front ≡ [] → next ≡ first_move → IsSearchState n front next
+stand_first n front next e f = subst (λ (w : Word). IsSearchState n w next) (sym e) (subst (IsSearchState n []) (sym f)
+    (record { legal = tt; small = omega arith; some = omega arith; count = omega arith; signs = omega arith }))

@@ -1,0 +1,128 @@
+use Rattle.std.proofs.Common.{[], ap, arith, rules, subst, sym, ℕ, ◌++◌, ◌-◌, ◌∙◌, ◌∷◌, ◌≡◌}
+use Rattle.bk_word.specs.Play.{outline_of}
+use Rattle.bk_word.specs.Word.{Move}
+use Rattle.bk_tree.specs.NextMove.{fitted, open_sides}
+use Rattle.bk_walk.specs.Leaping.{IsNextFrom}
+use Rattle.bk_walk.specs.Search.{IsReady, SearchState, StepLeadsTo, place_of}
+use Rattle.bk_walk.specs.declared.search.Went.TheVariants.{End, Leapt, On}
+use Rattle.bk_walk.proofs.PlaceLaws.{ends_there, fitted_stand, step_from}
+use Rattle.bk_walk.proofs.Standing.{step_climbs, step_ends, step_least}
+use Rattle.bk_walk.proofs.StateLaws.{stand_first}
+use Rattle.bk_walk.proofs.search.Search.step.Goals as goal
+
+-- the least legal move is the one that fits
+least_fits : (n x : Move) (k j : ℕ) → n ≡ fitted k x → k ≡ j → n ≡ fitted j x
+least_fits n x k j e h = e ∙ ap (λ i. fitted i x) h
+
+pub invariant_of-self : goal.invariant_of-self
+invariant_of-self g c = record {
+  least = c.self.invariant.least;
+  most = c.self.invariant.most;
+  stand = (step_climbs c.self.inside.order c.self.inside.class c.self.inside.lined c.self.inside.next c.least_legal_from.new.m c.self.invariant.most
+      c.self.invariant.stand (least_fits c.least_legal_from.new.m c.self.inside.next c.open_sides.result (open_sides (outline_of c.self.inside.lined)) c.least_legal_from.ensures
+      c.open_sides.ensures.value) c.climb.new.lined c.climb.new.next (c.args.steps.now - c.args.steps.now) (c.climb.ensures.on c.if-climb.true)
+      (c.hangs_over.ensures.over c.if-hangs_over.true) (omega arith)).1;
+  known = c.self.invariant.known;
+}
+
+pub returns-then-climb-clause-leads : goal.returns-then-climb-clause-leads
+returns-then-climb-clause-leads g c = subst (λ (s : SearchState). StepLeadsTo s.order s.class (place_of s) c.climb.new.lined c.climb.new.next
+    (c.args.steps.now - c.args.steps.now) On) c.self.view_is (step_climbs c.self.inside.order c.self.inside.class c.self.inside.lined c.self.inside.next c.least_legal_from.new.m c.self.invariant.most
+    c.self.invariant.stand (least_fits c.least_legal_from.new.m c.self.inside.next c.open_sides.result (open_sides (outline_of c.self.inside.lined)) c.least_legal_from.ensures
+    c.open_sides.ensures.value) c.climb.new.lined c.climb.new.next (c.args.steps.now - c.args.steps.now) (c.climb.ensures.on c.if-climb.true)
+    (c.hangs_over.ensures.over c.if-hangs_over.true) (omega arith))
+
+pub invariant_of-self-then-hangs_over : goal.invariant_of-self-then-hangs_over
+invariant_of-self-then-hangs_over g c = record {
+  least = c.self.invariant.least;
+  most = c.self.invariant.most;
+  stand = stand_first c.self.inside.order c.climb.new.lined c.begin_anew.new.m (c.climb.ensures.kept c.if-climb.false) c.begin_anew.ensures;
+  known = c.self.invariant.known;
+}
+
+pub returns-then-hangs_over-clause-leads : goal.returns-then-hangs_over-clause-leads
+returns-then-hangs_over-clause-leads g c = subst (λ (s : SearchState). StepLeadsTo s.order s.class (place_of s) c.climb.new.lined c.begin_anew.new.m
+    (c.args.steps.now - c.args.steps.now) End) c.self.view_is (
+      step_ends c.self.inside.order c.self.inside.class c.self.inside.lined c.self.inside.next c.least_legal_from.new.m c.self.invariant.most
+          c.self.invariant.stand (least_fits c.least_legal_from.new.m c.self.inside.next c.open_sides.result (open_sides (outline_of c.self.inside.lined)) c.least_legal_from.ensures
+          c.open_sides.ensures.value) (c.args.steps.now - c.args.steps.now) (c.climb.ensures.end c.if-climb.false)
+          (c.hangs_over.ensures.over c.if-hangs_over.true) (omega arith),
+      c.climb.ensures.kept c.if-climb.false,
+    )
+
+pub invariant_of-self-else-hangs_over : goal.invariant_of-self-else-hangs_over
+invariant_of-self-else-hangs_over g c =
+    let least = step_least c.self.inside.order c.self.inside.lined c.self.inside.next c.least_legal_from.new.m c.self.invariant.stand
+    (least_fits c.least_legal_from.new.m c.self.inside.next c.open_sides.result (open_sides (outline_of c.self.inside.lined)) c.least_legal_from.ensures
+    c.open_sides.ensures.value) in
+    record {
+      least = c.self.invariant.least;
+      most = c.self.invariant.most;
+      stand = fitted_stand c.self.inside.order c.self.inside.class c.self.inside.lined c.self.inside.next c.least_legal_from.new.m least c.self.invariant.most
+          c.self.invariant.stand (c.hangs_over.ensures.few c.if-hangs_over.false);
+      known = c.self.invariant.known;
+    }
+
+pub ask-requires : goal.ask-requires
+ask-requires g c =
+    let least = step_least c.self.inside.order c.self.inside.lined c.self.inside.next c.least_legal_from.new.m c.self.invariant.stand
+    (least_fits c.least_legal_from.new.m c.self.inside.next c.open_sides.result (open_sides (outline_of c.self.inside.lined)) c.least_legal_from.ensures
+    c.open_sides.ensures.value) in
+    (search rules, record { legal = least.legal; few = c.hangs_over.ensures.few c.if-hangs_over.false })
+
+pub walk_on-requires : goal.walk_on-requires
+walk_on-requires g c =
+    let least = step_least c.self.inside.order c.self.inside.lined c.self.inside.next c.least_legal_from.new.m c.self.invariant.stand
+    (least_fits c.least_legal_from.new.m c.self.inside.next c.open_sides.result (open_sides (outline_of c.self.inside.lined)) c.least_legal_from.ensures
+    c.open_sides.ensures.value) in
+    (search rules, subst IsReady (sym c.in-Nothing.ensures.same) (record { legal = least.legal; few = c.hangs_over.ensures.few c.if-hangs_over.false }))
+
+pub leap-requires : goal.leap-requires
+leap-requires g c =
+    let least = step_least c.self.inside.order c.self.inside.lined c.self.inside.next c.least_legal_from.new.m c.self.invariant.stand
+    (least_fits c.least_legal_from.new.m c.self.inside.next c.open_sides.result (open_sides (outline_of c.self.inside.lined)) c.least_legal_from.ensures
+    c.open_sides.ensures.value) in (
+      search rules,
+      (
+        subst IsReady (sym c.in-Next.ensures.same) (record { legal = least.legal; few = c.hangs_over.ensures.few c.if-hangs_over.false }),
+        subst (λ (s : SearchState). IsNextFrom s.order s.class (place_of s) c.in-Next.number) (sym c.in-Next.ensures.same) c.in-Next.ensures.tells,
+      ),
+    )
+
+pub returns-in-Nothing-clause-leads : goal.returns-in-Nothing-clause-leads
+returns-in-Nothing-clause-leads g c =
+    let least = step_least c.self.inside.order c.self.inside.lined c.self.inside.next c.least_legal_from.new.m c.self.invariant.stand
+    (least_fits c.least_legal_from.new.m c.self.inside.next c.open_sides.result (open_sides (outline_of c.self.inside.lined)) c.least_legal_from.ensures
+    c.open_sides.ensures.value) in
+    subst (λ (s : SearchState). StepLeadsTo s.order s.class (place_of s) c.walk_on.new.self.front c.walk_on.new.self.next
+    (c.walk_on.new.steps - c.args.steps.now) c.walk_on.result) c.self.view_is
+    (step_from c.self.inside.order c.self.inside.class c.self.inside.lined c.self.inside.next c.least_legal_from.new.m least c.walk_on.new.self.front c.walk_on.new.self.next
+    (c.walk_on.new.steps - c.args.steps.now) c.walk_on.result
+    (subst (λ (s : SearchState). StepLeadsTo s.order s.class (place_of s) c.walk_on.new.self.front c.walk_on.new.self.next
+    (c.walk_on.new.steps - c.args.steps.now) c.walk_on.result) c.in-Nothing.ensures.same c.walk_on.ensures.leads))
+
+pub returns-in-Next-clause-leads : goal.returns-in-Next-clause-leads
+returns-in-Next-clause-leads g c =
+    let least = step_least c.self.inside.order c.self.inside.lined c.self.inside.next c.least_legal_from.new.m c.self.invariant.stand
+    (least_fits c.least_legal_from.new.m c.self.inside.next c.open_sides.result (open_sides (outline_of c.self.inside.lined)) c.least_legal_from.ensures
+    c.open_sides.ensures.value) in
+    subst (λ (s : SearchState). StepLeadsTo s.order s.class (place_of s) c.leap.new.self.front c.leap.new.self.next
+    (c.leap.new.steps - c.args.steps.now) Leapt) c.self.view_is
+    (step_from c.self.inside.order c.self.inside.class c.self.inside.lined c.self.inside.next c.least_legal_from.new.m least c.leap.new.self.front c.leap.new.self.next
+    (c.leap.new.steps - c.args.steps.now) Leapt
+    (subst (λ (s : SearchState). StepLeadsTo s.order s.class (place_of s) c.leap.new.self.front c.leap.new.self.next
+    (c.leap.new.steps - c.args.steps.now) Leapt) c.in-Next.ensures.same (c.leap.ensures.meets, c.leap.ensures.member)))
+
+pub returns-in-NoMore-clause-leads : goal.returns-in-NoMore-clause-leads
+returns-in-NoMore-clause-leads g c =
+    let least = step_least c.self.inside.order c.self.inside.lined c.self.inside.next c.least_legal_from.new.m c.self.invariant.stand
+    (least_fits c.least_legal_from.new.m c.self.inside.next c.open_sides.result (open_sides (outline_of c.self.inside.lined)) c.least_legal_from.ensures
+    c.open_sides.ensures.value) in
+    subst (λ (s : SearchState). StepLeadsTo s.order s.class (place_of s) c.new-self-inside.result c.self.inside.next
+    (c.args.steps.now - c.args.steps.now) End) c.self.view_is
+    (step_from c.self.inside.order c.self.inside.class c.self.inside.lined c.self.inside.next c.least_legal_from.new.m least c.new-self-inside.result c.self.inside.next
+    (c.args.steps.now - c.args.steps.now) End (
+      ends_there c.self.inside.order c.self.inside.class (c.self.inside.lined ++ c.least_legal_from.new.m ∷ []) (c.args.steps.now - c.args.steps.now)
+          c.in-NoMore.ensures.tells (omega arith),
+      c.new-self-inside.ensures,
+    ))

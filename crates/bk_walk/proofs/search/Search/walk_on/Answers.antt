@@ -1,0 +1,49 @@
+use Rattle.std.proofs.Common.{[], ap, subst, sym, ℕ, ◌++◌, ◌-◌, ◌∙◌, ◌∷◌}
+use Rattle.bk_walk.specs.Search.{IsReady, IsSearchState, SearchState, StepLeadsTo, place_of}
+use Rattle.bk_walk.specs.declared.search.Went.{Went}
+use Rattle.bk_walk.specs.declared.search.Went.TheVariants.{On}
+use Rattle.bk_walk.proofs.StateLaws.{leads_over, walked_back, walked_down, walked_to}
+use Rattle.bk_walk.proofs.search.Search.walk_on.Goals as goal
+use Rattle.bk_walk.proofs.search.Search.walk_on.Goals.{else-is_candidate, then-is_candidate}
+
+pub returns-then-skip-clause-leads : goal.returns-then-skip-clause-leads
+returns-then-skip-clause-leads g c = subst (λ (s : SearchState). StepLeadsTo s.order s.class (place_of s) c.self.inside.lined c.skip.new.m
+    (c.args.steps.now - c.args.steps.now) On) c.self.view_is
+    (leads_over _ c.self.invariant (subst IsReady (sym c.self.view_is) c.requires) c.skip.new.m c.args.steps.now (c.skip.ensures.cut c.if-skip.true)
+    c.skip.ensures.near)
+
+pub invariant_of-self-then-is_barren : goal.invariant_of-self-then-is_barren
+invariant_of-self-then-is_barren g c =
+    let leads = walked_back _ _ c.self.invariant (subst IsReady (sym c.self.view_is) c.requires) c.skip.new.m c.args.steps.now c.go_down.new.steps
+    (c.self-2.view_is ∙ c.go_down.ensures.state) (c.skip.ensures.kept c.if-skip.false) c.go_down.ensures.step c.pop.new.self c.next_move.new.m c.pop.ensures
+    c.next_move.ensures (c.is_barren.ensures c.if-is_barren.true c.self.inside.class) in
+    record {
+      least = c.self-2.invariant.least;
+      most = c.self-2.invariant.most;
+      stand = subst (λ (n : ℕ). IsSearchState n c.pop.new.self c.next_move.new.m)
+          (sym (ap (λ (s : SearchState). s.order) (c.self-2.view_is ∙ c.go_down.ensures.state))) leads.1;
+      known = c.self-2.invariant.known;
+    }
+
+pub returns-then-is_barren-clause-leads : goal.returns-then-is_barren-clause-leads
+returns-then-is_barren-clause-leads g c = subst (λ (s : SearchState). StepLeadsTo s.order s.class (place_of s) c.pop.new.self c.next_move.new.m
+    (c.go_down.new.steps - c.args.steps.now) On) c.self.view_is
+    (walked_back _ _ c.self.invariant (subst IsReady (sym c.self.view_is) c.requires) c.skip.new.m c.args.steps.now c.go_down.new.steps
+    (c.self-2.view_is ∙ c.go_down.ensures.state) (c.skip.ensures.kept c.if-skip.false) c.go_down.ensures.step c.pop.new.self c.next_move.new.m c.pop.ensures
+    c.next_move.ensures (c.is_barren.ensures c.if-is_barren.true c.self.inside.class))
+
+pub returns-clause-leads : goal.returns-clause-leads
+returns-clause-leads g c = subst (λ (s : SearchState). StepLeadsTo s.order s.class (place_of s) c.self-2.inside.lined c.begin_anew.new.m
+    (c.go_down.new.steps - c.args.steps.now) c.if-is_candidate.result) c.self.view_is
+    (elim c.if-is_candidate.branch [
+      | then-is_candidate w ↦ subst (λ (r : Went). StepLeadsTo c.self.inside.order c.self.inside.class (c.self.inside.lined ++ c.self.inside.next ∷ [])
+          c.self-2.inside.lined c.begin_anew.new.m (c.go_down.new.steps - c.args.steps.now) r) (sym w.result-is)
+          (walked_to _ _ c.self.invariant (subst IsReady (sym c.self.view_is) c.requires) c.skip.new.m c.args.steps.now c.go_down.new.steps
+          (c.self-2.view_is ∙ c.go_down.ensures.state) (c.skip.ensures.kept c.if-skip.false) c.go_down.ensures.step c.begin_anew.new.m
+          c.begin_anew.ensures (c.is_candidate.ensures.whole w.if-is_candidate.true))
+      | else-is_candidate w ↦ subst (λ (r : Went). StepLeadsTo c.self.inside.order c.self.inside.class (c.self.inside.lined ++ c.self.inside.next ∷ [])
+          c.self-2.inside.lined c.begin_anew.new.m (c.go_down.new.steps - c.args.steps.now) r) (sym w.result-is)
+          (walked_down _ _ c.self.invariant (subst IsReady (sym c.self.view_is) c.requires) c.skip.new.m c.args.steps.now c.go_down.new.steps
+          (c.self-2.view_is ∙ c.go_down.ensures.state) (c.skip.ensures.kept c.if-skip.false) c.go_down.ensures.step c.begin_anew.new.m
+          c.begin_anew.ensures (c.is_candidate.ensures.none w.if-is_candidate.false))
+    ])

@@ -1,0 +1,58 @@
+-- How a search goes on where a table of members stands: to the word of the least number that isn't before its place.
+use Rattle.std.specs.Prelude.{ℕ, ⊤, ◌++◌, ◌≡◌, ◌≤◌}
+use Rattle.bk_word.specs.Play.{IsLegal}
+use Rattle.bk_word.specs.Word.{Follows, Word, order_of}
+use Rattle.bk_word.specs.declared.Class.{Class}
+use Rattle.bk_catalogue.specs.Catalogue.{Entry, IsEntry}
+use Rattle.bk_packed.specs.Packed.{packed}
+use Rattle.bk_walk.specs.declared.tabled.Told.{Told}
+use Rattle.bk_walk.specs.declared.tabled.Told.TheVariants.{Next, NoMore, Nothing}
+
+-- the least number of a member's word that isn't below a number
+pub record IsLeastNumber (n : ℕ) (class : Class) (bound number : ℕ) : Type 0 where
+  pub entry : Entry
+  pub is : IsEntry n class entry
+  pub number_is : packed entry.word ≡ number
+  pub from : bound ≤ number
+  pub least : (other : Entry) → IsEntry n class other → bound ≤ packed other.word → number ≤ packed other.word
+
+-- what is told of the members whose numbers aren't below a number
+abbrev pub Tells : ℕ → Class → ℕ → Told → Type 0
+Tells n class bound (Next number) = IsLeastNumber n class bound number
+Tells n class bound NoMore = (e : Entry) → IsEntry n class e → bound ≤ packed e.word → ⊥
+Tells n class bound Nothing = ⊤
+
+-- the least word of a member that isn't before a place, by its number
+pub record IsNextFrom (n : ℕ) (class : Class) (place : Word) (number : ℕ) : Type 0 where
+  pub entry : Entry
+  pub is : IsEntry n class entry
+  pub number_is : packed entry.word ≡ number
+  pub from : Follows place entry.word → ⊥
+  pub least : (other : Entry) → IsEntry n class other → (Follows place other.word → ⊥) → Follows entry.word other.word → ⊥
+
+-- what is told of the words of members that aren't before a place
+abbrev pub TellsOfPlace : ℕ → Class → Word → Told → Type 0
+TellsOfPlace n class place (Next number) = IsNextFrom n class place number
+TellsOfPlace n class place NoMore = (e : Entry) → IsEntry n class e → (Follows place e.word → ⊥) → ⊥
+TellsOfPlace n class place Nothing = ⊤
+
+-- the number is that of a legal word of the order that begins with these moves
+pub record GoesToWord (n : ℕ) (front : Word) (number : ℕ) : Type 0 where
+  pub word : Word
+  pub rest : Word
+  pub is : word ≡ front ++ rest
+  pub legal : IsLegal word
+  pub order : order_of word ≡ n
+  pub number_is : packed word ≡ number
+
+-- it is that of these moves, a legal word of the order
+pub record IsAtNumber (n : ℕ) (front : Word) (number : ℕ) : Type 0 where
+  pub legal : IsLegal front
+  pub order : order_of front ≡ n
+  pub number_is : packed front ≡ number
+
+-- some member has this word
+pub record IsMembersWord (n : ℕ) (class : Class) (word : Word) : Type 0 where
+  pub entry : Entry
+  pub is : IsEntry n class entry
+  pub word_is : entry.word ≡ word
