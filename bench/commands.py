@@ -9,7 +9,7 @@ answers in a second of processor time.
 
 The inputs are made here, the same each time: the catalogues that PROGRAM lists, with their words and networks; codes of 200 squares in several
 shapes; words of 100 to 200 squares; random networks. An input is repeated until PROGRAM takes about S seconds of processor time for it, which are
-else 0.5. The times are the least of K runs, which are else 3. For `list` a line is a member; `list`, `alike`, `pair` and `verify` get their input
+by default 0.5. The times are the least of K runs, by default 3. For `list` a line is a member; `list`, `alike`, `pair` and `verify` get their input
 once. A command that a program doesn't know has the cell `-`.
 
 With --instructions callgrind counts the instructions a line, those of an empty input taken away, over a part of the input. It counts each byte of

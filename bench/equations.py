@@ -17,7 +17,7 @@ import re
 import subprocess
 import tempfile
 
-from taken import compiled, taken
+from resources import compiled, measured
 
 ORDERS = range(9, 14)
 
@@ -38,7 +38,7 @@ def searched(peak, programs, order, runs):
     least = [float("inf") for _ in programs]
     for _ in range(runs):
         for i, program in enumerate(programs):
-            run = taken(peak, [program, str(order)])
+            run = measured(peak, [program, str(order)])
             said = [int(word) for word in run.text.split()]
             if run.status != 0 or len(said) != 3 or said[0] != order:
                 raise SystemExit(f"{program} {order} gave status {run.status}: {run.text}")
@@ -58,7 +58,7 @@ def main():
     print("| order | moves pushed without | with | seconds without | with | instructions without | with | more |")
     print("|---|---|---|---|---|---|---|---|")
     with tempfile.TemporaryDirectory() as folder:
-        peak = compiled("peak", folder)
+        peak = compiled("peak_memory", folder)
         for order in ORDERS:
             runs = max(5, given.runs // 2 ** (order - 9))
             pushes, seconds = searched(peak, programs, order, runs)

@@ -3,9 +3,9 @@
 
     bench/groups.py [--order N] [--items K] PROGRAM
 
-PROGRAM is the built program, crates/bk_main/out/bk_main. The items are made here, K of each kind, which are else 16,384: the rectangle of 33 by 32
-again and again; rectangles of different sizes, each tiled by Euclid's algorithm on its width and height; and the codes of the catalogue of order N, else
-16, which bench/instead.c makes, compiled with gcc. Prints a markdown table: seconds of processor time, microseconds an item, the largest resident set less
+PROGRAM is the built program, crates/bk_main/out/bk_main. The items are made here, K of each kind, by default 16,384: the rectangle of 33 by 32
+again and again; rectangles of different sizes, each tiled by Euclid's algorithm on its width and height; and the codes of the catalogue of order N, by default
+16, which bench/planar_maps.c makes, compiled with gcc. Prints a markdown table: seconds of processor time, microseconds an item, the largest resident set less
 that of an empty input as bytes an item, and the last line. The time is the least of three runs, or of one that took more than 10 s.
 """
 import argparse
@@ -16,10 +16,10 @@ import sys
 import tempfile
 from math import gcd
 
-from taken import compiled, taken
+from resources import compiled, measured
 
 NINE = "[18,15][7,8][14,4][10,1][9]"
-# A run of more seconds is not taken again.
+# A run of more seconds isn't repeated.
 LONG = 10
 RUNS = 3
 
@@ -66,13 +66,13 @@ def code_of(squares):
 
 def catalogue(order, folder):
     """The codes of a catalogue, by the way through all planar maps."""
-    run = subprocess.run([compiled("instead", folder), str(order)], stdout=subprocess.PIPE, stderr=subprocess.DEVNULL, text=True, check=True)
+    run = subprocess.run([compiled("planar_maps", folder), str(order)], stdout=subprocess.PIPE, stderr=subprocess.DEVNULL, text=True, check=True)
     return [line.split(" ")[2] for line in run.stdout.splitlines()]
 
 
 def counted(peak, program, command, path):
     """What a run takes, which must end with status 0."""
-    run = taken(peak, [program, *command.split()], path)
+    run = measured(peak, [program, *command.split()], path)
     if run.status != 0:
         sys.exit(f"{command}: status {run.status}")
     return run
@@ -105,7 +105,7 @@ def main():
     print("| command | items | number | seconds | microseconds an item | bytes an item | last line |")
     print("|---|---|---|---|---|---|---|")
     with tempfile.TemporaryDirectory() as folder:
-        peak = compiled("peak", folder)
+        peak = compiled("peak_memory", folder)
         inputs = [
             (f"order {words.order}", catalogue(words.order, folder)),
             ("of different sizes", of_different_sizes(words.items)),

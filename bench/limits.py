@@ -4,18 +4,17 @@
     bench/limits.py [--order N] [--runs K] PROGRAM
 
 PROGRAM is the built program, crates/bk_main/out/bk_main. The entries are the first, a middle one and the last, and the last whose word begins
-with each count: after it the walk goes on with words of the next count, for which it makes a table of its own. The times are of the processor,
-the least of K runs, which take turns.
+with each number of squares at the top. The times are of the processor, the least of K runs, which take turns.
 """
 import argparse
 import tempfile
 
-from taken import compiled, taken
+from resources import compiled, measured
 
 
 def words_listed(peak, program, order):
     """The words of the members of an order, ascending."""
-    run = taken(peak, [program, "list", "--order", str(order)])
+    run = measured(peak, [program, "list", "--order", str(order)])
     if run.status != 0:
         raise SystemExit(f"{program} list --order {order}: status {run.status}")
     return [line.split(" ; ")[1] for line in run.text.splitlines() if not line.startswith(";")]
@@ -39,7 +38,7 @@ def places(words):
 
 def least(peak, commands, runs):
     """The least processor time of each command, run turn by turn."""
-    times = [[taken(peak, command).processor for command in commands] for _ in range(runs)]
+    times = [[measured(peak, command).processor for command in commands] for _ in range(runs)]
     return [min(its) for its in zip(*times)]
 
 
@@ -51,7 +50,7 @@ def main():
     parser.add_argument("--runs", type=int, default=5, metavar="K")
     given = parser.parse_args()
     with tempfile.TemporaryDirectory() as folder:
-        peak = compiled("peak", folder)
+        peak = compiled("peak_memory", folder)
         words = words_listed(peak, given.program, given.order)
         whole = [given.program, "list", "--order", str(given.order)]
         rows = [("the whole listing", whole), ("one, from the start", [*whole, "--limit", "1"])]

@@ -11,7 +11,7 @@ import statistics
 import tempfile
 
 from equations import counted
-from taken import compiled, taken
+from resources import compiled, measured
 
 
 def times_of(peak, commands, runs):
@@ -19,7 +19,7 @@ def times_of(peak, commands, runs):
     times = [[] for _ in commands]
     for _ in range(runs):
         for command, its in zip(commands, times):
-            run = taken(peak, command)
+            run = measured(peak, command)
             if run.status != 0:
                 raise SystemExit(f"{' '.join(command)}: status {run.status}")
             its.append(1000 * run.processor)
@@ -37,7 +37,7 @@ def main():
     print("| order | least before | after | median before | after | instructions before | after |")
     print("|---|---|---|---|---|---|---|")
     with tempfile.TemporaryDirectory() as folder:
-        peak = compiled("peak", folder)
+        peak = compiled("peak_memory", folder)
         for order in given.orders:
             commands = [[program, "list", "--order", str(order)] for program in (given.before, given.after)]
             before, after = times_of(peak, commands, given.runs)

@@ -11,7 +11,7 @@ import random
 import sys
 import tempfile
 
-from taken import compiled, taken
+from resources import compiled, measured
 
 
 def laid(code):
@@ -64,14 +64,14 @@ def main():
     program = sys.argv[1]
     order = sys.argv[2] if len(sys.argv) > 2 else "16"
     with tempfile.TemporaryDirectory() as folder:
-        peak = compiled("peak", folder)
-        listing = taken(peak, [program, "list", "--order", order])
+        peak = compiled("peak_memory", folder)
+        listing = measured(peak, [program, "list", "--order", order])
         codes = [line.split(" ")[2] for line in listing.text.splitlines() if not line.startswith(";")]
         with open(f"{folder}/lines", "w", encoding="utf-8") as file:
             file.writelines(f"{line}\n" for line in shuffled_images(codes))
-        verifying = taken(peak, [program, "verify", "--order", order], file.name)
-        checking = taken(peak, [program, "check"], file.name)
-        empty = taken(peak, [program, "verify", "--order", order])
+        verifying = measured(peak, [program, "verify", "--order", order], file.name)
+        checking = measured(peak, [program, "check"], file.name)
+        empty = measured(peak, [program, "verify", "--order", order])
     memory = 1024 * (verifying.kilobytes - empty.kilobytes) / max(1, len(codes))
     print(f"list --order {order}: {listing.processor:.2f} s, {len(codes)} members")
     print(f"check of {8 * len(codes)} lines: {checking.processor:.2f} s")

@@ -2,10 +2,14 @@
 """Proves and builds the program `bouwkamp`: each crate that it stands on after those below, as many side by side as there are processors and
 memory.
 
-Each crate is proved from nothing, by the prover's own command, over the libraries of the crates below, by more processes the fewer crates are at
-work; that on which the most stands above it has a second one, and goes before the others. What is proved stays as a library in the crate's folder
-out/rlib/, with a sum of all that it was made from, so a build that was stopped goes on where it was. Says on standard error which crates are being
-proved, how many are done and how long it has taken. The status is 0 where the program stands in crates/bk_main/out/bk_main.
+Contents decide what is done, and not times: the program and each library have a sum of all that they were made from, and one whose sum is still right
+is not made again. If the program is right already, nothing is said or done, and no toolchain is needed.
+
+Each crate is proved from nothing, by the prover's own command, over the libraries of the crates below. The fewer crates are at work, the more
+processes prove one; the crate with the longest chain above it has a second one, and goes before the others. What is proved stays as a library in the
+crate's folder out/rlib/, so a build that was stopped goes on where it was. The program that is there stays until the new one takes its place. Standard
+error says which crates are being proved, how many are done and how long it has taken. The status is 0 if the program is in
+crates/bk_main/out/bk_main, made from what is there now.
 
     scripts/build.py [--jobs N]
 """
@@ -19,16 +23,17 @@ import threading
 import time
 from concurrent.futures import FIRST_COMPLETED, ThreadPoolExecutor, wait
 
-TOP = os.path.dirname(os.path.dirname(os.path.abspath(__file__)))
+from sources import LINES_A_SECOND, PARTS, TOP, files_of, lines_of, named_by_crate, work_of
+
 NAME = "bk_main"
 OUT = f"{TOP}/crates/{NAME}/out"
+PROGRAM = f"{OUT}/{NAME}"
 LOG = f"{OUT}/build.log"
+# The sum of what the program was made from with its own, and the identity of the toolchain that made it.
+MADE_FROM = f"{OUT}/made_from"
+MADE_BY = f"{OUT}/made_by"
 # What a check may hold in memory, in bytes: with less free, fewer run side by side.
 MEMORY_OF_A_CHECK = 3_000_000_000
-# A line of code takes a processor about as long as so many lines of definitions and proofs.
-LINES_FOR_ONE_OF_CODE = 40
-# So many lines of definitions and proofs a processor proves in a second. For the time that is told at the start alone.
-LINES_A_SECOND = 240
 # After so many seconds without a crate that is done, a line says what is at work.
 QUIET = 30
 
@@ -45,13 +50,24 @@ def told(seconds):
     return f"{minutes} min {seconds:02} s" if minutes else f"{seconds} s"
 
 
+def bytes_of(path):
+    """Returns the bytes of a file, none if it isn't there."""
+    try:
+        with open(path, "rb") as file:
+            return file.read()
+    except OSError:
+        return b""
+
+
 class Toolchain:
     """Where the prover, its libraries and its linker lie, and what they are."""
 
     def __init__(self):
-        self.folder = os.path.dirname(os.path.dirname(os.path.realpath(shutil.which("rt") or "rt")))
-        with open(f"{self.folder}/KIT-ID", "rb") as file:
-            self.identity = file.read()
+        rt = shutil.which("rt")
+        self.is_there = rt is not None
+        self.folder = os.path.dirname(os.path.dirname(os.path.realpath(rt))) if rt else ""
+        # With no toolchain on the PATH the program that is there may still be right: then that which made it is asked about.
+        self.identity = bytes_of(f"{self.folder}/KIT-ID" if rt else MADE_BY)
 
     def library(self, name):
         """Returns where a library of the toolchain lies."""
@@ -90,14 +106,11 @@ class Crate:
         self.chain = 0
 
     def read(self, toolchain):
-        """Tells how much work it is to prove the crate, in lines of definitions and proofs, and sums up all that its library is made from."""
-        found = hashlib.sha256(toolchain.identity + repr([(it.name, it.sum) for it in self.named]).encode())
-        walked = [os.walk(f"{self.folder}/{part}") for part in ("src", "specs", "proofs")]
-        for file in sorted(f"{folder}/{it}" for part in walked for folder, _, names in part for it in names):
-            with open(file, "rb") as it:
-                text = it.read()
-            found.update(repr((os.path.relpath(file, self.folder), text)).encode())
-            self.work += text.count(b"\n") * (LINES_FOR_ONE_OF_CODE if file.endswith(".rt") else 1)
+        """Finds how much work it is to prove the crate, in lines of definitions and proofs, and the sum of all that its library is made from."""
+        found = hashlib.sha256(toolchain.identity + repr(([(it.name, it.sum) for it in self.named], self.of_toolchain)).encode())
+        for file in sorted(it for part in PARTS for it in files_of(self.name, *part)):
+            found.update(repr((file, bytes_of(f"{TOP}/{file}"))).encode())
+        self.work = work_of(*lines_of(self.name))
         self.sum = found.hexdigest()
 
     def kept(self):
@@ -105,18 +118,12 @@ class Crate:
         return f"{self.folder}/out/rlib/made_from"
 
     def is_proved(self):
-        """Returns whether the library stands there, made from what stands there now."""
-        try:
-            with open(self.kept(), encoding="utf-8") as file:
-                return os.path.isdir(self.library) and file.read() == self.sum
-        except OSError:
-            return False
+        """Returns whether the library is there, made from what is there now."""
+        return os.path.isdir(self.library) and bytes_of(self.kept()).decode() == self.sum
 
     def prove(self, toolchain, jobs, waits):
-        """Proves the crate over the libraries below it, by so many processes, which let others go first where they are said to wait. Returns whether
+        """Proves the crate over the libraries below it, by so many processes, which let others go first if they are said to wait. Returns whether
         it passed, and what was printed."""
-        if self.is_proved():
-            return True, "proved before\n"
         shutil.rmtree(os.path.dirname(self.library), ignore_errors=True)
         os.makedirs(os.path.dirname(self.library))
         passed, text = ran(toolchain.build(self, jobs, "--statements", "-o", self.library), self.folder, waits)
@@ -127,7 +134,7 @@ class Crate:
 
 
 def ran(command, folder, waits=False):
-    """Runs a command, which lets others go first where it is said to wait. Returns whether its status is 0, and what it printed."""
+    """Runs a command, which lets others go first if it is said to wait. Returns whether its status is 0, and what it printed."""
     how = {"cwd": folder, "stdin": subprocess.DEVNULL, "stdout": subprocess.PIPE, "stderr": subprocess.STDOUT}
     done = subprocess.run(["nice", "-n", "10" if waits else "0", *command], text=True, errors="replace", check=False, **how)
     return done.returncode == 0, done.stdout
@@ -135,10 +142,7 @@ def ran(command, folder, waits=False):
 
 def read_crates(toolchain):
     """Returns the crates that the program stands on, the lowest first, and the program last."""
-    with open(f"{TOP}/crates.txt", encoding="utf-8") as file:
-        lines = [line.partition("#")[0].partition(":") for line in file]
-    listed = {front.split()[0]: rest.split() for front, _, rest in lines if front.split()}
-    found = {}
+    listed, found = named_by_crate(), {}
 
     def add(name):
         ours = [it for it in listed[name] if it in listed]
@@ -156,7 +160,7 @@ def read_crates(toolchain):
 
 
 class Progress:
-    """What is told on standard error: a line for each crate that is done, and now and then what is at work."""
+    """What is said on standard error: a line for each crate that is done, and now and then what is at work."""
 
     def __init__(self, count):
         self.began, self.count, self.done, self.last, self.ended = time.monotonic(), count, 0, time.monotonic(), threading.Event()
@@ -184,15 +188,17 @@ class Progress:
 
 
 def processes(jobs, crates, is_longest):
-    """Returns by how many processes a crate is proved where so many are at work. With a second one it is sooner done, but takes half as much time again
-    in all; so where all processors are taken only the crate with the longest chain above it has one."""
+    """Returns by how many processes a crate is proved while so many are at work. With a second one it is sooner done, but takes half as much time again
+    in all; so if all processors are taken only the crate with the longest chain above it has one."""
     return max(min(2 if is_longest else 1, jobs), jobs // crates)
 
 
 def prove(crates, toolchain, jobs, log, progress):
-    """Proves these crates, so many side by side, each after those below it, and first those with the longest chains above. Returns whether
-    all passed."""
-    waiting, proved, running = sorted(crates, key=lambda it: -it.chain), set(), {}
+    """Proves those of these crates that aren't proved yet, so many side by side, each after those below it, and first those with the longest chains
+    above. Returns whether all passed."""
+    proved, running = {it for it in crates if it.is_proved()}, {}
+    waiting = sorted(proved.symmetric_difference(crates), key=lambda it: -it.chain)
+    progress.done = len(proved)
     with ThreadPoolExecutor(jobs) as pool:
         while True:
             ready = [it for it in waiting if proved.issuperset(it.named)][: jobs - len(running)]
@@ -214,26 +220,37 @@ def prove(crates, toolchain, jobs, log, progress):
                 progress.is_done(crate.name, is_proved)
 
 
+def made_from(program):
+    """Returns the sum of all that the program is made from, and that of the program that is there."""
+    return f"{program.sum} {hashlib.sha256(bytes_of(PROGRAM)).hexdigest()}"
+
+
+def is_built(program):
+    """Returns whether the program is there, made from what is there now, and nobody put another in its place."""
+    return os.access(PROGRAM, os.X_OK) and bytes_of(MADE_FROM).decode() == made_from(program)
+
+
 def build(program, toolchain, jobs, log):
-    """Proves the program by so many processes, builds and links it. Returns whether it stands there."""
-    made = f"{OUT}/{NAME}.o"
+    """Proves the program by so many processes, builds and links it, and puts it in the place of the one before. Returns whether that was done."""
+    made, new = f"{PROGRAM}.o", f"{PROGRAM}.new"
     for command in (
         toolchain.build(program, jobs, "--toolchain", f"{toolchain.folder}/toolchain", "-o", made),
-        toolchain.link(made, f"{OUT}/{NAME}"),
+        toolchain.link(made, new),
     ):
         passed, text = ran(command, program.folder)
         log.write(text)
         if not passed:
             return False
-    return os.access(f"{OUT}/{NAME}", os.X_OK)
+    os.replace(new, PROGRAM)
+    for path, text in ((MADE_BY, toolchain.identity), (MADE_FROM, made_from(program).encode())):
+        with open(path, "wb") as file:
+            file.write(text)
+    return is_built(program)
 
 
-def main(words):
-    toolchain = Toolchain()
-    *crates, program = read_crates(toolchain)
-    jobs = int(words[1]) if words[:1] == ["--jobs"] else len(os.sched_getaffinity(0))
-    jobs = max(1, min(jobs, free_memory() // MEMORY_OF_A_CHECK))
-    left = sum(it.work for it in crates if not it.is_proved())
+def prove_and_build(crates, program, toolchain, jobs):
+    """Proves the crates and the program, and builds it. Returns whether all passed; what the prover printed is in the log."""
+    left = sum(it.work for it in (*crates, program) if not it.is_proved())
     progress = Progress(len(crates))
     progress.tell(
         f"proving and building the program, {len(crates)} crates on {jobs} processor{'s' * (jobs > 1)}: "
@@ -242,14 +259,27 @@ def main(words):
     with open(LOG, "w", encoding="utf-8") as log:
         if not prove(crates, toolchain, jobs, log, progress):
             progress.tell(f"not all crates are proved; what the checks printed is in {LOG}")
-            return 1
+            return False
         progress.tell(f"all crates are proved, now the program is built ({progress.so_far()})")
         if not build(program, toolchain, jobs, log):
             progress.tell(f"the build failed; what it printed is in {LOG}")
-            return 1
+            return False
     progress.ended.set()
     progress.tell(f"the program is built ({progress.so_far()})")
-    return 0
+    return True
+
+
+def main(words):
+    toolchain = Toolchain()
+    *crates, program = read_crates(toolchain)
+    if is_built(program):
+        return 0
+    if not toolchain.is_there:
+        print("bouwkamp: the program isn't built from what is here, and there is no `rt` on the PATH to build it with", file=sys.stderr)
+        return 1
+    jobs = int(words[1]) if words[:1] == ["--jobs"] else len(os.sched_getaffinity(0))
+    jobs = max(1, min(jobs, free_memory() // MEMORY_OF_A_CHECK))
+    return 0 if prove_and_build(crates, program, toolchain, jobs) else 1
 
 
 if __name__ == "__main__":

@@ -1,40 +1,310 @@
 #!/usr/bin/env python3
-"""Looks up each file and crate that README.md and docs/ name between backticks, and prints those that aren't there.
+"""Compares README.md, docs/, bench/ and examples/ with the sources and with what the built program says.
 
-    scripts/check_docs.py
+- Each example is run: a line `$ COMMAND` of an indented block, with what is below it as its output; each row of the tables of commands, of refusals
+  and of notations; and each line of the block in examples/README.md, which prints nothing if the stored answers are right.
+- Each crate, file, contract, lemma, definition and link that a page names must be there.
+- The inventories of README.md and docs/ARCHITECTURE.md have a row for each crate of crates.txt, in its group.
+- The tables that are made from the sources, docs/DEFINITIONS.md and the costs in docs/WORKING.md, are as they would be made now.
+- No line is wider than 120 columns, but for those of tables.
+
+Prints what differs; the status is 1 if anything does. With --write the tables are made anew first.
+
+    scripts/check_docs.py [--write] [PROGRAM]
+
+PROGRAM is the built program, by default crates/bk_main/out/bk_main.
 """
+import functools
 import os
 import re
+import subprocess
 import sys
+import tempfile
 
-TOP = os.path.dirname(os.path.dirname(os.path.abspath(__file__)))
+from sources import LINES_A_SECOND, PARTS, TOP, above, files_of, groups, lines_of, named_by_crate, text_of, work_of
+
+WIDEST = 120
+# An example that takes longer is a fault.
+SECONDS = 120
+ITEM = r"\b(?:fn|struct|enum|trait|const|type|mod)\s+{0}\b|^\s*{0}\s*[,({{]"
 
 
 def pages():
-    return [f"{TOP}/README.md", *(f"{TOP}/docs/{it}" for it in sorted(os.listdir(f"{TOP}/docs")) if it.endswith(".md"))]
+    """Returns the documents, by their paths from the top of the repository."""
+    inner = [f"{it}/{name}" for it in ("docs", "bench", "examples") for name in sorted(os.listdir(f"{TOP}/{it}"))]
+    return ["README.md", *(it for it in inner if it.endswith(".md"))]
 
 
-def is_there(name):
-    """Whether a name such as bk_lay/proofs/Steps or bk_net/specs/Flow.antt is that of a file or a folder of a crate."""
-    path = f"{TOP}/crates/{name}"
-    return any(os.path.exists(path + it) for it in ("", ".antt", ".rt"))
+def without_blocks(text):
+    """Returns the text without its indented and fenced blocks, whose lines are left empty."""
+    kept, is_fenced = [], False
+    for line in text.split("\n"):
+        is_fence = line.startswith("```")
+        is_fenced ^= is_fence
+        kept.append("" if is_fenced or is_fence or line.startswith("    ") else line)
+    return "\n".join(kept)
 
 
-def missing(text):
-    for name in re.findall(r"`(bk_\w+(?:/[\w.]+)*)(?:::\w+)*`", text):
-        if not is_there(name):
-            yield name
-    for name in re.findall(r"\]\(([\w./]+\.md)\)", text):
-        if not any(os.path.exists(f"{TOP}/{folder}{name}") for folder in ("", "docs/")):
-            yield name
+# ---- examples
 
 
-def main():
-    found = [(page, name) for page in pages() for name in missing(open(page, encoding="utf-8").read())]
-    for page, name in found:
-        print(f"{os.path.relpath(page, TOP)}: {name} isn't there")
+class Runner:
+    """Runs commands of a page, one after another, in a folder of its own, in which ./bouwkamp is the program."""
+
+    def __init__(self, program, folder):
+        self.folder, self.assigned = folder, []
+        os.symlink(os.path.abspath(program), f"{folder}/bouwkamp")
+        for name in ("examples", "bench", "scripts", "docs", "crates"):
+            os.symlink(f"{TOP}/{name}", f"{folder}/{name}")
+
+    def says(self, command, text=""):
+        """Returns what a command prints over this input. What an assignment sets is set for all later commands."""
+        if re.fullmatch(r"[A-Z]\w*=\S+", command):
+            self.assigned.append(command)
+            return ""
+        words = ["bash", "-c", "\n".join([*self.assigned, command])]
+        ran = subprocess.run(
+            words, cwd=self.folder, input=text, stdout=subprocess.PIPE, stderr=subprocess.STDOUT, text=True, timeout=SECONDS, check=False
+        )
+        return ran.stdout
+
+
+def blocks(text):
+    """Returns the commands of a page with what is said to be their output."""
+    found, lines = [], text.split("\n")
+    for at, line in enumerate(lines):
+        if line.startswith("    $ "):
+            behind = lines[at + 1 :]
+            last = next((k for k, it in enumerate(behind) if not it.startswith("    ") or it.startswith("    $ ")), len(behind))
+            found.append((line[6:], "".join(f"{it[4:]}\n" for it in behind[:last])))
+    return found
+
+
+def rows(text, header):
+    """Returns the cells of each row of the table with this header."""
+    _, is_there, rest = text.partition(f"{header}\n")
+    found = []
+    for line in rest.split("\n")[1:] if is_there else []:
+        if not line.startswith("|"):
+            break
+        found.append([it.strip() for it in line.strip("|").split("|")])
+    return found
+
+
+def table_examples(text):
+    """Returns the examples of README's tables: the command, the line, and what it answers."""
+    command = None
+    for name, _, line, answer in rows(text, "| command | what it answers | line | answer |"):
+        command = name.strip("`") or command
+        if answer.endswith("`"):
+            yield command, line.strip("`"), answer.strip("`")
+    for _, when, example in rows(text, "| text | when | example |"):
+        named = re.match(r"`(\w+)`", when)
+        shown = re.fullmatch(r"`(.*)`: `(.*)`", example)
+        if shown:
+            yield named[1] if named else "check", shown[1], shown[2]
+
+
+def notations(text):
+    """Returns the rows of the table of notations in docs/RECIPES.md: an example, and the command that makes it readable."""
+    return [(command.strip("`"), example.strip("`")) for _, example, command in rows(text, "| notation | example | make it readable by |")]
+
+
+def stored_examples(text):
+    """Returns the commands of examples/README.md, which hold a command against a stored answer."""
+    return [line.strip() for line in text.split("\n") if line.startswith("    ./bouwkamp")]
+
+
+def wrong_examples(program):
+    """Says which examples differ from what the program says."""
+    for page in pages():
+        text = text_of(page)
+        with tempfile.TemporaryDirectory() as folder:
+            runner = Runner(program, folder)
+            wanted = [(command, output, "") for command, output in blocks(text)]
+            wanted += [(f"./bouwkamp {command}", f"{answer}\n", f"{line}\n") for command, line, answer in table_examples(text)]
+            if page == "examples/README.md":
+                wanted += [(command, "", "") for command in stored_examples(text)]
+                yield from (f"{page}: no line tries {it}" for it in untried(text))
+            for command, example in notations(text):
+                said = runner.says(f"{command} | ./bouwkamp check", f"{example}\n")
+                if not said.startswith("ok "):
+                    yield f"{page}: {command} makes {example} to what `check` answers by {said!r}"
+            for command, output, line in wanted:
+                said = runner.says(command, line)
+                if said != output:
+                    yield f"{page}: {command} {line.strip()}\n  is said to print: {output!r}\n  and prints: {said!r}"
+
+
+def untried(text):
+    """Returns the stored answers that no line of examples/README.md names."""
+    found = [f"{folder}/{it}" for folder, _, names in os.walk(f"{TOP}/examples") for it in names if it.endswith(".out")]
+    return sorted(it for it in (os.path.relpath(it, TOP) for it in found) if it not in text)
+
+
+# ---- names
+
+
+@functools.cache
+def identifiers():
+    """Returns all names in the sources, with those of files."""
+    found = set()
+    for crate in named_by_crate():
+        for path in (it for part in PARTS for it in files_of(crate, *part)):
+            found.update(re.findall(r"[A-Za-z_]\w*", text_of(path)), [os.path.basename(path).rpartition(".")[0]])
+    for folder in ("scripts", "bench"):
+        for name in os.listdir(f"{TOP}/{folder}"):
+            if name.endswith((".py", ".c")):
+                found.update(re.findall(r"[A-Za-z_]\w*", text_of(f"{folder}/{name}")))
+    return found
+
+
+def is_file(name):
+    """Whether a file or a folder of this name is there, from the top or among the crates, with its ending or without."""
+    return any(os.path.exists(f"{TOP}/{folder}{name}{ending}") for folder in ("", "crates/") for ending in ("", ".antt", ".rt"))
+
+
+@functools.cache
+def code_of(crate):
+    return "\n".join(text_of(it) for it in files_of(crate, "src", ".rt"))
+
+
+def is_item(name):
+    """Whether a name as bk_flow::solve or bk_walk::Walk::advance is that of an item of the crate."""
+    crate, *items = name.split("::")
+    return crate in named_by_crate() and all(re.search(ITEM.format(it), code_of(crate), re.MULTILINE) for it in items)
+
+
+def is_known(code):
+    """Whether what a page has between backticks is there, if it has the form of a name."""
+    code = code.removesuffix("()")
+    if re.fullmatch(r"bk_\w+", code):
+        return code in named_by_crate()
+    if re.fullmatch(r"(bk_\w+|crates|docs|bench|scripts|examples)/[\w./-]*", code):
+        return is_file(code) or "/out/" in code or "NAME" in code
+    if re.fullmatch(r"bk_\w+(::\w+)+", code):
+        return is_item(code)
+    if re.fullmatch(r"[A-Za-z]\w*(::\w+)*", code) and (re.search(r"[a-z0-9]_[a-z]|[a-z][A-Z]|::", code)):
+        return all(it in identifiers() for it in code.split("::"))
+    return True
+
+
+def anchors(page):
+    """Returns the anchors of a page's headings."""
+    heads = re.findall(r"^#+ (.*)$", text_of(page), re.MULTILINE)
+    return {re.sub(r"[^\w\- ]", "", it.lower()).replace(" ", "-") for it in heads}
+
+
+def is_link(page, target):
+    path, _, anchor = target.partition("#")
+    found = os.path.normpath(f"{os.path.dirname(page)}/{path}") if path else page
+    return os.path.exists(f"{TOP}/{found}") and (not anchor or anchor in anchors(found))
+
+
+def wrong_names():
+    """Says what the pages name that isn't there."""
+    for page in pages():
+        text = without_blocks(text_of(page))
+        yield from (f"{page}: `{it}` isn't there" for it in re.findall(r"`([^`\n]+)`", text) if not is_known(it))
+        links = re.findall(r"\]\(([^()\s]+)\)", text)
+        yield from (f"{page}: the link to {it} leads nowhere" for it in links if "://" not in it and not is_link(page, it))
+
+
+def wrong_inventories():
+    """Says which crates the inventories lack, have twice or have in another group."""
+    for page in ("README.md", "docs/ARCHITECTURE.md"):
+        found, group = {}, None
+        for line in text_of(page).split("\n"):
+            head = re.match(r"\| \*\*(.*?)\*\* \|", line)
+            group = head[1] if head else group
+            row = re.match(r"\| `(bk_\w+)` \|", line)
+            if row:
+                found.setdefault(row[1], []).append(group)
+        for wanted, crates in groups().items():
+            for crate in crates:
+                if len(found.get(crate, [])) != 1:
+                    yield f"{page}: {crate} has {len(found.get(crate, []))} rows"
+                elif wanted and found[crate] != [wanted]:
+                    yield f"{page}: {crate} is in {found[crate][0]}, and in {wanted} by crates.txt"
+
+
+def wide_lines():
+    for page in pages():
+        lines = text_of(page).split("\n")
+        yield from (f"{page}:{k}: {len(it)} columns" for k, it in enumerate(lines, 1) if len(it) > WIDEST and not it.startswith("|"))
+
+
+# ---- tables that are made
+
+
+def first_sentence(path):
+    """Returns the first sentence of the comment at the head of a file."""
+    head = []
+    for line in text_of(path).split("\n"):
+        if not line.startswith("--"):
+            break
+        head.append(line[2:].strip())
+    return re.split(r"(?<=[^.])\.(?:\s|$)", " ".join(head))[0]
+
+
+def definitions():
+    """Returns the table of the files that hold definitions."""
+    for group, crates in groups().items():
+        found = [(crate, it) for crate in crates for it in files_of(crate, "specs", ".antt") if not it.endswith("/Lib.antt")]
+        if group and found:
+            yield f"\n## {group}\n"
+        if found:
+            yield "\n| file | what it defines |\n|---|---|\n"
+        for crate, path in found:
+            yield f"| [`{crate}/specs/{os.path.basename(path)}`](../{path}) | {first_sentence(path)} |\n"
+
+
+def costs():
+    """Returns the table of what the proof of each crate costs, with that of the crates above it."""
+    stands = above()
+    seconds = {it: work_of(*lines_of(it)) / LINES_A_SECOND for it in stands}
+    yield "| crate | seconds | crates above | seconds with them |\n|---|---|---|---|\n"
+    for crate, found in stands.items():
+        yield f"| `{crate}` | {rounded(seconds[crate])} | {len(found)} | {rounded(seconds[crate] + sum(seconds[it] for it in found))} |\n"
+
+
+def rounded(seconds):
+    """Returns an estimate, to two digits."""
+    places = 10 ** max(0, len(str(round(seconds))) - 2)
+    return f"{round(seconds / places) * places:,}"
+
+
+MADE = {"definitions": ("docs/DEFINITIONS.md", definitions), "costs": ("docs/WORKING.md", costs)}
+
+
+def wrong_tables(is_written):
+    """Says which tables aren't as they would be made now; or makes them."""
+    for name, (page, make) in MADE.items():
+        text, begin, end = text_of(page), f"<!-- {name}: begin -->\n", f"<!-- {name}: end -->\n"
+        if begin not in text or end not in text:
+            yield f"{page}: the marks of the table of {name} aren't there"
+            continue
+        front, rest = text.split(begin)
+        table, back = rest.split(end)
+        made = "".join(make())
+        if made != table and is_written:
+            with open(f"{TOP}/{page}", "w", encoding="utf-8") as file:
+                file.write(front + begin + made + end + back)
+        elif made != table:
+            yield f"{page}: the table of {name} would be another now: scripts/check_docs.py --write"
+
+
+def main(words):
+    program = next((it for it in words if not it.startswith("--")), f"{TOP}/crates/bk_main/out/bk_main")
+    found = [*wrong_tables("--write" in words), *wrong_names(), *wrong_inventories(), *wide_lines()]
+    if os.access(program, os.X_OK):
+        found += wrong_examples(program)
+    else:
+        found.append(f"{program} isn't there, so no example was tried")
+    for it in found:
+        print(it)
     return 1 if found else 0
 
 
 if __name__ == "__main__":
-    sys.exit(main())
+    sys.exit(main(sys.argv[1:]))

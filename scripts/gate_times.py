@@ -1,7 +1,7 @@
 #!/usr/bin/env python3
-"""Runs the gate in one piece, and writes its times and the sizes of the crates into docs/GATE.md, between the two marks that stand there.
+"""Runs the gate in one piece, and writes its times and the sizes of the crates into docs/GATE.md, between the two marks there.
 
-Each run proves all from nothing: what a toolchain keeps of earlier runs isn't used (`--anew`, where the toolchain knows it). The status is the
+Each run proves all from nothing: what a toolchain keeps of earlier runs isn't used (`--anew`, if the toolchain knows it). The status is the
 gate's.
 
     scripts/gate_times.py
@@ -13,41 +13,16 @@ import subprocess
 import sys
 import time
 
-TOP = os.path.dirname(os.path.dirname(os.path.abspath(__file__)))
+from sources import PARTS, TOP, files_of, lines_of, named_by_crate, text_of
+
 PAGE = f"{TOP}/docs/GATE.md"
 BEGIN, END = "<!-- times: begin -->\n", "<!-- times: end -->\n"
 
 
-def crate_names():
-    with open(f"{TOP}/crates.txt", encoding="utf-8") as file:
-        lines = [line.partition("#")[0].partition(":")[0].split() for line in file]
-    return [words[0] for words in lines if words]
-
-
-def files_of(name, part, ending):
-    return [f"{folder}/{it}" for folder, _, found in os.walk(f"{TOP}/crates/{name}/{part}") for it in found if it.endswith(ending)]
-
-
-def lines_of(files):
-    count = 0
-    for it in files:
-        with open(it, "rb") as file:
-            count += sum(1 for _ in file)
-    return count
-
-
-def tests_of(name):
-    count = 0
-    for it in files_of(name, "src", ".rt"):
-        with open(it, encoding="utf-8") as file:
-            count += file.read().count("#[test]")
-    return count
-
-
 def sizes(name):
     """Returns the lines of code, of definitions and of proofs, and the numbers of edits and of tests."""
-    parts = [lines_of(files_of(name, *it)) for it in (("src", ".rt"), ("specs", ".antt"), ("proofs", ".antt"))]
-    return [*parts, len(files_of(name, "must-fail", ".edit")), tests_of(name)]
+    tests = sum(text_of(it).count("#[test]") for it in files_of(name, *PARTS[0]))
+    return [*lines_of(name), len(files_of(name, "must-fail", ".edit")), tests]
 
 
 def told_by(word):
@@ -81,11 +56,11 @@ def table(last, done, wall):
     yield from (f"    {it}\n" for it in last)
     yield "\n| crate | proved at | src | specs | proofs | edits | tests |\n|---|---|---|---|---|---|---|\n"
     total = [0] * 5
-    for name in crate_names():
+    for name in named_by_crate():
         of, at = sizes(name), done.get(name)
         total = [a + b for a, b in zip(total, of)]
         yield f"| `{name}` | {'' if at is None else f'{at:.0f} s'} | {' | '.join(map(str, of))} |\n"
-    yield f"| all {len(crate_names())} | | {' | '.join(map(str, total))} |\n"
+    yield f"| all {len(named_by_crate())} | | {' | '.join(map(str, total))} |\n"
 
 
 def main():

@@ -1,8 +1,9 @@
 /*
- * Runs a command, and writes into a file what it took: seconds of wall time, seconds of processor time, kilobytes of memory at the peak.
+ * Runs a command, and writes into a file what it took: seconds of wall time, of processor time and of user time, and kilobytes of memory at the
+ * peak.
  *
- *     gcc -O2 -o peak bench/peak.c
- *     ./peak FILE COMMAND WORD..
+ *     gcc -O2 -o peak_memory bench/peak_memory.c
+ *     ./peak_memory FILE COMMAND WORD..
  *
  * The status is that of the command. It stands in a small program of its own since the kernel counts the memory of the process that starts a
  * command for the command too.
@@ -42,7 +43,8 @@ int main(int count, char **words) {
     FILE *file = fopen(words[1], "w");
     if (file == NULL)
         return 70;
-    fprintf(file, "%.6f %.6f %ld\n", wall, seconds(used.ru_utime) + seconds(used.ru_stime), used.ru_maxrss);
+    double user = seconds(used.ru_utime);
+    fprintf(file, "%.6f %.6f %.6f %ld\n", wall, user + seconds(used.ru_stime), user, used.ru_maxrss);
     fclose(file);
     return WIFEXITED(status) ? WEXITSTATUS(status) : 71;
 }

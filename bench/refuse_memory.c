@@ -1,9 +1,9 @@
 /*
- * Refuses one growth of the memory of a program: the call of malloc or realloc of the number that REFUSED says, from 1, answers that there is no
- * memory; all others are passed on. Where the program ends, the number of its calls is written into the file that COUNTED names.
+ * Refuses one allocation of a program: the call of malloc or realloc of the number that REFUSED says, from 1, answers that there is no
+ * memory; all others are passed on. When the program ends, the number of its calls is written into the file that COUNTED names.
  *
- *     gcc -O2 -shared -fPIC -o refuse.so bench/refuse.c
- *     REFUSED=3 COUNTED=FILE LD_PRELOAD=./refuse.so PROGRAM WORD..
+ *     gcc -O2 -shared -fPIC -o refuse_memory.so bench/refuse_memory.c
+ *     REFUSED=3 COUNTED=FILE LD_PRELOAD=./refuse_memory.so PROGRAM WORD..
  */
 #define _GNU_SOURCE
 #include <errno.h>

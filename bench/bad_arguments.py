@@ -1,7 +1,7 @@
 #!/usr/bin/env python3
 """Runs the program with a word that isn't UTF-8, and says what it then does.
 
-    bench/no_words.py PROGRAM
+    bench/bad_arguments.py PROGRAM
 
 PROGRAM is the built program, crates/bk_main/out/bk_main. Such a word stands alone, first, or behind others; the input is a line that `check` answers.
 Prints a line for each run: the words, the status, and how many bytes were written on output and on errors. The status is 1 where it isn't 8 in each run

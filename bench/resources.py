@@ -1,4 +1,4 @@
-"""What a run of a command takes: time, and memory at the peak, by bench/peak.c."""
+"""What a run of a command takes: time, and memory at the peak, by bench/peak_memory.c."""
 import os
 import subprocess
 import tempfile
@@ -15,19 +15,20 @@ def compiled(name, folder):
 
 
 @dataclass
-class Taken:
-    """Seconds of wall and of processor time, kilobytes at the peak, the status, and what was written."""
+class Resources:
+    """Seconds of wall, of processor and of user time, kilobytes at the peak, the status, and what was written."""
 
     wall: float
     processor: float
+    user: float
     kilobytes: int
     status: int
     text: str
 
 
-def taken(peak, command, path=os.devnull):
-    """Runs a command over a file, where `peak` is bench/peak.c as it was compiled."""
+def measured(peak, command, path=os.devnull):
+    """Runs a command over a file, where `peak` is bench/peak_memory.c as it was compiled."""
     with open(path, "rb") as source, tempfile.NamedTemporaryFile("r") as told:
         run = subprocess.run([peak, told.name, *command], stdin=source, stdout=subprocess.PIPE, stderr=subprocess.DEVNULL, text=True, check=False)
-        wall, processor, kilobytes = told.read().split()
-    return Taken(float(wall), float(processor), int(kilobytes), run.returncode, run.stdout)
+        wall, processor, user, kilobytes = told.read().split()
+    return Resources(float(wall), float(processor), float(user), int(kilobytes), run.returncode, run.stdout)

@@ -1,17 +1,18 @@
 #!/usr/bin/env python3
-"""Refuses each growth of memory of `flow`, `solve`, `word`, `alike` and `verify` in turn, and says what the program then does; and counts those of the
-other commands, which take none.
+"""Refuses each allocation of `flow`, `solve`, `word`, `alike` and `verify` in turn, and says what the program then does; and counts those of the
+other commands, which make none.
 
-    bench/growths.py PROGRAM
+    bench/allocations.py PROGRAM
 
-PROGRAM is the built program, crates/bk_main/out/bk_main. Each command gets a line that it can answer without memory, or with what it has taken
-before, and then one that wants memory. bench/refuse.c, compiled with gcc, refuses the growth of one number, from 1 on, until no run asks for so many.
-Before the run itself the program takes memory for the words of its command line. Prints a line for each command and ending: the numbers of the refused
-growths, the status, and how many of the two answers stand written. The status is 1 where an ending is another than the one that is stated: status 6 and
-no answer, or those to the earlier lines alone.
+PROGRAM is the built program, crates/bk_main/out/bk_main. Each command gets a line that it can answer without memory, or with what it has already, and
+then one that needs memory. bench/refuse_memory.c, compiled with gcc, refuses the allocation of one number, from 1 on, until no run makes as many.
+Before the run itself the program allocates for its command line. Prints a line for each command and ending: the numbers of the refused allocations,
+the status, and how many of the two answers are written. The status is 1 if an ending isn't the stated one: status 6 and no answer, or those to the
+earlier lines only.
 
-Each other command is run to its end, and then its words with another first word, as long, which asks nothing (status 2): that run takes memory for the words
-alone. Prints a line for each command: the status, and the growths of both runs. The status is 1 where the first isn't 0, or the two numbers differ.
+Each other command is run to its end, and then its command line with another first word, as long, which is a usage error (status 2): that run
+allocates for the command line only. Prints a line for each command: the status, and the allocations of both runs. The status is 1 if the first isn't 0,
+or the two numbers differ.
 """
 import os
 import subprocess
@@ -22,7 +23,7 @@ HERE = os.path.dirname(os.path.abspath(__file__))
 NINE = "[18,15][7,8][14,4][10,1][9]"
 TOWER = "[1]" * 200
 LADDER = "101 " + " ".join(f"{node}-{node + 1} {node}-{node + 1}" for node in range(100))
-WANTS_MEMORY = 6
+OUT_OF_MEMORY = 6
 
 # Each command with its words, and two lines.
 COMMANDS = [
@@ -33,19 +34,19 @@ COMMANDS = [
     (["verify", "--order", "9"], ["[1", NINE]),
 ]
 
-# Each command that takes no memory, with its words, and its lines where it reads any.
-TAKE_NONE = [
+# Each command that needs no memory, with its words, and its lines if it reads any.
+NEED_NO_MEMORY = [
     *(([command], [NINE, TOWER]) for command in ("check", "canon", "images", "net", "dual", "draw")),
     (["list", "--order", "12", "--class", "simple"], []),
     (["list", "--order", "10", "--class", "simple", "--from", "2u.2aa", "--limit", "5"], []),
     (["trial", "--seed", "1", "--count", "20"], []),
     (["help"], []),
 ]
-ASKS_NOTHING = 2
+USAGE_ERROR = 2
 
 
 class Run:
-    """One run over two lines, with the growth of a number refused, or none at 0."""
+    """One run over two lines, with the allocation of one number refused, or none at 0."""
 
     def __init__(self, program, shim, folder, words, lines, refused):
         counted = f"{folder}/counted"
@@ -60,33 +61,33 @@ class Run:
         )
         self.status, self.text = ran.returncode, ran.stdout
         with open(counted, encoding="utf-8") as file:
-            self.growths = int(file.read())
+            self.allocations = int(file.read())
 
 
 def stands(text, answers):
-    """How many of the answers the text is, one after the other, or None where it is something else."""
+    """How many of the answers the text is, one after the other, or None if it is something else."""
     return next((count for count in range(len(answers) + 1) if text == "".join(answers[:count])), None)
 
 
 def endings(program, shim, folder, words, lines):
-    """The endings by the number of the refused growth: the status, and how many answers stand written."""
+    """The endings by the number of the refused allocation: the status, and how many answers are written."""
     whole = Run(program, shim, folder, words, lines, 0)
     first = Run(program, shim, folder, words, lines[:1], 0).text.splitlines(keepends=True)[:1]
     answers = [*first, whole.text[len("".join(first)) :]]
-    for refused in range(1, whole.growths + 1):
+    for refused in range(1, whole.allocations + 1):
         run = Run(program, shim, folder, words, lines, refused)
         yield refused, run.status, stands(run.text, answers)
 
 
 def print_endings(program, shim, folder):
-    """The table of the commands that take memory, and whether each ending is the one that is stated."""
+    """The table of the commands that need memory, and whether each ending is the stated one."""
     fine = True
-    print("| command | refused growths | status | answers written |\n|---|---|---|---|")
+    print("| command | refused allocations | status | answers written |\n|---|---|---|---|")
     for words, lines in COMMANDS:
         seen = {}
         for refused, status, count in endings(program, shim, folder, words, lines):
             seen.setdefault((status, count), []).append(refused)
-            fine = fine and status == WANTS_MEMORY and count in (0, 1)
+            fine = fine and status == OUT_OF_MEMORY and count in (0, 1)
         for (status, count), numbers in seen.items():
             span = f"{numbers[0]} to {numbers[-1]}" if len(numbers) > 1 else f"{numbers[0]}"
             print(f"| `{' '.join(words)}` | {span} | {status} | {'other text' if count is None else count} |")
@@ -94,14 +95,14 @@ def print_endings(program, shim, folder):
 
 
 def print_counts(program, shim, folder):
-    """The table of the commands that take no memory, and whether none has another growth than those for its words."""
+    """The table of the commands that need no memory, and whether none allocates more than for its command line."""
     fine = True
-    print("\n| command | status | growths | growths for the words alone |\n|---|---|---|---|")
-    for words, lines in TAKE_NONE:
+    print("\n| command | status | allocations | for the command line |\n|---|---|---|---|")
+    for words, lines in NEED_NO_MEMORY:
         run = Run(program, shim, folder, words, lines, 0)
         alone = Run(program, shim, folder, [words[0][:-1] + "x", *words[1:]], lines, 0)
-        fine = fine and run.status == 0 and alone.status == ASKS_NOTHING and run.growths == alone.growths
-        print(f"| `{' '.join(words)}` | {run.status} | {run.growths} | {alone.growths} |")
+        fine = fine and run.status == 0 and alone.status == USAGE_ERROR and run.allocations == alone.allocations
+        print(f"| `{' '.join(words)}` | {run.status} | {run.allocations} | {alone.allocations} |")
     return fine
 
 
@@ -110,8 +111,8 @@ def main(words):
         sys.exit(__doc__)
     program = os.path.abspath(words[0])
     with tempfile.TemporaryDirectory() as folder:
-        shim = f"{folder}/refuse.so"
-        subprocess.run(["gcc", "-O2", "-shared", "-fPIC", "-o", shim, f"{HERE}/refuse.c"], check=True)
+        shim = f"{folder}/refuse_memory.so"
+        subprocess.run(["gcc", "-O2", "-shared", "-fPIC", "-o", shim, f"{HERE}/refuse_memory.c"], check=True)
         tables = [print_endings(program, shim, folder), print_counts(program, shim, folder)]
     return 0 if all(tables) else 1
 

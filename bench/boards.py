@@ -1,0 +1,79 @@
+#!/usr/bin/env python3
+"""Counts the boards of the search by nets in `list` of an order: how often callgrind sees the search go on from one.
+
+    bench/boards.py [--function NAME] [--first N] [--last N] [--class CLASS] PROGRAM
+
+Runs `list` of PROGRAM, the built program crates/bk_main/out/bk_main, at the orders from 12 to 16, or those named, under callgrind (valgrind).
+Counted are all calls of the function NAME, by default `go_on` of bk_free_search: one for each board that the search comes to, the empty one and the
+whole words among them. Prints a markdown table: the order, the calls, and the instructions of the whole run. A function that the compiler puts into
+its callers can't be counted: then the script says which functions of the crates of the search were called, how often, and ends with 1. A program
+whose search has no `go_on` is counted by another one, as `bk_table::asking::stand_beside`, which is called at each board that isn't a whole word.
+"""
+import argparse
+import collections
+import re
+import subprocess
+import sys
+import tempfile
+
+# Where the search and what it calls are, in any program.
+SEARCH = re.compile(r"bk_(free_search|table|member_table|free_leaf|leaf)::")
+
+
+def called(command):
+    """Returns the number of calls of each function in the run of a command, and the number of instructions."""
+    with tempfile.NamedTemporaryFile("r") as told:
+        counting = ["valgrind", "--tool=callgrind", f"--callgrind-out-file={told.name}", *command]
+        run = subprocess.run(counting, stdout=subprocess.DEVNULL, stderr=subprocess.PIPE, text=True, check=False)
+        if run.returncode != 0:
+            sys.exit(f"{' '.join(counting)}: status {run.returncode}")
+        return calls_in(told), int(re.search(r"Collected : (\d+)", run.stderr)[1])
+
+
+def calls_in(lines):
+    """Returns the number of calls of each function that callgrind wrote. A function that calls itself has two names there, and one here."""
+    names, calls, callee = {}, collections.Counter(), None
+    for line in lines:
+        named = re.match(r"(c?fn)=\((\d+)\)(?: (.*))?", line)
+        if named and named[3]:
+            names[named[2]] = re.sub(r"'\d+$", "", named[3])
+        if named and named[1] == "cfn":
+            callee = named[2]
+        counted = re.match(r"calls=(\d+)", line)
+        if counted:
+            calls[names[callee]] += int(counted[1])
+    return calls
+
+
+def is_named(function, name):
+    """Whether a function of the program, as bk_x::y::T::f::<..>, has this name: its last words, or all."""
+    plain = re.sub(r"::<.*$", "", function)
+    return plain == name or plain.endswith(f"::{name}")
+
+
+def words():
+    parser = argparse.ArgumentParser(description=__doc__, formatter_class=argparse.RawDescriptionHelpFormatter)
+    parser.add_argument("program", metavar="PROGRAM")
+    parser.add_argument("--function", default="go_on", metavar="NAME")
+    parser.add_argument("--first", type=int, default=12, metavar="N")
+    parser.add_argument("--last", type=int, default=16, metavar="N")
+    parser.add_argument("--class", dest="kind", choices=["perfect", "imperfect", "simple"], default="perfect", metavar="CLASS")
+    return parser.parse_args()
+
+
+def main():
+    asked = words()
+    print(f"| order | calls of `{asked.function}` | instructions |\n|---|---|---|", flush=True)
+    for order in range(asked.first, asked.last + 1):
+        calls, instructions = called([asked.program, "list", "--order", str(order), "--class", asked.kind])
+        found = sum(number for function, number in calls.items() if is_named(function, asked.function))
+        if found == 0:
+            for function, number in calls.most_common():
+                if SEARCH.match(function):
+                    print(f"{function}: {number:,}", file=sys.stderr)
+            sys.exit(f"order {order}: no call of {asked.function}")
+        print(f"| {order} | {found:,} | {instructions:,} |", flush=True)
+
+
+if __name__ == "__main__":
+    main()

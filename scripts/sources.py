@@ -1,0 +1,70 @@
+"""The crates of the repository, as crates.txt and their folders show them: names, groups, what each stands on, and files."""
+import os
+
+TOP = os.path.dirname(os.path.dirname(os.path.abspath(__file__)))
+# The files of a crate, by folder and ending.
+PARTS = (("src", ".rt"), ("specs", ".antt"), ("proofs", ".antt"))
+# A line of code takes a processor about as long to prove as so many lines of definitions and proofs.
+LINES_FOR_ONE_OF_CODE = 40
+# So many lines of definitions and proofs a processor proves in a second: an estimate.
+LINES_A_SECOND = 240
+
+
+def text_of(path):
+    """Returns the text of a file, by its path from the top of the repository."""
+    with open(f"{TOP}/{path}", encoding="utf-8") as file:
+        return file.read()
+
+
+def named_by_crate():
+    """Returns for each crate of crates.txt, in its order, the names on its line: crates of the repository and of the toolchain."""
+    found = {}
+    for line in text_of("crates.txt").splitlines():
+        front, _, rest = line.partition("#")[0].partition(":")
+        if front.split():
+            found[front.split()[0]] = rest.split()
+    return found
+
+
+def groups():
+    """Returns the crates of each group; the comments in crates.txt name the groups."""
+    found, group = {}, None
+    for line in text_of("crates.txt").splitlines():
+        if line.startswith("# "):
+            group = line[2:]
+        elif line.strip() and not line.startswith("#"):
+            found.setdefault(group, []).append(line.split(":")[0].split()[0])
+    return found
+
+
+def above():
+    """Returns for each crate the crates that stand on it, whether directly or not."""
+    named = named_by_crate()
+    found = {name: set() for name in named}
+
+    def add(crate, name):
+        for below in named[name]:
+            if below in found and crate not in found[below]:
+                found[below].add(crate)
+                add(crate, below)
+
+    for name in named:
+        add(name, name)
+    return found
+
+
+def files_of(crate, part, ending):
+    """Returns the files of one part of a crate, by their paths from the top of the repository."""
+    folders = os.walk(f"{TOP}/crates/{crate}/{part}")
+    found = [f"{folder}/{it}" for folder, _, names in folders for it in names if it.endswith(ending)]
+    return sorted(os.path.relpath(it, TOP) for it in found)
+
+
+def lines_of(crate):
+    """Returns how many lines of code, of definitions and of proofs a crate has."""
+    return [sum(text_of(it).count("\n") for it in files_of(crate, *part)) for part in PARTS]
+
+
+def work_of(code, definitions, proofs):
+    """Returns how much work these lines are to prove, in lines of definitions and proofs."""
+    return code * LINES_FOR_ONE_OF_CODE + definitions + proofs
