@@ -100,7 +100,8 @@ fn walks<L: Ledger>(
     Ok(())
 }
 
-// A walk that asks tables pushes few moves more than it waits for: one that asks none pushes 29,818 at order 11 in the class perfect.
+// A walk that leaps pushes few moves more than it waits for, at most as many as the order for each member: one that makes no table pushes
+// 29,818 at order 11 in the class perfect.
 fn from_start<L: Ledger>(
     rt: &impl Abort,
     alloc: Global,
@@ -111,10 +112,10 @@ fn from_start<L: Ledger>(
 ) {
     let walk = walk_from_start(rt, alloc, order, class);
     let pushed = assert_walk(rt, walk, class, &Word::new(alloc), members, steps);
-    assert!(rt; pushed > PATIENCE && pushed < 2 * PATIENCE);
+    assert!(rt; pushed >= PATIENCE && pushed < 2 * PATIENCE);
 }
 
-// A table that has no room for all members says nothing past its greatest word, so the walk pushes more.
+// A table that has no room for all members says nothing past its greatest word, so the walk makes it anew from there.
 fn from_start_with_little_room<L: Ledger>(
     rt: &impl Abort,
     alloc: Global,
@@ -124,7 +125,7 @@ fn from_start_with_little_room<L: Ledger>(
 ) {
     let walk = walk_with_little_room(rt, alloc, order, Class::Perfect);
     let pushed = assert_walk(rt, walk, Class::Perfect, &Word::new(alloc), members, steps);
-    assert!(rt; pushed > 2 * PATIENCE);
+    assert!(rt; pushed >= PATIENCE && pushed < 2 * PATIENCE);
 }
 
 // So one walk begins inside a table, one at its last word.
