@@ -1,6 +1,7 @@
 -- Steps to the answer to an item.
-use Rattle.std.proofs.Common.{Err, List, None, Ok, Option, Result, Some, length, subst, sym, ℕ, ◌≡◌, ◌≤◌}
-use Rattle.std.specs.Prelude.{IfErr, IfOk}
+use Rattle.std.proofs.Common.{Bor, Err, List, None, Ok, Option, Result, Some, length, subst, sym, ℕ, ◌≡◌, ◌≤◌}
+use Rattle.std.specs.Option.{option_copied}
+use Rattle.std.specs.Prelude.{IfErr, IfOk, OnOk}
 use Rattle.bk_tiling.specs.Tiling.{IsTiling, Tiling}
 use Rattle.bk_profile.specs.declared.laying.Refusal.{Refusal}
 use Rattle.bk_report.specs.declared.refusal.Refused.{Refused}
@@ -9,11 +10,9 @@ use Rattle.bk_text.specs.CodeLine.{Flat, Item, Line, Skip}
 use Rattle.bk_text.specs.ReadLine.{IsFaultOf}
 use Rattle.bk_text.specs.declared.TextFault.{TextFault}
 use Rattle.bk_text.specs.declared.TextFault.TheVariants as faults
-use Rattle.bk_answer.specs.Item.{AllowsOrder, AllowsSize, HasItem, IsLaidBy, IsLaidItem, IsLaidLine, IsSize, IsStatedBy, laid_if, side_count}
+use Rattle.bk_answer.specs.Item.{AllowsOrder, AllowsSize, HasItem, IsLaidBy, IsLaidItem, IsLaidLine, IsSize, IsStatedBy, side_count}
 use Rattle.bk_answer.specs.Refusing.{IsItemRefused, IsLineRefused, IsNotLaid, no_line, not_laid, other_order, other_size, refused_for, refused_item}
 use Rattle.bk_answer.specs.Refusing.{refused_text, too_many}
-use Rattle.bk_answer.specs.declared.items.Laid.{Laid}
-use Rattle.bk_answer.specs.declared.items.Laid.TheVariants.{Nothing, OnDesk}
 use Rattle.bk_answer.proofs.OneAnswer.{order_is_sides}
 
 -- another order is stated than this number of sides
@@ -41,13 +40,11 @@ module _ (item : Line) (size : Option (ℕ × ℕ)) (t : Tiling) (laid : IsLaidB
     size_is = size_is s;
   }
 
-  pub laid_of_size : (r : Result Laid Refused) → IfOk r (λ some. (some ≡ OnDesk) × IsSize size t.width t.height)
-      → IfOk r (λ some. IsLaidItem item (laid_if some t))
-  laid_of_size (Ok OnDesk) h = stated h.1
-  laid_of_size (Ok Nothing) h = absurd (cc)
+  pub laid_of_size : (r : Result (Unit {0}) Refused) → OnOk r (IsSize size t.width t.height) → OnOk r (IsStatedBy item t)
+  laid_of_size (Ok done) h = stated h
   laid_of_size (Err f) h = tt
 
-  pub refused_of_size : (r : Result Laid Refused) → IfErr r (λ f. (f ≡ Size t.width t.height) × (IsSize size t.width t.height → ⊥))
+  pub refused_of_size : (r : Result (Unit {0}) Refused) → IfErr r (λ f. (f ≡ Size t.width t.height) × (IsSize size t.width t.height → ⊥))
       → IfErr r (IsItemRefused item)
   refused_of_size (Ok o) h = tt
   refused_of_size (Err f) h = subst (IsItemRefused item) (sym h.0) (other_size t allowed laid (λ s. h.1 (sized s)))
@@ -58,12 +55,12 @@ module _ (bytes : List ℕ) (item : Line) (has : HasItem bytes item) where
   line_laid None h = subst (HasItem bytes) h has
   line_laid (Some t) h = record { item = item; is_item = has; stated = h }
 
-  pub laid_of_item : (t : Tiling) (r : Result Laid Refused) → IfOk r (λ some. IsLaidItem item (laid_if some t))
-      → IfOk r (λ some. IsLaidLine bytes (laid_if some t))
-  laid_of_item t (Ok some) h = line_laid (laid_if some t) h
-  laid_of_item t (Err f) h = tt
+  pub laid_of_item : (r : Result (Option (Bor Tiling)) Refused) → IfOk r (λ laid. IsLaidItem item (option_copied laid))
+      → IfOk r (λ laid. IsLaidLine bytes (option_copied laid))
+  laid_of_item (Ok laid) h = line_laid (option_copied laid) h
+  laid_of_item (Err f) h = tt
 
-  pub refused_of_item : (r : Result Laid Refused) → IfErr r (IsItemRefused item) → IfErr r (IsLineRefused bytes)
+  pub refused_of_item : (r : Result (Option (Bor Tiling)) Refused) → IfErr r (IsItemRefused item) → IfErr r (IsLineRefused bytes)
   refused_of_item (Ok o) h = tt
   refused_of_item (Err f) h = refused_item item f has h
 

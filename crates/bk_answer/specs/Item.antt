@@ -6,8 +6,6 @@ use Rattle.bk_tiling.specs.Tiling.{Tiling, order}
 use Rattle.bk_profile.specs.Refused.{HasCode, HasFlat}
 use Rattle.bk_text.specs.CodeLine.{Flat, IsLine, Item, Line, Skip}
 use Rattle.bk_text.specs.ReadLine.{sides_of_line}
-use Rattle.bk_answer.specs.declared.items.Laid.{Laid}
-use Rattle.bk_answer.specs.declared.items.Laid.TheVariants.{Nothing, OnDesk}
 
 -- the number of sides
 abbrev pub side_count : Line → ℕ
@@ -62,8 +60,3 @@ IsLaidItem item (Some t) = IsStatedBy item t
 abbrev pub IsLaidLine : List ℕ → Option Tiling → Type 0
 IsLaidLine bytes None = HasItem bytes Skip
 IsLaidLine bytes (Some t) = HasTiling bytes t
-
--- the tiling on the desk, where one is laid
-abbrev pub laid_if : Laid → Tiling → Option Tiling
-laid_if Nothing t = None
-laid_if OnDesk t = Some t

@@ -9,7 +9,7 @@ ghost use Rattle.bk_answer.specs.Telling.{Tells};
 
 use crate::answer::{accepted, refuse};
 use crate::command::CodeCommand;
-use crate::items::{Desk, Laid, lay_at};
+use crate::items::{Desk, lay_line};
 use bk_grammar::AnswerBuffer;
 use bk_lay::word_of;
 use bk_lines::Outcome;
@@ -31,9 +31,9 @@ pub(crate) fn answer_by_word<O: Sink>(
         (O.written out.old) (O.written out.new) result }
     ensures cause { HasCause (O.faults out.old) (O.faults out.new) result }
 {
-    match lay_at(line, desk) {
-        Ok(Laid::OnDesk) => tell_word(alloc, &desk.tiling, buffer, out),
-        Ok(Laid::Nothing) => Ok(Outcome::Accepted),
+    match lay_line(line, desk) {
+        Ok(Some(tiling)) => tell_word(alloc, tiling, buffer, out),
+        Ok(None) => Ok(Outcome::Accepted),
         Err(refused) => refuse(refused, buffer, out),
     }
 }

@@ -1,11 +1,12 @@
 //! The tiling that a line of codes speaks of.
 
-ghost use Rattle.std.specs.Prelude.{IfErr, IfOk, IfSome, IsTrue, length, ◌<◌, ◌↔◌, ◌≡◌, ◌≤◌};
+ghost use Rattle.std.specs.Option.{option_copied};
+ghost use Rattle.std.specs.Prelude.{IfErr, IfOk, IfSome, IsTrue, OnOk, length, ◌<◌, ◌↔◌, ◌≡◌, ◌≤◌};
 ghost use Rattle.bk_text.specs.CodeLine.{Flat, Item};
 ghost use Rattle.bk_code.specs.Code.{flat};
 ghost use Rattle.bk_text.specs.Gathered.{line_gathered};
 ghost use Rattle.bk_text.specs.ReadLine.{IsInRange};
-ghost use Rattle.bk_answer.specs.Item.{IsLaidItem, IsLaidLine, IsSize, laid_if, side_count};
+ghost use Rattle.bk_answer.specs.Item.{IsLaidItem, IsLaidLine, IsSize, IsStatedBy, side_count};
 ghost use Rattle.bk_answer.specs.Refusing.{IsItemRefused, IsLineRefused, refused_for, refused_text};
 
 use bk_code::{Code, flat};
@@ -37,39 +38,11 @@ impl Desk {
     }
 }
 
-// What is laid at a desk for a line that isn't refused.
-#[derive(Clone, Copy, Debug, PartialEq, Eq)]
-pub(crate) enum Laid {
-    // The line has no item.
-    Nothing,
-    // The tiling that its item speaks of lies on the desk.
-    OnDesk,
-}
-
 /// The tiling that a line of codes speaks of, by Bouwkamp's notation (1946-47) or as a row of a table, or `None` where it has
-/// no item. It is refused exactly where no tiling has the code, the order and the size that it states, or it is no line of at
-/// most 8,192 bytes and 200 sides; the first cause is told.
-pub fn lay_line(line: &[u8]) -> Result<Option<Tiling>, Refused>
-    ensures laid { IfOk result (IsLaidLine line.now) }
-    ensures refused { IfErr result (IsLineRefused line.now) }
-{
-    let mut desk = Desk::new();
-    let laid = lay_at(line, &mut desk)?;
-    let Desk {
-        gatherer: _,
-        profile: _,
-        tiling,
-        room: _,
-    } = desk;
-    match laid {
-        Laid::OnDesk => Ok(Some(tiling)),
-        Laid::Nothing => Ok(None),
-    }
-}
-
-// Does what `lay_line` does at a desk, and leaves the tiling there.
-pub(crate) fn lay_at(line: &[u8], desk: &mut Desk) -> Result<Laid, Refused>
-    ensures laid { IfOk result (λ laid. IsLaidLine line.now (laid_if laid desk.new.tiling)) }
+/// no item. It is laid on the desk. A line is refused exactly where no tiling has the code, the order and the size that it
+/// states, or it is no line of at most 8,192 bytes and 200 sides; the first cause is told.
+pub fn lay_line<'a>(line: &[u8], desk: &'a mut Desk) -> Result<Option<&'a Tiling>, Refused>
+    ensures laid { IfOk result (λ laid. IsLaidLine line.now (option_copied laid)) }
     ensures refused { IfErr result (IsLineRefused line.now) }
 {
     if line.len() > LONGEST_LINE {
@@ -82,28 +55,34 @@ pub(crate) fn lay_at(line: &[u8], desk: &mut Desk) -> Result<Laid, Refused>
 }
 
 // Lays the item that was gathered at a desk.
-fn lay_item(ending: Ending, desk: &mut Desk) -> Result<Laid, Refused>
+fn lay_item(ending: Ending, desk: &mut Desk) -> Result<Option<&Tiling>, Refused>
     requires { IsInRange (line_gathered ending desk.old.gatherer) }
-    ensures laid { IfOk result (λ laid. IsLaidItem (line_gathered ending desk.old.gatherer) (laid_if laid desk.new.tiling)) }
+    ensures laid { IfOk result (λ laid. IsLaidItem (line_gathered ending desk.old.gatherer) (option_copied laid)) }
     ensures refused { IfErr result (IsItemRefused (line_gathered ending desk.old.gatherer)) }
     ensures few { side_count (line_gathered ending desk.old.gatherer) ≤ 200 }
 {
     match ending {
-        Ending::Empty => Ok(Laid::Nothing),
-        Ending::Coded(header) => lay_groups(
-            header.order,
-            header.size,
-            desk.gatherer.code(),
-            &mut desk.profile,
-            &mut desk.tiling,
-        ),
-        Ending::Row(table) => lay_row(
-            table.order,
-            (table.width, table.height),
-            desk.gatherer.sides(),
-            &mut desk.profile,
-            &mut desk.tiling,
-        ),
+        Ending::Empty => Ok(None),
+        Ending::Coded(header) => {
+            lay_groups(
+                header.order,
+                header.size,
+                desk.gatherer.code(),
+                &mut desk.profile,
+                &mut desk.tiling,
+            )?;
+            Ok(Some(&desk.tiling))
+        }
+        Ending::Row(table) => {
+            lay_row(
+                table.order,
+                (table.width, table.height),
+                desk.gatherer.sides(),
+                &mut desk.profile,
+                &mut desk.tiling,
+            )?;
+            Ok(Some(&desk.tiling))
+        }
     }
 }
 
@@ -114,9 +93,9 @@ fn lay_groups(
     code: &Code,
     profile: &mut Profile,
     tiling: &mut Tiling,
-) -> Result<Laid, Refused>
+) -> Result<(), Refused>
     requires { 0 < length code.now }
-    ensures laid { IfOk result (λ laid. IsLaidItem (Item order size code.now) (laid_if laid tiling.new)) }
+    ensures laid { OnOk result (IsStatedBy (Item order size code.now) tiling.new) }
     ensures refused { IfErr result (IsItemRefused (Item order size code.now)) }
     ensures few { length (flat code.now) ≤ 200 }
 {
@@ -137,9 +116,9 @@ fn lay_row(
     sides: &[u64],
     profile: &mut Profile,
     tiling: &mut Tiling,
-) -> Result<Laid, Refused>
+) -> Result<(), Refused>
     requires { IsInRange (Flat order size.0 size.1 sides.now) }
-    ensures laid { IfOk result (λ laid. IsLaidItem (Flat order size.0 size.1 sides.now) (laid_if laid tiling.new)) }
+    ensures laid { OnOk result (IsStatedBy (Flat order size.0 size.1 sides.now) tiling.new) }
     ensures refused { IfErr result (IsItemRefused (Flat order size.0 size.1 sides.now)) }
 {
     if !allows_order(Some(order), sides.len()) {
@@ -151,15 +130,15 @@ fn lay_row(
     }
 }
 
-// That there is a tiling, where no other size is stated.
-fn of_size(size: Option<(u64, u64)>, tiling: &Tiling) -> Result<Laid, Refused>
-    ensures laid { IfOk result (λ laid. (laid ≡ Laid.OnDesk) × IsSize size tiling.now.width tiling.now.height) }
+// Refuses a tiling where another size is stated.
+fn of_size(size: Option<(u64, u64)>, tiling: &Tiling) -> Result<(), Refused>
+    ensures sized { OnOk result (IsSize size tiling.now.width tiling.now.height) }
     ensures refused { IfErr result (λ r. (r ≡ Refused.Size tiling.now.width tiling.now.height)
         × (IsSize size tiling.now.width tiling.now.height → ⊥)) }
 {
     let (width, height) = (tiling.width(), tiling.height());
     if allows_size(size, width, height) {
-        Ok(Laid::OnDesk)
+        Ok(())
     } else {
         Err(Refused::Size { width, height })
     }

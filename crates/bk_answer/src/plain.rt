@@ -12,7 +12,7 @@ ghost use Rattle.bk_answer.specs.Telling.{Allows, Tells, WantsMemory};
 
 use crate::answer::{accepted, refuse};
 use crate::images_and_drawing::{write_drawing, write_images};
-use crate::items::{Desk, Laid, lay_at};
+use crate::items::{Desk, lay_line};
 use bk_draw::LARGEST_DRAWN;
 use bk_grammar::AnswerBuffer;
 use bk_lines::{Answerer, Outcome};
@@ -86,9 +86,9 @@ impl PlainCommand {
             (O.written out.old) (O.written out.new) result }
         ensures cause { HasCause (O.faults out.old) (O.faults out.new) result }
     {
-        match lay_at(line, desk) {
-            Ok(Laid::OnDesk) => self.answer_tiling(&desk.tiling, buffer, out),
-            Ok(Laid::Nothing) => Ok(Outcome::Accepted),
+        match lay_line(line, desk) {
+            Ok(Some(tiling)) => self.answer_tiling(tiling, buffer, out),
+            Ok(None) => Ok(Outcome::Accepted),
             Err(refused) => refuse(refused, buffer, out),
         }
     }

@@ -5,6 +5,7 @@ use arrayvec::ArrayVec;
 use bk_ports::MemSource;
 use std::alloc::{AllocError, Global};
 use std::process::Abort;
+use std::test::Fail;
 
 // A command, an input, and the answers.
 type Calls = (&'static str, &'static str, &'static [&'static str]);
@@ -129,8 +130,8 @@ fn stopped(
 }
 
 // Whether a command writes this where the write of this number fails, and ends with the status of a failed write.
-fn stops_so(alloc: Global, command: &str, input: &str, fails: u64, text: &[u8]) -> bool {
-    match stopped(alloc, command, input.as_bytes(), fails) {
+fn stops_so(alloc: Global, command: &str, input: &[u8], fails: u64, text: &[u8]) -> bool {
+    match stopped(alloc, command, input, fails) {
         Ok((status, got)) => status == 4 && got.as_slice() == text,
         Err(AllocError) => false,
     }
@@ -149,7 +150,8 @@ fn expect_calls(rt: &impl Abort, alloc: Global, row: &Calls) {
     let (command, input, answers) = row;
     let mut stands: Text = ArrayVec::new();
     for (call, answer) in answers.iter().enumerate() {
-        let stops = stops_so(alloc, command, input, call as u64, stands.as_slice());
+        let bytes = input.as_bytes();
+        let stops = stops_so(alloc, command, bytes, call as u64, stands.as_slice());
         assert!(rt; stops, "{command} {call}");
         let _ = stands.try_extend_from_slice(answer.as_bytes());
     }
@@ -174,4 +176,24 @@ fn each_line_of_a_list_is_one_call(rt: HostRuntime) {
     for row in rows_of_lists() {
         expect_calls(&rt, rt.alloc(), row);
     }
+}
+
+// Whether a command refuses each of two squares behind 16,384 by one call: the second call fails, and the first line stands.
+fn refuses_by_one_call(alloc: Global, command: &str) -> Result<bool, AllocError> {
+    let input = repeated(alloc, b"[1]\n", 16_386)?;
+    let first = b"line 16385 no more\n";
+    Ok(stops_so(alloc, command, input.as_slice(), 1, first))
+}
+
+// So is the refusal of an item that is one too many.
+#[test]
+fn no_more_to_group_is_one_call(rt: HostRuntime) -> Result<(), Fail> {
+    assert!(rt; refuses_by_one_call(rt.alloc(), "alike")?);
+    Ok(())
+}
+
+#[test]
+fn no_more_to_pair_is_one_call(rt: HostRuntime) -> Result<(), Fail> {
+    assert!(rt; refuses_by_one_call(rt.alloc(), "pair")?);
+    Ok(())
 }

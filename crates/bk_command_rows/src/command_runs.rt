@@ -115,6 +115,15 @@ pub(crate) fn expect_failing_rows(rt: &impl Abort, alloc: Global, most: usize, r
     }
 }
 
+// A text so many times.
+pub(crate) fn repeated(alloc: Global, text: &[u8], times: usize) -> Result<Vec<u8>, AllocError> {
+    let mut all = Vec::new(alloc);
+    for _ in 0..times {
+        all.extend_from_slice(text)?;
+    }
+    Ok(all)
+}
+
 // A front, a part so many times, and an end.
 pub(crate) type Parts = (&'static str, &'static str, usize, &'static str);
 

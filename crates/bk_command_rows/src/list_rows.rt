@@ -161,15 +161,6 @@ fn two_hundred_squares_are_not_too_many(rt: HostRuntime) -> Result<(), Fail> {
     Ok(())
 }
 
-// A text so many times.
-fn repeated(alloc: Global, text: &[u8], times: usize) -> Result<Vec<u8>, AllocError> {
-    let mut all = Vec::new(alloc);
-    for _ in 0..times {
-        all.extend_from_slice(text)?;
-    }
-    Ok(all)
-}
-
 // Whether what is written of 16,384 squares and one more begins and ends so.
 fn is_full(text: &[u8]) -> bool {
     text.starts_with(b"line 16385 no more\n1x1 16384\n1 [1]\n2 [1]\n")

@@ -1,4 +1,3 @@
-pub mod LaidLines
 pub mod WrittenLines
 pub mod ListedLines
 pub mod PairLines

@@ -1,6 +1,6 @@
 -- A line is listed by its item.
-use Rattle.std.specs.Prelude.{Bool, Err, IfOk, Ok, OnErr, Option, Result}
-use Rattle.std.proofs.Common.{List, [], false, length, subst, sym, true, ℕ, ◌<◌, ◌∷◌, ◌≡◌, ◌≤◌}
+use Rattle.std.specs.Prelude.{Bool, Err, IfOk, Ok, OnErr, Option, Result, ◌↔◌}
+use Rattle.std.proofs.Common.{List, [], arith, false, inl, inr, length, subst, sym, true, ℕ, ◌<◌, ◌∷◌, ◌≡◌, ◌≤◌, ◌⊎◌}
 use Rattle.std.specs.Io.KnownBytes.{Appends}
 use Rattle.bk_ports.specs.Causes.{AppendsPrefix}
 use Rattle.bk_ports.specs.declared.Failed.{Failed}
@@ -11,11 +11,14 @@ use Rattle.bk_lines.proofs.Pieces.{begins_one, writes_none, writes_one}
 use Rattle.bk_tiling.specs.Tiling.{Tiling}
 use Rattle.bk_report.specs.ListLines.{refused_line}
 use Rattle.bk_report.specs.declared.refusal.Refused.{Refused}
+use Rattle.bk_alike.specs.declared.AddFault.{AddFault}
+use Rattle.bk_alike.specs.declared.AddFault.TheVariants.{Full}
+use Rattle.bk_text.specs.CodeLine.{Skip}
+use Rattle.bk_answer.specs.Item.{HasItem, HasTiling}
 use Rattle.bk_answer.specs.Refusing.{IsLineRefused}
-use Rattle.bk_answer.proofs.ReplySteps.{outcome_more}
 use Rattle.bk_sym.specs.Canonical.{IsCanonicalOf}
 use Rattle.bk_report.specs.declared.refusal.Refused.TheVariants.{More}
-use Rattle.bk_groups.specs.Listed.{Listed, ListsLine, ListsTiling, keeps, no_more, refuses, with_item, with_refused}
+use Rattle.bk_groups.specs.Listed.{Listed, ListsLine, accepts, keeps, no_more, refuses, skipped, with_item, with_refused}
 
 -- the line of a refusal was written
 pub refused_outcome : (answers : List (List ℕ) → Bool → Type 0) (wants : Type 0) (line : List ℕ) (a b : Option (List ℕ)) (r : Result Outcome Failed)
@@ -30,31 +33,43 @@ pub refused_begun : (answers : List (List ℕ) → Bool → Type 0) (line : List
 refused_begun answers line a b (Ok o) h err = tt
 refused_begun answers line a b (Err f) h err = begins_one answers true line a b h err
 
--- what a call comes to by one kind of answer, it comes to by another
-pub more_outcome : (A B : List (List ℕ) → Bool → Type 0) (V W : Type 0)
-    (more : (pieces : List (List ℕ)) (refused : Bool) → A pieces refused → B pieces refused) (wants : V → W) (a b : Option (List ℕ))
-    (r : Result Outcome Failed) → IfOk r (HasOutcome A V a b) → IfOk r (HasOutcome B W a b)
-more_outcome A B V W more wants a b (Ok o) h = outcome_more A B V W more wants a b o h
-more_outcome A B V W more wants a b (Err f) h = tt
-
--- and so what was begun
-pub more_begun : (A B : List (List ℕ) → Bool → Type 0) (more : (pieces : List (List ℕ)) (refused : Bool) → A pieces refused → B pieces refused)
-    (a b : Option (List ℕ)) (r : Result Outcome Failed)
-    → OnErr r (IsBegun A a b) → OnErr r (IsBegun B a b)
-more_begun A B more a b (Ok o) h = tt
-more_begun A B more a b (Err f) h = record { pieces = h.pieces; refused = h.refused; answer = more h.pieces h.refused h.answer; written = h.written }
+-- a line without an item
+pub skipped_line : (s next : Listed) (number : ℕ) (bytes : List ℕ) (a : Option (List ℕ)) → HasItem bytes Skip → next ≡ s
+    → IsWritten (λ pieces refused. ListsLine s number bytes pieces refused next) a a false
+skipped_line s next number bytes a none is =
+    subst (λ (n : Listed). IsWritten (λ pieces refused. ListsLine s number bytes pieces refused n) a a false) (sym is)
+    (writes_none (λ pieces refused. ListsLine s number bytes pieces refused s) false a (skipped none))
 
 -- the tiling of a line is kept
-pub kept_item : (s next : Listed) (number : ℕ) (t c : Tiling) (a : Option (List ℕ)) → length s.items < 16384 → IsCanonicalOf t c → next ≡ with_item s number c
-    → IsWritten (λ pieces refused. ListsTiling s number t pieces refused next) a a false
-kept_item s next number t c a few canon is =
-    subst (λ (n : Listed). IsWritten (λ pieces refused. ListsTiling s number t pieces refused n) a a false) (sym is)
-    (writes_none (λ pieces refused. ListsTiling s number t pieces refused (with_item s number c)) false a (keeps c few canon))
+pub kept_line : (s next : Listed) (number : ℕ) (bytes : List ℕ) (t c : Tiling) (a : Option (List ℕ)) → HasTiling bytes t
+    → length s.items < 16384 → IsCanonicalOf t c → next ≡ with_item s number c
+    → IsWritten (λ pieces refused. ListsLine s number bytes pieces refused next) a a false
+kept_line s next number bytes t c a has few canon is =
+    subst (λ (n : Listed). IsWritten (λ pieces refused. ListsLine s number bytes pieces refused n) a a false) (sym is)
+    (writes_none (λ pieces refused. ListsLine s number bytes pieces refused (with_item s number c)) false a
+    (accepts t [] false (with_item s number c) has (keeps c few canon)))
 
 -- or refused, where 16,384 are kept
-pub refused_item : (s next : Listed) (number : ℕ) (t : Tiling) → 16384 ≤ length s.items → next ≡ with_refused s
-    → ListsTiling s number t (refused_line number More ∷ []) true next
-refused_item s next number t full is = subst (λ (n : Listed). ListsTiling s number t (refused_line number More ∷ []) true n) (sym is) (no_more full)
+pub full_line : (s next : Listed) (number : ℕ) (bytes : List ℕ) (t : Tiling) → HasTiling bytes t → 16384 ≤ length s.items → next ≡ with_refused s
+    → ListsLine s number bytes (refused_line number More ∷ []) true next
+full_line s next number bytes t has full is =
+    subst (λ (n : Listed). ListsLine s number bytes (refused_line number More ∷ []) true n) (sym is)
+    (accepts t (refused_line number More ∷ []) true (with_refused s) has (no_more full))
+
+two : (a b : ℕ) → (a < b) ⊎ (b ≤ a)
+two a b = grind arith
+
+-- where a call that keeps an item doesn't say that 16,384 are kept, fewer are
+pub has_room : (n : ℕ) (r : Result (Unit {0}) AddFault) → (r ≡ Err Full → ⊥) → (r ≡ Err Full) ↔ (16384 ≤ n) → n < 16384
+has_room n r other full = by (two n 16384)
+  where
+    by : (n < 16384) ⊎ (16384 ≤ n) → n < 16384
+    by (inl few) = few
+    by (inr many) = absurd (other (full.1 many))
+
+-- and a call that kept one doesn't say so
+pub kept_apart : (r : Result (Unit {0}) AddFault) (done : Unit {0}) → r ≡ Ok done → r ≡ Err Full → ⊥
+kept_apart r done is e = absurd (cc)
 
 -- a refused line
 pub refused_entry : (s next : Listed) (number : ℕ) (bytes : List ℕ) (refused : Refused) → IsLineRefused bytes refused → next ≡ with_refused s

@@ -11,12 +11,11 @@ use crate::Wanted;
 use crate::listed::ItemList;
 use crate::pairs::write_all_pairs;
 use bk_alike::Alike;
-use bk_ask::Kind;
 use bk_grammar::AnswerBuffer;
 use bk_ports::{Failed, Sink};
 use bk_report::{write_alike, write_group, write_member, write_pairs};
 
-// Writes what is wanted behind the lines.
+// Writes what is wanted behind the lines, and a last line.
 pub(crate) fn write_closing<O: Sink>(
     wanted: Wanted,
     list: &ItemList,
@@ -25,47 +24,21 @@ pub(crate) fn write_closing<O: Sink>(
     ensures lines { WritesLines (closing_lines wanted list.now) (O.written out.old) (O.written out.new) result }
     ensures cause { HasCause (O.faults out.old) (O.faults out.new) result }
 {
+    let items = list.items();
+    let (kept, refused) = (items.len() as u64, list.refused());
     let mut buffer = AnswerBuffer::new();
     match wanted {
-        Wanted::Groups => close_groups(list, &mut buffer, out),
-        Wanted::Pairs(kind) => close_pairs(kind, list, &mut buffer, out),
+        Wanted::Groups => {
+            write_groups(items, &mut buffer, out)?;
+            write_alike(items.groups() as u64, kept, refused, &mut buffer);
+            out.write_all(buffer.as_slice())
+        }
+        Wanted::Pairs(kind) => {
+            let pairs = write_all_pairs(kind, items, &mut buffer, out)?;
+            write_pairs(pairs, kept, refused, &mut buffer);
+            out.write_all(buffer.as_slice())
+        }
     }
-}
-
-// Writes the groups, and the last line behind them.
-fn close_groups<O: Sink>(
-    list: &ItemList,
-    buffer: &mut AnswerBuffer,
-    out: &mut O,
-) -> Result<(), Failed>
-    ensures lines { WritesLines (closing_lines Wanted.Groups list.now) (O.written out.old) (O.written out.new) result }
-    ensures cause { HasCause (O.faults out.old) (O.faults out.new) result }
-{
-    let items = list.items();
-    write_groups(items, buffer, out)?;
-    write_alike(
-        items.groups() as u64,
-        items.len() as u64,
-        list.refused(),
-        buffer,
-    );
-    out.write_all(buffer.as_slice())
-}
-
-// Writes the pairs, and the last line behind them.
-fn close_pairs<O: Sink>(
-    kind: Kind,
-    list: &ItemList,
-    buffer: &mut AnswerBuffer,
-    out: &mut O,
-) -> Result<(), Failed>
-    ensures lines { WritesLines (closing_lines (Wanted.Pairs kind) list.now) (O.written out.old) (O.written out.new) result }
-    ensures cause { HasCause (O.faults out.old) (O.faults out.new) result }
-{
-    let items = list.items();
-    let pairs = write_all_pairs(kind, items, buffer, out)?;
-    write_pairs(pairs, items.len() as u64, list.refused(), buffer);
-    out.write_all(buffer.as_slice())
 }
 
 // Writes all groups.

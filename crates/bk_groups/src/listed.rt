@@ -1,24 +1,24 @@
 //! The items of a list, and the lines that are refused.
 
-ghost use Rattle.std.specs.Prelude.{IfOk, OnErr, OnOk, length, ◌+◌, ◌<◌, ◌^◌, ◌≡◌};
+ghost use Rattle.std.specs.Prelude.{IfOk, OnErr, OnOk, ◌+◌, ◌<◌, ◌^◌, ◌≡◌};
 ghost use Rattle.bk_lines.specs.Answer.{HasOutcome, IsBegun};
 ghost use Rattle.bk_ports.specs.Causes.{HasCause};
 
-use bk_alike::Alike;
-use bk_answer::lay_line;
+use bk_alike::{AddFault, Alike};
+use bk_answer::{Desk, lay_line};
 use bk_grammar::AnswerBuffer;
 use bk_lines::{Outcome, Register};
 use bk_ports::{Failed, Sink};
 use bk_report::{Refused, write_line_refused};
-use bk_tiling::Tiling;
 use std::alloc::Global;
 use std::marker::Model;
 
-// The items that are kept, and how many lines were refused.
+// The items that are kept, how many lines were refused, and the desk on which the lines are laid. It is seen without the desk.
 #[derive(Drop)]
 pub(crate) struct ItemList {
     items: Alike,
     refused: u64,
+    desk: Desk,
 }
 
 impl Model for ItemList {
@@ -30,7 +30,7 @@ impl Model for ItemList {
 }
 
 impl ItemList {
-    ghost use Rattle.bk_groups.specs.Listed.{ListsTiling, MayWantItem, none_listed, with_refused};
+    ghost use Rattle.bk_groups.specs.Listed.{none_listed, with_refused};
     ghost use Rattle.bk_report.specs.ListLines.{refused_line};
     ghost use Rattle.std.specs.Prelude.{Bool, List, [], ℕ, ◌∷◌, true, ◌≤◌};
     ghost use Rattle.std.specs.Io.KnownBytes.{Appends};
@@ -43,6 +43,7 @@ impl ItemList {
         ItemList {
             items: Alike::new(alloc),
             refused: 0,
+            desk: Desk::new(),
         }
     }
 
@@ -58,31 +59,6 @@ impl ItemList {
         ensures { result ≡ self.now.refused }
     {
         self.refused
-    }
-
-    // Keeps the tiling of a line.
-    fn keep<O: Sink>(
-        &mut self,
-        number: u64,
-        tiling: &Tiling,
-        buffer: &mut AnswerBuffer,
-        out: &mut O,
-    ) -> Result<Outcome, Failed>
-        requires { self.old.refused < 2 ^ 63 }
-        ensures outcome { IfOk result (λ o. HasOutcome (λ pieces refused. ListsTiling self.old number tiling.now pieces refused self.new)
-            (length self.old.items < 16_384) (O.written out.old) (O.written out.new) o) }
-        ensures failed { OnErr result (IsBegun (λ pieces refused. ListsTiling self.old number tiling.now pieces refused (with_refused self.old))
-            (O.written out.old) (O.written out.new)) }
-        ensures cause { HasCause (O.faults out.old) (O.faults out.new) result }
-        ensures few { OnOk result (self.new.refused ≤ self.old.refused + 1) }
-    {
-        if self.items.len() >= 16_384 {
-            return self.refuse(number, Refused::More, buffer, out);
-        }
-        if self.items.add(number, tiling).is_err() {
-            return Ok(Outcome::NoMemory);
-        }
-        Ok(Outcome::Accepted)
     }
 
     // Answers by a refusal.
@@ -123,13 +99,14 @@ impl Register for ItemList {
         buffer: &mut AnswerBuffer,
         out: &mut O,
     ) -> Result<Outcome, Failed> {
-        let laid = lay_line(line);
-        match &laid {
-            Ok(item) => match item {
-                Some(tiling) => self.keep(number, tiling, buffer, out),
-                None => Ok(Outcome::Accepted),
+        match lay_line(line, &mut self.desk) {
+            Ok(None) => Ok(Outcome::Accepted),
+            Ok(Some(tiling)) => match self.items.add(number, tiling) {
+                Ok(()) => Ok(Outcome::Accepted),
+                Err(AddFault::Full) => self.refuse(number, Refused::More, buffer, out),
+                Err(AddFault::NoMemory) => Ok(Outcome::NoMemory),
             },
-            Err(refused) => self.refuse(number, *refused, buffer, out),
+            Err(refused) => self.refuse(number, refused, buffer, out),
         }
     }
 

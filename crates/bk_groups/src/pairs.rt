@@ -1,13 +1,11 @@
 //! The pairs of items, written.
 
-ghost use Rattle.std.specs.Prelude.{IfOk, Some, [], drop, length, slice_get, ◌+◌, ◌<◌, ◌∷◌, ◌≡◌, ◌≤◌};
+ghost use Rattle.std.specs.Prelude.{IfOk, Some, drop, length, slice_get, ◌+◌, ◌<◌, ◌≡◌, ◌≤◌};
 ghost use Rattle.bk_ports.specs.Causes.{HasCause};
 ghost use Rattle.bk_alike.specs.declared.item.KeptItem.{KeptItem as Kept};
 ghost use Rattle.bk_groups.specs.LaterLines.{later_lines};
 ghost use Rattle.bk_groups.specs.Pairs.{all_pairs, is_pair, pairs_with};
 ghost use Rattle.bk_groups.specs.Writing.{WritesLines};
-ghost use Rattle.bk_pair.specs.Pair.{CanBeLaid, joined_square};
-ghost use Rattle.bk_report.specs.ListLines.{pair_line};
 
 use bk_alike::Alike;
 use bk_ask::Kind;
@@ -59,7 +57,8 @@ fn write_pairs_with<O: Sink>(
     Ok(pairs)
 }
 
-// Writes two items where the second stands behind the first and they are a pair, and says how many lines that makes.
+// Writes the square that two items make, where the second stands behind the first and they are a pair, and says how many
+// lines that makes.
 fn write_if_pair<O: Sink>(
     kind: Kind,
     items: &Alike,
@@ -84,8 +83,14 @@ fn write_if_pair<O: Sink>(
     if !is_pair(kind, a, b) {
         return Ok(0);
     }
-    write_square(first, a, second, b, buffer, out)?;
-    Ok(1)
+    match lay_pair(&a.tiling(), &b.tiling()) {
+        Ok(square) => {
+            write_pair(first, second, &square, buffer);
+            out.write_all(buffer.as_slice())?;
+            Ok(1)
+        }
+        Err(_) => unreachable!(),
+    }
 }
 
 // Whether two tilings are a pair of this kind.
@@ -95,27 +100,5 @@ fn is_pair(kind: Kind, a: &KeptTiling, b: &KeptTiling) -> bool
     match kind {
         Kind::Perfect => a.joins(b),
         Kind::Any => a.can_be_laid(b),
-    }
-}
-
-// Writes the square that two items make, with the numbers of their lines.
-fn write_square<O: Sink>(
-    first: u64,
-    a: &KeptTiling,
-    second: u64,
-    b: &KeptTiling,
-    buffer: &mut AnswerBuffer,
-    out: &mut O,
-) -> Result<(), Failed>
-    requires { CanBeLaid a.now b.now }
-    ensures lines { WritesLines (pair_line first second (joined_square a.now b.now) ∷ []) (O.written out.old) (O.written out.new) result }
-    ensures cause { HasCause (O.faults out.old) (O.faults out.new) result }
-{
-    match lay_pair(&a.tiling(), &b.tiling()) {
-        Ok(square) => {
-            write_pair(first, second, &square, buffer);
-            out.write_all(buffer.as_slice())
-        }
-        Err(_) => unreachable!(),
     }
 }

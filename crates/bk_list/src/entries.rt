@@ -3,11 +3,13 @@
 ghost use Rattle.std.specs.Io.KnownBytes.{Appends};
 ghost use Rattle.std.specs.Prelude.{IfOk, IsTrue, None, OnErr, OnOk, Some, false, length, ◌-◌, ◌<◌, ◌≡◌, ◌≤◌};
 ghost use Rattle.bk_ports.specs.Causes.{AppendsPrefix, HasCause};
+ghost use Rattle.bk_code.specs.Code.{code_of};
 ghost use Rattle.bk_report.specs.Listings.{entry_line};
 ghost use Rattle.bk_tree.specs.Tree.{IsAtMostTree};
 ghost use Rattle.bk_list.specs.Stepping.{AreNextSteps, HasEntriesBySteps, StoppedAtEntry};
 ghost use Rattle.bk_list.specs.Writing.{BeginsListing, IsNext, IsNextBegun};
 
+use bk_code::Code;
 use bk_grammar::AnswerBuffer;
 use bk_ports::{Failed, Sink};
 use bk_report::{Last, write_entry};
@@ -80,7 +82,7 @@ fn write_next<const ROOM: usize, L: Ledger, O: Sink>(
         None => Ok(Next::Nothing),
         Some(Err(_)) => unreachable!(),
         Some(Ok(entry)) => {
-            write_line(&entry.tiling, &entry.word, buffer, out)?;
+            write_line(&entry.tiling, &entry.code, &entry.word, buffer, out)?;
             Ok(Next::Member)
         }
     }
@@ -89,15 +91,17 @@ fn write_next<const ROOM: usize, L: Ledger, O: Sink>(
 // Writes the line of an entry, by one call.
 fn write_line<O: Sink>(
     tiling: &Tiling,
+    code: &Code,
     word: &Word,
     buffer: &mut AnswerBuffer,
     out: &mut O,
 ) -> Result<(), Failed>
-    requires { 0 < length word.now }
+    requires code { code.now ≡ code_of tiling.now }
+    requires some { 0 < length word.now }
     ensures written { OnOk result (Appends (O.written out.old) (O.written out.new) (entry_line tiling.now word.now)) }
     ensures begun { OnErr result (AppendsPrefix (O.written out.old) (O.written out.new) (entry_line tiling.now word.now)) }
     ensures cause { HasCause (O.faults out.old) (O.faults out.new) result }
 {
-    write_entry(tiling, word, buffer);
+    write_entry(tiling, code, word, buffer);
     out.write_all(buffer.as_slice())
 }

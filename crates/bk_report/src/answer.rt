@@ -8,15 +8,14 @@ ghost use Rattle.bk_text.specs.CodeText.{code_text, size_text};
 ghost use Rattle.bk_report.specs.AnswerLaws.{ATilingHasOneCheckLine};
 ghost use Rattle.bk_report.specs.Answers.{IsCheckLine, perfect_text, simple_text, spaced, tiling_line, verdict_line};
 
-use bk_code::code_of;
+use bk_code::{Code, code_of};
 use bk_grammar::{AnswerBuffer, push_bytes, push_number};
 use bk_simple::{SubRect, part, repeated};
 use bk_text::{write_code, write_size};
 use bk_tiling::Tiling;
 
-/// Clears the buffer and leaves the answer of `check` to an item that has this tiling, with its line feed: `ok`, the
-/// order, the size, and whether it is perfect and simple (Brooks, Smith, Stone and Tutte 1940). The text is this
-/// project's own.
+/// Writes the answer of `check` to an item that has this tiling: `ok`, the order, the size, and whether it is perfect and
+/// simple (Brooks, Smith, Stone and Tutte 1940).
 pub fn write_check(tiling: &Tiling, out: &mut AnswerBuffer)
     ensures { IsCheckLine tiling.now out.new.items }
 {
@@ -24,25 +23,25 @@ pub fn write_check(tiling: &Tiling, out: &mut AnswerBuffer)
     push_verdicts(tiling, repeated(tiling), part(tiling), out);
 }
 
-/// Clears the buffer and leaves the size and the code of a tiling in Bouwkamp's notation (1946-47), with its line feed:
-/// the answer of each command that gives a tiling.
+/// Writes the size and the code of a tiling: the answer of each command that gives a tiling.
 pub fn write_tiling(tiling: &Tiling, out: &mut AnswerBuffer)
     ensures { out.new.items ≡ tiling_line tiling.now }
 {
     out.clear();
-    push_tiling(tiling, out);
+    push_tiling(tiling, &code_of(tiling), out);
     out.push(b'\n');
 }
 
-// Appends the size and the code of a tiling.
-pub(crate) fn push_tiling(tiling: &Tiling, out: &mut AnswerBuffer)
-    requires { array_vec_len out.old ≤ 5000 }
+// Appends the size of a tiling, and its code.
+pub(crate) fn push_tiling(tiling: &Tiling, code: &Code, out: &mut AnswerBuffer)
+    requires code { code.now ≡ code_of tiling.now }
+    requires room { array_vec_len out.old ≤ 5000 }
     ensures text { out.new.items ≡ out.old.items ++ spaced (size_text tiling.now.width tiling.now.height ∷ code_text (code_of tiling.now) ∷ []) }
     ensures short { array_vec_len out.new ≤ array_vec_len out.old + 3442 }
 {
     write_size(tiling.width(), tiling.height(), out);
     out.push(b' ');
-    push_code(tiling, out);
+    write_code(code, out);
 }
 
 // Appends the code of a tiling. It has a square, so its code has a group.

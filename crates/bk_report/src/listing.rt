@@ -2,11 +2,13 @@
 
 ghost use Rattle.std.specs.Prelude.{flat_map, length, ◌+◌, ◌++◌, ◌<◌, ◌∷◌, ◌≡◌, ◌≤◌};
 ghost use Rattle.arrayvec.specs.ArrayVec.{array_vec_len};
+ghost use Rattle.bk_code.specs.Code.{code_of};
 ghost use Rattle.bk_report.specs.Answers.{spaced};
 ghost use Rattle.bk_report.specs.EntryLaws.{AWrittenEntryIsRead};
 ghost use Rattle.bk_report.specs.Listings.{class_words, entry_line, entry_words, last_line, last_name, wide_words};
 
 use crate::answer::push_tiling;
+use bk_code::Code;
 use bk_grammar::{AnswerBuffer, push_bytes, push_number};
 use bk_tiling::Tiling;
 use bk_word::{Class, Word, write_word};
@@ -22,19 +24,21 @@ pub enum Last {
     Wide,
 }
 
-/// Clears the buffer and leaves the entry of a tiling and its word in a catalogue, with its line feed: the order, the
-/// size, the code (Bouwkamp 1946-47), and then ` ; ` and the text of the word. The word must have a move.
-pub fn write_entry(tiling: &Tiling, word: &Word, out: &mut AnswerBuffer)
-    requires { 0 < length word.now }
+/// Writes the entry of a tiling in a catalogue: the order, the size, the code, and then ` ; ` and the text of the word. The
+/// code is that of the tiling, and the word must have a move.
+pub fn write_entry(tiling: &Tiling, code: &Code, word: &Word, out: &mut AnswerBuffer)
+    requires code { code.now ≡ code_of tiling.now }
+    requires some { 0 < length word.now }
     ensures { out.new.items ≡ entry_line tiling.now word.now }
 {
     out.clear();
-    push_entry(tiling, word, out);
+    push_entry(tiling, code, word, out);
     out.push(b'\n');
 }
 
-// Appends the entry of a tiling and its word.
-pub(crate) fn push_entry(tiling: &Tiling, word: &Word, out: &mut AnswerBuffer)
+// Appends the entry of a tiling with its code and its word.
+pub(crate) fn push_entry(tiling: &Tiling, code: &Code, word: &Word, out: &mut AnswerBuffer)
+    requires code { code.now ≡ code_of tiling.now }
     requires some { 0 < length word.now }
     requires room { array_vec_len out.old ≤ 4000 }
     ensures text { out.new.items ≡ out.old.items ++ spaced (entry_words tiling.now word.now) }
@@ -42,7 +46,7 @@ pub(crate) fn push_entry(tiling: &Tiling, word: &Word, out: &mut AnswerBuffer)
 {
     push_number(tiling.order() as u64, out);
     out.push(b' ');
-    push_tiling(tiling, out);
+    push_tiling(tiling, code, out);
     push_bytes(b" ; ", out);
     write_word(word, out);
 }
@@ -53,9 +57,8 @@ pub fn a_written_entry_is_read()
     ensures { AWrittenEntryIsRead }
 {}
 
-/// Clears the buffer and leaves the last line of a listing, with its line feed: `; end`, `; limit` or `; wide`, the
-/// order, the class unless that is the perfect one, how many entries were listed, and for `wide` the word at which it
-/// ended. That word must then have a move. The text is this project's own.
+/// Writes the last line of a listing: `; end`, `; limit` or `; wide`, the order, the class unless that is the perfect one, how
+/// many entries were listed, and for `wide` the word at which it ended. That word must then have a move.
 pub fn write_last(
     last: Last,
     order: u8,

@@ -2,18 +2,20 @@
 
 ghost use Rattle.std.specs.Prelude.{length, slice_index, ◌<◌, ◌≡◌};
 ghost use Rattle.bk_report.specs.ListLines.{alike_line, foreign_line, group_line, member_line, missing_line, pair_line, pairs_line, refused_line};
+ghost use Rattle.bk_code.specs.Code.{code_of};
 ghost use Rattle.bk_report.specs.ListLines.{repeats_line, verified_line};
 
 use crate::answer::{push_code, push_tiling};
 use crate::listing::{Last, push_entry, push_name, push_wide};
 use crate::refusal::{Refused, push_refusal};
 use crate::trial::push_named;
+use bk_code::{Code, code_of};
 use bk_grammar::{AnswerBuffer, push_bytes, push_number};
 use bk_text::write_size;
 use bk_tiling::Tiling;
 use bk_word::Word;
 
-/// Clears the buffer and leaves the refusal of the line of this number, with its line feed. The text is this project's own.
+/// Writes the refusal of the line of this number.
 pub fn write_line_refused(line: u64, refused: &Refused, out: &mut AnswerBuffer)
     ensures { out.new.items ≡ refused_line line refused.now }
 {
@@ -24,8 +26,7 @@ pub fn write_line_refused(line: u64, refused: &Refused, out: &mut AnswerBuffer)
     out.push(b'\n');
 }
 
-/// Clears the buffer and leaves that the line of this number repeats an earlier one, with its line feed. The text is this
-/// project's own.
+/// Writes that the line of this number repeats an earlier one.
 pub fn write_repeats(line: u64, first: u64, out: &mut AnswerBuffer)
     ensures { out.new.items ≡ repeats_line line first }
 {
@@ -35,8 +36,7 @@ pub fn write_repeats(line: u64, first: u64, out: &mut AnswerBuffer)
     out.push(b'\n');
 }
 
-/// Clears the buffer and leaves that the line of this number has no member of the catalogue, with its line feed. The text
-/// is this project's own.
+/// Writes that the line of this number has no member of the catalogue.
 pub fn write_foreign(line: u64, out: &mut AnswerBuffer)
     ensures { out.new.items ≡ foreign_line line }
 {
@@ -45,22 +45,22 @@ pub fn write_foreign(line: u64, out: &mut AnswerBuffer)
     push_bytes(b" foreign\n", out);
 }
 
-/// Clears the buffer and leaves that a list lacks a member of the catalogue, with its line feed: `missing`, and the entry of
-/// the tiling and its word, which must have a move. The text is this project's own.
-pub fn write_missing(tiling: &Tiling, word: &Word, out: &mut AnswerBuffer)
-    requires { 0 < length word.now }
+/// Writes that a list lacks a member of the catalogue: `missing`, and the entry of the tiling. The code is that of the tiling,
+/// and the word must have a move.
+pub fn write_missing(tiling: &Tiling, code: &Code, word: &Word, out: &mut AnswerBuffer)
+    requires code { code.now ≡ code_of tiling.now }
+    requires some { 0 < length word.now }
     ensures { out.new.items ≡ missing_line tiling.now word.now }
 {
     out.clear();
     push_bytes(b"missing ", out);
-    push_entry(tiling, word, out);
+    push_entry(tiling, code, word, out);
     out.push(b'\n');
 }
 
-/// Clears the buffer and leaves the last line of a list that was held against a catalogue, with its line feed: how that
-/// ended, which is never at a limit, the order, five counts, and for `wide` the word at which it ended. The counts are how
-/// many members there are, how many of them are missing, and how many lines are foreign, repeated and refused. That word
-/// must then have a move. The text is this project's own.
+/// Writes the last line of a list that was held against a catalogue: how that ended, which is never at a limit, the order,
+/// five counts, and for `wide` the word at which it ended. The counts are how many members there are, how many of them are
+/// missing, and how many lines are foreign, repeated and refused. That word must then have a move.
 pub fn write_verified(last: Last, order: u8, counts: [u64; 5], word: &Word, out: &mut AnswerBuffer)
     requires ended { last ≡ Last.Limit → ⊥ }
     requires some { last ≡ Last.Wide → 0 < length word.now }
@@ -80,8 +80,7 @@ pub fn write_verified(last: Last, order: u8, counts: [u64; 5], word: &Word, out:
     out.push(b'\n');
 }
 
-/// Clears the buffer and leaves the size of a group of rectangles and how many items it has, with its line feed. The text
-/// is this project's own.
+/// Writes the size of a group of rectangles and how many items it has.
 pub fn write_group(width: u64, height: u64, items: u64, out: &mut AnswerBuffer)
     ensures { out.new.items ≡ group_line width height items }
 {
@@ -91,8 +90,7 @@ pub fn write_group(width: u64, height: u64, items: u64, out: &mut AnswerBuffer)
     out.push(b'\n');
 }
 
-/// Clears the buffer and leaves an item of a group, with its line feed: the number of its line, and its code in Bouwkamp's
-/// notation (1946-47). The text is this project's own.
+/// Writes an item of a group: the number of its line, and its code.
 pub fn write_member(line: u64, tiling: &Tiling, out: &mut AnswerBuffer)
     ensures { out.new.items ≡ member_line line tiling.now }
 {
@@ -103,8 +101,7 @@ pub fn write_member(line: u64, tiling: &Tiling, out: &mut AnswerBuffer)
     out.push(b'\n');
 }
 
-/// Clears the buffer and leaves what two items make together, with its line feed: the numbers of their lines, and the size
-/// and the code of the square, in Bouwkamp's notation (1946-47). The text is this project's own.
+/// Writes what two items make together: the numbers of their lines, and the size and the code of the square.
 pub fn write_pair(first: u64, second: u64, tiling: &Tiling, out: &mut AnswerBuffer)
     ensures { out.new.items ≡ pair_line first second tiling.now }
 {
@@ -112,12 +109,11 @@ pub fn write_pair(first: u64, second: u64, tiling: &Tiling, out: &mut AnswerBuff
     push_number(first, out);
     push_named(b" ", second, out);
     out.push(b' ');
-    push_tiling(tiling, out);
+    push_tiling(tiling, &code_of(tiling), out);
     out.push(b'\n');
 }
 
-/// Clears the buffer and leaves the last line behind groups, with its line feed: how many groups and items there are, and
-/// how many lines were refused. The text is this project's own.
+/// Writes the last line behind groups: how many groups and items there are, and how many lines were refused.
 pub fn write_alike(groups: u64, items: u64, refused: u64, out: &mut AnswerBuffer)
     ensures { out.new.items ≡ alike_line groups items refused }
 {
@@ -128,8 +124,7 @@ pub fn write_alike(groups: u64, items: u64, refused: u64, out: &mut AnswerBuffer
     out.push(b'\n');
 }
 
-/// Clears the buffer and leaves the last line behind pairs, with its line feed: how many pairs and items there are, and how
-/// many lines were refused. The text is this project's own.
+/// Writes the last line behind pairs: how many pairs and items there are, and how many lines were refused.
 pub fn write_pairs(pairs: u64, items: u64, refused: u64, out: &mut AnswerBuffer)
     ensures { out.new.items ≡ pairs_line pairs items refused }
 {

@@ -9,9 +9,8 @@ use bk_grammar::{AnswerBuffer, push_bytes, push_number};
 use bk_net::{Net, net_of};
 use bk_tiling::Tiling;
 
-/// Clears the buffer and leaves the Smith diagram of a tiling (Brooks, Smith, Stone and Tutte 1940), with its line feed:
-/// the number of nodes and the wires `A-B`, then ` ; `, the width and the sides in code order. The width is the total
-/// and the sides are the currents of the one flow. The text is this project's own.
+/// Writes the Smith diagram of a tiling (Brooks, Smith, Stone and Tutte 1940): the number of nodes and the wires `A-B`, then
+/// ` ; `, the width and the sides in code order. The width is the total and the sides are the currents of the one flow.
 pub fn write_net(tiling: &Tiling, out: &mut AnswerBuffer)
     ensures { out.new.items ≡ net_line tiling.now }
 {

@@ -44,7 +44,7 @@ pub enum Refused {
     More,
 }
 
-/// Clears the buffer and leaves the line of a refusal, with its line feed.
+/// Writes the line of a refusal.
 pub fn write_refused(refused: &Refused, out: &mut AnswerBuffer)
     ensures { out.new.items ≡ refusal_line refused.now }
 {

@@ -6,8 +6,7 @@ ghost use Rattle.bk_report.specs.Listings.{word_line};
 use bk_grammar::AnswerBuffer;
 use bk_word::{Word, write_word};
 
-/// Clears the buffer and leaves the text of a word with its line feed. The word must have a move. The text is this
-/// project's own.
+/// Writes the text of a word, which must have a move.
 pub fn write_word_line(word: &Word, out: &mut AnswerBuffer)
     requires { 0 < length word.now }
     ensures { out.new.items ≡ word_line word.now }

@@ -1,6 +1,7 @@
 //! Lines as they are written.
 
 use arrayvec::ArrayVec;
+use bk_code::code_of;
 use bk_flow::solve;
 use bk_net::{Net, NetLine, read_net};
 use bk_report::{
@@ -134,7 +135,7 @@ fn is_entry(tiling: &Tiling, word: &Word, line: &mut Line) -> bool {
     if word.moves() == 0 {
         return false;
     }
-    write_entry(tiling, word, line);
+    write_entry(tiling, &code_of(tiling), word, line);
     is(line, "3 3x2 [2,1][1] ; 2u.1e\n")
 }
 
@@ -268,7 +269,7 @@ fn is_missing(tiling: &Tiling, word: &Word, line: &mut Line) -> bool {
     if word.moves() == 0 {
         return false;
     }
-    write_missing(tiling, word, line);
+    write_missing(tiling, &code_of(tiling), word, line);
     is(line, "missing 3 3x2 [2,1][1] ; 2u.1e\n")
 }
 

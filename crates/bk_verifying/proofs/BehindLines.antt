@@ -1,6 +1,6 @@
 -- What stands behind the lines is what the report says: the first missing members, or all of them and the last line.
 use Rattle.std.specs.List.{AllByRecursion}
-use Rattle.std.specs.Prelude.{IsTrue, Option, flat_map, ⊤, ◌↔◌}
+use Rattle.std.specs.Prelude.{Option, flat_map, ⊤}
 use Rattle.std.specs.Io.KnownBytes.{Appends}
 use Rattle.std.proofs.KnownBytes.{Appends-trans}
 use Rattle.std.proofs.Common.{Bool, Contains, List, [], ap, inl, inr, refl, subst, ℕ, ◌++◌, ◌+◌}

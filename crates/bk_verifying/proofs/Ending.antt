@@ -11,8 +11,9 @@ use Rattle.bk_lines.specs.Reply.{text_of}
 use Rattle.bk_lines.specs.declared.Ended.{Ended}
 use Rattle.bk_lines.specs.declared.Ended.TheVariants.{NoMemory, NoneRefused, ReadFailed, SomeRefused, TooMany, WriteFailed}
 use Rattle.bk_verifying.proofs.BehindLines.{all_missing, first_missing}
-use Rattle.bk_verifying.proofs.EndingAtLines.{at_first, fresh, rules}
+use Rattle.bk_verifying.proofs.EndingAtLines.{at_first, rules}
 use Rattle.bk_verifying.proofs.Following.{AreFollowed, followed}
+use Rattle.bk_verifying.specs.Entering.{none_entered}
 use Rattle.bk_verifying.specs.Listing.{ClosesReport, IsClosing, IsClosingBegun}
 use Rattle.bk_verifying.specs.Report.{Counts, IsReport, line_of}
 use Rattle.bk_verifying.specs.Running.{TellsFront, TellsReport, report_of}
@@ -21,14 +22,14 @@ use Rattle.bk_verifying.specs.declared.entering.Verifying.{Verifying}
 -- the lines were entered
 pub record AreLinesDone (n : ℕ) (lines : List (List ℕ)) (last : Verifying) (a b : Option (List ℕ)) : Type 0 where
   pub text : List ℕ
-  pub followed : AreFollowed n [] 1 lines (fresh n) text last
+  pub followed : AreFollowed n [] 1 lines (none_entered n) text last
   pub written : Appends a b text
 
 lines_done : (n : ℕ) (last : Verifying) (lines : List (List ℕ)) (a b : Option (List ℕ)) (refused : Bool)
-    → AreAllEntered rules (fresh n) 1 lines a b refused last → AreLinesDone n lines last a b
+    → AreAllEntered rules (none_entered n) 1 lines a b refused last → AreLinesDone n lines last a b
 lines_done n last lines a b refused all = record {
   text = text_of all.replies;
-  followed = followed n [] 1 lines all.replies (fresh n) last (at_first n) all.each;
+  followed = followed n [] 1 lines all.replies (none_entered n) last (at_first n) all.each;
   written = all.written;
 }
 
@@ -92,7 +93,7 @@ module _ (n : ℕ) (last : Verifying) (lines : List (List ℕ)) (a b c : Option 
 
 -- a run that read its input to the end
 module _ (n : ℕ) (last : Verifying) (left left_after a b : Option (List ℕ)) (refused : Bool)
-    (all : IsWhole (entries_of rules (fresh n) last) (record { left = left; left_after = left_after; written = a; written_after = b }) refused) where
+    (all : IsWhole (entries_of rules (none_entered n) last) (record { left = left; left_after = left_after; written = a; written_after = b }) refused) where
   -- the order is that asked for
   pub last_order : (last.verifier).order ≡ n
   last_order = ((lines_done n last _ a b refused all.written).followed).order
@@ -101,7 +102,7 @@ module _ (n : ℕ) (last : Verifying) (left left_after a b : Option (List ℕ)) 
   pub ends_whole : (c : Option (List ℕ)) (differs told : Bool) → told ≡ differs → ClosesReport n last told b c
       → IsWhole (report_of n) (record { left = left; left_after = left_after; written = a; written_after = c }) differs
   ends_whole c differs told e k =
-      whole_behind (entries_of rules (fresh n) last) (report_of n) left left_after a b c refused all differs
+      whole_behind (entries_of rules (none_entered n) last) (report_of n) left left_after a b c refused all differs
       (λ lines entered. told_report n last lines a b c (lines_done n last lines a b refused entered) differs
       (subst (λ (d : Bool). ClosesReport n last d b c) e k))
 
@@ -109,7 +110,7 @@ module _ (n : ℕ) (last : Verifying) (left left_after a b : Option (List ℕ)) 
   pub ends_broken : (c : Option (List ℕ)) → IsClosingBegun n last b c
       → IsBrokenBehind (report_of n) (record { left = left; left_after = left_after; written = a; written_after = c })
   ends_broken c k =
-      broken_behind (entries_of rules (fresh n) last) (report_of n) left left_after a b c refused all
+      broken_behind (entries_of rules (none_entered n) last) (report_of n) left left_after a b c refused all
       (λ lines entered. told_front n last lines a b c (lines_done n last lines a b refused entered) k)
 
 -- all was read where the lines end so

@@ -12,11 +12,10 @@ use Rattle.bk_lines.specs.declared.Ended.{Ended}
 use Rattle.bk_word.specs.declared.Class.TheVariants.{Perfect}
 use Rattle.bk_catalogue.specs.Catalogue.{IsMember}
 use Rattle.bk_verify.proofs.Firsts.{a_verifier_tells_the_truth}
-use Rattle.bk_verify.specs.Kept.{VerifierState}
 use Rattle.bk_verify.specs.Verify.{Accepted, IsNew}
 use Rattle.bk_verify.specs.VerifyLaws.{KeepsFirsts}
 use Rattle.bk_verifying.proofs.Following.{AreFollowed, IsAfter, followed}
-use Rattle.bk_verifying.specs.Entering.{EntersLine, MayWantAt}
+use Rattle.bk_verifying.specs.Entering.{EntersLine, MayWantAt, none_entered}
 use Rattle.bk_verifying.specs.Running.{TellsBefore, TellsFirst, TellsLines, report_of}
 use Rattle.bk_verifying.specs.Told.{HasEntry, IsToldOf}
 use Rattle.bk_verifying.specs.declared.entering.Verifying.{Verifying}
@@ -25,35 +24,30 @@ use Rattle.bk_verifying.specs.declared.entering.Verifying.{Verifying}
 abbrev pub rules : Entering Verifying
 rules = record { enters = EntersLine; may_want = MayWantAt }
 
--- the state at the start
-abbrev pub fresh : ℕ → Verifying
-fresh n = record { verifier = record { order = n; pairs = [] }; foreign = 0; repeated = 0; refused = 0 }
-
--- a verifier that was made for the order is the one at the start
-pub from_fresh : (n : ℕ) (v : VerifierState) (last : Verifying) (streams : Streams) (e : Ended) → v ≡ record { order = n; pairs = [] }
-    → EndsWith (entries_of rules (record { verifier = v; foreign = 0; repeated = 0; refused = 0 }) last) streams e
-    → EndsWith (entries_of rules (fresh n) last) streams e
-from_fresh n v last streams e is enters =
-    subst (λ (w : VerifierState). EndsWith (entries_of rules (record { verifier = w; foreign = 0; repeated = 0; refused = 0 }) last) streams e) is enters
+-- what is kept where no line is entered is that at the start
+pub from_start : (n : ℕ) (s last : Verifying) (streams : Streams) (e : Ended) → s ≡ none_entered n
+    → EndsWith (entries_of rules s last) streams e → EndsWith (entries_of rules (none_entered n) last) streams e
+from_start n s last streams e is enters = subst (λ (t : Verifying). EndsWith (entries_of rules t last) streams e) is enters
 
 -- it is that before the first line
-pub at_first : (n : ℕ) → IsAfter n [] 1 (fresh n)
+pub at_first : (n : ℕ) → IsAfter n [] 1 (none_entered n)
 at_first n = record { keeps = a_verifier_tells_the_truth.at_first n; order = refl; before = tt }
 
 -- what is told of lines that were entered from the start
-told_of_all : (n : ℕ) (lines : List (List ℕ)) (text : List ℕ) (last : Verifying) (f : AreFollowed n [] 1 lines (fresh n) text last) → IsToldOf n lines f.tolds
+told_of_all : (n : ℕ) (lines : List (List ℕ)) (text : List ℕ) (last : Verifying) (f : AreFollowed n [] 1 lines (none_entered n) text last)
+    → IsToldOf n lines f.tolds
 told_of_all n lines text last f = record { entries = f.entries; are_entries = f.are_entries; told = f.told }
 
 module _ (n : ℕ) where
   told_lines : (last : Verifying) (lines : List (List ℕ)) (refused : Bool) (a b : Option (List ℕ))
-      → AreAllEntered rules (fresh n) 1 lines a b refused last → TellsLines n lines a b
+      → AreAllEntered rules (none_entered n) 1 lines a b refused last → TellsLines n lines a b
   told_lines last lines refused a b all =
-      let f = followed n [] 1 lines all.replies (fresh n) last (at_first n) all.each in
+      let f = followed n [] 1 lines all.replies (none_entered n) last (at_first n) all.each in
       record { tolds = f.tolds; told = told_of_all n lines _ last f; appends = subst (Appends a b) f.text_is all.written }
 
-  told_first : (lines : List (List ℕ)) (a b : Option (List ℕ)) → IsEntryBegun rules (fresh n) 1 lines a b → TellsFirst n lines a b
+  told_first : (lines : List (List ℕ)) (a b : Option (List ℕ)) → IsEntryBegun rules (none_entered n) 1 lines a b → TellsFirst n lines a b
   told_first lines a b begun =
-      let f = followed n [] 1 begun.begun begun.replies (fresh n) begun.last (at_first n) begun.each in
+      let f = followed n [] 1 begun.begun begun.replies (none_entered n) begun.last (at_first n) begun.each in
       record {
         begun = begun.begun;
         unseen = begun.unseen;
@@ -87,9 +81,9 @@ module _ (n : ℕ) where
         };
       }
 
-  told_before : (lines : List (List ℕ)) (a b : Option (List ℕ)) → IsEntryWanting rules (fresh n) 1 lines a b → TellsBefore n lines a b
+  told_before : (lines : List (List ℕ)) (a b : Option (List ℕ)) → IsEntryWanting rules (none_entered n) 1 lines a b → TellsBefore n lines a b
   told_before lines a b w =
-      let f = followed n [] 1 w.done w.replies (fresh n) w.last (at_first n) w.each in
+      let f = followed n [] 1 w.done w.replies (none_entered n) w.last (at_first n) w.each in
       record {
         done = w.done;
         line = w.line;
@@ -104,8 +98,8 @@ module _ (n : ℕ) where
       }
 
   -- a run that stops at its lines
-  pub stops_at_lines : (streams : Streams) (last : Verifying) (ended : Ended) → IsStop ended → EndsWith (entries_of rules (fresh n) last) streams ended
+  pub stops_at_lines : (streams : Streams) (last : Verifying) (ended : Ended) → IsStop ended → EndsWith (entries_of rules (none_entered n) last) streams ended
       → EndsWith (report_of n) streams ended
   stops_at_lines streams last =
-      stops_as (entries_of rules (fresh n) last) (report_of n)
+      stops_as (entries_of rules (none_entered n) last) (report_of n)
       (record { lines = told_lines last; begun = told_first; begun_behind = λ lines a b none. absurd none; short = told_before }) streams

@@ -12,6 +12,10 @@ use Rattle.bk_verify.specs.declared.verifier.Fed.{Fed}
 use Rattle.bk_verify.specs.declared.verifier.Fed.TheVariants.{Foreign, New, Repeats}
 use Rattle.bk_verifying.specs.declared.entering.Verifying.{Verifying}
 
+-- what is kept for the catalogue of this order where no line is entered
+abbrev pub none_entered : ℕ → Verifying
+none_entered n = record { verifier = record { order = n; pairs = [] }; foreign = 0; repeated = 0; refused = 0 }
+
 -- what is written for an entry of which this is told
 abbrev pub fed_pieces : ℕ → Fed → List (List ℕ)
 fed_pieces number New = []

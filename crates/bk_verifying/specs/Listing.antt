@@ -1,6 +1,6 @@
 -- The members that aren't kept, whose lines are written one after another.
 -- Example (VerifyingExamples): the line of 33x32 is `missing 9 33x32 [18,15][7,8][14,4][10,1][9] ; 2u.2aa.2ue.2eue.1e`.
-use Rattle.std.specs.Prelude.{Bool, IsTrue, List, Option, flat_map, length, ℕ, ⊤, ◌++◌, ◌+◌, ◌<◌, ◌^◌, ◌↔◌, ◌≡◌, ◌⊎◌}
+use Rattle.std.specs.Prelude.{Bool, List, Option, flat_map, length, ℕ, ⊤, ◌++◌, ◌+◌, ◌<◌, ◌^◌, ◌≡◌, ◌⊎◌}
 use Rattle.std.specs.Io.KnownBytes.{Appends}
 use Rattle.bk_ports.specs.Causes.{AppendsPrefix}
 use Rattle.bk_word.specs.Word.{Word}

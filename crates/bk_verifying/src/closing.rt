@@ -84,7 +84,7 @@ fn write_missing_members<L: Ledger, O: Sink>(
             None => return Ok(missing),
             Some(Err(_)) => unreachable!(),
             Some(Ok(entry)) => {
-                write_missing(&entry.tiling, &entry.word, buffer);
+                write_missing(&entry.tiling, &entry.code, &entry.word, buffer);
                 out.write_all(buffer.as_slice())?;
                 missing += 1;
             }

@@ -5,13 +5,15 @@ ghost use Rattle.bk_lines.specs.Answer.{HasOutcome, IsBegun};
 ghost use Rattle.bk_ports.specs.Causes.{HasCause};
 ghost use Rattle.bk_answer.specs.Item.{HasTiling};
 
-use bk_answer::lay_line;
+use bk_answer::{Desk, lay_line};
 use bk_grammar::AnswerBuffer;
 use bk_lines::{Outcome, Register};
 use bk_ports::{Failed, Sink};
 use bk_report::{write_foreign, write_line_refused, write_repeats};
 use bk_tiling::Tiling;
 use bk_verify::{Fed, NoMemory, Verifier};
+use std::alloc::Global;
+use std::marker::Model;
 
 // What a run keeps of the lines: the members that were seen, and how many lines were foreign, repeated and refused.
 #[derive(Drop)]
@@ -22,10 +24,49 @@ pub(crate) struct Verifying {
     pub(crate) refused: u64,
 }
 
-ghost use Rattle.bk_verifying.specs.Entering.{CountsAreBelow, EntersLine, MayWantAt};
+// The register of a run: what it keeps of the lines, and the desk on which they are laid. It is seen as what it keeps.
+#[derive(Drop)]
+pub(crate) struct VerifyRegister {
+    kept: Verifying,
+    desk: Desk,
+}
+
+ghost use Rattle.bk_verifying.specs.Entering.{CountsAreBelow, EntersLine, MayWantAt, none_entered};
 ghost use Rattle.bk_verifying.specs.declared.entering.Verifying.{Verifying};
 
-impl Register for Verifying {
+impl Model for VerifyRegister {
+    ghost Value = { Verifying };
+
+    ghost view = { λ r. r.kept };
+}
+
+impl VerifyRegister {
+    // A register for the catalogue of an order. No line is entered.
+    pub(crate) fn new(alloc: Global, order: u8) -> VerifyRegister
+        requires least { 2 ≤ order }
+        requires most { order ≤ 16 }
+        ensures { result ≡ none_entered order }
+    {
+        VerifyRegister {
+            kept: Verifying {
+                verifier: Verifier::new(alloc, order),
+                foreign: 0,
+                repeated: 0,
+                refused: 0,
+            },
+            desk: Desk::new(),
+        }
+    }
+
+    // What is kept of the lines.
+    pub(crate) fn into_kept(self) -> Verifying
+        ensures { result ≡ self }
+    {
+        self.kept
+    }
+}
+
+impl Register for VerifyRegister {
     ghost use Rattle.bk_verifying.specs.Laws.{empty_line, still_ready};
 
     ghost enters = { EntersLine };
@@ -41,11 +82,11 @@ impl Register for Verifying {
         buffer: &mut AnswerBuffer,
         out: &mut O,
     ) -> Result<Outcome, Failed> {
-        match lay_line(line) {
+        match lay_line(line, &mut self.desk) {
             Ok(None) => Ok(Outcome::Accepted),
-            Ok(Some(tiling)) => feed(self, number, line, &tiling, buffer, out),
+            Ok(Some(tiling)) => feed(&mut self.kept, number, line, tiling, buffer, out),
             Err(refused) => {
-                self.refused += 1;
+                self.kept.refused += 1;
                 write_line_refused(number, &refused, buffer);
                 out.write_all(buffer.as_slice())?;
                 Ok(Outcome::Refused)

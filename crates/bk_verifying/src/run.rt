@@ -6,11 +6,10 @@ ghost use Rattle.bk_lines.specs.Faults.{CountsTell, IsCalm, IsDoneOrWanting};
 ghost use Rattle.bk_verifying.specs.Running.{report_of};
 
 use crate::closing::close_report;
-use crate::entering::Verifying;
+use crate::entering::VerifyRegister;
 use bk_grammar::AnswerBuffer;
 use bk_lines::{Ended, enter_lines};
 use bk_ports::{Failed, Sink, Source};
-use bk_verify::Verifier;
 use std::alloc::Global;
 use std::marker::Brand;
 use std::sync::ledger::Blank;
@@ -55,17 +54,13 @@ pub fn verify<S: Source, O: Sink>(alloc: Global, order: u8, source: &mut S, out:
           write_after = O.faults out.new;
         }) }
 {
-    let mut state = Verifying {
-        verifier: Verifier::new(alloc, order),
-        foreign: 0,
-        repeated: 0,
-        refused: 0,
-    };
-    let ended = enter_lines(&mut state, source, out);
+    let mut register = VerifyRegister::new(alloc, order);
+    let ended = enter_lines(&mut register, source, out);
     match ended {
         Ended::NoneRefused | Ended::SomeRefused => {
+            let kept = register.into_kept();
             let mut buffer = AnswerBuffer::new();
-            match close_report::<Brand, O>(alloc, order, state, Blank::new(1), &mut buffer, out) {
+            match close_report::<Brand, O>(alloc, order, kept, Blank::new(1), &mut buffer, out) {
                 Ok(false) => Ended::NoneRefused,
                 Ok(true) => Ended::SomeRefused,
                 Err(Failed) => Ended::WriteFailed,

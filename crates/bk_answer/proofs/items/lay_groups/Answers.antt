@@ -15,7 +15,7 @@ returns-in-Ok-clause-laid c =
     laid_of_size (Item c.args.order c.args.size c.args.code.now) c.args.size c.lay_code_in.new.tiling c.in-Ok.ensures.ok
     (subst (λ (l : List ℕ). IfSome c.args.order (λ stated. stated ≡ length l)) c.flat-sides.ensures.value
     (c.allows_order.ensures.0 c.if-not-allows_order.false)) (λ s. s) (λ s. s)
-    c.of_size.result c.of_size.ensures.laid
+    c.of_size.result c.of_size.ensures.sized
 
 pub returns-in-Ok-clause-refused : goal.returns-in-Ok-clause-refused
 returns-in-Ok-clause-refused c =

@@ -12,7 +12,7 @@ returns-then-not-allows_order-clause-refused c =
 pub returns-in-Ok-clause-laid : goal.returns-in-Ok-clause-laid
 returns-in-Ok-clause-laid c =
     laid_of_size (Flat c.args.order c.args.size.0 c.args.size.1 c.args.sides.now) (Some c.args.size) c.lay_flat_in.new.tiling c.in-Ok.ensures.ok
-    (c.allows_order.ensures.0 c.if-not-allows_order.false) (λ s. s) (λ s. s) c.of_size.result c.of_size.ensures.laid
+    (c.allows_order.ensures.0 c.if-not-allows_order.false) (λ s. s) (λ s. s) c.of_size.result c.of_size.ensures.sized
 
 pub returns-in-Ok-clause-refused : goal.returns-in-Ok-clause-refused
 returns-in-Ok-clause-refused c =

@@ -9,10 +9,13 @@ members-init g c =
     let on = listing_none c.args.rest.now (g.O.Sink.written c.args.out.now) c.requires.start in
     record { listed = on.listed; order = refl; pairs = refl; faults = refl }
 
-pub write_missing-requires : goal.write_missing-requires
-write_missing-requires g c =
+pub write_missing-requires-clause-some : goal.write_missing-requires-clause-some
+write_missing-requires-clause-some g c =
     let next = IfOk-at_ok _ c.in-Some-Ok.field-0-is c.in-Some-Ok.ensures.entry in
     word_some c.members.rest.walk.order c.members.rest.pairs c.members.rest.walk.cursor c.in-Some-Ok.entry.tiling c.in-Some-Ok.entry.word next.0
+
+pub write_missing-requires-clause-code : goal.write_missing-requires-clause-code
+write_missing-requires-clause-code g c = (IfOk-at_ok _ c.in-Some-Ok.field-0-is c.in-Some-Ok.ensures.entry).1
 
 pub returns-in-None-clause-listed : goal.returns-in-None-clause-listed
 returns-in-None-clause-listed g c =

@@ -1,6 +1,8 @@
-use Rattle.std.proofs.Common.{false, subst}
+use Rattle.std.proofs.Common.{Bor, Option, false, subst}
+use Rattle.std.specs.Option.{option_copied}
+use Rattle.bk_tiling.specs.Tiling.{Tiling}
 use Rattle.bk_answer.specs.CodeAnswer.{AnswersCodeLine, AnswersTiling, MayWantForCode, any_command, no_item, refuses}
-use Rattle.bk_answer.specs.Item.{HasTiling, IsLaidLine, laid_if}
+use Rattle.bk_answer.specs.Item.{HasTiling, IsLaidLine}
 use Rattle.bk_answer.specs.Plain.{code_command}
 use Rattle.bk_answer.specs.Telling.{WantsMemory}
 use Rattle.bk_answer.proofs.ItemSteps.{is_tiling}
@@ -10,24 +12,24 @@ use Rattle.bk_lines.proofs.Pieces.{writes_none}
 
 pub answer_tiling-requires : goal.answer_tiling-requires
 answer_tiling-requires g c =
-    let has : HasTiling c.args.line.now c.lay_at.new.desk.tiling =
-    subst (λ b. IsLaidLine c.args.line.now (laid_if b c.lay_at.new.desk.tiling)) c.in-Ok-OnDesk.field-0-is c.in-Ok-OnDesk.ensures.laid in
-    is_tiling has.item c.lay_at.new.desk.tiling has.stated
+    let has : HasTiling c.args.line.now c.in-Ok-Some.tiling.now =
+    subst (λ (o : Option (Bor Tiling)). IsLaidLine c.args.line.now (option_copied o)) c.in-Ok-Some.field-0-is c.in-Ok-Some.ensures.laid in
+    is_tiling has.item c.in-Ok-Some.tiling.now has.stated
 
-pub returns-in-Ok-OnDesk-clause-reply : goal.returns-in-Ok-OnDesk-clause-reply
-returns-in-Ok-OnDesk-clause-reply g c =
+pub returns-in-Ok-Some-clause-reply : goal.returns-in-Ok-Some-clause-reply
+returns-in-Ok-Some-clause-reply g c =
     let command = code_command c.args.self in
-    let has : HasTiling c.args.line.now c.lay_at.new.desk.tiling =
-    subst (λ b. IsLaidLine c.args.line.now (laid_if b c.lay_at.new.desk.tiling)) c.in-Ok-OnDesk.field-0-is c.in-Ok-OnDesk.ensures.laid in
-    replies_more (AnswersTiling command c.lay_at.new.desk.tiling) (AnswersCodeLine command c.args.line.now)
-    (WantsMemory command c.lay_at.new.desk.tiling) (MayWantForCode command c.args.line.now)
-    (λ pieces refused. line_answer command c.args.line.now c.lay_at.new.desk.tiling pieces refused has) (λ w. (c.lay_at.new.desk.tiling, has, w))
+    let has : HasTiling c.args.line.now c.in-Ok-Some.tiling.now =
+    subst (λ (o : Option (Bor Tiling)). IsLaidLine c.args.line.now (option_copied o)) c.in-Ok-Some.field-0-is c.in-Ok-Some.ensures.laid in
+    replies_more (AnswersTiling command c.in-Ok-Some.tiling.now) (AnswersCodeLine command c.args.line.now)
+    (WantsMemory command c.in-Ok-Some.tiling.now) (MayWantForCode command c.args.line.now)
+    (λ pieces refused. line_answer command c.args.line.now c.in-Ok-Some.tiling.now pieces refused has) (λ w. (c.in-Ok-Some.tiling.now, has, w))
     (g.O.Sink.written c.args.out.now) (g.O.Sink.written c.answer_tiling.new.out) c.answer_tiling.result c.answer_tiling.ensures.reply
 
-pub returns-in-Ok-Nothing-clause-reply : goal.returns-in-Ok-Nothing-clause-reply
-returns-in-Ok-Nothing-clause-reply g c =
+pub returns-in-Ok-None-clause-reply : goal.returns-in-Ok-None-clause-reply
+returns-in-Ok-None-clause-reply g c =
     writes_none (AnswersCodeLine (code_command c.args.self) c.args.line.now) false (g.O.Sink.written c.args.out.now)
-    (no_item (subst (λ b. IsLaidLine c.args.line.now (laid_if b c.lay_at.new.desk.tiling)) c.in-Ok-Nothing.field-0-is c.in-Ok-Nothing.ensures.laid))
+    (no_item (subst (λ (o : Option (Bor Tiling)). IsLaidLine c.args.line.now (option_copied o)) c.in-Ok-None.field-0-is c.in-Ok-None.ensures.laid))
 
 pub returns-in-Err-clause-reply : goal.returns-in-Err-clause-reply
 returns-in-Err-clause-reply g c =

@@ -3,7 +3,7 @@ use Rattle.bk_text.specs.Gathered.{line_gathered}
 use Rattle.bk_answer.specs.Item.{HasItem}
 use Rattle.bk_answer.specs.Refusing.{too_long}
 use Rattle.bk_answer.proofs.ItemSteps.{laid_of_item, not_read, refused_of_item}
-use Rattle.bk_answer.proofs.items.lay_at.Goals as goal
+use Rattle.bk_answer.proofs.items.lay_line.Goals as goal
 
 pub returns-then-line-gt-LONGEST_LINE-clause-refused : goal.returns-then-line-gt-LONGEST_LINE-clause-refused
 returns-then-line-gt-LONGEST_LINE-clause-refused c = too_long c.if-line-gt-LONGEST_LINE.true
@@ -17,7 +17,7 @@ has_item c = record {
 
 pub returns-in-Ok-clause-laid : goal.returns-in-Ok-clause-laid
 returns-in-Ok-clause-laid c =
-    laid_of_item c.args.line.now (line_gathered c.in-Ok.ending c.read_into.new.gatherer) (has_item c) c.lay_item.new.desk.tiling c.lay_item.result
+    laid_of_item c.args.line.now (line_gathered c.in-Ok.ending c.read_into.new.gatherer) (has_item c) c.lay_item.result
     c.lay_item.ensures.laid
 
 pub returns-in-Ok-clause-refused : goal.returns-in-Ok-clause-refused
