@@ -1,223 +1,238 @@
--- What the first signs of a next move ask for: where it is more than is left, no word goes on by such a move.
-use Rattle.std.proofs.Common.{List, [], ap, append-nil, arith, drop, false, inl, inr, length, refl, subst, sym, take, true, ℕ}
-use Rattle.std.proofs.Common.{◌++◌, ◌+◌, ◌-◌, ◌<◌, ◌∙◌, ◌∷◌, ◌≡◌, ◌≤◌, ◌⊎◌}
-use Rattle.std.proofs.lemmas.Bool.{cases_lt}
-use Rattle.std.proofs.lemmas.List.{length-drop}
-use Rattle.bk_word.specs.Outline.{Outline, has_left_wall, sizes_of, start, valley_place}
+-- What a next move's first signs ask for: where it is more than is left, no word goes on by such a move.
+use Rattle.std.proofs.Common.{Bool, IsTrue, List, Some, [], ap, append_assoc, append-nil, arith, drop, false, inl, inr, length, max, nat_eq, not, refl, slice_get}
+use Rattle.std.proofs.Common.{slice_index_or, subst, suc, sym, take, true, zero, ℕ, ◌++◌, ◌+◌, ◌-◌, ◌<◌, ◌∙◌, ◌∷◌, ◌≡◌, ◌≤◌, ◌⊎◌}
+use Rattle.std.proofs.lemmas.Bool.Decides.{nat_tests}
+use Rattle.std.proofs.lemmas.List.{length-append}
+use Rattle.bk_laws.proofs.ListPlaces.{get_back}
+use Rattle.bk_word.specs.Outline.{IsLegalMove, Outline, has_left_wall, has_right_wall, open_side, start, valley_place}
 use Rattle.bk_word.specs.Play.{IsLegal, outline_of, signs_apart}
+use Rattle.bk_word.specs.Signs.{is_even, is_under}
 use Rattle.bk_word.specs.Word.{Move, Word, order_of}
 use Rattle.bk_word.specs.declared.Sign.{Sign}
-use Rattle.bk_word.proofs.PlayLaws.{after-snoc, legal_front, legal_rest}
+use Rattle.bk_word.specs.declared.Sign.TheVariants.{Above, Even, Under}
+use Rattle.bk_word.proofs.PlayLaws.{after-snoc, legal_rest}
 use Rattle.bk_word.proofs.StoredBytes.{order_append, order_more}
-use Rattle.bk_bounds.proofs.BoundsOfWords.{shape_of_word}
-use Rattle.bk_bounds.proofs.ClosingLaws.{aboves, aboves-append, bound-append, bound-parts, bound_unders, unders, unders-append}
+use Rattle.bk_bounds.proofs.ClosingLaws.{aboves, aboves-append, aboves-cons, bound-parts, bound_aboves, bound_unders, unders, unders-append, unders-cons}
 use Rattle.bk_bounds.specs.ClosingBound.{closing_bound}
-use Rattle.bk_bounds.specs.VerticalCut.{line_bound, line_bound_of, edges_on_lines, touched}
-use Rattle.bk_bounds.specs.SingleValleys.{single_valleys}
-use Rattle.bk_free_cuts.proofs.CutsOfTilings.{too_many_lines_is_free_barren, too_many_singles_is_free_barren}
-use Rattle.bk_net_word.specs.NetWord.{IsNetBarren}
-use Rattle.bk_owed.proofs.LoneLaws.{lone_more}
-use Rattle.bk_owed.proofs.TallyLaws.{front_owes}
-use Rattle.bk_owed.specs.Tally.{IsRaisedTally}
-use Rattle.bk_owed.specs.Lone.{is_low, lone_squares}
-use Rattle.bk_free_search.proofs.Cutting.{cut}
-use Rattle.bk_bounds.proofs.MarksKept.{behind_of_word, first_of_word}
-use Rattle.bk_free_search.proofs.LoneSquares.{behind_least, lone_after}
-use Rattle.bk_free_search.specs.Asking.{EndsOver, IsAsked, IsMark, IsNext, has_first_mark, line_bound_behind, singles_behind}
+use Rattle.bk_free_cuts.proofs.CutsOfTilings.{too_many_singles_is_free_barren}
+use Rattle.bk_normal_cuts.proofs.NextMove.{most_moves_hold_then}
+use Rattle.bk_normal_cuts.proofs.StrongWords.{strong_bound_is_normal_barren, strong_weight_is_normal_barren}
+use Rattle.bk_normal_cuts.specs.NormalCuts.{IsNormalBarren}
+use Rattle.bk_normal_cuts.specs.StrongBound.{strong_bound_of, weight_of}
+use Rattle.bk_free_search.proofs.BehindSigns.{asked_with_all, asked_with_some, behind_marks_long, joined_marks_long}
+use Rattle.bk_free_search.proofs.Cutting.{by_legal, cut, normal}
+use Rattle.bk_free_search.proofs.EvenSigns.{apart_from_own, side_few}
+use Rattle.bk_free_search.proofs.PassesOn.{ArePartsButLast}
+use Rattle.bk_free_search.proofs.SharedAround.{joined_marks_shared, marks_behind_shared}
+use Rattle.bk_free_search.specs.Apart.{IsCountedTo, behind_marks, joined_marks}
+use Rattle.bk_free_search.specs.Asking.{AreBehind, AreMovesLeft, BarsSign, IsAsked, IsBegun, IsOver, asks_at}
+use Rattle.bk_free_search.specs.Strong.{seen_passed}
 use Rattle.bk_free_search.specs.declared.asking.Asked.{Asked}
+use Rattle.bk_free_search.specs.declared.asking.Beside.{Beside}
 use Rattle.bk_free_search.specs.declared.asking.Next.{Next}
+use Rattle.bk_free_search.specs.declared.behind.Asks.{Asks}
+use Rattle.bk_free_search.specs.declared.behind.Behind.{Behind}
+use Rattle.bk_free_search.specs.declared.strong.Passed.{Passed}
 
--- after a move there are the valleys of one square that its signs tell of and those behind it
-all_singles : (front : Word) (m : Move) → IsLegal (front ++ m ∷ []) → lone_squares (has_left_wall (outline_of front)) m.signs
-    + singles_behind (is_low (has_left_wall (outline_of front)) m.signs) (outline_of front)
-    ≤ single_valleys (outline_of (front ++ m ∷ [])).signs (sizes_of (outline_of (front ++ m ∷ [])))
-all_singles front m legal = subst (λ (o : Outline). lone_squares (has_left_wall (outline_of front)) m.signs
-    + singles_behind (is_low (has_left_wall (outline_of front)) m.signs) (outline_of front) ≤ single_valleys o.signs (sizes_of o))
-    (sym (after-snoc start front m))
-    (lone_after (outline_of front) m (legal_rest start front (m ∷ []) legal).0 (shape_of_word front (legal_front start front (m ∷ []) legal)))
+-- ---- where no square is left
 
--- a move after which more must be hung than are left is barren
-too_many_asked : (n : ℕ) (front : Word) (m : Move) → 2 ≤ n → (IsLegal (front ++ m ∷ []) → n < order_of (front ++ m ∷ [])
-    + closing_bound (outline_of (front ++ m ∷ [])).signs
-    + single_valleys (outline_of (front ++ m ∷ [])).signs (sizes_of (outline_of (front ++ m ∷ [])))) → IsNetBarren n (front ++ m ∷ [])
-too_many_asked n front m least owes = cut n (front ++ m ∷ []) (λ l w rest sound word is. too_many_singles_is_free_barren n (front ++ m ∷ []) least
-    (owes (legal_front start (front ++ m ∷ []) rest (subst IsLegal is word.complete.legal))) l w rest sound word is)
+-- a sign that stays between two segments asks for a closing
+closing_kept : (before signs behind : List Sign) → 1 ≤ aboves signs + unders signs → 1 ≤ closing_bound (before ++ signs ++ behind)
+closing_kept before signs behind some = omega (
+  arith,
+  some,
+  bound_aboves (before ++ signs ++ behind),
+  bound_unders (before ++ signs ++ behind),
+  aboves-append (before ++ signs) behind,
+  aboves-append before signs,
+  unders-append (before ++ signs) behind,
+  unders-append before signs,
+)
 
--- so it is where lines from the top end
-too_many_marked : (n : ℕ) (front : Word) (m : Move) → 3 ≤ n → (IsLegal (front ++ m ∷ []) → n < order_of (front ++ m ∷ [])
-    + line_bound_of (front ++ m ∷ [])
-    + single_valleys (outline_of (front ++ m ∷ [])).signs (sizes_of (outline_of (front ++ m ∷ [])))) → IsNetBarren n (front ++ m ∷ [])
-too_many_marked n front m least owes = cut n (front ++ m ∷ []) (λ l w rest sound word is. too_many_lines_is_free_barren n (front ++ m ∷ []) least
-    (owes (legal_front start (front ++ m ∷ []) rest (subst IsLegal is word.complete.legal))) l w rest sound word is)
+one_part : (signs : List Sign) (s : Sign) (more : List Sign) → (s ≡ Even → ⊥) → 1 ≤ aboves (signs ++ s ∷ more) + unders (signs ++ s ∷ more)
+one_part signs Even more not = absurd (not refl)
+one_part signs Above more not = omega (arith, aboves-append signs (Above ∷ more), aboves-cons Above more)
+one_part signs Under more not = omega (arith, unders-append signs (Under ∷ more), unders-cons Under more)
 
-module _ (front : Word) (other : Move) (signs more : List Sign) (are : other.signs ≡ signs ++ more) where
-  -- the signs around the valley
-  abbrev pub before : List Sign
-  before = take (valley_place (outline_of front).signs - 1) (outline_of front).signs
-
-  abbrev pub behind : List Sign
-  behind = drop (valley_place (outline_of front).signs + 1) (outline_of front).signs
-
-  -- the closing bound after the move
-  pub closings_after : closing_bound (before ++ signs) + unders behind ≤ closing_bound (outline_of (front ++ other ∷ [])).signs
-  closings_after = omega (arith, all, front_owes before signs more behind)
-    where
-      all : closing_bound (outline_of (front ++ other ∷ [])).signs ≡ closing_bound (before ++ (signs ++ more) ++ behind)
-      all = ap (λ (o : Outline). closing_bound o.signs) (after-snoc start front other) ∙ bound-parts (signs_apart (outline_of front) other)
-          ∙ ap (λ l. closing_bound (before ++ l ++ behind)) are
-
-  -- also where segments behind the valley are closed last
-  pub closings_behind_after : aboves (before ++ signs) + closing_bound behind ≤ closing_bound (outline_of (front ++ other ∷ [])).signs
-  closings_behind_after = omega (
-    arith,
-    all,
-    bound-append (before ++ (signs ++ more)) behind,
-    aboves-append before (signs ++ more),
-    aboves-append signs more,
-    aboves-append before signs,
-  )
-    where
-      all : closing_bound (outline_of (front ++ other ∷ [])).signs ≡ closing_bound (before ++ (signs ++ more) ++ behind)
-      all = ap (λ (o : Outline). closing_bound o.signs) (after-snoc start front other) ∙ bound-parts (signs_apart (outline_of front) other)
-          ∙ ap (λ l. closing_bound (before ++ l ++ behind)) are
-
-  -- the first segment's closings, where it has a mark
-  pub marked_after : IsLegal (front ++ other ∷ []) → 0 < valley_place (outline_of front).signs → has_first_mark front ≡ true
-      → unders (before ++ signs) + unders behind + 1 ≤ line_bound_of (front ++ other ∷ [])
-  marked_after legal h e = omega (
-    arith,
-    first_of_word front other legal h e,
-    unders-append (before ++ other.signs) behind,
-    unders-append before other.signs,
-    unders-append before signs,
-    ap unders are,
-    unders-append signs more,
-  )
-
-  -- those behind the valley, where lines from the top end
-  pub lines_behind_after : IsLegal (front ++ other ∷ []) → 0 < line_bound_behind (valley_place (outline_of front).signs) front
-      → aboves (before ++ signs) + line_bound_behind (valley_place (outline_of front).signs) front ≤ line_bound_of (front ++ other ∷ [])
-  lines_behind_after legal some = cases (cases_lt (valley_place (outline_of front).signs) (length (outline_of front).signs))
-    where
-      none : (back : List Sign) (segments : List (List ℕ)) → length segments ≡ 0 → line_bound back (touched (edges_on_lines front) segments) ≡ 0
-      none back [] z = refl
-      none back (s ∷ segments) z = absurd (omega arith)
-
-      cases : (valley_place (outline_of front).signs < length (outline_of front).signs)
-          ⊎ (length (outline_of front).signs ≤ valley_place (outline_of front).signs)
-          → aboves (before ++ signs) + line_bound_behind (valley_place (outline_of front).signs) front ≤ line_bound_of (front ++ other ∷ [])
-      cases (inl h) = omega (
+-- after the last square all signs are even
+pub none_left_is_barred : (n : ℕ) (front : Word) (m : Move) (sign : Sign) → 2 ≤ n → n ≤ order_of front + m.count → (sign ≡ Even → ⊥) → BarsSign n front m sign
+none_left_is_barred n front m sign least none not = record {
+  barren = λ other more count are. normal n (front ++ other ∷ [])
+      (cut n (front ++ other ∷ []) (λ l w rest sound word is. too_many_singles_is_free_barren n (front ++ other ∷ []) least
+      (omega (
         arith,
-        behind_of_word front other legal h,
-        aboves-append before other.signs,
-        aboves-append before signs,
-        ap aboves are,
-        aboves-append signs more,
-      )
-      cases (inr h) = absurd (omega (
+        none,
+        count,
+        order_append front (other ∷ []),
+        order_more other [],
+        ap (λ (o : Outline). closing_bound o.signs) (after-snoc start front other),
+        bound-parts (signs_apart (outline_of front) other),
+        closing_kept (take (valley_place (outline_of front).signs - 1) (outline_of front).signs) other.signs
+            (drop (valley_place (outline_of front).signs + 1) (outline_of front).signs)
+            (subst (λ (l : List Sign). 1 ≤ aboves l + unders l) (sym are) (one_part m.signs sign more not)),
+      )) l w rest sound word is));
+}
+
+-- ---- where squares are left
+
+-- a move after which more moves are asked for than are left, or more squares
+strong_is_barred : (n : ℕ) (front : Word) (other : Move) (moves left most more : ℕ) → 3 ≤ n → AreMovesLeft n front moves
+    → order_of front + other.count + left ≡ n → 0 < left → IsLegal (front ++ other ∷ []) → most ≤ strong_bound_of (front ++ other ∷ [])
+    → more ≤ weight_of (front ++ other ∷ []) → (moves < most) ⊎ (left < most + more) → IsNormalBarren n (front ++ other ∷ [])
+strong_is_barred n front other moves left most more least ahead sum some legal bound weight over = cases over
+  where
+    few : order_of (front ++ other ∷ []) + left ≡ n
+    few = omega (arith, sum, order_append front (other ∷ []), order_more other [])
+
+    cases : (moves < most) ⊎ (left < most + more) → IsNormalBarren n (front ++ other ∷ [])
+    cases (inl h) = strong_bound_is_normal_barren n ahead.most (front ++ other ∷ []) least (most_moves_hold_then n ahead.most front other legal ahead.most_is)
+        (omega (arith, length-append front (other ∷ []))) (omega (arith, few, some))
+        (omega (arith, h, bound, ahead.left_is, length-append front (other ∷ [])))
+    cases (inr h) = strong_weight_is_normal_barren n (front ++ other ∷ []) least (omega (arith, length-append front (other ∷ [])))
+        (omega (arith, few, some)) (omega (arith, h, bound, weight, few))
+
+-- signs that are not even between a move's own squares, but for the last one
+got : (xs : List Sign) (k : ℕ) → slice_index_or xs k Above ≡ Even → slice_get xs k ≡ Some Even
+got [] k e = absurd (cc)
+got (x ∷ xs) zero e = ap (λ s. Some s) e
+got (x ∷ xs) (suc k) e = got xs k e
+
+parted : (front : Word) (other : Move) (signs : List Sign) (s : Sign) (more : List Sign) → IsLegalMove (outline_of front) other → other.signs ≡ signs ++ s ∷ more
+    → 0 < length signs
+    → ((i : ℕ) → open_side (has_left_wall (outline_of front)) ≤ i → i < open_side (has_left_wall (outline_of front)) + (other.count - 1)
+    → slice_get other.signs i ≡ Some Even → ⊥) → ArePartsButLast (s ∷ more)
+parted front other signs s more legal are some none i low even = none (length signs + i)
+    (omega (arith, some, side_few (has_left_wall (outline_of front))))
+    (omega (
+      arith,
+      low,
+      legal.signs,
+      legal.some,
+      side_few (has_right_wall (outline_of front)),
+      ap (λ (l : List Sign). length l) are,
+      length-append signs (s ∷ more),
+    ))
+    (got other.signs (length signs + i) (ap (λ (l : List Sign). slice_index_or l (length signs + i) Above) are
+    ∙ get_back signs (s ∷ more) i (length signs + i) Above refl ∙ even))
+
+-- what is asked for where the move has all its signs
+both_told : (front : Word) (other : Move) (signs : List Sign) (sign : Sign) (asked : Asked) (b : Behind) → IsLegal (front ++ other ∷ [])
+    → other.signs ≡ signs ++ sign ∷ [] → IsAsked front (signs ++ sign ∷ []) asked → AreBehind front b
+    → (max (asked.passed.most + (asks_at b true sign).add) (asked.passed.aboves + (asks_at b true sign).most) ≤ strong_bound_of (front ++ other ∷ []))
+    × (asked.passed.more + (asks_at b true sign).more ≤ weight_of (front ++ other ∷ []))
+both_told front other signs sign asked b legal are asked_is behind = by sign refl
+  where
+    counted : IsCountedTo front other (valley_place (outline_of front).signs - 1 + length other.signs) (seen_passed asked.passed)
+    counted = subst (λ (l : List Sign). IsCountedTo front other (valley_place (outline_of front).signs - 1 + length l) (seen_passed asked.passed)) (sym are)
+        (asked_is.counted other [] legal (are ∙ sym (append-nil (signs ++ sign ∷ []))))
+
+    low : asked.passed.low ≡ is_under sign
+    low = asked_is.low_is (omega (arith, length-append signs (sign ∷ [])))
+        ∙ ap is_under (get_back signs (sign ∷ []) 0 (length (signs ++ sign ∷ []) - 1) Above (omega (arith, length-append signs (sign ∷ []))))
+
+    last : slice_index_or other.signs (length other.signs - 1) Above ≡ sign
+    last = ap (λ (l : List Sign). slice_index_or l (length l - 1) Above) are
+        ∙ get_back signs (sign ∷ []) 0 (length (signs ++ sign ∷ []) - 1) Above (omega (arith, length-append signs (sign ∷ [])))
+
+    by : (s : Sign) → sign ≡ s
+        → (max (asked.passed.most + (asks_at b true sign).add) (asked.passed.aboves + (asks_at b true sign).most) ≤ strong_bound_of (front ++ other ∷ []))
+        × (asked.passed.more + (asks_at b true sign).more ≤ weight_of (front ++ other ∷ []))
+    by Above e = subst (λ (s : Sign). (max (asked.passed.most + (asks_at b true s).add) (asked.passed.aboves + (asks_at b true s).most)
+        ≤ strong_bound_of (front ++ other ∷ [])) × (asked.passed.more + (asks_at b true s).more ≤ weight_of (front ++ other ∷ []))) (sym e)
+        (asked_with_all front other legal (seen_passed asked.passed) false (behind_marks front) b.above.add b.above.most b.above.more counted
+        (low ∙ ap is_under e) (behind_marks_long front other legal) (marks_behind_shared front other legal) behind.above)
+    by Under e = subst (λ (s : Sign). (max (asked.passed.most + (asks_at b true s).add) (asked.passed.aboves + (asks_at b true s).most)
+        ≤ strong_bound_of (front ++ other ∷ [])) × (asked.passed.more + (asks_at b true s).more ≤ weight_of (front ++ other ∷ []))) (sym e)
+        (asked_with_all front other legal (seen_passed asked.passed) true (behind_marks front) b.under.add b.under.most b.under.more counted
+        (low ∙ ap is_under e) (behind_marks_long front other legal) (marks_behind_shared front other legal) behind.under)
+    by Even e = subst (λ (s : Sign). (max (asked.passed.most + (asks_at b true s).add) (asked.passed.aboves + (asks_at b true s).most)
+        ≤ strong_bound_of (front ++ other ∷ [])) × (asked.passed.more + (asks_at b true s).more ≤ weight_of (front ++ other ∷ []))) (sym e)
+        (asked_with_all front other legal (seen_passed asked.passed) false (joined_marks front) b.even.add b.even.most b.even.more counted
+        (low ∙ ap is_under e) (joined_marks_long front other legal)
+        (joined_marks_shared front other legal (last ∙ e) (omega (arith, ap (λ (l : List Sign). length l) are, length-append signs (sign ∷ [])))) behind.even)
+
+-- a sum is more where its parts, one by one, are
+weighed : (passed : Passed) (asks : Asks) (moves left : ℕ) → IsOver passed asks moves left
+    → (moves < max (passed.most + asks.add) (passed.aboves + asks.most))
+    ⊎ (left < max (passed.most + asks.add) (passed.aboves + asks.most) + (passed.more + asks.more))
+weighed passed asks moves left (inl h) = inl h
+weighed passed asks moves left (inr h) = inr (omega (arith, h))
+
+module _ (n : ℕ) (front : Word) (m : Move) (next : Next) (around : Beside) (sign : Sign) (begun : IsBegun n front m next around) (asked : Asked)
+    (asked_is : IsAsked front (m.signs ++ sign ∷ []) asked) (some : 0 < next.left) where
+  -- where the sign is the last one
+  pub last_is_barred : length m.signs + 1 ≡ next.wanted → IsOver asked.passed (asks_at around.behind true sign) around.ahead.moves next.left
+      → BarsSign n front m sign
+  last_is_barred at over = record { barren = λ other more count are. by_legal n (front ++ other ∷ []) (λ legal. at_last other more count are legal) }
+    where
+      at_last : (other : Move) (more : List Sign) → other.count ≡ m.count → other.signs ≡ m.signs ++ sign ∷ more → IsLegal (front ++ other ∷ [])
+          → IsNormalBarren n (front ++ other ∷ [])
+      at_last other [] count are legal = let both = both_told front other m.signs sign asked around.behind legal are asked_is begun.around_is.behind_is in
+          strong_is_barred n front other around.ahead.moves next.left
+          (max (asked.passed.most + (asks_at around.behind true sign).add) (asked.passed.aboves + (asks_at around.behind true sign).most))
+          (asked.passed.more + (asks_at around.behind true sign).more) begun.least begun.around_is.moves_are
+          (omega (arith, begun.next_is.left_is, begun.fits, count)) some legal both.0 both.1
+          (weighed asked.passed (asks_at around.behind true sign) around.ahead.moves next.left over)
+      at_last other (s ∷ more) count are legal = absurd (omega (
         arith,
-        some,
-        none behind (drop (valley_place (outline_of front).signs + 1) (outline_of front).segments) (omega (
-          arith,
-          h,
-          length-drop (valley_place (outline_of front).signs + 1) (outline_of front).segments,
-          (shape_of_word front (legal_front start front (other ∷ []) legal)).many,
-        )),
+        (legal_rest start front (other ∷ []) legal).0.signs,
+        count,
+        begun.next_is.wanted_is,
+        at,
+        ap (λ (l : List Sign). length l) are,
+        length-append m.signs (sign ∷ s ∷ more),
       ))
 
-  -- and the valleys of one square
-  singles_after : IsLegal (front ++ other ∷ []) → lone_squares (has_left_wall (outline_of front)) signs + singles_behind false (outline_of front)
-      ≤ single_valleys (outline_of (front ++ other ∷ [])).signs (sizes_of (outline_of (front ++ other ∷ [])))
-  singles_after legal = omega (
-    arith,
-    all_singles front other legal,
-    ap (lone_squares (has_left_wall (outline_of front))) are,
-    lone_more (has_left_wall (outline_of front)) signs more,
-    behind_least (is_low (has_left_wall (outline_of front)) other.signs) (outline_of front),
-  )
+  -- and where others follow
+  pub earlier_is_barred : (length m.signs + 1 ≡ next.wanted → ⊥) → IsOver asked.passed around.behind.even around.ahead.moves next.left → BarsSign n front m sign
+  earlier_is_barred not over = record {
+    barren = λ other more count are. apart_from_own n front other (λ move none.
+        by_legal n (front ++ other ∷ []) (λ legal. before_last other more count are move none legal));
+  }
+    where
+      before_last : (other : Move) (more : List Sign) → other.count ≡ m.count → other.signs ≡ m.signs ++ sign ∷ more → IsLegalMove (outline_of front) other
+          → ((i : ℕ) → open_side (has_left_wall (outline_of front)) ≤ i → i < open_side (has_left_wall (outline_of front)) + (other.count - 1)
+          → slice_get other.signs i ≡ Some Even → ⊥) → IsLegal (front ++ other ∷ []) → IsNormalBarren n (front ++ other ∷ [])
+      before_last other [] count are move none legal = absurd (not (omega (
+        arith,
+        move.signs,
+        count,
+        begun.next_is.wanted_is,
+        ap (λ (l : List Sign). length l) are,
+        length-append m.signs (sign ∷ []),
+      )))
+      before_last other (s ∷ more) count are move none legal =
+          let split : other.signs ≡ (m.signs ++ sign ∷ []) ++ s ∷ more = are ∙ sym (append_assoc m.signs (sign ∷ []) (s ∷ more)) in
+          let both = asked_with_some front other legal (seen_passed asked.passed) (m.signs ++ sign ∷ []) s more around.behind.even.add around.behind.even.most
+          around.behind.even.more split (asked_is.counted other (s ∷ more) legal split)
+          (parted front other (m.signs ++ sign ∷ []) s more move split (omega (arith, length-append m.signs (sign ∷ []))) none)
+          begun.around_is.behind_is.even in
+          strong_is_barred n front other around.ahead.moves next.left
+          (max (asked.passed.most + around.behind.even.add) (asked.passed.aboves + around.behind.even.most))
+          (asked.passed.more + around.behind.even.more) begun.least begun.around_is.moves_are
+          (omega (arith, begun.next_is.left_is, begun.fits, count)) some legal both.0 both.1
+          (weighed asked.passed around.behind.even around.ahead.moves next.left over)
 
--- a move is barren after which the raised bound of its first signs, and as many valleys of one square as are said, ask for more than is left
-raised_is_barred : (n : ℕ) (front : Word) (other : Move) (signs more : List Sign) (mark bound aboves singles : ℕ) → 2 ≤ n
-    → other.signs ≡ signs ++ more → IsMark n front mark
-    → IsRaisedTally (take (valley_place (outline_of front).signs - 1) (outline_of front).signs ++ signs) mark bound aboves
-    → (IsLegal (front ++ other ∷ []) → singles
-    ≤ single_valleys (outline_of (front ++ other ∷ [])).signs (sizes_of (outline_of (front ++ other ∷ []))))
-    → n < order_of (front ++ other ∷ []) + bound + unders (drop (valley_place (outline_of front).signs + 1) (outline_of front).signs) + singles
-    → IsNetBarren n (front ++ other ∷ [])
-raised_is_barred n front other signs more mark bound aboves singles least are marked tally all over =
-    cases (cases_lt (closing_bound (before front other signs more are ++ signs)) bound)
-  where
-    plain : bound ≤ closing_bound (before front other signs more are ++ signs) → IsNetBarren n (front ++ other ∷ [])
-    plain h = too_many_asked n front other least (λ legal. omega (arith, over, h, closings_after front other signs more are, all legal))
+  -- either way
+  pub over_is_barred : (last : Bool) (asks : Asks) (left : ℕ) → (last ≡ true → length m.signs + 1 ≡ next.wanted)
+      → (last ≡ false → length m.signs + 1 ≡ next.wanted → ⊥) → asks ≡ asks_at around.behind last sign → left ≡ next.left
+      → IsOver asked.passed asks around.ahead.moves left → BarsSign n front m sign
+  over_is_barred true asks left at before is same over = last_is_barred (at refl)
+      (subst (λ (k : ℕ). IsOver asked.passed (asks_at around.behind true sign) around.ahead.moves k) same
+      (subst (λ (a : Asks). IsOver asked.passed a around.ahead.moves left) is over))
+  over_is_barred false asks left at before is same over = earlier_is_barred (before refl)
+      (subst (λ (k : ℕ). IsOver asked.passed around.behind.even around.ahead.moves k) same
+      (subst (λ (a : Asks). IsOver asked.passed a around.ahead.moves left) is over))
 
-    raised : closing_bound (before front other signs more are ++ signs) < bound → IsNetBarren n (front ++ other ∷ [])
-    raised h = too_many_marked n front other (marked.least some) (λ legal. omega (
-      arith,
-      over,
-      is,
-      marked.few,
-      marked_after front other signs more are legal (marked.apart some) (marked.has some),
-      all legal,
-    ))
-      where
-        is : bound ≡ unders (before front other signs more are ++ signs) + mark
-        is = omega (arith, h, tally.bound_is)
+-- what a test of numbers tells
+pub same_told : (a b : ℕ) → nat_eq a b ≡ true → a ≡ b
+same_told a b e = grind (arith, nat_tests)
 
-        some : 0 < mark
-        some = omega (arith, h, is, bound_unders (before front other signs more are ++ signs))
+pub other_told : (a b : ℕ) → nat_eq a b ≡ false → a ≡ b → ⊥
+other_told a b e = grind (arith, nat_tests)
 
-    cases : (closing_bound (before front other signs more are ++ signs) < bound) ⊎ (bound ≤ closing_bound (before front other signs more are ++ signs))
-        → IsNetBarren n (front ++ other ∷ [])
-    cases (inl h) = raised h
-    cases (inr h) = plain h
-
--- a move whose signs begin with these is barren where they ask for more than there is room for
-pub asked_is_barred : (n count : ℕ) (front : Word) (signs : List Sign) (other : Move) (more : List Sign) (next : Next) (asked : Asked) → 2 ≤ n
-    → IsNext n front count next → IsAsked n front signs asked → next.room < asked.tally.bound + asked.lone.found → other.count ≡ count
-    → other.signs ≡ signs ++ more → IsNetBarren n (front ++ other ∷ [])
-asked_is_barred n count front signs other more next asked least next_is asked_is over same are =
-    raised_is_barred n front other signs more asked_is.mark asked.tally.bound asked.tally.aboves (asked.lone.found + singles_behind false (outline_of front))
-    least are asked_is.mark_is asked_is.tally
-    (λ legal. omega (arith, asked_is.lone.found_is, singles_after front other signs more are legal))
-    (omega (arith, over, same, next_is.room_is, order_append front (other ∷ []), order_more other []))
-
--- so it is where they and what stands behind the valley do
-pub asked_behind_is_barred : (n count : ℕ) (front : Word) (signs : List Sign) (other : Move) (more : List Sign) (next : Next) (asked : Asked) → 2 ≤ n
-    → IsNext n front count next → IsAsked n front signs asked → next.room_above < asked.tally.aboves + asked.lone.found
-    → other.count ≡ count → other.signs ≡ signs ++ more → IsNetBarren n (front ++ other ∷ [])
-asked_behind_is_barred n count front signs other more next asked least next_is asked_is over same are = cases (cases_lt 0 next_is.closings)
-  where
-    more_than : n < order_of (front ++ other ∷ []) + asked.tally.aboves + next_is.closings + asked.lone.found + singles_behind false (outline_of front)
-    more_than = omega (arith, over, same, next_is.room_above_is, order_append front (other ∷ []), order_more other [])
-
-    cases : (0 < next_is.closings) ⊎ (next_is.closings ≤ 0) → IsNetBarren n (front ++ other ∷ [])
-    cases (inl h) = too_many_marked n front other (next_is.closings_are.least h) (λ legal. omega (
-      arith,
-      more_than,
-      next_is.closings_are.are h,
-      asked_is.tally.aboves_is,
-      asked_is.lone.found_is,
-      lines_behind_after front other signs more are legal (omega (arith, h, next_is.closings_are.are h)),
-      singles_after front other signs more are legal,
-    ))
-    cases (inr h) = too_many_asked n front other least (λ legal. omega (
-      arith,
-      more_than,
-      h,
-      asked_is.tally.aboves_is,
-      asked_is.lone.found_is,
-      closings_behind_after front other signs more are,
-      singles_after front other signs more are legal,
-    ))
-
--- and a move of these signs where the segment behind them is low at the left, and they ask for more then
-pub ended_is_barred : (n : ℕ) (front : Word) (m : Move) (next : Next) (asked : Asked) → 2 ≤ n → IsNext n front m.count next → IsAsked n front m.signs asked
-    → EndsOver asked next.room_low → IsNetBarren n (front ++ m ∷ [])
-ended_is_barred n front m next asked least next_is asked_is over =
-    raised_is_barred n front m m.signs [] asked_is.mark asked.tally.bound asked.tally.aboves (asked.lone.found + singles_behind true (outline_of front)) least
-    (sym (append-nil m.signs)) asked_is.mark_is asked_is.tally (λ legal. omega (
-      arith,
-      asked_is.lone.found_is,
-      all_singles front m legal,
-      ap (λ b. singles_behind b (outline_of front)) (sym asked_is.lone.now_is ∙ over.low_is),
-    )) (omega (arith, over.over, next_is.room_low_is, order_append front (m ∷ []), order_more m []))
+pub not_even : (b : Bool) (s : Sign) → b ≡ is_even s → IsTrue (not b) → s ≡ Even → ⊥
+not_even false Even e told = λ f. absurd (cc)
+not_even false Above e told = λ f. absurd (cc)
+not_even false Under e told = λ f. absurd (cc)
+not_even true s e told = λ f. absurd (cc)

@@ -1,6 +1,6 @@
 -- Cuts of the search: of a next move by its count and its first signs, and of all moves.
 use Rattle.std.proofs.Common.{Contains, List, Some, [], ap, arith, drop, false, length, length-append, length-drop}
-use Rattle.std.proofs.Common.{length-take, refl, slice_get, suc, sym, take, zero, ℕ, ◌*◌, ◌++◌, ◌+◌, ◌-◌, ◌<◌, ◌∙◌, ◌∷◌}
+use Rattle.std.proofs.Common.{length-take, refl, slice_get, subst, suc, sym, take, zero, ℕ, ◌*◌, ◌++◌, ◌+◌, ◌-◌, ◌<◌, ◌∙◌, ◌∷◌}
 use Rattle.std.proofs.Common.{◌≡◌, ◌≤◌}
 use Rattle.std.proofs.lemmas.List.Sums.{count_by-le-length, length-filter}
 use Rattle.bk_word.specs.Outline.{IsLegalMove, Outline, has_left_wall, open_side, start, valley_of, valley_place}
@@ -10,7 +10,7 @@ use Rattle.bk_word.specs.declared.Sign.{Sign}
 use Rattle.bk_word.specs.declared.Sign.TheVariants.{Above, Even}
 use Rattle.bk_free_cuts.proofs.CutsOfTilings.{even_squares_are_free_barren, one_segment_is_free_barren, one_under_one_is_free_barren}
 use Rattle.bk_free_cuts.proofs.CutsOfTilings.{staying_above_is_free_barren}
-use Rattle.bk_word.proofs.PlayLaws.{few_signs}
+use Rattle.bk_word.proofs.PlayLaws.{few_signs, legal_front}
 use Rattle.bk_word.proofs.StoredBytes.{order_more}
 use Rattle.bk_free_cuts.proofs.CutByNodes.{shared_node_is_free_barren}
 use Rattle.bk_free_cuts.specs.FreeCuts.{IsFreeBarren}
@@ -113,3 +113,8 @@ few_signs_open w legal = omega (arith, few_open start w legal)
 
 pub shared_is_barren : (w : Word) → ShareANode w → (n : ℕ) → IsNetBarren n w
 shared_is_barren w share n = cut n w (shared_node_is_free_barren n w share)
+
+-- what is barren where it is legal is barren
+pub by_legal : (n : ℕ) (front : Word) → (IsLegal front → IsNormalBarren n front) → IsNormalBarren n front
+by_legal n front barren l w rest sound is_normal word keeps is =
+    barren (legal_front start front rest (subst (AreLegalFrom start) is (word.complete).legal)) l w rest sound is_normal word keeps is

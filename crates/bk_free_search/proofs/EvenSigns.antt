@@ -14,8 +14,7 @@ use Rattle.bk_word.proofs.PlayLaws.{legal_rest}
 use Rattle.bk_free_cuts.proofs.CutsOfTilings.{even_squares_are_free_barren}
 use Rattle.bk_normal_cuts.proofs.SquaresLeft.{evens-cons, evens_most}
 use Rattle.bk_normal_cuts.specs.NormalCuts.{IsNormalBarren}
-use Rattle.bk_free_search.proofs.Cutting.{contained, cut, normal}
-use Rattle.bk_free_search.proofs.MovesAsked.{by_legal}
+use Rattle.bk_free_search.proofs.Cutting.{by_legal, contained, cut, normal}
 use Rattle.bk_free_search.specs.Asking.{AreEvensNeeded}
 
 pub evens_append : (xs ys : List Sign) → count_by is_even (xs ++ ys) ≡ count_by is_even xs + count_by is_even ys

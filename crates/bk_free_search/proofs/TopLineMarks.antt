@@ -1,14 +1,14 @@
 -- The squares at lines from the top, by the numbers of their left lines.
-use Rattle.std.proofs.Common.{Bool, List, [], ap, arith, cond, false, length, length-append, nat_eq, nat_le, refl, replicate, slice_index_or}
-use Rattle.std.proofs.Common.{suc, sym, take, true, zero, ℕ, ◌++◌, ◌+◌, ◌-◌, ◌<◌, ◌∙◌, ◌∷◌, ◌≡◌, ◌≤◌, ◌&&◌}
+use Rattle.std.proofs.Common.{Bool, IsTrue, List, [], ap, arith, cond, false, length, length-append, nat_eq, nat_le, refl, replicate, slice_index_or}
+use Rattle.std.proofs.Common.{subst, suc, sym, take, true, zero, ℕ, ◌++◌, ◌+◌, ◌-◌, ◌<◌, ◌∙◌, ◌∷◌, ◌≡◌, ◌≤◌, ◌&&◌}
 use Rattle.std.proofs.lemmas.Bool.Decides.{nat_tests}
 use Rattle.std.proofs.lemmas.List.{length-replicate, map-append}
 use Rattle.bk_word.specs.Outline.{Outline, start, valley_of}
-use Rattle.bk_word.specs.Play.{AreLegalFrom, IsLegal, after_move, numbers_from}
+use Rattle.bk_word.specs.Play.{AreLegalFrom, IsLegal, after_move, numbers_from, outline_of}
 use Rattle.bk_word.specs.Word.{Move, Word, order_of}
 use Rattle.bk_word.proofs.StoredBytes.{order_more}
 use Rattle.bk_bounds.specs.VerticalCut.{begins_on_line, lines_after, lines_along, edges_on_lines}
-use Rattle.bk_free_cuts.specs.LineNumbers.{left_end, lefts_of, new_sides, right_end, sides_after, sides_along}
+use Rattle.bk_free_cuts.specs.LineNumbers.{left_end, lefts_of, new_sides, right_end, sides_after, sides_along, sides_of}
 use Rattle.bk_free_search.proofs.LeftLines.{end_left, lefts_in, new_lefts}
 use Rattle.bk_free_search.specs.Boards.{IsBoardOf}
 use Rattle.bk_free_search.specs.declared.line_set.LineSet.{LineSet}
@@ -127,3 +127,14 @@ some_taken (m ∷ w) front k e some = omega arith
 pub first_kept : (w front : Word) (first : ℕ) → (0 < length w → first ≡ first_count w) → front ≡ take (length w - 1) w → 0 < length front
     → first ≡ first_count front
 first_kept w front first before e some = before (some_taken w front (length w - 1) e some) ∙ first_less w front (length w - 1) e some
+
+-- a line at the left of the valley that comes from the top, by its number
+pub left_on_line : (w : Word) (squares : List ℕ) (line top : ℕ) → squares ≡ valley_of (outline_of w) → (v : Word) → v ≡ w → IsLegal v
+    → line ≡ left_end (sides_of w) squares → top ≡ first_count w → 2 ≤ line → IsTrue (nat_le line top)
+    → begins_on_line (edges_on_lines w) (valley_of (outline_of w)) ≡ true
+left_on_line w squares line top are v same legal line_is top_is least most = (λ i. begins_on_line (marks_of_lefts w (subst (λ (u : Word). IsLegal u) same legal) i)
+    (sym are i)) ∙ sym (segment_top (first_count w) (lefts_of w) squares) ∙ ap (is_top_line (first_count w)) (sym (line_is ∙ end_left (sides_of w) squares))
+    ∙ both 2 line line (first_count w) least (omega (arith, told line top most, top_is))
+  where
+    told : (a b : ℕ) → IsTrue (nat_le a b) → a ≤ b
+    told a b e = grind (arith, nat_tests)

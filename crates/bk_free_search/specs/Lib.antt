@@ -8,5 +8,6 @@ pub mod NodeLines
 pub mod Joining
 pub mod TopLines
 pub mod Boards
+pub mod Apart
 pub mod Asking
 pub mod Strong

@@ -1,7 +1,7 @@
 -- A pass over the open segments as the search counts it.
 -- Example (StrongExamples): over the segments of 2u.2ua, of which the first two are marked, it counts 3 moves and the weight 1.
 use Rattle.std.specs.List.{list_any}
-use Rattle.std.specs.Prelude.{Bool, List, drop, nat_le, take, ℕ, ◌+◌, ◌||◌, ◌≤◌}
+use Rattle.std.specs.Prelude.{Bool, List, drop, max, nat_le, take, ℕ, ◌+◌, ◌||◌, ◌≤◌}
 use Rattle.bk_bounds.specs.VerticalCut.{begins_on_line, on_line, segments_of}
 use Rattle.bk_normal_cuts.specs.NormalCuts.{touched_or_wide}
 use Rattle.bk_normal_cuts.specs.StrongPass.{Passed as SeenPassed}
@@ -10,11 +10,15 @@ use Rattle.bk_free_search.specs.declared.strong.Passed.{Passed}
 abbrev pub seen_passed : Passed → SeenPassed
 seen_passed p = record { most = p.most; aboves = p.aboves; more = p.more; low = p.low }
 
--- none of the numbers is greater than this
-pub record ArePassedWithin (p : Passed) (limit : ℕ) : Type 0 where
-  pub most : p.most ≤ limit
-  pub aboves : p.aboves ≤ limit
-  pub more : p.more ≤ limit
+-- the mark of the segment in front of which it is counted
+abbrev pub with_mark : SeenPassed → SeenPassed
+with_mark p = record { most = max p.most (p.aboves + 1); aboves = p.aboves; more = p.more; low = p.low }
+
+-- the numbers are small after a pass over so many segments
+pub record IsFew (p : Passed) (k : ℕ) : Type 0 where
+  pub most : p.most ≤ k + 2
+  pub aboves : p.aboves ≤ k
+  pub more : p.more ≤ k
 
 -- whether the segment of so many of the open squares from a place on is marked, in front of one of as many as is said next: a line bounds
 -- it or ended on it, or it has at least as many squares as the top

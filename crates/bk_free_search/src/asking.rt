@@ -1,226 +1,201 @@
 //! What a next move's first signs ask for, counted sign by sign.
 
-ghost use Rattle.std.specs.Prelude.{IsTrue, List, [], drop, false, length, true, ℕ, ◌++◌, ◌+◌, ◌-◌, ◌<◌, ◌∷◌, ◌≡◌, ◌≤◌};
-ghost use Rattle.bk_bounds.specs.SingleValleys.{single_valleys_from};
-ghost use Rattle.bk_word.specs.Outline.{open_side, valley_place};
-ghost use Rattle.bk_word.specs.Play.{outline_of};
-ghost use Rattle.bk_word.specs.Word.{Word as Moves, order_of};
+ghost use Rattle.std.specs.Prelude.{IsTrue, List, [], false, length, true, ℕ, ◌++◌, ◌+◌, ◌-◌, ◌<◌, ◌∷◌, ◌≡◌, ◌≤◌};
+ghost use Rattle.bk_word.specs.Outline.{has_left_wall, open_side, valley_place};
+ghost use Rattle.bk_word.specs.Play.{IsLegal, outline_of};
+ghost use Rattle.bk_word.specs.Word.{Move as SeenMove, Word as Moves, order_of};
 ghost use Rattle.bk_word.specs.declared.Sign.{Sign as SeenSign};
-ghost use Rattle.bk_free_search.specs.Asking.{AreClosingsBehind, EndsOver, IsAsked, IsMark, IsNext, StandBeside};
+ghost use Rattle.bk_word.specs.declared.Sign.TheVariants.{Above, Even, Under};
+ghost use Rattle.bk_free_search.specs.Apart.{IsCountedTo};
+ghost use Rattle.bk_free_search.specs.Asking.{AreAskedBefore, AreFewAsks, AreMarks, IsAsked, IsNext, IsOver, StandBeside};
+ghost use Rattle.bk_free_search.specs.Strong.{IsFew, seen_passed};
 
 use crate::ahead::{Ahead, look_ahead};
+use crate::behind::{Asks, Behind, behind_valley};
 use crate::board::Board;
 use crate::counts::one_if;
-use bk_owed::{
-    Lone, Tally, first_above, lone_with, single_valleys, tally_behind, tally_with, unders_behind,
-};
+use crate::line_set::LineSet;
+use crate::marks::{has_mark, is_left_on_line, is_wide_then, marks_of};
+use crate::strong::{Passed, in_front_of_mark, none_passed, past_one};
+use bk_owed::first_above;
 use bk_skel::open_side;
 use bk_word::Sign;
 
-/// What stands beside the leftmost valley: whether the walls do, how many signs are under behind it, the closing bound there, how many
-/// valleys of one square stand there, and what the signs before it ask for. (Own.)
+/// What stands beside the leftmost valley: whether the walls do, what the segments before it ask for, and those behind it, and what is ahead. (Own.)
 #[derive(Clone, Copy, Drop)]
 pub(crate) struct Beside {
     pub(crate) left_wall: bool,
     pub(crate) right_wall: bool,
-    unders: usize,
-    closings: usize,
-    behind: Behind,
+    pub(crate) before: Before,
+    pub(crate) behind: Behind,
     pub(crate) ahead: Ahead,
-    pub(crate) asked: Asked,
 }
 
-// How many valleys have one square from behind the last sign of a next move on, where the segment there isn't low at the left,
-// and where it is.
+/// What is asked for before the first sign of a next move, and with the sign even or under at a left neighbour. (Own.)
 #[derive(Clone, Copy, Drop)]
-struct Behind {
-    singles: usize,
-    singles_low: usize,
+pub(crate) struct Before {
+    pub(crate) none: Asked,
+    even: Asked,
+    under: Asked,
 }
 
-/// Of a next move of some count: whether the valley has a wall at its left, how many signs the move has, and how many squares may
-/// be asked for by them, where the segment behind the last one isn't low at the left, where it is, and where segments behind the valley
-/// are closed last. (Own.)
+/// Of a next move of some count: how many signs it has, and how many squares are left after it. (Own.)
 #[derive(Clone, Copy, Default, Drop)]
 pub(crate) struct Next {
-    pub(crate) left_wall: bool,
     pub(crate) wanted: u8,
-    pub(crate) room: usize,
-    pub(crate) room_low: usize,
-    pub(crate) room_above: usize,
-    pub(crate) right_side: usize,
-    pub(crate) moves_under: usize,
-    pub(crate) moves_above: usize,
-    pub(crate) evens: usize,
+    pub(crate) left: usize,
 }
 
-/// The tally of the signs before the valley and of a move's first signs, and the new valleys of one square by these. (Own.)
+/// What is counted in front of a segment, and how many of a move's first signs are even. (Own.)
 #[derive(Clone, Copy, Drop)]
 pub(crate) struct Asked {
-    pub(crate) tally: Tally,
-    pub(crate) lone: Lone,
+    pub(crate) passed: Passed,
     pub(crate) evens: usize,
 }
 
 /// What stands beside the leftmost valley of a board, from which words of the order are looked for.
 pub(crate) fn stand_beside(board: &Board, order: u8) -> Beside
-    requires few { order_of board.now ≤ 200 }
-    ensures beside { StandBeside order board.now result }
-    ensures asked { IsAsked order board.now [] result.asked }
-    ensures few { result.asked.tally.bound + result.asked.lone.found ≤ 401 }
+    requires few { order_of board.now ≤ 16 }
+    ensures { StandBeside order board.now result }
 {
-    let skel = board.skel();
-    let signs = skel.signs();
+    let signs = board.skel().signs();
     let place = first_above(signs);
-    let marked = Tally {
-        bound: first_mark(board, place, order),
-        aboves: 0,
-    };
     let left_wall = place == 0;
     let right_wall = place == signs.len();
+    let marks = marks_of(board);
     Beside {
         left_wall,
         right_wall,
-        unders: unders_behind(signs, place),
-        closings: closings_behind(board, place, order),
-        behind: behind_valley(signs, skel.sizes(), place),
+        before: before_valley(board, marks, place),
+        behind: behind_valley(board, marks, place),
         ahead: look_ahead(board, order, left_wall, right_wall),
-        asked: Asked {
-            tally: tally_behind(marked, &signs[..place.saturating_sub(1)]),
-            lone: Lone {
-                found: 0,
-                low: left_wall,
-            },
+    }
+}
+
+// What is asked for before the leftmost valley of a board, which is the segment at this place.
+fn before_valley(board: &Board, marks: LineSet, place: usize) -> Before
+    requires few { order_of board.now ≤ 16 }
+    requires marks { AreMarks board.now marks }
+    requires place { place ≡ valley_place (outline_of board.now).signs }
+    ensures { AreAskedBefore board.now result }
+{
+    if place == 0 {
+        let none = Asked {
+            passed: none_passed(),
             evens: 0,
-        },
-    }
-}
-
-// One where the first segment has a mark at orders of at least 3, and isn't the valley at this place.
-fn first_mark(board: &Board, place: usize, order: u8) -> usize
-    requires place { place ≡ valley_place (outline_of board.now).signs }
-    ensures few { result ≤ 1 }
-    ensures mark { IsMark order board.now result }
-{
-    if order >= 3 && place > 0 {
-        usize::from(board.is_first_touched())
-    } else {
-        0
-    }
-}
-
-// The closing bound of the segments behind the valley at a place, where at orders of at least 3 those with a mark have one closing more.
-fn closings_behind(board: &Board, place: usize, order: u8) -> usize
-    requires place { place ≡ valley_place (outline_of board.now).signs }
-    ensures { AreClosingsBehind order board.now result }
-{
-    if order >= 3 {
-        board.line_bound_behind(place)
-    } else {
-        0
-    }
-}
-
-// The valleys of one square behind the valley at a place.
-fn behind_valley(signs: &[Sign], sizes: &[u8], place: usize) -> Behind
-    requires long { length sizes.now ≡ length signs.now + 1 }
-    requires place { place ≤ length signs.now }
-    ensures wall { place ≡ length signs.now → result.singles ≡ 0 }
-    ensures wall_low { place ≡ length signs.now → result.singles_low ≡ 1 }
-    ensures singles { place < length signs.now
-        → result.singles ≡ single_valleys_from false (drop (place + 1) signs.now) (drop (place + 1) sizes.now) }
-    ensures singles_low { place < length signs.now
-        → result.singles_low ≡ single_valleys_from true (drop (place + 1) signs.now) (drop (place + 1) sizes.now) }
-{
-    if place == signs.len() {
-        return Behind {
-            singles: 0,
-            singles_low: 1,
+        };
+        return Before {
+            none,
+            even: none,
+            under: none,
         };
     }
-    let singles_low = single_valleys(&signs[place + 1..], &sizes[place + 1..]);
-    let first = first_single(&signs[place + 1..], sizes[place + 1]);
-    Behind {
-        singles: singles_low - first,
-        singles_low,
-    }
-}
-
-// One where the first of some segments, of so many squares, is a valley of one square if it is low at the left.
-fn first_single(signs: &[Sign], size: u8) -> usize
-    ensures { (sizes : List ℕ) → single_valleys_from true signs.now (size ∷ sizes) ≡ result + single_valleys_from false signs.now (size ∷ sizes) }
-{
-    match signs.first() {
-        Some(sign) => match *sign {
-            Sign::Above => usize::from(size == 1),
-            Sign::Even | Sign::Under => 0,
-        },
-        None => usize::from(size == 1),
+    let passed = pass_before(board, marks, place - 1);
+    Before {
+        none: Asked { passed, evens: 0 },
+        even: left_even(board, marks, place - 1, passed),
+        under: left_under(board, marks, place - 1, passed),
     }
 }
 
 /// Of a next move of the count, after which so many squares are left.
+#[inline]
 pub(crate) fn next_of(beside: &Beside, count: u8, left: usize) -> Next
     requires some { 0 < count }
     requires few { count ≤ 16 }
     ensures { (order : ℕ) (front : Moves) → StandBeside order front beside.now → left ≡ order - order_of front - count
         → IsNext order front count result }
 {
-    let room = left.saturating_sub(beside.unders);
     Next {
-        left_wall: beside.left_wall,
         wanted: count - 1 + open_side(beside.left_wall) as u8 + open_side(beside.right_wall) as u8,
-        room: room.saturating_sub(beside.behind.singles),
-        room_low: room.saturating_sub(beside.behind.singles_low),
-        room_above: left
-            .saturating_sub(beside.closings)
-            .saturating_sub(beside.behind.singles),
-        right_side: open_side(beside.right_wall),
-        moves_under: beside.ahead.moves.saturating_sub(beside.unders),
-        moves_above: beside.ahead.moves.saturating_sub(beside.closings),
-        evens: beside.ahead.evens,
+        left,
     }
 }
 
-/// What is asked for with one sign more.
-pub(crate) fn asked_with(asked: &Asked, sign: Sign) -> Asked
-    requires few { asked.now.tally.bound + asked.now.lone.found ≤ 1000 }
-    requires low { asked.now.tally.aboves ≤ asked.now.tally.bound }
+/// What is asked for with one sign more, the first one of the move or not, where a first one isn't above at a left neighbour.
+#[inline(always)]
+pub(crate) fn asked_with(beside: &Beside, asked: &Asked, first: bool, sign: Sign) -> Asked
+    requires few { IsFew asked.now.passed 3000 }
     requires evens { asked.now.evens ≤ 1000 }
-    ensures asked { (n : ℕ) (front : Moves) (signs : List SeenSign) → IsAsked n front signs asked.now → IsAsked n front (signs ++ sign ∷ []) result }
-    ensures few { result.tally.bound + result.lone.found ≤ asked.now.tally.bound + asked.now.lone.found + 2 }
-    ensures low { result.tally.aboves ≤ result.tally.bound }
+    ensures { (n : ℕ) (front : Moves) (signs : List SeenSign) → StandBeside n front beside.now → IsAsked front signs asked.now
+        → (first ≡ true → signs ≡ []) → (first ≡ false → 0 < length signs)
+        → (first ≡ true → has_left_wall (outline_of front) ≡ false → sign ≡ Above → ⊥) → IsAsked front (signs ++ sign ∷ []) result }
 {
+    if first && !beside.left_wall {
+        return if sign.is_even() {
+            beside.before.even
+        } else {
+            beside.before.under
+        };
+    }
     Asked {
-        tally: tally_with(asked.tally, sign),
-        lone: lone_with(asked.lone, sign),
+        passed: past_one(asked.passed, sign, false),
         evens: asked.evens + one_if(sign.is_even()),
     }
 }
 
-/// Whether the signs above and the new valleys ask for more squares than there is room for where segments behind the valley are closed
-/// last.
-pub(crate) fn is_over_behind(asked: &Asked, room_above: usize) -> bool
-    requires few { asked.now.tally.bound + asked.now.lone.found ≤ 2000 }
-    requires low { asked.now.tally.aboves ≤ asked.now.tally.bound }
-    ensures { IsTrue result → room_above < asked.now.tally.aboves + asked.now.lone.found }
+/// Whether the segments up to a place and those behind ask for more moves than are left, or for more squares.
+#[inline(always)]
+pub(crate) fn is_over(passed: &Passed, asks: &Asks, moves: usize, left: usize) -> bool
+    requires few { IsFew passed.now 3000 }
+    requires small { AreFewAsks asks.now 3000 }
+    ensures { IsTrue result → IsOver passed.now asks.now moves left }
 {
-    asked.tally.aboves + asked.lone.found > room_above
+    let most = (passed.most + asks.add).max(passed.aboves + asks.most);
+    if moves < most {
+        return true;
+    }
+    left < most + passed.more + asks.more
 }
 
-/// Whether more squares are asked for than there is room for.
-pub(crate) fn is_over(asked: &Asked, room: usize) -> bool
-    requires few { asked.now.tally.bound + asked.now.lone.found ≤ 2000 }
-    ensures over { IsTrue result → room < asked.now.tally.bound + asked.now.lone.found }
-    ensures within { result ≡ false → asked.now.tally.bound + asked.now.lone.found ≤ room }
+// What is counted over so many segments, all before the one before the valley.
+fn pass_before(board: &Board, marks: LineSet, many: usize) -> Passed
+    requires few { order_of board.now ≤ 16 }
+    requires marks { AreMarks board.now marks }
+    requires many { many + 1 ≡ valley_place (outline_of board.now).signs }
+    ensures counted { (m : SeenMove) → IsLegal (board.now ++ m ∷ []) → IsCountedTo board.now m many (seen_passed result) }
+    ensures few { IsFew result many }
+    ensures small { many ≤ 32 }
 {
-    asked.tally.bound + asked.lone.found > room
+    let signs = board.skel().signs();
+    let mut passed = none_passed();
+    'segments: for i in 0..many {
+        passed = past_one(passed, signs[i], has_mark(marks, i));
+    }
+    passed
 }
 
-/// Whether the segment behind the signs is low at the left, and more squares are asked for than there is room for then.
-pub(crate) fn ends_over(asked: &Asked, room_low: usize) -> bool
-    requires few { asked.now.tally.bound + asked.now.lone.found ≤ 2000 }
-    ensures { IsTrue result → EndsOver asked.now room_low }
+// What is asked for with the sign even at a left neighbour, which is the segment at a place.
+fn left_even(board: &Board, marks: LineSet, place: usize, passed: Passed) -> Asked
+    requires marks { AreMarks board.now marks }
+    requires place { place + 1 ≡ valley_place (outline_of board.now).signs }
+    requires few { IsFew passed 402 }
+    requires counted { (m : SeenMove) → IsLegal (board.now ++ m ∷ []) → IsCountedTo board.now m place (seen_passed passed) }
+    ensures { IsAsked board.now (Even ∷ []) result }
 {
-    asked.lone.low && is_over(asked, room_low)
+    Asked {
+        passed: past_one(passed, Sign::Even, is_wide_then(board, marks, place)),
+        evens: 1,
+    }
+}
+
+// And with the sign under.
+fn left_under(board: &Board, marks: LineSet, place: usize, passed: Passed) -> Asked
+    requires marks { AreMarks board.now marks }
+    requires place { place + 1 ≡ valley_place (outline_of board.now).signs }
+    requires few { IsFew passed 402 }
+    requires counted { (m : SeenMove) → IsLegal (board.now ++ m ∷ []) → IsCountedTo board.now m place (seen_passed passed) }
+    ensures { IsAsked board.now (Under ∷ []) result }
+{
+    let behind = past_one(passed, Sign::Under, has_mark(marks, place));
+    if is_left_on_line(board) {
+        return Asked {
+            passed: in_front_of_mark(behind),
+            evens: 0,
+        };
+    }
+    Asked {
+        passed: behind,
+        evens: 0,
+    }
 }

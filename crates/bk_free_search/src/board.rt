@@ -6,20 +6,15 @@ ghost use Rattle.bk_word.specs.Outline.{IsLegalMove};
 ghost use Rattle.bk_word.specs.Play.{IsLegal, outline_of};
 ghost use Rattle.bk_word.specs.Word.{order_of};
 ghost use Rattle.bk_free_cuts.specs.LineNumbers.{left_end, lefts_of, right_end, sides_at, sides_of};
-ghost use Rattle.bk_free_search.specs.Asking.{has_first_mark, line_bound_behind};
 ghost use Rattle.bk_free_search.specs.Joining.{TouchOneNode};
 ghost use Rattle.bk_normal_cuts.specs.WordNumbers.{counts_of_word, first_count};
-ghost use Rattle.bk_normal_cuts.specs.StrongBound.{strong_bound_of, weight_of};
 ghost use Rattle.bk_free_search.specs.Rights.{rights_of};
-ghost use Rattle.bk_free_search.specs.Strong.{ArePassedWithin};
 ghost use Rattle.bk_free_search.specs.SeenCounts.{seen_counts};
 
 use crate::counts::{Counts, times};
 use crate::line_set::LineSet;
 use crate::node_lines::{has_both, node_lines};
 use crate::sides::{left_of, left_of_first, push_lefts, push_rights, right_of, right_of_last};
-use crate::strong::{Passed, strong_pass};
-use crate::top_lines::{is_first_touched, line_bound_from};
 use arrayvec::ArrayVec;
 use bk_skel::Skel;
 use bk_word::{LARGEST_ORDER, Move};
@@ -146,49 +141,6 @@ impl Board {
             return false;
         }
         has_both(&self.nodes, left, right)
-    }
-
-    /// Whether a line from the top bounds the first open segment or ended on it.
-    pub(crate) fn is_first_touched(&self) -> bool
-        ensures { IsTrue result → has_first_mark self.now ≡ true }
-    {
-        is_first_touched(self.skel.sizes(), self.skel.ends(), &self.lefts, self.first)
-    }
-
-    /// The closing bound of the segments behind the one at a place, where one that a line from the top bounds or ended on has one
-    /// closing more; 0 where there are none.
-    pub(crate) fn line_bound_behind(&self, place: usize) -> usize
-        requires { place ≤ length (outline_of self.now).signs }
-        ensures { result ≡ line_bound_behind place self.now }
-    {
-        let signs = self.skel.signs();
-        if place == signs.len() {
-            return 0;
-        }
-        line_bound_from(
-            signs,
-            self.skel.sizes(),
-            self.skel.ends(),
-            &self.lefts,
-            self.first,
-            place + 1,
-        )
-    }
-
-    /// What a pass over the open segments counts.
-    pub(crate) fn strong_pass(&self) -> Passed
-        requires few { order_of self.now ≤ 200 }
-        ensures bound { result.most ≡ strong_bound_of self.now }
-        ensures weight { result.more ≡ weight_of self.now }
-        ensures few { ArePassedWithin result 4000 }
-    {
-        strong_pass(
-            self.skel.signs(),
-            self.skel.sizes(),
-            self.skel.ends(),
-            &self.lefts,
-            self.first(),
-        )
     }
 
     /// Plays a move, which must be legal, with at most 200 squares then.

@@ -31,6 +31,7 @@ pub(crate) fn bars(left_wall: bool, m: &Move, sign: Sign) -> bool
     ensures barren { IsTrue result → (n : ℕ) (front : Moves) (other : SeenMove) (more : List SeenSign)
         → left_wall ≡ has_left_wall (outline_of front) → other.count ≡ m.now.count → other.signs ≡ m.now.signs ++ sign ∷ more
         → IsNetBarren n (front ++ other ∷ []) }
+    ensures above { result ≡ false → left_wall ≡ false → length m.now.signs ≡ 0 → sign ≡ Above → ⊥ }
 {
     let place = m.signs.len();
     if !left_wall && place == 0 {

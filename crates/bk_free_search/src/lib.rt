@@ -3,11 +3,13 @@
 
 mod ahead;
 mod asking;
+mod behind;
 mod board;
 mod counts;
 mod cuts;
 mod joining;
 mod line_set;
+mod marks;
 mod node_lines;
 mod questions;
 mod searching;

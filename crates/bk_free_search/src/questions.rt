@@ -1,17 +1,18 @@
 //! What is asked of words that have begun: each answer that bars them rests on a law that no word of a normal layout goes on so.
 
 ghost use Rattle.std.specs.List.{list_all};
-ghost use Rattle.std.specs.Prelude.{IfNone, IfSome, IsTrue, [], length, ◌++◌, ◌+◌, ◌<◌, ◌∷◌, ◌≡◌, ◌≤◌, ◌⊎◌};
-ghost use Rattle.bk_word.specs.Outline.{IsLegalMove};
+ghost use Rattle.std.specs.Prelude.{IfNone, IfSome, IsTrue, [], length, true, ◌++◌, ◌+◌, ◌<◌, ◌∷◌, ◌≡◌, ◌≤◌, ◌⊎◌};
+ghost use Rattle.bk_word.specs.Outline.{IsLegalMove, open_side};
 ghost use Rattle.bk_word.specs.Play.{outline_of};
 ghost use Rattle.bk_word.specs.Signs.{is_under};
 ghost use Rattle.bk_word.specs.Word.{order_of};
 ghost use Rattle.bk_normal_cuts.specs.LastMoves.{AreAllUnder};
 ghost use Rattle.bk_normal_cuts.specs.NormalCuts.{IsNormalBarren, most_moves_of};
-ghost use Rattle.bk_free_search.specs.Asking.{BarsSign, IsAskedAtFirst, IsAskedWith, IsBegun, StandBeside};
+ghost use Rattle.bk_free_search.specs.Asking.{BarsSign, IsAsked, IsBegun, StandBeside, asks_at};
 
 use crate::ahead::most_moves_of;
-use crate::asking::{Asked, Beside, asked_with, ends_over, is_over, is_over_behind, stand_beside};
+use crate::asking::{Asked, Beside, asked_with, is_over, stand_beside};
+use crate::behind::{Asks, Behind};
 use crate::cuts::bars;
 use crate::joining::joins_barrenly;
 use crate::state::{Begun, Search};
@@ -21,32 +22,52 @@ use bk_word::Sign;
 impl Search {
     /// What is known with one sign more, where the move has fewer than it takes; `None` where no word goes on so.
     #[inline(always)]
-    pub(crate) fn asked_with(&self, begun: &Begun, asked: &Asked, sign: Sign) -> Option<Asked>
-        requires begun { IsBegun self.now.order self.now.board begun.now.m begun.now.next asked.now }
+    pub(crate) fn asked_with(
+        &self,
+        begun: &Begun,
+        around: &Beside,
+        asked: &Asked,
+        sign: Sign,
+    ) -> Option<Asked>
+        requires begun { IsBegun self.now.order self.now.board begun.now.m begun.now.next around.now }
+        requires asked { IsAsked self.now.board begun.now.m.signs asked.now }
         requires signs { length begun.now.m.signs + 1 ≤ begun.now.next.wanted }
-        ensures asked { IfSome result (λ more. IsAskedWith self.now.order self.now.board begun.now.m sign more) }
+        ensures asked { IfSome result (λ more. IsAsked self.now.board (begun.now.m.signs ++ sign ∷ []) more) }
         ensures barred { IfNone result (BarsSign self.now.order self.now.board begun.now.m sign) }
     {
-        if bars(begun.next.left_wall, &begun.m, sign) {
+        if bars(around.left_wall, &begun.m, sign) {
             return None;
         }
-        let more = asked_with(asked, sign);
-        if is_over(&more, begun.next.room) {
+        let place = begun.m.signs.len();
+        let more = asked_with(around, asked, place == 0, sign);
+        if self.asks_for_more(begun, around, &more, sign) {
             return None;
         }
-        if is_over_behind(&more, begun.next.room_above) {
-            return None;
-        }
-        if more.tally.bound > begun.next.moves_under {
-            return None;
-        }
-        if more.tally.aboves > begun.next.moves_above {
-            return None;
-        }
-        if more.evens + evens_to_come(begun) < begun.next.evens {
+        let last = place + 1 == usize::from(begun.next.wanted);
+        if more.evens + evens_to_come(last, around) < around.ahead.evens {
             return None;
         }
         Some(more)
+    }
+
+    // Whether more moves or squares are asked for with this sign than are left. All signs of a move after which no square is left are even.
+    #[inline(always)]
+    fn asks_for_more(&self, begun: &Begun, around: &Beside, more: &Asked, sign: Sign) -> bool
+        requires begun { IsBegun self.now.order self.now.board begun.now.m begun.now.next around.now }
+        requires signs { length begun.now.m.signs + 1 ≤ begun.now.next.wanted }
+        requires asked { IsAsked self.now.board (begun.now.m.signs ++ sign ∷ []) more.now }
+        ensures { IsTrue result → BarsSign self.now.order self.now.board begun.now.m sign }
+    {
+        if begun.next.left == 0 {
+            return !sign.is_even();
+        }
+        let last = begun.m.signs.len() + 1 == usize::from(begun.next.wanted);
+        is_over(
+            &more.passed,
+            asks_next(&around.behind, last, sign),
+            around.ahead.moves,
+            begun.next.left,
+        )
     }
 
     /// What stands beside the leftmost valley, where squares are left; `None` where no word goes on from the board.
@@ -55,12 +76,8 @@ impl Search {
         requires most { self.now.order ≤ 16 }
         requires few { order_of self.now.board < self.now.order }
         ensures beside { IfSome result (λ b. StandBeside self.now.order self.now.board b) }
-        ensures asked { IfSome result (λ b. IsAskedAtFirst self.now.order self.now.board b.asked) }
         ensures barren { IfNone result (IsNormalBarren self.now.order self.now.board) }
     {
-        if self.asks_too_much() {
-            return None;
-        }
         if self.ends_otherwise() {
             return None;
         }
@@ -69,24 +86,6 @@ impl Search {
             return None;
         }
         Some(beside)
-    }
-
-    // Whether the open segments ask for more moves or squares than are left.
-    fn asks_too_much(&self) -> bool
-        requires least { 3 ≤ self.now.order }
-        requires most { self.now.order ≤ 16 }
-        requires few { order_of self.now.board < self.now.order }
-        ensures { IsTrue result → IsNormalBarren self.now.order self.now.board }
-    {
-        let moves = self.board.skel().moves();
-        if moves == 0 {
-            return false;
-        }
-        let passed = self.board.strong_pass();
-        if most_moves_of(&self.board, self.order) < moves + passed.most {
-            return true;
-        }
-        usize::from(self.order) < self.board.skel().order() + passed.most + passed.more
     }
 
     // Whether all signs are under and at most as many moves are left as segments, which then are closed one by one at the right wall, but these
@@ -160,29 +159,40 @@ impl Search {
     }
 
     /// Whether no word goes on by this move, which has all its signs.
-    pub(crate) fn bars_move(&self, begun: &Begun, asked: &Asked) -> bool
-        requires begun { IsBegun self.now.order self.now.board begun.now.m begun.now.next asked.now }
+    pub(crate) fn bars_move(&self, begun: &Begun) -> bool
+        requires few { order_of self.now.board + begun.now.m.count ≤ self.now.order }
         requires legal { IsLegalMove (outline_of self.now.board) begun.now.m }
         ensures { IsTrue result → IsNormalBarren self.now.order (self.now.board ++ begun.now.m ∷ []) }
     {
-        if ends_over(asked, begun.next.room_low) {
-            return true;
-        }
         joins_barrenly(&self.board, &begun.m, self.order)
+    }
+}
+
+// What is asked for behind a sign: the last one of the move, or one that others follow.
+#[inline(always)]
+fn asks_next(behind: &Behind, last: bool, sign: Sign) -> &Asks
+    ensures { result.now ≡ asks_at behind.now last sign }
+{
+    if !last {
+        return &behind.even;
+    }
+    match sign {
+        Sign::Above => &behind.above,
+        Sign::Even => &behind.even,
+        Sign::Under => &behind.under,
     }
 }
 
 // How many more signs may be even behind the next one: none where it is the last, else the one at the right neighbour.
 #[inline(always)]
-fn evens_to_come(begun: &Begun) -> usize
-    requires { length begun.now.m.signs ≤ 17 }
-    ensures more { (length begun.now.m.signs + 1 ≡ begun.now.next.wanted) ⊎ (begun.now.next.right_side ≤ result) }
-    ensures few { result ≤ begun.now.next.right_side }
+fn evens_to_come(last: bool, around: &Beside) -> usize
+    ensures more { (last ≡ true) ⊎ (result ≡ open_side around.now.right_wall) }
+    ensures few { result ≤ 1 }
 {
-    if begun.m.signs.len() + 1 == usize::from(begun.next.wanted) {
+    if last {
         0
     } else {
-        begun.next.right_side
+        open_side(around.right_wall)
     }
 }
 

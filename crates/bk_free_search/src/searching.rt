@@ -6,7 +6,7 @@ ghost use Rattle.bk_word.specs.Play.{IsComplete, outline_of};
 ghost use Rattle.bk_word.specs.Word.{Word as Moves, order_of};
 ghost use Rattle.bk_normal_cuts.specs.NormalImage.{IsNormalSought};
 ghost use Rattle.bk_word.specs.declared.Sign.{Sign as SeenSign};
-ghost use Rattle.bk_free_search.specs.Asking.{IsBegun, IsNext, StandBeside};
+ghost use Rattle.bk_free_search.specs.Asking.{IsAsked, IsBegun, IsNext, StandBeside};
 ghost use Rattle.bk_free_search.specs.Sought.{GoesOn, GoesOnBy};
 
 use crate::asking::{Asked, Beside, Next, next_of};
@@ -97,14 +97,21 @@ impl Search {
         let mut begun = not_begun();
         'counts: for count in least_count(self.board.skel())..left + 1 {
             begin(&mut begun, &around, count, usize::from(left - count));
-            self.with_signs(&mut begun, &around.asked, leaves);
+            self.with_signs(&mut begun, &around, &around.before.none, leaves);
         }
     }
 
     // Meets those that go on by a move that begins so.
     #[cycle(search)]
-    fn with_signs<S: Leaves>(&mut self, begun: &mut Begun, asked: &Asked, leaves: &mut S)
-        requires begun { IsBegun self.old.order self.old.board begun.old.m begun.old.next asked.now }
+    fn with_signs<S: Leaves>(
+        &mut self,
+        begun: &mut Begun,
+        around: &Beside,
+        asked: &Asked,
+        leaves: &mut S,
+    )
+        requires begun { IsBegun self.old.order self.old.board begun.old.m begun.old.next around.now }
+        requires asked { IsAsked self.old.board begun.old.m.signs asked.now }
         ensures all { (w : Moves) → IsNormalSought self.old.order w → GoesOnBy self.old.board begun.old.m.count begun.old.m.signs w → S.has_met leaves.new w }
         ensures kept { (w : Moves) → S.has_met leaves.old w → S.has_met leaves.new w }
         ensures fixed { S.fixed leaves.new ≡ S.fixed leaves.old }
@@ -114,19 +121,27 @@ impl Search {
         ensures next { begun.new.next ≡ begun.old.next }
     {
         if begun.m.signs.len() == usize::from(begun.next.wanted) {
-            self.with_move(begun, asked, leaves);
+            self.with_move(begun, leaves);
             return;
         }
-        self.with_sign(begun, asked, Sign::Above, leaves);
-        self.with_sign(begun, asked, Sign::Even, leaves);
-        self.with_sign(begun, asked, Sign::Under, leaves);
+        self.with_sign(begun, around, asked, Sign::Above, leaves);
+        self.with_sign(begun, around, asked, Sign::Even, leaves);
+        self.with_sign(begun, around, asked, Sign::Under, leaves);
     }
 
     // And those whose next sign is this. It is written out for each sign, so that what bars one is known there.
     #[cycle(search)]
     #[inline(always)]
-    fn with_sign<S: Leaves>(&mut self, begun: &mut Begun, asked: &Asked, sign: Sign, leaves: &mut S)
-        requires begun { IsBegun self.old.order self.old.board begun.old.m begun.old.next asked.now }
+    fn with_sign<S: Leaves>(
+        &mut self,
+        begun: &mut Begun,
+        around: &Beside,
+        asked: &Asked,
+        sign: Sign,
+        leaves: &mut S,
+    )
+        requires begun { IsBegun self.old.order self.old.board begun.old.m begun.old.next around.now }
+        requires asked { IsAsked self.old.board begun.old.m.signs asked.now }
         requires signs { length begun.old.m.signs + 1 ≤ begun.old.next.wanted }
         ensures all { (w : Moves) → IsNormalSought self.old.order w
             → GoesOnBy self.old.board begun.old.m.count (begun.old.m.signs ++ sign ∷ []) w → S.has_met leaves.new w }
@@ -137,19 +152,21 @@ impl Search {
         ensures same { begun.new.m ≡ begun.old.m }
         ensures next { begun.new.next ≡ begun.old.next }
     {
-        let more = match self.asked_with(begun, asked, sign) {
+        let more = match self.asked_with(begun, around, asked, sign) {
             Some(more) => more,
             None => return,
         };
         push_sign(&mut begun.m, sign);
-        self.with_signs(begun, &more, leaves);
+        self.with_signs(begun, around, &more, leaves);
         pop_sign(&mut begun.m);
     }
 
     // Meets those that go on by the move, which has all its signs.
     #[cycle(search)]
-    fn with_move<S: Leaves>(&mut self, begun: &Begun, asked: &Asked, leaves: &mut S)
-        requires begun { IsBegun self.old.order self.old.board begun.now.m begun.now.next asked.now }
+    fn with_move<S: Leaves>(&mut self, begun: &Begun, leaves: &mut S)
+        requires least { 3 ≤ self.old.order }
+        requires most { self.old.order ≤ 16 }
+        requires few { order_of self.old.board + begun.now.m.count ≤ self.old.order }
         requires legal { IsLegalMove (outline_of self.old.board) begun.now.m }
         ensures all { (w : Moves) → IsNormalSought self.old.order w → GoesOn (self.old.board ++ begun.now.m ∷ []) w → S.has_met leaves.new w }
         ensures kept { (w : Moves) → S.has_met leaves.old w → S.has_met leaves.new w }
@@ -157,7 +174,7 @@ impl Search {
         ensures board { self.new.board ≡ self.old.board }
         ensures order { self.new.order ≡ self.old.order }
     {
-        if self.bars_move(begun, asked) {
+        if self.bars_move(begun) {
             return;
         }
         self.board.push(&begun.m);

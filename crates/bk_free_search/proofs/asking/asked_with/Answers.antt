@@ -1,20 +1,15 @@
-use Rattle.std.proofs.Common.{List, [], ap, append_assoc, cond, subst, take, ℕ, ◌++◌, ◌-◌, ◌∙◌, ◌∷◌}
-use Rattle.bk_word.specs.Outline.{has_left_wall, valley_place}
+use Rattle.std.proofs.Common.{arith, ap, cond, length, min, ◌∙◌, ◌≤◌}
+use Rattle.bk_word.specs.Outline.{valley_place}
 use Rattle.bk_word.specs.Play.{outline_of}
-use Rattle.bk_word.specs.declared.Sign.{Sign}
-use Rattle.bk_owed.specs.Tally.{IsRaisedTally}
-use Rattle.bk_free_search.proofs.EvenSigns.{evens_more}
+use Rattle.bk_free_search.proofs.AskedNext.{asked_own, at_wall}
 use Rattle.bk_free_search.proofs.asking.asked_with.Goals as goal
+use Rattle.bk_free_search.proofs.asking.asked_with.Goals.{else-first-via-then-first+else-not-beside, else-first-via-else-first}
 
-pub returns-clause-asked : goal.returns-clause-asked
-returns-clause-asked c n front signs a = record {
-  mark = a.mark;
-  mark_is = a.mark_is;
-  tally = subst (λ (l : List Sign). IsRaisedTally l a.mark c.tally_with.result.bound c.tally_with.result.aboves)
-      (append_assoc (take (valley_place (outline_of front).signs - 1) (outline_of front).signs) signs (c.args.sign ∷ []))
-      (c.tally_with.ensures.raised (take (valley_place (outline_of front).signs - 1) (outline_of front).signs ++ signs) a.mark a.tally);
-  lone = c.lone_with.ensures.lone (has_left_wall (outline_of front)) signs a.lone;
-  few = c.tally_with.ensures.low;
-  evens_are = evens_more signs c.args.sign c.args.asked.now.evens c.one_if.result a.evens_are (c.one_if.ensures
-      ∙ ap (λ b. cond {A = ℕ} b 1 0) c.is_even.ensures);
-}
+pub returns : goal.returns
+returns c n front signs around asked first later above =
+    let inside : min (valley_place (outline_of front).signs) 1 ≤ length signs = elim c.else-first.branch [
+      | else-first-via-then-first+else-not-beside w ↦ at_wall front signs c.args.beside.now.left_wall around.left_is w.if-not-beside.false
+      | else-first-via-else-first w ↦ omega (arith, later w.if-first.false)
+    ] in
+    asked_own front signs c.args.sign c.args.asked.now c.past_one.result c.one_if.result inside asked c.past_one.ensures.passed
+    c.past_one.ensures.few (c.one_if.ensures ∙ ap (λ b. cond b 1 0) c.is_even-2.ensures)

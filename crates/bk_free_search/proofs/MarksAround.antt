@@ -1,0 +1,73 @@
+-- Marks of the segments around a move, each still apart: those before and behind the valley keep theirs, and the first and the last new square
+-- have those of the lines beside the valley.
+use Rattle.std.specs.List.{list_any}
+use Rattle.std.proofs.Common.{Bool, List, [], ap, arith, drop, false, length, nat_le, refl, slice_index_or, suc, take, true, zero, ℕ}
+use Rattle.std.proofs.Common.{◌||◌, ◌++◌, ◌+◌, ◌-◌, ◌<◌, ◌∙◌, ◌∷◌, ◌≡◌}
+use Rattle.std.proofs.lemmas.Bool.{or_left, or_right}
+use Rattle.bk_bounds.proofs.JoinedLines.{or_more}
+use Rattle.bk_bounds.proofs.LineLaws.{any_more, begins_more, next_more}
+use Rattle.bk_bounds.specs.VerticalCut.{begins_on_line, next_on_line, on_line}
+use Rattle.bk_normal_cuts.specs.NormalCuts.{touched_or_wide}
+use Rattle.bk_free_search.proofs.SharedMarks.{mark_of}
+
+-- the marks behind others
+pub marks_behind : (top : ℕ) (lines : List Bool) (xs ys : List (List ℕ)) (t : ℕ)
+    → slice_index_or (touched_or_wide top lines (xs ++ ys)) (length xs + t) false ≡ slice_index_or (touched_or_wide top lines ys) t false
+marks_behind top lines [] ys t = let e : 0 + t ≡ t = omega arith in ap (λ i. slice_index_or (touched_or_wide top lines ys) i false) e
+marks_behind top lines (x ∷ xs) ys t = let e : suc (length xs) + t ≡ suc (length xs + t) = omega arith in
+    ap (λ i. slice_index_or (touched_or_wide top lines (x ∷ (xs ++ ys))) i false) e ∙ marks_behind top lines xs ys t
+
+pub marks_drop : (top : ℕ) (lines : List Bool) (n : ℕ) (segments : List (List ℕ)) (t : ℕ)
+    → slice_index_or (drop n (touched_or_wide top lines segments)) t false ≡ slice_index_or (touched_or_wide top lines (drop n segments)) t false
+marks_drop top lines zero segments t = refl
+marks_drop top lines (suc n) [] t = refl
+marks_drop top lines (suc n) (s ∷ segments) t = marks_drop top lines n segments t
+
+-- a segment that begins on a line is marked, and so is the one in front of it
+pub begins_marked : (top : ℕ) (lines : List Bool) (segments : List (List ℕ)) → next_on_line lines segments ≡ true
+    → slice_index_or (touched_or_wide top lines segments) 0 false ≡ true
+begins_marked top lines [] e = absurd (cc)
+begins_marked top lines ([] ∷ segments) e = absurd (cc)
+begins_marked top lines ((q ∷ s) ∷ segments) e =
+    or_left (list_any (on_line lines) (q ∷ s) || next_on_line lines segments) (nat_le top (length (q ∷ s)))
+    (or_left (list_any (on_line lines) (q ∷ s)) (next_on_line lines segments) (or_left (on_line lines q) (list_any (on_line lines) s) e))
+
+pub marked_before : (top : ℕ) (lines : List Bool) (xs ys : List (List ℕ)) → 0 < length xs → next_on_line lines ys ≡ true
+    → slice_index_or (touched_or_wide top lines (xs ++ ys)) (length xs - 1) false ≡ true
+marked_before top lines [] ys some e = absurd (omega arith)
+marked_before top lines (x ∷ []) ys some e = or_left (list_any (on_line lines) x || next_on_line lines ys) (nat_le top (length x))
+    (or_right (list_any (on_line lines) x) (next_on_line lines ys) e)
+marked_before top lines (x ∷ z ∷ xs) ys some e = let h : length (x ∷ z ∷ xs) - 1 ≡ suc (length (z ∷ xs) - 1) = omega arith in
+    ap (λ i. slice_index_or (touched_or_wide top lines (x ∷ ((z ∷ xs) ++ ys))) i false) h ∙ marked_before top lines (z ∷ xs) ys (omega arith) e
+
+module _ (top : ℕ) (lines later : List Bool) (kept : (q : ℕ) → on_line lines q ≡ true → on_line later q ≡ true) where
+  -- where lines go on, so do marks
+  mark_more : (s : List ℕ) (rest others : List (List ℕ)) → (next_on_line lines rest ≡ true → next_on_line later others ≡ true)
+      → mark_of top lines s rest ≡ true → mark_of top later s others ≡ true
+  mark_more s rest others next = or_more (list_any (on_line lines) s || next_on_line lines rest) (nat_le top (length s))
+      (list_any (on_line later) s || next_on_line later others) (nat_le top (length s))
+      (or_more (list_any (on_line lines) s) (next_on_line lines rest) (list_any (on_line later) s) (next_on_line later others)
+      (any_more lines later kept s) next) (λ e. e)
+
+  pub marks_more : (segments : List (List ℕ)) (i : ℕ) → slice_index_or (touched_or_wide top lines segments) i false ≡ true
+      → slice_index_or (touched_or_wide top later segments) i false ≡ true
+  marks_more [] i e = absurd (cc)
+  marks_more (s ∷ segments) zero e = mark_more s segments segments (next_more lines later kept segments) e
+  marks_more (s ∷ segments) (suc i) e = marks_more segments i e
+
+  -- the first segments, where the next one's line goes on in the new squares
+  next_in_front : (j : ℕ) (more news back : List (List ℕ)) → (begins_on_line lines (slice_index_or more j []) ≡ true → next_on_line later (news ++ back) ≡ true)
+      → next_on_line lines more ≡ true → next_on_line later ((take j more ++ news) ++ back) ≡ true
+  next_in_front j [] news back first e = absurd (cc)
+  next_in_front zero (t ∷ more) news back first e = first e
+  next_in_front (suc j) (t ∷ more) news back first e = begins_more lines later kept t e
+
+  pub marks_before : (p : ℕ) (segments news back : List (List ℕ)) (i : ℕ) → i < p
+      → (begins_on_line lines (slice_index_or segments p []) ≡ true → next_on_line later (news ++ back) ≡ true)
+      → slice_index_or (touched_or_wide top lines segments) i false ≡ true
+      → slice_index_or (touched_or_wide top later ((take p segments ++ news) ++ back)) i false ≡ true
+  marks_before zero segments news back i low first e = absurd (omega arith)
+  marks_before (suc p) [] news back i low first e = absurd (cc)
+  marks_before (suc p) (s ∷ segments) news back zero low first e =
+      mark_more s segments ((take p segments ++ news) ++ back) (next_in_front p segments news back first) e
+  marks_before (suc p) (s ∷ segments) news back (suc i) low first e = marks_before p segments news back i (omega arith) first e

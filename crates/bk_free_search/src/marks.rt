@@ -1,0 +1,104 @@
+//! Which open segments are marked: those that a line from the top bounds or that one ended on, and those with as many squares as the top. None
+//! of them is the last one.
+
+ghost use Rattle.std.specs.List.{sum};
+ghost use Rattle.std.specs.Prelude.{IsTrue, false, length, slice_index_or, true, ℕ, ◌+◌, ◌<◌, ◌≡◌, ◌≤◌, ◌⊎◌};
+ghost use Rattle.bk_bounds.specs.VerticalCut.{begins_on_line, edges_on_lines};
+ghost use Rattle.bk_word.specs.Outline.{sizes_of, valley_of};
+ghost use Rattle.bk_word.specs.Play.{outline_of};
+ghost use Rattle.bk_word.specs.Word.{order_of};
+ghost use Rattle.bk_normal_cuts.specs.WordNumbers.{first_count};
+ghost use Rattle.bk_free_search.specs.Apart.{marks_of_word};
+ghost use Rattle.bk_free_search.specs.Asking.{AreMarks};
+ghost use Rattle.bk_free_search.specs.NodeLines.{Has};
+ghost use Rattle.bk_free_search.specs.Strong.{is_marked_segment, marks_by_lists};
+ghost use Rattle.bk_free_search.specs.TopLines.{on_top_lines};
+
+use crate::board::Board;
+use crate::line_set::{LineSet, has_line, no_line, with_line};
+use crate::top_lines::is_touched;
+
+/// The places of marked segments of a board. (Own.)
+pub(crate) fn marks_of(board: &Board) -> LineSet
+    requires few { order_of board.now ≤ 16 }
+    ensures { AreMarks board.now result }
+{
+    let skel = board.skel();
+    marks_in(skel.sizes(), skel.ends(), board.lefts(), board.first())
+}
+
+// Those of segments of so many squares each, of which these are the numbers, by the left line of each square, and how many squares hang from
+// the top.
+fn marks_in(sizes: &[u8], ends: &[u8], lefts: &[u8], top: u8) -> LineSet
+    requires enough { sum sizes.now ≤ length ends.now }
+    requires few { length sizes.now ≤ 40 }
+    ensures { (i : ℕ) → Has result i → slice_index_or (marks_by_lists top (on_top_lines top lefts.now) sizes.now ends.now) i false ≡ true }
+{
+    let mut marks = no_line();
+    let mut start: usize = 0;
+    'segments: for i in 0..sizes.len() {
+        let mark = is_marked(ends, start, sizes[i], size_at(sizes, i + 1), lefts, top);
+        marks = marked_at(marks, i, mark);
+        start += usize::from(sizes[i]);
+    }
+    marks
+}
+
+// The places with this one more, where it is marked.
+fn marked_at(marks: LineSet, place: usize, mark: bool) -> LineSet
+    requires { place < 40 }
+    ensures { (j : ℕ) → Has result j → ((j ≡ place) × (mark ≡ true)) ⊎ Has marks j }
+{
+    if mark {
+        with_line(marks, place as u8)
+    } else {
+        marks
+    }
+}
+
+// How many squares the segment at a place has, none where there is none.
+fn size_at(sizes: &[u8], place: usize) -> u8
+    ensures { result ≡ slice_index_or sizes.now place 0 }
+{
+    match sizes.get(place) {
+        Some(size) => *size,
+        None => 0,
+    }
+}
+
+// Whether the segment of so many of the squares from a place on is marked, in front of a segment of as many as is said next.
+fn is_marked(ends: &[u8], start: usize, size: u8, next: u8, lefts: &[u8], first: u8) -> bool
+    requires { start + size + next ≤ length ends.now }
+    ensures { result ≡ is_marked_segment first (on_top_lines first lefts.now) ends.now start size next }
+{
+    is_touched(ends, start, size, next, lefts, first) || first <= size
+}
+
+/// Whether a line from the top stands at the left of the valley.
+pub(crate) fn is_left_on_line(board: &Board) -> bool
+    ensures { IsTrue result → begins_on_line (edges_on_lines board.now) (valley_of (outline_of board.now)) ≡ true }
+{
+    let line = board.left_end(board.skel().valley_squares());
+    2 <= line && line <= board.first()
+}
+
+/// Whether the segment at a place, one of the first 32, is among the marked ones.
+#[inline]
+pub(crate) fn has_mark(marks: LineSet, place: usize) -> bool
+    ensures { result ≡ true → Has marks place }
+{
+    place < 32 && has_line(marks, place as u8)
+}
+
+/// Whether the segment at a place is marked, or is with one square more.
+pub(crate) fn is_wide_then(board: &Board, marks: LineSet, place: usize) -> bool
+    requires marks { AreMarks board.now marks }
+    requires place { place ≤ length (outline_of board.now).signs }
+    ensures { result ≡ true → (slice_index_or (marks_of_word board.now) place false ≡ true)
+        ⊎ (first_count board.now ≤ slice_index_or (sizes_of (outline_of board.now)) place 0 + 1) }
+{
+    if has_mark(marks, place) {
+        return true;
+    }
+    board.first() <= board.skel().sizes()[place].saturating_add(1)
+}
