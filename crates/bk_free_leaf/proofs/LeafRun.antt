@@ -9,6 +9,7 @@ use Rattle.bk_tiling.specs.Refusal.{IsAccepted}
 use Rattle.bk_tiling.specs.Scale.{IsPrimitiveTiling}
 use Rattle.bk_tiling.specs.Tiling.{IsTiling, Tiling, sides_of}
 use Rattle.bk_tiling.specs.declared.Square.{Square}
+use Rattle.bk_flow.specs.FlowNumbers.{FlowNumbers}
 use Rattle.bk_net.specs.Flow.{IsPrimitiveFlow}
 use Rattle.bk_net.specs.Net.{HasNoLoose, Net}
 use Rattle.bk_word.specs.Play.{IsComplete}
@@ -140,3 +141,9 @@ module _ (w : Word) (complete : IsComplete w) (few : order_of w ≤ 16) (net : N
               in_order = λ t tiling lowest s. in_order_found w complete few total currents word_flow levels word_right rights squares
                   word_edges (many ∙ ap length lefts_is) word_each t tiling lowest s;
             }
+
+-- the flow of a net, as it is shown
+pub flow_shown : (net : Net) (f : FlowNumbers) (total : ℤ) (currents : List ℤ) → total ≡ f.total → currents ≡ f.currents
+    → IsPrimitiveFlow net f.total f.currents → IsPrimitiveFlow net total currents
+flow_shown net f total currents same_total same_currents flow = subst (λ (z : ℤ). IsPrimitiveFlow net z currents) (sym same_total)
+    (subst (λ (cs : List ℤ). IsPrimitiveFlow net f.total cs) (sym same_currents) flow)

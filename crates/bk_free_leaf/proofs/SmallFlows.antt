@@ -1,14 +1,12 @@
 -- The numbers of the primitive flow of a net of few wires fit 64 bits.
-use Rattle.std.specs.Int.{w64}
 use Rattle.std.specs.List.{AllByRecursion}
-use Rattle.std.specs.Prelude.{All, FitsSigned, nat_abs, pos, ℤ, ◌-ℤ◌}
-use Rattle.std.proofs.Common.{List, [], ap, arith, length, slice_index_or, suc, zero, ℕ, ◌<◌, ◌^◌, ◌∷◌, ◌≤◌}
-use Rattle.std.proofs.lemmas.List.{length-map}
+use Rattle.std.specs.Prelude.{All, nat_abs, pos, ℤ}
+use Rattle.std.proofs.Common.{List, [], arith, length, slice_index_or, suc, zero, ℕ, ◌<◌, ◌^◌, ◌∷◌, ◌≤◌}
 use Rattle.std.proofs.lemmas.List.Elements.{recursion_from_All}
-use Rattle.bk_net.specs.Flow.{IsPrimitiveFlow, potential}
+use Rattle.bk_net.specs.Flow.{IsPrimitiveFlow}
 use Rattle.bk_net.specs.Net.{HasNoLoose, IsNet, Net}
 use Rattle.bk_flow.proofs.NarrowNets.{small_nets_have_small_flows}
-use Rattle.bk_free_leaf.proofs.LevelSteps.{fits_small, small_from}
+use Rattle.bk_free_leaf.proofs.LevelSteps.{small_from}
 use Rattle.bk_free_leaf.specs.Placing.{AreSmall, IsSmall}
 
 -- what holds of all elements holds of each
@@ -28,16 +26,3 @@ module _ (net : Net) (total : ℤ) (currents : List ℤ) (is : IsNet net) (joine
   pub flow_currents_small : AreSmall (2 ^ 34) currents
   flow_currents_small k h = small_from (2 ^ 34) (slice_index_or currents k (pos 0))
       (index_all (λ n. nat_abs n ≤ 2 ^ 34) currents k (pos 0) (recursion_from_All (λ n. nat_abs n ≤ 2 ^ 34) (total ∷ currents) small).1 h)
-
-  pub flow_total_fits : FitsSigned w64 total
-  flow_total_fits = fits_small (2 ^ 34) total flow_total_small (omega arith)
-
--- as many currents as wires
-pub flow_currents_few : (net : Net) (total : ℤ) (currents : List ℤ) → length net.wires ≤ 16 → IsPrimitiveFlow net total currents → length currents ≤ 16
-flow_currents_few net total currents few flow = omega (
-  arith,
-  few,
-  ap length (((flow.1).flow).differences),
-  length-map net.wires (λ e. potential (record { total = total; potentials = flow.0; currents = currents }) e.0 -ℤ potential
-      (record { total = total; potentials = flow.0; currents = currents }) e.1),
-)

@@ -4,7 +4,6 @@
 ghost use Rattle.bk_free_leaf.specs.Candidate.{TheCandidateIsTheTiling};
 
 mod class;
-mod flow;
 mod levels;
 mod placing;
 mod ties;

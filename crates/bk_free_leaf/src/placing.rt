@@ -16,10 +16,10 @@ ghost use Rattle.bk_normal_cuts.specs.WordNumbers.{counts_of_word};
 ghost use Rattle.bk_catalogue.specs.Catalogue.{IsOfClass};
 
 use crate::class::class_allows;
-use crate::flow::flow_of;
 use crate::levels::{NODES, levels_of, place_of, rights_of};
 use crate::ties::{Ties, corners_allow};
 use arrayvec::ArrayVec;
+use bk_flow::narrow_flow;
 use bk_skel::Skel;
 use bk_tiling::Square;
 use bk_word::{Class, INLINE_ORDER};
@@ -63,8 +63,8 @@ fn candidate(skel: &Skel, lefts: &[u8], class: Class) -> Option<Placed>
 {
     let net = skel.net();
     let wires = net.wires();
-    let (total, flow) = flow_of(&net);
-    let currents = flow.as_slice();
+    let flow = narrow_flow(&net);
+    let (total, currents) = (flow.total(), flow.currents());
     if has_zero(currents) {
         return None;
     }

@@ -11,7 +11,6 @@ use Rattle.bk_tiling.proofs.TilingLaws.{side_of}
 use Rattle.bk_tiling.specs.Column.{depth}
 use Rattle.bk_tiling.specs.Tiling.{IsOneOf, IsTiling, Tiling}
 use Rattle.bk_tiling.specs.declared.Square.{Square}
-use Rattle.bk_word.specs.Word.{Word, order_of}
 use Rattle.bk_lay.proofs.UnderValley.{hangs, under_from}
 use Rattle.bk_lay.proofs.Filling.{in_tiling}
 use Rattle.bk_lay.proofs.Laying.{new_depth, same_depth, under_chain}
@@ -20,7 +19,7 @@ use Rattle.bk_lay.proofs.Places.{depth_before_at, depth_from_at}
 use Rattle.bk_lay.specs.Depiction.{FillsFromTop}
 use Rattle.bk_lay.specs.LevelRuns.{FallingRuns, IsFallingRun, IsOutline, IsRun, Meet, RunsFromRight, begins_under, bottoms_of, last_level, run_under}
 use Rattle.bk_lay.specs.LevelRuns.{runs_under}
-use Rattle.bk_lay.specs.TilingWord.{IsLeftmostValley, MovesFollow, bottoms, depth_before, depth_from, hangs_under, squares_under}
+use Rattle.bk_lay.specs.TilingWord.{IsLeftmostValley, bottoms, depth_before, depth_from, hangs_under, squares_under}
 use Rattle.bk_lay.specs.declared.outline.Outline.{Outline}
 use Rattle.bk_lay.specs.declared.outline.Run.{Run}
 
@@ -194,11 +193,3 @@ module _ (t : Tiling) (laid : List Square) (o : Outline) (tiling : IsTiling t) (
   pub same_bottoms : bottoms t laid (segment_of o.valley) ≡ last_level o.left.items ++ bottoms_of (squares_under t (segment_of o.valley))
       ++ last_level o.right.items
   same_bottoms = λ i. left_level i ++ bottoms_of (squares_under t (segment_of o.valley)) ++ right_level i
-
--- what stands after some turns: the word so far, and the outline of what is laid
-pub record Turned (t : Tiling) (w : Word) (o : Outline) : Type 0 where
-  pub laid : List Square
-  pub fills : FillsFromTop t laid
-  pub outline : IsOutline t.width laid o
-  pub follows : (rest : Word) → MovesFollow t laid rest → MovesFollow t [] (w ++ rest)
-  pub room : length o.left.items + length o.right.items ≤ order_of w

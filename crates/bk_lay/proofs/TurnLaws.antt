@@ -14,12 +14,14 @@ use Rattle.bk_word.specs.Word.{Move, Word, order_of}
 use Rattle.bk_lay.proofs.Depicting.{some_signs}
 use Rattle.bk_lay.proofs.Filling.{in_tiling, valley_is_filled}
 use Rattle.bk_lay.proofs.MeetingRuns.{leftmost_in_outline, segment_of}
-use Rattle.bk_lay.proofs.NextTurn.{Turned, few_levels, found, meets, same_bottoms, same_squares}
+use Rattle.bk_lay.proofs.NextTurn.{few_levels, found, meets, same_bottoms, same_squares}
 use Rattle.bk_lay.proofs.WordPlay.{tiling_word_is_complete}
 use Rattle.bk_lay.proofs.Words.{all_full, nothing_laid, some_moves_follow}
-use Rattle.bk_lay.specs.LevelRuns.{IsOutline, Meet, begins_under, bottoms_of, last_level, runs_under}
+use Rattle.bk_lay.specs.LevelRuns.{FallingRuns, IsOutline, Meet, RunsFromRight, begins_under, bottoms_of, last_level, runs_under}
 use Rattle.bk_lay.specs.TilingWord.{IsWordOf, MovesFollow, bottoms, move_under, signs_between, squares_under}
+use Rattle.bk_lay.specs.Turning.{IsTurn, Turned}
 use Rattle.bk_lay.specs.declared.outline.Outline.{Outline}
+use Rattle.bk_lay.specs.declared.outline.Run.{Run}
 
 module _ (t : Tiling) (kept : IsKept t) where
   -- before the first turn no move is known and nothing is laid
@@ -128,10 +130,6 @@ module _ (t : Tiling) (kept : IsKept t) where
       pub order_more : order_of (w ++ m ∷ []) ≡ order_of w + m.count
       order_more = omega (arith, sum_by-append (λ (m : Move). m.count) w (m ∷ []), sum_by-cons (λ (m : Move). m.count) m [])
 
-      -- each turn comes nearer to the tiling's order
-      pub smaller : (v : Word) → v ≡ w ++ m ∷ [] → length t.squares - order_of v < length t.squares - order_of w
-      smaller v is = omega (arith, ap order_of is, order_more, order_fits, count, some_squares)
-
       pub next_turn : (p : Outline) → ((width : ℕ) (laid : List Square) → Meet width laid o.left.items (o.right.items ++ runs_under squares)
           → IsOutline width laid p)
           → length p.left.items + length p.right.items < length o.left.items + (length o.right.items + length squares) → Turned t (w ++ m ∷ []) p
@@ -145,3 +143,39 @@ module _ (t : Tiling) (kept : IsKept t) where
         follows = λ rest f. subst (MovesFollow t []) (sym (append_assoc w (m ∷ []) rest)) (goes_on rest f);
         room = let before = turned.room in omega (arith, order_more, count);
       }
+
+-- the outline of nothing laid: one run, and none beside it
+pub outline_of_nothing : (width : ℕ) (o : Outline) → 0 < width → o.left.items ≡ [] → o.right.items ≡ []
+    → o.valley ≡ record { x = 0; end = width; level = 0 } → IsOutline width [] o
+outline_of_nothing width o some left right valley = record {
+  runs = record {
+    falls = subst (λ (l : List Run). FallingRuns [] 0 l o.valley.x) (sym left) (sym first);
+    run = record {
+      run = record { some = omega (arith, first, last, some); level = λ c lo hi. sym top };
+      wall = λ c e. absurd (omega (arith, e, first));
+    };
+    rest = subst (λ (l : List Run). RunsFromRight [] o.valley.end l width) (sym right) last;
+  };
+  rises = λ h. absurd (omega (arith, h, last));
+}
+  where
+    first : o.valley.x ≡ 0
+    first = ap (λ (r : Run). r.x) valley
+
+    last : o.valley.end ≡ width
+    last = ap (λ (r : Run). r.end) valley
+
+    top : o.valley.level ≡ 0
+    top = ap (λ (r : Run). r.level) valley
+
+-- each turn comes nearer to the tiling's order
+pub nearer : (t : Tiling) (w v : Word) (o : Outline) (m : Move) → IsTurn t w o m → v ≡ w ++ m ∷ []
+    → length t.squares - order_of v < length t.squares - order_of w
+nearer t w v o m turn is = omega (
+  arith,
+  ap order_of is,
+  sum_by-append (λ (m : Move). m.count) w (m ∷ []),
+  sum_by-cons (λ (m : Move). m.count) m [],
+  turn.fits,
+  turn.stands.some,
+)

@@ -4,3 +4,4 @@ pub mod Depiction
 pub mod WordLaws
 -- How its code keeps it.
 pub mod LevelRuns
+pub mod Turning

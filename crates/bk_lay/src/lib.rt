@@ -8,7 +8,7 @@ mod signs;
 mod turns;
 
 pub use signs::sign_between;
-pub use turns::word_of;
+pub use turns::{Turns, word_of};
 
 /// Every tiling has a word.
 pub fn every_tiling_has_a_word()

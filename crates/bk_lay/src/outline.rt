@@ -29,21 +29,34 @@ pub(crate) struct Outline {
 }
 
 impl Outline {
-    // The outline under which nothing is laid yet.
-    pub(crate) fn new(width: u64) -> Outline
-        requires { 0 < width }
-        ensures outline { IsOutline width [] result }
-        ensures alone { length result.left.items + length result.right.items ≡ 0 }
+    // An outline of one column, under which nothing is laid.
+    pub(crate) fn new() -> Outline
+        ensures { IsOutline 1 [] result }
     {
         Outline {
             left: ArrayVec::new(),
             valley: Run {
                 x: 0,
-                end: width,
+                end: 1,
                 level: 0,
             },
             right: ArrayVec::new(),
         }
+    }
+
+    // Becomes the outline of so many columns under which nothing is laid yet.
+    pub(crate) fn begin(&mut self, width: u64)
+        requires { 0 < width }
+        ensures outline { IsOutline width [] self.new }
+        ensures alone { length self.new.left.items + length self.new.right.items ≡ 0 }
+    {
+        self.left.clear();
+        self.right.clear();
+        self.valley = Run {
+            x: 0,
+            end: width,
+            level: 0,
+        };
     }
 
     // The move that hangs these squares under the valley.

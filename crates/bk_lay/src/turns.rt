@@ -1,15 +1,64 @@
 //! The word of a tiling, turn by turn.
 
-ghost use Rattle.std.specs.Prelude.{IfOk, IsOk, count_by, filter, length, ◌≡◌, ◌≤◌};
+ghost use Rattle.std.specs.Prelude.{IfNone, IfOk, IfSome, IsOk, [], count_by, filter, length, ◌<◌, ◌≡◌, ◌≤◌};
 ghost use Rattle.bk_tiling.specs.CodeOrder.{InCodeOrder, comes_before};
 ghost use Rattle.bk_tiling.specs.Tiling.{order};
-ghost use Rattle.bk_lay.specs.LevelRuns.{begins_under, corner};
+ghost use Rattle.bk_lay.specs.LevelRuns.{IsOutline, begins_under, corner};
+ghost use Rattle.bk_tiling.specs.Kept.{IsKept};
+ghost use Rattle.bk_word.specs.Word.{Word as Moves};
 ghost use Rattle.bk_lay.specs.TilingWord.{IsWordOf};
+ghost use Rattle.bk_lay.specs.Turning.{AreTurns, IsTurn, Turned};
 
 use crate::outline::{Outline, Run};
 use bk_tiling::{Square, Tiling};
-use bk_word::{NoMemory, Word};
+use bk_word::{Move, NoMemory, Word};
 use std::alloc::Global;
+use std::marker::Model;
+
+/// The turns in which tilings are laid: one after the other, and one tiling after the other in the same room. (Own.)
+#[derive(Drop)]
+pub struct Turns {
+    outline: Outline,
+}
+
+impl Model for Turns {
+    ghost use Rattle.bk_lay.specs.declared.outline.Outline.{Outline as Laid};
+
+    ghost Value = { Laid };
+
+    ghost view = { λ t. t.outline };
+}
+
+impl Turns {
+    /// Room for the turns of a tiling: the outline of one column under which nothing is laid.
+    pub fn new() -> Turns
+        ensures { IsOutline 1 [] result }
+    {
+        Turns {
+            outline: Outline::new(),
+        }
+    }
+
+    /// Begins a tiling, of which nothing is laid yet.
+    pub fn begin(&mut self, tiling: &Tiling)
+        ensures turned { Turned tiling.now [] self.new }
+        ensures kept { IsKept tiling.now }
+    {
+        self.outline.begin(tiling.width());
+    }
+
+    /// Lays the squares of the tiling's next turn. Its move goes on from the moves before it; where there is none more, these are the word.
+    pub fn next(&mut self, tiling: &Tiling) -> Option<Move>
+        requires { AreTurns tiling.now self.old }
+        ensures next { IfSome result (λ m. (w : Moves) → Turned tiling.now w self.old → IsTurn tiling.now w self.new m) }
+        ensures last { IfNone result ((w : Moves) → Turned tiling.now w self.old → IsWordOf tiling.now w) }
+    {
+        if self.outline.valley.level >= tiling.height() {
+            return None;
+        }
+        Some(turn(&mut self.outline, tiling))
+    }
+}
 
 /// The word of a tiling. Its squares are laid in turns, always all those under the leftmost valley of what is laid: the
 /// leftmost run of columns of one depth whose neighbouring columns are deeper, or are walls. Each turn is a move: the
@@ -20,14 +69,24 @@ pub fn word_of(alloc: Global, tiling: &Tiling) -> Result<Word, NoMemory>
     ensures inline { order tiling.now ≤ 16 → IsOk result }
 {
     let mut word = Word::new(alloc);
-    let mut outline = Outline::new(tiling.width());
-    let height = tiling.height();
-    'turns: while outline.valley.level < height {
-        let squares = squares_under(tiling.squares(), outline.valley);
-        word.push(&outline.move_under(squares))?;
-        outline.lay(squares);
+    let mut turns = Turns::new();
+    turns.begin(tiling);
+    'moves: while let Some(m) = turns.next(tiling) {
+        word.push(&m)?;
     }
     Ok(word)
+}
+
+// The move of the turn that follows, whose squares are laid.
+fn turn(outline: &mut Outline, tiling: &Tiling) -> Move
+    requires going { AreTurns tiling.now outline.old }
+    requires low { outline.old.valley.level < tiling.now.height }
+    ensures { (w : Moves) → Turned tiling.now w outline.old → IsTurn tiling.now w outline.new result }
+{
+    let squares = squares_under(tiling.squares(), outline.valley);
+    let next = outline.move_under(squares);
+    outline.lay(squares);
+    next
 }
 
 // The squares, in code order, whose tops lie on a run.

@@ -79,7 +79,7 @@ the_member n class t u c turn member same canonical =
     (a_canonical_tiling_is_one (image turn t) c t of_member.tiling (subst (λ v. IsCanonicalOf v c) same canonical) of_member.canonical).1
 
 -- it has as many squares
-as_many : (t c : Tiling) → IsCanonicalOf t c → length c.squares ≡ length t.squares
+pub as_many : (t c : Tiling) → IsCanonicalOf t c → length c.squares ≡ length t.squares
 as_many t c canonical =
     let scaled : Tiling = scaled_down_tiling t in
     let g : ℕ = gcd_of (map (λ q. q.s) t.squares) in

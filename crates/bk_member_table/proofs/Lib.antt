@@ -1,4 +1,5 @@
 pub mod FoundMembers
+pub mod TurnedSquares
 pub mod WholeTables
 pub mod QuickTests
 pub mod MembersExamples

@@ -1,8 +1,9 @@
 //! The members of which a search meets a word of an image.
 
 ghost use Rattle.std.specs.Prelude.{IsSome, IsTrue, None, [], ℕ, ◌<◌, ◌≡◌, ◌≤◌};
-ghost use Rattle.bk_tiling.specs.Tiling.{Tiling as Tiled};
+ghost use Rattle.bk_tiling.specs.Tiling.{IsTiling, Tiling as Tiled, order};
 ghost use Rattle.bk_tiling.specs.Scale.{IsPrimitiveTiling};
+ghost use Rattle.bk_sym.specs.Canonical.{IsCanonical};
 ghost use Rattle.bk_sym.specs.Image.{image};
 ghost use Rattle.bk_sym.specs.declared.Turn.{Turn as Turned};
 ghost use Rattle.bk_normal.specs.Normal.{IsHalf};
@@ -19,25 +20,25 @@ ghost use Rattle.bk_free_search.specs.SeenCounts.{seen_counts};
 ghost use Rattle.bk_member_table.specs.Finding.{HasMoreMembers, HasOnlyMembers, IsHeld, wanted};
 
 use crate::judging::is_simple_of;
+use crate::turning::{best_turn, lying_size, turned_squares};
 use bk_free_leaf::{Placed, Ties, leaf};
 use bk_free_search::{Board, Counts, Leaves};
-use bk_lay::word_of;
+use bk_lay::Turns;
 use bk_packed::{Packed, Table};
-use bk_sym::canonical;
+use bk_sym::{canonical, is_canonical};
 use bk_tiling::Tiling;
 use bk_word::Class;
-use std::alloc::Global;
 use std::marker::Model;
 
 // Puts the packed words of the members of an order and a class into a table, from a number on, as a search meets words of their images, and no
 // other numbers.
 #[derive(Drop)]
 pub(crate) struct Finder<const N: usize> {
-    alloc: Global,
     order: u8,
     class: Class,
     from: u128,
     table: Table<N>,
+    turns: Turns,
 }
 
 impl<const N: usize> Model for Finder<N> {
@@ -52,16 +53,16 @@ impl<const N: usize> Model for Finder<N> {
 
 impl<const N: usize> Finder<N> {
     /// One that has met no word.
-    pub fn new(alloc: Global, order: u8, class: Class, from: u128) -> Finder<N>
+    pub fn new(order: u8, class: Class, from: u128) -> Finder<N>
         requires { order ≤ 16 }
         ensures { result ≡ record { order = order; class = class; from = from; numbers = record { kept = []; limit = None } } }
     {
         Finder {
-            alloc,
             order,
             class,
             from,
             table: Table::new(),
+            turns: Turns::new(),
         }
     }
 
@@ -113,8 +114,10 @@ impl<const N: usize> Finder<N> {
             → IsHeld self.old.from self.new.numbers t }
         ensures kept { (x : ℕ) → Holds self.old.numbers x → Holds self.new.numbers x }
     {
-        let squares = placed.squares.as_slice();
-        match Tiling::try_new(placed.width, placed.height, squares) {
+        let which = best_turn(placed);
+        let (width, height) = lying_size(placed.width, placed.height);
+        let squares = turned_squares(placed, which);
+        match Tiling::try_new(width, height, squares.as_slice()) {
             Ok(tiling) => self.meet_tiling(&tiling),
             Err(_) => {}
         }
@@ -130,9 +133,37 @@ impl<const N: usize> Finder<N> {
         if tiling.order() != usize::from(self.order) {
             return;
         }
-        let member = canonical(tiling);
-        if is_simple_of(&member, self.class) {
-            self.put(&member);
+        if is_canonical(tiling) {
+            self.meet_canonical(tiling);
+        } else {
+            self.meet_image(tiling);
+        }
+    }
+
+    // The same of a tiling of the order that isn't its own canonical tiling. Hardly one is met, and the room for its images is needed only here.
+    #[inline(never)]
+    fn meet_image(&mut self, tiling: &Tiling)
+        requires tiling { IsTiling tiling.now }
+        requires order { order tiling.now ≡ self.old.order }
+        ensures fixed { wanted self.new ≡ wanted self.old }
+        ensures put { (t : Tiled) (turn : Turned) → IsMember self.old.order self.old.class t → tiling.now ≡ image turn t
+            → IsHeld self.old.from self.new.numbers t }
+        ensures kept { (x : ℕ) → Holds self.old.numbers x → Holds self.new.numbers x }
+    {
+        self.meet_canonical(&canonical(tiling));
+    }
+
+    // Puts the word of a canonical tiling of the order into the table, where this is a member.
+    fn meet_canonical(&mut self, tiling: &Tiling)
+        requires tiling { IsTiling tiling.now }
+        requires order { order tiling.now ≡ self.old.order }
+        requires canonical { IsCanonical tiling.now }
+        ensures fixed { wanted self.new ≡ wanted self.old }
+        ensures put { IsMember self.old.order self.old.class tiling.now → IsHeld self.old.from self.new.numbers tiling.now }
+        ensures kept { (x : ℕ) → Holds self.old.numbers x → Holds self.new.numbers x }
+    {
+        if is_simple_of(tiling, self.class) {
+            self.put(tiling);
         }
     }
 
@@ -143,10 +174,7 @@ impl<const N: usize> Finder<N> {
         ensures put { IsHeld self.old.from self.new.numbers tiling.now }
         ensures kept { (x : ℕ) → Holds self.old.numbers x → Holds self.new.numbers x }
     {
-        let Ok(word) = word_of(self.alloc, tiling) else {
-            unreachable!();
-        };
-        let number = Packed::of(&word).number();
+        let number = Packed::of_tiling(&mut self.turns, tiling).number();
         if self.from <= number {
             self.table.put(number);
         }

@@ -5,6 +5,7 @@ mod corners;
 mod finding;
 mod judging;
 mod members;
+mod turning;
 
 pub use judging::qualifies;
 pub use members::MemberTable;

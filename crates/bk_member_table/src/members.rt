@@ -32,17 +32,17 @@ impl<const N: usize> Model for MemberTable<N> {
 
 impl<const N: usize> MemberTable<N> {
     /// A table of order 0, which has no member: it keeps nothing, and dropped nothing.
-    pub fn new(alloc: Global) -> MemberTable<N>
+    pub fn new(_alloc: Global) -> MemberTable<N>
         ensures { result ≡ record { order = 0; class = Simple; from = 0; numbers = record { kept = []; limit = None } } }
     {
         MemberTable {
-            finder: Finder::new(alloc, 0, Class::Simple, 0),
+            finder: Finder::new(0, Class::Simple, 0),
         }
     }
 
     /// The table of the members of this order and class, from a number on: it is whole up to its bound. Each of them whose packed word
     /// isn't below this number has it in the table, or, where the table was cut, above the greatest that is kept.
-    pub fn of(alloc: Global, order: u8, class: Class, from: u128) -> MemberTable<N>
+    pub fn of(_alloc: Global, order: u8, class: Class, from: u128) -> MemberTable<N>
         requires least { 3 ≤ order }
         requires most { order ≤ 16 }
         ensures order { result.order ≡ order }
@@ -50,7 +50,7 @@ impl<const N: usize> MemberTable<N> {
         ensures from { result.from ≡ from }
         ensures whole { IsWhole result }
     {
-        let mut finder = Finder::new(alloc, order, class, from);
+        let mut finder = Finder::new(order, class, from);
         search(&mut finder, order);
         finder.settle();
         MemberTable { finder }

@@ -1,6 +1,7 @@
 -- words as numbers: digits of base 4, their order, and how they are read back
 pub mod BaseFour
 pub mod WordDigits
+pub mod LaidDigits
 pub mod PackedOrder
 pub mod PackedExamples
 pub mod DigitsBack

@@ -1,4 +1,5 @@
 pub mod Packed
+pub mod Laid
 pub mod PackedLaws
 pub mod Reading
 pub mod Kept

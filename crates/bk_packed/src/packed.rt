@@ -5,12 +5,17 @@ ghost use Rattle.std.specs.Ordering.{nat_cmp};
 ghost use Rattle.std.specs.Prelude.{[], ◌++◌, ◌+◌, ◌<◌, ◌^◌, ◌∷◌, ◌≡◌, ◌≤◌};
 ghost use Rattle.bk_word.specs.Outline.{IsLegalMove};
 ghost use Rattle.bk_word.specs.Play.{IsLegal, outline_of};
-ghost use Rattle.bk_word.specs.Word.{order_of};
+ghost use Rattle.bk_tiling.specs.Tiling.{order};
+ghost use Rattle.bk_word.specs.Word.{Word as Moves, order_of};
+ghost use Rattle.bk_lay.specs.TilingWord.{IsWordOf};
 ghost use Rattle.bk_packed.specs.Packed.{packed, word_digits};
+ghost use Rattle.bk_packed.specs.Laid.{HasDigitsOf};
 
 use crate::digits::{MOST_DIGITS, number_of, push_count, push_digits, push_signs};
 use arrayvec::ArrayVec;
+use bk_lay::Turns;
 use bk_skel::Skel;
+use bk_tiling::Tiling;
 use bk_word::{Move, Word};
 use std::cmp::Ordering;
 use std::marker::Model;
@@ -42,6 +47,17 @@ impl Packed {
         ensures { result ≡ packed word.now }
     {
         let digits = digits_of(word);
+        Packed {
+            number: number_of(digits.as_slice()),
+        }
+    }
+
+    /// The word of a tiling of at most 16 squares, packed as the tiling is laid.
+    pub fn of_tiling(turns: &mut Turns, tiling: &Tiling) -> Packed
+        requires { order tiling.now ≤ 16 }
+        ensures { (w : Moves) → IsWordOf tiling.now w → result ≡ packed w }
+    {
+        let digits = digits_of_tiling(turns, tiling);
         Packed {
             number: number_of(digits.as_slice()),
         }
@@ -83,6 +99,19 @@ fn digits_of(word: &Word) -> ArrayVec<u8, MOST_DIGITS>
     let mut digits = ArrayVec::new();
     'moves: for i in 0..word.moves() {
         push_digits(&mut digits, &word.get(i));
+    }
+    digits
+}
+
+// The digits of a tiling's word.
+fn digits_of_tiling(turns: &mut Turns, tiling: &Tiling) -> ArrayVec<u8, MOST_DIGITS>
+    requires { order tiling.now ≤ 16 }
+    ensures { HasDigitsOf tiling.now result.items }
+{
+    let mut digits = ArrayVec::new();
+    turns.begin(tiling);
+    'moves: while let Some(m) = turns.next(tiling) {
+        push_digits(&mut digits, &m);
     }
     digits
 }

@@ -1,4 +1,4 @@
-use Rattle.std.proofs.Common.{Contains, ap, arith, inl, inr, length, refl, slice_index, subst, take, ◌∙◌, ◌↔◌, ◌≡◌}
+use Rattle.std.proofs.Common.{Contains, arith, inl, inr, refl, slice_index, subst, take, ◌↔◌, ◌≡◌}
 use Rattle.std.proofs.lemmas.List.{take_all}
 use Rattle.bk_packed.proofs.BroughtForward.{turn_more, turn_same}
 use Rattle.bk_packed.proofs.settling.bring_forward.Goals as goal

@@ -1,20 +1,17 @@
-use Rattle.std.proofs.Common.{List, ap, subst, sym, ◌∙◌, ◌≡◌}
-use Rattle.bk_tiling.specs.CodeOrder.{in_code_order}
-use Rattle.bk_tiling.specs.Refusal.{IsAccepted}
-use Rattle.bk_tiling.specs.declared.Square.{Square}
-use Rattle.bk_sym.specs.Image.{image}
+use Rattle.std.proofs.Common.{◌∙◌}
+use Rattle.bk_sym.specs.Turns.{after}
 use Rattle.bk_member_table.proofs.FoundMembers.{accepts}
+use Rattle.bk_member_table.proofs.TurnedSquares.{turned_image}
 use Rattle.bk_member_table.proofs.finding.Finder.meet_placed.Goals as goal
 
 pub returns-in-Ok-clause-put : goal.returns-in-Ok-clause-put
-returns-in-Ok-clause-put g c t turn member place =
-    let same : c.in-Ok.tiling ≡ image turn t = c.in-Ok.ensures.value ∙ (λ i. record {
-      width = place.width i;
-      height = place.height i;
-      squares = (ap in_code_order c.as_slice-squares.ensures.value ∙ place.squares) i;
-    }) in
-    c.meet_tiling.ensures.put t turn member same
+returns-in-Ok-clause-put g c t turn member place = c.meet_tiling.ensures.put t (after c.best_turn-which.result turn) member (c.in-Ok.ensures.value
+    ∙ (turned_image t turn c.args.placed.now c.best_turn-which.result c.lying_size-width.result.0 c.lying_size-width.result.1 c.as_slice.result.now
+    member.tiling place (c.lying_size-width.ensures c.best_turn-which.result c.best_turn-which.ensures)
+    (c.as_slice.ensures.value ∙ c.turned_squares-squares.ensures)).1)
 
 pub returns-in-Err-clause-put : goal.returns-in-Err-clause-put
 returns-in-Err-clause-put g c t turn member place = accepts (c.in-Err.ensures.accepted.1
-    (subst (λ (qs : List Square). IsAccepted c.args.placed.now.width c.args.placed.now.height qs) (sym c.as_slice-squares.ensures.value) place.accepted))
+    (turned_image t turn c.args.placed.now c.best_turn-which.result c.lying_size-width.result.0 c.lying_size-width.result.1 c.as_slice.result.now
+    member.tiling place (c.lying_size-width.ensures c.best_turn-which.result c.best_turn-which.ensures)
+    (c.as_slice.ensures.value ∙ c.turned_squares-squares.ensures)).0)
