@@ -5,7 +5,9 @@ use Rattle.bk_word.specs.Word.{Word, order_of}
 use Rattle.bk_word.specs.declared.Class.{Class}
 use Rattle.bk_lay.specs.TilingWord.{IsWordOf}
 use Rattle.bk_catalogue.specs.Catalogue.{IsMember}
+use Rattle.bk_catalogue.proofs.OneEntry.{entry_complete}
 use Rattle.std.proofs.lemmas.List.{take_all}
+use Rattle.bk_walk.specs.Leaping.{IsMembersWord}
 use Rattle.bk_walk.specs.declared.search.Found.{Found}
 use Rattle.bk_walk.specs.Search.{Ends, Finds, HasPassed, Meets}
 use Rattle.bk_tree.specs.Tree.{IsAtMostTree}
@@ -51,6 +53,10 @@ pub finds_of : (n m : ℕ) (class other : Class) (place front : Word) (met : ℕ
     → Finds n class place front met found
 finds_of n m class other place front met found e f finds = subst (λ (k : Class). Finds n k place front met found) f
     (subst (λ (k : ℕ). Finds k other place front met found) e finds)
+
+-- a member's word is of its order
+pub members_order : (n : ℕ) (class : Class) (word : Word) → IsMembersWord n class word → order_of word ≡ n
+members_order n class word m = sym (ap order_of m.word_is) ∙ (entry_complete n class m.entry m.is).1
 
 -- a walk that has ended, by what is the same of it
 pub kept_ended : (n m : ℕ) (class other : Class) (cursor played : Word) (pushes : ℕ) → m ≡ n → other ≡ class → IsKeptWalk n class cursor played true pushes

@@ -1,5 +1,5 @@
 -- A member is in lowest terms, so a word has at most one.
-use Rattle.std.proofs.Common.{subst, sym, ℕ, ◌≡◌}
+use Rattle.std.proofs.Common.{refl, subst, sym, ℕ, ◌≡◌}
 use Rattle.bk_tiling.specs.Scale.{IsPrimitiveTiling}
 use Rattle.bk_tiling.specs.Tiling.{IsTiling, Tiling}
 use Rattle.bk_word.specs.Word.{Word, order_of}
@@ -22,6 +22,11 @@ member_from class t w tiling word q = record {
   class = q.of_class;
   canonical = q.canonical;
 }
+
+-- and its word is a member's
+pub word_of_member : (n : ℕ) (class : Class) (t : Tiling) (w : Word) → IsMember n class t → IsWordOf t w → IsMembersWord n class w
+word_of_member n class t w member word =
+    record { entry = record { tiling = t; word = w }; is = record { member = member; word = word }; word_is = refl }
 
 -- where the one primitive tiling that has the word does not qualify, no member has it
 pub none_other : (n : ℕ) (class : Class) (t : Tiling) (w : Word) → IsTiling t → IsPrimitiveTiling t → IsWordOf t w → (Qualifies class t → ⊥)

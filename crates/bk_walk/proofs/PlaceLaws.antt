@@ -21,7 +21,7 @@ use Rattle.bk_walk.proofs.SearchSteps.{at_or_after, fewer_end, up_by_move}
 use Rattle.bk_walk.specs.Leaping.{Tells, TellsOfPlace}
 use Rattle.bk_walk.specs.Search.{Ends, HasPassed, IsKeptSearch, IsReady, IsSearchState, SearchState, StepLeadsTo, place_of}
 use Rattle.bk_walk.specs.declared.search.Went.{Went}
-use Rattle.bk_walk.specs.declared.search.Went.TheVariants.{Complete, End, Leapt, On}
+use Rattle.bk_walk.specs.declared.search.Went.TheVariants.{End, Met, On}
 use Rattle.bk_walk.specs.declared.tabled.Told.{Told}
 use Rattle.bk_walk.specs.declared.tabled.Told.TheVariants.{Next, NoMore, Nothing}
 
@@ -56,17 +56,7 @@ module _ (n : ℕ) (class : Class) (front : Word) (x m : Move) (least : IsLeastF
     record { up = up_from (new ++ next ∷ []) (leads.0).up; on = λ cursor before p. (leads.0).on cursor before (fits_on cursor before p) },
     leads.1,
   )
-  step_from new next met Complete leads = (
-    record {
-      up = up_from _ (leads.0).up;
-      reached = λ cursor before p. (leads.0).reached cursor before (fits_on cursor before p);
-      on = λ none cursor before p. (leads.0).on none cursor before (fits_on cursor before p);
-    },
-    leads.1,
-    leads.2,
-    leads.3,
-  )
-  step_from new next met Leapt leads = (λ cursor before p. leads.0 cursor before (fits_on cursor before p), leads.1)
+  step_from new next met Met leads = (λ cursor before p. leads.0 cursor before (fits_on cursor before p), leads.1)
   step_from new next met End leads = (λ cursor before p. leads.0 cursor before (fits_on cursor before p), leads.1)
 
   -- the search stands there too

@@ -1,14 +1,11 @@
 -- Step after step: what a search has passed since it began, and that it ends.
 use Rattle.std.specs.List.{AllByRecursion}
-use Rattle.std.proofs.Common.{[], ap, arith, length, ℕ, ◌++◌, ◌+◌, ◌<◌, ◌^◌, ◌∷◌, ◌≡◌, ◌≤◌}
-use Rattle.bk_word.specs.Play.{IsComplete}
-use Rattle.bk_word.specs.Word.{Follows, Move, Word, order_of}
+use Rattle.std.proofs.Common.{[], arith, length, ℕ, ◌++◌, ◌+◌, ◌<◌, ◌^◌, ◌∷◌, ◌≤◌}
+use Rattle.bk_word.specs.Word.{Follows, Move, Word}
 use Rattle.bk_word.specs.declared.Class.{Class}
 use Rattle.bk_tree.proofs.Ranks.{IsSmallMove, left_after, less_left, small_place}
 use Rattle.bk_walk.proofs.SearchSteps.{fewer_at, fewer_end, fewer_met}
-use Rattle.bk_catalogue.specs.Catalogue.{Entry, IsEntry}
-use Rattle.bk_tree.specs.NextMove.{first_move}
-use Rattle.bk_walk.specs.Search.{Advances, Ends, HasPassed, IsSearchState, Meets, PushesGrow, Reaches}
+use Rattle.bk_walk.specs.Search.{Advances, Ends, HasPassed, IsSearchState, Meets, PushesGrow}
 
 -- from the place where the search began to the one where it stands, with so many words met on the way
 pub record Continues (n : ℕ) (class : Class) (place next : Word) (met : ℕ) : Type 0 where
@@ -27,20 +24,11 @@ continues_on n class place mid next a b met c s few =
           (s.on cursor (before + a) (c.on cursor before p));
     }
 
--- past a complete word that no member has
-pub continues_past : (n : ℕ) (class : Class) (place mid word : Word) (a b met : ℕ) → Continues n class place mid a → Reaches n class mid word b
-    → ((e : Entry) → IsEntry n class e → e.word ≡ word → ⊥) → met ≤ a + b → Continues n class place (word ++ first_move ∷ []) met
-continues_past n class place mid word a b met c r not few =
-    record {
-      on = λ cursor before p. fewer_met n class cursor (word ++ first_move ∷ []) (before + a + b) (before + met) (omega arith)
-          (r.on not cursor (before + a) (c.on cursor before p));
-    }
-
 -- up to a word that is met
-pub meets_then : (n : ℕ) (class : Class) (place mid word : Word) (a b met : ℕ) → Continues n class place mid a → Reaches n class mid word b
+pub meets_then : (n : ℕ) (class : Class) (place mid word : Word) (a b met : ℕ) → Continues n class place mid a → Meets n class mid word b
     → met ≤ a + b → Meets n class place word met
-meets_then n class place mid word a b met c r few cursor before p =
-    fewer_at n class cursor word (before + a + b) (before + met) (omega arith) (r.reached cursor (before + a) (c.on cursor before p))
+meets_then n class place mid word a b met c m few cursor before p =
+    fewer_at n class cursor word (before + a + b) (before + met) (omega arith) (m cursor (before + a) (c.on cursor before p))
 
 -- up to the end
 pub ends_then : (n : ℕ) (class : Class) (place mid : Word) (a b met : ℕ) → Continues n class place mid a → Ends n class mid b → met ≤ a + b
@@ -68,13 +56,3 @@ nearer n front then x y few s t up = less_left (front ++ x ∷ []) (then ++ y �
     small : (n : ℕ) (front : Word) (x : Move) → n ≤ 16 → IsSearchState n front x
         → AllByRecursion IsSmallMove (front ++ x ∷ []) × (length (front ++ x ∷ []) ≤ 18)
     small n front x few s = small_place front x s.legal (omega (arith, s.small)) (record { count = s.count; signs = s.signs })
-
--- at a complete word of the order the search stands before what begins with it
-pub whole_stand : (n : ℕ) (word : Word) (x : Move) → IsComplete word → order_of word ≡ n → x ≡ first_move → IsSearchState n word x
-whole_stand n word x whole order first = record {
-  legal = whole.legal;
-  small = omega arith;
-  some = omega (arith, ap (λ (m : Move). m.count) first);
-  count = omega (arith, ap (λ (m : Move). m.count) first);
-  signs = omega (arith, ap (λ (m : Move). length m.signs) first);
-}

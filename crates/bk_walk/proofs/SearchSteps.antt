@@ -20,7 +20,7 @@ use Rattle.bk_catalogue.specs.Catalogue.{Entry, IsEntry}
 use Rattle.bk_barren.specs.Cuts.{IsBarren}
 use Rattle.bk_walk.specs.MoveCuts.{IsCut}
 use Rattle.bk_tree.specs.NextMove.{IsLeastFrom, IsMoveFrom, first_move, move_after}
-use Rattle.bk_walk.specs.Search.{Advances, Ends, HasPassed, IsEnd, IsMet, IsTreeWord, Reaches}
+use Rattle.bk_walk.specs.Search.{Advances, Ends, HasPassed, IsEnd, IsMet, IsTreeWord, Meets}
 
 -- fewer words were met, too
 pub fewer_met : (n : ℕ) (class : Class) (cursor place : Word) (more met : ℕ) → met ≤ more → HasPassed n class cursor place more
@@ -164,13 +164,9 @@ module _ (n : ℕ) (class : Class) (front : Word) (x m : Move) (met : ℕ) (lega
               same = one_legal (outline_of front) m o.other least.legal o.legal (moves_between m o.other o.from o.to).0 (moves_between m o.other o.from o.to).1
 
   -- it meets this word
-  pub reaches : Reaches n class (front ++ x ∷ []) (front ++ m ∷ []) met
-  reaches = record {
-    up = up_on;
-    reached = λ cursor before p. fewer_at n class cursor (front ++ m ∷ []) (before + 1) (before + met) (omega arith)
-        (met_at n class (front ++ x ∷ []) (front ++ m ∷ []) pushed_tree pushed_some pushed_from none cursor before p);
-    on = λ not cursor before p. (goes_down not).on cursor before p;
-  }
+  pub meets : Meets n class (front ++ x ∷ []) (front ++ m ∷ []) met
+  meets cursor before p = fewer_at n class cursor (front ++ m ∷ []) (before + 1) (before + met) (omega arith)
+      (met_at n class (front ++ x ∷ []) (front ++ m ∷ []) pushed_tree pushed_some pushed_from none cursor before p)
     where
       none : (e : Entry) → IsEntry n class e → (Follows (front ++ x ∷ []) e.word → ⊥) → Follows (front ++ m ∷ []) e.word → ⊥
       none e is from to = not_itself (front ++ m ∷ [])

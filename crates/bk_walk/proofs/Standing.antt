@@ -16,14 +16,14 @@ use Rattle.bk_walk.proofs.CutLaws.{after_near, whole_front}
 use Rattle.bk_tree.proofs.Fitting.{HasShape, IsFit, fit}
 use Rattle.bk_tree.proofs.MoveOrder.{less_from}
 use Rattle.bk_tree.proofs.Places.{IsLast}
-use Rattle.bk_walk.proofs.SearchSteps.{climbs, cuts, ends, goes_down, pushed_tree, reaches, turns_back}
+use Rattle.bk_walk.proofs.SearchSteps.{climbs, cuts, ends, goes_down, meets, pushed_tree, turns_back}
 use Rattle.bk_catalogue.specs.Catalogue.{Entry, IsEntry}
 use Rattle.bk_catalogue.proofs.OneEntry.{entry_complete}
 use Rattle.bk_barren.specs.Cuts.{IsBarren}
 use Rattle.bk_walk.specs.MoveCuts.{GrowsByAtMostOne, IsCut}
 use Rattle.bk_tree.specs.NextMove.{IsLeastFrom, IsMoveFrom, first_move, fitted, move_after, open_sides}
 use Rattle.bk_walk.specs.WholeWords.{HasNoMember}
-use Rattle.bk_walk.specs.Search.{Advances, Ends, IsClimbed, IsSearchState, IsTreeWord, Reaches}
+use Rattle.bk_walk.specs.Search.{Advances, Ends, IsClimbed, IsSearchState, IsTreeWord, Meets}
 
 -- the first items, with the next one
 pub take_next : {A : Type 0} (xs : List A) (i : ℕ) (x : A) → slice_get xs i ≡ Some x → take (i + 1) xs ≡ take i xs ++ x ∷ []
@@ -217,5 +217,5 @@ module _ (n : ℕ) (class : Class) (front : Word) (m : Move) (few : n ≤ 16) (s
             counted = sym (ap order_of (same ∙ sym push)) ∙ (entry_complete n class e is).1
 
     -- to the word of the moves, which is met
-    pub step_reaches : Reaches n class (front ++ m ∷ []) pushed met
-    step_reaches = subst (λ (b : Word). Reaches n class (front ++ m ∷ []) b met) (sym push) (reaches n class front m m met s.legal least small one)
+    pub step_meets : Meets n class (front ++ m ∷ []) pushed met
+    step_meets = subst (λ (b : Word). Meets n class (front ++ m ∷ []) b met) (sym push) (meets n class front m m met s.legal least small one)

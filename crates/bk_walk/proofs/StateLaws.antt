@@ -8,11 +8,12 @@ use Rattle.bk_word.proofs.PlayLaws.{few_signs, legal-snoc}
 use Rattle.bk_word.proofs.StoredBytes.{order_one}
 use Rattle.bk_barren.specs.Cuts.{IsBarren}
 use Rattle.bk_tree.specs.NextMove.{first_move, move_after}
+use Rattle.bk_walk.specs.Leaping.{IsMembersWord}
 use Rattle.bk_walk.specs.MoveCuts.{GrowsByAtMostOne, IsCut}
 use Rattle.bk_walk.specs.WholeWords.{HasNoMember}
 use Rattle.bk_walk.specs.Search.{IsKeptSearch, IsReady, IsSearchState, SearchState, StaysOf, StepLeadsTo, place_of}
-use Rattle.bk_walk.specs.declared.search.Went.TheVariants.{Complete, On}
-use Rattle.bk_walk.proofs.Standing.{step_cuts, step_goes_down, step_reaches, step_turns_back}
+use Rattle.bk_walk.specs.declared.search.Went.TheVariants.{Met, On}
+use Rattle.bk_walk.proofs.Standing.{step_cuts, step_goes_down, step_meets, step_turns_back}
 
 -- the same order and class, where the search stands
 pub kept_of : (s : SearchState) (front : Word) (next : Move) (pushes : ℕ) → IsKeptSearch s → IsSearchState s.order front next → pushes < 2 ^ 64
@@ -73,21 +74,18 @@ module _ (s : SearchState) (kept : IsKeptSearch s) (ready : IsReady s) where
     leads_down next first none = step_goes_down s.order s.class s.front s.next kept.most kept.stand ready.legal ready.few pushed is (then - steps)
         (omega (arith, one)) next first none
 
-    -- to a complete word
-    pub leads_to : (next : Move) → next ≡ first_move → IsComplete pushed → order_of pushed ≡ s.order
-        → StepLeadsTo s.order s.class (place_of s) pushed next (then - steps) Complete
-    leads_to next first whole order = (
-      step_reaches s.order s.class s.front s.next kept.most kept.stand ready.legal ready.few pushed is (then - steps) (omega (arith, one)),
-      whole,
-      order,
-      first,
+    -- to the word of a member
+    pub leads_to : (next : Move) → IsMembersWord s.order s.class pushed → StepLeadsTo s.order s.class (place_of s) pushed next (then - steps) Met
+    leads_to next member = (
+      step_meets s.order s.class s.front s.next kept.most kept.stand ready.legal ready.few pushed is (then - steps) (omega (arith, one)),
+      member,
     )
 
 -- the state after the push of a move, which stays the next
 abbrev pub down_from : SearchState → Move → SearchState
 down_from s m = record { order = s.order; class = s.class; front = s.front ++ m ∷ []; next = m; pushes = min (s.pushes + 1) (2 ^ 64 - 1) }
 
--- from there: back, on or to a complete word
+-- from there: back, on or to the word of a member
 module _ (s t : SearchState) (kept : IsKeptSearch s) (ready : IsReady s) (m : Move) (steps then : ℕ) (is : t ≡ down_from s m) (same : m ≡ s.next)
     (one : then ≡ steps + 1) where
   front_is : t.front ≡ s.front ++ s.next ∷ []
@@ -106,9 +104,10 @@ module _ (s t : SearchState) (kept : IsKeptSearch s) (ready : IsReady s) (m : Mo
   walked_down next first none = leads_down s kept ready t.front steps then front_is one next first
       (λ whole order. subst (λ (k : Class). HasNoMember k t.front) (ap (λ (u : SearchState). u.class) is) (none whole (order ∙ sym order_is)))
 
-  pub walked_to : (next : Move) → next ≡ first_move → IsComplete t.front × (order_of t.front ≡ t.order)
-      → StepLeadsTo s.order s.class (place_of s) t.front next (then - steps) Complete
-  walked_to next first whole = leads_to s kept ready t.front steps then front_is one next first whole.0 (whole.1 ∙ order_is)
+  pub walked_to : (next : Move) → IsMembersWord t.order t.class t.front → StepLeadsTo s.order s.class (place_of s) t.front next (then - steps) Met
+  walked_to next member = leads_to s kept ready t.front steps then front_is one next
+      (subst (λ (k : Class). IsMembersWord s.order k t.front) (ap (λ (u : SearchState). u.class) is)
+      (subst (λ (n : ℕ). IsMembersWord n t.class t.front) order_is member))
 
 -- no move is played
 pub stand_first : (n : ℕ) (front : Word) (next : Move) → front ≡ [] → next ≡ first_move → IsSearchState n front next

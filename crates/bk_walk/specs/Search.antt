@@ -3,17 +3,15 @@
 use Rattle.std.specs.List.{AllByRecursion}
 use Rattle.std.specs.Prelude.{List, None, Some, [], length, min, ℕ, ◌++◌, ◌+◌, ◌-◌, ◌<◌, ◌^◌, ◌∷◌, ◌≡◌, ◌≤◌}
 use Rattle.bk_word.specs.Outline.{IsLegalMove}
-use Rattle.bk_word.specs.Play.{IsComplete, IsLegal, outline_of}
+use Rattle.bk_word.specs.Play.{IsLegal, outline_of}
 use Rattle.bk_word.specs.Word.{Follows, Move, Word, order_of}
 use Rattle.bk_word.specs.declared.Class.{Class}
-use Rattle.bk_lay.specs.TilingWord.{IsWordOf}
-use Rattle.bk_catalogue.specs.Catalogue.{Entry, IsEntry, IsMember}
 use Rattle.bk_walk.specs.Leaping.{IsMembersWord}
 use Rattle.bk_walk.specs.declared.search.Found.{Found}
 use Rattle.bk_walk.specs.declared.search.Found.TheVariants.{Ended, Member}
-use Rattle.bk_tree.specs.NextMove.{first_move, move_after}
+use Rattle.bk_tree.specs.NextMove.{move_after}
 use Rattle.bk_walk.specs.declared.search.Went.{Went}
-use Rattle.bk_walk.specs.declared.search.Went.TheVariants.{Complete, End, On, Leapt}
+use Rattle.bk_walk.specs.declared.search.Went.TheVariants.{End, Met, On}
 use Rattle.bk_catalogue.specs.Following.{HasNoneAfter, HasNoneBetween}
 use Rattle.bk_tree.specs.Tree.{AreAscendingWords, HasAtLeast, IsInTree}
 
@@ -43,14 +41,6 @@ pub record Advances (n : ℕ) (class : Class) (place next : Word) (met : ℕ) : 
   pub up : Follows next place
   pub on : (cursor : Word) (before : ℕ) → HasPassed n class cursor place before → HasPassed n class cursor next (before + met)
 
--- from a place to a word, with so many words met on the way, itself the last. Where no member has it, the search goes on
--- to what begins with it
-pub record Reaches (n : ℕ) (class : Class) (place word : Word) (met : ℕ) : Type 0 where
-  pub up : Follows (word ++ first_move ∷ []) place
-  pub reached : (cursor : Word) (before : ℕ) → HasPassed n class cursor place before → IsMet n class cursor word (before + met)
-  pub on : ((e : Entry) → IsEntry n class e → e.word ≡ word → ⊥) → (cursor : Word) (before : ℕ)
-      → HasPassed n class cursor place before → HasPassed n class cursor (word ++ first_move ∷ []) (before + met)
-
 -- no member's word is after the cursor, and so many words of the tree were met
 pub record IsEnd (n : ℕ) (class : Class) (cursor : Word) (met : ℕ) : Type 0 where
   pub passed : HasNoneAfter n class cursor
@@ -75,12 +65,10 @@ abbrev pub Meets : ℕ → Class → Word → Word → ℕ → Type 0
 Meets n class place word met = (cursor : Word) (before : ℕ) → HasPassed n class cursor place before
     → IsMet n class cursor word (before + met)
 
--- where a step of a search leads from a place: on to a later one, to a complete word of the order, to the word of a member, or to the end
+-- where a step of a search leads from a place: on to a later one, to the word of a member, or to the end
 abbrev pub StepLeadsTo : ℕ → Class → Word → Word → Move → ℕ → Went → Type 0
 StepLeadsTo n class place front x met On = Advances n class place (front ++ x ∷ []) met × IsSearchState n front x
-StepLeadsTo n class place front x met Complete =
-    Reaches n class place front met × IsComplete front × (order_of front ≡ n) × (x ≡ first_move)
-StepLeadsTo n class place front x met Leapt = Meets n class place front met × IsMembersWord n class front
+StepLeadsTo n class place front x met Met = Meets n class place front met × IsMembersWord n class front
 StepLeadsTo n class place front x met End = Ends n class place met × (front ≡ [])
 
 -- the count of pushes goes on by the steps, up to the last number that it holds
@@ -127,6 +115,5 @@ pub record StaysOf (s then : SearchState) (steps steps_then : ℕ) : Type 0 wher
 
 -- what a search finds from a place: the word of a member, or the end
 abbrev pub Finds : ℕ → Class → Word → Word → ℕ → Found → Type 0
-Finds n class place front met (Member t) =
-    IsMember n class t × IsWordOf t front × Meets n class place front met × (order_of front ≡ n)
+Finds n class place front met Member = Meets n class place front met × IsMembersWord n class front
 Finds n class place front met Ended = Ends n class place met × (front ≡ [])

@@ -4,19 +4,11 @@ use Rattle.std.specs.Prelude.{Any, List, Some, pos, slice_get, ℕ, ℤ, ◌<ℤ
 use Rattle.bk_word.specs.Word.{Word, order_of}
 use Rattle.bk_word.specs.declared.Class.{Class}
 use Rattle.bk_word.specs.declared.Class.TheVariants.{Perfect}
-use Rattle.bk_lay.specs.TilingWord.{IsWordOf}
-use Rattle.bk_catalogue.specs.Catalogue.{Entry, IsEntry, IsMember}
-use Rattle.bk_walk.specs.declared.judging.WordVerdict.{WordVerdict}
-use Rattle.bk_walk.specs.declared.judging.WordVerdict.TheVariants.{Member, Other}
+use Rattle.bk_catalogue.specs.Catalogue.{Entry, IsEntry}
 
 -- no member of its order and the class has the word
 abbrev pub HasNoMember : Class → Word → Type 0
 HasNoMember class w = (e : Entry) → IsEntry (order_of w) class e → e.word ≡ w → ⊥
-
--- the word of a member of its order and the class; or of none
-abbrev pub DecidesWord : Class → Word → WordVerdict → Type 0
-DecidesWord class w (Member t) = IsMember (order_of w) class t × IsWordOf t w
-DecidesWord class w Other = HasNoMember class w
 
 -- two numbers of the list, at two places, are the same
 pub record HasTwoAlike (numbers : List ℤ) : Type 0 where

@@ -1,43 +1,35 @@
 //! What a complete word tells: whether a member of the catalogue has it.
 #![tactic(auto)]
 
-ghost use Rattle.std.specs.Prelude.{Any, IfNone, IfSome, IsTrue, pos, ◌<ℤ◌, ◌↔◌, ◌≡◌, ◌≤◌};
+ghost use Rattle.std.specs.Prelude.{Any, IfNone, IfSome, IsTrue, false, pos, ◌<ℤ◌, ◌↔◌, ◌≡◌, ◌≤◌};
 ghost use Rattle.bk_net.specs.Flow.{IsPrimitiveFlow};
 ghost use Rattle.bk_word.specs.Play.{IsComplete};
 ghost use Rattle.bk_word.specs.Word.{order_of};
 ghost use Rattle.bk_word_net.specs.WordNet.{net_of_word};
-ghost use Rattle.bk_walk.specs.WholeWords.{DecidesWord, HasNoMember, HasTwoAlike, IsUnfit};
+ghost use Rattle.bk_walk.specs.Leaping.{IsMembersWord};
+ghost use Rattle.bk_walk.specs.WholeWords.{HasNoMember, HasTwoAlike, IsUnfit};
 
 use bk_flow::NarrowFlow;
 use bk_member_table::qualifies;
 use bk_skel::{Skel, flow_of, realise_by};
-use bk_tiling::Tiling;
 use bk_word::Class;
 
-// What a complete word tells.
-#[derive(Drop)]
-pub(crate) enum WordVerdict {
-    // this member of its order has it
-    Member(Tiling),
-    // no member of its order has it
-    Other,
-}
-
-// What a complete word of at most 16 squares tells of the members of the class.
-pub(crate) fn judge(skel: &Skel, class: Class) -> WordVerdict
+// Whether a member of the class has a complete word of at most 16 squares.
+pub(crate) fn has_member(skel: &Skel, class: Class) -> bool
     requires whole { IsComplete skel.now }
     requires few { order_of skel.now ≤ 16 }
-    ensures { DecidesWord class skel.now result }
+    ensures yes { IsTrue result → IsMembersWord (order_of skel.now) class skel.now }
+    ensures no { result ≡ false → HasNoMember class skel.now }
 {
     match fit_flow(skel, class) {
-        Some(flow) => judge_by(skel, &flow, class),
-        None => WordVerdict::Other,
+        Some(flow) => has_member_by(skel, &flow, class),
+        None => false,
     }
 }
 
 // The flow of the net of a complete word of at most 16 squares, where it is fit: no current is less than 1, and in the class
 // perfect no two are the same. Of a word without such a flow no member of the class has it. No room is taken for a tiling.
-pub(crate) fn fit_flow(skel: &Skel, class: Class) -> Option<NarrowFlow>
+fn fit_flow(skel: &Skel, class: Class) -> Option<NarrowFlow>
     requires whole { IsComplete skel.now }
     requires few { order_of skel.now ≤ 16 }
     ensures flow { IfSome result (λ f. IsPrimitiveFlow (net_of_word skel.now) f.total f.currents) }
@@ -52,31 +44,18 @@ pub(crate) fn fit_flow(skel: &Skel, class: Class) -> Option<NarrowFlow>
     }
 }
 
-// What such a word tells, by that flow.
-pub(crate) fn judge_by(skel: &Skel, flow: &NarrowFlow, class: Class) -> WordVerdict
+// Whether a member of the class has such a word, by its flow.
+fn has_member_by(skel: &Skel, flow: &NarrowFlow, class: Class) -> bool
     requires whole { IsComplete skel.now }
     requires flow { IsPrimitiveFlow (net_of_word skel.now) flow.now.total flow.now.currents }
-    ensures { DecidesWord class skel.now result }
+    requires fit { ¬ (IsUnfit class flow.now.currents) }
+    ensures yes { IsTrue result → IsMembersWord (order_of skel.now) class skel.now }
+    ensures no { result ≡ false → HasNoMember class skel.now }
 {
     match realise_by(skel, flow) {
-        None => WordVerdict::Other,
-        Some(tiling) => {
-            if qualifies(&tiling, class) {
-                WordVerdict::Member(tiling)
-            } else {
-                WordVerdict::Other
-            }
-        }
+        Some(tiling) => qualifies(&tiling, class),
+        None => false,
     }
-}
-
-// Whether the flow of a complete word of at most 16 squares tells that no member of the class has it.
-pub(crate) fn has_no_member(skel: &Skel, class: Class) -> bool
-    requires whole { IsComplete skel.now }
-    requires few { order_of skel.now ≤ 16 }
-    ensures { IsTrue result → HasNoMember class skel.now }
-{
-    fit_flow(skel, class).is_none()
 }
 
 // Whether a current is less than 1, or the class is perfect and two are the same.

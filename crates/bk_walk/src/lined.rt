@@ -88,11 +88,13 @@ impl LinedSkel {
         self.lines.truncate(self.skel.order());
     }
 
-    /// Takes moves back until so many are left.
+    /// Takes moves back until so many are left, for moves that are known to lead to a member's word: no cut is asked of those, so the sides are
+    /// followed no further.
     pub(crate) fn shorten(&mut self, moves: usize)
         requires { moves ≤ length self.old }
         ensures { self.new ≡ take moves self.old }
     {
+        self.is_traced = false;
         'moves: while moves < self.skel.moves() {
             self.pop();
         }

@@ -8,7 +8,7 @@ ghost use Rattle.bk_word.specs.Word.{order_of};
 ghost use Rattle.bk_walk.specs.Search.{HasPassed, StaysOf, place_of};
 
 use crate::lined::LinedSkel;
-use crate::moves::begin_anew;
+use crate::moves::{begin_anew, first_move};
 use crate::search::Search;
 use bk_skel::{Skel, Steps};
 use bk_word::{Move, NoMemory, Word};
@@ -53,11 +53,24 @@ pub(crate) fn word_played(alloc: Global, skel: &Skel) -> Word
     ensures { result ≡ skel.now }
 {
     let mut word = Word::new(alloc);
+    let mut m = first_move();
     'moves: for i in 0..skel.moves() {
-        match word.push(&skel.get(i)) {
+        skel.read_move(i, &mut m);
+        match word.push(&m) {
             Ok(()) => {}
             Err(NoMemory) => unreachable!(),
         }
     }
     word
+}
+
+// A copy of a word of at most 16 squares. It takes no memory.
+pub(crate) fn copy_of(alloc: Global, word: &Word) -> Word
+    requires { order_of word.now ≤ 16 }
+    ensures { result ≡ word.now }
+{
+    match word.copy(alloc) {
+        Ok(copy) => copy,
+        Err(NoMemory) => unreachable!(),
+    }
 }

@@ -5,20 +5,18 @@ ghost use Rattle.std.specs.Prelude.{IsTrue, [], false, min, ◌++◌, ◌+◌, �
 ghost use Rattle.bk_word.specs.Play.{IsComplete, outline_of};
 ghost use Rattle.bk_word.specs.Word.{order_of};
 ghost use Rattle.bk_tree.specs.NextMove.{first_move as first_of_all, open_sides as sides_open};
-ghost use Rattle.bk_walk.specs.Leaping.{TellsOfPlace};
+ghost use Rattle.bk_walk.specs.Leaping.{IsMembersWord, TellsOfPlace};
 ghost use Rattle.bk_walk.specs.WholeWords.{HasNoMember};
 ghost use Rattle.bk_walk.specs.Search.{Finds, IsClimbed, IsReady, StaysOf, StepLeadsTo, place_of};
 
 use crate::barren::{is_barren, skip};
-use crate::judging::{WordVerdict, has_no_member, judge};
+use crate::judging::has_member;
 use crate::lined::LinedSkel;
 use crate::moves::{begin_anew, first_move, least_legal_from, next_move};
-use crate::realising::realised;
 use crate::tabled::{PATIENCE, Told, tell};
 use bk_member_table::MemberTable;
 use bk_packed::number_with;
 use bk_skel::{Skel, Steps, open_side};
-use bk_tiling::Tiling;
 use bk_word::{Class, Move};
 use std::alloc::Global;
 use std::marker::Model;
@@ -28,19 +26,16 @@ use std::sync::ledger::Ledger;
 pub(crate) enum Went {
     // on to a later place
     On,
-    // to a complete word of the order, which a member may have
-    Complete,
     // to the word of a member
-    Leapt,
+    Met,
     // to the end of the tree
     End,
 }
 
 // What a search finds.
-#[derive(Drop)]
 pub(crate) enum Found {
-    // this member, whose word is that of the moves played
-    Member(Tiling),
+    // a member, whose word is that of the moves played
+    Member,
     // nothing more
     Ended,
 }
@@ -111,11 +106,7 @@ impl<const ROOM: usize> Search<ROOM> {
             match self.step(steps) {
                 Went::On => {}
                 Went::End => return Found::Ended,
-                Went::Leapt => return Found::Member(realised(self.lined.skel(), self.class)),
-                Went::Complete => match judge(self.lined.skel(), self.class) {
-                    WordVerdict::Member(tiling) => return Found::Member(tiling),
-                    WordVerdict::Other => {}
-                },
+                Went::Met => return Found::Member,
             }
         }
     }
@@ -137,7 +128,7 @@ impl<const ROOM: usize> Search<ROOM> {
             Told::Nothing => self.walk_on(steps),
             Told::Next(number) => {
                 self.leap(number, steps);
-                Went::Leapt
+                Went::Met
             }
             Told::NoMore => {
                 self.lined = LinedSkel::new(self.order);
@@ -181,8 +172,8 @@ impl<const ROOM: usize> Search<ROOM> {
             return Went::On;
         }
         begin_anew(&mut self.next);
-        if is_candidate(&self.lined, self.class, self.order) {
-            Went::Complete
+        if is_members(&self.lined, self.class, self.order) {
+            Went::Met
         } else {
             Went::On
         }
@@ -233,17 +224,13 @@ fn climb(lined: &mut LinedSkel, next: &mut Move) -> bool
     true
 }
 
-// Whether the moves are a complete word of the order which a member may have: it isn't told by whole numbers that none has it. No room is taken for
-// a tiling.
-fn is_candidate(lined: &LinedSkel, class: Class, order: u8) -> bool
+// Whether the moves are the word of a member of the order.
+fn is_members(lined: &LinedSkel, class: Class, order: u8) -> bool
     requires order { order ≤ 16 }
-    ensures whole { IsTrue result → IsComplete lined.now × (order_of lined.now ≡ order) }
+    ensures yes { IsTrue result → IsMembersWord order class lined.now }
     ensures none { result ≡ false → IsComplete lined.now → order_of lined.now ≡ order → HasNoMember class lined.now }
 {
-    if is_complete_of(lined, order) {
-        return !has_no_member(lined.skel(), class);
-    }
-    false
+    is_complete_of(lined, order) && has_member(lined.skel(), class)
 }
 
 // Whether the moves are a complete word of the order.

@@ -4,7 +4,7 @@ use Rattle.bk_word.specs.Word.{Move}
 use Rattle.bk_tree.specs.NextMove.{fitted, open_sides}
 use Rattle.bk_walk.specs.Leaping.{IsNextFrom}
 use Rattle.bk_walk.specs.Search.{IsReady, SearchState, StepLeadsTo, place_of}
-use Rattle.bk_walk.specs.declared.search.Went.TheVariants.{End, Leapt, On}
+use Rattle.bk_walk.specs.declared.search.Went.TheVariants.{End, Met, On}
 use Rattle.bk_walk.proofs.PlaceLaws.{ends_there, fitted_stand, step_from}
 use Rattle.bk_walk.proofs.Standing.{step_climbs, step_ends, step_least}
 use Rattle.bk_walk.proofs.StateLaws.{stand_first}
@@ -107,11 +107,11 @@ returns-in-Next-clause-leads g c =
     (least_fits c.least_legal_from.new.m c.self.inside.next c.open_sides.result (open_sides (outline_of c.self.inside.lined)) c.least_legal_from.ensures
     c.open_sides.ensures.value) in
     subst (λ (s : SearchState). StepLeadsTo s.order s.class (place_of s) c.leap.new.self.front c.leap.new.self.next
-    (c.leap.new.steps - c.args.steps.now) Leapt) c.self.view_is
+    (c.leap.new.steps - c.args.steps.now) Met) c.self.view_is
     (step_from c.self.inside.order c.self.inside.class c.self.inside.lined c.self.inside.next c.least_legal_from.new.m least c.leap.new.self.front c.leap.new.self.next
-    (c.leap.new.steps - c.args.steps.now) Leapt
+    (c.leap.new.steps - c.args.steps.now) Met
     (subst (λ (s : SearchState). StepLeadsTo s.order s.class (place_of s) c.leap.new.self.front c.leap.new.self.next
-    (c.leap.new.steps - c.args.steps.now) Leapt) c.in-Next.ensures.same (c.leap.ensures.meets, c.leap.ensures.member)))
+    (c.leap.new.steps - c.args.steps.now) Met) c.in-Next.ensures.same (c.leap.ensures.meets, c.leap.ensures.member)))
 
 pub returns-in-NoMore-clause-leads : goal.returns-in-NoMore-clause-leads
 returns-in-NoMore-clause-leads g c =

@@ -4,7 +4,7 @@ use Rattle.bk_walk.specs.declared.search.Went.{Went}
 use Rattle.bk_walk.specs.declared.search.Went.TheVariants.{On}
 use Rattle.bk_walk.proofs.StateLaws.{leads_over, walked_back, walked_down, walked_to}
 use Rattle.bk_walk.proofs.search.Search.walk_on.Goals as goal
-use Rattle.bk_walk.proofs.search.Search.walk_on.Goals.{else-is_candidate, then-is_candidate}
+use Rattle.bk_walk.proofs.search.Search.walk_on.Goals.{else-is_members, then-is_members}
 
 pub returns-then-skip-clause-leads : goal.returns-then-skip-clause-leads
 returns-then-skip-clause-leads g c = subst (λ (s : SearchState). StepLeadsTo s.order s.class (place_of s) c.self.inside.lined c.skip.new.m
@@ -34,16 +34,16 @@ returns-then-is_barren-clause-leads g c = subst (λ (s : SearchState). StepLeads
 
 pub returns-clause-leads : goal.returns-clause-leads
 returns-clause-leads g c = subst (λ (s : SearchState). StepLeadsTo s.order s.class (place_of s) c.self-2.inside.lined c.begin_anew.new.m
-    (c.go_down.new.steps - c.args.steps.now) c.if-is_candidate.result) c.self.view_is
-    (elim c.if-is_candidate.branch [
-      | then-is_candidate w ↦ subst (λ (r : Went). StepLeadsTo c.self.inside.order c.self.inside.class (c.self.inside.lined ++ c.self.inside.next ∷ [])
+    (c.go_down.new.steps - c.args.steps.now) c.if-is_members.result) c.self.view_is
+    (elim c.if-is_members.branch [
+      | then-is_members w ↦ subst (λ (r : Went). StepLeadsTo c.self.inside.order c.self.inside.class (c.self.inside.lined ++ c.self.inside.next ∷ [])
           c.self-2.inside.lined c.begin_anew.new.m (c.go_down.new.steps - c.args.steps.now) r) (sym w.result-is)
           (walked_to _ _ c.self.invariant (subst IsReady (sym c.self.view_is) c.requires) c.skip.new.m c.args.steps.now c.go_down.new.steps
           (c.self-2.view_is ∙ c.go_down.ensures.state) (c.skip.ensures.kept c.if-skip.false) c.go_down.ensures.step c.begin_anew.new.m
-          c.begin_anew.ensures (c.is_candidate.ensures.whole w.if-is_candidate.true))
-      | else-is_candidate w ↦ subst (λ (r : Went). StepLeadsTo c.self.inside.order c.self.inside.class (c.self.inside.lined ++ c.self.inside.next ∷ [])
+          (c.is_members.ensures.yes w.if-is_members.true))
+      | else-is_members w ↦ subst (λ (r : Went). StepLeadsTo c.self.inside.order c.self.inside.class (c.self.inside.lined ++ c.self.inside.next ∷ [])
           c.self-2.inside.lined c.begin_anew.new.m (c.go_down.new.steps - c.args.steps.now) r) (sym w.result-is)
           (walked_down _ _ c.self.invariant (subst IsReady (sym c.self.view_is) c.requires) c.skip.new.m c.args.steps.now c.go_down.new.steps
           (c.self-2.view_is ∙ c.go_down.ensures.state) (c.skip.ensures.kept c.if-skip.false) c.go_down.ensures.step c.begin_anew.new.m
-          c.begin_anew.ensures (c.is_candidate.ensures.none w.if-is_candidate.false))
+          c.begin_anew.ensures (c.is_members.ensures.none w.if-is_members.false))
     ])
