@@ -371,15 +371,16 @@ fn no_words(rt: HostRuntime) {
     assert!(rt; tells(rt.alloc(), &[], NO_WRITE, (2, USAGE.as_bytes())));
 }
 
-// Whether a check of one line of so many bytes has this status and writes this.
-fn is_one_line(alloc: Global, bytes: u64, want: (u8, &[u8])) -> bool {
-    let mut source = FillSource::new(b';', bytes);
+// Whether a check of this byte again and again, as often as said, has this status and writes this.
+fn ends_with(alloc: Global, byte: u8, bytes: u64, want: (u8, &[u8])) -> bool {
+    let mut source = FillSource::new(byte, bytes);
     ends_so(alloc, "check", &mut source, NO_WRITE, want)
 }
 
-// The longest input, and one of a byte more.
+// The longest input, of one line or of empty ones, and one of a byte more.
 #[test]
 fn the_longest_input(rt: HostRuntime) {
-    assert!(rt; is_one_line(rt.alloc(), 1 << 30, (1, b"no long\n")));
-    assert!(rt; is_one_line(rt.alloc(), (1 << 30) + 1, (7, b"")));
+    assert!(rt; ends_with(rt.alloc(), b';', 1 << 30, (1, b"no long\n")));
+    assert!(rt; ends_with(rt.alloc(), b'\n', 1 << 30, (0, b"")));
+    assert!(rt; ends_with(rt.alloc(), b'\n', (1 << 30) + 1, (7, b"")));
 }

@@ -9,7 +9,6 @@ ghost use Rattle.bk_member_table.specs.Members.{HasNoneFrom, IsNextNumber, IsWho
 use crate::finding::Finder;
 use bk_free_search::search;
 use bk_word::Class;
-use std::alloc::Global;
 use std::marker::Model;
 
 /// The packed words of all members of one order and class that aren't below a number; where there is no room for all, of the least
@@ -32,7 +31,7 @@ impl<const N: usize> Model for MemberTable<N> {
 
 impl<const N: usize> MemberTable<N> {
     /// A table of order 0, which has no member: it keeps nothing, and dropped nothing.
-    pub fn new(_alloc: Global) -> MemberTable<N>
+    pub fn new() -> MemberTable<N>
         ensures { result ≡ record { order = 0; class = Simple; from = 0; numbers = record { kept = []; limit = None } } }
     {
         MemberTable {
@@ -42,7 +41,7 @@ impl<const N: usize> MemberTable<N> {
 
     /// The table of the members of this order and class, from a number on: it is whole up to its bound. Each of them whose packed word
     /// isn't below this number has it in the table, or, where the table was cut, above the greatest that is kept.
-    pub fn of(_alloc: Global, order: u8, class: Class, from: u128) -> MemberTable<N>
+    pub fn of(order: u8, class: Class, from: u128) -> MemberTable<N>
         requires least { 3 ≤ order }
         requires most { order ≤ 16 }
         ensures order { result.order ≡ order }

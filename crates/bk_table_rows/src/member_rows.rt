@@ -28,13 +28,12 @@ fn numbers(
 // A table of the members of an order and a class, from a number on.
 fn table_of<const N: usize>(
     rt: &impl Abort,
-    alloc: Global,
     order: u8,
     class: Class,
     from: u128,
 ) -> MemberTable<N> {
     assert!(rt; order >= 3 && order <= 16);
-    MemberTable::of(alloc, order, class, from)
+    MemberTable::of(order, class, from)
 }
 
 // The table of an order and a class has the numbers of just the members.
@@ -45,7 +44,7 @@ fn assert_table(
     class: Class,
     members: &[Member],
 ) -> Result<(), AllocError> {
-    let table: MemberTable<100> = table_of(rt, alloc, order, class, 0);
+    let table: MemberTable<100> = table_of(rt, order, class, 0);
     let want = numbers(alloc, members, class, 0)?;
     assert!(rt; !table.is_cut());
     assert_eq!(rt; table.numbers(), want.as_slice(), "order {order}");
@@ -94,8 +93,8 @@ fn rows_of_greater_orders() -> &'static [(u8, usize, usize)] {
 #[test]
 fn tables_of_greater_orders_have_as_many(rt: HostRuntime) {
     for (order, perfect, imperfect) in rows_of_greater_orders() {
-        let of_perfect: MemberTable<250> = table_of(&rt, rt.alloc(), *order, Class::Perfect, 0);
-        let of_imperfect: MemberTable<250> = table_of(&rt, rt.alloc(), *order, Class::Imperfect, 0);
+        let of_perfect: MemberTable<250> = table_of(&rt, *order, Class::Perfect, 0);
+        let of_imperfect: MemberTable<250> = table_of(&rt, *order, Class::Imperfect, 0);
         assert_eq!(rt; of_perfect.numbers().len(), *perfect, "order {order}");
         assert_eq!(rt; of_imperfect.numbers().len(), *imperfect, "order {order}");
     }
@@ -108,15 +107,15 @@ const SQUARE_OF_13: &[u8] = b"2u.3aau.2ue.1ue.2ea.2eue.1e";
 fn a_square_is_a_member(rt: HostRuntime) {
     let word = read_word(rt.alloc(), SQUARE_OF_13).expect(&rt, "it is a word");
     let number = number_of(&rt, &word);
-    let table: MemberTable<250> = table_of(&rt, rt.alloc(), 13, Class::Imperfect, 0);
+    let table: MemberTable<250> = table_of(&rt, 13, Class::Imperfect, 0);
     assert_eq!(rt; table.next_from(number), Some(number));
-    let perfect: MemberTable<250> = table_of(&rt, rt.alloc(), 13, Class::Perfect, 0);
+    let perfect: MemberTable<250> = table_of(&rt, 13, Class::Perfect, 0);
     assert!(rt; perfect.next_from(number) != Some(number));
 }
 
 // A table of the perfect members of order 11, from a number on.
-fn table_of_11<const N: usize>(alloc: Global, from: u128) -> MemberTable<N> {
-    MemberTable::of(alloc, 11, Class::Perfect, from)
+fn table_of_11<const N: usize>(from: u128) -> MemberTable<N> {
+    MemberTable::of(11, Class::Perfect, from)
 }
 
 #[test]
@@ -124,7 +123,7 @@ fn tables_begin_at_a_number(rt: HostRuntime) -> Result<(), Fail> {
     let members = members(&rt, rt.alloc(), 11)?;
     for member in &members {
         for from in [member.number, member.number.saturating_add(1)] {
-            let table: MemberTable<100> = table_of_11(rt.alloc(), from);
+            let table: MemberTable<100> = table_of_11(from);
             let want = numbers(rt.alloc(), members.as_slice(), Class::Perfect, from)?;
             assert_eq!(rt; table.numbers(), want.as_slice());
         }
@@ -135,7 +134,7 @@ fn tables_begin_at_a_number(rt: HostRuntime) -> Result<(), Fail> {
 #[test]
 fn the_next_number_is_the_least_from_a_bound_on(rt: HostRuntime) -> Result<(), Fail> {
     let members = members(&rt, rt.alloc(), 11)?;
-    let table: MemberTable<100> = table_of_11(rt.alloc(), 0);
+    let table: MemberTable<100> = table_of_11(0);
     for member in &members {
         let behind = member.number.saturating_add(1);
         let want = numbers(rt.alloc(), members.as_slice(), Class::Perfect, behind)?;
@@ -158,18 +157,18 @@ fn a_table_without_room_has_the_least(rt: HostRuntime) -> Result<(), Fail> {
     let members = members(&rt, rt.alloc(), 11)?;
     let all = numbers(rt.alloc(), members.as_slice(), Class::Perfect, 0)?;
     assert_eq!(rt; all.len(), 22);
-    let of_3: MemberTable<3> = table_of_11(rt.alloc(), 0);
+    let of_3: MemberTable<3> = table_of_11(0);
     assert_room(&rt, all.as_slice(), of_3.numbers(), of_3.is_cut(), 3);
-    let of_21: MemberTable<21> = table_of_11(rt.alloc(), 0);
+    let of_21: MemberTable<21> = table_of_11(0);
     assert_room(&rt, all.as_slice(), of_21.numbers(), of_21.is_cut(), 21);
-    let of_22: MemberTable<22> = table_of_11(rt.alloc(), 0);
+    let of_22: MemberTable<22> = table_of_11(0);
     assert_room(&rt, all.as_slice(), of_22.numbers(), of_22.is_cut(), 22);
     Ok(())
 }
 
 #[test]
 fn a_table_of_nothing_has_no_number(rt: HostRuntime) {
-    let table: MemberTable<3> = MemberTable::new(rt.alloc());
+    let table: MemberTable<3> = MemberTable::new();
     assert!(rt; table.numbers().is_empty() && !table.is_cut());
     assert_eq!(rt; table.next_from(0), None);
 }

@@ -18,7 +18,6 @@ use bk_member_table::MemberTable;
 use bk_packed::number_with;
 use bk_skel::{Skel, Steps, open_side};
 use bk_word::{Class, Move};
-use std::alloc::Global;
 use std::marker::Model;
 use std::sync::ledger::Ledger;
 
@@ -44,7 +43,6 @@ pub(crate) enum Found {
 /// the move from which it looks for the next legal one, and how many moves it has pushed. It has room for a table of so many members. (Own.)
 #[derive(Drop)]
 pub(crate) struct Search<const ROOM: usize> {
-    alloc: Global,
     pub(crate) order: u8,
     class: Class,
     pub(crate) lined: LinedSkel,
@@ -65,18 +63,17 @@ impl<const ROOM: usize> Model for Search<ROOM> {
 
 impl<const ROOM: usize> Search<ROOM> {
     /// A search that has played no move.
-    pub(crate) fn new(alloc: Global, order: u8, class: Class) -> Search<ROOM>
+    pub(crate) fn new(order: u8, class: Class) -> Search<ROOM>
         requires least { 2 ≤ order }
         requires most { order ≤ 16 }
         ensures { result ≡ record { order = order; class = class; front = []; next = first_of_all; pushes = 0 } }
     {
         Search {
-            alloc,
             order,
             class,
             lined: LinedSkel::new(order),
             next: first_move(),
-            table: MemberTable::new(alloc),
+            table: MemberTable::new(),
             pushes: 0,
         }
     }
@@ -149,7 +146,7 @@ impl<const ROOM: usize> Search<ROOM> {
         let number = number_with(self.lined.skel(), &self.next);
         match tell(&self.table, self.order, self.class, number) {
             Told::Nothing => {
-                self.table = MemberTable::of(self.alloc, self.order, self.class, number);
+                self.table = MemberTable::of(self.order, self.class, number);
                 tell(&self.table, self.order, self.class, number)
             }
             answer => answer,
