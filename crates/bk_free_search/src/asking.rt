@@ -17,7 +17,7 @@ use crate::counts::one_if;
 use crate::line_set::LineSet;
 use crate::marks::{has_mark, is_left_on_line, is_wide_then, marks_of};
 use crate::strong::{Passed, in_front_of_mark, none_passed, past_one};
-use bk_owed::first_above;
+use bk_bound_counts::first_above;
 use bk_skel::open_side;
 use bk_word::Sign;
 

@@ -11,7 +11,7 @@ ghost use Rattle.bk_free_search.specs.Joining.{JoinsLeft, JoinsRight, ShareBefor
 
 use crate::board::Board;
 use crate::top_lines::squares_in;
-use bk_owed::first_above;
+use bk_bound_counts::first_above;
 use bk_skel::Skel;
 use bk_word::{Move, Sign};
 

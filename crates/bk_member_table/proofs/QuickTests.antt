@@ -6,7 +6,7 @@ use Rattle.bk_tiling.specs.CodeOrder.{in_code_order}
 use Rattle.bk_tiling.specs.Tiling.{IsOneOf, IsTiling, Tiling}
 use Rattle.bk_tiling.specs.declared.Square.{Square}
 use Rattle.bk_sym.specs.Canonical.{IsCanonical}
-use Rattle.bk_barren.proofs.CornerTest.{IsLongerInCorner, in_corner}
+use Rattle.bk_cuts.proofs.CornerTest.{IsLongerInCorner, in_corner}
 
 -- what is read past the end of a list of squares
 abbrev pub nowhere : Square

@@ -1,2 +1,11 @@
+pub mod UpToReversals
+pub mod NodesUpToReversals
+pub mod CornerLines
+pub mod SoundReversal
+pub mod ApartNodes
+pub mod TilingCorners
+pub mod MeetingEnds
+pub mod SoundWords
+pub mod CornersExamples
 pub mod NetWords
 pub mod NetWordExamples

@@ -10,8 +10,8 @@ use Rattle.bk_free_cuts.proofs.CutsOfTilings.{a_simple_tiling_has_a_sound_layout
 use Rattle.bk_free_cuts.specs.FreeCuts.{IsSound}
 use Rattle.bk_reversal.proofs.UpTo.{none_turned, up_to_itself}
 use Rattle.bk_reversal.specs.RuleR.{BeginsNoEvenAbove}
-use Rattle.bk_reversed_cuts.proofs.SoundWords.{a_simple_tiling_is_sound_around, a_sound_layout_has_a_sound_word_by_rule_r}
-use Rattle.bk_reversed_cuts.specs.Corners.{HasSoundWordByRuleR, IsSoundAround}
+use Rattle.bk_net_word.proofs.SoundWords.{a_simple_tiling_is_sound_around, a_sound_layout_has_a_sound_word_by_rule_r}
+use Rattle.bk_net_word.specs.Corners.{HasSoundWordByRuleR, IsSoundAround}
 use Rattle.bk_signed_word.proofs.SignedWords.{a_word_up_to_reversals_is_signed}
 use Rattle.bk_signed_word.specs.SignedWord.{IsSignedWordOf}
 use Rattle.bk_net_word.specs.NetWord.{AFreeBarrenWordIsNetBarren, ASimpleTilingHasANetWord, ASimpleTilingHasAPositiveWord, EvenThenAboveIsNetBarren}

@@ -1,8 +1,25 @@
 //! The words that a search by nets has to meet, and what it may pass over.
 #![tactic(auto)]
 
+ghost use Rattle.bk_net_word.specs.Corners.{AReversedLayoutIsSound, ASimpleTilingIsSoundAround, ASoundLayoutHasASoundWordByRuleR};
 ghost use Rattle.bk_net_word.specs.NetWord.{AFreeBarrenWordIsNetBarren, ASimpleTilingHasANetWord, ASimpleTilingHasAPositiveWord};
 ghost use Rattle.bk_net_word.specs.NetWord.{EvenThenAboveIsNetBarren, WhatGoesOnIsNetBarren};
+
+/// A sound layout stays sound when a square is reversed that may be.
+pub fn a_reversed_layout_is_sound()
+    ensures { AReversedLayoutIsSound }
+{}
+
+/// A sound layout is, up to reversed squares, a sound one that has a free word that keeps rule R.
+pub fn a_sound_layout_has_a_sound_word_by_rule_r()
+    ensures { ASoundLayoutHasASoundWordByRuleR }
+{}
+
+/// The layout of a simple tiling of at least 3 squares is sound; around a node no line stands before two squares or after two, and squares that end
+/// side by side share a line: what reversing a square keeps.
+pub fn a_simple_tiling_is_sound_around()
+    ensures { ASimpleTilingIsSoundAround }
+{}
 
 /// No net word of a sound layout begins with what no word of a sound layout begins with.
 pub fn a_free_barren_word_is_net_barren()

@@ -8,8 +8,8 @@ use Rattle.bk_tiling_layout.specs.TilingLayout.{layout_of}
 use Rattle.bk_normal.proofs.LayoutCounts.{the_layout_has_the_counts}
 use Rattle.bk_normal.specs.Normal.{counts_of}
 use Rattle.bk_reversal.specs.RuleR.{BeginsNoEvenAbove}
-use Rattle.bk_reversed_cuts.proofs.SoundWords.{a_simple_tiling_is_sound_around, a_sound_layout_has_a_sound_word_by_rule_r}
-use Rattle.bk_reversed_cuts.specs.Corners.{HasSoundWordByRuleR, IsSoundAround}
+use Rattle.bk_net_word.proofs.SoundWords.{a_simple_tiling_is_sound_around, a_sound_layout_has_a_sound_word_by_rule_r}
+use Rattle.bk_net_word.specs.Corners.{HasSoundWordByRuleR, IsSoundAround}
 use Rattle.bk_signed_word.proofs.SignedWords.{a_word_up_to_reversals_is_signed}
 use Rattle.bk_normal_cuts.proofs.NumbersKept.{a_normal_tiling_has_a_normal_layout, reversals_keep_counts, reversals_keep_normal}
 use Rattle.bk_normal_cuts.proofs.NumbersShown.{a_word_shows_numbers}

@@ -3,13 +3,13 @@ use Rattle.std.proofs.Common.{List, Some, subst, sym, ℕ, ◌≡◌}
 use Rattle.bk_lines.proofs.TakenBytes.{taken_all}
 use Rattle.bk_lines.specs.Lines.{lines_of}
 use Rattle.bk_lines.specs.declared.Ended.TheVariants.{NoneRefused, SomeRefused}
-use Rattle.bk_groups.proofs.OneListing.{none_refused}
-use Rattle.bk_groups.specs.Closing.{listing_of}
-use Rattle.bk_groups.specs.Listed.{HasRefusedLine}
-use Rattle.bk_groups.specs.declared.Wanted.{Wanted}
-use Rattle.bk_verifying.proofs.OneReport.{no_fault_there}
-use Rattle.bk_verifying.specs.Report.{HasFault}
-use Rattle.bk_verifying.specs.Running.{report_of}
+use Rattle.bk_group_run.proofs.OneListing.{none_refused}
+use Rattle.bk_group_run.specs.Closing.{listing_of}
+use Rattle.bk_group_run.specs.Listed.{HasRefusedLine}
+use Rattle.bk_group_run.specs.declared.Wanted.{Wanted}
+use Rattle.bk_verify_run.proofs.OneReport.{no_fault_there}
+use Rattle.bk_verify_run.specs.Report.{HasFault}
+use Rattle.bk_verify_run.specs.Running.{report_of}
 use Rattle.bk_top.proofs.Statuses.{ending_at, is_calm, one_of_three}
 use Rattle.bk_top.specs.Outside.{Outside, faults_of, streams_of}
 use Rattle.bk_top.specs.ReadsToEnd.{ListsLines, ReadsToEnd, Verifies}

@@ -14,9 +14,9 @@ use Rattle.bk_ask.specs.Help.{usage}
 use Rattle.bk_ask.specs.declared.Ask.{Ask}
 use Rattle.bk_ask.specs.declared.Ask.TheVariants as asks
 use Rattle.bk_ask.specs.declared.Kind.{Kind}
-use Rattle.bk_groups.specs.Closing.{listing_of}
-use Rattle.bk_groups.specs.declared.Wanted.TheVariants.{Groups, Pairs}
-use Rattle.bk_verifying.specs.Running.{report_of}
+use Rattle.bk_group_run.specs.Closing.{listing_of}
+use Rattle.bk_group_run.specs.declared.Wanted.TheVariants.{Groups, Pairs}
+use Rattle.bk_verify_run.specs.Running.{report_of}
 use Rattle.bk_top.proofs.AnsweredLines.{answers_lines}
 use Rattle.bk_top.proofs.Statuses.{not_two}
 use Rattle.bk_word.specs.Word.{Word}

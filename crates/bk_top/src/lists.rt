@@ -1,14 +1,14 @@
 //! Lists that are read to their end.
 
 ghost use Rattle.std.specs.Prelude.{◌≤◌};
-ghost use Rattle.bk_groups.specs.Closing.{listing_of};
-ghost use Rattle.bk_verifying.specs.Running.{report_of};
+ghost use Rattle.bk_group_run.specs.Closing.{listing_of};
+ghost use Rattle.bk_verify_run.specs.Running.{report_of};
 ghost use Rattle.bk_top.specs.ReadsToEnd.{ReadsToEnd};
 
 use crate::lines::status;
-use bk_groups::{Wanted, list_lines};
+use bk_group_run::{Wanted, list_lines};
 use bk_ports::{Sink, Source};
-use bk_verifying::verify;
+use bk_verify_run::verify;
 use std::alloc::Global;
 
 // Lists the lines, and gives the status.

@@ -12,15 +12,15 @@ use Rattle.bk_word.specs.declared.Class.{Class}
 use Rattle.bk_word.specs.declared.Class.TheVariants.{Perfect}
 use Rattle.bk_word.specs.declared.Sign.{Sign}
 use Rattle.bk_word.specs.declared.Sign.TheVariants.{Above, Even}
-use Rattle.bk_barren.proofs.CuttingFirst.{shorter_first_is_barren}
-use Rattle.bk_barren.proofs.CuttingLines.{too_many_lines_is_barren}
-use Rattle.bk_barren.proofs.CuttingPairs.{even_squares_are_barren}
+use Rattle.bk_cuts.proofs.CuttingFirst.{shorter_first_is_barren}
+use Rattle.bk_cuts.proofs.CuttingLines.{too_many_lines_is_barren}
+use Rattle.bk_cuts.proofs.CuttingPairs.{even_squares_are_barren}
 use Rattle.bk_tree.proofs.Fitting.{less_longer}
 use Rattle.bk_tree.proofs.MoveOrder.{Begins, IsLess, IsShort, begun_before, less_from, less_to, moves_between, next_short, signs_cmp}
 use Rattle.bk_tree.proofs.Places.{move_from_parts, one_legal}
 use Rattle.bk_bounds.specs.SingleValleys.{single_valleys}
-use Rattle.bk_barren.specs.Cuts.{IsBarren}
-use Rattle.bk_barren.proofs.OneUnderOne.{one_under_one_is_barren}
+use Rattle.bk_cuts.specs.Cuts.{IsBarren}
+use Rattle.bk_cuts.proofs.OneUnderOne.{one_under_one_is_barren}
 use Rattle.bk_word.specs.OwnSigns.{own_signs}
 use Rattle.bk_walk.specs.MoveCuts.{GrowsByAtMostOne, IsCut, IsFrontEndingEven}
 use Rattle.bk_tree.specs.NextMove.{IsMoveFrom, move_after, move_of, signs_after}

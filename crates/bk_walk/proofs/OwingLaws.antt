@@ -10,12 +10,12 @@ use Rattle.bk_word.specs.declared.Sign.{Sign}
 use Rattle.bk_word.proofs.StoredBytes.{order_append, order_more}
 use Rattle.bk_word.proofs.PlayLaws.{after-snoc}
 use Rattle.bk_bounds.proofs.ClosingLaws.{bound-parts, unders}
-use Rattle.bk_owed.proofs.TallyLaws.{front_owes}
+use Rattle.bk_bound_counts.proofs.TallyLaws.{front_owes}
 use Rattle.bk_walk.proofs.CutLaws.{cut_by_front, front_signs}
-use Rattle.bk_barren.proofs.CuttingBounds.{too_many_to_close_is_barren}
+use Rattle.bk_cuts.proofs.CuttingBounds.{too_many_to_close_is_barren}
 use Rattle.bk_tree.proofs.MoveOrder.{Begins}
 use Rattle.bk_bounds.specs.ClosingBound.{closing_bound}
-use Rattle.bk_barren.specs.Cuts.{IsBarren}
+use Rattle.bk_cuts.specs.Cuts.{IsBarren}
 use Rattle.bk_walk.specs.MoveCuts.{IsCut}
 use Rattle.bk_tree.specs.NextMove.{move_after}
 

@@ -19,7 +19,7 @@ use Rattle.bk_tree.proofs.Places.{IsLast}
 use Rattle.bk_walk.proofs.SearchSteps.{climbs, cuts, ends, goes_down, meets, pushed_tree, turns_back}
 use Rattle.bk_catalogue.specs.Catalogue.{Entry, IsEntry}
 use Rattle.bk_catalogue.proofs.OneEntry.{entry_complete}
-use Rattle.bk_barren.specs.Cuts.{IsBarren}
+use Rattle.bk_cuts.specs.Cuts.{IsBarren}
 use Rattle.bk_walk.specs.MoveCuts.{GrowsByAtMostOne, IsCut}
 use Rattle.bk_tree.specs.NextMove.{IsLeastFrom, IsMoveFrom, first_move, fitted, move_after, open_sides}
 use Rattle.bk_walk.specs.WholeWords.{HasNoMember}

@@ -6,7 +6,7 @@ use Rattle.bk_word.specs.Word.{Move, Word, order_of}
 use Rattle.bk_word.specs.declared.Class.{Class}
 use Rattle.bk_word.proofs.PlayLaws.{few_signs, legal-snoc}
 use Rattle.bk_word.proofs.StoredBytes.{order_one}
-use Rattle.bk_barren.specs.Cuts.{IsBarren}
+use Rattle.bk_cuts.specs.Cuts.{IsBarren}
 use Rattle.bk_tree.specs.NextMove.{first_move, move_after}
 use Rattle.bk_walk.specs.Leaping.{IsMembersWord}
 use Rattle.bk_walk.specs.MoveCuts.{GrowsByAtMostOne, IsCut}

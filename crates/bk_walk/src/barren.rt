@@ -7,13 +7,13 @@ ghost use Rattle.bk_word.specs.Play.{outline_of};
 ghost use Rattle.bk_word.specs.Word.{order_of};
 ghost use Rattle.bk_word.specs.declared.Class.{Class};
 ghost use Rattle.bk_word.specs.declared.Class.TheVariants.{Perfect};
-ghost use Rattle.bk_barren.specs.Cuts.{IsBarren};
+ghost use Rattle.bk_cuts.specs.Cuts.{IsBarren};
 ghost use Rattle.bk_walk.specs.MoveCuts.{GrowsByAtMostOne, IsCut, IsFrontEndingEven};
 
 use crate::lined::LinedSkel;
 use crate::moves::next_move;
 use crate::owing::skip_owing;
-use bk_owed::single_valleys;
+use bk_bound_counts::single_valleys;
 use bk_skel::{Skel, open_side};
 use bk_word::{Class, Move, Sign};
 

@@ -5,7 +5,7 @@ ghost use Rattle.std.specs.Prelude.{IsTrue, [], length, take, ℕ, ◌++◌, ◌
 ghost use Rattle.bk_word.specs.Outline.{IsLegalMove};
 ghost use Rattle.bk_word.specs.Play.{IsLegal, outline_of};
 ghost use Rattle.bk_word.specs.Word.{order_of};
-ghost use Rattle.bk_barren.specs.Cuts.{IsBarren};
+ghost use Rattle.bk_cuts.specs.Cuts.{IsBarren};
 ghost use Rattle.bk_bounds.specs.VerticalCut.{line_bound_of};
 ghost use Rattle.bk_form_cuts.specs.Trace.{IsTraceOf};
 

@@ -6,7 +6,7 @@ ghost use Rattle.bk_word.specs.Outline.{valley_place};
 ghost use Rattle.bk_bounds.specs.VerticalCut.{begins_on_line, line_bound, on_line, segments_of, touched};
 
 use arrayvec::ArrayVec;
-use bk_owed::first_above;
+use bk_bound_counts::first_above;
 use bk_word::Sign;
 
 /// Appends of the squares of a move whether their left edges lie on a vertical line that runs from the top between squares of

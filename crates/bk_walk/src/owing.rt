@@ -7,7 +7,7 @@ ghost use Rattle.bk_word.specs.declared.Class.{Class};
 ghost use Rattle.bk_walk.specs.MoveCuts.{GrowsByAtMostOne, IsCut};
 
 use crate::moves::next_move;
-use bk_owed::{first_above, first_over, unders_behind};
+use bk_bound_counts::{first_above, first_over, unders_behind};
 use bk_skel::Skel;
 use bk_word::Move;
 

@@ -1,0 +1,32 @@
+use Rattle.std.specs.List.{flat_map}
+use Rattle.std.proofs.Common.{subst, ℕ, ◌∙◌, ◌<◌}
+use Rattle.std.proofs.lemmas.Result.{err_from_is_err_and}
+use Rattle.bk_alike.specs.Alike.{sizes}
+use Rattle.bk_group_run.specs.Closing.{group_lines}
+use Rattle.bk_group_run.proofs.ListLoops.{ends_broken, loop_broken, loop_more}
+use Rattle.bk_group_run.proofs.GroupMembers.{size_within}
+use Rattle.bk_group_run.proofs.WrittenLines.{item_at}
+use Rattle.bk_group_run.proofs.closing.write_groups.Goals as goal
+
+pub returns-in_err-write_one_group-clause-lines : goal.returns-in_err-write_one_group-clause-lines
+returns-in_err-write_one_group-clause-lines g c =
+    let p = err_from_is_err_and c.from_residual.result c.from_residual.ensures.1 in
+    let below = size_within c.args.items.now c.loop-g.g (subst (λ (n : ℕ). c.loop-g.g < n) c.groups-g-end.ensures c.loop-g-test.true) in
+    let at = item_at (sizes c.args.items.now) c.loop-g.g below in
+    ends_broken (flat_map (group_lines c.args.items.now) (sizes c.args.items.now)) (g.O.Sink.written c.args.out.now)
+    (g.O.Sink.written c.write_one_group.new.out) c.from_residual.result p.0 p.1
+    (loop_broken (group_lines c.args.items.now) (flat_map (group_lines c.args.items.now) (sizes c.args.items.now)) (sizes c.args.items.now) c.loop-g.g
+    at.item (g.O.Sink.written c.args.out.now) (g.O.Sink.written c.loop-g.out) (g.O.Sink.written c.write_one_group.new.out)
+    below at.here c.loop-g.invariant.written (c.in_err-write_one_group.ensures.lines at.item at.here))
+
+pub loop-g-preserved : goal.loop-g-preserved
+loop-g-preserved g c =
+    let below = size_within c.args.items.now c.loop-g.g (subst (λ (n : ℕ). c.loop-g.g < n) c.groups-g-end.ensures c.loop-g-test.true) in
+    let at = item_at (sizes c.args.items.now) c.loop-g.g below in
+    record {
+      written =
+          loop_more (group_lines c.args.items.now) (flat_map (group_lines c.args.items.now) (sizes c.args.items.now)) (sizes c.args.items.now)
+          c.loop-g.g at.item (g.O.Sink.written c.args.out.now) (g.O.Sink.written c.loop-g.out) (g.O.Sink.written c.write_one_group.new.out)
+          below at.here c.loop-g.invariant.written (c.in_ok-write_one_group.ensures.lines at.item at.here);
+      same = c.in_ok-write_one_group.ensures.cause.ok ∙ c.loop-g.invariant.same;
+    }

@@ -1,0 +1,26 @@
+use Rattle.std.proofs.Common.{subst}
+use Rattle.bk_lines.specs.Ending.{EndsWith}
+use Rattle.bk_lines.specs.Entering.{entries_of}
+use Rattle.bk_group_run.specs.Listed.{Listed, listing_rules}
+use Rattle.bk_group_run.proofs.ClosedLists.{closes_broken, closes_well, streams_of, verdict_told}
+use Rattle.bk_group_run.proofs.command.list_lines.Goals as goal
+
+pub returns-in-Ok-clause-ending : goal.returns-in-Ok-clause-ending
+returns-in-Ok-clause-ending g c =
+    closes_well c.args.wanted c.enter_lines-ended.new.register (g.S.Source.left c.args.source.now) (g.S.Source.left c.enter_lines-ended.new.source)
+    (g.O.Sink.written c.args.out.now) (g.O.Sink.written c.enter_lines-ended.new.out) (g.O.Sink.written c.write_closing.new.out) c.enter_lines-ended.result
+    (subst (λ (s : Listed). EndsWith (entries_of listing_rules s c.enter_lines-ended.new.register)
+    (streams_of (g.S.Source.left c.args.source.now) (g.S.Source.left c.enter_lines-ended.new.source) (g.O.Sink.written c.args.out.now)
+    (g.O.Sink.written c.enter_lines-ended.new.out)) c.enter_lines-ended.result)
+    c.new-list.ensures c.enter_lines-ended.ensures.ending)
+    (verdict_told c.enter_lines-ended.result c.in-NoneRefused.is) c.write_closing.result c.write_closing.ensures.lines c.in-Ok.is
+
+pub returns-in-NoneRefused-clause-ending : goal.returns-in-NoneRefused-clause-ending
+returns-in-NoneRefused-clause-ending g c =
+    closes_broken c.args.wanted c.enter_lines-ended.new.register (g.S.Source.left c.args.source.now) (g.S.Source.left c.enter_lines-ended.new.source)
+    (g.O.Sink.written c.args.out.now) (g.O.Sink.written c.enter_lines-ended.new.out) (g.O.Sink.written c.write_closing.new.out) c.enter_lines-ended.result
+    (subst (λ (s : Listed). EndsWith (entries_of listing_rules s c.enter_lines-ended.new.register)
+    (streams_of (g.S.Source.left c.args.source.now) (g.S.Source.left c.enter_lines-ended.new.source) (g.O.Sink.written c.args.out.now)
+    (g.O.Sink.written c.enter_lines-ended.new.out)) c.enter_lines-ended.result)
+    c.new-list.ensures c.enter_lines-ended.ensures.ending)
+    (verdict_told c.enter_lines-ended.result c.in-NoneRefused.is) c.write_closing.result c.write_closing.ensures.lines c.in-Err.field-0 c.in-Err.is

@@ -1,0 +1,73 @@
+use Rattle.std.proofs.Common.{Bor, Err, Option, ap, arith, length, refl, subst, ◌∙◌, ◌<◌, ◌≤◌}
+use Rattle.std.specs.Option.{option_copied}
+use Rattle.bk_tiling.specs.Tiling.{Tiling}
+use Rattle.bk_report.specs.ListLines.{refused_line}
+use Rattle.bk_report.specs.declared.refusal.Refused.TheVariants.{More}
+use Rattle.bk_answer.specs.Item.{HasTiling, IsLaidLine}
+use Rattle.bk_group_run.specs.Listed.{Listed, ListsLine, MayWantItem, with_item, with_refused}
+use Rattle.bk_group_run.proofs.ListedLines.{full_line, has_room, kept_apart, kept_line, refused_begun, refused_entry, refused_outcome, skipped_line}
+use Rattle.bk_group_run.proofs.listed.ItemListRegister.enter.Goals as goal
+
+pub returns-in-Ok-None-clause-outcome : goal.returns-in-Ok-None-clause-outcome
+returns-in-Ok-None-clause-outcome g c =
+    let none = subst (λ (o : Option (Bor Tiling)). IsLaidLine c.args.line.now (option_copied o)) c.in-Ok-None.field-0-is c.in-Ok-None.ensures.laid in
+    skipped_line c.args.self.now _ c.args.number c.args.line.now (g.O.Sink.written c.args.out.now) none c.self.view_is
+
+pub returns-in-Ok-clause-outcome : goal.returns-in-Ok-clause-outcome
+returns-in-Ok-clause-outcome g c =
+    let has : HasTiling c.args.line.now c.in-Ok-Some.tiling.now =
+    subst (λ (o : Option (Bor Tiling)). IsLaidLine c.args.line.now (option_copied o)) c.in-Ok-Some.field-0-is c.in-Ok-Some.ensures.laid in
+    let k = c.in-Ok.ensures.kept in
+    let few : length c.self.inside.items < 16384 =
+    has_room (length c.self.inside.items) c.add.result (kept_apart c.add.result c.in-Ok.field-0 c.in-Ok.is) c.add.ensures.full in
+    kept_line c.args.self.now _ c.args.number c.args.line.now c.in-Ok-Some.tiling.now k.0 (g.O.Sink.written c.args.out.now) has
+    (omega (arith, few, ap (λ (s : Listed). length s.items) c.self.view_is)) k.1
+    ((λ i. record { items = k.2 i; refused = c.self.inside.refused }) ∙ ap (λ (s : Listed). with_item s c.args.number k.0) c.self.view_is)
+
+full : (g : _) (c : goal.After-refuse g) → 16384 ≤ length c.args.self.now.items
+full g c =
+    let many : 16384 ≤ length c.self.inside.items = c.add.ensures.full.0 (c.in-Err-Full.is ∙ ap Err c.in-Err-Full.field-0-is) in
+    omega (arith, many, ap (λ (s : Listed). length s.items) c.self.view_is)
+
+pub returns-in-Err-Full-clause-outcome : goal.returns-in-Err-Full-clause-outcome
+returns-in-Err-Full-clause-outcome g c =
+    let has : HasTiling c.args.line.now c.in-Ok-Some.tiling.now =
+    subst (λ (o : Option (Bor Tiling)). IsLaidLine c.args.line.now (option_copied o)) c.in-Ok-Some.field-0-is c.in-Ok-Some.ensures.laid in
+    refused_outcome (λ pieces refused. ListsLine c.args.self.now c.args.number c.args.line.now pieces refused c.refuse.new.self)
+    (MayWantItem c.args.self.now c.args.number c.args.line.now) (refused_line c.args.number More)
+    (g.O.Sink.written c.args.out.now) (g.O.Sink.written c.refuse.new.out) c.refuse.result
+    (full_line c.args.self.now c.refuse.new.self c.args.number c.args.line.now c.in-Ok-Some.tiling.now has (full g c)
+    (c.refuse.ensures.state ∙ (λ i. with_refused (record { items = c.in-Err-Full.ensures.unchanged i; refused = c.self.inside.refused }))
+    ∙ ap with_refused c.self.view_is))
+    c.refuse.ensures.outcome
+
+pub returns-in-Err-Full-clause-failed : goal.returns-in-Err-Full-clause-failed
+returns-in-Err-Full-clause-failed g c =
+    let has : HasTiling c.args.line.now c.in-Ok-Some.tiling.now =
+    subst (λ (o : Option (Bor Tiling)). IsLaidLine c.args.line.now (option_copied o)) c.in-Ok-Some.field-0-is c.in-Ok-Some.ensures.laid in
+    refused_begun (λ pieces refused. (s : Listed) × ListsLine c.args.self.now c.args.number c.args.line.now pieces refused s)
+    (refused_line c.args.number More)
+    (g.O.Sink.written c.args.out.now) (g.O.Sink.written c.refuse.new.out) c.refuse.result (
+      with_refused c.args.self.now,
+      full_line c.args.self.now (with_refused c.args.self.now) c.args.number c.args.line.now c.in-Ok-Some.tiling.now has (full g c) refl,
+    )
+    c.refuse.ensures.failed
+
+pub returns-in-Err-clause-outcome : goal.returns-in-Err-clause-outcome
+returns-in-Err-clause-outcome g c =
+    refused_outcome (λ pieces refused. ListsLine c.args.self.now c.args.number c.args.line.now pieces refused c.refuse-in-Err.new.self)
+    (MayWantItem c.args.self.now c.args.number c.args.line.now) (refused_line c.args.number c.in-Err.refused)
+    (g.O.Sink.written c.args.out.now) (g.O.Sink.written c.refuse-in-Err.new.out) c.refuse-in-Err.result
+    (refused_entry c.args.self.now c.refuse-in-Err.new.self c.args.number c.args.line.now c.in-Err.refused c.in-Err.ensures.refused
+    (c.refuse-in-Err.ensures.state ∙ ap with_refused c.self.view_is))
+    c.refuse-in-Err.ensures.outcome
+
+pub returns-in-Err-clause-failed : goal.returns-in-Err-clause-failed
+returns-in-Err-clause-failed g c =
+    refused_begun (λ pieces refused. (s : Listed) × ListsLine c.args.self.now c.args.number c.args.line.now pieces refused s)
+    (refused_line c.args.number c.in-Err.refused)
+    (g.O.Sink.written c.args.out.now) (g.O.Sink.written c.refuse-in-Err.new.out) c.refuse-in-Err.result (
+      with_refused c.args.self.now,
+      refused_entry c.args.self.now (with_refused c.args.self.now) c.args.number c.args.line.now c.in-Err.refused c.in-Err.ensures.refused refl,
+    )
+    c.refuse-in-Err.ensures.failed

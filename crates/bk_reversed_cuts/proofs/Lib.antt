@@ -1,9 +1,0 @@
-pub mod UpToReversals
-pub mod NodesUpToReversals
-pub mod CornerLines
-pub mod SoundReversal
-pub mod ApartNodes
-pub mod TilingCorners
-pub mod MeetingEnds
-pub mod SoundWords
-pub mod CornersExamples
