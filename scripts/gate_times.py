@@ -2,9 +2,9 @@
 """Runs the gate in one piece, and writes its times and the sizes of the crates into docs/GATE.md, between the two marks there.
 
 Each run proves all from nothing: what a toolchain keeps of earlier runs isn't used (`--anew`, if the toolchain knows it). The status is the
-gate's.
+gate's. With --sizes nothing is run: only the sizes are written, which are those of the tree as it is.
 
-    scripts/gate_times.py
+    scripts/gate_times.py [--sizes]
 """
 import os
 import re
@@ -48,13 +48,9 @@ def run_gate():
     return ran.wait(), last, done, time.monotonic() - began
 
 
-def table(last, done, wall):
-    used = resource.getrusage(resource.RUSAGE_CHILDREN)
-    spent = used.ru_utime + used.ru_stime
-    yield f"One run of `rt ci`, from nothing, on {time.strftime('%d %B %Y')}, on {len(os.sched_getaffinity(0))} processors: {wall / 60:.0f} minutes, "
-    yield f"{spent / 60:.0f} processor minutes, with {told_by('version').split()[0]}. It ended with:\n\n"
-    yield from (f"    {it}\n" for it in last)
-    yield "\n| crate | proved at | src | specs | proofs | edits | tests |\n|---|---|---|---|---|---|---|\n"
+def rows(done):
+    """Returns the rows of the table: of each crate when its proof was done, where that is known, and its sizes; and the sums of these."""
+    yield "| crate | proved at | src | specs | proofs | edits | tests |\n|---|---|---|---|---|---|---|\n"
     total = [0] * 5
     for name in named_by_crate():
         of, at = sizes(name), done.get(name)
@@ -63,14 +59,32 @@ def table(last, done, wall):
     yield f"| all {len(named_by_crate())} | | {' | '.join(map(str, total))} |\n"
 
 
-def main():
-    status, last, done, wall = run_gate()
+def table(last, done, wall):
+    used = resource.getrusage(resource.RUSAGE_CHILDREN)
+    spent = used.ru_utime + used.ru_stime
+    yield f"One run of `rt ci`, from nothing, on {time.strftime('%d %B %Y')}, on {len(os.sched_getaffinity(0))} processors: {wall / 60:.0f} minutes, "
+    yield f"{spent / 60:.0f} processor minutes, with {told_by('version').split()[0]}. It ended with:\n\n"
+    yield from (f"    {it}\n" for it in last)
+    yield "\n"
+    yield from rows(done)
+
+
+def write(text):
+    """Writes the text between the marks of the page."""
     with open(PAGE, encoding="utf-8") as file:
         page = file.read()
     front, _, rest = page.partition(BEGIN)
     _, _, back = rest.partition(END)
     with open(PAGE, "w", encoding="utf-8") as file:
-        file.write(front + BEGIN + "".join(table(last, done, wall)) + END + back)
+        file.write(front + BEGIN + text + END + back)
+
+
+def main():
+    if sys.argv[1:] == ["--sizes"]:
+        write("".join(rows({})))
+        return 0
+    status, last, done, wall = run_gate()
+    write("".join(table(last, done, wall)))
     return status
 
 

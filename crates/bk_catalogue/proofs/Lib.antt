@@ -2,10 +2,12 @@ pub mod Carrying
 pub mod PartsKept
 pub mod ClassesKept
 pub mod PerfectSides
+pub mod RepeatedSides
 pub mod ListedOnce
 pub mod TwoSquares
 pub mod CatalogueExamples
 pub mod FollowingExamples
+pub mod RepeatedExamples
 pub mod SmallMembers
 pub mod OneEntry
 pub mod WordCounts

@@ -2,4 +2,5 @@
 pub mod Catalogue
 pub mod Following
 pub mod Once
+pub mod Repeated
 pub mod Small

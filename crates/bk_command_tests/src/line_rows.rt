@@ -389,3 +389,9 @@ fn the_longest_input(rt: HostRuntime) {
 fn the_longest_input_of_empty_lines(rt: HostRuntime) {
     assert!(rt; ends_with(rt.alloc(), b'\n', 1 << 30, (0, b"")));
 }
+
+// One line more.
+#[test]
+fn an_empty_line_too_many(rt: HostRuntime) {
+    assert!(rt; ends_with(rt.alloc(), b'\n', (1 << 30) + 1, (7, b"")));
+}

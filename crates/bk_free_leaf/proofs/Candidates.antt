@@ -34,7 +34,7 @@ use Rattle.bk_signed_word.proofs.SignedWires.{ends_below, square_apart, square_b
 use Rattle.bk_signed_word.proofs.SignedFlows.{hangs_by_flow, potential_is, signed_sides_are_the_one_flow, top_potential}
 use Rattle.bk_signed_word.proofs.NumberedLists.{numbers_all, numbers_each, numbers_index, numbers_length}
 use Rattle.bk_signed_word.specs.SignedFlow.{signed_flow, signed_side, upper_end}
-use Rattle.bk_signed_word.specs.SignedWord.{IsSignedWordOf, left_edge, line_column}
+use Rattle.bk_signed_word.specs.SignedWord.{IsSignedWordOf, left_edge, line_column, right_edge}
 
 -- a square placed by its edges and levels
 placed : (turned : Bool) (q : Square) (left right above below current : ℤ) → 0 < q.s → left ≡ pos (cond turned (q.x + q.s) q.x)
@@ -83,25 +83,35 @@ module _ (t : Tiling) (w : Word) (f : Flow) (tiling : IsTiling t) (primitive : I
           → (left_edge t s.turned (s.square (0 + j)) ≡ line_column t s.turned s.square p.0) × (p.0 < 0 + j + 2)
       lines j p e = (ap (λ (k : ℕ). left_edge t s.turned (s.square k)) (omega arith) ∙ (s.lines j p.0 p.1 e).0, omega (arith, (known_lines w j p e).0))
 
+  -- a line of the word stands where it is computed
+  pub left_is : (k : ℕ) → k < length t.squares
+      → line_place f.total (right_edges w f) (slice_index_or (sides_of w) k (0, 1)).0 ≡ pos (left_edge t s.turned (s.square k))
+  left_is k h = place_is t s.turned s.square f.total same.0 (length t.squares) (right_edges w f) edges (slice_index_or (sides_of w) k (0, 1)).0
+      (omega (arith, h, (known_lines w k (slice_index_or (sides_of w) k (0, 1)) got).0))
+      ∙ ap pos (sym (s.lines k (slice_index_or (sides_of w) k (0, 1)).0 (slice_index_or (sides_of w) k (0, 1)).1 got).0)
+    where
+      got : slice_get (sides_of w) k ≡ Some (slice_index_or (sides_of w) k (0, 1))
+      got = slice_get-get_or (sides_of w) k (0, 1) (omega (arith, long, h))
+
+  -- and so does the right edge of a square
+  pub right_is : (k : ℕ) → k < length t.squares → slice_index_or (right_edges w f) k (pos 0) ≡ pos (right_edge t s.turned (s.square k))
+  right_is k h = edges.each k h
+
+  -- a current is the side of its square, negative where this is turned
+  pub current_is : (k : ℕ) → k < length t.squares → slice_index_or f.currents k (pos 0) ≡ signed_side t s.turned (s.square k)
+  current_is k h = ap (λ (cs : List ℤ). slice_index_or cs k (pos 0)) same.1
+      ∙ numbers_index {A = ℤ} (λ k. signed_side t s.turned (s.square k)) 0 (length t.squares) k (pos 0) h
+      ∙ ap (λ (i : ℕ). signed_side t s.turned (s.square i)) (omega arith)
+
   -- one square
-  square_is : (k : ℕ) → k < length t.squares → candidate_square w f k ≡ square_of t (s.square k)
+  pub square_is : (k : ℕ) → k < length t.squares → candidate_square w f k ≡ square_of t (s.square k)
   square_is k h = placed (s.turned (s.square k)) (square_of t (s.square k))
       (line_place f.total (right_edges w f) (slice_index_or (sides_of w) k (0, 1)).0) (slice_index_or (right_edges w f) k (pos 0))
       (level_in f (slice_index_or (net_of_word w).wires k (0, 0)).0) (level_in f (slice_index_or (net_of_word w).wires k (0, 0)).1)
       (slice_index_or f.currents k (pos 0))
       (side_of t tiling (square_of t (s.square k)) (in_square t tiling (s.square k) (square_below t tiling w s k h)))
-      (place_is t s.turned s.square f.total same.0 (length t.squares) (right_edges w f) edges (slice_index_or (sides_of w) k (0, 1)).0
-      (omega (arith, h, (known_lines w k (slice_index_or (sides_of w) k (0, 1)) got).0))
-      ∙ ap pos (sym (s.lines k (slice_index_or (sides_of w) k (0, 1)).0 (slice_index_or (sides_of w) k (0, 1)).1 got).0))
-      (edges.each k h)
-      (level (s.turned (s.square k)) (hangs_by_flow t tiling w s k h))
-      (ap (λ (cs : List ℤ). slice_index_or cs k (pos 0)) same.1
-      ∙ numbers_index {A = ℤ} (λ k. signed_side t s.turned (s.square k)) 0 (length t.squares) k (pos 0) h
-      ∙ ap (λ (i : ℕ). signed_side t s.turned (s.square i)) (omega arith))
+      (left_is k h) (right_is k h) (level (s.turned (s.square k)) (hangs_by_flow t tiling w s k h)) (current_is k h)
     where
-      got : slice_get (sides_of w) k ≡ Some (slice_index_or (sides_of w) k (0, 1))
-      got = slice_get-get_or (sides_of w) k (0, 1) (omega (arith, long, h))
-
       level : (b : Bool) → pos (square_of t (s.square k)).y ≡ potential (signed_flow t w s) 0 -ℤ potential (signed_flow t w s) (upper_end w b k)
           → cond b (level_in f (slice_index_or (net_of_word w).wires k (0, 0)).1)
           (level_in f (slice_index_or (net_of_word w).wires k (0, 0)).0) ≡ pos (square_of t (s.square k)).y
@@ -126,18 +136,19 @@ module _ (t : Tiling) (w : Word) (f : Flow) (tiling : IsTiling t) (primitive : I
       cases (inl (h, k)) = absurd (omega arith)
       cases (inr h) = h.1
 
+  -- the last node of the word is the tiling's
+  pub last_is : s.node (last_node (net_of_word w)) ≡ length (square_groups t.squares)
+  last_is = s.net.last (last_node (net_of_word w)) (omega (arith, loose.0.some)) ∙ omega (arith, s.net.nodes)
+
   height_is : level_in f (last_node (net_of_word w)) ≡ pos t.height
   height_is = level_is (last_node (net_of_word w)) (omega (arith, loose.0.some)) ∙ omega (
     arith,
     ints,
     top_potential t tiling w s,
     potential_is t tiling w s (last_node (net_of_word w)) (omega (arith, loose.0.some)),
-    ap (λ (v : ℕ). slice_index_or (node_levels t) v 0) last,
+    ap (λ (v : ℕ). slice_index_or (node_levels t) v 0) last_is,
     bottom_level,
   )
-    where
-      last : s.node (last_node (net_of_word w)) ≡ length (square_groups t.squares)
-      last = s.net.last (last_node (net_of_word w)) (omega (arith, loose.0.some)) ∙ omega (arith, s.net.nodes)
 
   side_some : (k : ℕ) → k < length t.squares → 0 < (square_of t (s.square k)).s
   side_some k h = side_of t tiling (square_of t (s.square k)) (in_square t tiling (s.square k) (square_below t tiling w s k h))

@@ -47,13 +47,13 @@ by_index (x ∷ xs) g b d each = λ i. (each 0 (omega arith) ∙ ap g at) i ∷ 
     next : (k : ℕ) → b + suc k ≡ b + 1 + k
     next k = omega arith
 
-left_at : (sides : List (ℕ × ℕ)) (k : ℕ) (d : ℕ × ℕ) → k < length sides → slice_index_or (map (λ s. s.0) sides) k 0 ≡ (slice_index_or sides k d).0
+pub left_at : (sides : List (ℕ × ℕ)) (k : ℕ) (d : ℕ × ℕ) → k < length sides → slice_index_or (map (λ s. s.0) sides) k 0 ≡ (slice_index_or sides k d).0
 left_at [] k d h = absurd (omega arith)
 left_at (s ∷ sides) zero d h = refl
 left_at (s ∷ sides) (suc k) d h = left_at sides k d (omega arith)
 
 -- where squares end is told by the lines at their left
-edges_told : (total : ℤ) (rights : List ℤ) (sides : List (ℕ × ℕ)) (currents : List ℤ)
+pub edges_told : (total : ℤ) (rights : List ℤ) (sides : List (ℕ × ℕ)) (currents : List ℤ)
     → right_edges_from total rights (by_lefts (map (λ s. s.0) sides)) currents ≡ right_edges_from total rights sides currents
 edges_told total rights [] currents = refl
 edges_told total rights (s ∷ sides) [] = refl

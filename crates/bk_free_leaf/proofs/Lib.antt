@@ -10,5 +10,6 @@ pub mod FoundSides
 pub mod Leaves
 pub mod LeafRun
 pub mod FoundExamples
-pub mod LongestSquares
+pub mod ToldSteps
+pub mod CornerSquares
 pub mod TiesExamples

@@ -15,7 +15,7 @@ use Rattle.bk_word.specs.Outline.{Outline, start, valley_of, valley_place}
 use Rattle.bk_word.specs.Play.{AreLegalFrom, IsComplete, after_move, after_moves, outline_of}
 use Rattle.bk_word.specs.Word.{Move, Word}
 use Rattle.bk_word.proofs.PlayLists.{place_within}
-use Rattle.bk_word_net.proofs.NoLoose.{Played, closed_count, hung_number, played_move, played_start}
+use Rattle.bk_word_net.proofs.NoLoose.{Played, closed_count, end_is_later, hung_number, played_move, played_start}
 use Rattle.bk_word_net.proofs.Numbering.{HasPlace, place_of_number}
 use Rattle.bk_word_net.proofs.PlacesInLists.{wires_got}
 use Rattle.bk_word_net.proofs.Shape.{AllFilled, Shaped, filled_move, shaped_move, shaped_start}
@@ -131,6 +131,16 @@ module _ (w : Word) (complete : IsComplete w) where
   wire k h = get_or_from_slice_get (net_of_word w).wires k
       (slice_index_or (outline_of w).hung k 0, end_of ((outline_of w).closed ++ (outline_of w).segments) (1 + k)) (0, 0)
       (wires_got (end_of ((outline_of w).closed ++ (outline_of w).segments)) 1 (outline_of w).hung k h)
+
+  -- each wire leads to a later node
+  pub wire_later : (k : ℕ) → k < length (outline_of w).hung
+      → (slice_index_or (net_of_word w).wires k (0, 0)).0 < (slice_index_or (net_of_word w).wires k (0, 0)).1
+  wire_later k h = omega (
+    arith,
+    ap (λ (e : ℕ × ℕ). e.0) (wire k h),
+    ap (λ (e : ℕ × ℕ). e.1) (wire k h),
+    end_is_later (outline_of w) kept.played complete.one k h,
+  )
 
   -- the place of a number is the list in which it stands
   place_is : (m v : ℕ) → 1 ≤ m → m ≤ length (outline_of w).hung → v < length (outline_of w).closed

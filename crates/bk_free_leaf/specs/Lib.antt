@@ -4,3 +4,4 @@ pub mod Candidate
 pub mod Ties
 -- How its code keeps it.
 pub mod Placing
+pub mod ToldCorners

@@ -4,6 +4,7 @@
 ghost use Rattle.bk_free_leaf.specs.Candidate.{TheCandidateIsTheTiling};
 
 mod class;
+mod corners;
 mod levels;
 mod placing;
 mod ties;

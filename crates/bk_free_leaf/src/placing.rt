@@ -2,7 +2,7 @@
 
 ghost use Rattle.std.specs.Prelude.{IsTrue, length, pos, slice_index_or, ℕ, ℤ, ◌*◌, ◌<◌, ◌^◌, ◌≡◌, ◌≤◌};
 ghost use Rattle.bk_tiling.specs.Scale.{IsPrimitiveTiling};
-ghost use Rattle.bk_tiling.specs.Tiling.{IsTiling, Tiling as Tiled};
+ghost use Rattle.bk_tiling.specs.Tiling.{Tiling as Tiled};
 ghost use Rattle.bk_word.specs.Play.{IsComplete};
 ghost use Rattle.bk_word.specs.Word.{order_of};
 ghost use Rattle.bk_free_leaf.specs.Candidate.{placed_square};
@@ -10,17 +10,17 @@ ghost use Rattle.bk_free_cuts.specs.LineNumbers.{lefts_of};
 ghost use Rattle.bk_free_leaf.specs.Placing.{AreKnownLines, AreSmall, EndWithin, IsPlacedAt, IsSmall};
 ghost use Rattle.bk_free_leaf.specs.Found.{IsFound};
 ghost use Rattle.bk_free_leaf.specs.Ties.{AreTiesOf};
-ghost use Rattle.bk_signed_word.specs.SignedWord.{IsSignedWordOf};
 ghost use Rattle.bk_normal_cuts.specs.NormalImage.{IsMetByNormalWord};
 ghost use Rattle.bk_normal_cuts.specs.WordNumbers.{counts_of_word};
 ghost use Rattle.bk_catalogue.specs.Catalogue.{IsOfClass};
 
 use crate::class::class_allows;
+use crate::corners::longest_in_corners;
 use crate::levels::{NODES, levels_of, place_of, rights_of};
 use crate::ties::{Ties, corners_allow};
 use arrayvec::ArrayVec;
 use bk_flow::narrow_flow;
-use bk_skel::Skel;
+use bk_skel::SmallSkel;
 use bk_tiling::Square;
 use bk_word::{Class, INLINE_ORDER};
 
@@ -38,28 +38,12 @@ pub struct Placed {
 /// The squares of the one normal tiling of the class that the complete word can meet: they are placed by the one flow of the word's net
 /// and by the lines at their left. Each tiling in lowest terms, of the class, which is met by the word is found. Where it is told which
 /// counts of the word tie, images that lose by their corners are passed over. (Own.)
-pub fn leaf(skel: &Skel, lefts: &[u8], ties: Ties, class: Class) -> Option<Placed>
+pub fn leaf(skel: &SmallSkel, lefts: &[u8], ties: Ties, class: Class) -> Option<Placed>
     requires complete { IsComplete skel.now }
     requires few { order_of skel.now ≤ 16 }
     requires lefts { lefts.now ≡ lefts_of skel.now }
     requires ties { AreTiesOf (counts_of_word skel.now) ties }
     ensures { (t : Tiled) → IsMetByNormalWord t skel.now → IsPrimitiveTiling t → IsOfClass class t → IsFound t result }
-{
-    let placed = candidate(skel, lefts, class)?;
-    if corners_allow(&placed, ties) {
-        Some(placed)
-    } else {
-        None
-    }
-}
-
-// The squares that the word places, where no current is 0 and the class allows them: those of each tiling in lowest terms and of the
-// class of which the word is a signed one.
-fn candidate(skel: &Skel, lefts: &[u8], class: Class) -> Option<Placed>
-    requires complete { IsComplete skel.now }
-    requires few { order_of skel.now ≤ 16 }
-    requires lefts { lefts.now ≡ lefts_of skel.now }
-    ensures { (t : Tiled) → IsTiling t → IsPrimitiveTiling t → IsOfClass class t → IsSignedWordOf t skel.now → IsFound t result }
 {
     let net = skel.net();
     let wires = net.wires();
@@ -72,9 +56,14 @@ fn candidate(skel: &Skel, lefts: &[u8], class: Class) -> Option<Placed>
         return None;
     }
     let levels = levels_of(wires, currents);
+    let nodes = net.nodes();
     let width = total.unsigned_abs();
-    let height = levels[usize::from(net.nodes()) - 1].unsigned_abs();
+    let height = levels[usize::from(nodes) - 1].unsigned_abs();
     let rights = rights_of(lefts, currents, total);
+    let longest = longest_in_corners(wires, currents, lefts, &rights, total, nodes - 1);
+    if !corners_allow(&longest, width, height, ties) {
+        return None;
+    }
     let squares = squares_at(lefts, wires, currents, &levels, &rights, total);
     Some(Placed {
         width,

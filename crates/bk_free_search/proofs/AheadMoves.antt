@@ -1,12 +1,8 @@
 -- The most moves of a word that goes on from some moves, as they are told by numbers.
-use Rattle.std.proofs.Common.{IsTrue, List, [], arith, cond, inl, inr, length, max, nat_le, nat_lt, refl, true, ℕ, ◌*◌, ◌+◌, ◌<◌, ◌∷◌, ◌≡◌, ◌≤◌, ◌⊎◌}
-use Rattle.std.specs.List.{AllByRecursion, list_all}
+use Rattle.std.proofs.Common.{IsTrue, arith, cond, inl, inr, length, max, nat_le, nat_lt, ℕ, ◌*◌, ◌+◌, ◌<◌, ◌≡◌, ◌≤◌, ◌⊎◌}
 use Rattle.std.specs.Prelude.{◌/◌}
 use Rattle.std.proofs.lemmas.Bool.Decides.{nat_tests}
-use Rattle.bk_word.specs.Signs.{is_under}
 use Rattle.bk_word.specs.Word.{Word}
-use Rattle.bk_word.specs.declared.Sign.{Sign}
-use Rattle.bk_word.specs.declared.Sign.TheVariants.{Above, Even, Under}
 use Rattle.bk_normal_cuts.specs.NextMove.{AreMostMovesThen, left_squares_then, right_squares_then}
 use Rattle.bk_normal_cuts.specs.WordNumbers.{first_count}
 
@@ -39,10 +35,3 @@ most_then_is n front moves top wall most m t w none some = cases (two 0 moves)
         sides : (top < wall) ⊎ (wall ≤ top) → AreMostMovesThen n front most
         sides (inl g) = inr (omega (arith, some h, less n top wall g), omega (arith, h, m), omega (arith, g, t, w))
         sides (inr g) = inl (omega (arith, some h, halved n top wall g))
-
--- signs that are all under, by the test
-pub under_all : (signs : List Sign) → list_all is_under signs ≡ true → AllByRecursion (λ s. s ≡ Under) signs
-under_all [] e = tt
-under_all (Above ∷ signs) e = absurd (cc)
-under_all (Even ∷ signs) e = absurd (cc)
-under_all (Under ∷ signs) e = (refl, under_all signs e)

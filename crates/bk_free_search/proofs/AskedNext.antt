@@ -1,10 +1,10 @@
 -- What is asked for with one sign more.
 use Rattle.std.proofs.Common.{Bool, List, [], ap, append_assoc, arith, cond, false, inl, inr, length, min, nat_eq, refl, slice_index_or, subst}
-use Rattle.std.proofs.Common.{sym, true, ℕ, ◌++◌, ◌+◌, ◌-◌, ◌<◌, ◌∙◌, ◌∷◌, ◌≡◌, ◌≤◌, ◌⊎◌}
+use Rattle.std.proofs.Common.{sym, true, ℕ, ◌++◌, ◌+◌, ◌-◌, ◌∙◌, ◌∷◌, ◌≡◌, ◌≤◌, ◌⊎◌}
 use Rattle.std.proofs.lemmas.Bool.Decides.{nat_tests}
 use Rattle.std.proofs.lemmas.List.{get_or-map, length-append}
 use Rattle.bk_laws.proofs.ListPlaces.{get_back}
-use Rattle.bk_word.specs.Outline.{has_left_wall, sizes_of, valley_of, valley_place}
+use Rattle.bk_word.specs.Outline.{has_left_wall, open_side, sizes_of, valley_of, valley_place}
 use Rattle.bk_word.specs.Play.{IsLegal, outline_of}
 use Rattle.bk_word.specs.Signs.{is_even, is_under}
 use Rattle.bk_word.specs.Word.{Move, Word}
@@ -24,13 +24,17 @@ use Rattle.bk_free_search.specs.Strong.{IsFew, seen_passed, with_mark}
 use Rattle.bk_free_search.specs.declared.asking.Asked.{Asked}
 use Rattle.bk_free_search.specs.declared.strong.Passed.{Passed}
 
--- at the left wall
-pub at_wall : (front : Word) (signs : List Sign) (wall : Bool) → wall ≡ has_left_wall (outline_of front) → wall ≡ true
+-- behind the sign at a left neighbour, or at the left wall
+pub inside : (front : Word) (signs : List Sign) → open_side (has_left_wall (outline_of front)) ≤ length signs
     → min (valley_place (outline_of front).signs) 1 ≤ length signs
-at_wall front signs wall is e = omega (arith, zeroth (valley_place (outline_of front).signs) (sym is ∙ e))
+inside front signs from = omega (arith, from, few (valley_place (outline_of front).signs) (has_left_wall (outline_of front)) refl)
   where
     zeroth : (p : ℕ) → nat_eq p 0 ≡ true → p ≡ 0
     zeroth p f = grind (arith, nat_tests)
+
+    few : (p : ℕ) (b : Bool) → nat_eq p 0 ≡ b → min p 1 ≤ open_side b
+    few p true e = omega (arith, zeroth p e)
+    few p false e = omega arith
 
 -- the sign behind which a pass stands
 low_by : (p : SeenPassed) (sign : Sign) (size : ℕ) (mark : Bool) → (pass p sign size mark).low ≡ is_under sign
@@ -41,8 +45,12 @@ low_by p Under size mark = refl
 few_at : (passed : Passed) (k n : ℕ) → k ≡ n → IsFew passed k → IsFew passed n
 few_at passed k n e few = record { most = omega (arith, e, few.most); aboves = omega (arith, e, few.aboves); more = omega (arith, e, few.more) }
 
+pub few_up : (passed : Passed) (k n : ℕ) → k ≤ n → IsFew passed k → IsFew passed n
+few_up passed k n h few = record { most = omega (arith, h, few.most); aboves = omega (arith, h, few.aboves); more = omega (arith, h, few.more) }
+
 -- behind an own square
-pub asked_own : (front : Word) (signs : List Sign) (sign : Sign) (asked : Asked) (passed : Passed) (one : ℕ) → min (valley_place (outline_of front).signs) 1 ≤ length signs
+pub asked_own : (front : Word) (signs : List Sign) (sign : Sign) (asked : Asked) (passed : Passed) (one : ℕ)
+    → min (valley_place (outline_of front).signs) 1 ≤ length signs
     → IsAsked front signs asked → seen_passed passed ≡ pass (seen_passed asked.passed) sign 1 false
     → ((k : ℕ) → IsFew asked.passed k → IsFew passed (k + 1)) → one ≡ cond (is_even sign) 1 0
     → IsAsked front (signs ++ sign ∷ []) (record { passed = passed; evens = asked.evens + one })
@@ -53,7 +61,8 @@ asked_own front signs sign asked passed one inside is past few even = record {
   low_is = λ some. ap (λ (p : SeenPassed). p.low) past ∙ low_by (seen_passed asked.passed) sign 1 false
       ∙ sym (ap is_under (get_back signs (sign ∷ []) 0 (length (signs ++ sign ∷ []) - 1) Above (omega (arith, length-append signs (sign ∷ [])))));
   evens_are = evens_more signs sign asked.evens one is.evens_are even;
-  few = few_at passed (450 + length signs + 1) (450 + length (signs ++ sign ∷ [])) (omega (arith, length-append signs (sign ∷ []))) (few (450 + length signs) is.few);
+  few = few_at passed (450 + length signs + 1) (450 + length (signs ++ sign ∷ [])) (omega (arith, length-append signs (sign ∷ []))) (few
+      (450 + length signs) is.few);
 }
 
 -- before the first sign
@@ -104,7 +113,8 @@ module _ (front : Word) (place : ℕ) (at : place + 1 ≡ valley_place (outline_
           ))
 
   -- and with the sign under
-  under_counted : (mark : Bool) → seen_passed passed ≡ pass (seen_passed p) Under 1 mark → (mark ≡ true → slice_index_or (marks_of_word front) place false ≡ true)
+  under_counted : (mark : Bool) → seen_passed passed ≡ pass (seen_passed p) Under 1 mark → (mark ≡ true
+      → slice_index_or (marks_of_word front) place false ≡ true)
       → (m : Move) (more : List Sign) → IsLegal (front ++ m ∷ []) → m.signs ≡ Under ∷ more
       → IsCountedTo front m (valley_place (outline_of front).signs - 1 + length (Under ∷ [])) (seen_passed passed)
   under_counted mark past marked m more legal are =
@@ -113,7 +123,8 @@ module _ (front : Word) (place : ℕ) (at : place + 1 ≡ valley_place (outline_
       (λ e. mark_before_valley front m legal (valley_place (outline_of front).signs - 1) (omega (arith, at))
       (ap (λ j. slice_index_or (marks_of_word front) j false) before ∙ marked e)))
 
-  pub asked_under : (mark : Bool) → seen_passed passed ≡ pass (seen_passed p) Under 1 mark → (mark ≡ true → slice_index_or (marks_of_word front) place false ≡ true)
+  pub asked_under : (mark : Bool) → seen_passed passed ≡ pass (seen_passed p) Under 1 mark → (mark ≡ true
+      → slice_index_or (marks_of_word front) place false ≡ true)
       → IsAsked front (Under ∷ []) (record { passed = passed; evens = 0 })
   asked_under mark past marked = record {
     counted = under_counted mark past marked;
@@ -141,17 +152,3 @@ left_apart front e z = none (valley_place (outline_of front).signs) e z
   where
     none : (p : ℕ) → nat_eq p 0 ≡ false → p ≡ 0 → ⊥
     none p f g = grind (arith, nat_tests)
-
--- whether there is a sign, by a test of their number
-pub no_signs : (signs : List Sign) (k : ℕ) → k ≡ length signs → nat_eq k 0 ≡ true → signs ≡ []
-no_signs [] k e f = refl
-no_signs (s ∷ signs) k e f = absurd (omega (arith, e, zeroth k f))
-  where
-    zeroth : (p : ℕ) → nat_eq p 0 ≡ true → p ≡ 0
-    zeroth p g = grind (arith, nat_tests)
-
-pub some_signs : (signs : List Sign) (k : ℕ) → k ≡ length signs → nat_eq k 0 ≡ false → 0 < length signs
-some_signs signs k e f = omega (arith, e, some k f)
-  where
-    some : (p : ℕ) → nat_eq p 0 ≡ false → 0 < p
-    some p g = grind (arith, nat_tests)

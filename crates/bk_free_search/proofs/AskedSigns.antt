@@ -1,31 +1,30 @@
 -- What a next move's first signs ask for: where it is more than is left, no word goes on by such a move.
-use Rattle.std.proofs.Common.{Bool, IsTrue, List, Some, [], ap, append_assoc, append-nil, arith, drop, false, inl, inr, length, max, nat_eq, not, refl, slice_get}
-use Rattle.std.proofs.Common.{slice_index_or, subst, suc, sym, take, true, zero, ℕ, ◌++◌, ◌+◌, ◌-◌, ◌<◌, ◌∙◌, ◌∷◌, ◌≡◌, ◌≤◌, ◌⊎◌}
+use Rattle.std.proofs.Common.{Bool, List, Some, [], ap, append-nil, arith, cond}
+use Rattle.std.proofs.Common.{drop, false, inl, inr, length, map, max, nat_eq, refl, slice_get}
+use Rattle.std.proofs.Common.{slice_index_or, subst, suc, sym, true, zero, ℕ, ◌++◌, ◌+◌, ◌-◌, ◌<◌, ◌∙◌, ◌∷◌, ◌≡◌, ◌≤◌, ◌⊎◌}
 use Rattle.std.proofs.lemmas.Bool.Decides.{nat_tests}
-use Rattle.std.proofs.lemmas.List.{length-append}
+use Rattle.std.proofs.lemmas.List.{drop_all, length-append}
 use Rattle.bk_laws.proofs.ListPlaces.{get_back}
 use Rattle.bk_word.specs.Outline.{IsLegalMove, Outline, has_left_wall, has_right_wall, open_side, start, valley_place}
-use Rattle.bk_word.specs.Play.{IsLegal, outline_of, signs_apart}
-use Rattle.bk_word.specs.Signs.{is_even, is_under}
+use Rattle.bk_word.specs.Play.{IsLegal, outline_of}
 use Rattle.bk_word.specs.Word.{Move, Word, order_of}
 use Rattle.bk_word.specs.declared.Sign.{Sign}
-use Rattle.bk_word.specs.declared.Sign.TheVariants.{Above, Even, Under}
-use Rattle.bk_word.proofs.PlayLaws.{after-snoc, legal_rest}
+use Rattle.bk_word.specs.declared.Sign.TheVariants.{Above, Even}
+use Rattle.bk_word.proofs.PlayLaws.{legal_rest}
 use Rattle.bk_word.proofs.StoredBytes.{order_append, order_more}
-use Rattle.bk_bounds.proofs.ClosingLaws.{aboves, aboves-append, aboves-cons, bound-parts, bound_aboves, bound_unders, unders, unders-append, unders-cons}
-use Rattle.bk_bounds.specs.ClosingBound.{closing_bound}
-use Rattle.bk_free_cuts.proofs.CutsOfTilings.{too_many_singles_is_free_barren}
 use Rattle.bk_normal_cuts.proofs.NextMove.{most_moves_hold_then}
 use Rattle.bk_normal_cuts.proofs.StrongWords.{strong_bound_is_normal_barren, strong_weight_is_normal_barren}
-use Rattle.bk_normal_cuts.specs.NormalCuts.{IsNormalBarren}
+use Rattle.bk_bounds.specs.VerticalCut.{edges_on_lines}
+use Rattle.bk_normal_cuts.specs.NormalCuts.{IsNormalBarren, touched_or_wide}
+use Rattle.bk_normal_cuts.specs.WordNumbers.{first_count}
 use Rattle.bk_normal_cuts.specs.StrongBound.{strong_bound_of, weight_of}
-use Rattle.bk_free_search.proofs.BehindSigns.{asked_with_all, asked_with_some, behind_marks_long, joined_marks_long}
-use Rattle.bk_free_search.proofs.Cutting.{by_legal, cut, normal}
+use Rattle.bk_free_search.proofs.BehindSigns.{asked_with_all, asked_with_some, behind_marks_long}
+use Rattle.bk_free_search.proofs.Cutting.{by_legal}
 use Rattle.bk_free_search.proofs.EvenSigns.{apart_from_own, side_few}
 use Rattle.bk_free_search.proofs.PassesOn.{ArePartsButLast}
-use Rattle.bk_free_search.proofs.SharedAround.{joined_marks_shared, marks_behind_shared}
-use Rattle.bk_free_search.specs.Apart.{IsCountedTo, behind_marks, joined_marks}
-use Rattle.bk_free_search.specs.Asking.{AreBehind, AreMovesLeft, BarsSign, IsAsked, IsBegun, IsOver, asks_at}
+use Rattle.bk_free_search.proofs.SharedAround.{marks_behind_shared}
+use Rattle.bk_free_search.specs.Apart.{AreAsks, behind_marks, behind_signs, behind_sizes, joined_marks, wide_first}
+use Rattle.bk_free_search.specs.Asking.{AreBehind, AreMovesLeft, BarsSigns, IsAsked, IsBegun, IsOver, asks_then}
 use Rattle.bk_free_search.specs.Strong.{seen_passed}
 use Rattle.bk_free_search.specs.declared.asking.Asked.{Asked}
 use Rattle.bk_free_search.specs.declared.asking.Beside.{Beside}
@@ -34,44 +33,9 @@ use Rattle.bk_free_search.specs.declared.behind.Asks.{Asks}
 use Rattle.bk_free_search.specs.declared.behind.Behind.{Behind}
 use Rattle.bk_free_search.specs.declared.strong.Passed.{Passed}
 
--- ---- where no square is left
-
--- a sign that stays between two segments asks for a closing
-closing_kept : (before signs behind : List Sign) → 1 ≤ aboves signs + unders signs → 1 ≤ closing_bound (before ++ signs ++ behind)
-closing_kept before signs behind some = omega (
-  arith,
-  some,
-  bound_aboves (before ++ signs ++ behind),
-  bound_unders (before ++ signs ++ behind),
-  aboves-append (before ++ signs) behind,
-  aboves-append before signs,
-  unders-append (before ++ signs) behind,
-  unders-append before signs,
-)
-
-one_part : (signs : List Sign) (s : Sign) (more : List Sign) → (s ≡ Even → ⊥) → 1 ≤ aboves (signs ++ s ∷ more) + unders (signs ++ s ∷ more)
-one_part signs Even more not = absurd (not refl)
-one_part signs Above more not = omega (arith, aboves-append signs (Above ∷ more), aboves-cons Above more)
-one_part signs Under more not = omega (arith, unders-append signs (Under ∷ more), unders-cons Under more)
-
--- after the last square all signs are even
-pub none_left_is_barred : (n : ℕ) (front : Word) (m : Move) (sign : Sign) → 2 ≤ n → n ≤ order_of front + m.count → (sign ≡ Even → ⊥) → BarsSign n front m sign
-none_left_is_barred n front m sign least none not = record {
-  barren = λ other more count are. normal n (front ++ other ∷ [])
-      (cut n (front ++ other ∷ []) (λ l w rest sound word is. too_many_singles_is_free_barren n (front ++ other ∷ []) least
-      (omega (
-        arith,
-        none,
-        count,
-        order_append front (other ∷ []),
-        order_more other [],
-        ap (λ (o : Outline). closing_bound o.signs) (after-snoc start front other),
-        bound-parts (signs_apart (outline_of front) other),
-        closing_kept (take (valley_place (outline_of front).signs - 1) (outline_of front).signs) other.signs
-            (drop (valley_place (outline_of front).signs + 1) (outline_of front).signs)
-            (subst (λ (l : List Sign). 1 ≤ aboves l + unders l) (sym are) (one_part m.signs sign more not)),
-      )) l w rest sound word is));
-}
+-- what a test of numbers tells
+pub same_told : (a b : ℕ) → nat_eq a b ≡ true → a ≡ b
+same_told a b e = grind (arith, nat_tests)
 
 -- ---- where squares are left
 
@@ -97,12 +61,13 @@ got [] k e = absurd (cc)
 got (x ∷ xs) zero e = ap (λ s. Some s) e
 got (x ∷ xs) (suc k) e = got xs k e
 
-parted : (front : Word) (other : Move) (signs : List Sign) (s : Sign) (more : List Sign) → IsLegalMove (outline_of front) other → other.signs ≡ signs ++ s ∷ more
-    → 0 < length signs
+parted : (front : Word) (other : Move) (signs : List Sign) (s : Sign) (more : List Sign) → IsLegalMove (outline_of front) other
+    → other.signs ≡ signs ++ s ∷ more
+    → open_side (has_left_wall (outline_of front)) ≤ length signs
     → ((i : ℕ) → open_side (has_left_wall (outline_of front)) ≤ i → i < open_side (has_left_wall (outline_of front)) + (other.count - 1)
     → slice_get other.signs i ≡ Some Even → ⊥) → ArePartsButLast (s ∷ more)
 parted front other signs s more legal are some none i low even = none (length signs + i)
-    (omega (arith, some, side_few (has_left_wall (outline_of front))))
+    (omega (arith, some))
     (omega (
       arith,
       low,
@@ -116,40 +81,51 @@ parted front other signs s more legal are some none i low even = none (length si
     ∙ get_back signs (s ∷ more) i (length signs + i) Above refl ∙ even))
 
 -- what is asked for where the move has all its signs
-both_told : (front : Word) (other : Move) (signs : List Sign) (sign : Sign) (asked : Asked) (b : Behind) → IsLegal (front ++ other ∷ [])
-    → other.signs ≡ signs ++ sign ∷ [] → IsAsked front (signs ++ sign ∷ []) asked → AreBehind front b
-    → (max (asked.passed.most + (asks_at b true sign).add) (asked.passed.aboves + (asks_at b true sign).most) ≤ strong_bound_of (front ++ other ∷ []))
-    × (asked.passed.more + (asks_at b true sign).more ≤ weight_of (front ++ other ∷ []))
-both_told front other signs sign asked b legal are asked_is behind = by sign refl
+then_told : (front : Word) (other : Move) (asked : Asked) (b : Behind) → IsLegal (front ++ other ∷ []) → IsAsked front other.signs asked → AreBehind front b
+    → (low : Bool) → asked.passed.low ≡ low
+    → (max (asked.passed.most + (asks_then b low).add) (asked.passed.aboves + (asks_then b low).most) ≤ strong_bound_of (front ++ other ∷ []))
+    × (asked.passed.more + (asks_then b low).more ≤ weight_of (front ++ other ∷ []))
+then_told front other asked b legal asked_is behind false is =
+    asked_with_all front other legal (seen_passed asked.passed) false (behind_marks front) b.above.add b.above.most b.above.more
+    (asked_is.counted other [] legal (sym (append-nil other.signs))) is (behind_marks_long front other legal)
+    (marks_behind_shared front other legal) behind.above
+then_told front other asked b legal asked_is behind true is =
+    asked_with_all front other legal (seen_passed asked.passed) true (behind_marks front) b.under.add b.under.most b.under.more
+    (asked_is.counted other [] legal (sym (append-nil other.signs))) is (behind_marks_long front other legal)
+    (marks_behind_shared front other legal) behind.under
+
+-- at the right wall nothing is asked for behind the sign even, so that what is too much with it is too much with any
+none_at_wall : (o : Outline) (marks : List Bool) (add most more : ℕ) → has_right_wall o ≡ true → marks ≡ false ∷ []
+    → AreAsks false (behind_signs o) (behind_sizes o) marks add most more → (add ≡ 0) × (most ≡ 0) × (more ≡ 0)
+none_at_wall o marks add most more wall none asks = at (behind_signs o) (behind_sizes o) marks no_signs
+    (ap (λ (b : Bool). cond b (1 ∷ []) (map (λ (s : List ℕ). length s) (drop (valley_place o.signs + 1) o.segments))) wall) none asks
   where
-    counted : IsCountedTo front other (valley_place (outline_of front).signs - 1 + length other.signs) (seen_passed asked.passed)
-    counted = subst (λ (l : List Sign). IsCountedTo front other (valley_place (outline_of front).signs - 1 + length l) (seen_passed asked.passed)) (sym are)
-        (asked_is.counted other [] legal (are ∙ sym (append-nil (signs ++ sign ∷ []))))
+    place : valley_place o.signs ≡ length o.signs
+    place = same_told (valley_place o.signs) (length o.signs) wall
 
-    low : asked.passed.low ≡ is_under sign
-    low = asked_is.low_is (omega (arith, length-append signs (sign ∷ [])))
-        ∙ ap is_under (get_back signs (sign ∷ []) 0 (length (signs ++ sign ∷ []) - 1) Above (omega (arith, length-append signs (sign ∷ []))))
+    no_signs : behind_signs o ≡ []
+    no_signs = drop_all (valley_place o.signs + 1) o.signs (omega (arith, place))
 
-    last : slice_index_or other.signs (length other.signs - 1) Above ≡ sign
-    last = ap (λ (l : List Sign). slice_index_or l (length l - 1) Above) are
-        ∙ get_back signs (sign ∷ []) 0 (length (signs ++ sign ∷ []) - 1) Above (omega (arith, length-append signs (sign ∷ [])))
+    at : (signs : List Sign) (sizes : List ℕ) (marks : List Bool) → signs ≡ [] → sizes ≡ 1 ∷ [] → marks ≡ false ∷ []
+        → AreAsks false signs sizes marks add most more → (add ≡ 0) × (most ≡ 0) × (more ≡ 0)
+    at signs sizes marks e f g asks = told (subst (λ (l : List Sign). AreAsks false l (1 ∷ []) (false ∷ []) add most more) e
+        (subst (λ (l : List ℕ). AreAsks false signs l (false ∷ []) add most more) f
+        (subst (λ (l : List Bool). AreAsks false signs sizes l add most more) g asks)))
+      where
+        told : AreAsks false [] (1 ∷ []) (false ∷ []) add most more → (add ≡ 0) × (most ≡ 0) × (more ≡ 0)
+        told asks = (omega (arith, asks.add_is), omega (arith, asks.most_is), omega (arith, asks.more_is))
 
-    by : (s : Sign) → sign ≡ s
-        → (max (asked.passed.most + (asks_at b true sign).add) (asked.passed.aboves + (asks_at b true sign).most) ≤ strong_bound_of (front ++ other ∷ []))
-        × (asked.passed.more + (asks_at b true sign).more ≤ weight_of (front ++ other ∷ []))
-    by Above e = subst (λ (s : Sign). (max (asked.passed.most + (asks_at b true s).add) (asked.passed.aboves + (asks_at b true s).most)
-        ≤ strong_bound_of (front ++ other ∷ [])) × (asked.passed.more + (asks_at b true s).more ≤ weight_of (front ++ other ∷ []))) (sym e)
-        (asked_with_all front other legal (seen_passed asked.passed) false (behind_marks front) b.above.add b.above.most b.above.more counted
-        (low ∙ ap is_under e) (behind_marks_long front other legal) (marks_behind_shared front other legal) behind.above)
-    by Under e = subst (λ (s : Sign). (max (asked.passed.most + (asks_at b true s).add) (asked.passed.aboves + (asks_at b true s).most)
-        ≤ strong_bound_of (front ++ other ∷ [])) × (asked.passed.more + (asks_at b true s).more ≤ weight_of (front ++ other ∷ []))) (sym e)
-        (asked_with_all front other legal (seen_passed asked.passed) true (behind_marks front) b.under.add b.under.most b.under.more counted
-        (low ∙ ap is_under e) (behind_marks_long front other legal) (marks_behind_shared front other legal) behind.under)
-    by Even e = subst (λ (s : Sign). (max (asked.passed.most + (asks_at b true s).add) (asked.passed.aboves + (asks_at b true s).most)
-        ≤ strong_bound_of (front ++ other ∷ [])) × (asked.passed.more + (asks_at b true s).more ≤ weight_of (front ++ other ∷ []))) (sym e)
-        (asked_with_all front other legal (seen_passed asked.passed) false (joined_marks front) b.even.add b.even.most b.even.more counted
-        (low ∙ ap is_under e) (joined_marks_long front other legal)
-        (joined_marks_shared front other legal (last ∙ e) (omega (arith, ap (λ (l : List Sign). length l) are, length-append signs (sign ∷ [])))) behind.even)
+over_at_wall : (front : Word) (b : Behind) (passed : Passed) (asks : Asks) (moves left : ℕ) → has_right_wall (outline_of front) ≡ true → AreBehind front b
+    → IsOver passed b.even moves left → IsOver passed asks moves left
+over_at_wall front b passed asks moves left wall behind over = cases
+    (none_at_wall (outline_of front) (joined_marks front) b.even.add b.even.most b.even.more wall
+    (ap (λ (w : Bool). cond w (false ∷ []) (wide_first (first_count front) (drop (valley_place (outline_of front).signs + 1) (outline_of front).segments)
+    (touched_or_wide (first_count front) (edges_on_lines front) (drop (valley_place (outline_of front).signs + 1) (outline_of front).segments)))) wall)
+    behind.even) over
+  where
+    cases : (b.even.add ≡ 0) × (b.even.most ≡ 0) × (b.even.more ≡ 0) → IsOver passed b.even moves left → IsOver passed asks moves left
+    cases (add, most, more) (inl h) = inl (omega (arith, add, most, h))
+    cases (add, most, more) (inr h) = inr (omega (arith, add, most, more, h))
 
 -- a sum is more where its parts, one by one, are
 weighed : (passed : Passed) (asks : Asks) (moves left : ℕ) → IsOver passed asks moves left
@@ -158,81 +134,71 @@ weighed : (passed : Passed) (asks : Asks) (moves left : ℕ) → IsOver passed a
 weighed passed asks moves left (inl h) = inl h
 weighed passed asks moves left (inr h) = inr (omega (arith, h))
 
-module _ (n : ℕ) (front : Word) (m : Move) (next : Next) (around : Beside) (sign : Sign) (begun : IsBegun n front m next around) (asked : Asked)
-    (asked_is : IsAsked front (m.signs ++ sign ∷ []) asked) (some : 0 < next.left) where
-  -- where the sign is the last one
-  pub last_is_barred : length m.signs + 1 ≡ next.wanted → IsOver asked.passed (asks_at around.behind true sign) around.ahead.moves next.left
-      → BarsSign n front m sign
-  last_is_barred at over = record { barren = λ other more count are. by_legal n (front ++ other ∷ []) (λ legal. at_last other more count are legal) }
+-- a side without a sign is a wall
+walled : (b : Bool) → open_side b ≡ 0 → b ≡ true
+walled true e = refl
+walled false e = absurd (omega (arith, e))
+
+module _ (n : ℕ) (front : Word) (m : Move) (next : Next) (around : Beside) (begun : IsBegun n front m next around) (signs : List Sign) (asked : Asked)
+    (asked_is : IsAsked front signs asked) (some : 0 < next.left) where
+  -- with all the signs of a move, which goes on by no other
+  whole_is_barren : (other : Move) → other.count ≡ m.count → other.signs ≡ signs → IsLegal (front ++ other ∷ [])
+      → IsOver asked.passed (asks_then around.behind asked.passed.low) around.ahead.moves next.left → IsNormalBarren n (front ++ other ∷ [])
+  whole_is_barren other count are legal over =
+      let both = then_told front other asked around.behind legal (subst (λ (l : List Sign). IsAsked front l asked) (sym are) asked_is)
+      begun.around_is.behind_is asked.passed.low refl in
+      strong_is_barred n front other around.ahead.moves next.left
+      (max (asked.passed.most + (asks_then around.behind asked.passed.low).add) (asked.passed.aboves + (asks_then around.behind asked.passed.low).most))
+      (asked.passed.more + (asks_then around.behind asked.passed.low).more) begun.least begun.around_is.moves_are
+      (omega (arith, begun.next_is.left_is, begun.fits, count)) some legal both.0 both.1
+      (weighed asked.passed (asks_then around.behind asked.passed.low) around.ahead.moves next.left over)
+
+  -- where all signs are there
+  pub whole_is_barred : length signs ≡ next.wanted → IsOver asked.passed (asks_then around.behind asked.passed.low) around.ahead.moves next.left
+      → BarsSigns n front m.count signs
+  whole_is_barred at over = record { barren = λ other more count are. by_legal n (front ++ other ∷ []) (λ legal. whole other more count are legal) }
     where
-      at_last : (other : Move) (more : List Sign) → other.count ≡ m.count → other.signs ≡ m.signs ++ sign ∷ more → IsLegal (front ++ other ∷ [])
+      whole : (other : Move) (more : List Sign) → other.count ≡ m.count → other.signs ≡ signs ++ more → IsLegal (front ++ other ∷ [])
           → IsNormalBarren n (front ++ other ∷ [])
-      at_last other [] count are legal = let both = both_told front other m.signs sign asked around.behind legal are asked_is begun.around_is.behind_is in
-          strong_is_barred n front other around.ahead.moves next.left
-          (max (asked.passed.most + (asks_at around.behind true sign).add) (asked.passed.aboves + (asks_at around.behind true sign).most))
-          (asked.passed.more + (asks_at around.behind true sign).more) begun.least begun.around_is.moves_are
-          (omega (arith, begun.next_is.left_is, begun.fits, count)) some legal both.0 both.1
-          (weighed asked.passed (asks_at around.behind true sign) around.ahead.moves next.left over)
-      at_last other (s ∷ more) count are legal = absurd (omega (
+      whole other [] count are legal = whole_is_barren other count (are ∙ append-nil signs) legal over
+      whole other (s ∷ more) count are legal = absurd (omega (
         arith,
         (legal_rest start front (other ∷ []) legal).0.signs,
         count,
         begun.next_is.wanted_is,
         at,
         ap (λ (l : List Sign). length l) are,
-        length-append m.signs (sign ∷ s ∷ more),
+        length-append signs (s ∷ more),
       ))
 
-  -- and where others follow
-  pub earlier_is_barred : (length m.signs + 1 ≡ next.wanted → ⊥) → IsOver asked.passed around.behind.even around.ahead.moves next.left → BarsSign n front m sign
-  earlier_is_barred not over = record {
+  -- and where others may follow
+  pub begun_is_barred : open_side (has_left_wall (outline_of front)) ≤ length signs → length signs ≤ next.own
+      → IsOver asked.passed around.behind.even around.ahead.moves next.left → BarsSigns n front m.count signs
+  begun_is_barred from own over = record {
     barren = λ other more count are. apart_from_own n front other (λ move none.
-        by_legal n (front ++ other ∷ []) (λ legal. before_last other more count are move none legal));
+        by_legal n (front ++ other ∷ []) (λ legal. goes_on other more count are move none legal));
   }
     where
-      before_last : (other : Move) (more : List Sign) → other.count ≡ m.count → other.signs ≡ m.signs ++ sign ∷ more → IsLegalMove (outline_of front) other
+      goes_on : (other : Move) (more : List Sign) → other.count ≡ m.count → other.signs ≡ signs ++ more → IsLegalMove (outline_of front) other
           → ((i : ℕ) → open_side (has_left_wall (outline_of front)) ≤ i → i < open_side (has_left_wall (outline_of front)) + (other.count - 1)
           → slice_get other.signs i ≡ Some Even → ⊥) → IsLegal (front ++ other ∷ []) → IsNormalBarren n (front ++ other ∷ [])
-      before_last other [] count are move none legal = absurd (not (omega (
-        arith,
-        move.signs,
-        count,
-        begun.next_is.wanted_is,
-        ap (λ (l : List Sign). length l) are,
-        length-append m.signs (sign ∷ []),
-      )))
-      before_last other (s ∷ more) count are move none legal =
-          let split : other.signs ≡ (m.signs ++ sign ∷ []) ++ s ∷ more = are ∙ sym (append_assoc m.signs (sign ∷ []) (s ∷ more)) in
-          let both = asked_with_some front other legal (seen_passed asked.passed) (m.signs ++ sign ∷ []) s more around.behind.even.add around.behind.even.most
-          around.behind.even.more split (asked_is.counted other (s ∷ more) legal split)
-          (parted front other (m.signs ++ sign ∷ []) s more move split (omega (arith, length-append m.signs (sign ∷ []))) none)
-          begun.around_is.behind_is.even in
+      goes_on other [] count are move none legal = whole_is_barren other count (are ∙ append-nil signs) legal
+          (over_at_wall front around.behind asked.passed (asks_then around.behind asked.passed.low) around.ahead.moves next.left
+          (walled (has_right_wall (outline_of front)) (omega (
+            arith,
+            own,
+            move.signs,
+            move.some,
+            count,
+            begun.next_is.own_is,
+            ap (λ (l : List Sign). length l) (are ∙ append-nil signs),
+          ))) begun.around_is.behind_is over)
+      goes_on other (s ∷ more) count are move none legal =
+          let both = asked_with_some front other legal (seen_passed asked.passed) signs s more around.behind.even.add around.behind.even.most
+          around.behind.even.more are (asked_is.counted other (s ∷ more) legal are)
+          (parted front other signs s more move are from none) begun.around_is.behind_is.even in
           strong_is_barred n front other around.ahead.moves next.left
           (max (asked.passed.most + around.behind.even.add) (asked.passed.aboves + around.behind.even.most))
           (asked.passed.more + around.behind.even.more) begun.least begun.around_is.moves_are
           (omega (arith, begun.next_is.left_is, begun.fits, count)) some legal both.0 both.1
           (weighed asked.passed around.behind.even around.ahead.moves next.left over)
-
-  -- either way
-  pub over_is_barred : (last : Bool) (asks : Asks) (left : ℕ) → (last ≡ true → length m.signs + 1 ≡ next.wanted)
-      → (last ≡ false → length m.signs + 1 ≡ next.wanted → ⊥) → asks ≡ asks_at around.behind last sign → left ≡ next.left
-      → IsOver asked.passed asks around.ahead.moves left → BarsSign n front m sign
-  over_is_barred true asks left at before is same over = last_is_barred (at refl)
-      (subst (λ (k : ℕ). IsOver asked.passed (asks_at around.behind true sign) around.ahead.moves k) same
-      (subst (λ (a : Asks). IsOver asked.passed a around.ahead.moves left) is over))
-  over_is_barred false asks left at before is same over = earlier_is_barred (before refl)
-      (subst (λ (k : ℕ). IsOver asked.passed around.behind.even around.ahead.moves k) same
-      (subst (λ (a : Asks). IsOver asked.passed a around.ahead.moves left) is over))
-
--- what a test of numbers tells
-pub same_told : (a b : ℕ) → nat_eq a b ≡ true → a ≡ b
-same_told a b e = grind (arith, nat_tests)
-
-pub other_told : (a b : ℕ) → nat_eq a b ≡ false → a ≡ b → ⊥
-other_told a b e = grind (arith, nat_tests)
-
-pub not_even : (b : Bool) (s : Sign) → b ≡ is_even s → IsTrue (not b) → s ≡ Even → ⊥
-not_even false Even e told = λ f. absurd (cc)
-not_even false Above e told = λ f. absurd (cc)
-not_even false Under e told = λ f. absurd (cc)
-not_even true s e told = λ f. absurd (cc)

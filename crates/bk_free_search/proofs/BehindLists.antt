@@ -1,5 +1,6 @@
 -- What the segments behind the valley ask for, by the flat lists that a skeleton keeps.
-use Rattle.std.proofs.Common.{Bool, List, [], ap, arith, cond, drop, false, length, map, nat_eq, nat_le, refl, slice_index_or, subst, suc, sym, true, zero, ℕ, ◌||◌, ◌+◌, ◌<◌}
+use Rattle.std.proofs.Common.{Bool, List, [], ap, arith, cond, drop, false, length, map, nat_eq, nat_le, refl, slice_index_or, subst, suc, sym, true}
+use Rattle.std.proofs.Common.{zero, ℕ, ◌||◌, ◌+◌, ◌<◌}
 use Rattle.std.proofs.Common.{◌∙◌, ◌∷◌, ◌≡◌, ◌≤◌, ◌⊎◌, inl, inr}
 use Rattle.std.proofs.lemmas.Bool.{or_left, or_right}
 use Rattle.std.proofs.lemmas.List.{drop_all, drop_more, length-map}
@@ -39,7 +40,8 @@ module _ (low : Bool) (signs : List Sign) (sizes : List ℕ) (marks : List Bool)
   next_asks i h a = subst (λ (l : List Sign). AreAsks low l (drop i sizes) (drop i marks) add most more) (sym (drop_more signs i Above h))
       (subst (λ (l : List ℕ). AreAsks low (slice_index_or signs i Above ∷ drop (i + 1) signs) l (drop i marks) add most more)
       (sym (drop_more sizes i 0 (omega (arith, h, long))))
-      (subst (λ (l : List Bool). AreAsks low (slice_index_or signs i Above ∷ drop (i + 1) signs) (slice_index_or sizes i 0 ∷ drop (i + 1) sizes) l add most more)
+      (subst (λ (l : List Bool). AreAsks low (slice_index_or signs i Above ∷ drop (i + 1) signs) (slice_index_or sizes i 0 ∷ drop
+      (i + 1) sizes) l add most more)
       (sym (drop_more marks i false (omega (arith, h, long, many)))) a))
 
 -- ---- behind the valley of a word
@@ -141,28 +143,47 @@ module _ (low : Bool) (w : Word) (add most more : ℕ) (within : valley_place (o
       (touched_or_wide (first_count w) (edges_on_lines w) (drop (valley_place (outline_of w).signs + 1) (outline_of w).segments)))) apart)) a
 
 -- by the flat lists
-pub told_apart : (low : Bool) (w : Word) (signs : List Sign) (sizes : List ℕ) (place add most more : ℕ) → signs ≡ (outline_of w).signs → sizes ≡ sizes_of (outline_of w)
+pub told_apart : (low : Bool) (w : Word) (signs : List Sign) (sizes : List ℕ) (place add most more : ℕ) → signs ≡ (outline_of w).signs
+    → sizes ≡ sizes_of (outline_of w)
     → place ≡ valley_place (outline_of w).signs → place + 1 < length signs → IsLegal w
     → AreAsks low (slice_index_or signs (place + 1) Above ∷ drop (place + 1 + 1) signs) (slice_index_or sizes (place + 1) 0 ∷ drop (place + 1 + 1) sizes)
-    (slice_index_or (marks_of_word w) (place + 1) false ∷ drop (place + 1 + 1) (marks_of_word w)) add most more → AreAskedBehind low (behind_marks w) w add most more
-told_apart low w signs sizes place add most more es ez ep h legal a = asks_apart low w add most more (omega (arith, h, ep, ap (λ (l : List Sign). length l) es)) legal
+    (slice_index_or (marks_of_word w) (place + 1) false ∷ drop (place + 1 + 1) (marks_of_word w)) add most more → AreAskedBehind low
+    (behind_marks w) w add most more
+told_apart low w signs sizes place add most more es ez ep h legal a = asks_apart low w add most more (omega (
+  arith,
+  h,
+  ep,
+  ap (λ
+      (l : List Sign). length l) es,
+)) legal
     (asks_same low (slice_index_or signs (place + 1) Above ∷ drop (place + 1 + 1) signs) (drop (valley_place (outline_of w).signs + 1) (outline_of w).signs)
     (slice_index_or sizes (place + 1) 0 ∷ drop (place + 1 + 1) sizes)
-    (slice_index_or (sizes_of (outline_of w)) (valley_place (outline_of w).signs + 1) 0 ∷ drop (valley_place (outline_of w).signs + 1 + 1) (sizes_of (outline_of w)))
+    (slice_index_or (sizes_of (outline_of w)) (valley_place (outline_of w).signs + 1) 0 ∷ drop (valley_place (outline_of w).signs + 1 + 1) (sizes_of
+    (outline_of w)))
     (slice_index_or (marks_of_word w) (place + 1) false ∷ drop (place + 1 + 1) (marks_of_word w))
-    (slice_index_or (marks_of_word w) ((valley_place (outline_of w).signs) + 1) false ∷ drop (valley_place (outline_of w).signs + 1 + 1) (marks_of_word w)) add most more
+    (slice_index_or (marks_of_word w) ((valley_place (outline_of w).signs) + 1) false ∷ drop (valley_place (outline_of w).signs + 1 + 1)
+    (marks_of_word w)) add most more
     (sym (drop_more signs (place + 1) Above h) ∙ (λ i. drop (ep i + 1) (es i)))
     (λ i. slice_index_or (ez i) (ep i + 1) 0 ∷ drop (ep i + 1 + 1) (ez i))
     (λ i. slice_index_or (marks_of_word w) (ep i + 1) false ∷ drop (ep i + 1 + 1) (marks_of_word w)) a)
 
 pub told_apart_last : (low : Bool) (w : Word) (signs : List Sign) (sizes : List ℕ) (place add most more : ℕ) → signs ≡ (outline_of w).signs
     → sizes ≡ sizes_of (outline_of w) → place ≡ valley_place (outline_of w).signs → place + 1 ≡ length signs → IsLegal w
-    → AreAsks low [] (slice_index_or sizes (place + 1) 0 ∷ []) (slice_index_or (marks_of_word w) (place + 1) false ∷ []) add most more → AreAskedBehind low (behind_marks w) w add most more
-told_apart_last low w signs sizes place add most more es ez ep h legal a = asks_apart low w add most more (omega (arith, h, ep, ap (λ (l : List Sign). length l) es)) legal
+    → AreAsks low [] (slice_index_or sizes (place + 1) 0 ∷ []) (slice_index_or (marks_of_word w)
+    (place + 1) false ∷ []) add most more → AreAskedBehind low (behind_marks w) w add most more
+told_apart_last low w signs sizes place add most more es ez ep h legal a = asks_apart low w add most more (omega (
+  arith,
+  h,
+  ep,
+  ap (λ
+      (l : List Sign). length l) es,
+)) legal
     (asks_same low [] (drop (valley_place (outline_of w).signs + 1) (outline_of w).signs) (slice_index_or sizes (place + 1) 0 ∷ [])
-    (slice_index_or (sizes_of (outline_of w)) (valley_place (outline_of w).signs + 1) 0 ∷ drop (valley_place (outline_of w).signs + 1 + 1) (sizes_of (outline_of w)))
+    (slice_index_or (sizes_of (outline_of w)) (valley_place (outline_of w).signs + 1) 0 ∷ drop (valley_place (outline_of w).signs + 1 + 1) (sizes_of
+    (outline_of w)))
     (slice_index_or (marks_of_word w) (place + 1) false ∷ [])
-    (slice_index_or (marks_of_word w) ((valley_place (outline_of w).signs) + 1) false ∷ drop (valley_place (outline_of w).signs + 1 + 1) (marks_of_word w)) add most more
+    (slice_index_or (marks_of_word w) ((valley_place (outline_of w).signs) + 1) false ∷ drop (valley_place (outline_of w).signs + 1 + 1)
+    (marks_of_word w)) add most more
     (sym (drop_all (valley_place (outline_of w).signs + 1) (outline_of w).signs (omega (arith, h, ep, ap (λ (l : List Sign). length l) es))))
     (λ i. slice_index_or (ez i) (ep i + 1) 0 ∷ sym (drop_all (valley_place (outline_of w).signs + 1 + 1) (sizes_of (outline_of w))
     (omega (arith, h, ep, ap (λ (l : List Sign). length l) es, sizes_long w legal))) i)
@@ -177,32 +198,54 @@ told_apart_last low w signs sizes place add most more es ez ep h legal a = asks_
     ))) i) a)
 
 -- with a square more at the first of them
-pub told_joined : (low : Bool) (w : Word) (signs : List Sign) (sizes : List ℕ) (place add most more : ℕ) → signs ≡ (outline_of w).signs → sizes ≡ sizes_of (outline_of w)
+pub told_joined : (low : Bool) (w : Word) (signs : List Sign) (sizes : List ℕ) (place add most more : ℕ) → signs ≡ (outline_of w).signs
+    → sizes ≡ sizes_of (outline_of w)
     → place ≡ valley_place (outline_of w).signs → place + 1 < length signs → IsLegal w
     → AreAsks low (slice_index_or signs (place + 1) Above ∷ drop (place + 1 + 1) signs) (slice_index_or sizes (place + 1) 0 ∷ drop (place + 1 + 1) sizes)
-    ((slice_index_or (marks_of_word w) (place + 1) false || nat_le (first_count w) (slice_index_or (sizes_of (outline_of w)) (place + 1) 0 + 1)) ∷ drop (place + 1 + 1) (marks_of_word w)) add most more → AreAskedBehind low (joined_marks w) w add most more
-told_joined low w signs sizes place add most more es ez ep h legal a = asks_joined low w add most more (omega (arith, h, ep, ap (λ (l : List Sign). length l) es)) legal
+    ((slice_index_or (marks_of_word w) (place + 1) false || nat_le (first_count w) (slice_index_or (sizes_of (outline_of w))
+    (place + 1) 0 + 1)) ∷ drop (place + 1 + 1) (marks_of_word w)) add most more → AreAskedBehind low (joined_marks w) w add most more
+told_joined low w signs sizes place add most more es ez ep h legal a = asks_joined low w add most more (omega (
+  arith,
+  h,
+  ep,
+  ap (λ
+      (l : List Sign). length l) es,
+)) legal
     (asks_same low (slice_index_or signs (place + 1) Above ∷ drop (place + 1 + 1) signs) (drop (valley_place (outline_of w).signs + 1) (outline_of w).signs)
     (slice_index_or sizes (place + 1) 0 ∷ drop (place + 1 + 1) sizes)
-    (slice_index_or (sizes_of (outline_of w)) (valley_place (outline_of w).signs + 1) 0 ∷ drop (valley_place (outline_of w).signs + 1 + 1) (sizes_of (outline_of w)))
-    ((slice_index_or (marks_of_word w) (place + 1) false || nat_le (first_count w) (slice_index_or (sizes_of (outline_of w)) (place + 1) 0 + 1)) ∷ drop (place + 1 + 1) (marks_of_word w))
-    ((slice_index_or (marks_of_word w) ((valley_place (outline_of w).signs) + 1) false || nat_le (first_count w) (slice_index_or (sizes_of (outline_of w)) ((valley_place (outline_of w).signs) + 1) 0 + 1)) ∷ drop (valley_place (outline_of w).signs + 1 + 1) (marks_of_word w)) add most more
+    (slice_index_or (sizes_of (outline_of w)) (valley_place (outline_of w).signs + 1) 0 ∷ drop (valley_place (outline_of w).signs + 1 + 1) (sizes_of
+    (outline_of w)))
+    ((slice_index_or (marks_of_word w) (place + 1) false || nat_le (first_count w) (slice_index_or (sizes_of (outline_of w))
+    (place + 1) 0 + 1)) ∷ drop (place + 1 + 1) (marks_of_word w))
+    ((slice_index_or (marks_of_word w) ((valley_place (outline_of w).signs) + 1) false || nat_le (first_count w) (slice_index_or (sizes_of
+    (outline_of w)) ((valley_place (outline_of w).signs) + 1) 0 + 1)) ∷ drop (valley_place (outline_of w).signs + 1 + 1) (marks_of_word w)) add most more
     (sym (drop_more signs (place + 1) Above h) ∙ (λ i. drop (ep i + 1) (es i)))
     (λ i. slice_index_or (ez i) (ep i + 1) 0 ∷ drop (ep i + 1 + 1) (ez i))
-    (λ i. (slice_index_or (marks_of_word w) (ep i + 1) false || nat_le (first_count w) (slice_index_or (sizes_of (outline_of w)) (ep i + 1) 0 + 1)) ∷ drop (ep i + 1 + 1) (marks_of_word w)) a)
+    (λ i. (slice_index_or (marks_of_word w) (ep i + 1) false || nat_le (first_count w) (slice_index_or (sizes_of (outline_of w))
+    (ep i + 1) 0 + 1)) ∷ drop (ep i + 1 + 1) (marks_of_word w)) a)
 
 pub told_joined_last : (low : Bool) (w : Word) (signs : List Sign) (sizes : List ℕ) (place add most more : ℕ) → signs ≡ (outline_of w).signs
     → sizes ≡ sizes_of (outline_of w) → place ≡ valley_place (outline_of w).signs → place + 1 ≡ length signs → IsLegal w
-    → AreAsks low [] (slice_index_or sizes (place + 1) 0 ∷ []) ((slice_index_or (marks_of_word w) (place + 1) false || nat_le (first_count w) (slice_index_or (sizes_of (outline_of w)) (place + 1) 0 + 1)) ∷ []) add most more → AreAskedBehind low (joined_marks w) w add most more
-told_joined_last low w signs sizes place add most more es ez ep h legal a = asks_joined low w add most more (omega (arith, h, ep, ap (λ (l : List Sign). length l) es)) legal
+    → AreAsks low [] (slice_index_or sizes (place + 1) 0 ∷ []) ((slice_index_or (marks_of_word w) (place + 1) false || nat_le (first_count w)
+    (slice_index_or (sizes_of (outline_of w)) (place + 1) 0 + 1)) ∷ []) add most more → AreAskedBehind low (joined_marks w) w add most more
+told_joined_last low w signs sizes place add most more es ez ep h legal a = asks_joined low w add most more (omega (
+  arith,
+  h,
+  ep,
+  ap (λ
+      (l : List Sign). length l) es,
+)) legal
     (asks_same low [] (drop (valley_place (outline_of w).signs + 1) (outline_of w).signs) (slice_index_or sizes (place + 1) 0 ∷ [])
-    (slice_index_or (sizes_of (outline_of w)) (valley_place (outline_of w).signs + 1) 0 ∷ drop (valley_place (outline_of w).signs + 1 + 1) (sizes_of (outline_of w)))
+    (slice_index_or (sizes_of (outline_of w)) (valley_place (outline_of w).signs + 1) 0 ∷ drop (valley_place (outline_of w).signs + 1 + 1) (sizes_of
+    (outline_of w)))
     ((slice_index_or (marks_of_word w) (place + 1) false || nat_le (first_count w) (slice_index_or (sizes_of (outline_of w)) (place + 1) 0 + 1)) ∷ [])
-    ((slice_index_or (marks_of_word w) ((valley_place (outline_of w).signs) + 1) false || nat_le (first_count w) (slice_index_or (sizes_of (outline_of w)) ((valley_place (outline_of w).signs) + 1) 0 + 1)) ∷ drop (valley_place (outline_of w).signs + 1 + 1) (marks_of_word w)) add most more
+    ((slice_index_or (marks_of_word w) ((valley_place (outline_of w).signs) + 1) false || nat_le (first_count w) (slice_index_or (sizes_of
+    (outline_of w)) ((valley_place (outline_of w).signs) + 1) 0 + 1)) ∷ drop (valley_place (outline_of w).signs + 1 + 1) (marks_of_word w)) add most more
     (sym (drop_all (valley_place (outline_of w).signs + 1) (outline_of w).signs (omega (arith, h, ep, ap (λ (l : List Sign). length l) es))))
     (λ i. slice_index_or (ez i) (ep i + 1) 0 ∷ sym (drop_all (valley_place (outline_of w).signs + 1 + 1) (sizes_of (outline_of w))
     (omega (arith, h, ep, ap (λ (l : List Sign). length l) es, sizes_long w legal))) i)
-    (λ i. (slice_index_or (marks_of_word w) (ep i + 1) false || nat_le (first_count w) (slice_index_or (sizes_of (outline_of w)) (ep i + 1) 0 + 1)) ∷ sym (drop_all (valley_place (outline_of w).signs + 1 + 1) (marks_of_word w)
+    (λ i. (slice_index_or (marks_of_word w) (ep i + 1) false || nat_le (first_count w) (slice_index_or (sizes_of (outline_of w))
+    (ep i + 1) 0 + 1)) ∷ sym (drop_all (valley_place (outline_of w).signs + 1 + 1) (marks_of_word w)
     (omega (
       arith,
       h,
@@ -216,8 +259,10 @@ told_joined_last low w signs sizes place add most more es ez ep h legal a = asks
 pub wide_mark : (w : Word) (place : ℕ)
     → (slice_index_or (marks_of_word w) place false ≡ true) ⊎ (first_count w ≤ slice_index_or (sizes_of (outline_of w)) place 0 + 1)
     → (slice_index_or (marks_of_word w) place false || nat_le (first_count w) (slice_index_or (sizes_of (outline_of w)) place 0 + 1)) ≡ true
-wide_mark w place (inl e) = or_left (slice_index_or (marks_of_word w) place false) (nat_le (first_count w) (slice_index_or (sizes_of (outline_of w)) place 0 + 1)) e
-wide_mark w place (inr h) = or_right (slice_index_or (marks_of_word w) place false) (nat_le (first_count w) (slice_index_or (sizes_of (outline_of w)) place 0 + 1))
+wide_mark w place (inl e) = or_left (slice_index_or (marks_of_word w) place false) (nat_le (first_count w) (slice_index_or (sizes_of
+    (outline_of w)) place 0 + 1)) e
+wide_mark w place (inr h) = or_right (slice_index_or (marks_of_word w) place false) (nat_le (first_count w) (slice_index_or (sizes_of
+    (outline_of w)) place 0 + 1))
     (wide_told (first_count w) (slice_index_or (sizes_of (outline_of w)) place 0 + 1) h)
 
 pub marks_many : (w : Word) (sizes : List ℕ) → sizes ≡ sizes_of (outline_of w) → length (marks_of_word w) ≡ length sizes

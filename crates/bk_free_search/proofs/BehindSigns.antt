@@ -20,7 +20,8 @@ use Rattle.bk_normal_cuts.specs.WordNumbers.{first_count}
 use Rattle.bk_free_search.proofs.CountedSigns.{marks_long, signs_long, sizes_long}
 use Rattle.bk_free_search.proofs.PassesOn.{ArePartsButLast, further_signs, joined_counts, joined_on}
 use Rattle.bk_free_search.proofs.SharedAround.{joined_marks_shared, marks_behind_shared, signs_behind, sizes_behind}
-use Rattle.bk_free_search.specs.Apart.{AreAskedBehind, IsCountedTo, behind_marks, behind_signs, behind_sizes, joined_marks, marks_apart, sizes_apart, wide_first}
+use Rattle.bk_free_search.specs.Apart.{AreAskedBehind, IsCountedTo, behind_marks, behind_signs, behind_sizes, joined_marks, marks_apart, sizes_apart}
+use Rattle.bk_free_search.specs.Apart.{wide_first}
 
 -- a pass ends with at least these
 pub record EndsWith (p : Passed) (most more : ℕ) : Type 0 where
@@ -53,7 +54,8 @@ some_told : (p : Passed) (sign : Sign) (more signs : List Sign) (own : List ℕ)
     (max (p.most + count_by is_under signs + weight_from false signs (size ∷ sizes))
     (p.aboves + strong_from false signs (size ∷ sizes) (joined ∷ fewer))) (p.more + weight_from false signs (size ∷ sizes))
 some_told p sign more signs own owns size sizes joined mark fewer marks apart many long same a b last each = onto
-    (joined_counts p signs size sizes joined marks many long (the_pass_is_strong p signs (2 ∷ sizes) (joined ∷ marks) (omega (arith, many)) (omega (arith, long))))
+    (joined_counts p signs size sizes joined marks many long (the_pass_is_strong p signs (2 ∷ sizes) (joined ∷ marks) (omega (arith, many)) (omega
+    (arith, long))))
     (further_signs p sign more signs own owns size sizes joined mark marks apart many long a b last)
   where
     each_then : (t : ℕ) → slice_index_or (joined ∷ fewer) t false ≡ true → slice_index_or (joined ∷ marks) t false ≡ true
@@ -178,7 +180,8 @@ module _ (front : Word) (m : Move) (legal : IsLegal (front ++ m ∷ [])) where
 
       onto : EndsWith (pass_along p (behind_signs (outline_of front)) (behind_sizes (outline_of front))
           (drop (valley_place (outline_of front).signs - 1 + length m.signs) (marks_apart front m)))
-          (max (p.most + count_by is_under (behind_signs (outline_of front)) + weight_from p.low (behind_signs (outline_of front)) (behind_sizes (outline_of front)))
+          (max (p.most + count_by is_under (behind_signs (outline_of front)) + weight_from p.low (behind_signs (outline_of front)) (behind_sizes
+          (outline_of front)))
           (p.aboves + strong_from p.low (behind_signs (outline_of front)) (behind_sizes (outline_of front)) marks))
           (p.more + weight_from p.low (behind_signs (outline_of front)) (behind_sizes (outline_of front)))
           → (max (p.most + add) (p.aboves + most) ≤ strong_bound_of (front ++ m ∷ [])) × (p.more + more ≤ weight_of (front ++ m ∷ []))
@@ -212,13 +215,15 @@ module _ (front : Word) (m : Move) (legal : IsLegal (front ++ m ∷ [])) where
         arith,
         ap (λ (b : Bool). length (cond b (false ∷ []) (touched_or_wide (first_count front) (edges_on_lines front)
             (drop (valley_place (outline_of front).signs + 1) (outline_of front).segments)))) w,
-        ap (λ (b : Bool). length (cond b (1 ∷ []) (map (λ (s : List ℕ). length s) (drop (valley_place (outline_of front).signs + 1) (outline_of front).segments)))) w,
+        ap (λ (b : Bool). length (cond b (1 ∷ []) (map (λ (s : List ℕ). length s) (drop (valley_place (outline_of front).signs + 1)
+            (outline_of front).segments)))) w,
       )
       cases false w = omega (
         arith,
         ap (λ (b : Bool). length (cond b (false ∷ []) (touched_or_wide (first_count front) (edges_on_lines front)
             (drop (valley_place (outline_of front).signs + 1) (outline_of front).segments)))) w,
-        ap (λ (b : Bool). length (cond b (1 ∷ []) (map (λ (s : List ℕ). length s) (drop (valley_place (outline_of front).signs + 1) (outline_of front).segments)))) w,
+        ap (λ (b : Bool). length (cond b (1 ∷ []) (map (λ (s : List ℕ). length s) (drop (valley_place (outline_of front).signs + 1)
+            (outline_of front).segments)))) w,
         wide_long (first_count front) (edges_on_lines front) (drop (valley_place (outline_of front).signs + 1) (outline_of front).segments),
         length-map (drop (valley_place (outline_of front).signs + 1) (outline_of front).segments) (λ (s : List ℕ). length s),
       )
@@ -245,7 +250,8 @@ module _ (front : Word) (m : Move) (legal : IsLegal (front ++ m ∷ [])) where
         where
           by : (b : Bool) → length (cond b (false ∷ []) (wide_first (first_count front) (drop (valley_place (outline_of front).signs + 1)
               (outline_of front).segments) (touched_or_wide (first_count front) (edges_on_lines front)
-              (drop (valley_place (outline_of front).signs + 1) (outline_of front).segments)))) ≡ length (cond b (false ∷ []) (touched_or_wide (first_count front)
+              (drop (valley_place (outline_of front).signs + 1) (outline_of front).segments)))) ≡ length (cond b (false ∷ []) (touched_or_wide
+              (first_count front)
               (edges_on_lines front) (drop (valley_place (outline_of front).signs + 1) (outline_of front).segments)))
           by true = refl
           by false = wide_first_long (first_count front) (drop (valley_place (outline_of front).signs + 1) (outline_of front).segments)
@@ -284,7 +290,8 @@ module _ (front : Word) (m : Move) (legal : IsLegal (front ++ m ∷ [])) where
       all = (λ i. take (valley_place (outline_of front).signs - 1) (outline_of front).signs ++ are i ++ behind_signs (outline_of front))
           ∙ ap (λ l. l ++ behind_signs (outline_of front))
           (sym (append_assoc (take (valley_place (outline_of front).signs - 1) (outline_of front).signs) signs (sign ∷ more_signs)))
-          ∙ append_assoc (take (valley_place (outline_of front).signs - 1) (outline_of front).signs ++ signs) (sign ∷ more_signs) (behind_signs (outline_of front))
+          ∙ append_assoc (take (valley_place (outline_of front).signs - 1) (outline_of front).signs ++ signs) (sign ∷ more_signs) (behind_signs
+          (outline_of front))
 
       from : drop (valley_place (outline_of front).signs - 1 + length signs) (signs_apart (outline_of front) m)
           ≡ (sign ∷ more_signs) ++ behind_signs (outline_of front)
@@ -310,7 +317,8 @@ module _ (front : Word) (m : Move) (legal : IsLegal (front ++ m ∷ [])) where
       onto : EndsWith (pass_along p (drop (valley_place (outline_of front).signs - 1 + length signs) (signs_apart (outline_of front) m))
           (drop (valley_place (outline_of front).signs - 1 + length signs) (sizes_apart front m))
           (drop (valley_place (outline_of front).signs - 1 + length signs) (marks_apart front m)))
-          (max (p.most + count_by is_under (behind_signs (outline_of front)) + weight_from false (behind_signs (outline_of front)) (behind_sizes (outline_of front)))
+          (max (p.most + count_by is_under (behind_signs (outline_of front)) + weight_from false (behind_signs (outline_of front)) (behind_sizes
+          (outline_of front)))
           (p.aboves + strong_from false (behind_signs (outline_of front)) (behind_sizes (outline_of front)) (joined_marks front)))
           (p.more + weight_from false (behind_signs (outline_of front)) (behind_sizes (outline_of front)))
           → (max (p.most + add) (p.aboves + most) ≤ strong_bound_of (front ++ m ∷ [])) × (p.more + more ≤ weight_of (front ++ m ∷ []))

@@ -1,13 +1,14 @@
--- What a board keeps, as a move is played and taken back.
-use Rattle.std.proofs.Common.{List, [], ap, cond, inl, inr, length, nat_eq, slice_index_or, subst, sym, take, ℕ, ◌++◌}
+-- What a board keeps, as a move is played.
+use Rattle.std.proofs.Common.{List, [], ap, arith, cond, count_by, inl, inr, nat_eq, slice_index_or, subst, sym, ℕ, ◌++◌}
 use Rattle.std.proofs.Common.{◌+◌, ◌-◌, ◌<◌, ◌∙◌, ◌∷◌, ◌≡◌, ◌⊎◌}
 use Rattle.bk_word.specs.Outline.{IsLegalMove, valley_of}
 use Rattle.bk_word.specs.Play.{numbers_from, outline_of}
 use Rattle.bk_word.specs.Word.{Move, Word, order_of}
-use Rattle.bk_free_search.proofs.LeftLines.{end_left, index_left, left_less, left_more}
-use Rattle.bk_free_search.proofs.RightLines.{end_right, index_right, right_less, right_more}
-use Rattle.bk_free_search.proofs.TopLineMarks.{first_kept, first_more}
-use Rattle.bk_free_search.proofs.TouchedLines.{AreNextLines, nodes_less, nodes_more}
+use Rattle.bk_free_search.proofs.LeftLines.{end_left, index_left, left_more}
+use Rattle.bk_free_search.proofs.RightLines.{end_right, index_right, right_more}
+use Rattle.bk_free_search.proofs.TopLineMarks.{first_more}
+use Rattle.bk_free_search.proofs.TouchedLines.{AreNextLines, nodes_more}
+use Rattle.bk_free_search.proofs.WordCounts.{left_walls, lefts_then, right_walls, rights_then}
 use Rattle.bk_free_cuts.specs.LineNumbers.{left_end, lefts_of, right_end, sides_at, sides_of}
 use Rattle.bk_free_search.specs.Boards.{IsBoardOf}
 use Rattle.bk_free_search.specs.Lefts.{IsLeftWord, first_left}
@@ -17,7 +18,7 @@ use Rattle.bk_free_search.specs.Rights.{last_right, rights_of}
 use Rattle.bk_free_search.specs.declared.line_set.LineSet.{LineSet}
 
 -- what is known of a move that is played
-pub record IsPlayed (w : Word) (m : Move) (lefts rights : List ℕ) (nodes : List LineSet) (first : ℕ) : Type 0 where
+pub record IsPlayed (w : Word) (m : Move) (lefts rights : List ℕ) (nodes : List LineSet) (first at_left at_right : ℕ) : Type 0 where
   pub hung : ℕ
   pub hung_is : hung ≡ order_of w
   pub count : ℕ
@@ -39,6 +40,10 @@ pub record IsPlayed (w : Word) (m : Move) (lefts rights : List ℕ) (nodes : Lis
   pub nodes_are : nodes_then ≡ nodes ++ lines ∷ []
   pub first_then : ℕ
   pub first_is : first_then ≡ cond (nat_eq hung 0) count first
+  pub left_then : ℕ
+  pub left_then_is : left_then ≡ at_left + cond (nat_eq left 0) 1 0
+  pub right_then : ℕ
+  pub right_then_is : right_then ≡ at_right + cond (nat_eq right 1) 1 0
 
 abbrev pub beside : List ℕ → List ℕ → List ℕ → ℕ → ℕ → ℕ → Type 0
 beside lefts rights squares hung count line = IsBesideOneOf lefts rights squares line ⊎ IsBesideNew lefts rights hung count line
@@ -53,16 +58,23 @@ beside_same lefts lefts' rights rights' squares squares' hung hung' count count'
     (subst (λ (k : ℕ). beside lefts rights squares k count' line) d
     (subst (λ (k : ℕ). beside lefts rights squares hung k line) e h))))
 
-pub board_more : (w more : Word) (m : Move) (lefts rights : List ℕ) (nodes : List LineSet) (first : ℕ) → IsBoardOf w lefts rights nodes first
-    → IsLegalMove (outline_of w) m → more ≡ w ++ m ∷ []
-    → (p : IsPlayed w m lefts rights nodes first) → IsBoardOf more p.lefts_then p.rights_then p.nodes_then p.first_then
-board_more w more m lefts rights nodes first board legal e p = record {
+pub board_more : (w more : Word) (m : Move) (lefts rights : List ℕ) (nodes : List LineSet) (first at_left at_right : ℕ)
+    → IsBoardOf w lefts rights nodes first at_left at_right → IsLegalMove (outline_of w) m → more ≡ w ++ m ∷ []
+    → (p : IsPlayed w m lefts rights nodes first at_left at_right)
+    → IsBoardOf more p.lefts_then p.rights_then p.nodes_then p.first_then p.left_then p.right_then
+board_more w more m lefts rights nodes first at_left at_right board legal e p = record {
   left_word = left;
   rights_are = right ∙ ap rights_of (sym e);
   node_lines = subst (λ (v : Word). AreNodeLines v p.nodes_then) (sym e)
       (subst (λ (l : List LineSet). AreNodeLines (w ++ m ∷ []) l) (sym p.nodes_are) (nodes_more w m nodes p.lines board.left_word.legal board.node_lines next));
-  first_is = λ _. first_more w more m e p.hung first p.first_then board.left_word.legal p.hung_is board.first_is
+  first_is = first_more w more m e p.hung first p.first_then board.left_word.legal p.hung_is board.first_is
       (p.first_is ∙ ap (λ k. cond (nat_eq p.hung 0) k first) p.count_is);
+  left_is = p.left_then_is ∙ ap (λ k. k + cond {A = ℕ} (nat_eq p.left 0) 1 0) left_before
+      ∙ sym (lefts_then lefts p.left (p.hung + 2) (p.count - 1) (omega arith))
+      ∙ ap (count_by (λ l. nat_eq l 0)) (sym p.lefts_are ∙ left.lefts_are) ∙ left_walls more;
+  right_is = p.right_then_is ∙ ap (λ k. k + cond {A = ℕ} (nat_eq p.right 1) 1 0) right_before
+      ∙ sym (rights_then rights p.right (p.hung + 2) (p.count - 1) (omega arith))
+      ∙ ap (count_by (λ l. nat_eq l 1)) (sym p.rights_are ∙ right ∙ ap rights_of (sym e)) ∙ right_walls more;
 }
   where
     left : IsLeftWord more p.lefts_then
@@ -76,6 +88,12 @@ board_more w more m lefts rights nodes first board legal e p = record {
     right = p.rights_are ∙ ap (λ k. rights ++ numbers_from (k + 2) (p.count - 1) ++ p.right ∷ []) p.hung_is
         ∙ right_more w m rights p.right p.count legal board.rights_are (p.right_is ∙ ap (last_right rights) p.squares_are) p.count_is
 
+    left_before : at_left ≡ count_by (λ l. nat_eq l 0) lefts
+    left_before = board.left_is ∙ sym (left_walls w) ∙ ap (count_by (λ l. nat_eq l 0)) (sym board.left_word.lefts_are)
+
+    right_before : at_right ≡ count_by (λ l. nat_eq l 1) rights
+    right_before = board.right_is ∙ sym (right_walls w) ∙ ap (count_by (λ l. nat_eq l 1)) (sym board.rights_are)
+
     next : AreNextLines w m p.lines
     next = record {
       only = λ line has. beside_same p.lefts_then (lefts_of (w ++ m ∷ [])) p.rights_then (rights_of (w ++ m ∷ [])) p.squares
@@ -85,49 +103,32 @@ board_more w more m lefts rights nodes first board legal e p = record {
           (sym p.hung_is) (sym p.count_is) b);
     }
 
--- what is left when the last move is taken back
-pub board_less : (w front : Word) (lefts rights : List ℕ) (nodes : List LineSet) (first order moves : ℕ) (lefts_then rights_then : List ℕ)
-    (nodes_then : List LineSet) → IsBoardOf w lefts rights nodes first
-    → 0 < length w → front ≡ take (length w - 1) w → order ≡ order_of front → moves ≡ length front → lefts_then ≡ take order lefts
-    → rights_then ≡ take order rights → nodes_then ≡ take moves nodes
-    → IsBoardOf front lefts_then rights_then nodes_then first
-board_less w front lefts rights nodes first order moves lefts_then rights_then nodes_then board some e o n l r t = record {
-  left_word = left_less w front lefts lefts_then order board.left_word e o l;
-  rights_are = right_less w front rights rights_then order board.rights_are e o r;
-  node_lines = nodes_less w front nodes nodes_then some board.node_lines e (t ∙ ap (λ k. take k nodes) n);
-  first_is = first_kept w front first board.first_is e;
-}
-
 -- ---- two lines at one node
 
 -- that touch one of the kept nodes touch a closed node of the word
-pub touch_lines : (w : Word) (lefts rights : List ℕ) (nodes : List LineSet) (first left right : ℕ) → IsBoardOf w lefts rights nodes first
+pub touch_lines : (w : Word) (nodes : List LineSet) (left right : ℕ) → AreNodeLines w nodes
     → (left ≡ 0 → right ≡ 1 → ⊥) → HasBoth nodes left right → TouchOneNode w left right
-touch_lines w lefts rights nodes first left right board walls both = record {
+touch_lines w nodes left right are walls both = record {
   node = both.node;
-  at_left = (board.node_lines).touch both.node left both.lines both.at both.has_left;
-  at_right = (board.node_lines).touch both.node right both.lines both.at both.has_right;
+  at_left = are.touch both.node left both.lines both.at both.has_left;
+  at_right = are.touch both.node right both.lines both.at both.has_right;
   not_walls = walls;
 }
 
 -- the lines at the sides of a square
-pub left_on_board : (w : Word) (lefts rights : List ℕ) (nodes : List LineSet) (first square : ℕ) → IsBoardOf w lefts rights nodes first
-    → slice_index_or lefts (square - 1) 0 ≡ (sides_at (sides_of w) square).0
-left_on_board w lefts rights nodes first square board = ap (λ (ls : List ℕ). slice_index_or ls (square - 1) 0) (board.left_word).lefts_are
-    ∙ sym (index_left (sides_of w) (square - 1))
+pub left_on_board : (w : Word) (lefts : List ℕ) (square : ℕ) → lefts ≡ lefts_of w → slice_index_or lefts (square - 1) 0 ≡ (sides_at (sides_of w) square).0
+left_on_board w lefts square are = ap (λ (ls : List ℕ). slice_index_or ls (square - 1) 0) are ∙ sym (index_left (sides_of w) (square - 1))
 
-pub right_on_board : (w : Word) (lefts rights : List ℕ) (nodes : List LineSet) (first square : ℕ) → IsBoardOf w lefts rights nodes first
+pub right_on_board : (w : Word) (rights : List ℕ) (square : ℕ) → rights ≡ rights_of w
     → slice_index_or rights (square - 1) 1 ≡ (sides_at (sides_of w) square).1
-right_on_board w lefts rights nodes first square board = ap (λ (rs : List ℕ). slice_index_or rs (square - 1) 1) board.rights_are
-    ∙ sym (index_right (sides_of w) (square - 1))
+right_on_board w rights square are = ap (λ (rs : List ℕ). slice_index_or rs (square - 1) 1) are ∙ sym (index_right (sides_of w) (square - 1))
 
 -- and at those of a segment
-pub ends_on_board : (w : Word) (lefts rights : List ℕ) (nodes : List LineSet) (first : ℕ) (squares : List ℕ) → IsBoardOf w lefts rights nodes first
-    → (first_left lefts squares ≡ left_end (sides_of w) squares) × (last_right rights squares ≡ right_end (sides_of w) squares)
-ends_on_board w lefts rights nodes first squares board = (
-  ap (λ (ls : List ℕ). first_left ls squares) (board.left_word).lefts_are ∙ sym (end_left (sides_of w) squares),
-  ap (λ (rs : List ℕ). last_right rs squares) board.rights_are ∙ sym (end_right (sides_of w) squares),
-)
+pub left_end_on_board : (w : Word) (lefts squares : List ℕ) → lefts ≡ lefts_of w → first_left lefts squares ≡ left_end (sides_of w) squares
+left_end_on_board w lefts squares are = ap (λ (ls : List ℕ). first_left ls squares) are ∙ sym (end_left (sides_of w) squares)
+
+pub right_end_on_board : (w : Word) (rights squares : List ℕ) → rights ≡ rights_of w → last_right rights squares ≡ right_end (sides_of w) squares
+right_end_on_board w rights squares are = ap (λ (rs : List ℕ). last_right rs squares) are ∙ sym (end_right (sides_of w) squares)
 
 pub not_both : (left right : ℕ) → ((left ≡ 0) × (right ≡ 1 → ⊥)) ⊎ (left ≡ 0 → ⊥) → left ≡ 0 → right ≡ 1 → ⊥
 not_both left right (inl h) e f = h.1 f

@@ -49,7 +49,7 @@ evens_last [] b not = omega arith
 evens_last (s ∷ signs) b not = with_one s signs b (evens_last signs b (λ i low e. not (suc i) (omega (arith, low)) e)) (not 0)
 
 -- where the first so many, no more than one, may be even too
-evens_ends : (signs : List Sign) (a b : ℕ) → a ≤ 1 → ((i : ℕ) → a ≤ i → i + b < length signs → slice_get signs i ≡ Some Even → ⊥)
+pub evens_ends : (signs : List Sign) (a b : ℕ) → a ≤ 1 → ((i : ℕ) → a ≤ i → i + b < length signs → slice_get signs i ≡ Some Even → ⊥)
     → count_by is_even signs ≤ a + b
 evens_ends signs zero b few not = omega (arith, evens_last signs b (λ i. not i (omega arith)))
 evens_ends [] (suc a) b few not = omega arith

@@ -1,4 +1,6 @@
 pub mod AskedSigns
+pub mod BoardExamples
+pub mod SignPhases
 pub mod BoardMoves
 pub mod Cutting
 pub mod LeftLines
@@ -33,3 +35,7 @@ pub mod OpenMarks
 pub mod StrongExamples
 pub mod AskedNext
 pub mod BehindLists
+pub mod LastSquare
+pub mod LastSquareExamples
+pub mod UnderSigns
+pub mod AllUnderExamples

@@ -75,7 +75,8 @@ module _ (top : ℕ) (lines : List Bool) where
       → ((j : ℕ) → slice_index_or (touched_or_wide top lines rest) j false ≡ true
       → slice_index_or (shared signs (touched_or_wide top lines (joined signs rest))) j false ≡ true)
       → slice_index_or (touched_or_wide top lines (s ∷ rest)) i false ≡ true
-      → (all : List (List ℕ)) → joined signs rest ≡ all → slice_index_or (shared (Even ∷ signs) (touched_or_wide top lines (before_first_list s all))) i false ≡ true
+      → (all : List (List ℕ)) → joined signs rest ≡ all → slice_index_or (shared (Even ∷ signs) (touched_or_wide top lines
+      (before_first_list s all))) i false ≡ true
   own signs s rest zero each e [] is =
       subst (λ (l : List (List ℕ)). mark_of top lines s l ≡ true) is (mark_joined signs s rest e)
   own signs s rest (suc j) each e [] is = absurd (shared_none signs j

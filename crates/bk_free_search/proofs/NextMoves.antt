@@ -127,3 +127,18 @@ by_sign front board m k s t w same same_move e on = record {
 -- in two counts the one below another, or the same
 pub below_or_same : (count next : ℕ) → count < next + 1 → (count < next) ⊎ (count ≡ next)
 below_or_same count next h = grind arith
+
+-- or the other at most
+pub below_or_not : (count next : ℕ) → (count < next) ⊎ (next ≤ count)
+below_or_not count next = grind arith
+
+-- the words that go on by equal counts and signs
+pub by_same : (front w : Word) (count k : ℕ) (signs l : List Sign) → k ≡ count → l ≡ signs → GoesOnBy front count signs w → GoesOnBy front k l w
+by_same front w count k signs l same same_signs on = record {
+  move = on.move;
+  rest = on.rest;
+  is = on.is;
+  count_is = on.count_is ∙ sym same;
+  more = on.more;
+  signs_are = on.signs_are ∙ ap (λ z. z ++ on.more) (sym same_signs);
+}

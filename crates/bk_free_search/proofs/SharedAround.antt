@@ -218,7 +218,8 @@ module _ (front : Word) (m : Move) (legal : IsLegal (front ++ m ∷ [])) where
 
       cases : (b : Bool) → has_right_wall (outline_of front) ≡ b
           → slice_index_or (marks_apart front m) (valley_place (outline_of front).signs - 1 + length m.signs + t) false ≡ true
-      cases true w = absurd (none t (sym (ap (λ (b : Bool). slice_index_or (cond b (false ∷ []) (touched_or_wide (first_count front) (edges_on_lines front) back))
+      cases true w = absurd (none t (sym (ap (λ (b : Bool). slice_index_or (cond b (false ∷ []) (touched_or_wide (first_count front)
+          (edges_on_lines front) back))
           t false) w) ∙ e))
       cases false w = mark_behind t (right_told (valley_place (outline_of front).signs) (length (outline_of front).signs)
           (place_within (outline_of front).signs) w)
@@ -249,7 +250,8 @@ module _ (front : Word) (m : Move) (legal : IsLegal (front ++ m ∷ [])) where
           → slice_index_or (marks_apart front m) (valley_place (outline_of front).signs - 1 + length m.signs + 0) false ≡ true
       wide h w = ap (λ l. slice_index_or l (valley_place (outline_of front).signs - 1 + length m.signs + 0) false) marks_are
           ∙ ap (λ i. slice_index_or (shared (signs_apart (outline_of front) m) (touched_or_wide (first_count (front ++ m ∷ []))
-          (lines_after (outline_of front) (edges_on_lines front) m) (joined (signs_apart (outline_of front) m) (segments_apart (outline_of front) m)))) i false) at
+          (lines_after (outline_of front) (edges_on_lines front) m) (joined (signs_apart (outline_of front) m) (segments_apart
+          (outline_of front) m)))) i false) at
           ∙ (both_wide (first_count (front ++ m ∷ [])) (lines_after (outline_of front) (edges_on_lines front) m) (signs_apart (outline_of front) m)
           (segments_apart (outline_of front) m) (valley_place (outline_of front).signs - 1 + (length m.signs - 1))
           (sign_at front m legal (length m.signs - 1) (omega (arith, some)) ∙ even)

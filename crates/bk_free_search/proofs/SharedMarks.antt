@@ -73,7 +73,8 @@ shared_first (Above ∷ signs) m marks = refl
 shared_first (Under ∷ signs) m marks = refl
 
 -- where the first mark is one of more, so are those that are shared
-pub shared_more : (signs : List Sign) (m n : Bool) (marks : List Bool) (i : ℕ) → (m ≡ true → n ≡ true) → slice_index_or (shared signs (m ∷ marks)) i false ≡ true
+pub shared_more : (signs : List Sign) (m n : Bool) (marks : List Bool) (i : ℕ) → (m ≡ true → n ≡ true)
+    → slice_index_or (shared signs (m ∷ marks)) i false ≡ true
     → slice_index_or (shared signs (n ∷ marks)) i false ≡ true
 shared_more [] m n marks zero f e = f e
 shared_more [] m n marks (suc i) f e = e

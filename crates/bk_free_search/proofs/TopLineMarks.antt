@@ -1,6 +1,6 @@
 -- The squares at lines from the top, by the numbers of their left lines.
 use Rattle.std.proofs.Common.{Bool, IsTrue, List, [], ap, arith, cond, false, length, length-append, nat_eq, nat_le, refl, replicate, slice_index_or}
-use Rattle.std.proofs.Common.{subst, suc, sym, take, true, zero, ℕ, ◌++◌, ◌+◌, ◌-◌, ◌<◌, ◌∙◌, ◌∷◌, ◌≡◌, ◌≤◌, ◌&&◌}
+use Rattle.std.proofs.Common.{subst, suc, sym, true, zero, ℕ, ◌++◌, ◌+◌, ◌-◌, ◌<◌, ◌∙◌, ◌∷◌, ◌≡◌, ◌≤◌, ◌&&◌}
 use Rattle.std.proofs.lemmas.Bool.Decides.{nat_tests}
 use Rattle.std.proofs.lemmas.List.{length-replicate, map-append}
 use Rattle.bk_word.specs.Outline.{Outline, start, valley_of}
@@ -10,8 +10,6 @@ use Rattle.bk_word.proofs.StoredBytes.{order_more}
 use Rattle.bk_bounds.specs.VerticalCut.{begins_on_line, lines_after, lines_along, edges_on_lines}
 use Rattle.bk_free_cuts.specs.LineNumbers.{left_end, lefts_of, new_sides, right_end, sides_after, sides_along, sides_of}
 use Rattle.bk_free_search.proofs.LeftLines.{end_left, lefts_in, new_lefts}
-use Rattle.bk_free_search.specs.Boards.{IsBoardOf}
-use Rattle.bk_free_search.specs.declared.line_set.LineSet.{LineSet}
 use Rattle.bk_free_search.specs.Lefts.{first_left}
 use Rattle.bk_normal_cuts.specs.WordNumbers.{first_count}
 use Rattle.bk_free_search.specs.TopLines.{is_top_line, on_top_lines}
@@ -97,42 +95,23 @@ marks_of_lefts (m ∷ w) legal =
 
 -- ---- on a board
 
-pub marks_of_board : (w : Word) (lefts rights : List ℕ) (nodes : List LineSet) (first : ℕ) → IsBoardOf w lefts rights nodes first
-    → on_top_lines first lefts ≡ edges_on_lines w
-marks_of_board [] lefts rights nodes first board = ap (on_top_lines first) board.left_word.lefts_are
-marks_of_board (m ∷ w) lefts rights nodes first board =
-    (λ i. on_top_lines (board.first_is (omega arith) i) (board.left_word.lefts_are i)) ∙ sym (marks_of_lefts (m ∷ w) board.left_word.legal)
-
+-- the first count of a board, with a move more
 pub first_more : (w more : Word) (m : Move) → more ≡ w ++ m ∷ [] → (hung first then_first : ℕ) → IsLegal w → hung ≡ order_of w
-    → (0 < length w → first ≡ first_count w)
+    → first ≡ first_count w
     → then_first ≡ cond (nat_eq hung 0) m.count first → then_first ≡ first_count more
 first_more [] more m e hung first then_first legal h before now = now ∙ (λ i. cond (nat_eq (h i) 0) m.count first) ∙ ap first_count (sym e)
 first_more (n ∷ w) more m e hung first then_first legal h before now =
-    now ∙ (λ i. cond (some i) m.count first) ∙ before (omega arith) ∙ ap first_count (sym e)
+    now ∙ (λ i. cond (some i) m.count first) ∙ before ∙ ap first_count (sym e)
   where
     some : nat_eq hung 0 ≡ false
     some = not_first hung (omega (arith, h, order_more n w, (legal.0).some))
-
-first_less : (w front : Word) (k : ℕ) → front ≡ take k w → 0 < length front → first_count w ≡ first_count front
-first_less [] front zero e some = ap first_count (sym e)
-first_less [] front (suc k) e some = ap first_count (sym e)
-first_less (m ∷ w) front zero e some = absurd (omega (arith, some, ap length e))
-first_less (m ∷ w) front (suc k) e some = ap first_count (sym e)
-
-some_taken : (w front : Word) (k : ℕ) → front ≡ take k w → 0 < length front → 0 < length w
-some_taken [] front zero e some = absurd (omega (arith, some, ap length e))
-some_taken [] front (suc k) e some = absurd (omega (arith, some, ap length e))
-some_taken (m ∷ w) front k e some = omega arith
-
-pub first_kept : (w front : Word) (first : ℕ) → (0 < length w → first ≡ first_count w) → front ≡ take (length w - 1) w → 0 < length front
-    → first ≡ first_count front
-first_kept w front first before e some = before (some_taken w front (length w - 1) e some) ∙ first_less w front (length w - 1) e some
 
 -- a line at the left of the valley that comes from the top, by its number
 pub left_on_line : (w : Word) (squares : List ℕ) (line top : ℕ) → squares ≡ valley_of (outline_of w) → (v : Word) → v ≡ w → IsLegal v
     → line ≡ left_end (sides_of w) squares → top ≡ first_count w → 2 ≤ line → IsTrue (nat_le line top)
     → begins_on_line (edges_on_lines w) (valley_of (outline_of w)) ≡ true
-left_on_line w squares line top are v same legal line_is top_is least most = (λ i. begins_on_line (marks_of_lefts w (subst (λ (u : Word). IsLegal u) same legal) i)
+left_on_line w squares line top are v same legal line_is top_is least most = (λ i. begins_on_line (marks_of_lefts w (subst (λ
+    (u : Word). IsLegal u) same legal) i)
     (sym are i)) ∙ sym (segment_top (first_count w) (lefts_of w) squares) ∙ ap (is_top_line (first_count w)) (sym (line_is ∙ end_left (sides_of w) squares))
     ∙ both 2 line line (first_count w) least (omega (arith, told line top most, top_is))
   where

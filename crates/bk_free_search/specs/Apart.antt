@@ -56,7 +56,8 @@ behind_marks w = cond (has_right_wall (outline_of w)) (false ∷ []) (touched_or
     (drop (valley_place (outline_of w).signs + 1) (outline_of w).segments))
 
 abbrev pub joined_marks : Word → List Bool
-joined_marks w = cond (has_right_wall (outline_of w)) (false ∷ []) (wide_first (first_count w) (drop (valley_place (outline_of w).signs + 1) (outline_of w).segments)
+joined_marks w = cond (has_right_wall (outline_of w)) (false ∷ []) (wide_first (first_count w) (drop (valley_place (outline_of w).signs + 1)
+    (outline_of w).segments)
     (touched_or_wide (first_count w) (edges_on_lines w) (drop (valley_place (outline_of w).signs + 1) (outline_of w).segments)))
 
 -- numbers that some segments ask for, where the first of them is low at the left or not: how many moves those before them are asked for besides, how

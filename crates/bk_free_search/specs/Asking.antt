@@ -1,5 +1,5 @@
 -- What a search knows of a next move: what stands beside the leftmost valley, and what the move's first signs ask for.
-use Rattle.std.specs.Prelude.{Bool, List, [], count_by, false, length, max, slice_index_or, true, ℕ, ◌++◌, ◌+◌, ◌-◌, ◌<◌, ◌∷◌, ◌≡◌, ◌≤◌, ◌⊎◌}
+use Rattle.std.specs.Prelude.{Bool, List, [], cond, count_by, false, length, max, slice_index_or, true, ℕ, ◌++◌, ◌+◌, ◌-◌, ◌<◌, ◌∷◌, ◌≡◌, ◌≤◌, ◌⊎◌}
 use Rattle.bk_word.specs.Outline.{has_left_wall, has_right_wall, open_side, valley_place}
 use Rattle.bk_word.specs.Play.{IsLegal, outline_of}
 use Rattle.bk_word.specs.Signs.{is_even, is_under}
@@ -14,6 +14,7 @@ use Rattle.bk_free_search.specs.Strong.{IsFew, seen_passed}
 use Rattle.bk_free_search.specs.declared.asking.Asked.{Asked}
 use Rattle.bk_free_search.specs.declared.asking.Before.{Before}
 use Rattle.bk_free_search.specs.declared.asking.Beside.{Beside}
+use Rattle.bk_free_search.specs.declared.asking.Needs.{Needs}
 use Rattle.bk_free_search.specs.declared.asking.Next.{Next}
 use Rattle.bk_free_search.specs.declared.behind.Asks.{Asks}
 use Rattle.bk_free_search.specs.declared.behind.Behind.{Behind}
@@ -38,6 +39,12 @@ pub record AreAskedBefore (front : Word) (b : Before) : Type 0 where
   pub none : IsAsked front [] b.none
   pub even : has_left_wall (outline_of front) ≡ false → IsAsked front (Even ∷ []) b.even
   pub under : has_left_wall (outline_of front) ≡ false → IsAsked front (Under ∷ []) b.under
+
+-- their numbers are small
+pub record AreFewBefore (b : Before) : Type 0 where
+  pub none : IsFew b.none.passed 500
+  pub even : IsFew b.even.passed 500
+  pub under : IsFew b.under.passed 500
 
 -- the numbers that segments ask for are small
 pub record AreFewAsks (asks : Asks) (k : ℕ) : Type 0 where
@@ -64,42 +71,53 @@ pub record AreMovesLeft (n : ℕ) (front : Word) (left : ℕ) : Type 0 where
 abbrev pub AreEvensNeeded : ℕ → Word → ℕ → Type 0
 AreEvensNeeded n front evens = (m : Move) → count_by is_even m.signs < evens → IsNormalBarren n (front ++ m ∷ [])
 
--- what stands beside the leftmost valley: the walls, what the segments before it and behind it ask for, and what is asked of next moves
-pub record StandBeside (n : ℕ) (front : Word) (b : Beside) : Type 0 where
-  pub left_is : b.left_wall ≡ has_left_wall (outline_of front)
-  pub right_is : b.right_wall ≡ has_right_wall (outline_of front)
-  pub before_is : AreAskedBefore front b.before
-  pub behind_is : AreBehind front b.behind
-  pub moves_are : AreMovesLeft n front b.ahead.moves
-  pub evens_are : AreEvensNeeded n front b.ahead.evens
-
--- how many signs a next move of the count has, and how many squares are left after it
-pub record IsNext (n : ℕ) (front : Word) (count : ℕ) (next : Next) : Type 0 where
-  pub wanted_is : next.wanted + 1 ≡ count + open_side (has_left_wall (outline_of front)) + open_side (has_right_wall (outline_of front))
-  pub left_is : next.left ≡ n - order_of front - count
-
 -- more moves are asked for than are left, or more squares, by the segments up to a place and those behind
 abbrev pub IsOver : Passed → Asks → ℕ → ℕ → Type 0
 IsOver passed asks moves left = (moves < max (passed.most + asks.add) (passed.aboves + asks.most))
     ⊎ (left < max (passed.most + asks.add) (passed.aboves + asks.most) + passed.more + asks.more)
 
--- what is asked for behind this sign: the last one of the move, or one that others follow
-abbrev pub asks_at : Behind → Bool → Sign → Asks
-asks_at b false sign = b.even
-asks_at b true Above = b.above
-asks_at b true Even = b.even
-asks_at b true Under = b.under
+-- they are where fewer squares are left than this number (of up to 1000, which are more than there ever are)
+abbrev pub NeedsLeft : Passed → Asks → ℕ → ℕ → Type 0
+NeedsLeft passed asks moves need = (left : ℕ) → left < need → left < 1000 → IsOver passed asks moves left
 
--- a next move of the order is being made: so many of its squares hang, and this is known of it and of what stands beside the valley
+-- such numbers of what is asked for before a next move's first sign, and with the sign even or under at a left neighbour
+pub record AreNeeds (before : Before) (behind : Behind) (moves : ℕ) (needs : Needs) : Type 0 where
+  pub none : NeedsLeft before.none.passed behind.even moves needs.none
+  pub even : NeedsLeft before.even.passed behind.even moves needs.even
+  pub under : NeedsLeft before.under.passed behind.even moves needs.under
+
+-- what stands beside the leftmost valley: the walls, what the segments before it and behind it ask for, and what is asked of next moves
+pub record StandBeside (n : ℕ) (front : Word) (b : Beside) : Type 0 where
+  pub left_is : b.left_wall ≡ has_left_wall (outline_of front)
+  pub right_is : b.right_wall ≡ has_right_wall (outline_of front)
+  pub before_is : AreAskedBefore front b.before
+  pub few_before : AreFewBefore b.before
+  pub behind_is : AreBehind front b.behind
+  pub moves_are : AreMovesLeft n front b.ahead.moves
+  pub evens_are : AreEvensNeeded n front b.ahead.evens
+  pub needs_are : AreNeeds b.before b.behind b.ahead.moves b.needs
+
+-- how many signs a next move of the count has, with that at a right neighbour and without, and how many squares are left after it
+pub record IsNext (n : ℕ) (front : Word) (count : ℕ) (next : Next) : Type 0 where
+  pub own_is : next.own + 1 ≡ count + open_side (has_left_wall (outline_of front))
+  pub wanted_is : next.wanted + 1 ≡ count + open_side (has_left_wall (outline_of front)) + open_side (has_right_wall (outline_of front))
+  pub left_is : next.left ≡ n - order_of front - count
+
+-- what is asked for behind a last sign that is under, or above
+abbrev pub asks_then : Behind → Bool → Asks
+asks_then b low = cond low b.under b.above
+
+-- a next move of the order is being made, after which squares are left: so many of its squares hang, and this is known of it and of what stands
+-- beside the valley
 pub record IsBegun (n : ℕ) (front : Word) (m : Move) (next : Next) (around : Beside) : Type 0 where
   pub least : 3 ≤ n
   pub most : n ≤ 16
   pub some : 0 < m.count
-  pub fits : order_of front + m.count ≤ n
+  pub fits : order_of front + m.count < n
   pub signs : length m.signs ≤ next.wanted
   pub next_is : IsNext n front m.count next
   pub around_is : StandBeside n front around
 
--- no word of a normal layout goes on by a move that begins like this one, and has this sign next
-pub record BarsSign (n : ℕ) (front : Word) (m : Move) (sign : Sign) : Type 0 where
-  pub barren : (other : Move) (more : List Sign) → other.count ≡ m.count → other.signs ≡ m.signs ++ sign ∷ more → IsNormalBarren n (front ++ other ∷ [])
+-- no word of a normal layout goes on by a move of this count whose signs begin with these
+pub record BarsSigns (n : ℕ) (front : Word) (count : ℕ) (signs : List Sign) : Type 0 where
+  pub barren : (other : Move) (more : List Sign) → other.count ≡ count → other.signs ≡ signs ++ more → IsNormalBarren n (front ++ other ∷ [])

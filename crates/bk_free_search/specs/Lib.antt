@@ -11,3 +11,5 @@ pub mod Boards
 pub mod Apart
 pub mod Asking
 pub mod Strong
+pub mod LastSquare
+pub mod AllUnder

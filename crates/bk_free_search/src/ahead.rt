@@ -4,7 +4,6 @@ ghost use Rattle.std.specs.Prelude.{cond, nat_lt, ◌+◌, ◌/◌, ◌<◌, ◌
 ghost use Rattle.bk_word.specs.Outline.{has_left_wall, has_right_wall};
 ghost use Rattle.bk_word.specs.Play.{outline_of};
 ghost use Rattle.bk_word.specs.Word.{order_of};
-ghost use Rattle.bk_normal_cuts.specs.NormalCuts.{most_moves_of};
 ghost use Rattle.bk_free_search.specs.Asking.{AreEvensNeeded, AreMovesLeft};
 
 use crate::board::Board;
@@ -42,9 +41,9 @@ pub(crate) fn look_ahead(board: &Board, order: u8, left_wall: bool, right_wall: 
     }
 }
 
-// The most moves of a word of the order in which so many squares hang from the top, and so many lie at a wall: half of one square more,
-// and one less than just half where more lie at the wall.
-fn most_moves(order: u8, top: u8, wall: usize) -> usize
+/// The most moves of a word of the order in which so many squares hang from the top, and so many lie at a wall: half of one square more,
+/// and one less than just half where more lie at the wall.
+pub(crate) fn most_moves(order: u8, top: u8, wall: usize) -> usize
     ensures { result ≡ cond (nat_lt top wall) (order / 2) ((order + 1) / 2) }
 {
     if usize::from(top) < wall {
@@ -64,16 +63,4 @@ fn most_then(order: u8, moves: u8, top: u8, wall: usize) -> usize
         return (usize::from(order) + 1) / 2;
     }
     most_moves(order, top, wall)
-}
-
-/// The most moves of a word of the order that goes on from the board.
-pub(crate) fn most_moves_of(board: &Board, order: u8) -> usize
-    ensures { result ≡ most_moves_of order board.now }
-{
-    let counts = board.counts();
-    most_moves(
-        order,
-        counts.top,
-        usize::from(counts.left.max(counts.right)),
-    )
 }

@@ -1,13 +1,13 @@
 //! What a next move's first signs ask for, counted sign by sign.
 
-ghost use Rattle.std.specs.Prelude.{IsTrue, List, [], false, length, true, ℕ, ◌++◌, ◌+◌, ◌-◌, ◌<◌, ◌∷◌, ◌≡◌, ◌≤◌};
+ghost use Rattle.std.specs.Prelude.{IsTrue, List, [], length, ℕ, ◌++◌, ◌+◌, ◌-◌, ◌<◌, ◌∷◌, ◌≡◌, ◌≤◌};
 ghost use Rattle.bk_word.specs.Outline.{has_left_wall, open_side, valley_place};
 ghost use Rattle.bk_word.specs.Play.{IsLegal, outline_of};
 ghost use Rattle.bk_word.specs.Word.{Move as SeenMove, Word as Moves, order_of};
 ghost use Rattle.bk_word.specs.declared.Sign.{Sign as SeenSign};
-ghost use Rattle.bk_word.specs.declared.Sign.TheVariants.{Above, Even, Under};
+ghost use Rattle.bk_word.specs.declared.Sign.TheVariants.{Even, Under};
 ghost use Rattle.bk_free_search.specs.Apart.{IsCountedTo};
-ghost use Rattle.bk_free_search.specs.Asking.{AreAskedBefore, AreFewAsks, AreMarks, IsAsked, IsNext, IsOver, StandBeside};
+ghost use Rattle.bk_free_search.specs.Asking.{AreAskedBefore, AreFewAsks, AreFewBefore, AreMarks, AreNeeds, IsAsked, IsNext, IsOver, NeedsLeft, StandBeside};
 ghost use Rattle.bk_free_search.specs.Strong.{IsFew, seen_passed};
 
 use crate::ahead::{Ahead, look_ahead};
@@ -29,20 +29,32 @@ pub(crate) struct Beside {
     pub(crate) before: Before,
     pub(crate) behind: Behind,
     pub(crate) ahead: Ahead,
+    pub(crate) needs: Needs,
 }
 
 /// What is asked for before the first sign of a next move, and with the sign even or under at a left neighbour. (Own.)
 #[derive(Clone, Copy, Drop)]
 pub(crate) struct Before {
     pub(crate) none: Asked,
-    even: Asked,
-    under: Asked,
+    pub(crate) even: Asked,
+    pub(crate) under: Asked,
 }
 
-/// Of a next move of some count: how many signs it has, and how many squares are left after it. (Own.)
+/// How many squares must be left after the next move at least, by what is asked for before its first sign, and with the sign even or under at a left
+/// neighbour. (Own.)
+#[derive(Clone, Copy, Drop)]
+pub(crate) struct Needs {
+    pub(crate) none: usize,
+    pub(crate) even: usize,
+    pub(crate) under: usize,
+}
+
+/// Of a next move of some count: how many signs it has, how many of them without that at a right neighbour, and how many squares are left after
+/// it. (Own.)
 #[derive(Clone, Copy, Default, Drop)]
 pub(crate) struct Next {
     pub(crate) wanted: u8,
+    pub(crate) own: u8,
     pub(crate) left: usize,
 }
 
@@ -63,12 +75,29 @@ pub(crate) fn stand_beside(board: &Board, order: u8) -> Beside
     let left_wall = place == 0;
     let right_wall = place == signs.len();
     let marks = marks_of(board);
+    let before = before_valley(board, marks, place);
+    let behind = behind_valley(board, marks, place);
+    let ahead = look_ahead(board, order, left_wall, right_wall);
     Beside {
         left_wall,
         right_wall,
-        before: before_valley(board, marks, place),
-        behind: behind_valley(board, marks, place),
-        ahead: look_ahead(board, order, left_wall, right_wall),
+        before,
+        behind,
+        ahead,
+        needs: needs_of(&before, &behind, ahead.moves),
+    }
+}
+
+// How many squares must be left after the next move at least, where so many moves are.
+fn needs_of(before: &Before, behind: &Behind, moves: usize) -> Needs
+    requires before { AreFewBefore before.now }
+    requires behind { AreFewAsks behind.now.even 450 }
+    ensures { AreNeeds before.now behind.now moves result }
+{
+    Needs {
+        none: least_left(&before.none.passed, &behind.even, moves),
+        even: least_left(&before.even.passed, &behind.even, moves),
+        under: least_left(&before.under.passed, &behind.even, moves),
     }
 }
 
@@ -77,7 +106,8 @@ fn before_valley(board: &Board, marks: LineSet, place: usize) -> Before
     requires few { order_of board.now ≤ 16 }
     requires marks { AreMarks board.now marks }
     requires place { place ≡ valley_place (outline_of board.now).signs }
-    ensures { AreAskedBefore board.now result }
+    ensures asked { AreAskedBefore board.now result }
+    ensures few { AreFewBefore result }
 {
     if place == 0 {
         let none = Asked {
@@ -106,28 +136,22 @@ pub(crate) fn next_of(beside: &Beside, count: u8, left: usize) -> Next
     ensures { (order : ℕ) (front : Moves) → StandBeside order front beside.now → left ≡ order - order_of front - count
         → IsNext order front count result }
 {
+    let own = count - 1 + open_side(beside.left_wall) as u8;
     Next {
-        wanted: count - 1 + open_side(beside.left_wall) as u8 + open_side(beside.right_wall) as u8,
+        wanted: own + open_side(beside.right_wall) as u8,
+        own,
         left,
     }
 }
 
-/// What is asked for with one sign more, the first one of the move or not, where a first one isn't above at a left neighbour.
+/// What is asked for with one sign more, behind one of the move's own squares.
 #[inline(always)]
-pub(crate) fn asked_with(beside: &Beside, asked: &Asked, first: bool, sign: Sign) -> Asked
+pub(crate) fn asked_with(asked: &Asked, sign: Sign) -> Asked
     requires few { IsFew asked.now.passed 3000 }
     requires evens { asked.now.evens ≤ 1000 }
-    ensures { (n : ℕ) (front : Moves) (signs : List SeenSign) → StandBeside n front beside.now → IsAsked front signs asked.now
-        → (first ≡ true → signs ≡ []) → (first ≡ false → 0 < length signs)
-        → (first ≡ true → has_left_wall (outline_of front) ≡ false → sign ≡ Above → ⊥) → IsAsked front (signs ++ sign ∷ []) result }
+    ensures { (front : Moves) (signs : List SeenSign) → IsAsked front signs asked.now → open_side (has_left_wall (outline_of front)) ≤ length signs
+        → IsAsked front (signs ++ sign ∷ []) result }
 {
-    if first && !beside.left_wall {
-        return if sign.is_even() {
-            beside.before.even
-        } else {
-            beside.before.under
-        };
-    }
     Asked {
         passed: past_one(asked.passed, sign, false),
         evens: asked.evens + one_if(sign.is_even()),
@@ -146,6 +170,21 @@ pub(crate) fn is_over(passed: &Passed, asks: &Asks, moves: usize, left: usize) -
         return true;
     }
     left < most + passed.more + asks.more
+}
+
+// How many squares must be left at least, for the segments up to a place and those behind: more than there ever are where they ask for more moves
+// than are left.
+#[inline]
+fn least_left(passed: &Passed, asks: &Asks, moves: usize) -> usize
+    requires few { IsFew passed.now 3000 }
+    requires small { AreFewAsks asks.now 3000 }
+    ensures { NeedsLeft passed.now asks.now moves result }
+{
+    let most = (passed.most + asks.add).max(passed.aboves + asks.most);
+    if most > moves {
+        return 1000;
+    }
+    most + passed.more + asks.more
 }
 
 // What is counted over so many segments, all before the one before the valley.

@@ -1,7 +1,7 @@
-//! Words that are played and taken back by the search, with the lines at the left of their squares.
+//! Words that are played by the search, with the lines at the left and the right of their squares.
 #![tactic(auto)]
 
-ghost use Rattle.std.specs.Prelude.{IsTrue, [], cond, length, nat_eq, take, true, ◌++◌, ◌+◌, ◌-◌, ◌<◌, ◌∷◌, ◌≡◌, ◌≤◌};
+ghost use Rattle.std.specs.Prelude.{IsTrue, [], cond, nat_eq, ◌++◌, ◌+◌, ◌<◌, ◌∷◌, ◌≡◌, ◌≤◌};
 ghost use Rattle.bk_word.specs.Outline.{IsLegalMove};
 ghost use Rattle.bk_word.specs.Play.{IsLegal, outline_of};
 ghost use Rattle.bk_word.specs.Word.{order_of};
@@ -11,25 +11,28 @@ ghost use Rattle.bk_normal_cuts.specs.WordNumbers.{counts_of_word, first_count};
 ghost use Rattle.bk_free_search.specs.Rights.{rights_of};
 ghost use Rattle.bk_free_search.specs.SeenCounts.{seen_counts};
 
-use crate::counts::{Counts, times};
+use crate::counts::Counts;
 use crate::line_set::LineSet;
 use crate::node_lines::{has_both, node_lines};
 use crate::sides::{left_of, left_of_first, push_lefts, push_rights, right_of, right_of_last};
-use arrayvec::ArrayVec;
-use bk_skel::Skel;
-use bk_word::{LARGEST_ORDER, Move};
+use bk_short::Short;
+use bk_skel::SmallSkel;
+use bk_word::{INLINE_ORDER, Move};
 use std::marker::Model;
 
-/// A skeleton, of each of its squares the numbers of the lines at its left and its right edge, of each closed node the lines that
-/// it touches, and how many squares the first move hangs. Line 0 is the left wall, 1 the right one, and k + 2 that between the
-/// square at place k, in the order of hanging from 0, and the next of its move. It is seen as the list of its moves. (Own.)
+/// A skeleton of at most 16 squares, of each of its squares the numbers of the lines at its left and its right edge, of each closed
+/// node the lines that it touches, how many squares the first move hangs, and how many lie at each wall. Line 0 is the left wall, 1
+/// the right one, and k + 2 that between the square at place k, in the order of hanging from 0, and the next of its move. It is seen
+/// as the list of its moves. (Own.)
 #[derive(Drop)]
 pub struct Board {
-    skel: Skel,
-    lefts: ArrayVec<u8, LARGEST_ORDER>,
-    rights: ArrayVec<u8, LARGEST_ORDER>,
-    nodes: ArrayVec<LineSet, LARGEST_ORDER>,
+    skel: SmallSkel,
+    lefts: Short<u8, INLINE_ORDER>,
+    rights: Short<u8, INLINE_ORDER>,
+    nodes: Short<LineSet, INLINE_ORDER>,
     first: u8,
+    left: u8,
+    right: u8,
 }
 
 impl Model for Board {
@@ -40,7 +43,7 @@ impl Model for Board {
 
     ghost view = { λ s. s.skel };
 
-    ghost invariant = { λ s. IsBoardOf s.skel s.lefts.items s.rights.items s.nodes.items s.first };
+    ghost invariant = { λ s. IsBoardOf s.skel s.lefts.items s.rights.items s.nodes.items s.first s.left s.right };
 }
 
 impl Board {
@@ -49,16 +52,34 @@ impl Board {
         ensures { result ≡ [] }
     {
         Board {
-            skel: Skel::new(),
-            lefts: ArrayVec::new(),
-            rights: ArrayVec::new(),
-            nodes: ArrayVec::new(),
+            skel: SmallSkel::new(),
+            lefts: Short::new(),
+            rights: Short::new(),
+            nodes: Short::new(),
             first: 0,
+            left: 0,
+            right: 0,
+        }
+    }
+
+    /// A board of the same moves.
+    #[inline]
+    pub(crate) fn copied(&self) -> Board
+        ensures { result ≡ self.now }
+    {
+        Board {
+            skel: self.skel.copied(),
+            lefts: self.lefts,
+            rights: self.rights,
+            nodes: self.nodes,
+            first: self.first,
+            left: self.left,
+            right: self.right,
         }
     }
 
     /// The skeleton, for reading.
-    pub fn skel(&self) -> &Skel
+    pub fn skel(&self) -> &SmallSkel
         ensures value { result.now ≡ self.now }
         ensures legal { IsLegal result.now }
     {
@@ -83,11 +104,7 @@ impl Board {
     pub(crate) fn first(&self) -> u8
         ensures { result ≡ first_count self.now }
     {
-        if self.skel.moves() == 0 {
-            0
-        } else {
-            self.first
-        }
+        self.first
     }
 
     /// How many squares and moves there are, and how many squares hang from the top, stand in the first open segment, which is the last
@@ -98,10 +115,10 @@ impl Board {
         Counts {
             squares: self.skel.order() as u8,
             moves: self.skel.moves() as u8,
-            top: self.first(),
+            top: self.first,
             bottom: self.skel.sizes()[0],
-            left: times(&self.lefts, 0),
-            right: times(&self.rights, 1),
+            left: self.left,
+            right: self.right,
         }
     }
 
@@ -109,28 +126,28 @@ impl Board {
     pub(crate) fn left_of(&self, square: u8) -> u8
         ensures { result ≡ (sides_at (sides_of self.now) square).0 }
     {
-        left_of(&self.lefts, square)
+        left_of(self.lefts.as_slice(), square)
     }
 
     /// The line at the right of the square of this number, from 1.
     pub(crate) fn right_of(&self, square: u8) -> u8
         ensures { result ≡ (sides_at (sides_of self.now) square).1 }
     {
-        right_of(&self.rights, square)
+        right_of(self.rights.as_slice(), square)
     }
 
     /// The line at the left of the first of these squares: the left wall where there are none.
     pub(crate) fn left_end(&self, squares: &[u8]) -> u8
         ensures { result ≡ left_end (sides_of self.now) squares.now }
     {
-        left_of_first(&self.lefts, squares)
+        left_of_first(self.lefts.as_slice(), squares)
     }
 
     /// The line at the right of the last of them: the right wall where there are none.
     pub(crate) fn right_end(&self, squares: &[u8]) -> u8
         ensures { result ≡ right_end (sides_of self.now) squares.now }
     {
-        right_of_last(&self.rights, squares)
+        right_of_last(self.rights.as_slice(), squares)
     }
 
     /// Whether these two lines touch one closed node. The two walls don't count.
@@ -140,36 +157,33 @@ impl Board {
         if left == 0 && right == 1 {
             return false;
         }
-        has_both(&self.nodes, left, right)
+        has_both(self.nodes.as_slice(), left, right)
     }
 
-    /// Plays a move, which must be legal, with at most 200 squares then.
+    /// Plays a move, which must be legal, with at most 16 squares then.
     pub fn push(&mut self, m: &Move)
         requires legal { IsLegalMove (outline_of self.old) m.now }
-        requires few { order_of self.old + m.now.count ≤ 200 }
+        requires few { order_of self.old + m.now.count ≤ 16 }
         ensures { self.new ≡ self.old ++ m.now ∷ [] }
     {
         let squares = self.skel.valley_squares();
-        let first = left_of_first(&self.lefts, squares);
+        let first = left_of_first(self.lefts.as_slice(), squares);
+        let last = right_of_last(self.rights.as_slice(), squares);
         let behind = self.skel.order() as u8;
         push_lefts(&mut self.lefts, first, behind, m.count);
-        let last = right_of_last(&self.rights, squares);
         push_rights(&mut self.rights, last, behind, m.count);
-        let lines = node_lines(&self.lefts, &self.rights, squares, behind, m.count);
+        let lines = node_lines(
+            self.lefts.as_slice(),
+            self.rights.as_slice(),
+            squares,
+            behind,
+            m.count,
+        );
         self.nodes.push(lines);
         self.first = first_after(self.first, behind, m.count);
+        self.left = at_wall_after(self.left, first, 0);
+        self.right = at_wall_after(self.right, last, 1);
         self.skel.play(m);
-    }
-
-    /// Takes the last move back. There must be one.
-    pub fn pop(&mut self)
-        requires { 0 < length self.old }
-        ensures { self.new ≡ take (length self.old - 1) self.old }
-    {
-        self.skel.pop();
-        self.lefts.truncate(self.skel.order());
-        self.rights.truncate(self.skel.order());
-        self.nodes.truncate(self.skel.moves());
     }
 }
 
@@ -178,4 +192,12 @@ fn first_after(first: u8, hung: u8, count: u8) -> u8
     ensures { result ≡ cond (nat_eq hung 0) count first }
 {
     if hung == 0 { count } else { first }
+}
+
+// How many squares lie at a wall, which is this line, after a move whose square nearest to it lies at a line.
+fn at_wall_after(hung: u8, line: u8, wall: u8) -> u8
+    requires { hung < 255 }
+    ensures { result ≡ hung + cond (nat_eq line wall) 1 0 }
+{
+    if line == wall { hung + 1 } else { hung }
 }

@@ -1,6 +1,6 @@
 //! How many squares a word has, in all and at each side.
 
-ghost use Rattle.std.specs.Prelude.{cond, count_by, length, ◌==◌, ◌≡◌, ◌≤◌};
+ghost use Rattle.std.specs.Prelude.{cond, ◌≡◌};
 
 /// How many squares and moves a word has, how many squares hang from the top and stand in its first open segment, and how many
 /// lie at each wall.
@@ -12,14 +12,6 @@ pub struct Counts {
     pub bottom: u8,
     pub left: u8,
     pub right: u8,
-}
-
-/// How many of the lines are this one.
-pub(crate) fn times(lines: &[u8], line: u8) -> u8
-    requires { length lines.now ≤ 200 }
-    ensures { result ≡ count_by (λ l. l == line) lines.now }
-{
-    lines.iter().filter(|l| **l == line).count() as u8
 }
 
 /// One where it holds, else none.

@@ -2,12 +2,14 @@
 #![tactic(auto)]
 
 mod ahead;
+mod all_under;
 mod asking;
 mod behind;
 mod board;
 mod counts;
 mod cuts;
 mod joining;
+mod last_square;
 mod line_set;
 mod marks;
 mod node_lines;

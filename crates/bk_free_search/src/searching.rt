@@ -1,20 +1,21 @@
 //! The search through all words of an order that have no barren beginning.
 
-ghost use Rattle.std.specs.Prelude.{List, [], length, ℕ, ◌++◌, ◌+◌, ◌-◌, ◌<◌, ◌∷◌, ◌≡◌, ◌≤◌};
-ghost use Rattle.bk_word.specs.Outline.{IsLegalMove};
+ghost use Rattle.std.specs.Prelude.{[], false, length, true, ℕ, ◌++◌, ◌+◌, ◌-◌, ◌<◌, ◌∷◌, ◌≡◌, ◌≤◌};
+ghost use Rattle.bk_word.specs.Outline.{IsLegalMove, has_left_wall, open_side};
 ghost use Rattle.bk_word.specs.Play.{IsComplete, outline_of};
 ghost use Rattle.bk_word.specs.Word.{Word as Moves, order_of};
 ghost use Rattle.bk_normal_cuts.specs.NormalImage.{IsNormalSought};
-ghost use Rattle.bk_word.specs.declared.Sign.{Sign as SeenSign};
-ghost use Rattle.bk_free_search.specs.Asking.{IsAsked, IsBegun, IsNext, StandBeside};
+ghost use Rattle.bk_word.specs.declared.Sign.TheVariants.{Above};
+ghost use Rattle.bk_free_search.specs.Asking.{IsAsked, IsBegun, NeedsLeft};
 ghost use Rattle.bk_free_search.specs.Sought.{GoesOn, GoesOnBy};
 
-use crate::asking::{Asked, Beside, Next, next_of};
+use crate::asking::{Asked, Beside, asked_with};
 use crate::board::Board;
-use crate::cuts::least_count;
-use crate::state::{Begun, Search};
-use arrayvec::ArrayVec;
-use bk_word::{Move, Sign};
+use crate::cuts::{bars_above, least_count};
+use crate::last_square::last_move;
+use crate::questions::{asks_too_much, asks_too_much_then, lacks_even, needs_left_even};
+use crate::state::{Begun, Search, begin, not_begun, pop_sign, push_sign};
+use bk_word::Sign;
 
 /// What is done with the complete words that a search meets.
 pub trait Leaves {
@@ -67,22 +68,48 @@ impl Search {
         ensures board { self.new.board ≡ self.old.board }
         ensures order { self.new.order ≡ self.old.order }
     {
-        if self.board.skel().order() == usize::from(self.order) {
-            if self.bars_word() {
-                return;
-            }
+        let hung = self.board.skel().order();
+        if hung == usize::from(self.order) {
             meet_closed(&self.board, leaves);
+            return;
+        }
+        if hung + 1 == usize::from(self.order) {
+            self.with_last_square(leaves);
             return;
         }
         self.with_counts(leaves);
     }
 
-    // Meets all that go on from the board's moves.
+    // Meets those that go on by one square more, the last one.
+    #[cycle(search)]
+    fn with_last_square<S: Leaves>(&mut self, leaves: &mut S)
+        requires least { 3 ≤ self.old.order }
+        requires most { self.old.order ≤ 16 }
+        requires one { order_of self.old.board + 1 ≡ self.old.order }
+        ensures all { (w : Moves) → IsNormalSought self.old.order w → GoesOn self.old.board w → S.has_met leaves.new w }
+        ensures kept { (w : Moves) → S.has_met leaves.old w → S.has_met leaves.new w }
+        ensures fixed { S.fixed leaves.new ≡ S.fixed leaves.old }
+        ensures board { self.new.board ≡ self.old.board }
+        ensures order { self.new.order ≡ self.old.order }
+    {
+        let last = match last_move(&self.board, self.order) {
+            Some(last) => last,
+            None => return,
+        };
+        let mut next = Search {
+            board: self.board.copied(),
+            order: self.order,
+        };
+        next.board.push(&last);
+        next.go_on(leaves);
+    }
+
+    // Meets all that go on from the board's moves, where two squares or more are left. The next move doesn't hang them all.
     #[cycle(search)]
     fn with_counts<S: Leaves>(&mut self, leaves: &mut S)
         requires least { 3 ≤ self.old.order }
         requires most { self.old.order ≤ 16 }
-        requires few { order_of self.old.board < self.old.order }
+        requires few { order_of self.old.board + 1 < self.old.order }
         ensures all { (w : Moves) → IsNormalSought self.old.order w → GoesOn self.old.board w → S.has_met leaves.new w }
         ensures kept { (w : Moves) → S.has_met leaves.old w → S.has_met leaves.new w }
         ensures fixed { S.fixed leaves.new ≡ S.fixed leaves.old }
@@ -95,23 +122,19 @@ impl Search {
         };
         let left = self.order - self.board.skel().order() as u8;
         let mut begun = not_begun();
-        'counts: for count in least_count(self.board.skel())..left + 1 {
+        'counts: for count in least_count(self.board.skel())..left {
             begin(&mut begun, &around, count, usize::from(left - count));
-            self.with_signs(&mut begun, &around, &around.before.none, leaves);
+            self.with_left(&mut begun, &around, leaves);
         }
     }
 
-    // Meets those that go on by a move that begins so.
+    // Meets those that go on by a move of the count. The sign at a left neighbour is even or under.
     #[cycle(search)]
-    fn with_signs<S: Leaves>(
-        &mut self,
-        begun: &mut Begun,
-        around: &Beside,
-        asked: &Asked,
-        leaves: &mut S,
-    )
+    #[inline(always)]
+    fn with_left<S: Leaves>(&mut self, begun: &mut Begun, around: &Beside, leaves: &mut S)
         requires begun { IsBegun self.old.order self.old.board begun.old.m begun.old.next around.now }
-        requires asked { IsAsked self.old.board begun.old.m.signs asked.now }
+        requires left { 0 < begun.old.next.left }
+        requires none { begun.old.m.signs ≡ [] }
         ensures all { (w : Moves) → IsNormalSought self.old.order w → GoesOnBy self.old.board begun.old.m.count begun.old.m.signs w → S.has_met leaves.new w }
         ensures kept { (w : Moves) → S.has_met leaves.old w → S.has_met leaves.new w }
         ensures fixed { S.fixed leaves.new ≡ S.fixed leaves.old }
@@ -120,16 +143,180 @@ impl Search {
         ensures same { begun.new.m ≡ begun.old.m }
         ensures next { begun.new.next ≡ begun.old.next }
     {
-        if begun.m.signs.len() == usize::from(begun.next.wanted) {
-            self.with_move(begun, leaves);
+        if around.left_wall {
+            self.with_left_wall(begun, around, leaves);
             return;
         }
-        self.with_sign(begun, around, asked, Sign::Above, leaves);
-        self.with_sign(begun, around, asked, Sign::Even, leaves);
-        self.with_sign(begun, around, asked, Sign::Under, leaves);
+        let before = &around.before;
+        self.with_first(
+            begun,
+            around,
+            &before.even,
+            around.needs.even,
+            Sign::Even,
+            leaves,
+        );
+        if needs_left_even(around) {
+            return;
+        }
+        self.with_first(
+            begun,
+            around,
+            &before.under,
+            around.needs.under,
+            Sign::Under,
+            leaves,
+        );
     }
 
-    // And those whose next sign is this. It is written out for each sign, so that what bars one is known there.
+    // At the left wall there is none.
+    #[cycle(search)]
+    #[inline(always)]
+    fn with_left_wall<S: Leaves>(&mut self, begun: &mut Begun, around: &Beside, leaves: &mut S)
+        requires begun { IsBegun self.old.order self.old.board begun.old.m begun.old.next around.now }
+        requires left { 0 < begun.old.next.left }
+        requires none { begun.old.m.signs ≡ [] }
+        requires wall { has_left_wall (outline_of self.old.board) ≡ true }
+        ensures all { (w : Moves) → IsNormalSought self.old.order w → GoesOnBy self.old.board begun.old.m.count begun.old.m.signs w → S.has_met leaves.new w }
+        ensures kept { (w : Moves) → S.has_met leaves.old w → S.has_met leaves.new w }
+        ensures fixed { S.fixed leaves.new ≡ S.fixed leaves.old }
+        ensures board { self.new.board ≡ self.old.board }
+        ensures order { self.new.order ≡ self.old.order }
+        ensures same { begun.new.m ≡ begun.old.m }
+        ensures next { begun.new.next ≡ begun.old.next }
+    {
+        if begun.next.left < around.needs.none {
+            return;
+        }
+        self.with_own(begun, around, &around.before.none, leaves);
+    }
+
+    // Meets those whose sign at a left neighbour is this, for which so many squares must be left.
+    #[cycle(search)]
+    #[inline(always)]
+    fn with_first<S: Leaves>(
+        &mut self,
+        begun: &mut Begun,
+        around: &Beside,
+        asked: &Asked,
+        need: usize,
+        sign: Sign,
+        leaves: &mut S,
+    )
+        requires begun { IsBegun self.old.order self.old.board begun.old.m begun.old.next around.now }
+        requires left { 0 < begun.old.next.left }
+        requires none { begun.old.m.signs ≡ [] }
+        requires apart { has_left_wall (outline_of self.old.board) ≡ false }
+        requires asked { IsAsked self.old.board (sign ∷ []) asked.now }
+        requires need { NeedsLeft asked.now.passed around.now.behind.even around.now.ahead.moves need }
+        ensures all { (w : Moves) → IsNormalSought self.old.order w
+            → GoesOnBy self.old.board begun.old.m.count (begun.old.m.signs ++ sign ∷ []) w → S.has_met leaves.new w }
+        ensures kept { (w : Moves) → S.has_met leaves.old w → S.has_met leaves.new w }
+        ensures fixed { S.fixed leaves.new ≡ S.fixed leaves.old }
+        ensures board { self.new.board ≡ self.old.board }
+        ensures order { self.new.order ≡ self.old.order }
+        ensures same { begun.new.m ≡ begun.old.m }
+        ensures next { begun.new.next ≡ begun.old.next }
+    {
+        if begun.next.left < need {
+            return;
+        }
+        self.with_sign(begun, around, asked, sign, leaves);
+    }
+
+    // Meets those that go on by a move that begins so, with the sign at a left neighbour. The signs between its own squares are above or under.
+    #[cycle(search)]
+    fn with_own<S: Leaves>(
+        &mut self,
+        begun: &mut Begun,
+        around: &Beside,
+        asked: &Asked,
+        leaves: &mut S,
+    )
+        requires begun { IsBegun self.old.order self.old.board begun.old.m begun.old.next around.now }
+        requires left { 0 < begun.old.next.left }
+        requires asked { IsAsked self.old.board begun.old.m.signs asked.now }
+        requires from { open_side (has_left_wall (outline_of self.old.board)) ≤ length begun.old.m.signs }
+        requires own { length begun.old.m.signs ≤ begun.old.next.own }
+        ensures all { (w : Moves) → IsNormalSought self.old.order w → GoesOnBy self.old.board begun.old.m.count begun.old.m.signs w → S.has_met leaves.new w }
+        ensures kept { (w : Moves) → S.has_met leaves.old w → S.has_met leaves.new w }
+        ensures fixed { S.fixed leaves.new ≡ S.fixed leaves.old }
+        ensures board { self.new.board ≡ self.old.board }
+        ensures order { self.new.order ≡ self.old.order }
+        ensures same { begun.new.m ≡ begun.old.m }
+        ensures next { begun.new.next ≡ begun.old.next }
+    {
+        if begun.m.signs.len() == usize::from(begun.next.own) {
+            self.with_right(begun, around, asked, leaves);
+            return;
+        }
+        self.with_above(begun, around, asked, leaves);
+        self.with_more(begun, around, asked, Sign::Under, leaves);
+    }
+
+    // Of these those with the sign above, which rule R bars behind the sign even alone.
+    #[cycle(search)]
+    #[inline(always)]
+    fn with_above<S: Leaves>(
+        &mut self,
+        begun: &mut Begun,
+        around: &Beside,
+        asked: &Asked,
+        leaves: &mut S,
+    )
+        requires begun { IsBegun self.old.order self.old.board begun.old.m begun.old.next around.now }
+        requires left { 0 < begun.old.next.left }
+        requires asked { IsAsked self.old.board begun.old.m.signs asked.now }
+        requires from { open_side (has_left_wall (outline_of self.old.board)) ≤ length begun.old.m.signs }
+        requires own { length begun.old.m.signs + 1 ≤ begun.old.next.own }
+        ensures all { (w : Moves) → IsNormalSought self.old.order w
+            → GoesOnBy self.old.board begun.old.m.count (begun.old.m.signs ++ Above ∷ []) w → S.has_met leaves.new w }
+        ensures kept { (w : Moves) → S.has_met leaves.old w → S.has_met leaves.new w }
+        ensures fixed { S.fixed leaves.new ≡ S.fixed leaves.old }
+        ensures board { self.new.board ≡ self.old.board }
+        ensures order { self.new.order ≡ self.old.order }
+        ensures same { begun.new.m ≡ begun.old.m }
+        ensures next { begun.new.next ≡ begun.old.next }
+    {
+        if bars_above(&begun.m, asked) {
+            return;
+        }
+        self.with_more(begun, around, asked, Sign::Above, leaves);
+    }
+
+    // And those whose next sign, between two of the move's own squares, is this.
+    #[cycle(search)]
+    #[inline(always)]
+    fn with_more<S: Leaves>(
+        &mut self,
+        begun: &mut Begun,
+        around: &Beside,
+        asked: &Asked,
+        sign: Sign,
+        leaves: &mut S,
+    )
+        requires begun { IsBegun self.old.order self.old.board begun.old.m begun.old.next around.now }
+        requires left { 0 < begun.old.next.left }
+        requires asked { IsAsked self.old.board begun.old.m.signs asked.now }
+        requires from { open_side (has_left_wall (outline_of self.old.board)) ≤ length begun.old.m.signs }
+        requires own { length begun.old.m.signs + 1 ≤ begun.old.next.own }
+        ensures all { (w : Moves) → IsNormalSought self.old.order w
+            → GoesOnBy self.old.board begun.old.m.count (begun.old.m.signs ++ sign ∷ []) w → S.has_met leaves.new w }
+        ensures kept { (w : Moves) → S.has_met leaves.old w → S.has_met leaves.new w }
+        ensures fixed { S.fixed leaves.new ≡ S.fixed leaves.old }
+        ensures board { self.new.board ≡ self.old.board }
+        ensures order { self.new.order ≡ self.old.order }
+        ensures same { begun.new.m ≡ begun.old.m }
+        ensures next { begun.new.next ≡ begun.old.next }
+    {
+        let more = asked_with(asked, sign);
+        if asks_too_much(begun, around, &more) {
+            return;
+        }
+        self.with_sign(begun, around, &more, sign, leaves);
+    }
+
+    // Meets those whose next sign is this, and which go on to the move's own squares.
     #[cycle(search)]
     #[inline(always)]
     fn with_sign<S: Leaves>(
@@ -141,8 +328,9 @@ impl Search {
         leaves: &mut S,
     )
         requires begun { IsBegun self.old.order self.old.board begun.old.m begun.old.next around.now }
-        requires asked { IsAsked self.old.board begun.old.m.signs asked.now }
-        requires signs { length begun.old.m.signs + 1 ≤ begun.old.next.wanted }
+        requires left { 0 < begun.old.next.left }
+        requires asked { IsAsked self.old.board (begun.old.m.signs ++ sign ∷ []) asked.now }
+        requires own { length begun.old.m.signs + 1 ≤ begun.old.next.own }
         ensures all { (w : Moves) → IsNormalSought self.old.order w
             → GoesOnBy self.old.board begun.old.m.count (begun.old.m.signs ++ sign ∷ []) w → S.has_met leaves.new w }
         ensures kept { (w : Moves) → S.has_met leaves.old w → S.has_met leaves.new w }
@@ -152,12 +340,128 @@ impl Search {
         ensures same { begun.new.m ≡ begun.old.m }
         ensures next { begun.new.next ≡ begun.old.next }
     {
-        let more = match self.asked_with(begun, around, asked, sign) {
-            Some(more) => more,
-            None => return,
-        };
         push_sign(&mut begun.m, sign);
-        self.with_signs(begun, around, &more, leaves);
+        self.with_own(begun, around, asked, leaves);
+        pop_sign(&mut begun.m);
+    }
+
+    // Meets those that go on by a move that begins so, with all signs but one at a right neighbour.
+    #[cycle(search)]
+    #[inline(always)]
+    fn with_right<S: Leaves>(
+        &mut self,
+        begun: &mut Begun,
+        around: &Beside,
+        asked: &Asked,
+        leaves: &mut S,
+    )
+        requires begun { IsBegun self.old.order self.old.board begun.old.m begun.old.next around.now }
+        requires left { 0 < begun.old.next.left }
+        requires asked { IsAsked self.old.board begun.old.m.signs asked.now }
+        requires from { open_side (has_left_wall (outline_of self.old.board)) ≤ length begun.old.m.signs }
+        requires own { length begun.old.m.signs ≡ begun.old.next.own }
+        ensures all { (w : Moves) → IsNormalSought self.old.order w → GoesOnBy self.old.board begun.old.m.count begun.old.m.signs w → S.has_met leaves.new w }
+        ensures kept { (w : Moves) → S.has_met leaves.old w → S.has_met leaves.new w }
+        ensures fixed { S.fixed leaves.new ≡ S.fixed leaves.old }
+        ensures board { self.new.board ≡ self.old.board }
+        ensures order { self.new.order ≡ self.old.order }
+        ensures same { begun.new.m ≡ begun.old.m }
+        ensures next { begun.new.next ≡ begun.old.next }
+    {
+        if around.right_wall {
+            self.with_right_wall(begun, around, asked, leaves);
+            return;
+        }
+        self.with_whole(begun, around, Sign::Even, leaves);
+        if lacks_even(around, asked) {
+            return;
+        }
+        self.with_last(begun, around, asked, Sign::Above, leaves);
+        self.with_last(begun, around, asked, Sign::Under, leaves);
+    }
+
+    // At the right wall there is none.
+    #[cycle(search)]
+    #[inline(always)]
+    fn with_right_wall<S: Leaves>(
+        &mut self,
+        begun: &mut Begun,
+        around: &Beside,
+        asked: &Asked,
+        leaves: &mut S,
+    )
+        requires begun { IsBegun self.old.order self.old.board begun.old.m begun.old.next around.now }
+        requires left { 0 < begun.old.next.left }
+        requires asked { IsAsked self.old.board begun.old.m.signs asked.now }
+        requires whole { length begun.old.m.signs ≡ begun.old.next.wanted }
+        ensures all { (w : Moves) → IsNormalSought self.old.order w → GoesOnBy self.old.board begun.old.m.count begun.old.m.signs w → S.has_met leaves.new w }
+        ensures kept { (w : Moves) → S.has_met leaves.old w → S.has_met leaves.new w }
+        ensures fixed { S.fixed leaves.new ≡ S.fixed leaves.old }
+        ensures board { self.new.board ≡ self.old.board }
+        ensures order { self.new.order ≡ self.old.order }
+        ensures same { begun.new.m ≡ begun.old.m }
+        ensures next { begun.new.next ≡ begun.old.next }
+    {
+        if asks_too_much_then(begun, around, asked) {
+            return;
+        }
+        self.with_move(begun, leaves);
+    }
+
+    // And those whose sign at a right neighbour is this.
+    #[cycle(search)]
+    #[inline(always)]
+    fn with_last<S: Leaves>(
+        &mut self,
+        begun: &mut Begun,
+        around: &Beside,
+        asked: &Asked,
+        sign: Sign,
+        leaves: &mut S,
+    )
+        requires begun { IsBegun self.old.order self.old.board begun.old.m begun.old.next around.now }
+        requires left { 0 < begun.old.next.left }
+        requires asked { IsAsked self.old.board begun.old.m.signs asked.now }
+        requires from { open_side (has_left_wall (outline_of self.old.board)) ≤ length begun.old.m.signs }
+        requires last { length begun.old.m.signs + 1 ≡ begun.old.next.wanted }
+        ensures all { (w : Moves) → IsNormalSought self.old.order w
+            → GoesOnBy self.old.board begun.old.m.count (begun.old.m.signs ++ sign ∷ []) w → S.has_met leaves.new w }
+        ensures kept { (w : Moves) → S.has_met leaves.old w → S.has_met leaves.new w }
+        ensures fixed { S.fixed leaves.new ≡ S.fixed leaves.old }
+        ensures board { self.new.board ≡ self.old.board }
+        ensures order { self.new.order ≡ self.old.order }
+        ensures same { begun.new.m ≡ begun.old.m }
+        ensures next { begun.new.next ≡ begun.old.next }
+    {
+        if asks_too_much_then(begun, around, &asked_with(asked, sign)) {
+            return;
+        }
+        self.with_whole(begun, around, sign, leaves);
+    }
+
+    // Meets those whose last sign is this.
+    #[cycle(search)]
+    #[inline(always)]
+    fn with_whole<S: Leaves>(
+        &mut self,
+        begun: &mut Begun,
+        around: &Beside,
+        sign: Sign,
+        leaves: &mut S,
+    )
+        requires begun { IsBegun self.old.order self.old.board begun.old.m begun.old.next around.now }
+        requires last { length begun.old.m.signs + 1 ≡ begun.old.next.wanted }
+        ensures all { (w : Moves) → IsNormalSought self.old.order w
+            → GoesOnBy self.old.board begun.old.m.count (begun.old.m.signs ++ sign ∷ []) w → S.has_met leaves.new w }
+        ensures kept { (w : Moves) → S.has_met leaves.old w → S.has_met leaves.new w }
+        ensures fixed { S.fixed leaves.new ≡ S.fixed leaves.old }
+        ensures board { self.new.board ≡ self.old.board }
+        ensures order { self.new.order ≡ self.old.order }
+        ensures same { begun.new.m ≡ begun.old.m }
+        ensures next { begun.new.next ≡ begun.old.next }
+    {
+        push_sign(&mut begun.m, sign);
+        self.with_move(begun, leaves);
         pop_sign(&mut begun.m);
     }
 
@@ -166,7 +470,7 @@ impl Search {
     fn with_move<S: Leaves>(&mut self, begun: &Begun, leaves: &mut S)
         requires least { 3 ≤ self.old.order }
         requires most { self.old.order ≤ 16 }
-        requires few { order_of self.old.board + begun.now.m.count ≤ self.old.order }
+        requires few { order_of self.old.board + begun.now.m.count < self.old.order }
         requires legal { IsLegalMove (outline_of self.old.board) begun.now.m }
         ensures all { (w : Moves) → IsNormalSought self.old.order w → GoesOn (self.old.board ++ begun.now.m ∷ []) w → S.has_met leaves.new w }
         ensures kept { (w : Moves) → S.has_met leaves.old w → S.has_met leaves.new w }
@@ -177,9 +481,12 @@ impl Search {
         if self.bars_move(begun) {
             return;
         }
-        self.board.push(&begun.m);
-        self.go_on(leaves);
-        self.board.pop();
+        let mut next = Search {
+            board: self.board.copied(),
+            order: self.order,
+        };
+        next.board.push(&begun.m);
+        next.go_on(leaves);
     }
 }
 
@@ -194,50 +501,4 @@ fn meet_closed<S: Leaves>(board: &Board, leaves: &mut S)
     if board.skel().is_closed() {
         leaves.meet(board);
     }
-}
-
-// A move of no square.
-fn not_begun() -> Begun
-    ensures { result.m.signs ≡ [] }
-{
-    Begun {
-        m: Move {
-            count: 0,
-            signs: ArrayVec::new(),
-        },
-        next: Next::default(),
-    }
-}
-
-// Begins a next move of the count, after which so many squares are left.
-#[inline]
-fn begin(begun: &mut Begun, around: &Beside, count: u8, left: usize)
-    requires some { 0 < count }
-    requires few { count ≤ 16 }
-    ensures next { (order : ℕ) (front : Moves) → StandBeside order front around.now → left ≡ order - order_of front - count
-        → IsNext order front count begun.new.next }
-    ensures count { begun.new.m.count ≡ count }
-    ensures signs { begun.new.m.signs ≡ begun.old.m.signs }
-{
-    begun.m.count = count;
-    begun.next = next_of(around, count, left);
-}
-
-// The move with one sign more.
-#[inline(always)]
-fn push_sign(m: &mut Move, sign: Sign)
-    requires { length m.old.signs < 201 }
-    ensures count { m.new.count ≡ m.old.count }
-    ensures signs { m.new.signs ≡ m.old.signs ++ sign ∷ [] }
-{
-    m.signs.push(sign);
-}
-
-// The move without its last sign.
-#[inline(always)]
-fn pop_sign(m: &mut Move)
-    ensures count { m.new.count ≡ m.old.count }
-    ensures signs { (signs : List SeenSign) (sign : SeenSign) → m.old.signs ≡ signs ++ sign ∷ [] → m.new.signs ≡ signs }
-{
-    let _ = m.signs.pop();
 }

@@ -6,8 +6,8 @@ ghost use Rattle.bk_word.specs.Play.{numbers_from};
 ghost use Rattle.bk_free_search.specs.Lefts.{first_left};
 ghost use Rattle.bk_free_search.specs.Rights.{last_right};
 
-use arrayvec::ArrayVec;
-use bk_word::LARGEST_ORDER;
+use bk_short::Short;
+use bk_word::INLINE_ORDER;
 
 /// The line at the left of the first of the squares, by their numbers from 1: the left wall where there are none.
 pub(crate) fn left_of_first(lefts: &[u8], squares: &[u8]) -> u8
@@ -50,10 +50,10 @@ pub(crate) fn right_of(rights: &[u8], square: u8) -> u8
 }
 
 /// Appends the left lines of a move's squares, of which the first stands at a line, where so many squares were hung before.
-pub(crate) fn push_lefts(lefts: &mut ArrayVec<u8, LARGEST_ORDER>, first: u8, hung: u8, count: u8)
+pub(crate) fn push_lefts(lefts: &mut Short<u8, INLINE_ORDER>, first: u8, hung: u8, count: u8)
     requires some { 0 < count }
     requires few { hung + count ≤ 200 }
-    requires fits { length lefts.old.items + count ≤ 200 }
+    requires fits { length lefts.old.items + count ≤ 16 }
     ensures { lefts.new.items ≡ lefts.old.items ++ first ∷ numbers_from (hung + 2) (count - 1) }
 {
     lefts.push(first);
@@ -63,10 +63,10 @@ pub(crate) fn push_lefts(lefts: &mut ArrayVec<u8, LARGEST_ORDER>, first: u8, hun
 }
 
 /// Appends the right lines of a move's squares, of which the last one stands at a line, where so many squares were hung before.
-pub(crate) fn push_rights(rights: &mut ArrayVec<u8, LARGEST_ORDER>, last: u8, hung: u8, count: u8)
+pub(crate) fn push_rights(rights: &mut Short<u8, INLINE_ORDER>, last: u8, hung: u8, count: u8)
     requires some { 0 < count }
     requires few { hung + count ≤ 200 }
-    requires fits { length rights.old.items + count ≤ 200 }
+    requires fits { length rights.old.items + count ≤ 16 }
     ensures { rights.new.items ≡ rights.old.items ++ numbers_from (hung + 2) (count - 1) ++ last ∷ [] }
 {
     'others: for k in 1..count {

@@ -1,8 +1,14 @@
 //! What a search hands on.
 
-use crate::asking::Next;
+ghost use Rattle.std.specs.Prelude.{List, [], length, ℕ, ◌++◌, ◌-◌, ◌<◌, ◌∷◌, ◌≡◌, ◌≤◌};
+ghost use Rattle.bk_word.specs.Word.{Word as Moves, order_of};
+ghost use Rattle.bk_word.specs.declared.Sign.{Sign as SeenSign};
+ghost use Rattle.bk_free_search.specs.Asking.{IsNext, StandBeside};
+
+use crate::asking::{Beside, Next, next_of};
 use crate::board::Board;
-use bk_word::Move;
+use arrayvec::ArrayVec;
+use bk_word::{Move, Sign};
 
 /// A search for words of an order: the board on which it plays them. (Own.)
 #[derive(Drop)]
@@ -16,4 +22,50 @@ pub(crate) struct Search {
 pub(crate) struct Begun {
     pub(crate) m: Move,
     pub(crate) next: Next,
+}
+
+/// A move of no square.
+pub(crate) fn not_begun() -> Begun
+    ensures { result.m.signs ≡ [] }
+{
+    Begun {
+        m: Move {
+            count: 0,
+            signs: ArrayVec::new(),
+        },
+        next: Next::default(),
+    }
+}
+
+/// Begins a next move of the count, after which so many squares are left.
+#[inline]
+pub(crate) fn begin(begun: &mut Begun, around: &Beside, count: u8, left: usize)
+    requires some { 0 < count }
+    requires few { count ≤ 16 }
+    ensures next { (order : ℕ) (front : Moves) → StandBeside order front around.now → left ≡ order - order_of front - count
+        → IsNext order front count begun.new.next }
+    ensures count { begun.new.m.count ≡ count }
+    ensures signs { begun.new.m.signs ≡ begun.old.m.signs }
+{
+    begun.m.count = count;
+    begun.next = next_of(around, count, left);
+}
+
+/// The move with one sign more.
+#[inline(always)]
+pub(crate) fn push_sign(m: &mut Move, sign: Sign)
+    requires { length m.old.signs < 201 }
+    ensures count { m.new.count ≡ m.old.count }
+    ensures signs { m.new.signs ≡ m.old.signs ++ sign ∷ [] }
+{
+    m.signs.push(sign);
+}
+
+/// The move without its last sign.
+#[inline(always)]
+pub(crate) fn pop_sign(m: &mut Move)
+    ensures count { m.new.count ≡ m.old.count }
+    ensures signs { (signs : List SeenSign) (sign : SeenSign) → m.old.signs ≡ signs ++ sign ∷ [] → m.new.signs ≡ signs }
+{
+    let _ = m.signs.pop();
 }

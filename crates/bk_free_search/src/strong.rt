@@ -13,7 +13,7 @@ pub(crate) struct Passed {
     pub(crate) most: usize,
     pub(crate) aboves: usize,
     pub(crate) more: usize,
-    low: bool,
+    pub(crate) low: bool,
 }
 
 /// In front of the first segment nothing is counted.

@@ -151,7 +151,8 @@ module _ {State : Type 0} (rules : Entering State) (start s last : State) (l m n
       (subst (λ (i : ℕ). IsEntryStopped rules s i final b c stop) state.numbered
       (stopped_fronts rules stop s number (last_line kept) final b c fronts here)))
 
-verdict_ends : {State : Type 0} (rules : Entering State) (start last : State) (streams : Streams) (refused : Bool) → IsWhole (entries_of rules start last) streams refused
+verdict_ends : {State : Type 0} (rules : Entering State) (start last : State) (streams : Streams) (refused : Bool)
+    → IsWhole (entries_of rules start last) streams refused
     → EndsWith (entries_of rules start last) streams (verdict_of refused)
 verdict_ends rules start last streams true h = h
 verdict_ends rules start last streams false h = h

@@ -92,6 +92,15 @@ module _ (a b : Tiling) (width height : ℕ) (squares : List Square) (width' hei
         | inr f ↦ ap not f
       ]
 
+  -- with a side in common they don't join
+  pub common_refused : HaveCommonSide squares squares' → false ≡ are_pair a b
+  common_refused common = sym (test_of (are_pair a b) (are_pair a b ≡ true) (λ e. e) never)
+    where
+      never : are_pair a b ≡ true → ⊥
+      never e =
+          let parts = and_parts (can_be_laid a b) (no_twice (pair_sides a b)) e in
+          none_common a b (laid_to a b parts.0).size parts.1 (common_to common)
+
 -- where one of two doesn't stand apart, or they can't be laid together, they don't join
 pub not_joined : (a b : Tiling) → (stands_apart a ≡ false) ⊎ ((stands_apart b ≡ false) ⊎ (can_be_laid a b ≡ false)) → false ≡ are_pair a b
 not_joined a b why = sym (test_of (are_pair a b) (are_pair a b ≡ true) (λ e. e) (never why))

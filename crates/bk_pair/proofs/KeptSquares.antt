@@ -3,7 +3,7 @@ use Rattle.std.specs.List.{AllByRecursion}
 use Rattle.std.specs.List.Sorted.{IsPermutation}
 use Rattle.std.specs.Prelude.{Err, Ok, OnOk, Result, false}
 use Rattle.std.specs.Result.{is_err}
-use Rattle.std.proofs.Common.{Bool, List, [], arith, cond, count_by, length, refl, subst, sym, ℕ, ◌++◌, ◌<◌, ◌∙◌, ◌≡◌, ◌≤◌}
+use Rattle.std.proofs.Common.{Bool, List, [], arith, cond, count_by, length, refl, subst, sym, ℕ, ◌++◌, ◌<◌, ◌^◌, ◌∙◌, ◌≡◌, ◌≤◌}
 use Rattle.std.proofs.lemmas.Bool.{true≢false}
 use Rattle.std.proofs.lemmas.List.Elements.{All-from_recursion, recursion_from_All}
 use Rattle.std.proofs.lemmas.List.Sorted.{All-permutation, IsPermutation-sym, length_permutation, sum_by-IsPermutation}
@@ -16,7 +16,7 @@ use Rattle.bk_tiling.specs.Kept.{IsKept, IsSide}
 use Rattle.bk_tiling.specs.Refusal.{HaveSides, IsAccepted, ShareNoCell, sized}
 use Rattle.bk_tiling.specs.Tiling.{IsOneOf, IsWithin, Tiling, covers}
 use Rattle.bk_tiling.specs.declared.Square.{Square}
-use Rattle.bk_pair.specs.Kept.{AreAscending, IsKeptBySides, tiling_of}
+use Rattle.bk_pair.specs.Kept.{AreAscending, AreSidesOf, IsKeptBySides, tiling_of}
 use Rattle.bk_pair.specs.OwnSides.{stands_apart}
 
 -- what holds where a call went well
@@ -75,14 +75,16 @@ module _ (t : Tiling) (kept : IsKept t) (squares : List Square) (moved : IsPermu
 -- what is stored of a tiling is what is kept of it
 pub kept_by_sides : (t : Tiling) → IsKept t → (squares : List Square) → IsPermutation t.squares squares → AreAscending squares
     → (width height : ℕ) → width ≡ t.width → height ≡ t.height → (apart : Bool) → apart ≡ stands_apart (tiling_of width height squares)
-    → IsKeptBySides width height squares apart
-kept_by_sides t kept squares moved ascending width height wide high apart is = record {
+    → (small : ℕ) → small < 2 ^ 64 → AreSidesOf small squares → IsKeptBySides width height squares apart small
+kept_by_sides t kept squares moved ascending width height wide high apart is small few sides = record {
   accepted = subst (λ (w : ℕ). IsAccepted w height squares) (sym wide)
       (subst (λ (h : ℕ). IsAccepted t.width h squares) (sym high) (moved_accepted t kept squares moved));
   width_fits = omega (arith, wide, kept.width_fits);
   height_fits = omega (arith, high, kept.height_fits);
   ascending = ascending;
   apart_is = is;
+  small_fits = few;
+  small_sides = sides;
 }
 
 pub seen_as : (t : Tiling) → IsKept t → (squares : List Square) → IsPermutation t.squares squares → (width height : ℕ) → width ≡ t.width → height ≡ t.height
@@ -91,7 +93,8 @@ seen_as t kept squares moved width height wide high =
     (λ i. tiling_of (wide i) (high i) squares) ∙ moved_tiling t kept squares moved
 
 -- from what is stored the tiling is made again
-module _ (width height : ℕ) (squares : List Square) (apart : Bool) (stored : IsKeptBySides width height squares apart) where
+module _ (width height : ℕ) (squares : List Square) (apart : Bool) (small : ℕ)
+    (stored : IsKeptBySides width height squares apart small) where
   pub stored_sides : HaveSides squares
   stored_sides = All-from_recursion (λ (q : Square). IsSide q.s) squares stored.accepted.sides
 

@@ -5,4 +5,5 @@ pub mod PairTests
 pub mod OwnSides
 pub mod KeptSquares
 pub mod SideLoops
+pub mod SmallSides
 pub mod KeptPairs

@@ -1,7 +1,8 @@
 //! A tiling that is kept to be joined with others.
 
-ghost use Rattle.std.specs.Prelude.{IfOk, true, ◌↔◌, ◌≡◌};
-ghost use Rattle.bk_pair.specs.Kept.{AreAscending, IsKeptBySides, tiling_of};
+ghost use Rattle.std.specs.Int.{bit_at};
+ghost use Rattle.std.specs.Prelude.{IfOk, true, ℕ, ◌↔◌, ◌≡◌, ◌⊎◌};
+ghost use Rattle.bk_pair.specs.Kept.{AreAscending, AreSidesOf, IsKeptBySides, tiling_of};
 ghost use Rattle.bk_pair.specs.OwnSides.{HaveCommonSide, stands_apart};
 ghost use Rattle.bk_pair.specs.PairTest.{are_pair, can_be_laid};
 
@@ -11,14 +12,15 @@ use std::alloc::{AllocError, Global};
 use std::cmp::Ordering;
 use std::marker::Model;
 
-/// A tiling in a list of just its length, with its squares by their sides. So whether it joins with another one is soon told.
-/// It is seen as the tiling.
+/// A tiling in a list of just its length, with its squares by their sides, and its sides below 64 once more as the bits of a
+/// number. So whether it joins with another one is soon told. It is seen as the tiling.
 #[derive(Drop)]
 pub struct KeptTiling {
     width: u64,
     height: u64,
     squares: Vec<Square>,
     apart: bool,
+    small: u64,
 }
 
 impl Model for KeptTiling {
@@ -29,7 +31,7 @@ impl Model for KeptTiling {
 
     ghost view = { λ k. tiling_of k.width k.height k.squares.items };
 
-    ghost invariant = { λ k. IsKeptBySides k.width k.height k.squares.items k.apart };
+    ghost invariant = { λ k. IsKeptBySides k.width k.height k.squares.items k.apart k.small };
 }
 
 impl KeptTiling {
@@ -41,11 +43,13 @@ impl KeptTiling {
         squares.sort_unstable_by_key(|q| q.s);
         let (width, height) = (tiling.width(), tiling.height());
         let apart = stands_apart(width, height, squares.as_slice());
+        let small = small_sides(squares.as_slice());
         Ok(KeptTiling {
             width,
             height,
             squares,
             apart,
+            small,
         })
     }
 
@@ -95,6 +99,9 @@ impl KeptTiling {
     pub fn joins(&self, other: &KeptTiling) -> bool
         ensures { result ≡ are_pair self.now other.now }
     {
+        if self.small & other.small != 0 {
+            return false;
+        }
         if !self.apart || !other.apart || !self.can_be_laid(other) {
             return false;
         }
@@ -134,4 +141,22 @@ fn have_common_side(first: &[Square], second: &[Square]) -> bool
         }
     }
     false
+}
+
+// The sides below 64 of the squares, as the bits of a number.
+fn small_sides(squares: &[Square]) -> u64
+    ensures { AreSidesOf result squares.now }
+{
+    let mut small = 0;
+    for q in squares {
+        small = with_side(small, q.s);
+    }
+    small
+}
+
+// The number with the bit of a side more, if it has one.
+fn with_side(small: u64, side: u64) -> u64
+    ensures { (k : ℕ) → bit_at result k ≡ 1 → (k ≡ side) ⊎ (bit_at small k ≡ 1) }
+{
+    if side < 64 { small | 1 << side } else { small }
 }

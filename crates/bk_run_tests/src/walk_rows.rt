@@ -326,17 +326,16 @@ fn go_together<L: Ledger>(whole: &mut Walk, part: &mut Walk, steps: &mut Steps<L
     }
 }
 
-// The same for so many members of a walk of order 11 that begins here.
+// The same for eight members of a walk of order 11 that begins here.
 fn go_along<L: Ledger>(
     rt: &impl Abort,
     alloc: Global,
     whole: &mut Walk,
-    part: (Option<&str>, u8),
+    from: Option<&str>,
     steps: &mut Steps<L>,
 ) -> bool {
-    let (from, count) = part;
     let mut walk = walk_from(rt, alloc, 11, Class::Perfect, from);
-    for _ in 0..count {
+    for _ in 0..8 {
         if !go_together(whole, &mut walk, steps) {
             return false;
         }
@@ -344,26 +343,31 @@ fn go_along<L: Ledger>(
     true
 }
 
-// Where each of three parts of the order begins, and how many members it has.
-static PARTS_OF_11: [(Option<&str>, u8); 3] = [
-    (None, 8),
-    (Some(EIGHTH_OF_11), 8),
-    (Some(SIXTEENTH_OF_11), 6),
-];
-
-fn parts_of_order_11() -> &'static [(Option<&'static str>, u8)] {
-    &PARTS_OF_11
+// Goes on with two walks to the end; whether they give the same members and end together.
+fn end_together<L: Ledger>(whole: &mut Walk, part: &mut Walk, steps: &mut Steps<L>) -> bool {
+    for _ in 0..MOST_MEMBERS {
+        match next(whole, steps) {
+            Some(entry) => match next(part, steps) {
+                Some(same) if are_same(&entry, &same) => {}
+                _ => return false,
+            },
+            None => return is_over(part, steps),
+        }
+    }
+    false
 }
 
 // A whole walk of order 11, and one in three parts, each after the last member of the part before; whether they agree.
 fn parts_agree<L: Ledger>(rt: &impl Abort, alloc: Global, steps: &mut Steps<L>) -> bool {
     let mut whole = walk_from(rt, alloc, 11, Class::Perfect, None);
-    for part in parts_of_order_11() {
-        if !go_along(rt, alloc, &mut whole, *part, steps) {
-            return false;
-        }
+    if !go_along(rt, alloc, &mut whole, None, steps) {
+        return false;
     }
-    is_over(&mut whole, steps)
+    if !go_along(rt, alloc, &mut whole, Some(EIGHTH_OF_11), steps) {
+        return false;
+    }
+    let mut last = walk_from(rt, alloc, 11, Class::Perfect, Some(SIXTEENTH_OF_11));
+    end_together(&mut whole, &mut last, steps)
 }
 
 // How many moves a whole walk of order 9 pushes, and the parts of order 11.

@@ -3,6 +3,7 @@ pub mod SimpleTest
 pub mod SimpleExamples
 pub mod LargeExamples
 pub mod Counting
+pub mod TwoParts
 pub mod UncutParts
 pub mod PartCorners
 pub mod Parts

@@ -1,17 +1,14 @@
 -- Where no part begins with a square, by how far a rectangle can reach from its top left corner without cutting a square.
-use Rattle.std.specs.Prelude.{get_or, length, true, ℕ, ◌+◌, ◌<◌, ◌≡◌, ◌≢◌, ◌≤◌, ◌⊎◌}
+use Rattle.std.specs.Prelude.{get_or, length, ℕ, ◌+◌, ◌<◌, ◌≡◌, ◌≢◌, ◌≤◌, ◌⊎◌}
 use Rattle.std.proofs.Common.{arith, inl, inr, subst, sym}
-use Rattle.std.proofs.lemmas.Bool.{cases_eq, true_from_ne_false}
+use Rattle.std.proofs.lemmas.Bool.{cases_eq}
 use Rattle.bk_tiling.specs.Tiling.{IsTiling, Rectangle, Tiling}
 use Rattle.bk_tiling.proofs.OrderLaws.{before_level}
 use Rattle.bk_tiling.proofs.Places.{later_place}
 use Rattle.bk_tiling.specs.declared.Square.{Square}
-use Rattle.bk_simple.proofs.CornerOrder.{corners_apart}
-use Rattle.bk_simple.proofs.PartCorners.{bottom_right_at}
-use Rattle.bk_simple.proofs.Parts.{across, between_corners, bottom_right_below, uncut_part}
+use Rattle.bk_simple.proofs.Parts.{between_corners, bottom_right_below, uncut_part}
 use Rattle.bk_simple.proofs.PartTrials.{NoneBelow}
-use Rattle.bk_simple.proofs.UncutParts.{inside_means, side_at, within_at}
-use Rattle.bk_simple.specs.Border.{is_inside}
+use Rattle.bk_simple.proofs.UncutParts.{side_at, within_at}
 use Rattle.bk_simple.specs.Corners.{IsBetween}
 use Rattle.bk_simple.specs.Simple.{IsPart, bottom_right, top_left}
 use Rattle.bk_simple.specs.Reach.{NoneHigher, NoneWider}
@@ -40,30 +37,8 @@ module _ (t : Tiling) (tiling : IsTiling t) (i : ℕ) (d : Square) (right bottom
         down = higher r c.left c.top uncut (omega (arith, c.bottom, last.bottom));
       }
 
-  -- no part begins with square i where it reaches to both ends: this square would be the part
-  pub none_just : i < length t.squares → (right ≤ (at i).x + (at i).s) × (bottom ≤ (at i).y + (at i).s) → (r : Rectangle) → IsPart t r → top_left t r ≢ i
-  none_just few just r part first =
-      let c = corners r part first in
-      let far = reaches r part first in
-      let side = side_at t tiling i d few in
-      let inside : is_inside r (at i) ≡ true = true_from_ne_false (is_inside r (at i)) (λ cut. across t r tiling part i d few cut (record {
-        left = omega (arith, c.left, side);
-        right = omega (arith, c.left, c.wide);
-        top = omega (arith, c.top, side);
-        bottom = omega (arith, c.top, c.high);
-      })) in
-      let within = inside_means r (at i) inside in
-      let own : IsBetween (at i) (at i) r = record {
-        left = c.left;
-        top = c.top;
-        right = omega (arith, far.across, just.0, within.right);
-        bottom = omega (arith, far.down, just.1, within.bottom);
-        wide = c.wide;
-        high = c.high;
-      } in
-      omega (arith, first, corners_apart t r tiling part, bottom_right_at t tiling i d (at i) r few own)
-
-  -- nor where none ends before a square that begins at the level of the lower end, or below it: a later one ends still lower
+  -- no part begins with square i where none ends before a square that begins at the level of the lower end, or below it: a later one
+  -- ends still lower
   pub none_behind : (j : ℕ) → NoneBelow t i j → j < length t.squares → bottom ≤ (at j).y → (r : Rectangle) → IsPart t r → top_left t r ≢ i
   none_behind j below few low r part first = from (cases_eq (bottom_right t r) j)
     where

@@ -1,6 +1,7 @@
 //! Tests of a tiling: whether it is perfect, and whether it is simple.
 #![tactic(auto)]
 
+ghost use Rattle.std.specs.List.{All};
 ghost use Rattle.std.specs.List.Sorted.{IsNonDecreasing, IsPermutation};
 ghost use Rattle.std.specs.Prelude.{IfNone, IfSome, IsNone, IsSome, IsTrue, count_by, length, nat_le, ◌&&◌, ◌+◌, ◌<◌, ◌^◌, ◌||◌, ◌↔◌, ◌≡◌, ◌≢◌, ◌≤◌, ◌⊎◌};
 ghost use Rattle.bk_simple.specs.Border.{IsUncut, is_inside, is_outside, rectangle_of};
@@ -9,6 +10,7 @@ ghost use Rattle.bk_simple.specs.Neighbours.{IsFirstTwice, NoneTwice};
 ghost use Rattle.bk_simple.specs.Simple.{IsFirstPart, IsLeastRepeated, IsPart, IsPerfect, IsSimple, top_left};
 ghost use Rattle.bk_simple.specs.Corners.{IsFirstPartFrom, IsHeldBetween, IsPartAt};
 ghost use Rattle.bk_simple.specs.Reach.{NoneHigher, NoneWider, square_of};
+ghost use Rattle.bk_tiling.specs.Sharing.{EdgesFit};
 ghost use Rattle.bk_tiling.specs.Tiling.{Rectangle, sides_of};
 
 use arrayvec::ArrayVec;
@@ -85,12 +87,9 @@ fn part_from(tiling: &Tiling, i: usize) -> Option<SubRect>
     ensures first { IfSome result (λ r. IsFirstPartFrom tiling.now i (rectangle_of r)) }
 {
     let squares = tiling.squares();
-    let ends = (right_end(tiling, i), bottom_end(tiling, i));
-    if reaches_to(squares[i], ends) {
-        return None;
-    }
+    let ends = (right_end(tiling, i), tiling.height());
     for j in i + 1..tiling.order() {
-        if squares[j].y >= ends.1 {
+        if crosses(squares[j].x, squares[j].s, squares[i].x) {
             return None;
         }
         if let Some(found) = part_at(tiling, i, j, ends) {
@@ -98,14 +97,6 @@ fn part_from(tiling: &Tiling, i: usize) -> Option<SubRect>
         }
     }
     None
-}
-
-// Whether the square ends at a column or behind it, and at a level or below it.
-fn reaches_to(q: Square, ends: (u64, u64)) -> bool
-    requires fits { (q.x + q.s < 2 ^ 64) × (q.y + q.s < 2 ^ 64) }
-    ensures { IsTrue result ↔ ((ends.0 ≤ q.x + q.s) × (ends.1 ≤ q.y + q.s)) }
-{
-    ends.0 <= q.x + q.s && ends.1 <= q.y + q.s
 }
 
 // The column where the squares end that stand side by side from the square at place i on: no rectangle goes past it that begins at
@@ -124,21 +115,6 @@ fn right_end(tiling: &Tiling, i: usize) -> u64
         end += q.s;
     }
     end
-}
-
-// The top of the first square behind the one at place i that reaches across the column of its left edge, or the height: no
-// rectangle goes past it that begins at the top left corner of this square, and whose border cuts no square.
-fn bottom_end(tiling: &Tiling, i: usize) -> u64
-    requires { i < length tiling.now.squares }
-    ensures { NoneHigher tiling.now.squares (square_of tiling.now i) tiling.now.height result }
-{
-    let squares = tiling.squares();
-    for k in i + 1..tiling.order() {
-        if crosses(squares[k].x, squares[k].s, squares[i].x) {
-            return squares[k].y;
-        }
-    }
-    tiling.height()
 }
 
 // Whether the n numbers from a on begin before a number and go on past it.
@@ -160,7 +136,7 @@ fn part_at(tiling: &Tiling, i: usize, j: usize, ends: (u64, u64)) -> Option<SubR
 {
     let squares = tiling.squares();
     let tried = between(squares[i], squares[j], ends)?;
-    let inside = count_inside(tiling, &tried)?;
+    let inside = count_inside(tiling, i + 1, &tried)?;
     if inside >= 2 && inside < tiling.order() {
         Some(tried)
     } else {
@@ -196,14 +172,29 @@ fn goes_on(p: (u64, u64), q: (u64, u64), end: u64) -> bool
     p.0 <= q.0 && q.0 + q.1 <= end && p.0 + p.1 <= q.0 + q.1
 }
 
-// How many squares lie in the rectangle, where none lies across its border.
-fn count_inside(tiling: &Tiling, r: &SubRect) -> Option<usize>
+// How many squares lie in the rectangle, where none lies across its border. Those from place `first` on are gone through before the
+// others: the first square that lies across the border is mostly one of them.
+fn count_inside(tiling: &Tiling, first: usize, r: &SubRect) -> Option<usize>
+    requires place { first ≤ length tiling.now.squares }
     requires fits { (r.now.x + r.now.width < 2 ^ 64) × (r.now.y + r.now.height < 2 ^ 64) }
     ensures uncut { IsSome result ↔ IsUncut (rectangle_of r.now) tiling.now.squares }
     ensures count { IfSome result (λ n. n ≡ count_by (is_inside (rectangle_of r.now)) tiling.now.squares) }
 {
+    let squares = tiling.squares();
+    let behind = count_among(&squares[first..], r)?;
+    let before = count_among(&squares[..first], r)?;
+    Some(before + behind)
+}
+
+// How many of these squares lie in the rectangle, where none lies across its border.
+fn count_among(squares: &[Square], r: &SubRect) -> Option<usize>
+    requires squares { All EdgesFit squares.now }
+    requires fits { (r.now.x + r.now.width < 2 ^ 64) × (r.now.y + r.now.height < 2 ^ 64) }
+    ensures uncut { IsSome result ↔ IsUncut (rectangle_of r.now) squares.now }
+    ensures count { IfSome result (λ n. n ≡ count_by (is_inside (rectangle_of r.now)) squares.now) }
+{
     let mut inside = 0;
-    for q in tiling.squares() {
+    for q in squares {
         if lies_inside(r, *q) {
             inside += 1;
         } else if !lies_outside(r, *q) {

@@ -1,4 +1,5 @@
 -- The net of a word, read from what a skeleton stores.
+use Rattle.std.specs.List.{concat}
 use Rattle.std.proofs.Common.{List, ap, arith, length, map, slice_index, subst, sum, sym, take, zip, ℕ, ◌++◌, ◌+◌, ◌<◌, ◌∙◌, ◌≡◌}
 use Rattle.std.proofs.lemmas.List.{length-take-le}
 use Rattle.std.proofs.lemmas.List.Elements.{recursion_from_All}
@@ -9,10 +10,11 @@ use Rattle.bk_word.specs.Word.{Word, order_of}
 use Rattle.bk_word.specs.declared.Sign.{Sign}
 use Rattle.bk_word_net.proofs.Numbering.{numbered_moves, numbered_start}
 use Rattle.bk_word_net.proofs.NoLoose.{a_word_net_has_no_loose, closed_count}
+use Rattle.bk_skel.proofs.RecordCounts.{closed_sizes}
 use Rattle.bk_skel.proofs.SkelReads.{counted_in}
 use Rattle.bk_skel.proofs.StoredMoves.{turns_many}
 use Rattle.bk_skel.specs.Skeleton.{IsStoredSkeleton}
-use Rattle.bk_skel.specs.Wiring.{AreWires, counts_of, wires_from}
+use Rattle.bk_skel.specs.Wiring.{AreWires, closed_of, counts_of, wires_from}
 use Rattle.bk_word_net.specs.WordNet.{end_of, net_of_word}
 use Rattle.bk_skel.specs.declared.turns.MoveRecord.{MoveRecord}
 use Rattle.bk_skel.proofs.RecordCounts.{counts_turns, counts_sum}
@@ -61,3 +63,16 @@ reads_net {w = w} {turns = turns} s complete ended n order long read =
     good : AreWires (net_of_word w).nodes (net_of_word w).wires
     good = recursion_from_All (λ (v : ℕ × ℕ). (v.0 < (net_of_word w).nodes) × (v.1 < (net_of_word w).nodes) × (v.0 ≡ v.1 → ⊥))
         (net_of_word w).wires ((a_word_net_has_no_loose w complete).0).ends
+
+-- the same where the records and the closed squares are read of a skeleton that shows this word
+pub reads_shown : {w now : Word} {ends sizes : List ℕ} {signs : List Sign} {closed : List ℕ} {turns : List MoveRecord} {played : List Sign}
+    {first again : List MoveRecord} {read : List ℕ}
+    → IsStoredSkeleton w ends sizes signs closed turns played → w ≡ now → IsComplete now → first ≡ turns → read ≡ closed → again ≡ turns
+    → (ended : List ℕ) (open_ones closed_ones : ℕ) → open_ones ≡ length ends → closed_ones ≡ length closed → length ended ≡ 200
+    → ((lists : List (List ℕ)) → read ≡ concat lists → closed_of first ≡ map length lists
+    → (k : ℕ) → k < 200 → slice_index ended k ≡ end_of lists (k + 1))
+    → ReadsNet now again (take (open_ones + closed_ones) ended)
+reads_shown {w = w} {turns = turns} s shown complete e f g ended open_ones closed_ones many rest long read =
+    subst (λ (p : Word × List MoveRecord). ReadsNet p.0 p.1 (take (open_ones + closed_ones) ended)) (λ i. (shown i, sym g i))
+    (reads_net s (subst IsComplete (sym shown) complete) ended (open_ones + closed_ones) (omega (arith, many, rest, (counted_in s).all)) long
+    (read (outline_of w).closed (f ∙ (s.shows).closed_are) (ap closed_of e ∙ closed_sizes s)))

@@ -1,6 +1,6 @@
 -- What is known of a skeleton where a legal move is played.
 use Rattle.std.specs.List.{splice}
-use Rattle.std.proofs.Common.{List, [], ap, arith, filter, length, slice_range, subst, sym, ℕ, ◌++◌, ◌+◌, ◌-◌, ◌<◌, ◌∙◌, ◌∷◌, ◌≡◌, ◌≤◌}
+use Rattle.std.proofs.Common.{List, [], ap, arith, filter, length, slice_range, subst, sym, ℕ, ◌*◌, ◌++◌, ◌+◌, ◌-◌, ◌<◌, ◌∙◌, ◌∷◌, ◌≡◌, ◌≤◌}
 use Rattle.bk_word.specs.Outline.{IsLegalMove, start}
 use Rattle.bk_word.specs.Play.{numbers_from, outline_of, parts}
 use Rattle.bk_word.specs.Word.{Move, Word, order_of}
@@ -11,32 +11,34 @@ use Rattle.bk_skel.proofs.StoredMoves.{signs_many, stored_word, turns_many}
 use Rattle.bk_skel.specs.Skeleton.{IsStoredSkeleton, first_touched, moves_stored, open_sides, sizes_after, turn_at}
 use Rattle.bk_skel.specs.declared.turns.MoveRecord.{MoveRecord}
 
--- the move is legal, and what it needs of the lists is there
-pub record Playing (w : Word) (m : Move) (ends sizes : List ℕ) (signs : List Sign) (closed : List ℕ) (turns : List MoveRecord)
+-- the move is legal, at most so many squares hang after it, and what it needs of the lists is there
+pub record Playing (most : ℕ) (w : Word) (m : Move) (ends sizes : List ℕ) (signs : List Sign) (closed : List ℕ) (turns : List MoveRecord)
     (played : List Sign) (turn : MoveRecord) : Type 0 where
   pub legal : IsLegalMove (outline_of w) m
   pub few : order_of w + m.count ≤ 200
+  pub room : order_of w + m.count ≤ most
   pub turn_is : turn ≡ turn_at sizes signs m (length played)
-  pub numbers : length ends + length closed + 1 + m.count ≤ 201
+  pub numbers : length ends + length closed + 1 + m.count ≤ most + 1
   pub first : turn.first + turn.closed ≤ length ends
-  pub closed_fit : length closed + turn.closed ≤ 200
-  pub ends_fit : length ends - turn.closed + m.count ≤ 200
+  pub closed_fit : length closed + turn.closed ≤ most
+  pub ends_fit : length ends - turn.closed + m.count ≤ most
   pub sizes_within : first_touched turn + (open_sides turn + 1) ≤ length sizes
   pub signs_within : first_touched turn + open_sides turn ≤ length signs
-  pub sizes_fit : length sizes - (open_sides turn + 1) + (turn.parted + 1) ≤ 200
-  pub signs_fit : length signs - open_sides turn + turn.parted ≤ 200
-  pub small : turn.left + length m.signs + turn.right ≤ 253
-  pub played_fit : length played + length m.signs ≤ 400
-  pub turns_fit : length turns < 200
+  pub sizes_fit : length sizes - (open_sides turn + 1) + (turn.parted + 1) ≤ most
+  pub signs_fit : length signs - open_sides turn + turn.parted ≤ most
+  pub small : turn.left + length m.signs + turn.right ≤ most + 1
+  pub played_fit : length played + length m.signs ≤ 2 * most
+  pub turns_fit : length turns < most
 
 -- a legal move of so few squares has room in all lists
-pub playing_at : (w : Word) (m : Move) (ends sizes : List ℕ) (signs : List Sign) (closed : List ℕ) (turns : List MoveRecord) (played : List Sign)
-    (turn : MoveRecord) → IsStoredSkeleton w ends sizes signs closed turns played
-    → IsLegalMove (outline_of w) m → order_of w + m.count ≤ 200 → turn ≡ turn_at sizes signs m (length played)
-    → Playing w m ends sizes signs closed turns played turn
-playing_at w m ends sizes signs closed turns played turn s legal few e = record {
+pub playing_at : (most : ℕ) → most ≤ 200 → (w : Word) (m : Move) (ends sizes : List ℕ) (signs : List Sign) (closed : List ℕ)
+    (turns : List MoveRecord) (played : List Sign) (turn : MoveRecord) → IsStoredSkeleton w ends sizes signs closed turns played
+    → IsLegalMove (outline_of w) m → order_of w + m.count ≤ most → turn ≡ turn_at sizes signs m (length played)
+    → Playing most w m ends sizes signs closed turns played turn
+playing_at most h w m ends sizes signs closed turns played turn s legal few e = record {
   legal = legal;
-  few = few;
+  few = omega (arith, few, h);
+  room = few;
   turn_is = e;
   numbers = omega (arith, c.all, few);
   first = t.first;
@@ -54,25 +56,36 @@ playing_at w m ends sizes signs closed turns played turn s legal few e = record 
     c : Counted w ends sizes signs closed
     c = counted w ends sizes signs closed s.kept s.shows
 
-    t : Touches w m ends sizes signs closed turn
-    t = subst (Touches w m ends sizes signs closed)
+    t : Touches most w m ends sizes signs closed turn
+    t = subst (Touches most w m ends sizes signs closed)
         (sym (e ∙ (λ i. turn_at ((s.shows).sizes_are i) ((s.shows).signs_are i) m (length played))))
-        (touches w m ends sizes signs closed (length played) s.kept s.shows legal few)
+        (touches most w m ends sizes signs closed (length played) s.kept s.shows legal few)
 
 -- the same where the values are read
+pub playing_within : (most : ℕ) → most ≤ 200 → {w : Word} {ends sizes : List ℕ} {signs : List Sign} {closed : List ℕ} {turns : List MoveRecord}
+    {played : List Sign} {now : Word} {count : ℕ} {moved : List Sign} {m : Move} {turn : MoveRecord} {read_sizes : List ℕ}
+    {read_signs read_moved : List Sign} {from : ℕ}
+    → IsStoredSkeleton w ends sizes signs closed turns played → w ≡ now → record { count = count; signs = moved } ≡ m
+    → IsLegalMove (outline_of now) m → order_of now + m.count ≤ most
+    → turn ≡ turn_at read_sizes read_signs (record { count = count; signs = read_moved }) from
+    → read_sizes ≡ sizes → read_signs ≡ signs → read_moved ≡ moved → from ≡ length played
+    → Playing most w (record { count = count; signs = moved }) ends sizes signs closed turns played turn
+playing_within most within {w} {ends} {sizes} {signs} {closed} {turns} {played} {now} {count} {moved} {m} {turn} {read_sizes} {read_signs}
+    {read_moved} {from} s e f legal few g a b d h =
+    playing_at most within w (record { count = count; signs = moved }) ends sizes signs closed turns played turn s
+    (subst (λ (p : Word × Move). IsLegalMove (outline_of p.0) p.1) (λ i. (sym e i, sym f i)) legal)
+    (omega (arith, few, ap order_of e, ap (λ (m : Move). m.count) f))
+    (g ∙ (λ i. turn_at (a i) (b i) (record { count = count; signs = d i }) (h i)))
+
+-- and where at most 200 squares hang after the move
 pub playing : {w : Word} {ends sizes : List ℕ} {signs : List Sign} {closed : List ℕ} {turns : List MoveRecord} {played : List Sign}
     → {now : Word} {count : ℕ} {moved : List Sign} {m : Move} {turn : MoveRecord} {read_sizes : List ℕ} {read_signs read_moved : List Sign} {from : ℕ}
     → IsStoredSkeleton w ends sizes signs closed turns played → w ≡ now → record { count = count; signs = moved } ≡ m
     → IsLegalMove (outline_of now) m → order_of now + m.count ≤ 200
     → turn ≡ turn_at read_sizes read_signs (record { count = count; signs = read_moved }) from
     → read_sizes ≡ sizes → read_signs ≡ signs → read_moved ≡ moved → from ≡ length played
-    → Playing w (record { count = count; signs = moved }) ends sizes signs closed turns played turn
-playing {w} {ends} {sizes} {signs} {closed} {turns} {played} {now} {count} {moved} {m} {turn} {read_sizes} {read_signs} {read_moved} {from} s e f
-    legal few g a b d h =
-    playing_at w (record { count = count; signs = moved }) ends sizes signs closed turns played turn s
-    (subst (λ (p : Word × Move). IsLegalMove (outline_of p.0) p.1) (λ i. (sym e i, sym f i)) legal)
-    (omega (arith, few, ap order_of e, ap (λ (m : Move). m.count) f))
-    (g ∙ (λ i. turn_at (a i) (b i) (record { count = count; signs = d i }) (h i)))
+    → Playing 200 w (record { count = count; signs = moved }) ends sizes signs closed turns played turn
+playing s e f legal few g a b d h = playing_within 200 (omega arith) s e f legal few g a b d h
 
 -- what is stored is stored of the moves that it shows
 pub moves_shown : {w : Word} {ends sizes : List ℕ} {signs : List Sign} {closed : List ℕ} {turns : List MoveRecord} {played : List Sign}
@@ -95,10 +108,10 @@ pub record Played (m : Move) (ends sizes : List ℕ) (signs : List Sign) (closed
   pub played_new : new_played ≡ played ++ m.signs
 
 -- with a move played, the lists store the word with that move
-pub stored_played : {w : Word} {m : Move} {ends sizes : List ℕ} {signs : List Sign} {closed : List ℕ} {turns : List MoveRecord}
+pub stored_played : {most : ℕ} {w : Word} {m : Move} {ends sizes : List ℕ} {signs : List Sign} {closed : List ℕ} {turns : List MoveRecord}
     {played : List Sign} {turn : MoveRecord} {new_ends new_sizes : List ℕ} {new_signs : List Sign} {new_closed : List ℕ}
     {new_turns : List MoveRecord} {new_played : List Sign}
-    → IsStoredSkeleton w ends sizes signs closed turns played → Playing w m ends sizes signs closed turns played turn
+    → IsStoredSkeleton w ends sizes signs closed turns played → Playing most w m ends sizes signs closed turns played turn
     → Played m ends sizes signs closed turns played turn new_ends new_sizes new_signs new_closed new_turns new_played
     → IsStoredSkeleton (w ++ m ∷ []) new_ends new_sizes new_signs new_closed new_turns new_played
 stored_played {w = w} {m = m} {ends = ends} {sizes = sizes} {signs = signs} {closed = closed} {turns = turns} {played = played}

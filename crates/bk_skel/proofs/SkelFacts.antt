@@ -56,22 +56,22 @@ counted w ends sizes signs closed kept s = record {
     few (inl one) = omega (arith, long, one)
     few (inr all) = omega (arith, long, filled_many (outline_of w).segments all, shaped.counted, hung, kept.few)
 
--- the numbers of what a legal move touches
-pub record Touches (w : Word) (m : Move) (ends sizes : List ℕ) (signs : List Sign) (closed : List ℕ) (turn : MoveRecord) : Type 0 where
+-- the numbers of what a legal move touches, where at most so many squares hang after it
+pub record Touches (most : ℕ) (w : Word) (m : Move) (ends sizes : List ℕ) (signs : List Sign) (closed : List ℕ) (turn : MoveRecord) : Type 0 where
   pub first : turn.first + turn.closed ≤ length ends
   pub sizes_within : first_touched turn + (open_sides turn + 1) ≤ length sizes
   pub signs_within : first_touched turn + open_sides turn ≤ length signs
-  pub sizes_fit : length sizes - (open_sides turn + 1) + (turn.parted + 1) ≤ 200
-  pub signs_fit : length signs - open_sides turn + turn.parted ≤ 200
+  pub sizes_fit : length sizes - (open_sides turn + 1) + (turn.parted + 1) ≤ most
+  pub signs_fit : length signs - open_sides turn + turn.parted ≤ most
   pub beside : turn.left + turn.closed + turn.right ≤ length ends
   pub few_signs : length m.signs ≤ m.count + 1
 
 -- what a legal move touches lies within the lists, and what it leaves has room in them
-pub touches : (w : Word) (m : Move) (ends sizes : List ℕ) (signs : List Sign) (closed : List ℕ) (from : ℕ) → IsKeptSkeleton w
+pub touches : (most : ℕ) (w : Word) (m : Move) (ends sizes : List ℕ) (signs : List Sign) (closed : List ℕ) (from : ℕ) → IsKeptSkeleton w
     → Shows (outline_of w) ends sizes signs closed
-    → IsLegalMove (outline_of w) m → order_of w + m.count ≤ 200
-    → Touches w m ends sizes signs closed (turn_at (sizes_of (outline_of w)) (outline_of w).signs m from)
-touches w m ends sizes signs closed from kept s legal room = record {
+    → IsLegalMove (outline_of w) m → order_of w + m.count ≤ most
+    → Touches most w m ends sizes signs closed (turn_at (sizes_of (outline_of w)) (outline_of w).signs m from)
+touches most w m ends sizes signs closed from kept s legal room = record {
   first = omega (arith, first_is (outline_of w) c.shaped m from v f, closed_is (outline_of w) c.shaped m from v f, squares);
   sizes_within = omega (arith, start_is (outline_of w) c.shaped m from v f, sides_are (outline_of w) c.shaped m from v f, many_segments (outline_of w) v, long);
   signs_within = omega (
@@ -121,7 +121,7 @@ touches w m ends sizes signs closed from kept s legal room = record {
         ∙ ap (λ n. n + length v.after) (joined_many m.signs (v.left ++ (map (λ q. q ∷ []) (new_squares (outline_of w) m) ++ v.right))
         (many_between (outline_of w) v m legal) ∙ ap (λ n. n + 1) (length-filter parts m.signs)))
 
-    after_few : length (after_move (outline_of w) m).segments ≤ 200
+    after_few : length (after_move (outline_of w) m).segments ≤ most
     after_few = omega (
       arith,
       filled_many (after_move (outline_of w) m).segments (filled_move (outline_of w) m legal c.shaped),

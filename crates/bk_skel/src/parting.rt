@@ -78,7 +78,7 @@ pub(crate) fn undo_signs(
 }
 
 // Puts the signs that stay between segments into a room for as many.
-fn put_signs(room: &mut [Sign], moved: &[Sign])
+pub(crate) fn put_signs(room: &mut [Sign], moved: &[Sign])
     requires { length room.old ≡ count_by parts moved.now }
     ensures { room.new ≡ filter parts moved.now }
 {
@@ -99,7 +99,7 @@ fn size_of_next(is_last: bool, last: u8) -> u8
 }
 
 // Puts the sizes of segments that the signs join or part into a room for as many as are left.
-fn put_sizes(room: &mut [u8], moved: &[Sign], first: u8, last: u8)
+pub(crate) fn put_sizes(room: &mut [u8], moved: &[Sign], first: u8, last: u8)
     requires long { length room.old ≡ count_by parts moved.now + 1 }
     requires small { first + length moved.now + last < 256 }
     ensures { room.new ≡ joined_sizes first last moved.now }

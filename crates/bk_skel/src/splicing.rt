@@ -74,7 +74,7 @@ pub(crate) fn splice_numbers<const N: usize>(
 }
 
 // Puts the numbers from a first one on into all of a room.
-fn put_numbers(room: &mut [u8], first: u8)
+pub(crate) fn put_numbers(room: &mut [u8], first: u8)
     requires { first + length room.old ≤ 255 }
     ensures { room.new ≡ numbers_from first (length room.old) }
 {

@@ -296,7 +296,15 @@ fn is_greatest(tiling: &Tiling) -> bool
 fn is_image_at_most(tiling: &Tiling, which: Turn) -> bool
     ensures { IsTrue result ↔ IsAtMost (image which tiling.now) tiling.now }
 {
-    begins_shorter(tiling, which, tiling) || is_at_most(&image(tiling, which), tiling)
+    begins_shorter(tiling, which, tiling) || is_made_image_at_most(tiling, which)
+}
+
+// The same, by the image itself. It is hardly ever needed, and its room only here.
+#[inline(never)]
+fn is_made_image_at_most(tiling: &Tiling, which: Turn) -> bool
+    ensures { IsTrue result ↔ IsAtMost (image which tiling.now) tiling.now }
+{
+    is_at_most(&image(tiling, which), tiling)
 }
 
 // A turn whose image lies.

@@ -11,4 +11,6 @@ mod plain_walk;
 #[cfg(test)]
 mod search_rows;
 #[cfg(test)]
+mod square_rows;
+#[cfg(test)]
 mod walk_rows;

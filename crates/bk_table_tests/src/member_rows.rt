@@ -62,7 +62,6 @@ fn rows_of_orders() -> &'static [(u8, usize, usize)] {
         (8, 0, 0),
         (9, 2, 1),
         (10, 6, 0),
-        (11, 22, 0),
     ]
 }
 
@@ -78,39 +77,91 @@ fn tables_have_just_the_members(rt: HostRuntime) -> Result<(), Fail> {
         let members = members(&rt, rt.alloc(), *order)?;
         let found = counts(members.as_slice());
         assert_eq!(rt; found, (*perfect, *imperfect), "order {order}");
-        for class in CLASSES {
-            assert_table(&rt, rt.alloc(), *order, class, members.as_slice())?;
-        }
+        assert_tables(&rt, rt.alloc(), *order, members.as_slice())?;
     }
     Ok(())
 }
 
-// Orders that a plain walk takes long for, and how many perfect and imperfect members they have (of the same sequences).
-fn rows_of_greater_orders() -> &'static [(u8, usize, usize)] {
-    &[(12, 67, 9), (13, 213, 34)]
+// The tables of an order in all classes have the numbers of just the members.
+fn assert_tables(
+    rt: &impl Abort,
+    alloc: Global,
+    order: u8,
+    members: &[Member],
+) -> Result<(), AllocError> {
+    for class in CLASSES {
+        assert_table(rt, alloc, order, class, members)?;
+    }
+    Ok(())
 }
 
 #[test]
-fn tables_of_greater_orders_have_as_many(rt: HostRuntime) {
-    for (order, perfect, imperfect) in rows_of_greater_orders() {
-        let of_perfect: MemberTable<250> = table_of(&rt, *order, Class::Perfect, 0);
-        let of_imperfect: MemberTable<250> = table_of(&rt, *order, Class::Imperfect, 0);
-        assert_eq!(rt; of_perfect.numbers().len(), *perfect, "order {order}");
-        assert_eq!(rt; of_imperfect.numbers().len(), *imperfect, "order {order}");
+fn tables_of_order_11_have_just_the_members(rt: HostRuntime) -> Result<(), Fail> {
+    let members = members(&rt, rt.alloc(), 11)?;
+    assert_tables(&rt, rt.alloc(), 11, members.as_slice())?;
+    Ok(())
+}
+
+// Whether all numbers are those of two lists, each list in its order.
+fn is_merge(all: &[u128], ones: &[u128], others: &[u128]) -> bool {
+    let (mut one, mut other) = (0, 0);
+    for number in all {
+        if one < ones.len() && ones[one] == *number {
+            one += 1;
+        } else if other < others.len() && others[other] == *number {
+            other += 1;
+        } else {
+            return false;
+        }
+    }
+    one == ones.len() && other == others.len()
+}
+
+// Orders that a plain walk takes long for.
+#[test]
+fn perfect_and_imperfect_members_are_the_simple_ones(rt: HostRuntime) {
+    for order in 12..14 {
+        let of_perfect: MemberTable<300> = table_of(&rt, order, Class::Perfect, 0);
+        let of_imperfect: MemberTable<300> = table_of(&rt, order, Class::Imperfect, 0);
+        let of_simple: MemberTable<300> = table_of(&rt, order, Class::Simple, 0);
+        assert!(rt; !of_simple.is_cut() && !of_simple.numbers().is_empty());
+        assert!(rt;
+            is_merge(
+                of_simple.numbers(),
+                of_perfect.numbers(),
+                of_imperfect.numbers()
+            ),
+            "order {order}"
+        );
     }
 }
 
-// The word of the square of side 23 with the code [12,11][2,5,4][11,1][3][1,3][7,2][5].
-const SQUARE_OF_13: &[u8] = b"2u.3aau.2ue.1ue.2ea.2eue.1e";
+// The squares among the members of orders up to 15, by their words. They have the sides 23, 39, 41 and 39; `square_rows` has their
+// codes.
+fn rows_of_squares() -> &'static [(u8, &'static [u8])] {
+    &[
+        (13, b"2u.3aau.2ue.1ue.2ea.2eue.1e"),
+        (15, b"2u.2aa.3uae.2eue.2auu.1e.2ea.1ee"),
+        (15, b"2u.2aa.3uue.3eaua.1ue.2eue.1a.1ee"),
+        (15, b"2u.3aaa.2ue.1ue.1uu.3eaa.2eue.1ee"),
+    ]
+}
+
+// Whether a table of an order and a class that begins at a number has just this one first.
+fn begins_with(rt: &impl Abort, order: u8, class: Class, number: u128) -> bool {
+    let table: MemberTable<300> = table_of(rt, order, class, number);
+    table.next_from(number) == Some(number)
+}
 
 #[test]
-fn a_square_is_a_member(rt: HostRuntime) {
-    let word = read_word(rt.alloc(), SQUARE_OF_13).expect(&rt, "it is a word");
-    let number = number_of(&rt, &word);
-    let table: MemberTable<250> = table_of(&rt, 13, Class::Imperfect, 0);
-    assert_eq!(rt; table.next_from(number), Some(number));
-    let perfect: MemberTable<250> = table_of(&rt, 13, Class::Perfect, 0);
-    assert!(rt; perfect.next_from(number) != Some(number));
+fn squares_are_members(rt: HostRuntime) {
+    for (order, text) in rows_of_squares() {
+        let word = read_word(rt.alloc(), text).expect(&rt, "it is a word");
+        let number = number_of(&rt, &word);
+        assert!(rt; begins_with(&rt, *order, Class::Imperfect, number));
+        assert!(rt; begins_with(&rt, *order, Class::Simple, number));
+        assert!(rt; !begins_with(&rt, *order, Class::Perfect, number));
+    }
 }
 
 // A table of the perfect members of order 11, from a number on.
@@ -144,7 +195,7 @@ fn the_next_number_is_the_least_from_a_bound_on(rt: HostRuntime) -> Result<(), F
     Ok(())
 }
 
-// What is kept of all perfect members of order 11 by a table with this room: it is cut just where there are more, and has the least of them.
+// What is kept of all perfect members of order 10 by a table with this room: it is cut just where there are more, and has the least of them.
 fn assert_room(rt: &impl Abort, all: &[u128], kept: &[u128], cut: bool, room: usize) {
     assert_eq!(rt; cut, room < all.len());
     assert!(rt; !kept.is_empty() && kept.len() <= room);
@@ -154,15 +205,14 @@ fn assert_room(rt: &impl Abort, all: &[u128], kept: &[u128], cut: bool, room: us
 
 #[test]
 fn a_table_without_room_has_the_least(rt: HostRuntime) -> Result<(), Fail> {
-    let members = members(&rt, rt.alloc(), 11)?;
+    let members = members(&rt, rt.alloc(), 10)?;
     let all = numbers(rt.alloc(), members.as_slice(), Class::Perfect, 0)?;
-    assert_eq!(rt; all.len(), 22);
-    let of_3: MemberTable<3> = table_of_11(0);
+    let of_3: MemberTable<3> = table_of(&rt, 10, Class::Perfect, 0);
     assert_room(&rt, all.as_slice(), of_3.numbers(), of_3.is_cut(), 3);
-    let of_21: MemberTable<21> = table_of_11(0);
-    assert_room(&rt, all.as_slice(), of_21.numbers(), of_21.is_cut(), 21);
-    let of_22: MemberTable<22> = table_of_11(0);
-    assert_room(&rt, all.as_slice(), of_22.numbers(), of_22.is_cut(), 22);
+    let of_5: MemberTable<5> = table_of(&rt, 10, Class::Perfect, 0);
+    assert_room(&rt, all.as_slice(), of_5.numbers(), of_5.is_cut(), 5);
+    let of_6: MemberTable<6> = table_of(&rt, 10, Class::Perfect, 0);
+    assert_room(&rt, all.as_slice(), of_6.numbers(), of_6.is_cut(), 6);
     Ok(())
 }
 

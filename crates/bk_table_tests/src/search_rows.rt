@@ -29,10 +29,13 @@ fn words_met(rt: &impl Abort, order: u8) -> usize {
     met.words
 }
 
-// Orders, and how many words are met: the leaves of the same search in plain Rust, which marks segments as a word is made and asks the strong bound
-// sign by sign.
+// Orders, and how many words are met. The same search in plain Rust, written apart, has as many leaves, where the last of its ties
+// (where a word has as many moves as can be and as many squares at the right as at the top, no more at the left than at the bottom)
+// is asked of a leaf.
 fn rows_of_orders() -> &'static [(u8, usize)] {
     &[
+        (3, 0),
+        (4, 0),
         (5, 1),
         (6, 0),
         (7, 1),
@@ -41,6 +44,7 @@ fn rows_of_orders() -> &'static [(u8, usize)] {
         (10, 17),
         (11, 63),
         (12, 160),
+        (13, 607),
     ]
 }
 

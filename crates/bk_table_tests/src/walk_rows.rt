@@ -1,11 +1,11 @@
-//! Walks that make tables of members, beside a plain walk that makes none.
+//! Walks that make tables of members, and walks that make none, beside a plain walk.
 
 ghost use Rattle.std.specs.Prelude.{◌<◌, ◌≡◌, ◌≤◌};
 ghost use Rattle.bk_word.specs.Word.{order_of};
 
 use crate::plain_walk::{Member, members};
 use bk_skel::Steps;
-use bk_walk::{TabledWalk, Walk};
+use bk_walk::{TabledWalk, UntabledWalk, Walk};
 use bk_word::{Class, Word, read_word};
 use std::alloc::{AllocError, Global};
 use std::cmp::Ordering;
@@ -29,15 +29,26 @@ fn copy_of(rt: &impl Abort, alloc: Global, word: &Word) -> Word
 }
 
 // A walk of an order and a class from the start.
-fn walk_from_start(rt: &impl Abort, alloc: Global, order: u8, class: Class) -> Walk {
+fn walk_from_start<const ROOM: usize>(
+    rt: &impl Abort,
+    alloc: Global,
+    order: u8,
+    class: Class,
+) -> TabledWalk<ROOM> {
     assert!(rt; order >= 2 && order <= 16);
-    Walk::new(alloc, order, class, None)
+    TabledWalk::new(alloc, order, class, None)
 }
 
 // A walk after a cursor.
-fn walk_after(rt: &impl Abort, alloc: Global, order: u8, class: Class, cursor: &Word) -> Walk {
+fn walk_after<const ROOM: usize>(
+    rt: &impl Abort,
+    alloc: Global,
+    order: u8,
+    class: Class,
+    cursor: &Word,
+) -> TabledWalk<ROOM> {
     assert!(rt; order >= 2 && order <= 16);
-    Walk::new(alloc, order, class, Some(copy_of(rt, alloc, cursor)))
+    TabledWalk::new(alloc, order, class, Some(copy_of(rt, alloc, cursor)))
 }
 
 // Asserts the word of the next member of a walk.
@@ -72,10 +83,31 @@ fn assert_walk<const ROOM: usize, L: Ledger>(
     walk.pushes()
 }
 
-// A walk of an order and a class from the start, with room for a table of three members.
-fn walk_with_little_room(rt: &impl Abort, alloc: Global, order: u8, class: Class) -> TabledWalk<3> {
-    assert!(rt; order >= 2 && order <= 16);
-    TabledWalk::new(alloc, order, class, None)
+// The first of the members that is of a class and whose word is after a cursor.
+fn first_after<'a>(members: &'a [Member], class: Class, cursor: &Word) -> Option<&'a Member> {
+    for member in members {
+        if member.is_of(class) && member.word.cmp(cursor) == Ordering::Greater {
+            return Some(member);
+        }
+    }
+    None
+}
+
+// A walk without room for a table comes to this member first after a cursor.
+fn assert_first<L: Ledger>(
+    rt: &impl Abort,
+    alloc: Global,
+    order: u8,
+    class: Class,
+    cursor: &Word,
+    members: &[Member],
+    steps: &mut Steps<L>,
+) {
+    let mut walk: UntabledWalk = walk_after(rt, alloc, order, class, cursor);
+    match first_after(members, class, cursor) {
+        Some(member) => assert_next(rt, &mut walk, &member.word, steps),
+        None => assert!(rt; walk.advance(steps).is_none()),
+    }
 }
 
 // Walks of an order from the start, after each member, and after cursors that no member has.
@@ -95,8 +127,8 @@ fn walks<L: Ledger>(
         from_start(rt, alloc, order, class, members.as_slice(), &mut steps);
         after_members(rt, alloc, order, class, members.as_slice(), &mut steps);
         after_others(rt, alloc, order, class, members.as_slice(), &mut steps);
+        from_start_with_little_room(rt, alloc, order, class, members.as_slice(), &mut steps);
     }
-    from_start_with_little_room(rt, alloc, order, members.as_slice(), &mut steps);
     Ok(())
 }
 
@@ -110,21 +142,23 @@ fn from_start<L: Ledger>(
     members: &[Member],
     steps: &mut Steps<L>,
 ) {
-    let walk = walk_from_start(rt, alloc, order, class);
+    let walk: Walk = walk_from_start(rt, alloc, order, class);
     let pushed = assert_walk(rt, walk, class, &Word::new(alloc), members, steps);
     assert!(rt; pushed >= PATIENCE && pushed < 2 * PATIENCE);
+    assert_first(rt, alloc, order, class, &Word::new(alloc), members, steps);
 }
 
-// A table that has no room for all members says nothing past its greatest word, so the walk makes it anew from there.
+// A table that has room for three members alone says nothing past its greatest word, so the walk makes it anew from there.
 fn from_start_with_little_room<L: Ledger>(
     rt: &impl Abort,
     alloc: Global,
     order: u8,
+    class: Class,
     members: &[Member],
     steps: &mut Steps<L>,
 ) {
-    let walk = walk_with_little_room(rt, alloc, order, Class::Perfect);
-    let pushed = assert_walk(rt, walk, Class::Perfect, &Word::new(alloc), members, steps);
+    let walk: TabledWalk<3> = walk_from_start(rt, alloc, order, class);
+    let pushed = assert_walk(rt, walk, class, &Word::new(alloc), members, steps);
     assert!(rt; pushed >= PATIENCE && pushed < 2 * PATIENCE);
 }
 
@@ -138,13 +172,14 @@ fn after_members<L: Ledger>(
     steps: &mut Steps<L>,
 ) {
     for member in members {
-        let walk = walk_after(rt, alloc, order, class, &member.word);
+        let walk: Walk = walk_after(rt, alloc, order, class, &member.word);
         assert_walk(rt, walk, class, &member.word, members, steps);
+        assert_first(rt, alloc, order, class, &member.word, members, steps);
     }
 }
 
-// The texts of cursors that come before all words, that aren't legal, that are of another order, that come behind a whole table, and behind all
-// words.
+// The texts of cursors that come before all words, that aren't legal, that aren't complete, that are of another order, that come behind
+// a whole table, and behind all words; and the words of images of members of orders 11 and 12, which are legal and complete.
 fn texts() -> &'static [&'static [u8]] {
     &[
         b"1",
@@ -155,6 +190,11 @@ fn texts() -> &'static [&'static [u8]] {
         b"2uu",
         b"3aa",
         b"16uuuuuuuuuuuuuuuuu",
+        b"2a.2uu.2ea.2aae.2ue.1ee",
+        b"3ua.2eaa.1u.2uue.2ea.1ee",
+        b"4uua.2eue.1a.2eae.1u.1e",
+        b"3ua.2uua.2eaa.1eu.2eae.1u.1e",
+        b"4uua.2eae.2eue.1a.2ue.1e",
     ]
 }
 
@@ -168,19 +208,20 @@ fn after_others<L: Ledger>(
 ) {
     for text in texts() {
         let word = read_word(alloc, text).expect(rt, "it is a word");
-        let walk = walk_after(rt, alloc, order, class, &word);
+        let walk: Walk = walk_after(rt, alloc, order, class, &word);
         assert_walk(rt, walk, class, &word, members, steps);
+        assert_first(rt, alloc, order, class, &word, members, steps);
     }
 }
 
 #[test]
-fn walks_with_tables_of_order_11(rt: HostRuntime) -> Result<(), Fail> {
+fn walks_of_order_11(rt: HostRuntime) -> Result<(), Fail> {
     walks::<Brand>(&rt, rt.alloc(), 11, Blank::new(1))?;
     Ok(())
 }
 
 #[test]
-fn walks_with_tables_of_order_12(rt: HostRuntime) -> Result<(), Fail> {
+fn walks_of_order_12(rt: HostRuntime) -> Result<(), Fail> {
     walks::<Brand>(&rt, rt.alloc(), 12, Blank::new(1))?;
     Ok(())
 }

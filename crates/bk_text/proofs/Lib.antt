@@ -16,4 +16,5 @@ pub mod Progress
 pub mod LineRange
 pub mod Strides
 pub mod CommentBytes
+pub mod NumberBytes
 pub mod Fronts

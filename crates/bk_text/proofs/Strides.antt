@@ -7,7 +7,7 @@ use Rattle.std.proofs.Math.Seq.{take-add}
 use Rattle.std.proofs.lemmas.List.{append-nil, length-drop, take_all}
 use Rattle.bk_tiling.specs.Kept.{IsSide}
 use Rattle.bk_text.specs.Gathered.{Gathered, IsGathered, gathered_after, kept_count, with_closed, with_ended, with_group, with_side}
-use Rattle.bk_text.specs.Onward.{SpellOn, at_side, onward}
+use Rattle.bk_text.specs.Onward.{SpellOn, at_number, onward}
 use Rattle.bk_text.specs.Reader.{closes_group, ended_side, kind_of, next_place}
 use Rattle.bk_text.specs.declared.reader.Kind.{Kind}
 use Rattle.bk_text.specs.declared.reader.Place.{Place}
@@ -37,12 +37,13 @@ onward-append (x ∷ xs) ys p q g h e =
     by_next None e' rest = absurd (cc)
     by_next (Some r) e' rest = rest r e'
 
--- a side is spelled on by these bytes and then by those
-pub spelled_further : (xs ys : List ℕ) (n m k : ℕ) → SpellOn xs n m → SpellOn ys m k → SpellOn (xs ++ ys) n k
-spelled_further xs ys n m k one two = record {
+-- a number is spelled on by these bytes and then by those
+pub spelled_further : (greatest : ℕ) (xs ys : List ℕ) (n m k : ℕ) → SpellOn greatest xs n m → SpellOn greatest ys m k → SpellOn greatest (xs ++ ys) n k
+spelled_further greatest xs ys n m k one two = record {
   small = two.small;
-  leads = λ header bracket g.
-      onward-append xs ys (at_side header bracket n) (at_side header bracket m) g g (one.leads header bracket g) ∙ two.leads header bracket g;
+  leads = λ place field begins same g.
+      onward-append xs ys (at_number place field n) (at_number place field m) g g (one.leads place field begins same g)
+      ∙ two.leads place field begins same g;
 }
 
 -- what is gathered stays so with a further side

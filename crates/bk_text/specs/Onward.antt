@@ -2,10 +2,11 @@
 use Rattle.std.specs.Prelude.{Bool, List, Option, Some, [], false, length, option_and_then, suc, take, true, zero, ℕ, ⊤, ◌<◌, ◌∷◌, ◌≡◌, ◌≤◌}
 use Rattle.bk_tiling.specs.Kept.{IsSide}
 use Rattle.bk_text.specs.Gathered.{Gathered, gathered_after, with_group, with_side}
-use Rattle.bk_text.specs.Reader.{kind_of, next_place}
+use Rattle.bk_text.specs.Reader.{kind_of, most, next_place}
 use Rattle.bk_text.specs.declared.reader.Bracket.{Bracket}
-use Rattle.bk_text.specs.declared.reader.Field.TheVariants.{Side}
+use Rattle.bk_text.specs.declared.reader.Field.{Field}
 use Rattle.bk_text.specs.declared.reader.Header.{Header}
+use Rattle.bk_text.specs.declared.reader.Kind.TheVariants.{Digit, Open}
 use Rattle.bk_text.specs.declared.reader.Place.{Place}
 use Rattle.bk_text.specs.declared.reader.Place.TheVariants.{BeforeSide, BehindGroup, Number}
 use Rattle.bk_text.specs.declared.sides.Front.{Front}
@@ -16,16 +17,26 @@ abbrev pub onward : List ℕ → Place → Gathered → Option (Place × Gathere
 onward [] p g = Some (p, g)
 onward (b ∷ bs) p g = option_and_then (λ q. onward bs q (gathered_after p (kind_of b) g)) (next_place p (kind_of b))
 
--- before a side of a group, whose number is still 0, or right behind a digit of it
-abbrev pub at_side : Header → Bracket → ℕ → Place
-at_side header bracket zero = BeforeSide header bracket
-at_side header bracket (suc n) = Number (Side header bracket) (suc n)
+-- a number of the field begins behind the place: its first digit leads there, and nothing is gathered
+pub record BeginsNumber (place : Place) (field : Field) : Type 0 where
+  pub next : (d : ℕ) → next_place place (Digit d) ≡ Some (Number field d)
+  pub keeps : (d : ℕ) (g : Gathered) → gathered_after place (Digit d) g ≡ g
 
--- bytes that spell a side on: its number so far was one, and is the other behind them
-pub record SpellOn (bytes : List ℕ) (before behind : ℕ) : Type 0 where
-  pub small : behind ≤ 999_999_999_999_999
-  pub leads : (header : Header) (bracket : Bracket) (g : Gathered)
-      → onward bytes (at_side header bracket before) g ≡ Some (at_side header bracket behind, g)
+-- before the first digit of a number, which is still 0, or right behind a digit of it
+abbrev pub at_number : Place → Field → ℕ → Place
+at_number place field zero = place
+at_number place field (suc n) = Number field (suc n)
+
+-- bytes that spell on a number of a field where none is greater than this: it was one so far, and is the other behind them
+pub record SpellOn (greatest : ℕ) (bytes : List ℕ) (before behind : ℕ) : Type 0 where
+  pub small : behind ≤ greatest
+  pub leads : (place : Place) (field : Field) → BeginsNumber place field → greatest ≡ most field → (g : Gathered)
+      → onward bytes (at_number place field before) g ≡ Some (at_number place field behind, g)
+
+-- a group behind this header begins behind the place: a bracket leads to its first side, and nothing is gathered
+pub record OpensGroup (place : Place) (header : Header) : Type 0 where
+  pub next : (bracket : Bracket) → next_place place (Open bracket) ≡ Some (BeforeSide header bracket)
+  pub keeps : (bracket : Bracket) (g : Gathered) → gathered_after place (Open bracket) g ≡ g
 
 -- among the sides of a group, or behind the bracket that closes it
 abbrev pub behind_sides : Header → Bracket → Bool → Place

@@ -2,10 +2,13 @@
 
 ghost use Rattle.std.specs.Prelude.{IfErr, IfOk, OnErr, Some, false, true, length, take, ◌<◌, ◌≡◌, ◌≤◌};
 ghost use Rattle.std.specs.Option.{ForSome};
+ghost use Rattle.bk_text.specs.Gathered.{Gathered};
+ghost use Rattle.bk_text.specs.Onward.{BeginsNumber, onward};
+ghost use Rattle.bk_text.specs.Reader.{most};
 ghost use Rattle.bk_tiling.specs.Kept.{IsSide};
 
-use crate::reader::{Bracket, Ending, Kind, Place};
-use crate::sides::{Front, front_of};
+use crate::reader::{Bracket, Ending, Field, Header, Kind, LARGEST_HEADER_NUMBER, Place, kind_of};
+use crate::sides::{Front, front_of, number_in_front};
 use crate::{Line, TextFault};
 use arrayvec::ArrayVec;
 use bk_code::{Code, flat};
@@ -33,7 +36,7 @@ impl Model for Gatherer {
 
 impl Gatherer {
     ghost use Rattle.bk_text.specs.Gathered.{IsGathered, gathered_after, line_gathered, nothing_gathered, with_side, with_group, with_ended};
-    ghost use Rattle.bk_text.specs.Onward.{behind_sides, onward};
+    ghost use Rattle.bk_text.specs.Onward.{OpensGroup, behind_sides, onward};
     ghost use Rattle.bk_text.specs.declared.reader.Header.{Header};
     ghost use Rattle.bk_text.specs.declared.reader.Place.TheVariants.{BeforeSide};
     ghost use Rattle.bk_text.specs.Reader.{closes_group, ended_side, last_side};
@@ -90,8 +93,9 @@ impl Gatherer {
         }
     }
 
-    // Takes several bytes at once: where a side of a group comes next the sides in front, with the commas and the bracket right behind
-    // them, and behind the `;` of a comment all bytes. The place moves behind them. Tells how many bytes they are.
+    // Takes several bytes at once: a number of the header with the byte behind it, the bracket that opens a group, the sides of the group
+    // with the commas and the bracket right behind them, and behind the `;` of a comment all bytes. The place moves behind them. Tells how
+    // many bytes they are.
     pub(crate) fn take_ahead(&mut self, place: &mut Place, bytes: &[u8]) -> usize
         ensures within { result ≤ length bytes.now }
         ensures leads { onward (take result bytes.now) place.old self.old ≡ Some (place.new, self.new) }
@@ -106,9 +110,38 @@ impl Gatherer {
                 }
                 taken
             }
+            Place::BeforeGroup(header) | Place::BehindGroup(header) => {
+                self.take_next_group(place, header, bytes)
+            }
+            Place::Start => take_number(place, Field::First, bytes),
+            Place::BehindFirst(order) => take_number(place, Field::Second(order), bytes),
+            Place::BeforeHeight(order, width) => {
+                take_number(place, Field::Height(order, width), bytes)
+            }
             Place::Comment(_) => bytes.len(),
             _ => 0,
         }
+    }
+
+    // Takes the bracket in front of bytes that opens a group, and the sides behind it as `take_group` does. Tells how many bytes they are.
+    fn take_next_group(&mut self, place: &mut Place, header: Header, bytes: &[u8]) -> usize
+        requires { OpensGroup place.old header }
+        ensures within { result ≤ length bytes.now }
+        ensures leads { onward (take result bytes.now) place.old self.old ≡ Some (place.new, self.new) }
+    {
+        if bytes.is_empty() {
+            return 0;
+        }
+        let Kind::Open(bracket) = kind_of(bytes[0]) else {
+            return 0;
+        };
+        let (taken, closed) = self.take_group(bracket, &bytes[1..]);
+        *place = if closed {
+            Place::BehindGroup(header)
+        } else {
+            Place::BeforeSide(header, bracket)
+        };
+        taken + 1
     }
 
     // Takes the sides in front of bytes of a group that such a bracket opened. Tells how many bytes they are with the commas and the
@@ -202,5 +235,25 @@ impl Gatherer {
             self.code.add_group(&self.sides);
             self.sides.clear();
         }
+    }
+}
+
+// Takes the number of this field in front of bytes with the byte behind it, if a header goes on so. Tells how many bytes they are.
+fn take_number(place: &mut Place, field: Field, bytes: &[u8]) -> usize
+    requires first { BeginsNumber place.old field }
+    requires header { most field ≡ 999_999_999_999_999_999 }
+    ensures within { result ≤ length bytes.now }
+    ensures leads { (g : Gathered) → onward (take result bytes.now) place.old g ≡ Some (place.new, g) }
+{
+    let (number, digits) = number_in_front(LARGEST_HEADER_NUMBER, bytes);
+    if number == 0 || digits >= bytes.len() {
+        return 0;
+    }
+    match field.behind(number, kind_of(bytes[digits])) {
+        Some(next) => {
+            *place = next;
+            digits + 1
+        }
+        None => 0,
     }
 }

@@ -170,7 +170,7 @@ impl Field {
     }
 
     // The place behind a number and a byte that is no digit.
-    fn behind(self, value: u64, kind: Kind) -> Option<Place>
+    pub(crate) fn behind(self, value: u64, kind: Kind) -> Option<Place>
         ensures { result ≡ behind_number self value kind }
     {
         match (self, kind) {

@@ -20,7 +20,7 @@ pub(crate) enum Front {
 pub(crate) fn front_of(bracket: Bracket, bytes: &[u8]) -> Front
     ensures { IsFront bracket bytes.now result }
 {
-    let (side, digits) = side_in_front(bytes);
+    let (side, digits) = number_in_front(LONGEST_SIDE, bytes);
     if side == 0 || digits >= bytes.len() {
         return Front::Other;
     }
@@ -42,28 +42,34 @@ fn are_of_one_kind(left: Bracket, right: Bracket) -> bool
     )
 }
 
-// The number of the digits in front that a side goes on with, and how many they are: 0 where there are none.
-fn side_in_front(bytes: &[u8]) -> (u64, usize)
+// The number of the digits in front, as far as it is at most so great, and how many they are: 0 where no number begins.
+pub(crate) fn number_in_front(greatest: u64, bytes: &[u8]) -> (u64, usize)
+    requires { greatest ≤ 999_999_999_999_999_999 }
     ensures within { result.1 ≤ length bytes.now }
-    ensures spelled { SpellOn (take result.1 bytes.now) 0 result.0 }
+    ensures spelled { SpellOn greatest (take result.1 bytes.now) 0 result.0 }
 {
-    let mut side = 0;
+    let mut number = 0;
     for (i, byte) in bytes.iter().enumerate() {
-        match longer_side(side, *byte) {
-            Some(longer) => side = longer,
-            None => return (side, i),
+        match longer(greatest, number, *byte) {
+            Some(longer) => number = longer,
+            None => return (number, i),
         }
     }
-    (side, bytes.len())
+    (number, bytes.len())
 }
 
-// The side behind a further digit, or `None` where the byte is no digit or no side goes on so. Before the first digit it is 0.
-fn longer_side(side: u64, byte: u8) -> Option<u64>
-    ensures { IfSome result (SpellOn (byte ∷ []) side) }
+// The number behind a further digit, or `None` where the byte is no digit or no number goes on so. Before the first digit it is 0.
+fn longer(greatest: u64, number: u64, byte: u8) -> Option<u64>
+    requires large { greatest ≤ 999_999_999_999_999_999 }
+    requires number { number ≤ greatest }
+    ensures { IfSome result (SpellOn greatest (byte ∷ []) number) }
 {
-    match kind_of(byte) {
-        Kind::Digit(digit) if side <= LONGEST_SIDE / 10 => Some(side * 10 + u64::from(digit)),
-        Kind::Zero if side > 0 && side <= LONGEST_SIDE / 10 => Some(side * 10),
-        _ => None,
+    if byte < b'0' || byte > b'9' {
+        return None;
     }
+    let longer = number * 10 + u64::from(byte - b'0');
+    if longer == 0 || longer > greatest {
+        return None;
+    }
+    Some(longer)
 }

@@ -29,6 +29,7 @@ pub mod CutRectangles
 pub mod GroupCount
 -- why a list of squares is refused
 pub mod Refusing
+pub mod Areas
 pub mod Sweeping
 pub mod OneRefusal
 pub mod RefusalExamples

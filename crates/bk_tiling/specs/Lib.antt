@@ -9,5 +9,6 @@ pub mod Scale
 pub mod Kept
 pub mod Refusal
 pub mod RefusalLaws
+pub mod Area
 -- How its code keeps it.
 pub mod Sharing

@@ -1,7 +1,9 @@
 //! The tests that squares pass before they make a tiling, each with the first place where it fails.
 #![tactic(auto)]
 
-ghost use Rattle.std.specs.Prelude.{All, IfNone, IfSome, IsTrue, count_by, find, length, nat_le, nat_lt, slice_index_or, ◌&&◌, ◌+◌, ◌<◌, ◌^◌, ◌↔◌, ◌≡◌, ◌≤◌, ℕ};
+ghost use Rattle.std.specs.Prelude.{All, IfNone, IfSome, IsTrue, count_by, find, length, nat_le, nat_lt, slice_index_or, ℕ, ◌&&◌, ◌*◌};
+ghost use Rattle.std.specs.Prelude.{◌+◌, ◌<◌, ◌^◌, ◌↔◌, ◌≡◌, ◌≤◌};
+ghost use Rattle.bk_tiling.specs.Area.{area_of};
 ghost use Rattle.bk_tiling.specs.Kept.{IsSide};
 ghost use Rattle.bk_tiling.specs.Refusal.{AreWithin, HaveSides, IsFirstOverlap, IsFirstPlace, IsFirstUncovered, ShareNoCell, SharesCell, sized};
 ghost use Rattle.bk_tiling.specs.Sharing.{EdgesFit, IsFirstSharing, SharesWithNoneBefore};
@@ -79,7 +81,7 @@ fn share_cell(p: Square, q: Square) -> bool
     requires q_fits { EdgesFit q }
     ensures { IsTrue result ↔ SharesCell p q }
 {
-    spans_meet(p.x, p.s, q.x, q.s) && spans_meet(p.y, p.s, q.y, q.s)
+    spans_meet(p.y, p.s, q.y, q.s) && spans_meet(p.x, p.s, q.x, q.s)
 }
 
 // Whether s numbers from a on and t numbers from b on, of which there are some, have one in common.
@@ -98,8 +100,39 @@ enum Row {
     Free { x: u64 },
 }
 
-// The first cell of the rectangle, by level and then by column, that lies in no square.
+// The first cell of the rectangle, by level and then by column, that lies in no square. Squares that share no cell and have as many as
+// the rectangle leave none free.
 pub(crate) fn first_uncovered(width: u64, height: u64, squares: &[Square]) -> Option<(u64, u64)>
+    requires wide { 0 < width }
+    requires few { length squares.now ≤ 200 }
+    requires within { AreWithin width height squares.now }
+    requires sides { HaveSides squares.now }
+    requires apart { ShareNoCell squares.now }
+    ensures none { IfNone result ((i j : ℕ) → i < width → j < height → 0 < count_by (covers i j) squares.now) }
+    ensures some { IfSome result (λ cell. IsFirstUncovered width height squares.now cell.0 cell.1) }
+{
+    if area_of(squares) == u128::from(width) * u128::from(height) {
+        None
+    } else {
+        first_free(width, height, squares)
+    }
+}
+
+// The area of the squares.
+fn area_of(squares: &[Square]) -> u128
+    requires few { length squares.now ≤ 200 }
+    requires sides { HaveSides squares.now }
+    ensures { result ≡ area_of squares.now }
+{
+    let mut area = 0;
+    'squares: for q in squares {
+        area += u128::from(q.s) * u128::from(q.s);
+    }
+    area
+}
+
+// The first cell of the rectangle that lies in no square, found level by level.
+fn first_free(width: u64, height: u64, squares: &[Square]) -> Option<(u64, u64)>
     requires wide { 0 < width }
     requires within { AreWithin width height squares.now }
     ensures none { IfNone result ((i j : ℕ) → i < width → j < height → 0 < count_by (covers i j) squares.now) }

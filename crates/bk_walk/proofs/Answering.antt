@@ -3,11 +3,9 @@ use Rattle.std.proofs.Common.{Bool, None, Some, [], ap, arith, false, length, re
 use Rattle.bk_tiling.specs.Tiling.{Tiling}
 use Rattle.bk_word.specs.Word.{Word, order_of}
 use Rattle.bk_word.specs.declared.Class.{Class}
-use Rattle.bk_lay.specs.TilingWord.{IsWordOf}
-use Rattle.bk_catalogue.specs.Catalogue.{IsMember}
+use Rattle.bk_catalogue.specs.Catalogue.{IsEntry}
 use Rattle.bk_catalogue.proofs.OneEntry.{entry_complete}
 use Rattle.std.proofs.lemmas.List.{take_all}
-use Rattle.bk_walk.specs.Leaping.{IsMembersWord}
 use Rattle.bk_walk.specs.declared.search.Found.{Found}
 use Rattle.bk_walk.specs.Search.{Ends, Finds, HasPassed, Meets}
 use Rattle.bk_tree.specs.Tree.{IsAtMostTree}
@@ -30,10 +28,10 @@ module _ (n : ℕ) (class : Class) (cursor place : Word) (p : HasPassed n class 
       (at_least_fewer n cursor (Some word) (0 + (ended - began)) (ended - start - 16) (omega arith) (m cursor 0 p).count)
 
   -- and the member that it finds is the least after the cursor
-  pub next_member : (t : Tiling) (word found : Word) → found ≡ word → IsMember n class t → IsWordOf t word
+  pub next_member : (t : Tiling) (word found : Word) → found ≡ word → IsEntry n class (record { tiling = t; word = word })
       → Meets n class place word (ended - began) → IsNextMember n class cursor t found
-  next_member t word found same member is m = subst (λ (w : Word). IsNextMember n class cursor t w) (sym same)
-      (record { member = member; word_is = is; after = (m cursor 0 p).after; least = (m cursor 0 p).passed })
+  next_member t word found same is m = subst (λ (w : Word). IsNextMember n class cursor t w) (sym same)
+      (record { member = is.member; word_is = is.word; after = (m cursor 0 p).after; least = (m cursor 0 p).passed })
 
 -- a walk that has ended keeps its cursor
 pub kept_at_end : (n : ℕ) (class : Class) (cursor played : Word) (pushes : ℕ) → 2 ≤ n → n ≤ 16 → order_of cursor ≤ 16 → played ≡ []
@@ -55,8 +53,8 @@ finds_of n m class other place front met found e f finds = subst (λ (k : Class)
     (subst (λ (k : ℕ). Finds k other place front met found) e finds)
 
 -- a member's word is of its order
-pub members_order : (n : ℕ) (class : Class) (word : Word) → IsMembersWord n class word → order_of word ≡ n
-members_order n class word m = sym (ap order_of m.word_is) ∙ (entry_complete n class m.entry m.is).1
+pub members_order : (n : ℕ) (class : Class) (t : Tiling) (word : Word) → IsEntry n class (record { tiling = t; word = word }) → order_of word ≡ n
+members_order n class t word is = (entry_complete n class (record { tiling = t; word = word }) is).1
 
 -- a walk that has ended, by what is the same of it
 pub kept_ended : (n m : ℕ) (class other : Class) (cursor played : Word) (pushes : ℕ) → m ≡ n → other ≡ class → IsKeptWalk n class cursor played true pushes

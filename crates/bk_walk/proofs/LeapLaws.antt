@@ -75,7 +75,10 @@ module _ (n : ℕ) (class : Class) (word : Word) (tree : IsTreeWord n word) wher
   meets_all front k (l ∷ rest) place is from none cursor met p = subst (IsMet n class cursor word) many
       (meets_all (front ++ k ∷ []) l rest ((front ++ k ∷ []) ++ first_move ∷ []) goes_on
       (none_before_first (front ++ k ∷ []) l [] (on_the_way (front ++ k ∷ []) l rest goes_on).legal)
-      (record { none = λ e is_entry after before. none.none e is_entry (λ f. after (follows_trans e.word place ((front ++ k ∷ []) ++ first_move ∷ []) f up)) before })
+      (record {
+        none = λ e is_entry after before. none.none e is_entry
+            (λ f. after (follows_trans e.word place ((front ++ k ∷ []) ++ first_move ∷ []) f up)) before;
+      })
       cursor (met + 1)
       (met_on n class place ((front ++ k ∷ []) ++ first_move ∷ []) up none_between cursor met p (front ++ k ∷ []) (on_the_way front k (l ∷ rest) is)
       (some_moves front k) from to))

@@ -21,7 +21,6 @@ pub mod GoingTo
 pub mod LeapStates
 -- What a complete word tells, and what a walk takes up and answers.
 pub mod Members
-pub mod RepeatedSides
 pub mod UnfitFlows
 pub mod TakingUp
 pub mod Answering

@@ -1,5 +1,5 @@
 -- A member is in lowest terms, so a word has at most one.
-use Rattle.std.proofs.Common.{refl, subst, sym, ℕ, ◌≡◌}
+use Rattle.std.proofs.Common.{subst, sym, ℕ, ◌≡◌}
 use Rattle.bk_tiling.specs.Scale.{IsPrimitiveTiling}
 use Rattle.bk_tiling.specs.Tiling.{IsTiling, Tiling}
 use Rattle.bk_word.specs.Word.{Word, order_of}
@@ -23,10 +23,12 @@ member_from class t w tiling word q = record {
   canonical = q.canonical;
 }
 
--- and its word is a member's
-pub word_of_member : (n : ℕ) (class : Class) (t : Tiling) (w : Word) → IsMember n class t → IsWordOf t w → IsMembersWord n class w
-word_of_member n class t w member word =
-    record { entry = record { tiling = t; word = w }; is = record { member = member; word = word }; word_is = refl }
+-- an entry of an order and a class is one of those that are the same
+pub same_entry : (n m : ℕ) (class other : Class) (v w : Word) (t : Tiling) → m ≡ n → other ≡ class → v ≡ w → IsEntry m other (record { tiling = t; word = v })
+    → IsEntry n class (record { tiling = t; word = w })
+same_entry n m class other v w t e f g is = subst (λ (u : Word). IsEntry n class (record { tiling = t; word = u })) g
+    (subst (λ (k : Class). IsEntry n k (record { tiling = t; word = v })) f
+    (subst (λ (k : ℕ). IsEntry k other (record { tiling = t; word = v })) e is))
 
 -- where the one primitive tiling that has the word does not qualify, no member has it
 pub none_other : (n : ℕ) (class : Class) (t : Tiling) (w : Word) → IsTiling t → IsPrimitiveTiling t → IsWordOf t w → (Qualifies class t → ⊥)
@@ -39,8 +41,9 @@ none_other n class t w tiling primitive word not e is same =
         (canonical_primitive e.tiling (is.member).tiling (is.member).canonical) primitive (subst (IsWordOf e.tiling) same is.word) word
 
 -- the one tiling that has a member's word is the member
-pub member_realised : (n : ℕ) (class : Class) (w : Word) (t : Tiling) → IsMembersWord n class w → IsTilingOf w t → IsMember n class t
-member_realised n class w t m r = subst (IsMember n class) one (m.is).member
+pub member_realised : (n : ℕ) (class : Class) (w : Word) (t : Tiling) → IsMembersWord n class w → IsTilingOf w t
+    → IsEntry n class (record { tiling = t; word = w })
+member_realised n class w t m r = record { member = subst (IsMember n class) one (m.is).member; word = r.word }
   where
     one : (m.entry).tiling ≡ t
     one = a_word_has_one_primitive_tiling (m.entry).tiling t w ((m.is).member).tiling r.tiling

@@ -56,7 +56,7 @@ module _ (n : ℕ) (class : Class) (front : Word) (x m : Move) (least : IsLeastF
     record { up = up_from (new ++ next ∷ []) (leads.0).up; on = λ cursor before p. (leads.0).on cursor before (fits_on cursor before p) },
     leads.1,
   )
-  step_from new next met Met leads = (λ cursor before p. leads.0 cursor before (fits_on cursor before p), leads.1)
+  step_from new next met Met leads = λ cursor before p. leads cursor before (fits_on cursor before p)
   step_from new next met End leads = (λ cursor before p. leads.0 cursor before (fits_on cursor before p), leads.1)
 
   -- the search stands there too
@@ -87,7 +87,8 @@ module _ (n : ℕ) (class : Class) (place : Word) (legal : IsLegal place) (small
         (omega (arith, small, (entry_complete n class t.entry t.is).1)) (omega (arith, most, (entry_complete n class t.entry t.is).1))).1
         (omega (arith, t.from, t.number_is));
     least = λ other is from. (packed_places_compare (t.entry).word other.word (entry_word n class t.entry t.is).legal (entry_word n class other is).legal
-        (omega (arith, (entry_complete n class t.entry t.is).1, (entry_complete n class other is).1)) (omega (arith, most, (entry_complete n class other is).1))).1
+        (omega (arith, (entry_complete n class t.entry t.is).1, (entry_complete n class other is).1))
+        (omega (arith, most, (entry_complete n class other is).1))).1
         (omega (arith, t.number_is, t.least other is (of_order other is from)));
   }
   tells_of_place NoMore none = λ e is from. none e is (of_order e is from)

@@ -1,6 +1,9 @@
 -- The turns of a search: each is a step from where the last one led.
 use Rattle.std.proofs.Common.{arith, refl, subst, sym, ℕ, ◌+◌, ◌-◌, ◌<◌, ◌∙◌, ◌≤◌}
+use Rattle.bk_tiling.specs.Tiling.{Tiling}
 use Rattle.bk_word.specs.declared.Class.{Class}
+use Rattle.bk_catalogue.specs.Catalogue.{IsEntry}
+use Rattle.bk_walk.proofs.Members.{same_entry}
 use Rattle.bk_tree.proofs.Ranks.{left_after}
 use Rattle.bk_walk.proofs.SearchLoop.{Continues, continues_none, continues_on, counts_known, counts_none, counts_then, ends_then, meets_then, nearer}
 use Rattle.bk_walk.specs.Search.{Finds, IsKeptSearch, IsSearchState, SearchState, StaysOf, StepLeadsTo, place_of}
@@ -54,7 +57,9 @@ module _ (s t u : SearchState) (a b c : ℕ) (kept_t : IsKeptSearch t)
   )
 
   pub turn_finds : StepLeadsTo t.order t.class (place_of t) u.front u.next (c - b) Met → Finds s.order s.class (place_of s) u.front (c - a) Member
-  turn_finds leads = (
-    meets_then s.order s.class (place_of s) (place_of t) u.front (b - a) (c - b) (c - a) on (in_order Met leads).0 few,
-    (in_order Met leads).1,
-  )
+  turn_finds leads = meets_then s.order s.class (place_of s) (place_of t) u.front (b - a) (c - b) (c - a) on (in_order Met leads) few
+
+  -- and the entry that it meets is one of its order and class
+  pub turn_entry : (tiling : Tiling) → IsEntry t.order t.class (record { tiling = tiling; word = u.front })
+      → IsEntry s.order s.class (record { tiling = tiling; word = u.front })
+  turn_entry tiling is = same_entry s.order t.order s.class t.class u.front u.front tiling st.order st.class refl is

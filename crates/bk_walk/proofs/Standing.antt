@@ -22,7 +22,7 @@ use Rattle.bk_catalogue.proofs.OneEntry.{entry_complete}
 use Rattle.bk_cuts.specs.Cuts.{IsBarren}
 use Rattle.bk_walk.specs.MoveCuts.{GrowsByAtMostOne, IsCut}
 use Rattle.bk_tree.specs.NextMove.{IsLeastFrom, IsMoveFrom, first_move, fitted, move_after, open_sides}
-use Rattle.bk_walk.specs.WholeWords.{HasNoMember}
+use Rattle.bk_catalogue.specs.Repeated.{HasNoMember}
 use Rattle.bk_walk.specs.Search.{Advances, Ends, IsClimbed, IsSearchState, IsTreeWord, Meets}
 
 -- the first items, with the next one
@@ -99,7 +99,8 @@ front_of_more : (front : Word) (m : Move) → take (length (front ++ m ∷ []) -
 front_of_more front m = take_at front (m ∷ []) (length (front ++ m ∷ []) - 1) (omega (arith, length-append front (m ∷ [])))
 
 -- the move that is fitted is the least legal one
-pub step_least : (n : ℕ) (front : Word) (x m : Move) → IsSearchState n front x → m ≡ fitted (open_sides (outline_of front)) x → IsLeastFrom (outline_of front) x m
+pub step_least : (n : ℕ) (front : Word) (x m : Move) → IsSearchState n front x → m ≡ fitted (open_sides (outline_of front)) x
+    → IsLeastFrom (outline_of front) x m
 step_least n front x m s fits = subst (IsLeastFrom (outline_of front) x) (sym fits) (fit_least (outline_of front) x s.some)
 
 -- a step from a place where the move that fits hangs too many squares

@@ -1,5 +1,5 @@
 -- What a search is after a step from where its next move is legal.
-use Rattle.std.proofs.Common.{[], ap, arith, length, min, subst, sym, take, ℕ, ◌++◌, ◌+◌, ◌-◌, ◌<◌, ◌^◌, ◌∙◌, ◌∷◌, ◌≡◌, ◌≤◌}
+use Rattle.std.proofs.Common.{[], ap, arith, length, min, refl, subst, sym, take, ℕ, ◌++◌, ◌+◌, ◌-◌, ◌<◌, ◌^◌, ◌∙◌, ◌∷◌, ◌≡◌, ◌≤◌}
 use Rattle.bk_word.specs.Outline.{start}
 use Rattle.bk_word.specs.Play.{IsComplete, outline_of}
 use Rattle.bk_word.specs.Word.{Move, Word, order_of}
@@ -8,9 +8,11 @@ use Rattle.bk_word.proofs.PlayLaws.{few_signs, legal-snoc}
 use Rattle.bk_word.proofs.StoredBytes.{order_one}
 use Rattle.bk_cuts.specs.Cuts.{IsBarren}
 use Rattle.bk_tree.specs.NextMove.{first_move, move_after}
-use Rattle.bk_walk.specs.Leaping.{IsMembersWord}
+use Rattle.bk_catalogue.specs.Catalogue.{IsEntry}
+use Rattle.bk_tiling.specs.Tiling.{Tiling}
+use Rattle.bk_walk.proofs.Members.{same_entry}
 use Rattle.bk_walk.specs.MoveCuts.{GrowsByAtMostOne, IsCut}
-use Rattle.bk_walk.specs.WholeWords.{HasNoMember}
+use Rattle.bk_catalogue.specs.Repeated.{HasNoMember}
 use Rattle.bk_walk.specs.Search.{IsKeptSearch, IsReady, IsSearchState, SearchState, StaysOf, StepLeadsTo, place_of}
 use Rattle.bk_walk.specs.declared.search.Went.TheVariants.{Met, On}
 use Rattle.bk_walk.proofs.Standing.{step_cuts, step_goes_down, step_meets, step_turns_back}
@@ -59,7 +61,8 @@ module _ (s : SearchState) (kept : IsKeptSearch s) (ready : IsReady s) where
   -- over moves that are cut
   pub leads_over : (next : Move) (steps : ℕ) → IsCut s.order s.class s.front s.next next → GrowsByAtMostOne s.next next
       → StepLeadsTo s.order s.class (place_of s) s.front next (steps - steps) On
-  leads_over next steps cut near = step_cuts s.order s.class s.front s.next kept.most kept.stand ready.legal next (steps - steps) cut near ready.few (omega arith)
+  leads_over next steps cut near = step_cuts s.order s.class s.front s.next kept.most kept.stand ready.legal next (steps - steps) cut near ready.few
+      (omega arith)
 
   module _ (pushed : Word) (steps then : ℕ) (is : pushed ≡ s.front ++ s.next ∷ []) (one : then ≡ steps + 1) where
     -- down and back, where no member's word begins so
@@ -75,11 +78,8 @@ module _ (s : SearchState) (kept : IsKeptSearch s) (ready : IsReady s) where
         (omega (arith, one)) next first none
 
     -- to the word of a member
-    pub leads_to : (next : Move) → IsMembersWord s.order s.class pushed → StepLeadsTo s.order s.class (place_of s) pushed next (then - steps) Met
-    leads_to next member = (
-      step_meets s.order s.class s.front s.next kept.most kept.stand ready.legal ready.few pushed is (then - steps) (omega (arith, one)),
-      member,
-    )
+    pub leads_to : (next : Move) → StepLeadsTo s.order s.class (place_of s) pushed next (then - steps) Met
+    leads_to next = step_meets s.order s.class s.front s.next kept.most kept.stand ready.legal ready.few pushed is (then - steps) (omega (arith, one))
 
 -- the state after the push of a move, which stays the next
 abbrev pub down_from : SearchState → Move → SearchState
@@ -104,10 +104,13 @@ module _ (s t : SearchState) (kept : IsKeptSearch s) (ready : IsReady s) (m : Mo
   walked_down next first none = leads_down s kept ready t.front steps then front_is one next first
       (λ whole order. subst (λ (k : Class). HasNoMember k t.front) (ap (λ (u : SearchState). u.class) is) (none whole (order ∙ sym order_is)))
 
-  pub walked_to : (next : Move) → IsMembersWord t.order t.class t.front → StepLeadsTo s.order s.class (place_of s) t.front next (then - steps) Met
-  walked_to next member = leads_to s kept ready t.front steps then front_is one next
-      (subst (λ (k : Class). IsMembersWord s.order k t.front) (ap (λ (u : SearchState). u.class) is)
-      (subst (λ (n : ℕ). IsMembersWord n t.class t.front) order_is member))
+  pub walked_to : (next : Move) → StepLeadsTo s.order s.class (place_of s) t.front next (then - steps) Met
+  walked_to next = leads_to s kept ready t.front steps then front_is one next
+
+  -- that of an entry of its order and class
+  pub walked_entry : (tiling : Tiling) → IsEntry t.order t.class (record { tiling = tiling; word = t.front })
+      → IsEntry s.order s.class (record { tiling = tiling; word = t.front })
+  walked_entry tiling entry = same_entry s.order t.order s.class t.class t.front t.front tiling order_is (ap (λ (u : SearchState). u.class) is) refl entry
 
 -- no move is played
 pub stand_first : (n : ℕ) (front : Word) (next : Move) → front ≡ [] → next ≡ first_move → IsSearchState n front next

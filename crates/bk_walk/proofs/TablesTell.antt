@@ -25,8 +25,8 @@ tells_next t n class bound number order of_class from next = record {
     there e is = subst (λ (k : Class). IsEntry t.order k e) (sym of_class) (subst (λ (k : ℕ). IsEntry k class e) (sym order) is)
 
 -- and that it has none
-pub tells_none : (t : Finding) (n : ℕ) (class : Class) (bound : ℕ) → t.order ≡ n → t.class ≡ class → t.from ≤ bound → t.numbers.limit ≡ None → HasNoneFrom t bound
-    → (e : Entry) → IsEntry n class e → bound ≤ packed e.word → ⊥
+pub tells_none : (t : Finding) (n : ℕ) (class : Class) (bound : ℕ) → t.order ≡ n → t.class ≡ class → t.from ≤ bound → t.numbers.limit ≡ None
+    → HasNoneFrom t bound → (e : Entry) → IsEntry n class e → bound ≤ packed e.word → ⊥
 tells_none t n class bound order of_class from whole none e is above =
     none.none from whole e (subst (λ (k : Class). IsEntry t.order k e) (sym of_class) (subst (λ (k : ℕ). IsEntry k class e) (sym order) is))
     above

@@ -8,7 +8,8 @@ use Rattle.bk_word.proofs.FollowLaws.{not_itself}
 use Rattle.bk_catalogue.proofs.TwoSquares.{row_of_two}
 use Rattle.bk_catalogue.specs.Following.{HasNoneAfter}
 use Rattle.bk_walk.specs.Walking.{IsNextMember}
-use Rattle.bk_walk.specs.WholeWords.{HasNoMember, HasTwoAlike, IsUnfit}
+use Rattle.bk_walk.specs.WholeWords.{IsUnfit}
+use Rattle.bk_catalogue.proofs.RepeatedExamples.{row_alike}
 use Rattle.bk_catalogue.proofs.CatalogueExamples.{row_word, has_word, entry_is, row_word_of, no_perfect}
 
 -- a walk gives the row first, and nothing after it; in the class perfect nothing at all
@@ -26,11 +27,7 @@ none_after_it e is after = not_itself row_word (subst (λ (w : Word). Follows w 
 none_at_all : HasNoneAfter 2 Perfect []
 none_at_all e is after = no_perfect e is
 
--- the currents of the row's net are one number at two places, and no member of the class perfect has its word
-row_alike : HasTwoAlike (pos 1 ∷ pos 1 ∷ [])
-row_alike = record { first = 0; second = 1; number = pos 1; apart = omega arith; at_first = refl; at_second = refl }
-
--- so they are unfit in the class perfect, and in the class imperfect they are fit
+-- the currents of the row's net are one number twice, so they are unfit in the class perfect, and in the class imperfect they are fit
 row_unfit : IsUnfit Perfect (pos 1 ∷ pos 1 ∷ [])
 row_unfit = inr (refl, row_alike)
 
@@ -39,6 +36,3 @@ row_fit (inl (zero, c, within, at, below)) = let one : pos 1 ≡ c = at in omega
 row_fit (inl (suc zero, c, within, at, below)) = let one : pos 1 ≡ c = at in omega (arith, ints, one, below)
 row_fit (inl (suc (suc k), c, within, at, below)) = absurd (omega (arith, within))
 row_fit (inr (perfect, two)) = cc
-
-row_not_perfect : HasNoMember Perfect row_word
-row_not_perfect e is same = no_perfect e is

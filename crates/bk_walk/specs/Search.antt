@@ -6,7 +6,6 @@ use Rattle.bk_word.specs.Outline.{IsLegalMove}
 use Rattle.bk_word.specs.Play.{IsLegal, outline_of}
 use Rattle.bk_word.specs.Word.{Follows, Move, Word, order_of}
 use Rattle.bk_word.specs.declared.Class.{Class}
-use Rattle.bk_walk.specs.Leaping.{IsMembersWord}
 use Rattle.bk_walk.specs.declared.search.Found.{Found}
 use Rattle.bk_walk.specs.declared.search.Found.TheVariants.{Ended, Member}
 use Rattle.bk_tree.specs.NextMove.{move_after}
@@ -68,7 +67,7 @@ Meets n class place word met = (cursor : Word) (before : ℕ) → HasPassed n cl
 -- where a step of a search leads from a place: on to a later one, to the word of a member, or to the end
 abbrev pub StepLeadsTo : ℕ → Class → Word → Word → Move → ℕ → Went → Type 0
 StepLeadsTo n class place front x met On = Advances n class place (front ++ x ∷ []) met × IsSearchState n front x
-StepLeadsTo n class place front x met Met = Meets n class place front met × IsMembersWord n class front
+StepLeadsTo n class place front x met Met = Meets n class place front met
 StepLeadsTo n class place front x met End = Ends n class place met × (front ≡ [])
 
 -- the count of pushes goes on by the steps, up to the last number that it holds
@@ -82,8 +81,8 @@ pub record IsClimbed (before front : Word) (x : Move) : Type 0 where
   pub was : before ≡ front ++ last ∷ []
   pub next : x ≡ move_after last
 
--- a search: its order and class, the moves that it has played, the move from which it looks for the next legal one, and how many moves it
--- has pushed, up to the last number of 64 bits
+-- a search: its order and class, the moves that it has played, the move from which it looks for the next legal one, and how
+-- many moves it has pushed, up to the last number of 64 bits
 pub record SearchState : Type 0 where
   pub order : ℕ
   pub class : Class
@@ -115,5 +114,5 @@ pub record StaysOf (s then : SearchState) (steps steps_then : ℕ) : Type 0 wher
 
 -- what a search finds from a place: the word of a member, or the end
 abbrev pub Finds : ℕ → Class → Word → Word → ℕ → Found → Type 0
-Finds n class place front met Member = Meets n class place front met × IsMembersWord n class front
+Finds n class place front met Member = Meets n class place front met
 Finds n class place front met Ended = Ends n class place met × (front ≡ [])

@@ -6,23 +6,25 @@ ghost use Rattle.bk_net.specs.Flow.{IsPrimitiveFlow};
 ghost use Rattle.bk_word.specs.Play.{IsComplete};
 ghost use Rattle.bk_word.specs.Word.{order_of};
 ghost use Rattle.bk_word_net.specs.WordNet.{net_of_word};
-ghost use Rattle.bk_walk.specs.Leaping.{IsMembersWord};
-ghost use Rattle.bk_walk.specs.WholeWords.{HasNoMember, HasTwoAlike, IsUnfit};
+ghost use Rattle.bk_catalogue.specs.Catalogue.{IsEntry};
+ghost use Rattle.bk_catalogue.specs.Repeated.{HasNoMember, HasTwoAlike};
+ghost use Rattle.bk_walk.specs.WholeWords.{IsUnfit};
 
 use bk_flow::NarrowFlow;
 use bk_member_table::qualifies;
 use bk_skel::{Skel, flow_of, realise_by};
+use bk_tiling::Tiling;
 use bk_word::Class;
 
-// Whether a member of the class has a complete word of at most 16 squares.
-pub(crate) fn has_member(skel: &Skel, class: Class) -> bool
+// Whether a member of the class has a complete word of at most 16 squares. Where one has, `tiling` becomes that member.
+pub(crate) fn find_member(skel: &Skel, class: Class, tiling: &mut Tiling) -> bool
     requires whole { IsComplete skel.now }
     requires few { order_of skel.now ≤ 16 }
-    ensures yes { IsTrue result → IsMembersWord (order_of skel.now) class skel.now }
+    ensures yes { IsTrue result → IsEntry (order_of skel.now) class (record { tiling = tiling.new; word = skel.now }) }
     ensures no { result ≡ false → HasNoMember class skel.now }
 {
     match fit_flow(skel, class) {
-        Some(flow) => has_member_by(skel, &flow, class),
+        Some(flow) => find_by_flow(skel, &flow, class, tiling),
         None => false,
     }
 }
@@ -44,16 +46,23 @@ fn fit_flow(skel: &Skel, class: Class) -> Option<NarrowFlow>
     }
 }
 
-// Whether a member of the class has such a word, by its flow.
-fn has_member_by(skel: &Skel, flow: &NarrowFlow, class: Class) -> bool
+// The same by the word's flow. Room is taken for tilings here, so it stands in no frame that each step of a search makes.
+#[inline(never)]
+fn find_by_flow(skel: &Skel, flow: &NarrowFlow, class: Class, tiling: &mut Tiling) -> bool
     requires whole { IsComplete skel.now }
     requires flow { IsPrimitiveFlow (net_of_word skel.now) flow.now.total flow.now.currents }
     requires fit { ¬ (IsUnfit class flow.now.currents) }
-    ensures yes { IsTrue result → IsMembersWord (order_of skel.now) class skel.now }
+    ensures yes { IsTrue result → IsEntry (order_of skel.now) class (record { tiling = tiling.new; word = skel.now }) }
     ensures no { result ≡ false → HasNoMember class skel.now }
 {
     match realise_by(skel, flow) {
-        Some(tiling) => qualifies(&tiling, class),
+        Some(found) => {
+            if !qualifies(&found, class) {
+                return false;
+            }
+            *tiling = found;
+            true
+        }
         None => false,
     }
 }
@@ -80,16 +89,9 @@ fn has_two_alike(numbers: &[i64]) -> bool
     ensures { IsTrue result ↔ HasTwoAlike numbers.now }
 {
     for (i, number) in numbers.iter().enumerate() {
-        if is_among(*number, &numbers[..i]) {
+        if numbers[..i].contains(number) {
             return true;
         }
     }
     false
-}
-
-// Whether a number is one of these.
-fn is_among(number: i64, others: &[i64]) -> bool
-    ensures { IsTrue result ↔ Any (λ n. n ≡ number) others.now }
-{
-    others.iter().any(|other| *other == number)
 }

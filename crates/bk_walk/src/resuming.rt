@@ -18,6 +18,7 @@ use std::sync::ledger::Ledger;
 impl<const ROOM: usize> Search<ROOM> {
     // Plays the moves of the cursor that are not played yet, as far as they are legal and hang at most as many squares as the
     // order, and goes to the place from which nothing is passed but what isn't after the cursor.
+    #[inline(never)]
     pub(crate) fn resume<L: Ledger>(&mut self, cursor: &Word, steps: &mut Steps<L>)
         requires begun { take (length self.old.front) cursor.now ≡ self.old.front }
         requires few { order_of cursor.now ≤ 16 }

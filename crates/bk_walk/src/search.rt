@@ -5,18 +5,22 @@ ghost use Rattle.std.specs.Prelude.{IsTrue, [], false, min, ◌++◌, ◌+◌, �
 ghost use Rattle.bk_word.specs.Play.{IsComplete, outline_of};
 ghost use Rattle.bk_word.specs.Word.{order_of};
 ghost use Rattle.bk_tree.specs.NextMove.{first_move as first_of_all, open_sides as sides_open};
-ghost use Rattle.bk_walk.specs.Leaping.{IsMembersWord, TellsOfPlace};
-ghost use Rattle.bk_walk.specs.WholeWords.{HasNoMember};
+ghost use Rattle.bk_catalogue.specs.Catalogue.{IsEntry};
+ghost use Rattle.bk_walk.specs.Leaping.{TellsOfPlace};
+ghost use Rattle.bk_catalogue.specs.Repeated.{HasNoMember};
+ghost use Rattle.bk_walk.specs.declared.search.Found.TheVariants.{Member};
+ghost use Rattle.bk_walk.specs.declared.search.Went.TheVariants.{Met};
 ghost use Rattle.bk_walk.specs.Search.{Finds, IsClimbed, IsReady, StaysOf, StepLeadsTo, place_of};
 
 use crate::barren::{is_barren, skip};
-use crate::judging::has_member;
+use crate::judging::find_member;
 use crate::lined::LinedSkel;
 use crate::moves::{begin_anew, first_move, least_legal_from, next_move};
-use crate::tabled::{PATIENCE, Told, tell};
+use crate::tabled::{PATIENCE, Told, begin_table, tell};
 use bk_member_table::MemberTable;
 use bk_packed::number_with;
 use bk_skel::{Skel, Steps, open_side};
+use bk_tiling::Tiling;
 use bk_word::{Class, Move};
 use std::marker::Model;
 use std::sync::ledger::Ledger;
@@ -33,7 +37,7 @@ pub(crate) enum Went {
 
 // What a search finds.
 pub(crate) enum Found {
-    // a member, whose word is that of the moves played
+    // a member, whose word is that of the moves played, and which the tiling has become
     Member,
     // nothing more
     Ended,
@@ -93,14 +97,17 @@ impl<const ROOM: usize> Search<ROOM> {
         self.pushes
     }
 
-    /// Searches on from its place, up to the next member's word.
-    pub(crate) fn search<L: Ledger>(&mut self, steps: &mut Steps<L>) -> Found
+    /// Searches on from its place, up to the next member's word. `tiling` becomes that member where there is one. It isn't
+    /// inlined, so that the entry is made where `advance` returns it, without a copy.
+    #[inline(never)]
+    pub(crate) fn search<L: Ledger>(&mut self, steps: &mut Steps<L>, tiling: &mut Tiling) -> Found
         ensures finds { Finds self.old.order self.old.class (place_of self.old) self.new.front (steps.new - steps.old) result }
+        ensures member { result ≡ Member → IsEntry self.old.order self.old.class (record { tiling = tiling.new; word = self.new.front }) }
         ensures stays { StaysOf self.old self.new steps.old steps.new }
     {
         let _known = self.pushes;
         'turns: loop {
-            match self.step(steps) {
+            match self.step(steps, tiling) {
                 Went::On => {}
                 Went::End => return Found::Ended,
                 Went::Met => return Found::Member,
@@ -109,8 +116,9 @@ impl<const ROOM: usize> Search<ROOM> {
     }
 
     // Goes one step on: back from moves after which none is left, to where a table of members tells, or a step through the tree.
-    fn step<L: Ledger>(&mut self, steps: &mut Steps<L>) -> Went
+    fn step<L: Ledger>(&mut self, steps: &mut Steps<L>, tiling: &mut Tiling) -> Went
         ensures leads { StepLeadsTo self.old.order self.old.class (place_of self.old) self.new.front self.new.next (steps.new - steps.old) result }
+        ensures member { result ≡ Met → IsEntry self.old.order self.old.class (record { tiling = tiling.new; word = self.new.front }) }
         ensures stays { StaysOf self.old self.new steps.old steps.new }
     {
         least_legal_from(&mut self.next, open_sides(&self.lined));
@@ -122,9 +130,10 @@ impl<const ROOM: usize> Search<ROOM> {
             return Went::End;
         }
         match self.ask() {
-            Told::Nothing => self.walk_on(steps),
+            Told::Nothing => self.walk_on(steps, tiling),
             Told::Next(number) => {
                 self.leap(number, steps);
+                self.realise(tiling);
                 Went::Met
             }
             Told::NoMore => {
@@ -146,7 +155,7 @@ impl<const ROOM: usize> Search<ROOM> {
         let number = number_with(self.lined.skel(), &self.next);
         match tell(&self.table, self.order, self.class, number) {
             Told::Nothing => {
-                self.table = MemberTable::of(self.order, self.class, number);
+                begin_table(&mut self.table, self.order, self.class, number);
                 tell(&self.table, self.order, self.class, number)
             }
             answer => answer,
@@ -154,9 +163,10 @@ impl<const ROOM: usize> Search<ROOM> {
     }
 
     // Goes one step on through the tree: over moves that are cut, or down by the next move.
-    fn walk_on<L: Ledger>(&mut self, steps: &mut Steps<L>) -> Went
+    fn walk_on<L: Ledger>(&mut self, steps: &mut Steps<L>, tiling: &mut Tiling) -> Went
         requires { IsReady self.old }
         ensures leads { StepLeadsTo self.old.order self.old.class (place_of self.old) self.new.front self.new.next (steps.new - steps.old) result }
+        ensures member { result ≡ Met → IsEntry self.old.order self.old.class (record { tiling = tiling.new; word = self.new.front }) }
         ensures stays { StaysOf self.old self.new steps.old steps.new }
     {
         if skip(&self.lined, self.class, self.order, &mut self.next) {
@@ -169,7 +179,7 @@ impl<const ROOM: usize> Search<ROOM> {
             return Went::On;
         }
         begin_anew(&mut self.next);
-        if is_members(&self.lined, self.class, self.order) {
+        if is_members(&self.lined, self.class, self.order, tiling) {
             Went::Met
         } else {
             Went::On
@@ -221,13 +231,13 @@ fn climb(lined: &mut LinedSkel, next: &mut Move) -> bool
     true
 }
 
-// Whether the moves are the word of a member of the order.
-fn is_members(lined: &LinedSkel, class: Class, order: u8) -> bool
+// Whether the moves are the word of a member of the order. Where they are, `tiling` becomes that member.
+fn is_members(lined: &LinedSkel, class: Class, order: u8, tiling: &mut Tiling) -> bool
     requires order { order ≤ 16 }
-    ensures yes { IsTrue result → IsMembersWord order class lined.now }
+    ensures yes { IsTrue result → IsEntry order class (record { tiling = tiling.new; word = lined.now }) }
     ensures none { result ≡ false → IsComplete lined.now → order_of lined.now ≡ order → HasNoMember class lined.now }
 {
-    is_complete_of(lined, order) && has_member(lined.skel(), class)
+    is_complete_of(lined, order) && find_member(lined.skel(), class, tiling)
 }
 
 // Whether the moves are a complete word of the order.

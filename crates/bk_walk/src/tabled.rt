@@ -1,6 +1,7 @@
 //! What a table of members tells of those from a number on.
 #![tactic(auto)]
 
+ghost use Rattle.std.specs.Prelude.{◌≡◌, ◌≤◌};
 ghost use Rattle.bk_walk.specs.Leaping.{Tells};
 
 use bk_member_table::MemberTable;
@@ -27,8 +28,26 @@ pub(crate) enum Told {
     Nothing,
 }
 
-// What the table tells of the members of this order and class whose numbers aren't below this one. One of another order or class, or of members
-// from a greater number on, tells nothing; nor does one that was cut, of those above its greatest.
+// Makes the table one of the members of this order and class from a number on. Room for a second one is taken here, so that no call
+// of a walk that only asks pays for it.
+#[inline(never)]
+pub(crate) fn begin_table<const ROOM: usize>(
+    table: &mut MemberTable<ROOM>,
+    order: u8,
+    class: Class,
+    from: u128,
+)
+    requires least { 3 ≤ order }
+    requires most { order ≤ 16 }
+    ensures order { table.new.order ≡ order }
+    ensures class { table.new.class ≡ class }
+    ensures from { table.new.from ≡ from }
+{
+    *table = MemberTable::of(order, class, from);
+}
+
+// What the table tells of the members of this order and class whose numbers aren't below this one. One of another order or
+// class, or of members from a greater number on, tells nothing; nor does one that was cut, of those above its greatest.
 pub(crate) fn tell<const ROOM: usize>(
     table: &MemberTable<ROOM>,
     order: u8,

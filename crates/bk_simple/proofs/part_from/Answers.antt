@@ -1,23 +1,23 @@
-use Rattle.std.proofs.Common.{arith, subst, ◌≡◌}
+use Rattle.std.proofs.Common.{arith, get_or, length, subst, ◌<◌, ◌≡◌}
 use Rattle.bk_tiling.specs.Tiling.{order}
 use Rattle.bk_simple.proofs.PartTrials.{NoneBelow, none_below_start, none_from}
 use Rattle.bk_tiling.specs.declared.Square.{Square}
-use Rattle.bk_simple.proofs.Reaching.{none_behind, none_just}
+use Rattle.bk_simple.proofs.Reaching.{none_behind}
+use Rattle.bk_simple.proofs.Seams.{none_higher}
 use Rattle.bk_simple.proofs.part_from.Goals as goal
 
 abbrev none : Square
 none = record { x = 0; y = 0; s = 0 }
 
-pub returns-then-reaches_to-clause-none : goal.returns-then-reaches_to-clause-none
-returns-then-reaches_to-clause-none c =
-    none_just c.args.tiling.now c.squares-squares.ensures.kept.tiling c.args.i none c.right_end.result c.bottom_end.result c.right_end.ensures
-    c.bottom_end.ensures c.requires (rw c.squares-squares.ensures.value at c.reaches_to.ensures.0 c.if-reaches_to.true)
-
-pub returns-then-squares-j-clause-none : goal.returns-then-squares-j-clause-none
-returns-then-squares-j-clause-none c =
-    none_behind c.args.tiling.now c.squares-squares.ensures.kept.tiling c.args.i none c.right_end.result c.bottom_end.result c.right_end.ensures
-    c.bottom_end.ensures c.loop-j.j c.loop-j.invariant (omega (arith, c.loop-j-test.true, c.order-j-end.ensures.value))
-    (rw c.squares-squares.ensures.value at c.if-squares-j.true)
+pub returns-then-crosses-clause-none : goal.returns-then-crosses-clause-none
+returns-then-crosses-clause-none c =
+    let hangs = rw c.squares-squares.ensures.value at c.crosses.ensures.0 c.if-crosses.true in
+    let few : c.loop-j.j < length c.args.tiling.now.squares = omega (arith, c.loop-j-test.true, c.order-j-end.ensures.value) in
+    let behind : c.args.i < c.loop-j.j = omega arith in
+    none_behind c.args.tiling.now c.squares-squares.ensures.kept.tiling c.args.i none c.right_end.result
+    (get_or c.args.tiling.now.squares c.loop-j.j none).y c.right_end.ensures
+    (none_higher c.args.tiling.now c.squares-squares.ensures.kept.tiling c.args.i none c.loop-j.j c.args.tiling.now.height behind few hangs.0 hangs.1)
+    c.loop-j.j c.loop-j.invariant few (omega arith)
 
 pub loop-j-init : goal.loop-j-init
 loop-j-init c = none_below_start c.args.tiling.now c.args.i c.order-j-end.ensures.kept.tiling

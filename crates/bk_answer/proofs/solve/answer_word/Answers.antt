@@ -19,7 +19,8 @@ returns-in-Ok-Found-clause-reply g c =
     (g.O.Sink.written c.write_all.new.self)
     (tiling_line c.realise_in.new.tiling) c.as_slice.result.now c.write_all.result c.accepted.result
     (realised c.realise_in.new.tiling c.in-Ok-Found.ensures.complete c.in-Ok-Found.ensures.narrow
-    (subst (λ (found : Realised). IsRealised c.args.word.now (tiling_found found c.realise_in.new.tiling)) c.in-Ok-Found.field-0-is c.in-Ok-Found.ensures.realised))
+    (subst (λ (found : Realised). IsRealised c.args.word.now (tiling_found found c.realise_in.new.tiling))
+    c.in-Ok-Found.field-0-is c.in-Ok-Found.ensures.realised))
     (c.as_slice.ensures.value ∙ c.write_tiling.ensures) c.write_all.ensures.ok c.write_all.ensures.err c.accepted.ensures
 
 pub returns-in-Ok-Nothing-clause-reply : goal.returns-in-Ok-Nothing-clause-reply
@@ -27,7 +28,8 @@ returns-in-Ok-Nothing-clause-reply g c =
     refusal_replies (AnswersWord c.args.word.now) (16 < order_of c.args.word.now) Nothing (g.O.Sink.written c.args.out.now)
     (g.O.Sink.written c.refuse.new.out) c.refuse.result
     (no_tiling c.in-Ok-Nothing.ensures.complete c.in-Ok-Nothing.ensures.narrow
-    (subst (λ (found : Realised). IsRealised c.args.word.now (tiling_found found c.realise_in.new.tiling)) c.in-Ok-Nothing.field-0-is c.in-Ok-Nothing.ensures.realised))
+    (subst (λ (found : Realised). IsRealised c.args.word.now (tiling_found found c.realise_in.new.tiling))
+    c.in-Ok-Nothing.field-0-is c.in-Ok-Nothing.ensures.realised))
     c.refuse.ensures.outcome c.refuse.ensures.failed
 
 pub returns-in-Err-Illegal-clause-reply : goal.returns-in-Err-Illegal-clause-reply

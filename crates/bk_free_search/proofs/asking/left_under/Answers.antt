@@ -9,4 +9,5 @@ returns-then-is_left_on_line c = asked_on_line c.args.board.now c.args.place c.r
 
 pub returns : goal.returns
 returns c = asked_under c.args.board.now c.args.place c.requires.place c.args.passed c.past_one-behind.result c.requires.few
-    c.requires.counted c.past_one-behind.ensures.few c.has_mark.result c.past_one-behind.ensures.passed (λ e. c.requires.marks c.args.place (c.has_mark.ensures e))
+    c.requires.counted c.past_one-behind.ensures.few c.has_mark.result c.past_one-behind.ensures.passed (λ e. c.requires.marks c.args.place
+    (c.has_mark.ensures e))

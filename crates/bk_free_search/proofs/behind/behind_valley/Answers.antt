@@ -29,7 +29,11 @@ returns-then-place-signs c =
       under = (asks_at_wall true c.args.board.now c.at_end-then-place-signs-2.result.add c.at_end-then-place-signs-2.result.most
           c.at_end-then-place-signs-2.result.more at (c.at_end-then-place-signs-2.ensures.asks true 1 false refl (λ e. e))).0;
       few_above = let f = c.at_end.ensures.few in record { add = omega (arith, f.add); most = omega (arith, f.most); more = omega (arith, f.more) };
-      few_even = let f = c.at_end-then-place-signs.ensures.few in record { add = omega (arith, f.add); most = omega (arith, f.most); more = omega (arith, f.more) };
+      few_even = let f = c.at_end-then-place-signs.ensures.few in record {
+        add = omega (arith, f.add);
+        most = omega (arith, f.most);
+        more = omega (arith, f.more);
+      };
       few_under = let f = c.at_end-then-place-signs-2.ensures.few in record {
         add = omega (arith, f.add);
         most = omega (arith, f.most);
@@ -77,18 +81,38 @@ returns-then-first-signs c =
     let signs = (c.signs-signs.ensures ∙ ap (λ (v : Word). (outline_of v).signs) c.skel.ensures.value) in
     let sizes = (c.sizes-sizes.ensures ∙ ap (λ (v : Word). sizes_of (outline_of v)) c.skel-2.ensures.value) in
     let legal = (subst (λ (v : Word). IsLegal v) c.skel.ensures.value c.skel.ensures.legal) in record {
-      above = told_apart_last false c.args.board.now c.signs-signs.result.now c.sizes-sizes.result.now c.args.place c.at_end-then-first-signs.result.add c.at_end-then-first-signs.result.most c.at_end-then-first-signs.result.more
-          signs sizes c.requires.place c.if-first-signs.true legal (c.at_end-then-first-signs.ensures.asks false (slice_index_or c.sizes-sizes.result.now (c.args.place + 1) 0) (slice_index_or (marks_of_word c.args.board.now) (c.args.place + 1) false) refl
+      above = told_apart_last false c.args.board.now c.signs-signs.result.now c.sizes-sizes.result.now c.args.place
+          c.at_end-then-first-signs.result.add c.at_end-then-first-signs.result.most c.at_end-then-first-signs.result.more
+          signs sizes c.requires.place c.if-first-signs.true legal (c.at_end-then-first-signs.ensures.asks false
+          (slice_index_or c.sizes-sizes.result.now (c.args.place + 1) 0) (slice_index_or (marks_of_word c.args.board.now) (c.args.place + 1) false) refl
           (λ e. c.requires.marks (c.args.place + 1) (c.has_mark-mark.ensures e)));
-      even = told_joined_last false c.args.board.now c.signs-signs.result.now c.sizes-sizes.result.now c.args.place c.at_end-then-first-signs-2.result.add c.at_end-then-first-signs-2.result.most c.at_end-then-first-signs-2.result.more
-          signs sizes c.requires.place c.if-first-signs.true legal (c.at_end-then-first-signs-2.ensures.asks false (slice_index_or c.sizes-sizes.result.now (c.args.place + 1) 0) (slice_index_or (marks_of_word c.args.board.now) (c.args.place + 1) false || nat_le (first_count c.args.board.now) (slice_index_or (sizes_of (outline_of c.args.board.now)) (c.args.place + 1) 0 + 1)) refl
+      even = told_joined_last false c.args.board.now c.signs-signs.result.now c.sizes-sizes.result.now c.args.place
+          c.at_end-then-first-signs-2.result.add c.at_end-then-first-signs-2.result.most c.at_end-then-first-signs-2.result.more
+          signs sizes c.requires.place c.if-first-signs.true legal (c.at_end-then-first-signs-2.ensures.asks false
+          (slice_index_or c.sizes-sizes.result.now (c.args.place + 1) 0) (slice_index_or (marks_of_word c.args.board.now)
+          (c.args.place + 1) false || nat_le (first_count c.args.board.now) (slice_index_or (sizes_of (outline_of c.args.board.now))
+          (c.args.place + 1) 0 + 1)) refl
           (λ e. wide_mark c.args.board.now (c.args.place + 1) (c.is_wide_then-wide.ensures e)));
-      under = told_apart_last true c.args.board.now c.signs-signs.result.now c.sizes-sizes.result.now c.args.place c.at_end-then-first-signs-3.result.add c.at_end-then-first-signs-3.result.most c.at_end-then-first-signs-3.result.more
-          signs sizes c.requires.place c.if-first-signs.true legal (c.at_end-then-first-signs-3.ensures.asks true (slice_index_or c.sizes-sizes.result.now (c.args.place + 1) 0) (slice_index_or (marks_of_word c.args.board.now) (c.args.place + 1) false) refl
+      under = told_apart_last true c.args.board.now c.signs-signs.result.now c.sizes-sizes.result.now c.args.place
+          c.at_end-then-first-signs-3.result.add c.at_end-then-first-signs-3.result.most c.at_end-then-first-signs-3.result.more
+          signs sizes c.requires.place c.if-first-signs.true legal (c.at_end-then-first-signs-3.ensures.asks true
+          (slice_index_or c.sizes-sizes.result.now (c.args.place + 1) 0) (slice_index_or (marks_of_word c.args.board.now) (c.args.place + 1) false) refl
           (λ e. c.requires.marks (c.args.place + 1) (c.has_mark-mark.ensures e)));
-      few_above = let f = c.at_end-then-first-signs.ensures.few in record { add = omega (arith, f.add); most = omega (arith, f.most); more = omega (arith, f.more) };
-      few_even = let f = c.at_end-then-first-signs-2.ensures.few in record { add = omega (arith, f.add); most = omega (arith, f.most); more = omega (arith, f.more) };
-      few_under = let f = c.at_end-then-first-signs-3.ensures.few in record { add = omega (arith, f.add); most = omega (arith, f.most); more = omega (arith, f.more) };
+      few_above = let f = c.at_end-then-first-signs.ensures.few in record {
+        add = omega (arith, f.add);
+        most = omega (arith, f.most);
+        more = omega (arith, f.more);
+      };
+      few_even = let f = c.at_end-then-first-signs-2.ensures.few in record {
+        add = omega (arith, f.add);
+        most = omega (arith, f.most);
+        more = omega (arith, f.more);
+      };
+      few_under = let f = c.at_end-then-first-signs-3.ensures.few in record {
+        add = omega (arith, f.add);
+        most = omega (arith, f.most);
+        more = omega (arith, f.more);
+      };
     }
 
 pub overflow_add-first-2 : goal.overflow_add-first-2
@@ -159,21 +183,48 @@ returns c =
     ) in
     let index : c.args.place + 1 + 1 - 1 ≡ c.args.place + 1 = omega arith in
     let rest = subst (λ k. AreAsks (is_under (slice_index_or c.signs-signs.result.now k Above)) (drop (c.args.place + 1 + 1) c.signs-signs.result.now)
-    (drop (c.args.place + 1 + 1) c.sizes-sizes.result.now) (drop (c.args.place + 1 + 1) (marks_of_word c.args.board.now)) c.asks_from-rest.result.add c.asks_from-rest.result.most
-    c.asks_from-rest.result.more) index (c.asks_from-rest.ensures.asks (marks_of_word c.args.board.now) (marks_many c.args.board.now c.sizes-sizes.result.now sizes) c.requires.marks) in record {
-      above = told_apart false c.args.board.now c.signs-signs.result.now c.sizes-sizes.result.now c.args.place c.in_front.result.add c.in_front.result.most c.in_front.result.more
-          signs sizes c.requires.place less legal (c.in_front.ensures.asks false (drop (c.args.place + 1 + 1) c.signs-signs.result.now) (slice_index_or c.sizes-sizes.result.now (c.args.place + 1) 0)
-          (drop (c.args.place + 1 + 1) c.sizes-sizes.result.now) (slice_index_or (marks_of_word c.args.board.now) (c.args.place + 1) false) (drop (c.args.place + 1 + 1) (marks_of_word c.args.board.now)) rest refl
+    (drop (c.args.place + 1 + 1) c.sizes-sizes.result.now) (drop (c.args.place + 1 + 1)
+    (marks_of_word c.args.board.now)) c.asks_from-rest.result.add c.asks_from-rest.result.most
+    c.asks_from-rest.result.more) index (c.asks_from-rest.ensures.asks (marks_of_word c.args.board.now)
+    (marks_many c.args.board.now c.sizes-sizes.result.now sizes) c.requires.marks) in record {
+      above = told_apart false c.args.board.now c.signs-signs.result.now c.sizes-sizes.result.now c.args.place c.in_front.result.add
+          c.in_front.result.most c.in_front.result.more
+          signs sizes c.requires.place less legal (c.in_front.ensures.asks false (drop (c.args.place + 1 + 1) c.signs-signs.result.now)
+          (slice_index_or c.sizes-sizes.result.now (c.args.place + 1) 0)
+          (drop (c.args.place + 1 + 1) c.sizes-sizes.result.now) (slice_index_or (marks_of_word c.args.board.now) (c.args.place + 1) false) (drop
+          (c.args.place + 1 + 1) (marks_of_word c.args.board.now)) rest refl
           (λ e. c.requires.marks (c.args.place + 1) (c.has_mark-mark.ensures e)));
-      even = told_joined false c.args.board.now c.signs-signs.result.now c.sizes-sizes.result.now c.args.place c.in_front-2.result.add c.in_front-2.result.most c.in_front-2.result.more
-          signs sizes c.requires.place less legal (c.in_front-2.ensures.asks false (drop (c.args.place + 1 + 1) c.signs-signs.result.now) (slice_index_or c.sizes-sizes.result.now (c.args.place + 1) 0)
-          (drop (c.args.place + 1 + 1) c.sizes-sizes.result.now) (slice_index_or (marks_of_word c.args.board.now) (c.args.place + 1) false || nat_le (first_count c.args.board.now) (slice_index_or (sizes_of (outline_of c.args.board.now)) (c.args.place + 1) 0 + 1)) (drop (c.args.place + 1 + 1) (marks_of_word c.args.board.now)) rest refl
+      even = told_joined false c.args.board.now c.signs-signs.result.now c.sizes-sizes.result.now c.args.place c.in_front-2.result.add
+          c.in_front-2.result.most c.in_front-2.result.more
+          signs sizes c.requires.place less legal (c.in_front-2.ensures.asks false (drop (c.args.place + 1 + 1) c.signs-signs.result.now)
+          (slice_index_or c.sizes-sizes.result.now (c.args.place + 1) 0)
+          (drop (c.args.place + 1 + 1) c.sizes-sizes.result.now) (slice_index_or (marks_of_word c.args.board.now) (c.args.place + 1) false || nat_le
+          (first_count c.args.board.now) (slice_index_or (sizes_of (outline_of c.args.board.now)) (c.args.place + 1) 0 + 1)) (drop
+          (c.args.place + 1 + 1) (marks_of_word c.args.board.now)) rest refl
           (λ e. wide_mark c.args.board.now (c.args.place + 1) (c.is_wide_then-wide.ensures e)));
-      under = told_apart true c.args.board.now c.signs-signs.result.now c.sizes-sizes.result.now c.args.place c.in_front-3.result.add c.in_front-3.result.most c.in_front-3.result.more
-          signs sizes c.requires.place less legal (c.in_front-3.ensures.asks true (drop (c.args.place + 1 + 1) c.signs-signs.result.now) (slice_index_or c.sizes-sizes.result.now (c.args.place + 1) 0)
-          (drop (c.args.place + 1 + 1) c.sizes-sizes.result.now) (slice_index_or (marks_of_word c.args.board.now) (c.args.place + 1) false) (drop (c.args.place + 1 + 1) (marks_of_word c.args.board.now)) rest refl
+      under = told_apart true c.args.board.now c.signs-signs.result.now c.sizes-sizes.result.now c.args.place c.in_front-3.result.add
+          c.in_front-3.result.most c.in_front-3.result.more
+          signs sizes c.requires.place less legal (c.in_front-3.ensures.asks true (drop (c.args.place + 1 + 1) c.signs-signs.result.now)
+          (slice_index_or c.sizes-sizes.result.now (c.args.place + 1) 0)
+          (drop (c.args.place + 1 + 1) c.sizes-sizes.result.now) (slice_index_or (marks_of_word c.args.board.now) (c.args.place + 1) false) (drop
+          (c.args.place + 1 + 1) (marks_of_word c.args.board.now)) rest refl
           (λ e. c.requires.marks (c.args.place + 1) (c.has_mark-mark.ensures e)));
-      few_above = let f = c.in_front.ensures.few 401 c.asks_from-rest.ensures.few in record { add = omega (arith, f.add); most = omega (arith, f.most); more = omega (arith, f.more) };
-      few_even = let f = c.in_front-2.ensures.few 401 c.asks_from-rest.ensures.few in record { add = omega (arith, f.add); most = omega (arith, f.most); more = omega (arith, f.more) };
-      few_under = let f = c.in_front-3.ensures.few 401 c.asks_from-rest.ensures.few in record { add = omega (arith, f.add); most = omega (arith, f.most); more = omega (arith, f.more) };
+      few_above = let f = c.in_front.ensures.few 401 c.asks_from-rest.ensures.few in record {
+        add = omega (arith, f.add);
+        most = omega
+            (arith, f.most);
+        more = omega (arith, f.more);
+      };
+      few_even = let f = c.in_front-2.ensures.few 401 c.asks_from-rest.ensures.few in record {
+        add = omega (arith, f.add);
+        most = omega
+            (arith, f.most);
+        more = omega (arith, f.more);
+      };
+      few_under = let f = c.in_front-3.ensures.few 401 c.asks_from-rest.ensures.few in record {
+        add = omega (arith, f.add);
+        most = omega
+            (arith, f.most);
+        more = omega (arith, f.more);
+      };
     }

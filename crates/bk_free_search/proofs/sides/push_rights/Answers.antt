@@ -18,13 +18,13 @@ push-requires-2 c = (lit< tt, omega (arith, c.others.invariant.long, c.requires.
 
 pub others-preserved : goal.others-preserved
 others-preserved c = record {
-  items = ap (λ l. l ++ numbers_from (c.args.hung + (c.others.k + 1) + 1) (c.args.count - (c.others.k + 1))) c.push.ensures.items
+  items = ap (λ l. l ++ numbers_from (c.args.hung + (c.others.k + 1) + 1) (c.args.count - (c.others.k + 1))) c.push.ensures
       ∙ next_left c.others.rights.items c.args.hung c.others.k c.args.count
       (c.args.rights.now.items ++ numbers_from (c.args.hung + 2) (c.args.count - 1)) c.others-test.true c.others.invariant.items;
   long = omega (
     arith,
     c.others.invariant.long,
-    ap (λ (l : List ℕ). length l) c.push.ensures.items,
+    ap (λ (l : List ℕ). length l) c.push.ensures,
     length-append c.others.rights.items ((c.args.hung + c.others.k + 1) ∷ []),
   );
   few = omega (arith, c.others-test.true);
@@ -32,6 +32,6 @@ others-preserved c = record {
 
 pub returns : goal.returns
 returns c =
-    c.push-2.ensures.items
+    c.push-2.ensures
     ∙ ap (λ l. l ++ c.args.last ∷ []) (last_left c.others.rights.items c.args.hung c.others.k c.args.count
     (c.args.rights.now.items ++ numbers_from (c.args.hung + 2) (c.args.count - 1)) (omega (arith, c.others-test.false)) c.others.invariant.items)

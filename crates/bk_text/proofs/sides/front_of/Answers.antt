@@ -6,16 +6,16 @@ use Rattle.bk_text.proofs.sides.front_of.Goals as goal
 
 pub returns-in-Comma : goal.returns-in-Comma
 returns-in-Comma c =
-    front_side c.args.bracket c.args.bytes.now c.side_in_front-side.result.0 c.side_in_front-side.result.1 false c.side_in_front-side.ensures.spelled
+    front_side c.args.bracket c.args.bytes.now c.number_in_front-side.result.0 c.number_in_front-side.result.1 false c.number_in_front-side.ensures.spelled
     (omega arith) (omega arith)
-    (comma_ends (get_or c.args.bytes.now c.side_in_front-side.result.1 0) c.side_in_front-side.result.0 c.args.bracket (omega arith)
+    (comma_ends (get_or c.args.bytes.now c.number_in_front-side.result.1 0) c.number_in_front-side.result.0 c.args.bracket (omega arith)
     (sym c.kind_of.ensures ∙ c.in-Comma.is))
 
 pub returns-in-Close : goal.returns-in-Close
 returns-in-Close c =
-    front_side c.args.bracket c.args.bytes.now c.side_in_front-side.result.0 c.side_in_front-side.result.1 true c.side_in_front-side.ensures.spelled
+    front_side c.args.bracket c.args.bytes.now c.number_in_front-side.result.0 c.number_in_front-side.result.1 true c.number_in_front-side.ensures.spelled
     (omega arith) (omega arith)
-    (subst (λ (z : Bracket). Ends (get_or c.args.bytes.now c.side_in_front-side.result.1 0) z c.side_in_front-side.result.0 true)
+    (subst (λ (z : Bracket). Ends (get_or c.args.bytes.now c.number_in_front-side.result.1 0) z c.number_in_front-side.result.0 true)
     (sym (c.are_of_one_kind.ensures c.if-are_of_one_kind.true))
-    (bracket_ends (get_or c.args.bytes.now c.side_in_front-side.result.1 0) c.side_in_front-side.result.0 c.in-Close.other (omega arith)
+    (bracket_ends (get_or c.args.bytes.now c.number_in_front-side.result.1 0) c.number_in_front-side.result.0 c.in-Close.other (omega arith)
     (sym c.kind_of.ensures ∙ c.in-Close.is)))

@@ -1,5 +1,8 @@
-use Rattle.bk_tiling.proofs.Sweeping.{levels_more}
+use Rattle.std.proofs.Common.{sym, ◌*◌, ◌∙◌}
+use Rattle.bk_tiling.proofs.Areas.{covered_by_area}
 use Rattle.bk_tiling.proofs.checks.first_uncovered.Goals as goal
 
-pub levels-preserved : goal.levels-preserved
-levels-preserved c = levels_more c.args.width c.args.squares.now c.levels.y c.in-Covered.until c.levels.invariant c.in-Covered.ensures.1
+pub returns-then-area_of-from-clause-none : goal.returns-then-area_of-from-clause-none
+returns-then-area_of-from-clause-none c =
+    covered_by_area c.args.width c.args.height c.args.squares.now c.requires.within c.requires.apart
+    (sym c.area_of.ensures ∙ c.if-area_of-from.true ∙ (λ i. c.from.ensures i * c.from-2.ensures i))

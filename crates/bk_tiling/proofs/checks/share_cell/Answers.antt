@@ -6,8 +6,8 @@ pub returns-then-spans_meet : goal.returns-then-spans_meet
 returns-then-spans_meet c =
     let p = c.args.p in
     let q = c.args.q in
-    let across : (p.x < q.x + q.s) × (q.x < p.x + p.s) = c.spans_meet.ensures.0 c.if-spans_meet.true in (
-      λ t. let down : (p.y < q.y + q.s) × (q.y < p.y + p.s) = c.spans_meet-then-spans_meet.ensures.0 t in
+    let down : (p.y < q.y + q.s) × (q.y < p.y + p.s) = c.spans_meet.ensures.0 c.if-spans_meet.true in (
+      λ t. let across : (p.x < q.x + q.s) × (q.x < p.x + p.s) = c.spans_meet-then-spans_meet.ensures.0 t in
           shares_from p q (omega arith) (omega arith) across.0 across.1 down.0 down.1,
-      λ h. let k : Cross p q = cross_from p q h in c.spans_meet-then-spans_meet.ensures.1 (k.bottom, k.top),
+      λ h. let k : Cross p q = cross_from p q h in c.spans_meet-then-spans_meet.ensures.1 (k.right, k.left),
     )

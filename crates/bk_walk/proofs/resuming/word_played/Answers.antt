@@ -8,7 +8,11 @@ pub push-requires-clause-stands : goal.push-requires-clause-stands
 push-requires-clause-stands c = legal_stands c.args.skel.now c.moves.i c.read_move.new.m c.moves-i-end.ensures.kept.legal c.read_move.ensures
 
 pub push-requires-clause-few : goal.push-requires-clause-few
-push-requires-clause-few c = omega (arith, order_at c.args.skel.now c.moves.i c.read_move.new.m 16 c.read_move.ensures c.requires, ap order_of c.moves.invariant)
+push-requires-clause-few c = omega (
+  arith,
+  order_at c.args.skel.now c.moves.i c.read_move.new.m 16 c.read_move.ensures c.requires,
+  ap order_of c.moves.invariant,
+)
 
 no : false ≡ true → ⊥
 no e = cc

@@ -12,4 +12,5 @@ pub returns-else-is_cut : goal.returns-else-is_cut
 returns-else-is_cut g c =
     let of_class : c.args.table.now.class ≡ c.args.class = search rules in
     tells_none c.args.table.now c.args.order c.args.class c.args.number (sym c.order.ensures ∙ c.if-order.false) of_class
-    (omega (arith, c.from.ensures, c.if-number-from.false)) (no_limit c.args.table.now.numbers.limit (sym c.is_cut.ensures.value ∙ c.if-is_cut.false)) c.in-None.ensures.none
+    (omega (arith, c.from.ensures, c.if-number-from.false)) (no_limit c.args.table.now.numbers.limit (sym c.is_cut.ensures.value ∙ c.if-is_cut.false))
+    c.in-None.ensures.none

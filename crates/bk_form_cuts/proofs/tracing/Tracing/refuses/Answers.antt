@@ -105,8 +105,10 @@ returns-then-eq-clause-all c =
       numbers = numbers j;
       levels = levels j;
       signs = signs j;
-    }) c.contradicts.new.ledger c.as_slice-6.result.now c.as_slice-7.result.now (c.order-then-eq.result + c.from.result) (c.contradicts.ensures.kept c.if-contradicts.false)
-    (c.as_slice-6.ensures.value ∙ sym c.as_slice-4.ensures.value) (c.as_slice-7.ensures.value ∙ sym c.as_slice-5.ensures.value) (λ i. c.order-then-eq.ensures.value i + (c.from.ensures ∙ ap (λ (m : Move). m.count) c.m.view_is) i)
+    }) c.contradicts.new.ledger c.as_slice-6.result.now c.as_slice-7.result.now (c.order-then-eq.result + c.from.result)
+    (c.contradicts.ensures.kept c.if-contradicts.false)
+    (c.as_slice-6.ensures.value ∙ sym c.as_slice-4.ensures.value) (c.as_slice-7.ensures.value ∙ sym c.as_slice-5.ensures.value)
+    (λ i. c.order-then-eq.ensures.value i + (c.from.ensures ∙ ap (λ (m : Move). m.count) c.m.view_is) i)
     c.contradicts.result c.compares_otherwise.result c.has_equal_sides.result c.if-contradicts.false c.contradicts.ensures.widths c.contradicts.ensures.levels
     c.if-compares_otherwise.false c.compares_otherwise.ensures.all (λ _ equal. c.has_equal_sides.ensures.all equal)
 
@@ -131,7 +133,8 @@ returns-else-eq-clause-all c =
       numbers = numbers j;
       levels = levels j;
       signs = signs j;
-    }) c.contradicts.new.ledger c.as_slice-6.result.now c.as_slice-7.result.now (order_of c.args.skel.now + c.args.m.now.count) (c.contradicts.ensures.kept c.if-contradicts.false)
+    }) c.contradicts.new.ledger c.as_slice-6.result.now c.as_slice-7.result.now (order_of c.args.skel.now + c.args.m.now.count)
+    (c.contradicts.ensures.kept c.if-contradicts.false)
     (c.as_slice-6.ensures.value ∙ sym c.as_slice-4.ensures.value) (c.as_slice-7.ensures.value ∙ sym c.as_slice-5.ensures.value) refl
     c.contradicts.result c.compares_otherwise.result c.eq.result c.if-contradicts.false c.contradicts.ensures.widths c.contradicts.ensures.levels
     c.if-compares_otherwise.false c.compares_otherwise.ensures.all (λ perfect _. search rules)

@@ -1,11 +1,11 @@
-use Rattle.std.proofs.Common.{List, [], ap, arith, count_by, length, nat_eq, slice_index_or, ℕ, ◌∙◌}
+use Rattle.std.proofs.Common.{List, [], ap, arith, length, slice_index_or, ℕ, ◌∙◌}
 use Rattle.bk_word.specs.Outline.{start}
 use Rattle.bk_word.specs.Play.{outline_of}
 use Rattle.bk_word.specs.Word.{Word, order_of}
 use Rattle.bk_word.proofs.PlayLaws.{moves_many}
 use Rattle.bk_bounds.proofs.BoundsOfWords.{sizes_long}
-use Rattle.bk_normal_cuts.specs.WordNumbers.{left_squares, right_squares}
-use Rattle.bk_free_search.proofs.WordCounts.{first_size, left_walls, right_walls}
+use Rattle.bk_normal_cuts.specs.WordNumbers.{first_count, left_squares, right_squares}
+use Rattle.bk_free_search.proofs.WordCounts.{first_size}
 use Rattle.bk_free_search.proofs.board.Board.counts.Goals as goal
 
 pub bounds-sizes-0 : goal.bounds-sizes-0
@@ -15,15 +15,13 @@ pub returns : goal.returns
 returns c =
     let w = c.self.inside.skel in
     let bottom = ap (λ (l : List ℕ). slice_index_or l 0 0) c.sizes.ensures ∙ first_size (outline_of w).segments in
-    let left = c.times.ensures ∙ ap (count_by (λ l. nat_eq l 0)) (c.deref.ensures.0 ∙ c.self.invariant.left_word.lefts_are) ∙ left_walls w in
-    let right = c.times-2.ensures ∙ ap (count_by (λ l. nat_eq l 1)) (c.deref-2.ensures.0 ∙ c.self.invariant.rights_are) ∙ right_walls w in
     let same = c.self.view_is in λ i. record {
       squares = (c.order.ensures.value ∙ ap order_of same) i;
       moves = (c.moves.ensures.value ∙ ap (λ (v : Word). length v) same) i;
-      top = c.first.ensures i;
+      top = (c.self.invariant.first_is ∙ ap first_count same) i;
       bottom = (bottom ∙ ap (λ (v : Word). length (slice_index_or (outline_of v).segments 0 [])) same) i;
-      left = (left ∙ ap left_squares same) i;
-      right = (right ∙ ap right_squares same) i;
+      left = (c.self.invariant.left_is ∙ ap left_squares same) i;
+      right = (c.self.invariant.right_is ∙ ap right_squares same) i;
     }
 
 pub overflow_cast-result-2 : goal.overflow_cast-result-2

@@ -8,6 +8,7 @@ use Rattle.bk_free_search.specs.Rights.{last_right}
 use Rattle.bk_free_search.proofs.BoardMoves.{beside_same, board_more}
 use Rattle.bk_free_search.proofs.LeftLines.{left_count}
 use Rattle.bk_free_search.proofs.RightLines.{as_many_rights}
+use Rattle.bk_free_search.proofs.WordCounts.{few_left, few_right}
 use Rattle.bk_free_search.proofs.board.Board.push.Goals as goal
 
 pub invariant_of-self : goal.invariant_of-self
@@ -15,7 +16,7 @@ invariant_of-self c =
     let w = c.self.inside.skel in
     let valley = c.valley_squares-squares.ensures in
     board_more w c.play.new.self c.args.m.now c.self.inside.lefts.items c.self.inside.rights.items c.self.inside.nodes.items c.self.inside.first
-    c.self.invariant
+    c.self.inside.left c.self.inside.right c.self.invariant
     (subst (λ (v : Word). IsLegalMove (outline_of v) c.args.m.now) (sym c.self.view_is) c.requires.legal) c.play.ensures
     (record {
       hung = c.order-behind.result;
@@ -25,26 +26,30 @@ invariant_of-self c =
       squares = valley_of (outline_of w);
       squares_are = refl;
       left = c.left_of_first-first.result;
-      left_is = c.left_of_first-first.ensures ∙ (λ i. first_left (c.deref.ensures.0 i) (valley i));
+      left_is = c.left_of_first-first.ensures ∙ (λ i. first_left (c.as_slice.ensures.items i) (valley i));
       right = c.right_of_last-last.result;
-      right_is = c.right_of_last-last.ensures ∙ (λ i. last_right (c.deref-2.ensures.0 i) (valley i));
+      right_is = c.right_of_last-last.ensures ∙ (λ i. last_right (c.as_slice-2.ensures.items i) (valley i));
       lefts_then = c.push_lefts.new.lefts.items;
       lefts_are = c.push_lefts.ensures;
       rights_then = c.push_rights.new.rights.items;
       rights_are = c.push_rights.ensures;
       lines = c.node_lines-lines.result;
-      only = λ line has. beside_same c.deref-3.result.now c.push_lefts.new.lefts.items c.deref-4.result.now c.push_rights.new.rights.items
+      only = λ line has. beside_same c.as_slice-3.result.now c.push_lefts.new.lefts.items c.as_slice-4.result.now c.push_rights.new.rights.items
           c.valley_squares-squares.result.now (valley_of (outline_of w))
-          c.order-behind.result c.order-behind.result c.m.inside.count c.m.inside.count line c.deref-3.ensures.0 c.deref-4.ensures.0
+          c.order-behind.result c.order-behind.result c.m.inside.count c.m.inside.count line c.as_slice-3.ensures.items c.as_slice-4.ensures.items
           valley refl refl (c.node_lines-lines.ensures.only line has);
-      all = λ line low b. c.node_lines-lines.ensures.all line low (beside_same c.push_lefts.new.lefts.items c.deref-3.result.now
-          c.push_rights.new.rights.items c.deref-4.result.now (valley_of (outline_of w)) c.valley_squares-squares.result.now
-          c.order-behind.result c.order-behind.result c.m.inside.count c.m.inside.count line (sym c.deref-3.ensures.0) (sym c.deref-4.ensures.0)
+      all = λ line low b. c.node_lines-lines.ensures.all line low (beside_same c.push_lefts.new.lefts.items c.as_slice-3.result.now
+          c.push_rights.new.rights.items c.as_slice-4.result.now (valley_of (outline_of w)) c.valley_squares-squares.result.now
+          c.order-behind.result c.order-behind.result c.m.inside.count c.m.inside.count line (sym c.as_slice-3.ensures.items) (sym c.as_slice-4.ensures.items)
           (sym valley) refl refl b);
       nodes_then = c.push.new.self.items;
-      nodes_are = c.push.ensures.items;
+      nodes_are = c.push.ensures;
       first_then = c.first_after-self-inside.result;
       first_is = c.first_after-self-inside.ensures;
+      left_then = c.at_wall_after-self-inside.result;
+      left_then_is = c.at_wall_after-self-inside.ensures;
+      right_then = c.at_wall_after-self-inside-2.result;
+      right_then_is = c.at_wall_after-self-inside-2.ensures;
     })
 
 pub push_lefts-requires-clause-fits : goal.push_lefts-requires-clause-fits
@@ -80,3 +85,9 @@ push-requires c = (
     c.requires.few,
   ),
 )
+
+pub at_wall_after-self-inside-requires : goal.at_wall_after-self-inside-requires
+at_wall_after-self-inside-requires c = omega (arith, c.self.invariant.left_is, few_left c.self.inside.skel, ap order_of c.self.view_is, c.requires.few)
+
+pub at_wall_after-self-inside-requires-2 : goal.at_wall_after-self-inside-requires-2
+at_wall_after-self-inside-requires-2 c = omega (arith, c.self.invariant.right_is, few_right c.self.inside.skel, ap order_of c.self.view_is, c.requires.few)

@@ -5,7 +5,6 @@ use Rattle.bk_free_search.proofs.BoardMoves.{right_on_board}
 use Rattle.bk_free_search.proofs.board.Board.right_of.Goals as goal
 
 pub returns : goal.returns
-returns c = c.right_of.ensures ∙ ap (λ l. slice_index_or l (c.args.square - 1) 1) c.deref.ensures.0
-    ∙ right_on_board c.self.inside.skel c.self.inside.lefts.items c.self.inside.rights.items c.self.inside.nodes.items c.self.inside.first c.args.square
-    c.self.invariant
+returns c = c.right_of.ensures ∙ ap (λ l. slice_index_or l (c.args.square - 1) 1) c.as_slice.ensures.items
+    ∙ right_on_board c.self.inside.skel c.self.inside.rights.items c.args.square c.self.invariant.rights_are
     ∙ ap (λ (w : Word). (sides_at (sides_of w) c.args.square).1) c.self.view_is

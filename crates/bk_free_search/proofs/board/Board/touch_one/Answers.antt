@@ -8,6 +8,6 @@ use Rattle.bk_free_search.proofs.board.Board.touch_one.Goals as goal
 
 pub returns : goal.returns
 returns c touch = subst (λ (w : Word). TouchOneNode w c.args.left c.args.right) c.self.view_is
-    (touch_lines c.self.inside.skel c.self.inside.lefts.items c.self.inside.rights.items c.self.inside.nodes.items c.self.inside.first c.args.left c.args.right
-    c.self.invariant (not_both c.args.left c.args.right c.else-left-eq0.either)
-    (subst (λ (nodes : List LineSet). HasBoth nodes c.args.left c.args.right) c.deref.ensures.0 (c.has_both.ensures touch)))
+    (touch_lines c.self.inside.skel c.self.inside.nodes.items c.args.left c.args.right c.self.invariant.node_lines
+    (not_both c.args.left c.args.right c.else-left-eq0.either)
+    (subst (λ (nodes : List LineSet). HasBoth nodes c.args.left c.args.right) c.as_slice.ensures.items (c.has_both.ensures touch)))

@@ -10,11 +10,41 @@ decreases-go_on g l = 1000 * (l.self.now.order - order_of l.self.now.board) + 95
 abbrev pub decreases-with_counts : goal.decreases-with_counts
 decreases-with_counts g l = 1000 * (l.self.now.order - order_of l.self.now.board) + 900
 
-abbrev pub decreases-with_signs : goal.decreases-with_signs
-decreases-with_signs g l = 1000 * (l.self.now.order - order_of l.self.now.board) + 2 * (l.begun.now.m.count + 2 - length l.begun.now.m.signs) + 2
+abbrev pub decreases-with_last_square : goal.decreases-with_last_square
+decreases-with_last_square g l = 1000 * (l.self.now.order - order_of l.self.now.board) + 900
+
+abbrev pub decreases-with_left : goal.decreases-with_left
+decreases-with_left g l = 1000 * (l.self.now.order - order_of l.self.now.board) + 850
+
+abbrev pub decreases-with_left_wall : goal.decreases-with_left_wall
+decreases-with_left_wall g l = 1000 * (l.self.now.order - order_of l.self.now.board) + 840
+
+abbrev pub decreases-with_first : goal.decreases-with_first
+decreases-with_first g l = 1000 * (l.self.now.order - order_of l.self.now.board) + 840
+
+abbrev pub decreases-with_own : goal.decreases-with_own
+decreases-with_own g l = 1000 * (l.self.now.order - order_of l.self.now.board) + 4 * (l.begun.now.m.count + 2 - length l.begun.now.m.signs) + 3
+
+abbrev pub decreases-with_above : goal.decreases-with_above
+decreases-with_above g l = 1000 * (l.self.now.order - order_of l.self.now.board) + 4 * (l.begun.now.m.count + 2 - length l.begun.now.m.signs) + 2
+
+abbrev pub decreases-with_more : goal.decreases-with_more
+decreases-with_more g l = 1000 * (l.self.now.order - order_of l.self.now.board) + 4 * (l.begun.now.m.count + 2 - length l.begun.now.m.signs) + 1
 
 abbrev pub decreases-with_sign : goal.decreases-with_sign
-decreases-with_sign g l = 1000 * (l.self.now.order - order_of l.self.now.board) + 2 * (l.begun.now.m.count + 2 - length l.begun.now.m.signs) + 1
+decreases-with_sign g l = 1000 * (l.self.now.order - order_of l.self.now.board) + 4 * (l.begun.now.m.count + 2 - length l.begun.now.m.signs)
+
+abbrev pub decreases-with_right : goal.decreases-with_right
+decreases-with_right g l = 1000 * (l.self.now.order - order_of l.self.now.board) + 3
+
+abbrev pub decreases-with_right_wall : goal.decreases-with_right_wall
+decreases-with_right_wall g l = 1000 * (l.self.now.order - order_of l.self.now.board) + 2
+
+abbrev pub decreases-with_last : goal.decreases-with_last
+decreases-with_last g l = 1000 * (l.self.now.order - order_of l.self.now.board) + 2
+
+abbrev pub decreases-with_whole : goal.decreases-with_whole
+decreases-with_whole g l = 1000 * (l.self.now.order - order_of l.self.now.board) + 1
 
 abbrev pub decreases-with_move : goal.decreases-with_move
 decreases-with_move g l = 1000 * (l.self.now.order - order_of l.self.now.board)

@@ -10,7 +10,8 @@ put_in_order-requires-clause-sides c =
     copied c.try_extend_from_slice.result c.new-squares.result.items c.as_slice.result.now c.self.inside.squares.items
     c.try_extend_from_slice.new.self.items (sym c.is_err.ensures.value ∙ c.if-is_err.false) c.try_extend_from_slice.ensures.ok c.new-squares.ensures
     c.as_slice.ensures.value in
-    subst HaveSides (sym items) (stored_sides c.self.inside.width c.self.inside.height c.self.inside.squares.items c.self.inside.apart c.self.invariant)
+    subst HaveSides (sym items) (stored_sides c.self.inside.width c.self.inside.height c.self.inside.squares.items c.self.inside.apart
+    c.self.inside.small c.self.invariant)
 
 pub put_in_order-requires-clause-apart : goal.put_in_order-requires-clause-apart
 put_in_order-requires-clause-apart c =
@@ -18,7 +19,8 @@ put_in_order-requires-clause-apart c =
     copied c.try_extend_from_slice.result c.new-squares.result.items c.as_slice.result.now c.self.inside.squares.items
     c.try_extend_from_slice.new.self.items (sym c.is_err.ensures.value ∙ c.if-is_err.false) c.try_extend_from_slice.ensures.ok c.new-squares.ensures
     c.as_slice.ensures.value in
-    subst ShareNoCell (sym items) (stored_apart c.self.inside.width c.self.inside.height c.self.inside.squares.items c.self.inside.apart c.self.invariant)
+    subst ShareNoCell (sym items) (stored_apart c.self.inside.width c.self.inside.height c.self.inside.squares.items c.self.inside.apart
+    c.self.inside.small c.self.invariant)
 
 pub from_known-requires : goal.from_known-requires
 from_known-requires c =
@@ -26,5 +28,5 @@ from_known-requires c =
     copied c.try_extend_from_slice.result c.new-squares.result.items c.as_slice.result.now c.self.inside.squares.items
     c.try_extend_from_slice.new.self.items (sym c.is_err.ensures.value ∙ c.if-is_err.false) c.try_extend_from_slice.ensures.ok c.new-squares.ensures
     c.as_slice.ensures.value in
-    stored_kept c.self.inside.width c.self.inside.height c.self.inside.squares.items c.self.inside.apart c.self.invariant _
+    stored_kept c.self.inside.width c.self.inside.height c.self.inside.squares.items c.self.inside.apart c.self.inside.small c.self.invariant _
     (c.put_in_order.ensures ∙ ap in_code_order items)

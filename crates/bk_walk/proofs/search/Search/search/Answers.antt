@@ -1,6 +1,7 @@
-use Rattle.std.proofs.Common.{subst}
+use Rattle.std.proofs.Common.{refl, subst, ◌≡◌}
 use Rattle.bk_walk.specs.Search.{IsKeptSearch}
-use Rattle.bk_walk.proofs.SearchTurns.{stays_same, stays_then, turn_ends, turn_finds, turn_kept, turn_nearer, turn_on, turns_none}
+use Rattle.bk_walk.specs.declared.search.Found.TheVariants.{Ended, Member}
+use Rattle.bk_walk.proofs.SearchTurns.{stays_same, stays_then, turn_ends, turn_entry, turn_finds, turn_kept, turn_nearer, turn_on, turns_none}
 use Rattle.bk_walk.proofs.search.Search.search.Goals as goal
 
 pub turns-init : goal.turns-init
@@ -29,3 +30,13 @@ returns-in-End-clause-finds g c = turn_ends c.args.self.now c.turns.self c.step.
 pub returns-in-Met-clause-finds : goal.returns-in-Met-clause-finds
 returns-in-Met-clause-finds g c = turn_finds c.args.self.now c.turns.self c.step.new.self c.args.steps.now c.turns.steps c.step.new.steps
     c.turns.invariant.kept c.turns.invariant.on c.turns.invariant.stays c.in-Met.ensures.stays c.in-Met.ensures.leads
+
+pub returns-in-End-clause-member : goal.returns-in-End-clause-member
+returns-in-End-clause-member g c = λ found. absurd (not_found found)
+  where
+    not_found : Ended ≡ Member → ⊥
+    not_found e = cc
+
+pub returns-in-Met-clause-member : goal.returns-in-Met-clause-member
+returns-in-Met-clause-member g c = λ _. turn_entry c.args.self.now c.turns.self c.step.new.self c.args.steps.now c.turns.steps c.step.new.steps
+    c.turns.invariant.kept c.turns.invariant.on c.turns.invariant.stays c.in-Met.ensures.stays c.step.new.tiling (c.in-Met.ensures.member refl)

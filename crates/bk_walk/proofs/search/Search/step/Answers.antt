@@ -1,8 +1,11 @@
-use Rattle.std.proofs.Common.{[], ap, arith, rules, subst, sym, ℕ, ◌++◌, ◌-◌, ◌∙◌, ◌∷◌, ◌≡◌}
+use Rattle.std.proofs.Common.{[], ap, arith, refl, rules, subst, sym, ℕ, ◌++◌, ◌-◌, ◌∙◌, ◌∷◌, ◌≡◌}
 use Rattle.bk_word.specs.Play.{outline_of}
 use Rattle.bk_word.specs.Word.{Move}
 use Rattle.bk_tree.specs.NextMove.{fitted, open_sides}
-use Rattle.bk_walk.specs.Leaping.{IsNextFrom}
+use Rattle.bk_word.specs.declared.Class.{Class}
+use Rattle.bk_catalogue.specs.Catalogue.{IsEntry}
+use Rattle.bk_walk.specs.Leaping.{IsMembersWord, IsNextFrom}
+use Rattle.bk_walk.proofs.Members.{same_entry}
 use Rattle.bk_walk.specs.Search.{IsReady, SearchState, StepLeadsTo, place_of}
 use Rattle.bk_walk.specs.declared.search.Went.TheVariants.{End, Met, On}
 use Rattle.bk_walk.proofs.PlaceLaws.{ends_there, fitted_stand, step_from}
@@ -19,18 +22,19 @@ invariant_of-self g c = record {
   least = c.self.invariant.least;
   most = c.self.invariant.most;
   stand = (step_climbs c.self.inside.order c.self.inside.class c.self.inside.lined c.self.inside.next c.least_legal_from.new.m c.self.invariant.most
-      c.self.invariant.stand (least_fits c.least_legal_from.new.m c.self.inside.next c.open_sides.result (open_sides (outline_of c.self.inside.lined)) c.least_legal_from.ensures
-      c.open_sides.ensures.value) c.climb.new.lined c.climb.new.next (c.args.steps.now - c.args.steps.now) (c.climb.ensures.on c.if-climb.true)
-      (c.hangs_over.ensures.over c.if-hangs_over.true) (omega arith)).1;
+      c.self.invariant.stand (least_fits c.least_legal_from.new.m c.self.inside.next c.open_sides.result (open_sides (outline_of c.self.inside.lined))
+      c.least_legal_from.ensures c.open_sides.ensures.value) c.climb.new.lined c.climb.new.next (c.args.steps.now - c.args.steps.now)
+      (c.climb.ensures.on c.if-climb.true) (c.hangs_over.ensures.over c.if-hangs_over.true) (omega arith)).1;
   known = c.self.invariant.known;
 }
 
 pub returns-then-climb-clause-leads : goal.returns-then-climb-clause-leads
 returns-then-climb-clause-leads g c = subst (λ (s : SearchState). StepLeadsTo s.order s.class (place_of s) c.climb.new.lined c.climb.new.next
-    (c.args.steps.now - c.args.steps.now) On) c.self.view_is (step_climbs c.self.inside.order c.self.inside.class c.self.inside.lined c.self.inside.next c.least_legal_from.new.m c.self.invariant.most
-    c.self.invariant.stand (least_fits c.least_legal_from.new.m c.self.inside.next c.open_sides.result (open_sides (outline_of c.self.inside.lined)) c.least_legal_from.ensures
-    c.open_sides.ensures.value) c.climb.new.lined c.climb.new.next (c.args.steps.now - c.args.steps.now) (c.climb.ensures.on c.if-climb.true)
-    (c.hangs_over.ensures.over c.if-hangs_over.true) (omega arith))
+    (c.args.steps.now - c.args.steps.now) On) c.self.view_is (step_climbs c.self.inside.order c.self.inside.class c.self.inside.lined c.self.inside.next
+    c.least_legal_from.new.m c.self.invariant.most c.self.invariant.stand
+    (least_fits c.least_legal_from.new.m c.self.inside.next c.open_sides.result (open_sides (outline_of c.self.inside.lined))
+    c.least_legal_from.ensures c.open_sides.ensures.value) c.climb.new.lined c.climb.new.next (c.args.steps.now - c.args.steps.now)
+    (c.climb.ensures.on c.if-climb.true) (c.hangs_over.ensures.over c.if-hangs_over.true) (omega arith))
 
 pub invariant_of-self-then-hangs_over : goal.invariant_of-self-then-hangs_over
 invariant_of-self-then-hangs_over g c = record {
@@ -44,8 +48,8 @@ pub returns-then-hangs_over-clause-leads : goal.returns-then-hangs_over-clause-l
 returns-then-hangs_over-clause-leads g c = subst (λ (s : SearchState). StepLeadsTo s.order s.class (place_of s) c.climb.new.lined c.begin_anew.new.m
     (c.args.steps.now - c.args.steps.now) End) c.self.view_is (
       step_ends c.self.inside.order c.self.inside.class c.self.inside.lined c.self.inside.next c.least_legal_from.new.m c.self.invariant.most
-          c.self.invariant.stand (least_fits c.least_legal_from.new.m c.self.inside.next c.open_sides.result (open_sides (outline_of c.self.inside.lined)) c.least_legal_from.ensures
-          c.open_sides.ensures.value) (c.args.steps.now - c.args.steps.now) (c.climb.ensures.end c.if-climb.false)
+          c.self.invariant.stand (least_fits c.least_legal_from.new.m c.self.inside.next c.open_sides.result (open_sides (outline_of c.self.inside.lined))
+          c.least_legal_from.ensures c.open_sides.ensures.value) (c.args.steps.now - c.args.steps.now) (c.climb.ensures.end c.if-climb.false)
           (c.hangs_over.ensures.over c.if-hangs_over.true) (omega arith),
       c.climb.ensures.kept c.if-climb.false,
     )
@@ -96,8 +100,8 @@ returns-in-Nothing-clause-leads g c =
     c.open_sides.ensures.value) in
     subst (λ (s : SearchState). StepLeadsTo s.order s.class (place_of s) c.walk_on.new.self.front c.walk_on.new.self.next
     (c.walk_on.new.steps - c.args.steps.now) c.walk_on.result) c.self.view_is
-    (step_from c.self.inside.order c.self.inside.class c.self.inside.lined c.self.inside.next c.least_legal_from.new.m least c.walk_on.new.self.front c.walk_on.new.self.next
-    (c.walk_on.new.steps - c.args.steps.now) c.walk_on.result
+    (step_from c.self.inside.order c.self.inside.class c.self.inside.lined c.self.inside.next c.least_legal_from.new.m least c.walk_on.new.self.front
+    c.walk_on.new.self.next (c.walk_on.new.steps - c.args.steps.now) c.walk_on.result
     (subst (λ (s : SearchState). StepLeadsTo s.order s.class (place_of s) c.walk_on.new.self.front c.walk_on.new.self.next
     (c.walk_on.new.steps - c.args.steps.now) c.walk_on.result) c.in-Nothing.ensures.same c.walk_on.ensures.leads))
 
@@ -108,10 +112,10 @@ returns-in-Next-clause-leads g c =
     c.open_sides.ensures.value) in
     subst (λ (s : SearchState). StepLeadsTo s.order s.class (place_of s) c.leap.new.self.front c.leap.new.self.next
     (c.leap.new.steps - c.args.steps.now) Met) c.self.view_is
-    (step_from c.self.inside.order c.self.inside.class c.self.inside.lined c.self.inside.next c.least_legal_from.new.m least c.leap.new.self.front c.leap.new.self.next
-    (c.leap.new.steps - c.args.steps.now) Met
+    (step_from c.self.inside.order c.self.inside.class c.self.inside.lined c.self.inside.next c.least_legal_from.new.m least c.leap.new.self.front
+    c.leap.new.self.next (c.leap.new.steps - c.args.steps.now) Met
     (subst (λ (s : SearchState). StepLeadsTo s.order s.class (place_of s) c.leap.new.self.front c.leap.new.self.next
-    (c.leap.new.steps - c.args.steps.now) Met) c.in-Next.ensures.same (c.leap.ensures.meets, c.leap.ensures.member)))
+    (c.leap.new.steps - c.args.steps.now) Met) c.in-Next.ensures.same c.leap.ensures.meets))
 
 pub returns-in-NoMore-clause-leads : goal.returns-in-NoMore-clause-leads
 returns-in-NoMore-clause-leads g c =
@@ -120,9 +124,46 @@ returns-in-NoMore-clause-leads g c =
     c.open_sides.ensures.value) in
     subst (λ (s : SearchState). StepLeadsTo s.order s.class (place_of s) c.new-self-inside.result c.self.inside.next
     (c.args.steps.now - c.args.steps.now) End) c.self.view_is
-    (step_from c.self.inside.order c.self.inside.class c.self.inside.lined c.self.inside.next c.least_legal_from.new.m least c.new-self-inside.result c.self.inside.next
-    (c.args.steps.now - c.args.steps.now) End (
+    (step_from c.self.inside.order c.self.inside.class c.self.inside.lined c.self.inside.next c.least_legal_from.new.m least c.new-self-inside.result
+    c.self.inside.next (c.args.steps.now - c.args.steps.now) End (
       ends_there c.self.inside.order c.self.inside.class (c.self.inside.lined ++ c.least_legal_from.new.m ∷ []) (c.args.steps.now - c.args.steps.now)
           c.in-NoMore.ensures.tells (omega arith),
       c.new-self-inside.ensures,
     ))
+
+-- on isn't there, nor is the end
+not_on : On ≡ Met → ⊥
+not_on e = cc
+
+not_end : End ≡ Met → ⊥
+not_end e = cc
+
+pub returns-then-climb-clause-member : goal.returns-then-climb-clause-member
+returns-then-climb-clause-member g c = λ met. absurd (not_on met)
+
+pub returns-then-hangs_over-clause-member : goal.returns-then-hangs_over-clause-member
+returns-then-hangs_over-clause-member g c = λ met. absurd (not_end met)
+
+pub returns-in-Nothing-clause-member : goal.returns-in-Nothing-clause-member
+returns-in-Nothing-clause-member g c = λ met. subst (λ (s : SearchState). IsEntry s.order s.class
+    (record { tiling = c.walk_on.new.tiling; word = c.walk_on.new.self.front })) c.self.view_is
+    (subst (λ (s : SearchState). IsEntry s.order s.class (record { tiling = c.walk_on.new.tiling; word = c.walk_on.new.self.front }))
+    c.in-Nothing.ensures.same (c.walk_on.ensures.member met))
+
+pub realise-requires : goal.realise-requires
+realise-requires g c = (
+  search rules,
+  subst (λ (n : ℕ). IsMembersWord n c.leap.new.self.class c.leap.new.self.front) (sym c.leap.ensures.stays.order)
+      (subst (λ (k : Class). IsMembersWord c.ask.new.self.order k c.leap.new.self.front) (sym c.leap.ensures.stays.class) c.leap.ensures.member),
+)
+
+pub returns-in-Next-clause-member : goal.returns-in-Next-clause-member
+returns-in-Next-clause-member g c = λ _. subst (λ (s : SearchState). IsEntry s.order s.class
+    (record { tiling = c.realise.new.tiling; word = c.leap.new.self.front })) c.self.view_is
+    (subst (λ (s : SearchState). IsEntry s.order s.class (record { tiling = c.realise.new.tiling; word = c.leap.new.self.front }))
+    c.in-Next.ensures.same
+    (same_entry c.ask.new.self.order c.leap.new.self.order c.ask.new.self.class c.leap.new.self.class c.leap.new.self.front c.leap.new.self.front
+    c.realise.new.tiling c.leap.ensures.stays.order c.leap.ensures.stays.class refl c.realise.ensures))
+
+pub returns-in-NoMore-clause-member : goal.returns-in-NoMore-clause-member
+returns-in-NoMore-clause-member g c = λ met. absurd (not_end met)

@@ -1,8 +1,9 @@
-use Rattle.std.proofs.Common.{[], ap, subst, sym, ℕ, ◌++◌, ◌-◌, ◌∙◌, ◌∷◌}
+use Rattle.std.proofs.Common.{[], ap, subst, sym, ℕ, ◌++◌, ◌-◌, ◌∙◌, ◌≡◌, ◌∷◌}
 use Rattle.bk_walk.specs.Search.{IsReady, IsSearchState, SearchState, StepLeadsTo, place_of}
 use Rattle.bk_walk.specs.declared.search.Went.{Went}
-use Rattle.bk_walk.specs.declared.search.Went.TheVariants.{On}
-use Rattle.bk_walk.proofs.StateLaws.{leads_over, walked_back, walked_down, walked_to}
+use Rattle.bk_walk.specs.declared.search.Went.TheVariants.{Met, On}
+use Rattle.bk_walk.proofs.StateLaws.{leads_over, walked_back, walked_down, walked_entry, walked_to}
+use Rattle.bk_catalogue.specs.Catalogue.{IsEntry}
 use Rattle.bk_walk.proofs.search.Search.walk_on.Goals as goal
 use Rattle.bk_walk.proofs.search.Search.walk_on.Goals.{else-is_members, then-is_members}
 
@@ -39,11 +40,30 @@ returns-clause-leads g c = subst (λ (s : SearchState). StepLeadsTo s.order s.cl
       | then-is_members w ↦ subst (λ (r : Went). StepLeadsTo c.self.inside.order c.self.inside.class (c.self.inside.lined ++ c.self.inside.next ∷ [])
           c.self-2.inside.lined c.begin_anew.new.m (c.go_down.new.steps - c.args.steps.now) r) (sym w.result-is)
           (walked_to _ _ c.self.invariant (subst IsReady (sym c.self.view_is) c.requires) c.skip.new.m c.args.steps.now c.go_down.new.steps
-          (c.self-2.view_is ∙ c.go_down.ensures.state) (c.skip.ensures.kept c.if-skip.false) c.go_down.ensures.step c.begin_anew.new.m
-          (c.is_members.ensures.yes w.if-is_members.true))
+          (c.self-2.view_is ∙ c.go_down.ensures.state) (c.skip.ensures.kept c.if-skip.false) c.go_down.ensures.step c.begin_anew.new.m)
       | else-is_members w ↦ subst (λ (r : Went). StepLeadsTo c.self.inside.order c.self.inside.class (c.self.inside.lined ++ c.self.inside.next ∷ [])
           c.self-2.inside.lined c.begin_anew.new.m (c.go_down.new.steps - c.args.steps.now) r) (sym w.result-is)
           (walked_down _ _ c.self.invariant (subst IsReady (sym c.self.view_is) c.requires) c.skip.new.m c.args.steps.now c.go_down.new.steps
           (c.self-2.view_is ∙ c.go_down.ensures.state) (c.skip.ensures.kept c.if-skip.false) c.go_down.ensures.step c.begin_anew.new.m
           c.begin_anew.ensures (c.is_members.ensures.none w.if-is_members.false))
     ])
+
+-- on isn't there
+not_met : On ≡ Met → ⊥
+not_met e = cc
+
+pub returns-then-skip-clause-member : goal.returns-then-skip-clause-member
+returns-then-skip-clause-member g c = λ met. absurd (not_met met)
+
+pub returns-then-is_barren-clause-member : goal.returns-then-is_barren-clause-member
+returns-then-is_barren-clause-member g c = λ met. absurd (not_met met)
+
+pub returns-clause-member : goal.returns-clause-member
+returns-clause-member g c = elim c.if-is_members.branch [
+  | then-is_members w ↦ λ _. subst (λ (s : SearchState). IsEntry s.order s.class
+      (record { tiling = c.is_members.new.tiling; word = c.self-2.inside.lined })) c.self.view_is
+      (walked_entry _ _ c.self.invariant (subst IsReady (sym c.self.view_is) c.requires) c.skip.new.m c.args.steps.now c.go_down.new.steps
+      (c.self-2.view_is ∙ c.go_down.ensures.state) (c.skip.ensures.kept c.if-skip.false) c.go_down.ensures.step c.is_members.new.tiling
+      (c.is_members.ensures.yes w.if-is_members.true))
+  | else-is_members w ↦ λ met. absurd (not_met (sym w.result-is ∙ met))
+]

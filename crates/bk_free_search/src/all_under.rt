@@ -1,0 +1,115 @@
+//! Moves after which all signs are under. Where no more moves are left than segments, these are closed one by one at the right wall, so how the
+//! word ends is known before the move is played.
+#![tactic(auto)]
+
+ghost use Rattle.std.specs.List.{AllByRecursion, list_any};
+ghost use Rattle.std.specs.Prelude.{IsTrue, [], count_by, drop, length, ◌++◌, ◌+◌, ◌<◌, ◌∷◌, ◌≡◌, ◌≤◌};
+ghost use Rattle.bk_word.specs.Outline.{IsLegalMove, valley_place};
+ghost use Rattle.bk_word.specs.Play.{outline_of};
+ghost use Rattle.bk_word.specs.Signs.{is_above, is_even};
+ghost use Rattle.bk_word.specs.Word.{order_of};
+ghost use Rattle.bk_word.specs.declared.Sign.TheVariants.{Under};
+ghost use Rattle.bk_normal_cuts.specs.NormalCuts.{IsNormalBarren};
+ghost use Rattle.bk_free_search.specs.AllUnder.{StandsAfter};
+
+use crate::ahead::most_moves;
+use crate::board::Board;
+use crate::counts::one_if;
+use bk_bound_counts::first_above;
+use bk_word::{Move, Sign};
+
+/// What stands after a move: how many squares at the top and at each wall, and how many signs. (Own.)
+#[derive(Clone, Copy, Drop)]
+pub(crate) struct After {
+    pub(crate) top: u8,
+    pub(crate) left: usize,
+    pub(crate) right: usize,
+    pub(crate) signs: usize,
+}
+
+/// Whether no word of a normal layout goes on by this legal move, since all signs are under then, no more moves are left than segments, and to
+/// close these one by one doesn't end the word, or ends one with too many squares at a wall.
+pub(crate) fn ends_otherwise(board: &Board, m: &Move, order: u8) -> bool
+    requires least { 3 ≤ order }
+    requires most { order ≤ 16 }
+    requires few { order_of board.now + m.now.count < order }
+    requires legal { IsLegalMove (outline_of board.now) m.now }
+    ensures { IsTrue result → IsNormalBarren order (board.now ++ m.now ∷ []) }
+{
+    if !are_under_then(board, m) {
+        return false;
+    }
+    let after = look_after(board, m);
+    let moves = board.skel().moves() + 1 + after.signs;
+    if moves + 1 < most_moves(order, after.top, after.left.max(after.right)) {
+        return false;
+    }
+    if board.skel().order() + usize::from(m.count) + after.signs != usize::from(order) {
+        return true;
+    }
+    if after.right + after.signs < after.left {
+        return true;
+    }
+    2 * (moves + 1) == usize::from(order) + 3 && usize::from(after.top) < after.right + after.signs
+}
+
+// Whether none of the move's own signs is above, nor one of those behind the leftmost valley: then all are under after the move.
+fn are_under_then(board: &Board, m: &Move) -> bool
+    ensures { IsTrue result → AllByRecursion (λ s. s ≡ Under) (outline_of (board.now ++ m.now ∷ [])).signs }
+{
+    if is_any_above(m.signs.as_slice()) {
+        return false;
+    }
+    let signs = board.skel().signs();
+    !is_any_above(behind(signs, first_above(signs)))
+}
+
+// What stands after the legal move.
+fn look_after(board: &Board, m: &Move) -> After
+    requires few { order_of board.now + m.now.count ≤ 16 }
+    requires legal { IsLegalMove (outline_of board.now) m.now }
+    ensures stands { StandsAfter board.now m.now result }
+    ensures few { (result.left ≤ 256) × (result.right ≤ 256) × (result.signs ≤ 100) }
+{
+    let counts = board.counts();
+    let (left_wall, right_wall) = board.skel().walls();
+    After {
+        top: top_after(counts.moves, counts.top, m.count),
+        left: usize::from(counts.left) + one_if(left_wall),
+        right: usize::from(counts.right) + one_if(right_wall),
+        signs: board.skel().signs().len() + usize::from(m.count) - 1 - evens_in(m.signs.as_slice()),
+    }
+}
+
+// How many squares hang from the top after a move of so many, where before it there were so many moves, and so many squares hung there.
+fn top_after(moves: u8, top: u8, count: u8) -> u8
+    ensures none { moves ≡ 0 → result ≡ count }
+    ensures some { 0 < moves → result ≡ top }
+{
+    if moves == 0 { count } else { top }
+}
+
+// The signs behind that at a place.
+fn behind(signs: &[Sign], place: usize) -> &[Sign]
+    requires { place ≤ length signs.now }
+    ensures { result.now ≡ drop (place + 1) signs.now }
+{
+    if place == signs.len() {
+        return &[];
+    }
+    &signs[place + 1..]
+}
+
+// Whether one of the signs is above.
+fn is_any_above(signs: &[Sign]) -> bool
+    ensures { result ≡ list_any is_above signs.now }
+{
+    signs.iter().any(|sign| sign.is_above())
+}
+
+// How many of the signs are even.
+fn evens_in(signs: &[Sign]) -> usize
+    ensures { result ≡ count_by is_even signs.now }
+{
+    signs.iter().filter(|sign| sign.is_even()).count()
+}

@@ -1,0 +1,15 @@
+-- What a contract sees of a short list.
+-- Example (ShortExamples): where 7, 8, 9 stand in the first of five places, `replace` of the second item by 4 and 5 leaves
+-- 7, 4, 5, 9; one place is to spare then, and no clause says what stands in it.
+use Rattle.std.specs.Coded.{Coded, code_by, coded_list, coded×}
+use Rattle.std.specs.Prelude.{List, refl}
+
+-- the items in order, and what stands in the places to spare, of which no clause says anything
+pub record Short (T : Type 0) : Type 0 where
+  pub items : List T
+  pub spare : List T
+
+-- a short list is stored as the pair of both
+abbrev pub short_code : {T : Type 0} → Coded T → Coded (Short T)
+short_code {T} code = code_by (List T × List T) (coded× (coded_list code) (coded_list code)) (λ s. (s.items, s.spare))
+    (λ p. record { items = p.0; spare = p.1 }) (λ _. refl)

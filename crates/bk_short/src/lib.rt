@@ -1,0 +1,116 @@
+//! Short lists that lie in the value itself, so that a copy of it is a copy of the list.
+#![tactic(auto)]
+
+ghost use Rattle.std.specs.List.{splice};
+ghost use Rattle.std.specs.Prelude.{[], length, take, ◌+◌, ◌++◌, ◌-◌, ◌<◌, ◌∷◌, ◌≡◌, ◌≤◌};
+
+use std::marker::Model;
+
+/// A list of at most `N` items. A place to spare holds whatever stood there last. (Own.)
+#[derive(Clone, Copy, Drop)]
+pub struct Short<T, const N: usize> {
+    cells: [T; N],
+    len: usize,
+}
+
+impl<T, const N: usize> Model for Short<T, N> {
+    ghost use Rattle.std.proofs.Common.{length-take-le, subst, sym, take-append-drop};
+    ghost use Rattle.std.specs.Prelude.{drop, length, take, ◌++◌, ◌≡◌, ◌≤◌};
+    ghost use Rattle.bk_short.specs.Short.{Short as Seen, short_code};
+
+    ghost Value = { Seen T };
+
+    ghost coded = { short_code T.code };
+
+    ghost view = { λ s. record { items = take s.len s.cells; spare = drop s.len s.cells } };
+
+    ghost invariant = { λ s. (s.len ≤ N) × (length s.cells ≡ N) };
+
+    ghost inverse = { λ s. record { cells = s.items ++ s.spare; len = length s.items } };
+
+    ghost inverse_ok = { λ s h i. record {
+      cells = take-append-drop s.len s.cells i;
+      len = length-take-le s.len s.cells (subst (λ n. s.len ≤ n) (sym h.1) h.0) i;
+    } };
+}
+
+impl<T: Copy + Default, const N: usize> Short<T, N> {
+    /// No item.
+    #[inline]
+    pub fn new() -> Short<T, N>
+        ensures { result.items ≡ [] }
+    {
+        Short {
+            cells: Default::default(),
+            len: 0,
+        }
+    }
+}
+
+impl<T: Copy, const N: usize> Short<T, N> {
+    /// The items.
+    #[inline]
+    pub fn as_slice(&self) -> &[T]
+        ensures items { result.now ≡ self.now.items }
+        ensures few { length result.now ≤ N }
+    {
+        &self.cells[..self.len]
+    }
+
+    /// How many there are.
+    #[inline]
+    pub fn len(&self) -> usize
+        ensures value { result ≡ length self.now.items }
+        ensures few { result ≤ N }
+    {
+        self.len
+    }
+
+    /// Appends an item. There must be room.
+    #[inline]
+    pub fn push(&mut self, item: T)
+        requires { length self.old.items < N }
+        ensures { self.new.items ≡ self.old.items ++ item ∷ [] }
+    {
+        self.cells[self.len] = item;
+        self.len += 1;
+    }
+
+    /// Appends items. There must be room.
+    #[inline]
+    pub fn extend(&mut self, items: &[T])
+        requires { length self.old.items + length items.now ≤ N }
+        ensures { self.new.items ≡ self.old.items ++ items.now }
+    {
+        let end = self.len + items.len();
+        let cells = &mut self.cells[..];
+        cells[self.len..end].copy_from_slice(items);
+        self.len = end;
+    }
+
+    /// Keeps the first so many.
+    #[inline]
+    pub fn truncate(&mut self, len: usize)
+        ensures { self.new.items ≡ take len self.old.items }
+    {
+        if len < self.len {
+            self.len = len;
+        }
+    }
+
+    /// Puts other items in the place of those from one place up to another. There must be room.
+    #[inline]
+    pub fn replace(&mut self, start: usize, end: usize, items: &[T])
+        requires order { start ≤ end }
+        requires within { end ≤ length self.old.items }
+        requires fits { length self.old.items - (end - start) + length items.now ≤ N }
+        ensures { self.new.items ≡ splice self.old.items start end items.now }
+    {
+        let behind = start + items.len();
+        let len = behind + (self.len - end);
+        let cells = &mut self.cells[..];
+        cells.copy_within(end..self.len, behind);
+        cells[start..behind].copy_from_slice(items);
+        self.len = len;
+    }
+}

@@ -1,0 +1,22 @@
+use Rattle.std.proofs.Common.{ap, subst, sym, ◌∙◌}
+use Rattle.bk_word.specs.Play.{IsComplete}
+use Rattle.bk_word.specs.Word.{Word}
+use Rattle.bk_catalogue.proofs.OneEntry.{entry_complete}
+use Rattle.bk_word_net.specs.Realised.{IsTilingOf}
+use Rattle.bk_walk.specs.Search.{SearchState}
+use Rattle.bk_walk.proofs.Members.{member_realised}
+use Rattle.bk_walk.proofs.search.Search.realise.Goals as goal
+
+pub flow_of-requires-clause-closed : goal.flow_of-requires-clause-closed
+flow_of-requires-clause-closed g c = subst IsComplete
+    (c.requires.word_is ∙ sym (ap (λ (s : SearchState). s.front) c.self.view_is) ∙ sym c.skel-skel.ensures.value)
+    (entry_complete c.args.self.now.order c.args.self.now.class c.requires.entry c.requires.is).0
+
+pub realise_by-requires-clause-closed : goal.realise_by-requires-clause-closed
+realise_by-requires-clause-closed g c = subst IsComplete
+    (c.requires.word_is ∙ sym (ap (λ (s : SearchState). s.front) c.self.view_is) ∙ sym c.skel-skel.ensures.value)
+    (entry_complete c.args.self.now.order c.args.self.now.class c.requires.entry c.requires.is).0
+
+pub returns : goal.returns
+returns g c = member_realised c.args.self.now.order c.args.self.now.class c.args.self.now.front c.in-Some.member c.requires
+    (subst (λ (w : Word). IsTilingOf w c.in-Some.member) (c.skel-skel.ensures.value ∙ ap (λ (s : SearchState). s.front) c.self.view_is) c.in-Some.ensures)
