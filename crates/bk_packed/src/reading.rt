@@ -10,7 +10,7 @@ ghost use Rattle.bk_packed.specs.Reading.{GoesOnByNumber, HasDigits, IsSharedFro
 use crate::digits::{digit_at, place_of, sign_of};
 use arrayvec::ArrayVec;
 use bk_skel::{Skel, open_side};
-use bk_word::{Move, Sign};
+use bk_word::{MOST_SIGNS, Move, Sign};
 
 /// With how many of the skeleton's moves the legal word of this number begins that has at least as many squares, at most 16: all up to
 /// the first in which the two differ.
@@ -46,7 +46,7 @@ pub fn read_next(skel: &Skel, number: u128, m: &mut Move)
 }
 
 // Makes of signs so many whose places the number has as its digits from the place on.
-fn read_signs(signs: &mut ArrayVec<Sign, 201>, number: u128, place: usize, count: usize)
+fn read_signs(signs: &mut ArrayVec<Sign, MOST_SIGNS>, number: u128, place: usize, count: usize)
     requires room { place + count ≤ 64 }
     requires digits { (k : ℕ) → k < count → digit_of number (place + k) < 3 }
     ensures many { length signs.new.items ≡ count }

@@ -5,7 +5,7 @@ ghost use Rattle.std.specs.Prelude.{IsTrue, None, Some, [], false, length, ◌+�
 ghost use Rattle.bk_tree.specs.NextMove.{fitted, first_move as first_of_all, move_after, padded, signs_after};
 
 use arrayvec::ArrayVec;
-use bk_word::{Move, Sign};
+use bk_word::{MOST_SIGNS, Move, Sign};
 
 // The move that no legal one is before.
 pub(crate) fn first_move() -> Move
@@ -27,7 +27,7 @@ pub(crate) fn begin_anew(m: &mut Move)
 
 // Makes of the signs those that are next after all that begin with them: raises the last that isn't under, and drops those
 // behind it. Where all are under, it drops all and answers false.
-fn raise(signs: &mut ArrayVec<Sign, 201>) -> bool
+fn raise(signs: &mut ArrayVec<Sign, MOST_SIGNS>) -> bool
     requires { length signs.old.items ≤ 18 }
     ensures raised { IsTrue result → signs_after signs.old.items ≡ Some signs.new.items }
     ensures none { result ≡ false → signs_after signs.old.items ≡ None }

@@ -29,6 +29,9 @@ pub use writer::write_word;
 /// A word hangs at most so many squares.
 pub const LARGEST_ORDER: usize = 200;
 
+/// A move has at most so many signs.
+pub const MOST_SIGNS: usize = LARGEST_ORDER + 1;
+
 /// A word of at most so many squares takes no memory.
 pub const INLINE_ORDER: usize = 16;
 
@@ -63,7 +66,7 @@ pub enum Class {
 #[derive(Drop)]
 pub struct Move {
     pub count: u8,
-    pub signs: ArrayVec<Sign, 201>,
+    pub signs: ArrayVec<Sign, MOST_SIGNS>,
 }
 
 impl Model for Move {

@@ -62,12 +62,17 @@ pub fn text_order(text: &[u8]) -> Option<u8>
     }
 }
 
-// What is taken of a word: its order, or 201 where that is above 200, and its bytes where it is not. There is room for two
-// bytes more than a word has.
+// What stands for every order above 200.
+const TOO_MANY: u8 = 201;
+
+// A word of 200 squares has at most 200 counts and 400 signs. There is room for two bytes more.
+const MOST_TAKEN: usize = 3 * LARGEST_ORDER + 2;
+
+// What is taken of a word: its order, or 201 where that is above 200, and its bytes where it is not.
 #[derive(Drop)]
 struct Taken {
     order: u8,
-    bytes: ArrayVec<u8, 602>,
+    bytes: ArrayVec<u8, MOST_TAKEN>,
 }
 
 // What is taken of a whole text, or the length of its longest start that begins the text of a word.
@@ -138,7 +143,7 @@ impl Taken {
                 self.bytes.push(order - self.order);
                 self.order = order;
             }
-            _ => self.order = 201,
+            _ => self.order = TOO_MANY,
         }
     }
 

@@ -5,17 +5,24 @@ ghost use Rattle.std.specs.Prelude.{count_by, drop, length, map, slice_index, tr
 ghost use Rattle.bk_word.specs.Word.{order_of};
 ghost use Rattle.bk_word.specs.Stored.{front_signs, is_count, moves_in, sign_byte, sign_of as sign_of_byte};
 
-use crate::Sign;
+use crate::{MOST_SIGNS, Sign};
 use arrayvec::ArrayVec;
 
-// The least byte of a sign. Those of counts are below it.
-const FIRST_SIGN: u8 = 201;
+// The bytes of the signs. Those of counts are below them.
+const ABOVE: u8 = 201;
+
+const EVEN: u8 = 202;
+
+const UNDER: u8 = 203;
+
+// The bytes of a move are at most so many: that of its count, and its signs'.
+const MOST_MOVE_BYTES: usize = MOST_SIGNS + 1;
 
 // Whether a byte is that of a count.
 pub(crate) fn is_count(byte: u8) -> bool
     ensures { result ≡ is_count byte }
 {
-    byte < FIRST_SIGN
+    byte < ABOVE
 }
 
 // The byte of a sign.
@@ -23,9 +30,9 @@ pub(crate) fn byte_of(sign: Sign) -> u8
     ensures { result ≡ sign_byte sign }
 {
     match sign {
-        Sign::Above => 201,
-        Sign::Even => 202,
-        Sign::Under => 203,
+        Sign::Above => ABOVE,
+        Sign::Even => EVEN,
+        Sign::Under => UNDER,
     }
 }
 
@@ -34,14 +41,14 @@ pub(crate) fn sign_of(byte: u8) -> Sign
     ensures { result ≡ sign_of_byte byte }
 {
     match byte {
-        201 => Sign::Above,
-        202 => Sign::Even,
+        ABOVE => Sign::Above,
+        EVEN => Sign::Even,
         _ => Sign::Under,
     }
 }
 
 // The bytes of a move of so many squares with these signs.
-pub(crate) fn bytes_of(count: u8, signs: &[Sign]) -> ArrayVec<u8, 202>
+pub(crate) fn bytes_of(count: u8, signs: &[Sign]) -> ArrayVec<u8, MOST_MOVE_BYTES>
     requires { length signs.now ≤ 201 }
     ensures { result.items ≡ count ∷ map sign_byte signs.now }
 {
@@ -54,7 +61,7 @@ pub(crate) fn bytes_of(count: u8, signs: &[Sign]) -> ArrayVec<u8, 202>
 }
 
 // The signs before the first count, of which there are at most 201.
-pub(crate) fn signs_at(bytes: &[u8]) -> ArrayVec<Sign, 201>
+pub(crate) fn signs_at(bytes: &[u8]) -> ArrayVec<Sign, MOST_SIGNS>
     requires { length (front_signs bytes.now) ≤ 201 }
     ensures { result.items ≡ front_signs bytes.now }
 {
