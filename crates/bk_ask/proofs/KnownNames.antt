@@ -1,34 +1,38 @@
 -- A name is looked up among names that the code holds.
-use Rattle.std.specs.Prelude.{Contains, List, [], false, length, map, true, ℕ, ◌<◌, ◌≡◌, ◌≢◌, ◌≤◌}
+use Rattle.std.specs.Bool.{Decides}
+use Rattle.std.specs.List.{list_any}
+use Rattle.std.specs.Prelude.{Contains, List, [], map, true, ℕ, ◌∷◌, ◌≡◌}
 use Rattle.std.specs.Str.{bytes_eq}
-use Rattle.std.proofs.Common.{Bor, arith, get_or, subst, sym, ◌∙◌}
-use Rattle.std.proofs.lemmas.List.{get_or-map, length-map}
-use Rattle.std.proofs.lemmas.List.Elements.{Contains-get_or}
+use Rattle.std.proofs.Common.{Bool, Bor, ap, arith, inl, inr, sym, ◌||◌, ◌∙◌}
+use Rattle.std.proofs.lemmas.Bool.{cases_Bool}
 use Rattle.std.proofs.lemmas.Slice.Eq.{bytes_eq-Decides}
-use Rattle.bk_ask.proofs.OptionSteps.{other_name}
-
-abbrev pub no_text : Bor (List ℕ)
-no_text = record { ref_ptr = (0, 0); now = [] }
+use Rattle.bk_ask.proofs.OptionLaws.{first_or_later, later_stands, none_stands}
 
 abbrev pub texts_of : List (Bor (List ℕ)) → List (List ℕ)
 texts_of names = map (λ name. name.now) names
 
-pub found : (names : List (Bor (List ℕ))) (name : List ℕ) (k : ℕ) → k < length names → true ≡ bytes_eq (get_or names k no_text).now name
-    → Contains (texts_of names) name
-found names name k lt test =
-    let same : (get_or names k no_text).now ≡ name = (bytes_eq-Decides (get_or names k no_text).now name).0 (sym test) in
-    let lt' : k < length (texts_of names) = omega (arith, length-map names (λ name. name.now)) in
-    let at : get_or (texts_of names) k [] ≡ (get_or names k no_text).now = get_or-map (λ (name : Bor (List ℕ)). name.now) names k no_text [] lt in
-    subst (Contains (texts_of names)) (at ∙ same) (Contains-get_or (texts_of names) k [] lt')
+abbrev pub is_among : List (Bor (List ℕ)) → List ℕ → Bool
+is_among names name = list_any (λ known. bytes_eq known.now name) names
 
--- none of the first n names is this one
-abbrev pub NotAmong : List (Bor (List ℕ)) → List ℕ → ℕ → Type 0
-NotAmong names name n = (k : ℕ) → k < n → (get_or names k no_text).now ≢ name
+-- a name that is found stands there
+pub found : (names : List (Bor (List ℕ))) (name : List ℕ) → is_among names name ≡ true → Contains (texts_of names) name
+found [] name e = absurd cc
+found (known ∷ names) name e = elim (cases_Bool (bytes_eq known.now name)) [
+  | inl same ↦ (0, omega arith, (bytes_eq-Decides known.now name).0 same)
+  | inr other ↦ later_stands known.now (texts_of names) name (found names name (sym (ap (λ (v : Bool). v || is_among names name) other) ∙ e))
+]
 
-pub not_among : (names : List (Bor (List ℕ))) (name : List ℕ) (n : ℕ) → length names ≤ n → NotAmong names name n → Contains (texts_of names) name → ⊥
-not_among names name n all none (k, lt, is) =
-    let lt' : k < length names = omega (arith, length-map names (λ (name : Bor (List ℕ)). name.now)) in
-    none k (omega arith) (sym (get_or-map (λ (name : Bor (List ℕ)). name.now) names k no_text name lt') ∙ is)
+-- and one that stands there is found
+pub finds : (names : List (Bor (List ℕ))) (name : List ℕ) → Contains (texts_of names) name → is_among names name ≡ true
+finds [] name has = absurd (none_stands name has)
+finds (known ∷ names) name has = elim (cases_Bool (bytes_eq known.now name)) [
+  | inl same ↦ ap (λ (v : Bool). v || is_among names name) same
+  | inr other ↦ elim (first_or_later known.now (texts_of names) name has) [
+    | inl is ↦ ap (λ (v : Bool). v || is_among names name) ((bytes_eq-Decides known.now name).1 is)
+    | inr later ↦ ap (λ (v : Bool). v || is_among names name) other ∙ finds names name later
+  ]
+]
 
-pub next_not : (names : List (Bor (List ℕ))) (name : List ℕ) (k : ℕ) → false ≡ bytes_eq (get_or names k no_text).now name → (get_or names k no_text).now ≢ name
-next_not names name k test = other_name (get_or names k no_text).now name test
+-- so the test decides whether the name is one of them
+pub told : (names : List (Bor (List ℕ))) (name : List ℕ) (r : Bool) → r ≡ is_among names name → Decides r (Contains (texts_of names) name)
+told names name r is = (λ e. found names name (sym is ∙ e), λ has. is ∙ finds names name has)

@@ -4,29 +4,17 @@ ghost use Rattle.std.specs.Prelude.{Contains, IfNone, IfSome, IsTrue, map, strin
 ghost use Rattle.bk_ask.specs.Options.{AreOptions, IsLeftOut, options_in};
 
 // Whether the words are options in any order, each of one of these names and none of them twice.
-pub(crate) fn are_options(names: &[&str], words: &[String]) -> bool
+pub(crate) fn are_options<'a>(names: &[&'a str], words: &'a [String]) -> bool
     ensures { IsTrue result ↔ AreOptions (map (λ name. name.now) names.now) (map string_bytes words.now) }
 {
     let mut left = words;
     'options: while let [name, _, rest @ ..] = left {
-        if !is_one_of(name.as_str(), names) || value_of(rest, name.as_str()).is_some() {
+        if !names.contains(&name.as_str()) || value_of(rest, name.as_str()).is_some() {
             return false;
         }
         left = rest;
     }
     left.is_empty()
-}
-
-// Whether the name is one of these.
-fn is_one_of(name: &str, names: &[&str]) -> bool
-    ensures { IsTrue result ↔ Contains (map (λ known. known.now) names.now) name.now }
-{
-    for known in names {
-        if *known == name {
-            return true;
-        }
-    }
-    false
 }
 
 // The value of the first option of this name, none where the option is left out.

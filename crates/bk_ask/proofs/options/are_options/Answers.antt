@@ -1,5 +1,6 @@
 use Rattle.std.proofs.lemmas.Grind.{common_steps}
 use Rattle.std.proofs.Common.{arith, map, string_bytes}
+use Rattle.bk_ask.proofs.KnownNames.{told}
 use Rattle.bk_ask.proofs.OptionSteps.{stand_end}
 use Rattle.bk_ask.proofs.options.are_options.Goals as goal
 
@@ -9,4 +10,11 @@ returns c =
     c.in_default.len_below c.is_empty.ensures c.options.invariant
 
 pub options-preserved : goal.options-preserved
-options-preserved c = grind (arith, common_steps)
+options-preserved c =
+    let known = told c.args.names.now c.as_str.result.now c.contains.result c.contains.ensures.value in
+    grind (arith, common_steps)
+
+pub returns-then-not-contains : goal.returns-then-not-contains
+returns-then-not-contains c =
+    let known = told c.args.names.now c.as_str.result.now c.contains.result c.contains.ensures.value in
+    grind (arith, common_steps)
