@@ -1,4 +1,4 @@
--- What the board of 3aa.2ue.1ea keeps.
+-- What the board of 3aa.2ue.1ea keeps, and what is kept to take its last move back.
 use Rattle.std.proofs.Common.{List, [], refl, ℕ, ◌∷◌, ◌≡◌}
 use Rattle.bk_word.specs.Word.{Move, Word}
 use Rattle.bk_word.specs.declared.Sign.{Sign}
@@ -27,3 +27,15 @@ at_left = refl
 
 at_right : right_squares front ≡ 1
 at_right = refl
+
+abbrev before : Word
+before = move 3 (Above ∷ Above ∷ []) ∷ move 2 (Under ∷ Even ∷ []) ∷ []
+
+first_before : first_count before ≡ 3
+first_before = refl
+
+at_left_before : left_squares before ≡ 2
+at_left_before = refl
+
+at_right_before : right_squares before ≡ 1
+at_right_before = refl

@@ -1,20 +1,22 @@
--- What a board keeps, as a move is played.
-use Rattle.std.proofs.Common.{List, [], ap, arith, cond, count_by, inl, inr, nat_eq, slice_index_or, subst, sym, ℕ, ◌++◌}
+-- What a board keeps, as a move is played and taken back.
+use Rattle.std.proofs.Common.{List, [], ap, arith, cond, count_by, inl, inr, length, nat_eq, slice_index_or, subst, sym, take, ℕ, ◌++◌}
 use Rattle.std.proofs.Common.{◌+◌, ◌-◌, ◌<◌, ◌∙◌, ◌∷◌, ◌≡◌, ◌⊎◌}
 use Rattle.bk_word.specs.Outline.{IsLegalMove, valley_of}
 use Rattle.bk_word.specs.Play.{numbers_from, outline_of}
 use Rattle.bk_word.specs.Word.{Move, Word, order_of}
-use Rattle.bk_free_search.proofs.LeftLines.{end_left, index_left, left_more}
-use Rattle.bk_free_search.proofs.RightLines.{end_right, index_right, right_more}
+use Rattle.bk_free_search.proofs.LeftLines.{end_left, index_left, left_less, left_more}
+use Rattle.bk_free_search.proofs.RightLines.{end_right, index_right, right_less, right_more}
 use Rattle.bk_free_search.proofs.TopLineMarks.{first_more}
-use Rattle.bk_free_search.proofs.TouchedLines.{AreNextLines, nodes_more}
+use Rattle.bk_free_search.proofs.TouchedLines.{AreNextLines, nodes_less, nodes_more}
 use Rattle.bk_free_search.proofs.WordCounts.{left_walls, lefts_then, right_walls, rights_then}
 use Rattle.bk_free_cuts.specs.LineNumbers.{left_end, lefts_of, right_end, sides_at, sides_of}
+use Rattle.bk_free_search.specs.BoardOutlines.{IsBoardOutline}
 use Rattle.bk_free_search.specs.Boards.{IsBoardOf}
 use Rattle.bk_free_search.specs.Lefts.{IsLeftWord, first_left}
 use Rattle.bk_free_search.specs.Joining.{TouchOneNode}
 use Rattle.bk_free_search.specs.NodeLines.{AreNodeLines, Has, HasBoth, IsBesideNew, IsBesideOneOf}
 use Rattle.bk_free_search.specs.Rights.{last_right, rights_of}
+use Rattle.bk_free_search.specs.declared.board.BoardOutline.{BoardOutline}
 use Rattle.bk_free_search.specs.declared.line_set.LineSet.{LineSet}
 
 -- what is known of a move that is played
@@ -102,6 +104,21 @@ board_more w more m lefts rights nodes first at_left at_right board legal e p = 
           (valley_of (outline_of w)) p.squares (order_of w) p.hung m.count p.count line (sym lefts_are) (sym right) (sym p.squares_are)
           (sym p.hung_is) (sym p.count_is) b);
     }
+
+-- what is left when the last move is taken back, by the outline before it
+pub board_less : (w front : Word) (before : BoardOutline) (lefts rights : List ℕ) (nodes : List LineSet) (first at_left at_right order moves : ℕ)
+    (lefts_then rights_then : List ℕ) (nodes_then : List LineSet)
+    → IsBoardOf w lefts rights nodes first at_left at_right → IsBoardOutline front before → 0 < length w → front ≡ take (length w - 1) w
+    → order ≡ order_of front → moves ≡ length front → lefts_then ≡ take order lefts → rights_then ≡ take order rights → nodes_then ≡ take moves nodes
+    → IsBoardOf front lefts_then rights_then nodes_then before.first before.left before.right
+board_less w front before lefts rights nodes first at_left at_right order moves lefts_then rights_then nodes_then board outline some e o n l r t = record {
+  left_word = left_less w front lefts lefts_then order board.left_word e o l;
+  rights_are = right_less w front rights rights_then order board.rights_are e o r;
+  node_lines = nodes_less w front nodes nodes_then some board.node_lines e (t ∙ ap (λ k. take k nodes) n);
+  first_is = outline.first_is;
+  left_is = outline.left_is;
+  right_is = outline.right_is;
+}
 
 -- ---- two lines at one node
 

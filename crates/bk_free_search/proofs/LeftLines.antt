@@ -1,11 +1,12 @@
--- The left lines of a word's squares, as a move is played.
-use Rattle.std.proofs.Common.{List, [], ap, append_assoc, arith, length, length-append, map, refl, slice_index_or, subst, suc, sym, zero}
+-- The left lines of a word's squares, as a move is played and taken back.
+use Rattle.std.proofs.Common.{List, [], ap, append_assoc, arith, drop, length, length-append, map, refl, slice_index_or, subst, suc, sym, take, zero}
 use Rattle.std.proofs.Common.{ℕ, ◌++◌, ◌+◌, ◌-◌, ◌<◌, ◌∙◌, ◌∷◌, ◌≡◌, ◌≤◌}
-use Rattle.std.proofs.lemmas.List.{append-nil, map-append}
+use Rattle.std.proofs.Math.Seq.{take-append_seam}
+use Rattle.std.proofs.lemmas.List.{append-nil, map-append, take-append-drop}
 use Rattle.bk_word.specs.Outline.{IsLegalMove, Outline, start, valley_of}
 use Rattle.bk_word.specs.Play.{IsLegal, after_move, after_moves, numbers_from, outline_of}
 use Rattle.bk_word.specs.Word.{Move, Word, order_of}
-use Rattle.bk_word.proofs.PlayLaws.{legal-snoc}
+use Rattle.bk_word.proofs.PlayLaws.{legal_front, legal-snoc}
 use Rattle.bk_word.proofs.StoredBytes.{order_more}
 use Rattle.bk_word_net.proofs.Shape.{hung_many}
 use Rattle.bk_free_cuts.proofs.NumberedLines.{sides_long}
@@ -56,7 +57,7 @@ along_more o sides (m ∷ w) =
       ),
     )
 
--- ---- played
+-- ---- played and taken back
 
 pub left_count : (w : Word) (lefts : List ℕ) → IsLeftWord w lefts → length lefts ≡ order_of w
 left_count w lefts left = ap length left.lefts_are ∙ as_many_lefts w
@@ -89,6 +90,24 @@ left_more w more lefts lefts_then m first count left legal f same e are = record
         (right_end (sides_of w) (valley_of (outline_of w))))) one_less
         ∙ new_lefts (length (outline_of w).hung) (m.count - 1) (left_end (sides_of w) (valley_of (outline_of w)))
         (right_end (sides_of w) (valley_of (outline_of w)))
+
+lefts_of_front : (front rest : Word) → take (order_of front) (lefts_of (front ++ rest)) ≡ lefts_of front
+lefts_of_front front rest =
+    let more = along_more (outline_of front) (sides_of front) rest in
+    ap (λ l. take (order_of front) (lefts_in l)) (along_append start [] front rest ∙ more.1)
+    ∙ ap (take (order_of front)) (map-append (λ s. s.0) (sides_of front) more.0)
+    ∙ (λ i. take (sym (as_many_lefts front) i) (lefts_of front ++ lefts_in more.0))
+    ∙ take-append_seam (lefts_of front) (lefts_in more.0)
+
+pub left_less : (w front : Word) (lefts lefts_then : List ℕ) (order : ℕ) → IsLeftWord w lefts → front ≡ take (length w - 1) w → order ≡ order_of front
+    → lefts_then ≡ take order lefts → IsLeftWord front lefts_then
+left_less w front lefts lefts_then order left e o f = subst (λ v. IsLeftWord v lefts_then) (sym e) (record {
+  legal = legal_front start (take (length w - 1) w) (drop (length w - 1) w) (subst IsLegal whole left.legal);
+  lefts_are = f ∙ (λ i. take ((o ∙ ap order_of e) i) ((left.lefts_are ∙ ap lefts_of whole) i)) ∙ lefts_of_front (take (length w - 1) w) (drop (length w - 1) w);
+})
+  where
+    whole : w ≡ take (length w - 1) w ++ drop (length w - 1) w
+    whole = sym (take-append-drop (length w - 1) w)
 
 -- the lines of a move, one after another
 pub next_left : (before : List ℕ) (hung k count : ℕ) (all : List ℕ) → k < count → before ++ numbers_from (hung + k + 1) (count - k) ≡ all

@@ -1,7 +1,8 @@
--- The right lines of a word's squares, as a move is played.
-use Rattle.std.proofs.Common.{List, [], ap, append_assoc, arith, length, map, refl, slice_index_or, suc, sym, zero, ℕ}
+-- The right lines of a word's squares, as a move is played and taken back.
+use Rattle.std.proofs.Common.{List, [], ap, append_assoc, arith, drop, length, map, refl, slice_index_or, suc, sym, take, zero, ℕ}
 use Rattle.std.proofs.Common.{◌++◌, ◌+◌, ◌-◌, ◌<◌, ◌∙◌, ◌∷◌, ◌≡◌}
-use Rattle.std.proofs.lemmas.List.{length-map, map-append}
+use Rattle.std.proofs.Math.Seq.{take-append_seam}
+use Rattle.std.proofs.lemmas.List.{length-map, map-append, take-append-drop}
 use Rattle.bk_word.specs.Outline.{IsLegalMove, start, valley_of}
 use Rattle.bk_word.specs.Play.{numbers_from, outline_of}
 use Rattle.bk_word.specs.Word.{Move, Word, order_of}
@@ -43,7 +44,7 @@ last_at rights (number ∷ next ∷ squares) d some =
     more : length (number ∷ next ∷ squares) - 1 ≡ suc (length (next ∷ squares) - 1)
     more = omega arith
 
--- ---- played
+-- ---- played and taken back
 
 pub as_many_rights : (w : Word) → length (rights_of w) ≡ order_of w
 as_many_rights w = let more = along_more start [] w in length-map (sides_of w) (λ s. s.1) ∙ ap length more.1 ∙ more.2
@@ -74,3 +75,20 @@ right_more w m rights last count legal are l same =
         (right_end (sides_of w) (valley_of (outline_of w))))) one_less
         ∙ new_rights (length (outline_of w).hung) (m.count - 1) (left_end (sides_of w) (valley_of (outline_of w)))
         (right_end (sides_of w) (valley_of (outline_of w)))
+
+rights_of_front : (front rest : Word) → take (order_of front) (rights_of (front ++ rest)) ≡ rights_of front
+rights_of_front front rest =
+    let more = along_more (outline_of front) (sides_of front) rest in
+    ap (λ l. take (order_of front) (rights_in l)) (along_append start [] front rest ∙ more.1)
+    ∙ ap (take (order_of front)) (map-append (λ s. s.1) (sides_of front) more.0)
+    ∙ (λ i. take (sym (as_many_rights front) i) (rights_of front ++ rights_in more.0))
+    ∙ take-append_seam (rights_of front) (rights_in more.0)
+
+pub right_less : (w front : Word) (rights rights_then : List ℕ) (order : ℕ) → rights ≡ rights_of w → front ≡ take (length w - 1) w
+    → order ≡ order_of front → rights_then ≡ take order rights → rights_then ≡ rights_of front
+right_less w front rights rights_then order are e o f =
+    f ∙ (λ i. take ((o ∙ ap order_of e) i) ((are ∙ ap rights_of whole) i)) ∙ rights_of_front (take (length w - 1) w) (drop (length w - 1) w)
+    ∙ ap rights_of (sym e)
+  where
+    whole : w ≡ take (length w - 1) w ++ drop (length w - 1) w
+    whole = sym (take-append-drop (length w - 1) w)

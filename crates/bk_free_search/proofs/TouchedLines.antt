@@ -1,6 +1,7 @@
--- The lines that closed nodes touch, as a move is played.
-use Rattle.std.proofs.Common.{List, Some, [], ap, arith, inl, inr, length, length-append, slice_get, subst, sym, ℕ, ◌++◌, ◌<◌}
+-- The lines that closed nodes touch, as a move is played and taken back.
+use Rattle.std.proofs.Common.{List, Some, [], ap, arith, drop, inl, inr, length, length-append, refl, slice_get, subst, suc, sym, take, zero, ℕ, ◌++◌, ◌-◌, ◌<◌}
 use Rattle.std.proofs.Common.{◌∙◌, ◌∷◌, ◌≡◌, ◌≤◌, ◌⊎◌}
+use Rattle.std.proofs.lemmas.List.{take-append-drop}
 use Rattle.std.proofs.lemmas.Option.{slice_get_within}
 use Rattle.bk_laws.proofs.ListPlaces.{get_last}
 use Rattle.bk_word.specs.Outline.{Outline, start, valley_of}
@@ -116,3 +117,62 @@ nodes_more w m nodes lines legal are next = record {
     held v line set e small t (inr high) = subst (λ (s : LineSet). Has s line) (same v set e high)
         (next.all line small (next_only w m line legal (subst (λ k. TouchesClosed (outline_of (w ++ m ∷ [])) (sides_of (w ++ m ∷ [])) line k)
         (sym (place v set e high)) t)))
+
+one_less : (w front : Word) (m : Move) (nodes before : List LineSet) → w ≡ front ++ m ∷ [] → AreNodeLines w nodes → before ≡ take (length front) nodes
+    → AreNodeLines front before
+one_less w front m nodes before whole are e = record {
+  as_many = ap length e ∙ short nodes (length front) (omega (arith, are.as_many, ap (λ (v : Word). length v) whole, length-append front (m ∷ [])));
+  touch = λ v line set f has. touched v line set (subst (λ (l : List LineSet). slice_get l v ≡ Some set) e f) has;
+  all = λ v line set f low t. held v line set (subst (λ (l : List LineSet). slice_get l v ≡ Some set) e f) low t;
+}
+  where
+    short : (nodes : List LineSet) (k : ℕ) → k ≤ length nodes → length (take k nodes) ≡ k
+    short nodes zero h = refl
+    short [] (suc k) h = absurd (omega arith)
+    short (x ∷ nodes) (suc k) h = ap suc (short nodes k (omega arith))
+
+    in_take : (nodes : List LineSet) (k v : ℕ) (set : LineSet) → slice_get (take k nodes) v ≡ Some set → (slice_get nodes v ≡ Some set) × (v < k)
+    in_take nodes zero v set f = absurd (cc)
+    in_take [] (suc k) v set f = absurd (cc)
+    in_take (x ∷ nodes) (suc k) zero set f = (f, omega arith)
+    in_take (x ∷ nodes) (suc k) (suc v) set f = let r = in_take nodes k v set f in (r.0, omega (arith, r.1))
+
+    touched : (v line : ℕ) (set : LineSet) → slice_get (take (length front) nodes) v ≡ Some set → Has set line
+        → TouchesClosed (outline_of front) (sides_of front) line v
+    touched v line set f has = let r = in_take nodes (length front) v set f in
+        touch_before (outline_of front) (sides_of front) m line v (numbered_moves start front numbered_start) (sides_many front)
+        (omega (arith, r.1, closed_many front))
+        (from_word front m line v (subst (λ (v' : Word). TouchesClosed (outline_of v') (sides_of v') line v) whole (are.touch v line set r.0 has)))
+
+    held : (v line : ℕ) (set : LineSet) → slice_get (take (length front) nodes) v ≡ Some set → line < 32
+        → TouchesClosed (outline_of front) (sides_of front) line v → Has set line
+    held v line set f low t = let r = in_take nodes (length front) v set f in
+        are.all v line set r.0 low (subst (λ (v' : Word). TouchesClosed (outline_of v') (sides_of v') line v) (sym whole)
+        (touch_more front m line v t))
+
+-- a move less, without the lines of the node that it closed
+pub nodes_less : (w front : Word) (nodes before : List LineSet) → 0 < length w → AreNodeLines w nodes → front ≡ take (length w - 1) w
+    → before ≡ take (length front) nodes → AreNodeLines front before
+nodes_less w front nodes before some are e f = cases (drop (length w - 1) w) refl
+  where
+    whole : w ≡ front ++ drop (length w - 1) w
+    whole = sym (take-append-drop (length w - 1) w) ∙ ap (λ v. v ++ drop (length w - 1) w) (sym e)
+
+    short : length front ≡ length w - 1
+    short = ap length e ∙ taken w (length w - 1) (omega arith)
+      where
+        taken : (w : Word) (k : ℕ) → k ≤ length w → length (take k w) ≡ k
+        taken w zero h = refl
+        taken [] (suc k) h = absurd (omega arith)
+        taken (x ∷ w) (suc k) h = ap suc (taken w k (omega arith))
+
+    cases : (rest : Word) → drop (length w - 1) w ≡ rest → AreNodeLines front before
+    cases [] g = absurd (omega (arith, some, short, ap (λ (v : Word). length v) (whole ∙ ap (λ v. front ++ v) g), length-append front []))
+    cases (m ∷ []) g = one_less w front m nodes before (whole ∙ ap (λ v. front ++ v) g) are f
+    cases (m ∷ n ∷ rest) g = absurd (omega (
+      arith,
+      some,
+      short,
+      ap (λ (v : Word). length v) (whole ∙ ap (λ v. front ++ v) g),
+      length-append front (m ∷ n ∷ rest),
+    ))

@@ -16,7 +16,8 @@ use crate::ahead::most_moves;
 use crate::board::Board;
 use crate::counts::one_if;
 use bk_bound_counts::first_above;
-use bk_word::{Move, Sign};
+use bk_skel::SmallMove;
+use bk_word::Sign;
 
 /// What stands after a move: how many squares at the top and at each wall, and how many signs. (Own.)
 #[derive(Clone, Copy, Drop)]
@@ -29,7 +30,7 @@ pub(crate) struct After {
 
 /// Whether no word of a normal layout goes on by this legal move, since all signs are under then, no more moves are left than segments, and to
 /// close these one by one doesn't end the word, or ends one with too many squares at a wall.
-pub(crate) fn ends_otherwise(board: &Board, m: &Move, order: u8) -> bool
+pub(crate) fn ends_otherwise(board: &Board, m: &SmallMove, order: u8) -> bool
     requires least { 3 ≤ order }
     requires most { order ≤ 16 }
     requires few { order_of board.now + m.now.count < order }
@@ -54,7 +55,7 @@ pub(crate) fn ends_otherwise(board: &Board, m: &Move, order: u8) -> bool
 }
 
 // Whether none of the move's own signs is above, nor one of those behind the leftmost valley: then all are under after the move.
-fn are_under_then(board: &Board, m: &Move) -> bool
+fn are_under_then(board: &Board, m: &SmallMove) -> bool
     ensures { IsTrue result → AllByRecursion (λ s. s ≡ Under) (outline_of (board.now ++ m.now ∷ [])).signs }
 {
     if is_any_above(m.signs.as_slice()) {
@@ -65,7 +66,7 @@ fn are_under_then(board: &Board, m: &Move) -> bool
 }
 
 // What stands after the legal move.
-fn look_after(board: &Board, m: &Move) -> After
+fn look_after(board: &Board, m: &SmallMove) -> After
     requires few { order_of board.now + m.now.count ≤ 16 }
     requires legal { IsLegalMove (outline_of board.now) m.now }
     ensures stands { StandsAfter board.now m.now result }

@@ -1,11 +1,12 @@
 //! Words that are played by the search, with the lines at the left and the right of their squares.
 #![tactic(auto)]
 
-ghost use Rattle.std.specs.Prelude.{IsTrue, [], cond, nat_eq, ◌++◌, ◌+◌, ◌<◌, ◌∷◌, ◌≡◌, ◌≤◌};
+ghost use Rattle.std.specs.Prelude.{IsTrue, [], cond, length, nat_eq, take, ◌++◌, ◌+◌, ◌-◌, ◌<◌, ◌∷◌, ◌≡◌, ◌≤◌};
 ghost use Rattle.bk_word.specs.Outline.{IsLegalMove};
 ghost use Rattle.bk_word.specs.Play.{IsLegal, outline_of};
 ghost use Rattle.bk_word.specs.Word.{order_of};
 ghost use Rattle.bk_free_cuts.specs.LineNumbers.{left_end, lefts_of, right_end, sides_at, sides_of};
+ghost use Rattle.bk_free_search.specs.BoardOutlines.{IsBoardOutline};
 ghost use Rattle.bk_free_search.specs.Joining.{TouchOneNode};
 ghost use Rattle.bk_normal_cuts.specs.WordNumbers.{counts_of_word, first_count};
 ghost use Rattle.bk_free_search.specs.Rights.{rights_of};
@@ -16,8 +17,8 @@ use crate::line_set::LineSet;
 use crate::node_lines::{has_both, node_lines};
 use crate::sides::{left_of, left_of_first, push_lefts, push_rights, right_of, right_of_last};
 use bk_short::Short;
-use bk_skel::SmallSkel;
-use bk_word::{INLINE_ORDER, Move};
+use bk_skel::{SmallMove, SmallOutline, SmallSkel};
+use bk_word::INLINE_ORDER;
 use std::marker::Model;
 
 /// A skeleton of at most 16 squares, of each of its squares the numbers of the lines at its left and its right edge, of each closed
@@ -30,6 +31,15 @@ pub struct Board {
     lefts: Short<u8, INLINE_ORDER>,
     rights: Short<u8, INLINE_ORDER>,
     nodes: Short<LineSet, INLINE_ORDER>,
+    first: u8,
+    left: u8,
+    right: u8,
+}
+
+/// How a board stands before a move, by which that move is taken back. It is copied at one stroke. (Own.)
+#[derive(Clone, Copy, Drop)]
+pub(crate) struct BoardOutline {
+    skel: SmallOutline,
     first: u8,
     left: u8,
     right: u8,
@@ -62,20 +72,33 @@ impl Board {
         }
     }
 
-    /// A board of the same moves.
-    #[inline]
-    pub(crate) fn copied(&self) -> Board
-        ensures { result ≡ self.now }
+    /// How the board stands, by which a move that is played now is taken back.
+    #[inline(always)]
+    pub(crate) fn outline(&self) -> BoardOutline
+        ensures { IsBoardOutline self.now result }
     {
-        Board {
-            skel: self.skel.copied(),
-            lefts: self.lefts,
-            rights: self.rights,
-            nodes: self.nodes,
+        BoardOutline {
+            skel: self.skel.outline(),
             first: self.first,
             left: self.left,
             right: self.right,
         }
+    }
+
+    /// Takes the last move back, before which the board stood like this. There must be one.
+    #[inline(always)]
+    pub(crate) fn take_back(&mut self, before: &BoardOutline)
+        requires some { 0 < length self.old }
+        requires before { IsBoardOutline (take (length self.old - 1) self.old) before.now }
+        ensures { self.new ≡ take (length self.old - 1) self.old }
+    {
+        self.skel.take_back(&before.skel);
+        self.lefts.truncate(self.skel.order());
+        self.rights.truncate(self.skel.order());
+        self.nodes.truncate(self.skel.moves());
+        self.first = before.first;
+        self.left = before.left;
+        self.right = before.right;
     }
 
     /// The skeleton, for reading.
@@ -161,7 +184,7 @@ impl Board {
     }
 
     /// Plays a move, which must be legal, with at most 16 squares then.
-    pub fn push(&mut self, m: &Move)
+    pub fn push(&mut self, m: &SmallMove)
         requires legal { IsLegalMove (outline_of self.old) m.now }
         requires few { order_of self.old + m.now.count ≤ 16 }
         ensures { self.new ≡ self.old ++ m.now ∷ [] }

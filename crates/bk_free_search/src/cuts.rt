@@ -8,8 +8,7 @@ ghost use Rattle.bk_free_search.specs.Asking.{IsAsked};
 ghost use Rattle.bk_net_word.specs.NetWord.{IsNetBarren};
 
 use crate::asking::Asked;
-use bk_skel::SmallSkel;
-use bk_word::Move;
+use bk_skel::{SmallMove, SmallSkel};
 
 /// The least count of a next move that isn't barren: one square hangs under no segment of just one, and the first move is none of one.
 pub(crate) fn least_count(skel: &SmallSkel) -> u8
@@ -22,7 +21,7 @@ pub(crate) fn least_count(skel: &SmallSkel) -> u8
 
 /// Whether the next sign of a move, between two of its own squares, isn't above: its one sign so far is even, so that it would break rule R.
 #[inline(always)]
-pub(crate) fn bars_above(m: &Move, asked: &Asked) -> bool
+pub(crate) fn bars_above(m: &SmallMove, asked: &Asked) -> bool
     ensures { IsTrue result → (front : Moves) → IsAsked front m.now.signs asked.now → m.now.signs ≡ Even ∷ [] }
 {
     m.signs.len() == 1 && asked.evens == 1

@@ -12,13 +12,13 @@ ghost use Rattle.bk_free_search.specs.Joining.{JoinsLeft, JoinsRight, ShareBefor
 use crate::board::Board;
 use crate::top_lines::squares_in;
 use bk_bound_counts::first_above;
-use bk_skel::SmallSkel;
-use bk_word::{Move, Sign};
+use bk_skel::{SmallMove, SmallSkel};
+use bk_word::Sign;
 
 /// Whether no word of the order goes on from the board's moves by this legal one, as it hangs one square: it leaves one segment
 /// while squares are left, or two lines at the segment that it joins share a closed node. A move of more squares joins no two
 /// segments that stand open before.
-pub(crate) fn joins_barrenly(board: &Board, m: &Move, order: u8) -> bool
+pub(crate) fn joins_barrenly(board: &Board, m: &SmallMove, order: u8) -> bool
     requires { IsLegalMove (outline_of board.now) m.now }
     ensures { IsTrue result → IsNetBarren order (board.now ++ m.now ∷ []) }
 {
@@ -29,7 +29,7 @@ pub(crate) fn joins_barrenly(board: &Board, m: &Move, order: u8) -> bool
 }
 
 // Whether a legal move of one square leaves one segment, and fewer squares hang then than the order.
-fn leaves_one_early(skel: &SmallSkel, m: &Move, order: u8) -> bool
+fn leaves_one_early(skel: &SmallSkel, m: &SmallMove, order: u8) -> bool
     requires word { IsLegal skel.now }
     requires legal { IsLegalMove (outline_of skel.now) m.now }
     requires one { m.now.count ≡ 1 }
@@ -49,7 +49,7 @@ fn any_parts(signs: &[Sign]) -> bool
 }
 
 // Whether, after a legal move of one square, two lines at the segment that it joins bound a part of the tiling.
-pub(crate) fn joins_parted(board: &Board, m: &Move) -> bool
+pub(crate) fn joins_parted(board: &Board, m: &SmallMove) -> bool
     requires legal { IsLegalMove (outline_of board.now) m.now }
     requires one { m.now.count ≡ 1 }
     ensures { IsTrue result → ShareANode (board.now ++ m.now ∷ []) }
@@ -67,26 +67,26 @@ pub(crate) fn joins_parted(board: &Board, m: &Move) -> bool
 }
 
 // The squares of the segment at the left of the valley at this place, where the move joins its square with them; else none.
-fn joined_left<'a>(skel: &'a SmallSkel, m: &Move, place: usize) -> &'a [u8]
+fn joined_left<'a>(skel: &'a SmallSkel, m: &SmallMove, place: usize) -> &'a [u8]
     requires word { IsLegal skel.now }
     requires place { place ≡ valley_place (outline_of skel.now).signs }
     requires within { place ≤ length (outline_of skel.now).signs }
     ensures { JoinsLeft (outline_of skel.now) m.now result.now }
 {
-    if place == 0 || m.signs.first() != Some(&Sign::Even) {
+    if place == 0 || m.signs.as_slice().first() != Some(&Sign::Even) {
         return &[];
     }
     segment(skel, place - 1)
 }
 
 // Those at its right, likewise.
-fn joined_right<'a>(skel: &'a SmallSkel, m: &Move, place: usize) -> &'a [u8]
+fn joined_right<'a>(skel: &'a SmallSkel, m: &SmallMove, place: usize) -> &'a [u8]
     requires word { IsLegal skel.now }
     requires place { place ≡ valley_place (outline_of skel.now).signs }
     requires within { place ≤ length (outline_of skel.now).signs }
     ensures { JoinsRight (outline_of skel.now) m.now result.now }
 {
-    if place == skel.signs().len() || m.signs.last() != Some(&Sign::Even) {
+    if place == skel.signs().len() || m.signs.as_slice().last() != Some(&Sign::Even) {
         return &[];
     }
     segment(skel, place + 1)

@@ -12,12 +12,12 @@ ghost use Rattle.bk_free_search.specs.LastSquare.{neighbours};
 use crate::board::Board;
 use crate::counts::one_if;
 use crate::joining::joins_parted;
-use arrayvec::ArrayVec;
-use bk_skel::{SmallSkel, open_side};
-use bk_word::{Move, Sign};
+use bk_short::Short;
+use bk_skel::{SmallMove, SmallSkel, open_side};
+use bk_word::Sign;
 
 /// The move by which words of a normal layout go on from the board, of which one square is left: `None` where none goes on.
-pub(crate) fn last_move(board: &Board, order: u8) -> Option<Move>
+pub(crate) fn last_move(board: &Board, order: u8) -> Option<SmallMove>
     requires least { 3 ≤ order }
     requires one { order_of board.now + 1 ≡ order }
     ensures last { IfSome result (λ m. m ≡ even_square (outline_of board.now)) }
@@ -80,14 +80,14 @@ fn neighbours(skel: &SmallSkel) -> usize
 }
 
 // One square, even with so many segments.
-fn even_square(sides: usize) -> Move
+fn even_square(sides: usize) -> SmallMove
     requires few { sides ≤ 2 }
     ensures count { result.count ≡ 1 }
     ensures signs { result.signs ≡ replicate sides Even }
 {
-    let mut signs = ArrayVec::new();
+    let mut signs = Short::new();
     'sides: for _side in 0..sides {
         signs.push(Sign::Even);
     }
-    Move { count: 1, signs }
+    SmallMove { count: 1, signs }
 }

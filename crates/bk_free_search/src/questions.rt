@@ -12,7 +12,7 @@ ghost use Rattle.bk_free_search.specs.Strong.{IsFew};
 ghost use Rattle.bk_free_search.specs.declared.asking.Next.{Next};
 
 use crate::all_under::ends_otherwise;
-use crate::asking::{Asked, Beside, is_over, stand_beside};
+use crate::asking::{Asked, Beside, is_over};
 use crate::behind::{Asks, Behind};
 use crate::joining::joins_barrenly;
 use crate::state::{Begun, Search};
@@ -20,23 +20,8 @@ use bk_skel::open_side;
 use bk_word::Sign;
 
 impl Search {
-    /// What stands beside the leftmost valley, where squares are left; `None` where no word goes on from the board.
-    pub(crate) fn beside(&self) -> Option<Beside>
-        requires least { 3 ≤ self.now.order }
-        requires most { self.now.order ≤ 16 }
-        requires few { order_of self.now.board < self.now.order }
-        ensures beside { IfSome result (λ b. StandBeside self.now.order self.now.board b) }
-        ensures barren { IfNone result (IsNormalBarren self.now.order self.now.board) }
-    {
-        let beside = stand_beside(&self.board, self.order);
-        if self.lacks_next(&beside) {
-            return None;
-        }
-        Some(beside)
-    }
-
     // Whether the next move would be the last one, though two squares or more are left, or would need more even signs than it has neighbours.
-    fn lacks_next(&self, beside: &Beside) -> bool
+    pub(crate) fn lacks_next(&self, beside: &Beside) -> bool
         requires few { order_of self.now.board < self.now.order }
         requires beside { StandBeside self.now.order self.now.board beside.now }
         ensures { IsTrue result → IsNormalBarren self.now.order self.now.board }

@@ -9,7 +9,7 @@ ghost use Rattle.bk_word.specs.declared.Sign.TheVariants.{Above};
 ghost use Rattle.bk_free_search.specs.Asking.{IsAsked, IsBegun, NeedsLeft};
 ghost use Rattle.bk_free_search.specs.Sought.{GoesOn, GoesOnBy};
 
-use crate::asking::{Asked, Beside, asked_with};
+use crate::asking::{Asked, Beside, asked_with, stand_beside};
 use crate::board::Board;
 use crate::cuts::{bars_above, least_count};
 use crate::last_square::last_move;
@@ -96,12 +96,10 @@ impl Search {
             Some(last) => last,
             None => return,
         };
-        let mut next = Search {
-            board: self.board.copied(),
-            order: self.order,
-        };
-        next.board.push(&last);
-        next.go_on(leaves);
+        let before = self.board.outline();
+        self.board.push(&last);
+        self.go_on(leaves);
+        self.board.take_back(&before);
     }
 
     // Meets all that go on from the board's moves, where two squares or more are left. The next move doesn't hang them all.
@@ -116,10 +114,10 @@ impl Search {
         ensures board { self.new.board ≡ self.old.board }
         ensures order { self.new.order ≡ self.old.order }
     {
-        let around = match self.beside() {
-            Some(around) => around,
-            None => return,
-        };
+        let around = stand_beside(&self.board, self.order);
+        if self.lacks_next(&around) {
+            return;
+        }
         let left = self.order - self.board.skel().order() as u8;
         let mut begun = not_begun();
         'counts: for count in least_count(self.board.skel())..left {
@@ -481,12 +479,10 @@ impl Search {
         if self.bars_move(begun) {
             return;
         }
-        let mut next = Search {
-            board: self.board.copied(),
-            order: self.order,
-        };
-        next.board.push(&begun.m);
-        next.go_on(leaves);
+        let before = self.board.outline();
+        self.board.push(&begun.m);
+        self.go_on(leaves);
+        self.board.take_back(&before);
     }
 }
 

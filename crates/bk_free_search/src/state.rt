@@ -7,8 +7,9 @@ ghost use Rattle.bk_free_search.specs.Asking.{IsNext, StandBeside};
 
 use crate::asking::{Beside, Next, next_of};
 use crate::board::Board;
-use arrayvec::ArrayVec;
-use bk_word::{Move, Sign};
+use bk_short::Short;
+use bk_skel::SmallMove;
+use bk_word::Sign;
 
 /// A search for words of an order: the board on which it plays them. (Own.)
 #[derive(Drop)]
@@ -20,7 +21,7 @@ pub(crate) struct Search {
 /// A next move that is being made: its count and its first signs, and what is known of it by its count. (Own.)
 #[derive(Drop)]
 pub(crate) struct Begun {
-    pub(crate) m: Move,
+    pub(crate) m: SmallMove,
     pub(crate) next: Next,
 }
 
@@ -29,9 +30,9 @@ pub(crate) fn not_begun() -> Begun
     ensures { result.m.signs ≡ [] }
 {
     Begun {
-        m: Move {
+        m: SmallMove {
             count: 0,
-            signs: ArrayVec::new(),
+            signs: Short::new(),
         },
         next: Next::default(),
     }
@@ -53,8 +54,8 @@ pub(crate) fn begin(begun: &mut Begun, around: &Beside, count: u8, left: usize)
 
 /// The move with one sign more.
 #[inline(always)]
-pub(crate) fn push_sign(m: &mut Move, sign: Sign)
-    requires { length m.old.signs < 201 }
+pub(crate) fn push_sign(m: &mut SmallMove, sign: Sign)
+    requires { length m.old.signs < 17 }
     ensures count { m.new.count ≡ m.old.count }
     ensures signs { m.new.signs ≡ m.old.signs ++ sign ∷ [] }
 {
@@ -63,9 +64,9 @@ pub(crate) fn push_sign(m: &mut Move, sign: Sign)
 
 /// The move without its last sign.
 #[inline(always)]
-pub(crate) fn pop_sign(m: &mut Move)
+pub(crate) fn pop_sign(m: &mut SmallMove)
     ensures count { m.new.count ≡ m.old.count }
     ensures signs { (signs : List SeenSign) (sign : SeenSign) → m.old.signs ≡ signs ++ sign ∷ [] → m.new.signs ≡ signs }
 {
-    let _ = m.signs.pop();
+    m.signs.truncate(m.signs.len().saturating_sub(1));
 }

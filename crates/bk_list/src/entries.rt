@@ -15,7 +15,7 @@ use bk_ports::{Failed, Sink};
 use bk_report::{Last, write_entry};
 use bk_skel::Steps;
 use bk_tiling::Tiling;
-use bk_walk::TabledWalk;
+use bk_walk::{Entry, TabledWalk};
 use bk_word::Word;
 use std::sync::ledger::Ledger;
 
@@ -43,12 +43,13 @@ pub(crate) fn write_entries<const ROOM: usize, L: Ledger, O: Sink>(
     ensures stopped { OnErr result (StoppedAtEntry walk.old.order walk.old.class walk.old.cursor limit (O.written out.old) (O.written out.new)
         (steps.new - steps.old)) }
 {
+    let mut entry = walk.entry_room();
     let mut listed: u64 = 0;
     'members: loop {
         if is_reached(limit, listed) {
             return Ok((Last::Limit, listed));
         }
-        match write_next(walk, steps, buffer, out)? {
+        match write_next(walk, steps, &mut entry, buffer, out)? {
             Next::Member => listed += 1,
             Next::Nothing => return Ok((Last::End, listed)),
         }
@@ -63,10 +64,11 @@ fn is_reached(limit: Option<u64>, listed: u64) -> bool
     matches!(limit, Some(most) if most == listed)
 }
 
-// Writes the entry of the next member, by one call.
+// Writes the entry of the next member, by one call. There is room for it in `entry`.
 fn write_next<const ROOM: usize, L: Ledger, O: Sink>(
     walk: &mut TabledWalk<ROOM>,
     steps: &mut Steps<L>,
+    entry: &mut Entry,
     buffer: &mut AnswerBuffer,
     out: &mut O,
 ) -> Result<Next, Failed>
@@ -78,14 +80,11 @@ fn write_next<const ROOM: usize, L: Ledger, O: Sink>(
     ensures steps { IfOk result (λ next. AreNextSteps next walk.old.order walk.old.cursor walk.new.cursor (steps.new - steps.old)) }
     ensures stopped { OnErr result (IsAtMostTree walk.old.order walk.old.cursor (Some walk.new.cursor) (steps.new - steps.old)) }
 {
-    match walk.advance(steps) {
-        None => Ok(Next::Nothing),
-        Some(Err(_)) => unreachable!(),
-        Some(Ok(entry)) => {
-            write_line(&entry.tiling, &entry.code, &entry.word, buffer, out)?;
-            Ok(Next::Member)
-        }
+    if !walk.advance_in(steps, entry) {
+        return Ok(Next::Nothing);
     }
+    write_line(&entry.tiling, &entry.code, &entry.word, buffer, out)?;
+    Ok(Next::Member)
 }
 
 // Writes the line of an entry, by one call.

@@ -1,9 +1,14 @@
--- How a small skeleton is stored: as a skeleton is, with at most 16 squares.
+-- How a small skeleton is stored: as a skeleton is, with at most 16 squares; and what is kept of one to take the next move back.
 -- Example (SkeletonExamples): 2u.2eu.1e, of five squares.
-use Rattle.std.specs.Prelude.{List, ℕ, ◌≤◌}
+use Rattle.std.specs.List.{concat}
+use Rattle.std.specs.Prelude.{List, length, ℕ, ◌≡◌, ◌≤◌}
+use Rattle.bk_word.specs.Outline.{sizes_of}
+use Rattle.bk_word.specs.Play.{outline_of}
 use Rattle.bk_word.specs.Word.{Word, order_of}
 use Rattle.bk_word.specs.declared.Sign.{Sign}
-use Rattle.bk_skel.specs.Skeleton.{IsStoredSkeleton}
+use Rattle.bk_skel.specs.Skeleton.{IsStoredSkeleton, signs_of}
+use Rattle.bk_skel.specs.Valley.{IsKeptSkeleton}
+use Rattle.bk_skel.specs.declared.small.SmallOutline.{SmallOutline}
 use Rattle.bk_skel.specs.declared.turns.MoveRecord.{MoveRecord}
 
 -- all that is stored of moves that hang few squares
@@ -11,3 +16,14 @@ pub record IsStoredSmall (moves : Word) (ends sizes : List ℕ) (signs : List Si
     (played : List Sign) : Type 0 where
   pub stored : IsStoredSkeleton moves ends sizes signs closed turns played
   pub few : order_of moves ≤ 16
+
+-- what is kept of moves to take the next one back: their open segments, and how many squares are closed, how many moves there are, and how
+-- many signs these have
+pub record IsOutlineOf (moves : Word) (o : SmallOutline) : Type 0 where
+  pub kept : IsKeptSkeleton moves
+  pub ends_are : o.open.ends.items ≡ concat (outline_of moves).segments
+  pub sizes_are : o.open.sizes.items ≡ sizes_of (outline_of moves)
+  pub signs_are : o.open.signs.items ≡ (outline_of moves).signs
+  pub closed_is : o.closed ≡ length (concat (outline_of moves).closed)
+  pub turns_is : o.turns ≡ length moves
+  pub played_is : o.played ≡ length (signs_of moves)

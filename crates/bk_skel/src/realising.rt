@@ -13,7 +13,7 @@ ghost use Rattle.bk_word_net.specs.Realised.{IsRealised};
 ghost use Rattle.bk_word_net.specs.WideWord.{HasLargeCurrent, IsWideWord};
 ghost use Rattle.bk_word_net.specs.WordNet.{net_of_word};
 
-use crate::placing::{Realised, place, placed};
+use crate::placing::{Realised, place};
 use crate::skeleton::Skel;
 use arrayvec::ArrayVec;
 use bk_flow::{Flow, FlowFault, NarrowFlow, SMALL, narrow_flow, solve};
@@ -66,9 +66,30 @@ pub fn realise_by(skel: &Skel, flow: &NarrowFlow) -> Option<Tiling>
     requires flow { IsPrimitiveFlow (net_of_word skel.now) flow.now.total flow.now.currents }
     ensures { IsRealised skel.now result }
 {
+    let mut laid = ArrayVec::new();
+    let mut tiling = Tiling::unit();
+    match realise_by_in(skel, flow, &mut laid, &mut tiling) {
+        Realised::Found => Some(tiling),
+        Realised::Nothing => None,
+    }
+}
+
+/// The same in room that is there: for the squares that are laid, and for the tiling. `Found` comes exactly where there is a
+/// tiling, which stands in `tiling` then; with `Nothing` that is left as it is or not. What stands in `laid`, before or after,
+/// says nothing. (Own.)
+pub fn realise_by_in(
+    skel: &Skel,
+    flow: &NarrowFlow,
+    laid: &mut ArrayVec<Square, MOST_SQUARES>,
+    tiling: &mut Tiling,
+) -> Realised
+    requires closed { IsComplete skel.now }
+    requires flow { IsPrimitiveFlow (net_of_word skel.now) flow.now.total flow.now.currents }
+    ensures { IsRealised skel.now (tiling_found result tiling.new) }
+{
     match sides_of_few(flow.currents()) {
-        Some(sides) => placed(skel, &sides),
-        None => None,
+        Some(sides) => place(skel, &sides, laid, tiling),
+        None => Realised::Nothing,
     }
 }
 
@@ -175,11 +196,7 @@ fn realise_few(
     requires few { order_of skel.now ≤ 16 }
     ensures { IsRealised skel.now (tiling_found result tiling.new) }
 {
-    let flow = flow_of(skel);
-    match sides_of_few(flow.currents()) {
-        Some(sides) => place(skel, &sides, laid, tiling),
-        None => Realised::Nothing,
-    }
+    realise_by_in(skel, &flow_of(skel), laid, tiling)
 }
 
 // The same of any closed skeleton, whose net is solved in memory where it has more than 16 squares.

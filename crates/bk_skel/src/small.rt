@@ -1,14 +1,16 @@
-//! Words of at most 16 squares that are played move by move and copied.
+//! Words of at most 16 squares that are played move by move and taken back.
 //!
-//! A small skeleton keeps the open segments as a skeleton does, in lists that lie in the value itself.
+//! A small skeleton keeps the open segments as a skeleton does, in lists that lie in the value itself. Before a move its outline is
+//! copied; then the move is taken back by that copy, and what the moves appended is cut off again.
 
 ghost use Rattle.std.specs.List.{concat, splice};
-ghost use Rattle.std.specs.Prelude.{IsTrue, [], count_by, filter, length, ◌+◌, ◌++◌, ◌-◌, ◌∷◌, ◌≡◌, ◌≤◌, ◌↔◌};
+ghost use Rattle.std.specs.Prelude.{IfNone, IfSome, IsTrue, [], count_by, filter, length, take, ◌+◌, ◌++◌, ◌-◌, ◌<◌, ◌∷◌, ◌≡◌, ◌≤◌, ◌↔◌};
 ghost use Rattle.bk_word.specs.Outline.{IsLegalMove, has_left_wall, has_right_wall, sizes_of, valley_of};
 ghost use Rattle.bk_word.specs.Play.{IsComplete, numbers_from, outline_of, parts};
 ghost use Rattle.bk_word.specs.Word.{order_of};
 ghost use Rattle.bk_word_net.specs.WordNet.{net_of_word};
 ghost use Rattle.bk_skel.specs.Skeleton.{first_touched, open_sides, sizes_after};
+ghost use Rattle.bk_skel.specs.SmallSkeleton.{IsOutlineOf};
 ghost use Rattle.bk_skel.specs.Valley.{IsKeptSkeleton};
 
 use crate::netting::{end_nodes, wired};
@@ -24,22 +26,68 @@ use std::marker::Model;
 // The moves of a small skeleton have at most so many signs: each at most one more than squares.
 const MOST_SMALL_SIGNS: usize = 32;
 
-// The lists of a small skeleton. They are copied at one stroke.
+// A move of at most 16 squares has at most so many signs.
+const MOST_MOVE_SIGNS: usize = INLINE_ORDER + 1;
+
+// The open segments. They are copied at one stroke.
 #[derive(Clone, Copy, Drop)]
-struct Lists {
+struct Open {
     ends: Short<u8, INLINE_ORDER>,
     sizes: Short<u8, INLINE_ORDER>,
     signs: Short<Sign, INLINE_ORDER>,
-    closed: Short<u8, INLINE_ORDER>,
-    turns: Short<MoveRecord, INLINE_ORDER>,
-    played: Short<Sign, MOST_SMALL_SIGNS>,
+}
+
+/// The outline of a small skeleton, and how many closed squares, moves and signs of moves it keeps: what is needed to take the next
+/// move back. (Own.)
+#[derive(Clone, Copy, Drop)]
+pub struct SmallOutline {
+    open: Open,
+    closed: u8,
+    turns: u8,
+    played: u8,
+}
+
+/// A move of at most 16 squares, which takes little room.
+#[derive(Drop)]
+pub struct SmallMove {
+    pub count: u8,
+    pub signs: Short<Sign, MOST_MOVE_SIGNS>,
+}
+
+impl Model for SmallMove {
+    ghost use Rattle.bk_word.specs.Word.{Move as SeenMove};
+
+    ghost Value = { SeenMove };
+
+    ghost view = { λ m. record { count = m.count; signs = m.signs.items } };
+}
+
+impl SmallMove {
+    /// The same move, where it has at most 17 signs, as each has that hangs at most 16 squares.
+    pub fn of(m: &Move) -> Option<SmallMove>
+        ensures some { IfSome result (λ s. s ≡ m.now) }
+        ensures none { IfNone result (17 < length m.now.signs) }
+    {
+        if m.signs.len() > MOST_MOVE_SIGNS {
+            return None;
+        }
+        let mut signs = Short::new();
+        signs.extend(m.signs.as_slice());
+        Some(SmallMove {
+            count: m.count,
+            signs,
+        })
+    }
 }
 
 /// A word that is played move by move, seen as the list of its moves: each legal after those before it, of at most 16 squares in
 /// all. (Own.)
 #[derive(Drop)]
 pub struct SmallSkel {
-    lists: Lists,
+    open: Open,
+    closed: Short<u8, INLINE_ORDER>,
+    turns: Short<MoveRecord, INLINE_ORDER>,
+    played: Short<Sign, MOST_SMALL_SIGNS>,
 }
 
 impl Model for SmallSkel {
@@ -49,10 +97,10 @@ impl Model for SmallSkel {
 
     ghost Value = { Moves };
 
-    ghost view = { λ s. moves_stored s.lists.turns.items s.lists.played.items };
+    ghost view = { λ s. moves_stored s.turns.items s.played.items };
 
-    ghost invariant = { λ s. IsStoredSmall (moves_stored s.lists.turns.items s.lists.played.items) s.lists.ends.items
-        s.lists.sizes.items s.lists.signs.items s.lists.closed.items s.lists.turns.items s.lists.played.items };
+    ghost invariant = { λ s. IsStoredSmall (moves_stored s.turns.items s.played.items) s.open.ends.items s.open.sizes.items
+        s.open.signs.items s.closed.items s.turns.items s.played.items };
 }
 
 impl SmallSkel {
@@ -63,28 +111,46 @@ impl SmallSkel {
         let mut sizes = Short::new();
         sizes.push(0);
         SmallSkel {
-            lists: Lists {
+            open: Open {
                 ends: Short::new(),
                 sizes,
                 signs: Short::new(),
-                closed: Short::new(),
-                turns: Short::new(),
-                played: Short::new(),
             },
+            closed: Short::new(),
+            turns: Short::new(),
+            played: Short::new(),
         }
     }
 
-    /// The same skeleton once more.
-    #[inline]
-    pub fn copied(&self) -> SmallSkel
-        ensures { result ≡ self.now }
+    /// How the skeleton stands, by which a move that is played now is taken back.
+    #[inline(always)]
+    pub fn outline(&self) -> SmallOutline
+        ensures { IsOutlineOf self.now result }
     {
-        SmallSkel { lists: self.lists }
+        SmallOutline {
+            open: self.open,
+            closed: self.closed.len() as u8,
+            turns: self.turns.len() as u8,
+            played: self.played.len() as u8,
+        }
+    }
+
+    /// Takes the last move back, before which the skeleton stood like this. There must be one.
+    #[inline(always)]
+    pub fn take_back(&mut self, before: &SmallOutline)
+        requires some { 0 < length self.old }
+        requires before { IsOutlineOf (take (length self.old - 1) self.old) before.now }
+        ensures { self.new ≡ take (length self.old - 1) self.old }
+    {
+        self.open = before.open;
+        self.closed.truncate(usize::from(before.closed));
+        self.turns.truncate(usize::from(before.turns));
+        self.played.truncate(usize::from(before.played));
     }
 
     /// Whether the move may be played: it hangs a square, and has a sign between each two of its squares and one more for
     /// each side of the leftmost valley that is no wall.
-    pub fn legal(&self, m: &Move) -> bool
+    pub fn legal(&self, m: &SmallMove) -> bool
         ensures { IsTrue result ↔ IsLegalMove (outline_of self.now) m.now }
     {
         let (left, right) = self.walls();
@@ -93,42 +159,40 @@ impl SmallSkel {
     }
 
     /// Plays a move, which must be legal, with at most 16 squares then.
-    pub fn play(&mut self, m: &Move)
+    pub fn play(&mut self, m: &SmallMove)
         requires legal { IsLegalMove (outline_of self.old) m.now }
         requires few { order_of self.old + m.now.count ≤ 16 }
         ensures { self.new ≡ self.old ++ m.now ∷ [] }
     {
         let turn = turn_for(
-            self.lists.sizes.as_slice(),
-            self.lists.signs.as_slice(),
+            self.open.sizes.as_slice(),
+            self.open.signs.as_slice(),
             m.count,
-            &m.signs,
-            self.lists.played.len(),
+            m.signs.as_slice(),
+            self.played.len(),
         );
-        let number = (self.lists.ends.len() + self.lists.closed.len() + 1) as u8;
+        let number = (self.open.ends.len() + self.closed.len() + 1) as u8;
         let first = usize::from(turn.first);
         let end = first + usize::from(turn.closed);
-        self.lists
-            .closed
-            .extend(&self.lists.ends.as_slice()[first..end]);
-        hang(&mut self.lists.ends, first, end, number, m.count);
+        self.closed.extend(&self.open.ends.as_slice()[first..end]);
+        hang(&mut self.open.ends, first, end, number, m.count);
         part_and_join(
-            &mut self.lists.sizes,
-            &mut self.lists.signs,
+            &mut self.open.sizes,
+            &mut self.open.signs,
             &turn,
-            &m.signs,
+            m.signs.as_slice(),
         );
-        self.lists.played.extend(&m.signs);
-        self.lists.turns.push(turn);
+        self.played.extend(m.signs.as_slice());
+        self.turns.push(turn);
     }
 
     /// The numbers of the leftmost valley's squares, from left to right: none at the start.
     pub fn valley_squares(&self) -> &[u8]
         ensures { result.now ≡ valley_of (outline_of self.now) }
     {
-        let (place, first) = leftmost(self.lists.sizes.as_slice(), self.lists.signs.as_slice());
-        let size = self.lists.sizes.as_slice()[place];
-        &self.lists.ends.as_slice()[first..first + usize::from(size)]
+        let (place, first) = leftmost(self.open.sizes.as_slice(), self.open.signs.as_slice());
+        let size = self.open.sizes.as_slice()[place];
+        &self.open.ends.as_slice()[first..first + usize::from(size)]
     }
 
     /// Whether the leftmost valley has a wall at its left, and at its right.
@@ -136,16 +200,16 @@ impl SmallSkel {
         ensures left { result.0 ≡ has_left_wall (outline_of self.now) }
         ensures right { result.1 ≡ has_right_wall (outline_of self.now) }
     {
-        let (place, _) = leftmost(self.lists.sizes.as_slice(), self.lists.signs.as_slice());
-        (place == 0, place == self.lists.signs.len())
+        let (place, _) = leftmost(self.open.sizes.as_slice(), self.open.signs.as_slice());
+        (place == 0, place == self.open.signs.len())
     }
 
     /// How many squares the leftmost valley has: none at the start.
     pub fn valley_len(&self) -> usize
         ensures { result ≡ length (valley_of (outline_of self.now)) }
     {
-        let (place, _) = leftmost(self.lists.sizes.as_slice(), self.lists.signs.as_slice());
-        usize::from(self.lists.sizes.as_slice()[place])
+        let (place, _) = leftmost(self.open.sizes.as_slice(), self.open.signs.as_slice());
+        usize::from(self.open.sizes.as_slice()[place])
     }
 
     /// The numbers of the open squares, segment by segment from left to right. Squares are numbered from 1 in the order of
@@ -153,21 +217,21 @@ impl SmallSkel {
     pub fn ends(&self) -> &[u8]
         ensures { result.now ≡ concat (outline_of self.now).segments }
     {
-        self.lists.ends.as_slice()
+        self.open.ends.as_slice()
     }
 
     /// How many squares each open segment has, from left to right.
     pub fn sizes(&self) -> &[u8]
         ensures { result.now ≡ sizes_of (outline_of self.now) }
     {
-        self.lists.sizes.as_slice()
+        self.open.sizes.as_slice()
     }
 
     /// The signs between the open segments, from left to right: above or under.
     pub fn signs(&self) -> &[Sign]
         ensures { result.now ≡ (outline_of self.now).signs }
     {
-        self.lists.signs.as_slice()
+        self.open.signs.as_slice()
     }
 
     /// How many moves there are.
@@ -175,7 +239,7 @@ impl SmallSkel {
         ensures value { result ≡ length self.now }
         ensures kept { IsKeptSkeleton self.now }
     {
-        self.lists.turns.len()
+        self.turns.len()
     }
 
     /// How many squares the moves hang.
@@ -183,14 +247,14 @@ impl SmallSkel {
         ensures value { result ≡ order_of self.now }
         ensures few { result ≤ 16 }
     {
-        self.lists.ends.len() + self.lists.closed.len()
+        self.open.ends.len() + self.closed.len()
     }
 
     /// Whether there is a move and one segment is left: the word of the moves is complete.
     pub fn is_closed(&self) -> bool
         ensures { IsTrue result ↔ IsComplete self.now }
     {
-        self.lists.turns.len() > 0 && self.lists.sizes.len() == 1
+        self.turns.len() > 0 && self.open.sizes.len() == 1
     }
 
     /// The net of the word, which must be complete: a node for each move, and the last segment as the last node; a wire for
@@ -199,9 +263,9 @@ impl SmallSkel {
         requires { IsComplete self.now }
         ensures { result ≡ net_of_word self.now }
     {
-        let ended = end_nodes(self.lists.turns.as_slice(), self.lists.closed.as_slice());
-        let order = self.lists.ends.len() + self.lists.closed.len();
-        wired(self.lists.turns.as_slice(), &ended[..order])
+        let ended = end_nodes(self.turns.as_slice(), self.closed.as_slice());
+        let order = self.open.ends.len() + self.closed.len();
+        wired(self.turns.as_slice(), &ended[..order])
     }
 }
 

@@ -2,6 +2,7 @@
 
 use bk_free_leaf::{Ties, leaf};
 use bk_free_search::Board;
+use bk_skel::SmallMove;
 use bk_tiling::Tiling;
 use bk_word::{Class, Move, Word, read_word};
 use std::process::Abort;
@@ -11,8 +12,9 @@ type Sides = (u64, u64, &'static [u64]);
 
 // Goes on by a move, which must be legal.
 fn push(rt: &impl Abort, board: &mut Board, m: &Move) {
-    assert!(rt; board.skel().legal(m) && board.skel().order() + usize::from(m.count) <= 16);
-    board.push(m);
+    let m = SmallMove::of(m).expect(rt, "the move has at most 17 signs");
+    assert!(rt; board.skel().legal(&m) && board.skel().order() + usize::from(m.count) <= 16);
+    board.push(&m);
 }
 
 // No counts are said to tie.

@@ -10,27 +10,34 @@ ghost use Rattle.bk_catalogue.specs.Catalogue.{IsEntry};
 ghost use Rattle.bk_catalogue.specs.Repeated.{HasNoMember, HasTwoAlike};
 ghost use Rattle.bk_walk.specs.WholeWords.{IsUnfit};
 
+use arrayvec::ArrayVec;
 use bk_flow::NarrowFlow;
 use bk_member_table::qualifies;
-use bk_skel::{Skel, flow_of, realise_by};
-use bk_tiling::Tiling;
+use bk_skel::{Realised, Skel, flow_of, realise_by_in};
+use bk_tiling::{MOST_SQUARES, Square, Tiling};
 use bk_word::Class;
 
-// Whether a member of the class has a complete word of at most 16 squares. Where one has, `tiling` becomes that member.
-pub(crate) fn find_member(skel: &Skel, class: Class, tiling: &mut Tiling) -> bool
+// Whether a member of the class has a complete word of at most 16 squares. Where one has, `tiling` becomes that member. In
+// `laid` is room for the squares that are laid.
+pub(crate) fn find_member(
+    skel: &Skel,
+    class: Class,
+    laid: &mut ArrayVec<Square, MOST_SQUARES>,
+    tiling: &mut Tiling,
+) -> bool
     requires whole { IsComplete skel.now }
     requires few { order_of skel.now ≤ 16 }
     ensures yes { IsTrue result → IsEntry (order_of skel.now) class (record { tiling = tiling.new; word = skel.now }) }
     ensures no { result ≡ false → HasNoMember class skel.now }
 {
     match fit_flow(skel, class) {
-        Some(flow) => find_by_flow(skel, &flow, class, tiling),
+        Some(flow) => find_by_flow(skel, &flow, class, laid, tiling),
         None => false,
     }
 }
 
 // The flow of the net of a complete word of at most 16 squares, where it is fit: no current is less than 1, and in the class
-// perfect no two are the same. Of a word without such a flow no member of the class has it. No room is taken for a tiling.
+// perfect no two are the same. Of a word without such a flow no member of the class has it.
 fn fit_flow(skel: &Skel, class: Class) -> Option<NarrowFlow>
     requires whole { IsComplete skel.now }
     requires few { order_of skel.now ≤ 16 }
@@ -46,24 +53,23 @@ fn fit_flow(skel: &Skel, class: Class) -> Option<NarrowFlow>
     }
 }
 
-// The same by the word's flow. Room is taken for tilings here, so it stands in no frame that each step of a search makes.
-#[inline(never)]
-fn find_by_flow(skel: &Skel, flow: &NarrowFlow, class: Class, tiling: &mut Tiling) -> bool
+// The same by the word's flow.
+fn find_by_flow(
+    skel: &Skel,
+    flow: &NarrowFlow,
+    class: Class,
+    laid: &mut ArrayVec<Square, MOST_SQUARES>,
+    tiling: &mut Tiling,
+) -> bool
     requires whole { IsComplete skel.now }
     requires flow { IsPrimitiveFlow (net_of_word skel.now) flow.now.total flow.now.currents }
     requires fit { ¬ (IsUnfit class flow.now.currents) }
     ensures yes { IsTrue result → IsEntry (order_of skel.now) class (record { tiling = tiling.new; word = skel.now }) }
     ensures no { result ≡ false → HasNoMember class skel.now }
 {
-    match realise_by(skel, flow) {
-        Some(found) => {
-            if !qualifies(&found, class) {
-                return false;
-            }
-            *tiling = found;
-            true
-        }
-        None => false,
+    match realise_by_in(skel, flow, laid, tiling) {
+        Realised::Found => qualifies(tiling, class),
+        Realised::Nothing => false,
     }
 }
 

@@ -17,10 +17,11 @@ use crate::judging::find_member;
 use crate::lined::LinedSkel;
 use crate::moves::{begin_anew, first_move, least_legal_from, next_move};
 use crate::tabled::{PATIENCE, Told, begin_table, tell};
+use arrayvec::ArrayVec;
 use bk_member_table::MemberTable;
 use bk_packed::number_with;
 use bk_skel::{Skel, Steps, open_side};
-use bk_tiling::Tiling;
+use bk_tiling::{MOST_SQUARES, Square, Tiling};
 use bk_word::{Class, Move};
 use std::marker::Model;
 use std::sync::ledger::Ledger;
@@ -44,7 +45,8 @@ pub(crate) enum Found {
 }
 
 /// A search for the words of members of an order and a class. It is seen as the order, the class, the moves that it has played,
-/// the move from which it looks for the next legal one, and how many moves it has pushed. It has room for a table of so many members. (Own.)
+/// the move from which it looks for the next legal one, and how many moves it has pushed. It has room for a table of so many members, and
+/// for the squares of a tiling. (Own.)
 #[derive(Drop)]
 pub(crate) struct Search<const ROOM: usize> {
     pub(crate) order: u8,
@@ -52,6 +54,7 @@ pub(crate) struct Search<const ROOM: usize> {
     pub(crate) lined: LinedSkel,
     pub(crate) next: Move,
     table: MemberTable<ROOM>,
+    pub(crate) laid: ArrayVec<Square, MOST_SQUARES>,
     pushes: u64,
 }
 
@@ -78,6 +81,7 @@ impl<const ROOM: usize> Search<ROOM> {
             lined: LinedSkel::new(order),
             next: first_move(),
             table: MemberTable::new(),
+            laid: ArrayVec::new(),
             pushes: 0,
         }
     }
@@ -97,8 +101,7 @@ impl<const ROOM: usize> Search<ROOM> {
         self.pushes
     }
 
-    /// Searches on from its place, up to the next member's word. `tiling` becomes that member where there is one. It isn't
-    /// inlined, so that the entry is made where `advance` returns it, without a copy.
+    /// Searches on from its place, up to the next member's word. `tiling` becomes that member where there is one.
     #[inline(never)]
     pub(crate) fn search<L: Ledger>(&mut self, steps: &mut Steps<L>, tiling: &mut Tiling) -> Found
         ensures finds { Finds self.old.order self.old.class (place_of self.old) self.new.front (steps.new - steps.old) result }
@@ -179,7 +182,7 @@ impl<const ROOM: usize> Search<ROOM> {
             return Went::On;
         }
         begin_anew(&mut self.next);
-        if is_members(&self.lined, self.class, self.order, tiling) {
+        if is_members(&self.lined, self.class, self.order, &mut self.laid, tiling) {
             Went::Met
         } else {
             Went::On
@@ -231,13 +234,20 @@ fn climb(lined: &mut LinedSkel, next: &mut Move) -> bool
     true
 }
 
-// Whether the moves are the word of a member of the order. Where they are, `tiling` becomes that member.
-fn is_members(lined: &LinedSkel, class: Class, order: u8, tiling: &mut Tiling) -> bool
+// Whether the moves are the word of a member of the order. Where they are, `tiling` becomes that member. In `laid` is room for
+// the squares that are laid.
+fn is_members(
+    lined: &LinedSkel,
+    class: Class,
+    order: u8,
+    laid: &mut ArrayVec<Square, MOST_SQUARES>,
+    tiling: &mut Tiling,
+) -> bool
     requires order { order ≤ 16 }
     ensures yes { IsTrue result → IsEntry order class (record { tiling = tiling.new; word = lined.now }) }
     ensures none { result ≡ false → IsComplete lined.now → order_of lined.now ≡ order → HasNoMember class lined.now }
 {
-    is_complete_of(lined, order) && find_member(lined.skel(), class, tiling)
+    is_complete_of(lined, order) && find_member(lined.skel(), class, laid, tiling)
 }
 
 // Whether the moves are a complete word of the order.

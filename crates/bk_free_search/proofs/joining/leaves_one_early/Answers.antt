@@ -27,5 +27,5 @@ returns c even = one_segment c.args.order (c.args.skel.now ++ c.args.m.now ∷ [
     ))
     (one_left c.args.skel.now c.args.m.now c.requires.word c.requires.legal c.requires.one
     (omega (arith, c.if-signs-len.false, ap length c.signs.ensures, c.len.ensures.value, ap (λ (m : Move). length m.signs) c.m.view_is))
-    (ap (list_any parts) (sym (c.as_slice.ensures.value ∙ ap (λ (m : Move). m.signs) c.m.view_is)) ∙ sym c.any_parts.ensures
+    (ap (list_any parts) (sym (c.as_slice.ensures.items ∙ ap (λ (m : Move). m.signs) c.m.view_is)) ∙ sym c.any_parts.ensures
     ∙ not_any c.any_parts.result even))

@@ -19,6 +19,6 @@ push-requires c = (
 
 pub sides-preserved : goal.sides-preserved
 sides-preserved c = record {
-  items = c.push.ensures.items ∙ ap (λ (l : List Sign). l ++ Even ∷ []) c.sides.invariant.items ∙ more_evens c.sides._side;
+  items = c.push.ensures ∙ ap (λ (l : List Sign). l ++ Even ∷ []) c.sides.invariant.items ∙ more_evens c.sides._side;
   few = omega (arith, c.sides-test.true);
 }

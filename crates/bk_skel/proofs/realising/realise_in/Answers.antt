@@ -1,5 +1,5 @@
 use Rattle.std.specs.Prelude.{IfErr, OnOk}
-use Rattle.std.proofs.Common.{ap, arith, subst, sym, ◌≡◌, ◌≤◌}
+use Rattle.std.proofs.Common.{arith, subst, sym, ◌≤◌}
 use Rattle.std.proofs.lemmas.Bool.{both_ways}
 use Rattle.bk_word.specs.Word.{Word, order_of}
 use Rattle.bk_word_net.proofs.NarrowWords.{no_small_word_is_wide}

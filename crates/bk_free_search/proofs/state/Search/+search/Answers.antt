@@ -35,8 +35,12 @@ with_last_square-returns-in-None-clause-all g t c w sought on =
 
 pub with_last_square-returns-clause-all : goal.with_last_square-returns-clause-all
 with_last_square-returns-clause-all g t c w sought on = c.go_on.ensures.all w sought
-    (subst (λ (v : Word). GoesOn v w) ((λ i. sym c.copied.ensures i ++ sym c.in-Some.ensures.last i ∷ []) ∙ sym c.push.ensures)
+    (subst (λ (v : Word). GoesOn v w) ((λ i. c.args.self.now.board ++ sym c.in-Some.ensures.last i ∷ []) ∙ sym c.push.ensures)
     (goes_on_last c.args.self.now.order c.args.self.now.board w sought c.requires.one on))
+
+pub with_counts-returns-then-lacks_next-clause-all : goal.with_counts-returns-then-lacks_next-clause-all
+with_counts-returns-then-lacks_next-clause-all g t c w sought on =
+    absurd (sought.fertile c.args.self.now.board on.rest on.is (c.lacks_next.ensures c.if-lacks_next.true))
 
 pub with_counts-counts-init : goal.with_counts-counts-init
 with_counts-counts-init g t c = record {

@@ -12,11 +12,12 @@ flow_of-requires-clause-closed g c = subst IsComplete
     (c.requires.word_is ∙ sym (ap (λ (s : SearchState). s.front) c.self.view_is) ∙ sym c.skel-skel.ensures.value)
     (entry_complete c.args.self.now.order c.args.self.now.class c.requires.entry c.requires.is).0
 
-pub realise_by-requires-clause-closed : goal.realise_by-requires-clause-closed
-realise_by-requires-clause-closed g c = subst IsComplete
+pub realise_by_in-requires-clause-closed : goal.realise_by_in-requires-clause-closed
+realise_by_in-requires-clause-closed g c = subst IsComplete
     (c.requires.word_is ∙ sym (ap (λ (s : SearchState). s.front) c.self.view_is) ∙ sym c.skel-skel.ensures.value)
     (entry_complete c.args.self.now.order c.args.self.now.class c.requires.entry c.requires.is).0
 
-pub returns : goal.returns
-returns g c = member_realised c.args.self.now.order c.args.self.now.class c.args.self.now.front c.in-Some.member c.requires
-    (subst (λ (w : Word). IsTilingOf w c.in-Some.member) (c.skel-skel.ensures.value ∙ ap (λ (s : SearchState). s.front) c.self.view_is) c.in-Some.ensures)
+pub returns-clause-member : goal.returns-clause-member
+returns-clause-member g c = member_realised c.args.self.now.order c.args.self.now.class c.args.self.now.front c.realise_by_in.new.tiling c.requires
+    (subst (λ (w : Word). IsTilingOf w c.realise_by_in.new.tiling) (c.skel-skel.ensures.value ∙ ap (λ (s : SearchState). s.front) c.self.view_is)
+    c.in-Found.ensures)

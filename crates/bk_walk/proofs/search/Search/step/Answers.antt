@@ -110,12 +110,14 @@ returns-in-Next-clause-leads g c =
     let least = step_least c.self.inside.order c.self.inside.lined c.self.inside.next c.least_legal_from.new.m c.self.invariant.stand
     (least_fits c.least_legal_from.new.m c.self.inside.next c.open_sides.result (open_sides (outline_of c.self.inside.lined)) c.least_legal_from.ensures
     c.open_sides.ensures.value) in
-    subst (λ (s : SearchState). StepLeadsTo s.order s.class (place_of s) c.leap.new.self.front c.leap.new.self.next
+    subst (λ (t : SearchState). StepLeadsTo c.args.self.now.order c.args.self.now.class (place_of c.args.self.now) t.front t.next
+    (c.leap.new.steps - c.args.steps.now) Met) (sym c.realise.ensures.same)
+    (subst (λ (s : SearchState). StepLeadsTo s.order s.class (place_of s) c.leap.new.self.front c.leap.new.self.next
     (c.leap.new.steps - c.args.steps.now) Met) c.self.view_is
     (step_from c.self.inside.order c.self.inside.class c.self.inside.lined c.self.inside.next c.least_legal_from.new.m least c.leap.new.self.front
     c.leap.new.self.next (c.leap.new.steps - c.args.steps.now) Met
     (subst (λ (s : SearchState). StepLeadsTo s.order s.class (place_of s) c.leap.new.self.front c.leap.new.self.next
-    (c.leap.new.steps - c.args.steps.now) Met) c.in-Next.ensures.same c.leap.ensures.meets))
+    (c.leap.new.steps - c.args.steps.now) Met) c.in-Next.ensures.same c.leap.ensures.meets)))
 
 pub returns-in-NoMore-clause-leads : goal.returns-in-NoMore-clause-leads
 returns-in-NoMore-clause-leads g c =
@@ -158,12 +160,13 @@ realise-requires g c = (
 )
 
 pub returns-in-Next-clause-member : goal.returns-in-Next-clause-member
-returns-in-Next-clause-member g c = λ _. subst (λ (s : SearchState). IsEntry s.order s.class
-    (record { tiling = c.realise.new.tiling; word = c.leap.new.self.front })) c.self.view_is
+returns-in-Next-clause-member g c = λ _. subst (λ (t : SearchState). IsEntry c.args.self.now.order c.args.self.now.class
+    (record { tiling = c.realise.new.tiling; word = t.front })) (sym c.realise.ensures.same)
+    (subst (λ (s : SearchState). IsEntry s.order s.class (record { tiling = c.realise.new.tiling; word = c.leap.new.self.front })) c.self.view_is
     (subst (λ (s : SearchState). IsEntry s.order s.class (record { tiling = c.realise.new.tiling; word = c.leap.new.self.front }))
     c.in-Next.ensures.same
     (same_entry c.ask.new.self.order c.leap.new.self.order c.ask.new.self.class c.leap.new.self.class c.leap.new.self.front c.leap.new.self.front
-    c.realise.new.tiling c.leap.ensures.stays.order c.leap.ensures.stays.class refl c.realise.ensures))
+    c.realise.new.tiling c.leap.ensures.stays.order c.leap.ensures.stays.class refl c.realise.ensures.member)))
 
 pub returns-in-NoMore-clause-member : goal.returns-in-NoMore-clause-member
 returns-in-NoMore-clause-member g c = λ met. absurd (not_end met)
