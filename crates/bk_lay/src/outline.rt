@@ -6,7 +6,7 @@ ghost use Rattle.bk_tiling.specs.declared.Square.{Square as Placed};
 ghost use Rattle.bk_lay.specs.LevelRuns.{AreBeside, IsDeeperAtEnd, IsOutline, Meet, bottoms_of, last_level, runs_under};
 ghost use Rattle.bk_lay.specs.TilingWord.{signs_between};
 
-use crate::signs::signs_of;
+use crate::signs::write_signs;
 use arrayvec::ArrayVec;
 use bk_tiling::{MOST_SQUARES, Square};
 use bk_word::Move;
@@ -59,19 +59,17 @@ impl Outline {
         };
     }
 
-    // The move that hangs these squares under the valley.
-    pub(crate) fn move_under(&self, squares: &[Square]) -> Move
+    // Makes of a move the one that hangs these squares under the valley.
+    pub(crate) fn move_under(&self, squares: &[Square], m: &mut Move)
         requires few { length squares.now ≤ 200 }
         requires fit { AllByRecursion (λ q. q.y + q.s < 2 ^ 64) squares.now }
-        ensures count { result.count ≡ length squares.now }
-        ensures signs { result.signs ≡ signs_between (last_level self.now.left.items ++ bottoms_of squares.now ++ last_level self.now.right.items) }
+        ensures count { m.new.count ≡ length squares.now }
+        ensures signs { m.new.signs ≡ signs_between (last_level self.now.left.items ++ bottoms_of squares.now ++ last_level self.now.right.items) }
     {
         let before = level_of_last(self.left.as_slice());
         let after = level_of_last(self.right.as_slice());
-        Move {
-            count: squares.len() as u8,
-            signs: signs_of(before, squares, after),
-        }
+        m.count = squares.len() as u8;
+        write_signs(&mut m.signs, before, squares, after);
     }
 
     // Lays squares that fill the valley from left to right, and goes on to the valley that is then the leftmost.

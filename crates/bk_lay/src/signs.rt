@@ -12,27 +12,27 @@ use bk_word::Sign;
 /// A move has at most so many signs.
 const MOST_MOVE_SIGNS: usize = MOST_SQUARES + 1;
 
-// The signs between the bottoms of squares, from left to right, and the levels beside these.
-pub(crate) fn signs_of(
+// Makes of signs those between the bottoms of squares, from left to right, and the levels beside these.
+pub(crate) fn write_signs(
+    signs: &mut ArrayVec<Sign, MOST_MOVE_SIGNS>,
     before: Option<u64>,
     squares: &[Square],
     after: Option<u64>,
-) -> ArrayVec<Sign, MOST_MOVE_SIGNS>
+)
     requires few { length squares.now ≤ 200 }
     requires fit { AllByRecursion (λ q. q.y + q.s < 2 ^ 64) squares.now }
-    ensures { result.items ≡ signs_between (option_to_list before ++ bottoms_of squares.now ++ option_to_list after) }
+    ensures { signs.new.items ≡ signs_between (option_to_list before ++ bottoms_of squares.now ++ option_to_list after) }
 {
-    let mut signs = ArrayVec::new();
+    signs.clear();
     let mut last = before;
     for q in squares {
         let bottom = q.y + q.s;
-        push_sign(&mut signs, last, bottom);
+        push_sign(signs, last, bottom);
         last = Some(bottom);
     }
     if let Some(level) = after {
-        push_sign(&mut signs, last, level);
+        push_sign(signs, last, level);
     }
-    signs
 }
 
 // Appends the sign between two levels, where there is one at the left.

@@ -1,6 +1,6 @@
 //! The word of a tiling, turn by turn.
 
-ghost use Rattle.std.specs.Prelude.{IfNone, IfOk, IfSome, IsOk, [], count_by, filter, length, ◌<◌, ◌≡◌, ◌≤◌};
+ghost use Rattle.std.specs.Prelude.{IfNone, IfOk, IfSome, IsOk, IsTrue, [], count_by, false, filter, length, ◌<◌, ◌≡◌, ◌≤◌};
 ghost use Rattle.bk_tiling.specs.CodeOrder.{InCodeOrder, comes_before};
 ghost use Rattle.bk_tiling.specs.Tiling.{order};
 ghost use Rattle.bk_lay.specs.LevelRuns.{IsOutline, begins_under, corner};
@@ -10,6 +10,7 @@ ghost use Rattle.bk_lay.specs.TilingWord.{IsWordOf};
 ghost use Rattle.bk_lay.specs.Turning.{AreTurns, IsTurn, Turned};
 
 use crate::outline::{Outline, Run};
+use arrayvec::ArrayVec;
 use bk_tiling::{Square, Tiling};
 use bk_word::{Move, NoMemory, Word};
 use std::alloc::Global;
@@ -53,10 +54,26 @@ impl Turns {
         ensures next { IfSome result (λ m. (w : Moves) → Turned tiling.now w self.old → IsTurn tiling.now w self.new m) }
         ensures last { IfNone result ((w : Moves) → Turned tiling.now w self.old → IsWordOf tiling.now w) }
     {
-        if self.outline.valley.level >= tiling.height() {
+        let mut m = no_move();
+        if !self.next_in(tiling, &mut m) {
             return None;
         }
-        Some(turn(&mut self.outline, tiling))
+        Some(m)
+    }
+
+    /// The same in room that is there: whether there is a next turn. Its move stands in `m` then, and where there is none more `m` is
+    /// left as it is. What stood in `m` before says nothing.
+    pub fn next_in(&mut self, tiling: &Tiling, m: &mut Move) -> bool
+        requires { AreTurns tiling.now self.old }
+        ensures next { IsTrue result → (w : Moves) → Turned tiling.now w self.old → IsTurn tiling.now w self.new m.new }
+        ensures last { result ≡ false → (w : Moves) → Turned tiling.now w self.old → IsWordOf tiling.now w }
+        ensures same { result ≡ false → m.new ≡ m.old }
+    {
+        if self.outline.valley.level >= tiling.height() {
+            return false;
+        }
+        turn(&mut self.outline, tiling, m);
+        true
     }
 }
 
@@ -70,23 +87,33 @@ pub fn word_of(alloc: Global, tiling: &Tiling) -> Result<Word, NoMemory>
 {
     let mut word = Word::new(alloc);
     let mut turns = Turns::new();
+    let mut m = no_move();
     turns.begin(tiling);
-    'moves: while let Some(m) = turns.next(tiling) {
+    'moves: while turns.next_in(tiling, &mut m) {
         word.push(&m)?;
     }
     Ok(word)
 }
 
-// The move of the turn that follows, whose squares are laid.
-fn turn(outline: &mut Outline, tiling: &Tiling) -> Move
+// The move of no squares and no signs: room for moves.
+fn no_move() -> Move
+    ensures { result ≡ record { count = 0; signs = [] } }
+{
+    Move {
+        count: 0,
+        signs: ArrayVec::new(),
+    }
+}
+
+// Lays the squares of the turn that follows, and writes its move.
+fn turn(outline: &mut Outline, tiling: &Tiling, m: &mut Move)
     requires going { AreTurns tiling.now outline.old }
     requires low { outline.old.valley.level < tiling.now.height }
-    ensures { (w : Moves) → Turned tiling.now w outline.old → IsTurn tiling.now w outline.new result }
+    ensures { (w : Moves) → Turned tiling.now w outline.old → IsTurn tiling.now w outline.new m.new }
 {
     let squares = squares_under(tiling.squares(), outline.valley);
-    let next = outline.move_under(squares);
+    outline.move_under(squares, m);
     outline.lay(squares);
-    next
 }
 
 // The squares, in code order, whose tops lie on a run.

@@ -7,26 +7,26 @@ use Rattle.bk_lay.proofs.turns.word_of.Goals as goal
 no : false ≡ true → ⊥
 no e = cc
 
-pub next-requires : goal.next-requires
-next-requires c = (c.moves.word, c.moves.invariant)
+pub next_in-requires : goal.next_in-requires
+next_in-requires c = (c.moves.word, c.moves.invariant)
 
 pub push-requires-clause-stands : goal.push-requires-clause-stands
-push-requires-clause-stands c = (c.in-Some.ensures.next c.moves.word c.moves.invariant).stands
+push-requires-clause-stands c = (c.next_in.ensures.next c.moves-test.true c.moves.word c.moves.invariant).stands
 
 pub push-requires-clause-few : goal.push-requires-clause-few
-push-requires-clause-few c = omega (arith, c.begin.ensures.kept.few, (c.in-Some.ensures.next c.moves.word c.moves.invariant).fits)
+push-requires-clause-few c = omega (arith, c.begin.ensures.kept.few, (c.next_in.ensures.next c.moves-test.true c.moves.word c.moves.invariant).fits)
 
 pub returns-in_err-push-clause-inline : goal.returns-in_err-push-clause-inline
 returns-in_err-push-clause-inline c h =
-    absurd (no (c.in_err-push.ensures.inline (omega (arith, h, (c.in-Some.ensures.next c.moves.word c.moves.invariant).fits))))
+    absurd (no (c.in_err-push.ensures.inline (omega (arith, h, (c.next_in.ensures.next c.moves-test.true c.moves.word c.moves.invariant).fits))))
 
 pub moves-smaller : goal.moves-smaller
-moves-smaller c = nearer c.args.tiling.now c.moves.word c.push.new.self c.next.new.self c.in-Some.m (c.in-Some.ensures.next c.moves.word c.moves.invariant)
+moves-smaller c = nearer c.args.tiling.now c.moves.word c.push.new.self c.next_in.new.self c.next_in.new.m (c.next_in.ensures.next c.moves-test.true c.moves.word c.moves.invariant)
     c.in_ok-push.ensures.ok
 
 pub moves-preserved : goal.moves-preserved
-moves-preserved c = subst (λ (w : Word). Turned c.args.tiling.now w c.next.new.self) (sym c.in_ok-push.ensures.ok)
-    (c.in-Some.ensures.next c.moves.word c.moves.invariant).turned
+moves-preserved c = subst (λ (w : Word). Turned c.args.tiling.now w c.next_in.new.self) (sym c.in_ok-push.ensures.ok)
+    (c.next_in.ensures.next c.moves-test.true c.moves.word c.moves.invariant).turned
 
 pub returns-clause-word : goal.returns-clause-word
-returns-clause-word c = c.in_default.ensures.last c.moves.word c.moves.invariant
+returns-clause-word c = c.next_in.ensures.last c.moves-test.false c.moves.word c.moves.invariant

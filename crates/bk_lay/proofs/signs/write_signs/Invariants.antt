@@ -3,7 +3,7 @@ use Rattle.std.specs.Prelude.{option_to_list}
 use Rattle.bk_lay.proofs.SignLists.{last_of_levels}
 use Rattle.bk_lay.specs.LevelRuns.{bottoms_of}
 use Rattle.bk_lay.specs.TilingWord.{signs_between}
-use Rattle.bk_lay.proofs.signs.signs_of.Given as goal
+use Rattle.bk_lay.proofs.signs.write_signs.Given as goal
 
 abbrev pub invariant-loop-q : goal.invariant-loop-q
 invariant-loop-q l = record {

@@ -6,7 +6,7 @@ use Rattle.bk_word.specs.declared.Sign.{Sign}
 use Rattle.bk_lay.proofs.SignLists.{few_of_option, few_signs, last_after, last_of_levels, signs_after}
 use Rattle.bk_lay.specs.LevelRuns.{bottoms_of}
 use Rattle.bk_lay.specs.TilingWord.{signs_between}
-use Rattle.bk_lay.proofs.signs.signs_of.Goals as goal
+use Rattle.bk_lay.proofs.signs.write_signs.Goals as goal
 
 -- no more signs than squares, while levels are told from the left
 few : (before : Option ℕ) (squares : List Square) (i : ℕ) → i ≤ length squares
