@@ -109,8 +109,12 @@ fn digits_of_tiling(turns: &mut Turns, tiling: &Tiling) -> ArrayVec<u8, MOST_DIG
     ensures { HasDigitsOf tiling.now result.items }
 {
     let mut digits = ArrayVec::new();
+    let mut m = Move {
+        count: 0,
+        signs: ArrayVec::new(),
+    };
     turns.begin(tiling);
-    'moves: while let Some(m) = turns.next(tiling) {
+    'moves: while turns.next_in(tiling, &mut m) {
         push_digits(&mut digits, &m);
     }
     digits

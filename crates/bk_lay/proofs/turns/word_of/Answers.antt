@@ -21,8 +21,8 @@ returns-in_err-push-clause-inline c h =
     absurd (no (c.in_err-push.ensures.inline (omega (arith, h, (c.next_in.ensures.next c.moves-test.true c.moves.word c.moves.invariant).fits))))
 
 pub moves-smaller : goal.moves-smaller
-moves-smaller c = nearer c.args.tiling.now c.moves.word c.push.new.self c.next_in.new.self c.next_in.new.m (c.next_in.ensures.next c.moves-test.true c.moves.word c.moves.invariant)
-    c.in_ok-push.ensures.ok
+moves-smaller c = nearer c.args.tiling.now c.moves.word c.push.new.self c.next_in.new.self c.next_in.new.m
+    (c.next_in.ensures.next c.moves-test.true c.moves.word c.moves.invariant) c.in_ok-push.ensures.ok
 
 pub moves-preserved : goal.moves-preserved
 moves-preserved c = subst (λ (w : Word). Turned c.args.tiling.now w c.next_in.new.self) (sym c.in_ok-push.ensures.ok)
