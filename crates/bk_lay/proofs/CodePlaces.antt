@@ -1,10 +1,11 @@
 -- Squares in code order, cut where squares with given corners would stand.
 use Rattle.std.specs.List.{AllWithin}
-use Rattle.std.proofs.Common.{Bool, List, [], ap, arith, cond, count_by, drop, false, filter, inl, inr, length, refl, slice_range, suc, sym, take}
-use Rattle.std.proofs.Common.{true, zero, ℕ, ◌-◌, ◌∙◌, ◌∷◌, ◌≡◌, ◌≤◌, ◌⊎◌}
+use Rattle.std.proofs.Common.{Bool, List, [], ap, arith, cond, count_by, drop, false, filter, inl, inr, length, refl, slice_index_or, slice_range, suc, sym}
+use Rattle.std.proofs.Common.{take, true, zero, ℕ, ◌+◌, ◌-◌, ◌<◌, ◌∙◌, ◌∷◌, ◌≡◌, ◌≤◌, ◌⊎◌}
 use Rattle.std.proofs.lemmas.Bool.Decides.{nat_tests}
 use Rattle.std.proofs.lemmas.Bool.{both_ways, cases_Bool}
 use Rattle.bk_tiling.proofs.Cells.{count-cons, in_all, none_counted}
+use Rattle.bk_tiling.proofs.Members.{one_at}
 use Rattle.bk_tiling.proofs.OrderLaws.{comes_before-trans}
 use Rattle.bk_tiling.specs.CodeOrder.{InCodeOrder, comes_before}
 use Rattle.bk_tiling.specs.Tiling.{IsOneOf}
@@ -35,6 +36,45 @@ count_of_front p (q ∷ squares) (suc i) h a b = omega (
   where
     one : p q ≡ true → ◌≡◌ {A = ℕ} (cond (p q) 1 0) 1
     one e = ap (λ (c : Bool). cond {A = ℕ} c 1 0) e
+
+-- where one isn't before a corner, no later one is
+none_later : (q : Square) (squares : List Square) (c : Square) → InCodeOrder (q ∷ squares) → comes_before q c ≡ false
+    → count_by (λ q. comes_before q c) (q ∷ squares) ≡ 0
+none_later q squares c o e = none_counted (λ q. comes_before q c) (q ∷ squares) none
+  where
+    none : (s : Square) → IsOneOf s (q ∷ squares) → comes_before s c ≡ true → ⊥
+    none s (inl same) f = both_ways (comes_before s c) (ap (λ (s : Square). comes_before s c) same ∙ e) f
+    none s (inr k) f = both_ways (comes_before q c) e (comes_before-trans q s c (in_all (λ s. comes_before q s ≡ true) squares o.0 s k) f)
+
+-- a square that comes before a corner is among those that do, with all before it
+pub counted_at : (squares : List Square) (c : Square) (i : ℕ) (d : Square) → InCodeOrder squares → i < length squares
+    → comes_before (slice_index_or squares i d) c ≡ true → i + 1 ≤ count_by (λ q. comes_before q c) squares
+counted_at [] c i d o h e = absurd (omega arith)
+counted_at (q ∷ squares) c zero d o h e = omega (arith, count-cons (λ q. comes_before q c) q squares, one e)
+  where
+    one : comes_before q c ≡ true → ◌≡◌ {A = ℕ} (cond (comes_before q c) 1 0) 1
+    one e = ap (λ (b : Bool). cond {A = ℕ} b 1 0) e
+counted_at (q ∷ squares) c (suc i) d o h e =
+    omega (arith, count-cons (λ q. comes_before q c) q squares, one ahead, counted_at squares c i d o.1 (omega arith) e)
+  where
+    one : comes_before q c ≡ true → ◌≡◌ {A = ℕ} (cond (comes_before q c) 1 0) 1
+    one e = ap (λ (b : Bool). cond {A = ℕ} b 1 0) e
+
+    ahead : comes_before q c ≡ true
+    ahead = comes_before-trans q (slice_index_or squares i d) c
+        (in_all (λ s. comes_before q s ≡ true) squares o.0 (slice_index_or squares i d) (one_at squares i d (omega arith))) e
+
+-- where a square doesn't come before a corner, only squares before it do
+pub counted_to : (squares : List Square) (c : Square) (i : ℕ) (d : Square) → InCodeOrder squares → i < length squares
+    → comes_before (slice_index_or squares i d) c ≡ false → count_by (λ q. comes_before q c) squares ≤ i
+counted_to [] c i d o h e = absurd (omega arith)
+counted_to (q ∷ squares) c zero d o h e = omega (arith, none_later q squares c o e)
+counted_to (q ∷ squares) c (suc i) d o h e =
+    omega (arith, count-cons (λ q. comes_before q c) q squares, most (comes_before q c), counted_to squares c i d o.1 (omega arith) e)
+  where
+    most : (b : Bool) → cond {A = ℕ} b 1 0 ≤ 1
+    most true = omega arith
+    most false = omega arith
 
 -- a part of a list that begins at its first element or later
 range_skip : (q : Square) (squares : List Square) (i j a b : ℕ) → i ≡ suc a → j ≡ suc b → slice_range (q ∷ squares) i j ≡ slice_range squares a b
@@ -77,15 +117,6 @@ module _ (r : Run) (order : r.x ≤ r.end) where
     where
       one : p q ≡ true → ◌≡◌ {A = ℕ} (cond (p q) 1 0) 1
       one e = ap (λ (c : Bool). cond {A = ℕ} c 1 0) e
-
-  -- where one isn't before a corner, no later one is
-  none_later : (q : Square) (squares : List Square) (c : Square) → InCodeOrder (q ∷ squares) → comes_before q c ≡ false
-      → count_by (λ q. comes_before q c) (q ∷ squares) ≡ 0
-  none_later q squares c o e = none_counted (λ q. comes_before q c) (q ∷ squares) none
-    where
-      none : (s : Square) → IsOneOf s (q ∷ squares) → comes_before s c ≡ true → ⊥
-      none s (inl same) f = both_ways (comes_before s c) (ap (λ (s : Square). comes_before s c) same ∙ e) f
-      none s (inr k) f = both_ways (comes_before q c) e (comes_before-trans q s c (in_all (λ s. comes_before q s ≡ true) squares o.0 s k) f)
 
   none_under : (squares : List Square) → ((s : Square) → IsOneOf s squares → begins_under r s ≡ false) → filter (begins_under r) squares ≡ []
   none_under [] none = refl

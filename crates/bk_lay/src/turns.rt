@@ -123,7 +123,7 @@ fn squares_under(squares: &[Square], run: Run) -> &[Square]
     ensures { result.now ≡ filter (begins_under run) squares.now }
 {
     let first = place_in_order(squares, run.level, run.x);
-    let end = place_in_order(squares, run.level, run.end);
+    let end = place_from(squares, first, run.level, run.end);
     &squares[first..end]
 }
 
@@ -133,5 +133,26 @@ fn place_in_order(squares: &[Square], level: u64, x: u64) -> usize
     ensures count { result ≡ count_by (λ q. comes_before q (corner x level)) squares.now }
     ensures within { result ≤ length squares.now }
 {
-    squares.partition_point(|q| q.y < level || (q.y == level && q.x < x))
+    squares.partition_point(|q| is_before(q, level, x))
+}
+
+// The same where so many of them are known to come before it: the few more that do are gone over one by one.
+fn place_from(squares: &[Square], known: usize, level: u64, x: u64) -> usize
+    requires ordered { InCodeOrder squares.now }
+    requires known { known ≤ count_by (λ q. comes_before q (corner x level)) squares.now }
+    ensures count { result ≡ count_by (λ q. comes_before q (corner x level)) squares.now }
+    ensures within { result ≤ length squares.now }
+{
+    let mut place = known;
+    'squares: while place < squares.len() && is_before(&squares[place], level, x) {
+        place += 1;
+    }
+    place
+}
+
+// Whether a square comes before one with this corner, in code order.
+fn is_before(q: &Square, level: u64, x: u64) -> bool
+    ensures { result ≡ comes_before q.now (corner x level) }
+{
+    q.y < level || (q.y == level && q.x < x)
 }
