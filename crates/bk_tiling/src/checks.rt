@@ -5,15 +5,42 @@ ghost use Rattle.std.specs.Prelude.{All, IfNone, IfSome, IsTrue, count_by, find,
 ghost use Rattle.std.specs.Prelude.{◌+◌, ◌<◌, ◌^◌, ◌↔◌, ◌≡◌, ◌≤◌};
 ghost use Rattle.bk_tiling.specs.Area.{area_of};
 ghost use Rattle.bk_tiling.specs.Kept.{IsSide};
-ghost use Rattle.bk_tiling.specs.Refusal.{AreWithin, HaveSides, IsFirstOverlap, IsFirstPlace, IsFirstUncovered, ShareNoCell, SharesCell, sized};
+ghost use Rattle.bk_tiling.specs.Refusal.{AreWithin, HaveSides, IsAccepted, IsFirstOverlap, IsFirstPlace, IsFirstUncovered, IsRefusal};
+ghost use Rattle.bk_tiling.specs.Refusal.{ShareNoCell, SharesCell, sized};
 ghost use Rattle.bk_tiling.specs.Sharing.{EdgesFit, IsFirstSharing, SharesWithNoneBefore};
 ghost use Rattle.bk_tiling.specs.Row.{IsRowAt};
 ghost use Rattle.bk_tiling.specs.Tiling.{IsWithin, covers};
 
-use crate::{LONGEST_SIDE, Square};
+use crate::{LONGEST_SIDE, MOST_SQUARES, NotTiling, Square};
+
+// Why squares do not make a tiling of the rectangle: the first test that they fail, and where. None where they make one.
+pub(crate) fn refusal_of(width: u64, height: u64, squares: &[Square]) -> Option<NotTiling>
+    ensures none { IfNone result (IsAccepted width height squares.now) }
+    ensures some { IfSome result (IsRefusal width height squares.now) }
+{
+    if squares.len() > MOST_SQUARES {
+        return Some(NotTiling::Many { n: squares.len() });
+    }
+    if width == 0 || height == 0 {
+        return Some(NotTiling::Empty);
+    }
+    if let Some(i) = first_side(squares) {
+        return Some(NotTiling::Side { i });
+    }
+    if let Some(i) = first_outside(width, height, squares) {
+        return Some(NotTiling::Outside { i });
+    }
+    if let Some((i, j)) = first_overlap(squares) {
+        return Some(NotTiling::Overlap { i, j });
+    }
+    if let Some((x, y)) = first_uncovered(width, height, squares) {
+        return Some(NotTiling::Uncovered { x, y });
+    }
+    None
+}
 
 // The first place of a side that is 0 or too long.
-pub(crate) fn first_side(squares: &[Square]) -> Option<usize>
+fn first_side(squares: &[Square]) -> Option<usize>
     ensures none { IfNone result (HaveSides squares.now) }
     ensures some { IfSome result (IsFirstPlace (λ q. ¬ (IsSide q.s)) squares.now) }
 {
@@ -26,7 +53,7 @@ pub(crate) fn first_side(squares: &[Square]) -> Option<usize>
 }
 
 // The first place of a square that reaches out of the rectangle.
-pub(crate) fn first_outside(width: u64, height: u64, squares: &[Square]) -> Option<usize>
+fn first_outside(width: u64, height: u64, squares: &[Square]) -> Option<usize>
     ensures none { IfNone result (AreWithin width height squares.now) }
     ensures some { IfSome result (IsFirstPlace (λ q. ¬ (IsWithin (sized width height) q)) squares.now) }
 {
@@ -46,7 +73,7 @@ fn reaches_past(a: u64, s: u64, end: u64) -> bool
 }
 
 // The first pair of places, by the earlier and then by the later, whose squares share a cell.
-pub(crate) fn first_overlap(squares: &[Square]) -> Option<(usize, usize)>
+fn first_overlap(squares: &[Square]) -> Option<(usize, usize)>
     requires { All EdgesFit squares.now }
     ensures none { IfNone result (ShareNoCell squares.now) }
     ensures some { IfSome result (λ found. IsFirstOverlap squares.now found.0 found.1) }
@@ -102,7 +129,7 @@ enum Row {
 
 // The first cell of the rectangle, by level and then by column, that lies in no square. Squares that share no cell and have as many as
 // the rectangle leave none free.
-pub(crate) fn first_uncovered(width: u64, height: u64, squares: &[Square]) -> Option<(u64, u64)>
+fn first_uncovered(width: u64, height: u64, squares: &[Square]) -> Option<(u64, u64)>
     requires wide { 0 < width }
     requires few { length squares.now ≤ 200 }
     requires within { AreWithin width height squares.now }

@@ -12,7 +12,7 @@ mod checks;
 mod hanging;
 
 use arrayvec::ArrayVec;
-use checks::{first_outside, first_overlap, first_side, first_uncovered};
+use checks::refusal_of;
 pub use hanging::{push_group, sum_of};
 use std::marker::Model;
 
@@ -92,23 +92,8 @@ impl Tiling {
             t ≡ record { width = width; height = height; squares = in_code_order squares.now }) }
         ensures refused { IfErr result (IsRefusal width height squares.now) }
     {
-        if squares.len() > MOST_SQUARES {
-            return Err(NotTiling::Many { n: squares.len() });
-        }
-        if width == 0 || height == 0 {
-            return Err(NotTiling::Empty);
-        }
-        if let Some(i) = first_side(squares) {
-            return Err(NotTiling::Side { i });
-        }
-        if let Some(i) = first_outside(width, height, squares) {
-            return Err(NotTiling::Outside { i });
-        }
-        if let Some((i, j)) = first_overlap(squares) {
-            return Err(NotTiling::Overlap { i, j });
-        }
-        if let Some((x, y)) = first_uncovered(width, height, squares) {
-            return Err(NotTiling::Uncovered { x, y });
+        if let Some(refusal) = refusal_of(width, height, squares) {
+            return Err(refusal);
         }
         Ok(Tiling {
             width,
@@ -146,6 +131,31 @@ impl Tiling {
         replace(&mut self.squares, squares);
         self.width = width;
         self.height = height;
+    }
+
+    /// Becomes the tiling of a rectangle, `width` columns by `height` levels, by squares that come in any order, in the room of the one
+    /// that was here. Each cell has to lie in exactly one of them (Brooks, Smith, Stone and Tutte 1940, with whole sides). It is refused
+    /// exactly where `NotTiling` says so, at the exact place: more than 200 squares, no width or no height, a side that is 0 or too
+    /// long, a square that reaches out, two that share a cell, or a cell that lies in none. Then it stays the tiling that it was.
+    pub fn try_become(
+        &mut self,
+        width: u64,
+        height: u64,
+        squares: &[Square],
+    ) -> Result<(), NotTiling>
+        ensures accepted { IsOk result ↔ IsAccepted width height squares.now }
+        ensures value { IfOk result (λ _.
+            self.new ≡ record { width = width; height = height; squares = in_code_order squares.now }) }
+        ensures refused { IfErr result (IsRefusal width height squares.now) }
+        ensures same { IfErr result (λ _. self.new ≡ self.old) }
+    {
+        if let Some(refusal) = refusal_of(width, height, squares) {
+            return Err(refusal);
+        }
+        replace_in_order(&mut self.squares, squares);
+        self.width = width;
+        self.height = height;
+        Ok(())
     }
 
     /// The width: how many columns the rectangle has.
@@ -217,9 +227,19 @@ fn in_order(squares: &[Square]) -> ArrayVec<Square, MOST_SQUARES>
     ensures { result.items ≡ in_code_order squares.now }
 {
     let mut sorted = ArrayVec::new();
-    replace(&mut sorted, squares);
-    put_in_order(&mut sorted);
+    replace_in_order(&mut sorted, squares);
     sorted
+}
+
+// Puts these squares, in code order, in the place of those that are kept.
+fn replace_in_order(kept: &mut ArrayVec<Square, MOST_SQUARES>, squares: &[Square])
+    requires few { length squares.now ≤ 200 }
+    requires apart { ShareNoCell squares.now }
+    requires sides { HaveSides squares.now }
+    ensures { kept.new.items ≡ in_code_order squares.now }
+{
+    replace(kept, squares);
+    put_in_order(kept);
 }
 
 /// Puts squares into code order, of which no two share a cell.
