@@ -6,15 +6,12 @@ ghost use Rattle.bk_lay.specs.LevelRuns.{bottoms_of};
 ghost use Rattle.bk_lay.specs.TilingWord.{sign_between, signs_between};
 
 use arrayvec::ArrayVec;
-use bk_tiling::{MOST_SQUARES, Square};
-use bk_word::Sign;
-
-/// A move has at most so many signs.
-const MOST_MOVE_SIGNS: usize = MOST_SQUARES + 1;
+use bk_tiling::Square;
+use bk_word::{MOST_SIGNS, Sign};
 
 // Makes of signs those between the bottoms of squares, from left to right, and the levels beside these.
 pub(crate) fn write_signs(
-    signs: &mut ArrayVec<Sign, MOST_MOVE_SIGNS>,
+    signs: &mut ArrayVec<Sign, MOST_SIGNS>,
     before: Option<u64>,
     squares: &[Square],
     after: Option<u64>,
@@ -36,7 +33,7 @@ pub(crate) fn write_signs(
 }
 
 // Appends the sign between two levels, where there is one at the left.
-fn push_sign(signs: &mut ArrayVec<Sign, MOST_MOVE_SIGNS>, left: Option<u64>, right: u64)
+fn push_sign(signs: &mut ArrayVec<Sign, MOST_SIGNS>, left: Option<u64>, right: u64)
     requires { length signs.old.items < 201 }
     ensures { signs.new.items ≡ signs.old.items ++ signs_between (option_to_list left ++ right ∷ []) }
 {
