@@ -1,6 +1,6 @@
 -- A small skeleton with its last move taken back, by the outline that it had before: what is stored then is stored of the moves before.
 use Rattle.std.specs.List.{concat}
-use Rattle.std.proofs.Common.{List, [], ap, arith, length, subst, sym, take, ℕ, ◌++◌, ◌-◌, ◌<◌, ◌∙◌, ◌∷◌, ◌≡◌, ◌≤◌}
+use Rattle.std.proofs.Common.{List, [], ap, arith, length, refl, subst, sym, take, ℕ, ◌++◌, ◌-◌, ◌<◌, ◌∙◌, ◌∷◌, ◌≡◌, ◌≤◌}
 use Rattle.std.proofs.lemmas.List.{length-append, take_at}
 use Rattle.std.proofs.lemmas.List.Folds.{concat-append}
 use Rattle.bk_word.proofs.PlayLaws.{after-snoc}
@@ -25,6 +25,20 @@ pub record CutBack (before : SmallOutline) (closed : List ℕ) (turns : List Mov
   pub closed_new : new_closed ≡ take before.closed closed
   pub turns_new : new_turns ≡ take before.turns turns
   pub played_new : new_played ≡ take before.played played
+
+-- the lists are so where each other one is cut off at the number that was kept
+pub cut_back : {before : SmallOutline} {closed : List ℕ} {turns : List MoveRecord} {played : List Sign} {new_closed : List ℕ}
+    {new_turns : List MoveRecord} {new_played : List Sign} {a b d : ℕ} → new_closed ≡ take a closed → a ≡ before.closed → new_turns ≡ take b turns
+    → b ≡ before.turns → new_played ≡ take d played → d ≡ before.played
+    → CutBack before closed turns played before.open.ends.items before.open.sizes.items before.open.signs.items new_closed new_turns new_played
+cut_back {closed = closed} {turns = turns} {played = played} e a f b g d = record {
+  ends_new = refl;
+  sizes_new = refl;
+  signs_new = refl;
+  closed_new = e ∙ ap (λ n. take n closed) a;
+  turns_new = f ∙ ap (λ n. take n turns) b;
+  played_new = g ∙ ap (λ n. take n played) d;
+}
 
 -- the moves before the last one
 all_but_last : (front : Word) (last : Move) → take (length (front ++ last ∷ []) - 1) (front ++ last ∷ []) ≡ front
