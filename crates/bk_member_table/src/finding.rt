@@ -105,10 +105,10 @@ impl<const N: usize> Finder<N> {
         self.table.settle();
     }
 
-    // Puts the word of the canonical tiling of the one that the squares are placed as into the table, where this is a member. Most words
-    // are met without it, and without its room for tilings.
+    // Puts the word of the canonical tiling of the one that the squares are placed as into the table, where this is a member. That one is made
+    // in the room. Most words are met without all this.
     #[inline(never)]
-    fn meet_placed(&mut self, placed: &Placed)
+    fn meet_placed(&mut self, placed: &Placed, room: &mut Tiling)
         ensures fixed { wanted self.new ≡ wanted self.old }
         ensures put { (t : Tiled) (turn : Turned) → IsMember self.old.order self.old.class t → IsPlacementOf (image turn t) placed.now
             → IsHeld self.old.from self.new.numbers t }
@@ -117,8 +117,8 @@ impl<const N: usize> Finder<N> {
         let which = best_turn(placed);
         let (width, height) = lying_size(placed.width, placed.height);
         let squares = turned_squares(placed, which);
-        match Tiling::try_new(width, height, squares.as_slice()) {
-            Ok(tiling) => self.meet_tiling(&tiling),
+        match room.try_become(width, height, squares.as_slice()) {
+            Ok(()) => self.meet_tiling(room),
             Err(_) => {}
         }
     }
@@ -181,18 +181,38 @@ impl<const N: usize> Finder<N> {
     }
 }
 
-impl<const N: usize> Leaves for Finder<N> {
+// A finder, and room for the tiling that it makes of a word's squares: each is made in the place of the one before.
+#[derive(Drop)]
+pub(crate) struct Seeker<const N: usize> {
+    pub finder: Finder<N>,
+    room: Tiling,
+}
+
+impl<const N: usize> Seeker<N> {
+    /// One whose finder has met no word.
+    pub fn new(order: u8, class: Class, from: u128) -> Seeker<N>
+        requires { order ≤ 16 }
+        ensures { result.finder ≡ record { order = order; class = class; from = from; numbers = record { kept = []; limit = None } } }
+    {
+        Seeker {
+            finder: Finder::new(order, class, from),
+            room: Tiling::unit(),
+        }
+    }
+}
+
+impl<const N: usize> Leaves for Seeker<N> {
     ghost use Rattle.bk_member_table.specs.Finding.{HasMet, Wanted, wanted};
 
-    ghost has_met = { HasMet };
+    ghost has_met = { λ s w. HasMet s.finder w };
 
     ghost Fixed = { Wanted };
 
-    ghost fixed = { wanted };
+    ghost fixed = { λ s. wanted s.finder };
 
     fn meet(&mut self, board: &Board) {
-        if let Some(placed) = placed_at(board, self.class) {
-            self.meet_placed(&placed);
+        if let Some(placed) = placed_at(board, self.finder.class()) {
+            self.finder.meet_placed(&placed, &mut self.room);
         }
     }
 }

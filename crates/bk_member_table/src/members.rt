@@ -6,7 +6,7 @@ ghost use Rattle.bk_packed.specs.Kept.{AreAscendingNumbers};
 ghost use Rattle.bk_member_table.specs.Finding.{HasMoreMembers, HasOnlyMembers};
 ghost use Rattle.bk_member_table.specs.Members.{HasNoneFrom, IsNextNumber, IsWhole};
 
-use crate::finding::Finder;
+use crate::finding::Seeker;
 use bk_free_search::search;
 use bk_word::Class;
 use std::marker::Model;
@@ -15,7 +15,7 @@ use std::marker::Model;
 /// ones. (Own.)
 #[derive(Drop)]
 pub struct MemberTable<const N: usize> {
-    finder: Finder<N>,
+    seeker: Seeker<N>,
 }
 
 impl<const N: usize> Model for MemberTable<N> {
@@ -24,9 +24,9 @@ impl<const N: usize> Model for MemberTable<N> {
 
     ghost Value = { Finding };
 
-    ghost view = { λ t. t.finder };
+    ghost view = { λ t. t.seeker.finder };
 
-    ghost invariant = { λ t. IsMemberTable t.finder };
+    ghost invariant = { λ t. IsMemberTable t.seeker.finder };
 }
 
 impl<const N: usize> MemberTable<N> {
@@ -35,7 +35,7 @@ impl<const N: usize> MemberTable<N> {
         ensures { result ≡ record { order = 0; class = Simple; from = 0; numbers = record { kept = []; limit = None } } }
     {
         MemberTable {
-            finder: Finder::new(0, Class::Simple, 0),
+            seeker: Seeker::new(0, Class::Simple, 0),
         }
     }
 
@@ -49,31 +49,31 @@ impl<const N: usize> MemberTable<N> {
         ensures from { result.from ≡ from }
         ensures whole { IsWhole result }
     {
-        let mut finder = Finder::new(order, class, from);
-        search(&mut finder, order);
-        finder.settle();
-        MemberTable { finder }
+        let mut seeker = Seeker::new(order, class, from);
+        search(&mut seeker, order);
+        seeker.finder.settle();
+        MemberTable { seeker }
     }
 
     /// The order of the members.
     pub fn order(&self) -> u8
         ensures { result ≡ self.now.order }
     {
-        self.finder.order()
+        self.seeker.finder.order()
     }
 
     /// Their class.
     pub fn class(&self) -> Class
         ensures { result ≡ self.now.class }
     {
-        self.finder.class()
+        self.seeker.finder.class()
     }
 
     /// The number from which words are kept.
     pub fn from(&self) -> u128
         ensures { result ≡ self.now.from }
     {
-        self.finder.from()
+        self.seeker.finder.from()
     }
 
     /// The packed words that are kept, in ascending order: each is that of a member of the order and the class, and not below the number from which
@@ -83,7 +83,7 @@ impl<const N: usize> MemberTable<N> {
         ensures ascending { AreAscendingNumbers self.now.numbers.kept }
         ensures only { HasOnlyMembers self.now }
     {
-        self.finder.table().numbers()
+        self.seeker.finder.table().numbers()
     }
 
     /// Whether there was no room for all: the table then says nothing of those above its greatest.
@@ -91,7 +91,7 @@ impl<const N: usize> MemberTable<N> {
         ensures value { result ≡ is_some self.now.numbers.limit }
         ensures full { IsTrue result → HasMoreMembers N self.now }
     {
-        self.finder.table().is_cut()
+        self.seeker.finder.table().is_cut()
     }
 
     /// The least number that is kept and isn't below this one: that of a member's word. From the table's own first number on no member's word has a
@@ -100,6 +100,6 @@ impl<const N: usize> MemberTable<N> {
         ensures next { IfSome result (IsNextNumber self.now number) }
         ensures none { IfNone result (HasNoneFrom self.now number) }
     {
-        self.finder.table().first_from(number)
+        self.seeker.finder.table().first_from(number)
     }
 }

@@ -21,10 +21,10 @@ if_none t numbers bound (Some x) same whole below = tt
 
 pub returns-clause-next : goal.returns-clause-next
 returns-clause-next g c = subst (λ (t : Finding). IfSome c.first_from.result (IsNextNumber t c.args.number)) c.self.view_is
-    (if_next c.self.inside.finder c.table.result.now c.args.number c.first_from.result c.table.ensures.value c.self.invariant.whole c.table.ensures.only
+    (if_next c.self.inside.seeker.finder c.table.result.now c.args.number c.first_from.result c.table.ensures.value c.self.invariant.whole c.table.ensures.only
     c.first_from.ensures.first)
 
 pub returns-clause-none : goal.returns-clause-none
 returns-clause-none g c = subst (λ (t : Finding). IfNone c.first_from.result (HasNoneFrom t c.args.number)) c.self.view_is
-    (if_none c.self.inside.finder c.table.result.now c.args.number c.first_from.result c.table.ensures.value c.self.invariant.whole
+    (if_none c.self.inside.seeker.finder c.table.result.now c.args.number c.first_from.result c.table.ensures.value c.self.invariant.whole
     c.first_from.ensures.none)

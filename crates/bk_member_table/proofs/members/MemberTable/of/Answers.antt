@@ -10,15 +10,15 @@ invariant_of-result g c = record {
     c.requires.most,
     ap (λ (f : Wanted). f.order) c.settle.ensures.fixed,
     ap (λ (f : Wanted). f.order) c.search.ensures.fixed,
-    ap (λ (f : Finding). f.order) c.new-finder.ensures,
+    ap (λ (f : Finding). f.order) c.new-seeker.ensures,
   );
-  whole = still_whole c.search.new.leaves c.settle.new.self c.settle.ensures.fixed c.settle.ensures.kept
-      (whole_table c.args.order c.search.new.leaves c.requires.least
-      (ap (λ (f : Wanted). f.order) c.search.ensures.fixed ∙ ap (λ (f : Finding). f.order) c.new-finder.ensures) c.search.ensures.all);
+  whole = still_whole c.search.new.leaves.finder c.settle.new.self c.settle.ensures.fixed c.settle.ensures.kept
+      (whole_table c.args.order c.search.new.leaves.finder c.requires.least
+      (ap (λ (f : Wanted). f.order) c.search.ensures.fixed ∙ ap (λ (f : Finding). f.order) c.new-seeker.ensures) c.search.ensures.all);
   ascending = c.settle.ensures.ascending;
 }
 
 pub returns-clause-whole : goal.returns-clause-whole
-returns-clause-whole g c = still_whole c.search.new.leaves c.settle.new.self c.settle.ensures.fixed c.settle.ensures.kept
-    (whole_table c.args.order c.search.new.leaves c.requires.least
-    (ap (λ (f : Wanted). f.order) c.search.ensures.fixed ∙ ap (λ (f : Finding). f.order) c.new-finder.ensures) c.search.ensures.all)
+returns-clause-whole g c = still_whole c.search.new.leaves.finder c.settle.new.self c.settle.ensures.fixed c.settle.ensures.kept
+    (whole_table c.args.order c.search.new.leaves.finder c.requires.least
+    (ap (λ (f : Wanted). f.order) c.search.ensures.fixed ∙ ap (λ (f : Finding). f.order) c.new-seeker.ensures) c.search.ensures.all)

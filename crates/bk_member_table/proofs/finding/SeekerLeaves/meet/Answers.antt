@@ -1,0 +1,16 @@
+use Rattle.std.proofs.Common.{subst}
+use Rattle.bk_word.specs.declared.Class.{Class}
+use Rattle.bk_member_table.proofs.FoundMembers.{FindsAll, met_nothing, met_placed, still_met}
+use Rattle.bk_member_table.proofs.finding.SeekerLeaves.meet.Goals as goal
+
+pub returns-in-Some-clause-met : goal.returns-in-Some-clause-met
+returns-in-Some-clause-met g c = met_placed c.args.board.now c.placed_at.result c.in-Some.placed c.args.self.now.finder c.meet_placed.new.self
+    (subst (λ (k : Class). FindsAll c.args.board.now k c.placed_at.result) c.class.ensures c.placed_at.ensures) c.in-Some.is
+    c.meet_placed.ensures.fixed c.meet_placed.ensures.put
+
+pub returns-in-Some-clause-kept : goal.returns-in-Some-clause-kept
+returns-in-Some-clause-kept g c = still_met c.args.self.now.finder c.meet_placed.new.self c.meet_placed.ensures.fixed c.meet_placed.ensures.kept
+
+pub returns-in_default-clause-met : goal.returns-in_default-clause-met
+returns-in_default-clause-met g c = met_nothing c.args.board.now c.placed_at.result c.args.self.now.finder
+    (subst (λ (k : Class). FindsAll c.args.board.now k c.placed_at.result) c.class.ensures c.placed_at.ensures) c.in_default.is
