@@ -96,16 +96,14 @@ fn next_missing<L: Ledger>(
     ensures class { walk.new.class ≡ walk.old.class }
     ensures counted { CountsMembers walk.new.order (IsUpTo walk.new.cursor) members.new }
 {
+    let mut entry = walk.entry_room();
     'members: loop {
-        match walk.advance(steps) {
-            None => return None,
-            Some(Err(_)) => unreachable!(),
-            Some(Ok(entry)) => {
-                *members += 1;
-                if kept.line_of(&entry.tiling).is_none() {
-                    return Some(entry);
-                }
-            }
+        if !walk.advance_in(steps, &mut entry) {
+            return None;
+        }
+        *members += 1;
+        if kept.line_of(&entry.tiling).is_none() {
+            return Some(entry);
         }
     }
 }
