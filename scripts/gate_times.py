@@ -11,12 +11,15 @@ import re
 import resource
 import subprocess
 import sys
+import textwrap
 import time
 
 from sources import PARTS, TOP, files_of, lines_of, named_by_crate, text_of
 
 PAGE = f"{TOP}/docs/GATE.md"
 BEGIN, END = "<!-- times: begin -->\n", "<!-- times: end -->\n"
+# No line of a document is longer.
+WIDTH = 120
 
 
 def sizes(name):
@@ -62,9 +65,10 @@ def rows(done):
 def table(last, done, wall):
     used = resource.getrusage(resource.RUSAGE_CHILDREN)
     spent = used.ru_utime + used.ru_stime
-    yield f"One run of `rt ci`, from nothing, on {time.strftime('%d %B %Y')}, on {len(os.sched_getaffinity(0))} processors: {wall / 60:.0f} minutes, "
-    yield f"{spent / 60:.0f} processor minutes, with {told_by('version').split()[0]}. It ended with:\n\n"
-    yield from (f"    {it}\n" for it in last)
+    told = f"One run of `rt ci`, from nothing, on {time.strftime('%d %B %Y')}, on {len(os.sched_getaffinity(0))} processors: {wall / 60:.0f} minutes, "
+    told += f"{spent / 60:.0f} processor minutes, with {told_by('version').split()[0]}. It ended with:"
+    yield textwrap.fill(told, WIDTH, break_on_hyphens=False) + "\n\n"
+    yield from (textwrap.fill(it, WIDTH, initial_indent="    ", subsequent_indent="    ", break_on_hyphens=False) + "\n" for it in last)
     yield "\n"
     yield from rows(done)
 
