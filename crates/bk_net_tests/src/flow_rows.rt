@@ -3,7 +3,7 @@
 ghost use Rattle.std.specs.Prelude.{◌+◌, ◌*◌, ◌≡◌, ◌≤◌};
 
 use bk_flow::{
-    Flow, FlowFault, NarrowFlow, SMALL, SmallFlow, narrow_flow, solve, solve_small, whole_flow,
+    Flow, FlowFault, NarrowFlow, SMALL, narrow_flow, solve, solve_small, whole_flow,
 };
 use bk_net::{Net, NetLine, read_net};
 use std::alloc::Global;
@@ -95,27 +95,9 @@ fn are_numbers(numbers: &[i64], want: &[i128]) -> bool {
     true
 }
 
-// Whether numbers of 32 bits are these.
-fn are_small_numbers(numbers: &[i32], want: &[i128]) -> bool {
-    if numbers.len() != want.len() {
-        return false;
-    }
-    for i in 0..want.len() {
-        if i128::from(numbers[i]) != want[i] {
-            return false;
-        }
-    }
-    true
-}
-
 // Whether a flow in 64 bits has this total and these currents.
 fn is_narrow_flow(flow: &NarrowFlow, total: i128, currents: &[i128]) -> bool {
     i128::from(flow.total()) == total && are_numbers(flow.currents(), currents)
-}
-
-// Whether one in 32 bits has.
-fn is_small_flow(flow: &SmallFlow, total: i128, currents: &[i128]) -> bool {
-    i128::from(flow.total()) == total && are_small_numbers(flow.currents(), currents)
 }
 
 // Whether the flow of a small net is found with this total and these currents in 64 bits, and in 32 bits.
@@ -125,7 +107,7 @@ fn flows_narrowly(net: &Net, total: i128, currents: &[i128]) -> bool {
     }
     match whole_flow(net) {
         Some(flow) => {
-            is_small_flow(&flow, total, currents)
+            is_narrow_flow(&flow, total, currents)
                 && is_narrow_flow(&narrow_flow(net), total, currents)
         }
         None => false,
