@@ -53,6 +53,21 @@ impl Code {
         self.starts.clear();
     }
 
+    /// Becomes the code of a tiling, as `code_of` gives it, whatever groups were there.
+    pub fn become_that_of(&mut self, tiling: &Tiling)
+        ensures { self.new ≡ code_of tiling.now }
+    {
+        let squares = tiling.squares();
+        self.clear();
+        for i in 0..squares.len() {
+            if tiling.begins_group(i) {
+                self.begin_group(squares[i].s);
+            } else {
+                self.push_side(squares[i].s);
+            }
+        }
+    }
+
     /// Appends a group of these sides, from left to right.
     pub fn add_group(&mut self, sides: &[u64])
         requires some { 0 < length sides.now }
@@ -154,15 +169,8 @@ pub fn flat(code: &Code) -> &[u64]
 pub fn code_of(tiling: &Tiling) -> Code
     ensures { result ≡ code_of tiling.now }
 {
-    let squares = tiling.squares();
     let mut code = Code::new();
-    for i in 0..squares.len() {
-        if tiling.begins_group(i) {
-            code.begin_group(squares[i].s);
-        } else {
-            code.push_side(squares[i].s);
-        }
-    }
+    code.become_that_of(tiling);
     code
 }
 

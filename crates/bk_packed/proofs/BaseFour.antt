@@ -2,12 +2,11 @@
 use Rattle.std.specs.Cmp.{nat_cmp_is}
 use Rattle.std.specs.Ordering.{nat_cmp, ordering_then}
 use Rattle.std.specs.declared.cmp.Ordering.TheVariants.{Equal, Greater, Less}
-use Rattle.std.proofs.Common.{List, [], ap, arith, drop, get_or, inl, inr, length, subst, suc, sym, take, zero, ℕ, ◌*◌, ◌++◌, ◌+◌, ◌-◌, ◌/◌, ◌<◌, ◌^◌, ◌∙◌, ◌∷◌}
+use Rattle.std.proofs.Common.{List, [], ap, arith, drop, get_or, inl, inr, length, subst, suc, sym, take, zero, ℕ, ◌*◌, ◌+◌, ◌-◌, ◌/◌, ◌<◌, ◌^◌, ◌∙◌, ◌∷◌}
 use Rattle.std.proofs.Common.{◌≡◌, ◌≤◌, ◌⊎◌}
-use Rattle.std.proofs.lemmas.List.{length-take-le, take-append-drop}
-use Rattle.std.proofs.Math.Seq.{take-suc}
+use Rattle.std.proofs.lemmas.List.{drop_more, length-drop, take-append-drop}
 use Rattle.std.proofs.Math.Nat.{mul-le-mul_right, one-le-pow, pow-succ'}
-use Rattle.bk_laws.proofs.AllOfLists.{all_left}
+use Rattle.bk_laws.proofs.AllOfLists.{all_right}
 use Rattle.bk_packed.specs.Packed.{AreDigits, begun_by}
 
 -- a number is below another, the other, or above it
@@ -59,48 +58,39 @@ first_decides x y p a b small small_b = cases (three x y)
         let l = mul-le-mul_right p k in
         sym (nat_cmp_is (x * p + a) (y * p + b) Greater (omega (arith, l))) ∙ ap (λ z. ordering_then z (nat_cmp a b)) (nat_cmp_is x y Greater h)
 
--- one digit more, at the next place
-pub begun-snoc : (room d : ℕ) (ds : List ℕ) → length ds < room → begun_by room (ds ++ d ∷ []) ≡ begun_by room ds + d * 4 ^ (room - 1 - length ds)
-begun-snoc zero d ds few = absurd (omega arith)
-begun-snoc (suc room) d [] few = let e : suc room - 1 - 0 ≡ suc room - 1 = omega arith in let f = ap (λ r. d * 4 ^ r) e in omega (arith, f)
-begun-snoc (suc room) d (x ∷ ds) few =
-    let e : suc room - 1 - suc (length ds) ≡ room - 1 - length ds = omega arith in
-    let f = ap (λ r. d * 4 ^ r) e in
-    omega (arith, f, begun-cons room x (ds ++ d ∷ []), begun-cons room x ds, begun-snoc room d ds (omega arith))
+-- in room for one digit more, digits make four times the number
+pub begun_roomier : (room : ℕ) (ds : List ℕ) → length ds ≤ room → begun_by (suc room) ds ≡ 4 * begun_by room ds
+begun_roomier room [] few = omega arith
+begun_roomier zero (d ∷ ds) few = absurd (omega arith)
+begun_roomier (suc room) (d ∷ ds) few =
+    omega (
+      arith,
+      begun-cons (suc room) d ds,
+      begun-cons room d ds,
+      ap (λ p. d * p) (four_times room),
+      begun_roomier room ds (omega arith),
+    )
 
-digits_before : (ds : List ℕ) (i : ℕ) → AreDigits ds → AreDigits (take i ds)
-digits_before ds i digits = all_left (λ d. d < 4) (take i ds) (drop i ds) (subst AreDigits (sym (take-append-drop i ds)) digits)
+digits_from : (ds : List ℕ) (i : ℕ) → AreDigits ds → AreDigits (drop i ds)
+digits_from ds i digits = all_right (λ d. d < 4) (take i ds) (drop i ds) (subst AreDigits (sym (take-append-drop i ds)) digits)
 
--- what is written of digits, and the unit of the next one
-pub record IsNextSum (ds : List ℕ) (i number unit d : ℕ) : Type 0 where
-  pub sum : number + d * unit ≡ begun_by 64 (take (i + 1) ds)
-  pub small : number + d * unit < 4 ^ 64
-  pub next : i + 1 < 64 → unit / 4 ≡ 4 ^ (63 - (i + 1))
+-- the number of the digits from a place on, made of that of those behind it
+pub record IsSumFrom (ds : List ℕ) (i number unit d : ℕ) : Type 0 where
+  pub sum : d * unit + number / 4 ≡ begun_by 64 (drop i ds)
+  pub small : d * unit + number / 4 < 4 ^ 64
 
--- so much more is written with one digit more
-pub next_sum : (ds : List ℕ) (i number unit d : ℕ) → i < length ds → length ds ≤ 64 → AreDigits ds → number ≡ begun_by 64 (take i ds)
-    → (i < 64 → unit ≡ 4 ^ (63 - i)) → d ≡ get_or ds i 0 → IsNextSum ds i number unit d
-next_sum ds i number unit d within few digits e u is = record {
+-- one digit more stands in front
+pub sum_from : (ds : List ℕ) (i number unit d : ℕ) → i < length ds → length ds ≤ 64 → AreDigits ds → number ≡ begun_by 64 (drop (i + 1) ds)
+    → unit ≡ 4 ^ 63 → d ≡ get_or ds i 0 → IsSumFrom ds i number unit d
+sum_from ds i number unit d within few digits e u is = record {
   sum = sum;
-  small = subst (λ n. n < 4 ^ 64) (sym sum) (digits_small 64 (take (i + 1) ds) (digits_before ds (i + 1) digits)
-      (omega (arith, length-take-le (i + 1) ds (omega arith))));
-  next = quarter;
+  small = subst (λ n. n < 4 ^ 64) (sym sum) (digits_small 64 (drop i ds) (digits_from ds i digits) (omega (arith, length-drop i ds)));
 }
   where
-    long : length (take i ds) ≡ i
-    long = length-take-le i ds (omega arith)
+    quarter : number / 4 ≡ begun_by 63 (drop (i + 1) ds)
+    quarter = omega (arith, e, begun_roomier 63 (drop (i + 1) ds) (omega (arith, length-drop (i + 1) ds)))
 
-    sum : number + d * unit ≡ begun_by 64 (take (i + 1) ds)
-    sum = ap (λ n. n + d * unit) e ∙ ap (λ z. begun_by 64 (take i ds) + d * z) (u (omega arith))
-        ∙ ap (λ k. begun_by 64 (take i ds) + d * 4 ^ (63 - k)) (sym long)
-        ∙ sym (begun-snoc 64 d (take i ds) (omega (arith, long))) ∙ ap (λ z. begun_by 64 (take i ds ++ z ∷ [])) is
-        ∙ sym (ap (begun_by 64) (take-suc ds i 0 within))
-        ∙ ap (λ k. begun_by 64 (take k ds)) one_more
-      where
-        one_more : suc i ≡ i + 1
-        one_more = omega arith
-
-    quarter : i + 1 < 64 → unit / 4 ≡ 4 ^ (63 - (i + 1))
-    quarter h =
-        let e : 63 - i ≡ suc (63 - (i + 1)) = omega arith in
-        omega (arith, u (omega arith), ap (λ k. 4 ^ k) e, four_times (63 - (i + 1)))
+    sum : d * unit + number / 4 ≡ begun_by 64 (drop i ds)
+    sum = ap (λ n. d * unit + n) quarter ∙ ap (λ z. d * z + begun_by 63 (drop (i + 1) ds)) u
+        ∙ ap (λ z. z * 4 ^ 63 + begun_by 63 (drop (i + 1) ds)) is ∙ sym (begun-cons 63 (get_or ds i 0) (drop (i + 1) ds))
+        ∙ sym (ap (begun_by 64) (drop_more ds i 0 within))

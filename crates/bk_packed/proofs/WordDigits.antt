@@ -11,6 +11,7 @@ use Rattle.bk_word.specs.Word.{Move, Word, order_of, sign_place}
 use Rattle.bk_word.specs.declared.Sign.{Sign}
 use Rattle.bk_word.specs.declared.Sign.TheVariants.{Above, Even, Under}
 use Rattle.bk_word.proofs.StoredBytes.{order_more}
+use Rattle.bk_skel.specs.Skeleton.{signs_of}
 use Rattle.bk_packed.specs.Packed.{AreDigits, begun_by, move_digits, word_digits}
 use Rattle.bk_word.proofs.PlayLaws.{few_signs}
 use Rattle.bk_packed.proofs.BaseFour.{four_times, begun-cons}
@@ -99,3 +100,14 @@ digits_room (k ∷ w) (suc i) m is = omega (
 pub digits_join : (v w : Word) → word_digits (v ++ w) ≡ word_digits v ++ word_digits w
 digits_join [] w = refl
 digits_join (m ∷ v) w = ap (λ z. move_digits m ++ z) (digits_join v w) ∙ sym (append_assoc (move_digits m) (word_digits v) (word_digits w))
+
+-- a word has two digits for each move, and one for each sign
+pub digits_count : (w : Word) → 2 * length w + length (signs_of w) ≡ length (word_digits w)
+digits_count [] = refl
+digits_count (m ∷ w) = omega (
+  arith,
+  length-append (move_digits m) (word_digits w),
+  length-append m.signs (signs_of w),
+  length-map m.signs sign_place,
+  digits_count w,
+)

@@ -74,10 +74,10 @@ pub(crate) fn number_of(digits: &[u8]) -> u128
     ensures { result ≡ begun_by 64 digits.now }
 {
     let mut number = 0;
-    let mut unit = FIRST_UNIT;
-    'digits: for digit in digits {
-        number += u128::from(*digit) * unit;
-        unit /= 4;
+    let mut i = digits.len();
+    'digits: while i > 0 {
+        i -= 1;
+        number = u128::from(digits[i]) * FIRST_UNIT + number / 4;
     }
     number
 }

@@ -64,11 +64,7 @@ fn digits_played(skel: &Skel) -> usize
     requires few { order_of skel.now ≤ 16 }
     ensures { result ≡ length (word_digits skel.now) }
 {
-    let mut digits = 0;
-    'moves: for i in 0..skel.moves() {
-        digits += 2 + skel.signs_at(i).len();
-    }
-    digits
+    2 * skel.moves() + skel.played_signs().len()
 }
 
 // Whether the number has the digits of a move of this count and these signs from the place on.

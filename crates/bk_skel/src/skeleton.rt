@@ -11,6 +11,7 @@ ghost use Rattle.bk_word.specs.Outline.{IsLegalMove, has_left_wall, has_right_wa
 ghost use Rattle.bk_word.specs.Play.{IsComplete, outline_of};
 ghost use Rattle.bk_word.specs.Word.{Move as SeenMove, order_of};
 ghost use Rattle.bk_skel.specs.Valley.{IsKeptSkeleton, leftmost_valley};
+ghost use Rattle.bk_skel.specs.Skeleton.{signs_of};
 ghost use Rattle.bk_skel.specs.TurnRecord.{SaysWhere};
 ghost use Rattle.bk_word_net.specs.WordNet.{net_of_word};
 
@@ -228,6 +229,13 @@ impl Skel {
         ensures { result.now ≡ (outline_of self.now).signs }
     {
         self.signs.as_slice()
+    }
+
+    /// The signs of all moves, one after another.
+    pub fn played_signs(&self) -> &[Sign]
+        ensures { result.now ≡ signs_of self.now }
+    {
+        self.played.as_slice()
     }
 
     /// How many moves there are.

@@ -20,11 +20,14 @@ pub(crate) fn make_room<T: Copy + Default + Drop, const N: usize>(
     ensures front { take start list.new.items ≡ take start list.old.items }
     ensures back { drop (start + room) list.new.items ≡ drop end list.old.items }
 {
+    let size = end - start;
+    if room == size {
+        return;
+    }
     let len = list.len();
-    let long = len - (end - start) + room;
-    lengthen(list, long.saturating_sub(len));
+    lengthen(list, room.saturating_sub(size));
     list.copy_within(end..len, start + room);
-    list.truncate(long);
+    list.truncate(len - size + room);
 }
 
 // Appends so many items, whatever they are.

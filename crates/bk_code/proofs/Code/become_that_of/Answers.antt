@@ -1,8 +1,8 @@
 use Rattle.std.proofs.Common.{sym, ◌∙◌}
 use Rattle.bk_tiling.specs.declared.Square.{Square}
 use Rattle.bk_code.proofs.GroupSteps.{step_is, step_room}
-use Rattle.bk_code.proofs.code_of.Goals.{else-begins_group, then-begins_group}
-use Rattle.bk_code.proofs.code_of.Goals as goal
+use Rattle.bk_code.proofs.Code.become_that_of.Goals.{else-begins_group, then-begins_group}
+use Rattle.bk_code.proofs.Code.become_that_of.Goals as goal
 
 pub begin_group-requires-clause-room : goal.begin_group-requires-clause-room
 begin_group-requires-clause-room c =
@@ -17,10 +17,10 @@ nowhere = record { x = 0; y = 0; s = 0 }
 
 pub loop-i-preserved : goal.loop-i-preserved
 loop-i-preserved c = elim c.if-begins_group.branch [
-  | then-begins_group w ↦ step_is c.args.tiling.now c.squares-squares.result.now c.loop-i.i c.loop-i.code _ _ nowhere c.squares-squares.ensures.value
+  | then-begins_group w ↦ step_is c.args.tiling.now c.squares-squares.result.now c.loop-i.i c.loop-i.self _ _ nowhere c.squares-squares.ensures.value
       c.loop-i-test.true c.loop-i.invariant
-      (sym w.if-begins_group.true ∙ c.begins_group.ensures) (w.code-is ∙ w.begin_group.ensures.group)
-  | else-begins_group w ↦ step_is c.args.tiling.now c.squares-squares.result.now c.loop-i.i c.loop-i.code _ _ nowhere c.squares-squares.ensures.value
+      (sym w.if-begins_group.true ∙ c.begins_group.ensures) (w.self-is ∙ w.begin_group.ensures.group)
+  | else-begins_group w ↦ step_is c.args.tiling.now c.squares-squares.result.now c.loop-i.i c.loop-i.self _ _ nowhere c.squares-squares.ensures.value
       c.loop-i-test.true c.loop-i.invariant
-      (sym w.if-begins_group.false ∙ c.begins_group.ensures) (w.code-is ∙ w.push_side.ensures.group)
+      (sym w.if-begins_group.false ∙ c.begins_group.ensures) (w.self-is ∙ w.push_side.ensures.group)
 ]
