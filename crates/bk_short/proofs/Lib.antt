@@ -1,2 +1,2 @@
-mod Replaced
+mod CopiedPlaces
 mod ShortExamples

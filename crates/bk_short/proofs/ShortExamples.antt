@@ -1,7 +1,6 @@
 -- The example of the definitions.
-use Rattle.std.specs.List.{splice}
-use Rattle.std.proofs.Common.{[], refl, ◌∷◌, ◌≡◌, ℕ}
+use Rattle.std.proofs.Common.{[], refl, slice_range, ◌∷◌, ◌≡◌, ℕ}
 
--- where 7, 8, 9 stand, the second item gives way to 4 and 5
-the_second_gives_way : splice {X = ℕ} (7 ∷ 8 ∷ 9 ∷ []) 1 2 (4 ∷ 5 ∷ []) ≡ 7 ∷ 4 ∷ 5 ∷ 9 ∷ []
-the_second_gives_way = refl
+-- where 7, 8, 9 stand, the items from place 1 up to 3 are the last two
+the_last_two : slice_range {X = ℕ} (7 ∷ 8 ∷ 9 ∷ []) 1 3 ≡ 8 ∷ 9 ∷ []
+the_last_two = refl

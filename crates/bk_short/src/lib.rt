@@ -1,8 +1,7 @@
 //! Short lists that lie in the value itself, so that a copy of it is a copy of the list.
 #![tactic(auto)]
 
-ghost use Rattle.std.specs.List.{splice};
-ghost use Rattle.std.specs.Prelude.{[], length, take, ◌+◌, ◌++◌, ◌-◌, ◌<◌, ◌∷◌, ◌≡◌, ◌≤◌};
+ghost use Rattle.std.specs.Prelude.{[], length, slice_range, take, ◌+◌, ◌++◌, ◌-◌, ◌<◌, ◌∷◌, ◌≡◌, ◌≤◌};
 
 use std::marker::Model;
 
@@ -48,6 +47,15 @@ impl<T: Copy + Default, const N: usize> Short<T, N> {
 }
 
 impl<T: Copy, const N: usize> Short<T, N> {
+    /// The first so many of these cells.
+    #[inline(always)]
+    pub fn of(cells: [T; N], len: usize) -> Short<T, N>
+        requires { len ≤ N }
+        ensures { result.items ≡ take len cells }
+    {
+        Short { cells, len }
+    }
+
     /// The items.
     #[inline]
     pub fn as_slice(&self) -> &[T]
@@ -88,6 +96,37 @@ impl<T: Copy, const N: usize> Short<T, N> {
         self.len = end;
     }
 
+    /// Appends the items of another list. There must be room for all its places, which are copied whatever its length is.
+    #[inline(always)]
+    pub fn append<const W: usize>(&mut self, other: &Short<T, W>)
+        requires { length self.old.items + W ≤ N }
+        ensures { self.new.items ≡ self.old.items ++ other.now.items }
+    {
+        let cells = &mut self.cells[..];
+        cells[self.len..self.len + W].copy_from_slice(&other.cells[..]);
+        self.len += other.len;
+    }
+
+    /// The items from one place up to another, as a list of their own. So many places as that has must lie behind the first one, since
+    /// all are copied.
+    #[inline(always)]
+    pub fn part<const W: usize>(&self, start: usize, end: usize) -> Short<T, W>
+        requires order { start ≤ end }
+        requires within { end ≤ length self.now.items }
+        requires few { end - start ≤ W }
+        requires room { start + W ≤ N }
+        ensures { result.items ≡ slice_range self.now.items start end }
+    {
+        let cells = &self.cells[..];
+        match cells[start..].first_chunk() {
+            Some(cells) => Short {
+                cells: *cells,
+                len: end - start,
+            },
+            None => unreachable!(),
+        }
+    }
+
     /// Keeps the first so many.
     #[inline]
     pub fn truncate(&mut self, len: usize)
@@ -96,21 +135,5 @@ impl<T: Copy, const N: usize> Short<T, N> {
         if len < self.len {
             self.len = len;
         }
-    }
-
-    /// Puts other items in the place of those from one place up to another. There must be room.
-    #[inline]
-    pub fn replace(&mut self, start: usize, end: usize, items: &[T])
-        requires order { start ≤ end }
-        requires within { end ≤ length self.old.items }
-        requires fits { length self.old.items - (end - start) + length items.now ≤ N }
-        ensures { self.new.items ≡ splice self.old.items start end items.now }
-    {
-        let behind = start + items.len();
-        let len = behind + (self.len - end);
-        let cells = &mut self.cells[..];
-        cells.copy_within(end..self.len, behind);
-        cells[start..behind].copy_from_slice(items);
-        self.len = len;
     }
 }

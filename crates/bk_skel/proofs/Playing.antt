@@ -22,6 +22,8 @@ pub record Playing (most : ℕ) (w : Word) (m : Move) (ends sizes : List ℕ) (s
   pub first : turn.first + turn.closed ≤ length ends
   pub closed_fit : length closed + turn.closed ≤ most
   pub ends_fit : length ends - turn.closed + m.count ≤ most
+  pub sizes_few : length sizes ≤ most
+  pub signs_few : length signs ≤ most
   pub sizes_within : first_touched turn + (open_sides turn + 1) ≤ length sizes
   pub signs_within : first_touched turn + open_sides turn ≤ length signs
   pub sizes_fit : length sizes - (open_sides turn + 1) + (turn.parted + 1) ≤ most
@@ -44,6 +46,8 @@ playing_at most h w m ends sizes signs closed turns played turn s legal few e = 
   first = t.first;
   closed_fit = omega (arith, t.first, c.all, few);
   ends_fit = omega (arith, c.all, few);
+  sizes_few = omega (arith, c.filled, few, legal.some);
+  signs_few = omega (arith, c.filled, c.many, few, legal.some);
   sizes_within = t.sizes_within;
   signs_within = t.signs_within;
   sizes_fit = t.sizes_fit;

@@ -1,6 +1,6 @@
 -- What is known of what a skeleton stores.
 use Rattle.std.specs.List.{concat, splice}
-use Rattle.std.proofs.Common.{List, [], ap, arith, count_by, filter, inl, inr, length, map, replicate, slice_range, subst, sum, sym, ℕ, ◌++◌}
+use Rattle.std.proofs.Common.{List, [], ap, arith, count_by, filter, inl, inr, length, map, max, replicate, slice_range, subst, sum, sym, ℕ, ◌++◌}
 use Rattle.std.proofs.Common.{◌+◌, ◌-◌, ◌∙◌, ◌∷◌, ◌≡◌, ◌≤◌, ◌⊎◌}
 use Rattle.std.proofs.lemmas.List.Sums.{length-filter}
 use Rattle.std.proofs.lemmas.List.{length-append, length-map, length-replicate}
@@ -29,6 +29,7 @@ pub record Counted (w : Word) (ends sizes : List ℕ) (signs : List Sign) (close
   pub all : length closed + length ends ≡ order_of w
   pub many : length sizes ≡ length signs + 1
   pub few : length sizes ≤ 200
+  pub filled : length sizes ≤ max 1 (order_of w)
   pub total : sum sizes ≡ length ends
 
 -- of a kept skeleton the lists have as many items as its word has squares and segments
@@ -40,6 +41,7 @@ counted w ends sizes signs closed kept s = record {
   all = omega (arith, ap length s.closed_are, ap length s.ends_are, shaped.counted, hung);
   many = omega (arith, long, shaped.many, ap length s.signs_are);
   few = few shaped.filled;
+  filled = filled shaped.filled;
   total = ap sum s.sizes_are ∙ sum_lengths (outline_of w).segments ∙ sym (ap length s.ends_are);
 }
   where
@@ -55,6 +57,10 @@ counted w ends sizes signs closed kept s = record {
     few : (length (outline_of w).segments ≡ 1) ⊎ AllFilled (outline_of w).segments → length sizes ≤ 200
     few (inl one) = omega (arith, long, one)
     few (inr all) = omega (arith, long, filled_many (outline_of w).segments all, shaped.counted, hung, kept.few)
+
+    filled : (length (outline_of w).segments ≡ 1) ⊎ AllFilled (outline_of w).segments → length sizes ≤ max 1 (order_of w)
+    filled (inl one) = omega (arith, long, one)
+    filled (inr all) = omega (arith, long, filled_many (outline_of w).segments all, shaped.counted, hung)
 
 -- the numbers of what a legal move touches, where at most so many squares hang after it
 pub record Touches (most : ℕ) (w : Word) (m : Move) (ends sizes : List ℕ) (signs : List Sign) (closed : List ℕ) (turn : MoveRecord) : Type 0 where

@@ -13,6 +13,7 @@ use Rattle.bk_lay.proofs.WordTest.{by_tests, passes_as_valley}
 use Rattle.bk_word_net.specs.LaidOutline.{IsGap, IsTurn, back_of, bottom_at, front_of, square_at}
 use Rattle.bk_skel.specs.Board.{columns_of}
 use Rattle.bk_skel.specs.Skeleton.{Shows, first_touched, joined_sizes, moves_stored, open_sides, signs_before, signs_of, sizes_after, sizes_before, turns_from}
+use Rattle.bk_skel.specs.SmallSkeleton.{StandsAt}
 use Rattle.bk_skel.specs.TurnRecord.{SaysWhere}
 use Rattle.bk_skel.specs.Valley.{leftmost_valley}
 use Rattle.bk_skel.specs.declared.turns.MoveRecord.{MoveRecord}
@@ -91,6 +92,10 @@ says_where = record { count = λ m e. same m e; first = refl; closed = refl }
 -- the flat lists after two moves: the open squares, the segments' sizes, the sign between them, and the closed square
 shown : Shows (outline_of (take 2 staircase)) (1 ∷ 3 ∷ 4 ∷ []) (2 ∷ 1 ∷ []) (Under ∷ []) (2 ∷ [])
 shown = record { ends_are = refl; sizes_are = refl; signs_are = refl; closed_are = refl }
+
+-- the leftmost valley stands behind one segment then, which has two squares
+stands : StandsAt (2 ∷ 1 ∷ []) (Under ∷ []) 1 2
+stands = record { place_is = refl; first_is = refl }
 
 -- ---- the squares that are laid after two moves
 

@@ -1,11 +1,11 @@
 -- A small skeleton with its last move taken back, by the outline that it had before: what is stored then is stored of the moves before.
 use Rattle.std.specs.List.{concat}
-use Rattle.std.proofs.Common.{List, [], ap, arith, length, refl, subst, sym, take, ℕ, ◌++◌, ◌-◌, ◌<◌, ◌∙◌, ◌∷◌, ◌≡◌, ◌≤◌}
+use Rattle.std.proofs.Common.{List, [], ap, arith, length, refl, subst, sum, sym, take, ℕ, ◌++◌, ◌-◌, ◌<◌, ◌∙◌, ◌∷◌, ◌≡◌, ◌≤◌}
 use Rattle.std.proofs.lemmas.List.{length-append, take_at}
 use Rattle.std.proofs.lemmas.List.Folds.{concat-append}
 use Rattle.bk_word.proofs.PlayLaws.{after-snoc}
 use Rattle.bk_word.proofs.StoredBytes.{order_one}
-use Rattle.bk_word.specs.Outline.{start, valley_of}
+use Rattle.bk_word.specs.Outline.{start, valley_of, valley_place}
 use Rattle.bk_word.specs.Play.{outline_of}
 use Rattle.bk_word.specs.Word.{Move, Word, order_of}
 use Rattle.bk_word.specs.declared.Sign.{Sign}
@@ -55,8 +55,8 @@ closed_first front last n e =
 -- what is stored then
 pub small_back : {w : Word} {ends sizes : List ℕ} {signs : List Sign} {closed : List ℕ} {turns : List MoveRecord} {played : List Sign}
     {before : SmallOutline} {new_ends new_sizes : List ℕ} {new_signs : List Sign} {new_closed : List ℕ} {new_turns : List MoveRecord}
-    {new_played : List Sign}
-    → IsStoredSmall w ends sizes signs closed turns played → 0 < length w → IsOutlineOf (take (length w - 1) w) before
+    {new_played : List Sign} {place first : ℕ}
+    → IsStoredSmall w ends sizes signs closed turns played place first → 0 < length w → IsOutlineOf (take (length w - 1) w) before
     → CutBack before closed turns played new_ends new_sizes new_signs new_closed new_turns new_played
     → IsStoredSkeleton (take (length w - 1) w) new_ends new_sizes new_signs new_closed new_turns new_played
 small_back {w} {ends} {sizes} {signs} {closed} {turns} {played} {before} {new_ends} {new_sizes} {new_signs} {new_closed} {new_turns} {new_played}
@@ -101,12 +101,16 @@ fewer_before w some = fewer (last_move w some)
 -- and the lists store few squares, of the moves that they show
 pub small_kept_back : {w : Word} {ends sizes : List ℕ} {signs : List Sign} {closed : List ℕ} {turns : List MoveRecord} {played : List Sign}
     {before : SmallOutline} {new_ends new_sizes : List ℕ} {new_signs : List Sign} {new_closed : List ℕ} {new_turns : List MoveRecord}
-    {new_played : List Sign}
-    → IsStoredSmall w ends sizes signs closed turns played → 0 < length w → IsOutlineOf (take (length w - 1) w) before
+    {new_played : List Sign} {place first : ℕ}
+    → IsStoredSmall w ends sizes signs closed turns played place first → 0 < length w → IsOutlineOf (take (length w - 1) w) before
     → CutBack before closed turns played new_ends new_sizes new_signs new_closed new_turns new_played
-    → IsStoredSmall (moves_stored new_turns new_played) new_ends new_sizes new_signs new_closed new_turns new_played
-small_kept_back {w} {new_ends = new_ends} {new_sizes = new_sizes} {new_signs = new_signs} {new_closed = new_closed} {new_turns = new_turns}
+    → IsStoredSmall (moves_stored new_turns new_played) new_ends new_sizes new_signs new_closed new_turns new_played before.open.place before.open.first
+small_kept_back {w} {before = before} {new_ends = new_ends} {new_sizes = new_sizes} {new_signs = new_signs} {new_closed = new_closed} {new_turns = new_turns}
     {new_played = new_played} s some b n = record {
+      valley = record {
+        place_is = b.valley.place_is ∙ ap valley_place (sym n.signs_new);
+        first_is = b.valley.first_is ∙ (λ i. sum (take (valley_place (sym n.signs_new i)) (sym n.sizes_new i)));
+      };
       stored = stored_shown (take (length w - 1) w) new_ends new_sizes new_signs new_closed new_turns new_played (small_back s some b n);
       few = omega (arith, ap order_of (moves_shown (small_back s some b n)), fewer_before w some, s.few);
     }

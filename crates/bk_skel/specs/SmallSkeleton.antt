@@ -1,8 +1,8 @@
 -- How a small skeleton is stored: as a skeleton is, with at most 16 squares; and what is kept of one to take the next move back.
--- Example (SkeletonExamples): 2u.2eu.1e, of five squares.
+-- Example (SkeletonExamples): 2u.2eu.1e, of five squares. After its first two moves the leftmost valley stands behind one segment, of two squares.
 use Rattle.std.specs.List.{concat}
-use Rattle.std.specs.Prelude.{List, length, ℕ, ◌≡◌, ◌≤◌}
-use Rattle.bk_word.specs.Outline.{sizes_of}
+use Rattle.std.specs.Prelude.{List, length, sum, take, ℕ, ◌≡◌, ◌≤◌}
+use Rattle.bk_word.specs.Outline.{sizes_of, valley_place}
 use Rattle.bk_word.specs.Play.{outline_of}
 use Rattle.bk_word.specs.Word.{Word, order_of}
 use Rattle.bk_word.specs.declared.Sign.{Sign}
@@ -11,19 +11,27 @@ use Rattle.bk_skel.specs.Valley.{IsKeptSkeleton}
 use Rattle.bk_skel.specs.declared.small.SmallOutline.{SmallOutline}
 use Rattle.bk_skel.specs.declared.turns.MoveRecord.{MoveRecord}
 
+-- where the leftmost valley stands among open segments of these sizes, with these signs between them: how many segments stand at its left, and
+-- how many squares these have
+pub record StandsAt (sizes : List ℕ) (signs : List Sign) (place first : ℕ) : Type 0 where
+  pub place_is : place ≡ valley_place signs
+  pub first_is : first ≡ sum (take (valley_place signs) sizes)
+
 -- all that is stored of moves that hang few squares
 pub record IsStoredSmall (moves : Word) (ends sizes : List ℕ) (signs : List Sign) (closed : List ℕ) (turns : List MoveRecord)
-    (played : List Sign) : Type 0 where
+    (played : List Sign) (place first : ℕ) : Type 0 where
   pub stored : IsStoredSkeleton moves ends sizes signs closed turns played
+  pub valley : StandsAt sizes signs place first
   pub few : order_of moves ≤ 16
 
--- what is kept of moves to take the next one back: their open segments, and how many squares are closed, how many moves there are, and how
--- many signs these have
+-- what is kept of moves to take the next one back: their open segments, where the leftmost valley stands, and how many squares are closed, how
+-- many moves there are, and how many signs these have
 pub record IsOutlineOf (moves : Word) (o : SmallOutline) : Type 0 where
   pub kept : IsKeptSkeleton moves
   pub ends_are : o.open.ends.items ≡ concat (outline_of moves).segments
   pub sizes_are : o.open.sizes.items ≡ sizes_of (outline_of moves)
   pub signs_are : o.open.signs.items ≡ (outline_of moves).signs
+  pub valley : StandsAt o.open.sizes.items o.open.signs.items o.open.place o.open.first
   pub closed_is : o.closed ≡ length (concat (outline_of moves).closed)
   pub turns_is : o.turns ≡ length moves
   pub played_is : o.played ≡ length (signs_of moves)

@@ -78,7 +78,7 @@ pub(crate) fn undo_signs(
 }
 
 // Puts the signs that stay between segments into a room for as many.
-pub(crate) fn put_signs(room: &mut [Sign], moved: &[Sign])
+fn put_signs(room: &mut [Sign], moved: &[Sign])
     requires { length room.old ≡ count_by parts moved.now }
     ensures { room.new ≡ filter parts moved.now }
 {
@@ -92,14 +92,14 @@ pub(crate) fn put_signs(room: &mut [Sign], moved: &[Sign])
 }
 
 // The last size, or one square where it isn't the last.
-fn size_of_next(is_last: bool, last: u8) -> u8
+pub(crate) fn size_of_next(is_last: bool, last: u8) -> u8
     ensures { result ≡ cond is_last last 1 }
 {
     if is_last { last } else { 1 }
 }
 
 // Puts the sizes of segments that the signs join or part into a room for as many as are left.
-pub(crate) fn put_sizes(room: &mut [u8], moved: &[Sign], first: u8, last: u8)
+fn put_sizes(room: &mut [u8], moved: &[Sign], first: u8, last: u8)
     requires long { length room.old ≡ count_by parts moved.now + 1 }
     requires small { first + length moved.now + last < 256 }
     ensures { room.new ≡ joined_sizes first last moved.now }

@@ -9,22 +9,25 @@ ghost use Rattle.bk_word.specs.Outline.{IsLegalMove, has_left_wall, has_right_wa
 ghost use Rattle.bk_word.specs.Play.{IsComplete, numbers_from, outline_of, parts};
 ghost use Rattle.bk_word.specs.Word.{order_of};
 ghost use Rattle.bk_word_net.specs.WordNet.{net_of_word};
-ghost use Rattle.bk_skel.specs.Skeleton.{first_touched, open_sides, sizes_after};
+ghost use Rattle.bk_skel.specs.Skeleton.{first_touched, joined_sizes, open_sides, sizes_after};
 ghost use Rattle.bk_skel.specs.SmallSkeleton.{IsOutlineOf};
 ghost use Rattle.bk_skel.specs.Valley.{IsKeptSkeleton};
 
 use crate::netting::{end_nodes, wired};
-use crate::parting::{put_signs, put_sizes};
+use crate::parting::size_of_next;
 use crate::skeleton::open_side;
 use crate::splicing::put_numbers;
-use crate::turns::{MoveRecord, leftmost, turn_for};
+use crate::turns::{MoveRecord, leftmost, turn_at_valley};
 use bk_net::Net;
 use bk_short::Short;
 use bk_word::{INLINE_ORDER, Move, Sign};
 use std::marker::Model;
 
-// The moves of a small skeleton have at most so many signs: each at most one more than squares.
-const MOST_SMALL_SIGNS: usize = 32;
+// Twice as many places as a list has items at most: as many lie behind each of its items as are copied at one stroke.
+const ROOM: usize = 32;
+
+// The moves of a small skeleton have at most 32 signs, each at most one more than squares, and the signs of a move are copied behind these.
+const SIGNS_ROOM: usize = 49;
 
 // A move of at most 16 squares has at most so many signs.
 const MOST_MOVE_SIGNS: usize = INLINE_ORDER + 1;
@@ -32,9 +35,12 @@ const MOST_MOVE_SIGNS: usize = INLINE_ORDER + 1;
 // The open segments. They are copied at one stroke.
 #[derive(Clone, Copy, Drop)]
 struct Open {
-    ends: Short<u8, INLINE_ORDER>,
-    sizes: Short<u8, INLINE_ORDER>,
-    signs: Short<Sign, INLINE_ORDER>,
+    ends: Short<u8, ROOM>,
+    sizes: Short<u8, ROOM>,
+    signs: Short<Sign, ROOM>,
+    // how many of the segments stand at the left of the leftmost valley, and how many squares these have
+    place: u8,
+    first: u8,
 }
 
 /// The outline of a small skeleton, and how many closed squares, moves and signs of moves it keeps: what is needed to take the next
@@ -85,9 +91,9 @@ impl SmallMove {
 #[derive(Drop)]
 pub struct SmallSkel {
     open: Open,
-    closed: Short<u8, INLINE_ORDER>,
+    closed: Short<u8, ROOM>,
     turns: Short<MoveRecord, INLINE_ORDER>,
-    played: Short<Sign, MOST_SMALL_SIGNS>,
+    played: Short<Sign, SIGNS_ROOM>,
 }
 
 impl Model for SmallSkel {
@@ -100,7 +106,7 @@ impl Model for SmallSkel {
     ghost view = { λ s. moves_stored s.turns.items s.played.items };
 
     ghost invariant = { λ s. IsStoredSmall (moves_stored s.turns.items s.played.items) s.open.ends.items s.open.sizes.items
-        s.open.signs.items s.closed.items s.turns.items s.played.items };
+        s.open.signs.items s.closed.items s.turns.items s.played.items s.open.place s.open.first };
 }
 
 impl SmallSkel {
@@ -115,6 +121,8 @@ impl SmallSkel {
                 ends: Short::new(),
                 sizes,
                 signs: Short::new(),
+                place: 0,
+                first: 0,
             },
             closed: Short::new(),
             turns: Short::new(),
@@ -164,9 +172,10 @@ impl SmallSkel {
         requires few { order_of self.old + m.now.count ≤ 16 }
         ensures { self.new ≡ self.old ++ m.now ∷ [] }
     {
-        let turn = turn_for(
+        let turn = turn_at_valley(
             self.open.sizes.as_slice(),
             self.open.signs.as_slice(),
+            (usize::from(self.open.place), usize::from(self.open.first)),
             m.count,
             m.signs.as_slice(),
             self.played.len(),
@@ -174,7 +183,8 @@ impl SmallSkel {
         let number = (self.open.ends.len() + self.closed.len() + 1) as u8;
         let first = usize::from(turn.first);
         let end = first + usize::from(turn.closed);
-        self.closed.extend(&self.open.ends.as_slice()[first..end]);
+        let valley: Short<u8, INLINE_ORDER> = self.open.ends.part(first, end);
+        self.closed.append(&valley);
         hang(&mut self.open.ends, first, end, number, m.count);
         part_and_join(
             &mut self.open.sizes,
@@ -182,16 +192,19 @@ impl SmallSkel {
             &turn,
             m.signs.as_slice(),
         );
-        self.played.extend(m.signs.as_slice());
+        self.played.append(&m.signs);
         self.turns.push(turn);
+        let (place, first) = leftmost(self.open.sizes.as_slice(), self.open.signs.as_slice());
+        self.open.place = place as u8;
+        self.open.first = first as u8;
     }
 
     /// The numbers of the leftmost valley's squares, from left to right: none at the start.
     pub fn valley_squares(&self) -> &[u8]
         ensures { result.now ≡ valley_of (outline_of self.now) }
     {
-        let (place, first) = leftmost(self.open.sizes.as_slice(), self.open.signs.as_slice());
-        let size = self.open.sizes.as_slice()[place];
+        let first = usize::from(self.open.first);
+        let size = self.open.sizes.as_slice()[usize::from(self.open.place)];
         &self.open.ends.as_slice()[first..first + usize::from(size)]
     }
 
@@ -200,7 +213,7 @@ impl SmallSkel {
         ensures left { result.0 ≡ has_left_wall (outline_of self.now) }
         ensures right { result.1 ≡ has_right_wall (outline_of self.now) }
     {
-        let (place, _) = leftmost(self.open.sizes.as_slice(), self.open.signs.as_slice());
+        let place = usize::from(self.open.place);
         (place == 0, place == self.open.signs.len())
     }
 
@@ -208,8 +221,7 @@ impl SmallSkel {
     pub fn valley_len(&self) -> usize
         ensures { result ≡ length (valley_of (outline_of self.now)) }
     {
-        let (place, _) = leftmost(self.open.sizes.as_slice(), self.open.signs.as_slice());
-        usize::from(self.open.sizes.as_slice()[place])
+        usize::from(self.open.sizes.as_slice()[usize::from(self.open.place)])
     }
 
     /// The numbers of the open squares, segment by segment from left to right. Squares are numbered from 1 in the order of
@@ -271,30 +283,45 @@ impl SmallSkel {
 
 // Puts so many numbers, from a first one on, in the place of the open squares from one place up to another.
 #[inline]
-fn hang(ends: &mut Short<u8, INLINE_ORDER>, start: usize, end: usize, first: u8, count: u8)
+fn hang(ends: &mut Short<u8, ROOM>, start: usize, end: usize, first: u8, count: u8)
     requires order { start ≤ end }
     requires within { end ≤ length ends.old.items }
+    requires few { length ends.old.items ≤ 16 }
     requires fits { length ends.old.items - (end - start) + count ≤ 16 }
-    requires small { first + count ≤ 255 }
+    requires small { first ≤ 239 }
     ensures { ends.new.items ≡ splice ends.old.items start end (numbers_from first count) }
 {
+    let behind: Short<u8, INLINE_ORDER> = ends.part(end, ends.len());
+    ends.truncate(start);
+    ends.append(&numbers(first, count));
+    ends.append(&behind);
+}
+
+// So many numbers from a first one on.
+#[inline]
+fn numbers(first: u8, count: u8) -> Short<u8, INLINE_ORDER>
+    requires few { count ≤ 16 }
+    requires small { first ≤ 239 }
+    ensures { result.items ≡ numbers_from first count }
+{
     let mut room = [0; INLINE_ORDER];
-    let numbers = &mut room[..usize::from(count)];
-    put_numbers(numbers, first);
-    ends.replace(start, end, numbers);
+    put_numbers(&mut room, first);
+    Short::of(room, usize::from(count))
 }
 
 // Joins and parts the segments that a move touches: the new sizes and signs stand in the place of theirs.
 #[inline]
 fn part_and_join(
-    sizes: &mut Short<u8, INLINE_ORDER>,
-    signs: &mut Short<Sign, INLINE_ORDER>,
+    sizes: &mut Short<u8, ROOM>,
+    signs: &mut Short<Sign, ROOM>,
     turn: &MoveRecord,
     moved: &[Sign],
 )
     requires parted { turn.now.parted ≡ count_by parts moved.now }
     requires sizes_within { first_touched turn.now + (open_sides turn.now + 1) ≤ length sizes.old.items }
     requires signs_within { first_touched turn.now + open_sides turn.now ≤ length signs.old.items }
+    requires sizes_few { length sizes.old.items ≤ 16 }
+    requires signs_few { length signs.old.items ≤ 16 }
     requires sizes_fit { length sizes.old.items - (open_sides turn.now + 1) + (turn.now.parted + 1) ≤ 16 }
     requires signs_fit { length signs.old.items - open_sides turn.now + turn.now.parted ≤ 16 }
     requires small { turn.now.left + length moved.now + turn.now.right ≤ 253 }
@@ -304,14 +331,41 @@ fn part_and_join(
         (first_touched turn.now + open_sides turn.now) (filter parts moved.now) }
 {
     let start = turn.first_touched();
-    let open = turn.open_sides();
-    let parted = usize::from(turn.parted);
-    let mut room = [0; INLINE_ORDER];
-    let new_sizes = &mut room[..parted + 1];
-    put_sizes(new_sizes, moved, turn.left.max(1), turn.right.max(1));
-    sizes.replace(start, start + open + 1, new_sizes);
-    let mut room = [Sign::Above; INLINE_ORDER];
-    let new_signs = &mut room[..parted];
-    put_signs(new_signs, moved);
-    signs.replace(start, start + open, new_signs);
+    let end = start + turn.open_sides();
+    let sizes_behind: Short<u8, INLINE_ORDER> = sizes.part(end + 1, sizes.len());
+    let signs_behind: Short<Sign, INLINE_ORDER> = signs.part(end, signs.len());
+    sizes.truncate(start);
+    signs.truncate(start);
+    push_parted(sizes, signs, moved, turn.left.max(1), turn.right.max(1));
+    sizes.append(&sizes_behind);
+    signs.append(&signs_behind);
+}
+
+// Appends the sizes of segments that the signs join or part, and the signs that stay between them.
+#[inline]
+fn push_parted(
+    sizes: &mut Short<u8, ROOM>,
+    signs: &mut Short<Sign, ROOM>,
+    moved: &[Sign],
+    first: u8,
+    last: u8,
+)
+    requires sizes_fit { length sizes.old.items + count_by parts moved.now < 32 }
+    requires signs_fit { length signs.old.items + count_by parts moved.now ≤ 32 }
+    requires small { first + length moved.now + last < 256 }
+    ensures sizes { sizes.new.items ≡ sizes.old.items ++ joined_sizes first last moved.now }
+    ensures signs { signs.new.items ≡ signs.old.items ++ filter parts moved.now }
+{
+    let mut size = first;
+    for (i, sign) in moved.iter().enumerate() {
+        let next = size_of_next(i + 1 == moved.len(), last);
+        if sign.parts() {
+            sizes.push(size);
+            signs.push(*sign);
+            size = next;
+        } else {
+            size += next;
+        }
+    }
+    sizes.push(size);
 }

@@ -62,7 +62,29 @@ pub(crate) fn turn_for(
     requires from { from ≤ 400 }
     ensures { result ≡ turn_at sizes.now signs.now (record { count = count; signs = moved.now }) from }
 {
-    let (place, first) = leftmost(sizes, signs);
+    turn_at_valley(sizes, signs, leftmost(sizes, signs), count, moved, from)
+}
+
+// The same, where so many open segments stand at the left of the leftmost valley, and have so many squares.
+pub(crate) fn turn_at_valley(
+    sizes: &[u8],
+    signs: &[Sign],
+    valley: (usize, usize),
+    count: u8,
+    moved: &[Sign],
+    from: usize,
+) -> MoveRecord
+    requires many { length sizes.now ≡ length signs.now + 1 }
+    requires place { valley.0 ≡ valley_place signs.now }
+    requires within { valley.0 ≤ length signs.now }
+    requires first { valley.1 ≡ sum (take (valley_place signs.now) sizes.now) }
+    requires first_few { valley.1 ≤ 200 }
+    requires few { length sizes.now ≤ 200 }
+    requires moved { length moved.now ≤ 201 }
+    requires from { from ≤ 400 }
+    ensures { result ≡ turn_at sizes.now signs.now (record { count = count; signs = moved.now }) from }
+{
+    let (place, first) = valley;
     MoveRecord {
         place: place as u8,
         first: first as u8,

@@ -1,15 +1,8 @@
-use Rattle.bk_skel.proofs.ValleyReads.{valley_sizes, valley_within}
+use Rattle.std.proofs.Common.{refl}
+use Rattle.bk_skel.proofs.ValleyKept.{kept_looked}
 use Rattle.bk_skel.proofs.small.SmallSkel.valley_len.Goals as goal
 
-pub leftmost-place-requires-clause-many : goal.leftmost-place-requires-clause-many
-leftmost-place-requires-clause-many c =
-    (valley_sizes c.self.invariant.stored c.as_slice.result.now c.as_slice-2.result.now c.as_slice.ensures.items c.as_slice-2.ensures.items).0
-
-pub leftmost-place-requires-clause-small : goal.leftmost-place-requires-clause-small
-leftmost-place-requires-clause-small c =
-    (valley_sizes c.self.invariant.stored c.as_slice.result.now c.as_slice-2.result.now c.as_slice.ensures.items c.as_slice-2.ensures.items).1
-
-pub bounds-as_slice-place : goal.bounds-as_slice-place
-bounds-as_slice-place c =
-    valley_within c.self.invariant.stored c.as_slice-3.result.now c.as_slice-2.result.now c.leftmost-place.result.0 c.as_slice-3.ensures.items
-    c.as_slice-2.ensures.items c.leftmost-place.ensures.within
+pub bounds-as_slice-from : goal.bounds-as_slice-from
+bounds-as_slice-from c =
+    (kept_looked c.self.invariant c.as_slice.result.now c.self.inside.open.signs.items c.from.result c.self.inside.open.first c.as_slice.ensures.items
+    refl c.from.ensures refl).inside

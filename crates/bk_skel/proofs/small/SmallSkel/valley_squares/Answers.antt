@@ -1,34 +1,29 @@
-use Rattle.std.proofs.Common.{ap, ◌∙◌}
+use Rattle.std.proofs.Common.{ap, refl, ◌∙◌}
 use Rattle.bk_word.specs.Outline.{valley_of}
 use Rattle.bk_word.specs.Play.{outline_of}
 use Rattle.bk_word.specs.Word.{Word}
-use Rattle.bk_skel.proofs.ValleyReads.{valley_cut, valley_sizes, valley_within}
+use Rattle.bk_skel.proofs.ValleyKept.{kept_looked}
+use Rattle.bk_skel.proofs.ValleyReads.{valley_cut}
 use Rattle.bk_skel.proofs.small.SmallSkel.valley_squares.Goals as goal
 
-pub leftmost-place-requires-clause-many : goal.leftmost-place-requires-clause-many
-leftmost-place-requires-clause-many c =
-    (valley_sizes c.self.invariant.stored c.as_slice.result.now c.as_slice-2.result.now c.as_slice.ensures.items c.as_slice-2.ensures.items).0
-
-pub leftmost-place-requires-clause-small : goal.leftmost-place-requires-clause-small
-leftmost-place-requires-clause-small c =
-    (valley_sizes c.self.invariant.stored c.as_slice.result.now c.as_slice-2.result.now c.as_slice.ensures.items c.as_slice-2.ensures.items).1
-
-pub bounds-as_slice-place : goal.bounds-as_slice-place
-bounds-as_slice-place c =
-    valley_within c.self.invariant.stored c.as_slice-3.result.now c.as_slice-2.result.now c.leftmost-place.result.0 c.as_slice-3.ensures.items
-    c.as_slice-2.ensures.items c.leftmost-place.ensures.within
+pub bounds-as_slice-from : goal.bounds-as_slice-from
+bounds-as_slice-from c =
+    (kept_looked c.self.invariant c.as_slice.result.now c.self.inside.open.signs.items c.from.result c.self.inside.open.first c.as_slice.ensures.items
+    refl c.from.ensures refl).inside
 
 pub slice_bounds-result-end : goal.slice_bounds-result-end
 slice_bounds-result-end c =
-    (valley_cut c.self.invariant.stored c.as_slice.result.now c.as_slice-3.result.now c.as_slice-4.result.now c.as_slice-2.result.now
-    c.leftmost-place.result.0 c.leftmost-place.result.1 c.from.result c.as_slice.ensures.items c.as_slice-3.ensures.items
-    c.as_slice-4.ensures.items c.as_slice-2.ensures.items c.leftmost-place.ensures.place c.leftmost-place.ensures.within
-    c.leftmost-place.ensures.first c.from.ensures).within
+    let k = kept_looked c.self.invariant c.as_slice.result.now c.self.inside.open.signs.items c.from.result c.from-first.result
+    c.as_slice.ensures.items refl c.from.ensures c.from-first.ensures in
+    (valley_cut c.self.invariant.stored c.as_slice.result.now c.as_slice.result.now c.as_slice-2.result.now c.self.inside.open.signs.items
+    c.from.result c.from-first.result c.from-2.result c.as_slice.ensures.items c.as_slice.ensures.items c.as_slice-2.ensures.items refl
+    k.at k.within k.begins c.from-2.ensures).within
 
 pub returns : goal.returns
 returns c =
-    (valley_cut c.self.invariant.stored c.as_slice.result.now c.as_slice-3.result.now c.as_slice-4.result.now c.as_slice-2.result.now
-    c.leftmost-place.result.0 c.leftmost-place.result.1 c.from.result c.as_slice.ensures.items c.as_slice-3.ensures.items
-    c.as_slice-4.ensures.items c.as_slice-2.ensures.items c.leftmost-place.ensures.place c.leftmost-place.ensures.within
-    c.leftmost-place.ensures.first c.from.ensures).are
+    let k = kept_looked c.self.invariant c.as_slice.result.now c.self.inside.open.signs.items c.from.result c.from-first.result
+    c.as_slice.ensures.items refl c.from.ensures c.from-first.ensures in
+    (valley_cut c.self.invariant.stored c.as_slice.result.now c.as_slice.result.now c.as_slice-2.result.now c.self.inside.open.signs.items
+    c.from.result c.from-first.result c.from-2.result c.as_slice.ensures.items c.as_slice.ensures.items c.as_slice-2.ensures.items refl
+    k.at k.within k.begins c.from-2.ensures).are
     ∙ ap (λ (w : Word). valley_of (outline_of w)) c.self.view_is

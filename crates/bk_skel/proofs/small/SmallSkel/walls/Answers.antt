@@ -1,10 +1,17 @@
-use Rattle.bk_skel.proofs.ValleyReads.{valley_sizes}
+use Rattle.std.proofs.Common.{ap, length, nat_eq, ◌∙◌, ◌≡◌}
+use Rattle.bk_word.specs.Outline.{valley_place}
+use Rattle.bk_word.specs.Play.{outline_of}
+use Rattle.bk_word.specs.Word.{Word}
+use Rattle.bk_word.specs.declared.Sign.{Sign}
+use Rattle.bk_skel.proofs.ValleyKept.{place_kept}
 use Rattle.bk_skel.proofs.small.SmallSkel.walls.Goals as goal
 
-pub leftmost-place-requires-clause-many : goal.leftmost-place-requires-clause-many
-leftmost-place-requires-clause-many c =
-    (valley_sizes c.self.invariant.stored c.as_slice.result.now c.as_slice-2.result.now c.as_slice.ensures.items c.as_slice-2.ensures.items).0
+pub returns-clause-left : goal.returns-clause-left
+returns-clause-left c = ap (λ n. nat_eq n 0) (c.from-place.ensures ∙ place_kept c.self.invariant c.self.view_is)
 
-pub leftmost-place-requires-clause-small : goal.leftmost-place-requires-clause-small
-leftmost-place-requires-clause-small c =
-    (valley_sizes c.self.invariant.stored c.as_slice.result.now c.as_slice-2.result.now c.as_slice.ensures.items c.as_slice-2.ensures.items).1
+pub returns-clause-right : goal.returns-clause-right
+returns-clause-right c =
+    let place : c.from-place.result ≡ valley_place (outline_of c.args.self.now).signs = c.from-place.ensures ∙ place_kept c.self.invariant c.self.view_is in
+    let many : c.len.result ≡ length (outline_of c.args.self.now).signs = c.len.ensures.value
+    ∙ ap (length {A = Sign}) ((c.self.invariant.stored).shows).signs_are ∙ ap (λ (w : Word). length (outline_of w).signs) c.self.view_is in
+    λ i. nat_eq (place i) (many i)

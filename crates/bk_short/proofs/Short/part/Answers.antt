@@ -1,0 +1,18 @@
+use Rattle.std.proofs.Common.{ap, arith, length, length-take-le, slice_range, take, ◌∙◌, ◌≡◌, ◌≤◌}
+use Rattle.bk_short.specs.Short.{Short}
+use Rattle.bk_short.proofs.CopiedPlaces.{parted}
+use Rattle.bk_short.proofs.Short.part.Goals as goal
+
+pub returns : goal.returns
+returns g c =
+    let items : take c.self.inside.len c.self.inside.cells ≡ c.args.self.now.items = ap (λ (s : Short g.row.T.Denot). s.items) c.self.view_is in
+    let within : c.args.end ≤ c.self.inside.len = omega (
+      arith,
+      c.requires.within,
+      ap length items,
+      c.self.invariant.0,
+      c.self.invariant.1,
+      length-take-le c.self.inside.len c.self.inside.cells (omega (arith, c.self.invariant.0, c.self.invariant.1)),
+    ) in
+    parted c.self.inside.cells c.in-Some.cells.now c.args.start c.args.end c.self.inside.len g.row.W c.requires.order within c.requires.few
+    c.in-Some.ensures.cases.same ∙ ap (λ l. slice_range l c.args.start c.args.end) items
