@@ -6,7 +6,7 @@ ghost use Rattle.bk_catalogue.specs.Catalogue.{IsOfClass};
 ghost use Rattle.bk_member_table.specs.Finding.{Qualifies};
 
 use crate::corners::begins_greatest;
-use bk_simple::{part, repeated};
+use bk_simple::{is_perfect, part};
 use bk_sym::is_canonical;
 use bk_tiling::Tiling;
 use bk_word::Class;
@@ -39,8 +39,8 @@ fn is_of_class(tiling: &Tiling, class: Class) -> bool
     ensures { IsTrue result ↔ IsOfClass class tiling.now }
 {
     match class {
-        Class::Perfect => repeated(tiling).is_none(),
-        Class::Imperfect => repeated(tiling).is_some(),
+        Class::Perfect => is_perfect(tiling),
+        Class::Imperfect => !is_perfect(tiling),
         Class::Simple => true,
     }
 }

@@ -13,3 +13,4 @@ pub mod Reaching
 pub mod Seams
 pub mod Repeats
 pub mod OneFirst
+pub mod DifferentNumbers

@@ -3,7 +3,7 @@
 
 ghost use Rattle.std.specs.List.{All};
 ghost use Rattle.std.specs.List.Sorted.{IsNonDecreasing, IsPermutation};
-ghost use Rattle.std.specs.Prelude.{IfNone, IfSome, IsNone, IsSome, IsTrue, count_by, length, nat_le, ◌&&◌, ◌+◌, ◌<◌, ◌^◌, ◌||◌, ◌↔◌, ◌≡◌, ◌≢◌, ◌≤◌, ◌⊎◌};
+ghost use Rattle.std.specs.Prelude.{AllPairs, IfNone, IfSome, IsNone, IsSome, IsTrue, count_by, length, nat_le, ◌&&◌, ◌+◌, ◌<◌, ◌^◌, ◌||◌, ◌↔◌, ◌≡◌, ◌≢◌, ◌≤◌, ◌⊎◌};
 ghost use Rattle.bk_simple.specs.Border.{IsUncut, is_inside, is_outside, rectangle_of};
 ghost use Rattle.bk_simple.specs.FirstLaws.{AFirstPartIsOne, ALeastRepeatedSideIsOne};
 ghost use Rattle.bk_simple.specs.Neighbours.{IsFirstTwice, NoneTwice};
@@ -27,6 +27,51 @@ pub struct SubRect {
     pub width: u64,
     /// How many levels it has.
     pub height: u64,
+}
+
+// So many remainders are marked to tell numbers apart.
+const REMAINDERS: usize = 256;
+
+// The sides of at most so many squares are put into a room of their own, which is cheap to clear.
+const FEW_SQUARES: usize = 20;
+
+/// Whether a tiling is perfect: whether all sides differ (Brooks, Smith, Stone and Tutte 1940).
+pub fn is_perfect(tiling: &Tiling) -> bool
+    ensures { IsTrue result ↔ IsPerfect tiling.now }
+{
+    if tiling.order() <= FEW_SQUARES {
+        have_different_sides(tiling.squares())
+    } else {
+        repeated(tiling).is_none()
+    }
+}
+
+// Whether the sides of a few squares differ.
+fn have_different_sides(squares: &[Square]) -> bool
+    requires { length squares.now ≤ 20 }
+    ensures { IsTrue result ↔ AllPairs (λ p q. p.s ≢ q.s) squares.now }
+{
+    let mut sides: ArrayVec<u64, FEW_SQUARES> = ArrayVec::new();
+    for q in squares {
+        sides.push(q.s);
+    }
+    are_different(sides.as_slice())
+}
+
+/// Whether no two of the numbers are equal. (Own.)
+pub fn are_different(numbers: &[u64]) -> bool
+    ensures { IsTrue result ↔ AllPairs ◌≢◌ numbers.now }
+{
+    // A number whose remainder isn't marked is none of those before it, and most are told apart so.
+    let mut marked = [false; REMAINDERS];
+    for i in 0..numbers.len() {
+        let remainder = (numbers[i] % REMAINDERS as u64) as usize;
+        if marked[remainder] && numbers[..i].contains(&numbers[i]) {
+            return false;
+        }
+        marked[remainder] = true;
+    }
+    true
 }
 
 /// The least side that at least two squares have. `None` exactly where the tiling is perfect: where all sides differ
