@@ -13,8 +13,8 @@ use Rattle.bk_free_cuts.specs.LineNumbers.{left_end, lefts_of, right_end, sides_
 use Rattle.bk_free_search.specs.BoardOutlines.{IsBoardOutline}
 use Rattle.bk_free_search.specs.Boards.{IsBoardOf}
 use Rattle.bk_free_search.specs.Lefts.{IsLeftWord, first_left}
-use Rattle.bk_free_search.specs.Joining.{TouchOneNode}
-use Rattle.bk_free_search.specs.NodeLines.{AreNodeLines, Has, HasBoth, IsBesideNew, IsBesideOneOf}
+use Rattle.bk_free_search.specs.Joining.{TouchOneOf}
+use Rattle.bk_free_search.specs.NodeLines.{AreNodeLines, Has, HasPair, IsBesideNew, IsBesideOneOf}
 use Rattle.bk_free_search.specs.Rights.{last_right, rights_of}
 use Rattle.bk_free_search.specs.declared.board.BoardOutline.{BoardOutline}
 use Rattle.bk_free_search.specs.declared.line_set.LineSet.{LineSet}
@@ -123,30 +123,23 @@ board_less w front before lefts rights nodes first at_left at_right order moves 
 -- ---- two lines at one node
 
 -- that touch one of the kept nodes touch a closed node of the word
-pub touch_lines : (w : Word) (nodes : List LineSet) (left right : ℕ) → AreNodeLines w nodes
-    → (left ≡ 0 → right ≡ 1 → ⊥) → HasBoth nodes left right → TouchOneNode w left right
-touch_lines w nodes left right are walls both = record {
-  node = both.node;
-  at_left = are.touch both.node left both.lines both.at both.has_left;
-  at_right = are.touch both.node right both.lines both.at both.has_right;
-  not_walls = walls;
+pub touch_lines : (w : Word) (nodes : List LineSet) (lefts rights : LineSet) → AreNodeLines w nodes → HasPair nodes lefts rights → TouchOneOf w lefts rights
+touch_lines w nodes lefts rights are p = record {
+  left = p.pair.left;
+  right = p.pair.right;
+  in_lefts = p.pair.in_lefts;
+  in_rights = p.pair.in_rights;
+  touch = record {
+    node = p.node;
+    at_left = are.touch p.node p.pair.left p.lines p.at p.pair.has_left;
+    at_right = are.touch p.node p.pair.right p.lines p.at p.pair.has_right;
+    not_walls = p.pair.not_walls;
+  };
 }
 
--- the lines at the sides of a square
-pub left_on_board : (w : Word) (lefts : List ℕ) (square : ℕ) → lefts ≡ lefts_of w → slice_index_or lefts (square - 1) 0 ≡ (sides_at (sides_of w) square).0
-left_on_board w lefts square are = ap (λ (ls : List ℕ). slice_index_or ls (square - 1) 0) are ∙ sym (index_left (sides_of w) (square - 1))
-
-pub right_on_board : (w : Word) (rights : List ℕ) (square : ℕ) → rights ≡ rights_of w
-    → slice_index_or rights (square - 1) 1 ≡ (sides_at (sides_of w) square).1
-right_on_board w rights square are = ap (λ (rs : List ℕ). slice_index_or rs (square - 1) 1) are ∙ sym (index_right (sides_of w) (square - 1))
-
--- and at those of a segment
+-- the lines at both ends of a segment
 pub left_end_on_board : (w : Word) (lefts squares : List ℕ) → lefts ≡ lefts_of w → first_left lefts squares ≡ left_end (sides_of w) squares
 left_end_on_board w lefts squares are = ap (λ (ls : List ℕ). first_left ls squares) are ∙ sym (end_left (sides_of w) squares)
 
 pub right_end_on_board : (w : Word) (rights squares : List ℕ) → rights ≡ rights_of w → last_right rights squares ≡ right_end (sides_of w) squares
 right_end_on_board w rights squares are = ap (λ (rs : List ℕ). last_right rs squares) are ∙ sym (end_right (sides_of w) squares)
-
-pub not_both : (left right : ℕ) → ((left ≡ 0) × (right ≡ 1 → ⊥)) ⊎ (left ≡ 0 → ⊥) → left ≡ 0 → right ≡ 1 → ⊥
-not_both left right (inl h) e f = h.1 f
-not_both left right (inr h) e f = h e

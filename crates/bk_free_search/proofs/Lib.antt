@@ -6,6 +6,7 @@ pub mod Cutting
 pub mod LeftLines
 pub mod LineSets
 pub mod LinesBeside
+pub mod LowLines
 pub mod NextMoves
 pub mod SoughtExamples
 pub mod OpenSegments
@@ -38,4 +39,5 @@ pub mod BehindLists
 pub mod LastSquare
 pub mod LastSquareExamples
 pub mod UnderSigns
+pub mod ValleyPlaces
 pub mod AllUnderExamples

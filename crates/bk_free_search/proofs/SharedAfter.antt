@@ -14,11 +14,17 @@ use Rattle.bk_word_net.proofs.NoLoose.{hung_number}
 use Rattle.bk_word_net.proofs.Numbering.{numbered_moves, numbered_start}
 use Rattle.bk_word_net.proofs.Shape.{shaped_moves, shaped_start, valley_in}
 use Rattle.bk_layout.proofs.Counting.{got_times}
-use Rattle.bk_free_cuts.specs.LineNumbers.{left_end, new_sides, right_end, sides_at, sides_of}
+use Rattle.bk_free_cuts.specs.LineNumbers.{left_end, lefts_of, new_sides, right_end, sides_at, sides_of}
 use Rattle.bk_free_cuts.specs.NodeCut.{ShareANode, TouchesClosed}
 use Rattle.bk_free_search.proofs.TouchedLines.{sides_many, sides_snoc, touch_more}
-use Rattle.bk_free_search.specs.Joining.{JoinsLeft, JoinsRight, ShareBefore, ShareBehind, TouchOneNode}
+use Rattle.bk_free_search.specs.Joining.{JoinsLeft, JoinsRight, ShareBefore, ShareBehind, TouchOneNode, TouchOneOf}
+use Rattle.bk_free_search.specs.Lefts.{IsLeftOfOne}
+use Rattle.bk_free_search.specs.NodeLines.{Has}
+use Rattle.bk_free_search.specs.Rights.{IsRightOfOne, rights_of}
+use Rattle.bk_free_search.specs.declared.line_set.LineSet.{LineSet}
 use Rattle.bk_free_search.proofs.JoinedSegments.{IsJoined, is_joined}
+use Rattle.bk_free_search.proofs.LeftLines.{index_left}
+use Rattle.bk_free_search.proofs.RightLines.{index_right}
 
 -- a square that stands open was hung
 open_low : (w : Word) (k i a : ℕ) (s : List ℕ) → slice_get (outline_of w).segments k ≡ Some s → slice_get s i ≡ Some a → a - 1 < length (sides_of w)
@@ -127,3 +133,49 @@ module _ (w : Word) (m : Move) (word : IsLegal w) (legal : IsLegalMove (outline_
           share_after w m here.place (here.before ++ number ∷ here.behind) b.place (length here.before + suc s.place) b.number s.number
           (sides_at (sides_of w) b.number).0 (sides_at (sides_of w) s.number).1 here.at f.0 (at_behind s.place s.number s.at) (omega (arith, f.1))
           (ap (λ (p : ℕ × ℕ). p.0) (sym (same_sides w m b.number (left_low l b.place b.number b.at)))) right_line b.touch
+
+  -- ---- by sets of lines
+
+  left_line : (number line : ℕ) → slice_index_or (lefts_of w) (number - 1) 0 ≡ line → line ≡ (sides_at (sides_of w) number).0
+  left_line number line e = sym (index_left (sides_of w) (number - 1) ∙ e)
+
+  right_line : (number line : ℕ) → slice_index_or (rights_of w) (number - 1) 1 ≡ line → line ≡ (sides_at (sides_of w) number).1
+  right_line number line e = sym (index_right (sides_of w) (number - 1) ∙ e)
+
+  before_share : (first second : ℕ) → IsLeftOfOne (lefts_of w) left first → TouchOneNode w first second → ShareBefore w left second
+  before_share first second a touch = record {
+    place = a.place;
+    number = a.number;
+    at = a.at;
+    touch = subst (λ (k : ℕ). TouchOneNode w k second) (left_line a.number first a.is) touch;
+  }
+
+  -- a line at the left of an earlier square, and one at the right of the new one or of a later one
+  pub parted_before : (lefts rights ends : LineSet) (line : ℕ) → line ≡ right_end (sides_of w) (valley_of (outline_of w))
+      → ((k : ℕ) → Has lefts k → IsLeftOfOne (lefts_of w) left k) → ((k : ℕ) → Has rights k → IsRightOfOne (rights_of w) right k)
+      → ((k : ℕ) → Has ends k → (k ≡ line) ⊎ Has rights k) → TouchOneOf w lefts ends → ShareANode (w ++ m ∷ [])
+  parted_before lefts rights ends line is at_left at_right at_end t = cases (at_end t.right t.in_rights)
+    where
+      cases : (t.right ≡ line) ⊎ Has rights t.right → ShareANode (w ++ m ∷ [])
+      cases (inl e) = shared_before line is (before_share t.left line (at_left t.left t.in_lefts) (subst (λ (k : ℕ). TouchOneNode w t.left k) e t.touch))
+      cases (inr has) = let b = at_right t.right has in
+          shared_behind (left_end (sides_of w) (valley_of (outline_of w))) refl (record {
+            place = b.place;
+            number = b.number;
+            at = b.at;
+            touch = inr (before_share t.left (sides_at (sides_of w) b.number).1 (at_left t.left t.in_lefts)
+                (subst (λ (k : ℕ). TouchOneNode w t.left k) (right_line b.number t.right b.is) t.touch));
+          })
+
+  -- the line at the left of the new square, and one at the right of a later one
+  pub parted_behind : (begins rights : LineSet) (line : ℕ) → line ≡ left_end (sides_of w) (valley_of (outline_of w))
+      → ((k : ℕ) → Has rights k → IsRightOfOne (rights_of w) right k) → ((k : ℕ) → Has begins k → k ≡ line)
+      → TouchOneOf w begins rights → ShareANode (w ++ m ∷ [])
+  parted_behind begins rights line is at_right at_begin t = let b = at_right t.right t.in_rights in
+      shared_behind line is (record {
+        place = b.place;
+        number = b.number;
+        at = b.at;
+        touch = inl (subst (λ (k : ℕ). TouchOneNode w line k) (right_line b.number t.right b.is)
+            (subst (λ (k : ℕ). TouchOneNode w k t.right) (at_begin t.left t.in_lefts) t.touch));
+      })

@@ -9,6 +9,8 @@ use Rattle.bk_word.specs.Word.{Move, Word}
 use Rattle.bk_word.specs.declared.Sign.TheVariants.{Even}
 use Rattle.bk_free_cuts.specs.LineNumbers.{sides_at, sides_of}
 use Rattle.bk_free_cuts.specs.NodeCut.{TouchesClosed}
+use Rattle.bk_free_search.specs.NodeLines.{Has}
+use Rattle.bk_free_search.specs.declared.line_set.LineSet.{LineSet}
 
 -- these are the squares of the segment at the left of the valley, and the move's first sign is even; or there are none of them
 abbrev pub JoinsLeft : Outline → Move → List ℕ → Type 0
@@ -26,6 +28,14 @@ pub record TouchOneNode (w : Word) (left right : ℕ) : Type 0 where
   pub at_left : TouchesClosed (outline_of w) (sides_of w) left node
   pub at_right : TouchesClosed (outline_of w) (sides_of w) right node
   pub not_walls : left ≡ 0 → right ≡ 1 → ⊥
+
+-- so do a line of one set and one of another
+pub record TouchOneOf (w : Word) (lefts rights : LineSet) : Type 0 where
+  pub left : ℕ
+  pub right : ℕ
+  pub in_lefts : Has lefts left
+  pub in_rights : Has rights right
+  pub touch : TouchOneNode w left right
 
 -- so do the line at the left of one of these squares and this line
 pub record ShareBefore (w : Word) (squares : List ℕ) (right : ℕ) : Type 0 where

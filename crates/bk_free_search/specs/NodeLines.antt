@@ -2,7 +2,7 @@
 -- that hang from it.
 -- For example, in 3aa.2ue.1ea the first node touches the lines 0 to 3, and the second one the lines 0, 2 and 5.
 use Rattle.std.specs.Int.{bit_at}
-use Rattle.std.specs.Prelude.{List, Some, length, slice_get, slice_index_or, ℕ, ◌+◌, ◌-◌, ◌<◌, ◌≡◌, ◌⊎◌}
+use Rattle.std.specs.Prelude.{List, Some, length, slice_get, slice_index_or, ℕ, ◌+◌, ◌-◌, ◌<◌, ◌≡◌, ◌≤◌, ◌⊎◌}
 use Rattle.bk_word.specs.Play.{outline_of}
 use Rattle.bk_word.specs.Word.{Word}
 use Rattle.bk_free_cuts.specs.LineNumbers.{sides_of}
@@ -13,13 +13,26 @@ use Rattle.bk_free_search.specs.declared.line_set.LineSet.{LineSet}
 abbrev pub Has : LineSet → ℕ → Type 0
 Has lines line = bit_at lines.bits line ≡ 1
 
--- one of some sets has both lines
-pub record HasBoth (nodes : List LineSet) (left right : ℕ) : Type 0 where
+-- lines by these numbers, and the walls, can stand in a set
+abbrev pub AreLow : List ℕ → Type 0
+AreLow lines = (k wall : ℕ) → wall ≤ 1 → slice_index_or lines k wall < 32
+
+-- a set has a line of each of two others, which are not the two walls
+pub record HasPairIn (lines lefts rights : LineSet) : Type 0 where
+  pub left : ℕ
+  pub right : ℕ
+  pub in_lefts : Has lefts left
+  pub in_rights : Has rights right
+  pub has_left : Has lines left
+  pub has_right : Has lines right
+  pub not_walls : left ≡ 0 → right ≡ 1 → ⊥
+
+-- so has one of some sets
+pub record HasPair (nodes : List LineSet) (lefts rights : LineSet) : Type 0 where
   pub node : ℕ
   pub lines : LineSet
   pub at : slice_get nodes node ≡ Some lines
-  pub has_left : Has lines left
-  pub has_right : Has lines right
+  pub pair : HasPairIn lines lefts rights
 
 -- the line lies at a side of the square of this number, by the left and the right lines of all squares
 abbrev pub IsBeside : List ℕ → List ℕ → ℕ → ℕ → Type 0
@@ -37,6 +50,13 @@ pub record IsBesideNew (lefts rights : List ℕ) (hung count line : ℕ) : Type 
   pub k : ℕ
   pub low : k < count
   pub beside : IsBeside lefts rights (hung + k + 1) line
+
+-- so many new squares, where so many were hung before, stand between these two lines, and each two of them at a line of their own
+pub record StandBetween (lefts rights : List ℕ) (hung count first last : ℕ) : Type 0 where
+  pub first_is : slice_index_or lefts hung 0 ≡ first
+  pub last_is : slice_index_or rights (hung + count - 1) 1 ≡ last
+  pub lefts_are : (k : ℕ) → k + 1 < count → slice_index_or lefts (hung + k + 1) 0 ≡ hung + k + 2
+  pub rights_are : (k : ℕ) → k + 1 < count → slice_index_or rights (hung + k) 1 ≡ hung + k + 2
 
 -- for each closed node of the word the set of the lines that touch it; lines with numbers of 32 and more may be left out
 pub record AreNodeLines (w : Word) (nodes : List LineSet) : Type 0 where

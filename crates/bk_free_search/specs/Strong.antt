@@ -1,7 +1,7 @@
 -- A pass over the open segments as the search counts it.
 -- Example (StrongExamples): over the segments of 2u.2ua, of which the first two are marked, it counts 3 moves and the weight 1.
 use Rattle.std.specs.List.{list_any}
-use Rattle.std.specs.Prelude.{Bool, List, drop, max, nat_le, take, ℕ, ◌+◌, ◌||◌, ◌≤◌}
+use Rattle.std.specs.Prelude.{Bool, List, drop, length, max, nat_le, slice_index_or, take, ℕ, ◌+◌, ◌<◌, ◌||◌, ◌≤◌}
 use Rattle.bk_bounds.specs.VerticalCut.{begins_on_line, on_line, segments_of}
 use Rattle.bk_normal_cuts.specs.NormalCuts.{touched_or_wide}
 use Rattle.bk_normal_cuts.specs.StrongPass.{Passed as SeenPassed}
@@ -29,3 +29,7 @@ is_marked_segment top lines ends start size next =
 -- the marks of the segments of these sizes
 abbrev pub marks_by_lists : ℕ → List Bool → List ℕ → List ℕ → List Bool
 marks_by_lists top lines sizes ends = touched_or_wide top lines (segments_of sizes ends)
+
+-- no segment of several is without squares, by their sizes
+abbrev pub AreFilled : List ℕ → Type 0
+AreFilled sizes = (i : ℕ) → i < length sizes → 1 < length sizes → 0 < slice_index_or sizes i 0

@@ -1,21 +1,25 @@
 //! Words that are played by the search, with the lines at the left and the right of their squares.
 #![tactic(auto)]
 
-ghost use Rattle.std.specs.Prelude.{IsTrue, [], cond, length, nat_eq, take, ◌++◌, ◌+◌, ◌-◌, ◌<◌, ◌∷◌, ◌≡◌, ◌≤◌};
+ghost use Rattle.std.specs.Prelude.{IsTrue, [], cond, length, nat_eq, take, ℕ, ◌++◌, ◌+◌, ◌-◌, ◌<◌, ◌∷◌, ◌≡◌, ◌≤◌};
 ghost use Rattle.bk_word.specs.Outline.{IsLegalMove};
 ghost use Rattle.bk_word.specs.Play.{IsLegal, outline_of};
 ghost use Rattle.bk_word.specs.Word.{order_of};
-ghost use Rattle.bk_free_cuts.specs.LineNumbers.{left_end, lefts_of, right_end, sides_at, sides_of};
+ghost use Rattle.bk_free_cuts.specs.LineNumbers.{left_end, lefts_of, right_end, sides_of};
 ghost use Rattle.bk_free_search.specs.BoardOutlines.{IsBoardOutline};
-ghost use Rattle.bk_free_search.specs.Joining.{TouchOneNode};
+ghost use Rattle.bk_free_search.specs.Joining.{TouchOneOf};
+ghost use Rattle.bk_free_search.specs.Lefts.{IsLeftOfOne};
+ghost use Rattle.bk_free_search.specs.NodeLines.{Has};
 ghost use Rattle.bk_normal_cuts.specs.WordNumbers.{counts_of_word, first_count};
-ghost use Rattle.bk_free_search.specs.Rights.{rights_of};
+ghost use Rattle.bk_free_search.specs.Rights.{IsRightOfOne, rights_of};
 ghost use Rattle.bk_free_search.specs.SeenCounts.{seen_counts};
 
 use crate::counts::Counts;
 use crate::line_set::LineSet;
-use crate::node_lines::{has_both, node_lines};
-use crate::sides::{left_of, left_of_first, push_lefts, push_rights, right_of, right_of_last};
+use crate::node_lines::{has_pair, node_lines};
+use crate::sides::{
+    left_of_first, lines_left_of, lines_right_of, push_lefts, push_rights, right_of_last,
+};
 use bk_short::Short;
 use bk_skel::{SmallMove, SmallOutline, SmallSkel};
 use bk_word::INLINE_ORDER;
@@ -145,42 +149,41 @@ impl Board {
         }
     }
 
-    /// The line at the left of the square of this number, from 1.
-    pub(crate) fn left_of(&self, square: u8) -> u8
-        ensures { result ≡ (sides_at (sides_of self.now) square).0 }
+    /// The lines at the left of the squares of these numbers, from 1.
+    pub(crate) fn lines_left_of(&self, squares: &[u8]) -> LineSet
+        ensures { (line : ℕ) → Has result line → IsLeftOfOne (lefts_of self.now) squares.now line }
     {
-        left_of(self.lefts.as_slice(), square)
+        lines_left_of(self.lefts.as_slice(), squares)
     }
 
-    /// The line at the right of the square of this number, from 1.
-    pub(crate) fn right_of(&self, square: u8) -> u8
-        ensures { result ≡ (sides_at (sides_of self.now) square).1 }
+    /// The lines at their right.
+    pub(crate) fn lines_right_of(&self, squares: &[u8]) -> LineSet
+        ensures { (line : ℕ) → Has result line → IsRightOfOne (rights_of self.now) squares.now line }
     {
-        right_of(self.rights.as_slice(), square)
+        lines_right_of(self.rights.as_slice(), squares)
     }
 
     /// The line at the left of the first of these squares: the left wall where there are none.
     pub(crate) fn left_end(&self, squares: &[u8]) -> u8
-        ensures { result ≡ left_end (sides_of self.now) squares.now }
+        ensures value { result ≡ left_end (sides_of self.now) squares.now }
+        ensures low { result < 32 }
     {
         left_of_first(self.lefts.as_slice(), squares)
     }
 
     /// The line at the right of the last of them: the right wall where there are none.
     pub(crate) fn right_end(&self, squares: &[u8]) -> u8
-        ensures { result ≡ right_end (sides_of self.now) squares.now }
+        ensures value { result ≡ right_end (sides_of self.now) squares.now }
+        ensures low { result < 32 }
     {
         right_of_last(self.rights.as_slice(), squares)
     }
 
-    /// Whether these two lines touch one closed node. The two walls don't count.
-    pub(crate) fn touch_one(&self, left: u8, right: u8) -> bool
-        ensures { IsTrue result → TouchOneNode self.now left right }
+    /// Whether a line of each set touch one closed node. The two walls don't count.
+    pub(crate) fn touch_one(&self, lefts: LineSet, rights: LineSet) -> bool
+        ensures { IsTrue result → TouchOneOf self.now lefts rights }
     {
-        if left == 0 && right == 1 {
-            return false;
-        }
-        has_both(self.nodes.as_slice(), left, right)
+        has_pair(self.nodes.as_slice(), lefts, rights)
     }
 
     /// Plays a move, which must be legal, with at most 16 squares then.
@@ -199,6 +202,8 @@ impl Board {
             self.lefts.as_slice(),
             self.rights.as_slice(),
             squares,
+            first,
+            last,
             behind,
             m.count,
         );

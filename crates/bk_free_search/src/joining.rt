@@ -7,11 +7,12 @@ ghost use Rattle.bk_word.specs.Outline.{IsLegalMove, valley_place};
 ghost use Rattle.bk_word.specs.Play.{IsLegal, outline_of, parts};
 ghost use Rattle.bk_free_cuts.specs.NodeCut.{ShareANode};
 ghost use Rattle.bk_net_word.specs.NetWord.{IsNetBarren};
-ghost use Rattle.bk_free_search.specs.Joining.{JoinsLeft, JoinsRight, ShareBefore, ShareBehind};
+ghost use Rattle.bk_free_search.specs.Joining.{JoinsLeft, JoinsRight};
+ghost use Rattle.bk_free_search.specs.Valleys.{IsValley};
 
 use crate::board::Board;
-use crate::top_lines::squares_in;
-use bk_bound_counts::first_above;
+use crate::line_set::{no_line, with_line};
+use crate::valleys::{Valley, find_valley};
 use bk_skel::{SmallMove, SmallSkel};
 use bk_word::Sign;
 
@@ -55,77 +56,42 @@ pub(crate) fn joins_parted(board: &Board, m: &SmallMove) -> bool
     ensures { IsTrue result → ShareANode (board.now ++ m.now ∷ []) }
 {
     let skel = board.skel();
-    let place = first_above(skel.signs());
-    let earlier = joined_left(skel, m, place);
-    let later = joined_right(skel, m, place);
+    let ends = skel.ends();
+    let valley = find_valley(skel);
+    let earlier = joined_left(skel, &valley, m);
+    let later = joined_right(skel, &valley, m);
     if earlier.is_empty() && later.is_empty() {
         return false;
     }
-    let valley = skel.valley_squares();
-    share_before(board, earlier, board.right_end(valley))
-        || share_behind(board, board.left_end(valley), earlier, later)
+    let lefts = board.lines_left_of(earlier);
+    let rights = board.lines_right_of(later);
+    let squares = &ends[valley.start..valley.end];
+    board.touch_one(lefts, with_line(rights, board.right_end(squares)))
+        || board.touch_one(with_line(no_line(), board.left_end(squares)), rights)
 }
 
-// The squares of the segment at the left of the valley at this place, where the move joins its square with them; else none.
-fn joined_left<'a>(skel: &'a SmallSkel, m: &SmallMove, place: usize) -> &'a [u8]
+// The squares of the segment at the left of the valley, where the move joins its square with them; else none.
+fn joined_left<'a>(skel: &'a SmallSkel, valley: &Valley, m: &SmallMove) -> &'a [u8]
     requires word { IsLegal skel.now }
-    requires place { place ≡ valley_place (outline_of skel.now).signs }
-    requires within { place ≤ length (outline_of skel.now).signs }
+    requires valley { IsValley skel.now valley.now }
     ensures { JoinsLeft (outline_of skel.now) m.now result.now }
 {
-    if place == 0 || m.signs.as_slice().first() != Some(&Sign::Even) {
+    if valley.place == 0 || m.signs.as_slice().first() != Some(&Sign::Even) {
         return &[];
     }
-    segment(skel, place - 1)
+    let many = usize::from(skel.sizes()[valley.place - 1]);
+    &skel.ends()[valley.start - many..valley.start]
 }
 
 // Those at its right, likewise.
-fn joined_right<'a>(skel: &'a SmallSkel, m: &SmallMove, place: usize) -> &'a [u8]
+fn joined_right<'a>(skel: &'a SmallSkel, valley: &Valley, m: &SmallMove) -> &'a [u8]
     requires word { IsLegal skel.now }
-    requires place { place ≡ valley_place (outline_of skel.now).signs }
-    requires within { place ≤ length (outline_of skel.now).signs }
+    requires valley { IsValley skel.now valley.now }
     ensures { JoinsRight (outline_of skel.now) m.now result.now }
 {
-    if place == skel.signs().len() || m.signs.as_slice().last() != Some(&Sign::Even) {
+    if valley.place == skel.signs().len() || m.signs.as_slice().last() != Some(&Sign::Even) {
         return &[];
     }
-    segment(skel, place + 1)
-}
-
-// The squares of the open segment at a place.
-fn segment(skel: &SmallSkel, place: usize) -> &[u8]
-    requires word { IsLegal skel.now }
-    requires within { place < length (outline_of skel.now).segments }
-    ensures { slice_get (outline_of skel.now).segments place ≡ Some result.now }
-{
-    let ends = skel.ends();
-    let sizes = skel.sizes();
-    let start = squares_in(&sizes[..place]);
-    let end = start + usize::from(sizes[place]);
-    &ends[start..end]
-}
-
-// Whether the line at the left of one of these squares and this line touch one closed node.
-fn share_before(board: &Board, squares: &[u8], right: u8) -> bool
-    ensures { IsTrue result → ShareBefore board.now squares.now right }
-{
-    'squares: for square in squares {
-        if board.touch_one(board.left_of(*square), right) {
-            return true;
-        }
-    }
-    false
-}
-
-// Whether the line at the right of one of the later squares does so, with this line or with that at the left of one of the earlier.
-fn share_behind(board: &Board, left: u8, earlier: &[u8], later: &[u8]) -> bool
-    ensures { IsTrue result → ShareBehind board.now left earlier.now later.now }
-{
-    'later: for square in later {
-        let right = board.right_of(*square);
-        if board.touch_one(left, right) || share_before(board, earlier, right) {
-            return true;
-        }
-    }
-    false
+    let many = usize::from(skel.sizes()[valley.place + 1]);
+    &skel.ends()[valley.end..valley.end + many]
 }

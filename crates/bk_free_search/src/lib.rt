@@ -19,6 +19,7 @@ mod sides;
 mod state;
 mod strong;
 mod top_lines;
+mod valleys;
 
 pub use board::Board;
 pub use counts::Counts;

@@ -11,12 +11,12 @@ ghost use Rattle.bk_normal_cuts.specs.WordNumbers.{first_count};
 ghost use Rattle.bk_free_search.specs.Apart.{marks_of_word};
 ghost use Rattle.bk_free_search.specs.Asking.{AreMarks};
 ghost use Rattle.bk_free_search.specs.NodeLines.{Has};
-ghost use Rattle.bk_free_search.specs.Strong.{is_marked_segment, marks_by_lists};
-ghost use Rattle.bk_free_search.specs.TopLines.{on_top_lines};
+ghost use Rattle.bk_free_search.specs.Strong.{AreFilled, marks_by_lists};
+ghost use Rattle.bk_free_search.specs.TopLines.{HasOneFrom, on_top_lines};
 
 use crate::board::Board;
-use crate::line_set::{LineSet, has_line, no_line, with_line};
-use crate::top_lines::is_touched;
+use crate::line_set::{LineSet, has_line, no_line, with_place};
+use crate::top_lines::places_on_lines;
 
 /// The places of marked segments of a board. (Own.)
 pub(crate) fn marks_of(board: &Board) -> LineSet
@@ -30,48 +30,38 @@ pub(crate) fn marks_of(board: &Board) -> LineSet
 // Those of segments of so many squares each, of which these are the numbers, by the left line of each square, and how many squares hang from
 // the top.
 fn marks_in(sizes: &[u8], ends: &[u8], lefts: &[u8], top: u8) -> LineSet
-    requires enough { sum sizes.now ≤ length ends.now }
-    requires few { length sizes.now ≤ 40 }
+    requires whole { sum sizes.now ≡ length ends.now }
+    requires many { length ends.now ≤ 16 }
+    requires filled { AreFilled sizes.now }
     ensures { (i : ℕ) → Has result i → slice_index_or (marks_by_lists top (on_top_lines top lefts.now) sizes.now ends.now) i false ≡ true }
 {
+    let on_lines = places_on_lines(ends, lefts, top);
     let mut marks = no_line();
     let mut start: usize = 0;
     'segments: for i in 0..sizes.len() {
-        let mark = is_marked(ends, start, sizes[i], size_at(sizes, i + 1), lefts, top);
-        marks = marked_at(marks, i, mark);
-        start += usize::from(sizes[i]);
+        let size = usize::from(sizes[i]);
+        marks = with_place(marks, i, is_marked(on_lines, start, size, top));
+        start += size;
     }
     marks
 }
 
-// The places with this one more, where it is marked.
-fn marked_at(marks: LineSet, place: usize, mark: bool) -> LineSet
-    requires { place < 40 }
-    ensures { (j : ℕ) → Has result j → ((j ≡ place) × (mark ≡ true)) ⊎ Has marks j }
+// Whether a segment of so many squares from a place on is marked, by the places of the squares at lines from the top.
+fn is_marked(on_lines: LineSet, start: usize, size: usize, top: u8) -> bool
+    requires start { start < 32 }
+    requires size { size < 31 }
+    ensures { IsTrue result → HasOneFrom on_lines start size ⊎ (top ≤ size) }
 {
-    if mark {
-        with_line(marks, place as u8)
-    } else {
-        marks
-    }
+    has_one(on_lines, start, size) || usize::from(top) <= size
 }
 
-// How many squares the segment at a place has, none where there is none.
-fn size_at(sizes: &[u8], place: usize) -> u8
-    ensures { result ≡ slice_index_or sizes.now place 0 }
+// Whether one of so many places from one on is among these, or the one behind them.
+fn has_one(places: LineSet, start: usize, many: usize) -> bool
+    requires start { start < 32 }
+    requires many { many < 31 }
+    ensures { IsTrue result → HasOneFrom places start many }
 {
-    match sizes.get(place) {
-        Some(size) => *size,
-        None => 0,
-    }
-}
-
-// Whether the segment of so many of the squares from a place on is marked, in front of a segment of as many as is said next.
-fn is_marked(ends: &[u8], start: usize, size: u8, next: u8, lefts: &[u8], first: u8) -> bool
-    requires { start + size + next ≤ length ends.now }
-    ensures { result ≡ is_marked_segment first (on_top_lines first lefts.now) ends.now start size next }
-{
-    is_touched(ends, start, size, next, lefts, first) || first <= size
+    (places.bits >> start) & ((1 << (many + 1)) - 1) != 0
 }
 
 /// Whether a line from the top stands at the left of the valley.

@@ -1,11 +1,13 @@
 //! The lines at the sides of squares, by numbers: 0 is the left wall, 1 the right one, and k + 2 the line between the square at
 //! place k, in the order of hanging from 0, and the next of its move.
 
-ghost use Rattle.std.specs.Prelude.{[], length, slice_index_or, ◌++◌, ◌+◌, ◌-◌, ◌<◌, ◌∷◌, ◌≡◌, ◌≤◌};
+ghost use Rattle.std.specs.Prelude.{[], length, slice_index_or, ℕ, ◌++◌, ◌+◌, ◌-◌, ◌<◌, ◌∷◌, ◌≡◌, ◌≤◌};
 ghost use Rattle.bk_word.specs.Play.{numbers_from};
-ghost use Rattle.bk_free_search.specs.Lefts.{first_left};
-ghost use Rattle.bk_free_search.specs.Rights.{last_right};
+ghost use Rattle.bk_free_search.specs.Lefts.{IsLeftOfOne, first_left};
+ghost use Rattle.bk_free_search.specs.NodeLines.{AreLow, Has};
+ghost use Rattle.bk_free_search.specs.Rights.{IsRightOfOne, last_right};
 
+use crate::line_set::{LineSet, no_line, with_line};
 use bk_short::Short;
 use bk_word::INLINE_ORDER;
 
@@ -47,6 +49,30 @@ pub(crate) fn right_of(rights: &[u8], square: u8) -> u8
         Some(right) => *right,
         None => 1,
     }
+}
+
+/// The lines at the left of the squares of these numbers.
+pub(crate) fn lines_left_of(lefts: &[u8], squares: &[u8]) -> LineSet
+    requires { AreLow lefts.now }
+    ensures { (line : ℕ) → Has result line → IsLeftOfOne lefts.now squares.now line }
+{
+    let mut lines = no_line();
+    'squares: for square in squares {
+        lines = with_line(lines, left_of(lefts, *square));
+    }
+    lines
+}
+
+/// Those at their right.
+pub(crate) fn lines_right_of(rights: &[u8], squares: &[u8]) -> LineSet
+    requires { AreLow rights.now }
+    ensures { (line : ℕ) → Has result line → IsRightOfOne rights.now squares.now line }
+{
+    let mut lines = no_line();
+    'squares: for square in squares {
+        lines = with_line(lines, right_of(rights, *square));
+    }
+    lines
 }
 
 /// Appends the left lines of a move's squares, of which the first stands at a line, where so many squares were hung before.

@@ -1,10 +1,12 @@
 //! The segments that lines touch which run from the top between squares of the first move.
 
-ghost use Rattle.std.specs.List.{list_any, sum};
-ghost use Rattle.std.specs.Prelude.{drop, length, take, ◌||◌, ◌+◌, ◌<◌, ◌^◌, ◌≡◌, ◌≤◌};
-ghost use Rattle.bk_bounds.specs.VerticalCut.{begins_on_line, on_line};
+ghost use Rattle.std.specs.List.{sum};
+ghost use Rattle.std.specs.Prelude.{length, slice_index_or, true, ℕ, ◌<◌, ◌^◌, ◌≡◌, ◌≤◌};
+ghost use Rattle.bk_bounds.specs.VerticalCut.{on_line};
+ghost use Rattle.bk_free_search.specs.NodeLines.{Has};
 ghost use Rattle.bk_free_search.specs.TopLines.{is_top_line, on_top_lines};
 
+use crate::line_set::{LineSet, no_line, with_place};
 use crate::sides::left_of;
 
 /// How many squares segments of these sizes have.
@@ -19,40 +21,16 @@ pub(crate) fn squares_in(sizes: &[u8]) -> usize
     squares
 }
 
-/// Whether a line from the top bounds that segment or ended on it. (Own.)
-pub(crate) fn is_touched(
-    ends: &[u8],
-    start: usize,
-    size: u8,
-    next: u8,
-    lefts: &[u8],
-    first: u8,
-) -> bool
-    requires { start + size + next ≤ length ends.now }
-    ensures { result ≡ (list_any (on_line (on_top_lines first lefts.now)) (take size (drop start ends.now))
-        || begins_on_line (on_top_lines first lefts.now) (take next (drop (start + size) ends.now))) }
+/// The places of those of these squares whose left edges lie on lines from the top, between two squares of a first move of so many. (Own.)
+pub(crate) fn places_on_lines(ends: &[u8], lefts: &[u8], first: u8) -> LineSet
+    requires few { length ends.now ≤ 16 }
+    ensures { (j : ℕ) → Has result j → (j < length ends.now) × (on_line (on_top_lines first lefts.now) (slice_index_or ends.now j 0) ≡ true) }
 {
-    let end = start + usize::from(size);
-    let segment = &ends[start..end];
-    let behind = &ends[end..end + usize::from(next)];
-    is_line_in(segment, lefts, first) || begins_on_line(behind, lefts, first)
-}
-
-// Whether the left edge of one of these squares lies on a line from the top.
-fn is_line_in(segment: &[u8], lefts: &[u8], first: u8) -> bool
-    ensures { result ≡ list_any (on_line (on_top_lines first lefts.now)) segment.now }
-{
-    segment.iter().any(|square| on_line(lefts, first, *square))
-}
-
-// Whether the left edge of the segment of these squares lies on a line from the top.
-fn begins_on_line(segment: &[u8], lefts: &[u8], first: u8) -> bool
-    ensures { result ≡ begins_on_line (on_top_lines first lefts.now) segment.now }
-{
-    match segment.first() {
-        Some(square) => on_line(lefts, first, *square),
-        None => false,
+    let mut places = no_line();
+    'ends: for place in 0..ends.len() {
+        places = with_place(places, place, on_line(lefts, first, ends[place]));
     }
+    places
 }
 
 // Whether the left edge of the square of this number, from 1, lies on a line from the top.

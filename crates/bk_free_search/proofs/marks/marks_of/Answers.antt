@@ -1,32 +1,36 @@
 use Rattle.std.specs.List.{concat, sum}
-use Rattle.std.proofs.Common.{ap, arith, false, length, slice_index_or, subst, sym, ◌∙◌, ◌≡◌}
-use Rattle.bk_word.specs.Outline.{sizes_of}
+use Rattle.std.proofs.Common.{List, ap, arith, false, length, slice_index_or, subst, sym, ℕ, ◌∙◌, ◌≡◌}
+use Rattle.bk_word.specs.Outline.{sizes_of, start}
 use Rattle.bk_word.specs.Play.{IsLegal, outline_of}
 use Rattle.bk_word.specs.Word.{Word, order_of}
 use Rattle.bk_skel.proofs.TurnParts.{sum_lengths}
-use Rattle.bk_bounds.proofs.BoundsOfWords.{sizes_long}
+use Rattle.bk_word_net.proofs.Shape.{hung_many}
+use Rattle.bk_bounds.proofs.BoundsOfWords.{shape_of_word}
 use Rattle.bk_bounds.specs.VerticalCut.{edges_on_lines}
 use Rattle.bk_normal_cuts.specs.WordNumbers.{first_count}
-use Rattle.bk_free_search.proofs.Cutting.{few_signs_open}
-use Rattle.bk_free_search.proofs.OpenMarks.{marks_again}
+use Rattle.bk_free_search.proofs.OpenMarks.{filled_sizes, marks_again}
 use Rattle.bk_free_search.proofs.TopLineMarks.{marks_of_lefts}
-use Rattle.bk_free_search.specs.Strong.{marks_by_lists}
+use Rattle.bk_free_search.specs.Strong.{AreFilled, marks_by_lists}
 use Rattle.bk_free_search.specs.TopLines.{on_top_lines}
 use Rattle.bk_free_search.proofs.marks.marks_of.Goals as goal
 
-pub marks_in-requires-clause-enough : goal.marks_in-requires-clause-enough
-marks_in-requires-clause-enough c =
+pub marks_in-requires-clause-whole : goal.marks_in-requires-clause-whole
+marks_in-requires-clause-whole c =
     omega (arith, sum_lengths (outline_of c.skel-skel.result.now).segments, ap sum c.sizes.ensures, ap length c.ends.ensures)
 
-pub marks_in-requires-clause-few : goal.marks_in-requires-clause-few
-marks_in-requires-clause-few c = omega (
+pub marks_in-requires-clause-many : goal.marks_in-requires-clause-many
+marks_in-requires-clause-many c = omega (
   arith,
   c.requires,
-  ap length c.sizes.ensures,
-  sizes_long c.skel-skel.result.now c.skel-skel.ensures.legal,
-  few_signs_open c.skel-skel.result.now c.skel-skel.ensures.legal,
+  ap length c.ends.ensures,
+  (shape_of_word c.skel-skel.result.now c.skel-skel.ensures.legal).counted,
+  hung_many start c.skel-skel.result.now,
   ap order_of c.skel-skel.ensures.value,
 )
+
+pub marks_in-requires-clause-filled : goal.marks_in-requires-clause-filled
+marks_in-requires-clause-filled c = subst (λ (sizes : List ℕ). AreFilled sizes) (sym c.sizes.ensures)
+    (filled_sizes (outline_of c.skel-skel.result.now).segments (shape_of_word c.skel-skel.result.now c.skel-skel.ensures.legal).filled)
 
 pub returns : goal.returns
 returns c i has =

@@ -7,7 +7,9 @@ use Rattle.bk_free_search.specs.Lefts.{first_left}
 use Rattle.bk_free_search.specs.Rights.{last_right}
 use Rattle.bk_free_search.proofs.BoardMoves.{beside_same, board_more}
 use Rattle.bk_free_search.proofs.LeftLines.{left_count}
+use Rattle.bk_free_search.proofs.LowLines.{low_lefts_then, low_rights_then}
 use Rattle.bk_free_search.proofs.RightLines.{as_many_rights}
+use Rattle.bk_free_search.proofs.LinesBeside.{stand_between}
 use Rattle.bk_free_search.proofs.WordCounts.{few_left, few_right}
 use Rattle.bk_free_search.proofs.board.Board.push.Goals as goal
 
@@ -91,3 +93,27 @@ at_wall_after-self-inside-requires c = omega (arith, c.self.invariant.left_is, f
 
 pub at_wall_after-self-inside-requires-2 : goal.at_wall_after-self-inside-requires-2
 at_wall_after-self-inside-requires-2 c = omega (arith, c.self.invariant.right_is, few_right c.self.inside.skel, ap order_of c.self.view_is, c.requires.few)
+
+pub node_lines-lines-requires-clause-lefts : goal.node_lines-lines-requires-clause-lefts
+node_lines-lines-requires-clause-lefts c = low_lefts_then c.self.inside.skel c.args.m.now c.self.inside.lefts.items c.as_slice-3.result.now
+    c.left_of_first-first.result c.m.inside.count c.order-behind.result c.self.invariant.left_word
+    (subst (λ (v : Word). IsLegalMove (outline_of v) c.args.m.now) (sym c.self.view_is) c.requires.legal)
+    (omega (arith, c.requires.few, ap order_of c.self.view_is))
+    (c.left_of_first-first.ensures ∙ (λ i. first_left (c.as_slice.ensures.items i) (c.valley_squares-squares.ensures i)))
+    (ap (λ (m : Move). m.count) c.m.view_is) c.order-behind.ensures.value (c.as_slice-3.ensures.items ∙ c.push_lefts.ensures)
+
+pub node_lines-lines-requires-clause-rights : goal.node_lines-lines-requires-clause-rights
+node_lines-lines-requires-clause-rights c = low_rights_then c.self.inside.skel c.args.m.now c.self.inside.rights.items c.as_slice-4.result.now
+    c.right_of_last-last.result c.m.inside.count c.order-behind.result c.self.invariant.rights_are
+    (subst (λ (v : Word). IsLegalMove (outline_of v) c.args.m.now) (sym c.self.view_is) c.requires.legal)
+    (omega (arith, c.requires.few, ap order_of c.self.view_is))
+    (c.right_of_last-last.ensures ∙ (λ i. last_right (c.as_slice-2.ensures.items i) (c.valley_squares-squares.ensures i)))
+    (ap (λ (m : Move). m.count) c.m.view_is) c.order-behind.ensures.value (c.as_slice-4.ensures.items ∙ c.push_rights.ensures)
+
+pub node_lines-lines-requires-clause-between : goal.node_lines-lines-requires-clause-between
+node_lines-lines-requires-clause-between c = stand_between c.self.inside.lefts.items c.self.inside.rights.items c.as_slice-3.result.now
+    c.as_slice-4.result.now c.order-behind.result c.m.inside.count c.left_of_first-first.result c.right_of_last-last.result
+    (omega (arith, c.requires.legal.some, ap (λ (m : Move). m.count) c.m.view_is))
+    (left_count c.self.inside.skel c.self.inside.lefts.items c.self.invariant.left_word ∙ sym c.order-behind.ensures.value)
+    (ap (λ (l : List ℕ). length l) c.self.invariant.rights_are ∙ as_many_rights c.self.inside.skel ∙ sym c.order-behind.ensures.value)
+    (c.as_slice-3.ensures.items ∙ c.push_lefts.ensures) (c.as_slice-4.ensures.items ∙ c.push_rights.ensures)

@@ -1,0 +1,88 @@
+-- The leftmost valley by its places, and the segments beside it.
+use Rattle.std.specs.List.{concat, sum}
+use Rattle.std.proofs.Common.{List, Some, [], ap, arith, drop, length, refl, slice_get, slice_index_or, suc, sym, take, zero, ℕ, ◌+◌, ◌-◌, ◌<◌, ◌∙◌, ◌∷◌, ◌≡◌, ◌≤◌}
+use Rattle.std.proofs.lemmas.List.{length-map}
+use Rattle.std.proofs.lemmas.Option.{get_or_from_slice_get}
+use Rattle.bk_word.proofs.PlayLists.{place_within}
+use Rattle.bk_word.specs.Outline.{sizes_of, valley_of, valley_place}
+use Rattle.bk_word.specs.Play.{IsLegal, outline_of}
+use Rattle.bk_word.specs.Word.{Word}
+use Rattle.bk_skel.proofs.TurnParts.{sum_lengths}
+use Rattle.bk_bounds.proofs.BoundsOfWords.{sizes_long}
+use Rattle.bk_bounds.proofs.LineCounting.{sum-cons}
+use Rattle.bk_free_search.proofs.OpenSegments.{segment_read, segment_within}
+use Rattle.bk_free_search.specs.Valleys.{IsValley}
+use Rattle.bk_free_search.specs.declared.valleys.Valley.{Valley}
+
+-- the sizes up to a place, and the next one
+sum_more : (sizes : List ℕ) (i : ℕ) → i < length sizes → sum (take (i + 1) sizes) ≡ sum (take i sizes) + slice_index_or sizes i 0
+sum_more [] i h = absurd (omega (arith, h))
+sum_more (n ∷ sizes) zero h = omega (arith, sum-cons n [])
+sum_more (n ∷ sizes) (suc i) h =
+    let e : suc i + 1 ≡ suc (i + 1) = omega arith in
+    let again : n + (sum (take i sizes) + slice_index_or sizes i 0) ≡ n + sum (take i sizes) + slice_index_or sizes i 0 = omega arith in
+    ap (λ k. sum (take k (n ∷ sizes))) e ∙ sum-cons n (take (i + 1) sizes) ∙ ap (λ k. n + k) (sum_more sizes i (omega (arith, h)))
+    ∙ again ∙ ap (λ k. k + slice_index_or sizes i 0) (sym (sum-cons n (take i sizes)))
+
+module _ (w : Word) (legal : IsLegal w) (sizes ends : List ℕ) (s : sizes ≡ sizes_of (outline_of w)) (e : ends ≡ concat (outline_of w).segments)
+    (v : Valley) (is : IsValley w v) where
+  pub place_low : v.place < length sizes
+  place_low = omega (arith, is.place_is, place_within (outline_of w).signs, sizes_long w legal, ap length s)
+
+  start_sum : v.start ≡ sum (take v.place sizes)
+  start_sum = is.start_is ∙ ap (λ l. sum (take v.place l)) (sym s)
+
+  end_sum : v.end ≡ v.start + slice_index_or sizes v.place 0
+  end_sum = is.end_is ∙ ap (λ l. v.start + slice_index_or l v.place 0) (sym s)
+
+  pub ends_within : v.end ≤ length ends
+  ends_within = omega (
+    arith,
+    segment_within sizes v.place place_low,
+    start_sum,
+    end_sum,
+    sum_lengths (outline_of w).segments,
+    ap sum s,
+    ap length e,
+  )
+
+  -- the valley's squares
+  pub valley_read : take (v.end - v.start) (drop v.start ends) ≡ valley_of (outline_of w)
+  valley_read = ap (λ k. take k (drop v.start ends)) (ap (λ k. k - v.start) end_sum)
+      ∙ sym (get_or_from_slice_get (outline_of w).segments v.place (take (v.start + slice_index_or sizes v.place 0 - v.start) (drop v.start ends)) []
+      (segment_read w sizes ends v.place v.start (slice_index_or sizes v.place 0) s e place_low start_sum refl))
+      ∙ ap (λ k. slice_index_or (outline_of w).segments k []) is.place_is
+
+  -- those of the segment at its left
+  pub left_fits : 0 < v.place → slice_index_or sizes (v.place - 1) 0 ≤ v.start
+  left_fits some = let one : v.place - 1 + 1 ≡ v.place = omega (arith, some) in
+      omega (arith, start_sum, sum_more sizes (v.place - 1) (omega (arith, place_low)), ap (λ k. sum (take k sizes)) one)
+
+  pub left_read : 0 < v.place → slice_get (outline_of w).segments (valley_place (outline_of w).signs - 1)
+      ≡ Some (take (v.start - (v.start - slice_index_or sizes (v.place - 1) 0)) (drop (v.start - slice_index_or sizes (v.place - 1) 0) ends))
+  left_read some = let one : v.place - 1 + 1 ≡ v.place = omega (arith, some) in
+      let many : ℕ = slice_index_or sizes (v.place - 1) 0 in
+      let long : v.start - many + many - (v.start - many) ≡ v.start - (v.start - many) = omega (arith, left_fits some) in
+      ap (λ k. slice_get (outline_of w).segments (k - 1)) (sym is.place_is)
+      ∙ segment_read w sizes ends (v.place - 1) (v.start - many) many s e (omega (arith, place_low))
+      (omega (arith, start_sum, sum_more sizes (v.place - 1) (omega (arith, place_low)), ap (λ k. sum (take k sizes)) one)) refl
+      ∙ ap (λ k. Some (take k (drop (v.start - many) ends))) long
+
+  -- and at its right
+  pub right_fits : v.place + 1 < length sizes → v.end + slice_index_or sizes (v.place + 1) 0 ≤ length ends
+  right_fits more = omega (
+    arith,
+    segment_within sizes (v.place + 1) more,
+    sum_more sizes v.place place_low,
+    start_sum,
+    end_sum,
+    sum_lengths (outline_of w).segments,
+    ap sum s,
+    ap length e,
+  )
+
+  pub right_read : v.place + 1 < length sizes → slice_get (outline_of w).segments (valley_place (outline_of w).signs + 1)
+      ≡ Some (take (v.end + slice_index_or sizes (v.place + 1) 0 - v.end) (drop v.end ends))
+  right_read more = ap (λ k. slice_get (outline_of w).segments (k + 1)) (sym is.place_is)
+      ∙ segment_read w sizes ends (v.place + 1) v.end (slice_index_or sizes (v.place + 1) 0) s e more
+      (omega (arith, sum_more sizes v.place place_low, start_sum, end_sum)) refl

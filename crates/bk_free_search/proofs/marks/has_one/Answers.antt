@@ -1,0 +1,15 @@
+use Rattle.std.proofs.Common.{IsTrue, arith, nat_eq, not, rules, subst, ℕ, ◌<◌, ◌^◌}
+use Rattle.bk_free_search.proofs.LineSets.{one_from}
+use Rattle.bk_free_search.proofs.marks.has_one.Goals as goal
+
+some : (x : ℕ) → IsTrue (not (nat_eq x 0)) → 0 < x
+some x told = cases x told
+  where
+    cases : (x : ℕ) → IsTrue (not (nat_eq x 0)) → 0 < x
+    cases x told = grind arith
+
+pub returns : goal.returns
+returns c told =
+    let below : c.args.places.bits < 2 ^ 32 = search rules in
+    let one = one_from c.args.places.bits c.args.start c.args.many below c.requires.many (some _ told) in
+    record { more = one.0; few = one.1; has = one.2 }

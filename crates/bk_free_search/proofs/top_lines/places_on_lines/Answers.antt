@@ -1,0 +1,11 @@
+use Rattle.std.proofs.Common.{Bool, List, ap, arith, inl, inr, slice_index_or, subst, sym, true, ◌∙◌}
+use Rattle.bk_free_search.proofs.top_lines.places_on_lines.Goals as goal
+
+pub ends-init : goal.ends-init
+ends-init c = λ j has. absurd (c.no_line-places.ensures j has)
+
+pub with_place-places-requires : goal.with_place-places-requires
+with_place-places-requires c = omega (arith, c.ends-test.true, c.requires)
+
+pub returns : goal.returns
+returns c = c.ends.invariant
