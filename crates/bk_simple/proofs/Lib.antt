@@ -14,3 +14,5 @@ pub mod Seams
 pub mod Repeats
 pub mod OneFirst
 pub mod DifferentNumbers
+pub mod SideWalks
+pub mod ProperParts

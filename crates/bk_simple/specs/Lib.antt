@@ -6,3 +6,4 @@ pub mod Border
 pub mod Corners
 pub mod Neighbours
 pub mod Reach
+pub mod LargeParts

@@ -3,15 +3,16 @@
 
 ghost use Rattle.std.specs.List.{All};
 ghost use Rattle.std.specs.List.Sorted.{IsNonDecreasing, IsPermutation};
-ghost use Rattle.std.specs.Prelude.{AllPairs, IfNone, IfSome, IsNone, IsSome, IsTrue, count_by, length, nat_le, ◌&&◌, ◌+◌, ◌<◌, ◌^◌, ◌||◌, ◌↔◌, ◌≡◌, ◌≢◌, ◌≤◌, ◌⊎◌};
+ghost use Rattle.std.specs.Prelude.{AllPairs, IfNone, IfSome, IsNone, IsSome, IsTrue, count_by, false, length, nat_le, ◌&&◌, ◌+◌, ◌<◌, ◌^◌, ◌||◌, ◌↔◌, ◌≡◌, ◌≢◌, ◌≤◌, ◌⊎◌};
 ghost use Rattle.bk_simple.specs.Border.{IsUncut, is_inside, is_outside, rectangle_of};
 ghost use Rattle.bk_simple.specs.FirstLaws.{AFirstPartIsOne, ALeastRepeatedSideIsOne};
 ghost use Rattle.bk_simple.specs.Neighbours.{IsFirstTwice, NoneTwice};
 ghost use Rattle.bk_simple.specs.Simple.{IsFirstPart, IsLeastRepeated, IsPart, IsPerfect, IsSimple, top_left};
 ghost use Rattle.bk_simple.specs.Corners.{IsFirstPartFrom, IsHeldBetween, IsPartAt};
+ghost use Rattle.bk_simple.specs.LargeParts.{HasNoLargePart, HasNoneUnder, HasNoneWider};
 ghost use Rattle.bk_simple.specs.Reach.{NoneHigher, NoneWider, square_of};
 ghost use Rattle.bk_tiling.specs.Sharing.{EdgesFit};
-ghost use Rattle.bk_tiling.specs.Tiling.{Rectangle, sides_of};
+ghost use Rattle.bk_tiling.specs.Tiling.{IsTiling, Rectangle, sides_of};
 
 use arrayvec::ArrayVec;
 use bk_tiling::{MOST_SQUARES, Square, Tiling};
@@ -123,6 +124,87 @@ pub fn part(tiling: &Tiling) -> Option<SubRect>
         }
     }
     None
+}
+
+/// Whether a tiling is perfect and simple (Brooks, Smith, Stone and Tutte 1940).
+pub fn is_perfect_simple(tiling: &Tiling) -> bool
+    ensures { IsTrue result ↔ (IsPerfect tiling.now × IsSimple tiling.now) }
+{
+    is_perfect(tiling) && (has_no_large_part(tiling) || part(tiling).is_none())
+}
+
+// Whether it is quickly seen that no part is wider and higher than the square at its top left corner. A perfect tiling with a part has one
+// that is.
+fn has_no_large_part(tiling: &Tiling) -> bool
+    ensures none { IsTrue result → HasNoLargePart tiling.now }
+    ensures tiling { IsTiling tiling.now }
+{
+    for i in 0..tiling.order() {
+        if !has_none_past(tiling, i) {
+            return false;
+        }
+    }
+    true
+}
+
+// Whether this is seen of the parts that begin with the square at place i and are wider.
+fn has_none_past(tiling: &Tiling, i: usize) -> bool
+    requires { i < length tiling.now.squares }
+    ensures { IsTrue result → HasNoneWider tiling.now i }
+{
+    let squares = tiling.squares();
+    let first = squares[i];
+    let mut end = first.x + first.s;
+    for last in i + 1..squares.len() {
+        let q = squares[last];
+        if q.y != first.y || q.x != end {
+            return true;
+        }
+        end += q.s;
+        if !has_none_under(tiling, i, last) {
+            return false;
+        }
+    }
+    true
+}
+
+// Whether this is seen of the parts with the squares from place i to place last at their top: down their sides no square reaches across, and
+// no two squares end at one level.
+fn has_none_under(tiling: &Tiling, i: usize, last: usize) -> bool
+    requires places { (i < last) × (last < length tiling.now.squares) }
+    requires level { (square_of tiling.now last).y ≡ (square_of tiling.now i).y }
+    ensures { IsTrue result → HasNoneUnder tiling.now i last }
+{
+    let squares = tiling.squares();
+    let (left, right) = (squares[i].x, squares[last].x + squares[last].s);
+    let (mut left_end, mut right_end) = (
+        squares[i].y + squares[i].s,
+        squares[last].y + squares[last].s,
+    );
+    if left_end == right_end {
+        return false;
+    }
+    for k in last + 1..squares.len() {
+        let q = squares[k];
+        if crosses(q.x, q.s, left) || crosses(q.x, q.s, right) {
+            return true;
+        }
+        left_end = end_with(left_end, q, q.x == left);
+        right_end = end_with(right_end, q, q.x + q.s == right);
+        if left_end == right_end {
+            return right - left == tiling.width() && left_end - squares[i].y == tiling.height();
+        }
+    }
+    true
+}
+
+// The level where the squares at a side end, with one more square, which stands there or not.
+fn end_with(end: u64, q: Square, stands: bool) -> u64
+    requires { q.y + q.s < 2 ^ 64 }
+    ensures there { IsTrue stands → result ≡ q.y + q.s }
+    ensures elsewhere { stands ≡ false → result ≡ end }
+{
+    if stands { q.y + q.s } else { end }
 }
 
 // The first part, by its bottom right square, from the top left corner of the square at place i.
