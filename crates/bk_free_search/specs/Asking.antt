@@ -11,6 +11,7 @@ use Rattle.bk_normal_cuts.specs.NormalCuts.{IsNormalBarren}
 use Rattle.bk_free_search.specs.Apart.{AreAskedBehind, IsCountedTo, behind_marks, joined_marks, marks_of_word}
 use Rattle.bk_free_search.specs.NodeLines.{Has}
 use Rattle.bk_free_search.specs.Strong.{IsFew, seen_passed}
+use Rattle.bk_free_search.specs.Valleys.{IsValley}
 use Rattle.bk_free_search.specs.declared.asking.Asked.{Asked}
 use Rattle.bk_free_search.specs.declared.asking.Before.{Before}
 use Rattle.bk_free_search.specs.declared.asking.Beside.{Beside}
@@ -86,7 +87,8 @@ pub record AreNeeds (before : Before) (behind : Behind) (moves : ℕ) (needs : N
   pub even : NeedsLeft before.even.passed behind.even moves needs.even
   pub under : NeedsLeft before.under.passed behind.even moves needs.under
 
--- what stands beside the leftmost valley: the walls, what the segments before it and behind it ask for, and what is asked of next moves
+-- what stands beside the leftmost valley: the walls, what the segments before it and behind it ask for, what is asked of next moves, and the
+-- valley's places
 pub record StandBeside (n : ℕ) (front : Word) (b : Beside) : Type 0 where
   pub left_is : b.left_wall ≡ has_left_wall (outline_of front)
   pub right_is : b.right_wall ≡ has_right_wall (outline_of front)
@@ -96,6 +98,7 @@ pub record StandBeside (n : ℕ) (front : Word) (b : Beside) : Type 0 where
   pub moves_are : AreMovesLeft n front b.ahead.moves
   pub evens_are : AreEvensNeeded n front b.ahead.evens
   pub needs_are : AreNeeds b.before b.behind b.ahead.moves b.needs
+  pub valley_is : IsValley front b.valley
 
 -- how many signs a next move of the count has, with that at a right neighbour and without, and how many squares are left after it
 pub record IsNext (n : ℕ) (front : Word) (count : ℕ) (next : Next) : Type 0 where

@@ -1,4 +1,6 @@
 -- Where the leftmost valley of a word stands among the open segments, and its squares among all open ones.
+-- Example (JoiningExamples): after 3aa.2ue the open segments are those of the squares 4; 5, 2; 3. The second is the valley, and its squares are at the
+-- places 1 and 2.
 use Rattle.std.specs.List.{sum}
 use Rattle.std.specs.Prelude.{slice_index_or, take, ◌+◌, ◌≡◌}
 use Rattle.bk_word.specs.Outline.{sizes_of, valley_place}

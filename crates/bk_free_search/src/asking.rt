@@ -17,11 +17,12 @@ use crate::counts::one_if;
 use crate::line_set::LineSet;
 use crate::marks::{has_mark, is_left_on_line, is_wide_then, marks_of};
 use crate::strong::{Passed, in_front_of_mark, none_passed, past_one};
-use bk_bound_counts::first_above;
+use crate::valleys::{Valley, find_valley};
 use bk_skel::open_side;
 use bk_word::Sign;
 
-/// What stands beside the leftmost valley: whether the walls do, what the segments before it ask for, and those behind it, and what is ahead. (Own.)
+/// What stands beside the leftmost valley: whether the walls do, what the segments before it ask for, and those behind it, what is ahead, and
+/// where the valley is. (Own.)
 #[derive(Clone, Copy, Drop)]
 pub(crate) struct Beside {
     pub(crate) left_wall: bool,
@@ -30,6 +31,7 @@ pub(crate) struct Beside {
     pub(crate) behind: Behind,
     pub(crate) ahead: Ahead,
     pub(crate) needs: Needs,
+    pub(crate) valley: Valley,
 }
 
 /// What is asked for before the first sign of a next move, and with the sign even or under at a left neighbour. (Own.)
@@ -71,7 +73,8 @@ pub(crate) fn stand_beside(board: &Board, order: u8) -> Beside
     ensures { StandBeside order board.now result }
 {
     let signs = board.skel().signs();
-    let place = first_above(signs);
+    let valley = find_valley(board.skel());
+    let place = valley.place;
     let left_wall = place == 0;
     let right_wall = place == signs.len();
     let marks = marks_of(board);
@@ -85,6 +88,7 @@ pub(crate) fn stand_beside(board: &Board, order: u8) -> Beside
         behind,
         ahead,
         needs: needs_of(&before, &behind, ahead.moves),
+        valley,
     }
 }
 

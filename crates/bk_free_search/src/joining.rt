@@ -12,21 +12,22 @@ ghost use Rattle.bk_free_search.specs.Valleys.{IsValley};
 
 use crate::board::Board;
 use crate::line_set::{no_line, with_line};
-use crate::valleys::{Valley, find_valley};
+use crate::valleys::Valley;
 use bk_skel::{SmallMove, SmallSkel};
 use bk_word::Sign;
 
 /// Whether no word of the order goes on from the board's moves by this legal one, as it hangs one square: it leaves one segment
 /// while squares are left, or two lines at the segment that it joins share a closed node. A move of more squares joins no two
 /// segments that stand open before.
-pub(crate) fn joins_barrenly(board: &Board, m: &SmallMove, order: u8) -> bool
-    requires { IsLegalMove (outline_of board.now) m.now }
+pub(crate) fn joins_barrenly(board: &Board, valley: &Valley, m: &SmallMove, order: u8) -> bool
+    requires valley { IsValley board.now valley.now }
+    requires legal { IsLegalMove (outline_of board.now) m.now }
     ensures { IsTrue result → IsNetBarren order (board.now ++ m.now ∷ []) }
 {
     if m.count != 1 {
         return false;
     }
-    leaves_one_early(board.skel(), m, order) || joins_parted(board, m)
+    leaves_one_early(board.skel(), m, order) || joins_parted(board, valley, m)
 }
 
 // Whether a legal move of one square leaves one segment, and fewer squares hang then than the order.
@@ -50,16 +51,16 @@ fn any_parts(signs: &[Sign]) -> bool
 }
 
 // Whether, after a legal move of one square, two lines at the segment that it joins bound a part of the tiling.
-pub(crate) fn joins_parted(board: &Board, m: &SmallMove) -> bool
+pub(crate) fn joins_parted(board: &Board, valley: &Valley, m: &SmallMove) -> bool
+    requires valley { IsValley board.now valley.now }
     requires legal { IsLegalMove (outline_of board.now) m.now }
     requires one { m.now.count ≡ 1 }
     ensures { IsTrue result → ShareANode (board.now ++ m.now ∷ []) }
 {
     let skel = board.skel();
     let ends = skel.ends();
-    let valley = find_valley(skel);
-    let earlier = joined_left(skel, &valley, m);
-    let later = joined_right(skel, &valley, m);
+    let earlier = joined_left(skel, valley, m);
+    let later = joined_right(skel, valley, m);
     if earlier.is_empty() && later.is_empty() {
         return false;
     }

@@ -29,7 +29,7 @@ pub(crate) fn with_line(lines: LineSet, line: u8) -> LineSet
 }
 
 /// The set with this place more, where that holds.
-#[inline]
+#[inline(always)]
 pub(crate) fn with_place(places: LineSet, place: usize, holds: bool) -> LineSet
     requires { place < 32 }
     ensures { (j : ℕ) → Has result j → ((j ≡ place) × (holds ≡ true)) ⊎ Has places j }

@@ -9,6 +9,7 @@ ghost use Rattle.bk_word.specs.declared.Sign.TheVariants.{Even};
 ghost use Rattle.bk_normal_cuts.specs.NormalCuts.{IsNormalBarren};
 ghost use Rattle.bk_free_search.specs.Asking.{AreFewAsks, BarsSigns, IsAsked, IsBegun, StandBeside, asks_then};
 ghost use Rattle.bk_free_search.specs.Strong.{IsFew};
+ghost use Rattle.bk_free_search.specs.Valleys.{IsValley};
 ghost use Rattle.bk_free_search.specs.declared.asking.Next.{Next};
 
 use crate::all_under::ends_otherwise;
@@ -16,6 +17,7 @@ use crate::asking::{Asked, Beside, is_over};
 use crate::behind::{Asks, Behind};
 use crate::joining::joins_barrenly;
 use crate::state::{Begun, Search};
+use crate::valleys::Valley;
 use bk_skel::open_side;
 use bk_word::Sign;
 
@@ -33,14 +35,15 @@ impl Search {
     }
 
     /// Whether no word goes on by this move, which has all its signs, and after which squares are left.
-    pub(crate) fn bars_move(&self, begun: &Begun) -> bool
+    pub(crate) fn bars_move(&self, begun: &Begun, valley: &Valley) -> bool
         requires least { 3 ≤ self.now.order }
         requires most { self.now.order ≤ 16 }
         requires few { order_of self.now.board + begun.now.m.count < self.now.order }
         requires legal { IsLegalMove (outline_of self.now.board) begun.now.m }
+        requires valley { IsValley self.now.board valley.now }
         ensures { IsTrue result → IsNormalBarren self.now.order (self.now.board ++ begun.now.m ∷ []) }
     {
-        if joins_barrenly(&self.board, &begun.m, self.order) {
+        if joins_barrenly(&self.board, valley, &begun.m, self.order) {
             return true;
         }
         ends_otherwise(&self.board, &begun.m, self.order)

@@ -8,13 +8,15 @@ ghost use Rattle.bk_normal_cuts.specs.NormalImage.{IsNormalSought};
 ghost use Rattle.bk_word.specs.declared.Sign.TheVariants.{Above};
 ghost use Rattle.bk_free_search.specs.Asking.{IsAsked, IsBegun, NeedsLeft};
 ghost use Rattle.bk_free_search.specs.Sought.{GoesOn, GoesOnBy};
+ghost use Rattle.bk_free_search.specs.Valleys.{IsValley};
 
 use crate::asking::{Asked, Beside, asked_with, stand_beside};
 use crate::board::Board;
 use crate::cuts::{bars_above, least_count};
 use crate::last_square::last_move;
 use crate::questions::{asks_too_much, asks_too_much_then, lacks_even, needs_left_even};
-use crate::state::{Begun, Search, begin, not_begun, pop_sign, push_sign};
+use crate::state::{Begun, Search, begin, meet_closed, not_begun, pop_sign, push_sign};
+use crate::valleys::Valley;
 use bk_word::Sign;
 
 /// What is done with the complete words that a search meets.
@@ -403,7 +405,7 @@ impl Search {
         if asks_too_much_then(begun, around, asked) {
             return;
         }
-        self.with_move(begun, leaves);
+        self.with_move(begun, &around.valley, leaves);
     }
 
     // And those whose sign at a right neighbour is this.
@@ -459,42 +461,30 @@ impl Search {
         ensures next { begun.new.next ≡ begun.old.next }
     {
         push_sign(&mut begun.m, sign);
-        self.with_move(begun, leaves);
+        self.with_move(begun, &around.valley, leaves);
         pop_sign(&mut begun.m);
     }
 
     // Meets those that go on by the move, which has all its signs.
     #[cycle(search)]
-    fn with_move<S: Leaves>(&mut self, begun: &Begun, leaves: &mut S)
+    fn with_move<S: Leaves>(&mut self, begun: &Begun, valley: &Valley, leaves: &mut S)
         requires least { 3 ≤ self.old.order }
         requires most { self.old.order ≤ 16 }
         requires few { order_of self.old.board + begun.now.m.count < self.old.order }
         requires legal { IsLegalMove (outline_of self.old.board) begun.now.m }
+        requires valley { IsValley self.old.board valley.now }
         ensures all { (w : Moves) → IsNormalSought self.old.order w → GoesOn (self.old.board ++ begun.now.m ∷ []) w → S.has_met leaves.new w }
         ensures kept { (w : Moves) → S.has_met leaves.old w → S.has_met leaves.new w }
         ensures fixed { S.fixed leaves.new ≡ S.fixed leaves.old }
         ensures board { self.new.board ≡ self.old.board }
         ensures order { self.new.order ≡ self.old.order }
     {
-        if self.bars_move(begun) {
+        if self.bars_move(begun, valley) {
             return;
         }
         let before = self.board.outline();
         self.board.push(&begun.m);
         self.go_on(leaves);
         self.board.take_back(&before);
-    }
-}
-
-// Meets the word of the board, if it is complete. What that takes stands in no frame of the search, which has one for each sign.
-#[inline(never)]
-fn meet_closed<S: Leaves>(board: &Board, leaves: &mut S)
-    requires few { order_of board.now ≤ 16 }
-    ensures met { IsComplete board.now → S.has_met leaves.new board.now }
-    ensures kept { (w : Moves) → S.has_met leaves.old w → S.has_met leaves.new w }
-    ensures fixed { S.fixed leaves.new ≡ S.fixed leaves.old }
-{
-    if board.skel().is_closed() {
-        leaves.meet(board);
     }
 }

@@ -1,12 +1,14 @@
 //! What a search hands on.
 
 ghost use Rattle.std.specs.Prelude.{List, [], length, ℕ, ◌++◌, ◌-◌, ◌<◌, ◌∷◌, ◌≡◌, ◌≤◌};
+ghost use Rattle.bk_word.specs.Play.{IsComplete};
 ghost use Rattle.bk_word.specs.Word.{Word as Moves, order_of};
 ghost use Rattle.bk_word.specs.declared.Sign.{Sign as SeenSign};
 ghost use Rattle.bk_free_search.specs.Asking.{IsNext, StandBeside};
 
 use crate::asking::{Beside, Next, next_of};
 use crate::board::Board;
+use crate::searching::Leaves;
 use bk_short::Short;
 use bk_skel::SmallMove;
 use bk_word::Sign;
@@ -69,4 +71,17 @@ pub(crate) fn pop_sign(m: &mut SmallMove)
     ensures signs { (signs : List SeenSign) (sign : SeenSign) → m.old.signs ≡ signs ++ sign ∷ [] → m.new.signs ≡ signs }
 {
     m.signs.truncate(m.signs.len().saturating_sub(1));
+}
+
+/// Meets the word of the board, if it is complete. What that takes stands in no frame of the search, which has one for each sign.
+#[inline(never)]
+pub(crate) fn meet_closed<S: Leaves>(board: &Board, leaves: &mut S)
+    requires few { order_of board.now ≤ 16 }
+    ensures met { IsComplete board.now → S.has_met leaves.new board.now }
+    ensures kept { (w : Moves) → S.has_met leaves.old w → S.has_met leaves.new w }
+    ensures fixed { S.fixed leaves.new ≡ S.fixed leaves.old }
+{
+    if board.skel().is_closed() {
+        leaves.meet(board);
+    }
 }

@@ -1,4 +1,4 @@
-//! Where the leftmost valley stands.
+//! Where the leftmost valley stands, which is found once for the moves that are tried there.
 
 ghost use Rattle.std.specs.List.{sum};
 ghost use Rattle.std.specs.Prelude.{◌<◌, ◌^◌};
