@@ -8,7 +8,7 @@ crates/bk_form_cuts/src/tracing.rt is another, the body of `follows`, which then
     self.marks.len() == skel.moves() && skel.order() + usize::from(m.count) <= FOLLOWED
     false && self.marks.len() == skel.moves() && skel.order() + usize::from(m.count) <= FOLLOWED
 
-From 2,048 pushes on the search asks a table of members too, so at orders 10 to 13 the pushes are those with the table.
+The searches make no table of members.
 
     bench/equations.py CLONE/crates/bk_pushes/out/bk_pushes WITHOUT/crates/bk_pushes/out/bk_pushes
 """

@@ -1,11 +1,11 @@
-//! How many moves the search for a whole catalogue pushes, for the figures of `bench/`: a line for each order among the words
-//! of the command line, in the class perfect. Words that are no order from 2 to 16 are passed over.
+//! How many moves the search for a whole catalogue pushes that makes no table of members, for the figures of `bench/`: a line for each
+//! order among the words of the command line, in the class perfect. Words that are no order from 2 to 16 are passed over.
 #![tactic(auto)]
 
 ghost use Rattle.std.specs.Prelude.{◌<◌, ◌≡◌, ◌≤◌};
 
 use bk_skel::Steps;
-use bk_walk::Walk;
+use bk_walk::UntabledWalk;
 use bk_word::{Class, INLINE_ORDER};
 use std::alloc::Global;
 use std::marker::Brand;
@@ -45,7 +45,7 @@ fn walked<L: Ledger>(alloc: Global, order: u8, blank: Blank) -> (u64, u64)
     requires some { 0 < L.parts }
 {
     let mut steps = Steps::<L>::new(blank);
-    let mut walk = Walk::new(alloc, order, Class::Perfect, None);
+    let mut walk = UntabledWalk::new(alloc, order, Class::Perfect, None);
     for members in 0..MOST_MEMBERS {
         match walk.advance(&mut steps) {
             Some(Ok(_)) => {}

@@ -10,12 +10,11 @@ use bk_word::Class;
 /// So many members make a table worth its room: all of order 16.
 pub const MOST_MEMBERS: usize = 10_240;
 
-/// The least order of which a walk may make a table: whole walks of lower ones push fewer moves than it waits for.
-pub const LEAST_TABLED_ORDER: u8 = 10;
+/// The least order of which a walk may make a table: as measured, whole walks of lower ones are done sooner without one.
+pub const LEAST_TABLED_ORDER: u8 = 9;
 
-/// A walk pushes so many moves before it makes a table: a walk of fewer is done sooner without one. As measured, one of order 9
-/// pushes fewer, and a whole one of order 12 takes 4 ms so, and 22 where it waits for eight times as many.
-pub(crate) const PATIENCE: u64 = 2_048;
+/// A walk pushes so many moves before it makes a table, so that one that is done with fewer makes none.
+pub(crate) const PATIENCE: u64 = 128;
 
 // What a table tells of the members whose numbers aren't below a number.
 #[derive(Clone, Copy)]
