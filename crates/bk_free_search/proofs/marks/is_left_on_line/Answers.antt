@@ -8,8 +8,11 @@ use Rattle.bk_free_search.specs.Valleys.{IsValley}
 use Rattle.bk_free_search.proofs.marks.is_left_on_line.Goals as goal
 
 pub slice_bounds-left_end-end : goal.slice_bounds-left_end-end
-slice_bounds-left_end-end c = omega (arith, ends_within c.skel.result.now c.skel.ensures.legal (sizes_of (outline_of c.skel.result.now)) c.ends.result.now
-    refl c.ends.ensures c.args.valley.now (subst (λ (w : Word). IsValley w c.args.valley.now) (sym c.skel.ensures.value) c.requires))
+slice_bounds-left_end-end c = omega (
+  arith,
+  ends_within c.skel.result.now c.skel.ensures.legal (sizes_of (outline_of c.skel.result.now)) c.ends.result.now
+      refl c.ends.ensures c.args.valley.now (subst (λ (w : Word). IsValley w c.args.valley.now) (sym c.skel.ensures.value) c.requires),
+)
 
 pub returns-then-line-ge2 : goal.returns-then-line-ge2
 returns-then-line-ge2 c told = left_on_line c.args.board.now (take (c.args.valley.now.end - c.args.valley.now.start)
