@@ -1,7 +1,7 @@
 -- The leftmost valley by its places, and the segments beside it.
 use Rattle.std.specs.List.{concat, sum}
 use Rattle.std.proofs.Common.{List, Some, [], ap, arith, drop, length, refl, slice_get, slice_index_or, suc, sym, take, zero, ℕ, ◌+◌, ◌-◌, ◌<◌, ◌∙◌, ◌∷◌, ◌≡◌, ◌≤◌}
-use Rattle.std.proofs.lemmas.List.{length-map}
+use Rattle.std.proofs.lemmas.List.{length-drop, length-map, length-take}
 use Rattle.std.proofs.lemmas.Option.{get_or_from_slice_get}
 use Rattle.bk_word.proofs.PlayLists.{place_within}
 use Rattle.bk_word.specs.Outline.{sizes_of, valley_of, valley_place}
@@ -52,6 +52,16 @@ module _ (w : Word) (legal : IsLegal w) (sizes ends : List ℕ) (s : sizes ≡ s
       ∙ sym (get_or_from_slice_get (outline_of w).segments v.place (take (v.start + slice_index_or sizes v.place 0 - v.start) (drop v.start ends)) []
       (segment_read w sizes ends v.place v.start (slice_index_or sizes v.place 0) s e place_low start_sum refl))
       ∙ ap (λ k. slice_index_or (outline_of w).segments k []) is.place_is
+
+  pub valley_long : slice_index_or sizes v.place 0 ≡ length (valley_of (outline_of w))
+  valley_long = omega (
+    arith,
+    ap length valley_read,
+    length-take (v.end - v.start) (drop v.start ends),
+    length-drop v.start ends,
+    ends_within,
+    end_sum,
+  )
 
   -- those of the segment at its left
   pub left_fits : 0 < v.place → slice_index_or sizes (v.place - 1) 0 ≤ v.start

@@ -9,6 +9,7 @@ ghost use Rattle.bk_word.specs.declared.Sign.TheVariants.{Even, Under};
 ghost use Rattle.bk_free_search.specs.Apart.{IsCountedTo};
 ghost use Rattle.bk_free_search.specs.Asking.{AreAskedBefore, AreFewAsks, AreFewBefore, AreMarks, AreNeeds, IsAsked, IsNext, IsOver, NeedsLeft, StandBeside};
 ghost use Rattle.bk_free_search.specs.Strong.{IsFew, seen_passed};
+ghost use Rattle.bk_free_search.specs.Valleys.{IsValley};
 
 use crate::ahead::{Ahead, look_ahead};
 use crate::behind::{Asks, Behind, behind_valley};
@@ -78,7 +79,7 @@ pub(crate) fn stand_beside(board: &Board, order: u8) -> Beside
     let left_wall = place == 0;
     let right_wall = place == signs.len();
     let marks = marks_of(board);
-    let before = before_valley(board, marks, place);
+    let before = before_valley(board, marks, &valley);
     let behind = behind_valley(board, marks, place);
     let ahead = look_ahead(board, order, left_wall, right_wall);
     Beside {
@@ -105,14 +106,15 @@ fn needs_of(before: &Before, behind: &Behind, moves: usize) -> Needs
     }
 }
 
-// What is asked for before the leftmost valley of a board, which is the segment at this place.
-fn before_valley(board: &Board, marks: LineSet, place: usize) -> Before
+// What is asked for before the leftmost valley of a board.
+fn before_valley(board: &Board, marks: LineSet, valley: &Valley) -> Before
     requires few { order_of board.now ≤ 16 }
     requires marks { AreMarks board.now marks }
-    requires place { place ≡ valley_place (outline_of board.now).signs }
+    requires valley { IsValley board.now valley.now }
     ensures asked { AreAskedBefore board.now result }
     ensures few { AreFewBefore result }
 {
+    let place = valley.place;
     if place == 0 {
         let none = Asked {
             passed: none_passed(),
@@ -128,7 +130,7 @@ fn before_valley(board: &Board, marks: LineSet, place: usize) -> Before
     Before {
         none: Asked { passed, evens: 0 },
         even: left_even(board, marks, place - 1, passed),
-        under: left_under(board, marks, place - 1, passed),
+        under: left_under(board, marks, valley, passed),
     }
 }
 
@@ -222,16 +224,17 @@ fn left_even(board: &Board, marks: LineSet, place: usize, passed: Passed) -> Ask
     }
 }
 
-// And with the sign under.
-fn left_under(board: &Board, marks: LineSet, place: usize, passed: Passed) -> Asked
+// And with the sign under, where the valley stands behind that segment.
+fn left_under(board: &Board, marks: LineSet, valley: &Valley, passed: Passed) -> Asked
     requires marks { AreMarks board.now marks }
-    requires place { place + 1 ≡ valley_place (outline_of board.now).signs }
+    requires valley { IsValley board.now valley.now }
+    requires some { 0 < valley.now.place }
     requires few { IsFew passed 402 }
-    requires counted { (m : SeenMove) → IsLegal (board.now ++ m ∷ []) → IsCountedTo board.now m place (seen_passed passed) }
+    requires counted { (m : SeenMove) → IsLegal (board.now ++ m ∷ []) → IsCountedTo board.now m (valley.now.place - 1) (seen_passed passed) }
     ensures { IsAsked board.now (Under ∷ []) result }
 {
-    let behind = past_one(passed, Sign::Under, has_mark(marks, place));
-    if is_left_on_line(board) {
+    let behind = past_one(passed, Sign::Under, has_mark(marks, valley.place - 1));
+    if is_left_on_line(board, valley) {
         return Asked {
             passed: in_front_of_mark(behind),
             evens: 0,

@@ -5,18 +5,27 @@ ghost use Rattle.std.specs.Prelude.{IsTrue, [], ℕ, ◌++◌, ◌<◌, ◌∷�
 ghost use Rattle.bk_word.specs.Word.{Move as SeenMove, Word as Moves};
 ghost use Rattle.bk_word.specs.declared.Sign.TheVariants.{Even};
 ghost use Rattle.bk_free_search.specs.Asking.{IsAsked};
+ghost use Rattle.bk_word.specs.Play.{IsLegal};
 ghost use Rattle.bk_net_word.specs.NetWord.{IsNetBarren};
+ghost use Rattle.bk_free_search.specs.Valleys.{IsValley};
 
 use crate::asking::Asked;
+use crate::valleys::Valley;
 use bk_skel::{SmallMove, SmallSkel};
 
 /// The least count of a next move that isn't barren: one square hangs under no segment of just one, and the first move is none of one.
-pub(crate) fn least_count(skel: &SmallSkel) -> u8
+pub(crate) fn least_count(skel: &SmallSkel, valley: &Valley) -> u8
+    requires word { IsLegal skel.now }
+    requires valley { IsValley skel.now valley.now }
     ensures some { 0 < result }
     ensures few { result ≤ 2 }
     ensures barren { (n : ℕ) (m : SeenMove) → m.count < result → 0 < m.count → IsNetBarren n (skel.now ++ m ∷ []) }
 {
-    if skel.valley_len() == 1 { 2 } else { 1 }
+    if skel.sizes()[valley.place] == 1 {
+        2
+    } else {
+        1
+    }
 }
 
 /// Whether the next sign of a move, between two of its own squares, isn't above: its one sign so far is even, so that it would break rule R.

@@ -13,10 +13,12 @@ ghost use Rattle.bk_free_search.specs.Asking.{AreMarks};
 ghost use Rattle.bk_free_search.specs.NodeLines.{Has};
 ghost use Rattle.bk_free_search.specs.Strong.{AreFilled, marks_by_lists};
 ghost use Rattle.bk_free_search.specs.TopLines.{HasOneFrom, on_top_lines};
+ghost use Rattle.bk_free_search.specs.Valleys.{IsValley};
 
 use crate::board::Board;
 use crate::line_set::{LineSet, has_line, no_line, with_place};
 use crate::top_lines::places_on_lines;
+use crate::valleys::Valley;
 
 /// The places of marked segments of a board. (Own.)
 pub(crate) fn marks_of(board: &Board) -> LineSet
@@ -65,10 +67,11 @@ fn has_one(places: LineSet, start: usize, many: usize) -> bool
 }
 
 /// Whether a line from the top stands at the left of the valley.
-pub(crate) fn is_left_on_line(board: &Board) -> bool
+pub(crate) fn is_left_on_line(board: &Board, valley: &Valley) -> bool
+    requires { IsValley board.now valley.now }
     ensures { IsTrue result → begins_on_line (edges_on_lines board.now) (valley_of (outline_of board.now)) ≡ true }
 {
-    let line = board.left_end(board.skel().valley_squares());
+    let line = board.left_end(&board.skel().ends()[valley.start..valley.end]);
     2 <= line && line <= board.first()
 }
 

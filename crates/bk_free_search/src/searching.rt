@@ -122,7 +122,7 @@ impl Search {
         }
         let left = self.order - self.board.skel().order() as u8;
         let mut begun = not_begun();
-        'counts: for count in least_count(self.board.skel())..left {
+        'counts: for count in least_count(self.board.skel(), &around.valley)..left {
             begin(&mut begun, &around, count, usize::from(left - count));
             self.with_left(&mut begun, &around, leaves);
         }

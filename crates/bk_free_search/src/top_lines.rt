@@ -40,9 +40,9 @@ fn on_line(lefts: &[u8], first: u8, square: u8) -> bool
     is_top_line(first, left_of(lefts, square))
 }
 
-// Whether the line of this number begins between two squares of a first move of so many.
+// Whether the line of this number begins between two squares of a first move of so many: of 2, 3 and so on, one less than the squares.
 fn is_top_line(first: u8, line: u8) -> bool
     ensures { result ≡ is_top_line first line }
 {
-    2 <= line && line <= first
+    line.wrapping_sub(2) < first.saturating_sub(1)
 }
