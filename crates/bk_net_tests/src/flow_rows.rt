@@ -2,9 +2,7 @@
 
 ghost use Rattle.std.specs.Prelude.{◌+◌, ◌*◌, ◌≡◌, ◌≤◌};
 
-use bk_flow::{
-    Flow, FlowFault, NarrowFlow, SMALL, narrow_flow, solve, solve_small, whole_flow,
-};
+use bk_flow::{Flow, FlowFault, NarrowFlow, SMALL, narrow_flow, solve, solve_small, whole_flow};
 use bk_net::{Net, NetLine, read_net};
 use std::alloc::Global;
 
