@@ -6,6 +6,7 @@ pub mod CandidateExamples
 pub mod WordWires
 pub mod LevelSteps
 pub mod SmallFlows
+pub mod RepeatedMagnitudes
 pub mod FoundSides
 pub mod Leaves
 pub mod LeafRun

@@ -60,9 +60,11 @@ pub fn leaf(skel: &SmallSkel, lefts: &[u8], ties: Ties, class: Class) -> Option<
     let width = total.unsigned_abs();
     let height = levels[usize::from(nodes) - 1].unsigned_abs();
     let rights = rights_of(lefts, currents, total);
-    let longest = longest_in_corners(wires, currents, lefts, &rights, total, nodes - 1);
-    if !corners_allow(&longest, width, height, ties) {
-        return None;
+    if ties.any() {
+        let longest = longest_in_corners(wires, currents, lefts, &rights, total, nodes - 1);
+        if !corners_allow(&longest, width, height, ties) {
+            return None;
+        }
     }
     let squares = squares_at(lefts, wires, currents, &levels, &rights, total);
     Some(Placed {

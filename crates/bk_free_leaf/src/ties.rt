@@ -1,6 +1,6 @@
 //! Where counts of a word tie, corner squares tell which of two images is met.
 
-ghost use Rattle.std.specs.Prelude.{IsTrue, List, false, ℕ, ◌≡◌, ◌≤◌};
+ghost use Rattle.std.specs.Prelude.{IsTrue, List, false, ℕ, ◌||◌, ◌≡◌, ◌≤◌};
 ghost use Rattle.bk_tiling.specs.declared.Square.{Square};
 ghost use Rattle.bk_normal.specs.Normal.{Counts};
 ghost use Rattle.bk_normal_cuts.specs.NormalImage.{AreCornersSettled};
@@ -19,6 +19,15 @@ pub struct Ties {
     /// The nodes are just half of three more than the squares, as many squares lie at the right as at the top, and as many at the
     /// left as at the bottom.
     pub size: bool,
+}
+
+impl Ties {
+    // Whether some counts tie: else corners refuse nothing.
+    pub(crate) fn any(self) -> bool
+        ensures { result ≡ self.level || self.across || self.size }
+    {
+        self.level || self.across || self.size
+    }
 }
 
 // Whether the squares of a rectangle of this size, of which these are the longest in its corners, can be those of the image that is met,

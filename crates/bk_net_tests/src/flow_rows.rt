@@ -2,9 +2,7 @@
 
 ghost use Rattle.std.specs.Prelude.{◌+◌, ◌*◌, ◌≡◌, ◌≤◌};
 
-use bk_flow::{
-    Flow, FlowFault, NarrowFlow, SMALL, narrow_flow, solve, solve_small, whole_flow,
-};
+use bk_flow::{Flow, FlowFault, NarrowFlow, SMALL, narrow_flow, solve, solve_small, whole_flow};
 use bk_net::{Net, NetLine, read_net};
 use std::alloc::Global;
 
@@ -100,7 +98,7 @@ fn is_narrow_flow(flow: &NarrowFlow, total: i128, currents: &[i128]) -> bool {
     i128::from(flow.total()) == total && are_numbers(flow.currents(), currents)
 }
 
-// Whether the flow of a small net is found with this total and these currents in 64 bits, and in 32 bits.
+// Whether the flow of a small net is found with this total and these currents, and by potentials of 32 bits too.
 fn flows_narrowly(net: &Net, total: i128, currents: &[i128]) -> bool {
     if net.loose().is_some() || net.wires().len() > SMALL {
         return false;
