@@ -1,12 +1,12 @@
 //! Whether a tiling is a member of a catalogue.
 
-ghost use Rattle.std.specs.Prelude.{IsTrue, false, ◌≡◌, ◌↔◌};
+ghost use Rattle.std.specs.Prelude.{IsTrue, false, ◌≡◌};
 ghost use Rattle.bk_simple.specs.Simple.{IsSimple};
 ghost use Rattle.bk_catalogue.specs.Catalogue.{IsOfClass};
 ghost use Rattle.bk_member_table.specs.Finding.{Qualifies};
 
 use crate::corners::begins_greatest;
-use bk_simple::{is_perfect, part};
+use bk_simple::{is_perfect, is_perfect_simple, part};
 use bk_sym::is_canonical;
 use bk_tiling::Tiling;
 use bk_word::Class;
@@ -31,16 +31,9 @@ pub(crate) fn is_simple_of(tiling: &Tiling, class: Class) -> bool
     ensures class { IsTrue result → IsOfClass class tiling.now }
     ensures no { result ≡ false → IsSimple tiling.now → IsOfClass class tiling.now → ⊥ }
 {
-    is_of_class(tiling, class) && part(tiling).is_none()
-}
-
-// Whether a simple tiling is of the class.
-fn is_of_class(tiling: &Tiling, class: Class) -> bool
-    ensures { IsTrue result ↔ IsOfClass class tiling.now }
-{
     match class {
-        Class::Perfect => is_perfect(tiling),
-        Class::Imperfect => !is_perfect(tiling),
-        Class::Simple => true,
+        Class::Perfect => is_perfect_simple(tiling),
+        Class::Imperfect => !is_perfect(tiling) && part(tiling).is_none(),
+        Class::Simple => part(tiling).is_none(),
     }
 }

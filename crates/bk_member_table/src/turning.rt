@@ -50,17 +50,28 @@ fn keeping_turn(right: bool, bottom: bool) -> Turn
 
 // Whether the longest square in the corners stands at the right, and whether at the bottom.
 fn longest_corner(placed: &Placed) -> (bool, bool) {
-    let (width, height) = (placed.width, placed.height);
     let mut longest = 0;
     let mut corner = (false, false);
     'squares: for q in placed.squares.as_slice() {
-        let (right, bottom) = (ends_at(q.x, q.s, width), ends_at(q.y, q.s, height));
-        if q.s > longest && (q.x == 0 || right) && (q.y == 0 || bottom) {
-            longest = q.s;
-            corner = (right, bottom);
+        if q.s > longest {
+            if let Some(found) = corner_of(q, placed.width, placed.height) {
+                longest = q.s;
+                corner = found;
+            }
         }
     }
     corner
+}
+
+// Whether a square in a corner of a rectangle stands at the right, and whether at the bottom. Only of few squares it is asked.
+#[inline(never)]
+fn corner_of(q: &Square, width: u64, height: u64) -> Option<(bool, bool)> {
+    let (right, bottom) = (ends_at(q.x, q.s, width), ends_at(q.y, q.s, height));
+    if (q.x == 0 || right) && (q.y == 0 || bottom) {
+        Some((right, bottom))
+    } else {
+        None
+    }
 }
 
 // Whether a side that begins at a place ends at this one.

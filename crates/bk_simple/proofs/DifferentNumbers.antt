@@ -72,7 +72,8 @@ marked_more met numbers n many marked k low = cases (cases_eq (get_or numbers k 
 
 -- numbers that are apart up to the last one all differ
 pub apart_all : (numbers : List ℕ) (n : ℕ) → length numbers ≤ n → AreApartTo numbers n → AllPairs ◌≢◌ numbers
-apart_all numbers n all apart i j d up low same = apart i j up (omega (arith, low, all)) (default numbers i d (omega arith) ∙ same ∙ sym (default numbers j d low))
+apart_all numbers n all apart i j d up low same =
+    apart i j up (omega (arith, low, all)) (default numbers i d (omega arith) ∙ same ∙ sym (default numbers j d low))
   where
     default : (xs : List ℕ) (k d : ℕ) → k < length xs → get_or xs k 0 ≡ get_or xs k d
     default [] k d h = absurd (omega arith)

@@ -253,7 +253,8 @@ module _ (t : Tiling) (tiling : IsTiling t) where
         let other : first.place ≡ top_left t r → ⊥ =
         λ e. let o : r.y + p.s < p.y + p.s = subst (λ (k : ℕ). r.y + p.s < (at k).y + (at k).s) e c.bottom in omega (arith, o, own.top) in
         let shorter : (at first.place).s ≡ p.s → ⊥ = sides_differ perfect first.place (top_left t r) first.below own.below other in
-        let last : IsAt (r.x + r.width - 1) (r.y + p.s) = square_over (r.x + r.width - 1) (r.y + p.s) (omega (arith, b.right, b.wide)) (omega (arith, b.bottom, high)) in
+        let last : IsAt (r.x + r.width - 1) (r.y + p.s) =
+        square_over (r.x + r.width - 1) (r.y + p.s) (omega (arith, b.right, b.wide)) (omega (arith, b.bottom, high)) in
         let d : IsOver (r.x + r.width - 1) (r.y + p.s) (at last.place) = over_from (r.x + r.width - 1) (r.y + p.s) (at last.place) last.over in
         let v : IsWithin r (at last.place) = over_within r part (r.x + r.width - 1) (r.y + p.s) last.place last.below last.over (omega (arith, b.wide))
         (omega (arith, b.wide)) (omega arith) (omega (arith, high)) in
@@ -300,7 +301,8 @@ module _ (t : Tiling) (tiling : IsTiling t) where
         let other : first.place ≡ top_left t r → ⊥ =
         λ e. let o : r.x + p.s < p.x + p.s = subst (λ (k : ℕ). r.x + p.s < (at k).x + (at k).s) e c.right in omega (arith, o, own.left) in
         let shorter : (at first.place).s ≡ p.s → ⊥ = sides_differ perfect first.place (top_left t r) first.below own.below other in
-        let last : IsAt (r.x + p.s) (r.y + r.height - 1) = square_over (r.x + p.s) (r.y + r.height - 1) (omega (arith, b.right, wide)) (omega (arith, b.bottom, b.high)) in
+        let last : IsAt (r.x + p.s) (r.y + r.height - 1) =
+        square_over (r.x + p.s) (r.y + r.height - 1) (omega (arith, b.right, wide)) (omega (arith, b.bottom, b.high)) in
         let d : IsOver (r.x + p.s) (r.y + r.height - 1) (at last.place) = over_from (r.x + p.s) (r.y + r.height - 1) (at last.place) last.over in
         let v : IsWithin r (at last.place) = over_within r part (r.x + p.s) (r.y + r.height - 1) last.place last.below last.over (omega arith)
         (omega (arith, wide)) (omega (arith, b.high)) (omega (arith, b.high)) in

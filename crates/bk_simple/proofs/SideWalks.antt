@@ -161,7 +161,8 @@ module _ (t : Tiling) (tiling : IsTiling t) (d : Square) where
 
       cases : (l < p.y + p.height) ⊎ (r < p.y + p.height) → IsLater k p
       cases (inl h) =
-          let o : IsOn i right p u p.x l = on_cell i right p u p.x l (omega arith) (omega (arith, u.ends, here.wide)) (omega (arith, here.top, walk.from_left)) h in
+          let o : IsOn i right p u p.x l = on_cell i right p u p.x l (omega arith) (omega (arith, u.ends, here.wide))
+          (omega (arith, here.top, walk.from_left)) h in
           record {
             place = o.place;
             few = o.few;

@@ -147,7 +147,7 @@ fn has_no_large_part(tiling: &Tiling) -> bool
     true
 }
 
-// Whether this is seen of the parts that begin with the square at place i and are wider.
+// Whether it is quickly seen that no part that begins with the square at place i is wider.
 fn has_none_past(tiling: &Tiling, i: usize) -> bool
     requires { i < length tiling.now.squares }
     ensures { IsTrue result → HasNoneWider tiling.now i }
@@ -168,8 +168,8 @@ fn has_none_past(tiling: &Tiling, i: usize) -> bool
     true
 }
 
-// Whether this is seen of the parts with the squares from place i to place last at their top: down their sides no square reaches across, and
-// no two squares end at one level.
+// Whether this is seen of the parts with the squares from place i to place `last` along their top: going down both sides, a square reaches across one
+// of them before squares at both end at one level.
 fn has_none_under(tiling: &Tiling, i: usize, last: usize) -> bool
     requires places { (i < last) × (last < length tiling.now.squares) }
     requires level { (square_of tiling.now last).y ≡ (square_of tiling.now i).y }

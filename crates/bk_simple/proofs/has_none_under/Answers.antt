@@ -61,8 +61,8 @@ overflow_sub-result c =
     let tiling : IsTiling t = c.squares-squares.ensures.kept.tiling in
     let few : c.loop-k.k < length t.squares = rw c.squares-squares.ensures.value at c.loop-k-test.true in
     rw c.squares-squares.ensures.value
-    (left_low t tiling none c.args.i (right_of t c.args.last) c.loop-k.k c.loop-k.left_end c.loop-k.right_end c.end_with-left_end.result c.end_with-right_end.result
-    (rw c.squares-squares.ensures.value at (c.loop-k.invariant tiling)) few
+    (left_low t tiling none c.args.i (right_of t c.args.last) c.loop-k.k c.loop-k.left_end c.loop-k.right_end c.end_with-left_end.result
+    c.end_with-right_end.result (rw c.squares-squares.ensures.value at (c.loop-k.invariant tiling)) few
     (next_ends t tiling c.args.i c.args.last c.loop-k.k c.loop-k.left_end c.loop-k.right_end c.end_with-left_end.result c.end_with-right_end.result
     (rw c.squares-squares.ensures.value at c.end_with-left_end.ensures.there) (rw c.squares-squares.ensures.value at c.end_with-left_end.ensures.elsewhere)
     (rw c.squares-squares.ensures.value at c.end_with-right_end.ensures.there) (rw c.squares-squares.ensures.value at c.end_with-right_end.ensures.elsewhere)))
@@ -86,8 +86,8 @@ loop-k-preserved c tiling =
     let t : Tiling = c.args.tiling.now in
     let few : c.loop-k.k < length t.squares = rw c.squares-squares.ensures.value at c.loop-k-test.true in
     rw c.squares-squares.ensures.value
-    (walk_more t tiling none c.args.i (right_of t c.args.last) c.loop-k.k c.loop-k.left_end c.loop-k.right_end c.end_with-left_end.result c.end_with-right_end.result
-    (rw c.squares-squares.ensures.value at (c.loop-k.invariant tiling)) few
+    (walk_more t tiling none c.args.i (right_of t c.args.last) c.loop-k.k c.loop-k.left_end c.loop-k.right_end c.end_with-left_end.result
+    c.end_with-right_end.result (rw c.squares-squares.ensures.value at (c.loop-k.invariant tiling)) few
     (next_ends t tiling c.args.i c.args.last c.loop-k.k c.loop-k.left_end c.loop-k.right_end c.end_with-left_end.result c.end_with-right_end.result
     (rw c.squares-squares.ensures.value at c.end_with-left_end.ensures.there) (rw c.squares-squares.ensures.value at c.end_with-left_end.ensures.elsewhere)
     (rw c.squares-squares.ensures.value at c.end_with-right_end.ensures.there) (rw c.squares-squares.ensures.value at c.end_with-right_end.ensures.elsewhere))
