@@ -12,7 +12,8 @@ use Rattle.bk_word.specs.declared.Sign.TheVariants.{Even, Under}
 use Rattle.bk_lay.proofs.WordTest.{by_tests, passes_as_valley}
 use Rattle.bk_word_net.specs.LaidOutline.{IsGap, IsTurn, back_of, bottom_at, front_of, square_at}
 use Rattle.bk_skel.specs.Board.{columns_of}
-use Rattle.bk_skel.specs.Skeleton.{Shows, first_touched, joined_sizes, moves_stored, open_sides, signs_before, signs_of, sizes_after, sizes_before, turns_from}
+use Rattle.bk_skel.specs.Skeleton.{Shows, first_touched, joined_sizes, moves_stored, open_sides, signs_before, signs_of, sizes_after}
+use Rattle.bk_skel.specs.Skeleton.{sizes_before, turns_from, with_parted}
 use Rattle.bk_skel.specs.SmallSkeleton.{StandsAt}
 use Rattle.bk_skel.specs.TurnRecord.{SaysWhere}
 use Rattle.bk_skel.specs.Valley.{leftmost_valley}
@@ -51,6 +52,10 @@ turn_2 = record { place = 1; first = 1; left = 1; closed = 1; right = 0; count =
 
 abbrev turn_3 : MoveRecord
 turn_3 = record { place = 1; first = 2; left = 2; closed = 1; right = 0; count = 1; parted = 0; from = 3; to = 4 }
+
+-- the second one, but for the sign that stays
+but_for_one : with_parted turn_2 0 ≡ record { place = 1; first = 1; left = 1; closed = 1; right = 0; count = 2; parted = 0; from = 1; to = 3 }
+but_for_one = refl
 
 turns : turns_from start 0 staircase ≡ turn_1 ∷ turn_2 ∷ turn_3 ∷ []
 turns = refl

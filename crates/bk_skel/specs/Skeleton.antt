@@ -26,6 +26,20 @@ turn_at sizes signs m from = record {
   to = from + length m.signs;
 }
 
+-- the record with so many signs that stay between segments
+abbrev pub with_parted : MoveRecord → ℕ → MoveRecord
+with_parted turn parted = record {
+  place = turn.place;
+  first = turn.first;
+  left = turn.left;
+  closed = turn.closed;
+  right = turn.right;
+  count = turn.count;
+  parted = parted;
+  from = turn.from;
+  to = turn.to;
+}
+
 -- the place of the first segment that a move touches: the one left of the valley, or the valley at the wall
 abbrev pub first_touched : MoveRecord → ℕ
 first_touched turn = turn.place - min turn.left 1

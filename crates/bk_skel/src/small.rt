@@ -172,12 +172,12 @@ impl SmallSkel {
         requires few { order_of self.old + m.now.count ≤ 16 }
         ensures { self.new ≡ self.old ++ m.now ∷ [] }
     {
-        let turn = turn_at_valley(
+        let mut turn = turn_at_valley(
             self.open.sizes.as_slice(),
             self.open.signs.as_slice(),
             (usize::from(self.open.place), usize::from(self.open.first)),
             m.count,
-            m.signs.as_slice(),
+            m.signs.len(),
             self.played.len(),
         );
         let number = (self.open.ends.len() + self.closed.len() + 1) as u8;
@@ -186,7 +186,7 @@ impl SmallSkel {
         let valley: Short<u8, INLINE_ORDER> = self.open.ends.part(first, end);
         self.closed.append(&valley);
         hang(&mut self.open.ends, first, end, number, m.count);
-        part_and_join(
+        turn.parted = part_and_join(
             &mut self.open.sizes,
             &mut self.open.signs,
             &turn,
@@ -309,26 +309,27 @@ fn numbers(first: u8, count: u8) -> Short<u8, INLINE_ORDER>
     Short::of(room, usize::from(count))
 }
 
-// Joins and parts the segments that a move touches: the new sizes and signs stand in the place of theirs.
+// Joins and parts the segments that a move touches: the new sizes and signs stand in the place of theirs. So many of the move's signs
+// stay as the result says.
 #[inline]
 fn part_and_join(
     sizes: &mut Short<u8, ROOM>,
     signs: &mut Short<Sign, ROOM>,
     turn: &MoveRecord,
     moved: &[Sign],
-)
-    requires parted { turn.now.parted ≡ count_by parts moved.now }
+) -> u8
     requires sizes_within { first_touched turn.now + (open_sides turn.now + 1) ≤ length sizes.old.items }
     requires signs_within { first_touched turn.now + open_sides turn.now ≤ length signs.old.items }
     requires sizes_few { length sizes.old.items ≤ 16 }
     requires signs_few { length signs.old.items ≤ 16 }
-    requires sizes_fit { length sizes.old.items - (open_sides turn.now + 1) + (turn.now.parted + 1) ≤ 16 }
-    requires signs_fit { length signs.old.items - open_sides turn.now + turn.now.parted ≤ 16 }
+    requires sizes_fit { length sizes.old.items - (open_sides turn.now + 1) + (count_by parts moved.now + 1) ≤ 16 }
+    requires signs_fit { length signs.old.items - open_sides turn.now + count_by parts moved.now ≤ 16 }
     requires small { turn.now.left + length moved.now + turn.now.right ≤ 253 }
     ensures sizes { sizes.new.items ≡ splice sizes.old.items (first_touched turn.now)
         (first_touched turn.now + (open_sides turn.now + 1)) (sizes_after turn.now moved.now) }
     ensures signs { signs.new.items ≡ splice signs.old.items (first_touched turn.now)
         (first_touched turn.now + open_sides turn.now) (filter parts moved.now) }
+    ensures parted { result ≡ count_by parts moved.now }
 {
     let start = turn.first_touched();
     let end = start + turn.open_sides();
@@ -337,8 +338,10 @@ fn part_and_join(
     sizes.truncate(start);
     signs.truncate(start);
     push_parted(sizes, signs, moved, turn.left.max(1), turn.right.max(1));
+    let parted = (signs.len() - start) as u8;
     sizes.append(&sizes_behind);
     signs.append(&signs_behind);
+    parted
 }
 
 // Appends the sizes of segments that the signs join or part, and the signs that stay between them.

@@ -1,9 +1,10 @@
 //! The record of a move, by which it is taken back.
 
-ghost use Rattle.std.specs.Prelude.{cond, count_by, length, nat_eq, slice_index, sum, take, ◌+◌, ◌-◌, ◌<◌, ◌≡◌, ◌≤◌};
+ghost use Rattle.std.specs.Prelude.{List, cond, count_by, length, nat_eq, slice_index, sum, take, ◌+◌, ◌-◌, ◌<◌, ◌≡◌, ◌≤◌};
 ghost use Rattle.bk_word.specs.Outline.{valley_place};
 ghost use Rattle.bk_word.specs.Play.{parts};
-ghost use Rattle.bk_skel.specs.Skeleton.{first_touched, open_sides, turn_at};
+ghost use Rattle.bk_skel.specs.Skeleton.{first_touched, open_sides, turn_at, with_parted};
+ghost use Rattle.bk_word.specs.declared.Sign.{Sign as SeenSign};
 
 use bk_word::Sign;
 
@@ -62,16 +63,26 @@ pub(crate) fn turn_for(
     requires from { from ≤ 400 }
     ensures { result ≡ turn_at sizes.now signs.now (record { count = count; signs = moved.now }) from }
 {
-    turn_at_valley(sizes, signs, leftmost(sizes, signs), count, moved, from)
+    let mut turn = turn_at_valley(
+        sizes,
+        signs,
+        leftmost(sizes, signs),
+        count,
+        moved.len(),
+        from,
+    );
+    turn.parted = parting(moved) as u8;
+    turn
 }
 
-// The same, where so many open segments stand at the left of the leftmost valley, and have so many squares.
+// The same but for how many of the signs stay between two segments, where so many open segments stand at the left of the leftmost
+// valley, these have so many squares, and the move has so many signs.
 pub(crate) fn turn_at_valley(
     sizes: &[u8],
     signs: &[Sign],
     valley: (usize, usize),
     count: u8,
-    moved: &[Sign],
+    moved: usize,
     from: usize,
 ) -> MoveRecord
     requires many { length sizes.now ≡ length signs.now + 1 }
@@ -80,9 +91,10 @@ pub(crate) fn turn_at_valley(
     requires first { valley.1 ≡ sum (take (valley_place signs.now) sizes.now) }
     requires first_few { valley.1 ≤ 200 }
     requires few { length sizes.now ≤ 200 }
-    requires moved { length moved.now ≤ 201 }
+    requires moved { moved ≤ 201 }
     requires from { from ≤ 400 }
-    ensures { result ≡ turn_at sizes.now signs.now (record { count = count; signs = moved.now }) from }
+    ensures { (own : List SeenSign) → length own ≡ moved
+        → with_parted result (count_by parts own) ≡ turn_at sizes.now signs.now (record { count = count; signs = own }) from }
 {
     let (place, first) = valley;
     MoveRecord {
@@ -92,9 +104,9 @@ pub(crate) fn turn_at_valley(
         closed: sizes[place],
         right: right_of(sizes, place, signs.len()),
         count,
-        parted: parting(moved) as u8,
+        parted: 0,
         from: from as u16,
-        to: (from + moved.len()) as u16,
+        to: (from + moved) as u16,
     }
 }
 

@@ -18,7 +18,6 @@ append-requires c =
       ap length c.truncate.ensures,
       c.first_touched-start.ensures,
       length-take-le c.first_touched-start.result c.args.sizes.now.items (omega (arith, c.first_touched-start.ensures, c.requires.sizes_within)),
-      c.requires.parted,
       c.requires.sizes_within,
       c.requires.sizes_fit,
     ) in
@@ -34,7 +33,6 @@ append-requires-2 c =
       ap (length {A = Sign}) c.truncate-2.ensures,
       c.first_touched-start.ensures,
       length-take-le c.first_touched-start.result c.args.signs.now.items (omega (arith, c.first_touched-start.ensures, c.requires.signs_within)),
-      c.requires.parted,
       c.requires.signs_within,
       c.requires.signs_fit,
     ) in
@@ -60,3 +58,15 @@ returns-clause-signs c =
     (omega (arith, c.first_touched-start.ensures, c.open_sides.ensures)))
     (c.truncate-2.ensures ∙ ap (λ n. take n c.args.signs.now.items) c.first_touched-start.ensures)
     c.push_parted.ensures.signs c.append-2.ensures
+
+pub returns-clause-parted : goal.returns-clause-parted
+returns-clause-parted c = omega (
+  arith,
+  c.len-3.ensures.value,
+  ap (length {A = Sign}) c.push_parted.ensures.signs,
+  length-append c.truncate-2.new.self.items (filter parts c.args.moved.now),
+  length-filter parts c.args.moved.now,
+  ap (length {A = Sign}) c.truncate-2.ensures,
+  c.first_touched-start.ensures,
+  length-take-le c.first_touched-start.result c.args.signs.now.items (omega (arith, c.first_touched-start.ensures, c.requires.signs_within)),
+)
