@@ -1,15 +1,15 @@
 -- What a board keeps, as a move is played and taken back.
-use Rattle.std.proofs.Common.{List, [], ap, arith, cond, count_by, inl, inr, length, nat_eq, slice_index_or, subst, sym, take, ℕ, ◌++◌}
+use Rattle.std.proofs.Common.{List, [], ap, arith, cond, count_by, length, nat_eq, subst, sym, take, ℕ, ◌++◌}
 use Rattle.std.proofs.Common.{◌+◌, ◌-◌, ◌<◌, ◌∙◌, ◌∷◌, ◌≡◌, ◌⊎◌}
 use Rattle.bk_word.specs.Outline.{IsLegalMove, valley_of}
 use Rattle.bk_word.specs.Play.{numbers_from, outline_of}
 use Rattle.bk_word.specs.Word.{Move, Word, order_of}
-use Rattle.bk_free_search.proofs.LeftLines.{end_left, index_left, left_less, left_more}
-use Rattle.bk_free_search.proofs.RightLines.{end_right, index_right, right_less, right_more}
+use Rattle.bk_free_search.proofs.LeftLines.{end_left, left_less, left_more}
+use Rattle.bk_free_search.proofs.RightLines.{end_right, right_less, right_more}
 use Rattle.bk_free_search.proofs.TopLineMarks.{first_more}
 use Rattle.bk_free_search.proofs.TouchedLines.{AreNextLines, nodes_less, nodes_more}
 use Rattle.bk_free_search.proofs.WordCounts.{left_walls, lefts_then, right_walls, rights_then}
-use Rattle.bk_free_cuts.specs.LineNumbers.{left_end, lefts_of, right_end, sides_at, sides_of}
+use Rattle.bk_free_cuts.specs.LineNumbers.{left_end, lefts_of, right_end, sides_of}
 use Rattle.bk_free_search.specs.BoardOutlines.{IsBoardOutline}
 use Rattle.bk_free_search.specs.Boards.{IsBoardOf}
 use Rattle.bk_free_search.specs.Lefts.{IsLeftWord, first_left}

@@ -1,5 +1,6 @@
 -- The lines that are gathered at the sides of squares.
-use Rattle.std.proofs.Common.{List, [], ap, append_assoc, arith, inl, inr, length, slice_index_or, subst, suc, sym, zero, ℕ, ◌++◌, ◌+◌, ◌-◌, ◌<◌, ◌∙◌, ◌∷◌, ◌≡◌, ◌≤◌, ◌⊎◌}
+use Rattle.std.proofs.Common.{List, [], ap, append_assoc, arith, inl, inr, length, slice_index_or, subst, suc, sym, zero}
+use Rattle.std.proofs.Common.{ℕ, ◌++◌, ◌+◌, ◌-◌, ◌<◌, ◌∙◌, ◌∷◌, ◌≡◌, ◌≤◌, ◌⊎◌}
 use Rattle.std.proofs.lemmas.Bool.{cases_lt}
 use Rattle.std.proofs.lemmas.Option.{get_or_from_slice_get, slice_get-get_or, slice_get_within}
 use Rattle.bk_laws.proofs.ListPlaces.{get_back, get_front}
@@ -48,7 +49,8 @@ module _ (lefts rights : List ℕ) (hung count first last : ℕ) (b : StandBetwe
   pub beside_new : (line : ℕ) → IsBesideNew lefts rights hung count line → (line ≡ first) ⊎ ((line ≡ last) ⊎ ((hung + 2 ≤ line) × (line < hung + count + 1)))
   beside_new line n = sides n.beside
     where
-      by_left : (k : ℕ) → k < count → slice_index_or lefts (hung + k) 0 ≡ line → (line ≡ first) ⊎ ((line ≡ last) ⊎ ((hung + 2 ≤ line) × (line < hung + count + 1)))
+      by_left : (k : ℕ) → k < count → slice_index_or lefts (hung + k) 0 ≡ line
+          → (line ≡ first) ⊎ ((line ≡ last) ⊎ ((hung + 2 ≤ line) × (line < hung + count + 1)))
       by_left zero low e = let same : hung + 0 ≡ hung = omega arith in inl (sym e ∙ ap (λ j. slice_index_or lefts j 0) same ∙ b.first_is)
       by_left (suc k) low e =
           let same : hung + suc k ≡ hung + k + 1 = omega arith in
@@ -77,7 +79,8 @@ module _ (lefts rights : List ℕ) (hung count first last : ℕ) (b : StandBetwe
   last_beside line e = record {
     k = count - 1;
     low = omega (arith, some);
-    beside = inr (let same : hung + (count - 1) + 1 - 1 ≡ hung + count - 1 = omega (arith, some) in ap (λ j. slice_index_or rights j 1) same ∙ b.last_is ∙ sym e);
+    beside = inr (let same : hung + (count - 1) + 1 - 1 ≡ hung + count - 1 = omega (arith, some) in
+        ap (λ j. slice_index_or rights j 1) same ∙ b.last_is ∙ sym e);
   }
 
   pub own_beside : (line : ℕ) → hung + 2 ≤ line → line < hung + count + 1 → IsBesideNew lefts rights hung count line

@@ -1,6 +1,7 @@
 -- The marks of the open segments by the flat lists that a skeleton keeps, segment by segment.
 use Rattle.std.specs.List.{concat, list_any}
-use Rattle.std.proofs.Common.{Bool, List, [], ap, arith, drop, false, inl, inr, length, map, nat_le, refl, slice_index_or, suc, sum, sym, take, zero, ℕ, ◌||◌, ◌+◌, true}
+use Rattle.std.proofs.Common.{Bool, List, [], ap, arith, drop, false, inl, inr, length, map, nat_le, refl, slice_index_or, suc, sum, sym, take, true, zero}
+use Rattle.std.proofs.Common.{ℕ, ◌||◌, ◌+◌}
 use Rattle.std.proofs.Common.{◌<◌, ◌∙◌, ◌∷◌, ◌≡◌, ◌≤◌, ◌⊎◌}
 use Rattle.std.proofs.lemmas.Bool.Decides.{nat_tests}
 use Rattle.std.proofs.lemmas.List.{drop-drop, drop_all, drop_more, get_or-drop, get_or-take, length-drop, length-map, length-take}

@@ -112,14 +112,14 @@ module _ (w : Word) (m : Move) (word : IsLegal w) (legal : IsLegalMove (outline_
   at_behind k b f = get_after here.before (number ∷ here.behind) (suc k) (length here.before + suc k) refl ∙ got_from right here.behind here.right_is k b f
 
   -- the line at the left of an earlier square, and that at the right of the new one
-  pub shared_before : (line : ℕ) → line ≡ right_end (sides_of w) (valley_of (outline_of w)) → ShareBefore w left line → ShareANode (w ++ m ∷ [])
+  shared_before : (line : ℕ) → line ≡ right_end (sides_of w) (valley_of (outline_of w)) → ShareBefore w left line → ShareANode (w ++ m ∷ [])
   shared_before line is s = let f = at_before s.place s.number s.at in
       share_after w m here.place (here.before ++ number ∷ here.behind) s.place (length here.before) s.number number (sides_at (sides_of w) s.number).0 line
       here.at f.0 (get_last here.before number here.behind) f.1 (ap (λ (p : ℕ × ℕ). p.0) (sym (same_sides w m s.number (left_low l s.place s.number s.at))))
       (is ∙ ap (λ (p : ℕ × ℕ). p.1) (sym (new_square w m one))) s.touch
 
   -- the line at the right of a later square, and that at the left of the new one or of an earlier one
-  pub shared_behind : (line : ℕ) → line ≡ left_end (sides_of w) (valley_of (outline_of w)) → ShareBehind w line left right → ShareANode (w ++ m ∷ [])
+  shared_behind : (line : ℕ) → line ≡ left_end (sides_of w) (valley_of (outline_of w)) → ShareBehind w line left right → ShareANode (w ++ m ∷ [])
   shared_behind line is s = cases s.touch
     where
       right_line : (sides_at (sides_of w) s.number).1 ≡ (sides_at (sides_of (w ++ m ∷ [])) s.number).1

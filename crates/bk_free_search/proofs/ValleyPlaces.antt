@@ -1,7 +1,8 @@
 -- The leftmost valley by its places, and the segments beside it.
 use Rattle.std.specs.List.{concat, sum}
-use Rattle.std.proofs.Common.{List, Some, [], ap, arith, drop, length, refl, slice_get, slice_index_or, suc, sym, take, zero, ℕ, ◌+◌, ◌-◌, ◌<◌, ◌∙◌, ◌∷◌, ◌≡◌, ◌≤◌}
-use Rattle.std.proofs.lemmas.List.{length-drop, length-map, length-take}
+use Rattle.std.proofs.Common.{List, Some, [], ap, arith, drop, length, refl, slice_get, slice_index_or, suc, sym, take, zero}
+use Rattle.std.proofs.Common.{ℕ, ◌+◌, ◌-◌, ◌<◌, ◌∙◌, ◌∷◌, ◌≡◌, ◌≤◌}
+use Rattle.std.proofs.lemmas.List.{length-drop, length-take}
 use Rattle.std.proofs.lemmas.Option.{get_or_from_slice_get}
 use Rattle.bk_word.proofs.PlayLists.{place_within}
 use Rattle.bk_word.specs.Outline.{sizes_of, valley_of, valley_place}
@@ -64,7 +65,7 @@ module _ (w : Word) (legal : IsLegal w) (sizes ends : List ℕ) (s : sizes ≡ s
   )
 
   -- those of the segment at its left
-  pub left_fits : 0 < v.place → slice_index_or sizes (v.place - 1) 0 ≤ v.start
+  left_fits : 0 < v.place → slice_index_or sizes (v.place - 1) 0 ≤ v.start
   left_fits some = let one : v.place - 1 + 1 ≡ v.place = omega (arith, some) in
       omega (arith, start_sum, sum_more sizes (v.place - 1) (omega (arith, place_low)), ap (λ k. sum (take k sizes)) one)
 

@@ -35,7 +35,8 @@ returns-then-place-eq0-clause-few c =
 
 pub returns-clause-few : goal.returns-clause-few
 returns-clause-few c = record {
-  none = few_up c.pass_before-passed.result (c.args.valley.now.place - 1) 500 (omega (arith, c.pass_before-passed.ensures.small)) c.pass_before-passed.ensures.few;
+  none = few_up c.pass_before-passed.result (c.args.valley.now.place - 1) 500 (omega (arith, c.pass_before-passed.ensures.small))
+      c.pass_before-passed.ensures.few;
   even = few_up c.left_even.result.passed 451 500 (omega arith) c.left_even.ensures.few;
   under = few_up c.left_under.result.passed 451 500 (omega arith) c.left_under.ensures.few;
 }

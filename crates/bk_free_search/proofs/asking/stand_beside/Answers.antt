@@ -1,11 +1,10 @@
-use Rattle.std.proofs.Common.{ap, arith, subst}
+use Rattle.std.proofs.Common.{ap, arith}
 use Rattle.bk_word.specs.Outline.{start}
 use Rattle.bk_word.specs.Play.{outline_of}
-use Rattle.bk_word.specs.Word.{Word, order_of}
+use Rattle.bk_word.specs.Word.{order_of}
 use Rattle.bk_word_net.proofs.Shape.{hung_many}
 use Rattle.bk_skel.proofs.TurnParts.{sum_lengths}
 use Rattle.bk_bounds.proofs.BoundsOfWords.{shape_of_word}
-use Rattle.bk_free_search.specs.Valleys.{IsValley}
 use Rattle.bk_free_search.proofs.asking.stand_beside.Goals as goal
 
 pub find_valley-valley-requires-clause-fits : goal.find_valley-valley-requires-clause-fits

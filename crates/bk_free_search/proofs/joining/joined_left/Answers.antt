@@ -1,4 +1,4 @@
-use Rattle.std.proofs.Common.{Some, ap, arith, drop, inr, length, rules, slice_get, take, sym, ◌-◌, ◌<◌, ◌∙◌, ◌≡◌}
+use Rattle.std.proofs.Common.{Some, ap, arith, drop, inr, length, rules, slice_get, take, sym, ◌-◌, ◌∙◌, ◌≡◌}
 use Rattle.bk_word.proofs.PlayLists.{place_within}
 use Rattle.bk_word.specs.declared.Sign.TheVariants.{Even}
 use Rattle.bk_word.specs.Play.{outline_of}

@@ -1,4 +1,4 @@
-use Rattle.std.proofs.Common.{ap, arith, inl, inr, length, refl, subst, sym, ℕ, ◌∙◌, ◌≡◌, ◌⊎◌}
+use Rattle.std.proofs.Common.{ap, arith, inl, inr, refl, subst, sym, ℕ, ◌∙◌, ◌≡◌, ◌⊎◌}
 use Rattle.bk_word.specs.Outline.{sizes_of, valley_of}
 use Rattle.bk_word.specs.Play.{IsLegal, outline_of}
 use Rattle.bk_word.specs.Word.{Word}
@@ -14,7 +14,8 @@ pub slice_bounds-squares-end : goal.slice_bounds-squares-end
 slice_bounds-squares-end c = omega (
   arith,
   ends_within c.skel-skel.result.now c.skel-skel.ensures.legal (sizes_of (outline_of c.skel-skel.result.now))
-      c.ends-ends.result.now refl c.ends-ends.ensures c.args.valley.now (subst (λ (w : Word). IsValley w c.args.valley.now) (sym c.skel-skel.ensures.value) c.requires.valley),
+      c.ends-ends.result.now refl c.ends-ends.ensures c.args.valley.now
+      (subst (λ (w : Word). IsValley w c.args.valley.now) (sym c.skel-skel.ensures.value) c.requires.valley),
 )
 
 pub with_line-requires : goal.with_line-requires
@@ -30,7 +31,8 @@ returns-then-touch_one c told = parted_before c.args.board.now c.args.m.now (sub
     (subst (λ (w : Word). JoinsRight (outline_of w) c.args.m.now c.joined_right-later.result.now) c.skel-skel.ensures.value c.joined_right-later.ensures)
     c.lines_left_of-lefts.result c.lines_right_of-rights.result c.with_line.result c.right_end.result
     (c.right_end.ensures.value ∙ ap (right_end (sides_of c.args.board.now)) (valley_read c.skel-skel.result.now c.skel-skel.ensures.legal
-    (sizes_of (outline_of c.skel-skel.result.now)) c.ends-ends.result.now refl c.ends-ends.ensures c.args.valley.now (subst (λ (w : Word). IsValley w c.args.valley.now) (sym c.skel-skel.ensures.value) c.requires.valley)
+    (sizes_of (outline_of c.skel-skel.result.now)) c.ends-ends.result.now refl c.ends-ends.ensures c.args.valley.now
+    (subst (λ (w : Word). IsValley w c.args.valley.now) (sym c.skel-skel.ensures.value) c.requires.valley)
     ∙ ap (λ (w : Word). valley_of (outline_of w)) c.skel-skel.ensures.value))
     c.lines_left_of-lefts.ensures c.lines_right_of-rights.ensures c.with_line.ensures.only (c.touch_one.ensures told)
 
@@ -41,7 +43,8 @@ returns-else-touch_one c told = parted_behind c.args.board.now c.args.m.now (sub
     (subst (λ (w : Word). JoinsRight (outline_of w) c.args.m.now c.joined_right-later.result.now) c.skel-skel.ensures.value c.joined_right-later.ensures)
     c.with_line-else-touch_one.result c.lines_right_of-rights.result c.left_end.result
     (c.left_end.ensures.value ∙ ap (left_end (sides_of c.args.board.now)) (valley_read c.skel-skel.result.now c.skel-skel.ensures.legal
-    (sizes_of (outline_of c.skel-skel.result.now)) c.ends-ends.result.now refl c.ends-ends.ensures c.args.valley.now (subst (λ (w : Word). IsValley w c.args.valley.now) (sym c.skel-skel.ensures.value) c.requires.valley)
+    (sizes_of (outline_of c.skel-skel.result.now)) c.ends-ends.result.now refl c.ends-ends.ensures c.args.valley.now
+    (subst (λ (w : Word). IsValley w c.args.valley.now) (sym c.skel-skel.ensures.value) c.requires.valley)
     ∙ ap (λ (w : Word). valley_of (outline_of w)) c.skel-skel.ensures.value))
     c.lines_right_of-rights.ensures (λ k has. alone k (c.with_line-else-touch_one.ensures.only k has)) (c.touch_one-else-touch_one.ensures told)
   where

@@ -1,4 +1,4 @@
-use Rattle.std.proofs.Common.{IsTrue, arith, nat_eq, not, rules, subst, ℕ, ◌<◌, ◌^◌}
+use Rattle.std.proofs.Common.{IsTrue, arith, nat_eq, not, rules, ℕ, ◌<◌, ◌^◌}
 use Rattle.bk_free_search.proofs.LineSets.{one_from}
 use Rattle.bk_free_search.proofs.marks.has_one.Goals as goal
 

@@ -1,4 +1,4 @@
-use Rattle.std.proofs.Common.{IsTrue, arith, bit_and, nat_eq, not, rules, subst, ℕ, ◌<◌, ◌^◌, ◌≡◌, ◌≢◌}
+use Rattle.std.proofs.Common.{IsTrue, arith, bit_and, nat_eq, not, rules, subst, ℕ, ◌<◌, ◌^◌, ◌≢◌}
 use Rattle.std.proofs.lemmas.Nat.{and_le_l}
 use Rattle.bk_free_search.proofs.LineSets.{not_first, not_second, shared_left, shared_right, some_line}
 use Rattle.bk_free_search.proofs.node_lines.touches_pair.Goals as goal

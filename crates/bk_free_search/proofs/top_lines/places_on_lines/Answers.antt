@@ -1,4 +1,4 @@
-use Rattle.std.proofs.Common.{Bool, List, ap, arith, inl, inr, slice_index_or, subst, sym, true, ◌∙◌}
+use Rattle.std.proofs.Common.{arith}
 use Rattle.bk_free_search.proofs.top_lines.places_on_lines.Goals as goal
 
 pub ends-init : goal.ends-init

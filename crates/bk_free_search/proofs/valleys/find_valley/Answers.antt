@@ -1,5 +1,5 @@
 use Rattle.std.specs.List.{sum}
-use Rattle.std.proofs.Common.{ap, arith, length, slice_index_or, take, ◌+◌, ◌<◌, ◌≤◌}
+use Rattle.std.proofs.Common.{ap, arith, length, ◌<◌}
 use Rattle.std.proofs.lemmas.List.{length-take}
 use Rattle.bk_bounds.proofs.BoundsOfWords.{sizes_long}
 use Rattle.bk_free_search.proofs.OpenSegments.{segment_within}
