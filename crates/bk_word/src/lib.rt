@@ -22,7 +22,7 @@ use smallvec::SmallVec;
 use std::alloc::Global;
 use std::cmp::Ordering;
 use std::marker::Model;
-use storage::{bytes_of, count_place, counts, signs_at, sum_of_counts};
+use storage::{append_move, count_place, counts, signs_at, sum_of_counts};
 use thiserror::Error;
 pub use writer::write_word;
 
@@ -36,7 +36,7 @@ pub const MOST_SIGNS: usize = LARGEST_ORDER + 1;
 pub const INLINE_ORDER: usize = 16;
 
 // So many bytes of a word are kept without memory. A word of n squares has at most 3 n bytes.
-const INLINE_BYTES: usize = 64;
+pub(crate) const INLINE_BYTES: usize = 64;
 
 /// How the left one of two neighbouring bottoms stands to the right one.
 #[derive(Clone, Copy, Debug, Default, PartialEq, Eq, Drop)]
@@ -120,10 +120,11 @@ impl Word {
         ensures inline { order_of self.old + m.now.count ≤ 16 → IsOk result }
         ensures bytes { length (stored self.old) + length (stored_move m.now) ≤ 64 → IsOk result }
     {
-        let bytes = bytes_of(m.count, m.signs.as_slice());
-        if self.bytes.extend_from_slice(bytes.as_slice()).is_err() {
+        let signs = m.signs.as_slice();
+        if self.bytes.reserve(1 + signs.len()).is_err() {
             return Err(NoMemory);
         }
+        append_move(&mut self.bytes, m.count, signs);
         Ok(())
     }
 

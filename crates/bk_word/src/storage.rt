@@ -1,12 +1,14 @@
 //! The bytes in which a word is stored.
 #![tactic(auto)]
 
-ghost use Rattle.std.specs.Prelude.{count_by, drop, length, map, slice_index, true, ◌<◌, ◌∷◌, ◌≡◌, ◌≤◌};
+ghost use Rattle.std.specs.Prelude.{count_by, drop, length, map, slice_index, true, ◌+◌, ◌++◌, ◌<◌, ◌∷◌, ◌≡◌, ◌≤◌};
+ghost use Rattle.smallvec.specs.SmallVec.{HasRoomFor};
 ghost use Rattle.bk_word.specs.Word.{order_of};
 ghost use Rattle.bk_word.specs.Stored.{front_signs, is_count, moves_in, sign_byte, sign_of as sign_of_byte};
 
-use crate::{MOST_SIGNS, Sign};
+use crate::{INLINE_BYTES, MOST_SIGNS, Sign};
 use arrayvec::ArrayVec;
+use smallvec::SmallVec;
 
 // The bytes of the signs. Those of counts are below them.
 const ABOVE: u8 = 201;
@@ -14,9 +16,6 @@ const ABOVE: u8 = 201;
 const EVEN: u8 = 202;
 
 const UNDER: u8 = 203;
-
-// The bytes of a move are at most so many: that of its count, and its signs'.
-const MOST_MOVE_BYTES: usize = MOST_SIGNS + 1;
 
 // Whether a byte is that of a count.
 pub(crate) fn is_count(byte: u8) -> bool
@@ -47,17 +46,16 @@ pub(crate) fn sign_of(byte: u8) -> Sign
     }
 }
 
-// The bytes of a move of so many squares with these signs.
-pub(crate) fn bytes_of(count: u8, signs: &[Sign]) -> ArrayVec<u8, MOST_MOVE_BYTES>
-    requires { length signs.now ≤ 201 }
-    ensures { result.items ≡ count ∷ map sign_byte signs.now }
+// Appends the bytes of a move of so many squares with these signs, for which there must be room.
+pub(crate) fn append_move(bytes: &mut SmallVec<u8, INLINE_BYTES>, count: u8, signs: &[Sign])
+    requires { HasRoomFor bytes.old (1 + length signs.now) }
+    ensures items { bytes.new.items ≡ bytes.old.items ++ count ∷ map sign_byte signs.now }
+    ensures capacity { bytes.new.capacity ≡ bytes.old.capacity }
 {
-    let mut bytes = ArrayVec::new();
-    bytes.push(count);
-    for sign in signs {
-        bytes.push(byte_of(*sign));
+    bytes.push_reserved(count);
+    'signs: for sign in signs {
+        bytes.push_reserved(byte_of(*sign));
     }
-    bytes
 }
 
 // The signs before the first count, of which there are at most 201.

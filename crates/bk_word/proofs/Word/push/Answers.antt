@@ -1,49 +1,57 @@
-use Rattle.std.specs.Prelude.{List, length, map, ◌++◌, ◌∷◌, ◌≡◌}
-use Rattle.std.proofs.Common.{ap, arith, subst, sym, ℕ, ◌∙◌}
+use Rattle.std.specs.Prelude.{length, map, ◌+◌, ◌++◌, ◌∷◌, ◌≡◌}
+use Rattle.std.proofs.Common.{ap, arith, subst, sym, ◌∙◌}
+use Rattle.std.proofs.lemmas.List.{length-map}
 use Rattle.bk_word.specs.Stored.{IsStoredWord, moves_in, sign_byte, stored_move}
-use Rattle.bk_word.specs.declared.Sign.{Sign}
+use Rattle.bk_word.specs.Word.{Move}
 use Rattle.bk_word.proofs.Failing.{no_err, on_ok}
 use Rattle.bk_word.proofs.StoredBytes.{has_bytes, has_room, pushed}
 use Rattle.bk_word.proofs.Word.push.Goals as goal
 
-pushed_bytes : (c : goal.Else-is_err) → c.extend_from_slice.new.self.items ≡ c.self.inside.bytes.items ++ stored_move c.args.m.now
-pushed_bytes c =
-    on_ok c.extend_from_slice.result _ c.extend_from_slice.ensures.ok (sym c.is_err.ensures.value ∙ c.if-is_err.false)
-    ∙ ap (λ (z : List ℕ). c.self.inside.bytes.items ++ z)
-    (c.as_slice-2.ensures.value ∙ c.bytes_of-bytes.ensures ∙ ap (λ (l : List Sign). c.m.inside.count ∷ map sign_byte l) c.as_slice.ensures.value
-    ∙ ap stored_move c.m.view_is)
+pub append_move-requires : goal.append_move-requires
+append_move-requires c = omega (
+  arith,
+  on_ok c.reserve.result _ c.reserve.ensures.ok (sym c.is_err.ensures.value ∙ c.if-is_err.false),
+)
+
+appended : (c : goal.After-append_move) → c.append_move.new.bytes.items ≡ c.self.inside.bytes.items ++ stored_move c.args.m.now
+appended c =
+    c.append_move.ensures.items ∙ (λ i. c.reserve.ensures.items i ++ c.m.inside.count ∷ map sign_byte (c.as_slice-signs.ensures.value i))
+    ∙ ap (λ (m : Move). c.self.inside.bytes.items ++ stored_move m) c.m.view_is
 
 pub invariant_of-self-2 : goal.invariant_of-self-2
 invariant_of-self-2 c = record {
-  stored = subst IsStoredWord (sym (pushed_bytes c)) (pushed c.self.inside.bytes.items c.args.self.now c.args.m.now c.self.invariant.stored c.self.view_is
+  stored = subst IsStoredWord (sym (appended c)) (pushed c.self.inside.bytes.items c.args.self.now c.args.m.now c.self.invariant.stored c.self.view_is
       c.requires.stands c.requires.few).1;
-  room = omega (arith, c.self.invariant.room, c.extend_from_slice.ensures.capacity);
+  room = omega (arith, c.self.invariant.room, c.reserve.ensures.capacity, c.append_move.ensures.capacity);
 }
 
 pub returns-clause-ok : goal.returns-clause-ok
-returns-clause-ok c = ap moves_in (pushed_bytes c)
+returns-clause-ok c = ap moves_in (appended c)
     ∙ (pushed c.self.inside.bytes.items c.args.self.now c.args.m.now c.self.invariant.stored c.self.view_is c.requires.stands c.requires.few).0
 
-move_bytes : (c : goal.Then-is_err) → c.as_slice-2.result.now ≡ stored_move c.args.m.now
-move_bytes c =
-    c.as_slice-2.ensures.value ∙ c.bytes_of-bytes.ensures ∙ ap (λ (l : List Sign). c.m.inside.count ∷ map sign_byte l) c.as_slice.ensures.value
-    ∙ ap stored_move c.m.view_is
+move_length : (c : goal.Then-is_err) → 1 + length c.as_slice-signs.result.now ≡ length (stored_move c.args.m.now)
+move_length c = omega (
+  arith,
+  length-map c.m.inside.signs.items sign_byte,
+  ap length c.as_slice-signs.ensures.value,
+  ap (λ (m : Move). length (stored_move m)) c.m.view_is,
+)
 
 pub returns-then-is_err-clause-inline : goal.returns-then-is_err-clause-inline
-returns-then-is_err-clause-inline c = λ few. no_err c.extend_from_slice.result
-    (c.extend_from_slice.ensures.succeeds (omega (
+returns-then-is_err-clause-inline c = λ few. no_err c.reserve.result
+    (c.reserve.ensures.succeeds (omega (
       arith,
-      ap (λ (z : List ℕ). length z) (move_bytes c),
+      move_length c,
       has_room c.self.inside.bytes.items c.args.self.now c.args.m.now c.self.inside.bytes.capacity c.self.invariant c.self.view_is
           c.requires.stands few,
     )))
     (sym c.is_err.ensures.value ∙ c.if-is_err.true)
 
 pub returns-then-is_err-clause-bytes : goal.returns-then-is_err-clause-bytes
-returns-then-is_err-clause-bytes c = λ few. no_err c.extend_from_slice.result
-    (c.extend_from_slice.ensures.succeeds (omega (
+returns-then-is_err-clause-bytes c = λ few. no_err c.reserve.result
+    (c.reserve.ensures.succeeds (omega (
       arith,
-      ap (λ (z : List ℕ). length z) (move_bytes c),
+      move_length c,
       has_bytes c.self.inside.bytes.items c.args.self.now c.args.m.now c.self.inside.bytes.capacity c.self.invariant c.self.view_is few,
     )))
     (sym c.is_err.ensures.value ∙ c.if-is_err.true)
