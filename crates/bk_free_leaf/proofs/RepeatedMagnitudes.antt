@@ -1,6 +1,7 @@
 -- Magnitudes that differ, or two that don't, told of a tiling whose sides they are.
 use Rattle.std.specs.List.Sorted.{IsPermutation}
-use Rattle.std.specs.Prelude.{Bool, List, cond, count_by, false, get_or, length, map, nat_abs, pos, refl, replicate, set, true, ℕ, ℤ, ◌%◌, ◌+◌, ◌<◌, ◌==◌, ◌↔◌, ◌≡◌, ◌≢◌, ◌⊎◌, ◌≤◌}
+use Rattle.std.specs.Prelude.{Bool, List, cond, count_by, false, get_or, length, map, nat_abs, pos, refl, replicate, set, true}
+use Rattle.std.specs.Prelude.{ℕ, ℤ, ◌%◌, ◌+◌, ◌<◌, ◌==◌, ◌↔◌, ◌≡◌, ◌≢◌, ◌⊎◌, ◌≤◌}
 use Rattle.std.proofs.Common.{ap, arith, inl, inr, length-set, length-take, sym, take, ◌∙◌}
 use Rattle.std.proofs.lemmas.Bool.{cases_eq, eq-eqb, eqb-true}
 use Rattle.std.proofs.lemmas.List.{get_or-map, get_or-set_other, get_or-set_same, get_or-take, length-map}
@@ -91,7 +92,8 @@ pub not_perfect : (cs : List ℤ) (t : Tiling) (i m : ℕ) → IsPermutation (si
 not_perfect cs t i m same within em (k, early, e) = (
   λ no. absurd cc,
   λ perfect. absurd (imperfect_from_two t (map nat_abs cs) same k i before (omega (arith, within, length-map cs nat_abs))
-      (magnitude_is cs k (omega (arith, before, within)) ∙ ap nat_abs (sym (get_or-take i cs k (pos 0) before)) ∙ e ∙ em ∙ sym (magnitude_is cs i within)) perfect),
+      (magnitude_is cs k (omega (arith, before, within)) ∙ ap nat_abs (sym (get_or-take i cs k (pos 0) before)) ∙ e ∙ em
+      ∙ sym (magnitude_is cs i within)) perfect),
 )
   where
     before : k < i

@@ -3,7 +3,8 @@
 
 ghost use Rattle.std.specs.List.{All};
 ghost use Rattle.std.specs.List.Sorted.{IsNonDecreasing, IsPermutation};
-ghost use Rattle.std.specs.Prelude.{AllPairs, IfNone, IfSome, IsNone, IsSome, IsTrue, count_by, false, length, nat_le, ◌&&◌, ◌+◌, ◌<◌, ◌^◌, ◌||◌, ◌↔◌, ◌≡◌, ◌≢◌, ◌≤◌, ◌⊎◌};
+ghost use Rattle.std.specs.Prelude.{AllPairs, IfNone, IfSome, IsNone, IsSome, IsTrue, count_by, false, length, nat_le};
+ghost use Rattle.std.specs.Prelude.{◌&&◌, ◌+◌, ◌<◌, ◌^◌, ◌||◌, ◌↔◌, ◌≡◌, ◌≢◌, ◌≤◌, ◌⊎◌};
 ghost use Rattle.bk_simple.specs.Border.{IsUncut, is_inside, is_outside, rectangle_of};
 ghost use Rattle.bk_simple.specs.FirstLaws.{AFirstPartIsOne, ALeastRepeatedSideIsOne};
 ghost use Rattle.bk_simple.specs.Neighbours.{IsFirstTwice, NoneTwice};

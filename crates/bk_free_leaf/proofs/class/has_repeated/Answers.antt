@@ -22,7 +22,8 @@ pub currents-preserved : goal.currents-preserved
 currents-preserved c =
     let magnitude : c.unsigned_abs-magnitude.result ≡ nat_abs (slice_index_or c.args.currents.now c.currents.i (pos 0)) =
     c.unsigned_abs-magnitude.ensures.value ∙ ap nat_abs (to_z-of_z w64 (slice_index_or c.args.currents.now c.currents.i (pos 0)) (search rules)) in
-    apart_more c.args.currents.now c.currents.met c.currents.i c.unsigned_abs-magnitude.result c.ending.result c.currents.invariant c.currents-test.true magnitude
+    apart_more c.args.currents.now c.currents.met c.currents.i c.unsigned_abs-magnitude.result c.ending.result c.currents.invariant
+    c.currents-test.true magnitude
     c.ending.ensures (c.is_met.ensures.none c.if-is_met.false)
 
 pub returns : goal.returns
