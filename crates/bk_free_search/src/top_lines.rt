@@ -40,7 +40,8 @@ fn on_line(lefts: &[u8], first: u8, square: u8) -> bool
     is_top_line(first, left_of(lefts, square))
 }
 
-// Whether the line of this number begins between two squares of a first move of so many: of 2, 3 and so on, one less than the squares.
+// Whether the line of this number begins between two squares of a first move of so many. Such lines have the numbers from 2 on, and are one less
+// than the squares; a wall's number wraps to a great one.
 fn is_top_line(first: u8, line: u8) -> bool
     ensures { result ≡ is_top_line first line }
 {
