@@ -2,7 +2,7 @@
 """Runs the gate in one piece, and writes its times and the sizes of the crates into docs/GATE.md, between the two marks there.
 
 Each run proves all from nothing: what a toolchain keeps of earlier runs isn't used (`--anew`, if the toolchain knows it). The status is the
-gate's. With --sizes nothing is run: only the sizes are written, which are those of the tree as it is.
+gate's. With --sizes nothing is run: only the sizes are written, which are those of the tree as it is; the times stay those of the last run.
 
     scripts/gate_times.py [--sizes]
 """
@@ -73,19 +73,32 @@ def table(last, done, wall):
     yield from rows(done)
 
 
+def parts_of_page():
+    """Returns the page's text in front of the marks, between them and behind."""
+    with open(PAGE, encoding="utf-8") as file:
+        front, _, rest = file.read().partition(BEGIN)
+    between, _, back = rest.partition(END)
+    return front, between, back
+
+
 def write(text):
     """Writes the text between the marks of the page."""
-    with open(PAGE, encoding="utf-8") as file:
-        page = file.read()
-    front, _, rest = page.partition(BEGIN)
-    _, _, back = rest.partition(END)
+    front, _, back = parts_of_page()
     with open(PAGE, "w", encoding="utf-8") as file:
         file.write(front + BEGIN + text + END + back)
 
 
+def table_anew():
+    """Returns the table as it is on the page, what it tells of the last run too, with the sizes that the tree has now."""
+    _, between, _ = parts_of_page()
+    told, _, _ = between.partition("| crate |")
+    done = {name: float(at) for name, at in re.findall(r"\| `(\w+)` \| (\d+) s \|", between)}
+    return told + "".join(rows(done))
+
+
 def main():
     if sys.argv[1:] == ["--sizes"]:
-        write("".join(rows({})))
+        write(table_anew())
         return 0
     status, last, done, wall = run_gate()
     write("".join(table(last, done, wall)))
