@@ -6,7 +6,7 @@ Contents decide what is done, and not times: the program and each library have a
 is not made again. If the program is right already, nothing is said or done, and no toolchain is needed.
 
 Each crate is proved from nothing, by the prover's own command, over the libraries of the crates below. The fewer crates are at work, the more
-processes prove one; the crate with the longest chain above it has a second one, and goes before the others. What is proved stays as a library in the
+processes prove one; the crate with the longest chain above it has a second one or a third, and goes before the others. What is proved stays as a library in the
 crate's folder out/rlib/, so a build that was stopped goes on where it was. The program that is there stays until the new one takes its place. Standard
 error says which crates are being proved, how many are done and how long it has taken. The status is 0 if the program is in
 crates/bk_main/out/bk_main, made from what is there now.
@@ -187,10 +187,10 @@ class Progress:
                 self.tell(self.so_far())
 
 
-def processes(jobs, crates, is_longest):
+def processes(jobs, crates, is_longest, is_late):
     """Returns by how many processes a crate is proved while so many are at work. With a second one it is sooner done, but takes half as much time again
-    in all; so if all processors are taken only the crate with the longest chain above it has one."""
-    return max(min(2 if is_longest else 1, jobs), jobs // crates)
+    in all; so if all processors are taken only the crate with the longest chain above it has one, and a third if that chain takes longer than all else."""
+    return max(min((2 + is_late) if is_longest else 1, jobs), jobs // crates)
 
 
 def prove(crates, toolchain, jobs, log, progress):
@@ -204,9 +204,10 @@ def prove(crates, toolchain, jobs, log, progress):
             ready = [it for it in waiting if proved.issuperset(it.named)][: jobs - len(running)]
             at_work = [*running.values(), *ready]
             longest = max((it.chain for it in at_work), default=0)
+            is_late = longest * jobs > sum(it.work for it in crates if it not in proved)
             for it in ready:
                 is_longest = it.chain == longest
-                running[pool.submit(it.prove, toolchain, processes(jobs, len(at_work), is_longest), not is_longest)] = it
+                running[pool.submit(it.prove, toolchain, processes(jobs, len(at_work), is_longest, is_late), not is_longest)] = it
             waiting = [it for it in waiting if it not in ready]
             if not running:
                 return not waiting and len(proved) == len(crates)

@@ -9,7 +9,7 @@ use Rattle.bk_free_cuts.specs.LineNumbers.{lefts_of}
 use Rattle.bk_free_search.specs.Joining.{JoinsLeft, JoinsRight}
 use Rattle.bk_free_search.specs.Lefts.{IsLeftOfOne}
 use Rattle.bk_free_search.specs.Rights.{IsRightOfOne, rights_of}
-use Rattle.bk_free_search.specs.Valleys.{IsValley}
+use Rattle.bk_skel.specs.SmallSkeleton.{IsValley}
 
 abbrev move : ℕ → List Sign → Move
 move count signs = record { count = count; signs = signs }
@@ -22,7 +22,7 @@ front = outline_of word
 
 -- the valley is the second open segment, and takes the second and the third of the open squares 4, 5, 2, 3
 valley : IsValley word (record { place = 1; start = 1; end = 3 })
-valley = record { place_is = refl; start_is = refl; end_is = refl }
+valley = record { stands = record { place_is = refl; first_is = refl }; end_is = refl }
 
 -- at the left of the square 4 stands the left wall, and at the right of the square 3 the right one
 left_of_joined : IsLeftOfOne (lefts_of word) (4 ∷ []) 0

@@ -1,5 +1,5 @@
 -- The segments behind a place, by the flat lists of the open squares.
-use Rattle.std.proofs.Common.{List, [], ap, arith, drop, length, refl, slice_index_or, suc, sum, sym, take, zero, ℕ}
+use Rattle.std.proofs.Common.{List, [], ap, drop, length, refl, slice_index_or, suc, sum, sym, take, zero, ℕ}
 use Rattle.std.proofs.Common.{◌+◌, ◌<◌, ◌∙◌, ◌∷◌, ◌≡◌, ◌≤◌}
 use Rattle.std.proofs.lemmas.List.{drop-drop, drop_all, drop_more}
 use Rattle.bk_bounds.proofs.LineCounting.{sum-cons}
@@ -20,8 +20,3 @@ sum_step sizes i h = ap sum (drop_more sizes i 0 h) ∙ sum-cons (slice_index_or
 
 pub sum_left : (sizes : List ℕ) (i : ℕ) → length sizes ≤ i → sum (drop i sizes) ≡ 0
 sum_left sizes i h = ap sum (drop_all i sizes h)
-
-pub sum_parts : (i : ℕ) (sizes : List ℕ) → sum (take i sizes) + sum (drop i sizes) ≡ sum sizes
-sum_parts zero sizes = omega arith
-sum_parts (suc i) [] = refl
-sum_parts (suc i) (n ∷ sizes) = omega (arith, sum_parts i sizes, sum-cons n (take i sizes), sum-cons n sizes)

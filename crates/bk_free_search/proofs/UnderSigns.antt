@@ -58,10 +58,11 @@ under_then front m own after = subst (λ (signs : List Sign). AllByRecursion (λ
     (none_before (valley_place (outline_of front).signs - 1) (outline_of front).signs (omega arith)) own) after))
 
 -- the signs behind the valley, as a skeleton shows them
-pub behind_are : (front skel : Word) (signs : List Sign) (place : ℕ) → skel ≡ front → signs ≡ (outline_of skel).signs → place ≡ valley_place signs
+pub behind_are : (front skel : Word) (signs : List Sign) (place : ℕ) → skel ≡ front → signs ≡ (outline_of skel).signs
+    → place ≡ valley_place (outline_of skel).signs
     → drop (place + 1) signs ≡ drop (valley_place (outline_of front).signs + 1) (outline_of front).signs
 behind_are front skel signs place same are is = let e : signs ≡ (outline_of front).signs = are ∙ ap (λ (w : Word). (outline_of w).signs) same in
-    (λ i. drop ((is ∙ ap valley_place e) i + 1) (e i))
+    (λ i. drop ((is ∙ ap (λ (w : Word). valley_place (outline_of w).signs) same) i + 1) (e i))
 
 -- ---- the numbers
 

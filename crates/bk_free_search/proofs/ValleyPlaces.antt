@@ -12,8 +12,8 @@ use Rattle.bk_skel.proofs.TurnParts.{sum_lengths}
 use Rattle.bk_bounds.proofs.BoundsOfWords.{sizes_long}
 use Rattle.bk_bounds.proofs.LineCounting.{sum-cons}
 use Rattle.bk_free_search.proofs.OpenSegments.{segment_read, segment_within}
-use Rattle.bk_free_search.specs.Valleys.{IsValley}
-use Rattle.bk_free_search.specs.declared.valleys.Valley.{Valley}
+use Rattle.bk_skel.specs.SmallSkeleton.{IsValley}
+use Rattle.bk_skel.specs.declared.small.ValleyPlace.{ValleyPlace}
 
 -- the sizes up to a place, and the next one
 sum_more : (sizes : List ℕ) (i : ℕ) → i < length sizes → sum (take (i + 1) sizes) ≡ sum (take i sizes) + slice_index_or sizes i 0
@@ -26,12 +26,12 @@ sum_more (n ∷ sizes) (suc i) h =
     ∙ again ∙ ap (λ k. k + slice_index_or sizes i 0) (sym (sum-cons n (take i sizes)))
 
 module _ (w : Word) (legal : IsLegal w) (sizes ends : List ℕ) (s : sizes ≡ sizes_of (outline_of w)) (e : ends ≡ concat (outline_of w).segments)
-    (v : Valley) (is : IsValley w v) where
+    (v : ValleyPlace) (is : IsValley w v) where
   pub place_low : v.place < length sizes
-  place_low = omega (arith, is.place_is, place_within (outline_of w).signs, sizes_long w legal, ap length s)
+  place_low = omega (arith, is.stands.place_is, place_within (outline_of w).signs, sizes_long w legal, ap length s)
 
   start_sum : v.start ≡ sum (take v.place sizes)
-  start_sum = is.start_is ∙ ap (λ l. sum (take v.place l)) (sym s)
+  start_sum = is.stands.first_is ∙ (λ i. sum (take (sym is.stands.place_is i) (sym s i)))
 
   end_sum : v.end ≡ v.start + slice_index_or sizes v.place 0
   end_sum = is.end_is ∙ ap (λ l. v.start + slice_index_or l v.place 0) (sym s)
@@ -52,7 +52,7 @@ module _ (w : Word) (legal : IsLegal w) (sizes ends : List ℕ) (s : sizes ≡ s
   valley_read = ap (λ k. take k (drop v.start ends)) (ap (λ k. k - v.start) end_sum)
       ∙ sym (get_or_from_slice_get (outline_of w).segments v.place (take (v.start + slice_index_or sizes v.place 0 - v.start) (drop v.start ends)) []
       (segment_read w sizes ends v.place v.start (slice_index_or sizes v.place 0) s e place_low start_sum refl))
-      ∙ ap (λ k. slice_index_or (outline_of w).segments k []) is.place_is
+      ∙ ap (λ k. slice_index_or (outline_of w).segments k []) is.stands.place_is
 
   pub valley_long : slice_index_or sizes v.place 0 ≡ length (valley_of (outline_of w))
   valley_long = omega (
@@ -74,7 +74,7 @@ module _ (w : Word) (legal : IsLegal w) (sizes ends : List ℕ) (s : sizes ≡ s
   left_read some = let one : v.place - 1 + 1 ≡ v.place = omega (arith, some) in
       let many : ℕ = slice_index_or sizes (v.place - 1) 0 in
       let long : v.start - many + many - (v.start - many) ≡ v.start - (v.start - many) = omega (arith, left_fits some) in
-      ap (λ k. slice_get (outline_of w).segments (k - 1)) (sym is.place_is)
+      ap (λ k. slice_get (outline_of w).segments (k - 1)) (sym is.stands.place_is)
       ∙ segment_read w sizes ends (v.place - 1) (v.start - many) many s e (omega (arith, place_low))
       (omega (arith, start_sum, sum_more sizes (v.place - 1) (omega (arith, place_low)), ap (λ k. sum (take k sizes)) one)) refl
       ∙ ap (λ k. Some (take k (drop (v.start - many) ends))) long
@@ -94,6 +94,6 @@ module _ (w : Word) (legal : IsLegal w) (sizes ends : List ℕ) (s : sizes ≡ s
 
   pub right_read : v.place + 1 < length sizes → slice_get (outline_of w).segments (valley_place (outline_of w).signs + 1)
       ≡ Some (take (v.end + slice_index_or sizes (v.place + 1) 0 - v.end) (drop v.end ends))
-  right_read more = ap (λ k. slice_get (outline_of w).segments (k + 1)) (sym is.place_is)
+  right_read more = ap (λ k. slice_get (outline_of w).segments (k + 1)) (sym is.stands.place_is)
       ∙ segment_read w sizes ends (v.place + 1) v.end (slice_index_or sizes (v.place + 1) 0) s e more
       (omega (arith, sum_more sizes v.place place_low, start_sum, end_sum)) refl

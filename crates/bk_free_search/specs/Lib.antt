@@ -7,7 +7,6 @@ pub mod Rights
 pub mod NodeLines
 pub mod Joining
 pub mod TopLines
-pub mod Valleys
 pub mod BoardOutlines
 pub mod Boards
 pub mod Apart

@@ -15,7 +15,6 @@ ghost use Rattle.bk_free_search.specs.AllUnder.{StandsAfter};
 use crate::ahead::most_moves;
 use crate::board::Board;
 use crate::counts::one_if;
-use bk_bound_counts::first_above;
 use bk_skel::SmallMove;
 use bk_word::Sign;
 
@@ -61,8 +60,8 @@ fn are_under_then(board: &Board, m: &SmallMove) -> bool
     if is_any_above(m.signs.as_slice()) {
         return false;
     }
-    let signs = board.skel().signs();
-    !is_any_above(behind(signs, first_above(signs)))
+    let skel = board.skel();
+    !is_any_above(behind(skel.signs(), skel.valley_place().place))
 }
 
 // What stands after the legal move.

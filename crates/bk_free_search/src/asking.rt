@@ -6,10 +6,10 @@ ghost use Rattle.bk_word.specs.Play.{IsLegal, outline_of};
 ghost use Rattle.bk_word.specs.Word.{Move as SeenMove, Word as Moves, order_of};
 ghost use Rattle.bk_word.specs.declared.Sign.{Sign as SeenSign};
 ghost use Rattle.bk_word.specs.declared.Sign.TheVariants.{Even, Under};
+ghost use Rattle.bk_skel.specs.SmallSkeleton.{IsValley};
 ghost use Rattle.bk_free_search.specs.Apart.{IsCountedTo};
 ghost use Rattle.bk_free_search.specs.Asking.{AreAskedBefore, AreFewAsks, AreFewBefore, AreMarks, AreNeeds, IsAsked, IsNext, IsOver, NeedsLeft, StandBeside};
 ghost use Rattle.bk_free_search.specs.Strong.{IsFew, seen_passed};
-ghost use Rattle.bk_free_search.specs.Valleys.{IsValley};
 
 use crate::ahead::{Ahead, look_ahead};
 use crate::behind::{Asks, Behind, behind_valley};
@@ -18,8 +18,7 @@ use crate::counts::one_if;
 use crate::line_set::LineSet;
 use crate::marks::{has_mark, is_left_on_line, is_wide_then, marks_of};
 use crate::strong::{Passed, in_front_of_mark, none_passed, past_one};
-use crate::valleys::{Valley, find_valley};
-use bk_skel::open_side;
+use bk_skel::{ValleyPlace, open_side};
 use bk_word::Sign;
 
 /// What stands beside the leftmost valley: whether the walls do, what the segments before it ask for, and those behind it, what is ahead, and
@@ -32,7 +31,7 @@ pub(crate) struct Beside {
     pub(crate) behind: Behind,
     pub(crate) ahead: Ahead,
     pub(crate) needs: Needs,
-    pub(crate) valley: Valley,
+    pub(crate) valley: ValleyPlace,
 }
 
 /// What is asked for before the first sign of a next move, and with the sign even or under at a left neighbour. (Own.)
@@ -74,7 +73,7 @@ pub(crate) fn stand_beside(board: &Board, order: u8) -> Beside
     ensures { StandBeside order board.now result }
 {
     let signs = board.skel().signs();
-    let valley = find_valley(board.skel());
+    let valley = board.skel().valley_place();
     let place = valley.place;
     let left_wall = place == 0;
     let right_wall = place == signs.len();
@@ -107,7 +106,7 @@ fn needs_of(before: &Before, behind: &Behind, moves: usize) -> Needs
 }
 
 // What is asked for before the leftmost valley of a board.
-fn before_valley(board: &Board, marks: LineSet, valley: &Valley) -> Before
+fn before_valley(board: &Board, marks: LineSet, valley: &ValleyPlace) -> Before
     requires few { order_of board.now ≤ 16 }
     requires marks { AreMarks board.now marks }
     requires valley { IsValley board.now valley.now }
@@ -225,7 +224,7 @@ fn left_even(board: &Board, marks: LineSet, place: usize, passed: Passed) -> Ask
 }
 
 // And with the sign under, where the valley stands behind that segment.
-fn left_under(board: &Board, marks: LineSet, valley: &Valley, passed: Passed) -> Asked
+fn left_under(board: &Board, marks: LineSet, valley: &ValleyPlace, passed: Passed) -> Asked
     requires marks { AreMarks board.now marks }
     requires valley { IsValley board.now valley.now }
     requires some { 0 < valley.now.place }

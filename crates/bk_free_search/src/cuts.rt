@@ -6,15 +6,14 @@ ghost use Rattle.bk_word.specs.Word.{Move as SeenMove, Word as Moves};
 ghost use Rattle.bk_word.specs.declared.Sign.TheVariants.{Even};
 ghost use Rattle.bk_free_search.specs.Asking.{IsAsked};
 ghost use Rattle.bk_word.specs.Play.{IsLegal};
+ghost use Rattle.bk_skel.specs.SmallSkeleton.{IsValley};
 ghost use Rattle.bk_net_word.specs.NetWord.{IsNetBarren};
-ghost use Rattle.bk_free_search.specs.Valleys.{IsValley};
 
 use crate::asking::Asked;
-use crate::valleys::Valley;
-use bk_skel::{SmallMove, SmallSkel};
+use bk_skel::{SmallMove, SmallSkel, ValleyPlace};
 
 /// The least count of a next move that isn't barren: one square hangs under no segment of just one, and the first move is none of one.
-pub(crate) fn least_count(skel: &SmallSkel, valley: &Valley) -> u8
+pub(crate) fn least_count(skel: &SmallSkel, valley: &ValleyPlace) -> u8
     requires word { IsLegal skel.now }
     requires valley { IsValley skel.now valley.now }
     ensures some { 0 < result }

@@ -5,21 +5,20 @@ ghost use Rattle.std.specs.List.{list_any};
 ghost use Rattle.std.specs.Prelude.{IsTrue, Some, [], length, slice_get, ◌++◌, ◌<◌, ◌∷◌, ◌≡◌, ◌≤◌};
 ghost use Rattle.bk_word.specs.Outline.{IsLegalMove, valley_place};
 ghost use Rattle.bk_word.specs.Play.{IsLegal, outline_of, parts};
+ghost use Rattle.bk_skel.specs.SmallSkeleton.{IsValley};
 ghost use Rattle.bk_free_cuts.specs.NodeCut.{ShareANode};
 ghost use Rattle.bk_net_word.specs.NetWord.{IsNetBarren};
 ghost use Rattle.bk_free_search.specs.Joining.{JoinsLeft, JoinsRight};
-ghost use Rattle.bk_free_search.specs.Valleys.{IsValley};
 
 use crate::board::Board;
 use crate::line_set::{no_line, with_line};
-use crate::valleys::Valley;
-use bk_skel::{SmallMove, SmallSkel};
+use bk_skel::{SmallMove, SmallSkel, ValleyPlace};
 use bk_word::Sign;
 
 /// Whether no word of the order goes on from the board's moves by this legal one, as it hangs one square: it leaves one segment
 /// while squares are left, or two lines at the segment that it joins share a closed node. A move of more squares joins no two
 /// segments that stand open before.
-pub(crate) fn joins_barrenly(board: &Board, valley: &Valley, m: &SmallMove, order: u8) -> bool
+pub(crate) fn joins_barrenly(board: &Board, valley: &ValleyPlace, m: &SmallMove, order: u8) -> bool
     requires valley { IsValley board.now valley.now }
     requires legal { IsLegalMove (outline_of board.now) m.now }
     ensures { IsTrue result → IsNetBarren order (board.now ++ m.now ∷ []) }
@@ -51,7 +50,7 @@ fn any_parts(signs: &[Sign]) -> bool
 }
 
 // Whether, after a legal move of one square, two lines at the segment that it joins bound a part of the tiling.
-pub(crate) fn joins_parted(board: &Board, valley: &Valley, m: &SmallMove) -> bool
+pub(crate) fn joins_parted(board: &Board, valley: &ValleyPlace, m: &SmallMove) -> bool
     requires valley { IsValley board.now valley.now }
     requires legal { IsLegalMove (outline_of board.now) m.now }
     requires one { m.now.count ≡ 1 }
@@ -72,7 +71,7 @@ pub(crate) fn joins_parted(board: &Board, valley: &Valley, m: &SmallMove) -> boo
 }
 
 // The squares of the segment at the left of the valley, where the move joins its square with them; else none.
-fn joined_left<'a>(skel: &'a SmallSkel, valley: &Valley, m: &SmallMove) -> &'a [u8]
+fn joined_left<'a>(skel: &'a SmallSkel, valley: &ValleyPlace, m: &SmallMove) -> &'a [u8]
     requires word { IsLegal skel.now }
     requires valley { IsValley skel.now valley.now }
     ensures { JoinsLeft (outline_of skel.now) m.now result.now }
@@ -85,7 +84,7 @@ fn joined_left<'a>(skel: &'a SmallSkel, valley: &Valley, m: &SmallMove) -> &'a [
 }
 
 // Those at its right, likewise.
-fn joined_right<'a>(skel: &'a SmallSkel, valley: &Valley, m: &SmallMove) -> &'a [u8]
+fn joined_right<'a>(skel: &'a SmallSkel, valley: &ValleyPlace, m: &SmallMove) -> &'a [u8]
     requires word { IsLegal skel.now }
     requires valley { IsValley skel.now valley.now }
     ensures { JoinsRight (outline_of skel.now) m.now result.now }

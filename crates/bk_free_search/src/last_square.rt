@@ -12,7 +12,6 @@ ghost use Rattle.bk_free_search.specs.LastSquare.{neighbours};
 use crate::board::Board;
 use crate::counts::one_if;
 use crate::joining::joins_parted;
-use crate::valleys::find_valley;
 use bk_short::Short;
 use bk_skel::{SmallMove, SmallSkel, open_side};
 use bk_word::Sign;
@@ -31,7 +30,7 @@ pub(crate) fn last_move(board: &Board, order: u8) -> Option<SmallMove>
         return None;
     }
     let last = even_square(neighbours(board.skel()));
-    if joins_parted(board, &find_valley(board.skel()), &last) {
+    if joins_parted(board, &board.skel().valley_place(), &last) {
         return None;
     }
     Some(last)

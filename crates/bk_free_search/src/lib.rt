@@ -19,7 +19,6 @@ mod sides;
 mod state;
 mod strong;
 mod top_lines;
-mod valleys;
 
 pub use board::Board;
 pub use counts::Counts;

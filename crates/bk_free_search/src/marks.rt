@@ -7,18 +7,18 @@ ghost use Rattle.bk_bounds.specs.VerticalCut.{begins_on_line, edges_on_lines};
 ghost use Rattle.bk_word.specs.Outline.{sizes_of, valley_of};
 ghost use Rattle.bk_word.specs.Play.{outline_of};
 ghost use Rattle.bk_word.specs.Word.{order_of};
+ghost use Rattle.bk_skel.specs.SmallSkeleton.{IsValley};
 ghost use Rattle.bk_normal_cuts.specs.WordNumbers.{first_count};
 ghost use Rattle.bk_free_search.specs.Apart.{marks_of_word};
 ghost use Rattle.bk_free_search.specs.Asking.{AreMarks};
 ghost use Rattle.bk_free_search.specs.NodeLines.{Has};
 ghost use Rattle.bk_free_search.specs.Strong.{AreFilled, marks_by_lists};
 ghost use Rattle.bk_free_search.specs.TopLines.{HasOneFrom, on_top_lines};
-ghost use Rattle.bk_free_search.specs.Valleys.{IsValley};
 
 use crate::board::Board;
 use crate::line_set::{LineSet, has_line, no_line, with_place};
 use crate::top_lines::places_on_lines;
-use crate::valleys::Valley;
+use bk_skel::ValleyPlace;
 
 /// The places of marked segments of a board. (Own.)
 pub(crate) fn marks_of(board: &Board) -> LineSet
@@ -67,7 +67,7 @@ fn has_one(places: LineSet, start: usize, many: usize) -> bool
 }
 
 /// Whether a line from the top stands at the left of the valley.
-pub(crate) fn is_left_on_line(board: &Board, valley: &Valley) -> bool
+pub(crate) fn is_left_on_line(board: &Board, valley: &ValleyPlace) -> bool
     requires { IsValley board.now valley.now }
     ensures { IsTrue result → begins_on_line (edges_on_lines board.now) (valley_of (outline_of board.now)) ≡ true }
 {

@@ -6,10 +6,10 @@ ghost use Rattle.bk_word.specs.Play.{outline_of};
 ghost use Rattle.bk_word.specs.Word.{Move as SeenMove, Word as Moves, order_of};
 ghost use Rattle.bk_word.specs.declared.Sign.{Sign as SeenSign};
 ghost use Rattle.bk_word.specs.declared.Sign.TheVariants.{Even};
+ghost use Rattle.bk_skel.specs.SmallSkeleton.{IsValley};
 ghost use Rattle.bk_normal_cuts.specs.NormalCuts.{IsNormalBarren};
 ghost use Rattle.bk_free_search.specs.Asking.{AreFewAsks, BarsSigns, IsAsked, IsBegun, StandBeside, asks_then};
 ghost use Rattle.bk_free_search.specs.Strong.{IsFew};
-ghost use Rattle.bk_free_search.specs.Valleys.{IsValley};
 ghost use Rattle.bk_free_search.specs.declared.asking.Next.{Next};
 
 use crate::all_under::ends_otherwise;
@@ -17,8 +17,7 @@ use crate::asking::{Asked, Beside, is_over};
 use crate::behind::{Asks, Behind};
 use crate::joining::joins_barrenly;
 use crate::state::{Begun, Search};
-use crate::valleys::Valley;
-use bk_skel::open_side;
+use bk_skel::{ValleyPlace, open_side};
 use bk_word::Sign;
 
 impl Search {
@@ -35,7 +34,7 @@ impl Search {
     }
 
     /// Whether no word goes on by this move, which has all its signs, and after which squares are left.
-    pub(crate) fn bars_move(&self, begun: &Begun, valley: &Valley) -> bool
+    pub(crate) fn bars_move(&self, begun: &Begun, valley: &ValleyPlace) -> bool
         requires least { 3 ≤ self.now.order }
         requires most { self.now.order ≤ 16 }
         requires few { order_of self.now.board + begun.now.m.count < self.now.order }

@@ -6,9 +6,9 @@ ghost use Rattle.bk_word.specs.Play.{IsComplete, outline_of};
 ghost use Rattle.bk_word.specs.Word.{Word as Moves, order_of};
 ghost use Rattle.bk_normal_cuts.specs.NormalImage.{IsNormalSought};
 ghost use Rattle.bk_word.specs.declared.Sign.TheVariants.{Above};
+ghost use Rattle.bk_skel.specs.SmallSkeleton.{IsValley};
 ghost use Rattle.bk_free_search.specs.Asking.{IsAsked, IsBegun, NeedsLeft};
 ghost use Rattle.bk_free_search.specs.Sought.{GoesOn, GoesOnBy};
-ghost use Rattle.bk_free_search.specs.Valleys.{IsValley};
 
 use crate::asking::{Asked, Beside, asked_with, stand_beside};
 use crate::board::Board;
@@ -16,7 +16,7 @@ use crate::cuts::{bars_above, least_count};
 use crate::last_square::last_move;
 use crate::questions::{asks_too_much, asks_too_much_then, lacks_even, needs_left_even};
 use crate::state::{Begun, Search, begin, meet_closed, not_begun, pop_sign, push_sign};
-use crate::valleys::Valley;
+use bk_skel::ValleyPlace;
 use bk_word::Sign;
 
 /// What is done with the complete words that a search meets.
@@ -467,7 +467,7 @@ impl Search {
 
     // Meets those that go on by the move, which has all its signs.
     #[cycle(search)]
-    fn with_move<S: Leaves>(&mut self, begun: &Begun, valley: &Valley, leaves: &mut S)
+    fn with_move<S: Leaves>(&mut self, begun: &Begun, valley: &ValleyPlace, leaves: &mut S)
         requires least { 3 ≤ self.old.order }
         requires most { self.old.order ≤ 16 }
         requires few { order_of self.old.board + begun.now.m.count < self.old.order }

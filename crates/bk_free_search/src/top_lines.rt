@@ -1,25 +1,12 @@
 //! The segments that lines touch which run from the top between squares of the first move.
 
-ghost use Rattle.std.specs.List.{sum};
-ghost use Rattle.std.specs.Prelude.{length, slice_index_or, true, ℕ, ◌<◌, ◌^◌, ◌≡◌, ◌≤◌};
+ghost use Rattle.std.specs.Prelude.{length, slice_index_or, true, ℕ, ◌<◌, ◌≡◌, ◌≤◌};
 ghost use Rattle.bk_bounds.specs.VerticalCut.{on_line};
 ghost use Rattle.bk_free_search.specs.NodeLines.{Has};
 ghost use Rattle.bk_free_search.specs.TopLines.{is_top_line, on_top_lines};
 
 use crate::line_set::{LineSet, no_line, with_place};
 use crate::sides::left_of;
-
-/// How many squares segments of these sizes have.
-pub(crate) fn squares_in(sizes: &[u8]) -> usize
-    requires { sum sizes.now < 2 ^ 64 }
-    ensures { result ≡ sum sizes.now }
-{
-    let mut squares: usize = 0;
-    'sizes: for size in sizes {
-        squares += usize::from(*size);
-    }
-    squares
-}
 
 /// The places of those of these squares whose left edges lie on lines from the top, between two squares of a first move of so many. (Own.)
 pub(crate) fn places_on_lines(ends: &[u8], lefts: &[u8], first: u8) -> LineSet

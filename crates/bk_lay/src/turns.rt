@@ -10,7 +10,6 @@ ghost use Rattle.bk_lay.specs.TilingWord.{IsWordOf};
 ghost use Rattle.bk_lay.specs.Turning.{AreTurns, IsTurn, Turned};
 
 use crate::outline::{Outline, Run};
-use arrayvec::ArrayVec;
 use bk_tiling::{Square, Tiling};
 use bk_word::{Move, NoMemory, Word};
 use std::alloc::Global;
@@ -54,7 +53,7 @@ impl Turns {
         ensures next { IfSome result (λ m. (w : Moves) → Turned tiling.now w self.old → IsTurn tiling.now w self.new m) }
         ensures last { IfNone result ((w : Moves) → Turned tiling.now w self.old → IsWordOf tiling.now w) }
     {
-        let mut m = no_move();
+        let mut m = Move::empty();
         if !self.next_in(tiling, &mut m) {
             return None;
         }
@@ -87,22 +86,12 @@ pub fn word_of(alloc: Global, tiling: &Tiling) -> Result<Word, NoMemory>
 {
     let mut word = Word::new(alloc);
     let mut turns = Turns::new();
-    let mut m = no_move();
+    let mut m = Move::empty();
     turns.begin(tiling);
     'moves: while turns.next_in(tiling, &mut m) {
         word.push(&m)?;
     }
     Ok(word)
-}
-
-// The move of no squares and no signs: room for moves.
-fn no_move() -> Move
-    ensures { result ≡ record { count = 0; signs = [] } }
-{
-    Move {
-        count: 0,
-        signs: ArrayVec::new(),
-    }
 }
 
 // Lays the squares of the turn that follows, and writes its move.

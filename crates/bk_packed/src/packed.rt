@@ -109,10 +109,7 @@ fn digits_of_tiling(turns: &mut Turns, tiling: &Tiling) -> ArrayVec<u8, MOST_DIG
     ensures { HasDigitsOf tiling.now result.items }
 {
     let mut digits = ArrayVec::new();
-    let mut m = Move {
-        count: 0,
-        signs: ArrayVec::new(),
-    };
+    let mut m = Move::empty();
     turns.begin(tiling);
     'moves: while turns.next_in(tiling, &mut m) {
         push_digits(&mut digits, &m);

@@ -70,15 +70,16 @@ marked_more met numbers n many marked k low = cases (cases_eq (get_or numbers k 
         (get_or-set_same met (get_or numbers n 0 % 256) true false in_room)
     cases (inr e) = get_or-set_other met (get_or numbers n 0 % 256) (get_or numbers k 0 % 256) true false e ∙ marked k (earlier e)
 
+-- a number is read alike whatever stands for one that isn't there
+pub read_alike : (numbers : List ℕ) (k d : ℕ) → k < length numbers → get_or numbers k 0 ≡ get_or numbers k d
+read_alike [] k d h = absurd (omega arith)
+read_alike (x ∷ xs) zero d h = refl
+read_alike (x ∷ xs) (suc k) d h = read_alike xs k d (omega arith)
+
 -- numbers that are apart up to the last one all differ
 pub apart_all : (numbers : List ℕ) (n : ℕ) → length numbers ≤ n → AreApartTo numbers n → AllPairs ◌≢◌ numbers
 apart_all numbers n all apart i j d up low same =
-    apart i j up (omega (arith, low, all)) (default numbers i d (omega arith) ∙ same ∙ sym (default numbers j d low))
-  where
-    default : (xs : List ℕ) (k d : ℕ) → k < length xs → get_or xs k 0 ≡ get_or xs k d
-    default [] k d h = absurd (omega arith)
-    default (x ∷ xs) zero d h = refl
-    default (x ∷ xs) (suc k) d h = default xs k d (omega arith)
+    apart i j up (omega (arith, low, all)) (read_alike numbers i d (omega arith) ∙ same ∙ sym (read_alike numbers j d low))
 
 -- the sides of squares differ where their list has no two that are equal
 pub sides_differ : (squares : List Square) → AllPairs ◌≢◌ (map (λ q. q.s) squares) ↔ AllPairs (λ p q. p.s ≢ q.s) squares

@@ -15,4 +15,5 @@ pub mod Repeats
 pub mod OneFirst
 pub mod DifferentNumbers
 pub mod SideWalks
+pub mod TopRuns
 pub mod ProperParts

@@ -1,4 +1,5 @@
 -- Parts that are wider and higher than the square at their top left corner, and parts with certain squares at their top.
+-- Example (SimpleExamples): of nine squares of side 1 in three rows the four at the top left are such a part. It has squares 0 and 1 at its top.
 use Rattle.std.specs.Prelude.{ℕ, ◌+◌, ◌<◌, ◌≡◌}
 use Rattle.bk_tiling.specs.Tiling.{Rectangle, Tiling}
 use Rattle.bk_simple.specs.Reach.{square_of}

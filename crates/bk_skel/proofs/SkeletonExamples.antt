@@ -14,7 +14,7 @@ use Rattle.bk_word_net.specs.LaidOutline.{IsGap, IsTurn, back_of, bottom_at, fro
 use Rattle.bk_skel.specs.Board.{columns_of}
 use Rattle.bk_skel.specs.Skeleton.{Shows, first_touched, joined_sizes, moves_stored, open_sides, signs_before, signs_of, sizes_after}
 use Rattle.bk_skel.specs.Skeleton.{sizes_before, turns_from, with_parted}
-use Rattle.bk_skel.specs.SmallSkeleton.{StandsAt}
+use Rattle.bk_skel.specs.SmallSkeleton.{IsValley, StandsAt}
 use Rattle.bk_skel.specs.TurnRecord.{SaysWhere}
 use Rattle.bk_skel.specs.Valley.{leftmost_valley}
 use Rattle.bk_skel.specs.declared.turns.MoveRecord.{MoveRecord}
@@ -101,6 +101,10 @@ shown = record { ends_are = refl; sizes_are = refl; signs_are = refl; closed_are
 -- the leftmost valley stands behind one segment then, which has two squares
 stands : StandsAt (2 ∷ 1 ∷ []) (Under ∷ []) 1 2
 stands = record { place_is = refl; first_is = refl }
+
+-- and has square 4 alone
+valley : IsValley (take 2 staircase) (record { place = 1; start = 2; end = 3 })
+valley = record { stands = stands; end_is = refl }
 
 -- ---- the squares that are laid after two moves
 

@@ -1,13 +1,13 @@
 -- Where the leftmost valley stands, as a small skeleton keeps it and as it is looked up.
-use Rattle.std.proofs.Common.{List, ap, arith, length, sum, sym, take, ℕ, ◌<◌, ◌∙◌, ◌≡◌, ◌≤◌}
+use Rattle.std.proofs.Common.{List, ap, arith, length, slice_index, sum, sym, take, ℕ, ◌+◌, ◌<◌, ◌∙◌, ◌≡◌, ◌≤◌}
 use Rattle.bk_word.proofs.PlayLists.{place_within}
-use Rattle.bk_word.specs.Outline.{valley_place}
+use Rattle.bk_word.specs.Outline.{sizes_of, valley_place}
 use Rattle.bk_word.specs.Play.{outline_of}
 use Rattle.bk_word.specs.Word.{Word}
 use Rattle.bk_word.specs.declared.Sign.{Sign}
 use Rattle.bk_skel.proofs.SkelFacts.{Counted}
 use Rattle.bk_skel.proofs.SkelReads.{counted_in, sum_of_front}
-use Rattle.bk_skel.specs.SmallSkeleton.{IsStoredSmall, StandsAt}
+use Rattle.bk_skel.specs.SmallSkeleton.{IsStoredSmall, IsValley, StandsAt}
 use Rattle.bk_skel.specs.declared.turns.MoveRecord.{MoveRecord}
 
 -- what is kept of the leftmost valley, where it is looked up among the sizes and signs
@@ -43,3 +43,22 @@ stands_read e f g h = record { place_is = g ∙ ap valley_place f; first_is = h 
 pub place_kept : {w now : Word} {ends sizes : List ℕ} {signs : List Sign} {closed : List ℕ} {turns : List MoveRecord} {played : List Sign} {place first : ℕ}
     → IsStoredSmall w ends sizes signs closed turns played place first → w ≡ now → place ≡ valley_place (outline_of now).signs
 place_kept s e = (s.valley).place_is ∙ ap valley_place ((s.stored).shows).signs_are ∙ ap (λ (v : Word). valley_place (outline_of v).signs) e
+
+-- so it stands in the word, and ends with as many squares as are read of it
+pub valley_kept : {w now : Word} {ends sizes : List ℕ} {signs : List Sign} {closed : List ℕ} {turns : List MoveRecord} {played : List Sign} {place first : ℕ}
+    → IsStoredSmall w ends sizes signs closed turns played place first → w ≡ now
+    → {read : List ℕ} {at begin size : ℕ} → read ≡ sizes → at ≡ place → begin ≡ first → size ≡ slice_index read at
+    → IsValley now (record { place = at; start = begin; end = begin + size })
+valley_kept {w = w} {now = now} {sizes = sizes} {signs = signs} s same {at = at} {begin = begin} {size = size} e f g h = record {
+  stands = record {
+    place_is = f ∙ place_kept s same;
+    first_is = g ∙ (s.valley).first_is ∙ (λ i. sum (take (valley_place (signs_are i)) (sizes_are i)));
+  };
+  end_is = ap (λ n. begin + n) (h ∙ ap (λ (l : List ℕ). slice_index l at) (e ∙ sizes_are));
+}
+  where
+    sizes_are : sizes ≡ sizes_of (outline_of now)
+    sizes_are = ((s.stored).shows).sizes_are ∙ ap (λ (v : Word). sizes_of (outline_of v)) same
+
+    signs_are : signs ≡ (outline_of now).signs
+    signs_are = ((s.stored).shows).signs_are ∙ ap (λ (v : Word). (outline_of v).signs) same

@@ -251,10 +251,7 @@ impl Skel {
         requires { i < length self.now }
         ensures { slice_get self.now i ≡ Some result }
     {
-        let mut m = Move {
-            count: 0,
-            signs: ArrayVec::new(),
-        };
+        let mut m = Move::empty();
         self.read_move(i, &mut m);
         m
     }

@@ -10,7 +10,7 @@ ghost use Rattle.bk_word.specs.Play.{IsComplete, numbers_from, outline_of, parts
 ghost use Rattle.bk_word.specs.Word.{order_of};
 ghost use Rattle.bk_word_net.specs.WordNet.{net_of_word};
 ghost use Rattle.bk_skel.specs.Skeleton.{first_touched, joined_sizes, open_sides, sizes_after};
-ghost use Rattle.bk_skel.specs.SmallSkeleton.{IsOutlineOf};
+ghost use Rattle.bk_skel.specs.SmallSkeleton.{IsOutlineOf, IsValley};
 ghost use Rattle.bk_skel.specs.Valley.{IsKeptSkeleton};
 
 use crate::netting::{end_nodes, wired};
@@ -51,6 +51,15 @@ pub struct SmallOutline {
     closed: u8,
     turns: u8,
     played: u8,
+}
+
+/// The place of the leftmost valley among the open segments, and among the open squares the place of its first one and of that behind
+/// its last one. (Own.)
+#[derive(Clone, Copy, Drop)]
+pub struct ValleyPlace {
+    pub place: usize,
+    pub start: usize,
+    pub end: usize,
 }
 
 /// A move of at most 16 squares, which takes little room.
@@ -197,6 +206,20 @@ impl SmallSkel {
         let (place, first) = leftmost(self.open.sizes.as_slice(), self.open.signs.as_slice());
         self.open.place = place as u8;
         self.open.first = first as u8;
+    }
+
+    /// Where the leftmost valley stands.
+    pub fn valley_place(&self) -> ValleyPlace
+        ensures { IsValley self.now result }
+    {
+        let place = usize::from(self.open.place);
+        let start = usize::from(self.open.first);
+        let size = self.open.sizes.as_slice()[place];
+        ValleyPlace {
+            place,
+            start,
+            end: start + usize::from(size),
+        }
     }
 
     /// The numbers of the leftmost valley's squares, from left to right: none at the start.

@@ -7,7 +7,7 @@ ghost use Rattle.bk_trial.specs.TrialLine.{IsTally};
 
 use crate::laying::laid_again;
 use bk_grammar::AnswerBuffer;
-use bk_simple::{part, repeated};
+use bk_simple::{is_perfect, part};
 use bk_tiling::Tiling;
 
 // How many codes were accepted, how many of their tilings are perfect and how many simple, and how many squares they have
@@ -46,7 +46,7 @@ impl Tally {
         ensures squares { self.new.squares ≡ self.old.squares + order tiling.now }
     {
         self.accepted += 1;
-        self.perfect += u64::from(repeated(tiling).is_none());
+        self.perfect += u64::from(is_perfect(tiling));
         self.simple += u64::from(part(tiling).is_none());
         self.squares += tiling.order() as u64;
     }

@@ -1,13 +1,12 @@
 //! A verifier: it is fed the entries of a list, and tells what each of them is.
 
-ghost use Rattle.std.specs.Prelude.{IfOk, IsTrue, OnErr, [], ◌↔◌, ◌≡◌, ◌≤◌};
-ghost use Rattle.bk_simple.specs.Simple.{IsPerfect, IsSimple};
+ghost use Rattle.std.specs.Prelude.{IfOk, OnErr, [], ◌≡◌, ◌≤◌};
 ghost use Rattle.bk_verify.specs.Kept.{IsFed, IsFirstSight, IsKeptVerifier, rest_of};
 ghost use Rattle.bk_verify.specs.VerifyLaws.{AVerifierTellsTheTruth, AnEntryIsToldOneThing, MissingOnesAreNotKept, TruthsStay};
 
 use crate::kept::KeptMembers;
 use crate::rest::Rest;
-use bk_simple::{part, repeated};
+use bk_simple::is_perfect_simple;
 use bk_sym::canonical;
 use bk_tiling::Tiling;
 use std::alloc::Global;
@@ -77,7 +76,7 @@ impl Verifier {
         if let Some(first) = self.kept.line_of(&member) {
             return Ok(Fed::Repeats { line: first });
         }
-        if !is_simple_perfect(&member) {
+        if !is_perfect_simple(&member) {
             return Ok(Fed::Foreign);
         }
         self.kept.keep(line, &member)?;
@@ -90,13 +89,6 @@ impl Verifier {
     {
         Rest::new(self.alloc, self.order, self.kept)
     }
-}
-
-// Whether a tiling is simple and perfect.
-fn is_simple_perfect(tiling: &Tiling) -> bool
-    ensures { IsTrue result ↔ IsPerfect tiling.now × IsSimple tiling.now }
-{
-    repeated(tiling).is_none() && part(tiling).is_none()
 }
 
 /// An entry is told one thing.

@@ -1,8 +1,3 @@
--- Cuts: moves by which no member's word goes on.
-pub mod CutLaws
-pub mod OwingLaws
--- The lines that are kept beside the moves.
-pub mod LinedMoves
 -- Words of the tree between two places, and what a search has passed.
 pub mod Advancing
 pub mod Passing

@@ -18,7 +18,7 @@ use Rattle.bk_tree.proofs.Places.{IsLast, before_one, front_cmp, one_legal}
 use Rattle.bk_word.proofs.FollowLaws.{not_itself}
 use Rattle.bk_catalogue.specs.Catalogue.{Entry, IsEntry}
 use Rattle.bk_cuts.specs.Cuts.{IsBarren}
-use Rattle.bk_walk.specs.MoveCuts.{IsCut}
+use Rattle.bk_walk_cuts.specs.MoveCuts.{IsCut}
 use Rattle.bk_tree.specs.NextMove.{IsLeastFrom, IsMoveFrom, first_move, move_after}
 use Rattle.bk_walk.specs.Search.{Advances, Ends, HasPassed, IsEnd, IsMet, IsTreeWord, Meets}
 

@@ -12,7 +12,7 @@ use Rattle.std.specs.declared.cmp.Ordering.TheVariants.{Equal, Less}
 use Rattle.bk_word.specs.declared.Class.{Class}
 use Rattle.bk_word.proofs.StoredBytes.{order_append, order_more}
 use Rattle.bk_word.proofs.PlayLaws.{few_signs, legal_front, legal_rest}
-use Rattle.bk_walk.proofs.CutLaws.{after_near, whole_front}
+use Rattle.bk_walk_cuts.proofs.CutLaws.{after_near, whole_front}
 use Rattle.bk_tree.proofs.Fitting.{HasShape, IsFit, fit}
 use Rattle.bk_tree.proofs.MoveOrder.{less_from}
 use Rattle.bk_tree.proofs.Places.{IsLast}
@@ -20,7 +20,7 @@ use Rattle.bk_walk.proofs.SearchSteps.{climbs, cuts, ends, goes_down, meets, pus
 use Rattle.bk_catalogue.specs.Catalogue.{Entry, IsEntry}
 use Rattle.bk_catalogue.proofs.OneEntry.{entry_complete}
 use Rattle.bk_cuts.specs.Cuts.{IsBarren}
-use Rattle.bk_walk.specs.MoveCuts.{GrowsByAtMostOne, IsCut}
+use Rattle.bk_walk_cuts.specs.MoveCuts.{GrowsByAtMostOne, IsCut}
 use Rattle.bk_tree.specs.NextMove.{IsLeastFrom, IsMoveFrom, first_move, fitted, move_after, open_sides}
 use Rattle.bk_catalogue.specs.Repeated.{HasNoMember}
 use Rattle.bk_walk.specs.Search.{Advances, Ends, IsClimbed, IsSearchState, IsTreeWord, Meets}

@@ -11,9 +11,9 @@ use Rattle.bk_tree.specs.NextMove.{first_move, move_after}
 use Rattle.bk_catalogue.specs.Catalogue.{IsEntry}
 use Rattle.bk_tiling.specs.Tiling.{Tiling}
 use Rattle.bk_walk.proofs.Members.{same_entry}
-use Rattle.bk_walk.specs.MoveCuts.{GrowsByAtMostOne, IsCut}
+use Rattle.bk_walk_cuts.specs.MoveCuts.{GrowsByAtMostOne, IsCut}
 use Rattle.bk_catalogue.specs.Repeated.{HasNoMember}
-use Rattle.bk_walk.specs.Search.{IsKeptSearch, IsReady, IsSearchState, SearchState, StaysOf, StepLeadsTo, place_of}
+use Rattle.bk_walk.specs.Search.{IsKeptSearch, IsReady, IsSearchState, PushesGrow, SearchState, StaysOf, StepLeadsTo, place_of}
 use Rattle.bk_walk.specs.declared.search.Went.TheVariants.{Met, On}
 use Rattle.bk_walk.proofs.Standing.{step_cuts, step_goes_down, step_meets, step_turns_back}
 
@@ -29,6 +29,23 @@ stays_none s then steps kept order of_class pushes = record {
   order = order;
   class = of_class;
   counts = record { more = omega arith; counted = omega (arith, pushes, kept.known) };
+}
+
+-- so where the search goes on from other moves, or looks for another next one
+pub stays_put : {s now : SearchState} → IsKeptSearch s → s ≡ now → (front : Word) (next : Move) (steps : ℕ)
+    → StaysOf now (record { order = s.order; class = s.class; front = front; next = next; pushes = s.pushes }) steps steps
+stays_put {s = s} {now = now} kept view front next steps =
+    subst (λ (u : SearchState). StaysOf u (record { order = s.order; class = s.class; front = front; next = next; pushes = s.pushes }) steps steps) view
+    (stays_none s (record { order = s.order; class = s.class; front = front; next = next; pushes = s.pushes }) steps kept refl refl refl)
+
+-- and where it came from other moves
+pub stays_from : {s now then : SearchState} {front : Word} {next : Move} {steps steps_then : ℕ} → s ≡ now
+    → StaysOf (record { order = s.order; class = s.class; front = front; next = next; pushes = s.pushes }) then steps steps_then
+    → StaysOf now then steps steps_then
+stays_from {then = then} {steps = steps} {steps_then = steps_then} view stays = record {
+  order = stays.order ∙ ap (λ (u : SearchState). u.order) view;
+  class = stays.class ∙ ap (λ (u : SearchState). u.class) view;
+  counts = subst (λ (u : SearchState). PushesGrow u.pushes then.pushes steps steps_then) view stays.counts;
 }
 
 -- one move is pushed
@@ -85,6 +102,15 @@ module _ (s : SearchState) (kept : IsKeptSearch s) (ready : IsReady s) where
 abbrev pub down_from : SearchState → Move → SearchState
 down_from s m = record { order = s.order; class = s.class; front = s.front ++ m ∷ []; next = m; pushes = min (s.pushes + 1) (2 ^ 64 - 1) }
 
+-- it goes on from there
+pub stays_down : {s now t : SearchState} → s ≡ now → (m : Move) → t ≡ down_from s m → (front : Word) (next : Move) (steps then : ℕ) → then ≡ steps + 1
+    → StaysOf now (record { order = t.order; class = t.class; front = front; next = next; pushes = t.pushes }) steps then
+stays_down {s = s} {now = now} {t = t} view m is front next steps then one =
+    stays_one now (record { order = t.order; class = t.class; front = front; next = next; pushes = t.pushes }) steps then
+    (ap (λ (u : SearchState). u.order) is ∙ ap (λ (u : SearchState). u.order) view)
+    (ap (λ (u : SearchState). u.class) is ∙ ap (λ (u : SearchState). u.class) view)
+    (ap (λ (u : SearchState). u.pushes) is ∙ ap (λ (u : SearchState). min (u.pushes + 1) (2 ^ 64 - 1)) view) one
+
 -- from there: back, on or to the word of a member
 module _ (s t : SearchState) (kept : IsKeptSearch s) (ready : IsReady s) (m : Move) (steps then : ℕ) (is : t ≡ down_from s m) (same : m ≡ s.next)
     (one : then ≡ steps + 1) where
@@ -116,3 +142,8 @@ module _ (s t : SearchState) (kept : IsKeptSearch s) (ready : IsReady s) (m : Mo
 pub stand_first : (n : ℕ) (front : Word) (next : Move) → front ≡ [] → next ≡ first_move → IsSearchState n front next
 stand_first n front next e f = subst (λ (w : Word). IsSearchState n w next) (sym e) (subst (IsSearchState n []) (sym f)
     (record { legal = tt; small = omega arith; some = omega arith; count = omega arith; signs = omega arith }))
+
+-- the next move is the first of all
+pub stand_anew : (n : ℕ) (front : Word) (x next : Move) → IsSearchState n front x → next ≡ first_move → IsSearchState n front next
+stand_anew n front x next stand first = subst (IsSearchState n front) (sym first)
+    (record { legal = stand.legal; small = stand.small; some = omega arith; count = omega arith; signs = omega arith })

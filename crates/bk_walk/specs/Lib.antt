@@ -1,8 +1,6 @@
 -- What the crate says.
 pub mod Walking
 -- How its code keeps it.
-pub mod MoveCuts
-pub mod LinedWords
 pub mod Leaping
 pub mod Search
 pub mod WholeWords

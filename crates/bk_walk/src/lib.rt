@@ -1,13 +1,8 @@
 //! The catalogue of simple tilings, and the tree of words that is searched for it.
 #![tactic(auto)]
 
-mod barren;
 mod judging;
 mod leaping;
-mod lined;
-mod lines;
-mod moves;
-mod owing;
 mod realising;
 mod resuming;
 mod search;

@@ -7,10 +7,9 @@ ghost use Rattle.bk_word.specs.Play.{outline_of};
 ghost use Rattle.bk_word.specs.Word.{order_of};
 ghost use Rattle.bk_walk.specs.Search.{HasPassed, StaysOf, place_of};
 
-use crate::lined::LinedSkel;
-use crate::moves::{begin_anew, first_move};
 use crate::search::Search;
 use bk_skel::{Skel, Steps};
+use bk_walk_cuts::{LinedSkel, begin_anew, first_move};
 use bk_word::{Move, NoMemory, Word};
 use std::alloc::Global;
 use std::sync::ledger::Ledger;

@@ -12,16 +12,16 @@ ghost use Rattle.bk_walk.specs.declared.search.Found.TheVariants.{Member};
 ghost use Rattle.bk_walk.specs.declared.search.Went.TheVariants.{Met};
 ghost use Rattle.bk_walk.specs.Search.{Finds, IsClimbed, IsReady, StaysOf, StepLeadsTo, place_of};
 
-use crate::barren::{is_barren, skip};
 use crate::judging::find_member;
-use crate::lined::LinedSkel;
-use crate::moves::{begin_anew, first_move, least_legal_from, next_move};
 use crate::tabled::{PATIENCE, Told, begin_table, tell};
 use arrayvec::ArrayVec;
 use bk_member_table::MemberTable;
 use bk_packed::number_with;
 use bk_skel::{Skel, Steps, open_side};
 use bk_tiling::{MOST_SQUARES, Square, Tiling};
+use bk_walk_cuts::{
+    LinedSkel, begin_anew, first_move, is_barren, least_legal_from, next_move, skip,
+};
 use bk_word::{Class, Move};
 use std::marker::Model;
 use std::sync::ledger::Ledger;

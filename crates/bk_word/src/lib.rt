@@ -77,6 +77,18 @@ impl Model for Move {
     ghost view = { λ m. record { count = m.count; signs = m.signs.items } };
 }
 
+impl Move {
+    /// Room for a move: one of no square and no sign, which is legal nowhere.
+    pub fn empty() -> Move
+        ensures { result ≡ record { count = 0; signs = [] } }
+    {
+        Move {
+            count: 0,
+            signs: ArrayVec::new(),
+        }
+    }
+}
+
 /// There is no memory.
 #[derive(Clone, Copy, Debug, Drop, Error)]
 #[error("NoMemory")]

@@ -3,7 +3,7 @@ use Rattle.std.proofs.Common.{arith}
 use Rattle.bk_tiling.specs.Tiling.{IsTiling, Tiling}
 use Rattle.bk_tiling.specs.declared.Square.{Square}
 use Rattle.bk_simple.proofs.Seams.{run_more, run_start}
-use Rattle.bk_simple.proofs.SideWalks.{begins_left, goes_past, none_beyond}
+use Rattle.bk_simple.proofs.TopRuns.{begins_left, goes_past, none_beyond}
 use Rattle.bk_simple.proofs.has_none_past.Goals as goal
 use Rattle.bk_simple.proofs.has_none_past.Goals.{then-q-first-via-else-q-first+then-q-end, then-q-first-via-then-q-first}
 

@@ -3,7 +3,8 @@ use Rattle.std.proofs.Common.{arith, inl, inr, ◌∙◌}
 use Rattle.std.proofs.lemmas.Bool.{eq-eqb, eqb-true, false_from_ne_true}
 use Rattle.bk_tiling.specs.Tiling.{IsTiling, Tiling}
 use Rattle.bk_tiling.specs.declared.Square.{Square}
-use Rattle.bk_simple.proofs.SideWalks.{AreNext, begins_right, left_low, none_but_whole, run_of, walk_all, walk_crossed, walk_more, walk_start}
+use Rattle.bk_simple.proofs.SideWalks.{AreNext, left_low, none_but_whole, walk_all, walk_crossed, walk_more, walk_start}
+use Rattle.bk_simple.proofs.TopRuns.{begins_right, run_of}
 use Rattle.bk_simple.proofs.has_none_under.Goals as goal
 use Rattle.bk_simple.proofs.has_none_under.Goals.{then-crosses-via-else-crosses+then-crosses-2, then-crosses-via-then-crosses}
 

@@ -6,11 +6,11 @@ use Rattle.bk_free_search.proofs.asking.before_valley.Goals as goal
 
 pub returns-then-place-eq0-clause-asked : goal.returns-then-place-eq0-clause-asked
 returns-then-place-eq0-clause-asked c = record {
-  none = asked_none c.args.board.now c.none_passed.result 0 (omega (arith, c.if-place-eq0.true, c.requires.valley.place_is)) (omega arith)
+  none = asked_none c.args.board.now c.none_passed.result 0 (omega (arith, c.if-place-eq0.true, c.requires.valley.stands.place_is)) (omega arith)
       (λ m legal. subst (IsCountedTo c.args.board.now m 0) (sym c.none_passed.ensures.passed) (counted_none c.args.board.now m legal))
       c.none_passed.ensures.few;
-  even = λ e. absurd (left_apart c.args.board.now e (omega (arith, c.if-place-eq0.true, c.requires.valley.place_is)));
-  under = λ e. absurd (left_apart c.args.board.now e (omega (arith, c.if-place-eq0.true, c.requires.valley.place_is)));
+  even = λ e. absurd (left_apart c.args.board.now e (omega (arith, c.if-place-eq0.true, c.requires.valley.stands.place_is)));
+  under = λ e. absurd (left_apart c.args.board.now e (omega (arith, c.if-place-eq0.true, c.requires.valley.stands.place_is)));
 }
 
 pub left_even-requires-clause-few : goal.left_even-requires-clause-few
@@ -23,7 +23,7 @@ left_under-requires-clause-few c = let f = c.pass_before-passed.ensures.few in l
 
 pub returns-clause-asked : goal.returns-clause-asked
 returns-clause-asked c = record {
-  none = asked_none c.args.board.now c.pass_before-passed.result (c.args.valley.now.place - 1) (ap (λ k. k - 1) c.requires.valley.place_is)
+  none = asked_none c.args.board.now c.pass_before-passed.result (c.args.valley.now.place - 1) (ap (λ k. k - 1) c.requires.valley.stands.place_is)
       (omega (arith, c.pass_before-passed.ensures.small)) c.pass_before-passed.ensures.counted c.pass_before-passed.ensures.few;
   even = λ e. c.left_even.ensures;
   under = λ e. c.left_under.ensures;

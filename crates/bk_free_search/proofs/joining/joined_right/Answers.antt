@@ -7,12 +7,12 @@ use Rattle.bk_free_search.proofs.ValleyPlaces.{right_fits, right_read}
 use Rattle.bk_free_search.proofs.joining.joined_right.Goals as goal
 
 pub overflow_add-valley : goal.overflow_add-valley
-overflow_add-valley c = omega (arith, c.requires.valley.place_is, place_within (outline_of c.args.skel.now).signs, ap length c.signs.ensures)
+overflow_add-valley c = omega (arith, c.requires.valley.stands.place_is, place_within (outline_of c.args.skel.now).signs, ap length c.signs.ensures)
 
 behind : (c : goal.After-ends) → c.args.valley.now.place + 1 < length c.sizes.result.now
 behind c = omega (
   arith,
-  c.requires.valley.place_is,
+  c.requires.valley.stands.place_is,
   place_within (outline_of c.args.skel.now).signs,
   sizes_long c.args.skel.now c.requires.word,
   ap length c.sizes.ensures,
@@ -23,7 +23,7 @@ behind c = omega (
 pub bounds-sizes-valley : goal.bounds-sizes-valley
 bounds-sizes-valley c = omega (
   arith,
-  c.requires.valley.place_is,
+  c.requires.valley.stands.place_is,
   place_within (outline_of c.args.skel.now).signs,
   sizes_long c.args.skel.now c.requires.word,
   ap length c.sizes.ensures,
@@ -51,7 +51,7 @@ returns c =
       right_read c.args.skel.now c.requires.word c.sizes.result.now c.ends.result.now c.sizes.ensures c.ends.ensures c.args.valley.now c.requires.valley
           (omega (
             arith,
-            c.requires.valley.place_is,
+            c.requires.valley.stands.place_is,
             place_within (outline_of c.args.skel.now).signs,
             sizes_long c.args.skel.now c.requires.word,
             ap length c.sizes.ensures,

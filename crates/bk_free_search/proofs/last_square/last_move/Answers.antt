@@ -1,25 +1,10 @@
-use Rattle.std.proofs.Common.{[], ap, arith, subst, ◌++◌, ◌∙◌, ◌∷◌}
+use Rattle.std.proofs.Common.{[], ap, subst, ◌++◌, ◌∙◌, ◌∷◌}
 use Rattle.bk_word.specs.Play.{outline_of}
-use Rattle.bk_word.specs.Outline.{start}
-use Rattle.bk_word.specs.Word.{Move, Word, order_of}
-use Rattle.bk_word_net.proofs.Shape.{hung_many}
-use Rattle.bk_skel.proofs.TurnParts.{sum_lengths}
-use Rattle.bk_bounds.proofs.BoundsOfWords.{shape_of_word}
+use Rattle.bk_word.specs.Word.{Move, Word}
 use Rattle.bk_free_cuts.specs.NodeCut.{ShareANode}
 use Rattle.bk_free_search.proofs.LastSquare.{last_legal, made_last, shared_is_barred}
 use Rattle.bk_free_search.specs.LastSquare.{neighbours}
 use Rattle.bk_free_search.proofs.last_square.last_move.Goals as goal
-
-pub find_valley-requires-clause-fits : goal.find_valley-requires-clause-fits
-find_valley-requires-clause-fits c = omega (
-  arith,
-  c.requires.one,
-  c.ranges.order.fits,
-  sum_lengths (outline_of c.skel-2.result.now).segments,
-  (shape_of_word c.skel-2.result.now c.skel-2.ensures.legal).counted,
-  hung_many start c.skel-2.result.now,
-  ap order_of c.skel-2.ensures.value,
-)
 
 pub joins_parted-requires-clause-legal : goal.joins_parted-requires-clause-legal
 joins_parted-requires-clause-legal c = last_legal (outline_of c.args.board.now) c.even_square-last.result c.neighbours.result

@@ -1,5 +1,6 @@
-use Rattle.std.proofs.Common.{refl, ◌-◌, ◌∙◌}
+use Rattle.std.proofs.Common.{arith, refl, ℕ, ◌+◌, ◌-◌, ◌<◌, ◌^◌, ◌∙◌}
 use Rattle.bk_word.proofs.Failing.{on_err}
+use Rattle.bk_list.proofs.Exits.{cause_of_exit, no_cause, not_ok}
 use Rattle.bk_list.proofs.ListingSteps.{begun_as, listed_begun, listed_more, listed_none, next_as}
 use Rattle.bk_list.proofs.StepCounts.{next_steps_as, no_steps, steps_all, steps_begun, steps_limit, steps_more, tree_as}
 use Rattle.bk_list.specs.declared.entries.Next.TheVariants.{Member, Nothing}
@@ -78,3 +79,43 @@ returns-then-is_reached-clause-ended g c =
     steps_limit c.args.walk.now.order c.args.walk.now.class c.args.walk.now.cursor c.members.walk.cursor c.args.limit c.members.listed
     (g.O.Sink.written c.args.out.now) (g.O.Sink.written c.members.out) c.members.invariant.listed c.args.steps.now c.members.steps c.members.steps
     c.members.invariant.steps (c.is_reached.ensures.yes c.if-is_reached.true)
+
+pub is_reached-requires : goal.is_reached-requires
+is_reached-requires g c = tt
+
+pub returns-then-is_reached-clause-begun : goal.returns-then-is_reached-clause-begun
+returns-then-is_reached-clause-begun g c = tt
+
+pub returns-then-is_reached-clause-cause : goal.returns-then-is_reached-clause-cause
+returns-then-is_reached-clause-cause g c = no_cause (g.O.Sink.faults c.args.out.now) (g.O.Sink.faults c.members.out) _ c.members.invariant.faults
+
+pub returns-then-is_reached-clause-stopped : goal.returns-then-is_reached-clause-stopped
+returns-then-is_reached-clause-stopped g c = tt
+
+pub returns-in_err-write_next-clause-ended : goal.returns-in_err-write_next-clause-ended
+returns-in_err-write_next-clause-ended g c = not_ok _ c.from_residual.result _ c.from_residual.ensures.1
+
+pub returns-in_err-write_next-clause-cause : goal.returns-in_err-write_next-clause-cause
+returns-in_err-write_next-clause-cause g c =
+    cause_of_exit _ (g.O.Sink.faults c.args.out.now) (g.O.Sink.faults c.members.out) (g.O.Sink.faults c.write_next.new.out) _
+    c.from_residual.result c.from_residual.ensures.1 c.members.invariant.faults c.in_err-write_next.ensures.cause
+
+pub overflow_add-listed : goal.overflow_add-listed
+overflow_add-listed g c = record { fits = c.members.invariant.listed.few }
+
+fewer_left : (k : ℕ) → k + 1 < 2 ^ 64 → 2 ^ 64 - (k + 1) < 2 ^ 64 - k
+fewer_left k h = omega arith
+
+pub members-smaller : goal.members-smaller
+members-smaller g c = fewer_left c.members.listed c.members.invariant.listed.few
+
+pub returns-in-Nothing-clause-begun : goal.returns-in-Nothing-clause-begun
+returns-in-Nothing-clause-begun g c = tt
+
+pub returns-in-Nothing-clause-cause : goal.returns-in-Nothing-clause-cause
+returns-in-Nothing-clause-cause g c =
+    no_cause (g.O.Sink.faults c.args.out.now) (g.O.Sink.faults c.write_next.new.out) _
+    ((c.in_ok-write_next.ensures.cause).ok ∙ c.members.invariant.faults)
+
+pub returns-in-Nothing-clause-stopped : goal.returns-in-Nothing-clause-stopped
+returns-in-Nothing-clause-stopped g c = tt

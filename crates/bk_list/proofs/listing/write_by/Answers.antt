@@ -1,8 +1,9 @@
-use Rattle.std.proofs.Common.{ap, inl, inr, subst, ◌-◌, ◌∙◌}
+use Rattle.std.proofs.Common.{ap, inl, inr, lit<, refl, subst, ◌-◌, ◌∙◌}
 use Rattle.bk_word.specs.Word.{Word}
 use Rattle.bk_word.proofs.Failing.{on_err}
 use Rattle.bk_report.specs.Listings.{last_line}
 use Rattle.bk_walk.specs.Walking.{WalkState}
+use Rattle.bk_list.proofs.Exits.{cause_of_exit, no_cause, not_ok}
 use Rattle.bk_list.proofs.ListingSteps.{begun_whole, ended_narrow, seen_so, written_whole}
 use Rattle.bk_list.proofs.StepCounts.{takes_all, took_all}
 use Rattle.bk_list.specs.Stepping.{HasEntriesBySteps, StoppedAtEntry, TakesSteps}
@@ -73,3 +74,54 @@ returns-clause-steps g c =
     (takes_all c.args.walk.now.order c.args.walk.now.class c.args.walk.now.cursor c.args.limit c.in_ok-last.last c.in_ok-last.listed
     (g.O.Sink.written c.args.out.now) (g.O.Sink.written c.write_entries.new.out) (c.write_entries.new.steps - c.args.steps.now)
     c.in_ok-last.ensures.ended)
+
+pub new-buffer-requires : goal.new-buffer-requires
+new-buffer-requires g c = lit< tt
+
+pub returns-in_err-last-clause-listed : goal.returns-in_err-last-clause-listed
+returns-in_err-last-clause-listed g c = not_ok _ c.from_residual.result _ c.from_residual.ensures.1
+
+pub returns-in_err-last-clause-narrow : goal.returns-in_err-last-clause-narrow
+returns-in_err-last-clause-narrow g c = not_ok _ c.from_residual.result _ c.from_residual.ensures.1
+
+pub returns-in_err-last-clause-steps : goal.returns-in_err-last-clause-steps
+returns-in_err-last-clause-steps g c = not_ok _ c.from_residual.result _ c.from_residual.ensures.1
+
+pub returns-in_err-last-clause-cause : goal.returns-in_err-last-clause-cause
+returns-in_err-last-clause-cause g c =
+    cause_of_exit _ (g.O.Sink.faults c.args.out.now) (g.O.Sink.faults c.args.out.now) (g.O.Sink.faults c.write_entries.new.out) _
+    c.from_residual.result c.from_residual.ensures.1 refl c.in_err-last.ensures.cause
+
+pub write_last-requires : goal.write_last-requires
+write_last-requires g c e =
+    absurd (ended_narrow c.args.walk.now.order c.args.walk.now.class c.args.walk.now.cursor c.args.limit c.in_ok-last.last c.in_ok-last.listed
+    (g.O.Sink.written c.args.out.now) (g.O.Sink.written c.write_entries.new.out) (c.in_ok-last.ensures.ended).lines e)
+
+pub as_slice-requires : goal.as_slice-requires
+as_slice-requires g c = lit< tt
+
+pub returns-in_err-write_all-clause-listed : goal.returns-in_err-write_all-clause-listed
+returns-in_err-write_all-clause-listed g c = not_ok _ c.from_residual-in_err-write_all.result _ c.from_residual-in_err-write_all.ensures.1
+
+pub returns-in_err-write_all-clause-narrow : goal.returns-in_err-write_all-clause-narrow
+returns-in_err-write_all-clause-narrow g c = not_ok _ c.from_residual-in_err-write_all.result _ c.from_residual-in_err-write_all.ensures.1
+
+pub returns-in_err-write_all-clause-steps : goal.returns-in_err-write_all-clause-steps
+returns-in_err-write_all-clause-steps g c = not_ok _ c.from_residual-in_err-write_all.result _ c.from_residual-in_err-write_all.ensures.1
+
+pub returns-in_err-write_all-clause-cause : goal.returns-in_err-write_all-clause-cause
+returns-in_err-write_all-clause-cause g c =
+    cause_of_exit _ (g.O.Sink.faults c.args.out.now) (g.O.Sink.faults c.write_entries.new.out) (g.O.Sink.faults c.write_all.new.self)
+    _ c.from_residual-in_err-write_all.result c.from_residual-in_err-write_all.ensures.1
+    (c.in_ok-last.ensures.cause).ok c.in_err-write_all.ensures.cause
+
+pub returns-clause-begun : goal.returns-clause-begun
+returns-clause-begun g c = tt
+
+pub returns-clause-cause : goal.returns-clause-cause
+returns-clause-cause g c =
+    no_cause (g.O.Sink.faults c.args.out.now) (g.O.Sink.faults c.write_all.new.self) c.in_ok-last.last
+    ((c.in_ok-write_all.ensures.cause).ok ∙ (c.in_ok-last.ensures.cause).ok)
+
+pub returns-clause-stopped : goal.returns-clause-stopped
+returns-clause-stopped g c = tt

@@ -14,3 +14,9 @@ returns-else-is_cut g c =
     tells_none c.args.table.now c.args.order c.args.class c.args.number (sym c.order.ensures ∙ c.if-order.false) of_class
     (omega (arith, c.from.ensures, c.if-number-from.false)) (no_limit c.args.table.now.numbers.limit (sym c.is_cut.ensures.value ∙ c.if-is_cut.false))
     c.in-None.ensures.none
+
+pub returns-then-order : goal.returns-then-order
+returns-then-order g c = tt
+
+pub returns-then-is_cut : goal.returns-then-is_cut
+returns-then-is_cut g c = tt

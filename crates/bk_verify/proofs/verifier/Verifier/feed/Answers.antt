@@ -23,11 +23,11 @@ line_of-requires c =
       c.self.invariant.most,
     )
 
-pub returns-then-not-is_simple_perfect-clause-fed : goal.returns-then-not-is_simple_perfect-clause-fed
-returns-then-not-is_simple_perfect-clause-fed c = (
+pub returns-then-not-is_perfect_simple-clause-fed : goal.returns-then-not-is_perfect_simple-clause-fed
+returns-then-not-is_perfect_simple-clause-fed c = (
   subst (λ (s : VerifierState). StandsForNone s.order c.args.tiling.now) c.self.view_is
       (none_of_other_kind c.self.inside.order c.args.tiling.now c.canonical-member.result c.order.ensures.kept.tiling c.canonical-member.ensures.canonical
-      (λ perfect simple. true≢false (sym (c.is_simple_perfect.ensures.1 (perfect, simple)) ∙ c.if-not-is_simple_perfect.true))),
+      (λ perfect simple. true≢false (sym (c.is_perfect_simple.ensures.1 (perfect, simple)) ∙ c.if-not-is_perfect_simple.true))),
   refl,
 )
 
@@ -45,9 +45,9 @@ keep-requires-clause-few c =
 pub returns-in_err-keep-clause-wanting : goal.returns-in_err-keep-clause-wanting
 returns-in_err-keep-clause-wanting c =
     let stands : StandsFor c.self.inside.order c.args.tiling.now c.canonical-member.result =
-    stands_told c.self.inside.order c.args.tiling.now c.canonical-member.result c.order.result c.from.result c.is_simple_perfect.result
+    stands_told c.self.inside.order c.args.tiling.now c.canonical-member.result c.order.result c.from.result c.is_perfect_simple.result
     c.order.ensures.kept.tiling
-    c.canonical-member.ensures.canonical c.order.ensures.value c.from.ensures c.if-order-from.false c.is_simple_perfect.ensures c.if-not-is_simple_perfect.false
+    c.canonical-member.ensures.canonical c.order.ensures.value c.from.ensures c.if-order-from.false c.is_perfect_simple.ensures c.if-not-is_perfect_simple.false
     in
     on_err c.from_residual.result
     (subst (λ (s : VerifierState). IsFirstSight s c.args.tiling.now) c.self.view_is
@@ -56,9 +56,9 @@ returns-in_err-keep-clause-wanting c =
 pub invariant_of-self-2 : goal.invariant_of-self-2
 invariant_of-self-2 c =
     let stands : StandsFor c.self.inside.order c.args.tiling.now c.canonical-member.result =
-    stands_told c.self.inside.order c.args.tiling.now c.canonical-member.result c.order.result c.from.result c.is_simple_perfect.result
+    stands_told c.self.inside.order c.args.tiling.now c.canonical-member.result c.order.result c.from.result c.is_perfect_simple.result
     c.order.ensures.kept.tiling
-    c.canonical-member.ensures.canonical c.order.ensures.value c.from.ensures c.if-order-from.false c.is_simple_perfect.ensures c.if-not-is_simple_perfect.false
+    c.canonical-member.ensures.canonical c.order.ensures.value c.from.ensures c.if-order-from.false c.is_perfect_simple.ensures c.if-not-is_perfect_simple.false
     in
     kept_then (record { order = c.self.inside.order; pairs = c.self.inside.kept }) c.args.tiling.now c.canonical-member.result c.args.line
     c.keep.new.self stands c.in_default.ensures
@@ -67,9 +67,9 @@ invariant_of-self-2 c =
 pub returns-clause-kept : goal.returns-clause-kept
 returns-clause-kept c =
     let stands : StandsFor c.self.inside.order c.args.tiling.now c.canonical-member.result =
-    stands_told c.self.inside.order c.args.tiling.now c.canonical-member.result c.order.result c.from.result c.is_simple_perfect.result
+    stands_told c.self.inside.order c.args.tiling.now c.canonical-member.result c.order.result c.from.result c.is_perfect_simple.result
     c.order.ensures.kept.tiling
-    c.canonical-member.ensures.canonical c.order.ensures.value c.from.ensures c.if-order-from.false c.is_simple_perfect.ensures c.if-not-is_simple_perfect.false
+    c.canonical-member.ensures.canonical c.order.ensures.value c.from.ensures c.if-order-from.false c.is_perfect_simple.ensures c.if-not-is_perfect_simple.false
     in
     kept_then (record { order = c.self.inside.order; pairs = c.self.inside.kept }) c.args.tiling.now c.canonical-member.result c.args.line
     c.keep.new.self stands c.in_default.ensures
@@ -78,9 +78,9 @@ returns-clause-kept c =
 pub returns-clause-fed : goal.returns-clause-fed
 returns-clause-fed c =
     let stands : StandsFor c.self.inside.order c.args.tiling.now c.canonical-member.result =
-    stands_told c.self.inside.order c.args.tiling.now c.canonical-member.result c.order.result c.from.result c.is_simple_perfect.result
+    stands_told c.self.inside.order c.args.tiling.now c.canonical-member.result c.order.result c.from.result c.is_perfect_simple.result
     c.order.ensures.kept.tiling
-    c.canonical-member.ensures.canonical c.order.ensures.value c.from.ensures c.if-order-from.false c.is_simple_perfect.ensures c.if-not-is_simple_perfect.false
+    c.canonical-member.ensures.canonical c.order.ensures.value c.from.ensures c.if-order-from.false c.is_perfect_simple.ensures c.if-not-is_perfect_simple.false
     in
     subst (λ (s : VerifierState). IsTakenIn s c.args.line c.args.tiling.now (record { order = c.self.inside.order; pairs = c.keep.new.self })) c.self.view_is
     (taken_in (record { order = c.self.inside.order; pairs = c.self.inside.kept }) c.args.tiling.now c.canonical-member.result c.args.line

@@ -30,3 +30,15 @@ returns-in_default g c = record {
       c.skel.ensures.value c.number_with-number.ensures c.tell.ensures);
   same = refl;
 }
+
+pub returns-then-this-eq0-clause-tells : goal.returns-then-this-eq0-clause-tells
+returns-then-this-eq0-clause-tells g c = tt
+
+pub returns-then-this-eq0-clause-same : goal.returns-then-this-eq0-clause-same
+returns-then-this-eq0-clause-same g c = refl
+
+pub invariant_of-self : goal.invariant_of-self
+invariant_of-self g c = c.self.invariant
+
+pub returns-in-Nothing-clause-same : goal.returns-in-Nothing-clause-same
+returns-in-Nothing-clause-same g c = c.self.view_is

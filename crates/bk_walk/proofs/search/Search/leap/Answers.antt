@@ -6,6 +6,7 @@ use Rattle.bk_packed.specs.Reading.{IsSharedFront}
 use Rattle.bk_walk.specs.Leaping.{GoesToWord, IsMembersWord, IsNextFrom}
 use Rattle.bk_walk.specs.Search.{IsReady, IsSearchState, Meets, SearchState, place_of}
 use Rattle.bk_walk.proofs.LeapStates.{leap_goes, leap_member, leap_met, leap_shared, leap_stand}
+use Rattle.bk_walk.proofs.StateLaws.{stays_from}
 use Rattle.bk_walk.proofs.search.Search.leap.Goals as goal
 
 -- what is read of the moves is what is seen of them
@@ -66,3 +67,6 @@ returns-clause-member g c =
     let within : moves ≤ length c.self.inside.lined = omega (arith, c.shared_moves-shared.ensures.within, ap length c.skel.ensures.value) in
     subst (λ (s : SearchState). IsMembersWord s.order s.class c.go_to.new.self.front) c.self.view_is
     (leap_member _ c.self.invariant ready c.args.number next moves within shared c.go_to.new.self.front c.go_to.ensures.at)
+
+pub returns-clause-stays : goal.returns-clause-stays
+returns-clause-stays g c = stays_from c.self.view_is c.go_to.ensures.stays

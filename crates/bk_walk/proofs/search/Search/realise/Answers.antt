@@ -21,3 +21,9 @@ pub returns-clause-member : goal.returns-clause-member
 returns-clause-member g c = member_realised c.args.self.now.order c.args.self.now.class c.args.self.now.front c.realise_by_in.new.tiling c.requires
     (subst (λ (w : Word). IsTilingOf w c.realise_by_in.new.tiling) (c.skel-skel.ensures.value ∙ ap (λ (s : SearchState). s.front) c.self.view_is)
     c.in-Found.ensures)
+
+pub invariant_of-self : goal.invariant_of-self
+invariant_of-self g c = c.self.invariant
+
+pub returns-clause-same : goal.returns-clause-same
+returns-clause-same g c = c.self.view_is

@@ -4,7 +4,7 @@ use Rattle.bk_word.specs.Play.{outline_of}
 use Rattle.bk_word.specs.Word.{Word, order_of}
 use Rattle.bk_walk.specs.Search.{HasPassed, IsSearchState, SearchState}
 use Rattle.bk_walk.proofs.SearchTurns.{stays_then}
-use Rattle.bk_walk.proofs.StateLaws.{stays_one}
+use Rattle.bk_walk.proofs.StateLaws.{stays_one, stays_put}
 use Rattle.bk_walk.proofs.TakingUp.{few_steps, stuck_place, stuck_stand, takes_more, whole_place}
 use Rattle.bk_walk.proofs.search.Search.resume.Goals as goal
 
@@ -67,3 +67,11 @@ pub returns-clause-few : goal.returns-clause-few
 returns-clause-few g c = few_steps c.args.self.now.order c.args.cursor.now c.args.self.now.front c.moves.self.front c.moves.i
     c.args.self.now.pushes c.moves.self.pushes c.args.steps.now c.moves.steps
     (omega (arith, c.self.invariant.most, ap (λ (s : SearchState). s.order) c.self.view_is)) c.moves.invariant.up
+
+pub returns-then-not-can_play-clause-stays : goal.returns-then-not-can_play-clause-stays
+returns-then-not-can_play-clause-stays g c = stays_then c.args.self.now c.moves.self _ c.args.steps.now c.moves.steps c.moves.steps c.moves.invariant.stays
+    (stays_put c.self-in-moves.invariant c.self-in-moves.view_is _ _ _)
+
+pub returns-clause-stays : goal.returns-clause-stays
+returns-clause-stays g c = stays_then c.args.self.now c.moves.self _ c.args.steps.now c.moves.steps c.moves.steps c.moves.invariant.stays
+    (stays_put c.self-2.invariant c.self-2.view_is _ _ _)

@@ -10,7 +10,7 @@ use Rattle.bk_walk.specs.Search.{IsReady, SearchState, StepLeadsTo, place_of}
 use Rattle.bk_walk.specs.declared.search.Went.TheVariants.{End, Met, On}
 use Rattle.bk_walk.proofs.PlaceLaws.{ends_there, fitted_stand, step_from}
 use Rattle.bk_walk.proofs.Standing.{step_climbs, step_ends, step_least}
-use Rattle.bk_walk.proofs.StateLaws.{stand_first}
+use Rattle.bk_walk.proofs.StateLaws.{stand_first, stays_put}
 use Rattle.bk_walk.proofs.search.Search.step.Goals as goal
 
 -- the least legal move is the one that fits
@@ -170,3 +170,9 @@ returns-in-Next-clause-member g c = λ _. subst (λ (t : SearchState). IsEntry c
 
 pub returns-in-NoMore-clause-member : goal.returns-in-NoMore-clause-member
 returns-in-NoMore-clause-member g c = λ met. absurd (not_end met)
+
+pub returns-then-climb-clause-stays : goal.returns-then-climb-clause-stays
+returns-then-climb-clause-stays g c = stays_put c.self.invariant c.self.view_is _ _ _
+
+pub returns-then-hangs_over-clause-stays : goal.returns-then-hangs_over-clause-stays
+returns-then-hangs_over-clause-stays g c = stays_put c.self.invariant c.self.view_is _ _ _

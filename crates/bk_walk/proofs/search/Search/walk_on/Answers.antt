@@ -2,16 +2,72 @@ use Rattle.std.proofs.Common.{[], ap, subst, sym, ℕ, ◌++◌, ◌-◌, ◌∙
 use Rattle.bk_walk.specs.Search.{IsReady, IsSearchState, SearchState, StepLeadsTo, place_of}
 use Rattle.bk_walk.specs.declared.search.Went.{Went}
 use Rattle.bk_walk.specs.declared.search.Went.TheVariants.{Met, On}
-use Rattle.bk_walk.proofs.StateLaws.{leads_over, walked_back, walked_down, walked_entry, walked_to}
+use Rattle.bk_walk.proofs.StateLaws.{count_few, leads_over, signs_few, stand_anew, stays_down, stays_put, walked_back, walked_down, walked_entry, walked_to}
 use Rattle.bk_catalogue.specs.Catalogue.{IsEntry}
 use Rattle.bk_walk.proofs.search.Search.walk_on.Goals as goal
 use Rattle.bk_walk.proofs.search.Search.walk_on.Goals.{else-is_members, then-is_members}
+
+-- the next move is legal
+pub skip-requires-clause-legal : goal.skip-requires-clause-legal
+skip-requires-clause-legal g c = (subst IsReady (sym c.self.view_is) c.requires).legal
+
+pub skip-requires-clause-count : goal.skip-requires-clause-count
+skip-requires-clause-count g c = count_few _ c.self.invariant (subst IsReady (sym c.self.view_is) c.requires)
+
+pub skip-requires-clause-signs : goal.skip-requires-clause-signs
+skip-requires-clause-signs g c = signs_few _ c.self.invariant (subst IsReady (sym c.self.view_is) c.requires)
+
+pub skip-requires-clause-small : goal.skip-requires-clause-small
+skip-requires-clause-small g c = (subst IsReady (sym c.self.view_is) c.requires).few
+
+-- it is passed over
+pub invariant_of-self : goal.invariant_of-self
+invariant_of-self g c = record {
+  least = c.self.invariant.least;
+  most = c.self.invariant.most;
+  stand = (leads_over _ c.self.invariant (subst IsReady (sym c.self.view_is) c.requires) c.skip.new.m c.args.steps.now (c.skip.ensures.cut c.if-skip.true)
+      c.skip.ensures.near).1;
+  known = c.self.invariant.known;
+}
+
+pub returns-then-skip-clause-stays : goal.returns-then-skip-clause-stays
+returns-then-skip-clause-stays g c = stays_put c.self.invariant c.self.view_is _ _ _
 
 pub returns-then-skip-clause-leads : goal.returns-then-skip-clause-leads
 returns-then-skip-clause-leads g c = subst (λ (s : SearchState). StepLeadsTo s.order s.class (place_of s) c.self.inside.lined c.skip.new.m
     (c.args.steps.now - c.args.steps.now) On) c.self.view_is
     (leads_over _ c.self.invariant (subst IsReady (sym c.self.view_is) c.requires) c.skip.new.m c.args.steps.now (c.skip.ensures.cut c.if-skip.true)
     c.skip.ensures.near)
+
+-- it is pushed
+pub invariant_of-self-2 : goal.invariant_of-self-2
+invariant_of-self-2 g c = record {
+  least = c.self.invariant.least;
+  most = c.self.invariant.most;
+  stand = subst (IsSearchState c.self.inside.order c.self.inside.lined) (sym (c.skip.ensures.kept c.if-skip.false)) c.self.invariant.stand;
+  known = c.self.invariant.known;
+}
+
+pub next_move-requires-clause-count : goal.next_move-requires-clause-count
+next_move-requires-clause-count g c = c.self-2.invariant.stand.count
+
+pub next_move-requires-clause-signs : goal.next_move-requires-clause-signs
+next_move-requires-clause-signs g c = c.self-2.invariant.stand.signs
+
+pub returns-then-is_barren-clause-stays : goal.returns-then-is_barren-clause-stays
+returns-then-is_barren-clause-stays g c =
+    stays_down c.self.view_is c.skip.new.m (c.self-2.view_is ∙ c.go_down.ensures.state) _ _ _ _ c.go_down.ensures.step
+
+pub invariant_of-self-3 : goal.invariant_of-self-3
+invariant_of-self-3 g c = record {
+  least = c.self-2.invariant.least;
+  most = c.self-2.invariant.most;
+  stand = stand_anew c.self-2.inside.order c.self-2.inside.lined c.self-2.inside.next c.begin_anew.new.m c.self-2.invariant.stand c.begin_anew.ensures;
+  known = c.self-2.invariant.known;
+}
+
+pub returns-clause-stays : goal.returns-clause-stays
+returns-clause-stays g c = stays_down c.self.view_is c.skip.new.m (c.self-2.view_is ∙ c.go_down.ensures.state) _ _ _ _ c.go_down.ensures.step
 
 pub invariant_of-self-then-is_barren : goal.invariant_of-self-then-is_barren
 invariant_of-self-then-is_barren g c =

@@ -1,0 +1,5 @@
+-- Moves by which no member's word goes on.
+pub mod CutLaws
+pub mod OwingLaws
+-- The lines that are kept beside the moves.
+pub mod LinedMoves

@@ -1,0 +1,4 @@
+-- What the crate says.
+pub mod MoveCuts
+-- How its code keeps it.
+pub mod LinedWords

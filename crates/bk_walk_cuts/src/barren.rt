@@ -1,0 +1,179 @@
+//! Cuts: which moves are passed over, because no member's word goes on by them.
+#![tactic(auto)]
+
+ghost use Rattle.std.specs.Prelude.{IfSome, IsTrue, Some, [], false, length, slice_get, ℕ, ◌+◌, ◌<◌, ◌≡◌, ◌≤◌, ◌⊎◌};
+ghost use Rattle.bk_word.specs.Outline.{IsLegalMove, has_left_wall};
+ghost use Rattle.bk_word.specs.Play.{outline_of};
+ghost use Rattle.bk_word.specs.Word.{order_of};
+ghost use Rattle.bk_word.specs.declared.Class.{Class};
+ghost use Rattle.bk_word.specs.declared.Class.TheVariants.{Perfect};
+ghost use Rattle.bk_cuts.specs.Cuts.{IsBarren};
+ghost use Rattle.bk_walk_cuts.specs.MoveCuts.{GrowsByAtMostOne, IsCut, IsFrontEndingEven};
+
+use crate::lined::LinedSkel;
+use crate::moves::next_move;
+use crate::owing::skip_owing;
+use bk_bound_counts::single_valleys;
+use bk_skel::{Skel, open_side};
+use bk_word::{Class, Move, Sign};
+
+/// Passes over a legal move by which no member's word of the order and the class goes on, and over others of which this is as
+/// plain. False if it isn't plain; the move is then as it was. (Own.)
+pub fn skip(lined: &LinedSkel, class: Class, order: u8, m: &mut Move) -> bool
+    requires legal { IsLegalMove (outline_of lined.now) m.old }
+    requires count { m.old.count < 17 }
+    requires signs { length m.old.signs ≤ 18 }
+    requires small { order_of lined.now + m.old.count ≤ order }
+    ensures cut { IsTrue result → IsCut order class lined.now m.old m.new }
+    ensures near { GrowsByAtMostOne m.old m.new }
+    ensures kept { result ≡ false → m.new ≡ m.old }
+{
+    if skip_by_signs(lined.skel(), class, order, m) {
+        return true;
+    }
+    skip_by_sides(lined, class, m)
+}
+
+// Passes over a move that the sides of the first squares rule out.
+fn skip_by_sides(lined: &LinedSkel, class: Class, m: &mut Move) -> bool
+    requires legal { IsLegalMove (outline_of lined.now) m.old }
+    requires count { m.old.count < 17 }
+    requires signs { length m.old.signs ≤ 18 }
+    ensures cut { IsTrue result → (n : ℕ) → IsCut n class lined.now m.old m.new }
+    ensures near { GrowsByAtMostOne m.old m.new }
+    ensures kept { result ≡ false → m.new ≡ m.old }
+{
+    if !lined.rules_out(m, class) {
+        return false;
+    }
+    next_move(m);
+    true
+}
+
+// The same, by counts and signs alone.
+fn skip_by_signs(skel: &Skel, class: Class, order: u8, m: &mut Move) -> bool
+    requires legal { IsLegalMove (outline_of skel.now) m.old }
+    requires count { m.old.count < 17 }
+    requires signs { length m.old.signs ≤ 18 }
+    requires small { order_of skel.now + m.old.count ≤ order }
+    ensures cut { IsTrue result → IsCut order class skel.now m.old m.new }
+    ensures near { GrowsByAtMostOne m.old m.new }
+    ensures kept { result ≡ false → m.new ≡ m.old }
+{
+    if skip_even(skel, class, order, m) {
+        return true;
+    }
+    if skip_single(skel, m) {
+        return true;
+    }
+    if skip_shorter(skel, m) {
+        return true;
+    }
+    skip_owing(skel, order, m)
+}
+
+// Passes over a move with two equal squares side by side under one segment, and over all of its count whose signs are the
+// same up to there. Where the class isn't perfect, this is a cut at orders of at least 3.
+fn skip_even(skel: &Skel, class: Class, order: u8, m: &mut Move) -> bool
+    requires count { m.old.count < 17 }
+    requires signs { length m.old.signs ≤ 18 }
+    ensures cut { IsTrue result → IsCut order class skel.now m.old m.new }
+    ensures near { GrowsByAtMostOne m.old m.new }
+    ensures kept { result ≡ false → m.new ≡ m.old }
+{
+    if !bars_even(class, order) {
+        return false;
+    }
+    let (left_wall, _) = skel.walls();
+    match first_even(m, open_side(left_wall)) {
+        None => false,
+        Some(kept) => {
+            m.signs.truncate(kept);
+            next_move(m);
+            true
+        }
+    }
+}
+
+// Whether no member has two equal squares side by side under one segment.
+fn bars_even(class: Class, order: u8) -> bool
+    ensures { IsTrue result → (class ≡ Perfect) ⊎ (3 ≤ order) }
+{
+    match class {
+        Class::Perfect => true,
+        Class::Imperfect | Class::Simple => order >= 3,
+    }
+}
+
+// How many signs there are up to the first even one between two of the move's own squares, where its own begin at `from`.
+fn first_even(m: &Move, from: usize) -> Option<usize>
+    requires count { m.now.count < 17 }
+    requires from { from ≤ 1 }
+    ensures { IfSome result (IsFrontEndingEven from m.now.count m.now.signs) }
+{
+    let end = from + usize::from(m.count);
+    for (i, sign) in m.signs.as_slice().iter().enumerate() {
+        if i >= from && i + 1 < end && *sign == Sign::Even {
+            return Some(i + 1);
+        }
+    }
+    None
+}
+
+// Passes over all moves of one square, where it would stand under just one.
+fn skip_single(skel: &Skel, m: &mut Move) -> bool
+    ensures cut { IsTrue result → (n : ℕ) (class : Class) → IsCut n class skel.now m.old m.new }
+    ensures near { GrowsByAtMostOne m.old m.new }
+    ensures kept { result ≡ false → m.new ≡ m.old }
+{
+    if m.count != 1 || skel.valley_len() != 1 {
+        return false;
+    }
+    m.signs.clear();
+    next_move(m);
+    true
+}
+
+// Passes over the first move of two squares of which the left one is the shorter.
+fn skip_shorter(skel: &Skel, m: &mut Move) -> bool
+    requires legal { IsLegalMove (outline_of skel.now) m.old }
+    requires signs { length m.old.signs ≤ 18 }
+    ensures cut { IsTrue result → (n : ℕ) (class : Class) → IsCut n class skel.now m.old m.new }
+    ensures near { GrowsByAtMostOne m.old m.new }
+    ensures kept { result ≡ false → m.new ≡ m.old }
+{
+    if skel.moves() != 0 || m.count != 2 || !m.signs.as_slice()[0].is_above() {
+        return false;
+    }
+    next_move(m);
+    true
+}
+
+/// Whether it is plain that no member's word of the order begins with these moves, in any class. (Own.)
+pub fn is_barren(lined: &LinedSkel, order: u8) -> bool
+    ensures { IsTrue result → (class : Class) → IsBarren order class lined.now }
+{
+    is_whole_early(lined.skel(), order) || owes_too_many(lined, order)
+}
+
+// Whether one segment is left while fewer squares hang than the order.
+fn is_whole_early(skel: &Skel, order: u8) -> bool
+    ensures { IsTrue result → (class : Class) → IsBarren order class skel.now }
+{
+    skel.is_closed() && skel.order() < usize::from(order)
+}
+
+// Whether fewer squares are left than must still hang: one for each segment that ends above its neighbour on one segment's
+// side, one for that segment itself where a vertical line from the top bounds it or ended on it, and one more for each valley
+// of just one square. At orders under 3 nothing is said.
+fn owes_too_many(lined: &LinedSkel, order: u8) -> bool
+    ensures { IsTrue result → (class : Class) → IsBarren order class lined.now }
+{
+    if order < 3 {
+        return false;
+    }
+    let skel = lined.skel();
+    let left = usize::from(order).saturating_sub(skel.order());
+    let closings = lined.line_bound();
+    closings > left || single_valleys(skel.signs(), skel.sizes()) > left - closings
+}
