@@ -4,8 +4,8 @@
     bench/boards.py [--function NAME] [--first N] [--last N] [--class CLASS] PROGRAM
 
 Runs `list` of PROGRAM, the built program crates/bk_main/out/bk_main, at the orders from 12 to 16, or those named, under callgrind (valgrind).
-Counted are all calls of the function NAME, by default `go_on` of bk_free_search: one for each board that the search comes to, the empty one and the
-whole words among them. Prints a markdown table: the order, the calls, and the instructions of the whole run. A function that the compiler puts into
+Counted are all calls of the function NAME, by default `go_on` of bk_free_search: one for each board that the search comes to, the empty one and whole
+words among them, but none for the words that it makes of a board by the last square. Prints a markdown table: the order, the calls, and the instructions of the whole run. A function that the compiler puts into
 its callers can't be counted: then the script says which functions of the crates of the search were called, how often, and ends with 1. A program
 whose search has no `go_on` is counted by another one, as `bk_table::asking::stand_beside`, which is called at each board that isn't a whole word.
 """

@@ -4,9 +4,9 @@
     bench/rooted_maps.py [EDGES]
 
 For each number of edges from 6 to EDGES, by default 12, prints how many maps and how many rooted maps there are; and of the rooted maps of the last
-number those whose root edge leaves a vertex of degree 3, by the least degree of the vertex that the last of the two other edges there leads to. With the root edge as the
-source a rooted map of n + 1 edges is a net of order n, and these are the nets in which the first move hangs two squares, by how many squares touch the
-node under the second one.
+number those whose root edge leaves a vertex of degree 3, by the least degree of the vertex that the last of the two other edges there leads to. With
+the root edge as the source a rooted map of n + 1 edges is a net of order n, and these are the nets in which the first move hangs two squares, by how
+many squares touch the node under the second one.
 
 A map is told by its darts: the darts of an edge are 2k and 2k + 1, and `after` gives the next dart around a vertex. Each 3-connected planar map but the wheels
 comes from one of an edge less by an edge across a face, or by the same in its dual (Tutte 1961).

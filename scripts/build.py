@@ -5,11 +5,11 @@ memory.
 Contents decide what is done, and not times: the program and each library have a sum of all that they were made from, and one whose sum is still right
 is not made again. If the program is right already, nothing is said or done, and no toolchain is needed.
 
-Each crate is proved from nothing, by the prover's own command, over the libraries of the crates below. The fewer crates are at work, the more
-processes prove one; the crate with the longest chain above it has a second one or a third, and goes before the others. What is proved stays as a library in the
-crate's folder out/rlib/, so a build that was stopped goes on where it was. The program that is there stays until the new one takes its place. Standard
-error says which crates are being proved, how many are done and how long it has taken. The status is 0 if the program is in
-crates/bk_main/out/bk_main, made from what is there now.
+Each crate is proved from nothing, by the prover's own command, over the libraries of the crates below, and those with the longest chains of crates
+above them go first. One process proves a crate, or more if processors would have nothing to do else. What is proved stays as a library in the crate's
+folder out/rlib/, so a build that was stopped goes on where it was. The program that is there stays until the new one takes its place. Standard error
+says which crates are being proved, how many are done and how long it has taken. The status is 0 if the program is in crates/bk_main/out/bk_main, made
+from what is there now.
 
     scripts/build.py [--jobs N]
 """
@@ -121,22 +121,21 @@ class Crate:
         """Returns whether the library is there, made from what is there now."""
         return os.path.isdir(self.library) and bytes_of(self.kept()).decode() == self.sum
 
-    def prove(self, toolchain, jobs, waits):
-        """Proves the crate over the libraries below it, by so many processes, which let others go first if they are said to wait. Returns whether
-        it passed, and what was printed."""
+    def prove(self, toolchain, jobs):
+        """Proves the crate over the libraries below it, by so many processes. Returns whether it passed, and what was printed."""
         shutil.rmtree(os.path.dirname(self.library), ignore_errors=True)
         os.makedirs(os.path.dirname(self.library))
-        passed, text = ran(toolchain.build(self, jobs, "--statements", "-o", self.library), self.folder, waits)
+        passed, text = ran(toolchain.build(self, jobs, "--statements", "-o", self.library), self.folder)
         if passed:
             with open(self.kept(), "w", encoding="utf-8") as file:
                 file.write(self.sum)
         return passed, text
 
 
-def ran(command, folder, waits=False):
-    """Runs a command, which lets others go first if it is said to wait. Returns whether its status is 0, and what it printed."""
+def ran(command, folder):
+    """Runs a command. Returns whether its status is 0, and what it printed."""
     how = {"cwd": folder, "stdin": subprocess.DEVNULL, "stdout": subprocess.PIPE, "stderr": subprocess.STDOUT}
-    done = subprocess.run(["nice", "-n", "10" if waits else "0", *command], text=True, errors="replace", check=False, **how)
+    done = subprocess.run(command, text=True, errors="replace", check=False, **how)
     return done.returncode == 0, done.stdout
 
 
@@ -187,37 +186,36 @@ class Progress:
                 self.tell(self.so_far())
 
 
-def processes(jobs, crates, is_longest, is_late):
-    """Returns by how many processes a crate is proved while so many are at work. With a second one it is sooner done, but takes half as much time again
-    in all; so if all processors are taken only the crate with the longest chain above it has one, and a third if that chain takes longer than all else."""
-    return max(min((2 + is_late) if is_longest else 1, jobs), jobs // crates)
+def processes(free, ready):
+    """Returns by how many processes the next crate is proved: by one, and more only if else processors had nothing to do, since a second one makes it
+    half as much work again."""
+    return max(1, free - ready + 1)
 
 
 def prove(crates, toolchain, jobs, log, progress):
-    """Proves those of these crates that aren't proved yet, so many side by side, each after those below it, and first those with the longest chains
+    """Proves those of these crates that aren't proved yet, on so many processors, each after those below it, and first those with the longest chains
     above. Returns whether all passed."""
-    proved, running = {it for it in crates if it.is_proved()}, {}
+    proved, running, free = {it for it in crates if it.is_proved()}, {}, jobs
     waiting = sorted(proved.symmetric_difference(crates), key=lambda it: -it.chain)
     progress.done = len(proved)
     with ThreadPoolExecutor(jobs) as pool:
         while True:
-            ready = [it for it in waiting if proved.issuperset(it.named)][: jobs - len(running)]
-            at_work = [*running.values(), *ready]
-            longest = max((it.chain for it in at_work), default=0)
-            is_late = longest * jobs > sum(it.work for it in crates if it not in proved)
-            for it in ready:
-                is_longest = it.chain == longest
-                running[pool.submit(it.prove, toolchain, processes(jobs, len(at_work), is_longest, is_late), not is_longest)] = it
-            waiting = [it for it in waiting if it not in ready]
+            ready = [it for it in waiting if proved.issuperset(it.named)]
+            for place, it in enumerate(ready[:free]):
+                many = processes(free, len(ready) - place)
+                running[pool.submit(it.prove, toolchain, many)] = it, many
+                waiting.remove(it)
+                free -= many
             if not running:
                 return not waiting and len(proved) == len(crates)
-            progress.at_work = sorted(it.name for it in running.values())
+            progress.at_work = sorted(it.name for it, _ in running.values())
             for it in wait(running, return_when=FIRST_COMPLETED).done:
-                crate, (is_proved, text) = running.pop(it), it.result()
+                (crate, many), (is_proved, text) = running.pop(it), it.result()
+                free += many
                 log.write(f"== {crate.name}\n{text}")
                 log.flush()
                 proved |= {crate} if is_proved else set()
-                progress.at_work = sorted(it.name for it in running.values())
+                progress.at_work = sorted(other.name for other, _ in running.values())
                 progress.is_done(crate.name, is_proved)
 
 

@@ -5,9 +5,11 @@ TOP = os.path.dirname(os.path.dirname(os.path.abspath(__file__)))
 # The files of a crate, by folder and ending.
 PARTS = (("src", ".rt"), ("specs", ".antt"), ("proofs", ".antt"))
 # A line of code takes a processor about as long to prove as so many lines of definitions and proofs.
-LINES_FOR_ONE_OF_CODE = 40
+LINES_FOR_ONE_OF_CODE = 58
+# To read the libraries of a crate and to write its own takes about as long as to prove so many.
+LINES_FOR_A_CRATE = 6000
 # So many lines of definitions and proofs a processor proves in a second: an estimate.
-LINES_A_SECOND = 240
+LINES_A_SECOND = 520
 
 
 def text_of(path):
@@ -66,5 +68,5 @@ def lines_of(crate):
 
 
 def work_of(code, definitions, proofs):
-    """Returns how much work these lines are to prove, in lines of definitions and proofs."""
-    return code * LINES_FOR_ONE_OF_CODE + definitions + proofs
+    """Returns how much work a crate of so many lines is to prove, in lines of definitions and proofs."""
+    return LINES_FOR_A_CRATE + code * LINES_FOR_ONE_OF_CODE + definitions + proofs

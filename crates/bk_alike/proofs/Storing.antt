@@ -1,8 +1,6 @@
 -- A place is stored in a group, and an item among the items.
-use Rattle.std.specs.Prelude.{Bool, Err, None, Ok, OnOk, Option, Result, Some, cond, false, map, slice_index_or, slice_set, true, zero}
-use Rattle.std.specs.Result.{is_err}
+use Rattle.std.specs.Prelude.{Bool, None, Option, Some, cond, false, map, slice_index_or, slice_set, true, zero}
 use Rattle.std.proofs.Common.{List, [], ap, arith, length, refl, suc, ℕ, ◌++◌, ◌<◌, ◌∙◌, ◌∷◌, ◌≡◌, ◌≤◌, nat_lt}
-use Rattle.std.proofs.lemmas.Bool.{true≢false}
 use Rattle.std.proofs.lemmas.Bool.Decides.{nat_tests}
 use Rattle.std.proofs.lemmas.Option.{same_Some}
 use Rattle.bk_alike.specs.Grouped.{with_place}

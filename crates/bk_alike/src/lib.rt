@@ -22,7 +22,7 @@ use std::marker::Model;
 const MOST_ITEMS: usize = 16_384;
 
 /// Why an item is not kept.
-#[derive(Clone, Copy, Debug, PartialEq, Eq)]
+#[derive(Clone, Copy, PartialEq, Eq)]
 pub enum AddFault {
     /// 16,384 items are kept.
     Full,

@@ -11,7 +11,7 @@ use Rattle.bk_word.specs.WordText.{IsNoWordText, IsTextOf}
 use Rattle.bk_lay.specs.TilingWord.{IsWordOf}
 use Rattle.bk_skel.specs.SolveRefusal.{IsFirstIllegal}
 use Rattle.bk_word_net.specs.Realised.{IsTilingOf}
-use Rattle.bk_word_net.specs.WideWord.{IsWideWord}
+use Rattle.bk_skel.specs.WideWord.{IsWideWord}
 use Rattle.bk_report.specs.Answers.{tiling_line}
 use Rattle.bk_report.specs.Refusals.{refusal_line}
 use Rattle.bk_report.specs.declared.refusal.Refused.TheVariants.{Illegal, Long, Many, Nothing, Text, Unfinished, Wide}

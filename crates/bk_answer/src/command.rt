@@ -6,7 +6,7 @@ ghost use Rattle.bk_answer.specs.Plain.{TakesMemory, code_command};
 use crate::plain::PlainCommand;
 
 /// A command that reads lines of codes: what it tells of the tiling of a code.
-#[derive(Clone, Copy, Debug, PartialEq, Eq)]
+#[derive(Clone, Copy)]
 pub enum CodeCommand {
     /// Whether a code is that of a tiling, and what the tiling is.
     Check,
@@ -25,7 +25,7 @@ pub enum CodeCommand {
 }
 
 /// A command that answers lines.
-#[derive(Clone, Copy, Debug, PartialEq, Eq)]
+#[derive(Clone, Copy)]
 pub enum Command {
     /// It reads lines of codes.
     OfCodes(CodeCommand),

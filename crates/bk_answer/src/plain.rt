@@ -22,7 +22,7 @@ use bk_sym::canonical;
 use bk_tiling::Tiling;
 
 /// A command that reads lines of codes and takes no memory.
-#[derive(Clone, Copy, Debug, PartialEq, Eq)]
+#[derive(Clone, Copy)]
 pub enum PlainCommand {
     /// Whether a code is that of a tiling, and what the tiling is.
     Check,

@@ -6,7 +6,7 @@ use Rattle.bk_laws.proofs.WholeNumbers.{cancel_right}
 use Rattle.bk_tiling.specs.Tiling.{IsTiling, Tiling}
 use Rattle.bk_tiling.specs.declared.Square.{Square}
 use Rattle.bk_net.specs.Flow.{Flow, IsPrimitiveFlow}
-use Rattle.bk_flow.proofs.WholePotentials.{head_same, tail_same}
+use Rattle.bk_laws.proofs.ListPlaces.{head_same, tail_same}
 use Rattle.bk_word.specs.Word.{Word}
 use Rattle.bk_word.specs.declared.Class.{Class}
 use Rattle.bk_word.specs.declared.Class.TheVariants.{Perfect}

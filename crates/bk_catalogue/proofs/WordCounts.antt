@@ -17,8 +17,8 @@ use Rattle.bk_word.specs.declared.Sign.TheVariants.{Above, Even, Under}
 use Rattle.bk_word.proofs.StoredBytes.{order_more}
 use Rattle.bk_word.proofs.WordOrder.{move_same}
 use Rattle.bk_catalogue.specs.Catalogue.{AreAscending, Entry, IsEntry}
-use Rattle.bk_tree.proofs.MoveOrder.{less_to}
-use Rattle.bk_tree.proofs.Ranks.{open_one}
+use Rattle.bk_catalogue.proofs.MoveOrder.{less_to}
+use Rattle.bk_catalogue.proofs.Ranks.{open_one}
 
 four_fit : (k : ℕ) → 0 < k → 4 * power 3 k ≤ power 12 k
 four_fit zero some = absurd (omega arith)

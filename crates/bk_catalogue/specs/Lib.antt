@@ -1,6 +1,15 @@
 -- What the crate says. It has laws alone, so there is no code to keep.
+pub mod Tree
+pub mod TreeLaws
+pub mod NextMove
+pub mod WordBounds
+pub mod ClosingBound
+pub mod SingleValleys
+pub mod VerticalCut
 pub mod Catalogue
 pub mod Following
 pub mod Once
 pub mod Repeated
-pub mod Small
+pub mod Cuts
+pub mod BoundCuts
+pub mod Corners

@@ -13,7 +13,7 @@ use Rattle.bk_frac.proofs.DivisorLaws.{gcd_of-divides, gcd_of-greatest}
 use Rattle.bk_frac.proofs.WrittenNumbers.{some-magnitude}
 use Rattle.bk_frac.specs.Divisor.{gcd, gcd_of}
 use Rattle.bk_net.specs.Flow.{Flow, IsPrimitive}
-use Rattle.bk_flow.proofs.WholePotentials.{head_same, tail_same}
+use Rattle.bk_laws.proofs.ListPlaces.{head_same, tail_same}
 use Rattle.bk_flow.specs.FlowLaws.{ThePrimitiveFlowIsOne}
 
 gcd_of-times : (m : ℕ) (ns : List ℕ) → 0 < m → gcd_of (map (λ n. m * n) ns) ≡ m * gcd_of ns

@@ -1,7 +1,6 @@
 -- A ledger in which each cut acts. The sides of the first squares are called a, b, c.
 use Rattle.std.specs.Prelude.{negsuc, pos}
-use Rattle.std.proofs.Common.{List, [], arith, refl, zero, ◌∷◌, ◌≡◌}
-use Rattle.bk_word.specs.declared.Sign.{Sign}
+use Rattle.std.proofs.Common.{List, [], arith, refl, ◌∷◌, ◌≡◌}
 use Rattle.bk_word.specs.declared.Sign.TheVariants.{Above, Even, Under}
 use Rattle.bk_forms.specs.Form.{Form}
 use Rattle.bk_form_cuts.proofs.SideFormExamples.{form_of}

@@ -1,5 +1,5 @@
 -- What a ledger has answered to the first signs of a move, sign by sign, and that all cuts of a move are told.
-use Rattle.std.proofs.Common.{Bool, List, None, Option, Some, [], ap, arith, false, get_or, inl, inr, length, slice_get, subst, suc, sym, true, zero, ℕ, ◌+◌}
+use Rattle.std.proofs.Common.{Bool, List, Some, [], ap, arith, false, get_or, inl, inr, length, slice_get, subst, suc, sym, true, zero, ℕ, ◌+◌}
 use Rattle.std.proofs.Common.{◌<◌, ◌∙◌, ◌∷◌, ◌≡◌, ◌≤◌, ◌⊎◌}
 use Rattle.std.proofs.lemmas.Bool.{cases_lt}
 use Rattle.bk_word.specs.Outline.{valley_of}

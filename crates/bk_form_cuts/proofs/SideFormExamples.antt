@@ -19,7 +19,7 @@ use Rattle.bk_lay.proofs.WordTest.{by_tests, passes_as_valley}
 use Rattle.bk_forms.specs.Form.{Form}
 use Rattle.bk_forms.specs.FormLaws.{Compares}
 use Rattle.bk_catalogue.proofs.TwoSquares.{row_of_two}
-use Rattle.bk_cuts.specs.Cuts.{IsBarren}
+use Rattle.bk_catalogue.specs.Cuts.{IsBarren}
 use Rattle.bk_form_cuts.proofs.Asked.{equal_sides}
 use Rattle.bk_form_cuts.proofs.RuledOut.{ruled_out, ruled_out_is_barren}
 use Rattle.bk_form_cuts.specs.SideForms.{brings_more, level_of, levels_along, new_bottoms, sum_of_sides, zero_form}

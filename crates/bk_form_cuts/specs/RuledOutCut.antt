@@ -3,7 +3,7 @@
 use Rattle.std.specs.Prelude.{ℕ}
 use Rattle.bk_word.specs.Word.{Word}
 use Rattle.bk_word.specs.declared.Class.{Class}
-use Rattle.bk_cuts.specs.Cuts.{IsBarren}
+use Rattle.bk_catalogue.specs.Cuts.{IsBarren}
 use Rattle.bk_form_cuts.specs.Trace.{IsRuledOut}
 
 -- no member's word begins with moves that are ruled out in its class

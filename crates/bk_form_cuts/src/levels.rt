@@ -12,7 +12,7 @@ ghost use Rattle.bk_form_cuts.specs.Trace.{AreSmall, IsSmall};
 
 use arrayvec::ArrayVec;
 use bk_forms::Form;
-use bk_skel::Skel;
+use bk_skeleton::Skel;
 use bk_word::Move;
 
 // The first moves are followed while at most so many squares hang.

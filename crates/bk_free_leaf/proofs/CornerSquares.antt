@@ -17,19 +17,19 @@ use Rattle.bk_word.specs.Play.{IsComplete, numbers_from, outline_of}
 use Rattle.bk_word.specs.Word.{Word, order_of}
 use Rattle.bk_word_net.proofs.Shape.{hung_many}
 use Rattle.bk_word_net.specs.WordNet.{net_of_word}
-use Rattle.bk_tiling_layout.proofs.TilingFits.{a_tiling_has_a_layout}
-use Rattle.bk_tiling_layout.proofs.TilingSquares.{in_square}
-use Rattle.bk_tiling_layout.specs.TilingLayout.{node_above, square_of}
-use Rattle.bk_free_cuts.proofs.CutByNodes.{as_many_sides}
-use Rattle.bk_free_cuts.specs.LineNumbers.{lefts_of, sides_of}
-use Rattle.bk_signed_word.proofs.SignedWires.{ends_below, pair_is, square_below}
-use Rattle.bk_signed_word.proofs.SignedTotals.{finish_of, start_of}
-use Rattle.bk_signed_word.specs.SignedWord.{IsSignedWordOf}
+use Rattle.bk_layout.proofs.TilingFits.{a_tiling_has_a_layout}
+use Rattle.bk_layout.proofs.TilingSquares.{in_square}
+use Rattle.bk_layout.specs.TilingLayout.{node_above, square_of}
+use Rattle.bk_net_word.proofs.CutByNodes.{as_many_sides}
+use Rattle.bk_net_word.specs.LineNumbers.{lefts_of, sides_of}
+use Rattle.bk_net_word.proofs.SignedWires.{ends_below, pair_is, square_below}
+use Rattle.bk_net_word.proofs.SignedTotals.{finish_of, start_of}
+use Rattle.bk_net_word.specs.SignedWord.{IsSignedWordOf}
 use Rattle.bk_normal.proofs.LayoutSides.{at_top, on_bottom}
 use Rattle.bk_normal.specs.Normal.{Counts, longest}
-use Rattle.bk_normal_cuts.proofs.NormalImages.{a_normal_word_has_settled_corners}
-use Rattle.bk_normal_cuts.specs.NormalImage.{AreCornersSettled, IsMetByNormalWord}
-use Rattle.bk_normal_cuts.specs.WordNumbers.{counts_of_word}
+use Rattle.bk_normal.proofs.NormalImages.{a_normal_word_has_settled_corners}
+use Rattle.bk_normal.specs.NormalImage.{AreCornersSettled, IsMetByNormalWord}
+use Rattle.bk_normal.specs.WordNumbers.{counts_of_word}
 use Rattle.bk_free_leaf.proofs.Candidates.{current_is, last_is, left_is, right_is, square_is, the_candidate_is_the_tiling}
 use Rattle.bk_free_leaf.proofs.Leaves.{currents_many, edges_told, left_at, wires_are}
 use Rattle.bk_free_leaf.proofs.ToldSteps.{differ}

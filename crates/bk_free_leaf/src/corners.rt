@@ -8,7 +8,7 @@ ghost use Rattle.bk_free_leaf.specs.ToldCorners.{AreLongestTold, in_bottom_corne
 use crate::levels::place_of;
 
 // The longest side of the squares in the corners at each side of a rectangle.
-#[derive(Clone, Copy, Debug, PartialEq, Eq, Drop)]
+#[derive(Clone, Copy, Drop)]
 pub(crate) struct Longest {
     pub(crate) top: u64,
     pub(crate) bottom: u64,
@@ -17,7 +17,7 @@ pub(crate) struct Longest {
 }
 
 // Which sides of a rectangle a square touches.
-#[derive(Clone, Copy, Debug, PartialEq, Eq, Drop)]
+#[derive(Clone, Copy, Drop)]
 pub(crate) struct Contact {
     pub(crate) top: bool,
     pub(crate) bottom: bool,

@@ -6,12 +6,12 @@ ghost use Rattle.bk_tiling.specs.Tiling.{Tiling as Tiled};
 ghost use Rattle.bk_word.specs.Play.{IsComplete};
 ghost use Rattle.bk_word.specs.Word.{order_of};
 ghost use Rattle.bk_free_leaf.specs.Candidate.{placed_square};
-ghost use Rattle.bk_free_cuts.specs.LineNumbers.{lefts_of};
+ghost use Rattle.bk_net_word.specs.LineNumbers.{lefts_of};
 ghost use Rattle.bk_free_leaf.specs.Placing.{AreKnownLines, AreSmall, EndWithin, IsPlacedAt, IsSmall};
 ghost use Rattle.bk_free_leaf.specs.Found.{IsFound};
 ghost use Rattle.bk_free_leaf.specs.Ties.{AreTiesOf};
-ghost use Rattle.bk_normal_cuts.specs.NormalImage.{IsMetByNormalWord};
-ghost use Rattle.bk_normal_cuts.specs.WordNumbers.{counts_of_word};
+ghost use Rattle.bk_normal.specs.NormalImage.{IsMetByNormalWord};
+ghost use Rattle.bk_normal.specs.WordNumbers.{counts_of_word};
 ghost use Rattle.bk_catalogue.specs.Catalogue.{IsOfClass};
 
 use crate::class::class_allows;
@@ -20,7 +20,7 @@ use crate::levels::{NODES, levels_of, place_of, rights_of};
 use crate::ties::{Ties, corners_allow};
 use arrayvec::ArrayVec;
 use bk_flow::narrow_flow;
-use bk_skel::SmallSkel;
+use bk_skeleton::SmallSkel;
 use bk_tiling::Square;
 use bk_word::{Class, INLINE_ORDER};
 

@@ -3,14 +3,14 @@
 ghost use Rattle.std.specs.Prelude.{IsTrue, List, false, ℕ, ◌||◌, ◌≡◌, ◌≤◌};
 ghost use Rattle.bk_tiling.specs.declared.Square.{Square};
 ghost use Rattle.bk_normal.specs.Normal.{Counts};
-ghost use Rattle.bk_normal_cuts.specs.NormalImage.{AreCornersSettled};
+ghost use Rattle.bk_normal.specs.NormalImage.{AreCornersSettled};
 ghost use Rattle.bk_free_leaf.specs.Ties.{AreTiesOf};
 ghost use Rattle.bk_free_leaf.specs.ToldCorners.{AreLongest};
 
 use crate::corners::Longest;
 
 /// Which counts of a word are known to tie. (Own.)
-#[derive(Clone, Copy, Debug, PartialEq, Eq, Drop)]
+#[derive(Clone, Copy, Drop)]
 pub struct Ties {
     /// As many squares lie at the bottom as at the top.
     pub level: bool,

@@ -12,12 +12,12 @@ use Rattle.bk_word.specs.declared.Sign.{Sign}
 use Rattle.bk_word.specs.declared.Sign.TheVariants.{Above, Even}
 use Rattle.bk_word.proofs.PlayLaws.{legal_rest}
 use Rattle.bk_word.proofs.StoredBytes.{order_append, order_more}
-use Rattle.bk_normal_cuts.proofs.NextMove.{most_moves_hold_then}
-use Rattle.bk_normal_cuts.proofs.StrongWords.{strong_bound_is_normal_barren, strong_weight_is_normal_barren}
-use Rattle.bk_bounds.specs.VerticalCut.{edges_on_lines}
-use Rattle.bk_normal_cuts.specs.NormalCuts.{IsNormalBarren, touched_or_wide}
-use Rattle.bk_normal_cuts.specs.WordNumbers.{first_count}
-use Rattle.bk_normal_cuts.specs.StrongBound.{strong_bound_of, weight_of}
+use Rattle.bk_normal.proofs.NextMove.{most_moves_hold_then}
+use Rattle.bk_normal.proofs.StrongWords.{strong_bound_is_normal_barren, strong_weight_is_normal_barren}
+use Rattle.bk_catalogue.specs.VerticalCut.{edges_on_lines}
+use Rattle.bk_normal.specs.NormalCuts.{IsNormalBarren, touched_or_wide}
+use Rattle.bk_normal.specs.WordNumbers.{first_count}
+use Rattle.bk_normal.specs.StrongBound.{strong_bound_of, weight_of}
 use Rattle.bk_free_search.proofs.BehindSigns.{asked_with_all, asked_with_some, behind_marks_long}
 use Rattle.bk_free_search.proofs.Cutting.{by_legal}
 use Rattle.bk_free_search.proofs.EvenSigns.{apart_from_own, side_few}
@@ -140,7 +140,11 @@ walled true e = refl
 walled false e = absurd (omega (arith, e))
 
 module _ (n : ℕ) (front : Word) (m : Move) (next : Next) (around : Beside) (begun : IsBegun n front m next around) (signs : List Sign) (asked : Asked)
-    (asked_is : IsAsked front signs asked) (some : 0 < next.left) where
+    (asked_is : IsAsked front signs asked) where
+  -- squares are left after it
+  some : 0 < next.left
+  some = omega (arith, begun.fits, begun.next_is.left_is)
+
   -- with all the signs of a move, which goes on by no other
   whole_is_barren : (other : Move) → other.count ≡ m.count → other.signs ≡ signs → IsLegal (front ++ other ∷ [])
       → IsOver asked.passed (asks_then around.behind asked.passed.low) around.ahead.moves next.left → IsNormalBarren n (front ++ other ∷ [])

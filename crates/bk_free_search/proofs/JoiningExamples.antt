@@ -5,11 +5,11 @@ use Rattle.bk_word.specs.Play.{outline_of}
 use Rattle.bk_word.specs.Word.{Move, Word}
 use Rattle.bk_word.specs.declared.Sign.{Sign}
 use Rattle.bk_word.specs.declared.Sign.TheVariants.{Above, Even, Under}
-use Rattle.bk_free_cuts.specs.LineNumbers.{lefts_of}
+use Rattle.bk_net_word.specs.LineNumbers.{lefts_of}
 use Rattle.bk_free_search.specs.Joining.{JoinsLeft, JoinsRight}
 use Rattle.bk_free_search.specs.Lefts.{IsLeftOfOne}
 use Rattle.bk_free_search.specs.Rights.{IsRightOfOne, rights_of}
-use Rattle.bk_skel.specs.SmallSkeleton.{IsValley}
+use Rattle.bk_skeleton.specs.SmallSkeleton.{IsValley}
 
 abbrev move : ℕ → List Sign → Move
 move count signs = record { count = count; signs = signs }

@@ -16,18 +16,18 @@ use Rattle.bk_word.proofs.StoredBytes.{order_append, order_more}
 use Rattle.bk_word_net.proofs.OutlineParts.{left_open, many_segments, right_open}
 use Rattle.bk_word_net.proofs.Shape.{valley_in}
 use Rattle.bk_word_net.proofs.ValleyCut.{AtValley}
-use Rattle.bk_bounds.proofs.BoundsOfWords.{shape_of_word}
-use Rattle.bk_free_cuts.specs.NodeCut.{ShareANode}
-use Rattle.bk_normal_cuts.proofs.FewMoves.{a_move_hangs_at_walls, first_kept}
-use Rattle.bk_normal_cuts.proofs.LastMoves.{a_move_leaves_segments, one_square_goes_on_even, too_many_at_left_is_normal_barren}
-use Rattle.bk_normal_cuts.proofs.LastMoves.{too_many_at_right_is_normal_barren, too_wide_bottom_is_normal_barren}
-use Rattle.bk_normal_cuts.proofs.MovesLeft.{legal}
-use Rattle.bk_normal_cuts.proofs.SquaresLeft.{evens-cons, evens_most}
-use Rattle.bk_normal_cuts.specs.LastMoves.{even_square}
-use Rattle.bk_normal_cuts.specs.NextMove.{left_squares_then, right_squares_then}
-use Rattle.bk_normal_cuts.specs.NormalCuts.{IsNormalBarren}
-use Rattle.bk_normal_cuts.specs.NormalImage.{IsNormalSought}
-use Rattle.bk_normal_cuts.specs.WordNumbers.{first_count}
+use Rattle.bk_catalogue.proofs.BoundsOfWords.{shape_of_word}
+use Rattle.bk_net_word.specs.NodeCut.{ShareANode}
+use Rattle.bk_normal.proofs.FewMoves.{a_move_hangs_at_walls, first_kept}
+use Rattle.bk_normal.proofs.LastMoves.{a_move_leaves_segments, one_square_goes_on_even, too_many_at_left_is_normal_barren}
+use Rattle.bk_normal.proofs.LastMoves.{too_many_at_right_is_normal_barren, too_wide_bottom_is_normal_barren}
+use Rattle.bk_normal.proofs.MovesLeft.{legal}
+use Rattle.bk_normal.proofs.SquaresLeft.{evens-cons, evens_most}
+use Rattle.bk_normal.specs.LastMoves.{even_square}
+use Rattle.bk_normal.specs.NextMove.{left_squares_then, right_squares_then}
+use Rattle.bk_normal.specs.NormalCuts.{IsNormalBarren}
+use Rattle.bk_normal.specs.NormalImage.{IsNormalSought}
+use Rattle.bk_normal.specs.WordNumbers.{first_count}
 use Rattle.bk_free_search.proofs.Cutting.{by_legal, lone_is_barren, normal, shared_is_barren}
 use Rattle.bk_free_search.proofs.EvenSigns.{apart_from_own, evens_ends, side_few}
 use Rattle.bk_free_search.proofs.NextMoves.{HasNextMove, is_whole, next_fits, next_move}
@@ -218,9 +218,9 @@ is_even_square o m move one even = λ i. record { count = one i; signs = signs i
     signs : m.signs ≡ replicate (neighbours o) Even
     signs = even ∙ ap (λ (k : ℕ). replicate k Even) (omega (arith, move.signs, one))
 
--- they go on by the last square
-pub goes_on_last : (n : ℕ) (front w : Word) → IsNormalSought n w → order_of front + 1 ≡ n → GoesOn front w → GoesOn (with_last front) w
-goes_on_last n front w sought one on = record { rest = []; is = same ∙ ap (λ (k : Move). front ++ k ∷ []) square ∙ sym (append-nil (with_last front)) }
+-- with it they are whole
+pub last_is_whole : (n : ℕ) (front w : Word) → IsNormalSought n w → order_of front + 1 ≡ n → GoesOn front w → w ≡ with_last front
+last_is_whole n front w sought one on = same ∙ ap (λ (k : Move). front ++ k ∷ []) square
   where
     h : HasNextMove front w
     h = next_move n front w sought (omega (arith, one)) on

@@ -4,10 +4,10 @@ use Rattle.std.specs.List.{list_any}
 use Rattle.std.proofs.Common.{Bool, List, [], ap, arith, drop, false, length, nat_le, refl, slice_index_or, suc, take, true, zero, ℕ}
 use Rattle.std.proofs.Common.{◌||◌, ◌++◌, ◌+◌, ◌-◌, ◌<◌, ◌∙◌, ◌∷◌, ◌≡◌}
 use Rattle.std.proofs.lemmas.Bool.{or_left, or_right}
-use Rattle.bk_bounds.proofs.JoinedLines.{or_more}
-use Rattle.bk_bounds.proofs.LineLaws.{any_more, begins_more, next_more}
-use Rattle.bk_bounds.specs.VerticalCut.{begins_on_line, next_on_line, on_line}
-use Rattle.bk_normal_cuts.specs.NormalCuts.{touched_or_wide}
+use Rattle.bk_catalogue.proofs.JoinedLines.{or_more}
+use Rattle.bk_catalogue.proofs.LineLaws.{any_more, begins_more, next_more}
+use Rattle.bk_catalogue.specs.VerticalCut.{begins_on_line, next_on_line, on_line}
+use Rattle.bk_normal.specs.NormalCuts.{touched_or_wide}
 use Rattle.bk_free_search.proofs.SharedMarks.{mark_of}
 
 -- the marks behind others

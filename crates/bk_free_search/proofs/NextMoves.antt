@@ -7,9 +7,11 @@ use Rattle.bk_word.specs.Word.{Move, Word, order_of}
 use Rattle.bk_word.specs.declared.Sign.{Sign}
 use Rattle.bk_word.proofs.PlayLaws.{legal_rest}
 use Rattle.bk_word.proofs.StoredBytes.{order_append, order_more}
-use Rattle.bk_normal_cuts.specs.NormalCuts.{IsNormalBarren}
-use Rattle.bk_normal_cuts.specs.NormalImage.{IsNormalSought}
+use Rattle.bk_normal.specs.NormalCuts.{IsNormalBarren}
+use Rattle.bk_normal.specs.NormalImage.{IsNormalSought}
 use Rattle.bk_free_search.specs.Sought.{GoesOn, GoesOnBy}
+use Rattle.bk_free_search.specs.declared.state.Begun.{Begun}
+use Rattle.bk_free_search.specs.declared.state.Search.{Search}
 
 -- a word goes on from these moves by a legal one
 pub record HasNextMove (front w : Word) : Type 0 where
@@ -97,9 +99,10 @@ is_whole n front w sought full on = cases on.rest on.is
 pub begins_empty : (front w : Word) → front ≡ [] → GoesOn front w
 begins_empty front w none = record { rest = w; is = ap (λ v. v ++ w) (sym none) }
 
--- what is sought of one order is of an equal one
-pub sought_at : (n k : ℕ) (w : Word) → k ≡ n → IsNormalSought n w → IsNormalSought k w
-sought_at n k w same sought = subst (λ (j : ℕ). IsNormalSought j w) (sym same) sought
+-- ---- where nothing has changed
+
+pub sought_in : (s t : Search) (w : Word) → s ≡ t → IsNormalSought t.order w → IsNormalSought s.order w
+sought_in s t w same sought = subst (λ (x : Search). IsNormalSought x.order w) (sym same) sought
 
 -- the words that go on so from equal moves
 pub by_count : (front board w : Word) (h : HasNextMove front w) (count : ℕ) (signs : List Sign) → board ≡ front → h.move.count ≡ count → signs ≡ []
@@ -113,16 +116,10 @@ by_count front board w h count signs same count_is none = record {
   signs_are = ap (λ l. l ++ h.move.signs) (sym none);
 }
 
-pub by_sign : (front board : Word) (m k : Move) (s t : Sign) (w : Word) → board ≡ front → k ≡ m → s ≡ t → GoesOnBy front m.count (m.signs ++ s ∷ []) w
-    → GoesOnBy board k.count (k.signs ++ t ∷ []) w
-by_sign front board m k s t w same same_move e on = record {
-  move = on.move;
-  rest = on.rest;
-  is = on.is ∙ ap (λ v. v ++ on.move ∷ on.rest) (sym same);
-  count_is = on.count_is ∙ ap (λ (z : Move). z.count) (sym same_move);
-  more = on.more;
-  signs_are = on.signs_are ∙ (λ i. ((sym same_move i).signs ++ e i ∷ []) ++ on.more);
-}
+pub by_sign : (s t : Search) (a b : Begun) (sign : Sign) (w : Word) → s ≡ t → a ≡ b → GoesOnBy t.board b.m.count (b.m.signs ++ sign ∷ []) w
+    → GoesOnBy s.board a.m.count (a.m.signs ++ sign ∷ []) w
+by_sign s t a b sign w same same_move on = subst (λ (x : Search). GoesOnBy x.board a.m.count (a.m.signs ++ sign ∷ []) w) (sym same)
+    (subst (λ (x : Begun). GoesOnBy t.board x.m.count (x.m.signs ++ sign ∷ []) w) (sym same_move) on)
 
 -- in two counts the one below another, or the same
 pub below_or_same : (count next : ℕ) → count < next + 1 → (count < next) ⊎ (count ≡ next)

@@ -6,14 +6,14 @@ use Rattle.std.proofs.Common.{◌<◌, ◌∙◌, ◌∷◌, ◌≡◌, ◌≤�
 use Rattle.std.proofs.lemmas.Bool.Decides.{nat_tests}
 use Rattle.std.proofs.lemmas.List.{drop-drop, drop_all, drop_more, get_or-drop, get_or-take, length-drop, length-map, length-take}
 use Rattle.std.proofs.lemmas.List.Folds.{list_any_at}
-use Rattle.bk_bounds.proofs.LineCounting.{sum-cons}
+use Rattle.bk_catalogue.proofs.LineCounting.{sum-cons}
 use Rattle.bk_word.specs.Outline.{sizes_of}
 use Rattle.bk_word.specs.Play.{outline_of}
 use Rattle.bk_word.specs.Word.{Word}
 use Rattle.bk_word_net.proofs.Shape.{AllFilled}
-use Rattle.bk_bounds.proofs.BoundsOfWords.{segments_again}
-use Rattle.bk_bounds.specs.VerticalCut.{begins_on_line, edges_on_lines, next_on_line, on_line, segments_of}
-use Rattle.bk_normal_cuts.specs.NormalCuts.{touched_or_wide}
+use Rattle.bk_catalogue.proofs.BoundsOfWords.{segments_again}
+use Rattle.bk_catalogue.specs.VerticalCut.{begins_on_line, edges_on_lines, next_on_line, on_line, segments_of}
+use Rattle.bk_normal.specs.NormalCuts.{touched_or_wide}
 use Rattle.bk_free_search.specs.Strong.{AreFilled, is_marked_segment, marks_by_lists}
 use Rattle.bk_free_search.proofs.SegmentsBehind.{sum_left, sum_step}
 use Rattle.bk_free_search.specs.NodeLines.{Has}

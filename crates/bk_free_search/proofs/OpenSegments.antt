@@ -7,9 +7,9 @@ use Rattle.std.proofs.lemmas.Option.{slice_get-get_or}
 use Rattle.bk_word.specs.Play.{outline_of}
 use Rattle.bk_word.specs.Word.{Word}
 use Rattle.bk_word.specs.Outline.{sizes_of}
-use Rattle.bk_bounds.proofs.BoundsOfWords.{segment_at, segments_again}
-use Rattle.bk_bounds.proofs.LineCounting.{sum-cons}
-use Rattle.bk_bounds.specs.VerticalCut.{segments_of}
+use Rattle.bk_catalogue.proofs.BoundsOfWords.{segment_at, segments_again}
+use Rattle.bk_catalogue.proofs.LineCounting.{sum-cons}
+use Rattle.bk_catalogue.specs.VerticalCut.{segments_of}
 
 -- the squares of a segment among all open ones
 pub segment_read : (w : Word) (sizes ends : List ℕ) (i start size : ℕ) → sizes ≡ sizes_of (outline_of w) → ends ≡ concat (outline_of w).segments

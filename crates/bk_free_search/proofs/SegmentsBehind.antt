@@ -2,8 +2,8 @@
 use Rattle.std.proofs.Common.{List, [], ap, drop, length, refl, slice_index_or, suc, sum, sym, take, zero, ℕ}
 use Rattle.std.proofs.Common.{◌+◌, ◌<◌, ◌∙◌, ◌∷◌, ◌≡◌, ◌≤◌}
 use Rattle.std.proofs.lemmas.List.{drop-drop, drop_all, drop_more}
-use Rattle.bk_bounds.proofs.LineCounting.{sum-cons}
-use Rattle.bk_bounds.specs.VerticalCut.{segments_of}
+use Rattle.bk_catalogue.proofs.LineCounting.{sum-cons}
+use Rattle.bk_catalogue.specs.VerticalCut.{segments_of}
 
 -- the segments from a place on
 pub segments_drop : (p : ℕ) (sizes ends : List ℕ) → segments_of (drop p sizes) (drop (sum (take p sizes)) ends) ≡ drop p (segments_of sizes ends)

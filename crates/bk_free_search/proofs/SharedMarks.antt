@@ -6,11 +6,11 @@ use Rattle.std.proofs.lemmas.Bool.Decides.{nat_tests}
 use Rattle.bk_word.specs.Play.{before_first_list, joined, parts}
 use Rattle.bk_word.specs.declared.Sign.{Sign}
 use Rattle.bk_word.specs.declared.Sign.TheVariants.{Above, Even, Under}
-use Rattle.bk_bounds.proofs.ClosingLaws.{unders, unders-cons, unders-parts}
-use Rattle.bk_bounds.specs.VerticalCut.{next_on_line, on_line}
+use Rattle.bk_catalogue.proofs.ClosingLaws.{unders, unders-cons, unders-parts}
+use Rattle.bk_catalogue.specs.VerticalCut.{next_on_line, on_line}
 use Rattle.bk_free_search.specs.Apart.{shared}
-use Rattle.bk_normal_cuts.proofs.StrongParts.{weight, weight_joined}
-use Rattle.bk_normal_cuts.specs.StrongBound.{strong_from}
+use Rattle.bk_normal.proofs.StrongParts.{weight, weight_joined}
+use Rattle.bk_normal.specs.StrongBound.{strong_from}
 
 -- there is one for each segment
 pub shared_long : (signs : List Sign) (marks : List Bool) → length marks ≡ length (filter parts signs) + 1 → length (shared signs marks) ≡ length signs + 1

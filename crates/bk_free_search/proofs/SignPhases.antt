@@ -3,25 +3,27 @@
 use Rattle.std.proofs.Common.{List, [], ap, append_assoc, arith, count_by, false, length, slice_get, subst, sym, true, ℕ}
 use Rattle.std.proofs.Common.{◌++◌, ◌+◌, ◌<◌, ◌∙◌, ◌∷◌, ◌≡◌, ◌≤◌}
 use Rattle.std.proofs.lemmas.List.{length-append}
+use Rattle.std.proofs.lemmas.List.Sums.{count_by-le-length}
 use Rattle.bk_word.specs.Outline.{IsLegalMove, has_left_wall, has_right_wall, open_side}
 use Rattle.bk_word.specs.Play.{outline_of}
 use Rattle.bk_word.specs.Signs.{is_even}
 use Rattle.bk_word.specs.Word.{Move, Word}
 use Rattle.bk_word.specs.declared.Sign.{Sign}
 use Rattle.bk_word.specs.declared.Sign.TheVariants.{Above, Even, Under}
-use Rattle.bk_normal_cuts.proofs.SquaresLeft.{evens-cons}
-use Rattle.bk_normal_cuts.specs.NormalImage.{IsNormalSought}
+use Rattle.bk_normal.proofs.SquaresLeft.{evens-cons}
+use Rattle.bk_normal.specs.NormalImage.{IsNormalSought}
 use Rattle.bk_free_search.proofs.AskedSigns.{begun_is_barred}
 use Rattle.bk_free_search.proofs.Cutting.{above_is_barred, even_is_barred, normal, turned_is_barred}
 use Rattle.bk_free_search.proofs.EvenSigns.{evens_append, side_few, signs_lack_evens}
 use Rattle.bk_free_search.proofs.NextMoves.{next_fertile}
-use Rattle.bk_free_search.specs.Asking.{BarsSigns, IsAsked, IsBegun, IsNext, NeedsLeft, StandBeside}
+use Rattle.bk_free_search.specs.Asking.{AreFewAsks, BarsSigns, IsAsked, IsBegun, IsNext, IsWithOwn, NeedsLeft, StandBeside}
 use Rattle.bk_free_search.specs.Sought.{GoesOnBy}
 use Rattle.bk_free_search.proofs.AskedNext.{few_up}
 use Rattle.bk_free_search.specs.Strong.{IsFew}
 use Rattle.bk_free_search.specs.declared.asking.Asked.{Asked}
 use Rattle.bk_free_search.specs.declared.asking.Beside.{Beside}
 use Rattle.bk_free_search.specs.declared.asking.Next.{Next}
+use Rattle.bk_free_search.specs.declared.behind.Asks.{Asks}
 
 -- no sought word goes on by signs that are barred
 pub none_goes_on_so : (n : ℕ) (front w : Word) (count : ℕ) (signs : List Sign) → BarsSigns n front count signs → IsNormalSought n w
@@ -93,27 +95,27 @@ one_even (Under ∷ []) long even = absurd (omega (arith, even, evens-cons Under
 
 -- fewer squares are left than the first signs need
 pub need_is_barred : (n : ℕ) (front : Word) (m : Move) (next : Next) (around : Beside) (signs : List Sign) (asked : Asked) (need : ℕ)
-    → IsBegun n front m next around → IsAsked front signs asked → 0 < next.left → open_side (has_left_wall (outline_of front)) ≤ length signs
+    → IsBegun n front m next around → IsAsked front signs asked → open_side (has_left_wall (outline_of front)) ≤ length signs
     → length signs ≤ next.own → NeedsLeft asked.passed around.behind.even around.ahead.moves need → next.left < need → BarsSigns n front m.count signs
-need_is_barred n front m next around signs asked need begun is some from own needs less =
-    begun_is_barred n front m next around begun signs asked is some from own
+need_is_barred n front m next around signs asked need begun is from own needs less =
+    begun_is_barred n front m next around begun signs asked is from own
     (needs next.left less (omega (arith, begun.next_is.left_is, begun.most)))
 
 -- before the first sign, at the left wall
-pub none_is_barred : (n : ℕ) (front : Word) (m : Move) (next : Next) (around : Beside) → IsBegun n front m next around → 0 < next.left → m.signs ≡ []
+pub none_is_barred : (n : ℕ) (front : Word) (m : Move) (next : Next) (around : Beside) → IsBegun n front m next around → m.signs ≡ []
     → has_left_wall (outline_of front) ≡ true → next.left < around.needs.none → BarsSigns n front m.count m.signs
-none_is_barred n front m next around begun some none wall less =
+none_is_barred n front m next around begun none wall less =
     need_is_barred n front m next around m.signs around.before.none around.needs.none begun
-    (subst (λ (l : List Sign). IsAsked front l around.before.none) (sym none) begun.around_is.before_is.none) some
+    (subst (λ (l : List Sign). IsAsked front l around.before.none) (sym none) begun.around_is.before_is.none)
     (omega (arith, ap open_side wall)) (omega (arith, ap (λ (l : List Sign). length l) none)) begun.around_is.needs_are.none less
 
 -- with the sign at a left neighbour
 pub first_is_barred : (n : ℕ) (front : Word) (m : Move) (next : Next) (around : Beside) (sign : Sign) (asked : Asked) (need : ℕ) → IsBegun n front m next around
-    → 0 < next.left → m.signs ≡ [] → has_left_wall (outline_of front) ≡ false → IsAsked front (sign ∷ []) asked
+    → m.signs ≡ [] → has_left_wall (outline_of front) ≡ false → IsAsked front (sign ∷ []) asked
     → NeedsLeft asked.passed around.behind.even around.ahead.moves need → next.left < need → BarsSigns n front m.count (m.signs ++ sign ∷ [])
-first_is_barred n front m next around sign asked need begun some none apart is needs less =
+first_is_barred n front m next around sign asked need begun none apart is needs less =
     subst (λ (l : List Sign). BarsSigns n front m.count (l ++ sign ∷ [])) (sym none)
-    (need_is_barred n front m next around (sign ∷ []) asked need begun is some (omega (arith, side_few (has_left_wall (outline_of front))))
+    (need_is_barred n front m next around (sign ∷ []) asked need begun is (omega (arith, side_few (has_left_wall (outline_of front))))
     (omega (arith, begun.next_is.own_is, begun.some, ap open_side apart)) needs less)
 
 -- a move isn't whole before its last own sign
@@ -133,15 +135,62 @@ pub last_missing : (n : ℕ) (front : Word) (m : Move) (next : Next) (around : B
 last_missing n front m next around begun own apart =
     omega (arith, own, begun.next_is.own_is, begun.next_is.wanted_is, ap open_side begun.around_is.right_is, ap open_side apart)
 
--- the numbers that are counted are small
-pub few_asked : (n : ℕ) (front : Word) (m : Move) (next : Next) (around : Beside) (signs : List Sign) (asked : Asked) → IsBegun n front m next around
-    → IsAsked front signs asked → length signs ≤ next.wanted + 1 → IsFew asked.passed 3000
-few_asked n front m next around signs asked begun is long = few_up asked.passed (450 + length signs) 3000 (omega (
+-- at the right wall none is
+pub none_missing : (n : ℕ) (front : Word) (m : Move) (next : Next) (around : Beside) → IsBegun n front m next around → length m.signs ≡ next.own
+    → around.right_wall ≡ true → length m.signs ≡ next.wanted
+none_missing n front m next around begun own wall =
+    omega (arith, own, begun.next_is.own_is, begun.next_is.wanted_is, ap open_side begun.around_is.right_is, ap open_side wall)
+
+-- a move with all its signs is legal
+pub whole_is_legal : (n : ℕ) (front : Word) (m k : Move) (next : Next) (around : Beside) → IsBegun n front m next around → k.count ≡ m.count
+    → length k.signs ≡ next.wanted → IsLegalMove (outline_of front) k
+whole_is_legal n front m k next around begun count whole =
+    record { some = omega (arith, begun.some, count); signs = omega (arith, begun.next_is.wanted_is, whole, count) }
+
+-- what is barred as the first sign
+pub bars_first : (n : ℕ) (front : Word) (count : ℕ) (signs : List Sign) (sign : Sign) → signs ≡ [] → BarsSigns n front count (sign ∷ [])
+    → BarsSigns n front count (signs ++ sign ∷ [])
+bars_first n front count signs sign none bars = subst (λ (l : List Sign). BarsSigns n front count (l ++ sign ∷ [])) (sym none) bars
+
+-- above behind the sign even alone
+pub own_turned_is_barred : (n : ℕ) (front : Word) (m : Move) (next : Next) (around : Beside) → IsBegun n front m next around
+    → length m.signs < next.own → m.signs ≡ Even ∷ [] → BarsSigns n front m.count (m.signs ++ Above ∷ [])
+own_turned_is_barred n front m next around begun low even = own_above_is_barred n front m.count m.signs (omega (
   arith,
-  long,
-  begun.next_is.wanted_is,
-  begun.fits,
-  begun.most,
+  ap (λ (l : List Sign). length l) even,
+  low,
+  begun.next_is.own_is,
+  side_few (has_left_wall (outline_of front)),
+)) even
+
+-- the numbers that are counted are small
+pub few_now : (n : ℕ) (front : Word) (m : Move) (next : Next) (around : Beside) (asked : Asked) (k : ℕ) → IsWithOwn n front m next around asked → 480 ≤ k
+    → IsFew asked.passed k
+few_now n front m next around asked k is many = few_up asked.passed (450 + length m.signs) k (omega (
+  arith,
+  many,
+  is.begun.signs,
+  is.begun.next_is.wanted_is,
+  is.begun.fits,
+  is.begun.most,
   side_few (has_left_wall (outline_of front)),
   side_few (has_right_wall (outline_of front)),
-)) is.few
+)) is.asked_is.few
+
+pub evens_now : (n : ℕ) (front : Word) (m : Move) (next : Next) (around : Beside) (asked : Asked) → IsWithOwn n front m next around asked
+    → asked.evens ≤ 1000
+evens_now n front m next around asked is = omega (
+  arith,
+  is.asked_is.evens_are,
+  count_by-le-length is_even m.signs,
+  is.begun.signs,
+  is.begun.next_is.wanted_is,
+  is.begun.fits,
+  is.begun.most,
+  side_few (has_left_wall (outline_of front)),
+  side_few (has_right_wall (outline_of front)),
+)
+
+-- and those of the segments behind the valley
+pub few_behind : (asks : Asks) (k n : ℕ) → k ≤ n → AreFewAsks asks k → AreFewAsks asks n
+few_behind asks k n h few = record { add = omega (arith, h, few.add); most = omega (arith, h, few.most); more = omega (arith, h, few.more) }

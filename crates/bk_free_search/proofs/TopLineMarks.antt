@@ -7,11 +7,11 @@ use Rattle.bk_word.specs.Outline.{Outline, start, valley_of}
 use Rattle.bk_word.specs.Play.{AreLegalFrom, IsLegal, after_move, numbers_from, outline_of}
 use Rattle.bk_word.specs.Word.{Move, Word, order_of}
 use Rattle.bk_word.proofs.StoredBytes.{order_more}
-use Rattle.bk_bounds.specs.VerticalCut.{begins_on_line, lines_after, lines_along, edges_on_lines}
-use Rattle.bk_free_cuts.specs.LineNumbers.{left_end, lefts_of, new_sides, right_end, sides_after, sides_along, sides_of}
+use Rattle.bk_catalogue.specs.VerticalCut.{begins_on_line, lines_after, lines_along, edges_on_lines}
+use Rattle.bk_net_word.specs.LineNumbers.{left_end, lefts_of, new_sides, right_end, sides_after, sides_along, sides_of}
 use Rattle.bk_free_search.proofs.LeftLines.{end_left, lefts_in, new_lefts}
 use Rattle.bk_free_search.specs.Lefts.{first_left}
-use Rattle.bk_normal_cuts.specs.WordNumbers.{first_count}
+use Rattle.bk_normal.specs.WordNumbers.{first_count}
 use Rattle.bk_free_search.specs.TopLines.{is_top_line, on_top_lines}
 
 -- ---- one line

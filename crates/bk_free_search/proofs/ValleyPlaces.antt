@@ -8,12 +8,12 @@ use Rattle.bk_word.proofs.PlayLists.{place_within}
 use Rattle.bk_word.specs.Outline.{sizes_of, valley_of, valley_place}
 use Rattle.bk_word.specs.Play.{IsLegal, outline_of}
 use Rattle.bk_word.specs.Word.{Word}
-use Rattle.bk_skel.proofs.TurnParts.{sum_lengths}
-use Rattle.bk_bounds.proofs.BoundsOfWords.{sizes_long}
-use Rattle.bk_bounds.proofs.LineCounting.{sum-cons}
+use Rattle.bk_skeleton.proofs.TurnParts.{sum_lengths}
+use Rattle.bk_catalogue.proofs.BoundsOfWords.{sizes_long}
+use Rattle.bk_catalogue.proofs.LineCounting.{sum-cons}
 use Rattle.bk_free_search.proofs.OpenSegments.{segment_read, segment_within}
-use Rattle.bk_skel.specs.SmallSkeleton.{IsValley}
-use Rattle.bk_skel.specs.declared.small.ValleyPlace.{ValleyPlace}
+use Rattle.bk_skeleton.specs.SmallSkeleton.{IsValley}
+use Rattle.bk_skeleton.specs.declared.small.ValleyPlace.{ValleyPlace}
 
 -- the sizes up to a place, and the next one
 sum_more : (sizes : List ℕ) (i : ℕ) → i < length sizes → sum (take (i + 1) sizes) ≡ sum (take i sizes) + slice_index_or sizes i 0

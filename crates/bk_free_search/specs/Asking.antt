@@ -6,12 +6,12 @@ use Rattle.bk_word.specs.Signs.{is_even, is_under}
 use Rattle.bk_word.specs.Word.{Move, Word, order_of}
 use Rattle.bk_word.specs.declared.Sign.{Sign}
 use Rattle.bk_word.specs.declared.Sign.TheVariants.{Above, Even, Under}
-use Rattle.bk_normal_cuts.specs.NextMove.{AreMostMovesThen}
-use Rattle.bk_normal_cuts.specs.NormalCuts.{IsNormalBarren}
+use Rattle.bk_normal.specs.NextMove.{AreMostMovesThen}
+use Rattle.bk_normal.specs.NormalCuts.{IsNormalBarren}
 use Rattle.bk_free_search.specs.Apart.{AreAskedBehind, IsCountedTo, behind_marks, joined_marks, marks_of_word}
 use Rattle.bk_free_search.specs.NodeLines.{Has}
 use Rattle.bk_free_search.specs.Strong.{IsFew, seen_passed}
-use Rattle.bk_skel.specs.SmallSkeleton.{IsValley}
+use Rattle.bk_skeleton.specs.SmallSkeleton.{IsValley}
 use Rattle.bk_free_search.specs.declared.asking.Asked.{Asked}
 use Rattle.bk_free_search.specs.declared.asking.Before.{Before}
 use Rattle.bk_free_search.specs.declared.asking.Beside.{Beside}
@@ -120,6 +120,13 @@ pub record IsBegun (n : ℕ) (front : Word) (m : Move) (next : Next) (around : B
   pub signs : length m.signs ≤ next.wanted
   pub next_is : IsNext n front m.count next
   pub around_is : StandBeside n front around
+
+-- its signs so far are followed by those between its own squares, or by one at a right neighbour, and this is asked for with them
+pub record IsWithOwn (n : ℕ) (front : Word) (m : Move) (next : Next) (around : Beside) (asked : Asked) : Type 0 where
+  pub begun : IsBegun n front m next around
+  pub asked_is : IsAsked front m.signs asked
+  pub from : open_side (has_left_wall (outline_of front)) ≤ length m.signs
+  pub own : length m.signs ≤ next.own
 
 -- no word of a normal layout goes on by a move of this count whose signs begin with these
 pub record BarsSigns (n : ℕ) (front : Word) (count : ℕ) (signs : List Sign) : Type 0 where

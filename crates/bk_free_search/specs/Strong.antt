@@ -2,9 +2,9 @@
 -- Example (StrongExamples): over the segments of 2u.2ua, of which the first two are marked, it counts 3 moves and the weight 1.
 use Rattle.std.specs.List.{list_any}
 use Rattle.std.specs.Prelude.{Bool, List, drop, length, max, nat_le, slice_index_or, take, ℕ, ◌+◌, ◌<◌, ◌||◌, ◌≤◌}
-use Rattle.bk_bounds.specs.VerticalCut.{begins_on_line, on_line, segments_of}
-use Rattle.bk_normal_cuts.specs.NormalCuts.{touched_or_wide}
-use Rattle.bk_normal_cuts.specs.StrongPass.{Passed as SeenPassed}
+use Rattle.bk_catalogue.specs.VerticalCut.{begins_on_line, on_line, segments_of}
+use Rattle.bk_normal.specs.NormalCuts.{touched_or_wide}
+use Rattle.bk_normal.specs.StrongPass.{Passed as SeenPassed}
 use Rattle.bk_free_search.specs.declared.strong.Passed.{Passed}
 
 abbrev pub seen_passed : Passed → SeenPassed

@@ -9,13 +9,13 @@ ghost use Rattle.bk_word.specs.Play.{outline_of};
 ghost use Rattle.bk_word.specs.Signs.{is_above, is_even};
 ghost use Rattle.bk_word.specs.Word.{order_of};
 ghost use Rattle.bk_word.specs.declared.Sign.TheVariants.{Under};
-ghost use Rattle.bk_normal_cuts.specs.NormalCuts.{IsNormalBarren};
+ghost use Rattle.bk_normal.specs.NormalCuts.{IsNormalBarren};
 ghost use Rattle.bk_free_search.specs.AllUnder.{StandsAfter};
 
 use crate::ahead::most_moves;
 use crate::board::Board;
 use crate::counts::one_if;
-use bk_skel::SmallMove;
+use bk_skeleton::SmallMove;
 use bk_word::Sign;
 
 /// What stands after a move: how many squares at the top and at each wall, and how many signs. (Own.)

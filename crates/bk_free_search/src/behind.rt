@@ -1,7 +1,7 @@
 //! What the segments behind the leftmost valley ask for, whatever is counted before them.
 
 ghost use Rattle.std.specs.Prelude.{Bool, List, [], cond, drop, false, length, nat_eq, slice_index_or, true, ℕ, ◌&&◌, ◌+◌, ◌-◌, ◌≡◌, ◌≤◌, ◌<◌, ◌∷◌};
-ghost use Rattle.bk_bounds.specs.SingleValleys.{single_valley};
+ghost use Rattle.bk_catalogue.specs.SingleValleys.{single_valley};
 ghost use Rattle.bk_word.specs.Outline.{valley_place};
 ghost use Rattle.bk_word.specs.Play.{outline_of};
 ghost use Rattle.bk_word.specs.Signs.{is_under};

@@ -5,12 +5,12 @@ ghost use Rattle.std.specs.Prelude.{IsTrue, [], cond, length, nat_eq, take, ℕ,
 ghost use Rattle.bk_word.specs.Outline.{IsLegalMove};
 ghost use Rattle.bk_word.specs.Play.{IsLegal, outline_of};
 ghost use Rattle.bk_word.specs.Word.{order_of};
-ghost use Rattle.bk_free_cuts.specs.LineNumbers.{left_end, lefts_of, right_end, sides_of};
+ghost use Rattle.bk_net_word.specs.LineNumbers.{left_end, lefts_of, right_end, sides_of};
 ghost use Rattle.bk_free_search.specs.BoardOutlines.{IsBoardOutline};
 ghost use Rattle.bk_free_search.specs.Joining.{TouchOneOf};
 ghost use Rattle.bk_free_search.specs.Lefts.{IsLeftOfOne};
 ghost use Rattle.bk_free_search.specs.NodeLines.{Has};
-ghost use Rattle.bk_normal_cuts.specs.WordNumbers.{counts_of_word, first_count};
+ghost use Rattle.bk_normal.specs.WordNumbers.{counts_of_word, first_count};
 ghost use Rattle.bk_free_search.specs.Rights.{IsRightOfOne, rights_of};
 ghost use Rattle.bk_free_search.specs.SeenCounts.{seen_counts};
 
@@ -21,7 +21,7 @@ use crate::sides::{
     left_of_first, lines_left_of, lines_right_of, push_lefts, push_rights, right_of_last,
 };
 use bk_short::Short;
-use bk_skel::{SmallMove, SmallOutline, SmallSkel};
+use bk_skeleton::{SmallMove, SmallOutline, SmallSkel};
 use bk_word::INLINE_ORDER;
 use std::marker::Model;
 

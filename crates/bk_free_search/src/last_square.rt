@@ -5,15 +5,15 @@ ghost use Rattle.std.specs.Prelude.{IfNone, IfSome, IsTrue, replicate, ◌+◌, 
 ghost use Rattle.bk_word.specs.Play.{outline_of};
 ghost use Rattle.bk_word.specs.Word.{order_of};
 ghost use Rattle.bk_word.specs.declared.Sign.TheVariants.{Even};
-ghost use Rattle.bk_normal_cuts.specs.LastMoves.{even_square};
-ghost use Rattle.bk_normal_cuts.specs.NormalCuts.{IsNormalBarren};
+ghost use Rattle.bk_normal.specs.LastMoves.{even_square};
+ghost use Rattle.bk_normal.specs.NormalCuts.{IsNormalBarren};
 ghost use Rattle.bk_free_search.specs.LastSquare.{neighbours};
 
 use crate::board::Board;
 use crate::counts::one_if;
 use crate::joining::joins_parted;
 use bk_short::Short;
-use bk_skel::{SmallMove, SmallSkel, open_side};
+use bk_skeleton::{SmallMove, SmallSkel, open_side};
 use bk_word::Sign;
 
 /// The move by which words of a normal layout go on from the board, of which one square is left: `None` where none goes on.

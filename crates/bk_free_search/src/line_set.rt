@@ -4,7 +4,7 @@ ghost use Rattle.std.specs.Prelude.{IsTrue, true, ℕ, ◌<◌, ◌≡◌, ◌�
 ghost use Rattle.bk_free_search.specs.NodeLines.{Has};
 
 /// A set of lines, of which it keeps those with numbers below 32. (Own.)
-#[derive(Clone, Copy, Debug, Default, PartialEq, Eq, Drop)]
+#[derive(Clone, Copy, Default, Drop)]
 pub(crate) struct LineSet {
     pub(crate) bits: u32,
 }

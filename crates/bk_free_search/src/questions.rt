@@ -1,23 +1,24 @@
 //! What is asked of words that have begun: each answer that bars them rests on a law that no word of a normal layout goes on so.
 
-ghost use Rattle.std.specs.Prelude.{IfNone, IfSome, IsTrue, List, [], length, ℕ, ◌++◌, ◌+◌, ◌<◌, ◌∷◌, ◌≡◌, ◌≤◌};
+ghost use Rattle.std.specs.Prelude.{IfNone, IfSome, IsTrue, List, [], false, length, true, ℕ, ◌++◌, ◌+◌, ◌<◌, ◌∷◌, ◌≡◌, ◌≤◌};
 ghost use Rattle.bk_word.specs.Outline.{IsLegalMove, has_left_wall, open_side};
 ghost use Rattle.bk_word.specs.Play.{outline_of};
 ghost use Rattle.bk_word.specs.Word.{Move as SeenMove, Word as Moves, order_of};
 ghost use Rattle.bk_word.specs.declared.Sign.{Sign as SeenSign};
-ghost use Rattle.bk_word.specs.declared.Sign.TheVariants.{Even};
-ghost use Rattle.bk_skel.specs.SmallSkeleton.{IsValley};
-ghost use Rattle.bk_normal_cuts.specs.NormalCuts.{IsNormalBarren};
-ghost use Rattle.bk_free_search.specs.Asking.{AreFewAsks, BarsSigns, IsAsked, IsBegun, StandBeside, asks_then};
+ghost use Rattle.bk_word.specs.declared.Sign.TheVariants.{Above, Even, Under};
+ghost use Rattle.bk_skeleton.specs.SmallSkeleton.{IsValley};
+ghost use Rattle.bk_normal.specs.NormalCuts.{IsNormalBarren};
+ghost use Rattle.bk_free_search.specs.Asking.{AreFewAsks, BarsSigns, IsAsked, IsBegun, IsWithOwn, StandBeside, asks_then};
 ghost use Rattle.bk_free_search.specs.Strong.{IsFew};
 ghost use Rattle.bk_free_search.specs.declared.asking.Next.{Next};
 
 use crate::all_under::ends_otherwise;
-use crate::asking::{Asked, Beside, is_over};
+use crate::asking::{Asked, Beside, asked_with, is_over};
 use crate::behind::{Asks, Behind};
+use crate::cuts::bars_above;
 use crate::joining::joins_barrenly;
 use crate::state::{Begun, Search};
-use bk_skel::{ValleyPlace, open_side};
+use bk_skeleton::{ValleyPlace, open_side};
 use bk_word::Sign;
 
 impl Search {
@@ -55,7 +56,7 @@ pub(crate) fn asks_too_much(begun: &Begun, around: &Beside, asked: &Asked) -> bo
     requires few { IsFew asked.now.passed 3000 }
     requires small { AreFewAsks around.now.behind.even 3000 }
     ensures { IsTrue result → (n : ℕ) (front : Moves) (signs : List SeenSign) → IsBegun n front begun.now.m begun.now.next around.now
-        → IsAsked front signs asked.now → 0 < begun.now.next.left → open_side (has_left_wall (outline_of front)) ≤ length signs
+        → IsAsked front signs asked.now → open_side (has_left_wall (outline_of front)) ≤ length signs
         → length signs ≤ begun.now.next.own → BarsSigns n front begun.now.m.count signs }
 {
     is_over(
@@ -73,7 +74,7 @@ pub(crate) fn asks_too_much_then(begun: &Begun, around: &Beside, asked: &Asked) 
     requires small { AreFewAsks around.now.behind.under 3000 }
     requires small_above { AreFewAsks around.now.behind.above 3000 }
     ensures { IsTrue result → (n : ℕ) (front : Moves) (signs : List SeenSign) → IsBegun n front begun.now.m begun.now.next around.now
-        → IsAsked front signs asked.now → 0 < begun.now.next.left → length signs ≡ begun.now.next.wanted
+        → IsAsked front signs asked.now → length signs ≡ begun.now.next.wanted
         → BarsSigns n front begun.now.m.count signs }
 {
     is_over(
@@ -92,20 +93,74 @@ fn asks_then(behind: &Behind, low: bool) -> &Asks
     if low { &behind.under } else { &behind.above }
 }
 
-/// Whether a sign that isn't even at the left neighbour leaves too few that can be.
+// Whether a sign that isn't even at the left neighbour leaves too few that can be.
 #[inline(always)]
-pub(crate) fn needs_left_even(around: &Beside) -> bool
+fn needs_left_even(around: &Beside) -> bool
     ensures { IsTrue result → (n : ℕ) (front : Moves) → StandBeside n front around.now → (count : ℕ) (sign : SeenSign) → (sign ≡ Even → ⊥)
         → BarsSigns n front count (sign ∷ []) }
 {
     open_side(around.right_wall) < around.ahead.evens
 }
 
-/// Whether one that isn't even at the right neighbour does.
+// Whether one that isn't even at the right neighbour does.
 #[inline(always)]
-pub(crate) fn lacks_even(around: &Beside, asked: &Asked) -> bool
+fn lacks_even(around: &Beside, asked: &Asked) -> bool
     ensures { IsTrue result → (n : ℕ) (front : Moves) (m : SeenMove) (next : Next) → IsBegun n front m next around.now → IsAsked front m.signs asked.now
         → length m.signs + 1 ≡ next.wanted → (sign : SeenSign) → (sign ≡ Even → ⊥) → BarsSigns n front m.count (m.signs ++ sign ∷ []) }
 {
     asked.evens < around.ahead.evens
+}
+
+/// Whether fewer squares are left after a next move at the left wall than are asked for before its first sign.
+#[inline(always)]
+pub(crate) fn bars_none(begun: &Begun, around: &Beside) -> bool
+    ensures { IsTrue result → (n : ℕ) (front : Moves) → IsBegun n front begun.now.m begun.now.next around.now → begun.now.m.signs ≡ []
+        → has_left_wall (outline_of front) ≡ true → BarsSigns n front begun.now.m.count begun.now.m.signs }
+{
+    begun.next.left < around.needs.none
+}
+
+/// Whether no word goes on with the sign even at a left neighbour: fewer squares are left than are asked for with it.
+#[inline(always)]
+pub(crate) fn bars_first_even(begun: &Begun, around: &Beside) -> bool
+    ensures { IsTrue result → (n : ℕ) (front : Moves) → IsBegun n front begun.now.m begun.now.next around.now → begun.now.m.signs ≡ []
+        → has_left_wall (outline_of front) ≡ false → BarsSigns n front begun.now.m.count (begun.now.m.signs ++ Even ∷ []) }
+{
+    begun.next.left < around.needs.even
+}
+
+/// Whether none does with the sign under there: likewise, or since too few signs then can be even.
+#[inline(always)]
+pub(crate) fn bars_first_under(begun: &Begun, around: &Beside) -> bool
+    ensures { IsTrue result → (n : ℕ) (front : Moves) → IsBegun n front begun.now.m begun.now.next around.now → begun.now.m.signs ≡ []
+        → has_left_wall (outline_of front) ≡ false → BarsSigns n front begun.now.m.count (begun.now.m.signs ++ Under ∷ []) }
+{
+    needs_left_even(around) || begun.next.left < around.needs.under
+}
+
+/// Whether none does with the sign above between two of the move's own squares, with which this is asked for: rule R bars it behind the sign
+/// even alone.
+#[inline(always)]
+pub(crate) fn bars_own_above(begun: &Begun, around: &Beside, asked: &Asked, above: &Asked) -> bool
+    requires few { IsFew above.now.passed 3000 }
+    requires small { AreFewAsks around.now.behind.even 3000 }
+    ensures { IsTrue result → (n : ℕ) (front : Moves) → IsWithOwn n front begun.now.m begun.now.next around.now asked.now
+        → IsAsked front (begun.now.m.signs ++ Above ∷ []) above.now → length begun.now.m.signs < begun.now.next.own
+        → BarsSigns n front begun.now.m.count (begun.now.m.signs ++ Above ∷ []) }
+{
+    bars_above(&begun.m, asked) || asks_too_much(begun, around, above)
+}
+
+/// Whether none does with this sign, which isn't even, at a right neighbour: too few signs then are even, or too much is asked for.
+#[inline(always)]
+pub(crate) fn bars_last(begun: &Begun, around: &Beside, asked: &Asked, sign: Sign) -> bool
+    requires few { IsFew asked.now.passed 2999 }
+    requires evens { asked.now.evens ≤ 1000 }
+    requires small { AreFewAsks around.now.behind.under 3000 }
+    requires small_above { AreFewAsks around.now.behind.above 3000 }
+    ensures { IsTrue result → (n : ℕ) (front : Moves) → IsWithOwn n front begun.now.m begun.now.next around.now asked.now
+        → length begun.now.m.signs + 1 ≡ begun.now.next.wanted → (sign ≡ Even → ⊥)
+        → BarsSigns n front begun.now.m.count (begun.now.m.signs ++ sign ∷ []) }
+{
+    lacks_even(around, asked) || asks_too_much_then(begun, around, &asked_with(asked, sign))
 }

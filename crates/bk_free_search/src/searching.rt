@@ -1,22 +1,25 @@
 //! The search through all words of an order that have no barren beginning.
 
-ghost use Rattle.std.specs.Prelude.{[], false, length, true, ℕ, ◌++◌, ◌+◌, ◌-◌, ◌<◌, ◌∷◌, ◌≡◌, ◌≤◌};
-ghost use Rattle.bk_word.specs.Outline.{IsLegalMove, has_left_wall, open_side};
+ghost use Rattle.std.specs.Prelude.{IsTrue, [], length, ◌++◌, ◌+◌, ◌<◌, ◌∷◌, ◌≡◌, ◌≤◌};
+ghost use Rattle.bk_word.specs.Outline.{IsLegalMove};
 ghost use Rattle.bk_word.specs.Play.{IsComplete, outline_of};
 ghost use Rattle.bk_word.specs.Word.{Word as Moves, order_of};
-ghost use Rattle.bk_normal_cuts.specs.NormalImage.{IsNormalSought};
-ghost use Rattle.bk_word.specs.declared.Sign.TheVariants.{Above};
-ghost use Rattle.bk_skel.specs.SmallSkeleton.{IsValley};
-ghost use Rattle.bk_free_search.specs.Asking.{IsAsked, IsBegun, NeedsLeft};
+ghost use Rattle.bk_normal.specs.NormalImage.{IsNormalSought};
+ghost use Rattle.bk_skeleton.specs.SmallSkeleton.{IsValley};
+ghost use Rattle.bk_free_search.specs.Asking.{BarsSigns, IsAsked, IsBegun, IsWithOwn};
 ghost use Rattle.bk_free_search.specs.Sought.{GoesOn, GoesOnBy};
 
 use crate::asking::{Asked, Beside, asked_with, stand_beside};
 use crate::board::Board;
-use crate::cuts::{bars_above, least_count};
-use crate::last_square::last_move;
-use crate::questions::{asks_too_much, asks_too_much_then, lacks_even, needs_left_even};
-use crate::state::{Begun, Search, begin, meet_closed, not_begun, pop_sign, push_sign};
-use bk_skel::ValleyPlace;
+use crate::cuts::least_count;
+use crate::questions::{
+    asks_too_much, asks_too_much_then, bars_first_even, bars_first_under, bars_last, bars_none,
+    bars_own_above,
+};
+use crate::state::{
+    Begun, Search, begin, meet_closed, meet_with_last, not_begun, pop_sign, push_sign,
+};
+use bk_skeleton::ValleyPlace;
 use bk_word::Sign;
 
 /// What is done with the complete words that a search meets.
@@ -67,8 +70,7 @@ impl Search {
         ensures all { (w : Moves) → IsNormalSought self.old.order w → GoesOn self.old.board w → S.has_met leaves.new w }
         ensures kept { (w : Moves) → S.has_met leaves.old w → S.has_met leaves.new w }
         ensures fixed { S.fixed leaves.new ≡ S.fixed leaves.old }
-        ensures board { self.new.board ≡ self.old.board }
-        ensures order { self.new.order ≡ self.old.order }
+        ensures same { self.new ≡ self.old }
     {
         let hung = self.board.skel().order();
         if hung == usize::from(self.order) {
@@ -76,32 +78,10 @@ impl Search {
             return;
         }
         if hung + 1 == usize::from(self.order) {
-            self.with_last_square(leaves);
+            meet_with_last(&mut self.board, self.order, leaves);
             return;
         }
         self.with_counts(leaves);
-    }
-
-    // Meets those that go on by one square more, the last one.
-    #[cycle(search)]
-    fn with_last_square<S: Leaves>(&mut self, leaves: &mut S)
-        requires least { 3 ≤ self.old.order }
-        requires most { self.old.order ≤ 16 }
-        requires one { order_of self.old.board + 1 ≡ self.old.order }
-        ensures all { (w : Moves) → IsNormalSought self.old.order w → GoesOn self.old.board w → S.has_met leaves.new w }
-        ensures kept { (w : Moves) → S.has_met leaves.old w → S.has_met leaves.new w }
-        ensures fixed { S.fixed leaves.new ≡ S.fixed leaves.old }
-        ensures board { self.new.board ≡ self.old.board }
-        ensures order { self.new.order ≡ self.old.order }
-    {
-        let last = match last_move(&self.board, self.order) {
-            Some(last) => last,
-            None => return,
-        };
-        let before = self.board.outline();
-        self.board.push(&last);
-        self.go_on(leaves);
-        self.board.take_back(&before);
     }
 
     // Meets all that go on from the board's moves, where two squares or more are left. The next move doesn't hang them all.
@@ -113,8 +93,7 @@ impl Search {
         ensures all { (w : Moves) → IsNormalSought self.old.order w → GoesOn self.old.board w → S.has_met leaves.new w }
         ensures kept { (w : Moves) → S.has_met leaves.old w → S.has_met leaves.new w }
         ensures fixed { S.fixed leaves.new ≡ S.fixed leaves.old }
-        ensures board { self.new.board ≡ self.old.board }
-        ensures order { self.new.order ≡ self.old.order }
+        ensures same { self.new ≡ self.old }
     {
         let around = stand_beside(&self.board, self.order);
         if self.lacks_next(&around) {
@@ -128,100 +107,30 @@ impl Search {
         }
     }
 
-    // Meets those that go on by a move of the count. The sign at a left neighbour is even or under.
+    // Meets those that go on by a move of the count. The sign at a left neighbour is even or under; at the left wall there is none.
     #[cycle(search)]
     #[inline(always)]
     fn with_left<S: Leaves>(&mut self, begun: &mut Begun, around: &Beside, leaves: &mut S)
         requires begun { IsBegun self.old.order self.old.board begun.old.m begun.old.next around.now }
-        requires left { 0 < begun.old.next.left }
         requires none { begun.old.m.signs ≡ [] }
         ensures all { (w : Moves) → IsNormalSought self.old.order w → GoesOnBy self.old.board begun.old.m.count begun.old.m.signs w → S.has_met leaves.new w }
         ensures kept { (w : Moves) → S.has_met leaves.old w → S.has_met leaves.new w }
         ensures fixed { S.fixed leaves.new ≡ S.fixed leaves.old }
-        ensures board { self.new.board ≡ self.old.board }
-        ensures order { self.new.order ≡ self.old.order }
-        ensures same { begun.new.m ≡ begun.old.m }
-        ensures next { begun.new.next ≡ begun.old.next }
+        ensures same { self.new ≡ self.old }
+        ensures same_move { begun.new ≡ begun.old }
     {
         if around.left_wall {
-            self.with_left_wall(begun, around, leaves);
+            if bars_none(begun, around) {
+                return;
+            }
+            self.with_own(begun, around, &around.before.none, leaves);
             return;
         }
         let before = &around.before;
-        self.with_first(
-            begun,
-            around,
-            &before.even,
-            around.needs.even,
-            Sign::Even,
-            leaves,
-        );
-        if needs_left_even(around) {
-            return;
-        }
-        self.with_first(
-            begun,
-            around,
-            &before.under,
-            around.needs.under,
-            Sign::Under,
-            leaves,
-        );
-    }
-
-    // At the left wall there is none.
-    #[cycle(search)]
-    #[inline(always)]
-    fn with_left_wall<S: Leaves>(&mut self, begun: &mut Begun, around: &Beside, leaves: &mut S)
-        requires begun { IsBegun self.old.order self.old.board begun.old.m begun.old.next around.now }
-        requires left { 0 < begun.old.next.left }
-        requires none { begun.old.m.signs ≡ [] }
-        requires wall { has_left_wall (outline_of self.old.board) ≡ true }
-        ensures all { (w : Moves) → IsNormalSought self.old.order w → GoesOnBy self.old.board begun.old.m.count begun.old.m.signs w → S.has_met leaves.new w }
-        ensures kept { (w : Moves) → S.has_met leaves.old w → S.has_met leaves.new w }
-        ensures fixed { S.fixed leaves.new ≡ S.fixed leaves.old }
-        ensures board { self.new.board ≡ self.old.board }
-        ensures order { self.new.order ≡ self.old.order }
-        ensures same { begun.new.m ≡ begun.old.m }
-        ensures next { begun.new.next ≡ begun.old.next }
-    {
-        if begun.next.left < around.needs.none {
-            return;
-        }
-        self.with_own(begun, around, &around.before.none, leaves);
-    }
-
-    // Meets those whose sign at a left neighbour is this, for which so many squares must be left.
-    #[cycle(search)]
-    #[inline(always)]
-    fn with_first<S: Leaves>(
-        &mut self,
-        begun: &mut Begun,
-        around: &Beside,
-        asked: &Asked,
-        need: usize,
-        sign: Sign,
-        leaves: &mut S,
-    )
-        requires begun { IsBegun self.old.order self.old.board begun.old.m begun.old.next around.now }
-        requires left { 0 < begun.old.next.left }
-        requires none { begun.old.m.signs ≡ [] }
-        requires apart { has_left_wall (outline_of self.old.board) ≡ false }
-        requires asked { IsAsked self.old.board (sign ∷ []) asked.now }
-        requires need { NeedsLeft asked.now.passed around.now.behind.even around.now.ahead.moves need }
-        ensures all { (w : Moves) → IsNormalSought self.old.order w
-            → GoesOnBy self.old.board begun.old.m.count (begun.old.m.signs ++ sign ∷ []) w → S.has_met leaves.new w }
-        ensures kept { (w : Moves) → S.has_met leaves.old w → S.has_met leaves.new w }
-        ensures fixed { S.fixed leaves.new ≡ S.fixed leaves.old }
-        ensures board { self.new.board ≡ self.old.board }
-        ensures order { self.new.order ≡ self.old.order }
-        ensures same { begun.new.m ≡ begun.old.m }
-        ensures next { begun.new.next ≡ begun.old.next }
-    {
-        if begun.next.left < need {
-            return;
-        }
-        self.with_sign(begun, around, asked, sign, leaves);
+        let barred = bars_first_even(begun, around);
+        self.with_sign(begun, around, &before.even, Sign::Even, barred, leaves);
+        let barred = bars_first_under(begun, around);
+        self.with_sign(begun, around, &before.under, Sign::Under, barred, leaves);
     }
 
     // Meets those that go on by a move that begins so, with the sign at a left neighbour. The signs between its own squares are above or under.
@@ -233,90 +142,26 @@ impl Search {
         asked: &Asked,
         leaves: &mut S,
     )
-        requires begun { IsBegun self.old.order self.old.board begun.old.m begun.old.next around.now }
-        requires left { 0 < begun.old.next.left }
-        requires asked { IsAsked self.old.board begun.old.m.signs asked.now }
-        requires from { open_side (has_left_wall (outline_of self.old.board)) ≤ length begun.old.m.signs }
-        requires own { length begun.old.m.signs ≤ begun.old.next.own }
+        requires { IsWithOwn self.old.order self.old.board begun.old.m begun.old.next around.now asked.now }
         ensures all { (w : Moves) → IsNormalSought self.old.order w → GoesOnBy self.old.board begun.old.m.count begun.old.m.signs w → S.has_met leaves.new w }
         ensures kept { (w : Moves) → S.has_met leaves.old w → S.has_met leaves.new w }
         ensures fixed { S.fixed leaves.new ≡ S.fixed leaves.old }
-        ensures board { self.new.board ≡ self.old.board }
-        ensures order { self.new.order ≡ self.old.order }
-        ensures same { begun.new.m ≡ begun.old.m }
-        ensures next { begun.new.next ≡ begun.old.next }
+        ensures same { self.new ≡ self.old }
+        ensures same_move { begun.new ≡ begun.old }
     {
         if begun.m.signs.len() == usize::from(begun.next.own) {
             self.with_right(begun, around, asked, leaves);
             return;
         }
-        self.with_above(begun, around, asked, leaves);
-        self.with_more(begun, around, asked, Sign::Under, leaves);
+        let above = asked_with(asked, Sign::Above);
+        let barred = bars_own_above(begun, around, asked, &above);
+        self.with_sign(begun, around, &above, Sign::Above, barred, leaves);
+        let under = asked_with(asked, Sign::Under);
+        let barred = asks_too_much(begun, around, &under);
+        self.with_sign(begun, around, &under, Sign::Under, barred, leaves);
     }
 
-    // Of these those with the sign above, which rule R bars behind the sign even alone.
-    #[cycle(search)]
-    #[inline(always)]
-    fn with_above<S: Leaves>(
-        &mut self,
-        begun: &mut Begun,
-        around: &Beside,
-        asked: &Asked,
-        leaves: &mut S,
-    )
-        requires begun { IsBegun self.old.order self.old.board begun.old.m begun.old.next around.now }
-        requires left { 0 < begun.old.next.left }
-        requires asked { IsAsked self.old.board begun.old.m.signs asked.now }
-        requires from { open_side (has_left_wall (outline_of self.old.board)) ≤ length begun.old.m.signs }
-        requires own { length begun.old.m.signs + 1 ≤ begun.old.next.own }
-        ensures all { (w : Moves) → IsNormalSought self.old.order w
-            → GoesOnBy self.old.board begun.old.m.count (begun.old.m.signs ++ Above ∷ []) w → S.has_met leaves.new w }
-        ensures kept { (w : Moves) → S.has_met leaves.old w → S.has_met leaves.new w }
-        ensures fixed { S.fixed leaves.new ≡ S.fixed leaves.old }
-        ensures board { self.new.board ≡ self.old.board }
-        ensures order { self.new.order ≡ self.old.order }
-        ensures same { begun.new.m ≡ begun.old.m }
-        ensures next { begun.new.next ≡ begun.old.next }
-    {
-        if bars_above(&begun.m, asked) {
-            return;
-        }
-        self.with_more(begun, around, asked, Sign::Above, leaves);
-    }
-
-    // And those whose next sign, between two of the move's own squares, is this.
-    #[cycle(search)]
-    #[inline(always)]
-    fn with_more<S: Leaves>(
-        &mut self,
-        begun: &mut Begun,
-        around: &Beside,
-        asked: &Asked,
-        sign: Sign,
-        leaves: &mut S,
-    )
-        requires begun { IsBegun self.old.order self.old.board begun.old.m begun.old.next around.now }
-        requires left { 0 < begun.old.next.left }
-        requires asked { IsAsked self.old.board begun.old.m.signs asked.now }
-        requires from { open_side (has_left_wall (outline_of self.old.board)) ≤ length begun.old.m.signs }
-        requires own { length begun.old.m.signs + 1 ≤ begun.old.next.own }
-        ensures all { (w : Moves) → IsNormalSought self.old.order w
-            → GoesOnBy self.old.board begun.old.m.count (begun.old.m.signs ++ sign ∷ []) w → S.has_met leaves.new w }
-        ensures kept { (w : Moves) → S.has_met leaves.old w → S.has_met leaves.new w }
-        ensures fixed { S.fixed leaves.new ≡ S.fixed leaves.old }
-        ensures board { self.new.board ≡ self.old.board }
-        ensures order { self.new.order ≡ self.old.order }
-        ensures same { begun.new.m ≡ begun.old.m }
-        ensures next { begun.new.next ≡ begun.old.next }
-    {
-        let more = asked_with(asked, sign);
-        if asks_too_much(begun, around, &more) {
-            return;
-        }
-        self.with_sign(begun, around, &more, sign, leaves);
-    }
-
-    // Meets those whose next sign is this, and which go on to the move's own squares.
+    // Meets those whose next sign is this, and which go on to the move's own squares. There are none where it is barred.
     #[cycle(search)]
     #[inline(always)]
     fn with_sign<S: Leaves>(
@@ -325,27 +170,29 @@ impl Search {
         around: &Beside,
         asked: &Asked,
         sign: Sign,
+        barred: bool,
         leaves: &mut S,
     )
         requires begun { IsBegun self.old.order self.old.board begun.old.m begun.old.next around.now }
-        requires left { 0 < begun.old.next.left }
         requires asked { IsAsked self.old.board (begun.old.m.signs ++ sign ∷ []) asked.now }
         requires own { length begun.old.m.signs + 1 ≤ begun.old.next.own }
+        requires barred { IsTrue barred → BarsSigns self.old.order self.old.board begun.old.m.count (begun.old.m.signs ++ sign ∷ []) }
         ensures all { (w : Moves) → IsNormalSought self.old.order w
             → GoesOnBy self.old.board begun.old.m.count (begun.old.m.signs ++ sign ∷ []) w → S.has_met leaves.new w }
         ensures kept { (w : Moves) → S.has_met leaves.old w → S.has_met leaves.new w }
         ensures fixed { S.fixed leaves.new ≡ S.fixed leaves.old }
-        ensures board { self.new.board ≡ self.old.board }
-        ensures order { self.new.order ≡ self.old.order }
-        ensures same { begun.new.m ≡ begun.old.m }
-        ensures next { begun.new.next ≡ begun.old.next }
+        ensures same { self.new ≡ self.old }
+        ensures same_move { begun.new ≡ begun.old }
     {
+        if barred {
+            return;
+        }
         push_sign(&mut begun.m, sign);
         self.with_own(begun, around, asked, leaves);
         pop_sign(&mut begun.m);
     }
 
-    // Meets those that go on by a move that begins so, with all signs but one at a right neighbour.
+    // Meets those that go on by a move that begins so, with all signs but one at a right neighbour. At the right wall there is none.
     #[cycle(search)]
     #[inline(always)]
     fn with_right<S: Leaves>(
@@ -355,111 +202,52 @@ impl Search {
         asked: &Asked,
         leaves: &mut S,
     )
-        requires begun { IsBegun self.old.order self.old.board begun.old.m begun.old.next around.now }
-        requires left { 0 < begun.old.next.left }
-        requires asked { IsAsked self.old.board begun.old.m.signs asked.now }
-        requires from { open_side (has_left_wall (outline_of self.old.board)) ≤ length begun.old.m.signs }
+        requires with_own { IsWithOwn self.old.order self.old.board begun.old.m begun.old.next around.now asked.now }
         requires own { length begun.old.m.signs ≡ begun.old.next.own }
         ensures all { (w : Moves) → IsNormalSought self.old.order w → GoesOnBy self.old.board begun.old.m.count begun.old.m.signs w → S.has_met leaves.new w }
         ensures kept { (w : Moves) → S.has_met leaves.old w → S.has_met leaves.new w }
         ensures fixed { S.fixed leaves.new ≡ S.fixed leaves.old }
-        ensures board { self.new.board ≡ self.old.board }
-        ensures order { self.new.order ≡ self.old.order }
-        ensures same { begun.new.m ≡ begun.old.m }
-        ensures next { begun.new.next ≡ begun.old.next }
+        ensures same { self.new ≡ self.old }
+        ensures same_move { begun.new ≡ begun.old }
     {
         if around.right_wall {
-            self.with_right_wall(begun, around, asked, leaves);
+            if asks_too_much_then(begun, around, asked) {
+                return;
+            }
+            self.with_move(begun, &around.valley, leaves);
             return;
         }
-        self.with_whole(begun, around, Sign::Even, leaves);
-        if lacks_even(around, asked) {
-            return;
-        }
-        self.with_last(begun, around, asked, Sign::Above, leaves);
-        self.with_last(begun, around, asked, Sign::Under, leaves);
+        self.with_last(begun, around, Sign::Even, false, leaves);
+        let barred = bars_last(begun, around, asked, Sign::Above);
+        self.with_last(begun, around, Sign::Above, barred, leaves);
+        let barred = bars_last(begun, around, asked, Sign::Under);
+        self.with_last(begun, around, Sign::Under, barred, leaves);
     }
 
-    // At the right wall there is none.
-    #[cycle(search)]
-    #[inline(always)]
-    fn with_right_wall<S: Leaves>(
-        &mut self,
-        begun: &mut Begun,
-        around: &Beside,
-        asked: &Asked,
-        leaves: &mut S,
-    )
-        requires begun { IsBegun self.old.order self.old.board begun.old.m begun.old.next around.now }
-        requires left { 0 < begun.old.next.left }
-        requires asked { IsAsked self.old.board begun.old.m.signs asked.now }
-        requires whole { length begun.old.m.signs ≡ begun.old.next.wanted }
-        ensures all { (w : Moves) → IsNormalSought self.old.order w → GoesOnBy self.old.board begun.old.m.count begun.old.m.signs w → S.has_met leaves.new w }
-        ensures kept { (w : Moves) → S.has_met leaves.old w → S.has_met leaves.new w }
-        ensures fixed { S.fixed leaves.new ≡ S.fixed leaves.old }
-        ensures board { self.new.board ≡ self.old.board }
-        ensures order { self.new.order ≡ self.old.order }
-        ensures same { begun.new.m ≡ begun.old.m }
-        ensures next { begun.new.next ≡ begun.old.next }
-    {
-        if asks_too_much_then(begun, around, asked) {
-            return;
-        }
-        self.with_move(begun, &around.valley, leaves);
-    }
-
-    // And those whose sign at a right neighbour is this.
+    // Meets those whose last sign is this. There are none where it is barred.
     #[cycle(search)]
     #[inline(always)]
     fn with_last<S: Leaves>(
         &mut self,
         begun: &mut Begun,
         around: &Beside,
-        asked: &Asked,
         sign: Sign,
+        barred: bool,
         leaves: &mut S,
     )
         requires begun { IsBegun self.old.order self.old.board begun.old.m begun.old.next around.now }
-        requires left { 0 < begun.old.next.left }
-        requires asked { IsAsked self.old.board begun.old.m.signs asked.now }
-        requires from { open_side (has_left_wall (outline_of self.old.board)) ≤ length begun.old.m.signs }
         requires last { length begun.old.m.signs + 1 ≡ begun.old.next.wanted }
+        requires barred { IsTrue barred → BarsSigns self.old.order self.old.board begun.old.m.count (begun.old.m.signs ++ sign ∷ []) }
         ensures all { (w : Moves) → IsNormalSought self.old.order w
             → GoesOnBy self.old.board begun.old.m.count (begun.old.m.signs ++ sign ∷ []) w → S.has_met leaves.new w }
         ensures kept { (w : Moves) → S.has_met leaves.old w → S.has_met leaves.new w }
         ensures fixed { S.fixed leaves.new ≡ S.fixed leaves.old }
-        ensures board { self.new.board ≡ self.old.board }
-        ensures order { self.new.order ≡ self.old.order }
-        ensures same { begun.new.m ≡ begun.old.m }
-        ensures next { begun.new.next ≡ begun.old.next }
+        ensures same { self.new ≡ self.old }
+        ensures same_move { begun.new ≡ begun.old }
     {
-        if asks_too_much_then(begun, around, &asked_with(asked, sign)) {
+        if barred {
             return;
         }
-        self.with_whole(begun, around, sign, leaves);
-    }
-
-    // Meets those whose last sign is this.
-    #[cycle(search)]
-    #[inline(always)]
-    fn with_whole<S: Leaves>(
-        &mut self,
-        begun: &mut Begun,
-        around: &Beside,
-        sign: Sign,
-        leaves: &mut S,
-    )
-        requires begun { IsBegun self.old.order self.old.board begun.old.m begun.old.next around.now }
-        requires last { length begun.old.m.signs + 1 ≡ begun.old.next.wanted }
-        ensures all { (w : Moves) → IsNormalSought self.old.order w
-            → GoesOnBy self.old.board begun.old.m.count (begun.old.m.signs ++ sign ∷ []) w → S.has_met leaves.new w }
-        ensures kept { (w : Moves) → S.has_met leaves.old w → S.has_met leaves.new w }
-        ensures fixed { S.fixed leaves.new ≡ S.fixed leaves.old }
-        ensures board { self.new.board ≡ self.old.board }
-        ensures order { self.new.order ≡ self.old.order }
-        ensures same { begun.new.m ≡ begun.old.m }
-        ensures next { begun.new.next ≡ begun.old.next }
-    {
         push_sign(&mut begun.m, sign);
         self.with_move(begun, &around.valley, leaves);
         pop_sign(&mut begun.m);
@@ -476,8 +264,7 @@ impl Search {
         ensures all { (w : Moves) → IsNormalSought self.old.order w → GoesOn (self.old.board ++ begun.now.m ∷ []) w → S.has_met leaves.new w }
         ensures kept { (w : Moves) → S.has_met leaves.old w → S.has_met leaves.new w }
         ensures fixed { S.fixed leaves.new ≡ S.fixed leaves.old }
-        ensures board { self.new.board ≡ self.old.board }
-        ensures order { self.new.order ≡ self.old.order }
+        ensures same { self.new ≡ self.old }
     {
         if self.bars_move(begun, valley) {
             return;

@@ -1,16 +1,19 @@
 //! What a search hands on.
 
-ghost use Rattle.std.specs.Prelude.{List, [], length, ℕ, ◌++◌, ◌-◌, ◌<◌, ◌∷◌, ◌≡◌, ◌≤◌};
+ghost use Rattle.std.specs.Prelude.{List, [], length, ℕ, ◌++◌, ◌+◌, ◌-◌, ◌<◌, ◌∷◌, ◌≡◌, ◌≤◌};
 ghost use Rattle.bk_word.specs.Play.{IsComplete};
 ghost use Rattle.bk_word.specs.Word.{Word as Moves, order_of};
 ghost use Rattle.bk_word.specs.declared.Sign.{Sign as SeenSign};
+ghost use Rattle.bk_normal.specs.NormalImage.{IsNormalSought};
 ghost use Rattle.bk_free_search.specs.Asking.{IsNext, StandBeside};
+ghost use Rattle.bk_free_search.specs.Sought.{GoesOn};
 
 use crate::asking::{Beside, Next, next_of};
 use crate::board::Board;
+use crate::last_square::last_move;
 use crate::searching::Leaves;
 use bk_short::Short;
-use bk_skel::SmallMove;
+use bk_skeleton::SmallMove;
 use bk_word::Sign;
 
 /// A search for words of an order: the board on which it plays them. (Own.)
@@ -84,4 +87,25 @@ pub(crate) fn meet_closed<S: Leaves>(board: &Board, leaves: &mut S)
     if board.skel().is_closed() {
         leaves.meet(board);
     }
+}
+
+/// Meets the word that goes on from the board by the last square, if one does that a normal layout has. The board is left as it was.
+#[inline(never)]
+pub(crate) fn meet_with_last<S: Leaves>(board: &mut Board, order: u8, leaves: &mut S)
+    requires least { 3 ≤ order }
+    requires most { order ≤ 16 }
+    requires one { order_of board.old + 1 ≡ order }
+    ensures all { (w : Moves) → IsNormalSought order w → GoesOn board.old w → S.has_met leaves.new w }
+    ensures kept { (w : Moves) → S.has_met leaves.old w → S.has_met leaves.new w }
+    ensures fixed { S.fixed leaves.new ≡ S.fixed leaves.old }
+    ensures board { board.new ≡ board.old }
+{
+    let last = match last_move(board, order) {
+        Some(last) => last,
+        None => return,
+    };
+    let before = board.outline();
+    board.push(&last);
+    meet_closed(board, leaves);
+    board.take_back(&before);
 }

@@ -1,7 +1,7 @@
 //! The segments that lines touch which run from the top between squares of the first move.
 
 ghost use Rattle.std.specs.Prelude.{length, slice_index_or, true, ℕ, ◌<◌, ◌≡◌, ◌≤◌};
-ghost use Rattle.bk_bounds.specs.VerticalCut.{on_line};
+ghost use Rattle.bk_catalogue.specs.VerticalCut.{on_line};
 ghost use Rattle.bk_free_search.specs.NodeLines.{Has};
 ghost use Rattle.bk_free_search.specs.TopLines.{is_top_line, on_top_lines};
 

@@ -1,12 +1,14 @@
 -- A list that was read to its end, and what is written behind it.
 use Rattle.std.specs.List.{concat}
-use Rattle.std.specs.Prelude.{Err, Ok, Result}
+use Rattle.std.specs.Prelude.{Err, Ok, OnErr, OnOk, Result}
 use Rattle.std.proofs.Common.{List, Option, Bool, false, inl, inr, refl, subst, sym, true, ℕ, ◌++◌, ◌≡◌, ◌⊎◌}
 use Rattle.bk_ports.proofs.KnownSteps.{appends_more, prefix_after}
+use Rattle.bk_ports.specs.Causes.{HasCause, Rose}
 use Rattle.bk_ports.specs.declared.Failed.{Failed}
 use Rattle.bk_lines.proofs.OtherOutputs.{IsStop, broken_behind, stops_as, whole_behind}
-use Rattle.bk_lines.specs.Ending.{EndsWith, IsBrokenBehind, IsWhole, Streams}
+use Rattle.bk_lines.specs.Ending.{EndsWith, HasVerdict, IsBrokenBehind, IsWhole, Streams}
 use Rattle.bk_lines.specs.Entering.{AreAllEntered, entries_of}
+use Rattle.bk_lines.specs.Faults.{CountsTell, Faults}
 use Rattle.bk_lines.specs.Reply.{text_of}
 use Rattle.bk_lines.specs.declared.Ended.{Ended}
 use Rattle.bk_lines.specs.declared.Ended.TheVariants.{NoMemory, NoneRefused, ReadFailed, SomeRefused, TooMany, WriteFailed}
@@ -96,3 +98,40 @@ module _ (wanted : Wanted) (last : Listed) (left left_after a b c : Option (List
   closes_broken WriteFailed h v r w f e = absurd v
   closes_broken NoMemory h v r w f e = absurd v
   closes_broken TooMany h v r w f e = absurd v
+
+-- a run that comes to an end of its lines has a verdict
+pub has_verdict : (ended : Ended) → IsVerdict ended → HasVerdict ended
+has_verdict NoneRefused v = (false, refl)
+has_verdict SomeRefused v = (true, refl)
+has_verdict ReadFailed v = absurd v
+has_verdict WriteFailed v = absurd v
+has_verdict NoMemory v = absurd v
+has_verdict TooMany v = absurd v
+
+abbrev pub faults_of : ℕ → ℕ → ℕ → ℕ → Faults
+faults_of read read_after write write_after = record { read = read; read_after = read_after; write = write; write_after = write_after }
+
+module _ (read read_after write between now : ℕ) where
+  -- no count rises at the lines of such a run
+  no_fault : (ended : Ended) → IsVerdict ended → CountsTell ended (faults_of read read_after write between) → (read_after ≡ read) × (between ≡ write)
+  no_fault NoneRefused v h = h
+  no_fault SomeRefused v h = h
+  no_fault ReadFailed v h = absurd v
+  no_fault WriteFailed v h = absurd v
+  no_fault NoMemory v h = absurd v
+  no_fault TooMany v h = absurd v
+
+  -- none where what is wanted was written
+  pub well_told : (ended : Ended) → CountsTell ended (faults_of read read_after write between) → (r : Result (Unit {0}) Failed)
+      → HasCause between now r → r ≡ Ok tt → CountsTell ended (faults_of read read_after write now)
+  well_told ended h r cause e = subst (λ (n : ℕ). CountsTell ended (faults_of read read_after write n))
+      (sym (subst (λ (w : Result (Unit {0}) Failed). OnOk w (now ≡ between)) e cause.ok)) h
+
+  -- and that of the sink where it was not
+  pub badly_told : (ended : Ended) → IsVerdict ended → CountsTell ended (faults_of read read_after write between) → (r : Result (Unit {0}) Failed)
+      → HasCause between now r → (f : Failed) → r ≡ Err f → CountsTell WriteFailed (faults_of read read_after write now)
+  badly_told ended v h r cause f e =
+      let calm = no_fault ended v h in (
+        calm.0,
+        subst (λ (n : ℕ). Rose n now) calm.1 (subst (λ (w : Result (Unit {0}) Failed). OnErr w (Rose between now)) e cause.failed),
+      )

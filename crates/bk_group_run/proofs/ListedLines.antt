@@ -2,9 +2,10 @@
 use Rattle.std.specs.Prelude.{Bool, Err, IfOk, Ok, OnErr, Option, Result, ◌↔◌}
 use Rattle.std.proofs.Common.{List, [], arith, false, inl, inr, length, subst, sym, true, ℕ, ◌<◌, ◌∷◌, ◌≡◌, ◌≤◌, ◌⊎◌}
 use Rattle.std.specs.Io.KnownBytes.{Appends}
+use Rattle.std.proofs.KnownBytes.{Keeps-refl}
 use Rattle.bk_ports.specs.Causes.{AppendsPrefix}
 use Rattle.bk_ports.specs.declared.Failed.{Failed}
-use Rattle.bk_lines.specs.Answer.{HasOutcome, IsBegun, IsWritten}
+use Rattle.bk_lines.specs.Answer.{HasOutcome, IsBegun, IsWanting, IsWritten}
 use Rattle.bk_lines.specs.declared.Outcome.{Outcome}
 use Rattle.bk_lines.specs.declared.Outcome.TheVariants as outcomes
 use Rattle.bk_lines.proofs.Pieces.{begins_one, writes_none, writes_one}
@@ -12,13 +13,13 @@ use Rattle.bk_tiling.specs.Tiling.{Tiling}
 use Rattle.bk_report.specs.ListLines.{refused_line}
 use Rattle.bk_report.specs.declared.refusal.Refused.{Refused}
 use Rattle.bk_alike.specs.declared.AddFault.{AddFault}
-use Rattle.bk_alike.specs.declared.AddFault.TheVariants.{Full}
+use Rattle.bk_alike.specs.declared.AddFault.TheVariants.{Full, NoMemory}
 use Rattle.bk_text.specs.CodeLine.{Skip}
 use Rattle.bk_answer.specs.Item.{HasItem, HasTiling}
 use Rattle.bk_answer.specs.Refusing.{IsLineRefused}
 use Rattle.bk_sym.specs.Canonical.{IsCanonicalOf}
 use Rattle.bk_report.specs.declared.refusal.Refused.TheVariants.{More}
-use Rattle.bk_group_run.specs.Listed.{Listed, ListsLine, accepts, keeps, no_more, refuses, skipped, with_item, with_refused}
+use Rattle.bk_group_run.specs.Listed.{Listed, ListsLine, MayWantItem, accepts, keeps, no_more, refuses, skipped, with_item, with_refused}
 
 -- the line of a refusal was written
 pub refused_outcome : (answers : List (List ℕ) → Bool → Type 0) (wants : Type 0) (line : List ℕ) (a b : Option (List ℕ)) (r : Result Outcome Failed)
@@ -70,6 +71,15 @@ has_room n r other full = by (two n 16384)
 -- and a call that kept one doesn't say so
 pub kept_apart : (r : Result (Unit {0}) AddFault) (done : Unit {0}) → r ≡ Ok done → r ≡ Err Full → ⊥
 kept_apart r done is e = absurd (cc)
+
+-- nor does one for which memory is wanting
+pub wanting_apart : (r : Result (Unit {0}) AddFault) → r ≡ Err NoMemory → r ≡ Err Full → ⊥
+wanting_apart r is e = absurd (cc)
+
+-- memory was wanting at an accepted line
+pub wanting_line : (s : Listed) (number : ℕ) (bytes : List ℕ) (t : Tiling) (a : Option (List ℕ)) → HasTiling bytes t → length s.items < 16384
+    → IsWanting (MayWantItem s number bytes) a a
+wanting_line s number bytes t a has few = record { cause = (t, has, few); kept = Keeps-refl a }
 
 -- a refused line
 pub refused_entry : (s next : Listed) (number : ℕ) (bytes : List ℕ) (refused : Refused) → IsLineRefused bytes refused → next ≡ with_refused s

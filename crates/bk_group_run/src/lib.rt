@@ -12,7 +12,7 @@ use bk_ask::Kind;
 pub use command::list_lines;
 
 /// What is written behind the lines of a list.
-#[derive(Clone, Copy, Debug, PartialEq, Eq)]
+#[derive(Clone, Copy)]
 pub enum Wanted {
     /// The items, grouped by size.
     Groups,

@@ -1,7 +1,15 @@
--- What stands at a place of a list: in lists laid end to end, and in a mapped list.
+-- What stands at a place of a list: first and behind, in lists laid end to end, and in a mapped list.
 use Rattle.std.specs.List.{refill}
 use Rattle.std.proofs.Common.{List, None, Some, [], ap, append-nil, arith, drop_of_length-le, inl, inr, length, map, refl, slice_get, slice_index_or, suc, take}
 use Rattle.std.proofs.Common.{take_all, zero, ℕ, ◌++◌, ◌+◌, ◌<◌, ◌∙◌, ◌∷◌, ◌≡◌, ◌⊎◌}
+
+-- equal lists have one first item
+pub head_same : {A : Type 0} (x y : A) (xs ys : List A) → x ∷ xs ≡ y ∷ ys → x ≡ y
+head_same {A} x y xs ys e = cc
+
+-- and the same others
+pub tail_same : {A : Type 0} (x y : A) (xs ys : List A) → x ∷ xs ≡ y ∷ ys → xs ≡ ys
+tail_same {A} x y xs ys e = cc
 
 -- there is an element at each place below the length
 pub get_some : {A : Type 0} (xs : List A) (k : ℕ) → k < length xs → (x : A) × (slice_get xs k ≡ Some x)

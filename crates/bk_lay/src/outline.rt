@@ -12,7 +12,7 @@ use bk_tiling::{MOST_SQUARES, Square};
 use bk_word::Move;
 
 /// A level run of columns: its first column, the column after its last, and their depth.
-#[derive(Clone, Copy, Debug, Default, PartialEq, Eq)]
+#[derive(Clone, Copy, Default)]
 pub(crate) struct Run {
     pub(crate) x: u64,
     pub(crate) end: u64,

@@ -20,7 +20,7 @@ pub use line::LONGEST_LINE;
 pub use steady::answer_lines;
 
 /// What came of a line.
-#[derive(Clone, Copy, Debug, PartialEq, Eq)]
+#[derive(Clone, Copy)]
 pub enum Outcome {
     /// It is answered, and not by a refusal; or it needs no answer.
     Accepted,
@@ -102,7 +102,7 @@ pub trait Register {
 }
 
 /// How a run over lines ends, and what stands written then.
-#[derive(Clone, Copy, Debug, PartialEq, Eq)]
+#[derive(Clone, Copy, PartialEq, Eq)]
 pub enum Ended {
     /// All lines of the input are answered, and none is refused.
     NoneRefused,

@@ -30,7 +30,7 @@ pub struct OpenLine {
 }
 
 // Why no further line is entered.
-#[derive(Clone, Copy, Debug, PartialEq, Eq)]
+#[derive(Clone, Copy)]
 pub enum Stop {
     WriteFailed,
     NoMemory,

@@ -10,7 +10,7 @@ use Rattle.bk_word.proofs.FollowLaws.{not_itself}
 use Rattle.bk_word.proofs.WordOrder.{follows_trans, word_total}
 use Rattle.bk_word.specs.Word.{Follows, Word, word_cmp}
 use Rattle.bk_word.specs.declared.Class.{Class}
-use Rattle.bk_tree.proofs.Places.{word_same}
+use Rattle.bk_catalogue.proofs.Places.{word_same}
 use Rattle.bk_catalogue.specs.Catalogue.{AreAscending, Entry, IsEntry}
 use Rattle.bk_list.proofs.Continuing.{after_each, after_last, all_map, first_or_later}
 use Rattle.bk_list.proofs.Taking.{first_none}

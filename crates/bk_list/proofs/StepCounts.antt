@@ -9,8 +9,8 @@ use Rattle.bk_word.proofs.FollowLaws.{not_itself}
 use Rattle.bk_word.proofs.WordOrder.{follows_trans}
 use Rattle.bk_word.specs.Word.{Follows, Word}
 use Rattle.bk_word.specs.declared.Class.{Class}
-use Rattle.bk_tree.proofs.TreeCounts.{at_least_adds, at_least_fewer}
-use Rattle.bk_tree.specs.Tree.{IsAtMostTree, IsNotAfter}
+use Rattle.bk_catalogue.proofs.TreeCounts.{at_least_adds, at_least_fewer}
+use Rattle.bk_catalogue.specs.Tree.{IsAtMostTree, IsNotAfter}
 use Rattle.bk_report.specs.Listings.{last_line}
 use Rattle.bk_report.specs.declared.listing.Last.{Last}
 use Rattle.bk_report.specs.declared.listing.Last.TheVariants.{End, Limit}

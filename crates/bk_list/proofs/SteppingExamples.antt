@@ -9,7 +9,7 @@ use Rattle.bk_word.specs.declared.Class.TheVariants.{Imperfect}
 use Rattle.bk_catalogue.proofs.CatalogueExamples.{row_entry, row_word}
 use Rattle.bk_catalogue.specs.Catalogue.{Entry}
 use Rattle.bk_report.specs.declared.listing.Last.TheVariants.{Limit}
-use Rattle.bk_tree.specs.Tree.{IsInTree, IsNotAfter}
+use Rattle.bk_catalogue.specs.Tree.{IsInTree, IsNotAfter}
 use Rattle.bk_list.proofs.ListingExamples.{one_listed}
 use Rattle.bk_list.specs.Listing.{AtEnd, AtLimit, Ending, EndsBy, IsWithinLimit, WideAt, name_of}
 use Rattle.bk_list.specs.Stepping.{AreStepsTo, TakesSteps, TookSteps}

@@ -6,7 +6,7 @@ use Rattle.std.proofs.Common.{Contains, List, [], arith, inl, inr, refl, zero, â
 use Rattle.bk_word.specs.Word.{Follows, Word, word_cmp}
 use Rattle.bk_word.specs.declared.Class.{Class}
 use Rattle.bk_word.proofs.FollowLaws.{turned}
-use Rattle.bk_tree.proofs.Places.{word_same}
+use Rattle.bk_catalogue.proofs.Places.{word_same}
 use Rattle.bk_catalogue.specs.Catalogue.{Entry, IsEntry}
 use Rattle.bk_list.proofs.Continuing.{both, first_or_later}
 use Rattle.bk_catalogue.proofs.OneEntry.{one_entry}

@@ -5,7 +5,7 @@ use Rattle.std.specs.Prelude.{Contains, List, None, Option, Some, [], flat_map, 
 use Rattle.bk_word.specs.Play.{IsComplete}
 use Rattle.bk_word.specs.Word.{Follows, Word, order_of}
 use Rattle.bk_word.specs.declared.Class.{Class}
-use Rattle.bk_word_net.specs.WideWord.{IsWideWord}
+use Rattle.bk_skel.specs.WideWord.{IsWideWord}
 use Rattle.bk_catalogue.specs.Catalogue.{AreAscending, Entry, IsEntry}
 use Rattle.bk_report.specs.Listings.{entry_line, last_line}
 use Rattle.bk_report.specs.declared.listing.Last.{Last}

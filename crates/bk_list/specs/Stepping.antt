@@ -9,7 +9,7 @@ use Rattle.bk_word.specs.declared.Class.{Class}
 use Rattle.bk_catalogue.specs.Catalogue.{Entry}
 use Rattle.bk_report.specs.declared.listing.Last.{Last}
 use Rattle.bk_report.specs.declared.listing.Last.TheVariants.{End, Limit, Wide}
-use Rattle.bk_tree.specs.Tree.{HasAtLeast, IsAtMostTree}
+use Rattle.bk_catalogue.specs.Tree.{HasAtLeast, IsAtMostTree}
 use Rattle.bk_list.specs.Listing.{AreFirst, Ending, EndsBy, IsWithinLimit, ending_line, line_of, name_of}
 use Rattle.bk_list.specs.ListingLaws.{cursor_after}
 use Rattle.bk_list.specs.Writing.{AreEndedBy, HasEntries}

@@ -5,7 +5,7 @@ ghost use Rattle.std.specs.Prelude.{IfOk, IsTrue, None, OnErr, OnOk, Some, false
 ghost use Rattle.bk_ports.specs.Causes.{AppendsPrefix, HasCause};
 ghost use Rattle.bk_code.specs.Code.{code_of};
 ghost use Rattle.bk_report.specs.Listings.{entry_line};
-ghost use Rattle.bk_tree.specs.Tree.{IsAtMostTree};
+ghost use Rattle.bk_catalogue.specs.Tree.{IsAtMostTree};
 ghost use Rattle.bk_list.specs.Stepping.{AreNextSteps, HasEntriesBySteps, StoppedAtEntry};
 ghost use Rattle.bk_list.specs.Writing.{BeginsListing, IsNext, IsNextBegun};
 
@@ -13,7 +13,7 @@ use bk_code::Code;
 use bk_grammar::AnswerBuffer;
 use bk_ports::{Failed, Sink};
 use bk_report::{Last, write_entry};
-use bk_skel::Steps;
+use bk_skeleton::Steps;
 use bk_tiling::Tiling;
 use bk_walk::{Entry, TabledWalk};
 use bk_word::Word;

@@ -11,7 +11,7 @@ use crate::entries::write_entries;
 use bk_grammar::AnswerBuffer;
 use bk_ports::{Failed, Sink};
 use bk_report::{Last, write_last};
-use bk_skel::Steps;
+use bk_skeleton::Steps;
 use bk_walk::{LEAST_TABLED_ORDER, TabledWalk, UntabledWalk, Walk};
 use bk_word::{Class, Word};
 use std::alloc::Global;

@@ -1,6 +1,6 @@
 -- How the process ends: by the status of the run that its arguments ask, or because there are none.
 -- Example (EndedExamples): where the arguments aren't text, the status is 8.
-use Rattle.std.specs.Prelude.{Err, List, Ok, Result, String, Vec, ℕ, ◌≡◌}
+use Rattle.std.specs.Prelude.{Err, Ok, Result, String, Vec, ℕ, ◌≡◌}
 use Rattle.std.specs.declared.alloc.Global.{Global}
 use Rattle.bk_top.specs.Outside.{Outside}
 use Rattle.bk_top.specs.Running.{IsWholeRun}

@@ -1,5 +1,4 @@
 pub mod FoundMembers
 pub mod TurnedSquares
 pub mod WholeTables
-pub mod QuickTests
 pub mod MembersExamples

@@ -2,23 +2,15 @@
 use Rattle.std.specs.List.{AllByRecursion}
 use Rattle.std.specs.Prelude.{Contains, IsSome, List, length, ℕ, ◌<◌, ◌≡◌, ◌≤◌}
 use Rattle.bk_tiling.specs.Tiling.{Tiling}
-use Rattle.bk_simple.specs.Simple.{IsSimple}
-use Rattle.bk_sym.specs.Canonical.{IsCanonical}
 use Rattle.bk_word.specs.Word.{Word}
 use Rattle.bk_word.specs.declared.Class.{Class}
-use Rattle.bk_catalogue.specs.Catalogue.{Entry, IsEntry, IsOfClass}
+use Rattle.bk_catalogue.specs.Catalogue.{Entry, IsEntry}
 use Rattle.bk_lay.specs.TilingWord.{IsWordOf}
-use Rattle.bk_normal_cuts.specs.NormalImage.{IsMetByNormalWord}
+use Rattle.bk_normal.specs.NormalImage.{IsMetByNormalWord}
 use Rattle.bk_sym.specs.Image.{image}
 use Rattle.bk_sym.specs.declared.Turn.{Turn}
 use Rattle.bk_packed.specs.Kept.{AreAscendingNumbers, Holds, Numbers}
 use Rattle.bk_packed.specs.Packed.{packed}
-
--- what is asked of a tiling besides its order
-pub record Qualifies (class : Class) (t : Tiling) : Type 0 where
-  pub simple : IsSimple t
-  pub of_class : IsOfClass class t
-  pub canonical : IsCanonical t
 
 -- the order and the class that are looked for, the number from which words are kept, and what is kept
 pub record Finding : Type 0 where

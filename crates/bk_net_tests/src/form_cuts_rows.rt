@@ -7,7 +7,7 @@ ghost use Rattle.bk_form_cuts.specs.Trace.{IsTraceOf};
 
 use arrayvec::ArrayVec;
 use bk_form_cuts::Tracing;
-use bk_skel::{Skel, open_side};
+use bk_skeleton::{Skel, open_side};
 use bk_word::{Class, LARGEST_ORDER, Move, Sign, Word, read_word};
 use std::alloc::Global;
 

@@ -5,12 +5,12 @@ use Rattle.bk_tiling.specs.SquareGroups.{square_groups}
 use Rattle.bk_tiling.specs.Tiling.{IsOneOf, IsTiling, Tiling}
 use Rattle.bk_tiling.specs.declared.Square.{Square}
 use Rattle.bk_net.specs.Diagram.{node_below, node_levels}
-use Rattle.bk_tiling_layout.proofs.Edges.{MeetsLeft, MeetsRight, bottom_within, left_of, meet, right_of, right_within, side}
-use Rattle.bk_tiling_layout.proofs.LineEnds.{Ends, none_before, not_passed}
-use Rattle.bk_tiling_layout.proofs.LineNumbers.{number_both, number_column}
-use Rattle.bk_tiling_layout.proofs.TilingSquares.{in_square}
-use Rattle.bk_tiling_layout.proofs.NodesFit.{levels_of}
-use Rattle.bk_tiling_layout.specs.TilingLayout.{layout_of, line_end, line_number, node_above, square_of}
+use Rattle.bk_layout.proofs.Edges.{MeetsLeft, MeetsRight, bottom_within, left_of, meet, right_of, right_within, side}
+use Rattle.bk_layout.proofs.LineEnds.{Ends, none_before, not_passed}
+use Rattle.bk_layout.proofs.LineNumbers.{number_both, number_column}
+use Rattle.bk_layout.proofs.TilingSquares.{in_square}
+use Rattle.bk_layout.proofs.NodesFit.{levels_of}
+use Rattle.bk_layout.specs.TilingLayout.{layout_of, line_end, line_number, node_above, square_of}
 
 module _ (t : Tiling) (tiling : IsTiling t) where
   -- the square of a number is one of the tiling

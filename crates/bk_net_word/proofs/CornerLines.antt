@@ -7,8 +7,8 @@ use Rattle.bk_word.specs.Word.{Word}
 use Rattle.bk_layout.proofs.LayoutNet.{a_layout_has_a_free_word}
 use Rattle.bk_layout.specs.Layout.{Fits, IsLast, Layout}
 use Rattle.bk_layout.specs.LayoutLaws.{IsWordOfLayout}
-use Rattle.bk_free_cuts.specs.FreeCuts.{AreOuterWalls}
-use Rattle.bk_free_cuts.specs.SharedNodes.{AreLinesApart}
+use Rattle.bk_net_word.specs.FreeCuts.{AreOuterWalls}
+use Rattle.bk_net_word.specs.SharedNodes.{AreLinesApart}
 use Rattle.bk_net_word.specs.Corners.{AreCornersApart, DoEndsMeet}
 
 module _ (l : Layout) (fits : Fits l) (walls : AreOuterWalls l) (corners : AreCornersApart l) (ends : DoEndsMeet l) where

@@ -1,7 +1,7 @@
 -- The lines around a node of the rectangle 3x2 of squares 2, 1, 1: line 10 is the one in the middle, 1 the right wall.
 use Rattle.std.proofs.Common.{[], inl, inr, refl, ◌∷◌}
 use Rattle.bk_tiling.specs.Tiling.{Tiling}
-use Rattle.bk_tiling_layout.specs.TilingLayout.{layout_of}
+use Rattle.bk_layout.specs.TilingLayout.{layout_of}
 use Rattle.bk_net_word.specs.Corners.{IsAfter, IsBefore}
 
 abbrev three : Tiling

@@ -6,15 +6,15 @@ use Rattle.bk_tiling.specs.Tiling.{IsTiling, Tiling}
 use Rattle.bk_tiling.specs.declared.Square.{Square}
 use Rattle.bk_net.specs.Diagram.{node_below}
 use Rattle.bk_layout.specs.Layout.{AreNeighbours}
-use Rattle.bk_tiling_layout.proofs.AscendingPlaces.{AreNext, next_from}
-use Rattle.bk_tiling_layout.proofs.Edges.{bottom_within}
-use Rattle.bk_tiling_layout.proofs.LineEnds.{Ends, end_is}
-use Rattle.bk_tiling_layout.proofs.LineNumbers.{number_same}
-use Rattle.bk_tiling_layout.proofs.NodeColumns.{EndsAt, deep_if_ended, ends_at, one_ended}
-use Rattle.bk_tiling_layout.proofs.NodeLines.{along_left, along_right}
-use Rattle.bk_tiling_layout.proofs.TilingSquares.{HasNumber, ended, ended_from, ended_node, ended_one, ended_to, has_number, key}
-use Rattle.bk_tiling_layout.specs.TilingLayout.{layout_of, line_end, line_number, square_of}
-use Rattle.bk_tiling_layout.proofs.GroupNodes.{IsNode}
+use Rattle.bk_layout.proofs.AscendingPlaces.{AreNext, next_from}
+use Rattle.bk_layout.proofs.Edges.{bottom_within}
+use Rattle.bk_layout.proofs.LineEnds.{Ends, end_is}
+use Rattle.bk_layout.proofs.LineNumbers.{number_same}
+use Rattle.bk_layout.proofs.NodeColumns.{EndsAt, deep_if_ended, ends_at, one_ended}
+use Rattle.bk_layout.proofs.NodeLines.{along_left, along_right}
+use Rattle.bk_layout.proofs.TilingSquares.{HasNumber, ended, ended_from, ended_node, ended_one, ended_to, has_number, key}
+use Rattle.bk_layout.specs.TilingLayout.{layout_of, line_end, line_number, square_of}
+use Rattle.bk_layout.proofs.GroupNodes.{IsNode}
 use Rattle.bk_net_word.specs.Corners.{DoEndsMeet}
 use Rattle.bk_net_word.proofs.ApartNodes.{is_in, some}
 

@@ -5,9 +5,9 @@ use Rattle.bk_tiling.specs.Tiling.{Tiling, order}
 use Rattle.bk_word.specs.Word.{Move, Word}
 use Rattle.bk_word.specs.declared.Sign.TheVariants.{Above, Even, Under}
 use Rattle.bk_word_net.specs.WordNet.{net_of_word}
-use Rattle.bk_reversal.specs.RuleR.{BeginsNoEvenAbove}
-use Rattle.bk_free_cuts.proofs.CutsOfTilings.{one_under_one_is_free_barren}
-use Rattle.bk_signed_word.specs.SignedWord.{reversed_net}
+use Rattle.bk_layout.specs.RuleR.{BeginsNoEvenAbove}
+use Rattle.bk_net_word.proofs.CutsOfTilings.{one_under_one_is_free_barren}
+use Rattle.bk_net_word.specs.SignedWord.{reversed_net}
 use Rattle.bk_net_word.proofs.NetWords.{a_free_barren_word_is_net_barren}
 use Rattle.bk_net_word.specs.NetWord.{IsNetBarren, IsNetWordOf}
 

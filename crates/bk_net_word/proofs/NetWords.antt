@@ -5,15 +5,15 @@ use Rattle.std.proofs.lemmas.List.{append_assoc}
 use Rattle.bk_tiling.specs.Tiling.{order}
 use Rattle.bk_word.specs.Word.{Move, Word}
 use Rattle.bk_layout.specs.LayoutLaws.{IsWordOfLayout}
-use Rattle.bk_tiling_layout.specs.TilingLayout.{layout_of}
-use Rattle.bk_free_cuts.proofs.CutsOfTilings.{a_simple_tiling_has_a_sound_layout}
-use Rattle.bk_free_cuts.specs.FreeCuts.{IsSound}
-use Rattle.bk_reversal.proofs.UpTo.{none_turned, up_to_itself}
-use Rattle.bk_reversal.specs.RuleR.{BeginsNoEvenAbove}
+use Rattle.bk_layout.specs.TilingLayout.{layout_of}
+use Rattle.bk_net_word.proofs.CutsOfTilings.{a_simple_tiling_has_a_sound_layout}
+use Rattle.bk_net_word.specs.FreeCuts.{IsSound}
+use Rattle.bk_layout.proofs.UpTo.{none_turned, up_to_itself}
+use Rattle.bk_layout.specs.RuleR.{BeginsNoEvenAbove}
 use Rattle.bk_net_word.proofs.SoundWords.{a_simple_tiling_is_sound_around, a_sound_layout_has_a_sound_word_by_rule_r}
 use Rattle.bk_net_word.specs.Corners.{HasSoundWordByRuleR, IsSoundAround}
-use Rattle.bk_signed_word.proofs.SignedWords.{a_word_up_to_reversals_is_signed}
-use Rattle.bk_signed_word.specs.SignedWord.{IsSignedWordOf}
+use Rattle.bk_net_word.proofs.SignedWords.{a_word_up_to_reversals_is_signed}
+use Rattle.bk_net_word.specs.SignedWord.{IsSignedWordOf}
 use Rattle.bk_net_word.specs.NetWord.{AFreeBarrenWordIsNetBarren, ASimpleTilingHasANetWord, ASimpleTilingHasAPositiveWord, EvenThenAboveIsNetBarren}
 use Rattle.bk_net_word.specs.NetWord.{IsNetWordOf, WhatGoesOnIsNetBarren}
 

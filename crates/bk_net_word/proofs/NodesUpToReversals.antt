@@ -5,8 +5,8 @@ use Rattle.std.proofs.lemmas.Option.{slice_get_within}
 use Rattle.bk_laws.proofs.ListPlaces.{get_some}
 use Rattle.bk_layout.proofs.Counting.{got_same}
 use Rattle.bk_layout.specs.Layout.{Fits, Layout}
-use Rattle.bk_tiling_layout.specs.SimpleLayout.{HasNoPairs}
-use Rattle.bk_reversal.specs.Reversal.{IsUpToReversals}
+use Rattle.bk_layout.specs.SimpleLayout.{HasNoPairs}
+use Rattle.bk_layout.specs.Reversal.{IsUpToReversals}
 use Rattle.bk_net_word.proofs.UpToReversals.{either, swap}
 
 module _ (l m : Layout) (same : IsUpToReversals l m) where

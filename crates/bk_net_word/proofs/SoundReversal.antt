@@ -4,10 +4,10 @@ use Rattle.std.proofs.lemmas.Bool.{cases_eq}
 use Rattle.bk_laws.proofs.ListPlaces.{get_some}
 use Rattle.bk_layout.proofs.Counting.{got_same}
 use Rattle.bk_layout.specs.Layout.{AreNeighbours, Fits, Layout}
-use Rattle.bk_free_cuts.specs.FreeCuts.{AreOuterWalls}
-use Rattle.bk_reversal.proofs.Pieces.{init_below, init_got, put_at, put_other}
-use Rattle.bk_reversal.proofs.ReversedFits.{fits_then, no_twins_then, same_then}
-use Rattle.bk_reversal.specs.Reversal.{CanReverse, IsUpToReversals, put, reversed, without_last}
+use Rattle.bk_net_word.specs.FreeCuts.{AreOuterWalls}
+use Rattle.bk_layout.proofs.Pieces.{init_below, init_got, put_at, put_other}
+use Rattle.bk_layout.proofs.ReversedFits.{fits_then, no_twins_then, same_then}
+use Rattle.bk_layout.specs.Reversal.{CanReverse, IsUpToReversals, put, reversed, without_last}
 use Rattle.bk_net_word.proofs.CornerLines.{lines_from_corners}
 use Rattle.bk_net_word.proofs.UpToReversals.{corners_over, parts_over}
 use Rattle.bk_net_word.proofs.NodesUpToReversals.{pairs_over}

@@ -1,6 +1,6 @@
 -- A sound layout has a sound word by rule R, and a simple tiling's layout is such a one.
-use Rattle.bk_free_cuts.proofs.CutsOfTilings.{a_simple_tiling_has_a_sound_layout}
-use Rattle.bk_reversal.proofs.RuleScan.{HasWordThatKeeps, a_word_that_keeps}
+use Rattle.bk_net_word.proofs.CutsOfTilings.{a_simple_tiling_has_a_sound_layout}
+use Rattle.bk_layout.proofs.RuleScan.{HasWordThatKeeps, a_word_that_keeps}
 use Rattle.bk_net_word.proofs.SoundReversal.{a_reversed_layout_is_sound}
 use Rattle.bk_net_word.proofs.TilingCorners.{corners}
 use Rattle.bk_net_word.proofs.MeetingEnds.{ends_meet}

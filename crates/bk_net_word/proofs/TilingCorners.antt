@@ -4,13 +4,13 @@ use Rattle.bk_tiling.specs.SquareGroups.{square_groups}
 use Rattle.bk_tiling.specs.Tiling.{IsTiling, Tiling}
 use Rattle.bk_net.specs.Diagram.{node_below}
 use Rattle.bk_layout.proofs.Counting.{got_same}
-use Rattle.bk_tiling_layout.proofs.AscendingPlaces.{has_place}
-use Rattle.bk_tiling_layout.proofs.LineNumbers.{number_column}
-use Rattle.bk_tiling_layout.proofs.NodeColumns.{one_hung}
-use Rattle.bk_tiling_layout.proofs.TilingSquares.{ended, ended_one, ended_to, hung_node, hung_to, key, one_number}
-use Rattle.bk_tiling_layout.specs.TilingLayout.{layout_of, node_above, square_of}
-use Rattle.bk_free_cuts.proofs.ApartLines.{lines_of_a_tiling_are_apart}
-use Rattle.bk_free_cuts.specs.SharedNodes.{AreLinesApart}
+use Rattle.bk_layout.proofs.AscendingPlaces.{has_place}
+use Rattle.bk_layout.proofs.LineNumbers.{number_column}
+use Rattle.bk_layout.proofs.NodeColumns.{one_hung}
+use Rattle.bk_layout.proofs.TilingSquares.{ended, ended_one, ended_to, hung_node, hung_to, key, one_number}
+use Rattle.bk_layout.specs.TilingLayout.{layout_of, node_above, square_of}
+use Rattle.bk_net_word.proofs.ApartLines.{lines_of_a_tiling_are_apart}
+use Rattle.bk_net_word.specs.SharedNodes.{AreLinesApart}
 use Rattle.bk_net_word.specs.Corners.{AreCornersApart, IsAfter, IsBefore}
 use Rattle.bk_net_word.proofs.ApartNodes.{apart_left, apart_right, is_in, low, some}
 

@@ -3,8 +3,8 @@
 use Rattle.std.proofs.Common.{arith, false, inl, inr, sym, true, ℕ, ◌<◌, ◌∙◌, ◌≡◌, ◌⊎◌}
 use Rattle.std.proofs.lemmas.Bool.{cases_Bool}
 use Rattle.bk_layout.specs.Layout.{Layout}
-use Rattle.bk_tiling_layout.specs.SimpleLayout.{AreOutermost, HasNoParts, HasOneBetween, Touches}
-use Rattle.bk_reversal.specs.Reversal.{IsUpToReversals}
+use Rattle.bk_layout.specs.SimpleLayout.{AreOutermost, HasNoParts, HasOneBetween, Touches}
+use Rattle.bk_layout.specs.Reversal.{IsUpToReversals}
 use Rattle.bk_net_word.specs.Corners.{AreCornersApart, IsAfter, IsBefore}
 
 module _ (l m : Layout) (same : IsUpToReversals l m) where

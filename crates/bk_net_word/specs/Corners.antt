@@ -7,10 +7,10 @@ use Rattle.std.specs.Prelude.{ℕ, ◌<◌, ◌≡◌, ◌≤◌, ◌⊎◌}
 use Rattle.bk_simple.specs.Simple.{IsSimple}
 use Rattle.bk_tiling.specs.Tiling.{IsTiling, Tiling, order}
 use Rattle.bk_layout.specs.Layout.{AreNeighbours, Layout}
-use Rattle.bk_tiling_layout.specs.TilingLayout.{layout_of}
-use Rattle.bk_free_cuts.specs.FreeCuts.{IsSound}
-use Rattle.bk_reversal.specs.Reversal.{CanReverse, reversed}
-use Rattle.bk_reversal.specs.RuleR.{HasWordByRuleR}
+use Rattle.bk_layout.specs.TilingLayout.{layout_of}
+use Rattle.bk_net_word.specs.FreeCuts.{IsSound}
+use Rattle.bk_layout.specs.Reversal.{CanReverse, reversed}
+use Rattle.bk_layout.specs.RuleR.{HasWordByRuleR}
 
 -- around the node, clockwise, the line stands before the square, or after it
 abbrev pub IsBefore : Layout → (node square line : ℕ) → Type 0

@@ -9,9 +9,9 @@ use Rattle.bk_tiling.specs.Tiling.{IsTiling, Tiling, order}
 use Rattle.bk_word.specs.Word.{Move, Word}
 use Rattle.bk_layout.specs.Layout.{Layout}
 use Rattle.bk_layout.specs.LayoutLaws.{IsWordOfLayout}
-use Rattle.bk_free_cuts.specs.FreeCuts.{IsFreeBarren, IsSound}
-use Rattle.bk_reversal.specs.RuleR.{BeginsNoEvenAbove}
-use Rattle.bk_signed_word.specs.SignedWord.{IsSignedWordOf}
+use Rattle.bk_net_word.specs.FreeCuts.{IsFreeBarren, IsSound}
+use Rattle.bk_layout.specs.RuleR.{BeginsNoEvenAbove}
+use Rattle.bk_net_word.specs.SignedWord.{IsSignedWordOf}
 
 -- no word of a sound layout of so many squares that keeps rule R begins with these moves
 abbrev pub IsNetBarren : ℕ → Word → Type 0

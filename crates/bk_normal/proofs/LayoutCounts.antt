@@ -11,16 +11,16 @@ use Rattle.bk_tiling.specs.Tiling.{IsTiling, Tiling}
 use Rattle.bk_tiling.specs.declared.Square.{Square}
 use Rattle.bk_net.specs.Diagram.{node_below}
 use Rattle.bk_word.specs.Play.{numbers_from}
-use Rattle.bk_tiling_layout.proofs.Ascending.{sorted_from, sorted_to}
-use Rattle.bk_tiling_layout.proofs.NodesFit.{lists}
-use Rattle.bk_tiling_layout.proofs.LineNumbers.{eq_from, eq_to}
-use Rattle.bk_tiling_layout.proofs.TilingNet.{numbers_map}
-use Rattle.bk_tiling_layout.proofs.TilingSquares.{in_square}
-use Rattle.bk_tiling_layout.specs.TilingLayout.{from_left, layout_of, node_above, square_of}
+use Rattle.bk_layout.proofs.Ascending.{sorted_from, sorted_to}
+use Rattle.bk_layout.proofs.NodesFit.{lists}
+use Rattle.bk_layout.proofs.LineNumbers.{eq_from, eq_to}
+use Rattle.bk_layout.proofs.TilingNet.{numbers_map}
+use Rattle.bk_layout.proofs.TilingSquares.{in_square}
+use Rattle.bk_layout.specs.TilingLayout.{from_left, layout_of, node_above, square_of}
 use Rattle.bk_normal.proofs.LayoutSides.{at_left_wall, at_right_wall, at_top, on_bottom}
 use Rattle.bk_normal.proofs.SameNumbers.{Once, once_filter, once_numbers, once_places, same_long}
 use Rattle.bk_normal.specs.Normal.{counts_of, is_at_bottom, is_at_left, is_at_right, is_at_top}
-use Rattle.bk_normal.specs.NormalLayout.{TheLayoutHasTheCounts, counts_of_layout}
+use Rattle.bk_normal.specs.LayoutCounts.{TheLayoutHasTheCounts, counts_of_layout}
 
 -- two tests of numbers for equality, of which one passes where the other does
 same_test : (a b c d : ℕ) → (a ≡ b) ↔ (c ≡ d) → (a == b) ≡ (c == d)

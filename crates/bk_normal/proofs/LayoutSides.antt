@@ -6,12 +6,12 @@ use Rattle.bk_tiling.specs.Tiling.{IsOneOf, IsTiling, Tiling}
 use Rattle.bk_tiling.specs.declared.Square.{Square}
 use Rattle.bk_net.proofs.NodeNumbers.{at_bottom}
 use Rattle.bk_net.specs.Diagram.{node_below}
-use Rattle.bk_tiling_layout.proofs.Edges.{right_within, side}
-use Rattle.bk_tiling_layout.proofs.GroupNodes.{IsNode}
-use Rattle.bk_tiling_layout.proofs.LineNumbers.{number_left, number_one, number_right, number_zero}
-use Rattle.bk_tiling_layout.proofs.TilingSquares.{in_square, node_at}
-use Rattle.bk_tiling_layout.specs.TilingLayout.{line_number, node_above, square_of}
-use Rattle.bk_normal.specs.NormalLayout.{TheLayoutHasTheSides}
+use Rattle.bk_layout.proofs.Edges.{right_within, side}
+use Rattle.bk_layout.proofs.GroupNodes.{IsNode}
+use Rattle.bk_layout.proofs.LineNumbers.{number_left, number_one, number_right, number_zero}
+use Rattle.bk_layout.proofs.TilingSquares.{in_square, node_at}
+use Rattle.bk_layout.specs.TilingLayout.{line_number, node_above, square_of}
+use Rattle.bk_normal.specs.LayoutCounts.{TheLayoutHasTheSides}
 
 module _ (t : Tiling) (tiling : IsTiling t) (q : Square) (h : IsOneOf q t.squares) where
   top_node : IsNode t 0

@@ -1,188 +1,175 @@
--- Each tiling has a normal image: of the tiling and of it with columns and levels exchanged one has few nodes, and two flips do the rest.
-use Rattle.std.proofs.Common.{arith, inl, inr, max, min, subst, sym, ℕ, ◌*◌, ◌+◌, ◌<◌, ◌≡◌, ◌≤◌, ◌⊎◌}
-use Rattle.bk_tiling.specs.Tiling.{IsTiling, Tiling, order}
-use Rattle.bk_sym.proofs.Composing.{image-Same, images_of_images}
-use Rattle.bk_sym.proofs.Images.{images_are_tilings}
-use Rattle.bk_sym.specs.Image.{image}
-use Rattle.bk_sym.specs.Turns.{after}
+-- Each simple tiling has a normal image with a word of which no beginning is barren, and what is said of each image of a member.
+use Rattle.std.specs.Prelude.{get_or, ◌==◌}
+use Rattle.std.proofs.Common.{Bool, ap, arith, count_by, map, refl, subst, sym, ℕ, ◌*◌, ◌∙◌, ◌≡◌}
+use Rattle.std.proofs.lemmas.Bool.{eq-eqb}
+use Rattle.bk_laws.proofs.Counts.{count_two}
+use Rattle.bk_tiling.proofs.Cells.{all_from, in_all}
+use Rattle.bk_tiling.proofs.OrderLaws.{in_code_order-count}
+use Rattle.bk_tiling.proofs.PuttingInOrder.{in_order}
+use Rattle.bk_tiling.specs.Scale.{IsPrimitiveTiling}
+use Rattle.bk_tiling.specs.Tiling.{IsOneOf, IsTiling, Tiling}
+use Rattle.bk_tiling.specs.declared.Square.{Square}
+use Rattle.bk_simple.proofs.Repeats.{imperfect}
+use Rattle.bk_simple.specs.Simple.{IsCompound, IsPerfect, IsRepeated, IsSimple}
+use Rattle.bk_sym.proofs.AlikeLaws.{alike_tilings_have_one_canonical}
+use Rattle.bk_sym.proofs.CanonicalPrimitive.{canonical_primitive}
+use Rattle.bk_sym.proofs.Composing.{images_are_undone}
+use Rattle.bk_sym.proofs.GreatestImage.{every_tiling_has_a_canonical}
+use Rattle.bk_sym.proofs.Images.{images_are_tilings, in_map}
+use Rattle.bk_sym.proofs.KeptImages.{side-image_square}
+use Rattle.bk_sym.specs.Canonical.{IsCanonical, IsCanonicalOf}
+use Rattle.bk_sym.specs.Image.{image, image_square}
+use Rattle.bk_sym.specs.Turns.{undoing}
 use Rattle.bk_sym.specs.declared.Turn.{Turn}
-use Rattle.bk_sym.specs.declared.Turn.TheVariants.{FlipX, FlipY, Same, Swap}
-use Rattle.bk_normal.proofs.FewNodes.{AreFew, IsNoGreater, as_many_x, as_many_y, few_from, few_kept, fewer_across, fewer_level, first, max_same, min_same}
-use Rattle.bk_normal.proofs.FewNodes.{more_across, more_level, no_greater, second, third, three, two}
-use Rattle.bk_normal.proofs.ImageCorners.{corner_x_bottom, corner_x_left, corner_x_right, corner_x_top, corner_y_bottom, corner_y_top}
-use Rattle.bk_normal.proofs.ImageCounts.{flip_x_bottom, flip_x_left, flip_x_right, flip_x_top, flip_y_bottom, flip_y_top}
-use Rattle.bk_normal.proofs.ImageCounts.{image_order, swap_bottom, swap_left, swap_right, swap_top}
-use Rattle.bk_normal.proofs.UpendedGroups.{both_groups, groups_of}
-use Rattle.bk_normal.specs.Normal.{AreTiesSettled, EachTilingHasANormalImage, HasNormalImage, IsNormal, counts_of, is_in_bottom_corner}
-use Rattle.bk_normal.specs.Normal.{is_in_left_corner, is_in_right_corner, is_in_top_corner, longest}
+use Rattle.bk_normal.proofs.ImageCorners.{longest_ordered}
+use Rattle.bk_normal.proofs.ImageCounts.{image_order}
+use Rattle.bk_normal.proofs.EachNormalImage.{each_tiling_has_a_normal_image}
+use Rattle.bk_normal.specs.Normal.{Counts, HasNormalImage, is_in_bottom_corner, is_in_left_corner, is_in_right_corner, is_in_top_corner, longest}
+use Rattle.bk_word.specs.Word.{Word}
+use Rattle.bk_word.specs.declared.Class.{Class}
+use Rattle.bk_word.specs.declared.Class.TheVariants.{Imperfect, Perfect, Simple}
+use Rattle.bk_catalogue.proofs.Carrying.{count_mapped}
+use Rattle.bk_catalogue.proofs.PartsKept.{image_compound}
+use Rattle.bk_catalogue.specs.Catalogue.{IsMember, IsOfClass}
+use Rattle.bk_normal.proofs.NormalWords.{a_normal_tiling_has_a_normal_word}
+use Rattle.bk_normal.proofs.NumbersKept.{a_normal_tiling_has_a_normal_layout}
+use Rattle.bk_normal.specs.NormalCuts.{IsNormalWordOf}
+use Rattle.bk_normal.specs.NormalImage.{ANormalWordHasSettledCorners, AreCornersSettled}
+use Rattle.bk_normal.specs.NormalImage.{ANormalWordHasSettledCounts, ANormalWordIsSought, AreSettledCounts, EachImageIsAMembers, EachMemberIsMet}
+use Rattle.bk_normal.specs.NormalImage.{EachSimpleTilingHasANormalWord, HasNormalWord}
+use Rattle.bk_normal.specs.NormalImage.{ImagesAreSimple, IsMemberMet, IsMembersImage, IsNormalSought}
 
--- no more squares at the bottom than at the top, and where they are as many no longer one in a corner at the bottom
-record IsLevel (t : Tiling) : Type 0 where
-  level : (counts_of t).bottom ≤ (counts_of t).top
-  tie : (counts_of t).bottom ≡ (counts_of t).top → longest (is_in_bottom_corner t.width t.height) t.squares ≤ longest (is_in_top_corner t.width) t.squares
+-- a tiling with a compound image is compound
+pub images_are_simple : ImagesAreSimple
+images_are_simple t turn tiling simple compound = simple (subst IsCompound (images_are_undone t turn tiling)
+    (image_compound (image turn t) (images_are_tilings t turn tiling) compound (undoing turn)))
 
--- no more at the left than at the right, and where they are as many no longer one in a corner at the right
-record IsAcross (t : Tiling) : Type 0 where
-  across : (counts_of t).left ≤ (counts_of t).right
-  tie : (counts_of t).left ≡ (counts_of t).right → longest (is_in_right_corner t.width t.height) t.squares ≤ longest (is_in_left_corner t.height) t.squares
+-- ---- a normal image, and its word
 
--- an image of an image that is normal
-from_image : (t : Tiling) → IsTiling t → (turn : Turn) → HasNormalImage (image turn t) → HasNormalImage t
-from_image t tiling turn h = record {
-  turn = after h.turn turn;
-  normal = subst IsNormal (images_of_images t h.turn turn tiling) h.normal;
-  ties = subst AreTiesSettled (images_of_images t h.turn turn tiling) h.ties;
+pub each_simple_tiling_has_a_normal_word : EachSimpleTilingHasANormalWord
+each_simple_tiling_has_a_normal_word t tiling simple many = at (each_tiling_has_a_normal_image t tiling)
+  where
+    at : HasNormalImage t → HasNormalWord t
+    at h = with_word (a_normal_tiling_has_a_normal_word (image h.turn t) image_tiling image_simple (omega (arith, many, image_order t h.turn)) h.normal)
+      where
+        image_tiling : IsTiling (image h.turn t)
+        image_tiling = images_are_tilings t h.turn tiling
+
+        image_simple : IsSimple (image h.turn t)
+        image_simple = images_are_simple t h.turn tiling simple
+
+        with_word : (w : Word) × IsNormalWordOf (image h.turn t) w → HasNormalWord t
+        with_word (w, is) = record {
+          turn = h.turn;
+          word = w;
+          met = record {
+            tiling = image_tiling;
+            simple = image_simple;
+            normal = h.normal;
+            ties = h.ties;
+            layout = a_normal_tiling_has_a_normal_layout (image h.turn t) image_tiling h.normal;
+            is_word = is;
+          };
+        }
+
+pub a_normal_word_is_sought : ANormalWordIsSought
+a_normal_word_is_sought t w is = record {
+  complete = is.signed.complete;
+  order = is.signed.order_is;
+  keeps = is.keeps;
+  fertile = is.no_barren;
 }
 
-greater : (a b : ℕ) → a ≤ b → (max a b ≡ b) × (min a b ≡ a)
-greater a b h = (grind arith, grind arith)
+pub a_normal_word_has_settled_counts : ANormalWordHasSettledCounts
+a_normal_word_has_settled_counts u w met = subst AreSettledCounts (sym (met.is_word).counts) (record { normal = met.normal; sides = (met.ties).sides })
 
--- the tiling itself
-as_it_is : (t : Tiling) → IsTiling t → AreFew t → IsLevel t → IsAcross t → HasNormalImage t
-as_it_is t tiling f l a = record {
-  turn = Same;
-  normal = subst IsNormal (sym (image-Same t tiling)) (record {
-    few = f.few;
-    half = λ h. omega (arith, f.more h, right.0, top.0);
-    level = l.level;
-    across = a.across;
-  });
-  ties = subst AreTiesSettled (sym (image-Same t tiling)) (record {
-    sides = λ h e. omega (arith, f.fewer h (most e), right.1, top.1);
-    size = λ h e g. f.size h (most e) (omega (arith, g, right.1, top.1));
-    level = l.tie;
-    across = a.tie;
-  });
-}
+pub a_normal_word_has_settled_corners : ANormalWordHasSettledCorners
+a_normal_word_has_settled_corners u w squares met same = subst (λ (c : Counts). AreCornersSettled c u.width u.height squares) (sym
+    (met.is_word).counts) (record {
+      size = (met.ties).size;
+      level = λ e. omega (
+        arith,
+        (met.ties).level e,
+        placed (is_in_bottom_corner u.width u.height),
+        placed (is_in_top_corner u.width),
+      );
+      across = λ e. omega (
+        arith,
+        (met.ties).across e,
+        placed (is_in_right_corner u.width u.height),
+        placed (is_in_left_corner u.height),
+      );
+    })
   where
-    right : (more_across t ≡ (counts_of t).right) × (fewer_across t ≡ (counts_of t).left)
-    right = greater (counts_of t).left (counts_of t).right a.across
+    placed : (test : Square → Bool) → longest test u.squares ≡ longest test squares
+    placed test = ap (longest test) (sym same) ∙ longest_ordered test squares
 
-    max_turned_in : (a b : ℕ) → a ≤ b → (max b a ≡ b) × (min b a ≡ a)
-    max_turned_in a b h = (grind arith, grind arith)
+-- ---- the images of a member
 
-    top : (more_level t ≡ (counts_of t).top) × (fewer_level t ≡ (counts_of t).bottom)
-    top = max_turned_in (counts_of t).bottom (counts_of t).top l.level
+-- each image has as many squares of each side
+image_sides : (t : Tiling) (turn : Turn) (side : ℕ) → count_by (λ q. q.s == side) (image turn t).squares ≡ count_by (λ q. q.s == side) t.squares
+image_sides t turn side = in_code_order-count (λ q. q.s == side) (map (image_square turn t.width t.height) t.squares)
+    ∙ count_mapped (image_square turn t.width t.height) (λ q. q.s == side) (λ q. q.s == side) t.squares
+    (λ q h. ap (λ (n : ℕ). n == side) (side-image_square turn t.width t.height q))
 
-    most : (counts_of t).right ≡ (counts_of t).top → more_across t ≡ more_level t
-    most e = omega (arith, e, right.0, top.0)
-
--- left and right exchanged, or not
-flip_across : (t : Tiling) → IsTiling t → AreFew t → IsLevel t → HasNormalImage t
-flip_across t tiling f l = cases (three (counts_of t).left (counts_of t).right)
-    (two (longest (is_in_right_corner t.width t.height) t.squares) (longest (is_in_left_corner t.height) t.squares))
+image_perfect : (t : Tiling) (turn : Turn) → IsPerfect t → IsPerfect (image turn t)
+image_perfect t turn perfect i j d before below e = imperfect t side (omega (arith, twice, image_sides t turn side)) perfect
   where
-    flipped : IsAcross (image FlipX t) → HasNormalImage t
-    flipped a = from_image t tiling FlipX (as_it_is (image FlipX t) (images_are_tilings t FlipX tiling)
-        (few_kept t (image FlipX t) (as_many_x t tiling) f)
-        (record {
-          level = omega (arith, l.level, flip_x_top t tiling, flip_x_bottom t tiling);
-          tie = λ e. omega (
-            arith,
-            l.tie (omega (arith, e, flip_x_top t tiling, flip_x_bottom t tiling)),
-            corner_x_top t tiling,
-            corner_x_bottom t tiling,
-          );
-        })
-        a)
+    side : ℕ
+    side = (get_or (image turn t).squares i d).s
 
-    cases : ((counts_of t).left < (counts_of t).right) ⊎ (((counts_of t).right < (counts_of t).left) ⊎ ((counts_of t).left ≡ (counts_of t).right))
-        → (longest (is_in_right_corner t.width t.height) t.squares ≤ longest (is_in_left_corner t.height) t.squares)
-        ⊎ (longest (is_in_left_corner t.height) t.squares ≤ longest (is_in_right_corner t.width t.height) t.squares) → HasNormalImage t
-    cases (inl h) o = as_it_is t tiling f l (record { across = omega (arith, h); tie = λ e. absurd (omega (arith, h, e)) })
-    cases (inr (inl h)) o = flipped (record {
-      across = omega (arith, h, flip_x_left t tiling, flip_x_right t tiling);
-      tie = λ e. absurd (omega (arith, h, e, flip_x_left t tiling, flip_x_right t tiling));
-    })
-    cases (inr (inr h)) (inl o) = as_it_is t tiling f l (record { across = omega (arith, h); tie = λ e. o })
-    cases (inr (inr h)) (inr o) = flipped (record {
-      across = omega (arith, h, flip_x_left t tiling, flip_x_right t tiling);
-      tie = λ e. omega (arith, o, corner_x_left t tiling, corner_x_right t tiling);
-    })
+    twice : IsRepeated (image turn t) side
+    twice = count_two (λ q. q.s == side) (image turn t).squares i j d before below (eq-eqb side side refl)
+        (eq-eqb (get_or (image turn t).squares j d).s side (sym e))
 
--- top and bottom exchanged before, or not
-flip_level : (t : Tiling) → IsTiling t → AreFew t → HasNormalImage t
-flip_level t tiling f = cases (three (counts_of t).bottom (counts_of t).top)
-    (two (longest (is_in_bottom_corner t.width t.height) t.squares) (longest (is_in_top_corner t.width) t.squares))
+image_class : (class : Class) (t : Tiling) (turn : Turn) → IsTiling t → IsOfClass class t → IsOfClass class (image turn t)
+image_class Perfect t turn tiling perfect = image_perfect t turn perfect
+image_class Imperfect t turn tiling not =
+    λ perfect. not (subst IsPerfect (images_are_undone t turn tiling) (image_perfect (image turn t) (undoing turn) perfect))
+image_class Simple t turn tiling any = tt
+
+-- a number that divides all sides of the image divides all sides of the tiling
+image_primitive : (t : Tiling) (turn : Turn) → IsPrimitiveTiling t → IsPrimitiveTiling (image turn t)
+image_primitive t turn primitive d all = primitive d (all_from (λ q. (m : ℕ) × (q.s ≡ d * m)) t.squares each)
   where
-    flipped : IsLevel (image FlipY t) → HasNormalImage t
-    flipped l = from_image t tiling FlipY (flip_across (image FlipY t) (images_are_tilings t FlipY tiling)
-        (few_kept t (image FlipY t) (as_many_y t tiling) f) l)
+    each : (q : Square) → IsOneOf q t.squares → (m : ℕ) × (q.s ≡ d * m)
+    each q h = let e = in_all (λ r. (m : ℕ) × (r.s ≡ d * m)) (image turn t).squares all (image_square turn t.width t.height q)
+        (in_order (map (image_square turn t.width t.height) t.squares) (image_square turn t.width t.height q)
+        (in_map (image_square turn t.width t.height) t.squares q h)) in
+        (e.0, sym (side-image_square turn t.width t.height q) ∙ e.1)
 
-    cases : ((counts_of t).bottom < (counts_of t).top) ⊎ (((counts_of t).top < (counts_of t).bottom) ⊎ ((counts_of t).bottom ≡ (counts_of t).top))
-        → (longest (is_in_bottom_corner t.width t.height) t.squares ≤ longest (is_in_top_corner t.width) t.squares)
-        ⊎ (longest (is_in_top_corner t.width) t.squares ≤ longest (is_in_bottom_corner t.width t.height) t.squares) → HasNormalImage t
-    cases (inl h) o = flip_across t tiling f (record { level = omega (arith, h); tie = λ e. absurd (omega (arith, h, e)) })
-    cases (inr (inl h)) o = flipped (record {
-      level = omega (arith, h, flip_y_top t tiling, flip_y_bottom t tiling);
-      tie = λ e. absurd (omega (arith, h, e, flip_y_top t tiling, flip_y_bottom t tiling));
-    })
-    cases (inr (inr h)) (inl o) = flip_across t tiling f (record { level = omega (arith, h); tie = λ e. o })
-    cases (inr (inr h)) (inr o) = flipped (record {
-      level = omega (arith, h, flip_y_top t tiling, flip_y_bottom t tiling);
-      tie = λ e. omega (arith, o, corner_y_top t tiling, corner_y_bottom t tiling);
-    })
+-- a canonical tiling is that of each of its images
+image_canonical : (t : Tiling) (turn : Turn) → IsTiling t → IsCanonical t → IsCanonicalOf (image turn t) t
+image_canonical t turn tiling own = at (every_tiling_has_a_canonical (image turn t) (images_are_tilings t turn tiling))
+  where
+    at : (c : Tiling) × IsCanonicalOf (image turn t) c → IsCanonicalOf (image turn t) t
+    at (c, of) = subst (IsCanonicalOf (image turn t)) (sym (alike_tilings_have_one_canonical t (image turn t) t c turn tiling
+        (images_are_tilings t turn tiling) (1, 1, omega arith, omega arith, refl) own of)) of
 
--- the tiling, or it with columns and levels exchanged
-module _ (t : Tiling) (tiling : IsTiling t) where
-  turned : IsTiling (image Swap t)
-  turned = images_are_tilings t Swap tiling
+module _ (n : ℕ) (class : Class) (t : Tiling) (member : IsMember n class t) where
+  members_image : (turn : Turn) → IsMembersImage n class t (image turn t)
+  members_image turn = record {
+    tiling = images_are_tilings t turn member.tiling;
+    order_is = image_order t turn ∙ member.order;
+    simple = images_are_simple t turn member.tiling member.simple;
+    of_class = image_class class t turn member.tiling member.class;
+    primitive = image_primitive t turn (canonical_primitive t member.tiling member.canonical);
+    canonical = image_canonical t turn member.tiling member.canonical;
+  }
 
-  swapped : IsNoGreater (more_level t) (fewer_level t) t.width (more_across t) (fewer_across t) t.height
-      → IsNoGreater (more_across (image Swap t)) (fewer_across (image Swap t)) t.width (more_level (image Swap t)) (fewer_level (image Swap t)) t.height
-  swapped h = same h
-    where
-      across : (more_across (image Swap t) ≡ more_level t) × (fewer_across (image Swap t) ≡ fewer_level t)
-      across = (
-        max_same (counts_of t).top (counts_of t).bottom (counts_of (image Swap t)).left (counts_of (image Swap t)).right
-            (swap_left t tiling) (swap_right t tiling),
-        min_same (counts_of t).top (counts_of t).bottom (counts_of (image Swap t)).left (counts_of (image Swap t)).right
-            (swap_left t tiling) (swap_right t tiling),
-      )
+pub each_image_is_a_members : EachImageIsAMembers
+each_image_is_a_members n class t turn member = members_image n class t member turn
 
-      level : (more_level (image Swap t) ≡ more_across t) × (fewer_level (image Swap t) ≡ fewer_across t)
-      level = (
-        max_same (counts_of t).left (counts_of t).right (counts_of (image Swap t)).top (counts_of (image Swap t)).bottom
-            (swap_top t tiling) (swap_bottom t tiling),
-        min_same (counts_of t).left (counts_of t).right (counts_of (image Swap t)).top (counts_of (image Swap t)).bottom
-            (swap_top t tiling) (swap_bottom t tiling),
-      )
-
-      same : IsNoGreater (more_level t) (fewer_level t) t.width (more_across t) (fewer_across t) t.height
-          → IsNoGreater (more_across (image Swap t)) (fewer_across (image Swap t)) t.width (more_level (image Swap t)) (fewer_level (image Swap t)) t.height
-      same (first a) = first (omega (arith, a, across.0, level.0))
-      same (second a b) = second (omega (arith, a, across.0, level.0)) (omega (arith, b, across.1, level.1))
-      same (third a b c) = third (omega (arith, a, across.0, level.0)) (omega (arith, b, across.1, level.1)) c
-
-  -- the nodes of both are at most three more than the squares
-  which : (2 * (groups_of t + 1) < order t + 3) ⊎ ((2 * (groups_of (image Swap t) + 1) < order t + 3)
-      ⊎ ((2 * (groups_of t + 1) ≡ order t + 3) × (2 * (groups_of (image Swap t) + 1) ≡ order t + 3)))
-  which = one_of (2 * (groups_of t + 1)) (2 * (groups_of (image Swap t) + 1)) (order t + 3) (omega (arith, both_groups t tiling))
-    where
-      one_of : (a b n : ℕ) → a + b ≤ 2 * n → (a < n) ⊎ ((b < n) ⊎ ((a ≡ n) × (b ≡ n)))
-      one_of a b n h = grind arith
-
-  normal_image : HasNormalImage t
-  normal_image = cases which (no_greater (more_across t) (fewer_across t) t.height (more_level t) (fewer_level t) t.width)
-    where
-      fewer : (u : Tiling) → 2 * (groups_of u + 1) < order u + 3 → AreFew u
-      fewer u h = record {
-        few = omega (arith, h);
-        more = λ e. absurd (omega (arith, h, e));
-        fewer = λ e. absurd (omega (arith, h, e));
-        size = λ e. absurd (omega (arith, h, e));
-      }
-
-      cases : (2 * (groups_of t + 1) < order t + 3) ⊎ ((2 * (groups_of (image Swap t) + 1) < order t + 3)
-          ⊎ ((2 * (groups_of t + 1) ≡ order t + 3) × (2 * (groups_of (image Swap t) + 1) ≡ order t + 3)))
-          → IsNoGreater (more_across t) (fewer_across t) t.height (more_level t) (fewer_level t) t.width
-          ⊎ IsNoGreater (more_level t) (fewer_level t) t.width (more_across t) (fewer_across t) t.height → HasNormalImage t
-      cases (inl h) o = flip_level t tiling (fewer t h)
-      cases (inr (inl h)) o = from_image t tiling Swap (flip_level (image Swap t) turned (fewer (image Swap t) (omega (arith, h, image_order t Swap))))
-      cases (inr (inr h)) (inl o) = flip_level t tiling (few_from t (omega (arith, h.0)) o)
-      cases (inr (inr h)) (inr o) = from_image t tiling Swap (flip_level (image Swap t) turned
-          (few_from (image Swap t) (omega (arith, h.1, image_order t Swap)) (swapped o)))
-
--- the law
-pub each_tiling_has_a_normal_image : EachTilingHasANormalImage
-each_tiling_has_a_normal_image t tiling = normal_image t tiling
+pub each_member_is_met : EachMemberIsMet
+each_member_is_met n class t many member =
+    at (each_simple_tiling_has_a_normal_word t member.tiling member.simple (omega (arith, many, member.order)))
+  where
+    at : HasNormalWord t → IsMemberMet n class t
+    at h = record {
+      turn = h.turn;
+      word = h.word;
+      met = h.met;
+      image_is = members_image n class t member h.turn;
+      sought = subst (λ (k : ℕ). IsNormalSought k h.word) (image_order t h.turn ∙ member.order)
+          (a_normal_word_is_sought (image h.turn t) h.word (h.met).is_word);
+    }

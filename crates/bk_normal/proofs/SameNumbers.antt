@@ -4,7 +4,7 @@ use Rattle.std.proofs.Common.{true, zero, ℕ, ◌+◌, ◌∷◌, ◌≡◌}
 use Rattle.bk_laws.proofs.NoneRepeated.{NoneRepeated, no_longer}
 use Rattle.bk_laws.proofs.NoneRepeated as none
 use Rattle.bk_word.specs.Play.{numbers_from}
-use Rattle.bk_tiling_layout.proofs.Ascending.{IsIn, filter_from, get_in, in_numbers}
+use Rattle.bk_layout.proofs.Ascending.{IsIn, filter_from, get_in, in_numbers}
 
 -- none stands behind itself
 abbrev pub Once : List ℕ → Type 0

@@ -1,6 +1,6 @@
 -- Normal tilings: those of few moves, and with no fewer squares at the top than at the bottom and at the right than at the left. Each
 -- tiling has a normal image, so a search for tilings may pass over the others. Statements alone; they are proved apart.
--- Example (NormalExamples): the rectangle 33x32 has 9 squares, 5 moves, 2 squares at the top and at the left and 3 at the bottom and at
+-- Example (CountExamples): the rectangle 33x32 has 9 squares, 5 moves, 2 squares at the top and at the left and 3 at the bottom and at
 -- the right. It isn't normal, but its image with top and bottom exchanged is.
 use Rattle.std.specs.Prelude.{Bool, List, [], cond, count_by, length, max, ℕ, ◌&&◌, ◌*◌, ◌+◌, ◌==◌, ◌||◌, ◌∷◌, ◌≡◌, ◌≤◌}
 use Rattle.bk_tiling.specs.SquareGroups.{square_groups}

@@ -1,36 +1,28 @@
--- The counts of a layout, and that the layout of a tiling has those of the tiling. Statements alone; they are proved apart.
--- Example (NormalExamples): the layout of the rectangle 3x2 of squares 2, 1, 1 has 3 squares, 2 moves, 2 squares at the top, the
--- bottom and the right, and 1 at the left.
-use Rattle.std.specs.Prelude.{count_by, length, ℕ, ◌+◌, ◌<◌, ◌==◌, ◌↔◌, ◌≡◌}
+-- Normal layouts: those with the counts of a normal tiling, of which each tiling has an image. The counts stay where squares are reversed, so
+-- that a layout with a word by rule R is normal where the tiling's is. Statements alone; each is proved apart.
+-- Example (NormalExamples): the layout of the rectangle 3x2 of the squares 2, 1, 1, with two squares at the top and two at the
+-- bottom, one at the left and two at the right, and two moves, is normal.
+use Rattle.std.specs.Prelude.{ℕ, ◌<◌, ◌↔◌, ◌≡◌}
 use Rattle.bk_tiling.specs.Tiling.{IsTiling, Tiling}
-use Rattle.bk_word.specs.Play.{numbers_from}
-use Rattle.bk_layout.specs.Layout.{Layout}
-use Rattle.bk_tiling_layout.specs.TilingLayout.{layout_of, square_of}
-use Rattle.bk_normal.specs.Normal.{Counts, counts_of}
+use Rattle.bk_layout.specs.Layout.{Fits, Layout}
+use Rattle.bk_layout.specs.TilingLayout.{layout_of}
+use Rattle.bk_normal.specs.Normal.{AreNormal, IsNormal}
+use Rattle.bk_normal.specs.LayoutCounts.{counts_of_layout}
+use Rattle.bk_layout.specs.Reversal.{IsUpToReversals}
+use Rattle.bk_net_word.specs.FreeCuts.{AreOuterWalls}
 
--- those of a layout: what hangs from the top and what ends on the bottom, and the squares with the left wall, the line 0, at their left
--- and with the right wall, the line 1, at their right
-abbrev pub counts_of_layout : Layout → Counts
-counts_of_layout l = record {
-  squares = l.squares;
-  moves = l.bottom;
-  top = length (l.hanging 0);
-  bottom = length (l.ending l.bottom);
-  left = count_by (λ q. l.left q == 0) (numbers_from 0 l.squares);
-  right = count_by (λ q. l.right q == 1) (numbers_from 0 l.squares);
-}
+abbrev pub IsNormalLayout : Layout → Type 0
+IsNormalLayout l = AreNormal (counts_of_layout l)
 
--- the layout of a tiling has the tiling's counts
-abbrev pub TheLayoutHasTheCounts : Type 0
-TheLayoutHasTheCounts = (t : Tiling) → IsTiling t → counts_of_layout (layout_of t) ≡ counts_of t
+-- the layout of a normal tiling is normal
+abbrev pub ANormalTilingHasANormalLayout : Type 0
+ANormalTilingHasANormalLayout = (t : Tiling) → IsTiling t → IsNormal t → IsNormalLayout (layout_of t)
 
--- which squares of the layout lie at the sides: those from the top, those on the bottom, those at the walls
-pub record AreSidesOf (t : Tiling) (l : Layout) : Type 0 where
-  pub top : (q : ℕ) → q < l.squares → (l.above q ≡ 0) ↔ ((square_of t q).y ≡ 0)
-  pub bottom : (q : ℕ) → q < l.squares → (l.below q ≡ l.bottom) ↔ ((square_of t q).y + (square_of t q).s ≡ t.height)
-  pub left : (q : ℕ) → q < l.squares → (l.left q ≡ 0) ↔ ((square_of t q).x ≡ 0)
-  pub right : (q : ℕ) → q < l.squares → (l.right q ≡ 1) ↔ ((square_of t q).x + (square_of t q).s ≡ t.width)
+-- the counts of m are those of l, and the squares at each wall are the same
+pub record HasCountsOf (l m : Layout) : Type 0 where
+  pub counts : counts_of_layout m ≡ counts_of_layout l
+  pub at_left : (q : ℕ) → q < l.squares → (m.left q ≡ 0) ↔ (l.left q ≡ 0)
+  pub at_right : (q : ℕ) → q < l.squares → (m.right q ≡ 1) ↔ (l.right q ≡ 1)
 
--- and its squares lie at the sides at which the tiling's lie
-abbrev pub TheLayoutHasTheSides : Type 0
-TheLayoutHasTheSides = (t : Tiling) → IsTiling t → AreSidesOf t (layout_of t)
+abbrev pub ReversalsKeepCounts : Type 0
+ReversalsKeepCounts = (l m : Layout) → Fits l → AreOuterWalls l → Fits m → AreOuterWalls m → IsUpToReversals l m → HasCountsOf l m

@@ -1,12 +1,11 @@
 -- Ascending numbers: their lower half, and the place of one more.
 use Rattle.std.specs.List.{AllByRecursion}
-use Rattle.std.proofs.Common.{Contains, IsSome, IsSomeAnd, List, None, Option, Some, [], ap, arith, drop, inl, inr, length, length-append, refl}
+use Rattle.std.proofs.Common.{Contains, List, [], ap, arith, drop, inl, inr, length, length-append, refl}
 use Rattle.std.proofs.Common.{slice_index, subst}
-use Rattle.std.proofs.Common.{suc, sym, take, zero, ℕ, ◌++◌, ◌+◌, ◌/◌, ◌<◌, ◌∙◌, ◌∷◌, ◌≡◌, ◌≤◌, ◌⊎◌, ◌↔◌}
+use Rattle.std.proofs.Common.{suc, sym, take, zero, ℕ, ◌++◌, ◌+◌, ◌/◌, ◌<◌, ◌∷◌, ◌≡◌, ◌≤◌, ◌⊎◌, ◌↔◌}
 use Rattle.std.proofs.lemmas.List.{take-append-drop}
-use Rattle.std.proofs.lemmas.List.Elements.{All-contains, All-from_recursion, All-get_or, Contains-append_cases, Contains-append_left}
-use Rattle.std.proofs.lemmas.List.Elements.{Contains-push, Contains-push_cases}
-use Rattle.bk_packed.specs.Kept.{AreAscendingNumbers, HasMoreDifferent, Holds, IsBeyond, IsKeptTable, Numbers}
+use Rattle.std.proofs.lemmas.List.Elements.{All-contains, All-from_recursion, All-get_or}
+use Rattle.bk_packed.specs.Kept.{AreAscendingNumbers}
 
 -- ---- lists of numbers all of which pass a test
 

@@ -1,5 +1,5 @@
 -- The digits of a number are read back.
-use Rattle.std.proofs.Common.{List, [], ap, arith, length, slice_index, suc, sym, zero, ℕ, ◌%◌, ◌*◌, ◌+◌, ◌-◌, ◌/◌, ◌<◌, ◌^◌, ◌∙◌, ◌∷◌, ◌≡◌, ◌≤◌}
+use Rattle.std.proofs.Common.{List, [], ap, arith, length, slice_index, suc, zero, ℕ, ◌%◌, ◌*◌, ◌+◌, ◌-◌, ◌/◌, ◌<◌, ◌^◌, ◌∙◌, ◌∷◌, ◌≡◌, ◌≤◌}
 use Rattle.std.proofs.lemmas.Nat.{div-mul-add, pow-add}
 use Rattle.std.proofs.Math.Nat.{add-mul-div_right, div-eq_of_lt, one-le-pow, pow-succ'}
 use Rattle.bk_packed.specs.Packed.{AreDigits, begun_by, digit_at}

@@ -1,8 +1,6 @@
 -- The first of ascending numbers that isn't below a bound.
-use Rattle.std.proofs.Common.{Contains, IsTrue, List, [], arith, drop, inl, inr, length, nat_lt, slice_index, subst, suc, take, zero, ℕ}
-use Rattle.std.proofs.Common.{◌<◌, ◌∷◌, ◌≡◌, ◌≤◌, ◌⊎◌}
-use Rattle.std.proofs.lemmas.Bool.{cases_lt}
-use Rattle.std.proofs.lemmas.Bool.Decides.{nat_tests}
+use Rattle.std.proofs.Common.{Contains, List, [], arith, drop, length, slice_index, subst, suc, take, zero, ℕ}
+use Rattle.std.proofs.Common.{◌<◌, ◌∷◌, ◌≡◌, ◌≤◌}
 use Rattle.std.proofs.lemmas.List.{drop_more}
 use Rattle.bk_packed.specs.Kept.{AreAscendingNumbers, IsFirstFrom, IsPlaceOf}
 use Rattle.bk_packed.proofs.AscendingNumbers.{All, all_again, all_map, no_less_from}

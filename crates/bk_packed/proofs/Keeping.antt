@@ -1,10 +1,10 @@
 -- Numbers that are kept: one put behind them, and the upper half of those that ascend dropped.
 use Rattle.std.proofs.Common.{Contains, IsSome, IsSomeAnd, List, None, Option, Some, [], arith, drop, inl, inr, length, refl, slice_index, subst}
-use Rattle.std.proofs.Common.{suc, sym, take, zero, ℕ, ◌++◌, ◌+◌, ◌/◌, ◌<◌, ◌∙◌, ◌∷◌, ◌≡◌, ◌≤◌, ◌⊎◌, ◌↔◌}
+use Rattle.std.proofs.Common.{suc, sym, take, zero, ℕ, ◌++◌, ◌+◌, ◌/◌, ◌<◌, ◌∙◌, ◌∷◌, ◌≡◌, ◌≤◌, ◌⊎◌}
 use Rattle.std.proofs.lemmas.List.{take-append-drop}
 use Rattle.std.proofs.lemmas.List.Elements.{All-contains, All-from_recursion, Contains-append_cases, Contains-append_left}
 use Rattle.std.proofs.lemmas.List.Elements.{Contains-push, Contains-push_cases}
-use Rattle.bk_packed.specs.Kept.{AreAscendingNumbers, HasMoreDifferent, Holds, IsBeyond, IsKeptTable, Numbers}
+use Rattle.bk_packed.specs.Kept.{AreAscendingNumbers, HasMoreDifferent, Holds, IsKeptTable, Numbers}
 use Rattle.bk_packed.proofs.AscendingNumbers.{All, AreSame, IsNewPlace, all_from, all_join, all_map, all_one, all_same, from_place, least_below, long_one}
 use Rattle.bk_packed.proofs.AscendingNumbers.{low_half, one_ascends, place_in, with_one}
 

@@ -1,6 +1,6 @@
 -- The digits of a word's next move, and a move from its digits.
 use Rattle.std.proofs.Common.{List, Some, ap, arith, length, length-append, map, slice_get, slice_index, slice_index_or, subst, suc, sym, take, zero, ℕ, ◌%◌}
-use Rattle.std.proofs.Common.{[], ◌*◌, ◌++◌, ◌+◌, ◌-◌, ◌/◌, ◌<◌, ◌∙◌, ◌∷◌, ◌≡◌, ◌≤◌, ◌↔◌}
+use Rattle.std.proofs.Common.{[], ◌*◌, ◌++◌, ◌+◌, ◌-◌, ◌/◌, ◌<◌, ◌∙◌, ◌∷◌, ◌≡◌, ◌≤◌}
 use Rattle.std.proofs.lemmas.List.{length-map}
 use Rattle.std.proofs.lemmas.Option.{slice_get-get_or}
 use Rattle.bk_word.specs.Outline.{start}

@@ -1,17 +1,17 @@
 -- A number has the digits of one word: so its moves are read back, and words that share them begin alike.
-use Rattle.std.proofs.Common.{List, Some, [], ap, append_assoc, arith, drop, get_or, inl, inr, length, length-append, map, refl, slice_get}
+use Rattle.std.proofs.Common.{List, [], ap, arith, drop, inl, inr, length, length-append, map, refl}
 use Rattle.std.proofs.Common.{slice_index, subst, suc, sym}
-use Rattle.std.proofs.Common.{take, zero, ℕ, ◌%◌, ◌++◌, ◌+◌, ◌-◌, ◌/◌, ◌<◌, ◌∙◌, ◌∷◌, ◌≡◌, ◌≤◌, ◌⊎◌}
+use Rattle.std.proofs.Common.{take, zero, ℕ, ◌++◌, ◌+◌, ◌-◌, ◌<◌, ◌∙◌, ◌∷◌, ◌≡◌, ◌≤◌, ◌⊎◌}
 use Rattle.std.proofs.lemmas.List.{get_or-append-add, get_or_append_left, length-map, take-append-drop}
 use Rattle.bk_word.specs.Outline.{IsLegalMove, Outline, start}
 use Rattle.bk_word.specs.Play.{AreLegalFrom, IsLegal, after_move, outline_of}
 use Rattle.bk_word.specs.Word.{Move, Word, order_of, sign_place}
 use Rattle.bk_word.specs.declared.Sign.{Sign}
 use Rattle.bk_word.specs.declared.Sign.TheVariants.{Above, Even, Under}
-use Rattle.bk_word.proofs.PlayLaws.{few_signs, legal_front, legal_rest}
+use Rattle.bk_word.proofs.PlayLaws.{legal_front, legal_rest}
 use Rattle.bk_word.proofs.StoredBytes.{order_append, order_more}
-use Rattle.bk_packed.specs.Packed.{AreDigits, digit_at, move_digits, packed, word_digits}
-use Rattle.bk_packed.specs.Reading.{GoesOnByNumber, HasDigits, IsSharedFront}
+use Rattle.bk_packed.specs.Packed.{digit_at, move_digits, packed, word_digits}
+use Rattle.bk_packed.specs.Reading.{HasDigits, IsSharedFront}
 use Rattle.bk_packed.proofs.DigitsBack.{digit_back}
 use Rattle.bk_packed.proofs.WordDigits.{are_digits, digits_join, few_digits, low_counts}
 

@@ -1,6 +1,6 @@
 -- The digits of a number, and words that begin alike.
-use Rattle.std.proofs.Common.{List, [], ap, arith, refl, slice_index, suc, zero, ℕ, ◌+◌, ◌<◌, ◌∷◌, ◌≡◌, ◌++◌}
-use Rattle.bk_word.specs.Word.{Move, Word}
+use Rattle.std.proofs.Common.{[], ap, arith, refl, suc, zero, ℕ, ◌+◌, ◌∷◌, ◌≡◌, ◌++◌}
+use Rattle.bk_word.specs.Word.{Word}
 use Rattle.bk_word.specs.declared.Sign.TheVariants.{Above, Under}
 use Rattle.bk_packed.specs.Packed.{packed}
 use Rattle.bk_packed.specs.Reading.{HasDigits, IsSharedFront}

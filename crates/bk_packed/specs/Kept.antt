@@ -3,7 +3,7 @@
 -- Examples (KeptExamples): a table that keeps 3, 5 and 8 and dropped 9 holds 5, and 9, from which on it keeps none, and not 4. There
 -- the place of 5 is 1, and the first from 4 on is 5. Of 3, 5, 3 and 8 there are more different ones than two, and not more than three.
 use Rattle.std.specs.List.{AllByRecursion}
-use Rattle.std.specs.Prelude.{Contains, IfSome, List, Option, Some, [], drop, length, take, ℕ, ⊤, ◌<◌, ◌∷◌, ◌≡◌, ◌≤◌, ◌⊎◌}
+use Rattle.std.specs.Prelude.{Contains, List, Option, Some, [], drop, length, take, ℕ, ⊤, ◌<◌, ◌∷◌, ◌≡◌, ◌≤◌, ◌⊎◌}
 
 -- the numbers, and the least that was dropped, if one was
 pub record Numbers : Type 0 where

@@ -14,7 +14,7 @@ ghost use Rattle.bk_packed.specs.Laid.{HasDigitsOf};
 use crate::digits::{MOST_DIGITS, number_of, push_count, push_digits, push_signs};
 use arrayvec::ArrayVec;
 use bk_lay::Turns;
-use bk_skel::Skel;
+use bk_skeleton::Skel;
 use bk_tiling::Tiling;
 use bk_word::{Move, Word};
 use std::cmp::Ordering;
@@ -22,7 +22,7 @@ use std::marker::Model;
 
 /// A legal word of at most 16 squares packed into one number: four bits for the count of each move, less one, and two for each
 /// of its signs, from the top of 128 bits. Among words of one order the numbers compare as the words do. (Own.)
-#[derive(Clone, Copy, Debug, Default, Drop)]
+#[derive(Clone, Copy, Drop)]
 pub struct Packed {
     number: u128,
 }

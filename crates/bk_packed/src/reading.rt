@@ -9,7 +9,7 @@ ghost use Rattle.bk_packed.specs.Reading.{GoesOnByNumber, HasDigits, IsSharedFro
 
 use crate::digits::{digit_at, place_of, sign_of};
 use arrayvec::ArrayVec;
-use bk_skel::{Skel, open_side};
+use bk_skeleton::{Skel, open_side};
 use bk_word::{MOST_SIGNS, Move, Sign};
 
 /// With how many of the skeleton's moves the legal word of this number begins that has at least as many squares, at most 16: all up to

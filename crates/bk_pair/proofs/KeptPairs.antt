@@ -1,6 +1,6 @@
 -- Two kept tilings: whether they can be laid together, and whether they join.
 use Rattle.std.specs.Prelude.{Bool, count_by, false, max, nat_le, not, true}
-use Rattle.std.proofs.Common.{List, ap, arith, cond, inl, inr, length, refl, subst, sym, ℕ, ◌&&◌, ◌+◌, ◌<◌, ◌==◌, ◌∙◌, ◌≡◌, ◌≢◌, ◌≤◌, ◌⊎◌, ◌↔◌}
+use Rattle.std.proofs.Common.{List, ap, arith, inl, inr, length, refl, sym, ℕ, ◌&&◌, ◌+◌, ◌<◌, ◌==◌, ◌∙◌, ◌≡◌, ◌≢◌, ◌≤◌, ◌⊎◌, ◌↔◌}
 use Rattle.std.proofs.lemmas.Bool.{and_parts, cases_Bool, true≢false}
 use Rattle.std.proofs.lemmas.Bool.Decides.{nat_tests}
 use Rattle.bk_tiling.proofs.OrderLaws.{in_code_order-count, in_code_order-length}

@@ -1,17 +1,17 @@
 -- Two tilings of one size join to a perfect square exactly where each stands apart and they have no side in common; and by the conditions of a pair.
-use Rattle.std.specs.Prelude.{Bool, count_by, false, get_or, max, true}
-use Rattle.std.proofs.Common.{List, [], ap, arith, cond, inl, inr, length, refl, subst, sym, ℕ, ◌++◌, ◌+◌, ◌<◌, ◌==◌, ◌∙◌, ◌∷◌, ◌≡◌, ◌≢◌, ◌≤◌, ◌⊎◌}
+use Rattle.std.specs.Prelude.{count_by, get_or, true}
+use Rattle.std.proofs.Common.{List, [], ap, arith, cond, inl, inr, refl, subst, sym, ℕ, ◌++◌, ◌+◌, ◌<◌, ◌==◌, ◌∙◌, ◌∷◌, ◌≡◌, ◌≤◌, ◌⊎◌}
 use Rattle.std.proofs.lemmas.Bool.{cases_Bool, eq-eqb, eqb-true}
 use Rattle.std.proofs.lemmas.List.Sums.{sum_by-append, sum_by-cons}
 use Rattle.bk_laws.proofs.Counts.{count_two}
-use Rattle.bk_tiling.specs.Tiling.{Tiling, order, sides_of}
+use Rattle.bk_tiling.specs.Tiling.{Tiling, sides_of}
 use Rattle.bk_tiling.specs.declared.Square.{Square}
 use Rattle.bk_simple.proofs.Repeats.{imperfect}
 use Rattle.bk_simple.specs.Simple.{IsPerfect}
 use Rattle.bk_pair.proofs.PairTests.{apart_from_counts, once_each}
 use Rattle.bk_pair.proofs.SharedSides.{count_sides}
 use Rattle.bk_pair.specs.OwnSides.{HasSide, HaveCommonSide, MeetConditions, PairsByConditions, own_sides, stands_apart}
-use Rattle.bk_pair.specs.Pair.{AreOneSize, ArePair, CanBeLaid, pair_sides}
+use Rattle.bk_pair.specs.Pair.{AreOneSize, ArePair, pair_sides}
 use Rattle.bk_pair.specs.PairTest.{no_twice}
 
 -- how often a side is a number: once or never

@@ -1,6 +1,6 @@
 -- Sides as the bits of a number.
 use Rattle.std.specs.Int.{bit_at, trailing_zeros}
-use Rattle.std.specs.Prelude.{get_or, min, refl}
+use Rattle.std.specs.Prelude.{min, refl}
 use Rattle.std.proofs.Common.{List, arith, bit_and, bit_or, inl, inr, length, subst, sym, w64, ℕ, ◌%◌, ◌*◌, ◌<◌, ◌==◌, ◌^◌, ◌∙◌, ◌≡◌, ◌≢◌, ◌⊎◌}
 use Rattle.std.proofs.lemmas.Bool.{eq-eqb}
 use Rattle.std.proofs.lemmas.Nat.{and_le_l}

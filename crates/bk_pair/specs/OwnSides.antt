@@ -1,6 +1,6 @@
 -- What is asked of a tiling for itself, and of two tilings for their sides, where they join to a perfect square.
 -- Example (PairExamples): [2,1][1] has the side 1 twice, and the rectangle 33x32 stands apart; both have a side 1.
-use Rattle.std.specs.Prelude.{Bool, List, [], count_by, max, ℕ, ◌++◌, ◌+◌, ◌==◌, ◌∷◌, ◌≡◌, ◌≢◌, ◌≤◌, ◌↔◌}
+use Rattle.std.specs.Prelude.{Bool, List, [], count_by, max, ℕ, ◌++◌, ◌+◌, ◌==◌, ◌∷◌, ◌≢◌, ◌≤◌, ◌↔◌}
 use Rattle.bk_tiling.specs.Tiling.{Tiling, order, sides_of}
 use Rattle.bk_tiling.specs.declared.Square.{Square}
 use Rattle.bk_simple.specs.Simple.{IsPerfect}

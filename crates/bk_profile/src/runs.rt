@@ -12,7 +12,7 @@ use bk_tiling::{MOST_SQUARES, Segment};
 pub(crate) const MOST_RUNS: usize = MOST_SQUARES + 1;
 
 /// A level run of columns: how many they are, and their depth. It begins where the run before it ends.
-#[derive(Clone, Copy, Debug, Default, PartialEq, Eq)]
+#[derive(Clone, Copy, Default)]
 pub(crate) struct Run {
     pub(crate) width: u64,
     pub(crate) level: u64,

@@ -21,7 +21,7 @@ use Rattle.bk_word.specs.Word.{Move, Word, order_of}
 use Rattle.bk_word.specs.WordText.{word_text}
 use Rattle.bk_word.specs.declared.Class.{Class}
 use Rattle.bk_lay.proofs.WordPlay.{tiling_word_is_complete}
-use Rattle.bk_catalogue.proofs.SmallMembers.{members_are_small}
+use Rattle.bk_read_back.proofs.SmallMembers.{members_are_small}
 use Rattle.bk_catalogue.specs.Catalogue.{Entry, IsEntry}
 use Rattle.bk_report.proofs.EntriesRead.{a_written_entry_is_read}
 use Rattle.bk_report.specs.Listings.{entry_text, entry_words}

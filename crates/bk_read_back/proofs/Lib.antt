@@ -1,3 +1,5 @@
+pub mod SmallMembers
+pub mod SmallExamples
 pub mod PrintedBytes
 pub mod EntryLines
 pub mod ListLines

@@ -1,2 +1,3 @@
 -- What the crate says. It has laws alone, so there is no code to keep.
+pub mod Small
 pub mod ReadBack

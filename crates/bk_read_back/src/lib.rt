@@ -2,6 +2,13 @@
 #![tactic(auto)]
 
 ghost use Rattle.bk_read_back.specs.ReadBack.{AListIsAccepted, AListedEntryIsRead};
+ghost use Rattle.bk_read_back.specs.Small.{MembersAreSmall};
+
+/// A member of at most 16 squares has a size and sides of at most 2^34: its sides are the primitive flow of its Smith diagram
+/// (`bk_flow::small_nets_have_small_flows`).
+pub fn members_are_small()
+    ensures { MembersAreSmall }
+{}
 
 /// The line that `list` writes of a member (`bk_list::write_listing`) is in the grammar of lines of codes, without its line feed,
 /// and stands for the member's order, size and code; so it is read as that member and no other tiling.

@@ -1,8 +1,19 @@
--- The pieces of the lines about a list, one after another.
+-- The pieces of refusals and of the lines about a list, one after another.
 use Rattle.std.proofs.Common.{List, [], ap, append_assoc, ℕ, ◌++◌, ◌∙◌, ◌∷◌, ◌≡◌}
 use Rattle.std.specs.Prelude.{codes, flat_map}
 use Rattle.bk_report.proofs.Spaces.{blanks_before}
 use Rattle.bk_report.specs.Answers.{line, spaced}
+
+-- a gap that no group fits: its group, its width and the sum
+pub gap_pieces : (front group gap sum : List ℕ)
+    → (((((front ++ codes "no gap ") ++ group) ++ codes " ") ++ gap) ++ codes " ") ++ sum
+    ≡ front ++ spaced (codes "no" ∷ codes "gap" ∷ group ∷ gap ∷ sum ∷ [])
+gap_pieces front group gap sum = simp append_assoc
+
+-- groups that leave the depths unequal: the least and the greatest
+pub open_pieces : (front least greatest : List ℕ)
+    → (((front ++ codes "no open ") ++ least) ++ codes " ") ++ greatest ≡ front ++ spaced (codes "no" ∷ codes "open" ∷ least ∷ greatest ∷ [])
+open_pieces front least greatest = simp append_assoc
 
 pub refused_pieces : (number text : List ℕ) → (((codes "line " ++ number) ++ 32 ∷ []) ++ text) ++ 10 ∷ [] ≡ line (codes "line" ∷ number ∷ text ∷ [])
 refused_pieces number text = simp append_assoc

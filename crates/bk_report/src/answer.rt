@@ -8,8 +8,9 @@ ghost use Rattle.bk_text.specs.CodeText.{code_text, size_text};
 ghost use Rattle.bk_report.specs.AnswerLaws.{ATilingHasOneCheckLine};
 ghost use Rattle.bk_report.specs.Answers.{IsCheckLine, perfect_text, simple_text, spaced, tiling_line, verdict_line};
 
+use crate::trial::push_named;
 use bk_code::{Code, code_of};
-use bk_grammar::{AnswerBuffer, push_bytes, push_number};
+use bk_grammar::{AnswerBuffer, push_bytes};
 use bk_simple::{SubRect, part, repeated};
 use bk_text::{write_code, write_size};
 use bk_tiling::Tiling;
@@ -67,11 +68,10 @@ fn push_verdicts(
     part: Option<SubRect>,
     out: &mut AnswerBuffer,
 )
-    requires { array_vec_len out.old ≤ 8000 }
+    requires { array_vec_len out.old ≤ 7000 }
     ensures { out.new.items ≡ out.old.items ++ verdict_line tiling.now repeated (option_map rectangle_of part) }
 {
-    push_bytes(b"ok ", out);
-    push_number(tiling.order() as u64, out);
+    push_named(b"ok ", tiling.order() as u64, out);
     out.push(b' ');
     write_size(tiling.width(), tiling.height(), out);
     out.push(b' ');
@@ -83,32 +83,27 @@ fn push_verdicts(
 
 // Appends 'perfect', or 'imperfect' and the side.
 fn push_perfect(repeated: Option<u64>, out: &mut AnswerBuffer)
-    requires { array_vec_len out.old ≤ 8500 }
+    requires { array_vec_len out.old ≤ 8000 }
     ensures text { out.new.items ≡ out.old.items ++ perfect_text repeated }
-    ensures short { length (perfect_text repeated) ≤ 30 }
+    ensures short { array_vec_len out.new ≤ array_vec_len out.old + 40 }
 {
     match repeated {
         None => push_bytes(b"perfect", out),
-        Some(side) => {
-            push_bytes(b"imperfect ", out);
-            push_number(side, out);
-        }
+        Some(side) => push_named(b"imperfect ", side, out),
     }
 }
 
 // Appends 'simple', or 'compound' and the rectangle.
 fn push_simple(part: Option<SubRect>, out: &mut AnswerBuffer)
-    requires { array_vec_len out.old ≤ 8500 }
+    requires { array_vec_len out.old ≤ 7900 }
     ensures text { out.new.items ≡ out.old.items ++ simple_text (option_map rectangle_of part) }
-    ensures short { length (simple_text (option_map rectangle_of part)) ≤ 100 }
+    ensures short { array_vec_len out.new ≤ array_vec_len out.old + 130 }
 {
     match part {
         None => push_bytes(b"simple", out),
         Some(r) => {
-            push_bytes(b"compound ", out);
-            push_number(r.x, out);
-            out.push(b',');
-            push_number(r.y, out);
+            push_named(b"compound ", r.x, out);
+            push_named(b",", r.y, out);
             out.push(b' ');
             write_size(r.width, r.height, out);
         }

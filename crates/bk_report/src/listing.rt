@@ -8,13 +8,14 @@ ghost use Rattle.bk_report.specs.EntryLaws.{AWrittenEntryIsRead};
 ghost use Rattle.bk_report.specs.Listings.{class_words, entry_line, entry_words, last_line, last_name, wide_words};
 
 use crate::answer::push_tiling;
+use crate::trial::push_named;
 use bk_code::Code;
 use bk_grammar::{AnswerBuffer, push_bytes, push_number};
 use bk_tiling::Tiling;
 use bk_word::{Class, Word, write_word};
 
 /// How a listing ended.
-#[derive(Clone, Copy, Debug, PartialEq, Eq)]
+#[derive(Clone, Copy)]
 pub enum Last {
     /// No further entry is there.
     End,
@@ -73,11 +74,9 @@ pub fn write_last(
     out.clear();
     push_bytes(b"; ", out);
     push_name(last, out);
-    push_bytes(b" order ", out);
-    push_number(u64::from(order), out);
+    push_named(b" order ", u64::from(order), out);
     push_class(class, out);
-    push_bytes(b" listed ", out);
-    push_number(listed, out);
+    push_named(b" listed ", listed, out);
     push_wide(last, word, out);
     out.push(b'\n');
 }
@@ -86,7 +85,7 @@ pub fn write_last(
 pub(crate) fn push_name(last: Last, out: &mut AnswerBuffer)
     requires { array_vec_len out.old ≤ 8000 }
     ensures text { out.new.items ≡ out.old.items ++ last_name last }
-    ensures short { length (last_name last) ≤ 5 }
+    ensures short { array_vec_len out.new ≤ array_vec_len out.old + 5 }
 {
     match last {
         Last::End => push_bytes(b"end", out),
@@ -99,7 +98,7 @@ pub(crate) fn push_name(last: Last, out: &mut AnswerBuffer)
 fn push_class(class: Class, out: &mut AnswerBuffer)
     requires { array_vec_len out.old ≤ 8000 }
     ensures text { out.new.items ≡ out.old.items ++ flat_map (λ l. 32 ∷ l) (class_words class) }
-    ensures short { length (flat_map (λ l. 32 ∷ l) (class_words class)) ≤ 20 }
+    ensures short { array_vec_len out.new ≤ array_vec_len out.old + 20 }
 {
     match class {
         Class::Perfect => {}
@@ -113,7 +112,7 @@ pub(crate) fn push_wide(last: Last, word: &Word, out: &mut AnswerBuffer)
     requires some { last ≡ Last.Wide → 0 < length word.now }
     requires room { array_vec_len out.old ≤ 7000 }
     ensures text { out.new.items ≡ out.old.items ++ flat_map (λ l. 32 ∷ l) (wide_words last word.now) }
-    ensures short { length (flat_map (λ l. 32 ∷ l) (wide_words last word.now)) ≤ 1000 }
+    ensures short { array_vec_len out.new ≤ array_vec_len out.old + 1000 }
 {
     match last {
         Last::End | Last::Limit => {}

@@ -30,11 +30,22 @@ pub(crate) fn push_net(net: &Net, out: &mut AnswerBuffer)
 {
     push_node(net.nodes(), out);
     for (from, to) in net.wires() {
-        out.push(b' ');
-        push_node(*from, out);
-        out.push(b'-');
-        push_node(*to, out);
+        push_wire(*from, *to, out);
     }
+}
+
+// Appends a blank and the wire between two nodes.
+fn push_wire(from: u16, to: u16, out: &mut AnswerBuffer)
+    requires from { from ≤ 999 }
+    requires to { to ≤ 999 }
+    requires room { array_vec_len out.old ≤ 8000 }
+    ensures text { out.new.items ≡ out.old.items ++ 32 ∷ wire_text (from, to) }
+    ensures short { array_vec_len out.new ≤ array_vec_len out.old + 8 }
+{
+    out.push(b' ');
+    push_node(from, out);
+    out.push(b'-');
+    push_node(to, out);
 }
 
 // Appends the width of a tiling, and the sides with a blank before each.

@@ -1,14 +1,15 @@
 //! Why an item is refused, and the texts that say so.
 
-ghost use Rattle.std.specs.Prelude.{◌≡◌, ◌≤◌, ◌++◌, ◌+◌, ◌∷◌, codes, decimal, flat_map, length};
+ghost use Rattle.std.specs.Prelude.{◌≡◌, ◌≤◌, ◌++◌, ◌+◌};
 ghost use Rattle.arrayvec.specs.ArrayVec.{array_vec_len};
-ghost use Rattle.bk_report.specs.Refusals.{no_text, refusal_line, refusal_text};
+ghost use Rattle.bk_report.specs.Refusals.{refusal_line, refusal_text};
 
-use bk_grammar::{AnswerBuffer, push_bytes, push_number};
+use crate::trial::push_named;
+use bk_grammar::{AnswerBuffer, push_bytes};
 use bk_text::write_size;
 
 /// Why an item is refused. The names and their order are this project's own.
-#[derive(Clone, Copy, Debug, PartialEq, Eq)]
+#[derive(Clone, Copy)]
 pub enum Refused {
     /// The line is too long.
     Long,
@@ -55,58 +56,36 @@ pub fn write_refused(refused: &Refused, out: &mut AnswerBuffer)
 
 // Appends the text of a refusal.
 pub(crate) fn push_refusal(refused: &Refused, out: &mut AnswerBuffer)
-    requires { array_vec_len out.old ≤ 8000 }
+    requires { array_vec_len out.old ≤ 7000 }
     ensures text { out.new.items ≡ out.old.items ++ refusal_text refused.now }
-    ensures short { array_vec_len out.new ≤ array_vec_len out.old + 80 }
+    ensures short { array_vec_len out.new ≤ array_vec_len out.old + 120 }
 {
     match *refused {
         Refused::Long => push_bytes(b"no long", out),
-        Refused::Text { at } => push_no(b"text", &[at as u64], out),
+        Refused::Text { at } => push_named(b"no text ", at as u64, out),
         Refused::Many => push_bytes(b"no many", out),
-        Refused::Order { sides } => push_no(b"order", &[sides as u64], out),
-        Refused::Gap { group, gap, sum } => push_no(b"gap", &[group as u64, gap, sum], out),
-        Refused::Open { least, greatest } => push_no(b"open", &[least, greatest], out),
+        Refused::Order { sides } => push_named(b"no order ", sides as u64, out),
+        Refused::Gap { group, gap, sum } => {
+            push_named(b"no gap ", group as u64, out);
+            push_named(b" ", gap, out);
+            push_named(b" ", sum, out);
+        }
+        Refused::Open { least, greatest } => {
+            push_named(b"no open ", least, out);
+            push_named(b" ", greatest, out);
+        }
         Refused::Size { width, height } => {
             push_bytes(b"no size ", out);
             write_size(width, height, out);
         }
         Refused::Large => push_bytes(b"no large", out),
-        Refused::Nodes { count } => push_no(b"nodes", &[count], out),
-        Refused::Wire { place } => push_no(b"wire", &[place as u64], out),
-        Refused::Loose { node } => push_no(b"loose", &[u64::from(node)], out),
+        Refused::Nodes { count } => push_named(b"no nodes ", count, out),
+        Refused::Wire { place } => push_named(b"no wire ", place as u64, out),
+        Refused::Loose { node } => push_named(b"no loose ", u64::from(node), out),
         Refused::Wide => push_bytes(b"wide", out),
         Refused::Nothing => push_bytes(b"none", out),
-        Refused::Illegal { place } => {
-            push_bytes(b"illegal ", out);
-            push_number(place as u64, out);
-        }
+        Refused::Illegal { place } => push_named(b"illegal ", place as u64, out),
         Refused::Unfinished => push_bytes(b"unfinished", out),
         Refused::More => push_bytes(b"no more", out),
-    }
-}
-
-// Appends 'no', what is refused, and its numbers.
-fn push_no(what: &[u8], numbers: &[u64], out: &mut AnswerBuffer)
-    requires room { array_vec_len out.old ≤ 8000 }
-    requires word { length what.now ≤ 5 }
-    requires few { length numbers.now ≤ 3 }
-    ensures text { out.new.items ≡ out.old.items ++ no_text what.now numbers.now }
-    ensures short { array_vec_len out.new ≤ array_vec_len out.old + 71 }
-{
-    push_bytes(b"no ", out);
-    push_bytes(what, out);
-    push_numbers(numbers, out);
-}
-
-// Appends numbers, with a blank before each.
-fn push_numbers(numbers: &[u64], out: &mut AnswerBuffer)
-    requires room { array_vec_len out.old ≤ 8800 }
-    requires few { length numbers.now ≤ 3 }
-    ensures text { out.new.items ≡ out.old.items ++ flat_map (λ n. 32 ∷ decimal n) numbers.now }
-    ensures short { array_vec_len out.new ≤ array_vec_len out.old + 63 }
-{
-    for number in numbers {
-        out.push(b' ');
-        push_number(*number, out);
     }
 }

@@ -13,7 +13,7 @@ use Rattle.bk_word.specs.Word.{Word, order_of}
 use Rattle.bk_word_net.proofs.NoLoose.{a_word_net_has_no_loose}
 use Rattle.bk_word_net.proofs.WordTilings.{wires_many}
 use Rattle.bk_word_net.proofs.Shape.{Shaped, shaped_moves, shaped_start}
-use Rattle.bk_word_net.specs.WideWord.{HasLargeCurrent, IsWideWord}
+use Rattle.bk_skel.specs.WideWord.{HasLargeCurrent, IsWideWord}
 use Rattle.bk_word_net.specs.WordNet.{net_of_word}
 
 module _ (w : Word) (net : Net) (is : net ≡ net_of_word w) where

@@ -1,6 +1,6 @@
 -- Squares placed move by move, from sides in the order of laying: the squares laid so far, and the numbers of those that
 -- are open, from left to right. Squares are numbered from 1 in the order of laying.
--- Example (SkeletonExamples): 2u.2eu lays the sides 5, 3, 2, 1 in the width 8; square 3 has its bottom at 5, and square 4
+-- Example (BoardExamples): 2u.2eu lays the sides 5, 3, 2, 1 in the width 8; square 3 has its bottom at 5, and square 4
 -- stands alone over the leftmost valley, of width 1, which a square of the side 1 fills.
 use Rattle.std.specs.List.{AllByRecursion, concat}
 use Rattle.std.specs.Prelude.{List, length, sum_by, ℕ, ◌*◌, ◌+◌, ◌<◌, ◌^◌, ◌≡◌, ◌≤◌}

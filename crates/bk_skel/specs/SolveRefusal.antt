@@ -4,7 +4,7 @@
 use Rattle.std.specs.Prelude.{length, take, ℕ, ◌-◌, ◌<◌, ◌≤◌}
 use Rattle.bk_word.specs.Play.{IsComplete, IsLegal, outline_of}
 use Rattle.bk_word.specs.Word.{Word, order_of}
-use Rattle.bk_word_net.specs.WideWord.{IsWideWord}
+use Rattle.bk_skel.specs.WideWord.{IsWideWord}
 use Rattle.bk_skel.specs.declared.realising.SolveFault.TheVariants.{Illegal, NoMemory, OpenEnd, Wide}
 use Rattle.bk_skel.specs.declared.realising.SolveFault.{SolveFault}
 

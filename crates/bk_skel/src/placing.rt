@@ -17,10 +17,9 @@ ghost use Rattle.bk_skel.specs.RealisedIn.{tiling_found};
 ghost use Rattle.bk_skel.specs.Board.{CanLay, IsClosed, IsFittingGap, columns_of};
 ghost use Rattle.bk_word_net.specs.LaidOutline.{IsNumber, IsTurn, bottom_at, square_at};
 
-use crate::skeleton::Skel;
-use crate::splicing::splice_numbers;
 use arrayvec::ArrayVec;
 use bk_lay::sign_between;
+use bk_skeleton::{Skel, splice_numbers};
 use bk_tiling::{MOST_SQUARES, Segment, Square, Tiling, push_group, put_in_order, sum_of};
 use bk_word::Sign;
 

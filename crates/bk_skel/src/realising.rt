@@ -10,14 +10,14 @@ ghost use Rattle.bk_word.specs.Word.{order_of};
 ghost use Rattle.bk_skel.specs.RealisedIn.{tiling_found};
 ghost use Rattle.bk_skel.specs.SolveRefusal.{IsFirstIllegal, IsSolveFault};
 ghost use Rattle.bk_word_net.specs.Realised.{IsRealised};
-ghost use Rattle.bk_word_net.specs.WideWord.{HasLargeCurrent, IsWideWord};
+ghost use Rattle.bk_skel.specs.WideWord.{HasLargeCurrent, IsWideWord};
 ghost use Rattle.bk_word_net.specs.WordNet.{net_of_word};
 
 use crate::placing::{Realised, place};
-use crate::skeleton::Skel;
 use arrayvec::ArrayVec;
 use bk_flow::{Flow, FlowFault, NarrowFlow, SMALL, narrow_flow, solve};
 use bk_frac::Wide;
+use bk_skeleton::Skel;
 use bk_tiling::{LONGEST_SIDE, MOST_SQUARES, Square, Tiling};
 use bk_word::Word;
 use std::alloc::Global;

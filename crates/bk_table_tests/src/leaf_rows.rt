@@ -2,7 +2,7 @@
 
 use bk_free_leaf::{Ties, leaf};
 use bk_free_search::Board;
-use bk_skel::SmallMove;
+use bk_skeleton::SmallMove;
 use bk_tiling::Tiling;
 use bk_word::{Class, Move, Word, read_word};
 use std::process::Abort;

@@ -34,7 +34,7 @@ pub struct Square {
 }
 
 /// A level piece of the lower outline of laid squares: its first column, how many columns it has, and their depth.
-#[derive(Clone, Copy, Debug, PartialEq, Eq)]
+#[derive(Clone, Copy)]
 pub struct Segment {
     /// Its first column.
     pub x: u64,

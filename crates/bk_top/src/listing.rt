@@ -8,7 +8,7 @@ ghost use Rattle.bk_list.specs.Writing.{BeginsListing, WritesListing};
 
 use bk_ports::{Failed, Sink};
 use bk_report::Last;
-use bk_skel::Steps;
+use bk_skeleton::Steps;
 use bk_word::{Class, Word};
 use std::alloc::Global;
 use std::marker::Brand;

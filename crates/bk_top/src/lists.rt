@@ -2,7 +2,7 @@
 
 ghost use Rattle.std.specs.Prelude.{◌≤◌};
 ghost use Rattle.bk_group_run.specs.Closing.{listing_of};
-ghost use Rattle.bk_verify_run.specs.Running.{report_of};
+ghost use Rattle.bk_told.specs.Running.{report_of};
 ghost use Rattle.bk_top.specs.ReadsToEnd.{ReadsToEnd};
 
 use crate::lines::status;

@@ -1,7 +1,2 @@
-pub mod Storing
-pub mod Standing
-pub mod MembersUpTo
-pub mod CountedMembers
 pub mod Passing
-pub mod Firsts
-pub mod VerifyExamples
+pub mod LeftExamples

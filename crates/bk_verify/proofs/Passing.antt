@@ -9,10 +9,21 @@ use Rattle.bk_word.specs.declared.Class.{Class}
 use Rattle.bk_word.specs.declared.Class.TheVariants.{Perfect}
 use Rattle.bk_catalogue.specs.Catalogue.{Entry, IsEntry}
 use Rattle.bk_walk.specs.Walking.{IsNextMember, WalkState}
-use Rattle.bk_verify.proofs.Storing.{all_at}
-use Rattle.bk_verify.specs.Kept.{CountsMembers, IsKeptFrom, IsKeptRest, IsNextMissing, IsNotKept, IsUpTo, Kept}
-use Rattle.bk_verify.proofs.MembersUpTo.{up_to_next}
-use Rattle.bk_verify.proofs.CountedMembers.{any, count_more, count_none, next_any}
+use Rattle.bk_entries.proofs.Storing.{all_at}
+use Rattle.bk_entries.specs.Kept.{CountsMembers, IsKeptFrom, IsNextMissing, IsNotKept, IsUpTo, Kept}
+use Rattle.bk_entries.proofs.MembersUpTo.{IsNextSuch, up_to_next}
+use Rattle.bk_entries.proofs.CountedMembers.{any, count_more, count_none}
+use Rattle.bk_verify.specs.Left.{IsKeptRest}
+
+-- the next member is the next one of all
+next_any : (n : ℕ) (cursor : Word) (t : Tiling) (word : Word) → IsNextMember n Perfect cursor t word
+    → IsNextSuch n any cursor (record { tiling = t; word = word })
+next_any n cursor t word next = record {
+  entry = record { member = next.member; word = next.word_is };
+  such = tt;
+  after = next.after;
+  least = λ f is such. next.least f is;
+}
 
 -- from one cursor to another each member is kept
 pub record IsPassed (n : ℕ) (pairs : List Kept) (start cursor : Word) : Type 0 where
@@ -88,6 +99,9 @@ module _ (first : WalkState) (pairs : List Kept) (walk : WalkState) (members : �
   the_next : IsNextMember first.order Perfect walk.cursor t word
   the_next = next_as walk.order first.order walk.class walk.cursor t word p.order p.class next
 
+  the_next_any : IsNextSuch first.order any walk.cursor (record { tiling = t; word = word })
+  the_next_any = next_any first.order walk.cursor t word the_next
+
   -- a next member that isn't kept is the next missing one
   pub passing_missing : IsNotKept pairs t → IsNextMissing first.order pairs first.cursor t word
   passing_missing new = next_is_missing first.order pairs first.cursor walk.cursor p.passed t word the_next new
@@ -97,7 +111,7 @@ module _ (first : WalkState) (pairs : List Kept) (walk : WalkState) (members : �
   passing_counted after order cursor =
       subst (λ (n : ℕ). CountsMembers n (IsUpTo after.cursor) (members + 1)) (sym (order ∙ p.order))
       (subst (λ (w : Word). CountsMembers first.order (IsUpTo w) (members + 1)) (sym cursor)
-      (count_more first.order walk.cursor t word members the_next p.counted))
+      (count_more first.order walk.cursor (record { tiling = t; word = word }) members the_next_any p.counted))
 
   -- one that is kept is passed
   pub passing_more : (after : WalkState) → after.order ≡ walk.order → after.class ≡ walk.class → after.cursor ≡ word → (IsTrue walk.ended → ⊥)
@@ -107,7 +121,7 @@ module _ (first : WalkState) (pairs : List Kept) (walk : WalkState) (members : �
     passed = subst (IsPassed first.order pairs first.cursor) (sym cursor)
         (passed_more first.order pairs first.cursor walk.cursor p.passed t word the_next line from);
     counted = subst (λ (w : Word). CountsMembers first.order (IsUpTo w) (members + 1)) (sym cursor)
-        (count_more first.order walk.cursor t word members the_next p.counted);
+        (count_more first.order walk.cursor (record { tiling = t; word = word }) members the_next_any p.counted);
     order = order ∙ p.order;
     class = class ∙ p.class;
     still = λ e. absurd (on (p.still e));

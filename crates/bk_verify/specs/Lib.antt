@@ -1,6 +1,2 @@
--- What the crate says.
-pub mod Verify
-pub mod VerifyLaws
--- How its code keeps it.
-pub mod Kept
-pub mod Stored
+-- What the crate says, and how its code keeps it.
+pub mod Left

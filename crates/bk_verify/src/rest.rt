@@ -4,10 +4,11 @@ ghost use Rattle.std.specs.Prelude.{IfNone, IfOk, IfSome, IsNone, IsOk, IsTrue, 
 ghost use Rattle.bk_code.specs.Code.{code_of as code_seen};
 ghost use Rattle.bk_word.specs.declared.Class.TheVariants.{Perfect};
 ghost use Rattle.bk_catalogue.specs.Following.{HasNoneAfter};
-ghost use Rattle.bk_verify.specs.Kept.{AreKeptAfter, CountsMembers, IsNextMissing, IsUpTo, rest_of};
+ghost use Rattle.bk_entries.specs.Kept.{AreKeptAfter, CountsMembers, IsNextMissing, IsUpTo};
+ghost use Rattle.bk_verify.specs.Left.{rest_of};
 
-use crate::kept::KeptMembers;
-use bk_skel::Steps;
+use bk_entries::Entries;
+use bk_skeleton::Steps;
 use bk_walk::{Entry, Walk, WideAt};
 use bk_word::Class;
 use std::alloc::Global;
@@ -16,34 +17,33 @@ use std::sync::ledger::Ledger;
 
 /// What a verifier leaves once all entries are fed: it goes through the catalogue and names each member that isn't kept. It
 /// is seen as the kept pairs and a walk. No wide word comes on the way, for no word of its orders is wide
-/// (`bk_word_net::no_small_word_is_wide`). No call takes memory.
+/// (`bk_skel::no_small_word_is_wide`). No call takes memory.
 #[derive(Drop)]
 pub struct Rest {
-    kept: KeptMembers,
+    entries: Entries,
     walk: Walk,
     members: u64,
 }
 
 impl Model for Rest {
-    ghost use Rattle.bk_verify.specs.Kept.{IsKeptRest, RestState};
+    ghost use Rattle.bk_verify.specs.Left.{IsKeptRest, RestState};
 
     ghost Value = { RestState };
 
-    ghost view = { λ r. record { pairs = r.kept; walk = r.walk } };
+    ghost view = { λ r. record { pairs = r.entries.pairs; walk = r.walk } };
 
     ghost invariant = { λ r. IsKeptRest r.walk r.members };
 }
 
 impl Rest {
-    // What is left of a verifier of this order, which keeps these members.
-    pub(crate) fn new(alloc: Global, order: u8, kept: KeptMembers) -> Rest
-        requires least { 2 ≤ order }
-        requires most { order ≤ 16 }
-        ensures { result ≡ rest_of (record { order = order; pairs = kept }) }
+    /// What is left of the members by these entries, which name each member that had one. It takes no memory.
+    pub fn of(alloc: Global, entries: Entries) -> Rest
+        ensures { result ≡ rest_of entries }
     {
+        let walk = Walk::new(alloc, entries.order(), Class::Perfect, None);
         Rest {
-            kept,
-            walk: Walk::new(alloc, order, Class::Perfect, None),
+            entries,
+            walk,
             members: 0,
         }
     }
@@ -64,7 +64,7 @@ impl Rest {
         ensures order { self.new.walk.order ≡ self.old.walk.order }
         ensures class { self.new.walk.class ≡ self.old.walk.class }
     {
-        let entry = next_missing(&self.kept, &mut self.walk, &mut self.members, steps)?;
+        let entry = next_missing(&self.entries, &mut self.walk, &mut self.members, steps)?;
         Some(Ok(entry))
     }
 
@@ -78,7 +78,7 @@ impl Rest {
 
 // The least member after the cursor of a walk that isn't kept. It counts the members that it passes.
 fn next_missing<L: Ledger>(
-    kept: &KeptMembers,
+    entries: &Entries,
     walk: &mut Walk,
     members: &mut u64,
     steps: &mut Steps<L>,
@@ -87,8 +87,8 @@ fn next_missing<L: Ledger>(
     requires most { walk.old.order ≤ 16 }
     requires counted { CountsMembers walk.old.order (IsUpTo walk.old.cursor) members.old }
     ensures entry { IfSome result (λ e.
-        IsNextMissing walk.old.order kept.now walk.old.cursor e.tiling e.word × (e.code ≡ code_seen e.tiling)) }
-    ensures none { IfNone result (AreKeptAfter walk.old.order kept.now walk.old.cursor) }
+        IsNextMissing walk.old.order entries.now.pairs walk.old.cursor e.tiling e.word × (e.code ≡ code_seen e.tiling)) }
+    ensures none { IfNone result (AreKeptAfter walk.old.order entries.now.pairs walk.old.cursor) }
     ensures cursor { MatchOption result (HasNoneAfter walk.old.order Perfect walk.new.cursor) (λ e. walk.new.cursor ≡ e.word) }
     ensures ended { IsTrue walk.new.ended ↔ IsNone result }
     ensures later { IsTrue walk.old.ended → IsNone result }
@@ -102,7 +102,7 @@ fn next_missing<L: Ledger>(
             return None;
         }
         *members += 1;
-        if kept.line_of(&entry.tiling).is_none() {
+        if entries.line_of(&entry.tiling).is_none() {
             return Some(entry);
         }
     }

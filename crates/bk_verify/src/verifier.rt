@@ -1,49 +1,31 @@
-//! A verifier: it is fed the entries of a list, and tells what each of them is.
+//! A verifier: it is fed the entries of a list, tells what each of them is, and hands on what it keeps.
 
 ghost use Rattle.std.specs.Prelude.{IfOk, OnErr, [], ◌≡◌, ◌≤◌};
-ghost use Rattle.bk_verify.specs.Kept.{IsFed, IsFirstSight, IsKeptVerifier, rest_of};
-ghost use Rattle.bk_verify.specs.VerifyLaws.{AVerifierTellsTheTruth, AnEntryIsToldOneThing, MissingOnesAreNotKept, TruthsStay};
+ghost use Rattle.bk_entries.specs.Kept.{IsFed, IsFirstSight, IsKeptVerifier};
+ghost use Rattle.bk_verify.specs.Left.{rest_of};
 
-use crate::kept::KeptMembers;
 use crate::rest::Rest;
-use bk_simple::is_perfect_simple;
-use bk_sym::canonical;
+use bk_entries::{Entries, Fed, NoMemory};
 use bk_tiling::Tiling;
 use std::alloc::Global;
 use std::marker::Model;
-
-/// What an entry of a list is.
-#[derive(Clone, Copy, Debug, PartialEq, Eq)]
-pub enum Fed {
-    /// The first one of its member.
-    New,
-    /// A further one of a member: the line of the first one.
-    Repeats { line: u64 },
-    /// One of no member.
-    Foreign,
-}
-
-/// There was no memory to keep a member.
-#[derive(Clone, Copy, Debug, PartialEq, Eq)]
-pub struct NoMemory;
 
 /// A verifier of a list against the perfect catalogue of an order. It is seen as the order and the list of the pairs, each a
 /// line and the canonical tiling that was new there, in the order of first sight.
 #[derive(Drop)]
 pub struct Verifier {
     alloc: Global,
-    order: u8,
-    kept: KeptMembers,
+    entries: Entries,
 }
 
 impl Model for Verifier {
-    ghost use Rattle.bk_verify.specs.Kept.{IsKeptVerifier, VerifierState};
+    ghost use Rattle.bk_entries.specs.Kept.{IsKeptVerifier, VerifierState};
 
     ghost Value = { VerifierState };
 
-    ghost view = { λ v. record { order = v.order; pairs = v.kept } };
+    ghost view = { λ v. v.entries };
 
-    ghost invariant = { λ v. IsKeptVerifier (record { order = v.order; pairs = v.kept }) };
+    ghost invariant = { λ v. IsKeptVerifier v.entries };
 }
 
 impl Verifier {
@@ -53,11 +35,8 @@ impl Verifier {
         requires most { order ≤ 16 }
         ensures { result ≡ record { order = order; pairs = [] } }
     {
-        Verifier {
-            alloc,
-            order,
-            kept: KeptMembers::new(alloc),
-        }
+        let entries = Entries::new(alloc, order);
+        Verifier { alloc, entries }
     }
 
     /// Feeds the entry of a line, and tells what it is: by its canonical tiling alone, which is a member where it has as many
@@ -69,45 +48,13 @@ impl Verifier {
         ensures wanting { OnErr result (IsFirstSight self.old tiling.now) }
         ensures kept { IsKeptVerifier self.new }
     {
-        if tiling.order() != usize::from(self.order) {
-            return Ok(Fed::Foreign);
-        }
-        let member = canonical(tiling);
-        if let Some(first) = self.kept.line_of(&member) {
-            return Ok(Fed::Repeats { line: first });
-        }
-        if !is_perfect_simple(&member) {
-            return Ok(Fed::Foreign);
-        }
-        self.kept.keep(line, &member)?;
-        Ok(Fed::New)
+        self.entries.feed(line, tiling)
     }
 
-    /// Hands on what is kept, to name the members that no entry had. It takes no memory.
+    /// Hands on what it keeps, to name the members that no entry had. It takes no memory.
     pub fn finish(self) -> Rest
         ensures { result ≡ rest_of self }
     {
-        Rest::new(self.alloc, self.order, self.kept)
+        Rest::of(self.alloc, self.entries)
     }
 }
-
-/// An entry is told one thing.
-pub fn an_entry_is_told_one_thing()
-    ensures { AnEntryIsToldOneThing }
-{}
-
-/// What a verifier tells of an entry is the truth, where what it keeps are the first entries of the members that were fed;
-/// and then it keeps them again.
-pub fn a_verifier_tells_the_truth()
-    ensures { AVerifierTellsTheTruth }
-{}
-
-/// What is true of an entry stays so where more entries follow.
-pub fn truths_stay()
-    ensures { TruthsStay }
-{}
-
-/// The missing members are those that aren't kept.
-pub fn missing_ones_are_not_kept()
-    ensures { MissingOnesAreNotKept }
-{}

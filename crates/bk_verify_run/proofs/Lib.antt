@@ -1,9 +1,3 @@
-pub mod Entered
-pub mod Following
-pub mod MissingListed
-pub mod BehindLines
-pub mod EndingAtLines
-pub mod Ending
-pub mod VerifyingExamples
-pub mod OneAscending
-pub mod OneReport
+pub mod Listing
+pub mod LeftBehind
+pub mod LackingExamples

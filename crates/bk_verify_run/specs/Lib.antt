@@ -1,9 +1,2 @@
--- What the crate says.
-pub mod Told
-pub mod Report
-pub mod ReportLaw
-pub mod Running
--- How its code keeps it.
-pub mod Entering
-pub mod Listing
-pub mod Laws
+-- How the code keeps what the crate says.
+pub mod Lacking

@@ -1,18 +1,19 @@
 //! What stands behind the lines of a list: the missing members and the last line.
 
-ghost use Rattle.std.specs.Prelude.{IfOk, OnErr, OnOk, [], ◌+◌, ◌<◌, ◌≡◌, ◌≤◌};
+ghost use Rattle.std.specs.Prelude.{IfOk, OnErr, OnOk, [], ◌<◌, ◌≡◌, ◌≤◌};
 ghost use Rattle.bk_ports.specs.Causes.{HasCause};
 ghost use Rattle.bk_word.specs.declared.Class.TheVariants.{Perfect};
 ghost use Rattle.bk_catalogue.specs.Following.{HasNoneAfter};
-ghost use Rattle.bk_verify.specs.Kept.{AreKeptAfter};
-ghost use Rattle.bk_verify_run.specs.Listing.{ClosesReport, IsClosingBegun, IsListed, IsListingBegun};
-ghost use Rattle.bk_verify_run.specs.Running.{TellsFaults};
+ghost use Rattle.bk_entries.specs.Kept.{AreKeptAfter};
+ghost use Rattle.bk_told.specs.Listing.{ClosesReport, IsClosingBegun, IsListed, IsListingBegun, IsNextBegun, IsWrittenNext};
+ghost use Rattle.bk_verify_run.specs.Lacking.{AreLacking};
 
-use crate::entering::Verifying;
+use bk_entries::Entries;
 use bk_grammar::AnswerBuffer;
 use bk_ports::{Failed, Sink};
-use bk_report::{Last, write_missing, write_verified};
-use bk_skel::Steps;
+use bk_report::{Last, write_verified};
+use bk_skeleton::Steps;
+use bk_told::{Verifying, has_fault, write_missing_entry};
 use bk_verify::Rest;
 use bk_word::Word;
 use std::alloc::Global;
@@ -36,30 +37,40 @@ pub(crate) fn close_report<L: Ledger, O: Sink>(
     ensures begun { OnErr result (IsClosingBegun order state (O.written out.old) (O.written out.new)) }
     ensures cause { HasCause (O.faults out.old) (O.faults out.new) result }
 {
-    let mut steps = Steps::<L>::new(blank);
     let Verifying {
         verifier,
         foreign,
         repeated,
         refused,
     } = state;
-    let mut rest = verifier.finish();
-    let missing = write_missing_members(&mut rest, &mut steps, buffer, out)?;
-    let counts = [rest.members(), missing, foreign, repeated, refused];
+    let lacking = list_missing::<L, O>(alloc, verifier, blank, buffer, out)?;
+    let counts = [lacking.0, lacking.1, foreign, repeated, refused];
     write_verified(Last::End, order, counts, &Word::new(alloc), buffer);
     out.write_all(buffer.as_slice())?;
-    let differs = has_fault(missing, foreign, repeated, refused);
+    let differs = has_fault(lacking.1, foreign, repeated, refused);
     Ok(differs)
 }
 
-// Whether some count tells of a fault.
-fn has_fault(missing: u64, foreign: u64, repeated: u64, refused: u64) -> bool
-    ensures { TellsFaults result (missing + foreign + repeated + refused) }
+// Writes the missing members, and gives how many members there are, and how many of them are missing.
+fn list_missing<L: Ledger, O: Sink>(
+    alloc: Global,
+    verifier: Entries,
+    blank: Blank,
+    buffer: &mut AnswerBuffer,
+    out: &mut O,
+) -> Result<(u64, u64), Failed>
+    requires name { blank.name ≡ L.name }
+    requires parts { blank.parts ≡ L.parts }
+    requires some { 0 < L.parts }
+    requires most { verifier.order ≤ 16 }
+    ensures listed { IfOk result (λ lacking. AreLacking verifier.order verifier.pairs lacking.0 lacking.1 (O.written out.old) (O.written out.new)) }
+    ensures begun { OnErr result (IsListingBegun verifier.order verifier.pairs (O.written out.old) (O.written out.new)) }
+    ensures cause { HasCause (O.faults out.old) (O.faults out.new) result }
 {
-    if missing > 0 || foreign > 0 {
-        return true;
-    }
-    repeated > 0 || refused > 0
+    let mut steps = Steps::<L>::new(blank);
+    let mut rest = Rest::of(alloc, verifier);
+    let missing = write_missing_members(&mut rest, &mut steps, buffer, out)?;
+    Ok((rest.members(), missing))
 }
 
 // Writes a line for each missing member, ascending, each by one call, and gives how many there are.
@@ -79,15 +90,32 @@ fn write_missing_members<L: Ledger, O: Sink>(
     ensures order { rest.new.walk.order ≡ rest.old.walk.order }
 {
     let mut missing: u64 = 0;
-    'members: loop {
-        match rest.advance(steps) {
-            None => return Ok(missing),
-            Some(Err(_)) => unreachable!(),
-            Some(Ok(entry)) => {
-                write_missing(&entry.tiling, &entry.code, &entry.word, buffer);
-                out.write_all(buffer.as_slice())?;
-                missing += 1;
-            }
+    'members: while write_next(rest, steps, buffer, out)? {
+        missing += 1;
+    }
+    Ok(missing)
+}
+
+// Writes the line of the next missing member, if there is one, by one call, and tells whether there was.
+fn write_next<L: Ledger, O: Sink>(
+    rest: &mut Rest,
+    steps: &mut Steps<L>,
+    buffer: &mut AnswerBuffer,
+    out: &mut O,
+) -> Result<bool, Failed>
+    ensures written { IfOk result (λ more. IsWrittenNext rest.old.walk.order rest.old.pairs rest.old.walk.cursor more rest.new.walk.cursor
+        (O.written out.old) (O.written out.new)) }
+    ensures begun { OnErr result (IsNextBegun rest.old.walk.order rest.old.pairs rest.old.walk.cursor (O.written out.old) (O.written out.new)) }
+    ensures cause { HasCause (O.faults out.old) (O.faults out.new) result }
+    ensures order { rest.new.walk.order ≡ rest.old.walk.order }
+    ensures pairs { rest.new.pairs ≡ rest.old.pairs }
+{
+    match rest.advance(steps) {
+        None => Ok(false),
+        Some(Err(_)) => unreachable!(),
+        Some(Ok(entry)) => {
+            write_missing_entry(&entry.tiling, &entry.code, &entry.word, buffer, out)?;
+            Ok(true)
         }
     }
 }

@@ -3,13 +3,13 @@
 ghost use Rattle.std.specs.Prelude.{◌≤◌};
 ghost use Rattle.bk_lines.specs.Ending.{EndsWith};
 ghost use Rattle.bk_lines.specs.Faults.{CountsTell, IsCalm, IsDoneOrWanting};
-ghost use Rattle.bk_verify_run.specs.Running.{report_of};
+ghost use Rattle.bk_told.specs.Running.{report_of};
 
 use crate::closing::close_report;
-use crate::entering::VerifyRegister;
 use bk_grammar::AnswerBuffer;
-use bk_lines::{Ended, enter_lines};
+use bk_lines::Ended;
 use bk_ports::{Failed, Sink, Source};
+use bk_told::read_list;
 use std::alloc::Global;
 use std::marker::Brand;
 use std::sync::ledger::Blank;
@@ -54,18 +54,15 @@ pub fn verify<S: Source, O: Sink>(alloc: Global, order: u8, source: &mut S, out:
           write_after = O.faults out.new;
         }) }
 {
-    let mut register = VerifyRegister::new(alloc, order);
-    let ended = enter_lines(&mut register, source, out);
-    match ended {
-        Ended::NoneRefused | Ended::SomeRefused => {
-            let kept = register.into_kept();
+    match read_list(alloc, order, source, out) {
+        Err(ended) => ended,
+        Ok(list) => {
             let mut buffer = AnswerBuffer::new();
-            match close_report::<Brand, O>(alloc, order, kept, Blank::new(1), &mut buffer, out) {
+            match close_report::<Brand, O>(alloc, order, list, Blank::new(1), &mut buffer, out) {
                 Ok(false) => Ended::NoneRefused,
                 Ok(true) => Ended::SomeRefused,
                 Err(Failed) => Ended::WriteFailed,
             }
         }
-        Ended::ReadFailed | Ended::WriteFailed | Ended::NoMemory | Ended::TooMany => ended,
     }
 }

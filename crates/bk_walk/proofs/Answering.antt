@@ -6,10 +6,10 @@ use Rattle.bk_word.specs.declared.Class.{Class}
 use Rattle.bk_catalogue.specs.Catalogue.{IsEntry}
 use Rattle.bk_catalogue.proofs.OneEntry.{entry_complete}
 use Rattle.std.proofs.lemmas.List.{take_all}
-use Rattle.bk_walk.specs.declared.search.Found.{Found}
-use Rattle.bk_walk.specs.Search.{Ends, Finds, HasPassed, Meets}
-use Rattle.bk_tree.specs.Tree.{IsAtMostTree}
-use Rattle.bk_tree.proofs.TreeCounts.{at_least_fewer}
+use Rattle.bk_tree_walk.specs.declared.Found.{Found}
+use Rattle.bk_tree_walk.specs.Search.{Ends, Finds, HasPassed, Meets}
+use Rattle.bk_catalogue.specs.Tree.{IsAtMostTree}
+use Rattle.bk_catalogue.proofs.TreeCounts.{at_least_fewer}
 use Rattle.bk_catalogue.specs.Following.{HasNoneAfter}
 use Rattle.bk_walk.specs.Walking.{IsKeptWalk, IsNextMember}
 

@@ -1,15 +1,16 @@
 -- A search goes to the word of a number: by which move, and that it comes there.
-use Rattle.std.proofs.Common.{[], ap, append_assoc, arith, subst, sym, ℕ, ◌++◌, ◌+◌, ◌<◌, ◌∙◌, ◌∷◌, ◌≡◌, ◌≤◌}
-use Rattle.std.proofs.lemmas.List.{append-nil}
+use Rattle.std.proofs.Common.{[], ap, append_assoc, arith, length, subst, sym, ℕ, ◌++◌, ◌+◌, ◌-◌, ◌<◌, ◌∙◌, ◌∷◌, ◌≡◌, ◌≤◌}
+use Rattle.std.proofs.lemmas.List.{append-nil, length-append}
 use Rattle.bk_word.specs.Outline.{IsLegalMove, start}
 use Rattle.bk_word.specs.Play.{IsLegal, outline_of}
 use Rattle.bk_word.specs.Word.{Move, Word, order_of}
-use Rattle.bk_word.proofs.PlayLaws.{few_signs, legal_front, legal_rest}
-use Rattle.bk_word.proofs.StoredBytes.{order_append, order_more}
+use Rattle.bk_word.proofs.PlayLaws.{legal_rest}
+use Rattle.bk_word.proofs.StoredBytes.{order_append, order_more, order_one}
 use Rattle.bk_packed.specs.Packed.{packed}
 use Rattle.bk_packed.specs.Reading.{GoesOnByNumber}
 use Rattle.bk_walk.specs.Leaping.{GoesToWord, IsAtNumber}
-use Rattle.bk_walk.specs.Search.{IsSearchState}
+use Rattle.bk_tree_walk.specs.Search.{IsKeptSearch, SearchState, StaysOf}
+use Rattle.bk_tree_walk.proofs.StateLaws.{down_from, stays_one}
 
 -- the same order and moves
 pub goes_same : (n m : ℕ) (v w : Word) (number : ℕ) → n ≡ m → v ≡ w → GoesToWord m w number → GoesToWord n v number
@@ -34,7 +35,6 @@ goes_by n front number g few most = cases g.rest g.is
 pub record IsNextTo (n : ℕ) (front : Word) (number : ℕ) (next : Move) : Type 0 where
   pub legal : IsLegalMove (outline_of front) next
   pub few : order_of front + next.count ≤ n
-  pub stand : IsSearchState n front next
   pub goes : GoesToWord n (front ++ next ∷ []) number
 
 pub next_to : (n : ℕ) (front : Word) (number : ℕ) (next : Move) → GoesOnByNumber front number → n ≤ 16 → GoesToWord n front number → order_of front < n
@@ -47,13 +47,6 @@ next_to n front number next by most g few read = cases g.rest g.is
     cases (k ∷ rest) is = subst (IsNextTo n front number) (sym (read k rest legal (omega (arith, order, most)) (ap packed (sym is) ∙ g.number_is))) (record {
       legal = (legal_rest start front (k ∷ rest) legal).0;
       few = count;
-      stand = record {
-        legal = legal_front start front (k ∷ rest) legal;
-        small = omega (arith, few);
-        some = ((legal_rest start front (k ∷ rest) legal).0).some;
-        count = omega (arith, count, most);
-        signs = omega (arith, count, most, few_signs (outline_of front) k (legal_rest start front (k ∷ rest) legal).0);
-      };
       goes = record {
         word = g.word;
         rest = rest;
@@ -72,6 +65,38 @@ next_to n front number next by most g few read = cases g.rest g.is
 
         count : order_of front + k.count ≤ n
         count = omega (arith, order, order_append front (k ∷ rest), order_more k rest)
+
+-- a search goes on by it, where its moves are read
+module _ (n : ℕ) (t : SearchState) (number : ℕ) (goes : GoesToWord n t.front number) (order : t.order ≡ n) (kept : IsKeptSearch t) (read : Word)
+    (same : read ≡ t.front) (few : order_of t.front < n) where
+  most : n ≤ 16
+  most = omega (arith, kept.most, order)
+
+  pub going_by : GoesOnByNumber read number
+  going_by = subst (λ (w : Word). GoesOnByNumber w number) (sym same) (goes_by n t.front number goes few most)
+
+  pub going_next : (m : Move) → ((k : Move) (rest : Word) → IsLegal (read ++ k ∷ rest) → order_of (read ++ k ∷ rest) ≤ 16
+      → packed (read ++ k ∷ rest) ≡ number → m ≡ k) → IsNextTo n t.front number m
+  going_next m by_number = next_to n t.front number m (goes_by n t.front number goes few most) most goes few
+      (subst (λ (w : Word). (k : Move) (rest : Word) → IsLegal (w ++ k ∷ rest) → order_of (w ++ k ∷ rest) ≤ 16 → packed (w ++ k ∷ rest) ≡ number → m ≡ k)
+      same by_number)
+
+-- and comes nearer by it, one step for one move
+module _ (t u : SearchState) (m : Move) (is : u ≡ down_from t m) where
+  pub played_nearer : (n number : ℕ) → t.order ≡ n → IsNextTo n t.front number m → u.order - order_of u.front < t.order - order_of t.front
+  played_nearer n number order next =
+      omega (arith, ap (λ (s : SearchState). s.order - order_of s.front) is, order_one t.front m, (next.legal).some, next.few, order)
+
+  pub played_goes : (n number : ℕ) → IsNextTo n t.front number m → GoesToWord n u.front number
+  played_goes n number next = subst (λ (s : SearchState). GoesToWord n s.front number) (sym is) next.goes
+
+  pub played_each : (before first steps then : ℕ) → steps + first ≡ before + length t.front → then ≡ steps + 1 → then + first ≡ before + length u.front
+  played_each before first steps then each one =
+      omega (arith, each, one, ap (λ (s : SearchState). length s.front) is, length-append t.front (m ∷ []))
+
+  pub played_stays : (steps then : ℕ) → then ≡ steps + 1 → StaysOf t u steps then
+  played_stays steps then one = stays_one t u steps then (ap (λ (s : SearchState). s.order) is) (ap (λ (s : SearchState). s.class) is)
+      (ap (λ (s : SearchState). s.pushes) is) one
 
 -- where as many squares hang, it is there
 pub is_there : (n : ℕ) (front : Word) (number : ℕ) → GoesToWord n front number → n ≤ order_of front → IsAtNumber n front number

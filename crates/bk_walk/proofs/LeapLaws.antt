@@ -14,12 +14,12 @@ use Rattle.bk_word.proofs.StoredBytes.{order_append, order_more}
 use Rattle.bk_word.proofs.WordOrder.{follows_trans, move_same}
 use Rattle.bk_catalogue.specs.Catalogue.{Entry, IsEntry}
 use Rattle.bk_packed.specs.Reading.{IsSharedFront}
-use Rattle.bk_tree.proofs.MoveOrder.{greater}
-use Rattle.bk_tree.proofs.Places.{before_first, before_one, front_cmp, not_before_first}
-use Rattle.bk_tree.specs.NextMove.{first_move}
-use Rattle.bk_walk.proofs.Advancing.{before_not_before, before_or, met_at, met_on}
-use Rattle.bk_walk.proofs.SearchSteps.{fewer_at}
-use Rattle.bk_walk.specs.Search.{HasPassed, IsMet, IsTreeWord, Meets}
+use Rattle.bk_catalogue.proofs.MoveOrder.{greater}
+use Rattle.bk_catalogue.proofs.Places.{before_first, before_one, front_cmp, not_before_first}
+use Rattle.bk_catalogue.specs.NextMove.{first_move}
+use Rattle.bk_tree_walk.proofs.Advancing.{before_not_before, before_or, met_at, met_on}
+use Rattle.bk_tree_walk.proofs.SearchSteps.{fewer_at}
+use Rattle.bk_tree_walk.specs.Search.{HasPassed, IsMet, IsTreeWord, Meets}
 
 -- a word that begins with another and goes on is behind it
 goes_behind : (w : Word) → Follows (w ++ first_move ∷ []) w

@@ -1,75 +1,24 @@
--- A place where the next move is made legal: nothing lies between, and a table of members tells the words from there on.
+-- What a table of members tells of the words from the place on where a search stands.
 use Rattle.std.specs.Cmp.{nat_cmp_is}
-use Rattle.std.specs.declared.cmp.Ordering.TheVariants.{Equal, Less}
-use Rattle.std.proofs.Common.{[], ap, arith, inl, inr, subst, sym, ℕ, ◌++◌, ◌+◌, ◌∙◌, ◌∷◌, ◌≡◌, ◌≤◌, ◌⊎◌}
+use Rattle.std.specs.declared.cmp.Ordering.TheVariants.{Equal}
+use Rattle.std.proofs.Common.{[], ap, arith, subst, sym, ℕ, ◌++◌, ◌∙◌, ◌∷◌, ◌≡◌, ◌≤◌}
 use Rattle.bk_word.specs.Outline.{start}
-use Rattle.bk_word.specs.Play.{IsLegal, outline_of}
-use Rattle.bk_word.specs.Word.{Follows, Move, Word, move_cmp, order_of}
+use Rattle.bk_word.specs.Play.{IsLegal}
+use Rattle.bk_word.specs.Word.{Follows, Move, Word, order_of}
 use Rattle.bk_word.specs.declared.Class.{Class}
-use Rattle.bk_word.proofs.PlayLaws.{few_signs, legal-snoc}
+use Rattle.bk_word.proofs.PlayLaws.{legal-snoc}
 use Rattle.bk_word.proofs.StoredBytes.{order_one}
-use Rattle.bk_word.proofs.WordOrder.{follows_trans}
 use Rattle.bk_catalogue.specs.Catalogue.{Entry, IsEntry}
 use Rattle.bk_catalogue.proofs.OneEntry.{entry_complete}
 use Rattle.bk_packed.specs.Packed.{packed}
 use Rattle.bk_packed.proofs.PackedOrder.{packed_places_compare, packed_words_compare}
-use Rattle.bk_tree.specs.NextMove.{IsLeastFrom}
-use Rattle.bk_tree.proofs.Places.{word_same}
-use Rattle.bk_walk.proofs.Advancing.{ended, entry_word, moved_on}
-use Rattle.bk_walk.proofs.Passing.{IsOver, move_over}
-use Rattle.bk_walk.proofs.SearchSteps.{at_or_after, fewer_end, up_by_move}
+use Rattle.bk_catalogue.proofs.Places.{word_same}
+use Rattle.bk_tree_walk.proofs.Advancing.{entry_word}
 use Rattle.bk_walk.specs.Leaping.{Tells, TellsOfPlace}
-use Rattle.bk_walk.specs.Search.{Ends, HasPassed, IsKeptSearch, IsReady, IsSearchState, SearchState, StepLeadsTo, place_of}
-use Rattle.bk_walk.specs.declared.search.Went.{Went}
-use Rattle.bk_walk.specs.declared.search.Went.TheVariants.{End, Met, On}
+use Rattle.bk_tree_walk.specs.Search.{GoesOnFrom, IsKeptSearch, IsReady, SearchState, StaysOf, StepLeadsTo, place_of}
+use Rattle.bk_tree_walk.specs.declared.Went.{Went}
 use Rattle.bk_walk.specs.declared.tabled.Told.{Told}
 use Rattle.bk_walk.specs.declared.tabled.Told.TheVariants.{Next, NoMore, Nothing}
-
--- from a place to that of the least legal move that isn't before it
-module _ (n : ℕ) (class : Class) (front : Word) (x m : Move) (least : IsLeastFrom (outline_of front) x m) where
-  -- what was passed there is passed here
-  fits_on : (cursor : Word) (met : ℕ) → HasPassed n class cursor (front ++ x ∷ []) met → HasPassed n class cursor (front ++ m ∷ []) met
-  fits_on cursor met p = cases (at_or_after x m least.from)
-    where
-      none : (e : Entry) → IsEntry n class e → (Follows (front ++ x ∷ []) e.word → ⊥) → Follows (front ++ m ∷ []) e.word → ⊥
-      none e is from to = by_move (move_over n front x m m e.word (entry_word n class e is) least from to)
-        where
-          by_move : IsOver front m m e.word → ⊥
-          by_move o = o.from o.to
-
-      cases : (move_cmp x m ≡ Less) ⊎ (x ≡ m) → HasPassed n class cursor (front ++ m ∷ []) met
-      cases (inl f) = moved_on n class (front ++ x ∷ []) (front ++ m ∷ []) (up_by_move front x m [] [] f) none cursor met p
-      cases (inr e) = subst (λ (k : Move). HasPassed n class cursor (front ++ k ∷ []) met) e p
-
-  -- what is behind the one is behind the other
-  up_from : (w : Word) → Follows w (front ++ m ∷ []) → Follows w (front ++ x ∷ [])
-  up_from w f = cases (at_or_after x m least.from)
-    where
-      cases : (move_cmp x m ≡ Less) ⊎ (x ≡ m) → Follows w (front ++ x ∷ [])
-      cases (inl e) = follows_trans (front ++ x ∷ []) (front ++ m ∷ []) w (up_by_move front x m [] [] e) f
-      cases (inr e) = subst (λ (k : Move). Follows w (front ++ k ∷ [])) (sym e) f
-
-  -- so a step leads where it leads from there
-  pub step_from : (new : Word) (next : Move) (met : ℕ) (went : Went) → StepLeadsTo n class (front ++ m ∷ []) new next met went
-      → StepLeadsTo n class (front ++ x ∷ []) new next met went
-  step_from new next met On leads = (
-    record { up = up_from (new ++ next ∷ []) (leads.0).up; on = λ cursor before p. (leads.0).on cursor before (fits_on cursor before p) },
-    leads.1,
-  )
-  step_from new next met Met leads = λ cursor before p. leads cursor before (fits_on cursor before p)
-  step_from new next met End leads = (λ cursor before p. leads.0 cursor before (fits_on cursor before p), leads.1)
-
-  -- the search stands there too
-  pub fitted_stand : n ≤ 16 → IsSearchState n front x → order_of front + m.count ≤ n → IsSearchState n front m
-  fitted_stand most s few = record {
-    legal = s.legal;
-    small = s.small;
-    some = least.legal.some;
-    count = omega (arith, few, most);
-    signs = omega (arith, few_signs (outline_of front) m least.legal, few, most);
-  }
-
--- ---- what a table tells of it
 
 -- the place is a word of the tree
 module _ (n : ℕ) (class : Class) (place : Word) (legal : IsLegal place) (small : order_of place ≤ n) (most : n ≤ 16) where
@@ -95,17 +44,22 @@ module _ (n : ℕ) (class : Class) (place : Word) (legal : IsLegal place) (small
   tells_of_place Nothing t = tt
 
 -- what is told by the number of a search's place
-pub tells_here : (s : SearchState) (front : Word) (number : ℕ) (told : Told) → IsKeptSearch s → IsReady s → front ≡ s.front
-    → number ≡ packed (front ++ s.next ∷ []) → Tells s.order s.class number told → TellsOfPlace s.order s.class (place_of s) told
-tells_here s front number told kept ready same is t = tells_of_place s.order s.class (place_of s)
+pub tells_here : (s : SearchState) (front : Word) (next : Move) (n : ℕ) (class : Class) (number : ℕ) (told : Told) → IsKeptSearch s → IsReady s
+    → front ≡ s.front → next ≡ s.next → n ≡ s.order → class ≡ s.class → number ≡ packed (front ++ next ∷ []) → Tells n class number told
+    → TellsOfPlace s.order s.class (place_of s) told
+tells_here s front next n class number told kept ready same same_next same_order same_class is t = tells_of_place s.order s.class (place_of s)
     (legal-snoc start s.front s.next kept.stand.legal ready.legal) (omega (arith, ready.few, order_one s.front s.next)) kept.most told
-    (subst (λ n. Tells s.order s.class n told) (is ∙ ap (λ (w : Word). packed (w ++ s.next ∷ [])) same) t)
+    (subst (λ (k : ℕ). Tells k s.class (packed (place_of s)) told) same_order (subst (λ (k : Class). Tells n k (packed (place_of s)) told) same_class
+    (subst (λ (k : ℕ). Tells n class k told) (is ∙ ap (λ (w : Word). packed (w ++ next ∷ [])) same
+    ∙ ap (λ (m : Move). packed (s.front ++ m ∷ [])) same_next) t)))
 
--- where nothing is told to be left, the search ends
-pub ends_there : (n : ℕ) (class : Class) (place : Word) (met : ℕ) → ((e : Entry) → IsEntry n class e → (Follows place e.word → ⊥) → ⊥) → met ≤ 0
-    → Ends n class place met
-ends_there n class place met none few cursor before p =
-    fewer_end n class cursor before (before + met) (omega arith) (ended n class place cursor before none p)
+-- where a search has settled, a step leads from where it was
+pub goes_on : (s then : SearchState) (steps : ℕ) → StaysOf s then steps steps → GoesOnFrom s.order s.class (place_of s) (place_of then)
+    → (front : Word) (next : Move) (met : ℕ) (went : Went) → StepLeadsTo then.order then.class (place_of then) front next met went
+    → StepLeadsTo s.order s.class (place_of s) front next met went
+goes_on s then steps stays from front next met went leads = from front next met went
+    (subst (λ (k : Class). StepLeadsTo s.order k (place_of then) front next met went) stays.class
+    (subst (λ (n : ℕ). StepLeadsTo n then.class (place_of then) front next met went) stays.order leads))
 
 -- two legal words of one order with one number are one
 pub same_word : (n : ℕ) (v w : Word) → IsLegal v → IsLegal w → order_of v ≡ n → order_of w ≡ n → n ≤ 16 → packed v ≡ packed w → v ≡ w

@@ -1,15 +1,11 @@
--- What a walk through the catalogues of order 2 gives from the start, and what its one word tells.
-use Rattle.std.specs.Prelude.{pos}
-use Rattle.std.proofs.Common.{[], arith, inl, inr, refl, subst, suc, sym, zero, ◌∷◌, ◌≡◌}
-use Rattle.std.proofs.lemmas.Int.{ints}
+-- What a walk through the catalogues of order 2 gives from the start.
+use Rattle.std.proofs.Common.{[], refl, subst, sym}
 use Rattle.bk_word.specs.Word.{Follows, Word}
 use Rattle.bk_word.specs.declared.Class.TheVariants.{Imperfect, Perfect}
 use Rattle.bk_word.proofs.FollowLaws.{not_itself}
 use Rattle.bk_catalogue.proofs.TwoSquares.{row_of_two}
 use Rattle.bk_catalogue.specs.Following.{HasNoneAfter}
 use Rattle.bk_walk.specs.Walking.{IsNextMember}
-use Rattle.bk_walk.specs.WholeWords.{IsUnfit}
-use Rattle.bk_catalogue.proofs.RepeatedExamples.{row_alike}
 use Rattle.bk_catalogue.proofs.CatalogueExamples.{row_word, has_word, entry_is, row_word_of, no_perfect}
 
 -- a walk gives the row first, and nothing after it; in the class perfect nothing at all
@@ -26,13 +22,3 @@ none_after_it e is after = not_itself row_word (subst (λ (w : Word). Follows w 
 
 none_at_all : HasNoneAfter 2 Perfect []
 none_at_all e is after = no_perfect e is
-
--- the currents of the row's net are one number twice, so they are unfit in the class perfect, and in the class imperfect they are fit
-row_unfit : IsUnfit Perfect (pos 1 ∷ pos 1 ∷ [])
-row_unfit = inr (refl, row_alike)
-
-row_fit : IsUnfit Imperfect (pos 1 ∷ pos 1 ∷ []) → ⊥
-row_fit (inl (zero, c, within, at, below)) = let one : pos 1 ≡ c = at in omega (arith, ints, one, below)
-row_fit (inl (suc zero, c, within, at, below)) = let one : pos 1 ≡ c = at in omega (arith, ints, one, below)
-row_fit (inl (suc (suc k), c, within, at, below)) = absurd (omega (arith, within))
-row_fit (inr (perfect, two)) = cc

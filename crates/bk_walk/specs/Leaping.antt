@@ -50,9 +50,3 @@ pub record IsAtNumber (n : ℕ) (front : Word) (number : ℕ) : Type 0 where
   pub legal : IsLegal front
   pub order : order_of front ≡ n
   pub number_is : packed front ≡ number
-
--- some member has this word
-pub record IsMembersWord (n : ℕ) (class : Class) (word : Word) : Type 0 where
-  pub entry : Entry
-  pub is : IsEntry n class entry
-  pub word_is : entry.word ≡ word

@@ -2,5 +2,3 @@
 pub mod Walking
 -- How its code keeps it.
 pub mod Leaping
-pub mod Search
-pub mod WholeWords

@@ -7,7 +7,7 @@ use Rattle.bk_word.specs.Play.{IsComplete}
 use Rattle.bk_word.specs.Word.{Follows, Word, order_of}
 use Rattle.bk_word.specs.declared.Class.{Class}
 use Rattle.bk_lay.specs.TilingWord.{IsWordOf}
-use Rattle.bk_word_net.specs.WideWord.{IsWideWord}
+use Rattle.bk_skel.specs.WideWord.{IsWideWord}
 use Rattle.bk_catalogue.specs.Catalogue.{IsMember}
 use Rattle.bk_catalogue.specs.Following.{HasNoneAfter, HasNoneBetween}
 

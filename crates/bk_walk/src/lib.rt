@@ -1,10 +1,7 @@
-//! The catalogue of simple tilings, and the tree of words that is searched for it.
+//! The catalogue of simple tilings, and the walk through it, from member to member.
 #![tactic(auto)]
 
-mod judging;
 mod leaping;
-mod realising;
-mod resuming;
 mod search;
 mod tabled;
 mod walk;

@@ -12,19 +12,19 @@ use Rattle.bk_word.specs.declared.Class.{Class}
 use Rattle.bk_word.specs.declared.Class.TheVariants.{Perfect}
 use Rattle.bk_word.specs.declared.Sign.{Sign}
 use Rattle.bk_word.specs.declared.Sign.TheVariants.{Above, Even}
-use Rattle.bk_cuts.proofs.CuttingFirst.{shorter_first_is_barren}
-use Rattle.bk_cuts.proofs.CuttingLines.{too_many_lines_is_barren}
-use Rattle.bk_cuts.proofs.CuttingPairs.{even_squares_are_barren}
-use Rattle.bk_tree.proofs.Fitting.{less_longer}
-use Rattle.bk_tree.proofs.MoveOrder.{Begins, IsLess, IsShort, begun_before, less_from, less_to, moves_between, next_short, signs_cmp}
-use Rattle.bk_tree.proofs.Places.{move_from_parts, one_legal}
-use Rattle.bk_bounds.specs.SingleValleys.{single_valleys}
-use Rattle.bk_cuts.specs.Cuts.{IsBarren}
-use Rattle.bk_cuts.proofs.OneUnderOne.{one_under_one_is_barren}
+use Rattle.bk_catalogue.proofs.CuttingFirst.{shorter_first_is_barren}
+use Rattle.bk_catalogue.proofs.CuttingLines.{too_many_lines_is_barren}
+use Rattle.bk_catalogue.proofs.CuttingPairs.{even_squares_are_barren}
+use Rattle.bk_catalogue.proofs.Fitting.{less_longer}
+use Rattle.bk_catalogue.proofs.MoveOrder.{Begins, IsLess, IsShort, begun_before, less_from, less_to, moves_between, next_short, signs_cmp}
+use Rattle.bk_catalogue.proofs.Places.{move_from_parts, one_legal}
+use Rattle.bk_catalogue.specs.SingleValleys.{single_valleys}
+use Rattle.bk_catalogue.specs.Cuts.{IsBarren}
+use Rattle.bk_catalogue.proofs.OneUnderOne.{one_under_one_is_barren}
 use Rattle.bk_word.specs.OwnSigns.{own_signs}
 use Rattle.bk_walk_cuts.specs.MoveCuts.{GrowsByAtMostOne, IsCut, IsFrontEndingEven}
-use Rattle.bk_tree.specs.NextMove.{IsMoveFrom, move_after, move_of, signs_after}
-use Rattle.bk_bounds.specs.VerticalCut.{line_bound_of}
+use Rattle.bk_catalogue.specs.NextMove.{IsMoveFrom, move_after, move_of, signs_after}
+use Rattle.bk_catalogue.specs.VerticalCut.{line_bound_of}
 
 -- the move with its first signs alone
 abbrev pub front_signs : ℕ → Move → Move

@@ -11,9 +11,9 @@ use Rattle.bk_word.specs.Outline.{IsLegalMove, Outline, sizes_of, start, valley_
 use Rattle.bk_word.specs.Play.{IsLegal, after_move, outline_of}
 use Rattle.bk_word.specs.Word.{Move, Word, order_of}
 use Rattle.bk_word.specs.declared.Sign.{Sign}
-use Rattle.bk_bounds.proofs.BoundsOfWords.{segment_at, segments_again}
-use Rattle.bk_bounds.proofs.LineMoves.{lines-append, lines_long}
-use Rattle.bk_bounds.specs.VerticalCut.{IsLinedWord, begins_on_line, lines_after, lines_along, edges_on_lines, segments_of}
+use Rattle.bk_catalogue.proofs.BoundsOfWords.{segment_at, segments_again}
+use Rattle.bk_catalogue.proofs.LineMoves.{lines-append, lines_long}
+use Rattle.bk_catalogue.specs.VerticalCut.{IsLinedWord, begins_on_line, lines_after, lines_along, edges_on_lines, segments_of}
 
 -- ---- the valley
 

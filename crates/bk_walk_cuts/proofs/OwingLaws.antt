@@ -9,15 +9,15 @@ use Rattle.bk_word.specs.declared.Class.{Class}
 use Rattle.bk_word.specs.declared.Sign.{Sign}
 use Rattle.bk_word.proofs.StoredBytes.{order_append, order_more}
 use Rattle.bk_word.proofs.PlayLaws.{after-snoc}
-use Rattle.bk_bounds.proofs.ClosingLaws.{bound-parts, unders}
-use Rattle.bk_bound_counts.proofs.TallyLaws.{front_owes}
+use Rattle.bk_catalogue.proofs.ClosingLaws.{bound-parts, unders}
+use Rattle.bk_walk_cuts.proofs.TallyLaws.{front_owes}
 use Rattle.bk_walk_cuts.proofs.CutLaws.{cut_by_front, front_signs}
-use Rattle.bk_cuts.proofs.CuttingBounds.{too_many_to_close_is_barren}
-use Rattle.bk_tree.proofs.MoveOrder.{Begins}
-use Rattle.bk_bounds.specs.ClosingBound.{closing_bound}
-use Rattle.bk_cuts.specs.Cuts.{IsBarren}
+use Rattle.bk_catalogue.proofs.CuttingBounds.{too_many_to_close_is_barren}
+use Rattle.bk_catalogue.proofs.MoveOrder.{Begins}
+use Rattle.bk_catalogue.specs.ClosingBound.{closing_bound}
+use Rattle.bk_catalogue.specs.Cuts.{IsBarren}
 use Rattle.bk_walk_cuts.specs.MoveCuts.{IsCut}
-use Rattle.bk_tree.specs.NextMove.{move_after}
+use Rattle.bk_catalogue.specs.NextMove.{move_after}
 
 -- the cut by signs that ask for more squares than are left
 pub owing_cut : (n : ℕ) (class : Class) (front : Word) (m : Move) (kept room left under place : ℕ) → place ≡ valley_place (outline_of front).signs

@@ -2,3 +2,4 @@
 pub mod MoveCuts
 -- How its code keeps it.
 pub mod LinedWords
+pub mod Tally

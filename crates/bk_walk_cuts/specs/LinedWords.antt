@@ -1,7 +1,7 @@
 -- What is kept beside the moves of a search.
 use Rattle.std.specs.Prelude.{Bool, List}
 use Rattle.bk_word.specs.Word.{Word}
-use Rattle.bk_bounds.specs.VerticalCut.{IsLinedWord}
+use Rattle.bk_catalogue.specs.VerticalCut.{IsLinedWord}
 use Rattle.bk_form_cuts.specs.Trace.{IsTraceOf, Trace}
 
 -- the lines are those of the word, and the trace is one of its first moves

@@ -7,8 +7,8 @@ use Rattle.bk_word.specs.Word.{Move, Word, move_cmp}
 use Rattle.bk_word.specs.declared.Class.{Class}
 use Rattle.bk_word.specs.declared.Sign.{Sign}
 use Rattle.bk_word.specs.declared.Sign.TheVariants.{Even}
-use Rattle.bk_cuts.specs.Cuts.{IsBarren}
-use Rattle.bk_tree.specs.NextMove.{IsMoveFrom}
+use Rattle.bk_catalogue.specs.Cuts.{IsBarren}
+use Rattle.bk_catalogue.specs.NextMove.{IsMoveFrom}
 
 -- the legal moves from the one on and before the next may be passed over, because no member's word begins with these
 -- moves and one of them

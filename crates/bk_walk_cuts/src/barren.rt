@@ -7,14 +7,14 @@ ghost use Rattle.bk_word.specs.Play.{outline_of};
 ghost use Rattle.bk_word.specs.Word.{order_of};
 ghost use Rattle.bk_word.specs.declared.Class.{Class};
 ghost use Rattle.bk_word.specs.declared.Class.TheVariants.{Perfect};
-ghost use Rattle.bk_cuts.specs.Cuts.{IsBarren};
+ghost use Rattle.bk_catalogue.specs.Cuts.{IsBarren};
 ghost use Rattle.bk_walk_cuts.specs.MoveCuts.{GrowsByAtMostOne, IsCut, IsFrontEndingEven};
 
 use crate::lined::LinedSkel;
 use crate::moves::next_move;
 use crate::owing::skip_owing;
-use bk_bound_counts::single_valleys;
-use bk_skel::{Skel, open_side};
+use crate::singles::single_valleys;
+use bk_skeleton::{Skel, open_side};
 use bk_word::{Class, Move, Sign};
 
 /// Passes over a legal move by which no member's word of the order and the class goes on, and over others of which this is as

@@ -7,7 +7,11 @@ mod lined;
 mod lines;
 mod moves;
 mod owing;
+mod singles;
+mod tally;
 
 pub use barren::{is_barren, skip};
 pub use lined::LinedSkel;
 pub use moves::{begin_anew, first_move, least_legal_from, next_move};
+pub use singles::single_valleys;
+pub use tally::closing_bound;

@@ -5,14 +5,14 @@ ghost use Rattle.std.specs.Prelude.{IsTrue, [], length, take, ℕ, ◌++◌, ◌
 ghost use Rattle.bk_word.specs.Outline.{IsLegalMove};
 ghost use Rattle.bk_word.specs.Play.{IsLegal, outline_of};
 ghost use Rattle.bk_word.specs.Word.{order_of};
-ghost use Rattle.bk_cuts.specs.Cuts.{IsBarren};
-ghost use Rattle.bk_bounds.specs.VerticalCut.{line_bound_of};
+ghost use Rattle.bk_catalogue.specs.Cuts.{IsBarren};
+ghost use Rattle.bk_catalogue.specs.VerticalCut.{line_bound_of};
 ghost use Rattle.bk_form_cuts.specs.Trace.{IsTraceOf};
 
 use crate::lines::{line_bound, push_lines, valley_on_line};
 use arrayvec::ArrayVec;
 use bk_form_cuts::Tracing;
-use bk_skel::{Skel, Steps};
+use bk_skeleton::{Skel, Steps};
 use bk_word::{Class, LARGEST_ORDER, Move};
 use std::marker::Model;
 use std::sync::ledger::Ledger;

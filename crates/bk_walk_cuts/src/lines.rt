@@ -3,10 +3,10 @@
 ghost use Rattle.std.specs.List.{list_any};
 ghost use Rattle.std.specs.Prelude.{[], cond, drop, length, replicate, slice_index_or, sum, take, ◌||◌, ◌+◌, ◌++◌, ◌-◌, ◌<◌, ◌∷◌, ◌^◌, ◌≡◌, ◌≤◌};
 ghost use Rattle.bk_word.specs.Outline.{valley_place};
-ghost use Rattle.bk_bounds.specs.VerticalCut.{begins_on_line, line_bound, on_line, segments_of, touched};
+ghost use Rattle.bk_catalogue.specs.VerticalCut.{begins_on_line, line_bound, on_line, segments_of, touched};
 
+use crate::tally::first_above;
 use arrayvec::ArrayVec;
-use bk_bound_counts::first_above;
 use bk_word::Sign;
 
 /// Appends of the squares of a move whether their left edges lie on a vertical line that runs from the top between squares of

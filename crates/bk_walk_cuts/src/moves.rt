@@ -2,7 +2,7 @@
 #![tactic(auto)]
 
 ghost use Rattle.std.specs.Prelude.{IsTrue, None, Some, [], false, length, ◌+◌, ◌<◌, ◌≡◌, ◌≤◌};
-ghost use Rattle.bk_tree.specs.NextMove.{fitted, first_move as first_of_all, move_after, padded, signs_after};
+ghost use Rattle.bk_catalogue.specs.NextMove.{fitted, first_move as first_of_all, move_after, padded, signs_after};
 
 use arrayvec::ArrayVec;
 use bk_word::{MOST_SIGNS, Move, Sign};

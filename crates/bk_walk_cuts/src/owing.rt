@@ -7,8 +7,8 @@ ghost use Rattle.bk_word.specs.declared.Class.{Class};
 ghost use Rattle.bk_walk_cuts.specs.MoveCuts.{GrowsByAtMostOne, IsCut};
 
 use crate::moves::next_move;
-use bk_bound_counts::{first_above, first_over, unders_behind};
-use bk_skel::Skel;
+use crate::tally::{first_above, first_over, unders_behind};
+use bk_skeleton::Skel;
 use bk_word::Move;
 
 // Passes over a move, and over all of its count whose signs are the same up to a place, where the signs up to there ask for

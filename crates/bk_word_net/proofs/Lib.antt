@@ -1,5 +1,4 @@
 -- the play of a word and its net, which is small and has no loose node
-pub mod NarrowWords
 pub mod WordNetExamples
 pub mod Numbering
 pub mod Wires
@@ -7,7 +6,6 @@ pub mod PlacesInLists
 pub mod Shape
 pub mod NoLoose
 -- from a tiling of a word to a flow of its net, and that a word has one primitive tiling
-pub mod SidesExamples
 pub mod Sums
 pub mod AlongWord
 pub mod LaidFlow

@@ -1,14 +1,13 @@
 -- What the primitive flow of a word's net says of the tilings that have the word.
 use Rattle.std.specs.List.{AllByRecursion}
-use Rattle.std.specs.Prelude.{Any, nat_abs, pos, ℤ, ◌-ℤ◌, ◌≤ℤ◌}
-use Rattle.std.proofs.Common.{IfSome, IsSomeAnd, List, None, Option, Some, [], ap, arith, length, map, refl, subst, sym, ℕ, ◌++◌, ◌^◌, ◌∙◌, ◌∷◌, ◌≡◌, ◌≤◌}
+use Rattle.std.specs.Prelude.{pos, ℤ, ◌-ℤ◌, ◌≤ℤ◌}
+use Rattle.std.proofs.Common.{IfSome, IsSomeAnd, List, None, Option, Some, [], ap, arith, length, map, refl, subst, sym, ℕ, ◌++◌, ◌∙◌, ◌∷◌, ◌≡◌, ◌≤◌}
 use Rattle.std.proofs.lemmas.Int.{ints}
 use Rattle.std.proofs.lemmas.List.{length-map}
 use Rattle.bk_tiling.specs.Scale.{IsPrimitiveTiling}
 use Rattle.bk_tiling.specs.Tiling.{IsTiling, Tiling}
 use Rattle.bk_tiling.specs.declared.Square.{Square}
 use Rattle.bk_net.specs.Flow.{Flow, IsFlow, IsOneFlow, IsPrimitive, IsPrimitiveFlow, outflow, potential}
-use Rattle.bk_flow.proofs.OnePrimitive.{one_primitive}
 use Rattle.bk_word.specs.Outline.{start}
 use Rattle.bk_word.specs.Play.{IsComplete, outline_of}
 use Rattle.bk_word.specs.Word.{Word, order_of}
@@ -22,7 +21,6 @@ use Rattle.bk_word_net.proofs.Wires.{wires_by, wires_length}
 use Rattle.bk_word_net.specs.FlowTiling.{IsTilingByFlow, PlacesWord}
 use Rattle.bk_word_net.specs.LaidTiling.{IsLaidWith}
 use Rattle.bk_word_net.specs.Realised.{IsRealised, IsTilingOf}
-use Rattle.bk_word_net.specs.WideWord.{HasLargeCurrent}
 use Rattle.bk_word_net.specs.WordNet.{end_of, net_of_word}
 
 -- the net of a word has a wire for each square
@@ -95,11 +93,6 @@ module _ (w : Word) (complete : IsComplete w) (f : Flow) (one : IsOneFlow (net_o
         prime = a_primitive_flow_is_a_primitive_tiling w f t complete one.flow primitive
             (record { tiling = l.tiling; word = l.word; laid = l.laid; levels = l.levels; along = l.along; sides = same; width = width })
 
--- a large current of one primitive flow is one of every other
-pub large_in : (w : Word) (total : ℤ) (currents : List ℤ) → IsPrimitiveFlow (net_of_word w) total currents → HasLargeCurrent (net_of_word w)
-    → Any (λ c. 10 ^ 15 ≤ nat_abs c) currents
-large_in w total currents p (other, cs, q, large) = subst (Any (λ c. 10 ^ 15 ≤ nat_abs c)) (one_primitive (net_of_word w) other total cs currents q p).1 large
-
 module _ (w : Word) (complete : IsComplete w) (total : ℤ) (currents : List ℤ) (p : IsPrimitiveFlow (net_of_word w) total currents) where
   abbrev f : Flow
   f = record { total = total; potentials = p.0; currents = currents }
@@ -121,11 +114,3 @@ module _ (w : Word) (complete : IsComplete w) (total : ℤ) (currents : List ℤ
   pub none_by : (seen : List ℤ) → seen ≡ currents → (AllByRecursion (λ c. pos 1 ≤ℤ c) seen → ⊥) → (t : Tiling) → IsTiling t → IsWordOf t w → ⊥
   none_by seen a never = not_long w complete (record { total = total; potentials = p.0; currents = currents }) p.1 p.2
       (subst (λ (cs : List ℤ). AllByRecursion (λ c. pos 1 ≤ℤ c) cs → ⊥) a never)
-
-  -- a large current makes the word wide
-  pub large_by : (seen : List ℤ) → seen ≡ currents → Any (λ c. 10 ^ 15 ≤ nat_abs c) seen → HasLargeCurrent (net_of_word w)
-  large_by seen a large = (total, currents, p, subst (Any (λ c. 10 ^ 15 ≤ nat_abs c)) a large)
-
-  -- and only that
-  pub large_from : (seen : List ℤ) → seen ≡ currents → HasLargeCurrent (net_of_word w) → Any (λ c. 10 ^ 15 ≤ nat_abs c) seen
-  large_from seen a h = subst (Any (λ c. 10 ^ 15 ≤ nat_abs c)) (sym a) (large_in w total currents p h)

@@ -1,7 +1,5 @@
 -- What the crate says.
 pub mod WordNet
-pub mod WideWord
-pub mod NarrowWord
 pub mod Renumbering
 pub mod WordFlow
 pub mod FlowTiling

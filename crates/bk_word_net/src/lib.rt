@@ -1,10 +1,9 @@
-//! The theory of a word's net: its one flow, which flows place the word's squares, and which words are wide.
+//! The theory of a word's net: its one flow, and which flows place the word's squares.
 #![tactic(auto)]
 
 ghost use Rattle.bk_word_net.specs.WordFlow.{AWordHasOneFlow, AWordHasOnePrimitiveTiling, AWordHasOneTiling, AWordNetHasNoLoose, LaidSidesAreAFlow};
 ghost use Rattle.bk_word_net.specs.FlowTiling.{AFlowPlacesATiling, APrimitiveFlowIsAPrimitiveTiling, AWordOfATilingIsPlaced};
 ghost use Rattle.bk_word_net.specs.Renumbering.{WordNetIsSmithDiagram};
-ghost use Rattle.bk_word_net.specs.NarrowWord.{NoSmallWordIsWide};
 
 /// The net of a complete word has no loose node.
 pub fn a_word_net_has_no_loose()
@@ -49,10 +48,4 @@ pub fn a_word_of_a_tiling_is_placed()
 /// The net of a tiling's word is its Smith diagram, with nodes and wires renumbered.
 pub fn a_word_net_is_the_smith_diagram()
     ensures { WordNetIsSmithDiagram }
-{}
-
-/// No complete word of at most 16 squares is wide: each number that the stated elimination of its net writes is below
-/// 2^127, and each side of its squares is at most 2^34.
-pub fn no_small_word_is_wide()
-    ensures { NoSmallWordIsWide }
 {}

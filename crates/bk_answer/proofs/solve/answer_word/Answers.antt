@@ -5,7 +5,7 @@ use Rattle.bk_word_net.specs.Realised.{IsRealised}
 use Rattle.bk_skel.specs.RealisedIn.{tiling_found}
 use Rattle.bk_skel.specs.SolveRefusal.{IsSolveFault}
 use Rattle.bk_skel.specs.declared.placing.Realised.{Realised}
-use Rattle.bk_word_net.specs.WideWord.{IsWideWord}
+use Rattle.bk_skel.specs.WideWord.{IsWideWord}
 use Rattle.bk_report.specs.Answers.{tiling_line}
 use Rattle.bk_report.specs.declared.refusal.Refused.TheVariants.{Illegal, Nothing, Unfinished, Wide}
 use Rattle.bk_answer.specs.WordAnswer.{AnswersWord, illegal, no_tiling, realised, unfinished, wide_word}

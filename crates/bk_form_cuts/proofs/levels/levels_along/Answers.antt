@@ -1,7 +1,7 @@
 use Rattle.std.proofs.Common.{List, [], ap, arith, cond, length, lit<, map, nat_eq, slice_index_or, subst, sym, ◌++◌, ◌+◌, ◌-◌, ◌∙◌, ◌∷◌, ◌≤◌}
 use Rattle.bk_word.specs.Play.{outline_of}
 use Rattle.bk_word.specs.Word.{Move}
-use Rattle.bk_skel.specs.Valley.{Valley}
+use Rattle.bk_skeleton.specs.Valley.{Valley}
 use Rattle.bk_forms.specs.Form.{Form as SeenForm, with_side}
 use Rattle.bk_form_cuts.proofs.Segments.{beside_short, levels_are, numbers_are}
 use Rattle.bk_word.proofs.PlayLists.{numbers-length, place_within}

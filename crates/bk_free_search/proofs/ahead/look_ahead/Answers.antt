@@ -1,10 +1,10 @@
 use Rattle.std.proofs.Common.{ap, arith, cond, length, max, ℕ, ◌+◌, ◌∙◌, ◌≡◌}
 use Rattle.bk_word.specs.Play.{outline_of}
 use Rattle.bk_word.specs.Word.{Word}
-use Rattle.bk_bounds.proofs.BoundsOfWords.{shape_of_word}
+use Rattle.bk_catalogue.proofs.BoundsOfWords.{shape_of_word}
 use Rattle.bk_normal.specs.Normal.{Counts}
-use Rattle.bk_normal_cuts.proofs.NextMove.{too_few_evens_is_normal_barren}
-use Rattle.bk_normal_cuts.specs.NextMove.{AreMostMovesThen, left_squares_then, right_squares_then}
+use Rattle.bk_normal.proofs.NextMove.{too_few_evens_is_normal_barren}
+use Rattle.bk_normal.specs.NextMove.{AreMostMovesThen, left_squares_then, right_squares_then}
 use Rattle.bk_free_search.proofs.AheadMoves.{most_then_is}
 use Rattle.bk_free_search.proofs.ahead.look_ahead.Goals as goal
 

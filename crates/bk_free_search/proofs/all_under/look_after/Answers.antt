@@ -3,7 +3,7 @@ use Rattle.bk_word.specs.Outline.{has_left_wall, has_right_wall}
 use Rattle.bk_word.specs.Play.{IsLegal, outline_of}
 use Rattle.bk_word.specs.Signs.{is_even}
 use Rattle.bk_word.specs.Word.{Move, Word, order_of}
-use Rattle.bk_bounds.proofs.ClosingLaws.{at_most_one}
+use Rattle.bk_catalogue.proofs.ClosingLaws.{at_most_one}
 use Rattle.bk_free_search.proofs.Cutting.{few_signs_open}
 use Rattle.bk_normal.specs.Normal.{Counts}
 use Rattle.bk_free_search.proofs.UnderSigns.{left_then, right_then, signs_then, top_then}

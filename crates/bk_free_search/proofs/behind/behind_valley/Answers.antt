@@ -5,10 +5,10 @@ use Rattle.bk_word.specs.Play.{IsLegal, outline_of}
 use Rattle.bk_word.specs.Signs.{is_under}
 use Rattle.bk_word.specs.Word.{Word, order_of}
 use Rattle.bk_word.specs.declared.Sign.TheVariants.{Above}
-use Rattle.bk_normal_cuts.specs.WordNumbers.{first_count}
+use Rattle.bk_normal.specs.WordNumbers.{first_count}
 use Rattle.bk_free_search.specs.Apart.{AreAsks, marks_of_word}
 use Rattle.bk_word.proofs.PlayLists.{place_within}
-use Rattle.bk_bounds.proofs.BoundsOfWords.{sizes_long}
+use Rattle.bk_catalogue.proofs.BoundsOfWords.{sizes_long}
 use Rattle.bk_free_search.proofs.BehindLists.{asks_at_wall, marks_many, told_apart, told_apart_last, told_joined, told_joined_last, wide_mark}
 use Rattle.bk_free_search.proofs.Cutting.{few_signs_open}
 use Rattle.bk_free_search.proofs.behind.behind_valley.Goals as goal

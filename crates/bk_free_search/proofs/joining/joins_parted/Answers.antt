@@ -2,12 +2,12 @@ use Rattle.std.proofs.Common.{ap, arith, inl, inr, refl, subst, sym, ℕ, ◌∙
 use Rattle.bk_word.specs.Outline.{sizes_of, valley_of}
 use Rattle.bk_word.specs.Play.{IsLegal, outline_of}
 use Rattle.bk_word.specs.Word.{Word}
-use Rattle.bk_free_cuts.specs.LineNumbers.{left_end, right_end, sides_of}
+use Rattle.bk_net_word.specs.LineNumbers.{left_end, right_end, sides_of}
 use Rattle.bk_free_search.proofs.SharedAfter.{parted_before, parted_behind}
 use Rattle.bk_free_search.proofs.ValleyPlaces.{ends_within, valley_read}
 use Rattle.bk_free_search.specs.Joining.{JoinsLeft, JoinsRight}
 use Rattle.bk_free_search.specs.NodeLines.{Has}
-use Rattle.bk_skel.specs.SmallSkeleton.{IsValley}
+use Rattle.bk_skeleton.specs.SmallSkeleton.{IsValley}
 use Rattle.bk_free_search.proofs.joining.joins_parted.Goals as goal
 
 pub slice_bounds-squares-end : goal.slice_bounds-squares-end

@@ -1,5 +1,5 @@
 use Rattle.std.proofs.Common.{length, slice_index_or, true, ℕ, ◌<◌, ◌≡◌}
-use Rattle.bk_bounds.specs.VerticalCut.{on_line}
+use Rattle.bk_catalogue.specs.VerticalCut.{on_line}
 use Rattle.bk_free_search.specs.NodeLines.{Has}
 use Rattle.bk_free_search.specs.TopLines.{on_top_lines}
 use Rattle.bk_free_search.proofs.top_lines.places_on_lines.Given as goal

@@ -1,8 +1,8 @@
-use Rattle.std.proofs.Common.{subst}
+use Rattle.std.proofs.Common.{inl, subst}
 use Rattle.bk_lines.specs.Ending.{EndsWith}
 use Rattle.bk_lines.specs.Entering.{entries_of}
 use Rattle.bk_group_run.specs.Listed.{Listed, listing_rules}
-use Rattle.bk_group_run.proofs.ClosedLists.{closes_broken, closes_well, streams_of, verdict_told}
+use Rattle.bk_group_run.proofs.ClosedLists.{badly_told, closes_broken, closes_well, has_verdict, streams_of, verdict_told, well_told}
 use Rattle.bk_group_run.proofs.command.list_lines.Goals as goal
 
 pub returns-in-Ok-clause-ending : goal.returns-in-Ok-clause-ending
@@ -24,3 +24,22 @@ returns-in-NoneRefused-clause-ending g c =
     (g.O.Sink.written c.enter_lines-ended.new.out)) c.enter_lines-ended.result)
     c.new-list.ensures c.enter_lines-ended.ensures.ending)
     (verdict_told c.enter_lines-ended.result c.in-NoneRefused.is) c.write_closing.result c.write_closing.ensures.lines c.in-Err.field-0 c.in-Err.is
+
+pub returns-in-Ok-clause-complete : goal.returns-in-Ok-clause-complete
+returns-in-Ok-clause-complete g c _ = inl (has_verdict c.enter_lines-ended.result (verdict_told c.enter_lines-ended.result c.in-NoneRefused.is))
+
+pub returns-in-Ok-clause-faults : goal.returns-in-Ok-clause-faults
+returns-in-Ok-clause-faults g c =
+    well_told (g.S.Source.faults c.args.source.now) (g.S.Source.faults c.enter_lines-ended.new.source) (g.O.Sink.faults c.args.out.now)
+    (g.O.Sink.faults c.enter_lines-ended.new.out) (g.O.Sink.faults c.write_closing.new.out) c.enter_lines-ended.result
+    c.enter_lines-ended.ensures.faults c.write_closing.result c.write_closing.ensures.cause c.in-Ok.is
+
+pub returns-in-NoneRefused-clause-faults : goal.returns-in-NoneRefused-clause-faults
+returns-in-NoneRefused-clause-faults g c =
+    badly_told (g.S.Source.faults c.args.source.now) (g.S.Source.faults c.enter_lines-ended.new.source) (g.O.Sink.faults c.args.out.now)
+    (g.O.Sink.faults c.enter_lines-ended.new.out) (g.O.Sink.faults c.write_closing.new.out) c.enter_lines-ended.result
+    (verdict_told c.enter_lines-ended.result c.in-NoneRefused.is) c.enter_lines-ended.ensures.faults c.write_closing.result
+    c.write_closing.ensures.cause c.in-Err.field-0 c.in-Err.is
+
+pub returns-in-NoneRefused-clause-complete : goal.returns-in-NoneRefused-clause-complete
+returns-in-NoneRefused-clause-complete g c calm = absurd (calm.no_fault.writes (returns-in-NoneRefused-clause-faults g c).1)

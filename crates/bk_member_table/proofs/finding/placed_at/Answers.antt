@@ -1,9 +1,9 @@
 use Rattle.std.proofs.Common.{subst, sym}
 use Rattle.bk_word.specs.Word.{Word}
 use Rattle.bk_normal.specs.Normal.{Counts}
-use Rattle.bk_normal_cuts.proofs.NormalImages.{a_normal_word_has_settled_counts}
-use Rattle.bk_normal_cuts.specs.NormalImage.{AreSettledCounts, IsMetByNormalWord}
-use Rattle.bk_normal_cuts.specs.WordNumbers.{counts_of_word}
+use Rattle.bk_normal.proofs.NormalImages.{a_normal_word_has_settled_counts}
+use Rattle.bk_normal.specs.NormalImage.{AreSettledCounts, IsMetByNormalWord}
+use Rattle.bk_normal.specs.WordNumbers.{counts_of_word}
 use Rattle.bk_free_leaf.specs.Ties.{AreTiesOf}
 use Rattle.bk_member_table.proofs.finding.placed_at.Goals as goal
 

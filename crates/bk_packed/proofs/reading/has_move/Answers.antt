@@ -1,4 +1,3 @@
-use Rattle.std.proofs.Common.{arith}
 use Rattle.bk_packed.proofs.NextDigits.{has_made, made_signs}
 use Rattle.bk_packed.proofs.reading.has_move.Goals as goal
 

@@ -18,23 +18,13 @@ returns c =
       c.push-2.ensures.items,
       c.write_size.ensures.text,
       c.push.ensures.items,
-      c.push_number.ensures.text,
-      c.push_bytes.ensures,
+      c.push_named.ensures.text,
       c.order.ensures.value,
       c.width.ensures.value,
       c.height.ensures.value,
     )
     (verdict_pieces c.args.out.now.items (decimal (order c.args.tiling.now)) (size_text c.args.tiling.now.width c.args.tiling.now.height)
     (perfect_text c.args.repeated) (simple_text (option_map rectangle_of c.args.part)))
-
-pub push_number-requires : goal.push_number-requires
-push_number-requires c = grind (arith, common_steps)
-
-pub push-requires : goal.push-requires
-push-requires c = grind (arith, common_steps)
-
-pub write_size-requires : goal.write_size-requires
-write_size-requires c = grind (arith, common_steps)
 
 pub push-requires-2 : goal.push-requires-2
 push-requires-2 c = grind (arith, common_steps)

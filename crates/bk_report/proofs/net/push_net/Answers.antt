@@ -5,9 +5,6 @@ use Rattle.bk_report.proofs.net.push_net.Goals as goal
 pub loop-from-init : goal.loop-from-init
 loop-from-init c = grind (arith, common_steps)
 
-pub push-requires-in-loop-from : goal.push-requires-in-loop-from
-push-requires-in-loop-from c = grind (arith, common_steps)
-
 pub loop-from-preserved : goal.loop-from-preserved
 loop-from-preserved c = grind (arith, common_steps)
 

@@ -2,8 +2,8 @@ use Rattle.std.specs.Prelude.{IfErr, OnOk}
 use Rattle.std.proofs.Common.{arith, subst, sym, ◌≤◌}
 use Rattle.std.proofs.lemmas.Bool.{both_ways}
 use Rattle.bk_word.specs.Word.{Word, order_of}
-use Rattle.bk_word_net.proofs.NarrowWords.{no_small_word_is_wide}
-use Rattle.bk_word_net.specs.WideWord.{IsWideWord}
+use Rattle.bk_skel.proofs.NarrowWords.{no_small_word_is_wide}
+use Rattle.bk_skel.specs.WideWord.{IsWideWord}
 use Rattle.bk_skel.proofs.RealisedWord.{open_end}
 use Rattle.bk_skel.specs.SolveRefusal.{IsSolveFault}
 use Rattle.bk_skel.proofs.realising.realise_in.Goals as goal

@@ -1,4 +1,4 @@
-use Rattle.bk_word_net.proofs.NarrowWords.{no_small_word_is_wide}
+use Rattle.bk_skel.proofs.NarrowWords.{no_small_word_is_wide}
 use Rattle.bk_skel.proofs.realising.realise_small.Goals as goal
 
 pub returns-clause-wide : goal.returns-clause-wide

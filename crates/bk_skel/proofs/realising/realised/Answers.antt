@@ -1,12 +1,13 @@
 use Rattle.std.proofs.Common.{refl}
 use Rattle.std.proofs.lemmas.Bool.{both_ways}
-use Rattle.bk_word_net.proofs.WordTilings.{large_by, large_from, none_by, realised_by, sides_many}
+use Rattle.bk_word_net.proofs.WordTilings.{none_by, realised_by, sides_many}
+use Rattle.bk_skel.proofs.WideWords.{large_by, large_from}
 use Rattle.bk_skel.specs.RealisedIn.{tiling_found}
 use Rattle.bk_skel.proofs.realising.realised.Goals as goal
 
 pub returns-then-has_large-clause-wide : goal.returns-then-has_large-clause-wide
 returns-then-has_large-clause-wide c = (
-  λ e. large_by c.args.skel.now c.requires.closed c.args.flow.now.total c.args.flow.now.currents c.requires.flow
+  λ e. large_by c.args.skel.now c.args.flow.now.total c.args.flow.now.currents c.requires.flow
       c.currents-currents.result.now c.currents-currents.ensures.value (c.has_large.ensures.0 c.if-has_large.true),
   λ h. refl,
 )
@@ -25,7 +26,7 @@ returns-in-Some-clause-wide c = (
   λ e. absurd (both_ways _ refl e),
   λ h. absurd
       (both_ways c.has_large.result c.if-has_large.false (c.has_large.ensures.1
-      (large_from c.args.skel.now c.requires.closed c.args.flow.now.total c.args.flow.now.currents c.requires.flow c.currents-currents.result.now
+      (large_from c.args.skel.now c.args.flow.now.total c.args.flow.now.currents c.requires.flow c.currents-currents.result.now
       c.currents-currents.ensures.value h))),
 )
 
@@ -38,6 +39,6 @@ returns-in-None-clause-wide c = (
   λ e. absurd (both_ways _ refl e),
   λ h. absurd
       (both_ways c.has_large.result c.if-has_large.false (c.has_large.ensures.1
-      (large_from c.args.skel.now c.requires.closed c.args.flow.now.total c.args.flow.now.currents c.requires.flow c.currents-currents.result.now
+      (large_from c.args.skel.now c.args.flow.now.total c.args.flow.now.currents c.requires.flow c.currents-currents.result.now
       c.currents-currents.ensures.value h))),
 )

@@ -1,11 +1,11 @@
 use Rattle.std.proofs.Common.{arith, sym, true≢false, ◌∙◌}
-use Rattle.bk_verify.proofs.CountedMembers.{few_members}
+use Rattle.bk_entries.proofs.CountedMembers.{few_members}
 use Rattle.bk_verify.proofs.Passing.{at_none, at_some, passing_counted, passing_missing, passing_more, passing_none}
-use Rattle.bk_verify.specs.Kept.{IsKeptFrom, IsNotKept, IsUpTo}
+use Rattle.bk_entries.specs.Kept.{IsKeptFrom, IsNotKept, IsUpTo}
 use Rattle.bk_verify.proofs.rest.next_missing.Goals as goal
 
 pub members-init : goal.members-init
-members-init g c = passing_none c.args.walk.now c.args.kept.now c.args.members.now c.requires.class c.requires.counted
+members-init g c = passing_none c.args.walk.now c.args.entries.now.pairs c.args.members.now c.requires.class c.requires.counted
 
 pub overflow_add-members : goal.overflow_add-members
 overflow_add-members g c = omega (
@@ -16,24 +16,24 @@ overflow_add-members g c = omega (
 
 pub returns-then-is_none-clause-entry : goal.returns-then-is_none-clause-entry
 returns-then-is_none-clause-entry g c = (
-  passing_missing c.args.walk.now c.args.kept.now c.members.walk c.members.members c.members.invariant c.advance_in.new.entry.tiling
+  passing_missing c.args.walk.now c.args.entries.now.pairs c.members.walk c.members.members c.members.invariant c.advance_in.new.entry.tiling
       c.advance_in.new.entry.word (c.advance_in.ensures.entry c.if-not-advance_in.false)
-      (at_none (IsNotKept c.args.kept.now c.advance_in.new.entry.tiling) (IsKeptFrom c.args.kept.now c.advance_in.new.entry.tiling) c.line_of.result
-      c.if-is_none.ensures c.line_of.ensures),
+      (at_none (IsNotKept c.args.entries.now.pairs c.advance_in.new.entry.tiling)
+      (IsKeptFrom c.args.entries.now.pairs c.advance_in.new.entry.tiling) c.line_of.result c.if-is_none.ensures c.line_of.ensures),
   c.advance_in.ensures.code c.if-not-advance_in.false,
 )
 
 pub returns-then-is_none-clause-counted : goal.returns-then-is_none-clause-counted
 returns-then-is_none-clause-counted g c =
-    passing_counted c.args.walk.now c.args.kept.now c.members.walk c.members.members c.members.invariant c.advance_in.new.entry.tiling
+    passing_counted c.args.walk.now c.args.entries.now.pairs c.members.walk c.members.members c.members.invariant c.advance_in.new.entry.tiling
     c.advance_in.new.entry.word (c.advance_in.ensures.entry c.if-not-advance_in.false)
     c.advance_in.new.self c.advance_in.ensures.order (c.advance_in.ensures.cursor c.if-not-advance_in.false)
 
 pub members-preserved : goal.members-preserved
 members-preserved g c =
-    let found = at_some (IsNotKept c.args.kept.now c.advance_in.new.entry.tiling) (IsKeptFrom c.args.kept.now c.advance_in.new.entry.tiling)
+    let found = at_some (IsNotKept c.args.entries.now.pairs c.advance_in.new.entry.tiling) (IsKeptFrom c.args.entries.now.pairs c.advance_in.new.entry.tiling)
     c.line_of.result c.if-is_none.ensures c.line_of.ensures in
-    passing_more c.args.walk.now c.args.kept.now c.members.walk c.members.members c.members.invariant c.advance_in.new.entry.tiling
+    passing_more c.args.walk.now c.args.entries.now.pairs c.members.walk c.members.members c.members.invariant c.advance_in.new.entry.tiling
     c.advance_in.new.entry.word (c.advance_in.ensures.entry c.if-not-advance_in.false)
     c.advance_in.new.self c.advance_in.ensures.order c.advance_in.ensures.class
     (c.advance_in.ensures.cursor c.if-not-advance_in.false)

@@ -1,76 +1,45 @@
-use Rattle.std.proofs.Common.{refl, ◌∙◌}
-use Rattle.std.proofs.lemmas.Result.{IfOk-at_ok}
+use Rattle.std.proofs.Common.{arith, ◌∙◌}
 use Rattle.bk_word.proofs.Failing.{on_err}
-use Rattle.bk_verify_run.proofs.MissingListed.{IsListingOn, listing_begun, listing_end, listing_more, listing_none, word_some}
+use Rattle.bk_verify_run.proofs.Listing.{kept_behind, listing_broken, listing_end, listing_more, listing_none, none_behind}
 use Rattle.bk_verify_run.proofs.closing.write_missing_members.Goals as goal
 
 pub members-init : goal.members-init
-members-init g c =
-    let on = listing_none c.args.rest.now (g.O.Sink.written c.args.out.now) c.requires.start in
-    record { listed = on.listed; order = refl; pairs = refl; faults = refl }
+members-init g c = listing_none c.args.rest.now (g.O.Sink.written c.args.out.now) (g.O.Sink.faults c.args.out.now) c.requires.start
 
-pub write_missing-requires-clause-some : goal.write_missing-requires-clause-some
-write_missing-requires-clause-some g c =
-    let next = IfOk-at_ok _ c.in-Some-Ok.field-0-is c.in-Some-Ok.ensures.entry in
-    word_some c.members.rest.walk.order c.members.rest.pairs c.members.rest.walk.cursor c.in-Some-Ok.entry.tiling c.in-Some-Ok.entry.word next.0
-
-pub write_missing-requires-clause-code : goal.write_missing-requires-clause-code
-write_missing-requires-clause-code g c = (IfOk-at_ok _ c.in-Some-Ok.field-0-is c.in-Some-Ok.ensures.entry).1
-
-pub returns-in-None-clause-listed : goal.returns-in-None-clause-listed
-returns-in-None-clause-listed g c =
-    let on : IsListingOn c.args.rest.now c.members.rest c.members.missing (g.O.Sink.written c.args.out.now) (g.O.Sink.written c.members.out) =
-    record { listed = c.members.invariant.listed; order = c.members.invariant.order; pairs = c.members.invariant.pairs }
-    in
-    listing_end c.args.rest.now c.members.rest c.members.missing (g.O.Sink.written c.args.out.now) (g.O.Sink.written c.members.out) on
-    c.in-None.ensures.none c.advance.new.self.walk.cursor c.in-None.ensures.cursor
-
-pub returns-in_err-write_all-in-Some-Ok-clause-begun : goal.returns-in_err-write_all-in-Some-Ok-clause-begun
-returns-in_err-write_all-in-Some-Ok-clause-begun g c =
-    let next = IfOk-at_ok _ c.in-Some-Ok.field-0-is c.in-Some-Ok.ensures.entry in
-    let on : IsListingOn c.args.rest.now c.members.rest c.members.missing (g.O.Sink.written c.args.out.now) (g.O.Sink.written c.members.out) =
-    record { listed = c.members.invariant.listed; order = c.members.invariant.order; pairs = c.members.invariant.pairs }
-    in
+pub returns-in_err-write_next-clause-begun : goal.returns-in_err-write_next-clause-begun
+returns-in_err-write_next-clause-begun g c =
     on_err c.from_residual.result
-    (listing_begun c.args.rest.now c.members.rest c.members.missing (g.O.Sink.written c.args.out.now) (g.O.Sink.written c.members.out) on
-    c.in-Some-Ok.entry.tiling c.in-Some-Ok.entry.word next.0
-    c.as_slice.result.now (c.as_slice.ensures.value ∙ c.write_missing.ensures) (g.O.Sink.written c.write_all.new.self)
-    c.in_err-write_all-in-Some-Ok.ensures.err)
+    (listing_broken c.args.rest.now c.members.rest c.members.missing (g.O.Sink.written c.args.out.now) (g.O.Sink.written c.members.out)
+    (g.O.Sink.faults c.args.out.now) (g.O.Sink.faults c.members.out) c.members.invariant (g.O.Sink.written c.write_next.new.out)
+    c.in_err-write_next.ensures.begun)
 
-pub members-preserved-in_ok-write_all-in-Some-Ok : goal.members-preserved-in_ok-write_all-in-Some-Ok
-members-preserved-in_ok-write_all-in-Some-Ok g c =
-    let next = IfOk-at_ok _ c.in-Some-Ok.field-0-is c.in-Some-Ok.ensures.entry in
-    let on : IsListingOn c.args.rest.now c.members.rest c.members.missing (g.O.Sink.written c.args.out.now) (g.O.Sink.written c.members.out) =
-    record { listed = c.members.invariant.listed; order = c.members.invariant.order; pairs = c.members.invariant.pairs }
-    in
-    let more = listing_more c.args.rest.now c.members.rest c.members.missing (g.O.Sink.written c.args.out.now) (g.O.Sink.written c.members.out) on
-    c.in-Some-Ok.entry.tiling c.in-Some-Ok.entry.word next.0
-    c.as_slice.result.now (c.as_slice.ensures.value ∙ c.write_missing.ensures) (g.O.Sink.written c.write_all.new.self) c.advance.new.self c.requires.most
-    (IfOk-at_ok _ c.in-Some-Ok.field-0-is c.in-Some-Ok.ensures.cursor) c.advance.ensures.order c.advance.ensures.pairs
-    c.in_ok-write_all-in-Some-Ok.ensures.ok
-    in
-    record {
-      listed = more.listed;
-      order = more.order;
-      pairs = more.pairs;
-      faults = (c.in_ok-write_all-in-Some-Ok.ensures.cause).ok ∙ c.members.invariant.faults;
-    }
+pub overflow_add-missing : goal.overflow_add-missing
+overflow_add-missing g c = let few = c.members.invariant.listed.few in omega (arith, few)
 
 pub members-preserved : goal.members-preserved
 members-preserved g c =
-    let next = IfOk-at_ok _ c.in-Some-Ok.field-0-is c.in-Some-Ok.ensures.entry in
-    let on : IsListingOn c.args.rest.now c.members.rest c.members.missing (g.O.Sink.written c.args.out.now) (g.O.Sink.written c.members.out) =
-    record { listed = c.members.invariant.listed; order = c.members.invariant.order; pairs = c.members.invariant.pairs }
-    in
-    let more = listing_more c.args.rest.now c.members.rest c.members.missing (g.O.Sink.written c.args.out.now) (g.O.Sink.written c.members.out) on
-    c.in-Some-Ok.entry.tiling c.in-Some-Ok.entry.word next.0
-    c.as_slice.result.now (c.as_slice.ensures.value ∙ c.write_missing.ensures) (g.O.Sink.written c.write_all.new.self) c.advance.new.self c.requires.most
-    (IfOk-at_ok _ c.in-Some-Ok.field-0-is c.in-Some-Ok.ensures.cursor) c.advance.ensures.order c.advance.ensures.pairs
-    c.in_ok-write_all-in-Some-Ok.ensures.ok
-    in
-    record {
-      listed = more.listed;
-      order = more.order;
-      pairs = more.pairs;
-      faults = (c.in_ok-write_all-in-Some-Ok.ensures.cause).ok ∙ c.members.invariant.faults;
-    }
+    listing_more c.args.rest.now c.members.rest c.members.missing (g.O.Sink.written c.args.out.now) (g.O.Sink.written c.members.out)
+    (g.O.Sink.faults c.args.out.now) (g.O.Sink.faults c.members.out) c.members.invariant c.in_ok-write_next.field-0 c.if-branch.true
+    c.write_next.new.rest (g.O.Sink.written c.write_next.new.out) (g.O.Sink.faults c.write_next.new.out) c.requires.most
+    c.in_ok-write_next.ensures.written c.write_next.ensures.order c.write_next.ensures.pairs (c.in_ok-write_next.ensures.cause).ok
+
+pub returns-clause-listed : goal.returns-clause-listed
+returns-clause-listed g c =
+    listing_end c.args.rest.now c.members.rest c.members.missing (g.O.Sink.written c.args.out.now) (g.O.Sink.written c.members.out)
+    (g.O.Sink.faults c.args.out.now) (g.O.Sink.faults c.members.out) c.members.invariant c.in_ok-write_next.field-0 c.if-branch.false
+    c.write_next.new.rest.walk.cursor (g.O.Sink.written c.write_next.new.out) c.in_ok-write_next.ensures.written
+
+pub returns-clause-all : goal.returns-clause-all
+returns-clause-all g c =
+    kept_behind c.args.rest.now c.members.rest c.members.missing (g.O.Sink.written c.args.out.now) (g.O.Sink.written c.members.out)
+    (g.O.Sink.faults c.args.out.now) (g.O.Sink.faults c.members.out) c.members.invariant c.in_ok-write_next.field-0 c.if-branch.false
+    c.write_next.new.rest.walk.cursor (g.O.Sink.written c.write_next.new.out) c.in_ok-write_next.ensures.written
+
+pub returns-clause-ended : goal.returns-clause-ended
+returns-clause-ended g c =
+    none_behind c.args.rest.now c.members.rest c.members.missing (g.O.Sink.written c.args.out.now) (g.O.Sink.written c.members.out)
+    (g.O.Sink.faults c.args.out.now) (g.O.Sink.faults c.members.out) c.members.invariant c.in_ok-write_next.field-0 c.if-branch.false
+    c.write_next.new.rest.walk.cursor (g.O.Sink.written c.write_next.new.out) c.in_ok-write_next.ensures.written
+
+pub returns-clause-order : goal.returns-clause-order
+returns-clause-order g c = c.write_next.ensures.order ∙ c.members.invariant.order

@@ -2,7 +2,7 @@ use Rattle.std.proofs.Common.{length, subst, sym}
 use Rattle.bk_word.specs.Word.{Move}
 use Rattle.bk_walk_cuts.proofs.CutLaws.{after_near, one_cut, whole_front}
 use Rattle.bk_walk_cuts.specs.MoveCuts.{GrowsByAtMostOne, IsCut}
-use Rattle.bk_tree.specs.NextMove.{move_after}
+use Rattle.bk_catalogue.specs.NextMove.{move_after}
 use Rattle.bk_walk_cuts.proofs.barren.skip_by_sides.Goals as goal
 
 pub returns-clause-cut : goal.returns-clause-cut

@@ -3,7 +3,7 @@ use Rattle.bk_word.specs.Outline.{open_side}
 use Rattle.bk_word.specs.Word.{Move}
 use Rattle.bk_walk_cuts.proofs.CutLaws.{after_near, even_cut, front_signs}
 use Rattle.bk_walk_cuts.specs.MoveCuts.{GrowsByAtMostOne, IsCut, IsFrontEndingEven}
-use Rattle.bk_tree.specs.NextMove.{move_after}
+use Rattle.bk_catalogue.specs.NextMove.{move_after}
 use Rattle.bk_walk_cuts.proofs.barren.skip_even.Goals as goal
 
 same : (c : goal.After-next_move) → c.next_move.new.m ≡ move_after (front_signs c.in-Some.kept c.args.m.now)

@@ -2,7 +2,7 @@ use Rattle.std.proofs.Common.{ap, subst, sym, ◌∙◌}
 use Rattle.bk_word.specs.Word.{Move}
 use Rattle.bk_walk_cuts.proofs.CutLaws.{front_signs, single_cut}
 use Rattle.bk_walk_cuts.specs.MoveCuts.{IsCut}
-use Rattle.bk_tree.specs.NextMove.{move_after}
+use Rattle.bk_catalogue.specs.NextMove.{move_after}
 use Rattle.bk_walk_cuts.proofs.barren.skip_single.Goals as goal
 
 pub returns-clause-cut : goal.returns-clause-cut

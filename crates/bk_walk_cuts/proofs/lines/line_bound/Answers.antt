@@ -1,5 +1,5 @@
 use Rattle.std.proofs.Common.{arith, ◌+◌}
-use Rattle.bk_bounds.proofs.LineCounting.{last_within, lined_above, lined_end, lined_even, lined_start, lined_under, two_within}
+use Rattle.bk_catalogue.proofs.LineCounting.{last_within, lined_above, lined_end, lined_even, lined_start, lined_under, two_within}
 use Rattle.bk_walk_cuts.proofs.lines.line_bound.Goals as goal
 use Rattle.bk_walk_cuts.proofs.lines.line_bound.Goals.{in-Above, in-Even, in-Under}
 

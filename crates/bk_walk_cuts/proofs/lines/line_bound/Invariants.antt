@@ -1,4 +1,4 @@
-use Rattle.bk_bounds.proofs.LineCounting.{IsLined}
+use Rattle.bk_catalogue.proofs.LineCounting.{IsLined}
 use Rattle.bk_walk_cuts.proofs.lines.line_bound.Given as goal
 
 abbrev pub invariant-loop-i : goal.invariant-loop-i

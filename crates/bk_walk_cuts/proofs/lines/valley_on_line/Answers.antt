@@ -1,6 +1,6 @@
 use Rattle.std.proofs.Common.{ap, arith, ◌∙◌}
 use Rattle.bk_walk_cuts.proofs.LinedMoves.{valley_slice}
-use Rattle.bk_bounds.specs.VerticalCut.{begins_on_line}
+use Rattle.bk_catalogue.specs.VerticalCut.{begins_on_line}
 use Rattle.bk_walk_cuts.proofs.lines.valley_on_line.Goals as goal
 
 pub returns : goal.returns

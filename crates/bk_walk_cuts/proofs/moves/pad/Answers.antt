@@ -1,6 +1,6 @@
 use Rattle.std.proofs.Common.{ap, arith, refl, sym, ◌+◌, ◌-◌, ◌∙◌, ◌≡◌}
-use Rattle.bk_tree.proofs.LastSigns.{fill_none, fill_one, filled_up}
-use Rattle.bk_tree.specs.NextMove.{padded}
+use Rattle.bk_catalogue.proofs.LastSigns.{fill_none, fill_one, filled_up}
+use Rattle.bk_catalogue.specs.NextMove.{padded}
 use Rattle.bk_walk_cuts.proofs.moves.pad.Goals as goal
 
 pub signs-init : goal.signs-init

@@ -1,6 +1,6 @@
 use Rattle.std.proofs.Common.{Some, [], ap, arith, sym, ◌++◌, ◌∙◌, ◌∷◌}
-use Rattle.bk_tree.proofs.LastSigns.{after_above, after_even, after_under}
-use Rattle.bk_tree.specs.NextMove.{signs_after}
+use Rattle.bk_catalogue.proofs.LastSigns.{after_above, after_even, after_under}
+use Rattle.bk_catalogue.specs.NextMove.{signs_after}
 use Rattle.bk_walk_cuts.proofs.moves.raise.Goals as goal
 
 pub returns-in-Above-clause-raised : goal.returns-in-Above-clause-raised

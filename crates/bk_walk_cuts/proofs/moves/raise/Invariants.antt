@@ -1,5 +1,5 @@
 use Rattle.std.proofs.Common.{length, ◌≡◌, ◌≤◌}
-use Rattle.bk_tree.specs.NextMove.{signs_after}
+use Rattle.bk_catalogue.specs.NextMove.{signs_after}
 use Rattle.bk_walk_cuts.proofs.moves.raise.Given as goal
 
 abbrev pub invariant-signs : goal.invariant-signs

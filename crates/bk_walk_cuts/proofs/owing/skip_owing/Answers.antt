@@ -6,9 +6,9 @@ use Rattle.bk_word.specs.Word.{Move, order_of}
 use Rattle.bk_word.specs.declared.Sign.{Sign}
 use Rattle.bk_walk_cuts.proofs.CutLaws.{after_near, front_signs}
 use Rattle.bk_walk_cuts.proofs.OwingLaws.{owing_cut}
-use Rattle.bk_bounds.specs.ClosingBound.{closing_bound}
+use Rattle.bk_catalogue.specs.ClosingBound.{closing_bound}
 use Rattle.bk_walk_cuts.specs.MoveCuts.{GrowsByAtMostOne, IsCut}
-use Rattle.bk_tree.specs.NextMove.{move_after}
+use Rattle.bk_catalogue.specs.NextMove.{move_after}
 use Rattle.bk_walk_cuts.proofs.owing.skip_owing.Goals as goal
 
 same : (c : goal.After-next_move) → c.next_move.new.m ≡ move_after (front_signs c.in-Some.kept c.args.m.now)

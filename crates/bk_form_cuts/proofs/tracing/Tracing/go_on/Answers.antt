@@ -1,7 +1,7 @@
 use Rattle.std.proofs.Common.{List, [], ap, arith, length, lit<, map, subst, sym, ◌++◌, ◌+◌, ◌-◌, ◌<◌, ◌∙◌, ◌∷◌, ◌≡◌, ◌≤◌}
 use Rattle.bk_word.specs.Play.{outline_of}
 use Rattle.bk_word.specs.Word.{Move}
-use Rattle.bk_skel.specs.Valley.{Valley}
+use Rattle.bk_skeleton.specs.Valley.{Valley}
 use Rattle.bk_forms.specs.Form.{Form as SeenForm}
 use Rattle.bk_form_cuts.specs.SideForms.{levels_along}
 use Rattle.bk_form_cuts.specs.Trace.{IsTraceOf, Trace}

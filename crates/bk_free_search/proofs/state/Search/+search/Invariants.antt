@@ -1,6 +1,6 @@
 use Rattle.std.proofs.Common.{[], length, ◌*◌, ◌+◌, ◌-◌, ◌<◌, ◌≡◌}
 use Rattle.bk_word.specs.Word.{Word, order_of}
-use Rattle.bk_normal_cuts.specs.NormalImage.{IsNormalSought}
+use Rattle.bk_normal.specs.NormalImage.{IsNormalSought}
 use Rattle.bk_free_search.proofs.NextMoves.{HasNextMove}
 use Rattle.bk_free_search.proofs.state.Search.+search.Given as goal
 
@@ -10,26 +10,11 @@ decreases-go_on g l = 1000 * (l.self.now.order - order_of l.self.now.board) + 95
 abbrev pub decreases-with_counts : goal.decreases-with_counts
 decreases-with_counts g l = 1000 * (l.self.now.order - order_of l.self.now.board) + 900
 
-abbrev pub decreases-with_last_square : goal.decreases-with_last_square
-decreases-with_last_square g l = 1000 * (l.self.now.order - order_of l.self.now.board) + 900
-
 abbrev pub decreases-with_left : goal.decreases-with_left
 decreases-with_left g l = 1000 * (l.self.now.order - order_of l.self.now.board) + 850
 
-abbrev pub decreases-with_left_wall : goal.decreases-with_left_wall
-decreases-with_left_wall g l = 1000 * (l.self.now.order - order_of l.self.now.board) + 840
-
-abbrev pub decreases-with_first : goal.decreases-with_first
-decreases-with_first g l = 1000 * (l.self.now.order - order_of l.self.now.board) + 840
-
 abbrev pub decreases-with_own : goal.decreases-with_own
 decreases-with_own g l = 1000 * (l.self.now.order - order_of l.self.now.board) + 4 * (l.begun.now.m.count + 2 - length l.begun.now.m.signs) + 3
-
-abbrev pub decreases-with_above : goal.decreases-with_above
-decreases-with_above g l = 1000 * (l.self.now.order - order_of l.self.now.board) + 4 * (l.begun.now.m.count + 2 - length l.begun.now.m.signs) + 2
-
-abbrev pub decreases-with_more : goal.decreases-with_more
-decreases-with_more g l = 1000 * (l.self.now.order - order_of l.self.now.board) + 4 * (l.begun.now.m.count + 2 - length l.begun.now.m.signs) + 1
 
 abbrev pub decreases-with_sign : goal.decreases-with_sign
 decreases-with_sign g l = 1000 * (l.self.now.order - order_of l.self.now.board) + 4 * (l.begun.now.m.count + 2 - length l.begun.now.m.signs)
@@ -37,22 +22,15 @@ decreases-with_sign g l = 1000 * (l.self.now.order - order_of l.self.now.board) 
 abbrev pub decreases-with_right : goal.decreases-with_right
 decreases-with_right g l = 1000 * (l.self.now.order - order_of l.self.now.board) + 3
 
-abbrev pub decreases-with_right_wall : goal.decreases-with_right_wall
-decreases-with_right_wall g l = 1000 * (l.self.now.order - order_of l.self.now.board) + 2
-
 abbrev pub decreases-with_last : goal.decreases-with_last
 decreases-with_last g l = 1000 * (l.self.now.order - order_of l.self.now.board) + 2
-
-abbrev pub decreases-with_whole : goal.decreases-with_whole
-decreases-with_whole g l = 1000 * (l.self.now.order - order_of l.self.now.board) + 1
 
 abbrev pub decreases-with_move : goal.decreases-with_move
 decreases-with_move g l = 1000 * (l.self.now.order - order_of l.self.now.board)
 
 abbrev pub invariant-with_counts-counts : goal.invariant-with_counts-counts
 invariant-with_counts-counts g l = record {
-  board : l.self.board ≡ l.initial.self.board;
-  order : l.self.order ≡ l.initial.self.order;
+  same : l.self ≡ l.initial.self;
   signs : l.begun.m.signs ≡ [];
   all : (w : Word) → IsNormalSought l.initial.self.order w → (h : HasNextMove l.initial.self.board w) → h.move.count < l.count
       → g.S.Leaves.has_met l.leaves w;

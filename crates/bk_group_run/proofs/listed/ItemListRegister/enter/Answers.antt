@@ -6,6 +6,7 @@ use Rattle.bk_report.specs.declared.refusal.Refused.TheVariants.{More}
 use Rattle.bk_answer.specs.Item.{HasTiling, IsLaidLine}
 use Rattle.bk_group_run.specs.Listed.{Listed, ListsLine, MayWantItem, with_item, with_refused}
 use Rattle.bk_group_run.proofs.ListedLines.{full_line, has_room, kept_apart, kept_line, refused_begun, refused_entry, refused_outcome, skipped_line}
+use Rattle.bk_group_run.proofs.ListedLines.{wanting_apart, wanting_line}
 use Rattle.bk_group_run.proofs.listed.ItemListRegister.enter.Goals as goal
 
 pub returns-in-Ok-None-clause-outcome : goal.returns-in-Ok-None-clause-outcome
@@ -71,3 +72,19 @@ returns-in-Err-clause-failed g c =
       refused_entry c.args.self.now (with_refused c.args.self.now) c.args.number c.args.line.now c.in-Err.refused c.in-Err.ensures.refused refl,
     )
     c.refuse-in-Err.ensures.failed
+
+pub returns-in-Err-NoMemory-clause-outcome : goal.returns-in-Err-NoMemory-clause-outcome
+returns-in-Err-NoMemory-clause-outcome g c =
+    let has : HasTiling c.args.line.now c.in-Ok-Some.tiling.now =
+    subst (λ (o : Option (Bor Tiling)). IsLaidLine c.args.line.now (option_copied o)) c.in-Ok-Some.field-0-is c.in-Ok-Some.ensures.laid in
+    let few : length c.self.inside.items < 16384 =
+    has_room (length c.self.inside.items) c.add.result (wanting_apart c.add.result (c.in-Err-NoMemory.is ∙ ap Err c.in-Err-NoMemory.field-0-is))
+    c.add.ensures.full in
+    wanting_line c.args.self.now c.args.number c.args.line.now c.in-Ok-Some.tiling.now (g.O.Sink.written c.args.out.now) has
+    (omega (arith, few, ap (λ (s : Listed). length s.items) c.self.view_is))
+
+pub returns-in-Err-Full-clause-cause : goal.returns-in-Err-Full-clause-cause
+returns-in-Err-Full-clause-cause g c = c.refuse.ensures.cause
+
+pub returns-in-Err-clause-cause : goal.returns-in-Err-clause-cause
+returns-in-Err-clause-cause g c = c.refuse-in-Err.ensures.cause

@@ -2,8 +2,8 @@ use Rattle.std.proofs.Common.{ap, arith, length, nat_eq, subst, sum, sym, ◌∙
 use Rattle.bk_word.specs.Outline.{IsLegalMove}
 use Rattle.bk_word.specs.Play.{outline_of}
 use Rattle.bk_word.specs.Word.{Move, Word, order_of}
-use Rattle.bk_skel.proofs.TurnParts.{sum_lengths}
-use Rattle.bk_bounds.proofs.BoundsOfWords.{sizes_long}
+use Rattle.bk_skeleton.proofs.TurnParts.{sum_lengths}
+use Rattle.bk_catalogue.proofs.BoundsOfWords.{sizes_long}
 use Rattle.bk_form_cuts.specs.Trace.{IsTraceOf}
 use Rattle.bk_walk_cuts.proofs.LinedMoves.{lined_count, lined_more, valley_begins}
 use Rattle.bk_walk_cuts.proofs.lined.LinedSkel.push.Goals as goal

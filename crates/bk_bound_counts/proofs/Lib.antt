@@ -1,3 +1,0 @@
-pub mod LoneLaws
-pub mod LoneExamples
-pub mod TallyLaws

@@ -1,0 +1,5 @@
+use Rattle.bk_catalogue.proofs.TreeCounts.{tree_counts_add as the_law}
+use Rattle.bk_catalogue.proofs.tree_counts_add.Goals as goal
+
+pub returns : goal.returns
+returns c = the_law

@@ -1,4 +1,0 @@
--- What the crate says. It has laws alone, so there is no code to keep.
-pub mod Cuts
-pub mod BoundCuts
-pub mod Corners

@@ -1,5 +1,0 @@
-use Rattle.bk_free_cuts.proofs.NumberedLines.{line_numbers_are_lines as the_law}
-use Rattle.bk_free_cuts.proofs.line_numbers_are_lines.Goals as goal
-
-pub returns : goal.returns
-returns c = the_law

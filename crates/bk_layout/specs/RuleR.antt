@@ -1,0 +1,42 @@
+-- Rule R: no move beside a left neighbour, of two squares or more, begins with the signs even and above. Of all words whose
+-- nets are one up to reversed squares, those that keep it are enough.
+-- Example (RuleExamples): the free word 2a.2uu.2ea.2eue.1e of 33x32 breaks it; with the square of side 7 reversed the layout
+-- has the word 2a.2ua.3euue.1e.1e.
+use Rattle.std.specs.List.{AllByRecursion}
+use Rattle.std.specs.Prelude.{Some, [], false, slice_get, ⊤, ◌<◌, ◌∷◌, ◌≡◌}
+use Rattle.bk_word.specs.Outline.{Outline, has_left_wall, start}
+use Rattle.bk_word.specs.Play.{after_move}
+use Rattle.bk_word.specs.Word.{Move, Word}
+use Rattle.bk_word.specs.declared.Sign.TheVariants.{Above, Even}
+use Rattle.bk_layout.specs.Layout.{Fits, HasNoTwins, Layout}
+use Rattle.bk_layout.specs.LayoutLaws.{IsWordOfLayout}
+use Rattle.bk_layout.specs.Reversal.{IsUpToReversals}
+
+abbrev pub KeepsRuleR : Outline → Move → Type 0
+KeepsRuleR o m = has_left_wall o ≡ false → 1 < m.count → slice_get m.signs 0 ≡ Some Even → slice_get m.signs 1 ≡ Some Above → ⊥
+
+abbrev pub KeepRuleRFrom : Outline → Word → Type 0
+KeepRuleRFrom o [] = ⊤
+KeepRuleRFrom o (m ∷ moves) = KeepsRuleR o m × KeepRuleRFrom (after_move o m) moves
+
+-- the first valley stands at the left wall, so the rule says nothing of the first move
+abbrev pub DoesKeepRuleR : Word → Type 0
+DoesKeepRuleR w = KeepRuleRFrom start w
+
+-- without a word on walls: no move of two squares or more begins so
+abbrev pub BeginsNoEvenAbove : Move → Type 0
+BeginsNoEvenAbove m = 1 < m.count → slice_get m.signs 0 ≡ Some Even → slice_get m.signs 1 ≡ Some Above → ⊥
+
+-- a layout that is l up to reversals, and a free word of it that keeps the rule
+pub record HasWordByRuleR (l : Layout) : Type 0 where
+  pub turned : Layout
+  pub fits : Fits turned
+  pub same : IsUpToReversals l turned
+  pub word : Word
+  pub is_word : IsWordOfLayout turned word
+  pub keeps : DoesKeepRuleR word
+  pub no_twins : HasNoTwins l → HasNoTwins turned
+  pub none : HasNoTwins l → AllByRecursion BeginsNoEvenAbove word
+
+abbrev pub ALayoutHasAWordByRuleR : Type 0
+ALayoutHasAWordByRuleR = (l : Layout) → Fits l → HasWordByRuleR l

@@ -1,5 +1,0 @@
-use Rattle.bk_normal_cuts.proofs.NextMove.{most_moves_hold_then as the_law}
-use Rattle.bk_normal_cuts.proofs.most_moves_hold_then.Goals as goal
-
-pub returns : goal.returns
-returns c = the_law

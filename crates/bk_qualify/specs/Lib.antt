@@ -1,0 +1,2 @@
+-- What the crate says.
+pub mod Qualifying

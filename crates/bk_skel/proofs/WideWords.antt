@@ -1,0 +1,22 @@
+-- Large currents of a word's net, which make it wide.
+use Rattle.std.specs.Prelude.{Any, List, nat_abs, ℤ, ◌^◌, ◌≡◌, ◌≤◌}
+use Rattle.std.proofs.Common.{subst, sym}
+use Rattle.bk_net.specs.Flow.{IsPrimitiveFlow}
+use Rattle.bk_flow.proofs.OnePrimitive.{one_primitive}
+use Rattle.bk_word.specs.Word.{Word}
+use Rattle.bk_word_net.specs.WordNet.{net_of_word}
+use Rattle.bk_skel.specs.WideWord.{HasLargeCurrent}
+
+-- a large current of one primitive flow is one of every other
+pub large_in : (w : Word) (total : ℤ) (currents : List ℤ) → IsPrimitiveFlow (net_of_word w) total currents → HasLargeCurrent (net_of_word w)
+    → Any (λ c. 10 ^ 15 ≤ nat_abs c) currents
+large_in w total currents p (other, cs, q, large) = subst (Any (λ c. 10 ^ 15 ≤ nat_abs c)) (one_primitive (net_of_word w) other total cs currents q p).1 large
+
+module _ (w : Word) (total : ℤ) (currents : List ℤ) (p : IsPrimitiveFlow (net_of_word w) total currents) where
+  -- a large current makes the word wide
+  pub large_by : (seen : List ℤ) → seen ≡ currents → Any (λ c. 10 ^ 15 ≤ nat_abs c) seen → HasLargeCurrent (net_of_word w)
+  large_by seen a large = (total, currents, p, subst (Any (λ c. 10 ^ 15 ≤ nat_abs c)) a large)
+
+  -- and only that
+  pub large_from : (seen : List ℤ) → seen ≡ currents → HasLargeCurrent (net_of_word w) → Any (λ c. 10 ^ 15 ≤ nat_abs c) seen
+  large_from seen a h = subst (Any (λ c. 10 ^ 15 ≤ nat_abs c)) (sym a) (large_in w total currents p h)

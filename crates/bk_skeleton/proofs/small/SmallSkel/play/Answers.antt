@@ -1,0 +1,199 @@
+use Rattle.std.proofs.Common.{[], ap, arith, count_by, length, refl, sym, ◌+◌, ◌++◌, ◌∙◌, ◌∷◌, ◌≡◌, ◌≤◌}
+use Rattle.bk_word.specs.Play.{parts}
+use Rattle.bk_word.specs.declared.Sign.{Sign}
+use Rattle.bk_skeleton.proofs.Playing.{moves_shown, playing_within, stored_played}
+use Rattle.bk_skeleton.proofs.SmallPlaying.{played_lists, small_played}
+use Rattle.bk_skeleton.proofs.ValleyKept.{kept_looked, stands_read}
+use Rattle.bk_skeleton.proofs.ValleyReads.{valley_sizes}
+use Rattle.bk_skeleton.specs.Skeleton.{with_parted}
+use Rattle.bk_skeleton.proofs.small.SmallSkel.play.Goals as goal
+
+pub turn_at_valley-turn-requires-clause-many : goal.turn_at_valley-turn-requires-clause-many
+turn_at_valley-turn-requires-clause-many c =
+    (valley_sizes c.self.invariant.stored c.as_slice.result.now c.as_slice-2.result.now c.as_slice.ensures.items c.as_slice-2.ensures.items).0
+
+pub turn_at_valley-turn-requires-clause-place : goal.turn_at_valley-turn-requires-clause-place
+turn_at_valley-turn-requires-clause-place c =
+    let k = kept_looked c.self.invariant c.as_slice.result.now c.as_slice-2.result.now c.from.result c.from-2.result c.as_slice.ensures.items
+    c.as_slice-2.ensures.items c.from.ensures c.from-2.ensures in
+    k.at
+
+pub turn_at_valley-turn-requires-clause-within : goal.turn_at_valley-turn-requires-clause-within
+turn_at_valley-turn-requires-clause-within c =
+    let k = kept_looked c.self.invariant c.as_slice.result.now c.as_slice-2.result.now c.from.result c.from-2.result c.as_slice.ensures.items
+    c.as_slice-2.ensures.items c.from.ensures c.from-2.ensures in
+    k.within
+
+pub turn_at_valley-turn-requires-clause-first : goal.turn_at_valley-turn-requires-clause-first
+turn_at_valley-turn-requires-clause-first c =
+    let k = kept_looked c.self.invariant c.as_slice.result.now c.as_slice-2.result.now c.from.result c.from-2.result c.as_slice.ensures.items
+    c.as_slice-2.ensures.items c.from.ensures c.from-2.ensures in
+    k.begins
+
+pub turn_at_valley-turn-requires-clause-first_few : goal.turn_at_valley-turn-requires-clause-first_few
+turn_at_valley-turn-requires-clause-first_few c =
+    let k = kept_looked c.self.invariant c.as_slice.result.now c.as_slice-2.result.now c.from.result c.from-2.result c.as_slice.ensures.items
+    c.as_slice-2.ensures.items c.from.ensures c.from-2.ensures in
+    k.few
+
+pub part-valley-requires : goal.part-valley-requires
+part-valley-requires c =
+    let p = playing_within 16 (omega arith) c.self.invariant.stored c.self.view_is c.m.view_is c.requires.legal c.requires.few
+    (c.turn_at_valley-turn.ensures c.m.inside.signs.items (sym c.len.ensures.value)) c.as_slice.ensures.items c.as_slice-2.ensures.items refl
+    c.len-2.ensures.value in
+    let within : c.from-first.result + c.from-3.result ≤ length c.self.inside.open.ends.items =
+    omega (arith, p.first, c.from-first.ensures, c.from-3.ensures) in
+    let few : c.from-first.result + c.from-3.result ≤ 16 = omega (arith, within, p.numbers) in
+    (omega arith, (omega arith, (omega arith, (within, (omega (arith, few), omega (arith, few))))))
+
+pub append-requires : goal.append-requires
+append-requires c =
+    let p = playing_within 16 (omega arith) c.self.invariant.stored c.self.view_is c.m.view_is c.requires.legal c.requires.few
+    (c.turn_at_valley-turn.ensures c.m.inside.signs.items (sym c.len.ensures.value)) c.as_slice.ensures.items c.as_slice-2.ensures.items refl
+    c.len-2.ensures.value in
+    let room : length c.self.inside.closed.items + 16 ≤ 32 = omega (arith, p.numbers) in
+    (omega arith, (omega arith, room))
+
+pub hang-requires-clause-within : goal.hang-requires-clause-within
+hang-requires-clause-within c =
+    let p = playing_within 16 (omega arith) c.self.invariant.stored c.self.view_is c.m.view_is c.requires.legal c.requires.few
+    (c.turn_at_valley-turn.ensures c.m.inside.signs.items (sym c.len.ensures.value)) c.as_slice.ensures.items c.as_slice-2.ensures.items refl
+    c.len-2.ensures.value in
+    omega (arith, p.first, c.from-first.ensures, c.from-3.ensures)
+
+pub hang-requires-clause-few : goal.hang-requires-clause-few
+hang-requires-clause-few c =
+    let p = playing_within 16 (omega arith) c.self.invariant.stored c.self.view_is c.m.view_is c.requires.legal c.requires.few
+    (c.turn_at_valley-turn.ensures c.m.inside.signs.items (sym c.len.ensures.value)) c.as_slice.ensures.items c.as_slice-2.ensures.items refl
+    c.len-2.ensures.value in
+    omega (arith, p.numbers)
+
+pub hang-requires-clause-fits : goal.hang-requires-clause-fits
+hang-requires-clause-fits c =
+    let p = playing_within 16 (omega arith) c.self.invariant.stored c.self.view_is c.m.view_is c.requires.legal c.requires.few
+    (c.turn_at_valley-turn.ensures c.m.inside.signs.items (sym c.len.ensures.value)) c.as_slice.ensures.items c.as_slice-2.ensures.items refl
+    c.len-2.ensures.value in
+    omega (arith, p.ends_fit, c.from-3.ensures)
+
+pub part_and_join-requires-clause-sizes_within : goal.part_and_join-requires-clause-sizes_within
+part_and_join-requires-clause-sizes_within c =
+    let p = playing_within 16 (omega arith) c.self.invariant.stored c.self.view_is c.m.view_is c.requires.legal c.requires.few
+    (c.turn_at_valley-turn.ensures c.m.inside.signs.items (sym c.len.ensures.value)) c.as_slice.ensures.items c.as_slice-2.ensures.items refl
+    c.len-2.ensures.value in
+    p.sizes_within
+
+pub part_and_join-requires-clause-signs_within : goal.part_and_join-requires-clause-signs_within
+part_and_join-requires-clause-signs_within c =
+    let p = playing_within 16 (omega arith) c.self.invariant.stored c.self.view_is c.m.view_is c.requires.legal c.requires.few
+    (c.turn_at_valley-turn.ensures c.m.inside.signs.items (sym c.len.ensures.value)) c.as_slice.ensures.items c.as_slice-2.ensures.items refl
+    c.len-2.ensures.value in
+    p.signs_within
+
+pub part_and_join-requires-clause-sizes_few : goal.part_and_join-requires-clause-sizes_few
+part_and_join-requires-clause-sizes_few c =
+    let p = playing_within 16 (omega arith) c.self.invariant.stored c.self.view_is c.m.view_is c.requires.legal c.requires.few
+    (c.turn_at_valley-turn.ensures c.m.inside.signs.items (sym c.len.ensures.value)) c.as_slice.ensures.items c.as_slice-2.ensures.items refl
+    c.len-2.ensures.value in
+    p.sizes_few
+
+pub part_and_join-requires-clause-signs_few : goal.part_and_join-requires-clause-signs_few
+part_and_join-requires-clause-signs_few c =
+    let p = playing_within 16 (omega arith) c.self.invariant.stored c.self.view_is c.m.view_is c.requires.legal c.requires.few
+    (c.turn_at_valley-turn.ensures c.m.inside.signs.items (sym c.len.ensures.value)) c.as_slice.ensures.items c.as_slice-2.ensures.items refl
+    c.len-2.ensures.value in
+    p.signs_few
+
+pub part_and_join-requires-clause-sizes_fit : goal.part_and_join-requires-clause-sizes_fit
+part_and_join-requires-clause-sizes_fit c =
+    let p = playing_within 16 (omega arith) c.self.invariant.stored c.self.view_is c.m.view_is c.requires.legal c.requires.few
+    (c.turn_at_valley-turn.ensures c.m.inside.signs.items (sym c.len.ensures.value)) c.as_slice.ensures.items c.as_slice-2.ensures.items refl
+    c.len-2.ensures.value in
+    omega (arith, p.sizes_fit, ap (count_by parts) c.as_slice-3.ensures.items)
+
+pub part_and_join-requires-clause-signs_fit : goal.part_and_join-requires-clause-signs_fit
+part_and_join-requires-clause-signs_fit c =
+    let p = playing_within 16 (omega arith) c.self.invariant.stored c.self.view_is c.m.view_is c.requires.legal c.requires.few
+    (c.turn_at_valley-turn.ensures c.m.inside.signs.items (sym c.len.ensures.value)) c.as_slice.ensures.items c.as_slice-2.ensures.items refl
+    c.len-2.ensures.value in
+    omega (arith, p.signs_fit, ap (count_by parts) c.as_slice-3.ensures.items)
+
+pub part_and_join-requires-clause-small : goal.part_and_join-requires-clause-small
+part_and_join-requires-clause-small c =
+    let p = playing_within 16 (omega arith) c.self.invariant.stored c.self.view_is c.m.view_is c.requires.legal c.requires.few
+    (c.turn_at_valley-turn.ensures c.m.inside.signs.items (sym c.len.ensures.value)) c.as_slice.ensures.items c.as_slice-2.ensures.items refl
+    c.len-2.ensures.value in
+    omega (arith, p.small, ap (length {A = Sign}) c.as_slice-3.ensures.items)
+
+pub append-requires-2 : goal.append-requires-2
+append-requires-2 c =
+    let p = playing_within 16 (omega arith) c.self.invariant.stored c.self.view_is c.m.view_is c.requires.legal c.requires.few
+    (c.turn_at_valley-turn.ensures c.m.inside.signs.items (sym c.len.ensures.value)) c.as_slice.ensures.items c.as_slice-2.ensures.items refl
+    c.len-2.ensures.value in
+    let room : length c.self.inside.played.items + 17 ≤ 49 = omega (arith, p.played_fit) in
+    (omega arith, (omega arith, room))
+
+pub push-requires : goal.push-requires
+push-requires c =
+    let p = playing_within 16 (omega arith) c.self.invariant.stored c.self.view_is c.m.view_is c.requires.legal c.requires.few
+    (c.turn_at_valley-turn.ensures c.m.inside.signs.items (sym c.len.ensures.value)) c.as_slice.ensures.items c.as_slice-2.ensures.items refl
+    c.len-2.ensures.value in
+    (omega arith, p.turns_fit)
+
+pub leftmost-place-requires-clause-many : goal.leftmost-place-requires-clause-many
+leftmost-place-requires-clause-many c =
+    let p = playing_within 16 (omega arith) c.self.invariant.stored c.self.view_is c.m.view_is c.requires.legal c.requires.few
+    (c.turn_at_valley-turn.ensures c.m.inside.signs.items (sym c.len.ensures.value)) c.as_slice.ensures.items c.as_slice-2.ensures.items refl
+    c.len-2.ensures.value in
+    let number : c.len-3.result + c.len-4.result + 1 ≡ length c.self.inside.open.ends.items + length c.self.inside.closed.items + 1 =
+    omega (arith, c.len-3.ensures.value, c.len-4.ensures.value) in
+    let parted : c.part_and_join.result ≡ count_by parts c.m.inside.signs.items = c.part_and_join.ensures.parted
+    ∙ ap (count_by parts) c.as_slice-3.ensures.items in
+    let n = played_lists p c.from-first.ensures c.from-3.ensures number c.as_slice-3.ensures.items c.hang.ensures c.part_and_join.ensures.sizes
+    c.part_and_join.ensures.signs c.part-valley.ensures c.append.ensures
+    (c.push.ensures ∙ ap (λ k. c.self.inside.turns.items ++ with_parted c.turn_at_valley-turn.result k ∷ []) parted) c.append-2.ensures in
+    (valley_sizes (stored_played c.self.invariant.stored p n) c.as_slice-4.result.now c.as_slice-5.result.now c.as_slice-4.ensures.items
+    c.as_slice-5.ensures.items).0
+
+pub leftmost-place-requires-clause-small : goal.leftmost-place-requires-clause-small
+leftmost-place-requires-clause-small c =
+    let p = playing_within 16 (omega arith) c.self.invariant.stored c.self.view_is c.m.view_is c.requires.legal c.requires.few
+    (c.turn_at_valley-turn.ensures c.m.inside.signs.items (sym c.len.ensures.value)) c.as_slice.ensures.items c.as_slice-2.ensures.items refl
+    c.len-2.ensures.value in
+    let number : c.len-3.result + c.len-4.result + 1 ≡ length c.self.inside.open.ends.items + length c.self.inside.closed.items + 1 =
+    omega (arith, c.len-3.ensures.value, c.len-4.ensures.value) in
+    let parted : c.part_and_join.result ≡ count_by parts c.m.inside.signs.items = c.part_and_join.ensures.parted
+    ∙ ap (count_by parts) c.as_slice-3.ensures.items in
+    let n = played_lists p c.from-first.ensures c.from-3.ensures number c.as_slice-3.ensures.items c.hang.ensures c.part_and_join.ensures.sizes
+    c.part_and_join.ensures.signs c.part-valley.ensures c.append.ensures
+    (c.push.ensures ∙ ap (λ k. c.self.inside.turns.items ++ with_parted c.turn_at_valley-turn.result k ∷ []) parted) c.append-2.ensures in
+    (valley_sizes (stored_played c.self.invariant.stored p n) c.as_slice-4.result.now c.as_slice-5.result.now c.as_slice-4.ensures.items
+    c.as_slice-5.ensures.items).1
+
+pub invariant_of-self : goal.invariant_of-self
+invariant_of-self c =
+    let p = playing_within 16 (omega arith) c.self.invariant.stored c.self.view_is c.m.view_is c.requires.legal c.requires.few
+    (c.turn_at_valley-turn.ensures c.m.inside.signs.items (sym c.len.ensures.value)) c.as_slice.ensures.items c.as_slice-2.ensures.items refl
+    c.len-2.ensures.value in
+    let number : c.len-3.result + c.len-4.result + 1 ≡ length c.self.inside.open.ends.items + length c.self.inside.closed.items + 1 =
+    omega (arith, c.len-3.ensures.value, c.len-4.ensures.value) in
+    let parted : c.part_and_join.result ≡ count_by parts c.m.inside.signs.items = c.part_and_join.ensures.parted
+    ∙ ap (count_by parts) c.as_slice-3.ensures.items in
+    let n = played_lists p c.from-first.ensures c.from-3.ensures number c.as_slice-3.ensures.items c.hang.ensures c.part_and_join.ensures.sizes
+    c.part_and_join.ensures.signs c.part-valley.ensures c.append.ensures
+    (c.push.ensures ∙ ap (λ k. c.self.inside.turns.items ++ with_parted c.turn_at_valley-turn.result k ∷ []) parted) c.append-2.ensures in
+    small_played c.self.invariant p n (stands_read c.as_slice-4.ensures.items c.as_slice-5.ensures.items c.leftmost-place.ensures.place
+    c.leftmost-place.ensures.first)
+
+pub returns : goal.returns
+returns c =
+    let p = playing_within 16 (omega arith) c.self.invariant.stored c.self.view_is c.m.view_is c.requires.legal c.requires.few
+    (c.turn_at_valley-turn.ensures c.m.inside.signs.items (sym c.len.ensures.value)) c.as_slice.ensures.items c.as_slice-2.ensures.items refl
+    c.len-2.ensures.value in
+    let number : c.len-3.result + c.len-4.result + 1 ≡ length c.self.inside.open.ends.items + length c.self.inside.closed.items + 1 =
+    omega (arith, c.len-3.ensures.value, c.len-4.ensures.value) in
+    let parted : c.part_and_join.result ≡ count_by parts c.m.inside.signs.items = c.part_and_join.ensures.parted
+    ∙ ap (count_by parts) c.as_slice-3.ensures.items in
+    let n = played_lists p c.from-first.ensures c.from-3.ensures number c.as_slice-3.ensures.items c.hang.ensures c.part_and_join.ensures.sizes
+    c.part_and_join.ensures.signs c.part-valley.ensures c.append.ensures
+    (c.push.ensures ∙ ap (λ k. c.self.inside.turns.items ++ with_parted c.turn_at_valley-turn.result k ∷ []) parted) c.append-2.ensures in
+    moves_shown (stored_played c.self.invariant.stored p n) ∙ (λ i. c.self.view_is i ++ c.m.view_is i ∷ [])

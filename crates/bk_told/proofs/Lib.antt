@@ -1,0 +1,9 @@
+pub mod Entered
+pub mod Following
+pub mod MissingListed
+pub mod BehindLines
+pub mod EndingAtLines
+pub mod Ending
+pub mod VerifyingExamples
+pub mod OneAscending
+pub mod OneReport

@@ -1,0 +1,157 @@
+-- What a search is after a step from where its next move is legal.
+use Rattle.std.proofs.Common.{[], ap, arith, length, min, refl, subst, sym, take, ℕ, ◌++◌, ◌+◌, ◌-◌, ◌<◌, ◌^◌, ◌∙◌, ◌∷◌, ◌≡◌, ◌≤◌}
+use Rattle.bk_word.specs.Outline.{start}
+use Rattle.bk_word.specs.Play.{IsComplete, outline_of}
+use Rattle.bk_word.specs.Word.{Move, Word, order_of}
+use Rattle.bk_word.specs.declared.Class.{Class}
+use Rattle.bk_word.proofs.PlayLaws.{few_signs, legal-snoc}
+use Rattle.bk_word.proofs.StoredBytes.{order_one}
+use Rattle.bk_catalogue.specs.Cuts.{IsBarren}
+use Rattle.bk_catalogue.specs.NextMove.{first_move, move_after}
+use Rattle.bk_catalogue.specs.Catalogue.{IsEntry}
+use Rattle.bk_tiling.specs.Tiling.{Tiling}
+use Rattle.bk_tree_walk.proofs.Members.{same_entry}
+use Rattle.bk_walk_cuts.specs.MoveCuts.{GrowsByAtMostOne, IsCut}
+use Rattle.bk_catalogue.specs.Repeated.{HasNoMember}
+use Rattle.bk_tree_walk.specs.Search.{IsKeptSearch, IsReady, IsSearchState, PushesGrow, SearchState, StaysOf, StepLeadsTo, place_of}
+use Rattle.bk_tree_walk.specs.declared.Went.TheVariants.{Met, On}
+use Rattle.bk_tree_walk.proofs.Standing.{step_cuts, step_goes_down, step_meets, step_turns_back}
+
+-- the same order and class, where the search stands
+pub kept_of : (s : SearchState) (front : Word) (next : Move) (pushes : ℕ) → IsKeptSearch s → IsSearchState s.order front next → pushes < 2 ^ 64
+    → IsKeptSearch (record { order = s.order; class = s.class; front = front; next = next; pushes = pushes })
+kept_of s front next pushes kept stand known = record { least = kept.least; most = kept.most; stand = stand; known = known }
+
+-- nothing is pushed
+pub stays_none : (s then : SearchState) (steps : ℕ) → IsKeptSearch s → then.order ≡ s.order → then.class ≡ s.class → then.pushes ≡ s.pushes
+    → StaysOf s then steps steps
+stays_none s then steps kept order of_class pushes = record {
+  order = order;
+  class = of_class;
+  counts = record { more = omega arith; counted = omega (arith, pushes, kept.known) };
+}
+
+-- so where the search goes on from other moves, or looks for another next one
+pub stays_put : {s now : SearchState} → IsKeptSearch s → s ≡ now → (front : Word) (next : Move) (steps : ℕ)
+    → StaysOf now (record { order = s.order; class = s.class; front = front; next = next; pushes = s.pushes }) steps steps
+stays_put {s = s} {now = now} kept view front next steps =
+    subst (λ (u : SearchState). StaysOf u (record { order = s.order; class = s.class; front = front; next = next; pushes = s.pushes }) steps steps) view
+    (stays_none s (record { order = s.order; class = s.class; front = front; next = next; pushes = s.pushes }) steps kept refl refl refl)
+
+-- and where it came from other moves
+pub stays_from : {s now then : SearchState} {front : Word} {next : Move} {steps steps_then : ℕ} → s ≡ now
+    → StaysOf (record { order = s.order; class = s.class; front = front; next = next; pushes = s.pushes }) then steps steps_then
+    → StaysOf now then steps steps_then
+stays_from {then = then} {steps = steps} {steps_then = steps_then} view stays = record {
+  order = stays.order ∙ ap (λ (u : SearchState). u.order) view;
+  class = stays.class ∙ ap (λ (u : SearchState). u.class) view;
+  counts = subst (λ (u : SearchState). PushesGrow u.pushes then.pushes steps steps_then) view stays.counts;
+}
+
+-- one move is pushed
+pub stays_one : (s then : SearchState) (steps steps_then : ℕ) → then.order ≡ s.order → then.class ≡ s.class → then.pushes ≡ min (s.pushes + 1) (2 ^ 64 - 1)
+    → steps_then ≡ steps + 1 → StaysOf s then steps steps_then
+stays_one s then steps steps_then order of_class pushes one = record {
+  order = order;
+  class = of_class;
+  counts = record { more = omega (arith, one); counted = omega (arith, pushes, one) };
+}
+
+module _ (s : SearchState) (kept : IsKeptSearch s) (ready : IsReady s) where
+  -- the next move has few squares and signs
+  pub count_few : s.next.count < 17
+  count_few = omega (arith, ready.few, kept.most)
+
+  pub signs_few : length s.next.signs ≤ 18
+  signs_few = omega (arith, ready.few, kept.most, few_signs (outline_of s.front) s.next ready.legal)
+
+  -- where it is pushed, the moves are a word of the tree
+  pub stand_down : IsSearchState s.order (s.front ++ s.next ∷ []) s.next
+  stand_down = record {
+    legal = legal-snoc start s.front s.next kept.stand.legal ready.legal;
+    small = omega (arith, ready.few, order_one s.front s.next);
+    some = ready.legal.some;
+    count = kept.stand.count;
+    signs = kept.stand.signs;
+  }
+
+  -- over moves that are cut
+  pub leads_over : (next : Move) (steps : ℕ) → IsCut s.order s.class s.front s.next next → GrowsByAtMostOne s.next next
+      → StepLeadsTo s.order s.class (place_of s) s.front next (steps - steps) On
+  leads_over next steps cut near = step_cuts s.order s.class s.front s.next kept.most kept.stand ready.legal next (steps - steps) cut near ready.few
+      (omega arith)
+
+  module _ (pushed : Word) (steps then : ℕ) (is : pushed ≡ s.front ++ s.next ∷ []) (one : then ≡ steps + 1) where
+    -- down and back, where no member's word begins so
+    pub leads_back : (popped : Word) (next : Move) → popped ≡ take (length pushed - 1) pushed → next ≡ move_after s.next → IsBarren s.order s.class pushed
+        → StepLeadsTo s.order s.class (place_of s) popped next (then - steps) On
+    leads_back popped next pop after barren = step_turns_back s.order s.class s.front s.next kept.most kept.stand ready.legal ready.few pushed is (then - steps)
+        (omega (arith, one)) popped next pop after barren
+
+    -- down, where the moves are no complete word of the order that a member has
+    pub leads_down : (next : Move) → next ≡ first_move → (IsComplete pushed → order_of pushed ≡ s.order → HasNoMember s.class pushed)
+        → StepLeadsTo s.order s.class (place_of s) pushed next (then - steps) On
+    leads_down next first none = step_goes_down s.order s.class s.front s.next kept.most kept.stand ready.legal ready.few pushed is (then - steps)
+        (omega (arith, one)) next first none
+
+    -- to the word of a member
+    pub leads_to : (next : Move) → StepLeadsTo s.order s.class (place_of s) pushed next (then - steps) Met
+    leads_to next = step_meets s.order s.class s.front s.next kept.most kept.stand ready.legal ready.few pushed is (then - steps) (omega (arith, one))
+
+-- the state after the push of a move, which stays the next
+abbrev pub down_from : SearchState → Move → SearchState
+down_from s m = record { order = s.order; class = s.class; front = s.front ++ m ∷ []; next = m; pushes = min (s.pushes + 1) (2 ^ 64 - 1) }
+
+pub stays_played : (s t : SearchState) (m : Move) (steps then : ℕ) → t ≡ down_from s m → then ≡ steps + 1 → StaysOf s t steps then
+stays_played s t m steps then is one = stays_one s t steps then (ap (λ (u : SearchState). u.order) is) (ap (λ (u : SearchState). u.class) is)
+    (ap (λ (u : SearchState). u.pushes) is) one
+
+-- it goes on from there
+pub stays_down : {s now t : SearchState} → s ≡ now → (m : Move) → t ≡ down_from s m → (front : Word) (next : Move) (steps then : ℕ) → then ≡ steps + 1
+    → StaysOf now (record { order = t.order; class = t.class; front = front; next = next; pushes = t.pushes }) steps then
+stays_down {s = s} {now = now} {t = t} view m is front next steps then one =
+    stays_one now (record { order = t.order; class = t.class; front = front; next = next; pushes = t.pushes }) steps then
+    (ap (λ (u : SearchState). u.order) is ∙ ap (λ (u : SearchState). u.order) view)
+    (ap (λ (u : SearchState). u.class) is ∙ ap (λ (u : SearchState). u.class) view)
+    (ap (λ (u : SearchState). u.pushes) is ∙ ap (λ (u : SearchState). min (u.pushes + 1) (2 ^ 64 - 1)) view) one
+
+-- from there: back, on or to the word of a member
+module _ (s t : SearchState) (kept : IsKeptSearch s) (ready : IsReady s) (m : Move) (steps then : ℕ) (is : t ≡ down_from s m) (same : m ≡ s.next)
+    (one : then ≡ steps + 1) where
+  front_is : t.front ≡ s.front ++ s.next ∷ []
+  front_is = ap (λ (u : SearchState). u.front) is ∙ ap (λ (k : Move). s.front ++ k ∷ []) same
+
+  order_is : t.order ≡ s.order
+  order_is = ap (λ (u : SearchState). u.order) is
+
+  pub walked_back : (popped : Word) (next : Move) → popped ≡ take (length t.front - 1) t.front → next ≡ move_after t.next → IsBarren t.order s.class t.front
+      → StepLeadsTo s.order s.class (place_of s) popped next (then - steps) On
+  walked_back popped next pop after barren = leads_back s kept ready t.front steps then front_is one popped next pop
+      (after ∙ ap move_after (ap (λ (u : SearchState). u.next) is ∙ same)) (subst (λ (n : ℕ). IsBarren n s.class t.front) order_is barren)
+
+  pub walked_back_stand : (popped : Word) (next : Move) → popped ≡ take (length t.front - 1) t.front → next ≡ move_after t.next
+      → IsBarren t.order s.class t.front → IsSearchState t.order popped next
+  walked_back_stand popped next pop after barren = subst (λ (n : ℕ). IsSearchState n popped next) (sym order_is) (walked_back popped next pop after barren).1
+
+  pub walked_down : (next : Move) → next ≡ first_move → (IsComplete t.front → order_of t.front ≡ t.order → HasNoMember t.class t.front)
+      → StepLeadsTo s.order s.class (place_of s) t.front next (then - steps) On
+  walked_down next first none = leads_down s kept ready t.front steps then front_is one next first
+      (λ whole order. subst (λ (k : Class). HasNoMember k t.front) (ap (λ (u : SearchState). u.class) is) (none whole (order ∙ sym order_is)))
+
+  pub walked_to : (next : Move) → StepLeadsTo s.order s.class (place_of s) t.front next (then - steps) Met
+  walked_to next = leads_to s kept ready t.front steps then front_is one next
+
+  -- that of an entry of its order and class
+  pub walked_entry : (tiling : Tiling) → IsEntry t.order t.class (record { tiling = tiling; word = t.front })
+      → IsEntry s.order s.class (record { tiling = tiling; word = t.front })
+  walked_entry tiling entry = same_entry s.order t.order s.class t.class t.front t.front tiling order_is (ap (λ (u : SearchState). u.class) is) refl entry
+
+-- no move is played
+pub stand_first : (n : ℕ) (front : Word) (next : Move) → front ≡ [] → next ≡ first_move → IsSearchState n front next
+stand_first n front next e f = subst (λ (w : Word). IsSearchState n w next) (sym e) (subst (IsSearchState n []) (sym f)
+    (record { legal = tt; small = omega arith; some = omega arith; count = omega arith; signs = omega arith }))
+
+-- the next move is the first of all
+pub stand_anew : (n : ℕ) (front : Word) (x next : Move) → IsSearchState n front x → next ≡ first_move → IsSearchState n front next
+stand_anew n front x next stand first = subst (IsSearchState n front) (sym first)
+    (record { legal = stand.legal; small = stand.small; some = omega arith; count = omega arith; signs = omega arith })

@@ -1,0 +1,34 @@
+use Rattle.std.proofs.Common.{ap, arith, length, rules, slice_get, sym, ◌-◌, ◌∙◌}
+use Rattle.bk_word.specs.Word.{Word}
+use Rattle.bk_tree_walk.proofs.Standing.{IsLastMove, last_move, taken_last}
+use Rattle.bk_tree_walk.proofs.tree_walk.climb.Goals as goal
+
+pub returns-then-moves-eq0-clause-on : goal.returns-then-moves-eq0-clause-on
+returns-then-moves-eq0-clause-on c = search rules
+
+pub next_move-requires-clause-count : goal.next_move-requires-clause-count
+next_move-requires-clause-count c =
+    let was = taken_last c.args.lined.now c.pop.new.self c.read_move.new.m c.moves-moves.result
+    (c.moves-moves.ensures.value ∙ ap length c.skel.ensures.value) (omega (arith, c.if-moves-eq0.false))
+    (ap (λ (w : Word). slice_get w (c.moves-moves.result - 1)) (sym c.skel-2.ensures.value) ∙ c.read_move.ensures) c.pop.ensures in
+    let last : IsLastMove c.pop.new.self c.read_move.new.m =
+    last_move c.args.lined.now c.pop.new.self c.read_move.new.m c.skel.ensures.legal c.requires.small was in
+    omega (arith, last.count)
+
+pub next_move-requires-clause-signs : goal.next_move-requires-clause-signs
+next_move-requires-clause-signs c =
+    let was = taken_last c.args.lined.now c.pop.new.self c.read_move.new.m c.moves-moves.result
+    (c.moves-moves.ensures.value ∙ ap length c.skel.ensures.value) (omega (arith, c.if-moves-eq0.false))
+    (ap (λ (w : Word). slice_get w (c.moves-moves.result - 1)) (sym c.skel-2.ensures.value) ∙ c.read_move.ensures) c.pop.ensures in
+    let last : IsLastMove c.pop.new.self c.read_move.new.m =
+    last_move c.args.lined.now c.pop.new.self c.read_move.new.m c.skel.ensures.legal c.requires.small was in
+    omega (arith, last.signs)
+
+pub returns-clause-on : goal.returns-clause-on
+returns-clause-on c _ = record {
+  last = c.read_move.new.m;
+  was = taken_last c.args.lined.now c.pop.new.self c.read_move.new.m c.moves-moves.result
+      (c.moves-moves.ensures.value ∙ ap length c.skel.ensures.value) (omega (arith, c.if-moves-eq0.false))
+      (ap (λ (w : Word). slice_get w (c.moves-moves.result - 1)) (sym c.skel-2.ensures.value) ∙ c.read_move.ensures) c.pop.ensures;
+  next = c.next_move.ensures;
+}

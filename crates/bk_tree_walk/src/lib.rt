@@ -1,0 +1,28 @@
+//! A walk through the tree of legal words, in ascending order, that looks for the words of a catalogue's members.
+#![tactic(auto)]
+
+mod judging;
+mod realising;
+mod resuming;
+mod tree_walk;
+
+pub use resuming::{copy_of, word_played};
+pub use tree_walk::TreeWalk;
+
+/// Where one step of a search leads.
+pub enum Went {
+    /// on to a later place
+    On,
+    /// to the word of a member
+    Met,
+    /// to the end of the tree
+    End,
+}
+
+/// What a search finds.
+pub enum Found {
+    /// a member, whose word is that of the moves played
+    Member,
+    /// nothing more
+    Ended,
+}

@@ -1,5 +1,0 @@
-use Rattle.std.proofs.Common.{rules}
-use Rattle.bk_walk.proofs.resuming.can_play.Goals as goal
-
-pub returns-else-order-from-clause-no : goal.returns-else-order-from-clause-no
-returns-else-order-from-clause-no c = search rules

@@ -1,0 +1,32 @@
+use Rattle.std.proofs.Common.{refl, rules}
+use Rattle.bk_tree_walk.proofs.Members.{same_entry}
+use Rattle.bk_tree_walk.proofs.PlaceLaws.{settled_leads, settled_unmet}
+use Rattle.bk_tree_walk.proofs.SearchTurns.{stays_then}
+use Rattle.bk_walk.proofs.PlaceLaws.{goes_on}
+use Rattle.bk_walk.proofs.search.step.Goals as goal
+
+pub go_on-requires : goal.go_on-requires
+go_on-requires g c = (search rules, c.in-None.ensures.settles.0)
+
+pub returns-in-Some-clause-leads : goal.returns-in-Some-clause-leads
+returns-in-Some-clause-leads g c = settled_leads c.args.tree.now c.settle.new.self c.in-Some.went c.args.steps.now c.in-Some.ensures.settles
+
+pub returns-in-Some-clause-member : goal.returns-in-Some-clause-member
+returns-in-Some-clause-member g c = λ met. absurd (settled_unmet c.args.tree.now c.settle.new.self c.in-Some.went c.in-Some.ensures.settles met)
+
+pub returns-in-Some-clause-stays : goal.returns-in-Some-clause-stays
+returns-in-Some-clause-stays g c = c.in-Some.ensures.stays c.args.steps.now
+
+pub returns-in-None-clause-leads : goal.returns-in-None-clause-leads
+returns-in-None-clause-leads g c = goes_on c.args.tree.now c.settle.new.self c.args.steps.now (c.in-None.ensures.stays c.args.steps.now)
+    c.in-None.ensures.settles.1 c.go_on.new.tree.front c.go_on.new.tree.next _ c.go_on.result c.go_on.ensures.leads
+
+pub returns-in-None-clause-member : goal.returns-in-None-clause-member
+returns-in-None-clause-member g c = λ met.
+    let stays = c.in-None.ensures.stays c.args.steps.now in
+    same_entry c.args.tree.now.order c.settle.new.self.order c.args.tree.now.class c.settle.new.self.class c.go_on.new.tree.front c.go_on.new.tree.front
+    c.go_on.new.tiling stays.order stays.class refl (c.go_on.ensures.member met)
+
+pub returns-in-None-clause-stays : goal.returns-in-None-clause-stays
+returns-in-None-clause-stays g c = stays_then c.args.tree.now c.settle.new.self c.go_on.new.tree c.args.steps.now c.args.steps.now c.go_on.new.steps
+    (c.in-None.ensures.stays c.args.steps.now) c.go_on.ensures.stays

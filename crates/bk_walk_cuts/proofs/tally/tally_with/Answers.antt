@@ -1,0 +1,17 @@
+use Rattle.std.proofs.Common.{[], refl, subst, sym, ◌++◌, ◌+◌, ◌∷◌}
+use Rattle.bk_word.specs.declared.Sign.{Sign}
+use Rattle.bk_walk_cuts.proofs.TallyLaws.{tally_above, tally_even, tally_under}
+use Rattle.bk_walk_cuts.specs.Tally.{IsTally}
+use Rattle.bk_walk_cuts.proofs.tally.tally_with.Goals as goal
+
+pub returns-in-Above-clause-tally : goal.returns-in-Above-clause-tally
+returns-in-Above-clause-tally c signs t = subst (λ (s : Sign). IsTally (signs ++ s ∷ []) c.max.result (c.args.tally.aboves + 1)) (sym c.in-Above.is)
+    (tally_above signs c.args.tally.bound c.max.result c.args.tally.aboves (c.args.tally.aboves + 1) t c.max.ensures refl)
+
+pub returns-in-Even-clause-tally : goal.returns-in-Even-clause-tally
+returns-in-Even-clause-tally c signs t = subst (λ (s : Sign). IsTally (signs ++ s ∷ []) c.args.tally.bound c.args.tally.aboves) (sym c.in-Even.is)
+    (tally_even signs c.args.tally.bound c.args.tally.aboves c.requires.low t)
+
+pub returns-in-Under-clause-tally : goal.returns-in-Under-clause-tally
+returns-in-Under-clause-tally c signs t = subst (λ (s : Sign). IsTally (signs ++ s ∷ []) (c.args.tally.bound + 1) c.args.tally.aboves) (sym c.in-Under.is)
+    (tally_under signs c.args.tally.bound (c.args.tally.bound + 1) c.args.tally.aboves c.requires.low t refl)

@@ -1,5 +1,0 @@
-use Rattle.bk_word_net.proofs.NarrowWords.{no_small_word_is_wide as the_law}
-use Rattle.bk_word_net.proofs.no_small_word_is_wide.Goals as goal
-
-pub returns : goal.returns
-returns c = the_law
