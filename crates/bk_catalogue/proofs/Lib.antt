@@ -46,3 +46,4 @@ pub mod CuttingBounds
 pub mod CuttingLines
 pub mod BegunWords
 pub mod BarrenExamples
+pub mod QuickTests

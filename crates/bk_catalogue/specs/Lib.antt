@@ -1,4 +1,4 @@
--- What the crate says. It has laws alone, so there is no code to keep.
+-- What the crate says.
 pub mod Tree
 pub mod TreeLaws
 pub mod NextMove
@@ -13,3 +13,4 @@ pub mod Repeated
 pub mod Cuts
 pub mod BoundCuts
 pub mod Corners
+pub mod Qualifying

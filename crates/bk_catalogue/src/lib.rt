@@ -10,6 +10,13 @@ ghost use Rattle.bk_catalogue.specs.Cuts.{EvenSquaresAreBarren, OneSegmentIsBarr
 ghost use Rattle.bk_catalogue.specs.BoundCuts.{TooManyLinesIsBarren, TooManySinglesIsBarren, TooManyToCloseIsBarren};
 ghost use Rattle.bk_catalogue.specs.Corners.{CornersAreNoLonger};
 
+mod corners;
+mod qualifying;
+
+pub use qualifying::{is_simple_of, qualifies};
+
+// How many words of the tree there are.
+
 /// Each part of the tree, after a cursor and not after a bound, has a tree count.
 pub fn each_part_of_the_tree_has_a_count()
     ensures { EachPartOfTheTreeHasACount }
@@ -40,6 +47,8 @@ pub fn a_legal_word_is_one()
     ensures { ALegalWordIsOne }
 {}
 
+// How many squares a complete word still hangs at least.
+
 /// The closing bound is the greatest number of closings.
 pub fn the_closing_bound_is_most()
     ensures { TheClosingBoundIsMost }
@@ -65,10 +74,14 @@ pub fn lines_are_hung()
     ensures { LinesAreHung }
 {}
 
+// The catalogue.
+
 /// A simple tiling is listed once in the catalogue of its order and class: as the entry of its canonical tiling.
 pub fn each_simple_tiling_is_listed_once()
     ensures { EachSimpleTilingIsListedOnce }
 {}
+
+// With which moves no member's word begins.
 
 /// No member's word goes on from moves that leave one segment, while they hang fewer squares than the order.
 pub fn one_segment_is_barren()

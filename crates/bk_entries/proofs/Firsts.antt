@@ -8,11 +8,11 @@ use Rattle.bk_sym.proofs.CanonicalLaws.{a_canonical_tiling_is_one}
 use Rattle.bk_word.specs.declared.Class.TheVariants.{Perfect}
 use Rattle.bk_catalogue.specs.Catalogue.{IsMember}
 use Rattle.bk_entries.proofs.Storing.{all_at}
-use Rattle.bk_entries.specs.Kept.{IsFed, IsKeptFrom, IsNotKept, Kept, VerifierState}
+use Rattle.bk_entries.specs.Kept.{IsFed, IsKeptFrom, IsNotKept, Kept, EntriesState}
 use Rattle.bk_entries.specs.Verify.{Accepted, AreNotOf, IsFirstOf, IsOf}
 use Rattle.bk_entries.specs.VerifyLaws.{AVerifierTellsTheTruth, IsFirstLine, IsTrueOf, KeepsFirsts, MissingOnesAreNotKept, TruthsStay}
-use Rattle.bk_entries.specs.declared.verifier.Fed.{Fed}
-use Rattle.bk_entries.specs.declared.verifier.Fed.TheVariants.{Foreign, New, Repeats}
+use Rattle.bk_entries.specs.declared.entries.Fed.{Fed}
+use Rattle.bk_entries.specs.declared.entries.Fed.TheVariants.{Foreign, New, Repeats}
 
 -- the first entry stays the first where more follow
 first_stays : (entries more : List Accepted) (u : Tiling) (first : Accepted) → IsFirstOf entries u first → IsFirstOf (entries ++ more) u first
@@ -93,7 +93,7 @@ keeps_foreign n pairs entries e keeps not = record {
   all = λ v is new. all_append (λ f. IsOf v f → ⊥) entries (e ∷ []) (keeps.all v is new) ((λ of. not v of is), tt);
 }
 
-told : (old : VerifierState) (entries : List Accepted) (e : Accepted) (fed : Fed) (new : VerifierState) → IsTiling e.tiling
+told : (old : EntriesState) (entries : List Accepted) (e : Accepted) (fed : Fed) (new : EntriesState) → IsTiling e.tiling
     → AllByRecursion (λ f. f.line ≢ e.line) entries
     → KeepsFirsts old.order entries old.pairs → IsFed old e.line e.tiling fed new → IsTrueOf old.order (entries ++ e ∷ []) e fed
 told old entries e New new tiling apart keeps is =
@@ -119,19 +119,19 @@ told old entries e (Repeats line) new tiling apart keeps is =
     }
 told old entries e Foreign new tiling apart keeps is = λ u of member. is.0 u (record { canonical = of; member = member })
 
-kept : (old : VerifierState) (entries : List Accepted) (e : Accepted) (fed : Fed) (new : VerifierState) → IsTiling e.tiling
+kept : (old : EntriesState) (entries : List Accepted) (e : Accepted) (fed : Fed) (new : EntriesState) → IsTiling e.tiling
     → KeepsFirsts old.order entries old.pairs
     → IsFed old e.line e.tiling fed new → KeepsFirsts new.order (entries ++ e ∷ []) new.pairs
 kept old entries e New new tiling keeps is =
     let sight = is.sight in
-    subst (λ (s : VerifierState). KeepsFirsts s.order (entries ++ e ∷ []) s.pairs) (sym is.taken)
+    subst (λ (s : EntriesState). KeepsFirsts s.order (entries ++ e ∷ []) s.pairs) (sym is.taken)
     (keeps_new old.order old.pairs entries keeps e tiling sight.tiling (sight.stands).member (sight.stands).canonical sight.new)
 kept old entries e (Repeats line) new tiling keeps is =
     let again = is.0 in
-    subst (λ (s : VerifierState). KeepsFirsts s.order (entries ++ e ∷ []) s.pairs) (sym is.1)
+    subst (λ (s : EntriesState). KeepsFirsts s.order (entries ++ e ∷ []) s.pairs) (sym is.1)
     (keeps_again old.order old.pairs entries keeps e tiling again.tiling (again.stands).member (again.stands).canonical line again.kept)
 kept old entries e Foreign new tiling keeps is =
-    subst (λ (s : VerifierState). KeepsFirsts s.order (entries ++ e ∷ []) s.pairs) (sym is.1)
+    subst (λ (s : EntriesState). KeepsFirsts s.order (entries ++ e ∷ []) s.pairs) (sym is.1)
     (keeps_foreign old.order old.pairs entries e keeps (λ u of member. is.0 u (record { canonical = of; member = member })))
 
 pub a_verifier_tells_the_truth : AVerifierTellsTheTruth

@@ -15,10 +15,10 @@ use Rattle.std.proofs.lemmas.List.{length-map}
 use Rattle.bk_sym.proofs.ScaledDown.{side_divisor}
 use Rattle.bk_catalogue.specs.Catalogue.{IsMember}
 use Rattle.bk_entries.proofs.Storing.{all_at}
-use Rattle.bk_entries.specs.Kept.{AreApart, IsFirstSight, IsKeptFrom, IsKeptVerifier, IsNotKept, IsTakenIn, Kept, RepeatsFrom, StandsFor}
-use Rattle.bk_entries.specs.Kept.{StandsForNone, VerifierState, with_kept}
+use Rattle.bk_entries.specs.Kept.{AreApart, IsFirstSight, IsKeptFrom, AreKeptEntries, IsNotKept, IsTakenIn, Kept, RepeatsFrom, StandsFor}
+use Rattle.bk_entries.specs.Kept.{StandsForNone, EntriesState, with_kept}
 use Rattle.bk_entries.specs.VerifyLaws.{AnEntryIsToldOneThing}
-use Rattle.bk_entries.specs.declared.verifier.Fed.TheVariants.{Foreign, New, Repeats}
+use Rattle.bk_entries.specs.declared.entries.Fed.TheVariants.{Foreign, New, Repeats}
 
 -- the canonical tiling has as many squares
 pub canonical_order : (t u : Tiling) → IsCanonicalOf t u → length u.squares ≡ length t.squares
@@ -74,8 +74,8 @@ apart_more (q ∷ pairs) p apart new = (
   apart_more pairs p apart.1 new.1,
 )
 
--- the verifier with one more member
-pub kept_with : (s : VerifierState) (t : Tiling) (line : ℕ) (sight : IsFirstSight s t) → IsKeptVerifier s → IsKeptVerifier (with_kept s line sight.tiling)
+-- the entries with one more member
+pub kept_with : (s : EntriesState) (t : Tiling) (line : ℕ) (sight : IsFirstSight s t) → AreKeptEntries s → AreKeptEntries (with_kept s line sight.tiling)
 kept_with s t line sight kept = record {
   least = kept.least;
   most = kept.most;
@@ -94,7 +94,7 @@ one_line (p ∷ pairs) u a b apart (suc k, few, e) (zero, little, f) = absurd
     (not_itself pairs p.tiling a apart.0 (subst (λ (v : Tiling). IsKeptFrom pairs v a) (ap (λ (q : Kept). q.tiling) (sym f)) (k, omega (arith, few), e)))
 one_line (p ∷ pairs) u a b apart (suc k, few, e) (suc l, little, f) = one_line pairs u a b apart.1 (k, omega (arith, few), e) (l, omega (arith, little), f)
 
-module _ (s : VerifierState) (t : Tiling) (kept : IsKeptVerifier s) (tiling : IsTiling t) where
+module _ (s : EntriesState) (t : Tiling) (kept : AreKeptEntries s) (tiling : IsTiling t) where
   one_stands : (u v : Tiling) → StandsFor s.order t u → StandsFor s.order t v → u ≡ v
   one_stands u v a b = (a_canonical_tiling_is_one t u v tiling a.canonical b.canonical).1
 
@@ -119,7 +119,7 @@ an_entry_is_told_one_thing s line t Foreign (Repeats g) x y kept tiling a b = ab
 an_entry_is_told_one_thing s line t Foreign Foreign x y kept tiling a b = refl
 
 -- a member that was new is kept
-module _ (s : VerifierState) (t u : Tiling) (line : ℕ) (pairs : List Kept) (stands : StandsFor s.order t u) (new : IsNotKept s.pairs u) where
+module _ (s : EntriesState) (t u : Tiling) (line : ℕ) (pairs : List Kept) (stands : StandsFor s.order t u) (new : IsNotKept s.pairs u) where
   -- the entry is the first one that stands for the member
   abbrev pub first_sight : IsFirstSight s t
   first_sight = record { tiling = u; stands = stands; new = new }
@@ -132,5 +132,5 @@ module _ (s : VerifierState) (t u : Tiling) (line : ℕ) (pairs : List Kept) (st
   taken_in e = record { sight = first_sight; taken = now_is e }
 
   -- and what is kept with it is right
-  pub kept_then : IsKeptVerifier s → pairs ≡ s.pairs ++ record { line = line; tiling = u } ∷ [] → IsKeptVerifier (record { order = s.order; pairs = pairs })
-  kept_then kept e = subst IsKeptVerifier (sym (now_is e)) (kept_with s t line first_sight kept)
+  pub kept_then : AreKeptEntries s → pairs ≡ s.pairs ++ record { line = line; tiling = u } ∷ [] → AreKeptEntries (record { order = s.order; pairs = pairs })
+  kept_then kept e = subst AreKeptEntries (sym (now_is e)) (kept_with s t line first_sight kept)

@@ -11,10 +11,10 @@ use Rattle.bk_sym.specs.Canonical.{IsCanonical, IsCanonicalOf}
 use Rattle.bk_sym.specs.declared.Turn.TheVariants.{FlipX, FlipY, Half, Same, Swap, SwapFlipX, SwapFlipY, SwapHalf}
 use Rattle.bk_word.specs.declared.Class.TheVariants.{Perfect}
 use Rattle.bk_catalogue.specs.Catalogue.{IsMember}
-use Rattle.bk_entries.specs.Kept.{IsFed, VerifierState}
+use Rattle.bk_entries.specs.Kept.{IsFed, EntriesState}
 use Rattle.bk_entries.specs.Stored.{kept_of}
 use Rattle.bk_entries.specs.Verify.{Accepted, IsFirstOf, IsForeign, IsMissing, IsNew, IsRepeat}
-use Rattle.bk_entries.specs.declared.verifier.Fed.TheVariants.{Foreign}
+use Rattle.bk_entries.specs.declared.entries.Fed.TheVariants.{Foreign}
 use Rattle.bk_entries.proofs.Standing.{none_of_other_order}
 
 abbrev one_square : Tiling
@@ -143,8 +143,8 @@ missing-69x61 = record {
 foreign-entry : IsForeign 9 (record { line = 2; tiling = one_square })
 foreign-entry u is member = none_of_other_order 9 one_square (λ e. omega (arith, e)) u (record { canonical = is; member = member })
 
--- a verifier that keeps the rectangle from line 1 tells so, and keeps what it kept
-abbrev kept : VerifierState
+-- where the rectangle is kept from line 1, that is told, and all that was kept is kept
+abbrev kept : EntriesState
 kept = record { order = 9; pairs = record { line = 1; tiling = rectangle_33x32 } ∷ [] }
 
 told-foreign : IsFed kept 2 one_square Foreign kept

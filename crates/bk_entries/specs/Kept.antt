@@ -1,6 +1,5 @@
--- What is seen of a verifier, what each answer says, and which members are missing.
--- Example (VerifyExamples): a verifier of order 9 that keeps the rectangle 33x32 from line 1 tells of a square alone that it is
--- foreign, and stays as it is.
+-- What is seen of entries that were fed, what is told of each of them, and which members are missing.
+-- Example (VerifyExamples): where the rectangle 33x32 is kept from line 1, at order 9, a square alone is foreign, and all stays as it is.
 use Rattle.std.specs.List.{AllByRecursion}
 use Rattle.std.specs.Prelude.{Contains, List, [], length, ℕ, ⊤, ◌++◌, ◌∷◌, ◌≡◌, ◌≢◌, ◌≤◌}
 use Rattle.bk_tiling.specs.Tiling.{Tiling}
@@ -9,16 +8,16 @@ use Rattle.bk_word.specs.Word.{Follows, Word}
 use Rattle.bk_word.specs.declared.Class.TheVariants.{Perfect}
 use Rattle.bk_lay.specs.TilingWord.{IsWordOf}
 use Rattle.bk_catalogue.specs.Catalogue.{AreAscending, Entry, IsEntry, IsMember}
-use Rattle.bk_entries.specs.declared.verifier.Fed.{Fed}
-use Rattle.bk_entries.specs.declared.verifier.Fed.TheVariants.{Foreign, New, Repeats}
+use Rattle.bk_entries.specs.declared.entries.Fed.{Fed}
+use Rattle.bk_entries.specs.declared.entries.Fed.TheVariants.{Foreign, New, Repeats}
 
 -- a member that was seen, with the line on which it was first
 pub record Kept : Type 0 where
   pub line : ℕ
   pub tiling : Tiling
 
--- what is seen of a verifier: its order, and the members that were new, in the order of first sight
-pub record VerifierState : Type 0 where
+-- what is seen of the entries: the order, and the members that were new, in the order of first sight
+pub record EntriesState : Type 0 where
   pub order : ℕ
   pub pairs : List Kept
 
@@ -40,28 +39,28 @@ abbrev pub IsNotKept : List Kept → Tiling → Type 0
 IsNotKept pairs u = AllByRecursion (λ p. p.tiling ≢ u) pairs
 
 -- the tiling stands for a member that is kept from this line
-pub record RepeatsFrom (s : VerifierState) (t : Tiling) (line : ℕ) : Type 0 where
+pub record RepeatsFrom (s : EntriesState) (t : Tiling) (line : ℕ) : Type 0 where
   pub tiling : Tiling
   pub stands : StandsFor s.order t tiling
   pub kept : IsKeptFrom s.pairs tiling line
 
 -- the tiling stands for a member that isn't kept
-pub record IsFirstSight (s : VerifierState) (t : Tiling) : Type 0 where
+pub record IsFirstSight (s : EntriesState) (t : Tiling) : Type 0 where
   pub tiling : Tiling
   pub stands : StandsFor s.order t tiling
   pub new : IsNotKept s.pairs tiling
 
--- the verifier with a tiling's member kept from this line
-abbrev pub with_kept : VerifierState → ℕ → Tiling → VerifierState
+-- the entries with a tiling's member kept from this line
+abbrev pub with_kept : EntriesState → ℕ → Tiling → EntriesState
 with_kept s line u = record { order = s.order; pairs = s.pairs ++ record { line = line; tiling = u } ∷ [] }
 
 -- the tiling stands for a member that wasn't kept, and is now
-pub record IsTakenIn (old : VerifierState) (line : ℕ) (t : Tiling) (new : VerifierState) : Type 0 where
+pub record IsTakenIn (old : EntriesState) (line : ℕ) (t : Tiling) (new : EntriesState) : Type 0 where
   pub sight : IsFirstSight old t
   pub taken : new ≡ with_kept old line sight.tiling
 
 -- what is said of a tiling that is fed, and what is kept then
-abbrev pub IsFed : VerifierState → ℕ → Tiling → Fed → VerifierState → Type 0
+abbrev pub IsFed : EntriesState → ℕ → Tiling → Fed → EntriesState → Type 0
 IsFed old line t New new = IsTakenIn old line t new
 IsFed old line t (Repeats first) new = RepeatsFrom old t first × (new ≡ old)
 IsFed old line t Foreign new = StandsForNone old.order t × (new ≡ old)
@@ -71,8 +70,8 @@ abbrev pub AreApart : List Kept → Type 0
 AreApart [] = ⊤
 AreApart (p ∷ pairs) = IsNotKept pairs p.tiling × AreApart pairs
 
--- what holds of each verifier
-pub record IsKeptVerifier (s : VerifierState) : Type 0 where
+-- what holds of all that is kept
+pub record AreKeptEntries (s : EntriesState) : Type 0 where
   pub least : 2 ≤ s.order
   pub most : s.order ≤ 16
   pub members : AllByRecursion (λ p. IsMember s.order Perfect p.tiling) s.pairs

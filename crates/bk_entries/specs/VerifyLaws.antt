@@ -5,16 +5,16 @@ use Rattle.std.specs.Prelude.{List, [], ℕ, ◌++◌, ◌∷◌, ◌↔◌, ◌
 use Rattle.bk_tiling.specs.Tiling.{IsTiling, Tiling}
 use Rattle.bk_word.specs.declared.Class.TheVariants.{Perfect}
 use Rattle.bk_catalogue.specs.Catalogue.{IsMember}
-use Rattle.bk_entries.specs.Kept.{IsFed, IsKeptFrom, IsKeptVerifier, IsNotKept, Kept, VerifierState}
+use Rattle.bk_entries.specs.Kept.{IsFed, IsKeptFrom, AreKeptEntries, IsNotKept, Kept, EntriesState}
 use Rattle.bk_entries.specs.Verify.{Accepted, AreNotOf, IsFirstOf, IsForeign, IsNew, IsRepeat}
-use Rattle.bk_entries.specs.declared.verifier.Fed.{Fed}
-use Rattle.bk_entries.specs.declared.verifier.Fed.TheVariants.{Foreign, New, Repeats}
+use Rattle.bk_entries.specs.declared.entries.Fed.{Fed}
+use Rattle.bk_entries.specs.declared.entries.Fed.TheVariants.{Foreign, New, Repeats}
 
 -- of a tiling only one thing can be told. So Foreign is told exactly where the canonical tiling is no member, and
 -- Repeats exactly where it is a member that is kept, with the line from which it is kept
 abbrev pub AnEntryIsToldOneThing : Type 0
-AnEntryIsToldOneThing = (old : VerifierState) (line : ℕ) (t : Tiling) (a b : Fed) (x y : VerifierState)
-    → IsKeptVerifier old → IsTiling t → IsFed old line t a x → IsFed old line t b y → a ≡ b
+AnEntryIsToldOneThing = (old : EntriesState) (line : ℕ) (t : Tiling) (a b : Fed) (x y : EntriesState)
+    → AreKeptEntries old → IsTiling t → IsFed old line t a x → IsFed old line t b y → a ≡ b
 
 -- the line is that of the tiling's first entry
 pub record IsFirstLine (entries : List Accepted) (u : Tiling) (line : ℕ) : Type 0 where
@@ -37,10 +37,10 @@ IsTrueOf n entries e Foreign = IsForeign n e
 -- own, what is told of it is true, and what is kept then is right
 pub record AVerifierTellsTheTruth : Type 0 where
   pub at_first : (n : ℕ) → KeepsFirsts n [] []
-  pub told : (old : VerifierState) (entries : List Accepted) (e : Accepted) (fed : Fed) (new : VerifierState)
+  pub told : (old : EntriesState) (entries : List Accepted) (e : Accepted) (fed : Fed) (new : EntriesState)
       → IsTiling e.tiling → AllByRecursion (λ f. f.line ≢ e.line) entries → KeepsFirsts old.order entries old.pairs
       → IsFed old e.line e.tiling fed new → IsTrueOf old.order (entries ++ e ∷ []) e fed
-  pub kept : (old : VerifierState) (entries : List Accepted) (e : Accepted) (fed : Fed) (new : VerifierState)
+  pub kept : (old : EntriesState) (entries : List Accepted) (e : Accepted) (fed : Fed) (new : EntriesState)
       → IsTiling e.tiling → KeepsFirsts old.order entries old.pairs
       → IsFed old e.line e.tiling fed new → KeepsFirsts new.order (entries ++ e ∷ []) new.pairs
 

@@ -4,7 +4,7 @@ ghost use Rattle.std.specs.Prelude.{List, MatchOption, MatchResult, OnErr, OnOk,
 ghost use Rattle.bk_tiling.specs.Tiling.{IsTiling, sides_of};
 ghost use Rattle.bk_entries.specs.Kept.{IsKeptFrom, IsNotKept};
 
-use crate::verifier::NoMemory;
+use crate::entries::NoMemory;
 use arrayvec::ArrayVec;
 use bk_tiling::{Square, Tiling};
 use bk_word::INLINE_ORDER;

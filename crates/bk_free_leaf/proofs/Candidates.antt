@@ -22,19 +22,19 @@ use Rattle.bk_word_net.specs.WordNet.{net_of_word}
 use Rattle.bk_layout.proofs.TilingSquares.{in_square, node_at}
 use Rattle.bk_layout.specs.TilingLayout.{square_of}
 use Rattle.bk_layout.proofs.GroupNodes.{IsNode}
-use Rattle.bk_net_word.specs.LineNumbers.{sides_of}
-use Rattle.bk_net_word.proofs.CutByNodes.{as_many_sides}
+use Rattle.bk_layout.specs.LineNumbers.{sides_of}
+use Rattle.bk_layout.proofs.CutByNodes.{as_many_sides}
 use Rattle.bk_free_leaf.proofs.OtherOrder.{other, other_in_order, other_tiles}
 use Rattle.bk_free_leaf.proofs.PlacedEdges.{StandRight, edges_are, place_is}
 use Rattle.bk_free_leaf.proofs.PrimitiveFlow.{same_levels, signed_flow_is_primitive}
 use Rattle.bk_free_leaf.specs.Candidate.{IsCandidateOf, TheCandidateIsTheTiling, candidate_square, candidate_squares, level_in, line_place}
 use Rattle.bk_free_leaf.specs.Candidate.{placed_square, right_edges, right_edges_from}
-use Rattle.bk_net_word.proofs.KnownLines.{known_lines}
-use Rattle.bk_net_word.proofs.SignedWires.{ends_below, square_apart, square_below}
-use Rattle.bk_net_word.proofs.SignedFlows.{hangs_by_flow, potential_is, signed_sides_are_the_one_flow, top_potential}
-use Rattle.bk_net_word.proofs.NumberedLists.{numbers_all, numbers_each, numbers_index, numbers_length}
-use Rattle.bk_net_word.specs.SignedFlow.{signed_flow, signed_side, upper_end}
-use Rattle.bk_net_word.specs.SignedWord.{IsSignedWordOf, left_edge, line_column, right_edge}
+use Rattle.bk_layout.proofs.KnownLines.{known_lines}
+use Rattle.bk_layout.proofs.SignedWires.{ends_below, square_apart, square_below}
+use Rattle.bk_layout.proofs.SignedFlows.{hangs_by_flow, potential_is, signed_sides_are_the_one_flow, top_potential}
+use Rattle.bk_layout.proofs.NumberedLists.{numbers_all, numbers_each, numbers_index, numbers_length}
+use Rattle.bk_layout.specs.SignedFlow.{signed_flow, signed_side, upper_end}
+use Rattle.bk_layout.specs.SignedWord.{IsSignedWordOf, left_edge, line_column, right_edge}
 
 -- a square placed by its edges and levels
 placed : (turned : Bool) (q : Square) (left right above below current : ℤ) → 0 < q.s → left ≡ pos (cond turned (q.x + q.s) q.x)

@@ -20,11 +20,11 @@ use Rattle.bk_word_net.specs.WordNet.{net_of_word}
 use Rattle.bk_layout.proofs.TilingFits.{a_tiling_has_a_layout}
 use Rattle.bk_layout.proofs.TilingSquares.{in_square}
 use Rattle.bk_layout.specs.TilingLayout.{node_above, square_of}
-use Rattle.bk_net_word.proofs.CutByNodes.{as_many_sides}
-use Rattle.bk_net_word.specs.LineNumbers.{lefts_of, sides_of}
-use Rattle.bk_net_word.proofs.SignedWires.{ends_below, pair_is, square_below}
-use Rattle.bk_net_word.proofs.SignedTotals.{finish_of, start_of}
-use Rattle.bk_net_word.specs.SignedWord.{IsSignedWordOf}
+use Rattle.bk_layout.proofs.CutByNodes.{as_many_sides}
+use Rattle.bk_layout.specs.LineNumbers.{lefts_of, sides_of}
+use Rattle.bk_layout.proofs.SignedWires.{ends_below, pair_is, square_below}
+use Rattle.bk_layout.proofs.SignedTotals.{finish_of, start_of}
+use Rattle.bk_layout.specs.SignedWord.{IsSignedWordOf}
 use Rattle.bk_normal.proofs.LayoutSides.{at_top, on_bottom}
 use Rattle.bk_normal.specs.Normal.{Counts, longest}
 use Rattle.bk_normal.proofs.NormalImages.{a_normal_word_has_settled_corners}

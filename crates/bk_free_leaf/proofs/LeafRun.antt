@@ -15,12 +15,12 @@ use Rattle.bk_net.specs.Net.{HasNoLoose, Net}
 use Rattle.bk_word.specs.Play.{IsComplete}
 use Rattle.bk_word.specs.Word.{Word, order_of}
 use Rattle.bk_word_net.specs.WordNet.{net_of_word}
-use Rattle.bk_net_word.specs.SignedWord.{IsSignedWordOf}
+use Rattle.bk_layout.specs.SignedWord.{IsSignedWordOf}
 use Rattle.bk_free_leaf.proofs.Leaves.{accepted_found, currents_many, currents_small, ends_within, height_found, in_order_found, joined, lines_known}
 use Rattle.bk_free_leaf.proofs.Leaves.{no_zero_found, nodes_few, sides_found, total_small, width_found, wires_are}
 use Rattle.bk_free_leaf.proofs.LevelSteps.{fits_small}
-use Rattle.bk_net_word.specs.LineNumbers.{lefts_of}
-use Rattle.bk_net_word.proofs.CutByNodes.{as_many_lefts}
+use Rattle.bk_layout.specs.LineNumbers.{lefts_of}
+use Rattle.bk_layout.proofs.CutByNodes.{as_many_lefts}
 use Rattle.bk_free_leaf.specs.Placing.{AreKnownLines, AreLevels, AreSmall, EndWithin, HasLevels, IsPlacedAt, IsSmall, edges_by_lefts}
 
 -- for each tiling in lowest terms of which the word is a signed one: this is its size, and these are its squares

@@ -25,10 +25,10 @@ use Rattle.bk_word_net.proofs.PlacesInLists.{index_of}
 use Rattle.bk_word_net.proofs.Shape.{hung_many}
 use Rattle.bk_word_net.proofs.WordTilings.{wires_many}
 use Rattle.bk_word_net.specs.WordNet.{net_of_word}
-use Rattle.bk_net_word.specs.LineNumbers.{lefts_of, sides_of}
-use Rattle.bk_net_word.proofs.CutByNodes.{as_many_lefts}
-use Rattle.bk_net_word.proofs.KnownLines.{known_lines}
-use Rattle.bk_net_word.specs.SignedWord.{IsSignedWordOf}
+use Rattle.bk_layout.specs.LineNumbers.{lefts_of, sides_of}
+use Rattle.bk_layout.proofs.CutByNodes.{as_many_lefts}
+use Rattle.bk_layout.proofs.KnownLines.{known_lines}
+use Rattle.bk_layout.specs.SignedWord.{IsSignedWordOf}
 use Rattle.bk_free_leaf.proofs.Candidates.{the_candidate_is_the_tiling}
 use Rattle.bk_free_leaf.specs.Candidate.{IsCandidateOf, candidate_square, candidate_squares, level_in, line_place, placed_square, right_edges_from}
 use Rattle.bk_free_leaf.proofs.FoundSides.{magnitudes_are_sides}

@@ -13,8 +13,8 @@ use Rattle.bk_word.specs.Play.{numbers_from}
 use Rattle.bk_layout.proofs.Edges.{IsOn, meet}
 use Rattle.bk_layout.proofs.TilingSquares.{in_square}
 use Rattle.bk_layout.specs.TilingLayout.{square_of}
-use Rattle.bk_net_word.proofs.NumberedLists.{numbers_length}
-use Rattle.bk_net_word.proofs.Totals.{renumbered, total_from}
+use Rattle.bk_layout.proofs.NumberedLists.{numbers_length}
+use Rattle.bk_layout.proofs.Totals.{renumbered, total_from}
 
 count_numbers : (p : Square → Bool) (f : ℕ → Square) (b n : ℕ) → count_by p (map f (numbers_from b n)) ≡ total_from (λ k. cond {A = ℕ} (p (f k)) 1 0) b n
 count_numbers p f b zero = refl

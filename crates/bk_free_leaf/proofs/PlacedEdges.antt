@@ -9,8 +9,8 @@ use Rattle.bk_tiling.specs.Tiling.{Tiling}
 use Rattle.bk_word.specs.Play.{numbers_from}
 use Rattle.bk_layout.specs.TilingLayout.{square_of}
 use Rattle.bk_free_leaf.specs.Candidate.{line_place, right_edges_from}
-use Rattle.bk_net_word.specs.SignedFlow.{signed_side}
-use Rattle.bk_net_word.specs.SignedWord.{left_edge, line_column, right_edge}
+use Rattle.bk_layout.specs.SignedFlow.{signed_side}
+use Rattle.bk_layout.specs.SignedWord.{left_edge, line_column, right_edge}
 
 index_old : (rs : List ℤ) (x : ℤ) (k : ℕ) (d : ℤ) → k < length rs → slice_index_or (rs ++ x ∷ []) k d ≡ slice_index_or rs k d
 index_old [] x k d h = absurd (omega arith)

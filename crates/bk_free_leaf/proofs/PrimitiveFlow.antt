@@ -16,10 +16,10 @@ use Rattle.bk_word.specs.Word.{Word}
 use Rattle.bk_layout.specs.TilingLayout.{square_of}
 use Rattle.bk_free_leaf.proofs.OtherOrder.{in_other, number_in}
 use Rattle.bk_free_leaf.specs.Candidate.{level_in}
-use Rattle.bk_net_word.proofs.NumberedLists.{at_number}
-use Rattle.bk_net_word.proofs.SignedWires.{square_apart, square_below}
-use Rattle.bk_net_word.specs.SignedFlow.{signed_flow, signed_side}
-use Rattle.bk_net_word.specs.SignedWord.{IsSignedWordOf}
+use Rattle.bk_layout.proofs.NumberedLists.{at_number}
+use Rattle.bk_layout.proofs.SignedWires.{square_apart, square_below}
+use Rattle.bk_layout.specs.SignedFlow.{signed_flow, signed_side}
+use Rattle.bk_layout.specs.SignedWord.{IsSignedWordOf}
 
 magnitude : (b : Bool) (n : ℕ) → nat_abs (cond {A = ℤ} b (neg_ℤ (pos n)) (pos n)) ≡ n
 magnitude true zero = refl

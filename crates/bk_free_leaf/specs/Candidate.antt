@@ -13,9 +13,9 @@ use Rattle.bk_net.specs.Net.{last_node}
 use Rattle.bk_word.specs.Play.{numbers_from}
 use Rattle.bk_word.specs.Word.{Word}
 use Rattle.bk_word_net.specs.WordNet.{net_of_word}
-use Rattle.bk_net_word.specs.LineNumbers.{sides_of}
-use Rattle.bk_net_word.specs.SignedFlow.{signed_flow}
-use Rattle.bk_net_word.specs.SignedWord.{IsSignedWordOf}
+use Rattle.bk_layout.specs.LineNumbers.{sides_of}
+use Rattle.bk_layout.specs.SignedFlow.{signed_flow}
+use Rattle.bk_layout.specs.SignedWord.{IsSignedWordOf}
 
 -- the place of a line by its number: the walls stand at 0 and at the total, the line behind the square at place k where it ends
 abbrev pub line_place : ℤ → List ℤ → ℕ → ℤ

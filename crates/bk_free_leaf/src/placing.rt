@@ -6,7 +6,7 @@ ghost use Rattle.bk_tiling.specs.Tiling.{Tiling as Tiled};
 ghost use Rattle.bk_word.specs.Play.{IsComplete};
 ghost use Rattle.bk_word.specs.Word.{order_of};
 ghost use Rattle.bk_free_leaf.specs.Candidate.{placed_square};
-ghost use Rattle.bk_net_word.specs.LineNumbers.{lefts_of};
+ghost use Rattle.bk_layout.specs.LineNumbers.{lefts_of};
 ghost use Rattle.bk_free_leaf.specs.Placing.{AreKnownLines, AreSmall, EndWithin, IsPlacedAt, IsSmall};
 ghost use Rattle.bk_free_leaf.specs.Found.{IsFound};
 ghost use Rattle.bk_free_leaf.specs.Ties.{AreTiesOf};

@@ -3,7 +3,7 @@ use Rattle.std.proofs.Common.{List, [], refl, ℕ, ◌∷◌, ◌≡◌}
 use Rattle.bk_word.specs.Word.{Move, Word}
 use Rattle.bk_word.specs.declared.Sign.{Sign}
 use Rattle.bk_word.specs.declared.Sign.TheVariants.{Above, Even, Under}
-use Rattle.bk_net_word.specs.LineNumbers.{lefts_of}
+use Rattle.bk_layout.specs.LineNumbers.{lefts_of}
 use Rattle.bk_normal.specs.WordNumbers.{first_count, left_squares, right_squares}
 use Rattle.bk_free_search.specs.Rights.{rights_of}
 

@@ -9,7 +9,7 @@ use Rattle.bk_free_search.proofs.RightLines.{end_right, right_less, right_more}
 use Rattle.bk_free_search.proofs.TopLineMarks.{first_more}
 use Rattle.bk_free_search.proofs.TouchedLines.{AreNextLines, nodes_less, nodes_more}
 use Rattle.bk_free_search.proofs.WordCounts.{left_walls, lefts_then, right_walls, rights_then}
-use Rattle.bk_net_word.specs.LineNumbers.{left_end, lefts_of, right_end, sides_of}
+use Rattle.bk_layout.specs.LineNumbers.{left_end, lefts_of, right_end, sides_of}
 use Rattle.bk_free_search.specs.BoardOutlines.{IsBoardOutline}
 use Rattle.bk_free_search.specs.Boards.{IsBoardOf}
 use Rattle.bk_free_search.specs.Lefts.{IsLeftWord, first_left}

@@ -11,8 +11,8 @@ use Rattle.bk_word.specs.Word.{Move}
 use Rattle.bk_word_net.proofs.NoLoose.{Played, hung_number}
 use Rattle.bk_word_net.proofs.Numbering.{Numbered}
 use Rattle.bk_layout.proofs.Counting.{got_same, got_times}
-use Rattle.bk_net_word.specs.LineNumbers.{sides_after, sides_at}
-use Rattle.bk_net_word.specs.NodeCut.{TouchesClosed}
+use Rattle.bk_layout.specs.LineNumbers.{sides_after, sides_at}
+use Rattle.bk_layout.specs.NodeCut.{TouchesClosed}
 use Rattle.bk_free_search.proofs.LeftLines.{index_left, lefts_in}
 use Rattle.bk_free_search.proofs.RightLines.{index_right, rights_in}
 use Rattle.bk_free_search.specs.NodeLines.{IsBeside, IsBesideNew, IsBesideOneOf}

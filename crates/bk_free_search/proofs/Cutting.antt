@@ -8,15 +8,15 @@ use Rattle.bk_word.specs.Play.{AreLegalFrom, IsLegal, after_move, after_moves, o
 use Rattle.bk_word.specs.Word.{Move, Word, order_of}
 use Rattle.bk_word.specs.declared.Sign.{Sign}
 use Rattle.bk_word.specs.declared.Sign.TheVariants.{Above, Even}
-use Rattle.bk_net_word.proofs.CutsOfTilings.{even_squares_are_free_barren, one_segment_is_free_barren, one_under_one_is_free_barren}
-use Rattle.bk_net_word.proofs.CutsOfTilings.{staying_above_is_free_barren}
+use Rattle.bk_layout.proofs.CutsOfTilings.{even_squares_are_free_barren, one_segment_is_free_barren, one_under_one_is_free_barren}
+use Rattle.bk_layout.proofs.CutsOfTilings.{staying_above_is_free_barren}
 use Rattle.bk_word.proofs.PlayLaws.{few_signs, legal_front}
 use Rattle.bk_word.proofs.StoredBytes.{order_more}
-use Rattle.bk_net_word.proofs.CutByNodes.{shared_node_is_free_barren}
-use Rattle.bk_net_word.specs.FreeCuts.{IsFreeBarren}
-use Rattle.bk_net_word.specs.NodeCut.{ShareANode}
-use Rattle.bk_net_word.proofs.NetWords.{a_free_barren_word_is_net_barren, even_then_above_is_net_barren}
-use Rattle.bk_net_word.specs.NetWord.{IsNetBarren}
+use Rattle.bk_layout.proofs.CutByNodes.{shared_node_is_free_barren}
+use Rattle.bk_layout.specs.FreeCuts.{IsFreeBarren}
+use Rattle.bk_layout.specs.NodeCut.{ShareANode}
+use Rattle.bk_layout.proofs.NetWords.{a_free_barren_word_is_net_barren, even_then_above_is_net_barren}
+use Rattle.bk_layout.specs.NetWord.{IsNetBarren}
 use Rattle.bk_normal.proofs.NormalWords.{a_net_barren_word_is_normal_barren}
 use Rattle.bk_normal.specs.NormalCuts.{IsNormalBarren}
 use Rattle.bk_free_search.specs.Sought.{BeginsTurned}

@@ -5,7 +5,7 @@ use Rattle.bk_word.specs.Play.{outline_of}
 use Rattle.bk_word.specs.Word.{Move, Word}
 use Rattle.bk_word.specs.declared.Sign.{Sign}
 use Rattle.bk_word.specs.declared.Sign.TheVariants.{Above, Even, Under}
-use Rattle.bk_net_word.specs.LineNumbers.{lefts_of}
+use Rattle.bk_layout.specs.LineNumbers.{lefts_of}
 use Rattle.bk_free_search.specs.Joining.{JoinsLeft, JoinsRight}
 use Rattle.bk_free_search.specs.Lefts.{IsLeftOfOne}
 use Rattle.bk_free_search.specs.Rights.{IsRightOfOne, rights_of}

@@ -10,9 +10,9 @@ use Rattle.bk_word.specs.Word.{Move}
 use Rattle.bk_word_net.proofs.NoLoose.{hung_number}
 use Rattle.bk_word_net.proofs.Numbering.{Numbered}
 use Rattle.bk_layout.proofs.Counting.{got_same, got_times}
-use Rattle.bk_net_word.specs.LineNumbers.{left_end, new_sides, right_end, sides_after, sides_at}
-use Rattle.bk_net_word.specs.NodeCut.{TouchesClosed}
-use Rattle.bk_net_word.specs.SharedNodes.{IsAtClosed}
+use Rattle.bk_layout.specs.LineNumbers.{left_end, new_sides, right_end, sides_after, sides_at}
+use Rattle.bk_layout.specs.NodeCut.{TouchesClosed}
+use Rattle.bk_layout.specs.SharedNodes.{IsAtClosed}
 
 -- a place in the front of a list
 pub in_front : {A : Type 0} (xs ys : List A) (k : ℕ) (x : A) → k < length xs → slice_get (xs ++ ys) k ≡ Some x → slice_get xs k ≡ Some x

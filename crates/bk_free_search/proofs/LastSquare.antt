@@ -17,7 +17,7 @@ use Rattle.bk_word_net.proofs.OutlineParts.{left_open, many_segments, right_open
 use Rattle.bk_word_net.proofs.Shape.{valley_in}
 use Rattle.bk_word_net.proofs.ValleyCut.{AtValley}
 use Rattle.bk_catalogue.proofs.BoundsOfWords.{shape_of_word}
-use Rattle.bk_net_word.specs.NodeCut.{ShareANode}
+use Rattle.bk_layout.specs.NodeCut.{ShareANode}
 use Rattle.bk_normal.proofs.FewMoves.{a_move_hangs_at_walls, first_kept}
 use Rattle.bk_normal.proofs.LastMoves.{a_move_leaves_segments, one_square_goes_on_even, too_many_at_left_is_normal_barren}
 use Rattle.bk_normal.proofs.LastMoves.{too_many_at_right_is_normal_barren, too_wide_bottom_is_normal_barren}

@@ -9,9 +9,9 @@ use Rattle.bk_word.specs.Word.{Move, Word, order_of}
 use Rattle.bk_word.proofs.PlayLaws.{legal_front, legal-snoc}
 use Rattle.bk_word.proofs.StoredBytes.{order_more}
 use Rattle.bk_word_net.proofs.Shape.{hung_many}
-use Rattle.bk_net_word.proofs.NumberedLines.{sides_long}
-use Rattle.bk_net_word.specs.LineNumbers.{left_end, lefts_of, new_sides, right_end, sides_after, sides_along, sides_of}
-use Rattle.bk_net_word.proofs.CutByNodes.{as_many_lefts}
+use Rattle.bk_layout.proofs.NumberedLines.{sides_long}
+use Rattle.bk_layout.specs.LineNumbers.{left_end, lefts_of, new_sides, right_end, sides_after, sides_along, sides_of}
+use Rattle.bk_layout.proofs.CutByNodes.{as_many_lefts}
 use Rattle.bk_free_search.specs.Lefts.{IsLeftWord, first_left}
 
 -- ---- one move

@@ -8,9 +8,9 @@ use Rattle.bk_word.proofs.StoredBytes.{order_append}
 use Rattle.bk_word.specs.Outline.{IsLegalMove, valley_of}
 use Rattle.bk_word.specs.Play.{numbers_from, outline_of}
 use Rattle.bk_word.specs.Word.{Move, Word, order_of}
-use Rattle.bk_net_word.proofs.CutByNodes.{as_many_lefts}
-use Rattle.bk_net_word.specs.LineNumbers.{lefts_of, sides_of}
-use Rattle.bk_net_word.proofs.KnownLines.{known_lines}
+use Rattle.bk_layout.proofs.CutByNodes.{as_many_lefts}
+use Rattle.bk_layout.specs.LineNumbers.{lefts_of, sides_of}
+use Rattle.bk_layout.proofs.KnownLines.{known_lines}
 use Rattle.bk_free_search.proofs.LeftLines.{index_left, left_more}
 use Rattle.bk_free_search.proofs.RightLines.{as_many_rights, index_right, right_more}
 use Rattle.bk_free_search.specs.Lefts.{IsLeftWord, first_left}

@@ -7,7 +7,7 @@ use Rattle.bk_word.specs.Outline.{IsLegalMove, start, valley_of}
 use Rattle.bk_word.specs.Play.{numbers_from, outline_of}
 use Rattle.bk_word.specs.Word.{Move, Word, order_of}
 use Rattle.bk_word_net.proofs.Shape.{hung_many}
-use Rattle.bk_net_word.specs.LineNumbers.{left_end, new_sides, right_end, sides_of}
+use Rattle.bk_layout.specs.LineNumbers.{left_end, new_sides, right_end, sides_of}
 use Rattle.bk_free_search.proofs.LeftLines.{along_append, along_more}
 use Rattle.bk_free_search.specs.Rights.{last_right, rights_of}
 

@@ -14,8 +14,8 @@ use Rattle.bk_word_net.proofs.NoLoose.{hung_number}
 use Rattle.bk_word_net.proofs.Numbering.{numbered_moves, numbered_start}
 use Rattle.bk_word_net.proofs.Shape.{shaped_moves, shaped_start, valley_in}
 use Rattle.bk_layout.proofs.Counting.{got_times}
-use Rattle.bk_net_word.specs.LineNumbers.{left_end, lefts_of, new_sides, right_end, sides_at, sides_of}
-use Rattle.bk_net_word.specs.NodeCut.{ShareANode, TouchesClosed}
+use Rattle.bk_layout.specs.LineNumbers.{left_end, lefts_of, new_sides, right_end, sides_at, sides_of}
+use Rattle.bk_layout.specs.NodeCut.{ShareANode, TouchesClosed}
 use Rattle.bk_free_search.proofs.TouchedLines.{sides_many, sides_snoc, touch_more}
 use Rattle.bk_free_search.specs.Joining.{JoinsLeft, JoinsRight, ShareBefore, ShareBehind, TouchOneNode, TouchOneOf}
 use Rattle.bk_free_search.specs.Lefts.{IsLeftOfOne}

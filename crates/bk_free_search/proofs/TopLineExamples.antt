@@ -3,7 +3,7 @@ use Rattle.std.proofs.Common.{List, [], false, refl, true, ℕ, ◌∷◌, ◌�
 use Rattle.bk_word.specs.Word.{Move, Word}
 use Rattle.bk_word.specs.declared.Sign.{Sign}
 use Rattle.bk_word.specs.declared.Sign.TheVariants.{Above, Even, Under}
-use Rattle.bk_net_word.specs.LineNumbers.{lefts_of}
+use Rattle.bk_layout.specs.LineNumbers.{lefts_of}
 use Rattle.bk_free_search.specs.TopLines.{on_top_lines}
 
 abbrev move : ℕ → List Sign → Move

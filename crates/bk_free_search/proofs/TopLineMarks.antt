@@ -8,7 +8,7 @@ use Rattle.bk_word.specs.Play.{AreLegalFrom, IsLegal, after_move, numbers_from, 
 use Rattle.bk_word.specs.Word.{Move, Word, order_of}
 use Rattle.bk_word.proofs.StoredBytes.{order_more}
 use Rattle.bk_catalogue.specs.VerticalCut.{begins_on_line, lines_after, lines_along, edges_on_lines}
-use Rattle.bk_net_word.specs.LineNumbers.{left_end, lefts_of, new_sides, right_end, sides_after, sides_along, sides_of}
+use Rattle.bk_layout.specs.LineNumbers.{left_end, lefts_of, new_sides, right_end, sides_after, sides_along, sides_of}
 use Rattle.bk_free_search.proofs.LeftLines.{end_left, lefts_in, new_lefts}
 use Rattle.bk_free_search.specs.Lefts.{first_left}
 use Rattle.bk_normal.specs.WordNumbers.{first_count}

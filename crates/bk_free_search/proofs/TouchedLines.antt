@@ -12,8 +12,8 @@ use Rattle.bk_word_net.proofs.NoLoose.{closed_count, played_moves, played_start}
 use Rattle.bk_word_net.proofs.Numbering.{numbered_moves, numbered_start}
 use Rattle.bk_word_net.proofs.Shape.{hung_many}
 use Rattle.bk_layout.proofs.Counting.{got_same}
-use Rattle.bk_net_word.specs.LineNumbers.{lefts_of, sides_after, sides_of}
-use Rattle.bk_net_word.specs.NodeCut.{TouchesClosed}
+use Rattle.bk_layout.specs.LineNumbers.{lefts_of, sides_after, sides_of}
+use Rattle.bk_layout.specs.NodeCut.{TouchesClosed}
 use Rattle.bk_free_search.proofs.LeftLines.{along_append, along_more, lefts_in}
 use Rattle.bk_free_search.proofs.RightLines.{rights_in}
 use Rattle.bk_free_search.specs.Rights.{rights_of}

@@ -7,8 +7,8 @@ use Rattle.bk_word.specs.Outline.{Outline, valley_place}
 use Rattle.bk_word.specs.Play.{outline_of}
 use Rattle.bk_word.specs.Word.{Move, Word}
 use Rattle.bk_word.specs.declared.Sign.TheVariants.{Even}
-use Rattle.bk_net_word.specs.LineNumbers.{sides_at, sides_of}
-use Rattle.bk_net_word.specs.NodeCut.{TouchesClosed}
+use Rattle.bk_layout.specs.LineNumbers.{sides_at, sides_of}
+use Rattle.bk_layout.specs.NodeCut.{TouchesClosed}
 use Rattle.bk_free_search.specs.NodeLines.{Has}
 use Rattle.bk_free_search.specs.declared.line_set.LineSet.{LineSet}
 

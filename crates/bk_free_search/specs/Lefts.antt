@@ -2,7 +2,7 @@
 use Rattle.std.specs.Prelude.{List, Some, [], slice_get, slice_index_or, ℕ, ◌-◌, ◌∷◌, ◌≡◌}
 use Rattle.bk_word.specs.Play.{IsLegal}
 use Rattle.bk_word.specs.Word.{Word}
-use Rattle.bk_net_word.specs.LineNumbers.{lefts_of}
+use Rattle.bk_layout.specs.LineNumbers.{lefts_of}
 
 -- the line at the left of the first of these squares, by their numbers from 1: the left wall where there are none
 abbrev pub first_left : List ℕ → List ℕ → ℕ

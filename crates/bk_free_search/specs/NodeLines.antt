@@ -5,8 +5,8 @@ use Rattle.std.specs.Int.{bit_at}
 use Rattle.std.specs.Prelude.{List, Some, length, slice_get, slice_index_or, ℕ, ◌+◌, ◌-◌, ◌<◌, ◌≡◌, ◌≤◌, ◌⊎◌}
 use Rattle.bk_word.specs.Play.{outline_of}
 use Rattle.bk_word.specs.Word.{Word}
-use Rattle.bk_net_word.specs.LineNumbers.{sides_of}
-use Rattle.bk_net_word.specs.NodeCut.{TouchesClosed}
+use Rattle.bk_layout.specs.LineNumbers.{sides_of}
+use Rattle.bk_layout.specs.NodeCut.{TouchesClosed}
 use Rattle.bk_free_search.specs.declared.line_set.LineSet.{LineSet}
 
 -- the set has the line

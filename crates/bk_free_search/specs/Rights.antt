@@ -1,7 +1,7 @@
 -- The line at the right edge of each square of a word, by its number.
 use Rattle.std.specs.Prelude.{List, Some, [], map, slice_get, slice_index_or, ℕ, ◌-◌, ◌∷◌, ◌≡◌}
 use Rattle.bk_word.specs.Word.{Word}
-use Rattle.bk_net_word.specs.LineNumbers.{sides_of}
+use Rattle.bk_layout.specs.LineNumbers.{sides_of}
 
 abbrev pub rights_of : Word → List ℕ
 rights_of w = map (λ s. s.1) (sides_of w)

@@ -5,7 +5,7 @@ ghost use Rattle.std.specs.Prelude.{IsTrue, [], cond, length, nat_eq, take, ℕ,
 ghost use Rattle.bk_word.specs.Outline.{IsLegalMove};
 ghost use Rattle.bk_word.specs.Play.{IsLegal, outline_of};
 ghost use Rattle.bk_word.specs.Word.{order_of};
-ghost use Rattle.bk_net_word.specs.LineNumbers.{left_end, lefts_of, right_end, sides_of};
+ghost use Rattle.bk_layout.specs.LineNumbers.{left_end, lefts_of, right_end, sides_of};
 ghost use Rattle.bk_free_search.specs.BoardOutlines.{IsBoardOutline};
 ghost use Rattle.bk_free_search.specs.Joining.{TouchOneOf};
 ghost use Rattle.bk_free_search.specs.Lefts.{IsLeftOfOne};

@@ -7,7 +7,7 @@ ghost use Rattle.bk_word.specs.declared.Sign.TheVariants.{Even};
 ghost use Rattle.bk_free_search.specs.Asking.{IsAsked};
 ghost use Rattle.bk_word.specs.Play.{IsLegal};
 ghost use Rattle.bk_skeleton.specs.SmallSkeleton.{IsValley};
-ghost use Rattle.bk_net_word.specs.NetWord.{IsNetBarren};
+ghost use Rattle.bk_layout.specs.NetWord.{IsNetBarren};
 
 use crate::asking::Asked;
 use bk_skeleton::{SmallMove, SmallSkel, ValleyPlace};

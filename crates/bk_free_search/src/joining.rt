@@ -6,8 +6,8 @@ ghost use Rattle.std.specs.Prelude.{IsTrue, Some, [], length, slice_get, â—Œ++â—
 ghost use Rattle.bk_word.specs.Outline.{IsLegalMove, valley_place};
 ghost use Rattle.bk_word.specs.Play.{IsLegal, outline_of, parts};
 ghost use Rattle.bk_skeleton.specs.SmallSkeleton.{IsValley};
-ghost use Rattle.bk_net_word.specs.NodeCut.{ShareANode};
-ghost use Rattle.bk_net_word.specs.NetWord.{IsNetBarren};
+ghost use Rattle.bk_layout.specs.NodeCut.{ShareANode};
+ghost use Rattle.bk_layout.specs.NetWord.{IsNetBarren};
 ghost use Rattle.bk_free_search.specs.Joining.{JoinsLeft, JoinsRight};
 
 use crate::board::Board;

@@ -14,7 +14,7 @@ use std::process::ExitCode;
 use std::rt::Env;
 
 // Why there are no arguments.
-#[derive(Clone, Copy, Debug, PartialEq, Eq)]
+#[derive(Clone, Copy)]
 enum NoArguments {
     // Memory for them was wanting.
     NoMemory,

@@ -20,11 +20,11 @@ ghost use Rattle.bk_free_search.specs.SeenCounts.{seen_counts};
 ghost use Rattle.bk_member_table.specs.Finding.{HasMoreMembers, HasOnlyMembers, IsHeld, wanted};
 
 use crate::turning::{best_turn, lying_size, turned_squares};
+use bk_catalogue::is_simple_of;
 use bk_free_leaf::{Placed, Ties, leaf};
 use bk_free_search::{Board, Counts, Leaves};
 use bk_lay::Turns;
 use bk_packed::{Packed, Table};
-use bk_qualify::is_simple_of;
 use bk_sym::{canonical, is_canonical};
 use bk_tiling::Tiling;
 use bk_word::Class;

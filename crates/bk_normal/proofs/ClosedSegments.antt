@@ -19,13 +19,13 @@ use Rattle.bk_layout.specs.Layout.{Layout}
 use Rattle.bk_layout.specs.LayoutLaws.{IsWordOfLayout}
 use Rattle.bk_catalogue.proofs.LineMoves.{keeps, lines_long}
 use Rattle.bk_catalogue.specs.VerticalCut.{begins_on_line, edges_on_lines, line_bound, lines_after, lines_along, next_on_line, on_line, touched}
-use Rattle.bk_net_word.proofs.MarkedSquares.{IsTopLine, some_marked, tops_of_word}
-use Rattle.bk_net_word.proofs.NumberedLines.{line_numbers_are_lines}
-use Rattle.bk_net_word.proofs.SharedLines.{hung_w}
-use Rattle.bk_net_word.proofs.TopLines.{no_line_down}
-use Rattle.bk_net_word.proofs.TouchingWalls.{ends_left, ends_right}
-use Rattle.bk_net_word.specs.FreeCuts.{IsSound}
-use Rattle.bk_net_word.specs.LineNumbers.{line_of, sides_along, sides_at, sides_of}
+use Rattle.bk_layout.proofs.MarkedSquares.{IsTopLine, some_marked, tops_of_word}
+use Rattle.bk_layout.proofs.NumberedLines.{line_numbers_are_lines}
+use Rattle.bk_layout.proofs.SharedLines.{hung_w}
+use Rattle.bk_layout.proofs.TopLines.{no_line_down}
+use Rattle.bk_layout.proofs.TouchingWalls.{ends_left, ends_right}
+use Rattle.bk_layout.specs.FreeCuts.{IsSound}
+use Rattle.bk_layout.specs.LineNumbers.{line_of, sides_along, sides_at, sides_of}
 use Rattle.bk_normal.proofs.LineGaps.{along_long, lines_append, lines_at, lines_grow, lines_of_word}
 use Rattle.bk_normal.proofs.MovesLeft.{legal, lines_end, lines_front, none_at_end, shaped}
 use Rattle.bk_normal.proofs.NumbersShown.{closed_many}

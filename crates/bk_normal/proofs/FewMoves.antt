@@ -11,7 +11,7 @@ use Rattle.bk_word.proofs.PlayLaws.{legal_front}
 use Rattle.bk_layout.specs.Layout.{Layout}
 use Rattle.bk_layout.specs.LayoutLaws.{IsWordOfLayout}
 use Rattle.bk_normal.specs.LayoutCounts.{counts_of_layout}
-use Rattle.bk_net_word.specs.FreeCuts.{IsSound}
+use Rattle.bk_layout.specs.FreeCuts.{IsSound}
 use Rattle.bk_normal.proofs.NumbersShown.{left_is, moves_is, right_is}
 use Rattle.bk_normal.proofs.RunsOfLines.{wall_moves_hang_one}
 use Rattle.bk_normal.specs.NormalCuts.{AreMostMoves, MostMovesAreMost, MostMovesStay, TooManyMovesIsNormalBarren}

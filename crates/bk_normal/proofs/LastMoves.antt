@@ -18,7 +18,7 @@ use Rattle.bk_layout.specs.FreeWord.{HangNoTwinsFrom}
 use Rattle.bk_layout.specs.Layout.{Layout}
 use Rattle.bk_layout.specs.LayoutLaws.{IsWordOfLayout}
 use Rattle.bk_catalogue.proofs.ClosingLaws.{at_most_one}
-use Rattle.bk_net_word.specs.FreeCuts.{IsSound}
+use Rattle.bk_layout.specs.FreeCuts.{IsSound}
 use Rattle.bk_layout.specs.RuleR.{BeginsNoEvenAbove}
 use Rattle.bk_normal.proofs.AllUnder.{AreOnes, IsOneEven, one_even, ones_left}
 use Rattle.bk_normal.proofs.MovesLeft.{at_end, legal, shaped}

@@ -8,8 +8,8 @@ use Rattle.bk_word.specs.Outline.{Outline, start, valley_of}
 use Rattle.bk_word.specs.Play.{after_move, after_moves}
 use Rattle.bk_word.specs.Word.{Move, Word}
 use Rattle.bk_layout.proofs.Counting.{got_same}
-use Rattle.bk_net_word.proofs.NumberedLines.{after_long}
-use Rattle.bk_net_word.specs.LineNumbers.{left_end, new_sides, right_end, sides_after, sides_along}
+use Rattle.bk_layout.proofs.NumberedLines.{after_long}
+use Rattle.bk_layout.specs.LineNumbers.{left_end, new_sides, right_end, sides_after, sides_along}
 
 -- the number of a gap, with the square behind it
 pub record IsGap (sides : List (ℕ × ℕ)) (f : ℕ) : Type 0 where

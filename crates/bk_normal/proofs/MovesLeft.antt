@@ -11,8 +11,8 @@ use Rattle.bk_layout.specs.LayoutLaws.{IsWordOfLayout}
 use Rattle.bk_catalogue.proofs.JoinedLines.{bound}
 use Rattle.bk_catalogue.proofs.LineMoves.{line_bound_after, lines-append, lines_long}
 use Rattle.bk_catalogue.specs.VerticalCut.{edges_on_lines, line_bound_of, lines_after, lines_along}
-use Rattle.bk_net_word.proofs.CutsOfLayouts.{lines_fit}
-use Rattle.bk_net_word.specs.FreeCuts.{IsSound}
+use Rattle.bk_layout.proofs.CutsOfLayouts.{lines_fit}
+use Rattle.bk_layout.specs.FreeCuts.{IsSound}
 use Rattle.bk_normal.proofs.FewMoves.{few_moves}
 use Rattle.bk_normal.specs.NormalCuts.{TooFewMovesIsNormalBarren}
 

@@ -8,7 +8,7 @@ use Rattle.bk_layout.proofs.LayoutExamples.{layout_3x2}
 use Rattle.bk_normal.specs.Normal.{AreNormal}
 use Rattle.bk_normal.specs.LayoutCounts.{counts_of_layout}
 use Rattle.bk_catalogue.specs.VerticalCut.{line_bound_of}
-use Rattle.bk_net_word.specs.LineNumbers.{sides_of}
+use Rattle.bk_layout.specs.LineNumbers.{sides_of}
 use Rattle.bk_normal.proofs.MovesLeft.{too_few_moves_is_normal_barren}
 use Rattle.bk_normal.proofs.SquaresLeft.{too_many_squares_is_normal_barren}
 use Rattle.bk_normal.specs.NormalCuts.{AreMostMoves, IsNormalBarren, most_moves_of, touched_or_wide, wide_bound_of}

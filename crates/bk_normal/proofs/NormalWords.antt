@@ -8,9 +8,9 @@ use Rattle.bk_layout.specs.TilingLayout.{layout_of}
 use Rattle.bk_normal.proofs.LayoutCounts.{the_layout_has_the_counts}
 use Rattle.bk_normal.specs.Normal.{counts_of}
 use Rattle.bk_layout.specs.RuleR.{BeginsNoEvenAbove}
-use Rattle.bk_net_word.proofs.SoundWords.{a_simple_tiling_is_sound_around, a_sound_layout_has_a_sound_word_by_rule_r}
-use Rattle.bk_net_word.specs.Corners.{HasSoundWordByRuleR, IsSoundAround}
-use Rattle.bk_net_word.proofs.SignedWords.{a_word_up_to_reversals_is_signed}
+use Rattle.bk_layout.proofs.SoundWords.{a_simple_tiling_is_sound_around, a_sound_layout_has_a_sound_word_by_rule_r}
+use Rattle.bk_layout.specs.Corners.{HasSoundWordByRuleR, IsSoundAround}
+use Rattle.bk_layout.proofs.SignedWords.{a_word_up_to_reversals_is_signed}
 use Rattle.bk_normal.proofs.NumbersKept.{a_normal_tiling_has_a_normal_layout, reversals_keep_counts, reversals_keep_normal}
 use Rattle.bk_normal.proofs.NumbersShown.{a_word_shows_numbers}
 use Rattle.bk_normal.specs.NormalCuts.{ANetBarrenWordIsNormalBarren, ANormalTilingHasANormalWord, IsNormalWordOf, WhatGoesOnIsNormalBarren}

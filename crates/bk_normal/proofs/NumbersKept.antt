@@ -11,7 +11,7 @@ use Rattle.bk_layout.specs.Layout.{Fits, Layout}
 use Rattle.bk_normal.proofs.LayoutCounts.{the_layout_has_the_counts}
 use Rattle.bk_normal.specs.Normal.{AreNormal}
 use Rattle.bk_normal.specs.LayoutCounts.{counts_of_layout}
-use Rattle.bk_net_word.specs.FreeCuts.{AreOuterWalls}
+use Rattle.bk_layout.specs.FreeCuts.{AreOuterWalls}
 use Rattle.bk_layout.specs.Reversal.{IsUpToReversals}
 use Rattle.bk_normal.specs.NormalLayout.{ANormalTilingHasANormalLayout, IsNormalLayout, ReversalsKeepCounts}
 

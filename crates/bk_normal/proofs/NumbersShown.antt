@@ -8,11 +8,11 @@ use Rattle.bk_word.specs.Play.{after_move, after_moves, numbers_from, outline_of
 use Rattle.bk_word.specs.Word.{Move, Word}
 use Rattle.bk_layout.specs.Layout.{Fits, Layout}
 use Rattle.bk_layout.specs.LayoutLaws.{IsWordOfLayout}
-use Rattle.bk_net_word.proofs.NumberedLines.{line_numbers_are_lines}
-use Rattle.bk_net_word.proofs.SharedLines.{hung_w, square_apart, square_low}
-use Rattle.bk_net_word.specs.FreeCuts.{AreOuterWalls}
-use Rattle.bk_net_word.specs.LineNumbers.{line_of, sides_of}
-use Rattle.bk_net_word.proofs.Totals.{renumbered, total_from}
+use Rattle.bk_layout.proofs.NumberedLines.{line_numbers_are_lines}
+use Rattle.bk_layout.proofs.SharedLines.{hung_w, square_apart, square_low}
+use Rattle.bk_layout.specs.FreeCuts.{AreOuterWalls}
+use Rattle.bk_layout.specs.LineNumbers.{line_of, sides_of}
+use Rattle.bk_layout.proofs.Totals.{renumbered, total_from}
 use Rattle.bk_normal.proofs.LineGaps.{AreLineNumbers, IsLine, along_long, lines_along}
 use Rattle.bk_normal.proofs.NumbersKept.{test_same}
 use Rattle.bk_normal.specs.LayoutCounts.{counts_of_layout}

@@ -19,8 +19,8 @@ use Rattle.bk_word_net.proofs.NoLoose.{hung_number}
 use Rattle.bk_word_net.proofs.Numbering.{Numbered, numbered_move, numbered_start}
 use Rattle.bk_word_net.proofs.Shape.{AllFilled, Shaped, filled_move, shaped_move, shaped_start}
 use Rattle.bk_layout.proofs.Counting.{got_same, got_times}
-use Rattle.bk_net_word.proofs.NumberedLines.{after_long}
-use Rattle.bk_net_word.specs.LineNumbers.{left_end, new_sides, right_end, sides_after, sides_along, sides_at}
+use Rattle.bk_layout.proofs.NumberedLines.{after_long}
+use Rattle.bk_layout.specs.LineNumbers.{left_end, new_sides, right_end, sides_after, sides_along, sides_at}
 use Rattle.bk_normal.proofs.LineGaps.{AreLineNumbers, IsLine, left_line, lines_after, right_line}
 use Rattle.bk_normal.proofs.NumbersKept.{test_same}
 use Rattle.bk_normal.specs.WordNumbers.{WallMovesHangOne, left_moves_from, right_moves_from}

@@ -21,7 +21,7 @@ use Rattle.bk_catalogue.proofs.ClosingLaws.{unders-cons}
 use Rattle.bk_catalogue.specs.SingleValleys.{single_valley, single_valleys_from}
 use Rattle.bk_catalogue.specs.VerticalCut.{edges_on_lines, line_bound}
 use Rattle.bk_catalogue.specs.WordBounds.{HangNoPairsFrom}
-use Rattle.bk_net_word.specs.FreeCuts.{IsSound}
+use Rattle.bk_layout.specs.FreeCuts.{IsSound}
 use Rattle.bk_layout.specs.RuleR.{BeginsNoEvenAbove}
 use Rattle.bk_normal.proofs.ClosedSegments.{closed_square}
 use Rattle.bk_normal.proofs.ClosedSegments.{any_at}

@@ -20,11 +20,11 @@ use Rattle.bk_layout.specs.LayoutLaws.{IsWordOfLayout}
 use Rattle.bk_catalogue.specs.SingleValleys.{single_valley, single_valleys}
 use Rattle.bk_catalogue.specs.VerticalCut.{touched}
 use Rattle.bk_catalogue.specs.WordBounds.{HangNoPairsFrom}
-use Rattle.bk_net_word.proofs.CutsOfLayouts.{pairs_fit, singles_fit}
-use Rattle.bk_net_word.proofs.OpenRuns.{index_at, open_segments_end_together}
-use Rattle.bk_net_word.proofs.SharedLines.{hung_w, square_apart}
-use Rattle.bk_net_word.specs.FreeCuts.{IsSound}
-use Rattle.bk_net_word.specs.OpenSegments.{EndsTogether}
+use Rattle.bk_layout.proofs.CutsOfLayouts.{pairs_fit, singles_fit}
+use Rattle.bk_layout.proofs.OpenRuns.{index_at, open_segments_end_together}
+use Rattle.bk_layout.proofs.SharedLines.{hung_w, square_apart}
+use Rattle.bk_layout.specs.FreeCuts.{IsSound}
+use Rattle.bk_layout.specs.OpenSegments.{EndsTogether}
 use Rattle.bk_normal.proofs.MovesLeft.{at_end, legal}
 use Rattle.bk_normal.proofs.NumbersShown.{bottom_is}
 use Rattle.bk_normal.proofs.RunsOfLines.{row_is}

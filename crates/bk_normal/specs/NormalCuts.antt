@@ -13,10 +13,10 @@ use Rattle.bk_layout.specs.LayoutLaws.{IsWordOfLayout}
 use Rattle.bk_normal.specs.Normal.{IsNormal, counts_of}
 use Rattle.bk_catalogue.specs.SingleValleys.{single_valleys}
 use Rattle.bk_catalogue.specs.VerticalCut.{edges_on_lines, line_bound, line_bound_of, next_on_line, on_line}
-use Rattle.bk_net_word.specs.FreeCuts.{IsSound}
+use Rattle.bk_layout.specs.FreeCuts.{IsSound}
 use Rattle.bk_layout.specs.RuleR.{BeginsNoEvenAbove}
-use Rattle.bk_net_word.specs.SignedWord.{IsSignedWordOf}
-use Rattle.bk_net_word.specs.NetWord.{IsNetBarren}
+use Rattle.bk_layout.specs.SignedWord.{IsSignedWordOf}
+use Rattle.bk_layout.specs.NetWord.{IsNetBarren}
 use Rattle.bk_normal.specs.NormalLayout.{IsNormalLayout}
 use Rattle.bk_normal.specs.WordNumbers.{counts_of_word, first_count, left_squares, right_squares}
 

@@ -9,7 +9,7 @@ use Rattle.bk_layout.specs.TilingLayout.{layout_of}
 use Rattle.bk_normal.specs.Normal.{AreNormal, IsNormal}
 use Rattle.bk_normal.specs.LayoutCounts.{counts_of_layout}
 use Rattle.bk_layout.specs.Reversal.{IsUpToReversals}
-use Rattle.bk_net_word.specs.FreeCuts.{AreOuterWalls}
+use Rattle.bk_layout.specs.FreeCuts.{AreOuterWalls}
 
 abbrev pub IsNormalLayout : Layout → Type 0
 IsNormalLayout l = AreNormal (counts_of_layout l)

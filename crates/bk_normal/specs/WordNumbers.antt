@@ -8,8 +8,8 @@ use Rattle.bk_word.specs.Play.{IsLegal, after_move, outline_of}
 use Rattle.bk_word.specs.Word.{Move, Word, order_of}
 use Rattle.bk_layout.specs.Layout.{Fits, Layout}
 use Rattle.bk_layout.specs.LayoutLaws.{IsWordOfLayout}
-use Rattle.bk_net_word.specs.FreeCuts.{AreOuterWalls}
-use Rattle.bk_net_word.specs.LineNumbers.{sides_of}
+use Rattle.bk_layout.specs.FreeCuts.{AreOuterWalls}
+use Rattle.bk_layout.specs.LineNumbers.{sides_of}
 use Rattle.bk_normal.specs.Normal.{Counts}
 use Rattle.bk_normal.specs.LayoutCounts.{counts_of_layout}
 

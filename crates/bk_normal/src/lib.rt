@@ -19,9 +19,16 @@ ghost use Rattle.bk_normal.specs.NormalCuts.{MostMovesAreMost, MostMovesStay, To
 ghost use Rattle.bk_normal.specs.StrongBound.{StrongBoundIsNormalBarren, StrongWeightIsNormalBarren};
 ghost use Rattle.bk_normal.specs.StrongPass.{EvenAsksLeast, FewerMarksAskLess, ThePassCountsTheBound, ThePassIsStrong};
 
+// Normal images and their layouts.
+
 /// Each tiling has a turn by which its image is normal.
 pub fn each_tiling_has_a_normal_image()
     ensures { EachTilingHasANormalImage }
+{}
+
+/// Each image of a simple tiling is simple.
+pub fn images_are_simple()
+    ensures { ImagesAreSimple }
 {}
 
 /// The layout of a tiling has the tiling's counts.
@@ -45,6 +52,8 @@ pub fn a_normal_tiling_has_a_normal_layout()
     ensures { ANormalTilingHasANormalLayout }
 {}
 
+// What the moves of a word of a normal layout tell.
+
 /// A word of a layout shows its numbers.
 pub fn a_word_shows_numbers()
     ensures { AWordShowsNumbers }
@@ -55,6 +64,56 @@ pub fn wall_moves_hang_one()
     ensures { WallMovesHangOne }
 {}
 
+/// A move at a wall hangs one square there, and any other move none.
+pub fn a_move_hangs_at_walls()
+    ensures { AMoveHangsAtWalls }
+{}
+
+/// A move leaves as many segments as there were and squares hang, less one and one for each even sign.
+pub fn a_move_leaves_segments()
+    ensures { AMoveLeavesSegments }
+{}
+
+/// So many moves a word of a normal layout has at most: half of one more than the squares, and one less than just half where more squares stand at a
+/// wall than at the top.
+pub fn most_moves_are_most()
+    ensures { MostMovesAreMost }
+{}
+
+/// The number stays one as the moves go on.
+pub fn most_moves_stay()
+    ensures { MostMovesStay }
+{}
+
+/// The most moves that are known once the next valley is.
+pub fn most_moves_hold_then()
+    ensures { MostMovesHoldThen }
+{}
+
+// The strong bound, and how it is counted.
+
+/// One pass over the segments from left to right counts the strong bound and the weight.
+pub fn the_pass_is_strong()
+    ensures { ThePassIsStrong }
+{}
+
+/// So from the first segment on the pass counts the strong bound and the weight.
+pub fn the_pass_counts_the_bound()
+    ensures { ThePassCountsTheBound }
+{}
+
+/// Where fewer segments are marked the strong bound is no greater.
+pub fn fewer_marks_ask_less()
+    ensures { FewerMarksAskLess }
+{}
+
+/// The sign even at the right of a valley asks for no more than other signs do.
+pub fn even_asks_least()
+    ensures { EvenAsksLeast }
+{}
+
+// With what no such word begins, and how it goes on.
+
 /// No word of a normal layout begins with what no net word begins with.
 pub fn a_net_barren_word_is_normal_barren()
     ensures { ANetBarrenWordIsNormalBarren }
@@ -63,11 +122,6 @@ pub fn a_net_barren_word_is_normal_barren()
 /// What goes on from a barren beginning is barren.
 pub fn what_goes_on_is_normal_barren()
     ensures { WhatGoesOnIsNormalBarren }
-{}
-
-/// A normal and simple tiling of at least 3 squares has a signed word of which no beginning is barren.
-pub fn a_normal_tiling_has_a_normal_word()
-    ensures { ANormalTilingHasANormalWord }
 {}
 
 /// No word of a normal layout goes on from moves after which fewer moves are left than segments that must be closed.
@@ -101,11 +155,6 @@ pub fn strong_weight_is_normal_barren()
     ensures { StrongWeightIsNormalBarren }
 {}
 
-/// A move leaves as many segments as there were and squares hang, less one and one for each even sign.
-pub fn a_move_leaves_segments()
-    ensures { AMoveLeavesSegments }
-{}
-
 /// No word of a normal layout goes on from moves after which one move is left, and two squares or more.
 pub fn one_move_left_is_normal_barren()
     ensures { OneMoveLeftIsNormalBarren }
@@ -137,11 +186,6 @@ pub fn too_many_at_left_is_normal_barren()
     ensures { TooManyAtLeftIsNormalBarren }
 {}
 
-/// One pass over the segments from left to right counts the strong bound and the weight.
-pub fn the_pass_is_strong()
-    ensures { ThePassIsStrong }
-{}
-
 /// Where all signs are under and no more moves are left than segments, a word of a normal layout goes on by one square, even with the segment at
 /// its left.
 pub fn all_under_goes_on_even()
@@ -153,14 +197,37 @@ pub fn one_square_goes_on_even()
     ensures { OneSquareGoesOnEven }
 {}
 
-/// Where fewer segments are marked the strong bound is no greater.
-pub fn fewer_marks_ask_less()
-    ensures { FewerMarksAskLess }
+/// No word of a normal layout begins with more moves.
+pub fn too_many_moves_is_normal_barren()
+    ensures { TooManyMovesIsNormalBarren }
 {}
 
-/// Each image of a simple tiling is simple.
-pub fn images_are_simple()
-    ensures { ImagesAreSimple }
+/// Where all signs are under, no word of a normal layout of just half of one more than its squares moves goes on so that more squares stand at the
+/// right wall than at the top.
+pub fn all_under_at_right_is_normal_barren()
+    ensures { AllUnderAtRightIsNormalBarren }
+{}
+
+/// No word of a normal layout is one of just half of one more than its squares moves with more squares at the right wall than at the top.
+pub fn too_many_at_right_is_normal_barren()
+    ensures { TooManyAtRightIsNormalBarren }
+{}
+
+/// No word of a normal layout goes on by a move with too few even signs, which is one number for all counts of squares.
+pub fn too_few_evens_is_normal_barren()
+    ensures { TooFewEvensIsNormalBarren }
+{}
+
+/// No word of a normal layout goes on from moves after which the next move is the last, and two squares or more are left.
+pub fn next_is_last_is_normal_barren()
+    ensures { NextIsLastIsNormalBarren }
+{}
+
+// What a search has to meet.
+
+/// A normal and simple tiling of at least 3 squares has a signed word of which no beginning is barren.
+pub fn a_normal_tiling_has_a_normal_word()
+    ensures { ANormalTilingHasANormalWord }
 {}
 
 /// Each simple tiling of at least 3 squares has an image that is simple and normal, with its ties settled, and with a word by rule R of which no
@@ -192,61 +259,4 @@ pub fn each_image_is_a_members()
 /// Each member of at least 3 squares has an image with a word that is sought, and is the canonical tiling of that image.
 pub fn each_member_is_met()
     ensures { EachMemberIsMet }
-{}
-
-/// A move at a wall hangs one square there, and any other move none.
-pub fn a_move_hangs_at_walls()
-    ensures { AMoveHangsAtWalls }
-{}
-
-/// So many moves a word of a normal layout has at most: half of one more than the squares, and one less than just half where more squares stand at a
-/// wall than at the top.
-pub fn most_moves_are_most()
-    ensures { MostMovesAreMost }
-{}
-
-/// The number stays one as the moves go on.
-pub fn most_moves_stay()
-    ensures { MostMovesStay }
-{}
-
-/// No word of a normal layout begins with more moves.
-pub fn too_many_moves_is_normal_barren()
-    ensures { TooManyMovesIsNormalBarren }
-{}
-
-/// Where all signs are under, no word of a normal layout of just half of one more than its squares moves goes on so that more squares stand at the
-/// right wall than at the top.
-pub fn all_under_at_right_is_normal_barren()
-    ensures { AllUnderAtRightIsNormalBarren }
-{}
-
-/// No word of a normal layout is one of just half of one more than its squares moves with more squares at the right wall than at the top.
-pub fn too_many_at_right_is_normal_barren()
-    ensures { TooManyAtRightIsNormalBarren }
-{}
-
-/// The most moves that are known once the next valley is.
-pub fn most_moves_hold_then()
-    ensures { MostMovesHoldThen }
-{}
-
-/// No word of a normal layout goes on by a move with too few even signs, which is one number for all counts of squares.
-pub fn too_few_evens_is_normal_barren()
-    ensures { TooFewEvensIsNormalBarren }
-{}
-
-/// No word of a normal layout goes on from moves after which the next move is the last, and two squares or more are left.
-pub fn next_is_last_is_normal_barren()
-    ensures { NextIsLastIsNormalBarren }
-{}
-
-/// The sign even at the right of a valley asks for no more than other signs do.
-pub fn even_asks_least()
-    ensures { EvenAsksLeast }
-{}
-
-/// So from the first segment on the pass counts the strong bound and the weight.
-pub fn the_pass_counts_the_bound()
-    ensures { ThePassCountsTheBound }
 {}

@@ -59,8 +59,8 @@ module _ (n : ℕ) (pairs : List Kept) (entries : List Accepted) (keeps : KeepsF
       cases (inr up) = are.all e is (not_kept e is none) up
 
 -- what is written behind the lines
-module _ (n : ℕ) (s : Verifying) (cursor : Word) (missing members : ℕ) (a b : Option (List ℕ)) (listed : IsListed n (s.verifier).pairs cursor missing a b)
-    (kept : AreKeptAfter n (s.verifier).pairs cursor) (all_members : CountsMembers n (λ word. ⊤) members) where
+module _ (n : ℕ) (s : Verifying) (cursor : Word) (missing members : ℕ) (a b : Option (List ℕ)) (listed : IsListed n (s.entries).pairs cursor missing a b)
+    (kept : AreKeptAfter n (s.entries).pairs cursor) (all_members : CountsMembers n (λ word. ⊤) members) where
   -- what the last line tells
   abbrev pub the_counts : Counts
   the_counts = record { members = members; missing = missing; foreign = s.foreign; repeated = s.repeated; refused = s.refused }

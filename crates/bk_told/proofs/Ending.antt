@@ -51,8 +51,8 @@ module _ (n : ℕ) (last : Verifying) (lines : List (List ℕ)) (a b c : Option 
         missing = k.entries;
         are_entries = f.are_entries;
         told = f.told;
-        first_missing = first_missing n (last.verifier).pairs f.entries f.keeps k.cursor k.entries k.are;
-        all_missing = all_missing n (last.verifier).pairs f.entries f.keeps k.cursor k.entries k.are k.all;
+        first_missing = first_missing n (last.entries).pairs f.entries f.keeps k.cursor k.entries k.are;
+        all_missing = all_missing n (last.entries).pairs f.entries f.keeps k.cursor k.entries k.are k.all;
         members = k.members;
         missing_is = k.missing;
         foreign_is = omega (arith, x, foreign);
@@ -82,7 +82,7 @@ module _ (n : ℕ) (last : Verifying) (lines : List (List ℕ)) (a b c : Option 
           missing = k.entries;
           are_entries = f.are_entries;
           told = f.told;
-          first_missing = first_missing n (last.verifier).pairs f.entries f.keeps k.cursor k.entries k.are;
+          first_missing = first_missing n (last.entries).pairs f.entries f.keeps k.cursor k.entries k.are;
           text = λ i. f.text_is i ++ flat_map line_of k.entries;
         });
         begins = prefix_after a b c d.text (flat_map line_of k.entries) d.written k.begins;
@@ -97,7 +97,7 @@ module _ (n : ℕ) (last : Verifying) (lines : List (List ℕ)) (a b c : Option 
 module _ (n : ℕ) (last : Verifying) (left left_after a b : Option (List ℕ))
     (r : IsListRead n (record { left = left; left_after = left_after; written = a; written_after = b }) last) where
   -- the order is that asked for
-  pub last_order : (last.verifier).order ≡ n
+  pub last_order : (last.entries).order ≡ n
   last_order = ((lines_done n last _ a b r.refused (r.whole).written).followed).order
 
   -- its report was written

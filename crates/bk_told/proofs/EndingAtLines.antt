@@ -55,8 +55,8 @@ module _ (n : ℕ) where
       }
 
   -- the entry at which memory was wanting would be new
-  new_entry : (entries : List Accepted) (s : Verifying) (number : ℕ) (line : List ℕ) → KeepsFirsts n entries (s.verifier).pairs
-      → (s.verifier).order ≡ n → MayWantAt s number line
+  new_entry : (entries : List Accepted) (s : Verifying) (number : ℕ) (line : List ℕ) → KeepsFirsts n entries (s.entries).pairs
+      → (s.entries).order ≡ n → MayWantAt s number line
       → HasEntry number line (λ e. IsNew n (entries ++ e ∷ []) e)
   new_entry entries s number line keeps order wants =
       let sight = wants.sight in

@@ -14,11 +14,11 @@ use Rattle.bk_answer.proofs.OneAnswer.{cause_of, is_tiling, not_refused, skip_no
 use Rattle.bk_answer.specs.Item.{HasItem, HasTiling}
 use Rattle.bk_answer.specs.Refusing.{IsLineRefused}
 use Rattle.bk_entries.proofs.Firsts.{a_verifier_tells_the_truth, truths_stay}
-use Rattle.bk_entries.specs.Kept.{IsFed, VerifierState}
+use Rattle.bk_entries.specs.Kept.{IsFed, EntriesState}
 use Rattle.bk_entries.specs.Verify.{Accepted}
 use Rattle.bk_entries.specs.VerifyLaws.{IsTrueOf, KeepsFirsts}
-use Rattle.bk_entries.specs.declared.verifier.Fed.{Fed}
-use Rattle.bk_entries.specs.declared.verifier.Fed.TheVariants.{Foreign, New, Repeats}
+use Rattle.bk_entries.specs.declared.entries.Fed.{Fed}
+use Rattle.bk_entries.specs.declared.entries.Fed.TheVariants.{Foreign, New, Repeats}
 use Rattle.bk_told.specs.Entering.{EntersLine, MayWantAt, after_fed, fed_pieces, feeds, no_item, refuses}
 use Rattle.bk_told.specs.Told.{AreEntries, AreTold, IsTold, Told, accepted, foreign, is_foreign, is_refused, is_repeat, no_line}
 use Rattle.bk_told.specs.Told.{nothing, passed, refused, repeats, texts_from, told_text}
@@ -54,7 +54,7 @@ record CountsOne (s next : Verifying) (told : Told) : Type 0 where
   repeated : (tolds : List Told) → next.repeated + count_by is_repeat tolds ≡ s.repeated + count_by is_repeat (told ∷ tolds)
   refused : (tolds : List Told) → next.refused + count_by is_refused tolds ≡ s.refused + count_by is_refused (told ∷ tolds)
 
-counts_nothing : (s : Verifying) (v : VerifierState) → CountsOne s (record s { verifier = v }) nothing
+counts_nothing : (s : Verifying) (v : EntriesState) → CountsOne s (record s { entries = v }) nothing
 counts_nothing s v = record { foreign = λ tolds. refl; repeated = λ tolds. refl; refused = λ tolds. refl }
 
 pub count_yes : (p : Told → Bool) (told : Told) (tolds : List Told) (k : ℕ) → p told ≡ true → (k + 1) + count_by p tolds ≡ k + count_by p (told ∷ tolds)
@@ -63,7 +63,7 @@ count_yes p told tolds k e =
     let one : cond {A = ℕ} (p told) 1 0 ≡ 1 = ap (λ (b : Bool). cond {A = ℕ} b 1 0) e in
     omega (arith, cons, one)
 
-counts_fed : (s : Verifying) (v : VerifierState) (fed : Fed) → CountsOne s (after_fed s v fed) (told_of fed)
+counts_fed : (s : Verifying) (v : EntriesState) (fed : Fed) → CountsOne s (after_fed s v fed) (told_of fed)
 unfolding told_of
 counts_fed s v New = counts_nothing s v
 counts_fed s v (Repeats first) = record {
@@ -82,8 +82,8 @@ counts_refused s cause = record {
 
 -- the state keeps the first of the entries seen before, whose lines are before this number
 pub record IsAfter (n : ℕ) (seen : List Accepted) (number : ℕ) (s : Verifying) : Type 0 where
-  pub keeps : KeepsFirsts n seen (s.verifier).pairs
-  pub order : (s.verifier).order ≡ n
+  pub keeps : KeepsFirsts n seen (s.entries).pairs
+  pub order : (s.entries).order ≡ n
   pub before : AllByRecursion (λ e. e.line < number) seen
 
 still_before : (seen : List Accepted) (number : ℕ) → AllByRecursion (λ e. e.line < number) seen → AllByRecursion (λ e. e.line < number + 1) seen
@@ -104,8 +104,8 @@ pub record AreFollowed (n : ℕ) (seen : List Accepted) (number : ℕ) (lines : 
   pub are_entries : AreEntries number lines entries
   pub told : AreTold n (seen ++ entries) number lines tolds
   pub text_is : text ≡ texts_from number tolds
-  pub keeps : KeepsFirsts n (seen ++ entries) (last.verifier).pairs
-  pub order : (last.verifier).order ≡ n
+  pub keeps : KeepsFirsts n (seen ++ entries) (last.entries).pairs
+  pub order : (last.entries).order ≡ n
   pub foreign_is : last.foreign ≡ s.foreign + count_by is_foreign tolds
   pub repeated_is : last.repeated ≡ s.repeated + count_by is_repeat tolds
   pub refused_is : last.refused ≡ s.refused + count_by is_refused tolds
@@ -145,7 +145,7 @@ module _ (n : ℕ) (seen : List Accepted) (number : ℕ) (line : List ℕ) (line
           subst (λ (l : List Accepted). AreTold n l (number + 1) lines f.tolds) all f.told,
         );
         text_is = ap (λ (l : List ℕ). told_text number told ++ l) f.text_is;
-        keeps = subst (λ (l : List Accepted). KeepsFirsts n l (last.verifier).pairs) all f.keeps;
+        keeps = subst (λ (l : List Accepted). KeepsFirsts n l (last.entries).pairs) all f.keeps;
         order = f.order;
         foreign_is = f.foreign_is ∙ counts.foreign f.tolds;
         repeated_is = f.repeated_is ∙ counts.repeated f.tolds;
@@ -154,28 +154,28 @@ module _ (n : ℕ) (seen : List Accepted) (number : ℕ) (line : List ℕ) (line
 
 -- a tiling that is fed: what is told of it is true, and what is kept then is right
 module _ (n : ℕ) (seen : List Accepted) (number : ℕ) (line : List ℕ) (s : Verifying) (after : IsAfter n seen number s) (t : Tiling) (fed : Fed)
-    (v : VerifierState) (has : HasTiling line t) (is : IsFed s.verifier number t fed v) where
-  fed_order : v.order ≡ s.verifier.order
+    (v : EntriesState) (has : HasTiling line t) (is : IsFed s.entries number t fed v) where
+  fed_order : v.order ≡ s.entries.order
   fed_order = by fed is
     where
-      by : (fed : Fed) → IsFed s.verifier number t fed v → v.order ≡ s.verifier.order
-      by New k = ap (λ (w : VerifierState). w.order) k.taken
-      by (Repeats first) k = ap (λ (w : VerifierState). w.order) k.1
-      by Foreign k = ap (λ (w : VerifierState). w.order) k.1
+      by : (fed : Fed) → IsFed s.entries number t fed v → v.order ≡ s.entries.order
+      by New k = ap (λ (w : EntriesState). w.order) k.taken
+      by (Repeats first) k = ap (λ (w : EntriesState). w.order) k.1
+      by Foreign k = ap (λ (w : EntriesState). w.order) k.1
 
   fed_true : (more : List Accepted) → IsTold n ((seen ++ record { line = number; tiling = t } ∷ []) ++ more) number line (told_of fed)
   fed_true more =
       let e : Accepted = record { line = number; tiling = t } in
-      let keeps = subst (λ (k : ℕ). KeepsFirsts k seen (s.verifier).pairs) (sym after.order) after.keeps in
-      let truth = a_verifier_tells_the_truth.told s.verifier seen e fed v (has_tiling line t has) (apart_from seen number after.before) keeps is in
+      let keeps = subst (λ (k : ℕ). KeepsFirsts k seen (s.entries).pairs) (sym after.order) after.keeps in
+      let truth = a_verifier_tells_the_truth.told s.entries seen e fed v (has_tiling line t has) (apart_from seen number after.before) keeps is in
       fed_is_told n number ((seen ++ e ∷ []) ++ more) line t fed has
       (truths_stay n (seen ++ e ∷ []) more e fed (subst (λ (k : ℕ). IsTrueOf k (seen ++ e ∷ []) e fed) after.order truth))
 
   fed_after : IsAfter n (seen ++ record { line = number; tiling = t } ∷ []) (number + 1) (after_fed s v fed)
   fed_after =
       let e : Accepted = record { line = number; tiling = t } in
-      let keeps = subst (λ (k : ℕ). KeepsFirsts k seen (s.verifier).pairs) (sym after.order) after.keeps in
-      let kept = a_verifier_tells_the_truth.kept s.verifier seen e fed v (has_tiling line t has) keeps is in
+      let keeps = subst (λ (k : ℕ). KeepsFirsts k seen (s.entries).pairs) (sym after.order) after.keeps in
+      let kept = a_verifier_tells_the_truth.kept s.entries seen e fed v (has_tiling line t has) keeps is in
       let order : v.order ≡ n = fed_order ∙ after.order in
       let now : KeepsFirsts n (seen ++ e ∷ []) v.pairs = subst (λ (k : ℕ). KeepsFirsts k (seen ++ e ∷ []) v.pairs) order kept in
       let before = all_append (λ (f : Accepted). f.line < number + 1) seen (e ∷ []) (still_before seen number after.before) (omega arith, tt) in
@@ -202,7 +202,7 @@ one_line : (n : ℕ) (seen : List Accepted) (number : ℕ) (line : List ℕ) (li
     → ((now : List Accepted) → IsAfter n now (number + 1) next → AreFollowed n now (number + 1) lines next text last)
     → AreFollowed n seen number (line ∷ lines) s (concat pieces ++ text) last
 one_line n seen number line lines s _ _ _ text last after (no_item skip) rest =
-    line_passed n seen number line lines s s nothing (counts_nothing s s.verifier) text last (skip_has_none (kept_front line) skip) (λ entries. inl skip)
+    line_passed n seen number line lines s s nothing (counts_nothing s s.entries) text last (skip_has_none (kept_front line) skip) (λ entries. inl skip)
     (rest seen (record { keeps = after.keeps; order = after.order; before = still_before seen number after.before }))
 one_line n seen number line lines s _ _ _ text last after (refuses cause is) rest =
     subst (λ (l : List ℕ). AreFollowed n seen number (line ∷ lines) s (l ++ text) last) (sym (append-nil (told_text number (refused cause))))
@@ -224,7 +224,7 @@ followed n seen number [] [] s last after e = subst (AreFollowed n seen number [
   are_entries = no_line number;
   told = tt;
   text_is = refl;
-  keeps = subst (λ (l : List Accepted). KeepsFirsts n l (s.verifier).pairs) (sym (append-nil seen)) after.keeps;
+  keeps = subst (λ (l : List Accepted). KeepsFirsts n l (s.entries).pairs) (sym (append-nil seen)) after.keeps;
   order = after.order;
   foreign_is = omega arith;
   repeated_is = omega arith;

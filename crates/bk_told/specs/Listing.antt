@@ -47,8 +47,8 @@ pub record IsNextBegun (n : ℕ) (pairs : List Kept) (cursor : Word) (written wr
 pub record IsClosing (n : ℕ) (s : Verifying) (counts : Counts) (bytes : List ℕ) : Type 0 where
   pub cursor : Word
   pub entries : List Entry
-  pub are : AreUpTo n (IsNotKept (s.verifier).pairs) cursor entries
-  pub all : AreKeptAfter n (s.verifier).pairs cursor
+  pub are : AreUpTo n (IsNotKept (s.entries).pairs) cursor entries
+  pub all : AreKeptAfter n (s.entries).pairs cursor
   pub members : CountsMembers n (λ word. ⊤) counts.members
   pub missing : counts.missing ≡ length entries
   pub foreign : counts.foreign ≡ s.foreign
@@ -73,4 +73,4 @@ pub record IsWholeBegun (n : ℕ) (s : Verifying) (written written_after : Optio
 
 abbrev pub IsClosingBegun : ℕ → Verifying → Option (List ℕ) → Option (List ℕ) → Type 0
 IsClosingBegun n s written written_after =
-    IsListingBegun n (s.verifier).pairs written written_after ⊎ IsWholeBegun n s written written_after
+    IsListingBegun n (s.entries).pairs written written_after ⊎ IsWholeBegun n s written written_after

@@ -1,4 +1,4 @@
--- What a run of the verifier writes rests on the lines alone. A statement alone; it is proved apart.
+-- What a run of `verify` writes rests on the lines alone. A statement alone; it is proved apart.
 -- Example (VerifyingExamples): of a list without lines nothing else is told than nothing.
 use Rattle.std.specs.Prelude.{List, ℕ, ◌≡◌}
 use Rattle.bk_told.specs.Report.{Counts, IsReport}

@@ -1,4 +1,4 @@
--- What a run of the verifier writes: what is told of the lines that it read, and behind the last one the report's end.
+-- What a run of `verify` writes: what is told of the lines that it read, and behind the last one the report's end.
 -- Example (VerifyingExamples): of a list without lines and an order without members the report is its last line, and a run that
 -- wrote it ends as one of which nothing is refused.
 use Rattle.std.specs.Prelude.{Bool, List, Option, [], false, length, true, ℕ, ◌+◌, ◌++◌, ◌<◌, ◌∷◌, ◌≡◌, ◌⊎◌}

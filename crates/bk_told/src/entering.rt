@@ -18,7 +18,7 @@ use std::marker::Model;
 /// What a run keeps of the lines: the members that were seen, and how many lines were foreign, repeated and refused.
 #[derive(Drop)]
 pub struct Verifying {
-    pub verifier: Entries,
+    pub entries: Entries,
     pub foreign: u64,
     pub repeated: u64,
     pub refused: u64,
@@ -49,7 +49,7 @@ impl VerifyRegister {
     {
         VerifyRegister {
             kept: Verifying {
-                verifier: Entries::new(alloc, order),
+                entries: Entries::new(alloc, order),
                 foreign: 0,
                 repeated: 0,
                 refused: 0,
@@ -118,7 +118,7 @@ fn feed<O: Sink>(
     ensures cause { HasCause (O.faults out.old) (O.faults out.new) result }
     ensures ready { OnOk result (CountsAreBelow state.new (number + 1)) }
 {
-    match state.verifier.feed(number, tiling) {
+    match state.entries.feed(number, tiling) {
         Err(NoMemory) => Ok(Outcome::NoMemory),
         Ok(Fed::New) => Ok(Outcome::Accepted),
         Ok(Fed::Repeats { line: first }) => {

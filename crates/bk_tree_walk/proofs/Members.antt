@@ -9,7 +9,7 @@ use Rattle.bk_lay.specs.TilingWord.{IsWordOf}
 use Rattle.bk_word_net.proofs.PrimitiveTiling.{a_word_has_one_primitive_tiling}
 use Rattle.bk_catalogue.specs.Catalogue.{Entry, IsEntry, IsMember}
 use Rattle.bk_word_net.specs.Realised.{IsTilingOf}
-use Rattle.bk_qualify.specs.Qualifying.{Qualifies}
+use Rattle.bk_catalogue.specs.Qualifying.{Qualifies}
 use Rattle.bk_tree_walk.specs.WholeWords.{IsMembersWord}
 use Rattle.bk_sym.proofs.CanonicalPrimitive.{canonical_primitive}
 

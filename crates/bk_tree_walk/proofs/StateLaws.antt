@@ -38,16 +38,6 @@ stays_put {s = s} {now = now} kept view front next steps =
     subst (λ (u : SearchState). StaysOf u (record { order = s.order; class = s.class; front = front; next = next; pushes = s.pushes }) steps steps) view
     (stays_none s (record { order = s.order; class = s.class; front = front; next = next; pushes = s.pushes }) steps kept refl refl refl)
 
--- and where it came from other moves
-pub stays_from : {s now then : SearchState} {front : Word} {next : Move} {steps steps_then : ℕ} → s ≡ now
-    → StaysOf (record { order = s.order; class = s.class; front = front; next = next; pushes = s.pushes }) then steps steps_then
-    → StaysOf now then steps steps_then
-stays_from {then = then} {steps = steps} {steps_then = steps_then} view stays = record {
-  order = stays.order ∙ ap (λ (u : SearchState). u.order) view;
-  class = stays.class ∙ ap (λ (u : SearchState). u.class) view;
-  counts = subst (λ (u : SearchState). PushesGrow u.pushes then.pushes steps steps_then) view stays.counts;
-}
-
 -- one move is pushed
 pub stays_one : (s then : SearchState) (steps steps_then : ℕ) → then.order ≡ s.order → then.class ≡ s.class → then.pushes ≡ min (s.pushes + 1) (2 ^ 64 - 1)
     → steps_then ≡ steps + 1 → StaysOf s then steps steps_then

@@ -11,8 +11,8 @@ ghost use Rattle.bk_catalogue.specs.Repeated.{HasNoMember, HasTwoAlike};
 ghost use Rattle.bk_tree_walk.specs.WholeWords.{IsUnfit};
 
 use arrayvec::ArrayVec;
+use bk_catalogue::qualifies;
 use bk_flow::NarrowFlow;
-use bk_qualify::qualifies;
 use bk_skel::{Realised, flow_of, realise_by_in};
 use bk_skeleton::Skel;
 use bk_tiling::{MOST_SQUARES, Square, Tiling};

@@ -2,7 +2,7 @@
 -- Example (LeftExamples): what a verifier of order 9 leaves that keeps the rectangle 33x32 is that pair, and a walk at the word of no moves.
 use Rattle.std.specs.Prelude.{List, [], false, ℕ, ◌≡◌, ◌≤◌}
 use Rattle.bk_word.specs.declared.Class.TheVariants.{Perfect}
-use Rattle.bk_entries.specs.Kept.{CountsMembers, IsUpTo, Kept, VerifierState}
+use Rattle.bk_entries.specs.Kept.{CountsMembers, IsUpTo, Kept, EntriesState}
 use Rattle.bk_walk.specs.Walking.{WalkState}
 
 -- what is seen of what a verifier leaves: the kept pairs, and a walk
@@ -11,7 +11,7 @@ pub record RestState : Type 0 where
   pub walk : WalkState
 
 -- what a verifier leaves: its pairs, with a walk through the perfect catalogue of the order from the word of no moves
-abbrev pub rest_of : VerifierState → RestState
+abbrev pub rest_of : EntriesState → RestState
 rest_of s = record {
   pairs = s.pairs;
   walk = record { order = s.order; class = Perfect; cursor = []; ended = false; pushes = 0 };

@@ -1,7 +1,7 @@
 //! A verifier: it is fed the entries of a list, tells what each of them is, and hands on what it keeps.
 
 ghost use Rattle.std.specs.Prelude.{IfOk, OnErr, [], ◌≡◌, ◌≤◌};
-ghost use Rattle.bk_entries.specs.Kept.{IsFed, IsFirstSight, IsKeptVerifier};
+ghost use Rattle.bk_entries.specs.Kept.{IsFed, IsFirstSight, AreKeptEntries};
 ghost use Rattle.bk_verify.specs.Left.{rest_of};
 
 use crate::rest::Rest;
@@ -19,13 +19,13 @@ pub struct Verifier {
 }
 
 impl Model for Verifier {
-    ghost use Rattle.bk_entries.specs.Kept.{IsKeptVerifier, VerifierState};
+    ghost use Rattle.bk_entries.specs.Kept.{AreKeptEntries, EntriesState};
 
-    ghost Value = { VerifierState };
+    ghost Value = { EntriesState };
 
     ghost view = { λ v. v.entries };
 
-    ghost invariant = { λ v. IsKeptVerifier v.entries };
+    ghost invariant = { λ v. AreKeptEntries v.entries };
 }
 
 impl Verifier {
@@ -46,7 +46,7 @@ impl Verifier {
         ensures fed { IfOk result (λ fed. IsFed self.old line tiling.now fed self.new) }
         ensures unchanged { OnErr result (self.new ≡ self.old) }
         ensures wanting { OnErr result (IsFirstSight self.old tiling.now) }
-        ensures kept { IsKeptVerifier self.new }
+        ensures kept { AreKeptEntries self.new }
     {
         self.entries.feed(line, tiling)
     }

@@ -1,4 +1,4 @@
--- What is written behind the lines, by what a verifier left.
+-- What is written behind the lines, by what was kept of them.
 use Rattle.std.specs.Prelude.{Option}
 use Rattle.std.specs.Io.KnownBytes.{Appends}
 use Rattle.std.proofs.Common.{Bool, List, inl, subst, ℕ, ◌+◌, ◌≡◌}
@@ -6,7 +6,7 @@ use Rattle.bk_ports.specs.Causes.{AppendsPrefix}
 use Rattle.bk_word.specs.declared.Class.TheVariants.{Perfect}
 use Rattle.bk_catalogue.specs.Following.{HasNoneAfter}
 use Rattle.bk_entries.proofs.CountedMembers.{count_all}
-use Rattle.bk_entries.specs.Kept.{AreKeptAfter, CountsMembers, IsUpTo, Kept, VerifierState}
+use Rattle.bk_entries.specs.Kept.{AreKeptAfter, CountsMembers, IsUpTo, Kept, EntriesState}
 use Rattle.bk_verify.specs.Left.{RestState, rest_of}
 use Rattle.bk_told.proofs.BehindLines as behind
 use Rattle.bk_told.specs.Listing.{ClosesReport, IsClosingBegun, IsListed, IsListingBegun}
@@ -15,13 +15,13 @@ use Rattle.bk_told.specs.Running.{TellsFaults}
 use Rattle.bk_told.specs.declared.entering.Verifying.{Verifying}
 use Rattle.bk_verify_run.specs.Lacking.{AreLacking}
 
--- what is said of the order and the pairs that a verifier left is said of its own
-pub of_verifier : (s : VerifierState) (first : RestState) → first ≡ rest_of s → (P : ℕ → List Kept → Type 0) → P (first.walk).order first.pairs
+-- what is said of the order and the pairs that were handed on is said of those that were kept
+pub of_verifier : (s : EntriesState) (first : RestState) → first ≡ rest_of s → (P : ℕ → List Kept → Type 0) → P (first.walk).order first.pairs
     → P s.order s.pairs
 of_verifier s first left P p = subst (λ (r : RestState). P (r.walk).order r.pairs) left p
 
 -- the missing members are listed, and all members are counted
-pub lacking : (s : VerifierState) (first now : RestState) (missing members : ℕ) (a b : Option (List ℕ)) → first ≡ rest_of s
+pub lacking : (s : EntriesState) (first now : RestState) (missing members : ℕ) (a b : Option (List ℕ)) → first ≡ rest_of s
     → IsListed (first.walk).order first.pairs (now.walk).cursor missing a b → AreKeptAfter (first.walk).order first.pairs (now.walk).cursor
     → HasNoneAfter (first.walk).order Perfect (now.walk).cursor → (now.walk).order ≡ (first.walk).order
     → CountsMembers (now.walk).order (IsUpTo (now.walk).cursor) members → AreLacking s.order s.pairs members missing a b
@@ -35,12 +35,12 @@ lacking s first now missing members a b left listed kept none same_order reached
     })
 
 -- the lines of the missing members stand there
-module _ (n : ℕ) (s : Verifying) (order : (s.verifier).order ≡ n) (missing members : ℕ) (a b : Option (List ℕ))
-    (found : AreLacking (s.verifier).order (s.verifier).pairs members missing a b) (line : List ℕ)
+module _ (n : ℕ) (s : Verifying) (order : (s.entries).order ≡ n) (missing members : ℕ) (a b : Option (List ℕ))
+    (found : AreLacking (s.entries).order (s.entries).pairs members missing a b) (line : List ℕ)
     (is : line ≡ counts_line n (record { members = members; missing = missing; foreign = s.foreign; repeated = s.repeated; refused = s.refused }))
     (c : Option (List ℕ)) where
-  there : AreLacking n (s.verifier).pairs members missing a b
-  there = subst (λ (k : ℕ). AreLacking k (s.verifier).pairs members missing a b) order found
+  there : AreLacking n (s.entries).pairs members missing a b
+  there = subst (λ (k : ℕ). AreLacking k (s.entries).pairs members missing a b) order found
 
   -- the last line is written, and the report is whole
   pub closes_report : Appends b c line → (differs : Bool) → TellsFaults differs (missing + s.foreign + s.repeated + s.refused) → ClosesReport n s differs a c
@@ -51,6 +51,6 @@ module _ (n : ℕ) (s : Verifying) (order : (s.verifier).order ≡ n) (missing m
   closing_begun = behind.closing_begun n s there.cursor missing members a b there.listed there.kept there.all line is c
 
 -- the line of a missing member could not be written
-pub closing_broken : (n : ℕ) (s : Verifying) (a b : Option (List ℕ)) → (s.verifier).order ≡ n
-    → IsListingBegun (s.verifier).order (s.verifier).pairs a b → IsClosingBegun n s a b
-closing_broken n s a b order begun = inl (subst (λ (k : ℕ). IsListingBegun k (s.verifier).pairs a b) order begun)
+pub closing_broken : (n : ℕ) (s : Verifying) (a b : Option (List ℕ)) → (s.entries).order ≡ n
+    → IsListingBegun (s.entries).order (s.entries).pairs a b → IsClosingBegun n s a b
+closing_broken n s a b order begun = inl (subst (λ (k : ℕ). IsListingBegun k (s.entries).pairs a b) order begun)

@@ -1,4 +1,4 @@
--- What a verifier left is listed: the members that aren't kept, one after another, up to the last.
+-- What the entries of a list lack is listed: the members that aren't kept, one after another, up to the last.
 use Rattle.std.specs.Prelude.{Option, false, true}
 use Rattle.std.specs.Io.KnownBytes.{Appends}
 use Rattle.std.proofs.Common.{Bool, List, [], refl, subst, sym, ℕ, ◌+◌, ◌∙◌, ◌≡◌, ◌≤◌}

@@ -32,18 +32,18 @@ pub(crate) fn close_report<L: Ledger, O: Sink>(
     requires parts { blank.parts ≡ L.parts }
     requires some { 0 < L.parts }
     requires most { order ≤ 16 }
-    requires order { state.verifier.order ≡ order }
+    requires order { state.entries.order ≡ order }
     ensures closed { IfOk result (λ differs. ClosesReport order state differs (O.written out.old) (O.written out.new)) }
     ensures begun { OnErr result (IsClosingBegun order state (O.written out.old) (O.written out.new)) }
     ensures cause { HasCause (O.faults out.old) (O.faults out.new) result }
 {
     let Verifying {
-        verifier,
+        entries,
         foreign,
         repeated,
         refused,
     } = state;
-    let lacking = list_missing::<L, O>(alloc, verifier, blank, buffer, out)?;
+    let lacking = list_missing::<L, O>(alloc, entries, blank, buffer, out)?;
     let counts = [lacking.0, lacking.1, foreign, repeated, refused];
     write_verified(Last::End, order, counts, &Word::new(alloc), buffer);
     out.write_all(buffer.as_slice())?;
@@ -54,7 +54,7 @@ pub(crate) fn close_report<L: Ledger, O: Sink>(
 // Writes the missing members, and gives how many members there are, and how many of them are missing.
 fn list_missing<L: Ledger, O: Sink>(
     alloc: Global,
-    verifier: Entries,
+    entries: Entries,
     blank: Blank,
     buffer: &mut AnswerBuffer,
     out: &mut O,
@@ -62,13 +62,13 @@ fn list_missing<L: Ledger, O: Sink>(
     requires name { blank.name ≡ L.name }
     requires parts { blank.parts ≡ L.parts }
     requires some { 0 < L.parts }
-    requires most { verifier.order ≤ 16 }
-    ensures listed { IfOk result (λ lacking. AreLacking verifier.order verifier.pairs lacking.0 lacking.1 (O.written out.old) (O.written out.new)) }
-    ensures begun { OnErr result (IsListingBegun verifier.order verifier.pairs (O.written out.old) (O.written out.new)) }
+    requires most { entries.order ≤ 16 }
+    ensures listed { IfOk result (λ lacking. AreLacking entries.order entries.pairs lacking.0 lacking.1 (O.written out.old) (O.written out.new)) }
+    ensures begun { OnErr result (IsListingBegun entries.order entries.pairs (O.written out.old) (O.written out.new)) }
     ensures cause { HasCause (O.faults out.old) (O.faults out.new) result }
 {
     let mut steps = Steps::<L>::new(blank);
-    let mut rest = Rest::of(alloc, verifier);
+    let mut rest = Rest::of(alloc, entries);
     let missing = write_missing_members(&mut rest, &mut steps, buffer, out)?;
     Ok((rest.members(), missing))
 }

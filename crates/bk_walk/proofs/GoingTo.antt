@@ -12,11 +12,6 @@ use Rattle.bk_walk.specs.Leaping.{GoesToWord, IsAtNumber}
 use Rattle.bk_tree_walk.specs.Search.{IsKeptSearch, SearchState, StaysOf}
 use Rattle.bk_tree_walk.proofs.StateLaws.{down_from, stays_one}
 
--- the same order and moves
-pub goes_same : (n m : ℕ) (v w : Word) (number : ℕ) → n ≡ m → v ≡ w → GoesToWord m w number → GoesToWord n v number
-goes_same n m v w number e f g =
-    subst (λ (k : ℕ). GoesToWord k v number) (sym e) (subst (λ (u : Word). GoesToWord m u number) (sym f) g)
-
 -- where fewer squares hang than the order, the word goes on by a move
 pub goes_by : (n : ℕ) (front : Word) (number : ℕ) → GoesToWord n front number → order_of front < n → n ≤ 16 → GoesOnByNumber front number
 goes_by n front number g few most = cases g.rest g.is

@@ -1,6 +1,6 @@
 use Rattle.std.proofs.Common.{[], subst, ◌++◌, ◌∷◌}
 use Rattle.bk_word.specs.Word.{Word}
-use Rattle.bk_net_word.specs.NetWord.{IsNetBarren}
+use Rattle.bk_layout.specs.NetWord.{IsNetBarren}
 use Rattle.bk_free_search.proofs.Cutting.{shared_is_barren}
 use Rattle.bk_free_search.proofs.joining.joins_barrenly.Goals as goal
 

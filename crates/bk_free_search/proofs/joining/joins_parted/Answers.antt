@@ -2,7 +2,7 @@ use Rattle.std.proofs.Common.{ap, arith, inl, inr, refl, subst, sym, ℕ, ◌∙
 use Rattle.bk_word.specs.Outline.{sizes_of, valley_of}
 use Rattle.bk_word.specs.Play.{IsLegal, outline_of}
 use Rattle.bk_word.specs.Word.{Word}
-use Rattle.bk_net_word.specs.LineNumbers.{left_end, right_end, sides_of}
+use Rattle.bk_layout.specs.LineNumbers.{left_end, right_end, sides_of}
 use Rattle.bk_free_search.proofs.SharedAfter.{parted_before, parted_behind}
 use Rattle.bk_free_search.proofs.ValleyPlaces.{ends_within, valley_read}
 use Rattle.bk_free_search.specs.Joining.{JoinsLeft, JoinsRight}

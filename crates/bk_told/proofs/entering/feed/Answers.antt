@@ -1,8 +1,8 @@
 use Rattle.std.proofs.Common.{false, refl, subst, ◌+◌, ◌∙◌}
 use Rattle.bk_report.specs.ListLines.{foreign_line, repeats_line}
 use Rattle.bk_entries.specs.Kept.{IsFed}
-use Rattle.bk_entries.specs.declared.verifier.Fed.{Fed}
-use Rattle.bk_entries.specs.declared.verifier.Fed.TheVariants.{Foreign, New, Repeats}
+use Rattle.bk_entries.specs.declared.entries.Fed.{Fed}
+use Rattle.bk_entries.specs.declared.entries.Fed.TheVariants.{Foreign, New, Repeats}
 use Rattle.bk_word.proofs.Failing.{on_err}
 use Rattle.bk_told.proofs.Entered.{begun_one, written_none, written_one}
 use Rattle.bk_told.specs.Entering.{feeds}
@@ -10,50 +10,50 @@ use Rattle.bk_told.proofs.entering.feed.Goals as goal
 
 pub returns-in-Ok-New-clause-outcome : goal.returns-in-Ok-New-clause-outcome
 returns-in-Ok-New-clause-outcome g c =
-    let fed = subst (λ (f : Fed). IsFed c.args.state.now.verifier c.args.number c.args.tiling.now f c.feed.new.self) c.in-Ok-New.field-0-is
+    let fed = subst (λ (f : Fed). IsFed c.args.state.now.entries c.args.number c.args.tiling.now f c.feed.new.self) c.in-Ok-New.field-0-is
     c.in-Ok-New.ensures.fed in
-    written_none c.args.state.now c.args.number c.args.line.now false (record c.args.state.now { verifier = c.feed.new.self })
+    written_none c.args.state.now c.args.number c.args.line.now false (record c.args.state.now { entries = c.feed.new.self })
     (g.O.Sink.written c.args.out.now) (g.O.Sink.written c.args.out.now)
     (feeds c.args.tiling.now New c.feed.new.self c.requires.has fed) refl
 
 pub returns-in_ok-write_all-in-Ok-Repeats-clause-outcome : goal.returns-in_ok-write_all-in-Ok-Repeats-clause-outcome
 returns-in_ok-write_all-in-Ok-Repeats-clause-outcome g c =
-    let fed = subst (λ (f : Fed). IsFed c.args.state.now.verifier c.args.number c.args.tiling.now f c.feed.new.self) c.in-Ok-Repeats.field-0-is
+    let fed = subst (λ (f : Fed). IsFed c.args.state.now.entries c.args.number c.args.tiling.now f c.feed.new.self) c.in-Ok-Repeats.field-0-is
     c.in-Ok-Repeats.ensures.fed in
     written_one c.args.state.now c.args.number c.args.line.now false (record c.args.state.now
-    { verifier = c.feed.new.self; repeated = c.args.state.now.repeated + 1 })
+    { entries = c.feed.new.self; repeated = c.args.state.now.repeated + 1 })
     (g.O.Sink.written c.args.out.now) (g.O.Sink.written c.write_all.new.self) (repeats_line c.args.number c.in-Ok-Repeats.first) c.as_slice.result.now
     (c.as_slice.ensures.value ∙ c.write_repeats.ensures) (feeds c.args.tiling.now (Repeats c.in-Ok-Repeats.first) c.feed.new.self c.requires.has fed)
     c.in_ok-write_all-in-Ok-Repeats.ensures.ok
 
 pub returns-in_err-write_all-in-Ok-Repeats-clause-failed : goal.returns-in_err-write_all-in-Ok-Repeats-clause-failed
 returns-in_err-write_all-in-Ok-Repeats-clause-failed g c =
-    let fed = subst (λ (f : Fed). IsFed c.args.state.now.verifier c.args.number c.args.tiling.now f c.feed.new.self) c.in-Ok-Repeats.field-0-is
+    let fed = subst (λ (f : Fed). IsFed c.args.state.now.entries c.args.number c.args.tiling.now f c.feed.new.self) c.in-Ok-Repeats.field-0-is
     c.in-Ok-Repeats.ensures.fed in
     on_err c.from_residual.result
     (begun_one c.args.state.now c.args.number c.args.line.now false (record c.args.state.now
-    { verifier = c.feed.new.self; repeated = c.args.state.now.repeated + 1 })
+    { entries = c.feed.new.self; repeated = c.args.state.now.repeated + 1 })
     (g.O.Sink.written c.args.out.now) (g.O.Sink.written c.write_all.new.self) (repeats_line c.args.number c.in-Ok-Repeats.first) c.as_slice.result.now
     (c.as_slice.ensures.value ∙ c.write_repeats.ensures) (feeds c.args.tiling.now (Repeats c.in-Ok-Repeats.first) c.feed.new.self c.requires.has fed)
     c.in_err-write_all-in-Ok-Repeats.ensures.err)
 
 pub returns-in_ok-write_all-in-Ok-Foreign-clause-outcome : goal.returns-in_ok-write_all-in-Ok-Foreign-clause-outcome
 returns-in_ok-write_all-in-Ok-Foreign-clause-outcome g c =
-    let fed = subst (λ (f : Fed). IsFed c.args.state.now.verifier c.args.number c.args.tiling.now f c.feed.new.self) c.in-Ok-Foreign.field-0-is
+    let fed = subst (λ (f : Fed). IsFed c.args.state.now.entries c.args.number c.args.tiling.now f c.feed.new.self) c.in-Ok-Foreign.field-0-is
     c.in-Ok-Foreign.ensures.fed in
     written_one c.args.state.now c.args.number c.args.line.now false (record c.args.state.now
-    { verifier = c.feed.new.self; foreign = c.args.state.now.foreign + 1 })
+    { entries = c.feed.new.self; foreign = c.args.state.now.foreign + 1 })
     (g.O.Sink.written c.args.out.now) (g.O.Sink.written c.write_all-in-Ok-Foreign.new.self) (foreign_line c.args.number) c.as_slice-in-Ok-Foreign.result.now
     (c.as_slice-in-Ok-Foreign.ensures.value ∙ c.write_foreign.ensures) (feeds c.args.tiling.now Foreign c.feed.new.self c.requires.has fed)
     c.in_ok-write_all-in-Ok-Foreign.ensures.ok
 
 pub returns-in_err-write_all-in-Ok-Foreign-clause-failed : goal.returns-in_err-write_all-in-Ok-Foreign-clause-failed
 returns-in_err-write_all-in-Ok-Foreign-clause-failed g c =
-    let fed = subst (λ (f : Fed). IsFed c.args.state.now.verifier c.args.number c.args.tiling.now f c.feed.new.self) c.in-Ok-Foreign.field-0-is
+    let fed = subst (λ (f : Fed). IsFed c.args.state.now.entries c.args.number c.args.tiling.now f c.feed.new.self) c.in-Ok-Foreign.field-0-is
     c.in-Ok-Foreign.ensures.fed in
     on_err c.from_residual-in_err-write_all-in-Ok-Foreign.result
     (begun_one c.args.state.now c.args.number c.args.line.now false (record c.args.state.now
-    { verifier = c.feed.new.self; foreign = c.args.state.now.foreign + 1 })
+    { entries = c.feed.new.self; foreign = c.args.state.now.foreign + 1 })
     (g.O.Sink.written c.args.out.now) (g.O.Sink.written c.write_all-in-Ok-Foreign.new.self) (foreign_line c.args.number) c.as_slice-in-Ok-Foreign.result.now
     (c.as_slice-in-Ok-Foreign.ensures.value ∙ c.write_foreign.ensures) (feeds c.args.tiling.now Foreign c.feed.new.self c.requires.has fed)
     c.in_err-write_all-in-Ok-Foreign.ensures.err)

@@ -1,6 +1,6 @@
 use Rattle.std.proofs.Common.{List, ap, arith, length, subst, sym, ℕ, ◌∙◌}
 use Rattle.bk_word.specs.Word.{Word}
-use Rattle.bk_net_word.specs.LineNumbers.{left_end, sides_of}
+use Rattle.bk_layout.specs.LineNumbers.{left_end, sides_of}
 use Rattle.bk_free_search.specs.Lefts.{first_left}
 use Rattle.bk_free_search.proofs.BoardMoves.{left_end_on_board}
 use Rattle.bk_free_search.proofs.LeftLines.{left_count}

@@ -1,6 +1,6 @@
 use Rattle.std.proofs.Common.{List, ap, arith, length, subst, sym, ℕ, ◌∙◌}
 use Rattle.bk_word.specs.Word.{Word}
-use Rattle.bk_net_word.specs.LineNumbers.{lefts_of}
+use Rattle.bk_layout.specs.LineNumbers.{lefts_of}
 use Rattle.bk_free_search.proofs.LeftLines.{left_count}
 use Rattle.bk_free_search.proofs.LowLines.{low_lefts}
 use Rattle.bk_free_search.specs.Lefts.{IsLeftOfOne}

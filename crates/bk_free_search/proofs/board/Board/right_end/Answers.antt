@@ -1,6 +1,6 @@
 use Rattle.std.proofs.Common.{List, ap, arith, length, subst, sym, ℕ, ◌∙◌}
 use Rattle.bk_word.specs.Word.{Word}
-use Rattle.bk_net_word.specs.LineNumbers.{right_end, sides_of}
+use Rattle.bk_layout.specs.LineNumbers.{right_end, sides_of}
 use Rattle.bk_free_search.specs.Rights.{last_right}
 use Rattle.bk_free_search.proofs.BoardMoves.{right_end_on_board}
 use Rattle.bk_free_search.proofs.LowLines.{low_right_end, low_rights}

@@ -4,7 +4,7 @@ use Rattle.bk_word.specs.Play.{IsComplete}
 use Rattle.bk_word.specs.Word.{Word, order_of}
 use Rattle.bk_word.specs.declared.Sign.{Sign}
 use Rattle.bk_word.specs.declared.Sign.TheVariants.{Above, Even, Under}
-use Rattle.bk_net_word.specs.NetWord.{IsNetBarren}
+use Rattle.bk_layout.specs.NetWord.{IsNetBarren}
 use Rattle.bk_normal.specs.NormalImage.{IsNormalSought}
 use Rattle.bk_free_search.proofs.Cutting.{normal}
 use Rattle.bk_free_search.proofs.LastSquare.{all_at_once_is_barren}

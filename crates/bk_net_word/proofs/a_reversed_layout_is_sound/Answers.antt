@@ -1,5 +1,0 @@
-use Rattle.bk_net_word.proofs.SoundReversal.{a_reversed_layout_is_sound as the_law}
-use Rattle.bk_net_word.proofs.a_reversed_layout_is_sound.Goals as goal
-
-pub returns : goal.returns
-returns c = the_law
