@@ -12,3 +12,6 @@ returns c =
     fill_by_all (λ x. character c.args.tiling.now x c.args.y) c.draw_squares.new.points (c.args.tiling.now.width + 1) 0 long
     (λ x below. c.draw_squares.ensures x (omega (arith, long, c.draw_squares.auto.points))) in
     c.push.ensures.items ∙ ap (λ (points : List ℕ). points ++ 10 ∷ []) (items-with_items c.leave_blank.new.row c.draw_squares.new.points (search rules) ∙ all)
+
+pub draw_squares-requires-clause-width : goal.draw_squares-requires-clause-width
+draw_squares-requires-clause-width c = omega (arith, ap length c.as_mut_slice.ensures.value, c.leave_blank.ensures.length, c.width.ensures.value)

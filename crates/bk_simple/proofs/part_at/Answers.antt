@@ -1,12 +1,36 @@
-use Rattle.std.proofs.Common.{false, true, arith, ◌≡◌}
+use Rattle.std.proofs.Common.{false, true, arith, ◌≡◌, Fits, get_or, length, w64, ℕ, ◌*◌, ◌+◌, ◌<◌, ◌^◌}
 use Rattle.bk_tiling.specs.declared.Square.{Square}
 use Rattle.bk_simple.proofs.PartTrials.{none_between, none_cut, none_single, none_whole, part_at_from}
 use Rattle.bk_simple.specs.Border.{rectangle_of}
+use Rattle.std.specs.List.{All}
+use Rattle.bk_tiling.specs.Kept.{IsKept}
+use Rattle.bk_tiling.specs.Sharing.{EdgesFit}
+use Rattle.bk_simple.proofs.UncutParts.{side_at, within_at}
+use Rattle.bk_tiling.specs.Tiling.{Rectangle, Tiling}
+use Rattle.bk_simple.specs.Corners.{IsBetween}
 use Rattle.bk_simple.proofs.part_at.Goals as goal
 use Rattle.bk_simple.proofs.part_at.Goals.{else-inside-ge2-via-then-inside-ge2+else-inside-order, else-inside-ge2-via-else-inside-ge2}
 
 abbrev none : Square
 none = record { x = 0; y = 0; s = 0 }
+
+-- the edges of a square fit
+edges_fit : (t : Tiling) → IsKept t → All EdgesFit t.squares
+edges_fit t kept k d few =
+    let w = within_at t kept.tiling k d few in
+    (side_at t kept.tiling k d few, omega (arith, w.right, kept.width_fits), omega (arith, w.bottom, kept.height_fits))
+
+-- the place of a square in memory fits
+place_fits : (t : Tiling) → IsKept t → (k : ℕ) → k < length t.squares → Fits w64 (k * 24)
+place_fits t kept k few = omega (arith, few, kept.few)
+
+-- the place after a square's fits
+step_fits : (t : Tiling) → IsKept t → (k : ℕ) → k < length t.squares → Fits w64 (k + 1)
+step_fits t kept k few = omega (arith, few, kept.few)
+
+-- the edges of a rectangle that ends with a square fit
+corner_fits : (p q : Square) (r : Rectangle) → IsBetween p q r → EdgesFit q → (r.x + r.width < 2 ^ 64) × (r.y + r.height < 2 ^ 64)
+corner_fits p q r corners fits = (omega (arith, corners.right, fits.1), omega (arith, corners.bottom, fits.2))
 
 pub returns-in_err-tried-clause-none : goal.returns-in_err-tried-clause-none
 returns-in_err-tried-clause-none c =
@@ -39,3 +63,48 @@ returns-else-inside-ge2-clause-none c =
           none_single c.args.tiling.now c.squares-squares.ensures.kept.tiling c.args.i c.args.j none (rectangle_of c.in_ok-tried.tried)
           (rw c.squares-squares.ensures.value at c.in_ok-tried.ensures.some).corners (omega (arith, c.in_ok-inside.ensures.count))
     ]
+
+pub offset_bounds-squares-i : goal.offset_bounds-squares-i
+offset_bounds-squares-i c = place_fits c.args.tiling.now c.squares-squares.ensures.kept c.args.i c.requires.first
+
+pub bounds-squares-i : goal.bounds-squares-i
+bounds-squares-i c = rw c.squares-squares.ensures.value c.requires.first
+
+pub offset_bounds-squares-j : goal.offset_bounds-squares-j
+offset_bounds-squares-j c = place_fits c.args.tiling.now c.squares-squares.ensures.kept c.args.j c.requires.last
+
+pub bounds-squares-j : goal.bounds-squares-j
+bounds-squares-j c = rw c.squares-squares.ensures.value c.requires.last
+
+pub between-requires-clause-p_fits : goal.between-requires-clause-p_fits
+between-requires-clause-p_fits c =
+    rw c.squares-squares.ensures.value (let e = edges_fit c.args.tiling.now c.squares-squares.ensures.kept c.args.i none c.requires.first in (e.1, e.2))
+
+pub between-requires-clause-q_fits : goal.between-requires-clause-q_fits
+between-requires-clause-q_fits c =
+    rw c.squares-squares.ensures.value (let e = edges_fit c.args.tiling.now c.squares-squares.ensures.kept c.args.j none c.requires.last in (e.1, e.2))
+
+pub between-requires-clause-sides : goal.between-requires-clause-sides
+between-requires-clause-sides c =
+    rw c.squares-squares.ensures.value (
+      side_at c.args.tiling.now c.squares-squares.ensures.kept.tiling c.args.i none c.requires.first,
+      side_at c.args.tiling.now c.squares-squares.ensures.kept.tiling c.args.j none c.requires.last,
+    )
+
+pub returns-in_err-tried-clause-part : goal.returns-in_err-tried-clause-part
+returns-in_err-tried-clause-part c = rw c.from_residual.ensures tt
+
+pub overflow_add-i : goal.overflow_add-i
+overflow_add-i c = step_fits c.args.tiling.now c.squares-squares.ensures.kept c.args.i c.requires.first
+
+pub count_inside-requires-clause-place : goal.count_inside-requires-clause-place
+count_inside-requires-clause-place c = omega (arith, c.requires.first)
+
+pub count_inside-requires-clause-fits : goal.count_inside-requires-clause-fits
+count_inside-requires-clause-fits c =
+    corner_fits _ (get_or c.args.tiling.now.squares c.args.j none) (rectangle_of c.in_ok-tried.tried)
+    (rw c.squares-squares.ensures.value at c.in_ok-tried.ensures.some).corners
+    (edges_fit c.args.tiling.now c.squares-squares.ensures.kept c.args.j none c.requires.last)
+
+pub returns-in_err-inside-clause-part : goal.returns-in_err-inside-clause-part
+returns-in_err-inside-clause-part c = rw c.from_residual-in_err-inside.ensures tt

@@ -1,13 +1,23 @@
-use Rattle.std.proofs.Common.{arith, get_or, length, subst, ◌<◌, ◌≡◌}
-use Rattle.bk_tiling.specs.Tiling.{order}
-use Rattle.bk_simple.proofs.PartTrials.{NoneBelow, none_below_start, none_from}
+use Rattle.std.proofs.Common.{arith, get_or, length, subst, ◌<◌, ◌≡◌, Fits, w64, ℕ, ◌*◌, ◌+◌}
+use Rattle.bk_tiling.specs.Tiling.{order, Tiling}
+use Rattle.bk_simple.proofs.PartTrials.{NoneBelow, none_below_start, none_from, first_from}
 use Rattle.bk_tiling.specs.declared.Square.{Square}
 use Rattle.bk_simple.proofs.Reaching.{none_behind}
 use Rattle.bk_simple.proofs.Seams.{none_higher}
+use Rattle.bk_tiling.specs.Kept.{IsKept}
+use Rattle.bk_simple.specs.Border.{rectangle_of}
 use Rattle.bk_simple.proofs.part_from.Goals as goal
 
 abbrev none : Square
 none = record { x = 0; y = 0; s = 0 }
+
+-- the place of a square in memory fits
+place_fits : (t : Tiling) → IsKept t → (k : ℕ) → k < length t.squares → Fits w64 (k * 24)
+place_fits t kept k few = omega (arith, few, kept.few)
+
+-- the place after a square's fits
+step_fits : (t : Tiling) → IsKept t → (k : ℕ) → k < length t.squares → Fits w64 (k + 1)
+step_fits t kept k few = omega (arith, few, kept.few)
 
 pub returns-then-crosses-clause-none : goal.returns-then-crosses-clause-none
 returns-then-crosses-clause-none c =
@@ -26,3 +36,44 @@ pub returns-clause-none : goal.returns-clause-none
 returns-clause-none c =
     let e : c.loop-j.j ≡ order c.args.tiling.now = omega (arith, c.order-j-end.ensures.value) in
     none_from c.args.tiling.now c.args.i c.order-j-end.ensures.kept.tiling (subst (NoneBelow c.args.tiling.now c.args.i) e c.loop-j.invariant)
+
+pub right_end-requires : goal.right_end-requires
+right_end-requires c = c.requires
+
+pub overflow_step-j : goal.overflow_step-j
+overflow_step-j c = step_fits c.args.tiling.now c.squares-squares.ensures.kept c.args.i c.requires
+
+pub offset_bounds-squares-j : goal.offset_bounds-squares-j
+offset_bounds-squares-j c = place_fits c.args.tiling.now c.squares-squares.ensures.kept c.loop-j.j (rw c.order-j-end.ensures.value at c.loop-j-test.true)
+
+pub bounds-squares-j : goal.bounds-squares-j
+bounds-squares-j c = rw c.squares-squares.ensures.value (rw c.order-j-end.ensures.value at c.loop-j-test.true)
+
+pub offset_bounds-squares-j-in-loop-j : goal.offset_bounds-squares-j-in-loop-j
+offset_bounds-squares-j-in-loop-j c =
+    place_fits c.args.tiling.now c.squares-squares.ensures.kept c.loop-j.j (rw c.order-j-end.ensures.value at c.loop-j-test.true)
+
+pub bounds-squares-j-in-loop-j : goal.bounds-squares-j-in-loop-j
+bounds-squares-j-in-loop-j c = rw c.squares-squares.ensures.value (rw c.order-j-end.ensures.value at c.loop-j-test.true)
+
+pub offset_bounds-squares-i : goal.offset_bounds-squares-i
+offset_bounds-squares-i c = place_fits c.args.tiling.now c.squares-squares.ensures.kept c.args.i c.requires
+
+pub bounds-squares-i : goal.bounds-squares-i
+bounds-squares-i c = rw c.squares-squares.ensures.value c.requires
+
+pub part_at-requires-clause-first : goal.part_at-requires-clause-first
+part_at-requires-clause-first c = c.requires
+
+pub part_at-requires-clause-last : goal.part_at-requires-clause-last
+part_at-requires-clause-last c = rw c.order-j-end.ensures.value at c.loop-j-test.true
+
+pub part_at-requires-clause-right : goal.part_at-requires-clause-right
+part_at-requires-clause-right c = c.right_end.ensures
+
+pub part_at-requires-clause-bottom : goal.part_at-requires-clause-bottom
+part_at-requires-clause-bottom c = λ r left top uncut low. rw c.height.ensures.value low
+
+pub returns-in-Some-clause-first : goal.returns-in-Some-clause-first
+returns-in-Some-clause-first c =
+    first_from c.args.tiling.now c.args.i c.loop-j.j (rectangle_of c.in-Some.found) c.loop-j.invariant c.in-Some.ensures.part

@@ -7,7 +7,7 @@ use Rattle.bk_report.specs.Answers.{flow_line}
 use Rattle.bk_report.specs.declared.refusal.Refused.TheVariants.{Loose, Wide}
 use Rattle.bk_answer.specs.NetAnswer.{AnswersNet, NetWants, loose, solved, wide}
 use Rattle.bk_answer.proofs.ReplySteps.{refusal_replies}
-use Rattle.bk_answer.proofs.Writing.{piece_replies}
+use Rattle.bk_answer.proofs.Writing.{cause_told, piece_replies}
 use Rattle.bk_answer.proofs.flow.answer_net.Goals as goal
 
 pub returns-in-Ok-clause-reply : goal.returns-in-Ok-clause-reply
@@ -31,3 +31,14 @@ returns-in-Err-Wide-clause-reply g c =
     refusal_replies (AnswersNet c.args.net.now) (NetWants c.args.net.now) Wide (g.O.Sink.written c.args.out.now)
     (g.O.Sink.written c.refuse-in-Err-Wide.new.out) c.refuse-in-Err-Wide.result
     (wide cause.0 cause.1) c.refuse-in-Err-Wide.ensures.outcome c.refuse-in-Err-Wide.ensures.failed
+
+pub returns-in-Ok-clause-cause : goal.returns-in-Ok-clause-cause
+returns-in-Ok-clause-cause g c =
+    cause_told (g.O.Sink.faults c.args.out.now) (g.O.Sink.faults c.write_all.new.self) c.write_all.result c.accepted.result c.write_all.ensures.cause
+    c.accepted.ensures
+
+pub returns-in-Err-Loose-clause-cause : goal.returns-in-Err-Loose-clause-cause
+returns-in-Err-Loose-clause-cause g c = c.refuse.ensures.cause
+
+pub returns-in-Err-Wide-clause-cause : goal.returns-in-Err-Wide-clause-cause
+returns-in-Err-Wide-clause-cause g c = c.refuse-in-Err-Wide.ensures.cause

@@ -42,3 +42,12 @@ pub returns-then-line-gt-LONGEST_LINE-clause-reply : goal.returns-then-line-gt-L
 returns-then-line-gt-LONGEST_LINE-clause-reply g c =
     refusal_replies (AnswersNetLine c.args.line.now) (MayWantForNet c.args.line.now) Long (g.O.Sink.written c.args.out.now)
     (g.O.Sink.written c.refuse.new.out) c.refuse.result (net_too_long c.if-line-gt-LONGEST_LINE.true) c.refuse.ensures.outcome c.refuse.ensures.failed
+
+pub returns-in-Ok-Item-clause-cause : goal.returns-in-Ok-Item-clause-cause
+returns-in-Ok-Item-clause-cause g c = c.answer_net.ensures.cause
+
+pub returns-in-Err-clause-cause : goal.returns-in-Err-clause-cause
+returns-in-Err-clause-cause g c = c.refuse-in-Err.ensures.cause
+
+pub returns-then-line-gt-LONGEST_LINE-clause-cause : goal.returns-then-line-gt-LONGEST_LINE-clause-cause
+returns-then-line-gt-LONGEST_LINE-clause-cause g c = c.refuse.ensures.cause

@@ -10,7 +10,7 @@ use Rattle.bk_report.specs.Answers.{tiling_line}
 use Rattle.bk_report.specs.declared.refusal.Refused.TheVariants.{Illegal, Nothing, Unfinished, Wide}
 use Rattle.bk_answer.specs.WordAnswer.{AnswersWord, illegal, no_tiling, realised, unfinished, wide_word}
 use Rattle.bk_answer.proofs.ReplySteps.{refusal_replies}
-use Rattle.bk_answer.proofs.Writing.{piece_replies}
+use Rattle.bk_answer.proofs.Writing.{cause_told, piece_replies}
 use Rattle.bk_answer.proofs.solve.answer_word.Goals as goal
 
 pub returns-in-Ok-Found-clause-reply : goal.returns-in-Ok-Found-clause-reply
@@ -56,3 +56,20 @@ returns-in-Err-Wide-clause-reply g c =
     (g.O.Sink.written c.refuse-in-Err-Wide.new.out) c.refuse-in-Err-Wide.result
     (wide_word cause.0 cause.1)
     c.refuse-in-Err-Wide.ensures.outcome c.refuse-in-Err-Wide.ensures.failed
+
+pub returns-in-Ok-Found-clause-cause : goal.returns-in-Ok-Found-clause-cause
+returns-in-Ok-Found-clause-cause g c =
+    cause_told (g.O.Sink.faults c.args.out.now) (g.O.Sink.faults c.write_all.new.self) c.write_all.result c.accepted.result c.write_all.ensures.cause
+    c.accepted.ensures
+
+pub returns-in-Ok-Nothing-clause-cause : goal.returns-in-Ok-Nothing-clause-cause
+returns-in-Ok-Nothing-clause-cause g c = c.refuse.ensures.cause
+
+pub returns-in-Err-Illegal-clause-cause : goal.returns-in-Err-Illegal-clause-cause
+returns-in-Err-Illegal-clause-cause g c = c.refuse-in-Err-Illegal.ensures.cause
+
+pub returns-in-Err-OpenEnd-clause-cause : goal.returns-in-Err-OpenEnd-clause-cause
+returns-in-Err-OpenEnd-clause-cause g c = c.refuse-in-Err-OpenEnd.ensures.cause
+
+pub returns-in-Err-Wide-clause-cause : goal.returns-in-Err-Wide-clause-cause
+returns-in-Err-Wide-clause-cause g c = c.refuse-in-Err-Wide.ensures.cause

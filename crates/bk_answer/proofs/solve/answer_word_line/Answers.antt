@@ -56,3 +56,15 @@ pub returns-then-line-gt-LONGEST_LINE-clause-reply : goal.returns-then-line-gt-L
 returns-then-line-gt-LONGEST_LINE-clause-reply g c =
     refusal_replies (AnswersWordLine c.args.line.now) (MayWantForWord c.args.line.now) Long (g.O.Sink.written c.args.out.now)
     (g.O.Sink.written c.refuse.new.out) c.refuse.result (word_too_long c.if-line-gt-LONGEST_LINE.true) c.refuse.ensures.outcome c.refuse.ensures.failed
+
+pub returns-then-line-gt-LONGEST_LINE-clause-cause : goal.returns-then-line-gt-LONGEST_LINE-clause-cause
+returns-then-line-gt-LONGEST_LINE-clause-cause g c = c.refuse.ensures.cause
+
+pub returns-in-Ok-clause-cause : goal.returns-in-Ok-clause-cause
+returns-in-Ok-clause-cause g c = c.answer_word.ensures.cause
+
+pub returns-in-Err-Text-clause-cause : goal.returns-in-Err-Text-clause-cause
+returns-in-Err-Text-clause-cause g c = c.refuse-in-Err-Text.ensures.cause
+
+pub returns-in-Err-Many-clause-cause : goal.returns-in-Err-Many-clause-cause
+returns-in-Err-Many-clause-cause g c = c.refuse-in-Err-Many.ensures.cause

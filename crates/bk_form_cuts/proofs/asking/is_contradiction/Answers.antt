@@ -20,3 +20,16 @@ returns-in-Added c = record {
   all = λ told. absurd (no_contradiction (addition c.args.ledger.now c.args.left.now c.args.right.now) c.add_equation.result c.add_equation.ensures.answer
       c.in-Added.is told);
 }
+
+pub returns-in-Contradiction-clause-meets : goal.returns-in-Contradiction-clause-meets
+returns-in-Contradiction-clause-meets c sides meets same = absurd (c.add_equation.ensures.contradiction c.in-Contradiction.is sides meets same)
+
+pub returns-in-Contradiction-clause-first : goal.returns-in-Contradiction-clause-first
+returns-in-Contradiction-clause-first c = keeps_after c.args.ledger.now c.add_equation.new.self
+    (addition c.args.ledger.now c.args.left.now c.args.right.now) c.add_equation.ensures.kept
+
+pub returns-in-Contradiction-clause-kept : goal.returns-in-Contradiction-clause-kept
+returns-in-Contradiction-clause-kept c = c.add_equation.ensures.kept
+
+pub returns-in-Contradiction-clause-all : goal.returns-in-Contradiction-clause-all
+returns-in-Contradiction-clause-all c = λ _. refl

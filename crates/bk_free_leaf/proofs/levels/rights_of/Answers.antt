@@ -1,6 +1,6 @@
 use Rattle.std.specs.Int.{w64}
 use Rattle.std.specs.Prelude.{pos, ℤ, ◌+ℤ◌}
-use Rattle.std.proofs.Common.{List, ap, arith, of_z, slice_index_or, subst, sym, to_z, ◌+◌, ◌*◌, ◌^◌, ◌∙◌, ◌≡◌}
+use Rattle.std.proofs.Common.{List, ap, arith, lit<, of_z, slice_index_or, subst, sym, to_z, ◌+◌, ◌*◌, ◌^◌, ◌∙◌, ◌≡◌}
 use Rattle.std.proofs.lemmas.Int.{ints, to_z-of_z}
 use Rattle.bk_free_leaf.specs.Candidate.{line_place}
 use Rattle.bk_free_leaf.proofs.LevelSteps.{AreEdges, edges_more, fits_small, place_small, small_more}
@@ -45,3 +45,13 @@ loop-i-preserved c =
     (edges_more c.args.lefts.now c.args.currents.now c.loop-i.rights.items total c.loop-i.i right c.loop-i.invariant c.loop-i-test.true
     c.requires.many c.requires.known c.requires.small held
     (sum ∙ ap (λ (z : ℤ). z +ℤ slice_index_or c.args.currents.now c.loop-i.i (pos 0)) is))
+
+pub push-requires : goal.push-requires
+push-requires c = (lit< tt, omega (arith, c.loop-i.invariant.many, c.loop-i-test.true, c.requires.few))
+
+pub returns-clause-many : goal.returns-clause-many
+returns-clause-many c = omega (arith, c.loop-i.invariant.many, c.loop-i-test.false, c.loop-i.auto.i-end)
+
+pub returns-clause-small : goal.returns-clause-small
+returns-clause-small c = λ k h. small_more ((c.loop-i.i + 1) * 2 ^ 34) (17 * 2 ^ 34) (slice_index_or c.loop-i.rights.items k (pos 0))
+    (c.loop-i.invariant.small k (omega (arith, h, c.loop-i.invariant.many))) (omega (arith, c.loop-i.auto.i-end, c.requires.few))

@@ -1,6 +1,6 @@
 use Rattle.std.specs.Int.{w64}
 use Rattle.std.specs.Prelude.{nat_abs, pos, ℤ}
-use Rattle.std.proofs.Common.{List, ap, arith, length, of_z, refl, slice_index_or, subst, sym, to_z, ℕ, ◌*◌, ◌-◌, ◌^◌, ◌∙◌, ◌≡◌}
+use Rattle.std.proofs.Common.{List, ap, arith, length, lit<, of_z, refl, slice_index_or, subst, sym, to_z, ℕ, ◌*◌, ◌-◌, ◌^◌, ◌∙◌, ◌≡◌}
 use Rattle.bk_net.specs.Flow.{IsPrimitiveFlow}
 use Rattle.bk_net.specs.Net.{Net}
 use Rattle.bk_free_leaf.specs.declared.placing.Placed.{Placed}
@@ -259,3 +259,52 @@ longest_in_corners-longest-requires-clause-small_currents c = shown_small c.args
 pub longest_in_corners-longest-requires-clause-small_rights : goal.longest_in_corners-longest-requires-clause-small_rights
 longest_in_corners-longest-requires-clause-small_rights c =
     subst (λ (rs : List ℤ). AreSmall (17 * 2 ^ 34) rs) (sym c.deref.ensures.0) c.rights_of-rights.ensures.small
+
+pub net-net-requires : goal.net-net-requires
+net-net-requires c = c.requires.complete
+
+pub levels_of-levels-requires-clause-many : goal.levels_of-levels-requires-clause-many
+levels_of-levels-requires-clause-many c = omega (
+  arith,
+  shown_many c.args.skel.now c.requires.complete c.requires.few c.net-net.result c.net-net.ensures
+      c.total-total.result c.currents-currents.result.now
+      (flow_shown c.net-net.result c.narrow_flow-flow.result c.total-total.result c.currents-currents.result.now c.total-total.ensures.value
+      c.currents-currents.ensures.value c.narrow_flow-flow.ensures.flow) c.currents-currents.result.now refl,
+  ap length c.wires-wires.ensures.value,
+  wires_many c.args.skel.now c.requires.complete c.requires.few c.net-net.result c.net-net.ensures,
+)
+
+pub levels_of-levels-requires-clause-few : goal.levels_of-levels-requires-clause-few
+levels_of-levels-requires-clause-few c = omega (
+  arith,
+  ap length c.wires-wires.ensures.value,
+  wires_many c.args.skel.now c.requires.complete c.requires.few c.net-net.result c.net-net.ensures,
+  c.requires.few,
+)
+
+pub deref-requires : goal.deref-requires
+deref-requires c = lit< tt
+
+pub deref-requires-2 : goal.deref-requires-2
+deref-requires-2 c = lit< tt
+
+pub squares_at-squares-requires-clause-few : goal.squares_at-squares-requires-clause-few
+squares_at-squares-requires-clause-few c = omega (
+  arith,
+  lefts_many c.args.skel.now c.requires.complete c.requires.few c.net-net.result c.net-net.ensures c.args.lefts.now c.requires.lefts,
+  c.requires.few,
+)
+
+pub squares_at-squares-requires-clause-rights : goal.squares_at-squares-requires-clause-rights
+squares_at-squares-requires-clause-rights c = omega (
+  arith,
+  ap length c.deref-2.ensures.0,
+  c.rights_of-rights.ensures.many,
+)
+
+pub squares_at-squares-requires-clause-small_rights : goal.squares_at-squares-requires-clause-small_rights
+squares_at-squares-requires-clause-small_rights c =
+    subst (λ (rs : List ℤ). AreSmall (17 * 2 ^ 34) rs) (sym c.deref-2.ensures.0) c.rights_of-rights.ensures.small
+
+pub squares_at-squares-requires-clause-small_levels : goal.squares_at-squares-requires-clause-small_levels
+squares_at-squares-requires-clause-small_levels c = c.levels_of-levels.ensures.small

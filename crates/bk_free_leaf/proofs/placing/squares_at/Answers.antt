@@ -1,6 +1,6 @@
 use Rattle.std.specs.Int.{w64}
 use Rattle.std.specs.Prelude.{pos}
-use Rattle.std.proofs.Common.{List, ap, arith, of_z, rules, slice_index_or, subst, sym, to_z, ℕ, ◌+◌, ◌*◌, ◌^◌, ◌∙◌, ◌≡◌}
+use Rattle.std.proofs.Common.{List, ap, arith, lit<, of_z, rules, slice_index_or, subst, sym, to_z, ℕ, ◌+◌, ◌*◌, ◌^◌, ◌∙◌, ◌≡◌}
 use Rattle.std.proofs.lemmas.Int.{to_z-of_z}
 use Rattle.bk_tiling.specs.declared.Square.{Square}
 use Rattle.bk_free_leaf.specs.Candidate.{placed_square}
@@ -51,3 +51,9 @@ loop-k-preserved c =
     (placed_more c.args.lefts.now c.args.wires.now c.args.currents.now c.args.levels.now c.args.rights.now
     (to_z w64 (of_z w64 c.args.total)) c.loop-k.squares.items c.loop-k.k c.square_between.result c.loop-k.invariant
     (c.square_between.ensures ∙ (λ i. placed_square (left i) (right i) (above i) (below i) (current i))))
+
+pub push-requires : goal.push-requires
+push-requires c = (lit< tt, omega (arith, c.loop-k.invariant.many, c.loop-k-test.true, c.requires.few))
+
+pub returns-clause-many : goal.returns-clause-many
+returns-clause-many c = omega (arith, c.loop-k.invariant.many, c.loop-k-test.false, c.loop-k.auto.k-end)

@@ -1,5 +1,6 @@
-use Rattle.std.proofs.Common.{subst, sym, ◌∙◌}
+use Rattle.std.proofs.Common.{subst, sym, ℕ, ◌∙◌}
 use Rattle.std.proofs.lemmas.Result.{err_from_is_err_and}
+use Rattle.bk_ports.specs.Causes.{HasCause}
 use Rattle.bk_group_run.specs.Closing.{closing_lines}
 use Rattle.bk_group_run.specs.Writing.{WritesLines}
 use Rattle.bk_group_run.specs.declared.Wanted.{Wanted}
@@ -41,3 +42,23 @@ returns-in_ok-pairs-in-Pairs-clause-lines g c =
     c.write_all-in-Pairs.result c.items-items.ensures c.in_ok-pairs-in-Pairs.ensures.lines c.in_ok-pairs-in-Pairs.ensures.count c.len.ensures.value
     c.refused-refused.ensures
     (c.as_slice-in-Pairs.ensures.value ∙ c.write_pairs.ensures) c.write_all-in-Pairs.ensures.ok c.write_all-in-Pairs.ensures.err)
+
+pub returns-in_err-write_groups-in-Groups-clause-cause : goal.returns-in_err-write_groups-in-Groups-clause-cause
+returns-in_err-write_groups-in-Groups-clause-cause g c =
+    let p = err_from_is_err_and c.from_residual.result c.from_residual.ensures.1 in
+    rw p.1 (record { later = c.in_err-write_groups-in-Groups.ensures.cause.later; ok = tt; failed = c.in_err-write_groups-in-Groups.ensures.cause.failed })
+
+pub returns-in_err-pairs-in-Pairs-clause-cause : goal.returns-in_err-pairs-in-Pairs-clause-cause
+returns-in_err-pairs-in-Pairs-clause-cause g c =
+    let p = err_from_is_err_and c.from_residual-in_err-pairs-in-Pairs.result c.from_residual-in_err-pairs-in-Pairs.ensures.1 in
+    rw p.1 (record { later = c.in_err-pairs-in-Pairs.ensures.cause.later; ok = tt; failed = c.in_err-pairs-in-Pairs.ensures.cause.failed })
+
+pub returns-in_ok-write_groups-in-Groups-clause-cause : goal.returns-in_ok-write_groups-in-Groups-clause-cause
+returns-in_ok-write_groups-in-Groups-clause-cause g c =
+    subst (λ (k : ℕ). HasCause k (g.O.Sink.faults c.write_all.new.self) c.write_all.result) c.in_ok-write_groups-in-Groups.ensures.cause.ok
+    c.write_all.ensures.cause
+
+pub returns-in_ok-pairs-in-Pairs-clause-cause : goal.returns-in_ok-pairs-in-Pairs-clause-cause
+returns-in_ok-pairs-in-Pairs-clause-cause g c =
+    subst (λ (k : ℕ). HasCause k (g.O.Sink.faults c.write_all-in-Pairs.new.self) c.write_all-in-Pairs.result) c.in_ok-pairs-in-Pairs.ensures.cause.ok
+    c.write_all-in-Pairs.ensures.cause

@@ -1,12 +1,13 @@
 use Rattle.std.specs.List.{concat, flat_map}
-use Rattle.std.proofs.Common.{List, length, subst, sym, ℕ, ◌∙◌}
+use Rattle.std.proofs.Common.{List, arith, length, subst, sym, ℕ, ◌∙◌}
 use Rattle.std.proofs.lemmas.Result.{err_from_is_err_and}
-use Rattle.bk_ports.specs.Causes.{AppendsPrefix}
+use Rattle.bk_ports.specs.Causes.{AppendsPrefix, HasCause}
 use Rattle.bk_report.specs.ListLines.{group_line}
+use Rattle.bk_alike.specs.Alike.{sizes}
 use Rattle.bk_group_run.specs.Closing.{group_lines, member_at}
 use Rattle.bk_group_run.specs.Writing.{WritesLines}
 use Rattle.bk_group_run.proofs.ListLoops.{ends_broken, first_broken, first_then}
-use Rattle.bk_group_run.proofs.GroupMembers.{lines_of_group, places_below}
+use Rattle.bk_group_run.proofs.GroupMembers.{length-groups, lines_of_group, places_below}
 use Rattle.bk_group_run.proofs.closing.write_one_group.Goals as goal
 
 pub returns-in_err-write_all-clause-lines : goal.returns-in_err-write_all-clause-lines
@@ -34,3 +35,19 @@ returns-clause-lines g c a e =
     (first_then (group_line b.0 b.1 (length members)) c.as_slice.result.now (flat_map (member_at c.args.items.now) members)
     (g.O.Sink.written c.args.out.now) (g.O.Sink.written c.write_all.new.self) (g.O.Sink.written c.write_members.new.out) c.write_members.result
     (c.as_slice.ensures.value ∙ c.write_group.ensures) c.in_ok-write_all.ensures.ok c.write_members.ensures.lines)
+
+pub size-width-requires : goal.size-width-requires
+size-width-requires g c = omega (arith, c.requires, length-groups c.args.items.now (sizes c.args.items.now))
+
+pub members-members-requires : goal.members-members-requires
+members-members-requires g c = omega (arith, c.requires, length-groups c.args.items.now (sizes c.args.items.now))
+
+pub returns-in_err-write_all-clause-cause : goal.returns-in_err-write_all-clause-cause
+returns-in_err-write_all-clause-cause g c =
+    let p = err_from_is_err_and c.from_residual.result c.from_residual.ensures.1 in
+    rw p.1 (record { later = c.in_err-write_all.ensures.cause.later; ok = tt; failed = c.in_err-write_all.ensures.cause.failed })
+
+pub returns-clause-cause : goal.returns-clause-cause
+returns-clause-cause g c =
+    subst (λ (k : ℕ). HasCause k (g.O.Sink.faults c.write_members.new.out) c.write_members.result) c.in_ok-write_all.ensures.cause.ok
+    c.write_members.ensures.cause

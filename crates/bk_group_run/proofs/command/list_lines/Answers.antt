@@ -1,8 +1,11 @@
-use Rattle.std.proofs.Common.{inl, subst}
+use Rattle.std.proofs.Common.{inl, inr, subst, sym, ◌≡◌, ◌⊎◌}
 use Rattle.bk_lines.specs.Ending.{EndsWith}
 use Rattle.bk_lines.specs.Entering.{entries_of}
+use Rattle.bk_lines.proofs.OtherOutputs.{IsStop}
+use Rattle.bk_lines.specs.declared.Ended.{Ended}
+use Rattle.bk_lines.specs.declared.Ended.TheVariants.{NoMemory, ReadFailed, TooMany, WriteFailed}
 use Rattle.bk_group_run.specs.Listed.{Listed, listing_rules}
-use Rattle.bk_group_run.proofs.ClosedLists.{badly_told, closes_broken, closes_well, has_verdict, streams_of, verdict_told, well_told}
+use Rattle.bk_group_run.proofs.ClosedLists.{badly_told, closes_broken, closes_well, has_verdict, stops_listing, streams_of, verdict_told, well_told}
 use Rattle.bk_group_run.proofs.command.list_lines.Goals as goal
 
 pub returns-in-Ok-clause-ending : goal.returns-in-Ok-clause-ending
@@ -43,3 +46,24 @@ returns-in-NoneRefused-clause-faults g c =
 
 pub returns-in-NoneRefused-clause-complete : goal.returns-in-NoneRefused-clause-complete
 returns-in-NoneRefused-clause-complete g c calm = absurd (calm.no_fault.writes (returns-in-NoneRefused-clause-faults g c).1)
+
+-- it stopped at its lines
+stop_told : (ended : Ended) → (ended ≡ ReadFailed) ⊎ (ended ≡ WriteFailed) ⊎ (ended ≡ NoMemory) ⊎ (ended ≡ TooMany) → IsStop ended
+stop_told ended (inl e) = subst IsStop (sym e) tt
+stop_told ended (inr (inl e)) = subst IsStop (sym e) tt
+stop_told ended (inr (inr (inl e))) = subst IsStop (sym e) tt
+stop_told ended (inr (inr (inr e))) = subst IsStop (sym e) tt
+
+pub returns : goal.returns
+returns g c = record {
+  ending =
+      stops_listing c.args.wanted c.enter_lines-ended.new.register
+      (streams_of (g.S.Source.left c.args.source.now) (g.S.Source.left c.enter_lines-ended.new.source) (g.O.Sink.written c.args.out.now)
+      (g.O.Sink.written c.enter_lines-ended.new.out)) c.enter_lines-ended.result (stop_told c.enter_lines-ended.result c.in-ReadFailed.is)
+      (subst (λ (s : Listed). EndsWith (entries_of listing_rules s c.enter_lines-ended.new.register)
+      (streams_of (g.S.Source.left c.args.source.now) (g.S.Source.left c.enter_lines-ended.new.source) (g.O.Sink.written c.args.out.now)
+      (g.O.Sink.written c.enter_lines-ended.new.out)) c.enter_lines-ended.result)
+      c.new-list.ensures c.enter_lines-ended.ensures.ending);
+  complete = c.enter_lines-ended.ensures.complete;
+  faults = c.enter_lines-ended.ensures.faults;
+}

@@ -1,13 +1,16 @@
 use Rattle.std.specs.Prelude.{drop}
-use Rattle.std.proofs.Common.{List, ap, arith, get_or, length, refl, ℕ, ◌+◌, ◌∙◌}
+use Rattle.std.proofs.Common.{List, ap, arith, get_or, le_of_eq, length, refl, sym, ℕ, ◌+◌, ◌∙◌}
 use Rattle.std.proofs.lemmas.Option.{slice_get-get_or}
 use Rattle.std.proofs.lemmas.Result.{err_from_is_err_and}
+use Rattle.std.proofs.lemmas.List.{at_drop_all}
+use Rattle.std.specs.List.{flat_map}
+use Rattle.bk_answer.proofs.PieceByPiece.{failed_later}
 use Rattle.bk_group_run.specs.LaterLines.{later_lines}
 use Rattle.bk_group_run.specs.Pairs.{pairs_with}
 use Rattle.bk_group_run.proofs.GroupMembers.{place_below}
 use Rattle.bk_group_run.proofs.LaterPairs.{pairs_looked_up}
 use Rattle.bk_group_run.proofs.ListLoops.{count_next, ends_broken, loop_broken, loop_more}
-use Rattle.bk_group_run.proofs.WrittenLines.{written_from}
+use Rattle.bk_group_run.proofs.WrittenLines.{written_all, written_from}
 use Rattle.bk_group_run.proofs.pairs.write_pairs_with.Goals as goal
 
 pub loop-place-init : goal.loop-place-init
@@ -56,3 +59,37 @@ loop-place-preserved g c =
       few = omega (arith, c.loop-place.invariant.few, c.in_ok-more.ensures.few);
       same = c.in_ok-more.ensures.cause.ok ∙ c.loop-place.invariant.same;
     }
+
+pub item-line-requires : goal.item-line-requires
+item-line-requires g c = c.requires
+
+pub write_if_pair-requires-clause-first : goal.write_if_pair-requires-clause-first
+write_if_pair-requires-clause-first g c = c.requires
+
+pub returns-in_err-more-clause-count : goal.returns-in_err-more-clause-count
+returns-in_err-more-clause-count g c =
+    let p = err_from_is_err_and c.from_residual.result c.from_residual.ensures.1 in
+    rw p.1 tt
+
+pub returns-in_err-more-clause-cause : goal.returns-in_err-more-clause-cause
+returns-in_err-more-clause-cause g c =
+    let p = err_from_is_err_and c.from_residual.result c.from_residual.ensures.1 in
+    rw p.1
+    (failed_later (g.O.Sink.faults c.args.out.now) (g.O.Sink.faults c.loop-place.out) (g.O.Sink.faults c.write_if_pair.new.out) _ _
+    c.loop-place.invariant.same c.in_err-more.ensures.cause)
+
+pub returns-clause-lines : goal.returns-clause-lines
+returns-clause-lines g c a e =
+    let lines : ℕ → List (List ℕ) = later_lines c.args.kind c.args.items.now c.args.i a in
+    written_all (pairs_with c.args.kind a (drop (c.args.i + 1) c.args.items.now))
+    (flat_map lines (drop c.loop-place.place-index c.of_size-places.result.now)) _ _ (c.loop-place.invariant.written a e)
+    (at_drop_all (flat_map lines) c.of_size-places.result.now c.loop-place.place-index c.loop-place-test.false)
+
+pub returns-clause-count : goal.returns-clause-count
+returns-clause-count g c a e =
+    let lines : ℕ → List (List ℕ) = later_lines c.args.kind c.args.items.now c.args.i a in
+    let none = at_drop_all (λ l. length (flat_map lines l)) c.of_size-places.result.now c.loop-place.place-index c.loop-place-test.false in
+    omega (arith, c.loop-place.invariant.count a e, none)
+
+pub returns-clause-cause : goal.returns-clause-cause
+returns-clause-cause g c = record { later = le_of_eq (sym c.loop-place.invariant.same); ok = c.loop-place.invariant.same; failed = tt }

@@ -1,5 +1,6 @@
-use Rattle.std.proofs.Common.{Option, ap, false, true, ◌++◌, ◌∙◌, ◌≡◌}
+use Rattle.std.proofs.Common.{Option, [], ap, arith, false, length, suc, true, zero, ℕ, ◌++◌, ◌+◌, ◌<◌, ◌∙◌, ◌∷◌, ◌≡◌}
 use Rattle.std.specs.Prelude.{option_to_list}
+use Rattle.std.proofs.lemmas.List.{length-append}
 use Rattle.bk_lay.proofs.MeetingRuns.{first_from_right, last_from_left}
 use Rattle.bk_lay.specs.declared.outline.Run.{Run}
 use Rattle.bk_lay.proofs.outline.take_last.Goals as goal
@@ -16,3 +17,23 @@ returns-in-None-clause-beside c width laid m =
     first_from_right width laid c.args.left.now.items c.pop.new.self.items c.pop-in-None.new.self.items c.args.right.now.items c.unwrap.result
     (ap (λ v. v.items) c.in-None.ensures.empty) (λ h. no (c.in-None.ensures.variant.1 h))
     (c.pop-in-None.ensures.items ∙ ap (λ (o : Option Run). c.pop-in-None.new.self.items ++ option_to_list o) c.unwrap.ensures) m
+
+-- what is left where there is none at the left
+right_left : (n m : ℕ) → (0 < n → ⊥) → 0 < n + m → 0 < m
+right_left zero m none some = omega arith
+right_left (suc n) m none some = absurd (none (omega arith))
+
+pub unwrap-requires : goal.unwrap-requires
+unwrap-requires c = c.pop-in-None.ensures.variant.1
+    (right_left (length c.args.left.now.items) (length c.args.right.now.items) (λ h. no (c.in-None.ensures.variant.1 h)) c.requires)
+
+pub returns-in-Some-clause-fewer : goal.returns-in-Some-clause-fewer
+returns-in-Some-clause-fewer c = omega (arith, c.in-Some.ensures.len)
+
+pub returns-in-None-clause-fewer : goal.returns-in-None-clause-fewer
+returns-in-None-clause-fewer c = omega (
+  arith,
+  ap (λ v. length v.items) c.in-None.ensures.empty,
+  ap length (c.pop-in-None.ensures.items ∙ ap (λ (o : Option Run). c.pop-in-None.new.self.items ++ option_to_list o) c.unwrap.ensures),
+  length-append c.pop-in-None.new.self.items (c.unwrap.result ∷ []),
+)

@@ -60,3 +60,18 @@ returns-clause-front g c =
     c.args.kept.now.number c.args.kept.now.front.items c.args.block.now c.lines.register c.lines.kept.front.items
     c.lines.rest.now c.lines.kept.number _ _ c.lines.refused c.lines.invariant.read
     (no_feed c.lines.rest.now c.in_default.ensures)))
+
+pub close_line-requires-clause-ready : goal.close_line-requires-clause-ready
+close_line-requires-clause-ready g c = c.lines.invariant.is_ready
+
+pub close_line-requires-clause-early : goal.close_line-requires-clause-early
+close_line-requires-clause-early g c = omega (arith, c.lines.invariant.shorter)
+
+pub returns-clause-count : goal.returns-clause-count
+returns-clause-count g c = c.lines.invariant.same_faults
+
+pub returns-clause-ready : goal.returns-clause-ready
+returns-clause-ready g c = c.lines.invariant.is_ready
+
+pub returns-clause-early : goal.returns-clause-early
+returns-clause-early g c = omega (arith, c.lines.invariant.shorter)

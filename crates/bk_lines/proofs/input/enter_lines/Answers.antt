@@ -1,7 +1,32 @@
-use Rattle.std.proofs.Common.{◌∙◌, ◌||◌, take, arith}
+use Rattle.std.proofs.Common.{Bool, Err, arith, false, inl, subst, sym, take, true, ℕ, ◌||◌, ◌∙◌, ◌≡◌}
 use Rattle.std.proofs.lemmas.List.{length-take-le}
-use Rattle.bk_lines.proofs.Taking.{taken_more, ends_more, ends_all, ends_block, ends_last, ends_verdict, read_nothing}
+use Rattle.bk_lines.specs.Answered.{CountFits}
+use Rattle.bk_lines.specs.Ending.{ended_of, verdict_of}
+use Rattle.bk_lines.specs.Faults.{CountsTell, Faults}
+use Rattle.bk_lines.specs.declared.Ended.{Ended}
+use Rattle.bk_lines.specs.declared.line.Stop.{Stop}
+use Rattle.bk_lines.specs.declared.line.Stop.TheVariants.{NoMemory, WriteFailed}
+use Rattle.bk_lines.proofs.CountedFaults.{calm_is_done}
+use Rattle.bk_lines.proofs.Taking.{ends_all, ends_block, ends_last, ends_more, ends_verdict, read_nothing, taken_more}
 use Rattle.bk_lines.proofs.input.enter_lines.Goals as goal
+
+-- what the counts tell of a run that stops at a line, and of one that enters all lines
+at_stop : (stop : Stop) (faults : Faults) → faults.read_after ≡ faults.read → CountFits {T = Bool} faults.write faults.write_after (Err stop)
+    → CountsTell (ended_of stop) faults
+at_stop WriteFailed faults same count = (same, count)
+at_stop NoMemory faults same count = (same, count)
+
+stop_tells : (stop : Stop) (ended : Ended) (read read_after write now write_after : ℕ) → ended ≡ ended_of stop → read_after ≡ read → now ≡ write
+    → CountFits {T = Bool} now write_after (Err stop)
+    → CountsTell ended (record { read = read; read_after = read_after; write = write; write_after = write_after })
+stop_tells stop ended read read_after write now write_after is same at count =
+    let faults : Faults = record { read = read; read_after = read_after; write = write; write_after = write_after } in
+    subst (λ (e : Ended). CountsTell e faults) (sym is)
+    (at_stop stop faults same (subst (λ (n : ℕ). CountFits {T = Bool} n write_after (Err stop)) at count))
+
+at_verdict : (refused : Bool) (faults : Faults) → faults.read_after ≡ faults.read → faults.write_after ≡ faults.write → CountsTell (verdict_of refused) faults
+at_verdict true faults read write = (read, write)
+at_verdict false faults read write = (read, write)
 
 pub returns-in-Ok-enter_last-clause-ending : goal.returns-in-Ok-enter_last-clause-ending
 returns-in-Ok-enter_last-clause-ending g c =
@@ -73,3 +98,51 @@ reads-preserved g c = record {
   same_source = c.in-Ok.ensures.cause.ok ∙ c.reads.invariant.same_source;
   same_out = c.in-Ok-enter_block.ensures.count ∙ c.reads.invariant.same_out;
 }
+
+pub returns-in-Ok-enter_last-clause-faults : goal.returns-in-Ok-enter_last-clause-faults
+returns-in-Ok-enter_last-clause-faults g c =
+    let faults : Faults = record {
+      read = g.S.Source.faults c.args.source.now;
+      read_after = g.S.Source.faults c.read_block.new.source;
+      write = g.O.Sink.faults c.args.out.now;
+      write_after = g.O.Sink.faults c.enter_last.new.out;
+    } in
+    subst (λ (e : Ended). CountsTell e faults) (sym c.verdict.ensures)
+    (at_verdict (c.reads.refused || c.in-Ok-enter_last.is_refused) faults (c.in-Ok.ensures.cause.ok ∙ c.reads.invariant.same_source)
+    (c.in-Ok-enter_last.ensures.count ∙ c.reads.invariant.same_out))
+
+pub returns-in-Ok-enter_last-clause-complete : goal.returns-in-Ok-enter_last-clause-complete
+returns-in-Ok-enter_last-clause-complete g c calm = inl (c.reads.refused || c.in-Ok-enter_last.is_refused, c.verdict.ensures)
+
+pub returns-in-Err-clause-faults : goal.returns-in-Err-clause-faults
+returns-in-Err-clause-faults g c =
+    stop_tells c.in-Err.stop c.ended.result (g.S.Source.faults c.args.source.now) (g.S.Source.faults c.read_block.new.source)
+    (g.O.Sink.faults c.args.out.now) (g.O.Sink.faults c.reads.out) (g.O.Sink.faults c.enter_last.new.out)
+    c.ended.ensures (c.in-Ok.ensures.cause.ok ∙ c.reads.invariant.same_source) c.reads.invariant.same_out c.in-Err.ensures.count
+
+pub returns-in-Err-clause-complete : goal.returns-in-Err-clause-complete
+returns-in-Err-clause-complete g c =
+    calm_is_done _ _ _ c.ended.result (returns-in-Err-clause-ending g c) (returns-in-Err-clause-faults g c)
+
+pub returns-then-taken-eq-MOST_BYTES-clause-faults : goal.returns-then-taken-eq-MOST_BYTES-clause-faults
+returns-then-taken-eq-MOST_BYTES-clause-faults g c = (c.in-Ok.ensures.cause.ok ∙ c.reads.invariant.same_source, c.reads.invariant.same_out)
+
+pub returns-in-Err-enter_block-clause-faults : goal.returns-in-Err-enter_block-clause-faults
+returns-in-Err-enter_block-clause-faults g c =
+    stop_tells c.in-Err-enter_block.stop c.ended-in-Err-enter_block.result (g.S.Source.faults c.args.source.now) (g.S.Source.faults c.read_block.new.source)
+    (g.O.Sink.faults c.args.out.now) (g.O.Sink.faults c.reads.out) (g.O.Sink.faults c.enter_block.new.out)
+    c.ended-in-Err-enter_block.ensures (c.in-Ok.ensures.cause.ok ∙ c.reads.invariant.same_source) c.reads.invariant.same_out
+    c.in-Err-enter_block.ensures.count
+
+pub returns-in-Err-enter_block-clause-complete : goal.returns-in-Err-enter_block-clause-complete
+returns-in-Err-enter_block-clause-complete g c =
+    calm_is_done _ _ _ c.ended-in-Err-enter_block.result (returns-in-Err-enter_block-clause-ending g c) (returns-in-Err-enter_block-clause-faults g c)
+
+pub enter_last-requires-clause-ready : goal.enter_last-requires-clause-ready
+enter_last-requires-clause-ready g c = c.reads.invariant.is_ready
+
+pub enter_block-requires-clause-ready : goal.enter_block-requires-clause-ready
+enter_block-requires-clause-ready g c = c.reads.invariant.is_ready
+
+pub read_block-requires : goal.read_block-requires
+read_block-requires g c = c.reads.invariant.within

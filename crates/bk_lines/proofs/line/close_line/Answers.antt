@@ -1,4 +1,4 @@
-use Rattle.std.proofs.Common.{◌≡◌, ◌++◌, ◌∙◌, length, sym, eqb-true}
+use Rattle.std.proofs.Common.{◌≡◌, ◌++◌, ◌∙◌, length, refl, sym, eqb-true}
 use Rattle.bk_lines.proofs.Fronts.{front-alone}
 use Rattle.bk_lines.proofs.OneLine.{line_entered, line_stopped}
 use Rattle.bk_lines.proofs.line.close_line.Goals as goal
@@ -29,3 +29,36 @@ returns-clause-stopped g c =
     line_stopped (record { enters = g.R.Register.enters; may_want = g.R.Register.may_want }) c.args.register.now c.args.kept.now.number
     (c.args.kept.now.front.items ++ c.args.end.now) _ _ _
     (c.deref.ensures.0 ∙ c.keep.ensures) c.enter_line-entered.result c.enter_line-entered.ensures.stopped
+
+pub enter_line-requires-clause-early : goal.enter_line-requires-clause-early
+enter_line-requires-clause-early g c = c.requires.early
+
+pub enter_line-requires-clause-ready : goal.enter_line-requires-clause-ready
+enter_line-requires-clause-ready g c = c.requires.ready
+
+pub enter_line-entered-requires-clause-early : goal.enter_line-entered-requires-clause-early
+enter_line-entered-requires-clause-early g c = c.requires.early
+
+pub enter_line-entered-requires-clause-ready : goal.enter_line-entered-requires-clause-ready
+enter_line-entered-requires-clause-ready g c = c.requires.ready
+
+pub returns-then-is_empty-clause-count : goal.returns-then-is_empty-clause-count
+returns-then-is_empty-clause-count g c = c.enter_line.ensures.count
+
+pub returns-then-is_empty-clause-ready : goal.returns-then-is_empty-clause-ready
+returns-then-is_empty-clause-ready g c = c.enter_line.ensures.ready
+
+pub returns-then-is_empty-clause-next : goal.returns-then-is_empty-clause-next
+returns-then-is_empty-clause-next g c = refl
+
+pub returns-clause-count : goal.returns-clause-count
+returns-clause-count g c = c.enter_line-entered.ensures.count
+
+pub returns-clause-ready : goal.returns-clause-ready
+returns-clause-ready g c = c.enter_line-entered.ensures.ready
+
+pub returns-clause-next : goal.returns-clause-next
+returns-clause-next g c = refl
+
+pub returns-clause-emptied : goal.returns-clause-emptied
+returns-clause-emptied g c = c.clear.ensures

@@ -1,3 +1,5 @@
+use Rattle.std.proofs.lemmas.List.{length-append}
+use Rattle.std.proofs.Common.{ap, arith, length, ℕ}
 use Rattle.std.specs.Prelude.{decimal}
 use Rattle.bk_code.specs.Code.{code_of}
 use Rattle.bk_text.specs.CodeText.{code_text, size_text}
@@ -18,3 +20,28 @@ returns-clause-text c =
     )
     (entry_pieces c.args.out.now.items (decimal (order c.args.tiling.now)) (size_text c.args.tiling.now.width c.args.tiling.now.height)
     (code_text (code_of c.args.tiling.now)) (word_text c.args.word.now))
+
+pub push_number-requires : goal.push_number-requires
+push_number-requires c = omega arith
+
+pub push-requires : goal.push-requires
+push-requires c = omega (arith, length-append {A = ℕ}, ap length c.push_number.ensures.text)
+
+pub push_tiling-requires-clause-code : goal.push_tiling-requires-clause-code
+push_tiling-requires-clause-code c = c.requires.code
+
+pub push_tiling-requires-clause-room : goal.push_tiling-requires-clause-room
+push_tiling-requires-clause-room c = omega (arith, length-append {A = ℕ}, ap length c.push_number.ensures.text)
+
+pub push_bytes-requires : goal.push_bytes-requires
+push_bytes-requires c = omega (arith, length-append {A = ℕ}, ap length c.push_number.ensures.text)
+
+pub write_word-requires-clause-some : goal.write_word-requires-clause-some
+write_word-requires-clause-some c = c.requires.some
+
+pub write_word-requires-clause-room : goal.write_word-requires-clause-room
+write_word-requires-clause-room c = omega (arith, length-append {A = ℕ}, ap length c.push_number.ensures.text, ap length c.push_bytes.ensures)
+
+pub returns-clause-short : goal.returns-clause-short
+returns-clause-short c =
+    omega (arith, length-append {A = ℕ}, ap length c.push_number.ensures.text, ap length c.push_bytes.ensures, ap length c.write_word.ensures.text)

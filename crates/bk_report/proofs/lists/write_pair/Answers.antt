@@ -1,3 +1,5 @@
+use Rattle.std.proofs.lemmas.List.{length-append}
+use Rattle.std.proofs.Common.{ap, arith, length, ℕ}
 use Rattle.std.specs.Prelude.{decimal}
 use Rattle.bk_code.specs.Code.{code_of}
 use Rattle.bk_text.specs.CodeText.{code_text, size_text}
@@ -9,3 +11,24 @@ returns c =
     rw (c.push-2.ensures.items, c.push_tiling.ensures.text, c.push.ensures.items, c.push_named.ensures.text, c.push_number.ensures.text, c.clear.ensures)
     (pair_pieces (decimal c.args.first) (decimal c.args.second) (size_text c.args.tiling.now.width c.args.tiling.now.height)
     (code_text (code_of c.args.tiling.now)))
+
+pub clear-requires : goal.clear-requires
+clear-requires c = omega arith
+
+pub push_number-requires : goal.push_number-requires
+push_number-requires c = omega (arith, ap length c.clear.ensures)
+
+pub push_named-requires-clause-name : goal.push_named-requires-clause-name
+push_named-requires-clause-name c = omega arith
+
+pub push_named-requires-clause-room : goal.push_named-requires-clause-room
+push_named-requires-clause-room c = omega (arith, length-append {A = ℕ}, ap length c.clear.ensures, ap length c.push_number.ensures.text)
+
+pub push-requires : goal.push-requires
+push-requires c = omega (arith, length-append {A = ℕ}, ap length c.clear.ensures, ap length c.push_number.ensures.text)
+
+pub push_tiling-requires-clause-room : goal.push_tiling-requires-clause-room
+push_tiling-requires-clause-room c = omega (arith, length-append {A = ℕ}, ap length c.clear.ensures, ap length c.push_number.ensures.text)
+
+pub push-requires-2 : goal.push-requires-2
+push-requires-2 c = omega (arith, length-append {A = ℕ}, ap length c.clear.ensures, ap length c.push_number.ensures.text)

@@ -1,3 +1,4 @@
+use Rattle.std.proofs.Common.{ap, arith, length}
 use Rattle.std.specs.Prelude.{decimal}
 use Rattle.bk_report.proofs.Spaces.{trial_pieces}
 use Rattle.bk_report.proofs.trial.write_trial.Goals as goal
@@ -16,3 +17,45 @@ returns c =
       c.clear.ensures,
     )
     (trial_pieces (decimal c.args.seed) (decimal c.args.count) (decimal c.args.ok) (decimal c.args.perfect) (decimal c.args.simple) (decimal c.args.squares))
+
+pub clear-requires : goal.clear-requires
+clear-requires c = omega arith
+
+pub push_named-requires-clause-name : goal.push_named-requires-clause-name
+push_named-requires-clause-name c = omega arith
+
+pub push_named-requires-clause-room : goal.push_named-requires-clause-room
+push_named-requires-clause-room c = omega (arith, ap length c.clear.ensures)
+
+pub push_named-requires-2-clause-name : goal.push_named-requires-2-clause-name
+push_named-requires-2-clause-name c = omega arith
+
+pub push_named-requires-2-clause-room : goal.push_named-requires-2-clause-room
+push_named-requires-2-clause-room c = omega (arith, ap length c.clear.ensures)
+
+pub push_named-requires-3-clause-name : goal.push_named-requires-3-clause-name
+push_named-requires-3-clause-name c = omega arith
+
+pub push_named-requires-3-clause-room : goal.push_named-requires-3-clause-room
+push_named-requires-3-clause-room c = omega (arith, ap length c.clear.ensures)
+
+pub push_named-requires-4-clause-name : goal.push_named-requires-4-clause-name
+push_named-requires-4-clause-name c = omega arith
+
+pub push_named-requires-4-clause-room : goal.push_named-requires-4-clause-room
+push_named-requires-4-clause-room c = omega (arith, ap length c.clear.ensures)
+
+pub push_named-requires-5-clause-name : goal.push_named-requires-5-clause-name
+push_named-requires-5-clause-name c = omega arith
+
+pub push_named-requires-5-clause-room : goal.push_named-requires-5-clause-room
+push_named-requires-5-clause-room c = omega (arith, ap length c.clear.ensures)
+
+pub push_named-requires-6-clause-name : goal.push_named-requires-6-clause-name
+push_named-requires-6-clause-name c = omega arith
+
+pub push_named-requires-6-clause-room : goal.push_named-requires-6-clause-room
+push_named-requires-6-clause-room c = omega (arith, ap length c.clear.ensures)
+
+pub push-requires : goal.push-requires
+push-requires c = omega (arith, ap length c.clear.ensures)

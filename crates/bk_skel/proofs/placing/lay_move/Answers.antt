@@ -1,5 +1,5 @@
 use Rattle.std.proofs.Common.{ap, arith, length, refl, sym, ℕ, ◌++◌, ◌+◌, ◌-◌, ◌∙◌, ◌≤◌}
-use Rattle.std.proofs.lemmas.Bool.{both_ways}
+use Rattle.std.proofs.lemmas.Bool.{both_ways, false≢true}
 use Rattle.bk_tiling.specs.SquareGroups.{laid_group}
 use Rattle.bk_tiling.specs.declared.Segment.{Segment}
 use Rattle.bk_lay.specs.TilingWord.{signs_between}
@@ -97,3 +97,30 @@ pub returns-clause-numbers : goal.returns-clause-numbers
 returns-clause-numbers c e = numbers_as c.args.numbers.now.items c.splice_numbers.new.list.items c.splice_numbers.new.list.items
     c.args.laid.now.items c.args.first c.args.end (c.len.result + 1) (length c.args.new.now) (ap (λ (n : ℕ). n + 1) c.len.ensures.value)
     c.splice_numbers.ensures refl
+
+pub sum_of-requires-clause-few : goal.sum_of-requires-clause-few
+sum_of-requires-clause-few c = omega (arith, (lays_move c.requires).room)
+
+pub sum_of-requires-clause-sides : goal.sum_of-requires-clause-sides
+sum_of-requires-clause-sides c = (c.requires.1).sides
+
+pub returns-then-sum_of-gap-clause-turn : goal.returns-then-sum_of-gap-clause-turn
+returns-then-sum_of-gap-clause-turn c e = absurd (false≢true e)
+
+pub returns-then-sum_of-gap-clause-numbers : goal.returns-then-sum_of-gap-clause-numbers
+returns-then-sum_of-gap-clause-numbers c e = absurd (false≢true e)
+
+pub overflow_add-number : goal.overflow_add-number
+overflow_add-number c = omega (arith, (c.requires.1).room, c.len.ensures.value)
+
+pub overflow_cast-number : goal.overflow_cast-number
+overflow_cast-number c = omega (arith, (c.requires.1).room, c.len.ensures.value)
+
+pub push_group-requires-clause-room : goal.push_group-requires-clause-room
+push_group-requires-clause-room c = (c.requires.1).room
+
+pub overflow_cast-new : goal.overflow_cast-new
+overflow_cast-new c = omega (arith, (c.requires.1).room)
+
+pub slice_bounds-gap_under-start : goal.slice_bounds-gap_under-start
+slice_bounds-gap_under-start c = (lays_move c.requires).order

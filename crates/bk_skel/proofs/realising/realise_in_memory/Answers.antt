@@ -1,5 +1,7 @@
-use Rattle.std.proofs.Common.{refl}
+use Rattle.std.proofs.Common.{refl, subst}
 use Rattle.bk_skel.proofs.RealisedWord.{large_word, loose_fault, memory_fault, not_wide, wide_fault}
+use Rattle.bk_net.specs.Net.{Net}
+use Rattle.bk_net.specs.Flow.{IsPrimitiveFlow}
 use Rattle.bk_skel.proofs.realising.realise_in_memory.Goals as goal
 
 pub returns-in-Err-NoMemory-clause-refused : goal.returns-in-Err-NoMemory-clause-refused
@@ -20,3 +22,16 @@ returns-in-Ok-realised-clause-narrow c = not_wide c.args.skel.now c.args.skel.no
 
 pub returns-in-Err-clause-refused : goal.returns-in-Err-clause-refused
 returns-in-Err-clause-refused c = large_word c.args.skel.now c.args.skel.now refl c.requires.closed (c.in-Err.ensures.wide.0 refl)
+
+pub net-requires : goal.net-requires
+net-requires c = c.requires.closed
+
+pub realised-requires-clause-closed : goal.realised-requires-clause-closed
+realised-requires-clause-closed c = c.requires.closed
+
+pub realised-requires-clause-flow : goal.realised-requires-clause-flow
+realised-requires-clause-flow c =
+    subst (λ (n : Net). IsPrimitiveFlow n c.in-Ok.flow.total c.in-Ok.flow.currents) c.net.ensures c.in-Ok.ensures.flow
+
+pub returns-in-Ok-realised-clause-realised : goal.returns-in-Ok-realised-clause-realised
+returns-in-Ok-realised-clause-realised c = c.in-Ok-realised.ensures.realised

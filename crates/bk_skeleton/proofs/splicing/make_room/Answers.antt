@@ -1,5 +1,5 @@
 use Rattle.std.proofs.lemmas.Grind.{common_steps}
-use Rattle.std.proofs.Common.{arith}
+use Rattle.std.proofs.Common.{ap, arith, drop, length, refl}
 use Rattle.bk_skeleton.proofs.Rooms.{room_made}
 use Rattle.bk_skeleton.proofs.splicing.make_room.Goals as goal
 
@@ -16,3 +16,30 @@ returns-clause-long g c = grind (arith, common_steps)
 
 pub returns-clause-front : goal.returns-clause-front
 returns-clause-front g c = grind (arith, common_steps)
+
+pub overflow_sub-size : goal.overflow_sub-size
+overflow_sub-size g c = c.requires.order
+
+pub returns-then-room-size-clause-long : goal.returns-then-room-size-clause-long
+returns-then-room-size-clause-long g c = omega (arith, c.if-room-size.true, c.requires.order, c.requires.within)
+
+pub returns-then-room-size-clause-front : goal.returns-then-room-size-clause-front
+returns-then-room-size-clause-front g c = refl
+
+pub returns-then-room-size-clause-back : goal.returns-then-room-size-clause-back
+returns-then-room-size-clause-back g c = ap (λ n. drop n c.args.list.now.items) (omega (arith, c.if-room-size.true, c.requires.order))
+
+pub overflow_add-start : goal.overflow_add-start
+overflow_add-start g c = omega (arith, c.requires.fits, c.requires.order, c.requires.within, g.N.fits)
+
+pub copy_within-requires-clause-start_le_end : goal.copy_within-requires-clause-start_le_end
+copy_within-requires-clause-start_le_end g c = omega (arith, c.len-len.ensures.value, c.requires.within)
+
+pub copy_within-requires-clause-in_bounds : goal.copy_within-requires-clause-in_bounds
+copy_within-requires-clause-in_bounds g c = omega (arith, c.len-len.ensures.value, ap length c.deref_mut.ensures.value, c.lengthen.ensures.long)
+
+pub overflow_sub-len : goal.overflow_sub-len
+overflow_sub-len g c = omega (arith, c.len-len.ensures.value, c.requires.within)
+
+pub overflow_add-len : goal.overflow_add-len
+overflow_add-len g c = omega (arith, c.len-len.ensures.value, c.requires.fits, g.N.fits)

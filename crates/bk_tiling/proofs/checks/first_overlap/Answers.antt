@@ -12,3 +12,15 @@ loop-i-preserved c i j d below ij l both =
 
 pub returns-in-Some-clause-some : goal.returns-in-Some-clause-some
 returns-in-Some-clause-some c = let s = c.in-Some.ensures.some in first_overlap_from c.args.squares.now c.loop-i.i c.in-Some.j c.loop-i.invariant s
+
+pub loop-i-init : goal.loop-i-init
+loop-i-init c = λ i j d few. absurd (omega (arith, few))
+
+pub first_sharing-requires-clause-place : goal.first_sharing-requires-clause-place
+first_sharing-requires-clause-place c = c.loop-i-test.true
+
+pub first_sharing-requires-clause-fit : goal.first_sharing-requires-clause-fit
+first_sharing-requires-clause-fit c = c.requires
+
+pub returns-clause-none : goal.returns-clause-none
+returns-clause-none c = λ i j d ij few. c.loop-i.invariant i j d (omega (arith, ij, few, c.loop-i-test.false)) ij few

@@ -1,4 +1,5 @@
-use Rattle.std.proofs.Common.{false, refl, subst, ◌+◌, ◌∙◌}
+use Rattle.std.proofs.Common.{arith, false, le_of_eq, refl, subst, ◌+◌, ◌∙◌}
+use Rattle.std.proofs.lemmas.Result.{err_from_is_err_and}
 use Rattle.bk_report.specs.ListLines.{foreign_line, repeats_line}
 use Rattle.bk_entries.specs.Kept.{IsFed}
 use Rattle.bk_entries.specs.declared.entries.Fed.{Fed}
@@ -57,3 +58,75 @@ returns-in_err-write_all-in-Ok-Foreign-clause-failed g c =
     (g.O.Sink.written c.args.out.now) (g.O.Sink.written c.write_all-in-Ok-Foreign.new.self) (foreign_line c.args.number) c.as_slice-in-Ok-Foreign.result.now
     (c.as_slice-in-Ok-Foreign.ensures.value ∙ c.write_foreign.ensures) (feeds c.args.tiling.now Foreign c.feed.new.self c.requires.has fed)
     c.in_err-write_all-in-Ok-Foreign.ensures.err)
+
+pub returns-in-Err-clause-cause : goal.returns-in-Err-clause-cause
+returns-in-Err-clause-cause g c = record { later = le_of_eq refl; ok = refl; failed = tt }
+
+pub returns-in-Err-clause-ready : goal.returns-in-Err-clause-ready
+returns-in-Err-clause-ready g c =
+    let ready = c.requires.ready in
+    record { foreign = omega (arith, ready.foreign); repeated = omega (arith, ready.repeated); refused = omega (arith, ready.refused) }
+
+pub returns-in-Ok-New-clause-cause : goal.returns-in-Ok-New-clause-cause
+returns-in-Ok-New-clause-cause g c = record { later = le_of_eq refl; ok = refl; failed = tt }
+
+pub returns-in-Ok-New-clause-ready : goal.returns-in-Ok-New-clause-ready
+returns-in-Ok-New-clause-ready g c =
+    let ready = c.requires.ready in
+    record { foreign = omega (arith, ready.foreign); repeated = omega (arith, ready.repeated); refused = omega (arith, ready.refused) }
+
+pub returns-in_err-write_all-in-Ok-Repeats-clause-outcome : goal.returns-in_err-write_all-in-Ok-Repeats-clause-outcome
+returns-in_err-write_all-in-Ok-Repeats-clause-outcome g c =
+    let p = err_from_is_err_and c.from_residual.result c.from_residual.ensures.1 in
+    rw p.1 tt
+
+pub returns-in_err-write_all-in-Ok-Repeats-clause-cause : goal.returns-in_err-write_all-in-Ok-Repeats-clause-cause
+returns-in_err-write_all-in-Ok-Repeats-clause-cause g c =
+    let p = err_from_is_err_and c.from_residual.result c.from_residual.ensures.1 in
+    rw p.1 (record { later = c.in_err-write_all-in-Ok-Repeats.ensures.cause.later; ok = tt; failed = c.in_err-write_all-in-Ok-Repeats.ensures.cause.failed })
+
+pub returns-in_err-write_all-in-Ok-Repeats-clause-ready : goal.returns-in_err-write_all-in-Ok-Repeats-clause-ready
+returns-in_err-write_all-in-Ok-Repeats-clause-ready g c =
+    let p = err_from_is_err_and c.from_residual.result c.from_residual.ensures.1 in
+    rw p.1 tt
+
+pub returns-in_ok-write_all-in-Ok-Repeats-clause-cause : goal.returns-in_ok-write_all-in-Ok-Repeats-clause-cause
+returns-in_ok-write_all-in-Ok-Repeats-clause-cause g c =
+    let cause = c.in_ok-write_all-in-Ok-Repeats.ensures.cause in
+    record { later = cause.later; ok = cause.ok; failed = tt }
+
+pub returns-in_ok-write_all-in-Ok-Repeats-clause-ready : goal.returns-in_ok-write_all-in-Ok-Repeats-clause-ready
+returns-in_ok-write_all-in-Ok-Repeats-clause-ready g c =
+    let ready = c.requires.ready in
+    record { foreign = omega (arith, ready.foreign); repeated = omega (arith, ready.repeated); refused = omega (arith, ready.refused) }
+
+pub overflow_add-state : goal.overflow_add-state
+overflow_add-state g c = omega (arith, c.requires.early, c.requires.ready.repeated)
+
+pub returns-in_err-write_all-in-Ok-Foreign-clause-outcome : goal.returns-in_err-write_all-in-Ok-Foreign-clause-outcome
+returns-in_err-write_all-in-Ok-Foreign-clause-outcome g c =
+    let p = err_from_is_err_and c.from_residual-in_err-write_all-in-Ok-Foreign.result c.from_residual-in_err-write_all-in-Ok-Foreign.ensures.1 in
+    rw p.1 tt
+
+pub returns-in_err-write_all-in-Ok-Foreign-clause-cause : goal.returns-in_err-write_all-in-Ok-Foreign-clause-cause
+returns-in_err-write_all-in-Ok-Foreign-clause-cause g c =
+    let p = err_from_is_err_and c.from_residual-in_err-write_all-in-Ok-Foreign.result c.from_residual-in_err-write_all-in-Ok-Foreign.ensures.1 in
+    rw p.1 (record { later = c.in_err-write_all-in-Ok-Foreign.ensures.cause.later; ok = tt; failed = c.in_err-write_all-in-Ok-Foreign.ensures.cause.failed })
+
+pub returns-in_err-write_all-in-Ok-Foreign-clause-ready : goal.returns-in_err-write_all-in-Ok-Foreign-clause-ready
+returns-in_err-write_all-in-Ok-Foreign-clause-ready g c =
+    let p = err_from_is_err_and c.from_residual-in_err-write_all-in-Ok-Foreign.result c.from_residual-in_err-write_all-in-Ok-Foreign.ensures.1 in
+    rw p.1 tt
+
+pub returns-in_ok-write_all-in-Ok-Foreign-clause-cause : goal.returns-in_ok-write_all-in-Ok-Foreign-clause-cause
+returns-in_ok-write_all-in-Ok-Foreign-clause-cause g c =
+    let cause = c.in_ok-write_all-in-Ok-Foreign.ensures.cause in
+    record { later = cause.later; ok = cause.ok; failed = tt }
+
+pub returns-in_ok-write_all-in-Ok-Foreign-clause-ready : goal.returns-in_ok-write_all-in-Ok-Foreign-clause-ready
+returns-in_ok-write_all-in-Ok-Foreign-clause-ready g c =
+    let ready = c.requires.ready in
+    record { foreign = omega (arith, ready.foreign); repeated = omega (arith, ready.repeated); refused = omega (arith, ready.refused) }
+
+pub overflow_add-state-in-Ok-Foreign : goal.overflow_add-state-in-Ok-Foreign
+overflow_add-state-in-Ok-Foreign g c = omega (arith, c.requires.early, c.requires.ready.foreign)

@@ -1,4 +1,4 @@
-use Rattle.std.proofs.Common.{arith, sym, true≢false, ◌∙◌}
+use Rattle.std.proofs.Common.{arith, lit<, refl, sym, true≢false, ◌∙◌}
 use Rattle.bk_entries.proofs.CountedMembers.{few_members}
 use Rattle.bk_verify.proofs.Passing.{at_none, at_some, passing_counted, passing_missing, passing_more, passing_none}
 use Rattle.bk_entries.specs.Kept.{IsKeptFrom, IsNotKept, IsUpTo}
@@ -38,3 +38,37 @@ members-preserved g c =
     c.advance_in.new.self c.advance_in.ensures.order c.advance_in.ensures.class
     (c.advance_in.ensures.cursor c.if-not-advance_in.false)
     (λ e. true≢false (sym c.if-not-advance_in.false ∙ c.advance_in.ensures.later e)) found.0 found.1
+
+pub entry_room-entry-requires : goal.entry_room-entry-requires
+entry_room-entry-requires g c = lit< tt
+
+pub advance_in-requires : goal.advance_in-requires
+advance_in-requires g c = lit< tt
+
+pub returns-then-not-advance_in-clause-ended : goal.returns-then-not-advance_in-clause-ended
+returns-then-not-advance_in-clause-ended g c = (λ _. refl, λ _. c.advance_in.ensures.ended.1 c.if-not-advance_in.true)
+
+pub returns-then-not-advance_in-clause-later : goal.returns-then-not-advance_in-clause-later
+returns-then-not-advance_in-clause-later g c _ = refl
+
+pub returns-then-is_none-clause-cursor : goal.returns-then-is_none-clause-cursor
+returns-then-is_none-clause-cursor g c = c.advance_in.ensures.cursor c.if-not-advance_in.false
+
+pub returns-then-is_none-clause-ended : goal.returns-then-is_none-clause-ended
+returns-then-is_none-clause-ended g c =
+    (λ e. absurd (true≢false (sym c.if-not-advance_in.false ∙ c.advance_in.ensures.ended.0 e)), λ e. absurd (true≢false e))
+
+pub returns-then-not-advance_in-clause-order : goal.returns-then-not-advance_in-clause-order
+returns-then-not-advance_in-clause-order g c = c.advance_in.ensures.order ∙ c.members.invariant.order
+
+pub returns-then-not-advance_in-clause-class : goal.returns-then-not-advance_in-clause-class
+returns-then-not-advance_in-clause-class g c = c.advance_in.ensures.class ∙ c.members.invariant.class ∙ sym c.requires.class
+
+pub returns-then-is_none-clause-order : goal.returns-then-is_none-clause-order
+returns-then-is_none-clause-order g c = c.advance_in.ensures.order ∙ c.members.invariant.order
+
+pub returns-then-is_none-clause-class : goal.returns-then-is_none-clause-class
+returns-then-is_none-clause-class g c = c.advance_in.ensures.class ∙ c.members.invariant.class ∙ sym c.requires.class
+
+pub returns-then-is_none-clause-later : goal.returns-then-is_none-clause-later
+returns-then-is_none-clause-later g c e = sym c.if-not-advance_in.false ∙ c.advance_in.ensures.later (c.members.invariant.still e)

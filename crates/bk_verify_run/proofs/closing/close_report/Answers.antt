@@ -1,5 +1,7 @@
-use Rattle.std.proofs.Common.{◌∙◌}
+use Rattle.std.proofs.Common.{le_of_eq, subst, sym, ℕ, ◌∙◌}
+use Rattle.std.proofs.lemmas.Result.{err_from_is_err_and}
 use Rattle.bk_word.proofs.Failing.{on_err}
+use Rattle.bk_ports.specs.Causes.{HasCause}
 use Rattle.bk_verify_run.proofs.LeftBehind.{closes_report, closing_begun, closing_broken}
 use Rattle.bk_verify_run.proofs.closing.close_report.Goals as goal
 
@@ -22,3 +24,41 @@ returns-clause-closed g c =
     c.in_ok-lacking.ensures.listed c.as_slice.result.now (c.as_slice.ensures.value ∙ c.write_verified-2.ensures)
     (g.O.Sink.written c.write_all.new.self) c.in_ok-write_all.ensures.ok
     c.has_fault-differs.result c.has_fault-differs.ensures
+
+pub list_missing-requires-clause-name : goal.list_missing-requires-clause-name
+list_missing-requires-clause-name g c = c.requires.name
+
+pub list_missing-requires-clause-parts : goal.list_missing-requires-clause-parts
+list_missing-requires-clause-parts g c = c.requires.parts
+
+pub list_missing-requires-clause-some : goal.list_missing-requires-clause-some
+list_missing-requires-clause-some g c = c.requires.some
+
+pub returns-in_err-lacking-clause-closed : goal.returns-in_err-lacking-clause-closed
+returns-in_err-lacking-clause-closed g c =
+    let p = err_from_is_err_and c.from_residual.result c.from_residual.ensures.1 in
+    rw p.1 tt
+
+pub returns-in_err-lacking-clause-cause : goal.returns-in_err-lacking-clause-cause
+returns-in_err-lacking-clause-cause g c =
+    let p = err_from_is_err_and c.from_residual.result c.from_residual.ensures.1 in
+    rw p.1 (record { later = c.in_err-lacking.ensures.cause.later; ok = tt; failed = c.in_err-lacking.ensures.cause.failed })
+
+pub returns-in_err-write_all-clause-closed : goal.returns-in_err-write_all-clause-closed
+returns-in_err-write_all-clause-closed g c =
+    let p = err_from_is_err_and c.from_residual-in_err-write_all.result c.from_residual-in_err-write_all.ensures.1 in
+    rw p.1 tt
+
+pub returns-in_err-write_all-clause-cause : goal.returns-in_err-write_all-clause-cause
+returns-in_err-write_all-clause-cause g c =
+    let r = c.from_residual-in_err-write_all.result in
+    let p = err_from_is_err_and r c.from_residual-in_err-write_all.ensures.1 in
+    let cause = c.in_err-write_all.ensures.cause in
+    subst (λ (k : ℕ). HasCause k (g.O.Sink.faults c.write_all.new.self) r) c.in_ok-lacking.ensures.cause.ok
+    (rw p.1 (record { later = cause.later; ok = tt; failed = cause.failed }))
+
+pub returns-clause-cause : goal.returns-clause-cause
+returns-clause-cause g c =
+    let cause = c.in_ok-write_all.ensures.cause in
+    let same = cause.ok ∙ c.in_ok-lacking.ensures.cause.ok in
+    record { later = le_of_eq (sym same); ok = same; failed = tt }

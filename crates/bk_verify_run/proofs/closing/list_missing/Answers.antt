@@ -1,3 +1,4 @@
+use Rattle.std.proofs.lemmas.Result.{err_from_is_err_and}
 use Rattle.bk_word.proofs.Failing.{on_err}
 use Rattle.bk_told.specs.Listing.{IsListingBegun}
 use Rattle.bk_verify_run.proofs.LeftBehind.{lacking, of_verifier}
@@ -15,3 +16,25 @@ returns-clause-listed g c =
     lacking c.args.entries c.of-rest.result c.write_missing_members.new.rest _ c.members.result (g.O.Sink.written c.args.out.now)
     (g.O.Sink.written c.write_missing_members.new.out) c.of-rest.ensures c.in_ok-missing.ensures.listed c.in_ok-missing.ensures.all
     c.in_ok-missing.ensures.ended c.in_ok-missing.ensures.order c.members.ensures.reached
+
+pub new-steps-requires-clause-name : goal.new-steps-requires-clause-name
+new-steps-requires-clause-name g c = c.requires.name
+
+pub new-steps-requires-clause-parts : goal.new-steps-requires-clause-parts
+new-steps-requires-clause-parts g c = c.requires.parts
+
+pub new-steps-requires-clause-some : goal.new-steps-requires-clause-some
+new-steps-requires-clause-some g c = c.requires.some
+
+pub returns-in_err-missing-clause-listed : goal.returns-in_err-missing-clause-listed
+returns-in_err-missing-clause-listed g c =
+    let p = err_from_is_err_and c.from_residual.result c.from_residual.ensures.1 in
+    rw p.1 tt
+
+pub returns-in_err-missing-clause-cause : goal.returns-in_err-missing-clause-cause
+returns-in_err-missing-clause-cause g c =
+    let p = err_from_is_err_and c.from_residual.result c.from_residual.ensures.1 in
+    rw p.1 (record { later = c.in_err-missing.ensures.cause.later; ok = tt; failed = c.in_err-missing.ensures.cause.failed })
+
+pub returns-clause-cause : goal.returns-clause-cause
+returns-clause-cause g c = record { later = c.in_ok-missing.ensures.cause.later; ok = c.in_ok-missing.ensures.cause.ok; failed = tt }

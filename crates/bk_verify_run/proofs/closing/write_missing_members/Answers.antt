@@ -1,4 +1,5 @@
 use Rattle.std.proofs.Common.{arith, ◌∙◌}
+use Rattle.std.proofs.lemmas.Result.{err_from_is_err_and}
 use Rattle.bk_word.proofs.Failing.{on_err}
 use Rattle.bk_verify_run.proofs.Listing.{kept_behind, listing_broken, listing_end, listing_more, listing_none, none_behind}
 use Rattle.bk_verify_run.proofs.closing.write_missing_members.Goals as goal
@@ -43,3 +44,18 @@ returns-clause-ended g c =
 
 pub returns-clause-order : goal.returns-clause-order
 returns-clause-order g c = c.write_next.ensures.order ∙ c.members.invariant.order
+
+pub returns-in_err-write_next-clause-listed : goal.returns-in_err-write_next-clause-listed
+returns-in_err-write_next-clause-listed g c =
+    let p = err_from_is_err_and c.from_residual.result c.from_residual.ensures.1 in
+    rw p.1 tt
+
+pub returns-in_err-write_next-clause-all : goal.returns-in_err-write_next-clause-all
+returns-in_err-write_next-clause-all g c =
+    let p = err_from_is_err_and c.from_residual.result c.from_residual.ensures.1 in
+    rw p.1 tt
+
+pub returns-in_err-write_next-clause-ended : goal.returns-in_err-write_next-clause-ended
+returns-in_err-write_next-clause-ended g c =
+    let p = err_from_is_err_and c.from_residual.result c.from_residual.ensures.1 in
+    rw p.1 tt

@@ -56,3 +56,18 @@ returns-in-Err-close_report-clause-faults g c = (
   c.in-Ok.ensures.reads,
   subst (λ (k : ℕ). Rose k (g.O.Sink.faults c.close_report.new.out)) c.in-Ok.ensures.writes (c.in-Err-close_report.ensures.cause).failed,
 )
+
+pub read_list-requires-clause-least : goal.read_list-requires-clause-least
+read_list-requires-clause-least g c = c.requires.least
+
+pub read_list-requires-clause-most : goal.read_list-requires-clause-most
+read_list-requires-clause-most g c = c.requires.most
+
+pub close_report-requires-clause-most : goal.close_report-requires-clause-most
+close_report-requires-clause-most g c = c.requires.most
+
+pub close_report-requires-clause-name : goal.close_report-requires-clause-name
+close_report-requires-clause-name g c = refl
+
+pub close_report-requires-clause-parts : goal.close_report-requires-clause-parts
+close_report-requires-clause-parts g c = refl

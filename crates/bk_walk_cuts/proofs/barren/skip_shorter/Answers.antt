@@ -1,4 +1,4 @@
-use Rattle.std.proofs.Common.{ap, slice_index_or, subst, sym, ◌∙◌}
+use Rattle.std.proofs.Common.{ap, arith, refl, slice_index_or, subst, sym, true≢false, ◌∙◌}
 use Rattle.bk_word.specs.Word.{Move}
 use Rattle.bk_word.specs.declared.Sign.TheVariants.{Above}
 use Rattle.bk_word.proofs.SignLaws.{only_above}
@@ -12,3 +12,18 @@ returns-clause-cut c _ n class = subst (λ (next : Move). IsCut n class c.args.s
     (sym (ap (λ (m : Move). m.count) c.m.view_is) ∙ c.if-m-ne2.false)
     (ap (λ l. slice_index_or l 0 Above) (sym (c.as_slice.ensures.value ∙ ap (λ (m : Move). m.signs) c.m.view_is))
     ∙ only_above (slice_index_or c.as_slice.result.now 0 Above) (sym c.is_above.ensures ∙ c.if-not-is_above.false)) c.requires.legal)
+
+pub returns-then-moves-ne0-clause-cut : goal.returns-then-moves-ne0-clause-cut
+returns-then-moves-ne0-clause-cut c e = absurd (true≢false (sym e))
+
+pub returns-then-moves-ne0-clause-kept : goal.returns-then-moves-ne0-clause-kept
+returns-then-moves-ne0-clause-kept c _ = refl
+
+pub next_move-requires-clause-count : goal.next_move-requires-clause-count
+next_move-requires-clause-count c = omega (arith, ap (λ (m : Move). m.count) c.m.view_is, c.if-m-ne2.false)
+
+pub next_move-requires-clause-signs : goal.next_move-requires-clause-signs
+next_move-requires-clause-signs c = c.requires.signs
+
+pub returns-clause-kept : goal.returns-clause-kept
+returns-clause-kept c e = absurd (true≢false e)

@@ -37,3 +37,9 @@ returns-in-Err-clause-reply g c =
     (g.O.Sink.written c.args.out.now) (g.O.Sink.written c.refuse.new.out) c.refuse.result
     (refuses c.in-Err.refused (any_command c.in-Err.refused c.in-Err.ensures.refused))
     c.refuse.ensures.outcome c.refuse.ensures.failed
+
+pub returns-in-Ok-Some-clause-cause : goal.returns-in-Ok-Some-clause-cause
+returns-in-Ok-Some-clause-cause g c = c.answer_tiling.ensures.cause
+
+pub returns-in-Err-clause-cause : goal.returns-in-Err-clause-cause
+returns-in-Err-clause-cause g c = c.refuse.ensures.cause

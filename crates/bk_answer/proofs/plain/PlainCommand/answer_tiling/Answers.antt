@@ -22,3 +22,9 @@ returns-clause-reply g c =
     (WantsMemory (code_command c.args.self) c.args.tiling.now)
     (λ pieces refused. tells_tiling (code_command c.args.self) c.args.tiling.now pieces refused (c.allows.ensures.0 c.if-not-allows.false)) (λ w. w)
     (g.O.Sink.written c.args.out.now) (g.O.Sink.written c.tell.new.out) c.tell.result c.tell.ensures.reply
+
+pub returns-then-not-allows-clause-cause : goal.returns-then-not-allows-clause-cause
+returns-then-not-allows-clause-cause g c = c.refuse.ensures.cause
+
+pub returns-clause-cause : goal.returns-clause-cause
+returns-clause-cause g c = c.tell.ensures.cause

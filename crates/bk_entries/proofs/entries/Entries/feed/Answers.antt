@@ -1,8 +1,8 @@
 use Rattle.std.proofs.lemmas.Grind.{common_steps}
-use Rattle.std.proofs.Common.{arith, refl, subst, sym, true≢false, ◌∙◌}
+use Rattle.std.proofs.Common.{List, arith, refl, subst, sym, true≢false, ◌∙◌}
 use Rattle.bk_word.proofs.Failing.{on_err}
 use Rattle.bk_entries.proofs.Standing.{canonical_order, kept_then, none_of_other_kind, none_of_other_order, stands_told, taken_in}
-use Rattle.bk_entries.specs.Kept.{IsFirstSight, IsTakenIn, StandsFor, StandsForNone, EntriesState}
+use Rattle.bk_entries.specs.Kept.{AreKeptEntries, EntriesState, IsFirstSight, IsTakenIn, Kept, StandsFor, StandsForNone}
 use Rattle.bk_entries.proofs.entries.Entries.feed.Goals as goal
 
 pub returns-then-order-from-clause-fed : goal.returns-then-order-from-clause-fed
@@ -89,3 +89,26 @@ returns-clause-fed c =
 
 pub returns-in-Some-clause-fed : goal.returns-in-Some-clause-fed
 returns-in-Some-clause-fed c = grind (arith, common_steps)
+
+pub returns-in_err-keep-clause-unchanged : goal.returns-in_err-keep-clause-unchanged
+returns-in_err-keep-clause-unchanged c =
+    on_err c.from_residual.result ((λ i. record { order = c.self.inside.order; pairs = c.in_err-keep.ensures.unchanged i }) ∙ c.self.view_is)
+
+pub returns-in_err-keep-clause-kept : goal.returns-in_err-keep-clause-kept
+returns-in_err-keep-clause-kept c =
+    subst (λ (k : List Kept). AreKeptEntries (record { order = c.self.inside.order; pairs = k })) (sym c.in_err-keep.ensures.unchanged)
+    c.self.invariant
+
+pub invariant_of-self : goal.invariant_of-self
+invariant_of-self c =
+    subst (λ (k : List Kept). AreKeptEntries (record { order = c.self.inside.order; pairs = k })) (sym c.in_err-keep.ensures.unchanged)
+    c.self.invariant
+
+pub returns-in-Some-clause-kept : goal.returns-in-Some-clause-kept
+returns-in-Some-clause-kept c = subst AreKeptEntries c.self.view_is c.self.invariant
+
+pub returns-then-order-from-clause-kept : goal.returns-then-order-from-clause-kept
+returns-then-order-from-clause-kept c = subst AreKeptEntries c.self.view_is c.self.invariant
+
+pub returns-then-not-is_perfect_simple-clause-kept : goal.returns-then-not-is_perfect_simple-clause-kept
+returns-then-not-is_perfect_simple-clause-kept c = subst AreKeptEntries c.self.view_is c.self.invariant

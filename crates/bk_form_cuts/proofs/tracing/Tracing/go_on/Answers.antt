@@ -77,3 +77,24 @@ returns-clause-trace c =
     c.as_slice-5.result.now c.as_slice-6.result.now c.as_slice-7.result.now
     (λ i. c.self.inside.ledger) (c.as_slice-4.ensures.value ∙ v) numbers levels signs asked in
     (c.contradicts.ensures.meets sides h.meets h.widths h.signs_agree).meets)))
+
+pub new_numbers-numbers-requires : goal.new_numbers-numbers-requires
+new_numbers-numbers-requires c = omega (arith, c.order.ensures.value, ap (λ (m : Move). m.count) c.m.view_is, c.requires.few)
+
+pub levels_along-levels-requires-clause-few : goal.levels_along-levels-requires-clause-few
+levels_along-levels-requires-clause-few c = c.requires.few
+
+pub levels_along-levels-requires-clause-short : goal.levels_along-levels-requires-clause-short
+levels_along-levels-requires-clause-short c =
+    let bottoms = ap (λ (t : Trace). length t.bottoms) c.self.view_is ∙ bottoms_room c.args.skel.now c.args.self.now c.requires.trace c.requires.all in
+    omega (arith, bottoms, c.requires.few, ap length c.as_slice.ensures.value)
+
+pub levels_along-levels-requires-clause-small : goal.levels_along-levels-requires-clause-small
+levels_along-levels-requires-clause-small c =
+    subst AreSmall (sym (c.as_slice.ensures.value ∙ ap (λ (t : Trace). t.bottoms) c.self.view_is)) c.requires.trace.small
+
+pub contradicts-requires-clause-most : goal.contradicts-requires-clause-most
+contradicts-requires-clause-most c =
+    let many = ap length (c.as_slice-5.ensures.value ∙ c.new_numbers-numbers.ensures) ∙ numbers-length (c.order.result + 1) c.m.inside.count
+    ∙ ap (λ (m : Move). m.count) c.m.view_is in
+    omega (arith, many, c.requires.few)

@@ -1,14 +1,15 @@
-use Rattle.std.proofs.Common.{List, ap, length, refl, rules, subst, sym, ℕ, ◌+◌, ◌∙◌, ◌≡◌}
+use Rattle.std.proofs.Common.{List, ap, arith, length, refl, rules, subst, sym, ℕ, ◌+◌, ◌∙◌, ◌≡◌}
 use Rattle.bk_word.specs.Play.{outline_of}
 use Rattle.bk_word.specs.Word.{Move, order_of}
 use Rattle.bk_skeleton.specs.Valley.{Valley}
 use Rattle.bk_forms.specs.Form.{Form as SeenForm}
 use Rattle.bk_form_cuts.specs.SideForms.{levels_along}
-use Rattle.bk_form_cuts.specs.Trace.{IsTraceOf, Trace}
+use Rattle.bk_form_cuts.specs.Trace.{AreSmall, IsTraceOf, Trace}
+use Rattle.bk_word.proofs.PlayLists.{numbers-length}
 use Rattle.bk_form_cuts.proofs.Segments.{numbers_are}
 use Rattle.bk_form_cuts.proofs.MoveAnswers.{all_cuts_are_told}
 use Rattle.bk_form_cuts.proofs.RuledOut.{not_both, ruled_out}
-use Rattle.bk_form_cuts.proofs.Traces.{here, hold_all}
+use Rattle.bk_form_cuts.proofs.Traces.{bottoms_room, here, hold_all}
 use Rattle.bk_form_cuts.specs.SidesOfTilings.{AgreeWith}
 use Rattle.bk_word.specs.declared.Sign.{Sign}
 use Rattle.bk_word.specs.declared.Class.TheVariants.{Perfect}
@@ -138,3 +139,34 @@ returns-else-eq-clause-all c =
     (c.as_slice-6.ensures.value ∙ sym c.as_slice-4.ensures.value) (c.as_slice-7.ensures.value ∙ sym c.as_slice-5.ensures.value) refl
     c.contradicts.result c.compares_otherwise.result c.eq.result c.if-contradicts.false c.contradicts.ensures.widths c.contradicts.ensures.levels
     c.if-compares_otherwise.false c.compares_otherwise.ensures.all (λ perfect _. search rules)
+
+pub new_numbers-numbers-requires : goal.new_numbers-numbers-requires
+new_numbers-numbers-requires c = omega (arith, c.order.ensures.value, ap (λ (m : Move). m.count) c.m.view_is, c.requires.few)
+
+pub levels_along-levels-requires-clause-few : goal.levels_along-levels-requires-clause-few
+levels_along-levels-requires-clause-few c = c.requires.few
+
+pub levels_along-levels-requires-clause-short : goal.levels_along-levels-requires-clause-short
+levels_along-levels-requires-clause-short c =
+    let bottoms = ap (λ (t : Trace). length t.bottoms) c.self.view_is ∙ bottoms_room c.args.skel.now c.args.self.now c.requires.trace c.requires.all in
+    omega (arith, bottoms, c.requires.few, ap length c.as_slice.ensures.value)
+
+pub levels_along-levels-requires-clause-small : goal.levels_along-levels-requires-clause-small
+levels_along-levels-requires-clause-small c =
+    subst AreSmall (sym (c.as_slice.ensures.value ∙ ap (λ (t : Trace). t.bottoms) c.self.view_is)) c.requires.trace.small
+
+pub contradicts-requires-clause-most : goal.contradicts-requires-clause-most
+contradicts-requires-clause-most c =
+    let many = ap length (c.as_slice-3.ensures.value ∙ c.new_numbers-numbers.ensures) ∙ numbers-length (c.order.result + 1) c.m.inside.count
+    ∙ ap (λ (m : Move). m.count) c.m.view_is in
+    omega (arith, many, c.requires.few)
+
+pub returns-then-contradicts-clause-all : goal.returns-then-contradicts-clause-all
+returns-then-contradicts-clause-all c = λ _. refl
+
+pub returns-then-compares_otherwise-clause-all : goal.returns-then-compares_otherwise-clause-all
+returns-then-compares_otherwise-clause-all c = λ _. refl
+
+pub has_equal_sides-requires : goal.has_equal_sides-requires
+has_equal_sides-requires c =
+    omega (arith, c.order-then-eq.ensures.value, c.from.ensures, ap (λ (m : Move). m.count) c.m.view_is, c.requires.few)

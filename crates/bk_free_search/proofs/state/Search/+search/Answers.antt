@@ -272,3 +272,258 @@ with_last-returns-clause-all g t c w sought on = c.with_move.ensures.all w sough
     (omega (arith, c.requires.last, ap (λ (l : List Sign). length l) c.push_sign.ensures.signs, length-append c.args.begun.now.m.signs (c.args.sign ∷ []))))
     (by_same c.args.self.now.board w c.args.begun.now.m.count c.push_sign.new.m.count (c.args.begun.now.m.signs ++ c.args.sign ∷ [])
     c.push_sign.new.m.signs c.push_sign.ensures.count c.push_sign.ensures.signs on))
+
+-- ---- what the calls hand on
+
+pub go_on-returns-then-hung-from-clause-kept : goal.go_on-returns-then-hung-from-clause-kept
+go_on-returns-then-hung-from-clause-kept g t c = c.meet_closed.ensures.kept
+
+pub go_on-returns-then-hung-from-clause-fixed : goal.go_on-returns-then-hung-from-clause-fixed
+go_on-returns-then-hung-from-clause-fixed g t c = c.meet_closed.ensures.fixed
+
+pub go_on-returns-then-hung-from-clause-same : goal.go_on-returns-then-hung-from-clause-same
+go_on-returns-then-hung-from-clause-same g t c = refl
+
+pub go_on-meet_with_last-requires-clause-least : goal.go_on-meet_with_last-requires-clause-least
+go_on-meet_with_last-requires-clause-least g t c = c.requires.least
+
+pub go_on-meet_with_last-requires-clause-most : goal.go_on-meet_with_last-requires-clause-most
+go_on-meet_with_last-requires-clause-most g t c = c.requires.most
+
+pub go_on-returns-then-hung-from-2-clause-all : goal.go_on-returns-then-hung-from-2-clause-all
+go_on-returns-then-hung-from-2-clause-all g t c = c.meet_with_last.ensures.all
+
+pub go_on-returns-then-hung-from-2-clause-kept : goal.go_on-returns-then-hung-from-2-clause-kept
+go_on-returns-then-hung-from-2-clause-kept g t c = c.meet_with_last.ensures.kept
+
+pub go_on-returns-then-hung-from-2-clause-fixed : goal.go_on-returns-then-hung-from-2-clause-fixed
+go_on-returns-then-hung-from-2-clause-fixed g t c = c.meet_with_last.ensures.fixed
+
+pub go_on-returns-then-hung-from-2-clause-same : goal.go_on-returns-then-hung-from-2-clause-same
+go_on-returns-then-hung-from-2-clause-same g t c = λ i. record { board = c.meet_with_last.ensures.board i; order = c.args.self.now.order }
+
+pub go_on-returns-clause-all : goal.go_on-returns-clause-all
+go_on-returns-clause-all g t c = c.with_counts.ensures.all
+
+pub go_on-returns-clause-kept : goal.go_on-returns-clause-kept
+go_on-returns-clause-kept g t c = c.with_counts.ensures.kept
+
+pub go_on-returns-clause-fixed : goal.go_on-returns-clause-fixed
+go_on-returns-clause-fixed g t c = c.with_counts.ensures.fixed
+
+pub go_on-returns-clause-same : goal.go_on-returns-clause-same
+go_on-returns-clause-same g t c = c.with_counts.ensures.same
+
+pub with_counts-returns-then-lacks_next-clause-kept : goal.with_counts-returns-then-lacks_next-clause-kept
+with_counts-returns-then-lacks_next-clause-kept g t c = λ w met. met
+
+pub with_counts-returns-then-lacks_next-clause-fixed : goal.with_counts-returns-then-lacks_next-clause-fixed
+with_counts-returns-then-lacks_next-clause-fixed g t c = refl
+
+pub with_counts-returns-then-lacks_next-clause-same : goal.with_counts-returns-then-lacks_next-clause-same
+with_counts-returns-then-lacks_next-clause-same g t c = refl
+
+pub with_counts-returns-clause-kept : goal.with_counts-returns-clause-kept
+with_counts-returns-clause-kept g t c = c.counts.invariant.kept
+
+pub with_counts-returns-clause-fixed : goal.with_counts-returns-clause-fixed
+with_counts-returns-clause-fixed g t c = c.counts.invariant.fixed
+
+pub with_counts-returns-clause-same : goal.with_counts-returns-clause-same
+with_counts-returns-clause-same g t c = c.counts.invariant.same
+
+pub with_last-returns-then-barred-clause-kept : goal.with_last-returns-then-barred-clause-kept
+with_last-returns-then-barred-clause-kept g t c = λ w met. met
+
+pub with_last-returns-then-barred-clause-fixed : goal.with_last-returns-then-barred-clause-fixed
+with_last-returns-then-barred-clause-fixed g t c = refl
+
+pub with_last-returns-then-barred-clause-same : goal.with_last-returns-then-barred-clause-same
+with_last-returns-then-barred-clause-same g t c = refl
+
+pub with_last-returns-then-barred-clause-same_move : goal.with_last-returns-then-barred-clause-same_move
+with_last-returns-then-barred-clause-same_move g t c = refl
+
+pub with_sign-returns-then-barred-clause-kept : goal.with_sign-returns-then-barred-clause-kept
+with_sign-returns-then-barred-clause-kept g t c = λ w met. met
+
+pub with_sign-returns-then-barred-clause-fixed : goal.with_sign-returns-then-barred-clause-fixed
+with_sign-returns-then-barred-clause-fixed g t c = refl
+
+pub with_sign-returns-then-barred-clause-same : goal.with_sign-returns-then-barred-clause-same
+with_sign-returns-then-barred-clause-same g t c = refl
+
+pub with_sign-returns-then-barred-clause-same_move : goal.with_sign-returns-then-barred-clause-same_move
+with_sign-returns-then-barred-clause-same_move g t c = refl
+
+pub with_last-returns-clause-kept : goal.with_last-returns-clause-kept
+with_last-returns-clause-kept g t c = c.with_move.ensures.kept
+
+pub with_last-returns-clause-fixed : goal.with_last-returns-clause-fixed
+with_last-returns-clause-fixed g t c = c.with_move.ensures.fixed
+
+pub with_last-returns-clause-same : goal.with_last-returns-clause-same
+with_last-returns-clause-same g t c = c.with_move.ensures.same
+
+pub with_sign-returns-clause-kept : goal.with_sign-returns-clause-kept
+with_sign-returns-clause-kept g t c = c.with_own.ensures.kept
+
+pub with_sign-returns-clause-fixed : goal.with_sign-returns-clause-fixed
+with_sign-returns-clause-fixed g t c = c.with_own.ensures.fixed
+
+pub with_sign-returns-clause-same : goal.with_sign-returns-clause-same
+with_sign-returns-clause-same g t c = c.with_own.ensures.same
+
+pub with_last-returns-clause-same_move : goal.with_last-returns-clause-same_move
+with_last-returns-clause-same_move g t c = λ i. record {
+  m = record {
+    count = (c.pop_sign.ensures.count ∙ c.push_sign.ensures.count) i;
+    signs = c.pop_sign.ensures.signs c.args.begun.now.m.signs c.args.sign c.push_sign.ensures.signs i;
+  };
+  next = c.args.begun.now.next;
+}
+
+pub with_sign-returns-clause-same_move : goal.with_sign-returns-clause-same_move
+with_sign-returns-clause-same_move g t c = λ i. record {
+  m = record {
+    count = (c.pop_sign.ensures.count ∙ ap (λ (b : Begun). b.m.count) c.with_own.ensures.same_move ∙ c.push_sign.ensures.count) i;
+    signs = c.pop_sign.ensures.signs c.args.begun.now.m.signs c.args.sign
+        (ap (λ (b : Begun). b.m.signs) c.with_own.ensures.same_move ∙ c.push_sign.ensures.signs) i;
+  };
+  next = (ap (λ (b : Begun). b.next) c.with_own.ensures.same_move) i;
+}
+
+pub with_left-returns-then-bars_none-clause-kept : goal.with_left-returns-then-bars_none-clause-kept
+with_left-returns-then-bars_none-clause-kept g t c = λ w met. met
+
+pub with_left-returns-then-bars_none-clause-fixed : goal.with_left-returns-then-bars_none-clause-fixed
+with_left-returns-then-bars_none-clause-fixed g t c = refl
+
+pub with_left-returns-then-bars_none-clause-same : goal.with_left-returns-then-bars_none-clause-same
+with_left-returns-then-bars_none-clause-same g t c = refl
+
+pub with_left-returns-then-bars_none-clause-same_move : goal.with_left-returns-then-bars_none-clause-same_move
+with_left-returns-then-bars_none-clause-same_move g t c = refl
+
+pub with_left-returns-then-around-clause-all : goal.with_left-returns-then-around-clause-all
+with_left-returns-then-around-clause-all g t c = c.with_own.ensures.all
+
+pub with_own-returns-then-len-from-clause-all : goal.with_own-returns-then-len-from-clause-all
+with_own-returns-then-len-from-clause-all g t c = c.with_right.ensures.all
+
+pub with_left-returns-then-around-clause-kept : goal.with_left-returns-then-around-clause-kept
+with_left-returns-then-around-clause-kept g t c = c.with_own.ensures.kept
+
+pub with_own-returns-then-len-from-clause-kept : goal.with_own-returns-then-len-from-clause-kept
+with_own-returns-then-len-from-clause-kept g t c = c.with_right.ensures.kept
+
+pub with_left-returns-then-around-clause-fixed : goal.with_left-returns-then-around-clause-fixed
+with_left-returns-then-around-clause-fixed g t c = c.with_own.ensures.fixed
+
+pub with_own-returns-then-len-from-clause-fixed : goal.with_own-returns-then-len-from-clause-fixed
+with_own-returns-then-len-from-clause-fixed g t c = c.with_right.ensures.fixed
+
+pub with_left-returns-then-around-clause-same : goal.with_left-returns-then-around-clause-same
+with_left-returns-then-around-clause-same g t c = c.with_own.ensures.same
+
+pub with_own-returns-then-len-from-clause-same : goal.with_own-returns-then-len-from-clause-same
+with_own-returns-then-len-from-clause-same g t c = c.with_right.ensures.same
+
+pub with_left-returns-then-around-clause-same_move : goal.with_left-returns-then-around-clause-same_move
+with_left-returns-then-around-clause-same_move g t c = c.with_own.ensures.same_move
+
+pub with_own-returns-then-len-from-clause-same_move : goal.with_own-returns-then-len-from-clause-same_move
+with_own-returns-then-len-from-clause-same_move g t c = c.with_right.ensures.same_move
+
+pub with_left-returns-clause-kept : goal.with_left-returns-clause-kept
+with_left-returns-clause-kept g t c = λ w met. c.with_sign-2.ensures.kept w (c.with_sign.ensures.kept w met)
+
+pub with_left-returns-clause-fixed : goal.with_left-returns-clause-fixed
+with_left-returns-clause-fixed g t c = c.with_sign-2.ensures.fixed ∙ c.with_sign.ensures.fixed
+
+pub with_left-returns-clause-same : goal.with_left-returns-clause-same
+with_left-returns-clause-same g t c = c.with_sign-2.ensures.same ∙ c.with_sign.ensures.same
+
+pub with_left-returns-clause-same_move : goal.with_left-returns-clause-same_move
+with_left-returns-clause-same_move g t c = c.with_sign-2.ensures.same_move ∙ c.with_sign.ensures.same_move
+
+pub with_own-returns-clause-kept : goal.with_own-returns-clause-kept
+with_own-returns-clause-kept g t c = λ w met. c.with_sign-2.ensures.kept w (c.with_sign.ensures.kept w met)
+
+pub with_own-returns-clause-fixed : goal.with_own-returns-clause-fixed
+with_own-returns-clause-fixed g t c = c.with_sign-2.ensures.fixed ∙ c.with_sign.ensures.fixed
+
+pub with_own-returns-clause-same : goal.with_own-returns-clause-same
+with_own-returns-clause-same g t c = c.with_sign-2.ensures.same ∙ c.with_sign.ensures.same
+
+pub with_own-returns-clause-same_move : goal.with_own-returns-clause-same_move
+with_own-returns-clause-same_move g t c = c.with_sign-2.ensures.same_move ∙ c.with_sign.ensures.same_move
+
+pub with_move-returns-then-bars_move-clause-kept : goal.with_move-returns-then-bars_move-clause-kept
+with_move-returns-then-bars_move-clause-kept g t c = λ w met. met
+
+pub with_move-returns-then-bars_move-clause-fixed : goal.with_move-returns-then-bars_move-clause-fixed
+with_move-returns-then-bars_move-clause-fixed g t c = refl
+
+pub with_move-returns-then-bars_move-clause-same : goal.with_move-returns-then-bars_move-clause-same
+with_move-returns-then-bars_move-clause-same g t c = refl
+
+pub with_move-bars_move-requires-clause-least : goal.with_move-bars_move-requires-clause-least
+with_move-bars_move-requires-clause-least g t c = c.requires.least
+
+pub with_move-bars_move-requires-clause-most : goal.with_move-bars_move-requires-clause-most
+with_move-bars_move-requires-clause-most g t c = c.requires.most
+
+pub with_move-bars_move-requires-clause-few : goal.with_move-bars_move-requires-clause-few
+with_move-bars_move-requires-clause-few g t c = c.requires.few
+
+pub with_move-bars_move-requires-clause-legal : goal.with_move-bars_move-requires-clause-legal
+with_move-bars_move-requires-clause-legal g t c = c.requires.legal
+
+pub with_move-bars_move-requires-clause-valley : goal.with_move-bars_move-requires-clause-valley
+with_move-bars_move-requires-clause-valley g t c = c.requires.valley
+
+pub with_move-returns-clause-all : goal.with_move-returns-clause-all
+with_move-returns-clause-all g t c = λ w sought on. c.go_on.ensures.all w sought (subst (λ v. GoesOn v w) (sym c.push.ensures) on)
+
+pub with_move-returns-clause-kept : goal.with_move-returns-clause-kept
+with_move-returns-clause-kept g t c = c.go_on.ensures.kept
+
+pub with_move-returns-clause-fixed : goal.with_move-returns-clause-fixed
+with_move-returns-clause-fixed g t c = c.go_on.ensures.fixed
+
+pub with_right-returns-then-asks_too_much_then-clause-kept : goal.with_right-returns-then-asks_too_much_then-clause-kept
+with_right-returns-then-asks_too_much_then-clause-kept g t c = λ w met. met
+
+pub with_right-returns-then-asks_too_much_then-clause-fixed : goal.with_right-returns-then-asks_too_much_then-clause-fixed
+with_right-returns-then-asks_too_much_then-clause-fixed g t c = refl
+
+pub with_right-returns-then-asks_too_much_then-clause-same : goal.with_right-returns-then-asks_too_much_then-clause-same
+with_right-returns-then-asks_too_much_then-clause-same g t c = refl
+
+pub with_right-returns-then-asks_too_much_then-clause-same_move : goal.with_right-returns-then-asks_too_much_then-clause-same_move
+with_right-returns-then-asks_too_much_then-clause-same_move g t c = refl
+
+pub with_right-returns-then-around-clause-kept : goal.with_right-returns-then-around-clause-kept
+with_right-returns-then-around-clause-kept g t c = c.with_move.ensures.kept
+
+pub with_right-returns-then-around-clause-fixed : goal.with_right-returns-then-around-clause-fixed
+with_right-returns-then-around-clause-fixed g t c = c.with_move.ensures.fixed
+
+pub with_right-returns-then-around-clause-same : goal.with_right-returns-then-around-clause-same
+with_right-returns-then-around-clause-same g t c = c.with_move.ensures.same
+
+pub with_right-returns-then-around-clause-same_move : goal.with_right-returns-then-around-clause-same_move
+with_right-returns-then-around-clause-same_move g t c = refl
+
+pub with_right-returns-clause-kept : goal.with_right-returns-clause-kept
+with_right-returns-clause-kept g t c = λ w met. c.with_last-3.ensures.kept w (c.with_last-2.ensures.kept w (c.with_last.ensures.kept w met))
+
+pub with_right-returns-clause-fixed : goal.with_right-returns-clause-fixed
+with_right-returns-clause-fixed g t c = c.with_last-3.ensures.fixed ∙ c.with_last-2.ensures.fixed ∙ c.with_last.ensures.fixed
+
+pub with_right-returns-clause-same : goal.with_right-returns-clause-same
+with_right-returns-clause-same g t c = c.with_last-3.ensures.same ∙ c.with_last-2.ensures.same ∙ c.with_last.ensures.same
+
+pub with_right-returns-clause-same_move : goal.with_right-returns-clause-same_move
+with_right-returns-clause-same_move g t c = c.with_last-3.ensures.same_move ∙ c.with_last-2.ensures.same_move ∙ c.with_last.ensures.same_move

@@ -1,5 +1,6 @@
-use Rattle.std.proofs.Common.{Bor, Err, Option, ap, arith, length, refl, subst, ◌∙◌, ◌<◌, ◌≤◌}
+use Rattle.std.proofs.Common.{Bor, Err, Option, ap, arith, le_of_eq, length, refl, subst, ℕ, ◌+◌, ◌<◌, ◌∙◌, ◌≡◌, ◌≤◌}
 use Rattle.std.specs.Option.{option_copied}
+use Rattle.std.specs.Prelude.{Ok, OnOk, Result}
 use Rattle.bk_tiling.specs.Tiling.{Tiling}
 use Rattle.bk_report.specs.ListLines.{refused_line}
 use Rattle.bk_report.specs.declared.refusal.Refused.TheVariants.{More}
@@ -88,3 +89,42 @@ returns-in-Err-Full-clause-cause g c = c.refuse.ensures.cause
 
 pub returns-in-Err-clause-cause : goal.returns-in-Err-clause-cause
 returns-in-Err-clause-cause g c = c.refuse-in-Err.ensures.cause
+
+pub refuse-requires : goal.refuse-requires
+refuse-requires g c = omega (arith, c.requires.early, c.requires.ready, ap (λ (s : Listed). s.refused) c.self.view_is)
+
+pub refuse-requires-in-Err : goal.refuse-requires-in-Err
+refuse-requires-in-Err g c = omega (arith, c.requires.early, c.requires.ready, ap (λ (s : Listed). s.refused) c.self.view_is)
+
+pub returns-in-Ok-None-clause-cause : goal.returns-in-Ok-None-clause-cause
+returns-in-Ok-None-clause-cause g c = record { later = le_of_eq refl; ok = refl; failed = tt }
+
+pub returns-in-Ok-None-clause-ready : goal.returns-in-Ok-None-clause-ready
+returns-in-Ok-None-clause-ready g c = omega (arith, c.requires.ready, ap (λ (s : Listed). s.refused) c.self.view_is)
+
+pub returns-in-Ok-clause-cause : goal.returns-in-Ok-clause-cause
+returns-in-Ok-clause-cause g c = record { later = le_of_eq refl; ok = refl; failed = tt }
+
+pub returns-in-Ok-clause-ready : goal.returns-in-Ok-clause-ready
+returns-in-Ok-clause-ready g c = omega (arith, c.requires.ready, ap (λ (s : Listed). s.refused) c.self.view_is)
+
+-- after one more refused line
+ready_next : {T E : Type 0} (r : Result T E) (n m k number : ℕ) → m ≡ n + 1 → n ≡ k → k < number → OnOk r (m < number + 1)
+ready_next (Ok x) n m k number next same less = omega (arith, next, same, less)
+ready_next (Err x) n m k number next same less = tt
+
+pub returns-in-Err-Full-clause-ready : goal.returns-in-Err-Full-clause-ready
+returns-in-Err-Full-clause-ready g c =
+    ready_next c.refuse.result c.self.inside.refused c.refuse.new.self.refused c.args.self.now.refused c.args.number
+    (ap (λ (s : Listed). s.refused) c.refuse.ensures.state) (ap (λ (s : Listed). s.refused) c.self.view_is) c.requires.ready
+
+pub returns-in-Err-NoMemory-clause-cause : goal.returns-in-Err-NoMemory-clause-cause
+returns-in-Err-NoMemory-clause-cause g c = record { later = le_of_eq refl; ok = refl; failed = tt }
+
+pub returns-in-Err-NoMemory-clause-ready : goal.returns-in-Err-NoMemory-clause-ready
+returns-in-Err-NoMemory-clause-ready g c = omega (arith, c.requires.ready, ap (λ (s : Listed). s.refused) c.self.view_is)
+
+pub returns-in-Err-clause-ready : goal.returns-in-Err-clause-ready
+returns-in-Err-clause-ready g c =
+    ready_next c.refuse-in-Err.result c.self.inside.refused c.refuse-in-Err.new.self.refused c.args.self.now.refused c.args.number
+    (ap (λ (s : Listed). s.refused) c.refuse-in-Err.ensures.state) (ap (λ (s : Listed). s.refused) c.self.view_is) c.requires.ready

@@ -1,4 +1,4 @@
-use Rattle.std.proofs.Common.{ap, arith, subst, sym}
+use Rattle.std.proofs.Common.{ap, arith, refl, subst, sym}
 use Rattle.bk_catalogue.specs.Catalogue.{IsMember}
 use Rattle.bk_member_table.specs.Finding.{Finding, IsHeld}
 use Rattle.bk_member_table.proofs.FoundMembers.{order_of_image, the_member}
@@ -19,3 +19,24 @@ returns-then-is_canonical-clause-put g c t turn member same =
     (c.is_canonical.ensures.0 c.if-is_canonical.true) in
     subst (IsHeld c.args.self.now.from c.meet_canonical.new.self.numbers) is
     (c.meet_canonical.ensures.put (subst (IsMember c.args.self.now.order c.args.self.now.class) (sym is) member))
+
+pub returns-then-order-from-clause-fixed : goal.returns-then-order-from-clause-fixed
+returns-then-order-from-clause-fixed g c = refl
+
+pub returns-then-order-from-clause-kept : goal.returns-then-order-from-clause-kept
+returns-then-order-from-clause-kept g c = λ x h. h
+
+pub returns-then-is_canonical-clause-fixed : goal.returns-then-is_canonical-clause-fixed
+returns-then-is_canonical-clause-fixed g c = c.meet_canonical.ensures.fixed
+
+pub returns-then-is_canonical-clause-kept : goal.returns-then-is_canonical-clause-kept
+returns-then-is_canonical-clause-kept g c = c.meet_canonical.ensures.kept
+
+pub returns-else-is_canonical-clause-fixed : goal.returns-else-is_canonical-clause-fixed
+returns-else-is_canonical-clause-fixed g c = c.meet_image.ensures.fixed
+
+pub returns-else-is_canonical-clause-put : goal.returns-else-is_canonical-clause-put
+returns-else-is_canonical-clause-put g c = c.meet_image.ensures.put
+
+pub returns-else-is_canonical-clause-kept : goal.returns-else-is_canonical-clause-kept
+returns-else-is_canonical-clause-kept g c = c.meet_image.ensures.kept

@@ -3,7 +3,7 @@ use Rattle.bk_lay.proofs.Words.{every_tiling_has_a_word}
 use Rattle.std.specs.Prelude.{IsSome}
 use Rattle.bk_packed.specs.Kept.{HasMoreDifferent, Holds}
 use Rattle.bk_catalogue.specs.Catalogue.{IsMember}
-use Rattle.bk_member_table.specs.Finding.{Finding, HasMoreMembers, IsMembersNumber}
+use Rattle.bk_member_table.specs.Finding.{Finding, HasMoreMembers, IsMembersNumber, wanted}
 use Rattle.bk_member_table.proofs.FoundMembers.{as_many_members, members_number, more_members, only_with}
 use Rattle.bk_member_table.proofs.finding.Finder.put.Goals as goal
 
@@ -50,3 +50,15 @@ returns-else-self-number-clause-put g c w is least = absurd (omega (
   c.of_tiling.ensures w is,
   ap (λ (s : Finding). s.from) c.self.view_is,
 ))
+
+pub invariant_of-self-else-self-number : goal.invariant_of-self-else-self-number
+invariant_of-self-else-self-number g c = c.self.invariant
+
+pub returns-then-self-number-clause-fixed : goal.returns-then-self-number-clause-fixed
+returns-then-self-number-clause-fixed g c = ap wanted c.self.view_is
+
+pub returns-else-self-number-clause-fixed : goal.returns-else-self-number-clause-fixed
+returns-else-self-number-clause-fixed g c = ap wanted c.self.view_is
+
+pub returns-else-self-number-clause-kept : goal.returns-else-self-number-clause-kept
+returns-else-self-number-clause-kept g c x h = subst (λ (s : Finding). Holds s.numbers x) (sym c.self.view_is) h

@@ -6,3 +6,6 @@ use Rattle.bk_member_table.proofs.members.MemberTable.new.Goals as goal
 pub invariant_of-result : goal.invariant_of-result
 invariant_of-result g c = table_of_none c.new.result.finder (ap (λ (f : Finding). f.order) c.new.ensures)
     (ap (λ (f : Finding). f.numbers.kept) c.new.ensures)
+
+pub returns : goal.returns
+returns g c = c.new.ensures

@@ -1,6 +1,14 @@
-use Rattle.std.proofs.Common.{subst}
-use Rattle.bk_member_table.specs.Finding.{HasOnlyMembers}
+use Rattle.std.proofs.Common.{ap, subst, ◌∙◌}
+use Rattle.bk_packed.specs.Kept.{AreAscendingNumbers, Numbers}
+use Rattle.bk_member_table.specs.Finding.{Finding, HasOnlyMembers}
 use Rattle.bk_member_table.proofs.members.MemberTable.numbers.Goals as goal
 
 pub returns-clause-only : goal.returns-clause-only
 returns-clause-only g c = subst HasOnlyMembers c.self.view_is c.table.ensures.only
+
+pub returns-clause-value : goal.returns-clause-value
+returns-clause-value g c = c.numbers.ensures ∙ ap (λ (n : Numbers). n.kept) c.table.ensures.value
+    ∙ ap (λ (f : Finding). f.numbers.kept) c.self.view_is
+
+pub returns-clause-ascending : goal.returns-clause-ascending
+returns-clause-ascending g c = subst (λ (f : Finding). AreAscendingNumbers f.numbers.kept) c.self.view_is c.self.invariant.ascending

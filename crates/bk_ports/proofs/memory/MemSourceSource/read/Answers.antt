@@ -1,5 +1,8 @@
 use Rattle.std.proofs.lemmas.Grind.{common_steps}
-use Rattle.std.proofs.Common.{arith, rules}
+use Rattle.std.proofs.Common.{ap, arith, drop, length, length-take-le, rules, sym, ◌∙◌, ◌≤◌}
+use Rattle.std.proofs.lemmas.List.{length-append}
+use Rattle.bk_ports.specs.Causes.{counted}
+use Rattle.bk_ports.specs.Stores.{Supply}
 use Rattle.bk_ports.proofs.memory.MemSourceSource.read.Goals as goal
 
 pub returns-then-contains-clause-bytes : goal.returns-then-contains-clause-bytes
@@ -13,3 +16,43 @@ returns-clause-bytes c = grind (arith, common_steps)
 
 pub returns-clause-given : goal.returns-clause-given
 returns-clause-given c = search rules
+
+pub invariant_of-self : goal.invariant_of-self
+invariant_of-self c = c.self.invariant
+
+pub invariant_of-self-2 : goal.invariant_of-self-2
+invariant_of-self-2 c = c.self.invariant
+
+pub returns-then-contains-clause-cause : goal.returns-then-contains-clause-cause
+returns-then-contains-clause-cause c =
+    let same = ap (λ (s : Supply). s.faults) c.self.view_is in
+    let rose = c.saturating_add-self-inside-then-contains.ensures in
+    record { later = omega (arith, same, rose, c.self.ranges); ok = tt; failed = omega (arith, same, rose) }
+
+pub split_at-requires : goal.split_at-requires
+split_at-requires c = let within : c.min-count.result ≤ length c.self.inside.bytes.now = omega (arith, c.min.ensures, c.min-count.ensures) in within
+
+pub copy_from_slice-requires : goal.copy_from_slice-requires
+copy_from_slice-requires c = length-take-le c.min-count.result c.args.buf.now (omega (arith, c.min.ensures, c.min-count.ensures))
+    ∙ sym c.split_at.ensures.front_len
+
+pub returns-clause-count : goal.returns-clause-count
+returns-clause-count c = omega (
+  arith,
+  length-append c.copy_from_slice.new.self (drop c.min-count.result c.args.buf.now),
+  ap length c.copy_from_slice.ensures.after,
+  c.split_at.ensures.front_len,
+)
+
+pub returns-clause-cause : goal.returns-clause-cause
+returns-clause-cause c =
+    let same = ap (λ (s : Supply). s.faults) c.self.view_is in record { later = omega (arith, same); ok = same; failed = tt }
+
+pub returns-clause-after : goal.returns-clause-after
+returns-clause-after c = λ i. record {
+  left = (c.split_at.ensures.back ∙ ap (λ (s : Supply). drop c.min-count.result s.left) c.self.view_is) i;
+  most = (c.self.view_is i).most;
+  fails = (c.self.view_is i).fails;
+  call = (c.saturating_add-self-inside.ensures ∙ ap (λ (s : Supply). counted s.call) c.self.view_is) i;
+  faults = (c.self.view_is i).faults;
+}

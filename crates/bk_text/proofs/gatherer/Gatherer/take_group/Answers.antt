@@ -1,5 +1,5 @@
 use Rattle.std.specs.Prelude.{false, true}
-use Rattle.std.proofs.Common.{ap, ◌∙◌}
+use Rattle.std.proofs.Common.{ap, arith, refl, ◌∙◌}
 use Rattle.bk_text.specs.Gathered.{with_group}
 use Rattle.bk_text.proofs.Fronts.{group_further, group_within}
 use Rattle.bk_text.proofs.gatherer.Gatherer.take_group.Goals as goal
@@ -15,3 +15,34 @@ pub returns-in-Last-clause-leads : goal.returns-in-Last-clause-leads
 returns-in-Last-clause-leads c =
     group_further c.args.bracket c.args.bytes.now c.sides.taken c.in-Last.side c.in-Last.len true c.args.self.now c.sides.self
     c.close_group.new.self c.sides.invariant.leads c.in-Last.ensures (c.close_group.ensures ∙ ap with_group c.add_side-in-Last.ensures)
+
+pub sides-init : goal.sides-init
+sides-init c = record { within = omega arith; leads = λ _. refl }
+
+pub slice_bounds-front_of-count : goal.slice_bounds-front_of-count
+slice_bounds-front_of-count c = c.sides.invariant.within
+
+pub add_side-requires : goal.add_side-requires
+add_side-requires c = c.in-Inner.ensures.side_fits
+
+pub sides-smaller : goal.sides-smaller
+sides-smaller c = omega (arith, c.in-Inner.ensures.some, c.sides-test.true)
+
+pub add_side-requires-in-Last : goal.add_side-requires-in-Last
+add_side-requires-in-Last c = c.in-Last.ensures.side_fits
+
+pub returns-in-Last-clause-within : goal.returns-in-Last-clause-within
+returns-in-Last-clause-within c =
+    group_within c.args.bracket c.args.bytes.now c.sides.taken c.in-Last.side c.in-Last.len true c.sides.invariant.within c.in-Last.ensures
+
+pub returns-in-Other-clause-within : goal.returns-in-Other-clause-within
+returns-in-Other-clause-within c = c.sides.invariant.within
+
+pub returns-in-Other-clause-leads : goal.returns-in-Other-clause-leads
+returns-in-Other-clause-leads c = c.sides.invariant.leads
+
+pub returns-clause-within : goal.returns-clause-within
+returns-clause-within c = c.sides.invariant.within
+
+pub returns-clause-leads : goal.returns-clause-leads
+returns-clause-leads c = c.sides.invariant.leads

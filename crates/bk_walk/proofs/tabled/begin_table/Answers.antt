@@ -1,0 +1,10 @@
+use Rattle.bk_walk.proofs.tabled.begin_table.Goals as goal
+
+pub returns-clause-order : goal.returns-clause-order
+returns-clause-order g c = c.of.ensures.order
+
+pub returns-clause-class : goal.returns-clause-class
+returns-clause-class g c = c.of.ensures.class
+
+pub returns-clause-from : goal.returns-clause-from
+returns-clause-from g c = c.of.ensures.from
