@@ -1,7 +1,7 @@
 -- Steps to the answer to an item.
 use Rattle.std.proofs.Common.{Bor, Err, List, None, Ok, Option, Result, Some, length, subst, sym, ℕ, ◌≡◌, ◌≤◌}
 use Rattle.std.specs.Option.{option_copied}
-use Rattle.std.specs.Prelude.{IfErr, IfOk, OnOk}
+use Rattle.std.specs.Prelude.{IfErr, IfOk, IsErrAnd, OnOk}
 use Rattle.bk_tiling.specs.Tiling.{IsTiling, Tiling}
 use Rattle.bk_profile.specs.declared.laying.Refusal.{Refusal}
 use Rattle.bk_report.specs.declared.refusal.Refused.{Refused}
@@ -23,6 +23,12 @@ wrong_order item n e = subst (λ (m : ℕ). (AllowsOrder item m → ⊥) → IsI
 pub failed_laying : (item : Line) (cause : Refusal) (r : Refused) → AllowsOrder item (side_count item) → IsNotLaid item cause → r ≡ refused_for cause
     → IsItemRefused item r
 failed_laying item cause r allowed failed e = subst (IsItemRefused item) (sym e) (not_laid cause allowed failed)
+
+-- a refusal that is handed on
+pub handed_on : {A : Type 0} (line item : Line) (f : Refused) (r : Result A Refused) → line ≡ item → IsErrAnd r (λ e. e ≡ f) → IsItemRefused item f
+    → IfErr r (IsItemRefused line)
+handed_on line item f (Ok a) same h refused = tt
+handed_on line item f (Err e) same h refused = subst (λ (l : Line). IsItemRefused l e) (sym same) (subst (IsItemRefused item) (sym h) refused)
 
 -- bytes that are not read
 pub not_read : (bytes : List ℕ) (fault : TextFault) (r : Refused) → length bytes ≤ 8192 → IsFaultOf fault bytes → r ≡ refused_text fault

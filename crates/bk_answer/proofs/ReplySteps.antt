@@ -1,7 +1,7 @@
 -- Steps of answering: from what is told of a tiling to the answer to its line.
-use Rattle.std.proofs.Common.{Bool, Err, List, Ok, Option, Result, [], false, subst, sym, true, ℕ, ◌+◌, ◌∷◌, ◌≡◌}
+use Rattle.std.proofs.Common.{Bool, Err, List, None, Ok, Option, Result, Some, [], false, refl, subst, sym, true, ℕ, ◌+◌, ◌∷◌, ◌≡◌}
 use Rattle.std.specs.Prelude.{IfOk, OnErr}
-use Rattle.std.specs.Io.KnownBytes.{Appends}
+use Rattle.std.specs.Io.KnownBytes.{Appends, Keeps}
 use Rattle.bk_ports.specs.Causes.{AppendsPrefix}
 use Rattle.bk_ports.specs.declared.Failed.{Failed}
 use Rattle.bk_lines.proofs.Pieces.{begins_one, writes_one}
@@ -36,6 +36,11 @@ module _ (A B : List (List ℕ) → Bool → Type 0) (V W : Type 0) (more : (pie
   pub replies_more : (r : Result Outcome Failed) → Replies A V a b r → Replies B W a b r
   replies_more (Ok o) h = outcome_more o h
   replies_more (Err f) h = record { pieces = h.pieces; refused = h.refused; answer = more h.pieces h.refused h.answer; written = h.written }
+
+-- bytes that are not written to stay
+pub keeps_itself : (bytes : Option (List ℕ)) → Keeps bytes bytes
+keeps_itself None = tt
+keeps_itself (Some xs) = refl
 
 -- the line of a refusal was written
 pub refusal_replies : (A : List (List ℕ) → Bool → Type 0) (V : Type 0) (r : Refused) (a b : Option (List ℕ)) (result : Result Outcome Failed)

@@ -1,7 +1,8 @@
 -- An option of a name has one value where no name stands twice, and none where it is left out.
 use Rattle.std.specs.Option.{ok_or}
 use Rattle.std.specs.Result.{result_ok}
-use Rattle.std.specs.Prelude.{Contains, Err, IfErr, IfNone, List, None, Ok, Option, Result, Some, [], length, refl, slice_index_or, suc, zero, ℕ, ◌<◌, ◌∷◌, ◌≡◌}
+use Rattle.std.specs.Prelude.{Contains, Err, IfErr, IfNone, IfOk, IfSome, List, None, Ok, Option, Result, Some, [], length, refl, slice_index_or, suc, zero, ℕ}
+use Rattle.std.specs.Prelude.{◌<◌, ◌∷◌, ◌≡◌}
 use Rattle.std.proofs.Common.{ap, arith, inl, inr, subst, sym, ◌∙◌, ◌⊎◌}
 use Rattle.bk_ask.specs.Options.{Given, IsLeftOut, MayHave, NamedValue, NamesDiffer}
 
@@ -96,3 +97,12 @@ some_none a e = cc
 pub fault_of : {A E : Type 0} (r : Result A E) (P : Type 0) → result_ok r ≡ None → IfErr r (λ _. P) → P
 fault_of (Ok a) P none p = absurd (some_none a none)
 fault_of (Err e) P none p = p
+
+-- anything holds of no value
+pub no_some : {A : Type 0} (o : Option A) (P : A → Type 0) → o ≡ None → IfSome o P
+no_some o P e = subst (λ v. IfSome v P) (sym e) tt
+
+-- a success has what is ensured of it
+pub ok_of : {A E : Type 0} (r : Result A E) (P : A → Type 0) (a : A) → result_ok r ≡ Some a → IfOk r P → P a
+ok_of (Ok b) P a e h = let same : b ≡ a = cc in subst P same h
+ok_of (Err fault) P a e h = absurd (cc)

@@ -3,7 +3,7 @@ use Rattle.std.specs.Prelude.{Contains, List, String, [], drop, length, map, ref
 use Rattle.std.specs.Str.{bytes_eq}
 use Rattle.std.specs.declared.alloc.Global.{Global}
 use Rattle.std.proofs.Common.{Bool, ap, arith, eq-eqb, eqb-true, false, get_or, nat_eq, subst, sym, true, ◌∙◌}
-use Rattle.std.proofs.lemmas.List.{length-map, take_rest}
+use Rattle.std.proofs.lemmas.List.{length-drop, length-map, length-take, take_rest}
 use Rattle.std.proofs.lemmas.Slice.Eq.{bytes_eq-Decides}
 use Rattle.bk_ask.specs.Options.{AreOptions, IsLeftOut, NamedValue, options_in}
 use Rattle.bk_ask.proofs.OptionLaws.{later_stands, option_of}
@@ -83,3 +83,22 @@ stand_end names all words empty few is so =
       λ e. so.stand (end_stands names (map string_bytes words) (same ∙ eqb-true (length words) 0 (sym is ∙ e))),
       λ are. is ∙ eq-eqb (length words) 0 (sym same ∙ end_falls names (map string_bytes words) (omega arith) (so.fall are)),
     )
+
+-- the first two of a list
+cut_both : {A : Type 0} (l : List A) (a b : A) → 2 ≤ length l → a ≡ get_or l 0 a → b ≡ get_or l 1 b → l ≡ a ∷ b ∷ drop 2 l
+cut_both [] a b two is next = absurd (omega arith)
+cut_both (x ∷ []) a b two is next = absurd (omega arith)
+cut_both (x ∷ y ∷ ys) a b two is next = λ i. sym is i ∷ sym next i ∷ ys
+
+-- where the first word is the name, the next one is the value
+pub say_found : (name : List ℕ) (all : List (List ℕ)) (words : List (String Global)) (first second : String Global) (text value : List ℕ)
+    → 2 ≤ length words → first ≡ get_or words 0 first → second ≡ get_or words 1 second → text ≡ string_bytes first → value ≡ string_bytes second
+    → true ≡ bytes_eq text name → SayTheSame name all (map string_bytes words) → Contains (options_in all) (option_of name value)
+say_found name all words first second text value two is next same means test so =
+    so.has value (subst (λ (w : List (String Global)). Contains (options_in (map string_bytes w)) (option_of name value))
+    (sym (cut_both words first second two is next))
+    (0, omega arith, λ i. option_of ((sym same ∙ (bytes_eq-Decides text name).0 (sym test)) i) (sym means i)))
+
+-- fewer words are left
+pub fewer_left : {A : Type 0} (l : List A) → 2 ≤ length l → length (take (length l - 2) (drop 2 l)) < length l
+fewer_left l two = omega (arith, two, length-take (length l - 2) (drop 2 l), length-drop 2 l)

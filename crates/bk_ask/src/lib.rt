@@ -9,11 +9,13 @@ ghost use Rattle.bk_ask.specs.Help.{help_text, usage};
 mod commands;
 mod options;
 mod values;
+mod words;
 
 use bk_grammar::{AnswerBuffer, push_bytes};
 use bk_word::{Class, Word};
 use commands::{command_alone, listing, pair, trial, verify};
 use std::alloc::Global;
+pub use words::words_of;
 
 /// What a command line asks.
 #[derive(Drop)]

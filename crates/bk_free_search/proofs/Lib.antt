@@ -41,3 +41,4 @@ pub mod LastSquareExamples
 pub mod UnderSigns
 pub mod ValleyPlaces
 pub mod AllUnderExamples
+pub mod TurnsTaken

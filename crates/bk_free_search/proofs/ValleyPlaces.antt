@@ -1,6 +1,6 @@
 -- The leftmost valley by its places, and the segments beside it.
 use Rattle.std.specs.List.{concat, sum}
-use Rattle.std.proofs.Common.{List, Some, [], ap, arith, drop, length, refl, slice_get, slice_index_or, suc, sym, take, zero}
+use Rattle.std.proofs.Common.{List, Some, [], ap, arith, drop, length, refl, slice_get, slice_index_or, subst, suc, sym, take, zero}
 use Rattle.std.proofs.Common.{ℕ, ◌+◌, ◌-◌, ◌<◌, ◌∙◌, ◌∷◌, ◌≡◌, ◌≤◌}
 use Rattle.std.proofs.lemmas.List.{length-drop, length-take}
 use Rattle.std.proofs.lemmas.Option.{get_or_from_slice_get}
@@ -14,6 +14,10 @@ use Rattle.bk_catalogue.proofs.LineCounting.{sum-cons}
 use Rattle.bk_free_search.proofs.OpenSegments.{segment_read, segment_within}
 use Rattle.bk_skeleton.specs.SmallSkeleton.{IsValley}
 use Rattle.bk_skeleton.specs.declared.small.ValleyPlace.{ValleyPlace}
+
+-- the places of a valley of equal words
+pub valley_of_equal : (w v : Word) (place : ValleyPlace) → w ≡ v → IsValley w place → IsValley v place
+valley_of_equal w v place same is = subst (λ u. IsValley u place) same is
 
 -- the sizes up to a place, and the next one
 sum_more : (sizes : List ℕ) (i : ℕ) → i < length sizes → sum (take (i + 1) sizes) ≡ sum (take i sizes) + slice_index_or sizes i 0

@@ -1,6 +1,7 @@
 -- Squares are moved one after another.
 use Rattle.std.specs.List.{AllByRecursion}
 use Rattle.std.proofs.Common.{List, [], ap, arith, get_or, length, map, refl, set, subst, suc, sym, zero, ℕ, ◌+◌, ◌<◌, ◌^◌, ◌∙◌, ◌∷◌, ◌≡◌, ◌≤◌}
+use Rattle.std.proofs.lemmas.List.{length-map}
 use Rattle.bk_tiling.proofs.Cells.{in_all}
 use Rattle.bk_tiling.proofs.Members.{one_at}
 use Rattle.bk_tiling.specs.Scale.{moved_square}
@@ -50,3 +51,7 @@ one_more_moved right down i first now d same lt =
     let at : get_or now i d ≡ get_or first i d = ap (λ (l : List Square). get_or l i d) same ∙ next_unmoved right down i first d lt in
     let more : suc i ≡ i + 1 = omega arith in
     (λ z. set (same z) i (moved_square right down (at z))) ∙ next_moved right down i first d lt ∙ ap (λ (n : ℕ). front_moved right down n first) more
+
+-- as many squares are moved as there were
+pub as_many_moved : (right down : ℕ) (items shown now : List Square) → shown ≡ items → now ≡ map (moved_square right down) shown → length now ≡ length items
+as_many_moved right down items shown now same moved = ap length moved ∙ length-map shown (moved_square right down) ∙ ap length same

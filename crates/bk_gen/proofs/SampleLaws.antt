@@ -4,9 +4,8 @@ use Rattle.std.specs.Prelude.{Bool, IsTrue, slice_index_or}
 use Rattle.std.proofs.Common.{List, [], arith, leb-true, length, ltb-true, nat_le, nat_lt, refl, suc, zero, ℕ, ◌%◌, ◌&&◌, ◌-◌, ◌∷◌, ◌≤◌}
 use Rattle.std.proofs.lemmas.Bool.{and_parts}
 use Rattle.bk_laws.proofs.AllOfLists.{all_from_test}
-use Rattle.bk_tiling.proofs.TilingTest.{tiles_from_test}
+use Rattle.bk_tiling.proofs.TilingTest.{tiling_from_test}
 use Rattle.bk_tiling.specs.Kept.{IsKept, IsSide}
-use Rattle.bk_tiling.specs.Refusal.{sized}
 use Rattle.bk_tiling.specs.declared.Square.{Square}
 use Rattle.bk_gen.specs.Attaching.{attached}
 use Rattle.bk_gen.specs.Growing.{IsGrowing}
@@ -29,8 +28,7 @@ growing_33x32 = record {
   accepted = record {
     few = omega arith;
     sides = sides_from_test rectangle_33x32.squares refl;
-    tiles = tiles_from_test (sized 33 32) rectangle_33x32.squares
-        refl;
+    tiles = (tiling_from_test rectangle_33x32 refl).tiles;
   };
   width_fits = omega arith;
   height_fits = omega arith;
@@ -42,8 +40,7 @@ growing_69x61 = record {
   accepted = record {
     few = omega arith;
     sides = sides_from_test rectangle_69x61.squares refl;
-    tiles = tiles_from_test (sized 69 61) rectangle_69x61.squares
-        refl;
+    tiles = (tiling_from_test rectangle_69x61 refl).tiles;
   };
   width_fits = omega arith;
   height_fits = omega arith;
@@ -55,8 +52,7 @@ growing_65x47 = record {
   accepted = record {
     few = omega arith;
     sides = sides_from_test rectangle_65x47.squares refl;
-    tiles = tiles_from_test (sized 65 47) rectangle_65x47.squares
-        refl;
+    tiles = (tiling_from_test rectangle_65x47 refl).tiles;
   };
   width_fits = omega arith;
   height_fits = omega arith;

@@ -21,6 +21,7 @@ pub mod DepictionExamples
 pub mod CodePlaces
 pub mod MeetingRuns
 pub mod SignLists
+pub mod SquaresAt
 pub mod NextTurn
 pub mod TurnLaws
 pub mod LevelRunExamples

@@ -17,6 +17,11 @@ kept_appends None b k = tt
 kept_appends (Some xs) None k = absurd k
 kept_appends (Some xs) (Some ys) k = k ∙ sym (append-nil xs)
 
+-- nothing is written where nothing is to be
+pub none_appends : (a : Option (List ℕ)) → Appends a a []
+none_appends None = tt
+none_appends (Some xs) = sym (append-nil xs)
+
 or_false : (b : Bool) → (b || false) ≡ b
 or_false true = refl
 or_false false = refl

@@ -1,10 +1,10 @@
-//! Rows of `bk_verify_run`.
+//! Rows of `bk_verify`.
 
 ghost use Rattle.std.specs.Prelude.{◌<◌, ◌≤◌};
 
 use bk_lines::Ended;
 use bk_ports::{MemSink, MemSource};
-use bk_verify_run::verify;
+use bk_verify::verify;
 use std::alloc::Global;
 
 // A list, the read and the write that fail, how it ends and what is written.

@@ -1,14 +1,13 @@
 //! The workbench for squared rectangles.
 #![tactic(auto)]
 
-ghost use Rattle.std.specs.Prelude.{IfOk, drop, ◌≡◌};
 ghost use Rattle.std.specs.Process.{exit_status};
-ghost use Rattle.std.specs.Vec.Iter.{into_iter_items};
 ghost use Rattle.bk_main.specs.Ended.{EndsBy};
 
+use bk_ask::words_of;
 use bk_ports::{Sink, Source, StdSink, StdSource};
-use std::alloc::{AllocError, Global};
-use std::env::{self, Args};
+use std::alloc::Global;
+use std::env;
 use std::io::ErrorKind;
 use std::process::ExitCode;
 use std::rt::Env;
@@ -32,22 +31,10 @@ fn main(rt: HostRuntime) -> ExitCode {
 // The arguments of the command line, without the program's name.
 fn arguments<R: Env + AllocGlobal>(rt: &R) -> Result<Vec<String>, NoArguments> {
     match env::args(rt) {
-        Ok(args) => without_name(rt.alloc(), args).map_err(|_| NoArguments::NoMemory),
+        Ok(args) => words_of(rt.alloc(), args).map_err(|_| NoArguments::NoMemory),
         Err(error) if error.kind() == ErrorKind::OutOfMemory => Err(NoArguments::NoMemory),
         Err(_) => Err(NoArguments::NotText),
     }
-}
-
-// All arguments but the first, each as it is.
-fn without_name(alloc: Global, mut args: Args) -> Result<Vec<String>, AllocError>
-    ensures { IfOk result (λ v. v.items ≡ drop 1 (into_iter_items args)) }
-{
-    let _name = args.next();
-    let mut words = Vec::new(alloc);
-    for word in args {
-        words.push(word)?;
-    }
-    Ok(words)
 }
 
 // Runs what the arguments ask, and gives the status of the run as that of the process. Where there are no arguments, nothing

@@ -1,26 +1,49 @@
 -- How far a network line was read, with the wires that are kept.
-use Rattle.std.specs.Prelude.{Bool, Err, IfErr, IfOk, List, None, Ok, Result, Some, false, length, take, ℕ, ◌<◌, ◌≡◌, ◌≤◌}
-use Rattle.std.proofs.Common.{ap, arith, get_or, subst, sym, ◌∙◌}
-use Rattle.std.proofs.lemmas.List.{take_all}
+use Rattle.std.specs.Prelude.{Bool, Err, IfErr, IfOk, List, None, Ok, Result, Some, [], false, length, take, ℕ, ◌++◌, ◌+◌, ◌<◌, ◌∷◌, ◌≡◌, ◌≤◌}
+use Rattle.std.proofs.Common.{ap, append_assoc, arith, get_or, refl, subst, sym, ◌∙◌}
+use Rattle.std.proofs.lemmas.Bool.{false≢true}
+use Rattle.std.proofs.lemmas.List.{take_all, take_more}
 use Rattle.bk_net.specs.Gathered.{IsNoNet, Keeps, and_wire}
 use Rattle.bk_net.specs.NetLine.{IsNetLine, IsNoNetLine, Item, NetLine, Skip}
 use Rattle.bk_net.specs.ReadNet.{IsFaultOf, stands_for}
-use Rattle.bk_net.specs.Reader.{ending_at, kind_of, last_wire, next_place}
+use Rattle.bk_net.specs.Reader.{ended_wire, ending_at, kind_of, last_wire, next_place}
 use Rattle.bk_net.specs.declared.NetFault.{NetFault}
 use Rattle.bk_net.specs.declared.NetFault.TheVariants.{Many, Nodes as NodesFault, Text, Wire}
 use Rattle.bk_net.specs.declared.NetLine.{NetLine as NetLineRead}
 use Rattle.bk_net.specs.declared.reader.Ending.{Ending}
 use Rattle.bk_net.specs.declared.reader.Ending.TheVariants.{Empty, Nodes}
 use Rattle.bk_net.specs.declared.reader.Place.{Place}
+use Rattle.bk_net.specs.declared.reader.Place.TheVariants.{Start}
 use Rattle.bk_net.proofs.NetLinesMeant.{read_is_line}
 use Rattle.bk_net.proofs.NetStopping.{Leads, read_whole, stops_at, stops_at_end}
-use Rattle.bk_net.proofs.ReadingAll.{line_at, line_of}
+use Rattle.bk_net.proofs.ReadingAll.{line_at, line_of, read, read_next}
 
 -- the bytes read so far lead to this place with these wires, of which the first are kept
 pub record Progress (front : List ℕ) (p : Place) (kept : List (ℕ × ℕ)) (many : Bool) : Type 0 where
   pub all : List (ℕ × ℕ)
   pub leads : Leads front p all
   pub keeps : Keeps all kept many
+
+-- before the first byte
+pub at_first : (kept : List (ℕ × ℕ)) → kept ≡ [] → Progress [] Start kept false
+at_first kept none = record { all = []; leads = λ x. refl; keeps = record { same = λ h. none; more = λ h. absurd (false≢true h) } }
+
+-- behind a further byte
+pub further : (bs : List ℕ) (i : ℕ) (p q : Place) (kept next_kept : List (ℕ × ℕ)) (many next_many : Bool) → i < length bs
+    → Progress (take i bs) p kept many → next_place p (kind_of (get_or bs i 0)) ≡ Some q
+    → ((all : List (ℕ × ℕ)) → Keeps all kept many → Keeps (and_wire (ended_wire p (kind_of (get_or bs i 0))) all) next_kept next_many)
+    → Progress (take (i + 1) bs) q next_kept next_many
+further bs i p q kept next_kept many next_many within progress next keeps =
+    let b = get_or bs i 0 in
+    let wires = and_wire (ended_wire p (kind_of b)) progress.all in record {
+      all = wires;
+      leads = λ x.
+          ap (λ front. read (front ++ x) Start []) (take_more bs i 0 within)
+          ∙ ap (λ z. read z Start []) (append_assoc (take i bs) (b ∷ []) x)
+          ∙ progress.leads (b ∷ x)
+          ∙ read_next p q (kind_of b) progress.all wires b x refl next refl;
+      keeps = keeps progress.all progress.keeps;
+    }
 
 -- where the reader stops, the bytes leave the grammar
 pub no_next : (bs : List ℕ) (i : ℕ) (p : Place) (kept : List (ℕ × ℕ)) (many : Bool) → i < length bs → Progress (take i bs) p kept many

@@ -1,6 +1,6 @@
 -- A profile before and after a group is laid into the gap of its outline.
 use Rattle.std.specs.List.{All, AllByRecursion, HoldsAt}
-use Rattle.std.proofs.Common.{List, ap, arith, drop, get_or, length, subst, sym, take, ℕ, ◌*◌, ◌++◌, ◌+◌, ◌<◌, ◌∙◌, ◌≡◌, ◌≤◌}
+use Rattle.std.proofs.Common.{List, [], ap, arith, drop, get_or, length, subst, sym, take, ℕ, ◌*◌, ◌++◌, ◌+◌, ◌<◌, ◌∙◌, ◌∷◌, ◌≡◌, ◌≤◌}
 use Rattle.std.proofs.lemmas.List.{length-append}
 use Rattle.bk_laws.proofs.Totals.{sum_is_total, total}
 use Rattle.bk_tiling.proofs.FilledGroup.{filled_group}
@@ -14,7 +14,7 @@ use Rattle.bk_profile.proofs.Hanging.{outline_laid}
 use Rattle.bk_profile.proofs.RunStarts.{gap_from_runs, greatest_depth, least_depth, no_run}
 use Rattle.bk_profile.specs.Gap.{Fits, IsGap, with_group}
 use Rattle.bk_profile.specs.Laid.{IsGreatestDepth, IsLeastDepth, Laid}
-use Rattle.bk_profile.specs.Outline.{IsLowest, runs_under, start}
+use Rattle.bk_profile.specs.Outline.{IsLowest, runs_under, start, width_of}
 use Rattle.bk_profile.specs.Stored.{IsStoredProfile}
 use Rattle.bk_profile.specs.declared.runs.Run.{Run}
 
@@ -80,6 +80,14 @@ module _ (p : Laid) (runs once twice : List Run) (places : ℕ × ℕ) (gap : Se
     };
     outline = outline_laid p.width p.squares runs places.0 places.1 gap sides stored.outline lowest_runs x_is end_is level_is gap_read fits good some;
   }
+
+-- there are runs, and they aren't wide
+pub some_runs : (p : Laid) (runs : List Run) → IsStoredProfile p runs → 0 < length runs
+some_runs p [] stored = absurd (omega (arith, (stored.outline).whole, (stored.profile).some))
+some_runs p (r ∷ runs) stored = omega arith
+
+pub narrow_runs : (p : Laid) (runs : List Run) → IsStoredProfile p runs → width_of runs < 9223372036854775808
+narrow_runs p runs stored = omega (arith, (stored.outline).whole, (stored.profile).narrow)
 
 -- the depths that are read off
 pub least_read : (p : Laid) (runs once twice : List Run) (places : ℕ × ℕ) → IsStoredProfile p runs → once ≡ runs → twice ≡ runs

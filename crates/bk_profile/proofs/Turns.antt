@@ -118,7 +118,7 @@ module _ (code : Code) (k : ℕ) (p : Laid) (kept : IsKeptCode code) (some : 0 <
   has_code : (t : Tiling) → IsLaidTiling p t → HasCode code t
   has_code t is = record { tiling = is.tiling; code_is = ap side_groups is.squares_are ∙ groups }
 
-  open_refused : (refusal : Refusal) → IsOpen p refusal → IsRefused (first_sum code) code refusal
+  pub open_refused : (refusal : Refusal) → IsOpen p refusal → IsRefused (first_sum code) code refusal
   open_refused (Gap number gap_width total) h = absurd h
   open_refused (Open least greatest) h =
       record { laid = p.squares; lays = lays; uneven = subst (λ (n : ℕ). IsUneven (record { width = n; squares = p.squares }) least greatest) turn.width h }

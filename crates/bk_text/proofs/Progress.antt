@@ -104,7 +104,8 @@ abbrev with_room : Bool → ℕ → Gathered → Gathered
 with_room room n g =
     if room then record { groups = g.groups; sides = g.sides ++ n ∷ []; many = g.many } else record { groups = g.groups; sides = g.sides; many = true }
 
-side_added : (n : ℕ) (g : Gathered) → (with_side n g).many ≡ false → 0 < length (with_side n g).sides
+-- a side that is kept is there
+pub side_added : (n : ℕ) (g : Gathered) → (with_side n g).many ≡ false → 0 < length (with_side n g).sides
 side_added n g few = cases (nat_lt (kept_count g) 200) few
   where
     cases : (room : Bool) → (with_room room n g).many ≡ false → 0 < length (with_room room n g).sides

@@ -47,7 +47,7 @@ spelled_further greatest xs ys n m k one two = record {
 }
 
 -- what is gathered stays so with a further side
-gathered_side : (n : ℕ) (g : Gathered) → IsSide n → IsGathered g → IsGathered (with_side n g)
+pub gathered_side : (n : ℕ) (g : Gathered) → IsSide n → IsGathered g → IsGathered (with_side n g)
 gathered_side n g side is = cases (nat_lt (kept_count g) 200) (λ e. ltb-true (kept_count g) 200 e) (λ e. ltb-false (kept_count g) 200 e)
   where
     all : (xs : List ℕ) → AllByRecursion IsSide xs → AllByRecursion IsSide (xs ++ n ∷ [])

@@ -1,6 +1,6 @@
 -- A whole run, for each kind of what is asked.
 use Rattle.std.specs.Option.{MatchOption}
-use Rattle.std.proofs.Common.{List, arith, inl, inr, map, refl, subst, sym, ℕ, ◌∙◌, ◌≡◌}
+use Rattle.std.proofs.Common.{List, ap, arith, inl, inr, map, refl, subst, sym, ℕ, ◌∙◌, ◌≡◌}
 use Rattle.std.specs.Prelude.{None, Option, Some, String, string_bytes}
 use Rattle.std.specs.declared.alloc.Global.{Global}
 use Rattle.bk_lines.specs.Answered.{answers_of, of_fronts}
@@ -126,6 +126,21 @@ pair_writes words kind wanted = writes_out words (asks.Pair kind) wanted (pair_h
 -- nor does `verify`
 pub verify_writes : (words : List (String Global)) (n : ℕ) → WordsAsk words (asks.Verify n) → AsksErrorsOnly words → ⊥
 verify_writes words n wanted = writes_out words (asks.Verify n) wanted (verify_help n)
+
+-- nor does a listing
+pub listing_writes : (words : List (String Global)) (n : ℕ) (class : Class) (from : Option Word) (limit : Option ℕ)
+    → WordsAsk words (asks.List n class from limit) → AsksErrorsOnly words → ⊥
+listing_writes words n class from limit wanted = writes_out words (asks.List n class from limit) wanted (λ e. cc)
+
+-- nor does a line about trial codes
+pub trial_writes : (words : List (String Global)) (seed count : ℕ) → WordsAsk words (asks.Trial seed count) → AsksErrorsOnly words → ⊥
+trial_writes words seed count wanted = writes_out words (asks.Trial seed count) wanted (λ e. cc)
+
+-- nor does a command that answers lines
+pub command_writes : (words : List (String Global)) (ask : Ask) (command : Command) → WordsAsk words ask → command_asked ask ≡ Some command
+    → AsksErrorsOnly words → ⊥
+command_writes words ask command wanted is = writes_out words ask wanted (λ help.
+    let none : None ≡ Some command = ap command_asked (sym help) ∙ is in cc)
 
 -- `alike` reads lines
 pub alike_reads : (words : List (String Global)) → WordsAsk words asks.Alike → AsksNoLines words → ⊥

@@ -8,7 +8,7 @@ ghost use Rattle.bk_top.specs.ReadsToEnd.{ReadsToEnd};
 use crate::lines::status;
 use bk_group_run::{Wanted, list_lines};
 use bk_ports::{Sink, Source};
-use bk_verify_run::verify;
+use bk_verify::verify;
 use std::alloc::Global;
 
 // Lists the lines, and gives the status.

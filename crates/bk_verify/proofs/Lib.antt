@@ -1,2 +1,5 @@
 pub mod Passing
 pub mod LeftExamples
+pub mod Listing
+pub mod LeftBehind
+pub mod LackingExamples

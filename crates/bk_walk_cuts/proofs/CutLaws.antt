@@ -48,6 +48,10 @@ cut_by_front n class front m k barren = record {
   barren = λ other legal from to. let b = moves_between (front_signs k m) other (front_from k m other from) to in barren other legal b.0 b.1;
 }
 
+-- a move is near itself
+pub near_itself : (m : Move) → GrowsByAtMostOne m m
+near_itself m = record { least = omega arith; most = omega arith; signs = omega arith }
+
 -- the move after those has few signs and at most one square more
 pub after_near : (k : ℕ) (m : Move) → GrowsByAtMostOne m (move_after (front_signs k m))
 after_near k m = cases (signs_after (take k m.signs)) (next_short (take k m.signs))

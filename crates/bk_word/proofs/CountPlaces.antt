@@ -1,4 +1,5 @@
 -- Where the counts stand among the bytes of a word.
+use Rattle.std.specs.List.{AllByRecursion}
 use Rattle.std.specs.Prelude.{List, Some, [], cond, count_by, drop, false, length, map, refl, slice_get, suc, take, true, zero, ℕ, ◌++◌, ◌+◌, ◌-◌}
 use Rattle.std.specs.Prelude.{◌<◌, ◌∷◌, ◌≡◌, ◌≤◌}
 use Rattle.std.proofs.Common.{Bool, ap, arith, get_or, length-append, subst, sym, ◌∙◌}
@@ -11,7 +12,7 @@ use Rattle.bk_word.specs.KeptWord.{CanStand, IsKeptWord}
 use Rattle.bk_word.specs.Stored.{IsStoredWord, front_signs, is_count, moves_in, sign_byte, sign_of, stored, stored_move}
 use Rattle.bk_word.specs.Word.{Move, Word}
 use Rattle.bk_word.specs.declared.Sign.{Sign}
-use Rattle.bk_word.proofs.StoredBytes.{order_one, stored_one}
+use Rattle.bk_word.proofs.StoredBytes.{few_low, order_one, stored_one}
 
 -- the move whose count stands first
 abbrev pub move_of : ℕ → List ℕ → Move
@@ -203,3 +204,16 @@ popped_at S B left w n k same s is count some within h behind e =
     let off = popped S w k (subst IsStoredWord (sym same) s) word within some h last in
     let left_is : left ≡ take k S = e ∙ ap (λ (z : List ℕ). take k z) (sym same) in
     record { moves = ap moves_in left_is ∙ off.0; is_stored = subst IsStoredWord (sym left_is) off.1 }
+
+-- what holds of each move holds of the one at a place
+at_place : (P : Move → Type 0) (w : Word) (i : ℕ) (m : Move) → AllByRecursion P w → slice_get w i ≡ Some m → P m
+at_place P [] zero m all e = absurd (cc)
+at_place P [] (suc i) m all e = absurd (cc)
+at_place P (n ∷ w) zero m all e = let same : n ≡ m = cc in subst P same all.0
+at_place P (n ∷ w) (suc i) m all e = at_place P w i m all.1 e
+
+-- a move that a kept word has at a place can stand, and its count is one of a byte
+pub kept_at : (B : List ℕ) (w : Word) (i : ℕ) (m : Move) → IsStoredWord B → moves_in B ≡ w → slice_get w i ≡ Some m → CanStand m × (m.count < 201)
+kept_at B w i m s is e =
+    let kept : IsKeptWord w = subst IsKeptWord is s.kept in
+    (at_place CanStand w i m kept.moves e, at_place (λ (k : Move). k.count < 201) w i m (few_low w kept.few) e)

@@ -2,10 +2,20 @@
 use Rattle.std.specs.List.{AllByRecursion}
 use Rattle.std.specs.Prelude.{List, [], drop, length, slice_range, suc, take, zero, ℕ, ◌++◌, ◌+◌, ◌-◌, ◌<◌, ◌∷◌, ◌≡◌, ◌≢◌, ◌≤◌}
 use Rattle.std.proofs.Common.{ap, append_assoc, arith, get_or, length-append, length-drop, length-take, refl, subst, sym, ◌∙◌}
-use Rattle.std.proofs.lemmas.List.{drop-drop, drop-take, take-append-drop, take-take}
-use Rattle.bk_laws.proofs.AllOfLists.{all_left, all_right}
+use Rattle.std.proofs.lemmas.List.{drop-drop, drop-take, take-append-drop, take-take, take_all, take_more}
+use Rattle.bk_laws.proofs.AllOfLists.{all_append, all_left, all_right}
 use Rattle.bk_grammar.specs.Grammar.{Blanks, Comment, IsBlank, Nothing, ◌or◌}
 use Rattle.bk_word.specs.WordItem.{IsItemAt, IsItemOf}
+
+-- what holds of the first bytes and of the next one holds of one byte more
+pub all_more : (P : ℕ → Type 0) (text : List ℕ) (i : ℕ) → i < length text → AllByRecursion P (take i text) → P (get_or text i 0)
+    → AllByRecursion P (take (i + 1) text)
+all_more P text i within front here =
+    subst (AllByRecursion P) (sym (take_more text i 0 within)) (all_append P (take i text) (get_or text i 0 ∷ []) front (here, tt))
+
+-- and where all bytes are passed, of all
+pub all_passed : (P : ℕ → Type 0) (text : List ℕ) (i : ℕ) → length text ≤ i → AllByRecursion P (take i text) → AllByRecursion P text
+all_passed P text i all front = subst (AllByRecursion P) (take_all i text all) front
 
 -- a list in three parts
 three_parts : (text : List ℕ) (start end : ℕ) → start ≤ end → text ≡ (take start text ++ slice_range text start end) ++ drop end text

@@ -1,4 +1,4 @@
-use Rattle.std.proofs.Common.{List, [], ap, arith, length, rules, ◌+◌, ◌++◌, ◌∙◌, ◌∷◌, ◌≡◌, ℕ}
+use Rattle.std.proofs.Common.{List, [], ap, arith, length, lit<, rules, ◌+◌, ◌++◌, ◌∙◌, ◌∷◌, ◌≡◌, ℕ}
 use Rattle.std.proofs.lemmas.List.FromFn.{fill_by_all}
 use Rattle.arrayvec.proofs.ArrayVecLemmas.{items-with_items}
 use Rattle.bk_draw.specs.Drawing.{character, drawing_row}
@@ -15,3 +15,12 @@ returns c =
 
 pub draw_squares-requires-clause-width : goal.draw_squares-requires-clause-width
 draw_squares-requires-clause-width c = omega (arith, ap length c.as_mut_slice.ensures.value, c.leave_blank.ensures.length, c.width.ensures.value)
+
+pub overflow_add-width : goal.overflow_add-width
+overflow_add-width c = omega (arith, c.width.ensures.value, c.requires.width)
+
+pub leave_blank-requires : goal.leave_blank-requires
+leave_blank-requires c = omega (arith, c.width.ensures.value, c.requires.width)
+
+pub as_mut_slice-requires : goal.as_mut_slice-requires
+as_mut_slice-requires c = lit< tt

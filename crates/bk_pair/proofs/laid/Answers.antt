@@ -1,7 +1,9 @@
-use Rattle.std.proofs.Common.{ap, subst, sym, ◌∙◌, ◌≡◌}
+use Rattle.std.proofs.Common.{ap, arith, length, map, subst, sym, ◌∙◌, ◌≡◌}
+use Rattle.std.proofs.lemmas.List.{length-append, length-map}
 use Rattle.bk_tiling.specs.CodeOrder.{in_code_order}
 use Rattle.bk_tiling.specs.Kept.{IsKept}
 use Rattle.bk_tiling.specs.Refusal.{HaveSides, ShareNoCell}
+use Rattle.bk_tiling.specs.Scale.{moved_square}
 use Rattle.bk_pair.specs.Pair.{laid_squares}
 use Rattle.bk_pair.proofs.LaidSquares.{apart, have_sides, kept_square, laid_items, made, room_left}
 use Rattle.bk_pair.proofs.laid.Goals as goal
@@ -53,3 +55,54 @@ returns c =
     c.from_known.ensures
     ∙ made c.args.a.now c.args.b.now c.width-width.result c.height-height.result c.put_in_order.new.squares.items c.width-width.ensures.value
     c.height-height.ensures.value (c.put_in_order.ensures ∙ ap in_code_order items)
+
+pub new-squares-requires : goal.new-squares-requires
+new-squares-requires c = omega arith
+
+pub push_moved-requires-clause-room : goal.push_moved-requires-clause-room
+push_moved-requires-clause-room c = omega (arith, ap length c.new-squares.ensures, c.requires.few)
+
+pub push_moved-requires-clause-right : goal.push_moved-requires-clause-right
+push_moved-requires-clause-right c = omega arith
+
+pub push_moved-requires-clause-down : goal.push_moved-requires-clause-down
+push_moved-requires-clause-down c = omega arith
+
+pub push-requires : goal.push-requires
+push-requires c = (
+  omega arith,
+  omega (
+    arith,
+    ap length c.new-squares.ensures,
+    ap length c.push_moved.ensures,
+    length-append c.new-squares.result.items (map (moved_square 0 0) c.args.a.now.squares),
+    length-map c.args.a.now.squares (moved_square 0 0),
+    c.requires.few,
+  ),
+)
+
+pub push-requires-2 : goal.push-requires-2
+push-requires-2 c = (
+  omega arith,
+  omega (
+    arith,
+    ap length c.new-squares.ensures,
+    ap length c.push_moved.ensures,
+    length-append c.new-squares.result.items (map (moved_square 0 0) c.args.a.now.squares),
+    length-map c.args.a.now.squares (moved_square 0 0),
+    c.push.ensures.len,
+    c.requires.few,
+  ),
+)
+
+pub push_moved-requires-2-clause-right : goal.push_moved-requires-2-clause-right
+push_moved-requires-2-clause-right c = omega (arith, c.width-width.ensures.value, c.requires.wide)
+
+pub push_moved-requires-2-clause-down : goal.push_moved-requires-2-clause-down
+push_moved-requires-2-clause-down c = omega (arith, c.height-height.ensures.value, c.requires.high)
+
+pub overflow_add-width : goal.overflow_add-width
+overflow_add-width c = omega (arith, c.width-width.ensures.value, c.height-height.ensures.value, c.requires.wide, c.requires.high)
+
+pub overflow_add-width-2 : goal.overflow_add-width-2
+overflow_add-width-2 c = omega (arith, c.width-width.ensures.value, c.height-height.ensures.value, c.requires.wide, c.requires.high)

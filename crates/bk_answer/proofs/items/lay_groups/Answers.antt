@@ -1,3 +1,4 @@
+-- What is stated of a code is held against its sides and its tiling.
 use Rattle.std.proofs.Common.{List, ap, length, subst, ℕ, ◌≡◌}
 use Rattle.std.specs.Prelude.{IfSome}
 use Rattle.std.proofs.lemmas.Bool.{both_ways}
@@ -30,3 +31,15 @@ returns-in-Err-clause-refused c =
     (subst (λ (l : List ℕ). IfSome c.args.order (λ stated. stated ≡ length l)) c.flat-sides.ensures.value
     (c.allows_order.ensures.0 c.if-not-allows_order.false))
     c.in-Err.ensures.refused c.refused_for.ensures
+
+pub returns-then-not-allows_order-clause-few : goal.returns-then-not-allows_order-clause-few
+returns-then-not-allows_order-clause-few c = c.flat-sides.ensures.kept.few
+
+pub returns-in-Ok-clause-few : goal.returns-in-Ok-clause-few
+returns-in-Ok-clause-few c = c.flat-sides.ensures.kept.few
+
+pub returns-in-Err-clause-few : goal.returns-in-Err-clause-few
+returns-in-Err-clause-few c = c.flat-sides.ensures.kept.few
+
+pub lay_code_in-requires : goal.lay_code_in-requires
+lay_code_in-requires c = c.requires

@@ -1,4 +1,5 @@
-use Rattle.std.proofs.Common.{length, subst, ◌<◌, ◌∙◌}
+-- The word is realised, and the tiling or the refusal is written.
+use Rattle.std.proofs.Common.{arith, length, lit<, refl, subst, ◌<◌, ◌∙◌}
 use Rattle.bk_word.specs.Play.{IsComplete, IsLegal, outline_of}
 use Rattle.bk_word.specs.Word.{order_of}
 use Rattle.bk_word_net.specs.Realised.{IsRealised}
@@ -9,7 +10,7 @@ use Rattle.bk_skel.specs.WideWord.{IsWideWord}
 use Rattle.bk_report.specs.Answers.{tiling_line}
 use Rattle.bk_report.specs.declared.refusal.Refused.TheVariants.{Illegal, Nothing, Unfinished, Wide}
 use Rattle.bk_answer.specs.WordAnswer.{AnswersWord, illegal, no_tiling, realised, unfinished, wide_word}
-use Rattle.bk_answer.proofs.ReplySteps.{refusal_replies}
+use Rattle.bk_answer.proofs.ReplySteps.{keeps_itself, refusal_replies}
 use Rattle.bk_answer.proofs.Writing.{cause_told, piece_replies}
 use Rattle.bk_answer.proofs.solve.answer_word.Goals as goal
 
@@ -73,3 +74,17 @@ returns-in-Err-OpenEnd-clause-cause g c = c.refuse-in-Err-OpenEnd.ensures.cause
 
 pub returns-in-Err-Wide-clause-cause : goal.returns-in-Err-Wide-clause-cause
 returns-in-Err-Wide-clause-cause g c = c.refuse-in-Err-Wide.ensures.cause
+
+pub realise_in-requires : goal.realise_in-requires
+realise_in-requires g c = c.requires
+
+pub as_slice-requires : goal.as_slice-requires
+as_slice-requires g c = lit< tt
+
+pub returns-in-Err-NoMemory-clause-reply : goal.returns-in-Err-NoMemory-clause-reply
+returns-in-Err-NoMemory-clause-reply g c =
+    let fault = subst (IsSolveFault c.args.word.now) c.in-Err-NoMemory.field-0-is c.in-Err-NoMemory.ensures.refused in
+    record { cause = fault.1; kept = keeps_itself (g.O.Sink.written c.args.out.now) }
+
+pub returns-in-Err-NoMemory-clause-cause : goal.returns-in-Err-NoMemory-clause-cause
+returns-in-Err-NoMemory-clause-cause g c = record { later = omega arith; ok = refl; failed = tt }

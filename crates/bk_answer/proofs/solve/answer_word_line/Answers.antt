@@ -1,3 +1,4 @@
+-- The item of the line is read as a word, and the word is answered.
 use Rattle.std.proofs.Common.{None, Option, arith, false, refl, subst, sym, ℕ, ◌<◌, ◌≡◌, ◌≤◌}
 use Rattle.std.specs.Prelude.{IfNone, slice_range}
 use Rattle.bk_grammar.specs.Grammar.{LineEnd}
@@ -8,7 +9,7 @@ use Rattle.bk_word.specs.WordText.{IsTextOf}
 use Rattle.bk_word.specs.declared.reading.WordFault.{WordFault}
 use Rattle.bk_report.specs.declared.refusal.Refused.TheVariants.{Long, Many}
 use Rattle.bk_answer.specs.WordAnswer.{AnswersWord, AnswersWordLine, HasWord, MayWantForWord, large_word, no_word, no_word_item, of_word, word_too_long}
-use Rattle.bk_answer.proofs.ReplySteps.{refusal_replies, replies_more, text_replies}
+use Rattle.bk_answer.proofs.ReplySteps.{keeps_itself, refusal_replies, replies_more, text_replies}
 use Rattle.bk_answer.proofs.solve.answer_word_line.Goals as goal
 
 none_is : {T : Type 0} (P : Type 0) (o : Option T) → o ≡ None → IfNone o P → P
@@ -68,3 +69,34 @@ returns-in-Err-Text-clause-cause g c = c.refuse-in-Err-Text.ensures.cause
 
 pub returns-in-Err-Many-clause-cause : goal.returns-in-Err-Many-clause-cause
 returns-in-Err-Many-clause-cause g c = c.refuse-in-Err-Many.ensures.cause
+
+pub returns-in_default-clause-cause : goal.returns-in_default-clause-cause
+returns-in_default-clause-cause g c = record { later = omega arith; ok = refl; failed = tt }
+
+pub slice_bounds-read_word-count : goal.slice_bounds-read_word-count
+slice_bounds-read_word-count g c = c.in-Some.ensures.some.order
+
+pub slice_bounds-read_word-start : goal.slice_bounds-read_word-start
+slice_bounds-read_word-start g c = c.in-Some.ensures.some.order
+
+pub slice_bounds-read_word-end : goal.slice_bounds-read_word-end
+slice_bounds-read_word-end g c = c.in-Some.ensures.some.within
+
+pub answer_word-requires : goal.answer_word-requires
+answer_word-requires g c = c.in-Ok.ensures.read.some
+
+pub returns-in-Err-NoMemory-clause-cause : goal.returns-in-Err-NoMemory-clause-cause
+returns-in-Err-NoMemory-clause-cause g c = record { later = omega arith; ok = refl; failed = tt }
+
+pub returns-in-Err-NoMemory-clause-reply : goal.returns-in-Err-NoMemory-clause-reply
+returns-in-Err-NoMemory-clause-reply g c =
+    let wanting = subst (λ (f : WordFault). IsFaultOf f (slice_range c.args.line.now c.in-Some.start c.in-Some.end)) c.in-Err-NoMemory.field-0-is
+    c.in-Err-NoMemory.ensures.fault in
+    let has : HasWord c.args.line.now wanting.0 = record {
+      start = c.in-Some.start;
+      text = slice_range c.args.line.now c.in-Some.start c.in-Some.end;
+      item = record { short = omega (arith, c.if-line-gt-LONGEST_LINE.false); stop = c.in-Some.end; item = c.in-Some.ensures.some; text_is = refl };
+      word = wanting.1;
+      few = wanting.3;
+    } in
+    record { cause = (wanting.0, has, wanting.2); kept = keeps_itself (g.O.Sink.written c.args.out.now) }

@@ -1,5 +1,6 @@
+-- The kind is read, and where it has no meaning nothing is asked.
 use Rattle.std.proofs.Common.{false, map, refl, string_bytes, sym, true, ◌∙◌, ◌≡◌}
-use Rattle.bk_ask.proofs.OptionLaws.{fault_of, none_of}
+use Rattle.bk_ask.proofs.OptionLaws.{fault_of, no_some, none_of, ok_of}
 use Rattle.bk_ask.proofs.Unasked.{nothing_paired}
 use Rattle.bk_ask.proofs.commands.pair.Goals as goal
 
@@ -15,3 +16,16 @@ returns-then-not-are_options-clause-none c =
 
 pub kind_in-requires : goal.kind_in-requires
 kind_in-requires c = (c.if-not-are_options.ensures.0 refl).once
+
+pub returns-in_err-kind-clause-some : goal.returns-in_err-kind-clause-some
+returns-in_err-kind-clause-some c = no_some c.from_residual.result _ c.from_residual.ensures
+
+pub returns-clause-some : goal.returns-clause-some
+returns-clause-some c = record {
+  options = map string_bytes c.args.options.now;
+  line = refl;
+  say = record {
+    options = c.if-not-are_options.ensures.0 refl;
+    has_kind = ok_of c.kind_in.result _ c.in_ok-kind.kind (sym c.ok.ensures.value ∙ c.in_ok-kind.was) c.kind_in.ensures.ok;
+  };
+}

@@ -1,6 +1,13 @@
-use Rattle.std.proofs.Common.{[], refl, subst, sym, ◌++◌, ◌∙◌, ◌∷◌}
-use Rattle.bk_word.specs.Play.{IsComplete}
-use Rattle.bk_free_search.proofs.LastSquare.{last_is_whole}
+-- The last square ends the word, and is taken back again.
+use Rattle.std.proofs.Common.{[], ap, arith, length, refl, subst, sym, ◌++◌, ◌∙◌, ◌∷◌}
+use Rattle.std.proofs.lemmas.List.{length-append}
+use Rattle.bk_word.proofs.StoredBytes.{order_one}
+use Rattle.bk_word.specs.Play.{IsComplete, outline_of}
+use Rattle.bk_word.specs.Word.{Move, Word, order_of}
+use Rattle.bk_free_search.proofs.LastSquare.{last_is_whole, last_legal}
+use Rattle.bk_free_search.proofs.TurnsTaken.{without_last}
+use Rattle.bk_free_search.specs.BoardOutlines.{IsBoardOutline}
+use Rattle.bk_free_search.specs.LastSquare.{neighbours}
 use Rattle.bk_free_search.proofs.state.meet_with_last.Goals as goal
 
 pub returns-in-None-clause-all : goal.returns-in-None-clause-all
@@ -32,3 +39,33 @@ returns-clause-kept g c = c.meet_closed.ensures.kept
 
 pub returns-clause-fixed : goal.returns-clause-fixed
 returns-clause-fixed g c = c.meet_closed.ensures.fixed
+
+pub push-requires-clause-legal : goal.push-requires-clause-legal
+push-requires-clause-legal g c = last_legal (outline_of c.args.board.now) c.in-Some.last (neighbours (outline_of c.args.board.now))
+    (ap (λ (m : Move). m.count) c.in-Some.ensures.last) (ap (λ (m : Move). m.signs) c.in-Some.ensures.last) refl
+
+pub push-requires-clause-few : goal.push-requires-clause-few
+push-requires-clause-few g c = omega (arith, c.requires.one, c.requires.most, ap (λ (m : Move). m.count) c.in-Some.ensures.last)
+
+pub meet_closed-requires : goal.meet_closed-requires
+meet_closed-requires g c = record {
+  few = omega (
+    arith,
+    c.requires.one,
+    c.requires.most,
+    ap order_of c.push.ensures,
+    order_one c.args.board.now c.in-Some.last,
+    ap (λ (m : Move). m.count) c.in-Some.ensures.last,
+  );
+}
+
+pub take_back-requires-clause-some : goal.take_back-requires-clause-some
+take_back-requires-clause-some g c =
+    omega (arith, ap (λ (w : Word). length w) c.push.ensures, length-append c.args.board.now (c.in-Some.last ∷ []))
+
+pub take_back-requires-clause-before : goal.take_back-requires-clause-before
+take_back-requires-clause-before g c = subst (λ (w : Word). IsBoardOutline w c.outline-before.result)
+    (sym (without_last c.args.board.now c.push.new.self c.in-Some.last c.push.ensures)) c.outline-before.ensures
+
+pub returns-clause-board : goal.returns-clause-board
+returns-clause-board g c = c.take_back.ensures ∙ without_last c.args.board.now c.push.new.self c.in-Some.last c.push.ensures

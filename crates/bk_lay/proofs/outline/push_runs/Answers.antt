@@ -1,20 +1,31 @@
-use Rattle.std.proofs.lemmas.Grind.{common_steps}
-use Rattle.std.specs.List.{AllByRecursion}
-use Rattle.std.proofs.Common.{List, [], append-nil, ap, arith, drop, get_or, length, lit<, refl, suc, sym, zero, ℕ, ◌++◌, ◌+◌, ◌-◌, ◌<◌, ◌^◌, ◌∙◌, ◌∷◌, ◌≡◌}
-use Rattle.std.proofs.lemmas.List.{drop_all}
+use Rattle.std.proofs.Common.{List, [], append-nil, ap, arith, drop, get_or, length, lit<, refl, sym, ℕ, ◌++◌, ◌+◌, ◌-◌, ◌<◌, ◌^◌, ◌∙◌, ◌∷◌, ◌≡◌, ◌≤◌}
+use Rattle.std.proofs.lemmas.List.{append_assoc, at_drop_more, drop_all}
 use Rattle.bk_tiling.specs.declared.Square.{Square}
-use Rattle.bk_lay.specs.LevelRuns.{runs_under}
+use Rattle.bk_lay.specs.LevelRuns.{run_under, runs_under}
+use Rattle.bk_lay.specs.declared.outline.Run.{Run}
+use Rattle.bk_lay.proofs.SquaresAt.{holds_at}
 use Rattle.bk_lay.proofs.outline.push_runs.Goals as goal
 
--- what holds of all squares holds of the one at a place
-holds_at : (P : Square → Type 0) (squares : List Square) (i : ℕ) (d : Square) → AllByRecursion P squares → i < length squares
-    → P (get_or squares i d)
-holds_at P [] i d all within = absurd (omega arith)
-holds_at P (q ∷ squares) zero d all within = all.0
-holds_at P (q ∷ squares) (suc i) d all within = holds_at P squares i d all.1 (omega arith)
+abbrev none : Square
+none = record { x = 0; y = 0; s = 0 }
+
+-- the run under one square more, which stands before the others
+one_more : (right : List Run) (squares : List Square) (i : ℕ) (d : Square) → 0 < i → i ≤ length squares
+    → right ++ runs_under (drop i squares) ++ run_under (get_or squares (i - 1) d) ∷ [] ≡ right ++ runs_under (drop (i - 1) squares)
+one_more right squares i d some within =
+    let back : i ≡ i - 1 + 1 = omega (arith, some) in
+    append_assoc right (runs_under (drop i squares)) (run_under (get_or squares (i - 1) d) ∷ [])
+    ∙ ap (λ n. right ++ (runs_under (drop n squares) ++ run_under (get_or squares (i - 1) d) ∷ [])) back
+    ∙ ap (λ (l : List Run). right ++ l) (sym (at_drop_more runs_under squares (i - 1) d (omega (arith, some, within))))
 
 pub squares-preserved : goal.squares-preserved
-squares-preserved c = grind (arith, common_steps)
+squares-preserved c = record {
+  within = omega (arith, c.squares.invariant.within);
+  count = omega (arith, c.squares.invariant.count, c.push.ensures.len, c.squares-test.true);
+  items = c.push.ensures.items
+      ∙ ap (λ (l : List Run). l ++ run_under (get_or c.args.squares.now (c.squares.i - 1) none) ∷ []) c.squares.invariant.items
+      ∙ one_more c.args.right.now.items c.args.squares.now c.squares.i none c.squares-test.true c.squares.invariant.within;
+}
 
 pub squares-init : goal.squares-init
 squares-init c = record {
@@ -33,14 +44,14 @@ bounds-squares-i c = omega (arith, c.squares-test.true, c.squares.invariant.with
 pub overflow_add-q : goal.overflow_add-q
 overflow_add-q c = omega (
   arith,
-  holds_at (λ q. q.x + q.s < 2 ^ 64) c.args.squares.now (c.squares.i - 1) (record { x = 0; y = 0; s = 0 }) c.requires.right
+  holds_at (λ q. q.x + q.s < 2 ^ 64) c.args.squares.now (c.squares.i - 1) none c.requires.right
       (omega (arith, c.squares-test.true, c.squares.invariant.within)),
 )
 
 pub overflow_add-q-in-squares : goal.overflow_add-q-in-squares
 overflow_add-q-in-squares c = omega (
   arith,
-  holds_at (λ q. q.y + q.s < 2 ^ 64) c.args.squares.now (c.squares.i - 1) (record { x = 0; y = 0; s = 0 }) c.requires.fit
+  holds_at (λ q. q.y + q.s < 2 ^ 64) c.args.squares.now (c.squares.i - 1) none c.requires.fit
       (omega (arith, c.squares-test.true, c.squares.invariant.within)),
 )
 

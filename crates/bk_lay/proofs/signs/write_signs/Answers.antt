@@ -1,9 +1,10 @@
-use Rattle.std.proofs.Common.{List, Option, [], ap, arith, get_or, length, sym, take, ℕ, ◌++◌, ◌+◌, ◌∙◌, ◌∷◌, ◌≡◌, ◌≤◌}
+use Rattle.std.proofs.Common.{List, None, Option, Some, [], ap, arith, get_or, length, lit<, refl, sym, take, ℕ, ◌++◌, ◌+◌, ◌<◌, ◌^◌, ◌∙◌, ◌∷◌, ◌≡◌, ◌≤◌}
 use Rattle.std.specs.Prelude.{option_to_list}
-use Rattle.std.proofs.lemmas.List.{append_assoc, length-append, length-map, length-take-le, map-append, take_all, take_more}
+use Rattle.std.proofs.lemmas.List.{append-nil, append_assoc, length-append, length-map, length-take-le, map-append, take_all, take_more}
 use Rattle.bk_tiling.specs.declared.Square.{Square}
 use Rattle.bk_word.specs.declared.Sign.{Sign}
 use Rattle.bk_lay.proofs.SignLists.{few_of_option, few_signs, last_after, last_of_levels, signs_after}
+use Rattle.bk_lay.proofs.SquaresAt.{holds_at}
 use Rattle.bk_lay.specs.LevelRuns.{bottoms_of}
 use Rattle.bk_lay.specs.TilingWord.{signs_between}
 use Rattle.bk_lay.proofs.signs.write_signs.Goals as goal
@@ -20,6 +21,11 @@ few before squares i h =
       length-take-le i squares h,
       few_of_option before,
     )
+
+-- before the first square there is no sign, and the level is the one at the left
+at_first : (before : Option ℕ) → (signs_between (option_to_list before ++ []) ≡ []) × (before ≡ last_of_levels (option_to_list before ++ []))
+at_first None = (refl, refl)
+at_first (Some level) = (refl, refl)
 
 one_more : (before : Option ℕ) (squares : List Square) (i : ℕ) (d : Square) → i + 1 ≤ length squares
     → option_to_list before ++ bottoms_of (take (i + 1) squares) ≡ (option_to_list before ++ bottoms_of (take i squares))
@@ -62,3 +68,26 @@ returns-in-Some c =
     (option_to_list c.args.before ++ bottoms_of (take c.loop-q.q-index c.args.squares.now)) c.loop-q.last c.in-Some.level
     c.push_sign-in-Some.ensures c.loop-q.invariant.signs c.loop-q.invariant.last
     ∙ (λ i. signs_between (option_to_list c.args.before ++ bottoms_of (whole i) ++ option_to_list (sym c.in-Some.is i)))
+
+pub clear-requires : goal.clear-requires
+clear-requires c = lit< tt
+
+pub loop-q-init : goal.loop-q-init
+loop-q-init c = record { signs = c.clear.ensures ∙ sym (at_first c.args.before).0; last = (at_first c.args.before).1 }
+
+pub offset_bounds-squares-q-index : goal.offset_bounds-squares-q-index
+offset_bounds-squares-q-index c = omega (arith, c.loop-q-test.true, c.requires.few)
+
+pub overflow_add-bottom : goal.overflow_add-bottom
+overflow_add-bottom c = omega (
+  arith,
+  holds_at (λ q. q.y + q.s < 2 ^ 64) c.args.squares.now c.loop-q.q-index (record { x = 0; y = 0; s = 0 }) c.requires.fit c.loop-q-test.true,
+)
+
+pub returns-in_default : goal.returns-in_default
+returns-in_default c =
+    let whole : take c.loop-q.q-index c.args.squares.now ≡ c.args.squares.now = take_all c.loop-q.q-index c.args.squares.now c.loop-q-test.false in
+    c.loop-q.invariant.signs
+    ∙ (λ i. signs_between (option_to_list c.args.before ++ bottoms_of (whole i)))
+    ∙ ap signs_between (sym (append-nil (option_to_list c.args.before ++ bottoms_of c.args.squares.now)))
+    ∙ (λ i. signs_between (option_to_list c.args.before ++ bottoms_of c.args.squares.now ++ option_to_list (sym c.in_default.is i)))

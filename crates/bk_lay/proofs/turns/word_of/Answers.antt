@@ -1,4 +1,4 @@
-use Rattle.std.proofs.Common.{arith, false, subst, sym, true, ◌≡◌}
+use Rattle.std.proofs.Common.{arith, false, refl, subst, sym, true, ◌≡◌}
 use Rattle.bk_word.specs.Word.{Word}
 use Rattle.bk_lay.proofs.TurnLaws.{nearer}
 use Rattle.bk_lay.specs.Turning.{Turned}
@@ -30,3 +30,9 @@ moves-preserved c = subst (λ (w : Word). Turned c.args.tiling.now w c.next_in.n
 
 pub returns-clause-word : goal.returns-clause-word
 returns-clause-word c = c.next_in.ensures.last c.moves-test.false c.moves.word c.moves.invariant
+
+pub moves-init : goal.moves-init
+moves-init c = subst (λ (w : Word). Turned c.args.tiling.now w c.begin.new.self) (sym c.new-word.ensures) c.begin.ensures.turned
+
+pub returns-clause-inline : goal.returns-clause-inline
+returns-clause-inline c few = refl

@@ -1,12 +1,17 @@
-use Rattle.std.proofs.Common.{Bool, Err, arith, false, inl, subst, sym, take, true, ℕ, ◌||◌, ◌∙◌, ◌≡◌}
+use Rattle.std.proofs.Common.{Bool, Err, List, None, Option, Some, [], arith, false, inl, le_refl, lit<, refl, subst, sym, take, true, zero-le, ℕ, ◌||◌, ◌∙◌}
+use Rattle.std.proofs.Common.{◌≡◌}
 use Rattle.std.proofs.lemmas.List.{length-take-le}
+use Rattle.std.specs.Io.KnownBytes.{Consumes}
+use Rattle.bk_ports.specs.Causes.{Rose}
 use Rattle.bk_lines.specs.Answered.{CountFits}
 use Rattle.bk_lines.specs.Ending.{ended_of, verdict_of}
 use Rattle.bk_lines.specs.Faults.{CountsTell, Faults}
 use Rattle.bk_lines.specs.declared.Ended.{Ended}
+use Rattle.bk_lines.specs.declared.Ended.TheVariants.{TooMany}
 use Rattle.bk_lines.specs.declared.line.Stop.{Stop}
 use Rattle.bk_lines.specs.declared.line.Stop.TheVariants.{NoMemory, WriteFailed}
 use Rattle.bk_lines.proofs.CountedFaults.{calm_is_done}
+use Rattle.bk_lines.proofs.OneLine.{none_appends}
 use Rattle.bk_lines.proofs.Taking.{ends_all, ends_block, ends_last, ends_more, ends_verdict, read_nothing, taken_more}
 use Rattle.bk_lines.proofs.input.enter_lines.Goals as goal
 
@@ -27,6 +32,10 @@ stop_tells stop ended read read_after write now write_after is same at count =
 at_verdict : (refused : Bool) (faults : Faults) → faults.read_after ≡ faults.read → faults.write_after ≡ faults.write → CountsTell (verdict_of refused) faults
 at_verdict true faults read write = (read, write)
 at_verdict false faults read write = (read, write)
+
+nothing_consumed : (left : Option (List ℕ)) → Consumes left left []
+nothing_consumed None = tt
+nothing_consumed (Some xs) = refl
 
 pub returns-in-Ok-enter_last-clause-ending : goal.returns-in-Ok-enter_last-clause-ending
 returns-in-Ok-enter_last-clause-ending g c =
@@ -146,3 +155,61 @@ enter_block-requires-clause-ready g c = c.reads.invariant.is_ready
 
 pub read_block-requires : goal.read_block-requires
 read_block-requires g c = c.reads.invariant.within
+
+pub new-requires : goal.new-requires
+new-requires g c = lit< tt
+
+pub new-buffer-requires : goal.new-buffer-requires
+new-buffer-requires g c = lit< tt
+
+pub enter_last-requires-clause-early : goal.enter_last-requires-clause-early
+enter_last-requires-clause-early g c = omega (arith, c.reads.invariant.early, c.reads.invariant.within)
+
+pub returns-then-taken-eq-MOST_BYTES-clause-complete : goal.returns-then-taken-eq-MOST_BYTES-clause-complete
+returns-then-taken-eq-MOST_BYTES-clause-complete g c =
+    calm_is_done _ _ _ TooMany (returns-then-taken-eq-MOST_BYTES-clause-ending g c) (returns-then-taken-eq-MOST_BYTES-clause-faults g c)
+
+pub slice_bounds-block-end : goal.slice_bounds-block-end
+slice_bounds-block-end g c = omega (arith, c.read_block.array_long, c.in-Ok.ensures.count)
+
+pub slice_bounds-enter_block-end : goal.slice_bounds-enter_block-end
+slice_bounds-enter_block-end g c = sym (length-take-le c.in-Ok.count c.read_block.new.block (omega (arith, c.read_block.array_long, c.in-Ok.ensures.count)))
+
+pub enter_block-requires-clause-early : goal.enter_block-requires-clause-early
+enter_block-requires-clause-early g c =
+    omega (
+      arith,
+      length-take-le c.in-Ok.count c.read_block.new.block (omega (arith, c.read_block.array_long, c.in-Ok.ensures.count)),
+      c.reads.invariant.early,
+      c.reads.invariant.within,
+      c.in-Ok.ensures.count,
+    )
+
+pub overflow_add-taken : goal.overflow_add-taken
+overflow_add-taken g c = omega (arith, c.reads.invariant.within, c.in-Ok.ensures.count)
+
+pub reads-smaller : goal.reads-smaller
+reads-smaller g c = omega (arith, c.if-count-eq0.false, c.if-taken-eq-MOST_BYTES.false, c.reads.invariant.within)
+
+pub returns-in_default-clause-faults : goal.returns-in_default-clause-faults
+returns-in_default-clause-faults g c = (
+  subst (λ (n : ℕ). Rose n (g.S.Source.faults c.read_block.new.source)) c.reads.invariant.same_source c.in_default.ensures.cause.failed,
+  c.reads.invariant.same_out,
+)
+
+pub reads-init : goal.reads-init
+reads-init g c = record {
+  state = record {
+    input = [];
+    taken = nothing_consumed (g.S.Source.left c.args.source.now);
+    size = refl;
+    front = c.new.ensures;
+    numbered = refl;
+    entered = record { replies = []; each = refl; written = none_appends (g.O.Sink.written c.args.out.now); any = refl };
+  };
+  within = zero-le;
+  early = le_refl 1;
+  is_ready = c.requires;
+  same_source = refl;
+  same_out = refl;
+}

@@ -1,7 +1,13 @@
-use Rattle.std.proofs.Common.{◌≡◌, ◌++◌, ◌∙◌, length, refl, sym, eqb-true}
+use Rattle.std.proofs.Common.{List, [], arith, eqb-true, length, lit<, refl, sym, ℕ, ◌++◌, ◌∙◌, ◌∷◌, ◌≡◌}
+use Rattle.std.proofs.lemmas.List.{length-take-le}
 use Rattle.bk_lines.proofs.Fronts.{front-alone}
 use Rattle.bk_lines.proofs.OneLine.{line_entered, line_stopped}
 use Rattle.bk_lines.proofs.line.close_line.Goals as goal
+
+-- nothing is kept
+none_kept : (front : List ℕ) → length front ≡ 0 → front ≡ []
+none_kept [] none = refl
+none_kept (b ∷ front) none = absurd (omega (arith, none))
 
 pub returns-then-is_empty-clause-entered : goal.returns-then-is_empty-clause-entered
 returns-then-is_empty-clause-entered g c =
@@ -62,3 +68,28 @@ returns-clause-next g c = refl
 
 pub returns-clause-emptied : goal.returns-clause-emptied
 returns-clause-emptied g c = c.clear.ensures
+
+pub overflow_add-kept : goal.overflow_add-kept
+overflow_add-kept g c = omega (arith, c.requires.early)
+
+pub is_empty-requires : goal.is_empty-requires
+is_empty-requires g c = lit< tt
+
+pub slice_bounds-front-end : goal.slice_bounds-front-end
+slice_bounds-front-end g c = sym (length-take-le c.min.result c.args.end.now (omega (arith, c.min.ensures)))
+
+pub enter_line-requires-clause-short : goal.enter_line-requires-clause-short
+enter_line-requires-clause-short g c =
+    omega (arith, c.min.ensures, length-take-le c.min.result c.args.end.now (omega (arith, c.min.ensures)))
+
+pub returns-then-is_empty-clause-emptied : goal.returns-then-is_empty-clause-emptied
+returns-then-is_empty-clause-emptied g c = none_kept c.args.kept.now.front.items (eqb-true _ _ (sym c.is_empty.ensures ∙ c.if-is_empty.true))
+
+pub deref-requires : goal.deref-requires
+deref-requires g c = lit< tt
+
+pub enter_line-entered-requires-clause-short : goal.enter_line-entered-requires-clause-short
+enter_line-entered-requires-clause-short g c = c.deref.ensures.1
+
+pub clear-requires : goal.clear-requires
+clear-requires g c = lit< tt

@@ -1,14 +1,14 @@
-use Rattle.std.proofs.Common.{refl, rules}
+use Rattle.std.proofs.Common.{refl}
 use Rattle.bk_lines.proofs.line.enter_line.Goals as goal
 
 pub returns-in-Err-clause-entered : goal.returns-in-Err-clause-entered
-returns-in-Err-clause-entered g c = search rules
+returns-in-Err-clause-entered g c = tt
 
 pub returns-in-Err-clause-count : goal.returns-in-Err-clause-count
-returns-in-Err-clause-count g c = search rules
+returns-in-Err-clause-count g c = c.in-Err.ensures.cause.failed
 
 pub returns-in-Err-clause-ready : goal.returns-in-Err-clause-ready
-returns-in-Err-clause-ready g c = search rules
+returns-in-Err-clause-ready g c = tt
 
 pub returns-then-is_empty-clause-count : goal.returns-then-is_empty-clause-count
 returns-then-is_empty-clause-count g c = refl
@@ -36,3 +36,15 @@ returns-in-Ok-Refused-clause-ready g c = c.in-Ok-Refused.ensures.ready
 
 pub returns-in-Ok-NoMemory-clause-count : goal.returns-in-Ok-NoMemory-clause-count
 returns-in-Ok-NoMemory-clause-count g c = c.in-Ok-NoMemory.ensures.cause.ok
+
+pub returns-in-Ok-Accepted-clause-entered : goal.returns-in-Ok-Accepted-clause-entered
+returns-in-Ok-Accepted-clause-entered g c = rw c.in-Ok-Accepted.field-0-is at c.in-Ok-Accepted.ensures.outcome
+
+pub returns-in-Ok-Refused-clause-entered : goal.returns-in-Ok-Refused-clause-entered
+returns-in-Ok-Refused-clause-entered g c = rw c.in-Ok-Refused.field-0-is at c.in-Ok-Refused.ensures.outcome
+
+pub returns-in-Ok-NoMemory-clause-stopped : goal.returns-in-Ok-NoMemory-clause-stopped
+returns-in-Ok-NoMemory-clause-stopped g c = rw c.in-Ok-NoMemory.field-0-is at c.in-Ok-NoMemory.ensures.outcome
+
+pub returns-in-Err-clause-stopped : goal.returns-in-Err-clause-stopped
+returns-in-Err-clause-stopped g c = c.in-Err.ensures.failed

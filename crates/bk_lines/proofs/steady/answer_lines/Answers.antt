@@ -26,3 +26,9 @@ returns-clause-ending g c =
       written_after = g.O.Sink.written c.enter_lines-ended.new.out;
     })
     c.enter_lines-ended.result refl c.enter_lines-ended.ensures.ending
+
+pub returns-clause-complete : goal.returns-clause-complete
+returns-clause-complete g c = c.enter_lines-ended.ensures.complete
+
+pub returns-clause-faults : goal.returns-clause-faults
+returns-clause-faults g c = c.enter_lines-ended.ensures.faults

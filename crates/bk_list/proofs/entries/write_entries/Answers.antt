@@ -1,4 +1,4 @@
-use Rattle.std.proofs.Common.{arith, refl, ℕ, ◌+◌, ◌-◌, ◌<◌, ◌^◌, ◌∙◌}
+use Rattle.std.proofs.Common.{arith, refl, tests, ℕ, ◌+◌, ◌-◌, ◌<◌, ◌^◌, ◌∙◌}
 use Rattle.bk_word.proofs.Failing.{on_err}
 use Rattle.bk_list.proofs.Exits.{cause_of_exit, no_cause, not_ok}
 use Rattle.bk_list.proofs.ListingSteps.{begun_as, listed_begun, listed_more, listed_none, next_as}
@@ -119,3 +119,9 @@ returns-in-Nothing-clause-cause g c =
 
 pub returns-in-Nothing-clause-stopped : goal.returns-in-Nothing-clause-stopped
 returns-in-Nothing-clause-stopped g c = tt
+
+pub entry_room-entry-requires : goal.entry_room-entry-requires
+entry_room-entry-requires g c = search tests
+
+pub write_next-requires : goal.write_next-requires
+write_next-requires g c = search tests

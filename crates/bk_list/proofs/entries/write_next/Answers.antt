@@ -1,4 +1,4 @@
-use Rattle.std.proofs.Common.{refl}
+use Rattle.std.proofs.Common.{refl, tests}
 use Rattle.bk_word.proofs.Failing.{on_err}
 use Rattle.bk_list.proofs.Exits.{cause_of_exit, no_cause, not_ok}
 use Rattle.bk_list.proofs.ListingSteps.{word_some}
@@ -88,3 +88,6 @@ returns-clause-steps g c = c.advance_in.ensures.steps c.if-not-advance_in.false
 
 pub returns-clause-stopped : goal.returns-clause-stopped
 returns-clause-stopped g c = tt
+
+pub advance_in-requires : goal.advance_in-requires
+advance_in-requires g c = search tests

@@ -1,4 +1,4 @@
-use Rattle.std.proofs.Common.{ap, inl, inr, lit<, refl, subst, ◌-◌, ◌∙◌}
+use Rattle.std.proofs.Common.{ap, arith, inl, inr, lit<, refl, subst, tests, ◌-◌, ◌∙◌}
 use Rattle.bk_word.specs.Word.{Word}
 use Rattle.bk_word.proofs.Failing.{on_err}
 use Rattle.bk_report.specs.Listings.{last_line}
@@ -125,3 +125,9 @@ returns-clause-cause g c =
 
 pub returns-clause-stopped : goal.returns-clause-stopped
 returns-clause-stopped g c = tt
+
+pub write_entries-requires : goal.write_entries-requires
+write_entries-requires g c = (search tests, omega (arith, c.requires.most, c.requires.order_is))
+
+pub cursor-requires : goal.cursor-requires
+cursor-requires g c = search tests

@@ -1,11 +1,21 @@
-use Rattle.std.proofs.Common.{subst, sym}
-use Rattle.bk_word.specs.Word.{Word}
+use Rattle.std.proofs.Common.{subst, sym, ◌≤◌}
+use Rattle.bk_word.specs.Word.{Word, order_of}
+use Rattle.bk_word.specs.Play.{IsComplete}
 use Rattle.bk_normal.specs.Normal.{Counts}
 use Rattle.bk_normal.proofs.NormalImages.{a_normal_word_has_settled_counts}
 use Rattle.bk_normal.specs.NormalImage.{AreSettledCounts, IsMetByNormalWord}
 use Rattle.bk_normal.specs.WordNumbers.{counts_of_word}
 use Rattle.bk_free_leaf.specs.Ties.{AreTiesOf}
 use Rattle.bk_member_table.proofs.finding.placed_at.Goals as goal
+
+pub leaf-requires-clause-complete : goal.leaf-requires-clause-complete
+leaf-requires-clause-complete c = subst IsComplete (sym c.skel.ensures.value) c.requires.complete
+
+pub leaf-requires-clause-few : goal.leaf-requires-clause-few
+leaf-requires-clause-few c = subst (λ (w : Word). order_of w ≤ 16) (sym c.skel.ensures.value) c.requires.few
+
+pub leaf-requires-clause-lefts : goal.leaf-requires-clause-lefts
+leaf-requires-clause-lefts c = rw (sym c.skel.ensures.value) at c.lefts.ensures
 
 pub returns-then-lies_better : goal.returns-then-lies_better
 returns-then-lies_better c u met lowest class = absurd (c.lies_better.ensures c.if-lies_better.true

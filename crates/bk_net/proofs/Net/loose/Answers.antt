@@ -1,5 +1,7 @@
-use Rattle.std.proofs.Common.{List, ap, arith, rules, sym, ℕ, ◌-◌, ◌∙◌, ◌≡◌}
+use Rattle.std.proofs.Common.{List, ap, arith, inl, inr, length, subst, sym, ℕ, ◌+◌, ◌-◌, ◌<◌, ◌∙◌, ◌≡◌, ◌≤◌, ◌⊎◌}
+use Rattle.std.proofs.lemmas.Bool.{cases_lt}
 use Rattle.std.specs.Prelude.{slice_index}
+use Rattle.bk_net.specs.Labels.{EndsBelow}
 use Rattle.bk_net.proofs.Joining.{labels_of_net, least, none_loose}
 use Rattle.bk_net.proofs.Net.loose.Goals as goal
 
@@ -37,4 +39,60 @@ returns-clause-none c =
     (omega arith) (λ u h. c.loop-v.invariant u (omega (arith, c.nodes-nodes.ensures.value)) ∙ last)
 
 pub loop-v-init : goal.loop-v-init
-loop-v-init c = search rules
+loop-v-init c = λ u h. absurd (omega (arith, h))
+
+pub labels_of-labels-requires-clause-few : goal.labels_of-labels-requires-clause-few
+labels_of-labels-requires-clause-few c = omega (arith, c.nodes-nodes.ensures.value, (c.nodes-nodes.ensures.kept).few_nodes)
+
+pub labels_of-labels-requires-clause-ends : goal.labels_of-labels-requires-clause-ends
+labels_of-labels-requires-clause-ends c =
+    let kept = c.nodes-nodes.ensures.kept in
+    subst (λ (n : ℕ). EndsBelow n c.wires.result.now) (sym c.nodes-nodes.ensures.value)
+    (subst (λ (l : List (ℕ × ℕ)). EndsBelow c.args.self.now.nodes l) (sym c.wires.ensures.value)
+    (λ k d h. let e = kept.is.ends k d h in (e.0, e.1)))
+
+pub deref-requires : goal.deref-requires
+deref-requires c = omega arith
+
+pub overflow_sub-nodes : goal.overflow_sub-nodes
+overflow_sub-nodes c = let kept = c.nodes-nodes.ensures.kept in omega (arith, c.nodes-nodes.ensures.value, kept.is.some)
+
+pub offset_bounds-deref-from : goal.offset_bounds-deref-from
+offset_bounds-deref-from c = let kept = c.nodes-nodes.ensures.kept in
+    omega (arith, c.from.ensures, c.nodes-nodes.ensures.value, kept.few_nodes)
+
+pub bounds-deref-from : goal.bounds-deref-from
+bounds-deref-from c = let kept = c.nodes-nodes.ensures.kept in omega (
+  arith,
+  c.from.ensures,
+  c.nodes-nodes.ensures.value,
+  kept.is.some,
+  ap length c.deref.ensures.0,
+  c.labels_of-labels.ensures.many,
+)
+
+pub deref-requires-in-loop-v : goal.deref-requires-in-loop-v
+deref-requires-in-loop-v c = omega arith
+
+pub offset_bounds-deref-from-in-loop-v : goal.offset_bounds-deref-from-in-loop-v
+offset_bounds-deref-from-in-loop-v c = let kept = c.nodes-nodes.ensures.kept in
+    omega (arith, c.from-in-loop-v.ensures, c.loop-v-test.true, c.nodes-nodes.ensures.value, kept.few_nodes)
+
+pub bounds-deref-from-in-loop-v : goal.bounds-deref-from-in-loop-v
+bounds-deref-from-in-loop-v c =
+    omega (arith, c.from-in-loop-v.ensures, c.loop-v-test.true, ap length c.deref-in-loop-v.ensures.0, c.labels_of-labels.ensures.many)
+
+-- one more node has the label of the last one
+more_same : (labels : List ℕ) (v last : ℕ) → ((u : ℕ) → u < v → slice_index labels u ≡ last) → slice_index labels v ≡ last
+    → (u : ℕ) → u < v + 1 → slice_index labels u ≡ last
+more_same labels v last before here u h = cases (cases_lt u v)
+  where
+    cases : (u < v) ⊎ (v ≤ u) → slice_index labels u ≡ last
+    cases (inl l) = before u l
+    cases (inr l) = let same : u ≡ v = omega (arith, h, l) in ap (slice_index labels) same ∙ here
+
+pub loop-v-preserved : goal.loop-v-preserved
+loop-v-preserved c =
+    more_same c.labels_of-labels.result.items c.loop-v.v (slice_index c.deref.result.now c.from.result) c.loop-v.invariant
+    (sym (here_is c.labels_of-labels.result.items c.deref-in-loop-v.result.now c.loop-v.v c.from-in-loop-v.result c.deref-in-loop-v.ensures.0
+    c.from-in-loop-v.ensures) ∙ c.if-deref-from.false)

@@ -1,7 +1,11 @@
-use Rattle.std.proofs.Common.{ap, false, get_or, length, subst, sym, true, ◌++◌, ◌+◌, ◌-◌, ◌<◌, ◌∙◌, ◌∷◌, ◌≡◌, List, Bool, ℕ, []}
+use Rattle.std.proofs.Common.{Bool, List, [], ap, arith, false, get_or, length, map, refl, subst, sym, true, ℕ, ◌++◌, ◌+◌, ◌-◌, ◌<◌, ◌∙◌, ◌∷◌, ◌≡◌}
+use Rattle.std.proofs.lemmas.List.{take_all}
 use Rattle.bk_tiling.specs.CodeOrder.{begins_group}
+use Rattle.bk_tiling.specs.SquareGroups.{square_groups}
 use Rattle.bk_tiling.specs.declared.Square.{Square}
-use Rattle.bk_net.proofs.Hanging.{AreKnown, known_more, more_groups, more_levels}
+use Rattle.bk_net.proofs.Hanging.{AreKnown, groups_before, known_more, more_groups, more_levels}
+use Rattle.bk_net.specs.Diagram.{group_level}
+use Rattle.bk_net.specs.GroupNumbers.{group_numbers}
 use Rattle.bk_net.proofs.diagram.groups_of.Goals.{else-begins_group, then-begins_group}
 use Rattle.bk_net.proofs.diagram.groups_of.Goals as goal
 
@@ -31,3 +35,62 @@ loop-i-preserved c = elim c.if-begins_group.branch [
       c.squares-squares.ensures.value c.loop-i-test.true (sym w.if-begins_group.false ∙ c.begins_group.ensures) c.loop-i.invariant
       (ap (λ v. v.items) w.levels-is) w.groups-is c.push-in-loop-i.ensures.items
 ]
+
+pub new-levels-requires : goal.new-levels-requires
+new-levels-requires c = omega arith
+
+pub new-nodes-requires : goal.new-nodes-requires
+new-nodes-requires c = omega arith
+
+pub loop-i-init : goal.loop-i-init
+loop-i-init c = record {
+  are = record { levels_are = c.new-levels.ensures; nodes_are = c.new-nodes.ensures; groups_are = refl };
+  few = omega arith;
+  levels_many = ap length c.new-levels.ensures;
+  nodes_many = ap length c.new-nodes.ensures;
+}
+
+pub offset_bounds-squares-i : goal.offset_bounds-squares-i
+offset_bounds-squares-i c = let kept = c.squares-squares.ensures.kept in
+    omega (arith, c.loop-i-test.true, ap length c.squares-squares.ensures.value, kept.few)
+
+pub bounds-squares-i : goal.bounds-squares-i
+bounds-squares-i c = c.loop-i-test.true
+
+pub begins_group-requires : goal.begins_group-requires
+begins_group-requires c = subst (λ (l : List Square). c.loop-i.i < length l) c.squares-squares.ensures.value c.loop-i-test.true
+
+pub push-requires : goal.push-requires
+push-requires c = let kept = c.squares-squares.ensures.kept in let known = c.loop-i.invariant in
+    (omega arith, omega (arith, known.levels_many, known.few, c.loop-i-test.true, ap length c.squares-squares.ensures.value, kept.few))
+
+pub overflow_add-groups : goal.overflow_add-groups
+overflow_add-groups c = let kept = c.squares-squares.ensures.kept in let known = c.loop-i.invariant in
+    omega (arith, known.few, c.loop-i-test.true, ap length c.squares-squares.ensures.value, kept.few)
+
+pub overflow_sub-groups : goal.overflow_sub-groups
+overflow_sub-groups c = elim c.if-begins_group.branch [
+  | then-begins_group w ↦ omega (arith, w.groups-is)
+  | else-begins_group w ↦ omega (
+    arith,
+    w.groups-is,
+    c.loop-i.invariant.are.groups_are,
+    groups_before c.squares-squares.result.now c.loop-i.i c.loop-i-test.true (ap (λ (l : List Square). begins_group l c.loop-i.i)
+        c.squares-squares.ensures.value ∙ sym c.begins_group.ensures ∙ w.if-begins_group.false),
+  )
+]
+
+pub push-requires-in-loop-i : goal.push-requires-in-loop-i
+push-requires-in-loop-i c = let kept = c.squares-squares.ensures.kept in
+    (omega arith, omega (arith, c.loop-i.invariant.nodes_many, c.loop-i-test.true, ap length c.squares-squares.ensures.value, kept.few))
+
+pub returns-clause-levels : goal.returns-clause-levels
+returns-clause-levels c =
+    c.loop-i.invariant.are.levels_are
+    ∙ ap (λ (l : List Square). map group_level (square_groups l))
+    (take_all c.loop-i.i c.squares-squares.result.now (omega (arith, c.loop-i-test.false)) ∙ c.squares-squares.ensures.value)
+
+pub returns-clause-nodes : goal.returns-clause-nodes
+returns-clause-nodes c =
+    c.loop-i.invariant.are.nodes_are
+    ∙ ap group_numbers (take_all c.loop-i.i c.squares-squares.result.now (omega (arith, c.loop-i-test.false)) ∙ c.squares-squares.ensures.value)

@@ -9,6 +9,7 @@ use Rattle.bk_tiling.specs.declared.Square.{Square}
 use Rattle.bk_net.proofs.Hanging.{groups_few}
 use Rattle.bk_net.proofs.NodeNumbers.{HasEnds, ends_at, numbers_many, wires_many, wires_more}
 use Rattle.bk_net.specs.Diagram.{node_below, smith_diagram}
+use Rattle.bk_net.specs.Net.{Net}
 use Rattle.bk_net.proofs.diagram.wired.Goals as goal
 use Rattle.bk_net.specs.GroupNumbers.{group_numbers}
 
@@ -105,3 +106,31 @@ returns c =
       c.loop-i-test.false,
     )) in
     λ k. record { nodes = (c.loop-i.invariant.nodes ∙ ap (λ (n : ℕ). n + 1) c.requires.bottom) k; wires = (c.loop-i.invariant.wires ∙ all) k }
+
+pub loop-i-init : goal.loop-i-init
+loop-i-init c = record {
+  wires = ap (λ (n : Net). n.wires) c.new-net.ensures;
+  nodes = ap (λ (n : Net). n.nodes) c.new-net.ensures;
+  many = ap (λ (n : Net). length n.wires) c.new-net.ensures;
+}
+
+pub offset_bounds-squares-i : goal.offset_bounds-squares-i
+offset_bounds-squares-i c = let kept = c.squares-squares.ensures.kept in
+    omega (arith, c.loop-i-test.true, ap length c.squares-squares.ensures.value, kept.few)
+
+pub bounds-squares-i : goal.bounds-squares-i
+bounds-squares-i c = c.loop-i-test.true
+
+pub offset_bounds-nodes-i : goal.offset_bounds-nodes-i
+offset_bounds-nodes-i c = let kept = c.squares-squares.ensures.kept in
+    omega (arith, c.loop-i-test.true, ap length c.squares-squares.ensures.value, kept.few)
+
+pub node_below-requires-clause-bottom : goal.node_below-requires-clause-bottom
+node_below-requires-clause-bottom c = c.requires.bottom
+
+pub node_below-requires-clause-nodes : goal.node_below-requires-clause-nodes
+node_below-requires-clause-nodes c = c.requires.nodes
+
+pub add-requires-clause-room : goal.add-requires-clause-room
+add-requires-clause-room c = let kept = c.squares-squares.ensures.kept in
+    omega (arith, c.loop-i.invariant.many, c.loop-i-test.true, ap length c.squares-squares.ensures.value, kept.few)

@@ -1,10 +1,37 @@
 use Rattle.std.specs.Prelude.{List, Option, Some, ℕ}
 use Rattle.std.proofs.Common.{ap, arith, subst, sym, ◌∙◌}
 use Rattle.bk_net.specs.Gathered.{Keeps, and_wire}
-use Rattle.bk_net.specs.Reader.{next_place}
+use Rattle.bk_net.specs.Reader.{ended_wire, next_place}
 use Rattle.bk_net.specs.declared.reader.Ending.{Ending}
-use Rattle.bk_net.proofs.NetProgress.{HasWires, fault_is, item_is, no_ending, no_next, skip_found, whole, wires_found}
+use Rattle.bk_net.proofs.NetProgress.{HasWires, at_first, fault_is, further, item_is, no_ending, no_next, skip_found, whole, wires_found}
 use Rattle.bk_net.proofs.read.read_net.Goals as goal
+
+pub new-wires-requires : goal.new-wires-requires
+new-wires-requires c = omega arith
+
+pub loop-at-init : goal.loop-at-init
+loop-at-init c = at_first c.new-wires.result.items c.new-wires.ensures
+
+pub bounds-line-at : goal.bounds-line-at
+bounds-line-at c = c.loop-at-test.true
+
+pub loop-at-preserved : goal.loop-at-preserved
+loop-at-preserved c =
+    let kind = c.kind_of-kind.ensures in
+    further c.args.line.now c.loop-at.at c.loop-at.place c.in-Some.next c.loop-at.wires.items c.with_wire-many.new.wires.items c.loop-at.many
+    c.with_wire-many.result c.loop-at-test.true c.loop-at.invariant
+    (ap (next_place c.loop-at.place) (sym kind) ∙ sym c.next.ensures ∙ c.in-Some.is)
+    (λ all keeps. subst (λ (o : Option (ℕ × ℕ)). Keeps (and_wire o all) c.with_wire-many.new.wires.items c.with_wire-many.result)
+    (c.ended_wire.ensures ∙ ap (ended_wire c.loop-at.place) kind) (c.with_wire-many.ensures all keeps))
+
+pub deref-requires : goal.deref-requires
+deref-requires c = omega arith
+
+pub net_item-requires : goal.net_item-requires
+net_item-requires c = record { few = c.deref.ensures.1 }
+
+pub returns-in-Nodes-clause-kept : goal.returns-in-Nodes-clause-kept
+returns-in-Nodes-clause-kept c = c.net_item.ensures.kept
 
 pub returns-in_default-clause-fault : goal.returns-in_default-clause-fault
 returns-in_default-clause-fault c =

@@ -30,3 +30,34 @@ returns-else-j-second c = false_for (HaveCommonSide c.args.first.now c.args.seco
 pub returns-after-sides : goal.returns-after-sides
 returns-after-sides c = false_for (HaveCommonSide c.args.first.now c.args.second.now)
     (none_common c.args.first.now c.args.second.now c.sides.i c.sides.j c.sides.invariant.apart (inl (omega (arith, c.sides-test.false))))
+
+pub sides-init : goal.sides-init
+sides-init c = record {
+  first_within = omega arith;
+  second_within = omega arith;
+  apart = λ a b in_first in_second early. absurd (elim early [ inl h ↦ omega (arith, h) | inr h ↦ omega (arith, h) ]);
+}
+
+pub offset_bounds-first-i : goal.offset_bounds-first-i
+offset_bounds-first-i c = omega arith
+
+pub bounds-first-i : goal.bounds-first-i
+bounds-first-i c = c.sides-test.true
+
+pub offset_bounds-second-j : goal.offset_bounds-second-j
+offset_bounds-second-j c = omega arith
+
+pub bounds-second-j : goal.bounds-second-j
+bounds-second-j c = c.if-j-second.true
+
+pub overflow_add-i : goal.overflow_add-i
+overflow_add-i c = omega arith
+
+pub sides-smaller-in-Less : goal.sides-smaller-in-Less
+sides-smaller-in-Less c = omega (arith, c.sides-test.true, c.sides.invariant.second_within)
+
+pub overflow_add-j : goal.overflow_add-j
+overflow_add-j c = omega arith
+
+pub sides-smaller : goal.sides-smaller
+sides-smaller c = omega (arith, c.if-j-second.true, c.sides.invariant.first_within)

@@ -1,7 +1,9 @@
 use Rattle.std.proofs.lemmas.Grind.{common_steps}
-use Rattle.std.proofs.Common.{List, ap, arith, length, sum, sym, take, ℕ, ◌∙◌, ◌≡◌}
+use Rattle.std.proofs.Common.{List, ap, arith, le_refl, length, refl, sum, sym, take, zero-le, ℕ, ◌∙◌, ◌≡◌}
 use Rattle.std.proofs.lemmas.List.{take_all}
 use Rattle.std.proofs.lemmas.List.Sums.{sum_by_more}
+use Rattle.std.proofs.lemmas.List.Elements.{All-from_recursion}
+use Rattle.bk_tiling.specs.Kept.{IsSide}
 use Rattle.bk_profile.proofs.Division.{falls_short, reaches}
 use Rattle.bk_profile.proofs.dividing.group_len.Goals as goal
 
@@ -18,3 +20,37 @@ returns-clause-group c =
 
 pub loop-i-preserved : goal.loop-i-preserved
 loop-i-preserved c = grind (arith, common_steps)
+
+pub loop-i-init : goal.loop-i-init
+loop-i-init c = record { total = refl; small = zero-le; short = c.requires.gap }
+
+pub offset_bounds-rest-i : goal.offset_bounds-rest-i
+offset_bounds-rest-i c = omega (arith, c.loop-i-test.true, c.requires.few)
+
+pub bounds-rest-i : goal.bounds-rest-i
+bounds-rest-i c = c.loop-i-test.true
+
+pub overflow_add-sum : goal.overflow_add-sum
+overflow_add-sum c =
+    omega (
+      arith,
+      c.loop-i.invariant.small,
+      All-from_recursion IsSide c.args.rest.now c.requires.sides c.loop-i.i 0 c.loop-i-test.true,
+      c.loop-i-test.true,
+      c.requires.few,
+    )
+
+pub overflow_add-result : goal.overflow_add-result
+overflow_add-result c = omega (arith, c.loop-i-test.true, c.requires.few)
+
+pub returns-then-sum-gap-clause-some : goal.returns-then-sum-gap-clause-some
+returns-then-sum-gap-clause-some c = omega (arith, c.loop-i-test.true)
+
+pub returns-then-sum-gap-clause-within : goal.returns-then-sum-gap-clause-within
+returns-then-sum-gap-clause-within c = omega (arith, c.loop-i-test.true)
+
+pub returns-clause-some : goal.returns-clause-some
+returns-clause-some c = c.requires.some
+
+pub returns-clause-within : goal.returns-clause-within
+returns-clause-within c = le_refl (length c.args.rest.now)

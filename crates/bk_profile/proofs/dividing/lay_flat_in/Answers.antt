@@ -1,9 +1,20 @@
-use Rattle.std.proofs.Common.{Err, Ok, arith, refl}
+use Rattle.std.proofs.Common.{Err, List, Ok, [], ap, arith, false, length, length-append, refl, subst, sym, ℕ, ◌+◌, ◌<◌, ◌==◌, ◌∷◌, ◌≡◌}
+use Rattle.bk_code.specs.Code.{flat}
 use Rattle.bk_profile.proofs.Division.{flat_refused_has_none}
-use Rattle.bk_profile.proofs.FlatTurns.{ends_ok, ends_only, ends_refused, group_good, group_room, misfit_turn, next_turn, none_left, numbers}
-use Rattle.bk_profile.proofs.FlatTurns.{next_group_is, rest_good, too_wide}
+use Rattle.bk_profile.proofs.FlatTurns.{Dividing, ends_ok, ends_only, ends_refused, group_good, group_room, misfit_turn, next_turn, none_left, numbers}
+use Rattle.bk_profile.proofs.FlatTurns.{last_turn, next_group_is, rest_good, too_wide}
+use Rattle.bk_profile.specs.Laid.{Laid}
 use Rattle.bk_profile.specs.declared.laying.Refusal.TheVariants.{Gap}
 use Rattle.bk_profile.proofs.dividing.lay_flat_in.Goals as goal
+
+-- some sides are left
+some_left : (sides : List ℕ) → false ≡ (length sides == 0) → 0 < length sides
+some_left [] e = absurd (cc)
+some_left (s ∷ sides) e = omega arith
+
+-- fewer sides are left
+fewer_left : (all left taken : ℕ) → 0 < taken → left + taken ≡ all → left < all
+fewer_left all left taken some sum = omega (arith, some, sum)
 
 pub returns-then-width-gt-WIDEST-clause-refused : goal.returns-then-width-gt-WIDEST-clause-refused
 returns-then-width-gt-WIDEST-clause-refused c =
@@ -84,3 +95,53 @@ returns-in-Err-even_height-clause-only c t has =
     absurd (ends_only c.args.width c.args.sides.now c.loop-rest.group c.loop-rest.profile c.loop-rest.rest.now c.loop-rest.invariant c.requires.few
     c.requires.some (none_left c.loop-rest.rest.now c.is_empty.result c.is_empty.ensures c.loop-rest-test.false) (Err c.in-Err-even_height.refusal) tt
     c.in-Err-even_height.ensures.uneven t has)
+
+pub sum_of-requires-clause-few : goal.sum_of-requires-clause-few
+sum_of-requires-clause-few c = c.requires.few
+
+pub sum_of-requires-clause-sides : goal.sum_of-requires-clause-sides
+sum_of-requires-clause-sides c = c.requires.sides
+
+pub restart-requires-clause-some : goal.restart-requires-clause-some
+restart-requires-clause-some c = c.requires.wide
+
+pub restart-requires-clause-narrow : goal.restart-requires-clause-narrow
+restart-requires-clause-narrow c = omega (arith, c.if-width-gt-WIDEST.false)
+
+pub loop-rest-init : goal.loop-rest-init
+loop-rest-init c =
+    subst (λ (p : Laid). Dividing c.args.width c.args.sides.now 1 p c.args.sides.now) (sym c.restart.ensures)
+    (record { code = []; width_is = refl; lays = refl; number_is = refl; flat_is = refl; good = tt; goes_on = λ _ divides. divides })
+
+pub group_len-requires-clause-gap : goal.group_len-requires-clause-gap
+group_len-requires-clause-gap c = c.gap.ensures.gap.flat.some
+
+pub group_len-requires-clause-some : goal.group_len-requires-clause-some
+group_len-requires-clause-some c = some_left c.loop-rest.rest.now c.loop-rest-test.ensures
+
+pub group_len-requires-clause-few : goal.group_len-requires-clause-few
+group_len-requires-clause-few c =
+    omega (
+      arith,
+      ap length c.loop-rest.invariant.flat_is,
+      length-append (flat c.loop-rest.invariant.code) c.loop-rest.rest.now,
+      c.requires.few,
+    )
+
+pub split_at-requires : goal.split_at-requires
+split_at-requires c = c.group_len.ensures.within
+
+pub lay-requires-clause-some : goal.lay-requires-clause-some
+lay-requires-clause-some c = omega (arith, c.split_at.ensures.front_len, c.group_len.ensures.some)
+
+pub loop-rest-smaller : goal.loop-rest-smaller
+loop-rest-smaller c =
+    fewer_left (length c.loop-rest.rest.now) (length c.split_at.result.1.now) c.group_len.result c.group_len.ensures.some c.split_at.ensures.back_len
+
+pub even_height-requires : goal.even_height-requires
+even_height-requires c =
+    last_turn c.args.width c.args.sides.now c.loop-rest.group c.loop-rest.profile c.loop-rest.rest.now c.loop-rest.invariant c.requires.few
+    c.requires.some (none_left c.loop-rest.rest.now c.is_empty.result c.is_empty.ensures c.loop-rest-test.false)
+
+pub leave_tiling-requires : goal.leave_tiling-requires
+leave_tiling-requires c = c.in-Ok.ensures.even

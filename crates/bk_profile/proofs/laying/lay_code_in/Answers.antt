@@ -1,6 +1,10 @@
-use Rattle.std.proofs.Common.{Err, Ok, arith, refl, ◌+◌, ◌≡◌}
+use Rattle.std.proofs.Common.{Err, List, Ok, [], arith, length, refl, subst, sym, ℕ, ◌+◌, ◌<◌, ◌≡◌}
+use Rattle.std.proofs.lemmas.List.Elements.{All-from_recursion}
+use Rattle.std.specs.List.{AllByRecursion}
+use Rattle.bk_code.specs.Kept.{IsSideGroup}
+use Rattle.bk_tiling.specs.Kept.{IsSide}
 use Rattle.bk_profile.proofs.CodeLaid.{width_bounds}
-use Rattle.bk_profile.proofs.Turns.{ends_ok, ends_only, first_read, misfit_turn, next_turn, read_room, refused_has_none}
+use Rattle.bk_profile.proofs.Turns.{Turn, ends_ok, ends_only, first_read, last_turn, misfit_turn, next_turn, open_refused, read_room, refused_has_none}
 use Rattle.bk_profile.specs.Refused.{Misfits, first_sum}
 use Rattle.bk_profile.specs.declared.laying.Refusal.TheVariants.{Gap}
 use Rattle.bk_profile.proofs.laying.lay_code_in.Goals as goal
@@ -52,3 +56,55 @@ pub returns-in-Err-even_height-clause-only : goal.returns-in-Err-even_height-cla
 returns-in-Err-even_height-clause-only c t has =
     absurd (ends_only c.args.code.now c.loop-g.g c.loop-g.profile c.groups-count.ensures.kept c.requires c.loop-g.invariant
     (omega (arith, c.loop-g-test.false, c.groups-count.ensures.value)) (Err c.in-Err-even_height.refusal) tt c.in-Err-even_height.ensures.uneven t has)
+
+pub group-requires : goal.group-requires
+group-requires c = c.requires
+
+pub sum_of-requires-clause-few : goal.sum_of-requires-clause-few
+sum_of-requires-clause-few c =
+    omega (arith, read_room c.args.code.now 0 c.group.result.now 0 c.groups-count.ensures.kept c.requires c.group.ensures refl)
+
+pub sum_of-requires-clause-sides : goal.sum_of-requires-clause-sides
+sum_of-requires-clause-sides c =
+    subst (AllByRecursion IsSide) (sym c.group.ensures)
+    (All-from_recursion IsSideGroup c.args.code.now c.groups-count.ensures.kept.groups 0 [] c.requires).1
+
+pub loop-g-init : goal.loop-g-init
+loop-g-init c =
+    subst (Turn c.args.code.now 0) (sym c.restart.ensures)
+    (record {
+      width = first_read c.args.code.now c.group.result.now c.sum_of.result c.requires c.group.ensures c.sum_of.ensures.sum;
+      lays = refl;
+      count = refl;
+    })
+
+pub group-requires-in-loop-g : goal.group-requires-in-loop-g
+group-requires-in-loop-g c = omega (arith, c.loop-g-test.true, c.groups-count.ensures.value)
+
+pub lay-requires-clause-some : goal.lay-requires-clause-some
+lay-requires-clause-some c =
+    subst (λ (l : List ℕ). 0 < length l) (sym c.group-in-loop-g.ensures)
+    (All-from_recursion IsSideGroup c.args.code.now c.groups-count.ensures.kept.groups c.loop-g.g []
+    (omega (arith, c.loop-g-test.true, c.groups-count.ensures.value))).0
+
+pub lay-requires-clause-sides : goal.lay-requires-clause-sides
+lay-requires-clause-sides c =
+    subst (AllByRecursion IsSide) (sym c.group-in-loop-g.ensures)
+    (All-from_recursion IsSideGroup c.args.code.now c.groups-count.ensures.kept.groups c.loop-g.g []
+    (omega (arith, c.loop-g-test.true, c.groups-count.ensures.value))).1
+
+pub overflow_add-result : goal.overflow_add-result
+overflow_add-result c = omega (arith, c.loop-g-test.true, c.groups-count.type_inv)
+
+pub even_height-requires : goal.even_height-requires
+even_height-requires c =
+    last_turn c.args.code.now c.loop-g.g c.loop-g.profile c.groups-count.ensures.kept c.requires c.loop-g.invariant
+    (omega (arith, c.loop-g-test.false, c.groups-count.ensures.value))
+
+pub leave_tiling-requires : goal.leave_tiling-requires
+leave_tiling-requires c = c.in-Ok.ensures.even
+
+pub returns-in-Err-even_height-clause-refused : goal.returns-in-Err-even_height-clause-refused
+returns-in-Err-even_height-clause-refused c =
+    open_refused c.args.code.now c.loop-g.g c.loop-g.profile c.groups-count.ensures.kept c.requires c.loop-g.invariant
+    (omega (arith, c.loop-g-test.false, c.groups-count.ensures.value)) c.in-Err-even_height.refusal c.in-Err-even_height.ensures.uneven

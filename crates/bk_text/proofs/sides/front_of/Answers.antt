@@ -1,5 +1,5 @@
 use Rattle.std.specs.Prelude.{false, true}
-use Rattle.std.proofs.Common.{arith, get_or, subst, sym, ◌∙◌}
+use Rattle.std.proofs.Common.{arith, get_or, lit≤, subst, sym, ◌∙◌}
 use Rattle.bk_text.specs.declared.reader.Bracket.{Bracket}
 use Rattle.bk_text.proofs.Fronts.{Ends, bracket_ends, comma_ends, front_side}
 use Rattle.bk_text.proofs.sides.front_of.Goals as goal
@@ -19,3 +19,12 @@ returns-in-Close c =
     (sym (c.are_of_one_kind.ensures c.if-are_of_one_kind.true))
     (bracket_ends (get_or c.args.bytes.now c.number_in_front-side.result.1 0) c.number_in_front-side.result.0 c.in-Close.other (omega arith)
     (sym c.kind_of.ensures ∙ c.in-Close.is)))
+
+pub number_in_front-side-requires : goal.number_in_front-side-requires
+number_in_front-side-requires c = lit≤ tt
+
+pub overflow_add-len : goal.overflow_add-len
+overflow_add-len c = omega (arith, c.if-digits-bytes.false)
+
+pub bounds-bytes-digits : goal.bounds-bytes-digits
+bounds-bytes-digits c = c.if-digits-bytes.false

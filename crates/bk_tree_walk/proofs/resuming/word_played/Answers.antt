@@ -1,8 +1,9 @@
-use Rattle.std.proofs.Common.{[], ap, arith, false, rules, sym, true, ◌++◌, ◌∙◌, ◌∷◌, ◌≡◌}
+use Rattle.std.proofs.Common.{[], ap, arith, false, sym, true, ◌++◌, ◌∙◌, ◌∷◌, ◌≡◌}
 use Rattle.bk_word.specs.Word.{order_of}
 use Rattle.bk_tree_walk.proofs.TakingUp.{legal_stands, order_at}
-use Rattle.bk_tree_walk.proofs.resuming.word_played.Goals as goal
 use Rattle.bk_tree_walk.proofs.Standing.{take_next}
+use Rattle.std.proofs.lemmas.List.{take_all}
+use Rattle.bk_tree_walk.proofs.resuming.word_played.Goals as goal
 
 pub push-requires-clause-stands : goal.push-requires-clause-stands
 push-requires-clause-stands c = legal_stands c.args.skel.now c.moves.i c.read_move.new.m c.moves-i-end.ensures.kept.legal c.read_move.ensures
@@ -26,4 +27,10 @@ moves-preserved c = c.in-Ok.ensures.ok ∙ ap (λ l. l ++ c.read_move.new.m ∷ 
     ∙ sym (take_next c.args.skel.now c.moves.i c.read_move.new.m c.read_move.ensures)
 
 pub moves-init : goal.moves-init
-moves-init c = search rules
+moves-init c = c.new-word.ensures
+
+pub read_move-requires : goal.read_move-requires
+read_move-requires c = omega (arith, c.moves-test.true, c.moves-i-end.ensures.value)
+
+pub returns : goal.returns
+returns c = c.moves.invariant ∙ take_all c.moves.i c.args.skel.now (omega (arith, c.moves-test.false, c.moves-i-end.ensures.value))

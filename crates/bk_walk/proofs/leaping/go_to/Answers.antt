@@ -63,3 +63,9 @@ moves-preserved g c =
 pub returns-clause-at : goal.returns-clause-at
 returns-clause-at g c = is_there c.args.tree.now.order c.moves.tree.front c.args.number c.moves.invariant.goes
     (omega (arith, c.moves-test.false, c.order-in-moves.ensures.value, ap order_of c.skel.ensures.value, c.moves.invariant.ordered))
+
+pub returns-clause-steps : goal.returns-clause-steps
+returns-clause-steps g c = c.moves.invariant.one_each
+
+pub returns-clause-stays : goal.returns-clause-stays
+returns-clause-stays g c = c.moves.invariant.stays

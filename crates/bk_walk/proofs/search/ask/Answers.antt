@@ -1,4 +1,4 @@
-use Rattle.std.proofs.Common.{ap, arith, rules, subst, sym}
+use Rattle.std.proofs.Common.{ap, arith, subst, sym, tests}
 use Rattle.bk_word.specs.Outline.{IsLegalMove}
 use Rattle.bk_word.specs.Play.{IsLegal, outline_of}
 use Rattle.bk_word.specs.Word.{Move, Word, order_of}
@@ -21,7 +21,7 @@ number_with-number-requires-clause-few g c = let kept = c.skel.ensures.kept in
 
 pub begin_table-requires : goal.begin_table-requires
 begin_table-requires g c = let kept = c.skel.ensures.kept in
-    (search rules, (search rules, omega (arith, c.order-in-Nothing.ensures, kept.most)))
+    (search tests, (omega arith, omega (arith, c.order-in-Nothing.ensures, kept.most)))
 
 pub returns-in-Nothing : goal.returns-in-Nothing
 returns-in-Nothing g c = tells_here c.args.tree.now c.skel.result.now c.next.result.now c.order-in-Nothing-2.result c.class-in-Nothing-2.result
@@ -32,3 +32,9 @@ pub returns-in_default : goal.returns-in_default
 returns-in_default g c = tells_here c.args.tree.now c.skel.result.now c.next.result.now c.order-2.result c.class.result c.number_with-number.result
     c.tell.result c.skel.ensures.kept c.requires c.skel.ensures.value c.next.ensures c.order-2.ensures c.class.ensures c.number_with-number.ensures
     c.tell.ensures
+
+pub tell-requires : goal.tell-requires
+tell-requires g c = search tests
+
+pub tell-requires-in-Nothing : goal.tell-requires-in-Nothing
+tell-requires-in-Nothing g c = search tests

@@ -1,4 +1,4 @@
-use Rattle.std.proofs.Common.{ap, arith, refl, rules, subst, sym, ℕ, ◌-◌, ◌≡◌}
+use Rattle.std.proofs.Common.{ap, arith, refl, subst, sym, ℕ, ◌-◌, ◌≡◌, tests}
 use Rattle.bk_word.specs.declared.Class.{Class}
 use Rattle.bk_catalogue.specs.Catalogue.{IsEntry}
 use Rattle.bk_tree_walk.specs.Search.{Meets, SearchState, StaysOf, place_of}
@@ -9,7 +9,7 @@ use Rattle.bk_tree_walk.proofs.PlaceLaws.{ends_there}
 use Rattle.bk_walk.proofs.search.go_on.Goals as goal
 
 pub ask-requires : goal.ask-requires
-ask-requires g c = (search rules, c.requires)
+ask-requires g c = (search tests, c.requires)
 
 pub walk_on-requires : goal.walk_on-requires
 walk_on-requires g c = c.requires

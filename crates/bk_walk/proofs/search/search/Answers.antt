@@ -1,4 +1,4 @@
-use Rattle.std.proofs.Common.{refl, ◌≡◌}
+use Rattle.std.proofs.Common.{refl, ◌≡◌, tests}
 use Rattle.bk_tree_walk.specs.declared.Found.TheVariants.{Ended, Member}
 use Rattle.bk_tree_walk.proofs.SearchTurns.{stays_same, stays_then, turn_ends, turn_entry, turn_finds, turn_kept, turn_nearer, turn_on, turns_none}
 use Rattle.bk_walk.proofs.search.search.Goals as goal
@@ -39,3 +39,14 @@ returns-in-End-clause-member g c = λ found. absurd (not_found found)
 pub returns-in-Met-clause-member : goal.returns-in-Met-clause-member
 returns-in-Met-clause-member g c = λ _. turn_entry c.args.tree.now c.turns.tree c.step.new.tree c.args.steps.now c.turns.steps c.step.new.steps
     c.turns.invariant.kept c.turns.invariant.on c.turns.invariant.stays c.in-Met.ensures.stays c.step.new.tiling (c.in-Met.ensures.member refl)
+
+pub step-requires : goal.step-requires
+step-requires g c = search tests
+
+pub returns-in-End-clause-stays : goal.returns-in-End-clause-stays
+returns-in-End-clause-stays g c = stays_then c.args.tree.now c.turns.tree c.step.new.tree c.args.steps.now c.turns.steps c.step.new.steps
+    c.turns.invariant.stays c.in-End.ensures.stays
+
+pub returns-in-Met-clause-stays : goal.returns-in-Met-clause-stays
+returns-in-Met-clause-stays g c = stays_then c.args.tree.now c.turns.tree c.step.new.tree c.args.steps.now c.turns.steps c.step.new.steps
+    c.turns.invariant.stays c.in-Met.ensures.stays

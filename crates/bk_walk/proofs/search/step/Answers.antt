@@ -1,4 +1,4 @@
-use Rattle.std.proofs.Common.{refl, rules}
+use Rattle.std.proofs.Common.{refl, tests}
 use Rattle.bk_tree_walk.proofs.Members.{same_entry}
 use Rattle.bk_tree_walk.proofs.PlaceLaws.{settled_leads, settled_unmet}
 use Rattle.bk_tree_walk.proofs.SearchTurns.{stays_then}
@@ -6,7 +6,7 @@ use Rattle.bk_walk.proofs.PlaceLaws.{goes_on}
 use Rattle.bk_walk.proofs.search.step.Goals as goal
 
 pub go_on-requires : goal.go_on-requires
-go_on-requires g c = (search rules, c.in-None.ensures.settles.0)
+go_on-requires g c = (search tests, c.in-None.ensures.settles.0)
 
 pub returns-in-Some-clause-leads : goal.returns-in-Some-clause-leads
 returns-in-Some-clause-leads g c = settled_leads c.args.tree.now c.settle.new.self c.in-Some.went c.args.steps.now c.in-Some.ensures.settles

@@ -1,9 +1,10 @@
-use Rattle.std.proofs.Common.{ap, arith, refl, slice_index_or, subst, sym, true≢false, ◌∙◌}
+use Rattle.std.proofs.Common.{ap, arith, refl, slice_index_or, subst, sym, true≢false, ◌∙◌, length, lit<}
 use Rattle.bk_word.specs.Word.{Move}
 use Rattle.bk_word.specs.declared.Sign.TheVariants.{Above}
 use Rattle.bk_word.proofs.SignLaws.{only_above}
-use Rattle.bk_walk_cuts.proofs.CutLaws.{shorter_cut}
-use Rattle.bk_walk_cuts.specs.MoveCuts.{IsCut}
+use Rattle.bk_walk_cuts.proofs.CutLaws.{shorter_cut, after_near, near_itself, whole_front}
+use Rattle.bk_walk_cuts.specs.MoveCuts.{IsCut, GrowsByAtMostOne}
+use Rattle.bk_catalogue.specs.NextMove.{move_after}
 use Rattle.bk_walk_cuts.proofs.barren.skip_shorter.Goals as goal
 
 pub returns-clause-cut : goal.returns-clause-cut
@@ -27,3 +28,23 @@ next_move-requires-clause-signs c = c.requires.signs
 
 pub returns-clause-kept : goal.returns-clause-kept
 returns-clause-kept c e = absurd (true≢false e)
+
+pub as_slice-requires : goal.as_slice-requires
+as_slice-requires c = lit< tt
+
+pub bounds-as_slice-0 : goal.bounds-as_slice-0
+bounds-as_slice-0 c = omega (
+  arith,
+  c.requires.legal.signs,
+  ap length c.as_slice.ensures.value,
+  ap (λ (m : Move). length m.signs) c.m.view_is,
+  ap (λ (m : Move). m.count) c.m.view_is,
+  c.if-m-ne2.false,
+)
+
+pub returns-then-moves-ne0-clause-near : goal.returns-then-moves-ne0-clause-near
+returns-then-moves-ne0-clause-near c = near_itself c.args.m.now
+
+pub returns-clause-near : goal.returns-clause-near
+returns-clause-near c = subst (GrowsByAtMostOne c.args.m.now) (sym c.next_move.ensures)
+    (subst (λ (f : Move). GrowsByAtMostOne c.args.m.now (move_after f)) (whole_front c.args.m.now) (after_near (length c.args.m.now.signs) c.args.m.now))

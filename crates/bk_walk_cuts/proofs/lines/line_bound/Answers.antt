@@ -1,7 +1,7 @@
 use Rattle.std.proofs.Common.{arith, ◌+◌}
 use Rattle.bk_catalogue.proofs.LineCounting.{last_within, lined_above, lined_end, lined_even, lined_start, lined_under, two_within}
-use Rattle.bk_walk_cuts.proofs.lines.line_bound.Goals as goal
 use Rattle.bk_walk_cuts.proofs.lines.line_bound.Goals.{in-Above, in-Even, in-Under}
+use Rattle.bk_walk_cuts.proofs.lines.line_bound.Goals as goal
 
 pub loop-i-init : goal.loop-i-init
 loop-i-init c = lined_start c.args.signs.now c.args.sizes.now c.args.ends.now c.args.lines.now c.requires.long c.requires.enough
@@ -59,3 +59,21 @@ overflow_add-aboves-2 c = omega (arith, c.loop-i.invariant.few, c.line_closing-2
 pub returns : goal.returns
 returns c = lined_end c.args.signs.now c.args.sizes.now c.args.ends.now c.args.lines.now c.requires.long c.loop-i.i c.loop-i.start
     c.loop-i.most c.loop-i.aboves (omega arith) c.loop-i.invariant c.max.result c.line_closing-2.result c.line_closing-2.ensures.touched c.max.ensures
+
+pub bounds-signs-i : goal.bounds-signs-i
+bounds-signs-i c = c.loop-i-test.true
+
+pub bounds-sizes-i : goal.bounds-sizes-i
+bounds-sizes-i c = omega (arith, c.loop-i-test.true, c.requires.long)
+
+pub overflow_add-i : goal.overflow_add-i
+overflow_add-i c = omega arith
+
+pub bounds-sizes-i-in-loop-i : goal.bounds-sizes-i-in-loop-i
+bounds-sizes-i-in-loop-i c = omega (arith, c.loop-i-test.true, c.requires.long)
+
+pub bounds-sizes-i-in-loop-i-2 : goal.bounds-sizes-i-in-loop-i-2
+bounds-sizes-i-in-loop-i-2 c = omega (arith, c.loop-i-test.true, c.requires.long)
+
+pub bounds-sizes-signs : goal.bounds-sizes-signs
+bounds-sizes-signs c = omega (arith, c.requires.long)

@@ -1,5 +1,8 @@
-use Rattle.std.proofs.Common.{arith, take, ◌++◌}
+use Rattle.std.proofs.Common.{arith, take, ◌++◌, List, append-nil, subst, sym, ◌<◌}
 use Rattle.bk_walk_cuts.proofs.TallyLaws.{tally_all, tally_next}
+use Rattle.bk_word.specs.declared.Sign.{Sign}
+use Rattle.bk_catalogue.specs.ClosingBound.{closing_bound}
+use Rattle.bk_walk_cuts.specs.Tally.{IsTally}
 use Rattle.bk_walk_cuts.proofs.tally.first_over.Goals as goal
 
 pub returns-then-tally-room-clause-over : goal.returns-then-tally-room-clause-over
@@ -27,3 +30,28 @@ returns-clause-none c = omega (
   (tally_all c.args.before.now c.args.signs.now c.signs.i c.signs.tally.bound
       c.signs.tally.aboves (omega (arith, c.signs-test.false)) c.signs.invariant.tally).bound_is,
 )
+
+pub tally_of-requires : goal.tally_of-requires
+tally_of-requires c = c.requires
+
+pub returns-in-None-clause-over : goal.returns-in-None-clause-over
+returns-in-None-clause-over c = subst (λ (l : List Sign). c.args.room < closing_bound l) (sym (append-nil c.args.before.now)) c.in-None.ensures.over
+
+pub signs-init : goal.signs-init
+signs-init c = record {
+  tally = subst (λ (l : List Sign). IsTally l c.in-Some.tally.bound c.in-Some.tally.aboves) (sym (append-nil c.args.before.now)) c.in-Some.ensures.within;
+  low = c.in-Some.ensures.low;
+  room = c.in-Some.ensures.room;
+}
+
+pub bounds-signs-i : goal.bounds-signs-i
+bounds-signs-i c = c.signs-test.true
+
+pub tally_with-tally-requires-clause-few : goal.tally_with-tally-requires-clause-few
+tally_with-tally-requires-clause-few c = omega (arith, c.signs.invariant.room, c.requires)
+
+pub tally_with-tally-requires-clause-low : goal.tally_with-tally-requires-clause-low
+tally_with-tally-requires-clause-low c = c.signs.invariant.low
+
+pub overflow_add-result : goal.overflow_add-result
+overflow_add-result c = omega arith

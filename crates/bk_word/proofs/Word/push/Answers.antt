@@ -1,5 +1,6 @@
+-- The bytes of the move are appended, and a buffer without room for them is as it was.
 use Rattle.std.specs.Prelude.{length, map, ◌+◌, ◌++◌, ◌∷◌, ◌≡◌}
-use Rattle.std.proofs.Common.{ap, arith, subst, sym, ◌∙◌}
+use Rattle.std.proofs.Common.{ap, arith, lit<, refl, subst, sym, ◌∙◌}
 use Rattle.std.proofs.lemmas.List.{length-map}
 use Rattle.bk_word.specs.Stored.{IsStoredWord, moves_in, sign_byte, stored_move}
 use Rattle.bk_word.specs.Word.{Move}
@@ -55,3 +56,27 @@ returns-then-is_err-clause-bytes c = λ few. no_err c.reserve.result
       has_bytes c.self.inside.bytes.items c.args.self.now c.args.m.now c.self.inside.bytes.capacity c.self.invariant c.self.view_is few,
     )))
     (sym c.is_err.ensures.value ∙ c.if-is_err.true)
+
+pub as_slice-signs-requires : goal.as_slice-signs-requires
+as_slice-signs-requires c = lit< tt
+
+pub overflow_add-signs : goal.overflow_add-signs
+overflow_add-signs c = omega (arith, c.as_slice-signs.ensures.fits)
+
+pub reserve-requires : goal.reserve-requires
+reserve-requires c = lit< tt
+
+pub invariant_of-self : goal.invariant_of-self
+invariant_of-self c = record {
+  stored = subst IsStoredWord (sym c.reserve.ensures.items) c.self.invariant.stored;
+  room = omega (arith, c.self.invariant.room, c.reserve.ensures.capacity);
+}
+
+pub returns-then-is_err-clause-unchanged : goal.returns-then-is_err-clause-unchanged
+returns-then-is_err-clause-unchanged c = ap moves_in c.reserve.ensures.items ∙ c.self.view_is
+
+pub returns-clause-inline : goal.returns-clause-inline
+returns-clause-inline c = λ few. refl
+
+pub returns-clause-bytes : goal.returns-clause-bytes
+returns-clause-bytes c = λ few. refl

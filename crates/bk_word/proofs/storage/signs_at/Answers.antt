@@ -1,4 +1,6 @@
-use Rattle.std.proofs.Common.{Bool, List, [], ap, append_assoc, cond, drop, false, get_or, length, sym, true, ℕ, ◌++◌, ◌+◌, ◌<◌, ◌∙◌, ◌∷◌, ◌≡◌}
+-- The signs read and those from the place on are those at the front.
+use Rattle.std.proofs.Common.{Bool, List, [], ap, append_assoc, arith, cond, drop, false, get_or, length, length-append, lit<, sym, true, ℕ}
+use Rattle.std.proofs.Common.{◌++◌, ◌+◌, ◌<◌, ◌∙◌, ◌∷◌, ◌≡◌}
 use Rattle.std.proofs.lemmas.List.{append-nil, at_drop_all, at_drop_more}
 use Rattle.bk_word.specs.Stored.{front_signs, is_count, sign_of}
 use Rattle.bk_word.specs.declared.Sign.{Sign}
@@ -37,3 +39,21 @@ pub returns : goal.returns
 returns c =
     front_all c.args.bytes.now c.loop-byte.signs.items (front_signs (drop c.loop-byte.byte-index c.args.bytes.now))
     (at_drop_all front_signs c.args.bytes.now c.loop-byte.byte-index c.loop-byte-test.false) c.loop-byte.invariant
+
+pub new-signs-requires : goal.new-signs-requires
+new-signs-requires c = lit< tt
+
+pub loop-byte-init : goal.loop-byte-init
+loop-byte-init c = ap (λ (l : List Sign). l ++ front_signs c.args.bytes.now) c.new-signs.ensures
+
+pub push-requires : goal.push-requires
+push-requires c = (
+  lit< tt,
+  omega (
+    arith,
+    c.requires,
+    ap length c.loop-byte.invariant,
+    length-append c.loop-byte.signs.items (front_signs (drop c.loop-byte.byte-index c.args.bytes.now)),
+    ap length (front_at c.args.bytes.now c.loop-byte.byte-index c.loop-byte-test.true false c.if-is_count.ensures),
+  ),
+)

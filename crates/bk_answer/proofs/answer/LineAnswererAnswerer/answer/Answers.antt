@@ -1,3 +1,4 @@
+-- Each command answers by a function of its own.
 use Rattle.std.proofs.Common.{ap, sym, ◌∙◌}
 use Rattle.bk_answer.specs.declared.command.Command.TheVariants.{OfCodes}
 use Rattle.bk_answer.proofs.ReplySteps.{reply_says}
@@ -42,3 +43,15 @@ pub returns-in-Solve-clause-failed : goal.returns-in-Solve-clause-failed
 returns-in-Solve-clause-failed g c =
     (reply_says c.args.self.now.command _ c.args.line.now (g.O.Sink.written c.args.out.now) (g.O.Sink.written c.answer_word_line.new.out)
     c.answer_word_line.result c.in-Solve.is c.answer_word_line.ensures.reply).1
+
+pub returns-in-Some-clause-cause : goal.returns-in-Some-clause-cause
+returns-in-Some-clause-cause g c = c.answer_line.ensures.cause
+
+pub returns-in-None-clause-cause : goal.returns-in-None-clause-cause
+returns-in-None-clause-cause g c = c.answer_by_word.ensures.cause
+
+pub returns-in-Flow-clause-cause : goal.returns-in-Flow-clause-cause
+returns-in-Flow-clause-cause g c = c.answer_net_line.ensures.cause
+
+pub returns-in-Solve-clause-cause : goal.returns-in-Solve-clause-cause
+returns-in-Solve-clause-cause g c = c.answer_word_line.ensures.cause

@@ -1,17 +1,26 @@
-use Rattle.std.proofs.Common.{List, [], ap, arith, inl, inr, length, refl, subst, sym, ℕ, ◌++◌, ◌+◌, ◌<◌, ◌≤◌, ◌⊎◌, ◌∙◌, ◌∷◌, ◌≡◌}
+-- Each call of the search: what it hands on meets what it asks for, its number falls, and all words that are sought are met behind one of them.
+use Rattle.std.proofs.Common.{IsTrue, List, [], ap, arith, false, inl, inr, length, refl, subst, sym, true, ℕ}
+use Rattle.std.proofs.Common.{◌*◌, ◌++◌, ◌+◌, ◌-◌, ◌<◌, ◌≤◌, ◌⊎◌, ◌∙◌, ◌∷◌, ◌≡◌}
 use Rattle.std.proofs.lemmas.List.{length-append}
-use Rattle.bk_word.specs.Play.{IsComplete}
+use Rattle.bk_word.proofs.StoredBytes.{order_one}
+use Rattle.bk_word.specs.Outline.{has_left_wall, open_side}
+use Rattle.bk_word.specs.Play.{IsComplete, outline_of}
 use Rattle.bk_word.specs.Word.{Word, order_of}
 use Rattle.bk_word.specs.declared.Sign.{Sign}
 use Rattle.bk_word.specs.declared.Sign.TheVariants.{Above, Even, Under}
+use Rattle.bk_skeleton.specs.SmallSkeleton.{IsValley}
 use Rattle.bk_layout.specs.NetWord.{IsNetBarren}
 use Rattle.bk_normal.specs.NormalImage.{IsNormalSought}
 use Rattle.bk_free_search.proofs.Cutting.{normal}
+use Rattle.bk_free_search.proofs.EvenSigns.{side_few}
 use Rattle.bk_free_search.proofs.LastSquare.{all_at_once_is_barren}
 use Rattle.bk_free_search.proofs.NextMoves.{HasNextMove, HasNextSign, below_or_not, below_or_same, by_count, by_same, by_sign, by_whole, is_whole}
 use Rattle.bk_free_search.proofs.NextMoves.{next_fertile, next_fits, next_move, next_sign, sought_in}
 use Rattle.bk_free_search.proofs.SignPhases.{above_at_left_is_barred, evens_now, few_behind, few_now, first_missing}
 use Rattle.bk_free_search.proofs.SignPhases.{last_missing, none_goes_on_so, none_missing, not_whole, own_even_is_barred, whole_is_legal}
+use Rattle.bk_free_search.proofs.TurnsTaken.{begun_with, few_steps, first_fits, handed_on, own_few, own_wanted, room_for_sign, without_last}
+use Rattle.bk_free_search.specs.Asking.{BarsSigns, IsAsked, IsBegun, IsNext, IsWithOwn}
+use Rattle.bk_free_search.specs.BoardOutlines.{IsBoardOutline}
 use Rattle.bk_free_search.specs.Sought.{GoesOn, GoesOnBy}
 use Rattle.bk_free_search.specs.declared.state.Begun.{Begun}
 use Rattle.bk_free_search.specs.declared.state.Search.{Search}
@@ -527,3 +536,444 @@ with_right-returns-clause-same g t c = c.with_last-3.ensures.same ∙ c.with_las
 
 pub with_right-returns-clause-same_move : goal.with_right-returns-clause-same_move
 with_right-returns-clause-same_move g t c = c.with_last-3.ensures.same_move ∙ c.with_last-2.ensures.same_move ∙ c.with_last.ensures.same_move
+
+-- ---- what the calls ask for
+
+pub go_on-meet_closed-requires : goal.go_on-meet_closed-requires
+go_on-meet_closed-requires g t c = record { few = omega (arith, c.requires.few, c.requires.most) }
+
+pub go_on-overflow_add-hung : goal.go_on-overflow_add-hung
+go_on-overflow_add-hung g t c = omega (arith, c.order-hung.ensures.few)
+
+pub go_on-meet_with_last-requires-clause-one : goal.go_on-meet_with_last-requires-clause-one
+go_on-meet_with_last-requires-clause-one g t c =
+    ap (λ k. k + 1) (sym (c.order-hung.ensures.value ∙ ap order_of c.skel.ensures.value)) ∙ c.if-hung-from-2.true ∙ c.from-2.ensures
+
+pub go_on-with_counts-requires : goal.go_on-with_counts-requires
+go_on-with_counts-requires g t c κs within = (
+  omega (arith, c.decreases),
+  (
+    within,
+    (
+      c.requires.least,
+      (
+        c.requires.most,
+        omega (
+          arith,
+          c.requires.few,
+          c.if-hung-from.false,
+          c.from.ensures,
+          c.if-hung-from-2.false,
+          c.from-2.ensures,
+          c.order-hung.ensures.value,
+          ap order_of c.skel.ensures.value,
+        ),
+      ),
+    ),
+  ),
+)
+
+pub with_counts-stand_beside-around-requires : goal.with_counts-stand_beside-around-requires
+with_counts-stand_beside-around-requires g t c = record { few = omega (arith, c.requires.few, c.requires.most) }
+
+pub with_counts-lacks_next-requires-clause-few : goal.with_counts-lacks_next-requires-clause-few
+with_counts-lacks_next-requires-clause-few g t c = omega (arith, c.requires.few)
+
+pub with_counts-lacks_next-requires-clause-beside : goal.with_counts-lacks_next-requires-clause-beside
+with_counts-lacks_next-requires-clause-beside g t c = c.stand_beside-around.ensures
+
+pub with_counts-overflow_cast-left : goal.with_counts-overflow_cast-left
+with_counts-overflow_cast-left g t c = omega (arith, c.order.ensures.few)
+
+pub with_counts-overflow_sub-left : goal.with_counts-overflow_sub-left
+with_counts-overflow_sub-left g t c = omega (arith, c.requires.few, c.order.ensures.value, ap order_of c.skel.ensures.value)
+
+pub with_counts-least_count-count-requires-clause-word : goal.with_counts-least_count-count-requires-clause-word
+with_counts-least_count-count-requires-clause-word g t c = c.skel-2.ensures.legal
+
+pub with_counts-least_count-count-requires-clause-valley : goal.with_counts-least_count-count-requires-clause-valley
+with_counts-least_count-count-requires-clause-valley g t c =
+    subst (λ (v : Word). IsValley v c.stand_beside-around.result.valley) (sym c.skel-2.ensures.value) c.stand_beside-around.ensures.valley_is
+
+pub with_counts-overflow_sub-left-in-counts : goal.with_counts-overflow_sub-left-in-counts
+with_counts-overflow_sub-left-in-counts g t c = omega (arith, c.counts-test.true)
+
+pub with_counts-begin-requires-clause-some : goal.with_counts-begin-requires-clause-some
+with_counts-begin-requires-clause-some g t c = omega (arith, c.counts.auto.count, c.least_count-count.ensures.some)
+
+pub with_counts-begin-requires-clause-few : goal.with_counts-begin-requires-clause-few
+with_counts-begin-requires-clause-few g t c = omega (arith, c.counts-test.true, c.requires.most)
+
+pub with_counts-with_left-requires : goal.with_counts-with_left-requires
+with_counts-with_left-requires g t c κs within = handed_on
+    (λ s b. 1000 * (s.order - order_of s.board) + 850 < t)
+    (λ s b. IsBegun s.order s.board b.m b.next c.stand_beside-around.result × (b.m.signs ≡ []))
+    c.counts.self c.args.self.now c.begin.new.begun c.begin.new.begun c.counts.invariant.same refl
+    (omega (arith, c.decreases)) within (begun, none)
+  where
+    none : c.begin.new.begun.m.signs ≡ []
+    none = c.begin.ensures.signs ∙ c.counts.invariant.signs
+
+    hung : c.order.result ≡ order_of c.args.self.now.board
+    hung = c.order.ensures.value ∙ ap order_of c.skel.ensures.value
+
+    begun : IsBegun c.args.self.now.order c.args.self.now.board c.begin.new.begun.m c.begin.new.begun.next c.stand_beside-around.result
+    begun = record {
+      least = c.requires.least;
+      most = c.requires.most;
+      some = omega (arith, c.counts.auto.count, c.least_count-count.ensures.some, c.begin.ensures.count);
+      fits = omega (arith, c.counts-test.true, hung, c.begin.ensures.count);
+      signs = omega (arith, ap (λ (l : List Sign). length l) none);
+      next_is = subst (λ k. IsNext c.args.self.now.order c.args.self.now.board k c.begin.new.begun.next) (sym c.begin.ensures.count)
+          (c.begin.ensures.next c.args.self.now.order c.args.self.now.board c.stand_beside-around.ensures (omega (arith, hung)));
+      around_is = c.stand_beside-around.ensures;
+    }
+
+pub with_counts-counts-smaller : goal.with_counts-counts-smaller
+with_counts-counts-smaller g t c = omega (arith, c.counts-test.true)
+
+pub with_last-push_sign-requires : goal.with_last-push_sign-requires
+with_last-push_sign-requires g t c = room_for_sign c.args.self.now.order c.args.self.now.board c.args.begun.now.m c.args.begun.now.next
+    c.args.around.now c.requires.begun (omega (arith, c.requires.last))
+
+pub with_last-with_move-requires : goal.with_last-with_move-requires
+with_last-with_move-requires g t c κs within = (
+  omega (arith, c.decreases),
+  (
+    within,
+    (
+      c.requires.begun.least,
+      (
+        c.requires.begun.most,
+        (
+          omega (arith, c.requires.begun.fits, c.push_sign.ensures.count),
+          (
+            whole_is_legal c.args.self.now.order c.args.self.now.board c.args.begun.now.m c.push_sign.new.m c.args.begun.now.next
+                c.args.around.now c.requires.begun c.push_sign.ensures.count (ap (λ (l : List Sign). length l) c.push_sign.ensures.signs
+                ∙ length-append c.args.begun.now.m.signs (c.args.sign ∷ []) ∙ c.requires.last),
+            c.requires.begun.around_is.valley_is,
+          ),
+        ),
+      ),
+    ),
+  ),
+)
+
+pub with_left-with_own-requires : goal.with_left-with_own-requires
+with_left-with_own-requires g t c κs within = (
+  omega (
+    arith,
+    c.decreases,
+    few_steps c.args.self.now.order c.args.self.now.board c.args.begun.now.m c.args.begun.now.next c.args.around.now c.requires.begun,
+  ),
+  (
+    within,
+    record {
+      begun = c.requires.begun;
+      asked_is = subst (λ l. IsAsked c.args.self.now.board l c.args.around.now.before.none) (sym c.requires.none)
+          c.requires.begun.around_is.before_is.none;
+      from = omega (arith, ap open_side (sym c.requires.begun.around_is.left_is ∙ c.if-around.true));
+      own = omega (arith, ap (λ (l : List Sign). length l) c.requires.none);
+    },
+  ),
+)
+
+pub with_left-with_sign-requires : goal.with_left-with_sign-requires
+with_left-with_sign-requires g t c κs within = (
+  omega (
+    arith,
+    c.decreases,
+    few_steps c.args.self.now.order c.args.self.now.board c.args.begun.now.m c.args.begun.now.next c.args.around.now c.requires.begun,
+  ),
+  (
+    within,
+    (
+      c.requires.begun,
+      (
+        subst (λ l. IsAsked c.args.self.now.board (l ++ Even ∷ []) c.args.around.now.before.even) (sym c.requires.none)
+            (c.requires.begun.around_is.before_is.even apart),
+        (
+          first_fits c.args.self.now.order c.args.self.now.board c.args.begun.now.m c.args.begun.now.next c.args.around.now c.requires.begun
+              c.requires.none apart,
+          λ barred. c.bars_first_even-barred.ensures barred c.args.self.now.order c.args.self.now.board c.requires.begun c.requires.none apart,
+        ),
+      ),
+    ),
+  ),
+)
+  where
+    apart : has_left_wall (outline_of c.args.self.now.board) ≡ false
+    apart = sym c.requires.begun.around_is.left_is ∙ c.if-around.false
+
+pub with_left-with_sign-requires-2 : goal.with_left-with_sign-requires-2
+with_left-with_sign-requires-2 g t c κs within = handed_on
+    (λ s b. 1000 * (s.order - order_of s.board) + 4 * (b.m.count + 2 - length b.m.signs) < t)
+    (λ s b. IsBegun s.order s.board b.m b.next c.args.around.now × (IsAsked s.board (b.m.signs ++ Under ∷ []) c.args.around.now.before.under
+    × ((length b.m.signs + 1 ≤ b.next.own)
+    × (IsTrue c.bars_first_under-barred.result → BarsSigns s.order s.board b.m.count (b.m.signs ++ Under ∷ [])))))
+    c.with_sign.new.self c.args.self.now c.with_sign.new.begun c.args.begun.now c.with_sign.ensures.same c.with_sign.ensures.same_move
+    (omega (
+      arith,
+      c.decreases,
+      few_steps c.args.self.now.order c.args.self.now.board c.args.begun.now.m c.args.begun.now.next c.args.around.now c.requires.begun,
+    ))
+    within (
+      c.requires.begun,
+      (
+        asked,
+        (
+          first_fits c.args.self.now.order c.args.self.now.board c.args.begun.now.m c.args.begun.now.next
+              c.args.around.now c.requires.begun c.requires.none apart,
+          λ barred. bars barred,
+        ),
+      ),
+    )
+  where
+    apart : has_left_wall (outline_of c.args.self.now.board) ≡ false
+    apart = sym c.requires.begun.around_is.left_is ∙ c.if-around.false
+
+    asked : IsAsked c.args.self.now.board (c.args.begun.now.m.signs ++ Under ∷ []) c.args.around.now.before.under
+    asked = subst (λ l. IsAsked c.args.self.now.board (l ++ Under ∷ []) c.args.around.now.before.under) (sym c.requires.none)
+        (c.requires.begun.around_is.before_is.under apart)
+
+    bars : IsTrue c.bars_first_under-barred.result
+        → BarsSigns c.args.self.now.order c.args.self.now.board c.args.begun.now.m.count (c.args.begun.now.m.signs ++ Under ∷ [])
+    bars barred = subst (λ (b : Begun). IsBegun c.args.self.now.order c.args.self.now.board b.m b.next c.args.around.now → b.m.signs ≡ []
+        → BarsSigns c.args.self.now.order c.args.self.now.board b.m.count (b.m.signs ++ Under ∷ [])) c.with_sign.ensures.same_move
+        (λ begun none. c.bars_first_under-barred.ensures barred c.args.self.now.order c.args.self.now.board begun none apart)
+        c.requires.begun c.requires.none
+
+pub with_move-push-requires-clause-legal : goal.with_move-push-requires-clause-legal
+with_move-push-requires-clause-legal g t c = c.requires.legal
+
+pub with_move-push-requires-clause-few : goal.with_move-push-requires-clause-few
+with_move-push-requires-clause-few g t c = omega (arith, c.requires.few, c.requires.most)
+
+pub with_move-go_on-requires : goal.with_move-go_on-requires
+with_move-go_on-requires g t c κs within = (
+  omega (arith, c.decreases, more, c.requires.few, c.requires.legal.some),
+  (within, (c.requires.least, (c.requires.most, omega (arith, more, c.requires.few)))),
+)
+  where
+    more : order_of c.push.new.self ≡ order_of c.args.self.now.board + c.args.begun.now.m.count
+    more = ap order_of c.push.ensures ∙ order_one c.args.self.now.board c.args.begun.now.m
+
+pub with_move-take_back-requires-clause-some : goal.with_move-take_back-requires-clause-some
+with_move-take_back-requires-clause-some g t c = omega (
+  arith,
+  ap (λ (s : Search). length s.board) c.go_on.ensures.same,
+  ap (λ (v : Word). length v) c.push.ensures,
+  length-append c.args.self.now.board (c.args.begun.now.m ∷ []),
+)
+
+pub with_move-take_back-requires-clause-before : goal.with_move-take_back-requires-clause-before
+with_move-take_back-requires-clause-before g t c = subst (λ (v : Word). IsBoardOutline v c.outline-before.result)
+    (sym (without_last c.args.self.now.board c.go_on.new.self.board c.args.begun.now.m (ap (λ (s : Search). s.board) c.go_on.ensures.same
+    ∙ c.push.ensures))) c.outline-before.ensures
+
+pub with_move-returns-clause-same : goal.with_move-returns-clause-same
+with_move-returns-clause-same g t c = λ i. record {
+  board = (c.take_back.ensures ∙ without_last c.args.self.now.board c.go_on.new.self.board c.args.begun.now.m
+      (ap (λ (s : Search). s.board) c.go_on.ensures.same ∙ c.push.ensures)) i;
+  order = (ap (λ (s : Search). s.order) c.go_on.ensures.same) i;
+}
+
+pub with_own-len-requires : goal.with_own-len-requires
+with_own-len-requires g t c = omega arith
+
+pub with_own-with_right-requires : goal.with_own-with_right-requires
+with_own-with_right-requires g t c κs within = (
+  omega (
+    arith,
+    c.decreases,
+    c.requires.own,
+    own_few c.args.self.now.order c.args.self.now.board c.args.begun.now.m c.args.begun.now.next c.args.around.now c.requires.begun,
+  ),
+  (
+    within,
+    (
+      c.requires,
+      ap (λ (b : Begun). length b.m.signs) (sym c.begun.view_is) ∙ sym c.len.ensures.value ∙ c.if-len-from.true ∙ c.from.ensures
+          ∙ ap (λ (b : Begun). b.next.own) c.begun.view_is,
+    ),
+  ),
+)
+
+pub with_own-with_sign-requires : goal.with_own-with_sign-requires
+with_own-with_sign-requires g t c κs within = (
+  omega (arith, c.decreases),
+  (
+    within,
+    (
+      c.requires.begun,
+      (
+        asked,
+        (
+          omega (arith, low),
+          λ barred. c.bars_own_above-barred.ensures barred c.args.self.now.order c.args.self.now.board c.requires asked low,
+        ),
+      ),
+    ),
+  ),
+)
+  where
+    low : length c.args.begun.now.m.signs < c.args.begun.now.next.own
+    low = omega (
+      arith,
+      c.requires.own,
+      c.if-len-from.false,
+      c.len.ensures.value,
+      c.from.ensures,
+      ap (λ (b : Begun). length b.m.signs) c.begun.view_is,
+      ap (λ (b : Begun). b.next.own) c.begun.view_is,
+    )
+
+    asked : IsAsked c.args.self.now.board (c.args.begun.now.m.signs ++ Above ∷ []) c.asked_with-above.result
+    asked = c.asked_with-above.ensures.asked c.args.self.now.board c.args.begun.now.m.signs c.requires.asked_is c.requires.from
+
+pub with_own-with_sign-requires-2 : goal.with_own-with_sign-requires-2
+with_own-with_sign-requires-2 g t c κs within = handed_on
+    (λ s b. 1000 * (s.order - order_of s.board) + 4 * (b.m.count + 2 - length b.m.signs) < t)
+    (λ s b. IsBegun s.order s.board b.m b.next c.args.around.now × (IsAsked s.board (b.m.signs ++ Under ∷ []) c.asked_with-under.result
+    × ((length b.m.signs + 1 ≤ b.next.own)
+    × (IsTrue c.asks_too_much-barred.result → BarsSigns s.order s.board b.m.count (b.m.signs ++ Under ∷ [])))))
+    c.with_sign.new.self c.args.self.now c.with_sign.new.begun c.args.begun.now c.with_sign.ensures.same c.with_sign.ensures.same_move
+    (omega (arith, c.decreases)) within (c.requires.begun, (asked, (omega (arith, low), λ barred. bars barred)))
+  where
+    low : length c.args.begun.now.m.signs < c.args.begun.now.next.own
+    low = omega (
+      arith,
+      c.requires.own,
+      c.if-len-from.false,
+      c.len.ensures.value,
+      c.from.ensures,
+      ap (λ (b : Begun). length b.m.signs) c.begun.view_is,
+      ap (λ (b : Begun). b.next.own) c.begun.view_is,
+    )
+
+    longer : length (c.args.begun.now.m.signs ++ Under ∷ []) ≡ length c.args.begun.now.m.signs + 1
+    longer = length-append c.args.begun.now.m.signs (Under ∷ [])
+
+    asked : IsAsked c.args.self.now.board (c.args.begun.now.m.signs ++ Under ∷ []) c.asked_with-under.result
+    asked = c.asked_with-under.ensures.asked c.args.self.now.board c.args.begun.now.m.signs c.requires.asked_is c.requires.from
+
+    bars : IsTrue c.asks_too_much-barred.result
+        → BarsSigns c.args.self.now.order c.args.self.now.board c.args.begun.now.m.count (c.args.begun.now.m.signs ++ Under ∷ [])
+    bars barred = subst (λ (b : Begun). IsBegun c.args.self.now.order c.args.self.now.board b.m b.next c.args.around.now
+        → length (c.args.begun.now.m.signs ++ Under ∷ []) ≤ b.next.own
+        → BarsSigns c.args.self.now.order c.args.self.now.board b.m.count (c.args.begun.now.m.signs ++ Under ∷ [])) c.with_sign.ensures.same_move
+        (λ begun few. c.asks_too_much-barred.ensures barred c.args.self.now.order c.args.self.now.board
+        (c.args.begun.now.m.signs ++ Under ∷ []) begun asked (omega (arith, c.requires.from, longer)) few)
+        c.requires.begun (omega (arith, low, longer))
+
+pub with_right-with_move-requires : goal.with_right-with_move-requires
+with_right-with_move-requires g t c κs within = (
+  omega (arith, c.decreases),
+  (
+    within,
+    (
+      c.requires.with_own.begun.least,
+      (
+        c.requires.with_own.begun.most,
+        (
+          c.requires.with_own.begun.fits,
+          (
+            whole_is_legal c.args.self.now.order c.args.self.now.board c.args.begun.now.m c.args.begun.now.m c.args.begun.now.next c.args.around.now
+                c.requires.with_own.begun refl (none_missing c.args.self.now.order c.args.self.now.board c.args.begun.now.m c.args.begun.now.next
+                c.args.around.now c.requires.with_own.begun c.requires.own c.if-around.true),
+            c.requires.with_own.begun.around_is.valley_is,
+          ),
+        ),
+      ),
+    ),
+  ),
+)
+
+pub with_right-with_last-requires : goal.with_right-with_last-requires
+with_right-with_last-requires g t c κs within = (
+  omega (arith, c.decreases),
+  (
+    within,
+    (
+      c.requires.with_own.begun,
+      (
+        last_missing c.args.self.now.order c.args.self.now.board c.args.begun.now.m c.args.begun.now.next c.args.around.now c.requires.with_own.begun
+            c.requires.own c.if-around.false,
+        λ barred. let e : false ≡ true = barred in cc,
+      ),
+    ),
+  ),
+)
+
+pub with_right-with_last-requires-2 : goal.with_right-with_last-requires-2
+with_right-with_last-requires-2 g t c κs within = handed_on
+    (λ s b. 1000 * (s.order - order_of s.board) + 2 < t)
+    (λ s b. IsBegun s.order s.board b.m b.next c.args.around.now × ((length b.m.signs + 1 ≡ b.next.wanted)
+    × (IsTrue c.bars_last-barred.result → BarsSigns s.order s.board b.m.count (b.m.signs ++ Above ∷ []))))
+    c.with_last.new.self c.args.self.now c.with_last.new.begun c.args.begun.now c.with_last.ensures.same
+    c.with_last.ensures.same_move
+    (omega (arith, c.decreases)) within (c.requires.with_own.begun, (last, λ barred. bars barred))
+  where
+    last : length c.args.begun.now.m.signs + 1 ≡ c.args.begun.now.next.wanted
+    last = last_missing c.args.self.now.order c.args.self.now.board c.args.begun.now.m c.args.begun.now.next c.args.around.now
+        c.requires.with_own.begun c.requires.own c.if-around.false
+
+    bars : IsTrue c.bars_last-barred.result
+        → BarsSigns c.args.self.now.order c.args.self.now.board c.args.begun.now.m.count (c.args.begun.now.m.signs ++ Above ∷ [])
+    bars barred = subst (λ (b : Begun). IsWithOwn c.args.self.now.order c.args.self.now.board b.m b.next c.args.around.now c.args.asked.now
+        → length b.m.signs + 1 ≡ b.next.wanted → BarsSigns c.args.self.now.order c.args.self.now.board b.m.count (b.m.signs ++ Above ∷ []))
+        c.with_last.ensures.same_move
+        (λ own wanted. c.bars_last-barred.ensures barred c.args.self.now.order c.args.self.now.board own wanted (λ e. cc))
+        c.requires.with_own last
+
+pub with_right-with_last-requires-3 : goal.with_right-with_last-requires-3
+with_right-with_last-requires-3 g t c κs within = handed_on
+    (λ s b. 1000 * (s.order - order_of s.board) + 2 < t)
+    (λ s b. IsBegun s.order s.board b.m b.next c.args.around.now × ((length b.m.signs + 1 ≡ b.next.wanted)
+    × (IsTrue c.bars_last-barred-2.result → BarsSigns s.order s.board b.m.count (b.m.signs ++ Under ∷ []))))
+    c.with_last-2.new.self c.args.self.now c.with_last-2.new.begun c.args.begun.now (c.with_last-2.ensures.same ∙ c.with_last.ensures.same)
+    (c.with_last-2.ensures.same_move ∙ c.with_last.ensures.same_move)
+    (omega (arith, c.decreases)) within (c.requires.with_own.begun, (last, λ barred. bars barred))
+  where
+    last : length c.args.begun.now.m.signs + 1 ≡ c.args.begun.now.next.wanted
+    last = last_missing c.args.self.now.order c.args.self.now.board c.args.begun.now.m c.args.begun.now.next c.args.around.now
+        c.requires.with_own.begun c.requires.own c.if-around.false
+
+    bars : IsTrue c.bars_last-barred-2.result
+        → BarsSigns c.args.self.now.order c.args.self.now.board c.args.begun.now.m.count (c.args.begun.now.m.signs ++ Under ∷ [])
+    bars barred = subst (λ (b : Begun). IsWithOwn c.args.self.now.order c.args.self.now.board b.m b.next c.args.around.now c.args.asked.now
+        → length b.m.signs + 1 ≡ b.next.wanted → BarsSigns c.args.self.now.order c.args.self.now.board b.m.count (b.m.signs ++ Under ∷ []))
+        (c.with_last-2.ensures.same_move ∙ c.with_last.ensures.same_move)
+        (λ own wanted. c.bars_last-barred-2.ensures barred c.args.self.now.order c.args.self.now.board own wanted (λ e. cc))
+        c.requires.with_own last
+
+pub with_sign-push_sign-requires : goal.with_sign-push_sign-requires
+with_sign-push_sign-requires g t c = room_for_sign c.args.self.now.order c.args.self.now.board c.args.begun.now.m c.args.begun.now.next
+    c.args.around.now c.requires.begun (own_wanted c.args.self.now.order c.args.self.now.board c.args.begun.now.m c.args.begun.now.next
+    c.args.around.now c.requires.begun c.requires.own)
+
+pub with_sign-with_own-requires : goal.with_sign-with_own-requires
+with_sign-with_own-requires g t c κs within = (
+  omega (
+    arith,
+    c.decreases,
+    c.push_sign.ensures.count,
+    longer,
+    c.requires.own,
+    own_few c.args.self.now.order c.args.self.now.board c.args.begun.now.m c.args.begun.now.next c.args.around.now c.requires.begun,
+  ),
+  (
+    within,
+    record {
+      begun = begun_with c.args.self.now.order c.args.self.now.board c.args.begun.now.m c.push_sign.new.m c.args.begun.now.next c.args.around.now
+          c.args.sign c.requires.begun c.push_sign.ensures.count c.push_sign.ensures.signs (own_wanted c.args.self.now.order c.args.self.now.board
+          c.args.begun.now.m c.args.begun.now.next c.args.around.now c.requires.begun c.requires.own);
+      asked_is = subst (λ l. IsAsked c.args.self.now.board l c.args.asked.now) (sym c.push_sign.ensures.signs) c.requires.asked;
+      from = omega (arith, longer, side_few (has_left_wall (outline_of c.args.self.now.board)));
+      own = omega (arith, longer, c.requires.own);
+    },
+  ),
+)
+  where
+    longer : length c.push_sign.new.m.signs ≡ length c.args.begun.now.m.signs + 1
+    longer = ap (λ (l : List Sign). length l) c.push_sign.ensures.signs ∙ length-append c.args.begun.now.m.signs (c.args.sign ∷ [])

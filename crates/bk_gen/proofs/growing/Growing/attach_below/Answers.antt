@@ -1,5 +1,7 @@
-use Rattle.std.proofs.Common.{ap, arith, length}
+use Rattle.std.proofs.Common.{List, ap, arith, length, lit<, ◌+◌, ◌∙◌}
 use Rattle.bk_tiling.specs.Tiling.{Tiling}
+use Rattle.bk_tiling.specs.declared.Square.{Square}
+use Rattle.bk_gen.specs.Attaching.{with_below}
 use Rattle.bk_gen.proofs.GrowingLaws.{growing_height, grows_below}
 use Rattle.bk_gen.proofs.growing.Growing.attach_below.Goals as goal
 
@@ -14,3 +16,12 @@ invariant_of-self c =
     rw c.push.ensures.items
     (grows_below t c.self.invariant (omega (arith, c.requires.few, ap (λ (t : Tiling). length t.squares) c.self.view_is))
     (omega (arith, c.requires.side, ap (λ (t : Tiling). t.width) c.self.view_is)))
+
+pub push-requires : goal.push-requires
+push-requires c = (lit< tt, omega (arith, c.requires.few, ap (λ (t : Tiling). length t.squares) c.self.view_is))
+
+pub returns : goal.returns
+returns c =
+    let made : List Square → Tiling = λ l. record { width = c.self.inside.width; height = c.self.inside.height + c.self.inside.width; squares = l } in
+    ap made c.push.ensures.items
+    ∙ ap with_below c.self.view_is

@@ -1,4 +1,4 @@
-use Rattle.std.proofs.Common.{List, [], ap, arith, length, map, rules, subst, sym, ◌++◌, ◌+◌, ◌<◌, ◌^◌, ◌∙◌, ◌∷◌, ◌≡◌, ◌≤◌}
+use Rattle.std.proofs.Common.{List, [], ap, arith, length, lit<, map, subst, sym, ◌++◌, ◌+◌, ◌<◌, ◌^◌, ◌∙◌, ◌∷◌, ◌≡◌, ◌≤◌}
 use Rattle.std.specs.List.{AllByRecursion}
 use Rattle.arrayvec.proofs.ArrayVecLemmas.{items-with_items}
 use Rattle.bk_tiling.specs.Scale.{moved_square}
@@ -6,6 +6,7 @@ use Rattle.bk_tiling.specs.Tiling.{Tiling}
 use Rattle.bk_tiling.specs.declared.Square.{Square}
 use Rattle.bk_gen.specs.Attaching.{with_left}
 use Rattle.bk_gen.proofs.GrowingLaws.{fit_moved, growing_width, grows_left}
+use Rattle.bk_gen.proofs.MovedFront.{as_many_moved}
 use Rattle.bk_gen.proofs.growing.Growing.attach_left.Goals as goal
 
 side : (c : goal.After-as_mut_slice) → c.self.inside.height ≤ 999_999_999_999_999
@@ -22,7 +23,10 @@ attached : (c : goal.After-self-2-1) → c.push.new.self.items ≡ map (moved_sq
     ++ record { x = 0; y = 0; s = c.self.inside.height } ∷ []
 attached c = c.push.ensures.items
     ∙ ap (λ (l : List Square). l ++ record { x = 0; y = 0; s = c.self.inside.height } ∷ [])
-    (items-with_items c.self.inside.squares c.move_all.new.squares (search rules) ∙ c.move_all.ensures
+    (items-with_items c.self.inside.squares c.move_all.new.squares
+    (as_many_moved c.self.inside.height 0 c.self.inside.squares.items c.as_mut_slice.result.now c.move_all.new.squares
+    c.as_mut_slice.ensures.value c.move_all.ensures)
+    ∙ c.move_all.ensures
     ∙ ap (map (moved_square c.self.inside.height 0)) c.as_mut_slice.ensures.value)
 
 pub overflow_add-self : goal.overflow_add-self
@@ -39,3 +43,15 @@ invariant_of-self c =
 
 pub returns : goal.returns
 returns c = rw (attached c) (ap with_left c.self.view_is)
+
+pub as_mut_slice-requires : goal.as_mut_slice-requires
+as_mut_slice-requires c = lit< tt
+
+pub push-requires : goal.push-requires
+push-requires c =
+    let many = as_many_moved c.self.inside.height 0 c.self.inside.squares.items c.as_mut_slice.result.now c.move_all.new.squares
+    c.as_mut_slice.ensures.value c.move_all.ensures in (
+      lit< tt,
+      subst (λ (l : List Square). length l < 200) (sym (items-with_items c.self.inside.squares c.move_all.new.squares many))
+          (omega (arith, many, c.requires.few, ap (λ (t : Tiling). length t.squares) c.self.view_is)),
+    )

@@ -1,8 +1,29 @@
-use Rattle.std.proofs.Common.{ap, arith, refl, subst, sym}
+use Rattle.std.proofs.Common.{ap, arith, refl, subst, sym, ◌∙◌}
 use Rattle.bk_catalogue.specs.Catalogue.{IsMember}
 use Rattle.bk_member_table.specs.Finding.{Finding, IsHeld}
 use Rattle.bk_member_table.proofs.FoundMembers.{order_of_image, the_member}
 use Rattle.bk_member_table.proofs.finding.Finder.meet_tiling.Goals as goal
+
+pub meet_canonical-requires : goal.meet_canonical-requires
+meet_canonical-requires g c = (
+  omega (arith, g.N.fits),
+  (
+    c.order.ensures.kept.tiling,
+    (
+      sym c.order.ensures.value ∙ c.if-order-from.false ∙ c.from.ensures ∙ ap (λ (s : Finding). s.order) c.self.view_is,
+      c.is_canonical.ensures.0 c.if-is_canonical.true,
+    ),
+  ),
+)
+
+pub meet_image-requires : goal.meet_image-requires
+meet_image-requires g c = (
+  omega (arith, g.N.fits),
+  (
+    c.order.ensures.kept.tiling,
+    sym c.order.ensures.value ∙ c.if-order-from.false ∙ c.from.ensures ∙ ap (λ (s : Finding). s.order) c.self.view_is,
+  ),
+)
 
 pub returns-then-order-from-clause-put : goal.returns-then-order-from-clause-put
 returns-then-order-from-clause-put g c t turn member same w word least = absurd (c.if-order-from.true (omega (

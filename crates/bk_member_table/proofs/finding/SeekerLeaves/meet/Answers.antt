@@ -1,7 +1,28 @@
-use Rattle.std.proofs.Common.{subst}
+use Rattle.std.proofs.Common.{arith, refl, subst}
 use Rattle.bk_word.specs.declared.Class.{Class}
 use Rattle.bk_member_table.proofs.FoundMembers.{FindsAll, met_nothing, met_placed, still_met}
 use Rattle.bk_member_table.proofs.finding.SeekerLeaves.meet.Goals as goal
+
+pub class-requires : goal.class-requires
+class-requires g c = omega (arith, g.N.fits)
+
+pub placed_at-requires-clause-complete : goal.placed_at-requires-clause-complete
+placed_at-requires-clause-complete g c = c.requires.complete
+
+pub placed_at-requires-clause-few : goal.placed_at-requires-clause-few
+placed_at-requires-clause-few g c = c.requires.few
+
+pub meet_placed-requires : goal.meet_placed-requires
+meet_placed-requires g c = omega (arith, g.N.fits)
+
+pub returns-in-Some-clause-fixed : goal.returns-in-Some-clause-fixed
+returns-in-Some-clause-fixed g c = c.meet_placed.ensures.fixed
+
+pub returns-in_default-clause-kept : goal.returns-in_default-clause-kept
+returns-in_default-clause-kept g c w met = met
+
+pub returns-in_default-clause-fixed : goal.returns-in_default-clause-fixed
+returns-in_default-clause-fixed g c = refl
 
 pub returns-in-Some-clause-met : goal.returns-in-Some-clause-met
 returns-in-Some-clause-met g c = met_placed c.args.board.now c.placed_at.result c.in-Some.placed c.args.self.now.finder c.meet_placed.new.self

@@ -1,7 +1,10 @@
-use Rattle.std.proofs.Common.{ap}
+use Rattle.std.proofs.Common.{ap, arith}
 use Rattle.bk_member_table.specs.Finding.{Finding}
 use Rattle.bk_member_table.proofs.WholeTables.{table_of_none}
 use Rattle.bk_member_table.proofs.members.MemberTable.new.Goals as goal
+
+pub new-requires : goal.new-requires
+new-requires g c = (omega (arith, g.N.fits), omega arith)
 
 pub invariant_of-result : goal.invariant_of-result
 invariant_of-result g c = table_of_none c.new.result.finder (ap (λ (f : Finding). f.order) c.new.ensures)

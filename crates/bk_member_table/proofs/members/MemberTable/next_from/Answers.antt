@@ -1,11 +1,20 @@
 use Rattle.std.specs.List.{AllByRecursion}
 use Rattle.std.specs.Prelude.{IfNone, IfSome, None, Option, Some}
-use Rattle.std.proofs.Common.{subst, ℕ, ◌<◌, ◌≡◌}
-use Rattle.bk_packed.specs.Kept.{IsFirstFrom, Numbers}
+use Rattle.std.proofs.Common.{arith, subst, sym, ℕ, ◌<◌, ◌≡◌}
+use Rattle.bk_packed.specs.Kept.{AreAscendingNumbers, IsFirstFrom, Numbers}
 use Rattle.bk_member_table.specs.Finding.{Finding, HasOnlyMembers}
 use Rattle.bk_member_table.specs.Members.{HasNoneFrom, IsNextNumber, IsWhole}
 use Rattle.bk_member_table.proofs.WholeTables.{next_number, none_from}
 use Rattle.bk_member_table.proofs.members.MemberTable.next_from.Goals as goal
+
+pub table-requires : goal.table-requires
+table-requires g c = (omega (arith, g.N.fits), omega (arith, g.N.fits))
+
+pub first_from-requires : goal.first_from-requires
+first_from-requires g c = (
+  omega (arith, g.N.fits),
+  subst (λ (n : Numbers). AreAscendingNumbers n.kept) (sym c.table.ensures.value) c.self.invariant.ascending,
+)
 
 -- what is found in the numbers of a whole table
 if_next : (t : Finding) (numbers : Numbers) (bound : ℕ) (found : Option ℕ) → numbers ≡ t.numbers → IsWhole t → HasOnlyMembers t

@@ -1,7 +1,13 @@
-use Rattle.std.proofs.Common.{ap, subst, ◌∙◌}
+use Rattle.std.proofs.Common.{ap, arith, subst, ◌∙◌}
 use Rattle.bk_packed.specs.Kept.{AreAscendingNumbers, Numbers}
 use Rattle.bk_member_table.specs.Finding.{Finding, HasOnlyMembers}
 use Rattle.bk_member_table.proofs.members.MemberTable.numbers.Goals as goal
+
+pub table-requires : goal.table-requires
+table-requires g c = (omega (arith, g.N.fits), omega (arith, g.N.fits))
+
+pub numbers-requires : goal.numbers-requires
+numbers-requires g c = omega (arith, g.N.fits)
 
 pub returns-clause-only : goal.returns-clause-only
 returns-clause-only g c = subst HasOnlyMembers c.self.view_is c.table.ensures.only

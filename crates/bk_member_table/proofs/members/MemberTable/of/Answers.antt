@@ -3,6 +3,15 @@ use Rattle.bk_member_table.specs.Finding.{Finding, Wanted}
 use Rattle.bk_member_table.proofs.WholeTables.{still_whole, whole_table}
 use Rattle.bk_member_table.proofs.members.MemberTable.of.Goals as goal
 
+pub new-seeker-requires : goal.new-seeker-requires
+new-seeker-requires g c = (omega (arith, g.N.fits), c.requires.most)
+
+pub search-requires-room-S-Leaves : goal.search-requires-room-S-Leaves
+search-requires-room-S-Leaves g c κs = omega (arith, g.N.fits)
+
+pub settle-requires : goal.settle-requires
+settle-requires g c = omega (arith, g.N.fits)
+
 pub invariant_of-result : goal.invariant_of-result
 invariant_of-result g c = record {
   few = omega (

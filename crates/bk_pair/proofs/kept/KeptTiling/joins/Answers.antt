@@ -1,6 +1,7 @@
 use Rattle.std.specs.Prelude.{true, ◌↔◌}
 use Rattle.std.proofs.Common.{List, ap, inl, inr, subst, sym, ◌∙◌, ◌≡◌}
 use Rattle.bk_tiling.specs.declared.Square.{Square}
+use Rattle.bk_pair.specs.Kept.{AreAscending}
 use Rattle.bk_pair.specs.OwnSides.{HaveCommonSide, stands_apart}
 use Rattle.bk_pair.proofs.KeptPairs.{common_refused, join_decided, not_joined, stored}
 use Rattle.bk_pair.proofs.SmallSides.{bits_common}
@@ -39,3 +40,9 @@ returns c =
     (subst (λ (l : List Square). (c.have_common_side.result ≡ true) ↔ HaveCommonSide l c.other.inside.squares.items) c.as_slice.ensures.value
     (subst (λ (l : List Square). (c.have_common_side.result ≡ true) ↔ HaveCommonSide c.as_slice.result.now l) c.as_slice-2.ensures.value
     c.have_common_side.ensures))
+
+pub have_common_side-requires-clause-first : goal.have_common_side-requires-clause-first
+have_common_side-requires-clause-first c = subst AreAscending (sym c.as_slice.ensures.value) c.self.invariant.ascending
+
+pub have_common_side-requires-clause-second : goal.have_common_side-requires-clause-second
+have_common_side-requires-clause-second c = subst AreAscending (sym c.as_slice-2.ensures.value) c.other.invariant.ascending

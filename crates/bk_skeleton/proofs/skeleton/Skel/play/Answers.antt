@@ -1,11 +1,12 @@
 use Rattle.std.specs.List.{splice}
-use Rattle.std.proofs.Common.{List, [], ap, arith, drop, filter, length, slice_range, sum, take, ◌+◌, ◌++◌, ◌-◌, ◌∙◌, ◌∷◌, ◌≡◌, ◌≤◌}
+use Rattle.std.proofs.Common.{List, [], ap, arith, count_by, drop, filter, length, lit<, slice_range, sum, sym, take, ◌+◌, ◌++◌, ◌-◌, ◌∙◌, ◌∷◌, ◌≡◌, ◌≤◌}
 use Rattle.std.proofs.lemmas.List.{length-drop, length-take-le}
 use Rattle.bk_word.specs.Play.{numbers_from, parts}
 use Rattle.bk_word.specs.declared.Sign.{Sign}
 use Rattle.bk_skeleton.proofs.Playing.{Played, moves_shown, playing, stored_played, stored_shown}
 use Rattle.bk_skeleton.proofs.SkelReads.{counted_in}
 use Rattle.bk_skeleton.specs.Skeleton.{first_touched, open_sides, sizes_after}
+use Rattle.bk_skeleton.specs.declared.turns.MoveRecord.{MoveRecord}
 use Rattle.bk_skeleton.proofs.skeleton.Skel.play.Goals as goal
 
 pub turn_for-turn-requires-clause-many : goal.turn_for-turn-requires-clause-many
@@ -144,3 +145,61 @@ returns c =
       played_new = c.append-2.ensures ∙ ap (λ (l : List Sign). c.self.inside.played.items ++ l) c.deref-6.ensures.0;
     } in
     moves_shown (stored_played c.self.invariant p n) ∙ (λ i. c.self.view_is i ++ c.m.view_is i ∷ [])
+
+pub deref-requires : goal.deref-requires
+deref-requires c = lit< tt
+
+pub deref-requires-2 : goal.deref-requires-2
+deref-requires-2 c = lit< tt
+
+pub deref-requires-3 : goal.deref-requires-3
+deref-requires-3 c = lit< tt
+
+pub deref-requires-4 : goal.deref-requires-4
+deref-requires-4 c = lit< tt
+
+pub deref-requires-5 : goal.deref-requires-5
+deref-requires-5 c = lit< tt
+
+pub deref-requires-6 : goal.deref-requires-6
+deref-requires-6 c = lit< tt
+
+pub len-requires : goal.len-requires
+len-requires c = lit< tt
+
+pub len-requires-2 : goal.len-requires-2
+len-requires-2 c = lit< tt
+
+pub len-requires-3 : goal.len-requires-3
+len-requires-3 c = lit< tt
+
+pub turn_for-turn-requires-clause-few : goal.turn_for-turn-requires-clause-few
+turn_for-turn-requires-clause-few c = omega (arith, c.deref.ensures.1, ap length c.deref.ensures.0)
+
+pub turn_for-turn-requires-clause-moved : goal.turn_for-turn-requires-clause-moved
+turn_for-turn-requires-clause-moved c = c.deref-3.ensures.1
+
+pub turn_for-turn-requires-clause-from : goal.turn_for-turn-requires-clause-from
+turn_for-turn-requires-clause-from c = c.len.ensures.fits
+
+pub overflow_add-number : goal.overflow_add-number
+overflow_add-number c = omega (arith, c.len-2.ensures.fits, c.len-3.ensures.fits)
+
+pub overflow_add-number-2 : goal.overflow_add-number-2
+overflow_add-number-2 c = omega (arith, c.len-2.ensures.fits, c.len-3.ensures.fits)
+
+pub overflow_add-end : goal.overflow_add-end
+overflow_add-end c =
+    let p = playing c.self.invariant c.self.view_is c.m.view_is c.requires.legal c.requires.few c.turn_for-turn.ensures
+    c.deref.ensures.0 c.deref-2.ensures.0 c.deref-3.ensures.0 c.len.ensures.value in
+    omega (arith, p.first, c.from-first.ensures, c.from.ensures, c.len-2.ensures.value, c.len-2.ensures.fits)
+
+pub slice_bounds-append-count : goal.slice_bounds-append-count
+slice_bounds-append-count c = omega arith
+
+pub slice_bounds-append-start : goal.slice_bounds-append-start
+slice_bounds-append-start c = omega arith
+
+pub apply_signs-requires-clause-parted : goal.apply_signs-requires-clause-parted
+apply_signs-requires-clause-parted c =
+    ap (λ (t : MoveRecord). t.parted) c.turn_for-turn.ensures ∙ ap (count_by parts) (c.deref-3.ensures.0 ∙ sym c.deref-5.ensures.0)

@@ -1,8 +1,10 @@
 use Rattle.std.specs.List.{splice}
-use Rattle.std.proofs.Common.{ap, arith, drop, length, take, ◌+◌, ◌-◌, ◌∙◌, ◌≡◌, ◌≤◌}
-use Rattle.std.proofs.lemmas.List.{length-drop}
+use Rattle.std.proofs.Common.{ap, arith, drop, length, lit<, take, ◌+◌, ◌-◌, ◌∙◌, ◌≡◌, ◌≤◌}
+use Rattle.std.proofs.lemmas.List.{length-drop, length-map}
 use Rattle.bk_skeleton.proofs.Playing.{moves_shown, stored_shown}
 use Rattle.bk_skeleton.proofs.TakenBack.{Back, behind_read, front_left, stored_back, taken_back}
+use Rattle.bk_skeleton.proofs.SkelReads.{counted_in}
+use Rattle.bk_skeleton.specs.Skeleton.{move_of}
 use Rattle.bk_skeleton.proofs.skeleton.Skel.pop.Goals as goal
 
 pub overflow_sub-kept : goal.overflow_sub-kept
@@ -82,3 +84,33 @@ returns c =
       played_new = c.truncate-2.ensures.items ∙ ap (λ n. take n c.self.inside.played.items) c.from-3.ensures;
     } in
     moves_shown (stored_back b n) ∙ front_left b c.args.self.now c.self.view_is
+
+pub take_last-turn-requires : goal.take_last-turn-requires
+take_last-turn-requires c = omega (arith, c.requires, ap length c.self.view_is, length-map c.self.inside.turns.items (move_of c.self.inside.played.items))
+
+pub len-requires : goal.len-requires
+len-requires c = lit< tt
+
+pub overflow_add-first : goal.overflow_add-first
+overflow_add-first c =
+    let b = taken_back c.self.invariant c.take_last-turn.ensures c.requires c.self.view_is in
+    let kept = c.self.invariant.kept in
+    omega (arith, b.ends_within, c.from-first.ensures, c.from-2.ensures, (counted_in c.self.invariant).all, kept.few)
+
+pub deref-requires : goal.deref-requires
+deref-requires c = lit< tt
+
+pub slice_bounds-splice-count : goal.slice_bounds-splice-count
+slice_bounds-splice-count c = omega (arith, ap length c.deref.ensures.0, c.len.ensures.value)
+
+pub slice_bounds-splice-start : goal.slice_bounds-splice-start
+slice_bounds-splice-start c = omega (arith, ap length c.deref.ensures.0, c.len.ensures.value)
+
+pub slice_bounds-splice-end : goal.slice_bounds-splice-end
+slice_bounds-splice-end c = omega arith
+
+pub truncate-requires : goal.truncate-requires
+truncate-requires c = lit< tt
+
+pub truncate-requires-2 : goal.truncate-requires-2
+truncate-requires-2 c = lit< tt

@@ -1,8 +1,9 @@
-use Rattle.std.proofs.Common.{List, Some, ap, arith, drop, get_or, length, rules, slice_range, sym, take, ◌+◌, ◌++◌, ◌-◌, ◌∙◌, ◌≡◌, ◌≤◌}
-use Rattle.std.proofs.lemmas.List.{length-drop, length-take-le}
+use Rattle.std.proofs.Common.{List, Some, ap, arith, drop, get_or, length, lit<, slice_range, sym, take, ◌+◌, ◌++◌, ◌-◌, ◌∙◌, ◌≡◌, ◌≤◌}
+use Rattle.std.proofs.lemmas.List.{length-drop, length-map, length-take-le}
 use Rattle.bk_word.specs.declared.Sign.{Sign}
 use Rattle.bk_skeleton.proofs.SkelReads.{Spans, move_read, span_in}
 use Rattle.bk_skeleton.proofs.Wirings.{no_turn}
+use Rattle.bk_skeleton.specs.Skeleton.{move_of}
 use Rattle.bk_skeleton.specs.declared.turns.MoveRecord.{MoveRecord}
 use Rattle.bk_skeleton.proofs.skeleton.Skel.read_move.Goals as goal
 
@@ -20,7 +21,7 @@ slice_bounds-append-start c =
     let e = ap (λ (l : List MoveRecord). get_or l c.args.i no_turn) c.deref.ensures.0 in
     let k : c.from.result ≤ c.from-2.result =
     omega (arith, c.from.ensures, c.from-2.ensures, h.order, ap (λ (t : MoveRecord). t.from) e, ap (λ (t : MoveRecord). t.to) e) in
-    search rules
+    omega (arith, k)
 
 pub slice_bounds-append-end : goal.slice_bounds-append-end
 slice_bounds-append-end c =
@@ -61,3 +62,31 @@ returns c =
     let at = move_read c.args.self.now c.self.inside.turns.items c.self.inside.played.items c.append.new.list.items c.args.i no_turn
     c.self.view_is c.requires read in
     at ∙ (λ j. Some (record { count = (sym e j).count; signs = c.append.new.list.items }))
+
+pub deref-requires : goal.deref-requires
+deref-requires c = lit< tt
+
+pub clear-requires : goal.clear-requires
+clear-requires c = lit< tt
+
+pub deref-requires-2 : goal.deref-requires-2
+deref-requires-2 c = lit< tt
+
+pub bounds-deref-i : goal.bounds-deref-i
+bounds-deref-i c = omega (
+  arith,
+  c.requires,
+  ap length c.self.view_is,
+  length-map c.self.inside.turns.items (move_of c.self.inside.played.items),
+  ap length c.deref.ensures.0,
+)
+
+pub offset_bounds-deref-i : goal.offset_bounds-deref-i
+offset_bounds-deref-i c = omega (
+  arith,
+  c.requires,
+  ap length c.self.view_is,
+  length-map c.self.inside.turns.items (move_of c.self.inside.played.items),
+  ap length c.deref.ensures.0,
+  c.deref.type_inv.1,
+)

@@ -1,4 +1,4 @@
-use Rattle.std.proofs.Common.{ap, arith, length}
+use Rattle.std.proofs.Common.{ap, arith, length, lit<}
 use Rattle.std.proofs.lemmas.List.{length-map}
 use Rattle.bk_skeleton.proofs.TurnRecords.{no_turn, signs_seen, signs_within}
 use Rattle.bk_skeleton.specs.Skeleton.{move_of, moves_stored}
@@ -40,3 +40,28 @@ returns c m e = signs_seen (moves_stored c.self.inside.turns.items c.self.inside
     c.deref.ensures.0 c.deref-2.ensures.0
     (omega (arith, c.requires, ap length c.self.view_is, length-map c.self.inside.turns.items (move_of c.self.inside.played.items)))
     c.from.ensures c.from-2.ensures e
+
+pub deref-requires : goal.deref-requires
+deref-requires c = lit< tt
+
+pub deref-requires-2 : goal.deref-requires-2
+deref-requires-2 c = lit< tt
+
+pub bounds-deref-i : goal.bounds-deref-i
+bounds-deref-i c = omega (
+  arith,
+  c.requires,
+  ap length c.self.view_is,
+  length-map c.self.inside.turns.items (move_of c.self.inside.played.items),
+  ap length c.deref.ensures.0,
+)
+
+pub offset_bounds-deref-i : goal.offset_bounds-deref-i
+offset_bounds-deref-i c = omega (
+  arith,
+  c.requires,
+  ap length c.self.view_is,
+  length-map c.self.inside.turns.items (move_of c.self.inside.played.items),
+  ap length c.deref.ensures.0,
+  c.deref.type_inv.1,
+)

@@ -1,4 +1,4 @@
-use Rattle.std.proofs.Common.{[], ap, arith, count_by, length, refl, sym, ◌+◌, ◌++◌, ◌∙◌, ◌∷◌, ◌≡◌, ◌≤◌}
+use Rattle.std.proofs.Common.{[], ap, arith, count_by, length, lit<, refl, sym, ◌+◌, ◌++◌, ◌∙◌, ◌∷◌, ◌≡◌, ◌≤◌}
 use Rattle.bk_word.specs.Play.{parts}
 use Rattle.bk_word.specs.declared.Sign.{Sign}
 use Rattle.bk_skeleton.proofs.Playing.{moves_shown, playing_within, stored_played}
@@ -197,3 +197,67 @@ returns c =
     c.part_and_join.ensures.signs c.part-valley.ensures c.append.ensures
     (c.push.ensures ∙ ap (λ k. c.self.inside.turns.items ++ with_parted c.turn_at_valley-turn.result k ∷ []) parted) c.append-2.ensures in
     moves_shown (stored_played c.self.invariant.stored p n) ∙ (λ i. c.self.view_is i ++ c.m.view_is i ∷ [])
+
+pub as_slice-requires : goal.as_slice-requires
+as_slice-requires c = lit< tt
+
+pub as_slice-requires-2 : goal.as_slice-requires-2
+as_slice-requires-2 c = lit< tt
+
+pub as_slice-requires-3 : goal.as_slice-requires-3
+as_slice-requires-3 c = lit< tt
+
+pub as_slice-requires-4 : goal.as_slice-requires-4
+as_slice-requires-4 c = lit< tt
+
+pub as_slice-requires-5 : goal.as_slice-requires-5
+as_slice-requires-5 c = lit< tt
+
+pub len-requires : goal.len-requires
+len-requires c = lit< tt
+
+pub len-requires-2 : goal.len-requires-2
+len-requires-2 c = lit< tt
+
+pub len-requires-3 : goal.len-requires-3
+len-requires-3 c = lit< tt
+
+pub len-requires-4 : goal.len-requires-4
+len-requires-4 c = lit< tt
+
+pub turn_at_valley-turn-requires-clause-few : goal.turn_at_valley-turn-requires-clause-few
+turn_at_valley-turn-requires-clause-few c = omega (arith, c.as_slice.ensures.few, ap length c.as_slice.ensures.items)
+
+pub turn_at_valley-turn-requires-clause-moved : goal.turn_at_valley-turn-requires-clause-moved
+turn_at_valley-turn-requires-clause-moved c = omega (arith, c.len.ensures.few)
+
+pub turn_at_valley-turn-requires-clause-from : goal.turn_at_valley-turn-requires-clause-from
+turn_at_valley-turn-requires-clause-from c = omega (arith, c.len-2.ensures.few)
+
+pub overflow_add-number : goal.overflow_add-number
+overflow_add-number c = omega (arith, c.len-3.ensures.few, c.len-4.ensures.few)
+
+pub overflow_add-number-2 : goal.overflow_add-number-2
+overflow_add-number-2 c = omega (arith, c.len-3.ensures.few, c.len-4.ensures.few)
+
+pub overflow_cast-number : goal.overflow_cast-number
+overflow_cast-number c = omega (arith, c.len-3.ensures.few, c.len-4.ensures.few)
+
+pub overflow_add-end : goal.overflow_add-end
+overflow_add-end c =
+    let p = playing_within 16 (omega arith) c.self.invariant.stored c.self.view_is c.m.view_is c.requires.legal c.requires.few
+    (c.turn_at_valley-turn.ensures c.m.inside.signs.items (sym c.len.ensures.value)) c.as_slice.ensures.items c.as_slice-2.ensures.items refl
+    c.len-2.ensures.value in
+    omega (arith, p.first, p.numbers, c.from-first.ensures, c.from-3.ensures)
+
+pub hang-requires-clause-order : goal.hang-requires-clause-order
+hang-requires-clause-order c = omega arith
+
+pub hang-requires-clause-small : goal.hang-requires-clause-small
+hang-requires-clause-small c = omega (arith, c.len-3.ensures.few, c.len-4.ensures.few)
+
+pub overflow_cast-self : goal.overflow_cast-self
+overflow_cast-self c = omega (arith, c.leftmost-place.ensures.within, c.as_slice-5.ensures.few, ap length c.as_slice-5.ensures.items)
+
+pub overflow_cast-self-2 : goal.overflow_cast-self-2
+overflow_cast-self-2 c = omega (arith, c.leftmost-place.ensures.few)

@@ -1,7 +1,8 @@
-use Rattle.std.specs.Prelude.{false, true}
-use Rattle.std.proofs.Common.{ap, arith, refl, ◌∙◌}
-use Rattle.bk_text.specs.Gathered.{with_group}
+use Rattle.std.specs.Prelude.{false, length, true, ◌<◌, ◌≡◌}
+use Rattle.std.proofs.Common.{ap, arith, le_refl, refl, subst, sym, ◌∙◌}
+use Rattle.bk_text.specs.Gathered.{Gathered, with_group}
 use Rattle.bk_text.proofs.Fronts.{group_further, group_within}
+use Rattle.bk_text.proofs.Progress.{side_added}
 use Rattle.bk_text.proofs.gatherer.Gatherer.take_group.Goals as goal
 
 pub sides-preserved : goal.sides-preserved
@@ -46,3 +47,27 @@ returns-clause-within c = c.sides.invariant.within
 
 pub returns-clause-leads : goal.returns-clause-leads
 returns-clause-leads c = c.sides.invariant.leads
+
+pub slice_bounds-front_of-start : goal.slice_bounds-front_of-start
+slice_bounds-front_of-start c = c.sides.invariant.within
+
+pub slice_bounds-front_of-end : goal.slice_bounds-front_of-end
+slice_bounds-front_of-end c = le_refl (length c.args.bytes.now)
+
+pub overflow_add-taken : goal.overflow_add-taken
+overflow_add-taken c =
+    omega (
+      arith,
+      group_within c.args.bracket c.args.bytes.now c.sides.taken c.in-Inner.side c.in-Inner.len false c.sides.invariant.within c.in-Inner.ensures,
+    )
+
+pub close_group-requires : goal.close_group-requires
+close_group-requires c =
+    subst (λ (g : Gathered). g.many ≡ false → 0 < length g.sides) (sym c.add_side-in-Last.ensures) (side_added c.in-Last.side c.sides.self)
+
+pub overflow_add-result : goal.overflow_add-result
+overflow_add-result c =
+    omega (
+      arith,
+      group_within c.args.bracket c.args.bytes.now c.sides.taken c.in-Last.side c.in-Last.len true c.sides.invariant.within c.in-Last.ensures,
+    )

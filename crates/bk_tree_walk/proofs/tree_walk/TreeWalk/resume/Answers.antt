@@ -1,10 +1,10 @@
-use Rattle.std.proofs.Common.{[], ap, arith, subst, sym, ◌++◌, ◌+◌, ◌∷◌, ◌≡◌, ◌≤◌, ℕ}
+use Rattle.std.proofs.Common.{[], ap, arith, subst, sym, ◌++◌, ◌+◌, ◌∷◌, ◌≡◌, ◌≤◌, ℕ, length, refl, take, ◌∙◌}
 use Rattle.bk_word.specs.Outline.{IsLegalMove}
 use Rattle.bk_word.specs.Play.{outline_of}
 use Rattle.bk_word.specs.Word.{Word, order_of}
-use Rattle.bk_tree_walk.specs.Search.{HasPassed, IsSearchState, SearchState}
-use Rattle.bk_tree_walk.proofs.SearchTurns.{stays_then}
-use Rattle.bk_tree_walk.proofs.StateLaws.{down_from, stays_played, stays_put}
+use Rattle.bk_tree_walk.specs.Search.{HasPassed, IsSearchState, SearchState, IsKeptSearch}
+use Rattle.bk_tree_walk.proofs.SearchTurns.{stays_then, stays_same}
+use Rattle.bk_tree_walk.proofs.StateLaws.{down_from, stays_played, stays_put, stand_anew}
 use Rattle.bk_tree_walk.proofs.TakingUp.{few_steps, stuck_place, stuck_stand, takes_down, whole_place}
 use Rattle.bk_tree_walk.proofs.tree_walk.TreeWalk.resume.Goals as goal
 
@@ -70,3 +70,48 @@ returns-then-not-can_play-clause-stays g c = stays_then c.args.self.now c.moves.
 pub returns-clause-stays : goal.returns-clause-stays
 returns-clause-stays g c = stays_then c.args.self.now c.moves.self _ c.args.steps.now c.moves.steps c.moves.steps c.moves.invariant.stays
     (stays_put c.self-2.invariant c.self-2.view_is _ _ _)
+
+pub moves-init : goal.moves-init
+moves-init g c =
+    let kept = subst IsKeptSearch c.self.view_is c.self.invariant in
+    let stays = stays_same c.args.self.now c.args.steps.now kept in
+    let played = c.moves-i.ensures.value ∙ ap length c.skel.ensures.value ∙ ap (λ (s : SearchState). length s.front) c.self.view_is in
+    record {
+      up = record {
+        begun = ap (λ k. take k c.args.cursor.now) played ∙ c.requires.begun;
+        legal = kept.stand.legal;
+        small = kept.stand.small;
+        one_each = refl;
+        counts = stays.counts;
+      };
+      stays = stays;
+    }
+
+pub get-self-inside-requires : goal.get-self-inside-requires
+get-self-inside-requires g c = omega (arith, c.moves-test.true, c.moves-i-end.ensures.value)
+
+pub can_play-requires : goal.can_play-requires
+can_play-requires g c = c.get-self-inside.ensures.few
+
+pub go_down-requires : goal.go_down-requires
+go_down-requires g c = record { legal = c.can_play.ensures.legal c.if-not-can_play.false; few = c.can_play.ensures.few c.if-not-can_play.false }
+
+pub invariant_of-self-in-moves : goal.invariant_of-self-in-moves
+invariant_of-self-in-moves g c = record {
+  least = c.self-in-moves.invariant.least;
+  most = c.self-in-moves.invariant.most;
+  stand = subst (λ (s : SearchState). IsSearchState s.order s.front c.get-self-inside.result) (sym c.self-in-moves.view_is)
+      (subst (λ (n : ℕ). IsSearchState n c.moves.self.front c.get-self-inside.result) (sym c.moves.invariant.stays.order)
+      (stuck_stand c.args.self.now.order c.args.cursor.now c.args.self.now.front c.moves.self.front c.get-self-inside.result c.moves.i
+      c.args.self.now.pushes c.moves.self.pushes c.args.steps.now c.moves.steps c.requires.few c.moves.invariant.up c.get-self-inside.ensures.value
+      c.get-self-inside.ensures.stands));
+  known = c.self-in-moves.invariant.known;
+}
+
+pub invariant_of-self-2 : goal.invariant_of-self-2
+invariant_of-self-2 g c = record {
+  least = c.self-2.invariant.least;
+  most = c.self-2.invariant.most;
+  stand = stand_anew c.self-2.inside.order c.self-2.inside.lined c.self-2.inside.next c.begin_anew.new.m c.self-2.invariant.stand c.begin_anew.ensures;
+  known = c.self-2.invariant.known;
+}

@@ -1,5 +1,6 @@
 use Rattle.bk_tree_walk.proofs.PlaceLaws.{settled_back, settled_back_leads, settled_end, settled_on, settled_stand}
 use Rattle.bk_tree_walk.proofs.StateLaws.{stand_first, stays_put}
+use Rattle.std.proofs.Common.{arith}
 use Rattle.bk_tree_walk.proofs.tree_walk.TreeWalk.settle.Goals as goal
 
 pub invariant_of-self : goal.invariant_of-self
@@ -51,3 +52,18 @@ returns-then-climb-clause-stays c = stays_put c.self.invariant c.self.view_is _ 
 
 pub returns-clause-stays : goal.returns-clause-stays
 returns-clause-stays c = stays_put c.self.invariant c.self.view_is _ _
+
+pub least_legal_from-requires-clause-some : goal.least_legal_from-requires-clause-some
+least_legal_from-requires-clause-some c = c.self.invariant.stand.some
+
+pub least_legal_from-requires-clause-count : goal.least_legal_from-requires-clause-count
+least_legal_from-requires-clause-count c = c.self.invariant.stand.count
+
+pub least_legal_from-requires-clause-signs : goal.least_legal_from-requires-clause-signs
+least_legal_from-requires-clause-signs c = c.self.invariant.stand.signs
+
+pub least_legal_from-requires-clause-sides : goal.least_legal_from-requires-clause-sides
+least_legal_from-requires-clause-sides c = c.open_sides.ensures.few
+
+pub climb-requires : goal.climb-requires
+climb-requires c = record { small = omega (arith, c.self.invariant.stand.small, c.self.invariant.most) }

@@ -1,12 +1,14 @@
-use Rattle.std.proofs.Common.{[], subst, sym, ◌++◌, ◌-◌, ◌∙◌, ◌≡◌, ◌∷◌}
+use Rattle.std.proofs.Common.{[], subst, sym, ◌++◌, ◌-◌, ◌∙◌, ◌≡◌, ◌∷◌, ap, arith, length}
 use Rattle.bk_tree_walk.specs.Search.{IsReady, IsSearchState, SearchState, StepLeadsTo, place_of}
 use Rattle.bk_tree_walk.specs.declared.Went.{Went}
 use Rattle.bk_tree_walk.specs.declared.Went.TheVariants.{Met, On}
-use Rattle.bk_tree_walk.proofs.StateLaws.{count_few, leads_over, signs_few, stand_anew, stays_down, stays_put}
-use Rattle.bk_tree_walk.proofs.StateLaws.{walked_back, walked_back_stand, walked_down, walked_entry, walked_to}
+use Rattle.bk_tree_walk.proofs.StateLaws.{count_few, leads_over, signs_few, stand_anew, stays_down, stays_put, walked_back, walked_back_stand, walked_down}
+use Rattle.bk_tree_walk.proofs.StateLaws.{walked_entry, walked_to}
 use Rattle.bk_catalogue.specs.Catalogue.{IsEntry}
-use Rattle.bk_tree_walk.proofs.tree_walk.TreeWalk.walk_on.Goals as goal
 use Rattle.bk_tree_walk.proofs.tree_walk.TreeWalk.walk_on.Goals.{else-is_members, then-is_members}
+use Rattle.std.proofs.lemmas.List.{length-append}
+use Rattle.bk_word.specs.Word.{Move}
+use Rattle.bk_tree_walk.proofs.tree_walk.TreeWalk.walk_on.Goals as goal
 
 -- the next move is legal
 pub skip-requires-clause-legal : goal.skip-requires-clause-legal
@@ -121,3 +123,22 @@ returns-clause-member g c = elim c.if-is_members.branch [
       (c.is_members.ensures.yes w.if-is_members.true))
   | else-is_members w ↦ λ met. absurd (not_met (sym w.result-is ∙ met))
 ]
+
+pub go_down-requires : goal.go_down-requires
+go_down-requires g c = subst (λ (m : Move). IsReady (record {
+  order = c.self.inside.order;
+  class = c.self.inside.class;
+  front = c.self.inside.lined;
+  next = m;
+  pushes = c.self.inside.pushes;
+})) (sym (c.skip.ensures.kept c.if-skip.false)) (subst IsReady (sym c.self.view_is) c.requires)
+
+pub pop-requires : goal.pop-requires
+pop-requires g c = omega (
+  arith,
+  ap (λ (s : SearchState). length s.front) (c.self-2.view_is ∙ c.go_down.ensures.state),
+  length-append c.self.inside.lined (c.skip.new.m ∷ []),
+)
+
+pub is_members-requires : goal.is_members-requires
+is_members-requires g c = record { order = c.self-2.invariant.most }

@@ -1,4 +1,4 @@
-use Rattle.std.proofs.Common.{ap, arith, length, nat_eq, subst, sum, sym, ◌∙◌}
+use Rattle.std.proofs.Common.{ap, arith, length, nat_eq, subst, sum, sym, ◌∙◌, lit<, [], ◌++◌, ◌∷◌}
 use Rattle.bk_word.specs.Outline.{IsLegalMove}
 use Rattle.bk_word.specs.Play.{outline_of}
 use Rattle.bk_word.specs.Word.{Move, Word, order_of}
@@ -40,3 +40,24 @@ invariant_of-self g c =
           c.push.ensures.moves c.push_lines.ensures;
       traced = subst (λ (w : Word). IsTraceOf w c.trace.new.sides) (sym c.push.ensures.moves) c.trace.ensures;
     }
+
+pub deref-requires : goal.deref-requires
+deref-requires g c = lit< tt
+
+pub trace-requires-clause-trace : goal.trace-requires-clause-trace
+trace-requires-clause-trace g c = c.self.invariant.traced
+
+pub trace-requires-clause-legal : goal.trace-requires-clause-legal
+trace-requires-clause-legal g c = subst (λ (w : Word). IsLegalMove (outline_of w) c.args.m.now) (sym c.self.view_is) c.requires.legal
+
+pub push-requires-clause-legal : goal.push-requires-clause-legal
+push-requires-clause-legal g c = subst (λ (w : Word). IsLegalMove (outline_of w) c.args.m.now) (sym c.self.view_is) c.requires.legal
+
+pub push-requires-clause-few : goal.push-requires-clause-few
+push-requires-clause-few g c = omega (arith, c.requires.few, ap order_of c.self.view_is)
+
+pub returns-clause-moves : goal.returns-clause-moves
+returns-clause-moves g c = c.push.ensures.moves ∙ ap (λ (w : Word). w ++ c.args.m.now ∷ []) c.self.view_is
+
+pub returns-clause-step : goal.returns-clause-step
+returns-clause-step g c = c.push.ensures.step

@@ -1,3 +1,0 @@
-pub mod Listing
-pub mod LeftBehind
-pub mod LackingExamples

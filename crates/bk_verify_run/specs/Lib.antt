@@ -1,2 +1,0 @@
--- How the code keeps what the crate says.
-pub mod Lacking
