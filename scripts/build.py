@@ -19,6 +19,7 @@ import os
 import shutil
 import subprocess
 import sys
+import tempfile
 import threading
 import time
 from concurrent.futures import FIRST_COMPLETED, ThreadPoolExecutor, wait
@@ -34,6 +35,9 @@ MADE_FROM = f"{OUT}/made_from"
 MADE_BY = f"{OUT}/made_by"
 # What a check may hold in memory, in bytes: with less free, fewer run side by side.
 MEMORY_OF_A_CHECK = 3_000_000_000
+# Where files lie in memory, if anywhere, and how many bytes of them a check may write there on the way.
+IN_MEMORY = "/dev/shm"
+SCRATCH_OF_A_CHECK = 1_000_000_000
 # After so many seconds without a crate that is done, a line says what is at work.
 QUIET = 30
 
@@ -42,6 +46,12 @@ def free_memory():
     """Returns the bytes of memory that are free."""
     with open("/proc/meminfo", encoding="utf-8") as file:
         return next((1024 * int(line.split()[1]) for line in file if line.startswith("MemAvailable:")), MEMORY_OF_A_CHECK)
+
+
+def scratch(jobs):
+    """Returns a new folder for what so many checks write on the way: in memory if there is room, unless TMPDIR says where. It is removed at the end."""
+    in_memory = "TMPDIR" not in os.environ and os.access(IN_MEMORY, os.W_OK) and shutil.disk_usage(IN_MEMORY).free >= jobs * SCRATCH_OF_A_CHECK
+    return tempfile.TemporaryDirectory(prefix="bouwkamp.", dir=IN_MEMORY if in_memory else None)
 
 
 def told(seconds):
@@ -278,7 +288,8 @@ def main(words):
         return 1
     jobs = int(words[1]) if words[:1] == ["--jobs"] else len(os.sched_getaffinity(0))
     jobs = max(1, min(jobs, free_memory() // MEMORY_OF_A_CHECK))
-    return 0 if prove_and_build(crates, program, toolchain, jobs) else 1
+    with scratch(jobs) as os.environ["TMPDIR"]:
+        return 0 if prove_and_build(crates, program, toolchain, jobs) else 1
 
 
 if __name__ == "__main__":

@@ -25,11 +25,11 @@ use Rattle.bk_layout.specs.LineNumbers.{lefts_of, sides_of}
 use Rattle.bk_layout.proofs.SignedWires.{ends_below, pair_is, square_below}
 use Rattle.bk_layout.proofs.SignedTotals.{finish_of, start_of}
 use Rattle.bk_layout.specs.SignedWord.{IsSignedWordOf}
-use Rattle.bk_normal.proofs.LayoutSides.{at_top, on_bottom}
-use Rattle.bk_normal.specs.Normal.{Counts, longest}
-use Rattle.bk_normal.proofs.NormalImages.{a_normal_word_has_settled_corners}
-use Rattle.bk_normal.specs.NormalImage.{AreCornersSettled, IsMetByNormalWord}
-use Rattle.bk_normal.specs.WordNumbers.{counts_of_word}
+use Rattle.bk_layout.proofs.LayoutSides.{at_top, on_bottom}
+use Rattle.bk_layout.specs.Normal.{Counts, longest}
+use Rattle.bk_layout.proofs.NormalImages.{a_normal_word_has_settled_corners}
+use Rattle.bk_layout.specs.NormalImage.{AreCornersSettled, IsMetByNormalWord}
+use Rattle.bk_layout.specs.WordNumbers.{counts_of_word}
 use Rattle.bk_free_leaf.proofs.Candidates.{current_is, last_is, left_is, right_is, square_is, the_candidate_is_the_tiling}
 use Rattle.bk_free_leaf.proofs.Leaves.{currents_many, edges_told, left_at, wires_are}
 use Rattle.bk_free_leaf.proofs.ToldSteps.{differ}

@@ -2,7 +2,7 @@
 use Rattle.std.specs.Prelude.{pos}
 use Rattle.std.proofs.Common.{Bool, [], arith, false, refl, true, ◌∷◌, ◌≡◌}
 use Rattle.bk_tiling.proofs.ExampleTilings.{rectangle_3x2}
-use Rattle.bk_normal.specs.Normal.{Counts, counts_of}
+use Rattle.bk_layout.specs.Normal.{Counts, counts_of}
 use Rattle.bk_free_leaf.specs.Ties.{AreTiesOf}
 use Rattle.bk_free_leaf.specs.ToldCorners.{AreLongest, AreLongestTold, Lines}
 use Rattle.bk_free_leaf.specs.declared.corners.Longest.{Longest}

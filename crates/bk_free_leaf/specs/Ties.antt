@@ -2,7 +2,7 @@
 -- Example (TiesExamples): the rectangle 3x2 of the squares 2, 1, 1 has as many squares at the bottom as at the top, and fewer at the left
 -- than at the right.
 use Rattle.std.specs.Prelude.{IsTrue, ◌≡◌}
-use Rattle.bk_normal.specs.Normal.{Counts, IsHalf}
+use Rattle.bk_layout.specs.Normal.{Counts, IsHalf}
 use Rattle.bk_free_leaf.specs.declared.ties.Ties.{Ties}
 
 -- the counts tie where it is said

@@ -5,7 +5,7 @@
 -- at the top, at the bottom and at the left has side 2, and that at the right side 1.
 use Rattle.std.specs.Prelude.{Bool, List, cond, max, nat_abs, pos, slice_index_or, suc, zero, ℕ, ℤ, ◌&&◌, ◌==◌, ◌||◌, ◌≡◌}
 use Rattle.bk_tiling.specs.declared.Square.{Square}
-use Rattle.bk_normal.specs.Normal.{is_in_bottom_corner, is_in_left_corner, is_in_right_corner, is_in_top_corner, longest}
+use Rattle.bk_layout.specs.Normal.{is_in_bottom_corner, is_in_left_corner, is_in_right_corner, is_in_top_corner, longest}
 use Rattle.bk_free_leaf.specs.declared.corners.Contact.{Contact}
 use Rattle.bk_free_leaf.specs.declared.corners.Longest.{Longest}
 use Rattle.bk_free_leaf.specs.Candidate.{line_place}

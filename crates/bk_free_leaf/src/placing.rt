@@ -10,8 +10,8 @@ ghost use Rattle.bk_layout.specs.LineNumbers.{lefts_of};
 ghost use Rattle.bk_free_leaf.specs.Placing.{AreKnownLines, AreSmall, EndWithin, IsPlacedAt, IsSmall};
 ghost use Rattle.bk_free_leaf.specs.Found.{IsFound};
 ghost use Rattle.bk_free_leaf.specs.Ties.{AreTiesOf};
-ghost use Rattle.bk_normal.specs.NormalImage.{IsMetByNormalWord};
-ghost use Rattle.bk_normal.specs.WordNumbers.{counts_of_word};
+ghost use Rattle.bk_layout.specs.NormalImage.{IsMetByNormalWord};
+ghost use Rattle.bk_layout.specs.WordNumbers.{counts_of_word};
 ghost use Rattle.bk_catalogue.specs.Catalogue.{IsOfClass};
 
 use crate::class::class_allows;
@@ -20,7 +20,7 @@ use crate::levels::{NODES, levels_of, place_of, rights_of};
 use crate::ties::{Ties, corners_allow};
 use arrayvec::ArrayVec;
 use bk_flow::narrow_flow;
-use bk_skeleton::SmallSkel;
+use bk_skeleton::{SmallSkel, small_net};
 use bk_tiling::Square;
 use bk_word::{Class, INLINE_ORDER};
 
@@ -45,7 +45,7 @@ pub fn leaf(skel: &SmallSkel, lefts: &[u8], ties: Ties, class: Class) -> Option<
     requires ties { AreTiesOf (counts_of_word skel.now) ties }
     ensures { (t : Tiled) → IsMetByNormalWord t skel.now → IsPrimitiveTiling t → IsOfClass class t → IsFound t result }
 {
-    let net = skel.net();
+    let net = small_net(skel);
     let wires = net.wires();
     let flow = narrow_flow(&net);
     let (total, currents) = (flow.total(), flow.currents());

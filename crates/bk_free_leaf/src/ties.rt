@@ -2,8 +2,8 @@
 
 ghost use Rattle.std.specs.Prelude.{IsTrue, List, false, ℕ, ◌||◌, ◌≡◌, ◌≤◌};
 ghost use Rattle.bk_tiling.specs.declared.Square.{Square};
-ghost use Rattle.bk_normal.specs.Normal.{Counts};
-ghost use Rattle.bk_normal.specs.NormalImage.{AreCornersSettled};
+ghost use Rattle.bk_layout.specs.Normal.{Counts};
+ghost use Rattle.bk_layout.specs.NormalImage.{AreCornersSettled};
 ghost use Rattle.bk_free_leaf.specs.Ties.{AreTiesOf};
 ghost use Rattle.bk_free_leaf.specs.ToldCorners.{AreLongest};
 

@@ -3,8 +3,8 @@ use Rattle.std.proofs.Common.{IsTrue, arith, cond, inl, inr, length, max, nat_le
 use Rattle.std.specs.Prelude.{◌/◌}
 use Rattle.std.proofs.lemmas.Bool.Decides.{nat_tests}
 use Rattle.bk_word.specs.Word.{Word}
-use Rattle.bk_normal.specs.NextMove.{AreMostMovesThen, left_squares_then, right_squares_then}
-use Rattle.bk_normal.specs.WordNumbers.{first_count}
+use Rattle.bk_layout.specs.NextMove.{AreMostMovesThen, left_squares_then, right_squares_then}
+use Rattle.bk_layout.specs.WordNumbers.{first_count}
 
 -- what a test of numbers tells
 pub below_told : (a b : ℕ) → IsTrue (nat_lt a b) → a < b

@@ -9,7 +9,7 @@ use Rattle.bk_word.specs.Word.{Move, Word}
 use Rattle.bk_word.specs.declared.Sign.{Sign}
 use Rattle.bk_word.specs.declared.Sign.TheVariants.{Above, Even, Under}
 use Rattle.bk_catalogue.specs.VerticalCut.{begins_on_line, edges_on_lines}
-use Rattle.bk_normal.specs.StrongPass.{Passed, pass}
+use Rattle.bk_layout.specs.StrongPass.{Passed, pass}
 use Rattle.bk_free_search.proofs.CountedSigns.{counted_mark, counted_more, legal_move, move_long, sign_at, sign_before, signs_long, size_at}
 use Rattle.bk_free_search.specs.Strong.{with_mark}
 use Rattle.bk_free_search.proofs.SharedAround.{mark_before_valley, mark_of_first}

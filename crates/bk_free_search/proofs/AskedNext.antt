@@ -12,8 +12,8 @@ use Rattle.bk_word.specs.declared.Sign.{Sign}
 use Rattle.bk_word.specs.declared.Sign.TheVariants.{Above, Even, Under}
 use Rattle.bk_word.proofs.PlayLists.{place_within}
 use Rattle.bk_catalogue.specs.VerticalCut.{begins_on_line, edges_on_lines}
-use Rattle.bk_normal.specs.StrongPass.{Passed as SeenPassed, pass}
-use Rattle.bk_normal.specs.WordNumbers.{first_count}
+use Rattle.bk_layout.specs.StrongPass.{Passed as SeenPassed, pass}
+use Rattle.bk_layout.specs.WordNumbers.{first_count}
 use Rattle.bk_free_search.proofs.AskedBefore.{marked_own, past_left, past_own}
 use Rattle.bk_free_search.proofs.CountedSigns.{shape}
 use Rattle.bk_free_search.proofs.EvenSigns.{evens_more}

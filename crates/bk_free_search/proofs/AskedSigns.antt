@@ -12,12 +12,12 @@ use Rattle.bk_word.specs.declared.Sign.{Sign}
 use Rattle.bk_word.specs.declared.Sign.TheVariants.{Above, Even}
 use Rattle.bk_word.proofs.PlayLaws.{legal_rest}
 use Rattle.bk_word.proofs.StoredBytes.{order_append, order_more}
-use Rattle.bk_normal.proofs.NextMove.{most_moves_hold_then}
-use Rattle.bk_normal.proofs.StrongWords.{strong_bound_is_normal_barren, strong_weight_is_normal_barren}
+use Rattle.bk_layout.proofs.NextMove.{most_moves_hold_then}
+use Rattle.bk_layout.proofs.StrongWords.{strong_bound_is_normal_barren, strong_weight_is_normal_barren}
 use Rattle.bk_catalogue.specs.VerticalCut.{edges_on_lines}
-use Rattle.bk_normal.specs.NormalCuts.{IsNormalBarren, touched_or_wide}
-use Rattle.bk_normal.specs.WordNumbers.{first_count}
-use Rattle.bk_normal.specs.StrongBound.{strong_bound_of, weight_of}
+use Rattle.bk_layout.specs.NormalCuts.{IsNormalBarren, touched_or_wide}
+use Rattle.bk_layout.specs.WordNumbers.{first_count}
+use Rattle.bk_layout.specs.StrongBound.{strong_bound_of, weight_of}
 use Rattle.bk_free_search.proofs.BehindSigns.{asked_with_all, asked_with_some, behind_marks_long}
 use Rattle.bk_free_search.proofs.Cutting.{by_legal}
 use Rattle.bk_free_search.proofs.EvenSigns.{apart_from_own, side_few}

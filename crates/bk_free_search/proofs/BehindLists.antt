@@ -13,9 +13,9 @@ use Rattle.bk_word.specs.declared.Sign.TheVariants.{Above}
 use Rattle.bk_catalogue.proofs.BoundsOfWords.{shape_of_word, sizes_long}
 use Rattle.bk_catalogue.proofs.ClosingLaws.{drop_next}
 use Rattle.bk_catalogue.specs.VerticalCut.{edges_on_lines}
-use Rattle.bk_normal.proofs.WideSegments.{wide_long}
-use Rattle.bk_normal.specs.NormalCuts.{touched_or_wide}
-use Rattle.bk_normal.specs.WordNumbers.{first_count}
+use Rattle.bk_layout.proofs.WideSegments.{wide_long}
+use Rattle.bk_layout.specs.NormalCuts.{touched_or_wide}
+use Rattle.bk_layout.specs.WordNumbers.{first_count}
 use Rattle.bk_free_search.proofs.SharedMarks.{wide_told}
 use Rattle.bk_free_search.specs.Apart.{AreAskedBehind, AreAsks, behind_marks, behind_signs, behind_sizes, joined_marks, marks_of_word, wide_first}
 

@@ -11,12 +11,12 @@ use Rattle.bk_word.specs.declared.Sign.{Sign}
 use Rattle.bk_word.specs.declared.Sign.TheVariants.{Above, Even}
 use Rattle.bk_word.proofs.PlayLists.{place_within}
 use Rattle.bk_catalogue.specs.VerticalCut.{edges_on_lines}
-use Rattle.bk_normal.proofs.PassCounts.{fewer_marks_ask_less, the_pass_is_strong}
-use Rattle.bk_normal.proofs.WideSegments.{wide_long}
-use Rattle.bk_normal.specs.NormalCuts.{touched_or_wide}
-use Rattle.bk_normal.specs.StrongBound.{strong_bound_of, strong_from, weight_from, weight_of}
-use Rattle.bk_normal.specs.StrongPass.{IsCounted, IsNoMore, Passed, pass_along}
-use Rattle.bk_normal.specs.WordNumbers.{first_count}
+use Rattle.bk_layout.proofs.PassCounts.{fewer_marks_ask_less, the_pass_is_strong}
+use Rattle.bk_layout.proofs.WideSegments.{wide_long}
+use Rattle.bk_layout.specs.NormalCuts.{touched_or_wide}
+use Rattle.bk_layout.specs.StrongBound.{strong_bound_of, strong_from, weight_from, weight_of}
+use Rattle.bk_layout.specs.StrongPass.{IsCounted, IsNoMore, Passed, pass_along}
+use Rattle.bk_layout.specs.WordNumbers.{first_count}
 use Rattle.bk_free_search.proofs.CountedSigns.{marks_long, signs_long, sizes_long}
 use Rattle.bk_free_search.proofs.PassesOn.{ArePartsButLast, further_signs, joined_counts, joined_on}
 use Rattle.bk_free_search.proofs.SharedAround.{joined_marks_shared, marks_behind_shared, signs_behind, sizes_behind}

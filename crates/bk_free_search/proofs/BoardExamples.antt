@@ -4,7 +4,7 @@ use Rattle.bk_word.specs.Word.{Move, Word}
 use Rattle.bk_word.specs.declared.Sign.{Sign}
 use Rattle.bk_word.specs.declared.Sign.TheVariants.{Above, Even, Under}
 use Rattle.bk_layout.specs.LineNumbers.{lefts_of}
-use Rattle.bk_normal.specs.WordNumbers.{first_count, left_squares, right_squares}
+use Rattle.bk_layout.specs.WordNumbers.{first_count, left_squares, right_squares}
 use Rattle.bk_free_search.specs.Rights.{rights_of}
 
 abbrev move : ℕ → List Sign → Move

@@ -14,12 +14,12 @@ use Rattle.bk_word.proofs.PlayLists.{numbers-length, place_within}
 use Rattle.bk_word_net.proofs.Shape.{Shaped}
 use Rattle.bk_catalogue.proofs.BoundsOfWords.{shape_of_word}
 use Rattle.bk_catalogue.specs.VerticalCut.{edges_on_lines}
-use Rattle.bk_normal.proofs.PassCounts.{the_pass_counts_the_bound}
-use Rattle.bk_normal.proofs.StrongParts.{weight_joined}
-use Rattle.bk_normal.proofs.WideSegments.{wide_long}
-use Rattle.bk_normal.specs.StrongBound.{strong_bound_of, strong_from, weight_from, weight_of}
-use Rattle.bk_normal.specs.StrongPass.{IsBoundCounted, IsNoMore, Passed, none_passed, pass, pass_along}
-use Rattle.bk_normal.specs.WordNumbers.{first_count}
+use Rattle.bk_layout.proofs.PassCounts.{the_pass_counts_the_bound}
+use Rattle.bk_layout.proofs.StrongParts.{weight_joined}
+use Rattle.bk_layout.proofs.WideSegments.{wide_long}
+use Rattle.bk_layout.specs.StrongBound.{strong_bound_of, strong_from, weight_from, weight_of}
+use Rattle.bk_layout.specs.StrongPass.{IsBoundCounted, IsNoMore, Passed, none_passed, pass, pass_along}
+use Rattle.bk_layout.specs.WordNumbers.{first_count}
 use Rattle.bk_free_search.proofs.PassesOn.{fewer_marks, goes_on, mark_before}
 use Rattle.bk_free_search.specs.Strong.{with_mark}
 use Rattle.bk_free_search.proofs.SharedMarks.{shared_long, strong_shared}

@@ -17,8 +17,8 @@ use Rattle.bk_layout.specs.FreeCuts.{IsFreeBarren}
 use Rattle.bk_layout.specs.NodeCut.{ShareANode}
 use Rattle.bk_layout.proofs.NetWords.{a_free_barren_word_is_net_barren, even_then_above_is_net_barren}
 use Rattle.bk_layout.specs.NetWord.{IsNetBarren}
-use Rattle.bk_normal.proofs.NormalWords.{a_net_barren_word_is_normal_barren}
-use Rattle.bk_normal.specs.NormalCuts.{IsNormalBarren}
+use Rattle.bk_layout.proofs.NormalWords.{a_net_barren_word_is_normal_barren}
+use Rattle.bk_layout.specs.NormalCuts.{IsNormalBarren}
 use Rattle.bk_free_search.specs.Sought.{BeginsTurned}
 
 -- a cut on free words is one on net words

@@ -12,8 +12,8 @@ use Rattle.bk_word.specs.declared.Sign.{Sign}
 use Rattle.bk_word.specs.declared.Sign.TheVariants.{Above, Even, Under}
 use Rattle.bk_word.proofs.PlayLaws.{legal_rest}
 use Rattle.bk_layout.proofs.CutsOfTilings.{even_squares_are_free_barren}
-use Rattle.bk_normal.proofs.SquaresLeft.{evens-cons, evens_most}
-use Rattle.bk_normal.specs.NormalCuts.{IsNormalBarren}
+use Rattle.bk_layout.proofs.SquaresLeft.{evens-cons, evens_most}
+use Rattle.bk_layout.specs.NormalCuts.{IsNormalBarren}
 use Rattle.bk_free_search.proofs.Cutting.{by_legal, contained, cut, normal}
 use Rattle.bk_free_search.specs.Asking.{AreEvensNeeded}
 

@@ -18,16 +18,16 @@ use Rattle.bk_word_net.proofs.Shape.{valley_in}
 use Rattle.bk_word_net.proofs.ValleyCut.{AtValley}
 use Rattle.bk_catalogue.proofs.BoundsOfWords.{shape_of_word}
 use Rattle.bk_layout.specs.NodeCut.{ShareANode}
-use Rattle.bk_normal.proofs.FewMoves.{a_move_hangs_at_walls, first_kept}
-use Rattle.bk_normal.proofs.LastMoves.{a_move_leaves_segments, one_square_goes_on_even, too_many_at_left_is_normal_barren}
-use Rattle.bk_normal.proofs.LastMoves.{too_many_at_right_is_normal_barren, too_wide_bottom_is_normal_barren}
-use Rattle.bk_normal.proofs.MovesLeft.{legal}
-use Rattle.bk_normal.proofs.SquaresLeft.{evens-cons, evens_most}
-use Rattle.bk_normal.specs.LastMoves.{even_square}
-use Rattle.bk_normal.specs.NextMove.{left_squares_then, right_squares_then}
-use Rattle.bk_normal.specs.NormalCuts.{IsNormalBarren}
-use Rattle.bk_normal.specs.NormalImage.{IsNormalSought}
-use Rattle.bk_normal.specs.WordNumbers.{first_count}
+use Rattle.bk_layout.proofs.FewMoves.{a_move_hangs_at_walls, first_kept}
+use Rattle.bk_layout.proofs.LastMoves.{a_move_leaves_segments, one_square_goes_on_even, too_many_at_left_is_normal_barren}
+use Rattle.bk_layout.proofs.LastMoves.{too_many_at_right_is_normal_barren, too_wide_bottom_is_normal_barren}
+use Rattle.bk_layout.proofs.MovesLeft.{legal}
+use Rattle.bk_layout.proofs.SquaresLeft.{evens-cons, evens_most}
+use Rattle.bk_layout.specs.LastMoves.{even_square}
+use Rattle.bk_layout.specs.NextMove.{left_squares_then, right_squares_then}
+use Rattle.bk_layout.specs.NormalCuts.{IsNormalBarren}
+use Rattle.bk_layout.specs.NormalImage.{IsNormalSought}
+use Rattle.bk_layout.specs.WordNumbers.{first_count}
 use Rattle.bk_free_search.proofs.Cutting.{by_legal, lone_is_barren, normal, shared_is_barren}
 use Rattle.bk_free_search.proofs.EvenSigns.{apart_from_own, evens_ends, side_few}
 use Rattle.bk_free_search.proofs.NextMoves.{HasNextMove, is_whole, next_fits, next_move}

@@ -9,7 +9,7 @@ use Rattle.bk_word.specs.declared.Sign.{Sign}
 use Rattle.bk_word.specs.declared.Sign.TheVariants.{Above, Even, Under}
 use Rattle.bk_catalogue.proofs.JoinedLines.{or_more}
 use Rattle.bk_catalogue.specs.VerticalCut.{begins_on_line, next_on_line, on_line}
-use Rattle.bk_normal.specs.NormalCuts.{touched_or_wide}
+use Rattle.bk_layout.specs.NormalCuts.{touched_or_wide}
 use Rattle.bk_free_search.specs.Apart.{shared}
 use Rattle.bk_free_search.proofs.SharedMarks.{mark_of, shared_first, shared_more, shared_none, wide_more, wide_told}
 

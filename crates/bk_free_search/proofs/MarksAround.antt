@@ -7,7 +7,7 @@ use Rattle.std.proofs.lemmas.Bool.{or_left, or_right}
 use Rattle.bk_catalogue.proofs.JoinedLines.{or_more}
 use Rattle.bk_catalogue.proofs.LineLaws.{any_more, begins_more, next_more}
 use Rattle.bk_catalogue.specs.VerticalCut.{begins_on_line, next_on_line, on_line}
-use Rattle.bk_normal.specs.NormalCuts.{touched_or_wide}
+use Rattle.bk_layout.specs.NormalCuts.{touched_or_wide}
 use Rattle.bk_free_search.proofs.SharedMarks.{mark_of}
 
 -- the marks behind others

@@ -7,8 +7,8 @@ use Rattle.bk_word.specs.Word.{Move, Word, order_of}
 use Rattle.bk_word.specs.declared.Sign.{Sign}
 use Rattle.bk_word.proofs.PlayLaws.{legal_rest}
 use Rattle.bk_word.proofs.StoredBytes.{order_append, order_more}
-use Rattle.bk_normal.specs.NormalCuts.{IsNormalBarren}
-use Rattle.bk_normal.specs.NormalImage.{IsNormalSought}
+use Rattle.bk_layout.specs.NormalCuts.{IsNormalBarren}
+use Rattle.bk_layout.specs.NormalImage.{IsNormalSought}
 use Rattle.bk_free_search.specs.Sought.{GoesOn, GoesOnBy}
 use Rattle.bk_free_search.specs.declared.state.Begun.{Begun}
 use Rattle.bk_free_search.specs.declared.state.Search.{Search}

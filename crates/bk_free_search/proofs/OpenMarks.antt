@@ -13,7 +13,7 @@ use Rattle.bk_word.specs.Word.{Word}
 use Rattle.bk_word_net.proofs.Shape.{AllFilled}
 use Rattle.bk_catalogue.proofs.BoundsOfWords.{segments_again}
 use Rattle.bk_catalogue.specs.VerticalCut.{begins_on_line, edges_on_lines, next_on_line, on_line, segments_of}
-use Rattle.bk_normal.specs.NormalCuts.{touched_or_wide}
+use Rattle.bk_layout.specs.NormalCuts.{touched_or_wide}
 use Rattle.bk_free_search.specs.Strong.{AreFilled, is_marked_segment, marks_by_lists}
 use Rattle.bk_free_search.proofs.SegmentsBehind.{sum_left, sum_step}
 use Rattle.bk_free_search.specs.NodeLines.{Has}

@@ -7,10 +7,10 @@ use Rattle.bk_word.specs.declared.Sign.{Sign}
 use Rattle.bk_word.specs.declared.Sign.TheVariants.{Above, Even, Under}
 use Rattle.bk_catalogue.proofs.ClosingLaws.{unders-cons}
 use Rattle.bk_catalogue.proofs.JoinedLines.{more}
-use Rattle.bk_normal.proofs.PassCounts.{even_asks_least, the_pass_is_strong}
-use Rattle.bk_normal.specs.StrongBound.{strong_from, weight_from}
+use Rattle.bk_layout.proofs.PassCounts.{even_asks_least, the_pass_is_strong}
+use Rattle.bk_layout.specs.StrongBound.{strong_from, weight_from}
 use Rattle.bk_free_search.specs.Strong.{with_mark}
-use Rattle.bk_normal.specs.StrongPass.{IsCounted, IsNoMore, Passed, pass, pass_along}
+use Rattle.bk_layout.specs.StrongPass.{IsCounted, IsNoMore, Passed, pass, pass_along}
 
 -- one pass before a segment has counted no more than another
 pub record IsNoMoreSoFar (p q : Passed) : Type 0 where

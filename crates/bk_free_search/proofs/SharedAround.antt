@@ -12,8 +12,8 @@ use Rattle.bk_word.proofs.PlayLaws.{after-snoc, legal_front}
 use Rattle.bk_word.proofs.PlayLists.{place_within}
 use Rattle.bk_catalogue.proofs.LineMoves.{first_new, keeps, lines-append, lines_long}
 use Rattle.bk_catalogue.specs.VerticalCut.{begins_on_line, edges_on_lines, lines_after, next_on_line, on_line}
-use Rattle.bk_normal.specs.NormalCuts.{touched_or_wide}
-use Rattle.bk_normal.specs.WordNumbers.{first_count}
+use Rattle.bk_layout.specs.NormalCuts.{touched_or_wide}
+use Rattle.bk_layout.specs.WordNumbers.{first_count}
 use Rattle.bk_free_search.proofs.CountedSigns.{legal_move, move_long, new_long, one_at, segments_long, shape, sign_at, signs_long, size_at, sizes_long}
 use Rattle.bk_free_search.proofs.MarksApart.{both_wide, kept_shared}
 use Rattle.bk_free_search.proofs.MarksAround.{begins_marked, marks_before, marks_behind, marks_more}

@@ -9,8 +9,8 @@ use Rattle.bk_word.specs.declared.Sign.TheVariants.{Above, Even, Under}
 use Rattle.bk_catalogue.proofs.ClosingLaws.{unders, unders-cons, unders-parts}
 use Rattle.bk_catalogue.specs.VerticalCut.{next_on_line, on_line}
 use Rattle.bk_free_search.specs.Apart.{shared}
-use Rattle.bk_normal.proofs.StrongParts.{weight, weight_joined}
-use Rattle.bk_normal.specs.StrongBound.{strong_from}
+use Rattle.bk_layout.proofs.StrongParts.{weight, weight_joined}
+use Rattle.bk_layout.specs.StrongBound.{strong_from}
 
 -- there is one for each segment
 pub shared_long : (signs : List Sign) (marks : List Bool) → length marks ≡ length (filter parts signs) + 1 → length (shared signs marks) ≡ length signs + 1

@@ -10,8 +10,8 @@ use Rattle.bk_word.specs.Signs.{is_even}
 use Rattle.bk_word.specs.Word.{Move, Word}
 use Rattle.bk_word.specs.declared.Sign.{Sign}
 use Rattle.bk_word.specs.declared.Sign.TheVariants.{Above, Even, Under}
-use Rattle.bk_normal.proofs.SquaresLeft.{evens-cons}
-use Rattle.bk_normal.specs.NormalImage.{IsNormalSought}
+use Rattle.bk_layout.proofs.SquaresLeft.{evens-cons}
+use Rattle.bk_layout.specs.NormalImage.{IsNormalSought}
 use Rattle.bk_free_search.proofs.AskedSigns.{begun_is_barred}
 use Rattle.bk_free_search.proofs.Cutting.{above_is_barred, even_is_barred, normal, turned_is_barred}
 use Rattle.bk_free_search.proofs.EvenSigns.{evens_append, side_few, signs_lack_evens}

@@ -4,7 +4,7 @@ use Rattle.bk_word.specs.Word.{Move, Word}
 use Rattle.bk_word.specs.declared.Sign.{Sign}
 use Rattle.bk_word.specs.declared.Sign.TheVariants.{Above, Even, Under}
 use Rattle.bk_word.proofs.WordExamples.{move, two}
-use Rattle.bk_normal.specs.NormalImage.{IsNormalSought}
+use Rattle.bk_layout.specs.NormalImage.{IsNormalSought}
 use Rattle.bk_free_search.proofs.Cutting.{lone_is_barren, normal}
 use Rattle.bk_free_search.specs.Sought.{BeginsTurned, GoesOn, GoesOnBy}
 

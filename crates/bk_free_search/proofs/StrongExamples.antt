@@ -2,7 +2,7 @@
 -- these segments end beside the line between the squares 1 and 2.
 use Rattle.std.proofs.Common.{[], false, refl, true, ◌∷◌, ◌≡◌}
 use Rattle.bk_word.specs.declared.Sign.TheVariants.{Above, Under}
-use Rattle.bk_normal.specs.StrongPass.{none_passed, pass_along}
+use Rattle.bk_layout.specs.StrongPass.{none_passed, pass_along}
 use Rattle.bk_free_search.specs.Strong.{marks_by_lists}
 use Rattle.bk_free_search.specs.TopLines.{on_top_lines}
 

@@ -11,7 +11,7 @@ use Rattle.bk_catalogue.specs.VerticalCut.{begins_on_line, lines_after, lines_al
 use Rattle.bk_layout.specs.LineNumbers.{left_end, lefts_of, new_sides, right_end, sides_after, sides_along, sides_of}
 use Rattle.bk_free_search.proofs.LeftLines.{end_left, lefts_in, new_lefts}
 use Rattle.bk_free_search.specs.Lefts.{first_left}
-use Rattle.bk_normal.specs.WordNumbers.{first_count}
+use Rattle.bk_layout.specs.WordNumbers.{first_count}
 use Rattle.bk_free_search.specs.TopLines.{is_top_line, on_top_lines}
 
 -- ---- one line

@@ -14,11 +14,11 @@ use Rattle.std.proofs.lemmas.List.{length-append}
 use Rattle.bk_word.proofs.PlayLaws.{after-snoc, legal-snoc, moves_many}
 use Rattle.bk_word.proofs.StoredBytes.{order_append, order_more}
 use Rattle.bk_catalogue.proofs.BoundsOfWords.{shape_of_word}
-use Rattle.bk_normal.proofs.FewMoves.{a_move_hangs_at_walls, most_moves_are_most}
-use Rattle.bk_normal.proofs.LastMoves.{a_move_leaves_segments}
-use Rattle.bk_normal.specs.LastMoves.{AreAllUnder}
-use Rattle.bk_normal.specs.NormalCuts.{AreMostMoves}
-use Rattle.bk_normal.specs.WordNumbers.{first_count, left_squares, right_squares}
+use Rattle.bk_layout.proofs.FewMoves.{a_move_hangs_at_walls, most_moves_are_most}
+use Rattle.bk_layout.proofs.LastMoves.{a_move_leaves_segments}
+use Rattle.bk_layout.specs.LastMoves.{AreAllUnder}
+use Rattle.bk_layout.specs.NormalCuts.{AreMostMoves}
+use Rattle.bk_layout.specs.WordNumbers.{first_count, left_squares, right_squares}
 use Rattle.bk_free_search.specs.AllUnder.{StandsAfter}
 use Rattle.bk_free_search.specs.declared.all_under.After.{After}
 

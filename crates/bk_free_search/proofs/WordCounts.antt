@@ -7,7 +7,7 @@ use Rattle.bk_laws.proofs.Counts.{count_by-map}
 use Rattle.bk_word.specs.Play.{numbers_from}
 use Rattle.bk_word.specs.Word.{Word, order_of}
 use Rattle.bk_layout.specs.LineNumbers.{lefts_of, sides_of}
-use Rattle.bk_normal.specs.WordNumbers.{left_squares, right_squares}
+use Rattle.bk_layout.specs.WordNumbers.{left_squares, right_squares}
 use Rattle.bk_layout.proofs.CutByNodes.{as_many_lefts}
 use Rattle.bk_free_search.proofs.RightLines.{as_many_rights}
 use Rattle.bk_free_search.specs.Rights.{rights_of}

@@ -5,7 +5,7 @@
 use Rattle.std.specs.Prelude.{[], length, ◌++◌, ◌∷◌, ◌≡◌}
 use Rattle.bk_word.specs.Play.{outline_of}
 use Rattle.bk_word.specs.Word.{Move, Word}
-use Rattle.bk_normal.specs.WordNumbers.{first_count, left_squares, right_squares}
+use Rattle.bk_layout.specs.WordNumbers.{first_count, left_squares, right_squares}
 use Rattle.bk_free_search.specs.declared.all_under.After.{After}
 
 pub record StandsAfter (front : Word) (m : Move) (after : After) : Type 0 where

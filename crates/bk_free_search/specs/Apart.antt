@@ -7,10 +7,10 @@ use Rattle.bk_word.specs.Word.{Move, Word}
 use Rattle.bk_word.specs.declared.Sign.{Sign}
 use Rattle.bk_word.specs.declared.Sign.TheVariants.{Above, Even, Under}
 use Rattle.bk_catalogue.specs.VerticalCut.{edges_on_lines}
-use Rattle.bk_normal.specs.NormalCuts.{touched_or_wide}
-use Rattle.bk_normal.specs.StrongBound.{strong_bound_of, strong_from, weight_from, weight_of}
-use Rattle.bk_normal.specs.StrongPass.{Passed, pass_along}
-use Rattle.bk_normal.specs.WordNumbers.{first_count}
+use Rattle.bk_layout.specs.NormalCuts.{touched_or_wide}
+use Rattle.bk_layout.specs.StrongBound.{strong_bound_of, strong_from, weight_from, weight_of}
+use Rattle.bk_layout.specs.StrongPass.{Passed, pass_along}
+use Rattle.bk_layout.specs.WordNumbers.{first_count}
 
 -- the marks of a word's open segments
 abbrev pub marks_of_word : Word → List Bool

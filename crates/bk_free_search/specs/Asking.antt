@@ -6,8 +6,8 @@ use Rattle.bk_word.specs.Signs.{is_even, is_under}
 use Rattle.bk_word.specs.Word.{Move, Word, order_of}
 use Rattle.bk_word.specs.declared.Sign.{Sign}
 use Rattle.bk_word.specs.declared.Sign.TheVariants.{Above, Even, Under}
-use Rattle.bk_normal.specs.NextMove.{AreMostMovesThen}
-use Rattle.bk_normal.specs.NormalCuts.{IsNormalBarren}
+use Rattle.bk_layout.specs.NextMove.{AreMostMovesThen}
+use Rattle.bk_layout.specs.NormalCuts.{IsNormalBarren}
 use Rattle.bk_free_search.specs.Apart.{AreAskedBehind, IsCountedTo, behind_marks, joined_marks, marks_of_word}
 use Rattle.bk_free_search.specs.NodeLines.{Has}
 use Rattle.bk_free_search.specs.Strong.{IsFew, seen_passed}

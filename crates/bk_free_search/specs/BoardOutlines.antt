@@ -4,7 +4,7 @@
 use Rattle.std.specs.Prelude.{◌≡◌}
 use Rattle.bk_word.specs.Word.{Word}
 use Rattle.bk_skeleton.specs.SmallSkeleton.{IsOutlineOf}
-use Rattle.bk_normal.specs.WordNumbers.{first_count, left_squares, right_squares}
+use Rattle.bk_layout.specs.WordNumbers.{first_count, left_squares, right_squares}
 use Rattle.bk_free_search.specs.declared.board.BoardOutline.{BoardOutline}
 
 -- the outline of its skeleton, how many squares the first move hangs, and how many lie at the left wall and at the right one

@@ -6,7 +6,7 @@ use Rattle.bk_word.specs.Word.{Word}
 use Rattle.bk_free_search.specs.Lefts.{IsLeftWord}
 use Rattle.bk_free_search.specs.NodeLines.{AreNodeLines}
 use Rattle.bk_free_search.specs.Rights.{rights_of}
-use Rattle.bk_normal.specs.WordNumbers.{first_count, left_squares, right_squares}
+use Rattle.bk_layout.specs.WordNumbers.{first_count, left_squares, right_squares}
 use Rattle.bk_free_search.specs.declared.line_set.LineSet.{LineSet}
 
 -- the left and the right lines of the squares, the lines that each closed node touches, how many squares the first move hangs, and

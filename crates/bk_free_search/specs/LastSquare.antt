@@ -5,7 +5,7 @@ use Rattle.std.specs.Prelude.{[], ℕ, ◌++◌, ◌+◌, ◌∷◌}
 use Rattle.bk_word.specs.Outline.{Outline, has_left_wall, has_right_wall, open_side}
 use Rattle.bk_word.specs.Play.{outline_of}
 use Rattle.bk_word.specs.Word.{Word}
-use Rattle.bk_normal.specs.LastMoves.{even_square}
+use Rattle.bk_layout.specs.LastMoves.{even_square}
 
 -- how many segments stand beside the leftmost valley
 abbrev pub neighbours : Outline → ℕ

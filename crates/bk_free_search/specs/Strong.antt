@@ -3,8 +3,8 @@
 use Rattle.std.specs.List.{list_any}
 use Rattle.std.specs.Prelude.{Bool, List, drop, length, max, nat_le, slice_index_or, take, ℕ, ◌+◌, ◌<◌, ◌||◌, ◌≤◌}
 use Rattle.bk_catalogue.specs.VerticalCut.{begins_on_line, on_line, segments_of}
-use Rattle.bk_normal.specs.NormalCuts.{touched_or_wide}
-use Rattle.bk_normal.specs.StrongPass.{Passed as SeenPassed}
+use Rattle.bk_layout.specs.NormalCuts.{touched_or_wide}
+use Rattle.bk_layout.specs.StrongPass.{Passed as SeenPassed}
 use Rattle.bk_free_search.specs.declared.strong.Passed.{Passed}
 
 abbrev pub seen_passed : Passed → SeenPassed

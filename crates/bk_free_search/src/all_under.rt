@@ -9,7 +9,7 @@ ghost use Rattle.bk_word.specs.Play.{outline_of};
 ghost use Rattle.bk_word.specs.Signs.{is_above, is_even};
 ghost use Rattle.bk_word.specs.Word.{order_of};
 ghost use Rattle.bk_word.specs.declared.Sign.TheVariants.{Under};
-ghost use Rattle.bk_normal.specs.NormalCuts.{IsNormalBarren};
+ghost use Rattle.bk_layout.specs.NormalCuts.{IsNormalBarren};
 ghost use Rattle.bk_free_search.specs.AllUnder.{StandsAfter};
 
 use crate::ahead::most_moves;

@@ -10,7 +10,7 @@ ghost use Rattle.bk_free_search.specs.BoardOutlines.{IsBoardOutline};
 ghost use Rattle.bk_free_search.specs.Joining.{TouchOneOf};
 ghost use Rattle.bk_free_search.specs.Lefts.{IsLeftOfOne};
 ghost use Rattle.bk_free_search.specs.NodeLines.{Has};
-ghost use Rattle.bk_normal.specs.WordNumbers.{counts_of_word, first_count};
+ghost use Rattle.bk_layout.specs.WordNumbers.{counts_of_word, first_count};
 ghost use Rattle.bk_free_search.specs.Rights.{IsRightOfOne, rights_of};
 ghost use Rattle.bk_free_search.specs.SeenCounts.{seen_counts};
 

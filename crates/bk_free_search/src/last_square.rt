@@ -5,8 +5,8 @@ ghost use Rattle.std.specs.Prelude.{IfNone, IfSome, IsTrue, replicate, ◌+◌, 
 ghost use Rattle.bk_word.specs.Play.{outline_of};
 ghost use Rattle.bk_word.specs.Word.{order_of};
 ghost use Rattle.bk_word.specs.declared.Sign.TheVariants.{Even};
-ghost use Rattle.bk_normal.specs.LastMoves.{even_square};
-ghost use Rattle.bk_normal.specs.NormalCuts.{IsNormalBarren};
+ghost use Rattle.bk_layout.specs.LastMoves.{even_square};
+ghost use Rattle.bk_layout.specs.NormalCuts.{IsNormalBarren};
 ghost use Rattle.bk_free_search.specs.LastSquare.{neighbours};
 
 use crate::board::Board;

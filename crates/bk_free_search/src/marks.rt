@@ -8,7 +8,7 @@ ghost use Rattle.bk_word.specs.Outline.{sizes_of, valley_of};
 ghost use Rattle.bk_word.specs.Play.{outline_of};
 ghost use Rattle.bk_word.specs.Word.{order_of};
 ghost use Rattle.bk_skeleton.specs.SmallSkeleton.{IsValley};
-ghost use Rattle.bk_normal.specs.WordNumbers.{first_count};
+ghost use Rattle.bk_layout.specs.WordNumbers.{first_count};
 ghost use Rattle.bk_free_search.specs.Apart.{marks_of_word};
 ghost use Rattle.bk_free_search.specs.Asking.{AreMarks};
 ghost use Rattle.bk_free_search.specs.NodeLines.{Has};

@@ -7,7 +7,7 @@ ghost use Rattle.bk_word.specs.Word.{Move as SeenMove, Word as Moves, order_of};
 ghost use Rattle.bk_word.specs.declared.Sign.{Sign as SeenSign};
 ghost use Rattle.bk_word.specs.declared.Sign.TheVariants.{Above, Even, Under};
 ghost use Rattle.bk_skeleton.specs.SmallSkeleton.{IsValley};
-ghost use Rattle.bk_normal.specs.NormalCuts.{IsNormalBarren};
+ghost use Rattle.bk_layout.specs.NormalCuts.{IsNormalBarren};
 ghost use Rattle.bk_free_search.specs.Asking.{AreFewAsks, BarsSigns, IsAsked, IsBegun, IsWithOwn, StandBeside, asks_then};
 ghost use Rattle.bk_free_search.specs.Strong.{IsFew};
 ghost use Rattle.bk_free_search.specs.declared.asking.Next.{Next};

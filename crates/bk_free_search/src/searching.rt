@@ -4,7 +4,7 @@ ghost use Rattle.std.specs.Prelude.{IsTrue, [], length, ◌++◌, ◌+◌, ◌<�
 ghost use Rattle.bk_word.specs.Outline.{IsLegalMove};
 ghost use Rattle.bk_word.specs.Play.{IsComplete, outline_of};
 ghost use Rattle.bk_word.specs.Word.{Word as Moves, order_of};
-ghost use Rattle.bk_normal.specs.NormalImage.{IsNormalSought};
+ghost use Rattle.bk_layout.specs.NormalImage.{IsNormalSought};
 ghost use Rattle.bk_skeleton.specs.SmallSkeleton.{IsValley};
 ghost use Rattle.bk_free_search.specs.Asking.{BarsSigns, IsAsked, IsBegun, IsWithOwn};
 ghost use Rattle.bk_free_search.specs.Sought.{GoesOn, GoesOnBy};

@@ -4,7 +4,7 @@ ghost use Rattle.std.specs.Prelude.{List, [], length, ℕ, ◌++◌, ◌+◌, �
 ghost use Rattle.bk_word.specs.Play.{IsComplete};
 ghost use Rattle.bk_word.specs.Word.{Word as Moves, order_of};
 ghost use Rattle.bk_word.specs.declared.Sign.{Sign as SeenSign};
-ghost use Rattle.bk_normal.specs.NormalImage.{IsNormalSought};
+ghost use Rattle.bk_layout.specs.NormalImage.{IsNormalSought};
 ghost use Rattle.bk_free_search.specs.Asking.{IsNext, StandBeside};
 ghost use Rattle.bk_free_search.specs.Sought.{GoesOn};
 

@@ -1,7 +1,7 @@
 //! The strong bound: how many moves and squares the segments before one ask for, counted from left to right.
 
 ghost use Rattle.std.specs.Prelude.{true, ℕ, ◌+◌, ◌∷◌, ◌≡◌, ◌≤◌};
-ghost use Rattle.bk_normal.specs.StrongPass.{none_passed, pass};
+ghost use Rattle.bk_layout.specs.StrongPass.{none_passed, pass};
 ghost use Rattle.bk_free_search.specs.Strong.{IsFew, seen_passed, with_mark};
 
 use bk_word::Sign;

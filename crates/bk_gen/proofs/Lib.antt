@@ -3,3 +3,8 @@ pub mod TrialExamples
 pub mod SampleLaws
 pub mod UnderWay
 pub mod MovedFront
+pub mod SampleRead
+pub mod SamplesLaid
+pub mod Counted
+pub mod Tallies
+pub mod TrialLineExamples

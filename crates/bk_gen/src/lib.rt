@@ -1,4 +1,5 @@
-//! Trial codes: large valid codes that are made from two numbers.
+//! Trial codes: large valid codes that are made from two numbers; and the line about them, for which they are written, read again, laid and
+//! counted.
 #![tactic(auto)]
 
 ghost use Rattle.std.specs.Prelude.{length, ◌-◌, ◌≡◌};
@@ -8,11 +9,15 @@ ghost use Rattle.bk_gen.specs.TrialLaws.{EachSampleHasATiling};
 
 mod first;
 mod growing;
+mod laying;
+mod tally;
+mod trial_line;
 
 use bk_code::{Code, code_of};
 use bk_tiling::{LONGEST_SIDE, MOST_SQUARES, Tiling};
 use first::first_rectangle;
 use growing::Growing;
+pub use trial_line::{a_sample_is_laid, a_seed_has_one_line, trial};
 
 /// The trial code of a seed and a place: the code (Bouwkamp 1946-47) of a large rectangle that is made from the two. Let v
 /// be (seed + k) times 0x9E3779B97F4A7C15, both modulo 2^64.

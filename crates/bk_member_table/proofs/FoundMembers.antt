@@ -17,8 +17,8 @@ use Rattle.bk_sym.specs.declared.Turn.{Turn}
 use Rattle.bk_word.specs.Word.{Word}
 use Rattle.bk_word.specs.declared.Class.{Class}
 use Rattle.bk_catalogue.specs.Catalogue.{Entry, IsEntry, IsMember, IsOfClass}
-use Rattle.bk_normal.proofs.NormalImages.{each_image_is_a_members}
-use Rattle.bk_normal.specs.NormalImage.{IsMetByNormalWord}
+use Rattle.bk_layout.proofs.NormalImages.{each_image_is_a_members}
+use Rattle.bk_layout.specs.NormalImage.{IsMetByNormalWord}
 use Rattle.bk_free_leaf.specs.Found.{IsFound, IsPlacementOf}
 use Rattle.bk_free_leaf.specs.declared.placing.Placed.{Placed}
 use Rattle.bk_lay.specs.TilingWord.{IsWordOf}

@@ -9,8 +9,8 @@ use Rattle.bk_word.specs.Word.{Word, order_of}
 use Rattle.bk_word.specs.declared.Class.{Class}
 use Rattle.bk_catalogue.specs.Catalogue.{Entry, IsEntry}
 use Rattle.bk_catalogue.proofs.OneEntry.{entry_complete}
-use Rattle.bk_normal.proofs.NormalImages.{each_member_is_met}
-use Rattle.bk_normal.specs.NormalImage.{IsNormalSought}
+use Rattle.bk_layout.proofs.NormalImages.{each_member_is_met}
+use Rattle.bk_layout.specs.NormalImage.{IsNormalSought}
 use Rattle.bk_packed.specs.Kept.{AreAscendingNumbers, Holds, IsFirstFrom}
 use Rattle.bk_packed.specs.Packed.{packed}
 use Rattle.bk_member_table.specs.Finding.{Finding, HasMet, IsMembersNumber, Wanted, wanted}

@@ -6,7 +6,7 @@ use Rattle.bk_word.specs.Word.{Word}
 use Rattle.bk_word.specs.declared.Class.{Class}
 use Rattle.bk_catalogue.specs.Catalogue.{Entry, IsEntry}
 use Rattle.bk_lay.specs.TilingWord.{IsWordOf}
-use Rattle.bk_normal.specs.NormalImage.{IsMetByNormalWord}
+use Rattle.bk_layout.specs.NormalImage.{IsMetByNormalWord}
 use Rattle.bk_sym.specs.Image.{image}
 use Rattle.bk_sym.specs.declared.Turn.{Turn}
 use Rattle.bk_packed.specs.Kept.{AreAscendingNumbers, Holds, Numbers}

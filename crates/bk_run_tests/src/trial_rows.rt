@@ -1,7 +1,7 @@
 //! Lines about trial codes.
 
 use arrayvec::ArrayVec;
-use bk_trial::*;
+use bk_gen::*;
 
 // Seeds, how many trial codes of each there are, and the lines.
 fn rows() -> &'static [(u64, u32, &'static str)] {

@@ -11,6 +11,6 @@ mod turns;
 
 pub use counting::Steps;
 pub use skeleton::{Skel, Valley, open_side};
-pub use small::{SmallMove, SmallOutline, SmallSkel, ValleyPlace};
+pub use small::{SmallMove, SmallOutline, SmallSkel, ValleyPlace, small_net};
 pub use splicing::splice_numbers;
 pub use turns::MoveRecord;

@@ -4,7 +4,7 @@
 //! copied; then the move is taken back by that copy, and what the moves appended is cut off again.
 
 ghost use Rattle.std.specs.List.{concat, splice};
-ghost use Rattle.std.specs.Prelude.{IfNone, IfSome, IsTrue, [], count_by, filter, length, take, ◌+◌, ◌++◌, ◌-◌, ◌<◌, ◌∷◌, ◌≡◌, ◌≤◌, ◌↔◌};
+ghost use Rattle.std.specs.Prelude.{IsTrue, [], count_by, filter, length, take, ◌+◌, ◌++◌, ◌-◌, ◌<◌, ◌∷◌, ◌≡◌, ◌≤◌, ◌↔◌};
 ghost use Rattle.bk_word.specs.Outline.{IsLegalMove, has_left_wall, has_right_wall, sizes_of, valley_of};
 ghost use Rattle.bk_word.specs.Play.{IsComplete, numbers_from, outline_of, parts};
 ghost use Rattle.bk_word.specs.Word.{order_of};
@@ -20,7 +20,7 @@ use crate::splicing::put_numbers;
 use crate::turns::{MoveRecord, leftmost, turn_at_valley};
 use bk_net::Net;
 use bk_short::Short;
-use bk_word::{INLINE_ORDER, Move, Sign};
+use bk_word::{INLINE_ORDER, Sign};
 use std::marker::Model;
 
 // Twice as many places as a list has items at most: as many lie behind each of its items as are copied at one stroke.
@@ -75,24 +75,6 @@ impl Model for SmallMove {
     ghost Value = { SeenMove };
 
     ghost view = { λ m. record { count = m.count; signs = m.signs.items } };
-}
-
-impl SmallMove {
-    /// The same move, where it has at most 17 signs, as each has that hangs at most 16 squares.
-    pub fn of(m: &Move) -> Option<SmallMove>
-        ensures some { IfSome result (λ s. s ≡ m.now) }
-        ensures none { IfNone result (17 < length m.now.signs) }
-    {
-        if m.signs.len() > MOST_MOVE_SIGNS {
-            return None;
-        }
-        let mut signs = Short::new();
-        signs.extend(m.signs.as_slice());
-        Some(SmallMove {
-            count: m.count,
-            signs,
-        })
-    }
 }
 
 /// A word that is played move by move, seen as the list of its moves: each legal after those before it, of at most 16 squares in
@@ -291,17 +273,17 @@ impl SmallSkel {
     {
         self.turns.len() > 0 && self.open.sizes.len() == 1
     }
+}
 
-    /// The net of the word, which must be complete: a node for each move, and the last segment as the last node; a wire for
-    /// each square in the order of hanging, from the node from which it hangs to the node at which it ends.
-    pub fn net(&self) -> Net
-        requires { IsComplete self.now }
-        ensures { result ≡ net_of_word self.now }
-    {
-        let ended = end_nodes(self.turns.as_slice(), self.closed.as_slice());
-        let order = self.open.ends.len() + self.closed.len();
-        wired(self.turns.as_slice(), &ended[..order])
-    }
+/// The net of a small skeleton's word, which must be complete: a node for each move, and the last segment as the last node; a wire
+/// for each square in the order of hanging, from the node from which it hangs to the node at which it ends.
+pub fn small_net(skel: &SmallSkel) -> Net
+    requires { IsComplete skel.now }
+    ensures { result ≡ net_of_word skel.now }
+{
+    let ended = end_nodes(skel.turns.as_slice(), skel.closed.as_slice());
+    let order = skel.open.ends.len() + skel.closed.len();
+    wired(skel.turns.as_slice(), &ended[..order])
 }
 
 // Puts so many numbers, from a first one on, in the place of the open squares from one place up to another.

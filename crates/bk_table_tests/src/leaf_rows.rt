@@ -2,6 +2,7 @@
 
 use bk_free_leaf::{Ties, leaf};
 use bk_free_search::Board;
+use bk_short::Short;
 use bk_skeleton::SmallMove;
 use bk_tiling::Tiling;
 use bk_word::{Class, Move, Word, read_word};
@@ -12,7 +13,13 @@ type Sides = (u64, u64, &'static [u64]);
 
 // Goes on by a move, which must be legal.
 fn push(rt: &impl Abort, board: &mut Board, m: &Move) {
-    let m = SmallMove::of(m).expect(rt, "the move has at most 17 signs");
+    assert!(rt; m.signs.len() <= 17);
+    let mut signs = Short::new();
+    signs.extend(m.signs.as_slice());
+    let m = SmallMove {
+        count: m.count,
+        signs,
+    };
     assert!(rt; board.skel().legal(&m) && board.skel().order() + usize::from(m.count) <= 16);
     board.push(&m);
 }

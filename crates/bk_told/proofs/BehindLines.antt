@@ -10,11 +10,11 @@ use Rattle.bk_ports.specs.Causes.{AppendsPrefix}
 use Rattle.bk_word.specs.Word.{Follows, Word}
 use Rattle.bk_word.specs.declared.Class.TheVariants.{Perfect}
 use Rattle.bk_catalogue.specs.Catalogue.{Entry, IsEntry}
-use Rattle.bk_entries.proofs.Firsts.{missing_ones_are_not_kept}
-use Rattle.bk_entries.proofs.MembersUpTo.{after_or_up, before}
-use Rattle.bk_entries.specs.Kept.{AreKeptAfter, AreUpTo, CountsMembers, IsNotKept, Kept}
-use Rattle.bk_entries.specs.Verify.{Accepted, AreNotOf}
-use Rattle.bk_entries.specs.VerifyLaws.{KeepsFirsts}
+use Rattle.bk_told.proofs.Firsts.{missing_ones_are_not_kept}
+use Rattle.bk_told.proofs.MembersUpTo.{after_or_up, before}
+use Rattle.bk_told.specs.Kept.{AreKeptAfter, AreUpTo, CountsMembers, IsNotKept, Kept}
+use Rattle.bk_told.specs.Verify.{Accepted, AreNotOf}
+use Rattle.bk_told.specs.VerifyLaws.{KeepsFirsts}
 use Rattle.bk_told.specs.Listing.{ClosesReport, IsClosing, IsClosingBegun, IsListed}
 use Rattle.bk_told.specs.Report.{AreAllMissing, AreFirstMissing, Counts, counts_line, line_of}
 use Rattle.bk_told.specs.Running.{TellsFaults}

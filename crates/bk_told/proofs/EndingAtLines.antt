@@ -11,9 +11,9 @@ use Rattle.bk_lines.specs.Reply.{text_of}
 use Rattle.bk_lines.specs.declared.Ended.{Ended}
 use Rattle.bk_word.specs.declared.Class.TheVariants.{Perfect}
 use Rattle.bk_catalogue.specs.Catalogue.{IsMember}
-use Rattle.bk_entries.proofs.Firsts.{a_verifier_tells_the_truth}
-use Rattle.bk_entries.specs.Verify.{Accepted, IsNew}
-use Rattle.bk_entries.specs.VerifyLaws.{KeepsFirsts}
+use Rattle.bk_told.proofs.Firsts.{a_verifier_tells_the_truth}
+use Rattle.bk_told.specs.Verify.{Accepted, IsNew}
+use Rattle.bk_told.specs.VerifyLaws.{KeepsFirsts}
 use Rattle.bk_told.proofs.Following.{AreFollowed, IsAfter, followed}
 use Rattle.bk_told.specs.Entering.{MayWantAt, none_entered}
 use Rattle.bk_told.specs.Reading.{rules}

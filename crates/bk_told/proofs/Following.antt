@@ -13,12 +13,12 @@ use Rattle.bk_report.specs.declared.refusal.Refused.{Refused}
 use Rattle.bk_answer.proofs.OneAnswer.{cause_of, is_tiling, not_refused, skip_not_stated}
 use Rattle.bk_answer.specs.Item.{HasItem, HasTiling}
 use Rattle.bk_answer.specs.Refusing.{IsLineRefused}
-use Rattle.bk_entries.proofs.Firsts.{a_verifier_tells_the_truth, truths_stay}
-use Rattle.bk_entries.specs.Kept.{IsFed, EntriesState}
-use Rattle.bk_entries.specs.Verify.{Accepted}
-use Rattle.bk_entries.specs.VerifyLaws.{IsTrueOf, KeepsFirsts}
-use Rattle.bk_entries.specs.declared.entries.Fed.{Fed}
-use Rattle.bk_entries.specs.declared.entries.Fed.TheVariants.{Foreign, New, Repeats}
+use Rattle.bk_told.proofs.Firsts.{a_verifier_tells_the_truth, truths_stay}
+use Rattle.bk_told.specs.Kept.{IsFed, EntriesState}
+use Rattle.bk_told.specs.Verify.{Accepted}
+use Rattle.bk_told.specs.VerifyLaws.{IsTrueOf, KeepsFirsts}
+use Rattle.bk_told.specs.declared.entries.Fed.{Fed}
+use Rattle.bk_told.specs.declared.entries.Fed.TheVariants.{Foreign, New, Repeats}
 use Rattle.bk_told.specs.Entering.{EntersLine, MayWantAt, after_fed, fed_pieces, feeds, no_item, refuses}
 use Rattle.bk_told.specs.Told.{AreEntries, AreTold, IsTold, Told, accepted, foreign, is_foreign, is_refused, is_repeat, no_line}
 use Rattle.bk_told.specs.Told.{nothing, passed, refused, repeats, texts_from, told_text}

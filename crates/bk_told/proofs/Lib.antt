@@ -7,3 +7,9 @@ pub mod Ending
 pub mod VerifyingExamples
 pub mod OneAscending
 pub mod OneReport
+pub mod Storing
+pub mod Standing
+pub mod MembersUpTo
+pub mod CountedMembers
+pub mod Firsts
+pub mod VerifyExamples

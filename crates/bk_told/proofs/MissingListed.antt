@@ -17,8 +17,8 @@ use Rattle.bk_word.specs.declared.Class.TheVariants.{Perfect}
 use Rattle.bk_catalogue.proofs.WordCounts.{few_entries}
 use Rattle.bk_catalogue.specs.Catalogue.{Entry, IsEntry}
 use Rattle.bk_catalogue.specs.Following.{HasNoneAfter}
-use Rattle.bk_entries.proofs.MembersUpTo.{IsNextSuch, after_or_up, up_to_more, up_to_none}
-use Rattle.bk_entries.specs.Kept.{AreKeptAfter, AreUpTo, IsNextMissing, IsNotKept, Kept}
+use Rattle.bk_told.proofs.MembersUpTo.{IsNextSuch, after_or_up, up_to_more, up_to_none}
+use Rattle.bk_told.specs.Kept.{AreKeptAfter, AreUpTo, IsNextMissing, IsNotKept, Kept}
 use Rattle.bk_told.specs.Listing.{IsListed, IsListingBegun}
 use Rattle.bk_told.specs.Report.{line_of}
 

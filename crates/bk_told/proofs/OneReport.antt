@@ -12,7 +12,7 @@ use Rattle.bk_report.specs.declared.refusal.Refused.{Refused}
 use Rattle.bk_answer.proofs.OneAnswer.{cause_of, is_tiling, not_refused, one_line_cause, same_tiling, skip_not_refused, skip_not_stated}
 use Rattle.bk_answer.specs.Item.{HasItem}
 use Rattle.bk_answer.specs.Refusing.{IsLineRefused}
-use Rattle.bk_entries.specs.Verify.{Accepted, AreNotOf, IsFirstOf, IsForeign, IsNew, IsOf, IsRepeat}
+use Rattle.bk_told.specs.Verify.{Accepted, AreNotOf, IsFirstOf, IsForeign, IsNew, IsOf, IsRepeat}
 use Rattle.bk_told.proofs.OneAscending.{held, one_count, same_ascending}
 use Rattle.bk_told.specs.Report.{Counts, HasFault, IsReport, counts_line, faults, line_of}
 use Rattle.bk_told.specs.ReportLaw.{AListHasOneReport}

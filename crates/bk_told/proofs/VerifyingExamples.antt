@@ -4,7 +4,7 @@ use Rattle.std.proofs.Common.{lit≤}
 use Rattle.std.specs.Prelude.{List, Some, [], false, codes, count_by, flat_map, refl, ◌++◌, ◌∷◌, ◌≡◌}
 use Rattle.bk_tiling.proofs.ExampleTilings.{rectangle_33x32}
 use Rattle.bk_word.proofs.WordExamples.{word_33x32}
-use Rattle.bk_entries.specs.declared.entries.Fed.TheVariants.{Foreign, New, Repeats}
+use Rattle.bk_told.specs.declared.entries.Fed.TheVariants.{Foreign, New, Repeats}
 use Rattle.bk_catalogue.proofs.CatalogueExamples.{no_perfect}
 use Rattle.bk_told.proofs.OneReport.{a_list_has_one_report}
 use Rattle.bk_told.specs.Entering.{fed_pieces, none_entered}

@@ -7,9 +7,9 @@ use Rattle.bk_report.specs.ListLines.{foreign_line, refused_line, repeats_line}
 use Rattle.bk_report.specs.declared.refusal.Refused.{Refused}
 use Rattle.bk_answer.specs.Item.{HasItem, HasTiling}
 use Rattle.bk_answer.specs.Refusing.{IsLineRefused}
-use Rattle.bk_entries.specs.Kept.{IsFed, IsFirstSight, EntriesState}
-use Rattle.bk_entries.specs.declared.entries.Fed.{Fed}
-use Rattle.bk_entries.specs.declared.entries.Fed.TheVariants.{Foreign, New, Repeats}
+use Rattle.bk_told.specs.Kept.{IsFed, IsFirstSight, EntriesState}
+use Rattle.bk_told.specs.declared.entries.Fed.{Fed}
+use Rattle.bk_told.specs.declared.entries.Fed.TheVariants.{Foreign, New, Repeats}
 use Rattle.bk_told.specs.declared.entering.Verifying.{Verifying}
 
 -- what is kept for the catalogue of this order where no line is entered

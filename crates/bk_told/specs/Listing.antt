@@ -9,7 +9,7 @@ use Rattle.bk_word.specs.declared.Class.TheVariants.{Perfect}
 use Rattle.bk_catalogue.specs.Catalogue.{Entry}
 use Rattle.bk_catalogue.specs.Following.{HasNoneAfter}
 use Rattle.bk_report.specs.ListLines.{missing_line}
-use Rattle.bk_entries.specs.Kept.{AreKeptAfter, AreUpTo, CountsMembers, IsNextMissing, IsNotKept, Kept}
+use Rattle.bk_told.specs.Kept.{AreKeptAfter, AreUpTo, CountsMembers, IsNextMissing, IsNotKept, Kept}
 use Rattle.bk_told.specs.Report.{Counts, counts_line, faults, line_of}
 use Rattle.bk_told.specs.Running.{TellsFaults}
 use Rattle.bk_told.specs.declared.entering.Verifying.{Verifying}

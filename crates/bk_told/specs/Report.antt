@@ -8,8 +8,8 @@ use Rattle.bk_word.specs.declared.Class.TheVariants.{Perfect}
 use Rattle.bk_catalogue.specs.Catalogue.{AreAscending, Entry, IsEntry}
 use Rattle.bk_report.specs.ListLines.{missing_line, verified_line}
 use Rattle.bk_report.specs.declared.listing.Last.TheVariants.{End}
-use Rattle.bk_entries.specs.Kept.{CountsMembers}
-use Rattle.bk_entries.specs.Verify.{Accepted, AreNotOf}
+use Rattle.bk_told.specs.Kept.{CountsMembers}
+use Rattle.bk_told.specs.Verify.{Accepted, AreNotOf}
 use Rattle.bk_told.specs.Told.{AreEntries, AreTold, Told, is_foreign, is_refused, is_repeat, texts_from}
 
 -- the five counts of the last line

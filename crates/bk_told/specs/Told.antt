@@ -8,7 +8,7 @@ use Rattle.bk_report.specs.ListLines.{foreign_line, refused_line, repeats_line}
 use Rattle.bk_report.specs.declared.refusal.Refused.{Refused}
 use Rattle.bk_answer.specs.Item.{HasItem, HasTiling}
 use Rattle.bk_answer.specs.Refusing.{IsLineRefused}
-use Rattle.bk_entries.specs.Verify.{Accepted, IsForeign, IsNew, IsRepeat}
+use Rattle.bk_told.specs.Verify.{Accepted, IsForeign, IsNew, IsRepeat}
 
 -- what is told of a line: nothing, that it is foreign or repeats an earlier one, or why it is refused
 pub data Told : Type 0 where

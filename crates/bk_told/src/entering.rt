@@ -5,8 +5,8 @@ ghost use Rattle.bk_lines.specs.Answer.{HasOutcome, IsBegun};
 ghost use Rattle.bk_ports.specs.Causes.{HasCause};
 ghost use Rattle.bk_answer.specs.Item.{HasTiling};
 
+use crate::{Entries, Fed, NoMemory};
 use bk_answer::{Desk, lay_line};
-use bk_entries::{Entries, Fed, NoMemory};
 use bk_grammar::AnswerBuffer;
 use bk_lines::{Outcome, Register};
 use bk_ports::{Failed, Sink};

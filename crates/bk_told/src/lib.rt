@@ -1,13 +1,20 @@
-//! What is told of the lines of a list that is held against a catalogue, and the report that they make.
+//! Lists that are held against a catalogue: what an entry of a list is among all its entries, what is told of the lines, and the report
+//! that they make.
 #![tactic(auto)]
 
 ghost use Rattle.bk_told.specs.ReportLaw.{AListHasOneReport};
 
 mod entering;
+mod entries;
+mod kept;
 mod reading;
 mod writing;
 
 pub use entering::Verifying;
+pub use entries::{
+    Entries, Fed, NoMemory, a_verifier_tells_the_truth, an_entry_is_told_one_thing,
+    missing_ones_are_not_kept, truths_stay,
+};
 pub use reading::read_list;
 pub use writing::{has_fault, write_missing_entry};
 

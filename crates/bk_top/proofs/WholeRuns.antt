@@ -1,6 +1,6 @@
 -- A whole run, for each kind of what is asked.
 use Rattle.std.specs.Option.{MatchOption}
-use Rattle.std.proofs.Common.{List, ap, arith, inl, inr, map, refl, subst, sym, ℕ, ◌∙◌, ◌≡◌}
+use Rattle.std.proofs.Common.{List, ap, arith, inl, inr, map, refl, subst, sym, ℕ, ◌∙◌, ◌≡◌, ◌⊎◌}
 use Rattle.std.specs.Prelude.{None, Option, Some, String, string_bytes}
 use Rattle.std.specs.declared.alloc.Global.{Global}
 use Rattle.bk_lines.specs.Answered.{answers_of, of_fronts}
@@ -10,7 +10,7 @@ use Rattle.bk_lines.specs.declared.Ended.{Ended}
 use Rattle.bk_answer.specs.Answer.{AnswersLine, MayWant}
 use Rattle.bk_answer.specs.declared.command.Command.{Command}
 use Rattle.bk_ask.proofs.OneAsk.{one_ask}
-use Rattle.bk_ask.specs.Help.{usage}
+use Rattle.bk_ask.specs.Help.{help_text, usage}
 use Rattle.bk_ask.specs.declared.Ask.{Ask}
 use Rattle.bk_ask.specs.declared.Ask.TheVariants as asks
 use Rattle.bk_ask.specs.declared.Kind.{Kind}
@@ -27,7 +27,7 @@ use Rattle.bk_top.proofs.ReadToEnd.{lists_lines, verifies}
 use Rattle.bk_top.specs.Outside.{Outside, faults_of, status_of, streams_of}
 use Rattle.bk_top.specs.ReadsToEnd.{AnswersLines, ReadsToEnd}
 use Rattle.bk_top.specs.Running.{Does, DoesOther, IsWholeRun, Lists, NoErrors, Tries, WritesErrors}
-use Rattle.bk_top.specs.Words.{AsksErrorsOnly, AsksNoLines, AsksNothing, WordsAsk, command_asked}
+use Rattle.bk_top.specs.Words.{AsksErrorsOnly, AsksNoLines, AsksNothing, ReadsNoLines, WordsAsk, command_asked}
 
 same : (words : List (String Global)) (a b : Ask) → WordsAsk words a → WordsAsk words b → a ≡ b
 same words a b = one_ask (map string_bytes words) a b
@@ -153,6 +153,47 @@ pair_reads words kind wanted none = none (asks.Pair kind) wanted
 -- so does `verify`
 pub verify_reads : (words : List (String Global)) (n : ℕ) → WordsAsk words (asks.Verify n) → AsksNoLines words → ⊥
 verify_reads words n wanted none = none (asks.Verify n) wanted
+
+-- what answers no lines is asked by no command
+pub none_asked : (ask : Ask)
+    → ((n : ℕ) × (class : Class) × (from : Option Word) × (limit : Option ℕ) × (ask ≡ asks.List n class from limit))
+    ⊎ (((seed : ℕ) × (count : ℕ) × (ask ≡ asks.Trial seed count))
+    ⊎ (((n : ℕ) × (ask ≡ asks.Verify n)) ⊎ ((ask ≡ asks.Alike) ⊎ (((kind : Kind) × (ask ≡ asks.Pair kind)) ⊎ (ask ≡ asks.Help)))))
+    → command_asked ask ≡ None
+none_asked ask (inl (n, class, from, limit, e)) = ap command_asked e
+none_asked ask (inr (inl (seed, count, e))) = ap command_asked e
+none_asked ask (inr (inr (inl (n, e)))) = ap command_asked e
+none_asked ask (inr (inr (inr (inl e)))) = ap command_asked e
+none_asked ask (inr (inr (inr (inr (inl (kind, e)))))) = ap command_asked e
+none_asked ask (inr (inr (inr (inr (inr e))))) = ap command_asked e
+
+-- a command that answers lines reads lines
+none_read : (ask : Ask) (command : Command) → command_asked ask ≡ Some command → ReadsNoLines ask → ⊥
+none_read asks.Check command is none = none
+none_read asks.Canon command is none = none
+none_read asks.Images command is none = none
+none_read asks.Net command is none = none
+none_read asks.Flow command is none = none
+none_read asks.Word command is none = none
+none_read asks.Solve command is none = none
+none_read asks.Draw command is none = none
+none_read asks.Dual command is none = none
+none_read (asks.List order class from limit) command is none = some_none command (sym is)
+none_read (asks.Trial seed count) command is none = some_none command (sym is)
+none_read (asks.Verify order) command is none = none
+none_read asks.Alike command is none = none
+none_read (asks.Pair kind) command is none = none
+none_read asks.Help command is none = some_none command (sym is)
+
+-- whatever the words are that ask for it
+pub command_reads : (words : List (String Global)) (ask : Ask) (command : Command) → WordsAsk words ask → command_asked ask ≡ Some command
+    → AsksNoLines words → ⊥
+command_reads words ask command wanted is none = none_read ask command is (none ask wanted)
+
+-- where help is asked
+pub run_of_help : (words : List (String Global)) (before after : Outside) → WordsAsk words asks.Help → WritesErrors help_text before after
+    → IsWholeRun words before after 0
+run_of_help words before after wanted told = run_of words asks.Help before after 0 wanted (λ e. cc) (refl, told)
 
 -- and where nothing is asked
 pub run_of_nothing : (words : List (String Global)) (before after : Outside) → AsksNothing words → WritesErrors usage before after

@@ -4,11 +4,11 @@ ghost use Rattle.std.specs.Prelude.{◌≡◌};
 ghost use Rattle.bk_top.specs.Outside.{status_of};
 ghost use Rattle.bk_top.specs.Running.{IsTried, status_of_listing};
 
+use bk_gen::trial;
 use bk_grammar::AnswerBuffer;
 use bk_lines::Ended;
 use bk_ports::{Failed, Sink};
 use bk_report::Last;
-use bk_trial::trial;
 
 // The status that a listing ends with.
 pub(crate) fn listing_status(ended: &Result<Last, Failed>) -> u8

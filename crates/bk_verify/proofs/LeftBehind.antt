@@ -5,8 +5,9 @@ use Rattle.std.proofs.Common.{Bool, List, inl, subst, ℕ, ◌+◌, ◌≡◌}
 use Rattle.bk_ports.specs.Causes.{AppendsPrefix}
 use Rattle.bk_word.specs.declared.Class.TheVariants.{Perfect}
 use Rattle.bk_catalogue.specs.Following.{HasNoneAfter}
-use Rattle.bk_entries.proofs.CountedMembers.{count_all}
-use Rattle.bk_entries.specs.Kept.{AreKeptAfter, CountsMembers, IsUpTo, Kept, EntriesState}
+use Rattle.bk_report.specs.declared.listing.Last.TheVariants.{End, Limit, Wide}
+use Rattle.bk_told.proofs.CountedMembers.{count_all}
+use Rattle.bk_told.specs.Kept.{AreKeptAfter, CountsMembers, IsUpTo, Kept, EntriesState}
 use Rattle.bk_verify.specs.Left.{RestState, rest_of}
 use Rattle.bk_told.proofs.BehindLines as behind
 use Rattle.bk_told.specs.Listing.{ClosesReport, IsClosingBegun, IsListed, IsListingBegun}
@@ -53,3 +54,11 @@ module _ (n : ℕ) (s : Verifying) (order : (s.entries).order ≡ n) (missing me
 pub closing_broken : (n : ℕ) (s : Verifying) (a b : Option (List ℕ)) → (s.entries).order ≡ n
     → IsListingBegun (s.entries).order (s.entries).pairs a b → IsClosingBegun n s a b
 closing_broken n s a b order begun = inl (subst (λ (k : ℕ). IsListingBegun k (s.entries).pairs a b) order begun)
+
+-- the last line of a report is neither that of a limit
+pub end_limit : End ≡ Limit → ⊥
+end_limit e = cc
+
+-- nor that of a wide word
+pub end_wide : End ≡ Wide → ⊥
+end_wide e = cc

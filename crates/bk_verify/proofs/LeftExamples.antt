@@ -2,7 +2,7 @@
 use Rattle.std.specs.Prelude.{List, [], refl, ◌∷◌, ◌≡◌}
 use Rattle.bk_tiling.proofs.ExampleTilings.{rectangle_33x32}
 use Rattle.bk_word.specs.Word.{Word}
-use Rattle.bk_entries.specs.Kept.{Kept}
+use Rattle.bk_told.specs.Kept.{Kept}
 use Rattle.bk_verify.specs.Left.{rest_of}
 
 abbrev pairs : List Kept

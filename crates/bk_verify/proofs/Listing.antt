@@ -7,7 +7,7 @@ use Rattle.bk_word.specs.Word.{Word}
 use Rattle.bk_word.specs.declared.Class.TheVariants.{Perfect}
 use Rattle.bk_catalogue.specs.Following.{HasNoneAfter}
 use Rattle.bk_report.specs.ListLines.{missing_line}
-use Rattle.bk_entries.specs.Kept.{AreKeptAfter, IsNextMissing, Kept}
+use Rattle.bk_told.specs.Kept.{AreKeptAfter, IsNextMissing, Kept}
 use Rattle.bk_verify.specs.Left.{RestState}
 use Rattle.bk_told.proofs.MissingListed.{listed_all, listed_more, listed_none, listing_begun}
 use Rattle.bk_told.specs.Listing.{IsListed, IsListingBegun, IsNextBegun, IsWrittenNext}

@@ -1,6 +1,6 @@
 -- A walk over the members that are kept: what it has passed, and the next one that is missing.
-use Rattle.std.specs.Prelude.{IsTrue, MatchOption, false}
-use Rattle.std.proofs.Common.{List, None, Option, Some, [], ap, inl, inr, is_some, refl, subst, sym, true, true≢false, ℕ}
+use Rattle.std.specs.Prelude.{IsTrue, MatchOption, false, length}
+use Rattle.std.proofs.Common.{List, None, Option, Some, [], ap, arith, inl, inr, is_some, refl, subst, sym, true, true≢false, ℕ}
 use Rattle.std.proofs.Common.{◌+◌, ◌∙◌, ◌≡◌, ◌≢◌, ◌≤◌, ◌⊎◌}
 use Rattle.bk_tiling.specs.Tiling.{Tiling}
 use Rattle.bk_word.proofs.WordOrder.{follows_trans}
@@ -8,11 +8,12 @@ use Rattle.bk_word.specs.Word.{Follows, Word}
 use Rattle.bk_word.specs.declared.Class.{Class}
 use Rattle.bk_word.specs.declared.Class.TheVariants.{Perfect}
 use Rattle.bk_catalogue.specs.Catalogue.{Entry, IsEntry}
+use Rattle.bk_catalogue.specs.Following.{HasNoneAfter}
 use Rattle.bk_walk.specs.Walking.{IsNextMember, WalkState}
-use Rattle.bk_entries.proofs.Storing.{all_at}
-use Rattle.bk_entries.specs.Kept.{CountsMembers, IsKeptFrom, IsNextMissing, IsNotKept, IsUpTo, Kept}
-use Rattle.bk_entries.proofs.MembersUpTo.{IsNextSuch, up_to_next}
-use Rattle.bk_entries.proofs.CountedMembers.{any, count_more, count_none}
+use Rattle.bk_told.proofs.Storing.{all_at}
+use Rattle.bk_told.specs.Kept.{AreKeptAfter, CountsMembers, IsKeptFrom, IsNextMissing, IsNotKept, IsUpTo, Kept}
+use Rattle.bk_told.proofs.MembersUpTo.{IsNextSuch, up_to_next}
+use Rattle.bk_told.proofs.CountedMembers.{any, count_more, count_none}
 use Rattle.bk_verify.specs.Left.{IsKeptRest}
 
 -- the next member is the next one of all
@@ -93,6 +94,24 @@ passing_none first pairs members class counted = record {
   still = λ e. e;
 }
 
+-- no member follows the walk
+module _ (first : WalkState) (pairs : List Kept) (walk : WalkState) (members : ℕ) (p : IsPassing first pairs walk members)
+    (none : HasNoneAfter walk.order walk.class walk.cursor) where
+  pub passing_end : (cursor : Word) → cursor ≡ walk.cursor → HasNoneAfter first.order Perfect cursor
+  passing_end cursor stays = subst (HasNoneAfter first.order Perfect) (sym stays) (subst (λ (k : ℕ). HasNoneAfter k Perfect walk.cursor) p.order
+      (subst (λ (one : Class). HasNoneAfter walk.order one walk.cursor) p.class none))
+
+  -- then each one from the start on is kept
+  pub passing_all : AreKeptAfter first.order pairs first.cursor
+  passing_all e is after new = p.passed.kept e is after (passing_end walk.cursor refl e is) new
+
+-- the walk stays where it is
+pub passing_stays : (first : WalkState) (pairs : List Kept) (walk : WalkState) (members : ℕ) → IsPassing first pairs walk members → (after : WalkState)
+    → after.order ≡ walk.order → after.cursor ≡ walk.cursor → CountsMembers after.order (IsUpTo after.cursor) members
+passing_stays first pairs walk members p after order cursor =
+    subst (λ (n : ℕ). CountsMembers n (IsUpTo after.cursor) members) (sym (order ∙ p.order))
+    (subst (λ (w : Word). CountsMembers first.order (IsUpTo w) members) (sym cursor) p.counted)
+
 -- the walk goes on to its next member
 module _ (first : WalkState) (pairs : List Kept) (walk : WalkState) (members : ℕ) (p : IsPassing first pairs walk members) (t : Tiling) (word : Word)
     (next : IsNextMember walk.order walk.class walk.cursor t word) where
@@ -101,6 +120,10 @@ module _ (first : WalkState) (pairs : List Kept) (walk : WalkState) (members : �
 
   the_next_any : IsNextSuch first.order any walk.cursor (record { tiling = t; word = word })
   the_next_any = next_any first.order walk.cursor t word the_next
+
+  -- it has few squares
+  pub passing_few : first.order ≤ 16 → length t.squares ≤ 16
+  passing_few most = omega (arith, the_next.member.order, most)
 
   -- a next member that isn't kept is the next missing one
   pub passing_missing : IsNotKept pairs t → IsNextMissing first.order pairs first.cursor t word

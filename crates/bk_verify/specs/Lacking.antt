@@ -2,7 +2,7 @@
 -- Example (LackingExamples): of the order 2, which has no perfect member, nothing is written, and no member of none is missing.
 use Rattle.std.specs.Prelude.{List, Option, ℕ, ⊤}
 use Rattle.bk_word.specs.Word.{Word}
-use Rattle.bk_entries.specs.Kept.{AreKeptAfter, CountsMembers, Kept}
+use Rattle.bk_told.specs.Kept.{AreKeptAfter, CountsMembers, Kept}
 use Rattle.bk_told.specs.Listing.{IsListed}
 
 -- the order has so many members; the lines of those that aren't kept were written, and they are so many

@@ -2,7 +2,7 @@
 -- Example (LeftExamples): what a verifier of order 9 leaves that keeps the rectangle 33x32 is that pair, and a walk at the word of no moves.
 use Rattle.std.specs.Prelude.{List, [], false, ℕ, ◌≡◌, ◌≤◌}
 use Rattle.bk_word.specs.declared.Class.TheVariants.{Perfect}
-use Rattle.bk_entries.specs.Kept.{CountsMembers, IsUpTo, Kept, EntriesState}
+use Rattle.bk_told.specs.Kept.{CountsMembers, IsUpTo, Kept, EntriesState}
 use Rattle.bk_walk.specs.Walking.{WalkState}
 
 -- what is seen of what a verifier leaves: the kept pairs, and a walk

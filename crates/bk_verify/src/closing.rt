@@ -4,17 +4,16 @@ ghost use Rattle.std.specs.Prelude.{IfOk, OnErr, OnOk, [], ◌<◌, ◌≡◌, �
 ghost use Rattle.bk_ports.specs.Causes.{HasCause};
 ghost use Rattle.bk_word.specs.declared.Class.TheVariants.{Perfect};
 ghost use Rattle.bk_catalogue.specs.Following.{HasNoneAfter};
-ghost use Rattle.bk_entries.specs.Kept.{AreKeptAfter};
+ghost use Rattle.bk_told.specs.Kept.{AreKeptAfter};
 ghost use Rattle.bk_told.specs.Listing.{ClosesReport, IsClosingBegun, IsListed, IsListingBegun, IsNextBegun, IsWrittenNext};
 ghost use Rattle.bk_verify.specs.Lacking.{AreLacking};
 
 use crate::rest::Rest;
-use bk_entries::Entries;
 use bk_grammar::AnswerBuffer;
 use bk_ports::{Failed, Sink};
 use bk_report::{Last, write_verified};
 use bk_skeleton::Steps;
-use bk_told::{Verifying, has_fault, write_missing_entry};
+use bk_told::{Entries, Verifying, has_fault, write_missing_entry};
 use bk_word::Word;
 use std::alloc::Global;
 use std::sync::ledger::{Blank, Ledger};

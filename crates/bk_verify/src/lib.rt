@@ -7,11 +7,10 @@ mod rest;
 mod run;
 mod verifier;
 
-pub use bk_entries::{
-    Fed, NoMemory, a_verifier_tells_the_truth, an_entry_is_told_one_thing,
+pub use bk_told::{
+    Fed, NoMemory, a_list_has_one_report, a_verifier_tells_the_truth, an_entry_is_told_one_thing,
     missing_ones_are_not_kept, truths_stay,
 };
-pub use bk_told::a_list_has_one_report;
 pub use rest::Rest;
 pub use run::verify;
 pub use verifier::Verifier;

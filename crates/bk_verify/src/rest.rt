@@ -4,11 +4,11 @@ ghost use Rattle.std.specs.Prelude.{IfNone, IfOk, IfSome, IsNone, IsOk, IsTrue, 
 ghost use Rattle.bk_code.specs.Code.{code_of as code_seen};
 ghost use Rattle.bk_word.specs.declared.Class.TheVariants.{Perfect};
 ghost use Rattle.bk_catalogue.specs.Following.{HasNoneAfter};
-ghost use Rattle.bk_entries.specs.Kept.{AreKeptAfter, CountsMembers, IsNextMissing, IsUpTo};
+ghost use Rattle.bk_told.specs.Kept.{AreKeptAfter, CountsMembers, IsNextMissing, IsUpTo};
 ghost use Rattle.bk_verify.specs.Left.{rest_of};
 
-use bk_entries::Entries;
 use bk_skeleton::Steps;
+use bk_told::Entries;
 use bk_walk::{Entry, Walk, WideAt};
 use bk_word::Class;
 use std::alloc::Global;

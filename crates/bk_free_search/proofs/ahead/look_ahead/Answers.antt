@@ -1,12 +1,16 @@
-use Rattle.std.proofs.Common.{ap, arith, cond, length, max, ℕ, ◌+◌, ◌∙◌, ◌≡◌}
+use Rattle.std.proofs.Common.{Bool, ap, arith, cond, false, length, max, true, ℕ, ◌+◌, ◌∙◌, ◌≡◌, ◌≤◌}
 use Rattle.bk_word.specs.Play.{outline_of}
 use Rattle.bk_word.specs.Word.{Word}
 use Rattle.bk_catalogue.proofs.BoundsOfWords.{shape_of_word}
-use Rattle.bk_normal.specs.Normal.{Counts}
-use Rattle.bk_normal.proofs.NextMove.{too_few_evens_is_normal_barren}
-use Rattle.bk_normal.specs.NextMove.{AreMostMovesThen, left_squares_then, right_squares_then}
+use Rattle.bk_layout.specs.Normal.{Counts}
+use Rattle.bk_layout.proofs.NextMove.{too_few_evens_is_normal_barren}
+use Rattle.bk_layout.specs.NextMove.{AreMostMovesThen, left_squares_then, right_squares_then}
 use Rattle.bk_free_search.proofs.AheadMoves.{most_then_is}
 use Rattle.bk_free_search.proofs.ahead.look_ahead.Goals as goal
+
+at_most_one : (b : Bool) → cond {A = ℕ} b 1 0 ≤ 1
+at_most_one true = omega arith
+at_most_one false = omega arith
 
 moves_are : (c : goal.After-saturating_sub-3) → c.counts-counts.result.moves ≡ length c.args.board.now
 moves_are c = ap (λ (k : Counts). k.moves) c.counts-counts.ensures
@@ -59,3 +63,30 @@ returns-clause-evens c m few = too_few_evens_is_normal_barren c.args.order c.mos
   ap (λ (v : Word). length (outline_of v).segments) c.skel.ensures.value,
   (shape_of_word c.skel.result.now c.skel.ensures.legal).many,
 ))
+
+pub overflow_add-moves : goal.overflow_add-moves
+overflow_add-moves c = omega arith
+
+pub overflow_add-left : goal.overflow_add-left
+overflow_add-left c = omega (arith, c.one_if.ensures, at_most_one c.args.left_wall)
+
+pub overflow_add-right : goal.overflow_add-right
+overflow_add-right c = omega (arith, c.one_if-2.ensures, at_most_one c.args.right_wall)
+
+pub overflow_add-segments : goal.overflow_add-segments
+overflow_add-segments c = omega arith
+
+pub overflow_mul-moves : goal.overflow_mul-moves
+overflow_mul-moves c = omega (arith, c.from-moves.ensures)
+
+pub overflow_add-from : goal.overflow_add-from
+overflow_add-from c = omega (arith, c.from-moves.ensures)
+
+pub overflow_mul-most : goal.overflow_mul-most
+overflow_mul-most c = omega (arith, c.most_then-most.ensures.few)
+
+pub overflow_add-from-4 : goal.overflow_add-from-4
+overflow_add-from-4 c = omega (arith, c.most_then-most.ensures.few)
+
+pub overflow_add-from-5 : goal.overflow_add-from-5
+overflow_add-from-5 c = omega (arith, c.most_then-most.ensures.few)

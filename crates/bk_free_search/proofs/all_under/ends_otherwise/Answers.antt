@@ -4,7 +4,7 @@ use Rattle.std.proofs.lemmas.List.{length-append}
 use Rattle.bk_word.specs.Play.{IsLegal}
 use Rattle.bk_word.specs.Word.{Move, Word, order_of}
 use Rattle.bk_word.proofs.StoredBytes.{order_append, order_more}
-use Rattle.bk_normal.proofs.LastMoves.{all_under_at_left_is_normal_barren, all_under_at_right_is_normal_barren, all_under_is_normal_barren}
+use Rattle.bk_layout.proofs.LastMoves.{all_under_at_left_is_normal_barren, all_under_at_right_is_normal_barren, all_under_is_normal_barren}
 use Rattle.bk_free_search.proofs.AheadMoves.{below_told}
 use Rattle.bk_free_search.proofs.UnderSigns.{all_under, moves_few, then_legal}
 use Rattle.bk_free_search.proofs.all_under.ends_otherwise.Goals as goal

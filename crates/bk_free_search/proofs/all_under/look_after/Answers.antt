@@ -5,7 +5,7 @@ use Rattle.bk_word.specs.Signs.{is_even}
 use Rattle.bk_word.specs.Word.{Move, Word, order_of}
 use Rattle.bk_catalogue.proofs.ClosingLaws.{at_most_one}
 use Rattle.bk_free_search.proofs.Cutting.{few_signs_open}
-use Rattle.bk_normal.specs.Normal.{Counts}
+use Rattle.bk_layout.specs.Normal.{Counts}
 use Rattle.bk_free_search.proofs.UnderSigns.{left_then, right_then, signs_then, top_then}
 use Rattle.bk_free_search.proofs.all_under.look_after.Goals as goal
 

@@ -40,3 +40,39 @@ returns-clause-few c = record {
   even = few_up c.left_even.result.passed 451 500 (omega arith) c.left_even.ensures.few;
   under = few_up c.left_under.result.passed 451 500 (omega arith) c.left_under.ensures.few;
 }
+
+pub overflow_sub-place : goal.overflow_sub-place
+overflow_sub-place c = omega (arith, c.if-place-eq0.false)
+
+pub overflow_sub-place-2 : goal.overflow_sub-place-2
+overflow_sub-place-2 c = omega (arith, c.if-place-eq0.false)
+
+pub pass_before-passed-requires-clause-few : goal.pass_before-passed-requires-clause-few
+pass_before-passed-requires-clause-few c = c.requires.few
+
+pub pass_before-passed-requires-clause-marks : goal.pass_before-passed-requires-clause-marks
+pass_before-passed-requires-clause-marks c = c.requires.marks
+
+pub pass_before-passed-requires-clause-many : goal.pass_before-passed-requires-clause-many
+pass_before-passed-requires-clause-many c = omega (arith, c.if-place-eq0.false, c.requires.valley.stands.place_is)
+
+pub left_even-requires-clause-marks : goal.left_even-requires-clause-marks
+left_even-requires-clause-marks c = c.requires.marks
+
+pub left_even-requires-clause-place : goal.left_even-requires-clause-place
+left_even-requires-clause-place c = omega (arith, c.if-place-eq0.false, c.requires.valley.stands.place_is)
+
+pub left_even-requires-clause-counted : goal.left_even-requires-clause-counted
+left_even-requires-clause-counted c = c.pass_before-passed.ensures.counted
+
+pub left_under-requires-clause-marks : goal.left_under-requires-clause-marks
+left_under-requires-clause-marks c = c.requires.marks
+
+pub left_under-requires-clause-valley : goal.left_under-requires-clause-valley
+left_under-requires-clause-valley c = c.requires.valley
+
+pub left_under-requires-clause-some : goal.left_under-requires-clause-some
+left_under-requires-clause-some c = omega (arith, c.if-place-eq0.false)
+
+pub left_under-requires-clause-counted : goal.left_under-requires-clause-counted
+left_under-requires-clause-counted c = c.pass_before-passed.ensures.counted

@@ -3,7 +3,7 @@ use Rattle.bk_word.proofs.PlayLists.{place_within}
 use Rattle.bk_word.specs.Play.{outline_of}
 use Rattle.bk_word.specs.Word.{Word, order_of}
 use Rattle.bk_word.specs.declared.Sign.TheVariants.{Above}
-use Rattle.bk_normal.specs.StrongPass.{pass}
+use Rattle.bk_layout.specs.StrongPass.{pass}
 use Rattle.bk_free_search.proofs.AskedBefore.{past_before}
 use Rattle.bk_free_search.proofs.Cutting.{few_signs_open}
 use Rattle.bk_free_search.proofs.CountedSigns.{counted_none}

@@ -44,3 +44,46 @@ pub returns-clause-asks : goal.returns-clause-asks
 returns-clause-asks c all many each = let at : c.loop-i.i ≡ c.args.from = omega (arith, c.loop-i-test.false, c.loop-i.invariant.low) in
     subst (λ k. AreAsks (is_under (slice_index_or c.args.signs.now (k - 1) Above)) (drop k c.args.signs.now) (drop k c.args.sizes.now) (drop k all)
     c.loop-i.asks.add c.loop-i.asks.most c.loop-i.asks.more) at (c.loop-i.invariant.asks all many each)
+
+pub is_single-requires-clause-some : goal.is_single-requires-clause-some
+is_single-requires-clause-some c = omega (arith, c.requires.some, c.requires.within)
+
+pub is_single-requires-clause-within : goal.is_single-requires-clause-within
+is_single-requires-clause-within c = omega arith
+
+pub is_single-requires-clause-long : goal.is_single-requires-clause-long
+is_single-requires-clause-long c = c.requires.long
+
+pub overflow_step-i : goal.overflow_step-i
+overflow_step-i c = omega (arith, c.loop-i-test.true)
+
+pub bounds-signs-i : goal.bounds-signs-i
+bounds-signs-i c = omega (arith, c.loop-i-test.true, c.loop-i.auto.i)
+
+pub is_single-requires-in-loop-i-clause-some : goal.is_single-requires-in-loop-i-clause-some
+is_single-requires-in-loop-i-clause-some c = omega (arith, c.loop-i-test.true, c.requires.some)
+
+pub is_single-requires-in-loop-i-clause-within : goal.is_single-requires-in-loop-i-clause-within
+is_single-requires-in-loop-i-clause-within c = omega (arith, c.loop-i.auto.i)
+
+pub is_single-requires-in-loop-i-clause-long : goal.is_single-requires-in-loop-i-clause-long
+is_single-requires-in-loop-i-clause-long c = c.requires.long
+
+pub in_front-asks-requires : goal.in_front-asks-requires
+in_front-asks-requires c =
+    let f = c.loop-i.invariant.few in record {
+      add = omega (arith, f.add, c.requires.few);
+      most = omega (arith, f.most, c.requires.few);
+      more = omega (arith, f.more, c.requires.few);
+    }
+
+pub loop-i-smaller : goal.loop-i-smaller
+loop-i-smaller c = omega (arith, c.loop-i-test.true)
+
+pub returns-clause-few : goal.returns-clause-few
+returns-clause-few c =
+    let f = c.loop-i.invariant.few in record {
+      add = omega (arith, f.add, c.requires.few, c.requires.some, c.loop-i.invariant.low);
+      most = omega (arith, f.most, c.requires.few, c.requires.some, c.loop-i.invariant.low);
+      more = omega (arith, f.more, c.requires.few, c.requires.some, c.loop-i.invariant.low);
+    }

@@ -5,7 +5,7 @@ use Rattle.bk_word.specs.Play.{IsLegal, outline_of}
 use Rattle.bk_word.specs.Signs.{is_under}
 use Rattle.bk_word.specs.Word.{Word, order_of}
 use Rattle.bk_word.specs.declared.Sign.TheVariants.{Above}
-use Rattle.bk_normal.specs.WordNumbers.{first_count}
+use Rattle.bk_layout.specs.WordNumbers.{first_count}
 use Rattle.bk_free_search.specs.Apart.{AreAsks, marks_of_word}
 use Rattle.bk_word.proofs.PlayLists.{place_within}
 use Rattle.bk_catalogue.proofs.BoundsOfWords.{sizes_long}

@@ -3,7 +3,7 @@ use Rattle.std.proofs.Common.{ap, arith, cond, length, ℕ, ◌+◌}
 use Rattle.bk_word.specs.Outline.{has_left_wall, has_right_wall, valley_of}
 use Rattle.bk_word.specs.Play.{outline_of}
 use Rattle.bk_word.specs.Word.{Word}
-use Rattle.bk_normal.specs.Normal.{Counts}
+use Rattle.bk_layout.specs.Normal.{Counts}
 use Rattle.bk_free_search.proofs.AheadMoves.{below_told}
 use Rattle.bk_free_search.proofs.LastSquare.{left_is_barred, right_is_barred, wide_is_barred}
 use Rattle.bk_free_search.proofs.last_square.bars_counts.Goals as goal

@@ -7,7 +7,7 @@ use Rattle.bk_skeleton.proofs.TurnParts.{sum_lengths}
 use Rattle.bk_word_net.proofs.Shape.{hung_many}
 use Rattle.bk_catalogue.proofs.BoundsOfWords.{shape_of_word}
 use Rattle.bk_catalogue.specs.VerticalCut.{edges_on_lines}
-use Rattle.bk_normal.specs.WordNumbers.{first_count}
+use Rattle.bk_layout.specs.WordNumbers.{first_count}
 use Rattle.bk_free_search.proofs.OpenMarks.{filled_sizes, marks_again}
 use Rattle.bk_free_search.proofs.TopLineMarks.{marks_of_lefts}
 use Rattle.bk_free_search.specs.Strong.{AreFilled, marks_by_lists}

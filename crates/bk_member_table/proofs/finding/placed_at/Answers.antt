@@ -1,10 +1,10 @@
 use Rattle.std.proofs.Common.{subst, sym, ◌≤◌}
 use Rattle.bk_word.specs.Word.{Word, order_of}
 use Rattle.bk_word.specs.Play.{IsComplete}
-use Rattle.bk_normal.specs.Normal.{Counts}
-use Rattle.bk_normal.proofs.NormalImages.{a_normal_word_has_settled_counts}
-use Rattle.bk_normal.specs.NormalImage.{AreSettledCounts, IsMetByNormalWord}
-use Rattle.bk_normal.specs.WordNumbers.{counts_of_word}
+use Rattle.bk_layout.specs.Normal.{Counts}
+use Rattle.bk_layout.proofs.NormalImages.{a_normal_word_has_settled_counts}
+use Rattle.bk_layout.specs.NormalImage.{AreSettledCounts, IsMetByNormalWord}
+use Rattle.bk_layout.specs.WordNumbers.{counts_of_word}
 use Rattle.bk_free_leaf.specs.Ties.{AreTiesOf}
 use Rattle.bk_member_table.proofs.finding.placed_at.Goals as goal
 

@@ -1,3 +1,4 @@
+use Rattle.std.proofs.lemmas.Grind.{common_steps}
 use Rattle.std.proofs.Common.{append-nil, ap, arith, Bool, List, cond, count_by, false, filter, lit<, refl, sym, take, take_all, true, ℕ}
 use Rattle.std.proofs.Common.{◌++◌, ◌+◌, ◌-◌, ◌<◌, ◌∙◌, ◌≡◌, ◌≤◌}
 use Rattle.std.proofs.lemmas.List.{drop_all}
@@ -63,3 +64,6 @@ returns-clause-sizes c =
 pub returns-clause-signs : goal.returns-clause-signs
 returns-clause-signs c = c.loop-i.invariant.signs_put
     ∙ ap (λ (l : List Sign). c.args.signs.now.items ++ filter parts l) (take_all c.loop-i.i c.args.moved.now c.loop-i-test.false)
+
+pub loop-i-preserved : goal.loop-i-preserved
+loop-i-preserved c = grind (arith, common_steps)

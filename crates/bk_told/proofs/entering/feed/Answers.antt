@@ -1,9 +1,10 @@
-use Rattle.std.proofs.Common.{arith, false, le_of_eq, refl, subst, ◌+◌, ◌∙◌}
+use Rattle.std.proofs.Common.{arith, false, le_of_eq, lit<, refl, subst, ◌+◌, ◌∙◌}
+use Rattle.std.proofs.KnownBytes.{Keeps-refl}
 use Rattle.std.proofs.lemmas.Result.{err_from_is_err_and}
 use Rattle.bk_report.specs.ListLines.{foreign_line, repeats_line}
-use Rattle.bk_entries.specs.Kept.{IsFed}
-use Rattle.bk_entries.specs.declared.entries.Fed.{Fed}
-use Rattle.bk_entries.specs.declared.entries.Fed.TheVariants.{Foreign, New, Repeats}
+use Rattle.bk_told.specs.Kept.{IsFed}
+use Rattle.bk_told.specs.declared.entries.Fed.{Fed}
+use Rattle.bk_told.specs.declared.entries.Fed.TheVariants.{Foreign, New, Repeats}
 use Rattle.bk_word.proofs.Failing.{on_err}
 use Rattle.bk_told.proofs.Entered.{begun_one, written_none, written_one}
 use Rattle.bk_told.specs.Entering.{feeds}
@@ -130,3 +131,15 @@ returns-in_ok-write_all-in-Ok-Foreign-clause-ready g c =
 
 pub overflow_add-state-in-Ok-Foreign : goal.overflow_add-state-in-Ok-Foreign
 overflow_add-state-in-Ok-Foreign g c = omega (arith, c.requires.early, c.requires.ready.foreign)
+
+pub as_slice-requires : goal.as_slice-requires
+as_slice-requires g c = lit< tt
+
+pub as_slice-requires-in-Ok-Foreign : goal.as_slice-requires-in-Ok-Foreign
+as_slice-requires-in-Ok-Foreign g c = lit< tt
+
+pub returns-in-Err-clause-outcome : goal.returns-in-Err-clause-outcome
+returns-in-Err-clause-outcome g c = record {
+  cause = record { tiling = c.args.tiling.now; has = c.requires.has; sight = c.in-Err.ensures.wanting };
+  kept = Keeps-refl (g.O.Sink.written c.args.out.now);
+}

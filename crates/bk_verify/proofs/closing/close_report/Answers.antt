@@ -1,8 +1,8 @@
-use Rattle.std.proofs.Common.{le_of_eq, subst, sym, ℕ, ◌∙◌}
+use Rattle.std.proofs.Common.{le_of_eq, subst, sym, ℕ, ◌∙◌, ◌≤◌}
 use Rattle.std.proofs.lemmas.Result.{err_from_is_err_and}
 use Rattle.bk_word.proofs.Failing.{on_err}
 use Rattle.bk_ports.specs.Causes.{HasCause}
-use Rattle.bk_verify.proofs.LeftBehind.{closes_report, closing_begun, closing_broken}
+use Rattle.bk_verify.proofs.LeftBehind.{closes_report, closing_begun, closing_broken, end_limit, end_wide}
 use Rattle.bk_verify.proofs.closing.close_report.Goals as goal
 
 pub returns-in_err-lacking-clause-begun : goal.returns-in_err-lacking-clause-begun
@@ -62,3 +62,12 @@ returns-clause-cause g c =
     let cause = c.in_ok-write_all.ensures.cause in
     let same = cause.ok ∙ c.in_ok-lacking.ensures.cause.ok in
     record { later = le_of_eq (sym same); ok = same; failed = tt }
+
+pub list_missing-requires-clause-most : goal.list_missing-requires-clause-most
+list_missing-requires-clause-most g c = subst (λ (k : ℕ). k ≤ 16) (sym c.requires.order) c.requires.most
+
+pub write_verified-requires-clause-ended : goal.write_verified-requires-clause-ended
+write_verified-requires-clause-ended g c = end_limit
+
+pub write_verified-requires-clause-some : goal.write_verified-requires-clause-some
+write_verified-requires-clause-some g c = λ e. absurd (end_wide e)

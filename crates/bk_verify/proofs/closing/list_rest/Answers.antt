@@ -24,3 +24,9 @@ returns-in_err-missing-clause-cause g c =
 
 pub returns-clause-cause : goal.returns-clause-cause
 returns-clause-cause g c = record { later = c.in_ok-missing.ensures.cause.later; ok = c.in_ok-missing.ensures.cause.ok; failed = tt }
+
+pub write_missing_members-requires-clause-most : goal.write_missing_members-requires-clause-most
+write_missing_members-requires-clause-most g c = c.requires.most
+
+pub write_missing_members-requires-clause-start : goal.write_missing_members-requires-clause-start
+write_missing_members-requires-clause-start g c = c.requires.start

@@ -1,5 +1,6 @@
-use Rattle.std.proofs.Common.{arith, ◌∙◌}
+use Rattle.std.proofs.Common.{arith, le_of_eq, subst, sym, ℕ, ◌∙◌}
 use Rattle.std.proofs.lemmas.Result.{err_from_is_err_and}
+use Rattle.bk_ports.specs.Causes.{HasCause}
 use Rattle.bk_word.proofs.Failing.{on_err}
 use Rattle.bk_verify.proofs.Listing.{kept_behind, listing_broken, listing_end, listing_more, listing_none, none_behind}
 use Rattle.bk_verify.proofs.closing.write_missing_members.Goals as goal
@@ -59,3 +60,22 @@ pub returns-in_err-write_next-clause-ended : goal.returns-in_err-write_next-clau
 returns-in_err-write_next-clause-ended g c =
     let p = err_from_is_err_and c.from_residual.result c.from_residual.ensures.1 in
     rw p.1 tt
+
+pub returns-in_err-write_next-clause-cause : goal.returns-in_err-write_next-clause-cause
+returns-in_err-write_next-clause-cause g c =
+    let r = c.from_residual.result in
+    let p = err_from_is_err_and r c.from_residual.ensures.1 in
+    let cause = c.in_err-write_next.ensures.cause in
+    subst (λ (k : ℕ). HasCause k (g.O.Sink.faults c.write_next.new.out) r) c.members.invariant.faults
+    (rw p.1 (record { later = cause.later; ok = tt; failed = cause.failed }))
+
+pub returns-in_err-write_next-clause-order : goal.returns-in_err-write_next-clause-order
+returns-in_err-write_next-clause-order g c = c.write_next.ensures.order ∙ c.members.invariant.order
+
+pub members-smaller : goal.members-smaller
+members-smaller g c = let few = c.members.invariant.listed.few in omega (arith, few)
+
+pub returns-clause-cause : goal.returns-clause-cause
+returns-clause-cause g c =
+    let same = c.in_ok-write_next.ensures.cause.ok ∙ c.members.invariant.faults in
+    record { later = le_of_eq (sym same); ok = same; failed = tt }

@@ -1,4 +1,5 @@
-use Rattle.std.proofs.Common.{le_of_eq, refl}
+use Rattle.std.specs.Prelude.{IsOk}
+use Rattle.std.proofs.Common.{le_of_eq, refl, subst, sym, true≢false}
 use Rattle.std.proofs.lemmas.Result.{IfOk-at_ok, err_from_is_err_and}
 use Rattle.bk_word.proofs.Failing.{on_err}
 use Rattle.bk_told.proofs.MissingListed.{word_some}
@@ -69,3 +70,6 @@ returns-in_ok-write_missing_entry-in-Some-Ok-clause-order g c = c.advance.ensure
 
 pub returns-in_ok-write_missing_entry-in-Some-Ok-clause-pairs : goal.returns-in_ok-write_missing_entry-in-Some-Ok-clause-pairs
 returns-in_ok-write_missing_entry-in-Some-Ok-clause-pairs g c = c.advance.ensures.pairs
+
+pub unreachable-requires : goal.unreachable-requires
+unreachable-requires g c = true≢false (sym (subst IsOk c.in-Some-Err.field-0-is c.in-Some-Err.ensures.narrow))

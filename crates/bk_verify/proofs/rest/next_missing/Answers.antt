@@ -1,7 +1,8 @@
 use Rattle.std.proofs.Common.{arith, lit<, refl, sym, true≢false, ◌∙◌}
-use Rattle.bk_entries.proofs.CountedMembers.{few_members}
-use Rattle.bk_verify.proofs.Passing.{at_none, at_some, passing_counted, passing_missing, passing_more, passing_none}
-use Rattle.bk_entries.specs.Kept.{IsKeptFrom, IsNotKept, IsUpTo}
+use Rattle.bk_told.proofs.CountedMembers.{few_members}
+use Rattle.bk_verify.proofs.Passing.{at_none, at_some, passing_all, passing_counted, passing_end, passing_few, passing_missing, passing_more, passing_none}
+use Rattle.bk_verify.proofs.Passing.{passing_stays}
+use Rattle.bk_told.specs.Kept.{IsKeptFrom, IsNotKept, IsUpTo}
 use Rattle.bk_verify.proofs.rest.next_missing.Goals as goal
 
 pub members-init : goal.members-init
@@ -72,3 +73,30 @@ returns-then-is_none-clause-class g c = c.advance_in.ensures.class ∙ c.members
 
 pub returns-then-is_none-clause-later : goal.returns-then-is_none-clause-later
 returns-then-is_none-clause-later g c e = sym c.if-not-advance_in.false ∙ c.advance_in.ensures.later (c.members.invariant.still e)
+
+pub returns-then-not-advance_in-clause-none : goal.returns-then-not-advance_in-clause-none
+returns-then-not-advance_in-clause-none g c =
+    passing_all c.args.walk.now c.args.entries.now.pairs c.members.walk c.members.members c.members.invariant
+    (c.advance_in.ensures.none c.if-not-advance_in.true)
+
+pub returns-then-not-advance_in-clause-cursor : goal.returns-then-not-advance_in-clause-cursor
+returns-then-not-advance_in-clause-cursor g c =
+    passing_end c.args.walk.now c.args.entries.now.pairs c.members.walk c.members.members c.members.invariant
+    (c.advance_in.ensures.none c.if-not-advance_in.true) c.advance_in.new.self.cursor (c.advance_in.ensures.stays c.if-not-advance_in.true)
+
+pub returns-then-not-advance_in-clause-counted : goal.returns-then-not-advance_in-clause-counted
+returns-then-not-advance_in-clause-counted g c =
+    passing_stays c.args.walk.now c.args.entries.now.pairs c.members.walk c.members.members c.members.invariant c.advance_in.new.self
+    c.advance_in.ensures.order (c.advance_in.ensures.stays c.if-not-advance_in.true)
+
+pub line_of-requires : goal.line_of-requires
+line_of-requires g c =
+    passing_few c.args.walk.now c.args.entries.now.pairs c.members.walk c.members.members c.members.invariant c.advance_in.new.entry.tiling
+    c.advance_in.new.entry.word (c.advance_in.ensures.entry c.if-not-advance_in.false) c.requires.most
+
+pub members-smaller : goal.members-smaller
+members-smaller g c = omega (
+  arith,
+  few_members c.args.walk.now.order (IsUpTo c.members.walk.cursor) c.members.members c.requires.most
+      c.members.invariant.counted,
+)

@@ -4,7 +4,7 @@ use Rattle.bk_word.specs.Play.{outline_of}
 use Rattle.bk_word.specs.Word.{Word, order_of}
 use Rattle.bk_word.proofs.PlayLaws.{moves_many}
 use Rattle.bk_catalogue.proofs.BoundsOfWords.{sizes_long}
-use Rattle.bk_normal.specs.WordNumbers.{first_count, left_squares, right_squares}
+use Rattle.bk_layout.specs.WordNumbers.{first_count, left_squares, right_squares}
 use Rattle.bk_free_search.proofs.WordCounts.{first_size}
 use Rattle.bk_free_search.proofs.board.Board.counts.Goals as goal
 

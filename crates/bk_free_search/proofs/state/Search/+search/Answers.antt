@@ -10,7 +10,7 @@ use Rattle.bk_word.specs.declared.Sign.{Sign}
 use Rattle.bk_word.specs.declared.Sign.TheVariants.{Above, Even, Under}
 use Rattle.bk_skeleton.specs.SmallSkeleton.{IsValley}
 use Rattle.bk_layout.specs.NetWord.{IsNetBarren}
-use Rattle.bk_normal.specs.NormalImage.{IsNormalSought}
+use Rattle.bk_layout.specs.NormalImage.{IsNormalSought}
 use Rattle.bk_free_search.proofs.Cutting.{normal}
 use Rattle.bk_free_search.proofs.EvenSigns.{side_few}
 use Rattle.bk_free_search.proofs.LastSquare.{all_at_once_is_barren}

@@ -5,3 +5,24 @@ use Rattle.bk_free_search.proofs.state.Search.bars_move.Goals as goal
 pub returns-then-joins_barrenly : goal.returns-then-joins_barrenly
 returns-then-joins_barrenly c _ = normal c.args.self.now.order (c.args.self.now.board ++ c.args.begun.now.m ∷ [])
     (c.joins_barrenly.ensures c.if-joins_barrenly.true)
+
+pub joins_barrenly-requires-clause-valley : goal.joins_barrenly-requires-clause-valley
+joins_barrenly-requires-clause-valley c = c.requires.valley
+
+pub joins_barrenly-requires-clause-legal : goal.joins_barrenly-requires-clause-legal
+joins_barrenly-requires-clause-legal c = c.requires.legal
+
+pub ends_otherwise-requires-clause-least : goal.ends_otherwise-requires-clause-least
+ends_otherwise-requires-clause-least c = c.requires.least
+
+pub ends_otherwise-requires-clause-most : goal.ends_otherwise-requires-clause-most
+ends_otherwise-requires-clause-most c = c.requires.most
+
+pub ends_otherwise-requires-clause-few : goal.ends_otherwise-requires-clause-few
+ends_otherwise-requires-clause-few c = c.requires.few
+
+pub ends_otherwise-requires-clause-legal : goal.ends_otherwise-requires-clause-legal
+ends_otherwise-requires-clause-legal c = c.requires.legal
+
+pub returns : goal.returns
+returns c = c.ends_otherwise.ensures

@@ -1,7 +1,7 @@
 use Rattle.std.proofs.Common.{ap, arith, ◌+◌}
 use Rattle.bk_word.specs.Outline.{open_side}
 use Rattle.bk_word.specs.Word.{order_of}
-use Rattle.bk_normal.proofs.NextMove.{next_is_last_is_normal_barren}
+use Rattle.bk_layout.proofs.NextMove.{next_is_last_is_normal_barren}
 use Rattle.bk_free_search.proofs.AheadMoves.{below_told}
 use Rattle.bk_free_search.proofs.EvenSigns.{next_lacks_evens, none_goes_on}
 use Rattle.bk_free_search.proofs.state.Search.lacks_next.Goals as goal

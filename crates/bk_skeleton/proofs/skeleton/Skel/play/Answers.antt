@@ -3,9 +3,9 @@ use Rattle.std.proofs.Common.{List, [], ap, arith, count_by, drop, filter, lengt
 use Rattle.std.proofs.lemmas.List.{length-drop, length-take-le}
 use Rattle.bk_word.specs.Play.{numbers_from, parts}
 use Rattle.bk_word.specs.declared.Sign.{Sign}
-use Rattle.bk_skeleton.proofs.Playing.{Played, moves_shown, playing, stored_played, stored_shown}
+use Rattle.bk_skeleton.proofs.Playing.{Played, Playing, moves_shown, playing, stored_played, stored_shown}
 use Rattle.bk_skeleton.proofs.SkelReads.{counted_in}
-use Rattle.bk_skeleton.specs.Skeleton.{first_touched, open_sides, sizes_after}
+use Rattle.bk_skeleton.specs.Skeleton.{first_touched, moves_stored, open_sides, sizes_after}
 use Rattle.bk_skeleton.specs.declared.turns.MoveRecord.{MoveRecord}
 use Rattle.bk_skeleton.proofs.skeleton.Skel.play.Goals as goal
 
@@ -55,35 +55,26 @@ splice_numbers-requires c =
     let small : c.len-2.result + c.len-3.result + 1 + c.m.inside.count ≤ 255 = omega (arith, p.numbers, c.len-2.ensures.value, c.len-3.ensures.value) in
     (omega arith, (omega arith, (within, (fits, small))))
 
+known : (c : goal.After-deref-5) → Playing 200 (moves_stored c.self.inside.turns.items c.self.inside.played.items)
+    (record { count = c.m.inside.count; signs = c.m.inside.signs.items }) c.self.inside.ends.items c.self.inside.sizes.items
+    c.self.inside.signs.items c.self.inside.closed.items c.self.inside.turns.items c.self.inside.played.items c.turn_for-turn.result
+known c = playing c.self.invariant c.self.view_is c.m.view_is c.requires.legal c.requires.few c.turn_for-turn.ensures
+    c.deref.ensures.0 c.deref-2.ensures.0 c.deref-3.ensures.0 c.len.ensures.value
+
 pub apply_signs-requires-clause-sizes_within : goal.apply_signs-requires-clause-sizes_within
-apply_signs-requires-clause-sizes_within c =
-    let p = playing c.self.invariant c.self.view_is c.m.view_is c.requires.legal c.requires.few c.turn_for-turn.ensures
-    c.deref.ensures.0 c.deref-2.ensures.0 c.deref-3.ensures.0 c.len.ensures.value in
-    p.sizes_within
+apply_signs-requires-clause-sizes_within c = (known c).sizes_within
 
 pub apply_signs-requires-clause-signs_within : goal.apply_signs-requires-clause-signs_within
-apply_signs-requires-clause-signs_within c =
-    let p = playing c.self.invariant c.self.view_is c.m.view_is c.requires.legal c.requires.few c.turn_for-turn.ensures
-    c.deref.ensures.0 c.deref-2.ensures.0 c.deref-3.ensures.0 c.len.ensures.value in
-    p.signs_within
+apply_signs-requires-clause-signs_within c = (known c).signs_within
 
 pub apply_signs-requires-clause-sizes_fit : goal.apply_signs-requires-clause-sizes_fit
-apply_signs-requires-clause-sizes_fit c =
-    let p = playing c.self.invariant c.self.view_is c.m.view_is c.requires.legal c.requires.few c.turn_for-turn.ensures
-    c.deref.ensures.0 c.deref-2.ensures.0 c.deref-3.ensures.0 c.len.ensures.value in
-    p.sizes_fit
+apply_signs-requires-clause-sizes_fit c = (known c).sizes_fit
 
 pub apply_signs-requires-clause-signs_fit : goal.apply_signs-requires-clause-signs_fit
-apply_signs-requires-clause-signs_fit c =
-    let p = playing c.self.invariant c.self.view_is c.m.view_is c.requires.legal c.requires.few c.turn_for-turn.ensures
-    c.deref.ensures.0 c.deref-2.ensures.0 c.deref-3.ensures.0 c.len.ensures.value in
-    p.signs_fit
+apply_signs-requires-clause-signs_fit c = (known c).signs_fit
 
 pub apply_signs-requires-clause-small : goal.apply_signs-requires-clause-small
-apply_signs-requires-clause-small c =
-    let p = playing c.self.invariant c.self.view_is c.m.view_is c.requires.legal c.requires.few c.turn_for-turn.ensures
-    c.deref.ensures.0 c.deref-2.ensures.0 c.deref-3.ensures.0 c.len.ensures.value in
-    omega (arith, p.small, ap (length {A = Sign}) c.deref-5.ensures.0)
+apply_signs-requires-clause-small c = omega (arith, (known c).small, ap (length {A = Sign}) c.deref-5.ensures.0)
 
 pub append-requires-2 : goal.append-requires-2
 append-requires-2 c =

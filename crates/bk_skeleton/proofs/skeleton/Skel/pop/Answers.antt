@@ -2,9 +2,9 @@ use Rattle.std.specs.List.{splice}
 use Rattle.std.proofs.Common.{ap, arith, drop, length, lit<, take, ◌+◌, ◌-◌, ◌∙◌, ◌≡◌, ◌≤◌}
 use Rattle.std.proofs.lemmas.List.{length-drop, length-map}
 use Rattle.bk_skeleton.proofs.Playing.{moves_shown, stored_shown}
-use Rattle.bk_skeleton.proofs.TakenBack.{Back, behind_read, front_left, stored_back, taken_back}
+use Rattle.bk_skeleton.proofs.TakenBack.{Back, TakesBack, behind_read, front_left, stored_back, taken_back}
 use Rattle.bk_skeleton.proofs.SkelReads.{counted_in}
-use Rattle.bk_skeleton.specs.Skeleton.{move_of}
+use Rattle.bk_skeleton.specs.Skeleton.{move_of, moves_stored}
 use Rattle.bk_skeleton.proofs.skeleton.Skel.pop.Goals as goal
 
 pub overflow_sub-kept : goal.overflow_sub-kept
@@ -12,25 +12,22 @@ overflow_sub-kept c =
     let b = taken_back c.self.invariant c.take_last-turn.ensures c.requires c.self.view_is in
     omega (arith, b.closed_within, c.len.ensures.value, c.from.ensures)
 
+known : (c : goal.After-turn-1) → TakesBack (moves_stored c.self.inside.turns.items c.self.inside.played.items)
+    c.self.inside.ends.items c.self.inside.sizes.items c.self.inside.signs.items c.self.inside.closed.items
+    c.take_last-turn.new.turns.items c.take_last-turn.result c.self.inside.played.items
+known c = taken_back c.self.invariant c.take_last-turn.ensures c.requires c.self.view_is
+
 pub undo_signs-requires-clause-sizes_within : goal.undo_signs-requires-clause-sizes_within
-undo_signs-requires-clause-sizes_within c =
-    let b = taken_back c.self.invariant c.take_last-turn.ensures c.requires c.self.view_is in
-    b.sizes_within
+undo_signs-requires-clause-sizes_within c = (known c).sizes_within
 
 pub undo_signs-requires-clause-signs_within : goal.undo_signs-requires-clause-signs_within
-undo_signs-requires-clause-signs_within c =
-    let b = taken_back c.self.invariant c.take_last-turn.ensures c.requires c.self.view_is in
-    b.signs_within
+undo_signs-requires-clause-signs_within c = (known c).signs_within
 
 pub undo_signs-requires-clause-sizes_fit : goal.undo_signs-requires-clause-sizes_fit
-undo_signs-requires-clause-sizes_fit c =
-    let b = taken_back c.self.invariant c.take_last-turn.ensures c.requires c.self.view_is in
-    b.sizes_fit
+undo_signs-requires-clause-sizes_fit c = (known c).sizes_fit
 
 pub undo_signs-requires-clause-signs_fit : goal.undo_signs-requires-clause-signs_fit
-undo_signs-requires-clause-signs_fit c =
-    let b = taken_back c.self.invariant c.take_last-turn.ensures c.requires c.self.view_is in
-    b.signs_fit
+undo_signs-requires-clause-signs_fit c = (known c).signs_fit
 
 pub splice-requires : goal.splice-requires
 splice-requires c =

@@ -14,6 +14,9 @@ new-requires-clause-least g c = c.requires.least
 pub new-requires-clause-most : goal.new-requires-clause-most
 new-requires-clause-most g c = c.requires.most
 
+pub new-requires-2 : goal.new-requires-2
+new-requires-2 g c = grind (arith, g.ROOM.fits)
+
 pub invariant_of-result : goal.invariant_of-result
 invariant_of-result g c =
     let same : c.match-from.cursor ≡ start_cursor c.args.from = search rules in

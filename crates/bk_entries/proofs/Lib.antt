@@ -1,6 +1,0 @@
-pub mod Storing
-pub mod Standing
-pub mod MembersUpTo
-pub mod CountedMembers
-pub mod Firsts
-pub mod VerifyExamples

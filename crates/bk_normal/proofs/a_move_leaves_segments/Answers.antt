@@ -1,5 +1,0 @@
-use Rattle.bk_normal.proofs.LastMoves.{a_move_leaves_segments as the_law}
-use Rattle.bk_normal.proofs.a_move_leaves_segments.Goals as goal
-
-pub returns : goal.returns
-returns c = the_law
