@@ -3,7 +3,7 @@
 
 Each order is run by two programs, turn by turn: how many moves are pushed, the least processor time, and the instructions
 that callgrind counts. Both are crates/bk_pushes, built in two clones. In the clone without the cut one line of
-crates/bk_form_cuts/src/tracing.rt is another, the body of `follows`, which then says of no move that it is followed:
+crates/bk_walk_cuts/src/tracing.rt is another, the body of `follows`, which then says of no move that it is followed:
 
     self.marks.len() == skel.moves() && skel.order() + usize::from(m.count) <= FOLLOWED
     false && self.marks.len() == skel.moves() && skel.order() + usize::from(m.count) <= FOLLOWED

@@ -197,9 +197,14 @@ class Progress:
 
 
 def processes(free, ready):
-    """Returns by how many processes the next crate is proved: by one, and more only if else processors had nothing to do, since a second one makes it
-    half as much work again."""
+    """Returns by how many processes the next crate is proved, if so many processors are free and so many crates are ready: by one, and more only if else
+    processors had nothing to do, since several make it a third more work."""
     return max(1, free - ready + 1)
+
+
+def waits_for_all(crate, ready, waiting):
+    """Returns whether nothing else can begin before this crate is done, but for those that are ready with it."""
+    return all(it in ready or crate in it.below for it in waiting)
 
 
 def prove(crates, toolchain, jobs, log, progress):
@@ -211,8 +216,10 @@ def prove(crates, toolchain, jobs, log, progress):
     with ThreadPoolExecutor(jobs) as pool:
         while True:
             ready = [it for it in waiting if proved.issuperset(it.named)]
-            for place, it in enumerate(ready[:free]):
-                many = processes(free, len(ready) - place)
+            for place, it in enumerate(ready[: max(0, free)]):
+                # What still runs then is done soon, and leaves its processors to the crate that all others wait for.
+                is_last = place == 0 and waits_for_all(it, ready, waiting)
+                many = processes(jobs if is_last else free, len(ready) - place)
                 running[pool.submit(it.prove, toolchain, many)] = it, many
                 waiting.remove(it)
                 free -= many

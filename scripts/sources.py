@@ -5,9 +5,9 @@ TOP = os.path.dirname(os.path.dirname(os.path.abspath(__file__)))
 # The files of a crate, by folder and ending.
 PARTS = (("src", ".rt"), ("specs", ".antt"), ("proofs", ".antt"))
 # A line of code takes a processor about as long to prove as so many lines of definitions and proofs.
-LINES_FOR_ONE_OF_CODE = 90
+LINES_FOR_ONE_OF_CODE = 70
 # To read the libraries of a crate and to write its own takes about as long as to prove so many.
-LINES_FOR_A_CRATE = 25000
+LINES_FOR_A_CRATE = 30000
 # So many lines of definitions and proofs a processor proves in a second: an estimate.
 LINES_A_SECOND = 1000
 

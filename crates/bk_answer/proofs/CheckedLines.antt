@@ -2,7 +2,7 @@
 use Rattle.std.proofs.Common.{Bool, List, Option, [], arith, inl, inr, length, subst, sym, ℕ, ◌++◌, ◌<◌, ◌≡◌, ◌≤◌, ◌⊎◌}
 use Rattle.std.specs.Prelude.{IfSome, ◌↔◌}
 use Rattle.std.proofs.lemmas.List.{length-take-le, take_all}
-use Rattle.bk_lines.specs.Lines.{kept_front}
+use Rattle.bk_ports.specs.Lines.{kept_front}
 use Rattle.bk_tiling.specs.Tiling.{Tiling, order}
 use Rattle.bk_code.specs.Code.{Code}
 use Rattle.bk_profile.specs.Refused.{HasCode, HasFlat}

@@ -2,7 +2,7 @@
 use Rattle.std.proofs.Common.{List, [], arith, inl, inr, length, subst, sym, ℕ, ◌<◌, ◌∷◌, ◌≡◌, ◌≤◌, ◌⊎◌}
 use Rattle.std.specs.Prelude.{Bool, true, ◌↔◌}
 use Rattle.std.proofs.lemmas.List.{length-take-le, take_all}
-use Rattle.bk_lines.specs.Lines.{kept_front}
+use Rattle.bk_ports.specs.Lines.{kept_front}
 use Rattle.bk_report.specs.Refusals.{refusal_line}
 use Rattle.bk_report.specs.declared.refusal.Refused.{Refused}
 use Rattle.bk_report.specs.declared.refusal.Refused.TheVariants.{Long}

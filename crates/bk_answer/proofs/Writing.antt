@@ -6,9 +6,9 @@ use Rattle.std.specs.Io.KnownBytes.{Appends}
 use Rattle.std.proofs.KnownBytes.{Keeps-refl}
 use Rattle.bk_ports.specs.Causes.{AppendsPrefix, HasCause}
 use Rattle.bk_ports.specs.declared.Failed.{Failed}
-use Rattle.bk_lines.proofs.Pieces.{begins_one, writes_one}
-use Rattle.bk_lines.specs.declared.Outcome.{Outcome}
-use Rattle.bk_lines.specs.declared.Outcome.TheVariants.{NoMemory}
+use Rattle.bk_ports.proofs.Pieces.{begins_one, writes_one}
+use Rattle.bk_ports.specs.declared.Outcome.{Outcome}
+use Rattle.bk_ports.specs.declared.Outcome.TheVariants.{NoMemory}
 use Rattle.bk_tiling.specs.Tiling.{Tiling, order}
 use Rattle.bk_answer.specs.Replies.{Replies, accepted_if}
 use Rattle.bk_answer.specs.Telling.{IsAnswerTo, Tells, tells}

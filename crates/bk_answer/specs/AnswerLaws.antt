@@ -2,7 +2,7 @@
 use Rattle.std.specs.Prelude.{Bool, List, codes, ℕ, ◌↔◌, ◌≡◌}
 use Rattle.std.specs.List.{concat}
 use Rattle.bk_tiling.specs.Tiling.{Tiling}
-use Rattle.bk_lines.specs.Lines.{kept_front}
+use Rattle.bk_ports.specs.Lines.{kept_front}
 use Rattle.bk_text.specs.CodeLine.{Line}
 use Rattle.bk_answer.specs.Answer.{AnswersLine}
 use Rattle.bk_answer.specs.Checked.{BeginsWith}

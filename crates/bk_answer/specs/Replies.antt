@@ -1,8 +1,8 @@
 -- What a call that answers a line comes to.
 use Rattle.std.specs.Prelude.{Bool, Err, List, Ok, Option, Result, ℕ}
-use Rattle.bk_lines.specs.Answer.{HasOutcome, IsBegun}
-use Rattle.bk_lines.specs.declared.Outcome.{Outcome}
-use Rattle.bk_lines.specs.declared.Outcome.TheVariants.{Accepted}
+use Rattle.bk_ports.specs.Answer.{HasOutcome, IsBegun}
+use Rattle.bk_ports.specs.declared.Outcome.{Outcome}
+use Rattle.bk_ports.specs.declared.Outcome.TheVariants.{Accepted}
 use Rattle.bk_ports.specs.declared.Failed.{Failed}
 
 -- its outcome, or a write that failed. `answers` says which pieces may be written, and whether they are a refusal

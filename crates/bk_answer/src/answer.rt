@@ -12,8 +12,7 @@ use crate::flow::answer_net_line;
 use crate::items::Desk;
 use crate::solve::answer_word_line;
 use bk_grammar::AnswerBuffer;
-use bk_lines::{Answerer, Outcome};
-use bk_ports::{Failed, Sink};
+use bk_ports::{Answerer, Failed, Outcome, Sink};
 use bk_report::{Refused, write_refused};
 use std::alloc::Global;
 

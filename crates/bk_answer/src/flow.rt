@@ -8,9 +8,8 @@ ghost use Rattle.bk_answer.specs.Replies.{Replies};
 use crate::answer::{accepted, refuse};
 use bk_flow::{FlowFault, solve};
 use bk_grammar::AnswerBuffer;
-use bk_lines::{LONGEST_LINE, Outcome};
 use bk_net::{Net, NetFault, NetLine, read_net};
-use bk_ports::{Failed, Sink};
+use bk_ports::{Failed, LONGEST_LINE, Outcome, Sink};
 use bk_report::{Refused, write_flow};
 use std::alloc::Global;
 

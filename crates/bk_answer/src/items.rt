@@ -10,7 +10,7 @@ ghost use Rattle.bk_answer.specs.Item.{IsLaidItem, IsLaidLine, IsSize, IsStatedB
 ghost use Rattle.bk_answer.specs.Refusing.{IsItemRefused, IsLineRefused, refused_for, refused_text};
 
 use bk_code::{Code, flat};
-use bk_lines::LONGEST_LINE;
+use bk_ports::LONGEST_LINE;
 use bk_profile::{Profile, Refusal, lay_code_in, lay_flat_in};
 use bk_report::Refused;
 use bk_skel::Room;

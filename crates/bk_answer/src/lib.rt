@@ -13,7 +13,7 @@ mod plain;
 mod solve;
 
 pub use answer::LineAnswerer;
-pub use bk_lines::LONGEST_LINE;
+pub use bk_ports::LONGEST_LINE;
 pub use command::{CodeCommand, Command};
 pub use items::{Desk, lay_line};
 pub use plain::{PlainAnswerer, PlainCommand};

@@ -9,8 +9,7 @@ ghost use Rattle.bk_answer.specs.WordAnswer.{AnswersWord, AnswersWordLine, MayWa
 use crate::answer::{accepted, refuse};
 use crate::items::Desk;
 use bk_grammar::AnswerBuffer;
-use bk_lines::{LONGEST_LINE, Outcome};
-use bk_ports::{Failed, Sink};
+use bk_ports::{Failed, LONGEST_LINE, Outcome, Sink};
 use bk_report::{Refused, write_tiling};
 use bk_skel::{Realised, SolveFault, realise_in};
 use bk_word::{Word, WordFault, read_word, word_item};

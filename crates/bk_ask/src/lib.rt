@@ -66,7 +66,7 @@ pub enum Ask {
 }
 
 /// Which squares count that are made of two rectangles. The kinds are our own.
-#[derive(Clone, Copy, Debug, PartialEq, Eq)]
+#[derive(Clone, Copy, PartialEq, Eq)]
 pub enum Kind {
     /// The perfect ones.
     Perfect,

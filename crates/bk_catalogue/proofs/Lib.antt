@@ -47,3 +47,5 @@ pub mod CuttingLines
 pub mod BegunWords
 pub mod BarrenExamples
 pub mod QuickTests
+pub mod LinedMoves
+pub mod TallyLaws

@@ -14,3 +14,5 @@ pub mod Cuts
 pub mod BoundCuts
 pub mod Corners
 pub mod Qualifying
+-- How its code keeps it.
+pub mod Tally

@@ -10,10 +10,13 @@ ghost use Rattle.bk_catalogue.specs.Cuts.{EvenSquaresAreBarren, OneSegmentIsBarr
 ghost use Rattle.bk_catalogue.specs.BoundCuts.{TooManyLinesIsBarren, TooManySinglesIsBarren, TooManyToCloseIsBarren};
 ghost use Rattle.bk_catalogue.specs.Corners.{CornersAreNoLonger};
 
-mod corners;
-mod qualifying;
+mod lines;
+mod singles;
+mod tally;
 
-pub use qualifying::{is_simple_of, qualifies};
+pub use lines::{begins_on_line, line_bound};
+pub use singles::single_valleys;
+pub use tally::{closing_bound, first_above, first_over, unders_behind};
 
 // How many words of the tree there are.
 

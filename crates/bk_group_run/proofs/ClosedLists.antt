@@ -5,13 +5,13 @@ use Rattle.std.proofs.Common.{List, Option, Bool, false, inl, inr, refl, subst, 
 use Rattle.bk_ports.proofs.KnownSteps.{appends_more, prefix_after}
 use Rattle.bk_ports.specs.Causes.{HasCause, Rose}
 use Rattle.bk_ports.specs.declared.Failed.{Failed}
-use Rattle.bk_lines.proofs.OtherOutputs.{IsStop, broken_behind, stops_as, whole_behind}
-use Rattle.bk_lines.specs.Ending.{EndsWith, HasVerdict, IsBrokenBehind, IsWhole, Streams}
-use Rattle.bk_lines.specs.Entering.{AreAllEntered, entries_of}
-use Rattle.bk_lines.specs.Faults.{CountsTell, Faults}
-use Rattle.bk_lines.specs.Reply.{text_of}
-use Rattle.bk_lines.specs.declared.Ended.{Ended}
-use Rattle.bk_lines.specs.declared.Ended.TheVariants.{NoMemory, NoneRefused, ReadFailed, SomeRefused, TooMany, WriteFailed}
+use Rattle.bk_ports.proofs.OtherOutputs.{IsStop, broken_behind, stops_as, whole_behind}
+use Rattle.bk_ports.specs.Ending.{EndsWith, HasVerdict, IsBrokenBehind, IsWhole, Streams}
+use Rattle.bk_ports.specs.Entering.{AreAllEntered, entries_of}
+use Rattle.bk_ports.specs.Faults.{CountsTell, Faults}
+use Rattle.bk_ports.specs.Reply.{text_of}
+use Rattle.bk_ports.specs.declared.Ended.{Ended}
+use Rattle.bk_ports.specs.declared.Ended.TheVariants.{NoMemory, NoneRefused, ReadFailed, SomeRefused, TooMany, WriteFailed}
 use Rattle.bk_group_run.specs.Closing.{IsClosingBroken, IsListed, closing_lines, listing_of}
 use Rattle.bk_group_run.specs.Listed.{Listed, listing_rules, none_listed}
 use Rattle.bk_group_run.specs.declared.Wanted.{Wanted}

@@ -5,10 +5,10 @@ use Rattle.std.specs.Io.KnownBytes.{Appends}
 use Rattle.std.proofs.KnownBytes.{Keeps-refl}
 use Rattle.bk_ports.specs.Causes.{AppendsPrefix}
 use Rattle.bk_ports.specs.declared.Failed.{Failed}
-use Rattle.bk_lines.specs.Answer.{HasOutcome, IsBegun, IsWanting, IsWritten}
-use Rattle.bk_lines.specs.declared.Outcome.{Outcome}
-use Rattle.bk_lines.specs.declared.Outcome.TheVariants as outcomes
-use Rattle.bk_lines.proofs.Pieces.{begins_one, writes_none, writes_one}
+use Rattle.bk_ports.specs.Answer.{HasOutcome, IsBegun, IsWanting, IsWritten}
+use Rattle.bk_ports.specs.declared.Outcome.{Outcome}
+use Rattle.bk_ports.specs.declared.Outcome.TheVariants as outcomes
+use Rattle.bk_ports.proofs.Pieces.{begins_one, writes_none, writes_one}
 use Rattle.bk_tiling.specs.Tiling.{Tiling}
 use Rattle.bk_report.specs.ListLines.{refused_line}
 use Rattle.bk_report.specs.declared.refusal.Refused.{Refused}

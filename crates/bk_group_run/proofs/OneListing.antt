@@ -11,9 +11,9 @@ use Rattle.bk_report.specs.declared.refusal.Refused.{Refused}
 use Rattle.bk_answer.proofs.ItemSteps.{is_tiling}
 use Rattle.bk_answer.proofs.OneAnswer.{cause_of, not_refused, one_line_cause, one_tiling, skip_not_refused, skip_not_stated}
 use Rattle.bk_answer.specs.Item.{HasTiling, IsLaidBy}
-use Rattle.bk_lines.specs.Entering.{AreEntered}
-use Rattle.bk_lines.specs.Lines.{kept_front}
-use Rattle.bk_lines.specs.Reply.{Reply, some_refused}
+use Rattle.bk_ports.specs.Entering.{AreEntered}
+use Rattle.bk_ports.specs.Lines.{kept_front}
+use Rattle.bk_ports.specs.Reply.{Reply, some_refused}
 use Rattle.bk_group_run.specs.Listed.{HasRefusedLine, Listed, ListsLine, ListsTiling, accepts, keeps, listing_rules, no_more, none_listed, refuses, skipped}
 use Rattle.bk_group_run.specs.Listed.{with_item}
 use Rattle.bk_group_run.specs.ListingLaw.{LinesHaveOneListing}

@@ -5,9 +5,9 @@ use Rattle.std.specs.Option.{option_map_or}
 use Rattle.std.specs.Prelude.{Bool, List, Option, [], length, slice_get, ℕ, ◌++◌, ◌∷◌, ◌≡◌}
 use Rattle.std.specs.Io.KnownBytes.{Appends}
 use Rattle.bk_ports.specs.Causes.{AppendsPrefix}
-use Rattle.bk_lines.specs.Ending.{Output}
-use Rattle.bk_lines.specs.Entering.{AreAllEntered, AreEntered, IsEntryBegun, IsEntryWanting}
-use Rattle.bk_lines.specs.Reply.{Reply, some_refused, text_of}
+use Rattle.bk_ports.specs.Ending.{Output}
+use Rattle.bk_ports.specs.Entering.{AreAllEntered, AreEntered, IsEntryBegun, IsEntryWanting}
+use Rattle.bk_ports.specs.Reply.{Reply, some_refused, text_of}
 use Rattle.bk_report.specs.ListLines.{alike_line, group_line, member_line, pairs_line}
 use Rattle.bk_alike.specs.Alike.{group_of, sizes}
 use Rattle.bk_alike.specs.declared.item.KeptItem.{KeptItem}

@@ -10,8 +10,8 @@ use Rattle.bk_report.specs.declared.refusal.Refused.{Refused}
 use Rattle.bk_report.specs.declared.refusal.Refused.TheVariants.{More}
 use Rattle.bk_answer.specs.Item.{HasItem, HasTiling}
 use Rattle.bk_answer.specs.Refusing.{IsLineRefused}
-use Rattle.bk_lines.specs.Entering.{AreEntered, Entering}
-use Rattle.bk_lines.specs.Reply.{Reply, some_refused}
+use Rattle.bk_ports.specs.Entering.{AreEntered, Entering}
+use Rattle.bk_ports.specs.Reply.{Reply, some_refused}
 use Rattle.bk_alike.specs.declared.item.KeptItem.{KeptItem}
 
 -- the items that are kept, and how many lines were refused

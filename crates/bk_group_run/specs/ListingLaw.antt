@@ -1,7 +1,7 @@
 -- What the definition of a listing comes to. A statement alone; it is proved apart.
 use Rattle.std.specs.Prelude.{List, ℕ, ◌≡◌}
-use Rattle.bk_lines.specs.Entering.{AreEntered}
-use Rattle.bk_lines.specs.Reply.{Reply}
+use Rattle.bk_ports.specs.Entering.{AreEntered}
+use Rattle.bk_ports.specs.Reply.{Reply}
 use Rattle.bk_group_run.specs.Listed.{Listed, listing_rules, none_listed}
 
 -- lines have at most one listing: the replies to them, the items that are kept and the number of refused lines

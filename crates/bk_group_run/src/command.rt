@@ -1,14 +1,13 @@
 //! The run of a command that lists lines.
 
-ghost use Rattle.bk_lines.specs.Ending.{EndsWith};
-ghost use Rattle.bk_lines.specs.Faults.{CountsTell, IsCalm, IsDoneOrWanting};
+ghost use Rattle.bk_ports.specs.Ending.{EndsWith};
+ghost use Rattle.bk_ports.specs.Faults.{CountsTell, IsCalm, IsDoneOrWanting};
 ghost use Rattle.bk_group_run.specs.Closing.{listing_of};
 
 use crate::Wanted;
 use crate::closing::write_closing;
 use crate::listed::ItemList;
-use bk_lines::{Ended, enter_lines};
-use bk_ports::{Failed, Sink, Source};
+use bk_ports::{Ended, Failed, Sink, Source, enter_lines};
 use std::alloc::Global;
 
 /// Reads lines of codes to the end of the source, keeps the canonical tiling of each accepted one, at most 16,384 of them, and

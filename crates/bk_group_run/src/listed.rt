@@ -1,14 +1,13 @@
 //! The items of a list, and the lines that are refused.
 
 ghost use Rattle.std.specs.Prelude.{IfOk, OnErr, OnOk, ◌+◌, ◌<◌, ◌^◌, ◌≡◌};
-ghost use Rattle.bk_lines.specs.Answer.{HasOutcome, IsBegun};
+ghost use Rattle.bk_ports.specs.Answer.{HasOutcome, IsBegun};
 ghost use Rattle.bk_ports.specs.Causes.{HasCause};
 
 use bk_alike::{AddFault, Alike};
 use bk_answer::{Desk, lay_line};
 use bk_grammar::AnswerBuffer;
-use bk_lines::{Outcome, Register};
-use bk_ports::{Failed, Sink};
+use bk_ports::{Failed, Outcome, Register, Sink};
 use bk_report::{Refused, write_line_refused};
 use std::alloc::Global;
 use std::marker::Model;

@@ -16,7 +16,7 @@ fn words(alloc: Global, line: &str) -> Result<Vec<String>, AllocError> {
 }
 
 // What is asked, as a word or as the values of its options. A cursor is shown by its order.
-#[derive(Debug, PartialEq, Eq, Drop)]
+#[derive(PartialEq, Eq, Drop)]
 enum Shown {
     Nothing,
     Alone(&'static str),

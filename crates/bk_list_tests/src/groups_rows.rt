@@ -2,8 +2,7 @@
 
 use bk_ask::Kind;
 use bk_group_run::{Wanted, list_lines};
-use bk_lines::Ended;
-use bk_ports::{MemSink, MemSource};
+use bk_ports::{Ended, MemSink, MemSource};
 use std::alloc::{AllocError, Global};
 use std::test::Fail;
 

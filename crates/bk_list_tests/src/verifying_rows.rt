@@ -2,8 +2,7 @@
 
 ghost use Rattle.std.specs.Prelude.{◌<◌, ◌≤◌};
 
-use bk_lines::Ended;
-use bk_ports::{MemSink, MemSource};
+use bk_ports::{Ended, MemSink, MemSource};
 use bk_verify::verify;
 use std::alloc::Global;
 

@@ -3,11 +3,11 @@
 ghost use Rattle.std.specs.Prelude.{◌≡◌};
 ghost use Rattle.bk_word.specs.Outline.{IsLegalMove};
 ghost use Rattle.bk_word.specs.Play.{outline_of};
-ghost use Rattle.bk_form_cuts.specs.Trace.{IsTraceOf};
+ghost use Rattle.bk_walk_cuts.specs.Trace.{IsTraceOf};
 
 use arrayvec::ArrayVec;
-use bk_form_cuts::Tracing;
 use bk_skeleton::{Skel, open_side};
+use bk_walk_cuts::Tracing;
 use bk_word::{Class, LARGEST_ORDER, Move, Sign, Word, read_word};
 use std::alloc::Global;
 

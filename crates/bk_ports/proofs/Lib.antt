@@ -1,2 +1,21 @@
+-- Of reads and writes.
 pub mod KnownSteps
 pub mod StoreExamples
+-- Of lines.
+pub mod Cuts
+pub mod Fronts
+pub mod Joining
+pub mod StoppedLines
+pub mod OneLine
+pub mod Blocks
+pub mod Taking
+pub mod Stateless
+pub mod Pieces
+pub mod LineExamples
+pub mod AnswerExamples
+pub mod EndingExamples
+pub mod OtherOutputs
+pub mod OtherReplies
+pub mod TakenBytes
+pub mod CountedFaults
+pub mod Deciding

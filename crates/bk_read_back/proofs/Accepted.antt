@@ -13,8 +13,8 @@ use Rattle.bk_report.specs.Answers.{IsCheckLine}
 use Rattle.bk_report.specs.Listings.{entry_text}
 use Rattle.bk_report.specs.declared.listing.Last.{Last}
 use Rattle.bk_report.specs.declared.listing.Last.TheVariants.{End, Limit}
-use Rattle.bk_lines.specs.Lines.{lines_of}
-use Rattle.bk_lines.specs.Reply.{AreReplies, Reply, some_refused, text_of}
+use Rattle.bk_ports.specs.Lines.{lines_of}
+use Rattle.bk_ports.specs.Reply.{AreReplies, Reply, some_refused, text_of}
 use Rattle.bk_answer.proofs.OneAnswer.{cause_of, command_cause, not_refused, one_answer, skip_not_stated}
 use Rattle.bk_answer.specs.Answer.{AnswersLine}
 use Rattle.bk_answer.specs.CodeAnswer.{AnswersCodeLine, answers, no_item, refuses}

@@ -11,8 +11,8 @@ use Rattle.bk_report.specs.Listings.{class_words, last_name}
 use Rattle.bk_report.specs.Answers.{spaced}
 use Rattle.bk_report.specs.declared.listing.Last.{Last}
 use Rattle.bk_report.specs.declared.listing.Last.TheVariants.{End, Limit, Wide}
-use Rattle.bk_lines.proofs.Cuts.{HasNoFeed, closed-append, closed-none, open-append, open-none}
-use Rattle.bk_lines.specs.Lines.{closed_lines, last_line, lines_of, open_line}
+use Rattle.bk_ports.proofs.Cuts.{HasNoFeed, closed-append, closed-none, open-append, open-none}
+use Rattle.bk_ports.specs.Lines.{closed_lines, last_line, lines_of, open_line}
 use Rattle.bk_answer.specs.Item.{HasItem}
 use Rattle.bk_read_back.proofs.PrintedBytes.{IsPrinted, decimal_printed, joined_printed, no_feed}
 

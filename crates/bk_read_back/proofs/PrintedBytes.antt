@@ -14,7 +14,7 @@ use Rattle.bk_word.specs.Word.{Word}
 use Rattle.bk_word.specs.WordText.{letter, move_text, word_text}
 use Rattle.bk_word.specs.declared.Sign.{Sign}
 use Rattle.bk_word.specs.declared.Sign.TheVariants.{Above, Even, Under}
-use Rattle.bk_lines.proofs.Cuts.{HasNoFeed}
+use Rattle.bk_ports.proofs.Cuts.{HasNoFeed}
 
 -- all bytes are greater than a line feed
 abbrev pub IsPrinted : List ℕ → Type 0

@@ -11,8 +11,8 @@ use Rattle.bk_word.specs.declared.Class.{Class}
 use Rattle.bk_catalogue.specs.Catalogue.{Entry, IsEntry}
 use Rattle.bk_report.specs.Answers.{IsCheckLine}
 use Rattle.bk_report.specs.Listings.{entry_text}
-use Rattle.bk_lines.specs.Lines.{lines_of}
-use Rattle.bk_lines.specs.Reply.{AreReplies, Reply, some_refused, text_of}
+use Rattle.bk_ports.specs.Lines.{lines_of}
+use Rattle.bk_ports.specs.Reply.{AreReplies, Reply, some_refused, text_of}
 use Rattle.bk_answer.specs.Answer.{AnswersLine}
 use Rattle.bk_answer.specs.Item.{HasItem, IsStatedBy}
 use Rattle.bk_answer.specs.declared.command.CodeCommand.TheVariants.{Check}

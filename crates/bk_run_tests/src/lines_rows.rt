@@ -3,8 +3,10 @@
 ghost use Rattle.std.specs.Prelude.{◌<◌};
 
 use arrayvec::ArrayVec;
-use bk_lines::{Answerer, Ended, Outcome, Register, answer_lines, enter_lines};
-use bk_ports::{Failed, FillSource, MemSink, MemSource, Sink, Source};
+use bk_ports::{
+    Answerer, Ended, Failed, FillSource, MemSink, MemSource, Outcome, Register, Sink, Source,
+    answer_lines, enter_lines,
+};
 use std::process::Abort;
 
 // A line is answered by its length. One that begins with `!` is refused, and at one that begins with `?` memory is wanting.

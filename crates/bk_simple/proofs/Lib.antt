@@ -1,7 +1,6 @@
 pub mod SimpleLaws
 pub mod SimpleTest
 pub mod SimpleExamples
-pub mod LargeExamples
 pub mod Counting
 pub mod TwoParts
 pub mod UncutParts

@@ -19,7 +19,7 @@ use arrayvec::ArrayVec;
 use bk_tiling::{MOST_SQUARES, Square, Tiling};
 
 /// A rectangle within a tiling. Levels grow downwards.
-#[derive(Clone, Copy, Debug, PartialEq, Eq)]
+#[derive(Clone, Copy, PartialEq, Eq)]
 pub struct SubRect {
     /// The column of its left edge.
     pub x: u64,

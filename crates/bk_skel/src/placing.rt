@@ -27,7 +27,7 @@ use bk_word::Sign;
 pub(crate) type Numbers = ArrayVec<u8, MOST_SQUARES>;
 
 /// What is found of a word that is laid in room that is there.
-#[derive(Clone, Copy, Debug, PartialEq, Eq)]
+#[derive(Clone, Copy, PartialEq, Eq)]
 pub enum Realised {
     /// A tiling, which stands in the room.
     Found,

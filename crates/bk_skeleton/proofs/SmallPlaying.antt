@@ -1,32 +1,32 @@
 -- A small skeleton with a move played.
 use Rattle.std.specs.List.{splice}
-use Rattle.std.proofs.Common.{List, [], ap, arith, filter, length, slice_range, ℕ, ◌++◌, ◌+◌, ◌∙◌, ◌∷◌, ◌≡◌}
+use Rattle.std.proofs.Common.{List, [], ap, arith, count_by, filter, length, refl, slice_range, subst, sym, ℕ, ◌++◌, ◌+◌, ◌∙◌, ◌∷◌, ◌≡◌, ◌≤◌}
 use Rattle.bk_word.proofs.StoredBytes.{order_one}
-use Rattle.bk_word.specs.Play.{numbers_from, parts}
+use Rattle.bk_word.specs.Outline.{IsLegalMove}
+use Rattle.bk_word.specs.Play.{numbers_from, outline_of, parts}
 use Rattle.bk_word.specs.Word.{Move, Word, order_of}
 use Rattle.bk_word.specs.declared.Sign.{Sign}
-use Rattle.bk_skeleton.proofs.Playing.{Played, Playing, moves_shown, stored_played, stored_shown}
-use Rattle.bk_skeleton.specs.Skeleton.{IsStoredSkeleton, first_touched, moves_stored, open_sides, sizes_after}
+use Rattle.bk_skeleton.proofs.Playing.{Played, Playing, moves_shown, playing_within, stored_played, stored_shown}
+use Rattle.bk_skeleton.specs.Skeleton.{IsStoredSkeleton, first_touched, moves_stored, open_sides, sizes_after, turn_at, with_parted}
 use Rattle.bk_skeleton.specs.SmallSkeleton.{IsStoredSmall, StandsAt}
 use Rattle.bk_skeleton.specs.declared.turns.MoveRecord.{MoveRecord}
 
--- the lists are those after the move, as they are made from what is read of the skeleton and of the record
+-- the lists are those after the move, as they are made by the record and the signs that are read
 pub played_lists : {most : ℕ} {w : Word} {m : Move} {ends sizes : List ℕ} {signs : List Sign} {closed : List ℕ} {turns : List MoveRecord}
     {played : List Sign} {turn : MoveRecord} {new_ends new_sizes : List ℕ} {new_signs : List Sign} {new_closed : List ℕ}
-    {new_turns : List MoveRecord} {new_played : List Sign} {begin many number : ℕ} {valley : List ℕ} {moved : List Sign}
-    → Playing most w m ends sizes signs closed turns played turn
-    → begin ≡ turn.first → many ≡ turn.closed → number ≡ length ends + length closed + 1 → moved ≡ m.signs
-    → new_ends ≡ splice ends begin (begin + many) (numbers_from number m.count)
+    {new_turns : List MoveRecord} {new_played moved : List Sign}
+    → Playing most w m ends sizes signs closed turns played turn → moved ≡ m.signs
+    → new_ends ≡ splice ends turn.first (turn.first + turn.closed) (numbers_from (length ends + length closed + 1) turn.count)
     → new_sizes ≡ splice sizes (first_touched turn) (first_touched turn + (open_sides turn + 1)) (sizes_after turn moved)
     → new_signs ≡ splice signs (first_touched turn) (first_touched turn + open_sides turn) (filter parts moved)
-    → valley ≡ slice_range ends begin (begin + many) → new_closed ≡ closed ++ valley
+    → new_closed ≡ closed ++ slice_range ends turn.first (turn.first + turn.closed)
     → new_turns ≡ turns ++ turn ∷ [] → new_played ≡ played ++ m.signs
     → Played m ends sizes signs closed turns played turn new_ends new_sizes new_signs new_closed new_turns new_played
-played_lists {m = m} {ends = ends} {sizes = sizes} {signs = signs} {closed = closed} {turn = turn} p at all next own e f g cut h j k = record {
-  ends_new = e ∙ (λ i. splice ends (at i) (at i + all i) (numbers_from (next i) m.count));
+played_lists {ends = ends} {sizes = sizes} {signs = signs} {closed = closed} {turn = turn} p own e f g h j k = record {
+  ends_new = e ∙ (λ i. splice ends turn.first (turn.first + turn.closed) (numbers_from (length ends + length closed + 1) ((p.turn_is) i).count));
   sizes_new = f ∙ (λ i. splice sizes (first_touched turn) (first_touched turn + (open_sides turn + 1)) (sizes_after turn (own i)));
   signs_new = g ∙ (λ i. splice signs (first_touched turn) (first_touched turn + open_sides turn) (filter parts (own i)));
-  closed_new = h ∙ ap (λ (l : List ℕ). closed ++ l) (cut ∙ (λ i. slice_range ends (at i) (at i + all i)));
+  closed_new = h;
   turns_new = j;
   played_new = k;
 }
@@ -48,3 +48,14 @@ small_played {w = w} {m = m} {new_ends = new_ends} {new_sizes = new_sizes} {new_
   where
     later : IsStoredSkeleton (w ++ m ∷ []) new_ends new_sizes new_signs new_closed new_turns new_played
     later = stored_played s.stored p n
+
+-- what is known of a small skeleton where a legal move is played, as its record is made
+pub small_playing : {w now : Word} {ends sizes : List ℕ} {signs : List Sign} {closed : List ℕ} {turns : List MoveRecord} {played : List Sign}
+    {place first count : ℕ} {moved : List Sign} {m : Move} {from : ℕ} (turn : MoveRecord)
+    → IsStoredSmall w ends sizes signs closed turns played place first → w ≡ now → record { count = count; signs = moved } ≡ m
+    → IsLegalMove (outline_of now) m → order_of now + m.count ≤ 16
+    → with_parted turn (count_by parts m.signs) ≡ turn_at sizes signs m from → from ≡ length played
+    → Playing 16 w (record { count = count; signs = moved }) ends sizes signs closed turns played (with_parted turn (count_by parts moved))
+small_playing {sizes = sizes} {signs = signs} {from = from} turn s e f legal few g h =
+    playing_within 16 (omega arith) s.stored e f legal few
+    (subst (λ (m : Move). with_parted turn (count_by parts m.signs) ≡ turn_at sizes signs m from) (sym f) g) refl refl refl h

@@ -5,10 +5,10 @@
 //! The closed squares stand in the order of closing, so that a move's are the last ones when it is taken back. Each list is
 //! as long as what is used of it, and nothing is copied but what stands right of the valley.
 
-ghost use Rattle.std.specs.List.{concat};
-ghost use Rattle.std.specs.Prelude.{IsTrue, Some, [], length, slice_get, take, ◌+◌, ◌++◌, ◌-◌, ◌<◌, ◌∷◌, ◌≡◌, ◌≤◌, ◌↔◌};
+ghost use Rattle.std.specs.List.{concat, splice};
+ghost use Rattle.std.specs.Prelude.{IsTrue, Some, [], length, slice_get, slice_range, take, ◌+◌, ◌++◌, ◌-◌, ◌<◌, ◌∷◌, ◌≡◌, ◌≤◌, ◌↔◌};
 ghost use Rattle.bk_word.specs.Outline.{IsLegalMove, has_left_wall, has_right_wall, open_side, sizes_of, valley_of};
-ghost use Rattle.bk_word.specs.Play.{IsComplete, outline_of};
+ghost use Rattle.bk_word.specs.Play.{IsComplete, numbers_from, outline_of};
 ghost use Rattle.bk_word.specs.Word.{Move as SeenMove, order_of};
 ghost use Rattle.bk_skeleton.specs.Valley.{IsKeptSkeleton, leftmost_valley};
 ghost use Rattle.bk_skeleton.specs.Skeleton.{signs_of};
@@ -136,11 +136,7 @@ impl Skel {
             &m.signs,
             self.played.len(),
         );
-        let number = (self.ends.len() + self.closed.len() + 1) as u8;
-        let first = usize::from(turn.first);
-        let end = first + usize::from(turn.closed);
-        append(&mut self.closed, &self.ends[first..end]);
-        splice_numbers(&mut self.ends, first, end, number, m.count);
+        close_and_hang(&mut self.ends, &mut self.closed, &turn);
         apply_signs(&mut self.sizes, &mut self.signs, &turn, &m.signs);
         append(&mut self.played, &m.signs);
         self.turns.push(turn);
@@ -319,6 +315,26 @@ pub fn open_side(wall: bool) -> usize
     ensures { result ≡ open_side wall }
 {
     if wall { 0 } else { 1 }
+}
+
+// Closes the valley's squares, and hangs those of the move in their place.
+#[inline(always)]
+fn close_and_hang(
+    ends: &mut ArrayVec<u8, LARGEST_ORDER>,
+    closed: &mut ArrayVec<u8, LARGEST_ORDER>,
+    turn: &MoveRecord,
+)
+    requires within { turn.now.first + turn.now.closed ≤ length ends.old.items }
+    requires few { length ends.old.items + length closed.old.items + turn.now.count ≤ 200 }
+    ensures ends { ends.new.items ≡ splice ends.old.items turn.now.first (turn.now.first + turn.now.closed)
+        (numbers_from (length ends.old.items + length closed.old.items + 1) turn.now.count) }
+    ensures closed { closed.new.items ≡ closed.old.items ++ slice_range ends.old.items turn.now.first (turn.now.first + turn.now.closed) }
+{
+    let number = (ends.len() + closed.len() + 1) as u8;
+    let first = usize::from(turn.first);
+    let end = first + usize::from(turn.closed);
+    append(closed, &ends[first..end]);
+    splice_numbers(ends, first, end, number, turn.count);
 }
 
 // Takes the last record off.

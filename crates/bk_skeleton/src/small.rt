@@ -4,13 +4,13 @@
 //! copied; then the move is taken back by that copy, and what the moves appended is cut off again.
 
 ghost use Rattle.std.specs.List.{concat, splice};
-ghost use Rattle.std.specs.Prelude.{IsTrue, [], count_by, filter, length, take, ◌+◌, ◌++◌, ◌-◌, ◌<◌, ◌∷◌, ◌≡◌, ◌≤◌, ◌↔◌};
+ghost use Rattle.std.specs.Prelude.{IsTrue, [], count_by, filter, length, slice_range, sum, take, ◌+◌, ◌++◌, ◌-◌, ◌<◌, ◌∷◌, ◌≡◌, ◌≤◌, ◌↔◌};
 ghost use Rattle.bk_word.specs.Outline.{IsLegalMove, has_left_wall, has_right_wall, sizes_of, valley_of};
 ghost use Rattle.bk_word.specs.Play.{IsComplete, numbers_from, outline_of, parts};
 ghost use Rattle.bk_word.specs.Word.{order_of};
 ghost use Rattle.bk_word_net.specs.WordNet.{net_of_word};
-ghost use Rattle.bk_skeleton.specs.Skeleton.{first_touched, joined_sizes, open_sides, sizes_after};
-ghost use Rattle.bk_skeleton.specs.SmallSkeleton.{IsOutlineOf, IsValley};
+ghost use Rattle.bk_skeleton.specs.Skeleton.{first_touched, joined_sizes, open_sides, sizes_after, turn_at, with_parted};
+ghost use Rattle.bk_skeleton.specs.SmallSkeleton.{IsOutlineOf, IsValley, StandsAt};
 ghost use Rattle.bk_skeleton.specs.Valley.{IsKeptSkeleton};
 
 use crate::netting::{end_nodes, wired};
@@ -163,20 +163,8 @@ impl SmallSkel {
         requires few { order_of self.old + m.now.count ≤ 16 }
         ensures { self.new ≡ self.old ++ m.now ∷ [] }
     {
-        let mut turn = turn_at_valley(
-            self.open.sizes.as_slice(),
-            self.open.signs.as_slice(),
-            (usize::from(self.open.place), usize::from(self.open.first)),
-            m.count,
-            m.signs.len(),
-            self.played.len(),
-        );
-        let number = (self.open.ends.len() + self.closed.len() + 1) as u8;
-        let first = usize::from(turn.first);
-        let end = first + usize::from(turn.closed);
-        let valley: Short<u8, INLINE_ORDER> = self.open.ends.part(first, end);
-        self.closed.append(&valley);
-        hang(&mut self.open.ends, first, end, number, m.count);
+        let mut turn = turn_in(&self.open, m, self.played.len());
+        close_and_hang(&mut self.open.ends, &mut self.closed, &turn);
         turn.parted = part_and_join(
             &mut self.open.sizes,
             &mut self.open.signs,
@@ -185,9 +173,9 @@ impl SmallSkel {
         );
         self.played.append(&m.signs);
         self.turns.push(turn);
-        let (place, first) = leftmost(self.open.sizes.as_slice(), self.open.signs.as_slice());
-        self.open.place = place as u8;
-        self.open.first = first as u8;
+        let (place, first) = find_valley(&self.open);
+        self.open.place = place;
+        self.open.first = first;
     }
 
     /// Where the leftmost valley stands.
@@ -284,6 +272,54 @@ pub fn small_net(skel: &SmallSkel) -> Net
     let ended = end_nodes(skel.turns.as_slice(), skel.closed.as_slice());
     let order = skel.open.ends.len() + skel.closed.len();
     wired(skel.turns.as_slice(), &ended[..order])
+}
+
+// The record of a move where these segments are open, but for how many of the move's signs stay between two segments. So many signs of
+// earlier moves are kept.
+#[inline(always)]
+fn turn_in(open: &Open, m: &SmallMove, from: usize) -> MoveRecord
+    requires many { length open.now.sizes.items ≡ length open.now.signs.items + 1 }
+    requires stands { StandsAt open.now.sizes.items open.now.signs.items open.now.place open.now.first }
+    requires first { open.now.first ≤ 200 }
+    requires from { from ≤ 400 }
+    ensures { with_parted result (count_by parts m.now.signs) ≡ turn_at open.now.sizes.items open.now.signs.items m.now from }
+{
+    turn_at_valley(
+        open.sizes.as_slice(),
+        open.signs.as_slice(),
+        (usize::from(open.place), usize::from(open.first)),
+        m.count,
+        m.signs.len(),
+        from,
+    )
+}
+
+// Closes the valley's squares, and hangs those of the move in their place.
+#[inline(always)]
+fn close_and_hang(ends: &mut Short<u8, ROOM>, closed: &mut Short<u8, ROOM>, turn: &MoveRecord)
+    requires within { turn.now.first + turn.now.closed ≤ length ends.old.items }
+    requires few { length ends.old.items + length closed.old.items + turn.now.count ≤ 16 }
+    ensures ends { ends.new.items ≡ splice ends.old.items turn.now.first (turn.now.first + turn.now.closed)
+        (numbers_from (length ends.old.items + length closed.old.items + 1) turn.now.count) }
+    ensures closed { closed.new.items ≡ closed.old.items ++ slice_range ends.old.items turn.now.first (turn.now.first + turn.now.closed) }
+{
+    let number = (ends.len() + closed.len() + 1) as u8;
+    let first = usize::from(turn.first);
+    let end = first + usize::from(turn.closed);
+    let valley: Short<u8, INLINE_ORDER> = ends.part(first, end);
+    closed.append(&valley);
+    hang(ends, first, end, number, turn.count);
+}
+
+// Where the leftmost of the valleys stands: how many segments stand at its left, and how many squares these have.
+#[inline(always)]
+fn find_valley(open: &Open) -> (u8, u8)
+    requires many { length open.now.sizes.items ≡ length open.now.signs.items + 1 }
+    requires small { sum open.now.sizes.items ≤ 200 }
+    ensures { StandsAt open.now.sizes.items open.now.signs.items result.0 result.1 }
+{
+    let (place, first) = leftmost(open.sizes.as_slice(), open.signs.as_slice());
+    (place as u8, first as u8)
 }
 
 // Puts so many numbers, from a first one on, in the place of the open squares from one place up to another.

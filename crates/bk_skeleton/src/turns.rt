@@ -10,7 +10,7 @@ use bk_word::Sign;
 
 /// What is kept of a move: where its valley stood, what stood there and beside it, what was hung, and which of the signs
 /// of all moves are its own. (Own.)
-#[derive(Clone, Copy, Debug, Default, PartialEq, Eq, Drop)]
+#[derive(Clone, Copy, Default, Drop)]
 pub struct MoveRecord {
     /// How many open segments stood at the valley's left.
     pub place: u8,

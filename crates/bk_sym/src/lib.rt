@@ -19,7 +19,7 @@ use bk_tiling::{MOST_SQUARES, Square, Tiling};
 use std::cmp::Ordering;
 
 /// A turn or a mirror of a rectangle.
-#[derive(Clone, Copy, Debug, PartialEq, Eq, Drop)]
+#[derive(Clone, Copy, PartialEq, Eq, Drop)]
 pub enum Turn {
     /// As it is.
     Same,

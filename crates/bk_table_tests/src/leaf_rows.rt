@@ -1,6 +1,6 @@
-//! Rows of `bk_free_leaf`.
+//! Rows of `bk_found`.
 
-use bk_free_leaf::{Ties, leaf};
+use bk_found::{Ties, leaf};
 use bk_free_search::Board;
 use bk_short::Short;
 use bk_skeleton::SmallMove;

@@ -1,7 +1,7 @@
 //! Tables of members, beside the members that a plain walk finds.
 
 use crate::plain_walk::{Member, members, number_of};
-use bk_member_table::MemberTable;
+use bk_walk::MemberTable;
 use bk_word::{Class, read_word};
 use std::alloc::{AllocError, Global};
 use std::process::Abort;

@@ -6,13 +6,13 @@
 //! square asks for two.
 
 use arrayvec::ArrayVec;
+use bk_catalogue::{closing_bound, single_valleys};
+use bk_found::Packed;
 use bk_lay::word_of;
-use bk_packed::Packed;
 use bk_simple::{part, repeated};
 use bk_skel::{realise_small, skeleton_of};
 use bk_skeleton::{Skel, open_side};
 use bk_sym::is_canonical;
-use bk_walk_cuts::{closing_bound, single_valleys};
 use bk_word::{Class, Move, Sign, Word};
 use std::alloc::{AllocError, Global};
 use std::process::Abort;

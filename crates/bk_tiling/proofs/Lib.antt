@@ -7,7 +7,6 @@ pub mod OrderLaws
 pub mod ExampleTilings
 pub mod TilingExamples
 pub mod ColumnExamples
-pub mod LargeExamples
 pub mod Members
 pub mod Scaling
 pub mod Rows

@@ -4,13 +4,13 @@ use Rattle.std.specs.Io.KnownBytes.{Appends}
 use Rattle.std.proofs.KnownBytes.{Appends-trans}
 use Rattle.std.proofs.Common.{Bool, List, [], arith, false, inl, inr, subst, sym, true, ℕ, ◌++◌, ◌≡◌, ◌⊎◌}
 use Rattle.bk_ports.proofs.KnownSteps.{prefix_after}
-use Rattle.bk_lines.proofs.OtherOutputs.{IsStop, broken_behind, whole_behind}
-use Rattle.bk_lines.specs.Ending.{EndsWith, IsBrokenBehind, IsWhole, Output, Streams}
-use Rattle.bk_lines.specs.Entering.{AreAllEntered, entries_of}
-use Rattle.bk_lines.specs.Reply.{text_of}
-use Rattle.bk_lines.specs.Faults.{CountsTell, Faults}
-use Rattle.bk_lines.specs.declared.Ended.{Ended}
-use Rattle.bk_lines.specs.declared.Ended.TheVariants.{NoMemory, NoneRefused, ReadFailed, SomeRefused, TooMany, WriteFailed}
+use Rattle.bk_ports.proofs.OtherOutputs.{IsStop, broken_behind, whole_behind}
+use Rattle.bk_ports.specs.Ending.{EndsWith, IsBrokenBehind, IsWhole, Output, Streams}
+use Rattle.bk_ports.specs.Entering.{AreAllEntered, entries_of}
+use Rattle.bk_ports.specs.Reply.{text_of}
+use Rattle.bk_ports.specs.Faults.{CountsTell, Faults}
+use Rattle.bk_ports.specs.declared.Ended.{Ended}
+use Rattle.bk_ports.specs.declared.Ended.TheVariants.{NoMemory, NoneRefused, ReadFailed, SomeRefused, TooMany, WriteFailed}
 use Rattle.bk_told.proofs.BehindLines.{all_missing, first_missing}
 use Rattle.bk_told.proofs.EndingAtLines.{at_first}
 use Rattle.bk_told.proofs.Following.{AreFollowed, followed}

@@ -3,12 +3,12 @@ use Rattle.std.specs.Prelude.{take}
 use Rattle.std.specs.Io.KnownBytes.{Appends}
 use Rattle.std.proofs.Common.{Bool, List, Option, [], length, refl, subst, ℕ, ◌+◌, ◌++◌}
 use Rattle.std.proofs.Common.{◌∷◌, ◌≡◌}
-use Rattle.bk_lines.proofs.OtherOutputs.{IsStop, stops_as}
-use Rattle.bk_lines.specs.Ending.{EndsWith, Streams}
-use Rattle.bk_lines.specs.Entering.{AreAllEntered, IsEntryBegun, IsEntryWanting, entries_of}
-use Rattle.bk_lines.specs.Lines.{kept_front}
-use Rattle.bk_lines.specs.Reply.{text_of}
-use Rattle.bk_lines.specs.declared.Ended.{Ended}
+use Rattle.bk_ports.proofs.OtherOutputs.{IsStop, stops_as}
+use Rattle.bk_ports.specs.Ending.{EndsWith, Streams}
+use Rattle.bk_ports.specs.Entering.{AreAllEntered, IsEntryBegun, IsEntryWanting, entries_of}
+use Rattle.bk_ports.specs.Lines.{kept_front}
+use Rattle.bk_ports.specs.Reply.{text_of}
+use Rattle.bk_ports.specs.declared.Ended.{Ended}
 use Rattle.bk_word.specs.declared.Class.TheVariants.{Perfect}
 use Rattle.bk_catalogue.specs.Catalogue.{IsMember}
 use Rattle.bk_told.proofs.Firsts.{a_verifier_tells_the_truth}

@@ -4,7 +4,7 @@ use Rattle.std.specs.Io.KnownBytes.{Appends}
 use Rattle.std.proofs.KnownBytes.{Appends-nil}
 use Rattle.std.proofs.Common.{Bool, List, [], append-nil, subst, sym, ℕ, ◌∙◌, ◌∷◌, ◌≡◌}
 use Rattle.bk_ports.specs.Causes.{AppendsPrefix}
-use Rattle.bk_lines.specs.Answer.{IsBegun, IsWritten}
+use Rattle.bk_ports.specs.Answer.{IsBegun, IsWritten}
 use Rattle.bk_told.specs.Entering.{EntersLine}
 use Rattle.bk_told.specs.declared.entering.Verifying.{Verifying}
 

@@ -6,9 +6,9 @@ use Rattle.std.proofs.lemmas.List.Sums.{sum_by-cons}
 use Rattle.bk_laws.proofs.AllOfLists.{all_append}
 use Rattle.bk_tiling.specs.Tiling.{IsTiling, Tiling}
 use Rattle.bk_text.specs.CodeLine.{Skip}
-use Rattle.bk_lines.specs.Entering.{AreEntered}
-use Rattle.bk_lines.specs.Lines.{kept_front}
-use Rattle.bk_lines.specs.Reply.{Reply, text_of}
+use Rattle.bk_ports.specs.Entering.{AreEntered}
+use Rattle.bk_ports.specs.Lines.{kept_front}
+use Rattle.bk_ports.specs.Reply.{Reply, text_of}
 use Rattle.bk_report.specs.declared.refusal.Refused.{Refused}
 use Rattle.bk_answer.proofs.OneAnswer.{cause_of, is_tiling, not_refused, skip_not_stated}
 use Rattle.bk_answer.specs.Item.{HasItem, HasTiling}

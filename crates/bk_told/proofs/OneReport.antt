@@ -7,7 +7,7 @@ use Rattle.bk_sym.specs.Canonical.{IsCanonicalOf}
 use Rattle.bk_text.specs.CodeLine.{Skip}
 use Rattle.bk_word.specs.declared.Class.TheVariants.{Perfect}
 use Rattle.bk_catalogue.specs.Catalogue.{Entry, IsEntry}
-use Rattle.bk_lines.specs.Lines.{kept_front}
+use Rattle.bk_ports.specs.Lines.{kept_front}
 use Rattle.bk_report.specs.declared.refusal.Refused.{Refused}
 use Rattle.bk_answer.proofs.OneAnswer.{cause_of, is_tiling, not_refused, one_line_cause, same_tiling, skip_not_refused, skip_not_stated}
 use Rattle.bk_answer.specs.Item.{HasItem}

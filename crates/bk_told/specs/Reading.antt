@@ -1,8 +1,8 @@
 -- A list whose lines were all read and entered, from the start.
 -- Example (VerifyingExamples): of an input without a byte, which is at its end, nothing is written, and what is kept is what there was at the start.
 use Rattle.std.specs.Prelude.{Bool, ℕ}
-use Rattle.bk_lines.specs.Ending.{IsWhole, Streams}
-use Rattle.bk_lines.specs.Entering.{Entering, entries_of}
+use Rattle.bk_ports.specs.Ending.{IsWhole, Streams}
+use Rattle.bk_ports.specs.Entering.{Entering, entries_of}
 use Rattle.bk_told.specs.Entering.{EntersLine, MayWantAt, none_entered}
 use Rattle.bk_told.specs.declared.entering.Verifying.{Verifying}
 

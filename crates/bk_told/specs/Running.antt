@@ -4,8 +4,8 @@
 use Rattle.std.specs.Prelude.{Bool, List, Option, [], false, length, true, ℕ, ◌+◌, ◌++◌, ◌<◌, ◌∷◌, ◌≡◌, ◌⊎◌}
 use Rattle.std.specs.Io.KnownBytes.{Appends}
 use Rattle.bk_ports.specs.Causes.{AppendsPrefix}
-use Rattle.bk_lines.specs.Ending.{Output}
-use Rattle.bk_lines.specs.Lines.{kept_front}
+use Rattle.bk_ports.specs.Ending.{Output}
+use Rattle.bk_ports.specs.Lines.{kept_front}
 use Rattle.bk_told.specs.Verify.{Accepted, IsNew}
 use Rattle.bk_told.specs.Report.{BeginsReport, Counts, IsReport, faults}
 use Rattle.bk_told.specs.Told.{AreEntries, AreTold, HasEntry, IsToldOf, Told, texts_from}

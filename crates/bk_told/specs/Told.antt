@@ -3,7 +3,7 @@
 use Rattle.std.specs.Prelude.{Bool, List, [], false, true, ℕ, ⊤, ◌+◌, ◌++◌, ◌∷◌, ◌⊎◌}
 use Rattle.bk_tiling.specs.Tiling.{Tiling}
 use Rattle.bk_text.specs.CodeLine.{Skip}
-use Rattle.bk_lines.specs.Lines.{kept_front}
+use Rattle.bk_ports.specs.Lines.{kept_front}
 use Rattle.bk_report.specs.ListLines.{foreign_line, refused_line, repeats_line}
 use Rattle.bk_report.specs.declared.refusal.Refused.{Refused}
 use Rattle.bk_answer.specs.Item.{HasItem, HasTiling}

@@ -1,15 +1,14 @@
 //! The lines of a list, entered one after another.
 
 ghost use Rattle.std.specs.Prelude.{IfOk, List, OnErr, OnOk, ◌+◌, ◌^◌, ◌≡◌, ◌≤◌};
-ghost use Rattle.bk_lines.specs.Answer.{HasOutcome, IsBegun};
+ghost use Rattle.bk_ports.specs.Answer.{HasOutcome, IsBegun};
 ghost use Rattle.bk_ports.specs.Causes.{HasCause};
 ghost use Rattle.bk_answer.specs.Item.{HasTiling};
 
 use crate::{Entries, Fed, NoMemory};
 use bk_answer::{Desk, lay_line};
 use bk_grammar::AnswerBuffer;
-use bk_lines::{Outcome, Register};
-use bk_ports::{Failed, Sink};
+use bk_ports::{Failed, Outcome, Register, Sink};
 use bk_report::{write_foreign, write_line_refused, write_repeats};
 use bk_tiling::Tiling;
 use std::alloc::Global;

@@ -1,14 +1,13 @@
 //! The lines of a whole list.
 
 ghost use Rattle.std.specs.Prelude.{IfErr, IfOk, OnOk, ◌≡◌, ◌≤◌};
-ghost use Rattle.bk_lines.specs.Ending.{EndsWith};
-ghost use Rattle.bk_lines.specs.Faults.{CountsTell, IsCalm, IsDoneOrWanting};
+ghost use Rattle.bk_ports.specs.Ending.{EndsWith};
+ghost use Rattle.bk_ports.specs.Faults.{CountsTell, IsCalm, IsDoneOrWanting};
 ghost use Rattle.bk_told.specs.Reading.{IsListRead};
 ghost use Rattle.bk_told.specs.Running.{report_of};
 
 use crate::entering::{VerifyRegister, Verifying};
-use bk_lines::{Ended, enter_lines};
-use bk_ports::{Sink, Source};
+use bk_ports::{Ended, Sink, Source, enter_lines};
 use std::alloc::Global;
 
 /// Holds the codes on the lines of the source against the perfect catalogue of an order, which is 2 to 16, and writes in order

@@ -1,15 +1,15 @@
 -- The runs of the commands that answer lines: the lines decide the status.
 use Rattle.std.proofs.Common.{ℕ, ◌≡◌, ◌⊎◌}
 use Rattle.std.specs.Prelude.{List, Some}
-use Rattle.bk_lines.proofs.Deciding.{HasOneReply, refused_none, refused_some, wanting_line}
-use Rattle.bk_lines.proofs.OtherReplies.{ends_within}
-use Rattle.bk_lines.specs.Answered.{answers_of, of_fronts}
-use Rattle.bk_lines.specs.Deciding.{HasRefused}
-use Rattle.bk_lines.specs.Ending.{EndsWith}
-use Rattle.bk_lines.specs.Faults.{CountsTell}
-use Rattle.bk_lines.specs.Lines.{lines_of}
-use Rattle.bk_lines.specs.declared.Ended.{Ended}
-use Rattle.bk_lines.specs.declared.Ended.TheVariants.{NoMemory, NoneRefused, SomeRefused}
+use Rattle.bk_ports.proofs.Deciding.{HasOneReply, refused_none, refused_some, wanting_line}
+use Rattle.bk_ports.proofs.OtherReplies.{ends_within}
+use Rattle.bk_ports.specs.Answered.{answers_of, of_fronts}
+use Rattle.bk_ports.specs.Deciding.{HasRefused}
+use Rattle.bk_ports.specs.Ending.{EndsWith}
+use Rattle.bk_ports.specs.Faults.{CountsTell}
+use Rattle.bk_ports.specs.Lines.{lines_of}
+use Rattle.bk_ports.specs.declared.Ended.{Ended}
+use Rattle.bk_ports.specs.declared.Ended.TheVariants.{NoMemory, NoneRefused, SomeRefused}
 use Rattle.bk_answer.proofs.CheckedLines.{a_reply, wants_whole}
 use Rattle.bk_answer.proofs.OneAnswer.{one_answer}
 use Rattle.bk_answer.specs.Answer.{AnswersLine, MayWant}

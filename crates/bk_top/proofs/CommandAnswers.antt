@@ -2,9 +2,9 @@
 use Rattle.std.proofs.Common.{subst, ◌≡◌}
 use Rattle.bk_answer.specs.Answer.{AnswersLine, MayWant}
 use Rattle.bk_answer.specs.declared.command.Command.{Command}
-use Rattle.bk_lines.specs.Answered.{answers_of, of_fronts}
-use Rattle.bk_lines.specs.Ending.{EndsWith, Streams}
-use Rattle.bk_lines.specs.declared.Ended.{Ended}
+use Rattle.bk_ports.specs.Answered.{answers_of, of_fronts}
+use Rattle.bk_ports.specs.Ending.{EndsWith, Streams}
+use Rattle.bk_ports.specs.declared.Ended.{Ended}
 
 -- a run that ends as one of the same command does
 pub ends_as_named : (command other : Command) (streams : Streams) (ended : Ended) → other ≡ command

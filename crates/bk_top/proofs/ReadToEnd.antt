@@ -1,8 +1,8 @@
 -- Runs that read lines to their end and then write what they found: `verify`, `alike` and `pair`.
 use Rattle.std.proofs.Common.{List, Some, subst, sym, ℕ, ◌≡◌}
-use Rattle.bk_lines.proofs.TakenBytes.{taken_all}
-use Rattle.bk_lines.specs.Lines.{lines_of}
-use Rattle.bk_lines.specs.declared.Ended.TheVariants.{NoneRefused, SomeRefused}
+use Rattle.bk_ports.proofs.TakenBytes.{taken_all}
+use Rattle.bk_ports.specs.Lines.{lines_of}
+use Rattle.bk_ports.specs.declared.Ended.TheVariants.{NoneRefused, SomeRefused}
 use Rattle.bk_group_run.proofs.OneListing.{none_refused}
 use Rattle.bk_group_run.specs.Closing.{listing_of}
 use Rattle.bk_group_run.specs.Listed.{HasRefusedLine}

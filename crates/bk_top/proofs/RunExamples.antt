@@ -5,7 +5,7 @@ use Rattle.bk_word.specs.declared.Class.TheVariants.{Imperfect}
 use Rattle.bk_answer.specs.declared.command.CodeCommand.TheVariants as codes_of
 use Rattle.bk_answer.specs.declared.command.Command.TheVariants.{OfCodes}
 use Rattle.bk_ask.specs.declared.Ask.TheVariants as asks
-use Rattle.bk_lines.specs.declared.Ended.TheVariants.{NoneRefused, TooMany}
+use Rattle.bk_ports.specs.declared.Ended.TheVariants.{NoneRefused, TooMany}
 use Rattle.bk_list.proofs.ListingExamples.{whole_catalogue}
 use Rattle.bk_top.proofs.AnsweredLines.{answers_lines}
 use Rattle.bk_top.specs.Deciding.{IsDecided}

@@ -1,13 +1,13 @@
 -- The status of a run says how it ended.
 use Rattle.std.proofs.Common.{ap, arith, cond, false, inl, inr, subst, refl, sym, true, ℕ, ◌==◌, ◌∙◌, ◌≡◌, ◌⊎◌}
 use Rattle.std.specs.Prelude.{List, Option, Some, length, ◌<◌, ◌^◌, ◌↔◌, ◌≤◌, IsSomeAnd}
-use Rattle.bk_lines.proofs.CountedFaults.{calm_is_done}
-use Rattle.bk_lines.proofs.TakenBytes.{TookBy, ends_took, more_come, too_many_exactly}
-use Rattle.bk_lines.specs.Deciding.{TookTooMany}
-use Rattle.bk_lines.specs.Ending.{EndsWith, Output, Streams}
-use Rattle.bk_lines.specs.Faults.{CountsTell, Faults, HasNoFault, IsCalm, IsDoneOrWanting}
-use Rattle.bk_lines.specs.declared.Ended.{Ended}
-use Rattle.bk_lines.specs.declared.Ended.TheVariants.{NoMemory, NoneRefused, ReadFailed, SomeRefused, TooMany, WriteFailed}
+use Rattle.bk_ports.proofs.CountedFaults.{calm_is_done}
+use Rattle.bk_ports.proofs.TakenBytes.{TookBy, ends_took, more_come, too_many_exactly}
+use Rattle.bk_ports.specs.Deciding.{TookTooMany}
+use Rattle.bk_ports.specs.Ending.{EndsWith, Output, Streams}
+use Rattle.bk_ports.specs.Faults.{CountsTell, Faults, HasNoFault, IsCalm, IsDoneOrWanting}
+use Rattle.bk_ports.specs.declared.Ended.{Ended}
+use Rattle.bk_ports.specs.declared.Ended.TheVariants.{NoMemory, NoneRefused, ReadFailed, SomeRefused, TooMany, WriteFailed}
 use Rattle.bk_top.specs.Outside.{Outside, faults_of, status_of}
 use Rattle.bk_top.specs.ReadsToEnd.{ReadsToEnd}
 

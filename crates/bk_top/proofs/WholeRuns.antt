@@ -3,10 +3,10 @@ use Rattle.std.specs.Option.{MatchOption}
 use Rattle.std.proofs.Common.{List, ap, arith, inl, inr, map, refl, subst, sym, ℕ, ◌∙◌, ◌≡◌, ◌⊎◌}
 use Rattle.std.specs.Prelude.{None, Option, Some, String, string_bytes}
 use Rattle.std.specs.declared.alloc.Global.{Global}
-use Rattle.bk_lines.specs.Answered.{answers_of, of_fronts}
-use Rattle.bk_lines.specs.Ending.{EndsWith, Output, Streams}
-use Rattle.bk_lines.specs.Faults.{CountsTell, Faults}
-use Rattle.bk_lines.specs.declared.Ended.{Ended}
+use Rattle.bk_ports.specs.Answered.{answers_of, of_fronts}
+use Rattle.bk_ports.specs.Ending.{EndsWith, Output, Streams}
+use Rattle.bk_ports.specs.Faults.{CountsTell, Faults}
+use Rattle.bk_ports.specs.declared.Ended.{Ended}
 use Rattle.bk_answer.specs.Answer.{AnswersLine, MayWant}
 use Rattle.bk_answer.specs.declared.command.Command.{Command}
 use Rattle.bk_ask.proofs.OneAsk.{one_ask}
@@ -154,7 +154,7 @@ pair_reads words kind wanted none = none (asks.Pair kind) wanted
 pub verify_reads : (words : List (String Global)) (n : ℕ) → WordsAsk words (asks.Verify n) → AsksNoLines words → ⊥
 verify_reads words n wanted none = none (asks.Verify n) wanted
 
--- what answers no lines is asked by no command
+-- who asks for one of these asks for no command that answers lines
 pub none_asked : (ask : Ask)
     → ((n : ℕ) × (class : Class) × (from : Option Word) × (limit : Option ℕ) × (ask ≡ asks.List n class from limit))
     ⊎ (((seed : ℕ) × (count : ℕ) × (ask ≡ asks.Trial seed count))

@@ -2,8 +2,8 @@
 -- has status 1, since the second is refused; `flow` of a net of 17 wires has status 0, or 6 where memory is wanting.
 -- Example (RunExamples): of no lines the status is 0.
 use Rattle.std.specs.Prelude.{List, ℕ, ◌≡◌, ◌≢◌, ◌⊎◌, ◌↔◌}
-use Rattle.bk_lines.specs.Deciding.{HasRefused, HasWanting}
-use Rattle.bk_lines.specs.Answered.{Replies}
+use Rattle.bk_ports.specs.Deciding.{HasRefused, HasWanting}
+use Rattle.bk_ports.specs.Answered.{Replies}
 use Rattle.bk_answer.specs.Answer.{MayWant}
 use Rattle.bk_answer.specs.Checked.{IsReplyTo}
 use Rattle.bk_answer.specs.declared.command.Command.{Command}

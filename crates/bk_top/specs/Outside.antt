@@ -1,10 +1,10 @@
 -- What stands outside a run: the source that it reads, `out` and `err`. And the status for each ending of a run over lines.
 -- Example (RunExamples): a run that took more than 2^30 bytes has status 7.
 use Rattle.std.specs.Prelude.{List, Option, ℕ}
-use Rattle.bk_lines.specs.Ending.{Streams}
-use Rattle.bk_lines.specs.Faults.{Faults}
-use Rattle.bk_lines.specs.declared.Ended.{Ended}
-use Rattle.bk_lines.specs.declared.Ended.TheVariants.{NoMemory, NoneRefused, ReadFailed, SomeRefused, TooMany, WriteFailed}
+use Rattle.bk_ports.specs.Ending.{Streams}
+use Rattle.bk_ports.specs.Faults.{Faults}
+use Rattle.bk_ports.specs.declared.Ended.{Ended}
+use Rattle.bk_ports.specs.declared.Ended.TheVariants.{NoMemory, NoneRefused, ReadFailed, SomeRefused, TooMany, WriteFailed}
 
 -- the bytes that the source has left, that `out` has taken and that `err` has taken, where they tell them, and each one's count of
 -- faults

@@ -1,12 +1,12 @@
 -- Runs that read lines to the end of their input: those of the commands that answer lines, and of `verify`, `alike` and `pair`.
 -- Example (RunExamples): of `check` and an input without bytes the status is 0, and nothing is written.
 use Rattle.std.specs.Prelude.{List, Some, length, ℕ, ◌<◌, ◌^◌, ◌≡◌, ◌≢◌, ◌≤◌, ◌⊎◌, ◌↔◌}
-use Rattle.bk_lines.specs.Answered.{answers_of}
-use Rattle.bk_lines.specs.Deciding.{TookTooMany}
-use Rattle.bk_lines.specs.Ending.{EndsWith, Output, Streams}
-use Rattle.bk_lines.specs.Faults.{CountsTell, Faults, HasNoFault, IsCalm}
-use Rattle.bk_lines.specs.Lines.{lines_of}
-use Rattle.bk_lines.specs.declared.Ended.{Ended}
+use Rattle.bk_ports.specs.Answered.{answers_of}
+use Rattle.bk_ports.specs.Deciding.{TookTooMany}
+use Rattle.bk_ports.specs.Ending.{EndsWith, Output, Streams}
+use Rattle.bk_ports.specs.Faults.{CountsTell, Faults, HasNoFault, IsCalm}
+use Rattle.bk_ports.specs.Lines.{lines_of}
+use Rattle.bk_ports.specs.declared.Ended.{Ended}
 use Rattle.bk_answer.specs.declared.command.Command.{Command}
 use Rattle.bk_group_run.specs.Closing.{listing_of}
 use Rattle.bk_group_run.specs.Listed.{HasRefusedLine}

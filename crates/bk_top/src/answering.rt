@@ -1,13 +1,12 @@
 //! Lines that are answered by a command, each for itself.
 
 ghost use Rattle.bk_answer.specs.Answer.{AnswersLine, MayWant};
-ghost use Rattle.bk_lines.specs.Answered.{answers_of, of_fronts};
-ghost use Rattle.bk_lines.specs.Ending.{EndsWith};
-ghost use Rattle.bk_lines.specs.Faults.{CountsTell};
+ghost use Rattle.bk_ports.specs.Answered.{answers_of, of_fronts};
+ghost use Rattle.bk_ports.specs.Ending.{EndsWith};
+ghost use Rattle.bk_ports.specs.Faults.{CountsTell};
 
 use bk_answer::{Command, LineAnswerer, PlainAnswerer};
-use bk_lines::{Ended, answer_lines};
-use bk_ports::{Sink, Source};
+use bk_ports::{Ended, Sink, Source, answer_lines};
 use std::alloc::Global;
 
 // Answers the lines of a source by a command. What answers them has an allocator only where the command takes memory.

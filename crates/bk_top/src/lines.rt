@@ -6,8 +6,7 @@ ghost use Rattle.bk_top.specs.Running.{IsTried, status_of_listing};
 
 use bk_gen::trial;
 use bk_grammar::AnswerBuffer;
-use bk_lines::Ended;
-use bk_ports::{Failed, Sink};
+use bk_ports::{Ended, Failed, Sink};
 use bk_report::Last;
 
 // The status that a listing ends with.

@@ -10,8 +10,8 @@ ghost use Rattle.bk_catalogue.specs.Catalogue.{IsEntry};
 ghost use Rattle.bk_catalogue.specs.Repeated.{HasNoMember, HasTwoAlike};
 ghost use Rattle.bk_tree_walk.specs.WholeWords.{IsUnfit};
 
+use crate::qualifying::qualifies;
 use arrayvec::ArrayVec;
-use bk_catalogue::qualifies;
 use bk_flow::NarrowFlow;
 use bk_skel::{Realised, flow_of, realise_by_in};
 use bk_skeleton::Skel;

@@ -1,25 +1,27 @@
 -- What is written behind the lines, by what was kept of them.
-use Rattle.std.specs.Prelude.{Option}
+use Rattle.std.specs.Prelude.{Option, ⊤}
 use Rattle.std.specs.Io.KnownBytes.{Appends}
 use Rattle.std.proofs.Common.{Bool, List, inl, subst, ℕ, ◌+◌, ◌≡◌}
 use Rattle.bk_ports.specs.Causes.{AppendsPrefix}
+use Rattle.bk_word.specs.Word.{Word}
 use Rattle.bk_word.specs.declared.Class.TheVariants.{Perfect}
 use Rattle.bk_catalogue.specs.Following.{HasNoneAfter}
 use Rattle.bk_report.specs.declared.listing.Last.TheVariants.{End, Limit, Wide}
 use Rattle.bk_told.proofs.CountedMembers.{count_all}
-use Rattle.bk_told.specs.Kept.{AreKeptAfter, CountsMembers, IsUpTo, Kept, EntriesState}
-use Rattle.bk_verify.specs.Left.{RestState, rest_of}
+use Rattle.bk_told.specs.Kept.{AreKeptAfter, CountsMembers, IsUpTo, Kept}
+use Rattle.bk_verify.specs.Left.{RestState}
 use Rattle.bk_told.proofs.BehindLines as behind
 use Rattle.bk_told.specs.Listing.{ClosesReport, IsClosingBegun, IsListed, IsListingBegun}
 use Rattle.bk_told.specs.Report.{counts_line}
 use Rattle.bk_told.specs.Running.{TellsFaults}
 use Rattle.bk_told.specs.declared.entering.Verifying.{Verifying}
-use Rattle.bk_verify.specs.Lacking.{AreLacking}
 
--- what is said of the order and the pairs that were handed on is said of those that were kept
-pub of_verifier : (s : EntriesState) (first : RestState) → first ≡ rest_of s → (P : ℕ → List Kept → Type 0) → P (first.walk).order first.pairs
-    → P s.order s.pairs
-of_verifier s first left P p = subst (λ (r : RestState). P (r.walk).order r.pairs) left p
+-- the order has so many members; the lines of those that aren't kept were written, and they are so many
+pub record AreLacking (n : ℕ) (pairs : List Kept) (members missing : ℕ) (written written_after : Option (List ℕ)) : Type 0 where
+  pub cursor : Word
+  pub listed : IsListed n pairs cursor missing written written_after
+  pub kept : AreKeptAfter n pairs cursor
+  pub all : CountsMembers n (λ word. ⊤) members
 
 -- the missing members are listed, and all members are counted
 pub lacking : (first now : RestState) (missing members : ℕ) (a b : Option (List ℕ)) → IsListed (first.walk).order first.pairs (now.walk).cursor missing a b

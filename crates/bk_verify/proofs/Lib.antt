@@ -2,4 +2,4 @@ pub mod Passing
 pub mod LeftExamples
 pub mod Listing
 pub mod LeftBehind
-pub mod LackingExamples
+pub mod ClosingExamples

@@ -1,3 +1,3 @@
 -- What the crate says, and how its code keeps it.
 pub mod Left
-pub mod Lacking
+pub mod Closing

@@ -5,18 +5,25 @@ ghost use Rattle.bk_ports.specs.Causes.{HasCause};
 ghost use Rattle.bk_word.specs.declared.Class.TheVariants.{Perfect};
 ghost use Rattle.bk_catalogue.specs.Following.{HasNoneAfter};
 ghost use Rattle.bk_told.specs.Kept.{AreKeptAfter};
-ghost use Rattle.bk_told.specs.Listing.{ClosesReport, IsClosingBegun, IsListed, IsListingBegun, IsNextBegun, IsWrittenNext};
-ghost use Rattle.bk_verify.specs.Lacking.{AreLacking};
+ghost use Rattle.bk_told.specs.Listing.{ClosesReport, IsClosingBegun, IsListed, IsListingBegun};
+ghost use Rattle.bk_verify.specs.Closing.{kept_of};
 
 use crate::rest::Rest;
 use bk_grammar::AnswerBuffer;
 use bk_ports::{Failed, Sink};
 use bk_report::{Last, write_verified};
 use bk_skeleton::Steps;
-use bk_told::{Entries, Verifying, has_fault, write_missing_entry};
-use bk_word::Word;
+use bk_told::{Verifying, has_fault, write_missing_entry};
 use std::alloc::Global;
 use std::sync::ledger::{Blank, Ledger};
+
+// How many lines of a list were foreign, repeated and refused.
+#[derive(Clone, Copy)]
+struct LineCounts {
+    foreign: u64,
+    repeated: u64,
+    refused: u64,
+}
 
 // Writes the missing members and the last line, and tells whether the list and the catalogue differ.
 pub(crate) fn close_report<L: Ledger, O: Sink>(
@@ -42,49 +49,45 @@ pub(crate) fn close_report<L: Ledger, O: Sink>(
         repeated,
         refused,
     } = state;
-    let lacking = list_missing::<L, O>(alloc, entries, blank, buffer, out)?;
-    let counts = [lacking.0, lacking.1, foreign, repeated, refused];
-    write_verified(Last::End, order, counts, &Word::new(alloc), buffer);
-    out.write_all(buffer.as_slice())?;
-    let differs = has_fault(lacking.1, foreign, repeated, refused);
-    Ok(differs)
-}
-
-// Writes the missing members, and gives how many members there are, and how many of them are missing.
-fn list_missing<L: Ledger, O: Sink>(
-    alloc: Global,
-    entries: Entries,
-    blank: Blank,
-    buffer: &mut AnswerBuffer,
-    out: &mut O,
-) -> Result<(u64, u64), Failed>
-    requires name { blank.name ≡ L.name }
-    requires parts { blank.parts ≡ L.parts }
-    requires some { 0 < L.parts }
-    requires most { entries.order ≤ 16 }
-    ensures listed { IfOk result (λ lacking. AreLacking entries.order entries.pairs lacking.0 lacking.1 (O.written out.old) (O.written out.new)) }
-    ensures begun { OnErr result (IsListingBegun entries.order entries.pairs (O.written out.old) (O.written out.new)) }
-    ensures cause { HasCause (O.faults out.old) (O.faults out.new) result }
-{
+    let lines = LineCounts {
+        foreign,
+        repeated,
+        refused,
+    };
     let mut rest = Rest::of(alloc, entries);
-    list_rest(&mut rest, &mut Steps::<L>::new(blank), buffer, out)
+    let mut steps = Steps::<L>::new(blank);
+    close_rest(order, &mut rest, lines, &mut steps, buffer, out)
 }
 
-// Writes the members that are left as missing, and gives how many members there are, and how many of them are missing.
-fn list_rest<L: Ledger, O: Sink>(
+// The same by what is left of the members, which no line was written of yet, and by the counts of the lines.
+fn close_rest<L: Ledger, O: Sink>(
+    order: u8,
     rest: &mut Rest,
+    lines: LineCounts,
     steps: &mut Steps<L>,
     buffer: &mut AnswerBuffer,
     out: &mut O,
-) -> Result<(u64, u64), Failed>
-    requires most { rest.old.walk.order ≤ 16 }
+) -> Result<bool, Failed>
+    requires most { order ≤ 16 }
+    requires order { rest.old.walk.order ≡ order }
     requires start { rest.old.walk.cursor ≡ [] }
-    ensures listed { IfOk result (λ lacking. AreLacking rest.old.walk.order rest.old.pairs lacking.0 lacking.1 (O.written out.old) (O.written out.new)) }
-    ensures begun { OnErr result (IsListingBegun rest.old.walk.order rest.old.pairs (O.written out.old) (O.written out.new)) }
+    ensures closed { IfOk result (λ differs.
+        ClosesReport order (kept_of rest.old lines) differs (O.written out.old) (O.written out.new)) }
+    ensures begun { OnErr result (IsClosingBegun order (kept_of rest.old lines) (O.written out.old) (O.written out.new)) }
     ensures cause { HasCause (O.faults out.old) (O.faults out.new) result }
 {
     let missing = write_missing_members(rest, steps, buffer, out)?;
-    Ok((rest.members(), missing))
+    let counts = [
+        rest.members(),
+        missing,
+        lines.foreign,
+        lines.repeated,
+        lines.refused,
+    ];
+    write_verified(Last::End, order, counts, rest.cursor(), buffer);
+    out.write_all(buffer.as_slice())?;
+    let differs = has_fault(missing, lines.foreign, lines.repeated, lines.refused);
+    Ok(differs)
 }
 
 // Writes a line for each missing member, ascending, each by one call, and gives how many there are.
@@ -103,33 +106,11 @@ fn write_missing_members<L: Ledger, O: Sink>(
     ensures cause { HasCause (O.faults out.old) (O.faults out.new) result }
     ensures order { rest.new.walk.order ≡ rest.old.walk.order }
 {
+    let mut entry = rest.entry_room();
     let mut missing: u64 = 0;
-    'members: while write_next(rest, steps, buffer, out)? {
+    'members: while rest.advance_in(steps, &mut entry) {
+        write_missing_entry(&entry.tiling, &entry.code, &entry.word, buffer, out)?;
         missing += 1;
     }
     Ok(missing)
-}
-
-// Writes the line of the next missing member, if there is one, by one call, and tells whether there was.
-fn write_next<L: Ledger, O: Sink>(
-    rest: &mut Rest,
-    steps: &mut Steps<L>,
-    buffer: &mut AnswerBuffer,
-    out: &mut O,
-) -> Result<bool, Failed>
-    ensures written { IfOk result (λ more. IsWrittenNext rest.old.walk.order rest.old.pairs rest.old.walk.cursor more rest.new.walk.cursor
-        (O.written out.old) (O.written out.new)) }
-    ensures begun { OnErr result (IsNextBegun rest.old.walk.order rest.old.pairs rest.old.walk.cursor (O.written out.old) (O.written out.new)) }
-    ensures cause { HasCause (O.faults out.old) (O.faults out.new) result }
-    ensures order { rest.new.walk.order ≡ rest.old.walk.order }
-    ensures pairs { rest.new.pairs ≡ rest.old.pairs }
-{
-    match rest.advance(steps) {
-        None => Ok(false),
-        Some(Err(_)) => unreachable!(),
-        Some(Ok(entry)) => {
-            write_missing_entry(&entry.tiling, &entry.code, &entry.word, buffer, out)?;
-            Ok(true)
-        }
-    }
 }

@@ -1,6 +1,6 @@
 //! What a verifier leaves: a walk over the members that no entry had.
 
-ghost use Rattle.std.specs.Prelude.{IfNone, IfOk, IfSome, IsNone, IsOk, IsTrue, MatchOption, ◌≡◌, ◌≤◌, ◌↔◌};
+ghost use Rattle.std.specs.Prelude.{IfNone, IfOk, IfSome, IsNone, IsOk, IsTrue, MatchOption, false, ◌≡◌, ◌≤◌, ◌↔◌};
 ghost use Rattle.bk_code.specs.Code.{code_of as code_seen};
 ghost use Rattle.bk_word.specs.declared.Class.TheVariants.{Perfect};
 ghost use Rattle.bk_catalogue.specs.Following.{HasNoneAfter};
@@ -10,7 +10,7 @@ ghost use Rattle.bk_verify.specs.Left.{rest_of};
 use bk_skeleton::Steps;
 use bk_told::Entries;
 use bk_walk::{Entry, Walk, WideAt};
-use bk_word::Class;
+use bk_word::{Class, Word};
 use std::alloc::Global;
 use std::marker::Model;
 use std::sync::ledger::Ledger;
@@ -64,8 +64,45 @@ impl Rest {
         ensures order { self.new.walk.order ≡ self.old.walk.order }
         ensures class { self.new.walk.class ≡ self.old.walk.class }
     {
-        let entry = next_missing(&self.entries, &mut self.walk, &mut self.members, steps)?;
+        let mut entry = self.entry_room();
+        if !self.advance_in(steps, &mut entry) {
+            return None;
+        }
         Some(Ok(entry))
+    }
+
+    // The same with an entry that is there: `true` comes where `advance` gives a member, and `entry` becomes that member with
+    // its code and its word, whatever it was; `false` comes where `advance` gives `None`. It counts the members that it passes.
+    pub(crate) fn advance_in<L: Ledger>(&mut self, steps: &mut Steps<L>, entry: &mut Entry) -> bool
+        ensures entry { IsTrue result →
+            IsNextMissing self.old.walk.order self.old.pairs self.old.walk.cursor entry.new.tiling entry.new.word }
+        ensures code { IsTrue result → entry.new.code ≡ code_seen entry.new.tiling }
+        ensures none { result ≡ false → AreKeptAfter self.old.walk.order self.old.pairs self.old.walk.cursor }
+        ensures end { result ≡ false → HasNoneAfter self.old.walk.order Perfect self.new.walk.cursor }
+        ensures cursor { IsTrue result → self.new.walk.cursor ≡ entry.new.word }
+        ensures ended { IsTrue self.new.walk.ended ↔ (result ≡ false) }
+        ensures later { IsTrue self.old.walk.ended → result ≡ false }
+        ensures pairs { self.new.pairs ≡ self.old.pairs }
+        ensures order { self.new.walk.order ≡ self.old.walk.order }
+        ensures class { self.new.walk.class ≡ self.old.walk.class }
+    {
+        'members: while self.walk.advance_in(steps, entry) {
+            self.members += 1;
+            if self.entries.line_of(&entry.tiling).is_none() {
+                return true;
+            }
+        }
+        false
+    }
+
+    // Room for an entry, to be written by `advance_in`.
+    pub(crate) fn entry_room(&self) -> Entry {
+        self.walk.entry_room()
+    }
+
+    // The cursor: the word of the member that was given last, or the word of no moves.
+    pub(crate) fn cursor(&self) -> &Word {
+        self.walk.cursor()
     }
 
     /// How many members there are up to the cursor, kept or not; after a `None` that is all of them.
@@ -73,37 +110,5 @@ impl Rest {
         ensures reached { CountsMembers self.now.walk.order (IsUpTo self.now.walk.cursor) result }
     {
         self.members
-    }
-}
-
-// The least member after the cursor of a walk that isn't kept. It counts the members that it passes.
-fn next_missing<L: Ledger>(
-    entries: &Entries,
-    walk: &mut Walk,
-    members: &mut u64,
-    steps: &mut Steps<L>,
-) -> Option<Entry>
-    requires class { walk.old.class ≡ Perfect }
-    requires most { walk.old.order ≤ 16 }
-    requires counted { CountsMembers walk.old.order (IsUpTo walk.old.cursor) members.old }
-    ensures entry { IfSome result (λ e.
-        IsNextMissing walk.old.order entries.now.pairs walk.old.cursor e.tiling e.word × (e.code ≡ code_seen e.tiling)) }
-    ensures none { IfNone result (AreKeptAfter walk.old.order entries.now.pairs walk.old.cursor) }
-    ensures cursor { MatchOption result (HasNoneAfter walk.old.order Perfect walk.new.cursor) (λ e. walk.new.cursor ≡ e.word) }
-    ensures ended { IsTrue walk.new.ended ↔ IsNone result }
-    ensures later { IsTrue walk.old.ended → IsNone result }
-    ensures order { walk.new.order ≡ walk.old.order }
-    ensures class { walk.new.class ≡ walk.old.class }
-    ensures counted { CountsMembers walk.new.order (IsUpTo walk.new.cursor) members.new }
-{
-    let mut entry = walk.entry_room();
-    'members: loop {
-        if !walk.advance_in(steps, &mut entry) {
-            return None;
-        }
-        *members += 1;
-        if entries.line_of(&entry.tiling).is_none() {
-            return Some(entry);
-        }
     }
 }

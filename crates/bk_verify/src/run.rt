@@ -1,14 +1,13 @@
 //! A whole run.
 
 ghost use Rattle.std.specs.Prelude.{◌≤◌};
-ghost use Rattle.bk_lines.specs.Ending.{EndsWith};
-ghost use Rattle.bk_lines.specs.Faults.{CountsTell, IsCalm, IsDoneOrWanting};
+ghost use Rattle.bk_ports.specs.Ending.{EndsWith};
+ghost use Rattle.bk_ports.specs.Faults.{CountsTell, IsCalm, IsDoneOrWanting};
 ghost use Rattle.bk_told.specs.Running.{report_of};
 
 use crate::closing::close_report;
 use bk_grammar::AnswerBuffer;
-use bk_lines::Ended;
-use bk_ports::{Failed, Sink, Source};
+use bk_ports::{Ended, Failed, Sink, Source};
 use bk_told::read_list;
 use std::alloc::Global;
 use std::marker::Brand;

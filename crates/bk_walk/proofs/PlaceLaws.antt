@@ -10,8 +10,8 @@ use Rattle.bk_word.proofs.PlayLaws.{legal-snoc}
 use Rattle.bk_word.proofs.StoredBytes.{order_one}
 use Rattle.bk_catalogue.specs.Catalogue.{Entry, IsEntry}
 use Rattle.bk_catalogue.proofs.OneEntry.{entry_complete}
-use Rattle.bk_packed.specs.Packed.{packed}
-use Rattle.bk_packed.proofs.PackedOrder.{packed_places_compare, packed_words_compare}
+use Rattle.bk_found.specs.Packed.{packed}
+use Rattle.bk_found.proofs.PackedOrder.{packed_places_compare, packed_words_compare}
 use Rattle.bk_catalogue.proofs.Places.{word_same}
 use Rattle.bk_tree_walk.proofs.Advancing.{entry_word}
 use Rattle.bk_walk.specs.Leaping.{Tells, TellsOfPlace}

@@ -2,9 +2,9 @@
 use Rattle.std.proofs.Common.{None, Option, Some, false, is_some, refl, subst, sym, ℕ, ◌≡◌, ◌≤◌}
 use Rattle.bk_word.specs.declared.Class.{Class}
 use Rattle.bk_catalogue.specs.Catalogue.{Entry, IsEntry}
-use Rattle.bk_packed.specs.Packed.{packed}
-use Rattle.bk_member_table.specs.Finding.{Finding}
-use Rattle.bk_member_table.specs.Members.{HasNoneFrom, IsNextNumber}
+use Rattle.bk_found.specs.Packed.{packed}
+use Rattle.bk_walk.specs.Finding.{Finding}
+use Rattle.bk_walk.specs.Members.{HasNoneFrom, IsNextNumber}
 use Rattle.bk_walk.specs.Leaping.{IsLeastNumber}
 
 -- the least number that the table of an order and a class has

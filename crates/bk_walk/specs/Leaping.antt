@@ -4,7 +4,7 @@ use Rattle.bk_word.specs.Play.{IsLegal}
 use Rattle.bk_word.specs.Word.{Follows, Word, order_of}
 use Rattle.bk_word.specs.declared.Class.{Class}
 use Rattle.bk_catalogue.specs.Catalogue.{Entry, IsEntry}
-use Rattle.bk_packed.specs.Packed.{packed}
+use Rattle.bk_found.specs.Packed.{packed}
 use Rattle.bk_walk.specs.declared.tabled.Told.{Told}
 use Rattle.bk_walk.specs.declared.tabled.Told.TheVariants.{Next, NoMore, Nothing}
 

@@ -8,10 +8,10 @@ ghost use Rattle.bk_tree_walk.specs.declared.Went.TheVariants.{Met};
 ghost use Rattle.bk_tree_walk.specs.Search.{Finds, IsReady, StaysOf, StepLeadsTo, place_of};
 ghost use Rattle.bk_walk.specs.Leaping.{TellsOfPlace};
 
+use crate::MemberTable;
 use crate::leaping::leap;
 use crate::tabled::{PATIENCE, Told, begin_table, tell};
-use bk_member_table::MemberTable;
-use bk_packed::number_with;
+use bk_found::number_with;
 use bk_skeleton::Steps;
 use bk_tiling::Tiling;
 use bk_tree_walk::{Found, TreeWalk, Went};

@@ -4,7 +4,7 @@
 ghost use Rattle.std.specs.Prelude.{◌≡◌, ◌≤◌};
 ghost use Rattle.bk_walk.specs.Leaping.{Tells};
 
-use bk_member_table::MemberTable;
+use crate::MemberTable;
 use bk_word::Class;
 
 /// So many members make a table worth its room: all of order 16.

@@ -1,7 +1,16 @@
+-- Forms of sides, and the moves that they rule out.
+pub mod SideValues
+pub mod TilingForms
+pub mod SmallForms
+pub mod Asked
+pub mod Segments
+pub mod Traces
+pub mod TraceMore
+pub mod TraceBack
+pub mod RuledOut
+pub mod MoveAnswers
+pub mod SideFormExamples
+pub mod CutExamples
 -- Moves by which no member's word goes on.
 pub mod CutLaws
 pub mod OwingLaws
--- The lines that are kept beside the moves.
-pub mod LinedMoves
--- The closing bound, counted sign by sign.
-pub mod TallyLaws

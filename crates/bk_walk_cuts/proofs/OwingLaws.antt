@@ -10,7 +10,7 @@ use Rattle.bk_word.specs.declared.Sign.{Sign}
 use Rattle.bk_word.proofs.StoredBytes.{order_append, order_more}
 use Rattle.bk_word.proofs.PlayLaws.{after-snoc}
 use Rattle.bk_catalogue.proofs.ClosingLaws.{bound-parts, unders}
-use Rattle.bk_walk_cuts.proofs.TallyLaws.{front_owes}
+use Rattle.bk_catalogue.proofs.TallyLaws.{front_owes}
 use Rattle.bk_walk_cuts.proofs.CutLaws.{cut_by_front, front_signs}
 use Rattle.bk_catalogue.proofs.CuttingBounds.{too_many_to_close_is_barren}
 use Rattle.bk_catalogue.proofs.MoveOrder.{Begins}

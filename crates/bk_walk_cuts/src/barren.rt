@@ -13,7 +13,7 @@ ghost use Rattle.bk_walk_cuts.specs.MoveCuts.{GrowsByAtMostOne, IsCut, IsFrontEn
 use crate::lined::LinedSkel;
 use crate::moves::next_move;
 use crate::owing::skip_owing;
-use crate::singles::single_valleys;
+use bk_catalogue::single_valleys;
 use bk_skeleton::{Skel, open_side};
 use bk_word::{Class, Move, Sign};
 

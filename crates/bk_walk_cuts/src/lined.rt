@@ -1,17 +1,17 @@
 //! Words that are played and taken back, with the vertical lines that run from the top and the equations between first sides.
 #![tactic(auto)]
 
-ghost use Rattle.std.specs.Prelude.{IsTrue, [], length, take, ℕ, ◌++◌, ◌+◌, ◌-◌, ◌<◌, ◌∷◌, ◌≡◌, ◌≤◌};
+ghost use Rattle.std.specs.Prelude.{IsTrue, [], length, replicate, take, ℕ, ◌++◌, ◌+◌, ◌-◌, ◌<◌, ◌∷◌, ◌≡◌, ◌≤◌};
 ghost use Rattle.bk_word.specs.Outline.{IsLegalMove};
 ghost use Rattle.bk_word.specs.Play.{IsLegal, outline_of};
 ghost use Rattle.bk_word.specs.Word.{order_of};
 ghost use Rattle.bk_catalogue.specs.Cuts.{IsBarren};
 ghost use Rattle.bk_catalogue.specs.VerticalCut.{line_bound_of};
-ghost use Rattle.bk_form_cuts.specs.Trace.{IsTraceOf};
+ghost use Rattle.bk_walk_cuts.specs.Trace.{IsTraceOf};
 
-use crate::lines::{line_bound, push_lines, valley_on_line};
+use crate::tracing::Tracing;
 use arrayvec::ArrayVec;
-use bk_form_cuts::Tracing;
+use bk_catalogue::{begins_on_line, line_bound};
 use bk_skeleton::{Skel, Steps};
 use bk_word::{Class, LARGEST_ORDER, Move};
 use std::marker::Model;
@@ -70,9 +70,8 @@ impl LinedSkel {
         ensures moves { self.new ≡ self.old ++ m.now ∷ [] }
         ensures step { steps.new ≡ steps.old + 1 }
     {
-        let skel = &self.skel;
-        let is_first = skel.moves() == 0;
-        let is_on = valley_on_line(skel.signs(), skel.sizes(), skel.ends(), &self.lines);
+        let is_first = self.skel.moves() == 0;
+        let is_on = begins_on_line(self.skel.valley_squares(), &self.lines);
         push_lines(&mut self.lines, is_on, is_first, usize::from(m.count));
         trace(&mut self.sides, self.is_traced, &self.skel, m);
         self.skel.push(m, steps);
@@ -118,6 +117,25 @@ impl LinedSkel {
             self.skel.ends(),
             &self.lines,
         )
+    }
+}
+
+// Appends of the squares of a move whether their left edges lie on a vertical line that runs from the top between squares of
+// the first move: of the first square what is said of the valley's left edge, of the others whether the move is the first.
+// (Own.)
+fn push_lines<const N: usize>(
+    lines: &mut ArrayVec<bool, N>,
+    valley: bool,
+    is_first: bool,
+    count: usize,
+)
+    requires some { 0 < count }
+    requires fits { length lines.old.items + count ≤ N }
+    ensures { lines.new.items ≡ lines.old.items ++ valley ∷ replicate (count - 1) is_first }
+{
+    lines.push(valley);
+    'others: for _ in 1..count {
+        lines.push(is_first);
     }
 }
 

@@ -7,7 +7,7 @@ ghost use Rattle.bk_word.specs.declared.Class.{Class};
 ghost use Rattle.bk_walk_cuts.specs.MoveCuts.{GrowsByAtMostOne, IsCut};
 
 use crate::moves::next_move;
-use crate::tally::{first_above, first_over, unders_behind};
+use bk_catalogue::{first_above, first_over, unders_behind};
 use bk_skeleton::Skel;
 use bk_word::Move;
 

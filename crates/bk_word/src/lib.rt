@@ -39,7 +39,7 @@ pub const INLINE_ORDER: usize = 16;
 pub(crate) const INLINE_BYTES: usize = 64;
 
 /// How the left one of two neighbouring bottoms stands to the right one.
-#[derive(Clone, Copy, Debug, Default, PartialEq, Eq, Drop)]
+#[derive(Clone, Copy, Default, PartialEq, Eq, Drop)]
 pub enum Sign {
     /// The left one is higher.
     Above,

@@ -8,7 +8,7 @@ use Rattle.bk_answer.specs.declared.command.CodeCommand.TheVariants.{Word}
 use Rattle.bk_answer.proofs.ItemSteps.{is_tiling}
 use Rattle.bk_answer.proofs.ReplySteps.{line_answer, refusal_replies, replies_more, tells_tiling}
 use Rattle.bk_answer.proofs.by_word.answer_by_word.Goals as goal
-use Rattle.bk_lines.proofs.Pieces.{writes_none}
+use Rattle.bk_ports.proofs.Pieces.{writes_none}
 
 pub tell_word-requires : goal.tell_word-requires
 tell_word-requires g c =

@@ -1,6 +1,6 @@
 use Rattle.bk_report.specs.declared.refusal.Refused.TheVariants.{Long}
 use Rattle.std.proofs.Common.{[], arith, false, subst, sym, true, ◌∷◌}
-use Rattle.bk_lines.proofs.Pieces.{writes_none}
+use Rattle.bk_ports.proofs.Pieces.{writes_none}
 use Rattle.bk_net.specs.NetLine.{IsNetLine}
 use Rattle.bk_net.specs.ReadNet.{IsKeptLine, stands_for}
 use Rattle.bk_net.specs.declared.NetLine.{NetLine}

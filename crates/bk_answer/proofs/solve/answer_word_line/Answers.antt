@@ -2,7 +2,7 @@
 use Rattle.std.proofs.Common.{None, Option, arith, false, refl, subst, sym, ℕ, ◌<◌, ◌≡◌, ◌≤◌}
 use Rattle.std.specs.Prelude.{IfNone, slice_range}
 use Rattle.bk_grammar.specs.Grammar.{LineEnd}
-use Rattle.bk_lines.proofs.Pieces.{writes_none}
+use Rattle.bk_ports.proofs.Pieces.{writes_none}
 use Rattle.bk_word.specs.ReadWord.{IsFaultOf}
 use Rattle.bk_word.specs.Word.{Word, order_of}
 use Rattle.bk_word.specs.WordText.{IsTextOf}

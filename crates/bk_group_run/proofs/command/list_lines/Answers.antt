@@ -1,9 +1,9 @@
 use Rattle.std.proofs.Common.{inl, inr, subst, sym, ◌≡◌, ◌⊎◌}
-use Rattle.bk_lines.specs.Ending.{EndsWith}
-use Rattle.bk_lines.specs.Entering.{entries_of}
-use Rattle.bk_lines.proofs.OtherOutputs.{IsStop}
-use Rattle.bk_lines.specs.declared.Ended.{Ended}
-use Rattle.bk_lines.specs.declared.Ended.TheVariants.{NoMemory, ReadFailed, TooMany, WriteFailed}
+use Rattle.bk_ports.specs.Ending.{EndsWith}
+use Rattle.bk_ports.specs.Entering.{entries_of}
+use Rattle.bk_ports.proofs.OtherOutputs.{IsStop}
+use Rattle.bk_ports.specs.declared.Ended.{Ended}
+use Rattle.bk_ports.specs.declared.Ended.TheVariants.{NoMemory, ReadFailed, TooMany, WriteFailed}
 use Rattle.bk_group_run.specs.Listed.{Listed, listing_rules}
 use Rattle.bk_group_run.proofs.ClosedLists.{badly_told, closes_broken, closes_well, has_verdict, stops_listing, streams_of, verdict_told, well_told}
 use Rattle.bk_group_run.proofs.command.list_lines.Goals as goal

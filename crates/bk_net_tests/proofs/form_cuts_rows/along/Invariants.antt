@@ -1,4 +1,4 @@
-use Rattle.bk_form_cuts.specs.Trace.{IsTraceOf}
+use Rattle.bk_walk_cuts.specs.Trace.{IsTraceOf}
 use Rattle.bk_net_tests.proofs.form_cuts_rows.along.Given as goal
 
 abbrev pub invariant-loop-count : goal.invariant-loop-count

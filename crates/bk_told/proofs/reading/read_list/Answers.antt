@@ -1,5 +1,5 @@
 use Rattle.std.proofs.Common.{subst, sym}
-use Rattle.bk_lines.specs.Entering.{entries_of}
+use Rattle.bk_ports.specs.Entering.{entries_of}
 use Rattle.bk_told.proofs.Ending.{calm_at, stop_told, whole_at}
 use Rattle.bk_told.proofs.EndingAtLines.{from_start, stops_at_lines}
 use Rattle.bk_told.specs.Entering.{none_entered}

@@ -1,4 +1,4 @@
-use Rattle.bk_form_cuts.proofs.Traces.{trace_on}
+use Rattle.bk_walk_cuts.proofs.Traces.{trace_on}
 use Rattle.bk_walk_cuts.proofs.lined.trace.Goals as goal
 
 pub returns-then-not-is_traced : goal.returns-then-not-is_traced

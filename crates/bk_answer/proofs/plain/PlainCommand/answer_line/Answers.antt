@@ -8,7 +8,7 @@ use Rattle.bk_answer.specs.Telling.{WantsMemory}
 use Rattle.bk_answer.proofs.ItemSteps.{is_tiling}
 use Rattle.bk_answer.proofs.ReplySteps.{line_answer, refusal_replies, replies_more}
 use Rattle.bk_answer.proofs.plain.PlainCommand.answer_line.Goals as goal
-use Rattle.bk_lines.proofs.Pieces.{writes_none}
+use Rattle.bk_ports.proofs.Pieces.{writes_none}
 
 pub answer_tiling-requires : goal.answer_tiling-requires
 answer_tiling-requires g c =

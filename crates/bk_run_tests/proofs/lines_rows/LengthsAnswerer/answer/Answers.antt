@@ -1,6 +1,6 @@
 use Rattle.std.proofs.Common.{false, true}
 use Rattle.std.proofs.lemmas.Result.{err_from_is_err_and}
-use Rattle.bk_lines.proofs.Pieces.{writes_one, begins_one}
+use Rattle.bk_ports.proofs.Pieces.{writes_one, begins_one}
 use Rattle.bk_run_tests.proofs.lines_rows.LengthsAnswerer.answer.Goals as goal
 
 pub returns-in_err-write_all-clause-failed : goal.returns-in_err-write_all-clause-failed

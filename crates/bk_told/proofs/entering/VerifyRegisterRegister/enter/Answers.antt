@@ -6,7 +6,7 @@ use Rattle.bk_tiling.specs.Tiling.{Tiling}
 use Rattle.bk_report.specs.ListLines.{refused_line}
 use Rattle.bk_answer.specs.Item.{IsLaidLine}
 use Rattle.bk_word.proofs.Failing.{on_err}
-use Rattle.bk_lines.specs.Answer.{HasOutcome, IsBegun}
+use Rattle.bk_ports.specs.Answer.{HasOutcome, IsBegun}
 use Rattle.bk_told.proofs.Entered.{begun_one, written_none, written_one}
 use Rattle.bk_told.specs.Entering.{CountsAreBelow, EntersLine, MayWantAt, no_item, refuses}
 use Rattle.bk_told.specs.declared.entering.Verifying.{Verifying}

@@ -1,89 +1,57 @@
-use Rattle.std.specs.Prelude.{IsTrue}
-use Rattle.std.proofs.Common.{ap, arith, refl, subst, sym, ◌∙◌}
-use Rattle.bk_word.specs.declared.Class.TheVariants.{Perfect}
-use Rattle.bk_catalogue.specs.Following.{HasNoneAfter}
-use Rattle.bk_told.specs.Kept.{AreKeptAfter, IsNextMissing}
-use Rattle.bk_verify.specs.Left.{RestState}
+use Rattle.std.proofs.Common.{refl, sym, true≢false, ◌∙◌}
 use Rattle.bk_verify.proofs.rest.Rest.advance.Goals as goal
 
-pub next_missing-requires-clause-class : goal.next_missing-requires-clause-class
-next_missing-requires-clause-class g c = c.self.invariant.class
+pub returns-then-not-advance_in-clause-entry : goal.returns-then-not-advance_in-clause-entry
+returns-then-not-advance_in-clause-entry g c = tt
 
-pub next_missing-requires-clause-most : goal.next_missing-requires-clause-most
-next_missing-requires-clause-most g c = c.self.invariant.most
+pub returns-then-not-advance_in-clause-narrow : goal.returns-then-not-advance_in-clause-narrow
+returns-then-not-advance_in-clause-narrow g c = tt
 
-pub next_missing-requires-clause-counted : goal.next_missing-requires-clause-counted
-next_missing-requires-clause-counted g c = c.self.invariant.reached
+pub returns-then-not-advance_in-clause-none : goal.returns-then-not-advance_in-clause-none
+returns-then-not-advance_in-clause-none g c = c.advance_in.ensures.none c.if-not-advance_in.true
 
-pub invariant_of-self : goal.invariant_of-self
-invariant_of-self g c = record {
-  most = omega (arith, c.next_missing.ensures.order, c.self.invariant.most);
-  class = c.next_missing.ensures.class ∙ c.self.invariant.class;
-  reached = c.next_missing.ensures.counted;
-}
+pub returns-then-not-advance_in-clause-cursor : goal.returns-then-not-advance_in-clause-cursor
+returns-then-not-advance_in-clause-cursor g c = c.advance_in.ensures.end c.if-not-advance_in.true
 
-pub invariant_of-self-2 : goal.invariant_of-self-2
-invariant_of-self-2 g c = record {
-  most = omega (arith, c.next_missing.ensures.order, c.self.invariant.most);
-  class = c.next_missing.ensures.class ∙ c.self.invariant.class;
-  reached = c.next_missing.ensures.counted;
-}
+pub returns-then-not-advance_in-clause-ended : goal.returns-then-not-advance_in-clause-ended
+returns-then-not-advance_in-clause-ended g c = (λ _. refl, λ _. c.advance_in.ensures.ended.1 c.if-not-advance_in.true)
 
-pub returns-in_err-entry-clause-pairs : goal.returns-in_err-entry-clause-pairs
-returns-in_err-entry-clause-pairs g c = ap (λ (s : RestState). s.pairs) c.self.view_is
+pub returns-then-not-advance_in-clause-later : goal.returns-then-not-advance_in-clause-later
+returns-then-not-advance_in-clause-later g c _ = refl
 
-pub returns-in_err-entry-clause-order : goal.returns-in_err-entry-clause-order
-returns-in_err-entry-clause-order g c = c.next_missing.ensures.order ∙ ap (λ (s : RestState). s.walk.order) c.self.view_is
+pub returns-then-not-advance_in-clause-pairs : goal.returns-then-not-advance_in-clause-pairs
+returns-then-not-advance_in-clause-pairs g c = c.advance_in.ensures.pairs
 
-pub returns-in_err-entry-clause-class : goal.returns-in_err-entry-clause-class
-returns-in_err-entry-clause-class g c = c.next_missing.ensures.class ∙ ap (λ (s : RestState). s.walk.class) c.self.view_is
+pub returns-then-not-advance_in-clause-order : goal.returns-then-not-advance_in-clause-order
+returns-then-not-advance_in-clause-order g c = c.advance_in.ensures.order
 
-pub returns-clause-pairs : goal.returns-clause-pairs
-returns-clause-pairs g c = ap (λ (s : RestState). s.pairs) c.self.view_is
-
-pub returns-clause-order : goal.returns-clause-order
-returns-clause-order g c = c.next_missing.ensures.order ∙ ap (λ (s : RestState). s.walk.order) c.self.view_is
-
-pub returns-clause-class : goal.returns-clause-class
-returns-clause-class g c = c.next_missing.ensures.class ∙ ap (λ (s : RestState). s.walk.class) c.self.view_is
-
-pub returns-in_err-entry-clause-entry : goal.returns-in_err-entry-clause-entry
-returns-in_err-entry-clause-entry g c = rw c.from_residual.ensures tt
-
-pub returns-in_err-entry-clause-narrow : goal.returns-in_err-entry-clause-narrow
-returns-in_err-entry-clause-narrow g c = rw c.from_residual.ensures tt
-
-pub returns-in_err-entry-clause-none : goal.returns-in_err-entry-clause-none
-returns-in_err-entry-clause-none g c =
-    rw c.from_residual.ensures
-    (subst (λ (s : RestState). AreKeptAfter s.walk.order s.pairs s.walk.cursor) c.self.view_is c.in_err-entry.ensures.none)
-
-pub returns-in_err-entry-clause-cursor : goal.returns-in_err-entry-clause-cursor
-returns-in_err-entry-clause-cursor g c =
-    rw c.from_residual.ensures
-    (subst (λ (s : RestState). HasNoneAfter s.walk.order Perfect c.next_missing.new.walk.cursor) c.self.view_is c.in_err-entry.ensures.cursor)
-
-pub returns-in_err-entry-clause-ended : goal.returns-in_err-entry-clause-ended
-returns-in_err-entry-clause-ended g c = rw c.from_residual.ensures c.in_err-entry.ensures.ended
-
-pub returns-in_err-entry-clause-later : goal.returns-in_err-entry-clause-later
-returns-in_err-entry-clause-later g c = rw c.from_residual.ensures (λ _. refl)
+pub returns-then-not-advance_in-clause-class : goal.returns-then-not-advance_in-clause-class
+returns-then-not-advance_in-clause-class g c = c.advance_in.ensures.class
 
 pub returns-clause-entry : goal.returns-clause-entry
-returns-clause-entry g c = (
-  subst (λ (s : RestState). IsNextMissing s.walk.order s.pairs s.walk.cursor c.in_ok-entry.entry.tiling c.in_ok-entry.entry.word) c.self.view_is
-      c.in_ok-entry.ensures.entry.0,
-  c.in_ok-entry.ensures.entry.1,
-)
+returns-clause-entry g c = (c.advance_in.ensures.entry c.if-not-advance_in.false, c.advance_in.ensures.code c.if-not-advance_in.false)
 
 pub returns-clause-narrow : goal.returns-clause-narrow
 returns-clause-narrow g c = refl
 
+pub returns-clause-none : goal.returns-clause-none
+returns-clause-none g c = tt
+
 pub returns-clause-cursor : goal.returns-clause-cursor
-returns-clause-cursor g c = c.in_ok-entry.ensures.cursor
+returns-clause-cursor g c = c.advance_in.ensures.cursor c.if-not-advance_in.false
 
 pub returns-clause-ended : goal.returns-clause-ended
-returns-clause-ended g c = c.in_ok-entry.ensures.ended
+returns-clause-ended g c =
+    (λ e. absurd (true≢false (sym c.if-not-advance_in.false ∙ c.advance_in.ensures.ended.0 e)), λ e. absurd (true≢false e))
 
 pub returns-clause-later : goal.returns-clause-later
-returns-clause-later g c e = c.in_ok-entry.ensures.later (subst (λ (s : RestState). IsTrue s.walk.ended) (sym c.self.view_is) e)
+returns-clause-later g c e = absurd (true≢false (sym c.if-not-advance_in.false ∙ c.advance_in.ensures.later e))
+
+pub returns-clause-pairs : goal.returns-clause-pairs
+returns-clause-pairs g c = c.advance_in.ensures.pairs
+
+pub returns-clause-order : goal.returns-clause-order
+returns-clause-order g c = c.advance_in.ensures.order
+
+pub returns-clause-class : goal.returns-clause-class
+returns-clause-class g c = c.advance_in.ensures.class

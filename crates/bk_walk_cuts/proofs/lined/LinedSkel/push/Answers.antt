@@ -1,20 +1,11 @@
-use Rattle.std.proofs.Common.{ap, arith, length, nat_eq, subst, sum, sym, ◌∙◌, lit<, [], ◌++◌, ◌∷◌}
+use Rattle.std.proofs.Common.{ap, arith, nat_eq, subst, sym, ◌∙◌, lit<, [], ◌++◌, ◌∷◌}
 use Rattle.bk_word.specs.Outline.{IsLegalMove}
 use Rattle.bk_word.specs.Play.{outline_of}
 use Rattle.bk_word.specs.Word.{Move, Word, order_of}
-use Rattle.bk_skeleton.proofs.TurnParts.{sum_lengths}
-use Rattle.bk_catalogue.proofs.BoundsOfWords.{sizes_long}
-use Rattle.bk_form_cuts.specs.Trace.{IsTraceOf}
-use Rattle.bk_walk_cuts.proofs.LinedMoves.{lined_count, lined_more, valley_begins}
+use Rattle.bk_catalogue.specs.VerticalCut.{begins_on_line}
+use Rattle.bk_walk_cuts.specs.Trace.{IsTraceOf}
+use Rattle.bk_catalogue.proofs.LinedMoves.{lined_count, lined_more}
 use Rattle.bk_walk_cuts.proofs.lined.LinedSkel.push.Goals as goal
-
-pub valley_on_line-is_on-requires-clause-long : goal.valley_on_line-is_on-requires-clause-long
-valley_on_line-is_on-requires-clause-long g c =
-    omega (arith, sizes_long c.self.inside.skel c.self.invariant.lined.legal, ap length c.sizes.ensures, ap length c.signs.ensures)
-
-pub valley_on_line-is_on-requires-clause-enough : goal.valley_on_line-is_on-requires-clause-enough
-valley_on_line-is_on-requires-clause-enough g c =
-    omega (arith, sum_lengths (outline_of c.self.inside.skel).segments, ap sum c.sizes.ensures, ap length c.ends.ensures)
 
 pub push_lines-requires : goal.push_lines-requires
 push_lines-requires g c =
@@ -29,12 +20,10 @@ push_lines-requires g c =
 
 pub invariant_of-self : goal.invariant_of-self
 invariant_of-self g c =
-    let is_on = valley_begins c.self.inside.skel c.self.inside.lines.items c.deref.result.now c.signs.result.now c.sizes.result.now
-    c.ends.result.now c.valley_on_line-is_on.result c.deref.ensures.0
-    c.signs.ensures c.sizes.ensures c.ends.ensures c.valley_on_line-is_on.ensures in
+    let is_on = c.begins_on_line-is_on.ensures ∙ (λ i. begins_on_line (c.deref.ensures.0 i) (c.valley_squares.ensures i)) in
     record {
       lined = lined_more c.self.inside.skel c.push.new.self c.self.inside.lines.items c.push_lines.new.lines.items c.args.m.now c.from.result
-          c.valley_on_line-is_on.result (nat_eq c.moves-is_first.result 0) c.self.invariant.lined
+          c.begins_on_line-is_on.result (nat_eq c.moves-is_first.result 0) c.self.invariant.lined
           (subst (λ (w : Word). IsLegalMove (outline_of w) c.args.m.now) (sym c.self.view_is) c.requires.legal) is_on
           (ap (λ k. nat_eq k 0) c.moves-is_first.ensures.value) (c.from.ensures ∙ ap (λ (m : Move). m.count) c.m.view_is)
           c.push.ensures.moves c.push_lines.ensures;

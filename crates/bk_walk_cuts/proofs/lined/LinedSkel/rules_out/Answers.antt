@@ -1,7 +1,7 @@
 use Rattle.std.proofs.Common.{[], subst, ◌++◌, ◌∷◌}
 use Rattle.bk_word.specs.Word.{Word}
 use Rattle.bk_catalogue.specs.Cuts.{IsBarren}
-use Rattle.bk_form_cuts.proofs.RuledOut.{ruled_out_is_barren}
+use Rattle.bk_walk_cuts.proofs.RuledOut.{ruled_out_is_barren}
 use Rattle.bk_walk_cuts.proofs.lined.LinedSkel.rules_out.Goals as goal
 
 pub returns : goal.returns

@@ -1,0 +1,124 @@
+//! The closing bound of signs, counted sign by sign.
+#![tactic(auto)]
+
+ghost use Rattle.std.specs.Prelude.{IfNone, IfSome, List, [], count_by, drop, length, take, ◌++◌, ◌+◌, ◌<◌, ◌^◌, ◌∷◌, ◌≡◌, ◌≤◌};
+ghost use Rattle.bk_word.specs.Outline.{valley_place};
+ghost use Rattle.bk_word.specs.Signs.{is_under};
+ghost use Rattle.bk_word.specs.declared.Sign.{Sign as SeenSign};
+ghost use Rattle.bk_catalogue.specs.ClosingBound.{closing_bound as bound_of};
+ghost use Rattle.bk_catalogue.specs.Tally.{IsTally};
+
+use bk_word::Sign;
+
+// The closing bound of signs, and how many of them are above.
+#[derive(Drop)]
+struct Tally {
+    bound: usize,
+    aboves: usize,
+}
+
+// The tally of signs with one more behind them.
+fn tally_with(tally: Tally, sign: Sign) -> Tally
+    requires few { tally.bound < 2 ^ 63 }
+    requires low { tally.aboves ≤ tally.bound }
+    ensures tally { (signs : List SeenSign) → IsTally signs tally.bound tally.aboves
+        → IsTally (signs ++ sign ∷ []) result.bound result.aboves }
+    ensures low { result.aboves ≤ result.bound }
+    ensures one { result.bound ≤ tally.bound + 1 }
+{
+    match sign {
+        Sign::Above => Tally {
+            bound: tally.bound.max(tally.aboves + 1),
+            aboves: tally.aboves + 1,
+        },
+        Sign::Even => tally,
+        Sign::Under => Tally {
+            bound: tally.bound + 1,
+            aboves: tally.aboves,
+        },
+    }
+}
+
+/// The closing bound of signs: how many of the segments between which they stand must be closed at least. (Own.)
+pub fn closing_bound(signs: &[Sign]) -> usize
+    requires { length signs.now < 1000 }
+    ensures { result ≡ bound_of signs.now }
+{
+    let mut tally = Tally {
+        bound: 0,
+        aboves: 0,
+    };
+    'signs: for sign in signs {
+        tally = tally_with(tally, *sign);
+    }
+    tally.bound
+}
+
+// The tally of signs, where the bound doesn't pass the room; else it goes no further than to one that does.
+fn tally_of(signs: &[Sign], room: usize) -> Option<Tally>
+    requires { room < 1000 }
+    ensures within { IfSome result (λ tally. IsTally signs.now tally.bound tally.aboves) }
+    ensures low { IfSome result (λ tally. tally.aboves ≤ tally.bound) }
+    ensures room { IfSome result (λ tally. tally.bound ≤ room) }
+    ensures over { IfNone result (room < bound_of signs.now) }
+{
+    let mut tally = Tally {
+        bound: 0,
+        aboves: 0,
+    };
+    'signs: for sign in signs {
+        tally = tally_with(tally, *sign);
+        if tally.bound > room {
+            return None;
+        }
+    }
+    Some(tally)
+}
+
+/// How many of the signs bring the closing bound of those before and these above the room that there is; `None` exactly where all of them
+/// don't. It looks no further than to the first that does. (Own.)
+pub fn first_over(before: &[Sign], signs: &[Sign], room: usize) -> Option<usize>
+    requires { room < 1000 }
+    ensures over { IfSome result (λ kept. room < bound_of (before.now ++ take kept signs.now)) }
+    ensures none { IfNone result (bound_of (before.now ++ signs.now) ≤ room) }
+{
+    let mut tally = match tally_of(before, room) {
+        Some(tally) => tally,
+        None => return Some(0),
+    };
+    'signs: for (i, sign) in signs.iter().enumerate() {
+        tally = tally_with(tally, *sign);
+        if tally.bound > room {
+            return Some(i + 1);
+        }
+    }
+    None
+}
+
+/// The place of the first sign above, or how many signs there are: where the leftmost valley stands. (Own.)
+pub fn first_above(signs: &[Sign]) -> usize
+    ensures value { result ≡ valley_place signs.now }
+    ensures within { result ≤ length signs.now }
+{
+    for (i, sign) in signs.iter().enumerate() {
+        match *sign {
+            Sign::Above => return i,
+            Sign::Even | Sign::Under => {}
+        }
+    }
+    signs.len()
+}
+
+/// How many signs are under behind the one at the place. (Own.)
+pub fn unders_behind(signs: &[Sign], place: usize) -> usize
+    requires { place ≤ length signs.now }
+    ensures { result ≡ count_by is_under (drop (place + 1) signs.now) }
+{
+    if place == signs.len() {
+        return 0;
+    }
+    signs[place + 1..]
+        .iter()
+        .filter(|sign| sign.is_under())
+        .count()
+}

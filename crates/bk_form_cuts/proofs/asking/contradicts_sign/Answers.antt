@@ -1,5 +1,0 @@
-use Rattle.std.proofs.Common.{rules}
-use Rattle.bk_form_cuts.proofs.asking.contradicts_sign.Goals as goal
-
-pub returns-in-Above-clause-meets : goal.returns-in-Above-clause-meets
-returns-in-Above-clause-meets c = search rules

@@ -1,6 +1,0 @@
-use Rattle.std.proofs.Common.{ℕ, ◌<◌}
-use Rattle.bk_form_cuts.specs.Asking.{AreKnownEqual}
-use Rattle.bk_form_cuts.proofs.asking.equals_one_before.Given as goal
-
-abbrev pub invariant-loop-j : goal.invariant-loop-j
-invariant-loop-j l = (k : ℕ) → k < l.j → AreKnownEqual l.ledger l.i k → ⊥

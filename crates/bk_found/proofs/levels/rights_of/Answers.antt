@@ -1,0 +1,57 @@
+use Rattle.std.specs.Int.{w64}
+use Rattle.std.specs.Prelude.{pos, ℤ, ◌+ℤ◌}
+use Rattle.std.proofs.Common.{List, ap, arith, lit<, of_z, slice_index_or, subst, sym, to_z, ◌+◌, ◌*◌, ◌^◌, ◌∙◌, ◌≡◌}
+use Rattle.std.proofs.lemmas.Int.{ints, to_z-of_z}
+use Rattle.bk_found.specs.Candidate.{line_place}
+use Rattle.bk_found.proofs.LevelSteps.{AreEdges, edges_more, fits_small, place_small, small_more}
+use Rattle.bk_found.specs.Placing.{IsSmall}
+use Rattle.bk_found.proofs.levels.rights_of.Goals as goal
+
+pub overflow_add-right : goal.overflow_add-right
+overflow_add-right c =
+    let total = to_z w64 (of_z w64 c.args.total) in
+    let held : IsSmall (2 ^ 34) (to_z w64 (of_z w64 c.args.total)) =
+    subst (λ (z : ℤ). IsSmall (2 ^ 34) z) (sym (to_z-of_z w64 c.args.total c.ranges.total)) c.requires.total in
+    let line = slice_index_or c.args.lefts.now c.loop-i.i 0 in
+    let is : c.place_of.result ≡ line_place (to_z w64 (of_z w64 c.args.total)) c.loop-i.rights.items (slice_index_or c.args.lefts.now c.loop-i.i 0)
+    = c.place_of.ensures ∙ ap (λ (rs : List ℤ). line_place (to_z w64 (of_z w64 c.args.total)) rs
+    (slice_index_or c.args.lefts.now c.loop-i.i 0)) c.deref.ensures.0 in
+    let p = small_more ((c.loop-i.i + 1) * 2 ^ 34) (2 ^ 39) c.place_of.result (subst (λ (z : ℤ). IsSmall ((c.loop-i.i + 1) * 2 ^ 34) z) (sym is)
+    (place_small c.loop-i.rights.items total c.loop-i.i line held c.loop-i.invariant.many c.loop-i.invariant.small
+    (c.requires.known c.loop-i.i c.loop-i-test.true))) (omega (arith, c.loop-i-test.true, c.requires.few)) in
+    let q = c.requires.small c.loop-i.i (omega (arith, c.loop-i-test.true, c.requires.many)) in
+    fits_small (2 ^ 40) _ (omega (arith, ints, p.0, p.1, q.0, q.1), omega (arith, ints, p.0, p.1, q.0, q.1)) (omega arith)
+
+pub loop-i-preserved : goal.loop-i-preserved
+loop-i-preserved c =
+    let total = to_z w64 (of_z w64 c.args.total) in
+    let held : IsSmall (2 ^ 34) (to_z w64 (of_z w64 c.args.total)) =
+    subst (λ (z : ℤ). IsSmall (2 ^ 34) z) (sym (to_z-of_z w64 c.args.total c.ranges.total)) c.requires.total in
+    let line = slice_index_or c.args.lefts.now c.loop-i.i 0 in
+    let current = slice_index_or c.args.currents.now c.loop-i.i (pos 0) in
+    let is : c.place_of.result ≡ line_place (to_z w64 (of_z w64 c.args.total)) c.loop-i.rights.items (slice_index_or c.args.lefts.now c.loop-i.i 0)
+    = c.place_of.ensures ∙ ap (λ (rs : List ℤ). line_place (to_z w64 (of_z w64 c.args.total)) rs
+    (slice_index_or c.args.lefts.now c.loop-i.i 0)) c.deref.ensures.0 in
+    let p = small_more ((c.loop-i.i + 1) * 2 ^ 34) (2 ^ 39) c.place_of.result (subst (λ (z : ℤ). IsSmall ((c.loop-i.i + 1) * 2 ^ 34) z) (sym is)
+    (place_small c.loop-i.rights.items total c.loop-i.i line held c.loop-i.invariant.many c.loop-i.invariant.small
+    (c.requires.known c.loop-i.i c.loop-i-test.true))) (omega (arith, c.loop-i-test.true, c.requires.few)) in
+    let q = c.requires.small c.loop-i.i (omega (arith, c.loop-i-test.true, c.requires.many)) in
+    let right = to_z w64 (of_z w64 (to_z w64 (of_z w64 c.place_of.result) +ℤ to_z w64
+    (of_z w64 (slice_index_or c.args.currents.now c.loop-i.i (pos 0))))) in
+    let sum : to_z w64 (of_z w64 (to_z w64 (of_z w64 c.place_of.result) +ℤ to_z w64
+    (of_z w64 (slice_index_or c.args.currents.now c.loop-i.i (pos 0))))) ≡ c.place_of.result +ℤ slice_index_or c.args.currents.now c.loop-i.i (pos 0)
+    = omega (arith, ints, p.0, p.1, q.0, q.1) in
+    subst (λ (rs : List ℤ). AreEdges c.args.lefts.now c.args.currents.now rs (to_z w64 (of_z w64 c.args.total)) (c.loop-i.i + 1)) (sym c.push.ensures.items)
+    (edges_more c.args.lefts.now c.args.currents.now c.loop-i.rights.items total c.loop-i.i right c.loop-i.invariant c.loop-i-test.true
+    c.requires.many c.requires.known c.requires.small held
+    (sum ∙ ap (λ (z : ℤ). z +ℤ slice_index_or c.args.currents.now c.loop-i.i (pos 0)) is))
+
+pub push-requires : goal.push-requires
+push-requires c = (lit< tt, omega (arith, c.loop-i.invariant.many, c.loop-i-test.true, c.requires.few))
+
+pub returns-clause-many : goal.returns-clause-many
+returns-clause-many c = omega (arith, c.loop-i.invariant.many, c.loop-i-test.false, c.loop-i.auto.i-end)
+
+pub returns-clause-small : goal.returns-clause-small
+returns-clause-small c = λ k h. small_more ((c.loop-i.i + 1) * 2 ^ 34) (17 * 2 ^ 34) (slice_index_or c.loop-i.rights.items k (pos 0))
+    (c.loop-i.invariant.small k (omega (arith, h, c.loop-i.invariant.many))) (omega (arith, c.loop-i.auto.i-end, c.requires.few))

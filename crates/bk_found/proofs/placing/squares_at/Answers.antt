@@ -1,0 +1,59 @@
+use Rattle.std.specs.Int.{w64}
+use Rattle.std.specs.Prelude.{pos}
+use Rattle.std.proofs.Common.{List, ap, arith, lit<, of_z, rules, slice_index_or, subst, sym, to_z, ℕ, ◌+◌, ◌*◌, ◌^◌, ◌∙◌, ◌≡◌}
+use Rattle.std.proofs.lemmas.Int.{to_z-of_z}
+use Rattle.bk_tiling.specs.declared.Square.{Square}
+use Rattle.bk_found.specs.Candidate.{placed_square}
+use Rattle.bk_found.proofs.LevelSteps.{ArePlaced, fits_small, placed_more}
+use Rattle.bk_found.proofs.placing.squares_at.Goals as goal
+
+pub place_of-left-requires : goal.place_of-left-requires
+place_of-left-requires c = search rules
+
+pub square_between-requires-clause-left : goal.square_between-requires-clause-left
+square_between-requires-clause-left c = search rules
+
+pub square_between-requires-clause-right : goal.square_between-requires-clause-right
+square_between-requires-clause-right c = search rules
+
+pub square_between-requires-clause-above : goal.square_between-requires-clause-above
+square_between-requires-clause-above c = search rules
+
+pub square_between-requires-clause-below : goal.square_between-requires-clause-below
+square_between-requires-clause-below c = search rules
+
+pub square_between-requires-clause-current : goal.square_between-requires-clause-current
+square_between-requires-clause-current c = search rules
+
+pub loop-k-preserved : goal.loop-k-preserved
+loop-k-preserved c =
+    let k = c.loop-k.k in
+    let ends = c.requires.ends c.loop-k.k (omega (arith, c.loop-k-test.true, c.requires.wires)) in
+    let from : c.from.result ≡ (slice_index_or c.args.wires.now c.loop-k.k (0, 0)).0 = c.from.ensures in
+    let to : c.from-in-loop-k.result ≡ (slice_index_or c.args.wires.now c.loop-k.k (0, 0)).1 = c.from-in-loop-k.ensures in
+    let left = to_z-of_z w64 c.place_of-left.result (record { sfits = c.place_of-left.type_inv }) ∙ c.place_of-left.ensures in
+    let right = to_z-of_z w64 (slice_index_or c.args.rights.now c.loop-k.k (pos 0))
+    (fits_small (17 * 2 ^ 34) (slice_index_or c.args.rights.now c.loop-k.k (pos 0))
+    (c.requires.small_rights c.loop-k.k (omega (arith, c.loop-k-test.true, c.requires.rights))) (omega arith)) in
+    let above = to_z-of_z w64 (slice_index_or c.args.levels.now c.from.result (pos 0))
+    (fits_small (16 * 2 ^ 34) (slice_index_or c.args.levels.now c.from.result (pos 0))
+    (c.requires.small_levels c.from.result (omega (arith, from, ends.0))) (omega arith))
+    ∙ ap (λ (v : ℕ). slice_index_or c.args.levels.now v (pos 0)) from in
+    let below = to_z-of_z w64 (slice_index_or c.args.levels.now c.from-in-loop-k.result (pos 0))
+    (fits_small (16 * 2 ^ 34) (slice_index_or c.args.levels.now c.from-in-loop-k.result (pos 0))
+    (c.requires.small_levels c.from-in-loop-k.result (omega (arith, to, ends.1))) (omega arith))
+    ∙ ap (λ (v : ℕ). slice_index_or c.args.levels.now v (pos 0)) to in
+    let current = to_z-of_z w64 (slice_index_or c.args.currents.now c.loop-k.k (pos 0))
+    (fits_small (2 ^ 34) (slice_index_or c.args.currents.now c.loop-k.k (pos 0))
+    (c.requires.small_currents c.loop-k.k (omega (arith, c.loop-k-test.true, c.requires.currents))) (omega arith)) in
+    subst (λ (qs : List Square). ArePlaced c.args.lefts.now c.args.wires.now c.args.currents.now c.args.levels.now c.args.rights.now
+    (to_z w64 (of_z w64 c.args.total)) qs (c.loop-k.k + 1)) (sym c.push.ensures.items)
+    (placed_more c.args.lefts.now c.args.wires.now c.args.currents.now c.args.levels.now c.args.rights.now
+    (to_z w64 (of_z w64 c.args.total)) c.loop-k.squares.items c.loop-k.k c.square_between.result c.loop-k.invariant
+    (c.square_between.ensures ∙ (λ i. placed_square (left i) (right i) (above i) (below i) (current i))))
+
+pub push-requires : goal.push-requires
+push-requires c = (lit< tt, omega (arith, c.loop-k.invariant.many, c.loop-k-test.true, c.requires.few))
+
+pub returns-clause-many : goal.returns-clause-many
+returns-clause-many c = omega (arith, c.loop-k.invariant.many, c.loop-k-test.false, c.loop-k.auto.k-end)

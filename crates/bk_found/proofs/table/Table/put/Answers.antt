@@ -1,0 +1,161 @@
+use Rattle.std.proofs.Common.{Bool, Contains, IsSomeAnd, IsTrue, List, Option, Some, ap, arith, false, refl, subst, sym, ℕ, [], ◌++◌, ◌∷◌, ◌∙◌}
+use Rattle.std.proofs.Common.{◌≡◌, ◌≤◌}
+use Rattle.bk_found.specs.Kept.{AreAscendingNumbers, Numbers}
+use Rattle.bk_found.proofs.AscendingNumbers.{same_itself}
+use Rattle.bk_found.proofs.Keeping.{HoldsOneMore, put_again, put_behind, put_beyond, put_high, put_low}
+use Rattle.bk_found.proofs.table.Table.put.Given as given
+use Rattle.bk_found.proofs.table.Table.put.Goals as goal
+
+-- what is seen of the numbers and the limit
+abbrev seen : List ℕ → Option ℕ → Numbers
+seen kept limit = record { kept = kept; limit = limit }
+
+-- what a test didn't find is not so
+not_so : (result : Bool) (P : Type 0) → (P → IsTrue result) → result ≡ false → P → ⊥
+not_so result P found none p = let e = found p in cc
+
+-- a number from the limit on
+dropped : (g : given.Over) (c : goal.Then-is_dropped g) → HoldsOneMore g.row.N c.args.self.now c.args.self.now c.args.number
+dropped g c = subst (λ (t : Numbers). HoldsOneMore g.row.N t t c.args.number) c.self.view_is
+    (put_beyond g.row.N (seen c.self.inside.numbers.items c.self.inside.limit) c.args.number c.self.invariant
+    (c.is_dropped.ensures.0 c.if-is_dropped.true))
+
+-- one that is put behind those that are there
+first : (g : given.Over) (c : goal.After-push g) → HoldsOneMore g.row.N c.args.self.now (seen c.push.new.self.items c.self.inside.limit) c.args.number
+first g c = subst (λ (t : Numbers). HoldsOneMore g.row.N t (seen c.push.new.self.items c.self.inside.limit) c.args.number) c.self.view_is
+    (put_behind g.row.N (seen c.self.inside.numbers.items c.self.inside.limit) (seen c.push.new.self.items c.self.inside.limit)
+    c.args.number c.self.inside.numbers.items c.self.invariant (same_itself c.self.inside.numbers.items)
+    (not_so c.is_dropped.result (IsSomeAnd c.self.inside.limit (λ least. least ≤ c.args.number)) c.is_dropped.ensures.1 c.if-is_dropped.false)
+    c.push.ensures.items refl)
+
+-- one that is put behind those that are there, each once
+behind : (g : given.Over) (c : goal.After-push-then-len-2 g) → HoldsOneMore g.row.N c.args.self.now
+    (seen c.push-then-len-2.new.self.items c.self.inside.limit) c.args.number
+behind g c = subst (λ (t : Numbers). HoldsOneMore g.row.N t (seen c.push-then-len-2.new.self.items c.self.inside.limit) c.args.number) c.self.view_is
+    (put_behind g.row.N (seen c.self.inside.numbers.items c.self.inside.limit) (seen c.push-then-len-2.new.self.items c.self.inside.limit)
+    c.args.number c.sort_once.new.numbers.items c.self.invariant c.sort_once.ensures.same
+    (not_so c.is_dropped.result (IsSomeAnd c.self.inside.limit (λ least. least ≤ c.args.number)) c.is_dropped.ensures.1 c.if-is_dropped.false)
+    c.push-then-len-2.ensures.items refl)
+
+-- one that is there
+again : (g : given.Over) (c : goal.Then-has g) → HoldsOneMore g.row.N c.args.self.now
+    (seen c.sort_once.new.numbers.items c.self.inside.limit) c.args.number
+again g c = subst (λ (t : Numbers). HoldsOneMore g.row.N t (seen c.sort_once.new.numbers.items c.self.inside.limit) c.args.number) c.self.view_is
+    (put_again g.row.N (seen c.self.inside.numbers.items c.self.inside.limit) (seen c.sort_once.new.numbers.items c.self.inside.limit)
+    c.args.number c.self.invariant c.sort_once.ensures.same
+    (subst (λ l. Contains l c.args.number) c.as_slice.ensures.value (c.has.ensures.0 c.if-has.true)) refl)
+
+-- one below the limit that is set
+low : (g : given.Over) (c : goal.After-push-then-number-limit g) → HoldsOneMore g.row.N c.args.self.now
+    (seen c.push-then-number-limit.new.self.items (Some c.cut_off-limit.result)) c.args.number
+low g c = subst (λ (t : Numbers). HoldsOneMore g.row.N t (seen c.push-then-number-limit.new.self.items (Some c.cut_off-limit.result)) c.args.number)
+    c.self.view_is (put_low g.row.N (seen c.self.inside.numbers.items c.self.inside.limit) c.args.number c.sort_once.new.numbers.items c.self.invariant
+    c.sort_once.ensures.ascending c.sort_once.ensures.same (omega (arith, c.if-len-2.false, c.len-2.ensures.value))
+    (λ h. not_so c.has.result (Contains c.as_slice.result.now c.args.number) c.has.ensures.1 c.if-has.false
+    (subst (λ l. Contains l c.args.number) (sym c.as_slice.ensures.value) h))
+    (seen c.push-then-number-limit.new.self.items (Some c.cut_off-limit.result)) (omega (arith, c.if-number-limit.true, c.cut_off-limit.ensures.least))
+    (c.push-then-number-limit.ensures.items ∙ ap (λ l. l ++ c.args.number ∷ []) c.cut_off-limit.ensures.kept) (ap (λ n. Some n) c.cut_off-limit.ensures.least))
+
+-- one from there on
+high : (g : given.Over) (c : goal.Else-number-limit g) → HoldsOneMore g.row.N c.args.self.now
+    (seen c.cut_off-limit.new.numbers.items (Some c.cut_off-limit.result)) c.args.number
+high g c = subst (λ (t : Numbers). HoldsOneMore g.row.N t (seen c.cut_off-limit.new.numbers.items (Some c.cut_off-limit.result)) c.args.number) c.self.view_is
+    (put_high g.row.N (seen c.self.inside.numbers.items c.self.inside.limit) c.args.number c.sort_once.new.numbers.items c.self.invariant
+    c.sort_once.ensures.ascending c.sort_once.ensures.same (omega (arith, c.if-len-2.false, c.len-2.ensures.value))
+    (λ h. not_so c.has.result (Contains c.as_slice.result.now c.args.number) c.has.ensures.1 c.if-has.false
+    (subst (λ l. Contains l c.args.number) (sym c.as_slice.ensures.value) h))
+    (seen c.cut_off-limit.new.numbers.items (Some c.cut_off-limit.result)) (omega (arith, c.if-number-limit.false, c.cut_off-limit.ensures.least))
+    c.cut_off-limit.ensures.kept (ap (λ n. Some n) c.cut_off-limit.ensures.least))
+
+pub returns-then-is_dropped-clause-put : goal.returns-then-is_dropped-clause-put
+returns-then-is_dropped-clause-put g c = (dropped g c).put
+
+pub returns-then-is_dropped-clause-kept : goal.returns-then-is_dropped-clause-kept
+returns-then-is_dropped-clause-kept g c = (dropped g c).kept
+
+pub returns-then-is_dropped-clause-only : goal.returns-then-is_dropped-clause-only
+returns-then-is_dropped-clause-only g c = (dropped g c).only
+
+pub returns-then-is_dropped-clause-cut : goal.returns-then-is_dropped-clause-cut
+returns-then-is_dropped-clause-cut g c = (dropped g c).cut
+
+pub invariant_of-self : goal.invariant_of-self
+invariant_of-self g c = (first g c).kept_table
+
+pub returns-then-len-clause-put : goal.returns-then-len-clause-put
+returns-then-len-clause-put g c = (first g c).put
+
+pub returns-then-len-clause-kept : goal.returns-then-len-clause-kept
+returns-then-len-clause-kept g c = (first g c).kept
+
+pub returns-then-len-clause-only : goal.returns-then-len-clause-only
+returns-then-len-clause-only g c = (first g c).only
+
+pub returns-then-len-clause-cut : goal.returns-then-len-clause-cut
+returns-then-len-clause-cut g c = (first g c).cut
+
+pub invariant_of-self-then-len-2 : goal.invariant_of-self-then-len-2
+invariant_of-self-then-len-2 g c = (behind g c).kept_table
+
+pub returns-then-len-2-clause-put : goal.returns-then-len-2-clause-put
+returns-then-len-2-clause-put g c = (behind g c).put
+
+pub returns-then-len-2-clause-kept : goal.returns-then-len-2-clause-kept
+returns-then-len-2-clause-kept g c = (behind g c).kept
+
+pub returns-then-len-2-clause-only : goal.returns-then-len-2-clause-only
+returns-then-len-2-clause-only g c = (behind g c).only
+
+pub returns-then-len-2-clause-cut : goal.returns-then-len-2-clause-cut
+returns-then-len-2-clause-cut g c = (behind g c).cut
+
+pub invariant_of-self-then-has : goal.invariant_of-self-then-has
+invariant_of-self-then-has g c = (again g c).kept_table
+
+pub returns-then-has-clause-put : goal.returns-then-has-clause-put
+returns-then-has-clause-put g c = (again g c).put
+
+pub returns-then-has-clause-kept : goal.returns-then-has-clause-kept
+returns-then-has-clause-kept g c = (again g c).kept
+
+pub returns-then-has-clause-only : goal.returns-then-has-clause-only
+returns-then-has-clause-only g c = (again g c).only
+
+pub returns-then-has-clause-cut : goal.returns-then-has-clause-cut
+returns-then-has-clause-cut g c = (again g c).cut
+
+pub invariant_of-self-then-number-limit : goal.invariant_of-self-then-number-limit
+invariant_of-self-then-number-limit g c = (low g c).kept_table
+
+pub returns-then-number-limit-clause-put : goal.returns-then-number-limit-clause-put
+returns-then-number-limit-clause-put g c = (low g c).put
+
+pub returns-then-number-limit-clause-kept : goal.returns-then-number-limit-clause-kept
+returns-then-number-limit-clause-kept g c = (low g c).kept
+
+pub returns-then-number-limit-clause-only : goal.returns-then-number-limit-clause-only
+returns-then-number-limit-clause-only g c = (low g c).only
+
+pub returns-then-number-limit-clause-cut : goal.returns-then-number-limit-clause-cut
+returns-then-number-limit-clause-cut g c = (low g c).cut
+
+pub invariant_of-self-else-number-limit : goal.invariant_of-self-else-number-limit
+invariant_of-self-else-number-limit g c = (high g c).kept_table
+
+pub returns-else-number-limit-clause-put : goal.returns-else-number-limit-clause-put
+returns-else-number-limit-clause-put g c = (high g c).put
+
+pub returns-else-number-limit-clause-kept : goal.returns-else-number-limit-clause-kept
+returns-else-number-limit-clause-kept g c = (high g c).kept
+
+pub returns-else-number-limit-clause-only : goal.returns-else-number-limit-clause-only
+returns-else-number-limit-clause-only g c = (high g c).only
+
+pub returns-else-number-limit-clause-cut : goal.returns-else-number-limit-clause-cut
+returns-else-number-limit-clause-cut g c = (high g c).cut
+
+pub has-requires : goal.has-requires
+has-requires g c = subst AreAscendingNumbers (sym c.as_slice.ensures.value) c.sort_once.ensures.ascending
+
+pub is_dropped-requires : goal.is_dropped-requires
+is_dropped-requires g c = tt

@@ -1,0 +1,49 @@
+-- What the code of a leaf works with: levels and places as whole numbers.
+use Rattle.std.specs.Prelude.{List, [], length, map, neg_ℤ, pos, slice_index_or, ℕ, ℤ, ◌+ℤ◌, ◌+◌, ◌<◌, ◌≡◌, ◌≤ℤ◌, ◌⊎◌}
+use Rattle.bk_tiling.specs.declared.Square.{Square}
+use Rattle.bk_found.specs.Candidate.{line_place, placed_square, right_edges_from}
+
+-- the magnitude is at most so much; that of each number is
+abbrev pub IsSmall : ℕ → ℤ → Type 0
+IsSmall most z = (neg_ℤ (pos most) ≤ℤ z) × (z ≤ℤ pos most)
+
+abbrev pub AreSmall : ℕ → List ℤ → Type 0
+AreSmall most numbers = (k : ℕ) → k < length numbers → IsSmall most (slice_index_or numbers k (pos 0))
+
+-- the nodes at both ends of each wire are below a number
+abbrev pub EndWithin : ℕ → List (ℕ × ℕ) → Type 0
+EndWithin nodes wires = (k : ℕ) → k < length wires → ((slice_index_or wires k (0, 0)).0 < nodes) × ((slice_index_or wires k (0, 0)).1 < nodes)
+
+-- a square's left line was there before it
+abbrev pub AreKnownLines : List ℕ → Type 0
+AreKnownLines lefts = (k : ℕ) → k < length lefts → slice_index_or lefts k 0 < k + 2
+
+-- lines at the left alone, as sides of which the lines at the right aren't told
+abbrev pub by_lefts : List ℕ → List (ℕ × ℕ)
+by_lefts lefts = map (λ line. (line, 0)) lefts
+
+-- where squares end, by the lines at their left alone
+abbrev pub edges_by_lefts : ℤ → List ℕ → List ℤ → List ℤ
+edges_by_lefts total lefts currents = right_edges_from total [] (by_lefts lefts) currents
+
+-- the levels by which each current leads down, where each wire begins at node 0 or where one before it ends
+pub record AreLevels (wires : List (ℕ × ℕ)) (currents : List ℤ) (at : ℕ → ℤ) : Type 0 where
+  pub top : at 0 ≡ pos 0
+  pub drops : (k : ℕ) → k < length wires → at (slice_index_or wires k (0, 0)).1 ≡ at (slice_index_or wires k (0, 0)).0 +ℤ slice_index_or currents k (pos 0)
+  pub begun : (k : ℕ) → k < length wires → ((slice_index_or wires k (0, 0)).0 ≡ 0)
+      ⊎ ((j : ℕ) × (j < k) × ((slice_index_or wires j (0, 0)).1 ≡ (slice_index_or wires k (0, 0)).0))
+
+-- these are the levels at both ends of each wire
+abbrev pub HasLevels : List (ℕ × ℕ) → (ℕ → ℤ) → List ℤ → Type 0
+HasLevels wires at levels = (k : ℕ) → k < length wires
+    → (slice_index_or levels (slice_index_or wires k (0, 0)).0 (pos 0) ≡ at (slice_index_or wires k (0, 0)).0)
+    × (slice_index_or levels (slice_index_or wires k (0, 0)).1 (pos 0) ≡ at (slice_index_or wires k (0, 0)).1)
+
+-- the square at a place stands between its lines and the levels of its nodes
+abbrev pub IsPlacedAt : List ℕ → List (ℕ × ℕ) → List ℤ → List ℤ → List ℤ → ℤ → ℕ → Square → Type 0
+IsPlacedAt lefts wires currents levels rights total k q = q ≡ placed_square
+    (line_place total rights (slice_index_or lefts k 0))
+    (slice_index_or rights k (pos 0))
+    (slice_index_or levels (slice_index_or wires k (0, 0)).0 (pos 0))
+    (slice_index_or levels (slice_index_or wires k (0, 0)).1 (pos 0))
+    (slice_index_or currents k (pos 0))

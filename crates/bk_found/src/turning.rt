@@ -1,0 +1,122 @@
+//! Placed squares, turned before they are tried as a tiling.
+
+ghost use Rattle.std.specs.Prelude.{map, ℕ, ◌≡◌, ◌≤◌};
+ghost use Rattle.bk_sym.specs.Image.{image_size, image_square};
+ghost use Rattle.bk_sym.specs.declared.Turn.{Turn as Turned};
+
+use crate::placing::Placed;
+use arrayvec::ArrayVec;
+use bk_sym::Turn;
+use bk_tiling::Square;
+use bk_word::INLINE_ORDER;
+
+/// The turn by which the rectangle lies, and the longest square in its corners comes to the top left one: hardly another image has to be
+/// made then to compare it. (Own.)
+pub fn best_turn(placed: &Placed) -> Turn
+    ensures { (image_size result placed.now.width placed.now.height).1 ≤ (image_size result placed.now.width placed.now.height).0 }
+{
+    let (right, bottom) = longest_corner(placed);
+    if placed.width < placed.height {
+        swapping_turn(right, bottom)
+    } else {
+        keeping_turn(right, bottom)
+    }
+}
+
+// The turn that exchanges columns and levels, and brings a square at the right or at the left, at the bottom or at the top, to the top
+// left corner.
+fn swapping_turn(right: bool, bottom: bool) -> Turn
+    ensures { (w h : ℕ) → image_size result w h ≡ (h, w) }
+{
+    match (right, bottom) {
+        (false, false) => Turn::Swap,
+        (false, true) => Turn::SwapFlipX,
+        (true, false) => Turn::SwapFlipY,
+        (true, true) => Turn::SwapHalf,
+    }
+}
+
+// The turn that exchanges no columns and levels, and brings such a square to the top left corner.
+fn keeping_turn(right: bool, bottom: bool) -> Turn
+    ensures { (w h : ℕ) → image_size result w h ≡ (w, h) }
+{
+    match (right, bottom) {
+        (false, false) => Turn::Same,
+        (false, true) => Turn::FlipY,
+        (true, false) => Turn::FlipX,
+        (true, true) => Turn::Half,
+    }
+}
+
+// Whether the longest square in the corners stands at the right, and whether at the bottom.
+fn longest_corner(placed: &Placed) -> (bool, bool) {
+    let mut longest = 0;
+    let mut corner = (false, false);
+    'squares: for q in placed.squares.as_slice() {
+        if q.s > longest {
+            if let Some(found) = corner_of(q, placed.width, placed.height) {
+                longest = q.s;
+                corner = found;
+            }
+        }
+    }
+    corner
+}
+
+// Whether a square in a corner of a rectangle stands at the right, and whether at the bottom. Only of few squares it is asked.
+#[inline(never)]
+fn corner_of(q: &Square, width: u64, height: u64) -> Option<(bool, bool)> {
+    let (right, bottom) = (ends_at(q.x, q.s, width), ends_at(q.y, q.s, height));
+    if (q.x == 0 || right) && (q.y == 0 || bottom) {
+        Some((right, bottom))
+    } else {
+        None
+    }
+}
+
+// Whether a side that begins at a place ends at this one.
+fn ends_at(place: u64, side: u64, end: u64) -> bool {
+    side <= end && place == end - side
+}
+
+/// The size of a rectangle by each turn by which it lies: columns and levels.
+pub fn lying_size(width: u64, height: u64) -> (u64, u64)
+    ensures { (turn : Turned) → (image_size turn width height).1 ≤ (image_size turn width height).0 → result ≡ image_size turn width height }
+{
+    if width < height {
+        (height, width)
+    } else {
+        (width, height)
+    }
+}
+
+/// The squares, turned with the rectangle, in the order in which they were placed.
+pub fn turned_squares(placed: &Placed, which: Turn) -> ArrayVec<Square, INLINE_ORDER>
+    ensures { result.items ≡ map (image_square which placed.now.width placed.now.height) placed.now.squares.items }
+{
+    let (width, height) = (placed.width, placed.height);
+    let mut squares = ArrayVec::new();
+    'squares: for q in placed.squares.as_slice() {
+        squares.push(turned(*q, which, width, height));
+    }
+    squares
+}
+
+// Where a square of a rectangle of this size stands in the image.
+fn turned(q: Square, which: Turn, width: u64, height: u64) -> Square
+    ensures { result ≡ image_square which width height q }
+{
+    let right = width.saturating_sub(q.x).saturating_sub(q.s);
+    let bottom = height.saturating_sub(q.y).saturating_sub(q.s);
+    let (x, y) = match which {
+        Turn::Same => (q.x, q.y),
+        Turn::FlipX => (right, q.y),
+        Turn::FlipY => (q.x, bottom),
+        Turn::Half => (right, bottom),
+        Turn::Swap => (q.y, q.x),
+        Turn::SwapFlipX => (bottom, q.x),
+        Turn::SwapFlipY => (q.y, right),
+        Turn::SwapHalf => (bottom, right),
+    };
+    Square { x, y, s: q.s }
+}

@@ -1,5 +1,0 @@
-use Rattle.bk_free_leaf.proofs.LevelSteps.{AreLevelled}
-use Rattle.bk_free_leaf.proofs.levels.levels_of.Given as goal
-
-abbrev pub invariant-loop-i : goal.invariant-loop-i
-invariant-loop-i l = AreLevelled l.wires l.currents l.levels l.i

@@ -1,5 +1,0 @@
-use Rattle.bk_free_leaf.proofs.Candidates.{the_candidate_is_the_tiling as the_law}
-use Rattle.bk_free_leaf.proofs.the_candidate_is_the_tiling.Goals as goal
-
-pub returns : goal.returns
-returns c = the_law

@@ -1,4 +1,0 @@
-pub mod FoundMembers
-pub mod TurnedSquares
-pub mod WholeTables
-pub mod MembersExamples

@@ -1,6 +1,0 @@
-use Rattle.std.proofs.Common.{subst}
-use Rattle.bk_member_table.specs.Finding.{HasOnlyMembers}
-use Rattle.bk_member_table.proofs.finding.Finder.table.Goals as goal
-
-pub returns-clause-only : goal.returns-clause-only
-returns-clause-only g c = subst HasOnlyMembers c.self.view_is c.self.invariant.only

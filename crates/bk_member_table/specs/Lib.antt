@@ -1,4 +1,0 @@
--- What the crate says.
-pub mod Members
--- How its code keeps it.
-pub mod Finding

@@ -1,8 +1,0 @@
-use Rattle.std.proofs.Common.{ap, arith, ◌%◌, ◌*◌, ◌-◌, ◌/◌, ◌^◌, ◌∙◌, ◌≡◌}
-use Rattle.bk_packed.proofs.DigitsBack.{power_of_two}
-use Rattle.bk_packed.proofs.digits.digit_at.Goals as goal
-
-pub returns : goal.returns
-returns c =
-    let e : 126 - 2 * c.args.place ≡ 2 * (63 - c.args.place) = omega arith in
-    ap (λ n. c.args.number / n % 4) (ap (λ k. 2 ^ k) e ∙ power_of_two (63 - c.args.place))

@@ -1,0 +1,103 @@
+-- Where what one run writes is what another writes, the endings of the one are those of the other.
+use Rattle.std.proofs.Common.{Bool, List, Option, false, inl, inr, true, ℕ}
+use Rattle.bk_ports.specs.Ending.{EndsWith, IsBrokenBehind, IsWhole, Output, Streams}
+use Rattle.bk_ports.specs.declared.Ended.{Ended}
+use Rattle.bk_ports.specs.declared.Ended.TheVariants.{NoMemory, NoneRefused, ReadFailed, SomeRefused, TooMany, WriteFailed}
+
+-- what one run writes is what another writes, as far as the input wasn't read to its end, or a write failed
+pub record StopsAs (one other : Output) : Type 0 where
+  pub lines : (lines : List (List ℕ)) (refused : Bool) (a b : Option (List ℕ)) → one.lines lines refused a b → other.lines lines refused a b
+  pub begun : (lines : List (List ℕ)) (a b : Option (List ℕ)) → one.begun lines a b → other.begun lines a b
+  pub begun_behind : (lines : List (List ℕ)) (a b : Option (List ℕ)) → one.begun_behind lines a b → other.begun_behind lines a b
+  pub short : (lines : List (List ℕ)) (a b : Option (List ℕ)) → one.short lines a b → other.short lines a b
+
+-- and wholly so
+pub record EndsAs (one other : Output) : Type 0 where
+  pub stops : StopsAs one other
+  pub whole : (lines : List (List ℕ)) (refused : Bool) (a b : Option (List ℕ)) → one.whole lines refused a b → other.whole lines refused a b
+
+-- an ending at which the whole output isn't there
+abbrev pub IsStop : Ended → Type 0
+IsStop NoneRefused = ⊥
+IsStop SomeRefused = ⊥
+IsStop _ = Unit {0}
+
+module _ (one other : Output) where
+  -- a run that stops ends alike
+  pub stops_as : StopsAs one other → (streams : Streams) (ended : Ended) → IsStop ended → EndsWith one streams ended → EndsWith other streams ended
+  stops_as at_stops streams NoneRefused stop h = absurd stop
+  stops_as at_stops streams SomeRefused stop h = absurd stop
+  stops_as at_stops streams ReadFailed stop h = record {
+    input = h.input;
+    taken = h.taken;
+    within = h.within;
+    refused = h.refused;
+    written = at_stops.lines _ h.refused streams.written streams.written_after h.written;
+  }
+  stops_as at_stops streams WriteFailed stop (inl h) = inl (record {
+    input = h.input;
+    taken = h.taken;
+    within = h.within;
+    lines = h.lines;
+    read = h.read;
+    begun = at_stops.begun h.lines streams.written streams.written_after h.begun;
+  })
+  stops_as at_stops streams WriteFailed stop (inr h) = inr (record {
+    input = h.input;
+    taken = h.taken;
+    at_end = h.at_end;
+    within = h.within;
+    begun = at_stops.begun_behind _ streams.written streams.written_after h.begun;
+  })
+  stops_as at_stops streams NoMemory stop h = record {
+    input = h.input;
+    taken = h.taken;
+    within = h.within;
+    lines = h.lines;
+    read = h.read;
+    short = at_stops.short h.lines streams.written streams.written_after h.short;
+  }
+  stops_as at_stops streams TooMany stop h = record {
+    first = h.first;
+    more = h.more;
+    taken = h.taken;
+    full = h.full;
+    one = h.one;
+    refused = h.refused;
+    written = at_stops.lines _ h.refused streams.written streams.written_after h.written;
+  }
+
+  -- and so does any run
+  pub ends_as : EndsAs one other → (streams : Streams) (ended : Ended) → EndsWith one streams ended → EndsWith other streams ended
+  ends_as alike streams NoneRefused h = record {
+    input = h.input;
+    taken = h.taken;
+    at_end = h.at_end;
+    within = h.within;
+    written = alike.whole _ false streams.written streams.written_after h.written;
+  }
+  ends_as alike streams SomeRefused h = record {
+    input = h.input;
+    taken = h.taken;
+    at_end = h.at_end;
+    within = h.within;
+    written = alike.whole _ true streams.written streams.written_after h.written;
+  }
+  ends_as alike streams ReadFailed h = stops_as alike.stops streams ReadFailed tt h
+  ends_as alike streams WriteFailed h = stops_as alike.stops streams WriteFailed tt h
+  ends_as alike streams NoMemory h = stops_as alike.stops streams NoMemory tt h
+  ends_as alike streams TooMany h = stops_as alike.stops streams TooMany tt h
+
+-- what is written behind all lines
+module _ (one other : Output) (left left_after a b c : Option (List ℕ)) (p : Bool)
+    (all : IsWhole one (record { left = left; left_after = left_after; written = a; written_after = b }) p) where
+  -- it makes the output whole
+  pub whole_behind : (q : Bool) → ((lines : List (List ℕ)) → one.whole lines p a b → other.whole lines q a c)
+      → IsWhole other (record { left = left; left_after = left_after; written = a; written_after = c }) q
+  whole_behind q more =
+      record { input = all.input; taken = all.taken; at_end = all.at_end; within = all.within; written = more _ all.written }
+
+  -- or a write of it failed
+  pub broken_behind : ((lines : List (List ℕ)) → one.whole lines p a b → other.begun_behind lines a c)
+      → IsBrokenBehind other (record { left = left; left_after = left_after; written = a; written_after = c })
+  broken_behind more = record { input = all.input; taken = all.taken; at_end = all.at_end; within = all.within; begun = more _ all.written }

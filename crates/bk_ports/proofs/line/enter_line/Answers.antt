@@ -1,0 +1,50 @@
+use Rattle.std.proofs.Common.{refl}
+use Rattle.bk_ports.proofs.line.enter_line.Goals as goal
+
+pub returns-in-Err-clause-entered : goal.returns-in-Err-clause-entered
+returns-in-Err-clause-entered g c = tt
+
+pub returns-in-Err-clause-count : goal.returns-in-Err-clause-count
+returns-in-Err-clause-count g c = c.in-Err.ensures.cause.failed
+
+pub returns-in-Err-clause-ready : goal.returns-in-Err-clause-ready
+returns-in-Err-clause-ready g c = tt
+
+pub returns-then-is_empty-clause-count : goal.returns-then-is_empty-clause-count
+returns-then-is_empty-clause-count g c = refl
+
+pub enter-requires-clause-short : goal.enter-requires-clause-short
+enter-requires-clause-short g c = c.requires.short
+
+pub enter-requires-clause-early : goal.enter-requires-clause-early
+enter-requires-clause-early g c = c.requires.early
+
+pub enter-requires-clause-ready : goal.enter-requires-clause-ready
+enter-requires-clause-ready g c = c.requires.ready
+
+pub returns-in-Ok-Accepted-clause-count : goal.returns-in-Ok-Accepted-clause-count
+returns-in-Ok-Accepted-clause-count g c = c.in-Ok-Accepted.ensures.cause.ok
+
+pub returns-in-Ok-Accepted-clause-ready : goal.returns-in-Ok-Accepted-clause-ready
+returns-in-Ok-Accepted-clause-ready g c = c.in-Ok-Accepted.ensures.ready
+
+pub returns-in-Ok-Refused-clause-count : goal.returns-in-Ok-Refused-clause-count
+returns-in-Ok-Refused-clause-count g c = c.in-Ok-Refused.ensures.cause.ok
+
+pub returns-in-Ok-Refused-clause-ready : goal.returns-in-Ok-Refused-clause-ready
+returns-in-Ok-Refused-clause-ready g c = c.in-Ok-Refused.ensures.ready
+
+pub returns-in-Ok-NoMemory-clause-count : goal.returns-in-Ok-NoMemory-clause-count
+returns-in-Ok-NoMemory-clause-count g c = c.in-Ok-NoMemory.ensures.cause.ok
+
+pub returns-in-Ok-Accepted-clause-entered : goal.returns-in-Ok-Accepted-clause-entered
+returns-in-Ok-Accepted-clause-entered g c = rw c.in-Ok-Accepted.field-0-is at c.in-Ok-Accepted.ensures.outcome
+
+pub returns-in-Ok-Refused-clause-entered : goal.returns-in-Ok-Refused-clause-entered
+returns-in-Ok-Refused-clause-entered g c = rw c.in-Ok-Refused.field-0-is at c.in-Ok-Refused.ensures.outcome
+
+pub returns-in-Ok-NoMemory-clause-stopped : goal.returns-in-Ok-NoMemory-clause-stopped
+returns-in-Ok-NoMemory-clause-stopped g c = rw c.in-Ok-NoMemory.field-0-is at c.in-Ok-NoMemory.ensures.outcome
+
+pub returns-in-Err-clause-stopped : goal.returns-in-Err-clause-stopped
+returns-in-Err-clause-stopped g c = c.in-Err.ensures.failed

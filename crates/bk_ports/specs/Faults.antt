@@ -1,0 +1,34 @@
+-- What the ending of a run says of faults: of calls of its source and its sink that failed.
+-- Example (EndingExamples): a run that ends since a write failed has raised the count of the sink by 1, say, and not that of the source.
+use Rattle.std.specs.Prelude.{◌≡◌, ℕ, ◌^◌, ◌≤◌, ◌⊎◌, List, length, Option, IsSomeAnd}
+use Rattle.bk_ports.specs.Causes.{Rose}
+use Rattle.bk_ports.specs.Ending.{HasVerdict}
+use Rattle.bk_ports.specs.declared.Ended.{Ended}
+use Rattle.bk_ports.specs.declared.Ended.TheVariants.{ReadFailed, WriteFailed, NoMemory}
+
+-- how many reads of a source and writes to a sink have failed, before and after a run
+pub record Faults : Type 0 where
+  pub read : ℕ
+  pub read_after : ℕ
+  pub write : ℕ
+  pub write_after : ℕ
+
+-- a count rose exactly where the run ends for it, whatever is told of the bytes
+abbrev pub CountsTell : Ended → Faults → Type 0
+CountsTell ReadFailed faults = Rose faults.read faults.read_after × (faults.write_after ≡ faults.write)
+CountsTell WriteFailed faults = (faults.read_after ≡ faults.read) × Rose faults.write faults.write_after
+CountsTell _ faults = (faults.read_after ≡ faults.read) × (faults.write_after ≡ faults.write)
+
+-- no read and no write failed
+pub record HasNoFault (faults : Faults) : Type 0 where
+  pub reads : ¬ Rose faults.read faults.read_after
+  pub writes : ¬ Rose faults.write faults.write_after
+
+-- no read and no write failed, and the source told at most 2^30 bytes
+pub record IsCalm (left : Option (List ℕ)) (faults : Faults) : Type 0 where
+  pub no_fault : HasNoFault faults
+  pub within : IsSomeAnd left (λ input. length input ≤ 2 ^ 30)
+
+-- the input was read to its end, or memory was wanting
+abbrev pub IsDoneOrWanting : Ended → Type 0
+IsDoneOrWanting ended = HasVerdict ended ⊎ (ended ≡ NoMemory)

@@ -1,0 +1,160 @@
+//! All lines of an input.
+
+ghost use Rattle.std.specs.Prelude.{◌≡◌, ◌≤◌, ◌<◌, ◌+◌, ◌^◌, ◌||◌, IfOk, IfErr, length};
+ghost use Rattle.std.specs.Io.KnownBytes.{ReadConsumes};
+ghost use Rattle.bk_ports.specs.Causes.{HasCause};
+ghost use Rattle.bk_ports.specs.Lines.{last_line};
+ghost use Rattle.bk_ports.specs.Asking.{asked_count};
+ghost use Rattle.bk_ports.specs.Answered.{CountFits};
+ghost use Rattle.bk_ports.specs.Ending.{EndsWith, ended_of, verdict_of};
+ghost use Rattle.bk_ports.specs.Entering.{AreAllEntered, IsEntryStopped, entries_of};
+ghost use Rattle.bk_ports.specs.Faults.{CountsTell, IsCalm, IsDoneOrWanting};
+
+use crate::block::enter_block;
+use crate::line::{Front, OpenLine, Stop, enter_line};
+use crate::{Ended, Failed, Register, Sink, Source};
+use bk_grammar::AnswerBuffer;
+
+// At most so many bytes of an input are taken.
+const MOST_BYTES: usize = 1 << 30;
+
+// A read asks for at most so many bytes.
+const BLOCK: usize = 16_384;
+
+/// Takes the bytes of the source to their end and enters their lines in the register, in order and numbered from 1. Each line
+/// that was taken with its line feed is entered before the next read. Of a longer input 2^30 bytes are taken, and then a read
+/// gives one more.
+pub fn enter_lines<R: Register, S: Source, O: Sink>(
+    register: &mut R,
+    source: &mut S,
+    out: &mut O,
+) -> Ended
+    requires { R.is_ready register.old 1 }
+
+    // What each ending says of the bytes and of the register.
+    ensures ending { EndsWith (entries_of (record { enters = R.enters; may_want = R.may_want }) register.old register.new)
+        (record {
+          left = S.left source.old;
+          left_after = S.left source.new;
+          written = O.written out.old;
+          written_after = O.written out.new;
+        })
+        result }
+
+    // Where nothing goes wrong, all lines are entered, or memory is wanting.
+    ensures complete { IsCalm (S.left source.old)
+        (record {
+          read = S.faults source.old;
+          read_after = S.faults source.new;
+          write = O.faults out.old;
+          write_after = O.faults out.new;
+        })
+        → IsDoneOrWanting result }
+
+    // What the ending tells of the counts of faults.
+    ensures faults { CountsTell result
+        (record {
+          read = S.faults source.old;
+          read_after = S.faults source.new;
+          write = O.faults out.old;
+          write_after = O.faults out.new;
+        }) }
+{
+    let mut block = [0u8; BLOCK];
+    let mut kept = OpenLine {
+        number: 1,
+        front: Front::new(),
+    };
+    let mut buffer = AnswerBuffer::new();
+    let mut refused = false;
+    let mut taken: usize = 0;
+    'reads: loop {
+        let Ok(count) = read_block(source, &mut block, taken) else {
+            return Ended::ReadFailed;
+        };
+        if count == 0 {
+            return match enter_last(register, &kept, &mut buffer, out) {
+                Ok(is_refused) => verdict(refused | is_refused),
+                Err(stop) => stop.ended(),
+            };
+        }
+        if taken == MOST_BYTES {
+            return Ended::TooMany;
+        }
+        match enter_block(register, &block[..count], &mut kept, &mut buffer, out) {
+            Ok(is_refused) => refused |= is_refused,
+            Err(stop) => return stop.ended(),
+        }
+        taken += count;
+    }
+}
+
+impl Stop {
+    fn ended(self) -> Ended
+        ensures { result ≡ ended_of self }
+    {
+        match self {
+            Stop::WriteFailed => Ended::WriteFailed,
+            Stop::NoMemory => Ended::NoMemory,
+        }
+    }
+}
+
+// Takes the next bytes into the front of the block, none past the most that are taken, or past them at most one.
+fn read_block<S: Source>(
+    source: &mut S,
+    block: &mut [u8; BLOCK],
+    taken: usize,
+) -> Result<usize, Failed>
+    requires { taken ≤ 2 ^ 30 }
+    ensures count { IfOk result (λ n. n ≤ 16384) }
+    ensures within { IfOk result (λ n. taken < 2 ^ 30 → taken + n ≤ 2 ^ 30) }
+    ensures one { IfOk result (λ n. taken ≡ 2 ^ 30 → n ≤ 1) }
+    ensures bytes { ReadConsumes (S.left source.old) (S.left source.new) result block.new }
+    ensures cause { HasCause (S.faults source.old) (S.faults source.new) result }
+{
+    let most = (MOST_BYTES - taken).clamp(1, BLOCK);
+    ask(source, &mut block[..most], taken)
+}
+
+// Reads once, and asks for as many bytes as it should where so many were taken. Each read of an input is this one.
+fn ask<S: Source>(source: &mut S, buf: &mut [u8], taken: usize) -> Result<usize, Failed>
+    requires asked { length buf.old ≡ asked_count taken }
+    ensures count { IfOk result (λ n. n ≤ length buf.new) }
+    ensures bytes { ReadConsumes (S.left source.old) (S.left source.new) result buf.new }
+    ensures cause { HasCause (S.faults source.old) (S.faults source.new) result }
+{
+    source.read(buf)
+}
+
+// Enters the line that the end of the input ends, if it has bytes, and says whether it is refused.
+fn enter_last<R: Register, O: Sink>(
+    register: &mut R,
+    kept: &OpenLine,
+    buffer: &mut AnswerBuffer,
+    out: &mut O,
+) -> Result<bool, Stop>
+    requires early { kept.now.number ≤ 2 ^ 31 }
+    requires ready { R.is_ready register.old kept.now.number }
+    ensures entered { IfOk result (λ refused. AreAllEntered (record { enters = R.enters; may_want = R.may_want }) register.old
+        kept.now.number (last_line kept.now.front.items) (O.written out.old) (O.written out.new) refused register.new) }
+    ensures stopped { IfErr result (λ stop. IsEntryStopped (record { enters = R.enters; may_want = R.may_want }) register.old
+        kept.now.number (last_line kept.now.front.items) (O.written out.old) (O.written out.new) stop) }
+    ensures count { CountFits (O.faults out.old) (O.faults out.new) result }
+{
+    if kept.front.is_empty() {
+        return Ok(false);
+    }
+    enter_line(register, kept.number, &kept.front, buffer, out)
+}
+
+// How a run ends that entered all lines.
+fn verdict(refused: bool) -> Ended
+    ensures { result ≡ verdict_of refused }
+{
+    if refused {
+        Ended::SomeRefused
+    } else {
+        Ended::NoneRefused
+    }
+}

@@ -1,0 +1,23 @@
+use Rattle.std.proofs.Common.{refl, subst, sym}
+use Rattle.std.specs.Prelude.{IsSome}
+use Rattle.bk_found.specs.Kept.{Holds}
+use Rattle.bk_walk.specs.Finding.{Finding}
+use Rattle.bk_walk.proofs.FoundMembers.{as_many_members, held_settled, only_same}
+use Rattle.bk_walk.proofs.finding.Finder.settle.Goals as goal
+
+pub invariant_of-self : goal.invariant_of-self
+invariant_of-self g c = record {
+  few = c.self.invariant.few;
+  only = only_same before after refl c.settle.ensures.same c.self.invariant.only;
+  cut = λ some. as_many_members g.row.N before after refl (c.self.invariant.cut (subst IsSome c.settle.ensures.limit some));
+}
+  where
+    before : Finding
+    before = record { order = c.self.inside.order; class = c.self.inside.class; from = c.self.inside.from; numbers = c.self.inside.table }
+
+    after : Finding
+    after = record { order = c.self.inside.order; class = c.self.inside.class; from = c.self.inside.from; numbers = c.settle.new.self }
+
+pub returns-clause-kept : goal.returns-clause-kept
+returns-clause-kept g c x held = held_settled c.self.inside.table c.settle.new.self c.settle.ensures.same c.settle.ensures.limit x
+    (subst (λ (s : Finding). Holds s.numbers x) (sym c.self.view_is) held)

@@ -1,0 +1,4 @@
+use Rattle.bk_walk.proofs.finding.Seeker.new.Goals as goal
+
+pub returns : goal.returns
+returns g c = c.new.ensures

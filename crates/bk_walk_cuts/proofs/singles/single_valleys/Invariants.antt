@@ -1,5 +1,0 @@
-use Rattle.bk_catalogue.proofs.CountingLaws.{IsFound}
-use Rattle.bk_walk_cuts.proofs.singles.single_valleys.Given as goal
-
-abbrev pub invariant-loop-i : goal.invariant-loop-i
-invariant-loop-i l = IsFound l.signs l.sizes l.i l.found l.low

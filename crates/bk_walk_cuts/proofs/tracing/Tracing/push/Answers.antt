@@ -1,0 +1,41 @@
+use Rattle.std.proofs.Common.{ap, arith}
+use Rattle.bk_word.specs.Word.{Move}
+use Rattle.bk_walk_cuts.proofs.Traces.{trace_on}
+use Rattle.bk_walk_cuts.proofs.tracing.Tracing.push.Goals as goal
+
+pub returns-then-order-from-ge-FOLLOWED-clause-trace : goal.returns-then-order-from-ge-FOLLOWED-clause-trace
+returns-then-order-from-ge-FOLLOWED-clause-trace c = trace_on c.args.skel.now c.args.m.now c.args.self.now c.requires.trace
+
+pub returns-then-not-follows-clause-trace : goal.returns-then-not-follows-clause-trace
+returns-then-not-follows-clause-trace c = trace_on c.args.skel.now c.args.m.now c.args.self.now c.requires.trace
+
+pub returns-then-order-from-ge-FOLLOWED-clause-followed : goal.returns-then-order-from-ge-FOLLOWED-clause-followed
+returns-then-order-from-ge-FOLLOWED-clause-followed c all few = absurd (omega (
+  arith,
+  few,
+  c.if-order-from-ge-FOLLOWED.true,
+  c.order.ensures.value,
+  c.from.ensures,
+  ap (λ (m : Move). m.count) c.m.view_is,
+))
+
+pub returns-then-not-follows-clause-followed : goal.returns-then-not-follows-clause-followed
+returns-then-not-follows-clause-followed c all few = absurd (c.follows.ensures.no c.if-not-follows.true all (omega (arith, few)))
+
+pub go_on-requires-clause-trace : goal.go_on-requires-clause-trace
+go_on-requires-clause-trace c = c.requires.trace
+
+pub go_on-requires-clause-legal : goal.go_on-requires-clause-legal
+go_on-requires-clause-legal c = c.requires.legal
+
+pub go_on-requires-clause-all : goal.go_on-requires-clause-all
+go_on-requires-clause-all c = c.follows.ensures.all c.if-not-follows.false
+
+pub go_on-requires-clause-few : goal.go_on-requires-clause-few
+go_on-requires-clause-few c = c.follows.ensures.few c.if-not-follows.false
+
+pub returns-clause-trace : goal.returns-clause-trace
+returns-clause-trace c = c.go_on.ensures.trace
+
+pub returns-clause-followed : goal.returns-clause-followed
+returns-clause-followed c all few = c.go_on.ensures.followed
