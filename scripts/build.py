@@ -11,7 +11,10 @@ folder out/rlib/, so a build that was stopped goes on where it was. The program 
 says which crates are being proved, how many are done and how long it has taken. The status is 0 if the program is in crates/bk_main/out/bk_main, made
 from what is there now.
 
-    scripts/build.py [--jobs N]
+With --measure one process proves each crate, and if all are proved in this run scripts/seconds.txt gets the seconds that each took; by these the
+next builds know which crates have long chains above.
+
+    scripts/build.py [--jobs N] [--measure]
 """
 import fcntl
 import hashlib
@@ -24,7 +27,7 @@ import threading
 import time
 from concurrent.futures import FIRST_COMPLETED, ThreadPoolExecutor, wait
 
-from sources import LINES_A_SECOND, PARTS, TOP, files_of, lines_of, named_by_crate, work_of
+from sources import LINES_A_SECOND, PARTS, TOP, files_of, named_by_crate, works_of
 
 NAME = "bk_main"
 OUT = f"{TOP}/crates/{NAME}/out"
@@ -33,6 +36,8 @@ LOG = f"{OUT}/build.log"
 # The sum of what the program was made from with its own, and the identity of the toolchain that made it.
 MADE_FROM = f"{OUT}/made_from"
 MADE_BY = f"{OUT}/made_by"
+# The seconds that a proof of each crate took.
+SECONDS = f"{TOP}/scripts/seconds.txt"
 # What a check may hold in memory, in bytes: with less free, fewer run side by side.
 MEMORY_OF_A_CHECK = 3_000_000_000
 # Where files lie in memory, if anywhere, and how many bytes of them a check may write there on the way.
@@ -111,16 +116,16 @@ class Crate:
         self.folder = f"{TOP}/crates/{name}"
         self.root = "src/main.rt" if os.path.exists(f"{self.folder}/src/main.rt") else "src/lib.rt"
         self.library = f"{self.folder}/out/rlib/{name}.rlib"
-        self.sum, self.work = None, 0
+        # The seconds that its proof took, if it was proved in this run.
+        self.sum, self.work, self.seconds = None, 0, None
         # How much work the longest chain of crates is that begins with this one and goes up.
         self.chain = 0
 
     def read(self, toolchain):
-        """Finds how much work it is to prove the crate, in lines of definitions and proofs, and the sum of all that its library is made from."""
+        """Finds the sum of all that the library of the crate is made from."""
         found = hashlib.sha256(toolchain.identity + repr(([(it.name, it.sum) for it in self.named], self.of_toolchain)).encode())
         for file in sorted(it for part in PARTS for it in files_of(self.name, *part)):
             found.update(repr((file, bytes_of(f"{TOP}/{file}"))).encode())
-        self.work = work_of(*lines_of(self.name))
         self.sum = found.hexdigest()
 
     def kept(self):
@@ -135,7 +140,9 @@ class Crate:
         """Proves the crate over the libraries below it, by so many processes. Returns whether it passed, and what was printed."""
         shutil.rmtree(os.path.dirname(self.library), ignore_errors=True)
         os.makedirs(os.path.dirname(self.library))
+        began = time.monotonic()
         passed, text = ran(toolchain.build(self, jobs, "--statements", "-o", self.library), self.folder)
+        self.seconds = time.monotonic() - began
         if passed:
             with open(self.kept(), "w", encoding="utf-8") as file:
                 file.write(self.sum)
@@ -163,6 +170,8 @@ def read_crates(toolchain):
 
     add(NAME)
     crates = [*found.values()]
+    for name, work in works_of(found).items():
+        found[name].work = work
     for crate in reversed(crates):
         crate.chain = crate.work + max((it.chain for it in crates if crate in it.named), default=0)
     return crates
@@ -207,9 +216,9 @@ def waits_for_all(crate, ready, waiting):
     return all(it in ready or crate in it.below for it in waiting)
 
 
-def prove(crates, toolchain, jobs, log, progress):
+def prove(crates, toolchain, jobs, by_one, log, progress):
     """Proves those of these crates that aren't proved yet, on so many processors, each after those below it, and first those with the longest chains
-    above. Returns whether all passed."""
+    above; if that is asked, each by one process. Returns whether all passed."""
     proved, running, free = {it for it in crates if it.is_proved()}, {}, jobs
     waiting = sorted(proved.symmetric_difference(crates), key=lambda it: -it.chain)
     progress.done = len(proved)
@@ -219,7 +228,7 @@ def prove(crates, toolchain, jobs, log, progress):
             for place, it in enumerate(ready[: max(0, free)]):
                 # What still runs then is done soon, and leaves its processors to the crate that all others wait for.
                 is_last = place == 0 and waits_for_all(it, ready, waiting)
-                many = processes(jobs if is_last else free, len(ready) - place)
+                many = 1 if by_one else processes(jobs if is_last else free, len(ready) - place)
                 running[pool.submit(it.prove, toolchain, many)] = it, many
                 waiting.remove(it)
                 free -= many
@@ -264,7 +273,15 @@ def build(program, toolchain, jobs, log):
     return is_built(program)
 
 
-def prove_and_build(crates, program, toolchain, jobs):
+def keep_seconds(crates):
+    """Writes the seconds that the proof of each crate took, if all were proved in this run."""
+    if all(it.seconds for it in crates):
+        with open(SECONDS, "w", encoding="utf-8") as file:
+            file.write("# How many seconds the proof of each crate took by one process, in a build by `scripts/build.py --measure`.\n")
+            file.writelines(f"{it.name} {it.seconds:.0f}\n" for it in crates)
+
+
+def prove_and_build(crates, program, toolchain, jobs, is_measured):
     """Proves the crates and the program, and builds it. Returns whether all passed; what the prover printed is in the log."""
     left = sum(it.work for it in (*crates, program) if not it.is_proved())
     progress = Progress(len(crates))
@@ -273,9 +290,11 @@ def prove_and_build(crates, program, toolchain, jobs):
         f"about {max(1, round(left / LINES_A_SECOND / 60 / jobs))} minutes"
     )
     with open(LOG, "w", encoding="utf-8") as log:
-        if not prove(crates, toolchain, jobs, log, progress):
+        if not prove(crates, toolchain, jobs, is_measured, log, progress):
             progress.tell(f"not all crates are proved; what the checks printed is in {LOG}")
             return False
+        if is_measured:
+            keep_seconds(crates)
         progress.tell(f"all crates are proved, now the program is built ({progress.so_far()})")
         if not build(program, toolchain, jobs, log):
             progress.tell(f"the build failed; what it printed is in {LOG}")
@@ -294,9 +313,10 @@ def main(words):
         print("bouwkamp: the program isn't built from what is here, and there is no `rt` on the PATH to build it with", file=sys.stderr)
         return 1
     jobs = int(words[1]) if words[:1] == ["--jobs"] else len(os.sched_getaffinity(0))
+    is_measured = words[-1:] == ["--measure"]
     jobs = max(1, min(jobs, free_memory() // MEMORY_OF_A_CHECK))
     with scratch(jobs) as os.environ["TMPDIR"]:
-        return 0 if prove_and_build(crates, program, toolchain, jobs) else 1
+        return 0 if prove_and_build(crates, program, toolchain, jobs, is_measured) else 1
 
 
 if __name__ == "__main__":

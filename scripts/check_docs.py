@@ -21,7 +21,7 @@ import subprocess
 import sys
 import tempfile
 
-from sources import LINES_A_SECOND, PARTS, TOP, above, files_of, groups, lines_of, named_by_crate, text_of, work_of
+from sources import LINES_A_SECOND, PARTS, TOP, above, files_of, groups, named_by_crate, text_of, works_of
 
 WIDEST = 120
 # An example that takes longer is a fault.
@@ -262,7 +262,7 @@ def definitions():
 def costs():
     """Returns the table of what the proof of each crate costs, with that of the crates above it."""
     stands = above()
-    seconds = {it: work_of(*lines_of(it)) / LINES_A_SECOND for it in stands}
+    seconds = {it: work / LINES_A_SECOND for it, work in works_of(stands).items()}
     yield "| crate | seconds | crates above | seconds with them |\n|---|---|---|---|\n"
     for crate, found in stands.items():
         yield f"| `{crate}` | {rounded(seconds[crate])} | {len(found)} | {rounded(seconds[crate] + sum(seconds[it] for it in found))} |\n"

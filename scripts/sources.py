@@ -70,3 +70,17 @@ def lines_of(crate):
 def work_of(code, definitions, proofs):
     """Returns how much work a crate of so many lines is to prove, in lines of definitions and proofs."""
     return LINES_FOR_A_CRATE + code * LINES_FOR_ONE_OF_CODE + definitions + proofs
+
+
+def measured():
+    """Returns the seconds that a proof of each crate took, as scripts/seconds.txt has them."""
+    lines = (line.partition("#")[0].split() for line in text_of("scripts/seconds.txt").splitlines())
+    return {it[0]: float(it[1]) for it in lines if it}
+
+
+def works_of(crates):
+    """Returns how much work each of these crates is to prove, in lines of definitions and proofs: by what was measured, and else by its lines."""
+    by_lines = {it: work_of(*lines_of(it)) for it in crates}
+    seconds = {it: took for it, took in measured().items() if it in by_lines}
+    lines_a_second = sum(by_lines[it] for it in seconds) / sum(seconds.values()) if seconds else 1
+    return by_lines | {it: took * lines_a_second for it, took in seconds.items()}

@@ -21,7 +21,7 @@ use Rattle.bk_catalogue.proofs.WordCounts.{few_entries}
 use Rattle.bk_list.specs.Listing.{AreFirst, AtEnd, AtLimit, Ending, EndsBy, IsBelowLimit, IsListing, IsWithinLimit, ending_line, line_of, name_of}
 use Rattle.bk_list.specs.ListingLaws.{cursor_after}
 use Rattle.bk_catalogue.specs.Following.{HasNoneAfter}
-use Rattle.bk_walk.specs.Walking.{IsNextMember, WalkState}
+use Rattle.bk_tree_walk.specs.Walking.{IsNextMember, WalkState}
 use Rattle.bk_list.specs.Writing.{AreEndedBy, BeginsListing, HasEntries, IsNext, IsNextBegun, TakesNext, WritesListing}
 use Rattle.bk_list.specs.declared.entries.Next.{Next}
 use Rattle.bk_list.specs.declared.entries.Next.TheVariants.{Member, Nothing}

@@ -11,7 +11,7 @@ use Rattle.bk_report.specs.declared.listing.Last.{Last}
 use Rattle.bk_report.specs.declared.listing.Last.TheVariants.{End, Limit, Wide}
 use Rattle.bk_list.specs.Listing.{AreFirst, AtEnd, AtLimit, Ending, EndsBy, IsListing, IsWithinLimit, line_of, name_of}
 use Rattle.bk_catalogue.specs.Following.{HasNoneAfter}
-use Rattle.bk_walk.specs.Walking.{IsNextMember}
+use Rattle.bk_tree_walk.specs.Walking.{IsNextMember}
 use Rattle.bk_list.specs.declared.entries.Next.{Next}
 use Rattle.bk_list.specs.declared.entries.Next.TheVariants.{Member, Nothing}
 

@@ -10,6 +10,7 @@ use crate::listing::write_listing;
 use bk_ports::{Failed, Sink};
 use bk_report::Last;
 use bk_skeleton::Steps;
+use bk_tree_walk::Members;
 use bk_word::{Class, Word};
 use std::alloc::Global;
 use std::marker::Brand;
@@ -18,7 +19,7 @@ use std::sync::ledger::{Blank, Ledger};
 /// Writes the listing of the catalogue of an order, 2 to 16, and a class after a word, up to a limit, as `write_listing` does. The steps that it takes
 /// are counted by nobody else.
 #[inline(never)]
-pub fn write_new_listing<O: Sink>(
+pub fn write_new_listing<M: Members, O: Sink>(
     alloc: Global,
     order: u8,
     class: Class,
@@ -34,11 +35,11 @@ pub fn write_new_listing<O: Sink>(
     ensures begun { OnErr result (BeginsListing order class (start_cursor from) limit (O.written out.old) (O.written out.new)) }
     ensures cause { HasCause (O.faults out.old) (O.faults out.new) result }
 {
-    write_counted::<Brand, O>(Blank::new(1), alloc, order, class, from, limit, out)
+    write_counted::<M, Brand, O>(Blank::new(1), alloc, order, class, from, limit, out)
 }
 
 // The same over a new ledger of steps.
-fn write_counted<L: Ledger, O: Sink>(
+fn write_counted<M: Members, L: Ledger, O: Sink>(
     blank: Blank,
     alloc: Global,
     order: u8,
@@ -59,5 +60,5 @@ fn write_counted<L: Ledger, O: Sink>(
     ensures cause { HasCause (O.faults out.old) (O.faults out.new) result }
 {
     let mut steps = Steps::<L>::new(blank);
-    write_listing(alloc, order, class, from, limit, &mut steps, out)
+    write_listing::<M, L, O>(alloc, order, class, from, limit, &mut steps, out)
 }

@@ -15,7 +15,7 @@ use bk_ports::{Failed, Sink};
 use bk_report::{Last, write_entry};
 use bk_skeleton::Steps;
 use bk_tiling::Tiling;
-use bk_walk::{Entry, TabledWalk};
+use bk_tree_walk::{Entry, Members};
 use bk_word::Word;
 use std::sync::ledger::Ledger;
 
@@ -28,19 +28,22 @@ pub(crate) enum Next {
 }
 
 // Writes the entries of a listing, up to its end, and gives how it ends and how many entries it has.
-pub(crate) fn write_entries<const ROOM: usize, L: Ledger, O: Sink>(
-    walk: &mut TabledWalk<ROOM>,
+pub(crate) fn write_entries<M: Members, L: Ledger, O: Sink>(
+    walk: &mut M,
     limit: Option<u64>,
     steps: &mut Steps<L>,
     buffer: &mut AnswerBuffer,
     out: &mut O,
 ) -> Result<(Last, u64), Failed>
-    requires { walk.old.order ≤ 16 }
-    ensures ended { IfOk result (λ r. HasEntriesBySteps walk.old.order walk.old.class walk.old.cursor limit r.0 r.1 (O.written out.old) (O.written out.new)
+    requires { (M.at walk.old).order ≤ 16 }
+    ensures ended { let from = M.at walk.old in
+        IfOk result (λ r. HasEntriesBySteps from.order from.class from.cursor limit r.0 r.1 (O.written out.old) (O.written out.new)
         (steps.new - steps.old)) }
-    ensures begun { OnErr result (BeginsListing walk.old.order walk.old.class walk.old.cursor limit (O.written out.old) (O.written out.new)) }
+    ensures begun { let from = M.at walk.old in
+        OnErr result (BeginsListing from.order from.class from.cursor limit (O.written out.old) (O.written out.new)) }
     ensures cause { HasCause (O.faults out.old) (O.faults out.new) result }
-    ensures stopped { OnErr result (StoppedAtEntry walk.old.order walk.old.class walk.old.cursor limit (O.written out.old) (O.written out.new)
+    ensures stopped { let from = M.at walk.old in
+        OnErr result (StoppedAtEntry from.order from.class from.cursor limit (O.written out.old) (O.written out.new)
         (steps.new - steps.old)) }
 {
     let mut entry = walk.entry_room();
@@ -65,20 +68,24 @@ fn is_reached(limit: Option<u64>, listed: u64) -> bool
 }
 
 // Writes the entry of the next member, by one call. There is room for it in `entry`.
-fn write_next<const ROOM: usize, L: Ledger, O: Sink>(
-    walk: &mut TabledWalk<ROOM>,
+fn write_next<M: Members, L: Ledger, O: Sink>(
+    walk: &mut M,
     steps: &mut Steps<L>,
     entry: &mut Entry,
     buffer: &mut AnswerBuffer,
     out: &mut O,
 ) -> Result<Next, Failed>
-    ensures next { IfOk result (IsNext walk.old.order walk.old.class walk.old.cursor walk.new.cursor (O.written out.old) (O.written out.new)) }
-    ensures begun { OnErr result (IsNextBegun walk.old.order walk.old.class walk.old.cursor walk.new.cursor (O.written out.old) (O.written out.new)) }
+    ensures next { let from = M.at walk.old in let then = M.at walk.new in
+        IfOk result (IsNext from.order from.class from.cursor then.cursor (O.written out.old) (O.written out.new)) }
+    ensures begun { let from = M.at walk.old in let then = M.at walk.new in
+        OnErr result (IsNextBegun from.order from.class from.cursor then.cursor (O.written out.old) (O.written out.new)) }
     ensures cause { HasCause (O.faults out.old) (O.faults out.new) result }
-    ensures order { walk.new.order ≡ walk.old.order }
-    ensures class { walk.new.class ≡ walk.old.class }
-    ensures steps { IfOk result (λ next. AreNextSteps next walk.old.order walk.old.cursor walk.new.cursor (steps.new - steps.old)) }
-    ensures stopped { OnErr result (IsAtMostTree walk.old.order walk.old.cursor (Some walk.new.cursor) (steps.new - steps.old)) }
+    ensures order { (M.at walk.new).order ≡ (M.at walk.old).order }
+    ensures class { (M.at walk.new).class ≡ (M.at walk.old).class }
+    ensures steps { let from = M.at walk.old in let then = M.at walk.new in
+        IfOk result (λ next. AreNextSteps next from.order from.cursor then.cursor (steps.new - steps.old)) }
+    ensures stopped { let from = M.at walk.old in let then = M.at walk.new in
+        OnErr result (IsAtMostTree from.order from.cursor (Some then.cursor) (steps.new - steps.old)) }
 {
     if !walk.advance_in(steps, entry) {
         return Ok(Next::Nothing);

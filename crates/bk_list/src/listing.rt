@@ -12,7 +12,7 @@ use bk_grammar::AnswerBuffer;
 use bk_ports::{Failed, Sink};
 use bk_report::{Last, write_last};
 use bk_skeleton::Steps;
-use bk_walk::{LEAST_TABLED_ORDER, TabledWalk, UntabledWalk, Walk};
+use bk_tree_walk::Members;
 use bk_word::{Class, Word};
 use std::alloc::Global;
 use std::sync::ledger::Ledger;
@@ -31,7 +31,7 @@ use std::sync::ledger::Ledger;
 /// ends at its limit at most as many as there are of these up to the word of its last entry, and 16 for each entry. Where the
 /// write of an entry fails it takes no more than one that ends at its limit with that entry, and where that of the last line
 /// fails no more than the whole listing.
-pub fn write_listing<L: Ledger, O: Sink>(
+pub fn write_listing<M: Members, L: Ledger, O: Sink>(
     alloc: Global,
     order: u8,
     class: Class,
@@ -50,41 +50,13 @@ pub fn write_listing<L: Ledger, O: Sink>(
     ensures steps { IfOk result (λ last. TakesSteps order class (start_cursor from) limit last (steps.new - steps.old)) }
     ensures stopped { OnErr result (TookSteps order class (start_cursor from) limit (O.written out.old) (O.written out.new) (steps.new - steps.old)) }
 {
-    if order >= LEAST_TABLED_ORDER {
-        return write_tabled(alloc, order, class, from, limit, steps, out);
-    }
-    let mut walk = UntabledWalk::new(alloc, order, class, from);
-    write_by(&mut walk, order, class, limit, steps, out)
-}
-
-// The same, by a walk that may make a table of members, in a frame of its own: no other listing pays for its room.
-#[inline(never)]
-fn write_tabled<L: Ledger, O: Sink>(
-    alloc: Global,
-    order: u8,
-    class: Class,
-    from: Option<Word>,
-    limit: Option<u64>,
-    steps: &mut Steps<L>,
-    out: &mut O,
-) -> Result<Last, Failed>
-    requires least { 2 ≤ order }
-    requires most { order ≤ 16 }
-    requires few { order_of (start_cursor from) ≤ 16 }
-    ensures listed { IfOk result (λ last. WritesListing order class (start_cursor from) limit last (O.written out.old) (O.written out.new)) }
-    ensures narrow { IfOk result (λ last. last ≢ Last.Wide) }
-    ensures begun { OnErr result (BeginsListing order class (start_cursor from) limit (O.written out.old) (O.written out.new)) }
-    ensures cause { HasCause (O.faults out.old) (O.faults out.new) result }
-    ensures steps { IfOk result (λ last. TakesSteps order class (start_cursor from) limit last (steps.new - steps.old)) }
-    ensures stopped { OnErr result (TookSteps order class (start_cursor from) limit (O.written out.old) (O.written out.new) (steps.new - steps.old)) }
-{
-    let mut walk = Walk::new(alloc, order, class, from);
+    let mut walk = M::after(alloc, order, class, from);
     write_by(&mut walk, order, class, limit, steps, out)
 }
 
 // Writes the listing of what comes after the cursor of a walk of the order and the class.
-fn write_by<const ROOM: usize, L: Ledger, O: Sink>(
-    walk: &mut TabledWalk<ROOM>,
+fn write_by<M: Members, L: Ledger, O: Sink>(
+    walk: &mut M,
     order: u8,
     class: Class,
     limit: Option<u64>,
@@ -92,14 +64,14 @@ fn write_by<const ROOM: usize, L: Ledger, O: Sink>(
     out: &mut O,
 ) -> Result<Last, Failed>
     requires most { order ≤ 16 }
-    requires order_is { walk.old.order ≡ order }
-    requires class_is { walk.old.class ≡ class }
-    ensures listed { IfOk result (λ last. WritesListing order class walk.old.cursor limit last (O.written out.old) (O.written out.new)) }
+    requires order_is { (M.at walk.old).order ≡ order }
+    requires class_is { (M.at walk.old).class ≡ class }
+    ensures listed { IfOk result (λ last. WritesListing order class (M.at walk.old).cursor limit last (O.written out.old) (O.written out.new)) }
     ensures narrow { IfOk result (λ last. last ≢ Last.Wide) }
-    ensures begun { OnErr result (BeginsListing order class walk.old.cursor limit (O.written out.old) (O.written out.new)) }
+    ensures begun { OnErr result (BeginsListing order class (M.at walk.old).cursor limit (O.written out.old) (O.written out.new)) }
     ensures cause { HasCause (O.faults out.old) (O.faults out.new) result }
-    ensures steps { IfOk result (λ last. TakesSteps order class walk.old.cursor limit last (steps.new - steps.old)) }
-    ensures stopped { OnErr result (TookSteps order class walk.old.cursor limit (O.written out.old) (O.written out.new) (steps.new - steps.old)) }
+    ensures steps { IfOk result (λ last. TakesSteps order class (M.at walk.old).cursor limit last (steps.new - steps.old)) }
+    ensures stopped { OnErr result (TookSteps order class (M.at walk.old).cursor limit (O.written out.old) (O.written out.new) (steps.new - steps.old)) }
 {
     let mut buffer = AnswerBuffer::new();
     let (last, listed) = write_entries(walk, limit, steps, &mut buffer, out)?;

@@ -1,9 +1,10 @@
-//! Rows of `bk_verify`.
+//! Rows of `bk_told::verify`.
 
 ghost use Rattle.std.specs.Prelude.{◌<◌, ◌≤◌};
 
 use bk_ports::{Ended, MemSink, MemSource};
-use bk_verify::verify;
+use bk_told::verify;
+use bk_walk::Walk;
 use std::alloc::Global;
 
 // A list, the read and the write that fail, how it ends and what is written.
@@ -20,7 +21,8 @@ fn is_verified(alloc: Global, order: u8, row: &Row) -> bool
     let mut room = [0; 1000];
     let writes = [*write];
     let mut out = MemSink::new(&mut room, &writes);
-    verify(alloc, order, &mut source, &mut out) == *ended && out.written() == report.as_bytes()
+    verify::<Walk, _, _>(alloc, order, &mut source, &mut out) == *ended
+        && out.written() == report.as_bytes()
 }
 
 // The number of no read, and where no write fails.

@@ -13,3 +13,8 @@ pub mod MembersUpTo
 pub mod CountedMembers
 pub mod Firsts
 pub mod VerifyExamples
+pub mod Passing
+pub mod RestExamples
+pub mod Listing
+pub mod LeftBehind
+pub mod ClosingExamples

@@ -12,3 +12,5 @@ pub mod Entering
 pub mod Reading
 pub mod Listing
 pub mod Laws
+pub mod Rest
+pub mod Closing

@@ -16,7 +16,7 @@ use std::marker::Model;
 
 /// What a run keeps of the lines: the members that were seen, and how many lines were foreign, repeated and refused.
 #[derive(Drop)]
-pub struct Verifying {
+pub(crate) struct Verifying {
     pub entries: Entries,
     pub foreign: u64,
     pub repeated: u64,

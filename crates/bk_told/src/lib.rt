@@ -4,19 +4,21 @@
 
 ghost use Rattle.bk_told.specs.ReportLaw.{AListHasOneReport};
 
+mod closing;
 mod entering;
 mod entries;
 mod kept;
 mod reading;
+mod rest;
+mod run;
 mod writing;
 
-pub use entering::Verifying;
 pub use entries::{
     Entries, Fed, NoMemory, a_verifier_tells_the_truth, an_entry_is_told_one_thing,
     missing_ones_are_not_kept, truths_stay,
 };
-pub use reading::read_list;
-pub use writing::{has_fault, write_missing_entry};
+pub use rest::Rest;
+pub use run::verify;
 
 /// A list has one report: what is told of its lines, the five counts and the bytes are a function of its lines.
 pub fn a_list_has_one_report()

@@ -13,7 +13,7 @@ use std::alloc::Global;
 /// Holds the codes on the lines of the source against the perfect catalogue of an order, which is 2 to 16, and writes in order
 /// of the lines which are foreign, repeat an earlier one or are refused. Gives what is kept of them where all were read, and
 /// else how the run ends.
-pub fn read_list<S: Source, O: Sink>(
+pub(crate) fn read_list<S: Source, O: Sink>(
     alloc: Global,
     order: u8,
     source: &mut S,

@@ -15,7 +15,7 @@ use bk_tiling::Tiling;
 use bk_word::Word;
 
 /// Writes the line of a missing member by one call. The code is that of the tiling, and the word must have a move.
-pub fn write_missing_entry<O: Sink>(
+pub(crate) fn write_missing_entry<O: Sink>(
     tiling: &Tiling,
     code: &Code,
     word: &Word,
@@ -33,7 +33,7 @@ pub fn write_missing_entry<O: Sink>(
 }
 
 /// Whether some count tells of a fault.
-pub fn has_fault(missing: u64, foreign: u64, repeated: u64, refused: u64) -> bool
+pub(crate) fn has_fault(missing: u64, foreign: u64, repeated: u64, refused: u64) -> bool
     ensures { TellsFaults result (missing + foreign + repeated + refused) }
 {
     if missing > 0 || foreign > 0 {

@@ -8,7 +8,8 @@ ghost use Rattle.bk_top.specs.ReadsToEnd.{ReadsToEnd};
 use crate::lines::status;
 use bk_group_run::{Wanted, list_lines};
 use bk_ports::{Sink, Source};
-use bk_verify::verify;
+use bk_told::verify;
+use bk_walk::Walk;
 use std::alloc::Global;
 
 // Lists the lines, and gives the status.
@@ -62,5 +63,5 @@ pub(crate) fn verify_list<S: Source, O: Sink>(
         })
         result }
 {
-    status(verify(alloc, order, source, out))
+    status(verify::<Walk, S, O>(alloc, order, source, out))
 }

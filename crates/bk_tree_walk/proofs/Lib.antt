@@ -10,8 +10,10 @@ pub mod SearchLoop
 pub mod StateLaws
 pub mod SearchTurns
 -- What a complete word tells, and what a walk takes up.
-pub mod Members
+pub mod MemberEntries
 pub mod UnfitFlows
 pub mod TakingUp
 -- A word's flow by hand.
 pub mod TreeWalkExamples
+-- Walks worked by hand.
+pub mod WalkExamples

@@ -3,7 +3,7 @@ use Rattle.std.proofs.Common.{arith, refl, subst, sym, ℕ, ◌+◌, ◌-◌, �
 use Rattle.bk_tiling.specs.Tiling.{Tiling}
 use Rattle.bk_word.specs.declared.Class.{Class}
 use Rattle.bk_catalogue.specs.Catalogue.{IsEntry}
-use Rattle.bk_tree_walk.proofs.Members.{same_entry}
+use Rattle.bk_tree_walk.proofs.MemberEntries.{same_entry}
 use Rattle.bk_catalogue.proofs.Ranks.{left_after}
 use Rattle.bk_tree_walk.proofs.SearchLoop.{Continues, continues_none, continues_on, counts_known, counts_none, counts_then, ends_then, meets_then, nearer}
 use Rattle.bk_tree_walk.specs.Search.{Finds, IsKeptSearch, IsSearchState, SearchState, StaysOf, StepLeadsTo, place_of}

@@ -10,7 +10,7 @@ use Rattle.bk_catalogue.specs.Cuts.{IsBarren}
 use Rattle.bk_catalogue.specs.NextMove.{first_move, move_after}
 use Rattle.bk_catalogue.specs.Catalogue.{IsEntry}
 use Rattle.bk_tiling.specs.Tiling.{Tiling}
-use Rattle.bk_tree_walk.proofs.Members.{same_entry}
+use Rattle.bk_tree_walk.proofs.MemberEntries.{same_entry}
 use Rattle.bk_walk_cuts.specs.MoveCuts.{GrowsByAtMostOne, IsCut}
 use Rattle.bk_catalogue.specs.Repeated.{HasNoMember}
 use Rattle.bk_tree_walk.specs.Search.{IsKeptSearch, IsReady, IsSearchState, PushesGrow, SearchState, StaysOf, StepLeadsTo, place_of}

@@ -1,13 +1,16 @@
-//! A walk through the tree of legal words, in ascending order, that looks for the words of a catalogue's members.
+//! A walk through the tree of legal words, in ascending order, that looks for the words of a catalogue's members; and these members, one after
+//! another.
 #![tactic(auto)]
 
 mod corners;
 mod judging;
+mod members;
 mod qualifying;
 mod realising;
 mod resuming;
 mod tree_walk;
 
+pub use members::{Entry, Members, WideAt};
 pub use qualifying::{is_simple_of, qualifies};
 pub use resuming::{copy_of, word_played};
 pub use tree_walk::TreeWalk;

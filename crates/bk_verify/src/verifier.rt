@@ -2,9 +2,9 @@
 
 ghost use Rattle.std.specs.Prelude.{IfOk, OnErr, [], ◌≡◌, ◌≤◌};
 ghost use Rattle.bk_told.specs.Kept.{IsFed, IsFirstSight, AreKeptEntries};
-ghost use Rattle.bk_verify.specs.Left.{rest_of};
+ghost use Rattle.bk_told.specs.Rest.{rest_of};
 
-use crate::rest::Rest;
+use crate::Rest;
 use bk_tiling::Tiling;
 use bk_told::{Entries, Fed, NoMemory};
 use std::alloc::Global;

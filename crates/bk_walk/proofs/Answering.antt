@@ -11,7 +11,8 @@ use Rattle.bk_tree_walk.specs.Search.{Ends, Finds, HasPassed, Meets}
 use Rattle.bk_catalogue.specs.Tree.{IsAtMostTree}
 use Rattle.bk_catalogue.proofs.TreeCounts.{at_least_fewer}
 use Rattle.bk_catalogue.specs.Following.{HasNoneAfter}
-use Rattle.bk_walk.specs.Walking.{IsKeptWalk, IsNextMember}
+use Rattle.bk_tree_walk.specs.Walking.{IsNextMember}
+use Rattle.bk_walk.specs.KeptWalk.{IsKeptWalk}
 
 module _ (n : ℕ) (class : Class) (cursor place : Word) (p : HasPassed n class cursor place 0) (start began ended : ℕ) (few : began ≤ start + 16) where
   -- where the search ends, no member's word is after the cursor

@@ -11,5 +11,3 @@ pub mod GoingTo
 pub mod LeapStates
 -- What a walk answers.
 pub mod Answering
--- Walks worked by hand.
-pub mod WalkExamples

@@ -8,6 +8,7 @@ mod search;
 mod tabled;
 mod walk;
 
+pub use bk_tree_walk::{Entry, Members, WideAt};
 pub use members::MemberTable;
 pub use tabled::{LEAST_TABLED_ORDER, MOST_MEMBERS};
-pub use walk::{Entry, TabledWalk, UntabledWalk, Walk, WideAt};
+pub use walk::{TabledWalk, UntabledWalk, Walk};

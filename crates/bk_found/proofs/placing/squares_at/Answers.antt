@@ -1,9 +1,10 @@
 use Rattle.std.specs.Int.{w64}
 use Rattle.std.specs.Prelude.{pos}
-use Rattle.std.proofs.Common.{List, ap, arith, lit<, of_z, rules, slice_index_or, subst, sym, to_z, ℕ, ◌+◌, ◌*◌, ◌^◌, ◌∙◌, ◌≡◌}
+use Rattle.std.proofs.Common.{List, ap, arith, length, lit<, of_z, rules, slice_index_or, subst, sym, to_z, ℕ, ℤ, ◌+◌, ◌*◌, ◌^◌, ◌∙◌, ◌≡◌}
 use Rattle.std.proofs.lemmas.Int.{to_z-of_z}
 use Rattle.bk_tiling.specs.declared.Square.{Square}
 use Rattle.bk_found.specs.Candidate.{placed_square}
+use Rattle.bk_found.specs.Placing.{IsPlacedAt}
 use Rattle.bk_found.proofs.LevelSteps.{ArePlaced, fits_small, placed_more}
 use Rattle.bk_found.proofs.placing.squares_at.Goals as goal
 
@@ -57,3 +58,63 @@ push-requires c = (lit< tt, omega (arith, c.loop-k.invariant.many, c.loop-k-test
 
 pub returns-clause-many : goal.returns-clause-many
 returns-clause-many c = omega (arith, c.loop-k.invariant.many, c.loop-k-test.false, c.loop-k.auto.k-end)
+
+pub new-squares-requires : goal.new-squares-requires
+new-squares-requires c = lit< tt
+
+pub loop-k-init : goal.loop-k-init
+loop-k-init c = record { many = ap length c.new-squares.ensures; each = λ k h. absurd (omega (arith, h)) }
+
+pub offset_bounds-wires-k : goal.offset_bounds-wires-k
+offset_bounds-wires-k c = omega (arith, c.loop-k-test.true, c.requires.few)
+
+pub bounds-wires-k : goal.bounds-wires-k
+bounds-wires-k c = omega (arith, c.loop-k-test.true, c.requires.wires)
+
+pub bounds-wires-k-in-loop-k : goal.bounds-wires-k-in-loop-k
+bounds-wires-k-in-loop-k c = omega (arith, c.loop-k-test.true, c.requires.wires)
+
+pub bounds-lefts-k : goal.bounds-lefts-k
+bounds-lefts-k c = c.loop-k-test.true
+
+pub offset_bounds-rights-k : goal.offset_bounds-rights-k
+offset_bounds-rights-k c = omega (arith, c.loop-k-test.true, c.requires.few)
+
+pub bounds-rights-k : goal.bounds-rights-k
+bounds-rights-k c = omega (arith, c.loop-k-test.true, c.requires.rights)
+
+pub from-requires : goal.from-requires
+from-requires c = tt
+
+pub offset_bounds-levels-from : goal.offset_bounds-levels-from
+offset_bounds-levels-from c = omega (arith, c.from.ensures, (c.requires.ends c.loop-k.k (omega (arith, c.loop-k-test.true, c.requires.wires))).0)
+
+pub bounds-levels-from : goal.bounds-levels-from
+bounds-levels-from c = omega (arith, c.from.ensures, (c.requires.ends c.loop-k.k (omega (arith, c.loop-k-test.true, c.requires.wires))).0)
+
+pub from-requires-in-loop-k : goal.from-requires-in-loop-k
+from-requires-in-loop-k c = tt
+
+pub offset_bounds-levels-from-in-loop-k : goal.offset_bounds-levels-from-in-loop-k
+offset_bounds-levels-from-in-loop-k c =
+    let ends = c.requires.ends c.loop-k.k (omega (arith, c.loop-k-test.true, c.requires.wires)) in
+    omega (arith, c.from-in-loop-k.ensures, ends.1)
+
+pub bounds-levels-from-in-loop-k : goal.bounds-levels-from-in-loop-k
+bounds-levels-from-in-loop-k c = omega (arith, c.from-in-loop-k.ensures, (c.requires.ends c.loop-k.k (omega (arith, c.loop-k-test.true, c.requires.wires))).1)
+
+pub offset_bounds-currents-k : goal.offset_bounds-currents-k
+offset_bounds-currents-k c = omega (arith, c.loop-k-test.true, c.requires.few)
+
+pub bounds-currents-k : goal.bounds-currents-k
+bounds-currents-k c = omega (arith, c.loop-k-test.true, c.requires.currents)
+
+pub loop-k-smaller : goal.loop-k-smaller
+loop-k-smaller c = omega (arith, c.loop-k-test.true)
+
+pub returns-clause-each : goal.returns-clause-each
+returns-clause-each c = λ k h.
+    subst (λ (t : ℤ). IsPlacedAt c.args.lefts.now c.args.wires.now c.args.currents.now c.args.levels.now c.args.rights.now t k
+    (slice_index_or c.loop-k.squares.items k (record { x = 0; y = 0; s = 0 })))
+    (to_z-of_z w64 c.args.total (record { sfits = c.ranges.total.sfits }))
+    (c.loop-k.invariant.each k (omega (arith, h, c.loop-k.auto.k-end, c.loop-k-test.false)))

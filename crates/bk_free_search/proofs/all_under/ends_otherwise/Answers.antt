@@ -1,5 +1,5 @@
 use Rattle.std.specs.Prelude.{◌/◌}
-use Rattle.std.proofs.Common.{[], ap, arith, cond, length, nat_lt, subst, ℕ, ◌++◌, ◌+◌, ◌∙◌, ◌∷◌}
+use Rattle.std.proofs.Common.{[], ap, arith, cond, false, length, nat_lt, subst, true, ℕ, ◌++◌, ◌+◌, ◌∙◌, ◌∷◌, ◌≡◌}
 use Rattle.std.proofs.lemmas.List.{length-append}
 use Rattle.bk_word.specs.Play.{IsLegal}
 use Rattle.bk_word.specs.Word.{Move, Word, order_of}
@@ -139,3 +139,62 @@ returns-then-moves-from c told = all_under_at_right_is_normal_barren c.args.orde
       c.look_after-after.ensures.stands.right_is,
       c.look_after-after.ensures.stands.signs_are,
     ))
+
+pub are_under_then-requires : goal.are_under_then-requires
+are_under_then-requires c = tt
+
+pub skel-requires : goal.skel-requires
+skel-requires c = tt
+
+pub moves-requires : goal.moves-requires
+moves-requires c = tt
+
+pub max-requires : goal.max-requires
+max-requires c = tt
+
+pub most_moves-requires : goal.most_moves-requires
+most_moves-requires c = tt
+
+pub skel-requires-2 : goal.skel-requires-2
+skel-requires-2 c = tt
+
+pub order-requires : goal.order-requires
+order-requires c = tt
+
+pub from-requires : goal.from-requires
+from-requires c = tt
+
+pub from-requires-2 : goal.from-requires-2
+from-requires-2 c = tt
+
+pub from-requires-3 : goal.from-requires-3
+from-requires-3 c = tt
+
+pub from-requires-then-moves-from : goal.from-requires-then-moves-from
+from-requires-then-moves-from c = tt
+
+pub returns-then-not-are_under_then : goal.returns-then-not-are_under_then
+returns-then-not-are_under_then c none = let e : false ≡ true = none in cc
+
+pub returns-then-moves-most_moves : goal.returns-then-moves-most_moves
+returns-then-moves-most_moves c none = let e : false ≡ true = none in cc
+
+pub look_after-after-requires-clause-few : goal.look_after-after-requires-clause-few
+look_after-after-requires-clause-few c = omega (arith, c.requires.few, c.requires.most)
+
+pub look_after-after-requires-clause-legal : goal.look_after-after-requires-clause-legal
+look_after-after-requires-clause-legal c = c.requires.legal
+
+pub overflow_add-order : goal.overflow_add-order
+overflow_add-order c = omega (
+  arith,
+  c.order.ensures.value,
+  ap order_of c.skel-2.ensures.value,
+  c.requires.few,
+  c.requires.most,
+  c.from.ensures,
+  ap (λ (m : Move). m.count) c.m.view_is,
+)
+
+pub overflow_add-from : goal.overflow_add-from
+overflow_add-from c = omega (arith, c.from-3.ensures, c.requires.most)

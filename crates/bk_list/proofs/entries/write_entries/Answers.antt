@@ -1,4 +1,4 @@
-use Rattle.std.proofs.Common.{arith, refl, tests, ℕ, ◌+◌, ◌-◌, ◌<◌, ◌^◌, ◌∙◌}
+use Rattle.std.proofs.Common.{arith, refl, ℕ, ◌+◌, ◌-◌, ◌<◌, ◌^◌, ◌∙◌}
 use Rattle.bk_word.proofs.Failing.{on_err}
 use Rattle.bk_list.proofs.Exits.{cause_of_exit, no_cause, not_ok}
 use Rattle.bk_list.proofs.ListingSteps.{begun_as, listed_begun, listed_more, listed_none, next_as}
@@ -7,76 +7,93 @@ use Rattle.bk_list.specs.declared.entries.Next.TheVariants.{Member, Nothing}
 use Rattle.bk_list.proofs.entries.write_entries.Goals as goal
 
 pub members-init : goal.members-init
-members-init g c = record {
-  listed = listed_none c.args.walk.now.order c.args.walk.now.class c.args.walk.now.cursor c.args.limit (g.O.Sink.written c.args.out.now);
-  steps = no_steps c.args.walk.now.order c.args.walk.now.cursor c.args.steps.now;
-  order = refl;
-  class = refl;
-  faults = refl;
-}
+members-init g c =
+    let first = g.M.Members.at c.args.walk.now in
+    record {
+      listed = listed_none first.order first.class first.cursor c.args.limit (g.O.Sink.written c.args.out.now);
+      steps = no_steps first.order first.cursor c.args.steps.now;
+      order = refl;
+      class = refl;
+      faults = refl;
+    }
 
 pub returns-in_err-write_next-clause-begun : goal.returns-in_err-write_next-clause-begun
 returns-in_err-write_next-clause-begun g c =
+    let first = g.M.Members.at c.args.walk.now in
+    let here = g.M.Members.at c.members.walk in
+    let then = g.M.Members.at c.write_next.new.walk in
     on_err c.from_residual.result
-    (listed_begun c.args.walk.now.order c.args.walk.now.class c.args.walk.now.cursor c.members.walk.cursor c.args.limit c.members.listed
+    (listed_begun first.order first.class first.cursor here.cursor c.args.limit c.members.listed
     (g.O.Sink.written c.args.out.now) (g.O.Sink.written c.members.out)
-    c.members.invariant.listed (c.is_reached.ensures.no c.if-is_reached.false) c.write_next.new.walk.cursor (g.O.Sink.written c.write_next.new.out)
-    (begun_as c.members.walk.order c.args.walk.now.order c.members.walk.class c.args.walk.now.class c.members.walk.cursor c.write_next.new.walk.cursor
+    c.members.invariant.listed (c.is_reached.ensures.no c.if-is_reached.false) then.cursor (g.O.Sink.written c.write_next.new.out)
+    (begun_as here.order first.order here.class first.class here.cursor then.cursor
     (g.O.Sink.written c.members.out) (g.O.Sink.written c.write_next.new.out)
     c.members.invariant.order c.members.invariant.class c.in_err-write_next.ensures.begun))
 
 pub members-preserved : goal.members-preserved
-members-preserved g c = record {
-  listed = listed_more c.args.walk.now.order c.args.walk.now.class c.args.walk.now.cursor c.members.walk.cursor c.args.limit c.members.listed
-      (g.O.Sink.written c.args.out.now) (g.O.Sink.written c.members.out)
-      c.members.invariant.listed (c.is_reached.ensures.no c.if-is_reached.false) c.write_next.new.walk.cursor (g.O.Sink.written c.write_next.new.out) c.requires
-      (next_as c.members.walk.order c.args.walk.now.order c.members.walk.class c.args.walk.now.class c.members.walk.cursor c.write_next.new.walk.cursor
-      (g.O.Sink.written c.members.out) (g.O.Sink.written c.write_next.new.out)
-      c.in_ok-write_next.field-0 Member c.members.invariant.order c.members.invariant.class c.in-Member.is c.in_ok-write_next.ensures.next);
-  steps = steps_more c.args.walk.now.order c.args.walk.now.class c.args.walk.now.cursor c.members.walk.cursor c.args.limit c.members.listed
-      (g.O.Sink.written c.args.out.now) (g.O.Sink.written c.members.out)
-      c.members.invariant.listed c.args.steps.now c.members.steps c.write_next.new.steps c.members.invariant.steps c.write_next.new.walk.cursor
-      (g.O.Sink.written c.write_next.new.out)
-      (next_as c.members.walk.order c.args.walk.now.order c.members.walk.class c.args.walk.now.class c.members.walk.cursor c.write_next.new.walk.cursor
-      (g.O.Sink.written c.members.out) (g.O.Sink.written c.write_next.new.out)
-      c.in_ok-write_next.field-0 Member c.members.invariant.order c.members.invariant.class c.in-Member.is c.in_ok-write_next.ensures.next)
-      (next_steps_as c.members.walk.order c.args.walk.now.order c.in_ok-write_next.field-0 Member c.members.walk.cursor c.write_next.new.walk.cursor
-      (c.write_next.new.steps - c.members.steps)
-      c.members.invariant.order c.in-Member.is c.in_ok-write_next.ensures.steps);
-  order = c.in_ok-write_next.ensures.order ∙ c.members.invariant.order;
-  class = c.in_ok-write_next.ensures.class ∙ c.members.invariant.class;
-  faults = (c.in_ok-write_next.ensures.cause).ok ∙ c.members.invariant.faults;
-}
+members-preserved g c =
+    let first = g.M.Members.at c.args.walk.now in
+    let here = g.M.Members.at c.members.walk in
+    let then = g.M.Members.at c.write_next.new.walk in
+    record {
+      listed = listed_more first.order first.class first.cursor here.cursor c.args.limit c.members.listed
+          (g.O.Sink.written c.args.out.now) (g.O.Sink.written c.members.out)
+          c.members.invariant.listed (c.is_reached.ensures.no c.if-is_reached.false) then.cursor (g.O.Sink.written c.write_next.new.out) c.requires
+          (next_as here.order first.order here.class first.class here.cursor then.cursor
+          (g.O.Sink.written c.members.out) (g.O.Sink.written c.write_next.new.out)
+          c.in_ok-write_next.field-0 Member c.members.invariant.order c.members.invariant.class c.in-Member.is c.in_ok-write_next.ensures.next);
+      steps = steps_more first.order first.class first.cursor here.cursor c.args.limit c.members.listed
+          (g.O.Sink.written c.args.out.now) (g.O.Sink.written c.members.out)
+          c.members.invariant.listed c.args.steps.now c.members.steps c.write_next.new.steps c.members.invariant.steps then.cursor
+          (g.O.Sink.written c.write_next.new.out)
+          (next_as here.order first.order here.class first.class here.cursor then.cursor
+          (g.O.Sink.written c.members.out) (g.O.Sink.written c.write_next.new.out)
+          c.in_ok-write_next.field-0 Member c.members.invariant.order c.members.invariant.class c.in-Member.is c.in_ok-write_next.ensures.next)
+          (next_steps_as here.order first.order c.in_ok-write_next.field-0 Member here.cursor then.cursor
+          (c.write_next.new.steps - c.members.steps)
+          c.members.invariant.order c.in-Member.is c.in_ok-write_next.ensures.steps);
+      order = c.in_ok-write_next.ensures.order ∙ c.members.invariant.order;
+      class = c.in_ok-write_next.ensures.class ∙ c.members.invariant.class;
+      faults = (c.in_ok-write_next.ensures.cause).ok ∙ c.members.invariant.faults;
+    }
 
 pub returns-in-Nothing-clause-ended : goal.returns-in-Nothing-clause-ended
 returns-in-Nothing-clause-ended g c =
-    steps_all c.args.walk.now.order c.args.walk.now.class c.args.walk.now.cursor c.members.walk.cursor c.args.limit c.members.listed
+    let first = g.M.Members.at c.args.walk.now in
+    let here = g.M.Members.at c.members.walk in
+    let then = g.M.Members.at c.write_next.new.walk in
+    steps_all first.order first.class first.cursor here.cursor c.args.limit c.members.listed
     (g.O.Sink.written c.args.out.now) (g.O.Sink.written c.members.out)
     c.members.invariant.listed c.args.steps.now c.members.steps c.write_next.new.steps c.members.invariant.steps
-    (c.is_reached.ensures.no c.if-is_reached.false) c.write_next.new.walk.cursor (g.O.Sink.written c.write_next.new.out)
-    (next_as c.members.walk.order c.args.walk.now.order c.members.walk.class c.args.walk.now.class c.members.walk.cursor c.write_next.new.walk.cursor
+    (c.is_reached.ensures.no c.if-is_reached.false) then.cursor (g.O.Sink.written c.write_next.new.out)
+    (next_as here.order first.order here.class first.class here.cursor then.cursor
     (g.O.Sink.written c.members.out) (g.O.Sink.written c.write_next.new.out)
     c.in_ok-write_next.field-0 Nothing c.members.invariant.order c.members.invariant.class c.in-Nothing.is c.in_ok-write_next.ensures.next)
-    (next_steps_as c.members.walk.order c.args.walk.now.order c.in_ok-write_next.field-0 Nothing c.members.walk.cursor c.write_next.new.walk.cursor
+    (next_steps_as here.order first.order c.in_ok-write_next.field-0 Nothing here.cursor then.cursor
     (c.write_next.new.steps - c.members.steps)
     c.members.invariant.order c.in-Nothing.is c.in_ok-write_next.ensures.steps)
 
 pub returns-in_err-write_next-clause-stopped : goal.returns-in_err-write_next-clause-stopped
 returns-in_err-write_next-clause-stopped g c =
+    let first = g.M.Members.at c.args.walk.now in
+    let here = g.M.Members.at c.members.walk in
+    let then = g.M.Members.at c.write_next.new.walk in
     on_err c.from_residual.result
-    (steps_begun c.args.walk.now.order c.args.walk.now.class c.args.walk.now.cursor c.members.walk.cursor c.args.limit c.members.listed
+    (steps_begun first.order first.class first.cursor here.cursor c.args.limit c.members.listed
     (g.O.Sink.written c.args.out.now) (g.O.Sink.written c.members.out)
     c.members.invariant.listed c.args.steps.now c.members.steps c.write_next.new.steps c.members.invariant.steps
-    (c.is_reached.ensures.no c.if-is_reached.false) c.write_next.new.walk.cursor (g.O.Sink.written c.write_next.new.out)
-    (begun_as c.members.walk.order c.args.walk.now.order c.members.walk.class c.args.walk.now.class c.members.walk.cursor c.write_next.new.walk.cursor
+    (c.is_reached.ensures.no c.if-is_reached.false) then.cursor (g.O.Sink.written c.write_next.new.out)
+    (begun_as here.order first.order here.class first.class here.cursor then.cursor
     (g.O.Sink.written c.members.out) (g.O.Sink.written c.write_next.new.out)
     c.members.invariant.order c.members.invariant.class c.in_err-write_next.ensures.begun)
-    (tree_as c.members.walk.order c.args.walk.now.order c.members.walk.cursor c.write_next.new.walk.cursor (c.write_next.new.steps - c.members.steps)
+    (tree_as here.order first.order here.cursor then.cursor (c.write_next.new.steps - c.members.steps)
     c.members.invariant.order c.in_err-write_next.ensures.stopped))
 
 pub returns-then-is_reached-clause-ended : goal.returns-then-is_reached-clause-ended
 returns-then-is_reached-clause-ended g c =
-    steps_limit c.args.walk.now.order c.args.walk.now.class c.args.walk.now.cursor c.members.walk.cursor c.args.limit c.members.listed
+    let first = g.M.Members.at c.args.walk.now in
+    let here = g.M.Members.at c.members.walk in
+    steps_limit first.order first.class first.cursor here.cursor c.args.limit c.members.listed
     (g.O.Sink.written c.args.out.now) (g.O.Sink.written c.members.out) c.members.invariant.listed c.args.steps.now c.members.steps c.members.steps
     c.members.invariant.steps (c.is_reached.ensures.yes c.if-is_reached.true)
 
@@ -119,9 +136,3 @@ returns-in-Nothing-clause-cause g c =
 
 pub returns-in-Nothing-clause-stopped : goal.returns-in-Nothing-clause-stopped
 returns-in-Nothing-clause-stopped g c = tt
-
-pub entry_room-entry-requires : goal.entry_room-entry-requires
-entry_room-entry-requires g c = search tests
-
-pub write_next-requires : goal.write_next-requires
-write_next-requires g c = search tests

@@ -1,4 +1,4 @@
-use Rattle.std.proofs.Common.{refl, tests}
+use Rattle.std.proofs.Common.{refl}
 use Rattle.bk_word.proofs.Failing.{on_err}
 use Rattle.bk_list.proofs.Exits.{cause_of_exit, no_cause, not_ok}
 use Rattle.bk_list.proofs.ListingSteps.{word_some}
@@ -7,7 +7,8 @@ use Rattle.bk_list.proofs.entries.write_next.Goals as goal
 
 pub write_line-requires-clause-some : goal.write_line-requires-clause-some
 write_line-requires-clause-some g c =
-    word_some c.args.walk.now.order c.args.walk.now.class c.args.walk.now.cursor c.advance_in.new.entry.tiling c.advance_in.new.entry.word
+    let first = g.M.Members.at c.args.walk.now in
+    word_some first.order first.class first.cursor c.advance_in.new.entry.tiling c.advance_in.new.entry.word
     (c.advance_in.ensures.entry c.if-not-advance_in.false)
 
 pub returns-in_err-write_line-clause-begun : goal.returns-in_err-write_line-clause-begun
@@ -88,6 +89,3 @@ returns-clause-steps g c = c.advance_in.ensures.steps c.if-not-advance_in.false
 
 pub returns-clause-stopped : goal.returns-clause-stopped
 returns-clause-stopped g c = tt
-
-pub advance_in-requires : goal.advance_in-requires
-advance_in-requires g c = search tests

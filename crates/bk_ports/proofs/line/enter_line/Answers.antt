@@ -1,4 +1,7 @@
-use Rattle.std.proofs.Common.{refl}
+use Rattle.std.proofs.Common.{[], List, ℕ, false, length, refl, subst, sym}
+use Rattle.std.proofs.lemmas.Bool.{eqb-true}
+use Rattle.std.proofs.lemmas.List.{nil_from_length}
+use Rattle.bk_ports.proofs.OneLine.{none_appends}
 use Rattle.bk_ports.proofs.line.enter_line.Goals as goal
 
 pub returns-in-Err-clause-entered : goal.returns-in-Err-clause-entered
@@ -48,3 +51,32 @@ returns-in-Ok-NoMemory-clause-stopped g c = rw c.in-Ok-NoMemory.field-0-is at c.
 
 pub returns-in-Err-clause-stopped : goal.returns-in-Err-clause-stopped
 returns-in-Err-clause-stopped g c = c.in-Err.ensures.failed
+
+pub returns-then-is_empty-clause-entered : goal.returns-then-is_empty-clause-entered
+returns-then-is_empty-clause-entered g c =
+    let none = nil_from_length c.args.line.now (eqb-true (length c.args.line.now) 0 (sym c.if-is_empty.ensures)) in
+    record {
+      pieces = [];
+      answer =
+          subst (λ (l : List ℕ). g.R.Register.enters c.args.register.now c.args.number l [] false c.args.register.now)
+          (sym none) (g.met.R.Register.empty_line c.args.register.now c.args.number);
+      written = none_appends (g.O.Sink.written c.args.out.now);
+    }
+
+pub returns-then-is_empty-clause-stopped : goal.returns-then-is_empty-clause-stopped
+returns-then-is_empty-clause-stopped g c = tt
+
+pub returns-then-is_empty-clause-ready : goal.returns-then-is_empty-clause-ready
+returns-then-is_empty-clause-ready g c = g.met.R.Register.still_ready c.args.register.now c.args.number c.requires.ready
+
+pub returns-in-Ok-Accepted-clause-stopped : goal.returns-in-Ok-Accepted-clause-stopped
+returns-in-Ok-Accepted-clause-stopped g c = tt
+
+pub returns-in-Ok-Refused-clause-stopped : goal.returns-in-Ok-Refused-clause-stopped
+returns-in-Ok-Refused-clause-stopped g c = tt
+
+pub returns-in-Ok-NoMemory-clause-entered : goal.returns-in-Ok-NoMemory-clause-entered
+returns-in-Ok-NoMemory-clause-entered g c = tt
+
+pub returns-in-Ok-NoMemory-clause-ready : goal.returns-in-Ok-NoMemory-clause-ready
+returns-in-Ok-NoMemory-clause-ready g c = tt

@@ -1,5 +1,5 @@
 use Rattle.bk_word.specs.Word.{order_of}
-use Rattle.bk_tree_walk.proofs.Members.{member_from, none_other}
+use Rattle.bk_tree_walk.proofs.MemberEntries.{member_from, none_other}
 use Rattle.std.proofs.Common.{sym, true≢false}
 use Rattle.bk_tree_walk.proofs.judging.find_by_flow.Goals as goal
 

@@ -3,7 +3,7 @@ use Rattle.std.proofs.Common.{ap, arith, refl, subst, sym, true≢false, ◌∙�
 use Rattle.bk_word.specs.Play.{IsComplete}
 use Rattle.bk_word.specs.Word.{order_of}
 use Rattle.bk_catalogue.specs.Repeated.{HasNoMember}
-use Rattle.bk_tree_walk.proofs.Members.{same_entry}
+use Rattle.bk_tree_walk.proofs.MemberEntries.{same_entry}
 use Rattle.bk_tree_walk.proofs.tree_walk.is_members.Goals as goal
 
 pub find_member-requires-clause-whole : goal.find_member-requires-clause-whole

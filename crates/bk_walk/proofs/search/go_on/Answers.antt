@@ -4,7 +4,7 @@ use Rattle.bk_catalogue.specs.Catalogue.{IsEntry}
 use Rattle.bk_tree_walk.specs.Search.{Meets, SearchState, StaysOf, place_of}
 use Rattle.bk_tree_walk.specs.WholeWords.{IsMembersWord}
 use Rattle.bk_tree_walk.specs.declared.Went.TheVariants.{End, Met}
-use Rattle.bk_tree_walk.proofs.Members.{same_entry}
+use Rattle.bk_tree_walk.proofs.MemberEntries.{same_entry}
 use Rattle.bk_tree_walk.proofs.PlaceLaws.{ends_there}
 use Rattle.bk_walk.proofs.search.go_on.Goals as goal
 

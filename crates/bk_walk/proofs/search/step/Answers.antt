@@ -1,5 +1,5 @@
 use Rattle.std.proofs.Common.{refl, tests}
-use Rattle.bk_tree_walk.proofs.Members.{same_entry}
+use Rattle.bk_tree_walk.proofs.MemberEntries.{same_entry}
 use Rattle.bk_tree_walk.proofs.PlaceLaws.{settled_leads, settled_unmet}
 use Rattle.bk_tree_walk.proofs.SearchTurns.{stays_then}
 use Rattle.bk_walk.proofs.PlaceLaws.{goes_on}

@@ -159,3 +159,24 @@ has-requires g c = subst AreAscendingNumbers (sym c.as_slice.ensures.value) c.so
 
 pub is_dropped-requires : goal.is_dropped-requires
 is_dropped-requires g c = tt
+
+pub len-requires : goal.len-requires
+len-requires g c = omega arith
+
+pub push-requires : goal.push-requires
+push-requires g c = (omega arith, omega (arith, c.len.ensures.value, c.if-len.true))
+
+pub sort_once-requires : goal.sort_once-requires
+sort_once-requires g c = omega arith
+
+pub len-requires-2 : goal.len-requires-2
+len-requires-2 g c = omega arith
+
+pub push-requires-then-len-2 : goal.push-requires-then-len-2
+push-requires-then-len-2 g c = (omega arith, omega (arith, c.len-2.ensures.value, c.if-len-2.true))
+
+pub as_slice-requires : goal.as_slice-requires
+as_slice-requires g c = omega arith
+
+pub cut_off-limit-requires : goal.cut_off-limit-requires
+cut_off-limit-requires g c = omega arith

@@ -1,4 +1,4 @@
-use Rattle.std.proofs.Common.{List, ap, arith, length, lit<, refl, subst, sym, ℕ, ◌∙◌}
+use Rattle.std.proofs.Common.{List, [], ap, arith, length, lit<, refl, subst, sym, ℕ, ◌++◌, ◌∷◌, ◌∙◌}
 use Rattle.bk_word.specs.Outline.{IsLegalMove, start, valley_of}
 use Rattle.bk_word.specs.Play.{outline_of}
 use Rattle.bk_word.specs.Word.{Move, Word, order_of}
@@ -117,3 +117,63 @@ node_lines-lines-requires-clause-between c = stand_between c.self.inside.lefts.i
     (left_count c.self.inside.skel c.self.inside.lefts.items c.self.invariant.left_word ∙ sym c.order-behind.ensures.value)
     (ap (λ (l : List ℕ). length l) c.self.invariant.rights_are ∙ as_many_rights c.self.inside.skel ∙ sym c.order-behind.ensures.value)
     (c.as_slice-3.ensures.items ∙ c.push_lefts.ensures) (c.as_slice-4.ensures.items ∙ c.push_rights.ensures)
+
+pub valley_squares-squares-requires : goal.valley_squares-squares-requires
+valley_squares-squares-requires c = tt
+
+pub as_slice-requires : goal.as_slice-requires
+as_slice-requires c = lit< tt
+
+pub left_of_first-first-requires : goal.left_of_first-first-requires
+left_of_first-first-requires c = tt
+
+pub as_slice-requires-2 : goal.as_slice-requires-2
+as_slice-requires-2 c = lit< tt
+
+pub right_of_last-last-requires : goal.right_of_last-last-requires
+right_of_last-last-requires c = tt
+
+pub order-behind-requires : goal.order-behind-requires
+order-behind-requires c = tt
+
+pub overflow_cast-behind : goal.overflow_cast-behind
+overflow_cast-behind c = omega (arith, c.order-behind.ensures.value, ap order_of c.self.view_is, c.requires.few)
+
+pub push_lefts-requires-clause-some : goal.push_lefts-requires-clause-some
+push_lefts-requires-clause-some c = omega (arith, c.requires.legal.some, ap (λ (m : Move). m.count) c.m.view_is)
+
+pub push_lefts-requires-clause-few : goal.push_lefts-requires-clause-few
+push_lefts-requires-clause-few c =
+    omega (arith, c.order-behind.ensures.value, ap order_of c.self.view_is, ap (λ (m : Move). m.count) c.m.view_is, c.requires.few)
+
+pub push_rights-requires-clause-some : goal.push_rights-requires-clause-some
+push_rights-requires-clause-some c = omega (arith, c.requires.legal.some, ap (λ (m : Move). m.count) c.m.view_is)
+
+pub push_rights-requires-clause-few : goal.push_rights-requires-clause-few
+push_rights-requires-clause-few c =
+    omega (arith, c.order-behind.ensures.value, ap order_of c.self.view_is, ap (λ (m : Move). m.count) c.m.view_is, c.requires.few)
+
+pub as_slice-requires-3 : goal.as_slice-requires-3
+as_slice-requires-3 c = lit< tt
+
+pub as_slice-requires-4 : goal.as_slice-requires-4
+as_slice-requires-4 c = lit< tt
+
+pub node_lines-lines-requires-clause-some : goal.node_lines-lines-requires-clause-some
+node_lines-lines-requires-clause-some c = omega (arith, c.requires.legal.some, ap (λ (m : Move). m.count) c.m.view_is)
+
+pub node_lines-lines-requires-clause-few : goal.node_lines-lines-requires-clause-few
+node_lines-lines-requires-clause-few c =
+    omega (arith, c.order-behind.ensures.value, ap order_of c.self.view_is, ap (λ (m : Move). m.count) c.m.view_is, c.requires.few)
+
+pub first_after-self-inside-requires : goal.first_after-self-inside-requires
+first_after-self-inside-requires c = tt
+
+pub play-requires-clause-legal : goal.play-requires-clause-legal
+play-requires-clause-legal c = subst (λ (v : Word). IsLegalMove (outline_of v) c.args.m.now) (sym c.self.view_is) c.requires.legal
+
+pub play-requires-clause-few : goal.play-requires-clause-few
+play-requires-clause-few c = omega (arith, ap order_of c.self.view_is, c.requires.few)
+
+pub returns : goal.returns
+returns c = c.play.ensures ∙ ap (λ (v : Word). v ++ c.args.m.now ∷ []) c.self.view_is

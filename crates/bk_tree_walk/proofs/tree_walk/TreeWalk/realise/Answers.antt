@@ -4,7 +4,7 @@ use Rattle.bk_word.specs.Word.{Word}
 use Rattle.bk_catalogue.proofs.OneEntry.{entry_complete}
 use Rattle.bk_word_net.specs.Realised.{IsTilingOf}
 use Rattle.bk_tree_walk.specs.Search.{SearchState}
-use Rattle.bk_tree_walk.proofs.Members.{member_realised}
+use Rattle.bk_tree_walk.proofs.MemberEntries.{member_realised}
 use Rattle.bk_tree_walk.proofs.tree_walk.TreeWalk.realise.Goals as goal
 
 pub flow_of-requires-clause-closed : goal.flow_of-requires-clause-closed

@@ -2,7 +2,7 @@ use Rattle.std.proofs.Common.{arith, false, refl, rules, subst, sym, true≢fals
 use Rattle.bk_word.specs.Word.{Word, order_of}
 use Rattle.bk_catalogue.specs.Following.{start_cursor}
 use Rattle.bk_tree_walk.specs.Search.{SearchState}
-use Rattle.bk_walk.specs.Walking.{IsKeptWalk}
+use Rattle.bk_walk.specs.KeptWalk.{IsKeptWalk}
 use Rattle.bk_walk.proofs.walk.TabledWalk.new.Goals as goal
 
 pub returns : goal.returns

@@ -1,5 +1,0 @@
-pub mod Passing
-pub mod LeftExamples
-pub mod Listing
-pub mod LeftBehind
-pub mod ClosingExamples

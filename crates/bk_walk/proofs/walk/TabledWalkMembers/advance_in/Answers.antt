@@ -1,0 +1,199 @@
+use Rattle.std.proofs.Common.{None, Some, [], ap, arith, refl, subst, sym, true≢false, ◌-◌, ◌<◌, ◌^◌, ◌∙◌}
+use Rattle.bk_walk.proofs.Answering.{finds_of, kept_at_end, kept_at_word, kept_ended, members_order, next_member, none_after, steps_to_end, steps_to_word}
+use Rattle.bk_tree_walk.proofs.MemberEntries.{same_entry}
+use Rattle.bk_tree_walk.proofs.SearchLoop.{counts_known, counts_none, counts_then}
+use Rattle.bk_catalogue.specs.Tree.{IsAtMostTree}
+use Rattle.bk_catalogue.specs.Following.{HasNoneAfter}
+use Rattle.bk_word.specs.Word.{order_of}
+use Rattle.bk_tree_walk.specs.Search.{PushesGrow, place_of}
+use Rattle.bk_tree_walk.specs.Walking.{IsNextMember, WalkState}
+use Rattle.bk_tree_walk.specs.declared.Found.TheVariants.{Ended, Member}
+use Rattle.bk_walk.proofs.walk.TabledWalkMembers.advance_in.Goals as goal
+
+pub invariant_of-self : goal.invariant_of-self
+invariant_of-self g c =
+    let s = c.self.inside.tree in
+    let finds = finds_of s.order c.resume.new.self.order s.class c.resume.new.self.class (place_of c.resume.new.self) c.search.new.tree.front
+    (c.search.new.steps - c.resume.new.steps) Ended c.resume.ensures.stays.order c.resume.ensures.stays.class c.in-Ended.ensures.finds in
+    kept_ended s.order c.search.new.tree.order s.class c.search.new.tree.class c.self.inside.cursor c.search.new.tree.front c.search.new.tree.pushes
+    (c.in-Ended.ensures.stays.order ∙ c.resume.ensures.stays.order) (c.in-Ended.ensures.stays.class ∙ c.resume.ensures.stays.class)
+    (kept_at_end s.order s.class c.self.inside.cursor c.search.new.tree.front c.search.new.tree.pushes c.self.invariant.least c.self.invariant.most
+    c.self.invariant.few finds.1
+    (none_after s.order s.class c.self.inside.cursor (place_of c.resume.new.self) c.resume.ensures.place c.args.steps.now c.resume.new.steps
+    c.search.new.steps c.resume.ensures.few finds.0)
+    (counts_known c.resume.new.self.pushes c.search.new.tree.pushes c.resume.new.steps c.search.new.steps c.in-Ended.ensures.stays.counts))
+
+pub invariant_of-self-2 : goal.invariant_of-self-2
+invariant_of-self-2 g c =
+    let s = c.self.inside.tree in
+    let entry = same_entry s.order c.resume.new.self.order s.class c.resume.new.self.class c.search.new.tree.front c.search.new.tree.front
+    c.search.new.tiling c.resume.ensures.stays.order c.resume.ensures.stays.class refl (c.in-Member.ensures.member refl) in
+    kept_at_word s.order c.search.new.tree.order c.search.new.tree.class c.copy_of.result c.search.new.tree.front c.self.inside.ended
+    c.search.new.tree.pushes c.self.invariant.least c.self.invariant.most (c.in-Member.ensures.stays.order ∙ c.resume.ensures.stays.order)
+    (c.copy_of.ensures ∙ c.word_played.ensures ∙ c.skel.ensures.value)
+    (members_order s.order s.class c.search.new.tiling c.search.new.tree.front entry) c.if-self.false
+    (counts_known c.resume.new.self.pushes c.search.new.tree.pushes c.resume.new.steps c.search.new.steps c.in-Member.ensures.stays.counts)
+
+pub word_played-requires : goal.word_played-requires
+word_played-requires g c =
+    let kept = c.skel.ensures.kept in omega (arith, ap order_of c.skel.ensures.value, (kept.stand).small, kept.most)
+
+pub copy_of-requires : goal.copy_of-requires
+copy_of-requires g c = let kept = c.skel.ensures.kept in
+    omega (arith, ap order_of (c.word_played.ensures ∙ c.skel.ensures.value), (kept.stand).small, kept.most)
+
+pub returns-in-Ended-clause-none : goal.returns-in-Ended-clause-none
+returns-in-Ended-clause-none g c _ =
+    let s = c.self.inside.tree in
+    let finds = finds_of s.order c.resume.new.self.order s.class c.resume.new.self.class (place_of c.resume.new.self) c.search.new.tree.front
+    (c.search.new.steps - c.resume.new.steps) Ended c.resume.ensures.stays.order c.resume.ensures.stays.class c.in-Ended.ensures.finds in
+    subst (λ (w : WalkState). HasNoneAfter w.order w.class w.cursor) c.self.view_is
+    (none_after s.order s.class c.self.inside.cursor (place_of c.resume.new.self) c.resume.ensures.place c.args.steps.now c.resume.new.steps
+    c.search.new.steps c.resume.ensures.few finds.0)
+
+pub returns-in-Ended-clause-steps_to_end : goal.returns-in-Ended-clause-steps_to_end
+returns-in-Ended-clause-steps_to_end g c _ =
+    let s = c.self.inside.tree in
+    let finds = finds_of s.order c.resume.new.self.order s.class c.resume.new.self.class (place_of c.resume.new.self) c.search.new.tree.front
+    (c.search.new.steps - c.resume.new.steps) Ended c.resume.ensures.stays.order c.resume.ensures.stays.class c.in-Ended.ensures.finds in
+    subst (λ (w : WalkState). IsAtMostTree w.order w.cursor None (c.search.new.steps - c.args.steps.now)) c.self.view_is
+    (steps_to_end s.order s.class c.self.inside.cursor (place_of c.resume.new.self) c.resume.ensures.place c.args.steps.now c.resume.new.steps
+    c.search.new.steps c.resume.ensures.few finds.0)
+
+pub returns-clause-entry : goal.returns-clause-entry
+returns-clause-entry g c _ =
+    let s = c.self.inside.tree in
+    let finds = finds_of s.order c.resume.new.self.order s.class c.resume.new.self.class (place_of c.resume.new.self) c.search.new.tree.front
+    (c.search.new.steps - c.resume.new.steps) Member c.resume.ensures.stays.order c.resume.ensures.stays.class c.in-Member.ensures.finds in
+    let entry = same_entry s.order c.resume.new.self.order s.class c.resume.new.self.class c.search.new.tree.front c.search.new.tree.front
+    c.search.new.tiling c.resume.ensures.stays.order c.resume.ensures.stays.class refl (c.in-Member.ensures.member refl) in
+    subst (λ (w : WalkState). IsNextMember w.order w.class w.cursor c.search.new.tiling c.word_played.result) c.self.view_is
+    (next_member s.order s.class c.self.inside.cursor (place_of c.resume.new.self) c.resume.ensures.place c.args.steps.now c.resume.new.steps
+    c.search.new.steps c.resume.ensures.few c.search.new.tiling c.search.new.tree.front c.word_played.result
+    (c.word_played.ensures ∙ c.skel.ensures.value) entry finds)
+
+pub returns-clause-code : goal.returns-clause-code
+returns-clause-code g c _ = c.become_that_of.ensures
+
+pub returns-clause-steps : goal.returns-clause-steps
+returns-clause-steps g c _ =
+    let s = c.self.inside.tree in
+    let finds = finds_of s.order c.resume.new.self.order s.class c.resume.new.self.class (place_of c.resume.new.self) c.search.new.tree.front
+    (c.search.new.steps - c.resume.new.steps) Member c.resume.ensures.stays.order c.resume.ensures.stays.class c.in-Member.ensures.finds in
+    subst (λ (w : WalkState). IsAtMostTree w.order w.cursor (Some c.copy_of.result) (c.search.new.steps - c.args.steps.now)) c.self.view_is
+    (steps_to_word s.order s.class c.self.inside.cursor (place_of c.resume.new.self) c.resume.ensures.place c.args.steps.now c.resume.new.steps
+    c.search.new.steps c.resume.ensures.few c.search.new.tree.front c.copy_of.result
+    (c.copy_of.ensures ∙ c.word_played.ensures ∙ c.skel.ensures.value) finds)
+
+-- the walk has ended before
+pub returns-then-self-clause-entry : goal.returns-then-self-clause-entry
+returns-then-self-clause-entry g c e = absurd (true≢false (sym e))
+
+pub returns-then-self-clause-code : goal.returns-then-self-clause-code
+returns-then-self-clause-code g c e = absurd (true≢false (sym e))
+
+pub returns-then-self-clause-none : goal.returns-then-self-clause-none
+returns-then-self-clause-none g c _ =
+    subst (λ (w : WalkState). HasNoneAfter w.order w.class w.cursor) c.self.view_is (c.self.invariant.none c.if-self.true)
+
+pub returns-then-self-clause-cursor : goal.returns-then-self-clause-cursor
+returns-then-self-clause-cursor g c e = absurd (true≢false (sym e))
+
+pub returns-then-self-clause-stays : goal.returns-then-self-clause-stays
+returns-then-self-clause-stays g c _ = refl
+
+pub returns-then-self-clause-ended : goal.returns-then-self-clause-ended
+returns-then-self-clause-ended g c = (λ _. refl, λ _. ap (λ (w : WalkState). w.ended) (sym c.self.view_is) ∙ c.if-self.true)
+
+pub returns-then-self-clause-later : goal.returns-then-self-clause-later
+returns-then-self-clause-later g c _ = refl
+
+pub returns-then-self-clause-order : goal.returns-then-self-clause-order
+returns-then-self-clause-order g c = refl
+
+pub returns-then-self-clause-class : goal.returns-then-self-clause-class
+returns-then-self-clause-class g c = refl
+
+pub returns-then-self-clause-steps : goal.returns-then-self-clause-steps
+returns-then-self-clause-steps g c e = absurd (true≢false (sym e))
+
+-- the search comes to the end
+pub returns-in-Ended-clause-entry : goal.returns-in-Ended-clause-entry
+returns-in-Ended-clause-entry g c e = absurd (true≢false (sym e))
+
+pub returns-in-Ended-clause-code : goal.returns-in-Ended-clause-code
+returns-in-Ended-clause-code g c e = absurd (true≢false (sym e))
+
+pub returns-in-Ended-clause-cursor : goal.returns-in-Ended-clause-cursor
+returns-in-Ended-clause-cursor g c e = absurd (true≢false (sym e))
+
+pub returns-in-Ended-clause-stays : goal.returns-in-Ended-clause-stays
+returns-in-Ended-clause-stays g c _ = ap (λ (w : WalkState). w.cursor) c.self.view_is
+
+pub returns-in-Ended-clause-ended : goal.returns-in-Ended-clause-ended
+returns-in-Ended-clause-ended g c = (λ _. refl, λ _. refl)
+
+pub returns-in-Ended-clause-later : goal.returns-in-Ended-clause-later
+returns-in-Ended-clause-later g c _ = refl
+
+pub returns-in-Ended-clause-order : goal.returns-in-Ended-clause-order
+returns-in-Ended-clause-order g c = c.in-Ended.ensures.stays.order ∙ c.resume.ensures.stays.order ∙ ap (λ (w : WalkState). w.order) c.self.view_is
+
+pub returns-in-Ended-clause-class : goal.returns-in-Ended-clause-class
+returns-in-Ended-clause-class g c = c.in-Ended.ensures.stays.class ∙ c.resume.ensures.stays.class ∙ ap (λ (w : WalkState). w.class) c.self.view_is
+
+pub returns-in-Ended-clause-steps : goal.returns-in-Ended-clause-steps
+returns-in-Ended-clause-steps g c e = absurd (true≢false (sym e))
+
+-- the search comes to a member
+pub returns-clause-none : goal.returns-clause-none
+returns-clause-none g c e = absurd (true≢false e)
+
+pub returns-clause-cursor : goal.returns-clause-cursor
+returns-clause-cursor g c _ = c.copy_of.ensures
+
+pub returns-clause-stays : goal.returns-clause-stays
+returns-clause-stays g c e = absurd (true≢false e)
+
+pub returns-clause-ended : goal.returns-clause-ended
+returns-clause-ended g c = (λ e. absurd (true≢false (sym e ∙ c.if-self.false)), λ e. absurd (true≢false e))
+
+pub returns-clause-later : goal.returns-clause-later
+returns-clause-later g c e = absurd (true≢false (sym e ∙ ap (λ (w : WalkState). w.ended) (sym c.self.view_is) ∙ c.if-self.false))
+
+pub returns-clause-order : goal.returns-clause-order
+returns-clause-order g c = c.in-Member.ensures.stays.order ∙ c.resume.ensures.stays.order ∙ ap (λ (w : WalkState). w.order) c.self.view_is
+
+pub returns-clause-class : goal.returns-clause-class
+returns-clause-class g c = c.in-Member.ensures.stays.class ∙ c.resume.ensures.stays.class ∙ ap (λ (w : WalkState). w.class) c.self.view_is
+
+pub returns-clause-steps_to_end : goal.returns-clause-steps_to_end
+returns-clause-steps_to_end g c e = absurd (true≢false e)
+
+pub returns-then-self-clause-pushes : goal.returns-then-self-clause-pushes
+returns-then-self-clause-pushes g c =
+    counts_none c.args.self.now.pushes c.args.steps.now (subst (λ (w : WalkState). w.pushes < 2 ^ 64) c.self.view_is c.self.invariant.known)
+
+pub resume-requires-clause-begun : goal.resume-requires-clause-begun
+resume-requires-clause-begun g c = c.self.invariant.begun
+
+pub resume-requires-clause-few : goal.resume-requires-clause-few
+resume-requires-clause-few g c = c.self.invariant.few
+
+pub returns-in-Ended-clause-pushes : goal.returns-in-Ended-clause-pushes
+returns-in-Ended-clause-pushes g c =
+    subst (λ (w : WalkState). PushesGrow w.pushes c.search.new.tree.pushes c.args.steps.now c.search.new.steps) c.self.view_is
+    (counts_then c.self.inside.tree.pushes c.resume.new.self.pushes c.search.new.tree.pushes c.args.steps.now c.resume.new.steps c.search.new.steps
+    c.resume.ensures.stays.counts c.in-Ended.ensures.stays.counts)
+
+pub returns-clause-pushes : goal.returns-clause-pushes
+returns-clause-pushes g c =
+    subst (λ (w : WalkState). PushesGrow w.pushes c.search.new.tree.pushes c.args.steps.now c.search.new.steps) c.self.view_is
+    (counts_then c.self.inside.tree.pushes c.resume.new.self.pushes c.search.new.tree.pushes c.args.steps.now c.resume.new.steps c.search.new.steps
+    c.resume.ensures.stays.counts c.in-Member.ensures.stays.counts)
+
+pub returns-then-self-clause-steps_to_end : goal.returns-then-self-clause-steps_to_end
+returns-then-self-clause-steps_to_end g c _ = record { words = []; each = tt; ascending = tt; count = omega arith }
+
+pub search-requires : goal.search-requires
+search-requires g c = grind (arith, g.ROOM.fits)
