@@ -1,5 +1,0 @@
-use Rattle.bk_layout.proofs.RuleScan.{a_layout_has_a_word_by_rule_r as the_law}
-use Rattle.bk_layout.proofs.a_layout_has_a_word_by_rule_r.Goals as goal
-
-pub returns : goal.returns
-returns c = the_law

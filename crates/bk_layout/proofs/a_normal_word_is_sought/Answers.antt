@@ -1,5 +1,0 @@
-use Rattle.bk_layout.proofs.NormalImages.{a_normal_word_is_sought as the_law}
-use Rattle.bk_layout.proofs.a_normal_word_is_sought.Goals as goal
-
-pub returns : goal.returns
-returns c = the_law

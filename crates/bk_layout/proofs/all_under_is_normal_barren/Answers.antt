@@ -1,5 +1,0 @@
-use Rattle.bk_layout.proofs.LastMoves.{all_under_is_normal_barren as the_law}
-use Rattle.bk_layout.proofs.all_under_is_normal_barren.Goals as goal
-
-pub returns : goal.returns
-returns c = the_law

@@ -1,5 +1,0 @@
-use Rattle.bk_layout.proofs.FewMoves.{most_moves_are_most as the_law}
-use Rattle.bk_layout.proofs.most_moves_are_most.Goals as goal
-
-pub returns : goal.returns
-returns c = the_law

@@ -1,5 +1,0 @@
-use Rattle.bk_layout.proofs.LastMoves.{too_many_at_left_is_normal_barren as the_law}
-use Rattle.bk_layout.proofs.too_many_at_left_is_normal_barren.Goals as goal
-
-pub returns : goal.returns
-returns c = the_law
