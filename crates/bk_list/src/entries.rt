@@ -19,6 +19,13 @@ use bk_tree_walk::{Entry, Members};
 use bk_word::Word;
 use std::sync::ledger::Ledger;
 
+// Room for an entry and for its line.
+#[derive(Drop)]
+pub(crate) struct Room {
+    pub entry: Entry,
+    pub buffer: AnswerBuffer,
+}
+
 // What comes after the cursor.
 pub(crate) enum Next {
     // a member, whose entry is written
@@ -32,7 +39,7 @@ pub(crate) fn write_entries<M: Members, L: Ledger, O: Sink>(
     walk: &mut M,
     limit: Option<u64>,
     steps: &mut Steps<L>,
-    buffer: &mut AnswerBuffer,
+    room: &mut Room,
     out: &mut O,
 ) -> Result<(Last, u64), Failed>
     requires { (M.at walk.old).order ≤ 16 }
@@ -46,13 +53,12 @@ pub(crate) fn write_entries<M: Members, L: Ledger, O: Sink>(
         OnErr result (StoppedAtEntry from.order from.class from.cursor limit (O.written out.old) (O.written out.new)
         (steps.new - steps.old)) }
 {
-    let mut entry = walk.entry_room();
     let mut listed: u64 = 0;
     'members: loop {
         if is_reached(limit, listed) {
             return Ok((Last::Limit, listed));
         }
-        match write_next(walk, steps, &mut entry, buffer, out)? {
+        match write_next(walk, steps, room, out)? {
             Next::Member => listed += 1,
             Next::Nothing => return Ok((Last::End, listed)),
         }
@@ -67,12 +73,11 @@ fn is_reached(limit: Option<u64>, listed: u64) -> bool
     matches!(limit, Some(most) if most == listed)
 }
 
-// Writes the entry of the next member, by one call. There is room for it in `entry`.
+// Writes the entry of the next member, by one call.
 fn write_next<M: Members, L: Ledger, O: Sink>(
     walk: &mut M,
     steps: &mut Steps<L>,
-    entry: &mut Entry,
-    buffer: &mut AnswerBuffer,
+    room: &mut Room,
     out: &mut O,
 ) -> Result<Next, Failed>
     ensures next { let from = M.at walk.old in let then = M.at walk.new in
@@ -87,6 +92,7 @@ fn write_next<M: Members, L: Ledger, O: Sink>(
     ensures stopped { let from = M.at walk.old in let then = M.at walk.new in
         OnErr result (IsAtMostTree from.order from.cursor (Some then.cursor) (steps.new - steps.old)) }
 {
+    let Room { entry, buffer } = room;
     if !walk.advance_in(steps, entry) {
         return Ok(Next::Nothing);
     }

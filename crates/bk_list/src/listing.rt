@@ -7,7 +7,7 @@ ghost use Rattle.bk_catalogue.specs.Following.{start_cursor};
 ghost use Rattle.bk_list.specs.Stepping.{TakesSteps, TookSteps};
 ghost use Rattle.bk_list.specs.Writing.{BeginsListing, WritesListing};
 
-use crate::entries::write_entries;
+use crate::entries::{Room, write_entries};
 use bk_grammar::AnswerBuffer;
 use bk_ports::{Failed, Sink};
 use bk_report::{Last, write_last};
@@ -51,7 +51,11 @@ pub fn write_listing<M: Members, L: Ledger, O: Sink>(
     ensures stopped { OnErr result (TookSteps order class (start_cursor from) limit (O.written out.old) (O.written out.new) (steps.new - steps.old)) }
 {
     let mut walk = M::after(alloc, order, class, from);
-    write_by(&mut walk, order, class, limit, steps, out)
+    let mut room = Room {
+        entry: walk.entry_room(),
+        buffer: AnswerBuffer::new(),
+    };
+    write_by(&mut walk, order, class, limit, steps, &mut room, out)
 }
 
 // Writes the listing of what comes after the cursor of a walk of the order and the class.
@@ -61,6 +65,7 @@ fn write_by<M: Members, L: Ledger, O: Sink>(
     class: Class,
     limit: Option<u64>,
     steps: &mut Steps<L>,
+    room: &mut Room,
     out: &mut O,
 ) -> Result<Last, Failed>
     requires most { order ≤ 16 }
@@ -73,9 +78,8 @@ fn write_by<M: Members, L: Ledger, O: Sink>(
     ensures steps { IfOk result (λ last. TakesSteps order class (M.at walk.old).cursor limit last (steps.new - steps.old)) }
     ensures stopped { OnErr result (TookSteps order class (M.at walk.old).cursor limit (O.written out.old) (O.written out.new) (steps.new - steps.old)) }
 {
-    let mut buffer = AnswerBuffer::new();
-    let (last, listed) = write_entries(walk, limit, steps, &mut buffer, out)?;
-    write_last(last, order, class, listed, walk.cursor(), &mut buffer);
-    out.write_all(buffer.as_slice())?;
+    let (last, listed) = write_entries(walk, limit, steps, room, out)?;
+    write_last(last, order, class, listed, walk.cursor(), &mut room.buffer);
+    out.write_all(room.buffer.as_slice())?;
     Ok(last)
 }

@@ -85,9 +85,6 @@ returns-clause-steps g c =
     (g.O.Sink.written c.args.out.now) (g.O.Sink.written c.write_entries.new.out) (c.write_entries.new.steps - c.args.steps.now)
     c.in_ok-last.ensures.ended)
 
-pub new-buffer-requires : goal.new-buffer-requires
-new-buffer-requires g c = lit< tt
-
 pub returns-in_err-last-clause-listed : goal.returns-in_err-last-clause-listed
 returns-in_err-last-clause-listed g c = not_ok _ c.from_residual.result _ c.from_residual.ensures.1
 

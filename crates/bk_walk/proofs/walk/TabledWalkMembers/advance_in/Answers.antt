@@ -4,7 +4,8 @@ use Rattle.bk_tree_walk.proofs.MemberEntries.{same_entry}
 use Rattle.bk_tree_walk.proofs.SearchLoop.{counts_known, counts_none, counts_then}
 use Rattle.bk_catalogue.specs.Tree.{IsAtMostTree}
 use Rattle.bk_catalogue.specs.Following.{HasNoneAfter}
-use Rattle.bk_word.specs.Word.{order_of}
+use Rattle.bk_tiling.specs.Tiling.{Tiling}
+use Rattle.bk_code.specs.Code.{code_of}
 use Rattle.bk_tree_walk.specs.Search.{PushesGrow, place_of}
 use Rattle.bk_tree_walk.specs.Walking.{IsNextMember, WalkState}
 use Rattle.bk_tree_walk.specs.declared.Found.TheVariants.{Ended, Member}
@@ -28,19 +29,11 @@ invariant_of-self-2 g c =
     let s = c.self.inside.tree in
     let entry = same_entry s.order c.resume.new.self.order s.class c.resume.new.self.class c.search.new.tree.front c.search.new.tree.front
     c.search.new.tiling c.resume.ensures.stays.order c.resume.ensures.stays.class refl (c.in-Member.ensures.member refl) in
-    kept_at_word s.order c.search.new.tree.order c.search.new.tree.class c.copy_of.result c.search.new.tree.front c.self.inside.ended
+    kept_at_word s.order c.search.new.tree.order c.search.new.tree.class c.write_found.new.cursor c.search.new.tree.front c.self.inside.ended
     c.search.new.tree.pushes c.self.invariant.least c.self.invariant.most (c.in-Member.ensures.stays.order ∙ c.resume.ensures.stays.order)
-    (c.copy_of.ensures ∙ c.word_played.ensures ∙ c.skel.ensures.value)
+    c.write_found.ensures.cursor
     (members_order s.order s.class c.search.new.tiling c.search.new.tree.front entry) c.if-self.false
     (counts_known c.resume.new.self.pushes c.search.new.tree.pushes c.resume.new.steps c.search.new.steps c.in-Member.ensures.stays.counts)
-
-pub word_played-requires : goal.word_played-requires
-word_played-requires g c =
-    let kept = c.skel.ensures.kept in omega (arith, ap order_of c.skel.ensures.value, (kept.stand).small, kept.most)
-
-pub copy_of-requires : goal.copy_of-requires
-copy_of-requires g c = let kept = c.skel.ensures.kept in
-    omega (arith, ap order_of (c.word_played.ensures ∙ c.skel.ensures.value), (kept.stand).small, kept.most)
 
 pub returns-in-Ended-clause-none : goal.returns-in-Ended-clause-none
 returns-in-Ended-clause-none g c _ =
@@ -67,23 +60,24 @@ returns-clause-entry g c _ =
     (c.search.new.steps - c.resume.new.steps) Member c.resume.ensures.stays.order c.resume.ensures.stays.class c.in-Member.ensures.finds in
     let entry = same_entry s.order c.resume.new.self.order s.class c.resume.new.self.class c.search.new.tree.front c.search.new.tree.front
     c.search.new.tiling c.resume.ensures.stays.order c.resume.ensures.stays.class refl (c.in-Member.ensures.member refl) in
-    subst (λ (w : WalkState). IsNextMember w.order w.class w.cursor c.search.new.tiling c.word_played.result) c.self.view_is
+    let found = c.write_found.new.entry in
+    subst (λ (w : WalkState). IsNextMember w.order w.class w.cursor found.tiling found.word) c.self.view_is
+    (subst (λ (t : Tiling). IsNextMember s.order s.class c.self.inside.cursor t found.word) (sym c.write_found.ensures.tiling)
     (next_member s.order s.class c.self.inside.cursor (place_of c.resume.new.self) c.resume.ensures.place c.args.steps.now c.resume.new.steps
-    c.search.new.steps c.resume.ensures.few c.search.new.tiling c.search.new.tree.front c.word_played.result
-    (c.word_played.ensures ∙ c.skel.ensures.value) entry finds)
+    c.search.new.steps c.resume.ensures.few c.search.new.tiling c.search.new.tree.front found.word c.write_found.ensures.word entry finds))
 
 pub returns-clause-code : goal.returns-clause-code
-returns-clause-code g c _ = c.become_that_of.ensures
+returns-clause-code g c _ = c.write_found.ensures.code ∙ ap code_of (sym c.write_found.ensures.tiling)
 
 pub returns-clause-steps : goal.returns-clause-steps
 returns-clause-steps g c _ =
     let s = c.self.inside.tree in
     let finds = finds_of s.order c.resume.new.self.order s.class c.resume.new.self.class (place_of c.resume.new.self) c.search.new.tree.front
     (c.search.new.steps - c.resume.new.steps) Member c.resume.ensures.stays.order c.resume.ensures.stays.class c.in-Member.ensures.finds in
-    subst (λ (w : WalkState). IsAtMostTree w.order w.cursor (Some c.copy_of.result) (c.search.new.steps - c.args.steps.now)) c.self.view_is
+    subst (λ (w : WalkState). IsAtMostTree w.order w.cursor (Some c.write_found.new.cursor) (c.search.new.steps - c.args.steps.now)) c.self.view_is
     (steps_to_word s.order s.class c.self.inside.cursor (place_of c.resume.new.self) c.resume.ensures.place c.args.steps.now c.resume.new.steps
-    c.search.new.steps c.resume.ensures.few c.search.new.tree.front c.copy_of.result
-    (c.copy_of.ensures ∙ c.word_played.ensures ∙ c.skel.ensures.value) finds)
+    c.search.new.steps c.resume.ensures.few c.search.new.tree.front c.write_found.new.cursor
+    c.write_found.ensures.cursor finds)
 
 -- the walk has ended before
 pub returns-then-self-clause-entry : goal.returns-then-self-clause-entry
@@ -150,7 +144,7 @@ pub returns-clause-none : goal.returns-clause-none
 returns-clause-none g c e = absurd (true≢false e)
 
 pub returns-clause-cursor : goal.returns-clause-cursor
-returns-clause-cursor g c _ = c.copy_of.ensures
+returns-clause-cursor g c _ = c.write_found.ensures.cursor ∙ sym c.write_found.ensures.word
 
 pub returns-clause-stays : goal.returns-clause-stays
 returns-clause-stays g c e = absurd (true≢false e)
