@@ -1,9 +1,9 @@
 -- A place is stored in a group, and an item among the items.
 use Rattle.std.specs.List.{list_any, position_or_len}
 use Rattle.std.specs.Map.{keys_of, values_of}
-use Rattle.std.specs.Prelude.{Bool, None, Option, Some, cond, false, map, slice_get, true, zero}
+use Rattle.std.specs.Prelude.{Bool, Err, None, Ok, OnErr, Option, Result, Some, cond, false, is_err, map, slice_get, true, zero}
 use Rattle.std.proofs.Common.{List, [], ap, arith, inl, inr, length, refl, suc, sym, ℕ, ◌++◌, ◌<◌, ◌||◌, ◌∙◌, ◌∷◌, ◌≡◌, ◌≤◌, nat_lt}
-use Rattle.std.proofs.lemmas.Bool.{cases_Bool, true≢false}
+use Rattle.std.proofs.lemmas.Bool.{cases_Bool, false≢true, true≢false}
 use Rattle.std.proofs.lemmas.Bool.Decides.{nat_tests}
 use Rattle.std.proofs.lemmas.List.{length-map, map-append}
 use Rattle.std.proofs.lemmas.Option.{same_Some}
@@ -83,3 +83,8 @@ module _ {V : Type 0} (f : V → List ℕ) (entries more : List ((ℕ × ℕ) ×
       ∙ ap (λ (l : List ℕ). map f (values_of entries) ++ l ∷ []) one
       ∙ sym (with_place-end (map f (values_of entries)) (position_or_len (size_eq a) (keys_of entries)) place
       (omega (arith, late, length-map entries (λ e. e.0), length-map entries (λ e. e.1), length-map (values_of entries) f)))
+
+-- what holds where a call fails
+pub went_ill : {T E : Type 0} (r : Result T E) (P : Type 0) → is_err r ≡ true → OnErr r P → P
+went_ill (Ok x) P e h = absurd (false≢true e)
+went_ill (Err x) P e h = h

@@ -1,7 +1,8 @@
 use Rattle.std.specs.List.{position_or_len}
+use Rattle.std.specs.Map.{keys_of, values_of}
 use Rattle.std.specs.Prelude.{OnOk, cond, map}
-use Rattle.std.proofs.Common.{Bool, List, [], ap, length, subst, sym, ℕ, ◌++◌, ◌<◌, ◌∙◌, ◌∷◌, ◌≡◌}
-use Rattle.std.proofs.lemmas.Result.{on_ok_weaker}
+use Rattle.std.proofs.Common.{Bool, [], ap, length, subst, sym, ℕ, ◌++◌, ◌∙◌, ◌∷◌, ◌≡◌}
+use Rattle.std.proofs.lemmas.Result.{on_err_weaker, on_ok_weaker}
 use Rattle.indexmap.specs.IndexMap.{keys, values}
 use Rattle.bk_alike.specs.Alike.{size_eq}
 use Rattle.bk_alike.specs.Grouped.{with_place}
@@ -37,3 +38,15 @@ returns-in-Ok-clause-groups c =
     let late = none_late (position_or_len (size_eq c.args.size) (keys c.args.groups.now)) (length (keys c.args.groups.now)) c.in-None.ensures.index in
     groups_grown (λ group. group.items) c.args.groups.now.entries c.insert.new.self.entries c.args.size c.in_ok-group-in-None.group c.args.place late
     c.in-Ok.ensures.entries c.in_ok-group-in-None.ensures.items
+
+pub returns-in-Some-clause-same_sizes : goal.returns-in-Some-clause-same_sizes
+returns-in-Some-clause-same_sizes c = on_err_weaker c.put_in.result (λ _. c.put_in.ensures.sizes) c.put_in.ensures.same
+
+pub returns-in-Some-clause-same_groups : goal.returns-in-Some-clause-same_groups
+returns-in-Some-clause-same_groups c = c.put_in.ensures.same
+
+pub returns-clause-same_sizes : goal.returns-clause-same_sizes
+returns-clause-same_sizes c = ap keys_of c.in-Err.ensures.err
+
+pub returns-clause-same_groups : goal.returns-clause-same_groups
+returns-clause-same_groups c = ap (λ l. map (λ group. group.items) (values_of l)) c.in-Err.ensures.err
