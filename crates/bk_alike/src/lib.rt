@@ -77,15 +77,17 @@ impl Alike {
             return Err(AddFault::Full);
         }
         let kept = canonical(tiling);
-        if push_item(self.alloc, &mut self.items, line, &kept).is_err() {
-            return Err(AddFault::NoMemory);
-        }
         let size = (kept.width(), kept.height());
-        if put_in_group(self.alloc, &mut self.groups, size, n as u32).is_err() {
-            self.items.truncate(n);
-            return Err(AddFault::NoMemory);
+        match push_item(self.alloc, &mut self.items, line, &kept) {
+            Ok(()) => match put_in_group(self.alloc, &mut self.groups, size, n as u32) {
+                Ok(()) => Ok(()),
+                Err(AllocError) => {
+                    self.items.truncate(n);
+                    Err(AddFault::NoMemory)
+                }
+            },
+            Err(AllocError) => Err(AddFault::NoMemory),
         }
-        Ok(())
     }
 
     /// How many items are kept.
@@ -179,13 +181,13 @@ fn put_in_group(
 {
     match groups.get_index_of(&size) {
         Some(g) => put_in(groups, g, place),
-        None => {
-            let group = Vec::from_slice(alloc, &[place])?;
-            match groups.insert(size, group) {
+        None => match Vec::from_slice(alloc, &[place]) {
+            Ok(group) => match groups.insert(size, group) {
                 Ok(_) => Ok(()),
                 Err(_) => Err(AllocError),
-            }
-        }
+            },
+            Err(AllocError) => Err(AllocError),
+        },
     }
 }
 
