@@ -180,7 +180,10 @@ fn put_in_group(
     ensures same_groups { OnErr result (map (λ group. group.items) (values groups.new) ≡ map (λ group. group.items) (values groups.old)) }
 {
     match groups.get_index_of(&size) {
-        Some(g) => put_in(groups, g, place),
+        Some(g) => match groups[g].push(place) {
+            Ok(()) => Ok(()),
+            Err(_) => Err(AllocError),
+        },
         None => match Vec::from_slice(alloc, &[place]) {
             Ok(group) => match groups.insert(size, group) {
                 Ok(_) => Ok(()),
@@ -188,22 +191,5 @@ fn put_in_group(
             },
             Err(AllocError) => Err(AllocError),
         },
-    }
-}
-
-// Puts a place into a group.
-fn put_in(
-    groups: &mut IndexMap<(u64, u64), Vec<u32>>,
-    g: usize,
-    place: u32,
-) -> Result<(), AllocError>
-    requires { g < length (values groups.old) }
-    ensures sizes { keys groups.new ≡ keys groups.old }
-    ensures put { OnOk result (map (λ group. group.items) (values groups.new) ≡ with_place (map (λ group. group.items) (values groups.old)) g place) }
-    ensures same { OnErr result (map (λ group. group.items) (values groups.new) ≡ map (λ group. group.items) (values groups.old)) }
-{
-    match groups[g].push(place) {
-        Ok(()) => Ok(()),
-        Err(_) => Err(AllocError),
     }
 }
