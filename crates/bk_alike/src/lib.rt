@@ -156,13 +156,12 @@ fn push_item(
     ensures pushed { OnOk result (items.new.items ≡ items.old.items ++ record { line = line; tiling = tiling.now } ∷ []) }
     ensures same { OnErr result (items.new.items ≡ items.old.items) }
 {
-    let item = KeptItem {
-        line,
-        tiling: KeptTiling::new(alloc, tiling)?,
-    };
-    match items.push(item) {
-        Ok(()) => Ok(()),
-        Err(_) => Err(AllocError),
+    match KeptTiling::new(alloc, tiling) {
+        Ok(tiling) => match items.push(KeptItem { line, tiling }) {
+            Ok(()) => Ok(()),
+            Err(_) => Err(AllocError),
+        },
+        Err(AllocError) => Err(AllocError),
     }
 }
 
