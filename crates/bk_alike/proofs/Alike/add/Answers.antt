@@ -98,8 +98,5 @@ returns-in-Ok-put_in_group-clause-full c =
     not_full (length c.args.self.now) no_fault
     (omega (arith, c.if-n-ge-MOST_ITEMS.false, c.len-n.ensures, ap (λ (l : List KeptItem). length l) c.self.view_is))
 
-pub same-self : goal.same-self
-same-self c = refl
-
 pub returns-then-n-ge-MOST_ITEMS-clause-unchanged : goal.returns-then-n-ge-MOST_ITEMS-clause-unchanged
 returns-then-n-ge-MOST_ITEMS-clause-unchanged c = refl
