@@ -118,6 +118,14 @@ absent_at a (b ∷ S) h = elim (cases_Bool (size_eq a b)) [
   | inr n ↦ ap (λ (v : Bool). v || list_any (size_eq a) S) n ∙ absent_at a S (omega (arith, h, later b S a n))
 ]
 
+-- and what stands somewhere is one of them
+pub present_at : (a : ℕ × ℕ) (S : List (ℕ × ℕ)) → position_or_len (size_eq a) S < length S → list_any (size_eq a) S ≡ true
+present_at a [] h = absurd (omega arith)
+present_at a (b ∷ S) h = elim (cases_Bool (size_eq a b)) [
+  | inl t ↦ ap (λ (v : Bool). v || list_any (size_eq a) S) t
+  | inr n ↦ ap (λ (v : Bool). v || list_any (size_eq a) S) n ∙ present_at a S (omega (arith, h, later b S a n))
+]
+
 module _ (f g : ℕ × ℕ → List ℕ) (a : ℕ × ℕ) (n : ℕ) (same : (b : ℕ × ℕ) → size_eq b a ≡ false → g b ≡ f b)
     (more : (b : ℕ × ℕ) → size_eq b a ≡ true → g b ≡ f b ++ n ∷ []) where
   none_here : (S : List (ℕ × ℕ)) → AllByRecursion (λ b. size_eq a b ≡ false) S → map g S ≡ map f S

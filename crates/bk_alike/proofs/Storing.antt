@@ -1,24 +1,32 @@
 -- A place is stored in a group, and an item among the items.
-use Rattle.std.specs.Prelude.{Bool, None, Option, Some, cond, false, map, slice_index_or, slice_set, true, zero}
-use Rattle.std.proofs.Common.{List, [], ap, arith, length, refl, suc, ℕ, ◌++◌, ◌<◌, ◌∙◌, ◌∷◌, ◌≡◌, ◌≤◌, nat_lt}
+use Rattle.std.specs.List.{list_any, position_or_len}
+use Rattle.std.specs.Map.{keys_of, values_of}
+use Rattle.std.specs.Prelude.{Bool, Err, None, Ok, OnErr, Option, Result, Some, cond, false, is_err, map, slice_get, true, zero}
+use Rattle.std.proofs.Common.{List, [], ap, arith, inl, inr, length, refl, suc, sym, ℕ, ◌++◌, ◌<◌, ◌||◌, ◌∙◌, ◌∷◌, ◌≡◌, ◌≤◌, nat_lt}
+use Rattle.std.proofs.lemmas.Bool.{cases_Bool, false≢true, true≢false}
 use Rattle.std.proofs.lemmas.Bool.Decides.{nat_tests}
+use Rattle.std.proofs.lemmas.List.{length-map, map-append}
 use Rattle.std.proofs.lemmas.Option.{same_Some}
+use Rattle.indexmap.specs.IndexMap.{insert_entry, set_value_at}
+use Rattle.bk_alike.specs.Alike.{size_eq, with_size}
 use Rattle.bk_alike.specs.Grouped.{with_place}
+use Rattle.bk_alike.proofs.GroupingLaws.{absent_at}
 
 -- one more place in a group that is written back
-pub set_placed : {V : Type 0} (f : V → List ℕ) (groups : List V) (g : ℕ) (v d : V) (place : ℕ) → g < length groups
-    → f v ≡ f (slice_index_or groups g d) ++ place ∷ []
-    → map f (slice_set groups g v) ≡ with_place (map f groups) g place
-set_placed f [] g v d place below e = absurd (omega arith)
-set_placed f (x ∷ groups) zero v d place below e = ap (λ (l : List ℕ). l ∷ map f groups) e
-set_placed f (x ∷ groups) (suc g) v d place below e = ap (λ (l : List (List ℕ)). f x ∷ l) (set_placed f groups g v d place (omega arith) e)
+pub set_placed : {K V : Type 0} (f : V → List ℕ) (entries : List (K × V)) (g : ℕ) (v d : V) (place : ℕ) → slice_get (values_of entries) g ≡ Some d
+    → f v ≡ f d ++ place ∷ []
+    → map f (values_of (set_value_at entries g v)) ≡ with_place (map f (values_of entries)) g place
+set_placed f [] g v d place at e = absurd (cc)
+set_placed f (x ∷ entries) zero v d place at e =
+    ap (λ (l : List ℕ). l ∷ map f (values_of entries)) (e ∙ ap (λ w. f w ++ place ∷ []) (sym (same_Some x.1 d at)))
+set_placed f (x ∷ entries) (suc g) v d place at e = ap (λ (l : List (List ℕ)). f x.1 ∷ l) (set_placed f entries g v d place at e)
 
 -- a group that is written back as it was
-pub set_same : {V : Type 0} (f : V → List ℕ) (groups : List V) (g : ℕ) (v d : V) → g < length groups → f v ≡ f (slice_index_or groups g d)
-    → map f (slice_set groups g v) ≡ map f groups
-set_same f [] g v d below e = absurd (omega arith)
-set_same f (x ∷ groups) zero v d below e = ap (λ (l : List ℕ). l ∷ map f groups) e
-set_same f (x ∷ groups) (suc g) v d below e = ap (λ (l : List (List ℕ)). f x ∷ l) (set_same f groups g v d (omega arith) e)
+pub set_same : {K V : Type 0} (f : V → List ℕ) (entries : List (K × V)) (g : ℕ) (v d : V) → slice_get (values_of entries) g ≡ Some d → f v ≡ f d
+    → map f (values_of (set_value_at entries g v)) ≡ map f (values_of entries)
+set_same f [] g v d at e = absurd (cc)
+set_same f (x ∷ entries) zero v d at e = ap (λ (l : List ℕ). l ∷ map f (values_of entries)) (e ∙ ap f (sym (same_Some x.1 d at)))
+set_same f (x ∷ entries) (suc g) v d at e = ap (λ (l : List (List ℕ)). f x.1 ∷ l) (set_same f entries g v d at e)
 
 -- a new group at the end
 pub with_place-end : (groups : List (List ℕ)) (k place : ℕ) → length groups ≤ k → with_place groups k place ≡ groups ++ (place ∷ []) ∷ []
@@ -42,6 +50,41 @@ some_found n m g e = by (nat_lt n m) refl e
     by true t e = (same_Some g n (e ∙ ap (λ (v : Bool). cond v (Some n) None) t), (grind (arith, nat_tests)))
     by false t e = absurd (cc)
 
--- what was pushed stands at the end
-pub pushed_on : {A : Type 0} (b : Bool) (xs ys zs : List A) → b ≡ true → zs ≡ cond b ys xs → zs ≡ ys
-pushed_on b xs ys zs ok e = e ∙ ap (λ (v : Bool). cond v ys xs) ok
+-- a size that is not there goes last
+new_entry : {V : Type 0} (entries : List ((ℕ × ℕ) × V)) (a : ℕ × ℕ) (v : V) → list_any (size_eq a) (keys_of entries) ≡ false
+    → insert_entry size_eq entries a v ≡ entries ++ (a, v) ∷ []
+new_entry [] a v none = refl
+new_entry {V} (x ∷ entries) a v none = elim (cases_Bool (size_eq a x.0)) [
+  | inl t ↦ absurd (true≢false (sym (ap (λ (b : Bool). b || list_any (size_eq a) (keys_of entries)) t) ∙ none))
+  | inr f ↦
+      let rest = sym (ap (λ (b : Bool). b || list_any (size_eq a) (keys_of entries)) f) ∙ none in
+      ap (λ (b : Bool). cond {A = List ((ℕ × ℕ) × V)} b ((x.0, v) ∷ entries) (x ∷ insert_entry size_eq entries a v)) f
+      ∙ ap (λ (l : List ((ℕ × ℕ) × V)). x ∷ l) (new_entry entries a v rest)
+]
+
+module _ {V : Type 0} (f : V → List ℕ) (entries more : List ((ℕ × ℕ) × V)) (a : ℕ × ℕ) (v : V) (place : ℕ)
+    (late : length (keys_of entries) ≤ position_or_len (size_eq a) (keys_of entries)) (is : more ≡ insert_entry size_eq entries a v) where
+  at_end : more ≡ entries ++ (a, v) ∷ []
+  at_end = is ∙ new_entry entries a v (absent_at a (keys_of entries) late)
+
+  -- the sizes with a new one
+  pub keys_grown : keys_of more ≡ with_size (keys_of entries) a
+  keys_grown =
+      ap (λ (l : List ((ℕ × ℕ) × V)). keys_of l) at_end ∙ map-append (λ e. e.0) entries ((a, v) ∷ [])
+      ∙ sym (ap (λ (b : Bool). cond b (keys_of entries) (keys_of entries ++ a ∷ [])) (absent_at a (keys_of entries) late))
+
+  -- and the groups with its group
+  pub groups_grown : f v ≡ place ∷ []
+      → map f (values_of more) ≡ with_place (map f (values_of entries)) (position_or_len (size_eq a) (keys_of entries)) place
+  groups_grown one =
+      ap (λ (l : List ((ℕ × ℕ) × V)). map f (values_of l)) at_end
+      ∙ ap (map f) (map-append (λ e. e.1) entries ((a, v) ∷ []))
+      ∙ map-append f (values_of entries) (v ∷ [])
+      ∙ ap (λ (l : List ℕ). map f (values_of entries) ++ l ∷ []) one
+      ∙ sym (with_place-end (map f (values_of entries)) (position_or_len (size_eq a) (keys_of entries)) place
+      (omega (arith, late, length-map entries (λ e. e.0), length-map entries (λ e. e.1), length-map (values_of entries) f)))
+
+-- what holds where a call fails
+pub went_ill : {T E : Type 0} (r : Result T E) (P : Type 0) → is_err r ≡ true → OnErr r P → P
+went_ill (Ok x) P e h = absurd (false≢true e)
+went_ill (Err x) P e h = h

@@ -7,13 +7,14 @@ ghost use Rattle.bk_tiling.specs.Tiling.{Tiling as Tiled};
 ghost use Rattle.bk_sym.specs.Canonical.{IsCanonicalOf};
 ghost use Rattle.bk_alike.specs.Alike.{alike_groups, group_of, size_eq, sizes, with_size};
 ghost use Rattle.bk_alike.specs.Grouped.{with_place};
+ghost use Rattle.indexmap.specs.IndexMap.{keys, values};
 
 mod item;
 
 use bk_pair::KeptTiling;
 use bk_sym::canonical;
 use bk_tiling::Tiling;
-use indexmap::IndexSet;
+use indexmap::IndexMap;
 pub use item::KeptItem;
 use std::alloc::{AllocError, Global};
 use std::marker::Model;
@@ -22,7 +23,7 @@ use std::marker::Model;
 const MOST_ITEMS: usize = 16_384;
 
 /// Why an item is not kept.
-#[derive(Clone, Copy, PartialEq, Eq)]
+#[derive(Clone, Copy)]
 pub enum AddFault {
     /// 16,384 items are kept.
     Full,
@@ -34,8 +35,7 @@ pub enum AddFault {
 #[derive(Drop)]
 pub struct Alike {
     items: Vec<KeptItem>,
-    sizes: IndexSet<(u64, u64)>,
-    groups: Vec<Vec<u32>>,
+    groups: IndexMap<(u64, u64), Vec<u32>>,
     alloc: Global,
 }
 
@@ -45,11 +45,12 @@ impl Model for Alike {
 
     ghost Value = { List KeptItem };
 
+    ghost use Rattle.indexmap.specs.IndexMap.{keys, values};
     ghost use Rattle.bk_alike.specs.Grouped.{IsGrouped};
 
     ghost view = { λ a. a.items.items };
 
-    ghost invariant = { λ a. IsGrouped a.items.items a.sizes.keys (map (λ group. group.items) a.groups.items) };
+    ghost invariant = { λ a. IsGrouped a.items.items (keys a.groups) (map (λ group. group.items) (values a.groups)) };
 }
 
 impl Alike {
@@ -59,8 +60,7 @@ impl Alike {
     {
         Alike {
             items: Vec::new(alloc),
-            sizes: IndexSet::new(alloc),
-            groups: Vec::new(alloc),
+            groups: IndexMap::new(alloc),
             alloc,
         }
     }
@@ -72,23 +72,20 @@ impl Alike {
         ensures kept { OnOk result ((c : Tiled) × IsCanonicalOf tiling.now c × (self.new ≡ self.old ++ record { line = line; tiling = c } ∷ [])) }
         ensures unchanged { OnErr result (self.new ≡ self.old) }
     {
-        if self.items.len() >= MOST_ITEMS {
+        let n = self.items.len();
+        if n >= MOST_ITEMS {
             return Err(AddFault::Full);
         }
-        let item = match item_of(self.alloc, line, tiling) {
-            Ok(item) => item,
-            Err(AllocError) => return Err(AddFault::NoMemory),
-        };
-        let size = (item.tiling.width(), item.tiling.height());
-        let place = self.items.len() as u32;
-        if self.items.reserve(1).is_err() {
-            return Err(AddFault::NoMemory);
-        }
-        match put_in_group(self.alloc, &mut self.sizes, &mut self.groups, size, place) {
-            Ok(()) => {
-                let _fits = self.items.push(item);
-                Ok(())
-            }
+        let kept = canonical(tiling);
+        let size = (kept.width(), kept.height());
+        match push_item(self.alloc, &mut self.items, line, &kept) {
+            Ok(()) => match put_in_group(self.alloc, &mut self.groups, size, n as u32) {
+                Ok(()) => Ok(()),
+                Err(AllocError) => {
+                    self.items.truncate(n);
+                    Err(AddFault::NoMemory)
+                }
+            },
             Err(AllocError) => Err(AddFault::NoMemory),
         }
     }
@@ -122,8 +119,8 @@ impl Alike {
         requires { g < length (alike_groups self.now) }
         ensures { slice_get (sizes self.now) g ≡ Some result }
     {
-        match self.sizes.get_index(g) {
-            Some(size) => *size,
+        match self.groups.get_index(g) {
+            Some((size, _group)) => *size,
             None => unreachable!(),
         }
     }
@@ -142,63 +139,56 @@ impl Alike {
         ensures value { result.now ≡ group_of self.now size }
         ensures few { length self.now ≤ 16_384 }
     {
-        match self.sizes.get_index_of(&size) {
+        match self.groups.get_index_of(&size) {
             Some(g) => self.members(g),
             None => &[],
         }
     }
 }
 
-// What is kept of a tiling: its canonical tiling, with its line.
-fn item_of(alloc: Global, line: u64, tiling: &Tiling) -> Result<KeptItem, AllocError>
-    ensures line { IfOk result (λ item. item.line ≡ line) }
-    ensures canonical { IfOk result (λ item. IsCanonicalOf tiling.now item.tiling) }
+// Appends an item with this canonical tiling.
+fn push_item(
+    alloc: Global,
+    items: &mut Vec<KeptItem>,
+    line: u64,
+    tiling: &Tiling,
+) -> Result<(), AllocError>
+    ensures pushed { OnOk result (items.new.items ≡ items.old.items ++ record { line = line; tiling = tiling.now } ∷ []) }
+    ensures same { OnErr result (items.new.items ≡ items.old.items) }
 {
-    Ok(KeptItem {
-        line,
-        tiling: KeptTiling::new(alloc, &canonical(tiling))?,
-    })
+    match KeptTiling::new(alloc, tiling) {
+        Ok(tiling) => match items.push(KeptItem { line, tiling }) {
+            Ok(()) => Ok(()),
+            Err(_) => Err(AllocError),
+        },
+        Err(AllocError) => Err(AllocError),
+    }
 }
 
 // Puts a place into the group of a size, or into a new one at the end.
 fn put_in_group(
     alloc: Global,
-    sizes: &mut IndexSet<(u64, u64)>,
-    groups: &mut Vec<Vec<u32>>,
+    groups: &mut IndexMap<(u64, u64), Vec<u32>>,
     size: (u64, u64),
     place: u32,
 ) -> Result<(), AllocError>
-    requires { length groups.old.items ≡ length sizes.old.keys }
-    ensures sizes { OnOk result (sizes.new.keys ≡ with_size sizes.old.keys size) }
-    ensures groups { OnOk result (map (λ group. group.items) groups.new.items
-        ≡ with_place (map (λ group. group.items) groups.old.items) (position_or_len (size_eq size) sizes.old.keys) place) }
-    ensures same_sizes { OnErr result (sizes.new.keys ≡ sizes.old.keys) }
-    ensures same_groups { OnErr result (map (λ group. group.items) groups.new.items ≡ map (λ group. group.items) groups.old.items) }
+    ensures sizes { OnOk result (keys groups.new ≡ with_size (keys groups.old) size) }
+    ensures groups { OnOk result (map (λ group. group.items) (values groups.new)
+        ≡ with_place (map (λ group. group.items) (values groups.old)) (position_or_len (size_eq size) (keys groups.old)) place) }
+    ensures same_sizes { OnErr result (keys groups.new ≡ keys groups.old) }
+    ensures same_groups { OnErr result (map (λ group. group.items) (values groups.new) ≡ map (λ group. group.items) (values groups.old)) }
 {
-    match sizes.get_index_of(&size) {
-        Some(g) => put_in(groups, g, place),
-        None => {
-            let mut group = Vec::new(alloc);
-            if group.push(place).is_err() || groups.reserve(1).is_err() {
-                return Err(AllocError);
-            }
-            if sizes.insert(size).is_err() {
-                return Err(AllocError);
-            }
-            let _fits = groups.push(group);
-            Ok(())
-        }
-    }
-}
-
-// Puts a place into a group.
-fn put_in(groups: &mut Vec<Vec<u32>>, g: usize, place: u32) -> Result<(), AllocError>
-    requires { g < length groups.old.items }
-    ensures put { OnOk result (map (λ group. group.items) groups.new.items ≡ with_place (map (λ group. group.items) groups.old.items) g place) }
-    ensures same { OnErr result (map (λ group. group.items) groups.new.items ≡ map (λ group. group.items) groups.old.items) }
-{
-    match groups[g].push(place) {
-        Ok(()) => Ok(()),
-        Err(_) => Err(AllocError),
+    match groups.get_index_of(&size) {
+        Some(g) => match groups[g].push(place) {
+            Ok(()) => Ok(()),
+            Err(_) => Err(AllocError),
+        },
+        None => match Vec::from_slice(alloc, &[place]) {
+            Ok(group) => match groups.insert(size, group) {
+                Ok(_) => Ok(()),
+                Err(_) => Err(AllocError),
+            },
+            Err(AllocError) => Err(AllocError),
+        },
     }
 }

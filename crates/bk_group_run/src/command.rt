@@ -3,6 +3,8 @@
 ghost use Rattle.bk_ports.specs.Ending.{EndsWith};
 ghost use Rattle.bk_ports.specs.Faults.{CountsTell, IsCalm, IsDoneOrWanting};
 ghost use Rattle.bk_group_run.specs.Closing.{listing_of};
+ghost use Rattle.bk_group_run.specs.Listed.{none_listed};
+ghost use Rattle.std.specs.Prelude.{◌≡◌};
 
 use crate::Wanted;
 use crate::closing::write_closing;
@@ -49,9 +51,44 @@ pub fn list_lines<S: Source, O: Sink>(
         }) }
 {
     let mut list = ItemList::new(alloc);
-    let ended = enter_lines(&mut list, source, out);
+    list_into(&mut list, wanted, source, out)
+}
+
+// The same by a list without items or refused lines.
+fn list_into<S: Source, O: Sink>(
+    list: &mut ItemList,
+    wanted: Wanted,
+    source: &mut S,
+    out: &mut O,
+) -> Ended
+    requires { list.old ≡ none_listed }
+    ensures ending { EndsWith (listing_of wanted)
+        (record {
+          left = S.left source.old;
+          left_after = S.left source.new;
+          written = O.written out.old;
+          written_after = O.written out.new;
+        })
+        result }
+    ensures complete { IsCalm (S.left source.old)
+        (record {
+          read = S.faults source.old;
+          read_after = S.faults source.new;
+          write = O.faults out.old;
+          write_after = O.faults out.new;
+        })
+        → IsDoneOrWanting result }
+    ensures faults { CountsTell result
+        (record {
+          read = S.faults source.old;
+          read_after = S.faults source.new;
+          write = O.faults out.old;
+          write_after = O.faults out.new;
+        }) }
+{
+    let ended = enter_lines(list, source, out);
     match ended {
-        Ended::NoneRefused | Ended::SomeRefused => match write_closing(wanted, &list, out) {
+        Ended::NoneRefused | Ended::SomeRefused => match write_closing(wanted, list, out) {
             Ok(()) => ended,
             Err(Failed) => Ended::WriteFailed,
         },

@@ -38,9 +38,9 @@ fn items_are_grouped_by_size(rt: HostRuntime) -> Result<(), Fail> {
     ];
     let one = [Square { x: 0, y: 0, s: 1 }];
     let mut alike = Alike::new(rt.alloc());
-    assert!(rt; added(&mut alike, 1, &tiling(3, 2, &lying)?) == Ok(()));
-    assert!(rt; added(&mut alike, 2, &tiling(1, 1, &one)?) == Ok(()));
-    assert!(rt; added(&mut alike, 4, &tiling(4, 6, &standing)?) == Ok(()));
+    assert!(rt; added(&mut alike, 1, &tiling(3, 2, &lying)?).is_ok());
+    assert!(rt; added(&mut alike, 2, &tiling(1, 1, &one)?).is_ok());
+    assert!(rt; added(&mut alike, 4, &tiling(4, 6, &standing)?).is_ok());
     assert!(rt; are_counts(&alike, 3, 2));
     assert!(rt; is_group(&alike, 0, (3, 2), &[0, 2]));
     assert!(rt; is_group(&alike, 1, (1, 1), &[1]));
@@ -52,9 +52,9 @@ fn no_more_than_16384_items_are_kept(rt: HostRuntime) -> Result<(), Fail> {
     let one = tiling(1, 1, &[Square { x: 0, y: 0, s: 1 }])?;
     let mut alike = Alike::new(rt.alloc());
     for line in 1..16_385 {
-        assert!(rt; added(&mut alike, line, &one) == Ok(()));
+        assert!(rt; added(&mut alike, line, &one).is_ok());
     }
-    assert!(rt; added(&mut alike, 16_385, &one) == Err(AddFault::Full));
+    assert!(rt; matches!(added(&mut alike, 16_385, &one), Err(AddFault::Full)));
     assert!(rt; are_counts(&alike, 16_384, 1));
     Ok(())
 }

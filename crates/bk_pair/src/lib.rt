@@ -20,7 +20,7 @@ use bk_tiling::{LONGEST_SIDE, MOST_SQUARES, Square, Tiling, put_in_order};
 pub use kept::KeptTiling;
 
 /// Why two tilings make no square, or no perfect one. The names and their order are this project's own.
-#[derive(Clone, Copy, Debug, PartialEq, Eq)]
+#[derive(Clone, Copy, PartialEq, Eq)]
 pub enum PairFault {
     /// Their sizes differ.
     Size,
