@@ -20,7 +20,8 @@ overflow_add-self g c =
     let here = g.M.Members.at c.members.self-inside.walk in
     omega (
       arith,
-      few_members c.args.self.now.walk.order (IsUpTo here.cursor) c.members.self-inside.members (subst (λ (s : RestState). s.walk.order ≤ 16) c.self.view_is c.self.invariant.most)
+      few_members c.args.self.now.walk.order (IsUpTo here.cursor) c.members.self-inside.members
+          (subst (λ (s : RestState). s.walk.order ≤ 16) c.self.view_is c.self.invariant.most)
           c.members.invariant.0.counted,
     )
 
@@ -76,13 +77,15 @@ pub returns-clause-order : goal.returns-clause-order
 returns-clause-order g c = c.advance_in.ensures.order ∙ c.members.invariant.0.order
 
 pub returns-clause-class : goal.returns-clause-class
-returns-clause-class g c = c.advance_in.ensures.class ∙ c.members.invariant.0.class ∙ sym (subst (λ (s : RestState). s.walk.class ≡ Perfect) c.self.view_is c.self.invariant.class)
+returns-clause-class g c = c.advance_in.ensures.class ∙ c.members.invariant.0.class
+    ∙ sym (subst (λ (s : RestState). s.walk.class ≡ Perfect) c.self.view_is c.self.invariant.class)
 
 pub returns-then-is_none-clause-order : goal.returns-then-is_none-clause-order
 returns-then-is_none-clause-order g c = c.advance_in.ensures.order ∙ c.members.invariant.0.order
 
 pub returns-then-is_none-clause-class : goal.returns-then-is_none-clause-class
-returns-then-is_none-clause-class g c = c.advance_in.ensures.class ∙ c.members.invariant.0.class ∙ sym (subst (λ (s : RestState). s.walk.class ≡ Perfect) c.self.view_is c.self.invariant.class)
+returns-then-is_none-clause-class g c = c.advance_in.ensures.class ∙ c.members.invariant.0.class
+    ∙ sym (subst (λ (s : RestState). s.walk.class ≡ Perfect) c.self.view_is c.self.invariant.class)
 
 pub returns-then-is_none-clause-later : goal.returns-then-is_none-clause-later
 returns-then-is_none-clause-later g c e = sym c.members-test.true ∙ c.advance_in.ensures.later (c.members.invariant.0.still e)
@@ -97,14 +100,16 @@ pub line_of-requires : goal.line_of-requires
 line_of-requires g c =
     let here = g.M.Members.at c.members.self-inside.walk in
     passing_few c.args.self.now.walk c.args.self.now.pairs here c.members.self-inside.members c.members.invariant.0 c.advance_in.new.entry.tiling
-    c.advance_in.new.entry.word (c.advance_in.ensures.entry c.members-test.true) (subst (λ (s : RestState). s.walk.order ≤ 16) c.self.view_is c.self.invariant.most)
+    c.advance_in.new.entry.word (c.advance_in.ensures.entry c.members-test.true)
+    (subst (λ (s : RestState). s.walk.order ≤ 16) c.self.view_is c.self.invariant.most)
 
 pub members-smaller : goal.members-smaller
 members-smaller g c =
     let here = g.M.Members.at c.members.self-inside.walk in
     omega (
       arith,
-      few_members c.args.self.now.walk.order (IsUpTo here.cursor) c.members.self-inside.members (subst (λ (s : RestState). s.walk.order ≤ 16) c.self.view_is c.self.invariant.most)
+      few_members c.args.self.now.walk.order (IsUpTo here.cursor) c.members.self-inside.members
+          (subst (λ (s : RestState). s.walk.order ≤ 16) c.self.view_is c.self.invariant.most)
           c.members.invariant.0.counted,
     )
 
@@ -129,7 +134,13 @@ invariant_of-self g c =
     let here = g.M.Members.at c.members.self-inside.walk in
     let then = g.M.Members.at c.advance_in.new.self in
     record {
-      most = omega (arith, c.advance_in.ensures.order, c.members.invariant.0.order, (subst (λ (s : RestState). s.walk.order ≤ 16) c.self.view_is c.self.invariant.most));
+      most =
+          omega (
+            arith,
+            c.advance_in.ensures.order,
+            c.members.invariant.0.order,
+            (subst (λ (s : RestState). s.walk.order ≤ 16) c.self.view_is c.self.invariant.most),
+          );
       class = c.advance_in.ensures.class ∙ c.members.invariant.0.class;
       reached =
           passing_stays c.args.self.now.walk c.args.self.now.pairs here c.members.self-inside.members c.members.invariant.0 then
@@ -141,7 +152,13 @@ invariant_of-self-then-is_none g c =
     let here = g.M.Members.at c.members.self-inside.walk in
     let then = g.M.Members.at c.advance_in.new.self in
     record {
-      most = omega (arith, c.advance_in.ensures.order, c.members.invariant.0.order, (subst (λ (s : RestState). s.walk.order ≤ 16) c.self.view_is c.self.invariant.most));
+      most =
+          omega (
+            arith,
+            c.advance_in.ensures.order,
+            c.members.invariant.0.order,
+            (subst (λ (s : RestState). s.walk.order ≤ 16) c.self.view_is c.self.invariant.most),
+          );
       class = c.advance_in.ensures.class ∙ c.members.invariant.0.class;
       reached =
           passing_counted c.args.self.now.walk c.args.self.now.pairs here c.members.self-inside.members c.members.invariant.0 c.advance_in.new.entry.tiling
