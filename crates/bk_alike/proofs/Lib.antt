@@ -1,3 +1,14 @@
 pub mod AlikeExamples
 pub mod GroupingLaws
 pub mod Storing
+pub mod WrittenLines
+pub mod ListedLines
+pub mod PairLines
+pub mod ClosedLists
+pub mod ListLoops
+pub mod GroupMembers
+pub mod PairLoops
+pub mod LastLines
+pub mod LaterPairs
+pub mod OneListing
+pub mod GroupExamples

@@ -1,4 +1,5 @@
-//! Canonical tilings of one size, put together.
+//! Canonical tilings of one size, put together; and lines of codes that are listed, with what is written behind them: groups of one size, or
+//! pairs that make a square.
 #![tactic(auto)]
 
 ghost use Rattle.std.specs.List.{position_or_len};
@@ -7,13 +8,20 @@ ghost use Rattle.bk_tiling.specs.Tiling.{Tiling as Tiled};
 ghost use Rattle.bk_sym.specs.Canonical.{IsCanonicalOf};
 ghost use Rattle.bk_alike.specs.Alike.{alike_groups, group_of, size_eq, sizes, with_size};
 ghost use Rattle.bk_alike.specs.Grouped.{with_place};
+ghost use Rattle.bk_alike.specs.ListingLaw.{LinesHaveOneListing};
 ghost use Rattle.indexmap.specs.IndexMap.{keys, values};
 
+mod closing;
+mod command;
 mod item;
+mod listed;
+mod pairs;
 
+use bk_ask::Kind;
 use bk_pair::KeptTiling;
 use bk_sym::canonical;
 use bk_tiling::Tiling;
+pub use command::list_lines;
 use indexmap::IndexMap;
 pub use item::KeptItem;
 use std::alloc::{AllocError, Global};
@@ -29,6 +37,15 @@ pub enum AddFault {
     Full,
     /// Memory is wanting.
     NoMemory,
+}
+
+/// What is written behind the lines of a list.
+#[derive(Clone, Copy)]
+pub enum Wanted {
+    /// The items, grouped by size.
+    Groups,
+    /// The pairs of items that are laid together to a square.
+    Pairs(Kind),
 }
 
 /// Items with their canonical tilings, grouped by the sizes of these. It is seen as the list of the items.
@@ -192,3 +209,9 @@ fn put_in_group(
         },
     }
 }
+
+/// Lines have one listing: the replies to them, the items that are kept and the number of refused lines are a function of the
+/// lines, and so is all that is written of them.
+pub fn lines_have_one_listing()
+    ensures { LinesHaveOneListing }
+{}

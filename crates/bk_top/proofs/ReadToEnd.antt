@@ -3,10 +3,10 @@ use Rattle.std.proofs.Common.{List, Some, subst, sym, ℕ, ◌≡◌}
 use Rattle.bk_ports.proofs.TakenBytes.{taken_all}
 use Rattle.bk_ports.specs.Lines.{lines_of}
 use Rattle.bk_ports.specs.declared.Ended.TheVariants.{NoneRefused, SomeRefused}
-use Rattle.bk_group_run.proofs.OneListing.{none_refused}
-use Rattle.bk_group_run.specs.Closing.{listing_of}
-use Rattle.bk_group_run.specs.Listed.{HasRefusedLine}
-use Rattle.bk_group_run.specs.declared.Wanted.{Wanted}
+use Rattle.bk_alike.proofs.OneListing.{none_refused}
+use Rattle.bk_alike.specs.Closing.{listing_of}
+use Rattle.bk_alike.specs.Listed.{HasRefusedLine}
+use Rattle.bk_alike.specs.declared.Wanted.{Wanted}
 use Rattle.bk_told.proofs.OneReport.{no_fault_there}
 use Rattle.bk_told.specs.Report.{HasFault}
 use Rattle.bk_told.specs.Running.{report_of}

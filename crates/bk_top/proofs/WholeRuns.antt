@@ -14,8 +14,8 @@ use Rattle.bk_ask.specs.Help.{help_text, usage}
 use Rattle.bk_ask.specs.declared.Ask.{Ask}
 use Rattle.bk_ask.specs.declared.Ask.TheVariants as asks
 use Rattle.bk_ask.specs.declared.Kind.{Kind}
-use Rattle.bk_group_run.specs.Closing.{listing_of}
-use Rattle.bk_group_run.specs.declared.Wanted.TheVariants.{Groups, Pairs}
+use Rattle.bk_alike.specs.Closing.{listing_of}
+use Rattle.bk_alike.specs.declared.Wanted.TheVariants.{Groups, Pairs}
 use Rattle.bk_told.specs.Running.{report_of}
 use Rattle.bk_top.proofs.AnsweredLines.{answers_lines}
 use Rattle.bk_top.proofs.Statuses.{not_two}

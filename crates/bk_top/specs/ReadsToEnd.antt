@@ -8,9 +8,9 @@ use Rattle.bk_ports.specs.Faults.{CountsTell, Faults, HasNoFault, IsCalm}
 use Rattle.bk_ports.specs.Lines.{lines_of}
 use Rattle.bk_ports.specs.declared.Ended.{Ended}
 use Rattle.bk_answer.specs.declared.command.Command.{Command}
-use Rattle.bk_group_run.specs.Closing.{listing_of}
-use Rattle.bk_group_run.specs.Listed.{HasRefusedLine}
-use Rattle.bk_group_run.specs.declared.Wanted.{Wanted}
+use Rattle.bk_alike.specs.Closing.{listing_of}
+use Rattle.bk_alike.specs.Listed.{HasRefusedLine}
+use Rattle.bk_alike.specs.declared.Wanted.{Wanted}
 use Rattle.bk_told.specs.Report.{HasFault}
 use Rattle.bk_told.specs.Running.{report_of}
 use Rattle.bk_top.specs.Deciding.{IsDecided, replies_of}

@@ -1,12 +1,12 @@
 //! Lists that are read to their end.
 
 ghost use Rattle.std.specs.Prelude.{◌≤◌};
-ghost use Rattle.bk_group_run.specs.Closing.{listing_of};
+ghost use Rattle.bk_alike.specs.Closing.{listing_of};
 ghost use Rattle.bk_told.specs.Running.{report_of};
 ghost use Rattle.bk_top.specs.ReadsToEnd.{ReadsToEnd};
 
 use crate::lines::status;
-use bk_group_run::{Wanted, list_lines};
+use bk_alike::{Wanted, list_lines};
 use bk_ports::{Sink, Source};
 use bk_told::verify;
 use bk_walk::Walk;

@@ -1,0 +1,137 @@
+-- A list that was read to its end, and what is written behind it.
+use Rattle.std.specs.List.{concat}
+use Rattle.std.specs.Prelude.{Err, Ok, OnErr, OnOk, Result}
+use Rattle.std.proofs.Common.{List, Option, Bool, false, inl, inr, refl, subst, sym, true, ℕ, ◌++◌, ◌≡◌, ◌⊎◌}
+use Rattle.bk_ports.proofs.KnownSteps.{appends_more, prefix_after}
+use Rattle.bk_ports.specs.Causes.{HasCause, Rose}
+use Rattle.bk_ports.specs.declared.Failed.{Failed}
+use Rattle.bk_ports.proofs.OtherOutputs.{IsStop, broken_behind, stops_as, whole_behind}
+use Rattle.bk_ports.specs.Ending.{EndsWith, HasVerdict, IsBrokenBehind, IsWhole, Streams}
+use Rattle.bk_ports.specs.Entering.{AreAllEntered, entries_of}
+use Rattle.bk_ports.specs.Faults.{CountsTell, Faults}
+use Rattle.bk_ports.specs.Reply.{text_of}
+use Rattle.bk_ports.specs.declared.Ended.{Ended}
+use Rattle.bk_ports.specs.declared.Ended.TheVariants.{NoMemory, NoneRefused, ReadFailed, SomeRefused, TooMany, WriteFailed}
+use Rattle.bk_alike.specs.Closing.{IsClosingBroken, IsListed, closing_lines, listing_of}
+use Rattle.bk_alike.specs.Listed.{Listed, listing_rules, none_listed}
+use Rattle.bk_alike.specs.declared.Wanted.{Wanted}
+use Rattle.bk_alike.specs.Writing.{WritesLines}
+
+abbrev pub streams_of : Option (List ℕ) → Option (List ℕ) → Option (List ℕ) → Option (List ℕ) → Streams
+streams_of left left_after written written_after = record { left = left; left_after = left_after; written = written; written_after = written_after }
+
+-- all lines are entered
+abbrev pub IsVerdict : Ended → Type 0
+IsVerdict NoneRefused = Unit {0}
+IsVerdict SomeRefused = Unit {0}
+IsVerdict _ = ⊥
+
+pub verdict_told : (ended : Ended) → (ended ≡ NoneRefused) ⊎ (ended ≡ SomeRefused) → IsVerdict ended
+verdict_told ended (inl e) = subst IsVerdict (sym e) tt
+verdict_told ended (inr e) = subst IsVerdict (sym e) tt
+
+-- a run that stops at its lines
+pub stops_listing : (wanted : Wanted) (last : Listed) (streams : Streams) (ended : Ended) → IsStop ended
+    → EndsWith (entries_of listing_rules none_listed last) streams ended → EndsWith (listing_of wanted) streams ended
+stops_listing wanted last =
+    stops_as (entries_of listing_rules none_listed last) (listing_of wanted)
+    (record {
+      lines = λ lines refused a b all. (last, all);
+      begun = λ lines a b begun. begun;
+      begun_behind = λ lines a b none. absurd none;
+      short = λ lines a b short. short;
+    })
+
+module _ (wanted : Wanted) (last : Listed) (left left_after a b c : Option (List ℕ)) where
+  listed : (refused : Bool) (lines : List (List ℕ)) → (r : Result (Unit {0}) Failed) → WritesLines (closing_lines wanted last) b c r → r ≡ Ok tt
+      → AreAllEntered listing_rules none_listed 1 lines a b refused last → IsListed wanted lines refused a c
+  listed refused lines (Ok x) w e h = record {
+    replies = h.replies;
+    last = last;
+    each = h.each;
+    any = h.any;
+    written = appends_more a b c (text_of h.replies) (concat (closing_lines wanted last)) (text_of h.replies ++ concat
+        (closing_lines wanted last)) h.written w refl;
+  }
+  listed refused lines (Err f) w e h = absurd (cc)
+
+  broken : (refused : Bool) (lines : List (List ℕ)) → (r : Result (Unit {0}) Failed) → WritesLines (closing_lines wanted last) b c r → (f : Failed)
+      → r ≡ Err f → AreAllEntered listing_rules none_listed 1 lines a b refused last → IsClosingBroken wanted lines a c
+  broken refused lines (Ok x) w f e h = absurd (cc)
+  broken refused lines (Err g) w f e h = record {
+    replies = h.replies;
+    last = last;
+    each = h.each;
+    written = prefix_after a b c (text_of h.replies) (concat (closing_lines wanted last)) h.written w;
+  }
+
+  listed_behind : (refused : Bool) → (r : Result (Unit {0}) Failed) → WritesLines (closing_lines wanted last) b c r → r ≡ Ok tt
+      → IsWhole (entries_of listing_rules none_listed last) (streams_of left left_after a b) refused
+      → IsWhole (listing_of wanted) (streams_of left left_after a c) refused
+  listed_behind refused r w e all =
+      whole_behind (entries_of listing_rules none_listed last) (listing_of wanted) left left_after a b c refused all refused
+      (λ lines. listed refused lines r w e)
+
+  closing_broken : (refused : Bool) → (r : Result (Unit {0}) Failed) → WritesLines (closing_lines wanted last) b c r → (f : Failed) → r ≡ Err f
+      → IsWhole (entries_of listing_rules none_listed last) (streams_of left left_after a b) refused
+      → IsBrokenBehind (listing_of wanted) (streams_of left left_after a c)
+  closing_broken refused r w f e all =
+      broken_behind (entries_of listing_rules none_listed last) (listing_of wanted) left left_after a b c refused all (λ lines. broken refused lines r w f e)
+
+  -- where all lines are entered, and what is wanted was written or not
+  pub closes_well : (ended : Ended) → EndsWith (entries_of listing_rules none_listed last) (streams_of left left_after a b) ended → IsVerdict ended
+      → (r : Result (Unit {0}) Failed) → WritesLines (closing_lines wanted last) b c r → r ≡ Ok tt
+      → EndsWith (listing_of wanted) (streams_of left left_after a c) ended
+  closes_well NoneRefused h v r w e = listed_behind false r w e h
+  closes_well SomeRefused h v r w e = listed_behind true r w e h
+  closes_well ReadFailed h v r w e = absurd v
+  closes_well WriteFailed h v r w e = absurd v
+  closes_well NoMemory h v r w e = absurd v
+  closes_well TooMany h v r w e = absurd v
+
+  pub closes_broken : (ended : Ended) → EndsWith (entries_of listing_rules none_listed last) (streams_of left left_after a b) ended → IsVerdict ended
+      → (r : Result (Unit {0}) Failed) → WritesLines (closing_lines wanted last) b c r → (f : Failed) → r ≡ Err f
+      → EndsWith (listing_of wanted) (streams_of left left_after a c) WriteFailed
+  closes_broken NoneRefused h v r w f e = inr (closing_broken false r w f e h)
+  closes_broken SomeRefused h v r w f e = inr (closing_broken true r w f e h)
+  closes_broken ReadFailed h v r w f e = absurd v
+  closes_broken WriteFailed h v r w f e = absurd v
+  closes_broken NoMemory h v r w f e = absurd v
+  closes_broken TooMany h v r w f e = absurd v
+
+-- a run that comes to an end of its lines has a verdict
+pub has_verdict : (ended : Ended) → IsVerdict ended → HasVerdict ended
+has_verdict NoneRefused v = (false, refl)
+has_verdict SomeRefused v = (true, refl)
+has_verdict ReadFailed v = absurd v
+has_verdict WriteFailed v = absurd v
+has_verdict NoMemory v = absurd v
+has_verdict TooMany v = absurd v
+
+abbrev pub faults_of : ℕ → ℕ → ℕ → ℕ → Faults
+faults_of read read_after write write_after = record { read = read; read_after = read_after; write = write; write_after = write_after }
+
+module _ (read read_after write between now : ℕ) where
+  -- no count rises at the lines of such a run
+  no_fault : (ended : Ended) → IsVerdict ended → CountsTell ended (faults_of read read_after write between) → (read_after ≡ read) × (between ≡ write)
+  no_fault NoneRefused v h = h
+  no_fault SomeRefused v h = h
+  no_fault ReadFailed v h = absurd v
+  no_fault WriteFailed v h = absurd v
+  no_fault NoMemory v h = absurd v
+  no_fault TooMany v h = absurd v
+
+  -- none where what is wanted was written
+  pub well_told : (ended : Ended) → CountsTell ended (faults_of read read_after write between) → (r : Result (Unit {0}) Failed)
+      → HasCause between now r → r ≡ Ok tt → CountsTell ended (faults_of read read_after write now)
+  well_told ended h r cause e = subst (λ (n : ℕ). CountsTell ended (faults_of read read_after write n))
+      (sym (subst (λ (w : Result (Unit {0}) Failed). OnOk w (now ≡ between)) e cause.ok)) h
+
+  -- and that of the sink where it was not
+  pub badly_told : (ended : Ended) → IsVerdict ended → CountsTell ended (faults_of read read_after write between) → (r : Result (Unit {0}) Failed)
+      → HasCause between now r → (f : Failed) → r ≡ Err f → CountsTell WriteFailed (faults_of read read_after write now)
+  badly_told ended v h r cause f e =
+      let calm = no_fault ended v h in (
+        calm.0,
+        subst (λ (n : ℕ). Rose n now) calm.1 (subst (λ (w : Result (Unit {0}) Failed). OnErr w (Rose between now)) e cause.failed),
+      )

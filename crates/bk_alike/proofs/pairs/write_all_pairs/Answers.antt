@@ -1,0 +1,71 @@
+use Rattle.std.proofs.Common.{arith, le_of_eq, length, refl, sym, ◌∙◌}
+use Rattle.std.proofs.lemmas.Result.{err_from_is_err_and}
+use Rattle.std.proofs.lemmas.List.{at_drop_all}
+use Rattle.std.specs.Prelude.{drop}
+use Rattle.bk_answer.proofs.PieceByPiece.{failed_later}
+use Rattle.bk_alike.specs.Pairs.{all_pairs}
+use Rattle.bk_alike.proofs.PairLoops.{count_more, few_so_far, pairs_broken, pairs_more}
+use Rattle.bk_alike.proofs.ListLoops.{ends_broken}
+use Rattle.bk_alike.proofs.WrittenLines.{written_all, written_none}
+use Rattle.bk_alike.proofs.pairs.write_all_pairs.Goals as goal
+
+pub returns-in_err-more-clause-lines : goal.returns-in_err-more-clause-lines
+returns-in_err-more-clause-lines g c =
+    let p = err_from_is_err_and c.from_residual.result c.from_residual.ensures.1 in
+    ends_broken (all_pairs c.args.kind c.args.items.now) (g.O.Sink.written c.args.out.now) (g.O.Sink.written c.write_pairs_with.new.out)
+    c.from_residual.result p.0 p.1
+    (pairs_broken c.args.kind c.args.items.now c.loop-i.i (g.O.Sink.written c.args.out.now) (g.O.Sink.written c.loop-i.out)
+    (g.O.Sink.written c.write_pairs_with.new.out)
+    (omega (arith, c.loop-i-test.true, c.len-i-end.ensures.value)) c.loop-i.invariant.written c.in_err-more.ensures.lines)
+
+pub overflow_add-pairs : goal.overflow_add-pairs
+overflow_add-pairs g c =
+    omega (
+      arith,
+      few_so_far c.args.kind c.args.items.now c.loop-i.i c.loop-i.pairs c.in_ok-more.more
+          (omega (arith, c.loop-i-test.true, c.len-i-end.ensures.value)) c.len-i-end.ensures.few c.loop-i.invariant.count c.in_ok-more.ensures.count,
+    )
+
+pub loop-i-preserved : goal.loop-i-preserved
+loop-i-preserved g c = record {
+  written =
+      pairs_more c.args.kind c.args.items.now c.loop-i.i (g.O.Sink.written c.args.out.now) (g.O.Sink.written c.loop-i.out)
+      (g.O.Sink.written c.write_pairs_with.new.out)
+      (omega (arith, c.loop-i-test.true, c.len-i-end.ensures.value)) c.loop-i.invariant.written c.in_ok-more.ensures.lines;
+  count =
+      count_more c.args.kind c.args.items.now c.loop-i.i c.loop-i.pairs c.in_ok-more.more
+      (omega (arith, c.loop-i-test.true, c.len-i-end.ensures.value)) c.loop-i.invariant.count c.in_ok-more.ensures.count;
+  same = c.in_ok-more.ensures.cause.ok ∙ c.loop-i.invariant.same;
+}
+
+pub loop-i-init : goal.loop-i-init
+loop-i-init g c = record { written = written_none _ _; count = omega arith; same = refl }
+
+pub write_pairs_with-requires : goal.write_pairs_with-requires
+write_pairs_with-requires g c = omega (arith, c.loop-i-test.true, c.len-i-end.ensures.value)
+
+pub returns-in_err-more-clause-count : goal.returns-in_err-more-clause-count
+returns-in_err-more-clause-count g c =
+    let p = err_from_is_err_and c.from_residual.result c.from_residual.ensures.1 in
+    rw p.1 tt
+
+pub returns-in_err-more-clause-cause : goal.returns-in_err-more-clause-cause
+returns-in_err-more-clause-cause g c =
+    let p = err_from_is_err_and c.from_residual.result c.from_residual.ensures.1 in
+    rw p.1
+    (failed_later (g.O.Sink.faults c.args.out.now) (g.O.Sink.faults c.loop-i.out) (g.O.Sink.faults c.write_pairs_with.new.out) _ _
+    c.loop-i.invariant.same c.in_err-more.ensures.cause)
+
+pub returns-clause-lines : goal.returns-clause-lines
+returns-clause-lines g c =
+    written_all (all_pairs c.args.kind c.args.items.now) (all_pairs c.args.kind (drop c.loop-i.i c.args.items.now)) _ _ c.loop-i.invariant.written
+    (at_drop_all (all_pairs c.args.kind) c.args.items.now c.loop-i.i (omega (arith, c.loop-i-test.false, c.len-i-end.ensures.value)))
+
+pub returns-clause-count : goal.returns-clause-count
+returns-clause-count g c =
+    let none = at_drop_all (λ l. length (all_pairs c.args.kind l)) c.args.items.now c.loop-i.i
+    (omega (arith, c.loop-i-test.false, c.len-i-end.ensures.value)) in
+    omega (arith, c.loop-i.invariant.count, none)
+
+pub returns-clause-cause : goal.returns-clause-cause
+returns-clause-cause g c = record { later = le_of_eq (sym c.loop-i.invariant.same); ok = c.loop-i.invariant.same; failed = tt }

@@ -1,9 +1,0 @@
--- What the crate says.
-pub mod Listed
-pub mod Pairs
-pub mod Closing
-pub mod ListingLaw
--- How its code keeps it.
-pub mod EmptyLine
-pub mod Writing
-pub mod LaterLines
