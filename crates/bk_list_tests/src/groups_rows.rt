@@ -1,7 +1,7 @@
 //! Rows of `bk_alike`.
 
-use bk_ask::Kind;
 use bk_alike::{Wanted, list_lines};
+use bk_ask::Kind;
 use bk_ports::{Ended, MemSink, MemSource};
 use std::alloc::{AllocError, Global};
 use std::test::Fail;
