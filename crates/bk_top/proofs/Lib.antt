@@ -6,3 +6,4 @@ pub mod Endings
 pub mod WholeRuns
 pub mod WholeLists
 pub mod RunExamples
+pub mod EndedExamples

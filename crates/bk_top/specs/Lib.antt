@@ -5,3 +5,4 @@ pub mod Outside
 pub mod ReadsToEnd
 pub mod Running
 pub mod WholeCatalogue
+pub mod Ended

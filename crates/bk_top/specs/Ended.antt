@@ -4,8 +4,8 @@ use Rattle.std.specs.Prelude.{Err, Ok, Result, String, Vec, ℕ, ◌≡◌}
 use Rattle.std.specs.declared.alloc.Global.{Global}
 use Rattle.bk_top.specs.Outside.{Outside}
 use Rattle.bk_top.specs.Running.{IsWholeRun}
-use Rattle.bk_main.specs.declared.NoArguments.{NoArguments}
-use Rattle.bk_main.specs.declared.NoArguments.TheVariants.{NoMemory, NotText}
+use Rattle.bk_top.specs.declared.exit.NoArguments.{NoArguments}
+use Rattle.bk_top.specs.declared.exit.NoArguments.TheVariants.{NoMemory, NotText}
 
 -- the words of a run are the arguments, each of them and in their order, and its status is that of the process; where there
 -- are no arguments, all stays as it is, and the status is 6 or 8

@@ -1,2 +1,0 @@
--- What the crate says.
-pub mod Ended
