@@ -7,3 +7,4 @@ pub mod WholeRuns
 pub mod WholeLists
 pub mod RunExamples
 pub mod EndedExamples
+pub mod ProcessEnd
