@@ -1,8 +1,10 @@
 //! The status of the process.
 #![tactic(auto)]
 
+ghost use Rattle.std.specs.Prelude.{IfOk, ◌≡◌};
 ghost use Rattle.std.specs.Process.{exit_status};
 ghost use Rattle.bk_top.specs.Ended.{EndsBy};
+ghost use Rattle.bk_top.specs.Words.{AsksErrorsOnly, AsksNoLines};
 
 use crate::program::run;
 use bk_ports::{Sink, Source};
@@ -27,7 +29,7 @@ pub fn run_to_exit<S: Source, O: Sink, E: Sink>(
     out: &mut O,
     err: &mut E,
 ) -> ExitCode
-    ensures { EndsBy arguments.now
+    ensures ended { EndsBy arguments.now
         (record {
           left = S.left source.old;
           read_faults = S.faults source.old;
@@ -45,6 +47,9 @@ pub fn run_to_exit<S: Source, O: Sink, E: Sink>(
           error_faults = E.faults err.new;
         })
         (exit_status result) }
+    ensures unread { IfOk arguments.now (λ words. AsksNoLines words.items) → source.new ≡ source.old }
+    ensures unwritten { IfOk arguments.now (λ words. AsksErrorsOnly words.items) → out.new ≡ out.old }
+    ensures silent { IfOk arguments.now (λ words. ¬ AsksErrorsOnly words.items) → err.new ≡ err.old }
 {
     match arguments {
         Ok(words) => ExitCode::from(run(alloc, words, source, out, err)),
