@@ -11,7 +11,7 @@ use Rattle.bk_word.specs.Word.{Move, Word, order_of, sign_place}
 use Rattle.bk_word.specs.declared.Sign.{Sign}
 use Rattle.bk_word.specs.declared.Sign.TheVariants.{Above, Even, Under}
 use Rattle.bk_word.proofs.StoredBytes.{order_more}
-use Rattle.bk_skeleton.specs.Skeleton.{signs_of}
+use Rattle.bk_play.specs.Skeleton.{signs_of}
 use Rattle.bk_found.specs.Packed.{AreDigits, begun_by, move_digits, word_digits}
 use Rattle.bk_word.proofs.PlayLaws.{few_signs}
 use Rattle.bk_found.proofs.BaseFour.{four_times, begun-cons}

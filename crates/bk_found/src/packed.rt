@@ -14,7 +14,7 @@ ghost use Rattle.bk_found.specs.Laid.{HasDigitsOf};
 use crate::digits::{MOST_DIGITS, number_of, push_count, push_digits, push_signs};
 use arrayvec::ArrayVec;
 use bk_lay::Turns;
-use bk_skeleton::Skel;
+use bk_play::Skel;
 use bk_tiling::Tiling;
 use bk_word::{Move, Word};
 use std::cmp::Ordering;

@@ -20,7 +20,7 @@ use crate::levels::{NODES, levels_of, place_of, rights_of};
 use crate::ties::{Ties, corners_allow};
 use arrayvec::ArrayVec;
 use bk_flow::narrow_flow;
-use bk_skeleton::{SmallSkel, small_net};
+use bk_play::{SmallSkel, small_net};
 use bk_tiling::Square;
 use bk_word::{Class, INLINE_ORDER};
 

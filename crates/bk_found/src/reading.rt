@@ -9,7 +9,7 @@ ghost use Rattle.bk_found.specs.Reading.{GoesOnByNumber, HasDigits, IsSharedFron
 
 use crate::digits::{digit_at, place_of, sign_of};
 use arrayvec::ArrayVec;
-use bk_skeleton::{Skel, open_side};
+use bk_play::{Skel, open_side};
 use bk_word::{MOST_SIGNS, Move, Sign};
 
 /// With how many of the skeleton's moves the legal word of this number begins that has at least as many squares, at most 16: all up to

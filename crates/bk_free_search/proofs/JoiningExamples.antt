@@ -9,7 +9,7 @@ use Rattle.bk_layout.specs.LineNumbers.{lefts_of}
 use Rattle.bk_free_search.specs.Joining.{JoinsLeft, JoinsRight}
 use Rattle.bk_free_search.specs.Lefts.{IsLeftOfOne}
 use Rattle.bk_free_search.specs.Rights.{IsRightOfOne, rights_of}
-use Rattle.bk_skeleton.specs.SmallSkeleton.{IsValley}
+use Rattle.bk_play.specs.SmallSkeleton.{IsValley}
 
 abbrev move : ℕ → List Sign → Move
 move count signs = record { count = count; signs = signs }

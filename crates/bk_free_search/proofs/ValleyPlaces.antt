@@ -8,12 +8,12 @@ use Rattle.bk_word.proofs.PlayLists.{place_within}
 use Rattle.bk_word.specs.Outline.{sizes_of, valley_of, valley_place}
 use Rattle.bk_word.specs.Play.{IsLegal, outline_of}
 use Rattle.bk_word.specs.Word.{Word}
-use Rattle.bk_skeleton.proofs.TurnParts.{sum_lengths}
+use Rattle.bk_play.proofs.TurnParts.{sum_lengths}
 use Rattle.bk_catalogue.proofs.BoundsOfWords.{sizes_long}
 use Rattle.bk_catalogue.proofs.LineCounting.{sum-cons}
 use Rattle.bk_free_search.proofs.OpenSegments.{segment_read, segment_within}
-use Rattle.bk_skeleton.specs.SmallSkeleton.{IsValley}
-use Rattle.bk_skeleton.specs.declared.small.ValleyPlace.{ValleyPlace}
+use Rattle.bk_play.specs.SmallSkeleton.{IsValley}
+use Rattle.bk_play.specs.declared.small.ValleyPlace.{ValleyPlace}
 
 -- the places of a valley of equal words
 pub valley_of_equal : (w v : Word) (place : ValleyPlace) → w ≡ v → IsValley w place → IsValley v place

@@ -11,7 +11,7 @@ use Rattle.bk_layout.specs.NormalCuts.{IsNormalBarren}
 use Rattle.bk_free_search.specs.Apart.{AreAskedBehind, IsCountedTo, behind_marks, joined_marks, marks_of_word}
 use Rattle.bk_free_search.specs.NodeLines.{Has}
 use Rattle.bk_free_search.specs.Strong.{IsFew, seen_passed}
-use Rattle.bk_skeleton.specs.SmallSkeleton.{IsValley}
+use Rattle.bk_play.specs.SmallSkeleton.{IsValley}
 use Rattle.bk_free_search.specs.declared.asking.Asked.{Asked}
 use Rattle.bk_free_search.specs.declared.asking.Before.{Before}
 use Rattle.bk_free_search.specs.declared.asking.Beside.{Beside}

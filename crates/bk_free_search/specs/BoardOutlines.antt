@@ -3,7 +3,7 @@
 -- wall, and one at the right one.
 use Rattle.std.specs.Prelude.{◌≡◌}
 use Rattle.bk_word.specs.Word.{Word}
-use Rattle.bk_skeleton.specs.SmallSkeleton.{IsOutlineOf}
+use Rattle.bk_play.specs.SmallSkeleton.{IsOutlineOf}
 use Rattle.bk_layout.specs.WordNumbers.{first_count, left_squares, right_squares}
 use Rattle.bk_free_search.specs.declared.board.BoardOutline.{BoardOutline}
 

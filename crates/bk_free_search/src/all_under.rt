@@ -15,7 +15,7 @@ ghost use Rattle.bk_free_search.specs.AllUnder.{StandsAfter};
 use crate::ahead::most_moves;
 use crate::board::Board;
 use crate::counts::one_if;
-use bk_skeleton::SmallMove;
+use bk_play::SmallMove;
 use bk_word::Sign;
 
 /// What stands after a move: how many squares at the top and at each wall, and how many signs. (Own.)

@@ -6,7 +6,7 @@ ghost use Rattle.bk_word.specs.Play.{IsLegal, outline_of};
 ghost use Rattle.bk_word.specs.Word.{Move as SeenMove, Word as Moves, order_of};
 ghost use Rattle.bk_word.specs.declared.Sign.{Sign as SeenSign};
 ghost use Rattle.bk_word.specs.declared.Sign.TheVariants.{Even, Under};
-ghost use Rattle.bk_skeleton.specs.SmallSkeleton.{IsValley};
+ghost use Rattle.bk_play.specs.SmallSkeleton.{IsValley};
 ghost use Rattle.bk_free_search.specs.Apart.{IsCountedTo};
 ghost use Rattle.bk_free_search.specs.Asking.{AreAskedBefore, AreFewAsks, AreFewBefore, AreMarks, AreNeeds, IsAsked, IsNext, IsOver, NeedsLeft, StandBeside};
 ghost use Rattle.bk_free_search.specs.Strong.{IsFew, seen_passed};
@@ -18,7 +18,7 @@ use crate::counts::one_if;
 use crate::line_set::LineSet;
 use crate::marks::{has_mark, is_left_on_line, is_wide_then, marks_of};
 use crate::strong::{Passed, in_front_of_mark, none_passed, past_one};
-use bk_skeleton::{ValleyPlace, open_side};
+use bk_play::{ValleyPlace, open_side};
 use bk_word::Sign;
 
 /// What stands beside the leftmost valley: whether the walls do, what the segments before it ask for, and those behind it, what is ahead, and

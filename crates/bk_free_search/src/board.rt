@@ -20,8 +20,8 @@ use crate::node_lines::{has_pair, node_lines};
 use crate::sides::{
     left_of_first, lines_left_of, lines_right_of, push_lefts, push_rights, right_of_last,
 };
+use bk_play::{SmallMove, SmallOutline, SmallSkel};
 use bk_short::Short;
-use bk_skeleton::{SmallMove, SmallOutline, SmallSkel};
 use bk_word::INLINE_ORDER;
 use std::marker::Model;
 

@@ -6,11 +6,11 @@ ghost use Rattle.bk_word.specs.Word.{Move as SeenMove, Word as Moves};
 ghost use Rattle.bk_word.specs.declared.Sign.TheVariants.{Even};
 ghost use Rattle.bk_free_search.specs.Asking.{IsAsked};
 ghost use Rattle.bk_word.specs.Play.{IsLegal};
-ghost use Rattle.bk_skeleton.specs.SmallSkeleton.{IsValley};
+ghost use Rattle.bk_play.specs.SmallSkeleton.{IsValley};
 ghost use Rattle.bk_layout.specs.NetWord.{IsNetBarren};
 
 use crate::asking::Asked;
-use bk_skeleton::{SmallMove, SmallSkel, ValleyPlace};
+use bk_play::{SmallMove, SmallSkel, ValleyPlace};
 
 /// The least count of a next move that isn't barren: one square hangs under no segment of just one, and the first move is none of one.
 pub(crate) fn least_count(skel: &SmallSkel, valley: &ValleyPlace) -> u8

@@ -5,14 +5,14 @@ ghost use Rattle.std.specs.List.{list_any};
 ghost use Rattle.std.specs.Prelude.{IsTrue, Some, [], length, slice_get, ◌++◌, ◌<◌, ◌∷◌, ◌≡◌, ◌≤◌};
 ghost use Rattle.bk_word.specs.Outline.{IsLegalMove, valley_place};
 ghost use Rattle.bk_word.specs.Play.{IsLegal, outline_of, parts};
-ghost use Rattle.bk_skeleton.specs.SmallSkeleton.{IsValley};
+ghost use Rattle.bk_play.specs.SmallSkeleton.{IsValley};
 ghost use Rattle.bk_layout.specs.NodeCut.{ShareANode};
 ghost use Rattle.bk_layout.specs.NetWord.{IsNetBarren};
 ghost use Rattle.bk_free_search.specs.Joining.{JoinsLeft, JoinsRight};
 
 use crate::board::Board;
 use crate::line_set::{no_line, with_line};
-use bk_skeleton::{SmallMove, SmallSkel, ValleyPlace};
+use bk_play::{SmallMove, SmallSkel, ValleyPlace};
 use bk_word::Sign;
 
 /// Whether no word of the order goes on from the board's moves by this legal one, as it hangs one square: it leaves one segment

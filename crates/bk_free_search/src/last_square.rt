@@ -12,8 +12,8 @@ ghost use Rattle.bk_free_search.specs.LastSquare.{neighbours};
 use crate::board::Board;
 use crate::counts::one_if;
 use crate::joining::joins_parted;
+use bk_play::{SmallMove, SmallSkel, open_side};
 use bk_short::Short;
-use bk_skeleton::{SmallMove, SmallSkel, open_side};
 use bk_word::Sign;
 
 /// The move by which words of a normal layout go on from the board, of which one square is left: `None` where none goes on.

@@ -7,7 +7,7 @@ ghost use Rattle.bk_catalogue.specs.VerticalCut.{begins_on_line, edges_on_lines}
 ghost use Rattle.bk_word.specs.Outline.{sizes_of, valley_of};
 ghost use Rattle.bk_word.specs.Play.{outline_of};
 ghost use Rattle.bk_word.specs.Word.{order_of};
-ghost use Rattle.bk_skeleton.specs.SmallSkeleton.{IsValley};
+ghost use Rattle.bk_play.specs.SmallSkeleton.{IsValley};
 ghost use Rattle.bk_layout.specs.WordNumbers.{first_count};
 ghost use Rattle.bk_free_search.specs.Apart.{marks_of_word};
 ghost use Rattle.bk_free_search.specs.Asking.{AreMarks};
@@ -18,7 +18,7 @@ ghost use Rattle.bk_free_search.specs.TopLines.{HasOneFrom, on_top_lines};
 use crate::board::Board;
 use crate::line_set::{LineSet, has_line, no_line, with_place};
 use crate::top_lines::places_on_lines;
-use bk_skeleton::ValleyPlace;
+use bk_play::ValleyPlace;
 
 /// The places of marked segments of a board. (Own.)
 pub(crate) fn marks_of(board: &Board) -> LineSet

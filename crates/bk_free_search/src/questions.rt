@@ -6,7 +6,7 @@ ghost use Rattle.bk_word.specs.Play.{outline_of};
 ghost use Rattle.bk_word.specs.Word.{Move as SeenMove, Word as Moves, order_of};
 ghost use Rattle.bk_word.specs.declared.Sign.{Sign as SeenSign};
 ghost use Rattle.bk_word.specs.declared.Sign.TheVariants.{Above, Even, Under};
-ghost use Rattle.bk_skeleton.specs.SmallSkeleton.{IsValley};
+ghost use Rattle.bk_play.specs.SmallSkeleton.{IsValley};
 ghost use Rattle.bk_layout.specs.NormalCuts.{IsNormalBarren};
 ghost use Rattle.bk_free_search.specs.Asking.{AreFewAsks, BarsSigns, IsAsked, IsBegun, IsWithOwn, StandBeside, asks_then};
 ghost use Rattle.bk_free_search.specs.Strong.{IsFew};
@@ -18,7 +18,7 @@ use crate::behind::{Asks, Behind};
 use crate::cuts::bars_above;
 use crate::joining::joins_barrenly;
 use crate::state::{Begun, Search};
-use bk_skeleton::{ValleyPlace, open_side};
+use bk_play::{ValleyPlace, open_side};
 use bk_word::Sign;
 
 impl Search {

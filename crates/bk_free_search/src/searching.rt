@@ -5,7 +5,7 @@ ghost use Rattle.bk_word.specs.Outline.{IsLegalMove};
 ghost use Rattle.bk_word.specs.Play.{IsComplete, outline_of};
 ghost use Rattle.bk_word.specs.Word.{Word as Moves, order_of};
 ghost use Rattle.bk_layout.specs.NormalImage.{IsNormalSought};
-ghost use Rattle.bk_skeleton.specs.SmallSkeleton.{IsValley};
+ghost use Rattle.bk_play.specs.SmallSkeleton.{IsValley};
 ghost use Rattle.bk_free_search.specs.Asking.{BarsSigns, IsAsked, IsBegun, IsWithOwn};
 ghost use Rattle.bk_free_search.specs.Sought.{GoesOn, GoesOnBy};
 
@@ -19,7 +19,7 @@ use crate::questions::{
 use crate::state::{
     Begun, Search, begin, meet_closed, meet_with_last, not_begun, pop_sign, push_sign,
 };
-use bk_skeleton::ValleyPlace;
+use bk_play::ValleyPlace;
 use bk_word::Sign;
 
 /// What is done with the complete words that a search meets.

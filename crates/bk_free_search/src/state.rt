@@ -12,8 +12,8 @@ use crate::asking::{Beside, Next, next_of};
 use crate::board::Board;
 use crate::last_square::last_move;
 use crate::searching::Leaves;
+use bk_play::SmallMove;
 use bk_short::Short;
-use bk_skeleton::SmallMove;
 use bk_word::Sign;
 
 /// A search for words of an order: the board on which it plays them. (Own.)

@@ -7,9 +7,9 @@ ghost use Rattle.bk_catalogue.specs.Following.{start_cursor};
 ghost use Rattle.bk_list.specs.Writing.{BeginsListing, WritesListing};
 
 use crate::listing::write_listing;
+use bk_play::Steps;
 use bk_ports::{Failed, Sink};
 use bk_report::Last;
-use bk_skeleton::Steps;
 use bk_tree_walk::Members;
 use bk_word::{Class, Word};
 use std::alloc::Global;

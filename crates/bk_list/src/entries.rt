@@ -11,9 +11,9 @@ ghost use Rattle.bk_list.specs.Writing.{BeginsListing, IsNext, IsNextBegun};
 
 use bk_code::Code;
 use bk_grammar::AnswerBuffer;
+use bk_play::Steps;
 use bk_ports::{Failed, Sink};
 use bk_report::{Last, write_entry};
-use bk_skeleton::Steps;
 use bk_tiling::Tiling;
 use bk_tree_walk::{Entry, Members};
 use bk_word::Word;

@@ -9,9 +9,9 @@ ghost use Rattle.bk_list.specs.Writing.{BeginsListing, WritesListing};
 
 use crate::entries::{Room, write_entries};
 use bk_grammar::AnswerBuffer;
+use bk_play::Steps;
 use bk_ports::{Failed, Sink};
 use bk_report::{Last, write_last};
-use bk_skeleton::Steps;
 use bk_tree_walk::Members;
 use bk_word::{Class, Word};
 use std::alloc::Global;

@@ -4,7 +4,7 @@ ghost use Rattle.std.specs.Prelude.{◌<◌, ◌≡◌};
 
 use arrayvec::ArrayVec;
 use bk_code::flat;
-use bk_skeleton::Steps;
+use bk_play::Steps;
 use bk_tiling::{MOST_SQUARES, Square, Tiling};
 use bk_verify::{Fed, Rest, Verifier};
 use std::alloc::Global;

@@ -1,9 +1,9 @@
-//! Rows of `bk_told::verify`.
+//! Rows of `bk_verify_report::verify`.
 
 ghost use Rattle.std.specs.Prelude.{◌<◌, ◌≤◌};
 
 use bk_ports::{Ended, MemSink, MemSource};
-use bk_told::verify;
+use bk_verify_report::verify;
 use bk_walk::Walk;
 use std::alloc::Global;
 

@@ -6,7 +6,7 @@ ghost use Rattle.bk_word.specs.Play.{outline_of};
 ghost use Rattle.bk_walk_cuts.specs.Trace.{IsTraceOf};
 
 use arrayvec::ArrayVec;
-use bk_skeleton::{Skel, open_side};
+use bk_play::{Skel, open_side};
 use bk_walk_cuts::Tracing;
 use bk_word::{Class, LARGEST_ORDER, Move, Sign, Word, read_word};
 use std::alloc::Global;

@@ -4,7 +4,7 @@
 
 ghost use Rattle.std.specs.Prelude.{◌<◌, ◌≡◌, ◌≤◌};
 
-use bk_skeleton::Steps;
+use bk_play::Steps;
 use bk_walk::UntabledWalk;
 use bk_word::{Class, INLINE_ORDER};
 use std::alloc::Global;

@@ -4,7 +4,7 @@ ghost use Rattle.std.specs.Prelude.{◌<◌, ◌≡◌};
 
 use arrayvec::ArrayVec;
 use bk_code::flat;
-use bk_skeleton::Steps;
+use bk_play::Steps;
 use bk_walk::*;
 use bk_word::{Class, INLINE_ORDER, Word, read_word, write_word};
 use std::alloc::Global;

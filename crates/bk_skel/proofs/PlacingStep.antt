@@ -20,8 +20,8 @@ use Rattle.bk_skel.proofs.PlacedWhole.{placed_closed, placed_end}
 use Rattle.bk_word_net.specs.LaidTiling.{IsLaidWith}
 use Rattle.bk_skel.specs.Board.{CanLay, IsClosed}
 use Rattle.bk_word_net.specs.LaidOutline.{IsTurn, front_of}
-use Rattle.bk_skeleton.specs.TurnRecord.{SaysWhere}
-use Rattle.bk_skeleton.specs.declared.turns.MoveRecord.{MoveRecord}
+use Rattle.bk_play.specs.TurnRecord.{SaysWhere}
+use Rattle.bk_play.specs.declared.turns.MoveRecord.{MoveRecord}
 
 module _ (w : Word) (legal : IsLegal w) (given : List ℕ) (all_sides : AllByRecursion IsSide given) (few : length given ≤ 200)
     (i : ℕ) (below : i < length w)

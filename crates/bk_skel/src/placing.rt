@@ -19,7 +19,7 @@ ghost use Rattle.bk_word_net.specs.LaidOutline.{IsNumber, IsTurn, bottom_at, squ
 
 use arrayvec::ArrayVec;
 use bk_lay::sign_between;
-use bk_skeleton::{Skel, splice_numbers};
+use bk_play::{Skel, splice_numbers};
 use bk_tiling::{MOST_SQUARES, Segment, Square, Tiling, push_group, put_in_order, sum_of};
 use bk_word::Sign;
 

@@ -17,7 +17,7 @@ use crate::placing::{Realised, place};
 use arrayvec::ArrayVec;
 use bk_flow::{Flow, FlowFault, NarrowFlow, SMALL, narrow_flow, solve};
 use bk_frac::Wide;
-use bk_skeleton::Skel;
+use bk_play::Skel;
 use bk_tiling::{LONGEST_SIDE, MOST_SQUARES, Square, Tiling};
 use bk_word::Word;
 use std::alloc::Global;

@@ -2,8 +2,8 @@
 
 use bk_found::{Ties, leaf};
 use bk_free_search::Board;
+use bk_play::SmallMove;
 use bk_short::Short;
-use bk_skeleton::SmallMove;
 use bk_tiling::Tiling;
 use bk_word::{Class, Move, Word, read_word};
 use std::process::Abort;

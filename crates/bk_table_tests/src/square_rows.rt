@@ -2,7 +2,7 @@
 
 ghost use Rattle.std.specs.Prelude.{◌<◌, ◌≡◌};
 
-use bk_skeleton::Steps;
+use bk_play::Steps;
 use bk_tiling::Tiling;
 use bk_walk::{MOST_MEMBERS, Walk};
 use bk_word::Class;

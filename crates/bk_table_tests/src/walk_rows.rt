@@ -4,7 +4,7 @@ ghost use Rattle.std.specs.Prelude.{◌<◌, ◌≡◌, ◌≤◌};
 ghost use Rattle.bk_word.specs.Word.{order_of};
 
 use crate::plain_walk::{Member, members};
-use bk_skeleton::Steps;
+use bk_play::Steps;
 use bk_walk::{TabledWalk, UntabledWalk, Walk};
 use bk_word::{Class, Word, read_word};
 use std::alloc::{AllocError, Global};

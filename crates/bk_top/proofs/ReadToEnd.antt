@@ -7,9 +7,9 @@ use Rattle.bk_alike.proofs.OneListing.{none_refused}
 use Rattle.bk_alike.specs.Closing.{listing_of}
 use Rattle.bk_alike.specs.Listed.{HasRefusedLine}
 use Rattle.bk_alike.specs.declared.Wanted.{Wanted}
-use Rattle.bk_told.proofs.OneReport.{no_fault_there}
-use Rattle.bk_told.specs.Report.{HasFault}
-use Rattle.bk_told.specs.Running.{report_of}
+use Rattle.bk_verify_report.proofs.OneReport.{no_fault_there}
+use Rattle.bk_verify_report.specs.Report.{HasFault}
+use Rattle.bk_verify_report.specs.Running.{report_of}
 use Rattle.bk_top.proofs.Statuses.{ending_at, is_calm, one_of_three}
 use Rattle.bk_top.specs.Outside.{Outside, faults_of, streams_of}
 use Rattle.bk_top.specs.ReadsToEnd.{ListsLines, ReadsToEnd, Verifies}

@@ -16,7 +16,7 @@ use Rattle.bk_ask.specs.declared.Ask.TheVariants as asks
 use Rattle.bk_ask.specs.declared.Kind.{Kind}
 use Rattle.bk_alike.specs.Closing.{listing_of}
 use Rattle.bk_alike.specs.declared.Wanted.TheVariants.{Groups, Pairs}
-use Rattle.bk_told.specs.Running.{report_of}
+use Rattle.bk_verify_report.specs.Running.{report_of}
 use Rattle.bk_top.proofs.AnsweredLines.{answers_lines}
 use Rattle.bk_top.proofs.Statuses.{not_two}
 use Rattle.bk_word.specs.Word.{Word}

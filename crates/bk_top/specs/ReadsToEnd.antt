@@ -11,8 +11,8 @@ use Rattle.bk_answer.specs.declared.command.Command.{Command}
 use Rattle.bk_alike.specs.Closing.{listing_of}
 use Rattle.bk_alike.specs.Listed.{HasRefusedLine}
 use Rattle.bk_alike.specs.declared.Wanted.{Wanted}
-use Rattle.bk_told.specs.Report.{HasFault}
-use Rattle.bk_told.specs.Running.{report_of}
+use Rattle.bk_verify_report.specs.Report.{HasFault}
+use Rattle.bk_verify_report.specs.Running.{report_of}
 use Rattle.bk_top.specs.Deciding.{IsDecided, replies_of}
 use Rattle.bk_top.specs.Outside.{Outside, faults_of, status_of, streams_of}
 

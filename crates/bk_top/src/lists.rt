@@ -2,13 +2,13 @@
 
 ghost use Rattle.std.specs.Prelude.{◌≤◌};
 ghost use Rattle.bk_alike.specs.Closing.{listing_of};
-ghost use Rattle.bk_told.specs.Running.{report_of};
+ghost use Rattle.bk_verify_report.specs.Running.{report_of};
 ghost use Rattle.bk_top.specs.ReadsToEnd.{ReadsToEnd};
 
 use crate::lines::status;
 use bk_alike::{Wanted, list_lines};
 use bk_ports::{Sink, Source};
-use bk_told::verify;
+use bk_verify_report::verify;
 use bk_walk::Walk;
 use std::alloc::Global;
 

@@ -13,8 +13,8 @@ ghost use Rattle.bk_tree_walk.specs.WholeWords.{IsUnfit};
 use crate::qualifying::qualifies;
 use arrayvec::ArrayVec;
 use bk_flow::NarrowFlow;
+use bk_play::Skel;
 use bk_skel::{Realised, flow_of, realise_by_in};
-use bk_skeleton::Skel;
 use bk_tiling::{MOST_SQUARES, Square, Tiling};
 use bk_word::Class;
 

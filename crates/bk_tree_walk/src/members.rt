@@ -9,7 +9,7 @@ ghost use Rattle.bk_tree_walk.specs.Search.{PushesGrow};
 ghost use Rattle.bk_tree_walk.specs.Walking.{IsNextMember, WalkState};
 
 use bk_code::Code;
-use bk_skeleton::Steps;
+use bk_play::Steps;
 use bk_tiling::Tiling;
 use bk_word::{Class, Word};
 use std::alloc::Global;

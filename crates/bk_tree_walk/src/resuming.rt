@@ -8,7 +8,7 @@ ghost use Rattle.bk_word.specs.Word.{order_of};
 ghost use Rattle.bk_tree_walk.specs.Search.{HasPassed, StaysOf, place_of};
 
 use crate::tree_walk::TreeWalk;
-use bk_skeleton::{Skel, Steps};
+use bk_play::{Skel, Steps};
 use bk_walk_cuts::{LinedSkel, begin_anew, first_move};
 use bk_word::{Move, NoMemory, Word};
 use std::alloc::Global;

@@ -14,7 +14,7 @@ ghost use Rattle.bk_tree_walk.specs.Search.{GoesOnFrom, IsClimbed, IsKeptSearch,
 use crate::Went;
 use crate::judging::find_member;
 use arrayvec::ArrayVec;
-use bk_skeleton::{Skel, Steps, open_side};
+use bk_play::{Skel, Steps, open_side};
 use bk_tiling::{MOST_SQUARES, Square, Tiling};
 use bk_walk_cuts::{
     LinedSkel, begin_anew, first_move, is_barren, least_legal_from, next_move, skip,

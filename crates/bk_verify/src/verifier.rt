@@ -1,12 +1,12 @@
 //! A verifier: it is fed the entries of a list, tells what each of them is, and hands on what it keeps.
 
 ghost use Rattle.std.specs.Prelude.{IfOk, OnErr, [], ◌≡◌, ◌≤◌};
-ghost use Rattle.bk_told.specs.Kept.{IsFed, IsFirstSight, AreKeptEntries};
-ghost use Rattle.bk_told.specs.Rest.{rest_of};
+ghost use Rattle.bk_verify_report.specs.Kept.{IsFed, IsFirstSight, AreKeptEntries};
+ghost use Rattle.bk_verify_report.specs.Rest.{rest_of};
 
 use crate::Rest;
 use bk_tiling::Tiling;
-use bk_told::{Entries, Fed, NoMemory};
+use bk_verify_report::{Entries, Fed, NoMemory};
 use std::alloc::Global;
 use std::marker::Model;
 
@@ -19,7 +19,7 @@ pub struct Verifier {
 }
 
 impl Model for Verifier {
-    ghost use Rattle.bk_told.specs.Kept.{AreKeptEntries, EntriesState};
+    ghost use Rattle.bk_verify_report.specs.Kept.{AreKeptEntries, EntriesState};
 
     ghost Value = { EntriesState };
 

@@ -7,7 +7,7 @@ ghost use Rattle.bk_tree_walk.specs.WholeWords.{IsMembersWord};
 ghost use Rattle.bk_walk.specs.Leaping.{GoesToWord, IsAtNumber, IsNextFrom};
 
 use bk_found::{read_next, shared_moves};
-use bk_skeleton::Steps;
+use bk_play::Steps;
 use bk_tree_walk::TreeWalk;
 use bk_walk_cuts::first_move;
 use std::sync::ledger::Ledger;

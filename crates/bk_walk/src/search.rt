@@ -12,7 +12,7 @@ use crate::MemberTable;
 use crate::leaping::leap;
 use crate::tabled::{PATIENCE, Told, begin_table, tell};
 use bk_found::number_with;
-use bk_skeleton::Steps;
+use bk_play::Steps;
 use bk_tiling::Tiling;
 use bk_tree_walk::{Found, TreeWalk, Went};
 use std::sync::ledger::Ledger;

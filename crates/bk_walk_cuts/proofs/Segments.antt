@@ -3,8 +3,8 @@ use Rattle.std.specs.List.{concat}
 use Rattle.std.proofs.Common.{Bool, List, [], ap, arith, cond, false, get_or, length, map, nat_eq, slice_range, sum, suc, sym, take, true, zero, ℕ}
 use Rattle.std.proofs.Common.{◌++◌, ◌+◌, ◌-◌, ◌<◌, ◌∙◌, ◌∷◌, ◌≡◌, ◌≤◌}
 use Rattle.std.proofs.lemmas.List.{length-map}
-use Rattle.bk_skeleton.proofs.EndNodes.{CutAt, cut_at, here_is, sum_next}
-use Rattle.bk_skeleton.proofs.TurnParts.{sum_lengths}
+use Rattle.bk_play.proofs.EndNodes.{CutAt, cut_at, here_is, sum_next}
+use Rattle.bk_play.proofs.TurnParts.{sum_lengths}
 use Rattle.std.proofs.lemmas.List.Sums.{sum_by-cons}
 use Rattle.bk_word.specs.Outline.{Outline, start, valley_of, valley_place}
 use Rattle.bk_word.specs.Play.{new_squares, numbers_from, outline_of}

@@ -14,7 +14,7 @@ use crate::lined::LinedSkel;
 use crate::moves::next_move;
 use crate::owing::skip_owing;
 use bk_catalogue::single_valleys;
-use bk_skeleton::{Skel, open_side};
+use bk_play::{Skel, open_side};
 use bk_word::{Class, Move, Sign};
 
 /// Passes over a legal move by which no member's word of the order and the class goes on, and over others of which this is as

@@ -13,7 +13,7 @@ ghost use Rattle.bk_walk_cuts.specs.Trace.{AreSmall, IsSmall};
 use arrayvec::ArrayVec;
 use bk_catalogue::first_above;
 use bk_forms::Form;
-use bk_skeleton::Skel;
+use bk_play::Skel;
 use bk_word::Move;
 
 // The first moves are followed while at most so many squares hang.

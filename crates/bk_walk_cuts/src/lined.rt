@@ -12,7 +12,7 @@ ghost use Rattle.bk_walk_cuts.specs.Trace.{IsTraceOf};
 use crate::tracing::Tracing;
 use arrayvec::ArrayVec;
 use bk_catalogue::{begins_on_line, line_bound};
-use bk_skeleton::{Skel, Steps};
+use bk_play::{Skel, Steps};
 use bk_word::{Class, LARGEST_ORDER, Move};
 use std::marker::Model;
 use std::sync::ledger::Ledger;

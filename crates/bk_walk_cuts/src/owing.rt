@@ -8,7 +8,7 @@ ghost use Rattle.bk_walk_cuts.specs.MoveCuts.{GrowsByAtMostOne, IsCut};
 
 use crate::moves::next_move;
 use bk_catalogue::{first_above, first_over, unders_behind};
-use bk_skeleton::Skel;
+use bk_play::Skel;
 use bk_word::Move;
 
 // Passes over a move, and over all of its count whose signs are the same up to a place, where the signs up to there ask for

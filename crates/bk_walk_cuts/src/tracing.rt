@@ -16,7 +16,7 @@ use crate::asking::{compares_otherwise, contradicts, has_equal_sides};
 use crate::levels::{FOLLOWED, level_of, levels_along, new_numbers, push_bottoms};
 use arrayvec::ArrayVec;
 use bk_forms::{Form, Ledger};
-use bk_skeleton::Skel;
+use bk_play::Skel;
 use bk_word::{Class, Move};
 use std::marker::Model;
 

@@ -2,7 +2,7 @@
 use Rattle.std.proofs.Common.{ap, arith, length, nat_eq, ◌∙◌}
 use Rattle.bk_word.specs.Play.{outline_of}
 use Rattle.bk_word.specs.Word.{Word}
-use Rattle.bk_skeleton.specs.SmallSkeleton.{IsValley}
+use Rattle.bk_play.specs.SmallSkeleton.{IsValley}
 use Rattle.bk_free_search.proofs.ValleyPlaces.{valley_of_equal}
 use Rattle.bk_free_search.proofs.asking.stand_beside.Goals as goal
 

@@ -7,7 +7,7 @@ use Rattle.bk_free_search.proofs.SharedAfter.{parted_before, parted_behind}
 use Rattle.bk_free_search.proofs.ValleyPlaces.{ends_within, valley_read}
 use Rattle.bk_free_search.specs.Joining.{JoinsLeft, JoinsRight}
 use Rattle.bk_free_search.specs.NodeLines.{Has}
-use Rattle.bk_skeleton.specs.SmallSkeleton.{IsValley}
+use Rattle.bk_play.specs.SmallSkeleton.{IsValley}
 use Rattle.bk_free_search.proofs.joining.joins_parted.Goals as goal
 
 pub slice_bounds-squares-end : goal.slice_bounds-squares-end

@@ -4,7 +4,7 @@ use Rattle.bk_word.specs.Outline.{sizes_of, valley_of}
 use Rattle.bk_word.specs.Play.{outline_of}
 use Rattle.bk_free_search.proofs.TopLineMarks.{left_on_line}
 use Rattle.bk_free_search.proofs.ValleyPlaces.{ends_within, valley_read}
-use Rattle.bk_skeleton.specs.SmallSkeleton.{IsValley}
+use Rattle.bk_play.specs.SmallSkeleton.{IsValley}
 use Rattle.bk_free_search.proofs.marks.is_left_on_line.Goals as goal
 
 pub slice_bounds-left_end-end : goal.slice_bounds-left_end-end

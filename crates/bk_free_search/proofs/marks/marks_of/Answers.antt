@@ -3,7 +3,7 @@ use Rattle.std.proofs.Common.{List, ap, arith, false, length, slice_index_or, su
 use Rattle.bk_word.specs.Outline.{sizes_of, start}
 use Rattle.bk_word.specs.Play.{IsLegal, outline_of}
 use Rattle.bk_word.specs.Word.{Word, order_of}
-use Rattle.bk_skeleton.proofs.TurnParts.{sum_lengths}
+use Rattle.bk_play.proofs.TurnParts.{sum_lengths}
 use Rattle.bk_word_net.proofs.Shape.{hung_many}
 use Rattle.bk_catalogue.proofs.BoundsOfWords.{shape_of_word}
 use Rattle.bk_catalogue.specs.VerticalCut.{edges_on_lines}

@@ -1,7 +1,7 @@
 use Rattle.std.proofs.Common.{List, [], ap, arith, length, lit<, suc, sym, ℕ, ◌++◌, ◌+◌, ◌<◌, ◌∙◌, ◌∷◌, ◌≡◌}
 use Rattle.bk_word.specs.Play.{numbers_from}
 use Rattle.bk_word.proofs.PlayLists.{numbers-length}
-use Rattle.bk_skeleton.proofs.Rooms.{numbers-snoc}
+use Rattle.bk_play.proofs.Rooms.{numbers-snoc}
 use Rattle.bk_walk_cuts.proofs.levels.new_numbers.Goals as goal
 
 pub push-requires : goal.push-requires

@@ -2,7 +2,7 @@ use Rattle.std.proofs.Common.{List, [], ap, arith, length, map, rules, suc, sym,
 use Rattle.std.proofs.lemmas.List.{append-nil, append_assoc, length-append, length-map, map-append}
 use Rattle.bk_word.specs.Play.{numbers_from}
 use Rattle.bk_word.proofs.PlayLists.{numbers-length}
-use Rattle.bk_skeleton.proofs.Rooms.{numbers-snoc}
+use Rattle.bk_play.proofs.Rooms.{numbers-snoc}
 use Rattle.bk_forms.specs.Form.{Form as SeenForm, with_side}
 use Rattle.bk_walk_cuts.proofs.SmallForms.{small_at}
 use Rattle.bk_walk_cuts.proofs.levels.push_bottoms.Goals as goal

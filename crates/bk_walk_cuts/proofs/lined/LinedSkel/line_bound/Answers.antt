@@ -1,6 +1,6 @@
 use Rattle.std.proofs.Common.{ap, arith, length, sum, ◌∙◌, ◌≡◌}
 use Rattle.bk_word.specs.Play.{outline_of}
-use Rattle.bk_skeleton.proofs.TurnParts.{sum_lengths}
+use Rattle.bk_play.proofs.TurnParts.{sum_lengths}
 use Rattle.bk_catalogue.proofs.BoundsOfWords.{line_bound_by_lists, sizes_long}
 use Rattle.bk_catalogue.specs.VerticalCut.{line_bound, line_bound_of, edges_on_lines, segments_of, touched}
 use Rattle.bk_walk_cuts.proofs.lined.LinedSkel.line_bound.Goals as goal

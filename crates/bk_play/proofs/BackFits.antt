@@ -1,0 +1,127 @@
+-- Where the last move is taken back, what the flat lists give up is there, and what they become is few.
+use Rattle.std.specs.List.{concat}
+use Rattle.std.proofs.Common.{List, ap, arith, filter, length, map, max, refl, ℕ, ◌++◌, ◌+◌, ◌-◌, ◌∙◌, ◌≡◌, ◌≤◌}
+use Rattle.std.proofs.lemmas.List.{length-append, length-map}
+use Rattle.std.proofs.lemmas.List.Sums.{length-filter}
+use Rattle.bk_word.proofs.PlayLists.{numbers-length}
+use Rattle.bk_word.specs.Outline.{IsLegalMove, Outline, sizes_of}
+use Rattle.bk_word.specs.Play.{after_move, new_squares, outline_of, parts}
+use Rattle.bk_word.specs.Word.{Move, Word, order_of}
+use Rattle.bk_word.specs.declared.Sign.{Sign}
+use Rattle.bk_word_net.proofs.OutlineParts.{many_segments}
+use Rattle.bk_play.proofs.PlayedFlat.{closed_are, ends_are, ends_were, signs_are, sizes_after_many, sizes_are}
+use Rattle.bk_word_net.proofs.Shape.{Filled, filled_parts, valley_in}
+use Rattle.bk_play.proofs.SkelFacts.{Counted, counted}
+use Rattle.bk_play.proofs.TurnParts.{closed_is, first_is, sides_are, start_is}
+use Rattle.bk_word_net.proofs.ValleyCut.{AtValley}
+use Rattle.bk_play.specs.Skeleton.{Shows, first_touched, open_sides, sizes_after, turn_at}
+use Rattle.bk_play.specs.Valley.{IsKeptSkeleton}
+use Rattle.bk_play.specs.declared.turns.MoveRecord.{MoveRecord}
+
+shows_self : (o : Outline) → Shows o (concat o.segments) (sizes_of o) o.signs (concat o.closed)
+shows_self o = record { ends_are = refl; sizes_are = refl; signs_are = refl; closed_are = refl }
+
+module _ (front : Word) (m : Move) (kept : IsKeptSkeleton front) (legal : IsLegalMove (outline_of front) m)
+    (few : order_of front + m.count ≤ 200) (from : ℕ) where
+  c : Counted front (concat (outline_of front).segments) (sizes_of (outline_of front)) (outline_of front).signs (concat (outline_of front).closed)
+  c = counted front (concat (outline_of front).segments) (sizes_of (outline_of front)) (outline_of front).signs
+      (concat (outline_of front).closed) kept (shows_self (outline_of front))
+
+  abbrev v : AtValley (outline_of front)
+  v = valley_in (outline_of front) c.shaped
+
+  abbrev f : Filled (outline_of front) v
+  f = filled_parts (outline_of front) v c.shaped
+
+  abbrev turn : MoveRecord
+  turn = turn_at (sizes_of (outline_of front)) (outline_of front).signs m from
+
+  -- the squares that the move closed are there
+  pub closed_in : (closed : List ℕ) → closed ≡ concat (after_move (outline_of front) m).closed → turn.closed ≤ length closed
+  closed_in closed e = omega (
+    arith,
+    closed_is (outline_of front) c.shaped m from v f,
+    ap length (e ∙ closed_are (outline_of front) c.shaped m legal from),
+    length-append (concat (outline_of front).closed) v.valley,
+  )
+
+  long_ends : (ends : List ℕ) → ends ≡ concat (after_move (outline_of front) m).segments
+      → length ends ≡ length (concat v.before) + length (concat v.left) + (m.count + (length (concat v.right) + length (concat v.after)))
+  long_ends ends e = ap length (e ∙ ends_are (outline_of front) c.shaped m legal from) ∙ omega (
+    arith,
+    length-append (concat v.before ++ concat v.left) (new_squares (outline_of front) m ++ (concat v.right ++ concat v.after)),
+    length-append (concat v.before) (concat v.left),
+    length-append (new_squares (outline_of front) m) (concat v.right ++ concat v.after),
+    length-append (concat v.right) (concat v.after),
+    numbers-length (length (outline_of front).hung + 1) m.count,
+  )
+
+  -- and those that it hung
+  pub ends_in : (ends : List ℕ) → ends ≡ concat (after_move (outline_of front) m).segments → turn.first + m.count ≤ length ends
+  ends_in ends e = omega (arith, first_is (outline_of front) c.shaped m from v f, long_ends ends e)
+
+  long_sizes : (sizes : List ℕ) → sizes ≡ sizes_of (after_move (outline_of front) m)
+      → length sizes ≡ length v.before + ((turn.parted + 1) + length v.after)
+  long_sizes sizes e = ap length (e ∙ sizes_are (outline_of front) c.shaped m legal from) ∙ omega (
+    arith,
+    length-append (map length v.before) (sizes_after turn m.signs ++ map length v.after),
+    length-append (sizes_after turn m.signs) (map length v.after),
+    length-map v.before (length {A = ℕ}),
+    length-map v.after (length {A = ℕ}),
+    sizes_after_many (max turn.left 1) (max turn.right 1) m.signs,
+  )
+
+  -- the segments that came in the place of those touched are there
+  pub sizes_in : (sizes : List ℕ) → sizes ≡ sizes_of (after_move (outline_of front) m) → first_touched turn + (turn.parted + 1) ≤ length sizes
+  sizes_in sizes e = omega (arith, start_is (outline_of front) c.shaped m from v f, long_sizes sizes e)
+
+  -- with those touched in their place the segments are few
+  pub sizes_few : (sizes : List ℕ) → sizes ≡ sizes_of (after_move (outline_of front) m) → length sizes - (turn.parted + 1) + (open_sides turn + 1) ≤ 200
+  sizes_few sizes e = omega (
+    arith,
+    sides_are (outline_of front) c.shaped m from v f,
+    long_sizes sizes e,
+    many_segments (outline_of front) v,
+    length-map (outline_of front).segments (length {A = ℕ}),
+    c.few,
+  )
+
+  long_signs : (signs : List Sign) → signs ≡ (after_move (outline_of front) m).signs → length signs ≡ length v.before + (turn.parted + length v.after)
+  long_signs signs e = ap length (e ∙ signs_are (outline_of front) c.shaped m legal from) ∙ omega (
+    arith,
+    length-append v.before_signs (filter parts m.signs ++ v.after_signs),
+    length-append (filter parts m.signs) v.after_signs,
+    length-filter parts m.signs,
+    v.before_many,
+    v.after_many,
+  )
+
+  -- the signs that the move left are there
+  pub signs_in : (signs : List Sign) → signs ≡ (after_move (outline_of front) m).signs → first_touched turn + turn.parted ≤ length signs
+  signs_in signs e = omega (arith, start_is (outline_of front) c.shaped m from v f, long_signs signs e)
+
+  -- with those before it in their place the signs are few
+  pub signs_few : (signs : List Sign) → signs ≡ (after_move (outline_of front) m).signs → length signs - turn.parted + open_sides turn ≤ 200
+  signs_few signs e = omega (
+    arith,
+    sides_are (outline_of front) c.shaped m from v f,
+    long_signs signs e,
+    many_segments (outline_of front) v,
+    length-map (outline_of front).segments (length {A = ℕ}),
+    c.few,
+  )
+
+  -- the squares that stand after the move, without the new ones and with those closed, are those that stood before
+  pub ends_few : (ends : List ℕ) → ends ≡ concat (after_move (outline_of front) m).segments → length ends - m.count + turn.closed ≤ 200
+  ends_few ends e = omega (
+    arith,
+    closed_is (outline_of front) c.shaped m from v f,
+    long_ends ends e,
+    kept.few,
+    c.all,
+    ap length (ends_were (outline_of front) c.shaped m legal from),
+    length-append (concat v.before ++ concat v.left) (v.valley ++ (concat v.right ++ concat v.after)),
+    length-append (concat v.before) (concat v.left),
+    length-append v.valley (concat v.right ++ concat v.after),
+    length-append (concat v.right) (concat v.after),
+  )

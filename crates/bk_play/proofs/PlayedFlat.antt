@@ -1,0 +1,185 @@
+-- The flat lists of an outline, where a move is played and where it is taken back.
+use Rattle.std.specs.List.{concat, splice}
+use Rattle.std.proofs.Common.{List, [], ap, arith, cond, count_by, drop, filter, length, map, max, refl, slice_range, sym, take, ℕ, ◌++◌, ◌+◌, ◌-◌}
+use Rattle.std.proofs.Common.{◌∙◌, ◌∷◌, ◌≡◌}
+use Rattle.std.proofs.lemmas.List.{append-nil, append_assoc, drop_at, length-append, length-map, map-append, take_at}
+use Rattle.std.proofs.lemmas.List.Sums.{length-filter, sum_by-cons}
+use Rattle.std.proofs.lemmas.List.Folds.{concat-append}
+use Rattle.bk_word.proofs.PlayLists.{numbers-length}
+use Rattle.bk_word.specs.Outline.{IsLegalMove, Outline, sizes_of, valley_of}
+use Rattle.bk_word.specs.Play.{after_move, joined, new_squares, parts}
+use Rattle.bk_word.specs.Word.{Move}
+use Rattle.bk_word.specs.declared.Sign.{Sign}
+use Rattle.bk_word.specs.declared.Sign.TheVariants.{Above, Even, Under}
+use Rattle.bk_word_net.proofs.BottomChain.{concat-joined, concat-singles}
+use Rattle.bk_play.proofs.FlatMoves.{sizes_between, splice_at}
+use Rattle.bk_word_net.proofs.OutlineParts.{left_one, right_one, valley_is}
+use Rattle.bk_word_net.proofs.MovedParts.{many_between, segments_after, signs_after}
+use Rattle.bk_word_net.proofs.Shape.{Filled, Shaped, filled_parts, valley_in}
+use Rattle.bk_play.proofs.TurnParts.{closed_is, first_is, left_is, right_is, sides_are, signs_before_are, sizes_before_are, start_is}
+use Rattle.bk_word_net.proofs.ValleyCut.{AtValley}
+use Rattle.bk_play.specs.Skeleton.{Shows, first_touched, joined_sizes, next_size, open_sides, signs_before, sizes_after, sizes_before, turn_at}
+use Rattle.bk_play.specs.declared.turns.MoveRecord.{MoveRecord}
+
+-- how many segments the signs leave
+pub sizes_after_many : (size last : ℕ) (signs : List Sign) → length (joined_sizes size last signs) ≡ count_by parts signs + 1
+sizes_after_many size last [] = refl
+sizes_after_many size last (Above ∷ signs) =
+    omega (arith, sum_by-cons (λ g. cond (parts g) 1 0) Above signs, sizes_after_many (next_size last signs) last signs)
+sizes_after_many size last (Even ∷ signs) =
+    omega (arith, sum_by-cons (λ g. cond (parts g) 1 0) Even signs, sizes_after_many (size + next_size last signs) last signs)
+sizes_after_many size last (Under ∷ signs) =
+    omega (arith, sum_by-cons (λ g. cond (parts g) 1 0) Under signs, sizes_after_many (next_size last signs) last signs)
+
+-- five lists joined, grouped otherwise
+regroup : (a b c d e : List ℕ) → a ++ ((b ++ (c ++ d)) ++ e) ≡ (a ++ b) ++ (c ++ (d ++ e))
+regroup a b c d e = simp append_assoc
+
+module _ (o : Outline) (shaped : Shaped o) (m : Move) (legal : IsLegalMove o m) (from : ℕ) where
+  abbrev v : AtValley o
+  v = valley_in o shaped
+
+  abbrev f : Filled o (valley_in o shaped)
+  f = filled_parts o (valley_in o shaped) shaped
+
+  abbrev turn : MoveRecord
+  turn = turn_at (sizes_of o) o.signs m from
+
+  -- the segments that come in the place of those touched
+  abbrev between : List (List ℕ)
+  between = v.left ++ (map (λ q. q ∷ []) (new_squares o m) ++ v.right)
+
+  -- the flat lists by parts, before
+  pub ends_were : concat o.segments ≡ (concat v.before ++ concat v.left) ++ (v.valley ++ (concat v.right ++ concat v.after))
+  ends_were = ap concat v.segments ∙ concat-append v.before (v.left ++ (v.valley ∷ (v.right ++ v.after)))
+      ∙ ap (λ (l : List ℕ). concat v.before ++ l) (concat-append v.left (v.valley ∷ (v.right ++ v.after))
+      ∙ ap (λ (l : List ℕ). concat v.left ++ (v.valley ++ l)) (concat-append v.right v.after))
+      ∙ sym (append_assoc (concat v.before) (concat v.left) (v.valley ++ (concat v.right ++ concat v.after)))
+
+  sizes_were : sizes_of o ≡ map length v.before ++ ((map length v.left ++ (length v.valley ∷ map length v.right)) ++ map length v.after)
+  sizes_were = ap (map length) v.segments ∙ map-append length v.before (v.left ++ (v.valley ∷ (v.right ++ v.after)))
+      ∙ ap (λ (l : List ℕ). map length v.before ++ l) (map-append length v.left (v.valley ∷ (v.right ++ v.after))
+      ∙ ap (λ (l : List ℕ). map length v.left ++ (length v.valley ∷ l)) (map-append length v.right v.after)
+      ∙ sym (append_assoc (map length v.left) (length v.valley ∷ map length v.right) (map length v.after)))
+
+  signs_were : o.signs ≡ v.before_signs ++ ((v.left_signs ++ v.right_signs) ++ v.after_signs)
+  signs_were = v.signs ∙ ap (λ (l : List Sign). v.before_signs ++ l) (sym (append_assoc v.left_signs v.right_signs v.after_signs))
+
+  -- and after
+  pub ends_are : concat (after_move o m).segments ≡ (concat v.before ++ concat v.left) ++ (new_squares o m ++ (concat v.right ++ concat v.after))
+  ends_are = ap concat (segments_after o v m legal) ∙ concat-append v.before (joined m.signs between ++ v.after)
+      ∙ ap (λ (l : List ℕ). concat v.before ++ l) (concat-append (joined m.signs between) v.after
+      ∙ ap (λ (l : List ℕ). l ++ concat v.after) (concat-joined m.signs between ∙ concat-append v.left (map (λ q. q ∷ []) (new_squares o m) ++ v.right)
+      ∙ ap (λ (l : List ℕ). concat v.left ++ l) (concat-append (map (λ q. q ∷ []) (new_squares o m)) v.right
+      ∙ ap (λ (l : List ℕ). l ++ concat v.right) (concat-singles (new_squares o m)))))
+      ∙ regroup (concat v.before) (concat v.left) (new_squares o m) (concat v.right) (concat v.after)
+
+  -- how many squares each segment has after it
+  pub sizes_are : sizes_of (after_move o m) ≡ map length v.before ++ (sizes_after turn m.signs ++ map length v.after)
+  sizes_are = ap (map length) (segments_after o v m legal) ∙ map-append length v.before (joined m.signs between ++ v.after)
+      ∙ ap (λ (l : List ℕ). map length v.before ++ l) (map-append length (joined m.signs between) v.after ∙ ap (λ (l : List ℕ). l ++ map length v.after) middle)
+    where
+      middle : map length (joined m.signs between) ≡ sizes_after turn m.signs
+      middle = sizes_between v.left v.right (new_squares o m) m.signs (left_one o v).1 (right_one o v).1 f.left f.right
+          (omega (arith, legal.some, numbers-length (length o.hung + 1) m.count)) (many_between o v m legal)
+          ∙ (λ i. joined_sizes (max (sym (left_is o shaped m from v f) i) 1) (max (sym (right_is o shaped m from v f) i) 1) m.signs)
+
+  -- the signs after it
+  pub signs_are : (after_move o m).signs ≡ v.before_signs ++ (filter parts m.signs ++ v.after_signs)
+  signs_are = signs_after o v m legal
+
+  -- the closed squares after it: those of the valley come behind those before
+  pub closed_are : concat (after_move o m).closed ≡ concat o.closed ++ v.valley
+  closed_are = concat-append o.closed (valley_of o ∷ []) ∙ ap (λ (l : List ℕ). concat o.closed ++ l) (append-nil (valley_of o) ∙ valley_is o v)
+
+  -- how far the parts reach
+  first_long : length (concat v.before ++ concat v.left) ≡ turn.first
+  first_long = length-append (concat v.before) (concat v.left) ∙ sym (first_is o shaped m from v f)
+
+  start_long : length (map length v.before) ≡ first_touched turn
+  start_long = length-map v.before length ∙ sym (start_is o shaped m from v f)
+
+  start_signs : length v.before_signs ≡ first_touched turn
+  start_signs = sym v.before_many ∙ sym (start_is o shaped m from v f)
+
+  sizes_long : first_touched turn + length (map length v.left ++ (length v.valley ∷ map length v.right)) ≡ first_touched turn + (open_sides turn + 1)
+  sizes_long = omega (
+    arith,
+    sides_are o shaped m from v f,
+    length-append (map length v.left) (length v.valley ∷ map length v.right),
+    length-map v.left length,
+    length-map v.right length,
+  )
+
+  signs_long : first_touched turn + length (v.left_signs ++ v.right_signs) ≡ first_touched turn + open_sides turn
+  signs_long = omega (arith, sides_are o shaped m from v f, length-append v.left_signs v.right_signs, (left_one o v).0, (right_one o v).0)
+
+  -- the lists that are stored after a move
+  pub shows_move : (ends sizes : List ℕ) (signs : List Sign) (closed : List ℕ) → Shows o ends sizes signs closed
+      → Shows (after_move o m)
+      (splice ends turn.first (turn.first + turn.closed) (new_squares o m))
+      (splice sizes (first_touched turn) (first_touched turn + (open_sides turn + 1)) (sizes_after turn m.signs))
+      (splice signs (first_touched turn) (first_touched turn + open_sides turn) (filter parts m.signs))
+      (closed ++ slice_range ends turn.first (turn.first + turn.closed))
+  shows_move ends sizes signs closed s = record {
+    ends_are = ap (λ (l : List ℕ). splice l turn.first (turn.first + turn.closed) (new_squares o m)) (s.ends_are ∙ ends_were)
+        ∙ splice_at (concat v.before ++ concat v.left) v.valley (concat v.right ++ concat v.after) (new_squares o m) turn.first
+        (turn.first + turn.closed) first_long (omega (arith, closed_is o shaped m from v f))
+        ∙ sym ends_are;
+    sizes_are = ap (λ (l : List ℕ). splice l (first_touched turn) (first_touched turn + (open_sides turn + 1)) (sizes_after turn m.signs))
+        (s.sizes_are ∙ sizes_were)
+        ∙ splice_at (map length v.before) (map length v.left ++ (length v.valley ∷ map length v.right)) (map length v.after)
+        (sizes_after turn m.signs) (first_touched turn) (first_touched turn + (open_sides turn + 1)) start_long sizes_long
+        ∙ sym sizes_are;
+    signs_are = ap (λ (l : List Sign). splice l (first_touched turn) (first_touched turn + open_sides turn) (filter parts m.signs)) (s.signs_are ∙ signs_were)
+        ∙ splice_at v.before_signs (v.left_signs ++ v.right_signs) v.after_signs (filter parts m.signs) (first_touched turn)
+        (first_touched turn + open_sides turn) start_signs signs_long
+        ∙ sym signs_are;
+    closed_are = (λ i. s.closed_are i ++ slice_range ((s.ends_are ∙ ends_were) i) turn.first (turn.first + turn.closed))
+        ∙ ap (λ (l : List ℕ). concat o.closed ++ l) middle ∙ sym closed_are;
+  }
+    where
+      middle : slice_range ((concat v.before ++ concat v.left) ++ (v.valley ++ (concat v.right ++ concat v.after))) turn.first
+          (turn.first + turn.closed) ≡ v.valley
+      middle = ap (take (turn.first + turn.closed - turn.first))
+          (drop_at (concat v.before ++ concat v.left) (v.valley ++ (concat v.right ++ concat v.after)) turn.first first_long)
+          ∙ take_at v.valley (concat v.right ++ concat v.after) (turn.first + turn.closed - turn.first) (omega (arith, closed_is o shaped m from v f))
+
+  -- and where it is taken back
+  pub shows_back : (ends sizes : List ℕ) (signs : List Sign) (closed : List ℕ) → Shows (after_move o m) ends sizes signs closed
+      → Shows o
+      (splice ends turn.first (turn.first + turn.count) (drop (length closed - turn.closed) closed))
+      (splice sizes (first_touched turn) (first_touched turn + (turn.parted + 1)) (sizes_before turn))
+      (splice signs (first_touched turn) (first_touched turn + turn.parted) (signs_before turn))
+      (take (length closed - turn.closed) closed)
+  shows_back ends sizes signs closed s = record {
+    ends_are = (λ i. splice ((s.ends_are ∙ ends_are) i) turn.first (turn.first + turn.count) (last i))
+        ∙ splice_at (concat v.before ++ concat v.left) (new_squares o m) (concat v.right ++ concat v.after) v.valley turn.first
+        (turn.first + turn.count) first_long (ap (λ n. turn.first + n) (numbers-length (length o.hung + 1) m.count))
+        ∙ sym ends_were;
+    sizes_are = (λ i. splice ((s.sizes_are ∙ sizes_are) i) (first_touched turn) (first_touched turn + (turn.parted + 1))
+        (sizes_before_are o shaped m from v f i))
+        ∙ splice_at (map length v.before) (sizes_after turn m.signs) (map length v.after)
+        (map length v.left ++ (length v.valley ∷ map length v.right)) (first_touched turn) (first_touched turn + (turn.parted + 1))
+        start_long (ap (λ n. first_touched turn + n) sizes_many)
+        ∙ sym sizes_were;
+    signs_are = (λ i. splice ((s.signs_are ∙ signs_are) i) (first_touched turn) (first_touched turn + turn.parted) (signs_before_are o shaped m from v f i))
+        ∙ splice_at v.before_signs (filter parts m.signs) v.after_signs (v.left_signs ++ v.right_signs) (first_touched turn)
+        (first_touched turn + turn.parted) start_signs (ap (λ n. first_touched turn + n) (length-filter parts m.signs))
+        ∙ sym signs_were;
+    closed_are = (λ i. take (length (whole i) - turn.closed) (whole i))
+        ∙ take_at (concat o.closed) v.valley (length (concat o.closed ++ v.valley) - turn.closed) rest;
+  }
+    where
+      whole : closed ≡ concat o.closed ++ v.valley
+      whole = s.closed_are ∙ closed_are
+
+      rest : length (concat o.closed) ≡ length (concat o.closed ++ v.valley) - turn.closed
+      rest = omega (arith, length-append (concat o.closed) v.valley, closed_is o shaped m from v f)
+
+      last : drop (length closed - turn.closed) closed ≡ v.valley
+      last = (λ i. drop (length (whole i) - turn.closed) (whole i))
+          ∙ drop_at (concat o.closed) v.valley (length (concat o.closed ++ v.valley) - turn.closed) rest
+
+      sizes_many : length (sizes_after turn m.signs) ≡ turn.parted + 1
+      sizes_many = sizes_after_many (max turn.left 1) (max turn.right 1) m.signs

@@ -1,0 +1,111 @@
+-- What is read of a skeleton: its segments and its moves.
+use Rattle.std.proofs.Common.{List, Some, [], ap, arith, get_or, length, map, refl, slice_get, slice_index, slice_index_or, slice_range}
+use Rattle.std.proofs.Common.{subst, suc, sum, sym, take, zero, ℕ, ◌++◌, ◌+◌, ◌<◌, ◌∙◌, ◌∷◌, ◌≡◌, ◌≤◌}
+use Rattle.std.proofs.lemmas.List.Sums.{sum_by-take-drop}
+use Rattle.std.proofs.lemmas.List.{length-append, length-map}
+use Rattle.bk_word.proofs.StoredBytes.{order_more}
+use Rattle.bk_word.specs.Outline.{Outline, start, valley_place}
+use Rattle.bk_word.specs.Play.{AreLegalFrom, after_move}
+use Rattle.bk_word.specs.Word.{Word, order_of}
+use Rattle.bk_word.specs.declared.Sign.{Sign}
+use Rattle.bk_play.proofs.EndNodes.{CutAt, cut_at, here_is, sum_next}
+use Rattle.bk_play.proofs.SkelFacts.{Counted, counted}
+use Rattle.bk_word.proofs.PlayLaws.{few_signs}
+use Rattle.bk_play.specs.Skeleton.{IsStoredSkeleton, Shows, move_of, moves_stored, signs_of, turns_from}
+use Rattle.bk_play.specs.declared.turns.MoveRecord.{MoveRecord}
+
+-- what is stored has as many items as its word has squares and segments
+pub counted_in : {w : Word} {ends sizes : List ℕ} {signs : List Sign} {closed : List ℕ} {turns : List MoveRecord} {played : List Sign}
+    → IsStoredSkeleton w ends sizes signs closed turns played → Counted w ends sizes signs closed
+counted_in {w = w} {ends = ends} {sizes = sizes} {signs = signs} {closed = closed} s = counted w ends sizes signs closed s.kept s.shows
+
+-- how many items the list at a place has; none past the last list
+pub size_index : (lists : List (List ℕ)) (n : ℕ) → slice_index (map length lists) n ≡ length (slice_index_or lists n [])
+size_index [] n = refl
+size_index (s ∷ lists) zero = refl
+size_index (s ∷ lists) (suc n) = size_index lists n
+
+list_at : (lists : List (List ℕ)) (n : ℕ) (c : CutAt lists n) → slice_index_or lists n [] ≡ c.here
+list_at lists n c = ap (λ (l : List (List ℕ)). slice_index_or l n []) c.whole ∙ go c.front n c.long
+  where
+    go : (front : List (List ℕ)) (n : ℕ) → length front ≡ n → slice_index_or (front ++ c.here ∷ c.back) n [] ≡ c.here
+    go [] zero e = refl
+    go [] (suc n) e = absurd (omega arith)
+    go (s ∷ front) zero e = absurd (omega arith)
+    go (s ∷ front) (suc n) e = go front n (omega arith)
+
+-- the squares and the size of a segment, as they are read
+pub segment_read : (o : Outline) (ends sizes : List ℕ) (signs : List Sign) (closed : List ℕ) (place : ℕ)
+    → Shows o ends sizes signs closed → place < length sizes
+    → slice_range ends (sum (take place sizes)) (sum (take place sizes) + slice_index sizes place) ≡ slice_index_or o.segments place []
+segment_read o ends sizes signs closed place s h =
+    (λ i. slice_range (s.ends_are i) (sum (take place (s.sizes_are i))) (next i))
+    ∙ here_is o.segments place cut ∙ sym (list_at o.segments place cut)
+  where
+    cut : CutAt o.segments place
+    cut = cut_at o.segments place (omega (arith, ap length s.sizes_are, length-map o.segments (length {A = ℕ})))
+
+    next : sum (take place sizes) + slice_index sizes place ≡ sum (take (suc place) (map length o.segments))
+    next = sym (sum_next sizes place h) ∙ ap (λ (l : List ℕ). sum (take (suc place) l)) s.sizes_are
+
+-- the signs of a move, where it is read
+pub record Spans (turn : MoveRecord) (end : ℕ) : Type 0 where
+  pub order : turn.from ≤ turn.to
+  pub within : turn.to ≤ end
+  pub few : turn.to ≤ turn.from + 201
+
+-- the signs of each move stand among those played, and are at most 201
+pub turn_spans : (o : Outline) (from : ℕ) (w : Word) → AreLegalFrom o w → order_of w ≤ 200 → (i : ℕ) (d : MoveRecord) → i < length w
+    → Spans (get_or (turns_from o from w) i d) (from + length (signs_of w))
+turn_spans o from [] legal few i d h = absurd (omega arith)
+turn_spans o from (m ∷ w) legal few zero d h = record {
+  order = omega arith;
+  within = omega (arith, length-append m.signs (signs_of w));
+  few = omega (arith, few_signs o m legal.0, order_more m w);
+}
+turn_spans o from (m ∷ w) legal few (suc i) d h = let r =
+    turn_spans (after_move o m) (from + length m.signs) w legal.1 (omega (arith, order_more m w)) i d (omega arith) in record {
+      order = r.order;
+      within = omega (arith, r.within, length-append m.signs (signs_of w));
+      few = r.few;
+    }
+
+-- and so among those stored
+pub span_in : {w : Word} {ends sizes : List ℕ} {signs : List Sign} {closed : List ℕ} {turns : List MoveRecord} {played : List Sign}
+    → IsStoredSkeleton w ends sizes signs closed turns played → (i : ℕ) (d : MoveRecord) → i < length w → Spans (get_or turns i d) (length played)
+span_in {w = w} {turns = turns} {played = played} s i d h = subst (λ (l : List MoveRecord). Spans (get_or l i d) (length played)) (sym s.turns_are)
+    (subst (λ (n : ℕ). Spans (get_or (turns_from start 0 w) i d) n) (omega (arith, ap length s.played_are))
+    (turn_spans start 0 w (s.kept).legal (s.kept).few i d h))
+
+-- what stands at a place of a mapped list
+pub get_map : {A B : Type 0} (f : A → B) (xs : List A) (i : ℕ) (d : A) → i < length xs → slice_get (map f xs) i ≡ Some (f (get_or xs i d))
+get_map f [] i d h = absurd (omega arith)
+get_map f (x ∷ xs) zero d h = refl
+get_map f (x ∷ xs) (suc i) d h = get_map f xs i d (omega arith)
+
+-- the move at a place, as it is read
+pub move_read : (w : Word) (turns : List MoveRecord) (played read : List Sign) (i : ℕ) (d : MoveRecord) → moves_stored turns played ≡ w → i < length w
+    → read ≡ slice_range played (get_or turns i d).from (get_or turns i d).to
+    → slice_get w i ≡ Some (record { count = (get_or turns i d).count; signs = read })
+move_read w turns played read i d whole h e = ap (λ (l : Word). slice_get l i) (sym whole)
+    ∙ get_map (move_of played) turns i d (omega (arith, ap length whole, length-map turns (move_of played)))
+    ∙ (λ j. Some (record { count = (get_or turns i d).count; signs = sym e j }))
+
+-- a front of a list of numbers has no more than all
+pub sum_of_front : (xs : List ℕ) (n : ℕ) → sum (take n xs) ≤ sum xs
+sum_of_front xs n = omega (arith, sum_by-take-drop (λ (k : ℕ). k) xs n)
+
+-- where the squares of a segment end, as it is read
+pub reads_segment : (sizes once again : List ℕ) (signs : List Sign) (place first size : ℕ) → sizes ≡ again → once ≡ again
+    → place ≡ valley_place signs → first ≡ sum (take (valley_place signs) sizes) → size ≡ slice_index once place
+    → place < length again → first + size ≡ sum (take (suc place) again)
+reads_segment sizes once again signs place first size e f at begins is within =
+    omega (
+      arith,
+      begins,
+      ap (λ n. sum (take n sizes)) at,
+      ap (λ (l : List ℕ). sum (take place l)) e,
+      is,
+      ap (λ (l : List ℕ). slice_index l place) f,
+      sum_next again place within,
+    )

@@ -1,0 +1,101 @@
+-- How 2u.2eu.1e is stored, the word of the 8 by 5 rectangle of the sides 5, 3, 2, 1 and 1: its valleys, segments,
+-- and records of moves.
+use Rattle.std.proofs.Common.{Some, [], ap, false, refl, slice_get, take, true, ◌∷◌, ◌≡◌}
+use Rattle.bk_word.proofs.WordExamples.{staircase}
+use Rattle.bk_word.specs.Outline.{sizes_of, start}
+use Rattle.bk_word.specs.Play.{outline_of}
+use Rattle.bk_word.specs.Word.{Move}
+use Rattle.bk_word.specs.declared.Sign.TheVariants.{Even, Under}
+use Rattle.bk_play.specs.Skeleton.{Shows, first_touched, joined_sizes, moves_stored, open_sides, signs_before, signs_of, sizes_after}
+use Rattle.bk_play.specs.Skeleton.{sizes_before, turns_from, with_parted}
+use Rattle.bk_play.specs.SmallSkeleton.{IsValley, StandsAt}
+use Rattle.bk_play.specs.TurnRecord.{SaysWhere}
+use Rattle.bk_play.specs.Valley.{leftmost_valley}
+use Rattle.bk_play.specs.declared.turns.MoveRecord.{MoveRecord}
+
+-- ---- the leftmost valley before each move, and how many squares each open segment has
+
+first_valley : leftmost_valley (outline_of []) ≡ record { place = 0; left_wall = true; right_wall = true; squares = [] }
+first_valley = refl
+
+second_valley : leftmost_valley (outline_of (take 1 staircase)) ≡ record { place = 1; left_wall = false; right_wall = true; squares = 2 ∷ [] }
+second_valley = refl
+
+third_valley : leftmost_valley (outline_of (take 2 staircase)) ≡ record { place = 1; left_wall = false; right_wall = true; squares = 4 ∷ [] }
+third_valley = refl
+
+sizes_at_first : sizes_of (outline_of []) ≡ 0 ∷ []
+sizes_at_first = refl
+
+sizes_after_one : sizes_of (outline_of (take 1 staircase)) ≡ 1 ∷ 1 ∷ []
+sizes_after_one = refl
+
+sizes_after_two : sizes_of (outline_of (take 2 staircase)) ≡ 2 ∷ 1 ∷ []
+sizes_after_two = refl
+
+sizes_after_all : sizes_of (outline_of staircase) ≡ 3 ∷ []
+sizes_after_all = refl
+
+-- ---- the records of the moves
+
+abbrev turn_1 : MoveRecord
+turn_1 = record { place = 0; first = 0; left = 0; closed = 0; right = 0; count = 2; parted = 1; from = 0; to = 1 }
+
+abbrev turn_2 : MoveRecord
+turn_2 = record { place = 1; first = 1; left = 1; closed = 1; right = 0; count = 2; parted = 1; from = 1; to = 3 }
+
+abbrev turn_3 : MoveRecord
+turn_3 = record { place = 1; first = 2; left = 2; closed = 1; right = 0; count = 1; parted = 0; from = 3; to = 4 }
+
+-- the second one, but for the sign that stays
+but_for_one : with_parted turn_2 0 ≡ record { place = 1; first = 1; left = 1; closed = 1; right = 0; count = 2; parted = 0; from = 1; to = 3 }
+but_for_one = refl
+
+turns : turns_from start 0 staircase ≡ turn_1 ∷ turn_2 ∷ turn_3 ∷ []
+turns = refl
+
+signs : signs_of staircase ≡ Under ∷ Even ∷ Under ∷ Even ∷ []
+signs = refl
+
+stored : moves_stored (turn_1 ∷ turn_2 ∷ turn_3 ∷ []) (Under ∷ Even ∷ Under ∷ Even ∷ []) ≡ staircase
+stored = refl
+
+-- the third move touches both segments: they had two squares and one, with the sign under between them, and its own sign
+-- makes one segment of three of them
+touched : first_touched turn_3 ≡ 0
+touched = refl
+
+sides : open_sides turn_3 ≡ 1
+sides = refl
+
+sizes : sizes_before turn_3 ≡ 2 ∷ 1 ∷ []
+sizes = refl
+
+between : signs_before turn_3 ≡ Under ∷ []
+between = refl
+
+joined : sizes_after turn_3 (Even ∷ []) ≡ 3 ∷ []
+joined = refl
+
+-- of a first segment of two squares and a last one of three, whose signs are even, under, even
+joined_both : joined_sizes 2 3 (Even ∷ Under ∷ Even ∷ []) ≡ 3 ∷ 4 ∷ []
+joined_both = refl
+
+-- the valley of the third move has square 4 alone, with squares 1 and 3 before it
+says_where : SaysWhere staircase 2 turn_3
+says_where = record { count = λ m e. same m e; first = refl; closed = refl }
+  where
+    same : (m : Move) → slice_get staircase 2 ≡ Some m → turn_3.count ≡ m.count
+    same m e = let third : record { count = 1; signs = Even ∷ [] } ≡ m = cc in ap (λ (n : Move). n.count) third
+
+-- the flat lists after two moves: the open squares, the segments' sizes, the sign between them, and the closed square
+shown : Shows (outline_of (take 2 staircase)) (1 ∷ 3 ∷ 4 ∷ []) (2 ∷ 1 ∷ []) (Under ∷ []) (2 ∷ [])
+shown = record { ends_are = refl; sizes_are = refl; signs_are = refl; closed_are = refl }
+
+-- the leftmost valley stands behind one segment then, which has two squares
+stands : StandsAt (2 ∷ 1 ∷ []) (Under ∷ []) 1 2
+stands = record { place_is = refl; first_is = refl }
+
+-- and has square 4 alone
+valley : IsValley (take 2 staircase) (record { place = 1; start = 2; end = 3 })
+valley = record { stands = stands; end_is = refl }

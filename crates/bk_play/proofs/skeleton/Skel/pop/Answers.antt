@@ -1,0 +1,113 @@
+use Rattle.std.specs.List.{splice}
+use Rattle.std.proofs.Common.{ap, arith, drop, length, lit<, take, ◌+◌, ◌-◌, ◌∙◌, ◌≡◌, ◌≤◌}
+use Rattle.std.proofs.lemmas.List.{length-drop, length-map}
+use Rattle.bk_play.proofs.Playing.{moves_shown, stored_shown}
+use Rattle.bk_play.proofs.TakenBack.{Back, TakesBack, behind_read, front_left, stored_back, taken_back}
+use Rattle.bk_play.proofs.SkelReads.{counted_in}
+use Rattle.bk_play.specs.Skeleton.{move_of, moves_stored}
+use Rattle.bk_play.proofs.skeleton.Skel.pop.Goals as goal
+
+pub overflow_sub-kept : goal.overflow_sub-kept
+overflow_sub-kept c =
+    let b = taken_back c.self.invariant c.take_last-turn.ensures c.requires c.self.view_is in
+    omega (arith, b.closed_within, c.len.ensures.value, c.from.ensures)
+
+known : (c : goal.After-turn-1) → TakesBack (moves_stored c.self.inside.turns.items c.self.inside.played.items)
+    c.self.inside.ends.items c.self.inside.sizes.items c.self.inside.signs.items c.self.inside.closed.items
+    c.take_last-turn.new.turns.items c.take_last-turn.result c.self.inside.played.items
+known c = taken_back c.self.invariant c.take_last-turn.ensures c.requires c.self.view_is
+
+pub undo_signs-requires-clause-sizes_within : goal.undo_signs-requires-clause-sizes_within
+undo_signs-requires-clause-sizes_within c = (known c).sizes_within
+
+pub undo_signs-requires-clause-signs_within : goal.undo_signs-requires-clause-signs_within
+undo_signs-requires-clause-signs_within c = (known c).signs_within
+
+pub undo_signs-requires-clause-sizes_fit : goal.undo_signs-requires-clause-sizes_fit
+undo_signs-requires-clause-sizes_fit c = (known c).sizes_fit
+
+pub undo_signs-requires-clause-signs_fit : goal.undo_signs-requires-clause-signs_fit
+undo_signs-requires-clause-signs_fit c = (known c).signs_fit
+
+pub splice-requires : goal.splice-requires
+splice-requires c =
+    let b = taken_back c.self.invariant c.take_last-turn.ensures c.requires c.self.view_is in
+    let kept : c.len.result - c.from.result ≡ length c.self.inside.closed.items - c.take_last-turn.result.closed =
+    (λ i. c.len.ensures.value i - c.from.ensures i) in
+    let within : c.from-first.result + c.from-2.result ≤ length c.self.inside.ends.items =
+    omega (arith, b.ends_within, c.from-first.ensures, c.from-2.ensures) in
+    let few : length (take (length c.deref.result.now - (c.len.result - c.from.result))
+    (drop (c.len.result - c.from.result) c.deref.result.now)) ≡ c.take_last-turn.result.closed =
+    ap length (behind_read c.self.inside.closed.items c.deref.result.now (c.len.result - c.from.result)
+    (length c.self.inside.closed.items - c.take_last-turn.result.closed) c.deref.ensures.0 kept)
+    ∙ length-drop (length c.self.inside.closed.items - c.take_last-turn.result.closed) c.self.inside.closed.items ∙ omega (arith, b.closed_within) in
+    let fits : length c.self.inside.ends.items - (c.from-first.result + c.from-2.result - c.from-first.result)
+    + length (take (length c.deref.result.now - (c.len.result - c.from.result))
+    (drop (c.len.result - c.from.result) c.deref.result.now)) ≤ 200 = omega (arith, few, b.ends_fit, c.from-2.ensures) in
+    (omega arith, (omega arith, (within, fits)))
+
+pub invariant_of-self : goal.invariant_of-self
+invariant_of-self c =
+    let b = taken_back c.self.invariant c.take_last-turn.ensures c.requires c.self.view_is in
+    let kept : c.len.result - c.from.result ≡ length c.self.inside.closed.items - c.take_last-turn.result.closed =
+    (λ i. c.len.ensures.value i - c.from.ensures i) in
+    let n : Back c.self.inside.ends.items c.self.inside.sizes.items c.self.inside.signs.items c.self.inside.closed.items
+    c.self.inside.played.items c.take_last-turn.result c.splice.new.list.items c.undo_signs.new.sizes.items c.undo_signs.new.signs.items
+    c.truncate.new.self.items c.truncate-2.new.self.items = record {
+      ends_new = c.splice.ensures ∙ (λ i. splice c.self.inside.ends.items (c.from-first.ensures i) (c.from-first.ensures i + c.from-2.ensures i)
+          (behind_read c.self.inside.closed.items c.deref.result.now (c.len.result - c.from.result)
+          (length c.self.inside.closed.items - c.take_last-turn.result.closed) c.deref.ensures.0 kept i));
+      sizes_new = c.undo_signs.ensures.sizes;
+      signs_new = c.undo_signs.ensures.signs;
+      closed_new = c.truncate.ensures.items ∙ ap (λ n. take n c.self.inside.closed.items) kept;
+      played_new = c.truncate-2.ensures.items ∙ ap (λ n. take n c.self.inside.played.items) c.from-3.ensures;
+    } in
+    stored_shown _ _ _ _ _ _ _ (stored_back b n)
+
+pub returns : goal.returns
+returns c =
+    let b = taken_back c.self.invariant c.take_last-turn.ensures c.requires c.self.view_is in
+    let kept : c.len.result - c.from.result ≡ length c.self.inside.closed.items - c.take_last-turn.result.closed =
+    (λ i. c.len.ensures.value i - c.from.ensures i) in
+    let n : Back c.self.inside.ends.items c.self.inside.sizes.items c.self.inside.signs.items c.self.inside.closed.items
+    c.self.inside.played.items c.take_last-turn.result c.splice.new.list.items c.undo_signs.new.sizes.items c.undo_signs.new.signs.items
+    c.truncate.new.self.items c.truncate-2.new.self.items = record {
+      ends_new = c.splice.ensures ∙ (λ i. splice c.self.inside.ends.items (c.from-first.ensures i) (c.from-first.ensures i + c.from-2.ensures i)
+          (behind_read c.self.inside.closed.items c.deref.result.now (c.len.result - c.from.result)
+          (length c.self.inside.closed.items - c.take_last-turn.result.closed) c.deref.ensures.0 kept i));
+      sizes_new = c.undo_signs.ensures.sizes;
+      signs_new = c.undo_signs.ensures.signs;
+      closed_new = c.truncate.ensures.items ∙ ap (λ n. take n c.self.inside.closed.items) kept;
+      played_new = c.truncate-2.ensures.items ∙ ap (λ n. take n c.self.inside.played.items) c.from-3.ensures;
+    } in
+    moves_shown (stored_back b n) ∙ front_left b c.args.self.now c.self.view_is
+
+pub take_last-turn-requires : goal.take_last-turn-requires
+take_last-turn-requires c = omega (arith, c.requires, ap length c.self.view_is, length-map c.self.inside.turns.items (move_of c.self.inside.played.items))
+
+pub len-requires : goal.len-requires
+len-requires c = lit< tt
+
+pub overflow_add-first : goal.overflow_add-first
+overflow_add-first c =
+    let b = taken_back c.self.invariant c.take_last-turn.ensures c.requires c.self.view_is in
+    let kept = c.self.invariant.kept in
+    omega (arith, b.ends_within, c.from-first.ensures, c.from-2.ensures, (counted_in c.self.invariant).all, kept.few)
+
+pub deref-requires : goal.deref-requires
+deref-requires c = lit< tt
+
+pub slice_bounds-splice-count : goal.slice_bounds-splice-count
+slice_bounds-splice-count c = omega (arith, ap length c.deref.ensures.0, c.len.ensures.value)
+
+pub slice_bounds-splice-start : goal.slice_bounds-splice-start
+slice_bounds-splice-start c = omega (arith, ap length c.deref.ensures.0, c.len.ensures.value)
+
+pub slice_bounds-splice-end : goal.slice_bounds-splice-end
+slice_bounds-splice-end c = omega arith
+
+pub truncate-requires : goal.truncate-requires
+truncate-requires c = lit< tt
+
+pub truncate-requires-2 : goal.truncate-requires-2
+truncate-requires-2 c = lit< tt

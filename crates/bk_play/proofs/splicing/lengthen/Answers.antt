@@ -1,0 +1,9 @@
+use Rattle.std.proofs.lemmas.Grind.{common_steps}
+use Rattle.std.proofs.Common.{arith}
+use Rattle.bk_play.proofs.splicing.lengthen.Goals as goal
+
+pub loop-init : goal.loop-init
+loop-init g c = grind (arith, common_steps)
+
+pub loop-preserved : goal.loop-preserved
+loop-preserved g c = grind (arith, common_steps)

@@ -1,0 +1,82 @@
+//! The net of a word, from the records of its moves.
+
+ghost use Rattle.std.specs.List.{concat, list_any};
+ghost use Rattle.std.specs.Prelude.{List, cond, length, map, nat_eq, replicate, slice_index, sum, ℕ, ◌+◌, ◌++◌, ◌<◌, ◌≡◌, ◌≤◌};
+ghost use Rattle.bk_word_net.specs.WordNet.{end_of};
+ghost use Rattle.bk_play.specs.Wiring.{AreNumbers, AreWires, closed_of, counts_of, wires_from};
+
+use crate::turns::MoveRecord;
+use bk_net::Net;
+use bk_word::LARGEST_ORDER;
+
+// The node at which each square ends, in the order of the squares' numbers from 1: the one whose move closes it, or the last
+// node where none does.
+pub(crate) fn end_nodes(turns: &[MoveRecord], closed: &[u8]) -> [u8; LARGEST_ORDER]
+    requires few { length turns.now ≤ 200 }
+    requires numbers { AreNumbers 200 closed.now }
+    requires many { length closed.now ≡ sum (closed_of turns.now) }
+    ensures long { length result ≡ 200 }
+    ensures nodes { (lists : List (List ℕ)) → closed.now ≡ concat lists → closed_of turns.now ≡ map length lists
+        → (k : ℕ) → k < 200 → slice_index result k ≡ end_of lists (k + 1) }
+{
+    let mut ended = all_at(turns.len() as u8);
+    let mut node = turns.len();
+    let mut end = closed.len();
+    'nodes: while node > 0 {
+        node -= 1;
+        let start = end - usize::from(turns[node].closed);
+        mark(&mut ended, &closed[start..end], node as u8);
+        end = start;
+    }
+    ended
+}
+
+// Each square at one node.
+fn all_at(node: u8) -> [u8; LARGEST_ORDER]
+    ensures { result ≡ replicate 200 node }
+{
+    [node; LARGEST_ORDER]
+}
+
+// Notes for these squares that they end at a node.
+fn mark(ended: &mut [u8], squares: &[u8], node: u8)
+    requires { AreNumbers (length ended.old) squares.now }
+    ensures { (k : ℕ) → k < length ended.old
+        → slice_index ended.new k ≡ cond (list_any (nat_eq (k + 1)) squares.now) node (slice_index ended.old k) }
+{
+    for square in squares {
+        ended[usize::from(*square) - 1] = node;
+    }
+}
+
+// The net in which the moves of these records hang squares that end at these nodes.
+pub(crate) fn wired(turns: &[MoveRecord], ends: &[u8]) -> Net
+    requires some { 0 < length turns.now }
+    requires few { length turns.now ≤ 200 }
+    requires all { length ends.now ≡ sum (counts_of turns.now) }
+    requires room { length ends.now ≤ 200 }
+    requires wires { AreWires (length turns.now + 1) (wires_from 0 (counts_of turns.now) ends.now) }
+    ensures { result ≡ record { nodes = length turns.now + 1; wires = wires_from 0 (counts_of turns.now) ends.now } }
+{
+    let mut net = Net::new(turns.len() as u16 + 1);
+    let mut rest = ends;
+    for (node, turn) in turns.iter().enumerate() {
+        let (own, behind) = rest.split_at(usize::from(turn.count));
+        let from = node as u16;
+        add_wires(&mut net, from, own);
+        rest = behind;
+    }
+    net
+}
+
+// Appends a wire from a node to each of others.
+fn add_wires(net: &mut Net, node: u16, ends: &[u8])
+    requires room { length net.old.wires + length ends.now ≤ 200 }
+    requires wires { AreWires net.old.nodes (map (λ e. (node, e)) ends.now) }
+    ensures nodes { net.new.nodes ≡ net.old.nodes }
+    ensures wires { net.new.wires ≡ net.old.wires ++ map (λ e. (node, e)) ends.now }
+{
+    for end in ends {
+        net.add(node, u16::from(*end));
+    }
+}

@@ -1,0 +1,120 @@
+//! The sizes of the open segments and the signs between them, where a move parts and joins them, and where it is taken back.
+
+ghost use Rattle.std.specs.List.{splice};
+ghost use Rattle.std.specs.Prelude.{cond, count_by, filter, length, ◌+◌, ◌-◌, ◌<◌, ◌≡◌, ◌≤◌};
+ghost use Rattle.bk_word.specs.Play.{parts};
+ghost use Rattle.bk_play.specs.Skeleton.{first_touched, joined_sizes, open_sides, signs_before, sizes_after, sizes_before};
+
+use crate::splicing::{make_room, splice};
+use crate::turns::MoveRecord;
+use arrayvec::ArrayVec;
+use bk_word::{LARGEST_ORDER, Sign};
+
+// Joins and parts the segments that a move touches: the new sizes and signs stand in the place of theirs.
+pub(crate) fn apply_signs(
+    sizes: &mut ArrayVec<u8, LARGEST_ORDER>,
+    signs: &mut ArrayVec<Sign, LARGEST_ORDER>,
+    turn: &MoveRecord,
+    moved: &[Sign],
+)
+    requires parted { turn.now.parted ≡ count_by parts moved.now }
+    requires sizes_within { first_touched turn.now + (open_sides turn.now + 1) ≤ length sizes.old.items }
+    requires signs_within { first_touched turn.now + open_sides turn.now ≤ length signs.old.items }
+    requires sizes_fit { length sizes.old.items - (open_sides turn.now + 1) + (turn.now.parted + 1) ≤ 200 }
+    requires signs_fit { length signs.old.items - open_sides turn.now + turn.now.parted ≤ 200 }
+    requires small { turn.now.left + length moved.now + turn.now.right ≤ 253 }
+    ensures sizes { sizes.new.items ≡ splice sizes.old.items (first_touched turn.now)
+        (first_touched turn.now + (open_sides turn.now + 1)) (sizes_after turn.now moved.now) }
+    ensures signs { signs.new.items ≡ splice signs.old.items (first_touched turn.now)
+        (first_touched turn.now + open_sides turn.now) (filter parts moved.now) }
+{
+    let start = turn.first_touched();
+    let open = turn.open_sides();
+    let parted = usize::from(turn.parted);
+    make_room(sizes, start, start + open + 1, parted + 1);
+    put_sizes(
+        &mut sizes[start..start + parted + 1],
+        moved,
+        turn.left.max(1),
+        turn.right.max(1),
+    );
+    make_room(signs, start, start + open, parted);
+    put_signs(&mut signs[start..start + parted], moved);
+}
+
+// Takes that back.
+pub(crate) fn undo_signs(
+    sizes: &mut ArrayVec<u8, LARGEST_ORDER>,
+    signs: &mut ArrayVec<Sign, LARGEST_ORDER>,
+    turn: &MoveRecord,
+)
+    requires sizes_within { first_touched turn.now + (turn.now.parted + 1) ≤ length sizes.old.items }
+    requires signs_within { first_touched turn.now + turn.now.parted ≤ length signs.old.items }
+    requires sizes_fit { length sizes.old.items - (turn.now.parted + 1) + (open_sides turn.now + 1) ≤ 200 }
+    requires signs_fit { length signs.old.items - turn.now.parted + open_sides turn.now ≤ 200 }
+    ensures sizes { sizes.new.items ≡ splice sizes.old.items (first_touched turn.now)
+        (first_touched turn.now + (turn.now.parted + 1)) (sizes_before turn.now) }
+    ensures signs { signs.new.items ≡ splice signs.old.items (first_touched turn.now)
+        (first_touched turn.now + turn.now.parted) (signs_before turn.now) }
+{
+    let start = turn.first_touched();
+    let parted = usize::from(turn.parted);
+    let left = usize::from(turn.left.min(1));
+    let right = usize::from(turn.right.min(1));
+    let sizes_before = [turn.left, turn.closed, turn.right];
+    splice(
+        sizes,
+        start,
+        start + parted + 1,
+        &sizes_before[1 - left..2 + right],
+    );
+    let signs_before = [Sign::Under, Sign::Above];
+    splice(
+        signs,
+        start,
+        start + parted,
+        &signs_before[1 - left..1 + right],
+    );
+}
+
+// Puts the signs that stay between segments into a room for as many.
+fn put_signs(room: &mut [Sign], moved: &[Sign])
+    requires { length room.old ≡ count_by parts moved.now }
+    ensures { room.new ≡ filter parts moved.now }
+{
+    let mut place = 0;
+    for sign in moved {
+        if sign.parts() {
+            room[place] = *sign;
+            place += 1;
+        }
+    }
+}
+
+// The last size, or one square where it isn't the last.
+pub(crate) fn size_of_next(is_last: bool, last: u8) -> u8
+    ensures { result ≡ cond is_last last 1 }
+{
+    if is_last { last } else { 1 }
+}
+
+// Puts the sizes of segments that the signs join or part into a room for as many as are left.
+fn put_sizes(room: &mut [u8], moved: &[Sign], first: u8, last: u8)
+    requires long { length room.old ≡ count_by parts moved.now + 1 }
+    requires small { first + length moved.now + last < 256 }
+    ensures { room.new ≡ joined_sizes first last moved.now }
+{
+    let mut place = 0;
+    let mut size = first;
+    for (i, sign) in moved.iter().enumerate() {
+        let next = size_of_next(i + 1 == moved.len(), last);
+        if sign.parts() {
+            room[place] = size;
+            place += 1;
+            size = next;
+        } else {
+            size += next;
+        }
+    }
+    room[place] = size;
+}

@@ -1,0 +1,359 @@
+//! Words that are played and taken back move by move.
+//!
+//! A skeleton keeps the open segments as flat lists: the numbers of all open squares from left to right, how many each
+//! segment has, and the signs between the segments. A move changes the lists only at the valley and the segments beside it.
+//! The closed squares stand in the order of closing, so that a move's are the last ones when it is taken back. Each list is
+//! as long as what is used of it, and nothing is copied but what stands right of the valley.
+
+ghost use Rattle.std.specs.List.{concat, splice};
+ghost use Rattle.std.specs.Prelude.{IsTrue, Some, [], length, slice_get, slice_range, take, ◌+◌, ◌++◌, ◌-◌, ◌<◌, ◌∷◌, ◌≡◌, ◌≤◌, ◌↔◌};
+ghost use Rattle.bk_word.specs.Outline.{IsLegalMove, has_left_wall, has_right_wall, open_side, sizes_of, valley_of};
+ghost use Rattle.bk_word.specs.Play.{IsComplete, numbers_from, outline_of};
+ghost use Rattle.bk_word.specs.Word.{Move as SeenMove, order_of};
+ghost use Rattle.bk_play.specs.Valley.{IsKeptSkeleton, leftmost_valley};
+ghost use Rattle.bk_play.specs.Skeleton.{signs_of};
+ghost use Rattle.bk_play.specs.TurnRecord.{SaysWhere};
+ghost use Rattle.bk_word_net.specs.WordNet.{net_of_word};
+
+use crate::counting::Steps;
+use crate::netting::{end_nodes, wired};
+use crate::parting::{apply_signs, undo_signs};
+use crate::splicing::{append, splice, splice_numbers};
+use crate::turns::{MoveRecord, leftmost, turn_for};
+use arrayvec::ArrayVec;
+use bk_net::Net;
+use bk_word::{LARGEST_ORDER, Move, Sign};
+use std::marker::Model;
+use std::sync::ledger::Ledger;
+
+// The moves of a skeleton have at most so many signs: each at most one more than squares.
+pub(crate) const MOST_PLAYED_SIGNS: usize = 400;
+
+/// The leftmost valley of a skeleton: how many open segments stand at its left, whether it has a wall at its left and at its
+/// right, and the numbers of its squares from left to right, in the order of hanging from 1.
+#[derive(Drop)]
+pub struct Valley {
+    pub place: usize,
+    pub left_wall: bool,
+    pub right_wall: bool,
+    pub squares: ArrayVec<u8, LARGEST_ORDER>,
+}
+
+impl Model for Valley {
+    ghost use Rattle.bk_play.specs.Valley.{Valley as SeenValley};
+
+    ghost Value = { SeenValley };
+
+    ghost view = { λ v. record { place = v.place; left_wall = v.left_wall; right_wall = v.right_wall; squares = v.squares.items } };
+}
+
+/// A word that is played move by move, seen as the list of its moves: each legal after those before it, of at most 200
+/// squares in all. Such words are our own.
+#[derive(Drop)]
+pub struct Skel {
+    ends: ArrayVec<u8, LARGEST_ORDER>,
+    sizes: ArrayVec<u8, LARGEST_ORDER>,
+    signs: ArrayVec<Sign, LARGEST_ORDER>,
+    closed: ArrayVec<u8, LARGEST_ORDER>,
+    turns: ArrayVec<MoveRecord, LARGEST_ORDER>,
+    played: ArrayVec<Sign, MOST_PLAYED_SIGNS>,
+}
+
+impl Model for Skel {
+    ghost use Rattle.bk_word.specs.Word.{Word as Moves};
+    ghost use Rattle.bk_play.specs.Skeleton.{IsStoredSkeleton, moves_stored};
+
+    ghost Value = { Moves };
+
+    ghost view = { λ s. moves_stored s.turns.items s.played.items };
+
+    ghost invariant = { λ s. IsStoredSkeleton (moves_stored s.turns.items s.played.items) s.ends.items s.sizes.items s.signs.items
+        s.closed.items s.turns.items s.played.items };
+}
+
+impl Skel {
+    /// The skeleton of no move: the whole top is its one segment, without squares, between two walls.
+    pub fn new() -> Skel
+        ensures { result ≡ [] }
+    {
+        let mut sizes = ArrayVec::new();
+        sizes.push(0);
+        Skel {
+            ends: ArrayVec::new(),
+            sizes,
+            signs: ArrayVec::new(),
+            closed: ArrayVec::new(),
+            turns: ArrayVec::new(),
+            played: ArrayVec::new(),
+        }
+    }
+
+    /// Becomes the skeleton of no move.
+    pub fn clear(&mut self)
+        ensures { self.new ≡ [] }
+    {
+        self.ends.clear();
+        self.sizes.clear();
+        self.sizes.push(0);
+        self.signs.clear();
+        self.closed.clear();
+        self.turns.clear();
+        self.played.clear();
+    }
+
+    /// Whether the move may be played: it hangs a square, and has a sign between each two of its squares and one more for
+    /// each side of the leftmost valley that is no wall.
+    pub fn legal(&self, m: &Move) -> bool
+        ensures { IsTrue result ↔ IsLegalMove (outline_of self.now) m.now }
+    {
+        let (left, right) = self.walls();
+        m.count > 0
+            && m.signs.len() + 1 == usize::from(m.count) + open_side(left) + open_side(right)
+    }
+
+    /// Plays a move, which must be legal, with at most 200 squares then. It is one step.
+    pub fn push<L: Ledger>(&mut self, m: &Move, steps: &mut Steps<L>)
+        requires legal { IsLegalMove (outline_of self.old) m.now }
+        requires few { order_of self.old + m.now.count ≤ 200 }
+        ensures moves { self.new ≡ self.old ++ m.now ∷ [] }
+        ensures step { steps.new ≡ steps.old + 1 }
+    {
+        self.play(m);
+        steps.tick();
+    }
+
+    /// Plays a move, which must be legal, with at most 200 squares then. It counts no step, so a bound on steps says nothing of
+    /// moves that are played so.
+    pub fn play(&mut self, m: &Move)
+        requires legal { IsLegalMove (outline_of self.old) m.now }
+        requires few { order_of self.old + m.now.count ≤ 200 }
+        ensures { self.new ≡ self.old ++ m.now ∷ [] }
+    {
+        let turn = turn_for(
+            &self.sizes,
+            &self.signs,
+            m.count,
+            &m.signs,
+            self.played.len(),
+        );
+        close_and_hang(&mut self.ends, &mut self.closed, &turn);
+        apply_signs(&mut self.sizes, &mut self.signs, &turn, &m.signs);
+        append(&mut self.played, &m.signs);
+        self.turns.push(turn);
+    }
+
+    /// Takes the last move back. There must be one.
+    pub fn pop(&mut self)
+        requires { 0 < length self.old }
+        ensures { self.new ≡ take (length self.old - 1) self.old }
+    {
+        let turn = take_last(&mut self.turns);
+        let first = usize::from(turn.first);
+        let kept = self.closed.len() - usize::from(turn.closed);
+        undo_signs(&mut self.sizes, &mut self.signs, &turn);
+        splice(
+            &mut self.ends,
+            first,
+            first + usize::from(turn.count),
+            &self.closed[kept..],
+        );
+        self.closed.truncate(kept);
+        self.played.truncate(usize::from(turn.from));
+    }
+
+    /// The leftmost valley: the first open segment with a wall or the sign under at its left, and a wall or the sign above at
+    /// its right.
+    pub fn valley(&self) -> Valley
+        ensures { result ≡ leftmost_valley (outline_of self.now) }
+    {
+        let (place, first) = leftmost(&self.sizes, &self.signs);
+        let mut squares = ArrayVec::new();
+        append(
+            &mut squares,
+            &self.ends[first..first + usize::from(self.sizes[place])],
+        );
+        Valley {
+            place,
+            left_wall: place == 0,
+            right_wall: place == self.signs.len(),
+            squares,
+        }
+    }
+
+    /// The numbers of the leftmost valley's squares, from left to right: none at the start.
+    pub fn valley_squares(&self) -> &[u8]
+        ensures { result.now ≡ valley_of (outline_of self.now) }
+    {
+        let (place, first) = leftmost(&self.sizes, &self.signs);
+        &self.ends[first..first + usize::from(self.sizes[place])]
+    }
+
+    /// Whether the leftmost valley has a wall at its left, and at its right.
+    pub fn walls(&self) -> (bool, bool)
+        ensures left { result.0 ≡ has_left_wall (outline_of self.now) }
+        ensures right { result.1 ≡ has_right_wall (outline_of self.now) }
+    {
+        let (place, _) = leftmost(&self.sizes, &self.signs);
+        (place == 0, place == self.signs.len())
+    }
+
+    /// How many squares the leftmost valley has: none at the start.
+    pub fn valley_len(&self) -> usize
+        ensures { result ≡ length (valley_of (outline_of self.now)) }
+    {
+        let (place, _) = leftmost(&self.sizes, &self.signs);
+        usize::from(self.sizes[place])
+    }
+
+    /// The numbers of the open squares, segment by segment from left to right. Squares are numbered from 1 in the order of
+    /// hanging.
+    pub fn ends(&self) -> &[u8]
+        ensures { result.now ≡ concat (outline_of self.now).segments }
+    {
+        self.ends.as_slice()
+    }
+
+    /// How many squares each open segment has, from left to right.
+    pub fn sizes(&self) -> &[u8]
+        ensures { result.now ≡ sizes_of (outline_of self.now) }
+    {
+        self.sizes.as_slice()
+    }
+
+    /// The signs between the open segments, from left to right: above or under.
+    pub fn signs(&self) -> &[Sign]
+        ensures { result.now ≡ (outline_of self.now).signs }
+    {
+        self.signs.as_slice()
+    }
+
+    /// The signs of all moves, one after another.
+    pub fn played_signs(&self) -> &[Sign]
+        ensures { result.now ≡ signs_of self.now }
+    {
+        self.played.as_slice()
+    }
+
+    /// How many moves there are.
+    pub fn moves(&self) -> usize
+        ensures value { result ≡ length self.now }
+        ensures kept { IsKeptSkeleton self.now }
+    {
+        self.turns.len()
+    }
+
+    /// The move at place i, from 0.
+    pub fn get(&self, i: usize) -> Move
+        requires { i < length self.now }
+        ensures { slice_get self.now i ≡ Some result }
+    {
+        let mut m = Move::empty();
+        self.read_move(i, &mut m);
+        m
+    }
+
+    /// Makes of a move the one at place i, from 0, in the room that is there.
+    pub fn read_move(&self, i: usize, m: &mut Move)
+        requires { i < length self.now }
+        ensures { slice_get self.now i ≡ Some m.new }
+    {
+        let turn = self.turns[i];
+        m.count = turn.count;
+        m.signs.clear();
+        append(
+            &mut m.signs,
+            &self.played[usize::from(turn.from)..usize::from(turn.to)],
+        );
+    }
+
+    /// How many squares the move at place i, from 0, hangs.
+    pub fn count_at(&self, i: usize) -> u8
+        requires { i < length self.now }
+        ensures { (m : SeenMove) → slice_get self.now i ≡ Some m → result ≡ m.count }
+    {
+        self.turn(i).count
+    }
+
+    /// The signs of the move at place i, from 0.
+    pub fn signs_at(&self, i: usize) -> &[Sign]
+        requires { i < length self.now }
+        ensures { (m : SeenMove) → slice_get self.now i ≡ Some m → result.now ≡ m.signs }
+    {
+        let turn = self.turns[i];
+        &self.played[usize::from(turn.from)..usize::from(turn.to)]
+    }
+
+    /// How many squares the moves hang.
+    pub fn order(&self) -> usize
+        ensures value { result ≡ order_of self.now }
+        ensures few { result ≤ 200 }
+    {
+        self.ends.len() + self.closed.len()
+    }
+
+    /// Whether there is a move and one segment is left: the word of the moves is complete.
+    pub fn is_closed(&self) -> bool
+        ensures { IsTrue result ↔ IsComplete self.now }
+    {
+        self.turns.len() > 0 && self.sizes.len() == 1
+    }
+
+    /// The net of the word, which must be complete: a node for each move, and the last segment as the last node; a wire for
+    /// each square in the order of hanging, from the node from which it hangs to the node at which it ends.
+    pub fn net(&self) -> Net
+        requires { IsComplete self.now }
+        ensures { result ≡ net_of_word self.now }
+    {
+        let ended = end_nodes(&self.turns, &self.closed);
+        let order = self.ends.len() + self.closed.len();
+        wired(&self.turns, &ended[..order])
+    }
+}
+
+/// How many signs a side of a valley asks for: none at a wall, else one. (Own.)
+pub fn open_side(wall: bool) -> usize
+    ensures { result ≡ open_side wall }
+{
+    if wall { 0 } else { 1 }
+}
+
+// Closes the valley's squares, and hangs those of the move in their place.
+#[inline(always)]
+fn close_and_hang(
+    ends: &mut ArrayVec<u8, LARGEST_ORDER>,
+    closed: &mut ArrayVec<u8, LARGEST_ORDER>,
+    turn: &MoveRecord,
+)
+    requires within { turn.now.first + turn.now.closed ≤ length ends.old.items }
+    requires few { length ends.old.items + length closed.old.items + turn.now.count ≤ 200 }
+    ensures ends { ends.new.items ≡ splice ends.old.items turn.now.first (turn.now.first + turn.now.closed)
+        (numbers_from (length ends.old.items + length closed.old.items + 1) turn.now.count) }
+    ensures closed { closed.new.items ≡ closed.old.items ++ slice_range ends.old.items turn.now.first (turn.now.first + turn.now.closed) }
+{
+    let number = (ends.len() + closed.len() + 1) as u8;
+    let first = usize::from(turn.first);
+    let end = first + usize::from(turn.closed);
+    append(closed, &ends[first..end]);
+    splice_numbers(ends, first, end, number, turn.count);
+}
+
+// Takes the last record off.
+fn take_last(turns: &mut ArrayVec<MoveRecord, LARGEST_ORDER>) -> MoveRecord
+    requires { 0 < length turns.old.items }
+    ensures { turns.old.items ≡ turns.new.items ++ result ∷ [] }
+{
+    match turns.pop() {
+        Some(turn) => turn,
+        None => unreachable!(),
+    }
+}
+
+impl Skel {
+    /// The record of the move at place i, from 0: what is kept of it. (Own.)
+    pub fn turn(&self, i: usize) -> MoveRecord
+        requires { i < length self.now }
+        ensures { SaysWhere self.now i result }
+    {
+        self.turns[i]
+    }
+}

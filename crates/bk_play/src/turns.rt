@@ -1,0 +1,154 @@
+//! The record of a move, by which it is taken back.
+
+ghost use Rattle.std.specs.Prelude.{List, cond, count_by, length, nat_eq, slice_index, sum, take, ◌+◌, ◌-◌, ◌<◌, ◌≡◌, ◌≤◌};
+ghost use Rattle.bk_word.specs.Outline.{valley_place};
+ghost use Rattle.bk_word.specs.Play.{parts};
+ghost use Rattle.bk_play.specs.Skeleton.{first_touched, open_sides, turn_at, with_parted};
+ghost use Rattle.bk_word.specs.declared.Sign.{Sign as SeenSign};
+
+use bk_word::Sign;
+
+/// What is kept of a move: where its valley stood, what stood there and beside it, what was hung, and which of the signs
+/// of all moves are its own. (Own.)
+#[derive(Clone, Copy, Default, Drop)]
+pub struct MoveRecord {
+    /// How many open segments stood at the valley's left.
+    pub place: u8,
+    /// How many open squares stood there.
+    pub first: u8,
+    /// How many squares the segment left of the valley had, or 0 at the wall.
+    pub left: u8,
+    /// How many squares the valley had.
+    pub closed: u8,
+    /// How many squares the segment right of the valley had, or 0 at the wall.
+    pub right: u8,
+    /// How many squares were hung.
+    pub count: u8,
+    /// How many of the move's signs stay between two segments.
+    pub parted: u8,
+    /// Where the move's signs begin and end among those of all moves.
+    pub from: u16,
+    pub to: u16,
+}
+
+impl MoveRecord {
+    // The place of the first segment that the move touches: the one left of the valley, or the valley at the wall.
+    pub(crate) fn first_touched(&self) -> usize
+        ensures { result ≡ first_touched self.now }
+    {
+        usize::from(self.place.saturating_sub(self.left.min(1)))
+    }
+
+    // How many of the valley's sides are no walls.
+    pub(crate) fn open_sides(&self) -> usize
+        ensures { result ≡ open_sides self.now }
+    {
+        usize::from(self.left.min(1) + self.right.min(1))
+    }
+}
+
+// The record of a move, of so many squares and with these signs, where the open segments have these sizes and signs, and so
+// many signs of earlier moves are kept.
+pub(crate) fn turn_for(
+    sizes: &[u8],
+    signs: &[Sign],
+    count: u8,
+    moved: &[Sign],
+    from: usize,
+) -> MoveRecord
+    requires many { length sizes.now ≡ length signs.now + 1 }
+    requires few { length sizes.now ≤ 200 }
+    requires small { sum sizes.now ≤ 200 }
+    requires moved { length moved.now ≤ 201 }
+    requires from { from ≤ 400 }
+    ensures { result ≡ turn_at sizes.now signs.now (record { count = count; signs = moved.now }) from }
+{
+    let mut turn = turn_at_valley(
+        sizes,
+        signs,
+        leftmost(sizes, signs),
+        count,
+        moved.len(),
+        from,
+    );
+    turn.parted = parting(moved) as u8;
+    turn
+}
+
+// The same but for how many of the signs stay between two segments, where so many open segments stand at the left of the leftmost
+// valley, these have so many squares, and the move has so many signs.
+pub(crate) fn turn_at_valley(
+    sizes: &[u8],
+    signs: &[Sign],
+    valley: (usize, usize),
+    count: u8,
+    moved: usize,
+    from: usize,
+) -> MoveRecord
+    requires many { length sizes.now ≡ length signs.now + 1 }
+    requires place { valley.0 ≡ valley_place signs.now }
+    requires within { valley.0 ≤ length signs.now }
+    requires first { valley.1 ≡ sum (take (valley_place signs.now) sizes.now) }
+    requires first_few { valley.1 ≤ 200 }
+    requires few { length sizes.now ≤ 200 }
+    requires moved { moved ≤ 201 }
+    requires from { from ≤ 400 }
+    ensures { (own : List SeenSign) → length own ≡ moved
+        → with_parted result (count_by parts own) ≡ turn_at sizes.now signs.now (record { count = count; signs = own }) from }
+{
+    let (place, first) = valley;
+    MoveRecord {
+        place: place as u8,
+        first: first as u8,
+        left: left_of(sizes, place),
+        closed: sizes[place],
+        right: right_of(sizes, place, signs.len()),
+        count,
+        parted: 0,
+        from: from as u16,
+        to: (from + moved) as u16,
+    }
+}
+
+// How many open segments stand at the left of the leftmost valley, and how many squares these have.
+pub(crate) fn leftmost(sizes: &[u8], signs: &[Sign]) -> (usize, usize)
+    requires many { length sizes.now ≡ length signs.now + 1 }
+    requires small { sum sizes.now ≤ 200 }
+    ensures place { result.0 ≡ valley_place signs.now }
+    ensures within { result.0 ≤ length signs.now }
+    ensures first { result.1 ≡ sum (take (valley_place signs.now) sizes.now) }
+    ensures few { result.1 ≤ 200 }
+{
+    let mut first = 0;
+    for (i, sign) in signs.iter().enumerate() {
+        if let Sign::Above = sign {
+            return (i, first);
+        }
+        first += usize::from(sizes[i]);
+    }
+    (signs.len(), first)
+}
+
+// How many squares the segment left of a valley has, or 0 at the wall.
+fn left_of(sizes: &[u8], place: usize) -> u8
+    requires { place < length sizes.now }
+    ensures { result ≡ cond (nat_eq place 0) 0 (slice_index sizes.now (place - 1)) }
+{
+    if place == 0 { 0 } else { sizes[place - 1] }
+}
+
+// How many squares the segment right of a valley has, or 0 at the wall: the last segment has this place.
+fn right_of(sizes: &[u8], place: usize, last: usize) -> u8
+    requires last { length sizes.now ≡ last + 1 }
+    requires within { place ≤ last }
+    ensures { result ≡ cond (nat_eq place last) 0 (slice_index sizes.now (place + 1)) }
+{
+    if place == last { 0 } else { sizes[place + 1] }
+}
+
+// How many of the signs stay between two segments.
+fn parting(moved: &[Sign]) -> usize
+    ensures { result ≡ count_by parts moved.now }
+{
+    moved.iter().filter(|sign| sign.parts()).count()
+}

@@ -1,5 +1,0 @@
-use Rattle.std.proofs.Common.{rules}
-use Rattle.bk_skeleton.proofs.counting.Steps.tick.Goals as goal
-
-pub returns : goal.returns
-returns g c = search rules

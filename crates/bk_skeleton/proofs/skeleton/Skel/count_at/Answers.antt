@@ -1,4 +1,0 @@
-use Rattle.bk_skeleton.proofs.skeleton.Skel.count_at.Goals as goal
-
-pub returns : goal.returns
-returns c = c.turn.ensures.count

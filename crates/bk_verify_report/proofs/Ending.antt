@@ -1,0 +1,135 @@
+-- How a run ends behind its lines: what is told of all of them, with what stands behind them, is the report.
+use Rattle.std.specs.Prelude.{Option, flat_map}
+use Rattle.std.specs.Io.KnownBytes.{Appends}
+use Rattle.std.proofs.KnownBytes.{Appends-trans}
+use Rattle.std.proofs.Common.{Bool, List, [], arith, false, inl, inr, subst, sym, true, ℕ, ◌++◌, ◌≡◌, ◌⊎◌}
+use Rattle.bk_ports.proofs.KnownSteps.{prefix_after}
+use Rattle.bk_ports.proofs.OtherOutputs.{IsStop, broken_behind, whole_behind}
+use Rattle.bk_ports.specs.Ending.{EndsWith, IsBrokenBehind, IsWhole, Output, Streams}
+use Rattle.bk_ports.specs.Entering.{AreAllEntered, entries_of}
+use Rattle.bk_ports.specs.Reply.{text_of}
+use Rattle.bk_ports.specs.Faults.{CountsTell, Faults}
+use Rattle.bk_ports.specs.declared.Ended.{Ended}
+use Rattle.bk_ports.specs.declared.Ended.TheVariants.{NoMemory, NoneRefused, ReadFailed, SomeRefused, TooMany, WriteFailed}
+use Rattle.bk_verify_report.proofs.BehindLines.{all_missing, first_missing}
+use Rattle.bk_verify_report.proofs.EndingAtLines.{at_first}
+use Rattle.bk_verify_report.proofs.Following.{AreFollowed, followed}
+use Rattle.bk_verify_report.specs.Entering.{none_entered}
+use Rattle.bk_verify_report.specs.Listing.{ClosesReport, IsClosing, IsClosingBegun}
+use Rattle.bk_verify_report.specs.Reading.{IsListRead, rules}
+use Rattle.bk_verify_report.specs.Report.{Counts, IsReport, line_of}
+use Rattle.bk_verify_report.specs.Running.{TellsFront, TellsReport, report_of}
+use Rattle.bk_verify_report.specs.declared.entering.Verifying.{Verifying}
+
+-- the lines were entered
+pub record AreLinesDone (n : ℕ) (lines : List (List ℕ)) (last : Verifying) (a b : Option (List ℕ)) : Type 0 where
+  pub text : List ℕ
+  pub followed : AreFollowed n [] 1 lines (none_entered n) text last
+  pub written : Appends a b text
+
+lines_done : (n : ℕ) (last : Verifying) (lines : List (List ℕ)) (a b : Option (List ℕ)) (refused : Bool)
+    → AreAllEntered rules (none_entered n) 1 lines a b refused last → AreLinesDone n lines last a b
+lines_done n last lines a b refused all = record {
+  text = text_of all.replies;
+  followed = followed n [] 1 lines all.replies (none_entered n) last (at_first n) all.each;
+  written = all.written;
+}
+
+-- behind the lines
+module _ (n : ℕ) (last : Verifying) (lines : List (List ℕ)) (a b c : Option (List ℕ)) (d : AreLinesDone n lines last a b) where
+  the_report : (counts : Counts) (bytes : List ℕ) → IsClosing n last counts bytes → IsReport n lines counts (d.text ++ bytes)
+  the_report counts bytes k =
+      let f = d.followed in
+      let foreign = f.foreign_is in
+      let repeated = f.repeated_is in
+      let refused = f.refused_is in
+      let x = k.foreign in
+      let y = k.repeated in
+      let z = k.refused in record {
+        entries = f.entries;
+        tolds = f.tolds;
+        missing = k.entries;
+        are_entries = f.are_entries;
+        told = f.told;
+        first_missing = first_missing n (last.entries).pairs f.entries f.keeps k.cursor k.entries k.are;
+        all_missing = all_missing n (last.entries).pairs f.entries f.keeps k.cursor k.entries k.are k.all;
+        members = k.members;
+        missing_is = k.missing;
+        foreign_is = omega (arith, x, foreign);
+        repeated_is = omega (arith, y, repeated);
+        refused_is = omega (arith, z, refused);
+        text = λ i. f.text_is i ++ k.text i;
+      }
+
+  -- the report was written, and tells a fault or none
+  told_report : (differs : Bool) (k : ClosesReport n last differs b c) → TellsReport n lines differs a c
+  told_report differs k = record {
+    counts = k.counts;
+    report = d.text ++ k.bytes;
+    is_report = the_report k.counts k.bytes k.closing;
+    verdict = k.verdict;
+    appends = Appends-trans a b c d.text k.bytes d.written k.appends;
+  }
+
+  -- a write failed behind the lines
+  told_front : IsClosingBegun n last b c → TellsFront n lines a c
+  told_front (inl k) =
+      let f = d.followed in record {
+        front = d.text ++ flat_map line_of k.entries;
+        is_front = inl (record {
+          entries = f.entries;
+          tolds = f.tolds;
+          missing = k.entries;
+          are_entries = f.are_entries;
+          told = f.told;
+          first_missing = first_missing n (last.entries).pairs f.entries f.keeps k.cursor k.entries k.are;
+          text = λ i. f.text_is i ++ flat_map line_of k.entries;
+        });
+        begins = prefix_after a b c d.text (flat_map line_of k.entries) d.written k.begins;
+      }
+  told_front (inr w) = record {
+    front = d.text ++ w.bytes;
+    is_front = inr (w.counts, the_report w.counts w.bytes w.closing);
+    begins = prefix_after a b c d.text w.bytes d.written w.begins;
+  }
+
+-- a list that was read to its end
+module _ (n : ℕ) (last : Verifying) (left left_after a b : Option (List ℕ))
+    (r : IsListRead n (record { left = left; left_after = left_after; written = a; written_after = b }) last) where
+  -- the order is that asked for
+  pub last_order : (last.entries).order ≡ n
+  last_order = ((lines_done n last _ a b r.refused (r.whole).written).followed).order
+
+  -- its report was written
+  pub ends_whole : (c : Option (List ℕ)) (differs told : Bool) → told ≡ differs → ClosesReport n last told b c
+      → IsWhole (report_of n) (record { left = left; left_after = left_after; written = a; written_after = c }) differs
+  ends_whole c differs told e k =
+      whole_behind (entries_of rules (none_entered n) last) (report_of n) left left_after a b c r.refused r.whole differs
+      (λ lines entered. told_report n last lines a b c (lines_done n last lines a b r.refused entered) differs
+      (subst (λ (d : Bool). ClosesReport n last d b c) e k))
+
+  -- or a write of it failed
+  pub ends_broken : (c : Option (List ℕ)) → IsClosingBegun n last b c
+      → IsBrokenBehind (report_of n) (record { left = left; left_after = left_after; written = a; written_after = c })
+  ends_broken c k =
+      broken_behind (entries_of rules (none_entered n) last) (report_of n) left left_after a b c r.refused r.whole
+      (λ lines entered. told_front n last lines a b c (lines_done n last lines a b r.refused entered) k)
+
+-- all was read where the lines end so
+pub whole_at : (output : Output) (streams : Streams) (ended : Ended) → (ended ≡ NoneRefused) ⊎ (ended ≡ SomeRefused) → EndsWith output streams ended
+    → (refused : Bool) × IsWhole output streams refused
+whole_at output streams ended (inl e) h = (false, subst (EndsWith output streams) e h)
+whole_at output streams ended (inr e) h = (true, subst (EndsWith output streams) e h)
+
+-- and the run stopped where they end otherwise
+pub stop_told : (ended : Ended) → (ended ≡ ReadFailed) ⊎ ((ended ≡ WriteFailed) ⊎ ((ended ≡ NoMemory) ⊎ (ended ≡ TooMany))) → IsStop ended
+stop_told ended (inl e) = subst IsStop (sym e) tt
+stop_told ended (inr (inl e)) = subst IsStop (sym e) tt
+stop_told ended (inr (inr (inl e))) = subst IsStop (sym e) tt
+stop_told ended (inr (inr (inr e))) = subst IsStop (sym e) tt
+
+-- where all was read, no call failed
+pub calm_at : (faults : Faults) (ended : Ended) → (ended ≡ NoneRefused) ⊎ (ended ≡ SomeRefused) → CountsTell ended faults
+    → (faults.read_after ≡ faults.read) × (faults.write_after ≡ faults.write)
+calm_at faults ended (inl e) h = subst (λ (ended : Ended). CountsTell ended faults) e h
+calm_at faults ended (inr e) h = subst (λ (ended : Ended). CountsTell ended faults) e h

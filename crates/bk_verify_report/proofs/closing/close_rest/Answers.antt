@@ -1,0 +1,76 @@
+use Rattle.std.proofs.Common.{le_of_eq, subst, sym, ℕ, ◌∙◌, ◌≤◌}
+use Rattle.std.proofs.lemmas.Result.{err_from_is_err_and}
+use Rattle.bk_word.proofs.Failing.{on_err}
+use Rattle.bk_ports.specs.Causes.{HasCause}
+use Rattle.bk_verify_report.proofs.LeftBehind.{closes_report, closing_begun, closing_broken, end_limit, end_wide, lacking}
+use Rattle.bk_verify_report.specs.Closing.{kept_of}
+use Rattle.bk_verify_report.proofs.closing.close_rest.Goals as goal
+
+pub returns-in_err-missing-clause-begun : goal.returns-in_err-missing-clause-begun
+returns-in_err-missing-clause-begun g c =
+    on_err c.from_residual.result
+    (closing_broken c.args.order (kept_of c.args.rest.now c.args.lines) (g.O.Sink.written c.args.out.now)
+    (g.O.Sink.written c.write_missing_members.new.out) c.requires.order c.in_err-missing.ensures.begun)
+
+pub returns-in_err-write_all-clause-begun : goal.returns-in_err-write_all-clause-begun
+returns-in_err-write_all-clause-begun g c =
+    on_err c.from_residual-in_err-write_all.result
+    (closing_begun c.args.order (kept_of c.args.rest.now c.args.lines) c.requires.order _ _ (g.O.Sink.written c.args.out.now)
+    (g.O.Sink.written c.write_missing_members.new.out)
+    (lacking c.args.rest.now c.write_missing_members.new.rest _ c.members.result (g.O.Sink.written c.args.out.now)
+    (g.O.Sink.written c.write_missing_members.new.out) c.in_ok-missing.ensures.listed c.in_ok-missing.ensures.all c.in_ok-missing.ensures.ended
+    c.write_missing_members.ensures.order c.members.ensures.reached)
+    c.as_slice.result.now (c.as_slice.ensures.value ∙ c.write_verified.ensures)
+    (g.O.Sink.written c.write_all.new.self) c.in_err-write_all.ensures.err)
+
+pub returns-clause-closed : goal.returns-clause-closed
+returns-clause-closed g c =
+    closes_report c.args.order (kept_of c.args.rest.now c.args.lines) c.requires.order _ _ (g.O.Sink.written c.args.out.now)
+    (g.O.Sink.written c.write_missing_members.new.out)
+    (lacking c.args.rest.now c.write_missing_members.new.rest _ c.members.result (g.O.Sink.written c.args.out.now)
+    (g.O.Sink.written c.write_missing_members.new.out) c.in_ok-missing.ensures.listed c.in_ok-missing.ensures.all c.in_ok-missing.ensures.ended
+    c.write_missing_members.ensures.order c.members.ensures.reached)
+    c.as_slice.result.now (c.as_slice.ensures.value ∙ c.write_verified.ensures)
+    (g.O.Sink.written c.write_all.new.self) c.in_ok-write_all.ensures.ok
+    c.has_fault-differs.result c.has_fault-differs.ensures
+
+pub returns-in_err-missing-clause-closed : goal.returns-in_err-missing-clause-closed
+returns-in_err-missing-clause-closed g c =
+    let p = err_from_is_err_and c.from_residual.result c.from_residual.ensures.1 in
+    rw p.1 tt
+
+pub returns-in_err-missing-clause-cause : goal.returns-in_err-missing-clause-cause
+returns-in_err-missing-clause-cause g c =
+    let p = err_from_is_err_and c.from_residual.result c.from_residual.ensures.1 in
+    rw p.1 (record { later = c.in_err-missing.ensures.cause.later; ok = tt; failed = c.in_err-missing.ensures.cause.failed })
+
+pub returns-in_err-write_all-clause-closed : goal.returns-in_err-write_all-clause-closed
+returns-in_err-write_all-clause-closed g c =
+    let p = err_from_is_err_and c.from_residual-in_err-write_all.result c.from_residual-in_err-write_all.ensures.1 in
+    rw p.1 tt
+
+pub returns-in_err-write_all-clause-cause : goal.returns-in_err-write_all-clause-cause
+returns-in_err-write_all-clause-cause g c =
+    let r = c.from_residual-in_err-write_all.result in
+    let p = err_from_is_err_and r c.from_residual-in_err-write_all.ensures.1 in
+    let cause = c.in_err-write_all.ensures.cause in
+    subst (λ (k : ℕ). HasCause k (g.O.Sink.faults c.write_all.new.self) r) c.in_ok-missing.ensures.cause.ok
+    (rw p.1 (record { later = cause.later; ok = tt; failed = cause.failed }))
+
+pub returns-clause-cause : goal.returns-clause-cause
+returns-clause-cause g c =
+    let cause = c.in_ok-write_all.ensures.cause in
+    let same = cause.ok ∙ c.in_ok-missing.ensures.cause.ok in
+    record { later = le_of_eq (sym same); ok = same; failed = tt }
+
+pub write_missing_members-requires-clause-most : goal.write_missing_members-requires-clause-most
+write_missing_members-requires-clause-most g c = subst (λ (k : ℕ). k ≤ 16) (sym c.requires.order) c.requires.most
+
+pub write_missing_members-requires-clause-start : goal.write_missing_members-requires-clause-start
+write_missing_members-requires-clause-start g c = c.requires.start
+
+pub write_verified-requires-clause-ended : goal.write_verified-requires-clause-ended
+write_verified-requires-clause-ended g c = end_limit
+
+pub write_verified-requires-clause-some : goal.write_verified-requires-clause-some
+write_verified-requires-clause-some g c = λ e. absurd (end_wide e)

@@ -1,0 +1,145 @@
+use Rattle.std.proofs.Common.{arith, false, le_of_eq, lit<, refl, subst, ◌+◌, ◌∙◌}
+use Rattle.std.proofs.KnownBytes.{Keeps-refl}
+use Rattle.std.proofs.lemmas.Result.{err_from_is_err_and}
+use Rattle.bk_report.specs.ListLines.{foreign_line, repeats_line}
+use Rattle.bk_verify_report.specs.Kept.{IsFed}
+use Rattle.bk_verify_report.specs.declared.entries.Fed.{Fed}
+use Rattle.bk_verify_report.specs.declared.entries.Fed.TheVariants.{Foreign, New, Repeats}
+use Rattle.bk_word.proofs.Failing.{on_err}
+use Rattle.bk_verify_report.proofs.Entered.{begun_one, written_none, written_one}
+use Rattle.bk_verify_report.specs.Entering.{feeds}
+use Rattle.bk_verify_report.proofs.entering.feed.Goals as goal
+
+pub returns-in-Ok-New-clause-outcome : goal.returns-in-Ok-New-clause-outcome
+returns-in-Ok-New-clause-outcome g c =
+    let fed = subst (λ (f : Fed). IsFed c.args.state.now.entries c.args.number c.args.tiling.now f c.feed.new.self) c.in-Ok-New.field-0-is
+    c.in-Ok-New.ensures.fed in
+    written_none c.args.state.now c.args.number c.args.line.now false (record c.args.state.now { entries = c.feed.new.self })
+    (g.O.Sink.written c.args.out.now) (g.O.Sink.written c.args.out.now)
+    (feeds c.args.tiling.now New c.feed.new.self c.requires.has fed) refl
+
+pub returns-in_ok-write_all-in-Ok-Repeats-clause-outcome : goal.returns-in_ok-write_all-in-Ok-Repeats-clause-outcome
+returns-in_ok-write_all-in-Ok-Repeats-clause-outcome g c =
+    let fed = subst (λ (f : Fed). IsFed c.args.state.now.entries c.args.number c.args.tiling.now f c.feed.new.self) c.in-Ok-Repeats.field-0-is
+    c.in-Ok-Repeats.ensures.fed in
+    written_one c.args.state.now c.args.number c.args.line.now false (record c.args.state.now
+    { entries = c.feed.new.self; repeated = c.args.state.now.repeated + 1 })
+    (g.O.Sink.written c.args.out.now) (g.O.Sink.written c.write_all.new.self) (repeats_line c.args.number c.in-Ok-Repeats.first) c.as_slice.result.now
+    (c.as_slice.ensures.value ∙ c.write_repeats.ensures) (feeds c.args.tiling.now (Repeats c.in-Ok-Repeats.first) c.feed.new.self c.requires.has fed)
+    c.in_ok-write_all-in-Ok-Repeats.ensures.ok
+
+pub returns-in_err-write_all-in-Ok-Repeats-clause-failed : goal.returns-in_err-write_all-in-Ok-Repeats-clause-failed
+returns-in_err-write_all-in-Ok-Repeats-clause-failed g c =
+    let fed = subst (λ (f : Fed). IsFed c.args.state.now.entries c.args.number c.args.tiling.now f c.feed.new.self) c.in-Ok-Repeats.field-0-is
+    c.in-Ok-Repeats.ensures.fed in
+    on_err c.from_residual.result
+    (begun_one c.args.state.now c.args.number c.args.line.now false (record c.args.state.now
+    { entries = c.feed.new.self; repeated = c.args.state.now.repeated + 1 })
+    (g.O.Sink.written c.args.out.now) (g.O.Sink.written c.write_all.new.self) (repeats_line c.args.number c.in-Ok-Repeats.first) c.as_slice.result.now
+    (c.as_slice.ensures.value ∙ c.write_repeats.ensures) (feeds c.args.tiling.now (Repeats c.in-Ok-Repeats.first) c.feed.new.self c.requires.has fed)
+    c.in_err-write_all-in-Ok-Repeats.ensures.err)
+
+pub returns-in_ok-write_all-in-Ok-Foreign-clause-outcome : goal.returns-in_ok-write_all-in-Ok-Foreign-clause-outcome
+returns-in_ok-write_all-in-Ok-Foreign-clause-outcome g c =
+    let fed = subst (λ (f : Fed). IsFed c.args.state.now.entries c.args.number c.args.tiling.now f c.feed.new.self) c.in-Ok-Foreign.field-0-is
+    c.in-Ok-Foreign.ensures.fed in
+    written_one c.args.state.now c.args.number c.args.line.now false (record c.args.state.now
+    { entries = c.feed.new.self; foreign = c.args.state.now.foreign + 1 })
+    (g.O.Sink.written c.args.out.now) (g.O.Sink.written c.write_all-in-Ok-Foreign.new.self) (foreign_line c.args.number) c.as_slice-in-Ok-Foreign.result.now
+    (c.as_slice-in-Ok-Foreign.ensures.value ∙ c.write_foreign.ensures) (feeds c.args.tiling.now Foreign c.feed.new.self c.requires.has fed)
+    c.in_ok-write_all-in-Ok-Foreign.ensures.ok
+
+pub returns-in_err-write_all-in-Ok-Foreign-clause-failed : goal.returns-in_err-write_all-in-Ok-Foreign-clause-failed
+returns-in_err-write_all-in-Ok-Foreign-clause-failed g c =
+    let fed = subst (λ (f : Fed). IsFed c.args.state.now.entries c.args.number c.args.tiling.now f c.feed.new.self) c.in-Ok-Foreign.field-0-is
+    c.in-Ok-Foreign.ensures.fed in
+    on_err c.from_residual-in_err-write_all-in-Ok-Foreign.result
+    (begun_one c.args.state.now c.args.number c.args.line.now false (record c.args.state.now
+    { entries = c.feed.new.self; foreign = c.args.state.now.foreign + 1 })
+    (g.O.Sink.written c.args.out.now) (g.O.Sink.written c.write_all-in-Ok-Foreign.new.self) (foreign_line c.args.number) c.as_slice-in-Ok-Foreign.result.now
+    (c.as_slice-in-Ok-Foreign.ensures.value ∙ c.write_foreign.ensures) (feeds c.args.tiling.now Foreign c.feed.new.self c.requires.has fed)
+    c.in_err-write_all-in-Ok-Foreign.ensures.err)
+
+pub returns-in-Err-clause-cause : goal.returns-in-Err-clause-cause
+returns-in-Err-clause-cause g c = record { later = le_of_eq refl; ok = refl; failed = tt }
+
+pub returns-in-Err-clause-ready : goal.returns-in-Err-clause-ready
+returns-in-Err-clause-ready g c =
+    let ready = c.requires.ready in
+    record { foreign = omega (arith, ready.foreign); repeated = omega (arith, ready.repeated); refused = omega (arith, ready.refused) }
+
+pub returns-in-Ok-New-clause-cause : goal.returns-in-Ok-New-clause-cause
+returns-in-Ok-New-clause-cause g c = record { later = le_of_eq refl; ok = refl; failed = tt }
+
+pub returns-in-Ok-New-clause-ready : goal.returns-in-Ok-New-clause-ready
+returns-in-Ok-New-clause-ready g c =
+    let ready = c.requires.ready in
+    record { foreign = omega (arith, ready.foreign); repeated = omega (arith, ready.repeated); refused = omega (arith, ready.refused) }
+
+pub returns-in_err-write_all-in-Ok-Repeats-clause-outcome : goal.returns-in_err-write_all-in-Ok-Repeats-clause-outcome
+returns-in_err-write_all-in-Ok-Repeats-clause-outcome g c =
+    let p = err_from_is_err_and c.from_residual.result c.from_residual.ensures.1 in
+    rw p.1 tt
+
+pub returns-in_err-write_all-in-Ok-Repeats-clause-cause : goal.returns-in_err-write_all-in-Ok-Repeats-clause-cause
+returns-in_err-write_all-in-Ok-Repeats-clause-cause g c =
+    let p = err_from_is_err_and c.from_residual.result c.from_residual.ensures.1 in
+    rw p.1 (record { later = c.in_err-write_all-in-Ok-Repeats.ensures.cause.later; ok = tt; failed = c.in_err-write_all-in-Ok-Repeats.ensures.cause.failed })
+
+pub returns-in_err-write_all-in-Ok-Repeats-clause-ready : goal.returns-in_err-write_all-in-Ok-Repeats-clause-ready
+returns-in_err-write_all-in-Ok-Repeats-clause-ready g c =
+    let p = err_from_is_err_and c.from_residual.result c.from_residual.ensures.1 in
+    rw p.1 tt
+
+pub returns-in_ok-write_all-in-Ok-Repeats-clause-cause : goal.returns-in_ok-write_all-in-Ok-Repeats-clause-cause
+returns-in_ok-write_all-in-Ok-Repeats-clause-cause g c =
+    let cause = c.in_ok-write_all-in-Ok-Repeats.ensures.cause in
+    record { later = cause.later; ok = cause.ok; failed = tt }
+
+pub returns-in_ok-write_all-in-Ok-Repeats-clause-ready : goal.returns-in_ok-write_all-in-Ok-Repeats-clause-ready
+returns-in_ok-write_all-in-Ok-Repeats-clause-ready g c =
+    let ready = c.requires.ready in
+    record { foreign = omega (arith, ready.foreign); repeated = omega (arith, ready.repeated); refused = omega (arith, ready.refused) }
+
+pub overflow_add-state : goal.overflow_add-state
+overflow_add-state g c = omega (arith, c.requires.early, c.requires.ready.repeated)
+
+pub returns-in_err-write_all-in-Ok-Foreign-clause-outcome : goal.returns-in_err-write_all-in-Ok-Foreign-clause-outcome
+returns-in_err-write_all-in-Ok-Foreign-clause-outcome g c =
+    let p = err_from_is_err_and c.from_residual-in_err-write_all-in-Ok-Foreign.result c.from_residual-in_err-write_all-in-Ok-Foreign.ensures.1 in
+    rw p.1 tt
+
+pub returns-in_err-write_all-in-Ok-Foreign-clause-cause : goal.returns-in_err-write_all-in-Ok-Foreign-clause-cause
+returns-in_err-write_all-in-Ok-Foreign-clause-cause g c =
+    let p = err_from_is_err_and c.from_residual-in_err-write_all-in-Ok-Foreign.result c.from_residual-in_err-write_all-in-Ok-Foreign.ensures.1 in
+    rw p.1 (record { later = c.in_err-write_all-in-Ok-Foreign.ensures.cause.later; ok = tt; failed = c.in_err-write_all-in-Ok-Foreign.ensures.cause.failed })
+
+pub returns-in_err-write_all-in-Ok-Foreign-clause-ready : goal.returns-in_err-write_all-in-Ok-Foreign-clause-ready
+returns-in_err-write_all-in-Ok-Foreign-clause-ready g c =
+    let p = err_from_is_err_and c.from_residual-in_err-write_all-in-Ok-Foreign.result c.from_residual-in_err-write_all-in-Ok-Foreign.ensures.1 in
+    rw p.1 tt
+
+pub returns-in_ok-write_all-in-Ok-Foreign-clause-cause : goal.returns-in_ok-write_all-in-Ok-Foreign-clause-cause
+returns-in_ok-write_all-in-Ok-Foreign-clause-cause g c =
+    let cause = c.in_ok-write_all-in-Ok-Foreign.ensures.cause in
+    record { later = cause.later; ok = cause.ok; failed = tt }
+
+pub returns-in_ok-write_all-in-Ok-Foreign-clause-ready : goal.returns-in_ok-write_all-in-Ok-Foreign-clause-ready
+returns-in_ok-write_all-in-Ok-Foreign-clause-ready g c =
+    let ready = c.requires.ready in
+    record { foreign = omega (arith, ready.foreign); repeated = omega (arith, ready.repeated); refused = omega (arith, ready.refused) }
+
+pub overflow_add-state-in-Ok-Foreign : goal.overflow_add-state-in-Ok-Foreign
+overflow_add-state-in-Ok-Foreign g c = omega (arith, c.requires.early, c.requires.ready.foreign)
+
+pub as_slice-requires : goal.as_slice-requires
+as_slice-requires g c = lit< tt
+
+pub as_slice-requires-in-Ok-Foreign : goal.as_slice-requires-in-Ok-Foreign
+as_slice-requires-in-Ok-Foreign g c = lit< tt
+
+pub returns-in-Err-clause-outcome : goal.returns-in-Err-clause-outcome
+returns-in-Err-clause-outcome g c = record {
+  cause = record { tiling = c.args.tiling.now; has = c.requires.has; sight = c.in-Err.ensures.wanting };
+  kept = Keeps-refl (g.O.Sink.written c.args.out.now);
+}

@@ -1,0 +1,57 @@
+use Rattle.std.proofs.Common.{subst, sym}
+use Rattle.bk_ports.specs.Entering.{entries_of}
+use Rattle.bk_verify_report.proofs.Ending.{calm_at, stop_told, whole_at}
+use Rattle.bk_verify_report.proofs.EndingAtLines.{from_start, stops_at_lines}
+use Rattle.bk_verify_report.specs.Entering.{none_entered}
+use Rattle.bk_verify_report.specs.Reading.{IsListRead, rules}
+use Rattle.bk_verify_report.specs.declared.entering.Verifying.{Verifying}
+use Rattle.bk_verify_report.proofs.reading.read_list.Goals as goal
+
+pub returns-in-NoneRefused-clause-read : goal.returns-in-NoneRefused-clause-read
+returns-in-NoneRefused-clause-read g c =
+    let all = whole_at (entries_of rules (none_entered c.args.order) c.enter_lines-ended.new.register)
+    (record {
+      left = g.S.Source.left c.args.source.now;
+      left_after = g.S.Source.left c.enter_lines-ended.new.source;
+      written = g.O.Sink.written c.args.out.now;
+      written_after = g.O.Sink.written c.enter_lines-ended.new.out;
+    })
+    c.enter_lines-ended.result c.in-NoneRefused.is
+    (from_start c.args.order c.new-register.result c.enter_lines-ended.new.register _
+    c.enter_lines-ended.result c.new-register.ensures c.enter_lines-ended.ensures.ending) in
+    subst (λ (s : Verifying). IsListRead c.args.order
+    (record {
+      left = g.S.Source.left c.args.source.now;
+      left_after = g.S.Source.left c.enter_lines-ended.new.source;
+      written = g.O.Sink.written c.args.out.now;
+      written_after = g.O.Sink.written c.enter_lines-ended.new.out;
+    })
+    s) (sym c.into_kept.ensures) (record { refused = all.0; whole = all.1 })
+
+pub returns-in-NoneRefused-clause-reads : goal.returns-in-NoneRefused-clause-reads
+returns-in-NoneRefused-clause-reads g c = (calm_at _ c.enter_lines-ended.result c.in-NoneRefused.is c.enter_lines-ended.ensures.faults).0
+
+pub returns-in-NoneRefused-clause-writes : goal.returns-in-NoneRefused-clause-writes
+returns-in-NoneRefused-clause-writes g c = (calm_at _ c.enter_lines-ended.result c.in-NoneRefused.is c.enter_lines-ended.ensures.faults).1
+
+pub returns-in-NoneRefused-clause-stopped : goal.returns-in-NoneRefused-clause-stopped
+returns-in-NoneRefused-clause-stopped g c = tt
+
+pub returns-in-NoneRefused-clause-complete : goal.returns-in-NoneRefused-clause-complete
+returns-in-NoneRefused-clause-complete g c = tt
+
+pub returns-in-NoneRefused-clause-faults : goal.returns-in-NoneRefused-clause-faults
+returns-in-NoneRefused-clause-faults g c = tt
+
+pub returns-in-ReadFailed : goal.returns-in-ReadFailed
+returns-in-ReadFailed g c = record {
+  read = tt;
+  reads = tt;
+  writes = tt;
+  stopped =
+      stops_at_lines c.args.order _ c.enter_lines-ended.new.register c.enter_lines-ended.result (stop_told c.enter_lines-ended.result c.in-ReadFailed.is)
+      (from_start c.args.order c.new-register.result c.enter_lines-ended.new.register _
+      c.enter_lines-ended.result c.new-register.ensures c.enter_lines-ended.ensures.ending);
+  complete = c.enter_lines-ended.ensures.complete;
+  faults = c.enter_lines-ended.ensures.faults;
+}

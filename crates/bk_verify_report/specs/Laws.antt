@@ -1,0 +1,14 @@
+-- An empty line is passed over, and the counts stay below the number of the line.
+use Rattle.std.proofs.Common.{[], arith, false, inl, lit≤, refl, ℕ, ◌+◌}
+use Rattle.bk_verify_report.specs.Entering.{CountsAreBelow, EntersLine, no_item}
+use Rattle.bk_verify_report.specs.declared.entering.Verifying.{Verifying}
+
+pub empty_line : (s : Verifying) (n : ℕ) → EntersLine s n [] [] false s
+empty_line s n = no_item (record { short = lit≤ tt; meaning = ([], [], refl, tt, inl refl); few = lit≤ tt })
+
+pub still_ready : (s : Verifying) (n : ℕ) → CountsAreBelow s n → CountsAreBelow s (n + 1)
+still_ready s n below =
+    let a = below.foreign in
+    let b = below.repeated in
+    let c = below.refused in
+    record { foreign = omega (arith, a); repeated = omega (arith, b); refused = omega (arith, c) }

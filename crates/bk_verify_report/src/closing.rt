@@ -1,0 +1,118 @@
+//! What stands behind the lines of a list: the missing members and the last line.
+
+ghost use Rattle.std.specs.Prelude.{IfOk, OnErr, OnOk, [], ◌<◌, ◌≡◌, ◌≤◌};
+ghost use Rattle.bk_ports.specs.Causes.{HasCause};
+ghost use Rattle.bk_word.specs.declared.Class.TheVariants.{Perfect};
+ghost use Rattle.bk_catalogue.specs.Following.{HasNoneAfter};
+ghost use Rattle.bk_verify_report.specs.Closing.{kept_of};
+ghost use Rattle.bk_verify_report.specs.Kept.{AreKeptAfter};
+ghost use Rattle.bk_verify_report.specs.Listing.{ClosesReport, IsClosingBegun, IsListed, IsListingBegun};
+
+use crate::entering::Verifying;
+use crate::rest::Rest;
+use crate::writing::{has_fault, write_missing_entry};
+use bk_grammar::AnswerBuffer;
+use bk_play::Steps;
+use bk_ports::{Failed, Sink};
+use bk_report::{Last, write_verified};
+use bk_tree_walk::Members;
+use std::alloc::Global;
+use std::sync::ledger::{Blank, Ledger};
+
+// How many lines of a list were foreign, repeated and refused.
+#[derive(Clone, Copy)]
+struct LineCounts {
+    foreign: u64,
+    repeated: u64,
+    refused: u64,
+}
+
+// Writes the missing members and the last line, and tells whether the list and the catalogue differ.
+pub(crate) fn close_report<M: Members, L: Ledger, O: Sink>(
+    alloc: Global,
+    order: u8,
+    state: Verifying,
+    blank: Blank,
+    buffer: &mut AnswerBuffer,
+    out: &mut O,
+) -> Result<bool, Failed>
+    requires name { blank.name ≡ L.name }
+    requires parts { blank.parts ≡ L.parts }
+    requires some { 0 < L.parts }
+    requires most { order ≤ 16 }
+    requires order { state.entries.order ≡ order }
+    ensures closed { IfOk result (λ differs. ClosesReport order state differs (O.written out.old) (O.written out.new)) }
+    ensures begun { OnErr result (IsClosingBegun order state (O.written out.old) (O.written out.new)) }
+    ensures cause { HasCause (O.faults out.old) (O.faults out.new) result }
+{
+    let Verifying {
+        entries,
+        foreign,
+        repeated,
+        refused,
+    } = state;
+    let lines = LineCounts {
+        foreign,
+        repeated,
+        refused,
+    };
+    let mut rest = Rest::<M>::of(alloc, entries);
+    let mut steps = Steps::<L>::new(blank);
+    close_rest(order, &mut rest, lines, &mut steps, buffer, out)
+}
+
+// The same by what is left of the members, which no line was written of yet, and by the counts of the lines.
+fn close_rest<M: Members, L: Ledger, O: Sink>(
+    order: u8,
+    rest: &mut Rest<M>,
+    lines: LineCounts,
+    steps: &mut Steps<L>,
+    buffer: &mut AnswerBuffer,
+    out: &mut O,
+) -> Result<bool, Failed>
+    requires most { order ≤ 16 }
+    requires order { rest.old.walk.order ≡ order }
+    requires start { rest.old.walk.cursor ≡ [] }
+    ensures closed { IfOk result (λ differs.
+        ClosesReport order (kept_of rest.old lines) differs (O.written out.old) (O.written out.new)) }
+    ensures begun { OnErr result (IsClosingBegun order (kept_of rest.old lines) (O.written out.old) (O.written out.new)) }
+    ensures cause { HasCause (O.faults out.old) (O.faults out.new) result }
+{
+    let missing = write_missing_members(rest, steps, buffer, out)?;
+    let counts = [
+        rest.members(),
+        missing,
+        lines.foreign,
+        lines.repeated,
+        lines.refused,
+    ];
+    write_verified(Last::End, order, counts, rest.cursor(), buffer);
+    out.write_all(buffer.as_slice())?;
+    let differs = has_fault(missing, lines.foreign, lines.repeated, lines.refused);
+    Ok(differs)
+}
+
+// Writes a line for each missing member, ascending, each by one call, and gives how many there are.
+fn write_missing_members<M: Members, L: Ledger, O: Sink>(
+    rest: &mut Rest<M>,
+    steps: &mut Steps<L>,
+    buffer: &mut AnswerBuffer,
+    out: &mut O,
+) -> Result<u64, Failed>
+    requires most { rest.old.walk.order ≤ 16 }
+    requires start { rest.old.walk.cursor ≡ [] }
+    ensures listed { IfOk result (λ missing. IsListed rest.old.walk.order rest.old.pairs rest.new.walk.cursor missing (O.written out.old) (O.written out.new)) }
+    ensures all { OnOk result (AreKeptAfter rest.old.walk.order rest.old.pairs rest.new.walk.cursor) }
+    ensures ended { OnOk result (HasNoneAfter rest.old.walk.order Perfect rest.new.walk.cursor) }
+    ensures begun { OnErr result (IsListingBegun rest.old.walk.order rest.old.pairs (O.written out.old) (O.written out.new)) }
+    ensures cause { HasCause (O.faults out.old) (O.faults out.new) result }
+    ensures order { rest.new.walk.order ≡ rest.old.walk.order }
+{
+    let mut entry = rest.entry_room();
+    let mut missing: u64 = 0;
+    'members: while rest.advance_in(steps, &mut entry) {
+        write_missing_entry(&entry.tiling, &entry.code, &entry.word, buffer, out)?;
+        missing += 1;
+    }
+    Ok(missing)
+}
